@@ -1,0 +1,83 @@
+// Items of a trace and entries of a journal.
+use polis_base::List;
+use transition_table::{Outcome, Party, Snapshot};
+
+/// An event of the environment with its code, or the wish to wait until no machine can react.
+#[derive(Clone, Copy, Debug, PartialEq, Eq)]
+pub enum TraceItem {
+    Event { event: u32, code: u8 },
+    Settle,
+}
+
+pub type Trace = List<TraceItem>;
+
+/// A delivery, or a reaction of a machine. A reaction whose outcome fires is a firing.
+#[derive(Drop)]
+pub enum Entry {
+    Dep {
+        from: Party,
+        to: u32,
+        event: u32,
+        code: u8,
+    },
+    Rea {
+        machine: u32,
+        snapshot: Snapshot,
+        outcome: Outcome,
+    },
+}
+
+pub type Journal = List<Entry>;
+
+/// What the scheduler does next.
+#[derive(Clone, Copy, Debug, PartialEq, Eq)]
+pub enum Pick {
+    Deliver {
+        from: Party,
+        to: u32,
+        event: u32,
+        code: u8,
+    },
+    React {
+        machine: u32,
+    },
+    Stop,
+}
+
+/// A delivery that is owed: the event with its code from its sender to one of its receivers.
+#[derive(Clone, Copy, Debug, PartialEq, Eq)]
+pub struct Owed {
+    pub from: Party,
+    pub to: u32,
+    pub event: u32,
+    pub code: u8,
+}
+
+/// The first delivery that the environment owes. It is ready where no `settle` item stands between the
+/// event item before its item, or the start of the trace, and its item.
+#[derive(Clone, Copy, Debug, PartialEq, Eq)]
+pub struct NextEnv {
+    pub owed: Owed,
+    pub ready: bool,
+}
+
+/// Why an entry can't follow. The first that applies in this order is answered.
+#[derive(Clone, Copy, Debug, PartialEq, Eq)]
+pub enum Why {
+    /// A delivery isn't the next of what its sender has sent to its receiver.
+    NotOwed,
+    /// No delivery to the reacting machine came since its last reaction.
+    NotWoken,
+    /// The snapshot isn't that of this moment.
+    Snapshot,
+    /// The outcome isn't the machine's transition on the snapshot.
+    Outcome,
+}
+
+/// Whether an entry was taken.
+#[derive(Clone, Copy, Debug, PartialEq, Eq)]
+pub enum Admit {
+    Yes,
+    No(Why),
+    NoMemory,
+}

@@ -1,0 +1,36 @@
+// The base of the product: want of memory, lists, bytes, names, decimal text and the outside.
+#![tactic(auto)]
+
+mod bytes;
+mod host;
+mod lex;
+mod list;
+mod memory;
+mod name;
+mod token;
+mod words;
+
+pub use bytes::Bytes;
+pub use host::{Host, Load, Save};
+pub use lex::tokens;
+pub use list::{Duplicate, List, Numbers, Places};
+pub use memory::MemoryHost;
+pub use name::Name;
+pub use token::{Keyword, Kind, LexError, Sign, Token, Tokens};
+pub use words::Words;
+
+/// Memory was wanting. It is the one free answer, and is merged with no other.
+#[derive(Clone, Copy, Debug, PartialEq, Eq)]
+pub struct NoMemory;
+
+impl From<std::alloc::AllocError> for NoMemory {
+    fn from(_: std::alloc::AllocError) -> Self {
+        NoMemory
+    }
+}
+
+impl<T: Drop> From<std::alloc::AllocFailed<T>> for NoMemory {
+    fn from(_: std::alloc::AllocFailed<T>) -> Self {
+        NoMemory
+    }
+}

@@ -1,0 +1,105 @@
+// Tokens of a network text.
+ghost use Rattle.std.specs.Prelude.{◌≡◌, ◌<◌, length, slice_get, Some};
+
+use crate::list::List;
+use std::marker::Model;
+
+/// A word that is no name.
+#[derive(Clone, Copy, Debug, PartialEq, Eq)]
+pub enum Keyword {
+    KwNetwork,
+    KwVersion,
+    KwDomain,
+    KwEvent,
+    KwMachine,
+    KwFrom,
+    KwTo,
+    KwEnv,
+    KwPriority,
+    KwInput,
+    KwOutput,
+    KwState,
+    KwWhen,
+    KwDo,
+    KwEmit,
+    KwAbsent,
+    KwIn,
+    KwNothing,
+    KwSettle,
+    KwValue,
+}
+
+/// `=`, `:=`, `:`, `,`, `{`, `}`, `..` and `+`.
+#[derive(Clone, Copy, Debug, PartialEq, Eq)]
+pub enum Sign {
+    Equal,
+    Assign,
+    Colon,
+    Comma,
+    LeftBrace,
+    RightBrace,
+    DotDot,
+    Plus,
+}
+
+/// What a token is. The bytes of a name are the token's slice of the text.
+#[derive(Clone, Copy, Debug, PartialEq, Eq)]
+pub enum Kind {
+    Keyword(Keyword),
+    Name,
+    Number(u32),
+    Sign(Sign),
+}
+
+/// A token with the place of its first byte in the text and its number of bytes.
+#[derive(Clone, Copy, Debug, PartialEq, Eq)]
+pub struct Token {
+    pub kind: Kind,
+    pub at: u64,
+    pub len: u64,
+}
+
+/// Why a text has no tokens, with the place of the first byte of the first token that doesn't read.
+#[derive(Clone, Copy, Debug, PartialEq, Eq)]
+pub enum LexError {
+    /// No token begins with this byte.
+    BadByte(u64),
+    /// A word of more than 24 bytes.
+    NameTooLong(u64),
+    /// A number above 4,294,967,295.
+    NumberTooLarge(u64),
+    /// Memory was wanting.
+    NoMemory,
+}
+
+/// The tokens of a text, in order.
+#[derive(Drop)]
+pub struct Tokens {
+    items: List<Token>,
+}
+
+impl Model for Tokens {
+    ghost use Rattle.std.specs.Prelude.{List};
+    ghost use Rattle.polis_base.specs.declared.token.Token.{Token};
+
+    ghost Value = { List Token };
+
+    ghost view = { λ t. t.items };
+}
+
+impl Tokens {
+    /// How many tokens there are.
+    pub fn count(&self) -> u64
+        ensures { result ≡ length self.now }
+    {
+        self.items.len()
+    }
+
+    /// The token at a place.
+    pub fn token(&self, i: u64) -> Token
+        requires { i < length self.now }
+        ensures { slice_get self.now i ≡ Some result }
+    {
+        *self.items.get(i)
+    }
+}

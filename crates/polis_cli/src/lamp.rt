@@ -1,0 +1,1 @@
+// The one form of network text that is read so far.

@@ -1,0 +1,21 @@
+// The program: its words, its files and its one call that does the work.
+#![tactic(auto)]
+
+mod lamp;
+mod parts;
+mod print;
+mod status;
+mod steps;
+mod top;
+mod worked;
+
+use polis_base::Words;
+use std::process::ExitCode;
+
+fn main(rt: HostRuntime) -> ExitCode {
+    let words = Words::new(rt.alloc());
+    if words.len() == 0 {
+        return ExitCode::from(1);
+    }
+    ExitCode::from(0)
+}

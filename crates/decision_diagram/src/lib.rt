@@ -1,0 +1,9 @@
+// Reduced ordered decision diagrams over variables of several values.
+#![tactic(auto)]
+
+mod index;
+mod node;
+mod order;
+
+pub use node::{NodeId, Shape};
+pub use order::Order;

@@ -1,3 +1,7 @@
 pub mod Places
 pub mod Lookups
 pub mod Lists
+pub mod Nodes
+pub mod Values
+pub mod Fitting
+pub mod Canonical

@@ -5,3 +5,4 @@ pub mod Nodes
 pub mod Values
 pub mod Fitting
 pub mod Canonical
+pub mod Growth

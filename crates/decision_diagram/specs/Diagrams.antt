@@ -90,3 +90,16 @@ pub record Keeps (old new : Diagrams) : Type 0 where
 pub record Means (s : Diagrams) (n : ℕ) (f : List ℕ → Bool) : Type 0 where
   pub node : IsNode s n
   pub value : (codes : List ℕ) → IsTrue (fits s.sizes codes) → value_of s n codes ≡ f codes
+
+-- the value of the child at the code of the variable
+abbrev pub choice : Diagrams → ℕ → List ℕ → List ℕ → Bool
+choice s var kids codes = value_of s (slice_index kids (slice_index codes var)) codes
+
+-- the node may be made: it would be reduced, and there is none with its variable and children yet
+pub record IsNew (s : Diagrams) (node : Node) : Type 0 where
+  pub var : node.var < length s.sizes
+  pub kids : length node.kids ≡ slice_index s.sizes node.var
+  pub nodes : (code : ℕ) → code < length node.kids → IsNode s (slice_index node.kids code)
+  pub later : (code : ℕ) → code < length node.kids → place s.order node.var < level_of s (slice_index node.kids code)
+  pub varied : (kid : ℕ) → ((code : ℕ) → code < length node.kids → slice_index node.kids code ≡ kid) → ⊥
+  pub fresh : (n : ℕ) (other : Node) → inner_at s.nodes n ≡ Some other → other.var ≡ node.var → other.kids ≡ node.kids → ⊥

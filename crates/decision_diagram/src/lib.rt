@@ -4,6 +4,8 @@
 mod index;
 mod node;
 mod order;
+mod store;
 
 pub use node::{NodeId, Shape};
 pub use order::Order;
+pub use store::Store;

@@ -6,3 +6,4 @@ pub mod Values
 pub mod Fitting
 pub mod Canonical
 pub mod Growth
+pub mod Meanings

@@ -1,3 +1,4 @@
+pub mod Constants
 pub mod Orders
 pub mod Found
 pub mod Diagrams

@@ -21,6 +21,16 @@ impl Model for NodeId {
 
 impl NodeId {
     ghost use Rattle.std.specs.Prelude.{◌≡◌};
+    ghost use Rattle.decision_diagram.specs.Constants.{constant_node};
+
+    // The node that is the same on all codes.
+    pub(crate) fn constant(value: bool) -> NodeId
+        ensures { result ≡ constant_node value }
+    {
+        NodeId {
+            number: u64::from(value),
+        }
+    }
 
     // The node with a number.
     pub(crate) fn new(number: u64) -> NodeId

@@ -1,13 +1,15 @@
 // The store of diagrams.
-ghost use Rattle.std.specs.Prelude.{◌≡◌, ◌+◌, ◌<◌, ◌≤◌, ℕ, [], ◌∷◌, ◌++◌, length, slice_index, IfOk, IfSome, IfNone, OnOk, OnErr, IsTrue};
+ghost use Rattle.std.specs.Prelude.{◌≡◌, ◌+◌, ◌<◌, ◌≤◌, ◌^◌, ◌==◌, ℕ, true, false, List, [], ◌∷◌, ◌++◌, length, slice_index, Some, IfOk, IfSome, IfNone, OnOk, OnErr, IsTrue};
+ghost use Rattle.std.specs.Int.{bit_at};
 ghost use Rattle.domains.specs.Tables.{fits};
+ghost use Rattle.decision_diagram.specs.Constants.{constant_node};
 ghost use Rattle.decision_diagram.specs.Orders.{place};
-ghost use Rattle.decision_diagram.specs.Diagrams.{IsNode, level_of, Keeps, Means, choice, IsNew};
+ghost use Rattle.decision_diagram.specs.Diagrams.{IsNode, inner_at, value_of, shape_of, kids_of, level_of, choice, Keeps, Means, IsNew};
 
 use crate::index::{Index, enter, find};
-use crate::node::{Node, NodeId};
+use crate::node::{Node, NodeId, Shape};
 use crate::order::Order;
-use domains::VarTable;
+use domains::{Codes, VarTable};
 use polis_base::{Duplicate, List, NoMemory};
 use std::alloc::Global;
 use std::collections::BTreeMap;
@@ -37,17 +39,30 @@ impl Model for Store {
 
 // The one child, where all are the same.
 fn only_kid(kids: &[NodeId]) -> Option<NodeId>
-    requires { 0 < length kids.now }
     ensures some { IfSome result (λ kid. (code : ℕ) → code < length kids.now → slice_index kids.now code ≡ kid) }
-    ensures none { IfNone result ((kid : ℕ) → ((code : ℕ) → code < length kids.now → slice_index kids.now code ≡ kid) → ⊥) }
+    ensures there { IfSome result (λ kid. 0 < length kids.now) }
+    ensures none { IfNone result ((kid : ℕ) → 0 < length kids.now → ((code : ℕ) → code < length kids.now → slice_index kids.now code ≡ kid) → ⊥) }
 {
-    let first = kids[0];
+    let first = *kids.first()?;
     for kid in kids {
         if kid.number() != first.number() {
             return None;
         }
     }
     Some(first)
+}
+
+// The children of a node that is true where the code is in a set.
+fn literal_kids(alloc: Global, size: u8, codes: u64) -> Result<Vec<NodeId>, NoMemory>
+    requires { size ≤ 64 }
+    ensures length { IfOk result (λ kids. length kids.items ≡ size) }
+    ensures kids { IfOk result (λ kids. (code : ℕ) → code < size → slice_index kids.items code ≡ constant_node (bit_at codes code == 1)) }
+{
+    let mut kids = Vec::new(alloc);
+    for code in 0..size {
+        kids.push(NodeId::constant((codes >> code) % 2 == 1))?;
+    }
+    Ok(kids)
 }
 
 // A variable and its children as a key.
@@ -109,5 +124,102 @@ impl Store {
                 Err(NoMemory)
             }
         }
+    }
+
+    /// The node whose value is that of the child at the code of a variable. Where all children are the same it is
+    /// that child, and where there is such a node already it is that one (Bryant 1986).
+    pub fn node(&mut self, var: u32, kids: &[NodeId]) -> Result<NodeId, NoMemory>
+        requires var { var < length self.old.sizes }
+        requires kids { length kids.now ≡ slice_index self.old.sizes var }
+        requires nodes { (code : ℕ) → code < length kids.now → IsNode self.old (slice_index kids.now code) }
+        requires later { (code : ℕ) → code < length kids.now → place self.old.order var < level_of self.old (slice_index kids.now code) }
+        ensures kept { Keeps self.old self.new }
+        ensures value { IfOk result (λ n. Means self.new n (choice self.old var kids.now)) }
+        ensures level { IfOk result (λ n. place self.old.order var ≤ level_of self.new n) }
+    {
+        if let Some(kid) = only_kid(kids) {
+            return Ok(kid);
+        }
+        let key = key_of(self.alloc, var, kids)?;
+        match find(&self.index, &key) {
+            Some(number) => Ok(NodeId::new(number)),
+            None => self.push_node(var, kids, key),
+        }
+    }
+
+    /// The node that is true where the code of a variable is in a set, whose bit `c` stands for code `c`.
+    pub fn literal(&mut self, var: u32, codes: u64) -> Result<NodeId, NoMemory>
+        requires var { var < length self.old.sizes }
+        requires codes { codes < 2 ^ slice_index self.old.sizes var }
+        ensures kept { Keeps self.old self.new }
+        ensures value { IfOk result (λ n. Means self.new n (λ at. bit_at codes (slice_index at var) == 1)) }
+        ensures level { IfOk result (λ n. place self.old.order var ≤ level_of self.new n) }
+    {
+        let size = *self.vars.get(u64::from(var));
+        let kids = literal_kids(self.alloc, size, codes)?;
+        self.node(var, &kids)
+    }
+
+    /// The node that is the same on all codes.
+    pub fn constant(&self, value: bool) -> NodeId
+        ensures node { IsNode self.now result }
+        ensures value { (codes : List ℕ) → value_of self.now result codes ≡ value }
+        ensures level { level_of self.now result ≡ length self.now.order }
+    {
+        NodeId::constant(value)
+    }
+
+    // The inner node with a number.
+    fn inner(&self, number: u64) -> &Node
+        requires inner { 2 ≤ number }
+        requires node { IsNode self.now number }
+        ensures { inner_at self.now.nodes number ≡ Some result.now }
+    {
+        &self.nodes[(number - 2) as usize]
+    }
+
+    /// What kind of node a node is.
+    pub fn shape(&self, n: NodeId) -> Shape
+        requires { IsNode self.now n }
+        ensures shape { result ≡ shape_of self.now n }
+        ensures never { result ≡ Shape.False → (codes : List ℕ) → value_of self.now n codes ≡ false }
+        ensures always { result ≡ Shape.True → (codes : List ℕ) → value_of self.now n codes ≡ true }
+        ensures var { (var : ℕ) → result ≡ Shape.Inner var → var < length self.now.sizes }
+        ensures kids { (var : ℕ) → result ≡ Shape.Inner var → length (kids_of self.now n) ≡ slice_index self.now.sizes var }
+    {
+        let _ = &self.nodes;
+        match n.number() {
+            0 => Shape::False,
+            1 => Shape::True,
+            number => Shape::Inner {
+                var: self.inner(number).var,
+            },
+        }
+    }
+
+    /// The child of an inner node at a code of its variable.
+    pub fn child(&self, n: NodeId, code: u8) -> NodeId
+        requires node { IsNode self.now n }
+        requires code { code < length (kids_of self.now n) }
+        ensures child { result ≡ slice_index (kids_of self.now n) code }
+        ensures node { IsNode self.now result }
+        ensures later { level_of self.now n < level_of self.now result }
+        ensures value { (var : ℕ) (codes : List ℕ) → shape_of self.now n ≡ Shape.Inner var → slice_index codes var ≡ code → value_of self.now n codes ≡ value_of self.now result codes }
+    {
+        let _ = &self.nodes;
+        *self.inner(n.number()).kids.get(u64::from(code))
+    }
+
+    /// The value of a node on a list of codes, one per variable.
+    pub fn value(&self, n: NodeId, codes: &Codes) -> bool
+        requires node { IsNode self.now n }
+        requires codes { IsTrue (fits self.now.sizes codes.now) }
+        ensures { result ≡ value_of self.now n codes.now }
+    {
+        let mut at = n;
+        while let Shape::Inner { var } = self.shape(at) {
+            at = self.child(at, *codes.get(u64::from(var)));
+        }
+        self.shape(at) == Shape::True
     }
 }

@@ -7,3 +7,4 @@ pub mod Fitting
 pub mod Canonical
 pub mod Growth
 pub mod Meanings
+pub mod Operating

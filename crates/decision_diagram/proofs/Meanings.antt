@@ -3,7 +3,7 @@ use Rattle.std.proofs.Common.{◌≡◌, ⊎_elim, cond, ℕ, zero, suc, ◌+◌
 use Rattle.std.specs.BTreeMap.{BTreeMap}
 use Rattle.std.specs.Int.{bit_at}
 use Rattle.std.specs.declared.alloc.Global.{Global}
-use Rattle.std.proofs.lemmas.Bool.{cases_Bool, cond-true, cond-false}
+use Rattle.std.proofs.lemmas.Bool.{cases_Bool, cases_lt, cond-true, cond-false}
 use Rattle.domains.specs.Tables.{fits}
 use Rattle.decision_diagram.specs.declared.node.Node.{Node}
 use Rattle.decision_diagram.specs.declared.node.Shape.{Shape}
@@ -14,9 +14,10 @@ use Rattle.decision_diagram.specs.Orders.{place}
 use Rattle.decision_diagram.specs.Stores.{IsIndexed}
 use Rattle.decision_diagram.specs.Diagrams.{Diagrams, inner_at, shape_in, shape_of, kids_in, kids_of, level_in, level_of, IsNode, value_of, AreReduced, Keeps, IsNew, Means, choice}
 use Rattle.decision_diagram.proofs.Fitting.{fits_at, size_some}
+use Rattle.decision_diagram.proofs.Places.{place_below, at_place}
 use Rattle.decision_diagram.proofs.Growth.{with_node, keeps_same, keeps_node, reduced_more, indexed_fresh}
-use Rattle.decision_diagram.proofs.Nodes.{inner_low, inner_last, inner_within}
-use Rattle.decision_diagram.proofs.Values.{level_none, level_some, value_none, value_inner}
+use Rattle.decision_diagram.proofs.Nodes.{inner_low, inner_last, inner_within, cases_inner}
+use Rattle.decision_diagram.proofs.Values.{level_none, level_some, item_at_level, value_none, value_inner}
 
 pub value_constant : (s : Diagrams) (b : Bool) (n : ℕ) (codes : List ℕ) → n ≡ constant_node b → value_of s n codes ≡ b
 value_constant s false n codes is = value_none s n codes (inner_low s.nodes n (omega arith)) ∙ ap (λ (m : ℕ). eqb m 1) is
@@ -129,3 +130,24 @@ means_as s f g (Err e) means same = tt
 pub literal_choice : (s : Diagrams) (var set : ℕ) (kids codes : List ℕ) → IsTrue (fits s.sizes codes) → var < length s.sizes → length kids ≡ slice_index s.sizes var → ((code : ℕ) → code < slice_index s.sizes var → slice_index kids code ≡ constant_node (bit_at set code == 1)) → choice s var kids codes ≡ (bit_at set (slice_index codes var) == 1)
 literal_choice s var set kids codes fit below long at =
     value_constant s (bit_at set (slice_index codes var) == 1) (slice_index kids (slice_index codes var)) codes (at (slice_index codes var) (fits_at s.sizes codes fit var below))
+
+-- ---- the first of two variables
+pub var_below : (s : Diagrams) → AreReduced s → (n : ℕ) (node : Node) → inner_at s.nodes n ≡ Some node → node.var < length s.order
+var_below s ok n node is = let v = (ok.nodes n node is).var in let l = ok.lengths in omega arith
+
+-- a node whose variable is another one, and not before it, is read later
+pub later_other : (s : Diagrams) → AreReduced s → (n var : ℕ) → var < length s.sizes → place s.order var ≤ level_of s n → (shape_of s n ≡ Inner var → ⊥) → place s.order var < level_of s n
+later_other s ok n var below first other =
+    ⊎_elim
+        (λ later. later)
+        (λ here.
+            let same : place s.order var ≡ level_of s n = omega arith in
+            let lengths = ok.lengths in
+            let low = place_below s.order ok.order var (omega arith) in
+            ⊎_elim
+                (λ none. let e = level_none s n none in absurd (omega arith))
+                (λ some.
+                    let v : some.0.var ≡ var = sym (item_at_level s ok n some.0 some.1) ∙ ap (slice_index s.order) (sym same) ∙ at_place s.order var low in
+                    absurd (other (ap (shape_in n) some.1 ∙ ap Inner v)))
+                (cases_inner s.nodes n))
+        (cases_lt (place s.order var) (level_of s n))

@@ -103,3 +103,7 @@ pub record IsNew (s : Diagrams) (node : Node) : Type 0 where
   pub later : (code : ℕ) → code < length node.kids → place s.order node.var < level_of s (slice_index node.kids code)
   pub varied : (kid : ℕ) → ((code : ℕ) → code < length node.kids → slice_index node.kids code ≡ kid) → ⊥
   pub fresh : (n : ℕ) (other : Node) → inner_at s.nodes n ≡ Some other → other.var ≡ node.var → other.kids ≡ node.kids → ⊥
+
+-- two nodes with the same value on all codes that fit the table are the same node
+abbrev pub IsCanonical : Diagrams → Type 0
+IsCanonical s = (a b : ℕ) → IsNode s a → IsNode s b → ((codes : List ℕ) → IsTrue (fits s.sizes codes) → value_of s a codes ≡ value_of s b codes) → a ≡ b

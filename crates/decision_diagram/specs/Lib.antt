@@ -3,3 +3,4 @@ pub mod Orders
 pub mod Found
 pub mod Diagrams
 pub mod Stores
+pub mod Operations

@@ -1,6 +1,7 @@
 // Reduced ordered decision diagrams over variables of several values.
 #![tactic(auto)]
 
+mod apply;
 mod index;
 mod node;
 mod order;

@@ -1,10 +1,10 @@
 // The store of diagrams.
-ghost use Rattle.std.specs.Prelude.{◌≡◌, ◌+◌, ◌<◌, ◌≤◌, ◌^◌, ◌==◌, ℕ, true, false, List, [], ◌∷◌, ◌++◌, length, slice_index, Some, IfOk, IfSome, IfNone, OnOk, OnErr, IsTrue};
+ghost use Rattle.std.specs.Prelude.{◌≡◌, ◌+◌, ◌<◌, ◌≤◌, ◌^◌, ◌==◌, ℕ, true, false, List, min, [], ◌∷◌, ◌++◌, length, slice_index, Some, IfOk, IfSome, IfNone, OnOk, OnErr, IsTrue};
 ghost use Rattle.std.specs.Int.{bit_at};
 ghost use Rattle.domains.specs.Tables.{fits};
 ghost use Rattle.decision_diagram.specs.Constants.{constant_node};
 ghost use Rattle.decision_diagram.specs.Orders.{place};
-ghost use Rattle.decision_diagram.specs.Diagrams.{IsNode, inner_at, value_of, shape_of, kids_of, level_of, choice, Keeps, Means, IsNew};
+ghost use Rattle.decision_diagram.specs.Diagrams.{IsNode, inner_at, value_of, shape_of, kids_of, level_of, choice, Keeps, Means, IsNew, IsCanonical};
 
 use crate::index::{Index, enter, find};
 use crate::node::{Node, NodeId, Shape};
@@ -221,5 +221,62 @@ impl Store {
             at = self.child(at, *codes.get(u64::from(var)));
         }
         self.shape(at) == Shape::True
+    }
+
+    /// Two nodes with the same value on all codes that fit the table are the same node. It does nothing: its contract
+    /// is this law, for whoever needs it (Bryant 1986, for variables of several values).
+    pub fn same_value_same_node(&self)
+        ensures { IsCanonical self.now }
+    {
+        let _ = &self.nodes;
+    }
+
+    // The allocator of all that the store makes.
+    pub(crate) fn global(&self) -> Global {
+        self.alloc
+    }
+
+    // The size of a variable.
+    pub(crate) fn size(&self, var: u32) -> u8
+        requires { var < length self.now.sizes }
+        ensures { result ≡ slice_index self.now.sizes var }
+    {
+        *self.vars.get(u64::from(var))
+    }
+
+    // Of two inner nodes the variable that is read first.
+    pub(crate) fn first_variable(&self, a: NodeId, b: NodeId) -> u32
+        requires left { 2 ≤ a }
+        requires right { 2 ≤ b }
+        requires a { IsNode self.now a }
+        requires b { IsNode self.now b }
+        ensures var { result < length self.now.sizes }
+        ensures place { place self.now.order result ≡ min (level_of self.now a) (level_of self.now b) }
+    {
+        let left = self.inner(a.number()).var;
+        let right = self.inner(b.number()).var;
+        if self.order.place_of(left) <= self.order.place_of(right) {
+            left
+        } else {
+            right
+        }
+    }
+
+    // The node whose value is that of a node where a variable has a code.
+    pub(crate) fn cofactor(&self, n: NodeId, var: u32, code: u8) -> NodeId
+        requires node { IsNode self.now n }
+        requires var { var < length self.now.sizes }
+        requires code { code < slice_index self.now.sizes var }
+        requires first { place self.now.order var ≤ level_of self.now n }
+        ensures node { IsNode self.now result }
+        ensures later { place self.now.order var < level_of self.now result }
+        ensures value { (codes : List ℕ) → slice_index codes var ≡ code → value_of self.now n codes ≡ value_of self.now result codes }
+    {
+        let _ = &self.nodes;
+        match self.shape(n) {
+            Shape::Inner { var: own } if own != var => n,
+            Shape::Inner { .. } => self.child(n, code),
+            Shape::False | Shape::True => n,
+        }
     }
 }

@@ -8,3 +8,4 @@ pub mod Canonical
 pub mod Growth
 pub mod Meanings
 pub mod Operating
+pub mod Marking

@@ -3,7 +3,7 @@ use Rattle.std.proofs.Common.{◌≡◌, ◌≢◌, ◌⊎◌, inl, inr, ⊎_eli
 use Rattle.std.proofs.lemmas.Bool.{cases_lt, cases_eq, lt-ltb, le-ltb, eq-eqb, ne_eqb, cond-true, cond-false}
 use Rattle.decision_diagram.specs.declared.node.Node.{Node}
 use Rattle.decision_diagram.specs.Diagrams.{Diagrams, inner_at, step, follow}
-use Rattle.decision_diagram.proofs.Lists.{read_within}
+use Rattle.decision_diagram.proofs.Lists.{read_some}
 
 get_front : (nodes more : List Node) (k : ℕ) → k < length nodes → slice_get (nodes ++ more) k ≡ slice_get nodes k
 get_front [] more k h = absurd (omega arith)
@@ -89,3 +89,8 @@ step_here o node var code n is here =
 pub step_other : (o : Option Node) (node : Node) (var code n : ℕ) → o ≡ Some node → node.var ≢ var → step o var code n ≡ n
 step_other o node var code n is other =
     ap (λ (p : Option Node). step p var code n) is ∙ cond-false (eqb node.var var) (slice_index node.kids code) n (ne_eqb node.var var other)
+
+-- what stands at an inner node's place
+pub inner_read : (nodes : List Node) (n k : ℕ) (node : Node) → 2 ≤ n → n < length nodes + 2 → k ≡ n - 2 → node ≡ get_or nodes k node → inner_at nodes n ≡ Some node
+inner_read nodes n k node large within at is =
+    high nodes n large ∙ ap (slice_get nodes) (sym at) ∙ read_some nodes k node (omega arith) ∙ ap Some (sym is)

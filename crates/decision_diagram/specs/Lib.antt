@@ -4,3 +4,4 @@ pub mod Found
 pub mod Diagrams
 pub mod Stores
 pub mod Operations
+pub mod Reached

@@ -2,6 +2,7 @@
 #![tactic(auto)]
 
 mod apply;
+mod count;
 mod index;
 mod node;
 mod order;

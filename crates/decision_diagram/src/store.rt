@@ -169,11 +169,19 @@ impl Store {
         NodeId::constant(value)
     }
 
+    // How many inner nodes there are.
+    pub(crate) fn inner_count(&self) -> usize
+        ensures { result ≡ length self.now.nodes }
+    {
+        self.nodes.len()
+    }
+
     // The inner node with a number.
-    fn inner(&self, number: u64) -> &Node
+    pub(crate) fn inner(&self, number: u64) -> &Node
         requires inner { 2 ≤ number }
         requires node { IsNode self.now number }
-        ensures { inner_at self.now.nodes number ≡ Some result.now }
+        ensures node { inner_at self.now.nodes number ≡ Some result.now }
+        ensures before { (code : ℕ) → code < length result.now.kids → slice_index result.now.kids code < number }
     {
         &self.nodes[(number - 2) as usize]
     }

@@ -5,6 +5,8 @@ use Rattle.std.specs.declared.alloc.Global.{Global}
 use Rattle.decision_diagram.specs.declared.node.Node.{Node}
 use Rattle.decision_diagram.specs.Diagrams.{Diagrams, inner_at, AreReduced}
 use Rattle.decision_diagram.specs.Found.{found}
+use Rattle.decision_diagram.specs.Operations.{AreResults}
+use Rattle.decision_diagram.specs.declared.operation.Operation.TheVariants.{And, Or}
 use Rattle.decision_diagram.specs.declared.store.Store.TheInside.{Inside}
 
 -- the index has the number of each inner node under its variable and children, and nothing else
@@ -16,7 +18,9 @@ pub record IsIndexed (nodes : List Node) (index : BTreeMap (Vec ℕ Global) ℕ)
 abbrev pub diagrams : Inside → Diagrams
 diagrams a = record { sizes = a.vars; order = a.order; nodes = a.nodes.items }
 
--- they are reduced, and each inner node is found by its variable and children
+-- They are reduced, each inner node is found by its variable and children, and what was computed before is right.
 pub record IsStore (a : Inside) : Type 0 where
   pub reduced : AreReduced (diagrams a)
   pub indexed : IsIndexed a.nodes.items a.index
+  pub conjunctions : AreResults (diagrams a) And a.conjunctions
+  pub disjunctions : AreResults (diagrams a) Or a.disjunctions

@@ -1,36 +1,12 @@
 // Conjunction and disjunction of nodes.
-ghost use Rattle.std.specs.Prelude.{◌≡◌, ◌⊎◌, ◌<◌, ◌≤◌, ◌&&◌, ◌||◌, ℕ, true, false, not, List, min, length, slice_index, IfOk, IfSome, IfNone};
-ghost use Rattle.decision_diagram.specs.Constants.{constant_node};
-ghost use Rattle.decision_diagram.specs.Orders.{place};
+ghost use Rattle.std.specs.Prelude.{◌≡◌, ◌⊎◌, ◌≤◌, ◌&&◌, ◌||◌, ℕ, List, min, IfOk, IfSome, IfNone};
 ghost use Rattle.decision_diagram.specs.Diagrams.{Diagrams, IsNode, value_of, level_of, Keeps, Means};
 ghost use Rattle.decision_diagram.specs.Operations.{combine};
 
 use crate::node::NodeId;
+use crate::operation::Operation;
 use crate::store::Store;
 use polis_base::NoMemory;
-
-/// What is done with two values.
-#[derive(Clone, Copy, Debug, PartialEq, Eq)]
-pub(crate) enum Operation {
-    And,
-    Or,
-}
-
-impl Operation {
-    // The node that decides the result alone.
-    fn absorbing(self) -> NodeId
-        ensures { result ≡ constant_node (combine self true false) }
-    {
-        NodeId::constant(self == Operation::Or)
-    }
-
-    // The node that leaves the other one's value as it is.
-    fn neutral(self) -> NodeId
-        ensures { result ≡ constant_node (not (combine self true false)) }
-    {
-        NodeId::constant(self == Operation::And)
-    }
-}
 
 // The result, where no variable has to be read for it.
 fn settled(op: Operation, a: NodeId, b: NodeId) -> Option<NodeId>
@@ -63,6 +39,9 @@ impl Store {
         if let Some(node) = settled(op, a, b) {
             return Ok(node);
         }
+        if let Some(node) = self.recall(op, a, b) {
+            return Ok(node);
+        }
         let var = self.first_variable(a, b);
         let mut kids = Vec::new(self.global());
         for code in 0..self.size(var) {
@@ -70,7 +49,9 @@ impl Store {
             let right = self.cofactor(b, var, code);
             kids.push(self.apply(op, left, right)?)?;
         }
-        self.node(var, &kids)
+        let node = self.node(var, &kids)?;
+        self.remember(op, a, b, node)?;
+        Ok(node)
     }
 
     /// The conjunction of two nodes.

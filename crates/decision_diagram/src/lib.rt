@@ -5,6 +5,7 @@ mod apply;
 mod count;
 mod index;
 mod node;
+mod operation;
 mod order;
 mod store;
 

@@ -1,13 +1,15 @@
 // The store of diagrams.
-ghost use Rattle.std.specs.Prelude.{◌≡◌, ◌+◌, ◌<◌, ◌≤◌, ◌^◌, ◌==◌, ℕ, true, false, List, min, [], ◌∷◌, ◌++◌, length, slice_index, Some, IfOk, IfSome, IfNone, OnOk, OnErr, IsTrue};
+ghost use Rattle.std.specs.Prelude.{◌≡◌, ◌⊎◌, ◌+◌, ◌<◌, ◌≤◌, ◌^◌, ◌==◌, ℕ, true, false, List, min, [], ◌∷◌, ◌++◌, length, slice_index, Some, IfOk, IfSome, IfNone, OnOk, OnErr, IsTrue};
 ghost use Rattle.std.specs.Int.{bit_at};
 ghost use Rattle.domains.specs.Tables.{fits};
 ghost use Rattle.decision_diagram.specs.Constants.{constant_node};
+ghost use Rattle.decision_diagram.specs.Operations.{IsResult, AreResults};
 ghost use Rattle.decision_diagram.specs.Orders.{place};
 ghost use Rattle.decision_diagram.specs.Diagrams.{IsNode, inner_at, value_of, shape_of, kids_of, level_of, choice, Keeps, Means, IsNew, IsCanonical};
 
 use crate::index::{Index, enter, find};
 use crate::node::{Node, NodeId, Shape};
+use crate::operation::Operation;
 use crate::order::Order;
 use domains::{Codes, VarTable};
 use polis_base::{Duplicate, List, NoMemory};
@@ -23,6 +25,8 @@ pub struct Store {
     order: Order,
     nodes: Vec<Node>,
     index: Index,
+    conjunctions: Index,
+    disjunctions: Index,
 }
 
 impl Model for Store {
@@ -77,6 +81,17 @@ fn key_of(alloc: Global, var: u32, kids: &[NodeId]) -> Result<Vec<u64>, NoMemory
     Ok(key)
 }
 
+// Two nodes in the order of their numbers.
+fn pair(a: NodeId, b: NodeId) -> [u64; 2]
+    ensures { (result ≡ a ∷ b ∷ []) ⊎ (result ≡ b ∷ a ∷ []) }
+{
+    if a.number() <= b.number() {
+        [a.number(), b.number()]
+    } else {
+        [b.number(), a.number()]
+    }
+}
+
 // The children as a list.
 fn list_of(alloc: Global, kids: &[NodeId]) -> Result<List<NodeId>, NoMemory>
     ensures { IfOk result (λ list. list ≡ kids.now) }
@@ -103,6 +118,8 @@ impl Store {
             order: order.copy()?,
             nodes: Vec::new(alloc),
             index: BTreeMap::new(alloc),
+            conjunctions: BTreeMap::new(alloc),
+            disjunctions: BTreeMap::new(alloc),
         })
     }
 
@@ -285,6 +302,38 @@ impl Store {
             Shape::Inner { var: own } if own != var => n,
             Shape::Inner { .. } => self.child(n, code),
             Shape::False | Shape::True => n,
+        }
+    }
+
+    // What was computed before for an operation.
+    fn results(&self, op: Operation) -> &Index
+        ensures { AreResults self.now op result.now }
+    {
+        match op {
+            Operation::And => &self.conjunctions,
+            Operation::Or => &self.disjunctions,
+        }
+    }
+
+    // The result of an operation on two nodes, where it was computed before.
+    pub(crate) fn recall(&self, op: Operation, a: NodeId, b: NodeId) -> Option<NodeId>
+        ensures { IfSome result (λ n. IsResult self.now op a b n) }
+    {
+        let number = find(self.results(op), &pair(a, b))?;
+        Some(NodeId::new(number))
+    }
+
+    // Keeps the result of an operation on two nodes.
+    pub(crate) fn remember(&mut self, op: Operation, a: NodeId, b: NodeId, n: NodeId) -> Result<(), NoMemory>
+        requires { IsResult self.old op a b n }
+        ensures same { self.new ≡ self.old }
+        ensures result { IsResult self.new op a b n }
+    {
+        let mut key = Vec::new(self.alloc);
+        key.extend_from_slice(&pair(a, b))?;
+        match op {
+            Operation::And => enter(&mut self.conjunctions, key, n.number()),
+            Operation::Or => enter(&mut self.disjunctions, key, n.number()),
         }
     }
 }

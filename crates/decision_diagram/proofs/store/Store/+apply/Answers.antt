@@ -5,7 +5,7 @@ use Rattle.decision_diagram.specs.Operations.{combine}
 use Rattle.decision_diagram.specs.Diagrams.{Diagrams, IsNode, value_of, level_of, Keeps, Means, choice}
 use Rattle.decision_diagram.proofs.Growth.{keeps_trans, keeps_level}
 use Rattle.decision_diagram.proofs.Meanings.{level_at_most}
-use Rattle.decision_diagram.proofs.Operating.{AreParts, parts_keeps, parts_more, parts_mean}
+use Rattle.decision_diagram.proofs.Operating.{AreParts, parts_keeps, parts_more, parts_mean_one, result_made, result_means}
 use Rattle.decision_diagram.proofs.store.Store.+apply.Goals as goal
 
 -- the two cofactors are read later than the earlier of the two nodes
@@ -49,13 +49,29 @@ loop-code-preserved t c =
       parts = subst (λ (kids : List ℕ). AreParts old new op c.args.a c.args.b var kids (c.loop-code.code + 1)) (sym c.in_ok-push.ensures.items) all;
     }
 
+pub remember-requires : goal.remember-requires
+remember-requires t c =
+    let old = c.args.self.now in
+    let s = c.loop-code.self in
+    let new = c.node.new.self in
+    let n = c.in_ok-node.node in
+    let op = c.args.op in
+    let var = c.first_variable-var.result in
+    let kept = c.loop-code.invariant.kept in
+    let parts = subst (λ (kids : List ℕ). AreParts old s op c.args.a c.args.b var kids c.loop-code.code) (sym c.deref.ensures.value) c.loop-code.invariant.parts in
+    let size : c.loop-code.code ≡ slice_index old.sizes var = let e = c.size-code-end.ensures in let f = c.loop-code-test.false in let g = c.loop-code.auto.code-end in omega arith in
+    let means = parts_mean_one old s new op c.args.a c.args.b var c.deref.result.now c.loop-code.code n parts size c.first_variable-var.ensures.var (c.node.ensures.kept.sizes ∙ kept.sizes) c.in_ok-node.ensures.value in
+    let order : place s.order var ≡ place old.order var = ap (λ (list : List ℕ). place list var) kept.order in
+    let level : min (level_of old c.args.a) (level_of old c.args.b) ≤ level_of new n = let l = c.in_ok-node.ensures.level in let f = c.first_variable-var.ensures.place in omega arith in
+    result_made old new op c.args.a c.args.b n (keeps_trans old s new kept c.node.ensures.kept) c.requires.a c.requires.b means level
+
+pub returns-in_err-remember-clause-kept : goal.returns-in_err-remember-clause-kept
+returns-in_err-remember-clause-kept t c = subst (Keeps c.args.self.now) (sym c.remember.ensures.same) (keeps_trans c.args.self.now c.loop-code.self c.node.new.self c.loop-code.invariant.kept c.node.ensures.kept)
+
 pub returns-clause-kept : goal.returns-clause-kept
-returns-clause-kept t c = keeps_trans c.args.self.now c.loop-code.self c.node.new.self c.loop-code.invariant.kept c.node.ensures.kept
+returns-clause-kept t c = subst (Keeps c.args.self.now) (sym c.remember.ensures.same) (keeps_trans c.args.self.now c.loop-code.self c.node.new.self c.loop-code.invariant.kept c.node.ensures.kept)
 
 pub returns-clause-value : goal.returns-clause-value
 returns-clause-value t c =
-    let old = c.args.self.now in
-    let s = c.loop-code.self in
-    let kept = c.loop-code.invariant.kept in
-    let parts = subst (λ (kids : List ℕ). AreParts old s c.args.op c.args.a c.args.b c.first_variable-var.result kids c.loop-code.code) (sym c.deref.ensures.value) c.loop-code.invariant.parts in
-    parts_mean old s c.node.new.self c.args.op c.args.a c.args.b c.first_variable-var.result c.deref.result.now c.loop-code.code c.node.result parts (let e = c.size-code-end.ensures in let f = c.loop-code-test.false in let g = c.loop-code.auto.code-end in omega arith) c.first_variable-var.ensures.var (c.node.ensures.kept.sizes ∙ kept.sizes) c.node.ensures.value
+    let keeps : Keeps c.args.self.now c.remember.new.self = subst (Keeps c.args.self.now) (sym c.remember.ensures.same) (keeps_trans c.args.self.now c.loop-code.self c.node.new.self c.loop-code.invariant.kept c.node.ensures.kept) in
+    result_means c.args.self.now c.remember.new.self c.args.op c.args.a c.args.b c.in_ok-node.node keeps c.requires.a c.requires.b c.remember.ensures.result

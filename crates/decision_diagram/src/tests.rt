@@ -1,10 +1,10 @@
 // Diagrams of known size, and each call once.
-ghost use Rattle.std.specs.Prelude.{IsTrue};
+ghost use Rattle.std.specs.Prelude.{◌≡◌, [], ◌∷◌, IfOk, IsTrue};
 ghost use Rattle.decision_diagram.specs.Diagrams.{IsNode};
 
 use crate::{NodeId, Order, Shape, Store};
-use domains::VarTable;
-use polis_base::NoMemory;
+use domains::{VarTable, first_codes, next_codes};
+use polis_base::{Duplicate, NoMemory};
 use std::alloc::Global;
 
 // A store in which a call that fails is remembered.
@@ -202,4 +202,54 @@ fn orders_are_permutations(rt: HostRuntime) {
         let made = Order::new(rt.alloc(), &list);
         assert!(rt; made.is_ok_and(|order| order.is_some() == is), "{list:?}");
     }
+}
+
+// The node that is true where both of two variables have the code 1, made of its children.
+fn both_set(store: &mut Store) -> Result<NodeId, NoMemory>
+    requires sizes { store.old.sizes ≡ 2 ∷ 2 ∷ [] }
+    requires order { store.old.order ≡ 0 ∷ 1 ∷ [] }
+    ensures kept { store.new.sizes ≡ store.old.sizes }
+    ensures node { IfOk result (IsNode store.new) }
+{
+    let second = match store.literal(1, 2) {
+        Ok(second) => second,
+        Err(NoMemory) => return Err(NoMemory),
+    };
+    match store.node(0, &[NodeId::constant(false), second]) {
+        Ok(both) => Ok(both),
+        Err(NoMemory) => Err(NoMemory),
+    }
+}
+
+// The values of that node on the four lists of codes, in their order.
+fn both_values(alloc: Global) -> Result<[bool; 4], NoMemory> {
+    let mut vars = VarTable::new(alloc);
+    vars.push(2)?;
+    vars.push(2)?;
+    let order = Order::new(alloc, &[0, 1])?.ok_or(NoMemory)?.copy()?;
+    let mut store = Store::new(alloc, &vars, &order)?;
+    let both = both_set(&mut store)?;
+    let mut codes = first_codes(alloc, &vars)?;
+    let none = store.value(both, &codes);
+    next_codes(&mut codes, &vars);
+    let second = store.value(both, &codes);
+    next_codes(&mut codes, &vars);
+    let first = store.value(both, &codes);
+    next_codes(&mut codes, &vars);
+    Ok([none, second, first, store.value(both, &codes)])
+}
+
+#[test]
+fn a_node_has_the_values_of_its_children(rt: HostRuntime) {
+    assert!(rt; both_values(rt.alloc()) == Ok([false, false, false, true]));
+}
+
+#[test]
+fn an_order_gives_its_variables(rt: HostRuntime) {
+    let made = Order::new(rt.alloc(), &[1, 0]);
+    assert!(rt;
+        made.is_ok_and(|order| order.is_some_and(|order| order.len() == 2
+            && *order.get(0) == 1
+            && order.place_of(1) == 0))
+    );
 }

@@ -1,13 +1,17 @@
 // The program: its words, its files and its one call that does the work.
 #![tactic(auto)]
 
+mod failure;
+mod form;
 mod lamp;
-mod parts;
+mod load;
+mod make;
 mod print;
+mod show;
 mod status;
-mod steps;
 mod top;
-mod worked;
+mod trace_stub;
+mod write;
 
 use polis_base::Words;
 use std::process::ExitCode;

@@ -1,5 +1,6 @@
 pub mod Held
 pub mod Host
+pub mod Keywords
 pub mod Lists
 pub mod Memory
 pub mod NameFields

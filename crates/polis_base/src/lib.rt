@@ -3,6 +3,7 @@
 
 mod bytes;
 mod host;
+mod keyword;
 mod lex;
 mod list;
 mod memory;

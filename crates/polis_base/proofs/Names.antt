@@ -15,8 +15,8 @@ holds_new xs short word free =
     let zeros : List ℕ = replicate 24 0 in
     let behind : length (drop (length xs) zeros) ≡ 24 - length xs = length-drop (length xs) zeros in
     record {
-    whole = length-append xs (drop (length xs) zeros) ∙ (rw behind (omega arith));
-    fits = short;
-    name = rw (take-append_seam xs (drop (length xs) (replicate 24 0)), fits_name (length xs) short, word, free) refl;
-    zeros = drop-append_seam xs (drop (length xs) (replicate 24 0)) ∙ drop-replicate (length xs) 24 0;
-  }
+      whole = length-append xs (drop (length xs) zeros) ∙ (rw behind (omega arith));
+      fits = short;
+      name = rw (take-append_seam xs (drop (length xs) (replicate 24 0)), fits_name (length xs) short, word, free) refl;
+      zeros = drop-append_seam xs (drop (length xs) (replicate 24 0)) ∙ drop-replicate (length xs) 24 0;
+    }

@@ -1,3 +1,4 @@
+pub mod Digits
 pub mod Held
 pub mod Host
 pub mod Keywords
@@ -5,4 +6,5 @@ pub mod Lists
 pub mod Memory
 pub mod NameFields
 pub mod Names
+pub mod Saves
 pub mod Tokens

@@ -1,7 +1,8 @@
 -- The tokens of a network text: at each place the longest.
-use Rattle.std.specs.Prelude.{ℕ, zero, suc, ◌+◌, ◌-◌, ◌*◌, ◌^◌, Bool, cond, not, ◌||◌, ◌&&◌, ◌==◌, nat_lt, nat_le, List, [], ◌∷◌, length, fold, Option, Some, None, Result, Ok, Err}
+use Rattle.std.specs.Prelude.{ℕ, zero, suc, ◌+◌, ◌-◌, ◌^◌, Bool, cond, not, ◌||◌, ◌==◌, nat_lt, List, [], ◌∷◌, length, Option, Some, None, Result, Ok, Err}
 use Rattle.std.specs.List.{take_while}
 use Rattle.polis_base.specs.Names.{begins_name, continues_name}
+use Rattle.polis_base.specs.Digits.{is_digit, number_of}
 pub use Rattle.polis_base.specs.Keywords.{keyword_of}
 use Rattle.polis_base.specs.declared.token.Keyword.{Keyword as Reserved}
 use Rattle.polis_base.specs.declared.token.Sign.TheVariants.{Equal, Assign, Colon, Comma, LeftBrace, RightBrace, DotDot, Plus}
@@ -21,13 +22,6 @@ pub data Front : Type 0 where
 -- space, tab, CR and LF
 abbrev pub is_blank : ℕ → Bool
 is_blank c = c == 32 || c == 9 || c == 13 || c == 10
-
-abbrev pub is_digit : ℕ → Bool
-is_digit c = nat_le 48 c && nat_le c 57
-
--- the number that decimal digits write
-abbrev pub number_of : List ℕ → ℕ
-number_of digits = fold (λ n c. n * 10 + (c - 48)) 0 digits
 
 abbrev pub word_kind : Option Reserved → Kind
 word_kind None = Name

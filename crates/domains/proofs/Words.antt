@@ -1,11 +1,12 @@
 -- Words of different values differ.
-use Rattle.std.proofs.Common.{◌≡◌, ℕ, zero, suc, ◌+◌, ◌<◌, Bool, true, false, not, ◌||◌, List, [], ◌∷◌, length, slice_get, arith, unwrap_or, sym, ap, refl}
+use Rattle.std.proofs.Common.{◌≡◌, ℕ, zero, suc, ◌+◌, ◌<◌, Bool, true, false, not, ◌||◌, List, [], ◌∷◌, length, slice_get, Option, Some, None, IfNone, arith, unwrap_or, sym, ap, refl, ◌∙◌}
 use Rattle.std.specs.Cmp.Derive.{both_true}
 use Rattle.std.specs.List.{list_any}
 use Rattle.std.proofs.lemmas.Bool.{eq-eqb, and_parts, not-true}
 use Rattle.std.proofs.lemmas.Fmt.{decimal_injective}
-use Rattle.domains.specs.Names.{is_same, are_distinct}
-use Rattle.domains.specs.Domains.{WordsDiffer}
+use Rattle.std.proofs.lemmas.Option.{slice_get_within, slice_get-get_or, unwrap_or-slice_get}
+use Rattle.domains.specs.Names.{AreValues, is_same, are_distinct}
+use Rattle.domains.specs.Domains.{word_of, WordsDiffer}
 use Rattle.domains.specs.declared.domain.Domain.TheVariants.{Names, Range}
 
 is_same_self : (name : List ℕ) → is_same name name ≡ true
@@ -45,3 +46,17 @@ words_differ (Names names) v w domain below_v below_w same = places_same names v
 words_differ (Range span) v w domain below_v below_w same =
     let e = decimal_injective (span.first + v) (span.first + w) (omega arith) (omega arith) same in
     omega arith
+
+-- what follows from what a clause says where there is no value
+pub none_then : {X : Type 0} (r : Option X) {P Q : Type 0} → IfNone r P → (P → Q) → IfNone r Q
+none_then None h f = f h
+none_then (Some x) h f = h
+
+-- a name stands at one place
+pub only_place : (names : List (List ℕ)) (word : List ℕ) (v w : ℕ) → AreValues names → slice_get names v ≡ Some word → w < length names → word_of (Names names) w ≡ word → w ≡ v
+only_place names word v w values at below same =
+    let there : word_of (Names names) v ≡ word = ap (λ (o : Option (List ℕ)). unwrap_or o []) at in
+    places_same names w v values.distinct below (slice_get_within names v word at) (same ∙ sym there)
+
+pub no_place : (names : List (List ℕ)) (word : List ℕ) (v : ℕ) → v < length names → word_of (Names names) v ≡ word → slice_get names v ≡ Some word
+no_place names word v below same = slice_get-get_or names v [] below ∙ ap (λ (name : List ℕ). Some name) (sym (unwrap_or-slice_get names v []) ∙ same)

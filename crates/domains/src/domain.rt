@@ -1,8 +1,8 @@
 // Finite domains.
-ghost use Rattle.std.specs.Prelude.{◌≡◌, ◌≢◌, ℕ, ◌<◌, ◌≤◌, ◌+◌, ◌-◌, ◌++◌, length, slice_get, Some, IsTrue, IsFalse, IfOk, OnOk, OnErr, IfSome, IfNone, decimal};
+ghost use Rattle.std.specs.Prelude.{◌≡◌, ◌≢◌, ℕ, ◌<◌, ◌≤◌, ◌+◌, ◌-◌, ◌++◌, length, slice_get, Some, ◌^◌, IsTrue, IfOk, OnOk, OnErr, IfSome, IfNone, decimal};
 ghost use Rattle.domains.specs.Names.{AreValues};
 
-use polis_base::{Bytes, Duplicate, List, Name, NoMemory};
+use polis_base::{Bytes, Duplicate, List, Name, NoMemory, read_decimal};
 use std::marker::Model;
 
 /// Names in order.
@@ -49,6 +49,28 @@ impl NameList {
     {
         self.names.get(i)
     }
+
+    // The place of a name.
+    fn place_of(&self, word: &[u8]) -> Option<u8>
+        ensures some { IfSome result (λ i. slice_get self.now i ≡ Some word.now) }
+        ensures none { IfNone result ((i : ℕ) → slice_get self.now i ≢ Some word.now) }
+        ensures names { AreValues self.now }
+    {
+        for i in 0..self.len() {
+            if self.get(i).bytes() == word {
+                return Some(i as u8);
+            }
+        }
+        None
+    }
+}
+
+impl Duplicate for NameList {
+    fn copy(&self) -> Result<NameList, NoMemory> {
+        Ok(NameList {
+            names: self.names.copy()?,
+        })
+    }
 }
 
 /// The numbers from `first` to `last`, both included, 1 to 32 of them. Value v is the number `first + v`.
@@ -68,6 +90,28 @@ impl Span {
     {
         self.first + v as u32
     }
+
+    fn contains(self, number: u64) -> bool
+        ensures yes { IsTrue result → (self.first ≤ number) × (number ≤ self.last) }
+        ensures no { (self.first ≤ number) → (number ≤ self.last) → IsTrue result }
+        ensures range { number < 2 ^ 64 }
+    {
+        u64::from(self.first) <= number && number <= u64::from(self.last)
+    }
+
+    // The value that is the number of a decimal text.
+    fn value_of(self, word: &[u8]) -> Option<u8>
+        ensures some { IfSome result (λ v. (self.first + v ≤ self.last) × (decimal (self.first + v) ≡ word.now)) }
+        ensures none { IfNone result ((v : ℕ) → self.first + v ≤ self.last → decimal (self.first + v) ≢ word.now) }
+        ensures last { self.last < 2 ^ 32 }
+    {
+        let number = read_decimal(word)?;
+        if self.contains(number) {
+            Some((number - u64::from(self.first)) as u8)
+        } else {
+            None
+        }
+    }
 }
 
 /// The values of an event or of a state variable, numbered from 0.
@@ -75,23 +119,6 @@ impl Span {
 pub enum Domain {
     Names(NameList),
     Range(Span),
-}
-
-// Whether a text is the decimal text of a number.
-fn is_decimal(n: u32, text: &[u8]) -> bool
-    ensures yes { IsTrue result → text.now ≡ decimal n }
-    ensures no { IsFalse result → text.now ≢ decimal n }
-{
-    match text.split_last() {
-        Some((last, front)) if *last == b'0' + (n % 10) as u8 => {
-            if n < 10 {
-                front.is_empty()
-            } else {
-                is_decimal(n / 10, front)
-            }
-        }
-        _ => false,
-    }
 }
 
 impl Domain {
@@ -110,30 +137,16 @@ impl Domain {
         }
     }
 
-    // Whether a text is the word of a value.
-    fn is_word(&self, v: u8, word: &[u8]) -> bool
-        requires { v < size_of self.now }
-        ensures yes { IsTrue result → word_of self.now v ≡ word.now }
-        ensures no { IsFalse result → word_of self.now v ≢ word.now }
-    {
-        match self {
-            Domain::Names(names) => names.get(v as u64).bytes() == word,
-            Domain::Range(span) => is_decimal(span.number(v), word),
-        }
-    }
-
     /// The number of the value that has this word, where one has it.
     pub fn value_of(&self, word: &[u8]) -> Option<u8>
         ensures some { IfSome result (λ v. (v < size_of self.now) × (word_of self.now v ≡ word.now)) }
         ensures only { IfSome result (λ v. (w : ℕ) → w < size_of self.now → word_of self.now w ≡ word.now → w ≡ v) }
         ensures none { IfNone result ((v : ℕ) → v < size_of self.now → word_of self.now v ≢ word.now) }
     {
-        for v in 0..self.size() {
-            if self.is_word(v, word) {
-                return Some(v);
-            }
+        match self {
+            Domain::Names(names) => names.place_of(word),
+            Domain::Range(span) => span.value_of(word),
         }
-        None
     }
 
     /// Appends the word of a value: its name, or its number in decimal.
@@ -145,6 +158,15 @@ impl Domain {
         match self {
             Domain::Names(names) => into.push(names.get(v as u64).bytes()),
             Domain::Range(span) => into.push_decimal(span.number(v) as u64),
+        }
+    }
+}
+
+impl Duplicate for Domain {
+    fn copy(&self) -> Result<Domain, NoMemory> {
+        match self {
+            Domain::Names(names) => Ok(Domain::Names(names.copy()?)),
+            Domain::Range(span) => Ok(Domain::Range(*span)),
         }
     }
 }

@@ -1,10 +1,10 @@
 -- What was sent and delivered, one entry more.
-use Rattle.std.specs.Prelude.{◌≡◌, ◌↔◌, ℕ, zero, suc, ◌+◌, Bool, true, false, cond, ◌&&◌, ◌==◌, List, [], ◌∷◌, ◌++◌, map, filter, filter_map, flat_map, length, slice_get, Option, Some, None, option_map}
-use Rattle.std.proofs.Common.{refl, sym, ap, ◌∙◌, subst, arith, append_assoc}
+use Rattle.std.specs.Prelude.{◌≡◌, ◌↔◌, ℕ, true, false, ◌&&◌, ◌==◌, List, [], ◌∷◌, ◌++◌, filter, flat_map, length, slice_get, Some, None}
+use Rattle.std.proofs.Common.{refl, sym, ap, ◌∙◌, subst, append_assoc}
 use Rattle.std.proofs.lemmas.List.{append-nil}
 use Rattle.std.proofs.lemmas.List.Concat.{flat_map-append}
 use Rattle.std.proofs.lemmas.List.Elements.{filter_map-append, filter-append}
-use Rattle.std.proofs.lemmas.Bool.{false≢true, eqb-true, eq-eqb, and_parts, and_from}
+use Rattle.std.proofs.lemmas.Bool.{false≢true, eqb-true, eq-eqb, and_parts}
 use Rattle.polis_base.specs.Lists.{Begins, head_of}
 use Rattle.transition_table.specs.declared.decl.Party.{Party}
 use Rattle.transition_table.specs.declared.decl.Party.TheVariants.{Env, Machine as Sender}
@@ -14,7 +14,7 @@ use Rattle.transition_table.specs.declared.snapshot.Outcome.{Outcome}
 use Rattle.net_core.specs.declared.entry.Entry.{Entry}
 use Rattle.net_core.specs.declared.entry.Entry.TheVariants.{Dep, Rea}
 use Rattle.net_core.specs.declared.entry.TraceItem.{TraceItem}
-use Rattle.net_core.specs.Journals.{same_party, reads, is_firing_of, emissions, event_of, delivery, delivered, sent}
+use Rattle.net_core.specs.Journals.{same_party, reads, is_firing_of, emissions, delivery, delivered, sent}
 use Rattle.net_core.specs.Legality.{Legal, MayFollow, MayGoOn}
 
 pub same_party_self : (s : Party) → same_party s s ≡ true

@@ -167,7 +167,7 @@ ways_of_event net s t m e c =
     once true = refl
     once false = refl
 
-ways_of_emissions : (net : Network) (s t : Party) (m : ℕ) (ps : List (ℕ × ℕ)) → map event_code (filter (is_way t m) (flat_map (deliveries_of net s) ps)) ≡ cond (same_party s t) (filter (λ p. reads net m p.0) ps) []
+pub ways_of_emissions : (net : Network) (s t : Party) (m : ℕ) (ps : List (ℕ × ℕ)) → map event_code (filter (is_way t m) (flat_map (deliveries_of net s) ps)) ≡ cond (same_party s t) (filter (λ p. reads net m p.0) ps) []
 ways_of_emissions net s t m [] = nothing (same_party s t)
   where
     nothing : (b : Bool) → ◌≡◌ {A = List (ℕ × ℕ)} [] (cond b [] [])

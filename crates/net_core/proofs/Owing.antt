@@ -1,14 +1,14 @@
 -- What is owed, one entry more.
-use Rattle.std.specs.Prelude.{◌≡◌, ◌↔◌, ℕ, zero, suc, ◌+◌, ◌-◌, ◌<◌, ◌≤◌, Bool, true, false, cond, ◌&&◌, ◌==◌, nat_lt, List, [], ◌∷◌, ◌++◌, map, filter, flat_map, count_by, length, drop, slice_get, Option, Some, None, option_map, find}
+use Rattle.std.specs.Prelude.{◌≡◌, ℕ, zero, suc, ◌+◌, ◌-◌, ◌<◌, ◌≤◌, Bool, true, false, cond, ◌&&◌, ◌==◌, nat_lt, List, [], ◌∷◌, ◌++◌, map, filter, flat_map, count_by, length, drop}
 use Rattle.std.specs.List.{list_all}
 use Rattle.std.proofs.Common.{refl, sym, ap, ◌∙◌, subst, inl, inr, arith, append_assoc, length-append}
 use Rattle.std.proofs.lemmas.List.{append-nil, length-map}
 use Rattle.std.proofs.lemmas.List.Concat.{flat_map-append}
 use Rattle.std.proofs.lemmas.List.Elements.{filter-append}
-use Rattle.std.proofs.lemmas.List.Folds.{list_all-append, list_all-map}
+use Rattle.std.proofs.lemmas.List.Folds.{list_all-append}
 use Rattle.std.proofs.lemmas.List.Sums.{length-filter}
-use Rattle.std.proofs.lemmas.Bool.{false≢true, eqb-true, eq-eqb, and_parts, and_from, both_ways, false_from_ne_true, cases_lt, lt-ltb, le-ltb}
-use Rattle.polis_base.specs.Lists.{Begins, head_of}
+use Rattle.std.proofs.lemmas.Bool.{eqb-true, eq-eqb, and_parts, and_from, both_ways, false_from_ne_true, cases_lt, lt-ltb, le-ltb}
+use Rattle.polis_base.specs.Lists.{Begins}
 use Rattle.transition_table.specs.declared.decl.Party.{Party}
 use Rattle.transition_table.specs.declared.decl.Party.TheVariants.{Env, Machine as Sender}
 use Rattle.transition_table.specs.declared.network.Network.{Network}
@@ -20,10 +20,10 @@ use Rattle.net_core.specs.declared.entry.Owed.{Owed}
 use Rattle.net_core.specs.declared.entry.TraceItem.{TraceItem}
 use Rattle.net_core.specs.declared.entry.TraceItem.TheVariants.{Event, Settle}
 use Rattle.net_core.specs.Journals.{same_party, emissions, delivered, sent}
-use Rattle.net_core.specs.Legality.{Legal, MayFollow}
-use Rattle.net_core.specs.Schedules.{receivers_of, deliveries_of, firing_deliveries, machine_deliveries, trace_deliveries, same_way, keep_unless, unmade, owed_by_machines, owed_by_env}
-use Rattle.net_core.proofs.Sent.{same_party_self, party_from_same, delivered_own, delivered_other, delivered_by_reaction, delivered_begins_sent, may_follow_next}
-use Rattle.net_core.proofs.Ways.{is_way, event_code, ways_of_emissions, machine_ways, env_ways}
+use Rattle.net_core.specs.Legality.{Legal}
+use Rattle.net_core.specs.Schedules.{receivers_of, deliveries_of, firing_deliveries, machine_deliveries, trace_deliveries, keep_unless, unmade, owed_by_machines, owed_by_env}
+use Rattle.net_core.proofs.Sent.{same_party_self, party_from_same, delivered_own, delivered_other, delivered_by_reaction, delivered_begins_sent}
+use Rattle.net_core.proofs.Ways.{is_way, event_code, ways_of_emissions, machine_ways}
 
 -- the list without the first item that passes
 abbrev pub without_first : {X : Type 0} → (X → Bool) → List X → List X
@@ -49,7 +49,7 @@ count_more p xs x b h =
 
 -- ---- the test of one delivery
 
-way_parts : (s : Party) (m : ℕ) (d : Owed) → is_way s m d ≡ true → (d.from ≡ s) × (d.to ≡ m)
+pub way_parts : (s : Party) (m : ℕ) (d : Owed) → is_way s m d ≡ true → (d.from ≡ s) × (d.to ≡ m)
 way_parts s m d h = let parts = and_parts (same_party d.from s) (d.to == m) h in (party_from_same d.from s parts.0, eqb-true d.to m parts.1)
 
 pub own_way : (d : Owed) → is_way d.from d.to d ≡ true

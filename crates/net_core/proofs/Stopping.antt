@@ -253,5 +253,5 @@ pub picked_may_follow : (net : Network) (trace : List TraceItem) (journal : List
 picked_may_follow net trace journal entry legal is =
     picked_by_parts net trace journal entry (head_of (owed_by_machines net journal)) (head_of (owed_by_env net trace journal)) (first_woken net journal) legal refl refl refl is
 
-pub picked_is_legal : (net : Network) (trace : List TraceItem) (journal : List Entry) (entry : Entry) → IsPicked net journal (pick net trace journal) entry → Legal net trace journal → FitsNetwork net entry → Legal net trace (journal ++ entry ∷ [])
-picked_is_legal net trace journal entry is legal fits = legal_step net trace journal entry legal fits (picked_may_follow net trace journal entry legal is)
+pub picked_is_legal : (net : Network) (trace : List TraceItem) (journal : List Entry) (entry : Entry) → Legal net trace journal → IsPicked net journal (pick net trace journal) entry → FitsNetwork net entry → Legal net trace (journal ++ entry ∷ [])
+picked_is_legal net trace journal entry legal is fits = legal_step net trace journal entry legal fits (picked_may_follow net trace journal entry legal is)

@@ -126,7 +126,7 @@ inputs_numbered net m =
 pub read_is_event : (net : Network) (m e : ℕ) → reads net m e ≡ true → e < length net.events
 read_is_event net m e h = ltb-true e (length net.events) (has_of_all (λ e. nat_lt e (length net.events)) (inputs_of net m) e (inputs_numbered net m) h)
 
-receivers_are_readers : (net : Network) (e : ℕ) (event : EventDecl) → slice_get net.events e ≡ Some event → event.receivers ≡ places_where (λ machine. has machine.inputs e) net.machines
+pub receivers_are_readers : (net : Network) (e : ℕ) (event : EventDecl) → slice_get net.events e ≡ Some event → event.receivers ≡ places_where (λ machine. has machine.inputs e) net.machines
 receivers_are_readers net e event h =
     (slice_eq-Decides Decides-eqb event.receivers (places_where (λ machine. has machine.inputs e) net.machines) (pointwise ◌==◌ event.receivers (places_where (λ machine. has machine.inputs e) net.machines)) refl).0
     (passes_of_each (has_receivers net.machines) 0 e e net.events event (omega arith) net.receivers h)

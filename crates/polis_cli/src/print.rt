@@ -1,9 +1,9 @@
 // The texts that are written.
-ghost use Rattle.std.specs.Prelude.{◌≡◌, ◌<◌, ◌+◌, ◌++◌, cond, codes, decimal, Some, OnOk, OnErr, IfOk, IsTrue};
+ghost use Rattle.std.specs.Prelude.{◌≡◌, ◌<◌, ◌+◌, ◌++◌, map, cond, codes, decimal, Some, OnOk, OnErr, IfOk, IsTrue};
 ghost use Rattle.domains.specs.Tables.{fits};
 ghost use Rattle.transition_table.specs.NetworkFacts.{values_of, event_values};
 ghost use Rattle.net_core.specs.Journals.{IsJournal, FitsNetwork, is_event_code, is_party};
-ghost use Rattle.polis_cli.specs.Texts.{journal_text, output_text, summary_text, entry_text, entry_line, event_item, value_word};
+ghost use Rattle.polis_cli.specs.Texts.{journal_text, output_text, summary_text, entry_text, entry_line, event_item, event_items, state_item, state_items, set_items, spaced, value_word, lead, end_mark};
 
 use net_core::{Entry, Journal};
 use polis_base::{Bytes, NoMemory};
@@ -30,4 +30,50 @@ fn push_event(net: &Network, e: u32, code: u8, into: &mut Bytes) -> Result<(), N
         push_value(net, d, code - 1, into)?;
     }
     Ok(())
+}
+
+// Appends a state variable with a value.
+fn push_state(net: &Network, variable: &StateDecl, v: u8, into: &mut Bytes) -> Result<(), NoMemory>
+    requires { v < values_of net.now.domains (Some variable.now.domain) }
+    ensures { OnOk result (into.new ≡ into.old ++ state_item net.now variable.now v) }
+{
+    into.push(variable.name.bytes())?;
+    into.push(b"=")?;
+    push_value(net, variable.domain, v, into)
+}
+
+// Appends what stands before an item: a space, where there is one before it.
+fn push_lead(some: bool, into: &mut Bytes) -> Result<(), NoMemory>
+    ensures { OnOk result (into.new ≡ into.old ++ lead some) }
+{
+    if some {
+        into.push(b" ")?;
+    }
+    Ok(())
+}
+
+// Appends what stands behind the last item: a mark, where there is no item.
+fn push_end(some: bool, into: &mut Bytes) -> Result<(), NoMemory>
+    ensures { OnOk result (into.new ≡ into.old ++ end_mark some) }
+{
+    if !some {
+        into.push(b"-")?;
+    }
+    Ok(())
+}
+
+// Appends the events with a code above 0.
+fn push_events(net: &Network, events: &[u32], codes: &[u8], into: &mut Bytes) -> Result<(), NoMemory>
+    requires { IsTrue (fits (map (λ e. 1 + event_values net.now.domains net.now.events e) events.now) codes.now) }
+    ensures { OnOk result (into.new ≡ into.old ++ spaced (event_items net.now events.now codes.now)) }
+{
+    let mut some = false;
+    for (event, code) in events.iter().zip(codes) {
+        if *code > 0 {
+            push_lead(some, into)?;
+            push_event(net, *event, *code, into)?;
+            some = true;
+        }
+    }
+    push_end(some, into)
 }

@@ -1,29 +1,14 @@
 -- Lists of items that are written one after another.
-use Rattle.std.proofs.Common.{◌≡◌, ◌<◌, ℕ, zero, suc, Bool, true, false, ◌&&◌, ◌+◌, nat_lt, nat_le, List, [], ◌∷◌, ◌++◌, ◌⊎◌, inl, inr, map, length, refl, arith}
-use Rattle.std.specs.Prelude.{IsTrue, codes, flat_map}
-use Rattle.std.proofs.lemmas.List.{append_assoc}
+use Rattle.std.proofs.Common.{◌≡◌, ◌<◌, ℕ, zero, suc, Bool, true, false, ◌&&◌, ◌+◌, nat_lt, nat_le, List, [], ◌∷◌, ◌++◌, ◌⊎◌, inl, inr, map, length, refl, arith, Some}
+use Rattle.std.specs.Prelude.{IsTrue, flat_map}
 use Rattle.std.proofs.lemmas.Bool.{ltb-true, lt-ltb, le-leb}
-use Rattle.net_core.specs.Journals.{is_event_code}
 use Rattle.domains.specs.Tables.{fits}
-use Rattle.transition_table.specs.NetworkFacts.{event_values}
+use Rattle.transition_table.specs.NetworkFacts.{event_values, values_of}
+use Rattle.net_core.specs.Journals.{is_event_code}
 use Rattle.transition_table.specs.declared.decl.EventDecl.{EventDecl}
+use Rattle.transition_table.specs.declared.decl.StateDecl.{StateDecl}
 use Rattle.transition_table.specs.declared.network.Network.{Network}
-use Rattle.polis_cli.specs.Texts.{spaced, lead, end_mark, event_items}
-
--- what is still to be written of these items, where some were or none was
-abbrev pub still : Bool → List (List ℕ) → List ℕ
-still true items = flat_map (λ next. codes " " ++ next) items
-still false items = spaced items
-
--- an item is written
-pub item_written : (some : Bool) (into item whole : List ℕ) (items : List (List ℕ)) → into ++ still some (item ∷ items) ≡ whole → ((into ++ lead some) ++ item) ++ still true items ≡ whole
-item_written true into item whole items h = rw (append_assoc, append_assoc) h
-item_written false into item whole items h = rw (append_assoc, append_assoc) h
-
--- all are written
-pub items_written : (some : Bool) (into whole : List ℕ) (items : List (List ℕ)) → into ++ still some items ≡ whole → items ≡ [] → into ++ end_mark some ≡ whole
-items_written true into whole items h none = rw none at h
-items_written false into whole items h none = rw none at h
+use Rattle.polis_cli.specs.Texts.{spaced, end_mark, space}
 
 -- both of two tests that pass together
 pub left_true : (a b : Bool) → (a && b) ≡ true → a ≡ true
@@ -34,20 +19,58 @@ pub right_true : (a b : Bool) → (a && b) ≡ true → b ≡ true
 right_true true b h = h
 right_true false b h = cc
 
+-- what is still to be written of these items, where some were or none was
+abbrev pub still : Bool → List (List ℕ) → List ℕ
+still true items = flat_map (λ next. space ++ next) items
+still false items = spaced items
+
+-- What a loop over things and their codes keeps: the codes left fit the sizes of the things left, and
+-- what is written, with the items left, is the whole.
+pub record ItemsLeft {X : Type 0} (size : X → ℕ) (items : List X → List ℕ → List (List ℕ)) (whole into : List ℕ) (some : Bool) (things : List X) (codes : List ℕ) : Type 0 where
+  pub fit : IsTrue (fits (map size things) codes)
+  pub text : into ++ still some (items things codes) ≡ whole
+
+-- the first code is below the first size
+pub head_fits : {X : Type 0} (size : X → ℕ) (things rest : List X) (codes rest_codes : List ℕ) (thing : X) (code : ℕ) → things ≡ thing ∷ rest → codes ≡ code ∷ rest_codes → IsTrue (fits (map size things) codes) → code < size thing
+head_fits size things rest codes rest_codes thing code p q h =
+    let f = rw (p, q) at h in
+    ltb-true _ _ (left_true _ (fits (map size rest) rest_codes) f)
+
+-- one list at its end is both
+ends : {X : Type 0} (size : X → ℕ) (things : List X) (codes : List ℕ) → IsTrue (fits (map size things) codes) → (things ≡ []) ⊎ (codes ≡ []) → (things ≡ []) × (codes ≡ [])
+ends size [] [] h e = (refl, refl)
+ends size (thing ∷ things) (code ∷ codes) h e = elim e [ | inl p ↦ cc | inr p ↦ cc ]
+ends size [] (code ∷ codes) h e = cc
+ends size (thing ∷ things) [] h e = cc
+
+-- at the end all items are written
+pub all_written : {X : Type 0} (size : X → ℕ) (items : List X → List ℕ → List (List ℕ)) (whole into : List ℕ) (some : Bool) (things : List X) (codes : List ℕ)
+  → items [] [] ≡ [] → ItemsLeft size items whole into some things codes → (things ≡ []) ⊎ (codes ≡ []) → into ++ end_mark some ≡ whole
+all_written size items whole into some things codes none left e =
+    let both = ends size things codes left.fit e in
+    let t = left.text in
+    let u = rw (both.0, both.1, none) at t in
+    at_end some u
+  where
+    at_end : (some : Bool) → into ++ still some [] ≡ whole → into ++ end_mark some ≡ whole
+    at_end true h = h
+    at_end false h = h
+
 -- one code more than the event has values
 abbrev pub event_size : Network → ℕ → ℕ
 event_size net e = 1 + event_values net.domains net.events e
 
--- what a loop over events and their codes keeps
-pub record EventsLeft (net : Network) (whole into : List ℕ) (some : Bool) (events codes : List ℕ) : Type 0 where
-  pub fit : IsTrue (fits (map (event_size net) events) codes)
-  pub text : into ++ still some (event_items net events codes) ≡ whole
+-- one code for each value
+abbrev pub state_size : Network → StateDecl → ℕ
+state_size net variable = values_of net.domains (Some variable.domain)
+
+-- one code more than the variable has values
+abbrev pub set_size : Network → StateDecl → ℕ
+set_size net variable = 1 + values_of net.domains (Some variable.domain)
 
 -- a code above 0 that fits is of the event
-pub code_fits : (net : Network) (e code : ℕ) (events rest_events codes rest_codes : List ℕ) → events ≡ e ∷ rest_events → codes ≡ code ∷ rest_codes → 0 < code → IsTrue (fits (map (event_size net) events) codes) → is_event_code net e code ≡ true
-code_fits net e code events rest_events codes rest_codes p q some h =
-    let f = rw (p, q) at h in
-    let below : code < event_size net e = ltb-true _ _ (left_true _ (fits (map (event_size net) rest_events) rest_codes) f) in
+pub code_fits : (net : Network) (e code : ℕ) → 0 < code → code < event_size net e → is_event_code net e code ≡ true
+code_fits net e code some below =
     let there : e < length net.events = declared net.events e (omega arith) in
     let first : nat_lt e (length net.events) ≡ true = lt-ltb _ _ there in
     let second : nat_le 1 code ≡ true = le-leb _ _ (omega arith) in
@@ -58,9 +81,3 @@ code_fits net e code events rest_events codes rest_codes p q some h =
     declared [] e h = absurd (omega arith)
     declared (event ∷ events) zero h = omega arith
     declared (event ∷ events) (suc e) h = let n = declared events e h in omega arith
-
--- where one of the two lists is at its end, no item is left
-pub no_items : (net : Network) (events codes : List ℕ) → (events ≡ []) ⊎ (codes ≡ []) → event_items net events codes ≡ []
-no_items net [] codes h = refl
-no_items net (e ∷ events) [] h = refl
-no_items net (e ∷ events) (code ∷ codes) h = elim h [ | inl p ↦ cc | inr p ↦ cc ]

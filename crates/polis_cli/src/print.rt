@@ -77,3 +77,33 @@ fn push_events(net: &Network, events: &[u32], codes: &[u8], into: &mut Bytes) ->
     }
     push_end(some, into)
 }
+
+// Appends each state variable with its value.
+fn push_states(net: &Network, variables: &[StateDecl], values: &[u8], into: &mut Bytes) -> Result<(), NoMemory>
+    requires { IsTrue (fits (map (λ variable. values_of net.now.domains (Some variable.domain)) variables.now) values.now) }
+    ensures { OnOk result (into.new ≡ into.old ++ spaced (state_items net.now variables.now values.now)) }
+{
+    let mut some = false;
+    for (variable, value) in variables.iter().zip(values) {
+        push_lead(some, into)?;
+        push_state(net, variable, *value, into)?;
+        some = true;
+    }
+    push_end(some, into)
+}
+
+// Appends each state variable that is set, with the value that it is set to.
+fn push_settings(net: &Network, variables: &[StateDecl], codes: &[u8], into: &mut Bytes) -> Result<(), NoMemory>
+    requires { IsTrue (fits (map (λ variable. 1 + values_of net.now.domains (Some variable.domain)) variables.now) codes.now) }
+    ensures { OnOk result (into.new ≡ into.old ++ spaced (set_items net.now variables.now codes.now)) }
+{
+    let mut some = false;
+    for (variable, code) in variables.iter().zip(codes) {
+        if *code > 0 {
+            push_lead(some, into)?;
+            push_state(net, variable, *code - 1, into)?;
+            some = true;
+        }
+    }
+    push_end(some, into)
+}

@@ -1,14 +1,13 @@
 -- Lists of items that are written one after another.
-use Rattle.std.proofs.Common.{◌≡◌, ◌<◌, ℕ, zero, suc, Bool, true, false, ◌&&◌, ◌+◌, nat_lt, nat_le, List, [], ◌∷◌, ◌++◌, ◌⊎◌, inl, inr, map, length, refl, arith, Some}
+use Rattle.std.proofs.Common.{◌≡◌, ◌<◌, ℕ, zero, suc, Bool, true, false, ◌&&◌, nat_lt, nat_le, List, [], ◌∷◌, ◌++◌, ◌⊎◌, inl, inr, map, length, refl, arith}
 use Rattle.std.specs.Prelude.{IsTrue, flat_map}
 use Rattle.std.proofs.lemmas.Bool.{ltb-true, lt-ltb, le-leb}
 use Rattle.domains.specs.Tables.{fits}
-use Rattle.transition_table.specs.NetworkFacts.{event_values, values_of}
+use Rattle.transition_table.specs.NetworkFacts.{event_values}
 use Rattle.net_core.specs.Journals.{is_event_code}
 use Rattle.transition_table.specs.declared.decl.EventDecl.{EventDecl}
-use Rattle.transition_table.specs.declared.decl.StateDecl.{StateDecl}
 use Rattle.transition_table.specs.declared.network.Network.{Network}
-use Rattle.polis_cli.specs.Texts.{spaced, end_mark, space}
+use Rattle.polis_cli.specs.Texts.{spaced, end_mark, space, event_size}
 
 -- both of two tests that pass together
 pub left_true : (a b : Bool) → (a && b) ≡ true → a ≡ true
@@ -55,18 +54,6 @@ all_written size items whole into some things codes none left e =
     at_end : (some : Bool) → into ++ still some [] ≡ whole → into ++ end_mark some ≡ whole
     at_end true h = h
     at_end false h = h
-
--- one code more than the event has values
-abbrev pub event_size : Network → ℕ → ℕ
-event_size net e = 1 + event_values net.domains net.events e
-
--- one code for each value
-abbrev pub state_size : Network → StateDecl → ℕ
-state_size net variable = values_of net.domains (Some variable.domain)
-
--- one code more than the variable has values
-abbrev pub set_size : Network → StateDecl → ℕ
-set_size net variable = 1 + values_of net.domains (Some variable.domain)
 
 -- a code above 0 that fits is of the event
 pub code_fits : (net : Network) (e code : ℕ) → 0 < code → code < event_size net e → is_event_code net e code ≡ true

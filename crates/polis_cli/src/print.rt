@@ -1,14 +1,14 @@
 // The texts that are written.
-ghost use Rattle.std.specs.Prelude.{◌≡◌, ◌<◌, ◌+◌, ◌++◌, map, cond, codes, decimal, Some, OnOk, OnErr, IfOk, IsTrue};
-ghost use Rattle.domains.specs.Tables.{fits};
-ghost use Rattle.transition_table.specs.NetworkFacts.{values_of, event_values};
-ghost use Rattle.net_core.specs.Journals.{IsJournal, FitsNetwork, is_event_code, is_party};
-ghost use Rattle.polis_cli.specs.Texts.{journal_text, output_text, summary_text, entry_text, entry_line, event_item, event_items, state_item, state_items, set_items, spaced, value_word, lead, end_mark};
+ghost use Rattle.std.specs.Prelude.{◌≡◌, ◌<◌, ◌+◌, ◌++◌, map, flat_map, length, take, drop, Some, OnOk, IfOk, IsTrue, slice_get};
+ghost use Rattle.transition_table.specs.NetworkFacts.{values_of, event_values, has_vars, has_outputs};
+ghost use Rattle.transition_table.specs.Transitions.{IsSnapshot};
+ghost use Rattle.net_core.specs.Journals.{IsJournal, IsOutcome, FitsNetwork, is_event_code, is_party};
+ghost use Rattle.polis_cli.specs.Texts.{journal_text, output_text, summary_text, count_text, entry_text, entry_line, delivery_text, reaction_text, snapshot_text, result_text, event_item, event_items, state_item, state_items, set_items, spaced, value_word, party_name, lead, end_mark, ending, are_event_codes, are_values, are_settings, state_size, output_lines};
 
-use net_core::{Entry, Journal};
+use net_core::{Entry, Journal, lost};
 use polis_base::{Bytes, NoMemory};
 use std::alloc::Global;
-use transition_table::{Network, Party, StateDecl};
+use transition_table::{Machine, Network, Outcome, Party, Snapshot, StateDecl};
 
 // Appends the word of a value of a domain.
 fn push_value(net: &Network, d: u32, v: u8, into: &mut Bytes) -> Result<(), NoMemory>
@@ -34,7 +34,7 @@ fn push_event(net: &Network, e: u32, code: u8, into: &mut Bytes) -> Result<(), N
 
 // Appends a state variable with a value.
 fn push_state(net: &Network, variable: &StateDecl, v: u8, into: &mut Bytes) -> Result<(), NoMemory>
-    requires { v < values_of net.now.domains (Some variable.now.domain) }
+    requires { v < state_size net.now variable.now }
     ensures { OnOk result (into.new ≡ into.old ++ state_item net.now variable.now v) }
 {
     into.push(variable.name.bytes())?;
@@ -64,7 +64,7 @@ fn push_end(some: bool, into: &mut Bytes) -> Result<(), NoMemory>
 
 // Appends the events with a code above 0.
 fn push_events(net: &Network, events: &[u32], codes: &[u8], into: &mut Bytes) -> Result<(), NoMemory>
-    requires { IsTrue (fits (map (λ e. 1 + event_values net.now.domains net.now.events e) events.now) codes.now) }
+    requires { IsTrue (are_event_codes net.now events.now codes.now) }
     ensures { OnOk result (into.new ≡ into.old ++ spaced (event_items net.now events.now codes.now)) }
 {
     let mut some = false;
@@ -80,7 +80,7 @@ fn push_events(net: &Network, events: &[u32], codes: &[u8], into: &mut Bytes) ->
 
 // Appends each state variable with its value.
 fn push_states(net: &Network, variables: &[StateDecl], values: &[u8], into: &mut Bytes) -> Result<(), NoMemory>
-    requires { IsTrue (fits (map (λ variable. values_of net.now.domains (Some variable.domain)) variables.now) values.now) }
+    requires { IsTrue (are_values net.now variables.now values.now) }
     ensures { OnOk result (into.new ≡ into.old ++ spaced (state_items net.now variables.now values.now)) }
 {
     let mut some = false;
@@ -94,7 +94,7 @@ fn push_states(net: &Network, variables: &[StateDecl], values: &[u8], into: &mut
 
 // Appends each state variable that is set, with the value that it is set to.
 fn push_settings(net: &Network, variables: &[StateDecl], codes: &[u8], into: &mut Bytes) -> Result<(), NoMemory>
-    requires { IsTrue (fits (map (λ variable. 1 + values_of net.now.domains (Some variable.domain)) variables.now) codes.now) }
+    requires { IsTrue (are_settings net.now variables.now codes.now) }
     ensures { OnOk result (into.new ≡ into.old ++ spaced (set_items net.now variables.now codes.now)) }
 {
     let mut some = false;
@@ -106,4 +106,29 @@ fn push_settings(net: &Network, variables: &[StateDecl], codes: &[u8], into: &mu
         }
     }
     push_end(some, into)
+}
+
+// Appends what a reaction read: the present inputs, and the state.
+fn push_snapshot(net: &Network, machine: &Machine, snapshot: &Snapshot, into: &mut Bytes) -> Result<(), NoMemory>
+    requires sized { IsTrue (has_vars net.now.domains net.now.events machine.now) }
+    requires snapshot { IsSnapshot machine.now snapshot.now }
+    ensures { OnOk result (into.new ≡ into.old ++ snapshot_text net.now machine.now snapshot.now.codes) }
+{
+    let inputs = machine.inputs.as_slice();
+    let (codes, values) = snapshot.codes.as_slice().split_at(inputs.len());
+    push_events(net, inputs, codes, into)?;
+    into.push(b" ; ")?;
+    push_states(net, machine.states.as_slice(), values, into)
+}
+
+// Appends what a firing gave: the state variables that it set, and the events that it emitted.
+fn push_result(net: &Network, machine: &Machine, outcome: &Outcome, into: &mut Bytes) -> Result<(), NoMemory>
+    requires sized_vars { IsTrue (has_vars net.now.domains net.now.events machine.now) }
+    requires sized_outputs { IsTrue (has_outputs net.now.domains net.now.events machine.now) }
+    requires outcome { IsOutcome machine.now outcome.now }
+    ensures { OnOk result (into.new ≡ into.old ++ result_text net.now machine.now outcome.now) }
+{
+    push_settings(net, machine.states.as_slice(), outcome.next.as_slice(), into)?;
+    into.push(b" ; ")?;
+    push_events(net, machine.outputs.as_slice(), outcome.outs.as_slice(), into)
 }

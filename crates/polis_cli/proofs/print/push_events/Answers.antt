@@ -1,8 +1,8 @@
 use Rattle.std.proofs.Common.{arith, refl}
 use Rattle.std.proofs.lemmas.Result.{IfOk-equal}
 use Rattle.std.proofs.lemmas.Slice.Zip.{Zip-more, either_empty_from_Zip}
-use Rattle.polis_cli.specs.Texts.{event_items}
-use Rattle.polis_cli.proofs.TextLemmas.{event_size, head_fits, code_fits, all_written}
+use Rattle.polis_cli.specs.Texts.{event_size, event_items}
+use Rattle.polis_cli.proofs.TextLemmas.{head_fits, code_fits, all_written}
 use Rattle.polis_cli.proofs.print.push_events.Goals as goal
 
 pub push_event-requires : goal.push_event-requires

@@ -1,8 +1,8 @@
 use Rattle.std.proofs.Common.{refl}
 use Rattle.std.proofs.lemmas.Result.{IfOk-equal}
 use Rattle.std.proofs.lemmas.Slice.Zip.{Zip-more, either_empty_from_Zip}
-use Rattle.polis_cli.specs.Texts.{state_items}
-use Rattle.polis_cli.proofs.TextLemmas.{state_size, head_fits, all_written}
+use Rattle.polis_cli.specs.Texts.{state_size, state_items}
+use Rattle.polis_cli.proofs.TextLemmas.{head_fits, all_written}
 use Rattle.polis_cli.proofs.print.push_states.Goals as goal
 
 pub push_state-requires : goal.push_state-requires

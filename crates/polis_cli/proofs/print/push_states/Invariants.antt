@@ -1,8 +1,8 @@
 use Rattle.std.proofs.Common.{◌++◌}
 use Rattle.std.specs.Iterator.Adapters.{zip_first, zip_second}
 use Rattle.std.specs.Slice.Iter.{iter_rest}
-use Rattle.polis_cli.specs.Texts.{spaced, state_items}
-use Rattle.polis_cli.proofs.TextLemmas.{ItemsLeft, state_size}
+use Rattle.polis_cli.specs.Texts.{state_size, spaced, state_items}
+use Rattle.polis_cli.proofs.TextLemmas.{ItemsLeft}
 use Rattle.polis_cli.proofs.print.push_states.Given as goal
 
 -- the items so far are written

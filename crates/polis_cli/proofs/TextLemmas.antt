@@ -1,10 +1,12 @@
 -- Lists of items that are written one after another.
 use Rattle.std.proofs.Common.{◌≡◌, ◌<◌, ℕ, zero, suc, Bool, true, false, ◌&&◌, nat_lt, nat_le, List, [], ◌∷◌, ◌++◌, ◌⊎◌, inl, inr, map, length, refl, arith}
-use Rattle.std.specs.Prelude.{IsTrue, flat_map}
+use Rattle.std.specs.Prelude.{slice_get, Some, IsTrue, flat_map}
 use Rattle.std.proofs.lemmas.Bool.{ltb-true, lt-ltb, le-leb}
 use Rattle.domains.specs.Tables.{fits}
 use Rattle.transition_table.specs.NetworkFacts.{event_values}
-use Rattle.net_core.specs.Journals.{is_event_code}
+use Rattle.net_core.specs.Journals.{is_event_code, IsJournal}
+use Rattle.net_core.specs.declared.entry.Entry.{Entry}
+use Rattle.std.specs.List.{list_all}
 use Rattle.transition_table.specs.declared.decl.EventDecl.{EventDecl}
 use Rattle.transition_table.specs.declared.network.Network.{Network}
 use Rattle.polis_cli.specs.Texts.{spaced, end_mark, space, event_size}
@@ -68,3 +70,17 @@ code_fits net e code some below =
     declared [] e h = absurd (omega arith)
     declared (event ∷ events) zero h = omega arith
     declared (event ∷ events) (suc e) h = let n = declared events e h in omega arith
+
+-- a test that all pass, at one of them
+pub passes_at : {X : Type 0} (test : X → Bool) (xs : List X) (k : ℕ) (x : X) → list_all test xs ≡ true → slice_get xs k ≡ Some x → test x ≡ true
+passes_at test [] k x all at = cc
+passes_at test (y ∷ xs) zero x all at =
+    let same : y ≡ x = cc in
+    rw (← same) (left_true (test y) _ all)
+passes_at test (y ∷ xs) (suc k) x all at = passes_at test xs k x (right_true (test y) _ all) at
+
+-- What a loop over a journal keeps: the entries left fit the network, and what is written, with the text of
+-- the entries left, is the whole.
+pub record EntriesLeft (net : Network) (text_of : List Entry → List ℕ) (whole into : List ℕ) (entries : List Entry) : Type 0 where
+  pub fit : IsJournal net entries
+  pub text : into ++ text_of entries ≡ whole

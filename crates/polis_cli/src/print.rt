@@ -3,7 +3,7 @@ ghost use Rattle.std.specs.Prelude.{◌≡◌, ◌<◌, ◌+◌, ◌++◌, map, 
 ghost use Rattle.transition_table.specs.NetworkFacts.{values_of, event_values, has_vars, has_outputs};
 ghost use Rattle.transition_table.specs.Transitions.{IsSnapshot};
 ghost use Rattle.net_core.specs.Journals.{IsJournal, IsOutcome, FitsNetwork, is_event_code, is_party};
-ghost use Rattle.polis_cli.specs.Texts.{journal_text, output_text, summary_text, count_text, entry_text, entry_line, delivery_text, reaction_text, snapshot_text, result_text, event_item, event_items, state_item, state_items, set_items, spaced, value_word, party_name, lead, end_mark, ending, are_event_codes, are_values, are_settings, state_size, output_lines};
+ghost use Rattle.polis_cli.specs.Texts.{journal_text, output_text, summary_text, count_text, entry_text, entry_line, delivery_text, reaction_text, snapshot_text, result_text, event_item, event_items, state_item, state_items, set_items, spaced, value_word, machine_name, party_name, lead, end_mark, ending, are_event_codes, are_values, are_settings, state_size, output_lines};
 
 use net_core::{Entry, Journal, lost};
 use polis_base::{Bytes, NoMemory};
@@ -131,4 +131,82 @@ fn push_result(net: &Network, machine: &Machine, outcome: &Outcome, into: &mut B
     push_settings(net, machine.states.as_slice(), outcome.next.as_slice(), into)?;
     into.push(b" ; ")?;
     push_events(net, machine.outputs.as_slice(), outcome.outs.as_slice(), into)
+}
+
+// Appends a reaction of a machine.
+fn push_reaction(net: &Network, machine: &Machine, snapshot: &Snapshot, outcome: &Outcome, into: &mut Bytes) -> Result<(), NoMemory>
+    requires sized_vars { IsTrue (has_vars net.now.domains net.now.events machine.now) }
+    requires sized_outputs { IsTrue (has_outputs net.now.domains net.now.events machine.now) }
+    requires snapshot { IsSnapshot machine.now snapshot.now }
+    requires outcome { IsOutcome machine.now outcome.now }
+    ensures { OnOk result (into.new ≡ into.old ++ reaction_text net.now machine.now snapshot.now outcome.now) }
+{
+    into.push(if outcome.fires { b"fire " } else { b"idle " })?;
+    into.push(machine.name.bytes())?;
+    into.push(b" : ")?;
+    push_snapshot(net, machine, snapshot, into)?;
+    if outcome.fires {
+        into.push(b" -> ")?;
+        push_result(net, machine, outcome, into)?;
+    }
+    Ok(())
+}
+
+// Appends the name of a machine.
+fn push_machine(net: &Network, m: u32, into: &mut Bytes) -> Result<(), NoMemory>
+    requires { m < length net.now.machines }
+    ensures { OnOk result (into.new ≡ into.old ++ machine_name net.now m) }
+{
+    into.push(net.machines.get(m as u64).name.bytes())
+}
+
+// Appends the name of a party.
+fn push_party(net: &Network, party: Party, into: &mut Bytes) -> Result<(), NoMemory>
+    requires { IsTrue (is_party net.now party) }
+    ensures { OnOk result (into.new ≡ into.old ++ party_name net.now party) }
+{
+    match party {
+        Party::Env => into.push(b"env"),
+        Party::Machine(m) => push_machine(net, m, into),
+    }
+}
+
+// Appends a delivery.
+fn push_delivery(net: &Network, from: Party, to: u32, event: u32, code: u8, into: &mut Bytes) -> Result<(), NoMemory>
+    requires from { IsTrue (is_party net.now from) }
+    requires to { to < length net.now.machines }
+    requires event { IsTrue (is_event_code net.now event code) }
+    ensures { OnOk result (into.new ≡ into.old ++ delivery_text net.now from to event code) }
+{
+    into.push(b"dep ")?;
+    push_party(net, from, into)?;
+    into.push(b" ")?;
+    push_machine(net, to, into)?;
+    into.push(b" ")?;
+    push_event(net, event, code, into)
+}
+
+// Appends the line of an entry.
+fn push_entry(net: &Network, entry: &Entry, into: &mut Bytes) -> Result<(), NoMemory>
+    requires { FitsNetwork net.now entry.now }
+    ensures { OnOk result (into.new ≡ into.old ++ entry_line net.now entry.now) }
+{
+    match entry {
+        Entry::Dep { from, to, event, code } => push_delivery(net, *from, *to, *event, *code, into)?,
+        Entry::Rea { machine, snapshot, outcome } => {
+            push_reaction(net, net.machines.get(*machine as u64), snapshot, outcome, into)?;
+        }
+    }
+    into.push(b"\n")
+}
+
+// Appends the lines of all entries.
+fn push_entries(net: &Network, j: &Journal, into: &mut Bytes) -> Result<(), NoMemory>
+    requires { IsJournal net.now j.now }
+    ensures { OnOk result (into.new ≡ into.old ++ flat_map (entry_line net.now) j.now) }
+{
+    for entry in j.as_slice() {
+        push_entry(net, entry, into)?;
+    }
+    Ok(())
 }

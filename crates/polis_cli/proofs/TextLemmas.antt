@@ -1,15 +1,19 @@
 -- Lists of items that are written one after another.
-use Rattle.std.proofs.Common.{◌≡◌, ◌<◌, ℕ, zero, suc, Bool, true, false, ◌&&◌, nat_lt, nat_le, List, [], ◌∷◌, ◌++◌, ◌⊎◌, inl, inr, map, length, refl, arith}
-use Rattle.std.specs.Prelude.{slice_get, Some, IsTrue, flat_map}
+use Rattle.std.proofs.Common.{◌≡◌, ◌<◌, ℕ, zero, suc, Bool, true, false, ◌&&◌, nat_lt, nat_le, List, [], ◌∷◌, ◌++◌, ◌⊎◌, inl, inr, map, length, refl, sym, ap, ◌∙◌, arith}
+use Rattle.std.specs.Prelude.{filter, slice_get, Some, IsTrue, flat_map}
 use Rattle.std.proofs.lemmas.Bool.{ltb-true, lt-ltb, le-leb}
 use Rattle.domains.specs.Tables.{fits}
 use Rattle.transition_table.specs.NetworkFacts.{event_values}
-use Rattle.net_core.specs.Journals.{is_event_code, IsJournal}
+use Rattle.net_core.specs.Journals.{is_event_code, IsJournal, emitted, emissions}
 use Rattle.net_core.specs.declared.entry.Entry.{Entry}
 use Rattle.std.specs.List.{list_all}
 use Rattle.transition_table.specs.declared.decl.EventDecl.{EventDecl}
 use Rattle.transition_table.specs.declared.network.Network.{Network}
-use Rattle.polis_cli.specs.Texts.{spaced, end_mark, space, event_size}
+use Rattle.polis_cli.specs.Texts.{spaced, end_mark, space, event_size, are_event_codes, event_line, output_text, output_lines}
+use Rattle.std.proofs.lemmas.List.{append-nil}
+use Rattle.std.proofs.lemmas.List.Elements.{filter-append}
+use Rattle.std.proofs.lemmas.Grind.{flat_map-append}
+use Rattle.net_core.specs.Outputs.{goes_out}
 
 -- both of two tests that pass together
 pub left_true : (a b : Bool) → (a && b) ≡ true → a ≡ true
@@ -40,13 +44,13 @@ head_fits size things rest codes rest_codes thing code p q h =
 -- one list at its end is both
 ends : {X : Type 0} (size : X → ℕ) (things : List X) (codes : List ℕ) → IsTrue (fits (map size things) codes) → (things ≡ []) ⊎ (codes ≡ []) → (things ≡ []) × (codes ≡ [])
 ends size [] [] h e = (refl, refl)
-ends size (thing ∷ things) (code ∷ codes) h e = elim e [ | inl p ↦ cc | inr p ↦ cc ]
+ends size (thing ∷ things) (code ∷ codes) h e = elim e [ inl p ↦ cc | inr p ↦ cc ]
 ends size [] (code ∷ codes) h e = cc
 ends size (thing ∷ things) [] h e = cc
 
 -- at the end all items are written
 pub all_written : {X : Type 0} (size : X → ℕ) (items : List X → List ℕ → List (List ℕ)) (whole into : List ℕ) (some : Bool) (things : List X) (codes : List ℕ)
-  → items [] [] ≡ [] → ItemsLeft size items whole into some things codes → (things ≡ []) ⊎ (codes ≡ []) → into ++ end_mark some ≡ whole
+    → items [] [] ≡ [] → ItemsLeft size items whole into some things codes → (things ≡ []) ⊎ (codes ≡ []) → into ++ end_mark some ≡ whole
 all_written size items whole into some things codes none left e =
     let both = ends size things codes left.fit e in
     let t = left.text in
@@ -84,3 +88,22 @@ passes_at test (y ∷ xs) (suc k) x all at = passes_at test xs k x (right_true (
 pub record EntriesLeft (net : Network) (text_of : List Entry → List ℕ) (whole into : List ℕ) (entries : List Entry) : Type 0 where
   pub fit : IsJournal net entries
   pub text : into ++ text_of entries ≡ whole
+
+-- The same over events and their codes, of which those that go to the environment are written.
+pub record OutputsLeft (net : Network) (whole into : List ℕ) (events codes : List ℕ) : Type 0 where
+  pub fit : IsTrue (are_event_codes net events codes)
+  pub text : into ++ output_lines net (emitted events codes) ≡ whole
+
+-- at the end all lines are written
+pub outputs_written : (net : Network) (whole into : List ℕ) (events codes : List ℕ) → OutputsLeft net whole into events codes → (events ≡ []) ⊎ (codes ≡ []) → into ≡ whole
+outputs_written net whole into events codes left e =
+    let both = ends (event_size net) events codes left.fit e in
+    let t = left.text in
+    let u = rw (both.0) at t in
+    sym (append-nil into) ∙ u
+
+-- the outputs of an entry, and of those behind it
+pub outputs_behind : (net : Network) (entry : Entry) (entries : List Entry) → output_text net (entry ∷ entries) ≡ output_lines net (emissions net entry) ++ output_text net entries
+outputs_behind net entry entries =
+    ap (flat_map (event_line net)) (filter-append (λ p. goes_out net p.0) (emissions net entry) (flat_map (emissions net) entries))
+    ∙ flat_map-append (event_line net) (filter (λ p. goes_out net p.0) (emissions net entry)) (filter (λ p. goes_out net p.0) (flat_map (emissions net) entries))

@@ -1,14 +1,17 @@
 // Finite domains.
-ghost use Rattle.std.specs.Prelude.{◌≡◌, ◌<◌, ◌≤◌, ◌+◌, ◌-◌, ◌++◌, length, slice_get, Some, IsTrue, OnOk, OnErr};
+ghost use Rattle.std.specs.Prelude.{◌≡◌, ◌≢◌, ℕ, ◌<◌, ◌≤◌, ◌+◌, ◌-◌, ◌++◌, length, slice_get, Some, IsTrue, IsFalse, IfOk, OnOk, OnErr, IfSome, IfNone, decimal};
 ghost use Rattle.domains.specs.Names.{AreValues};
 
-use polis_base::{Bytes, List, Name, NoMemory};
+use polis_base::{Bytes, Duplicate, List, Name, NoMemory};
 use std::marker::Model;
 
-/// Distinct names, 1 to 32.
+/// Names in order.
+pub type Names = List<Name>;
+
+/// The names of a domain's values: 1 to 32, no two the same. Value v has the name at place v.
 #[derive(Drop)]
 pub struct NameList {
-    names: List<Name>,
+    names: Names,
 }
 
 impl Model for NameList {
@@ -23,8 +26,8 @@ impl Model for NameList {
 }
 
 impl NameList {
-    /// The names, where they are distinct and 1 to 32.
-    pub fn of(items: List<Name>) -> Self
+    /// These names as the values of a domain.
+    pub fn of(items: Names) -> Self
         requires { AreValues items }
         ensures { result ≡ items }
     {
@@ -39,7 +42,7 @@ impl NameList {
         self.names.len()
     }
 
-    /// The name at a place.
+    /// The name at a place, counted from 0.
     pub fn get(&self, i: u64) -> &Name
         requires { i < length self.now }
         ensures { slice_get self.now i ≡ Some result.now }
@@ -48,7 +51,7 @@ impl NameList {
     }
 }
 
-/// The numbers from the first to the last, 1 to 32.
+/// The numbers from `first` to `last`, both included, 1 to 32 of them. Value v is the number `first + v`.
 #[derive(Clone, Copy, Debug)]
 pub struct Span {
     pub first: u32,
@@ -57,26 +60,79 @@ pub struct Span {
     pub ghost few: { last - first < 32 },
 }
 
-/// The values of an event or a state variable.
+impl Span {
+    // The number that a value is.
+    fn number(self, v: u8) -> u32
+        requires { self.first + v ≤ self.last }
+        ensures { result ≡ self.first + v }
+    {
+        self.first + v as u32
+    }
+}
+
+/// The values of an event or of a state variable, numbered from 0.
 #[derive(Drop)]
 pub enum Domain {
     Names(NameList),
     Range(Span),
 }
 
+// Whether a text is the decimal text of a number.
+fn is_decimal(n: u32, text: &[u8]) -> bool
+    ensures yes { IsTrue result → text.now ≡ decimal n }
+    ensures no { IsFalse result → text.now ≢ decimal n }
+{
+    match text.split_last() {
+        Some((last, front)) if *last == b'0' + (n % 10) as u8 => {
+            if n < 10 {
+                front.is_empty()
+            } else {
+                is_decimal(n / 10, front)
+            }
+        }
+        _ => false,
+    }
+}
+
 impl Domain {
-    ghost use Rattle.domains.specs.Domains.{size_of, word_of};
+    ghost use Rattle.domains.specs.Domains.{size_of, word_of, IsDomain};
 
     /// How many values there are.
     pub fn size(&self) -> u8
         ensures size { result ≡ size_of self.now }
         ensures few { result ≤ 32 }
         ensures some { 1 ≤ result }
+        ensures domain { IsDomain self.now }
     {
         match self {
             Domain::Names(names) => names.len() as u8,
             Domain::Range(span) => (span.last - span.first) as u8 + 1,
         }
+    }
+
+    // Whether a text is the word of a value.
+    fn is_word(&self, v: u8, word: &[u8]) -> bool
+        requires { v < size_of self.now }
+        ensures yes { IsTrue result → word_of self.now v ≡ word.now }
+        ensures no { IsFalse result → word_of self.now v ≢ word.now }
+    {
+        match self {
+            Domain::Names(names) => names.get(v as u64).bytes() == word,
+            Domain::Range(span) => is_decimal(span.number(v), word),
+        }
+    }
+
+    /// The number of the value that has this word, where one has it.
+    pub fn value_of(&self, word: &[u8]) -> Option<u8>
+        ensures some { IfSome result (λ v. (v < size_of self.now) × (word_of self.now v ≡ word.now)) }
+        ensures none { IfNone result ((v : ℕ) → v < size_of self.now → word_of self.now v ≢ word.now) }
+    {
+        for v in 0..self.size() {
+            if self.is_word(v, word) {
+                return Some(v);
+            }
+        }
+        None
     }
 
     /// Appends the word of a value: its name, or its number in decimal.
@@ -85,6 +141,9 @@ impl Domain {
         ensures ok { OnOk result (into.new ≡ into.old ++ word_of self.now v) }
         ensures err { OnErr result (into.new ≡ into.old) }
     {
-        Err(NoMemory)
+        match self {
+            Domain::Names(names) => into.push(names.get(v as u64).bytes()),
+            Domain::Range(span) => into.push_decimal(span.number(v) as u64),
+        }
     }
 }

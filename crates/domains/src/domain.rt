@@ -125,6 +125,7 @@ impl Domain {
     /// The number of the value that has this word, where one has it.
     pub fn value_of(&self, word: &[u8]) -> Option<u8>
         ensures some { IfSome result (λ v. (v < size_of self.now) × (word_of self.now v ≡ word.now)) }
+        ensures only { IfSome result (λ v. (w : ℕ) → w < size_of self.now → word_of self.now w ≡ word.now → w ≡ v) }
         ensures none { IfNone result ((v : ℕ) → v < size_of self.now → word_of self.now v ≢ word.now) }
     {
         for v in 0..self.size() {

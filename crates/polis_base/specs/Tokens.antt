@@ -1,10 +1,10 @@
 -- The tokens of a network text: at each place the longest.
-use Rattle.std.specs.Prelude.{ℕ, zero, suc, ◌+◌, ◌-◌, ◌*◌, ◌^◌, Bool, true, cond, not, ◌||◌, ◌&&◌, ◌==◌, nat_lt, nat_le, List, [], ◌∷◌, length, fold, Option, Some, None, Result, Ok, Err, codes}
+use Rattle.std.specs.Prelude.{ℕ, zero, suc, ◌+◌, ◌-◌, ◌^◌, Bool, cond, not, ◌||◌, ◌==◌, nat_lt, List, [], ◌∷◌, length, Option, Some, None, Result, Ok, Err}
 use Rattle.std.specs.List.{take_while}
-use Rattle.std.specs.Cmp.Lexicographic.{pointwise}
 use Rattle.polis_base.specs.Names.{begins_name, continues_name}
+use Rattle.polis_base.specs.Digits.{is_digit, number_of}
+pub use Rattle.polis_base.specs.Keywords.{keyword_of}
 use Rattle.polis_base.specs.declared.token.Keyword.{Keyword as Reserved}
-use Rattle.polis_base.specs.declared.token.Keyword.TheVariants.{KwNetwork, KwVersion, KwDomain, KwEvent, KwMachine, KwFrom, KwTo, KwEnv, KwPriority, KwInput, KwOutput, KwState, KwWhen, KwDo, KwEmit, KwAbsent, KwIn, KwNothing, KwSettle, KwValue}
 use Rattle.polis_base.specs.declared.token.Sign.TheVariants.{Equal, Assign, Colon, Comma, LeftBrace, RightBrace, DotDot, Plus}
 use Rattle.polis_base.specs.declared.token.Kind.{Kind}
 use Rattle.polis_base.specs.declared.token.Kind.TheVariants.{Keyword, Name, Number, Sign}
@@ -22,40 +22,6 @@ pub data Front : Type 0 where
 -- space, tab, CR and LF
 abbrev pub is_blank : ℕ → Bool
 is_blank c = c == 32 || c == 9 || c == 13 || c == 10
-
-abbrev pub is_digit : ℕ → Bool
-is_digit c = nat_le 48 c && nat_le c 57
-
--- the number that decimal digits write
-abbrev pub number_of : List ℕ → ℕ
-number_of digits = fold (λ n c. n * 10 + (c - 48)) 0 digits
-
-abbrev pub same_word : List ℕ → List ℕ → Bool
-same_word = pointwise ◌==◌
-
--- the keyword that a word is, if it is one
-abbrev pub keyword_of : List ℕ → Option Reserved
-keyword_of word =
-    cond (same_word word (codes "network")) (Some KwNetwork)
-    (cond (same_word word (codes "version")) (Some KwVersion)
-    (cond (same_word word (codes "domain")) (Some KwDomain)
-    (cond (same_word word (codes "event")) (Some KwEvent)
-    (cond (same_word word (codes "machine")) (Some KwMachine)
-    (cond (same_word word (codes "from")) (Some KwFrom)
-    (cond (same_word word (codes "to")) (Some KwTo)
-    (cond (same_word word (codes "env")) (Some KwEnv)
-    (cond (same_word word (codes "priority")) (Some KwPriority)
-    (cond (same_word word (codes "input")) (Some KwInput)
-    (cond (same_word word (codes "output")) (Some KwOutput)
-    (cond (same_word word (codes "state")) (Some KwState)
-    (cond (same_word word (codes "when")) (Some KwWhen)
-    (cond (same_word word (codes "do")) (Some KwDo)
-    (cond (same_word word (codes "emit")) (Some KwEmit)
-    (cond (same_word word (codes "absent")) (Some KwAbsent)
-    (cond (same_word word (codes "in")) (Some KwIn)
-    (cond (same_word word (codes "nothing")) (Some KwNothing)
-    (cond (same_word word (codes "settle")) (Some KwSettle)
-    (cond (same_word word (codes "value")) (Some KwValue) None)))))))))))))))))))
 
 abbrev pub word_kind : Option Reserved → Kind
 word_kind None = Name

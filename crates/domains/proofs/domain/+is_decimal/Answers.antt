@@ -1,4 +1,4 @@
-use Rattle.std.proofs.Common.{◌≡◌, ◌<◌, ◌≤◌, ◌^◌, ◌+◌, ◌%◌, ℕ, arith, length, true, false, sym, ◌∙◌}
+use Rattle.std.proofs.Common.{◌≡◌, arith, true, sym, ◌∙◌}
 use Rattle.std.proofs.lemmas.Option.{MatchOption-at_none}
 use Rattle.domains.proofs.Decimals.{from_ten, parts_from_ten, below_ten, parts_below_ten, last_digit, no_digits}
 use Rattle.domains.proofs.domain.+is_decimal.Goals as goal

@@ -1,9 +1,9 @@
 -- The first piece of some bytes, by the first byte that passes.
-use Rattle.std.proofs.Common.{◌≡◌, ◌<◌, ◌≤◌, ◌+◌, ◌-◌, length-drop, ℕ, zero, suc, Bool, true, false, cond, not, List, [], ◌∷◌, length, take, drop, get_or, refl, sym, ap, ◌∙◌, arith, add-one}
+use Rattle.std.proofs.Common.{◌≡◌, ◌<◌, ◌≤◌, ◌+◌, ◌-◌, length-drop, ℕ, zero, suc, Bool, true, false, not, List, [], ◌∷◌, length, take, drop, get_or, refl, ap, ◌∙◌, arith, add-one}
 use Rattle.std.specs.List.{take_while}
 use Rattle.std.proofs.lemmas.List.Sums.{take_while-cons}
 use Rattle.std.proofs.lemmas.List.{take_all}
-use Rattle.trace_text.specs.Pieces.{with_byte, pieces, ends_word, words_of}
+use Rattle.trace_text.specs.Pieces.{pieces, ends_word, words_of}
 
 -- none of the first k bytes passes
 abbrev pub NoneBefore : (ℕ → Bool) → List ℕ → ℕ → Type 0

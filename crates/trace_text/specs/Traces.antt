@@ -1,5 +1,5 @@
 -- What a trace text says: its items, or the first line at fault.
-use Rattle.std.specs.Prelude.{◌≡◌, ℕ, ◌+◌, cond, Bool, false, ◌&&◌, nat_lt, List, [], ◌∷◌, ◌++◌, length, fold, slice_get, Option, Some, None, option_map, unwrap_or, Result, Ok, Err, codes}
+use Rattle.std.specs.Prelude.{ℕ, ◌+◌, cond, Bool, false, ◌&&◌, nat_lt, List, [], ◌∷◌, ◌++◌, length, fold, slice_get, Option, Some, None, option_map, unwrap_or, Result, Ok, Err, codes, IsTrue, ⊤}
 use Rattle.std.specs.List.{find, enumerate_from}
 use Rattle.polis_base.specs.Lists.{upto}
 use Rattle.domains.specs.Names.{is_same}
@@ -10,7 +10,7 @@ use Rattle.transition_table.specs.declared.decl.EventDecl.{EventDecl}
 use Rattle.transition_table.specs.declared.network.Network.{Network}
 use Rattle.net_core.specs.declared.entry.TraceItem.{TraceItem}
 use Rattle.net_core.specs.declared.entry.TraceItem.TheVariants.{Event as EventItem, Settle}
-use Rattle.net_core.specs.Journals.{same_party}
+use Rattle.net_core.specs.Journals.{same_party, is_trace_item}
 use Rattle.trace_text.specs.Pieces.{lines_of, without_comment, words_of}
 use Rattle.trace_text.specs.declared.fault.TraceKind.{TraceKind}
 use Rattle.trace_text.specs.declared.fault.TraceKind.TheVariants.{Shape, Event, Value, Many}
@@ -21,9 +21,13 @@ use Rattle.trace_text.specs.declared.fault.TraceFault.TheVariants.{Line}
 abbrev pub is_sent : List ℕ → EventDecl → Bool
 is_sent word event = is_same event.name word && same_party event.sender Env
 
+-- the event of this number is one of this name that the environment sends
+abbrev pub is_sent_event : Network → List ℕ → ℕ → Bool
+is_sent_event net word e = unwrap_or (option_map (is_sent word) (slice_get net.events e)) false
+
 -- the number of the event of this name that the environment sends
 abbrev pub env_event : Network → List ℕ → Option ℕ
-env_event net word = find (λ e. unwrap_or (option_map (is_sent word) (slice_get net.events e)) false) (upto (length net.events))
+env_event net word = find (is_sent_event net word) (upto (length net.events))
 
 -- the value of a domain that has this word
 abbrev pub value_named : List ℕ → Domain → Option ℕ
@@ -66,6 +70,12 @@ item_of_words net (word ∷ value ∷ more ∷ words) = Err Shape
 
 abbrev pub item_of_line : Network → List ℕ → Result (Option TraceItem) TraceKind
 item_of_line net line = item_of_words net (words_of (without_comment line))
+
+-- an item that a line is fits the network
+abbrev pub AddsItem : Network → Result (Option TraceItem) TraceKind → Type 0
+AddsItem net (Err kind) = ⊤
+AddsItem net (Ok None) = ⊤
+AddsItem net (Ok (Some item)) = IsTrue (is_trace_item net item)
 
 -- what a line of this number adds to the items before it: an item where there are fewer than 10,000, or a fault
 abbrev pub added : List TraceItem → ℕ → Result (Option TraceItem) TraceKind → Result (List TraceItem) TraceFault

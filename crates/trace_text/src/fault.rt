@@ -1,5 +1,4 @@
 // What is wrong with a trace text.
-use polis_base::NoMemory;
 use thiserror::Error;
 
 /// The first of these that applies to a line.
@@ -22,10 +21,4 @@ pub enum TraceFault {
     Line { line: u64, kind: TraceKind },
     #[error("NoMemory")]
     NoMemory,
-}
-
-impl From<NoMemory> for TraceFault {
-    fn from(_: NoMemory) -> Self {
-        TraceFault::NoMemory
-    }
 }

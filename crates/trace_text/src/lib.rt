@@ -3,5 +3,10 @@
 
 mod cut;
 mod fault;
+mod item;
+mod read;
+mod worked;
 
 pub use fault::{TraceFault, TraceKind};
+pub use read::read_trace;
+pub use worked::worked_texts;

@@ -1,0 +1,4 @@
+pub mod Cuts
+pub mod Finds
+pub mod Items
+pub mod Lines

@@ -3,9 +3,9 @@ use Rattle.std.proofs.Common.{◌≡◌, ◌≤◌, ◌<◌, ◌⊎◌, inl, inr
 use Rattle.polis_base.specs.Host.{Files, bytes_at, WhereTold}
 use Rattle.transition_table.specs.declared.network.Network.{Network}
 use Rattle.net_core.specs.declared.entry.TraceItem.{TraceItem}
-use Rattle.polis_cli.specs.declared.trace_stub.TraceKind.{TraceKind}
-use Rattle.polis_cli.specs.declared.trace_stub.TraceFault.TheVariants.{Line as FaultyLine}
-use Rattle.polis_cli.specs.TraceStub.{trace_of}
+use Rattle.trace_text.specs.declared.fault.TraceKind.{TraceKind}
+use Rattle.trace_text.specs.declared.fault.TraceFault.TheVariants.{Line as FaultyLine}
+use Rattle.trace_text.specs.Traces.{trace_of}
 use Rattle.polis_cli.specs.declared.failure.Source.TheVariants.{Net, Trace}
 use Rattle.polis_cli.specs.declared.failure.Failure.{Failure}
 use Rattle.polis_cli.specs.declared.failure.Failure.TheVariants.{ReadFault, Absent, TooLong, NotYet, Line, NoMemory}

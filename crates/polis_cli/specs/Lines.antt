@@ -4,10 +4,10 @@ use Rattle.polis_base.specs.Host.{Files, bytes_at, WhereTold}
 use Rattle.transition_table.specs.declared.network.Network.{Network}
 use Rattle.net_core.specs.declared.entry.Entry.{Entry}
 use Rattle.net_core.specs.declared.entry.TraceItem.{TraceItem}
-use Rattle.polis_cli.specs.declared.trace_stub.TraceKind.{TraceKind}
-use Rattle.polis_cli.specs.declared.trace_stub.TraceKind.TheVariants.{Shape, Event, Value, Many}
-use Rattle.polis_cli.specs.declared.trace_stub.TraceFault.TheVariants.{Line as FaultyLine}
-use Rattle.polis_cli.specs.TraceStub.{trace_of}
+use Rattle.trace_text.specs.declared.fault.TraceKind.{TraceKind}
+use Rattle.trace_text.specs.declared.fault.TraceKind.TheVariants.{Shape, Event, Value, Many}
+use Rattle.trace_text.specs.declared.fault.TraceFault.TheVariants.{Line as FaultyLine}
+use Rattle.trace_text.specs.Traces.{trace_of}
 use Rattle.polis_cli.specs.declared.failure.Source.{Source}
 use Rattle.polis_cli.specs.declared.failure.Source.TheVariants.{Net, Trace}
 use Rattle.polis_cli.specs.declared.failure.Failure.{Failure}

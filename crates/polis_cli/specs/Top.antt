@@ -9,7 +9,7 @@ use Rattle.net_core.specs.Legality.{Legal, Complete}
 use Rattle.net_core.specs.Schedules.{IsSchedule}
 use Rattle.polis_cli.specs.Form.{RunWords, Asks, out_name, journal_name}
 use Rattle.polis_cli.specs.Lamp.{Accepted}
-use Rattle.polis_cli.specs.TraceStub.{trace_of}
+use Rattle.trace_text.specs.Traces.{trace_of}
 use Rattle.polis_cli.specs.Texts.{journal_text, output_text, summary_text}
 use Rattle.polis_cli.specs.declared.status.Status.{Status}
 use Rattle.polis_cli.specs.declared.status.Status.TheVariants.{Done, Usage, ReadFault, Refused, Limit, WriteFault, NoMemory, Illegal, Differ}

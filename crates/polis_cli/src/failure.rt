@@ -2,7 +2,7 @@
 ghost use Rattle.std.specs.Prelude.{◌≡◌};
 
 use crate::status::Status;
-use crate::trace_stub::TraceKind;
+use trace_text::TraceKind;
 
 /// One of the two files that a run reads.
 #[derive(Clone, Copy, Debug, PartialEq, Eq)]

@@ -1,8 +1,8 @@
 // The words of a call, as what they ask for.
-ghost use Rattle.std.specs.Prelude.{◌≡◌, ◌≢◌, ◌≤◌, ℕ, List, length, decimal, MatchOption, IfSome, IfNone, IsTrue, ◌↔◌};
-ghost use Rattle.polis_cli.specs.Form.{RunWords, Asks, AsksNothing, IsFileWord, entry_max};
+ghost use Rattle.std.specs.Prelude.{◌≡◌, ◌≢◌, ◌≤◌, ◌↔◌, ℕ, length, drop, decimal, IfSome, IfNone, IsTrue};
+ghost use Rattle.polis_cli.specs.Form.{RunWords, Asks, AsksLimit, AsksNothing, IsFileWord, entry_max};
 
-use polis_base::Words;
+use polis_base::{Words, read_decimal};
 use std::marker::Model;
 
 /// The most entries of a journal where the words name no other limit.
@@ -61,25 +61,70 @@ fn is_file_word(word: &str) -> bool
     1 <= word.len() && word.len() <= 200
 }
 
+// The number, where it is from 1 to 60,000.
+fn within_limits(n: u64) -> Option<u64>
+    ensures some { IfSome result (λ m. (m ≡ n) × (1 ≤ n) × (n ≤ entry_max)) }
+    ensures none { IfNone result ((m : ℕ) → m ≤ entry_max → 1 ≤ m → n ≢ m) }
+{
+    if 1 <= n && n <= ENTRY_MAX {
+        Some(n)
+    } else {
+        None
+    }
+}
+
+// A limit from 1 to 60,000 in decimal.
+fn read_limit(word: &str) -> Option<u64>
+    ensures some { IfSome result (λ n. (word.now ≡ decimal n) × (1 ≤ n) × (n ≤ entry_max)) }
+    ensures none { IfNone result ((n : ℕ) → n ≤ entry_max → 1 ≤ n → word.now ≢ decimal n) }
+{
+    match read_decimal(word.as_bytes()) {
+        Some(n) => within_limits(n),
+        None => None,
+    }
+}
+
+// The limit that the options behind the first four words ask for.
+fn limit_of(words: &Words) -> Option<u64>
+    requires { 4 ≤ length words.now }
+    ensures some { IfSome result (λ n. AsksLimit (drop 4 words.now) n) }
+    ensures none { IfNone result ((n : ℕ) → ¬ AsksLimit (drop 4 words.now) n) }
+{
+    if words.len() == 4 {
+        return Some(ENTRY_MAX);
+    }
+    if words.len() == 6 && words.get(4) == "--limit" {
+        match read_limit(words.get(5)) {
+            Some(limit) => Some(limit),
+            None => None,
+        }
+    } else {
+        None
+    }
+}
+
 /// The run that the words ask for, if they ask for one.
 pub fn judge(words: &Words) -> Option<Run<'_>>
     ensures asks { IfSome result (λ run. Asks words.now run) }
     ensures one { IfSome result (λ run. (other : RunWords) → Asks words.now other → other ≡ run) }
     ensures nothing { IfNone result (AsksNothing words.now) }
 {
-    if words.len() != 4 {
+    if words.len() < 4 {
         return None;
     }
-    let command = words.get(0);
+    let limit = match limit_of(words) {
+        Some(limit) => limit,
+        None => return None,
+    };
     let net = words.get(1);
     let trace = words.get(2);
     let stem = words.get(3);
-    if command == "run" && is_file_word(net) && is_file_word(trace) && is_file_word(stem) {
+    if words.get(0) == "run" && is_file_word(net) && is_file_word(trace) && is_file_word(stem) {
         Some(Run {
             net,
             trace,
             stem,
-            limit: ENTRY_MAX,
+            limit,
         })
     } else {
         None

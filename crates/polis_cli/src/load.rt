@@ -10,7 +10,7 @@ ghost use Rattle.polis_cli.specs.Lines.{HoldsText, Explains};
 use crate::failure::{Failure, Source};
 use crate::form::Run;
 use crate::lamp::{LampFault, read_lamp};
-use crate::trace_stub::{TraceFault, read_trace};
+use trace_text::{TraceFault, read_trace};
 use net_core::Trace;
 use polis_base::{Bytes, Host, Load};
 use std::alloc::Global;

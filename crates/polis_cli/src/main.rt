@@ -10,7 +10,6 @@ mod print;
 mod show;
 mod status;
 mod top;
-mod trace_stub;
 mod write;
 
 use polis_base::Words;

@@ -7,7 +7,7 @@ ghost use Rattle.polis_cli.specs.Parts.{FailsWith, no_memory_line};
 use crate::failure::{Failure, Source};
 use crate::form::Run;
 use crate::status::Status;
-use crate::trace_stub::TraceKind;
+use trace_text::TraceKind;
 use polis_base::{Bytes, Host, NoMemory};
 use std::alloc::Global;
 

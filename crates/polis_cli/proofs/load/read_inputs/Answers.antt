@@ -1,8 +1,8 @@
 use Rattle.std.proofs.Common.{List, ℕ, ◌≡◌, Ok, Err, None, Some, length, ◌<◌, subst, sym}
 use Rattle.std.specs.Prelude.{Option}
 use Rattle.polis_base.specs.Host.{Files, WhereTold, bytes_at}
-use Rattle.polis_cli.specs.TraceStub.{trace_of}
-use Rattle.polis_cli.specs.declared.trace_stub.TraceFault.TheVariants.{Line as FaultyLine}
+use Rattle.trace_text.specs.Traces.{trace_of}
+use Rattle.trace_text.specs.declared.fault.TraceFault.TheVariants.{Line as FaultyLine}
 use Rattle.polis_cli.specs.Lamp.{Accepted}
 use Rattle.polis_cli.specs.Top.{text_max}
 use Rattle.polis_cli.specs.Lines.{HoldsText}

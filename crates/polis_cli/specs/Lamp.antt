@@ -40,27 +40,36 @@ listed [] = []
 listed (name ∷ []) = Name name ∷ []
 listed (name ∷ next ∷ names) = Name name ∷ Sign Comma ∷ listed (next ∷ names)
 
--- the tokens of a lamp's text up to the values, and behind them
-abbrev pub tokens_before : Lamp → List Lexeme
-tokens_before lamp =
+-- up to the values
+abbrev pub head_tokens : Lamp → List Lexeme
+head_tokens lamp =
     Keyword KwNetwork ∷ Name lamp.network ∷ Keyword KwVersion ∷ Number 1
     ∷ Keyword KwDomain ∷ Name lamp.domain ∷ Sign Equal ∷ Sign LeftBrace ∷ []
 
-abbrev pub tokens_behind : Lamp → List Lexeme
-tokens_behind lamp =
+-- behind the values
+abbrev pub event_tokens : Lamp → List Lexeme
+event_tokens lamp =
     Sign RightBrace
     ∷ Keyword KwEvent ∷ Name lamp.input ∷ Keyword KwFrom ∷ Keyword KwEnv
-    ∷ Keyword KwEvent ∷ Name lamp.output ∷ Keyword KwTo ∷ Keyword KwEnv
-    ∷ Keyword KwMachine ∷ Name lamp.machine ∷ Keyword KwPriority ∷ Number lamp.priority ∷ Sign LeftBrace
-    ∷ Keyword KwInput ∷ Name lamp.input ∷ Keyword KwOutput ∷ Name lamp.output
-    ∷ Keyword KwState ∷ Name lamp.state ∷ Sign Colon ∷ Name lamp.domain ∷ Sign Equal ∷ Name lamp.init
-    ∷ Keyword KwWhen ∷ Name lamp.input ∷ Sign Comma ∷ Name lamp.state ∷ Sign Equal ∷ Name lamp.from
-    ∷ Keyword KwDo ∷ Name lamp.state ∷ Sign Assign ∷ Name lamp.to ∷ Sign Comma
-    ∷ Keyword KwEmit ∷ Name lamp.output ∷ Sign RightBrace ∷ []
+    ∷ Keyword KwEvent ∷ Name lamp.output ∷ Keyword KwTo ∷ Keyword KwEnv ∷ []
+
+abbrev pub machine_tokens : Lamp → List Lexeme
+machine_tokens lamp =
+    Keyword KwMachine ∷ Name lamp.machine ∷ Keyword KwPriority ∷ Number lamp.priority ∷ Sign LeftBrace
+    ∷ Keyword KwInput ∷ Name lamp.input ∷ Keyword KwOutput ∷ Name lamp.output ∷ []
+
+abbrev pub state_tokens : Lamp → List Lexeme
+state_tokens lamp = Keyword KwState ∷ Name lamp.state ∷ Sign Colon ∷ Name lamp.domain ∷ Sign Equal ∷ Name lamp.init ∷ []
+
+abbrev pub row_tokens : Lamp → List Lexeme
+row_tokens lamp =
+    Keyword KwWhen ∷ Name lamp.input ∷ Sign Comma ∷ Name lamp.state ∷ Sign Equal ∷ Name lamp.from
+    ∷ Keyword KwDo ∷ Name lamp.state ∷ Sign Assign ∷ Name lamp.to ∷ Sign Comma ∷ Keyword KwEmit ∷ Name lamp.output
+    ∷ Sign RightBrace ∷ []
 
 -- the tokens of a lamp's text
 abbrev pub lamp_tokens : Lamp → List Lexeme
-lamp_tokens lamp = tokens_before lamp ++ listed lamp.values ++ tokens_behind lamp
+lamp_tokens lamp = head_tokens lamp ++ listed lamp.values ++ (event_tokens lamp ++ machine_tokens lamp ++ state_tokens lamp ++ row_tokens lamp)
 
 -- the name is the value of this number
 abbrev pub IsValue : Lamp → List ℕ → ℕ → Type 0

@@ -1,6 +1,10 @@
 // The one form of network text that is read so far.
-use domains::NameList;
-use polis_base::{Keyword, List, Name, Sign};
+ghost use Rattle.std.specs.Prelude.{◌≡◌};
+
+mod network;
+mod tokens;
+
+use polis_base::{Keyword, List, Name, NoMemory, Sign};
 
 /// A token of a network text without its place, and a name with its bytes.
 #[derive(Clone, Copy, Debug)]
@@ -32,4 +36,23 @@ pub struct Lamp {
     pub from: Name,
     /// The value that a firing sets.
     pub to: Name,
+}
+
+/// Why a text gives no network.
+#[derive(Clone, Copy, Debug, PartialEq, Eq)]
+pub enum LampFault {
+    /// The text isn't of the one form, or a rule of it is broken.
+    NotRead,
+    /// Memory was wanting.
+    NoMemory,
+}
+
+impl From<NoMemory> for LampFault {
+    ghost use Rattle.polis_cli.specs.declared.lamp.LampFault.{LampFault};
+
+    ghost from_gives = { λ _ fault. fault ≡ LampFault.NoMemory };
+
+    fn from(_: NoMemory) -> LampFault {
+        LampFault::NoMemory
+    }
 }

@@ -2,7 +2,9 @@
 #![tactic(auto)]
 
 mod bytes;
+mod decimal;
 mod host;
+mod keyword;
 mod lex;
 mod list;
 mod memory;
@@ -11,6 +13,7 @@ mod token;
 mod words;
 
 pub use bytes::Bytes;
+pub use decimal::read_decimal;
 pub use host::{Host, Load, Save};
 pub use lex::tokens;
 pub use list::{Duplicate, List, Numbers, Places};

@@ -88,6 +88,13 @@ impl Model for Tokens {
 }
 
 impl Tokens {
+    // These tokens.
+    pub(crate) fn of(items: List<Token>) -> Tokens
+        ensures { result ≡ items }
+    {
+        Tokens { items }
+    }
+
     /// How many tokens there are.
     pub fn count(&self) -> u64
         ensures { result ≡ length self.now }

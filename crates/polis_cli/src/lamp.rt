@@ -3,12 +3,62 @@ ghost use Rattle.std.specs.Prelude.{◌≡◌, IfOk, Err};
 ghost use Rattle.transition_table.specs.declared.network.Network.{Network};
 ghost use Rattle.polis_cli.specs.Lamp.{Accepted};
 
+mod network;
+mod tokens;
+
+use polis_base::{Keyword, List, Name, NoMemory, Sign};
 use std::alloc::Global;
 use transition_table::Network;
 
+/// A token of a network text without its place, and a name with its bytes.
+#[derive(Clone, Copy, Debug)]
+pub enum Lexeme {
+    Keyword(Keyword),
+    Name(Name),
+    Number(u32),
+    Sign(Sign),
+}
+
+/// What a lamp's text says.
+#[derive(Drop)]
+pub struct Lamp {
+    pub network: Name,
+    pub domain: Name,
+    /// The values of the domain.
+    pub values: List<Name>,
+    /// The event from the environment.
+    pub input: Name,
+    /// The event to the environment.
+    pub output: Name,
+    pub machine: Name,
+    pub priority: u32,
+    /// The state variable.
+    pub state: Name,
+    /// The value that the state variable begins with.
+    pub init: Name,
+    /// The value at which the machine fires.
+    pub from: Name,
+    /// The value that a firing sets.
+    pub to: Name,
+}
+
+/// Why a text gives no network.
+#[derive(Clone, Copy, Debug, PartialEq, Eq)]
 pub enum LampFault {
+    /// The text isn't of the one form, or a rule of it is broken.
     NotRead,
+    /// Memory was wanting.
     NoMemory,
+}
+
+impl From<NoMemory> for LampFault {
+    ghost use Rattle.polis_cli.specs.declared.lamp.LampFault.{LampFault};
+
+    ghost from_gives = { λ _ fault. fault ≡ LampFault.NoMemory };
+
+    fn from(_: NoMemory) -> LampFault {
+        LampFault::NoMemory
+    }
 }
 
 pub fn read_lamp(alloc: Global, text: &[u8]) -> Result<Network, LampFault>

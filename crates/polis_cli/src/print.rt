@@ -1,20 +1,21 @@
 // The texts that are written.
-ghost use Rattle.std.specs.Prelude.{◌≡◌, ◌<◌, ◌+◌, ◌++◌, map, flat_map, length, take, drop, Some, OnOk, IfOk, IsTrue, slice_get};
-ghost use Rattle.transition_table.specs.NetworkFacts.{values_of, event_values, has_vars, has_outputs};
+ghost use Rattle.std.specs.Prelude.{◌≡◌, ◌<◌, ◌+◌, ◌++◌, flat_map, length, Some, OnOk, IfOk, IsTrue};
+ghost use Rattle.transition_table.specs.NetworkFacts.{values_of, has_vars, has_outputs};
 ghost use Rattle.transition_table.specs.Transitions.{IsSnapshot};
 ghost use Rattle.net_core.specs.Journals.{IsJournal, IsOutcome, FitsNetwork, is_event_code, is_party, emitted, emissions};
-ghost use Rattle.polis_cli.specs.Texts.{journal_text, output_text, summary_text, count_text, entry_text, entry_line, delivery_text, reaction_text, snapshot_text, result_text, event_item, event_items, state_item, state_items, set_items, spaced, value_word, machine_name, party_name, lead, end_mark, ending, are_event_codes, are_values, are_settings, state_size, output_lines};
+ghost use Rattle.polis_cli.specs.Texts.{journal_text, output_text, summary_text, count_text, entry_line, delivery_text, reaction_text, snapshot_text, result_text, event_item, event_items, state_item, state_items, set_items, spaced, value_part, machine_name, party_name, lead, end_mark, are_event_codes, are_values, are_settings, state_size, output_lines};
 
 use net_core::{Entry, Journal, lost};
 use polis_base::{Bytes, NoMemory};
 use std::alloc::Global;
 use transition_table::{Machine, Network, Outcome, Party, Snapshot, StateDecl};
 
-// Appends the word of a value of a domain.
+// Appends `=` and the word of a value of a domain.
 fn push_value(net: &Network, d: u32, v: u8, into: &mut Bytes) -> Result<(), NoMemory>
     requires { v < values_of net.now.domains (Some d) }
-    ensures { OnOk result (into.new ≡ into.old ++ value_word net.now d v) }
+    ensures { OnOk result (into.new ≡ into.old ++ value_part net.now d v) }
 {
+    into.push(b"=")?;
     net.domains.get(d as u64).push_value(v, into)
 }
 
@@ -26,7 +27,6 @@ fn push_event(net: &Network, e: u32, code: u8, into: &mut Bytes) -> Result<(), N
     let event = net.events.get(e as u64);
     into.push(event.name.bytes())?;
     if let Some(d) = event.domain {
-        into.push(b"=")?;
         push_value(net, d, code - 1, into)?;
     }
     Ok(())
@@ -38,7 +38,6 @@ fn push_state(net: &Network, variable: &StateDecl, v: u8, into: &mut Bytes) -> R
     ensures { OnOk result (into.new ≡ into.old ++ state_item net.now variable.now v) }
 {
     into.push(variable.name.bytes())?;
-    into.push(b"=")?;
     push_value(net, variable.domain, v, into)
 }
 

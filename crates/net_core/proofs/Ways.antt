@@ -96,7 +96,7 @@ places_at test n (suc i) m (x ∷ xs) e =
     ]
 
 -- a machine reads an event where it has it as an input
-reads_by_machine : (net : Network) (m e : ℕ) → unwrap_or (option_map (λ machine. has machine.inputs e) (slice_get net.machines m)) false ≡ reads net m e
+pub reads_by_machine : (net : Network) (m e : ℕ) → unwrap_or (option_map (λ machine. has machine.inputs e) (slice_get net.machines m)) false ≡ reads net m e
 reads_by_machine net m e =
     elim (slice_get net.machines m) as (λ (o : Option Machine). unwrap_or (option_map (λ machine. has machine.inputs e) o) false ≡ has (unwrap_or (option_map (λ machine. machine.inputs) o) []) e) [
       | None ↦ refl
@@ -198,7 +198,7 @@ machine_ways net trace s m (Rea k x o ∷ journal) =
     joined false b e = refl
 
 -- the deliveries that the trace gives to m are what the environment has sent to m
-env_ways_from : (net : Network) (m : ℕ) (settled : Bool) (trace : List TraceItem) → map (λ (p : Owed × Bool). event_code p.0) (filter (λ (p : Owed × Bool). is_way Env m p.0) (trace_deliveries net settled trace)) ≡ filter (λ p. reads net m p.0) (filter_map event_of trace)
+pub env_ways_from : (net : Network) (m : ℕ) (settled : Bool) (trace : List TraceItem) → map (λ (p : Owed × Bool). event_code p.0) (filter (λ (p : Owed × Bool). is_way Env m p.0) (trace_deliveries net settled trace)) ≡ filter (λ p. reads net m p.0) (filter_map event_of trace)
 env_ways_from net m settled [] = refl
 env_ways_from net m settled (Settle ∷ items) = env_ways_from net m true items
 env_ways_from net m settled (Event e c ∷ items) =

@@ -1,18 +1,21 @@
 -- The snapshot of a moment and the outcome of a transition fit their machine.
-use Rattle.std.specs.Prelude.{◌≡◌, ℕ, zero, suc, ◌+◌, ◌-◌, ◌<◌, Bool, true, false, cond, ◌&&◌, ◌==◌, nat_lt, nat_le, List, [], ◌∷◌, ◌++◌, map, filter_map, length, take, drop, slice_get, slice_index, Option, Some, None, option_map, unwrap_or, get_or, IsSomeAnd}
+use Rattle.std.specs.Prelude.{◌≡◌, ℕ, zero, suc, ◌+◌, ◌-◌, ◌<◌, Bool, true, false, cond, ◌&&◌, ◌==◌, nat_lt, nat_le, List, [], ◌∷◌, ◌++◌, map, filter_map, length, take, drop, replicate, slice_get, slice_index, Option, Some, None, option_map, unwrap_or, get_or, IsSomeAnd}
 use Rattle.std.specs.Bool.{then_some}
 use Rattle.std.specs.List.{list_all, after_last, cons_option}
 use Rattle.std.specs.Cmp.Lexicographic.{pointwise}
 use Rattle.std.proofs.Common.{refl, sym, ap, ◌∙◌, subst, inl, inr, arith, length-append}
-use Rattle.std.proofs.lemmas.List.{length-map, get_or_append_left, get_or-append_right, get_or-map, get_or-take, get_or-drop, length-drop, drop_at}
+use Rattle.std.proofs.lemmas.List.{length-map, length-replicate, get_or-replicate, get_or_append_left, get_or-append_right, get_or-map, get_or-take, get_or-drop, length-drop, drop_at}
 use Rattle.std.proofs.lemmas.Bool.{false≢true, eqb-true, ltb-true, leb-true, lt-ltb, and_parts, and_from, cases_lt}
 use Rattle.std.proofs.lemmas.Bool.Decides.{Decides-eqb}
-use Rattle.std.proofs.lemmas.Option.{slice_get_cases}
+use Rattle.std.proofs.lemmas.Option.{slice_get_cases, slice_get-get_or}
 use Rattle.std.proofs.lemmas.Slice.Eq.{slice_eq-Decides}
 use Rattle.polis_base.specs.Lists.{upto, last_of}
 use Rattle.domains.specs.Tables.{fits, are_sizes}
 use Rattle.transition_table.specs.NetworkFacts.{event_values, values_of, has_vars}
-use Rattle.transition_table.specs.Transitions.{IsSnapshot}
+use Rattle.transition_table.specs.MachineFacts.{names_result, names_codes, is_row}
+use Rattle.transition_table.specs.Transitions.{OfMachine, IsSnapshot, Transition, blank, code_given, codes_given, actions, result}
+use Rattle.transition_table.specs.declared.row.Act.{Act}
+use Rattle.transition_table.specs.declared.row.Row.{Row}
 use Rattle.transition_table.specs.declared.decl.StateDecl.{StateDecl}
 use Rattle.transition_table.specs.declared.machine.Machine.{Machine}
 use Rattle.transition_table.specs.declared.network.Network.{Network}
@@ -246,3 +249,121 @@ snap_fits net journal m machine h is =
     subst (λ vars. fits vars (map (place journal m) (inputs_of net m) ++ map (state net journal m) (upto (length (states_of net m)))) ≡ true) (sym (vars_of_inputs net m machine is))
     (subst (λ (l : List StateDecl). fits (map (λ e. 1 + event_values net.domains net.events e) machine.inputs ++ state_sizes machine) (map (place journal m) (inputs_of net m) ++ map (state net journal m) (upto (length l))) ≡ true) (sym states)
     (subst (λ (l : List ℕ). fits (map (λ e. 1 + event_values net.domains net.events e) machine.inputs ++ state_sizes machine) (map (place journal m) l ++ map (state net journal m) (upto (length machine.states))) ≡ true) (sym inputs) whole))
+
+-- ---- the outcome of a transition
+
+result_positive : (machine : Machine) (y : ℕ) → y < length machine.results → 0 < slice_index machine.results y
+result_positive machine y h =
+    let parts = results_parts machine in
+    let count = length_state_sizes machine in
+    elim (cases_lt y (1 + length machine.states)) [
+      | inl state ↦
+        let same : slice_index (2 ∷ map (λ size. 1 + size) (state_sizes machine)) y ≡ slice_index machine.results y = ap (λ l. slice_index l y) parts.1 ∙ get_or-take (1 + length machine.states) machine.results y 0 state in
+        let long = length-map (state_sizes machine) (λ size. 1 + size) in
+        let some = first_part y (omega arith) in
+        omega arith
+      | inr output ↦
+        let there = get_or-drop (1 + length machine.states) machine.results (y - (1 + length machine.states)) 0 in
+        let place : 1 + length machine.states + (y - (1 + length machine.states)) ≡ y = omega arith in
+        let size = length-drop (1 + length machine.states) machine.results in
+        let at = slice_get-get_or (drop (1 + length machine.states) machine.results) (y - (1 + length machine.states)) 0 (omega arith) in
+        let large = leb-true 2 (slice_index (drop (1 + length machine.states) machine.results) (y - (1 + length machine.states))) (passes_of_all (nat_le 2) (drop (1 + length machine.states) machine.results) (y - (1 + length machine.states)) (slice_index (drop (1 + length machine.states) machine.results) (y - (1 + length machine.states))) parts.2 at) in
+        let same = ap (slice_index machine.results) place in
+        omega arith
+    ]
+  where
+    first_part : (y : ℕ) → y < 1 + length (map (λ size. 1 + size) (state_sizes machine)) → 0 < slice_index (2 ∷ map (λ size. 1 + size) (state_sizes machine)) y
+    first_part zero below = omega arith
+    first_part (suc x) below =
+        let long = length-map (state_sizes machine) (λ size. 1 + size) in
+        let at : slice_index (2 ∷ map (λ size. 1 + size) (state_sizes machine)) (suc x) ≡ 1 + slice_index (state_sizes machine) x = get_or-map (λ size. 1 + size) (state_sizes machine) x 0 0 (omega arith) in
+        omega arith
+
+given_fits : (results : List ℕ) (acts : List Act) (y : ℕ) → list_all (names_result results) acts ≡ true → 0 < slice_index results y → code_given acts y < slice_index results y
+given_fits results [] y h some = some
+given_fits results (act ∷ acts) y h some = cases (act.result == y) refl (given_fits results acts y parts.1 some)
+  where
+    parts : (names_result results act ≡ true) × (list_all (names_result results) acts ≡ true)
+    parts = and_parts (names_result results act) (list_all (names_result results) acts) h
+    cases : (b : Bool) → (act.result == y) ≡ b → code_given acts y < slice_index results y → cond b act.code (code_given acts y) < slice_index results y
+    cases true is rest =
+        let small = ltb-true act.code (slice_index results act.result) (and_parts (nat_lt act.result (length results)) (nat_lt act.code (slice_index results act.result)) parts.0).1 in
+        let same = ap (slice_index results) (eqb-true act.result y is) in
+        omega arith
+    cases false is rest = rest
+
+-- codes that are each below the size of their result
+codes_fit : (machine : Machine) (next outs : List ℕ) (code : ℕ → ℕ)
+  → length next ≡ length machine.states
+  → length outs ≡ length machine.outputs
+  → ((k : ℕ) → k < length machine.states → slice_index next k ≡ code (1 + k))
+  → ((k : ℕ) → k < length machine.outputs → slice_index outs k ≡ code (1 + length machine.states + k))
+  → ((y : ℕ) → y < length machine.results → code y < slice_index machine.results y)
+  → fits (drop 1 machine.results) (next ++ outs) ≡ true
+codes_fit machine next outs code nexts all states outputs small =
+    let parts = results_parts machine in
+    let size = length-drop 1 machine.results in
+    let whole = length-append next outs in
+    fits_from_each (drop 1 machine.results) (next ++ outs) (omega arith) (λ k below.
+      let there = get_or-drop 1 machine.results k 0 in
+      let less = small (1 + k) (omega arith) in
+      elim (cases_lt k (length machine.states)) [
+        | inl state ↦
+          let here = get_or_append_left next outs 0 k (omega arith) in
+          let is = states k state in
+          omega arith
+        | inr output ↦
+          let here = get_or-append_right next outs (length machine.states) k 0 nexts output in
+          let is = outputs (k - length machine.states) (omega arith) in
+          let place : 1 + length machine.states + (k - length machine.states) ≡ 1 + k = omega arith in
+          let same = ap code place in
+          omega arith
+      ])
+
+acts_fit : (machine : Machine) (r : ℕ) → list_all (names_result machine.results) (actions (slice_get machine.rows r)) ≡ true
+acts_fit machine r =
+    elim (slice_get machine.rows r) as (λ (o : Option Row). slice_get machine.rows r ≡ o → list_all (names_result machine.results) (actions o) ≡ true) [
+      | None ↦ λ is. refl
+      | Some row ↦ λ is. (and_parts (list_all (names_codes machine.vars) row.conds) (list_all (names_result machine.results) row.acts) (passes_of_all (is_row machine.vars machine.results) machine.rows r row machine.fitting_rows is)).1
+    ] refl
+
+result_fits : (machine : Machine) (r : ℕ) → IsOutcome machine (result machine r)
+result_fits machine r =
+    record {
+      widths = record { next = nexts; outs = outs };
+      codes = codes_fit machine (codes_given acts 1 (length machine.states)) (codes_given acts (1 + length machine.states) (length machine.outputs)) (code_given acts) nexts outs
+        (λ k below. get_of_upto (λ k. code_given acts (1 + k)) (length machine.states) k below)
+        (λ k below. get_of_upto (λ k. code_given acts (1 + length machine.states + k)) (length machine.outputs) k below)
+        (λ y below. given_fits machine.results acts y (acts_fit machine r) (result_positive machine y below));
+      idle = λ h. cc;
+    }
+  where
+    acts : List Act
+    acts = actions (slice_get machine.rows r)
+    nexts : length (codes_given acts 1 (length machine.states)) ≡ length machine.states
+    nexts = length-map (upto (length machine.states)) (λ k. code_given acts (1 + k)) ∙ length_upto (length machine.states)
+    outs : length (codes_given acts (1 + length machine.states) (length machine.outputs)) ≡ length machine.outputs
+    outs = length-map (upto (length machine.outputs)) (λ k. code_given acts (1 + length machine.states + k)) ∙ length_upto (length machine.outputs)
+
+blank_fits : (machine : Machine) → IsOutcome machine (blank machine)
+blank_fits machine =
+    record {
+      widths = record { next = length-replicate (length machine.states) 0; outs = length-replicate (length machine.outputs) 0 };
+      codes = codes_fit machine (replicate (length machine.states) 0) (replicate (length machine.outputs) 0) (λ y. 0) (length-replicate (length machine.states) 0) (length-replicate (length machine.outputs) 0)
+        (λ k below. get_or-replicate (length machine.states) k 0 0 below)
+        (λ k below. get_or-replicate (length machine.outputs) k 0 0 below)
+        (result_positive machine);
+      idle = λ h. refl;
+    }
+
+pub transition_fits : (machine : Machine) (s : Snapshot) (o : Outcome) → Transition machine s o → IsOutcome machine o
+transition_fits machine s o (inl (r, enabled, is)) = subst (IsOutcome machine) (sym is) (result_fits machine r)
+transition_fits machine s o (inr (none, is)) = subst (IsOutcome machine) (sym is) (blank_fits machine)
+
+-- behind a journal of the network a reaction to the snapshot of the moment by a transition fits the network
+pub reaction_fits : (net : Network) (journal : List Entry) (m : ℕ) (o : Outcome) → IsJournal net journal → OfMachine net m (λ machine. Transition machine (snap net journal m) o) → FitsNetwork net (Rea m (snap net journal m) o)
+reaction_fits net journal m o h may =
+    elim (slice_get net.machines m) as (λ (found : Option Machine). slice_get net.machines m ≡ found → IsSomeAnd found (λ machine. Transition machine (snap net journal m) o) → IsSomeAnd found (λ machine. IsSnapshot machine (snap net journal m) × IsOutcome machine o)) [
+      | None ↦ λ is none. absurd none
+      | Some machine ↦ λ is transition. (snap_fits net journal m machine h is, transition_fits machine (snap net journal m) o transition)
+    ] refl may

@@ -2,7 +2,7 @@
 use Rattle.std.specs.Prelude.{◌≡◌, ℕ, zero, suc, ◌+◌, Bool, true, false, cond, ◌&&◌, ◌==◌, nat_lt, nat_le, List, [], ◌∷◌, ◌++◌, map, flat_map, count_by, length, drop, slice_get, Option, Some, None, option_map, unwrap_or, IsSomeAnd}
 use Rattle.std.specs.List.{list_all}
 use Rattle.std.specs.Cmp.Lexicographic.{pointwise}
-use Rattle.std.proofs.Common.{refl, ap, ◌∙◌, subst, arith}
+use Rattle.std.proofs.Common.{sym, refl, ap, ◌∙◌, subst, arith}
 use Rattle.std.proofs.lemmas.List.{drop-drop}
 use Rattle.std.proofs.lemmas.List.Folds.{list_all-append, list_all-map}
 use Rattle.std.proofs.lemmas.Bool.{false≢true, ltb-true, le-leb, lt-ltb, and_parts, and_from}
@@ -26,7 +26,8 @@ use Rattle.net_core.specs.declared.entry.Owed.{Owed}
 use Rattle.net_core.specs.declared.entry.TraceItem.{TraceItem}
 use Rattle.net_core.specs.declared.entry.TraceItem.TheVariants.{Event, Settle}
 use Rattle.net_core.specs.Journals.{FitsNetwork, IsJournal, IsOutcome, IsTrace, is_trace_item, is_party, is_event_code, same_party, emitted, emissions, delivered}
-use Rattle.net_core.specs.Schedules.{receivers_of, deliveries_of, machine_deliveries, trace_deliveries, same_way, keep_unless, unmade, owed_by_machines, owed_by_env}
+use Rattle.net_core.specs.Schedules.{receivers_of, deliveries_of, machine_deliveries, trace_deliveries, same_way, keep_unless, unmade, owed_by_machines, owed_by_env, first_woken, first_pick, pick, IsPicked}
+use Rattle.net_core.proofs.Moment.{reaction_fits}
 use Rattle.net_core.proofs.Ways.{passes_of_all, receivers_are_readers}
 
 abbrev pub is_fitting : Network → Owed → Bool
@@ -169,3 +170,23 @@ first_of_machines_fits net journal d h first = passes_of_head (is_fitting net) (
 pub first_of_env_fits : (net : Network) (trace : List TraceItem) (journal : List Entry) (p : Owed × Bool) → IsTrace net trace → head_of (owed_by_env net trace journal) ≡ Some p → FitsNetwork net (Dep (p.0).from (p.0).to (p.0).event (p.0).code)
 first_of_env_fits net trace journal p h first =
     passes_of_head (λ (p : Owed × Bool). is_fitting net p.0) (owed_by_env net trace journal) p (all_unmade (λ (p : Owed × Bool). is_fitting net p.0) (λ p. p.0) journal [] (trace_deliveries net false trace) (trace_deliveries_fit net false trace h)) first
+
+-- ---- what is picked
+
+picked_fits_by_parts : (net : Network) (trace : List TraceItem) (journal : List Entry) (entry : Entry) (a : Option Owed) (b : Option (Owed × Bool)) (c : Option ℕ)
+  → IsTrace net trace
+  → IsJournal net journal
+  → head_of (owed_by_machines net journal) ≡ a
+  → head_of (owed_by_env net trace journal) ≡ b
+  → IsPicked net journal (first_pick a b c) entry
+  → FitsNetwork net entry
+picked_fits_by_parts net trace journal entry (Some d) b c t h machines env is = subst (FitsNetwork net) (sym is) (first_of_machines_fits net journal d h machines)
+picked_fits_by_parts net trace journal entry None (Some (d, false)) c t h machines env is = subst (FitsNetwork net) (sym is) (first_of_env_fits net trace journal (d, false) t env)
+picked_fits_by_parts net trace journal entry None (Some (d, true)) (Some m) t h machines env (o, is, transition) = subst (FitsNetwork net) (sym is) (reaction_fits net journal m o h transition)
+picked_fits_by_parts net trace journal entry None None (Some m) t h machines env (o, is, transition) = subst (FitsNetwork net) (sym is) (reaction_fits net journal m o h transition)
+picked_fits_by_parts net trace journal entry None (Some (d, true)) None t h machines env is = subst (FitsNetwork net) (sym is) (first_of_env_fits net trace journal (d, true) t env)
+picked_fits_by_parts net trace journal entry None None None t h machines env is = absurd is
+
+pub picked_fits : (net : Network) (trace : List TraceItem) (journal : List Entry) (entry : Entry) → IsTrace net trace → IsJournal net journal → IsPicked net journal (pick net trace journal) entry → FitsNetwork net entry
+picked_fits net trace journal entry t h is =
+    picked_fits_by_parts net trace journal entry (head_of (owed_by_machines net journal)) (head_of (owed_by_env net trace journal)) (first_woken net journal) t h refl refl is

@@ -250,6 +250,16 @@ snap_fits net journal m machine h is =
     (subst (λ (l : List StateDecl). fits (map (λ e. 1 + event_values net.domains net.events e) machine.inputs ++ state_sizes machine) (map (place journal m) (inputs_of net m) ++ map (state net journal m) (upto (length l))) ≡ true) (sym states)
     (subst (λ (l : List ℕ). fits (map (λ e. 1 + event_values net.domains net.events e) machine.inputs ++ state_sizes machine) (map (place journal m) l ++ map (state net journal m) (upto (length machine.states))) ≡ true) (sym inputs) whole))
 
+pub snap_fits_below : (net : Network) (journal : List Entry) (m : ℕ) → IsJournal net journal → m < length net.machines → OfMachine net m (λ machine. IsSnapshot machine (snap net journal m))
+snap_fits_below net journal m h below =
+    elim (slice_get net.machines m) as (λ (found : Option Machine). slice_get net.machines m ≡ found → IsSomeAnd found (λ machine. IsSnapshot machine (snap net journal m))) [
+      | None ↦ λ is. absurd (elim (slice_get_cases net.machines m).1 [
+        | inl (machine, within, at, same) ↦ cc
+        | inr (past, none) ↦ omega arith
+      ])
+      | Some machine ↦ λ is. snap_fits net journal m machine h is
+    ] refl
+
 -- ---- the outcome of a transition
 
 result_positive : (machine : Machine) (y : ℕ) → y < length machine.results → 0 < slice_index machine.results y

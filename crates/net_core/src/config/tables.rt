@@ -1,9 +1,9 @@
 // What is kept beside a journal, so that no call looks back through it.
-ghost use Rattle.std.specs.Prelude.{◌≡◌, ◌<◌, ◌≤◌, ◌+◌, [], ◌∷◌, ◌++◌, length, map, take, IfOk, OnOk, OnErr};
+ghost use Rattle.std.specs.Prelude.{◌≡◌, ◌<◌, ◌≤◌, ◌+◌, [], ◌∷◌, ◌++◌, length, map, slice_index, slice_set, IfOk, OnOk, OnErr};
 ghost use Rattle.polis_base.specs.Lists.{upto};
 ghost use Rattle.net_core.specs.Journals.{FitsNetwork, IsTrace, is_woken};
 ghost use Rattle.net_core.specs.Legality.{MayFollow};
-ghost use Rattle.net_core.specs.Landed.{TakesLanded, cursors_behind};
+ghost use Rattle.net_core.specs.Landed.{TakesLanded, cursors_behind, next_place};
 ghost use Rattle.net_core.specs.Moved.{machine_of};
 ghost use Rattle.net_core.specs.Schedules.{firing_deliveries};
 ghost use Rattle.net_core.specs.Tables.{AreTables};
@@ -50,21 +50,29 @@ pub(crate) fn first_tables(alloc: Global, net: &Network, trace: &Trace) -> Resul
     })
 }
 
+// Moves the cursor of a machine on to the next item that it reads. At the end it stays.
+fn pass_item(net: &Network, trace: &Trace, m: u32, cursors: &mut Places)
+    requires machine { m < length net.now.machines }
+    requires cursors { length cursors.old ≡ length net.now.machines }
+    ensures { cursors.new ≡ slice_set cursors.old m (next_place net.now trace.now m (slice_index cursors.old m)) }
+{
+    let place = *cursors.get(m as u64);
+    if place < trace.len() {
+        cursors.set(m as u64, next_read(net, trace, m, place + 1));
+    }
+}
+
 // Moves the cursor of the receiver on, where the environment delivers.
 fn move_cursor(net: &Network, trace: &Trace, entry: &Entry, cursors: &mut Places)
     requires machine { machine_of entry.now < length net.now.machines }
     requires cursors { length cursors.old ≡ length net.now.machines }
     ensures { cursors.new ≡ cursors_behind net.now trace.now entry.now cursors.old }
 {
-    if let Entry::Dep {
-        from: Party::Env,
-        to,
-        ..
-    } = entry
-    {
-        let place = *cursors.get(*to as u64);
-        if place < trace.len() {
-            cursors.set(*to as u64, next_read(net, trace, *to, place + 1));
+    if let Entry::Dep { from, to, .. } = entry {
+        let from = *from;
+        match from {
+            Party::Env => pass_item(net, trace, *to, cursors),
+            Party::Machine(_) => {}
         }
     }
 }

@@ -64,10 +64,10 @@ other_way s m d h =
       both_ways (is_way s m d) h (and_from (same_party d.from s) (d.to == m) (subst (λ t. same_party d.from t ≡ true) (sym from) (same_party_self d.from)) (eq-eqb d.to m (sym to))))
 
 -- the item is among the first of its way, as many as the journal has
-abbrev is_made : {X : Type 0} → (X → Owed) → List Entry → List X → Party → ℕ → Bool
+abbrev pub is_made : {X : Type 0} → (X → Owed) → List Entry → List X → Party → ℕ → Bool
 is_made way journal passed s m = nat_lt (count_by (λ y. is_way s m (way y)) passed) (length (delivered s m journal))
 
-made_of_way : {X : Type 0} (way : X → Owed) (s : Party) (m : ℕ) (journal : List Entry) (passed : List X) (x : X) → is_way s m (way x) ≡ true → is_made way journal passed (way x).from (way x).to ≡ is_made way journal passed s m
+pub made_of_way : {X : Type 0} (way : X → Owed) (s : Party) (m : ℕ) (journal : List Entry) (passed : List X) (x : X) → is_way s m (way x) ≡ true → is_made way journal passed (way x).from (way x).to ≡ is_made way journal passed s m
 made_of_way way s m journal passed x h =
     let parts = way_parts s m (way x) h in
     ap (λ t. is_made way journal passed t (way x).to) parts.0 ∙ ap (λ k. is_made way journal passed s k) parts.1
@@ -165,7 +165,7 @@ owed_by_delivery way s m e c journal xs = unmade_one_more way s m e c journal []
 
 -- ---- behind more deliveries that are given
 
-unmade_append : {X : Type 0} (way : X → Owed) (journal : List Entry) (passed xs ys : List X) → unmade way journal passed (xs ++ ys) ≡ unmade way journal passed xs ++ unmade way journal (passed ++ xs) ys
+pub unmade_append : {X : Type 0} (way : X → Owed) (journal : List Entry) (passed xs ys : List X) → unmade way journal passed (xs ++ ys) ≡ unmade way journal passed xs ++ unmade way journal (passed ++ xs) ys
 unmade_append way journal passed [] ys = ap (λ l. unmade way journal l ys) (sym (append-nil passed))
 unmade_append {X} way journal passed (x ∷ xs) ys =
     ap (keep_unless (is_made way journal passed (way x).from (way x).to) x)
@@ -260,7 +260,7 @@ no_env_way net m (Rea k x o ∷ journal) =
     nothing (d ∷ ds) h = cc
 
 -- nor the environment one of a machine
-no_machine_way : (net : Network) (s m : ℕ) (settled : Bool) (trace : List TraceItem) → filter (λ (p : Owed × Bool). is_way (Sender s) m p.0) (trace_deliveries net settled trace) ≡ []
+pub no_machine_way : (net : Network) (s m : ℕ) (settled : Bool) (trace : List TraceItem) → filter (λ (p : Owed × Bool). is_way (Sender s) m p.0) (trace_deliveries net settled trace) ≡ []
 no_machine_way net s m settled [] = refl
 no_machine_way net s m settled (Settle ∷ items) = no_machine_way net s m true items
 no_machine_way net s m settled (Event e c ∷ items) =

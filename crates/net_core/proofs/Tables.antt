@@ -1,20 +1,19 @@
 -- What is kept beside a journal, one entry more.
-use Rattle.std.specs.Prelude.{◌≡◌, ◌↔◌, ◌⊎◌, ℕ, zero, suc, ◌+◌, ◌<◌, ◌≤◌, Bool, true, false, cond, not, ◌&&◌, ◌==◌, nat_lt, List, [], ◌∷◌, ◌++◌, map, filter, filter_map, length, drop, take, slice_get, slice_index, Option, Some, None, option_and_then, option_map, unwrap_or, find, position, MatchOption, IsSomeAnd, ⊤}
-use Rattle.std.specs.List.{remove, prefix_len}
-use Rattle.std.proofs.Common.{inl, inr, refl, sym, ap, ◌∙◌, subst, arith, get_or, set, length-append, add-one}
+use Rattle.std.specs.Prelude.{◌≡◌, ◌↔◌, ◌⊎◌, ℕ, zero, suc, ◌+◌, ◌<◌, ◌≤◌, Bool, true, false, cond, ◌&&◌, ◌==◌, nat_lt, List, [], ◌∷◌, ◌++◌, map, length, slice_get, slice_index, Option, Some, None, option_and_then, option_map, unwrap_or, find, position, MatchOption, IsSomeAnd}
+use Rattle.std.specs.List.{remove}
+use Rattle.std.proofs.Common.{inl, inr, refl, sym, ap, ◌∙◌, arith, get_or, set, length-append, add-one}
 use Rattle.std.proofs.lemmas.List.{append-nil, length-map, length_push}
 use Rattle.std.specs.List.{position_or_len}
 use Rattle.std.proofs.lemmas.List.Sums.{fails_before_first, passes_at_first}
-use Rattle.std.proofs.lemmas.Bool.{false≢true, ltb-true, ltb-false, lt-ltb, eq-eqb, ne_eqb, and_parts, both_ways}
+use Rattle.std.proofs.lemmas.Bool.{ltb-true, ltb-false, lt-ltb, ne_eqb, and_parts, both_ways}
 use Rattle.std.proofs.lemmas.Option.{get_or_from_slice_get, slice_get_within, slice_get-get_or, some_pair_parts}
 use Rattle.polis_base.specs.Lists.{upto}
-use Rattle.transition_table.specs.Transitions.{OfMachine, IsSnapshot}
+use Rattle.transition_table.specs.Transitions.{IsSnapshot}
 use Rattle.transition_table.specs.declared.decl.Party.{Party}
 use Rattle.transition_table.specs.declared.decl.Party.TheVariants.{Env, Machine as Sender}
 use Rattle.transition_table.specs.declared.machine.Machine.{Machine}
 use Rattle.transition_table.specs.declared.network.Network.{Network}
 use Rattle.transition_table.specs.declared.snapshot.Snapshot.{Snapshot}
-use Rattle.transition_table.specs.declared.snapshot.Outcome.{Outcome}
 use Rattle.net_core.specs.declared.entry.Entry.{Entry}
 use Rattle.net_core.specs.declared.entry.Entry.TheVariants.{Dep, Rea}
 use Rattle.net_core.specs.declared.entry.Owed.{Owed}
@@ -27,7 +26,7 @@ use Rattle.net_core.specs.Moved.{machine_of, moments_of}
 use Rattle.net_core.specs.Schedules.{firing_deliveries, owed_by_machines}
 use Rattle.net_core.specs.Tables.{is_read, nth_place, cursor}
 use Rattle.net_core.proofs.Cursors.{env_at, nth_place_next}
-use Rattle.net_core.proofs.Moved.{length-upto, length-table, get_or-table, set-table}
+use Rattle.net_core.proofs.Moved.{length-table, get_or-table, set-table}
 use Rattle.net_core.proofs.Owing.{without_first, reaction_owes, delivery_owes}
 use Rattle.net_core.proofs.Sent.{delivered_own, delivered_other, delivered_by_reaction, delivered_begins_sent, may_follow_next}
 
@@ -66,11 +65,11 @@ find_nothing p (x ∷ xs) none = rw (none 0 x (omega arith)) (find_nothing p xs 
 
 -- what the place of the first that passes says
 at_position : {X : Type 0} (p : X → Bool) (xs : List X) (P : Type 0) (Q : ℕ → Type 0) → MatchOption (position p xs) P Q
-  → ((P × (length xs ≤ position_or_len p xs)) ⊎ (Q (position_or_len p xs) × (position_or_len p xs < length xs)))
+    → ((P × (length xs ≤ position_or_len p xs)) ⊎ (Q (position_or_len p xs) × (position_or_len p xs < length xs)))
 at_position p xs P Q h = (elim (nat_lt (position_or_len p xs) (length xs)) as (λ b. nat_lt (position_or_len p xs) (length xs) ≡ b → MatchOption (cond b (Some (position_or_len p xs)) None) P Q → ((P × (length xs ≤ position_or_len p xs)) ⊎ (Q (position_or_len p xs) × (position_or_len p xs < length xs)))) [
-      | true ↦ λ e g. inr (g, ltb-true (position_or_len p xs) (length xs) e)
-      | false ↦ λ e g. inl (g, ltb-false (position_or_len p xs) (length xs) e)
-    ]) refl h
+  | true ↦ λ e g. inr (g, ltb-true (position_or_len p xs) (length xs) e)
+  | false ↦ λ e g. inl (g, ltb-false (position_or_len p xs) (length xs) e)
+]) refl h
 
 pub without_by_position : {X : Type 0} (p : X → Bool) (old new : List X) → MatchOption (position p old) (new ≡ old) (λ i. new ≡ remove old i) → new ≡ without_first p old
 without_by_position {X} p [] new h = h
@@ -88,10 +87,10 @@ find_by_position {X} p (y ∷ ys) found h =
     elim (at_position p xs (found ≡ None) (λ i. found ≡ slice_get xs i) h) [
       | inl (none, past) ↦ none ∙ sym (find_nothing p xs (λ k d below. fails_before_first p xs k d (omega arith)))
       | inr (at, within) ↦
-        let i = position_or_len p xs in
-        let x : X = get_or xs i y in
-        let here : slice_get xs i ≡ Some x = slice_get-get_or xs i y within in
-        at ∙ here ∙ sym (find_at p xs i x here (passes_at_first p xs y within) (λ k below. fails_before_first p xs k x below))
+          let i = position_or_len p xs in
+          let x : X = get_or xs i y in
+          let here : slice_get xs i ≡ Some x = slice_get-get_or xs i y within in
+          at ∙ here ∙ sym (find_at p xs i x here (passes_at_first p xs y within) (λ k below. fails_before_first p xs k x below))
     ]
 
 -- ---- the owed deliveries of machines

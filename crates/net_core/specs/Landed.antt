@@ -1,5 +1,5 @@
 -- What an entry takes away from what is owed.
-use Rattle.std.specs.Prelude.{◌≡◌, ℕ, ◌+◌, Bool, cond, not, ◌&&◌, ◌==◌, nat_lt, List, length, drop, slice_index, slice_set, position, MatchOption}
+use Rattle.std.specs.Prelude.{◌≡◌, ℕ, ◌+◌, cond, not, ◌&&◌, ◌==◌, nat_lt, List, length, drop, slice_index, slice_set, position, MatchOption}
 use Rattle.std.specs.List.{remove, prefix_len}
 use Rattle.transition_table.specs.declared.decl.Party.TheVariants.{Env, Machine as Sender}
 use Rattle.transition_table.specs.declared.network.Network.{Network}

@@ -87,7 +87,12 @@ fn land(entry: &Entry, owed: &mut Owings)
 }
 
 // Puts an entry and the deliveries that it gives at the end, both or none.
-fn write(net: &Network, entry: &Entry, journal: &mut Journal, owed: &mut Owings) -> Result<(), NoMemory>
+fn write(
+    net: &Network,
+    entry: &Entry,
+    journal: &mut Journal,
+    owed: &mut Owings,
+) -> Result<(), NoMemory>
     requires { FitsNetwork net.now entry.now }
     ensures journal { OnOk result (journal.new ≡ journal.old ++ entry.now ∷ []) }
     ensures owed { OnOk result (owed.new ≡ owed.old ++ firing_deliveries net.now entry.now) }

@@ -1,5 +1,4 @@
-use Rattle.std.proofs.Common.{◌≡◌, ◌<◌, ℕ, Bool, List, length, map, get_or, ap, sym, subst, ◌∙◌, arith}
-use Rattle.polis_base.specs.Lists.{upto}
+use Rattle.std.proofs.Common.{◌<◌, length, ap, sym, subst, ◌∙◌, arith}
 use Rattle.net_core.specs.Moments.{Moment}
 use Rattle.net_core.specs.Journals.{snap}
 use Rattle.net_core.proofs.Tables.{table_item}

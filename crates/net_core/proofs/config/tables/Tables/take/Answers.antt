@@ -1,11 +1,11 @@
-use Rattle.std.proofs.Common.{◌≡◌, ◌<◌, ◌++◌, ℕ, Bool, List, Some, slice_get, length, map, set, ap, sym, subst, ◌∙◌, arith}
+use Rattle.std.proofs.Common.{◌≡◌, ◌<◌, ◌++◌, ℕ, Bool, List, Some, slice_get, length, map, set, ap, subst, ◌∙◌, arith}
 use Rattle.polis_base.specs.Lists.{upto}
 use Rattle.transition_table.specs.declared.snapshot.Snapshot.{Snapshot}
 use Rattle.net_core.specs.declared.entry.Owed.{Owed}
 use Rattle.net_core.specs.Journals.{snap, is_woken}
 use Rattle.net_core.specs.Landed.{cursors_behind}
 use Rattle.net_core.specs.Schedules.{firing_deliveries}
-use Rattle.net_core.specs.Moved.{machine_of, is_dep, moments_of}
+use Rattle.net_core.specs.Moved.{machine_of, moments_of}
 use Rattle.net_core.specs.Tables.{cursor}
 use Rattle.net_core.proofs.Legal.{legal_step}
 use Rattle.net_core.proofs.Moved.{length-table, moments_behind, wakings_behind, snap_behind}
@@ -56,15 +56,15 @@ returns-clause-current c =
     let below : m < length net.machines = omega arith in
     let before = moment_at net journal c.args.self.now.moments m c.get-2.result.now current.moments_are below c.get-2.ensures in
     let moment = snap_behind net c.get.result.now journal entry c.in_ok-moment.moment c.get-2.result.now
-      (subst (λ (k : ℕ). slice_get net.machines k ≡ Some c.get.result.now) is c.get.ensures)
-      (before ∙ ap (snap net journal) is) c.in_ok-moment.ensures in
+    (subst (λ (k : ℕ). slice_get net.machines k ≡ Some c.get.result.now) is c.get.ensures)
+    (before ∙ ap (snap net journal) is) c.in_ok-moment.ensures in
     record {
       fits = current.fits;
       legal = legal_step net trace journal entry current.legal c.requires.fits c.requires.follows;
       moments_are = c.set.ensures ∙ ap (λ (l : List Snapshot). set l m c.in_ok-moment.moment) current.moments_are ∙ ap (λ (k : ℕ). set (moments_of net journal) k c.in_ok-moment.moment) is ∙ moments_behind net journal entry c.in_ok-moment.moment within moment;
       woken_are = c.set-2.ensures ∙ ap (λ (l : List Bool). set l m c.is_delivery.result) current.woken_are ∙ ap (λ (k : ℕ). set (map (is_woken journal) (upto (length net.machines))) k c.is_delivery.result) is
-        ∙ ap (λ (b : Bool). set (map (is_woken journal) (upto (length net.machines))) (machine_of entry) b) c.is_delivery.ensures ∙ wakings_behind (length net.machines) journal entry within;
+          ∙ ap (λ (b : Bool). set (map (is_woken journal) (upto (length net.machines))) (machine_of entry) b) c.is_delivery.ensures ∙ wakings_behind (length net.machines) journal entry within;
       cursors_are = c.move_cursor.ensures ∙ ap (cursors_behind net trace entry) current.cursors_are ∙ cursors_are_behind net trace journal entry c.requires.fits current.legal c.requires.follows;
       owed_are = owed_behind net trace journal entry c.write.new.owed c.land.new.owed current.legal
-        (c.in_ok-write.ensures.owed ∙ ap (λ (l : List Owed). l ++ firing_deliveries net entry) current.owed_are) c.land.ensures;
+          (c.in_ok-write.ensures.owed ∙ ap (λ (l : List Owed). l ++ firing_deliveries net entry) current.owed_are) c.land.ensures;
     }

@@ -1,5 +1,0 @@
-use Rattle.net_core.proofs.Tables.{not_following}
-use Rattle.net_core.proofs.config.Config.judge.Goals as goal
-
-pub returns-else-may_land : goal.returns-else-may_land
-returns-else-may_land g c = ?

@@ -17,7 +17,11 @@ fn reads_item(net: &Network, m: u32, item: TraceItem) -> bool
 {
     match item {
         TraceItem::Event { event, .. } => {
-            net.machines.get(m as u64).inputs.as_slice().contains(&event)
+            net.machines
+                .get(m as u64)
+                .inputs
+                .as_slice()
+                .contains(&event)
         }
         TraceItem::Settle => false,
     }

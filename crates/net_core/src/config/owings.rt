@@ -65,7 +65,9 @@ impl Owings {
     fn place(&self, from: Party, to: u32) -> Option<usize>
         ensures { result ≡ position (λ d. same_party d.from from && d.to == to) self.now }
     {
-        self.items.iter().position(|owed| is_between(owed, from, to))
+        self.items
+            .iter()
+            .position(|owed| is_between(owed, from, to))
     }
 
     // The first from the one to the other.

@@ -59,7 +59,9 @@ pub(crate) fn add_firing(net: &Network, entry: &Entry, owed: &mut Owings) -> Res
 {
     match entry {
         Entry::Rea {
-            machine, outcome, ..
+            machine,
+            outcome,
+            ..
         } => {
             if !outcome.fires {
                 return Ok(());

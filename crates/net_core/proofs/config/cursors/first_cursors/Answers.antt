@@ -1,4 +1,4 @@
-use Rattle.std.proofs.Common.{◌≡◌, ◌+◌, ℕ, List, [], ◌∷◌, ◌++◌, ap, sym, ◌∙◌, zero-add}
+use Rattle.std.proofs.Common.{◌≡◌, ℕ, List, [], ◌∷◌, ◌++◌, ap, sym, ◌∙◌, zero-add}
 use Rattle.net_core.specs.Tables.{is_read, nth_place}
 use Rattle.net_core.proofs.Cursors.{nth_place_first}
 use Rattle.net_core.proofs.Moved.{upto_more}

@@ -1,5 +1,4 @@
-use Rattle.std.proofs.Common.{◌≡◌, ◌+◌, not, drop, sym, ◌∙◌, arith}
-use Rattle.std.specs.List.{prefix_len}
+use Rattle.std.proofs.Common.{sym, ◌∙◌, arith}
 use Rattle.net_core.specs.Tables.{is_read}
 use Rattle.net_core.proofs.Cursors.{first_here, first_further}
 use Rattle.net_core.proofs.config.cursors.next_read.Goals as goal

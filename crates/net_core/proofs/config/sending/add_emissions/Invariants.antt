@@ -9,5 +9,5 @@ abbrev pub invariant-loop-k : goal.invariant-loop-k
 invariant-loop-k l = record {
   front : take (length l.fn.owed) l.owed ≡ l.fn.owed;
   rest : l.owed ++ flat_map (deliveries_of l.net (Sender l.m)) (emitted (drop l.k (outputs_of l.net l.m)) (drop l.k l.outs))
-    ≡ l.fn.owed ++ flat_map (deliveries_of l.net (Sender l.m)) (emitted (outputs_of l.net l.m) l.outs);
+      ≡ l.fn.owed ++ flat_map (deliveries_of l.net (Sender l.m)) (emitted (outputs_of l.net l.m) l.outs);
 }

@@ -1,4 +1,5 @@
 pub mod Digits
+pub mod Faults
 pub mod Held
 pub mod Host
 pub mod Keywords

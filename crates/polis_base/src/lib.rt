@@ -9,6 +9,9 @@ mod lex;
 mod list;
 mod memory;
 mod name;
+mod std_host;
+#[cfg(test)]
+mod tests;
 mod token;
 mod words;
 
@@ -19,6 +22,7 @@ pub use lex::tokens;
 pub use list::{Duplicate, List, Numbers, Places};
 pub use memory::MemoryHost;
 pub use name::Name;
+pub use std_host::StdHost;
 pub use token::{Keyword, Kind, LexError, Sign, Token, Tokens};
 pub use words::Words;
 

@@ -8,4 +8,5 @@ pub mod Memory
 pub mod NameFields
 pub mod Names
 pub mod Saves
+pub mod TokenSamples
 pub mod Tokens

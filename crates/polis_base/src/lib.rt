@@ -14,6 +14,7 @@ mod std_host;
 mod tests;
 mod token;
 mod words;
+mod worked;
 
 pub use bytes::Bytes;
 pub use decimal::read_decimal;
@@ -25,6 +26,7 @@ pub use name::Name;
 pub use std_host::StdHost;
 pub use token::{Keyword, Kind, LexError, Sign, Token, Tokens};
 pub use words::Words;
+pub use worked::worked_tokens;
 
 /// Memory was wanting. It is the one free answer, and is merged with no other.
 #[derive(Clone, Copy, Debug, PartialEq, Eq)]

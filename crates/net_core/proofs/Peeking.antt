@@ -40,9 +40,9 @@ all_before p [] (suc n) h = absurd (omega arith)
 all_before p (x ∷ xs) (suc n) h = cases (p x) h (all_before p xs n) (all_before p xs (suc n))
   where
     cases : (b : Bool) → suc (nth_place p xs (cond b n (suc n))) < suc (length xs)
-      → (nth_place p xs n < length xs → n ≤ length (filter p (take (nth_place p xs n) xs)))
-      → (nth_place p xs (suc n) < length xs → suc n ≤ length (filter p (take (nth_place p xs (suc n)) xs)))
-      → suc n ≤ length (cond b (x ∷ filter p (take (nth_place p xs (cond b n (suc n))) xs)) (filter p (take (nth_place p xs (cond b n (suc n))) xs)))
+        → (nth_place p xs n < length xs → n ≤ length (filter p (take (nth_place p xs n) xs)))
+        → (nth_place p xs (suc n) < length xs → suc n ≤ length (filter p (take (nth_place p xs (suc n)) xs)))
+        → suc n ≤ length (cond b (x ∷ filter p (take (nth_place p xs (cond b n (suc n))) xs)) (filter p (take (nth_place p xs (cond b n (suc n))) xs)))
     cases true within own other = let all = own (omega arith) in omega arith
     cases false within own other = other (omega arith)
 
@@ -80,17 +80,17 @@ made_before net trace journal k i within =
 -- Where the cursor of m is the least, m being the first machine that has it, its item is the first delivery that the
 -- environment owes. It is held back exactly where the item before it is `settle`.
 pub first_by_cursors : (net : Network) (trace : List TraceItem) (journal : List Entry) (m e code : ℕ)
-  → ((k : ℕ) → k < length net.machines → cursor net trace journal m ≤ cursor net trace journal k)
-  → ((k : ℕ) → k < m → cursor net trace journal m < cursor net trace journal k)
-  → slice_get trace (cursor net trace journal m) ≡ Some (Event e code)
-  → head_of (owed_by_env net trace journal) ≡ Some (record { from = Env; to = m; event = e; code = code }, settled_at trace (cursor net trace journal m))
+    → ((k : ℕ) → k < length net.machines → cursor net trace journal m ≤ cursor net trace journal k)
+    → ((k : ℕ) → k < m → cursor net trace journal m < cursor net trace journal k)
+    → slice_get trace (cursor net trace journal m) ≡ Some (Event e code)
+    → head_of (owed_by_env net trace journal) ≡ Some (record { from = Env; to = m; event = e; code = code }, settled_at trace (cursor net trace journal m))
 first_by_cursors net trace journal m e code least first is =
     first_of_env_at net trace journal (cursor net trace journal) m e code (λ k i below within. made_before net trace journal k i within) least first is
-      (passes_at_place (is_read net m) trace (length (delivered Env m journal)) (Event e code) is)
-      (let within = slice_get_within trace (cursor net trace journal m) (Event e code) is in
-       let all = all_before (is_read net m) trace (length (delivered Env m journal)) within in
-       let same = reads_in_is net m (take (cursor net trace journal m) trace) in
-       omega arith)
+    (passes_at_place (is_read net m) trace (length (delivered Env m journal)) (Event e code) is)
+    (let within = slice_get_within trace (cursor net trace journal m) (Event e code) is in
+    let all = all_before (is_read net m) trace (length (delivered Env m journal)) within in
+    let same = reads_in_is net m (take (cursor net trace journal m) trace) in
+    omega arith)
 
 -- where each cursor is at the trace's end, the environment owes nothing
 pub nothing_by_cursors : (net : Network) (trace : List TraceItem) (journal : List Entry) → ((k : ℕ) → k < length net.machines → length trace ≤ cursor net trace journal k) → owed_by_env net trace journal ≡ []

@@ -116,3 +116,9 @@ pub wanting_line : (o : Option Files) (words : List (List ℕ)) (status : Status
     → status ≡ NoMemory → Changes a b (ShowsFront no_memory_line rose) → Changes a b (ShowsFailure status words o rose)
 wanting_line o words status rose a b s shown =
     changes_from a b _ _ (λ old new front. inl (codes "no memory", subst (λ (t : Status). IsLineOf t words o (codes "no memory")) (sym s) refl, front)) shown
+
+-- words that ask for no run
+pub nothing_asked : (o : Option Files) (words : List (List ℕ)) (P : Files → RunWords → Type 0) → ((run : RunWords) → ¬ Asks words run)
+    → WhereTold o (λ files. (run : RunWords) → Asks words run → P files run)
+nothing_asked None words P nothing = tt
+nothing_asked (Some files) words P nothing = λ run asks. absurd (nothing run asks)

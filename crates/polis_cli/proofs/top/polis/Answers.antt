@@ -1,6 +1,9 @@
-use Rattle.std.proofs.Common.{rules}
-use Rattle.polis_base.specs.Host.{Rose}
-use Rattle.polis_cli.proofs.Ending.{refused_only, run_there, failing_line, wanting_line}
+use Rattle.std.proofs.Common.{◌≡◌, ◌⊎◌, IsTrue}
+use Rattle.polis_base.specs.Host.{Files, Rose}
+use Rattle.polis_cli.specs.declared.status.Status.TheVariants.{Usage, Refused, ReadFault, WriteFault, NoMemory}
+use Rattle.polis_cli.specs.Form.{RunWords}
+use Rattle.polis_cli.specs.Top.{AreAccepted, is_end}
+use Rattle.polis_cli.proofs.Ending.{refused_only, run_there, failing_line, wanting_line, nothing_asked}
 use Rattle.polis_cli.proofs.Written.{ran, accepted_files, accepted_run, run_ends, stands, failed_line}
 use Rattle.polis_cli.proofs.top.polis.Goals as goal
 
@@ -53,3 +56,15 @@ returns-clause-line g c = λ none.
     wanting_line (g.H.Host.files c.args.host.now) c.args.words.now c.no_memory.result
     (Rose (g.H.Host.write_faults c.args.host.now) (g.H.Host.write_faults c.no_memory.new.host)) (g.H.Host.shown c.args.host.now) (g.H.Host.shown c.no_memory.new.host)
     c.no_memory.ensures.status (rw (c.in-Ok.ensures.shown, c.in-Ok.ensures.write_faults) at c.no_memory.ensures.shown)
+
+pub returns-in-None-clause-refused_there : goal.returns-in-None-clause-refused_there
+returns-in-None-clause-refused_there g c =
+    nothing_asked (g.H.Host.files c.args.host.now) c.args.words.now
+    (λ (files : Files) (run : RunWords). ¬ AreAccepted files run → (Usage ≡ Refused) ⊎ (Usage ≡ ReadFault) ⊎ (Usage ≡ NoMemory))
+    c.in-None.ensures.nothing
+
+pub returns-in-None-clause-run_there : goal.returns-in-None-clause-run_there
+returns-in-None-clause-run_there g c =
+    nothing_asked (g.H.Host.files c.args.host.now) c.args.words.now
+    (λ (files : Files) (run : RunWords). AreAccepted files run → IsTrue (is_end Usage) ⊎ (Usage ≡ ReadFault) ⊎ (Usage ≡ WriteFault) ⊎ (Usage ≡ NoMemory))
+    c.in-None.ensures.nothing

@@ -92,8 +92,8 @@ brought_fits net m e (Rea k x o ∷ journal) h = brought_fits net m e journal h.
 brought_fits net m e (Dep from to event code ∷ journal) h = cases (to == m && event == e) refl (brought_fits net m e journal h.1)
   where
     cases : (b : Bool) → (to == m && event == e) ≡ b
-      → list_all (λ c. nat_lt c (1 + event_values net.domains net.events e)) (filter_map (code_brought m e) journal) ≡ true
-      → list_all (λ c. nat_lt c (1 + event_values net.domains net.events e)) (cons_option (then_some b code) (filter_map (code_brought m e) journal)) ≡ true
+        → list_all (λ c. nat_lt c (1 + event_values net.domains net.events e)) (filter_map (code_brought m e) journal) ≡ true
+        → list_all (λ c. nat_lt c (1 + event_values net.domains net.events e)) (cons_option (then_some b code) (filter_map (code_brought m e) journal)) ≡ true
     cases true is rest =
         let parts = and_parts (to == m) (event == e) is in
         let fitting = (and_parts (is_party net from && nat_lt to (length net.machines)) (is_event_code net event code) h.0).1 in
@@ -109,8 +109,8 @@ places_fit : (net : Network) (journal : List Entry) (m : ℕ) (events : List ℕ
 places_fit net journal m [] h = refl
 places_fit net journal m (e ∷ events) h =
     and_from (nat_lt (place journal m e) (1 + event_values net.domains net.events e)) (fits (map (λ e. 1 + event_values net.domains net.events e) events) (map (place journal m) events))
-      (lt-ltb (place journal m e) (1 + event_values net.domains net.events e) (place_fits net journal m e h))
-      (places_fit net journal m events h)
+    (lt-ltb (place journal m e) (1 + event_values net.domains net.events e) (place_fits net journal m e h))
+    (places_fit net journal m events h)
 
 -- ---- what a machine keeps
 
@@ -133,23 +133,29 @@ vars_parts machine =
   where
     sizes : Bool
     sizes = are_sizes machine.vars
+
     long : Bool
     long = length machine.vars == length machine.inputs + length machine.states
+
     inputs : Bool
     inputs = list_all (nat_le 2) (take (length machine.inputs) machine.vars)
+
     initials : Bool
     initials = pointwise (λ (variable : StateDecl) size. nat_lt variable.init size) machine.states (state_sizes machine)
 
 results_parts : (machine : Machine) → (length machine.results ≡ 1 + length machine.states + length machine.outputs) × ((2 ∷ map (λ size. 1 + size) (state_sizes machine)) ≡ take (1 + length machine.states) machine.results) × (list_all (nat_le 2) (drop (1 + length machine.states) machine.results) ≡ true)
-results_parts machine =
-    (eqb-true (length machine.results) (1 + length machine.states + length machine.outputs) (and_parts long states (and_parts (long && states) outputs machine.sized_results).0).0,
-    same_numbers (2 ∷ map (λ size. 1 + size) (state_sizes machine)) (take (1 + length machine.states) machine.results) (and_parts long states (and_parts (long && states) outputs machine.sized_results).0).1,
-    (and_parts (long && states) outputs machine.sized_results).1)
+results_parts machine = (
+  eqb-true (length machine.results) (1 + length machine.states + length machine.outputs) (and_parts long states (and_parts (long && states) outputs machine.sized_results).0).0,
+  same_numbers (2 ∷ map (λ size. 1 + size) (state_sizes machine)) (take (1 + length machine.states) machine.results) (and_parts long states (and_parts (long && states) outputs machine.sized_results).0).1,
+  (and_parts (long && states) outputs machine.sized_results).1,
+)
   where
     long : Bool
     long = length machine.results == 1 + length machine.states + length machine.outputs
+
     states : Bool
     states = pointwise ◌==◌ (2 ∷ map (λ size. 1 + size) (state_sizes machine)) (take (1 + length machine.states) machine.results)
+
     outputs : Bool
     outputs = list_all (nat_le 2) (drop (1 + length machine.states) machine.results)
 
@@ -174,9 +180,9 @@ initial_fits net m x machine is h =
     let states : states_of net m ≡ machine.states = ap (λ (o : Option Machine). unwrap_or (option_map (λ machine. machine.states) o) []) is in
     elim (slice_get_cases machine.states x).1 [
       | inl (variable, within, at, same) ↦
-        let init : initial net m x ≡ variable.init = ap (λ (l : List StateDecl). unwrap_or (option_map (λ variable. variable.init) (slice_get l x)) 0) states ∙ ap (λ (o : Option StateDecl). unwrap_or (option_map (λ variable. variable.init) o) 0) at in
-        let below = ltb-true variable.init (slice_index (state_sizes machine) x) (pointwise_at (λ (variable : StateDecl) size. nat_lt variable.init size) machine.states (state_sizes machine) x variable (vars_parts machine).1 at) in
-        omega arith
+          let init : initial net m x ≡ variable.init = ap (λ (l : List StateDecl). unwrap_or (option_map (λ variable. variable.init) (slice_get l x)) 0) states ∙ ap (λ (o : Option StateDecl). unwrap_or (option_map (λ variable. variable.init) o) 0) at in
+          let below = ltb-true variable.init (slice_index (state_sizes machine) x) (pointwise_at (λ (variable : StateDecl) size. nat_lt variable.init size) machine.states (state_sizes machine) x variable (vars_parts machine).1 at) in
+          omega arith
       | inr (past, none) ↦ absurd (omega arith)
     ]
 
@@ -204,14 +210,16 @@ values_fit net m x machine (Rea k s o ∷ journal) is below h = cases (k == m &&
   where
     size : ℕ
     size = slice_index (state_sizes machine) x
+
     set : (c : ℕ) → c < 1 + size
-      → list_all (λ v. nat_lt v size) (filter_map (value_given m x) journal) ≡ true
-      → list_all (λ v. nat_lt v size) (cons_option (value_set c) (filter_map (value_given m x) journal)) ≡ true
+        → list_all (λ v. nat_lt v size) (filter_map (value_given m x) journal) ≡ true
+        → list_all (λ v. nat_lt v size) (cons_option (value_set c) (filter_map (value_given m x) journal)) ≡ true
     set zero small rest = rest
     set (suc v) small rest = and_from (nat_lt v size) (list_all (λ v. nat_lt v size) (filter_map (value_given m x) journal)) (lt-ltb v size (omega arith)) rest
+
     cases : (b : Bool) → (k == m && o.fires) ≡ b
-      → list_all (λ v. nat_lt v size) (filter_map (value_given m x) journal) ≡ true
-      → list_all (λ v. nat_lt v size) (cons_option (cond b (value_set (slice_index o.next x)) None) (filter_map (value_given m x) journal)) ≡ true
+        → list_all (λ v. nat_lt v size) (filter_map (value_given m x) journal) ≡ true
+        → list_all (λ v. nat_lt v size) (cons_option (cond b (value_set (slice_index o.next x)) None) (filter_map (value_given m x) journal)) ≡ true
     cases true both rest =
         let own = eqb-true k m (and_parts (k == m) o.fires both).0 in
         set (slice_index o.next x) (next_fits machine o x (outcome_of_machine net m machine s o is (subst (λ j. FitsNetwork net (Rea j s o)) own h.0)) below) rest
@@ -237,18 +245,28 @@ snap_fits net journal m machine h is =
     let states : states_of net m ≡ machine.states = ap (λ (o : Option Machine). unwrap_or (option_map (λ machine. machine.states) o) []) is in
     let count = length_state_sizes machine in
     let whole : fits (map (λ e. 1 + event_values net.domains net.events e) machine.inputs ++ state_sizes machine) (map (place journal m) machine.inputs ++ map (state net journal m) (upto (length machine.states))) ≡ true =
-      fits_behind_fits (map (λ e. 1 + event_values net.domains net.events e) machine.inputs) (state_sizes machine) (map (place journal m) machine.inputs) (map (state net journal m) (upto (length machine.states)))
-        (places_fit net journal m machine.inputs h)
-        (fits_from_each (state_sizes machine) (map (state net journal m) (upto (length machine.states)))
-          (let size = length-map (upto (length machine.states)) (state net journal m) in let long = length_upto (length machine.states) in omega arith)
-          (λ x below.
-            let inside : x < length machine.states = omega arith in
-            let at = get_of_upto (state net journal m) (length machine.states) x inside in
-            let small = state_fits net m x machine journal is inside h in
-            omega arith)) in
+    fits_behind_fits (map (λ e. 1 + event_values net.domains net.events e) machine.inputs) (state_sizes machine) (map (place journal m) machine.inputs) (map (state net journal m) (upto (length machine.states)))
+    (places_fit net journal m machine.inputs h)
+    (fits_from_each (state_sizes machine) (map (state net journal m) (upto (length machine.states)))
+    (let size = length-map (upto (length machine.states)) (state net journal m) in let long = length_upto (length machine.states) in omega arith)
+    (λ x below.
+    let inside : x < length machine.states = omega arith in
+    let at = get_of_upto (state net journal m) (length machine.states) x inside in
+    let small = state_fits net m x machine journal is inside h in
+    omega arith)) in
     subst (λ vars. fits vars (map (place journal m) (inputs_of net m) ++ map (state net journal m) (upto (length (states_of net m)))) ≡ true) (sym (vars_of_inputs net m machine is))
     (subst (λ (l : List StateDecl). fits (map (λ e. 1 + event_values net.domains net.events e) machine.inputs ++ state_sizes machine) (map (place journal m) (inputs_of net m) ++ map (state net journal m) (upto (length l))) ≡ true) (sym states)
     (subst (λ (l : List ℕ). fits (map (λ e. 1 + event_values net.domains net.events e) machine.inputs ++ state_sizes machine) (map (place journal m) l ++ map (state net journal m) (upto (length machine.states))) ≡ true) (sym inputs) whole))
+
+pub snap_fits_below : (net : Network) (journal : List Entry) (m : ℕ) → IsJournal net journal → m < length net.machines → OfMachine net m (λ machine. IsSnapshot machine (snap net journal m))
+snap_fits_below net journal m h below =
+    elim (slice_get net.machines m) as (λ (found : Option Machine). slice_get net.machines m ≡ found → IsSomeAnd found (λ machine. IsSnapshot machine (snap net journal m))) [
+      | None ↦ λ is. absurd (elim (slice_get_cases net.machines m).1 [
+        | inl (machine, within, at, same) ↦ cc
+        | inr (past, none) ↦ omega arith
+      ])
+      | Some machine ↦ λ is. snap_fits net journal m machine h is
+    ] refl
 
 -- ---- the outcome of a transition
 
@@ -258,18 +276,18 @@ result_positive machine y h =
     let count = length_state_sizes machine in
     elim (cases_lt y (1 + length machine.states)) [
       | inl state ↦
-        let same : slice_index (2 ∷ map (λ size. 1 + size) (state_sizes machine)) y ≡ slice_index machine.results y = ap (λ l. slice_index l y) parts.1 ∙ get_or-take (1 + length machine.states) machine.results y 0 state in
-        let long = length-map (state_sizes machine) (λ size. 1 + size) in
-        let some = first_part y (omega arith) in
-        omega arith
+          let same : slice_index (2 ∷ map (λ size. 1 + size) (state_sizes machine)) y ≡ slice_index machine.results y = ap (λ l. slice_index l y) parts.1 ∙ get_or-take (1 + length machine.states) machine.results y 0 state in
+          let long = length-map (state_sizes machine) (λ size. 1 + size) in
+          let some = first_part y (omega arith) in
+          omega arith
       | inr output ↦
-        let there = get_or-drop (1 + length machine.states) machine.results (y - (1 + length machine.states)) 0 in
-        let place : 1 + length machine.states + (y - (1 + length machine.states)) ≡ y = omega arith in
-        let size = length-drop (1 + length machine.states) machine.results in
-        let at = slice_get-get_or (drop (1 + length machine.states) machine.results) (y - (1 + length machine.states)) 0 (omega arith) in
-        let large = leb-true 2 (slice_index (drop (1 + length machine.states) machine.results) (y - (1 + length machine.states))) (passes_of_all (nat_le 2) (drop (1 + length machine.states) machine.results) (y - (1 + length machine.states)) (slice_index (drop (1 + length machine.states) machine.results) (y - (1 + length machine.states))) parts.2 at) in
-        let same = ap (slice_index machine.results) place in
-        omega arith
+          let there = get_or-drop (1 + length machine.states) machine.results (y - (1 + length machine.states)) 0 in
+          let place : 1 + length machine.states + (y - (1 + length machine.states)) ≡ y = omega arith in
+          let size = length-drop (1 + length machine.states) machine.results in
+          let at = slice_get-get_or (drop (1 + length machine.states) machine.results) (y - (1 + length machine.states)) 0 (omega arith) in
+          let large = leb-true 2 (slice_index (drop (1 + length machine.states) machine.results) (y - (1 + length machine.states))) (passes_of_all (nat_le 2) (drop (1 + length machine.states) machine.results) (y - (1 + length machine.states)) (slice_index (drop (1 + length machine.states) machine.results) (y - (1 + length machine.states))) parts.2 at) in
+          let same = ap (slice_index machine.results) place in
+          omega arith
     ]
   where
     first_part : (y : ℕ) → y < 1 + length (map (λ size. 1 + size) (state_sizes machine)) → 0 < slice_index (2 ∷ map (λ size. 1 + size) (state_sizes machine)) y
@@ -285,6 +303,7 @@ given_fits results (act ∷ acts) y h some = cases (act.result == y) refl (given
   where
     parts : (names_result results act ≡ true) × (list_all (names_result results) acts ≡ true)
     parts = and_parts (names_result results act) (list_all (names_result results) acts) h
+
     cases : (b : Bool) → (act.result == y) ≡ b → code_given acts y < slice_index results y → cond b act.code (code_given acts y) < slice_index results y
     cases true is rest =
         let small = ltb-true act.code (slice_index results act.result) (and_parts (nat_lt act.result (length results)) (nat_lt act.code (slice_index results act.result)) parts.0).1 in
@@ -294,31 +313,31 @@ given_fits results (act ∷ acts) y h some = cases (act.result == y) refl (given
 
 -- codes that are each below the size of their result
 codes_fit : (machine : Machine) (next outs : List ℕ) (code : ℕ → ℕ)
-  → length next ≡ length machine.states
-  → length outs ≡ length machine.outputs
-  → ((k : ℕ) → k < length machine.states → slice_index next k ≡ code (1 + k))
-  → ((k : ℕ) → k < length machine.outputs → slice_index outs k ≡ code (1 + length machine.states + k))
-  → ((y : ℕ) → y < length machine.results → code y < slice_index machine.results y)
-  → fits (drop 1 machine.results) (next ++ outs) ≡ true
+    → length next ≡ length machine.states
+    → length outs ≡ length machine.outputs
+    → ((k : ℕ) → k < length machine.states → slice_index next k ≡ code (1 + k))
+    → ((k : ℕ) → k < length machine.outputs → slice_index outs k ≡ code (1 + length machine.states + k))
+    → ((y : ℕ) → y < length machine.results → code y < slice_index machine.results y)
+    → fits (drop 1 machine.results) (next ++ outs) ≡ true
 codes_fit machine next outs code nexts all states outputs small =
     let parts = results_parts machine in
     let size = length-drop 1 machine.results in
     let whole = length-append next outs in
     fits_from_each (drop 1 machine.results) (next ++ outs) (omega arith) (λ k below.
-      let there = get_or-drop 1 machine.results k 0 in
-      let less = small (1 + k) (omega arith) in
-      elim (cases_lt k (length machine.states)) [
-        | inl state ↦
+    let there = get_or-drop 1 machine.results k 0 in
+    let less = small (1 + k) (omega arith) in
+    elim (cases_lt k (length machine.states)) [
+      | inl state ↦
           let here = get_or_append_left next outs 0 k (omega arith) in
           let is = states k state in
           omega arith
-        | inr output ↦
+      | inr output ↦
           let here = get_or-append_right next outs (length machine.states) k 0 nexts output in
           let is = outputs (k - length machine.states) (omega arith) in
           let place : 1 + length machine.states + (k - length machine.states) ≡ 1 + k = omega arith in
           let same = ap code place in
           omega arith
-      ])
+    ])
 
 acts_fit : (machine : Machine) (r : ℕ) → list_all (names_result machine.results) (actions (slice_get machine.rows r)) ≡ true
 acts_fit machine r =
@@ -332,16 +351,18 @@ result_fits machine r =
     record {
       widths = record { next = nexts; outs = outs };
       codes = codes_fit machine (codes_given acts 1 (length machine.states)) (codes_given acts (1 + length machine.states) (length machine.outputs)) (code_given acts) nexts outs
-        (λ k below. get_of_upto (λ k. code_given acts (1 + k)) (length machine.states) k below)
-        (λ k below. get_of_upto (λ k. code_given acts (1 + length machine.states + k)) (length machine.outputs) k below)
-        (λ y below. given_fits machine.results acts y (acts_fit machine r) (result_positive machine y below));
+          (λ k below. get_of_upto (λ k. code_given acts (1 + k)) (length machine.states) k below)
+          (λ k below. get_of_upto (λ k. code_given acts (1 + length machine.states + k)) (length machine.outputs) k below)
+          (λ y below. given_fits machine.results acts y (acts_fit machine r) (result_positive machine y below));
       idle = λ h. cc;
     }
   where
     acts : List Act
     acts = actions (slice_get machine.rows r)
+
     nexts : length (codes_given acts 1 (length machine.states)) ≡ length machine.states
     nexts = length-map (upto (length machine.states)) (λ k. code_given acts (1 + k)) ∙ length_upto (length machine.states)
+
     outs : length (codes_given acts (1 + length machine.states) (length machine.outputs)) ≡ length machine.outputs
     outs = length-map (upto (length machine.outputs)) (λ k. code_given acts (1 + length machine.states + k)) ∙ length_upto (length machine.outputs)
 
@@ -350,9 +371,9 @@ blank_fits machine =
     record {
       widths = record { next = length-replicate (length machine.states) 0; outs = length-replicate (length machine.outputs) 0 };
       codes = codes_fit machine (replicate (length machine.states) 0) (replicate (length machine.outputs) 0) (λ y. 0) (length-replicate (length machine.states) 0) (length-replicate (length machine.outputs) 0)
-        (λ k below. get_or-replicate (length machine.states) k 0 0 below)
-        (λ k below. get_or-replicate (length machine.outputs) k 0 0 below)
-        (result_positive machine);
+          (λ k below. get_or-replicate (length machine.states) k 0 0 below)
+          (λ k below. get_or-replicate (length machine.outputs) k 0 0 below)
+          (result_positive machine);
       idle = λ h. refl;
     }
 

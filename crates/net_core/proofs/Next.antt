@@ -52,9 +52,9 @@ find_of_head p (y ∷ xs) x h passed =
 next_of_way : {X : Type 0} (way : X → Owed) (s : Party) (m : ℕ) (journal : List Entry) (xs : List X) (sends : List (ℕ × ℕ)) → map (λ x. event_code (way x)) (filter (λ x. is_way s m (way x)) xs) ≡ sends → option_map (λ x. event_code (way x)) (find (λ x. is_way s m (way x)) (unmade way journal [] xs)) ≡ slice_get sends (length (delivered s m journal))
 next_of_way way s m journal xs sends h =
     ap (option_map (λ x. event_code (way x)))
-      (find_is_head (λ x. is_way s m (way x)) (unmade way journal [] xs)
-      ∙ ap head_of (owed_of_way way s m journal xs)
-      ∙ head_of_drop (length (delivered s m journal)) (filter (λ x. is_way s m (way x)) xs))
+    (find_is_head (λ x. is_way s m (way x)) (unmade way journal [] xs)
+    ∙ ap head_of (owed_of_way way s m journal xs)
+    ∙ head_of_drop (length (delivered s m journal)) (filter (λ x. is_way s m (way x)) xs))
     ∙ sym (slice_get-map (λ x. event_code (way x)) (filter (λ x. is_way s m (way x)) xs) (length (delivered s m journal)))
     ∙ ap (λ l. slice_get l (length (delivered s m journal))) h
 
@@ -70,13 +70,12 @@ owed_is d s m e c h k =
 
 -- where a list's items of one way are what was sent, the first owed of them is the delivery that may follow
 first_of_way : {X : Type 0} (way : X → Owed) (net : Network) (trace : List TraceItem) (journal : List Entry) (s : Party) (m e c : ℕ) (xs : List X)
-  → Legal net trace journal
-  → map (λ x. event_code (way x)) (filter (λ x. is_way s m (way x)) xs) ≡ sent net trace s m journal
-  → MayFollow net trace journal (Dep s m e c) ↔ (option_map way (find (λ x. is_way s m (way x)) (unmade way journal [] xs)) ≡ Some (record { from = s; to = m; event = e; code = c }))
+    → Legal net trace journal
+    → map (λ x. event_code (way x)) (filter (λ x. is_way s m (way x)) xs) ≡ sent net trace s m journal
+    → MayFollow net trace journal (Dep s m e c) ↔ (option_map way (find (λ x. is_way s m (way x)) (unmade way journal [] xs)) ≡ Some (record { from = s; to = m; event = e; code = c }))
 first_of_way {X} way net trace journal s m e c xs legal h =
     let steps = may_follow_next net trace journal s m e c (delivered_begins_sent net trace s m journal legal) in
-    let next = next_of_way way s m journal xs (sent net trace s m journal) h in
-    (
+    let next = next_of_way way s m journal xs (sent net trace s m journal) h in (
       (λ may. elim (find (λ x. is_way s m (way x)) (unmade way journal [] xs)) as (λ (o : Option X). find (λ x. is_way s m (way x)) (unmade way journal [] xs) ≡ o → option_map (λ x. event_code (way x)) o ≡ Some (e, c) → option_map way o ≡ Some (record { from = s; to = m; event = e; code = c })) [
         | None ↦ λ is none. cc
         | Some x ↦ λ is some. ap Some (owed_is (way x) s m e c (find_passes (λ x. is_way s m (way x)) (unmade way journal [] xs) x is) (cc))
@@ -91,8 +90,7 @@ first_of_way {X} way net trace journal s m e c xs legal h =
 -- of a machine's deliveries the first owed one of its way may follow, and no other
 pub first_of_machine : (net : Network) (trace : List TraceItem) (journal : List Entry) (s m e c : ℕ) → Legal net trace journal → MayFollow net trace journal (Dep (Sender s) m e c) ↔ (find (is_way (Sender s) m) (owed_by_machines net journal) ≡ Some (record { from = Sender s; to = m; event = e; code = c }))
 first_of_machine net trace journal s m e c legal =
-    let both = first_of_way (λ d. d) net trace journal (Sender s) m e c (machine_deliveries net journal) legal (machine_ways net trace s m journal) in
-    (
+    let both = first_of_way (λ d. d) net trace journal (Sender s) m e c (machine_deliveries net journal) legal (machine_ways net trace s m journal) in (
       (λ may. sym (same (find (is_way (Sender s) m) (owed_by_machines net journal))) ∙ both.0 may),
       (λ found. both.1 (same (find (is_way (Sender s) m) (owed_by_machines net journal)) ∙ found)),
     )
@@ -108,11 +106,11 @@ first_of_env net trace journal m e c legal =
 -- ---- what is first may follow
 
 head_may_follow : {X : Type 0} (way : X → Owed) (net : Network) (trace : List TraceItem) (journal : List Entry) (s : Party) (xs : List X) (x : X)
-  → Legal net trace journal
-  → ((m : ℕ) → map (λ x. event_code (way x)) (filter (λ x. is_way s m (way x)) xs) ≡ sent net trace s m journal)
-  → (way x).from ≡ s
-  → head_of (unmade way journal [] xs) ≡ Some x
-  → MayFollow net trace journal (Dep (way x).from (way x).to (way x).event (way x).code)
+    → Legal net trace journal
+    → ((m : ℕ) → map (λ x. event_code (way x)) (filter (λ x. is_way s m (way x)) xs) ≡ sent net trace s m journal)
+    → (way x).from ≡ s
+    → head_of (unmade way journal [] xs) ≡ Some x
+    → MayFollow net trace journal (Dep (way x).from (way x).to (way x).event (way x).code)
 head_may_follow way net trace journal s xs x legal ways from first =
     let found : find (λ y. is_way (way x).from (way x).to (way y)) (unmade way journal [] xs) ≡ Some x = find_of_head (λ y. is_way (way x).from (way x).to (way y)) (unmade way journal [] xs) x first (own_way (way x)) in
     (first_of_way way net trace journal (way x).from (way x).to (way x).event (way x).code xs legal (subst (λ t. map (λ y. event_code (way y)) (filter (λ y. is_way t (way x).to (way y)) xs) ≡ sent net trace t (way x).to journal) (sym from) (ways (way x).to))).1

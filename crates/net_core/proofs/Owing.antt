@@ -58,10 +58,10 @@ own_way d = and_from (same_party d.from d.from) (d.to == d.to) (same_party_self 
 other_way : (s : Party) (m : ℕ) (d : Owed) → is_way s m d ≡ false → (same_party s d.from && m == d.to) ≡ false
 other_way s m d h =
     false_from_ne_true (same_party s d.from && m == d.to) (λ w.
-      let parts = and_parts (same_party s d.from) (m == d.to) w in
-      let from : s ≡ d.from = party_from_same s d.from parts.0 in
-      let to : m ≡ d.to = eqb-true m d.to parts.1 in
-      both_ways (is_way s m d) h (and_from (same_party d.from s) (d.to == m) (subst (λ t. same_party d.from t ≡ true) (sym from) (same_party_self d.from)) (eq-eqb d.to m (sym to))))
+    let parts = and_parts (same_party s d.from) (m == d.to) w in
+    let from : s ≡ d.from = party_from_same s d.from parts.0 in
+    let to : m ≡ d.to = eqb-true m d.to parts.1 in
+    both_ways (is_way s m d) h (and_from (same_party d.from s) (d.to == m) (subst (λ t. same_party d.from t ≡ true) (sym from) (same_party_self d.from)) (eq-eqb d.to m (sym to))))
 
 -- the item is among the first of its way, as many as the journal has
 abbrev pub is_made : {X : Type 0} → (X → Owed) → List Entry → List X → Party → ℕ → Bool
@@ -76,10 +76,10 @@ made_of_way way s m journal passed x h =
 
 -- one item before a list of which it holds
 of_way_step : {X : Type 0} (way : X → Owed) (s : Party) (m : ℕ) (journal : List Entry) (passed xs rest : List X) (x : X)
-  → ((k : ℕ) → k ≡ length (delivered s m journal) - count_by (λ y. is_way s m (way y)) (passed ++ x ∷ []) → filter (λ y. is_way s m (way y)) rest ≡ drop k (filter (λ y. is_way s m (way y)) xs))
-  → (n : ℕ) → n ≡ length (delivered s m journal) - count_by (λ y. is_way s m (way y)) passed
-  → (b : Bool) → is_way s m (way x) ≡ b
-  → filter (λ y. is_way s m (way y)) (keep_unless (is_made way journal passed (way x).from (way x).to) x rest) ≡ drop n (cond b (x ∷ filter (λ y. is_way s m (way y)) xs) (filter (λ y. is_way s m (way y)) xs))
+    → ((k : ℕ) → k ≡ length (delivered s m journal) - count_by (λ y. is_way s m (way y)) (passed ++ x ∷ []) → filter (λ y. is_way s m (way y)) rest ≡ drop k (filter (λ y. is_way s m (way y)) xs))
+    → (n : ℕ) → n ≡ length (delivered s m journal) - count_by (λ y. is_way s m (way y)) passed
+    → (b : Bool) → is_way s m (way x) ≡ b
+    → filter (λ y. is_way s m (way y)) (keep_unless (is_made way journal passed (way x).from (way x).to) x rest) ≡ drop n (cond b (x ∷ filter (λ y. is_way s m (way y)) xs) (filter (λ y. is_way s m (way y)) xs))
 of_way_step way s m journal passed xs rest x below zero h true here =
     let count = count_more (λ y. is_way s m (way y)) passed x true here in
     let no : is_made way journal passed (way x).from (way x).to ≡ false = made_of_way way s m journal passed x here ∙ le-ltb (count_by (λ y. is_way s m (way y)) passed) (length (delivered s m journal)) (omega arith) in
@@ -115,6 +115,7 @@ unmade_past way s m e c journal passed (x ∷ xs) h =
   where
     further : (b : Bool) → is_way s m (way x) ≡ b → length (delivered s m journal) < count_by (λ x. is_way s m (way x)) (passed ++ x ∷ [])
     further b here = let count = count_more (λ x. is_way s m (way x)) passed x b here in omega arith
+
     same : (b : Bool) → is_way s m (way x) ≡ b → is_made way (journal ++ Dep s m e c ∷ []) passed (way x).from (way x).to ≡ is_made way journal passed (way x).from (way x).to
     same true here =
         let longer : length (delivered s m (journal ++ Dep s m e c ∷ [])) ≡ length (delivered s m journal) + 1 = ap length (delivered_own s m e c journal) ∙ length-append (delivered s m journal) ((e, c) ∷ []) in
@@ -126,27 +127,27 @@ unmade_past way s m e c journal passed (x ∷ xs) h =
         ap (λ ds. nat_lt (count_by (λ y. is_way (way x).from (way x).to (way y)) passed) (length ds)) (delivered_other (way x).from s (way x).to m e c journal (other_way s m (way x) other))
 
 one_more_step : {X : Type 0} (way : X → Owed) (s : Party) (m e c : ℕ) (journal : List Entry) (passed xs : List X) (x : X)
-  → count_by (λ y. is_way s m (way y)) passed ≤ length (delivered s m journal)
-  → (count_by (λ y. is_way s m (way y)) (passed ++ x ∷ []) ≤ length (delivered s m journal) → unmade way (journal ++ Dep s m e c ∷ []) (passed ++ x ∷ []) xs ≡ without_first (λ y. is_way s m (way y)) (unmade way journal (passed ++ x ∷ []) xs))
-  → (b : Bool) → is_way s m (way x) ≡ b
-  → unmade way (journal ++ Dep s m e c ∷ []) passed (x ∷ xs) ≡ without_first (λ y. is_way s m (way y)) (unmade way journal passed (x ∷ xs))
+    → count_by (λ y. is_way s m (way y)) passed ≤ length (delivered s m journal)
+    → (count_by (λ y. is_way s m (way y)) (passed ++ x ∷ []) ≤ length (delivered s m journal) → unmade way (journal ++ Dep s m e c ∷ []) (passed ++ x ∷ []) xs ≡ without_first (λ y. is_way s m (way y)) (unmade way journal (passed ++ x ∷ []) xs))
+    → (b : Bool) → is_way s m (way x) ≡ b
+    → unmade way (journal ++ Dep s m e c ∷ []) passed (x ∷ xs) ≡ without_first (λ y. is_way s m (way y)) (unmade way journal passed (x ∷ xs))
 one_more_step way s m e c journal passed xs x h below true here =
     let count = count_more (λ y. is_way s m (way y)) passed x true here in
     let longer : length (delivered s m (journal ++ Dep s m e c ∷ [])) ≡ length (delivered s m journal) + 1 = ap length (delivered_own s m e c journal) ∙ length-append (delivered s m journal) ((e, c) ∷ []) in
     let now : is_made way (journal ++ Dep s m e c ∷ []) passed (way x).from (way x).to ≡ true = made_of_way way s m (journal ++ Dep s m e c ∷ []) passed x here ∙ lt-ltb (count_by (λ y. is_way s m (way y)) passed) (length (delivered s m (journal ++ Dep s m e c ∷ []))) (omega arith) in
     elim (cases_lt (count_by (λ y. is_way s m (way y)) passed) (length (delivered s m journal))) [
       | inl under ↦
-        let before : is_made way journal passed (way x).from (way x).to ≡ true = made_of_way way s m journal passed x here ∙ lt-ltb (count_by (λ y. is_way s m (way y)) passed) (length (delivered s m journal)) under in
-        rw (now, before) (below (omega arith))
+          let before : is_made way journal passed (way x).from (way x).to ≡ true = made_of_way way s m journal passed x here ∙ lt-ltb (count_by (λ y. is_way s m (way y)) passed) (length (delivered s m journal)) under in
+          rw (now, before) (below (omega arith))
       | inr over ↦
-        let before : is_made way journal passed (way x).from (way x).to ≡ false = made_of_way way s m journal passed x here ∙ le-ltb (count_by (λ y. is_way s m (way y)) passed) (length (delivered s m journal)) over in
-        rw (now, before, here) (unmade_past way s m e c journal (passed ++ x ∷ []) xs (omega arith))
+          let before : is_made way journal passed (way x).from (way x).to ≡ false = made_of_way way s m journal passed x here ∙ le-ltb (count_by (λ y. is_way s m (way y)) passed) (length (delivered s m journal)) over in
+          rw (now, before, here) (unmade_past way s m e c journal (passed ++ x ∷ []) xs (omega arith))
     ]
 one_more_step way s m e c journal passed xs x h below false other =
     let count = count_more (λ y. is_way s m (way y)) passed x false other in
     let rest = below (omega arith) in
     let same : is_made way (journal ++ Dep s m e c ∷ []) passed (way x).from (way x).to ≡ is_made way journal passed (way x).from (way x).to =
-      ap (λ ds. nat_lt (count_by (λ y. is_way (way x).from (way x).to (way y)) passed) (length ds)) (delivered_other (way x).from s (way x).to m e c journal (other_way s m (way x) other)) in
+    ap (λ ds. nat_lt (count_by (λ y. is_way (way x).from (way x).to (way y)) passed) (length ds)) (delivered_other (way x).from s (way x).to m e c journal (other_way s m (way x) other)) in
     ap (λ b. keep_unless b x (unmade way (journal ++ Dep s m e c ∷ []) (passed ++ x ∷ []) xs)) same
     ∙ ap (keep_unless (is_made way journal passed (way x).from (way x).to) x) rest
     ∙ elim (is_made way journal passed (way x).from (way x).to) as (λ b. keep_unless b x (without_first (λ y. is_way s m (way y)) (unmade way journal (passed ++ x ∷ []) xs)) ≡ without_first (λ y. is_way s m (way y)) (keep_unless b x (unmade way journal (passed ++ x ∷ []) xs))) [
@@ -188,7 +189,7 @@ none_made way s journal passed [] h above = refl
 none_made way s journal passed (x ∷ xs) h above =
     let parts = and_parts (same_party (way x).from s) (list_all (λ x. same_party (way x).from s) xs) h in
     let not_made : is_made way journal passed (way x).from (way x).to ≡ false =
-      ap (λ t. is_made way journal passed t (way x).to) (party_from_same (way x).from s parts.0) ∙ le-ltb (count_by (λ y. is_way s (way x).to (way y)) passed) (length (delivered s (way x).to journal)) (above (way x).to) in
+    ap (λ t. is_made way journal passed t (way x).to) (party_from_same (way x).from s parts.0) ∙ le-ltb (count_by (λ y. is_way s (way x).to (way y)) passed) (length (delivered s (way x).to journal)) (above (way x).to) in
     ap (λ b. keep_unless b x (unmade way journal (passed ++ x ∷ []) xs)) not_made
     ∙ ap (λ l. x ∷ l) (none_made way s journal (passed ++ x ∷ []) xs parts.1 (λ m. further m (is_way s m (way x)) refl))
   where
@@ -213,9 +214,9 @@ delivered_below : (net : Network) (trace : List TraceItem) (s m : ℕ) (journal 
 delivered_below net trace s m journal h =
     let short = begins_shorter (delivered (Sender s) m journal) (sent net trace (Sender s) m journal) (delivered_begins_sent net trace (Sender s) m journal h) in
     let long : length (sent net trace (Sender s) m journal) ≡ count_by (is_way (Sender s) m) (machine_deliveries net journal) =
-      ap length (sym (machine_ways net trace s m journal))
-      ∙ length-map (filter (is_way (Sender s) m) (machine_deliveries net journal)) event_code
-      ∙ length-filter (is_way (Sender s) m) (machine_deliveries net journal) in
+    ap length (sym (machine_ways net trace s m journal))
+    ∙ length-map (filter (is_way (Sender s) m) (machine_deliveries net journal)) event_code
+    ∙ length-filter (is_way (Sender s) m) (machine_deliveries net journal) in
     omega arith
 
 machine_deliveries_more : (net : Network) (journal : List Entry) (entry : Entry) → machine_deliveries net (journal ++ entry ∷ []) ≡ machine_deliveries net journal ++ firing_deliveries net entry

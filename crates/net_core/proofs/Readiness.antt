@@ -66,15 +66,15 @@ all_made way journal passed (x ∷ xs) h =
 
 -- the first that isn't made
 first_unmade : {X : Type 0} (way : X → Owed) (journal : List Entry) (ys zs : List X) (x : X)
-  → ((s : Party) (m : ℕ) → count_by (λ y. is_way s m (way y)) ys ≤ length (delivered s m journal))
-  → length (delivered (way x).from (way x).to journal) ≤ count_by (λ y. is_way (way x).from (way x).to (way y)) ys
-  → head_of (unmade way journal [] (ys ++ x ∷ zs)) ≡ Some x
+    → ((s : Party) (m : ℕ) → count_by (λ y. is_way s m (way y)) ys ≤ length (delivered s m journal))
+    → length (delivered (way x).from (way x).to journal) ≤ count_by (λ y. is_way (way x).from (way x).to (way y)) ys
+    → head_of (unmade way journal [] (ys ++ x ∷ zs)) ≡ Some x
 first_unmade way journal ys zs x made left =
     let not_made : is_made way journal ys (way x).from (way x).to ≡ false = le-ltb (count_by (λ y. is_way (way x).from (way x).to (way y)) ys) (length (delivered (way x).from (way x).to journal)) left in
     ap head_of
-      (unmade_append way journal [] ys (x ∷ zs)
-      ∙ ap (λ l. l ++ unmade way journal ys (x ∷ zs)) (all_made way journal [] ys made)
-      ∙ ap (λ b. keep_unless b x (unmade way journal (ys ++ x ∷ []) zs)) not_made)
+    (unmade_append way journal [] ys (x ∷ zs)
+    ∙ ap (λ l. l ++ unmade way journal ys (x ∷ zs)) (all_made way journal [] ys made)
+    ∙ ap (λ b. keep_unless b x (unmade way journal (ys ++ x ∷ []) zs)) not_made)
 
 -- ---- the trace's deliveries in two parts
 
@@ -114,8 +114,8 @@ places_split test n zero m (x ∷ xs) place h =
 places_split test n (suc i) m (x ∷ xs) place h = cases (test x) (places_split test (n + 1) i m xs (omega arith) h)
   where
     cases : (b : Bool)
-      → (before : List ℕ) × (after : List ℕ) × (places_from (n + 1) test xs ≡ before ++ m ∷ after) × (list_all (λ j. nat_lt j m) before ≡ true)
-      → (before : List ℕ) × (after : List ℕ) × (cond b (n ∷ places_from (n + 1) test xs) (places_from (n + 1) test xs) ≡ before ++ m ∷ after) × (list_all (λ j. nat_lt j m) before ≡ true)
+        → (before : List ℕ) × (after : List ℕ) × (places_from (n + 1) test xs ≡ before ++ m ∷ after) × (list_all (λ j. nat_lt j m) before ≡ true)
+        → (before : List ℕ) × (after : List ℕ) × (cond b (n ∷ places_from (n + 1) test xs) (places_from (n + 1) test xs) ≡ before ++ m ∷ after) × (list_all (λ j. nat_lt j m) before ≡ true)
     cases true (before, after, is, below) = (n ∷ before, after, ap (λ l. n ∷ l) is, and_from (nat_lt n m) (list_all (λ j. nat_lt j m) before) (lt-ltb n m (omega arith)) below)
     cases false rest = rest
 
@@ -123,9 +123,9 @@ receivers_split : (net : Network) (m e : ℕ) → reads net m e ≡ true → (be
 receivers_split net m e h =
     elim (slice_get_cases net.events e).1 [
       | inl (event, within, is, same) ↦
-        let receivers : receivers_of net e ≡ event.receivers = ap (λ (o : Option EventDecl). unwrap_or (option_map (λ event. event.receivers) o) []) is in
-        let split = places_split (λ machine. has machine.inputs e) 0 m m net.machines (omega arith) (reads_by_machine net m e ∙ h) in
-        (split.0, split.1, receivers ∙ receivers_are_readers net e event is ∙ split.2, split.3)
+          let receivers : receivers_of net e ≡ event.receivers = ap (λ (o : Option EventDecl). unwrap_or (option_map (λ event. event.receivers) o) []) is in
+          let split = places_split (λ machine. has machine.inputs e) 0 m m net.machines (omega arith) (reads_by_machine net m e ∙ h) in
+          (split.0, split.1, receivers ∙ receivers_are_readers net e event is ∙ split.2, split.3)
       | inr (past, none) ↦ absurd (let below = read_is_event net m e h in omega arith)
     ]
 
@@ -151,6 +151,7 @@ once_before net m e k before after is below = cases (nat_lt k m) refl
         one : (b : Bool) → length (cond b (k ∷ []) []) ≡ cond b 1 0
         one true = refl
         one false = refl
+
     cases : (b : Bool) → nat_lt k m ≡ b → length (filter (λ j. j == k) before) ≤ cond (b && reads net k e) 1 0
     cases true under = once
     cases false over = let none = ap length (none_above m k before below (ltb-false k m over)) in omega arith
@@ -182,11 +183,11 @@ no_machine_in_receivers s k e code settled (m ∷ receivers) = no_machine_in_rec
 
 -- all that stands before the delivery of an event to m is made
 front_made : (net : Network) (journal : List Entry) (front : List TraceItem) (m e code : ℕ) (settled : Bool) (before after : List ℕ)
-  → receivers_of net e ≡ before ++ m ∷ after
-  → list_all (λ j. nat_lt j m) before ≡ true
-  → ((k : ℕ) → reads_in net k front ≤ length (delivered Env k journal))
-  → ((k : ℕ) → k < m → reads net k e ≡ true → reads_in net k front < length (delivered Env k journal))
-  → (s : Party) (k : ℕ) → count_by (λ (p : Owed × Bool). is_way s k p.0) (trace_deliveries net false front ++ to_each e code settled before) ≤ length (delivered s k journal)
+    → receivers_of net e ≡ before ++ m ∷ after
+    → list_all (λ j. nat_lt j m) before ≡ true
+    → ((k : ℕ) → reads_in net k front ≤ length (delivered Env k journal))
+    → ((k : ℕ) → k < m → reads net k e ≡ true → reads_in net k front < length (delivered Env k journal))
+    → (s : Party) (k : ℕ) → count_by (λ (p : Owed × Bool). is_way s k p.0) (trace_deliveries net false front ++ to_each e code settled before) ≤ length (delivered s k journal)
 front_made net journal front m e code settled before after is below all earlier Env k =
     let sum = count_of_append (λ (p : Owed × Bool). is_way Env k p.0) (trace_deliveries net false front) (to_each e code settled before) in
     let left = count_in_trace net k false front in
@@ -196,12 +197,12 @@ front_made net journal front m e code settled before after is below all earlier 
     cases (nat_lt k m && reads net k e) refl few sum left right here
   where
     cases : (b : Bool) → (nat_lt k m && reads net k e) ≡ b
-      → length (filter (λ j. j == k) before) ≤ cond b 1 0
-      → count_by (λ (p : Owed × Bool). is_way Env k p.0) (trace_deliveries net false front ++ to_each e code settled before) ≡ count_by (λ (p : Owed × Bool). is_way Env k p.0) (trace_deliveries net false front) + count_by (λ (p : Owed × Bool). is_way Env k p.0) (to_each e code settled before)
-      → count_by (λ (p : Owed × Bool). is_way Env k p.0) (trace_deliveries net false front) ≡ reads_in net k front
-      → count_by (λ (p : Owed × Bool). is_way Env k p.0) (to_each e code settled before) ≡ length (filter (λ j. j == k) before)
-      → reads_in net k front ≤ length (delivered Env k journal)
-      → count_by (λ (p : Owed × Bool). is_way Env k p.0) (trace_deliveries net false front ++ to_each e code settled before) ≤ length (delivered Env k journal)
+        → length (filter (λ j. j == k) before) ≤ cond b 1 0
+        → count_by (λ (p : Owed × Bool). is_way Env k p.0) (trace_deliveries net false front ++ to_each e code settled before) ≡ count_by (λ (p : Owed × Bool). is_way Env k p.0) (trace_deliveries net false front) + count_by (λ (p : Owed × Bool). is_way Env k p.0) (to_each e code settled before)
+        → count_by (λ (p : Owed × Bool). is_way Env k p.0) (trace_deliveries net false front) ≡ reads_in net k front
+        → count_by (λ (p : Owed × Bool). is_way Env k p.0) (to_each e code settled before) ≡ length (filter (λ j. j == k) before)
+        → reads_in net k front ≤ length (delivered Env k journal)
+        → count_by (λ (p : Owed × Bool). is_way Env k p.0) (trace_deliveries net false front ++ to_each e code settled before) ≤ length (delivered Env k journal)
     cases true both few sum left right here =
         let parts = and_parts (nat_lt k m) (reads net k e) both in
         let under = earlier k (ltb-true k m parts.0) parts.1 in
@@ -209,9 +210,9 @@ front_made net journal front m e code settled before after is below all earlier 
     cases false both few sum left right here = omega arith
 front_made net journal front m e code settled before after is below all earlier (Sender s) k =
     let none : filter (λ (p : Owed × Bool). is_way (Sender s) k p.0) (trace_deliveries net false front ++ to_each e code settled before) ≡ [] =
-      filter-append (λ (p : Owed × Bool). is_way (Sender s) k p.0) (trace_deliveries net false front) (to_each e code settled before)
-      ∙ ap (λ l. l ++ filter (λ (p : Owed × Bool). is_way (Sender s) k p.0) (to_each e code settled before)) (no_machine_way net s k false front)
-      ∙ no_machine_in_receivers s k e code settled before in
+    filter-append (λ (p : Owed × Bool). is_way (Sender s) k p.0) (trace_deliveries net false front) (to_each e code settled before)
+    ∙ ap (λ l. l ++ filter (λ (p : Owed × Bool). is_way (Sender s) k p.0) (to_each e code settled before)) (no_machine_way net s k false front)
+    ∙ no_machine_in_receivers s k e code settled before in
     let size = length-filter (λ (p : Owed × Bool). is_way (Sender s) k p.0) (trace_deliveries net false front ++ to_each e code settled before) in
     let nothing = ap length none in
     omega arith
@@ -219,30 +220,34 @@ front_made net journal front m e code settled before after is below all earlier 
 -- Where all events before an item are delivered to all machines, and the item's event to each machine before m that reads it,
 -- but not to m, then its delivery to m is the first that is owed.
 first_of_env_behind : (net : Network) (journal : List Entry) (front rest : List TraceItem) (m e code : ℕ)
-  → reads net m e ≡ true
-  → ((k : ℕ) → reads_in net k front ≤ length (delivered Env k journal))
-  → ((k : ℕ) → k < m → reads net k e ≡ true → reads_in net k front < length (delivered Env k journal))
-  → length (delivered Env m journal) ≤ reads_in net m front
-  → head_of (owed_by_env net (front ++ Event e code ∷ rest) journal) ≡ Some (record { from = Env; to = m; event = e; code = code }, settled_behind false front)
+    → reads net m e ≡ true
+    → ((k : ℕ) → reads_in net k front ≤ length (delivered Env k journal))
+    → ((k : ℕ) → k < m → reads net k e ≡ true → reads_in net k front < length (delivered Env k journal))
+    → length (delivered Env m journal) ≤ reads_in net m front
+    → head_of (owed_by_env net (front ++ Event e code ∷ rest) journal) ≡ Some (record { from = Env; to = m; event = e; code = code }, settled_behind false front)
 first_of_env_behind net journal front rest m e code read all earlier left =
     ap (λ l. head_of (unmade (λ (p : Owed × Bool). p.0) journal [] l)) shape
     ∙ first_unmade (λ (p : Owed × Bool). p.0) journal (trace_deliveries net false front ++ to_each e code settled split.0) (to_each e code settled split.1 ++ trace_deliveries net false rest) here
-      (front_made net journal front m e code settled split.0 split.1 split.2 split.3 all earlier)
-      (let sum = count_of_append (λ (p : Owed × Bool). is_way Env m p.0) (trace_deliveries net false front) (to_each e code settled split.0) in
-       let some = count_in_trace net m false front in
-       omega arith)
+    (front_made net journal front m e code settled split.0 split.1 split.2 split.3 all earlier)
+    (let sum = count_of_append (λ (p : Owed × Bool). is_way Env m p.0) (trace_deliveries net false front) (to_each e code settled split.0) in
+    let some = count_in_trace net m false front in
+    omega arith)
   where
     settled : Bool
     settled = settled_behind false front
+
     here : Owed × Bool
     here = (record { from = Env; to = m; event = e; code = code }, settled)
+
     split : (before : List ℕ) × (after : List ℕ) × (receivers_of net e ≡ before ++ m ∷ after) × (list_all (λ j. nat_lt j m) before ≡ true)
     split = receivers_split net m e read
+
     parts : to_each e code settled (receivers_of net e) ≡ to_each e code settled split.0 ++ here ∷ to_each e code settled split.1
     parts =
         ap (to_each e code settled) split.2
         ∙ ap (map (λ d. (d, settled))) (map-append (λ k. let made : Owed = record { from = Env; to = k; event = e; code = code } in made) split.0 (m ∷ split.1))
         ∙ map-append (λ (d : Owed). (d, settled)) (map (λ k. record { from = Env; to = k; event = e; code = code }) split.0) (map (λ k. record { from = Env; to = k; event = e; code = code }) (m ∷ split.1))
+
     shape : trace_deliveries net false (front ++ Event e code ∷ rest) ≡ (trace_deliveries net false front ++ to_each e code settled split.0) ++ here ∷ (to_each e code settled split.1 ++ trace_deliveries net false rest)
     shape =
         deliveries_behind net false front (Event e code ∷ rest)
@@ -276,13 +281,13 @@ reads_past net k items past = ap length (no_reader net items Env k [] past)
 -- least, m being the first of those that have it, and the item there is an event that m reads and that isn't delivered to it,
 -- this is the first delivery that the environment owes, and it is held back exactly where the item before it is `settle`.
 pub first_of_env_at : (net : Network) (trace : List TraceItem) (journal : List Entry) (cursor : ℕ → ℕ) (m e code : ℕ)
-  → ((k i : ℕ) → k < length net.machines → i ≤ cursor k → reads_in net k (take i trace) ≤ length (delivered Env k journal))
-  → ((k : ℕ) → k < length net.machines → cursor m ≤ cursor k)
-  → ((k : ℕ) → k < m → cursor m < cursor k)
-  → slice_get trace (cursor m) ≡ Some (Event e code)
-  → reads net m e ≡ true
-  → length (delivered Env m journal) ≤ reads_in net m (take (cursor m) trace)
-  → head_of (owed_by_env net trace journal) ≡ Some (record { from = Env; to = m; event = e; code = code }, settled_at trace (cursor m))
+    → ((k i : ℕ) → k < length net.machines → i ≤ cursor k → reads_in net k (take i trace) ≤ length (delivered Env k journal))
+    → ((k : ℕ) → k < length net.machines → cursor m ≤ cursor k)
+    → ((k : ℕ) → k < m → cursor m < cursor k)
+    → slice_get trace (cursor m) ≡ Some (Event e code)
+    → reads net m e ≡ true
+    → length (delivered Env m journal) ≤ reads_in net m (take (cursor m) trace)
+    → head_of (owed_by_env net trace journal) ≡ Some (record { from = Env; to = m; event = e; code = code }, settled_at trace (cursor m))
 first_of_env_at net trace journal cursor m e code made least first is read left =
     ap (λ l. head_of (owed_by_env net l journal)) (split_at trace (cursor m) (Event e code) is)
     ∙ first_of_env_behind net journal (take (cursor m) trace) (drop (cursor m + 1) trace) m e code read all earlier left
@@ -293,8 +298,10 @@ first_of_env_at net trace journal cursor m e code made least first is read left 
       | inl below ↦ made k i below (within below)
       | inr past ↦ (let none = reads_past net k (take i trace) past in omega arith)
     ]
+
     all : (k : ℕ) → reads_in net k (take (cursor m) trace) ≤ length (delivered Env k journal)
     all k = upto_cursor k (cursor m) (least k)
+
     earlier : (k : ℕ) → k < m → reads net k e ≡ true → reads_in net k (take (cursor m) trace) < length (delivered Env k journal)
     earlier k under reader =
         let one = reads_in_more net k trace (cursor m) e code is ∙ ap (λ b. reads_in net k (take (cursor m) trace) + cond b 1 0) reader in

@@ -79,8 +79,8 @@ no_next net trace journal s m h =
     elim (cases_lt m (length net.machines)) [
       | inl below ↦ elim (cases_Bool (is_party net s)) [
         | inl party ↦
-          let all = h.all_delivered s m party below in
-          ap (λ l. slice_get (sent net trace s m journal) (length l)) all ∙ slice_get_past (sent net trace s m journal) (length (sent net trace s m journal)) (omega arith)
+            let all = h.all_delivered s m party below in
+            ap (λ l. slice_get (sent net trace s m journal) (length l)) all ∙ slice_get_past (sent net trace s m journal) (length (sent net trace s m journal)) (omega arith)
         | inr nobody ↦ ap (λ l. slice_get l (length (delivered s m journal))) (stranger s nobody)
       ]
       | inr past ↦ ap (λ l. slice_get l (length (delivered s m journal))) (no_reader net trace s m journal past)
@@ -120,8 +120,10 @@ least_passes p priority (k ∷ ms) m all h =
   where
     parts : (p k ≡ true) × (list_all p ms ≡ true)
     parts = and_parts (p k) (list_all p ms) all
+
     same_some : (a b : ℕ) → Some a ≡ Some b → a ≡ b
     same_some a b e = cc
+
     either : (b : Bool) (j : ℕ) → p j ≡ true → cond b (Some j) (Some k) ≡ Some m → p m ≡ true
     either true j passed e = subst (λ i. p i ≡ true) (same_some j m e) passed
     either false j passed e = subst (λ i. p i ≡ true) (same_some k m e) parts.0
@@ -160,6 +162,7 @@ all_of_filter p q (m ∷ ms) h = cases (p m) refl (all_of_filter p q ms parts.1)
   where
     parts : (q m ≡ true) × (list_all q ms ≡ true)
     parts = and_parts (q m) (list_all q ms) h
+
     cases : (b : Bool) → p m ≡ b → list_all (λ m. p m && q m) (filter p ms) ≡ true → list_all (λ m. p m && q m) (cond b (m ∷ filter p ms) (filter p ms)) ≡ true
     cases true is rest = and_from (p m && q m) (list_all (λ m. p m && q m) (filter p ms)) (and_from (p m) (q m) is parts.0) rest
     cases false is rest = rest
@@ -185,46 +188,61 @@ stop_parts None (Some (d, true)) None h = cc
 stop_parts None None None h = (refl, refl, refl)
 
 all_of_way : {X : Type 0} (way : X → Owed) (net : Network) (trace : List TraceItem) (journal : List Entry) (s : Party) (m : ℕ) (xs : List X)
-  → Legal net trace journal
-  → map (λ x. event_code (way x)) (filter (λ x. is_way s m (way x)) xs) ≡ sent net trace s m journal
-  → unmade way journal [] xs ≡ []
-  → delivered s m journal ≡ sent net trace s m journal
+    → Legal net trace journal
+    → map (λ x. event_code (way x)) (filter (λ x. is_way s m (way x)) xs) ≡ sent net trace s m journal
+    → unmade way journal [] xs ≡ []
+    → delivered s m journal ≡ sent net trace s m journal
 all_of_way way net trace journal s m xs legal ways none =
     let left : drop (length (delivered s m journal)) (filter (λ x. is_way s m (way x)) xs) ≡ [] = sym (owed_of_way way s m journal xs) ∙ ap (filter (λ x. is_way s m (way x))) none in
     let nothing = sym (length-drop (length (delivered s m journal)) (filter (λ x. is_way s m (way x)) xs)) ∙ ap length left in
     let long = ap length (sym ways) ∙ length-map (filter (λ x. is_way s m (way x)) xs) (λ x. event_code (way x)) in
     begins_all (delivered s m journal) (sent net trace s m journal) (delivered_begins_sent net trace s m journal legal) (omega arith)
 
-stopped_is_complete : (net : Network) (trace : List TraceItem) (journal : List Entry) → Legal net trace journal → pick net trace journal ≡ Stop → Complete net trace journal
-stopped_is_complete net trace journal legal h =
-    let parts = stop_parts (head_of (owed_by_machines net journal)) (head_of (owed_by_env net trace journal)) (first_woken net journal) h in
+-- what it takes for a journal to be complete
+abbrev pub OwesNothing : Network → List TraceItem → List Entry → Type 0
+OwesNothing net trace journal =
+    (head_of (owed_by_machines net journal) ≡ None)
+    × (head_of (owed_by_env net trace journal) ≡ None)
+    × ((m : ℕ) → m < length net.machines → is_woken journal m ≡ false)
+
+pub owing_nothing_is_complete : (net : Network) (trace : List TraceItem) (journal : List Entry) → Legal net trace journal → OwesNothing net trace journal → Complete net trace journal
+owing_nothing_is_complete net trace journal legal (machines, env, woken) =
     record {
-      all_delivered = λ s m party below. delivered_by s m (nil_from_head (owed_by_machines net journal) parts.0) (nil_from_head (owed_by_env net trace journal) parts.1);
-      none_woken = none_woken_is net journal parts.2;
+      all_delivered = λ s m party below. delivered_by s m (nil_from_head (owed_by_machines net journal) machines) (nil_from_head (owed_by_env net trace journal) env);
+      none_woken = woken;
     }
   where
     delivered_by : (s : Party) (m : ℕ) → owed_by_machines net journal ≡ [] → owed_by_env net trace journal ≡ [] → delivered s m journal ≡ sent net trace s m journal
     delivered_by Env m machines env = all_of_way (λ (p : Owed × Bool). p.0) net trace journal Env m (trace_deliveries net false trace) legal (env_ways net trace m journal) env
     delivered_by (Sender k) m machines env = all_of_way (λ d. d) net trace journal (Sender k) m (machine_deliveries net journal) legal (machine_ways net trace k m journal) machines
 
-complete_is_stopped : (net : Network) (trace : List TraceItem) (journal : List Entry) → Legal net trace journal → Complete net trace journal → pick net trace journal ≡ Stop
-complete_is_stopped net trace journal legal complete =
-    ap (λ (a : Option Owed). first_pick a (head_of (owed_by_env net trace journal)) (first_woken net journal)) machines
-    ∙ ap (λ (b : Option (Owed × Bool)). first_pick None b (first_woken net journal)) env
-    ∙ ap (λ (c : Option ℕ). first_pick None None c) woken
+pub complete_is_owing_nothing : (net : Network) (trace : List TraceItem) (journal : List Entry) → Legal net trace journal → Complete net trace journal → OwesNothing net trace journal
+complete_is_owing_nothing net trace journal legal complete = (machines, env, complete.none_woken)
   where
     machines : head_of (owed_by_machines net journal) ≡ None
     machines = elim (head_of (owed_by_machines net journal)) as (λ (o : Option Owed). head_of (owed_by_machines net journal) ≡ o → o ≡ None) [
       | None ↦ λ is. refl
       | Some d ↦ λ is. absurd (complete_owes_nothing net trace journal d.from d.to d.event d.code legal complete (first_of_machines_may_follow net trace journal d legal is))
     ] refl
+
     env : head_of (owed_by_env net trace journal) ≡ None
     env = elim (head_of (owed_by_env net trace journal)) as (λ (o : Option (Owed × Bool)). head_of (owed_by_env net trace journal) ≡ o → o ≡ None) [
       | None ↦ λ is. refl
       | Some p ↦ λ is. absurd (complete_owes_nothing net trace journal (p.0).from (p.0).to (p.0).event (p.0).code legal complete (first_of_env_may_follow net trace journal p legal is))
     ] refl
-    woken : first_woken net journal ≡ None
-    woken = ap (least (priority_of net)) (below_none (is_woken journal) (length net.machines) complete.none_woken)
+
+stopped_is_complete : (net : Network) (trace : List TraceItem) (journal : List Entry) → Legal net trace journal → pick net trace journal ≡ Stop → Complete net trace journal
+stopped_is_complete net trace journal legal h =
+    let parts = stop_parts (head_of (owed_by_machines net journal)) (head_of (owed_by_env net trace journal)) (first_woken net journal) h in
+    owing_nothing_is_complete net trace journal legal (parts.0, parts.1, none_woken_is net journal parts.2)
+
+complete_is_stopped : (net : Network) (trace : List TraceItem) (journal : List Entry) → Legal net trace journal → Complete net trace journal → pick net trace journal ≡ Stop
+complete_is_stopped net trace journal legal complete =
+    let parts = complete_is_owing_nothing net trace journal legal complete in
+    let woken : first_woken net journal ≡ None = ap (least (priority_of net)) (below_none (is_woken journal) (length net.machines) parts.2) in
+    ap (λ (a : Option Owed). first_pick a (head_of (owed_by_env net trace journal)) (first_woken net journal)) parts.0
+    ∙ ap (λ (b : Option (Owed × Bool)). first_pick None b (first_woken net journal)) parts.1
+    ∙ ap (λ (c : Option ℕ). first_pick None None c) woken
 
 pub stops_where_complete : (net : Network) (trace : List TraceItem) (journal : List Entry) → Legal net trace journal → (pick net trace journal ≡ Stop) ↔ Complete net trace journal
 stops_where_complete net trace journal legal = (stopped_is_complete net trace journal legal, complete_is_stopped net trace journal legal)
@@ -236,12 +254,12 @@ reaction_may_follow net trace journal m entry first (o, is, transition) =
     subst (MayFollow net trace journal) (sym is) ((first_woken_is net journal m first).0, refl, transition)
 
 picked_by_parts : (net : Network) (trace : List TraceItem) (journal : List Entry) (entry : Entry) (a : Option Owed) (b : Option (Owed × Bool)) (c : Option ℕ)
-  → Legal net trace journal
-  → head_of (owed_by_machines net journal) ≡ a
-  → head_of (owed_by_env net trace journal) ≡ b
-  → first_woken net journal ≡ c
-  → IsPicked net journal (first_pick a b c) entry
-  → MayFollow net trace journal entry
+    → Legal net trace journal
+    → head_of (owed_by_machines net journal) ≡ a
+    → head_of (owed_by_env net trace journal) ≡ b
+    → first_woken net journal ≡ c
+    → IsPicked net journal (first_pick a b c) entry
+    → MayFollow net trace journal entry
 picked_by_parts net trace journal entry (Some d) b c legal machines env woken is = subst (MayFollow net trace journal) (sym is) (first_of_machines_may_follow net trace journal d legal machines)
 picked_by_parts net trace journal entry None (Some (d, false)) c legal machines env woken is = subst (MayFollow net trace journal) (sym is) (first_of_env_may_follow net trace journal (d, false) legal env)
 picked_by_parts net trace journal entry None (Some (d, true)) (Some m) legal machines env woken is = reaction_may_follow net trace journal m entry woken is

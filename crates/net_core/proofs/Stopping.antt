@@ -198,23 +198,26 @@ all_of_way way net trace journal s m xs legal ways none =
     let long = ap length (sym ways) ∙ length-map (filter (λ x. is_way s m (way x)) xs) (λ x. event_code (way x)) in
     begins_all (delivered s m journal) (sent net trace s m journal) (delivered_begins_sent net trace s m journal legal) (omega arith)
 
-stopped_is_complete : (net : Network) (trace : List TraceItem) (journal : List Entry) → Legal net trace journal → pick net trace journal ≡ Stop → Complete net trace journal
-stopped_is_complete net trace journal legal h =
-    let parts = stop_parts (head_of (owed_by_machines net journal)) (head_of (owed_by_env net trace journal)) (first_woken net journal) h in
+-- what it takes for a journal to be complete
+abbrev pub OwesNothing : Network → List TraceItem → List Entry → Type 0
+OwesNothing net trace journal =
+    (head_of (owed_by_machines net journal) ≡ None)
+    × (head_of (owed_by_env net trace journal) ≡ None)
+    × ((m : ℕ) → m < length net.machines → is_woken journal m ≡ false)
+
+pub owing_nothing_is_complete : (net : Network) (trace : List TraceItem) (journal : List Entry) → Legal net trace journal → OwesNothing net trace journal → Complete net trace journal
+owing_nothing_is_complete net trace journal legal (machines, env, woken) =
     record {
-      all_delivered = λ s m party below. delivered_by s m (nil_from_head (owed_by_machines net journal) parts.0) (nil_from_head (owed_by_env net trace journal) parts.1);
-      none_woken = none_woken_is net journal parts.2;
+      all_delivered = λ s m party below. delivered_by s m (nil_from_head (owed_by_machines net journal) machines) (nil_from_head (owed_by_env net trace journal) env);
+      none_woken = woken;
     }
   where
     delivered_by : (s : Party) (m : ℕ) → owed_by_machines net journal ≡ [] → owed_by_env net trace journal ≡ [] → delivered s m journal ≡ sent net trace s m journal
     delivered_by Env m machines env = all_of_way (λ (p : Owed × Bool). p.0) net trace journal Env m (trace_deliveries net false trace) legal (env_ways net trace m journal) env
     delivered_by (Sender k) m machines env = all_of_way (λ d. d) net trace journal (Sender k) m (machine_deliveries net journal) legal (machine_ways net trace k m journal) machines
 
-complete_is_stopped : (net : Network) (trace : List TraceItem) (journal : List Entry) → Legal net trace journal → Complete net trace journal → pick net trace journal ≡ Stop
-complete_is_stopped net trace journal legal complete =
-    ap (λ (a : Option Owed). first_pick a (head_of (owed_by_env net trace journal)) (first_woken net journal)) machines
-    ∙ ap (λ (b : Option (Owed × Bool)). first_pick None b (first_woken net journal)) env
-    ∙ ap (λ (c : Option ℕ). first_pick None None c) woken
+pub complete_is_owing_nothing : (net : Network) (trace : List TraceItem) (journal : List Entry) → Legal net trace journal → Complete net trace journal → OwesNothing net trace journal
+complete_is_owing_nothing net trace journal legal complete = (machines, env, complete.none_woken)
   where
     machines : head_of (owed_by_machines net journal) ≡ None
     machines = elim (head_of (owed_by_machines net journal)) as (λ (o : Option Owed). head_of (owed_by_machines net journal) ≡ o → o ≡ None) [
@@ -228,8 +231,18 @@ complete_is_stopped net trace journal legal complete =
       | Some p ↦ λ is. absurd (complete_owes_nothing net trace journal (p.0).from (p.0).to (p.0).event (p.0).code legal complete (first_of_env_may_follow net trace journal p legal is))
     ] refl
 
-    woken : first_woken net journal ≡ None
-    woken = ap (least (priority_of net)) (below_none (is_woken journal) (length net.machines) complete.none_woken)
+stopped_is_complete : (net : Network) (trace : List TraceItem) (journal : List Entry) → Legal net trace journal → pick net trace journal ≡ Stop → Complete net trace journal
+stopped_is_complete net trace journal legal h =
+    let parts = stop_parts (head_of (owed_by_machines net journal)) (head_of (owed_by_env net trace journal)) (first_woken net journal) h in
+    owing_nothing_is_complete net trace journal legal (parts.0, parts.1, none_woken_is net journal parts.2)
+
+complete_is_stopped : (net : Network) (trace : List TraceItem) (journal : List Entry) → Legal net trace journal → Complete net trace journal → pick net trace journal ≡ Stop
+complete_is_stopped net trace journal legal complete =
+    let parts = complete_is_owing_nothing net trace journal legal complete in
+    let woken : first_woken net journal ≡ None = ap (least (priority_of net)) (below_none (is_woken journal) (length net.machines) parts.2) in
+    ap (λ (a : Option Owed). first_pick a (head_of (owed_by_env net trace journal)) (first_woken net journal)) parts.0
+    ∙ ap (λ (b : Option (Owed × Bool)). first_pick None b (first_woken net journal)) parts.1
+    ∙ ap (λ (c : Option ℕ). first_pick None None c) woken
 
 pub stops_where_complete : (net : Network) (trace : List TraceItem) (journal : List Entry) → Legal net trace journal → (pick net trace journal ≡ Stop) ↔ Complete net trace journal
 stops_where_complete net trace journal legal = (stopped_is_complete net trace journal legal, complete_is_stopped net trace journal legal)

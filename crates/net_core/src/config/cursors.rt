@@ -1,6 +1,7 @@
 // For each machine the place of the next event item that it reads and that isn't delivered to it.
-ghost use Rattle.std.specs.Prelude.{◌≡◌, ◌<◌, ◌≤◌, ◌+◌, not, length, drop, map, [], IfOk, IsTrue};
-ghost use Rattle.std.specs.List.{prefix_len};
+ghost use Rattle.std.specs.Prelude.{◌≡◌, ◌<◌, ◌≤◌, ◌+◌, not, length, drop, map, [], IfOk, IsTrue, ◌↔◌, ◌-◌, nat_lt, slice_get, Some};
+ghost use Rattle.std.specs.List.{prefix_len, IsFirstBest};
+ghost use Rattle.net_core.specs.declared.entry.TraceItem.TheVariants.{Settle};
 ghost use Rattle.polis_base.specs.Lists.{upto};
 ghost use Rattle.transition_table.specs.NetworkFacts.{has};
 ghost use Rattle.net_core.specs.Tables.{is_read, nth_place};
@@ -50,4 +51,32 @@ pub(crate) fn first_cursors(alloc: Global, net: &Network, trace: &Trace) -> Resu
         cursors.push(next_read(net, trace, m as u32, 0))?;
     }
     Ok(cursors)
+}
+
+// The first machine of those whose cursor is least.
+pub(crate) fn first_least(cursors: &[u64]) -> usize
+    requires { 0 < length cursors.now }
+    ensures { IsFirstBest nat_lt cursors.now (length cursors.now) result }
+{
+    let mut best = 0;
+    for m in 1..cursors.len() {
+        if cursors[m] < cursors[best] {
+            best = m;
+        }
+    }
+    best
+}
+
+// The item before a place is `settle`.
+pub(crate) fn is_settled(trace: &Trace, place: u64) -> bool
+    requires { place ≤ length trace.now }
+    ensures { IsTrue result ↔ ((0 < place) × (slice_get trace.now (place - 1) ≡ Some Settle)) }
+{
+    if place == 0 {
+        return false;
+    }
+    match *trace.get(place - 1) {
+        TraceItem::Settle => true,
+        TraceItem::Event { .. } => false,
+    }
 }

@@ -26,10 +26,10 @@ is_run : (run : RunWords) (files : Files) (net : Network) (trace : List TraceIte
 is_run run files net trace texts h t = record {
   holds_net = h.0;
   holds_trace = h.1;
-  within = t.within;
-  legal = t.legal;
-  scheduled = t.scheduled;
-  ends = t.ends;
+  within = t.finished.within;
+  legal = t.finished.legal;
+  scheduled = t.finished.scheduled;
+  ends = t.finished.ends;
 }
 
 same_savings : (run : RunWords) (net : Network) (trace : List TraceItem) (texts : Texts) (t : AreTexts run net trace texts)
@@ -91,7 +91,7 @@ ran a b shown_before shown_now words run net trace texts status rose asks held t
           journal = t.entries;
           complete = texts.complete;
           made = is_run run before net trace texts h t;
-          ends = ends_at texts.complete status net trace t.entries run.limit s t.ends t.limited;
+          ends = ends_at texts.complete status net trace t.entries run.limit s t.finished.ends t.finished.limited;
           journal_saved = ap (λ files. bytes_at files jnl) same ∙ held_there (insert before out outs) jnl entries;
           outputs_saved = ap (λ files. bytes_at files out) same ∙ held_elsewhere (insert before out outs) jnl entries out (endings_differ run.stem) ∙ held_there before out outs;
           summary_shown = changes_from shown_before shown_now _ _ summary shown;

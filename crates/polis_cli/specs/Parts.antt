@@ -16,14 +16,18 @@ use Rattle.polis_cli.specs.declared.failure.Failure.{Failure}
 use Rattle.polis_cli.specs.declared.status.Status.{Status}
 use Rattle.polis_cli.specs.declared.status.Status.TheVariants.{Done, Limit, WriteFault, NoMemory}
 
+-- the scheduler's journal of at most so many entries, with whether it is complete; where it isn't it has that many
+pub record IsFinished (net : Network) (trace : List TraceItem) (limit : ℕ) (journal : List Entry) (complete : Bool) : Type 0 where
+  pub within : length journal ≤ limit
+  pub legal : Legal net trace journal
+  pub scheduled : IsSchedule net trace limit journal
+  pub ends : IsTrue complete ↔ Complete net trace journal
+  pub limited : complete ≡ false → length journal ≡ limit
+
 -- the texts of the scheduler's run within the limit, the names that they are saved under, and the lines for savings that fail
 pub record AreTexts (run : RunWords) (net : Network) (trace : List TraceItem) (texts : Texts) : Type 0 where
   pub entries : List Entry
-  pub within : length entries ≤ run.limit
-  pub legal : Legal net trace entries
-  pub scheduled : IsSchedule net trace run.limit entries
-  pub ends : IsTrue texts.complete ↔ Complete net trace entries
-  pub limited : texts.complete ≡ false → length entries ≡ run.limit
+  pub finished : IsFinished net trace run.limit entries texts.complete
   pub outputs_are : texts.outputs ≡ output_text net entries
   pub journal_is : texts.journal ≡ journal_text net entries texts.complete
   pub summary_is : texts.summary ≡ summary_text net entries texts.complete 0 0

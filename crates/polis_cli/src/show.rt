@@ -54,8 +54,8 @@ fn kind_text(kind: TraceKind) -> &'static [u8]
     }
 }
 
-// A text with three parts.
-fn joined(alloc: Global, first: &[u8], name: &str, last: &[u8]) -> Result<Bytes, NoMemory>
+/// A text with three parts.
+pub fn joined(alloc: Global, first: &[u8], name: &str, last: &[u8]) -> Result<Bytes, NoMemory>
     ensures { IfOk result (λ line. line ≡ first.now ++ name.now ++ last.now) }
 {
     let mut line = Bytes::new(alloc);

@@ -64,7 +64,7 @@ find_nothing p [] none = refl
 find_nothing p (x ∷ xs) none = rw (none 0 x (omega arith)) (find_nothing p xs (λ k d h. none (suc k) d (omega arith)))
 
 -- what the place of the first that passes says
-at_position : {X : Type 0} (p : X → Bool) (xs : List X) (P : Type 0) (Q : ℕ → Type 0) → MatchOption (position p xs) P Q
+pub at_position : {X : Type 0} (p : X → Bool) (xs : List X) (P : Type 0) (Q : ℕ → Type 0) → MatchOption (position p xs) P Q
     → ((P × (length xs ≤ position_or_len p xs)) ⊎ (Q (position_or_len p xs) × (position_or_len p xs < length xs)))
 at_position p xs P Q h = (elim (nat_lt (position_or_len p xs) (length xs)) as (λ b. nat_lt (position_or_len p xs) (length xs) ≡ b → MatchOption (cond b (Some (position_or_len p xs)) None) P Q → ((P × (length xs ≤ position_or_len p xs)) ⊎ (Q (position_or_len p xs) × (position_or_len p xs < length xs)))) [
   | true ↦ λ e g. inr (g, ltb-true (position_or_len p xs) (length xs) e)

@@ -1,2 +1,3 @@
 pub mod Ordered
 pub mod Woken
+pub mod Steps

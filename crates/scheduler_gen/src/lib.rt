@@ -2,8 +2,12 @@
 #![tactic(auto)]
 
 mod machines;
+mod next;
 mod order;
+mod run;
 
 pub use machines::Plan;
 pub use net_core::Pick;
+pub use next::pick;
 pub use order::plan;
+pub use run::{Finished, complete};

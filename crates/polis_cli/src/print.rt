@@ -5,6 +5,8 @@ ghost use Rattle.transition_table.specs.Transitions.{IsSnapshot};
 ghost use Rattle.net_core.specs.Journals.{IsJournal, IsOutcome, FitsNetwork, is_event_code, is_party, emitted, emissions};
 ghost use Rattle.polis_cli.specs.Texts.{journal_text, output_text, summary_text, count_text, entry_line, delivery_text, reaction_text, snapshot_text, result_text, event_item, event_items, state_item, state_items, set_items, spaced, value_part, machine_name, party_name, lead, end_mark, are_event_codes, are_values, are_settings, state_size, output_lines};
 
+mod worked;
+
 use net_core::{Entry, Journal, lost};
 use polis_base::{Bytes, NoMemory};
 use std::alloc::Global;

@@ -8,5 +8,6 @@ pub mod Memory
 pub mod NameFields
 pub mod Names
 pub mod Saves
+pub mod Spans
 pub mod TokenSamples
 pub mod Tokens

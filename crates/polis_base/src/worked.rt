@@ -20,5 +20,4 @@ pub fn worked_tokens()
     ensures first_fault { Fails (codes "a % 4294967296") (LexError.BadByte 2) }
     ensures comment_ends_at_lf { Reads (comment_then 10) behind_comment }
     ensures comment_goes_over_cr { Reads (comment_then 13) [] }
-{
-}
+{}

@@ -9,15 +9,11 @@ use crate::load::Inputs;
 use crate::print::{print_journal, print_outputs, print_summary};
 use crate::show::joined;
 use crate::write::Texts;
-use net_core::Journal;
+use net_core::{Journal, laws};
 use polis_base::{Bytes, NoMemory};
+use scheduler_gen::{Finished, complete, plan};
 use std::alloc::Global;
-
-#[derive(Drop)]
-pub struct Finished {
-    pub journal: Journal,
-    pub complete: bool,
-}
+use transition_table::TableReactor;
 
 // The scheduler's journal of at most so many entries.
 fn finish(alloc: Global, inputs: &Inputs, limit: u64) -> Result<Finished, NoMemory>
@@ -25,7 +21,14 @@ fn finish(alloc: Global, inputs: &Inputs, limit: u64) -> Result<Finished, NoMemo
     requires deterministic { AreDeterministic inputs.now.net }
     ensures { IfOk result (λ finished. IsFinished inputs.now.net inputs.now.trace limit finished.journal finished.complete) }
 {
-    Err(NoMemory)
+    laws();
+    let net = &inputs.net;
+    let plan = plan(alloc, net)?;
+    let reactor = TableReactor::new(net);
+    match complete(alloc, &plan, &reactor, &inputs.trace, Journal::new(alloc), limit) {
+        Ok(finished) => Ok(finished),
+        Err(NoMemory) => Err(NoMemory),
+    }
 }
 
 fn with_ending(alloc: Global, stem: &str, ending: &str) -> Result<String, NoMemory>

@@ -30,7 +30,7 @@ run_sized p c rest passes =
     let le = prefix_len-le-length p rest in
     (omega arith, omega arith)
 
-begins_continues : (c : ℕ) → begins_name c ≡ true → continues_name c ≡ true
+pub begins_continues : (c : ℕ) → begins_name c ≡ true → continues_name c ≡ true
 begins_continues c begins = rw begins refl
 
 word_sized : (at n : ℕ) (word : List ℕ) → 0 < length word → length word ≤ n → Sized n (word_front at word)

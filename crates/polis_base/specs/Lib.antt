@@ -1,4 +1,5 @@
 pub mod Digits
+pub mod Faults
 pub mod Held
 pub mod Host
 pub mod Keywords
@@ -7,4 +8,6 @@ pub mod Memory
 pub mod NameFields
 pub mod Names
 pub mod Saves
+pub mod Spans
+pub mod TokenSamples
 pub mod Tokens

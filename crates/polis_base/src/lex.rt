@@ -1,10 +1,11 @@
 // Cutting a network text into tokens.
 ghost use Rattle.std.specs.Prelude.{◌≡◌, ◌≢◌, ◌+◌, ◌<◌, ◌≤◌, ◌==◌, not, length, drop, Ok, Err, IfOk};
-ghost use Rattle.std.specs.List.{prefix_len};
+ghost use Rattle.std.specs.List.{prefix_len, All};
 ghost use Rattle.polis_base.specs.declared.token.LexError.{LexError};
 ghost use Rattle.polis_base.specs.Names.{continues_name};
 ghost use Rattle.polis_base.specs.Digits.{is_digit};
 ghost use Rattle.polis_base.specs.Tokens.{tokens_of, front, word_front, number_front, sign_front, begins_with, is_blank, bytes_in};
+ghost use Rattle.polis_base.specs.Spans.{IsToken, AreInOrder};
 
 use crate::decimal::{is_digit, number_up_to};
 use crate::keyword::keyword_of;
@@ -124,6 +125,8 @@ fn front_at(text: &[u8], at: usize) -> Front
 /// The tokens of a text: at each place the longest.
 pub fn tokens(alloc: Global, text: &[u8]) -> Result<Tokens, LexError>
     ensures ok { IfOk result (λ tokens. tokens_of text.now ≡ Ok tokens) }
+    ensures spans { IfOk result (λ tokens. All (IsToken text.now) tokens) }
+    ensures order { IfOk result (λ tokens. AreInOrder 0 tokens) }
     ensures fault { (fault : LexError) → result ≡ Err fault → fault ≢ LexError.NoMemory → tokens_of text.now ≡ Err fault }
 {
     let mut made = List::new(alloc);

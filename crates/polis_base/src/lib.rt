@@ -9,8 +9,12 @@ mod lex;
 mod list;
 mod memory;
 mod name;
+mod std_host;
+#[cfg(test)]
+mod tests;
 mod token;
 mod words;
+mod worked;
 
 pub use bytes::Bytes;
 pub use decimal::read_decimal;
@@ -19,8 +23,10 @@ pub use lex::tokens;
 pub use list::{Duplicate, List, Numbers, Places};
 pub use memory::MemoryHost;
 pub use name::Name;
+pub use std_host::StdHost;
 pub use token::{Keyword, Kind, LexError, Sign, Token, Tokens};
 pub use words::Words;
+pub use worked::worked_tokens;
 
 /// Memory was wanting. It is the one free answer, and is merged with no other.
 #[derive(Clone, Copy, Debug, PartialEq, Eq)]

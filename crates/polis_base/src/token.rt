@@ -3,6 +3,7 @@ ghost use Rattle.std.specs.Prelude.{◌≡◌, ◌<◌, length, slice_get, Some}
 
 use crate::list::List;
 use std::marker::Model;
+use thiserror::Error;
 
 /// A word that is no name.
 #[derive(Clone, Copy, Debug, PartialEq, Eq)]
@@ -59,16 +60,21 @@ pub struct Token {
     pub len: u64,
 }
 
-/// Why a text has no tokens, with the place of the first byte of the first token that doesn't read.
-#[derive(Clone, Copy, Debug, PartialEq, Eq)]
+/// Why a text has no tokens, with the place of the first byte of the first token that doesn't read. The message is
+/// the variant's name.
+#[derive(Clone, Copy, Debug, PartialEq, Eq, Error)]
 pub enum LexError {
     /// No token begins with this byte.
+    #[error("BadByte")]
     BadByte(u64),
     /// A word of more than 24 bytes.
+    #[error("NameTooLong")]
     NameTooLong(u64),
     /// A number above 4,294,967,295.
+    #[error("NumberTooLarge")]
     NumberTooLarge(u64),
     /// Memory was wanting.
+    #[error("NoMemory")]
     NoMemory,
 }
 

@@ -2,7 +2,8 @@ use Rattle.std.proofs.Common.{◌≡◌, true, Ok, Err, sym, ◌∙◌}
 use Rattle.std.specs.Prelude.{Result, OnOk}
 use Rattle.std.specs.Result.{is_ok}
 use Rattle.std.proofs.lemmas.Bool.{false≢true}
-use Rattle.polis_base.proofs.Reading.{skipped_more, read_more}
+use Rattle.polis_base.proofs.Reading.{all_read, skipped_more, read_more}
+use Rattle.polis_base.proofs.Spans.{tokens_lie, tokens_in_order}
 use Rattle.polis_base.proofs.lex.tokens.Goals as goal
 
 pub loop-at-preserved-in-Skipped : goal.loop-at-preserved-in-Skipped
@@ -19,3 +20,15 @@ loop-at-preserved c =
     let h = read_more c.loop-at.made c.loop-at.at c.in-Read.len c.in-Read.kind c.args.text.now (sym c.in-Read.ensures.front) c.loop-at-test.true c.in-Read.ensures.some in
     let pushed = taken c.push.result _ c.if-is_err.ensures.negation c.push.ensures.ok in
     record { within = c.in-Read.ensures.within; same = rw pushed (sym h ∙ c.loop-at.invariant.same) }
+
+pub returns-clause-spans : goal.returns-clause-spans
+returns-clause-spans c =
+    let text = c.args.text.now in
+    let read = sym c.loop-at.invariant.same ∙ all_read c.loop-at.made c.loop-at.at text c.loop-at-test.false in
+    rw c.of.ensures (tokens_lie text c.loop-at.made read)
+
+pub returns-clause-order : goal.returns-clause-order
+returns-clause-order c =
+    let text = c.args.text.now in
+    let read = sym c.loop-at.invariant.same ∙ all_read c.loop-at.made c.loop-at.at text c.loop-at-test.false in
+    rw c.of.ensures (tokens_in_order text c.loop-at.made read)

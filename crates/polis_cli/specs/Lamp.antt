@@ -1,5 +1,5 @@
 -- The one form of network text that is read so far, and its traces.
-use Rattle.std.specs.Prelude.{◌≡◌, ℕ, ◌+◌, ◌^◌, ◌≤◌, true, false, List, [], ◌∷◌, ◌++◌, map, length, take, drop, slice_get, option_map, unwrap_or, replicate, flat_map, Some, None, Ok, IsTrue}
+use Rattle.std.specs.Prelude.{◌≡◌, ℕ, ◌+◌, ◌^◌, ◌≤◌, List, [], ◌∷◌, ◌++◌, map, length, take, drop, slice_get, option_map, unwrap_or, replicate, flat_map, Some, Ok, IsTrue}
 use Rattle.polis_base.specs.declared.token.Keyword.TheVariants.{KwNetwork, KwVersion, KwDomain, KwEvent, KwMachine, KwFrom, KwTo, KwEnv, KwPriority, KwInput, KwOutput, KwState, KwWhen, KwDo, KwEmit}
 use Rattle.polis_base.specs.declared.token.Sign.TheVariants.{Equal, Assign, Colon, Comma, LeftBrace, RightBrace}
 use Rattle.polis_base.specs.declared.token.Kind.{Kind}
@@ -8,7 +8,6 @@ use Rattle.polis_base.specs.declared.token.Token.{Token}
 use Rattle.polis_base.specs.Tokens.{tokens_of}
 use Rattle.domains.specs.Names.{AreValues, are_distinct}
 use Rattle.domains.specs.declared.domain.Domain.TheVariants.{Names}
-use Rattle.transition_table.specs.declared.decl.Party.TheVariants.{Env, Machine as Sender}
 use Rattle.transition_table.specs.declared.row.Row.{Row}
 use Rattle.transition_table.specs.declared.machine.Machine.{Machine}
 use Rattle.transition_table.specs.declared.network.Network.{Network}
@@ -18,6 +17,7 @@ use Rattle.net_core.specs.declared.entry.TraceItem.TheVariants.{Event}
 use Rattle.polis_cli.specs.declared.lamp.Lexeme.{Lexeme}
 use Rattle.polis_cli.specs.declared.lamp.Lexeme.TheVariants.{Keyword, Name, Number, Sign}
 use Rattle.polis_cli.specs.declared.lamp.Lamp.{Lamp}
+use Rattle.polis_cli.specs.LampParts.{AreEventsOf}
 
 -- what a token of this kind is, where these are its bytes
 abbrev pub lexeme_of_kind : Kind → List ℕ → Lexeme
@@ -107,7 +107,7 @@ pub record IsMachineOf (lamp : Lamp) (init from to : ℕ) (m : Machine) : Type 0
 pub record IsNetworkOf (lamp : Lamp) (net : Network) : Type 0 where
   pub name : net.name ≡ lamp.network
   pub domains : net.domains ≡ Names lamp.values ∷ []
-  pub events : net.events ≡ record { name = lamp.input; domain = None; sender = Env; to_env = false; receivers = 0 ∷ [] } ∷ record { name = lamp.output; domain = None; sender = Sender 0; to_env = true; receivers = [] } ∷ []
+  pub events : AreEventsOf lamp net.events
   pub init : ℕ
   pub init_is : IsValue lamp lamp.init init
   pub from : ℕ

@@ -1,5 +1,11 @@
--- Parts of a lamp's tokens.
-use Rattle.std.specs.Prelude.{ℕ, List, Option, Some, None}
+-- Parts of a lamp.
+use Rattle.std.specs.Prelude.{◌≡◌, ℕ, ◌+◌, ◌≤◌, true, false, List, [], ◌∷◌, length, take, drop, Option, Some, None, IsTrue}
+use Rattle.polis_base.specs.Names.{is_name}
+use Rattle.polis_base.specs.declared.token.Kind.TheVariants.{Name as NameKind}
+use Rattle.polis_base.specs.declared.token.Token.{Token}
+use Rattle.transition_table.specs.declared.decl.EventDecl.{EventDecl}
+use Rattle.transition_table.specs.declared.decl.Party.TheVariants.{Env, Machine as Sender}
+use Rattle.polis_cli.specs.declared.lamp.Lamp.{Lamp}
 use Rattle.polis_cli.specs.declared.lamp.Lexeme.{Lexeme}
 use Rattle.polis_cli.specs.declared.lamp.Lexeme.TheVariants.{Keyword, Name, Number, Sign}
 
@@ -15,3 +21,13 @@ number_in (Number n) = Some n
 number_in (Name name) = None
 number_in (Keyword keyword) = None
 number_in (Sign sign) = None
+
+-- the two events of a lamp: the input comes from the environment, the output goes to it
+abbrev pub AreEventsOf : Lamp → List EventDecl → Type 0
+AreEventsOf lamp events =
+    events ≡ record { name = lamp.input; domain = None; sender = Env; to_env = false; receivers = 0 ∷ [] }
+    ∷ record { name = lamp.output; domain = None; sender = Sender 0; to_env = true; receivers = [] } ∷ []
+
+-- the token, where it is a name, lies in the text and its bytes are one
+abbrev pub IsNamed : List ℕ → Token → Type 0
+IsNamed text token = token.kind ≡ NameKind → (token.at + token.len ≤ length text) × IsTrue (is_name (take token.len (drop token.at text)))

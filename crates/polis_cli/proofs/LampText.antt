@@ -1,8 +1,8 @@
 -- The lamp's text is a text of the lamp.
 use Rattle.std.proofs.Common.{refl, lit≤}
-use Rattle.net_core.specs.Samples.{lamp, lamp_ctl, press}
-use Rattle.polis_cli.specs.Lamp.{Reads, NetOf, lamp_tokens, TraceOf}
-use Rattle.polis_cli.specs.Samples.{lamp_text, lamp_names, press_text}
+use Rattle.net_core.specs.Samples.{lamp, lamp_ctl}
+use Rattle.polis_cli.specs.Lamp.{Reads, NetOf, lamp_tokens}
+use Rattle.polis_cli.specs.Samples.{lamp_text, lamp_names}
 
 lamp_reads : Reads lamp_text (lamp_tokens lamp_names)
 lamp_reads = (_, refl, refl)
@@ -25,6 +25,3 @@ lamp_text_of = record {
     machine = (lamp_ctl, refl, record { name = refl; priority = refl; inputs = refl; outputs = refl; states = refl; vars = refl; results = refl; rows = (_, refl, (refl, refl)) });
   };
 }
-
-pub press_trace_of : TraceOf lamp press_text press
-press_trace_of = record { count = 1; few = lit≤ tt; lines = refl; items = refl }

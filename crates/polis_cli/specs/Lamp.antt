@@ -126,13 +126,3 @@ pub record NetOf (text : List ℕ) (net : Network) : Type 0 where
 -- the bytes are a text of the network, and each of its machines is deterministic
 abbrev pub Accepted : List ℕ → Network → Type 0
 Accepted text net = NetOf text net × AreDeterministic net
-
-abbrev pub event_name : Network → ℕ → List ℕ
-event_name net e = unwrap_or (option_map (λ event. event.name) (slice_get net.events e)) []
-
--- the bytes are at most 10,000 lines of the name of event 0, and the trace has it as often
-pub record TraceOf (net : Network) (text : List ℕ) (trace : List TraceItem) : Type 0 where
-  pub count : ℕ
-  pub few : count ≤ 10000
-  pub lines : text ≡ flat_map (λ line. line) (replicate count (event_name net 0 ++ 10 ∷ []))
-  pub items : trace ≡ replicate count (Event 0 1)

@@ -1,9 +1,7 @@
 -- The lamp's texts, as bytes.
 use Rattle.std.specs.Prelude.{ℕ, List, [], ◌∷◌, ◌++◌, codes}
 use Rattle.polis_cli.specs.declared.lamp.Lamp.{Lamp}
-
-abbrev pub line : List ℕ → List ℕ
-line text = text ++ 10 ∷ []
+use Rattle.polis_cli.specs.Texts.{line}
 
 abbrev pub lamp_text : List ℕ
 lamp_text =

@@ -9,7 +9,10 @@ mod make;
 mod print;
 mod show;
 mod status;
+#[cfg(test)]
+mod tests;
 mod top;
+mod worked;
 mod write;
 
 use crate::status::Status;

@@ -18,6 +18,7 @@ use Rattle.polis_base.specs.declared.token.LexError.TheVariants.{BadByte, NameTo
 abbrev pub is_blank : ℕ → Bool
 is_blank c = c == 32 || c == 9 || c == 13 || c == 10
 
+-- a word that is no keyword is a name
 abbrev pub word_kind : Option Reserved → Kind
 word_kind None = Name
 word_kind (Some keyword) = Keyword keyword
@@ -35,7 +36,8 @@ abbrev pub begins_with : ℕ → List ℕ → Bool
 begins_with b [] = false
 begins_with b (c ∷ rest) = c == b
 
--- a sign that begins with c at a place: `:=` and `..` have two bytes, and a lone `.` is none
+-- A sign that begins with c at a place: `:=` and `..` have two bytes, and a lone `.` is none. As bytes `=` is 61, `:` 58,
+-- `,` 44, `{` 123, `}` 125, `.` 46 and `+` 43.
 abbrev pub sign_front : ℕ → ℕ → List ℕ → Front
 sign_front at c rest =
     cond (c == 61) (Read (Sign Equal) 1)
@@ -47,7 +49,8 @@ sign_front at c rest =
     (cond (c == 43) (Read (Sign Plus) 1) (Faulty (BadByte at))))))))
 
 -- What the bytes at a place begin with. A comment goes from `#` up to the next LF or the end. A word has all
--- letters, digits and `_` that follow, a number that doesn't begin with 0 all digits that follow.
+-- letters, digits and `_` that follow, a number that doesn't begin with 0 all digits that follow. As bytes `#` is 35,
+-- LF 10 and `0` 48. At the end nothing stands.
 abbrev pub front : ℕ → List ℕ → Front
 front at [] = Skipped 0
 front at (c ∷ rest) =

@@ -122,7 +122,8 @@ fn front_at(text: &[u8], at: usize) -> Front
     front_of(at as u64, &text[at..])
 }
 
-/// The tokens of a text: at each place the longest.
+/// The tokens of a text: at each place the longest. Where one doesn't read, the first such gives the error with its
+/// place; want of memory may come before that. A text is gone over once.
 pub fn tokens(alloc: Global, text: &[u8]) -> Result<Tokens, LexError>
     ensures ok { IfOk result (λ tokens. tokens_of text.now ≡ Ok tokens) }
     ensures spans { IfOk result (λ tokens. All (IsToken text.now) tokens) }

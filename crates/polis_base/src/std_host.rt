@@ -1,5 +1,5 @@
 // The system's files and standard output as a host: the trusted edge.
-ghost use Rattle.std.specs.Prelude.{◌≡◌, ◌≢◌, ◌<◌, ◌≤◌, ◌++◌, [], None, length, IfSome};
+ghost use Rattle.std.specs.Prelude.{◌≡◌, ◌≢◌, ◌<◌, ◌≤◌, [], None, length, IfSome};
 ghost use Rattle.std.specs.Io.KnownBytes.{Appends};
 ghost use Rattle.polis_base.specs.Faults.{no_faults};
 ghost use Rattle.polis_base.specs.Host.{CountsFault, load_failed, save_failed};

@@ -122,3 +122,16 @@ fn goes_over_the_systems_files(rt: HostRuntime) -> Result<(), Fail> {
     assert_eq!(rt; host.show(b""), Save::Written);
     Ok(())
 }
+
+#[test]
+fn reads_texts_at_the_limit(rt: HostRuntime) -> Result<(), Fail> {
+    let ones = Vec::from_elem(rt.alloc(), b'1', 4_194_304)?;
+    match tokens(rt.alloc(), &ones) {
+        Err(error) => assert_eq!(rt; error, LexError::NumberTooLarge(0)),
+        Ok(_) => return Err(Fail::new("the number is too large")),
+    }
+    let blanks = Vec::from_elem(rt.alloc(), b' ', 4_194_304)?;
+    let none = tokens(rt.alloc(), &blanks)?;
+    assert_eq!(rt; none.count(), 0);
+    Ok(())
+}

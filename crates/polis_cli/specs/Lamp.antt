@@ -1,11 +1,12 @@
 -- The one form of network text that is read so far, and its traces.
-use Rattle.std.specs.Prelude.{◌≡◌, ℕ, ◌+◌, ◌^◌, ◌≤◌, List, [], ◌∷◌, ◌++◌, map, length, take, drop, slice_get, option_map, unwrap_or, replicate, flat_map, Some, Ok, IsTrue}
+use Rattle.std.specs.Prelude.{◌≡◌, ℕ, ◌+◌, ◌^◌, ◌≤◌, List, [], ◌∷◌, ◌++◌, map, length, slice_get, option_map, unwrap_or, replicate, flat_map, Some, Ok, IsTrue}
 use Rattle.polis_base.specs.declared.token.Keyword.TheVariants.{KwNetwork, KwVersion, KwDomain, KwEvent, KwMachine, KwFrom, KwTo, KwEnv, KwPriority, KwInput, KwOutput, KwState, KwWhen, KwDo, KwEmit}
 use Rattle.polis_base.specs.declared.token.Sign.TheVariants.{Equal, Assign, Colon, Comma, LeftBrace, RightBrace}
 use Rattle.polis_base.specs.declared.token.Kind.{Kind}
 use Rattle.polis_base.specs.declared.token.Kind.TheVariants.{Keyword as KeywordKind, Name as NameKind, Number as NumberKind, Sign as SignKind}
 use Rattle.polis_base.specs.declared.token.Token.{Token}
 use Rattle.polis_base.specs.Tokens.{tokens_of}
+use Rattle.polis_base.specs.Spans.{slice_of}
 use Rattle.domains.specs.Names.{AreValues, are_distinct}
 use Rattle.domains.specs.declared.domain.Domain.TheVariants.{Names}
 use Rattle.transition_table.specs.declared.row.Row.{Row}
@@ -28,7 +29,7 @@ lexeme_of_kind (SignKind sign) bytes = Sign sign
 
 -- a token of the text without its place, a name with its bytes
 abbrev pub lexeme_of : List ℕ → Token → Lexeme
-lexeme_of text token = lexeme_of_kind token.kind (take token.len (drop token.at text))
+lexeme_of text token = lexeme_of_kind token.kind (slice_of text token)
 
 -- the text reads as these tokens
 abbrev pub Reads : List ℕ → List Lexeme → Type 0

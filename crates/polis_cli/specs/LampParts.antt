@@ -1,8 +1,5 @@
 -- Parts of a lamp.
-use Rattle.std.specs.Prelude.{◌≡◌, ℕ, ◌+◌, ◌≤◌, true, false, List, [], ◌∷◌, length, take, drop, Option, Some, None, IsTrue}
-use Rattle.polis_base.specs.Names.{is_name}
-use Rattle.polis_base.specs.declared.token.Kind.TheVariants.{Name as NameKind}
-use Rattle.polis_base.specs.declared.token.Token.{Token}
+use Rattle.std.specs.Prelude.{◌≡◌, ℕ, true, false, List, [], ◌∷◌, Option, Some, None}
 use Rattle.transition_table.specs.declared.decl.EventDecl.{EventDecl}
 use Rattle.transition_table.specs.declared.decl.Party.TheVariants.{Env, Machine as Sender}
 use Rattle.polis_cli.specs.declared.lamp.Lamp.{Lamp}
@@ -27,7 +24,3 @@ abbrev pub AreEventsOf : Lamp → List EventDecl → Type 0
 AreEventsOf lamp events =
     events ≡ record { name = lamp.input; domain = None; sender = Env; to_env = false; receivers = 0 ∷ [] }
     ∷ record { name = lamp.output; domain = None; sender = Sender 0; to_env = true; receivers = [] } ∷ []
-
--- the token, where it is a name, lies in the text and its bytes are one
-abbrev pub IsNamed : List ℕ → Token → Type 0
-IsNamed text token = token.kind ≡ NameKind → (token.at + token.len ≤ length text) × IsTrue (is_name (take token.len (drop token.at text)))

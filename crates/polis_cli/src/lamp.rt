@@ -5,6 +5,8 @@ ghost use Rattle.polis_cli.specs.Lamp.{Accepted};
 
 mod lexemes;
 mod network;
+#[cfg(test)]
+mod tests;
 mod tokens;
 
 use crate::lamp::lexemes::read_lexemes;

@@ -1,15 +1,15 @@
 // The tokens of a text without their places.
 ghost use Rattle.std.specs.Prelude.{◌≡◌, ℕ, List, Err, IfOk};
+ghost use Rattle.polis_base.specs.Spans.{IsToken};
 ghost use Rattle.polis_cli.specs.declared.lamp.Lexeme.{Lexeme};
 ghost use Rattle.polis_cli.specs.Lamp.{lexeme_of, Reads};
-ghost use Rattle.polis_cli.specs.LampParts.{IsNamed};
 
 use crate::lamp::{LampFault, Lexeme};
 use polis_base::{Kind, LexError, List, Name, Token, tokens};
 use std::alloc::Global;
 
 fn lexeme_at(text: &[u8], token: Token) -> Lexeme
-    requires { IsNamed text.now token }
+    requires { IsToken text.now token }
     ensures { result ≡ lexeme_of text.now token }
 {
     match token.kind {

@@ -1,0 +1,14 @@
+// Reduced ordered decision diagrams over variables of several values.
+#![tactic(auto)]
+
+mod apply;
+mod count;
+mod index;
+mod node;
+mod operation;
+mod order;
+mod store;
+
+pub use node::{NodeId, Shape};
+pub use order::Order;
+pub use store::Store;

@@ -1,0 +1,118 @@
+// Orders of variables.
+ghost use Rattle.std.specs.Prelude.{◌≡◌, ◌<◌, length, slice_get, replicate, Some, IfOk, IfSome, IfNone};
+ghost use Rattle.decision_diagram.specs.Orders.{IsPermutation, ArePlaces, place};
+
+use polis_base::{Duplicate, List, NoMemory, Numbers, Places};
+use std::alloc::Global;
+use std::marker::Model;
+
+/// The variables of a table in the order in which diagrams read them: a permutation of the numbers
+/// below its length.
+#[derive(Drop)]
+pub struct Order {
+    vars: Numbers,
+    places: Places,
+}
+
+impl Model for Order {
+    ghost use Rattle.std.specs.Prelude.{List, ℕ};
+    ghost use Rattle.decision_diagram.specs.Orders.{IsPermutation, ArePlaces};
+
+    ghost Value = { List ℕ };
+
+    ghost view = { λ o. o.vars };
+
+    ghost invariant = { λ o. IsPermutation o.vars × ArePlaces o.vars o.places };
+}
+
+// A place for each number below the length, or the length where the number hasn't been met.
+fn no_places(alloc: Global, len: u64) -> Result<Places, NoMemory>
+    ensures { IfOk result (λ places. places ≡ replicate len len) }
+{
+    let mut places = List::new(alloc);
+    for _ in 0..len {
+        places.push(len)?;
+    }
+    Ok(places)
+}
+
+// The place of each number, where the list is a permutation.
+fn places_of(alloc: Global, list: &[u32]) -> Result<Option<Places>, NoMemory>
+    ensures permutation { IfOk result (λ made. IfSome made (λ places. IsPermutation list.now)) }
+    ensures places { IfOk result (λ made. IfSome made (λ places. ArePlaces list.now places)) }
+    ensures none { IfOk result (λ made. IfNone made (¬ IsPermutation list.now)) }
+{
+    let len = list.len() as u64;
+    let mut places = no_places(alloc, len)?;
+    for (i, var) in list.iter().enumerate() {
+        let var = u64::from(*var);
+        if var >= len || *places.get(var) < len {
+            return Ok(None);
+        }
+        places.set(var, i as u64);
+    }
+    Ok(Some(places))
+}
+
+// The numbers of a slice as a list.
+fn list_of(alloc: Global, numbers: &[u32]) -> Result<Numbers, NoMemory>
+    ensures { IfOk result (λ list. list ≡ numbers.now) }
+{
+    let mut list = List::new(alloc);
+    for number in numbers {
+        list.push(*number)?;
+    }
+    Ok(list)
+}
+
+impl Order {
+    /// The order that a list gives, first the variable that is read first. It is None exactly where the list
+    /// is no permutation of the numbers below its length.
+    pub fn new(alloc: Global, list: &[u32]) -> Result<Option<Order>, NoMemory>
+        ensures some { IfOk result (λ made. IfSome made (λ order. order ≡ list.now)) }
+        ensures permutation { IfOk result (λ made. IfSome made (λ order. IsPermutation list.now)) }
+        ensures none { IfOk result (λ made. IfNone made (¬ IsPermutation list.now)) }
+    {
+        match places_of(alloc, list)? {
+            None => Ok(None),
+            Some(places) => Ok(Some(Order {
+                vars: list_of(alloc, list)?,
+                places,
+            })),
+        }
+    }
+
+    /// How many variables there are.
+    pub fn len(&self) -> u64
+        ensures len { result ≡ length self.now }
+        ensures permutation { IsPermutation self.now }
+    {
+        self.vars.len()
+    }
+
+    /// The variable at a place.
+    pub fn get(&self, i: u64) -> &u32
+        requires { i < length self.now }
+        ensures { slice_get self.now i ≡ Some result.now }
+    {
+        self.vars.get(i)
+    }
+
+    /// The place of a variable.
+    pub fn place_of(&self, var: u32) -> u64
+        requires { var < length self.now }
+        ensures place { result ≡ place self.now var }
+        ensures within { result < length self.now }
+    {
+        *self.places.get(u64::from(var))
+    }
+}
+
+impl Duplicate for Order {
+    fn copy(&self) -> Result<Order, NoMemory> {
+        Ok(Order {
+            vars: self.vars.copy()?,
+            places: self.places.copy()?,
+        })
+    }
+}

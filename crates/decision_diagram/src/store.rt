@@ -1,0 +1,339 @@
+// The store of diagrams.
+ghost use Rattle.std.specs.Prelude.{◌≡◌, ◌⊎◌, ◌+◌, ◌<◌, ◌≤◌, ◌^◌, ◌==◌, ℕ, true, false, List, min, [], ◌∷◌, ◌++◌, length, slice_index, Some, IfOk, IfSome, IfNone, OnOk, OnErr, IsTrue};
+ghost use Rattle.std.specs.Int.{bit_at};
+ghost use Rattle.domains.specs.Tables.{fits};
+ghost use Rattle.decision_diagram.specs.Constants.{constant_node};
+ghost use Rattle.decision_diagram.specs.Operations.{IsResult, AreResults};
+ghost use Rattle.decision_diagram.specs.Orders.{place};
+ghost use Rattle.decision_diagram.specs.Diagrams.{IsNode, inner_at, value_of, shape_of, kids_of, level_of, choice, Keeps, Means, IsNew, IsCanonical};
+
+use crate::index::{Index, enter, find};
+use crate::node::{Node, NodeId, Shape};
+use crate::operation::Operation;
+use crate::order::Order;
+use domains::{Codes, VarTable};
+use polis_base::{Duplicate, List, NoMemory};
+use std::alloc::Global;
+use std::collections::BTreeMap;
+use std::marker::Model;
+
+/// Diagrams over the variables of one table, read in one order. Equal functions are one node.
+#[derive(Drop)]
+pub struct Store {
+    alloc: Global,
+    vars: VarTable,
+    order: Order,
+    nodes: Vec<Node>,
+    index: Index,
+    conjunctions: Index,
+    disjunctions: Index,
+}
+
+impl Model for Store {
+    ghost use Rattle.decision_diagram.specs.Diagrams.{Diagrams};
+
+    ghost Value = { Diagrams };
+
+    ghost use Rattle.decision_diagram.specs.Stores.{diagrams, IsStore};
+
+    ghost view = { diagrams };
+
+    ghost invariant = { IsStore };
+}
+
+// The one child, where all are the same.
+fn only_kid(kids: &[NodeId]) -> Option<NodeId>
+    ensures some { IfSome result (λ kid. (code : ℕ) → code < length kids.now → slice_index kids.now code ≡ kid) }
+    ensures there { IfSome result (λ kid. 0 < length kids.now) }
+    ensures none { IfNone result ((kid : ℕ) → 0 < length kids.now → ((code : ℕ) → code < length kids.now → slice_index kids.now code ≡ kid) → ⊥) }
+{
+    let first = *kids.first()?;
+    for kid in kids {
+        if kid.number() != first.number() {
+            return None;
+        }
+    }
+    Some(first)
+}
+
+// The children of a node that is true where the code is in a set.
+fn literal_kids(alloc: Global, size: u8, codes: u64) -> Result<Vec<NodeId>, NoMemory>
+    requires { size ≤ 64 }
+    ensures length { IfOk result (λ kids. length kids.items ≡ size) }
+    ensures kids { IfOk result (λ kids. (code : ℕ) → code < size → slice_index kids.items code ≡ constant_node (bit_at codes code == 1)) }
+{
+    let mut kids = Vec::new(alloc);
+    for code in 0..size {
+        kids.push(NodeId::constant((codes >> code) % 2 == 1))?;
+    }
+    Ok(kids)
+}
+
+// A variable and its children as a key.
+fn key_of(alloc: Global, var: u32, kids: &[NodeId]) -> Result<Vec<u64>, NoMemory>
+    ensures { IfOk result (λ key. key.items ≡ var ∷ kids.now) }
+{
+    let mut key = Vec::new(alloc);
+    key.push(u64::from(var))?;
+    for kid in kids {
+        key.push(kid.number())?;
+    }
+    Ok(key)
+}
+
+// Two nodes in the order of their numbers.
+fn pair(a: NodeId, b: NodeId) -> [u64; 2]
+    ensures { (result ≡ a ∷ b ∷ []) ⊎ (result ≡ b ∷ a ∷ []) }
+{
+    if a.number() <= b.number() {
+        [a.number(), b.number()]
+    } else {
+        [b.number(), a.number()]
+    }
+}
+
+// The children as a list.
+fn list_of(alloc: Global, kids: &[NodeId]) -> Result<List<NodeId>, NoMemory>
+    ensures { IfOk result (λ list. list ≡ kids.now) }
+{
+    let mut list = List::new(alloc);
+    for kid in kids {
+        list.push(*kid)?;
+    }
+    Ok(list)
+}
+
+impl Store {
+    /// A store without inner nodes, over the variables of a table in an order.
+    pub fn new(alloc: Global, vars: &VarTable, order: &Order) -> Result<Store, NoMemory>
+        requires { length order.now ≡ length vars.now }
+        ensures sizes { IfOk result (λ store. store.sizes ≡ vars.now) }
+        ensures order { IfOk result (λ store. store.order ≡ order.now) }
+    {
+        let agree = vars.len() == order.len();
+        prove!(agree);
+        Ok(Store {
+            alloc,
+            vars: vars.copy()?,
+            order: order.copy()?,
+            nodes: Vec::new(alloc),
+            index: BTreeMap::new(alloc),
+            conjunctions: BTreeMap::new(alloc),
+            disjunctions: BTreeMap::new(alloc),
+        })
+    }
+
+    // Makes an inner node that isn't there yet.
+    fn push_node(&mut self, var: u32, kids: &[NodeId], key: Vec<u64>) -> Result<NodeId, NoMemory>
+        requires key { key.items ≡ var ∷ kids.now }
+        requires new { IsNew self.old (record { var = var; kids = kids.now }) }
+        ensures ok { OnOk result (self.new ≡ record self.old { nodes = self.old.nodes ++ record { var = var; kids = kids.now } ∷ [] }) }
+        ensures number { IfOk result (λ n. n ≡ length self.old.nodes + 2) }
+        ensures err { OnErr result (self.new ≡ self.old) }
+    {
+        let number = self.nodes.len() as u64 + 2;
+        let kids = list_of(self.alloc, kids)?;
+        self.nodes.push(Node { var, kids })?;
+        match enter(&mut self.index, key, number) {
+            Ok(()) => Ok(NodeId::new(number)),
+            Err(NoMemory) => {
+                self.nodes.pop();
+                Err(NoMemory)
+            }
+        }
+    }
+
+    /// The node whose value is that of the child at the code of a variable. Where all children are the same it is
+    /// that child, and where there is such a node already it is that one (Bryant 1986).
+    pub fn node(&mut self, var: u32, kids: &[NodeId]) -> Result<NodeId, NoMemory>
+        requires var { var < length self.old.sizes }
+        requires kids { length kids.now ≡ slice_index self.old.sizes var }
+        requires nodes { (code : ℕ) → code < length kids.now → IsNode self.old (slice_index kids.now code) }
+        requires later { (code : ℕ) → code < length kids.now → place self.old.order var < level_of self.old (slice_index kids.now code) }
+        ensures kept { Keeps self.old self.new }
+        ensures value { IfOk result (λ n. Means self.new n (choice self.old var kids.now)) }
+        ensures level { IfOk result (λ n. place self.old.order var ≤ level_of self.new n) }
+    {
+        if let Some(kid) = only_kid(kids) {
+            return Ok(kid);
+        }
+        let key = key_of(self.alloc, var, kids)?;
+        match find(&self.index, &key) {
+            Some(number) => Ok(NodeId::new(number)),
+            None => self.push_node(var, kids, key),
+        }
+    }
+
+    /// The node that is true where the code of a variable is in a set, whose bit `c` stands for code `c`.
+    pub fn literal(&mut self, var: u32, codes: u64) -> Result<NodeId, NoMemory>
+        requires var { var < length self.old.sizes }
+        requires codes { codes < 2 ^ slice_index self.old.sizes var }
+        ensures kept { Keeps self.old self.new }
+        ensures value { IfOk result (λ n. Means self.new n (λ at. bit_at codes (slice_index at var) == 1)) }
+        ensures level { IfOk result (λ n. place self.old.order var ≤ level_of self.new n) }
+    {
+        let size = *self.vars.get(u64::from(var));
+        let kids = literal_kids(self.alloc, size, codes)?;
+        self.node(var, &kids)
+    }
+
+    /// The node that is the same on all codes.
+    pub fn constant(&self, value: bool) -> NodeId
+        ensures node { IsNode self.now result }
+        ensures value { (codes : List ℕ) → value_of self.now result codes ≡ value }
+        ensures level { level_of self.now result ≡ length self.now.order }
+    {
+        NodeId::constant(value)
+    }
+
+    // How many inner nodes there are.
+    pub(crate) fn inner_count(&self) -> usize
+        ensures { result ≡ length self.now.nodes }
+    {
+        self.nodes.len()
+    }
+
+    // The inner node with a number.
+    pub(crate) fn inner(&self, number: u64) -> &Node
+        requires inner { 2 ≤ number }
+        requires node { IsNode self.now number }
+        ensures node { inner_at self.now.nodes number ≡ Some result.now }
+        ensures before { (code : ℕ) → code < length result.now.kids → slice_index result.now.kids code < number }
+    {
+        &self.nodes[(number - 2) as usize]
+    }
+
+    /// What kind of node a node is.
+    pub fn shape(&self, n: NodeId) -> Shape
+        requires { IsNode self.now n }
+        ensures shape { result ≡ shape_of self.now n }
+        ensures never { result ≡ Shape.False → (codes : List ℕ) → value_of self.now n codes ≡ false }
+        ensures always { result ≡ Shape.True → (codes : List ℕ) → value_of self.now n codes ≡ true }
+        ensures var { (var : ℕ) → result ≡ Shape.Inner var → var < length self.now.sizes }
+        ensures kids { (var : ℕ) → result ≡ Shape.Inner var → length (kids_of self.now n) ≡ slice_index self.now.sizes var }
+    {
+        let _ = &self.nodes;
+        match n.number() {
+            0 => Shape::False,
+            1 => Shape::True,
+            number => Shape::Inner {
+                var: self.inner(number).var,
+            },
+        }
+    }
+
+    /// The child of an inner node at a code of its variable.
+    pub fn child(&self, n: NodeId, code: u8) -> NodeId
+        requires node { IsNode self.now n }
+        requires code { code < length (kids_of self.now n) }
+        ensures child { result ≡ slice_index (kids_of self.now n) code }
+        ensures node { IsNode self.now result }
+        ensures later { level_of self.now n < level_of self.now result }
+        ensures value { (var : ℕ) (codes : List ℕ) → shape_of self.now n ≡ Shape.Inner var → slice_index codes var ≡ code → value_of self.now n codes ≡ value_of self.now result codes }
+    {
+        let _ = &self.nodes;
+        *self.inner(n.number()).kids.get(u64::from(code))
+    }
+
+    /// The value of a node on a list of codes, one per variable.
+    pub fn value(&self, n: NodeId, codes: &Codes) -> bool
+        requires node { IsNode self.now n }
+        requires codes { IsTrue (fits self.now.sizes codes.now) }
+        ensures { result ≡ value_of self.now n codes.now }
+    {
+        let mut at = n;
+        while let Shape::Inner { var } = self.shape(at) {
+            at = self.child(at, *codes.get(u64::from(var)));
+        }
+        self.shape(at) == Shape::True
+    }
+
+    /// Two nodes with the same value on all codes that fit the table are the same node. It does nothing: its contract
+    /// is this law, for whoever needs it (Bryant 1986, for variables of several values).
+    pub fn same_value_same_node(&self)
+        ensures { IsCanonical self.now }
+    {
+        let _ = &self.nodes;
+    }
+
+    // The allocator of all that the store makes.
+    pub(crate) fn global(&self) -> Global {
+        self.alloc
+    }
+
+    // The size of a variable.
+    pub(crate) fn size(&self, var: u32) -> u8
+        requires { var < length self.now.sizes }
+        ensures { result ≡ slice_index self.now.sizes var }
+    {
+        *self.vars.get(u64::from(var))
+    }
+
+    // Of two inner nodes the variable that is read first.
+    pub(crate) fn first_variable(&self, a: NodeId, b: NodeId) -> u32
+        requires left { 2 ≤ a }
+        requires right { 2 ≤ b }
+        requires a { IsNode self.now a }
+        requires b { IsNode self.now b }
+        ensures var { result < length self.now.sizes }
+        ensures place { place self.now.order result ≡ min (level_of self.now a) (level_of self.now b) }
+    {
+        let left = self.inner(a.number()).var;
+        let right = self.inner(b.number()).var;
+        if self.order.place_of(left) <= self.order.place_of(right) {
+            left
+        } else {
+            right
+        }
+    }
+
+    // The node whose value is that of a node where a variable has a code.
+    pub(crate) fn cofactor(&self, n: NodeId, var: u32, code: u8) -> NodeId
+        requires node { IsNode self.now n }
+        requires var { var < length self.now.sizes }
+        requires code { code < slice_index self.now.sizes var }
+        requires first { place self.now.order var ≤ level_of self.now n }
+        ensures node { IsNode self.now result }
+        ensures later { place self.now.order var < level_of self.now result }
+        ensures value { (codes : List ℕ) → slice_index codes var ≡ code → value_of self.now n codes ≡ value_of self.now result codes }
+    {
+        let _ = &self.nodes;
+        match self.shape(n) {
+            Shape::Inner { var: own } if own != var => n,
+            Shape::Inner { .. } => self.child(n, code),
+            Shape::False | Shape::True => n,
+        }
+    }
+
+    // What was computed before for an operation.
+    fn results(&self, op: Operation) -> &Index
+        ensures { AreResults self.now op result.now }
+    {
+        match op {
+            Operation::And => &self.conjunctions,
+            Operation::Or => &self.disjunctions,
+        }
+    }
+
+    // The result of an operation on two nodes, where it was computed before.
+    pub(crate) fn recall(&self, op: Operation, a: NodeId, b: NodeId) -> Option<NodeId>
+        ensures { IfSome result (λ n. IsResult self.now op a b n) }
+    {
+        let number = find(self.results(op), &pair(a, b))?;
+        Some(NodeId::new(number))
+    }
+
+    // Keeps the result of an operation on two nodes.
+    pub(crate) fn remember(&mut self, op: Operation, a: NodeId, b: NodeId, n: NodeId) -> Result<(), NoMemory>
+        requires { IsResult self.old op a b n }
+        ensures same { self.new ≡ self.old }
+        ensures result { IsResult self.new op a b n }
+    {
+        let mut key = Vec::new(self.alloc);
+        key.extend_from_slice(&pair(a, b))?;
+        match op {
+            Operation::And => enter(&mut self.conjunctions, key, n.number()),
+            Operation::Or => enter(&mut self.disjunctions, key, n.number()),
+        }
+    }
+}

@@ -7,8 +7,9 @@ use Rattle.net_core.specs.declared.entry.TraceItem.TheVariants.{Event, Settle}
 use Rattle.net_core.specs.Moments.{Moment}
 use Rattle.net_core.specs.Schedules.{owed_by_env}
 use Rattle.net_core.specs.Tables.{cursor}
-use Rattle.net_core.proofs.Environment.{first_at_least, none_left, no_machines_read, settled_says, cursor_not_settle}
+use Rattle.net_core.proofs.Environment.{first_at_least, none_left, no_machines_read, settled_says}
 use Rattle.net_core.proofs.Moved.{length-table}
+use Rattle.net_core.proofs.Peeking.{event_at_cursor}
 use Rattle.net_core.proofs.Readiness.{settled_at}
 use Rattle.net_core.proofs.config.Config.next_env.Goals as goal
 
@@ -76,4 +77,4 @@ returns-in-Settle-clause-first c =
     let m = c.first_least-m.result in
     let at = subst (λ (x : Moment). c.cursor-place.result ≡ cursor x.net x.trace x.journal m) (sym c.self.view_is) c.cursor-place.ensures in
     let item = subst (λ (k : ℕ). slice_get i.trace.now k ≡ Some Settle) at (c.get.ensures ∙ ap Some c.in-Settle.is) in
-    absurd (cursor_not_settle i.net.now i.trace.now i.journal m item)
+    absurd (event_at_cursor i.net.now i.trace.now i.journal m item)

@@ -1,28 +1,27 @@
 -- Two nodes of equal value are one node: by induction over the order, from its end.
-use Rattle.std.proofs.Common.{◌≡◌, ◌≢◌, ◌⊎◌, inl, inr, ⊎_elim, ℕ, zero, suc, ◌+◌, ◌-◌, ◌<◌, ◌≤◌, Bool, true, false, ◌==◌, eqb, List, [], ◌∷◌, ◌++◌, length, drop, replicate, get_or, slice_index, slice_set, Option, Some, None, refl, sym, ap, ◌∙◌, subst, arith, length-append, length-drop, get_or-set_same, get_or-set_other}
-use Rattle.std.proofs.lemmas.Bool.{cases_lt, cases_eq, eqb-true, eqb-false, eq-eqb, ne_eqb, false≢true}
-use Rattle.std.proofs.lemmas.List.{drop_all, get_or-drop}
+use Rattle.std.proofs.Common.{◌≡◌, ◌≢◌, ⊎_elim, ℕ, zero, suc, ◌+◌, ◌<◌, ◌≤◌, true, eqb, List, length, drop, replicate, slice_index, slice_set, Some, None, sym, ap, ◌∙◌, subst, arith, length-drop, get_or-set_same, get_or-set_other}
+use Rattle.std.proofs.lemmas.Bool.{cases_lt, cases_eq, eqb-true, eq-eqb}
+use Rattle.std.proofs.lemmas.List.{get_or-drop}
 use Rattle.std.proofs.lemmas.Grind.{same_number_lists}
 use Rattle.domains.specs.Tables.{fits}
 use Rattle.decision_diagram.specs.declared.node.Node.{Node}
-use Rattle.decision_diagram.specs.Orders.{IsPermutation, place}
-use Rattle.decision_diagram.specs.Diagrams.{Diagrams, inner_at, step, follow, level_of, IsNode, value_of, IsReducedNode, AreReduced}
-use Rattle.decision_diagram.proofs.Places.{place_of_item}
+use Rattle.decision_diagram.specs.Orders.{place}
+use Rattle.decision_diagram.specs.Diagrams.{Diagrams, inner_at, step, follow, level_of, IsNode, value_of, AreReduced}
 use Rattle.decision_diagram.proofs.Fitting.{fits_long, fits_set, fits_zeros, size_some}
-use Rattle.decision_diagram.proofs.Nodes.{inner_within, none_low, cases_inner, step_none, step_here}
-use Rattle.decision_diagram.proofs.Values.{level_none, level_some, level_below, level_within, item_at_level, follow_none, follow_one, follow_codes, step_before, step_within}
+use Rattle.decision_diagram.proofs.Nodes.{none_low, cases_inner, step_here}
+use Rattle.decision_diagram.proofs.Values.{level_none, level_some, level_below, item_at_level, follow_none, follow_one, follow_codes, step_before, step_within}
 
 -- a bound of numbers below 2 that pass one test alike
 same_low : (a b : ℕ) → a < 2 → b < 2 → eqb a 1 ≡ eqb b 1 → a ≡ b
 same_low a b ha hb e =
     ⊎_elim
-        (λ one. let f = eqb-true b 1 (sym e ∙ eq-eqb a 1 one) in omega arith)
-        (λ other.
-            ⊎_elim
-                (λ one. absurd (other (eqb-true a 1 (e ∙ eq-eqb b 1 one))))
-                (λ other_too. omega arith)
-                (cases_eq b 1))
-        (cases_eq a 1)
+    (λ one. let f = eqb-true b 1 (sym e ∙ eq-eqb a 1 one) in omega arith)
+    (λ other.
+    ⊎_elim
+    (λ one. absurd (other (eqb-true a 1 (e ∙ eq-eqb b 1 one))))
+    (λ other_too. omega arith)
+    (cases_eq b 1))
+    (cases_eq a 1)
 
 -- what the variables from place i on come to, from n, once the one at i has a code
 abbrev child_at : Diagrams → ℕ → ℕ → ℕ → ℕ
@@ -43,10 +42,10 @@ child_value s ok i n code codes h fit =
     follow_one s.nodes s.order (slice_set codes var code) n i h
     ∙ ap (λ (c : ℕ). follow s.nodes (drop (i + 1) s.order) (slice_set codes var code) (step (inner_at s.nodes n) var c n)) here
     ∙ follow_codes s.nodes (drop (i + 1) s.order) (slice_set codes var code) codes (child_at s i n code) (λ j low.
-        let e = get_or-drop (i + 1) s.order j 0 in
-        let inside : i + 1 + j < length s.order = omega (arith, length-drop (i + 1) s.order) in
-        let apart : slice_index (drop (i + 1) s.order) j ≢ var = λ same. ok.order.distinct i (i + 1 + j) (omega arith) inside (sym same ∙ e) in
-        get_or-set_other codes var (slice_index (drop (i + 1) s.order) j) code 0 apart)
+    let e = get_or-drop (i + 1) s.order j 0 in
+    let inside : i + 1 + j < length s.order = omega (arith, length-drop (i + 1) s.order) in
+    let apart : slice_index (drop (i + 1) s.order) j ≢ var = λ same. ok.order.distinct i (i + 1 + j) (omega arith) inside (sym same ∙ e) in
+    get_or-set_other codes var (slice_index (drop (i + 1) s.order) j) code 0 apart)
 
 child_same : (s : Diagrams) → AreReduced s → (i a b code : ℕ) → i < length s.order → code < slice_index s.sizes (slice_index s.order i) → Same s i a b → Same s (i + 1) (child_at s i a code) (child_at s i b code)
 child_same s ok i a b code h low same codes fit =
@@ -59,23 +58,23 @@ child_same s ok i a b code h low same codes fit =
 child_level : (s : Diagrams) → AreReduced s → (i n code : ℕ) → i ≤ level_of s n → i < length s.order → code < slice_index s.sizes (slice_index s.order i) → i + 1 ≤ level_of s (child_at s i n code)
 child_level s ok i n code from h low =
     ⊎_elim
-        (λ later. let e = step_before s ok n i code later in rw e (omega arith))
-        (λ here.
-            let level : level_of s n ≡ i = omega arith in
-            ⊎_elim
-                (λ none. let e = level_none s n none in absurd (omega arith))
-                (λ some.
-                    let node = some.0 in
-                    let good = ok.nodes n node some.1 in
-                    let var : slice_index s.order i ≡ node.var = ap (slice_index s.order) (sym level) ∙ item_at_level s ok n node some.1 in
-                    let e = step_here (inner_at s.nodes n) node (slice_index s.order i) code n some.1 (sym var) in
-                    let l = level_some s n node some.1 in
-                    let kids = good.kids in
-                    let size = ap (slice_index s.sizes) var in
-                    let b = good.later code (omega arith) in
-                    rw e (omega arith))
-                (cases_inner s.nodes n))
-        (cases_lt i (level_of s n))
+    (λ later. let e : child_at s i n code ≡ n = step_before s ok n i code later in subst (λ (m : ℕ). i + 1 ≤ level_of s m) (sym e) (omega arith))
+    (λ here.
+    let level : level_of s n ≡ i = omega arith in
+    ⊎_elim
+    (λ none. let e = level_none s n none in absurd (omega arith))
+    (λ some.
+    let node = some.0 in
+    let good = ok.nodes n node some.1 in
+    let var : slice_index s.order i ≡ node.var = ap (slice_index s.order) (sym level) ∙ item_at_level s ok n node some.1 in
+    let e : child_at s i n code ≡ slice_index node.kids code = step_here (inner_at s.nodes n) node (slice_index s.order i) code n some.1 (sym var) in
+    let l : level_of s n ≡ place s.order node.var = level_some s n node some.1 in
+    let kids : length node.kids ≡ slice_index s.sizes node.var = good.kids in
+    let size : slice_index s.sizes (slice_index s.order i) ≡ slice_index s.sizes node.var = ap (slice_index s.sizes) var in
+    let b : place s.order node.var < level_of s (slice_index node.kids code) = good.later code (omega arith) in
+    subst (λ (m : ℕ). i + 1 ≤ level_of s m) (sym e) (omega arith))
+    (cases_inner s.nodes n))
+    (cases_lt i (level_of s n))
 
 -- what is known of a node that is read from place i on: it passes over the variable there, or that is its own
 data Read (s : Diagrams) (i n : ℕ) : Type 0 where
@@ -85,16 +84,16 @@ data Read (s : Diagrams) (i n : ℕ) : Type 0 where
 read_of : (s : Diagrams) → AreReduced s → (i n : ℕ) → i < length s.order → i ≤ level_of s n → Read s i n
 read_of s ok i n h from =
     ⊎_elim
-        (λ later. passes (λ code. step_before s ok n i code later))
-        (λ here.
-            let level : level_of s n ≡ i = omega arith in
-            ⊎_elim
-                (λ none. let e = level_none s n none in absurd (omega arith))
-                (λ some.
-                    let var : slice_index s.order i ≡ some.0.var = ap (slice_index s.order) (sym level) ∙ item_at_level s ok n some.0 some.1 in
-                    own some.0 some.1 (sym var) (λ code. step_here (inner_at s.nodes n) some.0 (slice_index s.order i) code n some.1 (sym var)))
-                (cases_inner s.nodes n))
-        (cases_lt i (level_of s n))
+    (λ later. passes (λ code. step_before s ok n i code later))
+    (λ here.
+    let level : level_of s n ≡ i = omega arith in
+    ⊎_elim
+    (λ none. let e = level_none s n none in absurd (omega arith))
+    (λ some.
+    let var : slice_index s.order i ≡ some.0.var = ap (slice_index s.order) (sym level) ∙ item_at_level s ok n some.0 some.1 in
+    own some.0 some.1 (sym var) (λ code. step_here (inner_at s.nodes n) some.0 (slice_index s.order i) code n some.1 (sym var)))
+    (cases_inner s.nodes n))
+    (cases_lt i (level_of s n))
 
 -- nodes whose children are the same are the same
 from_children : (s : Diagrams) → AreReduced s → (i a b : ℕ) → i < length s.order → Read s i a → Read s i b → ((code : ℕ) → code < slice_index s.sizes (slice_index s.order i) → child_at s i a code ≡ child_at s i b code) → a ≡ b
@@ -131,12 +130,12 @@ canonical_from s ok zero i end a b in_a in_b from_a from_b same =
 canonical_from s ok (suc left) i end a b in_a in_b from_a from_b same =
     let h : i < length s.order = omega arith in
     from_children s ok i a b h (read_of s ok i a h from_a) (read_of s ok i b h from_b) (λ code low.
-        canonical_from s ok left (i + 1) (omega arith) (child_at s i a code) (child_at s i b code)
-            (step_within s ok a (slice_index s.order i) code in_a)
-            (step_within s ok b (slice_index s.order i) code in_b)
-            (child_level s ok i a code from_a h low)
-            (child_level s ok i b code from_b h low)
-            (child_same s ok i a b code h low same))
+    canonical_from s ok left (i + 1) (omega arith) (child_at s i a code) (child_at s i b code)
+    (step_within s ok a (slice_index s.order i) code in_a)
+    (step_within s ok b (slice_index s.order i) code in_b)
+    (child_level s ok i a code from_a h low)
+    (child_level s ok i b code from_b h low)
+    (child_same s ok i a b code h low same))
 
 -- Two nodes of one reduced ordered diagram with the same value on all codes that fit are the same node.
 pub canonical : (s : Diagrams) → AreReduced s → (a b : ℕ) → IsNode s a → IsNode s b → ((codes : List ℕ) → fits s.sizes codes ≡ true → value_of s a codes ≡ value_of s b codes) → a ≡ b

@@ -1,20 +1,19 @@
 -- Stores with more nodes.
-use Rattle.std.proofs.Common.{◌≡◌, ◌≢◌, ◌⊎◌, inl, inr, ⊎_elim, ℕ, zero, suc, ◌+◌, ◌-◌, ◌<◌, ◌≤◌, Bool, true, false, cond, ◌==◌, eqb, List, [], ◌∷◌, ◌++◌, length, take, slice_index, Option, Some, None, Vec, IsTrue, refl, sym, ap, ◌∙◌, subst, arith, length-append}
+use Rattle.std.proofs.Common.{◌≡◌, ◌⊎◌, inl, inr, ⊎_elim, ℕ, ◌+◌, ◌-◌, true, cond, eqb, List, [], ◌∷◌, ◌++◌, length, take, slice_index, Option, Some, None, Vec, refl, sym, ap, ◌∙◌, subst, arith}
 use Rattle.std.specs.BTreeMap.{BTreeMap}
 use Rattle.std.specs.Str.{bytes_eq}
 use Rattle.std.specs.declared.alloc.Global.{Global}
-use Rattle.std.proofs.lemmas.Bool.{cases_lt, cases_eq, cases_Bool, cond-true, cond-false}
+use Rattle.std.proofs.lemmas.Bool.{cases_lt, cases_Bool, cond-true, cond-false}
 use Rattle.std.proofs.lemmas.List.{length_push, take_at}
-use Rattle.domains.specs.Tables.{fits, are_sizes}
 use Rattle.decision_diagram.specs.declared.node.Node.{Node}
 use Rattle.decision_diagram.specs.declared.node.Shape.{Shape}
 use Rattle.decision_diagram.specs.declared.node.Shape.TheVariants.{False, True, Inner}
-use Rattle.decision_diagram.specs.Orders.{IsPermutation, place}
+use Rattle.decision_diagram.specs.Orders.{place}
 use Rattle.decision_diagram.specs.Found.{found}
-use Rattle.decision_diagram.specs.Diagrams.{Diagrams, inner_at, follow, shape_in, shape_of, kids_in, kids_of, level_in, level_of, IsNode, value_of, IsReducedNode, AreReduced, Keeps, IsNew, Means}
+use Rattle.decision_diagram.specs.Diagrams.{Diagrams, inner_at, shape_in, shape_of, kids_in, level_in, level_of, IsNode, IsReducedNode, AreReduced, Keeps, IsNew}
 use Rattle.decision_diagram.specs.Stores.{IsIndexed}
 use Rattle.decision_diagram.proofs.Lookups.{bytes_same, bytes_self}
-use Rattle.decision_diagram.proofs.Nodes.{inner_front, inner_last, inner_low, inner_past, inner_within, cases_inner}
+use Rattle.decision_diagram.proofs.Nodes.{inner_front, inner_last, inner_within}
 use Rattle.decision_diagram.proofs.Values.{follow_front}
 
 -- the diagrams with one more inner node
@@ -55,9 +54,9 @@ level_by_shape : (order : List ℕ) (n : ℕ) (o : Option Node) → level_in ord
 unfolding shape_level
 level_by_shape order n None =
     ⊎_elim
-        (λ yes. sym (ap (shape_level order) (cond-true (eqb n 0) False True yes)))
-        (λ no. sym (ap (shape_level order) (cond-false (eqb n 0) False True no)))
-        (cases_Bool (eqb n 0))
+    (λ yes. sym (ap (shape_level order) (cond-true (eqb n 0) False True yes)))
+    (λ no. sym (ap (shape_level order) (cond-false (eqb n 0) False True no)))
+    (cases_Bool (eqb n 0))
 level_by_shape order n (Some node) = refl
 
 pub keeps_level : (old new : Diagrams) → Keeps old new → (n : ℕ) → IsNode old n → level_of new n ≡ level_of old n
@@ -72,13 +71,13 @@ keeps_level old new keeps n h =
 cases_node : (s : Diagrams) (node : Node) (n : ℕ) (other : Node) → inner_at (s.nodes ++ node ∷ []) n ≡ Some other → (inner_at s.nodes n ≡ Some other) ⊎ ((n ≡ length s.nodes + 2) × (other ≡ node))
 cases_node s node n other is =
     ⊎_elim
-        (λ old. inl (sym (inner_front s.nodes (node ∷ []) n old) ∙ is))
-        (λ past.
-            let w = inner_within (s.nodes ++ node ∷ []) n other is in
-            let e : n ≡ length s.nodes + 2 = omega (arith, length_push s.nodes node) in
-            let f : Some node ≡ Some other = sym (inner_last s.nodes node n e) ∙ is in
-            inr (e, cc))
-        (cases_lt n (length s.nodes + 2))
+    (λ old. inl (sym (inner_front s.nodes (node ∷ []) n old) ∙ is))
+    (λ past.
+    let w = inner_within (s.nodes ++ node ∷ []) n other is in
+    let e : n ≡ length s.nodes + 2 = omega (arith, length_push s.nodes node) in
+    let f : Some node ≡ Some other = sym (inner_last s.nodes node n e) ∙ is in
+    inr (e, cc))
+    (cases_lt n (length s.nodes + 2))
 
 reduced_old : (s : Diagrams) → AreReduced s → (node : Node) (n : ℕ) (other : Node) → inner_at s.nodes n ≡ Some other → IsReducedNode (with_node s node) n other
 reduced_old s ok node n other is =
@@ -89,10 +88,10 @@ reduced_old s ok node n other is =
       kids = good.kids;
       before = good.before;
       later = λ code h.
-        let b = good.before code h in
-        let l = good.later code h in
-        let e = keeps_level s (with_node s node) (keeps_node s ok node) (slice_index other.kids code) (omega arith) in
-        omega arith;
+          let b = good.before code h in
+          let l = good.later code h in
+          let e = keeps_level s (with_node s node) (keeps_node s ok node) (slice_index other.kids code) (omega arith) in
+          omega arith;
       varied = good.varied;
     }
 
@@ -102,9 +101,9 @@ reduced_new s ok node new = record {
   kids = new.kids;
   before = new.nodes;
   later = λ code h.
-    let l = new.later code h in
-    let e = keeps_level s (with_node s node) (keeps_node s ok node) (slice_index node.kids code) (new.nodes code h) in
-    omega arith;
+      let l = new.later code h in
+      let e = keeps_level s (with_node s node) (keeps_node s ok node) (slice_index node.kids code) (new.nodes code h) in
+      omega arith;
   varied = new.varied;
 }
 
@@ -114,22 +113,22 @@ reduced_more s ok node new = record {
   order = ok.order;
   lengths = ok.lengths;
   nodes = λ n other is.
-    ⊎_elim
+      ⊎_elim
       (λ old. reduced_old s ok node n other old)
       (λ now. subst (λ (m : ℕ). IsReducedNode (with_node s node) m other) (sym now.0) (subst (λ (x : Node). IsReducedNode (with_node s node) (length s.nodes + 2) x) (sym now.1) (reduced_new s ok node new)))
       (cases_node s node n other is);
   unique = λ m n a b is_a is_b var kids.
-    ⊎_elim
+      ⊎_elim
       (λ old_a.
-        ⊎_elim
-          (λ old_b. ok.unique m n a b old_a old_b var kids)
-          (λ now_b. absurd (new.fresh m a old_a (var ∙ ap (λ (x : Node). x.var) now_b.1) (kids ∙ ap (λ (x : Node). x.kids) now_b.1)))
-          (cases_node s node n b is_b))
+      ⊎_elim
+      (λ old_b. ok.unique m n a b old_a old_b var kids)
+      (λ now_b. absurd (new.fresh m a old_a (var ∙ ap (λ (x : Node). x.var) now_b.1) (kids ∙ ap (λ (x : Node). x.kids) now_b.1)))
+      (cases_node s node n b is_b))
       (λ now_a.
-        ⊎_elim
-          (λ old_b. absurd (new.fresh n b old_b (sym var ∙ ap (λ (x : Node). x.var) now_a.1) (sym kids ∙ ap (λ (x : Node). x.kids) now_a.1)))
-          (λ now_b. now_a.0 ∙ sym now_b.0)
-          (cases_node s node n b is_b))
+      ⊎_elim
+      (λ old_b. absurd (new.fresh n b old_b (sym var ∙ ap (λ (x : Node). x.var) now_a.1) (sym kids ∙ ap (λ (x : Node). x.kids) now_a.1)))
+      (λ now_b. now_a.0 ∙ sym now_b.0)
+      (cases_node s node n b is_b))
       (cases_node s node m a is_a);
 }
 
@@ -152,28 +151,28 @@ indexed_none index none = record {
 pub indexed_more : (s : Diagrams) (node : Node) (old new : BTreeMap (Vec ℕ Global) ℕ) (key : List ℕ) (number : ℕ) → IsIndexed s.nodes old → IsNew s node → key ≡ node.var ∷ node.kids → number ≡ length s.nodes + 2 → ((q : List ℕ) → found new q ≡ cond (bytes_eq key q) (Some number) (found old q)) → IsIndexed (s.nodes ++ node ∷ []) new
 indexed_more s node old new key number ok fresh key_is number_is after = record {
   known = λ n other is.
-    ⊎_elim
+      ⊎_elim
       (λ earlier.
-        ⊎_elim
-          (λ same.
-            let parts = key_parts other.var node.var other.kids node.kids (sym (bytes_same key (other.var ∷ other.kids) same) ∙ key_is) in
-            absurd (fresh.fresh n other earlier parts.0 parts.1))
-          (λ apart. after (other.var ∷ other.kids) ∙ cond-false (bytes_eq key (other.var ∷ other.kids)) (Some number) (found old (other.var ∷ other.kids)) apart ∙ ok.known n other earlier)
-          (cases_Bool (bytes_eq key (other.var ∷ other.kids))))
+      ⊎_elim
+      (λ same.
+      let parts = key_parts other.var node.var other.kids node.kids (sym (bytes_same key (other.var ∷ other.kids) same) ∙ key_is) in
+      absurd (fresh.fresh n other earlier parts.0 parts.1))
+      (λ apart. after (other.var ∷ other.kids) ∙ cond-false (bytes_eq key (other.var ∷ other.kids)) (Some number) (found old (other.var ∷ other.kids)) apart ∙ ok.known n other earlier)
+      (cases_Bool (bytes_eq key (other.var ∷ other.kids))))
       (λ now.
-        let here : bytes_eq key (other.var ∷ other.kids) ≡ true = subst (λ (x : Node). bytes_eq key (x.var ∷ x.kids) ≡ true) (sym now.1) (subst (λ (q : List ℕ). bytes_eq key q ≡ true) key_is (bytes_self key)) in
-        after (other.var ∷ other.kids) ∙ cond-true (bytes_eq key (other.var ∷ other.kids)) (Some number) (found old (other.var ∷ other.kids)) here ∙ ap Some (number_is ∙ sym now.0))
+      let here : bytes_eq key (other.var ∷ other.kids) ≡ true = subst (λ (x : Node). bytes_eq key (x.var ∷ x.kids) ≡ true) (sym now.1) (subst (λ (q : List ℕ). bytes_eq key q ≡ true) key_is (bytes_self key)) in
+      after (other.var ∷ other.kids) ∙ cond-true (bytes_eq key (other.var ∷ other.kids)) (Some number) (found old (other.var ∷ other.kids)) here ∙ ap Some (number_is ∙ sym now.0))
       (cases_node s node n other is);
   entered = λ q n is.
-    ⊎_elim
+      ⊎_elim
       (λ same.
-        let e : Some number ≡ Some n = sym (after q ∙ cond-true (bytes_eq key q) (Some number) (found old q) same) ∙ is in
-        let f : number ≡ n = cc in
-        (node, inner_last s.nodes node n (sym f ∙ number_is), sym (bytes_same key q same) ∙ key_is))
+      let e : Some number ≡ Some n = sym (after q ∙ cond-true (bytes_eq key q) (Some number) (found old q) same) ∙ is in
+      let f : number ≡ n = cc in
+      (node, inner_last s.nodes node n (sym f ∙ number_is), sym (bytes_same key q same) ∙ key_is))
       (λ apart.
-        let w = ok.entered q n (sym (after q ∙ cond-false (bytes_eq key q) (Some number) (found old q) apart) ∙ is) in
-        let inside = inner_within s.nodes n w.0 w.1 in
-        (w.0, inner_front s.nodes (node ∷ []) n inside.1 ∙ w.1, w.2))
+      let w = ok.entered q n (sym (after q ∙ cond-false (bytes_eq key q) (Some number) (found old q) apart) ∙ is) in
+      let inside = inner_within s.nodes n w.0 w.1 in
+      (w.0, inner_front s.nodes (node ∷ []) n inside.1 ∙ w.1, w.2))
       (cases_Bool (bytes_eq key q));
 }
 
@@ -193,15 +192,17 @@ indexed_fresh s index var kids key ok key_is none n other is same_var same_kids 
 
 -- a store that got one more inner node
 pub store_more : (s : Diagrams) (node : Node) (nodes : List Node) (old new : BTreeMap (Vec ℕ Global) ℕ) (key : List ℕ) (number : ℕ) → AreReduced s → IsIndexed s.nodes old → IsNew s node → nodes ≡ s.nodes ++ node ∷ [] → key ≡ node.var ∷ node.kids → number ≡ length s.nodes + 2 → ((q : List ℕ) → found new q ≡ cond (bytes_eq key q) (Some number) (found old q)) → AreReduced (record { sizes = s.sizes; order = s.order; nodes = nodes }) × IsIndexed nodes new
-store_more s node nodes old new key number ok indexed fresh is key_is number_is after =
-    (subst (λ (xs : List Node). AreReduced (record { sizes = s.sizes; order = s.order; nodes = xs })) (sym is) (reduced_more s ok node fresh),
-    subst (λ (xs : List Node). IsIndexed xs new) (sym is) (indexed_more s node old new key number indexed fresh key_is number_is after))
+store_more s node nodes old new key number ok indexed fresh is key_is number_is after = (
+  subst (λ (xs : List Node). AreReduced (record { sizes = s.sizes; order = s.order; nodes = xs })) (sym is) (reduced_more s ok node fresh),
+  subst (λ (xs : List Node). IsIndexed xs new) (sym is) (indexed_more s node old new key number indexed fresh key_is number_is after),
+)
 
 -- a store that is as before, under another index with the same numbers
 pub store_same : (s : Diagrams) (nodes : List Node) (old new : BTreeMap (Vec ℕ Global) ℕ) → AreReduced s → IsIndexed s.nodes old → nodes ≡ s.nodes → ((q : List ℕ) → found new q ≡ found old q) → AreReduced (record { sizes = s.sizes; order = s.order; nodes = nodes }) × IsIndexed nodes new
-store_same s nodes old new ok indexed is same =
-    (subst (λ (xs : List Node). AreReduced (record { sizes = s.sizes; order = s.order; nodes = xs })) (sym is) ok,
-    subst (λ (xs : List Node). IsIndexed xs new) (sym is) (indexed_same s.nodes old new indexed same))
+store_same s nodes old new ok indexed is same = (
+  subst (λ (xs : List Node). AreReduced (record { sizes = s.sizes; order = s.order; nodes = xs })) (sym is) ok,
+  subst (λ (xs : List Node). IsIndexed xs new) (sym is) (indexed_same s.nodes old new indexed same),
+)
 
 -- a node that was put at the end and taken off again
 pub pop_push : (xs ys zs : List Node) (x : Node) (n : ℕ) → ys ≡ xs ++ x ∷ [] → n ≡ length ys → zs ≡ take (n - 1) ys → zs ≡ xs

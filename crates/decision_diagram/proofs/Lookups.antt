@@ -1,8 +1,8 @@
 -- Look-ups by lists of numbers.
-use Rattle.std.proofs.Common.{◌≡◌, ℕ, List, Option, Some, Bool, true, false, cond, Vec, sym, subst, ◌∙◌, ⊎_elim, nat_eq}
-use Rattle.std.specs.BTreeMap.{BTreeMap, UpdatesBy, Updates, get_by}
+use Rattle.std.proofs.Common.{◌≡◌, ℕ, List, Some, Bool, true, false, cond, Vec, sym, subst, ◌∙◌, ⊎_elim}
+use Rattle.std.specs.BTreeMap.{BTreeMap, Updates}
 use Rattle.std.specs.Cmp.{eq_by_cmp_equiv}
-use Rattle.std.specs.Cmp.Lexicographic.{slice_cmp, bytes_decides, pointwise}
+use Rattle.std.specs.Cmp.Lexicographic.{slice_cmp, bytes_decides}
 use Rattle.std.specs.Map.{KeepsOthers, IsKeyTest, AreApart, lookup}
 use Rattle.std.specs.Ordering.{is_eq, nat_cmp}
 use Rattle.std.specs.Str.{bytes_eq}
@@ -27,10 +27,10 @@ module _ {K X : Type 0} (eq : K → K → Bool) (test : K → Bool) where
 apart_in_order : (bs cs ks : List ℕ) → bytes_eq bs cs ≡ false → is_eq (slice_cmp nat_cmp bs ks) ≡ true → is_eq (slice_cmp nat_cmp cs ks) ≡ false
 apart_in_order bs cs ks n y =
     false_from_ne_true (is_eq (slice_cmp nat_cmp cs ks)) (λ e.
-        let at_cs = bytes_same cs ks (sym (is_eq-slice_cmp cs ks) ∙ e) in
-        let at_bs = bytes_same bs ks (sym (is_eq-slice_cmp bs ks) ∙ y) in
-        let same : bytes_eq bs cs ≡ true = subst (λ (l : List ℕ). bytes_eq bs l ≡ true) (at_bs ∙ sym at_cs) (bytes_self bs) in
-        false≢true (sym n ∙ same))
+    let at_cs = bytes_same cs ks (sym (is_eq-slice_cmp cs ks) ∙ e) in
+    let at_bs = bytes_same bs ks (sym (is_eq-slice_cmp bs ks) ∙ y) in
+    let same : bytes_eq bs cs ≡ true = subst (λ (l : List ℕ). bytes_eq bs l ≡ true) (at_bs ∙ sym at_cs) (bytes_self bs) in
+    false≢true (sym n ∙ same))
 
 pub found_after : (m n : BTreeMap (Vec ℕ Global) ℕ) (key : Vec ℕ Global) (w : ℕ) → Updates (λ x y. slice_cmp nat_cmp x.items y.items) m n key (Some w) → (q : List ℕ) → found n q ≡ cond (bytes_eq key.items q) (Some w) (found m q)
 found_after m n key w h q =

@@ -1,10 +1,10 @@
 -- Marking the inner nodes that are reached from a node, from the last number down.
-use Rattle.std.proofs.Common.{◌≡◌, ◌⊎◌, ◌↔◌, inl, inr, ⊎_elim, ℕ, zero, suc, ◌+◌, ◌-◌, ◌<◌, ◌≤◌, Bool, true, false, ◌||◌, nat_eq, eqb, List, [], ◌∷◌, ◌++◌, length, take, drop, replicate, get_or, slice_index, Option, Some, None, count_by, refl, sym, ap, ◌∙◌, subst, arith}
+use Rattle.std.proofs.Common.{◌≡◌, ⊎_elim, ℕ, zero, suc, ◌+◌, ◌-◌, ◌<◌, ◌≤◌, Bool, true, false, ◌||◌, eqb, List, [], ◌∷◌, ◌++◌, length, take, drop, replicate, get_or, slice_index, Some, count_by, refl, sym, ap, ◌∙◌, subst, arith}
 use Rattle.std.specs.List.{list_any, Contains}
-use Rattle.std.proofs.lemmas.Bool.{cases_lt, cases_eq, cases_Bool, or_cases, or_left, or_right, eqb-true, eq-eqb, false≢true, true≢false}
+use Rattle.std.proofs.lemmas.Bool.{cases_lt, cases_eq, or_cases, or_left, or_right, eqb-true, eq-eqb, false≢true}
 use Rattle.std.proofs.lemmas.List.{append-nil, get_or-replicate, get_or_default, get_or_past, take_all, drop_all}
 use Rattle.decision_diagram.specs.declared.node.Node.{Node}
-use Rattle.decision_diagram.specs.Diagrams.{Diagrams, inner_at, kids_in, kids_of, IsNode, AreReduced}
+use Rattle.decision_diagram.specs.Diagrams.{Diagrams, inner_at, kids_in, kids_of, IsNode}
 use Rattle.decision_diagram.specs.Reached.{Walk, Reaches, marked, CountsReached}
 use Rattle.decision_diagram.proofs.Nodes.{cases_inner, inner_within}
 
@@ -13,9 +13,9 @@ any_contains : (xs : List ℕ) (m : ℕ) → list_any (eqb m) xs ≡ true → Co
 any_contains [] m h = absurd (false≢true h)
 any_contains (x ∷ xs) m h =
     ⊎_elim
-        (λ here. (0, omega arith, sym (eqb-true m x here)))
-        (λ later. let w = any_contains xs m later in let inside = w.1 in (suc w.0, omega arith, w.2))
-        (or_cases (eqb m x) (list_any (eqb m) xs) h)
+    (λ here. (0, omega arith, sym (eqb-true m x here)))
+    (λ later. let w = any_contains xs m later in let inside = w.1 in (suc w.0, omega arith, w.2))
+    (or_cases (eqb m x) (list_any (eqb m) xs) h)
 
 contains_any : (xs : List ℕ) (m k : ℕ) → k < length xs → get_or xs k m ≡ m → list_any (eqb m) xs ≡ true
 contains_any [] m k h is = absurd (omega arith)
@@ -33,9 +33,9 @@ reaches_kid s n k m reach has = (suc reach.0, (k, reach.1, has))
 parent_inner : (s : Diagrams) (k m : ℕ) → Contains (kids_of s k) m → (2 ≤ k) × (k < length s.nodes + 2)
 parent_inner s k m has =
     ⊎_elim
-        (λ none. let e = ap kids_in none in let f = ap (length {A = ℕ}) e in let h = has.1 in absurd (omega arith))
-        (λ some. inner_within s.nodes k some.0 some.1)
-        (cases_inner s.nodes k)
+    (λ none. let e = ap kids_in none in let f = ap (length {A = ℕ}) e in let h = has.1 in absurd (omega arith))
+    (λ some. inner_within s.nodes k some.0 some.1)
+    (cases_inner s.nodes k)
 
 -- ---- marks
 -- The marked nodes are reached from n, n is marked, and so are the children of each marked one from number i + 2 on.
@@ -66,12 +66,12 @@ marked_root s n old new node old_is long after old_long =
       long = long;
       within = omega arith;
       sound = λ m large within h.
-        ⊎_elim
+          ⊎_elim
           (λ before. absurd (false≢true (sym (none m) ∙ before)))
           (λ now. let w = any_contains (n ∷ []) m now in
-            let k : w.0 ≡ 0 = let inside = w.1 in omega arith in
-            let same : n ≡ m = subst (λ (j : ℕ). get_or (n ∷ []) j m ≡ m) k w.2 in
-            subst (Reaches s n) same (reaches_self s n))
+          let k : w.0 ≡ 0 = let inside = w.1 in omega arith in
+          let same : n ≡ m = subst (λ (j : ℕ). get_or (n ∷ []) j m ≡ m) k w.2 in
+          subst (Reaches s n) same (reaches_self s n))
           (or_cases (marked old m) (list_any (eqb m) (n ∷ [])) (sym (after m large (omega arith)) ∙ h));
       root = λ large. after n large (omega arith) ∙ or_right (marked old n) (list_any (eqb n) (n ∷ [])) (contains_any (n ∷ []) n 0 (omega arith) refl);
       closed = λ k m from within h has large. absurd (omega arith);
@@ -87,7 +87,7 @@ marked_skip s n marks i j ok next off =
       sound = ok.sound;
       root = ok.root;
       closed = λ k m from within h has large.
-        ⊎_elim
+          ⊎_elim
           (λ here. absurd (false≢true (sym off ∙ subst (λ (x : ℕ). marked marks x ≡ true) here h)))
           (λ other. ok.closed k m (omega arith) within h has large)
           (cases_eq k (j + 2));
@@ -100,32 +100,32 @@ marked_kids s n old new i j node ok next on is before long after =
     let old_long = ok.long in
     let kids : kids_of s (j + 2) ≡ node.kids = ap kids_in is in
     let below : (m : ℕ) → list_any (eqb m) node.kids ≡ true → m < j + 2 = λ m h.
-        let has = any_contains node.kids m h in
-        let inside = has.1 in
-        let e : slice_index node.kids has.0 ≡ m = get_or_default node.kids has.0 0 m has.1 ∙ has.2 in
-        let b = before has.0 has.1 in
-        omega arith in
+    let has = any_contains node.kids m h in
+    let inside = has.1 in
+    let e : slice_index node.kids has.0 ≡ m = get_or_default node.kids has.0 0 m has.1 ∙ has.2 in
+    let b = before has.0 has.1 in
+    omega arith in
     let kept : (m : ℕ) → 2 ≤ m → marked old m ≡ true → marked new m ≡ true = λ m large h. let inside = marked_within old m h in after m large (omega arith) ∙ or_left (marked old m) (list_any (eqb m) node.kids) h in
     record {
       long = long ∙ ok.long;
       within = omega arith;
       sound = λ m large within h.
-        ⊎_elim
+          ⊎_elim
           (λ earlier. ok.sound m large within earlier)
           (λ now. reaches_kid s n (j + 2) m (ok.sound (j + 2) (omega arith) (omega arith) on) (subst (λ (xs : List ℕ). Contains xs m) (sym kids) (any_contains node.kids m now)))
           (or_cases (marked old m) (list_any (eqb m) node.kids) (sym (after m large (omega arith)) ∙ h));
       root = λ large. kept n large (ok.root large);
       closed = λ k m from within h has large.
-        ⊎_elim
+          ⊎_elim
           (λ here.
-            let had : Contains node.kids m = subst (λ (xs : List ℕ). Contains xs m) (ap (kids_of s) here ∙ kids) has in
-            let any = contains_any node.kids m had.0 had.1 had.2 in
-            let low = below m any in
-            after m large (omega arith) ∙ or_right (marked old m) (list_any (eqb m) node.kids) any)
+          let had : Contains node.kids m = subst (λ (xs : List ℕ). Contains xs m) (ap (kids_of s) here ∙ kids) has in
+          let any = contains_any node.kids m had.0 had.1 had.2 in
+          let low = below m any in
+          after m large (omega arith) ∙ or_right (marked old m) (list_any (eqb m) node.kids) any)
           (λ other.
-            let from_i : i + 2 ≤ k = omega arith in
-            let was : marked old k ≡ true = ⊎_elim (λ earlier. earlier) (λ now. let low = below k now in absurd (omega arith)) (or_cases (marked old k) (list_any (eqb k) node.kids) (sym (after k (omega arith) (omega arith)) ∙ h)) in
-            kept m large (ok.closed k m from_i within was has large))
+          let from_i : i + 2 ≤ k = omega arith in
+          let was : marked old k ≡ true = ⊎_elim (λ earlier. earlier) (λ now. let low = below k now in absurd (omega arith)) (or_cases (marked old k) (list_any (eqb k) node.kids) (sym (after k (omega arith) (omega arith)) ∙ h)) in
+          kept m large (ok.closed k m from_i within was has large))
           (cases_eq k (j + 2));
     }
 

@@ -1,18 +1,17 @@
 -- What the nodes that the store's calls answer mean.
-use Rattle.std.proofs.Common.{◌≡◌, ⊎_elim, cond, ℕ, zero, suc, ◌+◌, ◌<◌, ◌≤◌, Bool, true, false, ◌==◌, eqb, List, [], ◌∷◌, ◌++◌, length, slice_index, Option, Some, None, Result, Ok, Err, Vec, OnOk, OnErr, IfOk, IsTrue, refl, sym, ap, ◌∙◌, subst, arith, length-append}
+use Rattle.std.proofs.Common.{◌≡◌, ⊎_elim, ℕ, ◌+◌, ◌<◌, ◌≤◌, Bool, true, false, ◌==◌, eqb, List, [], ◌∷◌, length, slice_index, Option, Some, None, Result, Ok, Err, Vec, OnOk, OnErr, IfOk, IsTrue, sym, ap, ◌∙◌, subst, arith}
 use Rattle.std.specs.BTreeMap.{BTreeMap}
 use Rattle.std.specs.Int.{bit_at}
 use Rattle.std.specs.declared.alloc.Global.{Global}
 use Rattle.std.proofs.lemmas.Bool.{cases_Bool, cases_lt, cond-true, cond-false}
 use Rattle.domains.specs.Tables.{fits}
 use Rattle.decision_diagram.specs.declared.node.Node.{Node}
-use Rattle.decision_diagram.specs.declared.node.Shape.{Shape}
-use Rattle.decision_diagram.specs.declared.node.Shape.TheVariants.{False, True, Inner}
+use Rattle.decision_diagram.specs.declared.node.Shape.TheVariants.{Inner}
 use Rattle.decision_diagram.specs.Constants.{constant_node}
 use Rattle.decision_diagram.specs.Found.{found}
 use Rattle.decision_diagram.specs.Orders.{place}
 use Rattle.decision_diagram.specs.Stores.{IsIndexed}
-use Rattle.decision_diagram.specs.Diagrams.{Diagrams, inner_at, shape_in, shape_of, kids_in, kids_of, level_in, level_of, IsNode, value_of, AreReduced, Keeps, IsNew, Means, choice}
+use Rattle.decision_diagram.specs.Diagrams.{Diagrams, inner_at, shape_in, shape_of, level_in, level_of, IsNode, value_of, AreReduced, Keeps, IsNew, Means, choice}
 use Rattle.decision_diagram.proofs.Fitting.{fits_at, size_some}
 use Rattle.decision_diagram.proofs.Places.{place_below, at_place}
 use Rattle.decision_diagram.proofs.Growth.{with_node, keeps_same, keeps_node, reduced_more, indexed_fresh}
@@ -36,8 +35,8 @@ pub means_only : (s : Diagrams) (var : ℕ) (kids : List ℕ) (kid : ℕ) → va
 means_only s var kids kid below long nodes same some = record {
   node = subst (IsNode s) (same 0 some) (nodes 0 some);
   value = λ codes fit.
-    let low = fits_at s.sizes codes fit var below in
-    ap (λ (n : ℕ). value_of s n codes) (sym (same (slice_index codes var) (omega arith)));
+      let low = fits_at s.sizes codes fit var below in
+      ap (λ (n : ℕ). value_of s n codes) (sym (same (slice_index codes var) (omega arith)));
 }
 
 -- an inner node with these children
@@ -47,9 +46,9 @@ means_inner s ok n node is =
     record {
       node = (inner_within s.nodes n node is).1;
       value = λ codes fit.
-        let low = fits_at s.sizes codes fit node.var good.var in
-        let long = good.kids in
-        value_inner s ok n node codes is (omega arith);
+          let low = fits_at s.sizes codes fit node.var good.var in
+          let long = good.kids in
+          value_inner s ok n node codes is (omega arith);
     }
 
 -- the inner node that the index has
@@ -66,9 +65,9 @@ means_new s ok node new n is =
     record {
       node = all.node;
       value = λ codes fit.
-        let low = fits_at s.sizes codes fit node.var new.var in
-        let long = new.kids in
-        all.value codes fit ∙ (keeps_node s ok node).values (slice_index node.kids (slice_index codes node.var)) codes (new.nodes (slice_index codes node.var) (omega arith));
+          let low = fits_at s.sizes codes fit node.var new.var in
+          let long = new.kids in
+          all.value codes fit ∙ (keeps_node s ok node).values (slice_index node.kids (slice_index codes node.var)) codes (new.nodes (slice_index codes node.var) (omega arith));
     }
 
 pub level_new : (s : Diagrams) (node : Node) (n : ℕ) → n ≡ length s.nodes + 2 → place s.order node.var ≤ level_of (with_node s node) n
@@ -105,9 +104,9 @@ place_within [] v = omega arith
 place_within (x ∷ xs) v =
     let rest = place_within xs v in
     ⊎_elim
-        (λ same. let e = cond-true (eqb x v) 0 (place xs v + 1) same in omega arith)
-        (λ other. let e = cond-false (eqb x v) 0 (place xs v + 1) other in omega arith)
-        (cases_Bool (eqb x v))
+    (λ same. let e = cond-true (eqb x v) 0 (place xs v + 1) same in omega arith)
+    (λ other. let e = cond-false (eqb x v) 0 (place xs v + 1) other in omega arith)
+    (cases_Bool (eqb x v))
 
 level_in_within : (order : List ℕ) (o : Option Node) → level_in order o ≤ length order
 level_in_within order None = omega arith
@@ -139,15 +138,15 @@ var_below s ok n node is = let v = (ok.nodes n node is).var in let l = ok.length
 pub later_other : (s : Diagrams) → AreReduced s → (n var : ℕ) → var < length s.sizes → place s.order var ≤ level_of s n → (shape_of s n ≡ Inner var → ⊥) → place s.order var < level_of s n
 later_other s ok n var below first other =
     ⊎_elim
-        (λ later. later)
-        (λ here.
-            let same : place s.order var ≡ level_of s n = omega arith in
-            let lengths = ok.lengths in
-            let low = place_below s.order ok.order var (omega arith) in
-            ⊎_elim
-                (λ none. let e = level_none s n none in absurd (omega arith))
-                (λ some.
-                    let v : some.0.var ≡ var = sym (item_at_level s ok n some.0 some.1) ∙ ap (slice_index s.order) (sym same) ∙ at_place s.order var low in
-                    absurd (other (ap (shape_in n) some.1 ∙ ap Inner v)))
-                (cases_inner s.nodes n))
-        (cases_lt (place s.order var) (level_of s n))
+    (λ later. later)
+    (λ here.
+    let same : place s.order var ≡ level_of s n = omega arith in
+    let lengths = ok.lengths in
+    let low = place_below s.order ok.order var (omega arith) in
+    ⊎_elim
+    (λ none. let e = level_none s n none in absurd (omega arith))
+    (λ some.
+    let v : some.0.var ≡ var = sym (item_at_level s ok n some.0 some.1) ∙ ap (slice_index s.order) (sym same) ∙ at_place s.order var low in
+    absurd (other (ap (shape_in n) some.1 ∙ ap Inner v)))
+    (cases_inner s.nodes n))
+    (cases_lt (place s.order var) (level_of s n))

@@ -1,8 +1,8 @@
 -- Inner nodes by their numbers, and what reading a variable does.
-use Rattle.std.proofs.Common.{◌≡◌, ◌≢◌, ◌⊎◌, inl, inr, ⊎_elim, ℕ, zero, suc, ◌+◌, ◌-◌, ◌<◌, ◌≤◌, Bool, true, false, cond, ◌==◌, eqb, ltb, nat_lt, List, [], ◌∷◌, ◌++◌, length, get_or, slice_get, slice_index, Option, Some, None, refl, sym, ap, ◌∙◌, subst, arith, length-append}
-use Rattle.std.proofs.lemmas.Bool.{cases_lt, cases_eq, lt-ltb, le-ltb, eq-eqb, ne_eqb, cond-true, cond-false}
+use Rattle.std.proofs.Common.{◌≡◌, ◌≢◌, ◌⊎◌, inl, inr, ⊎_elim, ℕ, zero, suc, ◌+◌, ◌-◌, ◌<◌, ◌≤◌, eqb, ltb, List, [], ◌∷◌, ◌++◌, length, get_or, slice_get, slice_index, Option, Some, None, refl, sym, ap, ◌∙◌, arith}
+use Rattle.std.proofs.lemmas.Bool.{cases_lt, lt-ltb, le-ltb, eq-eqb, ne_eqb, cond-true, cond-false}
 use Rattle.decision_diagram.specs.declared.node.Node.{Node}
-use Rattle.decision_diagram.specs.Diagrams.{Diagrams, inner_at, step, follow}
+use Rattle.decision_diagram.specs.Diagrams.{inner_at, step}
 use Rattle.decision_diagram.proofs.Lists.{read_some}
 
 get_front : (nodes more : List Node) (k : ℕ) → k < length nodes → slice_get (nodes ++ more) k ≡ slice_get nodes k
@@ -33,9 +33,9 @@ inner_low nodes n h = low nodes n h
 pub inner_front : (nodes more : List Node) (n : ℕ) → n < length nodes + 2 → inner_at (nodes ++ more) n ≡ inner_at nodes n
 inner_front nodes more n h =
     ⊎_elim
-        (λ small. low (nodes ++ more) n small ∙ sym (low nodes n small))
-        (λ large. high (nodes ++ more) n large ∙ get_front nodes more (n - 2) (omega arith) ∙ sym (high nodes n large))
-        (cases_lt n 2)
+    (λ small. low (nodes ++ more) n small ∙ sym (low nodes n small))
+    (λ large. high (nodes ++ more) n large ∙ get_front nodes more (n - 2) (omega arith) ∙ sym (high nodes n large))
+    (cases_lt n 2)
 
 -- the newest node
 pub inner_last : (nodes : List Node) (node : Node) (n : ℕ) → n ≡ length nodes + 2 → inner_at (nodes ++ node ∷ []) n ≡ Some node
@@ -50,13 +50,13 @@ inner_past nodes n h = high nodes n (omega arith) ∙ get_past nodes (n - 2) (om
 pub inner_within : (nodes : List Node) (n : ℕ) (node : Node) → inner_at nodes n ≡ Some node → (2 ≤ n) × (n < length nodes + 2)
 inner_within nodes n node is =
     ⊎_elim
-        (λ small. let none = low nodes n small in absurd (let e : None ≡ Some node = sym none ∙ is in cc))
-        (λ large.
-            ⊎_elim
-                (λ inside. (large, inside))
-                (λ past. absurd (let e : None ≡ Some node = sym (inner_past nodes n past) ∙ is in cc))
-                (cases_lt n (length nodes + 2)))
-        (cases_lt n 2)
+    (λ small. let none = low nodes n small in absurd (let e : None ≡ Some node = sym none ∙ is in cc))
+    (λ large.
+    ⊎_elim
+    (λ inside. (large, inside))
+    (λ past. absurd (let e : None ≡ Some node = sym (inner_past nodes n past) ∙ is in cc))
+    (cases_lt n (length nodes + 2)))
+    (cases_lt n 2)
 
 cases_Option : (o : Option Node) → (o ≡ None) ⊎ ((node : Node) × (o ≡ Some node))
 cases_Option None = inl refl
@@ -74,9 +74,9 @@ some_there (x ∷ xs) (suc k) h = some_there xs k (omega arith)
 pub none_low : (nodes : List Node) (n : ℕ) → n < length nodes + 2 → inner_at nodes n ≡ None → n < 2
 none_low nodes n h none =
     ⊎_elim
-        (λ small. small)
-        (λ large. let w = some_there nodes (n - 2) (omega arith) in absurd (let e : None ≡ Some w.0 = sym none ∙ high nodes n large ∙ w.1 in cc))
-        (cases_lt n 2)
+    (λ small. small)
+    (λ large. let w = some_there nodes (n - 2) (omega arith) in absurd (let e : None ≡ Some w.0 = sym none ∙ high nodes n large ∙ w.1 in cc))
+    (cases_lt n 2)
 
 -- ---- reading one variable
 pub step_none : (o : Option Node) (var code n : ℕ) → o ≡ None → step o var code n ≡ n

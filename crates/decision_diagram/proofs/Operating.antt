@@ -1,5 +1,5 @@
 -- Conjunction and disjunction of values.
-use Rattle.std.proofs.Common.{◌≡◌, ◌⊎◌, inl, inr, ⊎_elim, ℕ, ◌+◌, ◌<◌, ◌≤◌, Bool, true, false, not, ◌&&◌, ◌||◌, cond, List, [], ◌∷◌, ◌++◌, min, length, slice_index, Option, Some, None, Vec, Result, Ok, Err, OnOk, OnErr, IfOk, IsTrue, refl, sym, ap, ◌∙◌, subst, arith}
+use Rattle.std.proofs.Common.{◌≡◌, ◌⊎◌, ⊎_elim, ℕ, ◌+◌, ◌<◌, ◌≤◌, Bool, true, false, not, cond, List, [], ◌∷◌, ◌++◌, min, length, slice_index, Some, None, Vec, Result, Ok, Err, OnOk, OnErr, IsTrue, refl, sym, ap, ◌∙◌, subst, arith}
 use Rattle.std.specs.BTreeMap.{BTreeMap}
 use Rattle.std.specs.Str.{bytes_eq}
 use Rattle.std.specs.declared.alloc.Global.{Global}
@@ -15,7 +15,7 @@ use Rattle.decision_diagram.specs.Diagrams.{Diagrams, IsNode, value_of, level_of
 use Rattle.decision_diagram.specs.Operations.{combine, IsResult, AreResults}
 use Rattle.decision_diagram.proofs.Fitting.{fits_at}
 use Rattle.decision_diagram.proofs.Lookups.{bytes_same}
-use Rattle.decision_diagram.proofs.Growth.{keeps_trans, keeps_level}
+use Rattle.decision_diagram.proofs.Growth.{keeps_level}
 use Rattle.decision_diagram.proofs.Meanings.{value_constant}
 
 absorb_left : (op : Operation) (y : Bool) → combine op (combine op true false) y ≡ combine op true false
@@ -95,7 +95,7 @@ parts_more old new op a b var kids n kid parts node later value =
       nodes = λ code h. ⊎_elim (λ front. subst (IsNode new) (sym (at_front code front)) (parts.nodes code front)) (λ now. subst (IsNode new) (sym (at_end code now h)) node) (cases_lt code n);
       later = λ code h. ⊎_elim (λ front. subst (λ (m : ℕ). place old.order var < level_of new m) (sym (at_front code front)) (parts.later code front)) (λ now. subst (λ (m : ℕ). place old.order var < level_of new m) (sym (at_end code now h)) later) (cases_lt code n);
       values = λ code h codes fit at.
-        ⊎_elim
+          ⊎_elim
           (λ front. ap (λ (m : ℕ). value_of new m codes) (at_front code front) ∙ parts.values code front codes fit at)
           (λ now. ap (λ (m : ℕ). value_of new m codes) (at_end code now h) ∙ value codes fit (at ∙ omega arith))
           (cases_lt code n);
@@ -106,9 +106,9 @@ pub parts_mean_one : (old new newest : Diagrams) (op : Operation) (a b var : ℕ
 parts_mean_one old new newest op a b var kids n m parts size below same means = record {
   node = means.node;
   value = λ codes fit.
-    let fit_old : IsTrue (fits old.sizes codes) = subst (λ (sizes : List ℕ). IsTrue (fits sizes codes)) same fit in
-    let low = fits_at old.sizes codes fit_old var below in
-    means.value codes fit ∙ parts.values (slice_index codes var) (omega arith) codes fit_old refl;
+      let fit_old : IsTrue (fits old.sizes codes) = subst (λ (sizes : List ℕ). IsTrue (fits sizes codes)) same fit in
+      let low = fits_at old.sizes codes fit_old var below in
+      means.value codes fit ∙ parts.values (slice_index codes var) (omega arith) codes fit_old refl;
 }
 
 -- ---- what was computed before
@@ -137,16 +137,16 @@ result_keeps old new op a b n keeps result = record {
   right = keeps.nodes b result.right;
   node = keeps.nodes n result.node;
   value = λ codes fit.
-    keeps.values n codes result.node
-    ∙ result.value codes (subst (λ (sizes : List ℕ). IsTrue (fits sizes codes)) keeps.sizes fit)
-    ∙ ap (λ (x : Bool). combine op x (value_of old b codes)) (sym (keeps.values a codes result.left))
-    ∙ ap (combine op (value_of new a codes)) (sym (keeps.values b codes result.right));
+      keeps.values n codes result.node
+      ∙ result.value codes (subst (λ (sizes : List ℕ). IsTrue (fits sizes codes)) keeps.sizes fit)
+      ∙ ap (λ (x : Bool). combine op x (value_of old b codes)) (sym (keeps.values a codes result.left))
+      ∙ ap (combine op (value_of new a codes)) (sym (keeps.values b codes result.right));
   level =
-    let l = result.level in
-    let e = keeps_level old new keeps a result.left in
-    let f = keeps_level old new keeps b result.right in
-    let g = keeps_level old new keeps n result.node in
-    omega arith;
+      let l = result.level in
+      let e = keeps_level old new keeps a result.left in
+      let f = keeps_level old new keeps b result.right in
+      let g = keeps_level old new keeps n result.node in
+      omega arith;
 }
 
 pub results_keep : (old new : Diagrams) (op : Operation) (index : BTreeMap (Vec ℕ Global) ℕ) → Keeps old new → AreResults old op index → AreResults new op index
@@ -159,16 +159,16 @@ results_none s op index none = λ a b n is. absurd (let e : None ≡ Some n = sy
 pub results_more : (s : Diagrams) (op : Operation) (old new : BTreeMap (Vec ℕ Global) ℕ) (key : List ℕ) (a b n : ℕ) → AreResults s op old → IsResult s op a b n → (key ≡ a ∷ b ∷ []) ⊎ (key ≡ b ∷ a ∷ []) → ((q : List ℕ) → found new q ≡ cond (bytes_eq key q) (Some n) (found old q)) → AreResults s op new
 results_more s op old new key a b n results result pair after = λ x y m is.
     ⊎_elim
-        (λ same.
-            let e : Some n ≡ Some m = sym (after (x ∷ y ∷ []) ∙ cond-true (bytes_eq key (x ∷ y ∷ [])) (Some n) (found old (x ∷ y ∷ [])) same) ∙ is in
-            let n_is : n ≡ m = cc in
-            let key_is = bytes_same key (x ∷ y ∷ []) same in
-            subst (IsResult s op x y) n_is (⊎_elim
-                (λ forth. let f : a ∷ b ∷ [] ≡ x ∷ y ∷ [] = sym forth ∙ key_is in let a_is : a ≡ x = cc in let b_is : b ≡ y = cc in subst (λ (v : ℕ). IsResult s op v y n) a_is (subst (λ (w : ℕ). IsResult s op a w n) b_is result))
-                (λ back. let f : b ∷ a ∷ [] ≡ x ∷ y ∷ [] = sym back ∙ key_is in let b_is : b ≡ x = cc in let a_is : a ≡ y = cc in subst (λ (v : ℕ). IsResult s op v y n) b_is (subst (λ (w : ℕ). IsResult s op b w n) a_is (result_swap s op a b n result)))
-                pair))
-        (λ apart. results x y m (sym (after (x ∷ y ∷ []) ∙ cond-false (bytes_eq key (x ∷ y ∷ [])) (Some n) (found old (x ∷ y ∷ [])) apart) ∙ is))
-        (cases_Bool (bytes_eq key (x ∷ y ∷ [])))
+    (λ same.
+    let e : Some n ≡ Some m = sym (after (x ∷ y ∷ []) ∙ cond-true (bytes_eq key (x ∷ y ∷ [])) (Some n) (found old (x ∷ y ∷ [])) same) ∙ is in
+    let n_is : n ≡ m = cc in
+    let key_is = bytes_same key (x ∷ y ∷ []) same in
+    subst (IsResult s op x y) n_is (⊎_elim
+    (λ forth. let f : a ∷ b ∷ [] ≡ x ∷ y ∷ [] = sym forth ∙ key_is in let a_is : a ≡ x = cc in let b_is : b ≡ y = cc in subst (λ (v : ℕ). IsResult s op v y n) a_is (subst (λ (w : ℕ). IsResult s op a w n) b_is result))
+    (λ back. let f : b ∷ a ∷ [] ≡ x ∷ y ∷ [] = sym back ∙ key_is in let b_is : b ≡ x = cc in let a_is : a ≡ y = cc in subst (λ (v : ℕ). IsResult s op v y n) b_is (subst (λ (w : ℕ). IsResult s op b w n) a_is (result_swap s op a b n result)))
+    pair))
+    (λ apart. results x y m (sym (after (x ∷ y ∷ []) ∙ cond-false (bytes_eq key (x ∷ y ∷ [])) (Some n) (found old (x ∷ y ∷ [])) apart) ∙ is))
+    (cases_Bool (bytes_eq key (x ∷ y ∷ [])))
 
 pub results_same : (s : Diagrams) (op : Operation) (old new : BTreeMap (Vec ℕ Global) ℕ) → AreResults s op old → ((q : List ℕ) → found new q ≡ found old q) → AreResults s op new
 results_same s op old new results same = λ a b n is. results a b n (sym (same (a ∷ b ∷ [])) ∙ is)
@@ -177,9 +177,9 @@ results_same s op old new results same = λ a b n is. results a b n (sym (same (
 pub results_found : (s : Diagrams) (op : Operation) (index : BTreeMap (Vec ℕ Global) ℕ) (key : List ℕ) (a b n : ℕ) → AreResults s op index → (key ≡ a ∷ b ∷ []) ⊎ (key ≡ b ∷ a ∷ []) → found index key ≡ Some n → IsResult s op a b n
 results_found s op index key a b n results pair is =
     ⊎_elim
-        (λ forth. results a b n (ap (found index) (sym forth) ∙ is))
-        (λ back. result_swap s op b a n (results b a n (ap (found index) (sym back) ∙ is)))
-        pair
+    (λ forth. results a b n (ap (found index) (sym forth) ∙ is))
+    (λ back. result_swap s op b a n (results b a n (ap (found index) (sym back) ∙ is)))
+    pair
 
 -- what the index holds after an entry that was made or not
 pub results_after : {E : Type 0} (s : Diagrams) (op : Operation) (old new : BTreeMap (Vec ℕ Global) ℕ) (key : List ℕ) (a b n : ℕ) (r : Result (Unit {0}) E) → AreResults s op old → IsResult s op a b n → (key ≡ a ∷ b ∷ []) ⊎ (key ≡ b ∷ a ∷ []) → OnOk r ((q : List ℕ) → found new q ≡ cond (bytes_eq key q) (Some n) (found old q)) → OnErr r ((q : List ℕ) → found new q ≡ found old q) → AreResults s op new
@@ -193,9 +193,9 @@ result_made old new op a b n keeps left right means level = record {
   right = keeps.nodes b right;
   node = means.node;
   value = λ codes fit.
-    means.value codes fit
-    ∙ ap (λ (x : Bool). combine op x (value_of old b codes)) (sym (keeps.values a codes left))
-    ∙ ap (combine op (value_of new a codes)) (sym (keeps.values b codes right));
+      means.value codes fit
+      ∙ ap (λ (x : Bool). combine op x (value_of old b codes)) (sym (keeps.values a codes left))
+      ∙ ap (combine op (value_of new a codes)) (sym (keeps.values b codes right));
   level = let e = keeps_level old new keeps a left in let f = keeps_level old new keeps b right in omega arith;
 }
 
@@ -204,9 +204,9 @@ pub result_means : (old new : Diagrams) (op : Operation) (a b n : ℕ) → Keeps
 result_means old new op a b n keeps left right result = record {
   node = result.node;
   value = λ codes fit.
-    result.value codes fit
-    ∙ ap (λ (x : Bool). combine op x (value_of new b codes)) (keeps.values a codes left)
-    ∙ ap (combine op (value_of old a codes)) (keeps.values b codes right);
+      result.value codes fit
+      ∙ ap (λ (x : Bool). combine op x (value_of new b codes)) (keeps.values a codes left)
+      ∙ ap (combine op (value_of old a codes)) (keeps.values b codes right);
 }
 
 pub result_level : (old new : Diagrams) (op : Operation) (a b n : ℕ) → Keeps old new → IsNode old a → IsNode old b → IsResult new op a b n → min (level_of old a) (level_of old b) ≤ level_of new n

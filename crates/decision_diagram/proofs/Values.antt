@@ -1,10 +1,10 @@
 -- Values of nodes: reading the variables in order.
-use Rattle.std.proofs.Common.{◌≡◌, ◌≢◌, ◌⊎◌, inl, inr, ⊎_elim, ℕ, zero, suc, ◌+◌, ◌-◌, ◌<◌, ◌≤◌, Bool, true, false, cond, ◌==◌, eqb, List, [], ◌∷◌, ◌++◌, length, drop, get_or, slice_index, Option, Some, None, refl, sym, ap, ◌∙◌, subst, arith, length-append, length-drop}
+use Rattle.std.proofs.Common.{◌≡◌, ⊎_elim, ℕ, zero, suc, ◌+◌, ◌<◌, ◌≤◌, eqb, List, [], ◌∷◌, ◌++◌, length, drop, slice_index, Option, Some, None, refl, sym, ap, ◌∙◌, arith}
 use Rattle.std.proofs.lemmas.Bool.{cases_lt, cases_eq}
-use Rattle.std.proofs.lemmas.List.{get_or_past, drop_more, get_or-drop}
+use Rattle.std.proofs.lemmas.List.{get_or_past, drop_more}
 use Rattle.decision_diagram.specs.declared.node.Node.{Node}
-use Rattle.decision_diagram.specs.Orders.{IsPermutation, place}
-use Rattle.decision_diagram.specs.Diagrams.{Diagrams, inner_at, step, follow, level_in, level_of, IsNode, value_of, IsReducedNode, AreReduced}
+use Rattle.decision_diagram.specs.Orders.{place}
+use Rattle.decision_diagram.specs.Diagrams.{Diagrams, inner_at, step, follow, level_in, level_of, value_of, AreReduced}
 use Rattle.decision_diagram.proofs.Places.{place_below, place_of_item, at_place}
 use Rattle.decision_diagram.proofs.Nodes.{inner_front, inner_within, cases_inner, step_none, step_here, step_other}
 
@@ -26,9 +26,9 @@ level_below s ok n node is =
 pub level_within : (s : Diagrams) → AreReduced s → (n : ℕ) → level_of s n ≤ length s.order
 level_within s ok n =
     ⊎_elim
-        (λ none. let e = level_none s n none in omega arith)
-        (λ some. let b = level_below s ok n some.0 some.1 in omega arith)
-        (cases_inner s.nodes n)
+    (λ none. let e = level_none s n none in omega arith)
+    (λ some. let b = level_below s ok n some.0 some.1 in omega arith)
+    (cases_inner s.nodes n)
 
 -- the variable at an inner node's level
 pub item_at_level : (s : Diagrams) → AreReduced s → (n : ℕ) (node : Node) → inner_at s.nodes n ≡ Some node → slice_index s.order (level_of s n) ≡ node.var
@@ -52,14 +52,14 @@ follow_one nodes order codes n i h = ap (λ (vars : List ℕ). follow nodes vars
 pub step_before : (s : Diagrams) → AreReduced s → (n i code : ℕ) → i < level_of s n → step (inner_at s.nodes n) (slice_index s.order i) code n ≡ n
 step_before s ok n i code h =
     ⊎_elim
-        (λ none. step_none (inner_at s.nodes n) (slice_index s.order i) code n none)
-        (λ some.
-            let node = some.0 in
-            let l = level_some s n node some.1 in
-            let b = level_below s ok n node some.1 in
-            let p = place_of_item s.order ok.order i (omega arith) in
-            step_other (inner_at s.nodes n) node (slice_index s.order i) code n some.1 (λ same. let e = ap (place s.order) same in omega arith))
-        (cases_inner s.nodes n)
+    (λ none. step_none (inner_at s.nodes n) (slice_index s.order i) code n none)
+    (λ some.
+    let node = some.0 in
+    let l = level_some s n node some.1 in
+    let b = level_below s ok n node some.1 in
+    let p = place_of_item s.order ok.order i (omega arith) in
+    step_other (inner_at s.nodes n) node (slice_index s.order i) code n some.1 (λ same. let e = ap (place s.order) same in omega arith))
+    (cases_inner s.nodes n)
 
 pub follow_before : (s : Diagrams) → AreReduced s → (codes : List ℕ) (n i : ℕ) → i < level_of s n → follow s.nodes (drop i s.order) codes n ≡ follow s.nodes (drop (i + 1) s.order) codes n
 follow_before s ok codes n i h =
@@ -96,20 +96,20 @@ kid_within : (s : Diagrams) → AreReduced s → (n : ℕ) (node : Node) (code :
 kid_within s ok n node code is =
     let w = inner_within s.nodes n node is in
     ⊎_elim
-        (λ inside. let b = (ok.nodes n node is).before code inside in omega arith)
-        (λ past. let e = get_or_past node.kids code 0 past in omega arith)
-        (cases_lt code (length node.kids))
+    (λ inside. let b = (ok.nodes n node is).before code inside in omega arith)
+    (λ past. let e = get_or_past node.kids code 0 past in omega arith)
+    (cases_lt code (length node.kids))
 
 pub step_within : (s : Diagrams) → AreReduced s → (n var code : ℕ) → n < length s.nodes + 2 → step (inner_at s.nodes n) var code n < length s.nodes + 2
 step_within s ok n var code h =
     ⊎_elim
-        (λ none. let e = step_none (inner_at s.nodes n) var code n none in omega arith)
-        (λ some.
-            ⊎_elim
-                (λ here. let e = step_here (inner_at s.nodes n) some.0 var code n some.1 here in let k = kid_within s ok n some.0 code some.1 in omega arith)
-                (λ other. let e = step_other (inner_at s.nodes n) some.0 var code n some.1 other in omega arith)
-                (cases_eq some.0.var var))
-        (cases_inner s.nodes n)
+    (λ none. let e = step_none (inner_at s.nodes n) var code n none in omega arith)
+    (λ some.
+    ⊎_elim
+    (λ here. let e = step_here (inner_at s.nodes n) some.0 var code n some.1 here in let k = kid_within s ok n some.0 code some.1 in omega arith)
+    (λ other. let e = step_other (inner_at s.nodes n) some.0 var code n some.1 other in omega arith)
+    (cases_eq some.0.var var))
+    (cases_inner s.nodes n)
 
 -- earlier nodes are followed as before
 pub follow_front : (s : Diagrams) → AreReduced s → (more : List Node) (vars codes : List ℕ) (n : ℕ) → n < length s.nodes + 2 → follow (s.nodes ++ more) vars codes n ≡ follow s.nodes vars codes n

@@ -1,5 +1,5 @@
 -- Decision diagrams over variables of several values.
-use Rattle.std.specs.Prelude.{◌≡◌, ℕ, ◌+◌, ◌-◌, ◌<◌, ◌≤◌, ◌==◌, Bool, cond, nat_lt, List, [], ◌∷◌, length, Option, Some, None, slice_get, slice_index, IsTrue}
+use Rattle.std.specs.Prelude.{◌≡◌, ℕ, ◌+◌, ◌-◌, ◌<◌, ◌==◌, Bool, cond, nat_lt, List, [], ◌∷◌, length, Option, Some, None, slice_get, slice_index, IsTrue}
 use Rattle.domains.specs.Tables.{fits, are_sizes}
 use Rattle.decision_diagram.specs.Orders.{IsPermutation, place}
 use Rattle.decision_diagram.specs.declared.node.Node.{Node}

@@ -11,4 +11,4 @@ mod store;
 
 pub use node::{NodeId, Shape};
 pub use order::Order;
-pub use store::Store;
+pub use store::{Root, Store};

@@ -29,6 +29,13 @@ pub struct Store {
     disjunctions: Index,
 }
 
+/// A node with its store.
+#[derive(Drop)]
+pub struct Root {
+    pub store: Store,
+    pub node: NodeId,
+}
+
 impl Model for Store {
     ghost use Rattle.decision_diagram.specs.Diagrams.{Diagrams};
 
@@ -324,7 +331,13 @@ impl Store {
     }
 
     // Keeps the result of an operation on two nodes.
-    pub(crate) fn remember(&mut self, op: Operation, a: NodeId, b: NodeId, n: NodeId) -> Result<(), NoMemory>
+    pub(crate) fn remember(
+        &mut self,
+        op: Operation,
+        a: NodeId,
+        b: NodeId,
+        n: NodeId,
+    ) -> Result<(), NoMemory>
         requires { IsResult self.old op a b n }
         ensures same { self.new ≡ self.old }
         ensures result { IsResult self.new op a b n }

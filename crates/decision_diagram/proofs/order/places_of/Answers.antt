@@ -1,4 +1,4 @@
-use Rattle.std.proofs.Common.{◌∙◌, sym, arith, length, ◌<◌, ◌≤◌, ◌≡◌, ap, subst, ℕ, List, replicate, slice_index, rules}
+use Rattle.std.proofs.Common.{sym, arith, length, ◌<◌, ◌≤◌, ◌≡◌, subst, ℕ, List, slice_index}
 use Rattle.decision_diagram.proofs.Lists.{read}
 use Rattle.decision_diagram.proofs.Places.{AreMarked, marked_none, marked_more, marked_all, too_high, again}
 use Rattle.decision_diagram.proofs.order.places_of.Goals as goal
@@ -14,13 +14,13 @@ pub returns-then-var-len-clause-none : goal.returns-then-var-len-clause-none
 returns-then-var-len-clause-none c =
     let is = c.from-var.ensures in
     elim c.then-var-len.branch [
-      then-var-len-via-then-var-len w ↦
-        too_high c.args.list.now c.loop-i.i c.loop-i-test.true (let high = w.if-var-len.true in omega arith)
-    | then-var-len-via-else-var-len+then-get-len w ↦
-        let low = w.if-var-len.false in
-        let short = w.if-get-len.true in
-        let met : slice_index c.loop-i.places c.from-var.result ≡ w.get.result.now = read c.loop-i.places c.from-var.result w.get.result.now 0 w.get.ensures in
-        again c.args.list.now c.loop-i.places c.loop-i.i c.loop-i.invariant c.loop-i-test.true (omega arith) (subst (λ (v : ℕ). slice_index c.loop-i.places v < length c.args.list.now) is (omega arith))
+      | then-var-len-via-then-var-len w ↦
+          too_high c.args.list.now c.loop-i.i c.loop-i-test.true (let high = w.if-var-len.true in omega arith)
+      | then-var-len-via-else-var-len+then-get-len w ↦
+          let low = w.if-var-len.false in
+          let short = w.if-get-len.true in
+          let met : slice_index c.loop-i.places c.from-var.result ≡ w.get.result.now = read c.loop-i.places c.from-var.result w.get.result.now 0 w.get.ensures in
+          again c.args.list.now c.loop-i.places c.loop-i.i c.loop-i.invariant c.loop-i-test.true (omega arith) (subst (λ (v : ℕ). slice_index c.loop-i.places v < length c.args.list.now) is (omega arith))
     ]
 
 pub set-requires : goal.set-requires

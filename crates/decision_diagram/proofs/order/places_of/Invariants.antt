@@ -1,4 +1,3 @@
-use Rattle.std.proofs.Common.{◌≡◌, length}
 use Rattle.decision_diagram.proofs.Places.{AreMarked}
 use Rattle.decision_diagram.proofs.order.places_of.Given as goal
 

@@ -1,7 +1,6 @@
-use Rattle.std.proofs.Common.{◌∙◌, sym, arith, length, ◌<◌, ◌≡◌, ap, subst, ℕ, List, slice_index, slice_get, Some, rules}
+use Rattle.std.proofs.Common.{◌∙◌, sym, length, ◌<◌, ◌≡◌, subst, ℕ, List, slice_index, slice_get, Some}
 use Rattle.decision_diagram.proofs.Lists.{read}
 use Rattle.decision_diagram.proofs.Places.{place_below}
-use Rattle.decision_diagram.specs.Orders.{place}
 use Rattle.decision_diagram.proofs.order.Order.place_of.Goals as goal
 
 pub returns-clause-within : goal.returns-clause-within

@@ -1,9 +1,9 @@
-use Rattle.std.proofs.Common.{◌≡◌, ◌∙◌, ◌<◌, ◌≤◌, ◌+◌, ◌-◌, min, ◌∷◌, ◌++◌, [], ℕ, Bool, List, IsTrue, length, slice_index, sym, ap, subst, refl, arith}
+use Rattle.std.proofs.Common.{◌≡◌, ◌∙◌, ◌<◌, ◌≤◌, ◌+◌, ◌-◌, min, ℕ, Bool, List, IsTrue, length, slice_index, sym, ap, subst, arith}
 use Rattle.domains.specs.Tables.{fits}
 use Rattle.decision_diagram.specs.Orders.{place}
 use Rattle.decision_diagram.specs.Operations.{combine}
-use Rattle.decision_diagram.specs.Diagrams.{Diagrams, IsNode, value_of, level_of, Keeps, Means, choice}
-use Rattle.decision_diagram.proofs.Growth.{keeps_trans, keeps_level}
+use Rattle.decision_diagram.specs.Diagrams.{Diagrams, value_of, level_of, Keeps}
+use Rattle.decision_diagram.proofs.Growth.{keeps_trans}
 use Rattle.decision_diagram.proofs.Meanings.{level_at_most}
 use Rattle.decision_diagram.proofs.Operating.{AreParts, parts_keeps, parts_more, parts_mean_one, result_made, result_means}
 use Rattle.decision_diagram.proofs.store.Store.+apply.Goals as goal
@@ -35,14 +35,14 @@ loop-code-preserved t c =
     let parts = parts_keeps old s new op c.args.a c.args.b var c.loop-code.kids.items c.loop-code.code c.apply.ensures.kept c.loop-code.invariant.parts in
     let order = ap (λ (list : List ℕ). place list var) kept.order in
     let later : place old.order var < level_of new c.in_ok-apply.field-0 =
-        let left = c.cofactor-left.ensures.later in
-        let right = c.cofactor-right.ensures.later in
-        let level = c.in_ok-apply.ensures.level in
-        omega arith in
+    let left = c.cofactor-left.ensures.later in
+    let right = c.cofactor-right.ensures.later in
+    let level = c.in_ok-apply.ensures.level in
+    omega arith in
     let value : (codes : List ℕ) → IsTrue (fits old.sizes codes) → slice_index codes var ≡ c.loop-code.code → value_of new c.in_ok-apply.field-0 codes ≡ combine op (value_of old c.args.a codes) (value_of old c.args.b codes) = λ codes fit at.
-        means.value codes (subst (λ (sizes : List ℕ). IsTrue (fits sizes codes)) (sym (c.apply.ensures.kept.sizes ∙ kept.sizes)) fit)
-        ∙ ap (λ (x : Bool). combine op x (value_of s c.cofactor-right.result codes)) (sym (c.cofactor-left.ensures.value codes at) ∙ kept.values c.args.a codes c.requires.a)
-        ∙ ap (combine op (value_of old c.args.a codes)) (sym (c.cofactor-right.ensures.value codes at) ∙ kept.values c.args.b codes c.requires.b) in
+    means.value codes (subst (λ (sizes : List ℕ). IsTrue (fits sizes codes)) (sym (c.apply.ensures.kept.sizes ∙ kept.sizes)) fit)
+    ∙ ap (λ (x : Bool). combine op x (value_of s c.cofactor-right.result codes)) (sym (c.cofactor-left.ensures.value codes at) ∙ kept.values c.args.a codes c.requires.a)
+    ∙ ap (combine op (value_of old c.args.a codes)) (sym (c.cofactor-right.ensures.value codes at) ∙ kept.values c.args.b codes c.requires.b) in
     let all = parts_more old new op c.args.a c.args.b var c.loop-code.kids.items c.loop-code.code c.in_ok-apply.field-0 parts means.node later value in
     record {
       kept = keeps_trans old s new kept c.apply.ensures.kept;

@@ -1,4 +1,4 @@
-use Rattle.std.proofs.Common.{◌≡◌, ◌-◌, min, length}
+use Rattle.std.proofs.Common.{◌-◌, min, length}
 use Rattle.decision_diagram.specs.Diagrams.{level_of, Keeps}
 use Rattle.decision_diagram.proofs.Operating.{AreParts}
 use Rattle.decision_diagram.proofs.store.Store.+apply.Given as goal

@@ -1,5 +1,5 @@
-use Rattle.std.proofs.Common.{◌≡◌, ◌<◌, ◌∙◌, ℕ, length, slice_index, slice_get, Some, sym, ap, subst, arith}
-use Rattle.decision_diagram.specs.Diagrams.{Diagrams, AreReduced, inner_at, kids_in}
+use Rattle.std.proofs.Common.{◌≡◌, ℕ, slice_get, Some, subst}
+use Rattle.decision_diagram.specs.Diagrams.{Diagrams, AreReduced, inner_at}
 use Rattle.decision_diagram.proofs.Lists.{read, read_within}
 use Rattle.decision_diagram.proofs.Meanings.{value_child}
 use Rattle.decision_diagram.proofs.store.Store.child.Goals as goal

@@ -1,4 +1,4 @@
-use Rattle.std.proofs.Common.{◌≡◌, ◌∙◌, ℕ, sym, ap, subst, refl, ⊎_elim}
+use Rattle.std.proofs.Common.{◌∙◌, sym, subst, refl, ⊎_elim}
 use Rattle.decision_diagram.specs.Diagrams.{Diagrams, AreReduced}
 use Rattle.decision_diagram.proofs.Meanings.{later_other}
 use Rattle.decision_diagram.proofs.store.Store.cofactor.Goals as goal

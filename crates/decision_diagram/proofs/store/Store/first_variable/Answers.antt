@@ -1,4 +1,4 @@
-use Rattle.std.proofs.Common.{◌<◌, ℕ, length, sym, subst}
+use Rattle.std.proofs.Common.{◌<◌, length, sym, subst}
 use Rattle.decision_diagram.specs.Diagrams.{Diagrams, AreReduced}
 use Rattle.decision_diagram.proofs.Meanings.{var_below}
 use Rattle.decision_diagram.proofs.store.Store.first_variable.Goals as goal

@@ -1,4 +1,4 @@
-use Rattle.std.proofs.Common.{◌≡◌, ◌<◌, ◌+◌, ◌-◌, ℕ, length, Some, subst, sym, refl}
+use Rattle.std.proofs.Common.{◌≡◌, ◌<◌, ◌+◌, ◌-◌, length, Some, subst, sym, refl}
 use Rattle.decision_diagram.specs.Diagrams.{Diagrams, AreReduced, inner_at}
 use Rattle.decision_diagram.proofs.Nodes.{inner_read}
 use Rattle.decision_diagram.proofs.store.Store.inner.Goals as goal

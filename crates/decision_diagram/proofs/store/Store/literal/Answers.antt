@@ -1,8 +1,7 @@
-use Rattle.std.proofs.Common.{◌≡◌, ◌<◌, ◌∙◌, ◌==◌, ℕ, List, length, slice_index, slice_get, Some, sym, ap, subst, arith, IsTrue}
+use Rattle.std.proofs.Common.{◌≡◌, ◌∙◌, ◌==◌, ℕ, List, length, slice_index, slice_get, Some, sym, ap, subst, arith, IsTrue}
 use Rattle.std.specs.Int.{bit_at}
 use Rattle.domains.specs.Tables.{fits}
 use Rattle.decision_diagram.specs.Constants.{constant_node}
-use Rattle.decision_diagram.specs.Orders.{place}
 use Rattle.decision_diagram.specs.Diagrams.{Diagrams, AreReduced, level_of, choice}
 use Rattle.decision_diagram.proofs.Fitting.{size_few}
 use Rattle.decision_diagram.proofs.Lists.{read}
@@ -44,5 +43,5 @@ returns-clause-value c =
     let e = size_read s c.self.inside.vars c.args.var c.from.result c.get-size.result.now (ap (λ (d : Diagrams). d.sizes) c.self.view_is) c.from.ensures c.get-size.ensures in
     let long : length c.deref.result.now ≡ slice_index s.sizes c.args.var = ap (length {A = ℕ}) c.deref.ensures.value ∙ c.in_ok-kids.ensures.length ∙ sym e in
     means_as c.node.new.self (choice s c.args.var c.deref.result.now) (λ at. bit_at c.args.codes (slice_index at c.args.var) == 1) c.node.result c.node.ensures.value
-        (λ codes fit. literal_choice s c.args.var c.args.codes c.deref.result.now codes (subst (λ (xs : List ℕ). IsTrue (fits xs codes)) c.node.ensures.kept.sizes fit) c.requires.var long
-            (λ code h. ap (λ (xs : List ℕ). slice_index xs code) c.deref.ensures.value ∙ c.in_ok-kids.ensures.kids code (omega arith)))
+    (λ codes fit. literal_choice s c.args.var c.args.codes c.deref.result.now codes (subst (λ (xs : List ℕ). IsTrue (fits xs codes)) c.node.ensures.kept.sizes fit) c.requires.var long
+    (λ code h. ap (λ (xs : List ℕ). slice_index xs code) c.deref.ensures.value ∙ c.in_ok-kids.ensures.kids code (omega arith)))

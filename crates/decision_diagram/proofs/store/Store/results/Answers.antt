@@ -1,4 +1,4 @@
-use Rattle.std.proofs.Common.{◌≡◌, ℕ, sym, subst}
+use Rattle.std.proofs.Common.{sym, subst}
 use Rattle.decision_diagram.specs.declared.operation.Operation.{Operation}
 use Rattle.decision_diagram.specs.declared.operation.Operation.TheVariants.{And, Or}
 use Rattle.decision_diagram.specs.Diagrams.{Diagrams}

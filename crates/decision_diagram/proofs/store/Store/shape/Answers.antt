@@ -1,5 +1,4 @@
-use Rattle.std.proofs.Common.{◌≡◌, ◌<◌, ◌∙◌, ℕ, length, Some, true, false, sym, ap, subst}
-use Rattle.decision_diagram.specs.declared.node.Shape.TheVariants.{Inner}
+use Rattle.std.proofs.Common.{◌≡◌, ◌<◌, ◌∙◌, ℕ, length, true, false, sym, subst}
 use Rattle.decision_diagram.specs.Diagrams.{Diagrams, AreReduced}
 use Rattle.decision_diagram.proofs.Meanings.{value_constant}
 use Rattle.decision_diagram.proofs.store.Store.shape.Goals as goal

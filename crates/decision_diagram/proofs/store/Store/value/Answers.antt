@@ -1,4 +1,4 @@
-use Rattle.std.proofs.Common.{◌≡◌, ◌<◌, ◌∙◌, ℕ, length, slice_index, slice_get, Some, sym, ap, subst, refl, arith}
+use Rattle.std.proofs.Common.{◌≡◌, ◌∙◌, ℕ, slice_index, sym, subst, refl, arith}
 use Rattle.decision_diagram.specs.declared.node.Shape.TheVariants.{Inner}
 use Rattle.decision_diagram.specs.Diagrams.{shape_of}
 use Rattle.decision_diagram.proofs.Fitting.{fits_long, fits_at}

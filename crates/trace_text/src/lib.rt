@@ -10,3 +10,6 @@ mod worked;
 pub use fault::{TraceFault, TraceKind};
 pub use read::read_trace;
 pub use worked::worked_texts;
+
+#[cfg(test)]
+mod tests;

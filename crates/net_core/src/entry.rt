@@ -1,5 +1,5 @@
 // Items of a trace and entries of a journal.
-ghost use Rattle.std.specs.Prelude.{◌≡◌, IfOk};
+ghost use Rattle.std.specs.Prelude.{◌≡◌};
 
 use polis_base::{Duplicate, List, NoMemory};
 use transition_table::{Outcome, Party, Snapshot};

@@ -1,9 +1,8 @@
 // For each machine the place of the next event item that it reads and that isn't delivered to it.
-ghost use Rattle.std.specs.Prelude.{◌≡◌, ◌<◌, ◌≤◌, ◌+◌, not, length, drop, map, [], IfOk, IsTrue, ◌↔◌, ◌-◌, nat_lt, slice_get, Some};
+ghost use Rattle.std.specs.Prelude.{◌≡◌, ◌<◌, ◌≤◌, ◌+◌, not, length, drop, map, IfOk, IsTrue, ◌↔◌, ◌-◌, nat_lt, slice_get, Some};
 ghost use Rattle.std.specs.List.{prefix_len, IsFirstBest};
 ghost use Rattle.net_core.specs.declared.entry.TraceItem.TheVariants.{Settle};
 ghost use Rattle.polis_base.specs.Lists.{upto};
-ghost use Rattle.transition_table.specs.NetworkFacts.{has};
 ghost use Rattle.net_core.specs.Tables.{is_read, nth_place};
 
 use crate::entry::{Trace, TraceItem};

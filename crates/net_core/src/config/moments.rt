@@ -1,6 +1,5 @@
 // The snapshot of each machine behind a journal, and what one entry more makes of it.
-ghost use Rattle.std.specs.Prelude.{◌≡◌, ◌<◌, ◌+◌, ◌++◌, [], ℕ, map, replicate, length, slice_set, IfOk, OnOk, OnErr};
-ghost use Rattle.transition_table.specs.Transitions.{OfMachine};
+ghost use Rattle.std.specs.Prelude.{◌≡◌, ◌<◌, ◌+◌, ◌++◌, [], map, replicate, length, IfOk};
 ghost use Rattle.net_core.specs.Moved.{moments_of, SuitsMachine, code_behind, codes_behind};
 
 use crate::entry::Entry;

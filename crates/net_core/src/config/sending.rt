@@ -1,6 +1,5 @@
 // The deliveries that a firing gives.
-ghost use Rattle.std.specs.Prelude.{◌≡◌, ◌<◌, ◌++◌, take, length, slice_get, flat_map, OnOk, OnErr};
-ghost use Rattle.transition_table.specs.Transitions.{OfMachine, HasWidths};
+ghost use Rattle.std.specs.Prelude.{◌≡◌, ◌<◌, ◌++◌, take, length, flat_map, OnOk, OnErr};
 ghost use Rattle.transition_table.specs.declared.decl.Party.TheVariants.{Machine as Sender};
 ghost use Rattle.net_core.specs.Journals.{FitsNetwork, outputs_of, emitted};
 ghost use Rattle.net_core.specs.Schedules.{deliveries_of, firing_deliveries};

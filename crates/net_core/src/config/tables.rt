@@ -1,5 +1,5 @@
 // What is kept beside a journal, so that no call looks back through it.
-ghost use Rattle.std.specs.Prelude.{◌≡◌, ◌<◌, ◌≤◌, ◌+◌, [], ◌∷◌, ◌++◌, length, map, slice_index, slice_set, IfOk, OnOk, OnErr};
+ghost use Rattle.std.specs.Prelude.{◌≡◌, ◌<◌, ◌+◌, [], ◌∷◌, ◌++◌, length, map, slice_index, slice_set, IfOk, OnOk, OnErr};
 ghost use Rattle.polis_base.specs.Lists.{upto};
 ghost use Rattle.net_core.specs.Journals.{FitsNetwork, IsTrace, is_woken};
 ghost use Rattle.net_core.specs.Legality.{MayFollow};

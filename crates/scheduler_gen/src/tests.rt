@@ -144,11 +144,66 @@ fn keeps_what_a_try_leaves(rt: HostRuntime) -> Result<(), Fail> {
 }
 
 #[test]
+fn takes_the_later_value(rt: HostRuntime) -> Result<(), Fail> {
+    let net = networks::value(rt.alloc())?;
+    let done = run_on(rt.alloc(), &net, &[item(0, 4), item(0, 6)], 60_000)?;
+    let want = b"dep env 0 0 4\ndep env 0 0 6\nfire 0 6 > > 1\ncomplete";
+    assert_eq!(rt; text_of(rt.alloc(), &done)?.as_slice(), want.as_slice());
+    Ok(())
+}
+
+#[test]
+fn goes_by_priority(rt: HostRuntime) -> Result<(), Fail> {
+    let net = networks::two(rt.alloc(), 2, 1)?;
+    let done = run_on(rt.alloc(), &net, &[item(0, 1)], 60_000)?;
+    let want = b"dep env 0 0 1\ndep env 1 0 1\nfire 1 1 > > 1\nfire 0 1 > > 1\ncomplete";
+    assert_eq!(rt; text_of(rt.alloc(), &done)?.as_slice(), want.as_slice());
+    Ok(())
+}
+
+#[test]
+fn goes_by_number(rt: HostRuntime) -> Result<(), Fail> {
+    let net = networks::two(rt.alloc(), 1, 1)?;
+    let done = run_on(rt.alloc(), &net, &[item(0, 1)], 60_000)?;
+    let want = b"dep env 0 0 1\ndep env 1 0 1\nfire 0 1 > > 1\nfire 1 1 > > 1\ncomplete";
+    assert_eq!(rt; text_of(rt.alloc(), &done)?.as_slice(), want.as_slice());
+    Ok(())
+}
+
+#[test]
+fn delivers_to_the_sender(rt: HostRuntime) -> Result<(), Fail> {
+    let net = networks::loop_of_one(rt.alloc())?;
+    let done = run_on(rt.alloc(), &net, &[item(0, 1)], 60_000)?;
+    let want =
+        b"dep env 0 0 1\nfire 0 1 0 0 > 2 > 1\ndep 0 0 1 1\nfire 0 0 1 1 > 3 > 1\ndep 0 0 1 1\nfire 0 0 1 2 > 4 > 0\ncomplete";
+    assert_eq!(rt; text_of(rt.alloc(), &done)?.as_slice(), want.as_slice());
+    Ok(())
+}
+
+#[test]
 fn stops_at_the_limit(rt: HostRuntime) -> Result<(), Fail> {
     let net = networks::pong(rt.alloc())?;
     let done = run_on(rt.alloc(), &net, &[item(0, 1)], 10)?;
     let want =
         b"dep env 0 0 1\nfire 0 1 0 > > 1\ndep 0 1 1 1\nfire 1 1 > > 1\ndep 1 0 2 1\nfire 0 0 1 > > 1\ndep 0 1 1 1\nfire 1 1 > > 1\ndep 1 0 2 1\nfire 0 0 1 > > 1\nlimited ";
+    assert_eq!(rt; text_of(rt.alloc(), &done)?.as_slice(), want.as_slice());
+    Ok(())
+}
+
+#[test]
+fn is_complete_at_the_limit(rt: HostRuntime) -> Result<(), Fail> {
+    let net = networks::lamp(rt.alloc())?;
+    let done = run_on(rt.alloc(), &net, &[item(0, 1)], 2)?;
+    let want = b"dep env 0 0 1\nfire 0 1 0 > 2 > 1\ncomplete";
+    assert_eq!(rt; text_of(rt.alloc(), &done)?.as_slice(), want.as_slice());
+    Ok(())
+}
+
+#[test]
+fn is_limited_by_one_entry(rt: HostRuntime) -> Result<(), Fail> {
+    let net = networks::lamp(rt.alloc())?;
+    let done = run_on(rt.alloc(), &net, &[item(0, 1)], 1)?;
+    let want = b"dep env 0 0 1\nlimited ";
     assert_eq!(rt; text_of(rt.alloc(), &done)?.as_slice(), want.as_slice());
     Ok(())
 }

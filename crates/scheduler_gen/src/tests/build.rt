@@ -1,5 +1,5 @@
 // Parts of networks.
-ghost use Rattle.std.specs.Prelude.{◌≡◌, IfOk, IsTrue};
+ghost use Rattle.std.specs.Prelude.{◌≡◌, [], ◌∷◌, IfOk, IsTrue};
 ghost use Rattle.std.specs.List.{list_all};
 ghost use Rattle.polis_base.specs.Names.{is_name};
 ghost use Rattle.domains.specs.Tables.{are_sizes};
@@ -10,7 +10,7 @@ ghost use Rattle.scheduler_gen.specs.Agreeing.{do_agree};
 use domains::VarTable;
 use polis_base::{List, Name, NoMemory};
 use std::alloc::Global;
-use transition_table::{Act, Cond, EventDecl, Machine, Party, Row, RowList, StateList};
+use transition_table::{Act, Cond, EventDecl, Machine, Party, Row, RowList, StateDecl, StateList};
 
 // A name of these bytes.
 pub fn name(bytes: &[u8]) -> Name
@@ -75,6 +75,20 @@ fn sizes(alloc: Global, sizes: &[u8]) -> Result<VarTable, NoMemory>
         table.push(*size)?;
     }
     Ok(table)
+}
+
+// A state variable of the first domain that begins with its first value.
+pub fn state(alloc: Global, text: &[u8]) -> Result<StateList, NoMemory>
+    requires { IsTrue (is_name text.now) }
+    ensures { IfOk result (λ states. states ≡ record { name = text.now; domain = 0; init = 0 } ∷ []) }
+{
+    let mut states = StateList::new(alloc);
+    states.push(StateDecl {
+        name: name(text),
+        domain: 0,
+        init: 0,
+    })?;
+    Ok(states)
 }
 
 // The variables are the inputs and then the state variables, the results `go`, the state variables and the outputs.

@@ -12,3 +12,6 @@ mod store;
 pub use node::{NodeId, Shape};
 pub use order::Order;
 pub use store::{Root, Store};
+
+#[cfg(test)]
+mod tests;

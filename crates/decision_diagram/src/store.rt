@@ -268,6 +268,14 @@ impl Store {
         self.alloc
     }
 
+    // How many variables there are.
+    #[cfg(test)]
+    pub(crate) fn var_count(&self) -> u64
+        ensures { result ≡ length self.now.sizes }
+    {
+        self.vars.len()
+    }
+
     // The size of a variable.
     pub(crate) fn size(&self, var: u32) -> u8
         requires { var < length self.now.sizes }

@@ -1,0 +1,168 @@
+// Diagrams of known size, and each call once.
+ghost use Rattle.std.specs.Prelude.{IsTrue};
+ghost use Rattle.decision_diagram.specs.Diagrams.{IsNode};
+
+use crate::{NodeId, Order, Store};
+use domains::VarTable;
+use polis_base::NoMemory;
+use std::alloc::Global;
+
+// A store in which a call that fails is remembered.
+#[derive(Drop)]
+struct Trial {
+    store: Store,
+    failed: bool,
+}
+
+impl Trial {
+    fn new(alloc: Global, sizes: &[u8], order: &[u32]) -> Result<Trial, NoMemory> {
+        let mut vars = VarTable::new(alloc);
+        for size in sizes {
+            vars.push((*size).clamp(1, 33))?;
+        }
+        let order = Order::new(alloc, order)?.ok_or(NoMemory)?;
+        if order.len() != vars.len() {
+            return Err(NoMemory);
+        }
+        Ok(Trial {
+            store: Store::new(alloc, &vars, &order)?,
+            failed: false,
+        })
+    }
+
+    fn node(&mut self, made: Result<NodeId, NoMemory>) -> NodeId {
+        self.failed |= made.is_err();
+        made.unwrap_or(NodeId::constant(false))
+    }
+
+    // Whether it is one of the store's nodes.
+    fn has(&self, n: NodeId) -> bool
+        ensures { IsTrue result → IsNode self.now.store n }
+    {
+        n.number() < 2 || n.number() - 2 < self.store.inner_count() as u64
+    }
+
+    // The node that is true where a variable has a code.
+    fn is(&mut self, var: u32, code: u8) -> NodeId {
+        if u64::from(var) >= self.store.var_count() || code >= 64 {
+            self.failed = true;
+            return NodeId::constant(false);
+        }
+        let size = self.store.size(var);
+        let codes = 1u64 << code;
+        if size >= 64 || codes >= 1 << size {
+            self.failed = true;
+            return NodeId::constant(false);
+        }
+        let made = self.store.literal(var, codes);
+        self.node(made)
+    }
+
+    fn and(&mut self, a: NodeId, b: NodeId) -> NodeId {
+        if !self.has(a) || !self.has(b) {
+            self.failed = true;
+            return a;
+        }
+        let made = self.store.and(a, b);
+        self.node(made)
+    }
+
+    fn or(&mut self, a: NodeId, b: NodeId) -> NodeId {
+        if !self.has(a) || !self.has(b) {
+            self.failed = true;
+            return a;
+        }
+        let made = self.store.or(a, b);
+        self.node(made)
+    }
+
+    fn count(&self, n: NodeId) -> Option<u64> {
+        if self.failed || !self.has(n) {
+            return None;
+        }
+        self.store.count(n).ok()
+    }
+
+    // The node that is true where the variables from one on have these codes.
+    fn term(&mut self, first: u32, codes: &[u8]) -> NodeId {
+        let mut all = NodeId::constant(true);
+        let mut var = first;
+        for code in codes {
+            let one = self.is(var, *code);
+            all = self.and(all, one);
+            var = var.saturating_add(1);
+        }
+        all
+    }
+
+    // The node that is true where one of the first variables, of two values each, hasn't its code.
+    fn differs(&mut self, codes: &[u8]) -> NodeId {
+        let mut some = NodeId::constant(false);
+        let mut var = 0u32;
+        for code in codes {
+            let one = self.is(var, 1u8.saturating_sub(*code));
+            some = self.or(some, one);
+            var = var.saturating_add(1);
+        }
+        some
+    }
+
+    // What a machine of one row does: on these codes of its variables these results, and else no result.
+    fn one_row(&mut self, codes: &[u8], first: u32, results: &[u8], none: &[u8]) -> NodeId {
+        let enabled = self.term(0, codes);
+        let given = self.term(first, results);
+        let goes = self.and(enabled, given);
+        let other = self.differs(codes);
+        let nothing = self.term(first, none);
+        let stays = self.and(other, nothing);
+        self.or(goes, stays)
+    }
+
+    // The exclusive or of the first variables.
+    fn exclusive_or(&mut self, vars: u32) -> NodeId {
+        let mut odd = NodeId::constant(false);
+        let mut even = NodeId::constant(true);
+        for var in 0..vars {
+            let zero = self.is(var, 0);
+            let one = self.is(var, 1);
+            let stays_odd = self.and(odd, zero);
+            let turns_odd = self.and(even, one);
+            let stays_even = self.and(even, zero);
+            let turns_even = self.and(odd, one);
+            odd = self.or(stays_odd, turns_odd);
+            even = self.or(stays_even, turns_even);
+        }
+        odd
+    }
+}
+
+// Press and state; then whether it goes, the next state and the light. It goes on a press where it is off.
+fn lamp_count(alloc: Global) -> Option<u64> {
+    let mut trial = Trial::new(alloc, &[2, 2, 2, 3, 2], &[0, 1, 2, 3, 4]).ok()?;
+    let node = trial.one_row(&[1, 0], 2, &[1, 2, 1], &[0, 0, 0]);
+    trial.count(node)
+}
+
+// Two inputs; then whether it goes and its output. It goes where both are present.
+fn join_count(alloc: Global) -> Option<u64> {
+    let mut trial = Trial::new(alloc, &[2, 2, 2, 2], &[0, 1, 2, 3]).ok()?;
+    let node = trial.one_row(&[1, 1], 2, &[1, 1], &[0, 0]);
+    trial.count(node)
+}
+
+fn exclusive_or_count(alloc: Global, order: &[u32]) -> Option<u64> {
+    let mut trial = Trial::new(alloc, &[2; 16], order).ok()?;
+    let node = trial.exclusive_or(16);
+    trial.count(node)
+}
+
+#[test]
+fn diagrams_have_their_known_sizes(rt: HostRuntime) {
+    let alloc = rt.alloc();
+    assert_eq!(rt; lamp_count(alloc), Some(8));
+    assert_eq!(rt; join_count(alloc), Some(6));
+    let rising = [0, 1, 2, 3, 4, 5, 6, 7, 8, 9, 10, 11, 12, 13, 14, 15];
+    assert_eq!(rt; exclusive_or_count(alloc, &rising), Some(31));
+    let mixed = [7, 2, 15, 0, 9, 4, 11, 13, 1, 6, 3, 14, 5, 12, 8, 10];
+    assert_eq!(rt; exclusive_or_count(alloc, &mixed), Some(31));
+}

@@ -63,6 +63,6 @@ bad_line (Some files) run net_text trace_text net line kind a b c one d = (
   trace_text,
   b,
   λ other h.
-  let accepted = subst (λ (text : List ℕ). Accepted text other) (one_text (bytes_at files run.net) net_text h.text a.held h.held) h.accepted in
-  subst (λ (n : Network). trace_of n trace_text ≡ Err (FaultyLine line kind)) (sym (one other accepted)) d,
+      let accepted = subst (λ (text : List ℕ). Accepted text other) (one_text (bytes_at files run.net) net_text h.text a.held h.held) h.accepted in
+      subst (λ (n : Network). trace_of n trace_text ≡ Err (FaultyLine line kind)) (sym (one other accepted)) d,
 )

@@ -48,6 +48,7 @@ both_made before between now last status texts first second same one = rw same (
         → (status ≡ end_status texts.complete) ⊎ (status ≡ WriteFault) ⊎ (status ≡ NoMemory) → SavesTexts status texts a c
     all a b c f s (inl end) = inl (end, s ∙ ap (λ held. insert held (string_bytes texts.journal_name) texts.journal) f)
     all a b c f s (inr other) = inr (other, (texts_savings texts, [], refl, inl (s ∙ ap (λ held. insert held (string_bytes texts.journal_name) texts.journal) f)))
+
     made : (before between now : Option Files)
         → Changes before between (λ old new. new ≡ insert old (string_bytes texts.out_name) texts.outputs)
         → Changes between now (λ old new. new ≡ insert old (string_bytes texts.journal_name) texts.journal)

@@ -75,6 +75,7 @@ ran a b shown_before shown_now words run net trace texts status rose asks held t
     summary old new (inr (inl h)) = absurd (not_end status end (inl h.0))
     summary old new (inr (inr (inl h))) = absurd (not_end status end (inl h.0))
     summary old new (inr (inr (inr h))) = absurd (not_end status end (inr h.0))
+
     whole : (before now : Files) → BothHeld run net trace before → SavesTexts status texts before now → RanAndWrote status words before now shown_before shown_now
     whole before now h (inr other) = absurd (not_end status end other.0)
     whole before now h (inl (s, e)) =
@@ -97,6 +98,7 @@ ran a b shown_before shown_now words run net trace texts status rose asks held t
           summary_shown = changes_from shown_before shown_now _ _ summary shown;
           other_names = λ name not_out not_jnl. ap (λ files. bytes_at files name) same ∙ held_elsewhere (insert before out outs) jnl entries name not_jnl ∙ held_elsewhere before out outs name not_out;
         }
+
     written : (a b : Option Files) → WhereTold a (BothHeld run net trace) → Changes a b (SavesTexts status texts)
         → Changes a b (λ before now. RanAndWrote status words before now shown_before shown_now)
     written None None h s = tt
@@ -131,8 +133,17 @@ stands a b words run net trace texts status asks held t saved other = some a b h
     left : (before now : Files) → BothHeld run net trace before → SavesTexts status texts before now → Stands status words before now
     left before now h (inl (s, e)) = absurd (not_end status (ap is_end s ∙ written_ends texts.complete) other)
     left before now h (inr (s, made)) =
-        inr (run, net, trace, t.entries, texts.complete, asks, is_run run before net trace texts h t,
-             subst (λ (savings : List Saving). MadeSome status before savings now) (same_savings run net trace texts t) made)
+        inr (
+          run,
+          net,
+          trace,
+          t.entries,
+          texts.complete,
+          asks,
+          is_run run before net trace texts h t,
+          subst (λ (savings : List Saving). MadeSome status before savings now) (same_savings run net trace texts t) made,
+        )
+
     some : (a b : Option Files) → WhereTold a (BothHeld run net trace) → Changes a b (SavesTexts status texts) → Changes a b (Stands status words)
     some None None h s = tt
     some (Some before) (Some now) h s = left before now h s
@@ -154,9 +165,12 @@ failed_line a shown_before shown_now words run net trace texts status rose asks 
     of_file : (name line old new : List ℕ) → status ≡ WriteFault → (name ≡ out_name run) ⊎ (name ≡ journal_name run) → line ≡ codes "write fault " ++ name ++ 10 ∷ []
         → ShowsFront line rose old new → ShowsFailure status words a rose old new
     of_file name line old new s which is front =
-        inl (codes "write fault " ++ name,
-             subst (λ (u : Status). IsLineOf u words a (codes "write fault " ++ name)) (sym s) (run, name, asks, which, refl),
-             subst (λ (u : List ℕ). ShowsFront u rose old new) is front)
+        inl (
+          codes "write fault " ++ name,
+          subst (λ (u : Status). IsLineOf u words a (codes "write fault " ++ name)) (sym s) (run, name, asks, which, refl),
+          subst (λ (u : List ℕ). ShowsFront u rose old new) is front,
+        )
+
     shows : (old new : List ℕ) → ShowsTexts status texts rose old new → ShowsFailure status words a rose old new
     shows old new (inl (s, e)) = let h = ap is_end s ∙ written_ends texts.complete in cc
     shows old new (inr (inl (s, (line, inl e, front)))) = of_file (out_name run) line old new s (inl refl) (e ∙ t.out_line_is) front

@@ -98,8 +98,8 @@ abbrev pub ShowsSummaryFront : Status → List (List ℕ) → Option Files → L
 ShowsSummaryFront status words before old new =
     (status ≡ WriteFault)
     × ((run : RunWords) × (net : Network) × (trace : List TraceItem) × (journal : List Entry) × (complete : Bool) × (k : ℕ)
-       × Asks words run × WhereTold before (λ files. IsRunOf run files net trace journal complete)
-       × (new ≡ old ++ take k (summary_text net journal complete 0 0)))
+    × Asks words run × WhereTold before (λ files. IsRunOf run files net trace journal complete)
+    × (new ≡ old ++ take k (summary_text net journal complete 0 0)))
 
 -- what is shown where no run was written
 abbrev pub ShowsFailure : Status → List (List ℕ) → Option Files → Type 0 → List ℕ → List ℕ → Type 0

@@ -102,7 +102,7 @@ abbrev pub Stands : Status → List (List ℕ) → Files → Files → Type 0
 Stands status words before now =
     (now ≡ before)
     ⊎ ((run : RunWords) × (net : Network) × (trace : List TraceItem) × (journal : List Entry) × (complete : Bool)
-       × Asks words run × IsRunOf run before net trace journal complete × MadeSome status before (savings_of run net journal complete) now)
+    × Asks words run × IsRunOf run before net trace journal complete × MadeSome status before (savings_of run net journal complete) now)
 
 -- the status is one of a run that was written
 abbrev pub is_end : Status → Bool

@@ -38,7 +38,8 @@ impl Failure {
         match self {
             Failure::ReadFault(_) => Status::ReadFault,
             Failure::NoMemory => Status::NoMemory,
-            Failure::Absent(_) | Failure::TooLong(_) | Failure::NotYet | Failure::Line { .. } => Status::Refused,
+            Failure::Absent(_) | Failure::TooLong(_) | Failure::NotYet | Failure::Line { .. } =>
+                Status::Refused,
         }
     }
 }

@@ -10,10 +10,10 @@ ghost use Rattle.polis_cli.specs.Lines.{HoldsText, Explains};
 use crate::failure::{Failure, Source};
 use crate::form::Run;
 use crate::lamp::{LampFault, read_lamp};
-use trace_text::{TraceFault, read_trace};
 use net_core::Trace;
 use polis_base::{Bytes, Host, Load};
 use std::alloc::Global;
+use trace_text::{TraceFault, read_trace};
 use transition_table::Network;
 
 /// The most bytes of a network text and of a trace text.

@@ -25,7 +25,14 @@ fn finish(alloc: Global, inputs: &Inputs, limit: u64) -> Result<Finished, NoMemo
     let net = &inputs.net;
     let plan = plan(alloc, net)?;
     let reactor = TableReactor::new(net);
-    match complete(alloc, &plan, &reactor, &inputs.trace, Journal::new(alloc), limit) {
+    match complete(
+        alloc,
+        &plan,
+        &reactor,
+        &inputs.trace,
+        Journal::new(alloc),
+        limit,
+    ) {
         Ok(finished) => Ok(finished),
         Err(NoMemory) => Err(NoMemory),
     }

@@ -7,9 +7,9 @@ ghost use Rattle.polis_cli.specs.Parts.{FailsWith, no_memory_line};
 use crate::failure::{Failure, Source};
 use crate::form::Run;
 use crate::status::Status;
-use trace_text::TraceKind;
 use polis_base::{Bytes, Host, NoMemory};
 use std::alloc::Global;
+use trace_text::TraceKind;
 
 /// Shows a line. Whether it could be shown isn't looked at.
 pub fn show_line<H: Host>(host: &mut H, line: &[u8])
@@ -82,9 +82,24 @@ fn line_of(alloc: Global, run: &Run<'_>, failure: Failure) -> Result<Bytes, NoMe
     ensures { IfOk result (λ line. line ≡ failure_line run.now failure ++ 10 ∷ []) }
 {
     match failure {
-        Failure::ReadFault(source) => joined(alloc, b"read fault ", source_name(run, source), b"\n"),
-        Failure::Absent(source) => joined(alloc, b"refused ", source_name(run, source), b" absent\n"),
-        Failure::TooLong(source) => joined(alloc, b"refused ", source_name(run, source), b" long\n"),
+        Failure::ReadFault(source) => joined(
+            alloc,
+            b"read fault ",
+            source_name(run, source),
+            b"\n",
+        ),
+        Failure::Absent(source) => joined(
+            alloc,
+            b"refused ",
+            source_name(run, source),
+            b" absent\n",
+        ),
+        Failure::TooLong(source) => joined(
+            alloc,
+            b"refused ",
+            source_name(run, source),
+            b" long\n",
+        ),
         Failure::NotYet => joined(alloc, b"refused ", run.net(), b" notyet\n"),
         Failure::Line { line, kind } => trace_line(alloc, run.trace(), line, kind),
         Failure::NoMemory => joined(alloc, b"no memory", "", b"\n"),

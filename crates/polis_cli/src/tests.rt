@@ -126,9 +126,18 @@ fn try_case(rt: &impl Abort, alloc: Global, case: &Case<'_>, number: usize) -> R
     let mut host = make_host(alloc, case)?;
     let status = polis(alloc, &words, &mut host);
     assert!(rt; status == case.status, "the status of case {number}");
-    assert!(rt; host.shown() == case.shown.as_bytes(), "what case {number} shows");
-    assert!(rt; is_held(&host, "o.out", case.outputs), "the outputs of case {number}");
-    assert!(rt; is_held(&host, "o.jnl", case.journal), "the journal of case {number}");
+    assert!(rt;
+        host.shown() == case.shown.as_bytes(),
+        "what case {number} shows"
+    );
+    assert!(rt;
+        is_held(&host, "o.out", case.outputs),
+        "the outputs of case {number}"
+    );
+    assert!(rt;
+        is_held(&host, "o.jnl", case.journal),
+        "the journal of case {number}"
+    );
     Ok(())
 }
 

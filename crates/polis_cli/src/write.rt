@@ -71,12 +71,22 @@ pub fn write_texts<H: Host>(host: &mut H, texts: &Texts) -> Status
     ensures load_faults { H.load_faults host.new ≡ H.load_faults host.old }
 {
     let out_name = texts.out_name.as_str();
-    match save_text(host, out_name, texts.outputs.as_slice(), texts.out_line.as_slice()) {
+    match save_text(
+        host,
+        out_name,
+        texts.outputs.as_slice(),
+        texts.out_line.as_slice(),
+    ) {
         Ok(()) => {}
         Err(status) => return status,
     }
     let journal_name = texts.journal_name.as_str();
-    match save_text(host, journal_name, texts.journal.as_slice(), texts.journal_line.as_slice()) {
+    match save_text(
+        host,
+        journal_name,
+        texts.journal.as_slice(),
+        texts.journal_line.as_slice(),
+    ) {
         Ok(()) => {}
         Err(status) => return status,
     }

@@ -1,5 +1,5 @@
 -- What the words of a call ask for.
-use Rattle.std.proofs.Common.{◌≡◌, ◌≢◌, ◌⊎◌, inl, inr, ◌≤◌, ◌<◌, ◌^◌, ℕ, List, [], ◌∷◌, length, drop, slice_get, Some, None, IfNone, refl, sym, ap, subst, ◌∙◌, arith, codes, decimal}
+use Rattle.std.proofs.Common.{◌≡◌, ◌≢◌, inl, inr, ◌≤◌, ◌<◌, ◌^◌, ℕ, List, [], ◌∷◌, length, drop, slice_get, Some, None, IfNone, sym, ap, subst, ◌∙◌, arith, decimal}
 use Rattle.std.specs.Prelude.{Option}
 use Rattle.std.proofs.lemmas.Fmt.{decimal_injective}
 use Rattle.polis_cli.specs.Form.{RunWords, Asks, AsksLimit, run_form, entry_max}

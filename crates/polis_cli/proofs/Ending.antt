@@ -1,23 +1,17 @@
 -- What the call promises, from what its parts give.
-use Rattle.std.proofs.Common.{◌≡◌, ◌≢◌, ◌⊎◌, inl, inr, ◌≤◌, ◌<◌, ℕ, Bool, true, false, List, [], ◌∷◌, ◌++◌, length, take, Some, None, refl, sym, ap, subst, ◌∙◌, arith, IsTrue, codes}
-use Rattle.std.specs.Prelude.{Option, string_bytes, ⊤}
-use Rattle.std.specs.FinMap.{insert}
+use Rattle.std.proofs.Common.{◌≡◌, ◌⊎◌, inl, inr, ◌≤◌, ◌<◌, ℕ, List, length, Some, None, refl, sym, subst, ◌∙◌, arith, IsTrue, codes}
+use Rattle.std.specs.Prelude.{Option}
 use Rattle.polis_base.specs.Host.{Files, bytes_at, WhereTold, Changes}
-use Rattle.polis_base.specs.Held.{held_there, held_elsewhere}
-use Rattle.transition_table.specs.declared.network.Network.{Network}
-use Rattle.net_core.specs.declared.entry.TraceItem.{TraceItem}
-use Rattle.net_core.specs.Legality.{Complete}
 use Rattle.polis_cli.specs.declared.failure.Source.TheVariants.{Net, Trace}
 use Rattle.polis_cli.specs.declared.failure.Failure.{Failure}
 use Rattle.polis_cli.specs.declared.failure.Failure.TheVariants.{ReadFault as Unread, Absent, TooLong, NotYet, Line, NoMemory as Wanting}
 use Rattle.polis_cli.specs.declared.status.Status.{Status}
-use Rattle.polis_cli.specs.declared.status.Status.TheVariants.{Done, Usage, ReadFault, Refused, Limit, WriteFault, NoMemory, Illegal, Differ}
-use Rattle.polis_cli.specs.declared.write.Texts.{Texts}
-use Rattle.polis_cli.specs.Form.{RunWords, Asks, out_name, journal_name}
+use Rattle.polis_cli.specs.declared.status.Status.TheVariants.{ReadFault, Refused, WriteFault, NoMemory}
+use Rattle.polis_cli.specs.Form.{RunWords, Asks}
 use Rattle.polis_cli.specs.Lamp.{Accepted}
-use Rattle.polis_cli.specs.Top.{text_max, HoldsNet, HoldsTrace, AreAccepted, IsRunOf, Ends, RanAndWrote, Saving, MadeSome, Stands, files_behind, savings_of, is_end}
-use Rattle.polis_cli.specs.Lines.{Explains, status_of, failure_line, IsLineOf, ShowsFront, ShowsLine, ShowsFailure}
-use Rattle.polis_cli.specs.Parts.{AreTexts, FailsWith, ShowsTexts, SavesTexts, end_status, texts_savings, no_memory_line}
+use Rattle.polis_cli.specs.Top.{text_max, AreAccepted, is_end}
+use Rattle.polis_cli.specs.Lines.{Explains, status_of, failure_line, IsLineOf, ShowsFront, ShowsFailure}
+use Rattle.polis_cli.specs.Parts.{FailsWith, no_memory_line}
 
 -- a fact of what was told and what is, from another
 pub changes_from : {X : Type 0} (a b : Option X) (R S : X → X → Type 0) → ((x y : X) → R x y → S x y) → Changes a b R → Changes a b S

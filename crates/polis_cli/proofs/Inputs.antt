@@ -1,12 +1,12 @@
 -- What the two files of a run say, from what was loaded and read.
-use Rattle.std.proofs.Common.{◌≡◌, ◌≤◌, ◌<◌, ◌⊎◌, inl, inr, ℕ, List, length, Option, Some, None, Ok, Err, subst, sym}
+use Rattle.std.proofs.Common.{◌≡◌, ◌<◌, ◌⊎◌, inl, inr, ℕ, List, length, Option, Some, None, Ok, Err, subst, sym}
 use Rattle.polis_base.specs.Host.{Files, bytes_at, WhereTold}
 use Rattle.transition_table.specs.declared.network.Network.{Network}
 use Rattle.net_core.specs.declared.entry.TraceItem.{TraceItem}
 use Rattle.trace_text.specs.declared.fault.TraceKind.{TraceKind}
 use Rattle.trace_text.specs.declared.fault.TraceFault.TheVariants.{Line as FaultyLine}
 use Rattle.trace_text.specs.Traces.{trace_of}
-use Rattle.polis_cli.specs.declared.failure.Source.TheVariants.{Net, Trace}
+use Rattle.polis_cli.specs.declared.failure.Source.TheVariants.{Trace}
 use Rattle.polis_cli.specs.declared.failure.Failure.{Failure}
 use Rattle.polis_cli.specs.declared.failure.Failure.TheVariants.{ReadFault, Absent, TooLong, NotYet, Line, NoMemory}
 use Rattle.polis_cli.specs.Form.{RunWords}

@@ -1,5 +1,5 @@
 -- What a call promises holds of the lamp on one press.
-use Rattle.std.proofs.Common.{◌≡◌, ◌≤◌, ℕ, zero, suc, length, true, [], ◌∷◌, Some, refl, sym, ◌∙◌, subst, inl, inr, lit<, lit≤, arith, codes}
+use Rattle.std.proofs.Common.{◌≡◌, ◌≤◌, zero, suc, length, true, [], ◌∷◌, Some, refl, ◌∙◌, subst, inl, inr, lit<, lit≤, codes}
 use Rattle.std.specs.Fmt.{digits}
 use Rattle.std.specs.FinMap.{empty, insert, get-insert}
 use Rattle.std.proofs.lemmas.Cmp.{nat_list_cmp_total}

@@ -1,5 +1,5 @@
 -- What is left behind two savings, one after the other.
-use Rattle.std.proofs.Common.{◌≡◌, ◌⊎◌, inl, inr, ℕ, List, [], ◌∷◌, ◌++◌, Ok, Err, Some, None, refl, ◌∙◌, ap, take}
+use Rattle.std.proofs.Common.{◌≡◌, ◌⊎◌, inl, inr, [], ◌∷◌, Err, Some, None, refl, ◌∙◌, ap, take}
 use Rattle.std.specs.Prelude.{Option, string_bytes}
 use Rattle.std.specs.FinMap.{insert}
 use Rattle.polis_base.specs.Host.{Files, Changes}

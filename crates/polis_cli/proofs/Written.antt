@@ -1,6 +1,6 @@
 -- What the call promises where the texts of a run were made.
-use Rattle.std.proofs.Common.{◌≡◌, ◌≢◌, ◌⊎◌, ◌↔◌, inl, inr, ◌≤◌, ℕ, Bool, true, false, List, [], ◌∷◌, ◌++◌, length, take, Some, None, refl, sym, ap, subst, ◌∙◌, IsTrue, codes, get_or, arith}
-use Rattle.std.specs.Prelude.{Option, string_bytes}
+use Rattle.std.proofs.Common.{◌≡◌, ◌⊎◌, ◌↔◌, inl, inr, ℕ, Bool, true, false, List, [], ◌∷◌, ◌++◌, length, take, Some, None, refl, sym, ap, subst, ◌∙◌, IsTrue, codes, get_or, arith}
+use Rattle.std.specs.Prelude.{Option}
 use Rattle.std.specs.FinMap.{insert}
 use Rattle.polis_base.specs.Host.{Files, bytes_at, WhereTold, Changes}
 use Rattle.polis_base.specs.Held.{held_there, held_elsewhere}
@@ -9,11 +9,11 @@ use Rattle.net_core.specs.declared.entry.Entry.{Entry}
 use Rattle.net_core.specs.declared.entry.TraceItem.{TraceItem}
 use Rattle.net_core.specs.Legality.{Complete}
 use Rattle.polis_cli.specs.declared.status.Status.{Status}
-use Rattle.polis_cli.specs.declared.status.Status.TheVariants.{Done, Refused, ReadFault, Limit, WriteFault, NoMemory}
+use Rattle.polis_cli.specs.declared.status.Status.TheVariants.{ReadFault, WriteFault, NoMemory}
 use Rattle.polis_cli.specs.declared.write.Texts.{Texts}
 use Rattle.polis_cli.specs.Form.{RunWords, Asks, out_name, journal_name}
 use Rattle.polis_cli.specs.Texts.{journal_text, output_text, summary_text}
-use Rattle.polis_cli.specs.Top.{HoldsNet, HoldsTrace, AreAccepted, IsRunOf, Ends, RanAndWrote, Saving, IsTorn, MadeSome, Stands, files_behind, savings_of, is_end}
+use Rattle.polis_cli.specs.Top.{HoldsNet, HoldsTrace, AreAccepted, IsRunOf, Ends, RanAndWrote, Saving, MadeSome, Stands, files_behind, savings_of, is_end}
 use Rattle.polis_cli.specs.Lines.{IsLineOf, ShowsFront, ShowsFailure}
 use Rattle.polis_cli.specs.Parts.{AreTexts, ShowsTexts, SavesTexts, end_status, texts_savings}
 use Rattle.polis_cli.proofs.Ending.{changes_from}

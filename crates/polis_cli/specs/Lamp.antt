@@ -1,5 +1,5 @@
 -- The one form of network text that is read so far, and its traces.
-use Rattle.std.specs.Prelude.{◌≡◌, ℕ, ◌+◌, ◌^◌, ◌≤◌, List, [], ◌∷◌, ◌++◌, map, length, slice_get, option_map, unwrap_or, replicate, flat_map, Some, Ok, IsTrue}
+use Rattle.std.specs.Prelude.{◌≡◌, ℕ, ◌+◌, ◌^◌, ◌≤◌, List, [], ◌∷◌, ◌++◌, map, length, slice_get, Some, Ok, IsTrue}
 use Rattle.polis_base.specs.declared.token.Keyword.TheVariants.{KwNetwork, KwVersion, KwDomain, KwEvent, KwMachine, KwFrom, KwTo, KwEnv, KwPriority, KwInput, KwOutput, KwState, KwWhen, KwDo, KwEmit}
 use Rattle.polis_base.specs.declared.token.Sign.TheVariants.{Equal, Assign, Colon, Comma, LeftBrace, RightBrace}
 use Rattle.polis_base.specs.declared.token.Kind.{Kind}
@@ -13,8 +13,6 @@ use Rattle.transition_table.specs.declared.row.Row.{Row}
 use Rattle.transition_table.specs.declared.machine.Machine.{Machine}
 use Rattle.transition_table.specs.declared.network.Network.{Network}
 use Rattle.transition_table.specs.Transitions.{AreDeterministic}
-use Rattle.net_core.specs.declared.entry.TraceItem.{TraceItem}
-use Rattle.net_core.specs.declared.entry.TraceItem.TheVariants.{Event}
 use Rattle.polis_cli.specs.declared.lamp.Lexeme.{Lexeme}
 use Rattle.polis_cli.specs.declared.lamp.Lexeme.TheVariants.{Keyword, Name, Number, Sign}
 use Rattle.polis_cli.specs.declared.lamp.Lamp.{Lamp}

@@ -1,7 +1,7 @@
 -- What the parts of a call give.
 use Rattle.std.specs.Prelude.{◌≡◌, ◌⊎◌, ◌↔◌, ℕ, ◌≤◌, Bool, true, false, List, [], ◌∷◌, ◌++◌, length, take, IsTrue, string_bytes, codes, Result, Ok, Err}
 use Rattle.std.specs.FinMap.{insert}
-use Rattle.polis_base.specs.Host.{Files, Changes}
+use Rattle.polis_base.specs.Host.{Files}
 use Rattle.transition_table.specs.declared.network.Network.{Network}
 use Rattle.net_core.specs.declared.entry.Entry.{Entry}
 use Rattle.net_core.specs.declared.entry.TraceItem.{TraceItem}
@@ -9,7 +9,7 @@ use Rattle.net_core.specs.Legality.{Legal, Complete}
 use Rattle.net_core.specs.Schedules.{IsSchedule}
 use Rattle.polis_cli.specs.Form.{RunWords, out_name, journal_name}
 use Rattle.polis_cli.specs.Texts.{journal_text, output_text, summary_text}
-use Rattle.polis_cli.specs.Top.{Saving, MadeSome, files_behind, savings_of}
+use Rattle.polis_cli.specs.Top.{Saving, MadeSome, files_behind}
 use Rattle.polis_cli.specs.Lines.{ShowsFront, status_of, failure_line}
 use Rattle.polis_cli.specs.declared.write.Texts.{Texts}
 use Rattle.polis_cli.specs.declared.failure.Failure.{Failure}

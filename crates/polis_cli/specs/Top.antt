@@ -1,7 +1,7 @@
 -- What a call of the program promises.
-use Rattle.std.specs.Prelude.{◌≡◌, ◌≢◌, ◌⊎◌, ◌↔◌, ℕ, ◌<◌, ◌≤◌, Bool, true, false, List, [], ◌∷◌, ◌++◌, length, take, fold, Option, Some, None, Ok, IsTrue}
+use Rattle.std.specs.Prelude.{◌≡◌, ◌≢◌, ◌⊎◌, ◌↔◌, ℕ, ◌≤◌, Bool, true, false, List, [], ◌∷◌, ◌++◌, length, take, fold, Option, Some, Ok, IsTrue}
 use Rattle.std.specs.FinMap.{insert}
-use Rattle.polis_base.specs.Host.{Files, bytes_at, WhereTold, Changes, Rose}
+use Rattle.polis_base.specs.Host.{Files, bytes_at, Changes}
 use Rattle.transition_table.specs.declared.network.Network.{Network}
 use Rattle.net_core.specs.declared.entry.Entry.{Entry}
 use Rattle.net_core.specs.declared.entry.TraceItem.{TraceItem}

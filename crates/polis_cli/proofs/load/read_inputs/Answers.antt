@@ -1,11 +1,4 @@
-use Rattle.std.proofs.Common.{List, ℕ, ◌≡◌, Ok, Err, None, Some, length, ◌<◌, subst, sym}
-use Rattle.std.specs.Prelude.{Option}
-use Rattle.polis_base.specs.Host.{Files, WhereTold, bytes_at}
-use Rattle.trace_text.specs.Traces.{trace_of}
 use Rattle.trace_text.specs.declared.fault.TraceFault.TheVariants.{Line as FaultyLine}
-use Rattle.polis_cli.specs.Lamp.{Accepted}
-use Rattle.polis_cli.specs.Top.{text_max}
-use Rattle.polis_cli.specs.Lines.{HoldsText}
 use Rattle.polis_cli.proofs.Inputs.{both_held, not_yet, trace_unloaded, bad_line}
 use Rattle.polis_cli.proofs.load.read_inputs.Goals as goal
 

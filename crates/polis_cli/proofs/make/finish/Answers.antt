@@ -1,4 +1,3 @@
-use Rattle.std.proofs.Common.{refl}
 use Rattle.polis_cli.proofs.Finishing.{finished_is}
 use Rattle.polis_cli.proofs.make.finish.Goals as goal
 

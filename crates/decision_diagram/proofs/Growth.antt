@@ -1,16 +1,13 @@
 -- Stores with more nodes.
-use Rattle.std.proofs.Common.{◌≡◌, ◌⊎◌, inl, inr, ⊎_elim, ℕ, ◌+◌, ◌-◌, true, cond, eqb, List, [], ◌∷◌, ◌++◌, length, take, slice_index, Option, Some, None, Vec, refl, sym, ap, ◌∙◌, subst, arith}
+use Rattle.std.proofs.Common.{◌≡◌, ◌⊎◌, inl, inr, ⊎_elim, ℕ, ◌+◌, ◌-◌, true, cond, eqb, List, [], ◌∷◌, ◌++◌, length, take, slice_index, Some, None, Vec, refl, sym, ap, ◌∙◌, subst, arith}
 use Rattle.std.specs.BTreeMap.{BTreeMap}
 use Rattle.std.specs.Str.{bytes_eq}
 use Rattle.std.specs.declared.alloc.Global.{Global}
 use Rattle.std.proofs.lemmas.Bool.{cases_lt, cases_Bool, cond-true, cond-false}
 use Rattle.std.proofs.lemmas.List.{length_push, take_at}
 use Rattle.decision_diagram.specs.declared.node.Node.{Node}
-use Rattle.decision_diagram.specs.declared.node.Shape.{Shape}
-use Rattle.decision_diagram.specs.declared.node.Shape.TheVariants.{False, True, Inner}
-use Rattle.decision_diagram.specs.Orders.{place}
 use Rattle.decision_diagram.specs.Found.{found}
-use Rattle.decision_diagram.specs.Diagrams.{Diagrams, inner_at, shape_in, shape_of, kids_in, level_in, level_of, IsNode, IsReducedNode, AreReduced, Keeps, IsNew}
+use Rattle.decision_diagram.specs.Diagrams.{Diagrams, inner_at, shape_in, kids_in, level_in, level_of, IsNode, IsReducedNode, AreReduced, Keeps, IsNew}
 use Rattle.decision_diagram.specs.Stores.{IsIndexed}
 use Rattle.decision_diagram.proofs.Lookups.{bytes_same, bytes_self}
 use Rattle.decision_diagram.proofs.Nodes.{inner_front, inner_last, inner_within}
@@ -22,7 +19,7 @@ with_node s node = record { sizes = s.sizes; order = s.order; nodes = s.nodes ++
 
 -- ---- what is kept
 pub keeps_same : (s : Diagrams) → Keeps s s
-keeps_same s = record { sizes = refl; order = refl; nodes = λ n h. h; values = λ n codes h. refl; shapes = λ n h. refl; children = λ n h. refl }
+keeps_same s = record { sizes = refl; order = refl; nodes = λ n h. h; values = λ n codes h. refl; shapes = λ n h. refl; children = λ n h. refl; levels = λ n h. refl }
 
 pub keeps_trans : (a b c : Diagrams) → Keeps a b → Keeps b c → Keeps a c
 keeps_trans a b c one two = record {
@@ -32,6 +29,7 @@ keeps_trans a b c one two = record {
   values = λ n codes h. two.values n codes (one.nodes n h) ∙ one.values n codes h;
   shapes = λ n h. two.shapes n (one.nodes n h) ∙ one.shapes n h;
   children = λ n h. two.children n (one.nodes n h) ∙ one.children n h;
+  levels = λ n h. two.levels n (one.nodes n h) ∙ one.levels n h;
 }
 
 pub keeps_node : (s : Diagrams) → AreReduced s → (node : Node) → Keeps s (with_node s node)
@@ -42,29 +40,11 @@ keeps_node s ok node = record {
   values = λ n codes h. ap (λ (m : ℕ). eqb m 1) (follow_front s ok (node ∷ []) s.order codes n h);
   shapes = λ n h. ap (shape_in n) (inner_front s.nodes (node ∷ []) n h);
   children = λ n h. ap kids_in (inner_front s.nodes (node ∷ []) n h);
+  levels = λ n h. ap (level_in s.order) (inner_front s.nodes (node ∷ []) n h);
 }
 
--- the level that a shape has
-shape_level : List ℕ → Shape → ℕ
-shape_level order False = length order
-shape_level order True = length order
-shape_level order (Inner var) = place order var
-
-level_by_shape : (order : List ℕ) (n : ℕ) (o : Option Node) → level_in order o ≡ shape_level order (shape_in n o)
-unfolding shape_level
-level_by_shape order n None =
-    ⊎_elim
-    (λ yes. sym (ap (shape_level order) (cond-true (eqb n 0) False True yes)))
-    (λ no. sym (ap (shape_level order) (cond-false (eqb n 0) False True no)))
-    (cases_Bool (eqb n 0))
-level_by_shape order n (Some node) = refl
-
 pub keeps_level : (old new : Diagrams) → Keeps old new → (n : ℕ) → IsNode old n → level_of new n ≡ level_of old n
-keeps_level old new keeps n h =
-    level_by_shape new.order n (inner_at new.nodes n)
-    ∙ ap (λ (order : List ℕ). shape_level order (shape_of new n)) keeps.order
-    ∙ ap (shape_level old.order) (keeps.shapes n h)
-    ∙ sym (level_by_shape old.order n (inner_at old.nodes n))
+keeps_level old new keeps n h = keeps.levels n h
 
 -- ---- one more inner node
 -- an inner node of the larger store is an earlier one, or the new one

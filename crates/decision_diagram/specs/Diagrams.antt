@@ -76,8 +76,8 @@ pub record AreReduced (s : Diagrams) : Type 0 where
   pub nodes : (n : ℕ) (node : Node) → inner_at s.nodes n ≡ Some node → IsReducedNode s n node
   pub unique : (m n : ℕ) (a b : Node) → inner_at s.nodes m ≡ Some a → inner_at s.nodes n ≡ Some b → a.var ≡ b.var → a.kids ≡ b.kids → m ≡ n
 
--- The table and the order are as before, and each earlier node is still of the store, with the value, the shape and
--- the children that it had.
+-- The table and the order are as before, and each earlier node is still of the store, with the value, the shape, the
+-- children and the place in the order that it had.
 pub record Keeps (old new : Diagrams) : Type 0 where
   pub sizes : new.sizes ≡ old.sizes
   pub order : new.order ≡ old.order
@@ -85,6 +85,7 @@ pub record Keeps (old new : Diagrams) : Type 0 where
   pub values : (n : ℕ) (codes : List ℕ) → IsNode old n → value_of new n codes ≡ value_of old n codes
   pub shapes : (n : ℕ) → IsNode old n → shape_of new n ≡ shape_of old n
   pub children : (n : ℕ) → IsNode old n → kids_of new n ≡ kids_of old n
+  pub levels : (n : ℕ) → IsNode old n → level_of new n ≡ level_of old n
 
 -- n is a node of the store, and its value is f on all codes that fit the table
 pub record Means (s : Diagrams) (n : ℕ) (f : List ℕ → Bool) : Type 0 where

@@ -2,7 +2,7 @@
 ghost use Rattle.std.specs.Prelude.{IsTrue};
 ghost use Rattle.decision_diagram.specs.Diagrams.{IsNode};
 
-use crate::{NodeId, Order, Store};
+use crate::{NodeId, Order, Shape, Store};
 use domains::VarTable;
 use polis_base::NoMemory;
 use std::alloc::Global;
@@ -118,6 +118,21 @@ impl Trial {
         self.or(goes, stays)
     }
 
+    // The shapes of a node and of its first child.
+    fn shapes(&self, n: NodeId) -> Option<(Shape, Shape)> {
+        if !self.has(n) {
+            return None;
+        }
+        let shape = self.store.shape(n);
+        if let Shape::Inner { var } = shape {
+            if self.store.size(var) > 0 {
+                let child = self.store.child(n, 0);
+                return Some((shape, self.store.shape(child)));
+            }
+        }
+        None
+    }
+
     // The exclusive or of the first variables.
     fn exclusive_or(&mut self, vars: u32) -> NodeId {
         let mut odd = NodeId::constant(false);
@@ -165,4 +180,26 @@ fn diagrams_have_their_known_sizes(rt: HostRuntime) {
     assert_eq!(rt; exclusive_or_count(alloc, &rising), Some(31));
     let mixed = [7, 2, 15, 0, 9, 4, 11, 13, 1, 6, 3, 14, 5, 12, 8, 10];
     assert_eq!(rt; exclusive_or_count(alloc, &mixed), Some(31));
+}
+
+fn conjunction_shapes(alloc: Global) -> Option<(Shape, Shape)> {
+    let mut trial = Trial::new(alloc, &[3, 2], &[1, 0]).ok()?;
+    let first = trial.is(0, 1);
+    let second = trial.is(1, 0);
+    let both = trial.and(first, second);
+    trial.shapes(both)
+}
+
+#[test]
+fn the_first_variable_of_the_order_is_on_top(rt: HostRuntime) {
+    let wanted = (Shape::Inner { var: 1 }, Shape::Inner { var: 0 });
+    assert_eq!(rt; conjunction_shapes(rt.alloc()), Some(wanted));
+}
+
+#[test]
+fn orders_are_permutations(rt: HostRuntime) {
+    for (list, is) in [([1, 0, 2], true), ([1, 1, 2], false), ([0, 1, 3], false)] {
+        let made = Order::new(rt.alloc(), &list);
+        assert!(rt; made.is_ok_and(|order| order.is_some() == is), "{list:?}");
+    }
 }

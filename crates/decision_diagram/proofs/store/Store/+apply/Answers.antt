@@ -75,3 +75,6 @@ pub returns-clause-value : goal.returns-clause-value
 returns-clause-value t c =
     let keeps : Keeps c.args.self.now c.remember.new.self = subst (Keeps c.args.self.now) (sym c.remember.ensures.same) (keeps_trans c.args.self.now c.loop-code.self c.node.new.self c.loop-code.invariant.kept c.node.ensures.kept) in
     result_means c.args.self.now c.remember.new.self c.args.op c.args.a c.args.b c.in_ok-node.node keeps c.requires.a c.requires.b c.remember.ensures.result
+
+pub returns-in_err-apply-clause-kept : goal.returns-in_err-apply-clause-kept
+returns-in_err-apply-clause-kept t c = keeps_trans c.args.self.now c.loop-code.self c.apply.new.self c.loop-code.invariant.kept c.apply.ensures.kept

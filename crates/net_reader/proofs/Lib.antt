@@ -1,0 +1,4 @@
+pub mod Laws
+pub mod Forms
+pub mod Rules
+pub mod Tokens

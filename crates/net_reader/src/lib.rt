@@ -1,0 +1,11 @@
+// The grammar of network texts, version 1: what a text declares, and back.
+#![tactic(auto)]
+
+mod raw;
+mod reader;
+
+pub use raw::{
+    Num, RawAct, RawActList, RawCond, RawCondList, RawDomain, RawDomainList, RawEnv, RawEvent,
+    RawEventList, RawMachine, RawMachineList, RawNet, RawRow, RawRowList, RawShape, RawState,
+    RawStateList, RawValue, RawValueList, Word, WordList,
+};

@@ -4,7 +4,7 @@ use Rattle.polis_base.specs.declared.token.Kind.{Kind}
 use Rattle.net_reader.specs.Kinds.{class_of}
 use Rattle.net_reader.specs.Lexemes.{Lexeme}
 use Rattle.net_reader.specs.Grammar.{Part, Says, Nothing, Each}
-use Rattle.net_reader.specs.Reading.{Answer, Rule, ◌>>=◌, taken, one, begins, pure, either, many_up_to, many, more}
+use Rattle.net_reader.specs.Reading.{Answer, Rule, Shrinks, ◌>>=◌, taken, one, begins, pure, either, many_up_to, many, more}
 use Rattle.net_reader.proofs.Laws.{Took, Broke, Laws, none, joined, Apart, Within, or_false, or_left, or_right, bind_ok, bind_err, passed, follows, goes_left, begins_front, begins_same, begins_second, step}
 
 pub same_laws : {A : Type 0} {p : Rule A} {P Q : A → Part} {s g : ℕ → Bool} {e : Bool} → ((a : A) (ts : List Lexeme) → P a ts → Q a ts) → ((a : A) (ts : List Lexeme) → Q a ts → P a ts) → Laws p P s g e → Laws p Q s g e
@@ -155,9 +155,6 @@ shorter_by sp ls rest a t (inl h) =
     long : (u : List Lexeme) → begins sp u ≡ true → 0 < length u
     long [] e = absurd cc
     long (l ∷ u) e = omega arith
-
-abbrev pub Shrinks : {A : Type 0} → Rule A → Type 0
-Shrinks {A} p = (ls rest : List Lexeme) (a : A) → p ls ≡ Ok (a, rest) → length rest < length ls
 
 pub shrinks : {A : Type 0} {p : Rule A} {P : A → Part} {s g : ℕ → Bool} → Laws p P s g false → Shrinks p
 shrinks {s = s} laws ls rest a h = let t = laws.reads ls rest a h in shorter_by s ls rest a t (laws.first t.used a t.fits)

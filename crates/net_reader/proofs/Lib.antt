@@ -1,4 +1,7 @@
-pub mod Laws
 pub mod Forms
-pub mod Rules
+pub mod Laws
+pub mod Loops
+pub mod GrammarLaws
+pub mod Steps
 pub mod Tokens
+pub mod Whole

@@ -128,13 +128,13 @@ fixed_known (Keyword KwNothing) h = refl
 fixed_known (Keyword KwSettle) h = refl
 fixed_known (Keyword KwValue) h = refl
 
-fixed_or_number : (k : Kind) → (is_fixed k ≡ true) ⊎ (class_of k ≡ 1)
+pub fixed_or_number : (k : Kind) → (is_fixed k ≡ true) ⊎ (class_of k ≡ 1)
 fixed_or_number Name = inl refl
 fixed_or_number (Number n) = inr refl
 fixed_or_number (Sign s) = inl refl
 fixed_or_number (Keyword k) = inl refl
 
-kind_same : (a b : Kind) → is_fixed b ≡ true → class_of a ≡ class_of b → (is_fixed a ≡ true) ⊎ (class_of a ≡ 1) → a ≡ b
+pub kind_same : (a b : Kind) → is_fixed b ≡ true → class_of a ≡ class_of b → (is_fixed a ≡ true) ⊎ (class_of a ≡ 1) → a ≡ b
 kind_same a b h e (inl g) = sym (fixed_known a g) ∙ ap (λ n. get_or kind_table n Name) e ∙ fixed_known b h
 kind_same a b h e (inr g) =
     let n : Name ≡ b = ap (λ n. get_or kind_table n Name) (sym g ∙ e) ∙ fixed_known b h in

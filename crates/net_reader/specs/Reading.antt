@@ -1,6 +1,6 @@
 -- Reading from left to right with one token of look-ahead. A rule answers what it reads and the tokens behind it, or
 -- the tokens from the first one on that doesn't fit.
-use Rattle.std.specs.Prelude.{◌≡◌, ℕ, zero, suc, Bool, true, false, cond, not, ◌==◌, List, [], ◌∷◌, ◌<◌, length, Option, Some, None, Result, Ok, Err}
+use Rattle.std.specs.Prelude.{◌≡◌, ℕ, zero, suc, Bool, true, false, cond, not, ◌==◌, List, [], ◌∷◌, ◌++◌, ◌<◌, length, Option, Some, None, Result, Ok, Err}
 use Rattle.polis_base.specs.declared.token.Keyword.TheVariants.{KwNetwork, KwVersion, KwDomain, KwEvent, KwMachine, KwFrom, KwTo, KwEnv, KwPriority, KwInput, KwOutput, KwState, KwWhen, KwDo, KwEmit, KwAbsent, KwIn, KwNothing}
 use Rattle.polis_base.specs.declared.token.Sign.TheVariants.{Equal, Assign, Colon, Comma, LeftBrace, RightBrace, DotDot}
 use Rattle.polis_base.specs.declared.token.Kind.{Kind}
@@ -53,6 +53,11 @@ abbrev pub one : {A : Type 0} → (Lexeme → Option A) → Rule A
 one f [] = Err []
 one f (l ∷ ls) = taken (f l) l ls
 
+-- what the next token says
+abbrev pub front : {A : Type 0} → (Lexeme → Option A) → List Lexeme → Option A
+front f [] = None
+front f (l ∷ ls) = f l
+
 -- the kinds that have this number
 abbrev pub is : Kind → ℕ → Bool
 is kind c = c == class_of kind
@@ -84,6 +89,10 @@ num_at = one num_of
 unfoldable pub value_at : Rule RawValue
 value_at = one value_of
 
+-- whatever is read, less is left
+abbrev pub Shrinks : {A : Type 0} → Rule A → Type 0
+Shrinks {A} p = (ls rest : List Lexeme) (a : A) → p ls ≡ Ok (a, rest) → length rest < length ls
+
 -- p where the next token passes, and otherwise q
 abbrev pub either : {A : Type 0} → (ℕ → Bool) → Rule A → Rule A → Rule A
 either test p q ls = cond (begins test ls) (p ls) (q ls)
@@ -101,7 +110,11 @@ many_up_to (suc n) test p ls = cond (begins test ls) (p ls >>= λ x. many_up_to 
 unfoldable pub many : {A : Type 0} → (ℕ → Bool) → Rule A → Rule (List A)
 many test p ls = many_up_to (length ls) test p ls
 
--- an item and the ones before it
+-- items, with others before them
+abbrev pub with_front : {A : Type 0} → List A → Answer (List A) → Answer (List A)
+with_front items answer = answer >>= λ y. Ok (items ++ y.0, y.1)
+
+-- an item and the ones behind it
 abbrev pub more : {A : Type 0} → (ℕ → Bool) → Rule A → A → Rule (List A)
 more test p a ls = many test p ls >>= λ y. Ok (a ∷ y.0, y.1)
 
@@ -162,11 +175,15 @@ typed_at ls = do
   name ← word_at c.1
   Ok (Some name.0, name.1)
 
+-- the domain of an event, if it has one
+unfoldable pub typed_part_at : Rule (Option Word)
+typed_part_at = either (is (Sign Colon)) typed_at (pure None)
+
 unfoldable pub event_at : Rule RawEvent
 event_at ls = do
   e ← only (Keyword KwEvent) ls
   name ← word_at e.1
-  domain ← either (is (Sign Colon)) typed_at (pure None) name.1
+  domain ← typed_part_at name.1
   env ← env_at domain.1
   Ok (record { name = name.0; domain = domain.0; env = env.0 }, env.1)
 
@@ -186,7 +203,6 @@ absent_at ls = do
   name ← word_at a.1
   Ok (conds.Absent name.0, name.1)
 
--- what stands behind the name of a condition
 unfoldable pub is_at : Word → Rule RawCond
 is_at name ls = do
   e ← only (Sign Equal) ls
@@ -201,10 +217,14 @@ one_of_at name ls = do
   r ← only (Sign RightBrace) values.1
   Ok (conds.OneOf name values.0, r.1)
 
+-- what stands behind the name of a condition
+unfoldable pub behind_name_at : Word → Rule RawCond
+behind_name_at name = either (is (Sign Equal)) (is_at name) (either (is (Keyword KwIn)) (one_of_at name) (pure (conds.Present name)))
+
 unfoldable pub named_at : Rule RawCond
 named_at ls = do
   name ← word_at ls
-  either (is (Sign Equal)) (is_at name.0) (either (is (Keyword KwIn)) (one_of_at name.0) (pure (conds.Present name.0))) name.1
+  behind_name_at name.0 name.1
 
 unfoldable pub cond_at : Rule RawCond
 cond_at = either (is (Keyword KwAbsent)) absent_at named_at
@@ -215,11 +235,15 @@ given_at ls = do
   value ← value_at e.1
   Ok (Some value.0, value.1)
 
+-- the value of an emission, if it has one
+unfoldable pub given_part_at : Rule (Option RawValue)
+given_part_at = either (is (Sign Equal)) given_at (pure None)
+
 unfoldable pub emit_at : Rule RawAct
 emit_at ls = do
   e ← only (Keyword KwEmit) ls
   name ← word_at e.1
-  value ← either (is (Sign Equal)) given_at (pure None) name.1
+  value ← given_part_at name.1
   Ok (acts.Emit name.0 value.0, value.1)
 
 unfoldable pub set_at : Rule RawAct

@@ -5,7 +5,7 @@ use Rattle.polis_base.specs.declared.token.Sign.TheVariants.{Equal, Assign, Colo
 use Rattle.polis_base.specs.declared.token.Kind.TheVariants as kinds
 use Rattle.net_reader.specs.Lexemes.{Lexeme}
 use Rattle.net_reader.specs.Grammar.{Part, ◌⨾◌, Key, Sign, IsWord, IsNum, IsValue, Nothing, Optional, Each, OneAnd, Listed, IsShape, IsDomain, IsEnv, IsEvent, IsState, IsCond, IsAct, AreActs, IsRow, AreOutputs, IsMachine, IsNet}
-use Rattle.net_reader.specs.Reading.{Rule, is, either, pure, names_at, range_at, shape_at, domain_at, from_env_at, to_env_at, env_at, typed_at, event_at, state_at, absent_at, is_at, one_of_at, named_at, cond_at, given_at, emit_at, set_at, act_at, nothing_at, acts_at, row_at, output_at, outputs_at, body_at, machine_at, net_at}
+use Rattle.net_reader.specs.Reading.{Rule, Shrinks, is, word_at, value_at, either, pure, names_at, range_at, shape_at, domain_at, from_env_at, to_env_at, env_at, typed_at, typed_part_at, event_at, state_at, absent_at, is_at, one_of_at, behind_name_at, named_at, cond_at, given_at, given_part_at, emit_at, set_at, act_at, nothing_at, acts_at, row_at, output_at, outputs_at, body_at, machine_at, net_at}
 use Rattle.net_reader.specs.declared.raw.Word.{Word}
 use Rattle.net_reader.specs.declared.raw.Num.{Num}
 use Rattle.net_reader.specs.declared.raw.RawValue.{RawValue}
@@ -24,7 +24,7 @@ use Rattle.net_reader.specs.declared.raw.RawRow.{RawRow}
 use Rattle.net_reader.specs.declared.raw.RawMachine.{RawMachine}
 use Rattle.net_reader.specs.declared.raw.RawNet.{RawNet}
 use Rattle.net_reader.proofs.Laws.{Laws, none, Bind, bind_laws}
-use Rattle.net_reader.proofs.Forms.{Just, Or, same_laws, pure_laws, either_laws, many_laws}
+use Rattle.net_reader.proofs.Forms.{Just, Or, same_laws, pure_laws, either_laws, many_laws, shrinks}
 use Rattle.net_reader.proofs.Tokens.{apart, within, only_laws, word_laws, num_laws, value_laws, optional_there, optional_back, one_goes, some_laws, listed_goes, listed_laws}
 
 abbrev pub Is_names : RawShape → Part
@@ -113,7 +113,8 @@ typed_laws = same_laws
     (λ e ts f. (f.2.0, f.2.1, tt, f.2.2, f.2.3, (f.2.1, [], f.0, sym (append-nil f.2.1), f.2.4, (f.1, refl))))
     (bind_laws (only_laws (kinds.Sign Colon) refl) (λ _. bind_laws word_laws (λ name. pure_laws {A = Option Word} (Some name)) (apart _ _ refl)) (apart _ _ refl))
 
-pub domain_part_laws : Laws (either (is (kinds.Sign Colon)) typed_at (pure None)) (Optional (λ d. Sign Colon ⨾ IsWord d)) (λ c. is (kinds.Sign Colon) c || false) (is (kinds.Sign Colon)) true
+pub domain_part_laws : Laws typed_part_at (Optional (λ d. Sign Colon ⨾ IsWord d)) (λ c. is (kinds.Sign Colon) c || false) (is (kinds.Sign Colon)) true
+unfolding typed_part_at
 domain_part_laws = same_laws (optional_there (λ d. Sign Colon ⨾ IsWord d)) (optional_back (λ d. Sign Colon ⨾ IsWord d)) (either_laws (is (kinds.Sign Colon)) typed_laws (pure_laws None) (within _ _ refl) (apart _ _ refl))
 
 abbrev pub event_goes : ℕ → Bool
@@ -169,7 +170,8 @@ Is_behind name = Or (Is_is name) (Or (Is_one_of name) (Just (conds.Present name)
 abbrev pub cond_goes : ℕ → Bool
 cond_goes c = is (kinds.Keyword KwIn) c || is (kinds.Sign Equal) c
 
-behind_laws : (name : Word) → Laws (either (is (kinds.Sign Equal)) (is_at name) (either (is (kinds.Keyword KwIn)) (one_of_at name) (pure (conds.Present name)))) (Is_behind name) (λ c. is (kinds.Sign Equal) c || (is (kinds.Keyword KwIn) c || false)) cond_goes true
+behind_laws : (name : Word) → Laws (behind_name_at name) (Is_behind name) (λ c. is (kinds.Sign Equal) c || (is (kinds.Keyword KwIn) c || false)) cond_goes true
+unfolding behind_name_at
 behind_laws name = either_laws (is (kinds.Sign Equal)) (is_laws name) (either_laws (is (kinds.Keyword KwIn)) (one_of_laws name) (pure_laws (conds.Present name)) (within _ _ refl) (apart _ _ refl)) (within _ _ refl) (apart _ _ refl)
 
 pub named_laws : Laws named_at (Bind IsWord Is_behind) (is kinds.Name) (λ c. cond_goes c || false) false
@@ -205,7 +207,8 @@ given_laws = same_laws
     (λ e ts f. (f.2.0, f.2.1, tt, f.2.2, f.2.3, (f.2.1, [], f.0, sym (append-nil f.2.1), f.2.4, (f.1, refl))))
     (bind_laws (only_laws (kinds.Sign Equal) refl) (λ _. bind_laws value_laws (λ value. pure_laws {A = Option RawValue} (Some value)) (apart _ _ refl)) (apart _ _ refl))
 
-pub value_part_laws : Laws (either (is (kinds.Sign Equal)) given_at (pure None)) (Optional (λ v. Sign Equal ⨾ IsValue v)) (λ c. is (kinds.Sign Equal) c || false) (is (kinds.Sign Equal)) true
+pub value_part_laws : Laws given_part_at (Optional (λ v. Sign Equal ⨾ IsValue v)) (λ c. is (kinds.Sign Equal) c || false) (is (kinds.Sign Equal)) true
+unfolding given_part_at
 value_part_laws = same_laws (optional_there (λ v. Sign Equal ⨾ IsValue v)) (optional_back (λ v. Sign Equal ⨾ IsValue v)) (either_laws (is (kinds.Sign Equal)) given_laws (pure_laws None) (within _ _ refl) (apart _ _ refl))
 
 abbrev pub Is_emit : RawAct → Part
@@ -326,3 +329,30 @@ net_laws = same_laws
     (λ e ts f. subst (λ (z : RawNet). IsNet z ts) (sym f.5.5.5.5.5.5.5.0) (f.0, f.1, f.3, f.4, (f.5.0, f.5.1, f.5.3, f.5.4, (f.5.5.0, f.5.5.1, f.5.5.3, f.5.5.4, (f.5.5.5.0, f.5.5.5.1, f.5.5.5.3, f.5.5.5.4, (f.5.5.5.5.0, f.5.5.5.5.1, f.5.5.5.5.3, f.5.5.5.5.4, (f.5.5.5.5.5.0, f.5.5.5.5.5.1, f.5.5.5.5.5.3, f.5.5.5.5.5.4, subst (λ (m : List Lexeme). (OneAnd IsMachine IsMachine f.5.5.5.5.5.5.2) m) (sym (f.5.5.5.5.5.5.3 ∙ ap (λ m. f.5.5.5.5.5.5.0 ++ m) f.5.5.5.5.5.5.5.1 ∙ append-nil f.5.5.5.5.5.5.0)) f.5.5.5.5.5.5.4)))))))
     (λ e ts f. (f.0, f.1, tt, f.2, f.3, (f.4.0, f.4.1, e.name, f.4.2, f.4.3, (f.4.4.0, f.4.4.1, tt, f.4.4.2, f.4.4.3, (f.4.4.4.0, f.4.4.4.1, e.version, f.4.4.4.2, f.4.4.4.3, (f.4.4.4.4.0, f.4.4.4.4.1, e.domains, f.4.4.4.4.2, f.4.4.4.4.3, (f.4.4.4.4.4.0, f.4.4.4.4.4.1, e.events, f.4.4.4.4.4.2, f.4.4.4.4.4.3, (f.4.4.4.4.4.1, [], e.machines, sym (append-nil f.4.4.4.4.4.1), f.4.4.4.4.4.4, (refl, refl)))))))))
     (bind_laws (only_laws (kinds.Keyword KwNetwork) refl) (λ _. bind_laws word_laws (λ name. bind_laws (only_laws (kinds.Keyword KwVersion) refl) (λ _. bind_laws num_laws (λ version. bind_laws (many_laws (is (kinds.Keyword KwDomain)) domain_laws (within _ _ refl) (apart _ _ refl)) (λ domains. bind_laws (many_laws (is (kinds.Keyword KwEvent)) event_laws (within _ _ refl) (apart _ _ refl)) (λ events. bind_laws (some_laws (is (kinds.Keyword KwMachine)) machine_laws (within _ _ refl) (apart _ _ refl)) (λ machines. pure_laws {A = RawNet} (record { name = name; version = version; domains = domains; events = events; machines = machines })) (apart _ _ refl)) (apart _ _ refl)) (apart _ _ refl)) (apart _ _ refl)) (apart _ _ refl)) (apart _ _ refl)) (apart _ _ refl))
+
+pub word_shrinks : Shrinks word_at
+word_shrinks = shrinks word_laws
+
+pub value_shrinks : Shrinks value_at
+value_shrinks = shrinks value_laws
+
+pub domain_shrinks : Shrinks domain_at
+domain_shrinks = shrinks domain_laws
+
+pub event_shrinks : Shrinks event_at
+event_shrinks = shrinks event_laws
+
+pub state_shrinks : Shrinks state_at
+state_shrinks = shrinks state_laws
+
+pub cond_shrinks : Shrinks cond_at
+cond_shrinks = shrinks cond_laws
+
+pub act_shrinks : Shrinks act_at
+act_shrinks = shrinks act_laws
+
+pub row_shrinks : Shrinks row_at
+row_shrinks = shrinks row_laws
+
+pub machine_shrinks : Shrinks machine_at
+machine_shrinks = shrinks machine_laws

@@ -1,11 +1,10 @@
 -- The laws of one token, of alternatives and of repetition.
-use Rattle.std.proofs.Common.{◌≡◌, ℕ, zero, suc, ◌+◌, ◌<◌, ◌≤◌, Bool, true, false, cond, ◌||◌, List, [], ◌∷◌, ◌++◌, length, Option, Some, None, Result, Ok, Err, refl, sym, ◌∙◌, ap, subst, append_assoc, append-nil, length-append, arith, ◌⊎◌, inl, inr}
-use Rattle.polis_base.specs.declared.token.Kind.{Kind}
+use Rattle.std.proofs.Common.{◌≡◌, ℕ, zero, suc, ◌<◌, ◌≤◌, Bool, true, false, cond, ◌||◌, List, [], ◌∷◌, ◌++◌, length, Option, Some, None, Ok, Err, refl, sym, ◌∙◌, ap, subst, append_assoc, append-nil, length-append, arith, ◌⊎◌, inl, inr}
 use Rattle.net_reader.specs.Kinds.{class_of}
 use Rattle.net_reader.specs.Lexemes.{Lexeme}
-use Rattle.net_reader.specs.Grammar.{Part, Says, Nothing, Each}
+use Rattle.net_reader.specs.Grammar.{Part, Says, Each}
 use Rattle.net_reader.specs.Reading.{Answer, Rule, Shrinks, ◌>>=◌, taken, one, begins, pure, either, many_up_to, many, more}
-use Rattle.net_reader.proofs.Laws.{Took, Broke, Laws, none, joined, Apart, Within, or_false, or_left, or_right, bind_ok, bind_err, passed, follows, goes_left, begins_front, begins_same, begins_second, step}
+use Rattle.net_reader.proofs.Laws.{Took, Broke, Laws, none, joined, Apart, Within, or_false, or_left, bind_ok, passed, follows, goes_left, begins_front, begins_same, begins_second, step}
 
 pub same_laws : {A : Type 0} {p : Rule A} {P Q : A → Part} {s g : ℕ → Bool} {e : Bool} → ((a : A) (ts : List Lexeme) → P a ts → Q a ts) → ((a : A) (ts : List Lexeme) → Q a ts → P a ts) → Laws p P s g e → Laws p Q s g e
 same_laws there back laws = record {

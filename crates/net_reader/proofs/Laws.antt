@@ -1,10 +1,10 @@
 -- What reading by a rule has to do with a part of the grammar.
-use Rattle.std.proofs.Common.{◌≡◌, ℕ, zero, suc, ◌+◌, ◌<◌, ◌≤◌, Bool, true, false, cond, ◌||◌, List, [], ◌∷◌, ◌++◌, length, Option, Some, None, Result, Ok, Err, refl, sym, ◌∙◌, ap, subst, append_assoc, append-nil, arith, ◌⊎◌, inl, inr}
+use Rattle.std.proofs.Common.{◌≡◌, ℕ, Bool, true, false, cond, ◌||◌, List, [], ◌∷◌, ◌++◌, Ok, Err, refl, sym, ◌∙◌, ap, append_assoc, ◌⊎◌, inl, inr}
 use Rattle.polis_base.specs.declared.token.Kind.{Kind}
 use Rattle.net_reader.specs.Kinds.{class_of}
 use Rattle.net_reader.specs.Lexemes.{Lexeme}
-use Rattle.net_reader.specs.Grammar.{Part, Says, Nothing}
-use Rattle.net_reader.specs.Reading.{Answer, Rule, ◌>>=◌, taken, one, begins, pure}
+use Rattle.net_reader.specs.Grammar.{Part}
+use Rattle.net_reader.specs.Reading.{Answer, Rule, ◌>>=◌, begins}
 
 -- The rule read the value and left the rest: what it used is of the part, and it does the same where the next token is
 -- the same.

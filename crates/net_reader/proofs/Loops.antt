@@ -1,5 +1,5 @@
 -- Loops over the parts of a list.
-use Rattle.std.proofs.Common.{◌≡◌, ℕ, Bool, true, false, List, [], ◌∷◌, ◌++◌, Result, Ok, Err, refl, sym, ◌∙◌, ap, append_assoc, append-nil, ◌<◌, length, arith}
+use Rattle.std.proofs.Common.{◌≡◌, ℕ, Bool, true, false, List, [], ◌∷◌, ◌++◌, Ok, Err, refl, sym, ◌∙◌, ap, append_assoc, append-nil, arith}
 use Rattle.net_reader.specs.Lexemes.{Lexeme}
 use Rattle.net_reader.specs.Reading.{Answer, Rule, Gives, Shrinks, ◌>>=◌, begins, many, with_front, after_comma, only}
 use Rattle.net_reader.specs.declared.reader.Stop.{Stop}

@@ -1,13 +1,12 @@
 -- Steps of the reader.
-use Rattle.std.proofs.Common.{◌≡◌, ℕ, zero, suc, ◌+◌, ◌<◌, ◌≤◌, Bool, true, false, cond, ◌==◌, IsTrue, List, [], ◌∷◌, length, take, drop, map, slice_get, option_map, Option, Some, None, Result, Ok, Err, refl, sym, ◌∙◌, ap, subst, add-one, arith}
+use Rattle.std.proofs.Common.{◌≡◌, ℕ, zero, suc, ◌+◌, ◌<◌, ◌≤◌, Bool, true, false, cond, IsTrue, List, [], ◌∷◌, length, drop, slice_get, Option, Some, None, Ok, Err, refl, sym, ap, add-one, arith}
 use Rattle.std.proofs.lemmas.Bool.{eqb-true, eq-eqb, false≢true}
-use Rattle.std.specs.List.{All}
 use Rattle.polis_base.specs.Lists.{head_of}
 use Rattle.polis_base.specs.declared.token.Token.{Token}
 use Rattle.polis_base.specs.declared.token.Kind.{Kind}
 use Rattle.net_reader.specs.Kinds.{class_of}
 use Rattle.net_reader.specs.Lexemes.{Lexeme, lexeme, lexemes}
-use Rattle.net_reader.specs.Reading.{Answer, Rule, taken, one, front, is, is_fixed, begins, only, of_kind, word_at, num_at, value_at, end_at}
+use Rattle.net_reader.specs.Reading.{taken, one, front, is, is_fixed, begins, only, end_at}
 use Rattle.net_reader.proofs.Tokens.{kind_same, fixed_or_number}
 
 pub front_none : {A : Type 0} (f : Lexeme → Option A) (ls : List Lexeme) → front f ls ≡ None → one f ls ≡ Err ls

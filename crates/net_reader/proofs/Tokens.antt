@@ -1,20 +1,19 @@
 -- The laws of one token, of lists, and of sets of kinds.
-use Rattle.std.proofs.Common.{◌≡◌, ℕ, zero, suc, ◌<◌, ◌≤◌, Bool, true, false, cond, not, ◌&&◌, ◌||◌, ◌==◌, List, [], ◌∷◌, ◌++◌, get_or, Option, Some, None, codes, refl, sym, ◌∙◌, ap, subst, arith, ◌⊎◌, inl, inr, ⊎_elim, append-nil}
+use Rattle.std.proofs.Common.{◌≡◌, ℕ, zero, suc, ◌<◌, Bool, true, false, cond, not, ◌&&◌, ◌||◌, ◌==◌, List, [], ◌∷◌, ◌++◌, get_or, Option, Some, None, codes, refl, sym, ◌∙◌, ap, subst, arith, ◌⊎◌, inl, inr, ⊎_elim, append-nil}
 use Rattle.std.proofs.lemmas.Bool.{eqb-true, eq-eqb}
-use Rattle.polis_base.specs.declared.token.Keyword.{Keyword as Reserved}
 use Rattle.polis_base.specs.declared.token.Keyword.TheVariants.{KwNetwork, KwVersion, KwDomain, KwEvent, KwMachine, KwFrom, KwTo, KwEnv, KwPriority, KwInput, KwOutput, KwState, KwWhen, KwDo, KwEmit, KwAbsent, KwIn, KwNothing, KwSettle, KwValue}
 use Rattle.polis_base.specs.declared.token.Sign.TheVariants.{Equal, Assign, Colon, Comma, LeftBrace, RightBrace, DotDot, Plus}
 use Rattle.polis_base.specs.declared.token.Kind.{Kind}
 use Rattle.polis_base.specs.declared.token.Kind.TheVariants.{Keyword, Name, Number, Sign}
 use Rattle.net_reader.specs.Kinds.{class_of}
 use Rattle.net_reader.specs.Lexemes.{Lexeme, word_as, word_of, num_as, num_of, value_as, value_of}
-use Rattle.net_reader.specs.Grammar.{Part, ◌⨾◌, Only, Key, Sign as Mark, IsWord, IsNum, IsValue, Says, Optional, Each, OneAnd, Listed}
-use Rattle.net_reader.specs.Reading.{Rule, is, is_fixed, of_kind, one, only, word_at, num_at, value_at, many, more, some, after_comma, listed, pure}
+use Rattle.net_reader.specs.Grammar.{Part, ◌⨾◌, Only, Sign as Mark, IsWord, IsNum, IsValue, Says, Optional, Each, OneAnd, Listed}
+use Rattle.net_reader.specs.Reading.{Rule, is, is_fixed, of_kind, only, word_at, num_at, value_at, more, some, after_comma, listed}
 use Rattle.net_reader.specs.declared.raw.Word.{Word}
 use Rattle.net_reader.specs.declared.raw.Num.{Num}
 use Rattle.net_reader.specs.declared.raw.RawValue.{RawValue}
 use Rattle.net_reader.specs.declared.raw.RawValue.TheVariants as values
-use Rattle.net_reader.proofs.Laws.{Laws, none, joined, Apart, Within, Bind, bind, bind_laws}
+use Rattle.net_reader.proofs.Laws.{Laws, none, Apart, Within, Bind, bind, bind_laws}
 use Rattle.net_reader.proofs.Forms.{Just, Or, same_laws, one_laws, pure_laws, many_laws}
 
 -- sets of kinds

@@ -5,7 +5,7 @@ use Rattle.polis_base.specs.declared.token.Token.{Token}
 use Rattle.polis_base.specs.declared.token.LexError.{LexError}
 use Rattle.net_reader.specs.Lexemes.{Lexeme, lexemes}
 use Rattle.net_reader.specs.Grammar.{IsNet, BeginsSentence}
-use Rattle.net_reader.specs.Reading.{Answer, ◌>>=◌, begins, net_at, end_at, whole_at}
+use Rattle.net_reader.specs.Reading.{Answer, ◌>>=◌, net_at, end_at, whole_at}
 use Rattle.net_reader.specs.Pieces.{place_of}
 use Rattle.net_reader.specs.Sentences.{HasNet, BreaksAt, Stops, OrNoMemory}
 use Rattle.net_reader.specs.Outcomes.{Settles, judged, outcome_of, outcome}
@@ -13,7 +13,7 @@ use Rattle.net_reader.specs.declared.raw.RawNet.{RawNet}
 use Rattle.net_reader.specs.declared.network.NetFault.{NetFault}
 use Rattle.net_reader.specs.declared.network.NetFault.TheVariants as faults
 use Rattle.net_reader.proofs.Laws.{bind_ok, bind_err, step}
-use Rattle.net_reader.proofs.GrammarLaws.{net_laws, net_goes}
+use Rattle.net_reader.proofs.GrammarLaws.{net_laws}
 
 end_ok : (ls rest : List Lexeme) → end_at ls ≡ Ok (tt, rest) → ls ≡ []
 unfolding end_at

@@ -1,5 +1,5 @@
 -- Tokens with their bytes, and what one token says.
-use Rattle.std.specs.Prelude.{ℕ, List, [], ◌∷◌, map, Option, Some, None}
+use Rattle.std.specs.Prelude.{ℕ, List, map, Option, Some, None}
 use Rattle.polis_base.specs.declared.token.Kind.{Kind}
 use Rattle.polis_base.specs.declared.token.Kind.TheVariants as kinds
 use Rattle.polis_base.specs.declared.token.Token.{Token}

@@ -3,7 +3,7 @@ use Rattle.std.specs.Prelude.{◌≡◌, ◌⊎◌, ℕ, List, length, Result, O
 use Rattle.polis_base.specs.Tokens.{tokens_of}
 use Rattle.polis_base.specs.declared.token.Token.{Token}
 use Rattle.polis_base.specs.declared.token.LexError.{LexError}
-use Rattle.net_reader.specs.Lexemes.{Lexeme, lexemes}
+use Rattle.net_reader.specs.Lexemes.{lexemes}
 use Rattle.net_reader.specs.Reading.{Answer, whole_at}
 use Rattle.net_reader.specs.Pieces.{place_of}
 use Rattle.net_reader.specs.declared.raw.RawNet.{RawNet}

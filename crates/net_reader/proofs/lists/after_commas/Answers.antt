@@ -1,8 +1,8 @@
-use Rattle.std.proofs.Common.{◌≡◌, ◌++◌, ◌∷◌, [], ◌<◌, ◌≤◌, length, true, false, sym, ◌∙◌, ap, arith}
+use Rattle.std.proofs.Common.{◌≡◌, ◌++◌, ◌∷◌, [], sym, ◌∙◌, ap}
 use Rattle.std.proofs.lemmas.Result.{err_from_is_err_and}
 use Rattle.polis_base.specs.declared.token.Kind.TheVariants as kinds
 use Rattle.polis_base.specs.declared.token.Sign.TheVariants.{Comma}
-use Rattle.net_reader.specs.Reading.{is, begins, many, after_comma, with_front}
+use Rattle.net_reader.specs.Reading.{is, many, after_comma, with_front}
 use Rattle.net_reader.proofs.Loops.{goes_on, ends, stops_list, comma_shrinks}
 use Rattle.net_reader.proofs.lists.after_commas.Goals as goal
 

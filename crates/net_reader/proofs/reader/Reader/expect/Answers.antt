@@ -1,4 +1,4 @@
-use Rattle.std.proofs.Common.{◌≡◌, sym, ◌∙◌, true, false}
+use Rattle.std.proofs.Common.{◌≡◌, true, false}
 use Rattle.net_reader.specs.Reading.{begins, is}
 use Rattle.net_reader.proofs.Steps.{only_no, only_yes, begins_long}
 use Rattle.net_reader.proofs.reader.Reader.expect.Goals as goal

@@ -1,4 +1,4 @@
-use Rattle.std.proofs.Common.{◌≡◌, ◌∙◌, Some, ap}
+use Rattle.std.proofs.Common.{◌∙◌, Some, ap}
 use Rattle.polis_base.specs.Lists.{head_of}
 use Rattle.net_reader.proofs.Steps.{head_at}
 use Rattle.net_reader.proofs.reader.Reader.peek.Goals as goal

@@ -1,4 +1,4 @@
-use Rattle.std.proofs.Common.{◌≡◌, ◌<◌, length, drop, ap, subst, sym, ◌∙◌, arith, List}
+use Rattle.std.proofs.Common.{◌<◌, length, drop, ap, subst, sym, ◌∙◌, arith, List}
 use Rattle.net_reader.specs.Lexemes.{Lexeme, lexemes}
 use Rattle.net_reader.proofs.Steps.{drop_more, long_below}
 use Rattle.net_reader.proofs.reader.Reader.skip.Goals as goal

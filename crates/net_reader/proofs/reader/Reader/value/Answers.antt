@@ -1,7 +1,7 @@
 use Rattle.net_reader.specs.Lexemes.{value_of}
 use Rattle.net_reader.specs.Reading.{value_at}
 use Rattle.net_reader.proofs.Steps.{front_none, front_some, front_long}
-use Rattle.std.proofs.Common.{◌≡◌, sym, ◌∙◌, Ok, ap, drop}
+use Rattle.std.proofs.Common.{sym}
 use Rattle.net_reader.proofs.reader.Reader.value.Goals as goal
 
 pub skip-requires : goal.skip-requires

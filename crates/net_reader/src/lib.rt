@@ -6,6 +6,8 @@ mod network;
 mod raw;
 mod reader;
 mod rules;
+#[cfg(test)]
+mod tests;
 
 pub use network::{NetFault, read_network};
 pub use raw::{

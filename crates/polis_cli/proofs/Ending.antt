@@ -1,16 +1,22 @@
 -- What the call promises, from what its parts give.
-use Rattle.std.proofs.Common.{◌≡◌, ◌⊎◌, inl, inr, ◌≤◌, ◌<◌, ℕ, List, length, Some, None, refl, sym, subst, ◌∙◌, arith, IsTrue, codes}
+use Rattle.std.proofs.Common.{◌≡◌, ◌⊎◌, inl, inr, ◌≤◌, ◌<◌, ℕ, List, length, Some, None, refl, sym, subst, ◌∙◌, arith, IsTrue, codes, Ok, Err}
 use Rattle.std.specs.Prelude.{Option}
 use Rattle.polis_base.specs.Host.{Files, bytes_at, WhereTold, Changes}
 use Rattle.polis_cli.specs.declared.failure.Source.TheVariants.{Net, Trace}
 use Rattle.polis_cli.specs.declared.failure.Failure.{Failure}
-use Rattle.polis_cli.specs.declared.failure.Failure.TheVariants.{ReadFault as Unread, Absent, TooLong, NotYet, Line, NoMemory as Wanting}
+use Rattle.polis_cli.specs.declared.failure.Failure.TheVariants.{ReadFault as Unread, Absent, TooLong, Lex, Syntax, NotYet, Line, NoMemory as Wanting}
 use Rattle.polis_cli.specs.declared.status.Status.{Status}
 use Rattle.polis_cli.specs.declared.status.Status.TheVariants.{ReadFault, Refused, WriteFault, NoMemory}
 use Rattle.polis_cli.specs.Form.{RunWords, Asks}
 use Rattle.polis_cli.specs.Lamp.{Accepted}
 use Rattle.polis_cli.specs.Top.{text_max, AreAccepted, is_end}
-use Rattle.polis_cli.specs.Lines.{Explains, status_of, failure_line, IsLineOf, ShowsFront, ShowsFailure}
+use Rattle.polis_base.specs.Tokens.{tokens_of}
+use Rattle.polis_base.specs.declared.token.Token.{Token}
+use Rattle.polis_base.specs.declared.token.LexError.{LexError}
+use Rattle.net_reader.specs.Sentences.{HasNet}
+use Rattle.polis_cli.proofs.Inputs.{no_break}
+use Rattle.polis_cli.specs.Failures.{status_of, lex_error}
+use Rattle.polis_cli.specs.Lines.{Explains, failure_line, IsLineOf, ShowsFront, ShowsFailure, IsTextFault, HoldsFaulty}
 use Rattle.polis_cli.specs.Parts.{FailsWith, no_memory_line}
 
 -- a fact of what was told and what is, from another
@@ -33,13 +39,26 @@ too_long held a b h k above within =
 one_text : (held : Option (List ℕ)) (a b : List ℕ) → held ≡ Some a → held ≡ Some b → b ≡ a
 one_text held a b h k = cc
 
+other_tokens : (text other : List ℕ) (tokens : List Token) (error : LexError) → other ≡ text → tokens_of other ≡ Ok tokens → tokens_of text ≡ Err error → ⊥
+other_tokens text other tokens error same read fault = let h = subst (λ (t : List ℕ). tokens_of t ≡ Ok tokens) same read in cc
+
 pub refuses : (files : Files) (run : RunWords) (failure : Failure) → status_of failure ≡ Refused → Explains files run failure → ¬ AreAccepted files run
 refuses files run (Absent Net) s h = λ all. explains_none (bytes_at files run.net) all.1.text h.1 all.1.held
 refuses files run (Absent Trace) s h = λ all. explains_none (bytes_at files run.trace) all.2.1.text h.1 all.2.1.held
 refuses files run (TooLong Net) s h = λ all. too_long (bytes_at files run.net) h.1.0 all.1.text h.1.1 all.1.held h.1.2 all.1.within
 refuses files run (TooLong Trace) s h = λ all. too_long (bytes_at files run.trace) h.1.0 all.2.1.text h.1.1 all.2.1.held h.1.2 all.2.1.within
+refuses files run (Lex kind place) s h =
+    λ all.
+    let same : all.1.text ≡ h.0 = one_text (bytes_at files run.net) h.0 all.1.text h.1.held all.1.held in
+    let read = all.1.accepted.0.1.read in
+    let fault = h.2 in
+    other_tokens h.0 all.1.text all.1.accepted.0.1.tokens (lex_error kind place) same read fault
+refuses files run (Syntax place) s h =
+    λ all.
+    no_break h.0 all.1.accepted.0.0 place
+    (subst (λ (t : List ℕ). HasNet t all.1.accepted.0.0) (one_text (bytes_at files run.net) h.0 all.1.text h.1.held all.1.held) all.1.accepted.0.1) h.2
 refuses files run NotYet s h =
-    λ all. h.2 all.0 (subst (λ (t : List ℕ). Accepted t all.0) (one_text (bytes_at files run.net) h.0 all.1.text h.1.held all.1.held) all.1.accepted)
+    λ all. h.2.2 all.0 (subst (λ (t : List ℕ). Accepted t all.0) (one_text (bytes_at files run.net) h.0 all.1.text h.1.held all.1.held) all.1.accepted)
 refuses files run (Line line kind) s h =
     λ all.
     let same : all.2.1.text ≡ h.1 = one_text (bytes_at files run.trace) h.1 all.2.1.text h.2.held all.2.1.held in
@@ -62,6 +81,8 @@ refused_only (Some files) words run failure status h one (inr s) is = cc
 cases_of : (failure : Failure) → (status_of failure ≡ Refused) ⊎ (status_of failure ≡ ReadFault) ⊎ (status_of failure ≡ NoMemory)
 cases_of (Absent source) = inl refl
 cases_of (TooLong source) = inl refl
+cases_of (Lex kind place) = inl refl
+cases_of (Syntax place) = inl refl
 cases_of NotYet = inl refl
 cases_of (Line line kind) = inl refl
 cases_of (Unread source) = inr (inl refl)
@@ -88,6 +109,8 @@ line_is : (o : Option Files) (words : List (List ℕ)) (run : RunWords) (failure
 line_is o words run (Unread source) asks h = (run, source, asks, refl)
 line_is o words run (Absent source) asks h = (run, Absent source, asks, refl, refl, h)
 line_is o words run (TooLong source) asks h = (run, TooLong source, asks, refl, refl, h)
+line_is o words run (Lex kind place) asks h = (run, Lex kind place, asks, refl, refl, h)
+line_is o words run (Syntax place) asks h = (run, Syntax place, asks, refl, refl, h)
 line_is o words run NotYet asks h = (run, NotYet, asks, refl, refl, h)
 line_is o words run (Line line kind) asks h = (run, Line line kind, asks, refl, refl, h)
 line_is o words run Wanting asks h = refl

@@ -16,6 +16,8 @@ use Rattle.transition_table.specs.Transitions.{AreDeterministic}
 use Rattle.polis_cli.specs.declared.lamp.Lexeme.{Lexeme}
 use Rattle.polis_cli.specs.declared.lamp.Lexeme.TheVariants.{Keyword, Name, Number, Sign}
 use Rattle.polis_cli.specs.declared.lamp.Lamp.{Lamp}
+use Rattle.net_reader.specs.declared.raw.RawNet.{RawNet}
+use Rattle.net_reader.specs.Sentences.{HasNet}
 use Rattle.polis_cli.specs.LampParts.{AreEventsOf}
 
 -- what a token of this kind is, where these are its bytes
@@ -115,13 +117,16 @@ pub record IsNetworkOf (lamp : Lamp) (net : Network) : Type 0 where
   pub to_is : IsValue lamp lamp.to to
   pub machine : (m : Machine) × (net.machines ≡ m ∷ []) × IsMachineOf lamp init from to m
 
--- the bytes are a text of the network
-pub record NetOf (text : List ℕ) (net : Network) : Type 0 where
+-- these are the declarations of a lamp, and this is its network
+pub record IsNetOf (raw : RawNet) (net : Network) : Type 0 where
   pub lamp : Lamp
   pub fits : IsLamp lamp
-  pub reads : Reads text (lamp_tokens lamp)
   pub network : IsNetworkOf lamp net
 
--- the bytes are a text of the network, and each of its machines is deterministic
+-- the text declares the network
+abbrev pub NetOf : List ℕ → Network → Type 0
+NetOf text net = (raw : RawNet) × HasNet text raw × IsNetOf raw net
+
+-- the text declares the network, and each of its machines is deterministic
 abbrev pub Accepted : List ℕ → Network → Type 0
 Accepted text net = NetOf text net × AreDeterministic net

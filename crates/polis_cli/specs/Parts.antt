@@ -10,7 +10,8 @@ use Rattle.net_core.specs.Schedules.{IsSchedule}
 use Rattle.polis_cli.specs.Form.{RunWords, out_name, journal_name}
 use Rattle.polis_cli.specs.Texts.{journal_text, output_text, summary_text}
 use Rattle.polis_cli.specs.Top.{Saving, MadeSome, files_behind}
-use Rattle.polis_cli.specs.Lines.{ShowsFront, status_of, failure_line}
+use Rattle.polis_cli.specs.Failures.{status_of}
+use Rattle.polis_cli.specs.Lines.{ShowsFront, failure_line}
 use Rattle.polis_cli.specs.declared.write.Texts.{Texts}
 use Rattle.polis_cli.specs.declared.failure.Failure.{Failure}
 use Rattle.polis_cli.specs.declared.status.Status.{Status}

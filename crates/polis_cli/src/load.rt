@@ -5,12 +5,15 @@ ghost use Rattle.net_core.specs.Journals.{IsTrace};
 ghost use Rattle.transition_table.specs.Transitions.{AreDeterministic};
 ghost use Rattle.polis_cli.specs.declared.failure.Source.{Source};
 ghost use Rattle.polis_cli.specs.Top.{HoldsNet, HoldsTrace, text_max};
-ghost use Rattle.polis_cli.specs.Lines.{HoldsText, Explains};
+ghost use Rattle.transition_table.specs.declared.network.Network.{Network};
+ghost use Rattle.polis_cli.specs.Lamp.{Accepted};
+ghost use Rattle.polis_cli.specs.Lines.{HoldsText, IsTextFault, Explains};
 
 use crate::failure::{Failure, Source};
 use crate::form::Run;
 use crate::lamp::{LampFault, read_lamp};
 use net_core::Trace;
+use net_reader::{NetFault, read_network};
 use polis_base::{Bytes, Host, Load};
 use std::alloc::Global;
 use trace_text::{TraceFault, read_trace};
@@ -53,6 +56,47 @@ fn load_text<H: Host>(
     }
 }
 
+// The network of a text.
+fn network_in(alloc: Global, text: &[u8]) -> Result<Network, Failure>
+    ensures ok { IfOk result (λ net. Accepted text.now net) }
+    ensures one { IfOk result (λ net. (other : Network) → Accepted text.now other → other ≡ net) }
+    ensures faulty { IfErr result (λ failure. IsTextFault text.now failure) }
+{
+    let raw = match read_network(alloc, text) {
+        Ok(raw) => raw,
+        Err(NetFault::Lex(error)) => return Err(Failure::of_lex(error)),
+        Err(NetFault::Syntax(place)) => return Err(Failure::Syntax { place }),
+        Err(NetFault::NoMemory) => return Err(Failure::NoMemory),
+    };
+    match read_lamp(alloc, &raw) {
+        Ok(net) => Ok(net),
+        Err(LampFault::NotRead) => Err(Failure::NotYet),
+        Err(LampFault::NoMemory) => Err(Failure::NoMemory),
+    }
+}
+
+// Loads and reads the network.
+fn read_net<H: Host>(alloc: Global, host: &mut H, run: &Run<'_>) -> Result<Network, Failure>
+    ensures held { IfOk result (λ net. WhereTold (H.files host.old) (λ files. HoldsNet files run.now.net net)) }
+    ensures one { IfOk result (λ net. WhereTold (H.files host.old) (λ files. (other : Network) → HoldsNet files run.now.net other → other ≡ net)) }
+    ensures deterministic { IfOk result (λ net. AreDeterministic net) }
+    ensures ok_faults { OnOk result (H.load_faults host.new ≡ H.load_faults host.old) }
+    ensures explained { IfErr result (λ failure. WhereTold (H.files host.old) (λ files. Explains files run.now failure)) }
+    ensures fault { (source : Source) → result ≡ Err (Failure.ReadFault source) → Rose (H.load_faults host.old) (H.load_faults host.new) }
+    ensures files { H.files host.new ≡ H.files host.old }
+    ensures shown { H.shown host.new ≡ H.shown host.old }
+    ensures write_faults { H.write_faults host.new ≡ H.write_faults host.old }
+{
+    let text = match load_text(alloc, host, run.net(), Source::Net) {
+        Ok(text) => text,
+        Err(failure) => return Err(failure),
+    };
+    match network_in(alloc, text.as_slice()) {
+        Ok(net) => Ok(net),
+        Err(failure) => Err(failure),
+    }
+}
+
 /// Loads and reads the network, and then the trace.
 pub fn read_inputs<H: Host>(alloc: Global, host: &mut H, run: &Run<'_>) -> Result<Inputs, Failure>
     ensures held { IfOk result (λ inputs. WhereTold (H.files host.old) (λ files. HoldsNet files run.now.net inputs.net × HoldsTrace files run.now.trace inputs.net inputs.trace)) }
@@ -64,20 +108,15 @@ pub fn read_inputs<H: Host>(alloc: Global, host: &mut H, run: &Run<'_>) -> Resul
     ensures shown { H.shown host.new ≡ H.shown host.old }
     ensures write_faults { H.write_faults host.new ≡ H.write_faults host.old }
 {
-    let net_text = match load_text(alloc, host, run.net(), Source::Net) {
-        Ok(text) => text,
-        Err(failure) => return Err(failure),
-    };
-    let net = match read_lamp(alloc, net_text.as_slice()) {
+    let net = match read_net(alloc, host, run) {
         Ok(net) => net,
-        Err(LampFault::NotRead) => return Err(Failure::NotYet),
-        Err(LampFault::NoMemory) => return Err(Failure::NoMemory),
+        Err(failure) => return Err(failure),
     };
-    let trace_text = match load_text(alloc, host, run.trace(), Source::Trace) {
+    let text = match load_text(alloc, host, run.trace(), Source::Trace) {
         Ok(text) => text,
         Err(failure) => return Err(failure),
     };
-    match read_trace(alloc, &net, trace_text.as_slice()) {
+    match read_trace(alloc, &net, text.as_slice()) {
         Ok(trace) => Ok(Inputs { net, trace }),
         Err(TraceFault::Line { line, kind }) => Err(Failure::Line { line, kind }),
         Err(TraceFault::NoMemory) => Err(Failure::NoMemory),

@@ -12,7 +12,6 @@ mod status;
 #[cfg(test)]
 mod tests;
 mod top;
-mod worked;
 mod write;
 
 use crate::status::Status;

@@ -1,10 +1,11 @@
 // Showing the one line of a call that wrote no run.
 ghost use Rattle.std.specs.Prelude.{◌≡◌, ◌≤◌, ◌⊎◌, ◌++◌, decimal, List, ℕ, [], ◌∷◌, IfOk, OnOk, OnErr, codes};
 ghost use Rattle.polis_base.specs.Host.{Rose, Changes};
-ghost use Rattle.polis_cli.specs.Lines.{ShowsFront, failure_line, kind_word, name_of, status_of};
+ghost use Rattle.polis_cli.specs.Failures.{status_of};
+ghost use Rattle.polis_cli.specs.Lines.{ShowsFront, failure_line, kind_word, lex_word, name_of};
 ghost use Rattle.polis_cli.specs.Parts.{FailsWith, no_memory_line};
 
-use crate::failure::{Failure, Source};
+use crate::failure::{Failure, LexKind, Source};
 use crate::form::Run;
 use crate::status::Status;
 use polis_base::{Bytes, Host, NoMemory};
@@ -77,6 +78,26 @@ fn trace_line(alloc: Global, name: &str, line: u64, kind: TraceKind) -> Result<B
     Ok(text)
 }
 
+fn lex_text(kind: LexKind) -> &'static [u8]
+    ensures { result.now ≡ codes " lex " ++ lex_word kind ++ codes " " }
+{
+    match kind {
+        LexKind::Byte => b" lex byte ",
+        LexKind::Name => b" lex name ",
+        LexKind::Number => b" lex number ",
+    }
+}
+
+// The line of a fault of the network text at a place.
+fn numbered_line(alloc: Global, name: &str, what: &[u8], place: u64) -> Result<Bytes, NoMemory>
+    ensures { IfOk result (λ text. text ≡ codes "refused " ++ name.now ++ what.now ++ decimal place ++ 10 ∷ []) }
+{
+    let mut text = joined(alloc, b"refused ", name, what)?;
+    text.push_decimal(place)?;
+    text.push(b"\n")?;
+    Ok(text)
+}
+
 // The line of a failure, with its end.
 fn line_of(alloc: Global, run: &Run<'_>, failure: Failure) -> Result<Bytes, NoMemory>
     ensures { IfOk result (λ line. line ≡ failure_line run.now failure ++ 10 ∷ []) }
@@ -100,6 +121,10 @@ fn line_of(alloc: Global, run: &Run<'_>, failure: Failure) -> Result<Bytes, NoMe
             source_name(run, source),
             b" long\n",
         ),
+        Failure::Lex { kind, place } => {
+            numbered_line(alloc, run.net(), lex_text(kind), place)
+        }
+        Failure::Syntax { place } => numbered_line(alloc, run.net(), b" syntax ", place),
         Failure::NotYet => joined(alloc, b"refused ", run.net(), b" notyet\n"),
         Failure::Line { line, kind } => trace_line(alloc, run.trace(), line, kind),
         Failure::NoMemory => joined(alloc, b"no memory", "", b"\n"),

@@ -18,6 +18,17 @@ machine lamp_ctl priority 1 {
 }
 ";
 
+const JOIN: &str = "network join version 1
+event a from env
+event b from env
+event c to env
+machine m priority 0 {
+  input a, b
+  output c
+  when a, b do emit c
+}
+";
+
 const RUN: &[&str] = &["run", "net", "trc", "o"];
 
 const PRESSED: &str = "polis journal 1
@@ -196,8 +207,8 @@ fn ends_at_the_limit(rt: HostRuntime) -> Result<(), Fail> {
 #[test]
 fn refuses_faulty_texts(rt: HostRuntime) -> Result<(), Fail> {
     let other_form = Case {
-        net: Some("network t version 1"),
-        ..refusal("press\n", "refused net notyet\n")
+        net: Some(JOIN),
+        ..refusal("a\n", "refused net notyet\n")
     };
     let no_net = Case {
         net: None,
@@ -217,6 +228,38 @@ fn refuses_faulty_texts(rt: HostRuntime) -> Result<(), Fail> {
             other_form,
             no_net,
             no_trace,
+        ],
+    )
+}
+
+// A network text that is refused.
+fn bad_net<'a>(net: &'a str, shown: &'a str) -> Case<'a> {
+    Case {
+        net: Some(net),
+        ..refusal("press\n", shown)
+    }
+}
+
+#[test]
+fn refuses_faulty_networks(rt: HostRuntime) -> Result<(), Fail> {
+    let open_row = "network t version 1 event g from env machine a priority 0 { input g when g do";
+    try_cases(
+        &rt,
+        rt.alloc(),
+        &[
+            bad_net("network %", "refused net lex byte 8\n"),
+            bad_net(
+                "network abcdefghijklmnopqrstuvwxy",
+                "refused net lex name 8\n",
+            ),
+            bad_net(
+                "network t version 4294967296",
+                "refused net lex number 18\n",
+            ),
+            bad_net(open_row, "refused net syntax 77\n"),
+            bad_net("network t version 1 version", "refused net syntax 20\n"),
+            bad_net("", "refused net syntax 0\n"),
+            bad_net("network t network %", "refused net lex byte 18\n"),
         ],
     )
 }

@@ -1,9 +1,12 @@
 // Small networks.
 ghost use Rattle.std.specs.Prelude.{◌≡◌, [], ◌∷◌, IfOk, IsTrue, codes};
 ghost use Rattle.std.specs.List.{list_all};
+ghost use Rattle.transition_table.specs.Transitions.{OfMachine};
+ghost use Rattle.transition_table.specs.declared.decl.Party.TheVariants.{Env};
 ghost use Rattle.transition_table.specs.declared.machine.Machine.{Machine as AMachine};
 ghost use Rattle.net_core.specs.declared.entry.TraceItem.TheVariants.{Event};
-ghost use Rattle.net_core.specs.Journals.{is_trace_item};
+ghost use Rattle.net_core.specs.Journals.{FitsNetwork, is_trace_item};
+ghost use Rattle.net_core.specs.declared.entry.Entry.TheVariants.{Dep};
 ghost use Rattle.scheduler_gen.specs.Agreeing.{do_agree};
 
 use super::build::{event, machine, name, row, state};
@@ -104,6 +107,9 @@ pub fn join(alloc: Global) -> Result<Network, NoMemory>
     ensures agree { IfOk result (λ net. IsTrue (list_all (λ (m : AMachine). do_agree m.rows) net.machines)) }
     ensures a { IfOk result (λ net. IsTrue (is_trace_item net (Event 0 1))) }
     ensures b { IfOk result (λ net. IsTrue (is_trace_item net (Event 1 1))) }
+    ensures brings_a { IfOk result (λ net. FitsNetwork net (Dep Env 0 0 1)) }
+    ensures brings_b { IfOk result (λ net. FitsNetwork net (Dep Env 0 1 1)) }
+    ensures machine { IfOk result (λ net. OfMachine net 0 (λ m. (m.vars ≡ 2 ∷ 2 ∷ []) × (m.results ≡ 2 ∷ 2 ∷ []) × (m.states ≡ []) × (m.outputs ≡ 2 ∷ []))) }
 {
     let mut events = EventList::new(alloc);
     events.push(event(alloc, b"a", None, ENV, &[0])?)?;

@@ -8,7 +8,7 @@ use Rattle.net_reader.specs.Grammar.{IsNet, BeginsSentence}
 use Rattle.net_reader.specs.Reading.{Answer, ◌>>=◌, net_at, end_at, whole_at}
 use Rattle.net_reader.specs.Pieces.{place_of}
 use Rattle.net_reader.specs.Sentences.{HasNet, BreaksAt, Stops, OrNoMemory}
-use Rattle.net_reader.specs.Outcomes.{Settles, judged, outcome_of, outcome}
+use Rattle.net_reader.specs.Outcomes.{judged, outcome_of, outcome}
 use Rattle.net_reader.specs.declared.raw.RawNet.{RawNet}
 use Rattle.net_reader.specs.declared.network.NetFault.{NetFault}
 use Rattle.net_reader.specs.declared.network.NetFault.TheVariants as faults
@@ -156,24 +156,24 @@ break_outcome text place b = ap (outcome_of text) b.read ∙ judged_break text p
 
 -- the clauses of a settled answer
 
-pub ok_clause : (text : List ℕ) (r : Result RawNet NetFault) → Settles r (outcome text) → IfOk r (λ net. HasNet text net)
+pub ok_clause : (text : List ℕ) (r : Result RawNet NetFault) → OrNoMemory r (outcome text) → IfOk r (λ net. HasNet text net)
 ok_clause text (Ok net) (inl e) = absurd cc
 ok_clause text (Ok net) (inr e) = has_net text (tokens_of text) net refl (sym e)
 ok_clause text (Err fault) s = tt
 
-pub one_clause : (text : List ℕ) (r : Result RawNet NetFault) → Settles r (outcome text) → IfOk r (λ net. (other : RawNet) → HasNet text other → other ≡ net)
+pub one_clause : (text : List ℕ) (r : Result RawNet NetFault) → OrNoMemory r (outcome text) → IfOk r (λ net. (other : RawNet) → HasNet text other → other ≡ net)
 one_clause text (Ok net) (inl e) = absurd cc
 one_clause text (Ok net) (inr e) = λ other h. cc (net_outcome text other h)
 one_clause text (Err fault) s = tt
 
-pub ok_there_clause : (text : List ℕ) (r : Result RawNet NetFault) → Settles r (outcome text) → (net : RawNet) → HasNet text net → OrNoMemory r (Ok net)
+pub ok_there_clause : (text : List ℕ) (r : Result RawNet NetFault) → OrNoMemory r (outcome text) → (net : RawNet) → HasNet text net → OrNoMemory r (Ok net)
 ok_there_clause text r (inl e) net h = inl e
 ok_there_clause text r (inr e) net h = inr (e ∙ net_outcome text net h)
 
-pub syntax_clause : (text : List ℕ) (r : Result RawNet NetFault) → Settles r (outcome text) → (place : ℕ) → r ≡ Err (faults.Syntax place) → BreaksAt text place
+pub syntax_clause : (text : List ℕ) (r : Result RawNet NetFault) → OrNoMemory r (outcome text) → (place : ℕ) → r ≡ Err (faults.Syntax place) → BreaksAt text place
 syntax_clause text r (inl e) place h = absurd (cc (e, h))
 syntax_clause text r (inr e) place h = breaks_at text (tokens_of text) place refl (sym e ∙ h)
 
-pub syntax_there_clause : (text : List ℕ) (r : Result RawNet NetFault) → Settles r (outcome text) → (place : ℕ) → BreaksAt text place → OrNoMemory r (Err (faults.Syntax place))
+pub syntax_there_clause : (text : List ℕ) (r : Result RawNet NetFault) → OrNoMemory r (outcome text) → (place : ℕ) → BreaksAt text place → OrNoMemory r (Err (faults.Syntax place))
 syntax_there_clause text r (inl e) place h = inl e
 syntax_there_clause text r (inr e) place h = inr (e ∙ break_outcome text place h)

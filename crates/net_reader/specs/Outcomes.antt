@@ -1,5 +1,5 @@
 -- The answer to a text, memory aside.
-use Rattle.std.specs.Prelude.{◌≡◌, ◌⊎◌, ℕ, List, length, Result, Ok, Err}
+use Rattle.std.specs.Prelude.{ℕ, List, length, Result, Ok, Err}
 use Rattle.polis_base.specs.Tokens.{tokens_of}
 use Rattle.polis_base.specs.declared.token.Token.{Token}
 use Rattle.polis_base.specs.declared.token.LexError.{LexError}
@@ -9,9 +9,6 @@ use Rattle.net_reader.specs.Pieces.{place_of}
 use Rattle.net_reader.specs.declared.raw.RawNet.{RawNet}
 use Rattle.net_reader.specs.declared.network.NetFault.{NetFault}
 use Rattle.net_reader.specs.declared.network.NetFault.TheVariants as faults
-
-abbrev pub Settles : Result RawNet NetFault → Result RawNet NetFault → Type 0
-Settles result answer = (result ≡ Err faults.NoMemory) ⊎ (result ≡ answer)
 
 abbrev pub judged : ℕ → Answer RawNet → Result RawNet NetFault
 judged end (Ok x) = Ok x.0

@@ -6,7 +6,7 @@ ghost use Rattle.net_reader.specs.declared.raw.RawNet.{RawNet};
 ghost use Rattle.net_reader.specs.declared.network.NetFault.{NetFault};
 ghost use Rattle.net_reader.specs.Reading.{whole_at};
 ghost use Rattle.net_reader.specs.Sentences.{HasNet, BreaksAt, OrNoMemory};
-ghost use Rattle.net_reader.specs.Outcomes.{Settles, judged, outcome};
+ghost use Rattle.net_reader.specs.Outcomes.{judged, outcome};
 
 use crate::raw::RawNet;
 use crate::reader::{Reader, Stop};
@@ -30,7 +30,7 @@ pub enum NetFault {
 }
 
 fn judge(reader: &mut Reader, end: u64) -> Result<RawNet, NetFault>
-    ensures settled { Settles result (judged end (whole_at reader.old)) }
+    ensures settled { OrNoMemory result (judged end (whole_at reader.old)) }
     ensures no_lex { (fault : LexError) → result ≢ Err (NetFault.Lex fault) }
 {
     match whole(reader) {
@@ -41,7 +41,7 @@ fn judge(reader: &mut Reader, end: u64) -> Result<RawNet, NetFault>
 }
 
 fn read(alloc: Global, text: &[u8]) -> Result<RawNet, NetFault>
-    ensures settled { Settles result (outcome text.now) }
+    ensures settled { OrNoMemory result (outcome text.now) }
     ensures no_memory { result ≢ Err (NetFault.Lex LexError.NoMemory) }
 {
     match tokens(alloc, text) {

@@ -8,12 +8,12 @@ use Rattle.net_reader.proofs.Laws.{Took, Broke, Laws, none, joined, Apart, Withi
 
 pub same_laws : {A : Type 0} {p : Rule A} {P Q : A → Part} {s g : ℕ → Bool} {e : Bool} → ((a : A) (ts : List Lexeme) → P a ts → Q a ts) → ((a : A) (ts : List Lexeme) → Q a ts → P a ts) → Laws p P s g e → Laws p Q s g e
 same_laws there back laws = record {
-    reads = λ ls rest a h. let t = laws.reads ls rest a h in record { used = t.used; is = t.is; fits = there a t.used t.fits; same = t.same };
-    breaks = λ ls rest h. let b = laws.breaks ls rest h in record { before = b.before; is = b.is; fix = b.fix; value = b.value; fits = there b.value (b.before ++ b.fix) b.fits; same = b.same };
-    complete = λ used rest a f. laws.complete used rest a (back a used f);
-    first = λ used a f. laws.first used a (back a used f);
-    some = (laws.some.0, laws.some.1, there laws.some.1 laws.some.0 laws.some.2);
-  }
+  reads = λ ls rest a h. let t = laws.reads ls rest a h in record { used = t.used; is = t.is; fits = there a t.used t.fits; same = t.same };
+  breaks = λ ls rest h. let b = laws.breaks ls rest h in record { before = b.before; is = b.is; fix = b.fix; value = b.value; fits = there b.value (b.before ++ b.fix) b.fits; same = b.same };
+  complete = λ used rest a f. laws.complete used rest a (back a used f);
+  first = λ used a f. laws.first used a (back a used f);
+  some = (laws.some.0, laws.some.1, there laws.some.1 laws.some.0 laws.some.2);
+}
 
 -- one token
 
@@ -40,20 +40,26 @@ one_breaks f sample value is [] rest h =
     record { before = []; is = e; fix = sample ∷ []; value = value; fits = (sample, refl, is); same = λ m tail later k. absurd (cc (e, k)) }
 one_breaks f sample value is (l ∷ ls) rest h =
     let e = taken_err (f l) l ls rest h in
-    record { before = []; is = e.1; fix = sample ∷ []; value = value; fits = (sample, refl, is);
+    record {
+      before = [];
+      is = e.1;
+      fix = sample ∷ [];
+      value = value;
+      fits = (sample, refl, is);
       same = λ m tail later k.
-        let same : l ≡ m = cc (e.1, k) in
-        let no : f m ≡ None = ap f (sym same) ∙ e.0 in
-        ap (λ (o : Option _). taken o m later) no }
+          let same : l ≡ m = cc (e.1, k) in
+          let no : f m ≡ None = ap f (sym same) ∙ e.0 in
+          ap (λ (o : Option _). taken o m later) no;
+    }
 
 pub one_laws : {A : Type 0} (f : Lexeme → Option A) (t : ℕ → Bool) → ((l : Lexeme) (a : A) → f l ≡ Some a → t (class_of l.kind) ≡ true) → (sample : Lexeme) (value : A) → f sample ≡ Some value → Laws (one f) (Says f) t none false
 one_laws f t tells sample value is = record {
-    reads = one_reads f;
-    breaks = one_breaks f sample value is;
-    complete = λ used rest a says _. ap (λ (m : List Lexeme). one f (m ++ rest)) says.1 ∙ ap (λ (o : Option _). taken o says.0 rest) says.2;
-    first = λ used a says. inl (ap (begins t) says.1 ∙ tells says.0 a says.2);
-    some = (sample ∷ [], value, (sample, refl, is));
-  }
+  reads = one_reads f;
+  breaks = one_breaks f sample value is;
+  complete = λ used rest a says _. ap (λ (m : List Lexeme). one f (m ++ rest)) says.1 ∙ ap (λ (o : Option _). taken o says.0 rest) says.2;
+  first = λ used a says. inl (ap (begins t) says.1 ∙ tells says.0 a says.2);
+  some = (sample ∷ [], value, (sample, refl, is));
+}
 
 -- no token
 
@@ -71,12 +77,12 @@ pure_breaks a ls rest h = absurd cc
 
 pub pure_laws : {A : Type 0} (a : A) → Laws (pure a) (Just a) none none true
 pure_laws a = record {
-    reads = pure_reads a;
-    breaks = pure_breaks a;
-    complete = λ used rest b f _. ap (λ (m : List Lexeme). Ok (a, m ++ rest)) f.1 ∙ ap (λ (x : _). Ok (x, rest)) (sym f.0);
-    first = λ used b f. inr (refl, f.1);
-    some = ([], a, (refl, refl));
-  }
+  reads = pure_reads a;
+  breaks = pure_breaks a;
+  complete = λ used rest b f _. ap (λ (m : List Lexeme). Ok (a, m ++ rest)) f.1 ∙ ap (λ (x : _). Ok (x, rest)) (sym f.0);
+  first = λ used b f. inr (refl, f.1);
+  some = ([], a, (refl, refl));
+}
 
 -- alternatives
 
@@ -89,26 +95,50 @@ chosen b c x y e = ap (λ (d : Bool). cond d x y) e
 either_took : {A : Type 0} {p q : Rule A} {P Q : A → Part} {sp gp sq gq : ℕ → Bool} {ep eq : Bool} (test : ℕ → Bool) → Laws p P sp gp ep → Laws q Q sq gq eq → (ls rest : List Lexeme) (a : A) (b : Bool) → begins test ls ≡ b → cond b (p ls) (q ls) ≡ Ok (a, rest) → Took (either test p q) (Or P Q) ls a rest
 either_took {p = p} {q = q} test lp lq ls rest a true t h =
     let k = lp.reads ls rest a h in
-    record { used = k.used; is = k.is; fits = inl k.fits; same = λ l tail later e.
-      let n : begins test (k.used ++ l ∷ later) ≡ true = begins_same test k.used l tail later ∙ ap (begins test) (sym (k.is ∙ ap (λ m. k.used ++ m) e)) ∙ t in
-      chosen true _ (p (k.used ++ l ∷ later)) (q (k.used ++ l ∷ later)) n ∙ k.same l tail later e }
+    record {
+      used = k.used;
+      is = k.is;
+      fits = inl k.fits;
+      same = λ l tail later e.
+          let n : begins test (k.used ++ l ∷ later) ≡ true = begins_same test k.used l tail later ∙ ap (begins test) (sym (k.is ∙ ap (λ m. k.used ++ m) e)) ∙ t in
+          chosen true _ (p (k.used ++ l ∷ later)) (q (k.used ++ l ∷ later)) n ∙ k.same l tail later e;
+    }
 either_took {p = p} {q = q} test lp lq ls rest a false t h =
     let k = lq.reads ls rest a h in
-    record { used = k.used; is = k.is; fits = inr k.fits; same = λ l tail later e.
-      let n : begins test (k.used ++ l ∷ later) ≡ false = begins_same test k.used l tail later ∙ ap (begins test) (sym (k.is ∙ ap (λ m. k.used ++ m) e)) ∙ t in
-      chosen false _ (p (k.used ++ l ∷ later)) (q (k.used ++ l ∷ later)) n ∙ k.same l tail later e }
+    record {
+      used = k.used;
+      is = k.is;
+      fits = inr k.fits;
+      same = λ l tail later e.
+          let n : begins test (k.used ++ l ∷ later) ≡ false = begins_same test k.used l tail later ∙ ap (begins test) (sym (k.is ∙ ap (λ m. k.used ++ m) e)) ∙ t in
+          chosen false _ (p (k.used ++ l ∷ later)) (q (k.used ++ l ∷ later)) n ∙ k.same l tail later e;
+    }
 
 either_broke : {A : Type 0} {p q : Rule A} {P Q : A → Part} {sp gp sq gq : ℕ → Bool} {ep eq : Bool} (test : ℕ → Bool) → Laws p P sp gp ep → Laws q Q sq gq eq → (ls rest : List Lexeme) (b : Bool) → begins test ls ≡ b → cond b (p ls) (q ls) ≡ Err rest → Broke (either test p q) (Or P Q) ls rest
 either_broke {p = p} {q = q} test lp lq ls rest true t h =
     let k = lp.breaks ls rest h in
-    record { before = k.before; is = k.is; fix = k.fix; value = k.value; fits = inl k.fits; same = λ l tail later e.
-      let n : begins test (k.before ++ l ∷ later) ≡ true = begins_same test k.before l tail later ∙ ap (begins test) (sym (k.is ∙ ap (λ m. k.before ++ m) e)) ∙ t in
-      chosen true _ (p (k.before ++ l ∷ later)) (q (k.before ++ l ∷ later)) n ∙ k.same l tail later e }
+    record {
+      before = k.before;
+      is = k.is;
+      fix = k.fix;
+      value = k.value;
+      fits = inl k.fits;
+      same = λ l tail later e.
+          let n : begins test (k.before ++ l ∷ later) ≡ true = begins_same test k.before l tail later ∙ ap (begins test) (sym (k.is ∙ ap (λ m. k.before ++ m) e)) ∙ t in
+          chosen true _ (p (k.before ++ l ∷ later)) (q (k.before ++ l ∷ later)) n ∙ k.same l tail later e;
+    }
 either_broke {p = p} {q = q} test lp lq ls rest false t h =
     let k = lq.breaks ls rest h in
-    record { before = k.before; is = k.is; fix = k.fix; value = k.value; fits = inr k.fits; same = λ l tail later e.
-      let n : begins test (k.before ++ l ∷ later) ≡ false = begins_same test k.before l tail later ∙ ap (begins test) (sym (k.is ∙ ap (λ m. k.before ++ m) e)) ∙ t in
-      chosen false _ (p (k.before ++ l ∷ later)) (q (k.before ++ l ∷ later)) n ∙ k.same l tail later e }
+    record {
+      before = k.before;
+      is = k.is;
+      fix = k.fix;
+      value = k.value;
+      fits = inr k.fits;
+      same = λ l tail later e.
+          let n : begins test (k.before ++ l ∷ later) ≡ false = begins_same test k.before l tail later ∙ ap (begins test) (sym (k.is ∙ ap (λ m. k.before ++ m) e)) ∙ t in
+          chosen false _ (p (k.before ++ l ∷ later)) (q (k.before ++ l ∷ later)) n ∙ k.same l tail later e;
+    }
 
 left_begins : (sp test : ℕ → Bool) (used rest : List Lexeme) → Within sp test → (begins sp used ≡ true) ⊎ ((false ≡ true) × (used ≡ [])) → begins test (used ++ rest) ≡ true
 left_begins sp test used rest within (inl h) = begins_front sp test used rest within h
@@ -136,12 +166,12 @@ either_first sp sq eq used (inr (inr h)) = inr h
 
 pub either_laws : {A : Type 0} {p q : Rule A} {P Q : A → Part} {sp gp sq gq : ℕ → Bool} {eq : Bool} (test : ℕ → Bool) → Laws p P sp gp false → Laws q Q sq gq eq → Within sp test → Apart sq test → Laws (either test p q) (Or P Q) (λ c. sp c || sq c) (joined eq (λ c. gp c || gq c) test) eq
 either_laws {P = P} {Q = Q} {sp = sp} {sq = sq} {eq = eq} test lp lq within apart = record {
-    reads = λ ls rest a h. either_took test lp lq ls rest a (begins test ls) refl h;
-    breaks = λ ls rest h. either_broke test lp lq ls rest (begins test ls) refl h;
-    complete = either_complete test lp lq within apart;
-    first = λ used a f. either_first sp sq eq used (elim f as (λ _. ((begins sp used ≡ true) ⊎ ((false ≡ true) × (used ≡ []))) ⊎ ((begins sq used ≡ true) ⊎ ((eq ≡ true) × (used ≡ [])))) [ inl h ↦ inl (lp.first used a h) | inr h ↦ inr (lq.first used a h) ]);
-    some = (lp.some.0, lp.some.1, inl lp.some.2);
-  }
+  reads = λ ls rest a h. either_took test lp lq ls rest a (begins test ls) refl h;
+  breaks = λ ls rest h. either_broke test lp lq ls rest (begins test ls) refl h;
+  complete = either_complete test lp lq within apart;
+  first = λ used a f. either_first sp sq eq used (elim f as (λ _. ((begins sp used ≡ true) ⊎ ((false ≡ true) × (used ≡ []))) ⊎ ((begins sq used ≡ true) ⊎ ((eq ≡ true) × (used ≡ [])))) [ inl h ↦ inl (lp.first used a h) | inr h ↦ inr (lq.first used a h) ]);
+  some = (lp.some.0, lp.some.1, inl lp.some.2);
+}
 
 -- repetition
 
@@ -187,8 +217,8 @@ many_some test p shrinks [] rest a h e = absurd cc
 many_some test p shrinks (l ∷ ls) rest a h e =
     let less = shrinks (l ∷ ls) rest a e in
     chosen true _ (p (l ∷ ls) >>= λ x. many_up_to (length ls) test p x.1 >>= λ y. Ok (x.0 ∷ y.0, y.1)) (Ok ([], l ∷ ls)) h
-      ∙ step (p (l ∷ ls)) (λ x. with_item x.0 (many_up_to (length ls) test p x.1)) (a, rest) _ e refl
-      ∙ ap (with_item a) (enough test p shrinks (length ls) (length rest) rest (omega arith) (omega arith))
+    ∙ step (p (l ∷ ls)) (λ x. with_item x.0 (many_up_to (length ls) test p x.1)) (a, rest) _ e refl
+    ∙ ap (with_item a) (enough test p shrinks (length ls) (length rest) rest (omega arith) (omega arith))
 
 pub many_err : {A : Type 0} (test : ℕ → Bool) (p : Rule A) (ls rest : List Lexeme) → begins test ls ≡ true → p ls ≡ Err rest → many test p ls ≡ Err rest
 unfolding many
@@ -201,9 +231,14 @@ ended p P test ls rest found t h =
     let k = ok_same ([], ls) (found, rest) (sym (many_none test p ls t) ∙ h) in
     let e : [] ≡ found = ap (λ (z : _). z.0) k in
     let left : ls ≡ rest = ap (λ (z : _). z.1) k in
-    record { used = []; is = left; fits = subst (λ (xs : List _). Each P xs []) e refl; same = λ l tail later f.
-      let n : begins test (l ∷ later) ≡ false = begins_same test [] l tail later ∙ ap (begins test) (sym (left ∙ f)) ∙ t in
-      many_none test p (l ∷ later) n ∙ ap (λ (xs : List _). Ok (xs, l ∷ later)) e }
+    record {
+      used = [];
+      is = left;
+      fits = subst (λ (xs : List _). Each P xs []) e refl;
+      same = λ l tail later f.
+          let n : begins test (l ∷ later) ≡ false = begins_same test [] l tail later ∙ ap (begins test) (sym (left ∙ f)) ∙ t in
+          many_none test p (l ∷ later) n ∙ ap (λ (xs : List _). Ok (xs, l ∷ later)) e;
+    }
 
 test_at : {A : Type 0} {p : Rule A} {P : A → Part} {ls rest : List Lexeme} {a : A} (sp test : ℕ → Bool) (t : Took p P ls a rest) → Within sp test → (begins sp t.used ≡ true) ⊎ ((false ≡ true) × (t.used ≡ [])) → (later : List Lexeme) → begins test (t.used ++ later) ≡ true
 test_at sp test t within first later = left_begins sp test t.used later within first
@@ -217,8 +252,8 @@ behind_item {p = p} {sp = sp} test laws within ls mid rest a others h tm =
       is = t.is ∙ ap (λ m. t.used ++ m) tm.is ∙ sym (append_assoc t.used tm.used rest);
       fits = (t.used, tm.used, refl, t.fits, tm.fits);
       same = λ l tail later e.
-        let again = passed t tm.used l tail later (tm.is ∙ ap (λ m. tm.used ++ m) e) in
-        ap (many test p) (append_assoc t.used tm.used (l ∷ later))
+          let again = passed t tm.used l tail later (tm.is ∙ ap (λ m. tm.used ++ m) e) in
+          ap (many test p) (append_assoc t.used tm.used (l ∷ later))
           ∙ many_some test p (shrinks laws) (t.used ++ (tm.used ++ l ∷ later)) (tm.used ++ l ∷ later) a (test_at sp test t within (laws.first t.used a t.fits) (tm.used ++ l ∷ later)) again
           ∙ step (many test p (tm.used ++ l ∷ later)) (λ y. Ok (a ∷ y.0, y.1)) (others, l ∷ later) _ (tm.same l tail later e) refl;
     }
@@ -243,11 +278,14 @@ item_broke : {A : Type 0} {p : Rule A} {P : A → Part} {sp gp : ℕ → Bool} (
 item_broke {p = p} test laws ls rest t h =
     let b = laws.breaks ls rest h in
     record {
-      before = b.before; is = b.is; fix = b.fix; value = b.value ∷ [];
+      before = b.before;
+      is = b.is;
+      fix = b.fix;
+      value = b.value ∷ [];
       fits = (b.before ++ b.fix, [], sym (append-nil (b.before ++ b.fix)), b.fits, refl);
       same = λ l tail later e.
-        let n : begins test (b.before ++ l ∷ later) ≡ true = begins_same test b.before l tail later ∙ ap (begins test) (sym (b.is ∙ ap (λ m. b.before ++ m) e)) ∙ t in
-        many_err test p (b.before ++ l ∷ later) (l ∷ later) n (b.same l tail later e);
+          let n : begins test (b.before ++ l ∷ later) ≡ true = begins_same test b.before l tail later ∙ ap (begins test) (sym (b.is ∙ ap (λ m. b.before ++ m) e)) ∙ t in
+          many_err test p (b.before ++ l ∷ later) (l ∷ later) n (b.same l tail later e);
     }
 
 behind_broke : {A : Type 0} {p : Rule A} {P : A → Part} {sp gp : ℕ → Bool} (test : ℕ → Bool) → Laws p P sp gp false → Within sp test → (ls mid rest : List Lexeme) (a : A) → p ls ≡ Ok (a, mid) → Broke (many test p) (Each P) mid rest → Broke (many test p) (Each P) ls rest
@@ -260,8 +298,8 @@ behind_broke {p = p} {sp = sp} test laws within ls mid rest a h b =
       value = a ∷ b.value;
       fits = (t.used, b.before ++ b.fix, append_assoc t.used b.before b.fix, t.fits, b.fits);
       same = λ l tail later e.
-        let again = passed t b.before l tail later (b.is ∙ ap (λ m. b.before ++ m) e) in
-        ap (many test p) (append_assoc t.used b.before (l ∷ later))
+          let again = passed t b.before l tail later (b.is ∙ ap (λ m. b.before ++ m) e) in
+          ap (many test p) (append_assoc t.used b.before (l ∷ later))
           ∙ many_some test p (shrinks laws) (t.used ++ (b.before ++ l ∷ later)) (b.before ++ l ∷ later) a (test_at sp test t within (laws.first t.used a t.fits) (b.before ++ l ∷ later)) again
           ∙ ap (with_item a) (b.same l tail later e);
     }
@@ -308,14 +346,14 @@ many_complete {p = p} {sp = sp} {gp = gp} test laws within apart used rest (a �
     let y = f.1 in
     let calm = follows sp gp gp true y rest apart (many_first laws y others f.4) (both gp rest (goes_left test gp true rest g)) in
     ap (λ (m : List Lexeme). many test p (m ++ rest)) f.2 ∙ ap (many test p) (append_assoc x y rest)
-      ∙ many_some test p (shrinks laws) (x ++ (y ++ rest)) (y ++ rest) a (left_begins sp test x (y ++ rest) within (laws.first x a f.3)) (laws.complete x (y ++ rest) a f.3 calm)
-      ∙ step (many test p (y ++ rest)) (λ z. Ok (a ∷ z.0, z.1)) (others, rest) _ (many_complete test laws within apart y rest others f.4 g) refl
+    ∙ many_some test p (shrinks laws) (x ++ (y ++ rest)) (y ++ rest) a (left_begins sp test x (y ++ rest) within (laws.first x a f.3)) (laws.complete x (y ++ rest) a f.3 calm)
+    ∙ step (many test p (y ++ rest)) (λ z. Ok (a ∷ z.0, z.1)) (others, rest) _ (many_complete test laws within apart y rest others f.4 g) refl
 
 pub many_laws : {A : Type 0} {p : Rule A} {P : A → Part} {sp gp : ℕ → Bool} (test : ℕ → Bool) → Laws p P sp gp false → Within sp test → Apart sp gp → Laws (many test p) (Each P) sp (joined true gp test) true
 many_laws test laws within apart = record {
-    reads = λ ls rest found h. many_reads test laws within (length ls) ls rest found (omega arith) (begins test ls) refl h;
-    breaks = λ ls rest h. many_breaks test laws within (length ls) ls rest (omega arith) (begins test ls) refl h;
-    complete = many_complete test laws within apart;
-    first = many_first laws;
-    some = ([], [], refl);
-  }
+  reads = λ ls rest found h. many_reads test laws within (length ls) ls rest found (omega arith) (begins test ls) refl h;
+  breaks = λ ls rest h. many_breaks test laws within (length ls) ls rest (omega arith) (begins test ls) refl h;
+  complete = many_complete test laws within apart;
+  first = many_first laws;
+  some = ([], [], refl);
+}

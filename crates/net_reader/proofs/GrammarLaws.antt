@@ -313,11 +313,60 @@ pub machine_laws : Laws machine_at IsMachine (is (kinds.Keyword KwMachine)) none
 unfolding machine_at
 machine_laws = same_laws
     (λ m ts f.
-      let b = f.5.5.5.5.5 in
-      (f.0, f.1, f.3, f.4, (f.5.0, f.5.1, f.5.3, subst (λ (w : Word). IsWord w f.5.0) (sym b.0) f.5.4, (f.5.5.0, f.5.5.1, f.5.5.3, f.5.5.4, (f.5.5.5.0, f.5.5.5.1, f.5.5.5.3, subst (λ (n : Num). IsNum n f.5.5.5.0) (sym b.1) f.5.5.5.4,
-        (f.5.5.5.5.0, f.5.5.5.5.1, f.5.5.5.5.3, f.5.5.5.5.4, b.2))))))
-    (λ m ts f. (f.0, f.1, tt, f.2, f.3, (f.4.0, f.4.1, m.name, f.4.2, f.4.3, (f.4.4.0, f.4.4.1, tt, f.4.4.2, f.4.4.3, (f.4.4.4.0, f.4.4.4.1, m.priority, f.4.4.4.2, f.4.4.4.3,
-      (f.4.4.4.4.0, f.4.4.4.4.1, tt, f.4.4.4.4.2, f.4.4.4.4.3, (refl, refl, f.4.4.4.4.4)))))))
+    let b = f.5.5.5.5.5 in (
+      f.0,
+      f.1,
+      f.3,
+      f.4,
+      (
+        f.5.0,
+        f.5.1,
+        f.5.3,
+        subst (λ (w : Word). IsWord w f.5.0) (sym b.0) f.5.4,
+        (
+          f.5.5.0,
+          f.5.5.1,
+          f.5.5.3,
+          f.5.5.4,
+          (
+            f.5.5.5.0,
+            f.5.5.5.1,
+            f.5.5.5.3,
+            subst (λ (n : Num). IsNum n f.5.5.5.0) (sym b.1) f.5.5.5.4,
+            (f.5.5.5.5.0, f.5.5.5.5.1, f.5.5.5.5.3, f.5.5.5.5.4, b.2),
+          ),
+        ),
+      ),
+    ))
+    (λ m ts f. (
+      f.0,
+      f.1,
+      tt,
+      f.2,
+      f.3,
+      (
+        f.4.0,
+        f.4.1,
+        m.name,
+        f.4.2,
+        f.4.3,
+        (
+          f.4.4.0,
+          f.4.4.1,
+          tt,
+          f.4.4.2,
+          f.4.4.3,
+          (
+            f.4.4.4.0,
+            f.4.4.4.1,
+            m.priority,
+            f.4.4.4.2,
+            f.4.4.4.3,
+            (f.4.4.4.4.0, f.4.4.4.4.1, tt, f.4.4.4.4.2, f.4.4.4.4.3, (refl, refl, f.4.4.4.4.4)),
+          ),
+        ),
+      ),
+    ))
     (bind_laws (only_laws (kinds.Keyword KwMachine) refl) (λ _. bind_laws word_laws (λ name. bind_laws (only_laws (kinds.Keyword KwPriority) refl) (λ _. bind_laws num_laws (λ priority. bind_laws (only_laws (kinds.Sign LeftBrace) refl) (λ _. body_laws name priority) (apart _ _ refl)) (apart _ _ refl)) (apart _ _ refl)) (apart _ _ refl)) (apart _ _ refl))
 
 abbrev pub net_goes : ℕ → Bool

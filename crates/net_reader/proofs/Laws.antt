@@ -158,18 +158,18 @@ bind_first sp sq true eq used x y e (inr h) (inr k) = inr (k.0, e ∙ ap (λ (m 
 
 pub bind_laws : {A B : Type 0} {p : Rule A} {P : A → Part} {q : A → Rule B} {Q : A → B → Part} {sp gp sq gq : ℕ → Bool} {ep eq : Bool} → Laws p P sp gp ep → ((a : A) → Laws (q a) (Q a) sq gq eq) → Apart sq gp → Laws (bind p q) (Bind P Q) (joined ep sp sq) (joined eq gq gp) (cond ep eq false)
 bind_laws {p = p} {P = P} {q = q} {Q = Q} {sp = sp} {gp = gp} {sq = sq} {gq = gq} {ep = ep} {eq = eq} lp lq apart = record {
-    reads = bind_reads lp lq;
-    breaks = λ ls rest h. bind_broke lp lq ls rest (bind_err (p ls) (λ x. q x.0 x.1) rest h);
-    complete = λ used rest b f g.
+  reads = bind_reads lp lq;
+  breaks = λ ls rest h. bind_broke lp lq ls rest (bind_err (p ls) (λ x. q x.0 x.1) rest h);
+  complete = λ used rest b f g.
       let x = f.0 in
       let y = f.1 in
       let a = f.2 in
       let calm = follows sq gp gq eq y rest apart ((lq a).first y b f.5) g in
       ap (λ (m : List Lexeme). bind p q (m ++ rest)) f.3 ∙ ap (bind p q) (append_assoc x y rest)
-        ∙ step (p (x ++ (y ++ rest))) (λ x. q x.0 x.1) (a, y ++ rest) _ (lp.complete x (y ++ rest) a f.4 calm) ((lq a).complete y rest b f.5 (goes_left gp gq eq rest g));
-    first = λ used b f. bind_first sp sq ep eq used f.0 f.1 f.3 (lp.first f.0 f.2 f.4) ((lq f.2).first f.1 b f.5);
-    some =
+      ∙ step (p (x ++ (y ++ rest))) (λ x. q x.0 x.1) (a, y ++ rest) _ (lp.complete x (y ++ rest) a f.4 calm) ((lq a).complete y rest b f.5 (goes_left gp gq eq rest g));
+  first = λ used b f. bind_first sp sq ep eq used f.0 f.1 f.3 (lp.first f.0 f.2 f.4) ((lq f.2).first f.1 b f.5);
+  some =
       let s = lp.some in
       let t = (lq s.1).some in
       (s.0 ++ t.0, t.1, (s.0, t.0, s.1, refl, s.2, t.2));
-  }
+}

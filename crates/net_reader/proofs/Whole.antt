@@ -65,17 +65,17 @@ read_on ls rest x h k = behind (bind_err (end_at x.1) (λ e. Ok (x.0, e.1)) rest
     behind : (end_at x.1 ≡ Err rest) ⊎ ((e : Unit {0} × List Lexeme) × (end_at x.1 ≡ Ok e) × (◌≡◌ {A = Answer RawNet} (Ok (x.0, e.1)) (Err rest))) → Fault ls rest
     behind (inr e) = absurd (cc e.2)
     behind (inl e) =
-      let s = end_err x.1 rest e in
-      let t = net_laws.reads ls x.1 x.0 h in
-      record {
-        before = t.used;
-        split = t.is ∙ ap (λ m. t.used ++ m) (s.2 ∙ sym s.3);
-        begins = ([], x.0, subst (IsNet x.0) (sym (append-nil t.used)) t.fits);
-        stops = subst (Stops t.used) (sym s.3) (none_goes_on t.used s.0 (λ later net ok.
-          let both : (net, []) ≡ (x.0, s.0 ∷ later) = same_ok (net, []) (x.0, s.0 ∷ later) (sym ok ∙ t.same s.0 s.1 later s.2) in
-          let ends : [] ≡ s.0 ∷ later = ap (λ (z : RawNet × List Lexeme). z.1) both in
-          absurd cc));
-      }
+        let s = end_err x.1 rest e in
+        let t = net_laws.reads ls x.1 x.0 h in
+        record {
+          before = t.used;
+          split = t.is ∙ ap (λ m. t.used ++ m) (s.2 ∙ sym s.3);
+          begins = ([], x.0, subst (IsNet x.0) (sym (append-nil t.used)) t.fits);
+          stops = subst (Stops t.used) (sym s.3) (none_goes_on t.used s.0 (λ later net ok.
+              let both : (net, []) ≡ (x.0, s.0 ∷ later) = same_ok (net, []) (x.0, s.0 ∷ later) (sym ok ∙ t.same s.0 s.1 later s.2) in
+              let ends : [] ≡ s.0 ∷ later = ap (λ (z : RawNet × List Lexeme). z.1) both in
+              absurd cc));
+        }
 
 pub whole_err : (ls rest : List Lexeme) → whole_at ls ≡ Err rest → Fault ls rest
 unfolding whole_at
@@ -83,8 +83,8 @@ whole_err ls rest h = split (bind_err (net_at ls) (λ x. end_at x.1 >>= λ e. Ok
   where
     split : (net_at ls ≡ Err rest) ⊎ ((x : RawNet × List Lexeme) × (net_at ls ≡ Ok x) × ((end_at x.1 >>= λ e. Ok (x.0, e.1)) ≡ Err rest)) → Fault ls rest
     split (inl e) =
-      let b = net_laws.breaks ls rest e in
-      record { before = b.before; split = b.is; begins = (b.fix, b.value, b.fits); stops = stops_at ls b.before rest b.is e b.same }
+        let b = net_laws.breaks ls rest e in
+        record { before = b.before; split = b.is; begins = (b.fix, b.value, b.fits); stops = stops_at ls b.before rest b.is e b.same }
     split (inr k) = read_on ls rest k.0 k.1 k.2
 
 -- one place

@@ -45,10 +45,7 @@ fn read(alloc: Global, text: &[u8]) -> Result<RawNet, NetFault>
     ensures no_memory { result ≢ Err (NetFault.Lex LexError.NoMemory) }
 {
     match tokens(alloc, text) {
-        Ok(found) => judge(
-            &mut Reader::new(alloc, text, &found),
-            text.len() as u64,
-        ),
+        Ok(found) => judge(&mut Reader::new(alloc, text, &found), text.len() as u64),
         Err(LexError::NoMemory) => Err(NetFault::NoMemory),
         Err(fault) => Err(NetFault::Lex(fault)),
     }

@@ -84,14 +84,8 @@ pub type RawCondList = List<RawCond>;
 /// An action: an event is emitted, with a value where it has a domain, or a variable is set.
 #[derive(Clone, Copy, Debug)]
 pub enum RawAct {
-    Emit {
-        name: Word,
-        value: Option<RawValue>,
-    },
-    Set {
-        name: Word,
-        value: RawValue,
-    },
+    Emit { name: Word, value: Option<RawValue> },
+    Set { name: Word, value: RawValue },
 }
 
 pub type RawActList = List<RawAct>;

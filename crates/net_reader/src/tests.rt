@@ -66,50 +66,158 @@ fn places_of_faults_in_machines(rt: HostRuntime) -> Result<(), Fail> {
     breaks_at(alloc, "network n version 1 machine m priority x", 39)?;
     breaks_at(alloc, "network n version 1 machine m priority 0 input", 41)?;
     breaks_at(alloc, "network n version 1 machine m priority 0 { }", 43)?;
-    breaks_at(alloc, "network n version 1 machine m priority 0 { output b", 43)?;
-    breaks_at(alloc, "network n version 1 machine m priority 0 { input }", 49)?;
-    breaks_at(alloc, "network n version 1 machine m priority 0 { input a b", 51)?;
-    breaks_at(alloc, "network n version 1 machine m priority 0 { input a output }", 58)?;
-    breaks_at(alloc, "network n version 1 machine m priority 0 { input a input b", 51)?;
-    breaks_at(alloc, "network n version 1 machine m priority 0 { input a state s = 0", 59)?;
-    breaks_at(alloc, "network n version 1 machine m priority 0 { input a state s : d := 0", 63)?;
-    breaks_at(alloc, "network n version 1 machine m priority 0 { input a state s : d = }", 65)?;
-    breaks_at(alloc, "network n version 1 machine m priority 0 { input a when do", 56)?;
-    breaks_at(alloc, "network n version 1 machine m priority 0 { input a when absent absent", 63)?;
-    breaks_at(alloc, "network n version 1 machine m priority 0 { input a when a = {", 60)?;
-    breaks_at(alloc, "network n version 1 machine m priority 0 { input a when a in b", 61)?;
+    breaks_at(
+        alloc,
+        "network n version 1 machine m priority 0 { output b",
+        43,
+    )?;
+    breaks_at(
+        alloc,
+        "network n version 1 machine m priority 0 { input }",
+        49,
+    )?;
+    breaks_at(
+        alloc,
+        "network n version 1 machine m priority 0 { input a b",
+        51,
+    )?;
+    breaks_at(
+        alloc,
+        "network n version 1 machine m priority 0 { input a output }",
+        58,
+    )?;
+    breaks_at(
+        alloc,
+        "network n version 1 machine m priority 0 { input a input b",
+        51,
+    )?;
+    breaks_at(
+        alloc,
+        "network n version 1 machine m priority 0 { input a state s = 0",
+        59,
+    )?;
+    breaks_at(
+        alloc,
+        "network n version 1 machine m priority 0 { input a state s : d := 0",
+        63,
+    )?;
+    breaks_at(
+        alloc,
+        "network n version 1 machine m priority 0 { input a state s : d = }",
+        65,
+    )?;
+    breaks_at(
+        alloc,
+        "network n version 1 machine m priority 0 { input a when do",
+        56,
+    )?;
+    breaks_at(
+        alloc,
+        "network n version 1 machine m priority 0 { input a when absent absent",
+        63,
+    )?;
+    breaks_at(
+        alloc,
+        "network n version 1 machine m priority 0 { input a when a = {",
+        60,
+    )?;
+    breaks_at(
+        alloc,
+        "network n version 1 machine m priority 0 { input a when a in b",
+        61,
+    )?;
     Ok(())
 }
 
 #[test]
 fn places_of_faults_in_rows_and_ends(rt: HostRuntime) -> Result<(), Fail> {
     let alloc = rt.alloc();
-    breaks_at(alloc, "network n version 1 machine m priority 0 { input a when a in { }", 63)?;
-    breaks_at(alloc, "network n version 1 machine m priority 0 { input a when a b do", 58)?;
-    breaks_at(alloc, "network n version 1 machine m priority 0 { input a when a do }", 61)?;
-    breaks_at(alloc, "network n version 1 machine m priority 0 { input a when a do emit nothing", 66)?;
-    breaks_at(alloc, "network n version 1 machine m priority 0 { input a when a do emit a := 1", 68)?;
-    breaks_at(alloc, "network n version 1 machine m priority 0 { input a when a do s = 1", 63)?;
-    breaks_at(alloc, "network n version 1 machine m priority 0 { input a when a do s := value a", 66)?;
-    breaks_at(alloc, "network n version 1 machine m priority 0 { input a when a do s := a + 1", 68)?;
-    breaks_at(alloc, "network n version 1 machine m priority 0 { input a when a do nothing , emit a", 69)?;
-    breaks_at(alloc, "network n version 1 machine m priority 0 { input a when a do nothing state s : d = 0", 69)?;
-    breaks_at(alloc, "network n version 1 machine m priority 0 { input a } event e", 53)?;
-    breaks_at(alloc, "network n version 1 machine m priority 0 { input a } }", 53)?;
+    breaks_at(
+        alloc,
+        "network n version 1 machine m priority 0 { input a when a in { }",
+        63,
+    )?;
+    breaks_at(
+        alloc,
+        "network n version 1 machine m priority 0 { input a when a b do",
+        58,
+    )?;
+    breaks_at(
+        alloc,
+        "network n version 1 machine m priority 0 { input a when a do }",
+        61,
+    )?;
+    breaks_at(
+        alloc,
+        "network n version 1 machine m priority 0 { input a when a do emit nothing",
+        66,
+    )?;
+    breaks_at(
+        alloc,
+        "network n version 1 machine m priority 0 { input a when a do emit a := 1",
+        68,
+    )?;
+    breaks_at(
+        alloc,
+        "network n version 1 machine m priority 0 { input a when a do s = 1",
+        63,
+    )?;
+    breaks_at(
+        alloc,
+        "network n version 1 machine m priority 0 { input a when a do s := value a",
+        66,
+    )?;
+    breaks_at(
+        alloc,
+        "network n version 1 machine m priority 0 { input a when a do s := a + 1",
+        68,
+    )?;
+    breaks_at(
+        alloc,
+        "network n version 1 machine m priority 0 { input a when a do nothing , emit a",
+        69,
+    )?;
+    breaks_at(
+        alloc,
+        "network n version 1 machine m priority 0 { input a when a do nothing state s : d = 0",
+        69,
+    )?;
+    breaks_at(
+        alloc,
+        "network n version 1 machine m priority 0 { input a } event e",
+        53,
+    )?;
+    breaks_at(
+        alloc,
+        "network n version 1 machine m priority 0 { input a } }",
+        53,
+    )?;
     Ok(())
 }
 
 #[test]
 fn text_that_ends_too_soon(rt: HostRuntime) -> Result<(), Fail> {
-    breaks_at(rt.alloc(), "network t version 1 event g from env machine a priority 0 { input g when g do", 77)
+    breaks_at(
+        rt.alloc(),
+        "network t version 1 event g from env machine a priority 0 { input g when g do",
+        77,
+    )
 }
 
 #[test]
 fn tokens_before_syntax(rt: HostRuntime) -> Result<(), Fail> {
     let alloc = rt.alloc();
     lexes(alloc, "network %", LexError::BadByte(8))?;
-    lexes(alloc, "network abcdefghijklmnopqrstuvwxy", LexError::NameTooLong(8))?;
-    lexes(alloc, "network t version 4294967296", LexError::NumberTooLarge(18))?;
+    lexes(
+        alloc,
+        "network abcdefghijklmnopqrstuvwxy",
+        LexError::NameTooLong(8),
+    )?;
+    lexes(
+        alloc,
+        "network t version 4294967296",
+        LexError::NumberTooLarge(18),
+    )?;
     lexes(alloc, "network network .", LexError::BadByte(16))
 }
 
@@ -137,7 +245,8 @@ fn reads_networks(rt: HostRuntime) -> Result<(), Fail> {
 
 #[test]
 fn reads_each_part(rt: HostRuntime) -> Result<(), Fail> {
-    let text = b"network n version 3 domain d = { a, b } domain r = 0 .. 4294967295 event e : d from env event p machine m priority 300 { input e, p state s : r = 7 when e in { a, b }, absent p, s = 7 do s := 0, emit p when p do nothing }";
+    let text =
+        b"network n version 3 domain d = { a, b } domain r = 0 .. 4294967295 event e : d from env event p machine m priority 300 { input e, p state s : r = 7 when e in { a, b }, absent p, s = 7 do s := 0, emit p when p do nothing }";
     let Ok(net) = read_network(rt.alloc(), text.as_slice()) else {
         return Err(Fail::new("a sentence isn't read"));
     };
@@ -146,7 +255,9 @@ fn reads_each_part(rt: HostRuntime) -> Result<(), Fail> {
     assert_eq!(rt; net.version.number, 3);
     assert_eq!(rt; net.domains.len(), 2);
     assert!(rt; matches!(&net.domains.get(0).shape, RawShape::Names(names) if names.len() == 2));
-    assert!(rt; matches!(&net.domains.get(1).shape, RawShape::Range { last, .. } if last.number == u32::MAX));
+    assert!(rt;
+        matches!(&net.domains.get(1).shape, RawShape::Range { last, .. } if last.number == u32::MAX)
+    );
     assert_eq!(rt; net.events.len(), 2);
     assert_eq!(rt; net.events.get(0).env, RawEnv::FromEnv);
     assert_eq!(rt; net.events.get(1).env, RawEnv::Between);

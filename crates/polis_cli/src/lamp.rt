@@ -6,8 +6,8 @@ ghost use Rattle.polis_cli.specs.Lamp.{IsNetOf};
 
 mod network;
 
-use polis_base::{Keyword, List, Name, NoMemory, Sign};
 use net_reader::RawNet;
+use polis_base::{Keyword, List, Name, NoMemory, Sign};
 use std::alloc::Global;
 use transition_table::Network;
 

@@ -121,9 +121,7 @@ fn line_of(alloc: Global, run: &Run<'_>, failure: Failure) -> Result<Bytes, NoMe
             source_name(run, source),
             b" long\n",
         ),
-        Failure::Lex { kind, place } => {
-            numbered_line(alloc, run.net(), lex_text(kind), place)
-        }
+        Failure::Lex { kind, place } => { numbered_line(alloc, run.net(), lex_text(kind), place) }
         Failure::Syntax { place } => numbered_line(alloc, run.net(), b" syntax ", place),
         Failure::NotYet => joined(alloc, b"refused ", run.net(), b" notyet\n"),
         Failure::Line { line, kind } => trace_line(alloc, run.trace(), line, kind),

@@ -15,8 +15,8 @@ pub loop-reader-preserved : goal.loop-reader-preserved
 loop-reader-preserved g c =
     let e : c.push.new.self ≡ c.loop-reader.made ++ c.in_ok-part.part ∷ [] = c.in_ok-push.ensures.ok in
     ap (λ m. with_front m (many (is (kinds.Sign Comma)) (after_comma g.T.Part.rule) c.part_after_comma.new.reader)) e
-      ∙ goes_on (is (kinds.Sign Comma)) (after_comma g.T.Part.rule) (comma_shrinks g.T.Part.rule c.requires) c.loop-reader.made c.loop-reader.reader c.part_after_comma.new.reader c.in_ok-part.part (sym c.sees.ensures ∙ c.loop-reader-test.true) c.in_ok-part.ensures
-      ∙ c.loop-reader.invariant
+    ∙ goes_on (is (kinds.Sign Comma)) (after_comma g.T.Part.rule) (comma_shrinks g.T.Part.rule c.requires) c.loop-reader.made c.loop-reader.reader c.part_after_comma.new.reader c.in_ok-part.part (sym c.sees.ensures ∙ c.loop-reader-test.true) c.in_ok-part.ensures
+    ∙ c.loop-reader.invariant
 
 pub loop-reader-smaller : goal.loop-reader-smaller
 loop-reader-smaller g c = comma_shrinks g.T.Part.rule c.requires c.loop-reader.reader c.part_after_comma.new.reader c.in_ok-part.part c.in_ok-part.ensures

@@ -13,8 +13,8 @@ pub loop-begins-preserved : goal.loop-begins-preserved
 loop-begins-preserved g c =
     let e : c.push.new.self ≡ c.loop-begins.made ++ c.in_ok-part.part ∷ [] = c.in_ok-push.ensures.ok in
     ap (λ m. with_front m (many (is c.args.begins) (g.T.Part.rule) c.read.new.reader)) e
-      ∙ goes_on (is c.args.begins) (g.T.Part.rule) (c.requires.shrinks) c.loop-begins.made c.loop-begins.reader c.read.new.reader c.in_ok-part.part (sym c.sees.ensures ∙ c.loop-begins-test.true) c.in_ok-part.ensures
-      ∙ c.loop-begins.invariant
+    ∙ goes_on (is c.args.begins) (g.T.Part.rule) (c.requires.shrinks) c.loop-begins.made c.loop-begins.reader c.read.new.reader c.in_ok-part.part (sym c.sees.ensures ∙ c.loop-begins-test.true) c.in_ok-part.ensures
+    ∙ c.loop-begins.invariant
 
 pub returns : goal.returns
 returns g c = sym c.loop-begins.invariant ∙ ends (is c.args.begins) (g.T.Part.rule) c.loop-begins.made c.loop-begins.reader (sym c.sees.ensures ∙ c.loop-begins-test.false)

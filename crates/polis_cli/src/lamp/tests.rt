@@ -1,7 +1,9 @@
 // That texts of the form are read where there is memory, and what else isn't.
 use crate::lamp::{LampFault, read_lamp};
+use net_reader::{NetFault, RawNet, read_network};
+use std::alloc::Global;
 use std::test::Fail;
-use transition_table::Party;
+use transition_table::{Network, Party};
 
 const LAMP: &[u8] = b"network lamp version 1
 domain bit = { off, on }

@@ -1,14 +1,14 @@
--- A text has one network.
-use Rattle.std.proofs.Common.{◌≡◌, ◌≢◌, ℕ, zero, suc, ◌+◌, ◌^◌, false, List, [], ◌∷◌, map, Some, None, Ok, Err, sym, ◌∙◌, ap, subst, arith}
+-- Declarations have one network.
+use Rattle.std.proofs.Common.{◌≡◌, ◌≢◌, ℕ, zero, suc, ◌+◌, ◌^◌, false, List, [], ◌∷◌, Some, None, Ok, Err, sym, ◌∙◌, ap, subst, arith}
 use Rattle.std.specs.Prelude.{Result, IfOk, slice_get}
 use Rattle.transition_table.specs.declared.snapshot.Snapshot.{Snapshot}
 use Rattle.transition_table.specs.declared.row.Row.{Row}
 use Rattle.transition_table.specs.declared.machine.Machine.{Machine}
 use Rattle.transition_table.specs.declared.network.Network.{Network}
 use Rattle.transition_table.specs.Transitions.{AreDeterministic, is_enabled, holds}
-use Rattle.polis_cli.specs.declared.lamp.Lexeme.{Lexeme}
+use Rattle.net_reader.specs.declared.raw.RawNet.{RawNet}
 use Rattle.polis_cli.specs.declared.lamp.Lamp.{Lamp}
-use Rattle.polis_cli.specs.Lamp.{Reads, lexeme_of, lamp_tokens, IsLamp, IsRowOf, IsMachineOf, IsNetworkOf, NetOf, Accepted}
+use Rattle.polis_cli.specs.Lamp.{IsLamp, IsRowOf, IsMachineOf, IsNetworkOf, Declares, IsNetOf}
 use Rattle.polis_cli.proofs.LampNetworks.{one_place}
 use Rattle.polis_cli.proofs.SameNetwork.{same_row, same_machine, same_network}
 
@@ -27,13 +27,6 @@ one_row net m row e f zero n at a (suc b) s order snapshot x y =
 one_row net m row e f (suc k) n at a (suc b) s order snapshot x y =
     let none : None ≡ Some n = sym (ap (λ machines. slice_get machines (suc k)) e) ∙ at in
     cc
-
--- a text reads as one list of tokens
-pub same_lexemes : (text : List ℕ) (a b : List Lexeme) → Reads text a → Reads text b → a ≡ b
-same_lexemes text a b r s =
-    let e : Ok r.0 ≡ Ok s.0 = sym r.1 ∙ s.1 in
-    let same : r.0 ≡ s.0 = cc in
-    r.2 ∙ ap (map (lexeme_of text)) same ∙ sym s.2
 
 rows_same : (from to from' to' : ℕ) (a b : Row) → from ≡ from' → to ≡ to' → IsRowOf from to a → IsRowOf from' to' b → a ≡ b
 rows_same from to from' to' a b p q x y =
@@ -70,30 +63,22 @@ pub ok_both : {T E : Type 0} (r : Result T E) (P Q R : T → Type 0) → ((x : T
 ok_both (Ok x) P Q R f p q = f x p q
 ok_both (Err e) P Q R f p q = tt
 
-module _ (text : List ℕ) (lexemes : List Lexeme) (reads : Reads text lexemes) where
-  pub accepts : (lamp : Lamp) (net : Network) → lexemes ≡ lamp_tokens lamp → IsLamp lamp → IsNetworkOf lamp net → Accepted text net
-  accepts lamp net e fits is =
-      (record { lamp = lamp; fits = fits; reads = subst (Reads text) e reads; network = is }, one_row net is.machine.0 is.machine.2.rows.0 is.machine.1 is.machine.2.rows.1)
+module _ (raw : RawNet) where
+  pub gives : (lamp : Lamp) (net : Network) → Declares raw lamp → IsLamp lamp → IsNetworkOf lamp net → IsNetOf raw net × AreDeterministic net
+  gives lamp net declared fits is =
+      (record { lamp = lamp; declared = declared; fits = fits; network = is }, one_row net is.machine.0 is.machine.2.rows.0 is.machine.1 is.machine.2.rows.1)
 
-  pub is_one : (lamp : Lamp) (net : Network) → ((other : Lamp) → lexemes ≡ lamp_tokens other → other ≡ lamp) → IsLamp lamp → IsNetworkOf lamp net → (other : Network) → Accepted text other → other ≡ net
-  is_one lamp net one fits is other accepted =
-      let of : NetOf text other = accepted.0 in
-      let same = one of.lamp (same_lexemes text lexemes (lamp_tokens of.lamp) reads of.reads) in
+  pub is_one : (lamp : Lamp) (net : Network) → ((other : Lamp) → Declares raw other → Some lamp ≡ Some other) → IsLamp lamp → IsNetworkOf lamp net → (other : Network) → IsNetOf raw other → other ≡ net
+  is_one lamp net one fits is other of =
+      let e = one of.lamp of.declared in
+      let same : of.lamp ≡ lamp = cc in
       networks_same lamp other net fits (subst (λ l. IsNetworkOf l other) same of.network) is
 
-  pub no_lamp : ((lamp : Lamp) → lexemes ≢ lamp_tokens lamp) → (net : Network) → ¬ Accepted text net
-  no_lamp none net accepted =
-      let of : NetOf text net = accepted.0 in
-      none of.lamp (same_lexemes text lexemes (lamp_tokens of.lamp) reads of.reads)
-
-  pub no_fit : (lamp : Lamp) → ((other : Lamp) → lexemes ≡ lamp_tokens other → other ≡ lamp) → ¬ IsLamp lamp → (net : Network) → ¬ Accepted text net
-  no_fit lamp one none net accepted =
-      let of : NetOf text net = accepted.0 in
-      let same = one of.lamp (same_lexemes text lexemes (lamp_tokens of.lamp) reads of.reads) in
+  pub no_fit : (lamp : Lamp) → ((other : Lamp) → Declares raw other → Some lamp ≡ Some other) → ¬ IsLamp lamp → (net : Network) → ¬ IsNetOf raw net
+  no_fit lamp one none net of =
+      let e = one of.lamp of.declared in
+      let same : of.lamp ≡ lamp = cc in
       none (subst IsLamp same of.fits)
 
--- a text without tokens
-pub no_tokens : (text : List ℕ) → ((lexemes : List Lexeme) → ¬ Reads text lexemes) → (net : Network) → ¬ Accepted text net
-no_tokens text none net accepted =
-    let of : NetOf text net = accepted.0 in
-    none (lamp_tokens of.lamp) of.reads
+  pub no_lamp : ((lamp : Lamp) → Declares raw lamp → None ≡ Some lamp) → (net : Network) → ¬ IsNetOf raw net
+  no_lamp none net of = let e = none of.lamp of.declared in cc

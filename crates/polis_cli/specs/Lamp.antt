@@ -1,76 +1,59 @@
--- The one form of network text that is read so far, and its traces.
-use Rattle.std.specs.Prelude.{◌≡◌, ℕ, ◌+◌, ◌^◌, ◌≤◌, List, [], ◌∷◌, ◌++◌, map, length, slice_get, Some, Ok, IsTrue}
-use Rattle.polis_base.specs.declared.token.Keyword.TheVariants.{KwNetwork, KwVersion, KwDomain, KwEvent, KwMachine, KwFrom, KwTo, KwEnv, KwPriority, KwInput, KwOutput, KwState, KwWhen, KwDo, KwEmit}
-use Rattle.polis_base.specs.declared.token.Sign.TheVariants.{Equal, Assign, Colon, Comma, LeftBrace, RightBrace}
-use Rattle.polis_base.specs.declared.token.Kind.{Kind}
-use Rattle.polis_base.specs.declared.token.Kind.TheVariants.{Keyword as KeywordKind, Name as NameKind, Number as NumberKind, Sign as SignKind}
-use Rattle.polis_base.specs.declared.token.Token.{Token}
-use Rattle.polis_base.specs.Tokens.{tokens_of}
-use Rattle.polis_base.specs.Spans.{slice_of}
+-- The one form of network that is run so far, and its texts.
+use Rattle.std.specs.Prelude.{◌≡◌, ℕ, ◌+◌, ◌^◌, ◌≤◌, List, [], ◌∷◌, map, length, slice_get, None, Some, IsTrue}
 use Rattle.domains.specs.Names.{AreValues, are_distinct}
 use Rattle.domains.specs.declared.domain.Domain.TheVariants.{Names}
 use Rattle.transition_table.specs.declared.row.Row.{Row}
 use Rattle.transition_table.specs.declared.machine.Machine.{Machine}
 use Rattle.transition_table.specs.declared.network.Network.{Network}
 use Rattle.transition_table.specs.Transitions.{AreDeterministic}
-use Rattle.polis_cli.specs.declared.lamp.Lexeme.{Lexeme}
-use Rattle.polis_cli.specs.declared.lamp.Lexeme.TheVariants.{Keyword, Name, Number, Sign}
-use Rattle.polis_cli.specs.declared.lamp.Lamp.{Lamp}
+use Rattle.net_reader.specs.declared.raw.RawEnv.TheVariants.{FromEnv, ToEnv}
+use Rattle.net_reader.specs.declared.raw.RawDomain.{RawDomain}
+use Rattle.net_reader.specs.declared.raw.RawEvent.{RawEvent}
+use Rattle.net_reader.specs.declared.raw.RawState.{RawState}
+use Rattle.net_reader.specs.declared.raw.RawRow.{RawRow}
+use Rattle.net_reader.specs.declared.raw.RawMachine.{RawMachine}
 use Rattle.net_reader.specs.declared.raw.RawNet.{RawNet}
 use Rattle.net_reader.specs.Sentences.{HasNet}
-use Rattle.polis_cli.specs.LampParts.{AreEventsOf}
+use Rattle.polis_cli.specs.declared.lamp.Lamp.{Lamp}
+use Rattle.polis_cli.specs.LampParts.{One, Two, IsName, AreNames, IsNamed, IsPure, IsPresent, Asks, Sets, Emits, AreEventsOf}
 
--- what a token of this kind is, where these are its bytes
-abbrev pub lexeme_of_kind : Kind → List ℕ → Lexeme
-lexeme_of_kind (KeywordKind keyword) bytes = Keyword keyword
-lexeme_of_kind NameKind bytes = Name bytes
-lexeme_of_kind (NumberKind n) bytes = Number n
-lexeme_of_kind (SignKind sign) bytes = Sign sign
+-- the domain is enumerated, and has this name and these values
+abbrev pub DeclaresDomain : List ℕ → List (List ℕ) → RawDomain → Type 0
+DeclaresDomain name values domain = IsName name domain.name × AreNames values domain.shape
 
--- a token of the text without its place, a name with its bytes
-abbrev pub lexeme_of : List ℕ → Token → Lexeme
-lexeme_of text token = lexeme_of_kind token.kind (slice_of text token)
+-- the event of this name comes from the environment, without a value
+abbrev pub DeclaresInput : List ℕ → RawEvent → Type 0
+DeclaresInput name event = IsName name event.name × IsPure FromEnv event
 
--- the text reads as these tokens
-abbrev pub Reads : List ℕ → List Lexeme → Type 0
-Reads text lexemes = (tokens : List Token) × (tokens_of text ≡ Ok tokens) × (lexemes ≡ map (lexeme_of text) tokens)
+-- the event of this name goes to the environment, without a value
+abbrev pub DeclaresOutput : List ℕ → RawEvent → Type 0
+DeclaresOutput name event = IsName name event.name × IsPure ToEnv event
 
--- names with commas between
-abbrev pub listed : List (List ℕ) → List Lexeme
-listed [] = []
-listed (name ∷ []) = Name name ∷ []
-listed (name ∷ next ∷ names) = Name name ∷ Sign Comma ∷ listed (next ∷ names)
+-- the state variable has this name, this domain and this initial value
+abbrev pub DeclaresState : List ℕ → List ℕ → List ℕ → RawState → Type 0
+DeclaresState name domain init state = IsName name state.name × IsName domain state.domain × IsNamed init state.init
 
--- up to the values
-abbrev pub head_tokens : Lamp → List Lexeme
-head_tokens lamp =
-    Keyword KwNetwork ∷ Name lamp.network ∷ Keyword KwVersion ∷ Number 1
-    ∷ Keyword KwDomain ∷ Name lamp.domain ∷ Sign Equal ∷ Sign LeftBrace ∷ []
+-- the row asks that the input is present and the state is `from`, and sets the state to `to` and emits the output
+pub record DeclaresRow (input output state from to : List ℕ) (row : RawRow) : Type 0 where
+  pub conds : Two (IsPresent input) (Asks state from) row.conds
+  pub acts : Two (Sets state to) (Emits output) row.acts
 
--- behind the values
-abbrev pub event_tokens : Lamp → List Lexeme
-event_tokens lamp =
-    Sign RightBrace
-    ∷ Keyword KwEvent ∷ Name lamp.input ∷ Keyword KwFrom ∷ Keyword KwEnv
-    ∷ Keyword KwEvent ∷ Name lamp.output ∷ Keyword KwTo ∷ Keyword KwEnv ∷ []
+-- the machine has the one input, the one output, the one state variable and the one row of the lamp
+pub record DeclaresMachine (lamp : Lamp) (machine : RawMachine) : Type 0 where
+  pub name : IsName lamp.machine machine.name
+  pub priority : machine.priority.number ≡ lamp.priority
+  pub inputs : One (IsName lamp.input) machine.inputs
+  pub outputs : One (IsName lamp.output) machine.outputs
+  pub states : One (DeclaresState lamp.state lamp.domain lamp.init) machine.states
+  pub rows : One (DeclaresRow lamp.input lamp.output lamp.state lamp.from lamp.to) machine.rows
 
-abbrev pub machine_tokens : Lamp → List Lexeme
-machine_tokens lamp =
-    Keyword KwMachine ∷ Name lamp.machine ∷ Keyword KwPriority ∷ Number lamp.priority ∷ Sign LeftBrace
-    ∷ Keyword KwInput ∷ Name lamp.input ∷ Keyword KwOutput ∷ Name lamp.output ∷ []
-
-abbrev pub state_tokens : Lamp → List Lexeme
-state_tokens lamp = Keyword KwState ∷ Name lamp.state ∷ Sign Colon ∷ Name lamp.domain ∷ Sign Equal ∷ Name lamp.init ∷ []
-
-abbrev pub row_tokens : Lamp → List Lexeme
-row_tokens lamp =
-    Keyword KwWhen ∷ Name lamp.input ∷ Sign Comma ∷ Name lamp.state ∷ Sign Equal ∷ Name lamp.from
-    ∷ Keyword KwDo ∷ Name lamp.state ∷ Sign Assign ∷ Name lamp.to ∷ Sign Comma ∷ Keyword KwEmit ∷ Name lamp.output
-    ∷ Sign RightBrace ∷ []
-
--- the tokens of a lamp's text
-abbrev pub lamp_tokens : Lamp → List Lexeme
-lamp_tokens lamp = head_tokens lamp ++ listed lamp.values ++ (event_tokens lamp ++ machine_tokens lamp ++ state_tokens lamp ++ row_tokens lamp)
+-- the declarations, their places aside, are those of the lamp
+pub record Declares (raw : RawNet) (lamp : Lamp) : Type 0 where
+  pub name : IsName lamp.network raw.name
+  pub version : raw.version.number ≡ 1
+  pub domains : One (DeclaresDomain lamp.domain lamp.values) raw.domains
+  pub events : Two (DeclaresInput lamp.input) (DeclaresOutput lamp.output) raw.events
+  pub machines : One (DeclaresMachine lamp) raw.machines
 
 -- the name is the value of this number
 abbrev pub IsValue : Lamp → List ℕ → ℕ → Type 0
@@ -117,16 +100,17 @@ pub record IsNetworkOf (lamp : Lamp) (net : Network) : Type 0 where
   pub to_is : IsValue lamp lamp.to to
   pub machine : (m : Machine) × (net.machines ≡ m ∷ []) × IsMachineOf lamp init from to m
 
--- these are the declarations of a lamp, and this is its network
+-- the declarations are those of a lamp, and it has the network
 pub record IsNetOf (raw : RawNet) (net : Network) : Type 0 where
   pub lamp : Lamp
+  pub declared : Declares raw lamp
   pub fits : IsLamp lamp
   pub network : IsNetworkOf lamp net
 
--- the text declares the network
+-- the bytes are a text of the network
 abbrev pub NetOf : List ℕ → Network → Type 0
 NetOf text net = (raw : RawNet) × HasNet text raw × IsNetOf raw net
 
--- the text declares the network, and each of its machines is deterministic
+-- the bytes are a text of the network, and each of its machines is deterministic
 abbrev pub Accepted : List ℕ → Network → Type 0
 Accepted text net = NetOf text net × AreDeterministic net

@@ -1,26 +1,22 @@
-// The one form of network text that is read so far.
+// The one form of network that is run so far.
 ghost use Rattle.std.specs.Prelude.{◌≡◌, Err, IfOk};
 ghost use Rattle.transition_table.specs.declared.network.Network.{Network};
 ghost use Rattle.transition_table.specs.Transitions.{AreDeterministic};
 ghost use Rattle.polis_cli.specs.Lamp.{IsNetOf};
 
+mod declarations;
 mod network;
+#[cfg(test)]
+mod tests;
 
+use crate::lamp::declarations::lamp_in;
+use crate::lamp::network::network_of;
 use net_reader::RawNet;
-use polis_base::{Keyword, List, Name, NoMemory, Sign};
+use polis_base::{List, Name, NoMemory};
 use std::alloc::Global;
 use transition_table::Network;
 
-/// A token of a network text without its place, and a name with its bytes.
-#[derive(Clone, Copy, Debug)]
-pub enum Lexeme {
-    Keyword(Keyword),
-    Name(Name),
-    Number(u32),
-    Sign(Sign),
-}
-
-/// What a lamp's text says.
+/// What the declarations of a lamp say, their places aside.
 #[derive(Drop)]
 pub struct Lamp {
     pub network: Name,
@@ -46,7 +42,7 @@ pub struct Lamp {
 /// Why a text gives no network.
 #[derive(Clone, Copy, Debug, PartialEq, Eq)]
 pub enum LampFault {
-    /// The text isn't of the one form, or a rule of it is broken.
+    /// The declarations aren't of the one form, or a rule of it is broken.
     NotRead,
     /// Memory was wanting.
     NoMemory,
@@ -62,10 +58,14 @@ impl From<NoMemory> for LampFault {
     }
 }
 
+/// The network that the declarations of a text are those of. NotRead exactly where there is none.
 pub fn read_lamp(alloc: Global, raw: &RawNet) -> Result<Network, LampFault>
     ensures ok { IfOk result (λ net. IsNetOf raw.now net × AreDeterministic net) }
     ensures one { IfOk result (λ net. (other : Network) → IsNetOf raw.now other → other ≡ net) }
     ensures refused { result ≡ Err LampFault.NotRead → (net : Network) → ¬ IsNetOf raw.now net }
 {
-    Err(LampFault::NoMemory)
+    match lamp_in(alloc, raw)? {
+        Some(lamp) => network_of(alloc, &lamp),
+        None => Err(LampFault::NotRead),
+    }
 }

@@ -12,6 +12,7 @@ mod status;
 #[cfg(test)]
 mod tests;
 mod top;
+mod worked;
 mod write;
 
 use crate::status::Status;

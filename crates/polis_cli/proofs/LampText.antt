@@ -1,5 +1,5 @@
 -- The lamp's text is a text of the lamp.
-use Rattle.std.proofs.Common.{ℕ, List, [], ◌∷◌, ◌++◌, take, drop, None, refl, lit≤, codes}
+use Rattle.std.proofs.Common.{◌≡◌, ℕ, List, [], ◌∷◌, take, drop, None, refl, lit≤, codes}
 use Rattle.polis_base.specs.declared.token.Keyword.TheVariants.{KwDo, KwDomain, KwEmit, KwEnv, KwEvent, KwFrom, KwInput, KwMachine, KwNetwork, KwOutput, KwPriority, KwState, KwTo, KwVersion, KwWhen}
 use Rattle.polis_base.specs.declared.token.Sign.TheVariants.{Assign, Colon, Comma, Equal, LeftBrace, RightBrace}
 use Rattle.polis_base.specs.declared.token.Kind.TheVariants.{Keyword, Name, Number, Sign}
@@ -15,7 +15,7 @@ use Rattle.net_reader.specs.declared.raw.RawRow.{RawRow}
 use Rattle.net_reader.specs.declared.raw.RawMachine.{RawMachine}
 use Rattle.net_reader.specs.declared.raw.RawNet.{RawNet}
 use Rattle.net_reader.specs.Lexemes.{Lexeme}
-use Rattle.net_reader.specs.Grammar.{IsDomain, IsEvent, IsState, IsRow, IsMachine, IsNet}
+use Rattle.net_reader.specs.Grammar.{Listed, IsShape, IsDomain, IsEvent, IsState, IsCond, AreActs, IsRow, IsMachine, IsNet}
 use Rattle.net_reader.specs.Sentences.{HasNet}
 use Rattle.net_core.specs.Samples.{lamp, lamp_ctl}
 use Rattle.polis_cli.specs.Lamp.{NetOf}
@@ -110,65 +110,85 @@ lamp_lexemes =
 abbrev part : ℕ → ℕ → List Lexeme
 part from count = take count (drop from lamp_lexemes)
 
+-- one token
+one : {R : Lexeme → Type 0} (l : Lexeme) → R l → (m : Lexeme) × (l ∷ [] ≡ m ∷ []) × R m
+one l r = (l, refl, r)
+
+lamp_shape : IsShape raw_domain.shape (part 7 5)
+lamp_shape =
+    (_, _, refl, one _ refl, (_, _, refl, (_, _, refl, one _ refl, (_, _, refl, (_, _, refl, one _ refl, one _ refl), refl)), one _ refl))
+
 lamp_domain : IsDomain raw_domain (part 4 8)
 lamp_domain =
-    (part 4 1, part 5 7, refl, (_, refl, refl), (part 5 1, part 6 6, refl, (_, refl, refl), (part 6 1, part 7 5, refl, (_, refl, refl), (part 7 1, part 8 4, refl, (_, refl, refl), (part 8 3, part 11 1, refl, (part 8 1, part 9 2, refl, (_, refl, refl), (part 9 2, part 11 0, refl, (part 9 1, part 10 1, refl, (_, refl, refl), (_, refl, refl)), refl)), (_, refl, refl))))))
+    (_, _, refl, one _ refl, (_, _, refl, one _ refl, (_, _, refl, one _ refl, lamp_shape)))
 
 lamp_press : IsEvent raw_press (part 12 4)
 lamp_press =
-    (part 12 1, part 13 3, refl, (_, refl, refl), (part 13 1, part 14 2, refl, (_, refl, refl), (part 14 0, part 14 2, refl, refl, (part 14 1, part 15 1, refl, (_, refl, refl), (_, refl, refl)))))
+    (_, _, refl, one _ refl, (_, _, refl, one _ refl, (_, _, refl, refl, (_, _, refl, one _ refl, one _ refl))))
 
 lamp_light : IsEvent raw_light (part 16 4)
 lamp_light =
-    (part 16 1, part 17 3, refl, (_, refl, refl), (part 17 1, part 18 2, refl, (_, refl, refl), (part 18 0, part 18 2, refl, refl, (part 18 1, part 19 1, refl, (_, refl, refl), (_, refl, refl)))))
+    (_, _, refl, one _ refl, (_, _, refl, one _ refl, (_, _, refl, refl, (_, _, refl, one _ refl, one _ refl))))
 
 lamp_state : IsState raw_state (part 29 6)
 lamp_state =
-    (part 29 1, part 30 5, refl, (_, refl, refl), (part 30 1, part 31 4, refl, (_, refl, refl), (part 31 1, part 32 3, refl, (_, refl, refl), (part 32 1, part 33 2, refl, (_, refl, refl), (part 33 1, part 34 1, refl, (_, refl, refl), (_, refl, refl))))))
+    (_, _, refl, one _ refl, (_, _, refl, one _ refl, (_, _, refl, one _ refl, (_, _, refl, one _ refl, (_, _, refl, one _ refl, one _ refl)))))
+
+lamp_conds : Listed IsCond raw_row.conds (part 36 5)
+lamp_conds =
+    (_, _, refl, one _ refl, (_, _, refl, (_, _, refl, one _ refl, (_, _, refl, one _ refl, (_, _, refl, one _ refl, one _ refl))), refl))
+
+lamp_acts : AreActs raw_row.acts (part 42 6)
+lamp_acts =
+    (_, _, refl, (_, _, refl, one _ refl, (_, _, refl, one _ refl, one _ refl)), (_, _, refl, (_, _, refl, one _ refl, (_, _, refl, one _ refl, (_, _, refl, one _ refl, refl))), refl))
 
 lamp_row : IsRow raw_row (part 35 13)
 lamp_row =
-    (part 35 1, part 36 12, refl, (_, refl, refl), (part 36 5, part 41 7, refl, (part 36 1, part 37 4, refl, (_, refl, refl), (part 37 4, part 41 0, refl, (part 37 1, part 38 3, refl, (_, refl, refl), (part 38 1, part 39 2, refl, (_, refl, refl), (part 39 1, part 40 1, refl, (_, refl, refl), (_, refl, refl)))), refl)), (part 41 1, part 42 6, refl, (_, refl, refl), (part 42 3, part 45 3, refl, (part 42 1, part 43 2, refl, (_, refl, refl), (part 43 1, part 44 1, refl, (_, refl, refl), (_, refl, refl))), (part 45 3, part 48 0, refl, (part 45 1, part 46 2, refl, (_, refl, refl), (part 46 1, part 47 1, refl, (_, refl, refl), (part 47 1, part 48 0, refl, (_, refl, refl), refl))), refl)))))
+    (_, _, refl, one _ refl, (_, _, refl, lamp_conds, (_, _, refl, one _ refl, lamp_acts)))
 
 lamp_machine : IsMachine raw_machine (part 20 29)
 lamp_machine =
-    (part 20 1, part 21 28, refl, (_, refl, refl), (part 21 1, part 22 27, refl, (_, refl, refl), (part 22 1, part 23 26, refl, (_, refl, refl), (part 23 1, part 24 25, refl, (_, refl, refl), (part 24 1, part 25 24, refl, (_, refl, refl), (part 25 1, part 26 23, refl, (_, refl, refl), (part 26 1, part 27 22, refl, (part 26 1, part 27 0, refl, (_, refl, refl), refl), (part 27 2, part 29 20, refl, (part 27 1, part 28 1, refl, (_, refl, refl), (part 28 1, part 29 0, refl, (_, refl, refl), refl)), (part 29 6, part 35 14, refl, (part 29 6, part 35 0, refl, lamp_state, refl), (part 35 13, part 48 1, refl, (part 35 13, part 48 0, refl, lamp_row, refl), (_, refl, refl)))))))))))
+    (_, _, refl, one _ refl, (_, _, refl, one _ refl, (_, _, refl, one _ refl, (_, _, refl, one _ refl, (_, _, refl, one _ refl, (_, _, refl, one _ refl, (_, _, refl, (_, _, refl, one _ refl, refl), (_, _, refl, (_, _, refl, one _ refl, (_, _, refl, one _ refl, refl)), (_, _, refl, (_, _, refl, lamp_state, refl), (_, _, refl, (_, _, refl, lamp_row, refl), one _ refl))))))))))
 
 lamp_sentence : IsNet raw lamp_lexemes
 lamp_sentence =
-    (part 0 1, part 1 48, refl, (_, refl, refl), (part 1 1, part 2 47, refl, (_, refl, refl), (part 2 1, part 3 46, refl, (_, refl, refl), (part 3 1, part 4 45, refl, (_, refl, refl), (part 4 8, part 12 37, refl, (part 4 8, part 12 0, refl, lamp_domain, refl), (part 12 8, part 20 29, refl, (part 12 4, part 16 4, refl, lamp_press, (part 16 4, part 20 0, refl, lamp_light, refl)), (part 20 29, part 49 0, refl, lamp_machine, refl)))))))
+    (_, _, refl, one _ refl, (_, _, refl, one _ refl, (_, _, refl, one _ refl, (_, _, refl, one _ refl, (_, _, refl, (_, _, refl, lamp_domain, refl), (_, _, refl, (_, _, refl, lamp_press, (_, _, refl, lamp_light, refl)), (_, _, refl, lamp_machine, refl)))))))
 
 lamp_declares : HasNet lamp_text raw
 lamp_declares = record { tokens = _; read = refl; sentence = lamp_sentence }
 
 pub lamp_text_of : NetOf lamp_text lamp
-lamp_text_of = (raw, lamp_declares, record {
-  lamp = lamp_names;
-  declared = record {
-    name = refl;
-    version = refl;
-    domains = (refl, refl);
-    events = ((refl, (refl, refl)), (refl, (refl, refl)));
-    machines = record {
+lamp_text_of = (
+  raw,
+  lamp_declares,
+  record {
+    lamp = lamp_names;
+    declared = record {
       name = refl;
-      priority = refl;
-      inputs = refl;
-      outputs = refl;
-      states = (refl, refl, refl);
-      rows = record { conds = (refl, (refl, refl)); acts = ((refl, refl), (refl, refl)) };
+      version = refl;
+      domains = (refl, refl);
+      events = ((refl, (refl, refl)), (refl, (refl, refl)));
+      machines = record {
+        name = refl;
+        priority = refl;
+        inputs = refl;
+        outputs = refl;
+        states = (refl, refl, refl);
+        rows = record { conds = (refl, (refl, refl)); acts = ((refl, refl), (refl, refl)) };
+      };
     };
-  };
-  fits = record { values = record { some = lit≤ tt; few = lit≤ tt; distinct = refl }; init = (0, refl); from = (0, refl); to = (1, refl); names = refl; priority = lit≤ tt };
-  network = record {
-    name = refl;
-    domains = refl;
-    events = refl;
-    init = 0;
-    init_is = refl;
-    from = 0;
-    from_is = refl;
-    to = 1;
-    to_is = refl;
-    machine = (lamp_ctl, refl, record { name = refl; priority = refl; inputs = refl; outputs = refl; states = refl; vars = refl; results = refl; rows = (_, refl, (refl, refl)) });
-  };
-})
+    fits = record { values = record { some = lit≤ tt; few = lit≤ tt; distinct = refl }; init = (0, refl); from = (0, refl); to = (1, refl); names = refl; priority = lit≤ tt };
+    network = record {
+      name = refl;
+      domains = refl;
+      events = refl;
+      init = 0;
+      init_is = refl;
+      from = 0;
+      from_is = refl;
+      to = 1;
+      to_is = refl;
+      machine = (lamp_ctl, refl, record { name = refl; priority = refl; inputs = refl; outputs = refl; states = refl; vars = refl; results = refl; rows = (_, refl, (refl, refl)) });
+    };
+  },
+)

@@ -9,7 +9,7 @@ use Rattle.net_reader.specs.declared.raw.RawMachine.{RawMachine}
 use Rattle.net_reader.specs.declared.raw.RawNet.{RawNet}
 use Rattle.polis_cli.specs.declared.lamp.Lamp.{Lamp}
 use Rattle.polis_cli.specs.Lamp.{DeclaresDomain, DeclaresInput, DeclaresOutput, DeclaresState, DeclaresRow, DeclaresMachine, Declares}
-use Rattle.polis_cli.specs.LampParts.{One, Two, IsName, AreNames, IsNamed}
+use Rattle.polis_cli.specs.LampParts.{One, Two, IsName, AreNames}
 use Rattle.polis_cli.proofs.Declared.{one_at}
 
 pub both_same : {A B : Type 0} (p q : A × B) → Some p ≡ Some q → (p.0 ≡ q.0) × (p.1 ≡ q.1)

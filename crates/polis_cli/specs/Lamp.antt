@@ -1,5 +1,5 @@
 -- The one form of network that is run so far, and its texts.
-use Rattle.std.specs.Prelude.{◌≡◌, ℕ, ◌+◌, ◌^◌, ◌≤◌, List, [], ◌∷◌, map, length, slice_get, None, Some, IsTrue}
+use Rattle.std.specs.Prelude.{◌≡◌, ℕ, ◌+◌, ◌^◌, ◌≤◌, List, [], ◌∷◌, length, slice_get, Some, IsTrue}
 use Rattle.domains.specs.Names.{AreValues, are_distinct}
 use Rattle.domains.specs.declared.domain.Domain.TheVariants.{Names}
 use Rattle.transition_table.specs.declared.row.Row.{Row}

@@ -39,7 +39,7 @@ pub struct Lamp {
     pub to: Name,
 }
 
-/// Why a text gives no network.
+/// Why declarations give no network.
 #[derive(Clone, Copy, Debug, PartialEq, Eq)]
 pub enum LampFault {
     /// The declarations aren't of the one form, or a rule of it is broken.

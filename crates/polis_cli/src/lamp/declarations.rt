@@ -7,7 +7,8 @@ ghost use Rattle.polis_cli.specs.LampParts.{One, Two, IsName, IsNamed, IsPure, I
 
 use crate::lamp::Lamp;
 use net_reader::{
-    RawAct, RawCond, RawEnv, RawEvent, RawMachine, RawNet, RawRow, RawShape, RawState, RawValue, Word,
+    RawAct, RawCond, RawEnv, RawEvent, RawMachine, RawNet, RawRow, RawShape, RawState, RawValue,
+    Word,
 };
 use polis_base::{List, Name, NoMemory};
 use std::alloc::Global;
@@ -166,7 +167,8 @@ fn events_of(events: &[RawEvent]) -> Option<(Name, Name)>
     ensures one { (input output : List ℕ) → Two (DeclaresInput input) (DeclaresOutput output) events.now → result ≡ Some (input, output) }
 {
     match both(events) {
-        Some((input, output)) if is_pure(input, RawEnv::FromEnv) && is_pure(output, RawEnv::ToEnv) => {
+        Some((input, output))
+            if is_pure(input, RawEnv::FromEnv) && is_pure(output, RawEnv::ToEnv) => {
             Some((input.name.name, output.name.name))
         }
         _ => None,
@@ -174,7 +176,11 @@ fn events_of(events: &[RawEvent]) -> Option<(Name, Name)>
 }
 
 // The one state variable and the one row of a machine of this one input and this one output.
-fn parts_of<'a>(machine: &'a RawMachine, input: &Name, output: &Name) -> Option<(&'a RawState, &'a RawRow)>
+fn parts_of<'a>(
+    machine: &'a RawMachine,
+    input: &Name,
+    output: &Name,
+) -> Option<(&'a RawState, &'a RawRow)>
     ensures some { IfSome result (λ parts. One (IsName input.now) machine.now.inputs × One (IsName output.now) machine.now.outputs × (machine.now.states ≡ parts.0.now ∷ []) × (machine.now.rows ≡ parts.1.now ∷ [])) }
     ensures none { IfNone result ((lamp : Lamp) → lamp.input ≡ input.now → lamp.output ≡ output.now → ¬ DeclaresMachine lamp machine.now) }
 {

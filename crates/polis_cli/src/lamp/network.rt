@@ -2,7 +2,6 @@
 ghost use Rattle.std.specs.Prelude.{◌≡◌, ◌≢◌, ◌<◌, ◌≤◌, ◌↔◌, ℕ, [], ◌∷◌, length, slice_get, Some, None, Err, IfOk, IfSome, IfNone, IsTrue};
 ghost use Rattle.std.specs.List.{list_any};
 ghost use Rattle.domains.specs.Names.{AreValues, is_same, are_distinct};
-ghost use Rattle.transition_table.specs.declared.decl.Party.TheVariants.{Env, Machine as Sender};
 ghost use Rattle.polis_cli.specs.Lamp.{IsLamp, IsRowOf, IsMachineOf, IsNetworkOf};
 ghost use Rattle.polis_cli.specs.LampParts.{AreEventsOf};
 

@@ -1,6 +1,6 @@
-// That texts of the form are read where there is memory, and what else isn't.
+// That declarations of the form are read where there is memory, and which others aren't.
 use crate::lamp::{LampFault, read_lamp};
-use net_reader::{NetFault, RawNet, read_network};
+use net_reader::read_network;
 use std::alloc::Global;
 use std::test::Fail;
 use transition_table::{Network, Party};
@@ -20,9 +20,21 @@ machine lamp_ctl priority 1 {
 const DIMMER: &[u8] = b"# one line, and names of several kinds that are the same
 network d version 1 domain d={a,b,c}event e from env event o to env machine d priority 255{input e output o state a:d=c when e,a=b do a:=a,emit o}";
 
+fn read(alloc: Global, text: &[u8]) -> Result<Network, Fail> {
+    let raw = read_network(alloc, text)?;
+    Ok(read_lamp(alloc, &raw)?)
+}
+
+fn is_refused(alloc: Global, text: &[u8]) -> bool {
+    match read_network(alloc, text) {
+        Ok(raw) => matches!(read_lamp(alloc, &raw), Err(LampFault::NotRead)),
+        Err(_) => false,
+    }
+}
+
 #[test]
 fn reads_the_lamp(rt: HostRuntime) -> Result<(), Fail> {
-    let net = read_lamp(rt.alloc(), LAMP)?;
+    let net = read(rt.alloc(), LAMP)?;
     assert_eq!(rt; net.name.bytes(), b"lamp".as_slice());
     assert_eq!(rt; net.domains.len(), 1);
     assert_eq!(rt; net.domains.get(0).size(), 2);
@@ -42,7 +54,7 @@ fn reads_the_lamp(rt: HostRuntime) -> Result<(), Fail> {
 
 #[test]
 fn numbers_the_values(rt: HostRuntime) -> Result<(), Fail> {
-    let net = read_lamp(rt.alloc(), DIMMER)?;
+    let net = read(rt.alloc(), DIMMER)?;
     assert_eq!(rt; net.machines.len(), 1);
     let machine = net.machines.get(0);
     assert_eq!(rt; machine.priority, 255);
@@ -58,13 +70,8 @@ fn numbers_the_values(rt: HostRuntime) -> Result<(), Fail> {
 }
 
 #[test]
-fn refuses_other_texts(rt: HostRuntime) {
+fn refuses_other_declarations(rt: HostRuntime) {
     for (what, text) in [
-        ("no text", b"".as_slice()),
-        (
-            "a byte that begins no token",
-            b"network n version 1 domain d={a,b}event e from env event o to env machine m priority 1{input e output o state s:d=a when e,s=b do s:=%,emit o}".as_slice(),
-        ),
         (
             "two events of one name",
             b"network n version 1 domain d={a,b}event e from env event e to env machine m priority 1{input e output e state s:d=a when e,s=b do s:=a,emit e}".as_slice(),
@@ -94,27 +101,38 @@ fn refuses_other_texts(rt: HostRuntime) {
             b"network n version 2 domain d={a,b}event e from env event o to env machine m priority 1{input e output o state s:d=a when e,s=b do s:=a,emit o}".as_slice(),
         ),
         (
-            "a comma too much",
-            b"network n version 1 domain d={a,b,}event e from env event o to env machine m priority 1{input e output o state s:d=a when e,s=b do s:=a,emit o}".as_slice(),
-        ),
-        (
-            "no value",
-            b"network n version 1 domain d={}event e from env event o to env machine m priority 1{input e output o state s:d=a when e,s=b do s:=a,emit o}".as_slice(),
-        ),
-        (
             "another condition",
             b"network n version 1 domain d={a,b}event e from env event o to env machine m priority 1{input e output o state s:d=a when absent e,s=b do s:=a,emit o}".as_slice(),
         ),
         (
-            "the last brace missing",
-            b"network n version 1 domain d={a,b}event e from env event o to env machine m priority 1{input e output o state s:d=a when e,s=b do s:=a,emit o".as_slice(),
+            "a domain of numbers",
+            b"network n version 1 domain d=0..1event e from env event o to env machine m priority 1{input e output o state s:d=a when e,s=b do s:=a,emit o}".as_slice(),
         ),
         (
-            "a brace too much",
-            b"network n version 1 domain d={a,b}event e from env event o to env machine m priority 1{input e output o state s:d=a when e,s=b do s:=a,emit o}}".as_slice(),
+            "a number as the initial value",
+            b"network n version 1 domain d={a,b}event e from env event o to env machine m priority 1{input e output o state s:d=0 when e,s=b do s:=a,emit o}".as_slice(),
+        ),
+        (
+            "an event with a domain",
+            b"network n version 1 domain d={a,b}event e:d from env event o to env machine m priority 1{input e output o state s:d=a when e,s=b do s:=a,emit o}".as_slice(),
+        ),
+        (
+            "an output that stays inside",
+            b"network n version 1 domain d={a,b}event e from env event o machine m priority 1{input e output o state s:d=a when e,s=b do s:=a,emit o}".as_slice(),
+        ),
+        (
+            "a second machine",
+            b"network n version 1 domain d={a,b}event e from env event o to env machine m priority 1{input e output o state s:d=a when e,s=b do s:=a,emit o}machine k priority 0{input e}".as_slice(),
+        ),
+        (
+            "a second row",
+            b"network n version 1 domain d={a,b}event e from env event o to env machine m priority 1{input e output o state s:d=a when e,s=b do s:=a,emit o when e,s=a do nothing}".as_slice(),
+        ),
+        (
+            "the actions in the other order",
+            b"network n version 1 domain d={a,b}event e from env event o to env machine m priority 1{input e output o state s:d=a when e,s=b do emit o,s:=a}".as_slice(),
         ),
     ] {
-        let refused = matches!(read_lamp(rt.alloc(), text), Err(LampFault::NotRead));
-        assert!(rt; refused, "{what}");
+        assert!(rt; is_refused(rt.alloc(), text), "{what}");
     }
 }

@@ -1,6 +1,5 @@
 -- The one lamp of the declarations.
 use Rattle.std.proofs.Common.{◌≡◌, ◌∷◌, [], Some, sym, ◌∙◌, ap}
-use Rattle.polis_cli.specs.Lamp.{DeclaresMachine}
 use Rattle.polis_cli.proofs.OneLamp.{both_same, machine_of, state_of, row_of, made, same}
 use Rattle.polis_cli.proofs.lamp.declarations.lamp_in.Goals as goal
 

@@ -266,6 +266,8 @@ fn reads_each_part(rt: HostRuntime) -> Result<(), Fail> {
     assert_eq!(rt; machine.outputs.len(), 0);
     assert_eq!(rt; machine.rows.len(), 2);
     let row = machine.rows.get(0);
+    assert_eq!(rt; row.conds.len(), 3);
+    assert_eq!(rt; row.acts.len(), 2);
     assert!(rt; matches!(row.conds.get(0), RawCond::OneOf { values, .. } if values.len() == 2));
     assert!(rt; matches!(row.conds.get(1), RawCond::Absent(_)));
     assert!(rt; matches!(row.acts.get(0), RawAct::Set { .. }));

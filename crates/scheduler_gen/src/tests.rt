@@ -7,6 +7,7 @@ ghost use Rattle.net_core.specs.Journals.{is_trace_item};
 ghost use Rattle.scheduler_gen.specs.Agreeing.{do_agree};
 
 mod admits;
+mod belt;
 mod build;
 mod networks;
 

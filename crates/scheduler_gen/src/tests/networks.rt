@@ -17,16 +17,16 @@ use transition_table::{
     Act, Cond, DomainList, EventList, Machine, MachineList, Network, Party, RowList, StateList,
 };
 
-const ENV: Party = Party::Env;
+pub const ENV: Party = Party::Env;
 
 // Allows these codes of a variable, by bits.
-const fn on(var: u32, codes: u64) -> Cond
+pub const fn on(var: u32, codes: u64) -> Cond
     ensures { result ≡ record { var = var; codes = codes } }
 {
     Cond { var, codes }
 }
 
-const fn gives(place: u32, code: u8) -> Act
+pub const fn gives(place: u32, code: u8) -> Act
     ensures { result ≡ record { result = place; code = code } }
 {
     Act {

@@ -16,7 +16,7 @@ use Rattle.polis_base.specs.declared.token.LexError.{LexError}
 use Rattle.net_reader.specs.Sentences.{HasNet}
 use Rattle.polis_cli.proofs.Inputs.{no_break}
 use Rattle.polis_cli.specs.Failures.{status_of, lex_error}
-use Rattle.polis_cli.specs.Lines.{Explains, failure_line, IsLineOf, ShowsFront, ShowsFailure, IsTextFault, HoldsFaulty}
+use Rattle.polis_cli.specs.Lines.{Explains, failure_line, IsLineOf, ShowsFront, ShowsFailure}
 use Rattle.polis_cli.specs.Parts.{FailsWith, no_memory_line}
 
 -- a fact of what was told and what is, from another

@@ -1,4 +1,4 @@
-use Rattle.std.proofs.Common.{◌≡◌, subst}
+use Rattle.std.proofs.Common.{subst}
 use Rattle.net_reader.specs.declared.raw.RawNet.{RawNet}
 use Rattle.polis_cli.specs.Lamp.{IsNetOf}
 use Rattle.polis_cli.proofs.load.network_in.Goals as goal

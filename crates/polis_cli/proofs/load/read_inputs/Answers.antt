@@ -1,4 +1,3 @@
-use Rattle.std.proofs.Common.{Ok}
 use Rattle.trace_text.specs.declared.fault.TraceFault.TheVariants.{Line as FaultyLine}
 use Rattle.polis_cli.proofs.Inputs.{both_held, trace_unloaded, bad_line}
 use Rattle.polis_cli.proofs.load.read_inputs.Goals as goal

@@ -1,5 +1,7 @@
 // Items of a trace and entries of a journal.
-use polis_base::List;
+ghost use Rattle.std.specs.Prelude.{◌≡◌};
+
+use polis_base::{Duplicate, List, NoMemory};
 use transition_table::{Outcome, Party, Snapshot};
 
 /// An event of the environment with its code, or the wish to wait until no machine can react.
@@ -28,6 +30,57 @@ pub enum Entry {
 }
 
 pub type Journal = List<Entry>;
+
+impl Entry {
+    ghost use Rattle.net_core.specs.Moved.{machine_of, is_dep};
+
+    /// The machine that receives or reacts.
+    pub fn machine(&self) -> u32
+        ensures { result ≡ machine_of self.now }
+    {
+        match self {
+            Entry::Dep { to, .. } => *to,
+            Entry::Rea { machine, .. } => *machine,
+        }
+    }
+
+    /// Whether it is a delivery.
+    pub fn is_delivery(&self) -> bool
+        ensures { result ≡ is_dep self.now }
+    {
+        match self {
+            Entry::Dep { .. } => true,
+            Entry::Rea { .. } => false,
+        }
+    }
+}
+
+impl Duplicate for Entry {
+    fn copy(&self) -> Result<Entry, NoMemory> {
+        match self {
+            Entry::Dep {
+                from,
+                to,
+                event,
+                code,
+            } => Ok(Entry::Dep {
+                from: *from,
+                to: *to,
+                event: *event,
+                code: *code,
+            }),
+            Entry::Rea {
+                machine,
+                snapshot,
+                outcome,
+            } => Ok(Entry::Rea {
+                machine: *machine,
+                snapshot: snapshot.copy()?,
+                outcome: outcome.copy()?,
+            }),
+        }
+    }
+}
 
 /// What the scheduler does next.
 #[derive(Clone, Copy, Debug, PartialEq, Eq)]

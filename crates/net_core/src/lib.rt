@@ -7,7 +7,7 @@ mod law;
 mod loss;
 mod worked;
 
-pub use config::PlainConfig;
+pub use config::Config;
 pub use entry::{Admit, Entry, Journal, NextEnv, Owed, Pick, Trace, TraceItem, Why};
 pub use law::laws;
 pub use loss::lost;

@@ -1,17 +1,54 @@
 // The deliveries of a journal that came on a present input.
-ghost use Rattle.std.specs.Prelude.{◌≡◌, IfOk};
+ghost use Rattle.std.specs.Prelude.{◌≡◌, ◌≤◌, ◌==◌, length, position, IfOk};
 ghost use Rattle.net_core.specs.Journals.{IsJournal};
+ghost use Rattle.net_core.specs.Losses.{Overwrites};
 ghost use Rattle.net_core.specs.Outputs.{lost as lost_in};
 
-use crate::entry::Journal;
+use crate::config::moments::{first_moments, moved};
+use crate::entry::{Entry, Journal};
 use polis_base::NoMemory;
 use std::alloc::Global;
-use transition_table::Network;
+use transition_table::{Machine, Network, Snapshot};
+
+// The place of an event among the inputs.
+fn place_of(inputs: &[u32], event: u32) -> Option<usize>
+    ensures { result ≡ position (λ input. input == event) inputs.now }
+{
+    inputs.iter().position(|input| *input == event)
+}
+
+// Whether the entry delivers to an input that is present in this snapshot of its machine.
+fn overwrites(machine: &Machine, entry: &Entry, before: &Snapshot) -> bool
+    requires { length machine.now.inputs ≤ length before.now.codes }
+    ensures { Overwrites machine.now before.now entry.now result }
+{
+    match entry {
+        Entry::Dep { event, .. } => {
+            match place_of(machine.inputs.as_slice(), *event) {
+                Some(place) => *before.codes.get(place as u64) != 0,
+                None => false,
+            }
+        }
+        Entry::Rea { .. } => false,
+    }
+}
 
 /// How many deliveries of the journal came on an input that was present, so that the earlier one was lost.
 pub fn lost(alloc: Global, net: &Network, j: &Journal) -> Result<u64, NoMemory>
     requires { IsJournal net.now j.now }
     ensures { IfOk result (λ count. count ≡ lost_in net.now j.now) }
 {
-    Err(NoMemory)
+    let mut moments = first_moments(alloc, net)?;
+    let mut count = 0;
+    for i in 0..j.len() {
+        let entry = j.get(i);
+        let m = entry.machine() as u64;
+        let machine = net.machines.get(m);
+        let moment = moved(alloc, machine, entry, moments.get(m))?;
+        if overwrites(machine, entry, moments.get(m)) {
+            count += 1;
+        }
+        moments.set(m, moment);
+    }
+    Ok(count)
 }

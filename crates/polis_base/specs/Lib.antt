@@ -1,7 +1,13 @@
+pub mod Digits
+pub mod Faults
 pub mod Held
 pub mod Host
+pub mod Keywords
 pub mod Lists
 pub mod Memory
 pub mod NameFields
 pub mod Names
+pub mod Saves
+pub mod Spans
+pub mod TokenSamples
 pub mod Tokens

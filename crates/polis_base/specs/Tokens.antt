@@ -1,100 +1,65 @@
 -- The tokens of a network text: at each place the longest.
-use Rattle.std.specs.Prelude.{ℕ, zero, suc, ◌+◌, ◌-◌, ◌*◌, ◌^◌, Bool, true, cond, not, ◌||◌, ◌&&◌, ◌==◌, nat_lt, nat_le, List, [], ◌∷◌, length, fold, Option, Some, None, Result, Ok, Err, codes}
-use Rattle.std.specs.List.{take_while}
-use Rattle.std.specs.Cmp.Lexicographic.{pointwise}
+use Rattle.std.specs.Prelude.{ℕ, zero, suc, ◌+◌, ◌-◌, Bool, false, cond, not, ◌||◌, ◌==◌, nat_lt, List, [], ◌∷◌, length, Option, Some, None, Result, Ok, Err}
+use Rattle.std.specs.List.{take_while, prefix_len}
 use Rattle.polis_base.specs.Names.{begins_name, continues_name}
+use Rattle.polis_base.specs.Digits.{is_digit, number_of}
+pub use Rattle.polis_base.specs.Keywords.{keyword_of}
 use Rattle.polis_base.specs.declared.token.Keyword.{Keyword as Reserved}
-use Rattle.polis_base.specs.declared.token.Keyword.TheVariants.{KwNetwork, KwVersion, KwDomain, KwEvent, KwMachine, KwFrom, KwTo, KwEnv, KwPriority, KwInput, KwOutput, KwState, KwWhen, KwDo, KwEmit, KwAbsent, KwIn, KwNothing, KwSettle, KwValue}
 use Rattle.polis_base.specs.declared.token.Sign.TheVariants.{Equal, Assign, Colon, Comma, LeftBrace, RightBrace, DotDot, Plus}
 use Rattle.polis_base.specs.declared.token.Kind.{Kind}
 use Rattle.polis_base.specs.declared.token.Kind.TheVariants.{Keyword, Name, Number, Sign}
 use Rattle.polis_base.specs.declared.token.Token.{Token}
+use Rattle.polis_base.specs.declared.lex.Front.{Front}
+use Rattle.polis_base.specs.declared.lex.Front.TheVariants.{Skipped, Read, Faulty}
 use Rattle.polis_base.specs.declared.token.LexError.{LexError}
 use Rattle.polis_base.specs.declared.token.LexError.TheVariants.{BadByte, NameTooLong, NumberTooLarge}
-
--- What the bytes at a place begin with: so many bytes that are no token, a token of so many bytes,
--- or a token that doesn't read, of this error.
-pub data Front : Type 0 where
-  Skipped : ℕ → Front
-  Read : Kind → ℕ → Front
-  Faulty : (ℕ → LexError) → Front
 
 -- space, tab, CR and LF
 abbrev pub is_blank : ℕ → Bool
 is_blank c = c == 32 || c == 9 || c == 13 || c == 10
 
-abbrev pub is_digit : ℕ → Bool
-is_digit c = nat_le 48 c && nat_le c 57
-
--- the number that decimal digits write
-abbrev pub number_of : List ℕ → ℕ
-number_of digits = fold (λ n c. n * 10 + (c - 48)) 0 digits
-
-abbrev pub same_word : List ℕ → List ℕ → Bool
-same_word = pointwise ◌==◌
-
--- the keyword that a word is, if it is one
-abbrev pub keyword_of : List ℕ → Option Reserved
-keyword_of word =
-    cond (same_word word (codes "network")) (Some KwNetwork)
-    (cond (same_word word (codes "version")) (Some KwVersion)
-    (cond (same_word word (codes "domain")) (Some KwDomain)
-    (cond (same_word word (codes "event")) (Some KwEvent)
-    (cond (same_word word (codes "machine")) (Some KwMachine)
-    (cond (same_word word (codes "from")) (Some KwFrom)
-    (cond (same_word word (codes "to")) (Some KwTo)
-    (cond (same_word word (codes "env")) (Some KwEnv)
-    (cond (same_word word (codes "priority")) (Some KwPriority)
-    (cond (same_word word (codes "input")) (Some KwInput)
-    (cond (same_word word (codes "output")) (Some KwOutput)
-    (cond (same_word word (codes "state")) (Some KwState)
-    (cond (same_word word (codes "when")) (Some KwWhen)
-    (cond (same_word word (codes "do")) (Some KwDo)
-    (cond (same_word word (codes "emit")) (Some KwEmit)
-    (cond (same_word word (codes "absent")) (Some KwAbsent)
-    (cond (same_word word (codes "in")) (Some KwIn)
-    (cond (same_word word (codes "nothing")) (Some KwNothing)
-    (cond (same_word word (codes "settle")) (Some KwSettle)
-    (cond (same_word word (codes "value")) (Some KwValue) None)))))))))))))))))))
-
+-- a word that is no keyword is a name
 abbrev pub word_kind : Option Reserved → Kind
 word_kind None = Name
 word_kind (Some keyword) = Keyword keyword
 
--- a word of these bytes
-abbrev pub word_front : List ℕ → Front
-word_front word = cond (nat_lt 24 (length word)) (Faulty NameTooLong) (Read (word_kind (keyword_of word)) (length word))
+-- a word of these bytes at a place
+abbrev pub word_front : ℕ → List ℕ → Front
+word_front at word = cond (nat_lt 24 (length word)) (Faulty (NameTooLong at)) (Read (word_kind (keyword_of word)) (length word))
 
--- a number of these digits, of which the first isn't 0
-abbrev pub number_front : List ℕ → Front
-number_front digits = cond (nat_lt (number_of digits) (2 ^ 32)) (Read (Number (number_of digits)) (length digits)) (Faulty NumberTooLarge)
+-- a number of these digits at a place, of which the first isn't 0
+abbrev pub number_front : ℕ → List ℕ → Front
+number_front at digits = cond (nat_lt 4294967295 (number_of digits)) (Faulty (NumberTooLarge at)) (Read (Number (number_of digits)) (length digits))
 
 -- the next byte is this one
 abbrev pub begins_with : ℕ → List ℕ → Bool
-begins_with b [] = nat_lt 1 0
-begins_with b (c ∷ rest) = b == c
+begins_with b [] = false
+begins_with b (c ∷ rest) = c == b
 
--- a sign that begins with c: `:=` and `..` have two bytes, and a lone `.` is none
-abbrev pub sign_front : ℕ → List ℕ → Front
-sign_front c rest =
+-- A sign that begins with c at a place: `:=` and `..` have two bytes, and a lone `.` is none. As bytes `=` is 61, `:` 58,
+-- `,` 44, `{` 123, `}` 125, `.` 46 and `+` 43.
+abbrev pub sign_front : ℕ → ℕ → List ℕ → Front
+sign_front at c rest =
     cond (c == 61) (Read (Sign Equal) 1)
     (cond (c == 58) (cond (begins_with 61 rest) (Read (Sign Assign) 2) (Read (Sign Colon) 1))
     (cond (c == 44) (Read (Sign Comma) 1)
     (cond (c == 123) (Read (Sign LeftBrace) 1)
     (cond (c == 125) (Read (Sign RightBrace) 1)
-    (cond (c == 46) (cond (begins_with 46 rest) (Read (Sign DotDot) 2) (Faulty BadByte))
-    (cond (c == 43) (Read (Sign Plus) 1) (Faulty BadByte)))))))
+    (cond (c == 46) (cond (begins_with 46 rest) (Read (Sign DotDot) 2) (Faulty (BadByte at)))
+    (cond (c == 43) (Read (Sign Plus) 1) (Faulty (BadByte at))))))))
 
--- What the byte c with those behind it begins with. A comment goes from `#` up to the next LF or the end.
--- A word has all letters, digits and `_` that follow, a number that doesn't begin with 0 all digits that follow.
+-- What the bytes at a place begin with. A comment goes from `#` up to the next LF or the end. A word has all
+-- letters, digits and `_` that follow, a number that doesn't begin with 0 all digits that follow. As bytes `#` is 35,
+-- LF 10 and `0` 48. At the end nothing stands.
 abbrev pub front : ℕ → List ℕ → Front
-front c rest =
+front at [] = Skipped 0
+front at (c ∷ rest) =
     cond (is_blank c) (Skipped 1)
-    (cond (c == 35) (Skipped (1 + length (take_while (λ b. not (b == 10)) rest)))
-    (cond (begins_name c) (word_front (take_while continues_name (c ∷ rest)))
+    (cond (c == 35) (Skipped (prefix_len (λ b. not (b == 10)) (c ∷ rest)))
+    (cond (begins_name c) (word_front at (take_while continues_name (c ∷ rest)))
     (cond (c == 48) (Read (Number 0) 1)
-    (cond (is_digit c) (number_front (take_while is_digit (c ∷ rest)))
-    (sign_front c rest)))))
+    (cond (is_digit c) (number_front at (take_while is_digit (c ∷ rest)))
+    (sign_front at c rest)))))
 
 -- how many bytes it has
 abbrev pub bytes_in : Front → ℕ
@@ -111,13 +76,13 @@ with_token token (Err error) = Err error
 abbrev pub joined : Front → ℕ → Result (List Token) LexError → Result (List Token) LexError
 joined (Skipped n) at read = read
 joined (Read kind n) at read = with_token (record { kind = kind; at = at; len = n }) read
-joined (Faulty error) at read = Err (error at)
+joined (Faulty error) at read = Err error
 
 -- The tokens of the bytes from a place on, of which the first ones, `passed` of them, are of what stood before.
 abbrev pub tokens_from : ℕ → ℕ → List ℕ → Result (List Token) LexError
 tokens_from at passed [] = Ok []
 tokens_from at (suc passed) (c ∷ rest) = tokens_from (at + 1) passed rest
-tokens_from at zero (c ∷ rest) = joined (front c rest) at (tokens_from (at + 1) (bytes_in (front c rest) - 1) rest)
+tokens_from at zero (c ∷ rest) = joined (front at (c ∷ rest)) at (tokens_from (at + 1) (bytes_in (front at (c ∷ rest)) - 1) rest)
 
 -- the tokens of a text, or the error of the first that doesn't read
 abbrev pub tokens_of : List ℕ → Result (List Token) LexError

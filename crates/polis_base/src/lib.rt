@@ -2,22 +2,31 @@
 #![tactic(auto)]
 
 mod bytes;
+mod decimal;
 mod host;
+mod keyword;
 mod lex;
 mod list;
 mod memory;
 mod name;
+mod std_host;
+#[cfg(test)]
+mod tests;
 mod token;
 mod words;
+mod worked;
 
 pub use bytes::Bytes;
+pub use decimal::read_decimal;
 pub use host::{Host, Load, Save};
 pub use lex::tokens;
 pub use list::{Duplicate, List, Numbers, Places};
 pub use memory::MemoryHost;
 pub use name::Name;
+pub use std_host::StdHost;
 pub use token::{Keyword, Kind, LexError, Sign, Token, Tokens};
 pub use words::Words;
+pub use worked::worked_tokens;
 
 /// Memory was wanting. It is the one free answer, and is merged with no other.
 #[derive(Clone, Copy, Debug, PartialEq, Eq)]

@@ -1,12 +1,16 @@
--- The lamp's files before and behind a run on one press.
-use Rattle.std.specs.Prelude.{codes}
+-- A call on the lamp and one press: its words, and the files before and behind it.
+use Rattle.std.specs.Prelude.{ℕ, List, [], ◌∷◌, codes}
 use Rattle.std.specs.FinMap.{empty, insert}
 use Rattle.polis_base.specs.Host.{Files}
-use Rattle.polis_cli.specs.Form.{RunWords}
-use Rattle.polis_cli.specs.Samples.{line, lamp_text, press_text, lamp_journal}
+use Rattle.polis_cli.specs.Form.{RunWords, entry_max}
+use Rattle.polis_cli.specs.Texts.{line}
+use Rattle.polis_cli.specs.Samples.{lamp_text, press_text, lamp_journal}
 
-abbrev pub lamp_words : RunWords
-lamp_words = record { net = codes "net"; trace = codes "trc"; stem = codes "o" }
+abbrev pub lamp_words : List (List ℕ)
+lamp_words = codes "run" ∷ codes "net" ∷ codes "trc" ∷ codes "o" ∷ []
+
+abbrev pub lamp_asked : RunWords
+lamp_asked = record { net = codes "net"; trace = codes "trc"; stem = codes "o"; limit = entry_max }
 
 abbrev pub files_before : Files
 files_before = insert (insert empty (codes "net") lamp_text) (codes "trc") press_text

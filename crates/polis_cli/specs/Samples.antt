@@ -1,9 +1,7 @@
 -- The lamp's texts, as bytes.
 use Rattle.std.specs.Prelude.{ℕ, List, [], ◌∷◌, ◌++◌, codes}
-use Rattle.polis_cli.specs.Lamp.{Lamp}
-
-abbrev pub line : List ℕ → List ℕ
-line text = text ++ 10 ∷ []
+use Rattle.polis_cli.specs.declared.lamp.Lamp.{Lamp}
+use Rattle.polis_cli.specs.Texts.{line}
 
 abbrev pub lamp_text : List ℕ
 lamp_text =
@@ -21,9 +19,9 @@ lamp_names = record {
   machine = codes "lamp_ctl";
   priority = 1;
   state = codes "s";
-  init = 0;
-  from = 0;
-  to = 1;
+  init = codes "off";
+  from = codes "off";
+  to = codes "on";
 }
 
 abbrev pub press_text : List ℕ

@@ -1,21 +1,108 @@
 // The program: its words, its files and its one call that does the work.
 #![tactic(auto)]
 
+mod failure;
+mod form;
 mod lamp;
-mod parts;
+mod load;
+mod make;
 mod print;
+mod show;
 mod status;
-mod steps;
+#[cfg(test)]
+mod tests;
 mod top;
 mod worked;
+mod write;
 
-use polis_base::Words;
+use crate::status::Status;
+use crate::top::polis;
+use polis_base::{Host, NoMemory, Save, StdHost, Words};
+use std::io::ErrorKind;
 use std::process::ExitCode;
+use std::{env, io};
+
+const HELP: &[u8] = b"polis run NET TRACE STEM [--limit N]
+    runs the network text NET on the trace text TRACE, saves the output events as
+    STEM.out and the journal as STEM.jnl, and shows a summary; N is the most entries
+    of the journal, from 1 to 60000
+polis --help
+    shows these forms
+polis --version
+    shows the version
+
+The manual is README.md, and docs/FORMATS.md states each text.
+";
+
+const VERSION: &[u8] = b"polis 0.1.0\n";
+
+// Why the words couldn't be read.
+#[derive(Clone, Copy)]
+enum Unread {
+    NotText,
+    NoMemory,
+}
+
+impl From<NoMemory> for Unread {
+    fn from(_: NoMemory) -> Unread {
+        Unread::NoMemory
+    }
+}
+
+impl From<io::Error> for Unread {
+    fn from(error: io::Error) -> Unread {
+        match error.kind() {
+            ErrorKind::OutOfMemory => Unread::NoMemory,
+            _ => Unread::NotText,
+        }
+    }
+}
+
+// The words behind the program's name.
+fn read_words(rt: &HostRuntime) -> Result<Words, Unread> {
+    let mut words = Words::new(rt.alloc());
+    for word in env::args(rt)?.skip(1) {
+        words.push(word.as_str())?;
+    }
+    Ok(words)
+}
+
+// What a lone word that the program answers by itself shows.
+fn answer_of(words: &Words) -> Option<&'static [u8]> {
+    if words.len() != 1 {
+        return None;
+    }
+    match words.get(0) {
+        "--help" => Some(HELP),
+        "--version" => Some(VERSION),
+        _ => None,
+    }
+}
+
+// Shows a text and ends with the status, or with that of a fault where the text can't be shown.
+fn answer(host: &mut StdHost, text: &[u8], status: Status) -> Status {
+    match host.show(text) {
+        Save::Written => status,
+        Save::Failed => Status::WriteFault,
+        Save::NoMemory => Status::NoMemory,
+    }
+}
 
 fn main(rt: HostRuntime) -> ExitCode {
-    let words = Words::new(rt.alloc());
-    if words.len() == 0 {
-        return ExitCode::from(1);
-    }
-    ExitCode::from(0)
+    let mut host = StdHost::new(&rt, rt.alloc());
+    let status = match read_words(&rt) {
+        Ok(words) => match answer_of(&words) {
+            Some(text) => answer(&mut host, text, Status::Done),
+            None => polis(rt.alloc(), &words, &mut host),
+        },
+        Err(Unread::NotText) => {
+            let _ = host.show(b"usage\n");
+            Status::Usage
+        }
+        Err(Unread::NoMemory) => {
+            let _ = host.show(b"no memory\n");
+            Status::NoMemory
+        }
+    };
+    ExitCode::from(status as u8)
 }

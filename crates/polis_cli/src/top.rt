@@ -1,44 +1,66 @@
 // The call that does the program's work.
-ghost use Rattle.std.specs.Prelude.{◌≡◌, ◌≢◌, ◌⊎◌, None, IsTrue};
+ghost use Rattle.std.specs.Prelude.{◌≡◌, ◌≢◌, ◌⊎◌, false, IsTrue};
 ghost use Rattle.polis_base.specs.Host.{Rose, WhereTold, Changes};
-ghost use Rattle.polis_cli.specs.Form.{run_words};
-ghost use Rattle.polis_cli.specs.Top.{RanAndWrote, AreAccepted, WhereRun, AtMostOneLine, entry_max, is_end, is_refusal};
+ghost use Rattle.polis_cli.specs.Form.{RunWords, Asks, AsksNothing};
+ghost use Rattle.polis_cli.specs.Lines.{ShowsFailure};
+ghost use Rattle.polis_cli.specs.Top.{RanAndWrote, AreAccepted, Stands, is_end, is_refusal};
 
+use crate::form::judge;
+use crate::load::read_inputs;
+use crate::make::make_texts;
+use crate::show::{fail, no_memory, show_line};
 use crate::status::Status;
-use polis_base::{Host, Words};
+use crate::write::write_texts;
+use polis_base::{Host, NoMemory, Words};
 use std::alloc::Global;
 
 /// Does what the words ask for.
 pub fn polis<H: Host>(alloc: Global, words: &Words, host: &mut H) -> Status
-    // Done and Limit: the run was made and written.
-    ensures ran { IsTrue (is_end result) → WhereTold (H.files host.old) (λ before. WhereTold (H.files host.new) (λ now. WhereRun words.now (λ run. RanAndWrote result run entry_max before now (H.shown host.old) (H.shown host.new)))) }
-    ensures ran_words { IsTrue (is_end result) → run_words words.now ≢ None }
+    // Done and Limit: the run was made and written, and no fault came.
+    ensures ran { IsTrue (is_end result) → Changes (H.files host.old) (H.files host.new) (λ before now. RanAndWrote result words.now before now (H.shown host.old) (H.shown host.new)) }
+    ensures ran_words { IsTrue (is_end result) → (run : RunWords) × Asks words.now run }
     ensures ran_load_faults { IsTrue (is_end result) → H.load_faults host.new ≡ H.load_faults host.old }
     ensures ran_write_faults { IsTrue (is_end result) → H.write_faults host.new ≡ H.write_faults host.old }
 
     // Usage exactly where the words are of no form, but for want of memory.
-    ensures usage_only { result ≡ Status.Usage → run_words words.now ≡ None }
-    ensures usage_there { run_words words.now ≡ None → (result ≡ Status.Usage) ⊎ (result ≡ Status.NoMemory) }
+    ensures usage_only { result ≡ Status.Usage → AsksNothing words.now }
+    ensures usage_there { AsksNothing words.now → (result ≡ Status.Usage) ⊎ (result ≡ Status.NoMemory) }
 
     // A fault only where its count rose in this call.
     ensures read_fault { result ≡ Status.ReadFault → Rose (H.load_faults host.old) (H.load_faults host.new) }
     ensures write_fault { result ≡ Status.WriteFault → Rose (H.write_faults host.old) (H.write_faults host.new) }
 
     // Refused exactly where a file isn't held, is too long or isn't accepted, but for a failed load and want of memory.
-    ensures refused_only { result ≡ Status.Refused → WhereTold (H.files host.old) (λ before. WhereRun words.now (λ run. ¬ AreAccepted before run)) }
-    ensures refused_there { WhereTold (H.files host.old) (λ before. WhereRun words.now (λ run. ¬ AreAccepted before run → (result ≡ Status.Refused) ⊎ (result ≡ Status.ReadFault) ⊎ (result ≡ Status.NoMemory))) }
+    ensures refused_only { result ≡ Status.Refused → WhereTold (H.files host.old) (λ before. (run : RunWords) → Asks words.now run → ¬ AreAccepted before run) }
+    ensures refused_there { WhereTold (H.files host.old) (λ before. (run : RunWords) → Asks words.now run → ¬ AreAccepted before run → (result ≡ Status.Refused) ⊎ (result ≡ Status.ReadFault) ⊎ (result ≡ Status.NoMemory)) }
 
     // Files that are accepted are run, but for a fault and want of memory.
-    ensures run_there { WhereTold (H.files host.old) (λ before. WhereRun words.now (λ run. AreAccepted before run → IsTrue (is_end result) ⊎ (result ≡ Status.ReadFault) ⊎ (result ≡ Status.WriteFault) ⊎ (result ≡ Status.NoMemory))) }
+    ensures run_there { WhereTold (H.files host.old) (λ before. (run : RunWords) → Asks words.now run → AreAccepted before run → IsTrue (is_end result) ⊎ (result ≡ Status.ReadFault) ⊎ (result ≡ Status.WriteFault) ⊎ (result ≡ Status.NoMemory)) }
 
-    // A journal of this form is always complete, and nothing is replayed or compared.
-    ensures no_limit { result ≢ Status.Limit }
+    // Nothing is replayed or compared.
     ensures no_illegal { result ≢ Status.Illegal }
     ensures no_differ { result ≢ Status.Differ }
 
-    // A refusal leaves the files as they were, and shows one line at most.
+    // A refusal leaves the files as they were. Where a run couldn't be written, some of its savings stand, from the first on.
     ensures kept { IsTrue (is_refusal result) → H.files host.new ≡ H.files host.old }
-    ensures one_line { IsTrue (is_refusal result) → Changes (H.shown host.old) (H.shown host.new) AtMostOneLine }
+    ensures stands { (result ≡ Status.WriteFault) ⊎ (result ≡ Status.NoMemory) → Changes (H.files host.old) (H.files host.new) (Stands result words.now) }
+
+    // Any other status shows its line, or a front of it, or where the summary's show failed a front of the summary.
+    ensures line { is_end result ≡ false → Changes (H.shown host.old) (H.shown host.new) (ShowsFailure result words.now (H.files host.old) (Rose (H.write_faults host.old) (H.write_faults host.new))) }
 {
-    Status::NoMemory
+    let run = match judge(words) {
+        Some(run) => run,
+        None => {
+            show_line(host, b"usage\n");
+            return Status::Usage;
+        }
+    };
+    let inputs = match read_inputs(alloc, host, &run) {
+        Ok(inputs) => inputs,
+        Err(failure) => return fail(alloc, host, &run, failure),
+    };
+    match make_texts(alloc, &run, &inputs) {
+        Ok(texts) => write_texts(host, &texts),
+        Err(NoMemory) => no_memory(host),
+    }
 }

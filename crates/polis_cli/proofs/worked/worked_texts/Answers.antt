@@ -1,7 +1,13 @@
 use Rattle.std.proofs.Common.{refl}
 use Rattle.std.specs.Fmt.{digits}
-use Rattle.polis_cli.proofs.LampText.{lamp_text_of, press_trace_of}
+use Rattle.polis_cli.proofs.LampText.{lamp_text_of}
 use Rattle.polis_cli.proofs.worked.worked_texts.Goals as goal
+
+pub returns-clause-network : goal.returns-clause-network
+returns-clause-network c = lamp_text_of
+
+pub returns-clause-trace : goal.returns-clause-trace
+returns-clause-trace c = refl
 
 pub returns-clause-journal : goal.returns-clause-journal
 unfolding digits
@@ -13,12 +19,6 @@ returns-clause-outputs c = refl
 pub returns-clause-summary : goal.returns-clause-summary
 unfolding digits
 returns-clause-summary c = refl
-
-pub returns-clause-trace : goal.returns-clause-trace
-returns-clause-trace c = press_trace_of
-
-pub returns-clause-network : goal.returns-clause-network
-returns-clause-network c = lamp_text_of
 
 pub returns-clause-join_journal : goal.returns-clause-join_journal
 unfolding digits

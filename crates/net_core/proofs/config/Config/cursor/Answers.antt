@@ -1,0 +1,17 @@
+use Rattle.std.proofs.Common.{◌<◌, length, ap, sym, subst, ◌∙◌, arith}
+use Rattle.net_core.specs.Moments.{Moment}
+use Rattle.net_core.specs.Tables.{cursor}
+use Rattle.net_core.proofs.Tables.{table_item}
+use Rattle.net_core.proofs.Moved.{length-table}
+use Rattle.net_core.proofs.config.Config.cursor.Goals as goal
+
+pub get-requires : goal.get-requires
+get-requires c =
+    let below = subst (λ (m : Moment). c.args.m < length m.net.machines) (sym c.self.view_is) c.requires in
+    let size = ap length c.self.invariant.cursors_are ∙ length-table (cursor c.self.inside.net.now c.self.inside.trace.now c.self.inside.journal) (length c.self.inside.net.now.machines) in
+    omega arith
+
+pub returns : goal.returns
+returns c =
+    let below = subst (λ (m : Moment). c.args.m < length m.net.machines) (sym c.self.view_is) c.requires in
+    rw (← c.self.view_is) (table_item (cursor c.self.inside.net.now c.self.inside.trace.now c.self.inside.journal) (length c.self.inside.net.now.machines) c.self.inside.tables.cursors c.args.m c.get.result.now c.self.invariant.cursors_are below c.get.ensures)

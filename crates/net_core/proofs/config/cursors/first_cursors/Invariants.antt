@@ -1,0 +1,8 @@
+use Rattle.std.proofs.Common.{◌≡◌, map}
+use Rattle.polis_base.specs.Lists.{upto}
+use Rattle.net_core.specs.Tables.{is_read, nth_place}
+use Rattle.net_core.proofs.config.cursors.first_cursors.Given as goal
+
+-- those before this one are made
+abbrev pub invariant-loop-m : goal.invariant-loop-m
+invariant-loop-m l = l.cursors ≡ map (λ m. nth_place (is_read l.net m) l.trace 0) (upto l.m)

@@ -1,0 +1,7 @@
+pub mod Forms
+pub mod Laws
+pub mod Loops
+pub mod GrammarLaws
+pub mod Steps
+pub mod Tokens
+pub mod Whole

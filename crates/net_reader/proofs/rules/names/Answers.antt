@@ -1,0 +1,5 @@
+use Rattle.net_reader.proofs.GrammarLaws.{word_shrinks}
+use Rattle.net_reader.proofs.rules.names.Goals as goal
+
+pub listed-requires : goal.listed-requires
+listed-requires c = word_shrinks

@@ -1,0 +1,7 @@
+pub mod Grammar
+pub mod Kinds
+pub mod Lexemes
+pub mod Outcomes
+pub mod Pieces
+pub mod Reading
+pub mod Sentences

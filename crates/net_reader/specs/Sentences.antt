@@ -1,0 +1,37 @@
+-- What a text declares, and where it is no network.
+use Rattle.std.specs.Prelude.{◌≡◌, ◌⊎◌, ℕ, List, [], ◌∷◌, ◌++◌, length, Result, Ok, Err}
+use Rattle.polis_base.specs.Tokens.{tokens_of}
+use Rattle.polis_base.specs.declared.token.Token.{Token}
+use Rattle.net_reader.specs.Lexemes.{Lexeme, lexemes}
+use Rattle.net_reader.specs.Grammar.{IsNet, BeginsSentence}
+use Rattle.net_reader.specs.Pieces.{place_of}
+use Rattle.net_reader.specs.declared.raw.RawNet.{RawNet}
+use Rattle.net_reader.specs.declared.network.NetFault.{NetFault}
+use Rattle.net_reader.specs.declared.network.NetFault.TheVariants as faults
+
+-- the text's tokens are a sentence, with these declarations
+pub record HasNet (text : List ℕ) (net : RawNet) : Type 0 where
+  pub tokens : List Token
+  pub read : tokens_of text ≡ Ok tokens
+  pub sentence : IsNet net (lexemes text tokens)
+
+-- the tokens before aren't all of a sentence, or begin none with the next one
+abbrev pub Stops : List Lexeme → List Lexeme → Type 0
+Stops before [] = (net : RawNet) → IsNet net before → ⊥
+Stops before (l ∷ rest) = BeginsSentence (before ++ l ∷ []) → ⊥
+
+-- The text's tokens read and are no sentence: the ones before the place begin one, and those up to it begin none. It
+-- is the text's length where all of them begin one.
+pub record BreaksAt (text : List ℕ) (place : ℕ) : Type 0 where
+  pub tokens : List Token
+  pub read : tokens_of text ≡ Ok tokens
+  pub before : List Lexeme
+  pub rest : List Lexeme
+  pub split : lexemes text tokens ≡ before ++ rest
+  pub begins : BeginsSentence before
+  pub stops : Stops before rest
+  pub here : place ≡ place_of (length text) rest
+
+-- this answer, unless memory was wanting
+abbrev pub OrNoMemory : Result RawNet NetFault → Result RawNet NetFault → Type 0
+OrNoMemory result answer = (result ≡ Err faults.NoMemory) ⊎ (result ≡ answer)

@@ -1,0 +1,19 @@
+// The grammar of network texts, version 1: what a text declares, and back.
+#![tactic(auto)]
+
+mod law;
+mod lists;
+mod network;
+mod raw;
+mod reader;
+mod rules;
+#[cfg(test)]
+mod tests;
+
+pub use law::law_of_reading;
+pub use network::{NetFault, read_network};
+pub use raw::{
+    Num, RawAct, RawActList, RawCond, RawCondList, RawDomain, RawDomainList, RawEnv, RawEvent,
+    RawEventList, RawMachine, RawMachineList, RawNet, RawRow, RawRowList, RawShape, RawState,
+    RawStateList, RawValue, RawValueList, Word, WordList,
+};

@@ -1,0 +1,67 @@
+// Reading a network text.
+ghost use Rattle.std.specs.Prelude.{◌≡◌, ◌≢◌, ◌⊎◌, ℕ, length, Ok, Err, IfOk};
+ghost use Rattle.polis_base.specs.Tokens.{tokens_of};
+ghost use Rattle.polis_base.specs.declared.token.LexError.{LexError};
+ghost use Rattle.net_reader.specs.declared.raw.RawNet.{RawNet};
+ghost use Rattle.net_reader.specs.declared.network.NetFault.{NetFault};
+ghost use Rattle.net_reader.specs.Reading.{whole_at};
+ghost use Rattle.net_reader.specs.Sentences.{HasNet, BreaksAt, OrNoMemory};
+ghost use Rattle.net_reader.specs.Outcomes.{judged, outcome};
+
+use crate::raw::RawNet;
+use crate::reader::{Reader, Stop};
+use crate::rules::whole;
+use polis_base::{LexError, tokens};
+use std::alloc::Global;
+use thiserror::Error;
+
+/// Why a text is no network. The message is the variant's name.
+#[derive(Clone, Copy, Debug, PartialEq, Eq, Error)]
+pub enum NetFault {
+    /// The first token that doesn't read. It is never want of memory.
+    #[error("Lex")]
+    Lex(LexError),
+    /// The place of the first token with which no sentence goes on, or the text's length where a token is missing.
+    #[error("Syntax")]
+    Syntax(u64),
+    /// Memory was wanting.
+    #[error("NoMemory")]
+    NoMemory,
+}
+
+fn judge(reader: &mut Reader, end: u64) -> Result<RawNet, NetFault>
+    ensures settled { OrNoMemory result (judged end (whole_at reader.old)) }
+    ensures no_lex { (fault : LexError) → result ≢ Err (NetFault.Lex fault) }
+{
+    match whole(reader) {
+        Ok(net) => Ok(net),
+        Err(Stop::Fault) => Err(NetFault::Syntax(reader.place(end))),
+        Err(Stop::NoMemory) => Err(NetFault::NoMemory),
+    }
+}
+
+fn read(alloc: Global, text: &[u8]) -> Result<RawNet, NetFault>
+    ensures settled { OrNoMemory result (outcome text.now) }
+    ensures no_memory { result ≢ Err (NetFault.Lex LexError.NoMemory) }
+{
+    match tokens(alloc, text) {
+        Ok(found) => judge(&mut Reader::new(alloc, text, &found), text.len() as u64),
+        Err(LexError::NoMemory) => Err(NetFault::NoMemory),
+        Err(fault) => Err(NetFault::Lex(fault)),
+    }
+}
+
+/// The declarations of a network text, of version 1 of the grammar. A token that doesn't read is the answer also where
+/// a syntax fault stands before it.
+pub fn read_network(alloc: Global, text: &[u8]) -> Result<RawNet, NetFault>
+    ensures ok { IfOk result (λ net. HasNet text.now net) }
+    ensures one { IfOk result (λ net. (other : RawNet) → HasNet text.now other → other ≡ net) }
+    ensures ok_there { (net : RawNet) → HasNet text.now net → OrNoMemory result (Ok net) }
+    ensures lex { (fault : LexError) → result ≡ Err (NetFault.Lex fault) → tokens_of text.now ≡ Err fault }
+    ensures lex_there { (fault : LexError) → tokens_of text.now ≡ Err fault → OrNoMemory result (Err (NetFault.Lex fault)) }
+    ensures lex_memory { result ≢ Err (NetFault.Lex LexError.NoMemory) }
+    ensures syntax { (place : ℕ) → result ≡ Err (NetFault.Syntax place) → BreaksAt text.now place }
+    ensures syntax_there { (place : ℕ) → BreaksAt text.now place → OrNoMemory result (Err (NetFault.Syntax place)) }
+{
+    read(alloc, text)
+}

@@ -1,0 +1,123 @@
+// What a network text declares, each name, number and value with its byte place in the text.
+use polis_base::{List, Name};
+
+/// A name.
+#[derive(Clone, Copy, Debug)]
+pub struct Word {
+    pub name: Name,
+    pub at: u64,
+}
+
+/// A number.
+#[derive(Clone, Copy, Debug)]
+pub struct Num {
+    pub number: u32,
+    pub at: u64,
+}
+
+/// A value as it is written.
+#[derive(Clone, Copy, Debug)]
+pub enum RawValue {
+    Name(Word),
+    Number(Num),
+}
+
+pub type WordList = List<Word>;
+
+pub type RawValueList = List<RawValue>;
+
+/// The values of a domain: the names in order, or the numbers from the first to the last.
+#[derive(Drop)]
+pub enum RawShape {
+    Names(WordList),
+    Range { first: Num, last: Num },
+}
+
+/// A domain.
+#[derive(Drop)]
+pub struct RawDomain {
+    pub name: Word,
+    pub shape: RawShape,
+}
+
+pub type RawDomainList = List<RawDomain>;
+
+/// Whether an event comes from the environment, goes to it, or goes between machines alone.
+#[derive(Clone, Copy, Debug, PartialEq, Eq)]
+pub enum RawEnv {
+    Between,
+    FromEnv,
+    ToEnv,
+}
+
+/// An event. One without a domain is pure.
+#[derive(Clone, Copy, Debug)]
+pub struct RawEvent {
+    pub name: Word,
+    pub domain: Option<Word>,
+    pub env: RawEnv,
+}
+
+pub type RawEventList = List<RawEvent>;
+
+/// A state variable.
+#[derive(Clone, Copy, Debug)]
+pub struct RawState {
+    pub name: Word,
+    pub domain: Word,
+    pub init: RawValue,
+}
+
+pub type RawStateList = List<RawState>;
+
+/// A condition: the event is present, it is absent, or the event or variable has this value or one of these.
+#[derive(Drop)]
+pub enum RawCond {
+    Present(Word),
+    Absent(Word),
+    Is { name: Word, value: RawValue },
+    OneOf { name: Word, values: RawValueList },
+}
+
+pub type RawCondList = List<RawCond>;
+
+/// An action: an event is emitted, with a value where it has a domain, or a variable is set.
+#[derive(Clone, Copy, Debug)]
+pub enum RawAct {
+    Emit { name: Word, value: Option<RawValue> },
+    Set { name: Word, value: RawValue },
+}
+
+pub type RawActList = List<RawAct>;
+
+/// A row. `do nothing` has no actions.
+#[derive(Drop)]
+pub struct RawRow {
+    pub conds: RawCondList,
+    pub acts: RawActList,
+}
+
+pub type RawRowList = List<RawRow>;
+
+/// A machine. The outputs are empty where the text has none.
+#[derive(Drop)]
+pub struct RawMachine {
+    pub name: Word,
+    pub priority: Num,
+    pub inputs: WordList,
+    pub outputs: WordList,
+    pub states: RawStateList,
+    pub rows: RawRowList,
+}
+
+pub type RawMachineList = List<RawMachine>;
+
+/// A network.
+#[derive(Drop)]
+pub struct RawNet {
+    pub name: Word,
+    pub version: Num,
+    pub domains: RawDomainList,
+    pub events: RawEventList,
+    pub machines: RawMachineList,
+}

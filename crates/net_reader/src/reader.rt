@@ -1,0 +1,291 @@
+// A reader that stands at a token. It is seen as the tokens that are left.
+ghost use Rattle.std.specs.Prelude.{◌≡◌, ◌<◌, true, List, length, drop, option_map, IfSome, IsTrue};
+ghost use Rattle.std.specs.List.{All};
+ghost use Rattle.polis_base.specs.Lists.{head_of};
+ghost use Rattle.polis_base.specs.Names.{is_name};
+ghost use Rattle.polis_base.specs.Spans.{IsToken};
+ghost use Rattle.polis_base.specs.declared.token.Kind.{Kind};
+ghost use Rattle.net_reader.specs.Kinds.{class_of};
+ghost use Rattle.net_reader.specs.Lexemes.{Lexeme, lexeme, lexemes, word_of, num_of, value_of};
+ghost use Rattle.net_reader.specs.Pieces.{seen, place_of};
+ghost use Rattle.net_reader.specs.Reading.{Gives, front, begins, is, is_fixed, only, word_at, num_at, value_at, end_at};
+
+use crate::raw::{Num, RawValue, Word};
+use polis_base::{Keyword, Kind, Name, NoMemory, Sign, Token, Tokens};
+use std::alloc::Global;
+use std::marker::Model;
+
+// Why reading stopped.
+#[derive(Clone, Copy, Debug)]
+pub(crate) enum Stop {
+    // The next token doesn't fit, or there is none.
+    Fault,
+    // Memory was wanting.
+    NoMemory,
+}
+
+impl From<NoMemory> for Stop {
+    ghost use Rattle.net_reader.specs.declared.reader.Stop.TheVariants.{NoMemory};
+
+    ghost from_gives = { λ _ e. e ≡ NoMemory };
+
+    fn from(_: polis_base::NoMemory) -> Stop {
+        Stop::NoMemory
+    }
+}
+
+// A token with its bytes.
+#[derive(Clone, Copy)]
+pub(crate) struct Piece<'a> {
+    kind: Kind,
+    bytes: &'a [u8],
+    at: u64,
+}
+
+#[derive(Drop)]
+pub(crate) struct Reader<'a> {
+    alloc: Global,
+    text: &'a [u8],
+    tokens: &'a Tokens,
+    count: u64,
+    at: u64,
+}
+
+impl<'a> Model for Reader<'a> {
+    ghost use Rattle.std.specs.Prelude.{List, drop};
+    ghost use Rattle.net_reader.specs.Lexemes.{Lexeme, lexemes};
+    ghost use Rattle.net_reader.specs.Pieces.{StandsAt};
+
+    ghost Value = { List Lexeme };
+
+    ghost view = { λ r. drop r.at (lexemes r.text.now r.tokens.now) };
+
+    ghost invariant = { λ r. StandsAt r.text.now r.tokens.now r.count r.at };
+}
+
+// A token of a text with its bytes.
+fn piece_of(text: &[u8], token: Token) -> Piece
+    requires { IsToken text.now token }
+    ensures { seen result ≡ lexeme text.now token }
+{
+    let start = token.at as usize;
+    Piece {
+        kind: token.kind,
+        bytes: &text[start..start + token.len as usize],
+        at: token.at,
+    }
+}
+
+fn word_of(piece: &Piece) -> Option<Word>
+    requires { piece.now.kind ≡ Kind.Name → is_name piece.now.bytes.now ≡ true }
+    ensures { result ≡ word_of (seen piece.now) }
+{
+    if piece.kind != Kind::Name {
+        return None;
+    }
+    let name = Name::new(piece.bytes)?;
+    Some(Word { name, at: piece.at })
+}
+
+fn num_of(piece: &Piece) -> Option<Num>
+    ensures { result ≡ num_of (seen piece.now) }
+{
+    match piece.kind {
+        Kind::Number(number) => Some(Num {
+            number,
+            at: piece.at,
+        }),
+        _ => None,
+    }
+}
+
+fn value_of(piece: &Piece) -> Option<RawValue>
+    requires { piece.now.kind ≡ Kind.Name → is_name piece.now.bytes.now ≡ true }
+    ensures { result ≡ value_of (seen piece.now) }
+{
+    match piece.kind {
+        Kind::Number(number) => Some(RawValue::Number(Num {
+            number,
+            at: piece.at,
+        })),
+        _ => Some(RawValue::Name(word_of(piece)?)),
+    }
+}
+
+fn same(a: Kind, b: Kind) -> bool
+    ensures there { IsTrue result → a ≡ b }
+    ensures back { a ≡ b → IsTrue result }
+{
+    a == b
+}
+
+fn is_kind(wanted: Kind, kind: Kind) -> bool
+    requires { is_fixed wanted ≡ true }
+    ensures { result ≡ is wanted (class_of kind) }
+{
+    same(kind, wanted)
+}
+
+impl<'a> Reader<'a> {
+    pub(crate) fn new(alloc: Global, text: &'a [u8], tokens: &'a Tokens) -> Self
+        requires { All (IsToken text.now) tokens.now }
+        ensures { result ≡ lexemes text.now tokens.now }
+    {
+        Reader {
+            alloc,
+            text,
+            tokens,
+            count: tokens.count(),
+            at: 0,
+        }
+    }
+
+    pub(crate) fn alloc(&self) -> Global {
+        self.alloc
+    }
+
+    // The next token.
+    fn peek(&self) -> Option<Piece<'a>>
+        ensures seen { option_map seen result ≡ head_of self.now }
+        ensures name { IfSome result (λ piece. piece.kind ≡ Kind.Name → is_name piece.bytes.now ≡ true) }
+    {
+        if self.at >= self.count {
+            return None;
+        }
+        Some(piece_of(self.text, self.tokens.token(self.at)))
+    }
+
+    // Goes behind the next token.
+    fn skip(&mut self)
+        requires { 0 < length self.old }
+        ensures { self.new ≡ drop 1 self.old }
+    {
+        self.at += 1;
+    }
+
+    // The place of the next token, or the end where there is none.
+    pub(crate) fn place(&self, end: u64) -> u64
+        ensures { result ≡ place_of end self.now }
+    {
+        match self.peek() {
+            Some(piece) => piece.at,
+            None => end,
+        }
+    }
+
+    // The next token is of this kind.
+    pub(crate) fn sees(&self, kind: Kind) -> bool
+        requires { is_fixed kind ≡ true }
+        ensures { result ≡ begins (is kind) self.now }
+    {
+        match self.peek() {
+            Some(piece) => is_kind(kind, piece.kind),
+            None => false,
+        }
+    }
+
+    // Reads a token of this kind.
+    pub(crate) fn expect(&mut self, kind: Kind) -> Result<(), Stop>
+        requires { is_fixed kind ≡ true }
+        ensures { Gives result self.new (only kind self.old) }
+    {
+        if !self.sees(kind) {
+            return Err(Stop::Fault);
+        }
+        self.skip();
+        Ok(())
+    }
+
+    // Reads a keyword.
+    pub(crate) fn keyword(&mut self, keyword: Keyword) -> Result<(), Stop>
+        ensures { Gives result self.new (only (Kind.Keyword keyword) self.old) }
+    {
+        self.expect(Kind::Keyword(keyword))
+    }
+
+    // Reads a sign.
+    pub(crate) fn sign(&mut self, sign: Sign) -> Result<(), Stop>
+        ensures { Gives result self.new (only (Kind.Sign sign) self.old) }
+    {
+        self.expect(Kind::Sign(sign))
+    }
+
+    // The name that comes next, if one does.
+    fn next_word(&self) -> Option<Word>
+        ensures { result ≡ front word_of self.now }
+    {
+        match self.peek() {
+            Some(piece) => word_of(&piece),
+            None => None,
+        }
+    }
+
+    // The number that comes next, if one does.
+    fn next_num(&self) -> Option<Num>
+        ensures { result ≡ front num_of self.now }
+    {
+        match self.peek() {
+            Some(piece) => num_of(&piece),
+            None => None,
+        }
+    }
+
+    // The value that comes next, if one does.
+    fn next_value(&self) -> Option<RawValue>
+        ensures { result ≡ front value_of self.now }
+    {
+        match self.peek() {
+            Some(piece) => value_of(&piece),
+            None => None,
+        }
+    }
+
+    // Reads a name.
+    pub(crate) fn word(&mut self) -> Result<Word, Stop>
+        ensures { Gives result self.new (word_at self.old) }
+    {
+        match self.next_word() {
+            Some(word) => {
+                self.skip();
+                Ok(word)
+            }
+            None => Err(Stop::Fault),
+        }
+    }
+
+    // Reads a number.
+    pub(crate) fn num(&mut self) -> Result<Num, Stop>
+        ensures { Gives result self.new (num_at self.old) }
+    {
+        match self.next_num() {
+            Some(num) => {
+                self.skip();
+                Ok(num)
+            }
+            None => Err(Stop::Fault),
+        }
+    }
+
+    // Reads a name or a number.
+    pub(crate) fn value(&mut self) -> Result<RawValue, Stop>
+        ensures { Gives result self.new (value_at self.old) }
+    {
+        match self.next_value() {
+            Some(value) => {
+                self.skip();
+                Ok(value)
+            }
+            None => Err(Stop::Fault),
+        }
+    }
+
+    // Nothing is left.
+    pub(crate) fn end(&mut self) -> Result<(), Stop>
+        ensures { Gives result self.new (end_at self.old) }
+    {
+        match self.peek() {
+            Some(_) => Err(Stop::Fault),
+            None => Ok(()),
+        }
+    }
+}

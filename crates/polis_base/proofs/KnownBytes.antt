@@ -1,0 +1,32 @@
+-- Bytes that a reader has left and that a writer holds, over several reads and writes.
+use Rattle.std.proofs.Common.{◌≡◌, ℕ, ◌<◌, List, ◌++◌, length, Option, Some, None, IfSome, sym, ◌∙◌, ap, arith, rules}
+use Rattle.std.proofs.lemmas.List.{append_assoc, length-append, append-nil}
+use Rattle.std.specs.Io.KnownBytes.{Consumes, IsAtEnd, Appends, Keeps}
+
+pub consumed_more : (a b c : Option (List ℕ)) (xs ys : List ℕ) → Consumes a b xs → Consumes b c ys → Consumes a c (xs ++ ys)
+consumed_more None b c xs ys first second = search rules
+consumed_more (Some rs) None c xs ys first second = absurd first
+consumed_more (Some rs) (Some bs) None xs ys first second = absurd second
+consumed_more (Some rs) (Some bs) (Some cs) xs ys first second = first ∙ ap (λ zs. xs ++ zs) second ∙ sym (append_assoc xs ys cs)
+
+pub consumed_all : (a b : Option (List ℕ)) (xs : List ℕ) → Consumes a b xs → IsAtEnd b → IfSome a (λ all. xs ≡ all)
+consumed_all None b xs consumed end = search rules
+consumed_all (Some rs) None xs consumed end = absurd consumed
+consumed_all (Some rs) (Some bs) xs consumed end = sym (consumed ∙ ap (λ zs. xs ++ zs) end ∙ append-nil xs)
+
+pub consumed_over : (a b : Option (List ℕ)) (xs : List ℕ) (max : ℕ) → Consumes a b xs → max < length xs → IfSome a (λ all. max < length all)
+consumed_over None b xs max consumed over = search rules
+consumed_over (Some rs) None xs max consumed over = absurd consumed
+consumed_over (Some rs) (Some bs) xs max consumed over = omega (arith, ap length consumed, length-append xs bs)
+
+pub appended_more : (a b c : Option (List ℕ)) (xs ys : List ℕ) → Appends a b xs → Appends b c ys → Appends a c (xs ++ ys)
+appended_more None b c xs ys first second = search rules
+appended_more (Some rs) None c xs ys first second = absurd first
+appended_more (Some rs) (Some bs) None xs ys first second = absurd second
+appended_more (Some rs) (Some bs) (Some cs) xs ys first second = second ∙ ap (λ zs. zs ++ ys) first ∙ append_assoc rs xs ys
+
+pub appended_kept : (a b c : Option (List ℕ)) (xs : List ℕ) → Appends a b xs → Keeps b c → Appends a c xs
+appended_kept None b c xs first kept = search rules
+appended_kept (Some rs) None c xs first kept = absurd first
+appended_kept (Some rs) (Some bs) None xs first kept = absurd kept
+appended_kept (Some rs) (Some bs) (Some cs) xs first kept = kept ∙ first

@@ -1,0 +1,16 @@
+// The scheduler with static priorities: the order of machines, what is picked next, and the run that follows the picks.
+#![tactic(auto)]
+
+mod machines;
+mod next;
+mod order;
+mod run;
+
+pub use machines::Plan;
+pub use net_core::Pick;
+pub use next::pick;
+pub use order::plan;
+pub use run::{Finished, complete};
+
+#[cfg(test)]
+mod tests;

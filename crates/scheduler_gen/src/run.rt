@@ -1,0 +1,177 @@
+// Running a network on a trace.
+ghost use Rattle.std.specs.Prelude.{◌≡◌, ◌<◌, ◌≤◌, ◌⊎◌, ◌↔◌, ◌+◌, [], ◌∷◌, ◌++◌, length, true, false, Ok, IfOk, OnOk, OnErr, IsTrue};
+ghost use Rattle.polis_base.specs.Lists.{Begins};
+ghost use Rattle.net_core.specs.Journals.{FitsNetwork, IsTrace};
+ghost use Rattle.net_core.specs.Legality.{Legal, MayFollow, Complete};
+ghost use Rattle.net_core.specs.Moments.{Moment};
+ghost use Rattle.net_core.specs.Schedules.{IsPicked, Follows, IsSchedule, pick as picked};
+ghost use Rattle.net_core.specs.declared.entry.Pick.{Pick};
+ghost use Rattle.scheduler_gen.specs.Plans.{IsPlanOf};
+ghost use Rattle.scheduler_gen.specs.Runs.{IsNext, GoesOn, Ends};
+
+use crate::machines::Plan;
+use crate::next::pick;
+use domains::first_codes;
+use net_core::{Admit, Config, Entry, Journal, Pick, Trace, laws};
+use polis_base::NoMemory;
+use std::alloc::Global;
+use transition_table::{Reactor, Snapshot};
+
+/// A journal, and whether it is complete.
+#[derive(Drop)]
+pub struct Finished {
+    pub journal: Journal,
+    pub complete: bool,
+}
+
+// Takes an entry that may follow.
+fn take(config: &mut Config<'_>, entry: &Entry) -> Result<(), NoMemory>
+    requires fits { FitsNetwork config.old.net entry.now }
+    requires follows { MayFollow config.old.net config.old.trace config.old.journal entry.now }
+    ensures ok { OnOk result (config.new ≡ record config.old { journal = config.old.journal ++ entry.now ∷ [] }) }
+{
+    match config.append(entry) {
+        Admit::Yes => Ok(()),
+        Admit::No(_) => unreachable!(),
+        Admit::NoMemory => Err(NoMemory),
+    }
+}
+
+// Takes a legal journal from its first entry on.
+fn take_all(config: &mut Config<'_>, journal: &Journal) -> Result<(), NoMemory>
+    requires start { config.old.journal ≡ [] }
+    requires legal { Legal config.old.net config.old.trace journal.now }
+    ensures ok { OnOk result (config.new ≡ record config.old { journal = journal.now }) }
+{
+    laws();
+    for i in 0..journal.len() {
+        take(config, journal.get(i))?;
+    }
+    Ok(())
+}
+
+// Takes what is picked.
+fn take_picked(config: &mut Config<'_>, entry: &Entry) -> Result<(), NoMemory>
+    requires { IsPicked config.old.net config.old.journal (picked config.old.net config.old.trace config.old.journal) entry.now }
+    ensures ok { OnOk result (IsNext config.old config.new) }
+{
+    laws();
+    let _trace = config.trace();
+    let _journal = config.journal();
+    take(config, entry)
+}
+
+// Takes the reaction of a machine to its snapshot.
+fn react<R: Reactor>(alloc: Global, r: &R, config: &mut Config<'_>, m: u32) -> Result<(), NoMemory>
+    requires network { R.meaning r.now ≡ config.old.net }
+    requires machine { m < length config.old.net.machines }
+    requires picked { picked config.old.net config.old.trace config.old.journal ≡ Pick.React m }
+    ensures ok { OnOk result (IsNext config.old config.new) }
+{
+    laws();
+    let net = r.network();
+    let _journal = config.journal();
+    let mut snapshot = Snapshot {
+        codes: first_codes(alloc, &net.machines.get(m as u64).vars)?,
+    };
+    config.snapshot(m, &mut snapshot);
+    let mut outcome = net.blank(alloc, m)?;
+    r.react(m, &snapshot, &mut outcome);
+    let entry = Entry::Rea {
+        machine: m,
+        snapshot,
+        outcome,
+    };
+    take_picked(config, &entry)
+}
+
+// Takes what is picked, if anything is.
+fn advance<R: Reactor>(
+    alloc: Global,
+    plan: &Plan,
+    r: &R,
+    config: &mut Config<'_>,
+) -> Result<bool, NoMemory>
+    requires network { R.meaning r.now ≡ config.old.net }
+    requires plan { IsPlanOf config.old.net plan.now }
+    ensures next { result ≡ Ok true → IsNext config.old config.new }
+    ensures stop { result ≡ Ok false → picked config.old.net config.old.trace config.old.journal ≡ Pick.Stop }
+    ensures same { result ≡ Ok false → config.new ≡ config.old }
+{
+    match pick(plan, config) {
+        Pick::Deliver {
+            from,
+            to,
+            event,
+            code,
+        } => {
+            let entry = Entry::Dep {
+                from,
+                to,
+                event,
+                code,
+            };
+            take_picked(config, &entry)?;
+            Ok(true)
+        }
+        Pick::React { machine } => {
+            react(alloc, r, config, machine)?;
+            Ok(true)
+        }
+        Pick::Stop => Ok(false),
+    }
+}
+
+// Takes what is picked up to so many times, until nothing is picked.
+fn run<R: Reactor>(
+    alloc: Global,
+    plan: &Plan,
+    r: &R,
+    config: &mut Config<'_>,
+    count: u64,
+) -> Result<(), NoMemory>
+    requires network { R.meaning r.now ≡ config.old.net }
+    requires plan { IsPlanOf config.old.net plan.now }
+    ensures goes_on { OnOk result (GoesOn config.old config.new count) }
+    ensures ends { OnOk result (Ends config.old config.new count) }
+{
+    laws();
+    for _ in 0..count {
+        if !advance(alloc, plan, r, config)? {
+            return Ok(());
+        }
+    }
+    Ok(())
+}
+
+/// Carries a legal journal on: each further entry is what `pick` gives behind those before it, up to the limit of
+/// entries or until nothing is picked. The entries of the journal are taken as they are: their reactions aren't made again.
+pub fn complete<R: Reactor>(
+    alloc: Global,
+    plan: &Plan,
+    r: &R,
+    trace: &Trace,
+    from: Journal,
+    limit: u64,
+) -> Result<Finished, NoMemory>
+    requires trace { IsTrace (R.meaning r.now) trace.now }
+    requires plan { IsPlanOf (R.meaning r.now) plan.now }
+    requires legal { Legal (R.meaning r.now) trace.now from }
+    requires few { length from ≤ limit }
+    ensures begins { IfOk result (λ f. Begins from f.journal) }
+    ensures follows { IfOk result (λ f. Follows (R.meaning r.now) trace.now f.journal (length from)) }
+    ensures legal { IfOk result (λ f. Legal (R.meaning r.now) trace.now f.journal) }
+    ensures within { IfOk result (λ f. length f.journal ≤ limit) }
+    ensures ends { IfOk result (λ f. (picked (R.meaning r.now) trace.now f.journal ≡ Pick.Stop) ⊎ (length f.journal ≡ limit)) }
+    ensures complete { IfOk result (λ f. IsTrue f.complete ↔ Complete (R.meaning r.now) trace.now f.journal) }
+    ensures schedule { from ≡ [] → IfOk result (λ f. IsSchedule (R.meaning r.now) trace.now limit f.journal) }
+{
+    let mut config = Config::start(alloc, r.network(), trace)?;
+    take_all(&mut config, &from)?;
+    run(alloc, plan, r, &mut config, limit - from.len())?;
+    let complete = config.is_complete();
+    Ok(Finished {
+        journal: config.into_journal(),
+        complete,
+    })
+}

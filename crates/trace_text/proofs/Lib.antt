@@ -1,0 +1,5 @@
+pub mod Cuts
+pub mod Finds
+pub mod Items
+pub mod Lines
+pub mod Sizes

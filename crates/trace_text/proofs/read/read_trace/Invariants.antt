@@ -1,0 +1,16 @@
+use Rattle.std.proofs.Common.{◌≤◌, ◌+◌, length, Ok}
+use Rattle.net_core.specs.Journals.{IsTrace}
+use Rattle.trace_text.proofs.Lines.{IsReadUpTo}
+use Rattle.trace_text.proofs.read.read_trace.Given as goal
+
+-- the lines before the rest are read, and say the items of the trace
+abbrev pub invariant-loop-rest : goal.invariant-loop-rest
+invariant-loop-rest l = record {
+  same : IsReadUpTo l.net l.text l.line (Ok l.trace) l.rest;
+  fits : IsTrace l.net l.trace;
+  few : length l.trace ≤ 10000;
+  short : l.line + length l.rest ≤ length l.text;
+}
+
+abbrev pub decreases-loop-rest : goal.decreases-loop-rest
+decreases-loop-rest l = length l.rest

@@ -1,0 +1,93 @@
+-- What a trace text says: its items, or the first line at fault.
+use Rattle.std.specs.Prelude.{ℕ, ◌+◌, cond, Bool, false, ◌&&◌, nat_lt, List, [], ◌∷◌, ◌++◌, length, fold, slice_get, Option, Some, None, option_map, unwrap_or, Result, Ok, Err, codes, IsTrue, ⊤}
+use Rattle.std.specs.List.{find, enumerate_from}
+use Rattle.polis_base.specs.Lists.{upto}
+use Rattle.domains.specs.Names.{is_same}
+use Rattle.domains.specs.Domains.{size_of, word_of}
+use Rattle.domains.specs.declared.domain.Domain.{Domain}
+use Rattle.transition_table.specs.declared.decl.Party.TheVariants.{Env}
+use Rattle.transition_table.specs.declared.decl.EventDecl.{EventDecl}
+use Rattle.transition_table.specs.declared.network.Network.{Network}
+use Rattle.net_core.specs.declared.entry.TraceItem.{TraceItem}
+use Rattle.net_core.specs.declared.entry.TraceItem.TheVariants.{Event as EventItem, Settle}
+use Rattle.net_core.specs.Journals.{same_party, is_trace_item}
+use Rattle.trace_text.specs.Pieces.{lines_of, without_comment, words_of}
+use Rattle.trace_text.specs.declared.fault.TraceKind.{TraceKind}
+use Rattle.trace_text.specs.declared.fault.TraceKind.TheVariants.{Shape, Event, Value, Many}
+use Rattle.trace_text.specs.declared.fault.TraceFault.{TraceFault}
+use Rattle.trace_text.specs.declared.fault.TraceFault.TheVariants.{Line}
+
+-- the environment sends an event of this name
+abbrev pub is_sent : List ℕ → EventDecl → Bool
+is_sent word event = is_same event.name word && same_party event.sender Env
+
+-- the event of this number is one of this name that the environment sends
+abbrev pub is_sent_event : Network → List ℕ → ℕ → Bool
+is_sent_event net word e = unwrap_or (option_map (is_sent word) (slice_get net.events e)) false
+
+-- the number of the event of this name that the environment sends
+abbrev pub env_event : Network → List ℕ → Option ℕ
+env_event net word = find (is_sent_event net word) (upto (length net.events))
+
+-- the value of a domain that has this word
+abbrev pub value_named : List ℕ → Domain → Option ℕ
+value_named word domain = find (λ v. is_same (word_of domain v) word) (upto (size_of domain))
+
+abbrev pub joined : Option (Option ℕ) → Option ℕ
+joined None = None
+joined (Some found) = found
+
+-- the code of a pure event without a word, which is 1, or of an event with a domain and the word of its value v, which is 1 + v
+abbrev pub code_of : Network → Option ℕ → Option (List ℕ) → Option ℕ
+code_of net None None = Some 1
+code_of net None (Some word) = None
+code_of net (Some d) None = None
+code_of net (Some d) (Some word) = option_map (λ v. 1 + v) (joined (option_map (value_named word) (slice_get net.domains d)))
+
+-- the domain of an event, where it has one
+abbrev pub domain_of : Network → ℕ → Option ℕ
+domain_of net e = joined (option_map (λ event. event.domain) (slice_get net.events e))
+
+-- the item of an event with its code
+abbrev pub coded : ℕ → Option ℕ → Result (Option TraceItem) TraceKind
+coded e None = Err Value
+coded e (Some code) = Ok (Some (EventItem e code))
+
+-- the item of an event with the word behind its name
+abbrev pub event_item : Network → Option ℕ → Option (List ℕ) → Result (Option TraceItem) TraceKind
+event_item net None word = Err Event
+event_item net (Some e) word = coded e (code_of net (domain_of net e) word)
+
+abbrev pub is_settle : List ℕ → Bool
+is_settle word = is_same word (codes "settle")
+
+-- the item that the words of a line are, none where there is no word, or the first kind of fault
+abbrev pub item_of_words : Network → List (List ℕ) → Result (Option TraceItem) TraceKind
+item_of_words net [] = Ok None
+item_of_words net (word ∷ []) = cond (is_settle word) (Ok (Some Settle)) (event_item net (env_event net word) None)
+item_of_words net (word ∷ value ∷ []) = cond (is_settle word) (Err Shape) (event_item net (env_event net word) (Some value))
+item_of_words net (word ∷ value ∷ more ∷ words) = Err Shape
+
+abbrev pub item_of_line : Network → List ℕ → Result (Option TraceItem) TraceKind
+item_of_line net line = item_of_words net (words_of (without_comment line))
+
+-- an item that a line is fits the network
+abbrev pub AddsItem : Network → Result (Option TraceItem) TraceKind → Type 0
+AddsItem net (Err kind) = ⊤
+AddsItem net (Ok None) = ⊤
+AddsItem net (Ok (Some item)) = IsTrue (is_trace_item net item)
+
+-- what a line of this number adds to the items before it: an item where there are fewer than 10,000, or a fault
+abbrev pub added : List TraceItem → ℕ → Result (Option TraceItem) TraceKind → Result (List TraceItem) TraceFault
+added items line (Err kind) = Err (Line line kind)
+added items line (Ok None) = Ok items
+added items line (Ok (Some item)) = cond (nat_lt (length items) 10000) (Ok (items ++ item ∷ [])) (Err (Line line Many))
+
+-- one more line with its number behind those that were read; the first fault stays
+abbrev pub with_line : Network → Result (List TraceItem) TraceFault → ℕ × List ℕ → Result (List TraceItem) TraceFault
+with_line net (Err fault) (line, text) = Err fault
+with_line net (Ok items) (line, text) = added items line (item_of_line net text)
+
+-- the items of a text, or the first line at fault, where lines are numbered from 1
+abbrev pub trace_of : Network → List ℕ → Result (List TraceItem) TraceFault
+trace_of net text = fold (with_line net) (Ok []) (enumerate_from 1 (lines_of text))

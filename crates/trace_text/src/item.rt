@@ -1,0 +1,107 @@
+// The item of one line.
+ghost use Rattle.std.specs.Prelude.{◌≡◌, ◌<◌, ◌≤◌, length, option_copied, IfSome, IsTrue};
+ghost use Rattle.domains.specs.Domains.{size_of};
+ghost use Rattle.transition_table.specs.NetworkFacts.{has_domain, values_of};
+ghost use Rattle.trace_text.specs.Traces.{is_sent, is_sent_event, env_event, value_named, code_of, event_item, is_settle, item_of_words, item_of_line, AddsItem};
+
+use crate::cut::{next_word, text_of};
+use crate::fault::TraceKind;
+use domains::{Domain, laws};
+use net_core::TraceItem;
+use transition_table::{EventDecl, Network, Party};
+
+// Whether the environment sends an event of this name.
+fn is_event(event: &EventDecl, word: &[u8]) -> bool
+    ensures { result ≡ is_sent word.now event.now }
+{
+    event.name.bytes() == word && matches!(event.sender, Party::Env)
+}
+
+// The number of the event of this name that the environment sends.
+fn event_named(net: &Network, word: &[u8]) -> Option<u32>
+    ensures event { result ≡ env_event net.now word.now }
+    ensures below { IfSome result (λ e. e < length net.now.events) }
+    ensures sent { IfSome result (λ e. IsTrue (is_sent_event net.now word.now e)) }
+{
+    for e in 0..net.events.len() as u32 {
+        if is_event(net.events.get(e as u64), word) {
+            return Some(e);
+        }
+    }
+    None
+}
+
+// The value of a domain that has this word.
+fn value_in(domain: &Domain, word: &[u8]) -> Option<u8>
+    ensures value { result ≡ value_named word.now domain.now }
+    ensures below { IfSome result (λ v. v < size_of domain.now) }
+    ensures few { IfSome result (λ v. v < 32) }
+{
+    laws();
+    let _size = domain.size();
+    domain.value_of(word)
+}
+
+// The code of an event with the word behind its name.
+fn code(net: &Network, event: &EventDecl, word: Option<&[u8]>) -> Option<u8>
+    requires { IsTrue (has_domain net.now.domains event.now) }
+    ensures code { result ≡ code_of net.now event.now.domain (option_copied word.entry) }
+    ensures some { IfSome result (λ c. 1 ≤ c) }
+    ensures few { IfSome result (λ c. c ≤ values_of net.now.domains event.now.domain) }
+{
+    match event.domain {
+        None => match word {
+            None => Some(1),
+            Some(_) => None,
+        },
+        Some(d) => match word {
+            None => None,
+            Some(word) => Some(value_in(net.domains.get(d as u64), word)? + 1),
+        },
+    }
+}
+
+// The item of an event of this name with the word behind it.
+fn item_of_event(
+    net: &Network,
+    name: &[u8],
+    word: Option<&[u8]>,
+) -> Result<Option<TraceItem>, TraceKind>
+    ensures item { result ≡ event_item net.now (env_event net.now name.now) (option_copied word.entry) }
+    ensures fits { AddsItem net.now result }
+{
+    match event_named(net, name) {
+        None => Err(TraceKind::Event),
+        Some(e) => match code(net, net.events.get(e as u64), word) {
+            None => Err(TraceKind::Value),
+            Some(code) => Ok(Some(TraceItem::Event { event: e, code })),
+        },
+    }
+}
+
+fn is_settle_word(word: &[u8]) -> bool
+    ensures { result ≡ is_settle word.now }
+{
+    word == b"settle".as_slice()
+}
+
+/// The item that a line is, if it is one, or the first kind of fault that applies to it.
+pub fn read_line(net: &Network, line: &[u8]) -> Result<Option<TraceItem>, TraceKind>
+    ensures item { result ≡ item_of_line net.now line.now }
+    ensures fits { AddsItem net.now result }
+{
+    let Some((first, rest)) = next_word(text_of(line)) else {
+        return Ok(None);
+    };
+    match next_word(rest) {
+        None if is_settle_word(first) => Ok(Some(TraceItem::Settle)),
+        None => item_of_event(net, first, None),
+        Some((second, rest)) => {
+            if is_settle_word(first) || next_word(rest).is_some() {
+                Err(TraceKind::Shape)
+            } else {
+                item_of_event(net, first, Some(second))
+            }
+        }
+    }
+}

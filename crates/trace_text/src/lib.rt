@@ -1,0 +1,15 @@
+// Trace texts: the items that a text lists, or the first of its lines that is at fault.
+#![tactic(auto)]
+
+mod cut;
+mod fault;
+mod item;
+mod read;
+mod worked;
+
+pub use fault::{TraceFault, TraceKind};
+pub use read::read_trace;
+pub use worked::worked_texts;
+
+#[cfg(test)]
+mod tests;

@@ -1,5 +1,6 @@
 pub mod Grammar
 pub mod Kinds
+pub mod Layout
 pub mod Lexemes
 pub mod Outcomes
 pub mod Pieces

@@ -1,0 +1,6 @@
+use Rattle.std.proofs.Common.{◌≡◌, ◌++◌, flat_map, drop}
+use Rattle.net_reader.proofs.print.print_all.Given as goal
+
+-- what is written, with what is left, is the whole
+abbrev pub invariant-loop-item : goal.invariant-loop-item
+invariant-loop-item g l = l.out ++ flat_map g.T.Print.text (drop l.item-index l.items) ≡ l.fn.out ++ flat_map g.T.Print.text l.fn.items

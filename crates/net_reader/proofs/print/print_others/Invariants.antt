@@ -1,0 +1,7 @@
+use Rattle.std.proofs.Common.{◌≡◌, ◌++◌, drop}
+use Rattle.net_reader.specs.Layout.{others_text}
+use Rattle.net_reader.proofs.print.print_others.Given as goal
+
+-- what is written, with what is left, is the whole
+abbrev pub invariant-loop-item : goal.invariant-loop-item
+invariant-loop-item g l = l.out ++ others_text g.T.Print.text (drop l.item-index l.items) ≡ l.fn.out ++ others_text g.T.Print.text l.fn.items

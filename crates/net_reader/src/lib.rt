@@ -5,6 +5,8 @@ mod law;
 mod lists;
 mod network;
 mod print;
+#[cfg(test)]
+mod printed;
 mod raw;
 mod reader;
 mod rules;

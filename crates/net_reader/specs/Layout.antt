@@ -28,9 +28,12 @@ IsOfSentence net = (ts : List Lexeme) × IsNet net ts
 abbrev pub word_text : Word → List ℕ
 word_text w = w.name
 
+abbrev pub num_text : Num → List ℕ
+num_text n = decimal n.number
+
 abbrev pub value_text : RawValue → List ℕ
-value_text (values.Name w) = w.name
-value_text (values.Number n) = decimal n.number
+value_text (values.Name w) = word_text w
+value_text (values.Number n) = num_text n
 
 -- items behind others, each behind a comma
 abbrev pub others_text : {A : Type 0} → (A → List ℕ) → List A → List ℕ
@@ -43,7 +46,7 @@ listed_text f (a ∷ others) = f a ++ others_text f others
 
 abbrev pub shape_text : RawShape → List ℕ
 shape_text (shapes.Names names) = codes "{ " ++ listed_text word_text names ++ codes " }"
-shape_text (shapes.Range first last) = decimal first.number ++ codes " .. " ++ decimal last.number
+shape_text (shapes.Range first last) = num_text first ++ codes " .. " ++ num_text last
 
 abbrev pub domain_text : RawDomain → List ℕ
 domain_text d = codes "domain " ++ d.name.name ++ codes " = " ++ shape_text d.shape ++ codes "\n"
@@ -86,7 +89,7 @@ outputs_text [] = []
 outputs_text (name ∷ names) = codes "  output " ++ listed_text word_text (name ∷ names) ++ codes "\n"
 
 abbrev pub head_text : RawMachine → List ℕ
-head_text m = codes "machine " ++ m.name.name ++ codes " priority " ++ decimal m.priority.number ++ codes " {\n"
+head_text m = codes "machine " ++ m.name.name ++ codes " priority " ++ num_text m.priority ++ codes " {\n"
 
 abbrev pub ports_text : RawMachine → List ℕ
 ports_text m = codes "  input " ++ listed_text word_text m.inputs ++ codes "\n" ++ outputs_text m.outputs
@@ -95,5 +98,5 @@ abbrev pub machine_text : RawMachine → List ℕ
 machine_text m = head_text m ++ ports_text m ++ flat_map state_text m.states ++ flat_map row_text m.rows ++ codes "}\n"
 
 abbrev pub network_text : RawNet → List ℕ
-network_text n = codes "network " ++ n.name.name ++ codes " version " ++ decimal n.version.number ++ codes "\n"
+network_text n = codes "network " ++ n.name.name ++ codes " version " ++ num_text n.version ++ codes "\n"
     ++ flat_map domain_text n.domains ++ flat_map event_text n.events ++ flat_map machine_text n.machines

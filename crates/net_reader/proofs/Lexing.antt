@@ -84,8 +84,8 @@ reads c w rest kind at ls is l =
     let e : suc n - 1 ≡ n = omega arith in
     let place : at + 1 + n ≡ at + suc n = omega arith in
     let behind : tokens_from (at + 1) (bytes_in (front at ((c ∷ w) ++ rest)) - 1) (w ++ rest) ≡ Ok l.tokens =
-        ap (λ (m : ℕ). tokens_from (at + 1) (m - 1) (w ++ rest)) is.size ∙ ap (λ (m : ℕ). tokens_from (at + 1) m (w ++ rest)) e ∙ passed (at + 1) n (w ++ rest)
-        ∙ ap (λ (i : ℕ). tokens_from i 0 (drop n (w ++ rest))) place ∙ ap (tokens_from (at + suc n) 0) (dropped w rest) ∙ l.read in
+    ap (λ (m : ℕ). tokens_from (at + 1) (m - 1) (w ++ rest)) is.size ∙ ap (λ (m : ℕ). tokens_from (at + 1) m (w ++ rest)) e ∙ passed (at + 1) n (w ++ rest)
+    ∙ ap (λ (i : ℕ). tokens_from i 0 (drop n (w ++ rest))) place ∙ ap (tokens_from (at + suc n) 0) (dropped w rest) ∙ l.read in
     record {
       tokens = token ∷ l.tokens;
       read = is.token (tokens_from (at + 1) (bytes_in (front at ((c ∷ w) ++ rest)) - 1) (w ++ rest)) ∙ ap (λ (r : Result (List Token) LexError). with_token token r) behind;

@@ -7,4 +7,4 @@ pub mod Tokens
 pub mod Whole
 pub mod Lexing
 pub mod Printing
-pub mod Printed
+pub mod Productions

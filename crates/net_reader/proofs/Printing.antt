@@ -196,8 +196,8 @@ listed_made Is alone f formed make [] ts all listed = absurd listed
 listed_made {A = A} Is alone f formed make (a ∷ items) ts all listed =
     let first = make a listed.0 (left_true (formed a) (list_all formed items) all) listed.3 in
     let others = each_made ends (λ a. Sign Comma ⨾ Is a) alone (λ a. codes ", " ++ f a) formed
-            (λ a ts g is. conv (seq comma (make a is.1 g is.4) (λ rest h. refl)) (λ ms x. record { same = x.4.same; alike = x.4.alike; is = (x.0, x.1, x.2, x.3, x.4.is) }))
-            begin items listed.1 (right_true (formed a) _ all) listed.4 in
+    (λ a ts g is. conv (seq comma (make a is.1 g is.4) (λ rest h. refl)) (λ ms x. record { same = x.4.same; alike = x.4.alike; is = (x.0, x.1, x.2, x.3, x.4.is) }))
+    begin items listed.1 (right_true (formed a) _ all) listed.4 in
     conv (seq first others (begin items)) (λ ms x. record { same = x.3.same ∷ x.4.same; alike = (λ i. x.3.alike i ∷ x.4.alike i); is = (x.0, x.1, x.2, x.3.is, x.4.is) })
   where
     begin : (items : List A) (rest : List ℕ) → ends rest ≡ true → ends (flat_map (λ a. codes ", " ++ f a) items ++ rest) ≡ true

@@ -6,8 +6,8 @@ ghost use Rattle.net_reader.specs.Formed.{word_formed, act_formed, typed_formed,
 ghost use Rattle.net_reader.specs.Places.{Declares};
 
 use crate::raw::{
-    Num, RawAct, RawCond, RawDomain, RawEnv, RawEvent, RawMachine, RawNet, RawRow, RawShape, RawState,
-    RawValue, Word,
+    Num, RawAct, RawCond, RawDomain, RawEnv, RawEvent, RawMachine, RawNet, RawRow, RawShape,
+    RawState, RawValue, Word,
 };
 use polis_base::{Bytes, NoMemory};
 use std::alloc::Global;

@@ -1,12 +1,12 @@
 -- What a text whose tokens are known reads as, from a place on.
-use Rattle.std.proofs.Common.{◌≡◌, ℕ, zero, suc, ◌+◌, ◌-◌, ◌<◌, ◌≤◌, Bool, true, false, cond, ◌&&◌, List, [], ◌∷◌, ◌++◌, length, take, drop, map, Result, Ok, Err, refl, sym, ◌∙◌, ap, subst, arith, add-zero}
+use Rattle.std.proofs.Common.{◌≡◌, ℕ, zero, suc, ◌+◌, ◌-◌, Bool, true, false, ◌&&◌, List, [], ◌∷◌, ◌++◌, length, take, drop, Result, Ok, refl, sym, ◌∙◌, ap, subst, arith, add-zero}
 use Rattle.std.specs.List.{list_all}
-use Rattle.std.proofs.lemmas.List.{append_assoc, append-nil, length-append}
+use Rattle.std.proofs.lemmas.List.{append_assoc, length-append}
 use Rattle.polis_base.specs.declared.token.Kind.{Kind}
 use Rattle.polis_base.specs.declared.token.Token.{Token}
 use Rattle.polis_base.specs.declared.token.LexError.{LexError}
 use Rattle.polis_base.specs.Tokens.{front, is_blank, bytes_in, with_token, joined, tokens_from}
-use Rattle.net_reader.specs.Lexemes.{Lexeme, lexeme, lexemes}
+use Rattle.net_reader.specs.Lexemes.{Lexeme, lexemes}
 use Rattle.net_reader.specs.Grammar.{Part, ◌⨾◌, Only}
 
 -- from a place on the bytes read as these tokens, whatever stood before

@@ -1,25 +1,24 @@
 -- The tokens of printed names, numbers and lists.
-use Rattle.std.proofs.Common.{◌≡◌, ℕ, zero, suc, ◌+◌, ◌-◌, ◌*◌, ◌^◌, ◌<◌, ◌≤◌, Bool, true, false, not, cond, ◌&&◌, ◌||◌, ◌==◌, nat_le, nat_lt, List, [], ◌∷◌, ◌++◌, length, map, Option, Some, None, get_or, fold, refl, sym, ◌∙◌, ap, subst, arith, rules, add-zero}
+use Rattle.std.proofs.Common.{◌≡◌, ℕ, zero, suc, ◌+◌, ◌-◌, ◌*◌, ◌^◌, ◌<◌, ◌≤◌, Bool, true, false, not, ◌&&◌, ◌==◌, nat_le, nat_lt, List, [], ◌∷◌, ◌++◌, length, map, Option, Some, None, get_or, fold, refl, sym, ◌∙◌, ap, arith, rules, add-zero}
 use Rattle.std.specs.Prelude.{is_some, codes, flat_map, decimal}
 use Rattle.std.specs.List.{list_all, take_while}
 use Rattle.std.proofs.lemmas.Bool.{false≢true}
 use Rattle.std.proofs.lemmas.Bool.Decides.{nat_tests}
-use Rattle.std.proofs.lemmas.List.{append_assoc, append-nil}
 use Rattle.std.proofs.lemmas.List.Sums.{take_while-cons}
 use Rattle.std.proofs.lemmas.Str.Parse.{IsNumeralModel, numerals_by_fold}
 use Rattle.std.proofs.lemmas.Fmt.{digits_decimal, digits_value-decimal, decimal_nonempty, first_decimal, decimal_digit}
 use Rattle.polis_base.specs.Names.{begins_name, continues_name, is_word, is_name, is_keyword}
 use Rattle.polis_base.specs.Keywords.{keyword_of}
-use Rattle.polis_base.specs.Digits.{is_digit, is_plain, number_of}
-use Rattle.polis_base.specs.Tokens.{front, is_blank, bytes_in, with_token, joined, word_front, word_kind, number_front}
+use Rattle.polis_base.specs.Digits.{is_digit, number_of}
+use Rattle.polis_base.specs.Tokens.{is_blank}
 use Rattle.polis_base.specs.declared.token.Keyword.{Keyword as Reserved}
 use Rattle.polis_base.specs.declared.token.Kind.{Kind}
 use Rattle.polis_base.specs.declared.token.Kind.TheVariants as kinds
 use Rattle.polis_base.specs.declared.token.Sign.TheVariants.{Comma}
-use Rattle.net_reader.specs.Lexemes.{Lexeme, word_of, num_of, value_of, word_as, num_as, value_as}
-use Rattle.net_reader.specs.Grammar.{Part, ◌⨾◌, Only, Sign, IsWord, IsNum, IsValue, Each, OneAnd, Listed}
+use Rattle.net_reader.specs.Lexemes.{Lexeme, word_of, value_of, word_as, num_as, value_as}
+use Rattle.net_reader.specs.Grammar.{Part, ◌⨾◌, Sign, IsWord, IsNum, IsValue, Each, Listed}
 use Rattle.net_reader.specs.Formed.{value_formed}
-use Rattle.net_reader.specs.Layout.{value_text, listed_text, others_text}
+use Rattle.net_reader.specs.Layout.{value_text, listed_text}
 use Rattle.net_reader.specs.Places.{word_alone, num_alone, value_alone}
 use Rattle.net_reader.specs.declared.raw.Word.{Word}
 use Rattle.net_reader.specs.declared.raw.Num.{Num}

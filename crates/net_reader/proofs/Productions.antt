@@ -1,18 +1,17 @@
 -- The tokens of a printed network, rule by rule.
-use Rattle.std.proofs.Common.{◌≡◌, ℕ, ◌+◌, Bool, true, false, ◌&&◌, List, [], ◌∷◌, ◌++◌, length, map, Option, Some, None, Ok, refl, sym, ◌∙◌, ap, subst, arith, add-zero}
+use Rattle.std.proofs.Common.{◌≡◌, ℕ, ◌+◌, Bool, true, false, ◌&&◌, List, [], ◌∷◌, ◌++◌, length, map, Option, Some, None, refl, sym, ◌∙◌, ap, subst, add-zero}
 use Rattle.std.specs.Prelude.{codes, flat_map, decimal}
 use Rattle.std.specs.List.{list_all}
 use Rattle.std.proofs.lemmas.List.{append_assoc, append-nil}
 use Rattle.polis_base.specs.declared.token.Keyword.TheVariants.{KwNetwork, KwVersion, KwDomain, KwEvent, KwMachine, KwFrom, KwTo, KwEnv, KwPriority, KwInput, KwOutput, KwState, KwWhen, KwDo, KwEmit, KwAbsent, KwIn, KwNothing}
-use Rattle.polis_base.specs.declared.token.Sign.TheVariants.{Equal, Assign, Colon, Comma, LeftBrace, RightBrace, DotDot}
+use Rattle.polis_base.specs.declared.token.Sign.TheVariants.{Equal, Assign, Colon, LeftBrace, RightBrace, DotDot}
 use Rattle.polis_base.specs.declared.token.Kind.TheVariants as kinds
 use Rattle.net_reader.specs.Lexemes.{Lexeme}
-use Rattle.net_reader.specs.Grammar.{Part, ◌⨾◌, Key, Sign, Nothing, Optional, IsWord, IsNum, IsValue, Each, OneAnd, Listed, IsShape, IsDomain, IsEnv, IsEvent, IsState, IsCond, IsAct, AreActs, IsRow, AreOutputs, IsMachine, IsNet}
+use Rattle.net_reader.specs.Grammar.{Part, ◌⨾◌, Key, Sign, Nothing, Optional, IsWord, IsValue, Each, OneAnd, Listed, IsShape, IsDomain, IsEnv, IsEvent, IsState, IsCond, IsAct, AreActs, IsRow, AreOutputs, IsMachine, IsNet}
 use Rattle.net_reader.specs.Formed.{word_formed, num_formed, value_formed, shape_formed, domain_formed, typed_formed, event_formed, state_formed, cond_formed, act_formed, row_formed, head_formed, ports_formed, machine_formed, net_formed}
-use Rattle.net_reader.specs.Layout.{word_text, value_text, listed_text, shape_text, domain_text, typed_text, env_text, event_text, state_text, cond_text, act_text, acts_text, row_text, outputs_text, head_text, ports_text, machine_text, network_text}
-use Rattle.net_reader.specs.Places.{Declares, word_alone, num_alone, value_alone, shape_alone, domain_alone, typed_alone, event_alone, state_alone, cond_alone, act_alone, row_alone, machine_alone, without_places}
+use Rattle.net_reader.specs.Layout.{word_text, value_text, listed_text, shape_text, domain_text, typed_text, env_text, event_text, state_text, cond_text, act_text, acts_text, row_text, outputs_text, machine_text, network_text}
+use Rattle.net_reader.specs.Places.{Declares, word_alone, value_alone, shape_alone, domain_alone, typed_alone, event_alone, state_alone, cond_alone, act_alone, row_alone, machine_alone, without_places}
 use Rattle.net_reader.specs.declared.raw.Word.{Word}
-use Rattle.net_reader.specs.declared.raw.Num.{Num}
 use Rattle.net_reader.specs.declared.raw.RawValue.{RawValue}
 use Rattle.net_reader.specs.declared.raw.RawShape.{RawShape}
 use Rattle.net_reader.specs.declared.raw.RawShape.TheVariants as shapes

@@ -1,5 +1,5 @@
 -- What is declared with names that are names, and numbers of 32 bits.
-use Rattle.std.specs.Prelude.{Bool, true, ◌&&◌, nat_le, List, Option, Some, None}
+use Rattle.std.specs.Prelude.{Bool, true, ◌&&◌, nat_le, Option, Some, None}
 use Rattle.std.specs.List.{list_all}
 use Rattle.polis_base.specs.Names.{is_name}
 use Rattle.net_reader.specs.declared.raw.Word.{Word}

@@ -1,6 +1,6 @@
 use Rattle.std.proofs.Common.{rules, ◌≡◌, true, List, ℕ, sym, subst}
 use Rattle.std.specs.List.{list_all}
-use Rattle.net_reader.specs.Formed.{word_formed, num_formed, domain_formed, event_formed, machine_formed, net_formed}
+use Rattle.net_reader.specs.Formed.{word_formed, num_formed, domain_formed, event_formed, machine_formed}
 use Rattle.net_reader.specs.Layout.{network_text}
 use Rattle.net_reader.specs.Places.{Declares}
 use Rattle.net_reader.proofs.Productions.{declares, formed_from}

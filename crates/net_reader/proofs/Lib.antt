@@ -5,3 +5,6 @@ pub mod GrammarLaws
 pub mod Steps
 pub mod Tokens
 pub mod Whole
+pub mod Lexing
+pub mod Printing
+pub mod Productions

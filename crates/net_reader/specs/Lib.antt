@@ -1,7 +1,10 @@
+pub mod Formed
 pub mod Grammar
 pub mod Kinds
+pub mod Layout
 pub mod Lexemes
 pub mod Outcomes
 pub mod Pieces
+pub mod Places
 pub mod Reading
 pub mod Sentences

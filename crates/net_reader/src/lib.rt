@@ -4,6 +4,9 @@
 mod law;
 mod lists;
 mod network;
+mod print;
+#[cfg(test)]
+mod printed;
 mod raw;
 mod reader;
 mod rules;
@@ -12,6 +15,7 @@ mod tests;
 
 pub use law::law_of_reading;
 pub use network::{NetFault, read_network};
+pub use print::print_network;
 pub use raw::{
     Num, RawAct, RawActList, RawCond, RawCondList, RawDomain, RawDomainList, RawEnv, RawEvent,
     RawEventList, RawMachine, RawMachineList, RawNet, RawRow, RawRowList, RawShape, RawState,

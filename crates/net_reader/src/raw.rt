@@ -1,11 +1,19 @@
 // What a network text declares, each name, number and value with its byte place in the text.
-use polis_base::{List, Name};
+ghost use Rattle.std.specs.Prelude.{◌≡◌};
+
+use polis_base::{Duplicate, List, Name, NoMemory};
 
 /// A name.
 #[derive(Clone, Copy, Debug)]
 pub struct Word {
     pub name: Name,
     pub at: u64,
+}
+
+impl Duplicate for Word {
+    fn copy(&self) -> Result<Self, NoMemory> {
+        Ok(*self)
+    }
 }
 
 /// A number.
@@ -22,6 +30,12 @@ pub enum RawValue {
     Number(Num),
 }
 
+impl Duplicate for RawValue {
+    fn copy(&self) -> Result<Self, NoMemory> {
+        Ok(*self)
+    }
+}
+
 pub type WordList = List<Word>;
 
 pub type RawValueList = List<RawValue>;
@@ -33,11 +47,32 @@ pub enum RawShape {
     Range { first: Num, last: Num },
 }
 
+impl Duplicate for RawShape {
+    fn copy(&self) -> Result<Self, NoMemory> {
+        match self {
+            RawShape::Names(names) => Ok(RawShape::Names(names.copy()?)),
+            RawShape::Range { first, last } => Ok(RawShape::Range {
+                first: *first,
+                last: *last,
+            }),
+        }
+    }
+}
+
 /// A domain.
 #[derive(Drop)]
 pub struct RawDomain {
     pub name: Word,
     pub shape: RawShape,
+}
+
+impl Duplicate for RawDomain {
+    fn copy(&self) -> Result<Self, NoMemory> {
+        Ok(RawDomain {
+            name: self.name,
+            shape: self.shape.copy()?,
+        })
+    }
 }
 
 pub type RawDomainList = List<RawDomain>;
@@ -58,6 +93,12 @@ pub struct RawEvent {
     pub env: RawEnv,
 }
 
+impl Duplicate for RawEvent {
+    fn copy(&self) -> Result<Self, NoMemory> {
+        Ok(*self)
+    }
+}
+
 pub type RawEventList = List<RawEvent>;
 
 /// A state variable.
@@ -66,6 +107,12 @@ pub struct RawState {
     pub name: Word,
     pub domain: Word,
     pub init: RawValue,
+}
+
+impl Duplicate for RawState {
+    fn copy(&self) -> Result<Self, NoMemory> {
+        Ok(*self)
+    }
 }
 
 pub type RawStateList = List<RawState>;
@@ -79,6 +126,23 @@ pub enum RawCond {
     OneOf { name: Word, values: RawValueList },
 }
 
+impl Duplicate for RawCond {
+    fn copy(&self) -> Result<Self, NoMemory> {
+        match self {
+            RawCond::Present(name) => Ok(RawCond::Present(*name)),
+            RawCond::Absent(name) => Ok(RawCond::Absent(*name)),
+            RawCond::Is { name, value } => Ok(RawCond::Is {
+                name: *name,
+                value: *value,
+            }),
+            RawCond::OneOf { name, values } => Ok(RawCond::OneOf {
+                name: *name,
+                values: values.copy()?,
+            }),
+        }
+    }
+}
+
 pub type RawCondList = List<RawCond>;
 
 /// An action: an event is emitted, with a value where it has a domain, or a variable is set.
@@ -88,6 +152,12 @@ pub enum RawAct {
     Set { name: Word, value: RawValue },
 }
 
+impl Duplicate for RawAct {
+    fn copy(&self) -> Result<Self, NoMemory> {
+        Ok(*self)
+    }
+}
+
 pub type RawActList = List<RawAct>;
 
 /// A row. `do nothing` has no actions.
@@ -95,6 +165,15 @@ pub type RawActList = List<RawAct>;
 pub struct RawRow {
     pub conds: RawCondList,
     pub acts: RawActList,
+}
+
+impl Duplicate for RawRow {
+    fn copy(&self) -> Result<Self, NoMemory> {
+        Ok(RawRow {
+            conds: self.conds.copy()?,
+            acts: self.acts.copy()?,
+        })
+    }
 }
 
 pub type RawRowList = List<RawRow>;
@@ -110,6 +189,19 @@ pub struct RawMachine {
     pub rows: RawRowList,
 }
 
+impl Duplicate for RawMachine {
+    fn copy(&self) -> Result<Self, NoMemory> {
+        Ok(RawMachine {
+            name: self.name,
+            priority: self.priority,
+            inputs: self.inputs.copy()?,
+            outputs: self.outputs.copy()?,
+            states: self.states.copy()?,
+            rows: self.rows.copy()?,
+        })
+    }
+}
+
 pub type RawMachineList = List<RawMachine>;
 
 /// A network.
@@ -120,4 +212,16 @@ pub struct RawNet {
     pub domains: RawDomainList,
     pub events: RawEventList,
     pub machines: RawMachineList,
+}
+
+impl Duplicate for RawNet {
+    fn copy(&self) -> Result<Self, NoMemory> {
+        Ok(RawNet {
+            name: self.name,
+            version: self.version,
+            domains: self.domains.copy()?,
+            events: self.events.copy()?,
+            machines: self.machines.copy()?,
+        })
+    }
 }

@@ -133,6 +133,29 @@ impl Trial {
         None
     }
 
+    // The node that is true where two variables of two values have the same code.
+    fn same(&mut self, a: u32, b: u32) -> NodeId {
+        let mut some = NodeId::constant(false);
+        for code in 0..2u8 {
+            let first = self.is(a, code);
+            let second = self.is(b, code);
+            let both = self.and(first, second);
+            some = self.or(some, both);
+        }
+        some
+    }
+
+    // Of two words of twelve bits: the second is the first, or the first read backwards.
+    fn same_words(&mut self, backwards: bool) -> NodeId {
+        let mut all = NodeId::constant(true);
+        for bit in 0..12u32 {
+            let other = if backwards { 23 - bit } else { 12 + bit };
+            let one = self.same(bit, other);
+            all = self.and(all, one);
+        }
+        all
+    }
+
     // The exclusive or of the first variables.
     fn exclusive_or(&mut self, vars: u32) -> NodeId {
         let mut odd = NodeId::constant(false);
@@ -180,6 +203,64 @@ fn diagrams_have_their_known_sizes(rt: HostRuntime) {
     assert_eq!(rt; exclusive_or_count(alloc, &rising), Some(31));
     let mixed = [7, 2, 15, 0, 9, 4, 11, 13, 1, 6, 3, 14, 5, 12, 8, 10];
     assert_eq!(rt; exclusive_or_count(alloc, &mixed), Some(31));
+}
+
+const RISING_24: [u32; 24] = [
+    0, 1, 2, 3, 4, 5, 6, 7, 8, 9, 10, 11, 12, 13, 14, 15, 16, 17, 18, 19, 20, 21, 22, 23,
+];
+
+// The sizes of two large diagrams and of their conjunction.
+fn word_counts(alloc: Global) -> Option<[Option<u64>; 3]> {
+    let mut trial = Trial::new(alloc, &[2; 24], &RISING_24).ok()?;
+    let forwards = trial.same_words(false);
+    let backwards = trial.same_words(true);
+    let both = trial.and(forwards, backwards);
+    Some([
+        trial.count(forwards),
+        trial.count(backwards),
+        trial.count(both),
+    ])
+}
+
+// Each of the two has a tree of 2^12 - 1 nodes for the first word, and for the second 2^12, 2^11 and so on to 2. Both hold
+// of the 64 palindromes: 63 nodes for a first half, 64 at each bit of a second half and at the first seven bits of the
+// second word, and then 32, 16, 8, 4 and 2.
+#[test]
+fn large_diagrams_have_their_known_sizes(rt: HostRuntime) {
+    let known = [Some(12_285), Some(12_285), Some(957)];
+    assert_eq!(rt; word_counts(rt.alloc()), Some(known));
+}
+
+// A number's nine bits, the same once more, and six zeros.
+fn twice(alloc: Global, number: u32) -> Result<Vec<u8>, NoMemory> {
+    let mut codes = Vec::new(alloc);
+    for _ in 0..2u8 {
+        for bit in 0..9u32 {
+            codes.push(((number >> bit) % 2) as u8)?;
+        }
+    }
+    for _ in 0..6u8 {
+        codes.push(0)?;
+    }
+    Ok(codes)
+}
+
+// The size of the disjunction of a term of 24 literals for each number of nine bits.
+fn disjunction_count(alloc: Global) -> Option<u64> {
+    let mut trial = Trial::new(alloc, &[2; 24], &RISING_24).ok()?;
+    let mut any = NodeId::constant(false);
+    for number in 0..512u32 {
+        let codes = twice(alloc, number).ok()?;
+        let one = trial.term(0, &codes);
+        any = trial.or(any, one);
+    }
+    trial.count(any)
+}
+
+// A tree of 2^9 - 1 nodes for the nine bits, 2^9, 2^8 and so on to 2 for the same once more, and six for the zeros.
+#[test]
+fn many_terms_have_their_known_size(rt: HostRuntime) {
+    assert_eq!(rt; disjunction_count(rt.alloc()), Some(1_539));
 }
 
 fn conjunction_shapes(alloc: Global) -> Option<(Shape, Shape)> {

@@ -11,6 +11,7 @@ pub enum TraceItem {
     Settle,
 }
 
+/// What the environment does, in order.
 pub type Trace = List<TraceItem>;
 
 /// A delivery, or a reaction of a machine. A reaction whose outcome fires is a firing.
@@ -29,6 +30,7 @@ pub enum Entry {
     },
 }
 
+/// What was delivered and how machines reacted, in order. Entries are numbered from 0.
 pub type Journal = List<Entry>;
 
 impl Entry {

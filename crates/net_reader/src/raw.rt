@@ -36,8 +36,10 @@ impl Duplicate for RawValue {
     }
 }
 
+/// Names in order.
 pub type WordList = List<Word>;
 
+/// The values of a condition, in order.
 pub type RawValueList = List<RawValue>;
 
 /// The values of a domain: the names in order, or the numbers from the first to the last.
@@ -75,6 +77,7 @@ impl Duplicate for RawDomain {
     }
 }
 
+/// The domains of a network, in order.
 pub type RawDomainList = List<RawDomain>;
 
 /// Whether an event comes from the environment, goes to it, or goes between machines alone.
@@ -99,6 +102,7 @@ impl Duplicate for RawEvent {
     }
 }
 
+/// The events of a network, in order.
 pub type RawEventList = List<RawEvent>;
 
 /// A state variable.
@@ -115,6 +119,7 @@ impl Duplicate for RawState {
     }
 }
 
+/// The state variables of a machine, in order.
 pub type RawStateList = List<RawState>;
 
 /// A condition: the event is present, it is absent, or the event or variable has this value or one of these.
@@ -143,6 +148,7 @@ impl Duplicate for RawCond {
     }
 }
 
+/// The conditions of a row, in order.
 pub type RawCondList = List<RawCond>;
 
 /// An action: an event is emitted, with a value where it has a domain, or a variable is set.
@@ -158,6 +164,7 @@ impl Duplicate for RawAct {
     }
 }
 
+/// The actions of a row, in order.
 pub type RawActList = List<RawAct>;
 
 /// A row. `do nothing` has no actions.
@@ -176,6 +183,7 @@ impl Duplicate for RawRow {
     }
 }
 
+/// The rows of a machine, in order.
 pub type RawRowList = List<RawRow>;
 
 /// A machine. The outputs are empty where the text has none.
@@ -202,6 +210,7 @@ impl Duplicate for RawMachine {
     }
 }
 
+/// The machines of a network, in order.
 pub type RawMachineList = List<RawMachine>;
 
 /// A network.

@@ -24,7 +24,6 @@ pub enum LexKind {
 }
 
 /// Why the files of a run couldn't be read. A place is a byte's number in the network text.
-
 #[derive(Clone, Copy, Debug, PartialEq, Eq)]
 pub enum Failure {
     /// The host's load failed.

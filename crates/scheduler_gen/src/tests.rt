@@ -9,6 +9,7 @@ ghost use Rattle.scheduler_gen.specs.Agreeing.{do_agree};
 mod admits;
 mod belt;
 mod build;
+mod carried;
 mod networks;
 
 use super::*;

@@ -219,6 +219,7 @@ fn second_of_two(alloc: Global, priority: u8) -> Result<Machine, NoMemory>
 pub fn two(alloc: Global, first: u8, second: u8) -> Result<Network, NoMemory>
     ensures agree { IfOk result (λ net. IsTrue (list_all (λ (m : AMachine). do_agree m.rows) net.machines)) }
     ensures x { IfOk result (λ net. IsTrue (is_trace_item net (Event 0 1))) }
+    ensures brings_x { IfOk result (λ net. FitsNetwork net (Dep Env 1 0 1)) }
 {
     let mut events = EventList::new(alloc);
     events.push(event(alloc, b"x", None, ENV, &[0, 1])?)?;

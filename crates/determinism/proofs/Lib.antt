@@ -1,0 +1,4 @@
+pub mod Bits
+pub mod Masks
+pub mod Overlaps
+pub mod Results

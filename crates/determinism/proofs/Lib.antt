@@ -1,4 +1,5 @@
 pub mod Bits
+pub mod Clash
 pub mod Masks
 pub mod Overlaps
 pub mod Results

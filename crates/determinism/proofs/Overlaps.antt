@@ -21,14 +21,14 @@ both : (a b : Bool) → a ≡ true → b ≡ true → (a && b) ≡ true
 both true b h k = k
 both false b h k = cc
 
-length_fits : (sizes codes : List ℕ) → fits sizes codes ≡ true → length codes ≡ length sizes
+pub length_fits : (sizes codes : List ℕ) → fits sizes codes ≡ true → length codes ≡ length sizes
 length_fits [] [] h = refl
 length_fits (size ∷ sizes) (code ∷ codes) h = ap suc (length_fits sizes codes (and_parts (nat_lt code size) (fits sizes codes) h).1)
 length_fits [] (code ∷ codes) h = cc
 length_fits (size ∷ sizes) [] h = cc
 
 -- codes that fit are below their sizes
-below_size : (sizes codes : List ℕ) (k : ℕ) → fits sizes codes ≡ true → k < length sizes → nat_lt (slice_index codes k) (slice_index sizes k) ≡ true
+pub below_size : (sizes codes : List ℕ) (k : ℕ) → fits sizes codes ≡ true → k < length sizes → nat_lt (slice_index codes k) (slice_index sizes k) ≡ true
 below_size [] codes k h below = absurd (omega arith)
 below_size (size ∷ sizes) [] k h below = cc
 below_size (size ∷ sizes) (code ∷ codes) zero h below = (and_parts (nat_lt code size) (fits sizes codes) h).0

@@ -16,7 +16,7 @@ use Rattle.polis_base.specs.declared.token.LexError.{LexError}
 use Rattle.net_reader.specs.Sentences.{HasNet}
 use Rattle.polis_cli.proofs.Inputs.{no_break}
 use Rattle.polis_cli.specs.Failures.{status_of, lex_error}
-use Rattle.polis_cli.specs.Lines.{Explains, failure_line, IsLineOf, ShowsFront, ShowsFailure}
+use Rattle.polis_cli.specs.Lines.{Explains, failure_line, IsLineOf, ShowsFront, ShowsLine}
 use Rattle.polis_cli.specs.Parts.{FailsWith, no_memory_line}
 
 -- a fact of what was told and what is, from another
@@ -106,7 +106,7 @@ run_there (Some files) words run failure status h one (inl s) =
 
 line_is : (o : Option Files) (words : List (List ℕ)) (run : RunWords) (failure : Failure) → Asks words run → WhereTold o (λ files. Explains files run failure)
     → IsLineOf (status_of failure) words o (failure_line run failure)
-line_is o words run (Unread source) asks h = (run, source, asks, refl)
+line_is o words run (Unread source) asks h = (run, source, asks, refl, h)
 line_is o words run (Absent source) asks h = (run, Absent source, asks, refl, refl, h)
 line_is o words run (TooLong source) asks h = (run, TooLong source, asks, refl, refl, h)
 line_is o words run (Lex kind place) asks h = (run, Lex kind place, asks, refl, refl, h)
@@ -119,20 +119,20 @@ line_is o words run Wanting asks h = refl
 pub failing_line : (o : Option Files) (words : List (List ℕ)) (run : RunWords) (failure : Failure) (status : Status) (rose : Type 0) (a b : Option (List ℕ))
     → Asks words run → WhereTold o (λ files. Explains files run failure)
     → Changes a b (λ old new. (line : List ℕ) × FailsWith run failure status line × ShowsFront line rose old new)
-    → Changes a b (ShowsFailure status words o rose)
+    → Changes a b (ShowsLine status words o rose)
 failing_line o words run failure status rose a b asks h shown = changes_from a b _ _ shows shown
   where
-    shows : (old new : List ℕ) → (line : List ℕ) × FailsWith run failure status line × ShowsFront line rose old new → ShowsFailure status words o rose old new
+    shows : (old new : List ℕ) → (line : List ℕ) × FailsWith run failure status line × ShowsFront line rose old new → ShowsLine status words o rose old new
     shows old new (line, inl (s, l), front) =
-        inl (failure_line run failure, subst (λ (t : Status). IsLineOf t words o (failure_line run failure)) (sym s) (line_is o words run failure asks h), subst (λ (t : List ℕ). ShowsFront t rose old new) l front)
+        (failure_line run failure, subst (λ (t : Status). IsLineOf t words o (failure_line run failure)) (sym s) (line_is o words run failure asks h), subst (λ (t : List ℕ). ShowsFront t rose old new) l front)
     shows old new (line, inr (s, l), front) =
-        inl (codes "no memory", subst (λ (t : Status). IsLineOf t words o (codes "no memory")) (sym s) refl, subst (λ (t : List ℕ). ShowsFront t rose old new) l front)
+        (codes "no memory", subst (λ (t : Status). IsLineOf t words o (codes "no memory")) (sym s) refl, subst (λ (t : List ℕ). ShowsFront t rose old new) l front)
 
 -- that memory was wanting is shown
 pub wanting_line : (o : Option Files) (words : List (List ℕ)) (status : Status) (rose : Type 0) (a b : Option (List ℕ))
-    → status ≡ NoMemory → Changes a b (ShowsFront no_memory_line rose) → Changes a b (ShowsFailure status words o rose)
+    → status ≡ NoMemory → Changes a b (ShowsFront no_memory_line rose) → Changes a b (ShowsLine status words o rose)
 wanting_line o words status rose a b s shown =
-    changes_from a b _ _ (λ old new front. inl (codes "no memory", subst (λ (t : Status). IsLineOf t words o (codes "no memory")) (sym s) refl, front)) shown
+    changes_from a b _ _ (λ old new front. (codes "no memory", subst (λ (t : Status). IsLineOf t words o (codes "no memory")) (sym s) refl, front)) shown
 
 -- words that ask for no run
 pub nothing_asked : (o : Option Files) (words : List (List ℕ)) (P : Files → RunWords → Type 0) → ((run : RunWords) → ¬ Asks words run)

@@ -61,7 +61,7 @@ text_faulty (Some files) run text (Lex kind place) a f = (text, a, f)
 text_faulty (Some files) run text (Syntax place) a f = (text, a, f)
 text_faulty (Some files) run text NotYet a f = (text, a, f)
 text_faulty (Some files) run text NoMemory a f = tt
-text_faulty (Some files) run text (ReadFault source) a f = tt
+text_faulty (Some files) run text (ReadFault source) a f = absurd f
 text_faulty (Some files) run text (Absent source) a f = absurd f
 text_faulty (Some files) run text (TooLong source) a f = absurd f
 text_faulty (Some files) run text (Line line kind) a f = absurd f
@@ -79,7 +79,7 @@ trace_unloaded (Some files) run net failure held absent long one =
       | inr h ↦ elim h as (λ _. Explains files run failure) [
         | inl e ↦ subst (λ (f : Failure). Explains files run f) (sym e) ((net, held), long e)
         | inr h ↦ elim h as (λ _. Explains files run failure) [
-          | inl e ↦ subst (λ (f : Failure). Explains files run f) (sym e) tt
+          | inl e ↦ subst (λ (f : Failure). Explains files run f) (sym e) (net, held)
           | inr e ↦ subst (λ (f : Failure). Explains files run f) (sym e) tt
         ]
       ]

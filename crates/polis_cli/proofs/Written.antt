@@ -14,8 +14,9 @@ use Rattle.polis_cli.specs.declared.write.Texts.{Texts}
 use Rattle.polis_cli.specs.Form.{RunWords, Asks, out_name, journal_name}
 use Rattle.polis_cli.specs.Texts.{journal_text, output_text, summary_text}
 use Rattle.polis_cli.specs.Top.{HoldsNet, HoldsTrace, AreAccepted, IsRunOf, Ends, RanAndWrote, Saving, MadeSome, Stands, files_behind, savings_of, is_end}
-use Rattle.polis_cli.specs.Lines.{IsLineOf, ShowsFront, ShowsFailure}
-use Rattle.polis_cli.specs.Parts.{AreTexts, ShowsTexts, SavesTexts, end_status, texts_savings}
+use Rattle.polis_cli.specs.Lines.{IsLineOf, ShowsFront, ShowsLine}
+use Rattle.polis_cli.specs.Unwritten.{FailsToWrite, LeavesUnwritten}
+use Rattle.polis_cli.specs.Parts.{AreTexts, ShowsTexts, SavesTexts, FailsToWriteTexts, end_status, texts_savings}
 use Rattle.polis_cli.proofs.Ending.{changes_from}
 
 abbrev pub BothHeld : RunWords → Network → List TraceItem → Files → Type 0
@@ -72,12 +73,12 @@ ran a b shown_before shown_now words run net trace texts status rose asks held t
   where
     summary : (old new : List ℕ) → ShowsTexts status texts rose old new → new ≡ old ++ summary_text net t.entries texts.complete 0 0
     summary old new (inl (s, e)) = e ∙ ap (λ x. old ++ x) t.summary_is
-    summary old new (inr (inl h)) = absurd (not_end status end (inl h.0))
-    summary old new (inr (inr (inl h))) = absurd (not_end status end (inl h.0))
-    summary old new (inr (inr (inr h))) = absurd (not_end status end (inr h.0))
+    summary old new (inr (inl fault)) = absurd (not_end status end (inl fault))
+    summary old new (inr (inr h)) = absurd (not_end status end (inr h.0))
 
     whole : (before now : Files) → BothHeld run net trace before → SavesTexts status texts before now → RanAndWrote status words before now shown_before shown_now
-    whole before now h (inr other) = absurd (not_end status end other.0)
+    whole before now h (inr (inl fault)) = absurd (not_end status end (inl fault))
+    whole before now h (inr (inr other)) = absurd (not_end status end (inr other.0))
     whole before now h (inl (s, e)) =
         let out = out_name run in
         let jnl = journal_name run in
@@ -124,15 +125,16 @@ pub accepted_run : (a : Option Files) (words : List (List ℕ)) (P : Type 0) →
 accepted_run None words P p = tt
 accepted_run (Some files) words P p = λ other asks all. p
 
--- what stands where the writing failed
+-- what stands where memory was wanting
 pub stands : (a b : Option Files) (words : List (List ℕ)) (run : RunWords) (net : Network) (trace : List TraceItem) (texts : Texts) (status : Status)
     → Asks words run → WhereTold a (BothHeld run net trace) → AreTexts run net trace texts → Changes a b (SavesTexts status texts)
-    → (status ≡ WriteFault) ⊎ (status ≡ NoMemory) → Changes a b (Stands status words)
-stands a b words run net trace texts status asks held t saved other = some a b held saved
+    → status ≡ NoMemory → Changes a b (Stands words)
+stands a b words run net trace texts status asks held t saved wanting = some a b held saved
   where
-    left : (before now : Files) → BothHeld run net trace before → SavesTexts status texts before now → Stands status words before now
-    left before now h (inl (s, e)) = absurd (not_end status (ap is_end s ∙ written_ends texts.complete) other)
-    left before now h (inr (s, made)) =
+    left : (before now : Files) → BothHeld run net trace before → SavesTexts status texts before now → Stands words before now
+    left before now h (inl (s, e)) = absurd (not_end status (ap is_end s ∙ written_ends texts.complete) (inr wanting))
+    left before now h (inr (inl fault)) = cc
+    left before now h (inr (inr (s, made))) =
         inr (
           run,
           net,
@@ -141,10 +143,10 @@ stands a b words run net trace texts status asks held t saved other = some a b h
           texts.complete,
           asks,
           is_run run before net trace texts h t,
-          subst (λ (savings : List Saving). MadeSome status before savings now) (same_savings run net trace texts t) made,
+          subst (λ (savings : List Saving). MadeSome before savings now) (same_savings run net trace texts t) made,
         )
 
-    some : (a b : Option Files) → WhereTold a (BothHeld run net trace) → Changes a b (SavesTexts status texts) → Changes a b (Stands status words)
+    some : (a b : Option Files) → WhereTold a (BothHeld run net trace) → Changes a b (SavesTexts status texts) → Changes a b (Stands words)
     some None None h s = tt
     some (Some before) (Some now) h s = left before now h s
     some None (Some now) h s = s
@@ -155,27 +157,29 @@ run_told : (a : Option Files) (run : RunWords) (net : Network) (trace : List Tra
 run_told None run net trace texts h t = tt
 run_told (Some files) run net trace texts h t = is_run run files net trace texts h t
 
--- what is shown where the writing failed
-pub failed_line : (a : Option Files) (shown_before shown_now : Option (List ℕ)) (words : List (List ℕ)) (run : RunWords) (net : Network) (trace : List TraceItem) (texts : Texts) (status : Status) (rose : Type 0)
+-- what is left where the writing failed
+pub unwritten : (a b : Option Files) (shown_before shown_now : Option (List ℕ)) (words : List (List ℕ)) (run : RunWords) (net : Network) (trace : List TraceItem) (texts : Texts) (rose : Type 0)
     → Asks words run → WhereTold a (BothHeld run net trace) → AreTexts run net trace texts
-    → Changes shown_before shown_now (ShowsTexts status texts rose) → is_end status ≡ false
-    → Changes shown_before shown_now (ShowsFailure status words a rose)
-failed_line a shown_before shown_now words run net trace texts status rose asks held t shown none = changes_from shown_before shown_now _ _ shows shown
-  where
-    of_file : (name line old new : List ℕ) → status ≡ WriteFault → (name ≡ out_name run) ⊎ (name ≡ journal_name run) → line ≡ codes "write fault " ++ name ++ 10 ∷ []
-        → ShowsFront line rose old new → ShowsFailure status words a rose old new
-    of_file name line old new s which is front =
-        inl (
-          codes "write fault " ++ name,
-          subst (λ (u : Status). IsLineOf u words a (codes "write fault " ++ name)) (sym s) (run, name, asks, which, refl),
-          subst (λ (u : List ℕ). ShowsFront u rose old new) is front,
-        )
+    → FailsToWriteTexts texts rose a b shown_before shown_now
+    → LeavesUnwritten words rose a b shown_before shown_now
+unwritten a b shown_before shown_now words run net trace texts rose asks held t fails = record {
+  run = run;
+  asked = asks;
+  net = net;
+  trace = trace;
+  journal = t.entries;
+  complete = texts.complete;
+  made = run_told a run net trace texts held t;
+  fails = subst (λ (T : Type 0). T) (λ i. FailsToWrite (t.out_name_is i, t.outputs_are i) (t.journal_name_is i, t.journal_is i) (t.out_line_is i) (t.journal_line_is i) (t.summary_is i) rose a b shown_before shown_now) fails;
+}
 
-    shows : (old new : List ℕ) → ShowsTexts status texts rose old new → ShowsFailure status words a rose old new
+-- what is shown where memory was wanting
+pub wanting_shown : (a : Option Files) (shown_before shown_now : Option (List ℕ)) (words : List (List ℕ)) (texts : Texts) (status : Status) (rose : Type 0)
+    → Changes shown_before shown_now (ShowsTexts status texts rose) → is_end status ≡ false → (status ≡ WriteFault → ⊥)
+    → Changes shown_before shown_now (ShowsLine status words a rose)
+wanting_shown a shown_before shown_now words texts status rose shown none no_fault = changes_from shown_before shown_now _ _ shows shown
+  where
+    shows : (old new : List ℕ) → ShowsTexts status texts rose old new → ShowsLine status words a rose old new
     shows old new (inl (s, e)) = let h = ap is_end s ∙ written_ends texts.complete in cc
-    shows old new (inr (inl (s, (line, inl e, front)))) = of_file (out_name run) line old new s (inl refl) (e ∙ t.out_line_is) front
-    shows old new (inr (inl (s, (line, inr e, front)))) = of_file (journal_name run) line old new s (inr refl) (e ∙ t.journal_line_is) front
-    shows old new (inr (inr (inl (s, (k, e))))) =
-        inr (s, (run, net, trace, t.entries, texts.complete, k, asks, run_told a run net trace texts held t, e ∙ ap (λ x. old ++ take k x) t.summary_is))
-    shows old new (inr (inr (inr (s, front)))) =
-        inl (codes "no memory", subst (λ (u : Status). IsLineOf u words a (codes "no memory")) (sym s) refl, front)
+    shows old new (inr (inl fault)) = absurd (no_fault fault)
+    shows old new (inr (inr (s, front))) = (codes "no memory", subst (λ (u : Status). IsLineOf u words a (codes "no memory")) (sym s) refl, front)

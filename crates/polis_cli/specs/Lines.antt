@@ -78,8 +78,8 @@ IsTextFault text (Line line kind) = ⊥
 abbrev pub HoldsFaulty : Files → RunWords → Failure → Type 0
 HoldsFaulty files run failure = (text : List ℕ) × HoldsText files run.net text × IsTextFault text failure
 
--- What the files say where this is why a run is refused. The network text comes first: of the trace nothing is said
--- before it is accepted.
+-- What the files say where this is why reading them failed. The network text comes first: the trace is loaded only where it
+-- is accepted.
 abbrev pub Explains : Files → RunWords → Failure → Type 0
 Explains files run (Absent source) = BehindNet files run source × (bytes_at files (name_of run source) ≡ None)
 Explains files run (TooLong source) = BehindNet files run source × ((text : List ℕ) × (bytes_at files (name_of run source) ≡ Some text) × (text_max < length text))
@@ -89,21 +89,22 @@ Explains files run NotYet = HoldsFaulty files run NotYet
 Explains files run (Line line kind) =
     BehindNet files run Trace × (text : List ℕ) × HoldsText files run.trace text
     × ((net : Network) → HoldsNet files run.net net → trace_of net text ≡ Err (FaultyLine line kind))
-Explains files run (Unread source) = ⊤
+Explains files run (Unread source) = BehindNet files run source
 Explains files run Wanting = ⊤
 
 -- the line is that of the status, and says why
 abbrev pub IsLineOf : Status → List (List ℕ) → Option Files → List ℕ → Type 0
 IsLineOf Usage words before line = line ≡ codes "usage"
-IsLineOf ReadFault words before line = (run : RunWords) × (source : Source) × Asks words run × (line ≡ failure_line run (Unread source))
+IsLineOf ReadFault words before line =
+    (run : RunWords) × (source : Source) × Asks words run × (line ≡ failure_line run (Unread source))
+    × WhereTold before (λ files. Explains files run (Unread source))
 IsLineOf Refused words before line =
     (run : RunWords) × (failure : Failure) × Asks words run × (status_of failure ≡ Refused) × (line ≡ failure_line run failure)
     × WhereTold before (λ files. Explains files run failure)
-IsLineOf WriteFault words before line =
-    (run : RunWords) × (name : List ℕ) × Asks words run × ((name ≡ out_name run) ⊎ (name ≡ journal_name run)) × (line ≡ codes "write fault " ++ name)
 IsLineOf NoMemory words before line = line ≡ codes "no memory"
 IsLineOf Done words before line = ⊥
 IsLineOf Limit words before line = ⊥
+IsLineOf WriteFault words before line = ⊥
 IsLineOf Illegal words before line = ⊥
 IsLineOf Differ words before line = ⊥
 
@@ -114,15 +115,3 @@ ShowsFront text rose old new = (new ≡ old ++ text) ⊎ ((k : ℕ) × (new ≡ 
 -- the line of the status was shown, or a front of it
 abbrev pub ShowsLine : Status → List (List ℕ) → Option Files → Type 0 → List ℕ → List ℕ → Type 0
 ShowsLine status words before rose old new = (line : List ℕ) × IsLineOf status words before line × ShowsFront (line ++ 10 ∷ []) rose old new
-
--- a front of the summary of a run was shown, where its show failed
-abbrev pub ShowsSummaryFront : Status → List (List ℕ) → Option Files → List ℕ → List ℕ → Type 0
-ShowsSummaryFront status words before old new =
-    (status ≡ WriteFault)
-    × ((run : RunWords) × (net : Network) × (trace : List TraceItem) × (journal : List Entry) × (complete : Bool) × (k : ℕ)
-    × Asks words run × WhereTold before (λ files. IsRunOf run files net trace journal complete)
-    × (new ≡ old ++ take k (summary_text net journal complete 0 0)))
-
--- what is shown where no run was written
-abbrev pub ShowsFailure : Status → List (List ℕ) → Option Files → Type 0 → List ℕ → List ℕ → Type 0
-ShowsFailure status words before rose old new = ShowsLine status words before rose old new ⊎ ShowsSummaryFront status words before old new

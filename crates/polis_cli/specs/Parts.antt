@@ -1,5 +1,5 @@
 -- What the parts of a call give.
-use Rattle.std.specs.Prelude.{◌≡◌, ◌⊎◌, ◌↔◌, ℕ, ◌≤◌, Bool, true, false, List, [], ◌∷◌, ◌++◌, length, take, IsTrue, string_bytes, codes, Result, Ok, Err}
+use Rattle.std.specs.Prelude.{◌≡◌, ◌⊎◌, ◌↔◌, ℕ, ◌≤◌, Bool, true, false, List, [], ◌∷◌, ◌++◌, length, take, Option, IsTrue, string_bytes, codes, Result, Ok, Err}
 use Rattle.std.specs.FinMap.{insert}
 use Rattle.polis_base.specs.Host.{Files}
 use Rattle.transition_table.specs.declared.network.Network.{Network}
@@ -12,6 +12,7 @@ use Rattle.polis_cli.specs.Texts.{journal_text, output_text, summary_text}
 use Rattle.polis_cli.specs.Top.{Saving, MadeSome, files_behind}
 use Rattle.polis_cli.specs.Failures.{status_of}
 use Rattle.polis_cli.specs.Lines.{ShowsFront, failure_line}
+use Rattle.polis_cli.specs.Unwritten.{FailsToWrite, fault_line}
 use Rattle.polis_cli.specs.declared.write.Texts.{Texts}
 use Rattle.polis_cli.specs.declared.failure.Failure.{Failure}
 use Rattle.polis_cli.specs.declared.status.Status.{Status}
@@ -34,8 +35,8 @@ pub record AreTexts (run : RunWords) (net : Network) (trace : List TraceItem) (t
   pub summary_is : texts.summary ≡ summary_text net entries texts.complete 0 0
   pub out_name_is : string_bytes texts.out_name ≡ out_name run
   pub journal_name_is : string_bytes texts.journal_name ≡ journal_name run
-  pub out_line_is : texts.out_line ≡ codes "write fault " ++ out_name run ++ 10 ∷ []
-  pub journal_line_is : texts.journal_line ≡ codes "write fault " ++ journal_name run ++ 10 ∷ []
+  pub out_line_is : texts.out_line ≡ fault_line (out_name run)
+  pub journal_line_is : texts.journal_line ≡ fault_line (journal_name run)
 
 -- the savings of these texts, in their order
 abbrev pub texts_savings : Texts → List Saving
@@ -71,16 +72,20 @@ ShowsSummary status summary complete rose old new =
     ⊎ ((status ≡ WriteFault) × ((k : ℕ) × (new ≡ old ++ take k summary)))
     ⊎ ((status ≡ NoMemory) × ShowsFront no_memory_line rose old new)
 
--- what writing the texts shows: the summary, or where a saving or the summary's show failed the line of it or a front of the summary
+-- what writing the texts shows: the summary, or that memory was wanting
 abbrev pub ShowsTexts : Status → Texts → Type 0 → List ℕ → List ℕ → Type 0
 ShowsTexts status texts rose old new =
     ((status ≡ end_status texts.complete) × (new ≡ old ++ texts.summary))
-    ⊎ ((status ≡ WriteFault) × ((line : List ℕ) × ((line ≡ texts.out_line) ⊎ (line ≡ texts.journal_line)) × ShowsFront line rose old new))
-    ⊎ ((status ≡ WriteFault) × ((k : ℕ) × (new ≡ old ++ take k texts.summary)))
+    ⊎ (status ≡ WriteFault)
     ⊎ ((status ≡ NoMemory) × ShowsFront no_memory_line rose old new)
 
--- what writing the texts leaves: all savings, or the first ones
+-- what writing the texts leaves: all savings, or where memory was wanting the first ones
 abbrev pub SavesTexts : Status → Texts → Files → Files → Type 0
 SavesTexts status texts before now =
     ((status ≡ end_status texts.complete) × (now ≡ files_behind before (texts_savings texts)))
-    ⊎ (((status ≡ WriteFault) ⊎ (status ≡ NoMemory)) × MadeSome status before (texts_savings texts) now)
+    ⊎ (status ≡ WriteFault)
+    ⊎ ((status ≡ NoMemory) × MadeSome before (texts_savings texts) now)
+
+-- writing these texts failed
+abbrev pub FailsToWriteTexts : Texts → Type 0 → Option Files → Option Files → Option (List ℕ) → Option (List ℕ) → Type 0
+FailsToWriteTexts texts = FailsToWrite (string_bytes texts.out_name, texts.outputs) (string_bytes texts.journal_name, texts.journal) texts.out_line texts.journal_line texts.summary

@@ -86,23 +86,16 @@ files_behind files savings = fold (λ held saving. insert held saving.0 saving.1
 abbrev pub savings_of : RunWords → Network → List Entry → Bool → List Saving
 savings_of run net journal complete = (out_name run, output_text net journal) ∷ (journal_name run, journal_text net journal complete) ∷ []
 
--- the next saving left its name with a front of its text
-abbrev pub IsTorn : Files → List Saving → Files → Type 0
-IsTorn held [] now = ⊥
-IsTorn held (next ∷ savings) now = (k : ℕ) × (now ≡ insert held next.0 (take k next.1))
+-- behind the first ones of these savings the others weren't made
+abbrev pub MadeSome : Files → List Saving → Files → Type 0
+MadeSome before savings now = (first rest : List Saving) × (savings ≡ first ++ rest) × (now ≡ files_behind before first)
 
--- Behind the first ones of these savings the others weren't made, but for the next one, which a fault may have torn.
-abbrev pub MadeSome : Status → Files → List Saving → Files → Type 0
-MadeSome status before savings now =
-    (first rest : List Saving) × (savings ≡ first ++ rest)
-    × ((now ≡ files_behind before first) ⊎ ((status ≡ WriteFault) × IsTorn (files_behind before first) rest now))
-
--- What stands where a run couldn't be written: the files as they were, or some of the savings of one run, from the first on in order.
-abbrev pub Stands : Status → List (List ℕ) → Files → Files → Type 0
-Stands status words before now =
+-- What stands where memory was wanting: the files as they were, or some of the savings of one run, from the first on in order.
+abbrev pub Stands : List (List ℕ) → Files → Files → Type 0
+Stands words before now =
     (now ≡ before)
     ⊎ ((run : RunWords) × (net : Network) × (trace : List TraceItem) × (journal : List Entry) × (complete : Bool)
-    × Asks words run × IsRunOf run before net trace journal complete × MadeSome status before (savings_of run net journal complete) now)
+    × Asks words run × IsRunOf run before net trace journal complete × MadeSome before (savings_of run net journal complete) now)
 
 -- the status is one of a run that was written
 abbrev pub is_end : Status → Bool

@@ -8,7 +8,9 @@ use trace_text::TraceKind;
 /// One of the two files that a run reads.
 #[derive(Clone, Copy, Debug, PartialEq, Eq)]
 pub enum Source {
+    /// The network text.
     Net,
+    /// The trace text.
     Trace,
 }
 

@@ -19,7 +19,9 @@ use transition_table::Network;
 /// What the declarations of a lamp say, their places aside.
 #[derive(Drop)]
 pub struct Lamp {
+    /// The network's name.
     pub network: Name,
+    /// The name of its one domain.
     pub domain: Name,
     /// The values of the domain.
     pub values: List<Name>,
@@ -27,7 +29,9 @@ pub struct Lamp {
     pub input: Name,
     /// The event to the environment.
     pub output: Name,
+    /// The machine's name.
     pub machine: Name,
+    /// The machine's priority, at most 255 where it is a network.
     pub priority: u32,
     /// The state variable.
     pub state: Name,

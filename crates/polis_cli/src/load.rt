@@ -1,5 +1,5 @@
 // Reading the two files of a run.
-ghost use Rattle.std.specs.Prelude.{◌≡◌, ◌≤◌, ◌<◌, ◌⊎◌, List, ℕ, None, Some, Err, length, IfOk, IfErr, OnOk};
+ghost use Rattle.std.specs.Prelude.{◌≡◌, ◌≢◌, ◌≤◌, ◌<◌, ◌⊎◌, List, ℕ, None, Some, Err, length, IfOk, IfErr, OnOk};
 ghost use Rattle.polis_base.specs.Host.{Rose, WhereTold, bytes_at};
 ghost use Rattle.net_core.specs.Journals.{IsTrace};
 ghost use Rattle.transition_table.specs.Transitions.{AreDeterministic};
@@ -25,7 +25,9 @@ pub const TEXT_MAX: u64 = 4194304;
 /// What the two files of a run say.
 #[derive(Drop)]
 pub struct Inputs {
+    /// The network, each machine of which is deterministic.
     pub net: Network,
+    /// The trace, which fits the network.
     pub trace: Trace,
 }
 
@@ -41,6 +43,7 @@ fn load_text<H: Host>(
     ensures absent { result ≡ Err (Failure.Absent source) → WhereTold (H.files host.old) (λ files. bytes_at files name.now ≡ None) }
     ensures too_long { result ≡ Err (Failure.TooLong source) → WhereTold (H.files host.old) (λ files. (text : List ℕ) × (bytes_at files name.now ≡ Some text) × (text_max < length text)) }
     ensures fault { result ≡ Err (Failure.ReadFault source) → Rose (H.load_faults host.old) (H.load_faults host.new) }
+    ensures no_fault { result ≢ Err (Failure.ReadFault source) → H.load_faults host.new ≡ H.load_faults host.old }
     ensures others { IfErr result (λ failure. (failure ≡ Failure.Absent source) ⊎ (failure ≡ Failure.TooLong source) ⊎ (failure ≡ Failure.ReadFault source) ⊎ (failure ≡ Failure.NoMemory)) }
     ensures files { H.files host.new ≡ H.files host.old }
     ensures shown { H.shown host.new ≡ H.shown host.old }
@@ -83,6 +86,7 @@ fn read_net<H: Host>(alloc: Global, host: &mut H, run: &Run<'_>) -> Result<Netwo
     ensures ok_faults { OnOk result (H.load_faults host.new ≡ H.load_faults host.old) }
     ensures explained { IfErr result (λ failure. WhereTold (H.files host.old) (λ files. Explains files run.now failure)) }
     ensures fault { (source : Source) → result ≡ Err (Failure.ReadFault source) → Rose (H.load_faults host.old) (H.load_faults host.new) }
+    ensures no_fault { ((source : Source) → result ≢ Err (Failure.ReadFault source)) → H.load_faults host.new ≡ H.load_faults host.old }
     ensures files { H.files host.new ≡ H.files host.old }
     ensures shown { H.shown host.new ≡ H.shown host.old }
     ensures write_faults { H.write_faults host.new ≡ H.write_faults host.old }
@@ -104,6 +108,7 @@ pub fn read_inputs<H: Host>(alloc: Global, host: &mut H, run: &Run<'_>) -> Resul
     ensures ok_faults { OnOk result (H.load_faults host.new ≡ H.load_faults host.old) }
     ensures explained { IfErr result (λ failure. WhereTold (H.files host.old) (λ files. Explains files run.now failure)) }
     ensures fault { (source : Source) → result ≡ Err (Failure.ReadFault source) → Rose (H.load_faults host.old) (H.load_faults host.new) }
+    ensures no_fault { ((source : Source) → result ≢ Err (Failure.ReadFault source)) → H.load_faults host.new ≡ H.load_faults host.old }
     ensures files { H.files host.new ≡ H.files host.old }
     ensures shown { H.shown host.new ≡ H.shown host.old }
     ensures write_faults { H.write_faults host.new ≡ H.write_faults host.old }

@@ -25,7 +25,7 @@ use std::{env, io};
 const HELP: &[u8] = b"polis run NET TRACE STEM [--limit N]
     runs the network text NET on the trace text TRACE, saves the output events as
     STEM.out and the journal as STEM.jnl, and shows a summary; N is the most entries
-    of the journal, from 1 to 60000
+    of the journal, from 1 to 60000, and 60000 without the option
 polis --help
     shows these forms
 polis --version

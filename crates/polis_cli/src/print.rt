@@ -269,7 +269,7 @@ fn push_entries(net: &Network, j: &Journal, into: &mut Bytes) -> Result<(), NoMe
     requires { IsJournal net.now j.now }
     ensures { OnOk result (into.new ≡ into.old ++ flat_map (entry_line net.now) j.now) }
 {
-    for entry in j.as_slice() {
+    for entry in j.as_slice().iter() {
         push_entry(net, entry, into)?;
     }
     Ok(())

@@ -312,19 +312,30 @@ fn tells_of_faults(rt: HostRuntime) -> Result<(), Fail> {
     )
 }
 
-#[test]
-fn refuses_long_files(rt: HostRuntime) -> Result<(), Fail> {
-    let mut text = Bytes::new(rt.alloc());
+// The lamp on one press, its network text padded to so many bytes.
+fn run_padded(alloc: Global, len: usize) -> Result<(Status, MemoryHost), NoMemory> {
+    let mut text = Bytes::new(alloc);
     text.push(LAMP.as_bytes())?;
-    for _ in 0..4_194_305 {
+    for _ in LAMP.len()..len {
         text.push(b"\n")?;
     }
-    let mut host = MemoryHost::new(rt.alloc());
+    let mut host = MemoryHost::new(alloc);
     host.put("net", text.as_slice())?;
-    let words = make_words(rt.alloc(), RUN)?;
-    let status = polis(rt.alloc(), &words, &mut host);
+    host.put("trc", b"press\n")?;
+    let words = make_words(alloc, RUN)?;
+    let status = polis(alloc, &words, &mut host);
+    Ok((status, host))
+}
+
+#[test]
+fn refuses_long_files(rt: HostRuntime) -> Result<(), Fail> {
+    let (status, host) = run_padded(rt.alloc(), 4_194_304)?;
+    assert!(rt; status == Status::Done);
+    assert!(rt; is_held(&host, "o.jnl", Some(PRESSED)));
+    let (status, host) = run_padded(rt.alloc(), 4_194_305)?;
     assert!(rt; status == Status::Refused);
     assert!(rt; host.shown() == b"refused net long\n".as_slice());
-    assert!(rt; host.file("o.out").is_none());
+    assert!(rt; is_held(&host, "o.out", None));
+    assert!(rt; is_held(&host, "o.jnl", None));
     Ok(())
 }

@@ -2,8 +2,9 @@
 ghost use Rattle.std.specs.Prelude.{◌≡◌, ◌≢◌, ◌⊎◌, false, IsTrue};
 ghost use Rattle.polis_base.specs.Host.{Rose, WhereTold, Changes};
 ghost use Rattle.polis_cli.specs.Form.{RunWords, Asks, AsksNothing};
-ghost use Rattle.polis_cli.specs.Lines.{ShowsFailure};
+ghost use Rattle.polis_cli.specs.Lines.{ShowsLine};
 ghost use Rattle.polis_cli.specs.Top.{RanAndWrote, AreAccepted, Stands, is_end, is_refusal};
+ghost use Rattle.polis_cli.specs.Unwritten.{LeavesUnwritten};
 
 use crate::form::judge;
 use crate::load::read_inputs;
@@ -26,8 +27,9 @@ pub fn polis<H: Host>(alloc: Global, words: &Words, host: &mut H) -> Status
     ensures usage_only { result ≡ Status.Usage → AsksNothing words.now }
     ensures usage_there { AsksNothing words.now → (result ≡ Status.Usage) ⊎ (result ≡ Status.NoMemory) }
 
-    // A fault only where its count rose in this call.
+    // A fault only where its count rose in this call, and a failed load ends the call.
     ensures read_fault { result ≡ Status.ReadFault → Rose (H.load_faults host.old) (H.load_faults host.new) }
+    ensures no_read_fault { result ≢ Status.ReadFault → result ≢ Status.NoMemory → H.load_faults host.new ≡ H.load_faults host.old }
     ensures write_fault { result ≡ Status.WriteFault → Rose (H.write_faults host.old) (H.write_faults host.new) }
 
     // Refused exactly where a file isn't held, is too long or isn't accepted, but for a failed load and want of memory.
@@ -41,12 +43,15 @@ pub fn polis<H: Host>(alloc: Global, words: &Words, host: &mut H) -> Status
     ensures no_illegal { result ≢ Status.Illegal }
     ensures no_differ { result ≢ Status.Differ }
 
-    // A refusal leaves the files as they were. Where a run couldn't be written, some of its savings stand, from the first on.
+    // A refusal leaves the files as they were. Where memory was wanting some savings of a run may stand, from the first on.
     ensures kept { IsTrue (is_refusal result) → H.files host.new ≡ H.files host.old }
-    ensures stands { (result ≡ Status.WriteFault) ⊎ (result ≡ Status.NoMemory) → Changes (H.files host.old) (H.files host.new) (Stands result words.now) }
+    ensures stands { result ≡ Status.NoMemory → Changes (H.files host.old) (H.files host.new) (Stands words.now) }
 
-    // Any other status shows its line, or a front of it, or where the summary's show failed a front of the summary.
-    ensures line { is_end result ≡ false → Changes (H.shown host.old) (H.shown host.new) (ShowsFailure result words.now (H.files host.old) (Rose (H.write_faults host.old) (H.write_faults host.new))) }
+    // Where writing failed, what was saved before stands, and the line of what failed was shown, or a front of it.
+    ensures unwritten { result ≡ Status.WriteFault → LeavesUnwritten words.now (Rose (H.write_faults host.old) (H.write_faults host.new)) (H.files host.old) (H.files host.new) (H.shown host.old) (H.shown host.new) }
+
+    // Any other status shows its line, or a front of it.
+    ensures line { is_end result ≡ false → result ≢ Status.WriteFault → Changes (H.shown host.old) (H.shown host.new) (ShowsLine result words.now (H.files host.old) (Rose (H.write_faults host.old) (H.write_faults host.new))) }
 {
     let run = match judge(words) {
         Some(run) => run,

@@ -4,7 +4,7 @@ ghost use Rattle.std.specs.FinMap.{insert};
 ghost use Rattle.polis_base.specs.Host.{Rose, Changes};
 ghost use Rattle.polis_cli.specs.Lines.{ShowsFront};
 ghost use Rattle.polis_cli.specs.Top.{is_end};
-ghost use Rattle.polis_cli.specs.Parts.{ShowsTexts, SavesTexts, SavesText, ShowsLineOf, ShowsSummary, end_status};
+ghost use Rattle.polis_cli.specs.Parts.{ShowsTexts, SavesTexts, SavesText, ShowsLineOf, ShowsSummary, FailsToWriteTexts, end_status};
 
 use crate::show::{no_memory, show_line};
 use crate::status::Status;
@@ -14,13 +14,21 @@ use polis_base::{Bytes, Host, Save};
 /// the first is saved.
 #[derive(Drop)]
 pub struct Texts {
+    /// The output events.
     pub outputs: Bytes,
+    /// The journal.
     pub journal: Bytes,
+    /// What is shown behind both savings.
     pub summary: Bytes,
+    /// Whether the journal is complete.
     pub complete: bool,
+    /// The name that the outputs are saved under.
     pub out_name: String,
+    /// The name that the journal is saved under.
     pub journal_name: String,
+    /// What is shown where the outputs can't be saved.
     pub out_line: Bytes,
+    /// What is shown where the journal can't be saved.
     pub journal_line: Bytes,
 }
 
@@ -65,6 +73,7 @@ fn show_summary<H: Host>(host: &mut H, summary: &[u8], complete: bool) -> Status
 pub fn write_texts<H: Host>(host: &mut H, texts: &Texts) -> Status
     ensures saved { Changes (H.files host.old) (H.files host.new) (SavesTexts result texts.now) }
     ensures shown { Changes (H.shown host.old) (H.shown host.new) (ShowsTexts result texts.now (Rose (H.write_faults host.old) (H.write_faults host.new))) }
+    ensures unwritten { result ≡ Status.WriteFault → FailsToWriteTexts texts.now (Rose (H.write_faults host.old) (H.write_faults host.new)) (H.files host.old) (H.files host.new) (H.shown host.old) (H.shown host.new) }
     ensures others { (result ≡ end_status texts.now.complete) ⊎ (result ≡ Status.WriteFault) ⊎ (result ≡ Status.NoMemory) }
     ensures fault { result ≡ Status.WriteFault → Rose (H.write_faults host.old) (H.write_faults host.new) }
     ensures end_faults { IsTrue (is_end result) → H.write_faults host.new ≡ H.write_faults host.old }

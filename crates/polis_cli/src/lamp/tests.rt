@@ -69,70 +69,73 @@ fn numbers_the_values(rt: HostRuntime) -> Result<(), Fail> {
     Ok(())
 }
 
+// What is declared, and a text that declares it.
+const OTHERS: [(&str, &str); 15] = [
+    (
+        "two events of one name",
+        "network n version 1 domain d={a,b}event e from env event e to env machine m priority 1{input e output e state s:d=a when e,s=b do s:=a,emit e}",
+    ),
+    (
+        "an event and the state variable of one name",
+        "network n version 1 domain d={a,b}event e from env event o to env machine m priority 1{input e output o state o:d=a when e,o=b do o:=a,emit o}",
+    ),
+    (
+        "a value twice",
+        "network n version 1 domain d={a,a}event e from env event o to env machine m priority 1{input e output o state s:d=a when e,s=a do s:=a,emit o}",
+    ),
+    (
+        "a value that isn't declared",
+        "network n version 1 domain d={a,b}event e from env event o to env machine m priority 1{input e output o state s:d=c when e,s=b do s:=a,emit o}",
+    ),
+    (
+        "a domain that isn't declared",
+        "network n version 1 domain d={a,b}event e from env event o to env machine m priority 1{input e output o state s:e=a when e,s=b do s:=a,emit o}",
+    ),
+    (
+        "a priority of 256",
+        "network n version 1 domain d={a,b}event e from env event o to env machine m priority 256{input e output o state s:d=a when e,s=b do s:=a,emit o}",
+    ),
+    (
+        "version 2",
+        "network n version 2 domain d={a,b}event e from env event o to env machine m priority 1{input e output o state s:d=a when e,s=b do s:=a,emit o}",
+    ),
+    (
+        "another condition",
+        "network n version 1 domain d={a,b}event e from env event o to env machine m priority 1{input e output o state s:d=a when absent e,s=b do s:=a,emit o}",
+    ),
+    (
+        "a domain of numbers",
+        "network n version 1 domain d=0..1event e from env event o to env machine m priority 1{input e output o state s:d=a when e,s=b do s:=a,emit o}",
+    ),
+    (
+        "a number as the initial value",
+        "network n version 1 domain d={a,b}event e from env event o to env machine m priority 1{input e output o state s:d=0 when e,s=b do s:=a,emit o}",
+    ),
+    (
+        "an event with a domain",
+        "network n version 1 domain d={a,b}event e:d from env event o to env machine m priority 1{input e output o state s:d=a when e,s=b do s:=a,emit o}",
+    ),
+    (
+        "an output that stays inside",
+        "network n version 1 domain d={a,b}event e from env event o machine m priority 1{input e output o state s:d=a when e,s=b do s:=a,emit o}",
+    ),
+    (
+        "a second machine",
+        "network n version 1 domain d={a,b}event e from env event o to env machine m priority 1{input e output o state s:d=a when e,s=b do s:=a,emit o}machine k priority 0{input e}",
+    ),
+    (
+        "a second row",
+        "network n version 1 domain d={a,b}event e from env event o to env machine m priority 1{input e output o state s:d=a when e,s=b do s:=a,emit o when e,s=a do nothing}",
+    ),
+    (
+        "the actions in the other order",
+        "network n version 1 domain d={a,b}event e from env event o to env machine m priority 1{input e output o state s:d=a when e,s=b do emit o,s:=a}",
+    ),
+];
+
 #[test]
 fn refuses_other_declarations(rt: HostRuntime) {
-    for (what, text) in [
-        (
-            "two events of one name",
-            b"network n version 1 domain d={a,b}event e from env event e to env machine m priority 1{input e output e state s:d=a when e,s=b do s:=a,emit e}".as_slice(),
-        ),
-        (
-            "an event and the state variable of one name",
-            b"network n version 1 domain d={a,b}event e from env event o to env machine m priority 1{input e output o state o:d=a when e,o=b do o:=a,emit o}".as_slice(),
-        ),
-        (
-            "a value twice",
-            b"network n version 1 domain d={a,a}event e from env event o to env machine m priority 1{input e output o state s:d=a when e,s=a do s:=a,emit o}".as_slice(),
-        ),
-        (
-            "a value that isn't declared",
-            b"network n version 1 domain d={a,b}event e from env event o to env machine m priority 1{input e output o state s:d=c when e,s=b do s:=a,emit o}".as_slice(),
-        ),
-        (
-            "a domain that isn't declared",
-            b"network n version 1 domain d={a,b}event e from env event o to env machine m priority 1{input e output o state s:e=a when e,s=b do s:=a,emit o}".as_slice(),
-        ),
-        (
-            "a priority of 256",
-            b"network n version 1 domain d={a,b}event e from env event o to env machine m priority 256{input e output o state s:d=a when e,s=b do s:=a,emit o}".as_slice(),
-        ),
-        (
-            "version 2",
-            b"network n version 2 domain d={a,b}event e from env event o to env machine m priority 1{input e output o state s:d=a when e,s=b do s:=a,emit o}".as_slice(),
-        ),
-        (
-            "another condition",
-            b"network n version 1 domain d={a,b}event e from env event o to env machine m priority 1{input e output o state s:d=a when absent e,s=b do s:=a,emit o}".as_slice(),
-        ),
-        (
-            "a domain of numbers",
-            b"network n version 1 domain d=0..1event e from env event o to env machine m priority 1{input e output o state s:d=a when e,s=b do s:=a,emit o}".as_slice(),
-        ),
-        (
-            "a number as the initial value",
-            b"network n version 1 domain d={a,b}event e from env event o to env machine m priority 1{input e output o state s:d=0 when e,s=b do s:=a,emit o}".as_slice(),
-        ),
-        (
-            "an event with a domain",
-            b"network n version 1 domain d={a,b}event e:d from env event o to env machine m priority 1{input e output o state s:d=a when e,s=b do s:=a,emit o}".as_slice(),
-        ),
-        (
-            "an output that stays inside",
-            b"network n version 1 domain d={a,b}event e from env event o machine m priority 1{input e output o state s:d=a when e,s=b do s:=a,emit o}".as_slice(),
-        ),
-        (
-            "a second machine",
-            b"network n version 1 domain d={a,b}event e from env event o to env machine m priority 1{input e output o state s:d=a when e,s=b do s:=a,emit o}machine k priority 0{input e}".as_slice(),
-        ),
-        (
-            "a second row",
-            b"network n version 1 domain d={a,b}event e from env event o to env machine m priority 1{input e output o state s:d=a when e,s=b do s:=a,emit o when e,s=a do nothing}".as_slice(),
-        ),
-        (
-            "the actions in the other order",
-            b"network n version 1 domain d={a,b}event e from env event o to env machine m priority 1{input e output o state s:d=a when e,s=b do emit o,s:=a}".as_slice(),
-        ),
-    ] {
-        assert!(rt; is_refused(rt.alloc(), text), "{what}");
+    for (what, text) in OTHERS {
+        assert!(rt; is_refused(rt.alloc(), text.as_bytes()), "{what}");
     }
 }

@@ -5,8 +5,9 @@ mod build;
 
 use super::*;
 use build::{machine, row};
-use polis_base::NoMemory;
+use polis_base::{Duplicate, NoMemory};
 use std::alloc::Global;
+use std::test::Fail;
 use transition_table::{Act, Cond, Machine, RowList};
 
 // The variable has one of these codes, by bits.
@@ -84,4 +85,17 @@ fn takes_what_is_deterministic(rt: HostRuntime) {
     let alloc = rt.alloc();
     assert_eq!(rt; found(alloc, exclusive(alloc)), Some(None));
     assert_eq!(rt; found(alloc, agreeing(alloc)), Some(None));
+}
+
+#[test]
+fn finds_the_same_in_a_copy(rt: HostRuntime) -> Result<(), Fail> {
+    let alloc = rt.alloc();
+    let machine = clash(alloc)?;
+    let copy = machine.copy()?;
+    assert_eq!(rt; copy.row_count(), machine.row_count());
+    assert_eq!(rt; copy.inputs.len(), machine.inputs.len());
+    assert_eq!(rt; copy.outputs.len(), machine.outputs.len());
+    assert_eq!(rt; found(alloc, Ok(machine)), Some(Some((0, 2, 1, 1))));
+    assert_eq!(rt; found(alloc, Ok(copy)), Some(Some((0, 2, 1, 1))));
+    Ok(())
 }

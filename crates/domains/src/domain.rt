@@ -76,7 +76,9 @@ impl Duplicate for NameList {
 /// The numbers from `first` to `last`, both included, 1 to 32 of them. Value v is the number `first + v`.
 #[derive(Clone, Copy, Debug)]
 pub struct Span {
+    /// The least number.
     pub first: u32,
+    /// The greatest number.
     pub last: u32,
     pub ghost ordered: { first ≤ last },
     pub ghost few: { last - first < 32 },
@@ -117,7 +119,9 @@ impl Span {
 /// The values of an event or of a state variable, numbered from 0.
 #[derive(Drop)]
 pub enum Domain {
+    /// The values are names.
     Names(NameList),
+    /// The values are consecutive numbers.
     Range(Span),
 }
 

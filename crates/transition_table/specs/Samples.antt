@@ -4,10 +4,11 @@ use Rattle.transition_table.specs.declared.row.Cond.{Cond}
 use Rattle.transition_table.specs.declared.row.Act.{Act}
 use Rattle.transition_table.specs.declared.machine.Machine.{Machine}
 
--- a condition on the code of a variable, an action
+-- a condition: the variable has one of these codes, by bits
 abbrev pub has_codes : ℕ → ℕ → Cond
 has_codes var codes = record { var = var; codes = codes }
 
+-- an action: the result gets this code
 abbrev pub gives : ℕ → ℕ → Act
 gives result code = record { result = result; code = code }
 

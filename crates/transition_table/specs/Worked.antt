@@ -5,9 +5,11 @@ use Rattle.transition_table.specs.declared.snapshot.Snapshot.{Snapshot}
 use Rattle.transition_table.specs.declared.snapshot.Outcome.{Outcome}
 use Rattle.transition_table.specs.Transitions.{IsSnapshot, is_enabled, result, blank, Transition}
 
+-- the snapshot of these codes
 abbrev pub reading : List ℕ → Snapshot
 reading codes = record { codes = codes }
 
+-- the outcome that fires with these codes of the state variables and of the outputs
 abbrev pub firing : List ℕ → List ℕ → Outcome
 firing next outs = record { fires = true; next = next; outs = outs }
 

@@ -1,7 +1,6 @@
 // The grammar of network texts, version 1: what a text declares, and back.
 #![tactic(auto)]
 
-mod law;
 mod lists;
 mod network;
 mod print;
@@ -13,7 +12,6 @@ mod rules;
 #[cfg(test)]
 mod tests;
 
-pub use law::law_of_reading;
 pub use network::{NetFault, read_network};
 pub use print::print_network;
 pub use raw::{

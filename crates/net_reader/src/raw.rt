@@ -6,7 +6,9 @@ use polis_base::{Duplicate, List, Name, NoMemory};
 /// A name.
 #[derive(Clone, Copy, Debug)]
 pub struct Word {
+    /// The bytes of the name.
     pub name: Name,
+    /// The byte place of its token in the text, counted from 0.
     pub at: u64,
 }
 
@@ -19,14 +21,18 @@ impl Duplicate for Word {
 /// A number.
 #[derive(Clone, Copy, Debug)]
 pub struct Num {
+    /// The number that the digits are.
     pub number: u32,
+    /// The byte place of its token in the text, counted from 0.
     pub at: u64,
 }
 
 /// A value as it is written.
 #[derive(Clone, Copy, Debug)]
 pub enum RawValue {
+    /// A value by its name.
     Name(Word),
+    /// A value by its number.
     Number(Num),
 }
 
@@ -45,8 +51,15 @@ pub type RawValueList = List<RawValue>;
 /// The values of a domain: the names in order, or the numbers from the first to the last.
 #[derive(Drop)]
 pub enum RawShape {
+    /// `{ a, b }`.
     Names(WordList),
-    Range { first: Num, last: Num },
+    /// `first .. last`.
+    Range {
+        /// The number before `..`.
+        first: Num,
+        /// The number behind `..`, which may be below the first.
+        last: Num,
+    },
 }
 
 impl Duplicate for RawShape {
@@ -64,7 +77,9 @@ impl Duplicate for RawShape {
 /// A domain.
 #[derive(Drop)]
 pub struct RawDomain {
+    /// The name of the domain.
     pub name: Word,
+    /// What stands behind `=`.
     pub shape: RawShape,
 }
 
@@ -83,16 +98,22 @@ pub type RawDomainList = List<RawDomain>;
 /// Whether an event comes from the environment, goes to it, or goes between machines alone.
 #[derive(Clone, Copy, Debug, PartialEq, Eq)]
 pub enum RawEnv {
+    /// Neither is written.
     Between,
+    /// `from env`.
     FromEnv,
+    /// `to env`.
     ToEnv,
 }
 
 /// An event. One without a domain is pure.
 #[derive(Clone, Copy, Debug)]
 pub struct RawEvent {
+    /// The name of the event.
     pub name: Word,
+    /// The name behind `:`, if there is one.
     pub domain: Option<Word>,
+    /// Its side to the environment.
     pub env: RawEnv,
 }
 
@@ -108,8 +129,11 @@ pub type RawEventList = List<RawEvent>;
 /// A state variable.
 #[derive(Clone, Copy, Debug)]
 pub struct RawState {
+    /// The name of the variable.
     pub name: Word,
+    /// The name of its domain.
     pub domain: Word,
+    /// Its value at the start.
     pub init: RawValue,
 }
 
@@ -125,10 +149,24 @@ pub type RawStateList = List<RawState>;
 /// A condition: the event is present, it is absent, or the event or variable has this value or one of these.
 #[derive(Drop)]
 pub enum RawCond {
+    /// `e`: this event is present.
     Present(Word),
+    /// `absent e`: this event is absent.
     Absent(Word),
-    Is { name: Word, value: RawValue },
-    OneOf { name: Word, values: RawValueList },
+    /// `name = value`.
+    Is {
+        /// The name of the event or variable.
+        name: Word,
+        /// The value that it has.
+        value: RawValue,
+    },
+    /// `name in { value, value }`.
+    OneOf {
+        /// The name of the event or variable.
+        name: Word,
+        /// The values of which it has one.
+        values: RawValueList,
+    },
 }
 
 impl Duplicate for RawCond {
@@ -154,8 +192,20 @@ pub type RawCondList = List<RawCond>;
 /// An action: an event is emitted, with a value where it has a domain, or a variable is set.
 #[derive(Clone, Copy, Debug)]
 pub enum RawAct {
-    Emit { name: Word, value: Option<RawValue> },
-    Set { name: Word, value: RawValue },
+    /// `emit name`, or `emit name = value`.
+    Emit {
+        /// The name of the event.
+        name: Word,
+        /// The value behind `=`, if there is one.
+        value: Option<RawValue>,
+    },
+    /// `name := value`.
+    Set {
+        /// The name of the variable.
+        name: Word,
+        /// The value that it gets.
+        value: RawValue,
+    },
 }
 
 impl Duplicate for RawAct {
@@ -170,7 +220,9 @@ pub type RawActList = List<RawAct>;
 /// A row. `do nothing` has no actions.
 #[derive(Drop)]
 pub struct RawRow {
+    /// The conditions behind `when`, of which all are to hold.
     pub conds: RawCondList,
+    /// The actions behind `do`.
     pub acts: RawActList,
 }
 
@@ -189,11 +241,17 @@ pub type RawRowList = List<RawRow>;
 /// A machine. The outputs are empty where the text has none.
 #[derive(Drop)]
 pub struct RawMachine {
+    /// The name of the machine.
     pub name: Word,
+    /// The number behind `priority`.
     pub priority: Num,
+    /// The names of the events that it reads, in order.
     pub inputs: WordList,
+    /// The names of the events that it may emit, in order.
     pub outputs: WordList,
+    /// Its state variables, in order.
     pub states: RawStateList,
+    /// Its rows, in order.
     pub rows: RawRowList,
 }
 
@@ -216,10 +274,15 @@ pub type RawMachineList = List<RawMachine>;
 /// A network.
 #[derive(Drop)]
 pub struct RawNet {
+    /// The name of the network.
     pub name: Word,
+    /// The number behind `version`.
     pub version: Num,
+    /// Its domains, in order.
     pub domains: RawDomainList,
+    /// Its events, in order.
     pub events: RawEventList,
+    /// Its machines, in order.
     pub machines: RawMachineList,
 }
 

@@ -11,6 +11,13 @@ fn breaks_at(alloc: Global, text: &str, place: u64) -> Result<(), Fail> {
     }
 }
 
+fn each_breaks(alloc: Global, cases: &[(&str, u64)]) -> Result<(), Fail> {
+    for (text, place) in cases {
+        breaks_at(alloc, text, *place)?;
+    }
+    Ok(())
+}
+
 fn lexes(alloc: Global, text: &str, fault: LexError) -> Result<(), Fail> {
     match read_network(alloc, text.as_bytes()) {
         Err(NetFault::Lex(found)) if found == fault => Ok(()),
@@ -18,181 +25,153 @@ fn lexes(alloc: Global, text: &str, fault: LexError) -> Result<(), Fail> {
     }
 }
 
+const IN_HEAD: [(&str, u64); 15] = [
+    ("", 0),
+    ("domain", 0),
+    ("network ", 8),
+    ("network version", 8),
+    ("network n ", 10),
+    ("network n 1", 10),
+    ("network n version ", 18),
+    ("network n version x", 18),
+    ("network n version 1 ", 20),
+    ("network n version 1 input", 20),
+    ("network n version 1 ,", 20),
+    ("network n version 1 domain =", 27),
+    ("network n version 1 domain d {", 29),
+    ("network n version 1 domain d = a", 31),
+    ("network n version 1 domain d = { }", 33),
+];
+
 #[test]
 fn places_of_faults_in_head(rt: HostRuntime) -> Result<(), Fail> {
-    let alloc = rt.alloc();
-    breaks_at(alloc, "", 0)?;
-    breaks_at(alloc, "domain", 0)?;
-    breaks_at(alloc, "network ", 8)?;
-    breaks_at(alloc, "network version", 8)?;
-    breaks_at(alloc, "network n ", 10)?;
-    breaks_at(alloc, "network n 1", 10)?;
-    breaks_at(alloc, "network n version ", 18)?;
-    breaks_at(alloc, "network n version x", 18)?;
-    breaks_at(alloc, "network n version 1 ", 20)?;
-    breaks_at(alloc, "network n version 1 input", 20)?;
-    breaks_at(alloc, "network n version 1 ,", 20)?;
-    breaks_at(alloc, "network n version 1 domain =", 27)?;
-    breaks_at(alloc, "network n version 1 domain d {", 29)?;
-    breaks_at(alloc, "network n version 1 domain d = a", 31)?;
-    breaks_at(alloc, "network n version 1 domain d = { }", 33)?;
-    Ok(())
+    each_breaks(rt.alloc(), &IN_HEAD)
 }
+
+const IN_DOMAINS_AND_EVENTS: [(&str, u64); 15] = [
+    ("network n version 1 domain d = { a b }", 35),
+    ("network n version 1 domain d = { a, }", 36),
+    ("network n version 1 domain d = { a, 1", 36),
+    ("network n version 1 domain d = 0 7", 33),
+    ("network n version 1 domain d = 0 .. a", 36),
+    ("network n version 1 domain d = 0 .. 7 ,", 38),
+    ("network n version 1 event from", 26),
+    ("network n version 1 event e : env", 30),
+    ("network n version 1 event e to to", 31),
+    ("network n version 1 event e from to", 33),
+    ("network n version 1 event e to machine", 31),
+    ("network n version 1 event e from env : d", 37),
+    ("network n version 1 event e domain d = 0 .. 1", 28),
+    ("network n version 1 machine priority", 28),
+    ("network n version 1 machine m {", 30),
+];
 
 #[test]
 fn places_of_faults_in_domains_and_events(rt: HostRuntime) -> Result<(), Fail> {
-    let alloc = rt.alloc();
-    breaks_at(alloc, "network n version 1 domain d = { a b }", 35)?;
-    breaks_at(alloc, "network n version 1 domain d = { a, }", 36)?;
-    breaks_at(alloc, "network n version 1 domain d = { a, 1", 36)?;
-    breaks_at(alloc, "network n version 1 domain d = 0 7", 33)?;
-    breaks_at(alloc, "network n version 1 domain d = 0 .. a", 36)?;
-    breaks_at(alloc, "network n version 1 domain d = 0 .. 7 ,", 38)?;
-    breaks_at(alloc, "network n version 1 event from", 26)?;
-    breaks_at(alloc, "network n version 1 event e : env", 30)?;
-    breaks_at(alloc, "network n version 1 event e to to", 31)?;
-    breaks_at(alloc, "network n version 1 event e from to", 33)?;
-    breaks_at(alloc, "network n version 1 event e to machine", 31)?;
-    breaks_at(alloc, "network n version 1 event e from env : d", 37)?;
-    breaks_at(alloc, "network n version 1 event e domain d = 0 .. 1", 28)?;
-    breaks_at(alloc, "network n version 1 machine priority", 28)?;
-    breaks_at(alloc, "network n version 1 machine m {", 30)?;
-    Ok(())
+    each_breaks(rt.alloc(), &IN_DOMAINS_AND_EVENTS)
 }
+
+const IN_MACHINES: [(&str, u64); 15] = [
+    ("network n version 1 machine m priority x", 39),
+    ("network n version 1 machine m priority 0 input", 41),
+    ("network n version 1 machine m priority 0 { }", 43),
+    ("network n version 1 machine m priority 0 { output b", 43),
+    ("network n version 1 machine m priority 0 { input }", 49),
+    ("network n version 1 machine m priority 0 { input a b", 51),
+    (
+        "network n version 1 machine m priority 0 { input a output }",
+        58,
+    ),
+    (
+        "network n version 1 machine m priority 0 { input a input b",
+        51,
+    ),
+    (
+        "network n version 1 machine m priority 0 { input a state s = 0",
+        59,
+    ),
+    (
+        "network n version 1 machine m priority 0 { input a state s : d := 0",
+        63,
+    ),
+    (
+        "network n version 1 machine m priority 0 { input a state s : d = }",
+        65,
+    ),
+    (
+        "network n version 1 machine m priority 0 { input a when do",
+        56,
+    ),
+    (
+        "network n version 1 machine m priority 0 { input a when absent absent",
+        63,
+    ),
+    (
+        "network n version 1 machine m priority 0 { input a when a = {",
+        60,
+    ),
+    (
+        "network n version 1 machine m priority 0 { input a when a in b",
+        61,
+    ),
+];
 
 #[test]
 fn places_of_faults_in_machines(rt: HostRuntime) -> Result<(), Fail> {
-    let alloc = rt.alloc();
-    breaks_at(alloc, "network n version 1 machine m priority x", 39)?;
-    breaks_at(alloc, "network n version 1 machine m priority 0 input", 41)?;
-    breaks_at(alloc, "network n version 1 machine m priority 0 { }", 43)?;
-    breaks_at(
-        alloc,
-        "network n version 1 machine m priority 0 { output b",
-        43,
-    )?;
-    breaks_at(
-        alloc,
-        "network n version 1 machine m priority 0 { input }",
-        49,
-    )?;
-    breaks_at(
-        alloc,
-        "network n version 1 machine m priority 0 { input a b",
-        51,
-    )?;
-    breaks_at(
-        alloc,
-        "network n version 1 machine m priority 0 { input a output }",
-        58,
-    )?;
-    breaks_at(
-        alloc,
-        "network n version 1 machine m priority 0 { input a input b",
-        51,
-    )?;
-    breaks_at(
-        alloc,
-        "network n version 1 machine m priority 0 { input a state s = 0",
-        59,
-    )?;
-    breaks_at(
-        alloc,
-        "network n version 1 machine m priority 0 { input a state s : d := 0",
-        63,
-    )?;
-    breaks_at(
-        alloc,
-        "network n version 1 machine m priority 0 { input a state s : d = }",
-        65,
-    )?;
-    breaks_at(
-        alloc,
-        "network n version 1 machine m priority 0 { input a when do",
-        56,
-    )?;
-    breaks_at(
-        alloc,
-        "network n version 1 machine m priority 0 { input a when absent absent",
-        63,
-    )?;
-    breaks_at(
-        alloc,
-        "network n version 1 machine m priority 0 { input a when a = {",
-        60,
-    )?;
-    breaks_at(
-        alloc,
-        "network n version 1 machine m priority 0 { input a when a in b",
-        61,
-    )?;
-    Ok(())
+    each_breaks(rt.alloc(), &IN_MACHINES)
 }
+
+const IN_ROWS_AND_ENDS: [(&str, u64); 12] = [
+    (
+        "network n version 1 machine m priority 0 { input a when a in { }",
+        63,
+    ),
+    (
+        "network n version 1 machine m priority 0 { input a when a b do",
+        58,
+    ),
+    (
+        "network n version 1 machine m priority 0 { input a when a do }",
+        61,
+    ),
+    (
+        "network n version 1 machine m priority 0 { input a when a do emit nothing",
+        66,
+    ),
+    (
+        "network n version 1 machine m priority 0 { input a when a do emit a := 1",
+        68,
+    ),
+    (
+        "network n version 1 machine m priority 0 { input a when a do s = 1",
+        63,
+    ),
+    (
+        "network n version 1 machine m priority 0 { input a when a do s := value a",
+        66,
+    ),
+    (
+        "network n version 1 machine m priority 0 { input a when a do s := a + 1",
+        68,
+    ),
+    (
+        "network n version 1 machine m priority 0 { input a when a do nothing , emit a",
+        69,
+    ),
+    (
+        "network n version 1 machine m priority 0 { input a when a do nothing state s : d = 0",
+        69,
+    ),
+    (
+        "network n version 1 machine m priority 0 { input a } event e",
+        53,
+    ),
+    ("network n version 1 machine m priority 0 { input a } }", 53),
+];
 
 #[test]
 fn places_of_faults_in_rows_and_ends(rt: HostRuntime) -> Result<(), Fail> {
-    let alloc = rt.alloc();
-    breaks_at(
-        alloc,
-        "network n version 1 machine m priority 0 { input a when a in { }",
-        63,
-    )?;
-    breaks_at(
-        alloc,
-        "network n version 1 machine m priority 0 { input a when a b do",
-        58,
-    )?;
-    breaks_at(
-        alloc,
-        "network n version 1 machine m priority 0 { input a when a do }",
-        61,
-    )?;
-    breaks_at(
-        alloc,
-        "network n version 1 machine m priority 0 { input a when a do emit nothing",
-        66,
-    )?;
-    breaks_at(
-        alloc,
-        "network n version 1 machine m priority 0 { input a when a do emit a := 1",
-        68,
-    )?;
-    breaks_at(
-        alloc,
-        "network n version 1 machine m priority 0 { input a when a do s = 1",
-        63,
-    )?;
-    breaks_at(
-        alloc,
-        "network n version 1 machine m priority 0 { input a when a do s := value a",
-        66,
-    )?;
-    breaks_at(
-        alloc,
-        "network n version 1 machine m priority 0 { input a when a do s := a + 1",
-        68,
-    )?;
-    breaks_at(
-        alloc,
-        "network n version 1 machine m priority 0 { input a when a do nothing , emit a",
-        69,
-    )?;
-    breaks_at(
-        alloc,
-        "network n version 1 machine m priority 0 { input a when a do nothing state s : d = 0",
-        69,
-    )?;
-    breaks_at(
-        alloc,
-        "network n version 1 machine m priority 0 { input a } event e",
-        53,
-    )?;
-    breaks_at(
-        alloc,
-        "network n version 1 machine m priority 0 { input a } }",
-        53,
-    )?;
-    Ok(())
+    each_breaks(rt.alloc(), &IN_ROWS_AND_ENDS)
 }
 
 #[test]

@@ -34,7 +34,7 @@ impl Store {
         requires { IsNode self.now n }
         ensures { IfOk result (λ count. CountsReached self.now n count) }
     {
-        let mut i = self.inner_count();
+        let mut i = (self.node_count() - 2) as usize;
         let mut marks = vec![in self.global(); false; i]?;
         mark(&mut marks, &[n]);
         while i > 0 {

@@ -39,8 +39,8 @@ impl NodeId {
         NodeId { number }
     }
 
-    // The node's number.
-    pub(crate) fn number(self) -> u64
+    /// The node's number. A caller that visits each node once can keep marks by it.
+    pub fn number(self) -> u64
         ensures { result ≡ self }
     {
         self.number

@@ -5,7 +5,7 @@ ghost use Rattle.domains.specs.Tables.{fits};
 ghost use Rattle.decision_diagram.specs.Constants.{constant_node};
 ghost use Rattle.decision_diagram.specs.Operations.{IsResult, AreResults};
 ghost use Rattle.decision_diagram.specs.Orders.{place};
-ghost use Rattle.decision_diagram.specs.Diagrams.{IsNode, inner_at, value_of, shape_of, kids_of, level_of, choice, Keeps, Means, IsNew, IsCanonical};
+ghost use Rattle.decision_diagram.specs.Diagrams.{IsNode, inner_at, value_of, shape_of, kids_of, level_of, choice, Keeps, Means, IsNew, AreReduced, IsCanonical};
 
 use crate::index::{Index, enter, find};
 use crate::node::{Node, NodeId, Shape};
@@ -116,6 +116,7 @@ impl Store {
         requires { length order.now ≡ length vars.now }
         ensures sizes { IfOk result (λ store. store.sizes ≡ vars.now) }
         ensures order { IfOk result (λ store. store.order ≡ order.now) }
+        ensures nodes { IfOk result (λ store. store.nodes ≡ []) }
     {
         let agree = vars.len() == order.len();
         prove!(agree);
@@ -193,11 +194,11 @@ impl Store {
         NodeId::constant(value)
     }
 
-    // How many inner nodes there are.
-    pub(crate) fn inner_count(&self) -> usize
-        ensures { result ≡ length self.now.nodes }
+    /// How many nodes there are: the two constants and the inner nodes. Each node's number is below it.
+    pub fn node_count(&self) -> u64
+        ensures count { result ≡ length self.now.nodes + 2 }
     {
-        self.nodes.len()
+        self.nodes.len() as u64 + 2
     }
 
     // The inner node with a number.
@@ -255,10 +256,13 @@ impl Store {
         self.shape(at) == Shape::True
     }
 
-    /// Two nodes with the same value on all codes that fit the table are the same node. It does nothing: its contract
-    /// is this law, for whoever needs it (Bryant 1986, for variables of several values).
+    /// Two nodes with the same value on all codes that fit the table are the same node, and the diagrams are reduced:
+    /// no inner node has all its children the same, no two have the same variable and children, and each child was made
+    /// before its node and reads only later variables. It does nothing: its contract is these two laws, for whoever needs
+    /// them (Bryant 1986, for variables of several values).
     pub fn same_value_same_node(&self)
-        ensures { IsCanonical self.now }
+        ensures canonical { IsCanonical self.now }
+        ensures reduced { AreReduced self.now }
     {
         let _ = &self.nodes;
     }

@@ -39,7 +39,7 @@ impl Trial {
     fn has(&self, n: NodeId) -> bool
         ensures { IsTrue result → IsNode self.now.store n }
     {
-        n.number() < 2 || n.number() - 2 < self.store.inner_count() as u64
+        n.number() < self.store.node_count()
     }
 
     // The node that is true where a variable has a code.
@@ -296,7 +296,8 @@ fn both_set(store: &mut Store) -> Result<NodeId, NoMemory>
         Ok(second) => second,
         Err(NoMemory) => return Err(NoMemory),
     };
-    match store.node(0, &[NodeId::constant(false), second]) {
+    let never = store.constant(false);
+    match store.node(0, &[never, second]) {
         Ok(both) => Ok(both),
         Err(NoMemory) => Err(NoMemory),
     }
@@ -310,6 +311,7 @@ fn both_values(alloc: Global) -> Result<[bool; 4], NoMemory> {
     let order = Order::new(alloc, &[0, 1])?.ok_or(NoMemory)?.copy()?;
     let mut store = Store::new(alloc, &vars, &order)?;
     let both = both_set(&mut store)?;
+    store.same_value_same_node();
     let mut codes = first_codes(alloc, &vars)?;
     let none = store.value(both, &codes);
     next_codes(&mut codes, &vars);

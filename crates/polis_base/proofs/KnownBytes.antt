@@ -1,6 +1,6 @@
 -- Bytes that a reader has left and that a writer holds, over several reads and writes.
-use Rattle.std.proofs.Common.{◌≡◌, ℕ, ◌<◌, List, ◌++◌, length, Option, Some, None, IfSome, sym, ◌∙◌, ap, arith, rules}
-use Rattle.std.proofs.lemmas.List.{append_assoc, length-append, append-nil}
+use Rattle.std.proofs.Common.{◌≡◌, ℕ, ◌+◌, ◌<◌, ◌≤◌, List, [], ◌++◌, length, take, Option, Some, None, IfSome, refl, sym, ◌∙◌, ap, subst, arith, rules}
+use Rattle.std.proofs.lemmas.List.{append_assoc, length-append, append-nil, take_at}
 use Rattle.std.specs.Io.KnownBytes.{Consumes, IsAtEnd, Appends, Keeps}
 
 pub consumed_more : (a b c : Option (List ℕ)) (xs ys : List ℕ) → Consumes a b xs → Consumes b c ys → Consumes a c (xs ++ ys)
@@ -19,6 +19,9 @@ consumed_over None b xs max consumed over = search rules
 consumed_over (Some rs) None xs max consumed over = absurd consumed
 consumed_over (Some rs) (Some bs) xs max consumed over = omega (arith, ap length consumed, length-append xs bs)
 
+pub consumed_within : (a b c : Option (List ℕ)) (xs ys : List ℕ) (n : ℕ) → Consumes a b xs → Consumes b c ys → length xs + length ys ≤ n → (bs : List ℕ) × Consumes a c bs × (length bs ≤ n)
+consumed_within a b c xs ys n first second within = (xs ++ ys, consumed_more a b c xs ys first second, omega (arith, length-append xs ys))
+
 pub appended_more : (a b c : Option (List ℕ)) (xs ys : List ℕ) → Appends a b xs → Appends b c ys → Appends a c (xs ++ ys)
 appended_more None b c xs ys first second = search rules
 appended_more (Some rs) None c xs ys first second = absurd first
@@ -30,3 +33,14 @@ appended_kept None b c xs first kept = search rules
 appended_kept (Some rs) None c xs first kept = absurd first
 appended_kept (Some rs) (Some bs) None xs first kept = absurd kept
 appended_kept (Some rs) (Some bs) (Some cs) xs first kept = kept ∙ first
+
+pub appended_none : (a b : Option (List ℕ)) → Appends a b [] → Keeps a b
+appended_none None b appended = search rules
+appended_none (Some rs) None appended = absurd appended
+appended_none (Some rs) (Some bs) appended = appended ∙ append-nil rs
+
+-- what was written is a front of the bytes
+pub appended_front : (a b c : Option (List ℕ)) (bytes front rest : List ℕ) → bytes ≡ front ++ rest → Appends a b front → Keeps b c → (k : ℕ) × Appends a c (take k bytes)
+appended_front a b c bytes front rest is appended kept =
+    let e : take (length front) bytes ≡ front = ap (take (length front)) is ∙ take_at front rest (length front) refl in
+    (length front, subst (λ (zs : List ℕ). Appends a c zs) (sym e) (appended_kept a b c front appended kept))

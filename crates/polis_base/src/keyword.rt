@@ -1,12 +1,12 @@
 // The words that are no names.
 ghost use Rattle.std.specs.Prelude.{◌≡◌};
-ghost use Rattle.polis_base.specs.Keywords.{keyword_of as keyword_in_table};
+ghost use Rattle.polis_base.specs.Keywords.{keyword_of as keyword_in_table, heading_keyword as heading_in_table, inner_keyword as inner_in_table};
 
 use crate::token::Keyword;
 
-/// The keyword that a word is, if it is one.
-pub(crate) fn keyword_of(word: &[u8]) -> Option<Keyword>
-    ensures { result ≡ keyword_in_table word.now }
+// The keyword that a word is, if it is one of those that a name or a number of a declaration stands behind.
+fn heading_keyword(word: &[u8]) -> Option<Keyword>
+    ensures { result ≡ heading_in_table word.now }
 {
     if word == b"network".as_slice() {
         return Some(Keyword::KwNetwork);
@@ -23,15 +23,6 @@ pub(crate) fn keyword_of(word: &[u8]) -> Option<Keyword>
     if word == b"machine".as_slice() {
         return Some(Keyword::KwMachine);
     }
-    if word == b"from".as_slice() {
-        return Some(Keyword::KwFrom);
-    }
-    if word == b"to".as_slice() {
-        return Some(Keyword::KwTo);
-    }
-    if word == b"env".as_slice() {
-        return Some(Keyword::KwEnv);
-    }
     if word == b"priority".as_slice() {
         return Some(Keyword::KwPriority);
     }
@@ -43,6 +34,22 @@ pub(crate) fn keyword_of(word: &[u8]) -> Option<Keyword>
     }
     if word == b"state".as_slice() {
         return Some(Keyword::KwState);
+    }
+    None
+}
+
+// The keyword that a word is, if it is one of the others.
+fn inner_keyword(word: &[u8]) -> Option<Keyword>
+    ensures { result ≡ inner_in_table word.now }
+{
+    if word == b"from".as_slice() {
+        return Some(Keyword::KwFrom);
+    }
+    if word == b"to".as_slice() {
+        return Some(Keyword::KwTo);
+    }
+    if word == b"env".as_slice() {
+        return Some(Keyword::KwEnv);
     }
     if word == b"when".as_slice() {
         return Some(Keyword::KwWhen);
@@ -69,4 +76,14 @@ pub(crate) fn keyword_of(word: &[u8]) -> Option<Keyword>
         return Some(Keyword::KwValue);
     }
     None
+}
+
+/// The keyword that a word is, if it is one.
+pub(crate) fn keyword_of(word: &[u8]) -> Option<Keyword>
+    ensures { result ≡ keyword_in_table word.now }
+{
+    match heading_keyword(word) {
+        Some(keyword) => Some(keyword),
+        None => inner_keyword(word),
+    }
 }

@@ -1,6 +1,7 @@
 // The system's files and standard output as a host: the trusted edge.
-ghost use Rattle.std.specs.Prelude.{◌≡◌, ◌≢◌, ◌<◌, ◌≤◌, [], None, length, IfSome};
-ghost use Rattle.std.specs.Io.KnownBytes.{Appends};
+ghost use Rattle.std.specs.Prelude.{◌≡◌, ◌≢◌, ◌↔◌, ℕ, ◌+◌, ◌<◌, ◌≤◌, List, [], None, length, take, IfSome};
+ghost use Rattle.std.specs.IoError.{error_kind};
+ghost use Rattle.std.specs.Io.KnownBytes.{Appends, Consumes, Keeps};
 ghost use Rattle.polis_base.specs.Faults.{no_faults};
 ghost use Rattle.polis_base.specs.Host.{CountsFault, load_failed, save_failed};
 
@@ -71,7 +72,10 @@ impl StdHost {
 
 // What a load answers where a file can't be opened.
 fn unopened(error: &io::Error) -> Load
-    ensures { result ≢ Load.Read }
+    ensures absent { result ≡ Load.Absent ↔ error_kind error.now ≡ ErrorKind.NotFound }
+    ensures no_memory { result ≡ Load.NoMemory ↔ error_kind error.now ≡ ErrorKind.OutOfMemory }
+    ensures unread { result ≢ Load.Read }
+    ensures unmeasured { result ≢ Load.TooLong }
 {
     match error.kind() {
         ErrorKind::NotFound => Load::Absent,
@@ -89,6 +93,7 @@ fn read_whole<R: Read>(reader: &mut R, max: u64, piece: &mut [u8], into: &mut By
     ensures whole { result ≡ Load.Read → IfSome (R.remaining reader.old) (λ bytes. into.new ≡ bytes) }
     ensures long { result ≡ Load.TooLong → IfSome (R.remaining reader.old) (λ bytes. max < length bytes) }
     ensures found { result ≢ Load.Absent }
+    ensures bounded { (bs : List ℕ) × Consumes (R.remaining reader.old) (R.remaining reader.new) bs × (length bs ≤ max + 1) }
 {
     let mut room = max;
     loop {
@@ -114,7 +119,9 @@ fn read_whole<R: Read>(reader: &mut R, max: u64, piece: &mut [u8], into: &mut By
 // Writes all bytes. A write that takes nothing of a piece that isn't empty is a fault. Want of memory is told apart
 // only where nothing was written.
 fn write_whole<W: Write>(writer: &mut W, bytes: &[u8]) -> Save
-    ensures { result ≡ Save.Written → Appends (W.contents writer.old) (W.contents writer.new) bytes.now }
+    ensures written { result ≡ Save.Written → Appends (W.contents writer.old) (W.contents writer.new) bytes.now }
+    ensures kept { result ≡ Save.NoMemory → Keeps (W.contents writer.old) (W.contents writer.new) }
+    ensures front { (k : ℕ) × Appends (W.contents writer.old) (W.contents writer.new) (take k bytes.now) }
 {
     let mut rest = bytes;
     while !rest.is_empty() {

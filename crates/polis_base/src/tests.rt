@@ -103,6 +103,8 @@ fn goes_over_the_systems_files(rt: HostRuntime) -> Result<(), Fail> {
         host.save("polis_base.saved", b"a saved text"),
         Save::Written
     );
+    let saved = fs::read(&rt, "polis_base.saved")?;
+    assert_eq!(rt; saved.as_slice(), b"a saved text".as_slice());
     let mut into = Bytes::new(rt.alloc());
     assert_eq!(rt; host.load("polis_base.saved", 12, &mut into), Load::Read);
     assert_eq!(rt; into.as_slice(), b"a saved text".as_slice());

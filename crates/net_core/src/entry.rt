@@ -11,6 +11,12 @@ pub enum TraceItem {
     Settle,
 }
 
+impl Duplicate for TraceItem {
+    fn copy(&self) -> Result<TraceItem, NoMemory> {
+        Ok(*self)
+    }
+}
+
 /// What the environment does, in order.
 pub type Trace = List<TraceItem>;
 

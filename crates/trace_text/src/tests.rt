@@ -8,7 +8,7 @@ ghost use Rattle.transition_table.specs.MachineFacts.{are_vars, are_results, is_
 use super::*;
 use domains::{Domain, NameList, Names, Span, VarTable};
 use net_core::TraceItem;
-use polis_base::{Bytes, List, Name, NoMemory};
+use polis_base::{Bytes, Duplicate, List, Name, NoMemory};
 use std::alloc::Global;
 use std::test::Fail;
 use transition_table::{
@@ -277,6 +277,15 @@ fn reads_values(rt: HostRuntime) -> Result<(), Fail> {
             Some(fault(1, TraceKind::Value))
         );
     }
+    Ok(())
+}
+
+#[test]
+fn copies_a_trace(rt: HostRuntime) -> Result<(), Fail> {
+    let net = value(rt.alloc())?;
+    let trace = read_trace(rt.alloc(), &net, b"v 3\nsettle\nv 7\n")?;
+    assert_eq!(rt; trace.len(), 3);
+    assert_eq!(rt; trace.copy()?.as_slice(), trace.as_slice());
     Ok(())
 }
 

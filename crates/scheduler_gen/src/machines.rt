@@ -34,11 +34,11 @@ impl Plan {
     }
 
     /// The machine at a place of the order.
-    pub fn get(&self, i: u64) -> u32
+    pub fn get(&self, i: u64) -> &u32
         requires { i < length self.now }
-        ensures { slice_get self.now i ≡ Some result }
+        ensures { slice_get self.now i ≡ Some result.now }
     {
-        *self.machines.get(i)
+        self.machines.get(i)
     }
 }
 

@@ -46,7 +46,7 @@ fn first_to_react(plan: &Plan, config: &Config<'_>) -> Option<u32>
     ensures below { IfSome result (λ m. m < length config.now.net.machines) }
 {
     for i in 0..plan.len() {
-        let machine = plan.get(i);
+        let machine = *plan.get(i);
         if config.woken(machine) {
             return Some(machine);
         }

@@ -16,7 +16,7 @@ use super::*;
 use build::list;
 use domains::Codes;
 use net_core::{Entry, Journal, TraceItem};
-use polis_base::{Bytes, NoMemory};
+use polis_base::{Bytes, Duplicate, NoMemory};
 use std::alloc::Global;
 use std::test::Fail;
 use transition_table::{Network, Party, TableReactor};
@@ -170,6 +170,19 @@ fn goes_by_number(rt: HostRuntime) -> Result<(), Fail> {
     let done = run_on(rt.alloc(), &net, &[item(0, 1)], 60_000)?;
     let want = b"dep env 0 0 1\ndep env 1 0 1\nfire 0 1 > > 1\nfire 1 1 > > 1\ncomplete";
     assert_eq!(rt; text_of(rt.alloc(), &done)?.as_slice(), want.as_slice());
+    Ok(())
+}
+
+#[test]
+fn copies_a_plan(rt: HostRuntime) -> Result<(), Fail> {
+    let net = networks::two(rt.alloc(), 2, 1)?;
+    let plan = plan(rt.alloc(), &net)?;
+    let same = plan.copy()?;
+    assert_eq!(rt; plan.len(), 2);
+    assert_eq!(rt; same.len(), plan.len());
+    for i in 0..same.len() {
+        assert_eq!(rt; *same.get(i), *plan.get(i));
+    }
     Ok(())
 }
 

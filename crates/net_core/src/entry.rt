@@ -4,10 +4,13 @@ ghost use Rattle.std.specs.Prelude.{◌≡◌};
 use polis_base::{Duplicate, List, NoMemory};
 use transition_table::{Outcome, Party, Snapshot};
 
-/// An event of the environment with its code, or the wish to wait until no machine can react.
+/// An event of the environment with its code, or the wish to wait until no machine can react. A code is 1 + v for a
+/// value v of the event, and 1 for a pure event: so it is wherever an event stands with its code.
 #[derive(Clone, Copy, Debug, PartialEq, Eq)]
 pub enum TraceItem {
+    /// The event of this number with its code.
     Event { event: u32, code: u8 },
+    /// Wait until no machine can react.
     Settle,
 }
 
@@ -23,15 +26,24 @@ pub type Trace = List<TraceItem>;
 /// A delivery, or a reaction of a machine. A reaction whose outcome fires is a firing.
 #[derive(Drop)]
 pub enum Entry {
+    /// A delivery of an event from its sender to one of its receivers.
     Dep {
+        /// Who sent the event.
         from: Party,
+        /// The number of the machine that receives it.
         to: u32,
+        /// The number of the event.
         event: u32,
+        /// The code of the event.
         code: u8,
     },
+    /// A reaction of a machine to a snapshot.
     Rea {
+        /// The number of the machine that reacts.
         machine: u32,
+        /// Its places and its state before it reacts.
         snapshot: Snapshot,
+        /// What its transition makes of them.
         outcome: Outcome,
     },
 }
@@ -93,24 +105,36 @@ impl Duplicate for Entry {
 /// What the scheduler does next.
 #[derive(Clone, Copy, Debug, PartialEq, Eq)]
 pub enum Pick {
+    /// The delivery of an event from its sender to one of its receivers.
     Deliver {
+        /// Who sent the event.
         from: Party,
+        /// The number of the machine that receives it.
         to: u32,
+        /// The number of the event.
         event: u32,
+        /// The code of the event.
         code: u8,
     },
+    /// The reaction of a machine.
     React {
+        /// The number of the machine.
         machine: u32,
     },
+    /// Nothing.
     Stop,
 }
 
 /// A delivery that is owed: the event with its code from its sender to one of its receivers.
 #[derive(Clone, Copy, Debug, PartialEq, Eq)]
 pub struct Owed {
+    /// Who sent the event.
     pub from: Party,
+    /// The number of the machine that is to receive it.
     pub to: u32,
+    /// The number of the event.
     pub event: u32,
+    /// The code of the event.
     pub code: u8,
 }
 
@@ -118,7 +142,9 @@ pub struct Owed {
 /// event item before its item, or the start of the trace, and its item.
 #[derive(Clone, Copy, Debug, PartialEq, Eq)]
 pub struct NextEnv {
+    /// The delivery.
     pub owed: Owed,
+    /// Whether no `settle` item holds it back.
     pub ready: bool,
 }
 
@@ -138,7 +164,10 @@ pub enum Why {
 /// Whether an entry was taken.
 #[derive(Clone, Copy, Debug, PartialEq, Eq)]
 pub enum Admit {
+    /// It may follow, and was taken.
     Yes,
+    /// It can't follow, for this cause.
     No(Why),
+    /// Memory was wanting, and nothing has changed.
     NoMemory,
 }

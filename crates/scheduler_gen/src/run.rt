@@ -20,7 +20,9 @@ use transition_table::{Reactor, Snapshot};
 /// A journal, and whether it is complete.
 #[derive(Drop)]
 pub struct Finished {
+    /// The entries in order.
     pub journal: Journal,
+    /// Whether all that was sent is delivered and no machine has a delivery behind its last reaction.
     pub complete: bool,
 }
 

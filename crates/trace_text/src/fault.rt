@@ -17,8 +17,10 @@ pub enum TraceKind {
 /// Why a trace text wasn't read. Lines are numbered from 1.
 #[derive(Clone, Copy, Debug, PartialEq, Eq, Error)]
 pub enum TraceFault {
+    /// The first line at fault, with the first kind that applies to it.
     #[error("Line")]
     Line { line: u64, kind: TraceKind },
+    /// Memory was wanting.
     #[error("NoMemory")]
     NoMemory,
 }

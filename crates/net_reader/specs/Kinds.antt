@@ -37,7 +37,3 @@ class_of (Keyword KwIn) = 26
 class_of (Keyword KwNothing) = 27
 class_of (Keyword KwSettle) = 28
 class_of (Keyword KwValue) = 29
-
--- two kinds have one number
-abbrev pub same_kind : Kind → Kind → Bool
-same_kind a b = class_of a == class_of b

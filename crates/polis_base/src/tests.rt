@@ -75,6 +75,20 @@ fn reads_tokens(rt: HostRuntime) -> Result<(), Fail> {
 }
 
 #[test]
+fn names_the_faults_of_tokens(rt: HostRuntime) -> Result<(), Fail> {
+    let byte = LexError::BadByte(1);
+    let name = LexError::NameTooLong(2);
+    let number = LexError::NumberTooLarge(3);
+    let memory = LexError::NoMemory;
+    let text = format!(in rt.alloc(); "{byte} {name} {number} {memory}")?;
+    assert_eq!(rt;
+        text.as_str(),
+        "BadByte NameTooLong NumberTooLarge NoMemory"
+    );
+    Ok(())
+}
+
+#[test]
 fn fails_where_it_is_told(rt: HostRuntime) -> Result<(), Fail> {
     let mut host = MemoryHost::new(rt.alloc());
     host.put("a", b"one")?;

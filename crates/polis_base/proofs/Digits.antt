@@ -13,22 +13,26 @@ use Rattle.polis_base.specs.Digits.{is_digit, is_plain, number_of}
 abbrev next : ℕ → ℕ → ℕ
 next n c = n * 10 + (c - 48)
 
--- digits behind a number make it no smaller
+-- digits after a number make it no smaller
 grows : (n : ℕ) (cs : List ℕ) → n ≤ fold next n cs
 grows n [] = omega arith
 grows n (c ∷ cs) = omega (arith, grows (next n c) cs)
 
-pub front_least : (k : ℕ) (cs : List ℕ) → number_of (take k cs) ≤ number_of cs
-front_least k cs =
-    let whole : number_of cs ≡ fold next (number_of (take k cs)) (drop k cs) = ap number_of (sym (take-append-drop k cs)) ∙ fold-append next 0 (take k cs) (drop k cs) in
+pub prefix_least : (k : ℕ) (cs : List ℕ) → number_of (take k cs) ≤ number_of cs
+prefix_least k cs =
+    let whole : number_of cs ≡ fold next (number_of (take k cs)) (drop k cs) =
+    ap number_of (sym (take-append-drop k cs))
+    ∙ fold-append next 0 (take k cs) (drop k cs) in
     omega (arith, grows (number_of (take k cs)) (drop k cs))
 
--- a zero in front stands alone
-alone : (c : ℕ) (cs : List ℕ) → (not (c == 48) || length cs == 0) ≡ true → c ≡ 48 → length (c ∷ cs) ≡ 1
+-- a zero at the start stands alone
+alone : (c : ℕ) (cs : List ℕ) → (not (c == 48) || length cs == 0) ≡ true → c ≡ 48
+    → length (c ∷ cs) ≡ 1
 alone c cs plain zero_first = grind (arith, nat_tests)
 
-front_free : (c : ℕ) (cs : List ℕ) → (c ≡ 48 → length (c ∷ cs) ≡ 1) → (not (c == 48) || length cs == 0) ≡ true
-front_free c cs zero_alone = grind (arith, nat_tests)
+zero_free : (c : ℕ) (cs : List ℕ) → (c ≡ 48 → length (c ∷ cs) ≡ 1)
+    → (not (c == 48) || length cs == 0) ≡ true
+zero_free c cs zero_alone = grind (arith, nat_tests)
 
 left_true : (a b : Bool) → (a && b) ≡ true → a ≡ true
 left_true true b h = refl
@@ -42,7 +46,8 @@ own : IsNumeralModel (λ cs. list_all is_digit cs ≡ true) number_of
 own = numerals_by_fold _ (search rules) (fold next) (search rules)
 
 -- plain digits are the text of their number
-pub text_of_number : (cs : List ℕ) → is_plain cs ≡ true → number_of cs < 2 ^ 64 → cs ≡ decimal (number_of cs)
+pub text_of_number : (cs : List ℕ) → is_plain cs ≡ true → number_of cs < 2 ^ 64
+    → cs ≡ decimal (number_of cs)
 text_of_number [] plain fits = absurd (false≢true plain)
 text_of_number (c ∷ cs) plain fits =
     let digits : list_all is_digit (c ∷ cs) ≡ true = left_true _ _ plain in
@@ -52,17 +57,20 @@ first_zero : (n : ℕ) → n < 2 ^ 64 → get_or (decimal n) 0 0 ≡ 48 → leng
 first_zero zero fits first = ap length (decimal_digit 0 (omega arith))
 first_zero (suc n) fits first = absurd (omega (arith, first_decimal (suc n) (omega arith) fits))
 
-plain_from : (cs : List ℕ) → 0 < length cs → list_all is_digit cs ≡ true → (get_or cs 0 0 ≡ 48 → length cs ≡ 1) → is_plain cs ≡ true
+plain_from : (cs : List ℕ) → 0 < length cs → list_all is_digit cs ≡ true
+    → (get_or cs 0 0 ≡ 48 → length cs ≡ 1) → is_plain cs ≡ true
 plain_from [] some digits zero_alone = absurd (omega arith)
-plain_from (c ∷ cs) some digits zero_alone = rw digits (front_free c cs zero_alone)
+plain_from (c ∷ cs) some digits zero_alone = rw digits (zero_free c cs zero_alone)
 
 -- the text of a number is plain digits, and they write it
 pub plain_decimal : (n : ℕ) → n < 2 ^ 64 → is_plain (decimal n) ≡ true
-plain_decimal n fits = plain_from (decimal n) (decimal_nonempty n fits) (digits_decimal own n fits) (first_zero n fits)
+plain_decimal n fits =
+    plain_from (decimal n) (decimal_nonempty n fits) (digits_decimal own n fits) (first_zero n fits)
 
 pub number_of_decimal : (n : ℕ) → n < 2 ^ 64 → number_of (decimal n) ≡ n
 number_of_decimal n fits = digits_value-decimal own n fits
 
 -- one digit more
-pub number_more : (cs : List ℕ) (i n c : ℕ) → i < length cs → n ≡ number_of (take i cs) → c ≡ get_or cs i 0 → n * 10 + (c - 48) ≡ number_of (take (i + 1) cs)
+pub number_more : (cs : List ℕ) (i n c : ℕ) → i < length cs → n ≡ number_of (take i cs)
+    → c ≡ get_or cs i 0 → n * 10 + (c - 48) ≡ number_of (take (i + 1) cs)
 number_more cs i n c within so_far here = rw (so_far, here) (sym (fold_more next 0 cs i 0 within))

@@ -3,32 +3,44 @@ use Rattle.std.proofs.Common.{◌≡◌, ℕ, ◌+◌, ◌<◌, ◌≤◌, List,
 use Rattle.std.proofs.lemmas.List.{append_assoc, length-append, append-nil, take_at}
 use Rattle.std.specs.Io.KnownBytes.{Consumes, IsAtEnd, Appends, Keeps}
 
-pub consumed_more : (a b c : Option (List ℕ)) (xs ys : List ℕ) → Consumes a b xs → Consumes b c ys → Consumes a c (xs ++ ys)
+pub consumed_more : (a b c : Option (List ℕ)) (xs ys : List ℕ) → Consumes a b xs → Consumes b c ys
+    → Consumes a c (xs ++ ys)
 consumed_more None b c xs ys first second = search rules
 consumed_more (Some rs) None c xs ys first second = absurd first
 consumed_more (Some rs) (Some bs) None xs ys first second = absurd second
-consumed_more (Some rs) (Some bs) (Some cs) xs ys first second = first ∙ ap (λ zs. xs ++ zs) second ∙ sym (append_assoc xs ys cs)
+consumed_more (Some rs) (Some bs) (Some cs) xs ys first second =
+    first ∙ ap (λ zs. xs ++ zs) second ∙ sym (append_assoc xs ys cs)
 
-pub consumed_all : (a b : Option (List ℕ)) (xs : List ℕ) → Consumes a b xs → IsAtEnd b → IfSome a (λ all. xs ≡ all)
+pub consumed_all : (a b : Option (List ℕ)) (xs : List ℕ) → Consumes a b xs → IsAtEnd b
+    → IfSome a (λ all. xs ≡ all)
 consumed_all None b xs consumed end = search rules
 consumed_all (Some rs) None xs consumed end = absurd consumed
-consumed_all (Some rs) (Some bs) xs consumed end = sym (consumed ∙ ap (λ zs. xs ++ zs) end ∙ append-nil xs)
+consumed_all (Some rs) (Some bs) xs consumed end =
+    sym (consumed ∙ ap (λ zs. xs ++ zs) end ∙ append-nil xs)
 
-pub consumed_over : (a b : Option (List ℕ)) (xs : List ℕ) (max : ℕ) → Consumes a b xs → max < length xs → IfSome a (λ all. max < length all)
+pub consumed_over : (a b : Option (List ℕ)) (xs : List ℕ) (max : ℕ) → Consumes a b xs
+    → max < length xs → IfSome a (λ all. max < length all)
 consumed_over None b xs max consumed over = search rules
 consumed_over (Some rs) None xs max consumed over = absurd consumed
-consumed_over (Some rs) (Some bs) xs max consumed over = omega (arith, ap length consumed, length-append xs bs)
+consumed_over (Some rs) (Some bs) xs max consumed over =
+    omega (arith, ap length consumed, length-append xs bs)
 
-pub consumed_within : (a b c : Option (List ℕ)) (xs ys : List ℕ) (n : ℕ) → Consumes a b xs → Consumes b c ys → length xs + length ys ≤ n → (bs : List ℕ) × Consumes a c bs × (length bs ≤ n)
-consumed_within a b c xs ys n first second within = (xs ++ ys, consumed_more a b c xs ys first second, omega (arith, length-append xs ys))
+pub consumed_within : (a b c : Option (List ℕ)) (xs ys : List ℕ) (n : ℕ) → Consumes a b xs
+    → Consumes b c ys → length xs + length ys ≤ n
+    → (bs : List ℕ) × Consumes a c bs × (length bs ≤ n)
+consumed_within a b c xs ys n first second within =
+    (xs ++ ys, consumed_more a b c xs ys first second, omega (arith, length-append xs ys))
 
-pub appended_more : (a b c : Option (List ℕ)) (xs ys : List ℕ) → Appends a b xs → Appends b c ys → Appends a c (xs ++ ys)
+pub appended_more : (a b c : Option (List ℕ)) (xs ys : List ℕ) → Appends a b xs → Appends b c ys
+    → Appends a c (xs ++ ys)
 appended_more None b c xs ys first second = search rules
 appended_more (Some rs) None c xs ys first second = absurd first
 appended_more (Some rs) (Some bs) None xs ys first second = absurd second
-appended_more (Some rs) (Some bs) (Some cs) xs ys first second = second ∙ ap (λ zs. zs ++ ys) first ∙ append_assoc rs xs ys
+appended_more (Some rs) (Some bs) (Some cs) xs ys first second =
+    second ∙ ap (λ zs. zs ++ ys) first ∙ append_assoc rs xs ys
 
-pub appended_kept : (a b c : Option (List ℕ)) (xs : List ℕ) → Appends a b xs → Keeps b c → Appends a c xs
+pub appended_kept : (a b c : Option (List ℕ)) (xs : List ℕ) → Appends a b xs → Keeps b c
+    → Appends a c xs
 appended_kept None b c xs first kept = search rules
 appended_kept (Some rs) None c xs first kept = absurd first
 appended_kept (Some rs) (Some bs) None xs first kept = absurd kept
@@ -39,8 +51,10 @@ appended_none None b appended = search rules
 appended_none (Some rs) None appended = absurd appended
 appended_none (Some rs) (Some bs) appended = appended ∙ append-nil rs
 
--- what was written is a front of the bytes
-pub appended_front : (a b c : Option (List ℕ)) (bytes front rest : List ℕ) → bytes ≡ front ++ rest → Appends a b front → Keeps b c → (k : ℕ) × Appends a c (take k bytes)
-appended_front a b c bytes front rest is appended kept =
-    let e : take (length front) bytes ≡ front = ap (take (length front)) is ∙ take_at front rest (length front) refl in
-    (length front, subst (λ (zs : List ℕ). Appends a c zs) (sym e) (appended_kept a b c front appended kept))
+-- what was written is a prefix of the bytes
+pub appended_prefix : (a b c : Option (List ℕ)) (bytes prefix rest : List ℕ)
+    → bytes ≡ prefix ++ rest → Appends a b prefix → Keeps b c → (k : ℕ) × Appends a c (take k bytes)
+appended_prefix a b c bytes prefix rest is appended kept =
+    let e : take (length prefix) bytes ≡ prefix = ap (take (length prefix)) is
+    ∙ take_at prefix rest (length prefix) refl in
+    (length prefix, subst (λ (zs : List ℕ). Appends a c zs) (sym e) (appended_kept a b c prefix appended kept))

@@ -10,7 +10,7 @@ is_digit c = nat_le 48 c && nat_le c 57
 abbrev pub number_of : List ℕ → ℕ
 number_of digits = fold (λ n c. n * 10 + (c - 48)) 0 digits
 
--- digits with no zero in front, or `0` alone
+-- digits with no zero at the start, or `0` alone
 abbrev pub is_plain : List ℕ → Bool
 is_plain [] = false
 is_plain (c ∷ cs) = list_all is_digit (c ∷ cs) && (not (c == 48) || length cs == 0)

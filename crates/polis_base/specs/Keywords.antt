@@ -8,7 +8,8 @@ use Rattle.polis_base.specs.declared.token.Keyword.TheVariants.{KwNetwork, KwVer
 abbrev pub same_word : List ℕ → List ℕ → Bool
 same_word = pointwise ◌==◌
 
--- the keyword that a word is, if it is one of those that a name or a number of a declaration stands behind
+-- the keyword that a word is, if it is one of those that a name or a number of a declaration stands
+-- after
 abbrev pub heading_keyword : List ℕ → Option Reserved
 heading_keyword word =
     cond (same_word word (codes "network")) (Some KwNetwork)

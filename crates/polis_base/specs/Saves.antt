@@ -12,4 +12,12 @@ files_of held = fold (λ files saved. insert files saved.name saved.bytes) empty
 
 -- what the host's fields stand for
 abbrev pub host_of : Inside → InMemory
-host_of h = record { files = files_of h.held.items; shown = h.shown; failing = h.failing.items; calls = h.calls; load_faults = h.load_faults; write_faults = h.write_faults }
+host_of h =
+    record {
+      files = files_of h.held.items;
+      shown = h.shown;
+      failing = h.failing.items;
+      calls = h.calls;
+      load_faults = h.load_faults;
+      write_faults = h.write_faults;
+    }

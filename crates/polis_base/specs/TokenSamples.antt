@@ -40,9 +40,9 @@ longest_name = token Name 0 24 ∷ []
 abbrev pub largest_number : List Token
 largest_number = token (Number 4294967295) 0 10 ∷ []
 
--- a name behind a comment that an LF ends
-abbrev pub behind_comment : List Token
-behind_comment = token Name 3 1 ∷ []
+-- a name after a comment that an LF ends
+abbrev pub after_comment : List Token
+after_comment = token Name 3 1 ∷ []
 
 abbrev pub comment_then : ℕ → List ℕ
 comment_then c = codes "#a" ++ c ∷ codes "b"

@@ -16,7 +16,7 @@ fn all_digits(bytes: &[u8]) -> bool
     bytes.iter().all(|byte| is_digit(*byte))
 }
 
-// Digits with no zero in front, or `0` alone.
+// Digits with no zero at the start, or `0` alone.
 fn is_plain(text: &[u8]) -> bool
     ensures { result ≡ is_plain text.now }
 {
@@ -44,8 +44,8 @@ pub(crate) fn number_up_to(max: u64, digits: &[u8]) -> Option<u64>
     Some(number)
 }
 
-/// The number of a decimal text. None exactly where the text is not the decimal text of a number below 2^64: digits
-/// with no sign and no leading zero.
+/// The number of a decimal text. None exactly where the text is not the decimal text of a number
+/// below 2^64: digits with no sign and no leading zero.
 pub fn read_decimal(text: &[u8]) -> Option<u64>
     ensures some { IfSome result (λ n. text.now ≡ decimal n) }
     ensures none { IfNone result ((n : ℕ) → n < 2 ^ 64 → text.now ≢ decimal n) }

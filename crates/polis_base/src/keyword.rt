@@ -4,7 +4,8 @@ ghost use Rattle.polis_base.specs.Keywords.{keyword_of as keyword_in_table, head
 
 use crate::token::Keyword;
 
-// The keyword that a word is, if it is one of those that a name or a number of a declaration stands behind.
+// The keyword that a word is, if it is one of those that a name or a number of a declaration stands
+// after.
 fn heading_keyword(word: &[u8]) -> Option<Keyword>
     ensures { result ≡ heading_in_table word.now }
 {

@@ -1,22 +1,23 @@
 // Cutting a network text into tokens.
-ghost use Rattle.std.specs.Prelude.{◌≡◌, ◌≢◌, ◌+◌, ◌<◌, ◌≤◌, ◌==◌, not, length, drop, Ok, Err, IfOk};
+ghost use Rattle.std.specs.Prelude.{◌≡◌, ◌≢◌, ◌+◌, ◌<◌, ◌≤◌, ◌==◌, not, length, drop, Ok, Err, Some, [], IfOk, IfSome, IfNone, IsOk};
 ghost use Rattle.std.specs.List.{prefix_len, All};
 ghost use Rattle.polis_base.specs.declared.token.LexError.{LexError};
 ghost use Rattle.polis_base.specs.Names.{continues_name};
 ghost use Rattle.polis_base.specs.Digits.{is_digit};
-ghost use Rattle.polis_base.specs.Tokens.{tokens_of, front, word_front, number_front, sign_front, begins_with, is_blank, bytes_in};
-ghost use Rattle.polis_base.specs.Spans.{IsToken, AreInOrder};
+ghost use Rattle.polis_base.specs.Tokens.{tokens_of, fault_of, tokens_after, scan, scan_word, scan_number, scan_sign, begins_with, is_blank, bytes_in, width};
+ghost use Rattle.polis_base.specs.Spans.{IsToken, IsNext, AreInOrder};
 
 use crate::decimal::{is_digit, number_up_to};
 use crate::keyword::keyword_of;
+use crate::limits::NAME_MAX;
 use crate::list::List;
-use crate::name::{NAME_MAX, begins, continues};
+use crate::name::{begins, continues};
 use crate::token::{Kind, LexError, Sign, Token, Tokens};
 use std::alloc::Global;
 
 // What the bytes at a place begin with.
 #[derive(Clone, Copy, Debug)]
-pub(crate) enum Front {
+pub(crate) enum Scan {
     // So many bytes that are no token.
     Skipped(u64),
     // A token of so many bytes.
@@ -58,72 +59,75 @@ fn begins_with(byte: u8, bytes: &[u8]) -> bool
     }
 }
 
-fn word_front(at: u64, word: &[u8]) -> Front
-    ensures { result ≡ word_front at word.now }
+fn scan_word(at: u64, word: &[u8]) -> Scan
+    ensures { result ≡ scan_word at word.now }
 {
     if word.len() > NAME_MAX {
-        return Front::Faulty(LexError::NameTooLong(at));
+        return Scan::Faulty(LexError::NameTooLong(at));
     }
     let kind = match keyword_of(word) {
         Some(keyword) => Kind::Keyword(keyword),
         None => Kind::Name,
     };
-    Front::Read(kind, word.len() as u64)
+    Scan::Read(kind, word.len() as u64)
 }
 
-fn number_front(at: u64, digits: &[u8]) -> Front
-    ensures { result ≡ number_front at digits.now }
+fn scan_number(at: u64, digits: &[u8]) -> Scan
+    ensures { result ≡ scan_number at digits.now }
 {
     match number_up_to(u64::from(u32::MAX), digits) {
-        Some(number) => Front::Read(Kind::Number(number as u32), digits.len() as u64),
-        None => Front::Faulty(LexError::NumberTooLarge(at)),
+        Some(number) => Scan::Read(Kind::Number(number as u32), digits.len() as u64),
+        None => Scan::Faulty(LexError::NumberTooLarge(at)),
     }
 }
 
-fn sign_front(at: u64, first: u8, rest: &[u8]) -> Front
-    ensures { result ≡ sign_front at first rest.now }
+fn scan_sign(at: u64, first: u8, rest: &[u8]) -> Scan
+    ensures { result ≡ scan_sign at first rest.now }
 {
     match first {
-        b'=' => Front::Read(Kind::Sign(Sign::Equal), 1),
-        b':' if begins_with(b'=', rest) => Front::Read(Kind::Sign(Sign::Assign), 2),
-        b':' => Front::Read(Kind::Sign(Sign::Colon), 1),
-        b',' => Front::Read(Kind::Sign(Sign::Comma), 1),
-        b'{' => Front::Read(Kind::Sign(Sign::LeftBrace), 1),
-        b'}' => Front::Read(Kind::Sign(Sign::RightBrace), 1),
-        b'.' if begins_with(b'.', rest) => Front::Read(Kind::Sign(Sign::DotDot), 2),
-        b'+' => Front::Read(Kind::Sign(Sign::Plus), 1),
-        _ => Front::Faulty(LexError::BadByte(at)),
+        b'=' => Scan::Read(Kind::Sign(Sign::Equal), 1),
+        b':' if begins_with(b'=', rest) => Scan::Read(Kind::Sign(Sign::Assign), 2),
+        b':' => Scan::Read(Kind::Sign(Sign::Colon), 1),
+        b',' => Scan::Read(Kind::Sign(Sign::Comma), 1),
+        b'{' => Scan::Read(Kind::Sign(Sign::LeftBrace), 1),
+        b'}' => Scan::Read(Kind::Sign(Sign::RightBrace), 1),
+        b'.' if begins_with(b'.', rest) => Scan::Read(Kind::Sign(Sign::DotDot), 2),
+        b'+' => Scan::Read(Kind::Sign(Sign::Plus), 1),
+        _ => Scan::Faulty(LexError::BadByte(at)),
     }
 }
 
-fn front_of(at: u64, bytes: &[u8]) -> Front
-    ensures { result ≡ front at bytes.now }
+fn scan_of(at: u64, bytes: &[u8]) -> Scan
+    ensures { result ≡ scan at bytes.now }
 {
     let Some((first, rest)) = bytes.split_first() else {
-        return Front::Skipped(0);
+        return Scan::Skipped(0);
     };
     match *first {
-        byte if is_blank(byte) => Front::Skipped(1),
-        b'#' => Front::Skipped(line_len(bytes) as u64),
-        byte if begins(byte) => word_front(at, &bytes[..word_len(bytes)]),
-        b'0' => Front::Read(Kind::Number(0), 1),
-        byte if is_digit(byte) => number_front(at, &bytes[..digits_len(bytes)]),
-        byte => sign_front(at, byte, rest),
+        byte if is_blank(byte) => Scan::Skipped(1),
+        b'#' => Scan::Skipped(line_len(bytes) as u64),
+        byte if begins(byte) => scan_word(at, &bytes[..word_len(bytes)]),
+        b'0' => Scan::Read(Kind::Number(0), 1),
+        byte if is_digit(byte) => scan_number(at, &bytes[..digits_len(bytes)]),
+        byte => scan_sign(at, byte, rest),
     }
 }
 
 // What stands at a place of a text: at least one byte, and no more than there are.
-fn front_at(text: &[u8], at: usize) -> Front
+fn scan_at(text: &[u8], at: usize) -> Scan
     requires { at < length text.now }
-    ensures front { result ≡ front at (drop at text.now) }
+    ensures scan { result ≡ scan at (drop at text.now) }
     ensures some { 0 < bytes_in result }
     ensures within { at + bytes_in result ≤ length text.now }
 {
-    front_of(at as u64, &text[at..])
+    if is_blank(text[at]) {
+        return Scan::Skipped(1);
+    }
+    scan_of(at as u64, &text[at..])
 }
 
-/// The tokens of a text: at each place the longest. Where one doesn't read, the first such gives the error with its
-/// place; want of memory may come before that. A text is gone over once.
+/// The tokens of a text: at each place the longest. Where one doesn't read, the first such gives
+/// the error with its place; running out of memory may come before that. A text is gone over once.
 pub fn tokens(alloc: Global, text: &[u8]) -> Result<Tokens, LexError>
     ensures ok { IfOk result (λ tokens. tokens_of text.now ≡ Ok tokens) }
     ensures spans { IfOk result (λ tokens. All (IsToken text.now) tokens) }
@@ -133,9 +137,9 @@ pub fn tokens(alloc: Global, text: &[u8]) -> Result<Tokens, LexError>
     let mut made = List::new(alloc);
     let mut at = 0;
     while at < text.len() {
-        match front_at(text, at) {
-            Front::Skipped(len) => at += len as usize,
-            Front::Read(kind, len) => {
+        match scan_at(text, at) {
+            Scan::Skipped(len) => at += len as usize,
+            Scan::Read(kind, len) => {
                 let token = Token {
                     kind,
                     at: at as u64,
@@ -146,8 +150,99 @@ pub fn tokens(alloc: Global, text: &[u8]) -> Result<Tokens, LexError>
                 }
                 at += len as usize;
             }
-            Front::Faulty(error) => return Err(error),
+            Scan::Faulty(error) => return Err(error),
         }
     }
     Ok(Tokens::of(made))
+}
+
+fn width_of_word(at: u64, word: &[u8]) -> Result<u64, LexError>
+    ensures { result ≡ width (scan_word at word.now) }
+{
+    if word.len() <= NAME_MAX {
+        Ok(word.len() as u64)
+    } else {
+        Err(LexError::NameTooLong(at))
+    }
+}
+
+fn width_of_other(scan: Scan) -> Result<u64, LexError>
+    ensures { result ≡ width scan }
+{
+    match scan {
+        Scan::Skipped(len) => Ok(len),
+        Scan::Read(_, len) => Ok(len),
+        Scan::Faulty(error) => Err(error),
+    }
+}
+
+// How many bytes a token or what is passed over takes, without which token it is.
+fn width_of(at: u64, bytes: &[u8]) -> Result<u64, LexError>
+    ensures { result ≡ width (scan at bytes.now) }
+{
+    let Some((first, rest)) = bytes.split_first() else {
+        return Ok(0);
+    };
+    match *first {
+        byte if is_blank(byte) => Ok(1),
+        b'#' => Ok(line_len(bytes) as u64),
+        byte if begins(byte) => width_of_word(at, &bytes[..word_len(bytes)]),
+        b'0' => Ok(1),
+        byte if is_digit(byte) => width_of_other(scan_number(at, &bytes[..digits_len(bytes)])),
+        byte => width_of_other(scan_sign(at, byte, rest)),
+    }
+}
+
+// How many bytes what stands at a place of a text takes: at least one, and no more than there are.
+fn width_at(text: &[u8], at: usize) -> Result<u64, LexError>
+    requires { at < length text.now }
+    ensures scan { result ≡ width (scan at (drop at text.now)) }
+    ensures some { IfOk result (λ n. 0 < n) }
+    ensures within { IfOk result (λ n. at + n ≤ length text.now) }
+{
+    if is_blank(text[at]) {
+        return Ok(1);
+    }
+    width_of(at as u64, &text[at..])
+}
+
+/// The first token of a text that doesn't read, if there is one. None exactly where the text has
+/// tokens. It takes no memory, and goes over the text once.
+pub fn first_fault(text: &[u8]) -> Option<LexError>
+    ensures fault { result ≡ fault_of text.now }
+    ensures no_memory { result ≢ Some LexError.NoMemory }
+    ensures reads { IfNone result (IsOk (tokens_after text.now 0)) }
+{
+    let mut at = 0;
+    while at < text.len() {
+        match width_at(text, at) {
+            Ok(width) => at += width as usize,
+            Err(error) => return Some(error),
+        }
+    }
+    None
+}
+
+/// The first token at a place or after it, if one is left, where all from the place on read. It
+/// takes no memory. The token after it is the first from the end of this one on.
+pub fn next_token(text: &[u8], from: u64) -> Option<Token>
+    requires { IsOk (tokens_after text.now from) }
+    ensures some { IfSome result (λ token. IsNext text.now from token) }
+    ensures none { IfNone result (tokens_after text.now from ≡ Ok []) }
+{
+    let mut at = from as usize;
+    while at < text.len() {
+        match scan_at(text, at) {
+            Scan::Skipped(len) => at += len as usize,
+            Scan::Read(kind, len) => {
+                return Some(Token {
+                    kind,
+                    at: at as u64,
+                    len,
+                });
+            }
+            Scan::Faulty(_) => unreachable!(),
+        }
+    }
+    None
 }

@@ -1,4 +1,5 @@
-// The base of the product: want of memory, lists, bytes, names, decimal text and the outside.
+// The base of the product: running out of memory, lists, bytes, names, decimal text and the
+// outside.
 #![tactic(auto)]
 
 mod bytes;
@@ -6,6 +7,7 @@ mod decimal;
 mod host;
 mod keyword;
 mod lex;
+pub mod limits;
 mod list;
 mod memory;
 mod name;
@@ -19,7 +21,7 @@ mod worked;
 pub use bytes::Bytes;
 pub use decimal::read_decimal;
 pub use host::{Host, Load, Save};
-pub use lex::tokens;
+pub use lex::{first_fault, next_token, tokens};
 pub use list::{Duplicate, List, Numbers, Places};
 pub use memory::MemoryHost;
 pub use name::Name;
@@ -28,7 +30,7 @@ pub use token::{Keyword, Kind, LexError, Sign, Token, Tokens};
 pub use words::Words;
 pub use worked::worked_tokens;
 
-/// Memory was wanting. It is the one free answer, and is merged with no other.
+/// Out of memory. It is the one free answer, and is merged with no other.
 #[derive(Clone, Copy, Debug, PartialEq, Eq)]
 pub struct NoMemory;
 

@@ -15,7 +15,8 @@ use std::{fs, io};
 // How many bytes one read asks for at most.
 const PIECE: usize = 65_536;
 
-/// The system's files and standard output. A name is a path. It tells neither what the files hold nor what was shown.
+/// The system's files and standard output. A name is a path. It tells neither what the files hold
+/// nor what was shown.
 #[derive(Drop)]
 pub struct StdHost {
     rt: HostRuntime,
@@ -84,8 +85,8 @@ fn unopened(error: &io::Error) -> Load
     }
 }
 
-// Reads to the end, and at most one byte more than `max`. A read that gives nothing is the end; each other takes at
-// least one byte.
+// Reads to the end, and at most one byte more than `max`. A read that gives nothing is the end;
+// each other takes at least one byte.
 fn read_whole<R: Read>(reader: &mut R, max: u64, piece: &mut [u8], into: &mut Bytes) -> Load
     requires empty { into.old ≡ [] }
     requires room { 0 < length piece.old }
@@ -116,12 +117,12 @@ fn read_whole<R: Read>(reader: &mut R, max: u64, piece: &mut [u8], into: &mut By
     }
 }
 
-// Writes all bytes. A write that takes nothing of a piece that isn't empty is a fault. Want of memory is told apart
-// only where nothing was written.
+// Writes all bytes. A write that takes nothing of a piece that isn't empty is a fault. Running out
+// of memory is told apart only where nothing was written.
 fn write_whole<W: Write>(writer: &mut W, bytes: &[u8]) -> Save
     ensures written { result ≡ Save.Written → Appends (W.contents writer.old) (W.contents writer.new) bytes.now }
     ensures kept { result ≡ Save.NoMemory → Keeps (W.contents writer.old) (W.contents writer.new) }
-    ensures front { (k : ℕ) × Appends (W.contents writer.old) (W.contents writer.new) (take k bytes.now) }
+    ensures prefix { (k : ℕ) × Appends (W.contents writer.old) (W.contents writer.new) (take k bytes.now) }
 {
     let mut rest = bytes;
     while !rest.is_empty() {
@@ -154,7 +155,8 @@ fn read_file(rt: &HostRuntime, alloc: Global, name: &str, max: u64, into: &mut B
     }
 }
 
-// Saves a file. Once it is opened its old content is lost, so want of memory is a fault from then on.
+// Saves a file. Once it is opened its old content is lost, so running out of memory is a fault from
+// then on.
 fn write_file(rt: &HostRuntime, name: &str, bytes: &[u8]) -> Save {
     match fs::create(rt, name) {
         Ok(mut file) => match write_whole(&mut file, bytes) {

@@ -1,8 +1,10 @@
-// What no clause says: that calls succeed where there is memory, and what the system's files give back.
+// What no clause says: that calls succeed where there is memory, and what the system's files give
+// back.
 use crate::{
-    Bytes, Duplicate, Host, Keyword, Kind, LexError, List, Load, MemoryHost, Name, Save, Sign,
-    StdHost, Token, Words, read_decimal, tokens,
+    Bytes, Duplicate, Host, Keyword, Kind, LexError, List, Load, MemoryHost, Name, NoMemory, Save,
+    Sign, StdHost, Token, Words, first_fault, next_token, read_decimal, tokens,
 };
+use std::alloc::Global;
 use std::fs;
 use std::test::Fail;
 
@@ -16,6 +18,12 @@ fn makes_lists_and_words(rt: HostRuntime) -> Result<(), Fail> {
     assert_eq!(rt; same.len(), 2);
     assert_eq!(rt; *same.get(0), 9);
     assert_eq!(rt; same.as_slice(), [9, 8].as_slice());
+    let mut fives = List::filled(rt.alloc(), 3, 5u8)?;
+    fives.push(6)?;
+    fives.shrink();
+    assert_eq!(rt; fives.as_slice(), [5, 5, 5, 6].as_slice());
+    let some = List::from_slice(rt.alloc(), &fives.as_slice()[2..])?;
+    assert_eq!(rt; some.as_slice(), [5, 6].as_slice());
     let mut words = Words::new(rt.alloc());
     words.push("run")?;
     assert_eq!(rt; words.len(), 1);
@@ -74,6 +82,42 @@ fn reads_tokens(rt: HostRuntime) -> Result<(), Fail> {
     }
 }
 
+// The text reads as these tokens, one by one too.
+fn reads_one_by_one(text: &[u8], read: &[Token]) -> bool {
+    if first_fault(text).is_some() {
+        return false;
+    }
+    let mut from = 0;
+    for token in read {
+        let Some(next) = next_token(text, from) else {
+            return false;
+        };
+        if next != *token {
+            return false;
+        }
+        from = next.at + next.len;
+    }
+    next_token(text, from).is_none()
+}
+
+#[test]
+fn reads_tokens_one_by_one(rt: HostRuntime) -> Result<(), Fail> {
+    let name = Token {
+        kind: Kind::Name,
+        at: 1,
+        len: 2,
+    };
+    let number = Token {
+        kind: Kind::Number(7),
+        at: 6,
+        len: 1,
+    };
+    assert!(rt; reads_one_by_one(b" ab\t# 7".as_slice(), &[name]));
+    assert!(rt; reads_one_by_one(b" ab#\n\r7 ".as_slice(), &[name, number]));
+    assert!(rt; first_fault(b"a % 4294967296") == Some(LexError::BadByte(2)));
+    Ok(())
+}
+
 #[test]
 fn names_the_faults_of_tokens(rt: HostRuntime) -> Result<(), Fail> {
     let byte = LexError::BadByte(1);
@@ -107,6 +151,66 @@ fn fails_where_it_is_told(rt: HostRuntime) -> Result<(), Fail> {
     assert_eq!(rt; host.shown(), b"more".as_slice());
     assert_eq!(rt; host.load_faults(), 1);
     assert_eq!(rt; host.write_faults(), 1);
+    Ok(())
+}
+
+// How many bytes a save or a show keeps, what it is given, and what is there after it where `old`
+// was before.
+const TORN_SAVES: [(u64, &str, &str); 4] = [
+    (0, "new", "old"),
+    (2, "new", "ne"),
+    (9, "new", "new"),
+    (9, "", "old"),
+];
+
+const TORN_SHOWS: [(u64, &str, &str); 3] = [
+    (0, "new", "old"),
+    (2, "new", "oldne"),
+    (9, "new", "oldnew"),
+];
+
+fn saves_torn(alloc: Global, keep: u64, bytes: &str, left: &str) -> Result<bool, NoMemory> {
+    let mut host = MemoryHost::new(alloc);
+    host.put("a", b"old")?;
+    host.tear(0, keep)?;
+    let answer = host.save("a", bytes.as_bytes());
+    let same = host.file("a") == Some(left.as_bytes());
+    Ok(answer == Save::Failed && same && host.write_faults() == 1)
+}
+
+fn shows_torn(alloc: Global, keep: u64, bytes: &str, left: &str) -> Result<bool, NoMemory> {
+    let mut host = MemoryHost::new(alloc);
+    host.tear(1, keep)?;
+    let first = host.show(b"old");
+    let answer = host.show(bytes.as_bytes());
+    let same = host.shown() == left.as_bytes();
+    Ok(first == Save::Written && answer == Save::Failed && same)
+}
+
+#[test]
+fn tears_saves_and_shows(rt: HostRuntime) -> Result<(), Fail> {
+    for (keep, bytes, left) in TORN_SAVES {
+        assert!(rt;
+            saves_torn(rt.alloc(), keep, bytes, left)?,
+            "{keep} {bytes}"
+        );
+    }
+    for (keep, bytes, left) in TORN_SHOWS {
+        assert!(rt;
+            shows_torn(rt.alloc(), keep, bytes, left)?,
+            "{keep} {bytes}"
+        );
+    }
+    Ok(())
+}
+
+#[test]
+fn first_tear_of_a_call_counts(rt: HostRuntime) -> Result<(), Fail> {
+    let mut host = MemoryHost::new(rt.alloc());
+    host.fail(0)?;
+    host.tear(0, 3)?;
+    assert_eq!(rt; host.show(b"new"), Save::Failed);
+    assert_eq!(rt; host.shown(), b"".as_slice());
     Ok(())
 }
 

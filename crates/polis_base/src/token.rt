@@ -78,7 +78,7 @@ pub enum Kind {
     Keyword(Keyword),
     /// A name: a letter or `_`, and then letters, digits and `_`, 24 bytes at most and no keyword.
     Name,
-    /// A number, in decimal digits with no zero in front.
+    /// A number, in decimal digits with no zero at the start.
     Number(u32),
     /// A sign.
     Sign(Sign),
@@ -95,8 +95,8 @@ pub struct Token {
     pub len: u64,
 }
 
-/// Why a text has no tokens, with the place of the first byte of the first token that doesn't read. The message is
-/// the variant's name.
+/// Why a text has no tokens, with the place of the first byte of the first token that doesn't read.
+/// The message is the variant's name.
 #[derive(Clone, Copy, Debug, PartialEq, Eq, Error)]
 pub enum LexError {
     /// No token begins with this byte.
@@ -108,7 +108,7 @@ pub enum LexError {
     /// A number above 4,294,967,295.
     #[error("NumberTooLarge")]
     NumberTooLarge(u64),
-    /// Memory was wanting.
+    /// Out of memory.
     #[error("NoMemory")]
     NoMemory,
 }

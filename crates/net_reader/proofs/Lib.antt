@@ -8,3 +8,5 @@ pub mod Whole
 pub mod Lexing
 pub mod Printing
 pub mod Productions
+mod LastToken
+mod Computed

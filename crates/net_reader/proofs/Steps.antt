@@ -1,25 +1,30 @@
 -- Steps of the reader.
-use Rattle.std.proofs.Common.{◌≡◌, ℕ, zero, suc, ◌+◌, ◌<◌, ◌≤◌, Bool, true, false, cond, IsTrue, List, [], ◌∷◌, length, drop, slice_get, Option, Some, None, Ok, Err, refl, sym, ap, add-one, arith}
+use Rattle.std.proofs.Common.{◌≡◌, ℕ, ◌<◌, Bool, true, false, cond, IsTrue, List, [], ◌∷◌, length, drop, Option, Some, None, IfSome, IfNone, Result, Ok, Err, refl, sym, ◌∙◌, ap, arith}
+use Rattle.std.specs.Result.{is_ok}
 use Rattle.std.proofs.lemmas.Bool.{eqb-true, eq-eqb, false≢true}
 use Rattle.polis_base.specs.Lists.{head_of}
+use Rattle.polis_base.specs.Tokens.{with_token, tokens_after}
+use Rattle.polis_base.specs.Spans.{IsNext}
 use Rattle.polis_base.specs.declared.token.Token.{Token}
+use Rattle.polis_base.specs.declared.token.LexError.{LexError}
 use Rattle.polis_base.specs.declared.token.Kind.{Kind}
 use Rattle.net_reader.specs.Kinds.{class_of}
-use Rattle.net_reader.specs.Lexemes.{Lexeme, lexeme, lexemes}
-use Rattle.net_reader.specs.Reading.{taken, one, front, is, is_fixed, begins, only, end_at}
+use Rattle.net_reader.specs.Lexemes.{Lexeme}
+use Rattle.net_reader.specs.Pieces.{read_tokens, left, StandsAt}
+use Rattle.net_reader.specs.Reading.{taken, one, next_of, is, is_fixed, begins, only, end_at}
 use Rattle.net_reader.proofs.Tokens.{kind_same, fixed_or_number}
 
-pub front_none : {A : Type 0} (f : Lexeme → Option A) (ls : List Lexeme) → front f ls ≡ None → one f ls ≡ Err ls
-front_none f [] h = refl
-front_none f (l ∷ ls) h = ap (λ (o : Option _). taken o l ls) h
+pub next_none : {A : Type 0} (f : Lexeme → Option A) (ls : List Lexeme) → next_of f ls ≡ None → one f ls ≡ Err ls
+next_none f [] h = refl
+next_none f (l ∷ ls) h = ap (λ (o : Option _). taken o l ls) h
 
-pub front_some : {A : Type 0} (f : Lexeme → Option A) (ls : List Lexeme) (a : A) → front f ls ≡ Some a → one f ls ≡ Ok (a, drop 1 ls)
-front_some f [] a h = absurd cc
-front_some f (l ∷ ls) a h = ap (λ (o : Option _). taken o l ls) h
+pub next_some : {A : Type 0} (f : Lexeme → Option A) (ls : List Lexeme) (a : A) → next_of f ls ≡ Some a → one f ls ≡ Ok (a, drop 1 ls)
+next_some f [] a h = absurd cc
+next_some f (l ∷ ls) a h = ap (λ (o : Option _). taken o l ls) h
 
-pub front_long : {A : Type 0} (f : Lexeme → Option A) (ls : List Lexeme) (a : A) → front f ls ≡ Some a → 0 < length ls
-front_long f [] a h = absurd cc
-front_long f (l ∷ ls) a h = omega arith
+pub next_long : {A : Type 0} (f : Lexeme → Option A) (ls : List Lexeme) (a : A) → next_of f ls ≡ Some a → 0 < length ls
+next_long f [] a h = absurd cc
+next_long f (l ∷ ls) a h = omega arith
 
 pub begins_long : (t : ℕ → Bool) (ls : List Lexeme) → begins t ls ≡ true → 0 < length ls
 begins_long t [] h = absurd cc
@@ -35,13 +40,13 @@ unfolding only
 only_yes kind [] h = absurd cc
 only_yes kind (l ∷ ls) h = ap (λ (b : Bool). taken (cond b (Some tt) None) l ls) h
 
-pub head_front : {A : Type 0} (f : Lexeme → Option A) (ls : List Lexeme) (l : Lexeme) → Some l ≡ head_of ls → f l ≡ front f ls
-head_front f [] l h = absurd cc
-head_front f (m ∷ ls) l h = let e : l ≡ m = cc in ap f e
+pub head_next : {A : Type 0} (f : Lexeme → Option A) (ls : List Lexeme) (l : Lexeme) → Some l ≡ head_of ls → f l ≡ next_of f ls
+head_next f [] l h = absurd cc
+head_next f (m ∷ ls) l h = let e : l ≡ m = cc in ap f e
 
-pub no_front : {A : Type 0} (f : Lexeme → Option A) (ls : List Lexeme) → None ≡ head_of ls → None ≡ front f ls
-no_front f [] h = refl
-no_front f (m ∷ ls) h = absurd cc
+pub no_next : {A : Type 0} (f : Lexeme → Option A) (ls : List Lexeme) → None ≡ head_of ls → None ≡ next_of f ls
+no_next f [] h = refl
+no_next f (m ∷ ls) h = absurd cc
 
 pub head_begins : (t : ℕ → Bool) (ls : List Lexeme) (l : Lexeme) → Some l ≡ head_of ls → t (class_of l.kind) ≡ begins t ls
 head_begins t [] l h = absurd cc
@@ -61,30 +66,18 @@ unfolding end_at
 end_no [] l h = absurd cc
 end_no (m ∷ ls) l h = refl
 
-pub head_at : (text : List ℕ) (tokens : List Token) (at : ℕ) (token : Token) → slice_get tokens at ≡ Some token → Some (lexeme text token) ≡ head_of (drop at (lexemes text tokens))
-head_at text [] at token h = absurd cc
-head_at text (t ∷ tokens) zero token h = let e : token ≡ t = cc in ap (λ (x : Token). Some (lexeme text x)) e
-head_at text (t ∷ tokens) (suc at) token h = head_at text tokens at token h
+with_read : (token : Token) (r : Result (List Token) LexError) → is_ok r ≡ true → read_tokens (with_token token r) ≡ token ∷ read_tokens r
+with_read token (Ok tokens) ok = refl
+with_read token (Err error) ok = cc
 
-pub no_head : (text : List ℕ) (tokens : List Token) (at : ℕ) → length tokens ≤ at → None ≡ head_of (drop at (lexemes text tokens))
-no_head text [] zero h = refl
-no_head text [] (suc at) h = refl
-no_head text (t ∷ tokens) zero h = absurd (omega arith)
-no_head text (t ∷ tokens) (suc at) h = no_head text tokens at (omega arith)
+-- what is left after the next token is found is what reads from there on
+pub left_after : (text : List ℕ) (from : ℕ) (next : Option Token) → IfSome next (λ token. IsNext text from token) → IfNone next (tokens_after text from ≡ Ok []) → left text next ≡ read_tokens (tokens_after text from)
+left_after text from None some none = sym (ap read_tokens none)
+left_after text from (Some token) some none = sym (ap read_tokens some.first ∙ with_read token _ some.rest)
 
-drop_suc : (at : ℕ) (ls : List Lexeme) → drop (suc at) ls ≡ drop 1 (drop at ls)
-drop_suc zero ls = refl
-drop_suc (suc at) [] = refl
-drop_suc (suc at) (l ∷ ls) = drop_suc at ls
-
-pub drop_more : (at : ℕ) (ls : List Lexeme) → drop (at + 1) ls ≡ drop 1 (drop at ls)
-drop_more at ls = rw add-one (drop_suc at ls)
-
-pub long_below : (text : List ℕ) (tokens : List Token) (at : ℕ) → 0 < length (drop at (lexemes text tokens)) → at < length tokens
-long_below text [] zero h = absurd (omega arith)
-long_below text [] (suc at) h = absurd (omega arith)
-long_below text (t ∷ tokens) zero h = omega arith
-long_below text (t ∷ tokens) (suc at) h = let k = long_below text tokens at h in omega arith
+pub stands_after : (text : List ℕ) (from : ℕ) (next : Option Token) → IfSome next (λ token. IsNext text from token) → StandsAt text next
+stands_after text from None some = tt
+stands_after text from (Some token) some = (some.is, some.rest)
 
 pub tested : (r : Bool) (a b : Kind) → is_fixed b ≡ true → (IsTrue r → a ≡ b) → (a ≡ b → IsTrue r) → r ≡ is b (class_of a)
 tested true a b fixed there back = sym (eq-eqb (class_of a) (class_of b) (ap class_of (there refl)))

@@ -13,6 +13,8 @@ use Rattle.net_reader.specs.declared.raw.RawEvent.{RawEvent}
 use Rattle.net_reader.specs.declared.raw.RawState.{RawState}
 use Rattle.net_reader.specs.declared.raw.RawCond.{RawCond}
 use Rattle.net_reader.specs.declared.raw.RawCond.TheVariants as conds
+use Rattle.net_reader.specs.declared.raw.RawSource.{RawSource}
+use Rattle.net_reader.specs.declared.raw.RawSource.TheVariants as sources
 use Rattle.net_reader.specs.declared.raw.RawAct.{RawAct}
 use Rattle.net_reader.specs.declared.raw.RawAct.TheVariants as acts
 use Rattle.net_reader.specs.declared.raw.RawRow.{RawRow}
@@ -52,13 +54,18 @@ cond_formed (conds.Absent name) = word_formed name
 cond_formed (conds.Is name value) = word_formed name && value_formed value
 cond_formed (conds.OneOf name values) = word_formed name && list_all value_formed values
 
-abbrev pub given_formed : Option RawValue → Bool
+abbrev pub source_formed : RawSource → Bool
+source_formed (sources.Value value) = value_formed value
+source_formed (sources.Input name) = word_formed name
+source_formed (sources.Add name number) = word_formed name && num_formed number
+
+abbrev pub given_formed : Option RawSource → Bool
 given_formed None = true
-given_formed (Some v) = value_formed v
+given_formed (Some source) = source_formed source
 
 abbrev pub act_formed : RawAct → Bool
 act_formed (acts.Emit name value) = word_formed name && given_formed value
-act_formed (acts.Set name value) = word_formed name && value_formed value
+act_formed (acts.Set name value) = word_formed name && source_formed value
 
 abbrev pub row_formed : RawRow → Bool
 row_formed r = list_all cond_formed r.conds && list_all act_formed r.acts
@@ -70,7 +77,12 @@ abbrev pub ports_formed : RawMachine → Bool
 ports_formed m = list_all word_formed m.inputs && list_all word_formed m.outputs
 
 abbrev pub machine_formed : RawMachine → Bool
-machine_formed m = head_formed m && (ports_formed m && (list_all state_formed m.states && list_all row_formed m.rows))
+machine_formed m =
+    head_formed m
+    && (ports_formed m && (list_all state_formed m.states && list_all row_formed m.rows))
 
 abbrev pub net_formed : RawNet → Bool
-net_formed n = word_formed n.name && (num_formed n.version && (list_all domain_formed n.domains && (list_all event_formed n.events && list_all machine_formed n.machines)))
+net_formed n =
+    word_formed n.name
+    && (num_formed n.version && (list_all domain_formed n.domains
+    && (list_all event_formed n.events && list_all machine_formed n.machines)))

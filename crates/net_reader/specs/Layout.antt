@@ -15,6 +15,8 @@ use Rattle.net_reader.specs.declared.raw.RawEvent.{RawEvent}
 use Rattle.net_reader.specs.declared.raw.RawState.{RawState}
 use Rattle.net_reader.specs.declared.raw.RawCond.{RawCond}
 use Rattle.net_reader.specs.declared.raw.RawCond.TheVariants as conds
+use Rattle.net_reader.specs.declared.raw.RawSource.{RawSource}
+use Rattle.net_reader.specs.declared.raw.RawSource.TheVariants as sources
 use Rattle.net_reader.specs.declared.raw.RawAct.{RawAct}
 use Rattle.net_reader.specs.declared.raw.RawAct.TheVariants as acts
 use Rattle.net_reader.specs.declared.raw.RawRow.{RawRow}
@@ -35,7 +37,7 @@ abbrev pub value_text : RawValue → List ℕ
 value_text (values.Name w) = word_text w
 value_text (values.Number n) = num_text n
 
--- items behind others, each behind a comma
+-- items after others, each after a comma
 abbrev pub others_text : {A : Type 0} → (A → List ℕ) → List A → List ℕ
 others_text f items = flat_map (λ a. codes ", " ++ f a) items
 
@@ -64,39 +66,57 @@ abbrev pub event_text : RawEvent → List ℕ
 event_text e = codes "event " ++ e.name.name ++ typed_text e.domain ++ env_text e.env ++ codes "\n"
 
 abbrev pub state_text : RawState → List ℕ
-state_text s = codes "  state " ++ s.name.name ++ codes " : " ++ s.domain.name ++ codes " = " ++ value_text s.init ++ codes "\n"
+state_text s =
+    codes "  state " ++ s.name.name ++ codes " : " ++ s.domain.name ++ codes " = "
+    ++ value_text s.init ++ codes "\n"
 
 abbrev pub cond_text : RawCond → List ℕ
 cond_text (conds.Present name) = name.name
 cond_text (conds.Absent name) = codes "absent " ++ name.name
 cond_text (conds.Is name value) = name.name ++ codes " = " ++ value_text value
-cond_text (conds.OneOf name values) = name.name ++ codes " in { " ++ listed_text value_text values ++ codes " }"
+cond_text (conds.OneOf name values) =
+    name.name ++ codes " in { " ++ listed_text value_text values ++ codes " }"
+
+abbrev pub source_text : RawSource → List ℕ
+source_text (sources.Value value) = value_text value
+source_text (sources.Input name) = codes "value " ++ name.name
+source_text (sources.Add name number) = name.name ++ codes " + " ++ num_text number
 
 abbrev pub act_text : RawAct → List ℕ
 act_text (acts.Emit name None) = codes "emit " ++ name.name
-act_text (acts.Emit name (Some value)) = codes "emit " ++ name.name ++ codes " = " ++ value_text value
-act_text (acts.Set name value) = name.name ++ codes " := " ++ value_text value
+act_text (acts.Emit name (Some source)) =
+    codes "emit " ++ name.name ++ codes " = " ++ source_text source
+act_text (acts.Set name source) = name.name ++ codes " := " ++ source_text source
 
 abbrev pub acts_text : List RawAct → List ℕ
 acts_text [] = codes "nothing"
 acts_text (act ∷ others) = listed_text act_text (act ∷ others)
 
 abbrev pub row_text : RawRow → List ℕ
-row_text r = codes "  when " ++ listed_text cond_text r.conds ++ codes " do " ++ acts_text r.acts ++ codes "\n"
+row_text r =
+    codes "  when " ++ listed_text cond_text r.conds ++ codes " do " ++ acts_text r.acts
+    ++ codes "\n"
 
 abbrev pub outputs_text : List Word → List ℕ
 outputs_text [] = []
-outputs_text (name ∷ names) = codes "  output " ++ listed_text word_text (name ∷ names) ++ codes "\n"
+outputs_text (name ∷ names) =
+    codes "  output " ++ listed_text word_text (name ∷ names) ++ codes "\n"
 
 abbrev pub head_text : RawMachine → List ℕ
-head_text m = codes "machine " ++ m.name.name ++ codes " priority " ++ num_text m.priority ++ codes " {\n"
+head_text m =
+    codes "machine " ++ m.name.name ++ codes " priority " ++ num_text m.priority ++ codes " {\n"
 
 abbrev pub ports_text : RawMachine → List ℕ
-ports_text m = codes "  input " ++ listed_text word_text m.inputs ++ codes "\n" ++ outputs_text m.outputs
+ports_text m =
+    codes "  input " ++ listed_text word_text m.inputs ++ codes "\n" ++ outputs_text m.outputs
 
 abbrev pub machine_text : RawMachine → List ℕ
-machine_text m = head_text m ++ ports_text m ++ flat_map state_text m.states ++ flat_map row_text m.rows ++ codes "}\n"
+machine_text m =
+    head_text m ++ ports_text m ++ flat_map state_text m.states ++ flat_map row_text m.rows
+    ++ codes "}\n"
 
 abbrev pub network_text : RawNet → List ℕ
-network_text n = codes "network " ++ n.name.name ++ codes " version " ++ num_text n.version ++ codes "\n"
-    ++ flat_map domain_text n.domains ++ flat_map event_text n.events ++ flat_map machine_text n.machines
+network_text n =
+    codes "network " ++ n.name.name ++ codes " version " ++ num_text n.version ++ codes "\n"
+    ++ flat_map domain_text n.domains ++ flat_map event_text n.events
+    ++ flat_map machine_text n.machines

@@ -8,3 +8,4 @@ pub mod Pieces
 pub mod Places
 pub mod Reading
 pub mod Sentences
+pub mod Samples

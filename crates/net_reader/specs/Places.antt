@@ -12,6 +12,8 @@ use Rattle.net_reader.specs.declared.raw.RawEvent.{RawEvent}
 use Rattle.net_reader.specs.declared.raw.RawState.{RawState}
 use Rattle.net_reader.specs.declared.raw.RawCond.{RawCond}
 use Rattle.net_reader.specs.declared.raw.RawCond.TheVariants as conds
+use Rattle.net_reader.specs.declared.raw.RawSource.{RawSource}
+use Rattle.net_reader.specs.declared.raw.RawSource.TheVariants as sources
 use Rattle.net_reader.specs.declared.raw.RawAct.{RawAct}
 use Rattle.net_reader.specs.declared.raw.RawAct.TheVariants as acts
 use Rattle.net_reader.specs.declared.raw.RawRow.{RawRow}
@@ -43,7 +45,8 @@ abbrev pub event_alone : RawEvent → RawEvent
 event_alone e = record { name = word_alone e.name; domain = typed_alone e.domain; env = e.env }
 
 abbrev pub state_alone : RawState → RawState
-state_alone s = record { name = word_alone s.name; domain = word_alone s.domain; init = value_alone s.init }
+state_alone s =
+    record { name = word_alone s.name; domain = word_alone s.domain; init = value_alone s.init }
 
 abbrev pub cond_alone : RawCond → RawCond
 cond_alone (conds.Present name) = conds.Present (word_alone name)
@@ -51,13 +54,18 @@ cond_alone (conds.Absent name) = conds.Absent (word_alone name)
 cond_alone (conds.Is name value) = conds.Is (word_alone name) (value_alone value)
 cond_alone (conds.OneOf name values) = conds.OneOf (word_alone name) (map value_alone values)
 
-abbrev pub given_alone : Option RawValue → Option RawValue
+abbrev pub source_alone : RawSource → RawSource
+source_alone (sources.Value value) = sources.Value (value_alone value)
+source_alone (sources.Input name) = sources.Input (word_alone name)
+source_alone (sources.Add name number) = sources.Add (word_alone name) (num_alone number)
+
+abbrev pub given_alone : Option RawSource → Option RawSource
 given_alone None = None
-given_alone (Some v) = Some (value_alone v)
+given_alone (Some source) = Some (source_alone source)
 
 abbrev pub act_alone : RawAct → RawAct
 act_alone (acts.Emit name value) = acts.Emit (word_alone name) (given_alone value)
-act_alone (acts.Set name value) = acts.Set (word_alone name) (value_alone value)
+act_alone (acts.Set name value) = acts.Set (word_alone name) (source_alone value)
 
 abbrev pub row_alone : RawRow → RawRow
 row_alone r = record { conds = map cond_alone r.conds; acts = map act_alone r.acts }

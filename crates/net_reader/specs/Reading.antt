@@ -1,8 +1,8 @@
--- Reading from left to right with one token of look-ahead. A rule answers what it reads and the tokens behind it, or
+-- Reading from left to right with one token of look-ahead. A rule answers what it reads and the tokens after it, or
 -- the tokens from the first one on that doesn't fit.
 use Rattle.std.specs.Prelude.{◌≡◌, ℕ, zero, suc, Bool, true, false, cond, ◌==◌, List, [], ◌∷◌, ◌++◌, ◌<◌, length, Option, Some, None, Result, Ok, Err}
-use Rattle.polis_base.specs.declared.token.Keyword.TheVariants.{KwNetwork, KwVersion, KwDomain, KwEvent, KwMachine, KwFrom, KwTo, KwEnv, KwPriority, KwInput, KwOutput, KwState, KwWhen, KwDo, KwEmit, KwAbsent, KwIn, KwNothing}
-use Rattle.polis_base.specs.declared.token.Sign.TheVariants.{Equal, Assign, Colon, Comma, LeftBrace, RightBrace, DotDot}
+use Rattle.polis_base.specs.declared.token.Keyword.TheVariants.{KwNetwork, KwVersion, KwDomain, KwEvent, KwMachine, KwFrom, KwTo, KwEnv, KwPriority, KwInput, KwOutput, KwState, KwWhen, KwDo, KwEmit, KwAbsent, KwIn, KwNothing, KwValue}
+use Rattle.polis_base.specs.declared.token.Sign.TheVariants.{Equal, Assign, Colon, Comma, LeftBrace, RightBrace, DotDot, Plus}
 use Rattle.polis_base.specs.declared.token.Kind.{Kind}
 use Rattle.polis_base.specs.declared.token.Kind.TheVariants.{Keyword, Sign, Name, Number}
 use Rattle.net_reader.specs.Kinds.{class_of}
@@ -12,6 +12,7 @@ use Rattle.net_reader.specs.declared.reader.Stop.TheVariants as stops
 use Rattle.net_reader.specs.declared.raw.Word.{Word}
 use Rattle.net_reader.specs.declared.raw.Num.{Num}
 use Rattle.net_reader.specs.declared.raw.RawValue.{RawValue}
+use Rattle.net_reader.specs.declared.raw.RawValue.TheVariants as values
 use Rattle.net_reader.specs.declared.raw.RawShape.{RawShape}
 use Rattle.net_reader.specs.declared.raw.RawShape.TheVariants as shapes
 use Rattle.net_reader.specs.declared.raw.RawDomain.{RawDomain}
@@ -21,6 +22,8 @@ use Rattle.net_reader.specs.declared.raw.RawEvent.{RawEvent}
 use Rattle.net_reader.specs.declared.raw.RawState.{RawState}
 use Rattle.net_reader.specs.declared.raw.RawCond.{RawCond}
 use Rattle.net_reader.specs.declared.raw.RawCond.TheVariants as conds
+use Rattle.net_reader.specs.declared.raw.RawSource.{RawSource}
+use Rattle.net_reader.specs.declared.raw.RawSource.TheVariants as sources
 use Rattle.net_reader.specs.declared.raw.RawAct.{RawAct}
 use Rattle.net_reader.specs.declared.raw.RawAct.TheVariants as acts
 use Rattle.net_reader.specs.declared.raw.RawRow.{RawRow}
@@ -54,9 +57,9 @@ one f [] = Err []
 one f (l ∷ ls) = taken (f l) l ls
 
 -- what the next token says
-abbrev pub front : {A : Type 0} → (Lexeme → Option A) → List Lexeme → Option A
-front f [] = None
-front f (l ∷ ls) = f l
+abbrev pub next_of : {A : Type 0} → (Lexeme → Option A) → List Lexeme → Option A
+next_of f [] = None
+next_of f (l ∷ ls) = f l
 
 -- the kinds that have this number
 abbrev pub is : Kind → ℕ → Bool
@@ -105,16 +108,17 @@ pure a ls = Ok (a, ls)
 -- are tokens can come.
 abbrev pub many_up_to : {A : Type 0} → ℕ → (ℕ → Bool) → Rule A → Rule (List A)
 many_up_to zero test p ls = Ok ([], ls)
-many_up_to (suc n) test p ls = cond (begins test ls) (p ls >>= λ x. many_up_to n test p x.1 >>= λ y. Ok (x.0 ∷ y.0, y.1)) (Ok ([], ls))
+many_up_to (suc n) test p ls = cond (begins test ls)
+    (p ls >>= λ x. many_up_to n test p x.1 >>= λ y. Ok (x.0 ∷ y.0, y.1)) (Ok ([], ls))
 
 unfoldable pub many : {A : Type 0} → (ℕ → Bool) → Rule A → Rule (List A)
 many test p ls = many_up_to (length ls) test p ls
 
 -- items, with others before them
-abbrev pub with_front : {A : Type 0} → List A → Answer (List A) → Answer (List A)
-with_front items answer = answer >>= λ y. Ok (items ++ y.0, y.1)
+abbrev pub with_before : {A : Type 0} → List A → Answer (List A) → Answer (List A)
+with_before items answer = answer >>= λ y. Ok (items ++ y.0, y.1)
 
--- an item and the ones behind it
+-- an item and the ones after it
 abbrev pub more : {A : Type 0} → (ℕ → Bool) → Rule A → A → Rule (List A)
 more test p a ls = many test p ls >>= λ y. Ok (a ∷ y.0, y.1)
 
@@ -167,7 +171,8 @@ to_env_at ls = do
   Ok (envs.ToEnv, e.1)
 
 unfoldable pub env_at : Rule RawEnv
-env_at = either (is (Keyword KwFrom)) from_env_at (either (is (Keyword KwTo)) to_env_at (pure envs.Between))
+env_at = either (is (Keyword KwFrom)) from_env_at
+    (either (is (Keyword KwTo)) to_env_at (pure envs.Between))
 
 unfoldable pub typed_at : Rule (Option Word)
 typed_at ls = do
@@ -217,59 +222,105 @@ one_of_at name ls = do
   r ← only (Sign RightBrace) values.1
   Ok (conds.OneOf name values.0, r.1)
 
--- what stands behind the name of a condition
-unfoldable pub behind_name_at : Word → Rule RawCond
-behind_name_at name = either (is (Sign Equal)) (is_at name) (either (is (Keyword KwIn)) (one_of_at name) (pure (conds.Present name)))
+-- what stands after the name of a condition
+unfoldable pub after_name_at : Word → Rule RawCond
+after_name_at name = either (is (Sign Equal)) (is_at name)
+    (either (is (Keyword KwIn)) (one_of_at name) (pure (conds.Present name)))
 
 unfoldable pub named_at : Rule RawCond
 named_at ls = do
   name ← word_at ls
-  behind_name_at name.0 name.1
+  after_name_at name.0 name.1
 
 unfoldable pub cond_at : Rule RawCond
 cond_at = either (is (Keyword KwAbsent)) absent_at named_at
 
-unfoldable pub given_at : Rule (Option RawValue)
-given_at ls = do
+unfoldable pub plain_at : Rule RawSource
+plain_at ls = do
+  value ← value_at ls
+  Ok (sources.Value value.0, value.1)
+
+unfoldable pub input_at : Rule RawSource
+input_at ls = do
+  v ← only (Keyword KwValue) ls
+  name ← word_at v.1
+  Ok (sources.Input name.0, name.1)
+
+unfoldable pub add_at : Word → Rule RawSource
+add_at name ls = do
+  p ← only (Sign Plus) ls
+  number ← num_at p.1
+  Ok (sources.Add name number.0, number.1)
+
+unfoldable pub add_or_plain_at : Word → Rule RawSource
+add_or_plain_at name =
+    either (is (Sign Plus)) (add_at name) (pure (sources.Value (values.Name name)))
+
+-- what a value is the beginning of, where a sum may stand
+unfoldable pub after_value_at : RawValue → Rule RawSource
+after_value_at (values.Name name) = add_or_plain_at name
+after_value_at (values.Number number) = pure (sources.Value (values.Number number))
+
+unfoldable pub sum_at : Rule RawSource
+sum_at ls = do
+  value ← value_at ls
+  after_value_at value.0 value.1
+
+unfoldable pub input_or_plain_at : Rule RawSource
+input_or_plain_at = either (is (Keyword KwValue)) input_at plain_at
+
+unfoldable pub input_or_sum_at : Rule RawSource
+input_or_sum_at = either (is (Keyword KwValue)) input_at sum_at
+
+-- what stands after the `=` of an emission
+unfoldable pub given_source_at : ℕ → Rule RawSource
+given_source_at version = cond (version == 2) input_or_plain_at plain_at
+
+-- what stands after `:=`
+unfoldable pub source_at : ℕ → Rule RawSource
+source_at version = cond (version == 2) input_or_sum_at plain_at
+
+unfoldable pub given_at : ℕ → Rule (Option RawSource)
+given_at version ls = do
   e ← only (Sign Equal) ls
-  value ← value_at e.1
-  Ok (Some value.0, value.1)
+  source ← given_source_at version e.1
+  Ok (Some source.0, source.1)
 
--- the value of an emission, if it has one
-unfoldable pub given_part_at : Rule (Option RawValue)
-given_part_at = either (is (Sign Equal)) given_at (pure None)
+-- what an emission gives, if anything
+unfoldable pub given_part_at : ℕ → Rule (Option RawSource)
+given_part_at version = either (is (Sign Equal)) (given_at version) (pure None)
 
-unfoldable pub emit_at : Rule RawAct
-emit_at ls = do
+unfoldable pub emit_at : ℕ → Rule RawAct
+emit_at version ls = do
   e ← only (Keyword KwEmit) ls
   name ← word_at e.1
-  value ← given_part_at name.1
+  value ← given_part_at version name.1
   Ok (acts.Emit name.0 value.0, value.1)
 
-unfoldable pub set_at : Rule RawAct
-set_at ls = do
+unfoldable pub set_at : ℕ → Rule RawAct
+set_at version ls = do
   name ← word_at ls
   a ← only (Sign Assign) name.1
-  value ← value_at a.1
+  value ← source_at version a.1
   Ok (acts.Set name.0 value.0, value.1)
 
-unfoldable pub act_at : Rule RawAct
-act_at = either (is (Keyword KwEmit)) emit_at set_at
+unfoldable pub act_at : ℕ → Rule RawAct
+act_at version = either (is (Keyword KwEmit)) (emit_at version) (set_at version)
 
 unfoldable pub nothing_at : Rule (List RawAct)
 nothing_at ls = do
   n ← only (Keyword KwNothing) ls
   Ok ([], n.1)
 
-unfoldable pub acts_at : Rule (List RawAct)
-acts_at = either (is (Keyword KwNothing)) nothing_at (listed act_at)
+unfoldable pub acts_at : ℕ → Rule (List RawAct)
+acts_at version = either (is (Keyword KwNothing)) nothing_at (listed (act_at version))
 
-unfoldable pub row_at : Rule RawRow
-row_at ls = do
+unfoldable pub row_at : ℕ → Rule RawRow
+row_at version ls = do
   w ← only (Keyword KwWhen) ls
   conds ← listed cond_at w.1
   d ← only (Keyword KwDo) conds.1
-  acts ← acts_at d.1
+  acts ← acts_at version d.1
   Ok (record { conds = conds.0; acts = acts.0 }, acts.1)
 
 unfoldable pub output_at : Rule (List Word)
@@ -280,25 +331,36 @@ output_at ls = do
 unfoldable pub outputs_at : Rule (List Word)
 outputs_at = either (is (Keyword KwOutput)) output_at (pure [])
 
--- what stands behind the left brace of a machine
-unfoldable pub body_at : Word → Num → Rule RawMachine
-body_at name priority ls = do
+-- what stands after the left brace of a machine
+unfoldable pub body_at : ℕ → Word → Num → Rule RawMachine
+body_at version name priority ls = do
   i ← only (Keyword KwInput) ls
   inputs ← listed word_at i.1
   outputs ← outputs_at inputs.1
   states ← many (is (Keyword KwState)) state_at outputs.1
-  rows ← many (is (Keyword KwWhen)) row_at states.1
+  rows ← many (is (Keyword KwWhen)) (row_at version) states.1
   r ← only (Sign RightBrace) rows.1
-  Ok (record { name = name; priority = priority; inputs = inputs.0; outputs = outputs.0; states = states.0; rows = rows.0 }, r.1)
+  Ok (
+    record {
+      name = name;
+      priority = priority;
+      inputs = inputs.0;
+      outputs = outputs.0;
+      states =
+          states.0;
+      rows = rows.0;
+    },
+    r.1,
+  )
 
-unfoldable pub machine_at : Rule RawMachine
-machine_at ls = do
+unfoldable pub machine_at : ℕ → Rule RawMachine
+machine_at version ls = do
   m ← only (Keyword KwMachine) ls
   name ← word_at m.1
   p ← only (Keyword KwPriority) name.1
   priority ← num_at p.1
   l ← only (Sign LeftBrace) priority.1
-  body_at name.0 priority.0 l.1
+  body_at version name.0 priority.0 l.1
 
 unfoldable pub net_at : Rule RawNet
 net_at ls = do
@@ -308,8 +370,18 @@ net_at ls = do
   version ← num_at v.1
   domains ← many (is (Keyword KwDomain)) domain_at version.1
   events ← many (is (Keyword KwEvent)) event_at domains.1
-  machines ← some (is (Keyword KwMachine)) machine_at events.1
-  Ok (record { name = name.0; version = version.0; domains = domains.0; events = events.0; machines = machines.0 }, machines.1)
+  machines ← some (is (Keyword KwMachine)) (machine_at version.0.number) events.1
+  Ok (
+    record {
+      name = name.0;
+      version = version.0;
+      domains = domains.0;
+      events = events.0;
+      machines
+          = machines.0;
+    },
+    machines.1,
+  )
 
 -- the end of the list
 unfoldable pub end_at : Rule (Unit {0})

@@ -32,6 +32,14 @@ pub record BreaksAt (text : List ℕ) (place : ℕ) : Type 0 where
   pub stops : Stops before rest
   pub here : place ≡ place_of (length text) rest
 
--- this answer, unless memory was wanting
+-- the text's tokens are all those of a sentence but its last one
+pub record LacksLast (text : List ℕ) : Type 0 where
+  pub tokens : List Token
+  pub read : tokens_of text ≡ Ok tokens
+  pub last : Lexeme
+  pub net : RawNet
+  pub sentence : IsNet net (lexemes text tokens ++ last ∷ [])
+
+-- this answer, unless memory ran out
 abbrev pub OrNoMemory : Result RawNet NetFault → Result RawNet NetFault → Type 0
 OrNoMemory result answer = (result ≡ Err faults.NoMemory) ⊎ (result ≡ answer)

@@ -5,26 +5,26 @@ ghost use Rattle.polis_base.specs.declared.token.LexError.{LexError};
 ghost use Rattle.net_reader.specs.declared.raw.RawNet.{RawNet};
 ghost use Rattle.net_reader.specs.declared.network.NetFault.{NetFault};
 ghost use Rattle.net_reader.specs.Reading.{whole_at};
-ghost use Rattle.net_reader.specs.Sentences.{HasNet, BreaksAt, OrNoMemory};
+ghost use Rattle.net_reader.specs.Sentences.{HasNet, BreaksAt, LacksLast, OrNoMemory};
 ghost use Rattle.net_reader.specs.Outcomes.{judged, outcome};
 
 use crate::raw::RawNet;
 use crate::reader::{Reader, Stop};
 use crate::rules::whole;
-use polis_base::{LexError, tokens};
+use polis_base::{LexError, first_fault};
 use std::alloc::Global;
 use thiserror::Error;
 
 /// Why a text is no network. The message is the variant's name.
 #[derive(Clone, Copy, Debug, PartialEq, Eq, Error)]
 pub enum NetFault {
-    /// The first token that doesn't read. It is never want of memory.
+    /// The first token that doesn't read. It is never running out of memory.
     #[error("Lex")]
     Lex(LexError),
     /// The place of the first token with which no sentence goes on, or the text's length where a token is missing.
     #[error("Syntax")]
     Syntax(u64),
-    /// Memory was wanting.
+    /// Out of memory.
     #[error("NoMemory")]
     NoMemory,
 }
@@ -44,15 +44,14 @@ fn read(alloc: Global, text: &[u8]) -> Result<RawNet, NetFault>
     ensures settled { OrNoMemory result (outcome text.now) }
     ensures no_memory { result ≢ Err (NetFault.Lex LexError.NoMemory) }
 {
-    match tokens(alloc, text) {
-        Ok(found) => judge(&mut Reader::new(alloc, text, &found), text.len() as u64),
-        Err(LexError::NoMemory) => Err(NetFault::NoMemory),
-        Err(fault) => Err(NetFault::Lex(fault)),
+    match first_fault(text) {
+        None => judge(&mut Reader::new(alloc, text), text.len() as u64),
+        Some(fault) => Err(NetFault::Lex(fault)),
     }
 }
 
-/// The declarations of a network text, of version 1 of the grammar. A token that doesn't read is the answer also where
-/// a syntax fault stands before it.
+/// The declarations of a network text of either version. A token that doesn't read is the answer also where a syntax
+/// fault stands before it.
 pub fn read_network(alloc: Global, text: &[u8]) -> Result<RawNet, NetFault>
     ensures ok { IfOk result (λ net. HasNet text.now net) }
     ensures one { IfOk result (λ net. (other : RawNet) → HasNet text.now other → other ≡ net) }
@@ -62,6 +61,7 @@ pub fn read_network(alloc: Global, text: &[u8]) -> Result<RawNet, NetFault>
     ensures lex_memory { result ≢ Err (NetFault.Lex LexError.NoMemory) }
     ensures syntax { (place : ℕ) → result ≡ Err (NetFault.Syntax place) → BreaksAt text.now place }
     ensures syntax_there { (place : ℕ) → BreaksAt text.now place → OrNoMemory result (Err (NetFault.Syntax place)) }
+    ensures last_missing { LacksLast text.now → OrNoMemory result (Err (NetFault.Syntax (length text.now))) }
 {
     read(alloc, text)
 }

@@ -7,7 +7,7 @@ ghost use Rattle.net_reader.specs.Places.{Declares};
 
 use crate::raw::{
     Num, RawAct, RawCond, RawDomain, RawEnv, RawEvent, RawMachine, RawNet, RawRow, RawShape,
-    RawState, RawValue, Word,
+    RawSource, RawState, RawValue, Word,
 };
 use polis_base::{Bytes, NoMemory};
 use std::alloc::Global;
@@ -35,7 +35,7 @@ fn print_all<T: Print>(items: &[T], out: &mut Bytes) -> Result<(), NoMemory>
     Ok(())
 }
 
-// Each behind a comma.
+// Each after a comma.
 fn print_others<T: Print>(items: &[T], out: &mut Bytes) -> Result<(), NoMemory>
     ensures text { OnOk result (out.new ≡ out.old ++ others_text T.text items.now) }
     ensures formed { OnOk result (IsTrue (list_all T.formed items.now)) }
@@ -233,6 +233,30 @@ impl Print for RawCond {
     }
 }
 
+impl Print for RawSource {
+    ghost use Rattle.net_reader.specs.Layout.{source_text};
+    ghost use Rattle.net_reader.specs.Formed.{source_formed};
+
+    ghost text = { source_text };
+
+    ghost formed = { source_formed };
+
+    fn print(&self, out: &mut Bytes) -> Result<(), NoMemory> {
+        match self {
+            RawSource::Value(value) => value.print(out),
+            RawSource::Input(name) => {
+                out.push(b"value ")?;
+                name.print(out)
+            }
+            RawSource::Add { name, number } => {
+                name.print(out)?;
+                out.push(b" + ")?;
+                number.print(out)
+            }
+        }
+    }
+}
+
 impl Print for RawAct {
     ghost use Rattle.net_reader.specs.Layout.{act_text};
     ghost use Rattle.net_reader.specs.Formed.{act_formed};
@@ -246,9 +270,9 @@ impl Print for RawAct {
             RawAct::Emit { name, value } => {
                 out.push(b"emit ")?;
                 name.print(out)?;
-                if let Some(value) = value {
+                if let Some(source) = value {
                     out.push(b" = ")?;
-                    value.print(out)?;
+                    source.print(out)?;
                 }
                 Ok(())
             }
@@ -261,7 +285,7 @@ impl Print for RawAct {
     }
 }
 
-// What stands behind `do`.
+// What stands after `do`.
 fn print_acts(acts: &[RawAct], out: &mut Bytes) -> Result<(), NoMemory>
     ensures text { OnOk result (out.new ≡ out.old ++ acts_text acts.now) }
     ensures formed { OnOk result (IsTrue (list_all act_formed acts.now)) }

@@ -57,7 +57,7 @@ pub enum RawShape {
     Range {
         /// The number before `..`.
         first: Num,
-        /// The number behind `..`, which may be below the first.
+        /// The number after `..`, which may be below the first.
         last: Num,
     },
 }
@@ -79,7 +79,7 @@ impl Duplicate for RawShape {
 pub struct RawDomain {
     /// The name of the domain.
     pub name: Word,
-    /// What stands behind `=`.
+    /// What stands after `=`.
     pub shape: RawShape,
 }
 
@@ -111,7 +111,7 @@ pub enum RawEnv {
 pub struct RawEvent {
     /// The name of the event.
     pub name: Word,
-    /// The name behind `:`, if there is one.
+    /// The name after `:`, if there is one.
     pub domain: Option<Word>,
     /// Its side to the environment.
     pub env: RawEnv,
@@ -189,22 +189,45 @@ impl Duplicate for RawCond {
 /// The conditions of a row, in order.
 pub type RawCondList = List<RawCond>;
 
+/// Where an action takes a value from.
+#[derive(Clone, Copy, Debug)]
+pub enum RawSource {
+    /// The value itself.
+    Value(RawValue),
+    /// `value name`: the value that this input has. Only version 2 has it.
+    Input(Word),
+    /// `name + number`: the value so many places after that of this variable, where the first value comes after the
+    /// last one. Only version 2 has it, and no emission.
+    Add {
+        /// The name before `+`.
+        name: Word,
+        /// The number after `+`.
+        number: Num,
+    },
+}
+
+impl Duplicate for RawSource {
+    fn copy(&self) -> Result<Self, NoMemory> {
+        Ok(*self)
+    }
+}
+
 /// An action: an event is emitted, with a value where it has a domain, or a variable is set.
 #[derive(Clone, Copy, Debug)]
 pub enum RawAct {
-    /// `emit name`, or `emit name = value`.
+    /// `emit name`, or `emit name = source`.
     Emit {
         /// The name of the event.
         name: Word,
-        /// The value behind `=`, if there is one.
-        value: Option<RawValue>,
+        /// What stands after `=`, if anything does.
+        value: Option<RawSource>,
     },
-    /// `name := value`.
+    /// `name := source`.
     Set {
         /// The name of the variable.
         name: Word,
-        /// The value that it gets.
-        value: RawValue,
+        /// What it gets.
+        value: RawSource,
     },
 }
 
@@ -220,9 +243,9 @@ pub type RawActList = List<RawAct>;
 /// A row. `do nothing` has no actions.
 #[derive(Drop)]
 pub struct RawRow {
-    /// The conditions behind `when`, of which all are to hold.
+    /// The conditions after `when`, of which all are to hold.
     pub conds: RawCondList,
-    /// The actions behind `do`.
+    /// The actions after `do`.
     pub acts: RawActList,
 }
 
@@ -243,7 +266,7 @@ pub type RawRowList = List<RawRow>;
 pub struct RawMachine {
     /// The name of the machine.
     pub name: Word,
-    /// The number behind `priority`.
+    /// The number after `priority`.
     pub priority: Num,
     /// The names of the events that it reads, in order.
     pub inputs: WordList,
@@ -276,7 +299,7 @@ pub type RawMachineList = List<RawMachine>;
 pub struct RawNet {
     /// The name of the network.
     pub name: Word,
-    /// The number behind `version`.
+    /// The number after `version`.
     pub version: Num,
     /// Its domains, in order.
     pub domains: RawDomainList,

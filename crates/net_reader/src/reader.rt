@@ -1,17 +1,17 @@
 // A reader that stands at a token. It is seen as the tokens that are left.
-ghost use Rattle.std.specs.Prelude.{◌≡◌, ◌<◌, true, List, length, drop, option_map, IfSome, IsTrue};
-ghost use Rattle.std.specs.List.{All};
+ghost use Rattle.std.specs.Prelude.{◌≡◌, ◌<◌, true, List, length, drop, option_map, IfSome, IsTrue, IsOk};
 ghost use Rattle.polis_base.specs.Lists.{head_of};
 ghost use Rattle.polis_base.specs.Names.{is_name};
 ghost use Rattle.polis_base.specs.Spans.{IsToken};
+ghost use Rattle.polis_base.specs.Tokens.{tokens_of, tokens_after};
 ghost use Rattle.polis_base.specs.declared.token.Kind.{Kind};
 ghost use Rattle.net_reader.specs.Kinds.{class_of};
 ghost use Rattle.net_reader.specs.Lexemes.{Lexeme, lexeme, lexemes, word_of, num_of, value_of};
-ghost use Rattle.net_reader.specs.Pieces.{seen, place_of};
-ghost use Rattle.net_reader.specs.Reading.{Gives, front, begins, is, is_fixed, only, word_at, num_at, value_at, end_at};
+ghost use Rattle.net_reader.specs.Pieces.{seen, read_tokens, place_of};
+ghost use Rattle.net_reader.specs.Reading.{Gives, next_of, begins, is, is_fixed, only, word_at, num_at, value_at, end_at};
 
 use crate::raw::{Num, RawValue, Word};
-use polis_base::{Keyword, Kind, Name, NoMemory, Sign, Token, Tokens};
+use polis_base::{Keyword, Kind, Name, NoMemory, Sign, Token, next_token};
 use std::alloc::Global;
 use std::marker::Model;
 
@@ -20,7 +20,7 @@ use std::marker::Model;
 pub(crate) enum Stop {
     // The next token doesn't fit, or there is none.
     Fault,
-    // Memory was wanting.
+    // Out of memory.
     NoMemory,
 }
 
@@ -42,25 +42,24 @@ pub(crate) struct Piece<'a> {
     at: u64,
 }
 
+// A text each token of which reads, and the next one.
 #[derive(Drop)]
 pub(crate) struct Reader<'a> {
     alloc: Global,
     text: &'a [u8],
-    tokens: &'a Tokens,
-    count: u64,
-    at: u64,
+    next: Option<Token>,
 }
 
 impl<'a> Model for Reader<'a> {
-    ghost use Rattle.std.specs.Prelude.{List, drop};
+    ghost use Rattle.std.specs.Prelude.{List};
     ghost use Rattle.net_reader.specs.Lexemes.{Lexeme, lexemes};
-    ghost use Rattle.net_reader.specs.Pieces.{StandsAt};
+    ghost use Rattle.net_reader.specs.Pieces.{StandsAt, left};
 
     ghost Value = { List Lexeme };
 
-    ghost view = { λ r. drop r.at (lexemes r.text.now r.tokens.now) };
+    ghost view = { λ r. lexemes r.text.now (left r.text.now r.next) };
 
-    ghost invariant = { λ r. StandsAt r.text.now r.tokens.now r.count r.at };
+    ghost invariant = { λ r. StandsAt r.text.now r.next };
 }
 
 // A token of a text with its bytes.
@@ -80,11 +79,13 @@ fn word_of(piece: &Piece) -> Option<Word>
     requires { piece.now.kind ≡ Kind.Name → is_name piece.now.bytes.now ≡ true }
     ensures { result ≡ word_of (seen piece.now) }
 {
-    if piece.kind != Kind::Name {
-        return None;
+    match piece.kind {
+        Kind::Name => Some(Word {
+            name: Name::of_token(piece.bytes),
+            at: piece.at,
+        }),
+        _ => None,
     }
-    let name = Name::new(piece.bytes)?;
-    Some(Word { name, at: piece.at })
 }
 
 fn num_of(piece: &Piece) -> Option<Num>
@@ -127,16 +128,15 @@ fn is_kind(wanted: Kind, kind: Kind) -> bool
 }
 
 impl<'a> Reader<'a> {
-    pub(crate) fn new(alloc: Global, text: &'a [u8], tokens: &'a Tokens) -> Self
-        requires { All (IsToken text.now) tokens.now }
-        ensures { result ≡ lexemes text.now tokens.now }
+    // At the first token.
+    pub(crate) fn new(alloc: Global, text: &'a [u8]) -> Self
+        requires { IsOk (tokens_after text.now 0) }
+        ensures { result ≡ lexemes text.now (read_tokens (tokens_of text.now)) }
     {
         Reader {
             alloc,
             text,
-            tokens,
-            count: tokens.count(),
-            at: 0,
+            next: next_token(text, 0),
         }
     }
 
@@ -149,18 +149,21 @@ impl<'a> Reader<'a> {
         ensures seen { option_map seen result ≡ head_of self.now }
         ensures name { IfSome result (λ piece. piece.kind ≡ Kind.Name → is_name piece.bytes.now ≡ true) }
     {
-        if self.at >= self.count {
-            return None;
+        match self.next {
+            Some(token) => Some(piece_of(self.text, token)),
+            None => None,
         }
-        Some(piece_of(self.text, self.tokens.token(self.at)))
     }
 
-    // Goes behind the next token.
+    // Goes after the next token.
     fn skip(&mut self)
         requires { 0 < length self.old }
         ensures { self.new ≡ drop 1 self.old }
     {
-        self.at += 1;
+        match self.next {
+            Some(token) => self.next = next_token(self.text, token.at + token.len),
+            None => {}
+        }
     }
 
     // The place of the next token, or the end where there is none.
@@ -212,7 +215,7 @@ impl<'a> Reader<'a> {
 
     // The name that comes next, if one does.
     fn next_word(&self) -> Option<Word>
-        ensures { result ≡ front word_of self.now }
+        ensures { result ≡ next_of word_of self.now }
     {
         match self.peek() {
             Some(piece) => word_of(&piece),
@@ -222,7 +225,7 @@ impl<'a> Reader<'a> {
 
     // The number that comes next, if one does.
     fn next_num(&self) -> Option<Num>
-        ensures { result ≡ front num_of self.now }
+        ensures { result ≡ next_of num_of self.now }
     {
         match self.peek() {
             Some(piece) => num_of(&piece),
@@ -232,7 +235,7 @@ impl<'a> Reader<'a> {
 
     // The value that comes next, if one does.
     fn next_value(&self) -> Option<RawValue>
-        ensures { result ≡ front value_of self.now }
+        ensures { result ≡ next_of value_of self.now }
     {
         match self.peek() {
             Some(piece) => value_of(&piece),

@@ -1,29 +1,29 @@
 // Reading by the rules of the grammar, with one token of look-ahead.
-ghost use Rattle.std.specs.Prelude.{◌≡◌, List};
+ghost use Rattle.std.specs.Prelude.{◌≡◌, ◌==◌, List};
 ghost use Rattle.polis_base.specs.declared.token.Kind.{Kind};
 ghost use Rattle.polis_base.specs.declared.token.Keyword.{Keyword};
 ghost use Rattle.polis_base.specs.declared.token.Sign.{Sign};
-ghost use Rattle.net_reader.specs.Reading.{Gives, either, pure, is, names_at, range_at, shape_at, domain_at, env_at, from_env_at, to_env_at, typed_at, typed_part_at, event_at, state_at, absent_at, is_at, one_of_at, behind_name_at, named_at, cond_at, given_at, given_part_at, emit_at, set_at, act_at, nothing_at, acts_at, row_at, output_at, outputs_at, body_at, machine_at, net_at, whole_at};
+ghost use Rattle.net_reader.specs.Reading.{Gives, either, pure, is, names_at, range_at, shape_at, domain_at, env_at, from_env_at, to_env_at, typed_at, typed_part_at, event_at, state_at, absent_at, is_at, one_of_at, after_name_at, named_at, cond_at, plain_at, input_at, add_at, add_or_plain_at, after_value_at, sum_at, input_or_plain_at, input_or_sum_at, given_source_at, source_at, given_at, given_part_at, emit_at, set_at, act_at, nothing_at, acts_at, row_at, output_at, outputs_at, body_at, machine_at, net_at, whole_at};
 
 use crate::lists::{Part, listed, many, some};
 use crate::raw::{
     Num, RawAct, RawActList, RawCond, RawDomain, RawEnv, RawEvent, RawMachine, RawNet, RawRow,
-    RawShape, RawState, RawValue, Word, WordList,
+    RawShape, RawSource, RawState, RawValue, Word, WordList,
 };
 use crate::reader::{Reader, Stop};
 use polis_base::Keyword::{
     KwAbsent, KwDo, KwDomain, KwEmit, KwEnv, KwEvent, KwFrom, KwIn, KwInput, KwMachine, KwNetwork,
-    KwNothing, KwOutput, KwPriority, KwState, KwTo, KwVersion, KwWhen,
+    KwNothing, KwOutput, KwPriority, KwState, KwTo, KwValue, KwVersion, KwWhen,
 };
-use polis_base::Sign::{Assign, Colon, DotDot, Equal, LeftBrace, RightBrace};
+use polis_base::Sign::{Assign, Colon, DotDot, Equal, LeftBrace, Plus, RightBrace};
 use polis_base::{Kind, List};
 
 #[tactic(auto, unfolding(crate::specs::Reading::names_at))]
-fn names(reader: &mut Reader) -> Result<RawShape, Stop>
+fn names(reader: &mut Reader, version: u32) -> Result<RawShape, Stop>
     ensures { Gives result reader.new (names_at reader.old) }
 {
     reader.sign(LeftBrace)?;
-    let names = listed(reader)?;
+    let names = listed(reader, version)?;
     reader.sign(RightBrace)?;
     Ok(RawShape::Names(names))
 }
@@ -39,11 +39,11 @@ fn range(reader: &mut Reader) -> Result<RawShape, Stop>
 }
 
 #[tactic(auto, unfolding(crate::specs::Reading::shape_at))]
-fn shape(reader: &mut Reader) -> Result<RawShape, Stop>
+fn shape(reader: &mut Reader, version: u32) -> Result<RawShape, Stop>
     ensures { Gives result reader.new (shape_at reader.old) }
 {
     if reader.sees(Kind::Sign(LeftBrace)) {
-        names(reader)
+        names(reader, version)
     } else {
         range(reader)
     }
@@ -52,14 +52,14 @@ fn shape(reader: &mut Reader) -> Result<RawShape, Stop>
 impl Part for RawDomain {
     ghost use Rattle.net_reader.specs.Reading.{domain_at};
 
-    ghost rule = { domain_at };
+    ghost rule = { λ _. domain_at };
 
     #[tactic(auto, unfolding(crate::specs::Reading::domain_at))]
-    fn read(reader: &mut Reader) -> Result<RawDomain, Stop> {
+    fn read(reader: &mut Reader, version: u32) -> Result<RawDomain, Stop> {
         reader.keyword(KwDomain)?;
         let name = reader.word()?;
         reader.sign(Equal)?;
-        let shape = shape(reader)?;
+        let shape = shape(reader, version)?;
         Ok(RawDomain { name, shape })
     }
 }
@@ -119,10 +119,10 @@ fn typed_part(reader: &mut Reader) -> Result<Option<Word>, Stop>
 impl Part for RawEvent {
     ghost use Rattle.net_reader.specs.Reading.{event_at};
 
-    ghost rule = { event_at };
+    ghost rule = { λ _. event_at };
 
     #[tactic(auto, unfolding(crate::specs::Reading::event_at))]
-    fn read(reader: &mut Reader) -> Result<RawEvent, Stop> {
+    fn read(reader: &mut Reader, _: u32) -> Result<RawEvent, Stop> {
         reader.keyword(KwEvent)?;
         let name = reader.word()?;
         let domain = typed_part(reader)?;
@@ -134,10 +134,10 @@ impl Part for RawEvent {
 impl Part for RawState {
     ghost use Rattle.net_reader.specs.Reading.{state_at};
 
-    ghost rule = { state_at };
+    ghost rule = { λ _. state_at };
 
     #[tactic(auto, unfolding(crate::specs::Reading::state_at))]
-    fn read(reader: &mut Reader) -> Result<RawState, Stop> {
+    fn read(reader: &mut Reader, _: u32) -> Result<RawState, Stop> {
         reader.keyword(KwState)?;
         let name = reader.word()?;
         reader.sign(Colon)?;
@@ -167,91 +167,200 @@ fn is(reader: &mut Reader, name: Word) -> Result<RawCond, Stop>
 }
 
 #[tactic(auto, unfolding(crate::specs::Reading::one_of_at))]
-fn one_of(reader: &mut Reader, name: Word) -> Result<RawCond, Stop>
+fn one_of(reader: &mut Reader, version: u32, name: Word) -> Result<RawCond, Stop>
     ensures { Gives result reader.new (one_of_at name reader.old) }
 {
     reader.keyword(KwIn)?;
     reader.sign(LeftBrace)?;
-    let values = listed(reader)?;
+    let values = listed(reader, version)?;
     reader.sign(RightBrace)?;
     Ok(RawCond::OneOf { name, values })
 }
 
-// What stands behind the name of a condition.
-#[tactic(auto, unfolding(crate::specs::Reading::behind_name_at))]
-fn behind_name(reader: &mut Reader, name: Word) -> Result<RawCond, Stop>
-    ensures { Gives result reader.new (behind_name_at name reader.old) }
+// What stands after the name of a condition.
+#[tactic(auto, unfolding(crate::specs::Reading::after_name_at))]
+fn after_name(reader: &mut Reader, version: u32, name: Word) -> Result<RawCond, Stop>
+    ensures { Gives result reader.new (after_name_at name reader.old) }
 {
     if reader.sees(Kind::Sign(Equal)) {
         is(reader, name)
     } else if reader.sees(Kind::Keyword(KwIn)) {
-        one_of(reader, name)
+        one_of(reader, version, name)
     } else {
         Ok(RawCond::Present(name))
     }
 }
 
 #[tactic(auto, unfolding(crate::specs::Reading::named_at))]
-fn named(reader: &mut Reader) -> Result<RawCond, Stop>
+fn named(reader: &mut Reader, version: u32) -> Result<RawCond, Stop>
     ensures { Gives result reader.new (named_at reader.old) }
 {
     let name = reader.word()?;
-    behind_name(reader, name)
+    after_name(reader, version, name)
 }
 
 impl Part for RawCond {
     ghost use Rattle.net_reader.specs.Reading.{cond_at};
 
-    ghost rule = { cond_at };
+    ghost rule = { λ _. cond_at };
 
     #[tactic(auto, unfolding(crate::specs::Reading::cond_at))]
-    fn read(reader: &mut Reader) -> Result<RawCond, Stop> {
+    fn read(reader: &mut Reader, version: u32) -> Result<RawCond, Stop> {
         if reader.sees(Kind::Keyword(KwAbsent)) {
             absent(reader)
         } else {
-            named(reader)
+            named(reader, version)
         }
     }
 }
 
-#[tactic(auto, unfolding(crate::specs::Reading::given_at))]
-fn given(reader: &mut Reader) -> Result<Option<RawValue>, Stop>
-    ensures { Gives result reader.new (given_at reader.old) }
+// An action of version 2 may have a source that is no plain value.
+fn has_sources(version: u32) -> bool
+    ensures { result ≡ (version == 2) }
 {
-    reader.sign(Equal)?;
-    let value = reader.value()?;
-    Ok(Some(value))
+    version == 2
 }
 
-// The value of an emission, if it has one.
+#[tactic(auto, unfolding(crate::specs::Reading::plain_at))]
+fn plain(reader: &mut Reader) -> Result<RawSource, Stop>
+    ensures { Gives result reader.new (plain_at reader.old) }
+{
+    let value = reader.value()?;
+    Ok(RawSource::Value(value))
+}
+
+#[tactic(auto, unfolding(crate::specs::Reading::input_at))]
+fn input(reader: &mut Reader) -> Result<RawSource, Stop>
+    ensures { Gives result reader.new (input_at reader.old) }
+{
+    reader.keyword(KwValue)?;
+    let name = reader.word()?;
+    Ok(RawSource::Input(name))
+}
+
+#[tactic(auto, unfolding(crate::specs::Reading::add_at))]
+fn add(reader: &mut Reader, name: Word) -> Result<RawSource, Stop>
+    ensures { Gives result reader.new (add_at name reader.old) }
+{
+    reader.sign(Plus)?;
+    let number = reader.num()?;
+    Ok(RawSource::Add { name, number })
+}
+
+#[tactic(auto, unfolding(crate::specs::Reading::add_or_plain_at))]
+fn add_or_plain(reader: &mut Reader, name: Word) -> Result<RawSource, Stop>
+    ensures { Gives result reader.new (add_or_plain_at name reader.old) }
+{
+    if reader.sees(Kind::Sign(Plus)) {
+        add(reader, name)
+    } else {
+        Ok(RawSource::Value(RawValue::Name(name)))
+    }
+}
+
+// What a value is the beginning of, where a sum may stand.
+#[tactic(auto, unfolding(crate::specs::Reading::after_value_at))]
+fn after_value(reader: &mut Reader, value: RawValue) -> Result<RawSource, Stop>
+    ensures { Gives result reader.new (after_value_at value reader.old) }
+{
+    match value {
+        RawValue::Name(name) => add_or_plain(reader, name),
+        RawValue::Number(_) => Ok(RawSource::Value(value)),
+    }
+}
+
+#[tactic(auto, unfolding(crate::specs::Reading::sum_at))]
+fn sum(reader: &mut Reader) -> Result<RawSource, Stop>
+    ensures { Gives result reader.new (sum_at reader.old) }
+{
+    let value = reader.value()?;
+    after_value(reader, value)
+}
+
+#[tactic(auto, unfolding(crate::specs::Reading::input_or_plain_at))]
+fn input_or_plain(reader: &mut Reader) -> Result<RawSource, Stop>
+    ensures { Gives result reader.new (input_or_plain_at reader.old) }
+{
+    if reader.sees(Kind::Keyword(KwValue)) {
+        input(reader)
+    } else {
+        plain(reader)
+    }
+}
+
+#[tactic(auto, unfolding(crate::specs::Reading::input_or_sum_at))]
+fn input_or_sum(reader: &mut Reader) -> Result<RawSource, Stop>
+    ensures { Gives result reader.new (input_or_sum_at reader.old) }
+{
+    if reader.sees(Kind::Keyword(KwValue)) {
+        input(reader)
+    } else {
+        sum(reader)
+    }
+}
+
+// What stands after the `=` of an emission.
+#[tactic(auto, unfolding(crate::specs::Reading::given_source_at))]
+fn given_source(reader: &mut Reader, version: u32) -> Result<RawSource, Stop>
+    ensures { Gives result reader.new (given_source_at version reader.old) }
+{
+    if has_sources(version) {
+        input_or_plain(reader)
+    } else {
+        plain(reader)
+    }
+}
+
+// What stands after `:=`.
+#[tactic(auto, unfolding(crate::specs::Reading::source_at))]
+fn source(reader: &mut Reader, version: u32) -> Result<RawSource, Stop>
+    ensures { Gives result reader.new (source_at version reader.old) }
+{
+    if has_sources(version) {
+        input_or_sum(reader)
+    } else {
+        plain(reader)
+    }
+}
+
+#[tactic(auto, unfolding(crate::specs::Reading::given_at))]
+fn given(reader: &mut Reader, version: u32) -> Result<Option<RawSource>, Stop>
+    ensures { Gives result reader.new (given_at version reader.old) }
+{
+    reader.sign(Equal)?;
+    let source = given_source(reader, version)?;
+    Ok(Some(source))
+}
+
+// What an emission gives, if anything.
 #[tactic(auto, unfolding(crate::specs::Reading::given_part_at))]
-fn given_part(reader: &mut Reader) -> Result<Option<RawValue>, Stop>
-    ensures { Gives result reader.new (given_part_at reader.old) }
+fn given_part(reader: &mut Reader, version: u32) -> Result<Option<RawSource>, Stop>
+    ensures { Gives result reader.new (given_part_at version reader.old) }
 {
     if reader.sees(Kind::Sign(Equal)) {
-        given(reader)
+        given(reader, version)
     } else {
         Ok(None)
     }
 }
 
 #[tactic(auto, unfolding(crate::specs::Reading::emit_at))]
-fn emit(reader: &mut Reader) -> Result<RawAct, Stop>
-    ensures { Gives result reader.new (emit_at reader.old) }
+fn emit(reader: &mut Reader, version: u32) -> Result<RawAct, Stop>
+    ensures { Gives result reader.new (emit_at version reader.old) }
 {
     reader.keyword(KwEmit)?;
     let name = reader.word()?;
-    let value = given_part(reader)?;
+    let value = given_part(reader, version)?;
     Ok(RawAct::Emit { name, value })
 }
 
 #[tactic(auto, unfolding(crate::specs::Reading::set_at))]
-fn set(reader: &mut Reader) -> Result<RawAct, Stop>
-    ensures { Gives result reader.new (set_at reader.old) }
+fn set(reader: &mut Reader, version: u32) -> Result<RawAct, Stop>
+    ensures { Gives result reader.new (set_at version reader.old) }
 {
     let name = reader.word()?;
     reader.sign(Assign)?;
-    let value = reader.value()?;
+    let value = source(reader, version)?;
     Ok(RawAct::Set { name, value })
 }
 
@@ -261,11 +370,11 @@ impl Part for RawAct {
     ghost rule = { act_at };
 
     #[tactic(auto, unfolding(crate::specs::Reading::act_at))]
-    fn read(reader: &mut Reader) -> Result<RawAct, Stop> {
+    fn read(reader: &mut Reader, version: u32) -> Result<RawAct, Stop> {
         if reader.sees(Kind::Keyword(KwEmit)) {
-            emit(reader)
+            emit(reader, version)
         } else {
-            set(reader)
+            set(reader, version)
         }
     }
 }
@@ -279,13 +388,13 @@ fn nothing(reader: &mut Reader) -> Result<RawActList, Stop>
 }
 
 #[tactic(auto, unfolding(crate::specs::Reading::acts_at))]
-fn acts(reader: &mut Reader) -> Result<RawActList, Stop>
-    ensures { Gives result reader.new (acts_at reader.old) }
+fn acts(reader: &mut Reader, version: u32) -> Result<RawActList, Stop>
+    ensures { Gives result reader.new (acts_at version reader.old) }
 {
     if reader.sees(Kind::Keyword(KwNothing)) {
         nothing(reader)
     } else {
-        listed(reader)
+        listed(reader, version)
     }
 }
 
@@ -295,44 +404,44 @@ impl Part for RawRow {
     ghost rule = { row_at };
 
     #[tactic(auto, unfolding(crate::specs::Reading::row_at))]
-    fn read(reader: &mut Reader) -> Result<RawRow, Stop> {
+    fn read(reader: &mut Reader, version: u32) -> Result<RawRow, Stop> {
         reader.keyword(KwWhen)?;
-        let conds = listed(reader)?;
+        let conds = listed(reader, version)?;
         reader.keyword(KwDo)?;
-        let acts = acts(reader)?;
+        let acts = acts(reader, version)?;
         Ok(RawRow { conds, acts })
     }
 }
 
 #[tactic(auto, unfolding(crate::specs::Reading::output_at))]
-fn output(reader: &mut Reader) -> Result<WordList, Stop>
+fn output(reader: &mut Reader, version: u32) -> Result<WordList, Stop>
     ensures { Gives result reader.new (output_at reader.old) }
 {
     reader.keyword(KwOutput)?;
-    listed(reader)
+    listed(reader, version)
 }
 
 #[tactic(auto, unfolding(crate::specs::Reading::outputs_at))]
-fn outputs(reader: &mut Reader) -> Result<WordList, Stop>
+fn outputs(reader: &mut Reader, version: u32) -> Result<WordList, Stop>
     ensures { Gives result reader.new (outputs_at reader.old) }
 {
     if reader.sees(Kind::Keyword(KwOutput)) {
-        output(reader)
+        output(reader, version)
     } else {
         Ok(List::new(reader.alloc()))
     }
 }
 
-// What stands behind the left brace of a machine.
+// What stands after the left brace of a machine.
 #[tactic(auto, unfolding(crate::specs::Reading::body_at))]
-fn body(reader: &mut Reader, name: Word, priority: Num) -> Result<RawMachine, Stop>
-    ensures { Gives result reader.new (body_at name priority reader.old) }
+fn body(reader: &mut Reader, version: u32, name: Word, priority: Num) -> Result<RawMachine, Stop>
+    ensures { Gives result reader.new (body_at version name priority reader.old) }
 {
     reader.keyword(KwInput)?;
-    let inputs = listed(reader)?;
-    let outputs = outputs(reader)?;
-    let states = many(reader, Kind::Keyword(KwState))?;
-    let rows = many(reader, Kind::Keyword(KwWhen))?;
+    let inputs = listed(reader, version)?;
+    let outputs = outputs(reader, version)?;
+    let states = many(reader, version, Kind::Keyword(KwState))?;
+    let rows = many(reader, version, Kind::Keyword(KwWhen))?;
     reader.sign(RightBrace)?;
     Ok(RawMachine {
         name,
@@ -350,13 +459,13 @@ impl Part for RawMachine {
     ghost rule = { machine_at };
 
     #[tactic(auto, unfolding(crate::specs::Reading::machine_at))]
-    fn read(reader: &mut Reader) -> Result<RawMachine, Stop> {
+    fn read(reader: &mut Reader, version: u32) -> Result<RawMachine, Stop> {
         reader.keyword(KwMachine)?;
         let name = reader.word()?;
         reader.keyword(KwPriority)?;
         let priority = reader.num()?;
         reader.sign(LeftBrace)?;
-        body(reader, name, priority)
+        body(reader, version, name, priority)
     }
 }
 
@@ -368,9 +477,9 @@ fn net(reader: &mut Reader) -> Result<RawNet, Stop>
     let name = reader.word()?;
     reader.keyword(KwVersion)?;
     let version = reader.num()?;
-    let domains = many(reader, Kind::Keyword(KwDomain))?;
-    let events = many(reader, Kind::Keyword(KwEvent))?;
-    let machines = some(reader, Kind::Keyword(KwMachine))?;
+    let domains = many(reader, version.number, Kind::Keyword(KwDomain))?;
+    let events = many(reader, version.number, Kind::Keyword(KwEvent))?;
+    let machines = some(reader, version.number, Kind::Keyword(KwMachine))?;
     Ok(RawNet {
         name,
         version,
@@ -380,7 +489,7 @@ fn net(reader: &mut Reader) -> Result<RawNet, Stop>
     })
 }
 
-// A network and nothing behind it.
+// A network and nothing after it.
 #[tactic(auto, unfolding(crate::specs::Reading::whole_at))]
 pub(crate) fn whole(reader: &mut Reader) -> Result<RawNet, Stop>
     ensures { Gives result reader.new (whole_at reader.old) }

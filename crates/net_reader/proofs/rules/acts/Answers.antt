@@ -2,4 +2,4 @@ use Rattle.net_reader.proofs.GrammarLaws.{act_shrinks}
 use Rattle.net_reader.proofs.rules.acts.Goals as goal
 
 pub listed-requires : goal.listed-requires
-listed-requires c = act_shrinks
+listed-requires c = act_shrinks c.args.version

@@ -8,4 +8,4 @@ pub many-requires-clause-shrinks : goal.many-requires-clause-shrinks
 many-requires-clause-shrinks c = state_shrinks
 
 pub many-requires-2-clause-shrinks : goal.many-requires-2-clause-shrinks
-many-requires-2-clause-shrinks c = row_shrinks
+many-requires-2-clause-shrinks c = row_shrinks c.args.version

@@ -8,4 +8,4 @@ pub many-requires-2-clause-shrinks : goal.many-requires-2-clause-shrinks
 many-requires-2-clause-shrinks c = event_shrinks
 
 pub some-requires-clause-shrinks : goal.some-requires-clause-shrinks
-some-requires-clause-shrinks c = machine_shrinks
+some-requires-clause-shrinks c = machine_shrinks _

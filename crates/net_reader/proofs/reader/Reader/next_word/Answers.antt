@@ -1,11 +1,11 @@
 use Rattle.net_reader.specs.Lexemes.{word_of}
 use Rattle.net_reader.specs.Pieces.{seen}
-use Rattle.net_reader.proofs.Steps.{head_front, no_front}
+use Rattle.net_reader.proofs.Steps.{head_next, no_next}
 use Rattle.std.proofs.Common.{◌∙◌}
 use Rattle.net_reader.proofs.reader.Reader.next_word.Goals as goal
 
 pub returns-in-Some : goal.returns-in-Some
-returns-in-Some c = c.word_of.ensures ∙ head_front word_of c.args.self.now (seen c.in-Some.piece) c.in-Some.ensures.seen
+returns-in-Some c = c.word_of.ensures ∙ head_next word_of c.args.self.now (seen c.in-Some.piece) c.in-Some.ensures.seen
 
 pub returns-in-None : goal.returns-in-None
-returns-in-None c = no_front word_of c.args.self.now c.in-None.ensures.seen
+returns-in-None c = no_next word_of c.args.self.now c.in-None.ensures.seen

@@ -1,13 +1,15 @@
-use Rattle.std.proofs.Common.{◌<◌, length, drop, ap, subst, sym, ◌∙◌, arith, List}
-use Rattle.net_reader.specs.Lexemes.{Lexeme, lexemes}
-use Rattle.net_reader.proofs.Steps.{drop_more, long_below}
+use Rattle.std.proofs.Common.{◌+◌, drop, ap, sym, ◌∙◌}
+use Rattle.net_reader.specs.Lexemes.{lexemes}
+use Rattle.net_reader.specs.Pieces.{left}
+use Rattle.net_reader.proofs.Steps.{left_after, stands_after}
 use Rattle.net_reader.proofs.reader.Reader.skip.Goals as goal
 
-pub overflow_add-self : goal.overflow_add-self
-overflow_add-self c =
-    let long : 0 < length (drop c.self.inside.at (lexemes c.self.inside.text.now c.self.inside.tokens.now)) = subst (λ (ls : List Lexeme). 0 < length ls) (sym c.self.view_is) c.requires in
-    let below = long_below c.self.inside.text.now c.self.inside.tokens.now c.self.inside.at long in
-    omega arith
+pub invariant_of-self : goal.invariant_of-self
+invariant_of-self c = stands_after c.self.inside.text.now (c.in-Some.token.at + c.in-Some.token.len) c.next_token-self-inside.result c.next_token-self-inside.ensures.some
 
-pub returns : goal.returns
-returns c = drop_more c.self.inside.at (lexemes c.self.inside.text.now c.self.inside.tokens.now) ∙ ap (drop 1) c.self.view_is
+pub returns-in-Some : goal.returns-in-Some
+returns-in-Some c =
+    let text = c.self.inside.text.now in
+    let token = c.in-Some.token in
+    let e = left_after text (token.at + token.len) c.next_token-self-inside.result c.next_token-self-inside.ensures.some c.next_token-self-inside.ensures.none in
+    ap (lexemes text) e ∙ ap (λ next. drop 1 (lexemes text (left text next))) (sym c.in-Some.is) ∙ ap (drop 1) c.self.view_is

@@ -1,4 +1,4 @@
--- One more at a place, and zeros behind it, made place by place.
+-- One more at a place, and zeros after it, made place by place.
 use Rattle.std.proofs.Common.{◌≡◌, ℕ, zero, suc, ◌+◌, ◌<◌, List, [], ◌∷◌, ◌++◌, length, replicate, take, drop, set, slice_index, length-append, length-drop, arith, ap, refl}
 use Rattle.std.proofs.lemmas.List.{length-take, length-replicate}
 use Rattle.domains.specs.Tables.{stepped}

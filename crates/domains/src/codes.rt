@@ -78,10 +78,7 @@ pub fn first_codes(alloc: Global, vars: &VarTable) -> Result<Codes, NoMemory>
     ensures fits { IfOk result (λ codes. IsTrue (fits vars.now codes)) }
     ensures first { IfOk result (λ codes. rank vars.now codes ≡ 0) }
 {
-    let mut codes = List::new(alloc);
-    for _ in 0..vars.len() {
-        codes.push(0)?;
-    }
+    let codes = Codes::filled(alloc, vars.len(), 0)?;
     Ok(codes)
 }
 
@@ -91,7 +88,7 @@ fn last_below(codes: &Codes, vars: &VarTable) -> Option<u64>
     ensures sizes { IsTrue (are_sizes vars.now) }
     ensures place { IfSome result (λ k. k < length codes.now) }
     ensures below { IfSome result (λ k. slice_index codes.now k + 1 < slice_index vars.now k) }
-    ensures behind { IfSome result (λ k. IsTrue (are_greatest (drop (suc k) vars.now) (drop (suc k) codes.now))) }
+    ensures after { IfSome result (λ k. IsTrue (are_greatest (drop (suc k) vars.now) (drop (suc k) codes.now))) }
     ensures none { IfNone result (IsTrue (are_greatest vars.now codes.now)) }
 {
     for k in (0..vars.len()).rev() {
@@ -103,7 +100,7 @@ fn last_below(codes: &Codes, vars: &VarTable) -> Option<u64>
     None
 }
 
-// Adds one to a code, and sets those behind it to 0.
+// Adds one to a code, and sets those after it to 0.
 fn step(codes: &mut Codes, k: u64)
     requires place { k < length codes.old }
     requires room { slice_index codes.old k < 255 }
@@ -112,8 +109,8 @@ fn step(codes: &mut Codes, k: u64)
     let len = codes.len();
     let code = *codes.get(k) + 1;
     codes.set(k, code);
-    for behind in k + 1..len {
-        codes.set(behind, 0);
+    for after in k + 1..len {
+        codes.set(after, 0);
     }
 }
 

@@ -1,8 +1,19 @@
 -- The small machines on their snapshots, by computation.
-use Rattle.std.proofs.Common.{◌≡◌, ℕ, zero, suc, false, [], ◌∷◌, lit<, refl, ap, inl, inr}
-use Rattle.transition_table.specs.Samples.{lamp_machine, loop_machine, value_machine, clash_machine}
-use Rattle.transition_table.specs.Transitions.{is_enabled, Conflict}
-use Rattle.transition_table.specs.Worked.{Fires, Idles, reading}
+use Rattle.std.proofs.Common.{◌≡◌, ◌<◌, ℕ, zero, suc, true, false, ◌==◌, nat_lt, List, [], ◌∷◌, slice_index, arith, lit<, refl, sym, ap, subst, inl, inr}
+use Rattle.std.specs.List.{list_all}
+use Rattle.std.specs.Int.{bit_at}
+use Rattle.std.proofs.lemmas.Bool.{ltb-true}
+use Rattle.domains.specs.Tables.{fits}
+use Rattle.transition_table.proofs.Rows.{left_true, length-fits}
+use Rattle.transition_table.specs.SampleClash.{clash_machine}
+use Rattle.transition_table.specs.SampleEcho.{echo_machine}
+use Rattle.transition_table.specs.SampleLamp.{lamp_machine}
+use Rattle.transition_table.specs.SampleLoop.{loop_machine}
+use Rattle.transition_table.specs.SampleTwice.{agreeing_machine, differing_machine}
+use Rattle.transition_table.specs.SampleValue.{value_machine}
+use Rattle.transition_table.specs.Samples.{has_codes}
+use Rattle.transition_table.specs.Transitions.{reading, is_enabled, allows, result, IsDeterministic, Conflict}
+use Rattle.transition_table.specs.Worked.{Fires, Idles}
 use Rattle.transition_table.specs.declared.snapshot.Outcome.{Outcome}
 
 pub lamp_pressed : Fires lamp_machine (1 ∷ 0 ∷ []) 0 (2 ∷ []) (1 ∷ [])
@@ -58,3 +69,52 @@ clash = record {
   second = refl;
   differ = λ e. let outs = ap (λ (o : Outcome). o.outs) e in cc;
 }
+
+-- a snapshot of one variable with 9 codes, of which a condition allows the code 2 alone
+one_code : (xs : List ℕ) → fits (9 ∷ []) xs ≡ true → list_all (allows xs) (has_codes 0 4 ∷ []) ≡ true → xs ≡ 2 ∷ []
+one_code [] fit held = cc
+one_code (x ∷ y ∷ xs) fit held = let long = length-fits (9 ∷ []) (x ∷ y ∷ xs) fit in absurd (omega arith)
+one_code (x ∷ []) fit held = pick x (ltb-true x 9 (left_true (nat_lt x 9) true fit)) (left_true (bit_at 4 x == 1) true held)
+  where
+    pick : (x : ℕ) → x < 9 → (bit_at 4 x == 1) ≡ true → x ∷ [] ≡ 2 ∷ []
+    pick zero below set = cc
+    pick (suc zero) below set = cc
+    pick (suc (suc zero)) below set = refl
+    pick (suc (suc (suc zero))) below set = cc
+    pick (suc (suc (suc (suc zero)))) below set = cc
+    pick (suc (suc (suc (suc (suc zero))))) below set = cc
+    pick (suc (suc (suc (suc (suc (suc zero)))))) below set = cc
+    pick (suc (suc (suc (suc (suc (suc (suc zero))))))) below set = cc
+    pick (suc (suc (suc (suc (suc (suc (suc (suc zero)))))))) below set = cc
+    pick (suc (suc (suc (suc (suc (suc (suc (suc (suc x))))))))) below set = absurd (omega arith)
+
+pub echo_six : Fires echo_machine (6 ∷ 6 ∷ []) 0 (2 ∷ []) (6 ∷ [])
+echo_six = record { snapshot = refl; enabled = refl; gives = refl; transition = inl (0, refl, refl) }
+
+echo_absent-none : (row : ℕ) → is_enabled echo_machine row (reading (0 ∷ 6 ∷ [])) ≡ false
+echo_absent-none zero = refl
+echo_absent-none (suc row) = refl
+
+pub echo_absent : Idles echo_machine (0 ∷ 6 ∷ [])
+echo_absent = record { snapshot = refl; none = echo_absent-none; transition = inr (echo_absent-none, refl) }
+
+pub differing : Conflict differing_machine 0 1 (reading (2 ∷ []))
+differing = record {
+  order = lit< tt;
+  snapshot = refl;
+  first = refl;
+  second = refl;
+  differ = λ e. let outs = ap (λ (o : Outcome). slice_index o.outs 0) e in omega arith;
+}
+
+-- where the second row is enabled, the first gives the same
+pub agreeing : IsDeterministic agreeing_machine
+agreeing zero zero s order snapshot first second = absurd (omega arith)
+agreeing zero (suc zero) s order snapshot first second =
+    let only : s.codes ≡ 2 ∷ [] = one_code s.codes snapshot second in
+    subst (λ codes. result agreeing_machine 0 (reading codes) ≡ result agreeing_machine 1 (reading codes)) (sym only) refl
+agreeing zero (suc (suc b)) s order snapshot first second = cc
+agreeing (suc zero) zero s order snapshot first second = absurd (omega arith)
+agreeing (suc zero) (suc zero) s order snapshot first second = absurd (omega arith)
+agreeing (suc zero) (suc (suc b)) s order snapshot first second = cc
+agreeing (suc (suc a)) b s order snapshot first second = cc

@@ -1,8 +1,11 @@
--- Small machines.
-use Rattle.std.specs.Prelude.{ℕ, [], ◌∷◌, codes, refl}
-use Rattle.transition_table.specs.declared.row.Cond.{Cond}
+-- Parts of small networks. Each network that tests and worked rows speak of has a file of its own beside this one.
+use Rattle.std.specs.Prelude.{ℕ, Bool, List, None, Some}
+use Rattle.transition_table.specs.declared.decl.EventDecl.{EventDecl}
+use Rattle.transition_table.specs.declared.decl.Party.{Party}
+use Rattle.transition_table.specs.declared.decl.StateDecl.{StateDecl}
 use Rattle.transition_table.specs.declared.row.Act.{Act}
-use Rattle.transition_table.specs.declared.machine.Machine.{Machine}
+use Rattle.transition_table.specs.declared.row.Cond.{Cond}
+use Rattle.transition_table.specs.declared.row.Source.TheVariants.{Code, Input, Add}
 
 -- a condition: the variable has one of these codes, by bits
 abbrev pub has_codes : ℕ → ℕ → Cond
@@ -10,90 +13,24 @@ has_codes var codes = record { var = var; codes = codes }
 
 -- an action: the result gets this code
 abbrev pub gives : ℕ → ℕ → Act
-gives result code = record { result = result; code = code }
+gives result code = record { result = result; source = Code code }
 
--- a lamp that a press turns on:
---   input press; output light; state s : { off, on } = off
---   when press, s = off do s := on, emit light
-abbrev pub lamp_machine : Machine
-lamp_machine = record {
-  name = codes "lamp_ctl";
-  priority = 1;
-  inputs = 0 ∷ [];
-  outputs = 1 ∷ [];
-  states = record { name = codes "s"; domain = 0; init = 0 } ∷ [];
-  vars = 2 ∷ 2 ∷ [];
-  results = 2 ∷ 3 ∷ 2 ∷ [];
-  rows = record { conds = has_codes 0 2 ∷ has_codes 1 1 ∷ []; acts = gives 1 2 ∷ gives 2 1 ∷ []; actions = refl } ∷ [];
-  sized_vars = refl;
-  sized_results = refl;
-  fitting_rows = refl;
-  small = refl;
-}
+-- an action: the result gets the code of this input
+abbrev pub copies : ℕ → ℕ → Act
+copies result var = record { result = result; source = Input var }
 
--- a machine that reads what it emits:
---   input go, x; output x; state c : 0 .. 3 = 0
---   when go, c = 0 do c := 1, emit x
---   when x, c = 1 do c := 2, emit x
---   when x, c = 2 do c := 3
-abbrev pub loop_machine : Machine
-loop_machine = record {
-  name = codes "m";
-  priority = 0;
-  inputs = 0 ∷ 1 ∷ [];
-  outputs = 1 ∷ [];
-  states = record { name = codes "c"; domain = 0; init = 0 } ∷ [];
-  vars = 2 ∷ 2 ∷ 4 ∷ [];
-  results = 2 ∷ 5 ∷ 2 ∷ [];
-  rows =
-      record { conds = has_codes 0 2 ∷ has_codes 2 1 ∷ []; acts = gives 1 2 ∷ gives 2 1 ∷ []; actions = refl }
-      ∷ record { conds = has_codes 1 2 ∷ has_codes 2 2 ∷ []; acts = gives 1 3 ∷ gives 2 1 ∷ []; actions = refl }
-      ∷ record { conds = has_codes 1 2 ∷ has_codes 2 4 ∷ []; acts = gives 1 4 ∷ []; actions = refl } ∷ [];
-  sized_vars = refl;
-  sized_results = refl;
-  fitting_rows = refl;
-  small = refl;
-}
+-- an action: the result's state variable goes so much further
+abbrev pub adds : ℕ → ℕ → Act
+adds result step = record { result = result; source = Add step }
 
--- a machine that reads a value:
---   input v : 0 .. 7; output hit
---   when v = 5 do emit hit
-abbrev pub value_machine : Machine
-value_machine = record {
-  name = codes "m";
-  priority = 0;
-  inputs = 0 ∷ [];
-  outputs = 1 ∷ [];
-  states = [];
-  vars = 9 ∷ [];
-  results = 2 ∷ 2 ∷ [];
-  rows = record { conds = has_codes 0 64 ∷ []; acts = gives 1 1 ∷ []; actions = refl } ∷ [];
-  sized_vars = refl;
-  sized_results = refl;
-  fitting_rows = refl;
-  small = refl;
-}
+-- a state variable of this domain, with its first value
+abbrev pub state_of : List ℕ → ℕ → ℕ → StateDecl
+state_of name domain init = record { name = name; domain = domain; init = init }
 
--- a machine whose first and last row conflict:
---   input a, b; output c
---   when a do emit c
---   when b, absent a do nothing
---   when a, b do nothing
-abbrev pub clash_machine : Machine
-clash_machine = record {
-  name = codes "m";
-  priority = 0;
-  inputs = 0 ∷ 1 ∷ [];
-  outputs = 2 ∷ [];
-  states = [];
-  vars = 2 ∷ 2 ∷ [];
-  results = 2 ∷ 2 ∷ [];
-  rows =
-      record { conds = has_codes 0 2 ∷ []; acts = gives 1 1 ∷ []; actions = refl }
-      ∷ record { conds = has_codes 1 2 ∷ has_codes 0 1 ∷ []; acts = []; actions = refl }
-      ∷ record { conds = has_codes 0 2 ∷ has_codes 1 2 ∷ []; acts = []; actions = refl } ∷ [];
-  sized_vars = refl;
-  sized_results = refl;
-  fitting_rows = refl;
-  small = refl;
-}
+-- an event without a value, one with a value of this domain: its sender, whether the environment reads it, and the
+-- machines that do
+abbrev pub pure_event : List ℕ → Party → Bool → List ℕ → EventDecl
+pure_event name sender out receivers = record { name = name; domain = None; sender = sender; to_env = out; receivers = receivers }
+
+abbrev pub valued_event : List ℕ → ℕ → Party → Bool → List ℕ → EventDecl
+valued_event name domain sender out receivers = record { name = name; domain = Some domain; sender = sender; to_env = out; receivers = receivers }

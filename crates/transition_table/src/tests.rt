@@ -1,7 +1,7 @@
 // The calls that need no network, with ample memory.
 use crate::{
-    Act, ActList, Cond, CondList, EventDecl, Outcome, Party, Row, Snapshot, StateDecl, laws,
-    worked_rows,
+    Act, ActList, Cond, CondList, EventDecl, Outcome, Party, Row, Snapshot, Source, StateDecl,
+    laws, worked_rows,
 };
 use domains::Codes;
 use polis_base::{Duplicate, Name, Numbers};
@@ -32,7 +32,16 @@ fn copies(rt: HostRuntime) -> Result<(), Fail> {
     };
     assert_eq!(rt; row.copy()?.acts.len(), 0);
     assert_eq!(rt; Cond { var: 1, codes: 2 }.copy()?.codes, 2);
-    assert_eq!(rt; Act { result: 1, code: 2 }.copy()?.code, 2);
+    assert_eq!(rt; Source::Add(3).copy()?, Source::Add(3));
+    assert_eq!(rt;
+        Act {
+            result: 1,
+            source: Source::Code(2)
+        }
+        .copy()?
+        .result,
+        1
+    );
     let snapshot = Snapshot {
         codes: Codes::new(rt.alloc()),
     };

@@ -1,8 +1,14 @@
 // Worked rows: what the definitions say of small machines.
 ghost use Rattle.std.specs.Prelude.{[], ◌∷◌};
-ghost use Rattle.transition_table.specs.Samples.{lamp_machine, loop_machine, value_machine, clash_machine};
-ghost use Rattle.transition_table.specs.Transitions.{Conflict, IsDeterministic};
-ghost use Rattle.transition_table.specs.Worked.{Fires, Idles, reading};
+ghost use Rattle.transition_table.specs.Orders.{Char, Support};
+ghost use Rattle.transition_table.specs.SampleClash.{clash_machine};
+ghost use Rattle.transition_table.specs.SampleEcho.{echo_machine};
+ghost use Rattle.transition_table.specs.SampleLamp.{lamp_machine};
+ghost use Rattle.transition_table.specs.SampleLoop.{loop_machine};
+ghost use Rattle.transition_table.specs.SampleTwice.{agreeing_machine, differing_machine};
+ghost use Rattle.transition_table.specs.SampleValue.{value_machine};
+ghost use Rattle.transition_table.specs.Transitions.{reading, Conflict, IsDeterministic};
+ghost use Rattle.transition_table.specs.Worked.{Fires, Idles};
 
 /// The definitions give what the tables of small machines say.
 pub fn worked_rows()
@@ -16,5 +22,12 @@ pub fn worked_rows()
     ensures loop_end { Idles loop_machine (1 ∷ 1 ∷ 3 ∷ []) }
     ensures value_five { Fires value_machine (6 ∷ []) 0 [] (1 ∷ []) }
     ensures value_four { Idles value_machine (5 ∷ []) }
+    ensures echo_six { Fires echo_machine (6 ∷ 6 ∷ []) 0 (2 ∷ []) (6 ∷ []) }
+    ensures echo_absent { Idles echo_machine (0 ∷ 6 ∷ []) }
+    ensures echo_char { Char echo_machine (6 ∷ 6 ∷ 1 ∷ 2 ∷ 6 ∷ []) }
+    ensures echo_counts { Support echo_machine 1 1 }
+    ensures echo_passes_on { ¬ Support echo_machine 2 1 }
+    ensures agreeing { IsDeterministic agreeing_machine }
+    ensures differing { Conflict differing_machine 0 1 (reading (2 ∷ [])) }
     ensures clash { Conflict clash_machine 0 2 (reading (1 ∷ 1 ∷ [])) }
 {}

@@ -1,0 +1,48 @@
+-- A machine that passes a value on, by a row for each value and one for the value 1.
+--   input v : 0 .. 7; output w : 0 .. 7
+--   when v do emit w = value v
+--   when v = 1 do emit w = ..
+use Rattle.std.specs.Prelude.{ℕ, List, [], ◌∷◌, codes, refl}
+use Rattle.transition_table.specs.declared.row.Row.{Row}
+use Rattle.transition_table.specs.declared.machine.Machine.{Machine}
+use Rattle.transition_table.specs.Samples.{has_codes, gives, copies}
+
+-- the second row emits this code
+abbrev pub twice_rows : ℕ → List Row
+twice_rows code =
+    record { conds = has_codes 0 510 ∷ []; acts = copies 1 0 ∷ []; actions = refl }
+    ∷ record { conds = has_codes 0 4 ∷ []; acts = gives 1 code ∷ []; actions = refl } ∷ []
+
+-- it emits the value 1, too
+abbrev pub agreeing_machine : Machine
+agreeing_machine = record {
+  name = codes "m";
+  priority = 0;
+  inputs = 0 ∷ [];
+  outputs = 1 ∷ [];
+  states = [];
+  vars = 9 ∷ [];
+  results = 2 ∷ 9 ∷ [];
+  rows = twice_rows 2;
+  sized_vars = refl;
+  sized_results = refl;
+  fitting_rows = refl;
+  small = refl;
+}
+
+-- it emits the value 0
+abbrev pub differing_machine : Machine
+differing_machine = record {
+  name = codes "m";
+  priority = 0;
+  inputs = 0 ∷ [];
+  outputs = 1 ∷ [];
+  states = [];
+  vars = 9 ∷ [];
+  results = 2 ∷ 9 ∷ [];
+  rows = twice_rows 1;
+  sized_vars = refl;
+  sized_results = refl;
+  fitting_rows = refl;
+  small = refl;
+}

@@ -1,0 +1,19 @@
+use Rattle.std.proofs.Common.{rules, ◌∙◌}
+use Rattle.transition_table.specs.SamplePong.{returning_machine as the_returner}
+use Rattle.sample_networks.proofs.SameRows.{same_rows}
+use Rattle.sample_networks.proofs.pong.returning_machine.Goals as goal
+
+pub returns : goal.returns
+returns c =
+    let made = c.in_ok-made in
+    c.laws_of_data.ensures.same_machine made.made the_returner
+    (record {
+      name = made.ensures.name;
+      priority = made.ensures.priority;
+      inputs = made.ensures.inputs;
+      outputs = made.ensures.outputs;
+      states = made.ensures.states ∙ search rules;
+      vars = made.ensures.vars;
+      results = made.ensures.results;
+      rows = made.ensures.rows ∙ same_rows _ _ (search rules) (search rules);
+    })

@@ -1,0 +1,19 @@
+use Rattle.std.proofs.Common.{rules, ◌∙◌, codes}
+use Rattle.transition_table.specs.SampleTwo.{two_machine as the_machine}
+use Rattle.sample_networks.proofs.SameRows.{same_rows}
+use Rattle.sample_networks.proofs.two.second_machine.Goals as goal
+
+pub returns : goal.returns
+returns c =
+    let made = c.in_ok-made in
+    c.laws_of_data.ensures.same_machine made.made (the_machine (codes "b") c.args.priority 2)
+    (record {
+      name = made.ensures.name;
+      priority = made.ensures.priority;
+      inputs = made.ensures.inputs;
+      outputs = made.ensures.outputs;
+      states = made.ensures.states ∙ search rules;
+      vars = made.ensures.vars;
+      results = made.ensures.results;
+      rows = made.ensures.rows ∙ same_rows _ _ (search rules) (search rules);
+    })

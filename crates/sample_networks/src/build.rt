@@ -1,0 +1,216 @@
+// Parts of networks.
+ghost use Rattle.std.specs.Prelude.{◌≡◌, ◌≤◌, ◌<◌, ◌-◌, [], ◌∷◌, IfOk, IsTrue};
+ghost use Rattle.std.specs.List.{list_all};
+ghost use Rattle.polis_base.specs.Names.{is_name};
+ghost use Rattle.domains.specs.Names.{AreValues};
+ghost use Rattle.domains.specs.Tables.{are_sizes};
+ghost use Rattle.domains.specs.declared.domain.Domain.TheVariants.{Names as NamesOf, Range as RangeOf};
+ghost use Rattle.domains.specs.declared.domain.Span.{Span as SpanOf};
+ghost use Rattle.sample_networks.specs.Ranges.{zero_to_three as three, zero_to_seven as seven, zero_to_ten as ten};
+ghost use Rattle.transition_table.specs.MachineFacts.{are_vars, are_results, is_row, is_small};
+ghost use Rattle.transition_table.specs.RowFacts.{are_actions};
+ghost use Rattle.transition_table.specs.Samples.{has_codes, gives as gives_code, copies as copies_input, adds as adds_step, pure_event as the_pure_event, valued_event as the_valued_event, state_of};
+
+use domains::{Domain, NameList, Span, VarTable};
+use polis_base::{List, Name, NoMemory};
+use std::alloc::Global;
+use transition_table::{
+    Act, Cond, EventDecl, Machine, Party, Row, RowList, Source, StateDecl, StateList,
+};
+
+/// The environment.
+pub const ENV: Party = Party::Env;
+
+/// A table of these sizes.
+pub fn sizes(alloc: Global, sizes: &[u8]) -> Result<VarTable, NoMemory>
+    requires { IsTrue (are_sizes sizes.now) }
+    ensures { IfOk result (λ table. table ≡ sizes.now) }
+{
+    let mut table = VarTable::new(alloc);
+    for size in sizes {
+        table.push(*size)?;
+    }
+    Ok(table)
+}
+
+/// A domain of these names.
+pub fn named(alloc: Global, names: &[Name]) -> Result<Domain, NoMemory>
+    requires { AreValues names.now }
+    ensures { IfOk result (λ d. d ≡ NamesOf names.now) }
+{
+    Ok(Domain::Names(NameList::of(List::from_slice(alloc, names)?)))
+}
+
+/// A domain of the numbers from the first to the last.
+pub fn range(first: u32, last: u32) -> Domain
+    requires ordered { first ≤ last }
+    requires few { last - first < 32 }
+    ensures { (span : SpanOf) → first ≡ span.first → last ≡ span.last → result ≡ RangeOf span }
+{
+    domains::laws();
+    Domain::Range(Span { first, last })
+}
+
+/// The numbers 0 to 3.
+pub fn zero_to_three() -> Domain
+    ensures { result ≡ three }
+{
+    range(0, 3)
+}
+
+/// The numbers 0 to 7.
+pub fn zero_to_seven() -> Domain
+    ensures { result ≡ seven }
+{
+    range(0, 7)
+}
+
+/// The numbers 0 to 10.
+pub fn zero_to_ten() -> Domain
+    ensures { result ≡ ten }
+{
+    range(0, 10)
+}
+
+/// An event without a value.
+pub fn pure_event(
+    alloc: Global,
+    text: &[u8],
+    sender: Party,
+    to_env: bool,
+    receivers: &[u32],
+) -> Result<EventDecl, NoMemory>
+    requires { IsTrue (is_name text.now) }
+    ensures { IfOk result (λ event. event ≡ the_pure_event text.now sender to_env receivers.now) }
+{
+    Ok(EventDecl {
+        name: Name::of_token(text),
+        domain: None,
+        sender,
+        to_env,
+        receivers: List::from_slice(alloc, receivers)?,
+    })
+}
+
+/// An event with a value of a domain.
+pub fn valued_event(
+    alloc: Global,
+    text: &[u8],
+    domain: u32,
+    sender: Party,
+    to_env: bool,
+    receivers: &[u32],
+) -> Result<EventDecl, NoMemory>
+    requires { IsTrue (is_name text.now) }
+    ensures { IfOk result (λ event. event ≡ the_valued_event text.now domain sender to_env receivers.now) }
+{
+    Ok(EventDecl {
+        name: Name::of_token(text),
+        domain: Some(domain),
+        sender,
+        to_env,
+        receivers: List::from_slice(alloc, receivers)?,
+    })
+}
+
+/// A condition that allows these codes of a variable, by bits.
+pub const fn on(var: u32, codes: u64) -> Cond
+    ensures { result ≡ has_codes var codes }
+{
+    Cond { var, codes }
+}
+
+/// An action that gives a result this code.
+pub const fn gives(place: u32, code: u8) -> Act
+    ensures { result ≡ gives_code place code }
+{
+    Act {
+        result: place,
+        source: Source::Code(code),
+    }
+}
+
+/// An action that gives a result the code of an input.
+pub const fn copies(place: u32, var: u32) -> Act
+    ensures { result ≡ copies_input place var }
+{
+    Act {
+        result: place,
+        source: Source::Input(var),
+    }
+}
+
+/// An action that sets a result's state variable so much further.
+pub const fn adds(place: u32, step: u8) -> Act
+    ensures { result ≡ adds_step place step }
+{
+    Act {
+        result: place,
+        source: Source::Add(step),
+    }
+}
+
+/// A row of these conditions and actions.
+pub fn row(alloc: Global, conds: &[Cond], acts: &[Act]) -> Result<Row, NoMemory>
+    requires { IsTrue (are_actions acts.now) }
+    ensures conds { IfOk result (λ row. row.conds ≡ conds.now) }
+    ensures acts { IfOk result (λ row. row.acts ≡ acts.now) }
+{
+    Ok(Row {
+        conds: List::from_slice(alloc, conds)?,
+        acts: List::from_slice(alloc, acts)?,
+    })
+}
+
+/// One state variable.
+pub fn state(alloc: Global, text: &[u8], domain: u32, init: u8) -> Result<StateList, NoMemory>
+    requires { IsTrue (is_name text.now) }
+    ensures { IfOk result (λ states. states ≡ state_of text.now domain init ∷ []) }
+{
+    let mut states = StateList::new(alloc);
+    states.push(StateDecl {
+        name: Name::of_token(text),
+        domain,
+        init,
+    })?;
+    Ok(states)
+}
+
+/// A machine: its events are the numbers of its inputs and of its outputs, its tables the sizes of its variables and of
+/// its results.
+pub fn machine(
+    alloc: Global,
+    text: &[u8],
+    priority: u8,
+    events: (&[u32], &[u32]),
+    states: StateList,
+    tables: (&[u8], &[u8]),
+    rows: RowList,
+) -> Result<Machine, NoMemory>
+    requires name { IsTrue (is_name text.now) }
+    requires sizes { IsTrue (are_sizes tables.0.now) }
+    requires result_sizes { IsTrue (are_sizes tables.1.now) }
+    requires vars { IsTrue (are_vars events.0.now states tables.0.now) }
+    requires results { IsTrue (are_results events.0.now events.1.now states tables.0.now tables.1.now) }
+    requires rows { IsTrue (list_all (is_row events.0.now tables.0.now tables.1.now) rows) }
+    requires small { IsTrue (is_small events.0.now events.1.now states tables.0.now rows) }
+    ensures name { IfOk result (λ m. m.name ≡ text.now) }
+    ensures priority { IfOk result (λ m. m.priority ≡ priority) }
+    ensures inputs { IfOk result (λ m. m.inputs ≡ events.entry.0.now) }
+    ensures outputs { IfOk result (λ m. m.outputs ≡ events.entry.1.now) }
+    ensures states { IfOk result (λ m. m.states ≡ states) }
+    ensures vars { IfOk result (λ m. m.vars ≡ tables.entry.0.now) }
+    ensures results { IfOk result (λ m. m.results ≡ tables.entry.1.now) }
+    ensures rows { IfOk result (λ m. m.rows ≡ rows) }
+{
+    Ok(Machine {
+        name: Name::of_token(text),
+        priority,
+        inputs: List::from_slice(alloc, events.0)?,
+        outputs: List::from_slice(alloc, events.1)?,
+        states,
+        vars: sizes(alloc, tables.0)?,
+        results: sizes(alloc, tables.1)?,
+        rows,
+    })
+}

@@ -1,0 +1,65 @@
+// A machine whose first and last row conflict.
+ghost use Rattle.std.specs.Prelude.{◌≡◌, IfOk};
+ghost use Rattle.transition_table.specs.SampleClash.{clash_machine as the_machine, clash as the_network};
+
+use crate::build::{ENV, gives, machine, on, pure_event, row};
+use polis_base::{Name, NoMemory};
+use std::alloc::Global;
+use transition_table::{
+    DomainList, EventList, Machine, MachineList, Network, Party, RowList, StateList, laws_of_data,
+};
+
+/// Its text.
+pub const TEXT: &[u8] = b"network clash version 1
+event a from env
+event b from env
+event c to env
+machine m priority 0 {
+  input a, b
+  output c
+  when a do emit c
+  when b, absent a do nothing
+  when a, b do nothing
+}
+";
+
+/// Its first row asks for a, the second for b alone, the third for both.
+pub fn clash_machine(alloc: Global) -> Result<Machine, NoMemory>
+    ensures { IfOk result (λ m. m ≡ the_machine) }
+{
+    let mut rows = RowList::new(alloc);
+    rows.push(row(alloc, &[on(0, 2)], &[gives(1, 1)])?)?;
+    rows.push(row(alloc, &[on(1, 2), on(0, 1)], &[])?)?;
+    rows.push(row(alloc, &[on(0, 2), on(1, 2)], &[])?)?;
+    let made = machine(
+        alloc,
+        b"m",
+        0,
+        (&[0, 1], &[2]),
+        StateList::new(alloc),
+        (&[2, 2], &[2, 2]),
+        rows,
+    )?;
+    laws_of_data();
+    Ok(made)
+}
+
+/// The network of that machine.
+pub fn network(alloc: Global) -> Result<Network, NoMemory>
+    ensures { IfOk result (λ net. net ≡ the_network) }
+{
+    let mut events = EventList::new(alloc);
+    events.push(pure_event(alloc, b"a", ENV, false, &[0])?)?;
+    events.push(pure_event(alloc, b"b", ENV, false, &[0])?)?;
+    events.push(pure_event(alloc, b"c", Party::Machine(0), true, &[])?)?;
+    let mut machines = MachineList::new(alloc);
+    machines.push(clash_machine(alloc)?)?;
+    let net = Network {
+        name: Name::of_token(b"clash"),
+        domains: DomainList::new(alloc),
+        events,
+        machines,
+    };
+    laws_of_data();
+    Ok(net)
+}

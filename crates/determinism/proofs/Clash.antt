@@ -1,13 +1,17 @@
--- The machine whose first and third row conflict.
-use Rattle.std.proofs.Common.{◌≡◌, ◌≢◌, ◌⊎◌, ◌<◌, ◌≤◌, ℕ, zero, suc, true, false, List, [], ◌∷◌, arith, refl, inl, inr}
+-- The least conflicts of two machines.
+use Rattle.std.proofs.Common.{◌≡◌, ◌≢◌, ◌⊎◌, ◌<◌, ◌≤◌, ℕ, zero, suc, true, false, ◌==◌, nat_lt, List, [], ◌∷◌, arith, subst, sym, refl, inl, inr}
+use Rattle.std.specs.List.{list_all}
+use Rattle.std.specs.Int.{bit_at}
 use Rattle.std.specs.Cmp.Lexicographic.{slice_cmp}
 use Rattle.std.specs.Ordering.{nat_cmp}
 use Rattle.std.specs.declared.cmp.Ordering.TheVariants.{Greater}
-use Rattle.std.proofs.lemmas.Bool.{ltb-true}
+use Rattle.std.proofs.lemmas.Bool.{ltb-true, and_parts}
 use Rattle.transition_table.specs.declared.snapshot.Snapshot.{Snapshot}
-use Rattle.transition_table.specs.Samples.{clash_machine}
-use Rattle.transition_table.specs.Transitions.{Conflict, is_enabled}
-use Rattle.transition_table.specs.Worked.{reading}
+use Rattle.transition_table.specs.SampleClash.{clash_machine}
+use Rattle.transition_table.specs.SampleTwice.{differing_machine}
+use Rattle.transition_table.specs.Samples.{has_codes}
+use Rattle.transition_table.specs.Transitions.{Conflict, allows, is_enabled}
+use Rattle.transition_table.specs.Transitions.{reading}
 use Rattle.domains.specs.Tables.{fits}
 use Rattle.determinism.proofs.Overlaps.{length_fits, below_size}
 use Rattle.determinism.specs.Conflicts.{IsLeastConflict}
@@ -50,4 +54,34 @@ clash_conflict h = record {
   conflict = h;
   least_pair = least_pair;
   least_snapshot = λ t other. both_present t.codes other.snapshot other.second;
+}
+
+-- the second row is enabled where the value 1 is read
+only_one : (codes : List ℕ) → fits (9 ∷ []) codes ≡ true → list_all (allows codes) (has_codes 0 4 ∷ []) ≡ true → codes ≡ 2 ∷ []
+only_one [] fit held = absurd (never fit)
+only_one (x ∷ y ∷ codes) fit held = absurd (let one = length_fits (9 ∷ []) (x ∷ y ∷ codes) fit in omega arith)
+only_one (x ∷ []) fit held = pick x (ltb-true x 9 (below_size (9 ∷ []) (x ∷ []) 0 fit (omega arith))) (and_parts (bit_at 4 x == 1) true held).0
+  where
+    pick : (x : ℕ) → x < 9 → (bit_at 4 x == 1) ≡ true → x ∷ [] ≡ 2 ∷ []
+    pick zero below set = absurd (never set)
+    pick (suc zero) below set = absurd (never set)
+    pick (suc (suc zero)) below set = refl
+    pick (suc (suc (suc zero))) below set = absurd (never set)
+    pick (suc (suc (suc (suc zero)))) below set = absurd (never set)
+    pick (suc (suc (suc (suc (suc zero))))) below set = absurd (never set)
+    pick (suc (suc (suc (suc (suc (suc zero)))))) below set = absurd (never set)
+    pick (suc (suc (suc (suc (suc (suc (suc zero))))))) below set = absurd (never set)
+    pick (suc (suc (suc (suc (suc (suc (suc (suc zero)))))))) below set = absurd (never set)
+    pick (suc (suc (suc (suc (suc (suc (suc (suc (suc x))))))))) below set = absurd (omega arith)
+
+only_pair : (c d : ℕ) (t : Snapshot) → Conflict differing_machine c d t → (0 < c) ⊎ ((0 ≡ c) × (1 ≤ d))
+only_pair (suc c) d t h = inl (omega arith)
+only_pair zero zero t h = absurd (let order = h.order in omega arith)
+only_pair zero (suc d) t h = inr (refl, omega arith)
+
+pub differing_conflict : Conflict differing_machine 0 1 (reading (2 ∷ [])) → IsLeastConflict differing_machine 0 1 (reading (2 ∷ []))
+differing_conflict h = record {
+  conflict = h;
+  least_pair = only_pair;
+  least_snapshot = λ t other. subst (λ codes. slice_cmp nat_cmp (2 ∷ []) codes ≢ Greater) (sym (only_one t.codes other.snapshot other.second)) (λ e. cc);
 }

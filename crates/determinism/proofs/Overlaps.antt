@@ -1,21 +1,18 @@
 -- Snapshots that enable two rows, by the codes that both rows allow.
-use Rattle.std.proofs.Common.{◌≡◌, ◌≢◌, ◌<◌, ◌≤◌, ℕ, zero, suc, Bool, true, false, ◌&&◌, nat_lt, List, [], ◌∷◌, length, slice_get, slice_index, Some, arith, refl, sym, ◌∙◌, ap, inl, inr}
+use Rattle.std.proofs.Common.{◌≡◌, ◌≢◌, ◌<◌, ◌≤◌, ℕ, zero, suc, Bool, true, false, ◌&&◌, ◌==◌, nat_lt, List, [], ◌∷◌, length, slice_get, slice_index, Some, arith, refl, sym, ◌∙◌, ap, inl, inr}
 use Rattle.std.specs.List.{list_all}
-use Rattle.std.specs.Cmp.{nat_cmp_is}
-use Rattle.std.specs.Cmp.Lexicographic.{slice_cmp}
-use Rattle.std.specs.Ordering.{nat_cmp}
-use Rattle.std.specs.declared.cmp.Ordering.TheVariants.{Less, Equal, Greater}
-use Rattle.std.proofs.lemmas.Bool.{ltb-true, and_parts}
+use Rattle.std.specs.Int.{bit_at}
+use Rattle.std.proofs.lemmas.Bool.{ltb-true, eqb-true, and_parts}
 use Rattle.std.proofs.lemmas.Bool.Decides.{eqb_tells}
 use Rattle.domains.specs.Tables.{fits}
 use Rattle.transition_table.specs.declared.row.Cond.{Cond}
 use Rattle.transition_table.specs.declared.row.Row.{Row}
 use Rattle.transition_table.specs.declared.machine.Machine.{Machine}
-use Rattle.transition_table.specs.declared.snapshot.Snapshot.{Snapshot}
-use Rattle.transition_table.specs.MachineFacts.{names_codes, names_result, is_row}
+use Rattle.transition_table.specs.MachineFacts.{names_codes, names_result, has_present, is_row}
 use Rattle.transition_table.specs.Transitions.{allows, holds}
-use Rattle.determinism.specs.Common.{allows_code, is_common, IsLeastCommon, IsOverlap, IsLeastOverlap}
+use Rattle.determinism.specs.Common.{allows_code, is_allowed, AreMasks, IsBox, EnableBoth}
 use Rattle.determinism.proofs.Bits.{alike}
+use Rattle.determinism.proofs.Ones.{size_at, machine_sizes}
 
 both : (a b : Bool) → a ≡ true → b ≡ true → (a && b) ≡ true
 both true b h k = k
@@ -68,61 +65,77 @@ all_hold vars codes (c ∷ conds) named each =
     both (allows codes c) (list_all (allows codes) conds) (holds_here codes c own.0)
     (all_hold vars codes conds parts.1 (λ k below. (and_parts (allows_code k (slice_index codes k) c) (list_all (allows_code k (slice_index codes k)) conds) (each k below)).1))
 
--- a list no item of which is above that of another doesn't stand behind it
-up_to : (xs ys : List ℕ) → length xs ≡ length ys → ((k : ℕ) → k < length xs → slice_index xs k ≤ slice_index ys k) → slice_cmp nat_cmp xs ys ≢ Greater
-up_to [] [] same each = λ h. cc
-up_to [] (y ∷ ys) same each = absurd (omega arith)
-up_to (x ∷ xs) [] same each = absurd (omega arith)
-up_to (x ∷ xs) (y ∷ ys) same each =
-    let first : x ≤ y = each 0 (omega arith) in
-    elim (eqb_tells x y) [
-      | inl here ↦ rw (sym (nat_cmp_is x y Equal here.1)) (up_to xs ys (omega arith) (λ k below. each (suc k) (omega arith)))
-      | inr apart ↦ rw (sym (nat_cmp_is x y Less (let differ = apart.1 in omega arith))) (λ h. cc)
-    ]
-
-row_named : (vars results : List ℕ) (rows : List Row) (k : ℕ) (row : Row) → list_all (is_row vars results) rows ≡ true → slice_get rows k ≡ Some row → list_all (names_codes vars) row.conds ≡ true
-row_named vars results [] k row all at = cc
-row_named vars results (r ∷ rows) zero row all at =
+-- a row of the machine
+pub row_there : (inputs vars results : List ℕ) (rows : List Row) (k : ℕ) (row : Row) → list_all (is_row inputs vars results) rows ≡ true → slice_get rows k ≡ Some row → is_row inputs vars results row ≡ true
+row_there inputs vars results [] k row all at = cc
+row_there inputs vars results (r ∷ rows) zero row all at =
     let e : r ≡ row = cc in
-    rw e at (and_parts (list_all (names_codes vars) r.conds) (list_all (names_result results) r.acts) (and_parts (is_row vars results r) (list_all (is_row vars results) rows) all).0).0
-row_named vars results (r ∷ rows) (suc k) row all at = row_named vars results rows k row (and_parts (is_row vars results r) (list_all (is_row vars results) rows) all).1 at
+    rw e at (and_parts (is_row inputs vars results r) (list_all (is_row inputs vars results) rows) all).0
+row_there inputs vars results (r ∷ rows) (suc k) row all at = row_there inputs vars results rows k row (and_parts (is_row inputs vars results r) (list_all (is_row inputs vars results) rows) all).1 at
 
--- a snapshot that enables both rows has at each variable a code that both allow
-pub common_at : (m : Machine) (a b var : ℕ) (first second : Row) (s : Snapshot) → slice_get m.rows a ≡ Some first → slice_get m.rows b ≡ Some second → var < length m.vars → IsOverlap m a b s → is_common m.vars first second var (slice_index s.codes var) ≡ true
-common_at m a b var first second s at_a at_b below o =
-    let code = slice_index s.codes var in
-    let on_first : list_all (allows s.codes) first.conds ≡ true = rw at_a at o.first in
-    let on_second : list_all (allows s.codes) second.conds ≡ true = rw at_b at o.second in
-    both (nat_lt code (slice_index m.vars var) && list_all (allows_code var code) first.conds) (list_all (allows_code var code) second.conds)
-    (both (nat_lt code (slice_index m.vars var)) (list_all (allows_code var code) first.conds) (below_size m.vars s.codes var o.snapshot below) (all_allow s.codes var first.conds on_first))
-    (all_allow s.codes var second.conds on_second)
+pub row_of : (m : Machine) (k : ℕ) (row : Row) → slice_get m.rows k ≡ Some row → is_row m.inputs m.vars m.results row ≡ true
+row_of m k row at = row_there m.inputs m.vars m.results m.rows k row m.fitting_rows at
 
--- where one variable has no such code, no snapshot enables both
-pub none_overlap : (m : Machine) (a b var : ℕ) (first second : Row) → slice_get m.rows a ≡ Some first → slice_get m.rows b ≡ Some second → var < length m.vars → ((code : ℕ) → is_common m.vars first second var code ≡ false) → (s : Snapshot) → IsOverlap m a b s → ⊥
-none_overlap m a b var first second at_a at_b below none s o =
-    let some = common_at m a b var first second s at_a at_b below o in
-    let never = none (slice_index s.codes var) in
+pub row_parts : (m : Machine) (row : Row) → is_row m.inputs m.vars m.results row ≡ true → (list_all (names_codes m.vars) row.conds ≡ true) × (list_all (names_result m.inputs m.vars m.results) row.acts ≡ true)
+row_parts m row h =
+    and_parts (list_all (names_codes m.vars) row.conds) (list_all (names_result m.inputs m.vars m.results) row.acts)
+    (and_parts (list_all (names_codes m.vars) row.conds && list_all (names_result m.inputs m.vars m.results) row.acts) (list_all (λ act. has_present row.conds act.source) row.acts) h).0
+
+-- a row that is enabled allows the code of each variable
+allowed_here : (m : Machine) (row : Row) (codes : List ℕ) (k : ℕ) → fits m.vars codes ≡ true → list_all (allows codes) row.conds ≡ true → k < length m.vars → is_allowed m.vars row k (slice_index codes k) ≡ true
+allowed_here m row codes k fit held below =
+    both (nat_lt (slice_index codes k) (slice_index m.vars k)) (list_all (allows_code k (slice_index codes k)) row.conds) (below_size m.vars codes k fit below) (all_allow codes k row.conds held)
+
+-- no snapshot enables both rows where a variable has no code that both allow
+pub none_enables : (m : Machine) (first second : Row) (of_first of_second : List ℕ) (k : ℕ) → AreMasks m.vars first of_first → AreMasks m.vars second of_second → k < length of_first
+    → ((code : ℕ) → (bit_at (slice_index of_first k) code == 1 && bit_at (slice_index of_second k) code == 1) ≡ false)
+    → (codes : List ℕ) → EnableBoth m first second codes → ⊥
+none_enables m first second of_first of_second k mf ms below none codes e =
+    let long = mf.long in
+    let inside : k < length m.vars = omega arith in
+    let on_first = mf.each k inside (slice_index codes k) ∙ allowed_here m first codes k e.snapshot e.of_first inside in
+    let on_second = ms.each k inside (slice_index codes k) ∙ allowed_here m second codes k e.snapshot e.of_second inside in
+    let all = both (bit_at (slice_index of_first k) (slice_index codes k) == 1) (bit_at (slice_index of_second k) (slice_index codes k) == 1) on_first on_second in
+    let never = none (slice_index codes k) in
     cc
 
--- the least codes that both allow are the least snapshot that enables both
-pub least_overlap : (m : Machine) (a b : ℕ) (first second : Row) (codes : List ℕ) → slice_get m.rows a ≡ Some first → slice_get m.rows b ≡ Some second → length codes ≡ length m.vars → ((k : ℕ) → k < length m.vars → IsLeastCommon m.vars first second k (slice_index codes k)) → IsLeastOverlap m a b (record { codes = codes })
-least_overlap m a b first second codes at_a at_b len each =
-    let lt = λ (k : ℕ). nat_lt (slice_index codes k) (slice_index m.vars k) in
-    let on_first = λ (k : ℕ). list_all (allows_code k (slice_index codes k)) first.conds in
-    let on_second = λ (k : ℕ). list_all (allows_code k (slice_index codes k)) second.conds in
-    let parts = λ (k : ℕ) (below : k < length m.vars). and_parts (lt k && on_first k) (on_second k) (each k below).common in
-    let ok_first = all_hold m.vars codes first.conds (row_named m.vars m.results m.rows a first m.fitting_rows at_a) (λ k below. (and_parts (lt k) (on_first k) (parts k below).0).1) in
-    let ok_second = all_hold m.vars codes second.conds (row_named m.vars m.results m.rows b second m.fitting_rows at_b) (λ k below. (parts k below).1) in
-    record {
-      overlap = record {
-        snapshot = fits_from m.vars codes len (λ k below. (and_parts (lt k) (on_first k) (parts k below).0).0);
-        first = rw at_a ok_first;
-        second = rw at_b ok_second;
+-- what both rows allow is the box of their overlap
+pub box_is : (m : Machine) (first second : Row) (of_first of_second sets : List ℕ) → is_row m.inputs m.vars m.results first ≡ true → is_row m.inputs m.vars m.results second ≡ true
+    → AreMasks m.vars first of_first → AreMasks m.vars second of_second → length sets ≡ length m.vars
+    → ((k code : ℕ) → k < length of_first → (bit_at (slice_index sets k) code == 1) ≡ (bit_at (slice_index of_first k) code == 1 && bit_at (slice_index of_second k) code == 1))
+    → IsBox m first second sets
+box_is m first second of_first of_second sets rf rs mf ms long are = record {
+  long = long;
+  few = λ k code below set.
+      let inside : k < length m.vars = omega arith in
+      let parts = allowed k code inside set in
+      let small = ltb-true code (slice_index m.vars k) (and_parts (nat_lt code (slice_index m.vars k)) (list_all (allows_code k code) first.conds) parts.0).0 in
+      let size = (size_at m.vars k (machine_sizes m) inside).1 in
+      omega arith;
+  inside = λ codes h.
+      let one = λ (k : ℕ) (below : k < length m.vars). allowed k (slice_index codes k) below (h.each k (rw long below)) in
+      record {
+        snapshot = fits_from m.vars codes (h.long ∙ long) (λ k below. (and_parts (nat_lt (slice_index codes k) (slice_index m.vars k)) (list_all (allows_code k (slice_index codes k)) first.conds) (one k below).0).0);
+        of_first = all_hold m.vars codes first.conds (row_parts m first rf).0 (λ k below. (and_parts (nat_lt (slice_index codes k) (slice_index m.vars k)) (list_all (allows_code k (slice_index codes k)) first.conds) (one k below).0).1);
+        of_second = all_hold m.vars codes second.conds (row_parts m second rs).0 (λ k below. (and_parts (nat_lt (slice_index codes k) (slice_index m.vars k)) (list_all (allows_code k (slice_index codes k)) second.conds) (one k below).1).1);
       };
-      least = λ t o.
-          up_to codes t.codes (len ∙ sym (length_fits m.vars t.codes o.snapshot))
-          (λ k below. let within : k < length m.vars = omega arith in (each k within).least (slice_index t.codes k) (common_at m a b k first second t at_a at_b within o));
-    }
+  whole = λ codes e. record {
+    long = length_fits m.vars codes e.snapshot ∙ sym long;
+    each = λ k below.
+        let inside : k < length m.vars = omega arith in
+        let within : k < length of_first = let same = mf.long in omega arith in
+        let on_first = mf.each k inside (slice_index codes k) ∙ allowed_here m first codes k e.snapshot e.of_first inside in
+        let on_second = ms.each k inside (slice_index codes k) ∙ allowed_here m second codes k e.snapshot e.of_second inside in
+        eqb-true (bit_at (slice_index sets k) (slice_index codes k)) 1
+        (are k (slice_index codes k) within ∙ both (bit_at (slice_index of_first k) (slice_index codes k) == 1) (bit_at (slice_index of_second k) (slice_index codes k) == 1) on_first on_second);
+  };
+}
+  where
+    allowed : (k code : ℕ) → k < length m.vars → bit_at (slice_index sets k) code ≡ 1 → (is_allowed m.vars first k code ≡ true) × (is_allowed m.vars second k code ≡ true)
+    allowed k code inside set =
+        let within : k < length of_first = let same = mf.long in omega arith in
+        let bits = and_parts (bit_at (slice_index of_first k) code == 1) (bit_at (slice_index of_second k) code == 1) (sym (are k code within) ∙ alike (bit_at (slice_index sets k) code) 1 set) in
+        (sym (mf.each k inside code) ∙ bits.0, sym (ms.each k inside code) ∙ bits.1)
 
 -- a row that is enabled is there
 pub enabled_there : (codes : List ℕ) (rows : List Row) (k : ℕ) → holds codes (slice_get rows k) ≡ true → k < length rows

@@ -1,40 +1,98 @@
--- Snapshots that enable two rows.
-use Rattle.std.specs.Prelude.{◌≢◌, ◌≤◌, ◌==◌, ◌&&◌, ◌||◌, ℕ, Bool, not, nat_lt, List, slice_index, IsTrue}
+-- Snapshots that enable two rows, as one set of codes for each variable, and those on which a result differs.
+use Rattle.std.specs.Prelude.{◌≡◌, ◌≢◌, ◌⊎◌, ◌↔◌, ◌<◌, ◌≤◌, ◌==◌, ◌&&◌, ◌||◌, ℕ, Bool, true, false, not, nat_lt, List, [], ◌∷◌, length, slice_get, slice_index, Some, IsTrue, ⊤}
 use Rattle.std.specs.List.{list_all}
 use Rattle.std.specs.Int.{bit_at}
 use Rattle.std.specs.Cmp.Lexicographic.{slice_cmp}
 use Rattle.std.specs.Ordering.{nat_cmp}
 use Rattle.std.specs.declared.cmp.Ordering.TheVariants.{Greater}
+use Rattle.domains.specs.Tables.{fits}
 use Rattle.transition_table.specs.declared.row.Cond.{Cond}
 use Rattle.transition_table.specs.declared.row.Row.{Row}
 use Rattle.transition_table.specs.declared.machine.Machine.{Machine}
 use Rattle.transition_table.specs.declared.snapshot.Snapshot.{Snapshot}
-use Rattle.transition_table.specs.Transitions.{IsSnapshot, is_enabled}
+use Rattle.transition_table.specs.Transitions.{allows, code_given}
 
 -- the condition allows the code of the variable, or is on another variable
 abbrev pub allows_code : ℕ → ℕ → Cond → Bool
 allows_code var code condition = not (condition.var == var) || bit_at condition.codes code == 1
 
--- a code of the variable that both rows allow
-abbrev pub is_common : List ℕ → Row → Row → ℕ → ℕ → Bool
-is_common vars a b var code = nat_lt code (slice_index vars var) && list_all (allows_code var code) a.conds && list_all (allows_code var code) b.conds
+-- a code of the variable that the row allows
+abbrev pub is_allowed : List ℕ → Row → ℕ → ℕ → Bool
+is_allowed vars row var code = nat_lt code (slice_index vars var) && list_all (allows_code var code) row.conds
 
--- the least of these
-pub record IsLeastCommon (vars : List ℕ) (a b : Row) (var code : ℕ) : Type 0 where
-  pub common : IsTrue (is_common vars a b var code)
-  pub least : (k : ℕ) → IsTrue (is_common vars a b var k) → code ≤ k
+-- the codes of the variable that the row allows, one bit each
+abbrev pub IsMask : List ℕ → Row → ℕ → ℕ → Type 0
+IsMask vars row var mask = (code : ℕ) → (bit_at mask code == 1) ≡ is_allowed vars row var code
 
--- a snapshot that enables both rows
-pub record IsOverlap (m : Machine) (a b : ℕ) (s : Snapshot) : Type 0 where
-  pub snapshot : IsSnapshot m s
-  pub first : IsTrue (is_enabled m a s)
-  pub second : IsTrue (is_enabled m b s)
+-- one such set for each variable
+pub record AreMasks (vars : List ℕ) (row : Row) (masks : List ℕ) : Type 0 where
+  pub long : length masks ≡ length vars
+  pub each : (var : ℕ) → var < length vars → IsMask vars row var (slice_index masks var)
+
+-- and these for each row
+pub record IsTable (vars : List ℕ) (rows : List Row) (table : List (List ℕ)) : Type 0 where
+  pub long : length table ≡ length rows
+  pub each : (r : ℕ) (row : Row) (masks : List ℕ) → slice_get rows r ≡ Some row → slice_get table r ≡ Some masks → AreMasks vars row masks
+
+-- one code of each set
+pub record IsIn (sets codes : List ℕ) : Type 0 where
+  pub long : length codes ≡ length sets
+  pub each : (k : ℕ) → k < length sets → bit_at (slice_index sets k) (slice_index codes k) ≡ 1
+
+-- the codes are of a snapshot that enables both rows
+pub record EnableBoth (m : Machine) (first second : Row) (codes : List ℕ) : Type 0 where
+  pub snapshot : IsTrue (fits m.vars codes)
+  pub of_first : IsTrue (list_all (allows codes) first.conds)
+  pub of_second : IsTrue (list_all (allows codes) second.conds)
+
+-- the snapshots that enable both rows are the lists of one code of each set
+pub record IsBox (m : Machine) (first second : Row) (sets : List ℕ) : Type 0 where
+  pub long : length sets ≡ length m.vars
+  pub few : (k code : ℕ) → k < length sets → bit_at (slice_index sets k) code ≡ 1 → code < 33
+  pub inside : (codes : List ℕ) → IsIn sets codes → EnableBoth m first second codes
+  pub whole : (codes : List ℕ) → EnableBoth m first second codes → IsIn sets codes
+
+-- no set is empty
+abbrev pub AreSome : List ℕ → Type 0
+AreSome sets = (k : ℕ) → k < length sets → 0 < slice_index sets k
+
+-- the least code of each set
+pub record AreLeast (sets codes : List ℕ) : Type 0 where
+  pub inside : IsIn sets codes
+  pub least : (k code : ℕ) → k < length sets → bit_at (slice_index sets k) code ≡ 1 → slice_index codes k ≤ code
+
+-- the rows give the result different codes
+abbrev pub Differ : Machine → Row → Row → ℕ → List ℕ → Type 0
+Differ m first second y codes = code_given m codes first.acts y ≢ code_given m codes second.acts y
+
+-- what the row gives the result depends on these two variables at most
+abbrev pub Reads : Machine → Row → ℕ → ℕ → ℕ → Type 0
+Reads m row y u v =
+    (codes others : List ℕ) → slice_index codes u ≡ slice_index others u → slice_index codes v ≡ slice_index others v → code_given m codes row.acts y ≡ code_given m others row.acts y
+
+-- the codes are the same but at these two variables
+abbrev pub SameBut : ℕ → ℕ → List ℕ → List ℕ → Type 0
+SameBut u v codes others = (k : ℕ) → k ≢ u → k ≢ v → slice_index codes k ≡ slice_index others k
+
+-- of the first two codes that differ the smaller is that of the first list
+abbrev pub Before : List ℕ → List ℕ → Type 0
+Before [] ys = ⊤
+Before (x ∷ xs) [] = ⊥
+Before (x ∷ xs) (y ∷ ys) = (x < y) ⊎ ((x ≡ y) × Before xs ys)
+
+-- the least list of one code of each set on which the result differs
+pub record IsLeastAt (m : Machine) (first second : Row) (y : ℕ) (sets codes : List ℕ) : Type 0 where
+  pub inside : IsIn sets codes
+  pub differ : Differ m first second y codes
+  pub least : (t : List ℕ) → IsIn sets t → Differ m first second y t → Before codes t
+
+-- the least such list for the results before y, where there is one
+pub record IsBest (m : Machine) (first second : Row) (sets : List ℕ) (y : ℕ) (found : Bool) (best : List ℕ) : Type 0 where
+  pub none : found ≡ false → (k : ℕ) (t : List ℕ) → 1 ≤ k → k < y → IsIn sets t → ¬ Differ m first second k t
+  pub inside : found ≡ true → IsIn sets best
+  pub differ : found ≡ true → (k : ℕ) × (1 ≤ k) × (k < y) × Differ m first second k best
+  pub least : found ≡ true → (k : ℕ) (t : List ℕ) → 1 ≤ k → k < y → IsIn sets t → Differ m first second k t → Before best t
 
 -- s is t or stands before it: of the first two codes that differ the smaller is that of s
 abbrev pub IsUpTo : Snapshot → Snapshot → Type 0
 IsUpTo s t = slice_cmp nat_cmp s.codes t.codes ≢ Greater
-
--- the least snapshot that enables both rows
-pub record IsLeastOverlap (m : Machine) (a b : ℕ) (s : Snapshot) : Type 0 where
-  pub overlap : IsOverlap m a b s
-  pub least : (t : Snapshot) → IsOverlap m a b t → IsUpTo s t

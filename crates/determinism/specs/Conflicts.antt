@@ -7,20 +7,25 @@ use Rattle.determinism.specs.Common.{IsUpTo}
 use Rattle.determinism.specs.declared.fault.CheckFault.{CheckFault}
 use Rattle.determinism.specs.declared.fault.CheckFault.TheVariants.{Conflict as Found, NoMemory}
 
+-- s is the least snapshot on which the two rows conflict
+pub record IsLeastOf (m : Machine) (a b : ℕ) (s : Snapshot) : Type 0 where
+  pub conflict : Conflict m a b s
+  pub least : (t : Snapshot) → Conflict m a b t → IsUpTo s t
+
 -- b is the first row that conflicts with a, and s the least snapshot on which they do
 pub record IsFirstWith (m : Machine) (a b : ℕ) (s : Snapshot) : Type 0 where
   pub conflict : Conflict m a b s
   pub first_row : (d : ℕ) (t : Snapshot) → Conflict m a d t → b ≤ d
   pub least_snapshot : (t : Snapshot) → Conflict m a b t → IsUpTo s t
 
--- the two rows conflict on the snapshot; each pair that conflicts is this one or stands behind it; and on each
--- snapshot on which these two conflict is this one or stands behind it
+-- the two rows conflict on the snapshot; each pair that conflicts is this one or stands after it; and on each
+-- snapshot on which these two conflict is this one or stands after it
 pub record IsLeastConflict (m : Machine) (a b : ℕ) (s : Snapshot) : Type 0 where
   pub conflict : Conflict m a b s
   pub least_pair : (c d : ℕ) (t : Snapshot) → Conflict m c d t → (a < c) ⊎ ((a ≡ c) × (b ≤ d))
   pub least_snapshot : (t : Snapshot) → Conflict m a b t → IsUpTo s t
 
--- Ok where the machine is deterministic, and else its least conflict; want of memory is free
+-- Ok where the machine is deterministic, and else its least conflict; running out of memory is free
 abbrev pub Answers : Machine → Result (Unit {0}) CheckFault → Type 0
 Answers m (Ok done) = IsDeterministic m
 Answers m (Err (Found a b s)) = IsLeastConflict m a b s

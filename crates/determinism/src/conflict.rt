@@ -1,41 +1,145 @@
 // The least conflict of a machine.
-ghost use Rattle.std.specs.Prelude.{◌≡◌, ◌<◌, ◌↔◌, ℕ, length, IfSome, IfNone, IsTrue};
-ghost use Rattle.transition_table.specs.declared.snapshot.Snapshot.{Snapshot};
-ghost use Rattle.transition_table.specs.Transitions.{Conflict, result as result_of};
-ghost use Rattle.determinism.specs.Conflicts.{IsFirstWith, Answers};
+ghost use Rattle.std.specs.Prelude.{◌≡◌, ◌<◌, ◌≤◌, ◌+◌, ℕ, length, IfOk, IfSome, IfNone, IsTrue, IsFalse};
+ghost use Rattle.transition_table.specs.declared.snapshot.Snapshot.{Snapshot as SnapshotOf};
+ghost use Rattle.transition_table.specs.MachineFacts.{is_row};
+ghost use Rattle.transition_table.specs.Transitions.{Conflict};
+ghost use Rattle.determinism.specs.Common.{IsTable, IsBox, AreSome, IsBest, Before};
+ghost use Rattle.determinism.specs.Conflicts.{IsLeastOf, IsFirstWith, Answers};
 
-use crate::common::overlap;
+use crate::difference::least_difference;
 use crate::fault::CheckFault;
+use crate::masks::{CodeSets, SetTable, table_of};
+use crate::overlap::overlap;
 use domains::{Codes, first_codes};
+use polis_base::NoMemory;
 use std::alloc::Global;
-use transition_table::{Machine, Snapshot, laws};
+use transition_table::{Machine, Row, Snapshot, laws};
 
-// Two rows give the same.
-fn same_result(machine: &Machine, a: u32, b: u32) -> bool
-    requires first { a < length machine.now.rows }
-    requires second { b < length machine.now.rows }
-    ensures { IsTrue result ↔ (result_of machine.now a ≡ result_of machine.now b) }
+// Writes the same codes.
+fn copy_codes(from: &Codes, into: &mut Codes)
+    requires { length into.old ≡ length from.now }
+    ensures { into.new ≡ from.now }
 {
-    let first = machine.rows.get(u64::from(a));
-    let second = machine.rows.get(u64::from(b));
-    for y in 1..machine.result_count() {
-        if first.code_for(y) != second.code_for(y) {
+    for k in 0..from.len() {
+        into.set(k, *from.get(k));
+    }
+}
+
+// Of the first two codes that differ the smaller is that of the first list, or none differ.
+fn stands_before(codes: &Codes, others: &Codes) -> bool
+    requires { length codes.now ≡ length others.now }
+    ensures before { IsTrue result → Before codes.now others.now }
+    ensures after { IsFalse result → Before others.now codes.now }
+{
+    for k in 0..codes.len() {
+        let code = *codes.get(k);
+        let other = *others.get(k);
+        if code < other {
+            return true;
+        }
+        if other < code {
             return false;
         }
     }
     true
 }
 
-// The first row behind a row that conflicts with it, and the least snapshot on which they do.
-fn conflicting(machine: &Machine, a: u32, codes: &mut Codes) -> Option<u32>
+// Keeps in `best` the lesser of it and the least codes at which this result differs.
+fn improve(
+    machine: &Machine,
+    first: &Row,
+    second: &Row,
+    y: u32,
+    sets: &CodeSets,
+    s: &mut Snapshot,
+    found: bool,
+    best: &mut Snapshot,
+) -> bool
+    requires first { IsTrue (is_row machine.now.inputs machine.now.vars machine.now.results first.now) }
+    requires second { IsTrue (is_row machine.now.inputs machine.now.vars machine.now.results second.now) }
+    requires area { IsBox machine.now first.now second.now sets.now }
+    requires some { AreSome sets.now }
+    requires long { length s.old.codes ≡ length sets.now }
+    requires best_long { length best.old.codes ≡ length sets.now }
+    requires number { 1 ≤ y }
+    requires best { IsBest machine.now first.now second.now sets.now y found best.old.codes }
+    ensures long { length s.new.codes ≡ length sets.now }
+    ensures best_long { length best.new.codes ≡ length sets.now }
+    ensures best { IsBest machine.now first.now second.now sets.now (y + 1) result best.new.codes }
+{
+    if !least_difference(machine, first, second, y, sets, s) {
+        return found;
+    }
+    if found && stands_before(&best.codes, &s.codes) {
+        return true;
+    }
+    copy_codes(&s.codes, &mut best.codes);
+    true
+}
+
+// Writes into `best` the least snapshot on which two rows conflict. False where there is none.
+fn conflict_of(
+    machine: &Machine,
+    a: u32,
+    b: u32,
+    table: &SetTable,
+    sets: &mut CodeSets,
+    s: &mut Snapshot,
+    best: &mut Snapshot,
+) -> bool
+    requires order { a < b }
+    requires second { b < length machine.now.rows }
+    requires table { IsTable machine.now.vars machine.now.rows table.now }
+    requires sets { length sets.old ≡ length machine.now.vars }
+    requires long { length s.old.codes ≡ length machine.now.vars }
+    requires best_long { length best.old.codes ≡ length machine.now.vars }
+    ensures sets { length sets.new ≡ length machine.now.vars }
+    ensures long { length s.new.codes ≡ length machine.now.vars }
+    ensures best_long { length best.new.codes ≡ length machine.now.vars }
+    ensures some { IsTrue result → IsLeastOf machine.now a b best.new }
+    ensures none { IsFalse result → (t : SnapshotOf) → ¬ Conflict machine.now a b t }
+{
+    let first = machine.rows.get(u64::from(a));
+    let second = machine.rows.get(u64::from(b));
+    if !overlap(
+        machine,
+        first,
+        second,
+        table.get(u64::from(a)),
+        table.get(u64::from(b)),
+        sets,
+    ) {
+        return false;
+    }
+    let mut found = false;
+    for y in 1..machine.result_count() {
+        found = improve(machine, first, second, y, sets, s, found, best);
+    }
+    found
+}
+
+// The first row after a row that conflicts with it, and the least snapshot on which they do.
+fn conflicting(
+    machine: &Machine,
+    a: u32,
+    table: &SetTable,
+    sets: &mut CodeSets,
+    s: &mut Snapshot,
+    best: &mut Snapshot,
+) -> Option<u32>
     requires row { a < length machine.now.rows }
-    requires length { length codes.old ≡ length machine.now.vars }
-    ensures some { IfSome result (λ b. IsFirstWith machine.now a b (record { codes = codes.new })) }
-    ensures none { IfNone result ((b : ℕ) (s : Snapshot) → ¬ Conflict machine.now a b s) }
-    ensures length { length codes.new ≡ length codes.old }
+    requires table { IsTable machine.now.vars machine.now.rows table.now }
+    requires sets { length sets.old ≡ length machine.now.vars }
+    requires long { length s.old.codes ≡ length machine.now.vars }
+    requires best_long { length best.old.codes ≡ length machine.now.vars }
+    ensures sets { length sets.new ≡ length machine.now.vars }
+    ensures long { length s.new.codes ≡ length machine.now.vars }
+    ensures best_long { length best.new.codes ≡ length machine.now.vars }
+    ensures some { IfSome result (λ b. IsFirstWith machine.now a b best.new) }
+    ensures none { IfNone result ((b : ℕ) (t : SnapshotOf) → ¬ Conflict machine.now a b t) }
 {
     for b in a + 1..machine.row_count() {
-        if overlap(machine, a, b, codes) && !same_result(machine, a, b) {
+        if conflict_of(machine, a, b, table, sets, s, best) {
             return Some(b);
         }
     }
@@ -49,13 +153,20 @@ pub fn check(alloc: Global, m: &Machine) -> Result<(), CheckFault>
     ensures { Answers m.now result }
 {
     laws();
-    let mut codes = first_codes(alloc, &m.vars)?;
+    let table = table_of(alloc, m)?;
+    let mut sets = CodeSets::filled(alloc, m.vars.len(), 0)?;
+    let mut s = Snapshot {
+        codes: first_codes(alloc, &m.vars)?,
+    };
+    let mut best = Snapshot {
+        codes: first_codes(alloc, &m.vars)?,
+    };
     for a in 0..m.row_count() {
-        if let Some(b) = conflicting(m, a, &mut codes) {
+        if let Some(b) = conflicting(m, a, &table, &mut sets, &mut s, &mut best) {
             return Err(CheckFault::Conflict {
                 row_a: a,
                 row_b: b,
-                snapshot: Snapshot { codes },
+                snapshot: best,
             });
         }
     }

@@ -14,7 +14,7 @@ pub enum CheckFault {
         row_b: u32,
         snapshot: Snapshot,
     },
-    /// Memory was wanting.
+    /// Out of memory.
     NoMemory,
 }
 

@@ -1,9 +1,11 @@
 // Whether a machine is deterministic.
 #![tactic(auto)]
 
-mod common;
 mod conflict;
+mod difference;
 mod fault;
+mod masks;
+mod overlap;
 mod worked;
 
 pub use conflict::check;

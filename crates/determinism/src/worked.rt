@@ -1,14 +1,17 @@
 // A worked machine: what the definitions say of it.
 ghost use Rattle.std.specs.Prelude.{[], ◌∷◌};
-ghost use Rattle.transition_table.specs.Samples.{clash_machine};
-ghost use Rattle.transition_table.specs.Worked.{reading};
+ghost use Rattle.transition_table.specs.SampleClash.{clash_machine};
+ghost use Rattle.transition_table.specs.SampleTwice.{differing_machine};
+ghost use Rattle.transition_table.specs.Transitions.{reading};
 ghost use Rattle.determinism.specs.Conflicts.{IsLeastConflict};
 
 use transition_table::worked_rows;
 
-/// The least conflict of a machine whose first and third row conflict where both of its inputs are present.
+/// The least conflict of a machine whose first and third row conflict where both of its inputs are present, and of one
+/// whose rows emit the value that is read and the value 0 where the value 1 is read.
 pub fn worked_conflict()
-    ensures { IsLeastConflict clash_machine 0 2 (reading (1 ∷ 1 ∷ [])) }
+    ensures clash { IsLeastConflict clash_machine 0 2 (reading (1 ∷ 1 ∷ [])) }
+    ensures differing { IsLeastConflict differing_machine 0 1 (reading (2 ∷ [])) }
 {
     worked_rows();
 }

@@ -1,4 +1,4 @@
-use Rattle.std.proofs.Common.{◌≡◌, ◌<◌, ℕ, length}
+use Rattle.std.proofs.Common.{◌≡◌, ◌≢◌, ◌<◌, ◌≤◌, ◌&&◌, ◌==◌, ℕ, List, length, take, drop, slice_get, slice_index, Some}
 use Rattle.transition_table.specs.declared.snapshot.Snapshot.{Snapshot}
 use Rattle.transition_table.specs.Transitions.{Conflict}
 use Rattle.determinism.proofs.conflict.conflicting.Given as goal
@@ -6,6 +6,8 @@ use Rattle.determinism.proofs.conflict.conflicting.Given as goal
 -- no row before this one conflicts
 abbrev pub invariant-loop-b : goal.invariant-loop-b
 invariant-loop-b l = record {
-  same : length l.codes ≡ length l.fn.codes;
+  sets : length l.sets ≡ length l.machine.vars;
+  long : length l.s.codes ≡ length l.machine.vars;
+  best_long : length l.best.codes ≡ length l.machine.vars;
   none : (d : ℕ) (t : Snapshot) → d < l.b → Conflict l.machine l.a d t → ⊥;
 }

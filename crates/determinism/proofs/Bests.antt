@@ -1,0 +1,139 @@
+-- The least codes at which any of the results before one differs.
+use Rattle.std.proofs.Common.{◌≡◌, ◌≢◌, ◌⊎◌, ◌<◌, ◌≤◌, ◌+◌, ℕ, zero, suc, Bool, true, false, List, length, slice_get, Some, arith, refl, sym, ◌∙◌, ap, subst, inl, inr}
+use Rattle.std.specs.List.{list_all}
+use Rattle.std.proofs.lemmas.Bool.Decides.{eqb_tells}
+use Rattle.std.proofs.lemmas.Bool.{cases_lt}
+use Rattle.transition_table.specs.declared.row.Row.{Row}
+use Rattle.transition_table.specs.declared.machine.Machine.{Machine}
+use Rattle.transition_table.specs.declared.snapshot.Snapshot.{Snapshot}
+use Rattle.transition_table.specs.Transitions.{allows, code_given, result, Conflict}
+use Rattle.determinism.specs.Common.{IsIn, IsBox, EnableBoth, Differ, Before, IsLeastAt, IsBest}
+use Rattle.determinism.specs.Conflicts.{IsLeastOf}
+use Rattle.determinism.proofs.Befores.{before_trans, up_to}
+use Rattle.determinism.proofs.Results.{same_result, same_codes}
+
+never : true ≡ false → ⊥
+never h = cc
+
+pub best_at_first : (m : Machine) (first second : Row) (sets best : List ℕ) → IsBest m first second sets 1 false best
+best_at_first m first second sets best = record {
+  none = λ f k t from below. absurd (omega arith);
+  inside = λ f. absurd (never (sym f));
+  differ = λ f. absurd (never (sym f));
+  least = λ f. absurd (never (sym f));
+}
+
+-- the result nowhere differs
+pub best_kept : (m : Machine) (first second : Row) (sets : List ℕ) (y : ℕ) (found : Bool) (best : List ℕ) → IsBest m first second sets y found best → ((t : List ℕ) → IsIn sets t → Differ m first second y t → ⊥) → IsBest m first second sets (y + 1) found best
+best_kept m first second sets y found best h none = record {
+  none = λ f k t from below inside differ.
+      elim (cases_lt k y) [
+        | inl before ↦ h.none f k t from before inside differ
+        | inr over ↦ let here : k ≡ y = omega arith in none t inside (subst (λ j. Differ m first second j t) here differ)
+      ];
+  inside = h.inside;
+  differ = λ f. let d = h.differ f in (d.0, d.1, (let below = d.2 in omega arith), d.3);
+  least = λ f k t from below inside differ.
+      elim (cases_lt k y) [
+        | inl before ↦ h.least f k t from before inside differ
+        | inr over ↦ let here : k ≡ y = omega arith in absurd (none t inside (subst (λ j. Differ m first second j t) here differ))
+      ];
+}
+
+-- the result differs first after the best so far
+pub best_stays : (m : Machine) (first second : Row) (sets : List ℕ) (y : ℕ) (best codes : List ℕ) → IsBest m first second sets y true best → IsLeastAt m first second y sets codes → Before best codes → IsBest m first second sets (y + 1) true best
+best_stays m first second sets y best codes h at before = record {
+  none = λ f. absurd (never f);
+  inside = h.inside;
+  differ = λ f. let d = h.differ f in (d.0, d.1, (let below = d.2 in omega arith), d.3);
+  least = λ f k t from below inside differ.
+      elim (cases_lt k y) [
+        | inl earlier ↦ h.least f k t from earlier inside differ
+        | inr over ↦ let here : k ≡ y = omega arith in before_trans best codes t before (at.least t inside (subst (λ j. Differ m first second j t) here differ))
+      ];
+}
+
+-- the result differs first before the best so far
+pub best_moves : (m : Machine) (first second : Row) (sets : List ℕ) (y : ℕ) (found : Bool) (best codes : List ℕ) → 1 ≤ y → IsBest m first second sets y found best → IsLeastAt m first second y sets codes → (found ≡ true → Before codes best) → IsBest m first second sets (y + 1) true codes
+best_moves m first second sets y found best codes some h at before = record {
+  none = λ f. absurd (never f);
+  inside = λ f. at.inside;
+  differ = λ f. (y, some, omega arith, at.differ);
+  least = λ f k t from below inside differ.
+      elim (cases_lt k y) [
+        | inl earlier ↦ earlier_ones found refl k t from earlier inside differ
+        | inr over ↦ let here : k ≡ y = omega arith in at.least t inside (subst (λ j. Differ m first second j t) here differ)
+      ];
+}
+  where
+    earlier_ones : (b : Bool) → found ≡ b → (k : ℕ) (t : List ℕ) → 1 ≤ k → k < y → IsIn sets t → Differ m first second k t → Before codes t
+    earlier_ones true is k t from earlier inside differ = before_trans codes best t (before is) (h.least is k t from earlier inside differ)
+    earlier_ones false is k t from earlier inside differ = absurd (h.none is k t from earlier inside differ)
+
+-- all results are the same, or one differs
+some_differs : (n : ℕ) (f g : ℕ → ℕ) → ((k : ℕ) → 1 ≤ k → k < n → f k ≡ g k) ⊎ ((k : ℕ) × (1 ≤ k) × (k < n) × (f k ≢ g k))
+some_differs zero f g = inl (λ k from below. absurd (omega arith))
+some_differs (suc zero) f g = inl (λ k from below. absurd (omega arith))
+some_differs (suc (suc n)) f g =
+    elim (some_differs (suc n) f g) [
+      | inr there ↦ inr (there.0, there.1, (let below = there.2 in omega arith), there.3)
+      | inl same ↦ elim (eqb_tells (f (suc n)) (g (suc n))) [
+        | inl here ↦ inl (λ k from below. last_one n f g same here.1 k from below)
+        | inr apart ↦ inr (suc n, omega arith, omega arith, apart.1)
+      ]
+    ]
+  where
+    last_one : (n : ℕ) (f g : ℕ → ℕ) → ((k : ℕ) → 1 ≤ k → k < suc n → f k ≡ g k) → f (suc n) ≡ g (suc n) → (k : ℕ) → 1 ≤ k → k < suc (suc n) → f k ≡ g k
+    last_one n f g same here k from below =
+        elim (cases_lt k (suc n)) [
+          | inl before ↦ same k from before
+          | inr over ↦ let own : suc n ≡ k = omega arith in subst (λ j. f j ≡ g j) own here
+        ]
+
+-- a conflict enables both rows, and some result differs
+enables : (m : Machine) (a b : ℕ) (first second : Row) (t : Snapshot) → slice_get m.rows a ≡ Some first → slice_get m.rows b ≡ Some second → Conflict m a b t → EnableBoth m first second t.codes
+enables m a b first second t at_a at_b c =
+    let on_first : list_all (allows t.codes) first.conds ≡ true = rw at_a at c.first in
+    let on_second : list_all (allows t.codes) second.conds ≡ true = rw at_b at c.second in
+    record { snapshot = c.snapshot; of_first = on_first; of_second = on_second }
+
+differs : (m : Machine) (a b : ℕ) (first second : Row) (t : Snapshot) → slice_get m.rows a ≡ Some first → slice_get m.rows b ≡ Some second → Conflict m a b t
+    → (k : ℕ) × (1 ≤ k) × (k < 1 + length m.states + length m.outputs) × Differ m first second k t.codes
+differs m a b first second t at_a at_b c =
+    elim (some_differs (1 + length m.states + length m.outputs) (code_given m t.codes first.acts) (code_given m t.codes second.acts)) [
+      | inl same ↦ absurd (c.differ (same_result m t a b first second at_a at_b same))
+      | inr there ↦ there
+    ]
+
+pub best_none : (m : Machine) (a b : ℕ) (first second : Row) (sets : List ℕ) (best : List ℕ) → slice_get m.rows a ≡ Some first → slice_get m.rows b ≡ Some second → IsBox m first second sets
+    → IsBest m first second sets (1 + length m.states + length m.outputs) false best → (t : Snapshot) → Conflict m a b t → ⊥
+best_none m a b first second sets best at_a at_b box h t c =
+    let inside = box.whole t.codes (enables m a b first second t at_a at_b c) in
+    let d = differs m a b first second t at_a at_b c in
+    h.none refl d.0 t.codes d.1 d.2 inside d.3
+
+pub none_conflict : (m : Machine) (a b : ℕ) (first second : Row) → slice_get m.rows a ≡ Some first → slice_get m.rows b ≡ Some second → ((codes : List ℕ) → EnableBoth m first second codes → ⊥) → (t : Snapshot) → Conflict m a b t → ⊥
+none_conflict m a b first second at_a at_b none t c = none t.codes (enables m a b first second t at_a at_b c)
+
+pub best_conflict : (m : Machine) (a b : ℕ) (first second : Row) (sets : List ℕ) (best : Snapshot) → a < b → slice_get m.rows a ≡ Some first → slice_get m.rows b ≡ Some second → IsBox m first second sets
+    → IsBest m first second sets (1 + length m.states + length m.outputs) true best.codes → IsLeastOf m a b best
+best_conflict m a b first second sets best order at_a at_b box h =
+    let both = box.inside best.codes (h.inside refl) in
+    let d = h.differ refl in
+    record {
+      conflict = record {
+        order = order;
+        snapshot = both.snapshot;
+        first = rw at_a both.of_first;
+        second = rw at_b both.of_second;
+        differ = λ same. d.3 (same_codes m best a b first second at_a at_b same d.0 d.1 d.2);
+      };
+      least = λ t c.
+          let inside = box.whole t.codes (enables m a b first second t at_a at_b c) in
+          let e = differs m a b first second t at_a at_b c in
+          up_to best.codes t.codes ((h.inside refl).long ∙ sym inside.long) (h.least refl e.0 t.codes e.1 e.2 inside e.3);
+    }
+
+pub true_or_false : (b : Bool) → b ≡ true → b ≡ false → ⊥
+true_or_false true h g = never g
+true_or_false false h g = never (sym h)

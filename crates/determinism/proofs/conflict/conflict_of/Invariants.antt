@@ -1,0 +1,11 @@
+use Rattle.std.proofs.Common.{◌≡◌, ◌≢◌, ◌<◌, ◌≤◌, ◌&&◌, ◌==◌, ℕ, List, length, take, drop, slice_get, slice_index, Some}
+use Rattle.determinism.specs.Common.{IsBest}
+use Rattle.determinism.proofs.conflict.conflict_of.Given as goal
+
+-- the least codes for the results before this one
+abbrev pub invariant-loop-y : goal.invariant-loop-y
+invariant-loop-y l = record {
+  long : length l.s.codes ≡ length l.machine.vars;
+  best_long : length l.best.codes ≡ length l.machine.vars;
+  best : IsBest l.machine l.first l.second l.sets l.y l.found l.best.codes;
+}

@@ -1,0 +1,15 @@
+pub mod Alone
+pub mod Cursors
+pub mod Journals
+pub mod Laws
+pub mod Legality
+pub mod Logs
+pub mod Moved
+pub mod Outputs
+pub mod Reactions
+pub mod Runs
+pub mod Samples
+pub mod Schedules
+pub mod StampLaws
+pub mod Stamps
+pub mod Worked

@@ -3,14 +3,14 @@ use Rattle.std.specs.Prelude.{◌≡◌, List}
 use Rattle.std.proofs.Common.{refl}
 use Rattle.std.proofs.lemmas.Bool.{both_ways}
 use Rattle.transition_table.specs.declared.network.Network.{Network}
-use Rattle.net_core.specs.declared.entry.Entry.{Entry}
-use Rattle.net_core.specs.declared.entry.Entry.TheVariants.{Dep, Rea}
-use Rattle.net_core.specs.declared.entry.TraceItem.{TraceItem}
-use Rattle.net_core.specs.declared.entry.Why.{Why}
-use Rattle.net_core.specs.declared.entry.Why.TheVariants.{NotOwed, NotWoken, Snapshot as OldSnapshot, Outcome as OtherOutcome}
-use Rattle.net_core.specs.Journals.{is_woken}
+use Rattle.journals.specs.declared.entry.Entry.{Entry}
+use Rattle.journals.specs.declared.entry.Entry.TheVariants.{Dep, Rea}
+use Rattle.journals.specs.declared.entry.TraceItem.{TraceItem}
+use Rattle.net_core.specs.declared.answer.Why.{Why}
+use Rattle.net_core.specs.declared.answer.Why.TheVariants.{NotOwed, NotWoken, Snapshot as OldSnapshot, Outcome as OtherOutcome}
+use Rattle.journals.specs.Journals.{is_woken}
 use Rattle.net_core.specs.Judging.{IsFirstCause}
-use Rattle.net_core.specs.Legality.{MayFollow}
+use Rattle.journals.specs.Legality.{MayFollow}
 
 pub caused_may_not_follow : (net : Network) (trace : List TraceItem) (journal : List Entry) (why : Why) (entry : Entry) → IsFirstCause net trace journal why entry → MayFollow net trace journal entry → ⊥
 caused_may_not_follow net trace journal NotOwed (Dep s m event code) cause follows = cause follows

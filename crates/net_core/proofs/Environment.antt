@@ -6,15 +6,14 @@ use Rattle.std.proofs.lemmas.Bool.{ltb-true, ltb-false, false_from_ne_true}
 use Rattle.polis_base.specs.Lists.{upto, head_of}
 use Rattle.transition_table.specs.declared.decl.Party.TheVariants.{Env}
 use Rattle.transition_table.specs.declared.network.Network.{Network}
-use Rattle.net_core.specs.declared.entry.Entry.{Entry}
-use Rattle.net_core.specs.declared.entry.Owed.{Owed}
-use Rattle.net_core.specs.declared.entry.TraceItem.{TraceItem}
-use Rattle.net_core.specs.declared.entry.TraceItem.TheVariants.{Event, Settle}
-use Rattle.net_core.specs.Schedules.{owed_by_env}
-use Rattle.net_core.specs.Tables.{cursor}
-use Rattle.net_core.proofs.Moved.{get_or-table}
-use Rattle.net_core.proofs.Peeking.{first_by_cursors, nothing_by_cursors}
-use Rattle.net_core.proofs.Readiness.{is_settle, settled_at}
+use Rattle.journals.specs.declared.entry.Entry.{Entry}
+use Rattle.journals.specs.declared.entry.Owed.{Owed}
+use Rattle.journals.specs.declared.entry.TraceItem.{TraceItem}
+use Rattle.journals.specs.declared.entry.TraceItem.TheVariants.{Event, Settle}
+use Rattle.journals.specs.Schedules.{owed_by_env}
+use Rattle.journals.specs.Cursors.{cursor, is_settle, settled_at}
+use Rattle.net_core.proofs.Numbers.{get_or-table}
+use Rattle.journals.specs.Laws.{FirstOfCursors, NoneAtEnds}
 
 -- whether the item before a place is `settle`
 pub settled_says : (trace : List TraceItem) (place : ℕ) (b : Bool) → IsTrue b ↔ ((0 < place) × (slice_get trace (place - 1) ≡ Some Settle)) → settled_at trace place ≡ b
@@ -45,21 +44,21 @@ least_is f n m cursors are best =
       (λ k below. let there = at k (let inside = best.0 in omega arith) in let first = ltb-true (get_or cursors m 0) (get_or cursors k 0) (best.2 k 0 below) in omega arith),
     )
 
-pub first_at_least : (net : Network) (trace : List TraceItem) (journal : List Entry) (cursors : List ℕ) (m e c : ℕ) (b : Bool) → cursors ≡ map (cursor net trace journal) (upto (length net.machines)) → IsFirstBest nat_lt cursors (length net.machines) m
+pub first_at_least : (net : Network) (trace : List TraceItem) (journal : List Entry) (cursors : List ℕ) (m e c : ℕ) (b : Bool) → FirstOfCursors → cursors ≡ map (cursor net trace journal) (upto (length net.machines)) → IsFirstBest nat_lt cursors (length net.machines) m
     → slice_get trace (cursor net trace journal m) ≡ Some (Event e c)
     → settled_at trace (cursor net trace journal m) ≡ b
     → head_of (owed_by_env net trace journal) ≡ Some (record { from = Env; to = m; event = e; code = c }, b)
-first_at_least net trace journal cursors m e c b are best at settled =
+first_at_least net trace journal cursors m e c b law are best at settled =
     let least = least_is (cursor net trace journal) (length net.machines) m cursors are best in
-    first_by_cursors net trace journal m e c least.1 least.2 at
+    law net trace journal m e c least.1 least.2 at
     ∙ ap (λ b. let p : Owed × Bool = (record { from = Env; to = m; event = e; code = c }, b) in Some p) settled
 
-pub none_left : (net : Network) (trace : List TraceItem) (journal : List Entry) (cursors : List ℕ) (m : ℕ) → cursors ≡ map (cursor net trace journal) (upto (length net.machines)) → IsFirstBest nat_lt cursors (length net.machines) m
+pub none_left : (net : Network) (trace : List TraceItem) (journal : List Entry) (cursors : List ℕ) (m : ℕ) → NoneAtEnds → cursors ≡ map (cursor net trace journal) (upto (length net.machines)) → IsFirstBest nat_lt cursors (length net.machines) m
     → length trace ≤ cursor net trace journal m
     → owed_by_env net trace journal ≡ []
-none_left net trace journal cursors m are best past =
+none_left net trace journal cursors m law are best past =
     let least = least_is (cursor net trace journal) (length net.machines) m cursors are best in
-    nothing_by_cursors net trace journal (λ k below. let far = least.1 k below in omega arith)
+    law net trace journal (λ k below. let far = least.1 k below in omega arith)
 
-pub no_machines_read : (net : Network) (trace : List TraceItem) (journal : List Entry) → length net.machines ≡ 0 → owed_by_env net trace journal ≡ []
-no_machines_read net trace journal none = nothing_by_cursors net trace journal (λ k below. absurd (omega arith))
+pub no_machines_read : (net : Network) (trace : List TraceItem) (journal : List Entry) → NoneAtEnds → length net.machines ≡ 0 → owed_by_env net trace journal ≡ []
+no_machines_read net trace journal law none = law net trace journal (λ k below. absurd (omega arith))

@@ -1,45 +1,69 @@
 -- What may land, and which outcome is the machine's.
-use Rattle.std.specs.Prelude.{◌≡◌, ◌↔◌, ℕ, Bool, true, false, ◌&&◌, ◌==◌, List, slice_get, Option, Some, None, find, position, MatchOption, IsTrue, IsSomeAnd}
+use Rattle.std.specs.Prelude.{◌≡◌, ◌↔◌, ℕ, Bool, true, false, cond, [], ◌∷◌, ◌&&◌, ◌==◌, List, slice_get, Option, Some, None, find, IsTrue, IsSomeAnd}
 use Rattle.std.proofs.Common.{refl, sym, ap, ◌∙◌, subst}
-use Rattle.std.proofs.lemmas.Bool.{eqb-true, eq-eqb, and_parts, and_from, both_ways}
-use Rattle.transition_table.specs.Transitions.{OfMachine, IsSnapshot, Transition, AreDeterministic}
+use Rattle.std.proofs.lemmas.Bool.{false≢true, eqb-true, eq-eqb, and_parts, and_from, both_ways}
+use Rattle.transition_table.specs.Transitions.{OfMachine, IsSnapshot, Transition, AreDeterministic, IsOutcome}
 use Rattle.transition_table.specs.declared.decl.Party.{Party}
 use Rattle.transition_table.specs.declared.decl.Party.TheVariants.{Env, Machine as Sender}
 use Rattle.transition_table.specs.declared.machine.Machine.{Machine}
 use Rattle.transition_table.specs.declared.network.Network.{Network}
 use Rattle.transition_table.specs.declared.snapshot.Snapshot.{Snapshot}
 use Rattle.transition_table.specs.declared.snapshot.Outcome.{Outcome}
-use Rattle.net_core.specs.declared.entry.Entry.{Entry}
-use Rattle.net_core.specs.declared.entry.Entry.TheVariants.{Dep}
-use Rattle.net_core.specs.declared.entry.Owed.{Owed}
-use Rattle.net_core.specs.declared.entry.TraceItem.{TraceItem}
-use Rattle.net_core.specs.declared.entry.TraceItem.TheVariants.{Event}
-use Rattle.net_core.specs.declared.entry.Why.TheVariants.{NotOwed}
-use Rattle.net_core.specs.Journals.{IsOutcome, same_party}
+use Rattle.journals.specs.declared.entry.Entry.{Entry}
+use Rattle.journals.specs.declared.entry.Entry.TheVariants.{Dep}
+use Rattle.journals.specs.declared.entry.Owed.{Owed}
+use Rattle.journals.specs.declared.entry.TraceItem.{TraceItem}
+use Rattle.journals.specs.declared.entry.TraceItem.TheVariants.{Event}
+use Rattle.net_core.specs.declared.answer.Why.TheVariants.{NotOwed}
+use Rattle.journals.specs.Journals.{same_party}
 use Rattle.net_core.specs.Judging.{IsFirstCause}
-use Rattle.net_core.specs.Legality.{Legal, MayFollow}
-use Rattle.net_core.specs.Schedules.{owed_by_machines}
-use Rattle.net_core.specs.Tables.{cursor}
-use Rattle.net_core.proofs.Legal.{one_outcome}
-use Rattle.net_core.proofs.Next.{find_passes, owed_is, first_of_machine}
-use Rattle.net_core.proofs.Tables.{env_may_follow, find_by_position}
-use Rattle.net_core.proofs.Ways.{is_way, event_code}
+use Rattle.journals.specs.Legality.{Legal, MayFollow}
+use Rattle.journals.specs.Schedules.{owed_by_machines, is_way, event_code}
+use Rattle.journals.specs.Cursors.{cursor}
+use Rattle.transition_table.specs.Laws.{OneOutcome}
+use Rattle.journals.specs.Laws.{FirstOfWayMayFollow, AtCursorMayFollow}
+
+-- ---- the first of a way
+
+find_passes : {X : Type 0} (p : X → Bool) (xs : List X) (x : X) → find p xs ≡ Some x → p x ≡ true
+find_passes p [] x h = cc
+find_passes p (y ∷ xs) x h = cases (p y) refl h (find_passes p xs x)
+  where
+    cases : (b : Bool) → p y ≡ b → cond b (Some y) (find p xs) ≡ Some x → (find p xs ≡ Some x → p x ≡ true) → p x ≡ true
+    cases true here h rest = let same : y ≡ x = cc in subst (λ z. p z ≡ true) same here
+    cases false here h rest = rest h
+
+party_from_same : (s t : Party) → same_party s t ≡ true → s ≡ t
+party_from_same Env Env h = refl
+party_from_same (Sender j) (Sender k) h = ap Sender (eqb-true j k h)
+party_from_same Env (Sender k) h = absurd (false≢true h)
+party_from_same (Sender j) Env h = absurd (false≢true h)
+
+owed_is : (d : Owed) (s : Party) (m e c : ℕ) → is_way s m d ≡ true → event_code d ≡ (e, c) → ◌≡◌ {A = Owed} d (record { from = s; to = m; event = e; code = c })
+owed_is d s m e c h k =
+    let parts = and_parts (same_party d.from s) (d.to == m) h in
+    let event : d.event ≡ e = ap (λ (p : ℕ × ℕ). p.0) k in
+    let code : d.code ≡ c = ap (λ (p : ℕ × ℕ). p.1) k in
+    ap (λ t. let made : Owed = record { from = t; to = d.to; event = d.event; code = d.code } in made) (party_from_same d.from s parts.0)
+    ∙ ap (λ t. let made : Owed = record { from = s; to = t; event = d.event; code = d.code } in made) (eqb-true d.to m parts.1)
+    ∙ ap (λ t. let made : Owed = record { from = s; to = m; event = t; code = d.code } in made) event
+    ∙ ap (λ t. let made : Owed = record { from = s; to = m; event = e; code = t } in made) code
 
 -- ---- deliveries
 
 -- of the environment: the item at the receiver's cursor
-pub env_lands : (net : Network) (trace : List TraceItem) (journal : List Entry) (from : Party) (to e c place : ℕ) (b : Bool) → Legal net trace journal → from ≡ Env → place ≡ cursor net trace journal to
+pub env_lands : (net : Network) (trace : List TraceItem) (journal : List Entry) (from : Party) (to e c place : ℕ) (b : Bool) → AtCursorMayFollow → Legal net trace journal → from ≡ Env → place ≡ cursor net trace journal to
     → (IsTrue b ↔ (slice_get trace place ≡ Some (Event e c))) → IsTrue b ↔ MayFollow net trace journal (Dep from to e c)
-env_lands net trace journal from to e c place b legal env at says =
-    let next = env_may_follow net trace journal to e c legal in
+env_lands net trace journal from to e c place b law legal env at says =
+    let next = law net trace journal to e c legal in
     let item = λ (k : ℕ). slice_get trace k ≡ Some (Event e c) in
     subst (λ (s : Party). IsTrue b ↔ MayFollow net trace journal (Dep s to e c)) (sym env)
     ((λ h. next.1 (subst item at (says.0 h))), (λ h. says.1 (subst item (sym at) (next.0 h))))
 
-found_lands : (net : Network) (trace : List TraceItem) (journal : List Entry) (s to e c : ℕ) (d : Owed) → Legal net trace journal → find (is_way (Sender s) to) (owed_by_machines net journal) ≡ Some d
+found_lands : (net : Network) (trace : List TraceItem) (journal : List Entry) (s to e c : ℕ) (d : Owed) → FirstOfWayMayFollow → Legal net trace journal → find (is_way (Sender s) to) (owed_by_machines net journal) ≡ Some d
     → IsTrue (d.event == e && d.code == c) ↔ MayFollow net trace journal (Dep (Sender s) to e c)
-found_lands net trace journal s to e c d legal found =
-    let next = first_of_machine net trace journal s to e c legal in
+found_lands net trace journal s to e c d law legal found =
+    let next = law net trace journal s to e c legal in
     let way = find_passes (is_way (Sender s) to) (owed_by_machines net journal) d found in (
       (λ h.
           let parts = and_parts (d.event == e) (d.code == c) h in
@@ -51,21 +75,19 @@ found_lands net trace journal s to e c d legal found =
     )
 
 -- of a machine: the first of those owed from it to the receiver
-pub machine_lands : (net : Network) (trace : List TraceItem) (journal : List Entry) (owed : List Owed) (from : Party) (s to e c : ℕ) (found : Option Owed) (d : Owed) → Legal net trace journal → from ≡ Sender s → owed ≡ owed_by_machines net journal
-    → MatchOption (position (λ d. same_party d.from from && d.to == to) owed) (found ≡ None) (λ i. found ≡ slice_get owed i)
+pub machine_lands : (net : Network) (trace : List TraceItem) (journal : List Entry) (owed : List Owed) (from : Party) (s to e c : ℕ) (found : Option Owed) (d : Owed) → FirstOfWayMayFollow → Legal net trace journal → from ≡ Sender s → owed ≡ owed_by_machines net journal
+    → found ≡ find (is_way (Sender s) to) owed
     → found ≡ Some d → IsTrue (d.event == e && d.code == c) ↔ MayFollow net trace journal (Dep from to e c)
-machine_lands net trace journal owed from s to e c found d legal sender are by is =
-    let at : found ≡ find (is_way from to) (owed_by_machines net journal) = find_by_position (is_way from to) owed found by ∙ ap (find (is_way from to)) are in
-    let first : find (is_way (Sender s) to) (owed_by_machines net journal) ≡ Some d = subst (λ (t : Party). find (is_way t to) (owed_by_machines net journal) ≡ Some d) sender (sym at ∙ is) in
-    subst (λ (t : Party). IsTrue (d.event == e && d.code == c) ↔ MayFollow net trace journal (Dep t to e c)) (sym sender) (found_lands net trace journal s to e c d legal first)
+machine_lands net trace journal owed from s to e c found d law legal sender are at is =
+    let first : find (is_way (Sender s) to) (owed_by_machines net journal) ≡ Some d = ap (find (is_way (Sender s) to)) (sym are) ∙ sym at ∙ is in
+    subst (λ (t : Party). IsTrue (d.event == e && d.code == c) ↔ MayFollow net trace journal (Dep t to e c)) (sym sender) (found_lands net trace journal s to e c d law legal first)
 
-pub machine_owes_none : (net : Network) (trace : List TraceItem) (journal : List Entry) (owed : List Owed) (from : Party) (s to e c : ℕ) (found : Option Owed) → Legal net trace journal → from ≡ Sender s → owed ≡ owed_by_machines net journal
-    → MatchOption (position (λ d. same_party d.from from && d.to == to) owed) (found ≡ None) (λ i. found ≡ slice_get owed i)
+pub machine_owes_none : (net : Network) (trace : List TraceItem) (journal : List Entry) (owed : List Owed) (from : Party) (s to e c : ℕ) (found : Option Owed) → FirstOfWayMayFollow → Legal net trace journal → from ≡ Sender s → owed ≡ owed_by_machines net journal
+    → found ≡ find (is_way (Sender s) to) owed
     → found ≡ None → IsTrue false ↔ MayFollow net trace journal (Dep from to e c)
-machine_owes_none net trace journal owed from s to e c found legal sender are by is =
-    let at : found ≡ find (is_way from to) (owed_by_machines net journal) = find_by_position (is_way from to) owed found by ∙ ap (find (is_way from to)) are in
-    let none : find (is_way (Sender s) to) (owed_by_machines net journal) ≡ None = subst (λ (t : Party). find (is_way t to) (owed_by_machines net journal) ≡ None) sender (sym at ∙ is) in
-    let next = first_of_machine net trace journal s to e c legal in
+machine_owes_none net trace journal owed from s to e c found law legal sender are at is =
+    let none : find (is_way (Sender s) to) (owed_by_machines net journal) ≡ None = ap (find (is_way (Sender s) to)) (sym are) ∙ sym at ∙ is in
+    let next = law net trace journal s to e c legal in
     subst (λ (t : Party). IsTrue false ↔ MayFollow net trace journal (Dep t to e c)) (sym sender)
     ((λ h. absurd (let no : false ≡ true = h in cc)), (λ h. absurd (let some = next.0 h in cc)))
 
@@ -75,9 +97,9 @@ not_owed net trace journal entry from to e c b is says fails =
 
 -- ---- outcomes
 
-pub outcomes_agree : (net : Network) (m : ℕ) (s : Snapshot) (o p q : Outcome) → AreDeterministic net → OfMachine net m (λ machine. IsSnapshot machine s × IsOutcome machine q) → OfMachine net m (λ machine. Transition machine s o) → OfMachine net m (λ machine. Transition machine s p) → o ≡ p
-outcomes_agree net m s o p q all fits first second = at (slice_get net.machines m) refl fits first second
+pub outcomes_agree : OneOutcome → (net : Network) (m : ℕ) (s : Snapshot) (o p q : Outcome) → AreDeterministic net → OfMachine net m (λ machine. IsSnapshot machine s × IsOutcome machine q) → OfMachine net m (λ machine. Transition machine s o) → OfMachine net m (λ machine. Transition machine s p) → o ≡ p
+outcomes_agree one net m s o p q all fits first second = at (slice_get net.machines m) refl fits first second
   where
     at : (found : Option Machine) → slice_get net.machines m ≡ found → IsSomeAnd found (λ machine. IsSnapshot machine s × IsOutcome machine q) → IsSomeAnd found (λ machine. Transition machine s o) → IsSomeAnd found (λ machine. Transition machine s p) → o ≡ p
     at None is f a b = absurd a
-    at (Some machine) is f a b = one_outcome machine s o p (all m machine is) f.0 a b
+    at (Some machine) is f a b = one machine s o p (all m machine is) f.0 a b

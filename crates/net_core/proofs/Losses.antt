@@ -1,25 +1,24 @@
 -- The losses of a journal, entry by entry.
-use Rattle.std.specs.Prelude.{◌≡◌, ℕ, zero, suc, ◌+◌, ◌<◌, Bool, true, false, cond, not, ◌&&◌, ◌||◌, ◌==◌, List, [], ◌∷◌, ◌++◌, map, length, take, drop, slice_get, slice_index, Option, Some, None, option_map, unwrap_or, position, MatchOption, IsSomeAnd}
+use Rattle.std.specs.Prelude.{◌≡◌, ◌⊎◌, ◌≤◌, nat_lt, ℕ, zero, suc, ◌+◌, ◌<◌, Bool, true, false, cond, not, ◌&&◌, ◌||◌, ◌==◌, List, [], ◌∷◌, ◌++◌, map, length, take, drop, slice_get, slice_index, Option, Some, None, option_map, unwrap_or, position, MatchOption, IsSomeAnd}
 use Rattle.std.specs.List.{position_or_len}
 use Rattle.std.proofs.Common.{inl, inr, refl, sym, ap, ◌∙◌, subst, arith, get_or}
-use Rattle.std.proofs.lemmas.Bool.{eqb-true, or_from, or_left}
+use Rattle.std.proofs.lemmas.Bool.{eqb-true, or_from, or_left, ltb-true, ltb-false}
 use Rattle.std.proofs.lemmas.List.{drop_more, take_more, get_or_append_left, get_or-map, length-map}
 use Rattle.std.proofs.lemmas.List.Sums.{fails_before_first, passes_at_first}
 use Rattle.std.proofs.lemmas.Option.{slice_get_within, get_or_from_slice_get}
 use Rattle.polis_base.specs.Lists.{upto}
 use Rattle.transition_table.specs.NetworkFacts.{has}
-use Rattle.transition_table.specs.Transitions.{IsSnapshot}
+use Rattle.transition_table.specs.Transitions.{IsSnapshot, IsOutcome}
 use Rattle.transition_table.specs.declared.decl.Party.{Party}
 use Rattle.transition_table.specs.declared.machine.Machine.{Machine}
 use Rattle.transition_table.specs.declared.network.Network.{Network}
 use Rattle.transition_table.specs.declared.snapshot.Snapshot.{Snapshot}
-use Rattle.net_core.specs.declared.entry.Entry.{Entry}
-use Rattle.net_core.specs.declared.entry.Entry.TheVariants.{Dep, Rea}
-use Rattle.net_core.specs.Journals.{FitsNetwork, IsJournal, IsOutcome, inputs_of, states_of, place, state, snap}
+use Rattle.journals.specs.declared.entry.Entry.{Entry}
+use Rattle.journals.specs.declared.entry.Entry.TheVariants.{Dep, Rea}
+use Rattle.journals.specs.Journals.{FitsNetwork, IsJournal, inputs_of, states_of, place, state, snap}
 use Rattle.net_core.specs.Losses.{Overwrites}
-use Rattle.net_core.specs.Moved.{machine_of, SuitsMachine}
-use Rattle.net_core.specs.Outputs.{overwrites, lost_behind}
-use Rattle.net_core.proofs.Tables.{at_position}
+use Rattle.journals.specs.Moved.{machine_of, SuitsMachine}
+use Rattle.journals.specs.Outputs.{overwrites, lost_after}
 
 pub fits_at : (net : Network) (journal : List Entry) (i : ℕ) (entry : Entry) → IsJournal net journal → slice_get journal i ≡ Some entry → FitsNetwork net entry
 fits_at net [] i entry h at = cc
@@ -33,6 +32,14 @@ suits_machine net machine (Rea m s o) h at =
     of.1.widths
 
 -- ---- what is present
+
+-- what the place of the first that passes says
+at_position : {X : Type 0} (p : X → Bool) (xs : List X) (P : Type 0) (Q : ℕ → Type 0) → MatchOption (position p xs) P Q
+    → ((P × (length xs ≤ position_or_len p xs)) ⊎ (Q (position_or_len p xs) × (position_or_len p xs < length xs)))
+at_position p xs P Q h = (elim (nat_lt (position_or_len p xs) (length xs)) as (λ b. nat_lt (position_or_len p xs) (length xs) ≡ b → MatchOption (cond b (Some (position_or_len p xs)) None) P Q → ((P × (length xs ≤ position_or_len p xs)) ⊎ (Q (position_or_len p xs) × (position_or_len p xs < length xs)))) [
+  | true ↦ λ e g. inr (g, ltb-true (position_or_len p xs) (length xs) e)
+  | false ↦ λ e g. inl (g, ltb-false (position_or_len p xs) (length xs) e)
+]) refl h
 
 has_at : (inputs : List ℕ) (i e d : ℕ) → i < length inputs → (get_or inputs i d == e) ≡ true → has inputs e ≡ true
 has_at [] i e d below here = absurd (omega arith)
@@ -73,14 +80,14 @@ overwrites_is net journal machine before (Dep s m e c) b at is h =
 
 -- ---- one entry more
 
-pub front_more : (journal : List Entry) (i : ℕ) (entry : Entry) → slice_get journal i ≡ Some entry → take (i + 1) journal ≡ take i journal ++ entry ∷ []
-front_more journal i entry at = take_more journal i entry (slice_get_within journal i entry at) ∙ ap (λ x. take i journal ++ x ∷ []) (get_or_from_slice_get journal i entry entry at)
+pub prefix_more : (journal : List Entry) (i : ℕ) (entry : Entry) → slice_get journal i ≡ Some entry → take (i + 1) journal ≡ take i journal ++ entry ∷ []
+prefix_more journal i entry at = take_more journal i entry (slice_get_within journal i entry at) ∙ ap (λ x. take i journal ++ x ∷ []) (get_or_from_slice_get journal i entry entry at)
 
 pub losses_more : (net : Network) (journal : List Entry) (i : ℕ) (entry : Entry) → slice_get journal i ≡ Some entry
-    → lost_behind net (take i journal) (drop i journal) ≡ cond (overwrites net (take i journal) entry) 1 0 + lost_behind net (take (i + 1) journal) (drop (i + 1) journal)
+    → lost_after net (take i journal) (drop i journal) ≡ cond (overwrites net (take i journal) entry) 1 0 + lost_after net (take (i + 1) journal) (drop (i + 1) journal)
 losses_more net journal i entry at =
     let rest = drop_more journal i entry (slice_get_within journal i entry at) ∙ ap (λ x. x ∷ drop (i + 1) journal) (get_or_from_slice_get journal i entry entry at) in
-    ap (lost_behind net (take i journal)) rest ∙ ap (λ (l : List Entry). cond (overwrites net (take i journal) entry) 1 0 + lost_behind net l (drop (i + 1) journal)) (sym (front_more journal i entry at))
+    ap (lost_after net (take i journal)) rest ∙ ap (λ (l : List Entry). cond (overwrites net (take i journal) entry) 1 0 + lost_after net l (drop (i + 1) journal)) (sym (prefix_more journal i entry at))
 
 -- ---- what the place of an event says
 

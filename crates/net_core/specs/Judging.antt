@@ -2,15 +2,15 @@
 use Rattle.std.specs.Prelude.{◌≡◌, ◌≢◌, false, List, IsTrue, ⊤}
 use Rattle.transition_table.specs.Transitions.{OfMachine, Transition}
 use Rattle.transition_table.specs.declared.network.Network.{Network}
-use Rattle.net_core.specs.declared.entry.Entry.{Entry}
-use Rattle.net_core.specs.declared.entry.Entry.TheVariants.{Dep, Rea}
-use Rattle.net_core.specs.declared.entry.TraceItem.{TraceItem}
-use Rattle.net_core.specs.declared.entry.Why.{Why}
-use Rattle.net_core.specs.declared.entry.Why.TheVariants.{NotOwed, NotWoken, Snapshot as OldSnapshot, Outcome as OtherOutcome}
-use Rattle.net_core.specs.declared.entry.Admit.{Admit}
-use Rattle.net_core.specs.declared.entry.Admit.TheVariants.{Yes, No, NoMemory}
-use Rattle.net_core.specs.Journals.{is_woken, snap}
-use Rattle.net_core.specs.Legality.{MayFollow}
+use Rattle.journals.specs.declared.entry.Entry.{Entry}
+use Rattle.journals.specs.declared.entry.Entry.TheVariants.{Dep, Rea}
+use Rattle.journals.specs.declared.entry.TraceItem.{TraceItem}
+use Rattle.net_core.specs.declared.answer.Why.{Why}
+use Rattle.net_core.specs.declared.answer.Why.TheVariants.{NotOwed, NotWoken, Snapshot as OldSnapshot, Outcome as OtherOutcome}
+use Rattle.net_core.specs.declared.answer.Admit.{Admit}
+use Rattle.net_core.specs.declared.answer.Admit.TheVariants.{Yes, No, NoMemory}
+use Rattle.journals.specs.Journals.{is_woken, snap}
+use Rattle.journals.specs.Legality.{MayFollow}
 
 -- This is the first cause, in the order of the four, for which the entry may not follow. No two of them hold of one entry.
 abbrev pub IsFirstCause : Network → List TraceItem → List Entry → Why → Entry → Type 0
@@ -23,13 +23,24 @@ IsFirstCause net trace journal NotWoken (Dep s m event code) = ⊥
 IsFirstCause net trace journal OldSnapshot (Dep s m event code) = ⊥
 IsFirstCause net trace journal OtherOutcome (Dep s m event code) = ⊥
 
--- Yes where the entry may follow, No with the first cause where it may not. No two of these hold together, but for want of memory, which is free.
+-- Yes where the entry may follow, No with the first cause where it may not. No two of these hold together, unless memory runs out, which is free.
 abbrev pub Judges : Network → List TraceItem → List Entry → Entry → Admit → Type 0
 Judges net trace journal entry Yes = MayFollow net trace journal entry
 Judges net trace journal entry (No why) = IsFirstCause net trace journal why entry
 Judges net trace journal entry NoMemory = ⊤
 
--- a reaction may follow; nothing is said of a delivery
-abbrev pub MayFollowIfReaction : Network → List TraceItem → List Entry → Entry → Type 0
-MayFollowIfReaction net trace journal (Dep s m event code) = ⊤
-MayFollowIfReaction net trace journal (Rea m s o) = MayFollow net trace journal (Rea m s o)
+-- an entry of which a cause holds may not follow
+abbrev pub CausedMayNotFollow : Type 0
+CausedMayNotFollow =
+    (net : Network) (trace : List TraceItem) (journal : List Entry) (why : Why) (entry : Entry)
+    → IsFirstCause net trace journal why entry
+    → MayFollow net trace journal entry
+    → ⊥
+
+-- no two causes hold of one entry
+abbrev pub OneCause : Type 0
+OneCause =
+    (net : Network) (trace : List TraceItem) (journal : List Entry) (why other : Why) (entry : Entry)
+    → IsFirstCause net trace journal why entry
+    → IsFirstCause net trace journal other entry
+    → why ≡ other

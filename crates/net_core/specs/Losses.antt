@@ -2,8 +2,8 @@
 use Rattle.std.specs.Prelude.{◌≡◌, Bool, false, not, ◌==◌, slice_index, position, MatchOption}
 use Rattle.transition_table.specs.declared.machine.Machine.{Machine}
 use Rattle.transition_table.specs.declared.snapshot.Snapshot.{Snapshot}
-use Rattle.net_core.specs.declared.entry.Entry.{Entry}
-use Rattle.net_core.specs.declared.entry.Entry.TheVariants.{Dep, Rea}
+use Rattle.journals.specs.declared.entry.Entry.{Entry}
+use Rattle.journals.specs.declared.entry.Entry.TheVariants.{Dep, Rea}
 
 -- the answer is whether the entry delivers an input of the machine whose code isn't 0
 abbrev pub Overwrites : Machine → Snapshot → Entry → Bool → Type 0

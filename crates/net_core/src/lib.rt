@@ -1,14 +1,16 @@
-// Traces, journals, and what it means that a journal is legal, complete, and the scheduler's.
+// The judge of entries: a legal journal, with what is needed to judge the next entry, and the count of what was lost.
 #![tactic(auto)]
 
+mod answer;
 mod config;
-mod entry;
 mod law;
 mod loss;
-mod worked;
+mod moments;
 
+pub use answer::{Admit, NextEnv, Why};
 pub use config::Config;
-pub use entry::{Admit, Entry, Journal, NextEnv, Owed, Pick, Trace, TraceItem, Why};
-pub use law::laws;
+pub use journals::{
+    Entry, Journal, Owed, Pick, Trace, TraceItem, laws, moving_laws, sending_laws, worked_rows,
+};
+pub use law::judging_laws;
 pub use loss::lost;
-pub use worked::worked_rows;

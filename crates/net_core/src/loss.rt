@@ -1,11 +1,11 @@
 // The deliveries of a journal that came on a present input.
 ghost use Rattle.std.specs.Prelude.{◌≡◌, ◌≤◌, ◌==◌, length, position, IfOk};
-ghost use Rattle.net_core.specs.Journals.{IsJournal};
+ghost use Rattle.journals.specs.Journals.{IsJournal};
 ghost use Rattle.net_core.specs.Losses.{Overwrites};
-ghost use Rattle.net_core.specs.Outputs.{lost as lost_in};
+ghost use Rattle.journals.specs.Outputs.{lost as lost_in};
 
-use crate::config::moments::{first_moments, moved};
-use crate::entry::{Entry, Journal};
+use crate::moments::first_moments;
+use journals::{Entry, Journal, move_on, moving_laws};
 use polis_base::NoMemory;
 use std::alloc::Global;
 use transition_table::{Machine, Network, Snapshot};
@@ -38,17 +38,17 @@ pub fn lost(alloc: Global, net: &Network, j: &Journal) -> Result<u64, NoMemory>
     requires { IsJournal net.now j.now }
     ensures { IfOk result (λ count. count ≡ lost_in net.now j.now) }
 {
+    moving_laws();
     let mut moments = first_moments(alloc, net)?;
     let mut count = 0;
     for i in 0..j.len() {
         let entry = j.get(i);
-        let m = entry.machine() as u64;
-        let machine = net.machines.get(m);
-        let moment = moved(alloc, machine, entry, moments.get(m))?;
-        if overwrites(machine, entry, moments.get(m)) {
+        let m = entry.machine() as usize;
+        let machine = net.machines.get(m as u64);
+        if overwrites(machine, entry, &moments[m]) {
             count += 1;
         }
-        moments.set(m, moment);
+        move_on(machine, entry, &mut moments[m]);
     }
     Ok(count)
 }

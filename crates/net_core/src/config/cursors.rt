@@ -1,11 +1,11 @@
 // For each machine the place of the next event item that it reads and that isn't delivered to it.
 ghost use Rattle.std.specs.Prelude.{◌≡◌, ◌<◌, ◌≤◌, ◌+◌, not, length, drop, map, IfOk, IsTrue, ◌↔◌, ◌-◌, nat_lt, slice_get, Some};
 ghost use Rattle.std.specs.List.{prefix_len, IsFirstBest};
-ghost use Rattle.net_core.specs.declared.entry.TraceItem.TheVariants.{Settle};
+ghost use Rattle.journals.specs.declared.entry.TraceItem.TheVariants.{Settle};
 ghost use Rattle.polis_base.specs.Lists.{upto};
-ghost use Rattle.net_core.specs.Tables.{is_read, nth_place};
+ghost use Rattle.journals.specs.Cursors.{is_read, nth_place};
 
-use crate::entry::{Trace, TraceItem};
+use journals::{Trace, TraceItem};
 use polis_base::{List, NoMemory, Places};
 use std::alloc::Global;
 use transition_table::Network;

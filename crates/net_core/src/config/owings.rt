@@ -1,112 +1,181 @@
-// Deliveries that are owed, in order.
-ghost use Rattle.std.specs.Prelude.{◌≡◌, ◌&&◌, ◌==◌, [], ◌∷◌, ◌++◌, take, length, position, slice_get, None, OnOk, OnErr, MatchOption};
-ghost use Rattle.std.specs.List.{remove};
+// Deliveries of machines that are owed, in order.
+ghost use Rattle.std.specs.Prelude.{◌≡◌, ◌<◌, ◌≤◌, ◌+◌, ◌*◌, ℕ, [], ◌∷◌, ◌++◌, length, find, IfOk, OnOk, OnErr};
 ghost use Rattle.polis_base.specs.Lists.{head_of};
-ghost use Rattle.net_core.specs.Journals.{same_party};
+ghost use Rattle.transition_table.specs.declared.decl.Party.TheVariants.{Machine as Sender};
+ghost use Rattle.journals.specs.Journals.{FitsNetwork};
+ghost use Rattle.journals.specs.Schedules.{is_way, without_first, firing_deliveries};
+ghost use Rattle.net_core.specs.Emissions.{nth};
+ghost use Rattle.net_core.specs.Readers.{AreReaders};
 
-use crate::entry::Owed;
-use polis_base::NoMemory;
+use crate::config::bits::{lowest, without};
+use crate::config::emissions::{Emission, NO_PLACE, delivery, emit_all, place_from};
+use journals::{Entry, Journal, Owed};
+use polis_base::{Duplicate, NoMemory};
 use std::alloc::Global;
 use std::marker::Model;
-use transition_table::Party;
+use transition_table::Network;
 
-/// Deliveries that are owed, in order.
+/// Deliveries of machines that are owed, in order. There is one record for each emission, with the receivers that still wait. A record
+/// for which nobody waits is struck, and stays; the front isn't struck. The first 64 records, one for each sender, are struck from the start,
+/// so that each sender's chain has a beginning. The cursor of a sender and a receiver stands at a record of the sender,
+/// and no record before it is one that the receiver waits for.
 #[derive(Drop)]
 pub(crate) struct Owings {
-    items: Vec<Owed>,
+    records: Vec<Emission>,
+    front: usize,
+    cursors: Vec<usize>,
+    last: Vec<usize>,
 }
 
 impl Model for Owings {
-    ghost use Rattle.std.specs.Prelude.{List};
-    ghost use Rattle.net_core.specs.declared.entry.Owed.{Owed};
+    ghost use Rattle.std.specs.Prelude.{List, drop};
+    ghost use Rattle.journals.specs.declared.entry.Owed.{Owed};
+    ghost use Rattle.net_core.specs.Emissions.{all_waiting, IsQueue};
 
     ghost Value = { List Owed };
 
-    ghost view = { λ o. o.items.items };
+    ghost view = { λ o. all_waiting (drop o.front o.records.items) };
+
+    ghost invariant = { λ o. IsQueue o.records.items o.front o.cursors.items o.last.items };
 }
 
-// The environment, or a machine, is the same.
-fn is_same(a: Party, b: Party) -> bool
-    ensures { result ≡ same_party a b }
+// The place of a pair's cursor.
+fn pair(from: u32, to: u32) -> usize
+    requires from { from < 64 }
+    requires to { to < 64 }
+    ensures { result ≡ 64 * from + to }
 {
-    match (a, b) {
-        (Party::Env, Party::Env) => true,
-        (Party::Machine(j), Party::Machine(k)) => j == k,
-        (Party::Env, Party::Machine(_)) => false,
-        (Party::Machine(_), Party::Env) => false,
+    64 * from as usize + to as usize
+}
+
+// The first record from here on that isn't struck.
+fn first_left(records: &[Emission], start: usize) -> usize
+    requires { start ≤ length records.now }
+    ensures from { start ≤ result }
+    ensures within { result ≤ length records.now }
+    ensures struck { (i : ℕ) → start ≤ i → i < result → (nth records.now i).left ≡ 0 }
+    ensures left { result < length records.now → 0 < (nth records.now result).left }
+{
+    for i in start..records.len() {
+        if records[i].left != 0 {
+            return i;
+        }
     }
-}
-
-// The delivery is from the one to the other.
-fn is_between(owed: &Owed, from: Party, to: u32) -> bool
-    ensures { result ≡ (same_party owed.now.from from && owed.now.to == to) }
-{
-    is_same(owed.from, from) && owed.to == to
+    records.len()
 }
 
 impl Owings {
     // None.
-    pub(crate) fn new(alloc: Global) -> Self
-        ensures { result ≡ [] }
+    pub(crate) fn new(alloc: Global) -> Result<Self, NoMemory>
+        ensures { IfOk result (λ o. o ≡ []) }
     {
-        Owings {
-            items: Vec::new(alloc),
+        let mut records = Vec::new(alloc);
+        let mut last = Vec::new(alloc);
+        let mut cursors = Vec::new(alloc);
+        for from in 0..64u32 {
+            records.push(Emission {
+                from,
+                event: 0,
+                code: 0,
+                left: 0,
+                next: NO_PLACE,
+            })?;
+            last.push(from as usize)?;
         }
+        for key in 0..4096usize {
+            cursors.push(key / 64)?;
+        }
+        Ok(Owings {
+            records,
+            front: 64,
+            cursors,
+            last,
+        })
     }
 
     // The first.
     pub(crate) fn first(&self) -> Option<Owed>
         ensures { result ≡ head_of self.now }
     {
-        self.items.first().copied()
+        if self.front < self.records.len() {
+            let r = self.records[self.front];
+            Some(delivery(&r, lowest(r.left)))
+        } else {
+            None
+        }
     }
 
-    // The place of the first from the one to the other.
-    fn place(&self, from: Party, to: u32) -> Option<usize>
-        ensures { result ≡ position (λ d. same_party d.from from && d.to == to) self.now }
+    // The first from the one machine to the other.
+    pub(crate) fn first_between(&self, from: u32, to: u32) -> Option<Owed>
+        requires from { from < 64 }
+        requires to { to < 64 }
+        ensures { result ≡ find (is_way (Sender from) to) self.now }
     {
-        self.items
-            .iter()
-            .position(|owed| is_between(owed, from, to))
-    }
-
-    // The first from the one to the other.
-    pub(crate) fn first_between(&self, from: Party, to: u32) -> Option<Owed>
-        ensures { MatchOption (position (λ d. same_party d.from from && d.to == to) self.now) (result ≡ None) (λ i. result ≡ slice_get self.now i) }
-    {
-        match self.place(from, to) {
-            Some(place) => Some(self.items[place]),
+        let start = self.cursors[pair(from, to)];
+        match place_from(&self.records, start, from, to) {
+            Some(place) => Some(delivery(&self.records[place], to)),
             None => None,
         }
     }
 
-    // Takes the first from the one to the other away.
-    pub(crate) fn remove_between(&mut self, from: Party, to: u32)
-        ensures { MatchOption (position (λ d. same_party d.from from && d.to == to) self.old) (self.new ≡ self.old) (λ i. self.new ≡ remove self.old i) }
+    // Takes the first from the one machine to the other away.
+    pub(crate) fn remove_between(&mut self, from: u32, to: u32)
+        requires from { from < 64 }
+        requires to { to < 64 }
+        ensures { self.new ≡ without_first (is_way (Sender from) to) self.old }
     {
-        if let Some(place) = self.place(from, to) {
-            self.items.remove(place);
+        let key = pair(from, to);
+        if let Some(place) = place_from(&self.records, self.cursors[key], from, to) {
+            let mut r = self.records[place];
+            r.left = without(r.left, to);
+            self.records[place] = r;
+            self.cursors[key] = place;
+            self.front = first_left(&self.records, self.front);
         }
     }
 
-    pub(crate) fn push(&mut self, owed: Owed) -> Result<(), NoMemory>
-        ensures ok { OnOk result (self.new ≡ self.old ++ owed ∷ []) }
-        ensures err { OnErr result (self.new ≡ self.old) }
+    // Puts an entry at the end of the journal, and the deliveries that it gives at the end here: both or neither.
+    // All memory is taken before anything changes.
+    pub(crate) fn write(
+        &mut self,
+        net: &Network,
+        readers: &[u64],
+        entry: &Entry,
+        journal: &mut Journal,
+    ) -> Result<(), NoMemory>
+        requires fits { FitsNetwork net.now entry.now }
+        requires readers { AreReaders net.now readers.now }
+        ensures journal { OnOk result (journal.new ≡ journal.old ++ entry.now ∷ []) }
+        ensures owed { OnOk result (self.new ≡ self.old ++ firing_deliveries net.now entry.now) }
+        ensures same_journal { OnErr result (journal.new ≡ journal.old) }
+        ensures same_owed { OnErr result (self.new ≡ self.old) }
     {
-        self.items.push(owed)?;
-        Ok(())
-    }
-
-    pub(crate) fn len(&self) -> usize
-        ensures { result ≡ length self.now }
-    {
-        self.items.len()
-    }
-
-    // Keeps the first ones.
-    pub(crate) fn truncate(&mut self, count: usize)
-        ensures { self.new ≡ take count self.old }
-    {
-        self.items.truncate(count);
+        let copy = entry.copy()?;
+        if let Entry::Rea {
+            machine,
+            outcome,
+            ..
+        } = entry
+        {
+            if outcome.fires {
+                let count = outcome.outs.len() as usize;
+                // Places are numbers of 32 bits.
+                if NO_PLACE as usize - self.records.len() < count {
+                    return Err(NoMemory);
+                }
+                self.records.reserve(count)?;
+                journal.push(copy)?;
+                emit_all(
+                    &mut self.records,
+                    &mut self.last,
+                    net,
+                    readers,
+                    *machine,
+                    &outcome.outs,
+                );
+                return Ok(());
+            }
+        }
+        journal.push(copy)
     }
 }

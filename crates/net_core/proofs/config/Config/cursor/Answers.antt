@@ -1,8 +1,8 @@
 use Rattle.std.proofs.Common.{◌<◌, length, ap, sym, subst, ◌∙◌, arith}
 use Rattle.net_core.specs.Moments.{Moment}
-use Rattle.net_core.specs.Tables.{cursor}
+use Rattle.journals.specs.Cursors.{cursor}
 use Rattle.net_core.proofs.Tables.{table_item}
-use Rattle.net_core.proofs.Moved.{length-table}
+use Rattle.net_core.proofs.Numbers.{length-table}
 use Rattle.net_core.proofs.config.Config.cursor.Goals as goal
 
 pub get-requires : goal.get-requires

@@ -15,5 +15,5 @@ returns-in-Ok g c =
     let same : c.args.s.now ≡ c.moment.result.now = λ i. record { codes = codes i } in (
       sym c.woken.ensures ∙ c.if-not-woken.false,
       same ∙ c.moment.ensures,
-      (λ h. both_ways c.same_outcome.result c.if-same_outcome.false (c.same_outcome.ensures.1 (outcomes_agree net m c.args.s.now c.react.new.o c.args.o.now c.args.o.now all c.requires.fits made h))),
+      (λ h. both_ways c.same_outcome.result c.if-same_outcome.false (c.same_outcome.ensures.1 (outcomes_agree c.laws.ensures.one_outcome net m c.args.s.now c.react.new.o c.args.o.now c.args.o.now all c.requires.fits made h))),
     )

@@ -1,12 +1,12 @@
 use Rattle.std.proofs.Common.{◌<◌, length, ap, sym, subst, ◌∙◌, arith}
 use Rattle.net_core.specs.Moments.{Moment}
-use Rattle.net_core.specs.Journals.{snap}
-use Rattle.net_core.proofs.Tables.{table_item}
-use Rattle.net_core.proofs.Moved.{length-table}
+use Rattle.journals.specs.Journals.{snap}
+use Rattle.net_core.proofs.Numbers.{length-table}
+use Rattle.net_core.proofs.Tables.{moment_of}
 use Rattle.net_core.proofs.config.Config.moment.Goals as goal
 
-pub get-requires : goal.get-requires
-get-requires c =
+pub index-requires : goal.index-requires
+index-requires c =
     let below = subst (λ (m : Moment). c.args.m < length m.net.machines) (sym c.self.view_is) c.requires in
     let size = ap length c.self.invariant.moments_are ∙ length-table (snap c.self.inside.net.now c.self.inside.journal) (length c.self.inside.net.now.machines) in
     omega arith
@@ -14,4 +14,4 @@ get-requires c =
 pub returns : goal.returns
 returns c =
     let below = subst (λ (m : Moment). c.args.m < length m.net.machines) (sym c.self.view_is) c.requires in
-    rw (← c.self.view_is) (table_item (snap c.self.inside.net.now c.self.inside.journal) (length c.self.inside.net.now.machines) c.self.inside.tables.moments c.args.m c.get.result.now c.self.invariant.moments_are below c.get.ensures)
+    rw (← c.self.view_is) (moment_of c.self.inside.net.now c.self.inside.journal c.self.inside.tables.moments.items c.args.m c.index.result.now c.self.invariant.moments_are below c.index.ensures)

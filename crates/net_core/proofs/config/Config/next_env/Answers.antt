@@ -2,15 +2,13 @@ use Rattle.std.proofs.Common.{◌≡◌, ◌≤◌, ℕ, Bool, true, false, not,
 use Rattle.std.specs.List.{IsFirstBest}
 use Rattle.polis_base.specs.Lists.{head_of}
 use Rattle.transition_table.specs.declared.decl.Party.TheVariants.{Env}
-use Rattle.net_core.specs.declared.entry.Owed.{Owed}
-use Rattle.net_core.specs.declared.entry.TraceItem.TheVariants.{Event, Settle}
+use Rattle.journals.specs.declared.entry.Owed.{Owed}
+use Rattle.journals.specs.declared.entry.TraceItem.TheVariants.{Event, Settle}
 use Rattle.net_core.specs.Moments.{Moment}
-use Rattle.net_core.specs.Schedules.{owed_by_env}
-use Rattle.net_core.specs.Tables.{cursor}
+use Rattle.journals.specs.Schedules.{owed_by_env}
+use Rattle.journals.specs.Cursors.{cursor, settled_at}
 use Rattle.net_core.proofs.Environment.{first_at_least, none_left, no_machines_read, settled_says}
-use Rattle.net_core.proofs.Moved.{length-table}
-use Rattle.net_core.proofs.Peeking.{event_at_cursor}
-use Rattle.net_core.proofs.Readiness.{settled_at}
+use Rattle.net_core.proofs.Numbers.{length-table}
 use Rattle.net_core.proofs.config.Config.next_env.Goals as goal
 
 -- the number of the cursors, and the first of the least
@@ -26,7 +24,7 @@ pub returns-then-len-eq0-clause-first : goal.returns-then-len-eq0-clause-first
 returns-then-len-eq0-clause-first c =
     let i = c.self.inside in
     let none : length i.net.now.machines ≡ 0 = omega arith in
-    let owes = sym (ap head_of (no_machines_read i.net.now i.trace.now i.journal none)) in
+    let owes = sym (ap head_of (no_machines_read i.net.now i.trace.now i.journal c.sending_laws.ensures.none_at_ends none)) in
     rw (← c.self.view_is) owes
 
 pub overflow_cast-m : goal.overflow_cast-m
@@ -52,7 +50,7 @@ returns-then-place-len-clause-first c =
     let best = few (length i.net.now.machines) c.first_least-m.result i.tables.cursors c.as_slice.result.now c.as_slice.ensures size c.first_least-m.ensures in
     let at = subst (λ (m : Moment). c.cursor-place.result ≡ cursor m.net m.trace m.journal c.first_least-m.result) (sym c.self.view_is) c.cursor-place.ensures in
     let past : length i.trace.now ≤ cursor i.net.now i.trace.now i.journal c.first_least-m.result = omega arith in
-    let owes = sym (ap head_of (none_left i.net.now i.trace.now i.journal i.tables.cursors c.first_least-m.result c.self.invariant.cursors_are best past)) in
+    let owes = sym (ap head_of (none_left i.net.now i.trace.now i.journal i.tables.cursors c.first_least-m.result c.sending_laws.ensures.none_at_ends c.self.invariant.cursors_are best past)) in
     rw (← c.self.view_is) owes
 
 pub returns-in-Event-clause-first : goal.returns-in-Event-clause-first
@@ -67,7 +65,7 @@ returns-in-Event-clause-first c =
     let at = subst (λ (x : Moment). c.cursor-place.result ≡ cursor x.net x.trace x.journal m) (sym c.self.view_is) c.cursor-place.ensures in
     let item = subst (λ (k : ℕ). slice_get i.trace.now k ≡ Some (Event e code)) at (c.get.ensures ∙ ap Some c.in-Event.is) in
     let settled = subst (λ (k : ℕ). settled_at i.trace.now k ≡ b) at (settled_says i.trace.now c.cursor-place.result b c.is_settled.ensures) in
-    let first = first_at_least i.net.now i.trace.now i.journal i.tables.cursors m e code b c.self.invariant.cursors_are best item settled in
+    let first = first_at_least i.net.now i.trace.now i.journal i.tables.cursors m e code b c.sending_laws.ensures.first_of_cursors c.self.invariant.cursors_are best item settled in
     let same = ap (λ (b : Bool). let p : Owed × Bool = (record { from = Env; to = m; event = e; code = code }, b) in Some p) (twice b) in
     subst (λ (x : Moment). Some (record { from = Env; to = m; event = e; code = code }, not (not b)) ≡ head_of (owed_by_env x.net x.trace x.journal)) c.self.view_is (same ∙ sym first)
 
@@ -77,4 +75,4 @@ returns-in-Settle-clause-first c =
     let m = c.first_least-m.result in
     let at = subst (λ (x : Moment). c.cursor-place.result ≡ cursor x.net x.trace x.journal m) (sym c.self.view_is) c.cursor-place.ensures in
     let item = subst (λ (k : ℕ). slice_get i.trace.now k ≡ Some Settle) at (c.get.ensures ∙ ap Some c.in-Settle.is) in
-    absurd (event_at_cursor i.net.now i.trace.now i.journal m item)
+    absurd (c.sending_laws.ensures.events_at_cursors i.net.now i.trace.now i.journal m item)

@@ -1,17 +1,14 @@
-use Rattle.std.proofs.Common.{◌<◌, length, ap, sym, subst, ◌∙◌, arith}
+use Rattle.std.proofs.Common.{◌<◌, ◌≤◌, length, sym, subst, ◌∙◌, arith}
 use Rattle.net_core.specs.Moments.{Moment}
-use Rattle.net_core.specs.Journals.{is_woken}
-use Rattle.net_core.proofs.Tables.{table_item}
-use Rattle.net_core.proofs.Moved.{length-table}
 use Rattle.net_core.proofs.config.Config.woken.Goals as goal
 
-pub get-requires : goal.get-requires
-get-requires c =
+pub is_set-requires : goal.is_set-requires
+is_set-requires c =
     let below = subst (λ (m : Moment). c.args.m < length m.net.machines) (sym c.self.view_is) c.requires in
-    let size = ap length c.self.invariant.woken_are ∙ length-table (is_woken c.self.inside.journal) (length c.self.inside.net.now.machines) in
+    let sixty_four : length c.self.inside.net.now.machines ≤ 64 = c.self.inside.net.now.few_machines in
     omega arith
 
 pub returns : goal.returns
 returns c =
     let below = subst (λ (m : Moment). c.args.m < length m.net.machines) (sym c.self.view_is) c.requires in
-    rw (← c.self.view_is) (table_item (is_woken c.self.inside.journal) (length c.self.inside.net.now.machines) c.self.inside.tables.woken c.args.m c.get.result.now c.self.invariant.woken_are below c.get.ensures)
+    rw (← c.self.view_is) (c.is_set.ensures ∙ c.self.invariant.woken_are c.args.m below)

@@ -1,7 +1,7 @@
 use Rattle.std.proofs.Common.{◌≡◌, ℕ, List, [], ◌∷◌, ◌++◌, ap, sym, ◌∙◌, zero-add}
-use Rattle.net_core.specs.Tables.{is_read, nth_place}
+use Rattle.journals.specs.Cursors.{is_read, nth_place}
 use Rattle.net_core.proofs.Cursors.{nth_place_first}
-use Rattle.net_core.proofs.Moved.{upto_more}
+use Rattle.net_core.proofs.Numbers.{upto_more}
 use Rattle.net_core.proofs.config.cursors.first_cursors.Goals as goal
 
 pub loop-m-preserved : goal.loop-m-preserved

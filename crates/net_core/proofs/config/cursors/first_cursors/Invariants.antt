@@ -1,6 +1,6 @@
 use Rattle.std.proofs.Common.{◌≡◌, map}
 use Rattle.polis_base.specs.Lists.{upto}
-use Rattle.net_core.specs.Tables.{is_read, nth_place}
+use Rattle.journals.specs.Cursors.{is_read, nth_place}
 use Rattle.net_core.proofs.config.cursors.first_cursors.Given as goal
 
 -- those before this one are made

@@ -1,5 +1,5 @@
 use Rattle.std.proofs.Common.{sym, ◌∙◌, arith}
-use Rattle.net_core.specs.Tables.{is_read}
+use Rattle.journals.specs.Cursors.{is_read}
 use Rattle.net_core.proofs.Cursors.{first_here, first_further}
 use Rattle.net_core.proofs.config.cursors.next_read.Goals as goal
 

@@ -1,6 +1,6 @@
 use Rattle.std.proofs.Common.{◌≡◌, ◌+◌, not, drop}
 use Rattle.std.specs.List.{prefix_len}
-use Rattle.net_core.specs.Tables.{is_read}
+use Rattle.journals.specs.Cursors.{is_read}
 use Rattle.net_core.proofs.config.cursors.next_read.Given as goal
 
 -- none before this one is read

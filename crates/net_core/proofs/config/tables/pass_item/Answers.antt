@@ -2,7 +2,7 @@ use Rattle.std.proofs.Common.{refl, length, set, ap, sym, ◌∙◌, arith}
 use Rattle.std.proofs.lemmas.Bool.{lt-ltb, le-ltb}
 use Rattle.std.proofs.lemmas.List.{set-get_or}
 use Rattle.std.proofs.lemmas.Option.{get_or_from_slice_get}
-use Rattle.net_core.specs.Landed.{next_place}
+use Rattle.journals.specs.Cursors.{next_place}
 use Rattle.net_core.proofs.config.tables.pass_item.Goals as goal
 
 pub returns-then-place-len : goal.returns-then-place-len

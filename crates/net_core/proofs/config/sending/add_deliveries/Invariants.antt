@@ -1,6 +1,0 @@
-use Rattle.std.proofs.Common.{◌≡◌, ◌++◌, map, take}
-use Rattle.net_core.proofs.config.sending.add_deliveries.Given as goal
-
--- one to each receiver before this one
-abbrev pub invariant-loop-to : goal.invariant-loop-to
-invariant-loop-to l = l.owed ≡ l.fn.owed ++ map (λ m. record { from = l.from; to = m; event = l.event; code = l.code }) (take l.to-index l.to-items)

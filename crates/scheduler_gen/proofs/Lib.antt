@@ -1,5 +1,5 @@
-pub mod Ordered
-pub mod Woken
-pub mod Steps
-pub mod Agreeing
-pub mod Sizes
+mod Ordered
+mod Single
+mod Sizes
+mod Steps
+mod Woken

@@ -11,29 +11,29 @@ use Rattle.transition_table.specs.Transitions.{OfMachine, HasWidths, blank}
 use Rattle.transition_table.specs.declared.machine.Machine.{Machine}
 use Rattle.transition_table.specs.declared.network.Network.{Network}
 use Rattle.transition_table.specs.declared.snapshot.Outcome.{Outcome}
-use Rattle.net_core.specs.declared.entry.Entry.{Entry}
-use Rattle.net_core.specs.declared.entry.TraceItem.{TraceItem}
-use Rattle.net_core.specs.declared.entry.Pick.TheVariants.{Stop}
-use Rattle.net_core.specs.Journals.{FitsNetwork, inputs_of, states_of}
-use Rattle.net_core.specs.Legality.{Legal, MayFollow}
-use Rattle.net_core.specs.Laws.{FrontsAreLegal, GoesOnBySteps, FollowsBySteps, FollowsAtEnd}
+use Rattle.journals.specs.declared.entry.Entry.{Entry}
+use Rattle.journals.specs.declared.entry.TraceItem.{TraceItem}
+use Rattle.journals.specs.declared.entry.Pick.TheVariants.{Stop}
+use Rattle.journals.specs.Journals.{FitsNetwork, inputs_of, states_of}
+use Rattle.journals.specs.Legality.{Legal, MayFollow}
+use Rattle.journals.specs.Laws.{PrefixesAreLegal, GoesOnBySteps, FollowsBySteps, FollowsAtEnd}
 use Rattle.net_core.specs.Moments.{Moment}
-use Rattle.net_core.specs.Schedules.{pick, IsPicked, Follows, IsSchedule}
+use Rattle.journals.specs.Schedules.{pick, IsPicked, Follows, IsSchedule}
 use Rattle.scheduler_gen.specs.Runs.{IsNext, GoesOn, Ends}
 
 -- one more of the first entries
-pub front_more : (journal : List Entry) (i : ℕ) (entry : Entry) → i < length journal → slice_get journal i ≡ Some entry → take (i + 1) journal ≡ take i journal ++ entry ∷ []
-front_more journal i entry below at =
+pub prefix_more : (journal : List Entry) (i : ℕ) (entry : Entry) → i < length journal → slice_get journal i ≡ Some entry → take (i + 1) journal ≡ take i journal ++ entry ∷ []
+prefix_more journal i entry below at =
     let item = get_or_from_slice_get journal i entry entry at in
     let more = take_more journal i entry below in
     rw item at more
 
 -- an entry of a legal journal may follow those before it
-pub front_step : FrontsAreLegal → GoesOnBySteps → (net : Network) (trace : List TraceItem) (journal : List Entry) (i : ℕ) (entry : Entry) → Legal net trace journal → i < length journal → slice_get journal i ≡ Some entry → Legal net trace (take i journal) × FitsNetwork net entry × MayFollow net trace (take i journal) entry
-front_step fronts steps net trace journal i entry legal below at =
+pub prefix_step : PrefixesAreLegal → GoesOnBySteps → (net : Network) (trace : List TraceItem) (journal : List Entry) (i : ℕ) (entry : Entry) → Legal net trace journal → i < length journal → slice_get journal i ≡ Some entry → Legal net trace (take i journal) × FitsNetwork net entry × MayFollow net trace (take i journal) entry
+prefix_step prefixes steps net trace journal i entry legal below at =
     let whole : journal ≡ take (i + 1) journal ++ drop (i + 1) journal = sym (take-append-drop (i + 1) journal) in
-    let front = fronts net trace (take (i + 1) journal) (drop (i + 1) journal) (subst (Legal net trace) whole legal) in
-    (steps net trace (take i journal) entry).0 (subst (Legal net trace) (front_more journal i entry below at) front)
+    let prefix = prefixes net trace (take (i + 1) journal) (drop (i + 1) journal) (subst (Legal net trace) whole legal) in
+    (steps net trace (take i journal) entry).0 (subst (Legal net trace) (prefix_more journal i entry below at) prefix)
 
 -- nothing is added yet
 pub goes_nowhere : FollowsAtEnd → (old : Moment) → GoesOn old old 0
@@ -67,8 +67,8 @@ longer_by_one mid new next = ap (λ (m : Moment). length m.journal) next.1 ∙ l
 pub count_of_vars : (net : Network) (m : ℕ) (machine : Machine) → slice_get net.machines m ≡ Some machine → length machine.vars ≡ length (inputs_of net m) + length (states_of net m)
 count_of_vars net m machine at =
     let all = and_parts (are_sizes machine.vars && length machine.vars == length machine.inputs + length machine.states && list_all (nat_le 2) (take (length machine.inputs) machine.vars)) (pointwise (λ state size. nat_lt state.init size) machine.states (drop (length machine.inputs) machine.vars)) machine.sized_vars in
-    let front = and_parts (are_sizes machine.vars && length machine.vars == length machine.inputs + length machine.states) (list_all (nat_le 2) (take (length machine.inputs) machine.vars)) all.0 in
-    let same = eqb-true (length machine.vars) (length machine.inputs + length machine.states) (and_parts (are_sizes machine.vars) (length machine.vars == length machine.inputs + length machine.states) front.0).1 in
+    let prefix = and_parts (are_sizes machine.vars && length machine.vars == length machine.inputs + length machine.states) (list_all (nat_le 2) (take (length machine.inputs) machine.vars)) all.0 in
+    let same = eqb-true (length machine.vars) (length machine.inputs + length machine.states) (and_parts (are_sizes machine.vars) (length machine.vars == length machine.inputs + length machine.states) prefix.0).1 in
     rw at same
 
 pub blank_widths : (net : Network) (m : ℕ) (o : Outcome) → OfMachine net m (λ machine. o ≡ blank machine) → OfMachine net m (λ machine. HasWidths machine o)
@@ -78,7 +78,7 @@ blank_widths net m o h = of (slice_get net.machines m) h
     of None none = none
     of (Some machine) same = record { next = ap (λ (o : Outcome). length o.next) same ∙ length-replicate (length machine.states) 0; outs = ap (λ (o : Outcome). length o.outs) same ∙ length-replicate (length machine.outputs) 0 }
 
--- nothing is picked behind what was reached
+-- nothing is picked after what was reached
 pub stops_here : (old mid new : Moment) (n count : ℕ) → GoesOn old mid n → new ≡ mid → pick mid.net mid.trace mid.journal ≡ Stop → Ends old new count
 stops_here old mid new n count before same stop =
     let by_net = subst (λ (net : Network). pick net mid.trace mid.journal ≡ Stop) before.net stop in

@@ -1,3 +1,3 @@
 pub mod Plans
 pub mod Runs
-pub mod Agreeing
+pub mod Single

@@ -1,17 +1,17 @@
 -- A run that goes on from a moment.
 use Rattle.std.specs.Prelude.{◌≡◌, ◌⊎◌, ◌≤◌, ◌+◌, ℕ, [], ◌∷◌, ◌++◌, length}
 use Rattle.polis_base.specs.Lists.{Begins}
-use Rattle.net_core.specs.declared.entry.Entry.{Entry}
-use Rattle.net_core.specs.declared.entry.Pick.TheVariants.{Stop}
+use Rattle.journals.specs.declared.entry.Entry.{Entry}
+use Rattle.journals.specs.declared.entry.Pick.TheVariants.{Stop}
 use Rattle.net_core.specs.Moments.{Moment}
-use Rattle.net_core.specs.Schedules.{pick, IsPicked, Follows}
+use Rattle.journals.specs.Schedules.{pick, IsPicked, Follows}
 
 -- one more entry, which is what is picked
 abbrev pub IsNext : Moment → Moment → Type 0
 IsNext old new =
     (entry : Entry) × (new ≡ record old { journal = old.journal ++ entry ∷ [] }) × IsPicked old.net old.journal (pick old.net old.trace old.journal) entry
 
--- the same journal with n more entries at most, each of which is what is picked behind those before it
+-- the same journal with n more entries at most, each of which is what is picked after those before it
 pub record GoesOn (old new : Moment) (n : ℕ) : Type 0 where
   pub net : new.net ≡ old.net
   pub trace : new.trace ≡ old.trace

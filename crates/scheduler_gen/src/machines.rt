@@ -1,13 +1,13 @@
 // The order in which machines are tried.
 ghost use Rattle.std.specs.Prelude.{◌≡◌, ◌<◌, length, slice_get, Some};
 
-use polis_base::{Duplicate, NoMemory, Numbers};
+use polis_base::{Duplicate, NoMemory};
 use std::marker::Model;
 
 /// The numbers of a network's machines, in order of priority and then of number. A smaller priority goes first.
 #[derive(Drop)]
 pub struct Plan {
-    machines: Numbers,
+    machines: Vec<u32>,
 }
 
 impl Model for Plan {
@@ -15,13 +15,13 @@ impl Model for Plan {
 
     ghost Value = { List ℕ };
 
-    ghost view = { λ p. p.machines };
+    ghost view = { λ p. p.machines.items };
 }
 
 impl Plan {
     /// A plan of these machines in their order.
-    pub(crate) fn of(machines: Numbers) -> Plan
-        ensures { result ≡ machines }
+    pub(crate) fn of(machines: Vec<u32>) -> Plan
+        ensures { result ≡ machines.items }
     {
         Plan { machines }
     }
@@ -30,7 +30,7 @@ impl Plan {
     pub fn len(&self) -> u64
         ensures { result ≡ length self.now }
     {
-        self.machines.len()
+        self.machines.len() as u64
     }
 
     /// The machine at a place of the order.
@@ -38,14 +38,14 @@ impl Plan {
         requires { i < length self.now }
         ensures { slice_get self.now i ≡ Some result.now }
     {
-        self.machines.get(i)
+        &self.machines[i as usize]
     }
 }
 
 impl Duplicate for Plan {
     fn copy(&self) -> Result<Plan, NoMemory> {
         Ok(Plan {
-            machines: self.machines.copy()?,
+            machines: Vec::from_slice(*self.machines.allocator(), &self.machines)?,
         })
     }
 }

@@ -1,7 +1,7 @@
 // What is picked next.
 ghost use Rattle.std.specs.Prelude.{◌≡◌, ◌<◌, ℕ, length, Some, option_map, not, IfSome};
-ghost use Rattle.net_core.specs.Schedules.{deliver as pick_of, first_pick, first_woken, pick as picked};
-ghost use Rattle.net_core.specs.declared.entry.Pick.{Pick};
+ghost use Rattle.journals.specs.Schedules.{deliver as pick_of, first_pick, first_woken, pick as picked};
+ghost use Rattle.journals.specs.declared.entry.Pick.{Pick};
 ghost use Rattle.scheduler_gen.specs.Plans.{IsPlanOf};
 
 use crate::machines::Plan;

@@ -1,11 +1,11 @@
 // Running a network on a trace.
 ghost use Rattle.std.specs.Prelude.{◌≡◌, ◌<◌, ◌≤◌, ◌⊎◌, ◌↔◌, ◌+◌, [], ◌∷◌, ◌++◌, length, true, false, Ok, IfOk, OnOk, OnErr, IsTrue};
 ghost use Rattle.polis_base.specs.Lists.{Begins};
-ghost use Rattle.net_core.specs.Journals.{FitsNetwork, IsTrace};
-ghost use Rattle.net_core.specs.Legality.{Legal, MayFollow, Complete};
+ghost use Rattle.journals.specs.Journals.{FitsNetwork, IsTrace};
+ghost use Rattle.journals.specs.Legality.{Legal, MayFollow, Complete};
 ghost use Rattle.net_core.specs.Moments.{Moment};
-ghost use Rattle.net_core.specs.Schedules.{IsPicked, Follows, IsSchedule, pick as picked};
-ghost use Rattle.net_core.specs.declared.entry.Pick.{Pick};
+ghost use Rattle.journals.specs.Schedules.{IsPicked, Follows, IsSchedule, pick as picked};
+ghost use Rattle.journals.specs.declared.entry.Pick.{Pick};
 ghost use Rattle.scheduler_gen.specs.Plans.{IsPlanOf};
 ghost use Rattle.scheduler_gen.specs.Runs.{IsNext, GoesOn, Ends};
 
@@ -22,7 +22,7 @@ use transition_table::{Reactor, Snapshot};
 pub struct Finished {
     /// The entries in order.
     pub journal: Journal,
-    /// Whether all that was sent is delivered and no machine has a delivery behind its last reaction.
+    /// Whether all that was sent is delivered and no machine has a delivery after its last reaction.
     pub complete: bool,
 }
 
@@ -146,7 +146,7 @@ fn run<R: Reactor>(
     Ok(())
 }
 
-/// Carries a legal journal on: each further entry is what `pick` gives behind those before it, up to the limit of
+/// Carries a legal journal on: each further entry is what `pick` gives after those before it, up to the limit of
 /// entries or until nothing is picked. The entries of the journal are taken as they are: their reactions aren't made again.
 pub fn complete<R: Reactor>(
     alloc: Global,

@@ -11,8 +11,8 @@ use Rattle.transition_table.specs.NetworkFacts.{has_domain, values_of}
 use Rattle.transition_table.specs.declared.decl.Party.TheVariants.{Env}
 use Rattle.transition_table.specs.declared.decl.EventDecl.{EventDecl}
 use Rattle.transition_table.specs.declared.network.Network.{Network}
-use Rattle.net_core.specs.declared.entry.TraceItem.TheVariants.{Event}
-use Rattle.net_core.specs.Journals.{is_trace_item, same_party}
+use Rattle.journals.specs.declared.entry.TraceItem.TheVariants.{Event}
+use Rattle.journals.specs.Journals.{is_trace_item, same_party}
 use Rattle.trace_text.specs.Traces.{is_sent, is_sent_event, value_named}
 use Rattle.trace_text.proofs.Finds.{find_none, find_only}
 

@@ -2,4 +2,3 @@ pub mod Cuts
 pub mod Finds
 pub mod Items
 pub mod Lines
-pub mod Sizes

@@ -8,9 +8,9 @@ use Rattle.domains.specs.declared.domain.Domain.{Domain}
 use Rattle.transition_table.specs.declared.decl.Party.TheVariants.{Env}
 use Rattle.transition_table.specs.declared.decl.EventDecl.{EventDecl}
 use Rattle.transition_table.specs.declared.network.Network.{Network}
-use Rattle.net_core.specs.declared.entry.TraceItem.{TraceItem}
-use Rattle.net_core.specs.declared.entry.TraceItem.TheVariants.{Event as EventItem, Settle}
-use Rattle.net_core.specs.Journals.{same_party, is_trace_item}
+use Rattle.journals.specs.declared.entry.TraceItem.{TraceItem}
+use Rattle.journals.specs.declared.entry.TraceItem.TheVariants.{Event as EventItem, Settle}
+use Rattle.journals.specs.Journals.{same_party, is_trace_item}
 use Rattle.trace_text.specs.Pieces.{lines_of, without_comment, words_of}
 use Rattle.trace_text.specs.declared.fault.TraceKind.{TraceKind}
 use Rattle.trace_text.specs.declared.fault.TraceKind.TheVariants.{Shape, Event, Value, Many}
@@ -53,7 +53,7 @@ abbrev pub coded : ℕ → Option ℕ → Result (Option TraceItem) TraceKind
 coded e None = Err Value
 coded e (Some code) = Ok (Some (EventItem e code))
 
--- the item of an event with the word behind its name
+-- the item of an event with the word after its name
 abbrev pub event_item : Network → Option ℕ → Option (List ℕ) → Result (Option TraceItem) TraceKind
 event_item net None word = Err Event
 event_item net (Some e) word = coded e (code_of net (domain_of net e) word)
@@ -83,7 +83,7 @@ added items line (Err kind) = Err (Line line kind)
 added items line (Ok None) = Ok items
 added items line (Ok (Some item)) = cond (nat_lt (length items) 10000) (Ok (items ++ item ∷ [])) (Err (Line line Many))
 
--- one more line with its number behind those that were read; the first fault stays
+-- one more line with its number after those that were read; the first fault stays
 abbrev pub with_line : Network → Result (List TraceItem) TraceFault → ℕ × List ℕ → Result (List TraceItem) TraceFault
 with_line net (Err fault) (line, text) = Err fault
 with_line net (Ok items) (line, text) = added items line (item_of_line net text)

@@ -20,7 +20,7 @@ fn begins_a_comment(byte: u8) -> bool
     byte == b'#'
 }
 
-/// The first line of a text that isn't empty, without its LF, and what stands behind it.
+/// The first line of a text that isn't empty, without its LF, and what stands after it.
 pub fn next_line(text: &[u8]) -> (&[u8], &[u8])
     requires { 0 < length text.now }
     ensures line { lines_of text.now ≡ result.0.now ∷ lines_of result.1.now }
@@ -34,7 +34,7 @@ pub fn next_line(text: &[u8]) -> (&[u8], &[u8])
     (text, &[])
 }
 
-// The first piece of a line, up to a byte that no word has, and what stands behind it.
+// The first piece of a line, up to a byte that no word has, and what stands after it.
 fn next_piece(line: &[u8]) -> (&[u8], &[u8])
     requires { 0 < length line.now }
     ensures piece { pieces ends_word line.now ≡ result.0.now ∷ pieces ends_word result.1.now }
@@ -48,18 +48,18 @@ fn next_piece(line: &[u8]) -> (&[u8], &[u8])
     (line, &[])
 }
 
-/// The first word of a line, and what stands behind it.
+/// The first word of a line, and what stands after it.
 pub fn next_word(line: &[u8]) -> Option<(&[u8], &[u8])>
     ensures some { IfSome result (λ r. words_of line.now ≡ r.0.now ∷ words_of r.1.now) }
     ensures none { IfNone result (words_of line.now ≡ []) }
 {
     let mut rest = line;
     while !rest.is_empty() {
-        let (word, behind) = next_piece(rest);
+        let (word, after) = next_piece(rest);
         if !word.is_empty() {
-            return Some((word, behind));
+            return Some((word, after));
         }
-        rest = behind;
+        rest = after;
     }
     None
 }

@@ -8,9 +8,9 @@ pub enum TraceKind {
     Shape,
     /// The first word is neither `settle` nor the name of an event that the environment sends.
     Event,
-    /// A value is missing, or stands behind a pure event, or is none of the event's domain.
+    /// A value is missing, or stands after a pure event, or is none of the event's domain.
     Value,
-    /// The line is an item behind 10,000 items.
+    /// The line is an item after 10,000 items.
     Many,
 }
 
@@ -20,7 +20,7 @@ pub enum TraceFault {
     /// The first line at fault, with the first kind that applies to it.
     #[error("Line")]
     Line { line: u64, kind: TraceKind },
-    /// Memory was wanting.
+    /// Out of memory.
     #[error("NoMemory")]
     NoMemory,
 }

@@ -42,7 +42,7 @@ fn value_in(domain: &Domain, word: &[u8]) -> Option<u8>
     domain.value_of(word)
 }
 
-// The code of an event with the word behind its name.
+// The code of an event with the word after its name.
 fn code(net: &Network, event: &EventDecl, word: Option<&[u8]>) -> Option<u8>
     requires { IsTrue (has_domain net.now.domains event.now) }
     ensures code { result ≡ code_of net.now event.now.domain (option_copied word.entry) }
@@ -61,7 +61,7 @@ fn code(net: &Network, event: &EventDecl, word: Option<&[u8]>) -> Option<u8>
     }
 }
 
-// The item of an event of this name with the word behind it.
+// The item of an event of this name with the word after it.
 fn item_of_event(
     net: &Network,
     name: &[u8],

@@ -1,6 +1,6 @@
 // Reading a trace text.
 ghost use Rattle.std.specs.Prelude.{◌≡◌, ◌≢◌, ◌≤◌, length, Ok, Err, IfOk};
-ghost use Rattle.net_core.specs.Journals.{IsTrace};
+ghost use Rattle.journals.specs.Journals.{IsTrace};
 ghost use Rattle.trace_text.specs.Traces.{trace_of, with_line};
 ghost use Rattle.trace_text.specs.declared.fault.TraceFault.{TraceFault};
 
@@ -54,12 +54,12 @@ pub fn read_trace(alloc: Global, net: &Network, text: &[u8]) -> Result<Trace, Tr
     let mut rest = text;
     let mut line = 0;
     while !rest.is_empty() {
-        let (first, behind) = next_line(rest);
+        let (first, after) = next_line(rest);
         line += 1;
         if let Err(fault) = add_line(net, &mut trace, line, first) {
             return Err(fault);
         }
-        rest = behind;
+        rest = after;
     }
     Ok(trace)
 }

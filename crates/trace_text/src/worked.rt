@@ -1,7 +1,7 @@
 // The worked texts: what the definition says of small trace texts.
 ghost use Rattle.std.specs.Prelude.{◌≡◌, [], ◌∷◌, ◌++◌, Ok, Err, codes};
-ghost use Rattle.net_core.specs.Samples.{lamp, value};
-ghost use Rattle.net_core.specs.declared.entry.TraceItem.{TraceItem};
+ghost use Rattle.journals.specs.Samples.{lamp, value};
+ghost use Rattle.journals.specs.declared.entry.TraceItem.{TraceItem};
 ghost use Rattle.trace_text.specs.Traces.{trace_of};
 ghost use Rattle.trace_text.specs.Samples.{line, mixed};
 ghost use Rattle.trace_text.specs.declared.fault.TraceFault.{TraceFault};

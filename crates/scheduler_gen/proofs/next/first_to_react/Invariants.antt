@@ -1,6 +1,6 @@
 use Rattle.std.proofs.Common.{◌≡◌, take, None}
 use Rattle.std.specs.List.{find}
-use Rattle.net_core.specs.Journals.{is_woken}
+use Rattle.journals.specs.Journals.{is_woken}
 use Rattle.scheduler_gen.proofs.next.first_to_react.Given as goal
 
 -- no machine before this one is woken

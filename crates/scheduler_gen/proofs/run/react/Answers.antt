@@ -2,7 +2,7 @@ use Rattle.std.proofs.Common.{ap, subst}
 use Rattle.transition_table.specs.Transitions.{OfMachine, Transition}
 use Rattle.transition_table.specs.declared.network.Network.{Network}
 use Rattle.transition_table.specs.declared.snapshot.Snapshot.{Snapshot}
-use Rattle.net_core.specs.declared.entry.Entry.TheVariants.{Rea}
+use Rattle.journals.specs.declared.entry.Entry.TheVariants.{Rea}
 use Rattle.scheduler_gen.proofs.run.react.Goals as goal
 
 pub take_picked-requires : goal.take_picked-requires

@@ -1,5 +1,5 @@
 use Rattle.std.proofs.Common.{◌≤◌, ◌+◌, length, Ok}
-use Rattle.net_core.specs.Journals.{IsTrace}
+use Rattle.journals.specs.Journals.{IsTrace}
 use Rattle.trace_text.proofs.Lines.{IsReadUpTo}
 use Rattle.trace_text.proofs.read.read_trace.Given as goal
 

@@ -1,5 +1,5 @@
 use Rattle.std.proofs.Common.{◌≡◌, take}
-use Rattle.trace_text.proofs.tests.list.Given as goal
+use Rattle.scheduler_gen.proofs.tests.two.list.Given as goal
 
 abbrev pub invariant-loop-item : goal.invariant-loop-item
 invariant-loop-item g l = l.list ≡ take l.item-index l.items

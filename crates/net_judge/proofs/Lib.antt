@@ -1,0 +1,4 @@
+pub mod Capped
+pub mod Least
+pub mod Moved
+pub mod Parts

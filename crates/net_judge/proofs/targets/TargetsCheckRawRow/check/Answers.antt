@@ -1,0 +1,19 @@
+use Rattle.std.proofs.Common.{◌≡◌, ◌∙◌, ◌++◌, flat_map}
+use Rattle.net_names.specs.Places.{sooner, least}
+use Rattle.net_names.specs.Numbers.{missing, repeated, no_name}
+use Rattle.net_names.specs.Scopes.{state_words}
+use Rattle.net_judge.specs.Rules.{emitted, set_names, not_once}
+use Rattle.net_judge.proofs.Least.{IfOk-same, sooner-least}
+use Rattle.net_judge.proofs.targets.TargetsCheckRawRow.check.Goals as goal
+
+pub returns : goal.returns
+returns c =
+    let m = c.args.self.now.local.now.machine.now in
+    let acts = c.args.row.now.acts in
+    let emits = not_once m.outputs (flat_map emitted acts) in
+    let sets = not_once (state_words m) (flat_map set_names acts) in
+    let first : c.in_ok-found.found ≡ sooner c.args.found (least emits) =
+    c.in_ok-found.ensures ∙ (λ i. sooner c.args.found (least (missing (c.outputs.ensures i) (c.in_ok-emits.ensures i) ++ repeated no_name (c.in_ok-emits.ensures i)))) in
+    IfOk-same c.not_once-2.result _ _
+    ((λ i. sooner (first i) (least (missing (c.states.ensures i) (c.in_ok-sets.ensures i) ++ repeated no_name (c.in_ok-sets.ensures i)))) ∙ sooner-least c.args.found emits sets)
+    c.not_once-2.ensures

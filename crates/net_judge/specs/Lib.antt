@@ -1,0 +1,4 @@
+pub mod Judged
+pub mod Making
+pub mod Rules
+pub mod Samples

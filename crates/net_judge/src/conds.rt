@@ -1,0 +1,191 @@
+// The rules on conditions, in one walk.
+ghost use Rattle.std.specs.Prelude.{◌≡◌, flat_map, option_copied, IfOk};
+ghost use Rattle.net_reader.specs.declared.raw.RawRow.{RawRow as Row};
+ghost use Rattle.net_names.specs.Places.{sooner, least};
+ghost use Rattle.net_names.specs.Values.{no_value};
+ghost use Rattle.net_names.specs.Scopes.{cond_word, var_words};
+ghost use Rattle.net_names.specs.Locals.{AreLocals};
+ghost use Rattle.net_names.specs.Vars.{IsVar, AreVars};
+ghost use Rattle.net_names.specs.declared.local.Local.{Local as Numbered};
+ghost use Rattle.net_judge.specs.Rules.{unknown, unsuited, wrong_values, rule_15, rule_16, rule_17};
+
+use net_names::{Local, Var, cond_word, no_value, unless, var_numbered, var_of, vars_of};
+use net_reader::{RawCond, RawNet, RawRow, RawShape, RawValue};
+use polis_base::{List, NoMemory};
+use std::alloc::Global;
+
+// The least places that were found where a name in a condition is none of the machine's variables, doesn't suit its
+// condition, or has a value that is none of its domain.
+#[derive(Clone, Copy)]
+pub(crate) struct CondFaults {
+    pub(crate) unknown: Option<u64>,
+    pub(crate) unsuited: Option<u64>,
+    pub(crate) valueless: Option<u64>,
+}
+
+// The least of what was found and of the places of the values that are none of the domain.
+fn no_values(shape: Option<&RawShape>, values: &[RawValue], found: Option<u64>) -> Option<u64>
+    ensures { result ≡ sooner found (least (flat_map (no_value (option_copied shape.entry)) values.now)) }
+{
+    let mut found = found;
+    for value in values {
+        found = no_value(shape, value, found);
+    }
+    found
+}
+
+// One more condition, whose name stands for this variable.
+fn judge_cond<'s, 'a>(
+    local: &Local<'s, 'a>,
+    var: &Var<'a>,
+    cond: &RawCond,
+    found: CondFaults,
+) -> CondFaults
+    requires { IsVar local.now.scope.now.raw.now local.now.machine.now (cond_word cond.now).name var.now }
+    ensures unknown { result.unknown ≡ sooner found.unknown (least (unknown local.now.machine.now cond.now)) }
+    ensures unsuited { result.unsuited ≡ sooner found.unsuited (least (unsuited local.now.scope.now.raw.now local.now.machine.now cond.now)) }
+    ensures valueless { result.valueless ≡ sooner found.valueless (least (wrong_values local.now.scope.now.raw.now local.now.machine.now cond.now)) }
+{
+    match cond {
+        RawCond::Present(word) => CondFaults {
+            unknown: unless(var.is_known, word.at, found.unknown),
+            unsuited: unless(var.is_input, word.at, found.unsuited),
+            valueless: found.valueless,
+        },
+        RawCond::Absent(word) => CondFaults {
+            unknown: unless(var.is_known, word.at, found.unknown),
+            unsuited: unless(var.is_input, word.at, found.unsuited),
+            valueless: found.valueless,
+        },
+        RawCond::Is { name, value } => CondFaults {
+            unknown: unless(var.is_known, name.at, found.unknown),
+            unsuited: unless(var.has_domain, name.at, found.unsuited),
+            valueless: no_value(var.shape, value, found.valueless),
+        },
+        RawCond::OneOf { name, values } => CondFaults {
+            unknown: unless(var.is_known, name.at, found.unknown),
+            unsuited: unless(var.has_domain, name.at, found.unsuited),
+            valueless: no_values(var.shape, values.as_slice(), found.valueless),
+        },
+    }
+}
+
+// One more condition.
+fn in_cond<'s, 'a>(
+    local: &Local<'s, 'a>,
+    vars: &List<Var<'a>>,
+    cond: &RawCond,
+    found: CondFaults,
+) -> CondFaults
+    requires { AreVars local.now.scope.now.raw.now local.now.machine.now (var_words local.now.machine.now) vars.now }
+    ensures unknown { result.unknown ≡ sooner found.unknown (least (unknown local.now.machine.now cond.now)) }
+    ensures unsuited { result.unsuited ≡ sooner found.unsuited (least (unsuited local.now.scope.now.raw.now local.now.machine.now cond.now)) }
+    ensures valueless { result.valueless ≡ sooner found.valueless (least (wrong_values local.now.scope.now.raw.now local.now.machine.now cond.now)) }
+{
+    let word = cond_word(cond);
+    match local.var(word.name) {
+        Some(number) => {
+            let var = var_numbered(local, vars, word.name, number);
+            judge_cond(local, var, cond, found)
+        }
+        None => {
+            let var = var_of(local, word.name);
+            judge_cond(local, &var, cond, found)
+        }
+    }
+}
+
+// More conditions of a row.
+fn in_conds<'s, 'a>(
+    local: &Local<'s, 'a>,
+    vars: &List<Var<'a>>,
+    conds: &[RawCond],
+    found: CondFaults,
+) -> CondFaults
+    requires { AreVars local.now.scope.now.raw.now local.now.machine.now (var_words local.now.machine.now) vars.now }
+    ensures unknown { result.unknown ≡ sooner found.unknown (least (flat_map (unknown local.now.machine.now) conds.now)) }
+    ensures unsuited { result.unsuited ≡ sooner found.unsuited (least (flat_map (unsuited local.now.scope.now.raw.now local.now.machine.now) conds.now)) }
+    ensures valueless { result.valueless ≡ sooner found.valueless (least (flat_map (wrong_values local.now.scope.now.raw.now local.now.machine.now) conds.now)) }
+{
+    let mut found = found;
+    for cond in conds {
+        found = in_cond(local, vars, cond, found);
+    }
+    found
+}
+
+// The conditions of one more row.
+fn in_row<'s, 'a>(
+    local: &Local<'s, 'a>,
+    vars: &List<Var<'a>>,
+    row: &RawRow,
+    found: CondFaults,
+) -> CondFaults
+    requires { AreVars local.now.scope.now.raw.now local.now.machine.now (var_words local.now.machine.now) vars.now }
+    ensures unknown { result.unknown ≡ sooner found.unknown (least (flat_map (unknown local.now.machine.now) row.now.conds)) }
+    ensures unsuited { result.unsuited ≡ sooner found.unsuited (least (flat_map (unsuited local.now.scope.now.raw.now local.now.machine.now) row.now.conds)) }
+    ensures valueless { result.valueless ≡ sooner found.valueless (least (flat_map (wrong_values local.now.scope.now.raw.now local.now.machine.now) row.now.conds)) }
+{
+    in_conds(local, vars, row.conds.as_slice(), found)
+}
+
+// More rows of a machine.
+fn in_rows<'s, 'a>(
+    local: &Local<'s, 'a>,
+    vars: &List<Var<'a>>,
+    rows: &[RawRow],
+    found: CondFaults,
+) -> CondFaults
+    requires { AreVars local.now.scope.now.raw.now local.now.machine.now (var_words local.now.machine.now) vars.now }
+    ensures unknown { result.unknown ≡ sooner found.unknown (least (flat_map (λ (row : Row). flat_map (unknown local.now.machine.now) row.conds) rows.now)) }
+    ensures unsuited { result.unsuited ≡ sooner found.unsuited (least (flat_map (λ (row : Row). flat_map (unsuited local.now.scope.now.raw.now local.now.machine.now) row.conds) rows.now)) }
+    ensures valueless { result.valueless ≡ sooner found.valueless (least (flat_map (λ (row : Row). flat_map (wrong_values local.now.scope.now.raw.now local.now.machine.now) row.conds) rows.now)) }
+{
+    let mut found = found;
+    for row in rows {
+        found = in_row(local, vars, row, found);
+    }
+    found
+}
+
+// The rows of one more machine.
+fn in_machine(alloc: Global, local: &Local, found: CondFaults) -> Result<CondFaults, NoMemory>
+    ensures unknown { IfOk result (λ next. next.unknown ≡ sooner found.unknown (least (flat_map (λ (row : Row). flat_map (unknown local.now.machine.now) row.conds) local.now.machine.now.rows))) }
+    ensures unsuited { IfOk result (λ next. next.unsuited ≡ sooner found.unsuited (least (flat_map (λ (row : Row). flat_map (unsuited local.now.scope.now.raw.now local.now.machine.now) row.conds) local.now.machine.now.rows))) }
+    ensures valueless { IfOk result (λ next. next.valueless ≡ sooner found.valueless (least (flat_map (λ (row : Row). flat_map (wrong_values local.now.scope.now.raw.now local.now.machine.now) row.conds) local.now.machine.now.rows))) }
+{
+    let vars = vars_of(alloc, local)?;
+    Ok(in_rows(local, &vars, local.machine.rows.as_slice(), found))
+}
+
+// The rows of more machines.
+fn in_machines(alloc: Global, locals: &[Local], found: CondFaults) -> Result<CondFaults, NoMemory>
+    ensures unknown { IfOk result (λ next. next.unknown ≡ sooner found.unknown (least (flat_map (λ (l : Numbered). flat_map (λ (row : Row). flat_map (unknown l.machine.now) row.conds) l.machine.now.rows) locals.now))) }
+    ensures unsuited { IfOk result (λ next. next.unsuited ≡ sooner found.unsuited (least (flat_map (λ (l : Numbered). flat_map (λ (row : Row). flat_map (unsuited l.scope.now.raw.now l.machine.now) row.conds) l.machine.now.rows) locals.now))) }
+    ensures valueless { IfOk result (λ next. next.valueless ≡ sooner found.valueless (least (flat_map (λ (l : Numbered). flat_map (λ (row : Row). flat_map (wrong_values l.scope.now.raw.now l.machine.now) row.conds) l.machine.now.rows) locals.now))) }
+{
+    let mut found = found;
+    for local in locals {
+        found = in_machine(alloc, local, found)?;
+    }
+    Ok(found)
+}
+
+// The least places where the rules on conditions are broken.
+pub(crate) fn cond_faults(
+    alloc: Global,
+    raw: &RawNet,
+    locals: &List<Local>,
+) -> Result<CondFaults, NoMemory>
+    requires { AreLocals raw.now raw.now.machines locals.now }
+    ensures unknown { IfOk result (λ found. found.unknown ≡ least (rule_15 raw.now)) }
+    ensures unsuited { IfOk result (λ found. found.unsuited ≡ least (rule_16 raw.now)) }
+    ensures valueless { IfOk result (λ found. found.valueless ≡ least (rule_17 raw.now)) }
+{
+    let none = CondFaults {
+        unknown: None,
+        unsuited: None,
+        valueless: None,
+    };
+    in_machines(alloc, locals.as_slice(), none)
+}

@@ -1,0 +1,18 @@
+// The rules of network texts.
+#![tactic(auto)]
+
+mod act_rules;
+mod actions;
+mod checks;
+mod conds;
+mod initials;
+mod ports;
+mod rules;
+mod snapshots;
+mod targets;
+mod verdict;
+mod words;
+mod worked;
+
+pub use verdict::{Broken, judge};
+pub use worked::worked_rules;

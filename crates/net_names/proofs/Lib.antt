@@ -1,0 +1,5 @@
+pub mod Answering
+pub mod Found
+pub mod Named
+pub mod Standing
+pub mod Zips

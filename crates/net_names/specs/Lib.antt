@@ -1,0 +1,7 @@
+pub mod Locals
+pub mod Numbers
+pub mod Places
+pub mod Scopes
+pub mod Tables
+pub mod Values
+pub mod Vars

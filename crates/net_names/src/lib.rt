@@ -1,0 +1,24 @@
+// What the names of a network's declarations stand for.
+#![tactic(auto)]
+
+mod counts;
+mod gather;
+mod local;
+mod locals;
+mod names;
+mod places;
+mod scope;
+mod table;
+mod values;
+mod vars;
+
+pub use counts::{count_at, event_codes, value_count};
+pub use gather::{Gather, append, gather_all, gather_into};
+pub use local::{Local, no_value};
+pub use locals::locals_of;
+pub use names::{cond_word, domain_words, event_words, machine_words, state_words, var_words};
+pub use places::{sooner, unless};
+pub use scope::Scope;
+pub use table::{Table, number_all};
+pub use values::{count_of, count_up_to, is_same, place_of, times_up_to, value_in};
+pub use vars::{Var, var_at, var_numbered, var_of, vars_of};

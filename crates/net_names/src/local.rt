@@ -1,0 +1,184 @@
+// What the names of a machine stand for.
+ghost use Rattle.std.specs.Prelude.{◌≡◌, ◌∷◌, ◌++◌, ℕ, List, option_copied, IfOk};
+ghost use Rattle.net_names.specs.Places.{sooner, least};
+ghost use Rattle.net_names.specs.Numbers.{names_of, number_in, is_name_of, number};
+ghost use Rattle.net_names.specs.Tables.{number_at, has};
+ghost use Rattle.net_names.specs.Values.{no_value, is_value};
+ghost use Rattle.net_names.specs.Scopes.{state_words, state_domain, var_domain, event_domain, shape_at, shape_of};
+
+use crate::names::{state_words, var_words};
+use crate::places::unless;
+use crate::scope::Scope;
+use crate::table::{Table, number_all};
+use crate::values::{place_of, value_in};
+use net_reader::{RawMachine, RawShape, RawValue, Word};
+use polis_base::{Name, NoMemory};
+use std::alloc::Global;
+
+// Whether it is a value of the domain, where there is one.
+fn is_value(shape: Option<&RawShape>, value: &RawValue) -> bool
+    ensures { result ≡ is_value (option_copied shape.entry) value.now }
+{
+    match shape {
+        Some(shape) => value_in(shape, value).is_some(),
+        None => false,
+    }
+}
+
+/// The least of what was found and of the value's place, where it is no value of the domain.
+pub fn no_value(shape: Option<&RawShape>, value: &RawValue, found: Option<u64>) -> Option<u64>
+    ensures { result ≡ sooner found (least (no_value (option_copied shape.entry) value.now)) }
+{
+    unless(is_value(shape, value), place_of(value), found)
+}
+
+/// A machine of the declarations, with the numbers of its names.
+#[derive(Drop)]
+pub struct Local<'s, 'a> {
+    pub scope: &'s Scope<'a>,
+    pub machine: &'a RawMachine,
+    inputs: Table,
+    outputs: Table,
+    states: Table,
+    vars: Table,
+    pub ghost input_names: { has inputs ≡ is_name_of machine.now.inputs },
+    pub ghost output_names: { has outputs ≡ is_name_of machine.now.outputs },
+    pub ghost state_names: { has states ≡ is_name_of (state_words machine.now) },
+    pub ghost output_numbers: { (name : List ℕ) → number_at outputs name ≡ number_in (names_of machine.now.outputs) name },
+    pub ghost state_numbers: { (name : List ℕ) → number_at states name ≡ number_in (names_of (state_words machine.now)) name },
+    pub ghost var_names: { has vars ≡ is_name_of (machine.now.inputs ++ state_words machine.now) },
+    pub ghost var_numbers: { (name : List ℕ) → number_at vars name ≡ number_in (names_of (machine.now.inputs ++ state_words machine.now)) name },
+}
+
+impl<'s, 'a> Local<'s, 'a> {
+    pub fn new(
+        alloc: Global,
+        scope: &'s Scope<'a>,
+        machine: &'a RawMachine,
+    ) -> Result<Local<'s, 'a>, NoMemory>
+        ensures scope { IfOk result (λ local. local.scope.now ≡ scope.now) }
+        ensures machine { IfOk result (λ local. local.machine.now ≡ machine.now) }
+    {
+        let inputs = number_all(alloc, &machine.inputs)?;
+        let outputs = number_all(alloc, &machine.outputs)?;
+        let states = state_words(alloc, machine)?;
+        let states = number_all(alloc, &states)?;
+        let vars = var_words(alloc, machine)?;
+        let vars = number_all(alloc, &vars)?;
+        Ok(Local {
+            scope,
+            machine,
+            inputs,
+            outputs,
+            states,
+            vars,
+        })
+    }
+
+    pub fn is_input(&self, name: Name) -> bool
+        ensures { result ≡ is_name_of self.now.machine.now.inputs name }
+    {
+        self.inputs.has(name)
+    }
+
+    pub fn is_output(&self, name: Name) -> bool
+        ensures { result ≡ is_name_of self.now.machine.now.outputs name }
+    {
+        self.outputs.has(name)
+    }
+
+    pub fn is_state(&self, name: Name) -> bool
+        ensures { result ≡ is_name_of (state_words self.now.machine.now) name }
+    {
+        self.states.has(name)
+    }
+
+    /// Whether the name is that of an input or of a state variable.
+    pub fn is_var(&self, name: Name) -> bool
+        ensures { result ≡ is_name_of (self.now.machine.now.inputs ++ state_words self.now.machine.now) name }
+    {
+        self.vars.has(name)
+    }
+
+    /// The names of the outputs.
+    pub fn outputs(&self) -> &Table
+        ensures { has result.now ≡ is_name_of self.now.machine.now.outputs }
+    {
+        &self.outputs
+    }
+
+    /// The names of the state variables.
+    pub fn states(&self) -> &Table
+        ensures { has result.now ≡ is_name_of (state_words self.now.machine.now) }
+    {
+        &self.states
+    }
+
+    /// The name of a state variable's domain.
+    pub fn state_domain(&self, name: Name) -> Option<Word>
+        ensures { result ≡ state_domain self.now.machine.now name }
+    {
+        match self.states.number(name) {
+            Some(number) => Some(self.machine.states.get(number).domain),
+            None => None,
+        }
+    }
+
+    /// The name of the domain of a state variable, or else of an event.
+    pub fn var_domain(&self, name: Name) -> Option<Word>
+        ensures { result ≡ var_domain self.now.scope.now.raw.now self.now.machine.now name }
+    {
+        if self.is_state(name) {
+            self.state_domain(name)
+        } else {
+            self.scope.event_domain(name)
+        }
+    }
+
+    /// The values of the domain of this name, if one is named.
+    pub fn shape_at(&self, domain: Option<Word>) -> Option<&'a RawShape>
+        ensures { option_copied result ≡ shape_at self.now.scope.now.raw.now domain }
+    {
+        match domain {
+            Some(word) => self.scope.shape_of(word.name),
+            None => None,
+        }
+    }
+
+    /// The number of a variable by its name, if it is one.
+    pub fn var(&self, name: Name) -> Option<u64>
+        ensures { result ≡ number_in (names_of (self.now.machine.now.inputs ++ state_words self.now.machine.now)) name }
+    {
+        self.vars.number(name)
+    }
+
+    /// The number of a variable by its name, 0 where it is none.
+    pub fn var_number(&self, name: Name) -> u64
+        ensures { result ≡ number (self.now.machine.now.inputs ++ state_words self.now.machine.now) name }
+    {
+        match self.vars.number(name) {
+            Some(number) => number,
+            None => 0,
+        }
+    }
+
+    /// The number of a state variable by its name, 0 where it is none.
+    pub fn state_number(&self, name: Name) -> u64
+        ensures { result ≡ number (state_words self.now.machine.now) name }
+    {
+        match self.states.number(name) {
+            Some(number) => number,
+            None => 0,
+        }
+    }
+
+    /// The number of an output by its name, 0 where it is none.
+    pub fn output_number(&self, name: Name) -> u64
+        ensures { result ≡ number self.now.machine.now.outputs name }
+    {
+        match self.outputs.number(name) {
+            Some(number) => number,
+            None => 0,
+        }
+    }
+}

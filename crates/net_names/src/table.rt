@@ -1,0 +1,126 @@
+// The numbers of names.
+ghost use Rattle.std.specs.Prelude.{◌≡◌, ℕ, List, [], not, ◌||◌, nat_eq, IfOk, OnOk};
+ghost use Rattle.std.specs.Cmp.{partial_equiv_from_equiv};
+ghost use Rattle.std.specs.Cmp.Lexicographic.{nat_list_eq_equiv, pointwise};
+ghost use Rattle.std.specs.Hash as fed;
+ghost use Rattle.std.specs.Cmp.Rules.{hashing};
+ghost use Rattle.std.proofs.Common.{rules, refl};
+ghost use Rattle.domains.specs.Names.{is_same};
+ghost use Rattle.net_names.specs.Tables.{number_at, has, noted};
+ghost use Rattle.net_names.specs.Numbers.{names_of, number_in, is_name_of};
+
+use indexmap::IndexMap;
+use net_reader::Word;
+use polis_base::{List, Name, NoMemory};
+use std::alloc::Global;
+use std::hash::{Hash, Hasher};
+use std::marker::Model;
+
+// A name as a key.
+#[derive(Drop)]
+struct Key {
+    name: Name,
+}
+
+impl Model for Key {
+    ghost use Rattle.std.specs.Prelude.{List, ℕ};
+
+    ghost Value = { List ℕ };
+
+    ghost view = { λ k. k.name };
+}
+
+impl PartialEq for Key {
+    ghost eq = { pointwise nat_eq };
+
+    ghost laws = { partial_equiv_from_equiv nat_list_eq_equiv };
+
+    fn eq(&self, other: &Key) -> bool {
+        self.name.bytes() == other.name.bytes()
+    }
+}
+
+impl Eq for Key {
+    ghost laws = { nat_list_eq_equiv };
+}
+
+impl Hash for Key {
+    ghost hash_input = { λ name. fed.slice fed.u8 name };
+
+    ghost respects_eq = { Prim.search (hashing, rules) };
+
+    fn hash<H: Hasher>(&self, state: &mut H) {
+        self.name.bytes().hash(state);
+    }
+}
+
+/// Which names have a number, and which.
+#[derive(Drop)]
+pub struct Table {
+    numbers: IndexMap<Key, u64>,
+}
+
+impl Model for Table {
+    ghost use Rattle.domains.specs.Names.{is_same};
+    ghost use Rattle.net_names.specs.Tables.{Numbered};
+
+    ghost Value = { Numbered };
+
+    ghost view = { λ t. t.numbers.entries };
+}
+
+impl Table {
+    pub fn new(alloc: Global) -> Table
+        ensures { result ≡ [] }
+    {
+        Table {
+            numbers: IndexMap::new(alloc),
+        }
+    }
+
+    /// The number of a name, if it has one.
+    pub fn number(&self, name: Name) -> Option<u64>
+        ensures { result ≡ number_at self.now name }
+    {
+        self.numbers.get(&Key { name }).copied()
+    }
+
+    pub fn has(&self, name: Name) -> bool
+        ensures { result ≡ has self.now name }
+    {
+        self.numbers.contains_key(&Key { name })
+    }
+
+    /// Gives a name that has none this number. True where it had none.
+    pub fn note(&mut self, name: Name, number: u64) -> Result<bool, NoMemory>
+        ensures fresh { IfOk result (λ fresh. fresh ≡ not (has self.old name)) }
+        ensures noted { OnOk result (self.new ≡ noted self.old name number) }
+        ensures names { OnOk result ((q : List ℕ) → has self.new q ≡ (has self.old q || is_same q name)) }
+    {
+        if self.has(name) {
+            return Ok(false);
+        }
+        self.numbers.insert(Key { name }, number)?;
+        Ok(true)
+    }
+}
+
+// The number of each name: its first place among the words.
+fn number_each(alloc: Global, words: &[Word]) -> Result<Table, NoMemory>
+    ensures { IfOk result (λ table. (name : List ℕ) → number_at table name ≡ number_in (names_of words.now) name) }
+{
+    let mut table = Table::new(alloc);
+    for (number, word) in words.iter().enumerate() {
+        table.note(word.name, number as u64)?;
+    }
+    Ok(table)
+}
+
+/// The number of each name: its first place among the words.
+pub fn number_all(alloc: Global, words: &List<Word>) -> Result<Table, NoMemory>
+    ensures numbers { IfOk result (λ table. (name : List ℕ) → number_at table name ≡ number_in (names_of words.now) name) }
+    ensures names { IfOk result (λ table. has table ≡ is_name_of words.now) }
+{
+    let table = number_each(alloc, words.as_slice())?;
+    Ok(table)
+}

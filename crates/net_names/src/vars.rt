@@ -1,0 +1,92 @@
+// The variables of a machine, each looked up once.
+ghost use Rattle.std.specs.Prelude.{◌≡◌, ◌<◌, Some, length, IfOk, IfSome};
+ghost use Rattle.net_names.specs.Numbers.{names_of, number_in};
+ghost use Rattle.net_names.specs.Scopes.{var_words};
+ghost use Rattle.net_names.specs.Vars.{IsVar, AreVars};
+
+use crate::local::Local;
+use crate::names::var_words;
+use net_reader::{RawShape, Word};
+use polis_base::{List, Name, NoMemory};
+use std::alloc::Global;
+
+/// What a name stands for among the variables of a machine.
+#[derive(Drop)]
+pub struct Var<'a> {
+    /// Whether it is an input or a state variable.
+    pub is_known: bool,
+    /// Whether it is an input.
+    pub is_input: bool,
+    /// Whether it is a state variable.
+    pub is_state: bool,
+    /// Whether its state variable, or else its event, has a domain.
+    pub has_domain: bool,
+    /// The values of that domain, where it is declared.
+    pub shape: Option<&'a RawShape>,
+}
+
+/// What a name stands for.
+pub fn var_of<'s, 'a>(local: &Local<'s, 'a>, name: Name) -> Var<'a>
+    ensures { IsVar local.now.scope.now.raw.now local.now.machine.now name result }
+{
+    let domain = local.var_domain(name);
+    Var {
+        is_known: local.is_var(name),
+        is_input: local.is_input(name),
+        is_state: local.is_state(name),
+        has_domain: domain.is_some(),
+        shape: local.shape_at(domain),
+    }
+}
+
+// What these words stand for.
+fn vars_each<'s, 'a>(
+    alloc: Global,
+    local: &Local<'s, 'a>,
+    words: &[Word],
+) -> Result<List<Var<'a>>, NoMemory>
+    ensures { IfOk result (λ vars. AreVars local.now.scope.now.raw.now local.now.machine.now words.now vars) }
+{
+    let mut vars = List::new(alloc);
+    for word in words {
+        vars.push(var_of(local, word.name))?;
+    }
+    Ok(vars)
+}
+
+/// What the names of a machine's variables stand for, by number.
+pub fn vars_of<'s, 'a>(alloc: Global, local: &Local<'s, 'a>) -> Result<List<Var<'a>>, NoMemory>
+    ensures { IfOk result (λ vars. AreVars local.now.scope.now.raw.now local.now.machine.now (var_words local.now.machine.now) vars) }
+{
+    let words = var_words(alloc, local.machine)?;
+    vars_each(alloc, local, words.as_slice())
+}
+
+/// What the variable of this name and number stands for.
+pub fn var_numbered<'v, 's, 'a>(
+    local: &Local<'s, 'a>,
+    vars: &'v List<Var<'a>>,
+    name: Name,
+    number: u64,
+) -> &'v Var<'a>
+    requires vars { AreVars local.now.scope.now.raw.now local.now.machine.now (var_words local.now.machine.now) vars.now }
+    requires number { number_in (names_of (var_words local.now.machine.now)) name ≡ Some number }
+    ensures { IsVar local.now.scope.now.raw.now local.now.machine.now name result.now }
+{
+    vars.get(number)
+}
+
+/// What a name stands for, if it is that of a variable.
+pub fn var_at<'v, 's, 'a>(
+    local: &Local<'s, 'a>,
+    vars: &'v List<Var<'a>>,
+    name: Name,
+) -> Option<&'v Var<'a>>
+    requires { AreVars local.now.scope.now.raw.now local.now.machine.now (var_words local.now.machine.now) vars.now }
+    ensures { IfSome result (λ var. IsVar local.now.scope.now.raw.now local.now.machine.now name var.now) }
+{
+    match local.var(name) {
+        Some(number) => Some(var_numbered(local, vars, name, number)),
+        None => None,
+    }
+}

@@ -1,0 +1,16 @@
+// The network that declarations give, or the first rule that they break.
+#![tactic(auto)]
+
+mod codes;
+mod domain_list;
+mod events;
+mod machine_list;
+mod resolving;
+mod row_list;
+mod sizes;
+#[cfg(test)]
+mod tests;
+mod worked;
+
+pub use resolving::{ResolveFault, resolve};
+pub use worked::{laws, worked_network};

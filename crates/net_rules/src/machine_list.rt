@@ -1,0 +1,105 @@
+// The machines of a network.
+ghost use Rattle.std.specs.Prelude.{◌≡◌, ◌≤◌, length, map, IfOk};
+ghost use Rattle.std.specs.List.{AllZip};
+ghost use Rattle.net_reader.specs.declared.raw.Word.{Word as Declared};
+ghost use Rattle.net_names.specs.Scopes.{event_words};
+ghost use Rattle.net_rules.specs.Networks.{state_of, IsMachineOf};
+ghost use Rattle.net_names.specs.Numbers.{number};
+ghost use Rattle.net_rules.specs.Sound.{Each, IsSound, IsSoundMachine};
+
+use crate::row_list::{rows_of, value_number};
+use crate::sizes::{results_of, var_sizes};
+use net_names::{Local, Scope, vars_of};
+use net_reader::{RawMachine, RawState, Word};
+use polis_base::{NoMemory, Numbers};
+use std::alloc::Global;
+use transition_table::{Machine, MachineList, StateDecl, StateList};
+
+// The numbers of events.
+fn event_numbers(alloc: Global, scope: &Scope, words: &[Word]) -> Result<Numbers, NoMemory>
+    requires { length scope.now.raw.now.events ≤ 256 }
+    ensures { IfOk result (λ numbers. numbers ≡ map (λ (w : Declared). number (event_words scope.now.raw.now) w.name) words.now) }
+{
+    let mut numbers = Numbers::new(alloc);
+    for word in words {
+        numbers.push(scope.event_number(word.name))?;
+    }
+    Ok(numbers)
+}
+
+// A state variable.
+fn state_of(scope: &Scope, state: &RawState) -> StateDecl
+    requires sound { IsSound scope.now.raw.now }
+    requires domains { length scope.now.raw.now.domains ≤ 64 }
+    ensures { result ≡ state_of scope.now.raw.now state.now }
+{
+    StateDecl {
+        name: state.name.name,
+        domain: scope.number_of(state.domain.name),
+        init: value_number(scope, &Some(state.domain), &state.init) as u8,
+    }
+}
+
+fn states_of(alloc: Global, scope: &Scope, states: &[RawState]) -> Result<StateList, NoMemory>
+    requires sound { IsSound scope.now.raw.now }
+    requires domains { length scope.now.raw.now.domains ≤ 64 }
+    ensures { IfOk result (λ made. made ≡ map (state_of scope.now.raw.now) states.now) }
+{
+    let mut made = StateList::new(alloc);
+    for state in states {
+        made.push(state_of(scope, state))?;
+    }
+    Ok(made)
+}
+
+// A machine that keeps the rules.
+fn machine_of<'s, 'a>(
+    alloc: Global,
+    scope: &'s Scope<'a>,
+    machine: &'a RawMachine,
+) -> Result<Machine, NoMemory>
+    requires sound { IsSound scope.now.raw.now }
+    requires domains { length scope.now.raw.now.domains ≤ 64 }
+    requires events { length scope.now.raw.now.events ≤ 256 }
+    requires machine { IsSoundMachine scope.now.raw.now machine.now }
+    ensures { IfOk result (λ made. IsMachineOf scope.now.raw.now machine.now made) }
+{
+    let local = Local::new(alloc, scope, machine)?;
+    let inputs = event_numbers(alloc, scope, machine.inputs.as_slice())?;
+    let outputs = event_numbers(alloc, scope, machine.outputs.as_slice())?;
+    let states = states_of(alloc, scope, machine.states.as_slice())?;
+    let vars = var_sizes(alloc, scope, machine)?;
+    let known = vars_of(alloc, &local)?;
+    let results = results_of(alloc, scope, machine)?;
+    let rows = rows_of(alloc, &local, &known, &vars, machine.rows.as_slice())?;
+    Ok(Machine {
+        name: machine.name.name,
+        priority: machine.priority.number as u8,
+        inputs,
+        outputs,
+        states,
+        vars,
+        results,
+        rows,
+    })
+}
+
+// The machines of declarations that keep the rules.
+pub(crate) fn machines_of<'s, 'a>(
+    alloc: Global,
+    scope: &'s Scope<'a>,
+    machines: &'a [RawMachine],
+) -> Result<MachineList, NoMemory>
+    requires sound { IsSound scope.now.raw.now }
+    requires domains { length scope.now.raw.now.domains ≤ 64 }
+    requires events { length scope.now.raw.now.events ≤ 256 }
+    requires machines { Each (IsSoundMachine scope.now.raw.now) machines.now }
+    ensures { IfOk result (λ made. AllZip (IsMachineOf scope.now.raw.now) machines.now made) }
+{
+    let mut made = MachineList::new(alloc);
+    for machine in machines {
+        let next = machine_of(alloc, scope, machine)?;
+        made.push(next)?;
+    }
+    Ok(made)
+}

@@ -1,0 +1,275 @@
+// The rows of a machine.
+ghost use Rattle.std.specs.Prelude.{◌≡◌, ◌<◌, ◌≤◌, ◌+◌, ◌++◌, ℕ, ◌==◌, true, Some, length, map, unwrap_or, option_and_then, option_copied, cond as choose, IfOk, IfSome};
+ghost use Rattle.std.specs.List.{list_any, AllZip};
+ghost use Rattle.std.specs.Int.{bit_at};
+ghost use Rattle.net_reader.specs.declared.raw.RawCond.{RawCond as Declared};
+ghost use Rattle.net_reader.specs.declared.raw.RawAct.{RawAct as DeclaredAct};
+ghost use Rattle.net_judge.specs.Rules.{source_of};
+ghost use Rattle.net_names.specs.Numbers.{is_name_of, number};
+ghost use Rattle.net_names.specs.Values.{value_in, count_of};
+ghost use Rattle.net_names.specs.Vars.{IsVar, AreVars};
+ghost use Rattle.net_names.specs.Scopes.{state_words, cond_word, var_sizes, var_words};
+ghost use Rattle.net_rules.specs.Networks.{value_number, code_of, allows, cond_of, act_of, source_in, emission_source, IsRowOf};
+ghost use Rattle.net_rules.specs.Sound.{Each, IsSound, IsSoundMachine, IsSoundRow, amount_of};
+
+use crate::codes::{below, value_or_zero, with_code};
+use domains::VarTable;
+use net_names::{Local, Scope, Var, cond_word, var_numbered};
+use net_reader::{RawAct, RawCond, RawRow, RawShape, RawSource, RawValue, Word};
+use polis_base::{List, Name, NoMemory};
+use std::alloc::Global;
+use transition_table::{Act, ActList, Cond, CondList, Row, RowList, Source};
+
+// The number of a value of the domain of this name, 0 where there is none.
+pub(crate) fn value_number(scope: &Scope, domain: &Option<Word>, value: &RawValue) -> u64
+    requires { IsSound scope.now.raw.now }
+    ensures number { result ≡ value_number scope.now.raw.now domain.now value.now }
+    ensures small { result ≤ 32 }
+{
+    match domain {
+        Some(word) => match scope.shape_of(word.name) {
+            Some(shape) => value_or_zero(shape, value),
+            None => 0,
+        },
+        None => 0,
+    }
+}
+
+// The number of a value among these, 0 where it is none or there are none.
+fn shape_number(shape: Option<&RawShape>, value: &RawValue) -> u64
+    requires { IfSome (option_copied shape) (λ s. count_of s ≤ 32) }
+    ensures number { result ≡ unwrap_or (option_and_then (λ s. value_in s value.now) (option_copied shape.entry)) 0 }
+    ensures small { result ≤ 32 }
+{
+    match shape {
+        Some(shape) => value_or_zero(shape, value),
+        None => 0,
+    }
+}
+
+// The codes of the values, the first value's code being `first`.
+fn value_codes(shape: Option<&RawShape>, first: u64, values: &[RawValue]) -> u64
+    requires count { IfSome (option_copied shape) (λ s. count_of s ≤ 32) }
+    requires first { first ≤ 1 }
+    ensures { (c : ℕ) → (bit_at result c == 1) ≡ list_any (λ v. c == first + unwrap_or (option_and_then (λ s. value_in s v) (option_copied shape.entry)) 0) values.now }
+{
+    let mut codes = 0;
+    for value in values {
+        codes = with_code(codes, first + shape_number(shape, value));
+    }
+    codes
+}
+
+// How many codes of a variable stand before that of its first value.
+fn first_code(var: &Var) -> u64
+    ensures first { result ≡ choose var.now.is_state 0 1 }
+    ensures small { result ≤ 1 }
+{
+    if var.is_state { 0 } else { 1 }
+}
+
+// The codes of the values of a variable of this name.
+fn named_codes(local: &Local, name: Name, var: &Var, values: &[RawValue]) -> u64
+    requires sound { IsSound local.now.scope.now.raw.now }
+    requires var { IsVar local.now.scope.now.raw.now local.now.machine.now name var.now }
+    ensures { (c : ℕ) → (bit_at result c == 1) ≡ list_any (λ v. c == code_of local.now.scope.now.raw.now local.now.machine.now name v) values.now }
+{
+    value_codes(var.shape, first_code(var), values)
+}
+
+// The code of a value of a variable of this name.
+fn named_code(local: &Local, name: Name, var: &Var, value: &RawValue) -> u64
+    requires sound { IsSound local.now.scope.now.raw.now }
+    requires var { IsVar local.now.scope.now.raw.now local.now.machine.now name var.now }
+    ensures code { result ≡ code_of local.now.scope.now.raw.now local.now.machine.now name value.now }
+    ensures small { result ≤ 33 }
+{
+    first_code(var) + shape_number(var.shape, value)
+}
+
+// The codes that a condition on this variable allows.
+fn allowed(local: &Local, var: &Var, cond: &RawCond) -> u64
+    requires sound { IsSound local.now.scope.now.raw.now }
+    requires var { IsVar local.now.scope.now.raw.now local.now.machine.now (cond_word cond.now).name var.now }
+    ensures { (c : ℕ) → c < 64 → (bit_at result c == 1) ≡ allows local.now.scope.now.raw.now local.now.machine.now cond.now c }
+{
+    match cond {
+        RawCond::Present(_) => !1,
+        RawCond::Absent(_) => 1,
+        RawCond::Is { name, value } => with_code(0, named_code(local, name.name, var, value)),
+        RawCond::OneOf { name, values } => { named_codes(local, name.name, var, values.as_slice()) }
+    }
+}
+
+// A condition on a variable of the machine.
+fn cond_of<'s, 'a>(
+    local: &Local<'s, 'a>,
+    known: &List<Var<'a>>,
+    vars: &VarTable,
+    cond: &RawCond,
+) -> Cond
+    requires sound { IsSound local.now.scope.now.raw.now }
+    requires variables { AreVars local.now.scope.now.raw.now local.now.machine.now (var_words local.now.machine.now) known.now }
+    requires vars { vars.now ≡ var_sizes local.now.scope.now.raw.now local.now.machine.now }
+    requires kept { IsSoundMachine local.now.scope.now.raw.now local.now.machine.now }
+    requires known { is_name_of (local.now.machine.now.inputs ++ state_words local.now.machine.now) (cond_word cond.now).name ≡ true }
+    ensures { result ≡ cond_of local.now.scope.now.raw.now local.now.machine.now cond.now }
+{
+    let name = cond_word(cond).name;
+    let number = local.var_number(name);
+    let var = var_numbered(local, known, name, number);
+    let size = u64::from(*vars.get(number));
+    Cond {
+        var: number as u32,
+        codes: below(allowed(local, var, cond), size),
+    }
+}
+
+fn conds_of<'s, 'a>(
+    alloc: Global,
+    local: &Local<'s, 'a>,
+    known: &List<Var<'a>>,
+    vars: &VarTable,
+    conds: &[RawCond],
+) -> Result<CondList, NoMemory>
+    requires sound { IsSound local.now.scope.now.raw.now }
+    requires variables { AreVars local.now.scope.now.raw.now local.now.machine.now (var_words local.now.machine.now) known.now }
+    requires vars { vars.now ≡ var_sizes local.now.scope.now.raw.now local.now.machine.now }
+    requires kept { IsSoundMachine local.now.scope.now.raw.now local.now.machine.now }
+    requires known { Each (λ (c : Declared). is_name_of (local.now.machine.now.inputs ++ state_words local.now.machine.now) (cond_word c).name ≡ true) conds.now }
+    ensures { IfOk result (λ made. made ≡ map (cond_of local.now.scope.now.raw.now local.now.machine.now) conds.now) }
+{
+    let mut made = CondList::new(alloc);
+    for cond in conds {
+        made.push(cond_of(local, known, vars, cond))?;
+    }
+    Ok(made)
+}
+
+// Where an action takes its code from, over the domain of what it gives a value.
+fn source_in(local: &Local, domain: &Option<Word>, source: &RawSource) -> Source
+    requires sound { IsSound local.now.scope.now.raw.now }
+    requires kept { IsSoundMachine local.now.scope.now.raw.now local.now.machine.now }
+    requires small { amount_of (Some source.now) ≤ 255 }
+    ensures { result ≡ source_in local.now.scope.now.raw.now local.now.machine.now domain.now source.now }
+{
+    match source {
+        RawSource::Value(value) => {
+            Source::Code((1 + value_number(local.scope, domain, value)) as u8)
+        }
+        RawSource::Input(word) => Source::Input(local.var_number(word.name) as u32),
+        RawSource::Add { number, .. } => Source::Add(number.number as u8),
+    }
+}
+
+// Where an emission takes its code from.
+fn emission_source(local: &Local, domain: &Option<Word>, source: &Option<RawSource>) -> Source
+    requires sound { IsSound local.now.scope.now.raw.now }
+    requires kept { IsSoundMachine local.now.scope.now.raw.now local.now.machine.now }
+    requires small { amount_of source.now ≤ 255 }
+    ensures { result ≡ emission_source local.now.scope.now.raw.now local.now.machine.now domain.now source.now }
+{
+    match source {
+        Some(source) => source_in(local, domain, source),
+        None => Source::Code(1),
+    }
+}
+
+// The number of the result of an output.
+fn output_result(local: &Local, name: Name) -> u32
+    requires sound { IsSound local.now.scope.now.raw.now }
+    requires kept { IsSoundMachine local.now.scope.now.raw.now local.now.machine.now }
+    ensures { result ≡ 1 + length local.now.machine.now.states + number local.now.machine.now.outputs name }
+{
+    (1 + local.machine.states.len() + local.output_number(name)) as u32
+}
+
+// The number of the result of a state variable.
+fn state_result(local: &Local, name: Name) -> u32
+    requires sound { IsSound local.now.scope.now.raw.now }
+    requires kept { IsSoundMachine local.now.scope.now.raw.now local.now.machine.now }
+    ensures { result ≡ 1 + number (state_words local.now.machine.now) name }
+{
+    (1 + local.state_number(name)) as u32
+}
+
+// An action of a machine within the limits.
+fn act_of(local: &Local, act: &RawAct) -> Act
+    requires sound { IsSound local.now.scope.now.raw.now }
+    requires kept { IsSoundMachine local.now.scope.now.raw.now local.now.machine.now }
+    requires small { amount_of (source_of act.now) ≤ 255 }
+    ensures { result ≡ act_of local.now.scope.now.raw.now local.now.machine.now act.now }
+{
+    match act {
+        RawAct::Emit { name, value } => {
+            let domain = local.scope.event_domain(name.name);
+            Act {
+                result: output_result(local, name.name),
+                source: emission_source(local, &domain, value),
+            }
+        }
+        RawAct::Set { name, value } => {
+            let domain = local.state_domain(name.name);
+            Act {
+                result: state_result(local, name.name),
+                source: source_in(local, &domain, value),
+            }
+        }
+    }
+}
+
+fn acts_of(alloc: Global, local: &Local, acts: &[RawAct]) -> Result<ActList, NoMemory>
+    requires sound { IsSound local.now.scope.now.raw.now }
+    requires kept { IsSoundMachine local.now.scope.now.raw.now local.now.machine.now }
+    requires small { Each (λ (a : DeclaredAct). amount_of (source_of a) ≤ 255) acts.now }
+    ensures { IfOk result (λ made. made ≡ map (act_of local.now.scope.now.raw.now local.now.machine.now) acts.now) }
+{
+    let mut made = ActList::new(alloc);
+    for act in acts {
+        made.push(act_of(local, act))?;
+    }
+    Ok(made)
+}
+
+// A row that keeps the rules.
+fn row_of<'s, 'a>(
+    alloc: Global,
+    local: &Local<'s, 'a>,
+    known: &List<Var<'a>>,
+    vars: &VarTable,
+    row: &RawRow,
+) -> Result<Row, NoMemory>
+    requires sound { IsSound local.now.scope.now.raw.now }
+    requires variables { AreVars local.now.scope.now.raw.now local.now.machine.now (var_words local.now.machine.now) known.now }
+    requires vars { vars.now ≡ var_sizes local.now.scope.now.raw.now local.now.machine.now }
+    requires kept { IsSoundMachine local.now.scope.now.raw.now local.now.machine.now }
+    requires row { IsSoundRow local.now.scope.now.raw.now local.now.machine.now row.now }
+    ensures { IfOk result (λ made. IsRowOf local.now.scope.now.raw.now local.now.machine.now row.now made) }
+{
+    let conds = conds_of(alloc, local, known, vars, row.conds.as_slice())?;
+    let acts = acts_of(alloc, local, row.acts.as_slice())?;
+    Ok(Row { conds, acts })
+}
+
+// The rows of a machine that keeps the rules.
+pub(crate) fn rows_of<'s, 'a>(
+    alloc: Global,
+    local: &Local<'s, 'a>,
+    known: &List<Var<'a>>,
+    vars: &VarTable,
+    rows: &[RawRow],
+) -> Result<RowList, NoMemory>
+    requires sound { IsSound local.now.scope.now.raw.now }
+    requires variables { AreVars local.now.scope.now.raw.now local.now.machine.now (var_words local.now.machine.now) known.now }
+    requires vars { vars.now ≡ var_sizes local.now.scope.now.raw.now local.now.machine.now }
+    requires kept { IsSoundMachine local.now.scope.now.raw.now local.now.machine.now }
+    requires rows { Each (IsSoundRow local.now.scope.now.raw.now local.now.machine.now) rows.now }
+    ensures { IfOk result (λ made. AllZip (IsRowOf local.now.scope.now.raw.now local.now.machine.now) rows.now made) }
+{
+    let mut made = RowList::new(alloc);
+    for row in rows {
+        let next = row_of(alloc, local, known, vars, row)?;
+        made.push(next)?;
+    }
+    Ok(made)
+}

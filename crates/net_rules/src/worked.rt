@@ -1,0 +1,20 @@
+// Networks that the definitions give for small declarations, and laws over definitions.
+ghost use Rattle.net_judge.specs.Samples.{lamp, belt, mix, echo};
+ghost use Rattle.net_rules.specs.NetOf.{IsNetOf};
+ghost use Rattle.net_rules.specs.Given.{lamp_network, belt_network, mix_network, echo_network};
+ghost use Rattle.net_rules.specs.Unique.{OneNetwork};
+ghost use Rattle.net_rules.specs.Sentence.{SentencesHaveValues};
+
+/// The network that the definitions give for small declarations.
+pub fn worked_network()
+    ensures lamp { IsNetOf lamp lamp_network }
+    ensures belt { IsNetOf belt belt_network }
+    ensures mix { IsNetOf mix mix_network }
+    ensures echo { IsNetOf echo echo_network }
+{}
+
+/// Laws over definitions.
+pub fn laws()
+    ensures one { OneNetwork }
+    ensures values { SentencesHaveValues }
+{}

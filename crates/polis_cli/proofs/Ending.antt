@@ -1,141 +1,187 @@
 -- What the call promises, from what its parts give.
-use Rattle.std.proofs.Common.{◌≡◌, ◌⊎◌, inl, inr, ◌≤◌, ◌<◌, ℕ, List, length, Some, None, refl, sym, subst, ◌∙◌, arith, IsTrue, codes, Ok, Err}
-use Rattle.std.specs.Prelude.{Option}
+use Rattle.std.proofs.Common.{◌≡◌, ◌≢◌, ◌⊎◌, inl, inr, ℕ, Bool, true, false, List, Option, refl, sym, ap, subst, ◌∙◌, IsTrue, codes}
 use Rattle.polis_base.specs.Host.{Files, bytes_at, WhereTold, Changes}
-use Rattle.polis_cli.specs.declared.failure.Source.TheVariants.{Net, Trace}
-use Rattle.polis_cli.specs.declared.failure.Failure.{Failure}
-use Rattle.polis_cli.specs.declared.failure.Failure.TheVariants.{ReadFault as Unread, Absent, TooLong, Lex, Syntax, NotYet, Line, NoMemory as Wanting}
-use Rattle.polis_cli.specs.declared.status.Status.{Status}
-use Rattle.polis_cli.specs.declared.status.Status.TheVariants.{ReadFault, Refused, WriteFault, NoMemory}
-use Rattle.polis_cli.specs.Form.{RunWords, Asks}
-use Rattle.polis_cli.specs.Lamp.{Accepted}
-use Rattle.polis_cli.specs.Top.{text_max, AreAccepted, is_end}
-use Rattle.polis_base.specs.Tokens.{tokens_of}
-use Rattle.polis_base.specs.declared.token.Token.{Token}
-use Rattle.polis_base.specs.declared.token.LexError.{LexError}
-use Rattle.net_reader.specs.Sentences.{HasNet}
-use Rattle.polis_cli.proofs.Inputs.{no_break}
-use Rattle.polis_cli.specs.Failures.{status_of, lex_error}
-use Rattle.polis_cli.specs.Lines.{Explains, failure_line, IsLineOf, ShowsFront, ShowsLine}
-use Rattle.polis_cli.specs.Parts.{FailsWith, no_memory_line}
+use Rattle.transition_table.specs.declared.network.Network.{Network}
+use Rattle.journals.specs.declared.entry.Entry.{Entry}
+use Rattle.journals.specs.declared.entry.TraceItem.{TraceItem}
+use Rattle.polis_words.specs.declared.cause.Cause.{Cause}
+use Rattle.polis_words.specs.declared.cause.Cause.TheVariants.{ReadFault as Unread, Absent, TooLong, Lex, Syntax, Rule, Conflict, Line, NoMemory as Wanting}
+use Rattle.polis_words.specs.declared.requests.Request.{Request}
+use Rattle.polis_words.specs.declared.requests.Request.TheVariants.{Run, Check}
+use Rattle.polis_words.specs.declared.status.Status.{Status}
+use Rattle.polis_words.specs.declared.status.Status.TheVariants.{Done, Limit, ReadFault, Refused, WriteFault, NoMemory}
+use Rattle.polis_words.specs.Requests.{Asks}
+use Rattle.polis_words.specs.Lines.{status_of, failure_line}
+use Rattle.polis_cli.specs.declared.product.Product.{Product}
+use Rattle.polis_cli.specs.Runs.{Ends, ends_run}
+use Rattle.polis_cli.specs.Checks.{ends_check}
+use Rattle.polis_cli.specs.Commands.{Makes, Accepts, Fails, ends_with}
+use Rattle.polis_cli.specs.Saves.{files_after, MadeSome, AreHeld}
+use Rattle.polis_cli.specs.Shown.{ShowsPrefix, FailsWith, no_memory_line}
+use Rattle.polis_cli.specs.Writing.{IsWell, Writes, is_end}
+use Rattle.polis_cli.specs.Top.{MadeAndWritten, Stands, LeavesUnwritten, IsLineOf, ShowsLine}
+use Rattle.polis_cli.proofs.Told.{told_from, told_always, changes_from, changes_where}
+use Rattle.polis_cli.proofs.Saving.{held_other, all_held}
+use Rattle.polis_cli.proofs.Refusing.{refuses, cases_of}
 
--- a fact of what was told and what is, from another
-pub changes_from : {X : Type 0} (a b : Option X) (R S : X → X → Type 0) → ((x y : X) → R x y → S x y) → Changes a b R → Changes a b S
-changes_from None None R S f h = tt
-changes_from (Some x) (Some y) R S f h = f x y h
-changes_from None (Some y) R S f h = h
-changes_from (Some x) None R S f h = h
-
--- a file that isn't held, is too long or isn't accepted: the files aren't accepted
-explains_none : (held : Option (List ℕ)) (text : List ℕ) → held ≡ None → held ≡ Some text → ⊥
-explains_none held text h k = cc
-
-too_long : (held : Option (List ℕ)) (a b : List ℕ) → held ≡ Some a → held ≡ Some b → text_max < length a → length b ≤ text_max → ⊥
-too_long held a b h k above within =
-    let same : b ≡ a = cc in
-    let less : length a ≤ text_max = subst (λ (t : List ℕ). length t ≤ text_max) same within in
-    absurd (omega arith)
-
-one_text : (held : Option (List ℕ)) (a b : List ℕ) → held ≡ Some a → held ≡ Some b → b ≡ a
-one_text held a b h k = cc
-
-other_tokens : (text other : List ℕ) (tokens : List Token) (error : LexError) → other ≡ text → tokens_of other ≡ Ok tokens → tokens_of text ≡ Err error → ⊥
-other_tokens text other tokens error same read fault = let h = subst (λ (t : List ℕ). tokens_of t ≡ Ok tokens) same read in cc
-
-pub refuses : (files : Files) (run : RunWords) (failure : Failure) → status_of failure ≡ Refused → Explains files run failure → ¬ AreAccepted files run
-refuses files run (Absent Net) s h = λ all. explains_none (bytes_at files run.net) all.1.text h.1 all.1.held
-refuses files run (Absent Trace) s h = λ all. explains_none (bytes_at files run.trace) all.2.1.text h.1 all.2.1.held
-refuses files run (TooLong Net) s h = λ all. too_long (bytes_at files run.net) h.1.0 all.1.text h.1.1 all.1.held h.1.2 all.1.within
-refuses files run (TooLong Trace) s h = λ all. too_long (bytes_at files run.trace) h.1.0 all.2.1.text h.1.1 all.2.1.held h.1.2 all.2.1.within
-refuses files run (Lex kind place) s h =
-    λ all.
-    let same : all.1.text ≡ h.0 = one_text (bytes_at files run.net) h.0 all.1.text h.1.held all.1.held in
-    let read = all.1.accepted.0.1.read in
-    let fault = h.2 in
-    other_tokens h.0 all.1.text all.1.accepted.0.1.tokens (lex_error kind place) same read fault
-refuses files run (Syntax place) s h =
-    λ all.
-    no_break h.0 all.1.accepted.0.0 place
-    (subst (λ (t : List ℕ). HasNet t all.1.accepted.0.0) (one_text (bytes_at files run.net) h.0 all.1.text h.1.held all.1.held) all.1.accepted.0.1) h.2
-refuses files run NotYet s h =
-    λ all. h.2.2 all.0 (subst (λ (t : List ℕ). Accepted t all.0) (one_text (bytes_at files run.net) h.0 all.1.text h.1.held all.1.held) all.1.accepted)
-refuses files run (Line line kind) s h =
-    λ all.
-    let same : all.2.1.text ≡ h.1 = one_text (bytes_at files run.trace) h.1 all.2.1.text h.2.held all.2.1.held in
-    let fault = h.3 all.0 all.1 in
-    let read = all.2.1.read in
-    cc
-refuses files run (Unread source) s h = cc
-refuses files run Wanting s h = cc
+-- the request is the one that the command line asks for
+abbrev IsOne : List (List ℕ) → Request → Type 0
+IsOne words request = (other : Request) → Asks words other → other ≡ request
 
 -- what failed is why it is refused
-pub refused_only : (o : Option Files) (words : List (List ℕ)) (run : RunWords) (failure : Failure) (status : Status)
-    → WhereTold o (λ files. Explains files run failure) → ((other : RunWords) → Asks words other → other ≡ run)
-    → (status ≡ status_of failure) ⊎ (status ≡ NoMemory) → status ≡ Refused
-    → WhereTold o (λ files. (other : RunWords) → Asks words other → ¬ AreAccepted files other)
-refused_only None words run failure status h one s is = tt
-refused_only (Some files) words run failure status h one (inl s) is =
-    λ other asks. subst (λ (r : RunWords). ¬ AreAccepted files r) (sym (one other asks)) (refuses files run failure (sym s ∙ is) h)
-refused_only (Some files) words run failure status h one (inr s) is = cc
-
-cases_of : (failure : Failure) → (status_of failure ≡ Refused) ⊎ (status_of failure ≡ ReadFault) ⊎ (status_of failure ≡ NoMemory)
-cases_of (Absent source) = inl refl
-cases_of (TooLong source) = inl refl
-cases_of (Lex kind place) = inl refl
-cases_of (Syntax place) = inl refl
-cases_of NotYet = inl refl
-cases_of (Line line kind) = inl refl
-cases_of (Unread source) = inr (inl refl)
-cases_of Wanting = inr (inr refl)
+pub refused_only : (o : Option Files) (words : List (List ℕ)) (request : Request) (name : List ℕ) (cause : Cause) (status : Status)
+    → WhereTold o (λ files. Fails request files name cause) → IsOne words request
+    → (status ≡ status_of cause) ⊎ (status ≡ NoMemory) → status ≡ Refused
+    → WhereTold o (λ files. (other : Request) → Asks words other → ¬ Accepts other files)
+refused_only o words request name cause status fails one (inl s) is =
+    told_from o (λ files. Fails request files name cause) _
+    (λ files h other asks. subst (λ (r : Request). ¬ Accepts r files) (sym (one other asks)) (refuses files request name cause (sym s ∙ is) h)) fails
+refused_only o words request name cause status fails one (inr s) is = cc
 
 -- files that are accepted aren't what failed
-pub run_there : (o : Option Files) (words : List (List ℕ)) (run : RunWords) (failure : Failure) (status : Status)
-    → WhereTold o (λ files. Explains files run failure) → ((other : RunWords) → Asks words other → other ≡ run)
-    → (status ≡ status_of failure) ⊎ (status ≡ NoMemory)
-    → WhereTold o (λ files. (other : RunWords) → Asks words other → AreAccepted files other → IsTrue (is_end status) ⊎ (status ≡ ReadFault) ⊎ (status ≡ WriteFault) ⊎ (status ≡ NoMemory))
-run_there None words run failure status h one s = tt
-run_there (Some files) words run failure status h one (inr s) = λ other asks all. inr (inr (inr s))
-run_there (Some files) words run failure status h one (inl s) =
-    λ other asks all. by_cause (subst (AreAccepted files) (one other asks) all) (cases_of failure)
+pub failed_there : (o : Option Files) (words : List (List ℕ)) (request : Request) (name : List ℕ) (cause : Cause) (status : Status)
+    → WhereTold o (λ files. Fails request files name cause) → IsOne words request
+    → (status ≡ status_of cause) ⊎ (status ≡ NoMemory)
+    → WhereTold o (λ files. (other : Request) → Asks words other → Accepts other files
+    → IsTrue (ends_with other status) ⊎ (status ≡ ReadFault) ⊎ (status ≡ WriteFault) ⊎ (status ≡ NoMemory))
+failed_there o words request name cause status fails one s = told_from o (λ files. Fails request files name cause) _ there fails
   where
-    by_cause : AreAccepted files run → (status_of failure ≡ Refused) ⊎ (status_of failure ≡ ReadFault) ⊎ (status_of failure ≡ NoMemory)
-        → IsTrue (is_end status) ⊎ (status ≡ ReadFault) ⊎ (status ≡ WriteFault) ⊎ (status ≡ NoMemory)
-    by_cause all (inl e) = absurd (refuses files run failure e h all)
-    by_cause all (inr (inl e)) = inr (inl (s ∙ e))
-    by_cause all (inr (inr e)) = inr (inr (inr (s ∙ e)))
+    by_cause : (files : Files) (other : Request) → Fails request files name cause → Accepts request files
+        → (status_of cause ≡ Refused) ⊎ (status_of cause ≡ ReadFault) ⊎ (status_of cause ≡ NoMemory) → (status ≡ status_of cause) ⊎ (status ≡ NoMemory)
+        → IsTrue (ends_with other status) ⊎ (status ≡ ReadFault) ⊎ (status ≡ WriteFault) ⊎ (status ≡ NoMemory)
+    by_cause files other h all which (inr wanting) = inr (inr (inr wanting))
+    by_cause files other h all (inl e) (inl is) = absurd (refuses files request name cause e h all)
+    by_cause files other h all (inr (inl e)) (inl is) = inr (inl (is ∙ e))
+    by_cause files other h all (inr (inr e)) (inl is) = inr (inr (inr (is ∙ e)))
 
-line_is : (o : Option Files) (words : List (List ℕ)) (run : RunWords) (failure : Failure) → Asks words run → WhereTold o (λ files. Explains files run failure)
-    → IsLineOf (status_of failure) words o (failure_line run failure)
-line_is o words run (Unread source) asks h = (run, source, asks, refl, h)
-line_is o words run (Absent source) asks h = (run, Absent source, asks, refl, refl, h)
-line_is o words run (TooLong source) asks h = (run, TooLong source, asks, refl, refl, h)
-line_is o words run (Lex kind place) asks h = (run, Lex kind place, asks, refl, refl, h)
-line_is o words run (Syntax place) asks h = (run, Syntax place, asks, refl, refl, h)
-line_is o words run NotYet asks h = (run, NotYet, asks, refl, refl, h)
-line_is o words run (Line line kind) asks h = (run, Line line kind, asks, refl, refl, h)
-line_is o words run Wanting asks h = refl
+    there : (files : Files) → Fails request files name cause → (other : Request) → Asks words other → Accepts other files
+        → IsTrue (ends_with other status) ⊎ (status ≡ ReadFault) ⊎ (status ≡ WriteFault) ⊎ (status ≡ NoMemory)
+    there files h other asks all = by_cause files other h (subst (λ (r : Request). Accepts r files) (one other asks) all) (cases_of cause) s
+
+line_is : (o : Option Files) (words : List (List ℕ)) (request : Request) (name : List ℕ) (cause : Cause) → Asks words request
+    → WhereTold o (λ files. Fails request files name cause) → IsLineOf (status_of cause) words o (failure_line name cause)
+line_is o words request name cause asks fails = of_cause cause fails
+  where
+    of_cause : (cause : Cause) → WhereTold o (λ files. Fails request files name cause) → IsLineOf (status_of cause) words o (failure_line name cause)
+    of_cause Unread h = record { request = request; asked = asks; name = name; cause = Unread; status_is = refl; line_is = refl; fails = h }
+    of_cause Absent h = record { request = request; asked = asks; name = name; cause = Absent; status_is = refl; line_is = refl; fails = h }
+    of_cause TooLong h = record { request = request; asked = asks; name = name; cause = TooLong; status_is = refl; line_is = refl; fails = h }
+    of_cause (Lex kind place) h = record { request = request; asked = asks; name = name; cause = Lex kind place; status_is = refl; line_is = refl; fails = h }
+    of_cause (Syntax place) h = record { request = request; asked = asks; name = name; cause = Syntax place; status_is = refl; line_is = refl; fails = h }
+    of_cause (Rule rule place) h = record { request = request; asked = asks; name = name; cause = Rule rule place; status_is = refl; line_is = refl; fails = h }
+    of_cause (Conflict printed) h = record { request = request; asked = asks; name = name; cause = Conflict printed; status_is = refl; line_is = refl; fails = h }
+    of_cause (Line line kind) h = record { request = request; asked = asks; name = name; cause = Line line kind; status_is = refl; line_is = refl; fails = h }
+    of_cause Wanting h = refl
 
 -- the line of what failed is shown
-pub failing_line : (o : Option Files) (words : List (List ℕ)) (run : RunWords) (failure : Failure) (status : Status) (rose : Type 0) (a b : Option (List ℕ))
-    → Asks words run → WhereTold o (λ files. Explains files run failure)
-    → Changes a b (λ old new. (line : List ℕ) × FailsWith run failure status line × ShowsFront line rose old new)
+pub failing_line : (o : Option Files) (words : List (List ℕ)) (request : Request) (name : List ℕ) (cause : Cause) (status : Status) (rose : Type 0) (a b : Option (List ℕ))
+    → Asks words request → WhereTold o (λ files. Fails request files name cause)
+    → Changes a b (λ old new. (line : List ℕ) × FailsWith name cause status line × ShowsPrefix line rose old new)
     → Changes a b (ShowsLine status words o rose)
-failing_line o words run failure status rose a b asks h shown = changes_from a b _ _ shows shown
+failing_line o words request name cause status rose a b asks fails shown = changes_from a b _ _ shows shown
   where
-    shows : (old new : List ℕ) → (line : List ℕ) × FailsWith run failure status line × ShowsFront line rose old new → ShowsLine status words o rose old new
-    shows old new (line, inl (s, l), front) =
-        (failure_line run failure, subst (λ (t : Status). IsLineOf t words o (failure_line run failure)) (sym s) (line_is o words run failure asks h), subst (λ (t : List ℕ). ShowsFront t rose old new) l front)
-    shows old new (line, inr (s, l), front) =
-        (codes "no memory", subst (λ (t : Status). IsLineOf t words o (codes "no memory")) (sym s) refl, subst (λ (t : List ℕ). ShowsFront t rose old new) l front)
+    shows : (old new : List ℕ) → (line : List ℕ) × FailsWith name cause status line × ShowsPrefix line rose old new → ShowsLine status words o rose old new
+    shows old new (line, inl (s, l), prefix) =
+        (failure_line name cause, subst (λ (t : Status). IsLineOf t words o (failure_line name cause)) (sym s) (line_is o words request name cause asks fails), subst (λ (t : List ℕ). ShowsPrefix t rose old new) l prefix)
+    shows old new (line, inr (s, l), prefix) =
+        (codes "no memory", subst (λ (t : Status). IsLineOf t words o (codes "no memory")) (sym s) refl, subst (λ (t : List ℕ). ShowsPrefix t rose old new) l prefix)
 
--- that memory was wanting is shown
-pub wanting_line : (o : Option Files) (words : List (List ℕ)) (status : Status) (rose : Type 0) (a b : Option (List ℕ))
-    → status ≡ NoMemory → Changes a b (ShowsFront no_memory_line rose) → Changes a b (ShowsLine status words o rose)
-wanting_line o words status rose a b s shown =
-    changes_from a b _ _ (λ old new front. (codes "no memory", subst (λ (t : Status). IsLineOf t words o (codes "no memory")) (sym s) refl, front)) shown
+-- a command line that asks for nothing
+pub nothing_asked : (o : Option Files) (words : List (List ℕ)) (P : Files → Request → Type 0) → ((request : Request) → ¬ Asks words request)
+    → WhereTold o (λ files. (request : Request) → Asks words request → P files request)
+nothing_asked o words P nothing = told_always o _ (λ files request asks. absurd (nothing request asks))
 
--- words that ask for no run
-pub nothing_asked : (o : Option Files) (words : List (List ℕ)) (P : Files → RunWords → Type 0) → ((run : RunWords) → ¬ Asks words run)
-    → WhereTold o (λ files. (run : RunWords) → Asks words run → P files run)
-nothing_asked None words P nothing = tt
-nothing_asked (Some files) words P nothing = λ run asks. absurd (nothing run asks)
+-- files of which a product is made are accepted
+makes_accepts : (request : Request) (files : Files) (product : Product) → Makes request files product → Accepts request files
+makes_accepts (Run run) files product m = (m.net, m.holds_net, (m.trace, m.holds_trace))
+makes_accepts (Check check) files product m = (m.net, m.holds_net)
+
+ends_of_run : (status : Status) (net : Network) (trace : List TraceItem) (journal : List Entry) (limit : ℕ) (complete : Bool) → Ends status net trace journal limit complete → ends_run status ≡ true
+ends_of_run Done net trace journal limit complete h = refl
+ends_of_run Limit net trace journal limit complete h = refl
+ends_of_run other net trace journal limit complete h = absurd h
+
+-- a product's status is one with which its request ends
+makes_ends : (request : Request) (files : Files) (product : Product) → Makes request files product → ends_with request product.status ≡ true
+makes_ends (Run run) files product m = ends_of_run product.status m.net m.trace m.made.journal run.limit m.made.complete m.made.ends
+makes_ends (Check check) files product m = ap ends_check m.made.status
+
+-- files of which a product is made aren't refused
+pub accepted_files : (o : Option Files) (words : List (List ℕ)) (request : Request) (product : Product) (P : Type 0)
+    → WhereTold o (λ files. Makes request files product) → IsOne words request
+    → WhereTold o (λ files. (other : Request) → Asks words other → ¬ Accepts other files → P)
+accepted_files o words request product P made one =
+    told_from o (λ files. Makes request files product) _
+    (λ files m other asks none. absurd (subst (λ (r : Request). ¬ Accepts r files) (one other asks) none (makes_accepts request files product m))) made
+
+-- a status of a product that was written is no other
+not_end : (status : Status) → is_end status ≡ true → (status ≡ WriteFault) ⊎ (status ≡ NoMemory) → ⊥
+not_end status end (inl e) = let h = sym end ∙ ap is_end e in cc
+not_end status end (inr e) = let h = sym end ∙ ap is_end e in cc
+
+-- the product was written, or that failed
+pub done_there : (o : Option Files) (words : List (List ℕ)) (request : Request) (product : Product) (status : Status) (rose : Type 0) (a b : Option Files) (s t : Option (List ℕ))
+    → WhereTold o (λ files. Makes request files product) → IsOne words request → Writes status product rose a b s t
+    → WhereTold o (λ files. (other : Request) → Asks words other → Accepts other files
+    → IsTrue (ends_with other status) ⊎ (status ≡ ReadFault) ⊎ (status ≡ WriteFault) ⊎ (status ≡ NoMemory))
+done_there o words request product status rose a b s t made one writes = told_from o (λ files. Makes request files product) _ (there writes) made
+  where
+    there : Writes status product rose a b s t → (files : Files) → Makes request files product → (other : Request) → Asks words other → Accepts other files
+        → IsTrue (ends_with other status) ⊎ (status ≡ ReadFault) ⊎ (status ≡ WriteFault) ⊎ (status ≡ NoMemory)
+    there (inl (e, all)) files m other asks accepts =
+        inl (subst (λ (r : Request). ends_with r status ≡ true) (sym (one other asks)) (ap (ends_with request) e ∙ makes_ends request files product m))
+    there (inr (inl (e, fails))) files m other asks accepts = inr (inr (inl e))
+    there (inr (inr (e, out))) files m other asks accepts = inr (inr (inr e))
+
+-- Done or Limit: the product was written
+pub made_written : (a b : Option Files) (s t : Option (List ℕ)) (words : List (List ℕ)) (request : Request) (product : Product) (status : Status) (rose : Type 0)
+    → Asks words request → WhereTold a (λ files. Makes request files product) → IsWell product → Writes status product rose a b s t → is_end status ≡ true
+    → Changes a b (λ before now. MadeAndWritten status words before now s t)
+made_written a b s t words request product status rose asks made well (inl (e, all)) end =
+    changes_where a b (λ files. Makes request files product) (λ old new. new ≡ files_after old product.saves) _
+    (λ before now m f. record {
+      request = request;
+      asked = asks;
+      product = product;
+      made = m;
+      ends = e;
+      saved = subst (λ (files : Files). AreHeld files product.saves) (sym f) (all_held before product.saves well.apart);
+      other_names = λ name other. ap (λ (files : Files). bytes_at files name) f ∙ held_other before product.saves name other;
+      shown = all.shown;
+    }) made all.files
+made_written a b s t words request product status rose asks made well (inr (inl (e, fails))) end = absurd (not_end status end (inl e))
+made_written a b s t words request product status rose asks made well (inr (inr (e, out))) end = absurd (not_end status end (inr e))
+
+-- what stands where memory ran out
+pub stands : (a b : Option Files) (s t : Option (List ℕ)) (words : List (List ℕ)) (request : Request) (product : Product) (status : Status) (rose : Type 0)
+    → Asks words request → WhereTold a (λ files. Makes request files product) → IsWell product → Writes status product rose a b s t → status ≡ NoMemory
+    → Changes a b (Stands words)
+stands a b s t words request product status rose asks made well (inl (e, all)) wanting = absurd (not_end status (ap is_end e ∙ well.end) (inr wanting))
+stands a b s t words request product status rose asks made well (inr (inl (e, fails))) wanting = cc
+stands a b s t words request product status rose asks made well (inr (inr (e, out))) wanting =
+    changes_where a b (λ files. Makes request files product) (MadeSome product.saves) (Stands words) (λ before now m some. inr (request, product, asks, m, some)) made out.files
+
+-- what is left where the writing failed
+pub unwritten : (a b : Option Files) (s t : Option (List ℕ)) (words : List (List ℕ)) (request : Request) (product : Product) (status : Status) (rose : Type 0)
+    → Asks words request → WhereTold a (λ files. Makes request files product) → IsWell product → Writes status product rose a b s t → status ≡ WriteFault
+    → LeavesUnwritten words rose a b s t
+unwritten a b s t words request product status rose asks made well (inl (e, all)) fault = absurd (not_end status (ap is_end e ∙ well.end) (inl fault))
+unwritten a b s t words request product status rose asks made well (inr (inl (e, fails))) fault = record { request = request; asked = asks; product = product; made = made; fails = fails }
+unwritten a b s t words request product status rose asks made well (inr (inr (e, out))) fault = cc
+
+-- what is shown where memory ran out
+pub wanting_shown : (o a b : Option Files) (s t : Option (List ℕ)) (words : List (List ℕ)) (product : Product) (status : Status) (rose : Type 0)
+    → IsWell product → Writes status product rose a b s t → is_end status ≡ false → status ≢ WriteFault
+    → Changes s t (ShowsLine status words o rose)
+wanting_shown o a b s t words product status rose well (inl (e, all)) none no_fault = let h = sym none ∙ ap is_end e ∙ well.end in cc
+wanting_shown o a b s t words product status rose well (inr (inl (e, fails))) none no_fault = absurd (no_fault e)
+wanting_shown o a b s t words product status rose well (inr (inr (e, out))) none no_fault =
+    changes_from s t (ShowsPrefix no_memory_line rose) _
+    (λ old new prefix. (codes "no memory", subst (λ (u : Status). IsLineOf u words o (codes "no memory")) (sym e) refl, prefix)) out.shown
+
+-- no product ends with another status
+pub written_status : (a b : Option Files) (s t : Option (List ℕ)) (product : Product) (status other : Status) (rose : Type 0)
+    → IsWell product → Writes status product rose a b s t → is_end other ≡ false → other ≢ WriteFault → other ≢ NoMemory → status ≢ other
+written_status a b s t product status other rose well (inl (e, all)) none no_fault no_want = λ same. let h = sym none ∙ ap is_end (sym same ∙ e) ∙ well.end in cc
+written_status a b s t product status other rose well (inr (inl (e, fails))) none no_fault no_want = λ same. no_fault (sym same ∙ e)
+written_status a b s t product status other rose well (inr (inr (e, out))) none no_fault no_want = λ same. no_want (sym same ∙ e)

@@ -1,31 +1,23 @@
--- What the two files of a run say, from what was loaded and read.
-use Rattle.std.proofs.Common.{◌≡◌, ◌<◌, ◌⊎◌, inl, inr, ℕ, List, length, Option, Some, None, Ok, Err, subst, sym, [], ◌∷◌, ◌++◌, append_assoc}
+-- What a text says, from what was loaded and read.
+use Rattle.std.proofs.Common.{◌≡◌, ◌⊎◌, ◌<◌, ◌+◌, inl, inr, ℕ, List, length, Option, Some, None, slice_get, subst, sym, [], ◌∷◌, ◌++◌, append_assoc, arith}
+use Rattle.std.proofs.lemmas.List.{append-nil}
+use Rattle.std.proofs.lemmas.Option.{slice_get_within}
+use Rattle.std.proofs.Math.Nat.{eq-or-lt_of_le}
 use Rattle.polis_base.specs.Host.{Files, bytes_at, WhereTold}
-use Rattle.transition_table.specs.declared.network.Network.{Network}
-use Rattle.net_core.specs.declared.entry.TraceItem.{TraceItem}
-use Rattle.trace_text.specs.declared.fault.TraceKind.{TraceKind}
-use Rattle.trace_text.specs.declared.fault.TraceFault.TheVariants.{Line as FaultyLine}
-use Rattle.trace_text.specs.Traces.{trace_of}
-use Rattle.polis_cli.specs.declared.failure.Source.TheVariants.{Trace}
-use Rattle.polis_cli.specs.declared.failure.Failure.{Failure}
-use Rattle.polis_cli.specs.declared.failure.Failure.TheVariants.{ReadFault, Absent, TooLong, Lex, Syntax, NotYet, Line, NoMemory}
-use Rattle.polis_cli.specs.Form.{RunWords}
-use Rattle.polis_cli.specs.Lamp.{Accepted}
-use Rattle.polis_cli.specs.Top.{text_max, HoldsNet, HoldsTrace}
-use Rattle.polis_cli.specs.Lines.{HoldsText, IsTextFault, Explains}
 use Rattle.polis_base.specs.declared.token.Token.{Token}
+use Rattle.transition_table.specs.declared.machine.Machine.{Machine}
+use Rattle.transition_table.specs.declared.network.Network.{Network}
+use Rattle.transition_table.specs.Transitions.{IsDeterministic, AreDeterministic}
 use Rattle.net_reader.specs.declared.raw.RawNet.{RawNet}
 use Rattle.net_reader.specs.Lexemes.{Lexeme, lexemes}
 use Rattle.net_reader.specs.Grammar.{IsNet}
 use Rattle.net_reader.specs.Sentences.{HasNet, BreaksAt, Stops}
-use Rattle.std.proofs.lemmas.List.{append-nil}
-
-pub both_held : (o : Option Files) (run : RunWords) (trace_text : List ℕ) (net : Network) (trace : List TraceItem)
-    → WhereTold o (λ files. HoldsNet files run.net net) → WhereTold o (λ files. HoldsText files run.trace trace_text)
-    → trace_of net trace_text ≡ Ok trace
-    → WhereTold o (λ files. HoldsNet files run.net net × HoldsTrace files run.trace net trace)
-both_held None run trace_text net trace a b d = tt
-both_held (Some files) run trace_text net trace a b d = (a, record { text = trace_text; held = b.held; within = b.within; read = d })
+use Rattle.net_rules.specs.NetOf.{NetOf}
+use Rattle.polis_words.specs.declared.cause.Cause.{Cause}
+use Rattle.polis_words.specs.declared.cause.Cause.TheVariants.{Conflict, NoMemory as Wanting}
+use Rattle.polis_cli.specs.Accepted.{Accepted, AreBefore, IsMachineFault, IsConflictFault}
+use Rattle.polis_cli.specs.Inputs.{HoldsText, HoldsNet, LoadFails, IsNetFault, IsTraceFault, NetFails, TraceFails, text_max}
+use Rattle.polis_cli.proofs.Told.{told_from}
 
 -- a sentence has no place at which it breaks
 pub no_break : (text : List ℕ) (raw : RawNet) (place : ℕ) → HasNet text raw → BreaksAt text place → ⊥
@@ -38,57 +30,65 @@ no_break text raw place has breaks =
     none before [] sentence stops = stops raw (subst (IsNet raw) (append-nil before) sentence)
     none before (l ∷ rest) sentence stops = stops (rest, raw, subst (IsNet raw) (sym (append_assoc before (l ∷ []) rest)) sentence)
 
-pub net_held : (o : Option Files) (run : RunWords) (text : List ℕ) (net : Network) → WhereTold o (λ files. HoldsText files run.net text) → Accepted text net
-    → WhereTold o (λ files. HoldsNet files run.net net)
-net_held None run text net a c = tt
-net_held (Some files) run text net a c = record { text = text; held = a.held; within = a.within; accepted = c }
-
 -- one text is held under a name
 pub one_text : (held : Option (List ℕ)) (a b : List ℕ) → held ≡ Some a → held ≡ Some b → b ≡ a
 one_text held a b h k = cc
 
-pub one_net : (o : Option Files) (run : RunWords) (text : List ℕ) (net : Network) → WhereTold o (λ files. HoldsText files run.net text)
-    → ((other : Network) → Accepted text other → other ≡ net) → WhereTold o (λ files. (other : Network) → HoldsNet files run.net other → other ≡ net)
-one_net None run text net a one = tt
-one_net (Some files) run text net a one =
-    λ other h. one other (subst (λ (t : List ℕ). Accepted t other) (one_text (bytes_at files run.net) text h.text a.held h.held) h.accepted)
+-- the network that is held under the name is the only one
+pub one_net : (o : Option Files) (name text : List ℕ) (net : Network) → WhereTold o (λ files. HoldsText files text_max name text)
+    → ((other : Network) → NetOf text other → other ≡ net) → WhereTold o (λ files. (other : Network) → HoldsNet files name other → other ≡ net)
+one_net None name text net a one = tt
+one_net (Some files) name text net a one =
+    λ other h. one other (subst (λ (t : List ℕ). NetOf t other) (one_text (bytes_at files name) text h.text a.held h.holds.held) h.accepted.0)
 
--- a text with a fault explains why it is refused
-pub text_faulty : (o : Option Files) (run : RunWords) (text : List ℕ) (failure : Failure) → WhereTold o (λ files. HoldsText files run.net text)
-    → IsTextFault text failure → WhereTold o (λ files. Explains files run failure)
-text_faulty None run text failure a f = tt
-text_faulty (Some files) run text (Lex kind place) a f = (text, a, f)
-text_faulty (Some files) run text (Syntax place) a f = (text, a, f)
-text_faulty (Some files) run text NotYet a f = (text, a, f)
-text_faulty (Some files) run text NoMemory a f = tt
-text_faulty (Some files) run text (ReadFault source) a f = absurd f
-text_faulty (Some files) run text (Absent source) a f = absurd f
-text_faulty (Some files) run text (TooLong source) a f = absurd f
-text_faulty (Some files) run text (Line line kind) a f = absurd f
+-- one machine more is deterministic
+pub before_next : (net : Network) (place : ℕ) (machine : Machine) → AreBefore net place → slice_get net.machines place ≡ Some machine → IsDeterministic machine
+    → AreBefore net (place + 1)
+before_next net place machine before there is k other below at = one (eq-or-lt_of_le (omega arith))
+  where
+    one : (k ≡ place) ⊎ (k < place) → IsDeterministic other
+    one (inr less) = before k other less at
+    one (inl same) =
+        let there' : slice_get net.machines place ≡ Some other = rw same at at in
+        let eq : machine ≡ other = cc in
+        subst IsDeterministic eq is
 
-pub trace_unloaded : (o : Option Files) (run : RunWords) (net : Network) (failure : Failure)
-    → WhereTold o (λ files. HoldsNet files run.net net)
-    → (failure ≡ Absent Trace → WhereTold o (λ files. bytes_at files run.trace ≡ None))
-    → (failure ≡ TooLong Trace → WhereTold o (λ files. (text : List ℕ) × (bytes_at files run.trace ≡ Some text) × (text_max < length text)))
-    → (failure ≡ Absent Trace) ⊎ (failure ≡ TooLong Trace) ⊎ (failure ≡ ReadFault Trace) ⊎ (failure ≡ NoMemory)
-    → WhereTold o (λ files. Explains files run failure)
-trace_unloaded None run net failure held absent long one = tt
-trace_unloaded (Some files) run net failure held absent long one =
-    elim one as (λ _. Explains files run failure) [
-      | inl e ↦ subst (λ (f : Failure). Explains files run f) (sym e) ((net, held), absent e)
-      | inr h ↦ elim h as (λ _. Explains files run failure) [
-        | inl e ↦ subst (λ (f : Failure). Explains files run f) (sym e) ((net, held), long e)
-        | inr h ↦ elim h as (λ _. Explains files run failure) [
-          | inl e ↦ subst (λ (f : Failure). Explains files run f) (sym e) (net, held)
-          | inr e ↦ subst (λ (f : Failure). Explains files run f) (sym e) tt
-        ]
-      ]
-    ]
+-- all machines are deterministic
+pub all_before : (net : Network) (place : ℕ) → AreBefore net place → place ≡ length net.machines → AreDeterministic net
+all_before net place before whole = λ k machine at.
+    let below : k < place = let w = slice_get_within net.machines k machine at in omega arith in
+    before k machine below at
 
-pub bad_line : (o : Option Files) (run : RunWords) (trace_text : List ℕ) (net : Network) (line : ℕ) (kind : TraceKind)
-    → WhereTold o (λ files. HoldsNet files run.net net) → WhereTold o (λ files. (other : Network) → HoldsNet files run.net other → other ≡ net)
-    → WhereTold o (λ files. HoldsText files run.trace trace_text) → trace_of net trace_text ≡ Err (FaultyLine line kind)
-    → WhereTold o (λ files. Explains files run (Line line kind))
-bad_line None run trace_text net line kind a one b d = tt
-bad_line (Some files) run trace_text net line kind a one b d =
-    ((net, a), trace_text, b, λ other h. subst (λ (n : Network). trace_of n trace_text ≡ Err (FaultyLine line kind)) (sym (one other h)) d)
+-- the first machine with a conflict
+pub first_fault : (net : Network) (place : ℕ) (machine : Machine) (cause : Cause) → slice_get net.machines place ≡ Some machine → AreBefore net place
+    → IsMachineFault net machine cause → IsConflictFault net cause
+first_fault net place machine (Conflict printed) there before h = record { place = place; machine = machine; there = there; before = before; conflict = h }
+first_fault net place machine Wanting there before h = tt
+first_fault net place machine other there before h = absurd h
+
+-- a conflict of the one network of a text
+pub net_fault : (text : List ℕ) (net : Network) (cause : Cause) → NetOf text net → ((other : Network) → NetOf text other → other ≡ net)
+    → IsConflictFault net cause → IsNetFault text cause
+net_fault text net (Conflict printed) is one h = (net, is, λ other o. subst (λ (n : Network). IsConflictFault n (Conflict printed)) (sym (one other o)) h)
+net_fault text net Wanting is one h = tt
+net_fault text net other is one h = absurd h
+
+-- a network text is held under the name, and accepted
+pub net_held : (o : Option Files) (name text : List ℕ) (net : Network) → WhereTold o (λ files. HoldsText files text_max name text) → Accepted text net
+    → WhereTold o (λ files. HoldsNet files name net)
+net_held o name text net held accepted =
+    told_from o (λ files. HoldsText files text_max name text) _ (λ files h. record { text = text; holds = h; accepted = accepted }) held
+
+-- a network text is held under the name, and has a fault
+pub net_faulty : (o : Option Files) (name text : List ℕ) (cause : Cause) → WhereTold o (λ files. HoldsText files text_max name text) → IsNetFault text cause
+    → WhereTold o (λ files. NetFails files name cause)
+net_faulty o name text cause held fault = told_from o (λ files. HoldsText files text_max name text) _ (λ files h. inr (text, h, fault)) held
+
+-- a trace text of the network is held under the name, and has a fault
+pub trace_faulty : (o : Option Files) (net : Network) (name text : List ℕ) (cause : Cause) → WhereTold o (λ files. HoldsText files text_max name text) → IsTraceFault net text cause
+    → WhereTold o (λ files. TraceFails files net name cause)
+trace_faulty o net name text cause held fault = told_from o (λ files. HoldsText files text_max name text) _ (λ files h. inr (text, h, fault)) held
+
+-- a file isn't loaded
+pub net_unloaded : (o : Option Files) (name : List ℕ) (cause : Cause) → WhereTold o (λ files. LoadFails files text_max name cause) → WhereTold o (λ files. NetFails files name cause)
+net_unloaded o name cause fails = told_from o (λ files. LoadFails files text_max name cause) _ (λ files h. inl h) fails

@@ -7,52 +7,71 @@ use Rattle.polis_base.specs.Held.{held_elsewhere}
 use Rattle.transition_table.specs.declared.machine.Machine.{Machine}
 use Rattle.transition_table.specs.Transitions.{AreDeterministic}
 use Rattle.transition_table.specs.Laws.{OneRow}
-use Rattle.net_core.specs.Samples.{lamp, lamp_ctl, press, lamp_run}
-use Rattle.net_core.specs.Worked.{IsRun}
-use Rattle.polis_cli.specs.declared.status.Status.TheVariants.{Done}
-use Rattle.polis_cli.specs.Texts.{line}
-use Rattle.polis_cli.specs.Samples.{lamp_text, press_text, lamp_journal, lamp_summary}
-use Rattle.polis_cli.specs.LampRun.{lamp_words, lamp_asked, files_before, files_behind}
-use Rattle.polis_cli.specs.Top.{IsRunOf, RanAndWrote}
-use Rattle.polis_cli.proofs.LampText.{lamp_text_of}
+use Rattle.journals.specs.Samples.{lamp, lamp_ctl, press, lamp_run}
+use Rattle.journals.specs.Worked.{IsRun}
+use Rattle.polis_words.specs.declared.status.Status.TheVariants.{Done}
+use Rattle.polis_words.specs.declared.requests.Request.TheVariants.{Run}
+use Rattle.polis_cli.specs.declared.product.Product.{Product}
+use Rattle.polis_words.specs.Texts.{line}
+use Rattle.net_reader.specs.Samples.{lamp_text}
+use Rattle.polis_cli.specs.Samples.{press_text, lamp_journal, lamp_summary}
+use Rattle.polis_cli.specs.LampRun.{lamp_words, lamp_asked, files_before, files_after}
+use Rattle.polis_cli.specs.Runs.{MakesRun}
+use Rattle.polis_cli.specs.Top.{MadeAndWritten}
+use Rattle.net_rules.specs.NetOf.{NetOf}
 
 lamp_deterministic : OneRow → AreDeterministic lamp
 lamp_deterministic one zero m e = let same : lamp_ctl ≡ m = cc in one m (subst (λ (n : Machine). length n.rows ≤ 1) same (lit≤ tt))
 lamp_deterministic one (suc k) m e = cc
 
-lamp_made : OneRow → IsRun lamp press lamp_run ((1, 1) ∷ []) 0 → IsRunOf lamp_asked files_before lamp press lamp_run true
-lamp_made one run = record {
+abbrev lamp_product : Product
+lamp_product = record {
+  saves = record { name = codes "o.out"; text = line (codes "light") } ∷ record { name = codes "o.jnl"; text = lamp_journal } ∷ [];
+  shown = lamp_summary;
+  status = Done;
+}
+
+lamp_made : NetOf lamp_text lamp → OneRow → IsRun lamp press lamp_run ((1, 1) ∷ []) 0 → MakesRun lamp_asked files_before lamp_product
+unfolding digits
+lamp_made net one run = record {
+  net = lamp;
+  trace = press;
   holds_net = record {
     text = lamp_text;
-    held = get-insert nat_list_cmp_total (insert empty (codes "net") lamp_text) (codes "trc") press_text (codes "net") ∙ get-insert nat_list_cmp_total empty (codes "net") lamp_text (codes "net");
-    within = lit≤ tt;
-    accepted = (lamp_text_of, lamp_deterministic one);
+    holds = record {
+      held = get-insert nat_list_cmp_total (insert empty (codes "net") lamp_text) (codes "trc") press_text (codes "net") ∙ get-insert nat_list_cmp_total empty (codes "net") lamp_text (codes "net");
+      within = lit≤ tt;
+    };
+    accepted = (net, lamp_deterministic one);
   };
   holds_trace = record {
     text = press_text;
-    held = get-insert nat_list_cmp_total (insert empty (codes "net") lamp_text) (codes "trc") press_text (codes "trc");
-    within = lit≤ tt;
+    holds = record { held = get-insert nat_list_cmp_total (insert empty (codes "net") lamp_text) (codes "trc") press_text (codes "trc"); within = lit≤ tt };
     read = refl;
   };
-  within = lit≤ tt;
-  legal = run.legal;
-  scheduled = record { follows = run.follows; whole = inr (lit< tt, run.stops) };
-  ends = (λ _. run.complete, λ _. refl);
+  made = record {
+    journal = lamp_run;
+    complete = true;
+    within = lit≤ tt;
+    legal = run.legal;
+    scheduled = record { follows = run.follows; whole = inr (lit< tt, run.stops) };
+    ends = (refl, run.complete);
+    saves = refl;
+    shown = refl;
+  };
 }
 
-pub lamp_row : OneRow → IsRun lamp press lamp_run ((1, 1) ∷ []) 0 → RanAndWrote Done lamp_words files_before files_behind (Some []) (Some lamp_summary)
-unfolding digits
-lamp_row one run = record {
-  run = lamp_asked;
+pub lamp_row : NetOf lamp_text lamp → OneRow → IsRun lamp press lamp_run ((1, 1) ∷ []) 0 → MadeAndWritten Done lamp_words files_before files_after (Some []) (Some lamp_summary)
+lamp_row net one run = record {
+  request = Run lamp_asked;
   asked = record { options = []; form = refl; net = (lit≤ tt, lit≤ tt); trace = (lit≤ tt, lit≤ tt); stem = (lit≤ tt, lit≤ tt); limit = inl (refl, refl) };
-  net = lamp;
-  trace = press;
-  journal = lamp_run;
-  complete = true;
-  made = lamp_made one run;
-  ends = (refl, run.complete);
-  journal_saved = get-insert nat_list_cmp_total (insert files_before (codes "o.out") (line (codes "light"))) (codes "o.jnl") lamp_journal (codes "o.jnl");
-  outputs_saved = get-insert nat_list_cmp_total (insert files_before (codes "o.out") (line (codes "light"))) (codes "o.jnl") lamp_journal (codes "o.out") ∙ get-insert nat_list_cmp_total files_before (codes "o.out") (line (codes "light")) (codes "o.out");
-  summary_shown = refl;
-  other_names = λ name out jnl. held_elsewhere (insert files_before (codes "o.out") (line (codes "light"))) (codes "o.jnl") lamp_journal name jnl ∙ held_elsewhere files_before (codes "o.out") (line (codes "light")) name out;
+  product = lamp_product;
+  made = lamp_made net one run;
+  ends = refl;
+  saved = (
+    get-insert nat_list_cmp_total (insert files_before (codes "o.out") (line (codes "light"))) (codes "o.jnl") lamp_journal (codes "o.out") ∙ get-insert nat_list_cmp_total files_before (codes "o.out") (line (codes "light")) (codes "o.out"),
+    (get-insert nat_list_cmp_total (insert files_before (codes "o.out") (line (codes "light"))) (codes "o.jnl") lamp_journal (codes "o.jnl"), tt),
+  );
+  other_names = λ name other. held_elsewhere (insert files_before (codes "o.out") (line (codes "light"))) (codes "o.jnl") lamp_journal name other.1.0 ∙ held_elsewhere files_before (codes "o.out") (line (codes "light")) name other.0;
+  shown = refl;
 }

@@ -1,10 +1,11 @@
--- A call on the lamp and one press: its words, and the files before and behind it.
+-- A call on the lamp and one press: its words, and the files before and after it.
 use Rattle.std.specs.Prelude.{ℕ, List, [], ◌∷◌, codes}
 use Rattle.std.specs.FinMap.{empty, insert}
 use Rattle.polis_base.specs.Host.{Files}
-use Rattle.polis_cli.specs.Form.{RunWords, entry_max}
-use Rattle.polis_cli.specs.Texts.{line}
-use Rattle.polis_cli.specs.Samples.{lamp_text, press_text, lamp_journal}
+use Rattle.polis_words.specs.Run.{RunWords, entry_max}
+use Rattle.polis_words.specs.Texts.{line}
+use Rattle.net_reader.specs.Samples.{lamp_text}
+use Rattle.polis_cli.specs.Samples.{press_text, lamp_journal}
 
 abbrev pub lamp_words : List (List ℕ)
 lamp_words = codes "run" ∷ codes "net" ∷ codes "trc" ∷ codes "o" ∷ []
@@ -15,5 +16,5 @@ lamp_asked = record { net = codes "net"; trace = codes "trc"; stem = codes "o"; 
 abbrev pub files_before : Files
 files_before = insert (insert empty (codes "net") lamp_text) (codes "trc") press_text
 
-abbrev pub files_behind : Files
-files_behind = insert (insert files_before (codes "o.out") (line (codes "light"))) (codes "o.jnl") lamp_journal
+abbrev pub files_after : Files
+files_after = insert (insert files_before (codes "o.out") (line (codes "light"))) (codes "o.jnl") lamp_journal

@@ -1,28 +1,6 @@
--- The lamp's texts, as bytes.
+-- Texts of traces and runs, as bytes.
 use Rattle.std.specs.Prelude.{ℕ, List, [], ◌∷◌, ◌++◌, codes}
-use Rattle.polis_cli.specs.declared.lamp.Lamp.{Lamp}
-use Rattle.polis_cli.specs.Texts.{line}
-
-abbrev pub lamp_text : List ℕ
-lamp_text =
-    line (codes "network lamp version 1") ++ line (codes "domain bit = { off, on }") ++ line (codes "event press from env") ++ line (codes "event light to env")
-    ++ line (codes "machine lamp_ctl priority 1 {") ++ line (codes "  input press") ++ line (codes "  output light") ++ line (codes "  state s : bit = off")
-    ++ line (codes "  when press, s = off do s := on, emit light") ++ line (codes "}")
-
-abbrev pub lamp_names : Lamp
-lamp_names = record {
-  network = codes "lamp";
-  domain = codes "bit";
-  values = codes "off" ∷ codes "on" ∷ [];
-  input = codes "press";
-  output = codes "light";
-  machine = codes "lamp_ctl";
-  priority = 1;
-  state = codes "s";
-  init = codes "off";
-  from = codes "off";
-  to = codes "on";
-}
+use Rattle.polis_words.specs.Texts.{line}
 
 abbrev pub press_text : List ℕ
 press_text = line (codes "press")

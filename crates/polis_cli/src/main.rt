@@ -1,23 +1,21 @@
-// The program: its words, its files and its one call that does the work.
+// The program: its command line, its files and its one call that does the work.
 #![tactic(auto)]
 
-mod failure;
-mod form;
-mod lamp;
+mod accept;
+mod check;
 mod load;
-mod make;
-mod print;
+mod product;
+mod run;
 mod show;
-mod status;
 #[cfg(test)]
 mod tests;
 mod top;
 mod worked;
 mod write;
 
-use crate::status::Status;
 use crate::top::polis;
 use polis_base::{Host, NoMemory, Save, StdHost, Words};
+use polis_words::Status;
 use std::io::ErrorKind;
 use std::process::ExitCode;
 use std::{env, io};
@@ -26,6 +24,8 @@ const HELP: &[u8] = b"polis run NET TRACE STEM [--limit N]
     runs the network text NET on the trace text TRACE, saves the output events as
     STEM.out and the journal as STEM.jnl, and shows a summary; N is the most entries
     of the journal, from 1 to 60000, and 60000 without the option
+polis check NET
+    says whether the network text NET is accepted, and shows how large it is
 polis --help
     shows these forms
 polis --version
@@ -58,7 +58,7 @@ impl From<io::Error> for Unread {
     }
 }
 
-// The words behind the program's name.
+// The words after the program's name.
 fn read_words(rt: &HostRuntime) -> Result<Words, Unread> {
     let mut words = Words::new(rt.alloc());
     for word in env::args(rt)?.skip(1) {

@@ -1,35 +1,19 @@
-// What no clause says: that a run is made where there is memory, and the texts of whole calls.
-use crate::status::Status;
+// What no clause says: that a product is made where there is memory, and the texts of whole calls.
 use crate::top::polis;
 use polis_base::{Bytes, MemoryHost, NoMemory, Words};
+use polis_words::Status;
 use std::alloc::Global;
 use std::process::Abort;
 use std::test::Fail;
 
-const LAMP: &str = "network lamp version 1
-domain bit = { off, on }
-event press from env
-event light to env
-machine lamp_ctl priority 1 {
-  input press
-  output light
-  state s : bit = off
-  when press, s = off do s := on, emit light
-}
-";
+mod networks;
+mod rows;
 
-const JOIN: &str = "network join version 1
-event a from env
-event b from env
-event c to env
-machine m priority 0 {
-  input a, b
-  output c
-  when a, b do emit c
-}
-";
+use crate::tests::networks::LAMP;
 
 const RUN: &[&str] = &["run", "net", "trc", "o"];
+
+const CHECK: &[&str] = &["check", "net"];
 
 const PRESSED: &str = "polis journal 1
 dep env lamp_ctl press
@@ -37,50 +21,42 @@ fire lamp_ctl : press ; s=off -> s=on ; light
 end 2 complete
 ";
 
-// A call: the files before it, the host's call that fails, the words, and what is wanted behind it.
+const PRESSED_SHOWN: &str = "entries 2 complete\nlost 0\ngathered 0 adopted 0\n";
+
+// A call: its command line, the files before it, the host's call that fails, and what is wanted after it.
 #[derive(Clone, Copy)]
 struct Case<'a> {
+    words: &'a [&'a str],
     net: Option<&'a str>,
     trace: Option<&'a str>,
     fails: Option<u64>,
-    words: &'a [&'a str],
     status: Status,
     shown: &'a str,
     outputs: Option<&'a str>,
     journal: Option<&'a str>,
+    load_faults: u64,
+    write_faults: u64,
 }
 
 // The lamp on one press.
 const PRESS: Case<'static> = Case {
+    words: RUN,
     net: Some(LAMP),
     trace: Some("press\n"),
     fails: None,
-    words: RUN,
     status: Status::Done,
-    shown: "entries 2 complete\nlost 0\ngathered 0 adopted 0\n",
+    shown: PRESSED_SHOWN,
     outputs: Some("light\n"),
     journal: Some(PRESSED),
+    load_faults: 0,
+    write_faults: 0,
 };
 
-// A call that shows a line and saves nothing.
-fn refusal<'a>(trace: &'a str, shown: &'a str) -> Case<'a> {
+// The lamp on one press, in a call that shows a line and saves nothing.
+fn refusal<'a>(words: &'a [&'a str], shown: &'a str) -> Case<'a> {
     Case {
-        net: Some(LAMP),
-        trace: Some(trace),
-        fails: None,
-        words: RUN,
+        words,
         status: Status::Refused,
-        shown,
-        outputs: None,
-        journal: None,
-    }
-}
-
-// The lamp on one press, where a call of the host fails.
-fn fault<'a>(fails: u64, status: Status, shown: &'a str) -> Case<'a> {
-    Case {
-        fails: Some(fails),
-        status,
         shown,
         outputs: None,
         journal: None,
@@ -88,17 +64,31 @@ fn fault<'a>(fails: u64, status: Status, shown: &'a str) -> Case<'a> {
     }
 }
 
+// The lamp on one press, where a save or a show fails.
+fn write_fault<'a>(fails: u64, shown: &'a str) -> Case<'a> {
+    Case {
+        fails: Some(fails),
+        status: Status::WriteFault,
+        write_faults: 1,
+        ..refusal(RUN, shown)
+    }
+}
+
+// The lamp on one press, where a load fails.
+fn read_fault<'a>(fails: u64, shown: &'a str) -> Case<'a> {
+    Case {
+        fails: Some(fails),
+        status: Status::ReadFault,
+        load_faults: 1,
+        ..refusal(RUN, shown)
+    }
+}
+
 // Words that ask for nothing.
 fn usage<'a>(words: &'a [&'a str]) -> Case<'a> {
     Case {
-        net: Some(LAMP),
-        trace: Some("press\n"),
-        fails: None,
-        words,
         status: Status::Usage,
-        shown: "usage\n",
-        outputs: None,
-        journal: None,
+        ..refusal(words, "usage\n")
     }
 }
 
@@ -149,6 +139,14 @@ fn try_case(rt: &impl Abort, alloc: Global, case: &Case<'_>, number: usize) -> R
         is_held(&host, "o.jnl", case.journal),
         "the journal of case {number}"
     );
+    assert!(rt;
+        is_held(&host, "net", case.net) && is_held(&host, "trc", case.trace),
+        "the files that case {number} reads"
+    );
+    assert!(rt;
+        host.load_faults() == case.load_faults && host.write_faults() == case.write_faults,
+        "the faults of case {number}"
+    );
     Ok(())
 }
 
@@ -157,111 +155,6 @@ fn try_cases(rt: &impl Abort, alloc: Global, cases: &[Case<'_>]) -> Result<(), F
         try_case(rt, alloc, case, number)?;
     }
     Ok(())
-}
-
-#[test]
-fn runs_the_lamp(rt: HostRuntime) -> Result<(), Fail> {
-    let empty = Case {
-        trace: Some(""),
-        shown: "entries 0 complete\nlost 0\ngathered 0 adopted 0\n",
-        outputs: Some(""),
-        journal: Some("polis journal 1\nend 0 complete\n"),
-        ..PRESS
-    };
-    let settled = Case {
-        trace: Some("press\nsettle\npress\n"),
-        shown: "entries 4 complete\nlost 0\ngathered 0 adopted 0\n",
-        journal: Some(
-            "polis journal 1\ndep env lamp_ctl press\nfire lamp_ctl : press ; s=off -> s=on ; light\ndep env lamp_ctl press\nidle lamp_ctl : press ; s=on\nend 4 complete\n",
-        ),
-        ..PRESS
-    };
-    let overwritten = Case {
-        trace: Some("press\npress\n"),
-        shown: "entries 3 complete\nlost 1\ngathered 0 adopted 0\n",
-        journal: Some(
-            "polis journal 1\ndep env lamp_ctl press\ndep env lamp_ctl press\nfire lamp_ctl : press ; s=off -> s=on ; light\nend 3 complete\n",
-        ),
-        ..PRESS
-    };
-    try_cases(&rt, rt.alloc(), &[PRESS, empty, settled, overwritten])
-}
-
-#[test]
-fn ends_at_the_limit(rt: HostRuntime) -> Result<(), Fail> {
-    let whole = Case {
-        words: &["run", "net", "trc", "o", "--limit", "2"],
-        ..PRESS
-    };
-    let cut = Case {
-        words: &["run", "net", "trc", "o", "--limit", "1"],
-        status: Status::Limit,
-        shown: "entries 1 limit\nlost 0\ngathered 0 adopted 0\n",
-        outputs: Some(""),
-        journal: Some("polis journal 1\ndep env lamp_ctl press\nend 1 limit\n"),
-        ..PRESS
-    };
-    try_cases(&rt, rt.alloc(), &[whole, cut])
-}
-
-#[test]
-fn refuses_faulty_texts(rt: HostRuntime) -> Result<(), Fail> {
-    let other_form = Case {
-        net: Some(JOIN),
-        ..refusal("a\n", "refused net notyet\n")
-    };
-    let no_net = Case {
-        net: None,
-        ..refusal("press\n", "refused net absent\n")
-    };
-    let no_trace = Case {
-        trace: None,
-        ..refusal("", "refused trc absent\n")
-    };
-    try_cases(
-        &rt,
-        rt.alloc(),
-        &[
-            refusal("press\nfoo\n", "refused trc line 2 event\n"),
-            refusal("press 1\n", "refused trc line 1 value\n"),
-            refusal("settle press\n", "refused trc line 1 shape\n"),
-            other_form,
-            no_net,
-            no_trace,
-        ],
-    )
-}
-
-// A network text that is refused.
-fn bad_net<'a>(net: &'a str, shown: &'a str) -> Case<'a> {
-    Case {
-        net: Some(net),
-        ..refusal("press\n", shown)
-    }
-}
-
-#[test]
-fn refuses_faulty_networks(rt: HostRuntime) -> Result<(), Fail> {
-    let open_row = "network t version 1 event g from env machine a priority 0 { input g when g do";
-    try_cases(
-        &rt,
-        rt.alloc(),
-        &[
-            bad_net("network %", "refused net lex byte 8\n"),
-            bad_net(
-                "network abcdefghijklmnopqrstuvwxy",
-                "refused net lex name 8\n",
-            ),
-            bad_net(
-                "network t version 4294967296",
-                "refused net lex number 18\n",
-            ),
-            bad_net(open_row, "refused net syntax 77\n"),
-            bad_net("network t version 1 version", "refused net syntax 20\n"),
-            bad_net("", "refused net syntax 0\n"),
-            bad_net("network t network %", "refused net lex byte 18\n"),
-        ],
-    )
 }
 
 #[test]
@@ -283,6 +176,9 @@ fn answers_usage(rt: HostRuntime) -> Result<(), Fail> {
             usage(&["run", "net", "trc", "o", "--limit"]),
             usage(&["run", "net", "trc", "o", "--limit", "5", "--limit", "5"]),
             usage(&["run", "net", "", "o"]),
+            usage(&["check"]),
+            usage(&["check", ""]),
+            usage(&["check", "net", "trc"]),
             usage(&["demo", "007"]),
         ],
     )
@@ -292,28 +188,65 @@ fn answers_usage(rt: HostRuntime) -> Result<(), Fail> {
 fn tells_of_faults(rt: HostRuntime) -> Result<(), Fail> {
     let second_save = Case {
         outputs: Some("light\n"),
-        ..fault(3, Status::WriteFault, "write fault o.jnl\n")
+        ..write_fault(3, "write fault o.jnl\n")
     };
     let summary = Case {
         outputs: Some("light\n"),
         journal: Some(PRESSED),
-        ..fault(4, Status::WriteFault, "")
+        ..write_fault(4, "")
+    };
+    let no_call = Case {
+        fails: Some(5),
+        ..PRESS
+    };
+    let refused_line = Case {
+        net: Some("network %"),
+        status: Status::Refused,
+        ..write_fault(1, "")
+    };
+    let finding = Case {
+        words: CHECK,
+        ..write_fault(1, "")
     };
     try_cases(
         &rt,
         rt.alloc(),
         &[
-            fault(0, Status::ReadFault, "read fault net\n"),
-            fault(1, Status::ReadFault, "read fault trc\n"),
-            fault(2, Status::WriteFault, "write fault o.out\n"),
+            read_fault(0, "read fault net\n"),
+            read_fault(1, "read fault trc\n"),
+            write_fault(2, "write fault o.out\n"),
             second_save,
             summary,
+            no_call,
+            refused_line,
+            finding,
         ],
     )
 }
 
-// The lamp on one press, its network text padded to so many bytes.
-fn run_padded(alloc: Global, len: usize) -> Result<(Status, MemoryHost), NoMemory> {
+#[test]
+fn refuses_absent_files(rt: HostRuntime) -> Result<(), Fail> {
+    let no_net = Case {
+        net: None,
+        ..refusal(RUN, "refused net absent\n")
+    };
+    let no_trace = Case {
+        trace: None,
+        ..refusal(RUN, "refused trc absent\n")
+    };
+    let unchecked = Case {
+        net: None,
+        ..refusal(CHECK, "refused net absent\n")
+    };
+    try_cases(&rt, rt.alloc(), &[no_net, no_trace, unchecked])
+}
+
+// A call on the lamp and one press, its network text padded to so many bytes.
+fn call_padded(
+    alloc: Global,
+    words: &[&str],
+    len: usize,
+) -> Result<(Status, MemoryHost), NoMemory> {
     let mut text = Bytes::new(alloc);
     text.push(LAMP.as_bytes())?;
     for _ in LAMP.len()..len {
@@ -322,20 +255,18 @@ fn run_padded(alloc: Global, len: usize) -> Result<(Status, MemoryHost), NoMemor
     let mut host = MemoryHost::new(alloc);
     host.put("net", text.as_slice())?;
     host.put("trc", b"press\n")?;
-    let words = make_words(alloc, RUN)?;
+    let words = make_words(alloc, words)?;
     let status = polis(alloc, &words, &mut host);
     Ok((status, host))
 }
 
 #[test]
 fn refuses_long_files(rt: HostRuntime) -> Result<(), Fail> {
-    let (status, host) = run_padded(rt.alloc(), 4_194_304)?;
+    let (status, host) = call_padded(rt.alloc(), RUN, 4_194_304)?;
     assert!(rt; status == Status::Done);
     assert!(rt; is_held(&host, "o.jnl", Some(PRESSED)));
-    let (status, host) = run_padded(rt.alloc(), 4_194_305)?;
+    let (status, host) = call_padded(rt.alloc(), CHECK, 4_194_305)?;
     assert!(rt; status == Status::Refused);
     assert!(rt; host.shown() == b"refused net long\n".as_slice());
-    assert!(rt; is_held(&host, "o.out", None));
-    assert!(rt; is_held(&host, "o.jnl", None));
     Ok(())
 }

@@ -1,10 +1,6 @@
 use Rattle.std.proofs.Common.{refl}
 use Rattle.std.specs.Fmt.{digits}
-use Rattle.polis_cli.proofs.LampText.{lamp_text_of}
 use Rattle.polis_cli.proofs.worked.worked_texts.Goals as goal
-
-pub returns-clause-network : goal.returns-clause-network
-returns-clause-network c = lamp_text_of
 
 pub returns-clause-trace : goal.returns-clause-trace
 returns-clause-trace c = refl

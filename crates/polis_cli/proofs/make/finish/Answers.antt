@@ -1,8 +1,0 @@
-use Rattle.polis_cli.proofs.Finishing.{finished_is}
-use Rattle.polis_cli.proofs.make.finish.Goals as goal
-
-pub returns-in-Ok : goal.returns-in-Ok
-returns-in-Ok c =
-    finished_is c.args.inputs.now.net c.args.inputs.now.trace c.args.limit c.in-Ok.finished.journal c.in-Ok.finished.complete c.laws.ensures.stops
-    (rw c.new-reactor.ensures at c.in-Ok.ensures.legal) c.in-Ok.ensures.within (rw c.new-reactor.ensures at (c.in-Ok.ensures.schedule c.new.ensures))
-    (rw c.new-reactor.ensures at c.in-Ok.ensures.complete) (rw c.new-reactor.ensures at c.in-Ok.ensures.ends)

@@ -1,0 +1,76 @@
+-- What `run` makes.
+use Rattle.std.specs.Prelude.{◌≡◌, ◌⊎◌, ◌↔◌, ℕ, ◌≤◌, Bool, true, false, List, [], ◌∷◌, length, IsTrue}
+use Rattle.polis_base.specs.Host.{Files}
+use Rattle.transition_table.specs.declared.network.Network.{Network}
+use Rattle.journals.specs.declared.entry.Entry.{Entry}
+use Rattle.journals.specs.declared.entry.TraceItem.{TraceItem}
+use Rattle.journals.specs.Legality.{Legal, Complete}
+use Rattle.journals.specs.Schedules.{IsSchedule}
+use Rattle.polis_words.specs.declared.cause.Cause.{Cause}
+use Rattle.polis_words.specs.declared.status.Status.{Status}
+use Rattle.polis_words.specs.declared.status.Status.TheVariants.{Done, Limit}
+use Rattle.polis_words.specs.Run.{RunWords, out_name, journal_name}
+use Rattle.polis_words.specs.Texts.{journal_text, output_text, summary_text}
+use Rattle.polis_cli.specs.declared.product.Product.{Product}
+use Rattle.polis_cli.specs.Saves.{Save}
+use Rattle.polis_cli.specs.Inputs.{HoldsNet, HoldsTrace, NetFails, TraceFails}
+
+-- how a run ends: with a complete journal, or with one at the limit that isn't
+abbrev pub Ends : Status → Network → List TraceItem → List Entry → ℕ → Bool → Type 0
+Ends Done net trace journal limit complete = (complete ≡ true) × Complete net trace journal
+Ends Limit net trace journal limit complete = (complete ≡ false) × (length journal ≡ limit) × (¬ Complete net trace journal)
+Ends other net trace journal limit complete = ⊥
+
+-- The saves of a run, in their order.
+abbrev pub run_saves : RunWords → Network → List Entry → Bool → List Save
+run_saves run net journal complete =
+    record { name = out_name run; text = output_text net journal } ∷ record { name = journal_name run; text = journal_text net journal complete } ∷ []
+
+-- The product's journal is what the scheduler makes of the network and the trace within the limit: a legal run of the network
+-- on the trace. The product is that journal's outputs, its text and its summary.
+pub record IsRunProduct (run : RunWords) (net : Network) (trace : List TraceItem) (product : Product) : Type 0 where
+  pub journal : List Entry
+  pub complete : Bool
+  pub within : length journal ≤ run.limit
+  pub legal : Legal net trace journal
+  pub scheduled : IsSchedule net trace run.limit journal
+  pub ends : Ends product.status net trace journal run.limit complete
+  pub saves : product.saves ≡ run_saves run net journal complete
+  pub shown : product.shown ≡ summary_text net journal complete 0 0
+
+-- the files hold a network and a trace that are accepted, and the product is that of their run
+pub record MakesRun (run : RunWords) (files : Files) (product : Product) : Type 0 where
+  pub net : Network
+  pub trace : List TraceItem
+  pub holds_net : HoldsNet files run.net net
+  pub holds_trace : HoldsTrace files run.trace net trace
+  pub made : IsRunProduct run net trace product
+
+-- both files are held, within their limits, and accepted
+abbrev pub AcceptsRun : RunWords → Files → Type 0
+AcceptsRun run files = (net : Network) × HoldsNet files run.net net × ((trace : List TraceItem) × HoldsTrace files run.trace net trace)
+
+-- Why a file of a run fails. The network text comes first: the trace is loaded only where it is accepted.
+abbrev pub FailsRun : RunWords → Files → List ℕ → Cause → Type 0
+FailsRun run files name cause =
+    ((name ≡ run.net) × NetFails files run.net cause)
+    ⊎ ((name ≡ run.trace) × (net : Network) × HoldsNet files run.net net × ((other : Network) → HoldsNet files run.net other → TraceFails files other run.trace cause))
+
+-- the statuses of a run whose files are accepted
+abbrev pub ends_run : Status → Bool
+ends_run Done = true
+ends_run Limit = true
+ends_run other = false
+
+-- the scheduler's journal of at most so many entries, with whether it is complete; where it isn't it has that many
+pub record IsFinished (net : Network) (trace : List TraceItem) (limit : ℕ) (journal : List Entry) (complete : Bool) : Type 0 where
+  pub within : length journal ≤ limit
+  pub legal : Legal net trace journal
+  pub scheduled : IsSchedule net trace limit journal
+  pub ends : IsTrue complete ↔ Complete net trace journal
+  pub limited : complete ≡ false → length journal ≡ limit
+
+-- the status of a run that was written
+abbrev pub end_status : Bool → Status
+end_status true = Done
+end_status false = Limit

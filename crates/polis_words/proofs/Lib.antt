@@ -1,0 +1,5 @@
+pub mod Asked
+pub mod RunAsked
+pub mod Snapshots
+pub mod MachineCodes
+pub mod TextLemmas

@@ -1,0 +1,11 @@
+use Rattle.polis_words.proofs.Asked.{run_alone, check_alone, neither}
+use Rattle.polis_words.proofs.requests.judge.Goals as goal
+
+pub returns-in-Some-clause-one : goal.returns-in-Some-clause-one
+returns-in-Some-clause-one c = run_alone c.args.words.now c.in-Some.run' c.in-Some.ensures.asks c.in-Some.ensures.one
+
+pub returns-in-Some-check_of-clause-one : goal.returns-in-Some-check_of-clause-one
+returns-in-Some-check_of-clause-one c = check_alone c.args.words.now c.in-Some-check_of.check c.in-Some-check_of.ensures.asks c.in-Some-check_of.ensures.one
+
+pub returns-in-None-check_of-clause-nothing : goal.returns-in-None-check_of-clause-nothing
+returns-in-None-check_of-clause-nothing c = neither c.args.words.now c.in-None.ensures.nothing c.in-None-check_of.ensures.nothing

@@ -1,0 +1,15 @@
+-- What a command line asks for.
+use Rattle.std.specs.Prelude.{ℕ, List}
+use Rattle.polis_words.specs.declared.requests.Request.{Request}
+use Rattle.polis_words.specs.declared.requests.Request.TheVariants.{Run, Check}
+use Rattle.polis_words.specs.Run.{AsksRun}
+use Rattle.polis_words.specs.Check.{AsksCheck}
+
+-- the command line has the form of this request
+abbrev pub Asks : List (List ℕ) → Request → Type 0
+Asks words (Run run) = AsksRun words run
+Asks words (Check check) = AsksCheck words check
+
+-- the command line has no request's form
+abbrev pub AsksNothing : List (List ℕ) → Type 0
+AsksNothing words = (request : Request) → ¬ Asks words request

@@ -1,0 +1,129 @@
+// The one line of a call that made no product, and that of a save that fails.
+ghost use Rattle.std.specs.Prelude.{◌≡◌, ◌++◌, decimal, [], ◌∷◌, codes, IfOk, OnOk};
+ghost use Rattle.polis_words.specs.Lines.{failure_line, kind_word, lex_word, refused, write_fault_line};
+
+use crate::cause::{Cause, Failure, LexKind};
+use polis_base::{Bytes, NoMemory};
+use std::alloc::Global;
+use trace_text::TraceKind;
+
+fn kind_text(kind: TraceKind) -> &'static [u8]
+    ensures { result.now ≡ kind_word kind }
+{
+    match kind {
+        TraceKind::Shape => b"shape",
+        TraceKind::Event => b"event",
+        TraceKind::Value => b"value",
+        TraceKind::Many => b"many",
+    }
+}
+
+fn lex_text(kind: LexKind) -> &'static [u8]
+    ensures { result.now ≡ lex_word kind }
+{
+    match kind {
+        LexKind::Byte => b"byte",
+        LexKind::Name => b"name",
+        LexKind::Number => b"number",
+    }
+}
+
+// Appends a word and a number.
+fn push_numbered(word: &[u8], number: u64, into: &mut Bytes) -> Result<(), NoMemory>
+    ensures { OnOk result (into.new ≡ into.old ++ word.now ++ codes " " ++ decimal number) }
+{
+    into.push(word)?;
+    into.push(b" ")?;
+    into.push_decimal(number)
+}
+
+// Appends the number of a line and what is wrong with it.
+fn push_line(line: u64, kind: TraceKind, into: &mut Bytes) -> Result<(), NoMemory>
+    ensures { OnOk result (into.new ≡ into.old ++ codes "line " ++ decimal line ++ codes " " ++ kind_word kind) }
+{
+    into.push(b"line ")?;
+    into.push_decimal(line)?;
+    into.push(b" ")?;
+    into.push(kind_text(kind))
+}
+
+// Appends what is wrong with the first token that doesn't read, and its place.
+fn push_lex(kind: LexKind, place: u64, into: &mut Bytes) -> Result<(), NoMemory>
+    ensures { OnOk result (into.new ≡ into.old ++ codes "lex " ++ lex_word kind ++ codes " " ++ decimal place) }
+{
+    into.push(b"lex ")?;
+    push_numbered(lex_text(kind), place, into)
+}
+
+// Appends the number of the rule that is broken, and the place.
+fn push_rule(rule: u8, place: u64, into: &mut Bytes) -> Result<(), NoMemory>
+    ensures { OnOk result (into.new ≡ into.old ++ codes "rule " ++ decimal rule ++ codes " " ++ decimal place) }
+{
+    into.push(b"rule ")?;
+    into.push_decimal(rule as u64)?;
+    into.push(b" ")?;
+    into.push_decimal(place)
+}
+
+// Appends the printed conflict.
+fn push_conflict(text: &[u8], into: &mut Bytes) -> Result<(), NoMemory>
+    ensures { OnOk result (into.new ≡ into.old ++ codes "conflict " ++ text.now) }
+{
+    into.push(b"conflict ")?;
+    into.push(text)
+}
+
+// Appends what stands before the cause in the line of a file that is refused.
+fn push_refused(name: &str, into: &mut Bytes) -> Result<(), NoMemory>
+    ensures { OnOk result (into.new ≡ into.old ++ codes "refused " ++ name.now ++ codes " ") }
+{
+    into.push(b"refused ")?;
+    into.push(name.as_bytes())?;
+    into.push(b" ")
+}
+
+// Appends the line of a file that isn't accepted, without its end.
+fn push_refusal(name: &str, cause: &Cause, into: &mut Bytes) -> Result<(), NoMemory>
+    ensures { OnOk result (into.new ≡ into.old ++ failure_line name.now cause.now) }
+{
+    match cause {
+        Cause::ReadFault => {
+            into.push(b"read fault ")?;
+            return into.push(name.as_bytes());
+        }
+        Cause::NoMemory => return into.push(b"no memory"),
+        _ => {}
+    }
+    push_refused(name, into)?;
+    match cause {
+        Cause::Absent => into.push(b"absent"),
+        Cause::TooLong => into.push(b"long"),
+        Cause::Lex { kind, place } => push_lex(*kind, *place, into),
+        Cause::Syntax { place } => push_numbered(b"syntax", *place, into),
+        Cause::Rule { rule, place } => push_rule(*rule, *place, into),
+        Cause::Conflict { text } => push_conflict(text.as_slice(), into),
+        Cause::Line { line, kind } => push_line(*line, *kind, into),
+        _ => Ok(()),
+    }
+}
+
+/// The line of a file that isn't read or isn't accepted, with its end.
+pub fn line_of(alloc: Global, failure: &Failure<'_>) -> Result<Bytes, NoMemory>
+    ensures { IfOk result (λ line. line ≡ failure_line failure.now.name.now failure.now.cause ++ 10 ∷ []) }
+{
+    let mut line = Bytes::new(alloc);
+    push_refusal(failure.name, &failure.cause, &mut line)?;
+    line.push(b"\n")?;
+    Ok(line)
+}
+
+/// The line of a save that fails, with its end.
+pub fn fault_line(alloc: Global, name: &str) -> Result<Bytes, NoMemory>
+    ensures { IfOk result (λ line. line ≡ write_fault_line name.now) }
+{
+    let mut line = Bytes::new(alloc);
+    line.push(b"write fault ")?;
+    line.push(name.as_bytes())?;
+    line.push(b"\n")?;
+    Ok(line)
+}

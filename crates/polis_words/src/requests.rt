@@ -1,0 +1,39 @@
+// What a command line asks for.
+ghost use Rattle.std.specs.Prelude.{◌≡◌, IfSome, IfNone};
+ghost use Rattle.polis_words.specs.declared.requests.Request.{Request};
+ghost use Rattle.polis_words.specs.Requests.{Asks, AsksNothing};
+
+mod checking;
+mod file_word;
+mod running;
+
+pub use checking::Check;
+use checking::check_of;
+use polis_base::Words;
+pub use running::Run;
+use running::run_of;
+
+/// What a command line asks for, one variant for each command.
+#[derive(Drop)]
+pub enum Request<'a> {
+    /// To run a network on a trace.
+    Run(Run<'a>),
+    /// To say whether a network is accepted.
+    Check(Check<'a>),
+}
+
+/// What the command line asks for, if it asks for anything.
+pub fn judge(words: &Words) -> Option<Request<'_>>
+    ensures asks { IfSome result (λ request. Asks words.now request) }
+    ensures one { IfSome result (λ request. (other : Request) → Asks words.now other → other ≡ request) }
+    ensures nothing { IfNone result (AsksNothing words.now) }
+{
+    match run_of(words) {
+        Some(run) => return Some(Request::Run(run)),
+        None => {}
+    }
+    match check_of(words) {
+        Some(check) => Some(Request::Check(check)),
+        None => None,
+    }
+}

@@ -1,0 +1,10 @@
+// Words that name files.
+ghost use Rattle.std.specs.Prelude.{◌↔◌, IsTrue};
+ghost use Rattle.polis_words.specs.FileWords.{IsFileWord};
+
+/// Whether a word may be a file's name.
+pub fn is_file_word(word: &str) -> bool
+    ensures { IsTrue result ↔ IsFileWord word.now }
+{
+    1 <= word.len() && word.len() <= 200
+}

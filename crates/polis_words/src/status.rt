@@ -1,0 +1,24 @@
+// How a call of the program ends.
+
+/// The answer of a call. Its number is the status with which the program ends.
+#[derive(Clone, Copy, Debug, PartialEq, Eq)]
+pub enum Status {
+    /// The run was made and written, and its journal is complete.
+    Done = 0,
+    /// The words are of no form.
+    Usage = 1,
+    /// A file couldn't be loaded.
+    ReadFault = 2,
+    /// A file isn't held, is too long or isn't accepted.
+    Refused = 3,
+    /// The run was made and written, and its journal ended at its limit of entries.
+    Limit = 4,
+    /// A save failed, or the show of the summary.
+    WriteFault = 5,
+    /// Out of memory.
+    NoMemory = 6,
+    /// A journal that was read isn't legal. No command answers it yet.
+    Illegal = 7,
+    /// Two machines differ. No command answers it yet.
+    Differ = 8,
+}

@@ -10,8 +10,8 @@ use Rattle.decision_diagram.specs.Found.{found}
 use Rattle.decision_diagram.specs.Diagrams.{Diagrams, inner_at, shape_in, kids_in, level_in, level_of, IsNode, IsReducedNode, AreReduced, Keeps, IsNew}
 use Rattle.decision_diagram.specs.Stores.{IsIndexed}
 use Rattle.decision_diagram.proofs.Lookups.{bytes_same, bytes_self}
-use Rattle.decision_diagram.proofs.Nodes.{inner_front, inner_last, inner_within}
-use Rattle.decision_diagram.proofs.Values.{follow_front}
+use Rattle.decision_diagram.proofs.Nodes.{inner_prefix, inner_last, inner_within}
+use Rattle.decision_diagram.proofs.Values.{follow_prefix}
 
 -- the diagrams with one more inner node
 abbrev pub with_node : Diagrams → Node → Diagrams
@@ -37,10 +37,10 @@ keeps_node s ok node = record {
   sizes = refl;
   order = refl;
   nodes = λ n h. omega (arith, length_push s.nodes node);
-  values = λ n codes h. ap (λ (m : ℕ). eqb m 1) (follow_front s ok (node ∷ []) s.order codes n h);
-  shapes = λ n h. ap (shape_in n) (inner_front s.nodes (node ∷ []) n h);
-  children = λ n h. ap kids_in (inner_front s.nodes (node ∷ []) n h);
-  levels = λ n h. ap (level_in s.order) (inner_front s.nodes (node ∷ []) n h);
+  values = λ n codes h. ap (λ (m : ℕ). eqb m 1) (follow_prefix s ok (node ∷ []) s.order codes n h);
+  shapes = λ n h. ap (shape_in n) (inner_prefix s.nodes (node ∷ []) n h);
+  children = λ n h. ap kids_in (inner_prefix s.nodes (node ∷ []) n h);
+  levels = λ n h. ap (level_in s.order) (inner_prefix s.nodes (node ∷ []) n h);
 }
 
 pub keeps_level : (old new : Diagrams) → Keeps old new → (n : ℕ) → IsNode old n → level_of new n ≡ level_of old n
@@ -51,7 +51,7 @@ keeps_level old new keeps n h = keeps.levels n h
 cases_node : (s : Diagrams) (node : Node) (n : ℕ) (other : Node) → inner_at (s.nodes ++ node ∷ []) n ≡ Some other → (inner_at s.nodes n ≡ Some other) ⊎ ((n ≡ length s.nodes + 2) × (other ≡ node))
 cases_node s node n other is =
     ⊎_elim
-    (λ old. inl (sym (inner_front s.nodes (node ∷ []) n old) ∙ is))
+    (λ old. inl (sym (inner_prefix s.nodes (node ∷ []) n old) ∙ is))
     (λ past.
     let w = inner_within (s.nodes ++ node ∷ []) n other is in
     let e : n ≡ length s.nodes + 2 = omega (arith, length_push s.nodes node) in
@@ -152,7 +152,7 @@ indexed_more s node old new key number ok fresh key_is number_is after = record 
       (λ apart.
       let w = ok.entered q n (sym (after q ∙ cond-false (bytes_eq key q) (Some number) (found old q) apart) ∙ is) in
       let inside = inner_within s.nodes n w.0 w.1 in
-      (w.0, inner_front s.nodes (node ∷ []) n inside.1 ∙ w.1, w.2))
+      (w.0, inner_prefix s.nodes (node ∷ []) n inside.1 ∙ w.1, w.2))
       (cases_Bool (bytes_eq key q));
 }
 

@@ -5,10 +5,10 @@ use Rattle.decision_diagram.specs.declared.node.Node.{Node}
 use Rattle.decision_diagram.specs.Diagrams.{inner_at, step}
 use Rattle.decision_diagram.proofs.Lists.{read_some}
 
-get_front : (nodes more : List Node) (k : ℕ) → k < length nodes → slice_get (nodes ++ more) k ≡ slice_get nodes k
-get_front [] more k h = absurd (omega arith)
-get_front (x ∷ xs) more zero h = refl
-get_front (x ∷ xs) more (suc k) h = get_front xs more k (omega arith)
+get_prefix : (nodes more : List Node) (k : ℕ) → k < length nodes → slice_get (nodes ++ more) k ≡ slice_get nodes k
+get_prefix [] more k h = absurd (omega arith)
+get_prefix (x ∷ xs) more zero h = refl
+get_prefix (x ∷ xs) more (suc k) h = get_prefix xs more k (omega arith)
 
 get_last : (nodes : List Node) (node : Node) → slice_get (nodes ++ node ∷ []) (length nodes) ≡ Some node
 get_last [] node = refl
@@ -30,11 +30,11 @@ pub inner_low : (nodes : List Node) (n : ℕ) → n < 2 → inner_at nodes n ≡
 inner_low nodes n h = low nodes n h
 
 -- earlier nodes stay when more are added
-pub inner_front : (nodes more : List Node) (n : ℕ) → n < length nodes + 2 → inner_at (nodes ++ more) n ≡ inner_at nodes n
-inner_front nodes more n h =
+pub inner_prefix : (nodes more : List Node) (n : ℕ) → n < length nodes + 2 → inner_at (nodes ++ more) n ≡ inner_at nodes n
+inner_prefix nodes more n h =
     ⊎_elim
     (λ small. low (nodes ++ more) n small ∙ sym (low nodes n small))
-    (λ large. high (nodes ++ more) n large ∙ get_front nodes more (n - 2) (omega arith) ∙ sym (high nodes n large))
+    (λ large. high (nodes ++ more) n large ∙ get_prefix nodes more (n - 2) (omega arith) ∙ sym (high nodes n large))
     (cases_lt n 2)
 
 -- the newest node
@@ -46,7 +46,7 @@ inner_last nodes node n is =
 pub inner_past : (nodes : List Node) (n : ℕ) → length nodes + 2 ≤ n → inner_at nodes n ≡ None
 inner_past nodes n h = high nodes n (omega arith) ∙ get_past nodes (n - 2) (omega arith)
 
--- an inner node has its number behind True's and below the number of all
+-- an inner node has its number after True's and below the number of all
 pub inner_within : (nodes : List Node) (n : ℕ) (node : Node) → inner_at nodes n ≡ Some node → (2 ≤ n) × (n < length nodes + 2)
 inner_within nodes n node is =
     ⊎_elim

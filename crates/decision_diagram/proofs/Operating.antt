@@ -88,15 +88,15 @@ parts_keeps old new newer op a b var kids n keeps parts = record {
 
 pub parts_more : (old new : Diagrams) (op : Operation) (a b var : ℕ) (kids : List ℕ) (n kid : ℕ) → AreParts old new op a b var kids n → IsNode new kid → place old.order var < level_of new kid → ((codes : List ℕ) → IsTrue (fits old.sizes codes) → slice_index codes var ≡ n → value_of new kid codes ≡ combine op (value_of old a codes) (value_of old b codes)) → AreParts old new op a b var (kids ++ kid ∷ []) (n + 1)
 parts_more old new op a b var kids n kid parts node later value =
-    let at_front : (code : ℕ) → code < n → slice_index (kids ++ kid ∷ []) code ≡ slice_index kids code = λ code h. let l = parts.long in get_or_append_left kids (kid ∷ []) 0 code (omega arith) in
+    let at_prefix : (code : ℕ) → code < n → slice_index (kids ++ kid ∷ []) code ≡ slice_index kids code = λ code h. let l = parts.long in get_or_append_left kids (kid ∷ []) 0 code (omega arith) in
     let at_end : (code : ℕ) → n ≤ code → code < n + 1 → slice_index (kids ++ kid ∷ []) code ≡ kid = λ code from to. let l = parts.long in get_or_push kids kid 0 code (omega arith) in
     record {
       long = let l = parts.long in length_push kids kid ∙ omega arith;
-      nodes = λ code h. ⊎_elim (λ front. subst (IsNode new) (sym (at_front code front)) (parts.nodes code front)) (λ now. subst (IsNode new) (sym (at_end code now h)) node) (cases_lt code n);
-      later = λ code h. ⊎_elim (λ front. subst (λ (m : ℕ). place old.order var < level_of new m) (sym (at_front code front)) (parts.later code front)) (λ now. subst (λ (m : ℕ). place old.order var < level_of new m) (sym (at_end code now h)) later) (cases_lt code n);
+      nodes = λ code h. ⊎_elim (λ prefix. subst (IsNode new) (sym (at_prefix code prefix)) (parts.nodes code prefix)) (λ now. subst (IsNode new) (sym (at_end code now h)) node) (cases_lt code n);
+      later = λ code h. ⊎_elim (λ prefix. subst (λ (m : ℕ). place old.order var < level_of new m) (sym (at_prefix code prefix)) (parts.later code prefix)) (λ now. subst (λ (m : ℕ). place old.order var < level_of new m) (sym (at_end code now h)) later) (cases_lt code n);
       values = λ code h codes fit at.
           ⊎_elim
-          (λ front. ap (λ (m : ℕ). value_of new m codes) (at_front code front) ∙ parts.values code front codes fit at)
+          (λ prefix. ap (λ (m : ℕ). value_of new m codes) (at_prefix code prefix) ∙ parts.values code prefix codes fit at)
           (λ now. ap (λ (m : ℕ). value_of new m codes) (at_end code now h) ∙ value codes fit (at ∙ omega arith))
           (cases_lt code n);
     }

@@ -6,7 +6,7 @@ use Rattle.decision_diagram.specs.declared.node.Node.{Node}
 use Rattle.decision_diagram.specs.Orders.{place}
 use Rattle.decision_diagram.specs.Diagrams.{Diagrams, inner_at, step, follow, level_in, level_of, value_of, AreReduced}
 use Rattle.decision_diagram.proofs.Places.{place_below, place_of_item, at_place}
-use Rattle.decision_diagram.proofs.Nodes.{inner_front, inner_within, cases_inner, step_none, step_here, step_other}
+use Rattle.decision_diagram.proofs.Nodes.{inner_prefix, inner_within, cases_inner, step_none, step_here, step_other}
 
 -- ---- levels
 pub level_none : (s : Diagrams) (n : ℕ) → inner_at s.nodes n ≡ None → level_of s n ≡ length s.order
@@ -112,12 +112,12 @@ step_within s ok n var code h =
     (cases_inner s.nodes n)
 
 -- earlier nodes are followed as before
-pub follow_front : (s : Diagrams) → AreReduced s → (more : List Node) (vars codes : List ℕ) (n : ℕ) → n < length s.nodes + 2 → follow (s.nodes ++ more) vars codes n ≡ follow s.nodes vars codes n
-follow_front s ok more [] codes n h = refl
-follow_front s ok more (var ∷ vars) codes n h =
-    let e = inner_front s.nodes more n h in
+pub follow_prefix : (s : Diagrams) → AreReduced s → (more : List Node) (vars codes : List ℕ) (n : ℕ) → n < length s.nodes + 2 → follow (s.nodes ++ more) vars codes n ≡ follow s.nodes vars codes n
+follow_prefix s ok more [] codes n h = refl
+follow_prefix s ok more (var ∷ vars) codes n h =
+    let e = inner_prefix s.nodes more n h in
     let code = slice_index codes var in
-    ap (λ (o : Option Node). follow (s.nodes ++ more) vars codes (step o var code n)) e ∙ follow_front s ok more vars codes (step (inner_at s.nodes n) var code n) (step_within s ok n var code h)
+    ap (λ (o : Option Node). follow (s.nodes ++ more) vars codes (step o var code n)) e ∙ follow_prefix s ok more vars codes (step (inner_at s.nodes n) var code n) (step_within s ok n var code h)
 
 -- ---- other codes
 -- only the variables that are read matter

@@ -11,9 +11,9 @@ use Rattle.decision_diagram.specs.Stores.{diagrams}
 use Rattle.decision_diagram.proofs.Operating.{results_after}
 use Rattle.decision_diagram.proofs.store.Store.remember.Goals as goal
 
--- the key behind an empty one
-key_pair : (front key pair : List ℕ) (a b : ℕ) → front ≡ [] → key ≡ front ++ pair → (pair ≡ a ∷ b ∷ []) ⊎ (pair ≡ b ∷ a ∷ []) → (key ≡ a ∷ b ∷ []) ⊎ (key ≡ b ∷ a ∷ [])
-key_pair front key pair a b none is either =
+-- the key after an empty one
+key_pair : (prefix key pair : List ℕ) (a b : ℕ) → prefix ≡ [] → key ≡ prefix ++ pair → (pair ≡ a ∷ b ∷ []) ⊎ (pair ≡ b ∷ a ∷ []) → (key ≡ a ∷ b ∷ []) ⊎ (key ≡ b ∷ a ∷ [])
+key_pair prefix key pair a b none is either =
     let e : key ≡ pair = is ∙ ap (λ (xs : List ℕ). xs ++ pair) none in
     ⊎_elim (λ forth. inl (e ∙ forth)) (λ back. inr (e ∙ back)) either
 

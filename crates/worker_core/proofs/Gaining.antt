@@ -1,5 +1,5 @@
 -- Each step gains.
-use Rattle.std.specs.Prelude.{◌≡◌, ℕ, ◌+◌, ◌*◌, ◌<◌, ◌≤◌, max, Bool, true, false, cond, ◌&&◌, nat_lt, is_none, is_some, List, [], ◌∷◌, set, get_or, length, Option, Some, None}
+use Rattle.std.specs.Prelude.{◌≡◌, ℕ, ◌+◌, ◌*◌, ◌<◌, ◌≤◌, Bool, true, false, cond, ◌&&◌, nat_lt, is_none, is_some, List, [], ◌∷◌, set, get_or, length, Option, Some, None}
 use Rattle.std.specs.List.{list_all}
 use Rattle.std.proofs.Common.{refl, sym, ap, ◌∙◌, subst, arith}
 use Rattle.std.proofs.lemmas.List.Sums.{sum_by-set}
@@ -7,12 +7,10 @@ use Rattle.std.proofs.lemmas.Option.{same_Some, none-some}
 use Rattle.std.proofs.lemmas.Bool.{and_parts}
 use Rattle.transition_table.specs.declared.decl.Party.TheVariants.{Env, Machine as Sender}
 use Rattle.transition_table.specs.declared.network.Network.{Network}
-use Rattle.journals.specs.declared.entry.Entry.{Entry}
 use Rattle.journals.specs.declared.stamped.Stamped.{Stamped}
 use Rattle.journals.specs.declared.entry.Owed.{Owed}
 use Rattle.journals.specs.declared.entry.TraceItem.{TraceItem}
 use Rattle.journals.specs.Journals.{is_woken}
-use Rattle.journals.specs.Schedules.{firing_deliveries}
 use Rattle.worker_core.specs.declared.state.Hand.{Hand}
 use Rattle.journals.specs.declared.stamped.CoreStep.{CoreStep}
 use Rattle.journals.specs.declared.stamped.CoreStep.TheVariants.{React, Land, Free, Feed}

@@ -1,8 +1,7 @@
 -- What the trace gives, item by item.
-use Rattle.std.specs.Prelude.{◌≡◌, ℕ, ◌+◌, ◌<◌, Bool, true, false, List, [], ◌∷◌, ◌++◌, map, flat_map, length, take, get_or, replicate, slice_get, Option, Some, None, unwrap_or}
+use Rattle.std.specs.Prelude.{◌≡◌, ℕ, ◌+◌, ◌<◌, Bool, true, false, List, [], ◌∷◌, ◌++◌, map, flat_map, length, take, get_or, replicate, Option, None, unwrap_or}
 use Rattle.std.proofs.Common.{refl, sym, ap, ◌∙◌, subst}
 use Rattle.std.proofs.lemmas.List.{map-append, take_more}
-use Rattle.std.proofs.lemmas.Option.{slice_get_within, get_or_from_slice_get}
 use Rattle.polis_base.specs.Lists.{upto}
 use Rattle.transition_table.specs.declared.decl.Party.TheVariants.{Env}
 use Rattle.transition_table.specs.declared.network.Network.{Network}
@@ -10,7 +9,6 @@ use Rattle.journals.specs.declared.entry.Owed.{Owed}
 use Rattle.journals.specs.declared.entry.TraceItem.{TraceItem}
 use Rattle.journals.specs.declared.entry.TraceItem.TheVariants.{Event, Settle}
 use Rattle.journals.specs.Journals.{IsTrace, snap}
-use Rattle.transition_table.specs.declared.snapshot.Snapshot.{Snapshot}
 use Rattle.journals.specs.declared.stamped.Stamped.{Stamped}
 use Rattle.worker_core.specs.declared.state.Hand.{Hand}
 use Rattle.journals.specs.declared.stamped.CoreStep.{CoreStep}

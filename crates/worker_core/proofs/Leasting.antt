@@ -1,14 +1,12 @@
 -- The stamps of the logs are the least ones.
-use Rattle.std.specs.Prelude.{◌≡◌, ℕ, zero, suc, ◌+◌, ◌<◌, ◌≤◌, max, Bool, true, false, cond, not, ◌&&◌, ◌==◌, nat_lt, nat_le, List, [], ◌∷◌, ◌++◌, map, filter, flat_map, length, take, drop, replicate, Option, Some, None, ⊤}
-use Rattle.std.specs.List.{list_all}
+use Rattle.std.specs.Prelude.{◌≡◌, ℕ, zero, suc, ◌+◌, ◌<◌, ◌≤◌, max, Bool, true, false, cond, ◌&&◌, nat_lt, nat_le, List, [], ◌∷◌, ◌++◌, filter, flat_map, length, take, drop, replicate, Option, Some, None}
 use Rattle.std.proofs.Common.{refl, sym, ap, ◌∙◌, subst, inl, inr, arith, append_assoc, length-append}
 use Rattle.std.proofs.lemmas.List.{append-nil, drop_all, drop-append-le, take-append-le, length-drop}
 use Rattle.std.proofs.lemmas.Option.{same_Some, none-some}
 use Rattle.std.proofs.lemmas.List.Concat.{flat_map-append}
 use Rattle.std.proofs.lemmas.List.Elements.{filter-append}
-use Rattle.std.proofs.lemmas.Bool.{ltb-true, and_parts, and_from}
+use Rattle.std.proofs.lemmas.Bool.{ltb-true, and_parts}
 use Rattle.polis_base.specs.Lists.{Begins, last_of}
-use Rattle.transition_table.specs.declared.decl.Party.{Party}
 use Rattle.transition_table.specs.declared.decl.Party.TheVariants.{Env, Machine as Sender}
 use Rattle.transition_table.specs.declared.network.Network.{Network}
 use Rattle.journals.specs.declared.entry.Entry.{Entry}
@@ -21,7 +19,7 @@ use Rattle.journals.specs.Logs.{entries, stamps as stamps_of, clock, max_stamp, 
 use Rattle.journals.specs.StampLaws.{origin_in, AllLeastIn}
 use Rattle.journals.specs.Stamps.{greatest, once_each, stamps_sent}
 use Rattle.worker_core.specs.declared.state.Hand.{Hand}
-use Rattle.worker_core.specs.Facts.{stamped_below, log_of_party, InTime, AllInTime, deliveries_in, on_way, stamps_out, stamps_held}
+use Rattle.worker_core.specs.Facts.{stamped_below, InTime, AllInTime, deliveries_in, on_way, stamps_held}
 use Rattle.worker_core.specs.Known.{Known}
 use Rattle.worker_core.proofs.Sent.{delivered_own}
 use Rattle.worker_core.proofs.Legal.{begins_sent}

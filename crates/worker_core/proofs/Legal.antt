@@ -1,19 +1,18 @@
 -- The merge of logs that are legal by themselves, with their landings in time, is legal.
-use Rattle.std.specs.Prelude.{◌≡◌, ℕ, suc, ◌+◌, ◌-◌, Bool, true, false, cond, not, ◌&&◌, ◌||◌, ◌==◌, nat_lt, nat_le, List, [], ◌∷◌, ◌++◌, map, filter, filter_map, flat_map, length, drop, get_or, Option, None}
-use Rattle.std.specs.Bool.{then_some}
-use Rattle.std.specs.List.{list_all, list_any, after_last, suffix_len, prefix_len, cons_option}
+use Rattle.std.specs.Prelude.{◌≡◌, ℕ, suc, Bool, true, false, cond, ◌==◌, nat_lt, nat_le, List, [], ◌∷◌, ◌++◌, filter, flat_map, get_or}
+use Rattle.std.specs.List.{list_all}
 use Rattle.std.proofs.Common.{refl, sym, ap, ◌∙◌, subst, arith, append_assoc}
-use Rattle.std.proofs.lemmas.List.{append-nil, map-append, reverse-append, drop_all, drop-append-le, length_push}
+use Rattle.std.proofs.lemmas.List.{append-nil, map-append}
 use Rattle.std.proofs.lemmas.List.Elements.{filter-append}
-use Rattle.std.proofs.lemmas.Bool.{leb-true, le-ltb, le-leb, eq-eqb, ne_eqb, eqb-true, and_parts, and_from, and_right, both_ways}
-use Rattle.polis_base.specs.Lists.{Begins, upto, last_of}
+use Rattle.std.proofs.lemmas.Bool.{leb-true, le-ltb, le-leb, eq-eqb, ne_eqb, eqb-true, and_parts, and_from}
+use Rattle.polis_base.specs.Lists.{Begins}
 use Rattle.transition_table.specs.declared.decl.Party.{Party}
 use Rattle.transition_table.specs.declared.decl.Party.TheVariants.{Env, Machine as Sender}
 use Rattle.transition_table.specs.declared.network.Network.{Network}
 use Rattle.journals.specs.declared.entry.Entry.{Entry}
 use Rattle.journals.specs.declared.entry.Entry.TheVariants.{Dep, Rea}
 use Rattle.journals.specs.declared.entry.TraceItem.{TraceItem}
-use Rattle.journals.specs.Journals.{FitsNetwork, IsJournal, reads, same_party, inputs_of, states_of, is_firing_of, is_reaction_of, is_delivery_to, code_brought, place, value_given, initial, state, snap, is_woken, emissions, delivery, delivered, sent}
+use Rattle.journals.specs.Journals.{FitsNetwork, IsJournal, reads, snap, is_woken, delivered, sent}
 use Rattle.journals.specs.Reactions.{MayReactIfReaction}
 use Rattle.journals.specs.Legality.{Legal, MayFollow, MayGoOn}
 use Rattle.journals.specs.Moved.{machine_of}

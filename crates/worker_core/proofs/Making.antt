@@ -1,10 +1,10 @@
 -- What the core's code makes of what it keeps.
-use Rattle.std.specs.Prelude.{◌≡◌, ℕ, ◌<◌, Bool, true, false, ◌&&◌, nat_lt, is_none, is_some, List, [], ◌∷◌, length, drop, slice_get, Option, Some, None, option_map, IsSomeAnd, Result, Ok, Err, IfOk, OnOk, OnErr, IsFalse}
+use Rattle.std.specs.Prelude.{◌≡◌, ℕ, ◌<◌, Bool, true, false, ◌&&◌, nat_lt, is_none, List, [], ◌∷◌, length, drop, slice_get, Option, Some, None, option_map, IsSomeAnd, Result, Ok, Err, IfOk, OnOk, OnErr, IsFalse}
 use Rattle.std.specs.Bool.{then_some}
 use Rattle.std.specs.List.{list_all}
 use Rattle.std.proofs.Common.{refl, sym, ap, ◌∙◌, subst, arith}
 use Rattle.std.proofs.lemmas.Option.{same_Some, none-some}
-use Rattle.std.proofs.lemmas.Bool.{and_parts, false≢true}
+use Rattle.std.proofs.lemmas.Bool.{and_parts}
 use Rattle.polis_base.specs.Lists.{head_of}
 use Rattle.transition_table.specs.Transitions.{OfMachine, IsSnapshot, IsOutcome, HasWidths}
 use Rattle.transition_table.specs.declared.decl.Party.TheVariants.{Env, Machine as Sender}

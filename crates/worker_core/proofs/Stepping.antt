@@ -1,32 +1,28 @@
 -- The start is a core, and each step leads from a core to a core.
-use Rattle.std.specs.Prelude.{◌≡◌, ℕ, zero, suc, ◌+◌, ◌-◌, ◌<◌, max, Bool, true, false, cond, ◌&&◌, nat_lt, is_none, List, [], ◌∷◌, ◌++◌, map, filter, flat_map, length, get_or, set, replicate, slice_get, Option, Some, None, option_map, unwrap_or, IsSomeAnd}
+use Rattle.std.specs.Prelude.{◌≡◌, ℕ, zero, suc, ◌<◌, max, Bool, true, false, ◌&&◌, nat_lt, is_none, List, [], ◌∷◌, ◌++◌, map, filter, flat_map, length, get_or, set, replicate, slice_get, Option, Some, None, option_map, unwrap_or, IsSomeAnd}
 use Rattle.std.specs.Bool.{then_some}
-use Rattle.std.specs.List.{list_all, position_from}
+use Rattle.std.specs.List.{list_all}
 use Rattle.std.proofs.Common.{refl, sym, ap, ◌∙◌, subst, inl, inr, arith}
 use Rattle.std.proofs.lemmas.List.{length-set, length-replicate, get_or-set_same, get_or-set_other, get_or_past}
 use Rattle.std.proofs.lemmas.Option.{same_Some, none-some}
 use Rattle.std.proofs.lemmas.Bool.{false≢true, leb-true, ltb-true, cases_eq, cases_lt, eqb-false, and_parts}
-use Rattle.transition_table.specs.Transitions.{IsSnapshot, Transition, is_enabled, holds, allows}
+use Rattle.transition_table.specs.Transitions.{Transition}
 use Rattle.transition_table.specs.declared.decl.Party.{Party}
 use Rattle.transition_table.specs.declared.decl.Party.TheVariants.{Env, Machine as Sender}
 use Rattle.transition_table.specs.declared.machine.Machine.{Machine}
 use Rattle.transition_table.specs.declared.network.Network.{Network}
-use Rattle.transition_table.specs.declared.row.Row.{Row}
 use Rattle.transition_table.specs.declared.snapshot.Snapshot.{Snapshot}
-use Rattle.transition_table.specs.declared.snapshot.Outcome.{Outcome}
 use Rattle.journals.specs.declared.entry.Entry.{Entry}
 use Rattle.journals.specs.declared.entry.Owed.{Owed}
 use Rattle.journals.specs.declared.entry.TraceItem.{TraceItem}
-use Rattle.journals.specs.Journals.{FitsNetwork, IsJournal, IsTrace, same_party, snap, is_woken, delivered, sent}
-use Rattle.transition_table.specs.Transitions.{IsOutcome}
+use Rattle.journals.specs.Journals.{IsTrace, same_party, snap, is_woken, delivered, sent}
 use Rattle.journals.specs.Reactions.{MayReactIfReaction}
-use Rattle.transition_table.specs.Laws.{TransitionFits}
-use Rattle.journals.specs.Schedules.{firing_deliveries, trace_deliveries}
+use Rattle.journals.specs.Schedules.{trace_deliveries}
 use Rattle.journals.specs.declared.stamped.Stamped.{Stamped}
 use Rattle.worker_core.specs.declared.state.Hand.{Hand}
 use Rattle.journals.specs.declared.stamped.CoreStep.{CoreStep}
 use Rattle.journals.specs.declared.stamped.CoreStep.TheVariants.{React, Land, Free, Feed}
-use Rattle.worker_core.specs.Cores.{CoreState, log_of, hand_of, at_start, hand_after, delivering, with_entry, may_react, may_land, reacting, reacted, landing, landed, land, freed, free, fed, take_step, run_steps}
+use Rattle.worker_core.specs.Cores.{CoreState, log_of, hand_of, at_start, hand_after, with_entry, may_react, may_land, reacting, reacted, landing, landed, land, freed, free, fed, take_step, run_steps}
 use Rattle.journals.specs.Logs.{entries, clock, max_stamp}
 use Rattle.journals.specs.Reactions.{outcome_on, outcome_in, reaction}
 use Rattle.worker_core.specs.CoreLaws.{RunsWell}

@@ -1,5 +1,5 @@
 -- Tables, one item a machine.
-use Rattle.std.specs.Prelude.{◌≡◌, ℕ, zero, suc, ◌-◌, ◌<◌, List, [], ◌∷◌, ◌++◌, map, length, get_or, set}
+use Rattle.std.specs.Prelude.{◌≡◌, ℕ, zero, suc, ◌-◌, ◌<◌, [], ◌∷◌, map, length, get_or, set}
 use Rattle.std.proofs.Common.{inl, inr, refl, sym, ap, ◌∙◌, arith, add-one}
 use Rattle.std.proofs.lemmas.List.{length_push, get_or_append_left, get_or-append_right, get_or-map, length-map, length-set, get_or-set_other, get_or-set_same, same_lists}
 use Rattle.std.proofs.lemmas.Bool.{cases_eq}

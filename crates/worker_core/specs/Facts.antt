@@ -1,5 +1,5 @@
 -- What is true of the core after any steps.
-use Rattle.std.specs.Prelude.{◌≡◌, ℕ, Bool, true, cond, not, ◌&&◌, ◌||◌, ◌==◌, nat_lt, nat_le, List, [], ◌∷◌, ◌++◌, map, filter, flat_map, length, drop, replicate, count_by, is_some, Option, Some, None, IsTrue, ⊤}
+use Rattle.std.specs.Prelude.{◌≡◌, ℕ, Bool, true, cond, not, ◌&&◌, ◌||◌, nat_lt, nat_le, List, [], ◌∷◌, ◌++◌, map, filter, flat_map, length, drop, replicate, count_by, is_some, Option, Some, None, IsTrue, ⊤}
 use Rattle.std.specs.List.{list_all}
 use Rattle.polis_base.specs.Lists.{Begins}
 use Rattle.transition_table.specs.declared.decl.Party.{Party}
@@ -9,7 +9,7 @@ use Rattle.journals.specs.declared.entry.Entry.{Entry}
 use Rattle.journals.specs.declared.entry.Entry.TheVariants.{Dep, Rea}
 use Rattle.journals.specs.declared.entry.Owed.{Owed}
 use Rattle.journals.specs.declared.entry.TraceItem.{TraceItem}
-use Rattle.journals.specs.Journals.{same_party, is_party, is_event_code, reads, is_firing_of, delivered, sent}
+use Rattle.journals.specs.Journals.{same_party, is_firing_of, delivered, sent}
 use Rattle.journals.specs.declared.stamped.Stamped.{Stamped}
 use Rattle.worker_core.specs.declared.state.Hand.{Hand}
 use Rattle.worker_core.specs.Cores.{CoreState, log_of, hand_of}

@@ -7,10 +7,11 @@ ghost use Rattle.worker_core.specs.Agreeing.{do_agree};
 mod build;
 
 use super::*;
-use build::{list, pong, two};
+use build::watched_pong;
 use domains::Codes;
 use journals::{Entry, Journal, TraceItem};
-use polis_base::{Bytes, NoMemory};
+use polis_base::{Bytes, List, NoMemory};
+use sample_networks::two;
 use std::alloc::Global;
 use std::test::Fail;
 use transition_table::{Network, Party, TableReactor};
@@ -95,9 +96,9 @@ const BOTH: &[u8] = b"dep env 0 0\ndep env 1 0\nfire 0 1 > 1\nfire 1 1 > 1\n";
 
 #[test]
 fn takes_the_steps_in_order(rt: HostRuntime) -> Result<(), Fail> {
-    let net = two(rt.alloc())?;
+    let net = two::network(rt.alloc(), 1, 1)?;
     let r = reactor(&net);
-    let trace = list(rt.alloc(), &[GO])?;
+    let trace = List::from_slice(rt.alloc(), &[GO])?;
     let steps = [CoreStep::Feed, CoreStep::Feed, react(0), react(1)];
     let core = core_run(rt.alloc(), &r, &trace, &steps)?;
     let merged = merge(rt.alloc(), core.logs())?;
@@ -107,9 +108,9 @@ fn takes_the_steps_in_order(rt: HostRuntime) -> Result<(), Fail> {
 
 #[test]
 fn stamps_a_landing_above_its_firing(rt: HostRuntime) -> Result<(), Fail> {
-    let net = pong(rt.alloc())?;
+    let net = watched_pong(rt.alloc())?;
     let r = reactor(&net);
-    let trace = list(rt.alloc(), &[GO, GO])?;
+    let trace = List::from_slice(rt.alloc(), &[GO, GO])?;
     let steps = [
         CoreStep::Feed,
         react(0),
@@ -132,9 +133,9 @@ fn stamps_a_landing_above_its_firing(rt: HostRuntime) -> Result<(), Fail> {
 
 #[test]
 fn takes_no_other_steps(rt: HostRuntime) -> Result<(), Fail> {
-    let net = two(rt.alloc())?;
+    let net = two::network(rt.alloc(), 1, 1)?;
     let r = reactor(&net);
-    let trace = list(rt.alloc(), &[GO])?;
+    let trace = List::from_slice(rt.alloc(), &[GO])?;
     let mut core = Core::start(rt.alloc(), &net, &trace)?;
     for (step, taken) in [
         (react(0), false),
@@ -155,8 +156,8 @@ fn takes_no_other_steps(rt: HostRuntime) -> Result<(), Fail> {
 
 #[test]
 fn runs_until_no_step_is_left(rt: HostRuntime) -> Result<(), Fail> {
-    let net = two(rt.alloc())?;
-    let trace = list(rt.alloc(), &[GO])?;
+    let net = two::network(rt.alloc(), 1, 1)?;
+    let trace = List::from_slice(rt.alloc(), &[GO])?;
     let journal = core_alone(rt.alloc(), &reactor(&net), &trace, 60_000)?;
     assert_eq!(rt; text_of(rt.alloc(), &journal)?.as_slice(), BOTH);
     Ok(())

@@ -1,4 +1,4 @@
-use Rattle.std.proofs.Common.{◌≡◌, ◌≤◌, ℕ, length, subst, sym, ap, ◌∙◌, arith}
+use Rattle.std.proofs.Common.{subst, arith}
 use Rattle.worker_core.specs.Parts.{state_of}
 use Rattle.worker_core.specs.Running.{CoreMoment}
 use Rattle.worker_core.specs.Turns.{IsStill}

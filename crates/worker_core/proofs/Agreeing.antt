@@ -26,7 +26,10 @@ same_acts (a ∷ acts) (b ∷ others) h =
     let parts = and_parts (same_act a b) (pointwise same_act acts others) h in
     let both = and_parts (a.result == b.result) (same_code a.source b.source) parts.0 in
     let first : a ≡ b =
-    λ i. record { result = eqb-true a.result b.result both.0 i; source = same_sources a.source b.source both.1 i } in
+    λ i. record {
+      result = eqb-true a.result b.result both.0 i;
+      source = same_sources a.source b.source both.1 i;
+    } in
     let rest = same_acts acts others parts.1 in
     cc
 same_acts [] (b ∷ others) h = cc
@@ -44,7 +47,8 @@ as_first : (row : Row) (rows : List Row) (k : ℕ) (x : Row) → do_agree (row �
     → slice_get (row ∷ rows) k ≡ Some x → row.acts ≡ x.acts
 as_first row rows zero x all is = ap (λ (r : Row). r.acts) (same_Some row x is)
 as_first row rows (suc k) x all is =
-    same_acts row.acts x.acts (at_place (λ (other : Row). pointwise same_act row.acts other.acts) rows k x all is)
+    same_acts row.acts x.acts
+    (at_place (λ (other : Row). pointwise same_act row.acts other.acts) rows k x all is)
 
 two_same : (rows : List Row) (a b : ℕ) (x y : Row) → do_agree rows ≡ true
     → slice_get rows a ≡ Some x → slice_get rows b ≡ Some y → x.acts ≡ y.acts
@@ -68,4 +72,5 @@ agreeing_is_deterministic m all a b s below snapshot first second =
 pub agreeing_are_deterministic : (net : Network)
     → list_all (λ (m : Machine). do_agree m.rows) net.machines ≡ true → AreDeterministic net
 agreeing_are_deterministic net all k m is =
-    agreeing_is_deterministic m (at_place (λ (n : Machine). do_agree n.rows) net.machines k m all is)
+    agreeing_is_deterministic m
+    (at_place (λ (n : Machine). do_agree n.rows) net.machines k m all is)

@@ -52,15 +52,22 @@ own_moment net logs moments m s are below at =
 length-snap : (net : Network) (journal : List Entry) (m : ℕ)
     → length (snap net journal m).codes ≡ length (inputs_of net m) + length (states_of net m)
 length-snap net journal m =
-    length-append (map (place journal m) (inputs_of net m)) (map (state net journal m) (upto (length (states_of net m))))
-    ∙ rw (length-map (inputs_of net m) (place journal m), length-table (state net journal m) (length (states_of net m))) refl
+    length-append (map (place journal m) (inputs_of net m))
+    (map (state net journal m) (upto (length (states_of net m))))
+    ∙ rw (
+      length-map (inputs_of net m) (place journal m),
+      length-table (state net journal m)
+          (length (states_of net m)),
+    ) refl
 
 pub moment_width : (net : Network) (journal : List Entry) (m : ℕ) (machine : Machine) (s : Snapshot)
     → slice_get net.machines m ≡ Some machine → s ≡ snap net journal m
     → length s.codes ≡ length machine.inputs + length machine.states
 moment_width net journal m machine s at is =
     ap (λ (x : Snapshot). length x.codes) is ∙ length-snap net journal m
-    ∙ ap (λ (o : Option Machine). length (unwrap_or (option_map (λ machine. machine.inputs) o) []) + length (unwrap_or (option_map (λ machine. machine.states) o) [])) at
+    ∙ ap (λ (o : Option Machine). length
+    (unwrap_or (option_map (λ machine. machine.inputs) o) []) + length
+    (unwrap_or (option_map (λ machine. machine.states) o) [])) at
 
 pub moments_added : (net : Network) (logs : List (List Stamped)) (moments : List Snapshot) (m : ℕ)
     (x : Stamped) (machine : Machine) (before s : Snapshot)
@@ -80,12 +87,16 @@ moments_added net logs moments m x machine before s moves below inside are own a
     let old : before ≡ snap net (entries log) (machine_of entry) =
     own_moment net logs moments m before are below was ∙ ap (snap net (entries log)) (sym own) in
     let is : s ≡ snap net (entries log ++ entry ∷ []) (machine_of entry) =
-    moves net machine (entries log) entry s before (ap (slice_get net.machines) own ∙ at) old codes in
+    moves net machine (entries log) entry s before
+    (ap (slice_get net.machines) own ∙ at) old codes in
     let here : get_or new m [] ≡ log ++ x ∷ [] = get_or-set_same logs m (log ++ x ∷ []) [] inside in
     ap (λ (l : List Snapshot). set l m s) are
-    ∙ set-table (λ k. snap net (entries (get_or logs k [])) k) (λ k. snap net (entries (get_or new k [])) k) (length net.machines) m s below
-    (ap (λ l. snap net (entries l) m) here ∙ ap (λ j. snap net j m) (entries_more log x) ∙ sym (is ∙ ap (snap net (entries log ++ entry ∷ [])) own))
-    (λ k other within. ap (λ l. snap net (entries l) k) (get_or-set_other logs m k (log ++ x ∷ []) [] other))
+    ∙ set-table (λ k. snap net (entries (get_or logs k [])) k)
+    (λ k. snap net (entries (get_or new k [])) k) (length net.machines) m s below
+    (ap (λ l. snap net (entries l) m) here ∙ ap (λ j. snap net j m) (entries_more log x)
+    ∙ sym (is ∙ ap (snap net (entries log ++ entry ∷ [])) own))
+    (λ k other within. ap (λ l. snap net (entries l) k)
+    (get_or-set_other logs m k (log ++ x ∷ []) [] other))
 
 -- ---- a log of m wakes m where it ends in a delivery
 
@@ -101,7 +112,10 @@ woken_after net m prefix b [] moves h own = ap (λ j. is_woken j m) (append-nil 
 woken_after net m prefix b (x ∷ rest) moves h own =
     let parts = and_parts (is_own net m x.entry) (list_all (λ x. is_own net m x.entry) rest) own in
     sym (ap (λ j. is_woken j m) (append_assoc prefix (x.entry ∷ []) (entries rest)))
-    ∙ woken_after net m (prefix ++ x.entry ∷ []) (is_dep x.entry) rest moves (moves prefix x.entry m ∙ ap (λ c. cond c (is_dep x.entry) (is_woken prefix m)) (own_here net m x.entry parts.0)) parts.1
+    ∙ woken_after net m (prefix ++ x.entry ∷ []) (is_dep x.entry) rest moves
+    (moves prefix x.entry m
+    ∙ ap (λ c. cond c (is_dep x.entry) (is_woken prefix m))
+    (own_here net m x.entry parts.0)) parts.1
 
 pub woken_at_end : (net : Network) (m : ℕ) (log : List Stamped) → MovesWaking
     → list_all (λ x. is_own net m x.entry) log ≡ true
@@ -122,7 +136,8 @@ reaction_made net m journal s o one gives all fits made is =
     at : (found : Option Machine) → slice_get net.machines m ≡ found
         → IsSomeAnd found (λ machine. IsSnapshot machine s)
         → IsSomeAnd found (λ machine. Transition machine s o)
-        → o ≡ unwrap_or (option_map (λ machine. outcome_on machine s) found) (record { fires = false; next = []; outs = [] })
+        → o ≡ unwrap_or (option_map (λ machine. outcome_on machine s) found)
+        (record { fires = false; next = []; outs = [] })
     at None is f a = absurd a
     at (Some machine) is f a =
         one machine s o (outcome_on machine s) (all m machine is) f a (gives machine s)

@@ -25,7 +25,9 @@ reacts_alone net trace state m core may =
     let woken : Bool = is_woken (entries (log_of state m)) m in
     let x : Stamped = reacting net m (log_of state m) in
     let inside : m < length state.logs =
-    woken_inside state m (and_parts idle woken (and_parts (idle && woken) (nat_lt (clock (log_of state m)) max_stamp) may).0).1 in
+    woken_inside state m
+    (and_parts idle woken
+    (and_parts (idle && woken) (nat_lt (clock (log_of state m)) max_stamp) may).0).1 in
     let many = core.logs in
     let busy = core.hands in
     record {
@@ -46,7 +48,11 @@ reacts_by_machine net trace state next m core e =
 lands_alone : (net : Network) (trace : List TraceItem) (state : CoreState) (s : ℕ) (hand : Hand)
     (d : Owed) (ds : List Owed) → IsCore net trace state → hand_of state s ≡ Some hand
     → hand.deliveries ≡ d ∷ ds → may_land (log_of state d.to) hand.stamp ≡ true
-    → LandsAlone state (record state { logs = with_entry state d.to (landing (log_of state d.to) hand.stamp d); hands = set state.hands s (Some (record { stamp = hand.stamp; deliveries = ds })) }) s
+    → LandsAlone state
+    (record state {
+      logs = with_entry state d.to (landing (log_of state d.to) hand.stamp d);
+      hands = set state.hands s (Some (record { stamp = hand.stamp; deliveries = ds }));
+    }) s
 lands_alone net trace state s hand d ds core is has may =
     let x : Stamped = landing (log_of state d.to) hand.stamp d in
     let left : Hand = record { stamp = hand.stamp; deliveries = ds } in
@@ -55,9 +61,11 @@ lands_alone net trace state s hand d ds core is has may =
       left = left;
       held = is ∙ (λ i. Some (record { stamp = hand.stamp; deliveries = has i }));
       may = may;
-      log = get_or-set_same state.logs d.to (log_of state d.to ++ x ∷ []) [] (due_inside net trace state s hand d ds core is has);
+      log = get_or-set_same state.logs d.to (log_of state d.to ++ x ∷ []) []
+          (due_inside net trace state s hand d ds core is has);
       hand = get_or-set_same state.hands s (Some left) None (hand_inside state s hand is);
-      other_logs = λ k other. get_or-set_other state.logs d.to k (log_of state d.to ++ x ∷ []) [] other;
+      other_logs =
+          λ k other. get_or-set_other state.logs d.to k (log_of state d.to ++ x ∷ []) [] other;
       other_hands = λ k other. get_or-set_other state.hands s k (Some left) None other;
       rest = refl;
     }
@@ -73,8 +81,14 @@ lands_by_hand net trace state next s (Some hand) core is e = cases hand.deliveri
     cases [] has e = absurd (none-some next e)
     cases (d ∷ ds) has e =
         let both =
-        some_when (may_land (log_of state d.to) hand.stamp) (record state { logs = with_entry state d.to (landing (log_of state d.to) hand.stamp d); hands = set state.hands s (Some (record { stamp = hand.stamp; deliveries = ds })) }) next e in
-        subst (λ n. LandsAlone state n s) both.1 (lands_alone net trace state s hand d ds core is has both.0)
+        some_when (may_land (log_of state d.to) hand.stamp)
+        (record state {
+          logs = with_entry state d.to (landing (log_of state d.to) hand.stamp d);
+          hands = set state.hands s
+              (Some (record { stamp = hand.stamp; deliveries = ds }));
+        }) next e in
+        subst (λ n. LandsAlone state n s) both.1
+        (lands_alone net trace state s hand d ds core is has both.0)
 
 pub lands_by_machine : LandsByMachine
 lands_by_machine net trace state next s core e =
@@ -87,14 +101,16 @@ frees_by_hand state next s (Some hand) is e = cases hand.deliveries refl e
   where
     cases : (ds : List Owed) → hand.deliveries ≡ ds → freed state s ds ≡ Some next
         → FreesAlone state next s
-    cases [] has e = subst (λ n. FreesAlone state n s) (same_Some (record state { hands = set state.hands s None }) next e) (record {
-      stamp = hand.stamp;
-      empty = is ∙ (λ i. Some (record { stamp = hand.stamp; deliveries = has i }));
-      hand = get_or-set_same state.hands s None None (hand_inside state s hand is);
-      logs = refl;
-      other_hands = λ k other. get_or-set_other state.hands s k None None other;
-      rest = refl;
-    })
+    cases [] has e =
+        subst (λ n. FreesAlone state n s)
+        (same_Some (record state { hands = set state.hands s None }) next e) (record {
+          stamp = hand.stamp;
+          empty = is ∙ (λ i. Some (record { stamp = hand.stamp; deliveries = has i }));
+          hand = get_or-set_same state.hands s None None (hand_inside state s hand is);
+          logs = refl;
+          other_hands = λ k other. get_or-set_other state.hands s k None None other;
+          rest = refl;
+        })
     cases (d ∷ ds) has e = absurd (none-some next e)
 
 pub frees_by_machine : FreesByMachine

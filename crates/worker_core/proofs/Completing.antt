@@ -42,7 +42,8 @@ merged_delivered net trace core p m known h =
 
 merged_sent : (net : Network) (trace : List TraceItem) (core : CoreState) (p : Party) (m : ℕ)
     → Known → IsCore net trace core
-    → sent net trace p m (merged core.logs) ≡ sent net trace p m (entries (log_of_party (log_of core) p))
+    → sent net trace p m (merged core.logs)
+    ≡ sent net trace p m (entries (log_of_party (log_of core) p))
 merged_sent net trace core Env m known h = refl
 merged_sent net trace core (Sender j) m known h =
     sym (known.sent_by_own net trace j m (merged core.logs))
@@ -88,8 +89,10 @@ none_busy net trace core s (Some hand) h small is lands frees =
     cases (d ∷ ds) lands frees =
         let low = clock_small net trace core d.to h in
         let few =
-        leb-true hand.stamp (count_entries core.logs) (sym (ap (is_hand_within (count_entries core.logs)) is) ∙ h.facts.hands_within s) in
-        then_none (may_land (log_of core d.to) hand.stamp) _ lands (lt-ltb (max (clock (log_of core d.to)) hand.stamp) max_stamp (omega arith))
+        leb-true hand.stamp (count_entries core.logs)
+        (sym (ap (is_hand_within (count_entries core.logs)) is) ∙ h.facts.hands_within s) in
+        then_none (may_land (log_of core d.to) hand.stamp) _ lands
+        (lt-ltb (max (clock (log_of core d.to)) hand.stamp) max_stamp (omega arith))
 
 no_rest : (net : Network) (trace : List TraceItem) (core : CoreState) (ds : List Owed)
     → IsCore net trace core → count_entries core.logs < max_stamp → core.rest ≡ ds
@@ -97,18 +100,24 @@ no_rest : (net : Network) (trace : List TraceItem) (core : CoreState) (ds : List
 no_rest net trace core [] h small is feeds = is
 no_rest net trace core (d ∷ ds) h small is feeds =
     let low = clock_small net trace core d.to h in
-    absurd (then_none (may_land (log_of core d.to) 0) _ feeds (lt-ltb (max (clock (log_of core d.to)) 0) max_stamp (omega arith)))
+    absurd (then_none (may_land (log_of core d.to) 0) _ feeds
+    (lt-ltb (max (clock (log_of core d.to)) 0) max_stamp (omega arith)))
 
 pub stopped_is_complete : (net : Network) (trace : List TraceItem) (core : CoreState) → Known
     → IsCore net trace core → count_entries core.logs < max_stamp
     → ((step : CoreStep) → take_step net core step ≡ None) → Complete net trace (merged core.logs)
 stopped_is_complete net trace core known h small stopped =
     let idle : (s : ℕ) → hand_of core s ≡ None =
-    λ s. none_busy net trace core s (hand_of core s) h small refl (stopped (Land s)) (stopped (Free s)) in
+    λ s. none_busy net trace core s (hand_of core s) h small refl (stopped (Land s))
+    (stopped (Free s)) in
     let none : core.rest ≡ [] = no_rest net trace core core.rest h small refl (stopped Feed) in
     record {
-      all_delivered = λ p m party below. merged_delivered net trace core p m known h ∙ all_landed idle none p m ∙ sym (merged_sent net trace core p m known h);
-      none_woken = λ m below. sym (known.woken_by_own m (merged core.logs)) ∙ ap (λ j. is_woken j m) (merged_own net trace core m h) ∙ asleep m (idle m);
+      all_delivered =
+          λ p m party below. merged_delivered net trace core p m known h ∙ all_landed idle none p m
+          ∙ sym (merged_sent net trace core p m known h);
+      none_woken =
+          λ m below. sym (known.woken_by_own m (merged core.logs))
+          ∙ ap (λ j. is_woken j m) (merged_own net trace core m h) ∙ asleep m (idle m);
     }
   where
     nothing_held : ((s : ℕ) → hand_of core s ≡ None) → core.rest ≡ [] → (p : Party)
@@ -117,17 +126,22 @@ stopped_is_complete net trace core known h small stopped =
     nothing_held idle none (Sender j) = ap deliveries_in (idle j)
 
     all_landed : ((s : ℕ) → hand_of core s ≡ None) → core.rest ≡ [] → (p : Party) (m : ℕ)
-        → delivered p m (entries (log_of core m)) ≡ sent net trace p m (entries (log_of_party (log_of core) p))
+        → delivered p m (entries (log_of core m))
+        ≡ sent net trace p m (entries (log_of_party (log_of core) p))
     all_landed idle none p m =
         sym (append-nil (delivered p m (entries (log_of core m))))
-        ∙ sym (ap (λ l. delivered p m (entries (log_of core m)) ++ on_way p m l) (nothing_held idle none p))
+        ∙ sym (ap (λ l. delivered p m (entries (log_of core m)) ++ on_way p m l)
+        (nothing_held idle none p))
         ∙ h.facts.on_the_way p m
 
     asleep : (m : ℕ) → hand_of core m ≡ None → is_woken (entries (log_of core m)) m ≡ false
     asleep m idle =
         false_from_ne_true (is_woken (entries (log_of core m)) m) (λ woken.
         let low = clock_small net trace core m h in
-        then_none (may_react m (log_of core m) (hand_of core m)) (reacted net core m) (stopped (React m))
-        (and_from (is_none (hand_of core m) && is_woken (entries (log_of core m)) m) (nat_lt (clock (log_of core m)) max_stamp)
-        (and_from (is_none (hand_of core m)) (is_woken (entries (log_of core m)) m) (ap is_none idle) woken)
+        then_none (may_react m (log_of core m) (hand_of core m)) (reacted net core m)
+        (stopped (React m))
+        (and_from (is_none (hand_of core m) && is_woken (entries (log_of core m)) m)
+        (nat_lt (clock (log_of core m)) max_stamp)
+        (and_from (is_none (hand_of core m)) (is_woken (entries (log_of core m)) m)
+        (ap is_none idle) woken)
         (lt-ltb (clock (log_of core m)) max_stamp (omega arith))))

@@ -44,7 +44,8 @@ react_gains net trace state m core may =
     let idle : Bool = is_none (hand_of state m) in
     let woken : Bool = is_woken (entries (log_of state m)) m in
     let both =
-    and_parts idle woken (and_parts (idle && woken) (nat_lt (clock (log_of state m)) max_stamp) may).0 in
+    and_parts idle woken
+    (and_parts (idle && woken) (nat_lt (clock (log_of state m)) max_stamp) may).0 in
     let inside : m < length state.logs = woken_inside state m both.1 in
     let many = core.logs in
     let busy = core.hands in
@@ -62,7 +63,9 @@ pub due_inside : (net : Network) (trace : List TraceItem) (state : CoreState) (s
 due_inside net trace state s hand d ds core is has =
     let held : deliveries_in (hand_of state s) ≡ d ∷ ds = ap deliveries_in is ∙ has in
     let below =
-    due_within net (Sender s) d (and_parts (is_due net (Sender s) d) (list_all (is_due net (Sender s)) ds) (sym (ap (list_all (is_due net (Sender s))) held) ∙ core.facts.due (Sender s))).0 in
+    due_within net (Sender s) d
+    (and_parts (is_due net (Sender s) d) (list_all (is_due net (Sender s)) ds)
+    (sym (ap (list_all (is_due net (Sender s))) held) ∙ core.facts.due (Sender s))).0 in
     let many = core.logs in
     omega arith
 
@@ -78,9 +81,14 @@ land_gains net trace state next s (Some hand) core is e = cases hand.deliveries 
     cases (d ∷ ds) has e =
         let left : Option Hand = Some (record { stamp = hand.stamp; deliveries = ds }) in
         let both =
-        some_when (may_land (log_of state d.to) hand.stamp) (record state { logs = with_entry state d.to (landing (log_of state d.to) hand.stamp d); hands = set state.hands s left }) next e in
+        some_when (may_land (log_of state d.to) hand.stamp)
+        (record state {
+          logs = with_entry state d.to (landing (log_of state d.to) hand.stamp d);
+          hands = set state.hands s left;
+        }) next e in
         let more =
-        count_more state.logs d.to (landing (log_of state d.to) hand.stamp d) (due_inside net trace state s hand d ds core is has) in
+        count_more state.logs d.to (landing (log_of state d.to) hand.stamp d)
+        (due_inside net trace state s hand d ds core is has) in
         let count = busy_set state.hands s left (Some hand) (hand_inside state s hand is) is in
         subst (Gains state) both.1 (omega arith)
 
@@ -93,7 +101,8 @@ free_gains net trace state next s (Some hand) core is e = cases hand.deliveries 
     cases : (ds : List Owed) → freed state s ds ≡ Some next → Gains state next
     cases [] e =
         let count = busy_set state.hands s None (Some hand) (hand_inside state s hand is) is in
-        subst (Gains state) (same_Some (record state { hands = set state.hands s None }) next e) (omega arith)
+        subst (Gains state) (same_Some (record state { hands = set state.hands s None }) next e)
+        (omega arith)
     cases (d ∷ ds) e = absurd (none-some next e)
 
 feed_gains : (net : Network) (trace : List TraceItem) (state next : CoreState) (ds : List Owed)
@@ -101,9 +110,13 @@ feed_gains : (net : Network) (trace : List TraceItem) (state next : CoreState) (
 feed_gains net trace state next [] core has e = absurd (none-some next e)
 feed_gains net trace state next (d ∷ ds) core has e =
     let both =
-    some_when (may_land (log_of state d.to) 0) (record state { logs = with_entry state d.to (landing (log_of state d.to) 0 d); rest = ds }) next e in
+    some_when (may_land (log_of state d.to) 0)
+    (record state
+    { logs = with_entry state d.to (landing (log_of state d.to) 0 d); rest = ds }) next e in
     let below =
-    due_within net Env d (and_parts (is_due net Env d) (list_all (is_due net Env) ds) (sym (ap (list_all (is_due net Env)) has) ∙ core.facts.due Env)).0 in
+    due_within net Env d
+    (and_parts (is_due net Env d) (list_all (is_due net Env) ds)
+    (sym (ap (list_all (is_due net Env)) has) ∙ core.facts.due Env)).0 in
     let many = core.logs in
     let more = count_more state.logs d.to (landing (log_of state d.to) 0 d) (omega arith) in
     subst (Gains state) both.1 (omega arith)

@@ -25,12 +25,16 @@ use Rattle.worker_core.specs.Parts.{state_of, own_moments, AreParts}
 use Rattle.worker_core.proofs.Stepping.{same_everywhere}
 
 pub items_give : (net : Network) (b : Bool) (trace : List TraceItem)
-    → flat_map (item_deliveries net) trace ≡ map (λ (d : Owed × Bool). d.0) (trace_deliveries net b trace)
+    → flat_map (item_deliveries net) trace
+    ≡ map (λ (d : Owed × Bool). d.0) (trace_deliveries net b trace)
 items_give net b [] = refl
 items_give net b (Settle ∷ items) = items_give net true items
 items_give net b (Event e c ∷ items) =
-    sym (map-append (λ (d : Owed × Bool). d.0) (map (λ (d : Owed). (d, b)) (deliveries_of net Env (e, c))) (trace_deliveries net false items)
-    ∙ ap (λ l. l ++ map (λ (d : Owed × Bool). d.0) (trace_deliveries net false items)) (unpaired (deliveries_of net Env (e, c)))
+    sym (map-append (λ (d : Owed × Bool). d.0)
+    (map (λ (d : Owed). (d, b)) (deliveries_of net Env (e, c)))
+    (trace_deliveries net false items)
+    ∙ ap (λ l. l ++ map (λ (d : Owed × Bool). d.0) (trace_deliveries net false items))
+    (unpaired (deliveries_of net Env (e, c)))
     ∙ ap (λ l. deliveries_of net Env (e, c) ++ l) (sym (items_give net false items)))
   where
     unpaired : (ds : List Owed)
@@ -41,7 +45,8 @@ items_give net b (Event e c ∷ items) =
 -- after no entries
 pub first_own : (net : Network) (n : ℕ) → moments_of net [] ≡ own_moments net (replicate n [])
 first_own net n =
-    λ i. map (λ m. snap net (entries (sym (same_everywhere n m []) i)) m) (upto (length net.machines))
+    λ i. map (λ m. snap net (entries (sym (same_everywhere n m []) i)) m)
+    (upto (length net.machines))
 
 pub start_state : (net : Network) (trace : List TraceItem) (n : ℕ) (logs : List (List Stamped))
     (hands : List (Option Hand)) (rest : List Owed)
@@ -61,11 +66,14 @@ pub first_parts_are : (net : Network) (trace : List TraceItem) (p : Parts) → S
     → AreParts net trace p
 first_parts_are net trace p start fits is are = record {
   core = subst (IsCore net trace) (sym is) (start net trace fits);
-  moments_are = are ∙ first_own net (length net.machines) ∙ sym (ap (λ (s : CoreState). own_moments net s.logs) is);
+  moments_are =
+      are ∙ first_own net (length net.machines)
+      ∙ sym (ap (λ (s : CoreState). own_moments net s.logs) is);
 }
 
 pub run_steps_push : (net : Network) (state : CoreState) (steps : List CoreStep) (step : CoreStep)
-    → run_steps net state (steps ++ step ∷ []) ≡ unwrap_or (take_step net (run_steps net state steps) step) (run_steps net state steps)
+    → run_steps net state (steps ++ step ∷ [])
+    ≡ unwrap_or (take_step net (run_steps net state steps) step) (run_steps net state steps)
 run_steps_push net state [] step = refl
 run_steps_push net state (x ∷ steps) step =
     run_steps_push net (unwrap_or (take_step net state x) state) steps step
@@ -73,9 +81,16 @@ run_steps_push net state (x ∷ steps) step =
 pub run_more : (net : Network) (trace : List TraceItem) (start : CoreState) (steps : List CoreStep)
     (i : ℕ) (d : CoreStep) (old new : CoreMoment) → i < length steps
     → old ≡ record { net = net; trace = trace; state = run_steps net start (take i steps) }
-    → new ≡ record old { state = unwrap_or (take_step old.net old.state (get_or steps i d)) old.state }
+    → new ≡ record old
+    { state = unwrap_or (take_step old.net old.state (get_or steps i d)) old.state }
     → new ≡ record { net = net; trace = trace; state = run_steps net start (take (i + 1) steps) }
 run_more net trace start steps i d old new below was is =
     is
-    ∙ ap (λ (v : CoreMoment). record v { state = unwrap_or (take_step v.net v.state (get_or steps i d)) v.state }) was
-    ∙ sym (λ k. record { net = net; trace = trace; state = (ap (run_steps net start) (take_more steps i d below) ∙ run_steps_push net start (take i steps) (get_or steps i d)) k })
+    ∙ ap (λ (v : CoreMoment). record v
+    { state = unwrap_or (take_step v.net v.state (get_or steps i d)) v.state }) was
+    ∙ sym (λ k. record {
+      net = net;
+      trace = trace;
+      state = (ap (run_steps net start) (take_more steps i d below)
+          ∙ run_steps_push net start (take i steps) (get_or steps i d)) k;
+    })

@@ -44,10 +44,13 @@ pub rises_more : (low : ℕ) (xs : List Stamped) (x : Stamped) → rises low xs 
     → last_of low (map (λ y. y.stamp) xs) < x.stamp → x.stamp ≤ max_stamp
     → rises low (xs ++ x ∷ []) ≡ true
 rises_more low [] x h above most =
-    and_from (nat_lt low x.stamp && nat_le x.stamp max_stamp) true (and_from (nat_lt low x.stamp) (nat_le x.stamp max_stamp) (lt-ltb low x.stamp above) (le-leb x.stamp max_stamp most)) refl
+    and_from (nat_lt low x.stamp && nat_le x.stamp max_stamp) true
+    (and_from (nat_lt low x.stamp) (nat_le x.stamp max_stamp) (lt-ltb low x.stamp above)
+    (le-leb x.stamp max_stamp most)) refl
 rises_more low (y ∷ xs) x h above most =
     let parts = and_parts (nat_lt low y.stamp && nat_le y.stamp max_stamp) (rises y.stamp xs) h in
-    and_from (nat_lt low y.stamp && nat_le y.stamp max_stamp) (rises y.stamp (xs ++ x ∷ [])) parts.0 (rises_more y.stamp xs x parts.1 above most)
+    and_from (nat_lt low y.stamp && nat_le y.stamp max_stamp) (rises y.stamp (xs ++ x ∷ [])) parts.0
+    (rises_more y.stamp xs x parts.1 above most)
 
 last_not_below : (low : ℕ) (xs : List Stamped) → rises low xs ≡ true
     → low ≤ last_of low (map (λ y. y.stamp) xs)
@@ -66,7 +69,9 @@ none_above_clock low [] h = refl
 none_above_clock low (x ∷ xs) h =
     let parts = and_parts (nat_lt low x.stamp && nat_le x.stamp max_stamp) (rises x.stamp xs) h in
     let last = last_of x.stamp (map (λ (y : Stamped). y.stamp) xs) in
-    and_from (nat_le x.stamp last) (list_all (λ y. nat_le y.stamp last) xs) (le-leb x.stamp last (last_not_below x.stamp xs parts.1)) (none_above_clock x.stamp xs parts.1)
+    and_from (nat_le x.stamp last) (list_all (λ y. nat_le y.stamp last) xs)
+    (le-leb x.stamp last (last_not_below x.stamp xs parts.1))
+    (none_above_clock x.stamp xs parts.1)
 
 pub clock_within : (low n : ℕ) (xs : List Stamped) → low ≤ n
     → list_all (λ y. nat_le y.stamp n) xs ≡ true → last_of low (map (λ y. y.stamp) xs) ≤ n
@@ -78,7 +83,8 @@ clock_within low n (x ∷ xs) small h =
 pub within_more : (n : ℕ) (xs : List Stamped) → list_all (λ y. nat_le y.stamp n) xs ≡ true
     → list_all (λ y. nat_le y.stamp (n + 1)) xs ≡ true
 within_more n xs h =
-    all_more (λ y. nat_le y.stamp n) (λ y. nat_le y.stamp (n + 1)) xs (λ y small. le-leb y.stamp (n + 1) (let less = leb-true y.stamp n small in omega arith)) h
+    all_more (λ y. nat_le y.stamp n) (λ y. nat_le y.stamp (n + 1)) xs
+    (λ y small. le-leb y.stamp (n + 1) (let less = leb-true y.stamp n small in omega arith)) h
 
 pub hand_within_more : (n : ℕ) (h : Option Hand) → is_hand_within n h ≡ true
     → is_hand_within (n + 1) h ≡ true
@@ -104,8 +110,12 @@ reacts_more : (net : Network) (before : List Entry) (xs : List Stamped) (x : Sta
     → ReactsAfter net before (entries (xs ++ x ∷ []))
 reacts_more net before [] x h may =
     (subst (λ l. MayReactIfReaction net l x.entry) (append-nil before) may, tt)
-reacts_more net before (y ∷ xs) x h may =
-    (h.0, reacts_more net (before ++ y.entry ∷ []) xs x h.1 (subst (λ l. MayReactIfReaction net l x.entry) (sym (append_assoc before (y.entry ∷ []) (entries xs))) may))
+reacts_more net before (y ∷ xs) x h may = (
+  h.0,
+  reacts_more net (before ++ y.entry ∷ []) xs x h.1
+      (subst (λ l. MayReactIfReaction net l x.entry)
+      (sym (append_assoc before (y.entry ∷ []) (entries xs))) may),
+)
 
 pub alone_more : (net : Network) (m : ℕ) (log : List Stamped) (x : Stamped) → LegalAlone net m log
     → clock log < x.stamp → x.stamp ≤ max_stamp → FitsNetwork net x.entry
@@ -132,14 +142,17 @@ below_more t (x ∷ xs) ys = cases (nat_lt x.stamp t) (below_more t xs ys)
 
 sent_below_more : (net : Network) (trace : List TraceItem) (logs new : ℕ → List Stamped) (m : ℕ)
     (x : Stamped) (t : ℕ) (s : Party) (k : ℕ) → HasMore logs new m x
-    → Begins (sent net trace s k (entries (stamped_below t (log_of_party logs s)))) (sent net trace s k (entries (stamped_below t (log_of_party new s))))
+    → Begins (sent net trace s k (entries (stamped_below t (log_of_party logs s))))
+    (sent net trace s k (entries (stamped_below t (log_of_party new s))))
 sent_below_more net trace logs new m x t Env k more =
     ([], sym (append-nil (sent net trace Env k [])))
 sent_below_more net trace logs new m x t (Sender j) k more =
     begins_sent net trace j k (stamped_below t (logs j)) (stamped_below t (new j))
     (elim (more_or_same logs new m x j more) [
-      | inl (same, longer) ↦ subst (λ l. Begins (stamped_below t (logs j)) (stamped_below t l)) (sym longer) (below_more t (logs j) (x ∷ []))
-      | inr (other, same) ↦ subst (λ l. Begins (stamped_below t (logs j)) (stamped_below t l)) (sym same) ([], sym (append-nil (stamped_below t (logs j))))
+      | inl (same, longer) ↦ subst (λ l. Begins (stamped_below t (logs j)) (stamped_below t l))
+          (sym longer) (below_more t (logs j) (x ∷ []))
+      | inr (other, same) ↦ subst (λ l. Begins (stamped_below t (logs j)) (stamped_below t l))
+          (sym same) ([], sym (append-nil (stamped_below t (logs j))))
     ])
 
 in_time_still : (net : Network) (trace : List TraceItem) (logs new : ℕ → List Stamped) (m : ℕ)
@@ -147,7 +160,9 @@ in_time_still : (net : Network) (trace : List TraceItem) (logs new : ℕ → Lis
     → InTime net trace logs before t entry → InTime net trace new before t entry
 in_time_still net trace logs new m x more before t (Rea k s o) h = h
 in_time_still net trace logs new m x more before t (Dep s k e c) h =
-    begins_further (delivered s k (before ++ Dep s k e c ∷ [])) (sent net trace s k (entries (stamped_below t (log_of_party logs s)))) (sent net trace s k (entries (stamped_below t (log_of_party new s)))) h
+    begins_further (delivered s k (before ++ Dep s k e c ∷ []))
+    (sent net trace s k (entries (stamped_below t (log_of_party logs s))))
+    (sent net trace s k (entries (stamped_below t (log_of_party new s)))) h
     (sent_below_more net trace logs new m x t s k more)
 
 all_in_time_still : (net : Network) (trace : List TraceItem) (logs new : ℕ → List Stamped) (m : ℕ)
@@ -163,8 +178,12 @@ in_time_more : (net : Network) (trace : List TraceItem) (logs : ℕ → List Sta
     → AllInTime net trace logs before (xs ++ x ∷ [])
 in_time_more net trace logs before [] x h g =
     (subst (λ l. InTime net trace logs l x.stamp x.entry) (append-nil before) g, tt)
-in_time_more net trace logs before (y ∷ xs) x h g =
-    (h.0, in_time_more net trace logs (before ++ y.entry ∷ []) xs x h.1 (subst (λ l. InTime net trace logs l x.stamp x.entry) (sym (append_assoc before (y.entry ∷ []) (entries xs))) g))
+in_time_more net trace logs before (y ∷ xs) x h g = (
+  h.0,
+  in_time_more net trace logs (before ++ y.entry ∷ []) xs x h.1
+      (subst (λ l. InTime net trace logs l x.stamp x.entry)
+      (sym (append_assoc before (y.entry ∷ []) (entries xs))) g),
+)
 
 -- where the new entry is in time, all landings are still
 pub all_in_time_more : (net : Network) (trace : List TraceItem) (logs new : ℕ → List Stamped)
@@ -176,9 +195,12 @@ all_in_time_more net trace logs new m x more h g k =
     elim (more_or_same logs new m x k more) [
       | inl (same, longer) ↦
           subst (AllInTime net trace new []) (sym longer)
-          (in_time_more net trace new [] (logs k) x (all_in_time_still net trace logs new m x more [] (logs k) (h k))
-          (subst (λ j. InTime net trace new (entries (logs j)) x.stamp x.entry) (sym same) (in_time_still net trace logs new m x more (entries (logs m)) x.stamp x.entry g)))
-      | inr (other, same) ↦ subst (AllInTime net trace new []) (sym same) (all_in_time_still net trace logs new m x more [] (logs k) (h k))
+          (in_time_more net trace new [] (logs k) x
+          (all_in_time_still net trace logs new m x more [] (logs k) (h k))
+          (subst (λ j. InTime net trace new (entries (logs j)) x.stamp x.entry) (sym same)
+          (in_time_still net trace logs new m x more (entries (logs m)) x.stamp x.entry g)))
+      | inr (other, same) ↦ subst (AllInTime net trace new []) (sym same)
+          (all_in_time_still net trace logs new m x more [] (logs k) (h k))
     ]
 
 -- ---- the last firing
@@ -188,7 +210,8 @@ pub last_firing_more : (m : ℕ) (log : List Stamped) (h : Option Hand) (x : Sta
     → is_last_firing m (log ++ x ∷ []) h ≡ true
 last_firing_more m log None x h g = refl
 last_firing_more m log (Some hand) x h g =
-    all_push (λ y. not (is_firing_of m y.entry) || nat_le y.stamp hand.stamp) log x h (or_left (not (is_firing_of m x.entry)) (nat_le x.stamp hand.stamp) (ap not g))
+    all_push (λ y. not (is_firing_of m y.entry) || nat_le y.stamp hand.stamp) log x h
+    (or_left (not (is_firing_of m x.entry)) (nat_le x.stamp hand.stamp) (ap not g))
 
 -- ---- the number of all entries
 
@@ -202,7 +225,8 @@ count_more (log ∷ logs) zero x below =
     omega arith
 count_more (log ∷ logs) (suc m) x below =
     let left =
-    length-append log (flat_map (λ (log : List Stamped). log) (set logs m (get_or logs m [] ++ x ∷ []))) in
+    length-append log
+    (flat_map (λ (log : List Stamped). log) (set logs m (get_or logs m [] ++ x ∷ []))) in
     let right = length-append log (flat_map (λ (log : List Stamped). log) logs) in
     let rest = count_more logs m x (omega arith) in
     omega arith

@@ -47,7 +47,8 @@ no_firings j [] h = refl
 no_firings j (x ∷ xs) h =
     let parts =
     and_parts (not (is_firing_of j x.entry)) (list_all (λ y. not (is_firing_of j y.entry)) xs) h in
-    ap (λ b. cond b (x.entry ∷ filter (is_firing_of j) (entries xs)) (filter (is_firing_of j) (entries xs))) (not-true (is_firing_of j x.entry) parts.0)
+    ap (λ b. cond b (x.entry ∷ filter (is_firing_of j) (entries xs))
+    (filter (is_firing_of j) (entries xs))) (not-true (is_firing_of j x.entry) parts.0)
     ∙ no_firings j xs parts.1
 
 nothing_sent : (net : Network) (trace : List TraceItem) (j k : ℕ) (xs : List Stamped)
@@ -61,16 +62,19 @@ above_is_no_firing : (a : Bool) (t f : ℕ) → (not a || nat_le t f) ≡ true �
 above_is_no_firing a t f h above =
     elim (or_cases (not a) (nat_le t f) h) [
       | inl idle ↦ idle
-      | inr low ↦ absurd (let small = leb-true t f low in let large = ltb-true f t above in omega arith)
+      | inr low ↦ absurd
+          (let small = leb-true t f low in let large = ltb-true f t above in omega arith)
     ]
 
 all_sent_below : (net : Network) (trace : List TraceItem) (j k t f low : ℕ) (xs : List Stamped)
     → rises low xs ≡ true
     → list_all (λ y. not (is_firing_of j y.entry) || nat_le y.stamp f) xs ≡ true → f < t
-    → sent net trace (Sender j) k (entries (stamped_below t xs)) ≡ sent net trace (Sender j) k (entries xs)
+    → sent net trace (Sender j) k (entries (stamped_below t xs))
+    ≡ sent net trace (Sender j) k (entries xs)
 all_sent_below net trace j k t f low [] rising last below = refl
 all_sent_below net trace j k t f low (x ∷ xs) rising last below =
-    cases (nat_lt x.stamp t) refl (all_sent_below net trace j k t f x.stamp xs steps.1 lasts.1 below)
+    cases (nat_lt x.stamp t) refl
+    (all_sent_below net trace j k t f x.stamp xs steps.1 lasts.1 below)
   where
     quiet : Stamped → Bool
     quiet y = not (is_firing_of j y.entry) || nat_le y.stamp f
@@ -81,11 +85,14 @@ all_sent_below net trace j k t f low (x ∷ xs) rising last below =
     lasts : ((not (is_firing_of j x.entry) || nat_le x.stamp f) ≡ true) ×
         (list_all (λ y. not (is_firing_of j y.entry) || nat_le y.stamp f) xs ≡ true)
     lasts =
-        and_parts (not (is_firing_of j x.entry) || nat_le x.stamp f) (list_all (λ y. not (is_firing_of j y.entry) || nat_le y.stamp f) xs) last
+        and_parts (not (is_firing_of j x.entry) || nat_le x.stamp f)
+        (list_all (λ y. not (is_firing_of j y.entry) || nat_le y.stamp f) xs) last
 
     cases : (b : Bool) → nat_lt x.stamp t ≡ b
-        → sent net trace (Sender j) k (entries (stamped_below t xs)) ≡ sent net trace (Sender j) k (entries xs)
-        → sent net trace (Sender j) k (entries (cond b (x ∷ stamped_below t xs) [])) ≡ sent net trace (Sender j) k (entries (x ∷ xs))
+        → sent net trace (Sender j) k (entries (stamped_below t xs))
+        ≡ sent net trace (Sender j) k (entries xs)
+        → sent net trace (Sender j) k (entries (cond b (x ∷ stamped_below t xs) []))
+        ≡ sent net trace (Sender j) k (entries (x ∷ xs))
     cases true is rest =
         sent_more net trace j k (x.entry ∷ []) (entries (stamped_below t xs))
         ∙ ap (λ l. sent net trace (Sender j) k (x.entry ∷ []) ++ l) rest
@@ -93,15 +100,19 @@ all_sent_below net trace j k t f low (x ∷ xs) rising last below =
     cases false is rest =
         let first : f < x.stamp = let far = ltb-false x.stamp t is in omega arith in
         sym (nothing_sent net trace j k (x ∷ xs)
-        (all_two (λ y. not (is_firing_of j y.entry) || nat_le y.stamp f) (λ y. nat_lt f y.stamp) (λ y. not (is_firing_of j y.entry)) (x ∷ xs)
+        (all_two (λ y. not (is_firing_of j y.entry) || nat_le y.stamp f) (λ y. nat_lt f y.stamp)
+        (λ y. not (is_firing_of j y.entry)) (x ∷ xs)
         (λ y a b. above_is_no_firing (is_firing_of j y.entry) y.stamp f a b) last
         (and_from (nat_lt f x.stamp) (list_all (λ y. nat_lt f y.stamp) xs) (lt-ltb f x.stamp first)
-        (all_more (λ y. nat_lt x.stamp y.stamp) (λ y. nat_lt f y.stamp) xs (λ y more. lt-ltb f y.stamp (let less = ltb-true x.stamp y.stamp more in omega arith)) (rises_from x.stamp xs steps.1)))))
+        (all_more (λ y. nat_lt x.stamp y.stamp) (λ y. nat_lt f y.stamp) xs
+        (λ y more. lt-ltb f y.stamp (let less = ltb-true x.stamp y.stamp more in omega arith))
+        (rises_from x.stamp xs steps.1)))))
 
 -- what the sender of a hand has sent is all sent by firings below a stamp above the hand's
 pub sent_by_then : (net : Network) (trace : List TraceItem) (j k t : ℕ) (log : List Stamped)
     (hand : Hand) → rises 0 log ≡ true → is_last_firing j log (Some hand) ≡ true → hand.stamp < t
-    → sent net trace (Sender j) k (entries (stamped_below t log)) ≡ sent net trace (Sender j) k (entries log)
+    → sent net trace (Sender j) k (entries (stamped_below t log))
+    ≡ sent net trace (Sender j) k (entries log)
 sent_by_then net trace j k t log hand rising last below =
     all_sent_below net trace j k t hand.stamp 0 log rising last below
 
@@ -112,7 +123,8 @@ last_by_stamp : (m : ℕ) (log : List Stamped) (g h : Option Hand) → stamp_in 
 last_by_stamp m log None h e is = refl
 last_by_stamp m log (Some a) None e is = absurd (none-some a.stamp (sym e))
 last_by_stamp m log (Some a) (Some b) e is =
-    ap (λ t. list_all (λ y. not (is_firing_of m y.entry) || nat_le y.stamp t) log) (same_Some a.stamp b.stamp e)
+    ap (λ t. list_all (λ y. not (is_firing_of m y.entry) || nat_le y.stamp t) log)
+    (same_Some a.stamp b.stamp e)
     ∙ is
 
 within_by_stamp : (n : ℕ) (g h : Option Hand) → stamp_in g ≡ stamp_in h → is_hand_within n h ≡ true
@@ -128,7 +140,8 @@ way_split : (p : Party) (k : ℕ) (d : Owed) (ds : List Owed)
 way_split p k d ds = cases (is_way p k d)
   where
     cases : (b : Bool)
-        → map event_code (cond b (d ∷ filter (is_way p k) ds) (filter (is_way p k) ds)) ≡ map event_code (cond b (d ∷ []) []) ++ map event_code (filter (is_way p k) ds)
+        → map event_code (cond b (d ∷ filter (is_way p k) ds) (filter (is_way p k) ds))
+        ≡ map event_code (cond b (d ∷ []) []) ++ map event_code (filter (is_way p k) ds)
     cases true = refl
     cases false = refl
 
@@ -147,7 +160,9 @@ other_way p k d h = ap (λ b. map event_code (cond b (d ∷ []) [])) h
 
 -- the parts of what is due
 due_parts : (net : Network) (p : Party) (d : Owed) → is_due net p d ≡ true
-    → (same_party d.from p ≡ true) × (is_party net d.from ≡ true) × (nat_lt d.to (length net.machines) ≡ true) × (is_event_code net d.event d.code ≡ true) × (reads net d.to d.event ≡ true)
+    → (same_party d.from p ≡ true) × (is_party net d.from ≡ true)
+    × (nat_lt d.to (length net.machines) ≡ true) × (is_event_code net d.event d.code ≡ true)
+    × (reads net d.to d.event ≡ true)
 due_parts net p d h =
     let known : Bool = is_party net d.from in
     let inside : Bool = nat_lt d.to (length net.machines) in
@@ -159,12 +174,14 @@ due_parts net p d h =
     (own.0, c.0, c.1, b.1, a.1)
 
 pub due_fits : (net : Network) (p : Party) (d : Owed) → is_due net p d ≡ true
-    → FitsNetwork net (delivering d) × (is_own net d.to (delivering d) ≡ true) × (same_party d.from p ≡ true)
+    → FitsNetwork net (delivering d) × (is_own net d.to (delivering d) ≡ true)
+    × (same_party d.from p ≡ true)
 due_fits net p d h =
     let parts = due_parts net p d h in
     let known : Bool = is_party net d.from in
     let inside : Bool = nat_lt d.to (length net.machines) in (
-      and_from (known && inside) (is_event_code net d.event d.code) (and_from known inside parts.1 parts.2) parts.3,
+      and_from (known && inside) (is_event_code net d.event d.code)
+          (and_from known inside parts.1 parts.2) parts.3,
       and_from (d.to == d.to) (reads net d.to d.event) (eq-eqb d.to d.to refl) parts.4,
       parts.0,
     )
@@ -192,8 +209,11 @@ one_less j k d ds (Some a) (Some b) had has stamps =
     ap (λ l. length (on_way (Sender j) k l)) had ∙ ap length (way_split (Sender j) k d ds)
     ∙ length-append (on_way (Sender j) k (d ∷ [])) (on_way (Sender j) k ds) in
     let left = ap (λ l. length (on_way (Sender j) k l)) has in
-    drop_replicate a.stamp (length (on_way (Sender j) k (d ∷ []))) (length (on_way (Sender j) k b.deliveries)) (length (on_way (Sender j) k a.deliveries)) (omega arith)
-    ∙ ap (replicate (length (on_way (Sender j) k b.deliveries))) (sym (same_Some b.stamp a.stamp stamps))
+    drop_replicate a.stamp (length (on_way (Sender j) k (d ∷ [])))
+    (length (on_way (Sender j) k b.deliveries)) (length (on_way (Sender j) k a.deliveries))
+    (omega arith)
+    ∙ ap (replicate (length (on_way (Sender j) k b.deliveries)))
+    (sym (same_Some b.stamp a.stamp stamps))
 
 first_held_stamp : (j : ℕ) (d : Owed) (ds : List Owed) (h : Option Hand) → deliveries_in h ≡ d ∷ ds
     → same_party d.from (Sender j) ≡ true → take 1 (stamps_held h j d.to) ≡ stamps_in h
@@ -202,10 +222,15 @@ first_held_stamp j d ds (Some a) had own =
     let is : is_way (Sender j) d.to d ≡ true =
     and_from (same_party d.from (Sender j)) (d.to == d.to) own (eq-eqb d.to d.to refl) in
     let one : on_way (Sender j) d.to (d ∷ ds) ≡ event_code d ∷ on_way (Sender j) d.to ds =
-    ap (λ b. map event_code (cond b (d ∷ filter (is_way (Sender j) d.to) ds) (filter (is_way (Sender j) d.to) ds))) is in
-    ap (λ (l : List (ℕ × ℕ)). take 1 (replicate (length l) a.stamp)) (ap (on_way (Sender j) d.to) had ∙ one)
+    ap (λ b. map event_code
+    (cond b (d ∷ filter (is_way (Sender j) d.to) ds)
+    (filter (is_way (Sender j) d.to) ds))) is in
+    ap (λ (l : List (ℕ × ℕ)). take 1 (replicate (length l) a.stamp))
+    (ap (on_way (Sender j) d.to) had ∙ one)
 
-module _ (net : Network) (trace : List TraceItem) (logs new : ℕ → List Stamped) (hands left : ℕ → Option Hand) (rest fewer : List Owed) (n t : ℕ) (d : Owed) (ds : List Owed) where
+module _ (net : Network) (trace : List TraceItem) (logs new : ℕ → List Stamped)
+    (hands left : ℕ → Option Hand) (rest fewer : List Owed) (n t : ℕ) (d : Owed)
+    (ds : List Owed) where
   abbrev landed : Stamped
   landed = record { stamp = t; entry = delivering d }
 
@@ -220,14 +245,17 @@ module _ (net : Network) (trace : List TraceItem) (logs new : ℕ → List Stamp
             ∙ ap (λ l. delivered p k (entries (logs k)) ++ l) (one_landing p k d)
         | inr (other, same) ↦
             let none : on_way p k (d ∷ []) ≡ [] =
-            other_way p k d (and_right (same_party d.from p) (d.to == k) (ne_eqb d.to k (λ e. other (sym e)))) in
+            other_way p k d
+            (and_right (same_party d.from p) (d.to == k)
+            (ne_eqb d.to k (λ e. other (sym e)))) in
             ap (λ l. delivered p k (entries l)) same
             ∙ sym (append-nil (delivered p k (entries (logs k))))
             ∙ sym (ap (λ l. delivered p k (entries (logs k)) ++ l) none)
       ]
 
   landing_sends_nothing : HasMore logs new d.to landed → (p : Party) (k : ℕ)
-      → sent net trace p k (entries (log_of_party new p)) ≡ sent net trace p k (entries (log_of_party logs p))
+      → sent net trace p k (entries (log_of_party new p))
+      ≡ sent net trace p k (entries (log_of_party logs p))
   landing_sends_nothing more Env k = refl
   landing_sends_nothing more (Sender j) k =
       elim (more_or_same logs new d.to landed j more) [
@@ -242,7 +270,8 @@ module _ (net : Network) (trace : List TraceItem) (logs new : ℕ → List Stamp
       → held_by hands rest d.from ≡ d ∷ ds → held_by left fewer d.from ≡ ds
       → ((p : Party) → same_party d.from p ≡ false → held_by left fewer p ≡ held_by hands rest p)
       → (p : Party) (k : ℕ) → (b : Bool) → same_party d.from p ≡ b
-      → delivered p k (entries (new k)) ++ on_way p k (held_by left fewer p) ≡ sent net trace p k (entries (log_of_party new p))
+      → delivered p k (entries (new k)) ++ on_way p k (held_by left fewer p)
+      ≡ sent net trace p k (entries (log_of_party new p))
   landing_way f more had has others p k true own =
       let from : d.from ≡ p = party_from_same d.from p own in
       let held : held_by hands rest p ≡ d ∷ ds =
@@ -251,24 +280,31 @@ module _ (net : Network) (trace : List TraceItem) (logs new : ℕ → List Stamp
       ap (λ l. l ++ on_way p k (held_by left fewer p)) (landing_delivers more p k)
       ∙ ap (λ l. (delivered p k (entries (logs k)) ++ on_way p k (d ∷ [])) ++ on_way p k l) now
       ∙ append_assoc (delivered p k (entries (logs k))) (on_way p k (d ∷ [])) (on_way p k ds)
-      ∙ ap (λ l. delivered p k (entries (logs k)) ++ l) (sym (ap (on_way p k) held ∙ way_split p k d ds))
+      ∙ ap (λ l. delivered p k (entries (logs k)) ++ l)
+      (sym (ap (on_way p k) held ∙ way_split p k d ds))
       ∙ f.on_the_way p k ∙ sym (landing_sends_nothing more p k)
   landing_way f more had has others p k false other =
       let none : on_way p k (d ∷ []) ≡ [] =
       other_way p k d (and_left (same_party d.from p) (d.to == k) other) in
-      ap (λ l. l ++ on_way p k (held_by left fewer p)) (landing_delivers more p k ∙ ap (λ l. delivered p k (entries (logs k)) ++ l) none ∙ append-nil (delivered p k (entries (logs k))))
+      ap (λ l. l ++ on_way p k (held_by left fewer p))
+      (landing_delivers more p k ∙ ap (λ l. delivered p k (entries (logs k)) ++ l) none
+      ∙ append-nil (delivered p k (entries (logs k))))
       ∙ ap (λ l. delivered p k (entries (logs k)) ++ on_way p k l) (others p other)
       ∙ f.on_the_way p k ∙ sym (landing_sends_nothing more p k)
 
   -- the landing is the next of what its sender had sent by firings of smaller stamps
   landing_in_time : CoreFacts net trace logs hands rest n → held_by hands rest d.from ≡ d ∷ ds
-      → sent net trace d.from d.to (entries (stamped_below t (log_of_party logs d.from))) ≡ sent net trace d.from d.to (entries (log_of_party logs d.from))
+      → sent net trace d.from d.to (entries (stamped_below t (log_of_party logs d.from)))
+      ≡ sent net trace d.from d.to (entries (log_of_party logs d.from))
       → InTime net trace logs (entries (logs d.to)) t (delivering d)
   landing_in_time f had early =
       let old : List (ℕ × ℕ) = delivered d.from d.to (entries (logs d.to)) in
       let one : on_way d.from d.to (d ∷ []) ≡ (d.event, d.code) ∷ [] =
-      ap (λ b. map event_code (cond b (d ∷ []) [])) (and_from (same_party d.from d.from) (d.to == d.to) (same_party_self d.from) (eq-eqb d.to d.to refl)) in
-      let more : delivered d.from d.to (entries (logs d.to) ++ delivering d ∷ []) ≡ old ++ on_way d.from d.to (d ∷ []) =
+      ap (λ b. map event_code (cond b (d ∷ []) []))
+      (and_from (same_party d.from d.from) (d.to == d.to) (same_party_self d.from)
+      (eq-eqb d.to d.to refl)) in
+      let more : delivered d.from d.to (entries (logs d.to) ++ delivering d ∷ []) ≡ old
+      ++ on_way d.from d.to (d ∷ []) =
       delivered_own d.from d.to d.event d.code (entries (logs d.to))
       ∙ ap (λ l. old ++ l) (sym one) in (
         on_way d.from d.to ds,
@@ -282,7 +318,8 @@ module _ (net : Network) (trace : List TraceItem) (logs new : ℕ → List Stamp
       → stamps_sent net j k (new j) ≡ stamps_sent net j k (logs j)
   landing_sends_no_stamps more j k =
       elim (more_or_same logs new d.to landed j more) [
-        | inl (same, longer) ↦ ap (stamps_sent net j k) longer ∙ stamps_push net j k (logs j) landed ∙ append-nil (stamps_sent net j k (logs j))
+        | inl (same, longer) ↦ ap (stamps_sent net j k) longer ∙ stamps_push net j k (logs j) landed
+            ∙ append-nil (stamps_sent net j k (logs j))
         | inr (other, same) ↦ ap (stamps_sent net j k) same
       ]
 
@@ -292,7 +329,8 @@ module _ (net : Network) (trace : List TraceItem) (logs new : ℕ → List Stamp
       → ((p : Party) → same_party d.from p ≡ false → held_by left fewer p ≡ held_by hands rest p)
       → ((k : ℕ) → stamp_in (left k) ≡ stamp_in (hands k))
       → (j k : ℕ) (b : Bool) → same_party d.from (Sender j) ≡ b
-      → drop (length (on_way (Sender j) k (d ∷ []))) (stamps_held (hands j) j k) ≡ stamps_held (left j) j k
+      → drop (length (on_way (Sender j) k (d ∷ []))) (stamps_held (hands j) j k)
+      ≡ stamps_held (left j) j k
   left_stamps more had has others stamps j k true own =
       let from : d.from ≡ Sender j = party_from_same d.from (Sender j) own in
       let held : deliveries_in (hands j) ≡ d ∷ ds =
@@ -324,22 +362,29 @@ module _ (net : Network) (trace : List TraceItem) (logs new : ℕ → List Stamp
   -- the origin of the landing is the firing in its sender's hand
   landing_origin : CoreFacts net trace logs hands rest n → HasMore logs new d.to landed
       → held_by hands rest d.from ≡ d ∷ ds
-      → (p : Party) → d.from ≡ p → origin_in net new (logs d.to) (Dep p d.to d.event d.code) ≡ stamp_held_by hands p
+      → (p : Party) → d.from ≡ p
+      → origin_in net new (logs d.to) (Dep p d.to d.event d.code) ≡ stamp_held_by hands p
   landing_origin f more had Env is = refl
   landing_origin f more had (Sender j) is =
       let held : deliveries_in (hands j) ≡ d ∷ ds =
       subst (λ q. held_by hands rest q ≡ d ∷ ds) is had in
-      ap (λ l. take 1 (drop (length (delivered (Sender j) d.to (entries (logs d.to)))) l)) (landing_sends_no_stamps more j d.to)
+      ap (λ l. take 1 (drop (length (delivered (Sender j) d.to (entries (logs d.to)))) l))
+      (landing_sends_no_stamps more j d.to)
       ∙ ap (take 1) (f.held_stamps j d.to)
-      ∙ first_held_stamp j d ds (hands j) held (ap (λ q. same_party q (Sender j)) is ∙ same_party_self (Sender j))
+      ∙ first_held_stamp j d ds (hands j) held
+      (ap (λ q. same_party q (Sender j)) is ∙ same_party_self (Sender j))
 
   landing_due : CoreFacts net trace logs hands rest n → held_by hands rest d.from ≡ d ∷ ds
       → held_by left fewer d.from ≡ ds
       → ((p : Party) → same_party d.from p ≡ false → held_by left fewer p ≡ held_by hands rest p)
-      → (p : Party) (b : Bool) → same_party d.from p ≡ b → list_all (is_due net p) (held_by left fewer p) ≡ true
+      → (p : Party) (b : Bool) → same_party d.from p ≡ b
+      → list_all (is_due net p) (held_by left fewer p) ≡ true
   landing_due f had has others p true own =
-      subst (λ q. list_all (is_due net q) (held_by left fewer q) ≡ true) (party_from_same d.from p own)
-      (ap (list_all (is_due net d.from)) has ∙ (and_parts (is_due net d.from d) (list_all (is_due net d.from) ds) (sym (ap (list_all (is_due net d.from)) had) ∙ f.due d.from)).1)
+      subst (λ q. list_all (is_due net q) (held_by left fewer q) ≡ true)
+      (party_from_same d.from p own)
+      (ap (list_all (is_due net d.from)) has
+      ∙ (and_parts (is_due net d.from d) (list_all (is_due net d.from) ds)
+      (sym (ap (list_all (is_due net d.from)) had) ∙ f.due d.from)).1)
   landing_due f had has others p false other =
       ap (list_all (is_due net p)) (others p other) ∙ f.due p
 
@@ -347,33 +392,50 @@ module _ (net : Network) (trace : List TraceItem) (logs new : ℕ → List Stamp
       → held_by hands rest d.from ≡ d ∷ ds → held_by left fewer d.from ≡ ds
       → ((p : Party) → same_party d.from p ≡ false → held_by left fewer p ≡ held_by hands rest p)
       → ((k : ℕ) → stamp_in (left k) ≡ stamp_in (hands k))
-      → sent net trace d.from d.to (entries (stamped_below t (log_of_party logs d.from))) ≡ sent net trace d.from d.to (entries (log_of_party logs d.from))
-      → t ≡ suc (max (clock (logs d.to)) (greatest (stamp_held_by hands d.from))) → t ≤ max_stamp → t ≤ n + 1
+      → sent net trace d.from d.to (entries (stamped_below t (log_of_party logs d.from)))
+      ≡ sent net trace d.from d.to (entries (log_of_party logs d.from))
+      → t ≡ suc (max (clock (logs d.to)) (greatest (stamp_held_by hands d.from))) → t ≤ max_stamp
+      → t ≤ n + 1
       → CoreFacts net trace new left fewer (n + 1)
   keeps_landing known f more had has others stamps early stamp most small =
       let above : clock (logs d.to) < t = omega arith in
       let first =
-      due_fits net d.from d (and_parts (is_due net d.from d) (list_all (is_due net d.from) ds) (sym (ap (list_all (is_due net d.from)) had) ∙ f.due d.from)).0 in
+      due_fits net d.from d
+      (and_parts (is_due net d.from d) (list_all (is_due net d.from) ds)
+      (sym (ap (list_all (is_due net d.from)) had) ∙ f.due d.from)).0 in
       record {
         alone = λ k. elim (more_or_same logs new d.to landed k more) [
-          | inl (same, longer) ↦ subst (LegalAlone net k) (sym longer) (subst (λ j. LegalAlone net j (logs j ++ landed ∷ [])) (sym same) (alone_more net d.to (logs d.to) landed (f.alone d.to) above most first.0 first.1 tt))
+          | inl (same, longer) ↦ subst (LegalAlone net k) (sym longer)
+              (subst (λ j. LegalAlone net j (logs j ++ landed ∷ [])) (sym same)
+              (alone_more net d.to (logs d.to) landed (f.alone d.to) above most first.0 first.1 tt))
           | inr (other, same) ↦ subst (LegalAlone net k) (sym same) (f.alone k)
         ];
-        in_time = all_in_time_more net trace logs new d.to landed more f.in_time (landing_in_time f had early);
+        in_time = all_in_time_more net trace logs new d.to landed more f.in_time
+            (landing_in_time f had early);
         on_the_way = λ p k. landing_way f more had has others p k (same_party d.from p) refl;
-        last_firing = λ k. last_by_stamp k (new k) (left k) (hands k) (stamps k) (elim (more_or_same logs new d.to landed k more) [
-          | inl (same, longer) ↦ ap (λ l. is_last_firing k l (hands k)) longer ∙ last_firing_more k (logs k) (hands k) landed (f.last_firing k) refl
-          | inr (other, same) ↦ ap (λ l. is_last_firing k l (hands k)) same ∙ f.last_firing k
-        ]);
+        last_firing =
+            λ k. last_by_stamp k (new k) (left k) (hands k) (stamps k)
+            (elim (more_or_same logs new d.to landed k more) [
+              | inl (same, longer) ↦ ap (λ l. is_last_firing k l (hands k)) longer
+                  ∙ last_firing_more k (logs k) (hands k) landed (f.last_firing k) refl
+              | inr (other, same) ↦ ap (λ l. is_last_firing k l (hands k)) same ∙ f.last_firing k
+            ]);
         due = λ p. landing_due f had has others p (same_party d.from p) refl;
         within = λ k. elim (more_or_same logs new d.to landed k more) [
-          | inl (same, longer) ↦ ap (list_all (λ y. nat_le y.stamp (n + 1))) longer ∙ all_push (λ y. nat_le y.stamp (n + 1)) (logs k) landed (within_more n (logs k) (f.within k)) (le-leb t (n + 1) small)
-          | inr (other, same) ↦ ap (list_all (λ y. nat_le y.stamp (n + 1))) same ∙ within_more n (logs k) (f.within k)
+          | inl (same, longer) ↦ ap (list_all (λ y. nat_le y.stamp (n + 1))) longer
+              ∙ all_push (λ y. nat_le y.stamp (n + 1)) (logs k) landed
+              (within_more n (logs k) (f.within k)) (le-leb t (n + 1) small)
+          | inr (other, same) ↦ ap (list_all (λ y. nat_le y.stamp (n + 1))) same
+              ∙ within_more n (logs k) (f.within k)
         ];
-        hands_within = λ k. within_by_stamp (n + 1) (left k) (hands k) (stamps k) (hand_within_more n (hands k) (f.hands_within k));
+        hands_within =
+            λ k. within_by_stamp (n + 1) (left k) (hands k) (stamps k)
+            (hand_within_more n (hands k) (f.hands_within k));
         least =
-            all_least_more net trace logs new d.to landed known more f.in_time f.least (f.alone d.to).rising
-            (stamp ∙ ap (λ l. suc (max (clock (logs d.to)) (greatest l))) (sym (landing_origin f more had d.from refl)));
+            all_least_more net trace logs new d.to landed known more f.in_time f.least
+            (f.alone d.to).rising
+            (stamp ∙ ap (λ l. suc (max (clock (logs d.to)) (greatest l)))
+            (sym (landing_origin f more had d.from refl)));
         held_stamps = landing_stamps f more had has others stamps;
       }
 
@@ -389,27 +451,33 @@ pub keeps_freeing : (net : Network) (trace : List TraceItem) (logs : ℕ → Lis
 keeps_freeing net trace logs hands left rest n m f empty free others =
     let held : (k : ℕ) → deliveries_in (left k) ≡ deliveries_in (hands k) =
     λ k. elim (cases_eq k m) [
-      | inl same ↦ subst (λ j. deliveries_in (left j) ≡ deliveries_in (hands j)) (sym same) (ap deliveries_in free ∙ sym empty)
+      | inl same ↦ subst (λ j. deliveries_in (left j) ≡ deliveries_in (hands j)) (sym same)
+          (ap deliveries_in free ∙ sym empty)
       | inr other ↦ ap deliveries_in (others k other)
     ] in
     let by : (p : Party) → held_by left rest p ≡ held_by hands rest p = by_party held in
     record {
       alone = f.alone;
       in_time = f.in_time;
-      on_the_way = λ p k. ap (λ l. delivered p k (entries (logs k)) ++ on_way p k l) (by p) ∙ f.on_the_way p k;
+      on_the_way =
+          λ p k. ap (λ l. delivered p k (entries (logs k)) ++ on_way p k l) (by p)
+          ∙ f.on_the_way p k;
       last_firing = λ k. elim (cases_eq k m) [
-        | inl same ↦ subst (λ j. is_last_firing j (logs j) (left j) ≡ true) (sym same) (ap (is_last_firing m (logs m)) free)
+        | inl same ↦ subst (λ j. is_last_firing j (logs j) (left j) ≡ true) (sym same)
+            (ap (is_last_firing m (logs m)) free)
         | inr other ↦ ap (is_last_firing k (logs k)) (others k other) ∙ f.last_firing k
       ];
       due = λ p. ap (list_all (is_due net p)) (by p) ∙ f.due p;
       within = f.within;
       hands_within = λ k. elim (cases_eq k m) [
-        | inl same ↦ subst (λ j. is_hand_within n (left j) ≡ true) (sym same) (ap (is_hand_within n) free)
+        | inl same ↦ subst (λ j. is_hand_within n (left j) ≡ true) (sym same)
+            (ap (is_hand_within n) free)
         | inr other ↦ ap (is_hand_within n) (others k other) ∙ f.hands_within k
       ];
       least = f.least;
       held_stamps = λ j k. f.held_stamps j k ∙ elim (cases_eq j m) [
-        | inl same ↦ subst (λ i. stamps_held (hands i) i k ≡ stamps_held (left i) i k) (sym same) (nothing_held m k (hands m) empty ∙ sym (ap (λ h. stamps_held h m k) free))
+        | inl same ↦ subst (λ i. stamps_held (hands i) i k ≡ stamps_held (left i) i k) (sym same)
+            (nothing_held m k (hands m) empty ∙ sym (ap (λ h. stamps_held h m k) free))
         | inr other ↦ sym (ap (λ h. stamps_held h j k) (others j other))
       ];
     }

@@ -44,9 +44,15 @@ land_counts net trace state next s (Some hand) core is e = cases hand.deliveries
     cases [] has e = absurd (none-some next e)
     cases (d ∷ ds) has e =
         let both =
-        some_when (may_land (log_of state d.to) hand.stamp) (record state { logs = with_entry state d.to (landing (log_of state d.to) hand.stamp d); hands = set state.hands s (Some (record { stamp = hand.stamp; deliveries = ds })) }) next e in
+        some_when (may_land (log_of state d.to) hand.stamp)
+        (record state {
+          logs = with_entry state d.to (landing (log_of state d.to) hand.stamp d);
+          hands = set state.hands s
+              (Some (record { stamp = hand.stamp; deliveries = ds }));
+        }) next e in
         sym (ap (λ (x : CoreState). count_entries x.logs) both.1)
-        ∙ count_more state.logs d.to (landing (log_of state d.to) hand.stamp d) (due_inside net trace state s hand d ds core is has)
+        ∙ count_more state.logs d.to (landing (log_of state d.to) hand.stamp d)
+        (due_inside net trace state s hand d ds core is has)
 
 free_counts : (state next : CoreState) (s : ℕ) (h : Option Hand) → free state s h ≡ Some next
     → Counts state next (Free s)
@@ -59,7 +65,9 @@ free_counts state next s (Some hand) e = cases hand.deliveries e
     cases : (ds : List Owed) → freed state s ds ≡ Some next
         → count_entries next.logs ≡ count_entries state.logs + 0
     cases [] e =
-        same (count_entries state.logs) (count_entries next.logs) (ap (λ (x : CoreState). count_entries x.logs) (same_Some (record state { hands = set state.hands s None }) next e))
+        same (count_entries state.logs) (count_entries next.logs)
+        (ap (λ (x : CoreState). count_entries x.logs)
+        (same_Some (record state { hands = set state.hands s None }) next e))
     cases (d ∷ ds) e = absurd (none-some next e)
 
 feed_counts : (net : Network) (trace : List TraceItem) (state next : CoreState) (ds : List Owed)
@@ -67,9 +75,13 @@ feed_counts : (net : Network) (trace : List TraceItem) (state next : CoreState) 
 feed_counts net trace state next [] core has e = absurd (none-some next e)
 feed_counts net trace state next (d ∷ ds) core has e =
     let both =
-    some_when (may_land (log_of state d.to) 0) (record state { logs = with_entry state d.to (landing (log_of state d.to) 0 d); rest = ds }) next e in
+    some_when (may_land (log_of state d.to) 0)
+    (record state
+    { logs = with_entry state d.to (landing (log_of state d.to) 0 d); rest = ds }) next e in
     let below =
-    due_within net Env d (and_parts (is_due net Env d) (list_all (is_due net Env) ds) (sym (ap (list_all (is_due net Env)) has) ∙ core.facts.due Env)).0 in
+    due_within net Env d
+    (and_parts (is_due net Env d) (list_all (is_due net Env) ds)
+    (sym (ap (list_all (is_due net Env)) has) ∙ core.facts.due Env)).0 in
     let many = core.logs in
     sym (ap (λ (x : CoreState). count_entries x.logs) both.1)
     ∙ count_more state.logs d.to (landing (log_of state d.to) 0 d) (omega arith)
@@ -83,7 +95,9 @@ step_counts net trace state next (React m) core e =
     let idle : Bool = is_none (hand_of state m) in
     let woken : Bool = is_woken (entries (log_of state m)) m in
     let inside : m < length state.logs =
-    woken_inside state m (and_parts idle woken (and_parts (idle && woken) (nat_lt (clock (log_of state m)) max_stamp) both.0).0).1 in
+    woken_inside state m
+    (and_parts idle woken
+    (and_parts (idle && woken) (nat_lt (clock (log_of state m)) max_stamp) both.0).0).1 in
     sym (ap (λ (x : CoreState). count_entries x.logs) both.1)
     ∙ count_more state.logs m (reacting net m (log_of state m)) inside
 step_counts net trace state next (Land s) core e =
@@ -95,7 +109,8 @@ step_counts net trace state next Feed core e =
 -- ---- a turn
 
 -- what is true of a core left to itself after k turns
-pub record IsAlone (net : Network) (trace : List TraceItem) (core : CoreMoment) (made k : ℕ) : Type 0 where
+pub record IsAlone (net : Network) (trace : List TraceItem) (core : CoreMoment)
+    (made k : ℕ) : Type 0 where
   pub net_is : core.net ≡ net
   pub trace_is : core.trace ≡ trace
   pub is_core : IsCore net trace core.state
@@ -104,7 +119,8 @@ pub record IsAlone (net : Network) (trace : List TraceItem) (core : CoreMoment) 
 
 pub turn_gains : (net : Network) (trace : List TraceItem) (old new : CoreMoment) (step : CoreStep)
     (made k added : ℕ)
-    → ((state next : CoreState) (step : CoreStep) → IsCore net trace state → take_step net state step ≡ Some next → IsCore net trace next)
+    → ((state next : CoreState) (step : CoreStep) → IsCore net trace state
+    → take_step net state step ≡ Some next → IsCore net trace next)
     → IsAlone net trace old made k
     → Took old new (Some step)
     → added ≡ cond (adds_entry step) 1 0
@@ -148,7 +164,8 @@ whole_by_stop net trace core made k count journal complete alone fewer small sto
     inr (
       omega arith,
       subst (Complete net trace) (sym is)
-          (complete net trace core.state alone.is_core (omega arith) (λ step. sym (ap (λ n. take_step n core.state step) alone.net_is) ∙ stopped step)),
+          (complete net trace core.state alone.is_core (omega arith)
+          (λ step. sym (ap (λ n. take_step n core.state step) alone.net_is) ∙ stopped step)),
     )
 
 -- ---- the start
@@ -166,8 +183,11 @@ alone_first net trace core start fits is =
     record {
       net_is = ap (λ (v : CoreMoment). v.net) is;
       trace_is = ap (λ (v : CoreMoment). v.trace) is;
-      is_core = subst (λ (v : CoreMoment). IsCore net trace v.state) (sym is) (start net trace fits);
-      made_are = sym (ap (λ (v : CoreMoment). count_entries v.state.logs) is ∙ ap length (no_entries (length net.machines)));
+      is_core = subst (λ (v : CoreMoment). IsCore net trace v.state) (sym is)
+          (start net trace fits);
+      made_are = sym
+          (ap (λ (v : CoreMoment). count_entries v.state.logs) is
+          ∙ ap length (no_entries (length net.machines)));
       gain = omega arith;
     }
 

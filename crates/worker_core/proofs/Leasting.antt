@@ -53,19 +53,25 @@ greatest_is_clock log more h =
 pub stamps_push : (net : Network) (s m : ℕ) (xs : List Stamped) (x : Stamped)
     → stamps_sent net s m (xs ++ x ∷ []) ≡ stamps_sent net s m xs ++ stamps_sent net s m (x ∷ [])
 stamps_push net s m xs x =
-    ap (flat_map (once_each net m)) (filter-append (λ (y : Stamped). is_firing_of s y.entry) xs (x ∷ []))
-    ∙ flat_map-append (once_each net m) (filter (λ (y : Stamped). is_firing_of s y.entry) xs) (filter (λ (y : Stamped). is_firing_of s y.entry) (x ∷ []))
+    ap (flat_map (once_each net m))
+    (filter-append (λ (y : Stamped). is_firing_of s y.entry) xs (x ∷ []))
+    ∙ flat_map-append (once_each net m) (filter (λ (y : Stamped). is_firing_of s y.entry) xs)
+    (filter (λ (y : Stamped). is_firing_of s y.entry) (x ∷ []))
 
 -- of one entry
 pub stamps_of_one : (net : Network) (trace : List TraceItem) (s m : ℕ) (x : Stamped)
-    → stamps_sent net s m (x ∷ []) ≡ replicate (length (sent net trace (Sender s) m (x.entry ∷ []))) x.stamp
+    → stamps_sent net s m (x ∷ [])
+    ≡ replicate (length (sent net trace (Sender s) m (x.entry ∷ []))) x.stamp
 stamps_of_one net trace s m x = cases (is_firing_of s x.entry)
   where
     count : List (ℕ × ℕ) → List ℕ
     count es = replicate (length (filter (λ (e : ℕ × ℕ). reads net m e.0) es)) x.stamp
 
     cases : (b : Bool)
-        → flat_map (once_each net m) (cond b (x ∷ []) []) ≡ replicate (length (filter (λ (p : ℕ × ℕ). reads net m p.0) (flat_map (emissions net) (cond b (x.entry ∷ []) [])))) x.stamp
+        → flat_map (once_each net m) (cond b (x ∷ []) [])
+        ≡ replicate
+        (length (filter (λ (p : ℕ × ℕ). reads net m p.0)
+        (flat_map (emissions net) (cond b (x.entry ∷ []) [])))) x.stamp
     cases true =
         append-nil (once_each net m x) ∙ sym (ap count (append-nil (emissions net x.entry)))
     cases false = refl
@@ -119,14 +125,19 @@ begins_length xs ys (rest, e) =
 -- fewer were delivered before a landing in time than were sent
 fewer_delivered : (net : Network) (trace : List TraceItem) (logs : ℕ → List Stamped)
     (before : List Entry) (t s m e c : ℕ) → InTime net trace logs before t (Dep (Sender s) m e c)
-    → length (delivered (Sender s) m before) < length (sent net trace (Sender s) m (entries (logs s)))
+    → length (delivered (Sender s) m before) < length
+    (sent net trace (Sender s) m (entries (logs s)))
 fewer_delivered net trace logs before t s m e c h =
     let one = ap length (delivered_own (Sender s) m e c before) in
     let two = length-append (delivered (Sender s) m before) ((e, c) ∷ []) in
     let low =
-    begins_length (delivered (Sender s) m (before ++ Dep (Sender s) m e c ∷ [])) (sent net trace (Sender s) m (entries (stamped_below t (logs s)))) h in
+    begins_length (delivered (Sender s) m (before ++ Dep (Sender s) m e c ∷ []))
+    (sent net trace (Sender s) m (entries (stamped_below t (logs s)))) h in
     let high =
-    begins_length (sent net trace (Sender s) m (entries (stamped_below t (logs s)))) (sent net trace (Sender s) m (entries (logs s))) (begins_sent net trace s m (stamped_below t (logs s)) (logs s) (stamped_begins t (logs s))) in
+    begins_length (sent net trace (Sender s) m (entries (stamped_below t (logs s))))
+    (sent net trace (Sender s) m (entries (logs s)))
+    (begins_sent net trace s m (stamped_below t (logs s)) (logs s)
+    (stamped_begins t (logs s))) in
     let single : length {A = ℕ × ℕ} ((e, c) ∷ []) ≡ 1 = refl in
     omega arith
 
@@ -150,7 +161,8 @@ origin_stays net trace logs new m x known more before t (Dep (Sender s) k e c) h
           let many = known.as_many net trace s k (logs s) in
           ap (λ l. take 1 (drop n (stamps_sent net s k l))) longer
           ∙ ap (λ l. take 1 (drop n l)) (stamps_push net s k (logs s) x)
-          ∙ first_stays n (stamps_sent net s k (logs s)) (stamps_sent net s k (x ∷ [])) (omega arith)
+          ∙ first_stays n (stamps_sent net s k (logs s)) (stamps_sent net s k (x ∷ []))
+          (omega arith)
       | inr (other, same) ↦ ap (λ l. take 1 (drop n (stamps_sent net s k l))) same
     ]
 
@@ -162,19 +174,27 @@ all_least_still : (net : Network) (trace : List TraceItem) (logs new : ℕ → L
 all_least_still net trace logs new m x known more before [] g h = tt
 all_least_still net trace logs new m x known more before (y ∷ xs) g h = (
   h.0
-      ∙ ap (λ l. suc (greatest (stamps_of before ++ l))) (sym (origin_stays net trace logs new m x known more before y.stamp y.entry g.0)),
-  all_least_still net trace logs new m x known more (before ++ y ∷ []) xs (subst (λ l. AllInTime net trace logs l xs) (sym (entries_more before y)) g.1) h.1,
+      ∙ ap (λ l. suc (greatest (stamps_of before ++ l)))
+      (sym (origin_stays net trace logs new m x known more before y.stamp y.entry g.0)),
+  all_least_still net trace logs new m x known more (before ++ y ∷ []) xs
+      (subst (λ l. AllInTime net trace logs l xs) (sym (entries_more before y)) g.1) h.1,
 )
 
 least_push : (net : Network) (logs : ℕ → List Stamped) (before xs : List Stamped) (x : Stamped)
     → AllLeastIn net logs before xs
-    → x.stamp ≡ suc (greatest (stamps_of (before ++ xs) ++ origin_in net logs (before ++ xs) x.entry))
+    → x.stamp
+    ≡ suc (greatest (stamps_of (before ++ xs) ++ origin_in net logs (before ++ xs) x.entry))
     → AllLeastIn net logs before (xs ++ x ∷ [])
-least_push net logs before [] x h e =
-    (subst (λ l. x.stamp ≡ suc (greatest (stamps_of l ++ origin_in net logs l x.entry))) (append-nil before) e, tt)
+least_push net logs before [] x h e = (
+  subst (λ l. x.stamp ≡ suc (greatest (stamps_of l ++ origin_in net logs l x.entry)))
+      (append-nil before) e,
+  tt,
+)
 least_push net logs before (y ∷ xs) x h e = (
   h.0,
-  least_push net logs (before ++ y ∷ []) xs x h.1 (subst (λ l. x.stamp ≡ suc (greatest (stamps_of l ++ origin_in net logs l x.entry))) (sym (append_assoc before (y ∷ []) xs)) e),
+  least_push net logs (before ++ y ∷ []) xs x h.1
+      (subst (λ l. x.stamp ≡ suc (greatest (stamps_of l ++ origin_in net logs l x.entry)))
+      (sym (append_assoc before (y ∷ []) xs)) e),
 )
 
 -- where the new entry's stamp is the least one, all are still
@@ -188,11 +208,16 @@ pub all_least_more : (net : Network) (trace : List TraceItem) (logs new : ℕ �
 all_least_more net trace logs new m x known more in_time least rising stamp k =
     elim (more_or_same logs new m x k more) [
       | inl (same, longer) ↦
-          let above : x.stamp ≡ suc (greatest (stamps_of (logs m) ++ origin_in net new (logs m) x.entry)) =
+          let above : x.stamp
+          ≡ suc (greatest (stamps_of (logs m) ++ origin_in net new (logs m) x.entry)) =
           stamp
           ∙ ap suc (sym (greatest_is_clock (logs m) (origin_in net new (logs m) x.entry) rising)) in
           subst (AllLeastIn net new []) (sym longer)
-          (least_push net new [] (logs k) x (all_least_still net trace logs new m x known more [] (logs k) (in_time k) (least k))
-          (subst (λ j. x.stamp ≡ suc (greatest (stamps_of (logs j) ++ origin_in net new (logs j) x.entry))) (sym same) above))
-      | inr (other, same) ↦ subst (AllLeastIn net new []) (sym same) (all_least_still net trace logs new m x known more [] (logs k) (in_time k) (least k))
+          (least_push net new [] (logs k) x
+          (all_least_still net trace logs new m x known more [] (logs k) (in_time k) (least k))
+          (subst (λ j. x.stamp
+          ≡ suc (greatest (stamps_of (logs j) ++ origin_in net new (logs j) x.entry)))
+          (sym same) above))
+      | inr (other, same) ↦ subst (AllLeastIn net new []) (sym same)
+          (all_least_still net trace logs new m x known more [] (logs k) (in_time k) (least k))
     ]

@@ -64,7 +64,8 @@ reacts_at : (net : Network) (before : List Entry) (prefix : List Stamped) (x : S
 reacts_at net before [] x rest h =
     subst (λ l. MayReactIfReaction net l x.entry) (sym (append-nil before)) h.0
 reacts_at net before (y ∷ prefix) x rest h =
-    subst (λ l. MayReactIfReaction net l x.entry) (append_assoc before (y.entry ∷ []) (entries prefix))
+    subst (λ l. MayReactIfReaction net l x.entry)
+    (append_assoc before (y.entry ∷ []) (entries prefix))
     (reacts_at net (before ++ y.entry ∷ []) prefix x rest h.1)
 
 in_time_at : (net : Network) (trace : List TraceItem) (logs : ℕ → List Stamped)
@@ -74,7 +75,8 @@ in_time_at : (net : Network) (trace : List TraceItem) (logs : ℕ → List Stamp
 in_time_at net trace logs before [] x rest h =
     subst (λ l. InTime net trace logs l x.stamp x.entry) (sym (append-nil before)) h.0
 in_time_at net trace logs before (y ∷ prefix) x rest h =
-    subst (λ l. InTime net trace logs l x.stamp x.entry) (append_assoc before (y.entry ∷ []) (entries prefix))
+    subst (λ l. InTime net trace logs l x.stamp x.entry)
+    (append_assoc before (y.entry ∷ []) (entries prefix))
     (in_time_at net trace logs (before ++ y.entry ∷ []) prefix x rest h.1)
 
 -- ---- one entry of the merge
@@ -92,7 +94,9 @@ log_parts : (logs : ℕ → List Stamped) (all before : List Stamped) (x : Stamp
 log_parts logs all before x rest m merge e own =
     sym (merge.kept m) ∙ ap (filter (at_machine m)) e
     ∙ filter-append (at_machine m) before (x ∷ rest)
-    ∙ ap (λ b. filter (at_machine m) before ++ cond b (x ∷ filter (at_machine m) rest) (filter (at_machine m) rest)) (eq-eqb (machine_of x.entry) m own)
+    ∙ ap (λ b. filter (at_machine m) before
+    ++ cond b (x ∷ filter (at_machine m) rest) (filter (at_machine m) rest))
+    (eq-eqb (machine_of x.entry) m own)
 
 pub own_entries : (m : ℕ) (before : List Stamped)
     → entries (filter (at_machine m) before) ≡ filter (of_machine m) (entries before)
@@ -102,21 +106,26 @@ own_entries m before = sym (filter_of_map (of_machine m) (λ (x : Stamped). x.en
 sent_before : (net : Network) (trace : List TraceItem) (logs : ℕ → List Stamped)
     (all before : List Stamped) (x : Stamped) (rest : List Stamped) (s : Party) (m : ℕ) → Known
     → IsMerge logs all → all ≡ before ++ x ∷ rest
-    → Begins (sent net trace s m (entries (stamped_below x.stamp (log_of_party logs s)))) (sent net trace s m (entries before))
+    → Begins (sent net trace s m (entries (stamped_below x.stamp (log_of_party logs s))))
+    (sent net trace s m (entries before))
 sent_before net trace logs all before x rest Env m known merge e =
     ([], sym (append-nil (sent net trace Env m (entries before))))
 sent_before net trace logs all before x rest (Sender s) m known merge e =
     let after : list_all (not_above x.stamp) (x ∷ rest) ≡ true =
-    and_from (nat_le x.stamp x.stamp) (list_all (not_above x.stamp) rest) (self x.stamp) (ordered_after before x rest (subst Ordered e merge.ordered)) in
+    and_from (nat_le x.stamp x.stamp) (list_all (not_above x.stamp) rest) (self x.stamp)
+    (ordered_after before x rest (subst Ordered e merge.ordered)) in
     let parts : logs s ≡ filter (at_machine s) before ++ filter (at_machine s) (x ∷ rest) =
     sym (merge.kept s) ∙ ap (filter (at_machine s)) e
     ∙ filter-append (at_machine s) before (x ∷ rest) in
     let prefix =
     subst (λ l. Begins (stamped_below x.stamp l) (filter (at_machine s) before)) (sym parts)
-    (below_begins x.stamp (filter (at_machine s) before) (filter (at_machine s) (x ∷ rest)) (all_of_filter (not_above x.stamp) (at_machine s) (x ∷ rest) after)) in
+    (below_begins x.stamp (filter (at_machine s) before) (filter (at_machine s) (x ∷ rest))
+    (all_of_filter (not_above x.stamp) (at_machine s) (x ∷ rest) after)) in
     subst (Begins (sent net trace (Sender s) m (entries (stamped_below x.stamp (logs s)))))
-    (ap (sent net trace (Sender s) m) (own_entries s before) ∙ known.sent_by_own net trace s m (entries before))
-    (begins_sent net trace s m (stamped_below x.stamp (logs s)) (filter (at_machine s) before) prefix)
+    (ap (sent net trace (Sender s) m) (own_entries s before)
+    ∙ known.sent_by_own net trace s m (entries before))
+    (begins_sent net trace s m (stamped_below x.stamp (logs s))
+    (filter (at_machine s) before) prefix)
   where
     self : (t : ℕ) → nat_le t t ≡ true
     self t = le-leb t t (omega arith)
@@ -134,7 +143,8 @@ may_follow net trace logs all before x rest known merge e reacting in_time (Rea 
     own_entries m before in
     let here : MayReactIfReaction net (entries (filter (at_machine m) before)) (Rea m s o) =
     subst (MayReactIfReaction net (entries (filter (at_machine m) before))) is
-    (reacts_at net [] (filter (at_machine m) before) x (filter (at_machine m) rest) (subst (λ (l : List Stamped). ReactsAfter net [] (entries l)) parts (reacting m))) in (
+    (reacts_at net [] (filter (at_machine m) before) x (filter (at_machine m) rest)
+    (subst (λ (l : List Stamped). ReactsAfter net [] (entries l)) parts (reacting m))) in (
       sym (known.woken_by_own m (entries before)) ∙ sym (ap (λ j. is_woken j m) own) ∙ here.0,
       here.1 ∙ ap (λ j. snap net j m) own ∙ known.snap_by_own net m (entries before),
       here.2,
@@ -145,14 +155,19 @@ may_follow net trace logs all before x rest known merge e reacting in_time (Dep 
     let parts = log_parts logs all before x rest m merge e (ap machine_of is) in
     let here : InTime net trace logs (entries prefix) x.stamp (Dep s m event code) =
     subst (InTime net trace logs (entries prefix) x.stamp) is
-    (in_time_at net trace logs [] prefix x (filter (at_machine m) rest) (subst (AllInTime net trace logs []) parts (in_time m))) in
+    (in_time_at net trace logs [] prefix x (filter (at_machine m) rest)
+    (subst (AllInTime net trace logs []) parts (in_time m))) in
     let own : delivered s m (entries prefix) ≡ delivered s m (entries before) =
     ap (delivered s m) (own_entries m before) ∙ known.delivered_by_own s m (entries before) in
-    let same : delivered s m (entries prefix ++ entry ∷ []) ≡ delivered s m (entries before ++ entry ∷ []) =
+    let same : delivered s m (entries prefix ++ entry ∷ [])
+    ≡ delivered s m (entries before ++ entry ∷ []) =
     delivered_more s m (entries prefix) entry ∙ ap (λ l. l ++ delivered s m (entry ∷ [])) own
     ∙ sym (delivered_more s m (entries before) entry) in
-    begins_further (delivered s m (entries before ++ entry ∷ [])) (sent net trace s m (entries (stamped_below x.stamp (log_of_party logs s)))) (sent net trace s m (entries before))
-    (subst (λ l. Begins l (sent net trace s m (entries (stamped_below x.stamp (log_of_party logs s))))) same here)
+    begins_further (delivered s m (entries before ++ entry ∷ []))
+    (sent net trace s m (entries (stamped_below x.stamp (log_of_party logs s))))
+    (sent net trace s m (entries before))
+    (subst (λ l. Begins l
+    (sent net trace s m (entries (stamped_below x.stamp (log_of_party logs s))))) same here)
     (sent_before net trace logs all before x rest s m known merge e)
 
 -- ---- the whole merge
@@ -165,8 +180,10 @@ go_on : (net : Network) (trace : List TraceItem) (logs : ℕ → List Stamped)
 go_on net trace logs all before [] known merge e reacting in_time = tt
 go_on net trace logs all before (x ∷ rest) known merge e reacting in_time = (
   may_follow net trace logs all before x rest known merge e reacting in_time x.entry refl,
-  subst (λ j. MayGoOn net trace j (entries rest)) (map-append (λ (y : Stamped). y.entry) before (x ∷ []))
-      (go_on net trace logs all (before ++ x ∷ []) rest known merge (e ∙ sym (append_assoc before (x ∷ []) rest)) reacting in_time),
+  subst (λ j. MayGoOn net trace j (entries rest))
+      (map-append (λ (y : Stamped). y.entry) before (x ∷ []))
+      (go_on net trace logs all (before ++ x ∷ []) rest known merge
+      (e ∙ sym (append_assoc before (x ∷ []) rest)) reacting in_time),
 )
 
 -- ---- each entry fits
@@ -175,7 +192,8 @@ put_fits : (net : Network) (x : Stamped) (ys : List Stamped) → FitsNetwork net
     → IsJournal net (entries ys) → IsJournal net (entries (put x ys))
 put_fits net x [] h g = (h, tt)
 put_fits net x (y ∷ ys) h g =
-    elim (nat_le x.stamp y.stamp) as (λ b. IsJournal net (entries (cond b (x ∷ y ∷ ys) (y ∷ put x ys)))) [
+    elim (nat_le x.stamp y.stamp) as
+    (λ b. IsJournal net (entries (cond b (x ∷ y ∷ ys) (y ∷ put x ys)))) [
       | true ↦ (h, g)
       | false ↦ (g.0, put_fits net x ys h g.1)
     ]
@@ -214,9 +232,12 @@ pub merge_is : (net : Network) (logs : List (List Stamped))
 merge_is net logs alone =
     let all : List Stamped = flat_map (λ log. log) logs in
     let found : (m : ℕ) → filter (at_machine m) all ≡ get_or logs m [] =
-    λ m. one_of_all at_machine logs m at_one (λ k. all_more (λ x. is_own net k x.entry) (at_machine k) (get_or logs k []) (λ x h. own_is_at net k x.entry h) (alone k).own) in
+    λ m. one_of_all at_machine logs m at_one
+    (λ k. all_more (λ x. is_own net k x.entry) (at_machine k) (get_or logs k [])
+    (λ x h. own_is_at net k x.entry h) (alone k).own) in
     record {
-      kept = λ m. kept_by_order (at_machine m) 0 all (subst (λ l. rises 0 l ≡ true) (sym (found m)) (alone m).rising) ∙ found m;
+      kept = λ m. kept_by_order (at_machine m) 0 all
+          (subst (λ l. rises 0 l ≡ true) (sym (found m)) (alone m).rising) ∙ found m;
       ordered = is_ordered all;
     }
 
@@ -225,7 +246,9 @@ pub merged_is_legal : (net : Network) (trace : List TraceItem) (core : CoreState
 merged_is_legal net trace core known h =
     let all : List Stamped = flat_map (λ log. log) core.logs in (
       order_fits net all (logs_fit net core.logs (λ m. (h.facts.alone m).fitting)),
-      go_on net trace (log_of core) (by_stamp all) [] (by_stamp all) known (merge_is net core.logs h.facts.alone) refl (λ m. (h.facts.alone m).reacting) h.facts.in_time,
+      go_on net trace (log_of core) (by_stamp all) [] (by_stamp all) known
+          (merge_is net core.logs h.facts.alone) refl
+          (λ m. (h.facts.alone m).reacting) h.facts.in_time,
     )
 
 -- ---- the merged stamps
@@ -239,4 +262,6 @@ pub merged_is_least : (net : Network) (trace : List TraceItem) (core : CoreState
     → IsCore net trace core → least net (merged core.logs) ≡ merged_stamps core.logs
 merged_is_least net trace core known h =
     let all : List Stamped = flat_map (λ log. log) core.logs in
-    known.merged_least net (log_of core) (by_stamp all) (not_falling_from (by_stamp all) (is_ordered all)) (merge_is net core.logs h.facts.alone).kept h.facts.least
+    known.merged_least net (log_of core) (by_stamp all)
+    (not_falling_from (by_stamp all) (is_ordered all))
+    (merge_is net core.logs h.facts.alone).kept h.facts.least

@@ -40,8 +40,11 @@ pub may_react_is : (net : Network) (trace : List TraceItem) (state : CoreState) 
     → (idle && woken && nat_lt n max_stamp) ≡ may_react m (log_of state m) (hand_of state m)
 may_react_is net trace state m n idle woken a b moves core is same free ends now =
     ap (λ x. x && woken && nat_lt n max_stamp) free
-    ∙ ap (λ x. is_none (hand_of state m) && x && nat_lt n max_stamp) (ends ∙ ap ends_in_delivery is ∙ sym (woken_at_end net m (log_of state m) moves (core.facts.alone m).own))
-    ∙ ap (λ k. is_none (hand_of state m) && is_woken (entries (log_of state m)) m && nat_lt k max_stamp) (now ∙ ap clock same)
+    ∙ ap (λ x. is_none (hand_of state m) && x && nat_lt n max_stamp)
+    (ends ∙ ap ends_in_delivery is
+    ∙ sym (woken_at_end net m (log_of state m) moves (core.facts.alone m).own))
+    ∙ ap (λ k. is_none (hand_of state m) && is_woken (entries (log_of state m)) m
+    && nat_lt k max_stamp) (now ∙ ap clock same)
 
 pub may_react_inside : (net : Network) (trace : List TraceItem) (state : CoreState) (m : ℕ)
     → IsCore net trace state → may_react m (log_of state m) (hand_of state m) ≡ true
@@ -50,7 +53,9 @@ may_react_inside net trace state m core may =
     let idle : Bool = is_none (hand_of state m) in
     let woken : Bool = is_woken (entries (log_of state m)) m in
     let inside =
-    woken_inside state m (and_parts idle woken (and_parts (idle && woken) (nat_lt (clock (log_of state m)) max_stamp) may).0).1 in
+    woken_inside state m
+    (and_parts idle woken
+    (and_parts (idle && woken) (nat_lt (clock (log_of state m)) max_stamp) may).0).1 in
     let many = core.logs in
     omega arith
 
@@ -63,7 +68,8 @@ suits net m (Dep s to e c) h own below = any (slice_get net.machines m) refl
     any None is = absurd (none_within net.machines m below is)
     any (Some machine) is = tt
 suits net m (Rea k s o) h own below =
-    subst (λ j. OfMachine net j (λ machine. HasWidths machine o)) own (at (slice_get net.machines k) h)
+    subst (λ j. OfMachine net j (λ machine. HasWidths machine o)) own
+    (at (slice_get net.machines k) h)
   where
     at : (found : Option Machine)
         → IsSomeAnd found (λ machine. IsSnapshot machine s × IsOutcome machine o)
@@ -83,8 +89,14 @@ held_parts (Some hand) p e = cases hand.deliveries refl e
         → (ds : List Owed) × (Some hand ≡ Some (record { stamp = p.1; deliveries = p.0 ∷ ds }))
     cases [] has e = absurd (none-some p e)
     cases (d ∷ ds) has e =
-        let same : ◌≡◌ {A = Owed × ℕ} (d, hand.stamp) p = same_Some (d, hand.stamp) p e in
-        (ds, (λ i. Some (record { stamp = (same i).1; deliveries = (has ∙ ap (λ (q : Owed × ℕ). q.0 ∷ ds) same) i })))
+        let same : ◌≡◌ {A = Owed × ℕ} (d, hand.stamp) p = same_Some (d, hand.stamp) p e in (
+          ds,
+          (λ i. Some
+              (record {
+                stamp = (same i).1;
+                deliveries = (has ∙ ap (λ (q : Owed × ℕ). q.0 ∷ ds) same) i;
+              })),
+        )
 
 pub held_within : (net : Network) (trace : List TraceItem) (state : CoreState) (s : ℕ)
     (p : Owed × ℕ) → IsCore net trace state → first_held (hand_of state s) ≡ Some p
@@ -94,7 +106,8 @@ held_within net trace state s p core e =
     let due : list_all (is_due net (Sender s)) (p.0 ∷ parts.0) ≡ true =
     sym (ap (λ h. list_all (is_due net (Sender s)) (deliveries_in h)) parts.1)
     ∙ core.facts.due (Sender s) in
-    due_within net (Sender s) p.0 (and_parts (is_due net (Sender s) p.0) (list_all (is_due net (Sender s)) parts.0) due).0
+    due_within net (Sender s) p.0
+    (and_parts (is_due net (Sender s) p.0) (list_all (is_due net (Sender s)) parts.0) due).0
 
 rest_parts : (ds : List Owed) (d : Owed) → head_of ds ≡ Some d → ds ≡ d ∷ drop 1 ds
 rest_parts [] d e = absurd (none-some d e)
@@ -105,7 +118,8 @@ pub rest_within : (net : Network) (trace : List TraceItem) (state : CoreState) (
 rest_within net trace state d core e =
     let due : list_all (is_due net Env) (d ∷ drop 1 state.rest) ≡ true =
     sym (ap (list_all (is_due net Env)) (rest_parts state.rest d e)) ∙ core.facts.due Env in
-    due_within net Env d (and_parts (is_due net Env d) (list_all (is_due net Env) (drop 1 state.rest)) due).0
+    due_within net Env d
+    (and_parts (is_due net Env d) (list_all (is_due net Env) (drop 1 state.rest)) due).0
 
 -- ---- a step
 
@@ -116,7 +130,11 @@ pub step_parts : (net : Network) (trace : List TraceItem) (old new : Parts) (ste
     → (IsFalse taken → new ≡ old)
     → new.moments ≡ own_moments net new.logs
     → AreParts net trace new
-step_parts net trace old new step true keeps parts is same moments = record { core = keeps net trace (state_of old) (state_of new) step parts.core (sym is); moments_are = moments }
+step_parts net trace old new step true keeps parts is same moments =
+    record {
+      core = keeps net trace (state_of old) (state_of new) step parts.core (sym is);
+      moments_are = moments;
+    }
 step_parts net trace old new step false keeps parts is same moments =
     subst (AreParts net trace) (sym (same refl)) parts
 

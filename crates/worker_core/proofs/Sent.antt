@@ -34,7 +34,9 @@ pub filter_of_map : {X Y : Type 0} (p : Y → Bool) (f : X → Y) (xs : List X)
 filter_of_map p f [] = refl
 filter_of_map p f (x ∷ xs) =
     let rest = filter_of_map p f xs in
-    elim (p (f x)) as (λ b. cond b (f x ∷ filter p (map f xs)) (filter p (map f xs)) ≡ map f (cond b (x ∷ filter (λ x. p (f x)) xs) (filter (λ x. p (f x)) xs))) [
+    elim (p (f x)) as
+    (λ b. cond b (f x ∷ filter p (map f xs)) (filter p (map f xs))
+    ≡ map f (cond b (x ∷ filter (λ x. p (f x)) xs) (filter (λ x. p (f x)) xs))) [
       | true ↦ ap (λ l. f x ∷ l) rest
       | false ↦ rest
     ]
@@ -66,11 +68,17 @@ delivered_by_reaction s m k x o journal =
 -- ---- what was sent
 
 pub sent_more : (net : Network) (trace : List TraceItem) (s m : ℕ) (journal rest : List Entry)
-    → sent net trace (Sender s) m (journal ++ rest) ≡ sent net trace (Sender s) m journal ++ sent net trace (Sender s) m rest
+    → sent net trace (Sender s) m (journal ++ rest) ≡ sent net trace (Sender s) m journal
+    ++ sent net trace (Sender s) m rest
 sent_more net trace s m journal rest =
-    ap (λ es. filter (λ p. reads net m p.0) (flat_map (emissions net) es)) (filter-append (is_firing_of s) journal rest)
-    ∙ ap (filter (λ p. reads net m p.0)) (flat_map-append (emissions net) (filter (is_firing_of s) journal) (filter (is_firing_of s) rest))
-    ∙ filter-append (λ p. reads net m p.0) (flat_map (emissions net) (filter (is_firing_of s) journal)) (flat_map (emissions net) (filter (is_firing_of s) rest))
+    ap (λ es. filter (λ p. reads net m p.0) (flat_map (emissions net) es))
+    (filter-append (is_firing_of s) journal rest)
+    ∙ ap (filter (λ p. reads net m p.0))
+    (flat_map-append (emissions net) (filter (is_firing_of s) journal)
+    (filter (is_firing_of s) rest))
+    ∙ filter-append (λ p. reads net m p.0)
+    (flat_map (emissions net) (filter (is_firing_of s) journal))
+    (flat_map (emissions net) (filter (is_firing_of s) rest))
 
 pub sent_by_delivery : (net : Network) (trace : List TraceItem) (s : Party) (m : ℕ)
     (journal : List Entry) (from : Party) (to e c : ℕ)

@@ -11,4 +11,5 @@ size_at (size ∷ sizes) zero all below =
     let both = and_parts (nat_le 1 size) (nat_le size 33) parts.0 in
     (leb-true 1 size both.0, leb-true size 33 both.1)
 size_at (size ∷ sizes) (suc k) all below =
-    size_at sizes k (and_parts (nat_le 1 size && nat_le size 33) (are_sizes sizes) all).1 (omega arith)
+    size_at sizes k (and_parts (nat_le 1 size && nat_le size 33) (are_sizes sizes) all).1
+    (omega arith)

@@ -50,7 +50,8 @@ no_entries zero = refl
 no_entries (suc n) = no_entries n
 
 first_facts : (net : Network) (trace : List TraceItem) → Known → IsTrace net trace
-    → CoreFacts net trace (λ m. []) (λ m. None) (map (λ d. d.0) (trace_deliveries net false trace)) 0
+    → CoreFacts net trace (λ m. []) (λ m. None)
+    (map (λ d. d.0) (trace_deliveries net false trace)) 0
 first_facts net trace known h = record {
   alone = λ m. record { rising = refl; fitting = tt; own = refl; reacting = tt };
   in_time = λ m. tt;
@@ -67,15 +68,19 @@ first_facts net trace known h = record {
     deliveries = trace_deliveries net false trace
 
     by : (p : Party) (k : ℕ)
-        → delivered p k [] ++ on_way p k (held_by (λ m. None) (map (λ (d : Owed × Bool). d.0) deliveries) p) ≡ sent net trace p k (entries (log_of_party (λ m. []) p))
+        → delivered p k []
+        ++ on_way p k (held_by (λ m. None) (map (λ (d : Owed × Bool). d.0) deliveries) p)
+        ≡ sent net trace p k (entries (log_of_party (λ m. []) p))
     by Env k =
         ap (map event_code) (filter_of_map (is_way Env k) (λ (d : Owed × Bool). d.0) deliveries)
-        ∙ map_of_map event_code (λ (d : Owed × Bool). d.0) (filter (λ (d : Owed × Bool). is_way Env k d.0) deliveries)
+        ∙ map_of_map event_code (λ (d : Owed × Bool). d.0)
+        (filter (λ (d : Owed × Bool). is_way Env k d.0) deliveries)
         ∙ known.trace_gives net k false trace
     by (Sender j) k = refl
 
     due : (p : Party)
-        → list_all (is_due net p) (held_by (λ m. None) (map (λ (d : Owed × Bool). d.0) deliveries) p) ≡ true
+        → list_all (is_due net p)
+        (held_by (λ m. None) (map (λ (d : Owed × Bool). d.0) deliveries) p) ≡ true
     due Env = trace_due net false trace known h
     due (Sender j) = refl
 
@@ -93,9 +98,12 @@ start_is_core net trace known h =
       logs = length-replicate n [];
       hands = length-replicate n None;
       facts =
-          subst (CoreFacts net trace (λ m. get_or (replicate n []) m []) (λ m. get_or (replicate n None) m None) rest) none
-          (subst (λ hands. CoreFacts net trace (λ m. get_or (replicate n []) m []) hands rest 0) hands
-          (subst (λ logs. CoreFacts net trace logs (λ m. None) rest 0) logs (first_facts net trace known h)));
+          subst (CoreFacts net trace (λ m. get_or (replicate n []) m [])
+          (λ m. get_or (replicate n None) m None) rest) none
+          (subst (λ hands. CoreFacts net trace
+          (λ m. get_or (replicate n []) m []) hands rest 0) hands
+          (subst (λ logs. CoreFacts net trace logs (λ m. None) rest 0) logs
+          (first_facts net trace known h)));
     }
 
 -- ---- the reaction
@@ -107,7 +115,10 @@ none_within (x ∷ xs) (suc k) h e = none_within xs k (omega arith) e
 
 made : (net : Network) (m : ℕ) (s : Snapshot) (found : Option Machine) → Known
     → slice_get net.machines m ≡ found → m < length net.machines
-    → IsSomeAnd found (λ machine. Transition machine s (unwrap_or (option_map (λ machine. outcome_on machine s) found) (record { fires = false; next = []; outs = [] })))
+    → IsSomeAnd found
+    (λ machine. Transition machine s
+    (unwrap_or (option_map (λ machine. outcome_on machine s) found)
+    (record { fires = false; next = []; outs = [] })))
 made net m s None known is below = absurd (none_within net.machines m below is)
 made net m s (Some machine) known is below = known.gives_transition machine s
 
@@ -135,7 +146,10 @@ pub woken_inside : (state : CoreState) (m : ℕ) → is_woken (entries (log_of s
 woken_inside state m woken =
     elim (cases_lt m (length state.logs)) [
       | inl inside ↦ inside
-      | inr past ↦ absurd (false≢true (sym (ap (λ (l : List Stamped). is_woken (entries l) m) (get_or_past state.logs m [] past)) ∙ woken))
+      | inr past ↦ absurd
+          (false≢true
+          (sym (ap (λ (l : List Stamped). is_woken (entries l) m)
+          (get_or_past state.logs m [] past)) ∙ woken))
     ]
 
 pub hand_inside : (state : CoreState) (m : ℕ) (hand : Hand) → hand_of state m ≡ Some hand
@@ -163,7 +177,8 @@ react_keeps net trace state m known core may =
     let below : m < length net.machines = omega arith in
     let held : m < length state.hands = omega arith in
     let low =
-    clock_within 0 (count_entries state.logs) (log_of state m) (omega arith) (core.facts.within m) in
+    clock_within 0 (count_entries state.logs) (log_of state m) (omega arith)
+    (core.facts.within m) in
     let most = ltb-true (clock (log_of state m)) max_stamp parts.1 in
     let x : Stamped = reacting net m (log_of state m) in
     let s : Snapshot = snap net journal m in
@@ -171,8 +186,11 @@ react_keeps net trace state m known core may =
       logs = length-set state.logs m (log_of state m ++ x ∷ []) ∙ core.logs;
       hands = length-set state.hands m (hand_after net x) ∙ core.hands;
       facts =
-          subst (CoreFacts net trace (log_of (reacted net state m)) (hand_of (reacted net state m)) state.rest) (sym (count_more state.logs m x inside))
-          (keeps_reaction net trace (log_of state) (log_of (reacted net state m)) (hand_of state) (hand_of (reacted net state m)) state.rest (count_entries state.logs) m x.stamp s (outcome_in net m s)
+          subst (CoreFacts net trace (log_of (reacted net state m))
+          (hand_of (reacted net state m)) state.rest) (sym (count_more state.logs m x inside))
+          (keeps_reaction net trace (log_of state) (log_of (reacted net state m)) (hand_of state)
+          (hand_of (reacted net state m)) state.rest (count_entries state.logs) m x.stamp s
+          (outcome_in net m s)
           known core.facts (more_in_list state m x inside) (is_none_at (hand_of state m) both.0)
           (get_or-set_same state.hands m (hand_after net x) None held)
           (λ k other. get_or-set_other state.hands m k (hand_after net x) None other)
@@ -185,11 +203,16 @@ react_keeps net trace state m known core may =
 pub land_keeps : (net : Network) (trace : List TraceItem) (state : CoreState) (s : ℕ) (hand : Hand)
     (d : Owed) (ds : List Owed) → Known → IsCore net trace state → hand_of state s ≡ Some hand
     → hand.deliveries ≡ d ∷ ds → may_land (log_of state d.to) hand.stamp ≡ true
-    → IsCore net trace (record state { logs = with_entry state d.to (landing (log_of state d.to) hand.stamp d); hands = set state.hands s (Some (record { stamp = hand.stamp; deliveries = ds })) })
+    → IsCore net trace
+    (record state {
+      logs = with_entry state d.to (landing (log_of state d.to) hand.stamp d);
+      hands = set state.hands s (Some (record { stamp = hand.stamp; deliveries = ds }));
+    })
 land_keeps net trace state s hand d ds known core is has may =
     let held : deliveries_in (hand_of state s) ≡ d ∷ ds = ap deliveries_in is ∙ has in
     let first : is_due net (Sender s) d ≡ true =
-    (and_parts (is_due net (Sender s) d) (list_all (is_due net (Sender s)) ds) (sym (ap (list_all (is_due net (Sender s))) held) ∙ core.facts.due (Sender s))).0 in
+    (and_parts (is_due net (Sender s) d) (list_all (is_due net (Sender s)) ds)
+    (sym (ap (list_all (is_due net (Sender s))) held) ∙ core.facts.due (Sender s))).0 in
     let from : d.from ≡ Sender s =
     party_from_same d.from (Sender s) (due_fits net (Sender s) d first).2 in
     let below = due_within net (Sender s) d first in
@@ -197,9 +220,11 @@ land_keeps net trace state s hand d ds known core is has may =
     let inside : d.to < length state.logs = omega arith in
     let mine : s < length state.hands = hand_inside state s hand is in
     let low =
-    clock_within 0 (count_entries state.logs) (log_of state d.to) (omega arith) (core.facts.within d.to) in
+    clock_within 0 (count_entries state.logs) (log_of state d.to) (omega arith)
+    (core.facts.within d.to) in
     let small =
-    leb-true hand.stamp (count_entries state.logs) (sym (ap (is_hand_within (count_entries state.logs)) is) ∙ core.facts.hands_within s) in
+    leb-true hand.stamp (count_entries state.logs)
+    (sym (ap (is_hand_within (count_entries state.logs)) is) ∙ core.facts.hands_within s) in
     let most = ltb-true (max (clock (log_of state d.to)) hand.stamp) max_stamp may in
     let x : Stamped = landing (log_of state d.to) hand.stamp d in
     let origin : greatest (stamp_held_by (hand_of state) d.from) ≡ max hand.stamp 0 =
@@ -215,18 +240,25 @@ land_keeps net trace state s hand d ds known core is has may =
       logs = length-set state.logs d.to (log_of state d.to ++ x ∷ []) ∙ core.logs;
       hands = length-set state.hands s (Some left) ∙ core.hands;
       facts =
-          subst (CoreFacts net trace (log_of next) (hand_of next) state.rest) (sym (count_more state.logs d.to x inside))
-          (keeps_landing net trace (log_of state) (log_of next) (hand_of state) (hand_of next) state.rest state.rest (count_entries state.logs) x.stamp d ds
+          subst (CoreFacts net trace (log_of next) (hand_of next) state.rest)
+          (sym (count_more state.logs d.to x inside))
+          (keeps_landing net trace (log_of state) (log_of next) (hand_of state)
+          (hand_of next) state.rest state.rest (count_entries state.logs) x.stamp d ds
           known core.facts (more_in_list state d.to x inside)
           (ap (held_by (hand_of state) state.rest) from ∙ held)
           (ap (held_by (hand_of next) state.rest) from ∙ ap deliveries_in at)
           (λ p other. away (hand_of next) others p (sym (ap (λ q. same_party q p) from) ∙ other))
           (λ k. elim (cases_eq k s) [
-            | inl same ↦ subst (λ j. stamp_in (hand_of next j) ≡ stamp_in (hand_of state j)) (sym same) (ap stamp_in at ∙ sym (ap stamp_in is))
+            | inl same ↦ subst (λ j. stamp_in (hand_of next j) ≡ stamp_in (hand_of state j))
+                (sym same) (ap stamp_in at ∙ sym (ap stamp_in is))
             | inr other ↦ ap stamp_in (others k other)
           ])
-          (subst (λ q. sent net trace q d.to (entries (stamped_below x.stamp (log_of_party (log_of state) q))) ≡ sent net trace q d.to (entries (log_of_party (log_of state) q))) (sym from)
-          (sent_by_then net trace s d.to x.stamp (log_of state s) hand (core.facts.alone s).rising (sym (ap (is_last_firing s (log_of state s)) is) ∙ core.facts.last_firing s) (omega arith)))
+          (subst (λ q. sent net trace q d.to
+          (entries (stamped_below x.stamp (log_of_party (log_of state) q)))
+          ≡ sent net trace q d.to (entries (log_of_party (log_of state) q))) (sym from)
+          (sent_by_then net trace s d.to x.stamp (log_of state s) hand (core.facts.alone s).rising
+          (sym (ap (is_last_firing s (log_of state s)) is) ∙ core.facts.last_firing s)
+          (omega arith)))
           (omega arith) (omega arith) (omega arith));
     }
   where
@@ -239,16 +271,19 @@ land_keeps net trace state s hand d ds known core is has may =
 pub feed_keeps : (net : Network) (trace : List TraceItem) (state : CoreState) (d : Owed)
     (ds : List Owed) → Known → IsCore net trace state → state.rest ≡ d ∷ ds
     → may_land (log_of state d.to) 0 ≡ true
-    → IsCore net trace (record state { logs = with_entry state d.to (landing (log_of state d.to) 0 d); rest = ds })
+    → IsCore net trace
+    (record state { logs = with_entry state d.to (landing (log_of state d.to) 0 d); rest = ds })
 feed_keeps net trace state d ds known core has may =
     let first : is_due net Env d ≡ true =
-    (and_parts (is_due net Env d) (list_all (is_due net Env) ds) (sym (ap (list_all (is_due net Env)) has) ∙ core.facts.due Env)).0 in
+    (and_parts (is_due net Env d) (list_all (is_due net Env) ds)
+    (sym (ap (list_all (is_due net Env)) has) ∙ core.facts.due Env)).0 in
     let from : d.from ≡ Env = party_from_same d.from Env (due_fits net Env d first).2 in
     let below = due_within net Env d first in
     let many = core.logs in
     let inside : d.to < length state.logs = omega arith in
     let low =
-    clock_within 0 (count_entries state.logs) (log_of state d.to) (omega arith) (core.facts.within d.to) in
+    clock_within 0 (count_entries state.logs) (log_of state d.to) (omega arith)
+    (core.facts.within d.to) in
     let most = ltb-true (max (clock (log_of state d.to)) 0) max_stamp may in
     let origin : greatest (stamp_held_by (hand_of state) d.from) ≡ 0 =
     ap (λ q. greatest (stamp_held_by (hand_of state) q)) from in
@@ -258,14 +293,18 @@ feed_keeps net trace state d ds known core has may =
       logs = length-set state.logs d.to (log_of state d.to ++ x ∷ []) ∙ core.logs;
       hands = core.hands;
       facts =
-          subst (CoreFacts net trace (log_of next) (hand_of state) ds) (sym (count_more state.logs d.to x inside))
-          (keeps_landing net trace (log_of state) (log_of next) (hand_of state) (hand_of state) state.rest ds (count_entries state.logs) x.stamp d ds
+          subst (CoreFacts net trace (log_of next) (hand_of state) ds)
+          (sym (count_more state.logs d.to x inside))
+          (keeps_landing net trace (log_of state) (log_of next) (hand_of state)
+          (hand_of state) state.rest ds (count_entries state.logs) x.stamp d ds
           known core.facts (more_in_list state d.to x inside)
           (ap (held_by (hand_of state) state.rest) from ∙ has)
           (ap (held_by (hand_of state) ds) from)
           (λ p other. away p (sym (ap (λ q. same_party q p) from) ∙ other))
           (λ k. refl)
-          (subst (λ q. sent net trace q d.to (entries (stamped_below x.stamp (log_of_party (log_of state) q))) ≡ sent net trace q d.to (entries (log_of_party (log_of state) q))) (sym from) refl)
+          (subst (λ q. sent net trace q d.to
+          (entries (stamped_below x.stamp (log_of_party (log_of state) q)))
+          ≡ sent net trace q d.to (entries (log_of_party (log_of state) q))) (sym from) refl)
           (omega arith) (omega arith) (omega arith));
     }
   where
@@ -281,7 +320,9 @@ free_keeps net trace state s hand core is empty = record {
   logs = core.logs;
   hands = length-set state.hands s None ∙ core.hands;
   facts =
-      keeps_freeing net trace (log_of state) (hand_of state) (λ k. get_or (set state.hands s None) k None) state.rest (count_entries state.logs) s core.facts
+      keeps_freeing net trace (log_of state) (hand_of state)
+      (λ k. get_or (set state.hands s None) k None) state.rest
+      (count_entries state.logs) s core.facts
       (ap deliveries_in is ∙ empty)
       (get_or-set_same state.hands s None None (hand_inside state s hand is))
       (λ k other. get_or-set_other state.hands s k None None other);
@@ -304,8 +345,14 @@ land_by_hand net trace state next s (Some hand) known core is e = cases hand.del
     cases [] has e = absurd (none-some next e)
     cases (d ∷ ds) has e =
         let both =
-        some_when (may_land (log_of state d.to) hand.stamp) (record state { logs = with_entry state d.to (landing (log_of state d.to) hand.stamp d); hands = set state.hands s (Some (record { stamp = hand.stamp; deliveries = ds })) }) next e in
-        subst (IsCore net trace) both.1 (land_keeps net trace state s hand d ds known core is has both.0)
+        some_when (may_land (log_of state d.to) hand.stamp)
+        (record state {
+          logs = with_entry state d.to (landing (log_of state d.to) hand.stamp d);
+          hands = set state.hands s
+              (Some (record { stamp = hand.stamp; deliveries = ds }));
+        }) next e in
+        subst (IsCore net trace) both.1
+        (land_keeps net trace state s hand d ds known core is has both.0)
 
 free_by_hand : (net : Network) (trace : List TraceItem) (state next : CoreState) (s : ℕ)
     (h : Option Hand) → IsCore net trace state → hand_of state s ≡ h → free state s h ≡ Some next
@@ -316,7 +363,9 @@ free_by_hand net trace state next s (Some hand) core is e = cases hand.deliverie
     cases : (ds : List Owed) → hand.deliveries ≡ ds → freed state s ds ≡ Some next
         → IsCore net trace next
     cases [] has e =
-        subst (IsCore net trace) (same_Some (record state { hands = set state.hands s None }) next e) (free_keeps net trace state s hand core is has)
+        subst (IsCore net trace)
+        (same_Some (record state { hands = set state.hands s None }) next e)
+        (free_keeps net trace state s hand core is has)
     cases (d ∷ ds) has e = absurd (none-some next e)
 
 feed_by_rest : (net : Network) (trace : List TraceItem) (state next : CoreState) (ds : List Owed)
@@ -325,7 +374,9 @@ feed_by_rest : (net : Network) (trace : List TraceItem) (state next : CoreState)
 feed_by_rest net trace state next [] known core has e = absurd (none-some next e)
 feed_by_rest net trace state next (d ∷ ds) known core has e =
     let both =
-    some_when (may_land (log_of state d.to) 0) (record state { logs = with_entry state d.to (landing (log_of state d.to) 0 d); rest = ds }) next e in
+    some_when (may_land (log_of state d.to) 0)
+    (record state
+    { logs = with_entry state d.to (landing (log_of state d.to) 0 d); rest = ds }) next e in
     subst (IsCore net trace) both.1 (feed_keeps net trace state d ds known core has both.0)
 
 pub step_keeps : (net : Network) (trace : List TraceItem) (state next : CoreState) (step : CoreStep)
@@ -355,8 +406,17 @@ pub run_is_core : (net : Network) (trace : List TraceItem) (state : CoreState)
     → IsCore net trace (run_steps net state steps)
 run_is_core net trace state [] known core = core
 run_is_core net trace state (step ∷ steps) known core =
-    run_is_core net trace (unwrap_or (take_step net state step) state) steps known (step_or_same net trace state step known core (take_step net state step) refl)
+    run_is_core net trace (unwrap_or (take_step net state step) state) steps known
+    (step_or_same net trace state step known core (take_step net state step) refl)
 
 pub core_runs_well : (net : Network) (trace : List TraceItem) (state : CoreState) → Known
     → IsCore net trace state → RunsWell net trace state
-core_runs_well net trace state known core = record { legal = merged_is_legal net trace state known core; least_stamps = merged_is_least net trace state known core; on_the_way = core.facts.on_the_way; within = core.facts.within }
+core_runs_well net trace state known core =
+    record {
+      legal = merged_is_legal net trace state known core;
+      least_stamps =
+          merged_is_least net trace state known core;
+      on_the_way =
+          core.facts.on_the_way;
+      within = core.facts.within;
+    }

@@ -13,8 +13,10 @@ pub get_or-upto : (n k d : ℕ) → k < n → get_or (upto n) k d ≡ k
 get_or-upto zero k d below = absurd (omega arith)
 get_or-upto (suc n) k d below =
     elim (cases_eq k n) [
-      | inl same ↦ get_or-append_right (upto n) (n ∷ []) n k d (length-upto n) (omega arith) ∙ ap (λ i. get_or (n ∷ []) i d) (let e : k - n ≡ 0 = omega arith in e) ∙ sym same
-      | inr other ↦ get_or_append_left (upto n) (n ∷ []) d k (let e = length-upto n in omega arith) ∙ get_or-upto n k d (omega arith)
+      | inl same ↦ get_or-append_right (upto n) (n ∷ []) n k d (length-upto n) (omega arith)
+          ∙ ap (λ i. get_or (n ∷ []) i d) (let e : k - n ≡ 0 = omega arith in e) ∙ sym same
+      | inr other ↦ get_or_append_left (upto n) (n ∷ []) d k (let e = length-upto n in omega arith)
+          ∙ get_or-upto n k d (omega arith)
     ]
 
 pub length-table : {X : Type 0} (f : ℕ → X) (n : ℕ) → length (map f (upto n)) ≡ n
@@ -35,6 +37,9 @@ set-table {X} f g n m y below here others =
     same_lists (set (map f (upto n)) m y) (map g (upto n)) (size ∙ sym (length-table g n)) (λ k d h.
     let inside : k < n = omega arith in
     elim (cases_eq k m) [
-      | inl same ↦ ap (λ i. get_or (set (map f (upto n)) m y) i d) same ∙ get_or-set_same (map f (upto n)) m y d (let e = length-table f n in omega arith) ∙ sym here ∙ ap g (sym same) ∙ sym (get_or-table g n k d inside)
-      | inr other ↦ get_or-set_other (map f (upto n)) m k y d other ∙ get_or-table f n k d inside ∙ sym (others k other inside) ∙ sym (get_or-table g n k d inside)
+      | inl same ↦ ap (λ i. get_or (set (map f (upto n)) m y) i d) same
+          ∙ get_or-set_same (map f (upto n)) m y d (let e = length-table f n in omega arith)
+          ∙ sym here ∙ ap g (sym same) ∙ sym (get_or-table g n k d inside)
+      | inr other ↦ get_or-set_other (map f (upto n)) m k y d other ∙ get_or-table f n k d inside
+          ∙ sym (others k other inside) ∙ sym (get_or-table g n k d inside)
     ])

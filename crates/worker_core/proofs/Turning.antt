@@ -48,12 +48,17 @@ pub still_past : (net : Network) (trace : List TraceItem) (state : CoreState) (m
 still_past net trace state m core past =
     let many = core.hands in
     let none : hand_of state m ≡ None = get_or_past state.hands m None (omega arith) in
-    record { land = ap (land state m) none; free = ap (free state m) none; react = never (take_step net state (React m)) refl }
+    record {
+      land = ap (land state m) none;
+      free = ap (free state m) none;
+      react = never (take_step net state (React m)) refl;
+    }
   where
     never : (o : Option CoreState) → take_step net state (React m) ≡ o → o ≡ None
     never None e = refl
     never (Some next) e =
-        absurd (let inside = may_react_inside net trace state m core (some_when _ _ next e).0 in omega arith)
+        absurd (let inside = may_react_inside net trace state m core
+        (some_when _ _ next e).0 in omega arith)
 
 -- where no machine has a step, and the environment has none, no step can be taken
 stopped_by : (net : Network) (state : CoreState) → ((m : ℕ) → IsStill net state m)
@@ -70,11 +75,13 @@ pub turn_stops : (old mid now : CoreMoment) (first n : ℕ) → mid ≡ old → 
     → take_step now.net now.state Feed ≡ None
     → (step : CoreStep) → take_step old.net old.state step ≡ None
 turn_stops old mid now first n same again above below past fed =
-    stopped_by old.net old.state still (subst (λ (v : CoreMoment). take_step v.net v.state Feed ≡ None) (again ∙ same) fed)
+    stopped_by old.net old.state still
+    (subst (λ (v : CoreMoment). take_step v.net v.state Feed ≡ None) (again ∙ same) fed)
   where
     still : (m : ℕ) → IsStill old.net old.state m
     still m = elim (cases_lt m first) [
-      | inl before ↦ subst (λ (v : CoreMoment). IsStill v.net v.state m) same (below m (omega arith) before)
+      | inl before ↦ subst (λ (v : CoreMoment). IsStill v.net v.state m) same
+          (below m (omega arith) before)
       | inr after ↦ elim (cases_lt m n) [
         | inl inside ↦ above m after inside
         | inr outside ↦ past m outside
@@ -89,5 +96,6 @@ turn_still core now from m same still here k above below =
       | inl before ↦ still k above before
       | inr past ↦
           let is : m ≡ k = omega arith in
-          subst (IsStill core.net core.state) is (subst (λ (v : CoreMoment). IsStill v.net v.state m) same here)
+          subst (IsStill core.net core.state) is
+          (subst (λ (v : CoreMoment). IsStill v.net v.state m) same here)
     ]

@@ -83,7 +83,10 @@ abbrev pub landed : CoreState → ℕ → ℕ → List Owed → Option CoreState
 landed state s stamp [] = None
 landed state s stamp (d ∷ ds) =
     then_some (may_land (log_of state d.to) stamp)
-    (record state { logs = with_entry state d.to (landing (log_of state d.to) stamp d); hands = set state.hands s (Some (record { stamp = stamp; deliveries = ds })) })
+    (record state {
+      logs = with_entry state d.to (landing (log_of state d.to) stamp d);
+      hands = set state.hands s (Some (record { stamp = stamp; deliveries = ds }));
+    })
 
 abbrev pub land : CoreState → ℕ → Option Hand → Option CoreState
 land state s None = None

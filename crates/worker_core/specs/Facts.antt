@@ -35,7 +35,8 @@ log_of_party logs (Sender s) = logs s
 abbrev pub InTime : Network → List TraceItem → (ℕ → List Stamped) → List Entry → ℕ → Entry → Type 0
 InTime net trace logs before t (Rea m s o) = ⊤
 InTime net trace logs before t (Dep s m event code) =
-    Begins (delivered s m (before ++ Dep s m event code ∷ [])) (sent net trace s m (entries (stamped_below t (log_of_party logs s))))
+    Begins (delivered s m (before ++ Dep s m event code ∷ []))
+    (sent net trace s m (entries (stamped_below t (log_of_party logs s))))
 
 -- each landing of the log is in time
 abbrev pub AllInTime : Network → List TraceItem → (ℕ → List Stamped) → List Entry → List Stamped
@@ -85,7 +86,8 @@ stamps_held None s m = []
 stamps_held (Some hand) s m = replicate (length (on_way (Sender s) m hand.deliveries)) hand.stamp
 
 -- The facts over the machines' logs and hands, the rest, and the number n of all entries.
-pub record CoreFacts (net : Network) (trace : List TraceItem) (logs : ℕ → List Stamped) (hands : ℕ → Option Hand) (rest : List Owed) (n : ℕ) : Type 0 where
+pub record CoreFacts (net : Network) (trace : List TraceItem) (logs : ℕ → List Stamped)
+    (hands : ℕ → Option Hand) (rest : List Owed) (n : ℕ) : Type 0 where
   -- each log is legal by itself
   pub alone : (m : ℕ) → LegalAlone net m (logs m)
   -- a firing's stamp is below that of each of its landings

@@ -8,6 +8,7 @@ use Rattle.worker_core.specs.Cores.{at_start, run_steps, log_of}
 use Rattle.worker_core.specs.Merges.{merged}
 
 -- the steps give this journal, and the log of m has these stamps
-pub record IsCoreRun (net : Network) (trace : List TraceItem) (steps : List CoreStep) (m : ℕ) (stamps : List ℕ) (journal : List Entry) : Type 0 where
+pub record IsCoreRun (net : Network) (trace : List TraceItem) (steps : List CoreStep) (m : ℕ)
+    (stamps : List ℕ) (journal : List Entry) : Type 0 where
   pub merges : merged (run_steps net (at_start net trace) steps).logs ≡ journal
   pub stamped : map (λ x. x.stamp) (log_of (run_steps net (at_start net trace) steps) m) ≡ stamps

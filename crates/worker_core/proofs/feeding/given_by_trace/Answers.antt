@@ -7,5 +7,7 @@ use Rattle.worker_core.proofs.feeding.given_by_trace.Goals as goal
 pub returns : goal.returns
 returns c =
     c.new.ensures ∙ c.loop-item.invariant
-    ∙ ap (flat_map (item_deliveries c.args.net.now)) (take_all c.loop-item.item-index c.as_slice-item-items.result.now (omega (arith, c.loop-item-test.false)) ∙ c.as_slice-item-items.ensures)
+    ∙ ap (flat_map (item_deliveries c.args.net.now))
+    (take_all c.loop-item.item-index c.as_slice-item-items.result.now
+    (omega (arith, c.loop-item-test.false)) ∙ c.as_slice-item-items.ensures)
     ∙ items_give c.args.net.now false c.args.trace.now

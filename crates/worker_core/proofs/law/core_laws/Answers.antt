@@ -8,7 +8,8 @@ pub returns-clause-start : goal.returns-clause-start
 returns-clause-start c = λ net trace. start_is_core net trace c.known.ensures
 
 pub returns-clause-steps : goal.returns-clause-steps
-returns-clause-steps c = λ net trace state next step. step_keeps net trace state next step c.known.ensures
+returns-clause-steps c =
+    λ net trace state next step. step_keeps net trace state next step c.known.ensures
 
 pub returns-clause-well : goal.returns-clause-well
 returns-clause-well c = λ net trace state. core_runs_well net trace state c.known.ensures
@@ -16,7 +17,8 @@ returns-clause-well c = λ net trace state. core_runs_well net trace state c.kno
 pub returns-clause-runs : goal.returns-clause-runs
 returns-clause-runs c = λ net trace steps h.
     let start = start_is_core net trace c.known.ensures h in
-    core_runs_well net trace _ c.known.ensures (run_is_core net trace (at_start net trace) steps c.known.ensures start)
+    core_runs_well net trace _ c.known.ensures
+    (run_is_core net trace (at_start net trace) steps c.known.ensures start)
 
 pub returns-clause-stopped : goal.returns-clause-stopped
 returns-clause-stopped c = λ net trace state. stopped_is_complete net trace state c.known.ensures

@@ -14,7 +14,8 @@ pub next_moment-requires-clause-width : goal.next_moment-requires-clause-width
 next_moment-requires-clause-width c =
     let net = c.args.net.now in
     let logs = c.args.self.now.logs in
-    moment_width net (entries (get_or logs c.args.m [])) c.args.m c.get.result.now c.get-2.result.now c.get.ensures
+    moment_width net
+    (entries (get_or logs c.args.m [])) c.args.m c.get.result.now c.get-2.result.now c.get.ensures
     (own_moment net logs c.args.self.now.moments c.args.m c.get-2.result.now c.requires.moments c.requires.machine c.get-2.ensures)
 
 pub set-requires : goal.set-requires

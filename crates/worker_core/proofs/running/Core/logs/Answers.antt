@@ -7,4 +7,5 @@ use Rattle.worker_core.proofs.running.Core.logs.Goals as goal
 pub returns-clause-well : goal.returns-clause-well
 returns-clause-well c =
     subst (λ (v : CoreMoment). RunsWell v.net v.trace v.state) c.self.view_is
-    (c.core_laws.ensures.well c.self.inside.net.now c.self.inside.trace.now (state_of c.self.inside.parts) c.self.invariant.core)
+    (c.core_laws.ensures.well c.self.inside.net.now c.self.inside.trace.now
+    (state_of c.self.inside.parts) c.self.invariant.core)

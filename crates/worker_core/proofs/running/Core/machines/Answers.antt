@@ -8,4 +8,6 @@ use Rattle.worker_core.proofs.running.Core.machines.Goals as goal
 pub returns-clause-others : goal.returns-clause-others
 returns-clause-others c = λ m past.
     subst (λ (v : CoreMoment). IsStill v.net v.state m) c.self.view_is
-    (still_past c.self.inside.net.now c.self.inside.trace.now (state_of c.self.inside.parts) m c.self.invariant.core (let size = c.len.ensures in omega arith))
+    (still_past c.self.inside.net.now c.self.inside.trace.now
+    (state_of c.self.inside.parts) m c.self.invariant.core
+    (let size = c.len.ensures in omega arith))

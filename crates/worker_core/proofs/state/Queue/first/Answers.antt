@@ -4,4 +4,6 @@ use Rattle.worker_core.proofs.Passing.{head_of_drop}
 use Rattle.worker_core.proofs.state.Queue.first.Goals as goal
 
 pub returns-then-self-len : goal.returns-then-self-len
-returns-then-self-len c = sym (head_of_drop c.self.inside.items c.self.inside.passed c.get.result.now c.get.ensures) ∙ ap head_of c.self.view_is
+returns-then-self-len c =
+    sym (head_of_drop c.self.inside.items c.self.inside.passed c.get.result.now c.get.ensures)
+    ∙ ap head_of c.self.view_is

@@ -5,7 +5,7 @@ use Rattle.std.proofs.lemmas.List.{get_or-drop}
 use Rattle.std.proofs.lemmas.Grind.{same_number_lists}
 use Rattle.domains.specs.Tables.{fits}
 use Rattle.decision_diagram.specs.declared.node.Node.{Node}
-use Rattle.decision_diagram.specs.Orders.{place}
+use Rattle.domains.specs.Orders.{place}
 use Rattle.decision_diagram.specs.Diagrams.{Diagrams, inner_at, step, follow, level_of, IsNode, value_of, AreReduced}
 use Rattle.decision_diagram.proofs.Fitting.{fits_long, fits_set, fits_zeros, size_some}
 use Rattle.decision_diagram.proofs.Nodes.{none_low, cases_inner, step_here}
@@ -55,7 +55,7 @@ child_same s ok i a b code h low same codes fit =
     ∙ ap (λ (m : ℕ). eqb m 1) (child_value s ok i b code codes h fit)
 
 -- a child is read from place i + 1 on
-child_level : (s : Diagrams) → AreReduced s → (i n code : ℕ) → i ≤ level_of s n → i < length s.order → code < slice_index s.sizes (slice_index s.order i) → i + 1 ≤ level_of s (child_at s i n code)
+pub child_level : (s : Diagrams) → AreReduced s → (i n code : ℕ) → i ≤ level_of s n → i < length s.order → code < slice_index s.sizes (slice_index s.order i) → i + 1 ≤ level_of s (child_at s i n code)
 child_level s ok i n code from h low =
     ⊎_elim
     (λ later. let e : child_at s i n code ≡ n = step_before s ok n i code later in subst (λ (m : ℕ). i + 1 ≤ level_of s m) (sym e) (omega arith))
@@ -120,7 +120,7 @@ from_children s ok i a b h (own one is var kids) (own other is_too var_too kids_
     let long_too = good_too.kids in
     ok.unique a b one other is is_too (var ∙ sym var_too) (same_number_lists one.kids other.kids (omega arith) (λ code low. sym (kids code) ∙ same code (omega arith) ∙ kids_too code))
 
-canonical_from : (s : Diagrams) → AreReduced s → (left i : ℕ) → i + left ≡ length s.order → (a b : ℕ) → IsNode s a → IsNode s b → i ≤ level_of s a → i ≤ level_of s b → Same s i a b → a ≡ b
+pub canonical_from : (s : Diagrams) → AreReduced s → (left i : ℕ) → i + left ≡ length s.order → (a b : ℕ) → IsNode s a → IsNode s b → i ≤ level_of s a → i ≤ level_of s b → Same s i a b → a ≡ b
 canonical_from s ok zero i end a b in_a in_b from_a from_b same =
     let none_a : inner_at s.nodes a ≡ None = ⊎_elim (λ none. none) (λ some. let l = level_below s ok a some.0 some.1 in absurd (omega arith)) (cases_inner s.nodes a) in
     let none_b : inner_at s.nodes b ≡ None = ⊎_elim (λ none. none) (λ some. let l = level_below s ok b some.0 some.1 in absurd (omega arith)) (cases_inner s.nodes b) in

@@ -9,3 +9,14 @@ pub mod Growth
 pub mod Meanings
 pub mod Operating
 pub mod Marking
+pub mod AllCodes
+pub mod Joined
+pub mod Distinct
+pub mod Along
+pub mod Prefixes
+pub mod Paths
+pub mod Truths
+pub mod Counting
+pub mod Members
+pub mod Fixing
+pub mod Sizing

@@ -9,7 +9,7 @@ use Rattle.decision_diagram.specs.declared.node.Node.{Node}
 use Rattle.decision_diagram.specs.declared.node.Shape.TheVariants.{Inner}
 use Rattle.decision_diagram.specs.Constants.{constant_node}
 use Rattle.decision_diagram.specs.Found.{found}
-use Rattle.decision_diagram.specs.Orders.{place}
+use Rattle.domains.specs.Orders.{place}
 use Rattle.decision_diagram.specs.Stores.{IsIndexed}
 use Rattle.decision_diagram.specs.Diagrams.{Diagrams, inner_at, shape_in, shape_of, level_in, level_of, IsNode, value_of, AreReduced, Keeps, IsNew, Means, choice}
 use Rattle.decision_diagram.proofs.Fitting.{fits_at, size_some}

@@ -10,7 +10,7 @@ use Rattle.decision_diagram.specs.declared.operation.Operation.{Operation}
 use Rattle.decision_diagram.specs.declared.operation.Operation.TheVariants.{And, Or}
 use Rattle.decision_diagram.specs.Found.{found}
 use Rattle.decision_diagram.specs.Constants.{constant_node}
-use Rattle.decision_diagram.specs.Orders.{place}
+use Rattle.domains.specs.Orders.{place}
 use Rattle.decision_diagram.specs.Diagrams.{Diagrams, IsNode, value_of, level_of, Keeps, Means, choice}
 use Rattle.decision_diagram.specs.Operations.{combine, IsResult, AreResults}
 use Rattle.decision_diagram.proofs.Fitting.{fits_at}

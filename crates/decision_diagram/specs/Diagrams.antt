@@ -1,7 +1,7 @@
 -- Decision diagrams over variables of several values.
 use Rattle.std.specs.Prelude.{◌≡◌, ℕ, ◌+◌, ◌-◌, ◌<◌, ◌==◌, Bool, cond, nat_lt, List, [], ◌∷◌, length, Option, Some, None, slice_get, slice_index, IsTrue}
 use Rattle.domains.specs.Tables.{fits, are_sizes}
-use Rattle.decision_diagram.specs.Orders.{IsPermutation, place}
+use Rattle.domains.specs.Orders.{IsPermutation, place}
 use Rattle.decision_diagram.specs.declared.node.Node.{Node}
 use Rattle.decision_diagram.specs.declared.node.Shape.{Shape}
 use Rattle.decision_diagram.specs.declared.node.Shape.TheVariants.{False, True, Inner}

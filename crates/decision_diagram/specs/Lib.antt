@@ -1,7 +1,12 @@
 pub mod Constants
-pub mod Orders
-pub mod Found
 pub mod Diagrams
-pub mod Stores
+pub mod Found
+pub mod Laws
+pub mod Leading
 pub mod Operations
+pub mod Orders
 pub mod Reached
+pub mod Sets
+pub mod Sizes
+pub mod Stores
+pub mod Truths

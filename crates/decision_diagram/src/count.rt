@@ -1,8 +1,9 @@
 // How many inner nodes are reached from a node.
-ghost use Rattle.std.specs.Prelude.{◌≡◌, ◌+◌, ◌<◌, ◌≤◌, ◌||◌, ℕ, nat_eq, length, slice_index, count_by, IfOk};
+ghost use Rattle.std.specs.Prelude.{◌≡◌, ◌+◌, ◌<◌, ◌≤◌, ◌||◌, ℕ, Bool, List, nat_eq, length, slice_index, count_by, IfOk};
 ghost use Rattle.std.specs.List.{list_any};
-ghost use Rattle.decision_diagram.specs.Diagrams.{IsNode};
+ghost use Rattle.decision_diagram.specs.Diagrams.{IsNode, Means};
 ghost use Rattle.decision_diagram.specs.Reached.{marked, CountsReached};
+ghost use Rattle.decision_diagram.specs.Sizes.{size_along};
 
 use crate::node::NodeId;
 use crate::store::Store;
@@ -32,8 +33,10 @@ impl Store {
     /// How many inner nodes are reached from a node, itself included: the size of its diagram.
     pub fn count(&self, n: NodeId) -> Result<u64, NoMemory>
         requires { IsNode self.now n }
-        ensures { IfOk result (λ count. CountsReached self.now n count) }
+        ensures reached { IfOk result (λ count. CountsReached self.now n count) }
+        ensures size { IfOk result (λ count. (f : List ℕ → Bool) → Means self.now n f → count ≡ size_along f self.now.sizes self.now.order) }
     {
+        self.same_value_same_node();
         let mut i = (self.node_count() - 2) as usize;
         let mut marks = vec![in self.global(); false; i]?;
         mark(&mut marks, &[n]);

@@ -4,11 +4,13 @@
 mod apply;
 mod count;
 mod index;
+mod law;
 mod node;
 mod operation;
 mod order;
 mod store;
 
+pub use law::laws;
 pub use node::{NodeId, Shape};
 pub use order::Order;
 pub use store::{Root, Store};

@@ -1,6 +1,7 @@
 // Orders of variables.
 ghost use Rattle.std.specs.Prelude.{◌≡◌, ◌<◌, length, slice_get, replicate, Some, IfOk, IfSome, IfNone};
-ghost use Rattle.decision_diagram.specs.Orders.{IsPermutation, ArePlaces, place};
+ghost use Rattle.domains.specs.Orders.{IsPermutation, place};
+ghost use Rattle.decision_diagram.specs.Orders.{ArePlaces};
 
 use polis_base::{Duplicate, List, NoMemory, Numbers, Places};
 use std::alloc::Global;
@@ -16,24 +17,14 @@ pub struct Order {
 
 impl Model for Order {
     ghost use Rattle.std.specs.Prelude.{List, ℕ};
-    ghost use Rattle.decision_diagram.specs.Orders.{IsPermutation, ArePlaces};
+    ghost use Rattle.domains.specs.Orders.{IsPermutation};
+    ghost use Rattle.decision_diagram.specs.Orders.{ArePlaces};
 
     ghost Value = { List ℕ };
 
     ghost view = { λ o. o.vars };
 
     ghost invariant = { λ o. IsPermutation o.vars × ArePlaces o.vars o.places };
-}
-
-// A place for each number below the length, or the length where the number hasn't been met.
-fn no_places(alloc: Global, len: u64) -> Result<Places, NoMemory>
-    ensures { IfOk result (λ places. places ≡ replicate len len) }
-{
-    let mut places = List::new(alloc);
-    for _ in 0..len {
-        places.push(len)?;
-    }
-    Ok(places)
 }
 
 // The place of each number, where the list is a permutation.
@@ -43,7 +34,7 @@ fn places_of(alloc: Global, list: &[u32]) -> Result<Option<Places>, NoMemory>
     ensures none { IfOk result (λ made. IfNone made (¬ IsPermutation list.now)) }
 {
     let len = list.len() as u64;
-    let mut places = no_places(alloc, len)?;
+    let mut places = Places::filled(alloc, len, len)?;
     for (i, var) in list.iter().enumerate() {
         let var = u64::from(*var);
         if var >= len || *places.get(var) < len {
@@ -52,17 +43,6 @@ fn places_of(alloc: Global, list: &[u32]) -> Result<Option<Places>, NoMemory>
         places.set(var, i as u64);
     }
     Ok(Some(places))
-}
-
-// The numbers of a slice as a list.
-fn list_of(alloc: Global, numbers: &[u32]) -> Result<Numbers, NoMemory>
-    ensures { IfOk result (λ list. list ≡ numbers.now) }
-{
-    let mut list = List::new(alloc);
-    for number in numbers {
-        list.push(*number)?;
-    }
-    Ok(list)
 }
 
 impl Order {
@@ -76,7 +56,7 @@ impl Order {
         match places_of(alloc, list)? {
             None => Ok(None),
             Some(places) => Ok(Some(Order {
-                vars: list_of(alloc, list)?,
+                vars: Numbers::from_slice(alloc, list)?,
                 places,
             })),
         }

@@ -4,7 +4,7 @@ ghost use Rattle.std.specs.Int.{bit_at};
 ghost use Rattle.domains.specs.Tables.{fits};
 ghost use Rattle.decision_diagram.specs.Constants.{constant_node};
 ghost use Rattle.decision_diagram.specs.Operations.{IsResult, AreResults};
-ghost use Rattle.decision_diagram.specs.Orders.{place};
+ghost use Rattle.domains.specs.Orders.{place};
 ghost use Rattle.decision_diagram.specs.Diagrams.{IsNode, inner_at, value_of, shape_of, kids_of, level_of, choice, Keeps, Means, IsNew, AreReduced, IsCanonical};
 
 use crate::index::{Index, enter, find};

@@ -1,6 +1,6 @@
 use Rattle.std.proofs.Common.{◌≡◌, ◌∙◌, ◌<◌, ◌≤◌, ◌+◌, ◌-◌, min, ℕ, Bool, List, IsTrue, length, slice_index, sym, ap, subst, arith}
 use Rattle.domains.specs.Tables.{fits}
-use Rattle.decision_diagram.specs.Orders.{place}
+use Rattle.domains.specs.Orders.{place}
 use Rattle.decision_diagram.specs.Operations.{combine}
 use Rattle.decision_diagram.specs.Diagrams.{Diagrams, value_of, level_of, Keeps}
 use Rattle.decision_diagram.proofs.Growth.{keeps_trans}

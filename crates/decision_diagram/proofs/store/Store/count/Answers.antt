@@ -2,6 +2,7 @@ use Rattle.std.proofs.Common.{◌≡◌, ◌∙◌, ◌+◌, ◌-◌, ◌<◌, �
 use Rattle.std.specs.List.{list_any}
 use Rattle.decision_diagram.specs.Reached.{marked}
 use Rattle.decision_diagram.proofs.Marking.{AreMarked, marked_kids, mark_read, whole_part, counts_reached}
+use Rattle.decision_diagram.proofs.Sizing.{count_is_size}
 use Rattle.decision_diagram.proofs.store.Store.count.Goals as goal
 
 pub loop-i-preserved-then-index : goal.loop-i-preserved-then-index
@@ -21,4 +22,10 @@ loop-i-preserved-then-index c =
     subst (λ (xs : List Bool). AreMarked c.args.self.now c.args.n xs (c.loop-i.i - 1)) (sym (whole_part new old c.loop-i.marks.len long (let h = c.loop-i.marks.ok.0 in omega arith))) all
 
 pub returns : goal.returns
-returns c = counts_reached c.args.self.now c.args.n c.loop-i.marks.items c.loop-i.i c.marked_count.result c.loop-i.invariant (let d = c.loop-i-test.false in omega arith) (c.marked_count.ensures ∙ ap (count_by (λ b. b)) c.deref.ensures.value)
+returns c =
+    let s = c.args.self.now in
+    let reached = counts_reached s c.args.n c.loop-i.marks.items c.loop-i.i c.marked_count.result c.loop-i.invariant (let d = c.loop-i-test.false in omega arith) (c.marked_count.ensures ∙ ap (count_by (λ b. b)) c.deref.ensures.value) in
+    record {
+      reached = reached;
+      size = λ f means. count_is_size s c.args.n f c.marked_count.result c.same_value_same_node.ensures.reduced means reached;
+    }

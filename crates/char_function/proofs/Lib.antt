@@ -1,0 +1,14 @@
+mod AllCodes
+mod Fitting
+mod Knowing
+mod Lists
+mod Making
+mod MoreResults
+mod Places
+mod Pointing
+mod Small
+mod Supporting
+mod Tabled
+mod Turning
+mod Varying
+mod Walking

@@ -1,0 +1,28 @@
+use Rattle.std.proofs.Common.{◌≡◌, ◌∙◌, ◌++◌, ◌∷◌, [], ℕ, List, map, length, sym, ap, subst, arith}
+use Rattle.std.specs.Prelude.{filter}
+use Rattle.polis_base.specs.Lists.{upto}
+use Rattle.transition_table.specs.Computed.{support_of, all_supports}
+use Rattle.char_function.specs.Columns.{varies}
+use Rattle.char_function.specs.Supported.{AreSupports}
+use Rattle.char_function.proofs.Supporting.{column_support, supports_more, are_supports}
+use Rattle.char_function.proofs.support.supports.Goals as goal
+
+pub loop-y-preserved : goal.loop-y-preserved
+loop-y-preserved c =
+    let m = c.args.m.now in
+    let y = c.loop-y.y in
+    let made : c.in_ok-support.field-0 ≡ support_of m y =
+    c.in_ok-support.ensures
+    ∙ ap (λ (xs : List ℕ). filter (λ v. varies m.vars v xs) (upto (length m.vars))) (c.as_slice.ensures ∙ c.in_ok-codes.ensures)
+    ∙ column_support c.laws.ensures.ranks_reach m c.var_count-vars.ensures.sizes y in
+    c.in_ok-push.ensures.ok
+    ∙ ap (λ (lists : List (List ℕ)). lists ++ c.in_ok-support.field-0 ∷ []) c.loop-y.invariant
+    ∙ ap (λ (xs : List ℕ). map (support_of m) (upto y) ++ xs ∷ []) made
+    ∙ sym (supports_more m y)
+
+pub returns-clause-exact : goal.returns-clause-exact
+returns-clause-exact c =
+    let m = c.args.m.now in
+    let all : c.loop-y.y ≡ length m.results = let a = c.loop-y-test.false in let b = c.loop-y.auto.y-end in let d = c.from-y-end.ensures in let e = c.result_count.ensures.count in let f = c.var_count-vars.ensures.results in omega arith in
+    let is : c.of.result ≡ all_supports m = c.of.ensures ∙ c.loop-y.invariant ∙ ap (λ (n : ℕ). map (support_of m) (upto n)) all in
+    subst (AreSupports m) (sym is) (are_supports c.laws_of_computing.ensures.support_by_test m c.requires)

@@ -1,0 +1,165 @@
+// The diagram of a machine's characteristic function.
+ghost use Rattle.std.specs.Prelude.{◌≡◌, ◌↔◌, ◌≤◌, ℕ, true, List, length, IfOk, IsTrue};
+ghost use Rattle.domains.specs.Tables.{fits};
+ghost use Rattle.polis_base.specs.Lists.{upto};
+ghost use Rattle.transition_table.specs.Transitions.{IsDeterministic};
+ghost use Rattle.transition_table.specs.Computed.{char};
+ghost use Rattle.transition_table.specs.Orders.{Char, sizes_of};
+ghost use Rattle.decision_diagram.specs.Diagrams.{Keeps, Means, level_of, value_of};
+ghost use Rattle.decision_diagram.specs.Reached.{CountsReached};
+ghost use Rattle.outcome_table.specs.Outcomes.{IsTableOf};
+ghost use Rattle.char_function.specs.Sizes.{Size};
+ghost use Rattle.char_function.specs.Points.{points};
+ghost use Rattle.char_function.specs.Groups.{some_agrees, is_group};
+ghost use Rattle.char_function.specs.Known.{OnlyResults, AreKnown};
+
+use crate::group::parts_of;
+use crate::known::{Known, after_variables, keep_node, known_node, none_known};
+use decision_diagram::{NodeId, Order, Root, Store};
+use domains::VarTable;
+use outcome_table::{Table, table_of};
+use polis_base::{List, NoMemory, Places};
+use std::alloc::Global;
+use transition_table::Machine;
+
+// What diagrams of groups of snapshots are made of.
+#[derive(Clone, Copy)]
+struct Making<'a> {
+    alloc: Global,
+    machine: &'a Machine,
+    table: &'a Table,
+    order: &'a Order,
+    sizes: &'a VarTable,
+    // the place after the order's last variable
+    start: u64,
+}
+
+// The node that is true where a snapshot of the group, with its results, has the codes of what the order has from a place
+// on. Nothing is made that isn't kept.
+fn build(
+    making: &Making,
+    store: &mut Store,
+    known: &mut Known,
+    place: u64,
+    group: &[u64],
+) -> Result<NodeId, NoMemory>
+    requires place { place ≤ length store.old.order }
+    requires order { making.now.order.now ≡ store.old.order }
+    requires sizes { making.now.sizes.now ≡ store.old.sizes }
+    requires all_sizes { store.old.sizes ≡ sizes_of making.now.machine.now }
+    requires table { IsTableOf making.now.machine.now making.now.table.now }
+    requires start { OnlyResults (length making.now.machine.now.vars) store.old.order making.now.start }
+    requires known { AreKnown store.old (length making.now.machine.now.vars) making.now.start making.now.table.now.outcomes known.old }
+    requires group { IsTrue (is_group (points making.now.machine.now) group.now) }
+    ensures kept { Keeps store.old store.new }
+    ensures value { IfOk result (λ n. Means store.new n (some_agrees (points making.now.machine.now) store.old.order place group.now)) }
+    ensures level { IfOk result (λ n. place ≤ level_of store.new n) }
+    ensures known { IfOk result (λ n. AreKnown store.new (length making.now.machine.now.vars) making.now.start making.now.table.now.outcomes known.new) }
+{
+    if group.len() == 0 {
+        return Ok(store.constant(false));
+    }
+    if place == making.order.len() {
+        return Ok(store.constant(true));
+    }
+    if place == making.start {
+        if let Some(node) = known_node(
+            making.machine,
+            making.table,
+            store,
+            known,
+            making.start,
+            group,
+        ) {
+            return Ok(node);
+        }
+    }
+    store.same_value_same_node();
+    let item = *making.order.get(place);
+    let size = *making.sizes.get(u64::from(item));
+    let parts = parts_of(
+        making.alloc,
+        making.machine,
+        making.table,
+        item,
+        size,
+        group,
+    )?;
+    let mut kids = Vec::new(making.alloc);
+    for part in &parts {
+        kids.push(build(making, store, known, place + 1, part.as_slice())?)?;
+    }
+    let node = store.node(item, &kids)?;
+    if place == making.start {
+        keep_node(
+            making.machine,
+            making.table,
+            store,
+            known,
+            making.start,
+            group,
+            node,
+        );
+    }
+    Ok(node)
+}
+
+// The sizes of a machine's variables and then of its results.
+fn all_sizes(alloc: Global, m: &Machine) -> Result<VarTable, NoMemory>
+    ensures { IfOk result (λ sizes. sizes ≡ sizes_of m.now) }
+{
+    let mut sizes = VarTable::new(alloc);
+    for v in 0..m.vars.len() {
+        sizes.push(*m.vars.get(v))?;
+    }
+    for y in 0..m.results.len() {
+        sizes.push(*m.results.get(y))?;
+    }
+    Ok(sizes)
+}
+
+// The numbers below a bound.
+fn numbers_below(alloc: Global, bound: u64) -> Result<Places, NoMemory>
+    ensures { IfOk result (λ list. list ≡ upto bound) }
+{
+    let mut list = List::new(alloc);
+    for i in 0..bound {
+        list.push(i)?;
+    }
+    Ok(list)
+}
+
+/// The node that is true for exactly the pairs of a snapshot and the codes of the machine's result on it, over the
+/// machine's variables and then its results, read in an order. The clause `size` says what the root's count is: the
+/// number of different functions that arise by fixing what stands before a place of the order and that depend on what
+/// stands there, over all places.
+pub fn characteristic(alloc: Global, m: &Machine, order: &Order) -> Result<Root, NoMemory>
+    requires sure { IsDeterministic m.now }
+    requires order { length order.now ≡ length (sizes_of m.now) }
+    ensures sizes { IfOk result (λ root. root.store.sizes ≡ sizes_of m.now) }
+    ensures order { IfOk result (λ root. root.store.order ≡ order.now) }
+    ensures value { IfOk result (λ root. Means root.store root.node (char m.now)) }
+    ensures char { IfOk result (λ root. (codes : List ℕ) → IsTrue (fits (sizes_of m.now) codes) → (value_of root.store root.node codes ≡ true) ↔ Char m.now codes) }
+    ensures size { IfOk result (λ root. (count : ℕ) → CountsReached root.store root.node count → count ≡ Size m.now order.now) }
+{
+    transition_table::laws_of_computing();
+    decision_diagram::laws();
+    let table = table_of(alloc, m)?;
+    let sizes = all_sizes(alloc, m)?;
+    let mut store = Store::new(alloc, &sizes, order)?;
+    store.same_value_same_node();
+    let group = numbers_below(alloc, table.numbers.len())?;
+    let start = after_variables(m, order);
+    let mut known = none_known(alloc, m, &table, &store, start)?;
+    let making = Making {
+        alloc,
+        machine: m,
+        table: &table,
+        order,
+        sizes: &sizes,
+        start,
+    };
+    let node = build(&making, &mut store, &mut known, 0, group.as_slice())?;
+    store.same_value_same_node();
+    Ok(Root { store, node })
+}

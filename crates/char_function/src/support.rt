@@ -1,0 +1,78 @@
+// What the results of a machine depend on.
+ghost use Rattle.std.specs.Prelude.{◌≡◌, ◌+◌, ◌-◌, ◌<◌, ◌≤◌, length, drop, filter, IfOk};
+ghost use Rattle.polis_base.specs.Lists.{upto};
+ghost use Rattle.domains.specs.Names.{is_same};
+ghost use Rattle.transition_table.specs.Transitions.{IsDeterministic};
+ghost use Rattle.transition_table.specs.Computed.{all_supports};
+ghost use Rattle.char_function.specs.Columns.{varies};
+ghost use Rattle.char_function.specs.Supported.{AreSupports};
+
+use crate::column::result_column;
+use crate::support_lists::Supports;
+use domains::VarTable;
+use outcome_table::table_of;
+use polis_base::{List, NoMemory, Numbers};
+use std::alloc::Global;
+use transition_table::Machine;
+
+// Whether two lists of codes are the same.
+fn are_same(one: &[u8], other: &[u8]) -> bool
+    ensures { result ≡ is_same one.now other.now }
+{
+    one == other
+}
+
+// Whether a column over the variables from one on changes where the code of a variable alone changes. The column has
+// one part for each code of its first variable.
+fn changes(column: &[u8], vars: &VarTable, from: u64, v: u64) -> bool
+    requires from { from ≤ v }
+    requires var { v < length vars.now }
+    ensures { result ≡ varies (drop from vars.now) (v - from) column.now }
+{
+    let _ = vars.len();
+    let size = usize::from(*vars.get(from));
+    let part = column.len() / size;
+    if from == v {
+        return !are_same(&column[..column.len() - part], &column[part..]);
+    }
+    for code in 0..size {
+        let start = code * part;
+        if changes(&column[start..start + part], vars, from + 1, v) {
+            return true;
+        }
+    }
+    false
+}
+
+// The variables that a column changes with.
+fn support(alloc: Global, column: &[u8], vars: &VarTable) -> Result<Numbers, NoMemory>
+    requires { length vars.now ≤ 24 }
+    ensures { IfOk result (λ list. list ≡ filter (λ v. varies vars.now v column.now) (upto (length vars.now))) }
+{
+    let mut list = List::new(alloc);
+    for v in 0..vars.len() {
+        if changes(column, vars, 0, v) {
+            list.push(v as u32)?;
+        }
+    }
+    Ok(list)
+}
+
+/// For each result the variables in which two snapshots differ alone while their transitions give it different codes.
+/// The outcomes of all snapshots are put into a table once, and those of neighbouring codes are compared.
+pub fn supports(alloc: Global, m: &Machine) -> Result<Supports, NoMemory>
+    requires { IsDeterministic m.now }
+    ensures lists { IfOk result (λ s. s ≡ all_supports m.now) }
+    ensures exact { IfOk result (λ s. AreSupports m.now s) }
+{
+    transition_table::laws_of_computing();
+    domains::laws();
+    let table = table_of(alloc, m)?;
+    let _vars = m.var_count();
+    let mut lists = List::new(alloc);
+    for y in 0..u64::from(m.result_count()) {
+        let codes = result_column(alloc, m, &table, y)?;
+        lists.push(support(alloc, codes.as_slice(), &m.vars)?)?;
+    }
+    Ok(Supports::of(lists))
+}

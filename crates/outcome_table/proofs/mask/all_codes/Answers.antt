@@ -1,0 +1,5 @@
+use Rattle.outcome_table.proofs.Ones.{all_ones}
+use Rattle.outcome_table.proofs.mask.all_codes.Goals as goal
+
+pub returns : goal.returns
+returns c = λ code. all_ones c.args.size code c.requires

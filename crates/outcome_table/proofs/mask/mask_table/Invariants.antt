@@ -1,0 +1,11 @@
+use Rattle.std.proofs.Common.{◌≡◌, ◌≢◌, ◌<◌, ◌≤◌, ◌&&◌, ◌==◌, ℕ, List, length, take, drop, slice_get, slice_index, Some}
+use Rattle.transition_table.specs.declared.row.Row.{Row}
+use Rattle.outcome_table.specs.Masks.{AreMasks}
+use Rattle.outcome_table.proofs.mask.mask_table.Given as goal
+
+-- the rows before this one
+abbrev pub invariant-loop-r : goal.invariant-loop-r
+invariant-loop-r l = record {
+  long : length l.table ≡ l.r;
+  each : (k : ℕ) (row : Row) (masks : List ℕ) → slice_get l.machine.rows k ≡ Some row → slice_get l.table k ≡ Some masks → AreMasks l.machine.vars row masks;
+}

@@ -1,0 +1,12 @@
+// The outcomes of a machine on all its snapshots, made once.
+#![tactic(auto)]
+
+mod column;
+mod mask;
+mod number;
+mod row;
+mod table;
+#[cfg(test)]
+mod tests;
+
+pub use table::{Table, table_of};

@@ -1,0 +1,67 @@
+// The codes that rows allow, as one set for each row and variable, made once.
+ghost use Rattle.std.specs.Prelude.{◌≡◌, ◌<◌, ◌≤◌, ◌&&◌, ◌==◌, ℕ, nat_lt, length, IfOk, IsTrue};
+ghost use Rattle.std.specs.List.{list_all};
+ghost use Rattle.std.specs.Int.{bit_at};
+ghost use Rattle.outcome_table.specs.Masks.{allows_code, IsMask, AreMasks, IsMaskTable};
+
+use polis_base::{List, NoMemory};
+use std::alloc::Global;
+use transition_table::{Cond, Machine, Row};
+
+/// A set of codes for each variable, one bit each.
+pub(crate) type CodeSets = List<u64>;
+
+// Those codes of a set that all conditions on a variable allow, one bit each.
+fn allowed(conds: &[Cond], var: u32, codes: u64) -> u64
+    ensures { (code : ℕ) → (bit_at result code == 1) ≡ (bit_at codes code == 1 && list_all (allows_code var code) conds.now) }
+{
+    let mut left = codes;
+    for cond in conds {
+        if cond.var == var {
+            left &= cond.codes;
+        }
+    }
+    left
+}
+
+// All codes of a variable of this size, one bit each.
+fn all_codes(size: u8) -> u64
+    requires { size ≤ 33 }
+    ensures { (code : ℕ) → (bit_at result code == 1) ≡ nat_lt code size }
+{
+    (1 << size) - 1
+}
+
+// The codes of a variable that a row allows.
+fn mask_of(machine: &Machine, row: &Row, var: u32) -> u64
+    requires { var < length machine.now.vars }
+    ensures { IsMask machine.now.vars row.now var result }
+{
+    allowed(
+        row.conds.as_slice(),
+        var,
+        all_codes(*machine.vars.get(u64::from(var))),
+    )
+}
+
+// The codes of each variable that a row allows.
+fn masks_of(alloc: Global, machine: &Machine, row: &Row) -> Result<CodeSets, NoMemory>
+    ensures { IfOk result (AreMasks machine.now.vars row.now) }
+{
+    let mut masks = CodeSets::new(alloc);
+    for var in 0..machine.vars.len() {
+        masks.push(mask_of(machine, row, var as u32))?;
+    }
+    Ok(masks)
+}
+
+/// The codes of each variable that each row allows.
+pub(crate) fn mask_table(alloc: Global, machine: &Machine) -> Result<List<CodeSets>, NoMemory>
+    ensures { IfOk result (IsMaskTable machine.now.vars machine.now.rows) }
+{
+    let mut table = List::new(alloc);
+    for r in 0..machine.rows.len() {
+        table.push(masks_of(alloc, machine, machine.rows.get(r))?)?;
+    }
+    Ok(table)
+}

@@ -1,0 +1,10 @@
+pub mod Texts
+pub mod Forms
+pub mod Items
+pub mod Reading
+pub mod Samples
+pub mod Holding
+pub mod Laws
+pub mod Cursors
+pub mod Steps
+pub mod Lines

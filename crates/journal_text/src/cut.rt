@@ -1,0 +1,111 @@
+// Pieces of a text, words, and the signs between lists.
+ghost use Rattle.std.specs.Prelude.{◌≡◌, ◌<◌, ◌+◌, ◌++◌, ◌∷◌, [], ℕ, true, length, IfSome, IfNone, is_some, option_copied, Some, None};
+ghost use Rattle.std.specs.List.{list_all};
+ghost use Rattle.journal_text.specs.Forms.{pieces, is_word_byte, is_word, is_sign, words_of, list_of, dash};
+ghost use Rattle.domains.specs.Names.{is_same};
+ghost use Rattle.journal_text.specs.Cursors.{lacks, left, items_in, CutAt, NoCut};
+
+/// The first piece of a text, and what stands after the mark that ends it, where one does.
+pub fn next_piece(text: &[u8], mark: u8) -> (&[u8], Option<&[u8]>)
+    ensures some { IfSome result.1 (λ r. text.now ≡ result.0.now ++ mark ∷ r.now) }
+    ensures none { IfNone result.1 (text.now ≡ result.0.now) }
+    ensures piece { lacks mark result.0.now ≡ true }
+    ensures prefix { pieces mark text.now ≡ result.0.now ∷ left mark (option_copied result.1) }
+    ensures shorter { IfSome result.1 (λ r. length r.now < length text.now) }
+{
+    for k in 0..text.len() {
+        if text[k] == mark {
+            return (&text[..k], Some(&text[k + 1..]));
+        }
+    }
+    (text, None)
+}
+
+fn is_a_word_byte(byte: u8) -> bool
+    ensures { result ≡ is_word_byte byte }
+{
+    !matches!(byte, b' ' | b'\t' | b'\r' | b'\n')
+}
+
+fn all_word_bytes(word: &[u8]) -> bool
+    ensures { result ≡ list_all is_word_byte word.now }
+{
+    word.iter().all(|byte| is_a_word_byte(*byte))
+}
+
+fn is_a_sign(word: &[u8]) -> bool
+    ensures { result ≡ is_sign word.now }
+{
+    word == b"-".as_slice()
+        || word == b":".as_slice()
+        || word == b";".as_slice()
+        || word == b"->".as_slice()
+}
+
+/// Whether it is a word of a form: some bytes, none of them space, tab, CR or LF, and no sign.
+pub fn is_a_word(word: &[u8]) -> bool
+    ensures { result ≡ is_word word.now }
+{
+    !word.is_empty() && all_word_bytes(word) && !is_a_sign(word)
+}
+
+// Whether all pieces between single spaces are words.
+fn all_words(words: &[u8]) -> bool
+    ensures { result ≡ list_all is_word (words_of words.now) }
+{
+    let mut rest = words;
+    loop {
+        let (word, after) = next_piece(rest, b' ');
+        if !is_a_word(word) {
+            return false;
+        }
+        match after {
+            None => return true,
+            Some(more) => rest = more,
+        }
+    }
+}
+
+/// Whether it is `-` alone.
+pub fn is_dash(words: &[u8]) -> bool
+    ensures { result ≡ is_same words.now dash }
+{
+    words == b"-".as_slice()
+}
+
+/// Whether it is a list: `-`, or words with single spaces between them.
+pub fn is_a_list(words: &[u8]) -> bool
+    ensures { result ≡ is_some (list_of (words_of words.now)) }
+{
+    is_dash(words) || all_words(words)
+}
+
+/// The items of a list, to be walked one by one.
+pub fn items_of(list: &[u8]) -> Option<&[u8]>
+    requires { is_some (list_of (words_of list.now)) ≡ true }
+    ensures { left 32 (option_copied result) ≡ items_in list.now }
+{
+    if is_dash(list) { None } else { Some(list) }
+}
+
+/// What stands before the first such sign among words, and what stands after it. None where there is no such sign, or nothing before it or after it.
+pub fn cut_at<'a>(words: &'a [u8], sign: &[u8]) -> Option<(&'a [u8], &'a [u8])>
+    ensures some { IfSome result (λ r. CutAt sign.now (words_of words.now) (words_of r.0.now) (words_of r.1.now)) }
+    ensures none { IfNone result (NoCut sign.now (words_of words.now)) }
+{
+    let mut at = 0;
+    loop {
+        let (word, after) = next_piece(&words[at..], b' ');
+        let Some(rest) = after else {
+            return None;
+        };
+        if word == sign {
+            return if at == 0 {
+                None
+            } else {
+                Some((&words[..at - 1], rest))
+            };
+        }
+        at = words.len() - rest.len();
+    }
+}

@@ -1,0 +1,136 @@
+// What the words of a line name.
+ghost use Rattle.std.specs.Prelude.{◌≡◌, ◌<◌, ◌≤◌, ◌∷◌, List, length, option_copied, Some, Err, IfOk, IfErr, IfSome, IfNone, IsTrue};
+ghost use Rattle.domains.specs.Domains.{size_of};
+ghost use Rattle.transition_table.specs.NetworkFacts.{values_of, has_domain};
+ghost use Rattle.journals.specs.Journals.{is_party};
+ghost use Rattle.journal_text.specs.Items.{name_part, value_part_of, machine_named, event_named, party_named, value_named, code_of, as_state};
+ghost use Rattle.journal_text.specs.Cursors.{left};
+ghost use Rattle.journal_text.specs.Steps.{Steps, Stops, GivesValue, StopsValues};
+
+use crate::cut::next_piece;
+use crate::fault::JournalKind;
+use domains::{Domain, laws};
+use transition_table::{Network, Party, StateDecl};
+
+/// The name of an item, up to its first `=`, and what stands after that.
+pub fn split(item: &[u8]) -> (&[u8], Option<&[u8]>)
+    ensures name { result.0.now ≡ name_part item.now }
+    ensures value { option_copied result.1 ≡ value_part_of item.now }
+{
+    next_piece(item, b'=')
+}
+
+/// The number of the machine of this name.
+pub fn machine_of_name(net: &Network, word: &[u8]) -> Option<u32>
+    ensures machine { result ≡ machine_named net.now word.now }
+    ensures below { IfSome result (λ m. m < length net.now.machines) }
+{
+    for m in 0..net.machines.len() as u32 {
+        if net.machines.get(m as u64).name.bytes() == word {
+            return Some(m);
+        }
+    }
+    None
+}
+
+/// The number of the event of this name.
+pub fn event_of_name(net: &Network, word: &[u8]) -> Option<u32>
+    ensures event { result ≡ event_named net.now word.now }
+    ensures below { IfSome result (λ e. e < length net.now.events) }
+{
+    for e in 0..net.events.len() as u32 {
+        if net.events.get(e as u64).name.bytes() == word {
+            return Some(e);
+        }
+    }
+    None
+}
+
+/// The party of this name: the environment by `env`, or a machine.
+pub fn party_of_name(net: &Network, word: &[u8]) -> Option<Party>
+    ensures { result ≡ party_named net.now word.now }
+{
+    if word == b"env".as_slice() {
+        return Some(Party::Env);
+    }
+    Some(Party::Machine(machine_of_name(net, word)?))
+}
+
+// The value of a domain that has this word.
+fn value_in(domain: &Domain, word: &[u8]) -> Option<u8>
+    ensures value { result ≡ value_named word.now domain.now }
+    ensures below { IfSome result (λ v. v < size_of domain.now) }
+    ensures few { IfSome result (λ v. v < 32) }
+{
+    laws();
+    let _size = domain.size();
+    domain.value_of(word)
+}
+
+/// The code of what has this domain, or none, with the word after `=`.
+pub fn code(net: &Network, domain: Option<u32>, word: Option<&[u8]>) -> Option<u8>
+    requires { IfSome domain (λ d. d < length net.now.domains) }
+    ensures code { result ≡ code_of net.now domain (option_copied word.entry) }
+    ensures some { IfSome result (λ c. 1 ≤ c) }
+{
+    match domain {
+        None => match word {
+            None => Some(1),
+            Some(_) => None,
+        },
+        Some(d) => match word {
+            None => None,
+            Some(word) => Some(value_in(net.domains.get(d as u64), word)? + 1),
+        },
+    }
+}
+
+/// The code that the next item gives a thing of this name and domain, with the items after it; or 0 and all items, where the next item has
+/// another name or there is none. None where its value is at fault.
+pub fn code_of_next<'a>(
+    net: &Network,
+    name: &[u8],
+    domain: Option<u32>,
+    items: Option<&'a [u8]>,
+) -> Option<(u8, Option<&'a [u8]>)>
+    requires { IfSome domain (λ d. d < length net.now.domains) }
+    ensures some { IfSome result (λ r. Steps net.now (name.now, domain) (left 32 (option_copied items.entry)) r.0 (left 32 (option_copied r.1))) }
+    ensures none { IfNone result (Stops net.now (name.now, domain) (left 32 (option_copied items.entry))) }
+{
+    let Some(text) = items else {
+        return Some((0, None));
+    };
+    let (item, after) = next_piece(text, b' ');
+    let (found, value) = split(item);
+    if name == found {
+        Some((code(net, domain, value)?, after))
+    } else {
+        Some((0, Some(text)))
+    }
+}
+
+/// The value that the next item gives a state variable, with the items after it; or the kind of fault, where the next item isn't of that variable,
+/// or there is none, or its value is at fault.
+pub fn value_of_next<'a>(
+    net: &Network,
+    variable: &StateDecl,
+    items: Option<&'a [u8]>,
+) -> Result<(u8, Option<&'a [u8]>), JournalKind>
+    requires { variable.now.domain < length net.now.domains }
+    ensures ok { IfOk result (λ r. GivesValue net.now (as_state variable.now) (left 32 (option_copied items.entry)) r.0 (left 32 (option_copied r.1))) }
+    ensures fault { IfErr result (λ kind. StopsValues net.now (as_state variable.now) (left 32 (option_copied items.entry)) kind) }
+{
+    let Some(text) = items else {
+        return Err(JournalKind::Name);
+    };
+    let (item, after) = next_piece(text, b' ');
+    let (found, value) = split(item);
+    if variable.name.bytes() == found {
+        match code(net, Some(variable.domain), value) {
+            Some(code) => Ok((code - 1, after)),
+            None => Err(JournalKind::Value),
+        }
+    } else {
+        Err(JournalKind::Name)
+    }
+}

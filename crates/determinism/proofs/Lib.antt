@@ -1,3 +1,4 @@
+pub mod Apart
 pub mod Befores
 pub mod Bests
 pub mod Bits

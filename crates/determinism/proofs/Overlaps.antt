@@ -82,7 +82,7 @@ row_parts m row h =
     (and_parts (list_all (names_codes m.vars) row.conds && list_all (names_result m.inputs m.vars m.results) row.acts) (list_all (λ act. has_present row.conds act.source) row.acts) h).0
 
 -- a row that is enabled allows the code of each variable
-allowed_here : (m : Machine) (row : Row) (codes : List ℕ) (k : ℕ) → fits m.vars codes ≡ true → list_all (allows codes) row.conds ≡ true → k < length m.vars → is_allowed m.vars row k (slice_index codes k) ≡ true
+pub allowed_here : (m : Machine) (row : Row) (codes : List ℕ) (k : ℕ) → fits m.vars codes ≡ true → list_all (allows codes) row.conds ≡ true → k < length m.vars → is_allowed m.vars row k (slice_index codes k) ≡ true
 allowed_here m row codes k fit held below =
     both (nat_lt (slice_index codes k) (slice_index m.vars k)) (list_all (allows_code k (slice_index codes k)) row.conds) (below_size m.vars codes k fit below) (all_allow codes k row.conds held)
 

@@ -1,12 +1,12 @@
 -- The least codes at which a result differs.
-use Rattle.std.proofs.Common.{◌≡◌, ◌≢◌, ◌⊎◌, ◌<◌, ◌≤◌, ◌+◌, ℕ, zero, suc, true, ◌==◌, List, [], ◌∷◌, ◌++◌, length, slice_get, slice_index, slice_set, Some, arith, refl, sym, ◌∙◌, ap, subst, inl, inr}
+use Rattle.std.proofs.Common.{◌≡◌, ◌≢◌, ◌⊎◌, ◌<◌, ◌≤◌, ◌+◌, ℕ, zero, suc, List, [], ◌∷◌, ◌++◌, length, slice_get, slice_index, slice_set, Some, arith, refl, sym, ◌∙◌, ap, subst, inl, inr}
 use Rattle.std.specs.Int.{bit_at}
 use Rattle.std.proofs.lemmas.List.{length-set, get_or-set_same, get_or-set_other, nil_from_length}
 use Rattle.std.proofs.lemmas.Bool.Decides.{eqb_tells}
 use Rattle.transition_table.specs.declared.row.Row.{Row}
 use Rattle.transition_table.specs.declared.machine.Machine.{Machine}
 use Rattle.transition_table.specs.Transitions.{code_given}
-use Rattle.determinism.specs.Common.{IsIn, AreLeast, Differ, Reads, SameBut, Before, IsLeastAt}
+use Rattle.determinism.specs.Common.{IsIn, AreLeast, Differ, Reads, SameBut, Before}
 use Rattle.determinism.proofs.Befores.{before_all, before_at}
 
 -- another code of a set
@@ -92,7 +92,7 @@ written xs k x P below prefix here j within =
     ]
 
 -- an item of a list with one more at its end
-pub last_or_before : (table : List (List ℕ)) (masks xs : List ℕ) (k : ℕ) → slice_get (table ++ masks ∷ []) k ≡ Some xs → (slice_get table k ≡ Some xs) ⊎ ((k ≡ length table) × (masks ≡ xs))
+pub last_or_before : {X : Type 0} (table : List X) (masks xs : X) (k : ℕ) → slice_get (table ++ masks ∷ []) k ≡ Some xs → (slice_get table k ≡ Some xs) ⊎ ((k ≡ length table) × (masks ≡ xs))
 last_or_before [] masks xs zero at = inr (refl, cc)
 last_or_before [] masks xs (suc k) at = cc
 last_or_before (first ∷ table) masks xs zero at = inl at

@@ -1,5 +1,5 @@
 -- Snapshots that enable two rows, as one set of codes for each variable, and those on which a result differs.
-use Rattle.std.specs.Prelude.{◌≡◌, ◌≢◌, ◌⊎◌, ◌↔◌, ◌<◌, ◌≤◌, ◌==◌, ◌&&◌, ◌||◌, ℕ, Bool, true, false, not, nat_lt, List, [], ◌∷◌, length, slice_get, slice_index, Some, IsTrue, ⊤}
+use Rattle.std.specs.Prelude.{◌≡◌, ◌≢◌, ◌⊎◌, ◌<◌, ◌≤◌, ◌==◌, ◌&&◌, ◌||◌, ℕ, Bool, true, false, not, nat_lt, List, [], ◌∷◌, length, slice_get, slice_index, Some, IsTrue, ⊤}
 use Rattle.std.specs.List.{list_all}
 use Rattle.std.specs.Int.{bit_at}
 use Rattle.std.specs.Cmp.Lexicographic.{slice_cmp}
@@ -24,7 +24,12 @@ is_allowed vars row var code = nat_lt code (slice_index vars var) && list_all (a
 abbrev pub IsMask : List ℕ → Row → ℕ → ℕ → Type 0
 IsMask vars row var mask = (code : ℕ) → (bit_at mask code == 1) ≡ is_allowed vars row var code
 
--- one such set for each variable
+-- all codes of each variable
+pub record AreWhole (vars masks : List ℕ) : Type 0 where
+  pub long : length masks ≡ length vars
+  pub each : (var : ℕ) → var < length vars → (code : ℕ) → (bit_at (slice_index masks var) code == 1) ≡ nat_lt code (slice_index vars var)
+
+-- one set for each variable, of the codes that the row allows
 pub record AreMasks (vars : List ℕ) (row : Row) (masks : List ℕ) : Type 0 where
   pub long : length masks ≡ length vars
   pub each : (var : ℕ) → var < length vars → IsMask vars row var (slice_index masks var)

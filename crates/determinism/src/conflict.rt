@@ -5,13 +5,15 @@ ghost use Rattle.transition_table.specs.MachineFacts.{is_row};
 ghost use Rattle.transition_table.specs.Transitions.{Conflict};
 ghost use Rattle.determinism.specs.Common.{IsTable, IsBox, AreSome, IsBest, Before};
 ghost use Rattle.determinism.specs.Conflicts.{IsLeastOf, IsFirstWith, Answers};
+ghost use Rattle.determinism.specs.Marks.{AreMarked};
 
 use crate::difference::least_difference;
 use crate::fault::CheckFault;
+use crate::marks::{Marks, marks_table, next_near};
 use crate::masks::{CodeSets, SetTable, table_of};
 use crate::overlap::overlap;
 use domains::{Codes, first_codes};
-use polis_base::NoMemory;
+use polis_base::{List, NoMemory};
 use std::alloc::Global;
 use transition_table::{Machine, Row, Snapshot, laws};
 
@@ -123,12 +125,14 @@ fn conflicting(
     machine: &Machine,
     a: u32,
     table: &SetTable,
+    marks: &List<Marks>,
     sets: &mut CodeSets,
     s: &mut Snapshot,
     best: &mut Snapshot,
 ) -> Option<u32>
     requires row { a < length machine.now.rows }
     requires table { IsTable machine.now.vars machine.now.rows table.now }
+    requires marks { AreMarked machine.now marks.now }
     requires sets { length sets.old ≡ length machine.now.vars }
     requires long { length s.old.codes ≡ length machine.now.vars }
     requires best_long { length best.old.codes ≡ length machine.now.vars }
@@ -138,10 +142,13 @@ fn conflicting(
     ensures some { IfSome result (λ b. IsFirstWith machine.now a b best.new) }
     ensures none { IfNone result ((b : ℕ) (t : SnapshotOf) → ¬ Conflict machine.now a b t) }
 {
-    for b in a + 1..machine.row_count() {
+    let denied = marks.get(u64::from(a)).denied;
+    let mut b = next_near(marks.as_slice(), denied, a + 1);
+    while b < machine.row_count() {
         if conflict_of(machine, a, b, table, sets, s, best) {
             return Some(b);
         }
+        b = next_near(marks.as_slice(), denied, b + 1);
     }
     None
 }
@@ -154,6 +161,7 @@ pub fn check(alloc: Global, m: &Machine) -> Result<(), CheckFault>
 {
     laws();
     let table = table_of(alloc, m)?;
+    let marks = marks_table(alloc, m, &table)?;
     let mut sets = CodeSets::filled(alloc, m.vars.len(), 0)?;
     let mut s = Snapshot {
         codes: first_codes(alloc, &m.vars)?,
@@ -162,7 +170,7 @@ pub fn check(alloc: Global, m: &Machine) -> Result<(), CheckFault>
         codes: first_codes(alloc, &m.vars)?,
     };
     for a in 0..m.row_count() {
-        if let Some(b) = conflicting(m, a, &table, &mut sets, &mut s, &mut best) {
+        if let Some(b) = conflicting(m, a, &table, &marks, &mut sets, &mut s, &mut best) {
             return Err(CheckFault::Conflict {
                 row_a: a,
                 row_b: b,

@@ -4,6 +4,7 @@
 mod conflict;
 mod difference;
 mod fault;
+mod marks;
 mod masks;
 mod overlap;
 mod worked;

@@ -1,8 +1,8 @@
 // The codes that rows allow, as one set for each row and variable, made once.
-ghost use Rattle.std.specs.Prelude.{◌≡◌, ◌<◌, ◌≤◌, ◌&&◌, ◌==◌, ℕ, nat_lt, length, IfOk, IsTrue, IsFalse};
+ghost use Rattle.std.specs.Prelude.{◌≡◌, ◌<◌, ◌≤◌, ◌&&◌, ◌==◌, ℕ, nat_lt, length, slice_index, IfOk};
 ghost use Rattle.std.specs.List.{list_all};
 ghost use Rattle.std.specs.Int.{bit_at};
-ghost use Rattle.determinism.specs.Common.{allows_code, IsMask, AreMasks, IsTable};
+ghost use Rattle.determinism.specs.Common.{allows_code, AreWhole, AreMasks, IsTable};
 
 use polis_base::{List, NoMemory};
 use std::alloc::Global;
@@ -14,17 +14,18 @@ pub(crate) type CodeSets = List<u64>;
 /// These for each row.
 pub(crate) type SetTable = List<CodeSets>;
 
-// Those codes of a set that all conditions on a variable allow, one bit each.
-fn allowed(conds: &[Cond], var: u32, codes: u64) -> u64
-    ensures { (code : ℕ) → (bit_at result code == 1) ≡ (bit_at codes code == 1 && list_all (allows_code var code) conds.now) }
+// Takes from the set of each variable the codes that a condition on it doesn't allow.
+fn narrow(conds: &[Cond], masks: &mut CodeSets)
+    ensures long { length masks.new ≡ length masks.old }
+    ensures left { (var code : ℕ) → var < length masks.old → (bit_at (slice_index masks.new var) code == 1) ≡ (bit_at (slice_index masks.old var) code == 1 && list_all (allows_code var code) conds.now) }
 {
-    let mut left = codes;
     for cond in conds {
-        if cond.var == var {
-            left &= cond.codes;
+        let var = u64::from(cond.var);
+        if var < masks.len() {
+            let left = *masks.get(var) & cond.codes;
+            masks.set(var, left);
         }
     }
-    left
 }
 
 // All codes of a variable of this size, one bit each.
@@ -35,26 +36,29 @@ fn all_codes(size: u8) -> u64
     (1 << size) - 1
 }
 
-// The codes of a variable that a row allows.
-fn mask_of(machine: &Machine, row: &Row, var: u32) -> u64
-    requires { var < length machine.now.vars }
-    ensures { IsMask machine.now.vars row.now var result }
-{
-    allowed(
-        row.conds.as_slice(),
-        var,
-        all_codes(*machine.vars.get(u64::from(var))),
-    )
-}
-
-// The codes of each variable that a row allows.
-fn masks_of(alloc: Global, machine: &Machine, row: &Row) -> Result<CodeSets, NoMemory>
-    ensures { IfOk result (AreMasks machine.now.vars row.now) }
+// All codes of each variable.
+fn whole(alloc: Global, machine: &Machine) -> Result<CodeSets, NoMemory>
+    ensures { IfOk result (AreWhole machine.now.vars) }
 {
     let mut masks = CodeSets::new(alloc);
     for var in 0..machine.vars.len() {
-        masks.push(mask_of(machine, row, var as u32))?;
+        masks.push(all_codes(*machine.vars.get(var)))?;
     }
+    Ok(masks)
+}
+
+// The codes of each variable that a row allows.
+fn masks_of(
+    alloc: Global,
+    machine: &Machine,
+    all: &CodeSets,
+    row: &Row,
+) -> Result<CodeSets, NoMemory>
+    requires { AreWhole machine.now.vars all.now }
+    ensures { IfOk result (AreMasks machine.now.vars row.now) }
+{
+    let mut masks = CodeSets::from_slice(alloc, all.as_slice())?;
+    narrow(row.conds.as_slice(), &mut masks);
     Ok(masks)
 }
 
@@ -62,9 +66,10 @@ fn masks_of(alloc: Global, machine: &Machine, row: &Row) -> Result<CodeSets, NoM
 pub(crate) fn table_of(alloc: Global, machine: &Machine) -> Result<SetTable, NoMemory>
     ensures { IfOk result (IsTable machine.now.vars machine.now.rows) }
 {
+    let all = whole(alloc, machine)?;
     let mut table = SetTable::new(alloc);
     for r in 0..machine.rows.len() {
-        table.push(masks_of(alloc, machine, machine.rows.get(r))?)?;
+        table.push(masks_of(alloc, machine, &all, machine.rows.get(r))?)?;
     }
     Ok(table)
 }

@@ -2,3 +2,4 @@ pub mod Capped
 pub mod Least
 pub mod Moved
 pub mod Parts
+pub mod Plain

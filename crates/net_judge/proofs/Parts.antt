@@ -1,11 +1,12 @@
 -- Words beyond a number, words of events on one side, and places found in three parts.
-use Rattle.std.proofs.Common.{◌<◌, length, arith, ◌≡◌, ◌∙◌, ℕ, zero, suc, Result, IfOk, Bool, true, false, cond, List, [], ◌∷◌, ◌++◌, map, flat_map, filter, slice_get, Option, Some, is_some, unwrap_or, refl, ap, sym, true≢false, None}
+use Rattle.std.proofs.Common.{◌≡◌, ◌∙◌, ℕ, zero, suc, Result, IfOk, Bool, true, false, ◌||◌, cond, List, [], ◌∷◌, ◌++◌, map, flat_map, filter, slice_get, Option, Some, is_some, unwrap_or, refl, ap, sym, true≢false}
 use Rattle.polis_base.specs.declared.NoMemory.{NoMemory}
 use Rattle.net_reader.specs.declared.raw.Word.{Word}
 use Rattle.net_reader.specs.declared.raw.RawEnv.{RawEnv}
 use Rattle.net_reader.specs.declared.raw.RawEvent.{RawEvent}
 use Rattle.net_names.specs.Places.{sooner, least}
-use Rattle.net_names.specs.Numbers.{repeated, no_name}
+use Rattle.net_names.specs.Numbers.{is_name_of}
+use Rattle.domains.specs.Names.{is_same}
 use Rattle.net_judge.specs.Rules.{beyond}
 use Rattle.net_judge.proofs.Least.{IfOk-same, sooner-least, least-append}
 
@@ -36,10 +37,15 @@ three-found found a b r ps qs rs first second third =
 pub three-plain : (a b r : Option ℕ) (ps qs rs : List ℕ) → a ≡ least ps → b ≡ sooner a (least qs) → r ≡ sooner b (least rs) → r ≡ least (ps ++ qs ++ rs)
 three-plain a b r ps qs rs first second third = third ∙ ap (λ o. sooner o (least rs)) (second ∙ ap (λ o. sooner o (least qs)) first ∙ sym (least-append ps qs)) ∙ sym (least-append (ps ++ qs) rs)
 
--- a single word doesn't repeat
-pub lone-word : (found : Option ℕ) (words : List Word) → length words < 2 → found ≡ sooner found (least (repeated no_name words))
-lone-word None [] short = refl
-lone-word (Some p) [] short = refl
-lone-word None (w ∷ []) short = refl
-lone-word (Some p) (w ∷ []) short = refl
-lone-word found (w ∷ v ∷ words) short = absurd (omega (arith, short))
+-- the names of some words and of one more
+pub name-after : (words : List Word) (word : Word) (q : List ℕ) → is_name_of (words ++ word ∷ []) q ≡ (is_name_of words q || is_same q word.name)
+name-after [] word q = by (is_same q word.name)
+  where
+    by : (b : Bool) → (b || false) ≡ b
+    by true = refl
+    by false = refl
+name-after (w ∷ words) word q = by (is_same q w.name) (name-after words word q)
+  where
+    by : (b : Bool) → is_name_of (words ++ word ∷ []) q ≡ (is_name_of words q || is_same q word.name) → (b || is_name_of (words ++ word ∷ []) q) ≡ ((b || is_name_of words q) || is_same q word.name)
+    by true h = refl
+    by false h = h

@@ -1,4 +1,5 @@
 pub mod Judged
 pub mod Making
+pub mod Plain
 pub mod Rules
 pub mod Samples

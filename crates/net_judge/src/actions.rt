@@ -1,13 +1,16 @@
 // Rules on what actions give, and where they take it from.
 ghost use Rattle.std.specs.Prelude.{◌≡◌, flat_map, option_copied};
-ghost use Rattle.std.specs.List.{list_any};
+ghost use Rattle.std.specs.List.{list_all, list_any};
+ghost use Rattle.net_reader.specs.declared.raw.RawMachine.{RawMachine as Machine};
+ghost use Rattle.net_reader.specs.declared.raw.RawRow.{RawRow as Row};
 ghost use Rattle.net_names.specs.Places.{sooner, least};
 ghost use Rattle.net_names.specs.Locals.{AreLocals};
 ghost use Rattle.net_judge.specs.Rules.{rule_19, rule_21, rule_22, rule_23, rule_24, rule_25, wrong_value, wrong_emission, source_of, target_domain, is_valued, shows, same_domain, wrong_sum, not_below};
+ghost use Rattle.net_judge.specs.Plain.{is_plain, all_plain};
 
 use crate::act_rules::{ActRule, broken_by_acts};
 use net_names::{Local, is_same, no_value, sooner, unless, value_count};
-use net_reader::{RawAct, RawCond, RawNet, RawRow, RawShape, RawSource, Word};
+use net_reader::{RawAct, RawCond, RawMachine, RawNet, RawRow, RawShape, RawSource, Word};
 use polis_base::{List, Name};
 
 // The least of what was found and of the place of a written value that is none of the domain.
@@ -79,6 +82,55 @@ fn source_of(act: &RawAct) -> Option<RawSource>
         RawAct::Emit { value, .. } => *value,
         RawAct::Set { value, .. } => Some(*value),
     }
+}
+
+// Whether the action takes its value from no variable.
+fn is_plain(act: &RawAct) -> bool
+    ensures { result ≡ is_plain act.now }
+{
+    match source_of(act) {
+        Some(RawSource::Value(_)) => true,
+        Some(RawSource::Input(_)) => false,
+        Some(RawSource::Add { .. }) => false,
+        None => true,
+    }
+}
+
+fn plain_acts(acts: &[RawAct]) -> bool
+    ensures { result ≡ list_all is_plain acts.now }
+{
+    acts.iter().all(|act| is_plain(act))
+}
+
+fn plain_row(row: &RawRow) -> bool
+    ensures { result ≡ list_all is_plain row.now.acts }
+{
+    plain_acts(row.acts.as_slice())
+}
+
+fn plain_rows(rows: &[RawRow]) -> bool
+    ensures { result ≡ list_all (λ (row : Row). list_all is_plain row.acts) rows.now }
+{
+    rows.iter().all(|row| plain_row(row))
+}
+
+fn plain_machine(machine: &RawMachine) -> bool
+    ensures { result ≡ list_all (λ (row : Row). list_all is_plain row.acts) machine.now.rows }
+{
+    plain_rows(machine.rows.as_slice())
+}
+
+fn plain_machines(machines: &[RawMachine]) -> bool
+    ensures { result ≡ list_all (λ (m : Machine). list_all (λ (row : Row). list_all is_plain row.acts) m.rows) machines.now }
+{
+    machines.iter().all(|machine| plain_machine(machine))
+}
+
+// Whether no action takes its value from a variable.
+pub(crate) fn all_plain(raw: &RawNet) -> bool
+    ensures { result ≡ all_plain raw.now }
+{
+    plain_machines(raw.machines.as_slice())
 }
 
 // The name of the domain of what an action gives a value.

@@ -3,7 +3,7 @@ ghost use Rattle.std.specs.Prelude.{◌≡◌, IfOk};
 ghost use Rattle.net_names.specs.Locals.{AreLocals};
 ghost use Rattle.net_judge.specs.Judged.{broken, first_broken, act_rules, machine_rules};
 
-use crate::actions::{rule_19, rule_21, rule_22, rule_23, rule_24, rule_25};
+use crate::actions::{all_plain, rule_19, rule_21, rule_22, rule_23, rule_24, rule_25};
 use crate::conds::cond_faults;
 use crate::initials::rule_14;
 use crate::ports::{rule_8, rule_9, rule_11, rule_12, rule_13};
@@ -29,6 +29,9 @@ fn judge_acts(raw: &RawNet, locals: &List<Local>) -> Option<Broken>
     requires { AreLocals raw.now raw.now.machines locals.now }
     ensures { result ≡ first_broken (act_rules raw.now) }
 {
+    if all_plain(raw) {
+        return None;
+    }
     if let Some(place) = rule_21(raw, locals) {
         return Some(Broken { rule: 21, place });
     }

@@ -5,7 +5,7 @@ ghost use Rattle.net_names.specs.Numbers.{missing, repeated, no_name};
 ghost use Rattle.net_judge.specs.Rules.{beyond};
 ghost use Rattle.net_names.specs.Tables.{has};
 
-use net_names::{Table, sooner};
+use net_names::{Table, has_name, sooner};
 use net_reader::Word;
 use polis_base::{List, NoMemory};
 use std::alloc::Global;
@@ -55,6 +55,19 @@ pub(crate) fn repeated(
     repeated_each(taken, words.as_slice(), found)
 }
 
+// The least of what was found and of the places of the words whose names stand before, each compared with those before.
+fn repeats_few(words: &[Word], found: Option<u64>) -> Option<u64>
+    ensures { result ≡ sooner found (least (repeated no_name words.now)) }
+{
+    let mut found = found;
+    for (place, word) in words.iter().enumerate() {
+        if has_name(&words[..place], &word.name) {
+            found = sooner(found, word.at);
+        }
+    }
+    found
+}
+
 // The least of what was found and of the places of the words whose names stand before.
 pub(crate) fn repeats(
     alloc: Global,
@@ -63,8 +76,8 @@ pub(crate) fn repeats(
 ) -> Result<Option<u64>, NoMemory>
     ensures { IfOk result (λ place. place ≡ sooner found (least (repeated no_name words.now))) }
 {
-    if words.len() < 2 {
-        return Ok(found);
+    if words.len() <= 8 {
+        return Ok(repeats_few(words.as_slice(), found));
     }
     repeated(Table::new(alloc), words, found)
 }

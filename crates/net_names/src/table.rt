@@ -1,5 +1,5 @@
 // The numbers of names.
-ghost use Rattle.std.specs.Prelude.{◌≡◌, ℕ, List, [], not, ◌||◌, nat_eq, IfOk, OnOk};
+ghost use Rattle.std.specs.Prelude.{◌≡◌, ◌<◌, ℕ, List, [], Some, not, ◌||◌, nat_eq, IfOk, IfSome, OnOk};
 ghost use Rattle.std.specs.Cmp.{partial_equiv_from_equiv};
 ghost use Rattle.std.specs.Cmp.Lexicographic.{nat_list_eq_equiv, pointwise};
 ghost use Rattle.std.specs.Hash as fed;
@@ -9,6 +9,7 @@ ghost use Rattle.domains.specs.Names.{is_same};
 ghost use Rattle.net_names.specs.Tables.{number_at, has, noted};
 ghost use Rattle.net_names.specs.Numbers.{names_of, number_in, is_name_of};
 
+use crate::values::is_same;
 use indexmap::IndexMap;
 use net_reader::Word;
 use polis_base::{List, Name, NoMemory};
@@ -54,10 +55,23 @@ impl Hash for Key {
     }
 }
 
+// A number below 64 that tells most names apart that differ in their last two bytes.
+fn slot(bytes: &[u8]) -> usize
+    ensures { result < 64 }
+{
+    let len = bytes.len();
+    if len < 2 {
+        return 0;
+    }
+    (usize::from(bytes[len - 2]) * 10 + usize::from(bytes[len - 1])) % 64
+}
+
 /// Which names have a number, and which.
 #[derive(Drop)]
 pub struct Table {
     numbers: IndexMap<Key, u64>,
+    // For each slot the place of an entry that is tried before the name is hashed.
+    likely: [u8; 64],
 }
 
 impl Model for Table {
@@ -75,6 +89,24 @@ impl Table {
     {
         Table {
             numbers: IndexMap::new(alloc),
+            likely: [0; 64],
+        }
+    }
+
+    // The number of the name, if it is that of the entry that its slot gives.
+    fn likely_number(&self, name: &Name) -> Option<u64>
+        ensures { IfSome result (λ number. number_at self.now name.now ≡ Some number) }
+    {
+        let place = self.likely[slot(name.bytes())];
+        match self.numbers.get_index(usize::from(place)) {
+            Some((key, number)) => {
+                if is_same(name, &key.name) {
+                    Some(*number)
+                } else {
+                    None
+                }
+            }
+            None => None,
         }
     }
 
@@ -82,13 +114,16 @@ impl Table {
     pub fn number(&self, name: Name) -> Option<u64>
         ensures { result ≡ number_at self.now name }
     {
-        self.numbers.get(&Key { name }).copied()
+        match self.likely_number(&name) {
+            Some(number) => Some(number),
+            None => self.numbers.get(&Key { name }).copied(),
+        }
     }
 
     pub fn has(&self, name: Name) -> bool
         ensures { result ≡ has self.now name }
     {
-        self.numbers.contains_key(&Key { name })
+        self.number(name).is_some()
     }
 
     /// Gives a name that has none this number. True where it had none.
@@ -100,7 +135,9 @@ impl Table {
         if self.has(name) {
             return Ok(false);
         }
+        let place = self.numbers.len() % 256;
         self.numbers.insert(Key { name }, number)?;
+        self.likely[slot(name.bytes())] = place as u8;
         Ok(true)
     }
 }

@@ -2,7 +2,7 @@
 ghost use Rattle.std.specs.Prelude.{◌≡◌, ◌≤◌, ◌*◌, min, Some, None, length};
 ghost use Rattle.domains.specs.Names.{is_same};
 ghost use Rattle.net_names.specs.Places.{unless, sooner, least};
-ghost use Rattle.net_names.specs.Numbers.{names_of, number_in};
+ghost use Rattle.net_names.specs.Numbers.{names_of, number_in, is_name_of};
 ghost use Rattle.net_names.specs.Values.{value_in, count_of, place_of};
 
 use net_reader::{RawShape, RawValue, Word};
@@ -12,6 +12,18 @@ pub fn is_same(a: &Name, b: &Name) -> bool
     ensures { result ≡ is_same a.now b.now }
 {
     a.bytes() == b.bytes()
+}
+
+/// Whether a word has the name.
+pub fn has_name(words: &[Word], name: &Name) -> bool
+    ensures { result ≡ is_name_of words.now name.now }
+{
+    for word in words {
+        if is_same(name, &word.name) {
+            return true;
+        }
+    }
+    false
 }
 
 // The number of a name: its first place among the words.

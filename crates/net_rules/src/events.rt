@@ -7,23 +7,11 @@ ghost use Rattle.net_names.specs.Numbers.{is_name_of};
 ghost use Rattle.net_names.specs.Scopes.{is_to_env};
 ghost use Rattle.net_rules.specs.Networks.{machines_with, party_of, event_of};
 
-use net_names::{Scope, is_same};
-use net_reader::{RawEnv, RawEvent, RawMachine, RawNet, Word};
+use net_names::{Scope, has_name};
+use net_reader::{RawEnv, RawEvent, RawMachine, RawNet};
 use polis_base::{Name, NoMemory, Numbers};
 use std::alloc::Global;
 use transition_table::{EventDecl, EventList, Party};
-
-// Whether a word has the name.
-fn has_name(words: &[Word], name: &Name) -> bool
-    ensures { result ≡ is_name_of words.now name.now }
-{
-    for word in words {
-        if is_same(name, &word.name) {
-            return true;
-        }
-    }
-    false
-}
 
 fn reads(machine: &RawMachine, name: &Name) -> bool
     ensures { result ≡ is_name_of machine.now.inputs name.now }

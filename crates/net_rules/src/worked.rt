@@ -1,7 +1,10 @@
 // Networks that the definitions give for small declarations, and laws over definitions.
 ghost use Rattle.net_judge.specs.Samples.{lamp, belt, mix, echo};
 ghost use Rattle.net_rules.specs.NetOf.{IsNetOf};
-ghost use Rattle.net_rules.specs.Given.{lamp_network, belt_network, mix_network, echo_network};
+ghost use Rattle.transition_table.specs.SampleBelt.{belt as belt_network};
+ghost use Rattle.transition_table.specs.SampleEcho.{echo as echo_network};
+ghost use Rattle.transition_table.specs.SampleLamp.{lamp as lamp_network};
+ghost use Rattle.net_rules.specs.Given.{mix_network};
 ghost use Rattle.net_rules.specs.Unique.{OneNetwork};
 ghost use Rattle.net_rules.specs.Sentence.{SentencesHaveValues};
 

@@ -1,4 +1,4 @@
-use Rattle.std.proofs.Common.{◌≡◌, ◌≢◌, ◌<◌, ◌≤◌, ◌&&◌, ◌==◌, ℕ, List, length, take, drop, slice_get, slice_index, Some}
+use Rattle.std.proofs.Common.{◌≡◌, ℕ, List, length, slice_get, Some}
 use Rattle.transition_table.specs.declared.row.Row.{Row}
 use Rattle.determinism.specs.Common.{AreMasks}
 use Rattle.determinism.proofs.masks.table_of.Given as goal

@@ -1,6 +1,13 @@
-use Rattle.std.proofs.Common.{rules}
 use Rattle.transition_table.specs.SampleClash.{clash as the_network}
+use Rattle.sample_networks.proofs.Pushed.{one_made, three_made}
 use Rattle.sample_networks.proofs.clash.network.Goals as goal
 
 pub returns : goal.returns
-returns c = c.laws_of_data.ensures.same_network _ the_network (record { name = search rules; domains = search rules; events = search rules; machines = search rules })
+returns c =
+    c.laws_of_data.ensures.same_network _ the_network
+    (record {
+      name = c.of_token.ensures;
+      domains = c.new.ensures;
+      events = three_made _ _ _ _ _ _ _ _ _ _ c.new-events.ensures c.in_ok-push.ensures.ok c.in_ok-push-2.ensures.ok c.in_ok-push-3.ensures.ok c.in_ok-pure_event.ensures c.in_ok-pure_event-2.ensures c.in_ok-pure_event-3.ensures;
+      machines = one_made _ _ _ _ c.new-machines.ensures c.in_ok-push-4.ensures.ok c.in_ok-clash_machine.ensures;
+    })

@@ -1,0 +1,8 @@
+-- What was found and what is left give what the whole gives.
+use Rattle.std.proofs.Common.{◌≡◌, take, drop}
+use Rattle.net_names.specs.Places.{sooner, least}
+use Rattle.net_names.specs.Numbers.{repeated, no_name, is_name_of}
+use Rattle.net_judge.proofs.words.repeats_few.Given as goal
+
+abbrev pub invariant-loop-place : goal.invariant-loop-place
+invariant-loop-place l = sooner l.found (least (repeated (is_name_of (take l.place l.words)) (drop l.place l.words))) ≡ sooner l.fn.found (least (repeated no_name l.fn.words))

@@ -19,7 +19,8 @@ use Rattle.journals.specs.declared.entry.TraceItem.{TraceItem}
 use Rattle.journals.specs.Journals.{FitsNetwork, inputs_of, states_of, snap, place, state, is_party, is_event_code, emissions, delivered}
 use Rattle.net_core.specs.Landed.{landed}
 use Rattle.journals.specs.Cursors.{next_place, cursors_after}
-use Rattle.journals.specs.Legality.{Legal}
+use Rattle.journals.specs.Legality.{Legal, MayFollow}
+use Rattle.net_core.specs.Tables.{AreBefore, AreTables}
 use Rattle.journals.specs.Moved.{machine_of, moments_of}
 use Rattle.journals.specs.Schedules.{is_way, left_by, firing_deliveries, owed_by_machines, deliveries_of, receivers_of, machine_deliveries, unmade, keep_unless, same_way}
 use Rattle.journals.specs.Laws.{MovesOwed}
@@ -120,3 +121,25 @@ table_item {X} f n items m x are below at = sym (get_or_from_slice_get items m x
 -- what an answer says of an equivalence
 pub not_following : {b : Bool} {P : Type 0} → (b ≡ true) ↔ P → b ≡ false → ¬ P
 not_following h e p = both_ways _ e (h.1 p)
+
+-- the tables after the deliveries that the entry gives are added
+pub before_entry : (net : Network) (trace : List TraceItem) (journal : List Entry) (entry : Entry)
+    (readers : List ℕ) (moments : List Snapshot) (woken : ℕ) (cursors : List ℕ) (old new : List Owed)
+    → MayFollow net trace journal entry
+    → AreTables net trace journal readers moments woken cursors old
+    → new ≡ old ++ firing_deliveries net entry
+    → AreBefore net trace journal entry readers moments woken cursors new
+before_entry net trace journal entry readers moments woken cursors old new follows tables is = record {
+  follows = follows;
+  tables = record {
+    fits = tables.fits;
+    legal = tables.legal;
+    readers_are = tables.readers_are;
+    moments_are = tables.moments_are;
+    woken_are = tables.woken_are;
+    no_others = tables.no_others;
+    cursors_are = tables.cursors_are;
+    owed_are = refl;
+  };
+  owed_are = is ∙ ap (λ (l : List Owed). l ++ firing_deliveries net entry) tables.owed_are;
+}

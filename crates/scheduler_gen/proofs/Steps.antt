@@ -21,20 +21,6 @@ use Rattle.net_core.specs.Moments.{Moment}
 use Rattle.journals.specs.Schedules.{pick, IsPicked, Follows, IsSchedule}
 use Rattle.scheduler_gen.specs.Runs.{IsNext, GoesOn, Ends}
 
--- one more of the first entries
-pub prefix_more : (journal : List Entry) (i : ℕ) (entry : Entry) → i < length journal → slice_get journal i ≡ Some entry → take (i + 1) journal ≡ take i journal ++ entry ∷ []
-prefix_more journal i entry below at =
-    let item = get_or_from_slice_get journal i entry entry at in
-    let more = take_more journal i entry below in
-    rw item at more
-
--- an entry of a legal journal may follow those before it
-pub prefix_step : PrefixesAreLegal → GoesOnBySteps → (net : Network) (trace : List TraceItem) (journal : List Entry) (i : ℕ) (entry : Entry) → Legal net trace journal → i < length journal → slice_get journal i ≡ Some entry → Legal net trace (take i journal) × FitsNetwork net entry × MayFollow net trace (take i journal) entry
-prefix_step prefixes steps net trace journal i entry legal below at =
-    let whole : journal ≡ take (i + 1) journal ++ drop (i + 1) journal = sym (take-append-drop (i + 1) journal) in
-    let prefix = prefixes net trace (take (i + 1) journal) (drop (i + 1) journal) (subst (Legal net trace) whole legal) in
-    (steps net trace (take i journal) entry).0 (subst (Legal net trace) (prefix_more journal i entry below at) prefix)
-
 -- nothing is added yet
 pub goes_nowhere : FollowsAtEnd → (old : Moment) → GoesOn old old 0
 goes_nowhere at_end old = record {

@@ -39,19 +39,6 @@ fn take(config: &mut Config<'_>, entry: &Entry) -> Result<(), NoMemory>
     }
 }
 
-// Takes a legal journal from its first entry on.
-fn take_all(config: &mut Config<'_>, journal: &Journal) -> Result<(), NoMemory>
-    requires start { config.old.journal ≡ [] }
-    requires legal { Legal config.old.net config.old.trace journal.now }
-    ensures ok { OnOk result (config.new ≡ record config.old { journal = journal.now }) }
-{
-    laws();
-    for i in 0..journal.len() {
-        take(config, journal.get(i))?;
-    }
-    Ok(())
-}
-
 // Takes what is picked.
 fn take_picked(config: &mut Config<'_>, entry: &Entry) -> Result<(), NoMemory>
     requires { IsPicked config.old.net config.old.journal (picked config.old.net config.old.trace config.old.journal) entry.now }
@@ -168,9 +155,9 @@ pub fn complete<R: Reactor>(
     ensures complete { IfOk result (λ f. IsTrue f.complete ↔ Complete (R.meaning r.now) trace.now f.journal) }
     ensures schedule { from ≡ [] → IfOk result (λ f. IsSchedule (R.meaning r.now) trace.now limit f.journal) }
 {
-    let mut config = Config::start(alloc, r.network(), trace)?;
-    take_all(&mut config, &from)?;
-    run(alloc, plan, r, &mut config, limit - from.len())?;
+    let rest = limit - from.len();
+    let mut config = Config::resume(alloc, r.network(), trace, from)?;
+    run(alloc, plan, r, &mut config, rest)?;
     let complete = config.is_complete();
     Ok(Finished {
         journal: config.into_journal(),

@@ -1,5 +1,5 @@
 // Small runs against journals written by hand.
-ghost use Rattle.std.specs.Prelude.{◌≡◌, IfOk, IsTrue};
+ghost use Rattle.std.specs.Prelude.{◌≡◌, ◌≤◌, IfOk, IsTrue};
 ghost use Rattle.std.specs.List.{list_all};
 ghost use Rattle.transition_table.specs.declared.decl.Party.TheVariants.{Env};
 ghost use Rattle.journals.specs.declared.entry.Entry.TheVariants.{Dep};
@@ -100,6 +100,20 @@ fn run(
     Ok(Some(text_of(alloc, &done)?))
 }
 
+// The run up to so many entries, carried on.
+fn carried_on(alloc: Global, net: &Network, plan: &Plan, count: u64) -> Result<Bytes, NoMemory>
+    requires one { IsTrue (list_all has_one_row net.now.machines) }
+    requires plan { IsPlanOf net.now plan.now }
+    requires item { IsTrue (is_trace_item net.now (Event 0 1)) }
+    requires few { count ≤ 60000 }
+{
+    let trace = list(alloc, &[TraceItem::Event { event: 0, code: 1 }])?;
+    let r = reactor(net);
+    let first = complete(alloc, plan, &r, &trace, Journal::new(alloc), count)?;
+    let done = complete(alloc, plan, &r, &trace, first.journal, 60_000)?;
+    text_of(alloc, &done)
+}
+
 #[test]
 fn goes_on_by_picks(rt: HostRuntime) -> Result<(), Fail> {
     let net = two(rt.alloc(), 2, 1)?;
@@ -124,6 +138,20 @@ fn goes_on_by_picks(rt: HostRuntime) -> Result<(), Fail> {
             Some(text) => assert_eq!(rt; text.as_slice(), want),
             None => return Err(Fail::new("the journal is longer than the limit")),
         }
+    }
+    Ok(())
+}
+
+#[test]
+fn goes_on_from_a_beginning(rt: HostRuntime) -> Result<(), Fail> {
+    let net = two(rt.alloc(), 2, 1)?;
+    let plan = plan(rt.alloc(), &net)?;
+    let want = b"dep 0\ndep 1\nfire 1\nfire 0\ncomplete";
+    for count in 0..5 {
+        assert_eq!(rt;
+            carried_on(rt.alloc(), &net, &plan, count)?.as_slice(),
+            want.as_slice()
+        );
     }
     Ok(())
 }

@@ -1,10 +1,11 @@
 // Deliveries of machines that are owed, in order.
 ghost use Rattle.std.specs.Prelude.{◌≡◌, ◌<◌, ◌≤◌, ◌+◌, ◌*◌, ℕ, [], ◌∷◌, ◌++◌, length, find, IfOk, OnOk, OnErr};
+ghost use Rattle.std.specs.Vec.{vec_len, vec_capacity};
 ghost use Rattle.polis_base.specs.Lists.{head_of};
 ghost use Rattle.transition_table.specs.declared.decl.Party.TheVariants.{Machine as Sender};
 ghost use Rattle.journals.specs.Journals.{FitsNetwork};
 ghost use Rattle.journals.specs.Schedules.{is_way, without_first, firing_deliveries};
-ghost use Rattle.net_core.specs.Emissions.{nth};
+ghost use Rattle.net_core.specs.Emissions.{no_place, nth};
 ghost use Rattle.net_core.specs.Readers.{AreReaders};
 
 use crate::config::bits::{lowest, without};
@@ -62,6 +63,20 @@ fn first_left(records: &[Emission], start: usize) -> usize
         }
     }
     records.len()
+}
+
+// Makes room for so many records more. Their places are numbers of 32 bits.
+fn make_room(records: &mut Vec<Emission>, count: usize) -> Result<(), NoMemory>
+    requires { length records.old.items ≤ no_place }
+    ensures items { records.new.items ≡ records.old.items }
+    ensures few { OnOk result (length records.old.items + count ≤ no_place) }
+    ensures room { OnOk result (vec_len records.new + count ≤ vec_capacity records.new) }
+{
+    if NO_PLACE as usize - records.len() < count {
+        return Err(NoMemory);
+    }
+    records.reserve(count)?;
+    Ok(())
 }
 
 impl Owings {
@@ -158,12 +173,7 @@ impl Owings {
         } = entry
         {
             if outcome.fires {
-                let count = outcome.outs.len() as usize;
-                // Places are numbers of 32 bits.
-                if NO_PLACE as usize - self.records.len() < count {
-                    return Err(NoMemory);
-                }
-                self.records.reserve(count)?;
+                make_room(&mut self.records, outcome.outs.len() as usize)?;
                 journal.push(copy)?;
                 emit_all(
                     &mut self.records,
@@ -177,5 +187,37 @@ impl Owings {
             }
         }
         journal.push(copy)
+    }
+
+    // Puts the deliveries that an entry gives at the end.
+    pub(crate) fn add(
+        &mut self,
+        net: &Network,
+        readers: &[u64],
+        entry: &Entry,
+    ) -> Result<(), NoMemory>
+        requires fits { FitsNetwork net.now entry.now }
+        requires readers { AreReaders net.now readers.now }
+        ensures owed { OnOk result (self.new ≡ self.old ++ firing_deliveries net.now entry.now) }
+    {
+        if let Entry::Rea {
+            machine,
+            outcome,
+            ..
+        } = entry
+        {
+            if outcome.fires {
+                make_room(&mut self.records, outcome.outs.len() as usize)?;
+                emit_all(
+                    &mut self.records,
+                    &mut self.last,
+                    net,
+                    readers,
+                    *machine,
+                    &outcome.outs,
+                );
+            }
+        }
+        Ok(())
     }
 }

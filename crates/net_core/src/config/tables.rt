@@ -1,10 +1,11 @@
 // What is kept beside a journal, so that no call looks back through it.
-ghost use Rattle.std.specs.Prelude.{◌≡◌, ◌<◌, [], ◌∷◌, ◌++◌, length, slice_index, slice_set, IfOk, OnOk, OnErr};
+ghost use Rattle.std.specs.Prelude.{List, ◌≡◌, ◌<◌, [], ◌∷◌, ◌++◌, length, slice_index, slice_set, IfOk, OnOk, OnErr};
 ghost use Rattle.journals.specs.Journals.{FitsNetwork, IsTrace};
-ghost use Rattle.journals.specs.Legality.{MayFollow};
+ghost use Rattle.journals.specs.declared.entry.Entry.{Entry};
+ghost use Rattle.journals.specs.Legality.{Legal, MayFollow};
 ghost use Rattle.journals.specs.Cursors.{cursors_after, next_place};
 ghost use Rattle.net_core.specs.Landed.{landed};
-ghost use Rattle.net_core.specs.Tables.{AreTables};
+ghost use Rattle.net_core.specs.Tables.{AreBefore, AreTables};
 
 use crate::config::bits::mark;
 use crate::config::cursors::{first_cursors, next_read};
@@ -86,9 +87,30 @@ impl Tables {
         ensures same_journal { OnErr result (journal.new ≡ journal.old) }
         ensures same { OnErr result (self.new ≡ self.old) }
     {
+        self.owed.write(net, &self.readers, entry, journal)?;
+        self.pass(net, trace, entry);
+        Ok(())
+    }
+
+    // Takes an entry that a journal has after those that are taken.
+    fn take_next(&mut self, net: &Network, trace: &Trace, entry: &Entry) -> Result<(), NoMemory>
+        requires fits { FitsNetwork net.now entry.now }
+        requires current { (journal : List Entry) × MayFollow net.now trace.now journal entry.now × AreTables net.now trace.now journal self.old.readers.items self.old.moments.items self.old.woken self.old.cursors self.old.owed }
+        ensures { (journal : List Entry) → MayFollow net.now trace.now journal entry.now → AreTables net.now trace.now journal self.old.readers.items self.old.moments.items self.old.woken self.old.cursors self.old.owed → OnOk result (AreTables net.now trace.now (journal ++ entry.now ∷ []) self.new.readers.items self.new.moments.items self.new.woken self.new.cursors self.new.owed) }
+    {
+        self.owed.add(net, &self.readers, entry)?;
+        self.pass(net, trace, entry);
+        Ok(())
+    }
+
+    // Moves all tables on, after the deliveries that an entry gives are added.
+    fn pass(&mut self, net: &Network, trace: &Trace, entry: &Entry)
+        requires fits { FitsNetwork net.now entry.now }
+        requires current { (journal : List Entry) × AreBefore net.now trace.now journal entry.now self.old.readers.items self.old.moments.items self.old.woken self.old.cursors self.old.owed }
+        ensures { (journal : List Entry) → AreBefore net.now trace.now journal entry.now self.old.readers.items self.old.moments.items self.old.woken self.old.cursors self.old.owed → AreTables net.now trace.now (journal ++ entry.now ∷ []) self.new.readers.items self.new.moments.items self.new.woken self.new.cursors self.new.owed }
+    {
         laws();
         moving_laws();
-        self.owed.write(net, &self.readers, entry, journal)?;
         let m = entry.machine();
         move_on(
             net.machines.get(m as u64),
@@ -97,6 +119,24 @@ impl Tables {
         );
         self.woken = mark(self.woken, m, entry.is_delivery());
         land(net, trace, entry, &mut self.cursors, &mut self.owed);
-        Ok(())
     }
+}
+
+// The tables of a legal journal.
+pub(crate) fn tables_of(
+    alloc: Global,
+    net: &Network,
+    trace: &Trace,
+    journal: &Journal,
+) -> Result<Tables, NoMemory>
+    requires trace { IsTrace net.now trace.now }
+    requires legal { Legal net.now trace.now journal.now }
+    ensures { IfOk result (λ t. AreTables net.now trace.now journal.now t.readers.items t.moments.items t.woken t.cursors t.owed) }
+{
+    laws();
+    let mut tables = first_tables(alloc, net, trace)?;
+    for i in 0..journal.len() {
+        tables.take_next(net, trace, journal.get(i))?;
+    }
+    Ok(tables)
 }

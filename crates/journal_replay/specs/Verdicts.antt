@@ -1,0 +1,48 @@
+-- How far a journal is legal.
+use Rattle.std.specs.Prelude.{◌≡◌, ◌↔◌, ℕ, ◌+◌, ◌<◌, ◌≤◌, List, length, take, IsTrue}
+use Rattle.transition_table.specs.declared.network.Network.{Network}
+use Rattle.journals.specs.declared.entry.Entry.{Entry}
+use Rattle.journals.specs.declared.entry.TraceItem.{TraceItem}
+use Rattle.journals.specs.Legality.{Legal, Complete}
+use Rattle.journals.specs.Stamps.{Rising}
+use Rattle.journal_replay.specs.declared.judge.Verdict.{Verdict}
+use Rattle.journal_replay.specs.declared.judge.Verdict.TheVariants.{Legal as IsLegal, Illegal}
+
+-- the journal is legal, and complete or not; or k is the least place up to which it isn't legal
+abbrev pub IsVerdict : Network → List TraceItem → List Entry → Verdict → Type 0
+IsVerdict net trace journal (IsLegal complete) =
+    Legal net trace journal × (IsTrue complete ↔ Complete net trace journal)
+IsVerdict net trace journal (Illegal k) =
+    (k < length journal)
+    × Legal net trace (take k journal)
+    × (¬ Legal net trace (take (k + 1) journal))
+
+-- the journal is legal and its stamps rise
+abbrev pub IsLegalAndRises : Network → List TraceItem → List Entry → List ℕ → Type 0
+IsLegalAndRises net trace journal stamps = Legal net trace journal × Rising net journal stamps
+
+-- the same of a journal with its stamps
+abbrev pub IsStampedVerdict : Network → List TraceItem → List Entry → List ℕ → Verdict → Type 0
+IsStampedVerdict net trace journal stamps (IsLegal complete) =
+    IsLegalAndRises net trace journal stamps × (IsTrue complete ↔ Complete net trace journal)
+IsStampedVerdict net trace journal stamps (Illegal k) =
+    (k < length journal)
+    × IsLegalAndRises net trace (take k journal) (take k stamps)
+    × (¬ IsLegalAndRises net trace (take (k + 1) journal) (take (k + 1) stamps))
+
+-- so many of the first entries are legal, and no more of them are
+pub record IsLegalUpTo (net : Network) (trace : List TraceItem) (journal : List Entry)
+    (k : ℕ) : Type 0 where
+  pub within : k ≤ length journal
+  pub legal : Legal net trace (take k journal)
+  pub longest : k < length journal → ¬ Legal net trace (take (k + 1) journal)
+
+-- the longest legal prefix of at most so many entries
+pub record IsAdopted (net : Network) (trace : List TraceItem) (journal : List Entry) (limit : ℕ)
+    (adopted : List Entry) : Type 0 where
+  pub prefix : adopted ≡ take (length adopted) journal
+  pub legal : Legal net trace adopted
+  pub within : length adopted ≤ limit
+  pub longest :
+      (k : ℕ) → k ≤ limit → Legal net trace (take k journal)
+      → length (take k journal) ≤ length adopted

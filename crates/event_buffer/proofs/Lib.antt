@@ -1,0 +1,10 @@
+pub mod Listing
+pub mod Logging
+pub mod Firing
+pub mod Tabling
+pub mod Freezing
+pub mod Landing
+pub mod Settling
+pub mod Writing
+pub mod Feeding
+pub mod Stepping

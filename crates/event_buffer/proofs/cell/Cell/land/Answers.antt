@@ -1,0 +1,67 @@
+use Rattle.std.proofs.Common.{◌+◌, ◌++◌, ◌∷◌, [], Option, sym, ap, subst, refl, ◌∙◌, arith}
+use Rattle.journals.specs.Alone.{LegalAlone}
+use Rattle.journals.specs.Logs.{stamped}
+use Rattle.worker_core.specs.Cores.{delivering}
+use Rattle.event_buffer.specs.declared.pending.Pending.{Pending}
+use Rattle.event_buffer.specs.Arrivals.{owed_of}
+use Rattle.event_buffer.specs.Cells.{filled}
+use Rattle.event_buffer.proofs.Landing.{may_land_in, landed_frozen, landed_thawed, landed_view, landed_firing}
+use Rattle.event_buffer.proofs.cell.Cell.land.Goals as goal
+
+pub catch_up-requires-clause-legal : goal.catch_up-requires-clause-legal
+catch_up-requires-clause-legal c =
+    let i = c.self.inside in
+    let a = c.args.a.now in
+    let latest = c.latest-latest.result in
+    let old = filled i.net.now i.machine i.pending i.log in
+    let x = stamped (latest + 1) (delivering (owed_of a)) in
+    let next =
+    may_land_in i.net.now i.machine i.busy i.pending i.log a latest c.args.self.now c.self.view_is
+    c.requires.arrival c.requires.receiver c.latest-latest.ensures.is (omega arith) in
+    let legal =
+    (c.laws.ensures.alone_steps i.net.now i.machine old x).1 (c.self.invariant.legal, next) in
+    subst (LegalAlone i.net.now i.machine)
+    (ap (λ (o : Option Pending). filled i.net.now i.machine o i.log ++ x ∷ []) c.in-None.is
+    ∙ sym c.in-Ok.ensures.ok) legal
+
+pub invariant_of-self-in-None : goal.invariant_of-self-in-None
+invariant_of-self-in-None c =
+    let i = c.self.inside in
+    let a = c.args.a.now in
+    let latest = c.latest-latest.result in
+    let next =
+    may_land_in i.net.now i.machine i.busy i.pending i.log a latest c.args.self.now c.self.view_is
+    c.requires.arrival c.requires.receiver c.latest-latest.ensures.is (omega arith) in
+    landed_thawed i.net.now i.machine i.moment c.catch_up.new.moment i.woken i.time i.pending i.log
+    c.push.new.self (stamped (latest + 1) (delivering (owed_of a))) c.laws.ensures.alone_steps
+    c.moving_laws.ensures.moves_waking c.self.invariant next refl c.in-Ok.ensures.ok c.in-None.is
+    c.catch_up.ensures
+
+pub invariant_of-self-in-Some : goal.invariant_of-self-in-Some
+invariant_of-self-in-Some c =
+    let i = c.self.inside in
+    let a = c.args.a.now in
+    let latest = c.latest-latest.result in
+    let next =
+    may_land_in i.net.now i.machine i.busy i.pending i.log a latest c.args.self.now c.self.view_is
+    c.requires.arrival c.requires.receiver c.latest-latest.ensures.is (omega arith) in
+    landed_frozen i.net.now i.machine i.moment i.woken i.time i.pending i.log c.push.new.self
+    (stamped (latest + 1) (delivering (owed_of a))) c.in-Some.field-0 c.laws.ensures.alone_steps
+    c.moving_laws.ensures.moves_waking c.self.invariant next refl c.in-Ok.ensures.ok c.in-Some.is
+
+pub returns-in-Some-clause-lands : goal.returns-in-Some-clause-lands
+returns-in-Some-clause-lands c =
+    let i = c.self.inside in
+    landed_view i.net.now i.machine i.moment i.woken i.time i.busy i.pending i.log c.push.new.self
+    c.args.a.now c.latest-latest.result c.args.self.now c.self.invariant c.self.view_is
+    c.latest-latest.ensures.is c.in-Ok.ensures.ok
+
+pub returns-in-Some-clause-firing : goal.returns-in-Some-clause-firing
+returns-in-Some-clause-firing c =
+    let i = c.self.inside in
+    let view =
+    landed_view i.net.now i.machine i.moment i.woken i.time i.busy i.pending i.log c.push.new.self
+    c.args.a.now c.latest-latest.result c.args.self.now c.self.invariant c.self.view_is
+    c.latest-latest.ensures.is c.in-Ok.ensures.ok in
+    landed_firing i.net.now i.machine i.busy i.pending c.push.new.self c.args.a.now
+    c.args.self.now view

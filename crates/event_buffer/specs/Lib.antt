@@ -1,0 +1,5 @@
+pub mod Arrivals
+pub mod Cells
+pub mod Feeds
+pub mod Reacting
+pub mod Steps

@@ -1,0 +1,402 @@
+// The cell of one machine, one reaction of which may wait for its outcome.
+ghost use Rattle.std.specs.Prelude.{◌≡◌, ◌<◌, ◌≤◌, ◌+◌, ◌↔◌, [], length, map, take, Err, Some, None, IfOk, IfSome, OnOk, OnErr, IsTrue, false, max, is_some};
+ghost use Rattle.transition_table.specs.Transitions.{AreDeterministic, OfMachine, IsSnapshot, HasWidths, Transition};
+ghost use Rattle.journals.specs.Alone.{LegalAlone};
+ghost use Rattle.journals.specs.Journals.{snap};
+ghost use Rattle.journals.specs.Logs.{clock, entries, max_stamp};
+ghost use Rattle.journals.specs.Reactions.{outcome_in};
+ghost use Rattle.journals.specs.Schedules.{firing_deliveries};
+ghost use Rattle.event_buffer.specs.Arrivals.{is_arrival, are_arrivals, arrivals_in, arrival_of};
+ghost use Rattle.event_buffer.specs.declared.look.CellError.TheVariants.{ClockFull};
+
+use crate::arrival::Arrival;
+use crate::frozen::Frozen;
+use crate::gate::Gate;
+use crate::look::{CellError, Look};
+use crate::outgoing::Outgoing;
+use crate::pending::Pending;
+use crate::room::{make_room, write_firing};
+use journals::{
+    Entry, Log, MAX_STAMP, Stamped, first_moment, laws, move_on, moving_laws, sending_laws,
+};
+use polis_base::{Duplicate, List, NoMemory};
+use std::alloc::Global;
+use std::marker::Model;
+use transition_table::{Network, Outcome, Reactor, Snapshot};
+
+/// The cell of one machine of a network. In the log that contracts see, a frozen reaction has the
+/// outcome of the machine's transition, which is written when it is settled.
+#[derive(Drop)]
+pub struct Cell<'a> {
+    alloc: Global,
+    net: &'a Network,
+    machine: u32,
+    moment: Snapshot,
+    woken: bool,
+    busy: bool,
+    time: u64,
+    pending: Option<Pending>,
+    log: Log,
+}
+
+impl<'a> Model for Cell<'a> {
+    ghost use Rattle.event_buffer.specs.Cells.{CellState, IsCell, shown};
+
+    ghost Value = { CellState };
+
+    ghost view = { λ c. shown c.net.now c.machine c.busy c.pending c.log };
+
+    ghost invariant = { λ c. IsCell c.net.now c.machine c.moment c.woken c.time c.pending c.log };
+}
+
+// The later of two stamps.
+fn later(a: u64, b: u64) -> u64
+    ensures { result ≡ max a b }
+{
+    if a < b { b } else { a }
+}
+
+// Moves a snapshot on over the entries from a place on.
+fn catch_up(net: &Network, m: u32, log: &Log, from: u64, moment: &mut Snapshot)
+    requires exists { m < length net.now.machines }
+    requires legal { LegalAlone net.now m log.now }
+    requires from { from ≤ length log.now }
+    requires moment { moment.old ≡ snap net.now (entries (take from log.now)) m }
+    ensures { moment.new ≡ snap net.now (entries log.now) m }
+{
+    moving_laws();
+    let machine = net.machines.get(m as u64);
+    for k in from..log.len() {
+        move_on(machine, &log.get(k).entry, moment);
+    }
+}
+
+// What a freezing keeps, what stands in the log until the reaction is settled, and what is run.
+fn prepare<'a>(
+    alloc: Global,
+    net: &'a Network,
+    m: u32,
+    stamp: u64,
+    place: u64,
+    moment: &Snapshot,
+) -> Result<(Pending, Entry, Frozen<'a>), NoMemory>
+    requires exists { m < length net.now.machines }
+    requires stamp { stamp ≤ max_stamp }
+    requires snapshot { OfMachine net.now m (λ machine. IsSnapshot machine moment.now) }
+    ensures pending { IfOk result (λ t. (t.0.place ≡ place)
+        × (t.0.stamp ≡ stamp)
+        × (t.0.snapshot ≡ moment.now)
+        × OfMachine net.now m (λ machine. HasWidths machine t.0.outcome)) }
+    ensures frozen { IfOk result (λ t. (t.2.net ≡ net.now)
+        × (t.2.machine ≡ m)
+        × (t.2.stamp ≡ stamp)
+        × (t.2.snapshot ≡ moment.now)) }
+{
+    let pending = Pending {
+        place,
+        stamp,
+        snapshot: moment.copy()?,
+        outcome: net.blank(alloc, m)?,
+    };
+    let entry = Entry::Rea {
+        machine: m,
+        snapshot: moment.copy()?,
+        outcome: net.blank(alloc, m)?,
+    };
+    let frozen = Frozen {
+        net,
+        machine: m,
+        stamp,
+        snapshot: moment.copy()?,
+        outcome: net.blank(alloc, m)?,
+        room: make_room(alloc, net, m)?,
+    };
+    Ok((pending, entry, frozen))
+}
+
+impl<'a> Cell<'a> {
+    ghost use Rattle.worker_core.specs.Cores.{landing};
+    ghost use Rattle.event_buffer.specs.Arrivals.{owed_of};
+    ghost use Rattle.event_buffer.specs.Cells.{look, freezing, taking, last_reaction, firing_stamp};
+    ghost use Rattle.event_buffer.specs.Reacting.{reaction_of};
+    ghost use Rattle.event_buffer.specs.declared.look.Look.{Look};
+
+    /// The cell of a machine to which nothing was delivered.
+    pub fn new(alloc: Global, net: &'a Network, machine: u32) -> Result<Cell<'a>, NoMemory>
+        requires machine { machine < length net.now.machines }
+        requires deterministic { AreDeterministic net.now }
+        ensures { IfOk result (λ c. c ≡ record {
+          net = net.now;
+          machine = machine;
+          log = [];
+          busy = false;
+          frozen = None;
+        }) }
+    {
+        moving_laws();
+        let moment = first_moment(alloc, net.machines.get(machine as u64))?;
+        Ok(Cell {
+            alloc,
+            net,
+            machine,
+            moment,
+            woken: false,
+            busy: false,
+            time: 0,
+            pending: None,
+            log: List::new(alloc),
+        })
+    }
+
+    /// How it looks. It takes no memory.
+    pub fn look(&self) -> Look
+        ensures look { result ≡ look self.now }
+        ensures legal { LegalAlone self.now.net self.now.machine self.now.log }
+    {
+        match &self.pending {
+            Some(_) => Look::Busy,
+            None => {
+                if self.busy {
+                    Look::Busy
+                } else if self.woken {
+                    Look::Ready
+                } else {
+                    Look::Quiet
+                }
+            }
+        }
+    }
+
+    // The later of its clock and a stamp.
+    fn latest(&self, stamp: u64) -> u64
+        requires { stamp ≤ max_stamp }
+        ensures is { result ≡ max (clock self.now.log) stamp }
+        ensures small { result ≤ max_stamp }
+    {
+        later(self.time, stamp)
+    }
+
+    /// Whether it is frozen and this is its frozen reaction, the last one of its log. It takes no
+    /// memory.
+    pub fn settles(&self, f: &Frozen<'_>) -> bool
+        ensures settles { IsTrue result
+            ↔ ((self.now.frozen ≡ Some (f.now.stamp, f.now.snapshot))
+            × (f.now.machine ≡ self.now.machine)) }
+        ensures last { IsTrue (is_some self.now.frozen)
+            → self.now.frozen ≡ last_reaction self.now.log }
+    {
+        match &self.pending {
+            None => false,
+            Some(p) => {
+                self.machine == f.machine
+                    && p.stamp == f.stamp
+                    && p.snapshot.codes.as_slice() == f.snapshot.codes.as_slice()
+            }
+        }
+    }
+
+    /// Appends its reaction to this moment, whose outcome `settle` writes. All memory is taken
+    /// first, then the gate's `hold` is called once, and only then anything changes.
+    pub fn freeze<G: Gate>(&mut self, g: &G) -> Result<Frozen<'a>, CellError>
+        requires { look self.old ≡ Look.Ready }
+        ensures reacts { OnOk result (self.new ≡ freezing self.old) }
+        ensures frozen { IfOk result (λ f. (f.net ≡ self.old.net)
+            × (f.machine ≡ self.old.machine)
+            × (self.new.frozen ≡ Some (f.stamp, f.snapshot))) }
+        ensures full { (result ≡ Err ClockFull) ↔ (clock self.old.log ≡ max_stamp) }
+        ensures same { OnErr result (self.new ≡ self.old) }
+    {
+        laws();
+        moving_laws();
+        if self.latest(0) >= MAX_STAMP {
+            return Err(CellError::ClockFull);
+        }
+        let stamp = self.time + 1;
+        match prepare(
+            self.alloc,
+            self.net,
+            self.machine,
+            stamp,
+            self.log.len(),
+            &self.moment,
+        ) {
+            Err(NoMemory) => Err(CellError::NoMemory),
+            Ok((pending, entry, frozen)) => match self.log.push(Stamped { stamp, entry }) {
+                Err(NoMemory) => {
+                    frozen.abandon();
+                    Err(CellError::NoMemory)
+                }
+                Ok(()) => {
+                    g.hold(self.machine);
+                    self.pending = Some(pending);
+                    self.woken = false;
+                    self.time = stamp;
+                    Ok(frozen)
+                }
+            },
+        }
+    }
+
+    // Writes the outcome of the pending reaction. The log that contracts see stays.
+    fn thaw(&mut self, machine: u32, stamp: u64, snapshot: Snapshot, outcome: Outcome)
+        requires frozen { self.old.frozen ≡ Some (stamp, snapshot) }
+        requires machine { machine ≡ self.old.machine }
+        requires snapshot { OfMachine self.old.net machine
+            (λ machine. IsSnapshot machine snapshot) }
+        requires ran { OfMachine self.old.net machine
+            (λ machine. Transition machine snapshot outcome) }
+        ensures thawed { self.new ≡ record self.old { frozen = None } }
+        ensures firing { IsTrue outcome.fires
+            → firing_stamp self.old.machine self.old.log ≡ stamp }
+        ensures decided { outcome ≡ outcome_in self.old.net machine snapshot }
+    {
+        transition_table::laws();
+        laws();
+        let entry = Entry::Rea {
+            machine,
+            snapshot,
+            outcome,
+        };
+        match self.pending.take() {
+            None => {}
+            Some(p) => {
+                self.log.set(p.place, Stamped { stamp, entry });
+                catch_up(self.net, self.machine, &self.log, p.place, &mut self.moment);
+            }
+        }
+    }
+
+    /// Writes the outcome of its frozen reaction, and hands on the deliveries that it gives. The
+    /// log that contracts see stays. It takes no memory.
+    pub fn settle(&mut self, f: Frozen<'_>) -> Option<Outgoing>
+        requires frozen { self.old.frozen ≡ Some (f.stamp, f.snapshot) }
+        requires machine { f.machine ≡ self.old.machine }
+        requires network { f.net ≡ self.old.net }
+        requires ran { OfMachine f.net f.machine
+            (λ machine. Transition machine f.snapshot f.outcome) }
+        ensures settled { self.new
+            ≡ record self.old { frozen = None; busy = is_some result } }
+        ensures given { arrivals_in result ≡ map (arrival_of f.entry.stamp)
+            (firing_deliveries f.entry.net (reaction_of f.entry)) }
+        ensures decided { f.entry.outcome
+            ≡ outcome_in f.entry.net f.entry.machine f.entry.snapshot }
+        ensures own { IfSome result (λ out. (out.machine ≡ f.entry.machine)
+            × (out.stamp ≡ f.entry.stamp)
+            × (0 < length out.arrivals)
+            × (firing_stamp self.old.machine self.old.log ≡ f.entry.stamp)) }
+        ensures arrivals { IsTrue (are_arrivals f.entry.net (arrivals_in result)) }
+    {
+        transition_table::laws();
+        sending_laws();
+        let Frozen {
+            net,
+            machine,
+            stamp,
+            snapshot,
+            outcome,
+            mut room,
+        } = f;
+        let count = write_firing(net, machine, stamp, &outcome, &mut room);
+        self.thaw(machine, stamp, snapshot, outcome);
+        if count == 0 {
+            self.busy = false;
+            return None;
+        }
+        self.busy = true;
+        Some(Outgoing::new(machine, stamp, room, count))
+    }
+
+    /// Lands a delivery, and answers the stamp of its entry. While a reaction is frozen the
+    /// delivery is kept beside the machine's places until the reaction is settled.
+    pub fn land(&mut self, a: &Arrival) -> Result<u64, CellError>
+        requires receiver { a.now.to ≡ self.old.machine }
+        requires arrival { IsTrue (is_arrival self.old.net a.now) }
+        ensures lands { OnOk result (self.new ≡ taking self.old a.now) }
+        ensures stamp { IfOk result (λ stamp. stamp
+            ≡ (landing self.old.log a.now.stamp (owed_of a.now)).stamp) }
+        ensures firing { firing_stamp self.new.machine self.new.log
+            ≡ firing_stamp self.old.machine self.old.log }
+        ensures full { (result ≡ Err ClockFull)
+            ↔ (max (clock self.old.log) a.now.stamp ≡ max_stamp) }
+        ensures same { OnErr result (self.new ≡ self.old) }
+    {
+        laws();
+        moving_laws();
+        let latest = self.latest(a.stamp);
+        if latest >= MAX_STAMP {
+            return Err(CellError::ClockFull);
+        }
+        let stamp = latest + 1;
+        let entry = Entry::Dep {
+            from: a.from,
+            to: a.to,
+            event: a.event,
+            code: a.code,
+        };
+        let before = self.log.len();
+        match self.log.push(Stamped { stamp, entry }) {
+            Err(NoMemory) => return Err(CellError::NoMemory),
+            Ok(()) => {}
+        }
+        self.woken = true;
+        self.time = stamp;
+        match &self.pending {
+            None => catch_up(self.net, self.machine, &self.log, before, &mut self.moment),
+            Some(_) => {}
+        }
+        Ok(stamp)
+    }
+
+    /// Ends its last firing, once all deliveries of it have landed. It takes no memory.
+    pub fn free(&mut self, out: Outgoing)
+        requires busy { IsTrue self.old.busy }
+        requires thawed { self.old.frozen ≡ None }
+        requires landed { out.arrivals ≡ [] }
+        requires own { (out.machine ≡ self.old.machine)
+            × (out.stamp ≡ firing_stamp self.old.machine self.old.log) }
+        ensures { self.new ≡ record self.old { busy = false } }
+    {
+        out.abandon();
+        self.busy = false;
+    }
+
+    /// Gives the log up. The reactor writes the outcome of a frozen reaction. It takes no memory.
+    pub fn into_log<R: Reactor>(self, r: &R) -> Log
+        requires { R.meaning r.now ≡ self.net }
+        ensures log { result ≡ self.entry.log }
+        ensures legal { LegalAlone self.entry.net self.entry.machine result }
+    {
+        transition_table::laws();
+        laws();
+        let Cell {
+            alloc: _,
+            net: _,
+            machine,
+            moment: _,
+            woken: _,
+            busy: _,
+            time: _,
+            pending,
+            mut log,
+        } = self;
+        match pending {
+            None => log,
+            Some(p) => {
+                let Pending {
+                    place,
+                    stamp,
+                    snapshot,
+                    mut outcome,
+                } = p;
+                r.react(machine, &snapshot, &mut outcome);
+                let entry = Entry::Rea {
+                    machine,
+                    snapshot,
+                    outcome,
+                };
+                log.set(place, Stamped { stamp, entry });
+                log
+            }
+        }
+    }
+}

@@ -1,0 +1,5 @@
+mod Belows
+mod Levels
+mod Moving
+mod Ranging
+mod Settling

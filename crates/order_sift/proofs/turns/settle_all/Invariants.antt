@@ -1,0 +1,11 @@
+use Rattle.order_sift.specs.Turns.{IsCounted, StaysOrFalls}
+use Rattle.order_sift.proofs.turns.settle_all.Given as goal
+
+abbrev pub invariant-loop : goal.invariant-loop
+invariant-loop l = record {
+  counted : IsCounted l.sifting.machine.now l.at.order l.at.count;
+  falls : StaysOrFalls l.sifting.machine.now l.fn.at.order l.at.order l.fn.at.count l.at.count;
+}
+
+abbrev pub decreases-loop : goal.decreases-loop
+decreases-loop l = l.at.count

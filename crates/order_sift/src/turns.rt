@@ -1,0 +1,209 @@
+// Sifting.
+ghost use Rattle.std.specs.Prelude.{◌≡◌, ◌+◌, ◌-◌, ◌<◌, ◌≤◌, ℕ, length, slice_index, IfOk};
+ghost use Rattle.domains.specs.Orders.{place};
+ghost use Rattle.domains.specs.Tables.{product};
+ghost use Rattle.transition_table.specs.Orders.{Allowed, sizes_of};
+ghost use Rattle.transition_table.specs.Transitions.{IsDeterministic};
+ghost use Rattle.char_function.specs.Supported.{AreSupports};
+ghost use Rattle.char_function.specs.Sizes.{Size};
+ghost use Rattle.order_sift.specs.Moves.{moved};
+ghost use Rattle.order_sift.specs.Sifting.{IsLeast, IsSifted};
+ghost use Rattle.order_sift.specs.Turns.{AreAllowedPlaces, IsCounted, IsSettled, StaysOrFalls};
+
+use crate::places::{PlaceRange, allowed_places};
+use char_function::{Supports, characteristic, first_order, supports};
+use decision_diagram::Order;
+use polis_base::{List, NoMemory, Places};
+use std::alloc::Global;
+use transition_table::Machine;
+
+// The most snapshots that a machine may have for its order to be sifted.
+const SIFTED_SNAPSHOTS: u64 = 1024;
+
+/// An order of a machine's variables and results.
+#[derive(Drop)]
+pub struct Sifted {
+    pub order: Order,
+    /// The size under the first order.
+    pub first_count: u64,
+    /// The size under this order.
+    pub count: u64,
+}
+
+// An order and its size.
+#[derive(Drop)]
+struct Counted {
+    order: Order,
+    count: u64,
+}
+
+// What stays while a machine's order is sifted.
+#[derive(Clone, Copy)]
+struct Sifting<'a> {
+    alloc: Global,
+    machine: &'a Machine,
+    supports: &'a Supports,
+}
+
+// The size under an order, by the diagram over it.
+fn size_of(alloc: Global, m: &Machine, order: &Order) -> Result<u64, NoMemory>
+    requires sure { IsDeterministic m.now }
+    requires order { length order.now ≡ length (sizes_of m.now) }
+    ensures { IfOk result (λ count. count ≡ Size m.now order.now) }
+{
+    let root = characteristic(alloc, m, order)?;
+    root.store.count(root.node)
+}
+
+// The order in which the item at place i stands at place j.
+fn moved(alloc: Global, order: &Order, i: u64, j: u64) -> Result<Order, NoMemory>
+    requires i { i < length order.now }
+    requires j { j < length order.now }
+    ensures { IfOk result (λ other. other ≡ moved order.now i j) }
+{
+    let mut list = Vec::new(alloc);
+    for k in 0..order.len() {
+        list.push(*order.get(k))?;
+    }
+    let item = list.remove(i as usize);
+    list.insert(j as usize, item)?;
+    match Order::new(alloc, &list)? {
+        Some(other) => Ok(other),
+        None => unreachable!(),
+    }
+}
+
+// The size with the item at place i at each of these places.
+fn sizes_at(sifting: &Sifting, order: &Order, i: u64, range: PlaceRange) -> Result<Places, NoMemory>
+    requires sure { IsDeterministic sifting.now.machine.now }
+    requires allowed { Allowed sifting.now.machine.now order.now }
+    requires i { i < length order.now }
+    requires first { range.first ≤ range.last }
+    requires last { range.last < length order.now }
+    requires places { AreAllowedPlaces sifting.now.machine.now order.now i range.first range.last }
+    ensures long { IfOk result (λ sizes. length sizes + range.first ≡ range.last + 1) }
+    ensures each { IfOk result (λ sizes. (k : ℕ) → k < length sizes → slice_index sizes k ≡ Size sifting.now.machine.now (moved order.now i (range.first + k))) }
+{
+    let mut sizes = List::new(sifting.alloc);
+    for j in range.first..range.last + 1 {
+        let other = moved(sifting.alloc, order, i, j)?;
+        sizes.push(size_of(sifting.alloc, sifting.machine, &other)?)?;
+    }
+    Ok(sizes)
+}
+
+// The first place of a least number.
+fn place_of_least(numbers: &[u64]) -> usize
+    requires { 0 < length numbers.now }
+    ensures within { result < length numbers.now }
+    ensures least { (k : ℕ) → k < length numbers.now → slice_index numbers.now result ≤ slice_index numbers.now k }
+    ensures first { (k : ℕ) → k < result → slice_index numbers.now result < slice_index numbers.now k }
+{
+    let mut best = 0;
+    for (k, number) in numbers.iter().enumerate() {
+        if *number < numbers[best] {
+            best = k;
+        }
+    }
+    best
+}
+
+// Moves an item to the first allowed place of the least size, if that is smaller.
+fn settle(sifting: &Sifting, item: u32, at: &mut Counted) -> Result<(), NoMemory>
+    requires sure { IsDeterministic sifting.now.machine.now }
+    requires supports { AreSupports sifting.now.machine.now sifting.now.supports.now }
+    requires counted { IsCounted sifting.now.machine.now at.old.order at.old.count }
+    requires item { item < length at.old.order }
+    ensures counted { IfOk result (λ done. IsCounted sifting.now.machine.now at.new.order at.new.count) }
+    ensures falls { IfOk result (λ done. StaysOrFalls sifting.now.machine.now at.old.order at.new.order at.old.count at.new.count) }
+    ensures settled { IfOk result (λ done. at.new.count ≡ at.old.count → IsSettled sifting.now.machine.now at.new.order item) }
+{
+    domains::laws_of_orders();
+    let i = at.order.place_of(item);
+    let range = allowed_places(sifting.machine, sifting.supports, &at.order, item);
+    let sizes = sizes_at(sifting, &at.order, i, range)?;
+    let best = place_of_least(sizes.as_slice());
+    let count = *sizes.get(best as u64);
+    if count >= at.count {
+        return Ok(());
+    }
+    at.order = moved(sifting.alloc, &at.order, i, range.first + best as u64)?;
+    at.count = count;
+    Ok(())
+}
+
+// Each item in turn moves to its best place.
+fn turn(sifting: &Sifting, at: &mut Counted) -> Result<(), NoMemory>
+    requires sure { IsDeterministic sifting.now.machine.now }
+    requires supports { AreSupports sifting.now.machine.now sifting.now.supports.now }
+    requires counted { IsCounted sifting.now.machine.now at.old.order at.old.count }
+    ensures counted { IfOk result (λ done. IsCounted sifting.now.machine.now at.new.order at.new.count) }
+    ensures falls { IfOk result (λ done. StaysOrFalls sifting.now.machine.now at.old.order at.new.order at.old.count at.new.count) }
+    ensures least { IfOk result (λ done. at.new.count ≡ at.old.count → IsLeast sifting.now.machine.now at.new.order) }
+{
+    domains::laws_of_orders();
+    let items = sifting.machine.var_count() + sifting.machine.result_count();
+    for item in 0..items {
+        settle(sifting, item, at)?;
+    }
+    Ok(())
+}
+
+// Takes turns until nothing falls.
+fn settle_all(sifting: &Sifting, at: &mut Counted) -> Result<(), NoMemory>
+    requires sure { IsDeterministic sifting.now.machine.now }
+    requires supports { AreSupports sifting.now.machine.now sifting.now.supports.now }
+    requires counted { IsCounted sifting.now.machine.now at.old.order at.old.count }
+    ensures counted { IfOk result (λ done. IsCounted sifting.now.machine.now at.new.order at.new.count) }
+    ensures falls { IfOk result (λ done. StaysOrFalls sifting.now.machine.now at.old.order at.new.order at.old.count at.new.count) }
+    ensures least { IfOk result (λ done. IsLeast sifting.now.machine.now at.new.order) }
+{
+    loop {
+        let before = at.count;
+        turn(sifting, at)?;
+        if at.count == before {
+            return Ok(());
+        }
+    }
+}
+
+// How many snapshots a machine has.
+fn snapshot_count(m: &Machine) -> u64
+    ensures { result ≡ product m.now.vars }
+{
+    let vars = m.var_count();
+    let mut count = 1;
+    for v in 0..vars {
+        count *= u64::from(*m.vars.get(u64::from(v)));
+    }
+    count
+}
+
+/// An order for a machine. Item by item, each variable and result moves to the first of the allowed places with the least
+/// size, if that is smaller, until in a turn of all items none has moved. The order of a machine of more than 1,024
+/// snapshots is the first order.
+pub fn sift(alloc: Global, m: &Machine) -> Result<Sifted, NoMemory>
+    requires { IsDeterministic m.now }
+    ensures { IfOk result (λ sifted. IsSifted m.now sifted.order sifted.first_count sifted.count) }
+{
+    let supports = supports(alloc, m)?;
+    let order = first_order(alloc, m, &supports)?;
+    let first = size_of(alloc, m, &order)?;
+    let mut at = Counted {
+        order,
+        count: first,
+    };
+    if snapshot_count(m) <= SIFTED_SNAPSHOTS {
+        let sifting = Sifting {
+            alloc,
+            machine: m,
+            supports: &supports,
+        };
+        settle_all(&sifting, &mut at)?;
+    }
+    Ok(Sifted {
+        order: at.order,
+        first_count: first,
+        count: at.count,
+    })
+}

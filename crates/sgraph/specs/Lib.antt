@@ -1,0 +1,10 @@
+pub mod Building
+pub mod Built
+pub mod Facts
+pub mod Graphs
+pub mod Laws
+pub mod Marks
+pub mod SampleGraphs
+pub mod Trails
+pub mod Walks
+pub mod Worked

@@ -1,0 +1,181 @@
+// The graph of a diagram.
+ghost use Rattle.std.specs.Prelude.{◌≡◌, ◌+◌, ◌<◌, ◌≤◌, ℕ, List, true, ◌∷◌, map, length, replicate, slice_index, IfOk, IsTrue};
+ghost use Rattle.domains.specs.Tables.{fits};
+ghost use Rattle.transition_table.specs.NetworkFacts.{has};
+ghost use Rattle.transition_table.specs.Transitions.{Transition, IsDeterministic, reading};
+ghost use Rattle.decision_diagram.specs.Diagrams.{IsNode, Means, inner_at, shape_of};
+ghost use Rattle.decision_diagram.specs.declared.node.Shape.TheVariants.{Inner};
+ghost use Rattle.sgraph.specs.declared.vertex.Vertex.TheVariants.{Begin};
+ghost use Rattle.transition_table.specs.Computed.{char};
+ghost use Rattle.transition_table.specs.Orders.{sizes_of, Allowed};
+ghost use Rattle.sgraph.specs.Graphs.{Eval, Ordered, Once, Reduced, Numbered};
+ghost use Rattle.sgraph.specs.Building.{number_in, vertex_in, graph_of};
+ghost use Rattle.sgraph.specs.Marks.{turned};
+ghost use Rattle.sgraph.specs.Walks.{FitsMachine};
+
+use crate::graph::{Graph, VertexList};
+use crate::law::laws;
+use crate::leaving::{Nodes, all_left, first_code, next_list};
+use crate::vertex::Vertex;
+use decision_diagram::{NodeId, Order, Root, Shape, Store};
+use polis_base::{NoMemory, Places};
+use std::alloc::Global;
+use transition_table::Machine;
+
+// The number of each node's vertex.
+fn numbers_of(alloc: Global, count: u64, left: &Nodes) -> Result<Places, NoMemory>
+    requires { (i : ℕ) → i < length left.now → slice_index left.now i < count }
+    ensures long { IfOk result (λ numbers. length numbers ≡ count) }
+    ensures each { IfOk result (λ numbers. (k : ℕ) → has (turned left.now) k ≡ true → slice_index numbers k ≡ number_in (turned left.now) k) }
+{
+    let mut numbers = Places::filled(alloc, count, 0)?;
+    let len = left.len();
+    for i in 0..len {
+        numbers.set(left.get(i).number(), len - i);
+    }
+    Ok(numbers)
+}
+
+// The numbers of the vertices of nodes.
+fn kid_numbers(alloc: Global, kids: &Nodes, numbers: &Places) -> Result<Places, NoMemory>
+    requires { (j : ℕ) → j < length kids.now → slice_index kids.now j < length numbers.now }
+    ensures { IfOk result (λ list. list ≡ map (slice_index numbers.now) kids.now) }
+{
+    let mut list = Places::new(alloc);
+    for j in 0..kids.len() {
+        let number = *numbers.get(kids.get(j).number());
+        list.push(number)?;
+    }
+    Ok(list)
+}
+
+// The test of a variable's node.
+fn test_vertex(
+    alloc: Global,
+    m: &Machine,
+    store: &Store,
+    k: NodeId,
+    var: u32,
+    numbers: &Places,
+) -> Result<Vertex, NoMemory>
+    requires node { IsNode store.now k }
+    requires shape { shape_of store.now k ≡ Inner var }
+    requires var { var < length m.now.vars }
+    requires sizes { store.now.sizes ≡ sizes_of m.now }
+    requires numbers { length numbers.now ≡ length store.now.nodes + 2 }
+    ensures { IfOk result (λ v. v ≡ vertex_in (length m.now.vars) (slice_index numbers.now) (inner_at store.now.nodes k)) }
+{
+    store.same_value_same_node();
+    let kids = next_list(alloc, m, store, k)?;
+    let kids = kid_numbers(alloc, &kids, numbers)?;
+    Ok(Vertex::Test { var, kids })
+}
+
+// The assignment of a result's node.
+fn assign_vertex(m: &Machine, store: &Store, k: NodeId, var: u32, numbers: &Places) -> Vertex
+    requires node { IsNode store.now k }
+    requires shape { shape_of store.now k ≡ Inner var }
+    requires var { length m.now.vars ≤ var }
+    requires sizes { store.now.sizes ≡ sizes_of m.now }
+    requires numbers { length numbers.now ≡ length store.now.nodes + 2 }
+    ensures { result ≡ vertex_in (length m.now.vars) (slice_index numbers.now) (inner_at store.now.nodes k) }
+{
+    let code = first_code(m, store, k, var);
+    let next = *numbers.get(store.child(k, code).number());
+    let y = (u64::from(var) - m.vars.len()) as u32;
+    Vertex::Assign {
+        result: y,
+        code,
+        next,
+    }
+}
+
+// The vertex of a node.
+fn vertex(
+    alloc: Global,
+    m: &Machine,
+    store: &Store,
+    k: NodeId,
+    numbers: &Places,
+) -> Result<Vertex, NoMemory>
+    requires node { IsNode store.now k }
+    requires sizes { store.now.sizes ≡ sizes_of m.now }
+    requires numbers { length numbers.now ≡ length store.now.nodes + 2 }
+    ensures { IfOk result (λ v. v ≡ vertex_in (length m.now.vars) (slice_index numbers.now) (inner_at store.now.nodes k)) }
+{
+    match store.shape(k) {
+        Shape::Inner { var } => {
+            if u64::from(var) < m.vars.len() {
+                test_vertex(alloc, m, store, k, var, numbers)
+            } else {
+                Ok(assign_vertex(m, store, k, var, numbers))
+            }
+        }
+        Shape::False => Ok(Vertex::End),
+        Shape::True => Ok(Vertex::End),
+    }
+}
+
+// The begin, and the vertices of the nodes that were left, the last one first.
+fn vertices_of(
+    alloc: Global,
+    m: &Machine,
+    store: &Store,
+    left: &Nodes,
+    numbers: &Places,
+) -> Result<VertexList, NoMemory>
+    requires nodes { (i : ℕ) → i < length left.now → slice_index left.now i < length store.now.nodes + 2 }
+    requires sizes { store.now.sizes ≡ sizes_of m.now }
+    requires numbers { length numbers.now ≡ length store.now.nodes + 2 }
+    ensures { IfOk result (λ vertices. vertices ≡ Begin 1 ∷ map (λ k. vertex_in (length m.now.vars) (slice_index numbers.now) (inner_at store.now.nodes k)) (turned left.now)) }
+{
+    let mut vertices = VertexList::new(alloc);
+    vertices.push(Vertex::Begin { next: 1 })?;
+    for i in (0..left.len()).rev() {
+        let v = vertex(alloc, m, store, *left.get(i), numbers)?;
+        vertices.push(v)?;
+    }
+    Ok(vertices)
+}
+
+// The vertices of the graph.
+fn graph_vertices(
+    alloc: Global,
+    m: &Machine,
+    store: &Store,
+    root: NodeId,
+) -> Result<VertexList, NoMemory>
+    requires node { IsNode store.now root }
+    requires sizes { store.now.sizes ≡ sizes_of m.now }
+    ensures { IfOk result (λ vertices. vertices ≡ graph_of m.now store.now root) }
+{
+    store.same_value_same_node();
+    let left = all_left(alloc, m, store, root)?;
+    let numbers = numbers_of(alloc, store.node_count(), &left)?;
+    let vertices = vertices_of(alloc, m, store, &left, &numbers)?;
+    Ok(vertices)
+}
+
+/// The graph of a machine's diagram under an order in which each result stands after its support: a
+/// test for each node of a variable, an assignment for each node of a result, the end for the node
+/// that is true.
+pub fn build(alloc: Global, m: &Machine, root: &Root, order: &Order) -> Result<Graph, NoMemory>
+    requires sure { IsDeterministic m.now }
+    requires sizes { root.now.store.sizes ≡ sizes_of m.now }
+    requires order { root.now.store.order ≡ order.now }
+    requires allowed { Allowed m.now order.now }
+    requires means { Means root.now.store root.now.node (char m.now) }
+    ensures graph { IfOk result (λ g. g ≡ graph_of m.now root.now.store root.now.node) }
+    ensures fits { IfOk result (λ g. FitsMachine m.now g) }
+    ensures evaluates { IfOk result (λ g. (s : List ℕ) → IsTrue (fits m.now.vars s) → Transition m.now (reading s) (Eval m.now g s)) }
+    ensures ordered { IfOk result (λ g. Ordered (length m.now.vars) order.now g) }
+    ensures once { IfOk result (λ g. Once g) }
+    ensures reduced { IfOk result (λ g. Reduced g) }
+    ensures numbered { IfOk result (λ g. Numbered g) }
+{
+    laws();
+    let _ = order;
+    root.store.same_value_same_node();
+    let vertices = graph_vertices(alloc, m, &root.store, root.node)?;
+    Ok(Graph::of(vertices))
+}

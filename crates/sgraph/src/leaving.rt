@@ -1,0 +1,155 @@
+// The walk through a diagram that leaves each node once.
+ghost use Rattle.std.specs.Prelude.{◌≡◌, ◌+◌, ◌<◌, ◌≢◌, ℕ, suc, false, [], ◌∷◌, length, slice_index, replicate, IfOk, OnOk};
+ghost use Rattle.decision_diagram.specs.Diagrams.{IsNode, shape_of, kids_of};
+ghost use Rattle.decision_diagram.specs.declared.node.Shape.TheVariants.{Inner};
+ghost use Rattle.transition_table.specs.Orders.{sizes_of};
+ghost use Rattle.sgraph.specs.Graphs.{left_after};
+ghost use Rattle.sgraph.specs.Building.{code_there, next_nodes};
+ghost use Rattle.sgraph.specs.Marks.{turned, Marks};
+
+use decision_diagram::{NodeId, Shape, Store};
+use polis_base::{List, NoMemory};
+use std::alloc::Global;
+use transition_table::Machine;
+
+// Nodes in order.
+pub(crate) type Nodes = List<NodeId>;
+
+// How many codes a variable or result has.
+fn item_size(m: &Machine, item: u32) -> u8
+    requires { item < length (sizes_of m.now) }
+    ensures { result ≡ slice_index (sizes_of m.now) item }
+{
+    let k = u64::from(item);
+    let vars = m.vars.len();
+    if k < vars {
+        return *m.vars.get(k);
+    }
+    *m.results.get(k - vars)
+}
+
+// The first code whose child isn't the node that is false.
+pub(crate) fn first_code(m: &Machine, store: &Store, k: NodeId, var: u32) -> u8
+    requires node { IsNode store.now k }
+    requires shape { shape_of store.now k ≡ Inner var }
+    requires sizes { store.now.sizes ≡ sizes_of m.now }
+    ensures code { result ≡ code_there (kids_of store.now k) }
+    ensures low { result < length (kids_of store.now k) }
+{
+    store.same_value_same_node();
+    let _ = store.shape(k);
+    for code in 0..item_size(m, var) {
+        if store.child(k, code).number() != 0 {
+            return code;
+        }
+    }
+    0
+}
+
+// All children of a node.
+fn all_kids(
+    alloc: Global,
+    m: &Machine,
+    store: &Store,
+    k: NodeId,
+    var: u32,
+) -> Result<Nodes, NoMemory>
+    requires node { IsNode store.now k }
+    requires shape { shape_of store.now k ≡ Inner var }
+    requires sizes { store.now.sizes ≡ sizes_of m.now }
+    ensures { IfOk result (λ kids. kids ≡ kids_of store.now k) }
+{
+    let _ = store.shape(k);
+    let mut kids = Nodes::new(alloc);
+    for code in 0..item_size(m, var) {
+        kids.push(store.child(k, code))?;
+    }
+    Ok(kids)
+}
+
+// The one child of a result's node that isn't the node that is false.
+fn one_kid(
+    alloc: Global,
+    m: &Machine,
+    store: &Store,
+    k: NodeId,
+    var: u32,
+) -> Result<Nodes, NoMemory>
+    requires node { IsNode store.now k }
+    requires shape { shape_of store.now k ≡ Inner var }
+    requires sizes { store.now.sizes ≡ sizes_of m.now }
+    ensures { IfOk result (λ kids. kids ≡ slice_index (kids_of store.now k) (code_there (kids_of store.now k)) ∷ []) }
+{
+    let mut kids = Nodes::new(alloc);
+    kids.push(store.child(k, first_code(m, store, k, var)))?;
+    Ok(kids)
+}
+
+// The nodes that follow on a node.
+pub(crate) fn next_list(
+    alloc: Global,
+    m: &Machine,
+    store: &Store,
+    k: NodeId,
+) -> Result<Nodes, NoMemory>
+    requires node { IsNode store.now k }
+    requires sizes { store.now.sizes ≡ sizes_of m.now }
+    ensures { IfOk result (λ kids. kids ≡ next_nodes store.now (length m.now.vars) k) }
+{
+    match store.shape(k) {
+        Shape::Inner { var } => {
+            if u64::from(var) < m.vars.len() {
+                all_kids(alloc, m, store, k, var)
+            } else {
+                one_kid(alloc, m, store, k, var)
+            }
+        }
+        Shape::False => Ok(Nodes::new(alloc)),
+        Shape::True => Ok(Nodes::new(alloc)),
+    }
+}
+
+// Leaves a node, after those that follow on it.
+pub(crate) fn leave(
+    alloc: Global,
+    m: &Machine,
+    store: &Store,
+    k: NodeId,
+    marks: &mut List<bool>,
+    left: &mut Nodes,
+) -> Result<(), NoMemory>
+    requires node { IsNode store.now k }
+    requires sizes { store.now.sizes ≡ sizes_of m.now }
+    requires marks { Marks store.now marks.old left.old }
+    ensures left { OnOk result (turned left.new ≡ left_after (suc k) (next_nodes store.now (length m.now.vars)) (turned left.old) k) }
+    ensures marks { OnOk result (Marks store.now marks.new left.new) }
+{
+    store.same_value_same_node();
+    if *marks.get(k.number()) {
+        return Ok(());
+    }
+    let kids = next_list(alloc, m, store, k)?;
+    for j in 0..kids.len() {
+        leave(alloc, m, store, *kids.get(j), marks, left)?;
+    }
+    marks.set(k.number(), true);
+    left.push(k)?;
+    Ok(())
+}
+
+// The nodes that a walk from the root leaves, in order.
+pub(crate) fn all_left(
+    alloc: Global,
+    m: &Machine,
+    store: &Store,
+    root: NodeId,
+) -> Result<Nodes, NoMemory>
+    requires node { IsNode store.now root }
+    requires sizes { store.now.sizes ≡ sizes_of m.now }
+    ensures { IfOk result (λ left. turned left ≡ left_after (suc root) (next_nodes store.now (length m.now.vars)) [] root) }
+{
+    let mut marks = List::filled(alloc, store.node_count(), false)?;
+    let mut left = Nodes::new(alloc);
+    leave(alloc, m, store, root, &mut marks, &mut left)?;
+    Ok(left)
+}

@@ -1,0 +1,20 @@
+// Graphs that decide and assign: a machine's reaction as a walk from one vertex to the next.
+#![tactic(auto)]
+
+mod building;
+mod evaluating;
+mod graph;
+mod law;
+mod leaving;
+mod vertex;
+mod worked;
+
+pub use building::build;
+pub use evaluating::evaluate;
+pub use graph::{Graph, VertexList};
+pub use law::laws;
+pub use vertex::Vertex;
+pub use worked::worked_graphs;
+
+#[cfg(test)]
+mod tests;

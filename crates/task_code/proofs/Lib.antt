@@ -1,0 +1,9 @@
+mod Walking
+mod Laying
+mod Lowering
+mod Placing
+mod Mirrored
+mod Reading
+mod Labelling
+mod Printing
+mod Lamps

@@ -1,0 +1,6 @@
+pub mod Codes
+pub mod Listings
+pub mod Facts
+pub mod Labels
+pub mod SampleCodes
+pub mod Worked

@@ -1,0 +1,16 @@
+// Code of a machine's reaction: how it is kept, how a graph is laid out, and its listing.
+#![tactic(auto)]
+
+mod code;
+mod instr;
+mod layout;
+mod listing;
+#[cfg(test)]
+mod tests;
+mod worked;
+
+pub use code::{Code, CodeList};
+pub use instr::{Instr, InstrList};
+pub use layout::lower;
+pub use listing::push_listing;
+pub use worked::worked_codes;

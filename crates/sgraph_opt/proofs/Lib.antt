@@ -1,0 +1,16 @@
+mod Again
+mod Alike
+mod Arranging
+mod Departing
+mod Departures
+mod Dropped
+mod Joined
+mod Kept
+mod Keys
+mod Lifting
+mod Lookups
+mod Members
+mod Reducing
+mod Rising
+mod Standing
+mod Walking

@@ -1,0 +1,65 @@
+-- What is to stand for a vertex where equal vertices are joined, by an index of the later vertices
+-- that stand for themselves.
+use Rattle.std.specs.Prelude.{◌≡◌, ◌⊎◌, ℕ, ◌<◌, ◌≤◌, Bool, true, false, List, map, length, slice_get, slice_index, Some, IsTrue}
+use Rattle.std.specs.BTreeMap.{BTreeMap}
+use Rattle.std.specs.declared.vec.Vec.{Vec}
+use Rattle.std.specs.declared.alloc.Global.{Global}
+use Rattle.sgraph.specs.declared.vertex.Vertex.{Vertex}
+use Rattle.sgraph.specs.declared.vertex.Vertex.TheVariants.{Begin, Test, Assign, End}
+use Rattle.sgraph.specs.Graphs.{key_of, varies}
+use Rattle.sgraph_opt.specs.Found.{found, Same, Entered}
+use Rattle.sgraph_opt.specs.Representatives.{renamed, Standing}
+
+-- r is chosen for vertex k
+abbrev pub Chosen : (ℕ → ℕ) → ℕ → ℕ → BTreeMap (Vec ℕ Global) ℕ → BTreeMap (Vec ℕ Global) ℕ → Vertex → Type 0
+Chosen to k r old new (Begin next) = (r ≡ k) × Same old new
+Chosen to k r old new (Test var kids) =
+    (((i : ℕ) → i < length kids → to (slice_index kids i) ≡ r) × Same old new)
+    ⊎ (IsTrue (varies (Test var (map to kids))) × Entered old new (key_of (Test var (map to kids))) k r)
+Chosen to k r old new (Assign result code next) = Entered old new (key_of (Assign result code (to next))) k r
+Chosen to k r old new End = (r ≡ k) × Same old new
+
+-- a test or an assignment
+abbrev pub is_inner : Vertex → Bool
+is_inner (Begin next) = false
+is_inner (Test var kids) = true
+is_inner (Assign result code next) = true
+is_inner End = false
+
+-- vertex r, from number i on, stands for itself and has the key
+pub record Has (g : List Vertex) (to : ℕ → ℕ) (i r : ℕ) (key : List ℕ) : Type 0 where
+  pub vertex : Vertex
+  pub from : i ≤ r
+  pub is : slice_get g r ≡ Some vertex
+  pub own : to r ≡ r
+  pub inner : IsTrue (is_inner vertex)
+  pub same : key ≡ key_of (renamed to vertex)
+
+-- Each vertex from number i on has one that may stand for it, tests that stand for themselves vary,
+-- and the index has exactly the tests and assignments that stand for themselves.
+pub record Sharing (g : List Vertex) (reps : List ℕ) (index : BTreeMap (Vec ℕ Global) ℕ) (i : ℕ) : Type 0 where
+  pub stands : Standing g reps i
+  pub vary :
+      (k : ℕ) (v : Vertex)
+      → i ≤ k
+      → slice_get g k ≡ Some v
+      → slice_index reps k ≡ k
+      → IsTrue (varies (renamed (slice_index reps) v))
+  pub met : (key : List ℕ) (r : ℕ) → found index key ≡ Some r → Has g (slice_index reps) i r key
+  pub all : (key : List ℕ) (r : ℕ) → Has g (slice_index reps) i r key → found index key ≡ Some r
+
+-- no two vertices that stand for themselves are equal, and their tests vary
+pub record Shared (g : List Vertex) (reps : List ℕ) : Type 0 where
+  pub vary :
+      (k : ℕ) (v : Vertex)
+      → slice_get g k ≡ Some v
+      → slice_index reps k ≡ k
+      → IsTrue (varies (renamed (slice_index reps) v))
+  pub apart :
+      (a b : ℕ) (v w : Vertex)
+      → slice_get g a ≡ Some v
+      → slice_get g b ≡ Some w
+      → slice_index reps a ≡ a
+      → slice_index reps b ≡ b
+      → renamed (slice_index reps) v ≡ renamed (slice_index reps) w
+      → a ≡ b

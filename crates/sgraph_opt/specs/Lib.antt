@@ -1,0 +1,8 @@
+pub mod Choices
+pub mod Found
+pub mod Marks
+pub mod Renumbering
+pub mod Representatives
+pub mod SampleGraphs
+pub mod Shrinking
+pub mod Smaller

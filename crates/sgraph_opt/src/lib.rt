@@ -1,0 +1,16 @@
+// Smaller graphs that give the same: assignments that change nothing left out, equal vertices
+// joined.
+#![tactic(auto)]
+
+mod dropping;
+mod index;
+mod numbering;
+mod optimising;
+mod sharing;
+
+pub use dropping::drop_defaults;
+pub use optimising::optimise;
+pub use sharing::share;
+
+#[cfg(test)]
+mod tests;

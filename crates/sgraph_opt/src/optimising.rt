@@ -1,0 +1,24 @@
+// Graphs made as small as they get here.
+ghost use Rattle.std.specs.Prelude.{IfOk};
+ghost use Rattle.sgraph.specs.Graphs.{Numbered, Reduced};
+ghost use Rattle.sgraph_opt.specs.Smaller.{Keeps, NoDefaults};
+
+use crate::dropping::drop_defaults;
+use crate::sharing::share;
+use polis_base::NoMemory;
+use sgraph::Graph;
+use std::alloc::Global;
+
+/// The graph without its assignments of the code 0, and then with equal vertices as one. An
+/// assignment that is left out can make the children of a test one, and a test that is left out can
+/// make vertices before it equal.
+pub fn optimise(alloc: Global, g: &Graph) -> Result<Graph, NoMemory>
+    requires { Numbered g.now }
+    ensures keeps { IfOk result (λ h. Keeps g.now h) }
+    ensures reduced { IfOk result (λ h. Reduced h) }
+    ensures defaults { IfOk result (λ h. NoDefaults h) }
+{
+    let smaller = drop_defaults(alloc, g)?;
+    let h = share(alloc, &smaller)?;
+    Ok(h)
+}

@@ -1,0 +1,125 @@
+// Equal vertices are joined, and tests are left out whose children are one.
+ghost use Rattle.std.specs.Prelude.{◌≡◌, ◌<◌, ℕ, ◌∷◌, [], map, length, slice_get, slice_index, Some, IfOk, IfSome, IfNone, IsTrue};
+ghost use Rattle.sgraph.specs.declared.vertex.Vertex.{Vertex};
+ghost use Rattle.sgraph.specs.declared.vertex.Vertex.TheVariants.{Test, Assign};
+ghost use Rattle.sgraph.specs.Graphs.{key_of, varies, Numbered, Reduced};
+ghost use Rattle.sgraph_opt.specs.Choices.{Chosen, Shared};
+ghost use Rattle.sgraph_opt.specs.Representatives.{Standing};
+ghost use Rattle.sgraph_opt.specs.Smaller.{Keeps, NoDefaults};
+
+use crate::index::{Index, known_or_new};
+use crate::numbering::renumbered;
+use polis_base::{NoMemory, Places};
+use sgraph::{Graph, Vertex};
+use std::alloc::Global;
+use std::collections::BTreeMap;
+
+// What stands for all of some vertices, where it is one.
+fn one_kid(kids: &Places, reps: &Places) -> Option<u64>
+    requires some { 0 < length kids.now }
+    requires kids { (i : ℕ) → i < length kids.now → slice_index kids.now i < length reps.now }
+    ensures one { IfSome result (λ r. (i : ℕ) → i < length kids.now → slice_index reps.now (slice_index kids.now i) ≡ r) }
+    ensures none { IfNone result ((var : ℕ) → IsTrue (varies (Test var (map (slice_index reps.now) kids.now)))) }
+{
+    let first = *reps.get(*kids.get(0));
+    for i in 0..kids.len() {
+        let rep = *reps.get(*kids.get(i));
+        if rep != first {
+            return None;
+        }
+    }
+    Some(first)
+}
+
+// A test with what stands for its children, as a key.
+fn test_key(alloc: Global, var: u32, kids: &Places, reps: &Places) -> Result<Vec<u64>, NoMemory>
+    requires { (i : ℕ) → i < length kids.now → slice_index kids.now i < length reps.now }
+    ensures { IfOk result (λ key. key.items ≡ key_of (Test var (map (slice_index reps.now) kids.now))) }
+{
+    let mut key = Vec::new(alloc);
+    key.push(1)?;
+    key.push(u64::from(var))?;
+    for i in 0..kids.len() {
+        let number = *reps.get(*kids.get(i));
+        key.push(number)?;
+    }
+    Ok(key)
+}
+
+// An assignment with what stands for its child, as a key.
+fn assign_key(alloc: Global, y: u32, code: u8, next: u64) -> Result<Vec<u64>, NoMemory>
+    ensures { IfOk result (λ key. key.items ≡ key_of (Assign y code next)) }
+{
+    let mut key = Vec::new(alloc);
+    key.push(2)?;
+    key.push(u64::from(y))?;
+    key.push(u64::from(code))?;
+    key.push(next)?;
+    Ok(key)
+}
+
+// What stands for a vertex, where the later ones have what stands for them: what stands for all its
+// children, a later vertex that is equal with what stands for the children, or itself.
+fn shared(
+    alloc: Global,
+    g: &Graph,
+    k: u64,
+    reps: &Places,
+    index: &mut Index,
+) -> Result<u64, NoMemory>
+    requires long { length reps.now ≡ length g.now }
+    requires k { k < length g.now }
+    ensures { IfOk result (λ r. (v : Vertex) → slice_get g.now k ≡ Some v → Chosen (slice_index reps.now) k r index.old index.new v) }
+{
+    let _ = g.len();
+    let v = g.get(k);
+    match v {
+        Vertex::Begin { .. } => Ok(k),
+        Vertex::Test { var, kids } => {
+            if let Some(r) = one_kid(kids, reps) {
+                return Ok(r);
+            }
+            let key = test_key(alloc, *var, kids, reps)?;
+            let r = known_or_new(index, key, k)?;
+            Ok(r)
+        }
+        Vertex::Assign {
+            result: y,
+            code,
+            next,
+        } => {
+            let next = *reps.get(*next);
+            let key = assign_key(alloc, *y, *code, next)?;
+            let r = known_or_new(index, key, k)?;
+            Ok(r)
+        }
+        Vertex::End => Ok(k),
+    }
+}
+
+// What stands for each vertex.
+fn all_shared(alloc: Global, g: &Graph) -> Result<Places, NoMemory>
+    ensures stands { IfOk result (λ reps. Standing g.now reps 0) }
+    ensures shared { IfOk result (λ reps. Shared g.now reps) }
+{
+    let mut index = BTreeMap::new(alloc);
+    let mut reps = Places::filled(alloc, g.len(), 0)?;
+    for k in (0..g.len()).rev() {
+        let r = shared(alloc, g, k, &reps, &mut index)?;
+        reps.set(k, r);
+    }
+    Ok(reps)
+}
+
+/// The graph in which equal vertices are one, and no test has all its children the same.
+pub fn share(alloc: Global, g: &Graph) -> Result<Graph, NoMemory>
+    requires { Numbered g.now }
+    ensures keeps { IfOk result (λ h. Keeps g.now h) }
+    ensures reduced { IfOk result (λ h. Reduced h) }
+    ensures defaults { NoDefaults g.now → IfOk result (λ h. NoDefaults h) }
+{
+    let _ = g.len();
+    let reps = all_shared(alloc, g)?;
+    let h = renumbered(alloc, g, &reps)?;
+    Ok(h)
+}

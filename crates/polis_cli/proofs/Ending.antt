@@ -4,25 +4,28 @@ use Rattle.polis_base.specs.Host.{Files, bytes_at, WhereTold, Changes}
 use Rattle.transition_table.specs.declared.network.Network.{Network}
 use Rattle.journals.specs.declared.entry.Entry.{Entry}
 use Rattle.journals.specs.declared.entry.TraceItem.{TraceItem}
+use Rattle.journals.specs.Laws.{PrefixesAreLegal}
+use Rattle.journals.specs.StampLaws.{PrefixesRise}
 use Rattle.polis_words.specs.declared.cause.Cause.{Cause}
-use Rattle.polis_words.specs.declared.cause.Cause.TheVariants.{ReadFault as Unread, Absent, TooLong, Lex, Syntax, Rule, Conflict, Line, NoMemory as Wanting}
+use Rattle.polis_words.specs.declared.cause.Cause.TheVariants.{ReadFault as Unread, Absent, TooLong, Lex, Syntax, Rule, Conflict, TraceLine, JournalLine, Illegal as Unlawful, NoMemory as Wanting}
 use Rattle.polis_words.specs.declared.requests.Request.{Request}
-use Rattle.polis_words.specs.declared.requests.Request.TheVariants.{Run, Check}
+use Rattle.polis_words.specs.declared.requests.Request.TheVariants.{Run, Check, Replay, Migrate}
 use Rattle.polis_words.specs.declared.status.Status.{Status}
-use Rattle.polis_words.specs.declared.status.Status.TheVariants.{Done, Limit, ReadFault, Refused, WriteFault, NoMemory}
+use Rattle.polis_words.specs.declared.status.Status.TheVariants.{Done, Limit, ReadFault, Refused, WriteFault, NoMemory, Illegal}
 use Rattle.polis_words.specs.Requests.{Asks}
 use Rattle.polis_words.specs.Lines.{status_of, failure_line}
 use Rattle.polis_cli.specs.declared.product.Product.{Product}
 use Rattle.polis_cli.specs.Runs.{Ends, ends_run}
 use Rattle.polis_cli.specs.Checks.{ends_check}
-use Rattle.polis_cli.specs.Commands.{Makes, Accepts, Fails, ends_with}
+use Rattle.polis_cli.specs.Replays.{ends_judged}
+use Rattle.polis_cli.specs.Commands.{Makes, Accepts, Fails, IsIllegal, ends_with}
 use Rattle.polis_cli.specs.Saves.{files_after, MadeSome, AreHeld}
 use Rattle.polis_cli.specs.Shown.{ShowsPrefix, FailsWith, no_memory_line}
 use Rattle.polis_cli.specs.Writing.{IsWell, Writes, is_end}
 use Rattle.polis_cli.specs.Top.{MadeAndWritten, Stands, LeavesUnwritten, IsLineOf, ShowsLine}
 use Rattle.polis_cli.proofs.Told.{told_from, told_always, changes_from, changes_where}
 use Rattle.polis_cli.proofs.Saving.{held_other, all_held}
-use Rattle.polis_cli.proofs.Refusing.{refuses, cases_of}
+use Rattle.polis_cli.proofs.Refusing.{refuses, illegal_found, illegal_ends, illegal_accepts, not_illegal, cases_of}
 
 -- the request is the one that the command line asks for
 abbrev IsOne : List (List ℕ) → Request → Type 0
@@ -47,16 +50,73 @@ pub failed_there : (o : Option Files) (words : List (List ℕ)) (request : Reque
 failed_there o words request name cause status fails one s = told_from o (λ files. Fails request files name cause) _ there fails
   where
     by_cause : (files : Files) (other : Request) → Fails request files name cause → Accepts request files
-        → (status_of cause ≡ Refused) ⊎ (status_of cause ≡ ReadFault) ⊎ (status_of cause ≡ NoMemory) → (status ≡ status_of cause) ⊎ (status ≡ NoMemory)
+        → other ≡ request
+        → (status_of cause ≡ Refused) ⊎ (status_of cause ≡ ReadFault) ⊎ (status_of cause ≡ NoMemory) ⊎ (status_of cause ≡ Illegal) → (status ≡ status_of cause) ⊎ (status ≡ NoMemory)
         → IsTrue (ends_with other status) ⊎ (status ≡ ReadFault) ⊎ (status ≡ WriteFault) ⊎ (status ≡ NoMemory)
-    by_cause files other h all which (inr wanting) = inr (inr (inr wanting))
-    by_cause files other h all (inl e) (inl is) = absurd (refuses files request name cause e h all)
-    by_cause files other h all (inr (inl e)) (inl is) = inr (inl (is ∙ e))
-    by_cause files other h all (inr (inr e)) (inl is) = inr (inr (inr (is ∙ e)))
+    by_cause files other h all same which (inr wanting) = inr (inr (inr wanting))
+    by_cause files other h all same (inl e) (inl is) = absurd (refuses files request name cause e h all)
+    by_cause files other h all same (inr (inl e)) (inl is) = inr (inl (is ∙ e))
+    by_cause files other h all same (inr (inr (inl e))) (inl is) = inr (inr (inr (is ∙ e)))
+    by_cause files other h all same (inr (inr (inr e))) (inl is) =
+        inl (ap (λ (r : Request). ends_with r status) same ∙ ap (ends_with request) (is ∙ e) ∙ illegal_ends files request name cause e h)
 
     there : (files : Files) → Fails request files name cause → (other : Request) → Asks words other → Accepts other files
         → IsTrue (ends_with other status) ⊎ (status ≡ ReadFault) ⊎ (status ≡ WriteFault) ⊎ (status ≡ NoMemory)
-    there files h other asks all = by_cause files other h (subst (λ (r : Request). Accepts r files) (one other asks) all) (cases_of cause) s
+    there files h other asks all = by_cause files other h (subst (λ (r : Request). Accepts r files) (one other asks) all) (one other asks) (cases_of cause) s
+
+-- files that aren't accepted are refused, but for a failed load and running out of memory
+pub refused_there : PrefixesAreLegal → PrefixesRise → (o : Option Files) (words : List (List ℕ)) (request : Request) (name : List ℕ) (cause : Cause) (status : Status)
+    → WhereTold o (λ files. Fails request files name cause) → IsOne words request
+    → (status ≡ status_of cause) ⊎ (status ≡ NoMemory)
+    → WhereTold o (λ files. (other : Request) → Asks words other → ¬ Accepts other files → (status ≡ Refused) ⊎ (status ≡ ReadFault) ⊎ (status ≡ NoMemory))
+refused_there legal rise o words request name cause status fails one s =
+    told_from o (λ files. Fails request files name cause) _
+    (λ files h other asks none. by_cause files h (subst (λ (r : Request). ¬ Accepts r files) (one other asks) none) (cases_of cause) s) fails
+  where
+    by_cause : (files : Files) → Fails request files name cause → (¬ Accepts request files)
+        → (status_of cause ≡ Refused) ⊎ (status_of cause ≡ ReadFault) ⊎ (status_of cause ≡ NoMemory) ⊎ (status_of cause ≡ Illegal) → (status ≡ status_of cause) ⊎ (status ≡ NoMemory)
+        → (status ≡ Refused) ⊎ (status ≡ ReadFault) ⊎ (status ≡ NoMemory)
+    by_cause files h none which (inr wanting) = inr (inr wanting)
+    by_cause files h none (inl e) (inl is) = inl (is ∙ e)
+    by_cause files h none (inr (inl e)) (inl is) = inr (inl (is ∙ e))
+    by_cause files h none (inr (inr (inl e))) (inl is) = inr (inr (is ∙ e))
+    by_cause files h none (inr (inr (inr e))) (inl is) = absurd (none (illegal_accepts files request (illegal_found legal rise files request name cause e h)))
+
+-- what failed is why it is illegal
+pub illegal_only : PrefixesAreLegal → PrefixesRise → (o : Option Files) (words : List (List ℕ)) (request : Request) (name : List ℕ) (cause : Cause) (status : Status)
+    → WhereTold o (λ files. Fails request files name cause) → IsOne words request
+    → (status ≡ status_of cause) ⊎ (status ≡ NoMemory) → status ≡ Illegal
+    → WhereTold o (λ files. (other : Request) → Asks words other → IsIllegal other files)
+illegal_only legal rise o words request name cause status fails one (inl s) is =
+    told_from o (λ files. Fails request files name cause) _
+    (λ files h other asks. subst (λ (r : Request). IsIllegal r files) (sym (one other asks)) (illegal_found legal rise files request name cause (sym s ∙ is) h)) fails
+illegal_only legal rise o words request name cause status fails one (inr s) is = cc
+
+-- files with a journal that isn't legal are accepted, and no other file fails
+pub illegal_there : (o : Option Files) (words : List (List ℕ)) (request : Request) (name : List ℕ) (cause : Cause) (status : Status)
+    → WhereTold o (λ files. Fails request files name cause) → IsOne words request
+    → (status ≡ status_of cause) ⊎ (status ≡ NoMemory)
+    → WhereTold o (λ files. (other : Request) → Asks words other → IsIllegal other files → (status ≡ Illegal) ⊎ (status ≡ ReadFault) ⊎ (status ≡ NoMemory))
+illegal_there o words request name cause status fails one s =
+    told_from o (λ files. Fails request files name cause) _
+    (λ files h other asks illegal. by_cause files h (illegal_accepts files request (subst (λ (r : Request). IsIllegal r files) (one other asks) illegal)) (cases_of cause) s) fails
+  where
+    by_cause : (files : Files) → Fails request files name cause → Accepts request files
+        → (status_of cause ≡ Refused) ⊎ (status_of cause ≡ ReadFault) ⊎ (status_of cause ≡ NoMemory) ⊎ (status_of cause ≡ Illegal) → (status ≡ status_of cause) ⊎ (status ≡ NoMemory)
+        → (status ≡ Illegal) ⊎ (status ≡ ReadFault) ⊎ (status ≡ NoMemory)
+    by_cause files h all which (inr wanting) = inr (inr wanting)
+    by_cause files h all (inl e) (inl is) = absurd (refuses files request name cause e h all)
+    by_cause files h all (inr (inl e)) (inl is) = inr (inl (is ∙ e))
+    by_cause files h all (inr (inr (inl e))) (inl is) = inr (inr (is ∙ e))
+    by_cause files h all (inr (inr (inr e))) (inl is) = inl (is ∙ e)
+
+-- a journal of which a product is made is legal
+pub made_legal : (o : Option Files) (words : List (List ℕ)) (request : Request) (product : Product) (P : Type 0)
+    → WhereTold o (λ files. Makes request files product) → IsOne words request
+    → WhereTold o (λ files. (other : Request) → Asks words other → IsIllegal other files → P)
+made_legal o words request product P made one =
+    told_from o (λ files. Makes request files product) _
+    (λ files m other asks illegal. absurd (not_illegal files request product m (subst (λ (r : Request). IsIllegal r files) (one other asks) illegal))) made
 
 line_is : (o : Option Files) (words : List (List ℕ)) (request : Request) (name : List ℕ) (cause : Cause) → Asks words request
     → WhereTold o (λ files. Fails request files name cause) → IsLineOf (status_of cause) words o (failure_line name cause)
@@ -70,7 +130,9 @@ line_is o words request name cause asks fails = of_cause cause fails
     of_cause (Syntax place) h = record { request = request; asked = asks; name = name; cause = Syntax place; status_is = refl; line_is = refl; fails = h }
     of_cause (Rule rule place) h = record { request = request; asked = asks; name = name; cause = Rule rule place; status_is = refl; line_is = refl; fails = h }
     of_cause (Conflict printed) h = record { request = request; asked = asks; name = name; cause = Conflict printed; status_is = refl; line_is = refl; fails = h }
-    of_cause (Line line kind) h = record { request = request; asked = asks; name = name; cause = Line line kind; status_is = refl; line_is = refl; fails = h }
+    of_cause (TraceLine line kind) h = record { request = request; asked = asks; name = name; cause = TraceLine line kind; status_is = refl; line_is = refl; fails = h }
+    of_cause (JournalLine line kind) h = record { request = request; asked = asks; name = name; cause = JournalLine line kind; status_is = refl; line_is = refl; fails = h }
+    of_cause (Unlawful entry) h = record { request = request; asked = asks; name = name; cause = Unlawful entry; status_is = refl; line_is = refl; fails = h }
     of_cause Wanting h = refl
 
 -- the line of what failed is shown
@@ -95,6 +157,8 @@ nothing_asked o words P nothing = told_always o _ (λ files request asks. absurd
 makes_accepts : (request : Request) (files : Files) (product : Product) → Makes request files product → Accepts request files
 makes_accepts (Run run) files product m = (m.net, m.holds_net, (m.trace, m.holds_trace))
 makes_accepts (Check check) files product m = (m.net, m.holds_net)
+makes_accepts (Replay replay) files product m = (m.net, m.trace, m.journal, m.judged.stamps, m.judged.holds)
+makes_accepts (Migrate migrate) files product m = (m.net, m.trace, m.journal, m.judged.stamps, m.judged.holds)
 
 ends_of_run : (status : Status) (net : Network) (trace : List TraceItem) (journal : List Entry) (limit : ℕ) (complete : Bool) → Ends status net trace journal limit complete → ends_run status ≡ true
 ends_of_run Done net trace journal limit complete h = refl
@@ -105,6 +169,8 @@ ends_of_run other net trace journal limit complete h = absurd h
 makes_ends : (request : Request) (files : Files) (product : Product) → Makes request files product → ends_with request product.status ≡ true
 makes_ends (Run run) files product m = ends_of_run product.status m.net m.trace m.made.journal run.limit m.made.complete m.made.ends
 makes_ends (Check check) files product m = ap ends_check m.made.status
+makes_ends (Replay replay) files product m = ap ends_judged m.made.status
+makes_ends (Migrate migrate) files product m = ap ends_judged m.made.status
 
 -- files of which a product is made aren't refused
 pub accepted_files : (o : Option Files) (words : List (List ℕ)) (request : Request) (product : Product) (P : Type 0)

@@ -12,7 +12,7 @@ use Rattle.journals.specs.Worked.{IsRun}
 use Rattle.polis_words.specs.declared.status.Status.TheVariants.{Done}
 use Rattle.polis_words.specs.declared.requests.Request.TheVariants.{Run}
 use Rattle.polis_cli.specs.declared.product.Product.{Product}
-use Rattle.polis_words.specs.Texts.{line}
+use Rattle.journal_text.specs.Texts.{line}
 use Rattle.net_reader.specs.Samples.{lamp_text}
 use Rattle.polis_cli.specs.Samples.{press_text, lamp_journal, lamp_summary}
 use Rattle.polis_cli.specs.LampRun.{lamp_words, lamp_asked, files_before, files_after}

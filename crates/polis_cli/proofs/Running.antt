@@ -8,17 +8,18 @@ use Rattle.journals.specs.declared.entry.Pick.TheVariants.{Stop}
 use Rattle.journals.specs.Legality.{Legal, Complete}
 use Rattle.journals.specs.Laws.{StopsWhereComplete}
 use Rattle.journals.specs.Schedules.{IsSchedule, pick}
-use Rattle.polis_words.specs.declared.cause.Cause.{Cause}
+use Rattle.polis_words.specs.declared.cause.Cause.TheVariants.{NoMemory as Wanting}
 use Rattle.polis_words.specs.declared.status.Status.{Status}
 use Rattle.polis_words.specs.declared.status.Status.TheVariants.{Done, Limit}
 use Rattle.polis_words.specs.Run.{RunWords}
 use Rattle.polis_cli.specs.declared.product.Product.{Product}
 use Rattle.polis_cli.specs.Saves.{Save, AreApart}
-use Rattle.polis_words.specs.Texts.{journal_text, output_text}
-use Rattle.polis_cli.specs.Inputs.{HoldsNet, HoldsTrace, TraceFails}
+use Rattle.journals.specs.Stamps.{least}
+use Rattle.journal_text.specs.Texts.{stamped_journal_text, output_text}
+use Rattle.polis_cli.specs.Inputs.{HoldsNet, HoldsTrace}
 use Rattle.polis_cli.specs.Runs.{IsFinished, IsRunProduct, MakesRun, FailsRun, Ends, end_status, run_saves}
 use Rattle.polis_cli.specs.Writing.{IsWell, is_end}
-use Rattle.polis_cli.proofs.Told.{told_from, told_both}
+use Rattle.polis_cli.proofs.Told.{told_from, told_always}
 
 -- a journal that isn't complete has no place at which the scheduler stopped
 limited : (net : Network) (trace : List TraceItem) (limit : ℕ) (journal : List Entry) (complete : Bool) → StopsWhereComplete → Legal net trace journal
@@ -75,21 +76,16 @@ makes_run o run net trace product held made =
     told_from o (λ files. HoldsNet files run.net net × HoldsTrace files run.trace net trace) _
     (λ files h. record { net = net; trace = trace; holds_net = h.0; holds_trace = h.1; made = made }) held
 
--- the trace fails, the network being accepted
-pub trace_fails : (o : Option Files) (run : RunWords) (net : Network) (name : List ℕ) (cause : Cause) → name ≡ run.trace
-    → WhereTold o (λ files. HoldsNet files run.net net) → WhereTold o (λ files. (other : Network) → HoldsNet files run.net other → other ≡ net)
-    → WhereTold o (λ files. TraceFails files net run.trace cause) → WhereTold o (λ files. FailsRun run files name cause)
-trace_fails o run net name cause same held one fails =
-    told_both o (λ files. HoldsNet files run.net net × ((other : Network) → HoldsNet files run.net other → other ≡ net)) (λ files. TraceFails files net run.trace cause) _
-    (λ files h f. inr (same, net, h.0, λ other k. subst (λ (n : Network). TraceFails files n run.trace cause) (sym (h.1 other k)) f))
-    (told_both o (λ files. HoldsNet files run.net net) (λ files. (other : Network) → HoldsNet files run.net other → other ≡ net) _ (λ files a b. (a, b)) held one) fails
-
 -- the two saves of a run
 pub saves_are : (run : RunWords) (net : Network) (journal : List Entry) (complete : Bool) (none one both : List Save) (first second : Save) (stem text outputs : List ℕ)
     → none ≡ [] → one ≡ none ++ first ∷ [] → both ≡ one ++ second ∷ []
     → first ≡ record { name = stem ++ codes ".out"; text = outputs } → second ≡ record { name = stem ++ codes ".jnl"; text = text } → stem ≡ run.stem
-    → outputs ≡ output_text net journal → text ≡ journal_text net journal complete
+    → outputs ≡ output_text net journal → text ≡ stamped_journal_text net journal (least net journal) complete
     → both ≡ run_saves run net journal complete
 saves_are run net journal complete none one both first second stem text outputs n o b f s st ou te =
     b ∙ ap (λ (l : List Save). l ++ second ∷ []) (o ∙ ap (λ (l : List Save). l ++ first ∷ []) n) ∙ (λ i. f i ∷ s i ∷ [])
     ∙ (λ i. record { name = st i ++ codes ".out"; text = ou i } ∷ record { name = st i ++ codes ".jnl"; text = te i } ∷ [])
+
+-- memory ran out over a run
+pub run_wants : (o : Option Files) (run : RunWords) (name : List ℕ) → name ≡ run.net → WhereTold o (λ files. FailsRun run files name Wanting)
+run_wants o run name same = told_always o _ (λ files. inl (same, inl tt))

@@ -11,7 +11,7 @@ use Rattle.journals.specs.declared.entry.TraceItem.{TraceItem}
 use Rattle.trace_text.specs.declared.fault.TraceFault.TheVariants.{Line as FaultyLine}
 use Rattle.trace_text.specs.Traces.{trace_of}
 use Rattle.polis_words.specs.declared.cause.Cause.{Cause}
-use Rattle.polis_words.specs.declared.cause.Cause.TheVariants.{ReadFault as Unread, Absent, TooLong, Lex, Syntax, Rule, Conflict, Line, NoMemory as Wanting}
+use Rattle.polis_words.specs.declared.cause.Cause.TheVariants.{ReadFault as Unread, Absent, TooLong, Lex, Syntax, Rule, Conflict, TraceLine, NoMemory as Wanting}
 use Rattle.polis_words.specs.Lines.{lex_error}
 use Rattle.polis_cli.specs.Accepted.{Accepted, IsFirstConflict}
 
@@ -56,7 +56,7 @@ IsNetFault text other = ⊥
 
 -- what a trace text of the network says where this is why it isn't read: a line is at fault
 abbrev pub IsTraceFault : Network → List ℕ → Cause → Type 0
-IsTraceFault net text (Line line kind) = trace_of net text ≡ Err (FaultyLine line kind)
+IsTraceFault net text (TraceLine line kind) = trace_of net text ≡ Err (FaultyLine line kind)
 IsTraceFault net text Wanting = ⊤
 IsTraceFault net text other = ⊥
 
@@ -67,3 +67,10 @@ NetFails files name cause = LoadFails files text_max name cause ⊎ ((text : Lis
 -- why the trace text of this name isn't loaded or isn't read as one of the network
 abbrev pub TraceFails : Files → Network → List ℕ → Cause → Type 0
 TraceFails files net name cause = LoadFails files text_max name cause ⊎ ((text : List ℕ) × HoldsText files text_max name text × IsTraceFault net text cause)
+
+-- Why one of a network text and a trace text of it fails. The network text comes first: the trace is loaded only where it is
+-- accepted.
+abbrev pub InputsFail : Files → List ℕ → List ℕ → List ℕ → Cause → Type 0
+InputsFail files net_name trace_name name cause =
+    ((name ≡ net_name) × NetFails files net_name cause)
+    ⊎ ((name ≡ trace_name) × (net : Network) × HoldsNet files net_name net × ((other : Network) → HoldsNet files net_name other → TraceFails files other trace_name cause))

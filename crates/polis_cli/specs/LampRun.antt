@@ -3,7 +3,7 @@ use Rattle.std.specs.Prelude.{ℕ, List, [], ◌∷◌, codes}
 use Rattle.std.specs.FinMap.{empty, insert}
 use Rattle.polis_base.specs.Host.{Files}
 use Rattle.polis_words.specs.Run.{RunWords, entry_max}
-use Rattle.polis_words.specs.Texts.{line}
+use Rattle.journal_text.specs.Texts.{line}
 use Rattle.net_reader.specs.Samples.{lamp_text}
 use Rattle.polis_cli.specs.Samples.{press_text, lamp_journal}
 

@@ -1,19 +1,22 @@
 -- What `run` makes.
-use Rattle.std.specs.Prelude.{◌≡◌, ◌⊎◌, ◌↔◌, ℕ, ◌≤◌, Bool, true, false, List, [], ◌∷◌, length, IsTrue}
+use Rattle.std.specs.Prelude.{◌≡◌, ◌↔◌, ℕ, ◌≤◌, Bool, true, false, List, [], ◌∷◌, length, IsTrue}
 use Rattle.polis_base.specs.Host.{Files}
 use Rattle.transition_table.specs.declared.network.Network.{Network}
 use Rattle.journals.specs.declared.entry.Entry.{Entry}
 use Rattle.journals.specs.declared.entry.TraceItem.{TraceItem}
 use Rattle.journals.specs.Legality.{Legal, Complete}
 use Rattle.journals.specs.Schedules.{IsSchedule}
+use Rattle.journals.specs.Stamps.{least}
 use Rattle.polis_words.specs.declared.cause.Cause.{Cause}
 use Rattle.polis_words.specs.declared.status.Status.{Status}
 use Rattle.polis_words.specs.declared.status.Status.TheVariants.{Done, Limit}
-use Rattle.polis_words.specs.Run.{RunWords, out_name, journal_name}
-use Rattle.polis_words.specs.Texts.{journal_text, output_text, summary_text}
+use Rattle.polis_words.specs.Run.{RunWords, entry_max, out_name, journal_name}
+use Rattle.polis_words.specs.Texts.{summary_text}
+use Rattle.journal_text.specs.Holding.{names_hold}
+use Rattle.journal_text.specs.Texts.{stamped_journal_text, output_text}
 use Rattle.polis_cli.specs.declared.product.Product.{Product}
 use Rattle.polis_cli.specs.Saves.{Save}
-use Rattle.polis_cli.specs.Inputs.{HoldsNet, HoldsTrace, NetFails, TraceFails}
+use Rattle.polis_cli.specs.Inputs.{HoldsNet, HoldsTrace, InputsFail}
 
 -- how a run ends: with a complete journal, or with one at the limit that isn't
 abbrev pub Ends : Status → Network → List TraceItem → List Entry → ℕ → Bool → Type 0
@@ -24,10 +27,11 @@ Ends other net trace journal limit complete = ⊥
 -- The saves of a run, in their order.
 abbrev pub run_saves : RunWords → Network → List Entry → Bool → List Save
 run_saves run net journal complete =
-    record { name = out_name run; text = output_text net journal } ∷ record { name = journal_name run; text = journal_text net journal complete } ∷ []
+    record { name = out_name run; text = output_text net journal }
+    ∷ record { name = journal_name run; text = stamped_journal_text net journal (least net journal) complete } ∷ []
 
 -- The product's journal is what the scheduler makes of the network and the trace within the limit: a legal run of the network
--- on the trace. The product is that journal's outputs, its text and its summary.
+-- on the trace. The product is that journal's outputs, its text with its least stamps, and its summary.
 pub record IsRunProduct (run : RunWords) (net : Network) (trace : List TraceItem) (product : Product) : Type 0 where
   pub journal : List Entry
   pub complete : Bool
@@ -50,11 +54,9 @@ pub record MakesRun (run : RunWords) (files : Files) (product : Product) : Type 
 abbrev pub AcceptsRun : RunWords → Files → Type 0
 AcceptsRun run files = (net : Network) × HoldsNet files run.net net × ((trace : List TraceItem) × HoldsTrace files run.trace net trace)
 
--- Why a file of a run fails. The network text comes first: the trace is loaded only where it is accepted.
+-- why a file of a run fails
 abbrev pub FailsRun : RunWords → Files → List ℕ → Cause → Type 0
-FailsRun run files name cause =
-    ((name ≡ run.net) × NetFails files run.net cause)
-    ⊎ ((name ≡ run.trace) × (net : Network) × HoldsNet files run.net net × ((other : Network) → HoldsNet files run.net other → TraceFails files other run.trace cause))
+FailsRun run files name cause = InputsFail files run.net run.trace name cause
 
 -- the statuses of a run whose files are accepted
 abbrev pub ends_run : Status → Bool
@@ -74,3 +76,9 @@ pub record IsFinished (net : Network) (trace : List TraceItem) (limit : ℕ) (jo
 abbrev pub end_status : Bool → Status
 end_status true = Done
 end_status false = Limit
+
+-- Two products of runs that save the same texts are of one journal, with the same last word. The names of the network are names, as its types keep them.
+abbrev pub SavesDetermineJournal : Type 0
+SavesDetermineJournal =
+    (run : RunWords) (net : Network) (trace : List TraceItem) (p q : Product) (a : IsRunProduct run net trace p) (b : IsRunProduct run net trace q)
+    → IsTrue (names_hold net) → run.limit ≤ entry_max → p.saves ≡ q.saves → (a.journal ≡ b.journal) × (a.complete ≡ b.complete)

@@ -48,7 +48,7 @@ is_refusal Illegal = true
 is_refusal Differ = true
 is_refusal other = false
 
--- the line is that of a file that isn't read or isn't accepted, with this status, and the files say so
+-- the line is that of a file that isn't read or isn't accepted, or whose journal isn't legal, with this status, and the files say so
 pub record HasCause (status : Status) (words : List (List ℕ)) (before : Option Files) (line : List ℕ) : Type 0 where
   pub request : Request
   pub asked : Asks words request
@@ -63,6 +63,7 @@ abbrev pub IsLineOf : Status → List (List ℕ) → Option Files → List ℕ �
 IsLineOf Usage words before line = line ≡ codes "usage"
 IsLineOf ReadFault words before line = HasCause ReadFault words before line
 IsLineOf Refused words before line = HasCause Refused words before line
+IsLineOf Illegal words before line = HasCause Illegal words before line
 IsLineOf NoMemory words before line = line ≡ codes "no memory"
 IsLineOf other words before line = ⊥
 

@@ -1,13 +1,17 @@
 // Loading the files that a command line names.
-ghost use Rattle.std.specs.Prelude.{◌≡◌, ◌≢◌, Err, IfOk, IfErr, OnOk};
+ghost use Rattle.std.specs.Prelude.{◌≡◌, ◌≢◌, ◌≤◌, List, length, Err, IfOk, IfErr, IfSome, OnOk};
 ghost use Rattle.polis_base.specs.Host.{Rose, WhereTold};
-ghost use Rattle.journals.specs.Journals.{IsTrace};
+ghost use Rattle.journals.specs.Journals.{IsTrace, IsJournal};
+ghost use Rattle.journals.specs.declared.entry.TraceItem.{TraceItem};
+ghost use Rattle.journal_text.specs.Texts.{AreStamps};
 ghost use Rattle.transition_table.specs.Transitions.{AreDeterministic};
 ghost use Rattle.transition_table.specs.declared.network.Network.{Network};
 ghost use Rattle.polis_words.specs.declared.cause.Cause.{Cause};
 ghost use Rattle.polis_cli.specs.Inputs.{HoldsText, HoldsNet, HoldsTrace, LoadFails, NetFails, TraceFails, text_max};
+ghost use Rattle.polis_cli.specs.JournalFiles.{HoldsJournal, JournalFails, journal_max};
 
 use crate::accept::network_in;
+use journal_text::{JournalFault, ReadJournal, read_journal};
 use net_core::Trace;
 use polis_base::{Bytes, Host, Load};
 use polis_words::Cause;
@@ -17,6 +21,9 @@ use transition_table::Network;
 
 /// The most bytes of a network text and of a trace text.
 pub const TEXT_MAX: u64 = 4194304;
+
+/// The most bytes of a journal text.
+pub const JOURNAL_MAX: u64 = 268435456;
 
 // Loads a file whole.
 fn load_text<H: Host>(alloc: Global, host: &mut H, name: &str, max: u64) -> Result<Bytes, Cause>
@@ -85,7 +92,37 @@ pub fn load_trace<H: Host>(
     };
     match read_trace(alloc, net, text.as_slice()) {
         Ok(trace) => Ok(trace),
-        Err(TraceFault::Line { line, kind }) => Err(Cause::Line { line, kind }),
+        Err(TraceFault::Line { line, kind }) => Err(Cause::TraceLine { line, kind }),
         Err(TraceFault::NoMemory) => Err(Cause::NoMemory),
+    }
+}
+
+/// Loads and reads a journal text of a network.
+pub fn load_journal<H: Host>(
+    alloc: Global,
+    host: &mut H,
+    net: &Network,
+    name: &str,
+) -> Result<ReadJournal, Cause>
+    ensures held { IfOk result (λ read. WhereTold (H.files host.old) (λ files. HoldsJournal files name.now net.now read.journal read.stamps)) }
+    ensures fits { IfOk result (λ read. IsJournal net.now read.journal) }
+    ensures few { IfOk result (λ read. length read.journal ≤ 60000) }
+    ensures stamps { IfOk result (λ read. IfSome read.stamps (AreStamps read.journal)) }
+    ensures failed { IfErr result (λ cause. WhereTold (H.files host.old) (λ files. (trace : List TraceItem) → JournalFails files net.now trace name.now cause)) }
+    ensures ok_faults { OnOk result (H.load_faults host.new ≡ H.load_faults host.old) }
+    ensures fault { result ≡ Err Cause.ReadFault → Rose (H.load_faults host.old) (H.load_faults host.new) }
+    ensures no_fault { result ≢ Err Cause.ReadFault → H.load_faults host.new ≡ H.load_faults host.old }
+    ensures files { H.files host.new ≡ H.files host.old }
+    ensures shown { H.shown host.new ≡ H.shown host.old }
+    ensures write_faults { H.write_faults host.new ≡ H.write_faults host.old }
+{
+    let text = match load_text(alloc, host, name, JOURNAL_MAX) {
+        Ok(text) => text,
+        Err(cause) => return Err(cause),
+    };
+    match read_journal(alloc, net, text.as_slice()) {
+        Ok(read) => Ok(read),
+        Err(JournalFault::Line { line, kind }) => Err(Cause::JournalLine { line, kind }),
+        Err(JournalFault::NoMemory) => Err(Cause::NoMemory),
     }
 }

@@ -3,10 +3,15 @@
 
 mod accept;
 mod check;
+mod inputs;
+mod law;
 mod load;
+mod migrate;
 mod product;
+mod replay;
 mod run;
 mod show;
+mod stamp;
 #[cfg(test)]
 mod tests;
 mod top;
@@ -26,6 +31,11 @@ const HELP: &[u8] = b"polis run NET TRACE STEM [--limit N]
     of the journal, from 1 to 60000, and 60000 without the option
 polis check NET
     says whether the network text NET is accepted, and shows how large it is
+polis replay NET TRACE JOURNAL
+    says whether the journal text JOURNAL is a legal run of NET on TRACE, with rising
+    stamps where it has any, and whether it is complete
+polis migrate NET TRACE JOURNAL STEM
+    judges JOURNAL as replay does, and saves it with its least stamps as STEM.jnl
 polis --help
     shows these forms
 polis --version

@@ -4,61 +4,19 @@ ghost use Rattle.polis_base.specs.Host.{Rose, WhereTold};
 ghost use Rattle.journals.specs.Journals.{IsTrace};
 ghost use Rattle.transition_table.specs.Transitions.{AreDeterministic};
 ghost use Rattle.polis_words.specs.declared.cause.Cause.{Cause};
-ghost use Rattle.polis_cli.specs.Inputs.{HoldsNet, HoldsTrace};
 ghost use Rattle.polis_cli.specs.Writing.{IsWell};
 ghost use Rattle.polis_cli.specs.Runs.{IsFinished, IsRunProduct, MakesRun, FailsRun, end_status};
 
-use crate::load::{load_net, load_trace};
+use crate::inputs::{Inputs, load_inputs};
 use crate::product::{Product, Saving};
-use net_core::{Journal, Trace, laws};
+use crate::stamp::stamped_text;
+use journal_text::print_outputs;
+use net_core::{Journal, laws};
 use polis_base::{Host, List, NoMemory};
-use polis_words::{Cause, Failure, Run, Status, print_journal, print_outputs, print_summary};
+use polis_words::{Cause, Failure, Run, Status, print_summary};
 use scheduler_gen::{Finished, complete, plan};
 use std::alloc::Global;
-use transition_table::{Network, TableReactor};
-
-// What the two files of a run say.
-#[derive(Drop)]
-struct Inputs {
-    // Each machine of it is deterministic.
-    net: Network,
-    // It fits the network.
-    trace: Trace,
-}
-
-// Loads and reads the network, and then the trace.
-fn read_inputs<'a, H: Host>(
-    alloc: Global,
-    host: &mut H,
-    run: &'a Run<'_>,
-) -> Result<Inputs, Failure<'a>>
-    ensures held { IfOk result (λ inputs. WhereTold (H.files host.old) (λ files. HoldsNet files run.now.net inputs.net × HoldsTrace files run.now.trace inputs.net inputs.trace)) }
-    ensures fits { IfOk result (λ inputs. IsTrace inputs.net inputs.trace × AreDeterministic inputs.net) }
-    ensures failed { IfErr result (λ failure. WhereTold (H.files host.old) (λ files. FailsRun run.now files failure.name.now failure.cause)) }
-    ensures ok_faults { OnOk result (H.load_faults host.new ≡ H.load_faults host.old) }
-    ensures fault { IfErr result (λ failure. failure.cause ≡ Cause.ReadFault → Rose (H.load_faults host.old) (H.load_faults host.new)) }
-    ensures no_fault { IfErr result (λ failure. failure.cause ≢ Cause.ReadFault → H.load_faults host.new ≡ H.load_faults host.old) }
-    ensures files { H.files host.new ≡ H.files host.old }
-    ensures shown { H.shown host.new ≡ H.shown host.old }
-    ensures write_faults { H.write_faults host.new ≡ H.write_faults host.old }
-{
-    let net_name = run.net();
-    let net = match load_net(alloc, host, net_name) {
-        Ok(net) => net,
-        Err(cause) => return Err(Failure {
-            name: net_name,
-            cause,
-        }),
-    };
-    let trace_name = run.trace();
-    match load_trace(alloc, host, &net, trace_name) {
-        Ok(trace) => Ok(Inputs { net, trace }),
-        Err(cause) => Err(Failure {
-            name: trace_name,
-            cause,
-        }),
-    }
-}
+use transition_table::TableReactor;
 
 // The scheduler's journal of at most so many entries.
 fn finish(alloc: Global, inputs: &Inputs, limit: u64) -> Result<Finished, NoMemory>
@@ -102,7 +60,7 @@ fn run_product(alloc: Global, run: &Run<'_>, inputs: &Inputs) -> Result<Product,
     let finished = finish(alloc, inputs, run.limit())?;
     let net = &inputs.net;
     let outputs = print_outputs(alloc, net, &finished.journal)?;
-    let journal = print_journal(alloc, net, &finished.journal, finished.complete)?;
+    let journal = stamped_text(alloc, inputs, &finished.journal, finished.complete)?;
     let shown = print_summary(alloc, net, &finished.journal, finished.complete, 0, 0)?;
     let first = Saving::new(alloc, run.stem(), ".out", outputs)?;
     let second = Saving::new(alloc, run.stem(), ".jnl", journal)?;
@@ -132,7 +90,7 @@ pub fn make_run<'a, H: Host>(
     ensures shown { H.shown host.new ≡ H.shown host.old }
     ensures write_faults { H.write_faults host.new ≡ H.write_faults host.old }
 {
-    let inputs = match read_inputs(alloc, host, run) {
+    let inputs = match load_inputs(alloc, host, run.net(), run.trace()) {
         Ok(inputs) => inputs,
         Err(failure) => return Err(failure),
     };

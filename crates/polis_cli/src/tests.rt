@@ -7,6 +7,7 @@ use std::process::Abort;
 use std::test::Fail;
 
 mod networks;
+mod replays;
 mod rows;
 
 use crate::tests::networks::LAMP;
@@ -15,9 +16,9 @@ const RUN: &[&str] = &["run", "net", "trc", "o"];
 
 const CHECK: &[&str] = &["check", "net"];
 
-const PRESSED: &str = "polis journal 1
-dep env lamp_ctl press
-fire lamp_ctl : press ; s=off -> s=on ; light
+const PRESSED: &str = "polis journal 2
+@1 dep env lamp_ctl press
+@2 fire lamp_ctl : press ; s=off -> s=on ; light
 end 2 complete
 ";
 
@@ -27,8 +28,9 @@ const PRESSED_SHOWN: &str = "entries 2 complete\nlost 0\ngathered 0 adopted 0\n"
 #[derive(Clone, Copy)]
 struct Case<'a> {
     words: &'a [&'a str],
-    net: Option<&'a str>,
+    net: Option<&'a [u8]>,
     trace: Option<&'a str>,
+    read_journal: Option<&'a str>,
     fails: Option<u64>,
     status: Status,
     shown: &'a str,
@@ -43,6 +45,7 @@ const PRESS: Case<'static> = Case {
     words: RUN,
     net: Some(LAMP),
     trace: Some("press\n"),
+    read_journal: None,
     fails: None,
     status: Status::Done,
     shown: PRESSED_SHOWN,
@@ -103,10 +106,13 @@ fn make_words(alloc: Global, words: &[&str]) -> Result<Words, NoMemory> {
 fn make_host(alloc: Global, case: &Case<'_>) -> Result<MemoryHost, NoMemory> {
     let mut host = MemoryHost::new(alloc);
     if let Some(net) = case.net {
-        host.put("net", net.as_bytes())?;
+        host.put("net", net)?;
     }
     if let Some(trace) = case.trace {
         host.put("trc", trace.as_bytes())?;
+    }
+    if let Some(journal) = case.read_journal {
+        host.put("jnl", journal.as_bytes())?;
     }
     if let Some(call) = case.fails {
         host.fail(call)?;
@@ -114,11 +120,18 @@ fn make_host(alloc: Global, case: &Case<'_>) -> Result<MemoryHost, NoMemory> {
     Ok(host)
 }
 
-fn is_held(host: &MemoryHost, name: &str, wanted: Option<&str>) -> bool {
+fn holds(host: &MemoryHost, name: &str, wanted: Option<&[u8]>) -> bool {
     match (host.file(name), wanted) {
-        (Some(held), Some(text)) => held == text.as_bytes(),
+        (Some(held), Some(text)) => held == text,
         (None, None) => true,
         _ => false,
+    }
+}
+
+fn is_held(host: &MemoryHost, name: &str, wanted: Option<&str>) -> bool {
+    match wanted {
+        Some(text) => holds(host, name, Some(text.as_bytes())),
+        None => holds(host, name, None),
     }
 }
 
@@ -140,8 +153,12 @@ fn try_case(rt: &impl Abort, alloc: Global, case: &Case<'_>, number: usize) -> R
         "the journal of case {number}"
     );
     assert!(rt;
-        is_held(&host, "net", case.net) && is_held(&host, "trc", case.trace),
-        "the files that case {number} reads"
+        holds(&host, "net", case.net) && is_held(&host, "trc", case.trace),
+        "the network and the trace of case {number}"
+    );
+    assert!(rt;
+        is_held(&host, "jnl", case.read_journal),
+        "the journal that case {number} reads"
     );
     assert!(rt;
         host.load_faults() == case.load_faults && host.write_faults() == case.write_faults,
@@ -179,6 +196,11 @@ fn answers_usage(rt: HostRuntime) -> Result<(), Fail> {
             usage(&["check"]),
             usage(&["check", ""]),
             usage(&["check", "net", "trc"]),
+            usage(&["replay", "net", "trc"]),
+            usage(&["replay", "net", "", "jnl"]),
+            usage(&["replay", "net", "trc", "jnl", "o"]),
+            usage(&["migrate", "net", "trc", "jnl"]),
+            usage(&["migrate", "net", "trc", "jnl", ""]),
             usage(&["demo", "007"]),
         ],
     )
@@ -200,7 +222,7 @@ fn tells_of_faults(rt: HostRuntime) -> Result<(), Fail> {
         ..PRESS
     };
     let refused_line = Case {
-        net: Some("network %"),
+        net: Some("network %".as_bytes()),
         status: Status::Refused,
         ..write_fault(1, "")
     };
@@ -248,7 +270,7 @@ fn call_padded(
     len: usize,
 ) -> Result<(Status, MemoryHost), NoMemory> {
     let mut text = Bytes::new(alloc);
-    text.push(LAMP.as_bytes())?;
+    text.push(LAMP)?;
     for _ in LAMP.len()..len {
         text.push(b"\n")?;
     }

@@ -4,15 +4,18 @@ ghost use Rattle.polis_base.specs.Host.{Rose, WhereTold, Changes};
 ghost use Rattle.polis_words.specs.declared.cause.Cause.{Cause};
 ghost use Rattle.polis_words.specs.declared.requests.Request.{Request};
 ghost use Rattle.polis_words.specs.Requests.{Asks, AsksNothing};
-ghost use Rattle.polis_cli.specs.Commands.{Makes, Accepts, Fails, ends_with};
+ghost use Rattle.polis_cli.specs.Commands.{Makes, Accepts, Fails, IsIllegal, ends_with};
 ghost use Rattle.polis_cli.specs.Writing.{IsWell, is_end};
 ghost use Rattle.polis_cli.specs.Top.{MadeAndWritten, Stands, LeavesUnwritten, ShowsLine, is_refusal};
 
 use crate::check::make_check;
+use crate::migrate::make_migrate;
 use crate::product::Product;
+use crate::replay::make_replay;
 use crate::run::make_run;
 use crate::show::{fail, show_line};
 use crate::write::write_product;
+use net_core::{laws, stamp_laws};
 use polis_base::{Host, Words};
 use polis_words::{Failure, Request, Status, judge};
 use std::alloc::Global;
@@ -36,6 +39,8 @@ fn make<'a, H: Host>(
     match request {
         Request::Run(run) => make_run(alloc, host, run),
         Request::Check(check) => make_check(alloc, host, check),
+        Request::Replay(replay) => make_replay(alloc, host, replay),
+        Request::Migrate(migrate) => make_migrate(alloc, host, migrate),
     }
 }
 
@@ -60,11 +65,15 @@ pub fn polis<H: Host>(alloc: Global, words: &Words, host: &mut H) -> Status
     ensures refused_only { result ≡ Status.Refused → WhereTold (H.files host.old) (λ before. (request : Request) → Asks words.now request → ¬ Accepts request before) }
     ensures refused_there { WhereTold (H.files host.old) (λ before. (request : Request) → Asks words.now request → ¬ Accepts request before → (result ≡ Status.Refused) ⊎ (result ≡ Status.ReadFault) ⊎ (result ≡ Status.NoMemory)) }
 
+    // Illegal exactly where the request judges a journal that isn't legal or has stamps that aren't rising, but for a failed load and
+    // running out of memory.
+    ensures illegal_only { result ≡ Status.Illegal → WhereTold (H.files host.old) (λ before. (request : Request) → Asks words.now request → IsIllegal request before) }
+    ensures illegal_there { WhereTold (H.files host.old) (λ before. (request : Request) → Asks words.now request → IsIllegal request before → (result ≡ Status.Illegal) ⊎ (result ≡ Status.ReadFault) ⊎ (result ≡ Status.NoMemory)) }
+
     // Where its files are accepted a request is done, but for a fault and running out of memory.
     ensures done_there { WhereTold (H.files host.old) (λ before. (request : Request) → Asks words.now request → Accepts request before → IsTrue (ends_with request result) ⊎ (result ≡ Status.ReadFault) ⊎ (result ≡ Status.WriteFault) ⊎ (result ≡ Status.NoMemory)) }
 
-    // Nothing is replayed or compared.
-    ensures no_illegal { result ≢ Status.Illegal }
+    // Nothing is compared.
     ensures no_differ { result ≢ Status.Differ }
 
     // A refusal leaves the files as they were. Where memory ran out some saves of a product may stand, from the first on.
@@ -77,6 +86,8 @@ pub fn polis<H: Host>(alloc: Global, words: &Words, host: &mut H) -> Status
     // Any other status shows its line, or a prefix of it.
     ensures line { is_end result ≡ false → result ≢ Status.WriteFault → Changes (H.shown host.old) (H.shown host.new) (ShowsLine result words.now (H.files host.old) (Rose (H.write_faults host.old) (H.write_faults host.new))) }
 {
+    laws();
+    stamp_laws();
     let request = match judge(words) {
         Some(request) => request,
         None => {

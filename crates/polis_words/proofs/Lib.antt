@@ -1,5 +1,4 @@
 pub mod Asked
 pub mod RunAsked
 pub mod Snapshots
-pub mod MachineCodes
 pub mod TextLemmas

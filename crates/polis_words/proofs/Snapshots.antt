@@ -1,10 +1,9 @@
 -- The number of a machine's snapshots, counted variable by variable.
-use Rattle.std.proofs.Common.{◌≡◌, ◌≤◌, ◌<◌, ◌+◌, ◌*◌, ◌&&◌, nat_le, ℕ, zero, suc, true, List, [], ◌∷◌, drop, slice_get, Some, sym, ◌∙◌, ap, mul_assoc, arith}
+use Rattle.std.proofs.Common.{◌≡◌, ◌≤◌, ◌<◌, ◌+◌, ◌*◌, ◌&&◌, nat_le, ℕ, zero, suc, true, List, [], ◌∷◌, drop, slice_get, Some, ◌∙◌, ap, mul_assoc, arith}
 use Rattle.std.proofs.lemmas.Bool.{leb-true}
 use Rattle.std.proofs.lemmas.Option.{slice_get_within, get_or_from_slice_get}
 use Rattle.std.proofs.Math.Seq.{drop-cons}
 use Rattle.std.proofs.Math.Nat.{mul-pos, le-mul_of_pos_right}
-use Rattle.std.specs.Prelude.{IsTrue}
 use Rattle.domains.specs.Tables.{are_sizes, product}
 use Rattle.transition_table.specs.declared.machine.Machine.{Machine}
 use Rattle.polis_words.proofs.TextLemmas.{left_true, right_true}

@@ -4,12 +4,14 @@ use Rattle.polis_base.specs.declared.token.LexError.{LexError}
 use Rattle.polis_base.specs.declared.token.LexError.TheVariants.{BadByte, NameTooLong, NumberTooLarge, NoMemory as WantingTokens}
 use Rattle.trace_text.specs.declared.fault.TraceKind.{TraceKind}
 use Rattle.trace_text.specs.declared.fault.TraceKind.TheVariants.{Shape, Event, Value, Many}
+use Rattle.journal_text.specs.declared.fault.JournalKind.{JournalKind}
+use Rattle.journal_text.specs.declared.fault.JournalKind.TheVariants.{Header, After, End, Shape as LineShape, Many as ManyEntries, Stamp, Name as ItemName, Value as ItemValue, Count}
 use Rattle.polis_words.specs.declared.cause.LexKind.{LexKind}
 use Rattle.polis_words.specs.declared.cause.LexKind.TheVariants.{Byte, Name, Number}
 use Rattle.polis_words.specs.declared.cause.Cause.{Cause}
-use Rattle.polis_words.specs.declared.cause.Cause.TheVariants.{ReadFault as Unread, Absent, TooLong, Lex, Syntax, Rule, Conflict, Line, NoMemory as Wanting}
+use Rattle.polis_words.specs.declared.cause.Cause.TheVariants.{ReadFault as Unread, Absent, TooLong, Lex, Syntax, Rule, Conflict, TraceLine, JournalLine, Illegal as Unlawful, NoMemory as Wanting}
 use Rattle.polis_words.specs.declared.status.Status.{Status}
-use Rattle.polis_words.specs.declared.status.Status.TheVariants.{ReadFault, Refused, NoMemory}
+use Rattle.polis_words.specs.declared.status.Status.TheVariants.{ReadFault, Refused, NoMemory, Illegal}
 
 -- the status with which the call ends
 abbrev pub status_of : Cause → Status
@@ -20,7 +22,9 @@ status_of (Lex kind place) = Refused
 status_of (Syntax place) = Refused
 status_of (Rule rule place) = Refused
 status_of (Conflict text) = Refused
-status_of (Line line kind) = Refused
+status_of (TraceLine line kind) = Refused
+status_of (JournalLine line kind) = Refused
+status_of (Unlawful entry) = Illegal
 status_of Wanting = NoMemory
 
 -- the error of a text whose first token that doesn't read is of this kind, at this place
@@ -35,11 +39,22 @@ lex_cause (NameTooLong place) = Lex Name place
 lex_cause (NumberTooLarge place) = Lex Number place
 lex_cause WantingTokens = Wanting
 
-abbrev pub kind_word : TraceKind → List ℕ
-kind_word Shape = codes "shape"
-kind_word Event = codes "event"
-kind_word Value = codes "value"
-kind_word Many = codes "many"
+abbrev pub trace_word : TraceKind → List ℕ
+trace_word Shape = codes "shape"
+trace_word Event = codes "event"
+trace_word Value = codes "value"
+trace_word Many = codes "many"
+
+abbrev pub journal_word : JournalKind → List ℕ
+journal_word Header = codes "header"
+journal_word After = codes "after"
+journal_word End = codes "end"
+journal_word LineShape = codes "shape"
+journal_word ManyEntries = codes "many"
+journal_word Stamp = codes "stamp"
+journal_word ItemName = codes "name"
+journal_word ItemValue = codes "value"
+journal_word Count = codes "count"
 
 abbrev pub lex_word : LexKind → List ℕ
 lex_word Byte = codes "byte"
@@ -50,7 +65,7 @@ lex_word Number = codes "number"
 abbrev pub refused : List ℕ → List ℕ → List ℕ
 refused name why = codes "refused " ++ name ++ codes " " ++ why
 
--- the line of a file that isn't read or isn't accepted, without its end
+-- the line of a file that isn't read or isn't accepted, or whose journal isn't legal, without its end
 abbrev pub failure_line : List ℕ → Cause → List ℕ
 failure_line name Unread = codes "read fault " ++ name
 failure_line name Absent = refused name (codes "absent")
@@ -59,7 +74,9 @@ failure_line name (Lex kind place) = refused name (codes "lex " ++ lex_word kind
 failure_line name (Syntax place) = refused name (codes "syntax " ++ decimal place)
 failure_line name (Rule rule place) = refused name (codes "rule " ++ decimal rule ++ codes " " ++ decimal place)
 failure_line name (Conflict text) = refused name (codes "conflict " ++ text)
-failure_line name (Line line kind) = refused name (codes "line " ++ decimal line ++ codes " " ++ kind_word kind)
+failure_line name (TraceLine line kind) = refused name (codes "line " ++ decimal line ++ codes " " ++ trace_word kind)
+failure_line name (JournalLine line kind) = refused name (codes "line " ++ decimal line ++ codes " " ++ journal_word kind)
+failure_line name (Unlawful entry) = codes "illegal " ++ decimal entry
 failure_line name Wanting = codes "no memory"
 
 -- the line of a save that fails, with its end

@@ -1,14 +1,18 @@
 -- What a command line asks for.
 use Rattle.std.specs.Prelude.{ℕ, List}
 use Rattle.polis_words.specs.declared.requests.Request.{Request}
-use Rattle.polis_words.specs.declared.requests.Request.TheVariants.{Run, Check}
+use Rattle.polis_words.specs.declared.requests.Request.TheVariants.{Run, Check, Replay, Migrate}
 use Rattle.polis_words.specs.Run.{AsksRun}
 use Rattle.polis_words.specs.Check.{AsksCheck}
+use Rattle.polis_words.specs.Replay.{AsksReplay}
+use Rattle.polis_words.specs.Migrate.{AsksMigrate}
 
 -- the command line has the form of this request
 abbrev pub Asks : List (List ℕ) → Request → Type 0
 Asks words (Run run) = AsksRun words run
 Asks words (Check check) = AsksCheck words check
+Asks words (Replay replay) = AsksReplay words replay
+Asks words (Migrate migrate) = AsksMigrate words migrate
 
 -- the command line has no request's form
 abbrev pub AsksNothing : List (List ℕ) → Type 0

@@ -2,6 +2,7 @@
 ghost use Rattle.std.specs.Prelude.{◌≡◌};
 
 use crate::status::Status;
+use journal_text::JournalKind;
 use polis_base::{Bytes, LexError};
 use trace_text::TraceKind;
 
@@ -16,7 +17,7 @@ pub enum LexKind {
     Number,
 }
 
-/// Why a file isn't read or isn't accepted. A place is a byte's number in a text.
+/// Why a file isn't read or isn't accepted, or the journal in it isn't legal. A place is a byte's number in a text.
 #[derive(Drop)]
 pub enum Cause {
     /// The host's load failed.
@@ -34,12 +35,16 @@ pub enum Cause {
     /// Rows of a machine conflict: its name, the two rows, and the snapshot, as they are printed.
     Conflict { text: Bytes },
     /// A line of a trace doesn't read.
-    Line { line: u64, kind: TraceKind },
+    TraceLine { line: u64, kind: TraceKind },
+    /// A line of a journal doesn't read.
+    JournalLine { line: u64, kind: JournalKind },
+    /// A journal isn't legal up to an entry, or its stamps aren't rising up to there: the first such entry.
+    Illegal { entry: u64 },
     /// Out of memory.
     NoMemory,
 }
 
-/// A file that isn't read or isn't accepted, by the name that the command line gives it, and why.
+/// A file that isn't read or isn't accepted, or whose journal isn't legal, by the name that the command line gives it, and why.
 #[derive(Drop)]
 pub struct Failure<'a> {
     /// The file's name.
@@ -81,7 +86,9 @@ impl Cause {
             Cause::NoMemory => Status::NoMemory,
             Cause::Absent | Cause::TooLong => Status::Refused,
             Cause::Lex { .. } | Cause::Syntax { .. } | Cause::Rule { .. } => Status::Refused,
-            Cause::Conflict { .. } | Cause::Line { .. } => Status::Refused,
+            Cause::Conflict { .. } => Status::Refused,
+            Cause::TraceLine { .. } | Cause::JournalLine { .. } => Status::Refused,
+            Cause::Illegal { .. } => Status::Illegal,
         }
     }
 }

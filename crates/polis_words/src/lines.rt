@@ -1,14 +1,15 @@
 // The one line of a call that made no product, and that of a save that fails.
 ghost use Rattle.std.specs.Prelude.{◌≡◌, ◌++◌, decimal, [], ◌∷◌, codes, IfOk, OnOk};
-ghost use Rattle.polis_words.specs.Lines.{failure_line, kind_word, lex_word, refused, write_fault_line};
+ghost use Rattle.polis_words.specs.Lines.{failure_line, trace_word, journal_word, lex_word, refused, write_fault_line};
 
 use crate::cause::{Cause, Failure, LexKind};
+use journal_text::JournalKind;
 use polis_base::{Bytes, NoMemory};
 use std::alloc::Global;
 use trace_text::TraceKind;
 
-fn kind_text(kind: TraceKind) -> &'static [u8]
-    ensures { result.now ≡ kind_word kind }
+fn trace_kind(kind: TraceKind) -> &'static [u8]
+    ensures { result.now ≡ trace_word kind }
 {
     match kind {
         TraceKind::Shape => b"shape",
@@ -18,7 +19,23 @@ fn kind_text(kind: TraceKind) -> &'static [u8]
     }
 }
 
-fn lex_text(kind: LexKind) -> &'static [u8]
+fn journal_kind(kind: JournalKind) -> &'static [u8]
+    ensures { result.now ≡ journal_word kind }
+{
+    match kind {
+        JournalKind::Header => b"header",
+        JournalKind::After => b"after",
+        JournalKind::End => b"end",
+        JournalKind::Shape => b"shape",
+        JournalKind::Many => b"many",
+        JournalKind::Stamp => b"stamp",
+        JournalKind::Name => b"name",
+        JournalKind::Value => b"value",
+        JournalKind::Count => b"count",
+    }
+}
+
+fn lex_kind(kind: LexKind) -> &'static [u8]
     ensures { result.now ≡ lex_word kind }
 {
     match kind {
@@ -38,13 +55,13 @@ fn push_numbered(word: &[u8], number: u64, into: &mut Bytes) -> Result<(), NoMem
 }
 
 // Appends the number of a line and what is wrong with it.
-fn push_line(line: u64, kind: TraceKind, into: &mut Bytes) -> Result<(), NoMemory>
-    ensures { OnOk result (into.new ≡ into.old ++ codes "line " ++ decimal line ++ codes " " ++ kind_word kind) }
+fn push_line(line: u64, kind: &[u8], into: &mut Bytes) -> Result<(), NoMemory>
+    ensures { OnOk result (into.new ≡ into.old ++ codes "line " ++ decimal line ++ codes " " ++ kind.now) }
 {
     into.push(b"line ")?;
     into.push_decimal(line)?;
     into.push(b" ")?;
-    into.push(kind_text(kind))
+    into.push(kind)
 }
 
 // Appends what is wrong with the first token that doesn't read, and its place.
@@ -52,7 +69,7 @@ fn push_lex(kind: LexKind, place: u64, into: &mut Bytes) -> Result<(), NoMemory>
     ensures { OnOk result (into.new ≡ into.old ++ codes "lex " ++ lex_word kind ++ codes " " ++ decimal place) }
 {
     into.push(b"lex ")?;
-    push_numbered(lex_text(kind), place, into)
+    push_numbered(lex_kind(kind), place, into)
 }
 
 // Appends the number of the rule that is broken, and the place.
@@ -82,7 +99,7 @@ fn push_refused(name: &str, into: &mut Bytes) -> Result<(), NoMemory>
     into.push(b" ")
 }
 
-// Appends the line of a file that isn't accepted, without its end.
+// Appends the line of a file that isn't accepted, or whose journal isn't legal, without its end.
 fn push_refusal(name: &str, cause: &Cause, into: &mut Bytes) -> Result<(), NoMemory>
     ensures { OnOk result (into.new ≡ into.old ++ failure_line name.now cause.now) }
 {
@@ -91,6 +108,7 @@ fn push_refusal(name: &str, cause: &Cause, into: &mut Bytes) -> Result<(), NoMem
             into.push(b"read fault ")?;
             return into.push(name.as_bytes());
         }
+        Cause::Illegal { entry } => return push_numbered(b"illegal", *entry, into),
         Cause::NoMemory => return into.push(b"no memory"),
         _ => {}
     }
@@ -102,12 +120,13 @@ fn push_refusal(name: &str, cause: &Cause, into: &mut Bytes) -> Result<(), NoMem
         Cause::Syntax { place } => push_numbered(b"syntax", *place, into),
         Cause::Rule { rule, place } => push_rule(*rule, *place, into),
         Cause::Conflict { text } => push_conflict(text.as_slice(), into),
-        Cause::Line { line, kind } => push_line(*line, *kind, into),
+        Cause::TraceLine { line, kind } => push_line(*line, trace_kind(*kind), into),
+        Cause::JournalLine { line, kind } => push_line(*line, journal_kind(*kind), into),
         _ => Ok(()),
     }
 }
 
-/// The line of a file that isn't read or isn't accepted, with its end.
+/// The line of a file that isn't read or isn't accepted, or whose journal isn't legal, with its end.
 pub fn line_of(alloc: Global, failure: &Failure<'_>) -> Result<Bytes, NoMemory>
     ensures { IfOk result (λ line. line ≡ failure_line failure.now.name.now failure.now.cause ++ 10 ∷ []) }
 {

@@ -5,11 +5,17 @@ ghost use Rattle.polis_words.specs.Requests.{Asks, AsksNothing};
 
 mod checking;
 mod file_word;
+mod migrating;
+mod replaying;
 mod running;
 
 pub use checking::Check;
 use checking::check_of;
+pub use migrating::Migrate;
+use migrating::migrate_of;
 use polis_base::Words;
+pub use replaying::Replay;
+use replaying::replay_of;
 pub use running::Run;
 use running::run_of;
 
@@ -20,6 +26,10 @@ pub enum Request<'a> {
     Run(Run<'a>),
     /// To say whether a network is accepted.
     Check(Check<'a>),
+    /// To say whether a journal is legal.
+    Replay(Replay<'a>),
+    /// To save a legal journal with its least stamps.
+    Migrate(Migrate<'a>),
 }
 
 /// What the command line asks for, if it asks for anything.
@@ -33,7 +43,15 @@ pub fn judge(words: &Words) -> Option<Request<'_>>
         None => {}
     }
     match check_of(words) {
-        Some(check) => Some(Request::Check(check)),
+        Some(check) => return Some(Request::Check(check)),
+        None => {}
+    }
+    match replay_of(words) {
+        Some(replay) => return Some(Request::Replay(replay)),
+        None => {}
+    }
+    match migrate_of(words) {
+        Some(migrate) => Some(Request::Migrate(migrate)),
         None => None,
     }
 }

@@ -3,7 +3,7 @@
 /// The answer of a call. Its number is the status with which the program ends.
 #[derive(Clone, Copy, Debug, PartialEq, Eq)]
 pub enum Status {
-    /// The run was made and written, and its journal is complete.
+    /// What was asked for was made and written; the journal of a run is complete.
     Done = 0,
     /// The words are of no form.
     Usage = 1,
@@ -13,11 +13,11 @@ pub enum Status {
     Refused = 3,
     /// The run was made and written, and its journal ended at its limit of entries.
     Limit = 4,
-    /// A save failed, or the show of the summary.
+    /// A save failed, or the show of the summary or of the finding.
     WriteFault = 5,
     /// Out of memory.
     NoMemory = 6,
-    /// A journal that was read isn't legal. No command answers it yet.
+    /// A journal that was read isn't legal, or its stamps aren't rising.
     Illegal = 7,
     /// Two machines differ. No command answers it yet.
     Differ = 8,

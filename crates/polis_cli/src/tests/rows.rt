@@ -7,37 +7,37 @@ use crate::tests::{CHECK, Case, PRESS, PRESSED, PRESSED_SHOWN, RUN, try_cases};
 use polis_words::Status;
 use std::test::Fail;
 
-const BELT_JOURNAL: &str = "polis journal 1
-dep env belt key_on
-fire belt : key_on ; s=off -> s=wait ; start
-dep belt timer start
-fire timer : start ; n=10 -> n=0 ; -
-dep env timer tick
-fire timer : tick ; n=0 -> n=1 ; -
-dep env timer tick
-fire timer : tick ; n=1 -> n=2 ; -
-dep env timer tick
-fire timer : tick ; n=2 -> n=3 ; -
-dep env timer tick
-fire timer : tick ; n=3 -> n=4 ; -
-dep env timer tick
-fire timer : tick ; n=4 -> n=5 ; end5
-dep timer belt end5
-fire belt : end5 ; s=wait -> s=alarm ; alarm_on
-dep env timer tick
-fire timer : tick ; n=5 -> n=6 ; -
-dep env timer tick
-fire timer : tick ; n=6 -> n=7 ; -
-dep env timer tick
-fire timer : tick ; n=7 -> n=8 ; -
-dep env timer tick
-fire timer : tick ; n=8 -> n=9 ; -
-dep env timer tick
-fire timer : tick ; n=9 -> n=10 ; end10
-dep timer belt end10
-fire belt : end10 ; s=alarm -> s=off ; alarm_off
-dep env timer tick
-fire timer : tick ; n=10 -> - ; -
+const BELT_JOURNAL: &str = "polis journal 2
+@1 dep env belt key_on
+@2 fire belt : key_on ; s=off -> s=wait ; start
+@3 dep belt timer start
+@4 fire timer : start ; n=10 -> n=0 ; -
+@5 dep env timer tick
+@6 fire timer : tick ; n=0 -> n=1 ; -
+@7 dep env timer tick
+@8 fire timer : tick ; n=1 -> n=2 ; -
+@9 dep env timer tick
+@10 fire timer : tick ; n=2 -> n=3 ; -
+@11 dep env timer tick
+@12 fire timer : tick ; n=3 -> n=4 ; -
+@13 dep env timer tick
+@14 fire timer : tick ; n=4 -> n=5 ; end5
+@15 dep timer belt end5
+@16 fire belt : end5 ; s=wait -> s=alarm ; alarm_on
+@15 dep env timer tick
+@16 fire timer : tick ; n=5 -> n=6 ; -
+@17 dep env timer tick
+@18 fire timer : tick ; n=6 -> n=7 ; -
+@19 dep env timer tick
+@20 fire timer : tick ; n=7 -> n=8 ; -
+@21 dep env timer tick
+@22 fire timer : tick ; n=8 -> n=9 ; -
+@23 dep env timer tick
+@24 fire timer : tick ; n=9 -> n=10 ; end10
+@25 dep timer belt end10
+@26 fire belt : end10 ; s=alarm -> s=off ; alarm_off
+@25 dep env timer tick
+@26 fire timer : tick ; n=10 -> - ; -
 end 30 complete
 ";
 
@@ -46,23 +46,23 @@ tick\nsettle\ntick\nsettle\ntick\nsettle\ntick\nsettle\ntick\nsettle\ntick\nsett
 tick\nsettle\ntick\nsettle\ntick\nsettle\ntick\nsettle\ntick\nsettle
 ";
 
-const PONG_JOURNAL: &str = "polis journal 1
-dep env a go
-fire a : go ; - -> - ; p
-dep a b p
-fire b : p ; - -> - ; q
-dep b a q
-fire a : q ; - -> - ; p
-dep a b p
-fire b : p ; - -> - ; q
-dep b a q
-fire a : q ; - -> - ; p
+const PONG_JOURNAL: &str = "polis journal 2
+@1 dep env a go
+@2 fire a : go ; - -> - ; p
+@3 dep a b p
+@4 fire b : p ; - -> - ; q
+@5 dep b a q
+@6 fire a : q ; - -> - ; p
+@7 dep a b p
+@8 fire b : p ; - -> - ; q
+@9 dep b a q
+@10 fire a : q ; - -> - ; p
 end 10 limit
 ";
 
 // A run that is complete.
 fn run<'a>(
-    net: &'a str,
+    net: &'a [u8],
     trace: &'a str,
     shown: &'a str,
     outputs: &'a str,
@@ -79,7 +79,7 @@ fn run<'a>(
 }
 
 // A call that saves nothing and ends with Refused.
-fn refused<'a>(words: &'a [&'a str], net: &'a str, trace: &'a str, shown: &'a str) -> Case<'a> {
+fn refused<'a>(words: &'a [&'a str], net: &'a [u8], trace: &'a str, shown: &'a str) -> Case<'a> {
     Case {
         words,
         net: Some(net),
@@ -93,7 +93,7 @@ fn refused<'a>(words: &'a [&'a str], net: &'a str, trace: &'a str, shown: &'a st
 }
 
 // A network that is accepted.
-fn accepted<'a>(net: &'a str, shown: &'a str) -> Case<'a> {
+fn accepted<'a>(net: &'a [u8], shown: &'a str) -> Case<'a> {
     Case {
         status: Status::Done,
         ..refused(CHECK, net, "", shown)
@@ -112,14 +112,14 @@ fn runs_small_networks(rt: HostRuntime) -> Result<(), Fail> {
                 "",
                 "entries 0 complete\nlost 0\ngathered 0 adopted 0\n",
                 "",
-                "polis journal 1\nend 0 complete\n",
+                "polis journal 2\nend 0 complete\n",
             ),
             run(
                 LAMP,
                 "press\nsettle\npress\n",
                 "entries 4 complete\nlost 0\ngathered 0 adopted 0\n",
                 "light\n",
-                "polis journal 1\ndep env lamp_ctl press\nfire lamp_ctl : press ; s=off -> s=on ; light\ndep env lamp_ctl press\nidle lamp_ctl : press ; s=on\nend 4 complete\n",
+                "polis journal 2\n@1 dep env lamp_ctl press\n@2 fire lamp_ctl : press ; s=off -> s=on ; light\n@3 dep env lamp_ctl press\n@4 idle lamp_ctl : press ; s=on\nend 4 complete\n",
             ),
             run(LAMP_2, "press\n", PRESSED_SHOWN, "light\n", PRESSED),
             run(
@@ -127,42 +127,42 @@ fn runs_small_networks(rt: HostRuntime) -> Result<(), Fail> {
                 "a\na\nb\n",
                 "entries 4 complete\nlost 1\ngathered 0 adopted 0\n",
                 "c\n",
-                "polis journal 1\ndep env m a\ndep env m a\ndep env m b\nfire m : a b ; - -> - ; c\nend 4 complete\n",
+                "polis journal 2\n@1 dep env m a\n@2 dep env m a\n@3 dep env m b\n@4 fire m : a b ; - -> - ; c\nend 4 complete\n",
             ),
             run(
                 JOIN,
                 "a\nsettle\nb\n",
                 "entries 4 complete\nlost 0\ngathered 0 adopted 0\n",
                 "c\n",
-                "polis journal 1\ndep env m a\nidle m : a ; -\ndep env m b\nfire m : a b ; - -> - ; c\nend 4 complete\n",
+                "polis journal 2\n@1 dep env m a\n@2 idle m : a ; -\n@3 dep env m b\n@4 fire m : a b ; - -> - ; c\nend 4 complete\n",
             ),
             run(
                 VALUE,
                 "v 3\nv 5\n",
                 "entries 3 complete\nlost 1\ngathered 0 adopted 0\n",
                 "hit\n",
-                "polis journal 1\ndep env m v=3\ndep env m v=5\nfire m : v=5 ; - -> - ; hit\nend 3 complete\n",
+                "polis journal 2\n@1 dep env m v=3\n@2 dep env m v=5\n@3 fire m : v=5 ; - -> - ; hit\nend 3 complete\n",
             ),
             run(
                 TWO,
                 "x\n",
                 "entries 4 complete\nlost 0\ngathered 0 adopted 0\n",
                 "yb\nya\n",
-                "polis journal 1\ndep env a x\ndep env b x\nfire b : x ; - -> - ; yb\nfire a : x ; - -> - ; ya\nend 4 complete\n",
+                "polis journal 2\n@1 dep env a x\n@1 dep env b x\n@2 fire b : x ; - -> - ; yb\n@2 fire a : x ; - -> - ; ya\nend 4 complete\n",
             ),
             run(
                 EVEN,
                 "x\n",
                 "entries 4 complete\nlost 0\ngathered 0 adopted 0\n",
                 "ya\nyb\n",
-                "polis journal 1\ndep env a x\ndep env b x\nfire a : x ; - -> - ; ya\nfire b : x ; - -> - ; yb\nend 4 complete\n",
+                "polis journal 2\n@1 dep env a x\n@1 dep env b x\n@2 fire a : x ; - -> - ; ya\n@2 fire b : x ; - -> - ; yb\nend 4 complete\n",
             ),
             run(
                 LOOP,
                 "go\n",
                 "entries 6 complete\nlost 0\ngathered 0 adopted 0\n",
                 "",
-                "polis journal 1\ndep env m go\nfire m : go ; c=0 -> c=1 ; x\ndep m m x\nfire m : x ; c=1 -> c=2 ; x\ndep m m x\nfire m : x ; c=2 -> c=3 ; -\nend 6 complete\n",
+                "polis journal 2\n@1 dep env m go\n@2 fire m : go ; c=0 -> c=1 ; x\n@3 dep m m x\n@4 fire m : x ; c=1 -> c=2 ; x\n@5 dep m m x\n@6 fire m : x ; c=2 -> c=3 ; -\nend 6 complete\n",
             ),
             run(
                 BELT,
@@ -176,7 +176,7 @@ fn runs_small_networks(rt: HostRuntime) -> Result<(), Fail> {
                 "v 5\n",
                 "entries 2 complete\nlost 0\ngathered 0 adopted 0\n",
                 "w=5\n",
-                "polis journal 1\ndep env m v=5\nfire m : v=5 ; s=6 -> s=1 ; w=5\nend 2 complete\n",
+                "polis journal 2\n@1 dep env m v=5\n@2 fire m : v=5 ; s=6 -> s=1 ; w=5\nend 2 complete\n",
             ),
         ],
     )
@@ -196,7 +196,7 @@ fn ends_at_the_limit(rt: HostRuntime) -> Result<(), Fail> {
             "press\n",
             "entries 1 limit\nlost 0\ngathered 0 adopted 0\n",
             "",
-            "polis journal 1\ndep env lamp_ctl press\nend 1 limit\n",
+            "polis journal 2\n@1 dep env lamp_ctl press\nend 1 limit\n",
         )
     };
     let endless = Case {
@@ -259,22 +259,27 @@ fn checks_networks(rt: HostRuntime) -> Result<(), Fail> {
             refused(CHECK, ABSENT_VALUE, "", "refused net rule 22 150\n"),
             refused(CHECK, ECHO_1, "", "refused net syntax 162\n"),
             refused(CHECK, OPEN_ROW, "", "refused net syntax 77\n"),
-            refused(CHECK, "network %", "", "refused net lex byte 8\n"),
             refused(
                 CHECK,
-                "network abcdefghijklmnopqrstuvwxy",
+                "network %".as_bytes(),
+                "",
+                "refused net lex byte 8\n",
+            ),
+            refused(
+                CHECK,
+                "network abcdefghijklmnopqrstuvwxy".as_bytes(),
                 "",
                 "refused net lex name 8\n",
             ),
             refused(
                 CHECK,
-                "network t version 4294967296",
+                "network t version 4294967296".as_bytes(),
                 "",
                 "refused net lex number 18\n",
             ),
             refused(
                 RUN,
-                "network t network %",
+                "network t network %".as_bytes(),
                 "press\n",
                 "refused net lex byte 18\n",
             ),

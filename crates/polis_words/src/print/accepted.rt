@@ -5,7 +5,7 @@ ghost use Rattle.transition_table.specs.NetworkFacts.{has_vars};
 ghost use Rattle.transition_table.specs.Transitions.{IsSnapshot};
 ghost use Rattle.polis_words.specs.Texts.{accepted_text, machine_line, conflict_text};
 
-use crate::items::push_snapshot;
+use journal_text::push_snapshot;
 use polis_base::{Bytes, NoMemory};
 use std::alloc::Global;
 use transition_table::{Machine, Network, Snapshot};

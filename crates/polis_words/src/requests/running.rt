@@ -19,11 +19,14 @@ pub struct Run<'a> {
 }
 
 impl<'a> Model for Run<'a> {
-    ghost use Rattle.polis_words.specs.Run.{RunWords};
+    ghost use Rattle.std.specs.Prelude.{◌≤◌};
+    ghost use Rattle.polis_words.specs.Run.{RunWords, entry_max};
 
     ghost Value = { RunWords };
 
     ghost view = { λ r. record { net = r.net.now; trace = r.trace.now; stem = r.stem.now; limit = r.limit } };
+
+    ghost invariant = { λ r. r.limit ≤ entry_max };
 }
 
 impl<'a> Run<'a> {
@@ -50,7 +53,8 @@ impl<'a> Run<'a> {
 
     /// The most entries that the journal may have.
     pub fn limit(&self) -> u64
-        ensures { result ≡ self.now.limit }
+        ensures is { result ≡ self.now.limit }
+        ensures few { result ≤ entry_max }
     {
         self.limit
     }
@@ -83,6 +87,7 @@ fn read_limit(word: &str) -> Option<u64>
 fn limit_of(words: &Words) -> Option<u64>
     requires { 4 ≤ length words.now }
     ensures some { IfSome result (λ n. AsksLimit (drop 4 words.now) n) }
+    ensures few { IfSome result (λ n. n ≤ entry_max) }
     ensures none { IfNone result ((n : ℕ) → ¬ AsksLimit (drop 4 words.now) n) }
 {
     if words.len() == 4 {

@@ -1,6 +1,6 @@
 use Rattle.std.proofs.Common.{length, refl, arith}
 use Rattle.std.proofs.lemmas.Option.{slice_get_read}
-use Rattle.polis_cli.proofs.Inputs.{before_next, all_before, first_fault}
+use Rattle.polis_cli.proofs.Reading.{before_next, all_before, first_fault}
 use Rattle.polis_cli.proofs.accept.check_machines.Goals as goal
 
 pub returns-in-Err-clause-failed : goal.returns-in-Err-clause-failed

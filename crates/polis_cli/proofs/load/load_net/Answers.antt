@@ -1,4 +1,4 @@
-use Rattle.polis_cli.proofs.Inputs.{one_net, net_held, net_faulty}
+use Rattle.polis_cli.proofs.Reading.{one_net, net_held, net_faulty}
 use Rattle.polis_cli.proofs.load.load_net.Goals as goal
 
 pub returns-in-Ok-network_in-clause-held : goal.returns-in-Ok-network_in-clause-held

@@ -1,12 +1,19 @@
+use Rattle.std.proofs.Common.{arith}
 use Rattle.polis_cli.proofs.Running.{ends_at, saves_are}
 use Rattle.polis_cli.proofs.run.run_product.Goals as goal
+
+pub stamped_text-requires-clause-few : goal.stamped_text-requires-clause-few
+stamped_text-requires-clause-few c =
+    let within = c.in_ok-finished.ensures.within in
+    let few = c.limit.ensures.few in
+    omega (arith, within, few)
 
 pub returns : goal.returns
 returns c =
     let net = c.args.inputs.now.net in
     let trace = c.args.inputs.now.trace in
     let limit = c.args.run.now.limit in
-    let finished = rw c.limit.ensures at c.in_ok-finished.ensures in
+    let finished = rw c.limit.ensures.is at c.in_ok-finished.ensures in
     let journal = c.in_ok-finished.finished.journal in
     let complete = c.in_ok-finished.finished.complete in
     record {

@@ -15,15 +15,3 @@ returns-clause-outputs c = refl
 pub returns-clause-summary : goal.returns-clause-summary
 unfolding digits
 returns-clause-summary c = refl
-
-pub returns-clause-join_journal : goal.returns-clause-join_journal
-unfolding digits
-returns-clause-join_journal c = refl
-
-pub returns-clause-value_journal : goal.returns-clause-value_journal
-unfolding digits
-returns-clause-value_journal c = refl
-
-pub returns-clause-loop_journal : goal.returns-clause-loop_journal
-unfolding digits
-returns-clause-loop_journal c = refl

@@ -1,0 +1,5 @@
+use Rattle.polis_cli.proofs.Determined.{one_journal}
+use Rattle.polis_cli.proofs.law.laws.Goals as goal
+
+pub returns : goal.returns
+returns c = one_journal c.laws.ensures.one_stamped_journal c.stamp_laws.ensures.least_rises

@@ -1,0 +1,58 @@
+// The network and the trace that a run or a replay is of.
+ghost use Rattle.std.specs.Prelude.{◌≡◌, ◌≢◌, IfOk, IfErr, OnOk};
+ghost use Rattle.polis_base.specs.Host.{Rose, WhereTold};
+ghost use Rattle.journals.specs.Journals.{IsTrace};
+ghost use Rattle.transition_table.specs.Transitions.{AreDeterministic};
+ghost use Rattle.transition_table.specs.declared.network.Network.{Network};
+ghost use Rattle.polis_words.specs.declared.cause.Cause.{Cause};
+ghost use Rattle.polis_cli.specs.Inputs.{HoldsNet, HoldsTrace, InputsFail};
+
+use crate::load::{load_net, load_trace};
+use net_core::Trace;
+use polis_base::Host;
+use polis_words::Failure;
+use std::alloc::Global;
+use transition_table::Network;
+
+/// What a network text and a trace text say.
+#[derive(Drop)]
+pub struct Inputs {
+    /// Each machine of it is deterministic.
+    pub net: Network,
+    /// It fits the network.
+    pub trace: Trace,
+}
+
+/// Loads and reads the network, and then the trace.
+pub fn load_inputs<'a, H: Host>(
+    alloc: Global,
+    host: &mut H,
+    net_name: &'a str,
+    trace_name: &'a str,
+) -> Result<Inputs, Failure<'a>>
+    ensures held { IfOk result (λ inputs. WhereTold (H.files host.old) (λ files. HoldsNet files net_name.now inputs.net × HoldsTrace files trace_name.now inputs.net inputs.trace)) }
+    ensures one { IfOk result (λ inputs. WhereTold (H.files host.old) (λ files. (other : Network) → HoldsNet files net_name.now other → other ≡ inputs.net)) }
+    ensures fits { IfOk result (λ inputs. IsTrace inputs.net inputs.trace × AreDeterministic inputs.net) }
+    ensures failed { IfErr result (λ failure. WhereTold (H.files host.old) (λ files. InputsFail files net_name.now trace_name.now failure.name.now failure.cause)) }
+    ensures ok_faults { OnOk result (H.load_faults host.new ≡ H.load_faults host.old) }
+    ensures fault { IfErr result (λ failure. failure.cause ≡ Cause.ReadFault → Rose (H.load_faults host.old) (H.load_faults host.new)) }
+    ensures no_fault { IfErr result (λ failure. failure.cause ≢ Cause.ReadFault → H.load_faults host.new ≡ H.load_faults host.old) }
+    ensures files { H.files host.new ≡ H.files host.old }
+    ensures shown { H.shown host.new ≡ H.shown host.old }
+    ensures write_faults { H.write_faults host.new ≡ H.write_faults host.old }
+{
+    let net = match load_net(alloc, host, net_name) {
+        Ok(net) => net,
+        Err(cause) => return Err(Failure {
+            name: net_name,
+            cause,
+        }),
+    };
+    match load_trace(alloc, host, &net, trace_name) {
+        Ok(trace) => Ok(Inputs { net, trace }),
+        Err(cause) => Err(Failure {
+            name: trace_name,
+            cause,
+        }),
+    }
+}

@@ -1,0 +1,122 @@
+// The command `replay`: whether a journal is legal.
+ghost use Rattle.std.specs.Prelude.{◌≡◌, ◌≢◌, ◌≤◌, length, IfOk, IfErr, IfSome, OnOk};
+ghost use Rattle.polis_base.specs.Host.{Rose, WhereTold};
+ghost use Rattle.journals.specs.Journals.{IsTrace, IsJournal};
+ghost use Rattle.journals.specs.Legality.{Legal};
+ghost use Rattle.journal_text.specs.Texts.{AreStamps};
+ghost use Rattle.transition_table.specs.Transitions.{AreDeterministic};
+ghost use Rattle.polis_words.specs.declared.cause.Cause.{Cause};
+ghost use Rattle.polis_cli.specs.Writing.{IsWell};
+ghost use Rattle.polis_cli.specs.Replays.{IsJudged, IsFound, MakesReplay, FailsReplay};
+
+use crate::inputs::{Inputs, load_inputs};
+use crate::load::load_journal;
+use crate::product::Product;
+use journal_replay::{Verdict, replay, replay_stamped};
+use journal_text::ReadJournal;
+use polis_base::{Host, List, NoMemory};
+use polis_words::{Cause, Failure, Replay, Status, print_legal};
+use std::alloc::Global;
+use transition_table::TableReactor;
+
+/// A journal that is legal, with stamps that are rising where it has any.
+#[derive(Drop)]
+pub struct Judged {
+    /// What it is of.
+    pub inputs: Inputs,
+    /// What its text says.
+    pub read: ReadJournal,
+    /// Whether it is complete.
+    pub complete: bool,
+}
+
+// What is found of a journal that was read.
+fn find(alloc: Global, inputs: &Inputs, read: &ReadJournal) -> Result<Verdict, NoMemory>
+    requires trace { IsTrace inputs.now.net inputs.now.trace }
+    requires deterministic { AreDeterministic inputs.now.net }
+    requires fits { IsJournal inputs.now.net read.now.journal }
+    requires stamps { IfSome read.now.stamps (AreStamps read.now.journal) }
+    ensures { IfOk result (λ verdict. IsFound inputs.now.net inputs.now.trace read.now.journal read.now.stamps verdict) }
+{
+    let reactor = TableReactor::new(&inputs.net);
+    match &read.stamps {
+        Some(stamps) => replay_stamped(alloc, &reactor, &inputs.trace, &read.journal, stamps),
+        None => replay(alloc, &reactor, &inputs.trace, &read.journal),
+    }
+}
+
+/// Loads and reads the network, the trace and the journal, and judges the journal.
+pub fn judge_journal<'a, H: Host>(
+    alloc: Global,
+    host: &mut H,
+    asked: &'a Replay<'_>,
+) -> Result<Judged, Failure<'a>>
+    ensures judged { IfOk result (λ judged. WhereTold (H.files host.old) (λ files. IsJudged asked.now files judged.inputs.net judged.inputs.trace judged.read.journal judged.complete)) }
+    ensures legal { IfOk result (λ judged. Legal judged.inputs.net judged.inputs.trace judged.read.journal) }
+    ensures few { IfOk result (λ judged. length judged.read.journal ≤ 60000) }
+    ensures failed { IfErr result (λ failure. WhereTold (H.files host.old) (λ files. FailsReplay asked.now files failure.name.now failure.cause)) }
+    ensures ok_faults { OnOk result (H.load_faults host.new ≡ H.load_faults host.old) }
+    ensures fault { IfErr result (λ failure. failure.cause ≡ Cause.ReadFault → Rose (H.load_faults host.old) (H.load_faults host.new)) }
+    ensures no_fault { IfErr result (λ failure. failure.cause ≢ Cause.ReadFault → H.load_faults host.new ≡ H.load_faults host.old) }
+    ensures files { H.files host.new ≡ H.files host.old }
+    ensures shown { H.shown host.new ≡ H.shown host.old }
+    ensures write_faults { H.write_faults host.new ≡ H.write_faults host.old }
+{
+    let inputs = match load_inputs(alloc, host, asked.net(), asked.trace()) {
+        Ok(inputs) => inputs,
+        Err(failure) => return Err(failure),
+    };
+    let name = asked.journal();
+    let read = match load_journal(alloc, host, &inputs.net, name) {
+        Ok(read) => read,
+        Err(cause) => return Err(Failure { name, cause }),
+    };
+    match find(alloc, &inputs, &read) {
+        Ok(Verdict::Legal { complete }) => Ok(Judged {
+            inputs,
+            read,
+            complete,
+        }),
+        Ok(Verdict::Illegal { entry }) => Err(Failure {
+            name,
+            cause: Cause::Illegal { entry },
+        }),
+        Err(NoMemory) => Err(Failure {
+            name,
+            cause: Cause::NoMemory,
+        }),
+    }
+}
+
+/// What a replay makes of the files.
+pub fn make_replay<'a, H: Host>(
+    alloc: Global,
+    host: &mut H,
+    asked: &'a Replay<'_>,
+) -> Result<Product, Failure<'a>>
+    ensures made { IfOk result (λ product. WhereTold (H.files host.old) (λ files. MakesReplay asked.now files product)) }
+    ensures well { IfOk result (λ product. IsWell product) }
+    ensures failed { IfErr result (λ failure. WhereTold (H.files host.old) (λ files. FailsReplay asked.now files failure.name.now failure.cause)) }
+    ensures ok_faults { OnOk result (H.load_faults host.new ≡ H.load_faults host.old) }
+    ensures fault { IfErr result (λ failure. failure.cause ≡ Cause.ReadFault → Rose (H.load_faults host.old) (H.load_faults host.new)) }
+    ensures no_fault { IfErr result (λ failure. failure.cause ≢ Cause.ReadFault → H.load_faults host.new ≡ H.load_faults host.old) }
+    ensures files { H.files host.new ≡ H.files host.old }
+    ensures shown { H.shown host.new ≡ H.shown host.old }
+    ensures write_faults { H.write_faults host.new ≡ H.write_faults host.old }
+{
+    let judged = match judge_journal(alloc, host, asked) {
+        Ok(judged) => judged,
+        Err(failure) => return Err(failure),
+    };
+    match print_legal(alloc, judged.read.journal.len(), judged.complete) {
+        Ok(shown) => Ok(Product {
+            saves: List::new(alloc),
+            shown,
+            status: Status::Done,
+        }),
+        Err(NoMemory) => Err(Failure {
+            name: asked.net(),
+            cause: Cause::NoMemory,
+        }),
+    }
+}

@@ -1,0 +1,28 @@
+// What is shown of a legal journal.
+ghost use Rattle.std.specs.Prelude.{◌≡◌, IfOk};
+ghost use Rattle.polis_words.specs.Texts.{legal_text, migrated_text};
+
+use polis_base::{Bytes, NoMemory};
+use std::alloc::Global;
+
+/// What `replay` shows of a legal journal of so many entries.
+pub fn print_legal(alloc: Global, entries: u64, complete: bool) -> Result<Bytes, NoMemory>
+    ensures { IfOk result (λ text. text ≡ legal_text entries complete) }
+{
+    let mut text = Bytes::new(alloc);
+    text.push(b"legal ")?;
+    text.push_decimal(entries)?;
+    text.push(if complete { b" complete\n" } else { b" open\n" })?;
+    Ok(text)
+}
+
+/// What `migrate` shows of a legal journal of so many entries.
+pub fn print_migrated(alloc: Global, entries: u64) -> Result<Bytes, NoMemory>
+    ensures { IfOk result (λ text. text ≡ migrated_text entries) }
+{
+    let mut text = Bytes::new(alloc);
+    text.push(b"migrated ")?;
+    text.push_decimal(entries)?;
+    text.push(b"\n")?;
+    Ok(text)
+}

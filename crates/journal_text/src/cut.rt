@@ -4,6 +4,28 @@ ghost use Rattle.std.specs.List.{list_all};
 ghost use Rattle.journal_text.specs.Forms.{pieces, is_word_byte, is_word, is_sign, words_of, list_of, dash};
 ghost use Rattle.domains.specs.Names.{is_same};
 ghost use Rattle.journal_text.specs.Cursors.{lacks, left, items_in, CutAt, NoCut};
+ghost use Rattle.memchr.specs.Find.{IsFirstByte, is_byte};
+
+use memchr::memchr;
+
+// How many bytes are looked at one by one: most words are no longer.
+const NEAR: usize = 16;
+
+// The place of the first such byte.
+fn first_place(text: &[u8], mark: u8) -> Option<usize>
+    ensures { IsFirstByte (is_byte mark) text.now result }
+{
+    let near = text.len().min(NEAR);
+    for k in 0..near {
+        if text[k] == mark {
+            return Some(k);
+        }
+    }
+    match memchr(mark, &text[near..]) {
+        Some(k) => Some(near + k),
+        None => None,
+    }
+}
 
 /// The first piece of a text, and what stands after the mark that ends it, where one does.
 pub fn next_piece(text: &[u8], mark: u8) -> (&[u8], Option<&[u8]>)
@@ -13,12 +35,10 @@ pub fn next_piece(text: &[u8], mark: u8) -> (&[u8], Option<&[u8]>)
     ensures prefix { pieces mark text.now ≡ result.0.now ∷ left mark (option_copied result.1) }
     ensures shorter { IfSome result.1 (λ r. length r.now < length text.now) }
 {
-    for k in 0..text.len() {
-        if text[k] == mark {
-            return (&text[..k], Some(&text[k + 1..]));
-        }
+    match first_place(text, mark) {
+        Some(k) => (&text[..k], Some(&text[k + 1..])),
+        None => (text, None),
     }
-    (text, None)
 }
 
 fn is_a_word_byte(byte: u8) -> bool

@@ -1,11 +1,10 @@
 -- The texts that a run saves determine its journal.
-use Rattle.std.proofs.Common.{◌≡◌, ◌≤◌, ℕ, List, [], ◌∷◌, sym, ap, ◌∙◌, IsTrue, arith}
+use Rattle.std.proofs.Common.{◌≡◌, ◌≤◌, ℕ, List, [], ◌∷◌, sym, ap, ◌∙◌, arith}
 use Rattle.transition_table.specs.declared.network.Network.{Network}
 use Rattle.journals.specs.declared.entry.TraceItem.{TraceItem}
 use Rattle.journals.specs.Stamps.{least}
 use Rattle.journals.specs.StampLaws.{LeastIsRising}
 use Rattle.journal_text.specs.Texts.{stamped_journal_text, AreStamps}
-use Rattle.journal_text.specs.Holding.{names_hold}
 use Rattle.journal_text.specs.Laws.{OneStampedJournal, Prints}
 use Rattle.polis_words.specs.Run.{RunWords, entry_max}
 use Rattle.polis_cli.specs.declared.product.Product.{Product}
@@ -19,17 +18,17 @@ second_text [] = []
 second_text (save ∷ []) = []
 second_text (save ∷ next ∷ saves) = next.text
 
-prints : (run : RunWords) (net : Network) (trace : List TraceItem) (p : Product) (a : IsRunProduct run net trace p) → IsTrue (names_hold net) → run.limit ≤ entry_max → Prints net a.journal
-prints run net trace p a names few = let within = a.within in (names, a.legal.0, omega (arith, within, few))
+prints : (run : RunWords) (net : Network) (trace : List TraceItem) (p : Product) (a : IsRunProduct run net trace p) → run.limit ≤ entry_max → Prints net a.journal
+prints run net trace p a few = let within = a.within in (a.named, a.legal.0, omega (arith, within, few))
 
 has_stamps : LeastIsRising → (run : RunWords) (net : Network) (trace : List TraceItem) (p : Product) (a : IsRunProduct run net trace p) → run.limit ≤ entry_max → AreStamps a.journal (least net a.journal)
 has_stamps rises run net trace p a few = let within = a.within in rising_stamps net a.journal (least net a.journal) (rises net a.journal (omega (arith, within, few)))
 
 pub one_journal : OneStampedJournal → LeastIsRising → SavesDetermineJournal
 unfolding second_text
-one_journal one rises = λ run net trace p q a b names few same.
+one_journal one rises = λ run net trace p q a b few same.
     let texts : stamped_journal_text net a.journal (least net a.journal) a.complete ≡ stamped_journal_text net b.journal (least net b.journal) b.complete =
     ap second_text (sym a.saves ∙ same ∙ b.saves) in
-    let found = one net a.journal b.journal (least net a.journal) (least net b.journal) a.complete b.complete (prints run net trace p a names few) (prints run net trace q b names few)
+    let found = one net a.journal b.journal (least net a.journal) (least net b.journal) a.complete b.complete (prints run net trace p a few) (prints run net trace q b few)
     (has_stamps rises run net trace p a few) (has_stamps rises run net trace q b few) texts in
     (found.0, found.2)

@@ -52,6 +52,7 @@ lamp_made net one run = record {
   made = record {
     journal = lamp_run;
     complete = true;
+    named = refl;
     within = lit≤ tt;
     legal = run.legal;
     scheduled = record { follows = run.follows; whole = inr (lit< tt, run.stops) };

@@ -31,10 +31,12 @@ run_saves run net journal complete =
     ∷ record { name = journal_name run; text = stamped_journal_text net journal (least net journal) complete } ∷ []
 
 -- The product's journal is what the scheduler makes of the network and the trace within the limit: a legal run of the network
--- on the trace. The product is that journal's outputs, its text with its least stamps, and its summary.
+-- on the trace. The product is that journal's outputs, its text with its least stamps, and its summary. The names of the network are such that
+-- this text reads back, so the product's texts determine the journal.
 pub record IsRunProduct (run : RunWords) (net : Network) (trace : List TraceItem) (product : Product) : Type 0 where
   pub journal : List Entry
   pub complete : Bool
+  pub named : IsTrue (names_hold net)
   pub within : length journal ≤ run.limit
   pub legal : Legal net trace journal
   pub scheduled : IsSchedule net trace run.limit journal
@@ -81,4 +83,4 @@ end_status false = Limit
 abbrev pub SavesDetermineJournal : Type 0
 SavesDetermineJournal =
     (run : RunWords) (net : Network) (trace : List TraceItem) (p q : Product) (a : IsRunProduct run net trace p) (b : IsRunProduct run net trace q)
-    → IsTrue (names_hold net) → run.limit ≤ entry_max → p.saves ≡ q.saves → (a.journal ≡ b.journal) × (a.complete ≡ b.complete)
+    → run.limit ≤ entry_max → p.saves ≡ q.saves → (a.journal ≡ b.journal) × (a.complete ≡ b.complete)

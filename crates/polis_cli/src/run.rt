@@ -10,7 +10,7 @@ ghost use Rattle.polis_cli.specs.Runs.{IsFinished, IsRunProduct, MakesRun, Fails
 use crate::inputs::{Inputs, load_inputs};
 use crate::product::{Product, Saving};
 use crate::stamp::stamped_text;
-use journal_text::print_outputs;
+use journal_text::{keep_names, print_outputs};
 use net_core::{Journal, laws};
 use polis_base::{Host, List, NoMemory};
 use polis_words::{Cause, Failure, Run, Status, print_summary};
@@ -59,6 +59,7 @@ fn run_product(alloc: Global, run: &Run<'_>, inputs: &Inputs) -> Result<Product,
 {
     let finished = finish(alloc, inputs, run.limit())?;
     let net = &inputs.net;
+    keep_names(net);
     let outputs = print_outputs(alloc, net, &finished.journal)?;
     let journal = stamped_text(alloc, inputs, &finished.journal, finished.complete)?;
     let shown = print_summary(alloc, net, &finished.journal, finished.complete, 0, 0)?;

@@ -1,20 +1,32 @@
-use Rattle.std.proofs.Common.{arith}
-use Rattle.journal_text.proofs.Cutting.{prefix_lacks, whole_lacks, cut_slice}
+use Rattle.std.proofs.Common.{◌∙◌, ap, arith, length}
+use Rattle.std.proofs.lemmas.Bool.{eqb-true}
+use Rattle.journal_text.proofs.Cutting.{none_before, prefix_lacks, whole_lacks, cut_slice}
 use Rattle.journal_text.proofs.Pieces.{pieces_at, pieces_end}
-use Rattle.std.proofs.Common.{◌∙◌, ap}
 use Rattle.journal_text.specs.Forms.{pieces}
 use Rattle.journal_text.proofs.cut.next_piece.Goals as goal
 
-pub returns-then-text-k-clause-piece : goal.returns-then-text-k-clause-piece
-returns-then-text-k-clause-piece c = prefix_lacks c.args.mark c.args.text.now c.loop-k.k c.loop-k.invariant (omega arith)
+pub returns-in-Some-clause-piece : goal.returns-in-Some-clause-piece
+returns-in-Some-clause-piece c =
+    let found = c.in-Some.ensures in
+    let none = none_before c.args.mark c.args.text.now c.in-Some.k found.0.before in
+    prefix_lacks c.args.mark c.args.text.now c.in-Some.k none (omega (arith, found.0.high))
 
-pub returns-then-text-k-clause-prefix : goal.returns-then-text-k-clause-prefix
-returns-then-text-k-clause-prefix c =
-    let free = prefix_lacks c.args.mark c.args.text.now c.loop-k.k c.loop-k.invariant (omega arith) in
-    ap (pieces c.args.mark) (cut_slice c.args.mark c.args.text.now c.loop-k.k c.loop-k-test.true c.if-text-k.true) ∙ pieces_at c.args.mark _ _ free
+pub returns-in-Some-clause-prefix : goal.returns-in-Some-clause-prefix
+returns-in-Some-clause-prefix c =
+    let found = c.in-Some.ensures in
+    let below = found.0.high in
+    let none = none_before c.args.mark c.args.text.now c.in-Some.k found.0.before in
+    let free = prefix_lacks c.args.mark c.args.text.now c.in-Some.k none (omega (arith, below)) in
+    ap (pieces c.args.mark) (cut_slice c.args.mark c.args.text.now c.in-Some.k below (eqb-true _ _ found.1))
+    ∙ pieces_at c.args.mark _ _ free
 
-pub returns-clause-piece : goal.returns-clause-piece
-returns-clause-piece c = whole_lacks c.args.mark c.args.text.now c.loop-k.k (omega arith) c.loop-k.invariant
+pub returns-in-None-clause-piece : goal.returns-in-None-clause-piece
+returns-in-None-clause-piece c =
+    let none = none_before c.args.mark c.args.text.now (length c.args.text.now) c.in-None.ensures in
+    whole_lacks c.args.mark c.args.text.now (length c.args.text.now) (omega arith) none
 
-pub returns-clause-prefix : goal.returns-clause-prefix
-returns-clause-prefix c = pieces_end c.args.mark c.args.text.now (whole_lacks c.args.mark c.args.text.now c.loop-k.k (omega arith) c.loop-k.invariant)
+pub returns-in-None-clause-prefix : goal.returns-in-None-clause-prefix
+returns-in-None-clause-prefix c =
+    let none = none_before c.args.mark c.args.text.now (length c.args.text.now) c.in-None.ensures in
+    pieces_end c.args.mark c.args.text.now
+    (whole_lacks c.args.mark c.args.text.now (length c.args.text.now) (omega arith) none)

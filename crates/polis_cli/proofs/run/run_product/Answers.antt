@@ -19,6 +19,7 @@ returns c =
     record {
       journal = journal;
       complete = complete;
+      named = c.keep_names.ensures;
       within = finished.within;
       legal = finished.legal;
       scheduled = finished.scheduled;

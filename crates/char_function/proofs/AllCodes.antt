@@ -6,14 +6,16 @@ use Rattle.polis_base.specs.Lists.{upto}
 use Rattle.domains.specs.Tables.{fits}
 use Rattle.domains.specs.AllCodes.{each_after, all_codes}
 
-pub all_parts : {X : Type 0} (p : X → Bool) (xs ys : List X) → list_all p (xs ++ ys) ≡ true → (list_all p xs ≡ true) × (list_all p ys ≡ true)
+pub all_parts : {X : Type 0} (p : X → Bool) (xs ys : List X) → list_all p (xs ++ ys) ≡ true
+    → (list_all p xs ≡ true) × (list_all p ys ≡ true)
 all_parts p [] ys h = (refl, h)
 all_parts p (x ∷ xs) ys h =
     let parts = and_parts (p x) (list_all p (xs ++ ys)) h in
     let rest = all_parts p xs ys parts.1 in
     (and_from (p x) (list_all p xs) parts.0 rest.0, rest.1)
 
-pub all_append : {X : Type 0} (p : X → Bool) (xs ys : List X) → list_all p xs ≡ true → list_all p ys ≡ true → list_all p (xs ++ ys) ≡ true
+pub all_append : {X : Type 0} (p : X → Bool) (xs ys : List X) → list_all p xs ≡ true
+    → list_all p ys ≡ true → list_all p (xs ++ ys) ≡ true
 all_append p [] ys front back = back
 all_append p (x ∷ xs) ys front back =
     let parts = and_parts (p x) (list_all p xs) front in
@@ -31,34 +33,43 @@ all_upto p (suc n) h k low =
 
 pub upto_all : (p : ℕ → Bool) (n : ℕ) → ((k : ℕ) → k < n → p k ≡ true) → list_all p (upto n) ≡ true
 upto_all p zero h = refl
-upto_all p (suc n) h = all_append p (upto n) (n ∷ []) (upto_all p n (λ k low. h k (omega arith))) (and_from (p n) true (h n (omega arith)) refl)
+upto_all p (suc n) h =
+    all_append p (upto n) (n ∷ []) (upto_all p n (λ k low. h k (omega arith)))
+    (and_from (p n) true (h n (omega arith)) refl)
 
 -- a map
-pub all_map : {X Y : Type 0} (p : Y → Bool) (f : X → Y) (xs : List X) → list_all p (map f xs) ≡ list_all (λ x. p (f x)) xs
+pub all_map : {X Y : Type 0} (p : Y → Bool) (f : X → Y) (xs : List X)
+    → list_all p (map f xs) ≡ list_all (λ x. p (f x)) xs
 all_map p f [] = refl
 all_map p f (x ∷ xs) = ap (λ (b : Bool). p (f x) && b) (all_map p f xs)
 
 -- lists joined
-pub all_flat : {X Y : Type 0} (p : Y → Bool) (f : X → List Y) (xs : List X) → list_all p (flat_map f xs) ≡ list_all (λ x. list_all p (f x)) xs
+pub all_flat : {X Y : Type 0} (p : Y → Bool) (f : X → List Y) (xs : List X)
+    → list_all p (flat_map f xs) ≡ list_all (λ x. list_all p (f x)) xs
 all_flat p f [] = refl
-all_flat p f (x ∷ xs) = all_both p (f x) (flat_map f xs) ∙ ap (λ (b : Bool). list_all p (f x) && b) (all_flat p f xs)
+all_flat p f (x ∷ xs) = all_both p (f x) (flat_map f xs)
+    ∙ ap (λ (b : Bool). list_all p (f x) && b) (all_flat p f xs)
   where
     and_assoc : (a b c : Bool) → (a && (b && c)) ≡ ((a && b) && c)
     and_assoc true b c = refl
     and_assoc false b c = refl
 
-    all_both : {Y : Type 0} (p : Y → Bool) (ys zs : List Y) → list_all p (ys ++ zs) ≡ (list_all p ys && list_all p zs)
+    all_both : {Y : Type 0} (p : Y → Bool) (ys zs : List Y)
+        → list_all p (ys ++ zs) ≡ (list_all p ys && list_all p zs)
     all_both p [] zs = refl
-    all_both p (y ∷ ys) zs = ap (λ (b : Bool). p y && b) (all_both p ys zs) ∙ and_assoc (p y) (list_all p ys) (list_all p zs)
+    all_both p (y ∷ ys) zs = ap (λ (b : Bool). p y && b) (all_both p ys zs)
+        ∙ and_assoc (p y) (list_all p ys) (list_all p zs)
 
-pub lists_all : (sizes : List ℕ) (p : List ℕ → Bool) → list_all p (all_codes sizes) ≡ true → (codes : List ℕ) → fits sizes codes ≡ true → p codes ≡ true
+pub lists_all : (sizes : List ℕ) (p : List ℕ → Bool) → list_all p (all_codes sizes) ≡ true
+    → (codes : List ℕ) → fits sizes codes ≡ true → p codes ≡ true
 lists_all [] p h [] fit = (and_parts (p []) true h).0
 lists_all [] p h (code ∷ codes) fit = absurd (false≢true fit)
 lists_all (size ∷ sizes) p h [] fit = absurd (false≢true fit)
 lists_all (size ∷ sizes) p h (code ∷ codes) fit =
     let parts = and_parts (ltb code size) (fits sizes codes) fit in
     let each = sym (all_flat p (each_after (all_codes sizes)) (upto size)) ∙ h in
-    let here = all_upto (λ k. list_all p (each_after (all_codes sizes) k)) size each code (ltb-true code size parts.0) in
+    let here = all_upto (λ k. list_all p (each_after (all_codes sizes) k)) size each code
+    (ltb-true code size parts.0) in
     let there = sym (all_map p (λ rest. code ∷ rest) (all_codes sizes)) ∙ here in
     lists_all sizes (λ rest. p (code ∷ rest)) there codes parts.1
 
@@ -67,16 +78,22 @@ lists_fit [] = refl
 lists_fit (size ∷ sizes) =
     all_flat (fits (size ∷ sizes)) (each_after (all_codes sizes)) (upto size)
     ∙ upto_all (λ k. list_all (fits (size ∷ sizes)) (each_after (all_codes sizes) k)) size (λ k low.
-    all_map (fits (size ∷ sizes)) (λ rest. k ∷ rest) (all_codes sizes) ∙ weaken k (lt-ltb k size low) (all_codes sizes) (lists_fit sizes))
+    all_map (fits (size ∷ sizes)) (λ rest. k ∷ rest) (all_codes sizes)
+    ∙ weaken k (lt-ltb k size low) (all_codes sizes) (lists_fit sizes))
   where
-    weaken : (k : ℕ) → ltb k size ≡ true → (lists : List (List ℕ)) → list_all (fits sizes) lists ≡ true → list_all (λ rest. fits (size ∷ sizes) (k ∷ rest)) lists ≡ true
+    weaken : (k : ℕ) → ltb k size ≡ true → (lists : List (List ℕ))
+        → list_all (fits sizes) lists ≡ true
+        → list_all (λ rest. fits (size ∷ sizes) (k ∷ rest)) lists ≡ true
     weaken k low [] h = refl
     weaken k low (rest ∷ lists) h =
         let parts = and_parts (fits sizes rest) (list_all (fits sizes) lists) h in
-        and_from (ltb k size && fits sizes rest) (list_all (λ rest. fits (size ∷ sizes) (k ∷ rest)) lists) (and_from (ltb k size) (fits sizes rest) low parts.0) (weaken k low lists parts.1)
+        and_from (ltb k size && fits sizes rest)
+        (list_all (λ rest. fits (size ∷ sizes) (k ∷ rest)) lists)
+        (and_from (ltb k size) (fits sizes rest) low parts.0) (weaken k low lists parts.1)
 
 -- what is never so
-pub none_all : {X : Type 0} (p : X → Bool) (xs : List X) → list_any p xs ≡ false → list_all (λ x. not (p x)) xs ≡ true
+pub none_all : {X : Type 0} (p : X → Bool) (xs : List X) → list_any p xs ≡ false
+    → list_all (λ x. not (p x)) xs ≡ true
 none_all p [] h = refl
 none_all p (x ∷ xs) h =
     let parts = or_parts (p x) (list_any p xs) h in
@@ -86,15 +103,19 @@ not_true : (b : Bool) → not b ≡ true → b ≡ false
 not_true true h = absurd (false≢true h)
 not_true false h = refl
 
-pub none_lists : (sizes : List ℕ) (p : List ℕ → Bool) → list_any p (all_codes sizes) ≡ false → (codes : List ℕ) → fits sizes codes ≡ true → p codes ≡ false
-none_lists sizes p h codes fit = not_true (p codes) (lists_all sizes (λ x. not (p x)) (none_all p (all_codes sizes) h) codes fit)
+pub none_lists : (sizes : List ℕ) (p : List ℕ → Bool) → list_any p (all_codes sizes) ≡ false
+    → (codes : List ℕ) → fits sizes codes ≡ true → p codes ≡ false
+none_lists sizes p h codes fit =
+    not_true (p codes) (lists_all sizes (λ x. not (p x)) (none_all p (all_codes sizes) h) codes fit)
 
 pub none_upto : (p : ℕ → Bool) (n : ℕ) → list_any p (upto n) ≡ false → (k : ℕ) → k < n → p k ≡ false
 none_upto p n h k low = not_true (p k) (all_upto (λ x. not (p x)) n (none_all p (upto n) h) k low)
 
 -- some item is among them
-pub some_item : {X : Type 0} (p q : X → Bool) (xs : List X) → list_all p xs ≡ true → list_any q xs ≡ true → (x : X) × (p x ≡ true) × (q x ≡ true)
+pub some_item : {X : Type 0} (p q : X → Bool) (xs : List X) → list_all p xs ≡ true
+    → list_any q xs ≡ true → (x : X) × (p x ≡ true) × (q x ≡ true)
 some_item p q [] all any = absurd (false≢true any)
 some_item p q (x ∷ xs) all any =
     let parts = and_parts (p x) (list_all p xs) all in
-    ⊎_elim (λ here. (x, parts.0, here)) (λ later. some_item p q xs parts.1 later) (or_cases (q x) (list_any q xs) any)
+    ⊎_elim (λ here. (x, parts.0, here)) (λ later. some_item p q xs parts.1 later)
+    (or_cases (q x) (list_any q xs) any)

@@ -9,7 +9,8 @@ use Rattle.domains.specs.Orders.{IsPermutation, place}
 use Rattle.decision_diagram.specs.Orders.{ArePlaces}
 
 -- v stands first at p
-pub place_here : (list : List ℕ) (v p : ℕ) → p < length list → slice_index list p ≡ v → ((j : ℕ) → j < p → slice_index list j ≢ v) → place list v ≡ p
+pub place_here : (list : List ℕ) (v p : ℕ) → p < length list → slice_index list p ≡ v
+    → ((j : ℕ) → j < p → slice_index list j ≢ v) → place list v ≡ p
 place_here [] v p h is before = absurd (omega arith)
 place_here (x ∷ xs) v zero h is before = cond-true (eqb x v) 0 (place xs v + 1) (eq-eqb x v is)
 place_here (x ∷ xs) v (suc p) h is before =
@@ -17,14 +18,16 @@ place_here (x ∷ xs) v (suc p) h is before =
     cond-false (eqb x v) 0 (place xs v + 1) (ne_eqb x v (before 0 (omega arith))) ∙ omega arith
 
 -- v stands nowhere
-pub place_none : (list : List ℕ) (v : ℕ) → ((j : ℕ) → j < length list → slice_index list j ≢ v) → place list v ≡ length list
+pub place_none : (list : List ℕ) (v : ℕ) → ((j : ℕ) → j < length list → slice_index list j ≢ v)
+    → place list v ≡ length list
 place_none [] v nowhere = refl
 place_none (x ∷ xs) v nowhere =
     let rest = place_none xs v (λ j below. nowhere (suc j) (omega arith)) in
     cond-false (eqb x v) 0 (place xs v + 1) (ne_eqb x v (nowhere 0 (omega arith))) ∙ omega arith
 
 -- what stands at a place
-pub at_place : (list : List ℕ) (v : ℕ) → place list v < length list → slice_index list (place list v) ≡ v
+pub at_place : (list : List ℕ) (v : ℕ) → place list v < length list
+    → slice_index list (place list v) ≡ v
 at_place [] v h = absurd (omega arith)
 at_place (x ∷ xs) v h =
     ⊎_elim
@@ -36,9 +39,11 @@ at_place (x ∷ xs) v h =
     (cases_eq x v)
 
 -- the first place is no later than another one
-pub place_first : (list : List ℕ) (v j : ℕ) → j < length list → slice_index list j ≡ v → place list v ≤ j
+pub place_first : (list : List ℕ) (v j : ℕ) → j < length list → slice_index list j ≡ v
+    → place list v ≤ j
 place_first [] v j h is = absurd (omega arith)
-place_first (x ∷ xs) v zero h is = let e = cond-true (eqb x v) 0 (place xs v + 1) (eq-eqb x v is) in omega arith
+place_first (x ∷ xs) v zero h is = let e = cond-true (eqb x v) 0 (place xs v + 1) (eq-eqb x v is) in
+    omega arith
 place_first (x ∷ xs) v (suc j) h is =
     let rest = place_first xs v j (omega arith) is in
     ⊎_elim
@@ -47,7 +52,8 @@ place_first (x ∷ xs) v (suc j) h is =
     (cases_eq x v)
 
 -- what is below at each place is below wherever it is found
-below_any : (list : List ℕ) (n : ℕ) → ((i : ℕ) → i < length list → slice_index list i < n) → (q : ℕ) → list_any (eqb q) list ≡ true → q < n
+below_any : (list : List ℕ) (n : ℕ) → ((i : ℕ) → i < length list → slice_index list i < n) → (q : ℕ)
+    → list_any (eqb q) list ≡ true → q < n
 below_any [] n h q found = absurd (false≢true found)
 below_any (x ∷ xs) n h q found =
     ⊎_elim
@@ -56,7 +62,9 @@ below_any (x ∷ xs) n h q found =
     (or_cases (eqb q x) (list_any (eqb q) xs) found)
 
 -- a list with one more in front that stands nowhere in it
-more_apart : (list : List ℕ) (v : ℕ) → IsPermutation list → ((j : ℕ) → j < length list → slice_index list j ≢ v) → (i j d : ℕ) → i < j → j < length (v ∷ list) → eqb (get_or (v ∷ list) i d) (get_or (v ∷ list) j d) ≡ false
+more_apart : (list : List ℕ) (v : ℕ) → IsPermutation list
+    → ((j : ℕ) → j < length list → slice_index list j ≢ v) → (i j d : ℕ) → i < j
+    → j < length (v ∷ list) → eqb (get_or (v ∷ list) i d) (get_or (v ∷ list) j d) ≡ false
 more_apart list v order nowhere zero zero d less below = absurd (omega arith)
 more_apart list v order nowhere zero (suc j) d less below =
     let within : j < length list = omega arith in
@@ -67,28 +75,38 @@ more_apart list v order nowhere (suc i) (suc j) d less below =
     let within : j < length list = omega arith in
     let e = get_or_default list j d 0 within in
     let f = get_or_default list i d 0 (omega arith) in
-    ne_eqb (get_or list i d) (get_or list j d) (λ same. order.distinct i j (omega arith) within (sym f ∙ same ∙ e))
+    ne_eqb (get_or list i d) (get_or list j d)
+    (λ same. order.distinct i j (omega arith) within (sym f ∙ same ∙ e))
 
 -- each number below the length has a place
-pub place_below : (list : List ℕ) → IsPermutation list → (v : ℕ) → v < length list → place list v < length list
+pub place_below : (list : List ℕ) → IsPermutation list → (v : ℕ) → v < length list
+    → place list v < length list
 place_below list order v h =
     ⊎_elim
     (λ within. within)
     (λ past.
-    let nowhere : (j : ℕ) → j < length list → slice_index list j ≢ v = λ j below same. let first = place_first list v j below same in absurd (omega arith) in
+    let nowhere : (j : ℕ) → j < length list → slice_index list j ≢ v = λ j below same. let first =
+    place_first list v j below same in absurd (omega arith) in
     let distinct = IsDistinct-from_apart eqb (v ∷ list) (more_apart list v order nowhere) in
-    let few : (q : ℕ) → list_any (eqb q) (v ∷ list) ≡ true → q < length list = λ q found. ⊎_elim (λ here. let e = eqb-true q v here in omega arith) (λ later. below_any list (length list) order.below q later) (or_cases (eqb q v) (list_any (eqb q) list) found) in
-    let all : length (v ∷ list) ≤ length list = length-le_from_distinct_below (v ∷ list) (length list) distinct few in
+    let few : (q : ℕ) → list_any (eqb q) (v ∷ list) ≡ true → q < length list =
+    λ q found. ⊎_elim (λ here. let e = eqb-true q v here in
+    omega arith) (λ later. below_any list (length list) order.below q later)
+    (or_cases (eqb q v) (list_any (eqb q) list) found) in
+    let all : length (v ∷ list) ≤ length list =
+    length-le_from_distinct_below (v ∷ list) (length list) distinct few in
     absurd (omega arith))
     (cases_lt (place list v) (length list))
 
 -- places of different numbers differ
-pub place_of_item : (list : List ℕ) → IsPermutation list → (i : ℕ) → i < length list → place list (slice_index list i) ≡ i
-place_of_item list order i h = place_here list (slice_index list i) i h refl (λ j below. order.distinct j i below h)
+pub place_of_item : (list : List ℕ) → IsPermutation list → (i : ℕ) → i < length list
+    → place list (slice_index list i) ≡ i
+place_of_item list order i h =
+    place_here list (slice_index list i) i h refl (λ j below. order.distinct j i below h)
 
 -- what is known of a number once the first i numbers have been read
 abbrev pub IsMark : List ℕ → ℕ → ℕ → ℕ → Type 0
-IsMark list i v p = ((p < i) × (slice_index list p ≡ v)) ⊎ ((p ≡ length list) × ((j : ℕ) → j < i → slice_index list j ≢ v))
+IsMark list i v p = ((p < i) × (slice_index list p ≡ v))
+    ⊎ ((p ≡ length list) × ((j : ℕ) → j < i → slice_index list j ≢ v))
 
 -- the first i numbers are distinct, below the length, and have their places
 pub record AreMarked (list places : List ℕ) (i : ℕ) : Type 0 where
@@ -104,59 +122,88 @@ marked_none list = record {
   within = omega arith;
   below = λ j h. absurd (omega arith);
   distinct = λ j k less h. absurd (omega arith);
-  each = λ v h. inr (get_or-replicate (length list) v (length list) 0 h, λ j below. absurd (omega arith));
+  each = λ v h. inr (
+    get_or-replicate (length list) v (length list) 0 h,
+    λ j below.
+        absurd (omega arith),
+  );
 }
 
 -- the mark of a number that was met
-pub met : (list places : List ℕ) (i v : ℕ) → AreMarked list places i → v < length list → slice_index places v < length list → (slice_index places v < i) × (slice_index list (slice_index places v) ≡ v)
-met list places i v marked h low = ⊎_elim (λ yes. yes) (λ no. absurd (omega (arith, no.0))) (marked.each v h)
+pub met : (list places : List ℕ) (i v : ℕ) → AreMarked list places i → v < length list
+    → slice_index places v < length list
+    → (slice_index places v < i) × (slice_index list (slice_index places v) ≡ v)
+met list places i v marked h low =
+    ⊎_elim (λ yes. yes) (λ no. absurd (omega (arith, no.0))) (marked.each v h)
 
 -- the mark of a number that was not
-pub unmet : (list places : List ℕ) (i v : ℕ) → AreMarked list places i → v < length list → length list ≤ slice_index places v → (j : ℕ) → j < i → slice_index list j ≢ v
-unmet list places i v marked h high = ⊎_elim (λ yes. absurd (omega (arith, yes.0, marked.within))) (λ no. no.1) (marked.each v h)
+pub unmet : (list places : List ℕ) (i v : ℕ) → AreMarked list places i → v < length list
+    → length list ≤ slice_index places v → (j : ℕ) → j < i → slice_index list j ≢ v
+unmet list places i v marked h high =
+    ⊎_elim (λ yes. absurd (omega (arith, yes.0, marked.within))) (λ no. no.1) (marked.each v h)
 
-pub marked_more : (list places : List ℕ) (i x : ℕ) → AreMarked list places i → i < length list → slice_index list i ≡ x → x < length list → length list ≤ slice_index places x → AreMarked list (slice_set places x i) (i + 1)
+pub marked_more : (list places : List ℕ) (i x : ℕ) → AreMarked list places i → i < length list
+    → slice_index list i ≡ x → x < length list → length list ≤ slice_index places x
+    → AreMarked list (slice_set places x i) (i + 1)
 marked_more list places i x marked h is low high =
     let before = unmet list places i x marked low high in
     let long = marked.same in
     record {
       same = length-set places x i ∙ marked.same;
       within = omega arith;
-      below = λ j less. ⊎_elim (λ old. marked.below j old) (λ now. let e : j ≡ i = omega arith in rw (e, is) low) (cases_lt j i);
-      distinct = λ j k less within. ⊎_elim (λ old. marked.distinct j k less old) (λ now. let e : k ≡ i = omega arith in rw (e, is) (before j (omega arith))) (cases_lt k i);
+      below = λ j less. ⊎_elim (λ old. marked.below j old) (λ now. let e : j ≡ i = omega arith in
+          rw (e, is) low) (cases_lt j i);
+      distinct = λ j k less within. ⊎_elim (λ old. marked.distinct j k less old)
+          (λ now. let e : k ≡ i = omega arith in
+          rw (e, is) (before j (omega arith))) (cases_lt k i);
       each = λ v b.
           ⊎_elim
-          (λ same. let e : slice_index (slice_set places x i) v ≡ i = rw same (get_or-set_same places x i 0 (omega arith)) in inl (omega arith, ap (slice_index list) e ∙ is ∙ sym same))
+          (λ same. let e : slice_index (slice_set places x i) v
+          ≡ i = rw same (get_or-set_same places x i 0 (omega arith)) in
+          inl (omega arith, ap (slice_index list) e ∙ is ∙ sym same))
           (λ other.
-          let e : slice_index (slice_set places x i) v ≡ slice_index places v = get_or-set_other places x v i 0 other in
+          let e : slice_index (slice_set places x i) v ≡ slice_index places v =
+          get_or-set_other places x v i 0 other in
           ⊎_elim
           (λ yes. inl (omega (arith, yes.0), ap (slice_index list) e ∙ yes.1))
-          (λ no. inr (e ∙ no.0, λ j less same. ⊎_elim (λ old. no.1 j old same) (λ now. let f : j ≡ i = omega arith in absurd (other (sym same ∙ ap (slice_index list) f ∙ is))) (cases_lt j i)))
+          (λ no. inr (
+            e ∙ no.0,
+            λ j less same.
+                ⊎_elim (λ old. no.1 j old same) (λ now. let f : j ≡ i = omega arith in
+                absurd (other (sym same ∙ ap (slice_index list) f ∙ is))) (cases_lt j i),
+          ))
           (marked.each v b))
           (cases_eq v x);
     }
 
 -- all are read
-pub marked_all : (list places : List ℕ) → AreMarked list places (length list) → IsPermutation list × ArePlaces list places
+pub marked_all : (list places : List ℕ) → AreMarked list places (length list)
+    → IsPermutation list × ArePlaces list places
 marked_all list places marked =
-    let order : IsPermutation list = record { below = marked.below; distinct = marked.distinct } in (
+    let order : IsPermutation list =
+    record { below = marked.below; distinct = marked.distinct } in (
       order,
       record {
         same = marked.same;
         at = λ v h.
             ⊎_elim
-            (λ yes. sym (place_here list v (slice_index places v) yes.0 yes.1 (λ j less same. marked.distinct j (slice_index places v) less yes.0 (same ∙ sym yes.1))))
+            (λ yes. sym (place_here list v (slice_index places v) yes.0 yes.1
+            (λ j less same. marked.distinct j (slice_index places v) less yes.0
+            (same ∙ sym yes.1))))
             (λ no. no.0 ∙ sym (place_none list v no.1))
             (marked.each v h);
       },
     )
 
 -- a number that is not below the length
-pub too_high : (list : List ℕ) (i : ℕ) → i < length list → length list ≤ slice_index list i → ¬ IsPermutation list
+pub too_high : (list : List ℕ) (i : ℕ) → i < length list → length list ≤ slice_index list i
+    → ¬ IsPermutation list
 too_high list i h high order = let low = order.below i h in absurd (omega arith)
 
 -- a number that was met before
-pub again : (list places : List ℕ) (i : ℕ) → AreMarked list places i → i < length list → slice_index list i < length list → slice_index places (slice_index list i) < length list → ¬ IsPermutation list
+pub again : (list places : List ℕ) (i : ℕ) → AreMarked list places i → i < length list
+    → slice_index list i < length list → slice_index places (slice_index list i) < length list
+    → ¬ IsPermutation list
 again list places i marked h low met_before order =
     let m = met list places i (slice_index list i) marked low met_before in
     order.distinct (slice_index places (slice_index list i)) i m.0 h m.1

@@ -7,19 +7,25 @@ use Rattle.transition_table.specs.declared.machine.Machine.{Machine}
 use Rattle.transition_table.specs.Computed.{char, result_codes}
 use Rattle.char_function.proofs.Lists.{take_first, drop_first}
 
-pub fits_front : (xs ys codes : List ℕ) → fits (xs ++ ys) codes ≡ true → fits xs (take (length xs) codes) ≡ true
+pub fits_front : (xs ys codes : List ℕ) → fits (xs ++ ys) codes ≡ true
+    → fits xs (take (length xs) codes) ≡ true
 fits_front [] ys codes h = refl
 fits_front (x ∷ xs) ys [] h = h
 fits_front (x ∷ xs) ys (code ∷ codes) h =
     let parts = and_parts (ltb code x) (fits (xs ++ ys) codes) h in
-    and_from (ltb code x) (fits xs (take (length xs) codes)) parts.0 (fits_front xs ys codes parts.1)
+    and_from (ltb code x) (fits xs (take (length xs) codes)) parts.0
+    (fits_front xs ys codes parts.1)
 
 pub same_self : (xs : List ℕ) → is_same xs xs ≡ true
 same_self [] = refl
 same_self (x ∷ xs) = and_from (eqb x x) (is_same xs xs) (eq-eqb x x refl) (same_self xs)
 
-pub char_there : (m : Machine) (snap : List ℕ) → length snap ≡ length m.vars → char m (snap ++ result_codes m snap) ≡ true
+pub char_there : (m : Machine) (snap : List ℕ) → length snap ≡ length m.vars
+    → char m (snap ++ result_codes m snap) ≡ true
 char_there m snap long =
-    ap (λ (xs : List ℕ). is_same (result_codes m xs) (drop (length m.vars) (snap ++ result_codes m snap))) (take_first snap (result_codes m snap) (length m.vars) (sym long))
-    ∙ ap (λ (ys : List ℕ). is_same (result_codes m snap) ys) (drop_first snap (result_codes m snap) (length m.vars) (sym long))
+    ap (λ (xs : List ℕ). is_same (result_codes m xs)
+    (drop (length m.vars) (snap ++ result_codes m snap)))
+    (take_first snap (result_codes m snap) (length m.vars) (sym long))
+    ∙ ap (λ (ys : List ℕ). is_same (result_codes m snap) ys)
+    (drop_first snap (result_codes m snap) (length m.vars) (sym long))
     ∙ same_self (result_codes m snap)

@@ -12,13 +12,20 @@ few_items m =
     let sizes = are_sizes m.vars in
     let lengths = length m.vars == length m.inputs + length m.states in
     let inputs = list_all (nat_le 2) (take (length m.inputs) m.vars) in
-    let states = pointwise (λ state size. ltb state.init size) m.states (drop (length m.inputs) m.vars) in
-    let vars = eqb-true (length m.vars) (length m.inputs + length m.states) (and_parts sizes lengths (and_parts (sizes && lengths) inputs (and_parts ((sizes && lengths) && inputs) states m.sized_vars).0).0).1 in
+    let states = pointwise (λ state size. ltb state.init size) m.states
+    (drop (length m.inputs) m.vars) in
+    let vars = eqb-true (length m.vars) (length m.inputs + length m.states)
+    (and_parts sizes lengths
+    (and_parts (sizes && lengths) inputs
+    (and_parts ((sizes && lengths) && inputs) states m.sized_vars).0).0).1 in
     let n = 1 + length m.states in
     let counted = length m.results == 1 + length m.states + length m.outputs in
-    let front = pointwise ◌==◌ (2 ∷ map (λ size. 1 + size) (drop (length m.inputs) m.vars)) (take n m.results) in
+    let front = pointwise ◌==◌ (2 ∷ map (λ size. 1 + size) (drop (length m.inputs) m.vars))
+    (take n m.results) in
     let results_after = list_all (nat_le 2) (drop n m.results) in
-    let results = eqb-true (length m.results) (1 + length m.states + length m.outputs) (and_parts counted front (and_parts (counted && front) results_after m.sized_results).0).0 in
+    let results = eqb-true (length m.results) (1 + length m.states + length m.outputs)
+    (and_parts counted front
+    (and_parts (counted && front) results_after m.sized_results).0).0 in
     let a = nat_le (length m.inputs) 16 in
     let b = nat_le (length m.outputs) 16 in
     let c = nat_le (length m.states) 8 in

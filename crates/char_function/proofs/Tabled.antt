@@ -22,7 +22,9 @@ use Rattle.char_function.proofs.Walking.{long_map}
 pub points_fit : ResultsFit → (m : Machine) → list_all (fits (sizes_of m)) (points m) ≡ true
 points_fit law m =
     all_map (fits (sizes_of m)) (point m) (all_codes m.vars)
-    ∙ all_weaken (fits m.vars) (λ s. fits (sizes_of m) (point m s)) (all_codes m.vars) (lists_fit m.vars) (λ s fit. fits_both m.vars m.results s (result_codes m s) fit (law m s fit))
+    ∙ all_weaken (fits m.vars) (λ s. fits (sizes_of m) (point m s)) (all_codes m.vars)
+    (lists_fit m.vars)
+    (λ s fit. fits_both m.vars m.results s (result_codes m s) fit (law m s fit))
 
 module _ (m : Machine) (t : Table) (tabled : IsTableOf m t) where
   pub numbers_long : length t.numbers ≡ length (points m)
@@ -38,10 +40,14 @@ module _ (m : Machine) (t : Table) (tabled : IsTableOf m t) where
 
   -- the number of a snapshot's outcome is that of an outcome
   pub number_low : (i : ℕ) → i < length t.numbers → slice_index t.numbers i < length t.outcomes
-  number_low i low = ltb-true (slice_index t.numbers i) (length t.outcomes) (all_at (λ k. nat_lt k (length t.outcomes)) t.numbers i 0 tabled.within low)
+  number_low i low =
+      ltb-true (slice_index t.numbers i) (length t.outcomes)
+      (all_at (λ k. nat_lt k (length t.outcomes)) t.numbers i 0 tabled.within low)
 
   -- which has the codes of the results on the snapshot
-  pub outcome_at : (i : ℕ) → i < length t.numbers → get_or t.outcomes (slice_index t.numbers i) [] ≡ result_codes m (get_or (all_codes m.vars) i [])
+  pub outcome_at : (i : ℕ) → i < length t.numbers
+      → get_or t.outcomes (slice_index t.numbers i) []
+      ≡ result_codes m (get_or (all_codes m.vars) i [])
   outcome_at i low =
       let a = numbers_long in
       let b = lists_long in
@@ -49,39 +55,54 @@ module _ (m : Machine) (t : Table) (tabled : IsTableOf m t) where
       ∙ ap (λ (xs : List (List ℕ)). get_or xs i []) tabled.results
       ∙ at_map (result_codes m) (all_codes m.vars) i [] [] (omega arith)
 
-  pub fits_list : (i : ℕ) → i < length (points m) → fits m.vars (get_or (all_codes m.vars) i []) ≡ true
-  fits_list i low = let b = lists_long in all_at (fits m.vars) (all_codes m.vars) i [] (lists_fit m.vars) (omega arith)
+  pub fits_list : (i : ℕ) → i < length (points m)
+      → fits m.vars (get_or (all_codes m.vars) i []) ≡ true
+  fits_list i low = let b = lists_long in
+      all_at (fits m.vars) (all_codes m.vars) i [] (lists_fit m.vars) (omega arith)
 
-  point_is : (i : ℕ) → i < length (points m) → at_point (points m) i ≡ point m (get_or (all_codes m.vars) i [])
+  point_is : (i : ℕ) → i < length (points m)
+      → at_point (points m) i ≡ point m (get_or (all_codes m.vars) i [])
   point_is i low = let b = lists_long in at_map (point m) (all_codes m.vars) i [] [] (omega arith)
 
   -- a snapshot's code of a variable stands in the variable's column
-  pub var_at : (i v : ℕ) → i < length (points m) → v < length m.vars → slice_index (get_or t.codes v []) i ≡ slice_index (at_point (points m) i) v
+  pub var_at : (i v : ℕ) → i < length (points m) → v < length m.vars
+      → slice_index (get_or t.codes v []) i ≡ slice_index (at_point (points m) i) v
   var_at i v low v_low =
       let b = lists_long in
       let long = fits_long m.vars (get_or (all_codes m.vars) i []) (fits_list i low) in
       ap (λ (xs : List ℕ). slice_index xs i) (tabled.codes.each v v_low)
       ∙ at_map (λ codes. slice_index codes v) (all_codes m.vars) i [] 0 (omega arith)
-      ∙ sym (ap (λ (p : List ℕ). slice_index p v) (point_is i low) ∙ index_first (get_or (all_codes m.vars) i []) (result_codes m (get_or (all_codes m.vars) i [])) v (omega arith))
+      ∙ sym (ap (λ (p : List ℕ). slice_index p v) (point_is i low)
+      ∙ index_first (get_or (all_codes m.vars) i [])
+      (result_codes m (get_or (all_codes m.vars) i [])) v (omega arith))
 
   pub column_long : (v : ℕ) → v < length m.vars → length (get_or t.codes v []) ≡ length (points m)
   column_long v low =
       let a = long_map (λ codes. slice_index codes v) (all_codes m.vars) in
       let b = lists_long in
-      ap (λ (xs : List ℕ). length xs) (tabled.codes.each v low) ∙ (let e : length (map (λ codes. slice_index codes v) (all_codes m.vars)) ≡ length (points m) = omega arith in e)
+      ap (λ (xs : List ℕ). length xs) (tabled.codes.each v low)
+      ∙ (let e : length (map (λ codes. slice_index codes v) (all_codes m.vars))
+      ≡ length (points m) = omega arith in e)
 
   module _ (law : ResultsFit) where
-    pub outcome_long : (i : ℕ) → i < length t.numbers → length (get_or t.outcomes (slice_index t.numbers i) []) ≡ length m.results
+    pub outcome_long : (i : ℕ) → i < length t.numbers
+        → length (get_or t.outcomes (slice_index t.numbers i) []) ≡ length m.results
     outcome_long i low =
         let a = numbers_long in
         ap (λ (xs : List ℕ). length xs) (outcome_at i low)
-        ∙ fits_long m.results (result_codes m (get_or (all_codes m.vars) i [])) (law m (get_or (all_codes m.vars) i []) (fits_list i (omega arith)))
+        ∙ fits_long m.results (result_codes m (get_or (all_codes m.vars) i []))
+        (law m (get_or (all_codes m.vars) i []) (fits_list i (omega arith)))
 
-    pub code_below : (i item : ℕ) → i < length (points m) → item < length (sizes_of m) → slice_index (at_point (points m) i) item < slice_index (sizes_of m) item
-    code_below i item low item_low = fits_at (sizes_of m) (at_point (points m) i) (all_at (fits (sizes_of m)) (points m) i [] (points_fit law m) low) item item_low
+    pub code_below : (i item : ℕ) → i < length (points m) → item < length (sizes_of m)
+        → slice_index (at_point (points m) i) item < slice_index (sizes_of m) item
+    code_below i item low item_low =
+        fits_at (sizes_of m) (at_point (points m) i)
+        (all_at (fits (sizes_of m)) (points m) i [] (points_fit law m) low) item item_low
 
   -- and its code of a result under the number of its outcome
-  pub result_at : (i item : ℕ) → i < length (points m) → length m.vars ≤ item → slice_index (get_or t.outcomes (slice_index t.numbers i) []) (item - length m.vars) ≡ slice_index (at_point (points m) i) item
+  pub result_at : (i item : ℕ) → i < length (points m) → length m.vars ≤ item
+      → slice_index (get_or t.outcomes (slice_index t.numbers i) []) (item - length m.vars)
+      ≡ slice_index (at_point (points m) i) item
   result_at i item low high =
       let n = numbers_long in
       let s : List ℕ = get_or (all_codes m.vars) i [] in
@@ -93,8 +114,10 @@ module _ (m : Machine) (t : Table) (tabled : IsTableOf m t) where
       ∙ ap (λ (p : List ℕ). slice_index p item) (sym (point_is i low))
 
   -- the codes of a result are those under the numbers
-  pub result_column : (y : ℕ) → map (λ k. slice_index (get_or t.outcomes k []) y) t.numbers ≡ map (result_code m y) (all_codes m.vars)
+  pub result_column : (y : ℕ) → map (λ k. slice_index (get_or t.outcomes k []) y) t.numbers
+      ≡ map (result_code m y) (all_codes m.vars)
   result_column y =
-      sym (map_map (λ (codes : List ℕ). slice_index codes y) (λ k. get_or t.outcomes k []) t.numbers)
+      sym (map_map (λ (codes : List ℕ). slice_index codes y) (λ k. get_or t.outcomes k [])
+      t.numbers)
       ∙ ap (map (λ (codes : List ℕ). slice_index codes y)) tabled.results
       ∙ map_map (λ (codes : List ℕ). slice_index codes y) (result_codes m) (all_codes m.vars)

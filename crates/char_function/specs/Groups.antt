@@ -9,7 +9,8 @@ agrees items one other = list_all (λ v. slice_index one v == slice_index other 
 
 -- one of the points agrees with the codes on what the order has from a place on
 abbrev pub some_agrees : List (List ℕ) → List ℕ → ℕ → List ℕ → List ℕ → Bool
-some_agrees points order place group codes = list_any (λ i. agrees (drop place order) (at_point points i) codes) group
+some_agrees points order place group codes =
+    list_any (λ i. agrees (drop place order) (at_point points i) codes) group
 
 -- those of the points that have this code
 abbrev pub with_code : List (List ℕ) → ℕ → List ℕ → ℕ → List ℕ

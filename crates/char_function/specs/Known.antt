@@ -9,11 +9,14 @@ OnlyResults vars order start = (j : ℕ) → start ≤ j → j < length order �
 
 -- the list has the codes of the outcome of this number for these results
 abbrev pub has_outcome : ℕ → List (List ℕ) → ℕ → List ℕ → List ℕ → Bool
-has_outcome vars outcomes k items codes = list_all (λ v. slice_index (get_or outcomes k []) (v - vars) == slice_index codes v) items
+has_outcome vars outcomes k items codes =
+    list_all (λ v. slice_index (get_or outcomes k []) (v - vars) == slice_index codes v) items
 
--- A node that is known for an outcome is true exactly where the list has the outcome's codes for what the order has from
--- the place on.
-pub record AreKnown (s : Diagrams) (vars start : ℕ) (outcomes : List (List ℕ)) (known : List (Option ℕ)) : Type 0 where
+-- A node that is known for an outcome is true exactly where the list has the outcome's codes for
+-- what the order has from the place on.
+pub record AreKnown (s : Diagrams) (vars start : ℕ) (outcomes : List (List ℕ))
+    (known : List (Option ℕ)) : Type 0 where
   pub long : length known ≡ length outcomes
-  pub means : (k n : ℕ) → get_or known k None ≡ Some n → Means s n (has_outcome vars outcomes k (drop start s.order))
+  pub means : (k n : ℕ) → get_or known k None ≡ Some n
+      → Means s n (has_outcome vars outcomes k (drop start s.order))
   pub levels : (k n : ℕ) → get_or known k None ≡ Some n → start ≤ level_of s n

@@ -22,19 +22,24 @@ reach_at supports y = reach (get_or supports y [])
 
 -- the results whose whole support first stands after k of n variables
 abbrev pub results_after : ℕ → List (List ℕ) → ℕ → List ℕ
-results_after n supports k = map (λ y. n + y) (filter (λ y. reach_at supports y == k) (upto (length supports)))
+results_after n supports k =
+    map (λ y. n + y) (filter (λ y. reach_at supports y == k) (upto (length supports)))
 
--- the results with empty support, and then each variable with the results whose whole support then stands
+-- the results with empty support, and then each variable with the results whose whole support then
+-- stands
 abbrev pub interleaved : ℕ → List (List ℕ) → List ℕ
-interleaved n supports = results_after n supports 0 ++ flat_map (λ v. v ∷ results_after n supports (v + 1)) (upto n)
+interleaved n supports = results_after n supports 0
+    ++ flat_map (λ v. v ∷ results_after n supports (v + 1)) (upto n)
 
 abbrev pub first_order : Machine → List ℕ
 first_order m = interleaved (length m.vars) (all_supports m)
 
 -- result y of n + y stands after all of its support
 abbrev pub stands_after : ℕ → List (List ℕ) → List ℕ → ℕ → Bool
-stands_after n supports order y = list_all (λ v. nat_lt (place order v) (place order (n + y))) (get_or supports y [])
+stands_after n supports order y =
+    list_all (λ v. nat_lt (place order v) (place order (n + y))) (get_or supports y [])
 
 -- the supports are those of a machine, and the order is of its variables and results
 abbrev pub AreOfMachine : List (List ℕ) → List ℕ → Type 0
-AreOfMachine supports order = (m : Machine) × (supports ≡ all_supports m) × (length order ≡ length (sizes_of m))
+AreOfMachine supports order = (m : Machine) × (supports ≡ all_supports m)
+    × (length order ≡ length (sizes_of m))

@@ -14,4 +14,5 @@ rises (n ∷ ns) = list_all (nat_lt n) ns && rises ns
 pub record AreSupports (m : Machine) (supports : List (List ℕ)) : Type 0 where
   pub long : length supports ≡ length m.results
   pub rising : (y : ℕ) → y < length m.results → IsTrue (rises (get_or supports y []))
-  pub exact : (y v : ℕ) → y < length m.results → (stands (get_or supports y []) v ≡ true) ↔ ((v < length m.vars) × Support m y v)
+  pub exact : (y v : ℕ) → y < length m.results → (stands (get_or supports y []) v ≡ true)
+      ↔ ((v < length m.vars) × Support m y v)

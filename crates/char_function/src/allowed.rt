@@ -15,7 +15,8 @@ use decision_diagram::Order;
 fn stand_before(support: &[u32], order: &Order, item: u32) -> bool
     requires item { item < length order.now }
     requires support { IsTrue (list_all (λ v. nat_lt v (length order.now)) support.now) }
-    ensures { result ≡ list_all (λ v. nat_lt (place order.now v) (place order.now item)) support.now }
+    ensures { result ≡ list_all (λ v. nat_lt (place order.now v) (place order.now item))
+        support.now }
 {
     for v in support {
         if order.place_of(*v) >= order.place_of(item) {
@@ -28,7 +29,8 @@ fn stand_before(support: &[u32], order: &Order, item: u32) -> bool
 /// Whether each result of a machine stands after all variables of its support. It takes no memory.
 pub fn is_allowed(s: &Supports, order: &Order) -> bool
     requires { AreOfMachine s.now order.now }
-    ensures { (m : Machine) → IsDeterministic m → s.now ≡ all_supports m → length order.now ≡ length (sizes_of m) → (result ≡ true) ↔ Allowed m order.now }
+    ensures { (m : Machine) → IsDeterministic m → s.now ≡ all_supports m
+        → length order.now ≡ length (sizes_of m) → (result ≡ true) ↔ Allowed m order.now }
 {
     transition_table::laws_of_computing();
     let vars = order.len() - s.len();

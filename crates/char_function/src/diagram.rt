@@ -34,8 +34,8 @@ struct Making<'a> {
     start: u64,
 }
 
-// The node that is true where a snapshot of the group, with its results, has the codes of what the order has from a place
-// on. Nothing is made that isn't kept.
+// The node that is true where a snapshot of the group, with its results, has the codes of what the
+// order has from a place on. Nothing is made that isn't kept.
 fn build(
     making: &Making,
     store: &mut Store,
@@ -48,13 +48,19 @@ fn build(
     requires sizes { making.now.sizes.now ≡ store.old.sizes }
     requires all_sizes { store.old.sizes ≡ sizes_of making.now.machine.now }
     requires table { IsTableOf making.now.machine.now making.now.table.now }
-    requires start { OnlyResults (length making.now.machine.now.vars) store.old.order making.now.start }
-    requires known { AreKnown store.old (length making.now.machine.now.vars) making.now.start making.now.table.now.outcomes known.old }
+    requires start { OnlyResults (length making.now.machine.now.vars) store.old.order
+        making.now.start }
+    requires known { AreKnown store.old (length making.now.machine.now.vars) making.now.start
+        making.now.table.now.outcomes known.old }
     requires group { IsTrue (is_group (points making.now.machine.now) group.now) }
     ensures kept { Keeps store.old store.new }
-    ensures value { IfOk result (λ n. Means store.new n (some_agrees (points making.now.machine.now) store.old.order place group.now)) }
+    ensures value { IfOk result
+        (λ n. Means store.new n
+        (some_agrees (points making.now.machine.now) store.old.order place group.now)) }
     ensures level { IfOk result (λ n. place ≤ level_of store.new n) }
-    ensures known { IfOk result (λ n. AreKnown store.new (length making.now.machine.now.vars) making.now.start making.now.table.now.outcomes known.new) }
+    ensures known { IfOk result
+        (λ n. AreKnown store.new (length making.now.machine.now.vars) making.now.start
+        making.now.table.now.outcomes known.new) }
 {
     if group.len() == 0 {
         return Ok(store.constant(false));
@@ -129,18 +135,20 @@ fn numbers_below(alloc: Global, bound: u64) -> Result<Places, NoMemory>
     Ok(list)
 }
 
-/// The node that is true for exactly the pairs of a snapshot and the codes of the machine's result on it, over the
-/// machine's variables and then its results, read in an order. The clause `size` says what the root's count is: the
-/// number of different functions that arise by fixing what stands before a place of the order and that depend on what
-/// stands there, over all places.
+/// The node that is true for exactly the pairs of a snapshot and the codes of the machine's result
+/// on it, over the machine's variables and then its results, read in an order. The clause `size`
+/// says what the root's count is: the number of different functions that arise by fixing what
+/// stands before a place of the order and that depend on what stands there, over all places.
 pub fn characteristic(alloc: Global, m: &Machine, order: &Order) -> Result<Root, NoMemory>
     requires sure { IsDeterministic m.now }
     requires order { length order.now ≡ length (sizes_of m.now) }
     ensures sizes { IfOk result (λ root. root.store.sizes ≡ sizes_of m.now) }
     ensures order { IfOk result (λ root. root.store.order ≡ order.now) }
     ensures value { IfOk result (λ root. Means root.store root.node (char m.now)) }
-    ensures char { IfOk result (λ root. (codes : List ℕ) → IsTrue (fits (sizes_of m.now) codes) → (value_of root.store root.node codes ≡ true) ↔ Char m.now codes) }
-    ensures size { IfOk result (λ root. (count : ℕ) → CountsReached root.store root.node count → count ≡ Size m.now order.now) }
+    ensures char { IfOk result (λ root. (codes : List ℕ) → IsTrue (fits (sizes_of m.now) codes)
+        → (value_of root.store root.node codes ≡ true) ↔ Char m.now codes) }
+    ensures size { IfOk result (λ root. (count : ℕ) → CountsReached root.store root.node count
+        → count ≡ Size m.now order.now) }
 {
     transition_table::laws_of_computing();
     decision_diagram::laws();

@@ -49,7 +49,8 @@ fn interleaved(alloc: Global, supports: &Supports, vars: u64) -> Result<Numbers,
     Ok(list)
 }
 
-/// The results with empty support, in order, and then each variable with the results whose whole support then stands.
+/// The results with empty support, in order, and then each variable with the results whose whole
+/// support then stands.
 pub fn first_order(alloc: Global, m: &Machine, s: &Supports) -> Result<Order, NoMemory>
     requires sure { IsDeterministic m.now }
     requires supports { s.now ≡ all_supports m.now }

@@ -54,7 +54,8 @@ pub(crate) fn parts_of(
     requires size { size ≡ slice_index (sizes_of m.now) item }
     requires group { IsTrue (is_group (points m.now) group.now) }
     ensures long { IfOk result (λ parts. length parts.items ≡ size) }
-    ensures parts { IfOk result (λ parts. (code : ℕ) → code < size → get_or parts.items code [] ≡ with_code (points m.now) item group.now code) }
+    ensures parts { IfOk result (λ parts. (code : ℕ) → code < size
+        → get_or parts.items code [] ≡ with_code (points m.now) item group.now code) }
 {
     let mut parts = no_parts(alloc, size)?;
     for i in group {

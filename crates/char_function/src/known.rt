@@ -12,7 +12,8 @@ use polis_base::{List, NoMemory};
 use std::alloc::Global;
 use transition_table::Machine;
 
-/// For each number of an outcome the node of what stands after the variables of an order, where it is known.
+/// For each number of an outcome the node of what stands after the variables of an order, where it
+/// is known.
 pub(crate) type Known = List<Option<NodeId>>;
 
 /// The place after the last variable of an order.
@@ -42,7 +43,8 @@ pub(crate) fn none_known(
     Ok(known)
 }
 
-/// The node of a group of one snapshot after the variables, where it is known for the snapshot's outcome.
+/// The node of a group of one snapshot after the variables, where it is known for the snapshot's
+/// outcome.
 pub(crate) fn known_node(
     m: &Machine,
     table: &Table,
@@ -55,7 +57,8 @@ pub(crate) fn known_node(
     requires start { OnlyResults (length m.now.vars) store.now.order start }
     requires known { AreKnown store.now (length m.now.vars) start table.now.outcomes known.now }
     requires group { IsTrue (is_group (points m.now) group.now) }
-    ensures value { IfSome result (λ n. Means store.now n (some_agrees (points m.now) store.now.order start group.now)) }
+    ensures value { IfSome result (λ n.
+        Means store.now n (some_agrees (points m.now) store.now.order start group.now)) }
     ensures level { IfSome result (λ n. start ≤ level_of store.now n) }
 {
     if group.len() != 1 {
@@ -78,7 +81,8 @@ pub(crate) fn keep_node(
     requires start { OnlyResults (length m.now.vars) store.now.order start }
     requires known { AreKnown store.now (length m.now.vars) start table.now.outcomes known.old }
     requires group { IsTrue (is_group (points m.now) group.now) }
-    requires value { Means store.now node (some_agrees (points m.now) store.now.order start group.now) }
+    requires value { Means store.now node
+        (some_agrees (points m.now) store.now.order start group.now) }
     requires level { start ≤ level_of store.now node }
     ensures { AreKnown store.now (length m.now.vars) start table.now.outcomes known.new }
 {

@@ -1,4 +1,5 @@
-// What the results of a machine depend on, its first order, and the diagram of its characteristic function.
+// What the results of a machine depend on, its first order, and the diagram of its characteristic
+// function.
 #![tactic(auto)]
 
 mod allowed;

@@ -22,8 +22,8 @@ fn are_same(one: &[u8], other: &[u8]) -> bool
     one == other
 }
 
-// Whether a column over the variables from one on changes where the code of a variable alone changes. The column has
-// one part for each code of its first variable.
+// Whether a column over the variables from one on changes where the code of a variable alone
+// changes. The column has one part for each code of its first variable.
 fn changes(column: &[u8], vars: &VarTable, from: u64, v: u64) -> bool
     requires from { from ≤ v }
     requires var { v < length vars.now }
@@ -47,7 +47,8 @@ fn changes(column: &[u8], vars: &VarTable, from: u64, v: u64) -> bool
 // The variables that a column changes with.
 fn support(alloc: Global, column: &[u8], vars: &VarTable) -> Result<Numbers, NoMemory>
     requires { length vars.now ≤ 24 }
-    ensures { IfOk result (λ list. list ≡ filter (λ v. varies vars.now v column.now) (upto (length vars.now))) }
+    ensures { IfOk result (λ list. list
+        ≡ filter (λ v. varies vars.now v column.now) (upto (length vars.now))) }
 {
     let mut list = List::new(alloc);
     for v in 0..vars.len() {
@@ -58,8 +59,9 @@ fn support(alloc: Global, column: &[u8], vars: &VarTable) -> Result<Numbers, NoM
     Ok(list)
 }
 
-/// For each result the variables in which two snapshots differ alone while their transitions give it different codes.
-/// The outcomes of all snapshots are put into a table once, and those of neighbouring codes are compared.
+/// For each result the variables in which two snapshots differ alone while their transitions give
+/// it different codes. The outcomes of all snapshots are put into a table once, and those of
+/// neighbouring codes are compared.
 pub fn supports(alloc: Global, m: &Machine) -> Result<Supports, NoMemory>
     requires { IsDeterministic m.now }
     ensures lists { IfOk result (λ s. s ≡ all_supports m.now) }

@@ -1,8 +1,10 @@
-// Small machines of one row at most: what their results depend on, their first orders and the sizes of their diagrams,
-// worked out by hand.
+// Small machines of one row at most: what their results depend on, their first orders and the sizes
+// of their diagrams, worked out by hand.
 ghost use Rattle.std.specs.Prelude.{◌≡◌, length};
 ghost use Rattle.transition_table.specs.Computed.{all_supports};
 ghost use Rattle.transition_table.specs.Orders.{sizes_of};
+
+mod tables;
 
 use crate::{Supports, characteristic, first_order, is_allowed, supports};
 use decision_diagram::Order;

@@ -16,14 +16,17 @@ drop_prefix [] ys (suc n) e = absurd (omega arith)
 drop_prefix (x ∷ xs) ys zero e = absurd (omega arith)
 drop_prefix (x ∷ xs) ys (suc n) e = drop_prefix xs ys n (omega arith)
 
-pub fits_prefix : (xs ys codes : List ℕ) → fits (xs ++ ys) codes ≡ true → fits xs (take (length xs) codes) ≡ true
+pub fits_prefix : (xs ys codes : List ℕ) → fits (xs ++ ys) codes ≡ true
+    → fits xs (take (length xs) codes) ≡ true
 fits_prefix [] ys codes h = refl
 fits_prefix (x ∷ xs) ys [] h = h
 fits_prefix (x ∷ xs) ys (code ∷ codes) h =
     let parts = and_parts (ltb code x) (fits (xs ++ ys) codes) h in
-    and_from (ltb code x) (fits xs (take (length xs) codes)) parts.0 (fits_prefix xs ys codes parts.1)
+    and_from (ltb code x) (fits xs (take (length xs) codes)) parts.0
+    (fits_prefix xs ys codes parts.1)
 
-pub fits_both : (xs ys a b : List ℕ) → fits xs a ≡ true → fits ys b ≡ true → fits (xs ++ ys) (a ++ b) ≡ true
+pub fits_both : (xs ys a b : List ℕ) → fits xs a ≡ true → fits ys b ≡ true
+    → fits (xs ++ ys) (a ++ b) ≡ true
 fits_both [] ys [] b ha hb = hb
 fits_both [] ys (c ∷ a) b ha hb = absurd (true≢false (sym ha))
 fits_both (x ∷ xs) ys [] b ha hb = absurd (true≢false (sym ha))
@@ -46,10 +49,14 @@ in_place (x ∷ xs) n h =
 pub stands_at : (xs : List ℕ) (i : ℕ) → i < length xs → stands xs (slice_index xs i) ≡ true
 stands_at [] i low = absurd (omega arith)
 stands_at (x ∷ xs) zero low = or_left (eqb x x) (stands xs x) (eq-eqb x x refl)
-stands_at (x ∷ xs) (suc i) low = or_right (eqb x (slice_index xs i)) (stands xs (slice_index xs i)) (stands_at xs i (omega arith))
+stands_at (x ∷ xs) (suc i) low =
+    or_right (eqb x (slice_index xs i)) (stands xs (slice_index xs i))
+    (stands_at xs i (omega arith))
 
 -- a child of a node that is reached is reached
-pub reaches_child : (s : Diagrams) (root n : ℕ) (node : Node) (c : ℕ) → Reaches s root n → inner_at s.nodes n ≡ Some node → c < length node.kids → Reaches s root (slice_index node.kids c)
+pub reaches_child : (s : Diagrams) (root n : ℕ) (node : Node) (c : ℕ) → Reaches s root n
+    → inner_at s.nodes n ≡ Some node → c < length node.kids
+    → Reaches s root (slice_index node.kids c)
 reaches_child s root n node c there is low =
     let kid = slice_index node.kids c in
     let in_kids : Contains node.kids kid = (c, low, get_or_default node.kids c kid 0 low) in

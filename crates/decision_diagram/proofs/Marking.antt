@@ -17,41 +17,53 @@ any_contains (x ∷ xs) m h =
     (λ later. let w = any_contains xs m later in let inside = w.1 in (suc w.0, omega arith, w.2))
     (or_cases (eqb m x) (list_any (eqb m) xs) h)
 
-contains_any : (xs : List ℕ) (m k : ℕ) → k < length xs → get_or xs k m ≡ m → list_any (eqb m) xs ≡ true
+contains_any : (xs : List ℕ) (m k : ℕ) → k < length xs → get_or xs k m ≡ m
+    → list_any (eqb m) xs ≡ true
 contains_any [] m k h is = absurd (omega arith)
 contains_any (x ∷ xs) m zero h is = or_left (eqb m x) (list_any (eqb m) xs) (eq-eqb m x (sym is))
-contains_any (x ∷ xs) m (suc k) h is = or_right (eqb m x) (list_any (eqb m) xs) (contains_any xs m k (omega arith) is)
+contains_any (x ∷ xs) m (suc k) h is =
+    or_right (eqb m x) (list_any (eqb m) xs) (contains_any xs m k (omega arith) is)
 
 -- ---- walks
 pub reaches_self : (s : Diagrams) (n : ℕ) → Reaches s n n
 reaches_self s n = (0, refl)
 
-pub reaches_kid : (s : Diagrams) (n k m : ℕ) → Reaches s n k → Contains (kids_of s k) m → Reaches s n m
+pub reaches_kid : (s : Diagrams) (n k m : ℕ) → Reaches s n k → Contains (kids_of s k) m
+    → Reaches s n m
 reaches_kid s n k m reach has = (suc reach.0, (k, reach.1, has))
 
 -- what has a child is an inner node
-parent_inner : (s : Diagrams) (k m : ℕ) → Contains (kids_of s k) m → (2 ≤ k) × (k < length s.nodes + 2)
+parent_inner : (s : Diagrams) (k m : ℕ) → Contains (kids_of s k) m
+    → (2 ≤ k) × (k < length s.nodes + 2)
 parent_inner s k m has =
     ⊎_elim
-    (λ none. let e = ap kids_in none in let f = ap (length {A = ℕ}) e in let h = has.1 in absurd (omega arith))
+    (λ none. let e = ap kids_in none in let f = ap (length {A = ℕ}) e in let h = has.1 in
+    absurd (omega arith))
     (λ some. inner_within s.nodes k some.0 some.1)
     (cases_inner s.nodes k)
 
 -- ---- marks
--- The marked nodes are reached from n, n is marked, and so are the children of each marked one from number i + 2 on.
+-- The marked nodes are reached from n, n is marked, and so are the children of each marked one from
+-- number i + 2 on.
 pub record AreMarked (s : Diagrams) (n : ℕ) (marks : List Bool) (i : ℕ) : Type 0 where
   pub long : length marks ≡ length s.nodes
   pub within : i ≤ length s.nodes
   pub sound : (m : ℕ) → 2 ≤ m → IsNode s m → marked marks m ≡ true → Reaches s n m
   pub root : 2 ≤ n → marked marks n ≡ true
-  pub closed : (k m : ℕ) → i + 2 ≤ k → IsNode s k → marked marks k ≡ true → Contains (kids_of s k) m → 2 ≤ m → marked marks m ≡ true
+  pub closed : (k m : ℕ) → i + 2 ≤ k → IsNode s k → marked marks k ≡ true → Contains (kids_of s k) m
+      → 2 ≤ m → marked marks m ≡ true
 
 -- only an inner node is marked
 marked_within : (marks : List Bool) (m : ℕ) → marked marks m ≡ true → m - 2 < length marks
-marked_within marks m h = ⊎_elim (λ inside. inside) (λ past. absurd (false≢true (sym (get_or_past marks (m - 2) false past) ∙ h))) (cases_lt (m - 2) (length marks))
+marked_within marks m h =
+    ⊎_elim (λ inside. inside) (λ past.
+    absurd (false≢true (sym (get_or_past marks (m - 2) false past) ∙ h)))
+    (cases_lt (m - 2) (length marks))
 
 marked_none : (count m : ℕ) → marked (replicate count false) m ≡ false
-marked_none count m = ⊎_elim (λ h. get_or-replicate count (m - 2) false false h) (λ past. get_past count (m - 2) past) (cases_lt (m - 2) count)
+marked_none count m =
+    ⊎_elim (λ h. get_or-replicate count (m - 2) false false h) (λ past. get_past count (m - 2) past)
+    (cases_lt (m - 2) count)
   where
     get_past : (count k : ℕ) → count ≤ k → get_or (replicate count false) k false ≡ false
     get_past zero k h = refl
@@ -59,9 +71,15 @@ marked_none count m = ⊎_elim (λ h. get_or-replicate count (m - 2) false false
     get_past (suc count) (suc k) h = get_past count k (omega arith)
 
 -- at the start the node alone is marked
-pub marked_root : (s : Diagrams) (n : ℕ) (old new : List Bool) → IsNode s n → old ≡ replicate (length s.nodes) false → length new ≡ length s.nodes → ((m : ℕ) → 2 ≤ m → m < length old + 2 → marked new m ≡ (marked old m || list_any (eqb m) (n ∷ []))) → length old ≡ length s.nodes → AreMarked s n new (length s.nodes)
+pub marked_root : (s : Diagrams) (n : ℕ) (old new : List Bool) → IsNode s n
+    → old ≡ replicate (length s.nodes) false → length new ≡ length s.nodes
+    → ((m : ℕ) → 2 ≤ m → m < length old + 2
+    → marked new m ≡ (marked old m || list_any (eqb m) (n ∷ []))) → length old ≡ length s.nodes
+    → AreMarked s n new (length s.nodes)
 marked_root s n old new node old_is long after old_long =
-    let none : (m : ℕ) → marked old m ≡ false = λ m. subst (λ (xs : List Bool). marked xs m ≡ false) (sym old_is) (marked_none (length s.nodes) m) in
+    let none : (m : ℕ) → marked old m ≡ false =
+    λ m. subst (λ (xs : List Bool). marked xs m ≡ false) (sym old_is)
+    (marked_none (length s.nodes) m) in
     record {
       long = long;
       within = omega arith;
@@ -72,13 +90,17 @@ marked_root s n old new node old_is long after old_long =
           let k : w.0 ≡ 0 = let inside = w.1 in omega arith in
           let same : n ≡ m = subst (λ (j : ℕ). get_or (n ∷ []) j m ≡ m) k w.2 in
           subst (Reaches s n) same (reaches_self s n))
-          (or_cases (marked old m) (list_any (eqb m) (n ∷ [])) (sym (after m large (omega arith)) ∙ h));
-      root = λ large. after n large (omega arith) ∙ or_right (marked old n) (list_any (eqb n) (n ∷ [])) (contains_any (n ∷ []) n 0 (omega arith) refl);
+          (or_cases (marked old m) (list_any (eqb m) (n ∷ []))
+          (sym (after m large (omega arith)) ∙ h));
+      root = λ large. after n large (omega arith)
+          ∙ or_right (marked old n) (list_any (eqb n) (n ∷ []))
+          (contains_any (n ∷ []) n 0 (omega arith) refl);
       closed = λ k m from within h has large. absurd (omega arith);
     }
 
 -- a node that isn't marked has nothing to mark
-pub marked_skip : (s : Diagrams) (n : ℕ) (marks : List Bool) (i j : ℕ) → AreMarked s n marks i → i ≡ j + 1 → marked marks (j + 2) ≡ false → AreMarked s n marks j
+pub marked_skip : (s : Diagrams) (n : ℕ) (marks : List Bool) (i j : ℕ) → AreMarked s n marks i
+    → i ≡ j + 1 → marked marks (j + 2) ≡ false → AreMarked s n marks j
 marked_skip s n marks i j ok next off =
     let w = ok.within in
     record {
@@ -94,7 +116,13 @@ marked_skip s n marks i j ok next off =
     }
 
 -- a marked node marks its children, which have smaller numbers
-pub marked_kids : (s : Diagrams) (n : ℕ) (old new : List Bool) (i j : ℕ) (node : Node) → AreMarked s n old i → i ≡ j + 1 → marked old (j + 2) ≡ true → inner_at s.nodes (j + 2) ≡ Some node → ((code : ℕ) → code < length node.kids → slice_index node.kids code < j + 2) → length new ≡ length old → ((m : ℕ) → 2 ≤ m → m < length old + 2 → marked new m ≡ (marked old m || list_any (eqb m) node.kids)) → AreMarked s n new j
+pub marked_kids : (s : Diagrams) (n : ℕ) (old new : List Bool) (i j : ℕ) (node : Node)
+    → AreMarked s n old i → i ≡ j + 1 → marked old (j + 2) ≡ true
+    → inner_at s.nodes (j + 2) ≡ Some node
+    → ((code : ℕ) → code < length node.kids → slice_index node.kids code < j + 2)
+    → length new ≡ length old
+    → ((m : ℕ) → 2 ≤ m → m < length old + 2
+    → marked new m ≡ (marked old m || list_any (eqb m) node.kids)) → AreMarked s n new j
 marked_kids s n old new i j node ok next on is before long after =
     let w = ok.within in
     let old_long = ok.long in
@@ -105,54 +133,76 @@ marked_kids s n old new i j node ok next on is before long after =
     let e : slice_index node.kids has.0 ≡ m = get_or_default node.kids has.0 0 m has.1 ∙ has.2 in
     let b = before has.0 has.1 in
     omega arith in
-    let kept : (m : ℕ) → 2 ≤ m → marked old m ≡ true → marked new m ≡ true = λ m large h. let inside = marked_within old m h in after m large (omega arith) ∙ or_left (marked old m) (list_any (eqb m) node.kids) h in
+    let kept : (m : ℕ) → 2 ≤ m → marked old m ≡ true → marked new m ≡ true =
+    λ m large h. let inside = marked_within old m h in
+    after m large (omega arith) ∙ or_left (marked old m) (list_any (eqb m) node.kids) h in
     record {
       long = long ∙ ok.long;
       within = omega arith;
       sound = λ m large within h.
           ⊎_elim
           (λ earlier. ok.sound m large within earlier)
-          (λ now. reaches_kid s n (j + 2) m (ok.sound (j + 2) (omega arith) (omega arith) on) (subst (λ (xs : List ℕ). Contains xs m) (sym kids) (any_contains node.kids m now)))
-          (or_cases (marked old m) (list_any (eqb m) node.kids) (sym (after m large (omega arith)) ∙ h));
+          (λ now. reaches_kid s n (j + 2) m (ok.sound (j + 2) (omega arith) (omega arith) on)
+          (subst (λ (xs : List ℕ). Contains xs m) (sym kids) (any_contains node.kids m now)))
+          (or_cases (marked old m) (list_any (eqb m) node.kids)
+          (sym (after m large (omega arith)) ∙ h));
       root = λ large. kept n large (ok.root large);
       closed = λ k m from within h has large.
           ⊎_elim
           (λ here.
-          let had : Contains node.kids m = subst (λ (xs : List ℕ). Contains xs m) (ap (kids_of s) here ∙ kids) has in
+          let had : Contains node.kids m =
+          subst (λ (xs : List ℕ). Contains xs m) (ap (kids_of s) here ∙ kids) has in
           let any = contains_any node.kids m had.0 had.1 had.2 in
           let low = below m any in
           after m large (omega arith) ∙ or_right (marked old m) (list_any (eqb m) node.kids) any)
           (λ other.
           let from_i : i + 2 ≤ k = omega arith in
-          let was : marked old k ≡ true = ⊎_elim (λ earlier. earlier) (λ now. let low = below k now in absurd (omega arith)) (or_cases (marked old k) (list_any (eqb k) node.kids) (sym (after k (omega arith) (omega arith)) ∙ h)) in
+          let was : marked old k ≡ true =
+          ⊎_elim (λ earlier. earlier) (λ now. let low = below k now in
+          absurd (omega arith))
+          (or_cases (marked old k) (list_any (eqb k) node.kids)
+          (sym (after k (omega arith) (omega arith)) ∙ h)) in
           kept m large (ok.closed k m from_i within was has large))
           (cases_eq k (j + 2));
     }
 
 -- ---- the count
-pub walk_marked : (s : Diagrams) (n : ℕ) (marks : List Bool) → AreMarked s n marks 0 → (steps m : ℕ) → Walk s n m steps → 2 ≤ m → marked marks m ≡ true
-walk_marked s n marks ok zero m walk large = subst (λ (x : ℕ). marked marks x ≡ true) walk (ok.root (subst (λ (x : ℕ). 2 ≤ x) (sym walk) large))
+pub walk_marked : (s : Diagrams) (n : ℕ) (marks : List Bool) → AreMarked s n marks 0 → (steps m : ℕ)
+    → Walk s n m steps → 2 ≤ m → marked marks m ≡ true
+walk_marked s n marks ok zero m walk large =
+    subst (λ (x : ℕ). marked marks x ≡ true) walk
+    (ok.root (subst (λ (x : ℕ). 2 ≤ x) (sym walk) large))
 walk_marked s n marks ok (suc steps) m walk large =
     let k = walk.0 in
     let inner = parent_inner s k m walk.2 in
-    ok.closed k m (omega (arith, inner.0)) inner.1 (walk_marked s n marks ok steps k walk.1 inner.0) walk.2 large
+    ok.closed k m (omega (arith, inner.0)) inner.1 (walk_marked s n marks ok steps k walk.1 inner.0)
+    walk.2 large
 
-pub counts_reached : (s : Diagrams) (n : ℕ) (marks : List Bool) (i count : ℕ) → AreMarked s n marks i → i ≡ 0 → count ≡ count_by (λ b. b) marks → CountsReached s n count
+pub counts_reached : (s : Diagrams) (n : ℕ) (marks : List Bool) (i count : ℕ)
+    → AreMarked s n marks i → i ≡ 0 → count ≡ count_by (λ b. b) marks → CountsReached s n count
 counts_reached s n marks i count ok end number =
     let all = subst (λ (k : ℕ). AreMarked s n marks k) end ok in
     record {
       marks = marks;
       long = all.long;
-      each = λ m large within. (λ h. all.sound m large within h, λ reach. walk_marked s n marks all reach.0 m reach.1 large);
+      each = λ m large within. (
+        λ h. all.sound m large within h,
+        λ reach.
+            walk_marked s n marks all reach.0 m reach.1 large,
+      );
       number = number;
     }
 
 -- what a part that is the whole leaves of a list
-pub whole_part : (new old : List Bool) (n : ℕ) → length new ≡ length old → n ≡ length old → take n (new ++ drop (length new) old) ≡ new
-whole_part new old n long all = ap (λ (xs : List Bool). take n (new ++ xs)) (drop_all (length new) old (omega arith)) ∙ ap (take n) (append-nil new) ∙ take_all n new (omega arith)
+pub whole_part : (new old : List Bool) (n : ℕ) → length new ≡ length old → n ≡ length old
+    → take n (new ++ drop (length new) old) ≡ new
+whole_part new old n long all =
+    ap (λ (xs : List Bool). take n (new ++ xs)) (drop_all (length new) old (omega arith))
+    ∙ ap (take n) (append-nil new) ∙ take_all n new (omega arith)
 
 -- the mark of an inner node by its place
-pub mark_read : (marks : List Bool) (j m : ℕ) (mark : Bool) → j < length marks → m ≡ j + 2 → mark ≡ get_or marks j mark → marked marks m ≡ mark
+pub mark_read : (marks : List Bool) (j m : ℕ) (mark : Bool) → j < length marks → m ≡ j + 2
+    → mark ≡ get_or marks j mark → marked marks m ≡ mark
 mark_read marks j m mark h at is =
     let e : m - 2 ≡ j = omega arith in
     ap (λ (k : ℕ). get_or marks k false) e ∙ get_or_default marks j false mark h ∙ sym is

@@ -18,20 +18,31 @@ use Rattle.decision_diagram.proofs.Growth.{with_node, keeps_same, keeps_node, re
 use Rattle.decision_diagram.proofs.Nodes.{inner_low, inner_last, inner_within, cases_inner}
 use Rattle.decision_diagram.proofs.Values.{level_none, level_some, item_at_level, value_none, value_inner}
 
-pub value_constant : (s : Diagrams) (b : Bool) (n : ℕ) (codes : List ℕ) → n ≡ constant_node b → value_of s n codes ≡ b
-value_constant s false n codes is = value_none s n codes (inner_low s.nodes n (omega arith)) ∙ ap (λ (m : ℕ). eqb m 1) is
-value_constant s true n codes is = value_none s n codes (inner_low s.nodes n (omega arith)) ∙ ap (λ (m : ℕ). eqb m 1) is
+pub value_constant : (s : Diagrams) (b : Bool) (n : ℕ) (codes : List ℕ) → n ≡ constant_node b
+    → value_of s n codes ≡ b
+value_constant s false n codes is =
+    value_none s n codes (inner_low s.nodes n (omega arith)) ∙ ap (λ (m : ℕ). eqb m 1) is
+value_constant s true n codes is =
+    value_none s n codes (inner_low s.nodes n (omega arith)) ∙ ap (λ (m : ℕ). eqb m 1) is
 
 -- a child at the code of the variable has the node's value
-pub value_child : (s : Diagrams) → AreReduced s → (n : ℕ) (node : Node) (kid code var : ℕ) (codes : List ℕ) → inner_at s.nodes n ≡ Some node → code < length node.kids → slice_index node.kids code ≡ kid → shape_of s n ≡ Inner var → slice_index codes var ≡ code → value_of s n codes ≡ value_of s kid codes
+pub value_child : (s : Diagrams) → AreReduced s
+    → (n : ℕ) (node : Node) (kid code var : ℕ) (codes : List ℕ) → inner_at s.nodes n ≡ Some node
+    → code < length node.kids → slice_index node.kids code ≡ kid → shape_of s n ≡ Inner var
+    → slice_index codes var ≡ code → value_of s n codes ≡ value_of s kid codes
 value_child s ok n node kid code var codes is low at shape code_is =
     let e : Inner node.var ≡ Inner var = sym (ap (shape_in n) is) ∙ shape in
     let same : node.var ≡ var = cc in
     let code_at : slice_index codes node.var ≡ code = ap (slice_index codes) same ∙ code_is in
-    value_inner s ok n node codes is (subst (λ (k : ℕ). k < length node.kids) (sym code_at) low) ∙ ap (λ (m : ℕ). value_of s m codes) (ap (slice_index node.kids) code_at ∙ at)
+    value_inner s ok n node codes is (subst (λ (k : ℕ). k < length node.kids) (sym code_at) low)
+    ∙ ap (λ (m : ℕ). value_of s m codes) (ap (slice_index node.kids) code_at ∙ at)
 
 -- where all children are the same, it is the one
-pub means_only : (s : Diagrams) (var : ℕ) (kids : List ℕ) (kid : ℕ) → var < length s.sizes → length kids ≡ slice_index s.sizes var → ((code : ℕ) → code < length kids → IsNode s (slice_index kids code)) → ((code : ℕ) → code < length kids → slice_index kids code ≡ kid) → 0 < length kids → Means s kid (choice s var kids)
+pub means_only : (s : Diagrams) (var : ℕ) (kids : List ℕ) (kid : ℕ) → var < length s.sizes
+    → length kids ≡ slice_index s.sizes var
+    → ((code : ℕ) → code < length kids → IsNode s (slice_index kids code))
+    → ((code : ℕ) → code < length kids → slice_index kids code ≡ kid) → 0 < length kids
+    → Means s kid (choice s var kids)
 means_only s var kids kid below long nodes same some = record {
   node = subst (IsNode s) (same 0 some) (nodes 0 some);
   value = λ codes fit.
@@ -40,7 +51,8 @@ means_only s var kids kid below long nodes same some = record {
 }
 
 -- an inner node with these children
-pub means_inner : (s : Diagrams) → AreReduced s → (n : ℕ) (node : Node) → inner_at s.nodes n ≡ Some node → Means s n (choice s node.var node.kids)
+pub means_inner : (s : Diagrams) → AreReduced s → (n : ℕ) (node : Node)
+    → inner_at s.nodes n ≡ Some node → Means s n (choice s node.var node.kids)
 means_inner s ok n node is =
     let good = ok.nodes n node is in
     record {
@@ -52,50 +64,80 @@ means_inner s ok n node is =
     }
 
 -- the inner node that the index has
-pub means_found : (s : Diagrams) → AreReduced s → (var : ℕ) (kids : List ℕ) (n : ℕ) → (node : Node) × (inner_at s.nodes n ≡ Some node) × (node.var ≡ var) × (node.kids ≡ kids) → Means s n (choice s var kids)
-means_found s ok var kids n w = subst (λ (v : ℕ). Means s n (choice s v kids)) w.2 (subst (λ (xs : List ℕ). Means s n (choice s w.0.var xs)) w.3 (means_inner s ok n w.0 w.1))
+pub means_found : (s : Diagrams) → AreReduced s → (var : ℕ) (kids : List ℕ) (n : ℕ)
+    → (node : Node) × (inner_at s.nodes n ≡ Some node) × (node.var ≡ var) × (node.kids ≡ kids)
+    → Means s n (choice s var kids)
+means_found s ok var kids n w =
+    subst (λ (v : ℕ). Means s n (choice s v kids)) w.2
+    (subst (λ (xs : List ℕ). Means s n (choice s w.0.var xs)) w.3 (means_inner s ok n w.0 w.1))
 
-pub level_found : (s : Diagrams) (var : ℕ) (kids : List ℕ) (n : ℕ) → (node : Node) × (inner_at s.nodes n ≡ Some node) × (node.var ≡ var) × (node.kids ≡ kids) → place s.order var ≤ level_of s n
-level_found s var kids n w = let e = level_some s n w.0 w.1 in let f = ap (place s.order) w.2 in omega arith
+pub level_found : (s : Diagrams) (var : ℕ) (kids : List ℕ) (n : ℕ)
+    → (node : Node) × (inner_at s.nodes n ≡ Some node) × (node.var ≡ var) × (node.kids ≡ kids)
+    → place s.order var ≤ level_of s n
+level_found s var kids n w = let e = level_some s n w.0 w.1 in let f = ap (place s.order) w.2 in
+    omega arith
 
 -- the inner node that was made
-pub means_new : (s : Diagrams) → AreReduced s → (node : Node) → IsNew s node → (n : ℕ) → n ≡ length s.nodes + 2 → Means (with_node s node) n (choice s node.var node.kids)
+pub means_new : (s : Diagrams) → AreReduced s → (node : Node) → IsNew s node → (n : ℕ)
+    → n ≡ length s.nodes + 2 → Means (with_node s node) n (choice s node.var node.kids)
 means_new s ok node new n is =
-    let all = means_inner (with_node s node) (reduced_more s ok node new) n node (inner_last s.nodes node n is) in
+    let all = means_inner (with_node s node) (reduced_more s ok node new) n node
+    (inner_last s.nodes node n is) in
     record {
       node = all.node;
       value = λ codes fit.
           let low = fits_at s.sizes codes fit node.var new.var in
           let long = new.kids in
-          all.value codes fit ∙ (keeps_node s ok node).values (slice_index node.kids (slice_index codes node.var)) codes (new.nodes (slice_index codes node.var) (omega arith));
+          all.value codes fit ∙ (keeps_node s ok node).values
+          (slice_index node.kids (slice_index codes node.var)) codes
+          (new.nodes (slice_index codes node.var) (omega arith));
     }
 
-pub level_new : (s : Diagrams) (node : Node) (n : ℕ) → n ≡ length s.nodes + 2 → place s.order node.var ≤ level_of (with_node s node) n
-level_new s node n is = let e = level_some (with_node s node) n node (inner_last s.nodes node n is) in omega arith
+pub level_new : (s : Diagrams) (node : Node) (n : ℕ) → n ≡ length s.nodes + 2
+    → place s.order node.var ≤ level_of (with_node s node) n
+level_new s node n is = let e =
+    level_some (with_node s node) n node (inner_last s.nodes node n is) in omega arith
 
 -- a node that the index hasn't, and whose children differ, may be made
-pub new_node : (s : Diagrams) → AreReduced s → (index : BTreeMap (Vec ℕ Global) ℕ) (var : ℕ) (kids key : List ℕ) → IsIndexed s.nodes index → key ≡ var ∷ kids → found index key ≡ None → var < length s.sizes → length kids ≡ slice_index s.sizes var → ((code : ℕ) → code < length kids → IsNode s (slice_index kids code)) → ((code : ℕ) → code < length kids → place s.order var < level_of s (slice_index kids code)) → ((kid : ℕ) → 0 < length kids → ((code : ℕ) → code < length kids → slice_index kids code ≡ kid) → ⊥) → IsNew s (record { var = var; kids = kids })
+pub new_node : (s : Diagrams) → AreReduced s
+    → (index : BTreeMap (Vec ℕ Global) ℕ) (var : ℕ) (kids key : List ℕ) → IsIndexed s.nodes index
+    → key ≡ var ∷ kids → found index key ≡ None → var < length s.sizes
+    → length kids ≡ slice_index s.sizes var
+    → ((code : ℕ) → code < length kids → IsNode s (slice_index kids code))
+    → ((code : ℕ) → code < length kids → place s.order var < level_of s (slice_index kids code))
+    → ((kid : ℕ) → 0 < length kids → ((code : ℕ) → code < length kids → slice_index kids code ≡ kid)
+    → ⊥) → IsNew s (record { var = var; kids = kids })
 new_node s ok index var kids key indexed key_is none below long nodes later varied = record {
   var = below;
   kids = long;
   nodes = nodes;
   later = later;
-  varied = λ kid same. let some = size_some s.sizes ok.sizes var below in varied kid (omega arith) same;
+  varied = λ kid same. let some = size_some s.sizes ok.sizes var below in
+      varied kid (omega arith) same;
   fresh = indexed_fresh s index var kids key indexed key_is none;
 }
 
 -- ---- what a call of `push_node` leaves
-module _ {E : Type 0} (s new : Diagrams) (ok : AreReduced s) (node : Node) (fresh : IsNew s node) where
-  pub pushed_keeps : (r : Result ℕ E) → OnOk r (new ≡ with_node s node) → OnErr r (new ≡ s) → Keeps s new
+module _ {E : Type 0} (s new : Diagrams) (ok : AreReduced s) (node : Node)
+    (fresh : IsNew s node) where
+  pub pushed_keeps : (r : Result ℕ E) → OnOk r (new ≡ with_node s node) → OnErr r (new ≡ s)
+      → Keeps s new
   pushed_keeps (Ok n) at_ok at_err = subst (Keeps s) (sym at_ok) (keeps_node s ok node)
   pushed_keeps (Err e) at_ok at_err = subst (Keeps s) (sym at_err) (keeps_same s)
 
-  pub pushed_means : (r : Result ℕ E) → OnOk r (new ≡ with_node s node) → IfOk r (λ n. n ≡ length s.nodes + 2) → IfOk r (λ n. Means new n (choice s node.var node.kids))
-  pushed_means (Ok n) at_ok number = subst (λ (d : Diagrams). Means d n (choice s node.var node.kids)) (sym at_ok) (means_new s ok node fresh n number)
+  pub pushed_means : (r : Result ℕ E) → OnOk r (new ≡ with_node s node)
+      → IfOk r (λ n. n ≡ length s.nodes + 2)
+      → IfOk r (λ n. Means new n (choice s node.var node.kids))
+  pushed_means (Ok n) at_ok number =
+      subst (λ (d : Diagrams). Means d n (choice s node.var node.kids)) (sym at_ok)
+      (means_new s ok node fresh n number)
   pushed_means (Err e) at_ok number = tt
 
-  pub pushed_level : (r : Result ℕ E) → OnOk r (new ≡ with_node s node) → IfOk r (λ n. n ≡ length s.nodes + 2) → IfOk r (λ n. place s.order node.var ≤ level_of new n)
-  pushed_level (Ok n) at_ok number = subst (λ (d : Diagrams). place s.order node.var ≤ level_of d n) (sym at_ok) (level_new s node n number)
+  pub pushed_level : (r : Result ℕ E) → OnOk r (new ≡ with_node s node)
+      → IfOk r (λ n. n ≡ length s.nodes + 2) → IfOk r (λ n. place s.order node.var ≤ level_of new n)
+  pushed_level (Ok n) at_ok number =
+      subst (λ (d : Diagrams). place s.order node.var ≤ level_of d n) (sym at_ok)
+      (level_new s node n number)
   pushed_level (Err e) at_ok number = tt
 
 -- ---- levels
@@ -121,21 +163,34 @@ level_constant s true = level_none s 1 (inner_low s.nodes 1 (omega arith))
 
 -- ---- literals
 -- a meaning as another function that agrees with it
-pub means_as : {E : Type 0} (s : Diagrams) (f g : List ℕ → Bool) (r : Result ℕ E) → IfOk r (λ n. Means s n f) → ((codes : List ℕ) → IsTrue (fits s.sizes codes) → f codes ≡ g codes) → IfOk r (λ n. Means s n g)
-means_as s f g (Ok n) means same = record { node = means.node; value = λ codes fit. means.value codes fit ∙ same codes fit }
+pub means_as : {E : Type 0} (s : Diagrams) (f g : List ℕ → Bool) (r : Result ℕ E)
+    → IfOk r (λ n. Means s n f)
+    → ((codes : List ℕ) → IsTrue (fits s.sizes codes) → f codes ≡ g codes)
+    → IfOk r (λ n. Means s n g)
+means_as s f g (Ok n) means same =
+    record { node = means.node; value = λ codes fit. means.value codes fit ∙ same codes fit }
 means_as s f g (Err e) means same = tt
 
 -- the children of a literal
-pub literal_choice : (s : Diagrams) (var set : ℕ) (kids codes : List ℕ) → IsTrue (fits s.sizes codes) → var < length s.sizes → length kids ≡ slice_index s.sizes var → ((code : ℕ) → code < slice_index s.sizes var → slice_index kids code ≡ constant_node (bit_at set code == 1)) → choice s var kids codes ≡ (bit_at set (slice_index codes var) == 1)
+pub literal_choice : (s : Diagrams) (var set : ℕ) (kids codes : List ℕ)
+    → IsTrue (fits s.sizes codes) → var < length s.sizes → length kids ≡ slice_index s.sizes var
+    → ((code : ℕ) → code < slice_index s.sizes var
+    → slice_index kids code ≡ constant_node (bit_at set code == 1))
+    → choice s var kids codes ≡ (bit_at set (slice_index codes var) == 1)
 literal_choice s var set kids codes fit below long at =
-    value_constant s (bit_at set (slice_index codes var) == 1) (slice_index kids (slice_index codes var)) codes (at (slice_index codes var) (fits_at s.sizes codes fit var below))
+    value_constant s (bit_at set (slice_index codes var) == 1)
+    (slice_index kids (slice_index codes var)) codes
+    (at (slice_index codes var) (fits_at s.sizes codes fit var below))
 
 -- ---- the first of two variables
-pub var_below : (s : Diagrams) → AreReduced s → (n : ℕ) (node : Node) → inner_at s.nodes n ≡ Some node → node.var < length s.order
+pub var_below : (s : Diagrams) → AreReduced s → (n : ℕ) (node : Node)
+    → inner_at s.nodes n ≡ Some node → node.var < length s.order
 var_below s ok n node is = let v = (ok.nodes n node is).var in let l = ok.lengths in omega arith
 
 -- a node whose variable is another one, and not before it, is read later
-pub later_other : (s : Diagrams) → AreReduced s → (n var : ℕ) → var < length s.sizes → place s.order var ≤ level_of s n → (shape_of s n ≡ Inner var → ⊥) → place s.order var < level_of s n
+pub later_other : (s : Diagrams) → AreReduced s → (n var : ℕ) → var < length s.sizes
+    → place s.order var ≤ level_of s n → (shape_of s n ≡ Inner var → ⊥)
+    → place s.order var < level_of s n
 later_other s ok n var below first other =
     ⊎_elim
     (λ later. later)
@@ -146,7 +201,8 @@ later_other s ok n var below first other =
     ⊎_elim
     (λ none. let e = level_none s n none in absurd (omega arith))
     (λ some.
-    let v : some.0.var ≡ var = sym (item_at_level s ok n some.0 some.1) ∙ ap (slice_index s.order) (sym same) ∙ at_place s.order var low in
+    let v : some.0.var ≡ var = sym (item_at_level s ok n some.0 some.1)
+    ∙ ap (slice_index s.order) (sym same) ∙ at_place s.order var low in
     absurd (other (ap (shape_in n) some.1 ∙ ap Inner v)))
     (cases_inner s.nodes n))
     (cases_lt (place s.order var) (level_of s n))

@@ -16,5 +16,10 @@ reached_led s root n ok there = lead_codes s ok root there.0 n there.1
 
 pub one_child : OneChild
 one_child s root n node codes ok is fit led decided =
-    let some = some_kid s ok n node is in
-    (some.0, some.1, some.2, λ c low other. one_kid s ok root n node is codes fit led decided some.0 c some.1 low some.2 other)
+    let some = some_kid s ok n node is in (
+      some.0,
+      some.1,
+      some.2,
+      λ c low other.
+          one_kid s ok root n node is codes fit led decided some.0 c some.1 low some.2 other,
+    )

@@ -6,8 +6,8 @@ use Rattle.decision_diagram.specs.declared.node.Node.{Node}
 use Rattle.decision_diagram.specs.declared.node.Shape.{Shape}
 use Rattle.decision_diagram.specs.declared.node.Shape.TheVariants.{False, True, Inner}
 
--- The sizes of the variables, the order in which they are read, and the inner nodes, children first. Node 0 is
--- false, node 1 is true, and the inner nodes have the numbers from 2 on.
+-- The sizes of the variables, the order in which they are read, and the inner nodes, children
+-- first. Node 0 is false, node 1 is true, and the inner nodes have the numbers from 2 on.
 pub record Diagrams : Type 0 where
   pub sizes : List ℕ
   pub order : List ℕ
@@ -17,7 +17,8 @@ pub record Diagrams : Type 0 where
 abbrev pub inner_at : List Node → ℕ → Option Node
 inner_at nodes n = cond (nat_lt n 2) None (slice_get nodes (n - 2))
 
--- where one comes to from node n by the code of a variable: to its child, where that is its variable
+-- where one comes to from node n by the code of a variable: to its child, where that is its
+-- variable
 abbrev pub step : Option Node → ℕ → ℕ → ℕ → ℕ
 step None var code n = n
 step (Some node) var code n = cond (node.var == var) (slice_index node.kids code) n
@@ -25,7 +26,8 @@ step (Some node) var code n = cond (node.var == var) (slice_index node.kids code
 -- where one comes to from node n by the codes of the variables, read in turn
 abbrev pub follow : List Node → List ℕ → List ℕ → ℕ → ℕ
 follow nodes [] codes n = n
-follow nodes (var ∷ vars) codes n = follow nodes vars codes (step (inner_at nodes n) var (slice_index codes var) n)
+follow nodes (var ∷ vars) codes n =
+    follow nodes vars codes (step (inner_at nodes n) var (slice_index codes var) n)
 
 -- it is a node of the store
 abbrev pub IsNode : Diagrams → ℕ → Type 0
@@ -59,25 +61,29 @@ level_in order (Some node) = place order node.var
 abbrev pub level_of : Diagrams → ℕ → ℕ
 level_of s n = level_in s.order (inner_at s.nodes n)
 
--- Of an inner node: it has one child for each code of its variable; the children were made before it, read only
--- later variables, and aren't all the same.
+-- Of an inner node: it has one child for each code of its variable; the children were made before
+-- it, read only later variables, and aren't all the same.
 pub record IsReducedNode (s : Diagrams) (n : ℕ) (node : Node) : Type 0 where
   pub var : node.var < length s.sizes
   pub kids : length node.kids ≡ slice_index s.sizes node.var
   pub before : (code : ℕ) → code < length node.kids → slice_index node.kids code < n
-  pub later : (code : ℕ) → code < length node.kids → place s.order node.var < level_of s (slice_index node.kids code)
-  pub varied : (kid : ℕ) → ((code : ℕ) → code < length node.kids → slice_index node.kids code ≡ kid) → ⊥
+  pub later : (code : ℕ) → code < length node.kids
+      → place s.order node.var < level_of s (slice_index node.kids code)
+  pub varied : (kid : ℕ) → ((code : ℕ) → code < length node.kids → slice_index node.kids code ≡ kid)
+      → ⊥
 
--- A reduced ordered diagram (Bryant 1986): so is each inner node, and no two have the same variable and children.
+-- A reduced ordered diagram (Bryant 1986): so is each inner node, and no two have the same variable
+-- and children.
 pub record AreReduced (s : Diagrams) : Type 0 where
   pub sizes : IsTrue (are_sizes s.sizes)
   pub order : IsPermutation s.order
   pub lengths : length s.order ≡ length s.sizes
   pub nodes : (n : ℕ) (node : Node) → inner_at s.nodes n ≡ Some node → IsReducedNode s n node
-  pub unique : (m n : ℕ) (a b : Node) → inner_at s.nodes m ≡ Some a → inner_at s.nodes n ≡ Some b → a.var ≡ b.var → a.kids ≡ b.kids → m ≡ n
+  pub unique : (m n : ℕ) (a b : Node) → inner_at s.nodes m ≡ Some a → inner_at s.nodes n ≡ Some b
+      → a.var ≡ b.var → a.kids ≡ b.kids → m ≡ n
 
--- The table and the order are as before, and each earlier node is still of the store, with the value, the shape, the
--- children and the place in the order that it had.
+-- The table and the order are as before, and each earlier node is still of the store, with the
+-- value, the shape, the children and the place in the order that it had.
 pub record Keeps (old new : Diagrams) : Type 0 where
   pub sizes : new.sizes ≡ old.sizes
   pub order : new.order ≡ old.order
@@ -101,10 +107,15 @@ pub record IsNew (s : Diagrams) (node : Node) : Type 0 where
   pub var : node.var < length s.sizes
   pub kids : length node.kids ≡ slice_index s.sizes node.var
   pub nodes : (code : ℕ) → code < length node.kids → IsNode s (slice_index node.kids code)
-  pub later : (code : ℕ) → code < length node.kids → place s.order node.var < level_of s (slice_index node.kids code)
-  pub varied : (kid : ℕ) → ((code : ℕ) → code < length node.kids → slice_index node.kids code ≡ kid) → ⊥
-  pub fresh : (n : ℕ) (other : Node) → inner_at s.nodes n ≡ Some other → other.var ≡ node.var → other.kids ≡ node.kids → ⊥
+  pub later : (code : ℕ) → code < length node.kids
+      → place s.order node.var < level_of s (slice_index node.kids code)
+  pub varied : (kid : ℕ) → ((code : ℕ) → code < length node.kids → slice_index node.kids code ≡ kid)
+      → ⊥
+  pub fresh : (n : ℕ) (other : Node) → inner_at s.nodes n ≡ Some other → other.var ≡ node.var
+      → other.kids ≡ node.kids → ⊥
 
 -- two nodes with the same value on all codes that fit the table are the same node
 abbrev pub IsCanonical : Diagrams → Type 0
-IsCanonical s = (a b : ℕ) → IsNode s a → IsNode s b → ((codes : List ℕ) → IsTrue (fits s.sizes codes) → value_of s a codes ≡ value_of s b codes) → a ≡ b
+IsCanonical s = (a b : ℕ) → IsNode s a → IsNode s b
+    → ((codes : List ℕ) → IsTrue (fits s.sizes codes) → value_of s a codes ≡ value_of s b codes)
+    → a ≡ b

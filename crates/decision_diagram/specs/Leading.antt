@@ -18,8 +18,12 @@ TrueSomewhere s n = (codes : List ℕ) × (fits s.sizes codes ≡ true) × (valu
 
 -- The code of a variable is decided by those before it, wherever the root is true.
 abbrev pub Decided : Diagrams → ℕ → ℕ → Type 0
-Decided s root w = (one other : List ℕ) → fits s.sizes one ≡ true → fits s.sizes other ≡ true → value_of s root one ≡ true → value_of s root other ≡ true → ((j : ℕ) → j < place s.order w → slice_index one (slice_index s.order j) ≡ slice_index other (slice_index s.order j)) → slice_index one w ≡ slice_index other w
+Decided s root w = (one other : List ℕ) → fits s.sizes one ≡ true → fits s.sizes other ≡ true
+    → value_of s root one ≡ true → value_of s root other ≡ true
+    → ((j : ℕ) → j < place s.order w → slice_index one (slice_index s.order j)
+    ≡ slice_index other (slice_index s.order j)) → slice_index one w ≡ slice_index other w
 
 -- of these children exactly one isn't False
 abbrev pub OneCode : List ℕ → Type 0
-OneCode kids = (c : ℕ) × (c < length kids) × (slice_index kids c ≢ 0) × ((d : ℕ) → d < length kids → slice_index kids d ≢ 0 → c ≡ d)
+OneCode kids = (c : ℕ) × (c < length kids) × (slice_index kids c ≢ 0)
+    × ((d : ℕ) → d < length kids → slice_index kids d ≢ 0 → c ≡ d)

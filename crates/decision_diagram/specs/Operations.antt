@@ -17,7 +17,8 @@ pub record IsResult (s : Diagrams) (op : Operation) (a b n : ℕ) : Type 0 where
   pub left : IsNode s a
   pub right : IsNode s b
   pub node : IsNode s n
-  pub value : (codes : List ℕ) → IsTrue (fits s.sizes codes) → value_of s n codes ≡ combine op (value_of s a codes) (value_of s b codes)
+  pub value : (codes : List ℕ) → IsTrue (fits s.sizes codes)
+      → value_of s n codes ≡ combine op (value_of s a codes) (value_of s b codes)
   pub level : min (level_of s a) (level_of s b) ≤ level_of s n
 
 -- what the index has for two nodes is what the operation makes of them

@@ -15,8 +15,8 @@ Reaches s n m = (steps : ℕ) × Walk s n m steps
 abbrev pub marked : List Bool → ℕ → Bool
 marked marks m = slice_index_or marks (m - 2) false
 
--- The number of inner nodes reached from n: how often a list that says of each inner node whether it is reached says
--- that it is.
+-- The number of inner nodes reached from n: how often a list that says of each inner node whether
+-- it is reached says that it is.
 pub record CountsReached (s : Diagrams) (n count : ℕ) : Type 0 where
   pub marks : List Bool
   pub long : length marks ≡ length s.nodes

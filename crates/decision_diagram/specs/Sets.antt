@@ -19,16 +19,22 @@ arising f sizes fixed a = map (λ b. f (taking fixed a b)) (all_codes sizes)
 
 -- another code of the variable changes its value on this list
 abbrev pub turns_at : (List ℕ → Bool) → List ℕ → (ℕ → Bool) → ℕ → List ℕ → List ℕ → Bool
-turns_at f sizes fixed v a b = list_any (λ code. not (same_truth (f (taking fixed a (slice_set b v code))) (f (taking fixed a b)))) (upto (slice_index sizes v))
+turns_at f sizes fixed v a b =
+    list_any (λ code.
+    not (same_truth (f (taking fixed a (slice_set b v code))) (f (taking fixed a b))))
+    (upto (slice_index sizes v))
 
 abbrev pub depends_on : (List ℕ → Bool) → List ℕ → (ℕ → Bool) → ℕ → List ℕ → Bool
 depends_on f sizes fixed v a = list_any (turns_at f sizes fixed v a) (all_codes sizes)
 
--- the number of different functions that arise by fixing these variables and depend on this one; no order is in it
+-- the number of different functions that arise by fixing these variables and depend on this one; no
+-- order is in it
 abbrev pub set_level : (List ℕ → Bool) → List ℕ → (ℕ → Bool) → ℕ → ℕ
-set_level f sizes fixed v = different (map (arising f sizes fixed) (filter (depends_on f sizes fixed v) (all_codes sizes)))
+set_level f sizes fixed v =
+    different (map (arising f sizes fixed) (filter (depends_on f sizes fixed v) (all_codes sizes)))
 
 -- the sum over the places of an order, each with the set of the variables before it
 abbrev pub sum_of_levels : (List ℕ → Bool) → List ℕ → List ℕ → List ℕ → ℕ
 sum_of_levels f sizes before [] = 0
-sum_of_levels f sizes before (v ∷ vs) = set_level f sizes (stands before) v + sum_of_levels f sizes (before ++ v ∷ []) vs
+sum_of_levels f sizes before (v ∷ vs) =
+    set_level f sizes (stands before) v + sum_of_levels f sizes (before ++ v ∷ []) vs

@@ -11,7 +11,8 @@ use polis_base::NoMemory;
 // The result, where no variable has to be read for it.
 fn settled(op: Operation, a: NodeId, b: NodeId) -> Option<NodeId>
     ensures either { IfSome result (λ n. (n ≡ a) ⊎ (n ≡ b)) }
-    ensures value { IfSome result (λ n. (s : Diagrams) (codes : List ℕ) → value_of s n codes ≡ combine op (value_of s a codes) (value_of s b codes)) }
+    ensures value { IfSome result (λ n. (s : Diagrams) (codes : List ℕ)
+        → value_of s n codes ≡ combine op (value_of s a codes) (value_of s b codes)) }
     ensures left { IfNone result (2 ≤ a) }
     ensures right { IfNone result (2 ≤ b) }
 {
@@ -33,8 +34,11 @@ impl Store {
         requires a { IsNode self.old a }
         requires b { IsNode self.old b }
         ensures kept { Keeps self.old self.new }
-        ensures value { IfOk result (λ n. Means self.new n (λ codes. combine op (value_of self.old a codes) (value_of self.old b codes))) }
-        ensures level { IfOk result (λ n. min (level_of self.old a) (level_of self.old b) ≤ level_of self.new n) }
+        ensures value { IfOk result
+            (λ n. Means self.new n
+            (λ codes. combine op (value_of self.old a codes) (value_of self.old b codes))) }
+        ensures level { IfOk result (λ n. min (level_of self.old a) (level_of self.old b)
+            ≤ level_of self.new n) }
     {
         if let Some(node) = settled(op, a, b) {
             return Ok(node);
@@ -59,8 +63,11 @@ impl Store {
         requires a { IsNode self.old a }
         requires b { IsNode self.old b }
         ensures kept { Keeps self.old self.new }
-        ensures value { IfOk result (λ n. Means self.new n (λ codes. value_of self.old a codes && value_of self.old b codes)) }
-        ensures level { IfOk result (λ n. min (level_of self.old a) (level_of self.old b) ≤ level_of self.new n) }
+        ensures value { IfOk result
+            (λ n. Means self.new n (λ codes. value_of self.old a codes
+            && value_of self.old b codes)) }
+        ensures level { IfOk result (λ n. min (level_of self.old a) (level_of self.old b)
+            ≤ level_of self.new n) }
     {
         self.apply(Operation::And, a, b)
     }
@@ -70,8 +77,11 @@ impl Store {
         requires a { IsNode self.old a }
         requires b { IsNode self.old b }
         ensures kept { Keeps self.old self.new }
-        ensures value { IfOk result (λ n. Means self.new n (λ codes. value_of self.old a codes || value_of self.old b codes)) }
-        ensures level { IfOk result (λ n. min (level_of self.old a) (level_of self.old b) ≤ level_of self.new n) }
+        ensures value { IfOk result
+            (λ n. Means self.new n (λ codes. value_of self.old a codes
+            || value_of self.old b codes)) }
+        ensures level { IfOk result (λ n. min (level_of self.old a) (level_of self.old b)
+            ≤ level_of self.new n) }
     {
         self.apply(Operation::Or, a, b)
     }

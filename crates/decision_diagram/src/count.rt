@@ -11,8 +11,10 @@ use polis_base::NoMemory;
 
 // Marks inner nodes. The mark of node `n` stands at place `n - 2`.
 fn mark(marks: &mut [bool], kids: &[NodeId])
-    requires { (code : ℕ) → code < length kids.now → slice_index kids.now code < length marks.old + 2 }
-    ensures { (m : ℕ) → 2 ≤ m → m < length marks.old + 2 → marked marks.new m ≡ (marked marks.old m || list_any (nat_eq m) kids.now) }
+    requires { (code : ℕ) → code < length kids.now
+        → slice_index kids.now code < length marks.old + 2 }
+    ensures { (m : ℕ) → 2 ≤ m → m < length marks.old + 2
+        → marked marks.new m ≡ (marked marks.old m || list_any (nat_eq m) kids.now) }
 {
     for kid in kids {
         let number = kid.number();
@@ -34,7 +36,8 @@ impl Store {
     pub fn count(&self, n: NodeId) -> Result<u64, NoMemory>
         requires { IsNode self.now n }
         ensures reached { IfOk result (λ count. CountsReached self.now n count) }
-        ensures size { IfOk result (λ count. (f : List ℕ → Bool) → Means self.now n f → count ≡ size_along f self.now.sizes self.now.order) }
+        ensures size { IfOk result (λ count. (f : List ℕ → Bool) → Means self.now n f
+            → count ≡ size_along f self.now.sizes self.now.order) }
     {
         self.same_value_same_node();
         let mut i = (self.node_count() - 2) as usize;

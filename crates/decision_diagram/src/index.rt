@@ -19,7 +19,8 @@ pub(crate) fn find(index: &Index, key: &[u64]) -> Option<u64>
 
 // Puts a number under a key.
 pub(crate) fn enter(index: &mut Index, key: Vec<u64>, number: u64) -> Result<(), NoMemory>
-    ensures ok { OnOk result ((q : List ℕ) → found index.new q ≡ cond (bytes_eq key.items q) (Some number) (found index.old q)) }
+    ensures ok { OnOk result ((q : List ℕ)
+        → found index.new q ≡ cond (bytes_eq key.items q) (Some number) (found index.old q)) }
     ensures err { OnErr result ((q : List ℕ) → found index.new q ≡ found index.old q) }
 {
     index.insert(key, number)?;

@@ -2,8 +2,8 @@
 use polis_base::{Duplicate, List, NoMemory};
 use std::marker::Model;
 
-/// A node of a store, by its number: 0 is the node that is false, 1 is the one that is true, and the
-/// inner nodes follow in the order in which they were made.
+/// A node of a store, by its number: 0 is the node that is false, 1 is the one that is true, and
+/// the inner nodes follow in the order in which they were made.
 #[derive(Clone, Copy, Debug, PartialEq, Eq)]
 pub struct NodeId {
     number: u64,

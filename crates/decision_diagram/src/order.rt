@@ -46,8 +46,8 @@ fn places_of(alloc: Global, list: &[u32]) -> Result<Option<Places>, NoMemory>
 }
 
 impl Order {
-    /// The order that a list gives, first the variable that is read first. It is None exactly where the list
-    /// is no permutation of the numbers below its length.
+    /// The order that a list gives, first the variable that is read first. It is None exactly where
+    /// the list is no permutation of the numbers below its length.
     pub fn new(alloc: Global, list: &[u32]) -> Result<Option<Order>, NoMemory>
         ensures some { IfOk result (λ made. IfSome made (λ order. order ≡ list.now)) }
         ensures permutation { IfOk result (λ made. IfSome made (λ order. IsPermutation list.now)) }

@@ -50,9 +50,11 @@ impl Model for Store {
 
 // The one child, where all are the same.
 fn only_kid(kids: &[NodeId]) -> Option<NodeId>
-    ensures some { IfSome result (λ kid. (code : ℕ) → code < length kids.now → slice_index kids.now code ≡ kid) }
+    ensures some { IfSome result (λ kid. (code : ℕ) → code < length kids.now
+        → slice_index kids.now code ≡ kid) }
     ensures there { IfSome result (λ kid. 0 < length kids.now) }
-    ensures none { IfNone result ((kid : ℕ) → 0 < length kids.now → ((code : ℕ) → code < length kids.now → slice_index kids.now code ≡ kid) → ⊥) }
+    ensures none { IfNone result ((kid : ℕ) → 0 < length kids.now
+        → ((code : ℕ) → code < length kids.now → slice_index kids.now code ≡ kid) → ⊥) }
 {
     let first = *kids.first()?;
     for kid in kids {
@@ -67,7 +69,8 @@ fn only_kid(kids: &[NodeId]) -> Option<NodeId>
 fn literal_kids(alloc: Global, size: u8, codes: u64) -> Result<Vec<NodeId>, NoMemory>
     requires { size ≤ 64 }
     ensures length { IfOk result (λ kids. length kids.items ≡ size) }
-    ensures kids { IfOk result (λ kids. (code : ℕ) → code < size → slice_index kids.items code ≡ constant_node (bit_at codes code == 1)) }
+    ensures kids { IfOk result (λ kids. (code : ℕ) → code < size
+        → slice_index kids.items code ≡ constant_node (bit_at codes code == 1)) }
 {
     let mut kids = Vec::new(alloc);
     for code in 0..size {
@@ -135,7 +138,10 @@ impl Store {
     fn push_node(&mut self, var: u32, kids: &[NodeId], key: Vec<u64>) -> Result<NodeId, NoMemory>
         requires key { key.items ≡ var ∷ kids.now }
         requires new { IsNew self.old (record { var = var; kids = kids.now }) }
-        ensures ok { OnOk result (self.new ≡ record self.old { nodes = self.old.nodes ++ record { var = var; kids = kids.now } ∷ [] }) }
+        ensures ok { OnOk result (self.new
+            ≡ record self.old {
+              nodes = self.old.nodes ++ record { var = var; kids = kids.now } ∷ [];
+            }) }
         ensures number { IfOk result (λ n. n ≡ length self.old.nodes + 2) }
         ensures err { OnErr result (self.new ≡ self.old) }
     {
@@ -151,13 +157,16 @@ impl Store {
         }
     }
 
-    /// The node whose value is that of the child at the code of a variable. Where all children are the same it is
-    /// that child, and where there is such a node already it is that one (Bryant 1986).
+    /// The node whose value is that of the child at the code of a variable. Where all children are
+    /// the same it is that child, and where there is such a node already it is that one (Bryant
+    /// 1986).
     pub fn node(&mut self, var: u32, kids: &[NodeId]) -> Result<NodeId, NoMemory>
         requires var { var < length self.old.sizes }
         requires kids { length kids.now ≡ slice_index self.old.sizes var }
-        requires nodes { (code : ℕ) → code < length kids.now → IsNode self.old (slice_index kids.now code) }
-        requires later { (code : ℕ) → code < length kids.now → place self.old.order var < level_of self.old (slice_index kids.now code) }
+        requires nodes { (code : ℕ) → code < length kids.now
+            → IsNode self.old (slice_index kids.now code) }
+        requires later { (code : ℕ) → code < length kids.now
+            → place self.old.order var < level_of self.old (slice_index kids.now code) }
         ensures kept { Keeps self.old self.new }
         ensures value { IfOk result (λ n. Means self.new n (choice self.old var kids.now)) }
         ensures level { IfOk result (λ n. place self.old.order var ≤ level_of self.new n) }
@@ -172,12 +181,14 @@ impl Store {
         }
     }
 
-    /// The node that is true where the code of a variable is in a set, whose bit `c` stands for code `c`.
+    /// The node that is true where the code of a variable is in a set, whose bit `c` stands for
+    /// code `c`.
     pub fn literal(&mut self, var: u32, codes: u64) -> Result<NodeId, NoMemory>
         requires var { var < length self.old.sizes }
         requires codes { codes < 2 ^ slice_index self.old.sizes var }
         ensures kept { Keeps self.old self.new }
-        ensures value { IfOk result (λ n. Means self.new n (λ at. bit_at codes (slice_index at var) == 1)) }
+        ensures value { IfOk result
+            (λ n. Means self.new n (λ at. bit_at codes (slice_index at var) == 1)) }
         ensures level { IfOk result (λ n. place self.old.order var ≤ level_of self.new n) }
     {
         let size = *self.vars.get(u64::from(var));
@@ -194,7 +205,8 @@ impl Store {
         NodeId::constant(value)
     }
 
-    /// How many nodes there are: the two constants and the inner nodes. Each node's number is below it.
+    /// How many nodes there are: the two constants and the inner nodes. Each node's number is below
+    /// it.
     pub fn node_count(&self) -> u64
         ensures count { result ≡ length self.now.nodes + 2 }
     {
@@ -206,7 +218,8 @@ impl Store {
         requires inner { 2 ≤ number }
         requires node { IsNode self.now number }
         ensures node { inner_at self.now.nodes number ≡ Some result.now }
-        ensures before { (code : ℕ) → code < length result.now.kids → slice_index result.now.kids code < number }
+        ensures before { (code : ℕ) → code < length result.now.kids
+            → slice_index result.now.kids code < number }
     {
         &self.nodes[(number - 2) as usize]
     }
@@ -215,10 +228,12 @@ impl Store {
     pub fn shape(&self, n: NodeId) -> Shape
         requires { IsNode self.now n }
         ensures shape { result ≡ shape_of self.now n }
-        ensures never { result ≡ Shape.False → (codes : List ℕ) → value_of self.now n codes ≡ false }
+        ensures never { result ≡ Shape.False → (codes : List ℕ)
+            → value_of self.now n codes ≡ false }
         ensures always { result ≡ Shape.True → (codes : List ℕ) → value_of self.now n codes ≡ true }
         ensures var { (var : ℕ) → result ≡ Shape.Inner var → var < length self.now.sizes }
-        ensures kids { (var : ℕ) → result ≡ Shape.Inner var → length (kids_of self.now n) ≡ slice_index self.now.sizes var }
+        ensures kids { (var : ℕ) → result ≡ Shape.Inner var
+            → length (kids_of self.now n) ≡ slice_index self.now.sizes var }
     {
         let _ = &self.nodes;
         match n.number() {
@@ -237,7 +252,9 @@ impl Store {
         ensures child { result ≡ slice_index (kids_of self.now n) code }
         ensures node { IsNode self.now result }
         ensures later { level_of self.now n < level_of self.now result }
-        ensures value { (var : ℕ) (codes : List ℕ) → shape_of self.now n ≡ Shape.Inner var → slice_index codes var ≡ code → value_of self.now n codes ≡ value_of self.now result codes }
+        ensures value { (var : ℕ) (codes : List ℕ) → shape_of self.now n ≡ Shape.Inner var
+            → slice_index codes var ≡ code → value_of self.now n codes
+            ≡ value_of self.now result codes }
     {
         let _ = &self.nodes;
         *self.inner(n.number()).kids.get(u64::from(code))
@@ -256,10 +273,11 @@ impl Store {
         self.shape(at) == Shape::True
     }
 
-    /// Two nodes with the same value on all codes that fit the table are the same node, and the diagrams are reduced:
-    /// no inner node has all its children the same, no two have the same variable and children, and each child was made
-    /// before its node and reads only later variables. It does nothing: its contract is these two laws, for whoever needs
-    /// them (Bryant 1986, for variables of several values).
+    /// Two nodes with the same value on all codes that fit the table are the same node, and the
+    /// diagrams are reduced: no inner node has all its children the same, no two have the same
+    /// variable and children, and each child was made before its node and reads only later
+    /// variables. It does nothing: its contract is these two laws, for whoever needs them (Bryant
+    /// 1986, for variables of several values).
     pub fn same_value_same_node(&self)
         ensures canonical { IsCanonical self.now }
         ensures reduced { AreReduced self.now }
@@ -295,7 +313,8 @@ impl Store {
         requires a { IsNode self.now a }
         requires b { IsNode self.now b }
         ensures var { result < length self.now.sizes }
-        ensures place { place self.now.order result ≡ min (level_of self.now a) (level_of self.now b) }
+        ensures place { place self.now.order result
+            ≡ min (level_of self.now a) (level_of self.now b) }
     {
         let left = self.inner(a.number()).var;
         let right = self.inner(b.number()).var;
@@ -314,7 +333,8 @@ impl Store {
         requires first { place self.now.order var ≤ level_of self.now n }
         ensures node { IsNode self.now result }
         ensures later { place self.now.order var < level_of self.now result }
-        ensures value { (codes : List ℕ) → slice_index codes var ≡ code → value_of self.now n codes ≡ value_of self.now result codes }
+        ensures value { (codes : List ℕ) → slice_index codes var ≡ code
+            → value_of self.now n codes ≡ value_of self.now result codes }
     {
         let _ = &self.nodes;
         match self.shape(n) {

@@ -107,7 +107,8 @@ impl Trial {
         some
     }
 
-    // What a machine of one row does: on these codes of its variables these results, and else no result.
+    // What a machine of one row does: on these codes of its variables these results, and else no
+    // result.
     fn one_row(&mut self, codes: &[u8], first: u32, results: &[u8], none: &[u8]) -> NodeId {
         let enabled = self.term(0, codes);
         let given = self.term(first, results);
@@ -174,7 +175,8 @@ impl Trial {
     }
 }
 
-// Press and state; then whether it goes, the next state and the light. It goes on a press where it is off.
+// Press and state; then whether it goes, the next state and the light. It goes on a press where it
+// is off.
 fn lamp_count(alloc: Global) -> Option<u64> {
     let mut trial = Trial::new(alloc, &[2, 2, 2, 3, 2], &[0, 1, 2, 3, 4]).ok()?;
     let node = trial.one_row(&[1, 0], 2, &[1, 2, 1], &[0, 0, 0]);
@@ -222,9 +224,9 @@ fn word_counts(alloc: Global) -> Option<[Option<u64>; 3]> {
     ])
 }
 
-// Each of the two has a tree of 2^12 - 1 nodes for the first word, and for the second 2^12, 2^11 and so on to 2. Both hold
-// of the 64 palindromes: 63 nodes for a first half, 64 at each bit of a second half and at the first seven bits of the
-// second word, and then 32, 16, 8, 4 and 2.
+// Each of the two has a tree of 2^12 - 1 nodes for the first word, and for the second 2^12, 2^11
+// and so on to 2. Both hold of the 64 palindromes: 63 nodes for a first half, 64 at each bit of a
+// second half and at the first seven bits of the second word, and then 32, 16, 8, 4 and 2.
 #[test]
 fn large_diagrams_have_their_known_sizes(rt: HostRuntime) {
     let known = [Some(12_285), Some(12_285), Some(957)];
@@ -257,7 +259,8 @@ fn disjunction_count(alloc: Global) -> Option<u64> {
     trial.count(any)
 }
 
-// A tree of 2^9 - 1 nodes for the nine bits, 2^9, 2^8 and so on to 2 for the same once more, and six for the zeros.
+// A tree of 2^9 - 1 nodes for the nine bits, 2^9, 2^8 and so on to 2 for the same once more, and
+// six for the zeros.
 #[test]
 fn many_terms_have_their_known_size(rt: HostRuntime) {
     assert_eq!(rt; disjunction_count(rt.alloc()), Some(1_539));

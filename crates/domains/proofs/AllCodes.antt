@@ -19,25 +19,33 @@ none_after [] = refl
 none_after {X = X} (x ∷ xs) = ap (λ (ys : List X). x ∷ ys) (none_after xs)
 
 -- the pieces of the numbers up to n, then that of n
-piece_more : {X : Type 0} (f : ℕ → List X) (n : ℕ) → flat_map f (upto (suc n)) ≡ flat_map f (upto n) ++ f n
-piece_more {X = X} f n = flat_map-append f (upto n) (n ∷ []) ∙ ap (λ (ys : List X). flat_map f (upto n) ++ ys) (none_after (f n))
+piece_more : {X : Type 0} (f : ℕ → List X) (n : ℕ)
+    → flat_map f (upto (suc n)) ≡ flat_map f (upto n) ++ f n
+piece_more {X = X} f n = flat_map-append f (upto n) (n ∷ [])
+    ∙ ap (λ (ys : List X). flat_map f (upto n) ++ ys) (none_after (f n))
 
-pieces_long : {X : Type 0} (f : ℕ → List X) (w : ℕ) → ((c : ℕ) → length (f c) ≡ w) → (n : ℕ) → length (flat_map f (upto n)) ≡ n * w
+pieces_long : {X : Type 0} (f : ℕ → List X) (w : ℕ) → ((c : ℕ) → length (f c) ≡ w) → (n : ℕ)
+    → length (flat_map f (upto n)) ≡ n * w
 pieces_long f w each zero = omega arith
 pieces_long f w each (suc n) =
-    ap length (piece_more f n) ∙ length-append (flat_map f (upto n)) (f n) ∙ omega (arith, pieces_long f w each n, each n)
+    ap length (piece_more f n) ∙ length-append (flat_map f (upto n)) (f n)
+    ∙ omega (arith, pieces_long f w each n, each n)
 
 pub counts_all : CountsAll
 counts_all [] = refl
-counts_all (size ∷ sizes) = pieces_long (each_after (all_codes sizes)) (product sizes) (λ c. long_map (λ (codes : List ℕ). c ∷ codes) (all_codes sizes) ∙ counts_all sizes) size
+counts_all (size ∷ sizes) =
+    pieces_long (each_after (all_codes sizes)) (product sizes)
+    (λ c. long_map (λ (codes : List ℕ). c ∷ codes) (all_codes sizes) ∙ counts_all sizes) size
 
 -- ---- what stands where
-get_left : {X : Type 0} (xs ys : List X) (i : ℕ) → i < length xs → slice_get (xs ++ ys) i ≡ slice_get xs i
+get_left : {X : Type 0} (xs ys : List X) (i : ℕ) → i < length xs
+    → slice_get (xs ++ ys) i ≡ slice_get xs i
 get_left [] ys i low = absurd (omega arith)
 get_left (x ∷ xs) ys zero low = refl
 get_left (x ∷ xs) ys (suc i) low = get_left xs ys i (omega arith)
 
-get_right : {X : Type 0} (xs ys : List X) (n i : ℕ) → n ≡ length xs → slice_get (xs ++ ys) (n + i) ≡ slice_get ys i
+get_right : {X : Type 0} (xs ys : List X) (n i : ℕ) → n ≡ length xs
+    → slice_get (xs ++ ys) (n + i) ≡ slice_get ys i
 get_right [] ys n i e = ap (slice_get ys) (omega arith)
 get_right (x ∷ xs) ys zero i e = absurd (omega arith)
 get_right (x ∷ xs) ys (suc n) i e =
@@ -45,12 +53,14 @@ get_right (x ∷ xs) ys (suc n) i e =
     ap (slice_get (x ∷ (xs ++ ys))) s ∙ get_right xs ys n i (omega arith)
 
 -- where all pieces are as long, item k of piece c stands at c * w + k
-at_piece : {X : Type 0} (f : ℕ → List X) (w : ℕ) → ((c : ℕ) → length (f c) ≡ w) → (n c k : ℕ) → c < n → k < w → slice_get (flat_map f (upto n)) (c * w + k) ≡ slice_get (f c) k
+at_piece : {X : Type 0} (f : ℕ → List X) (w : ℕ) → ((c : ℕ) → length (f c) ≡ w) → (n c k : ℕ)
+    → c < n → k < w → slice_get (flat_map f (upto n)) (c * w + k) ≡ slice_get (f c) k
 at_piece f w each zero c k low within = absurd (omega arith)
 at_piece {X = X} f w each (suc n) c k low within =
     ap (λ (xs : List X). slice_get xs (c * w + k)) (piece_more f n)
     ∙ ⊎_elim
-    (λ less. get_left (flat_map f (upto n)) (f n) (c * w + k) (inside c n less (pieces_long f w each n)) ∙ at_piece f w each n c k less within)
+    (λ less. get_left (flat_map f (upto n)) (f n) (c * w + k)
+    (inside c n less (pieces_long f w each n)) ∙ at_piece f w each n c k less within)
     (λ more.
     let e : c ≡ n = omega arith in
     ap (λ (m : ℕ). slice_get (flat_map f (upto n) ++ f n) (m * w + k)) e
@@ -72,8 +82,10 @@ stands_at_rank [] (code ∷ codes) f = absurd (false≢true f)
 stands_at_rank (size ∷ sizes) [] f = absurd (false≢true f)
 stands_at_rank (size ∷ sizes) (code ∷ codes) f =
     let parts = and_parts (ltb code size) (fits sizes codes) f in
-    let each : (c : ℕ) → length (each_after (all_codes sizes) c) ≡ product sizes = λ c. long_map (λ (codes : List ℕ). c ∷ codes) (all_codes sizes) ∙ counts_all sizes in
-    at_piece (each_after (all_codes sizes)) (product sizes) each size code (rank sizes codes) (ltb-true code size parts.0) (ranks_below sizes codes parts.1)
+    let each : (c : ℕ) → length (each_after (all_codes sizes) c) ≡ product sizes =
+    λ c. long_map (λ (codes : List ℕ). c ∷ codes) (all_codes sizes) ∙ counts_all sizes in
+    at_piece (each_after (all_codes sizes)) (product sizes) each size code (rank sizes codes)
+    (ltb-true code size parts.0) (ranks_below sizes codes parts.1)
     ∙ slice_get-map (λ (codes : List ℕ). code ∷ codes) (all_codes sizes) (rank sizes codes)
     ∙ ap (option_map (λ (codes : List ℕ). code ∷ codes)) (stands_at_rank sizes codes parts.1)
 
@@ -86,21 +98,29 @@ stands_once sizes codes i at =
     let count = counts_all sizes in
     let reached = ranks_reach sizes i (omega arith) in
     let there = stands_at_rank sizes reached.0 reached.1 in
-    let same : reached.0 ≡ codes = some_same reached.0 codes (sym there ∙ ap (slice_get (all_codes sizes)) reached.2 ∙ at) in
+    let same : reached.0 ≡ codes =
+    some_same reached.0 codes (sym there ∙ ap (slice_get (all_codes sizes)) reached.2 ∙ at) in
     (ap (fits sizes) (sym same) ∙ reached.1, ap (rank sizes) (sym same) ∙ reached.2)
 
 -- ---- what holds of them
-all_within : {X : Type 0} (p : X → Bool) (xs : List X) (k : ℕ) (x : X) → list_all p xs ≡ true → slice_get xs k ≡ Some x → p x ≡ true
+all_within : {X : Type 0} (p : X → Bool) (xs : List X) (k : ℕ) (x : X) → list_all p xs ≡ true
+    → slice_get xs k ≡ Some x → p x ≡ true
 all_within p [] k x all at = cc
-all_within p (y ∷ ys) zero x all at = ap p (some_same x y (sym at)) ∙ (and_parts (p y) (list_all p ys) all).0
-all_within p (y ∷ ys) (suc k) x all at = all_within p ys k x (and_parts (p y) (list_all p ys) all).1 at
+all_within p (y ∷ ys) zero x all at =
+    ap p (some_same x y (sym at)) ∙ (and_parts (p y) (list_all p ys) all).0
+all_within p (y ∷ ys) (suc k) x all at =
+    all_within p ys k x (and_parts (p y) (list_all p ys) all).1 at
 
-within_all : {X : Type 0} (p : X → Bool) (xs : List X) → ((k : ℕ) (x : X) → slice_get xs k ≡ Some x → p x ≡ true) → list_all p xs ≡ true
+within_all : {X : Type 0} (p : X → Bool) (xs : List X)
+    → ((k : ℕ) (x : X) → slice_get xs k ≡ Some x → p x ≡ true) → list_all p xs ≡ true
 within_all p [] each = refl
-within_all p (x ∷ xs) each = and_from (p x) (list_all p xs) (each 0 x refl) (within_all p xs (λ k y at. each (suc k) y at))
+within_all p (x ∷ xs) each =
+    and_from (p x) (list_all p xs) (each 0 x refl) (within_all p xs (λ k y at. each (suc k) y at))
 
 pub lists_all : ListsAll
-lists_all sizes p all codes fit = all_within p (all_codes sizes) (rank sizes codes) codes all (stands_at_rank sizes codes fit)
+lists_all sizes p all codes fit =
+    all_within p (all_codes sizes) (rank sizes codes) codes all (stands_at_rank sizes codes fit)
 
 pub lists_fit : ListsFit
-lists_fit sizes = within_all (fits sizes) (all_codes sizes) (λ k codes at. (stands_once sizes codes k at).0)
+lists_fit sizes =
+    within_all (fits sizes) (all_codes sizes) (λ k codes at. (stands_once sizes codes k at).0)

@@ -11,7 +11,11 @@ ranks_below [] [] f = omega arith
 ranks_below (size ∷ sizes) (code ∷ codes) f =
     let parts = and_parts (nat_lt code size) (fits sizes codes) f in
     let b : code < size = ltb-true _ _ parts.0 in
-    omega (arith, mul-add-lt code (product sizes) (rank sizes codes) size b (ranks_below sizes codes parts.1))
+    omega (
+      arith,
+      mul-add-lt code (product sizes) (rank sizes codes) size b
+          (ranks_below sizes codes parts.1),
+    )
 ranks_below [] (code ∷ codes) f = cc
 ranks_below (size ∷ sizes) [] f = cc
 
@@ -33,7 +37,8 @@ ranks_differ [] [] [] fx fy e = refl
 ranks_differ (size ∷ sizes) (x ∷ xs) (y ∷ ys) fx fy e =
     let px = and_parts (nat_lt x size) (fits sizes xs) fx in
     let py = and_parts (nat_lt y size) (fits sizes ys) fy in
-    let same = same_place x y (product sizes) (rank sizes xs) (rank sizes ys) (ranks_below sizes xs px.1) (ranks_below sizes ys py.1) e in
+    let same = same_place x y (product sizes) (rank sizes xs) (rank sizes ys)
+    (ranks_below sizes xs px.1) (ranks_below sizes ys py.1) e in
     let rest = ranks_differ sizes xs ys px.1 py.1 same.1 in
     let first = same.0 in
     cc
@@ -65,7 +70,8 @@ rank-zeros [] n = refl
 rank-zeros (size ∷ sizes) zero = refl
 rank-zeros (size ∷ sizes) (suc n) = omega (arith, rank-zeros sizes n)
 
-pub fits-zeros : (sizes : List ℕ) → are_sizes sizes ≡ true → fits sizes (replicate (length sizes) 0) ≡ true
+pub fits-zeros : (sizes : List ℕ) → are_sizes sizes ≡ true
+    → fits sizes (replicate (length sizes) 0) ≡ true
 fits-zeros [] h = refl
 fits-zeros (size ∷ sizes) h =
     let parts = and_parts (nat_le 1 size && nat_le size 33) (are_sizes sizes) h in
@@ -73,7 +79,8 @@ fits-zeros (size ∷ sizes) h =
     both_true (lt-ltb 0 size (leb-true 1 size some)) (fits-zeros sizes parts.1)
 
 -- the last list
-pub rank-greatest : (sizes codes : List ℕ) → are_greatest sizes codes ≡ true → rank sizes codes + 1 ≡ product sizes
+pub rank-greatest : (sizes codes : List ℕ) → are_greatest sizes codes ≡ true
+    → rank sizes codes + 1 ≡ product sizes
 rank-greatest [] [] h = refl
 rank-greatest (size ∷ sizes) (code ∷ codes) h =
     let parts = and_parts (code + 1 == size) (are_greatest sizes codes) h in
@@ -85,12 +92,15 @@ rank-greatest (size ∷ sizes) [] h = cc
 
 pub length-fits : (sizes codes : List ℕ) → fits sizes codes ≡ true → length codes ≡ length sizes
 length-fits [] [] h = refl
-length-fits (size ∷ sizes) (code ∷ codes) h = ap suc (length-fits sizes codes (and_parts (nat_lt code size) (fits sizes codes) h).1)
+length-fits (size ∷ sizes) (code ∷ codes) h =
+    ap suc (length-fits sizes codes (and_parts (nat_lt code size) (fits sizes codes) h).1)
 length-fits [] (code ∷ codes) h = cc
 length-fits (size ∷ sizes) [] h = cc
 
 -- the next list
-pub rank-stepped : (sizes codes : List ℕ) (k : ℕ) → fits sizes codes ≡ true → k < length codes → are_greatest (drop (suc k) sizes) (drop (suc k) codes) ≡ true → rank sizes (stepped codes k) ≡ rank sizes codes + 1
+pub rank-stepped : (sizes codes : List ℕ) (k : ℕ) → fits sizes codes ≡ true → k < length codes
+    → are_greatest (drop (suc k) sizes) (drop (suc k) codes) ≡ true
+    → rank sizes (stepped codes k) ≡ rank sizes codes + 1
 rank-stepped [] [] k f below g = absurd (omega arith)
 rank-stepped (size ∷ sizes) (code ∷ codes) zero f below g =
     let z = rank-zeros sizes (length codes) in
@@ -102,12 +112,15 @@ rank-stepped (size ∷ sizes) (code ∷ codes) (suc k) f below g =
 rank-stepped [] (code ∷ codes) k f below g = cc
 rank-stepped (size ∷ sizes) [] k f below g = cc
 
-pub fits-stepped : (sizes codes : List ℕ) (k : ℕ) → are_sizes sizes ≡ true → fits sizes codes ≡ true → k < length codes → slice_index codes k + 1 < slice_index sizes k → fits sizes (stepped codes k) ≡ true
+pub fits-stepped : (sizes codes : List ℕ) (k : ℕ) → are_sizes sizes ≡ true → fits sizes codes ≡ true
+    → k < length codes → slice_index codes k + 1 < slice_index sizes k
+    → fits sizes (stepped codes k) ≡ true
 fits-stepped [] [] k s f below room = absurd (omega arith)
 fits-stepped (size ∷ sizes) (code ∷ codes) zero s f below room =
     let parts = and_parts (nat_lt code size) (fits sizes codes) f in
     let rest = (and_parts (nat_le 1 size && nat_le size 33) (are_sizes sizes) s).1 in
-    both_true (lt-ltb (code + 1) size room) (rw (length-fits sizes codes parts.1) (fits-zeros sizes rest))
+    both_true (lt-ltb (code + 1) size room)
+    (rw (length-fits sizes codes parts.1) (fits-zeros sizes rest))
 fits-stepped (size ∷ sizes) (code ∷ codes) (suc k) s f below room =
     let parts = and_parts (nat_lt code size) (fits sizes codes) f in
     let rest = (and_parts (nat_le 1 size && nat_le size 33) (are_sizes sizes) s).1 in
@@ -116,7 +129,8 @@ fits-stepped [] (code ∷ codes) k s f below room = cc
 fits-stepped (size ∷ sizes) [] k s f below room = cc
 
 -- a list with a next one isn't the last
-pub not-greatest : (sizes codes : List ℕ) → rank sizes codes + 1 < product sizes → true ≡ not (are_greatest sizes codes)
+pub not-greatest : (sizes codes : List ℕ) → rank sizes codes + 1 < product sizes
+    → true ≡ not (are_greatest sizes codes)
 not-greatest sizes codes more =
     elim (cases_Bool (are_greatest sizes codes)) [
       | inl greatest ↦ absurd (omega (arith, rank-greatest sizes codes greatest))
@@ -124,12 +138,22 @@ not-greatest sizes codes more =
     ]
 
 -- the next list has the next number, which is below the product
-pub next-below : (sizes codes : List ℕ) (k : ℕ) → are_sizes sizes ≡ true → fits sizes codes ≡ true → k < length codes → slice_index codes k + 1 < slice_index sizes k → are_greatest (drop (suc k) sizes) (drop (suc k) codes) ≡ true → rank sizes codes + 1 < product sizes
+pub next-below : (sizes codes : List ℕ) (k : ℕ) → are_sizes sizes ≡ true → fits sizes codes ≡ true
+    → k < length codes → slice_index codes k + 1 < slice_index sizes k
+    → are_greatest (drop (suc k) sizes) (drop (suc k) codes) ≡ true
+    → rank sizes codes + 1 < product sizes
 next-below sizes codes k s f below room g =
-    omega (arith, ranks_below sizes (stepped codes k) (fits-stepped sizes codes k s f below room), rank-stepped sizes codes k f below g)
+    omega (
+      arith,
+      ranks_below sizes (stepped codes k) (fits-stepped sizes codes k s f below room),
+      rank-stepped sizes codes k f below g,
+    )
 
 -- a size is at most 33
 pub size_few : (sizes : List ℕ) (k : ℕ) → are_sizes sizes ≡ true → slice_index sizes k ≤ 33
 size_few [] k h = omega arith
-size_few (size ∷ sizes) zero h = leb-true _ _ (and_parts (nat_le 1 size) (nat_le size 33) (and_parts (nat_le 1 size && nat_le size 33) (are_sizes sizes) h).0).1
-size_few (size ∷ sizes) (suc k) h = size_few sizes k (and_parts (nat_le 1 size && nat_le size 33) (are_sizes sizes) h).1
+size_few (size ∷ sizes) zero h =
+    leb-true _ _ (and_parts (nat_le 1 size) (nat_le size 33)
+    (and_parts (nat_le 1 size && nat_le size 33) (are_sizes sizes) h).0).1
+size_few (size ∷ sizes) (suc k) h =
+    size_few sizes k (and_parts (nat_le 1 size && nat_le size 33) (are_sizes sizes) h).1

@@ -14,7 +14,8 @@ is_same_self [] = refl
 is_same_self (c ∷ cs) = both_true (eq-eqb c c refl) (is_same_self cs)
 
 -- a name that stands at a place is among the names
-among_at : (names : List (List ℕ)) (k : ℕ) (name : List ℕ) → k < length names → name ≡ unwrap_or (slice_get names k) [] → list_any (is_same name) names ≡ true
+among_at : (names : List (List ℕ)) (k : ℕ) (name : List ℕ) → k < length names
+    → name ≡ unwrap_or (slice_get names k) [] → list_any (is_same name) names ≡ true
 among_at [] k name below at = absurd (omega arith)
 among_at (first ∷ names) zero name below at = rw (at, is_same_self first) refl
 among_at (first ∷ names) (suc k) name below at =
@@ -24,7 +25,8 @@ among_at (first ∷ names) (suc k) name below at =
     or_true true = refl
     or_true false = refl
 
-places_same : (names : List (List ℕ)) (v w : ℕ) → are_distinct names ≡ true → v < length names → w < length names → unwrap_or (slice_get names v) [] ≡ unwrap_or (slice_get names w) [] → v ≡ w
+places_same : (names : List (List ℕ)) (v w : ℕ) → are_distinct names ≡ true → v < length names
+    → w < length names → unwrap_or (slice_get names v) [] ≡ unwrap_or (slice_get names w) [] → v ≡ w
 places_same [] v w distinct below_v below_w same = absurd (omega arith)
 places_same (first ∷ names) zero zero distinct below_v below_w same = refl
 places_same (first ∷ names) zero (suc w) distinct below_v below_w same =
@@ -42,7 +44,8 @@ places_same (first ∷ names) (suc v) (suc w) distinct below_v below_w same =
     ap suc (places_same names v w parts.1 (omega arith) (omega arith) same)
 
 pub words_differ : WordsDiffer
-words_differ (Names names) v w domain below_v below_w same = places_same names v w domain.distinct below_v below_w same
+words_differ (Names names) v w domain below_v below_w same =
+    places_same names v w domain.distinct below_v below_w same
 words_differ (Range span) v w domain below_v below_w same =
     let e = decimal_injective (span.first + v) (span.first + w) (omega arith) (omega arith) same in
     omega arith
@@ -53,10 +56,15 @@ none_then None h f = f h
 none_then (Some x) h f = h
 
 -- a name stands at one place
-pub only_place : (names : List (List ℕ)) (word : List ℕ) (v w : ℕ) → AreValues names → slice_get names v ≡ Some word → w < length names → word_of (Names names) w ≡ word → w ≡ v
+pub only_place : (names : List (List ℕ)) (word : List ℕ) (v w : ℕ) → AreValues names
+    → slice_get names v ≡ Some word → w < length names → word_of (Names names) w ≡ word → w ≡ v
 only_place names word v w values at below same =
     let there : word_of (Names names) v ≡ word = ap (λ (o : Option (List ℕ)). unwrap_or o []) at in
-    places_same names w v values.distinct below (slice_get_within names v word at) (same ∙ sym there)
+    places_same names w v values.distinct below (slice_get_within names v word at)
+    (same ∙ sym there)
 
-pub no_place : (names : List (List ℕ)) (word : List ℕ) (v : ℕ) → v < length names → word_of (Names names) v ≡ word → slice_get names v ≡ Some word
-no_place names word v below same = slice_get-get_or names v [] below ∙ ap (λ (name : List ℕ). Some name) (sym (unwrap_or-slice_get names v []) ∙ same)
+pub no_place : (names : List (List ℕ)) (word : List ℕ) (v : ℕ) → v < length names
+    → word_of (Names names) v ≡ word → slice_get names v ≡ Some word
+no_place names word v below same =
+    slice_get-get_or names v [] below ∙ ap (λ (name : List ℕ). Some name)
+    (sym (unwrap_or-slice_get names v []) ∙ same)

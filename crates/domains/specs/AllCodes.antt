@@ -19,11 +19,13 @@ CountsAll = (sizes : List ℕ) → length (all_codes sizes) ≡ product sizes
 
 -- a list that fits stands at its rank
 abbrev pub StandsAtRank : Type 0
-StandsAtRank = (sizes codes : List ℕ) → IsTrue (fits sizes codes) → slice_get (all_codes sizes) (rank sizes codes) ≡ Some codes
+StandsAtRank = (sizes codes : List ℕ) → IsTrue (fits sizes codes)
+    → slice_get (all_codes sizes) (rank sizes codes) ≡ Some codes
 
 -- what stands there fits, and stands nowhere else
 abbrev pub StandsOnce : Type 0
-StandsOnce = (sizes codes : List ℕ) (i : ℕ) → slice_get (all_codes sizes) i ≡ Some codes → IsTrue (fits sizes codes) × (rank sizes codes ≡ i)
+StandsOnce = (sizes codes : List ℕ) (i : ℕ) → slice_get (all_codes sizes) i ≡ Some codes
+    → IsTrue (fits sizes codes) × (rank sizes codes ≡ i)
 
 -- each of them fits
 abbrev pub ListsFit : Type 0
@@ -31,4 +33,5 @@ ListsFit = (sizes : List ℕ) → list_all (fits sizes) (all_codes sizes) ≡ tr
 
 -- what holds of each of them holds of all lists that fit
 abbrev pub ListsAll : Type 0
-ListsAll = (sizes : List ℕ) (p : List ℕ → Bool) → list_all p (all_codes sizes) ≡ true → (codes : List ℕ) → fits sizes codes ≡ true → p codes ≡ true
+ListsAll = (sizes : List ℕ) (p : List ℕ → Bool) → list_all p (all_codes sizes) ≡ true
+    → (codes : List ℕ) → fits sizes codes ≡ true → p codes ≡ true

@@ -13,8 +13,10 @@ place (x ∷ xs) v = cond (x == v) 0 (place xs v + 1)
 
 -- each number below the length stands somewhere
 abbrev pub HavePlaces : Type 0
-HavePlaces = (list : List ℕ) (v : ℕ) → IsPermutation list → v < length list → (place list v < length list) × (slice_index list (place list v) ≡ v)
+HavePlaces = (list : List ℕ) (v : ℕ) → IsPermutation list → v < length list
+    → (place list v < length list) × (slice_index list (place list v) ≡ v)
 
 -- and nowhere else
 abbrev pub OnePlace : Type 0
-OnePlace = (list : List ℕ) (i : ℕ) → IsPermutation list → i < length list → place list (slice_index list i) ≡ i
+OnePlace = (list : List ℕ) (i : ℕ) → IsPermutation list → i < length list
+    → place list (slice_index list i) ≡ i

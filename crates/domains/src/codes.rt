@@ -88,7 +88,8 @@ fn last_below(codes: &Codes, vars: &VarTable) -> Option<u64>
     ensures sizes { IsTrue (are_sizes vars.now) }
     ensures place { IfSome result (λ k. k < length codes.now) }
     ensures below { IfSome result (λ k. slice_index codes.now k + 1 < slice_index vars.now k) }
-    ensures after { IfSome result (λ k. IsTrue (are_greatest (drop (suc k) vars.now) (drop (suc k) codes.now))) }
+    ensures after { IfSome result (λ k.
+        IsTrue (are_greatest (drop (suc k) vars.now) (drop (suc k) codes.now))) }
     ensures none { IfNone result (IsTrue (are_greatest vars.now codes.now)) }
 {
     for k in (0..vars.len()).rev() {
@@ -114,8 +115,8 @@ fn step(codes: &mut Codes, k: u64)
     }
 }
 
-/// Steps to the next of the lists that fit, in which the last variable changes fastest. False, and nothing is
-/// changed, where every code is its variable's greatest.
+/// Steps to the next of the lists that fit, in which the last variable changes fastest. False, and
+/// nothing is changed, where every code is its variable's greatest.
 pub fn next_codes(codes: &mut Codes, vars: &VarTable) -> bool
     requires { IsTrue (fits vars.now codes.old) }
     ensures fits { IsTrue (fits vars.now codes.new) }

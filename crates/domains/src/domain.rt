@@ -73,7 +73,8 @@ impl Duplicate for NameList {
     }
 }
 
-/// The numbers from `first` to `last`, both included, 1 to 32 of them. Value v is the number `first + v`.
+/// The numbers from `first` to `last`, both included, 1 to 32 of them. Value v is the number `first
+/// + v`.
 #[derive(Clone, Copy, Debug)]
 pub struct Span {
     /// The least number.
@@ -103,8 +104,10 @@ impl Span {
 
     // The value that is the number of a decimal text.
     fn value_of(self, word: &[u8]) -> Option<u8>
-        ensures some { IfSome result (λ v. (self.first + v ≤ self.last) × (decimal (self.first + v) ≡ word.now)) }
-        ensures none { IfNone result ((v : ℕ) → self.first + v ≤ self.last → decimal (self.first + v) ≢ word.now) }
+        ensures some { IfSome result (λ v. (self.first + v ≤ self.last)
+            × (decimal (self.first + v) ≡ word.now)) }
+        ensures none { IfNone result ((v : ℕ) → self.first + v ≤ self.last
+            → decimal (self.first + v) ≢ word.now) }
         ensures last { self.last < 2 ^ 32 }
     {
         let number = read_decimal(word)?;
@@ -143,9 +146,12 @@ impl Domain {
 
     /// The number of the value that has this word, where one has it.
     pub fn value_of(&self, word: &[u8]) -> Option<u8>
-        ensures some { IfSome result (λ v. (v < size_of self.now) × (word_of self.now v ≡ word.now)) }
-        ensures only { IfSome result (λ v. (w : ℕ) → w < size_of self.now → word_of self.now w ≡ word.now → w ≡ v) }
-        ensures none { IfNone result ((v : ℕ) → v < size_of self.now → word_of self.now v ≢ word.now) }
+        ensures some { IfSome result (λ v. (v < size_of self.now)
+            × (word_of self.now v ≡ word.now)) }
+        ensures only { IfSome result (λ v. (w : ℕ) → w < size_of self.now
+            → word_of self.now w ≡ word.now → w ≡ v) }
+        ensures none { IfNone result ((v : ℕ) → v < size_of self.now
+            → word_of self.now v ≢ word.now) }
     {
         match self {
             Domain::Names(names) => names.place_of(word),

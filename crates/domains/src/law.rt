@@ -13,8 +13,8 @@ pub fn laws()
     ensures ranks_reach { RanksReach }
 {}
 
-/// What follows from the definition of all lists of codes: with `next_codes`, which goes from a rank to the next,
-/// that these lists in this order are those that it steps through.
+/// What follows from the definition of all lists of codes: with `next_codes`, which goes from a
+/// rank to the next, that these lists in this order are those that it steps through.
 pub fn laws_of_all_codes()
     ensures counts_all { CountsAll }
     ensures stands_at_rank { StandsAtRank }

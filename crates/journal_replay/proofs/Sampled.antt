@@ -120,10 +120,13 @@ two_fit = (
 
 pub landings_alone : (m : ℕ)
     → IsAlone join m (Dep Env 0 0 1 ∷ Dep Env 0 0 1 ∷ Dep Env 0 1 1 ∷ [])
-landings_alone zero = record { fitting = (refl, (refl, (refl, tt))); own = refl; reacting = (tt, (tt, (tt, tt))) }
+landings_alone zero =
+    record { fitting = (refl, (refl, (refl, tt))); own = refl; reacting = (tt, (tt, (tt, tt))) }
 landings_alone (suc m) =
-    let away : (0 == suc m) ≡ false = ne_eqb 0 (suc m) (λ h. let e : suc m ≡ 0 = sym h in omega arith) in
-    let none : filter (of_machine (suc m)) (Dep Env 0 0 1 ∷ Dep Env 0 0 1 ∷ Dep Env 0 1 1 ∷ []) ≡ [] =
+    let away : (0 == suc m) ≡ false =
+    ne_eqb 0 (suc m) (λ h. let e : suc m ≡ 0 = sym h in omega arith) in
+    let none : filter (of_machine (suc m)) (Dep Env 0 0 1 ∷ Dep Env 0 0 1 ∷ Dep Env 0 1 1 ∷ [])
+    ≡ [] =
     ap of_none away in
     record {
       fitting = subst (IsJournal join) (sym none) tt;

@@ -15,9 +15,12 @@ use transition_table::Network;
 fn appends(config: &mut Config<'_>, entry: &Entry) -> Result<bool, NoMemory>
     requires fits { FitsNetwork config.old.net entry.now }
     requires reaction { MayFollowIfReaction config.old.net config.old.trace config.old.journal entry.now }
-    ensures follows { result ≡ Ok true → MayFollow config.old.net config.old.trace config.old.journal entry.now }
-    ensures taken { result ≡ Ok true → config.new ≡ record config.old { journal = config.old.journal ++ entry.now ∷ [] } }
-    ensures other { result ≡ Ok false → ¬ MayFollow config.old.net config.old.trace config.old.journal entry.now }
+    ensures follows { result ≡ Ok true
+        → MayFollow config.old.net config.old.trace config.old.journal entry.now }
+    ensures taken { result ≡ Ok true → config.new
+        ≡ record config.old { journal = config.old.journal ++ entry.now ∷ [] } }
+    ensures other { result ≡ Ok false
+        → ¬ MayFollow config.old.net config.old.trace config.old.journal entry.now }
     ensures same { result ≡ Ok false → config.new ≡ config.old }
 {
     judging_laws();
@@ -33,7 +36,8 @@ fn append_all(config: &mut Config<'_>, j: &Journal, count: u64) -> Result<(), No
     requires start { config.old.journal ≡ [] }
     requires alone { (m : ℕ) → IsAlone config.old.net m j.now }
     requires few { count ≤ length j.now }
-    ensures { OnOk result (IsAdopted config.old.net config.old.trace j.now count config.new.journal) }
+    ensures { OnOk result
+        (IsAdopted config.old.net config.old.trace j.now count config.new.journal) }
 {
     laws();
     for i in 0..count {

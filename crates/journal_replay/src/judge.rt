@@ -31,9 +31,12 @@ pub enum Verdict {
 fn admits<R: Reactor>(r: &R, config: &mut Config<'_>, entry: &Entry) -> Result<bool, NoMemory>
     requires fits { FitsNetwork config.old.net entry.now }
     requires network { R.meaning r.now ≡ config.old.net }
-    ensures follows { result ≡ Ok true → MayFollow config.old.net config.old.trace config.old.journal entry.now }
-    ensures taken { result ≡ Ok true → config.new ≡ record config.old { journal = config.old.journal ++ entry.now ∷ [] } }
-    ensures other { result ≡ Ok false → ¬ MayFollow config.old.net config.old.trace config.old.journal entry.now }
+    ensures follows { result ≡ Ok true
+        → MayFollow config.old.net config.old.trace config.old.journal entry.now }
+    ensures taken { result ≡ Ok true → config.new
+        ≡ record config.old { journal = config.old.journal ++ entry.now ∷ [] } }
+    ensures other { result ≡ Ok false
+        → ¬ MayFollow config.old.net config.old.trace config.old.journal entry.now }
     ensures same { result ≡ Ok false → config.new ≡ config.old }
 {
     judging_laws();

@@ -181,7 +181,9 @@ fn stamped_verdict(alloc: Global, stamps: &[u64]) -> Result<Verdict, NoMemory>
 
 // The first machine begins or answers, what it sends lands, the other answers, and that lands.
 fn push_exchange(alloc: Global, codes: &[u8], journal: &mut Journal) -> Result<(), NoMemory>
-    ensures { OnOk result (journal.new ≡ journal.old ++ fires 0 codes.now [] (1 ∷ []) ∷ delivers (Sender 0) 1 1 ∷ fires 1 (1 ∷ []) [] (1 ∷ []) ∷ delivers (Sender 1) 0 2 ∷ []) }
+    ensures { OnOk result (journal.new
+        ≡ journal.old ++ fires 0 codes.now [] (1 ∷ []) ∷ delivers (Sender 0) 1 1
+        ∷ fires 1 (1 ∷ []) [] (1 ∷ []) ∷ delivers (Sender 1) 0 2 ∷ []) }
 {
     journal.push(firing(alloc, 0, codes, 1)?)?;
     journal.push(delivery(Party::Machine(0), 1, 1))?;
@@ -232,7 +234,8 @@ fn stamps_are_judged(rt: HostRuntime) -> Result<(), Fail> {
 
 // The environment sends a and b, and a lands twice before b does.
 fn landings(alloc: Global) -> Result<Journal, NoMemory>
-    ensures { IfOk result (λ journal. journal ≡ Dep Env 0 0 1 ∷ Dep Env 0 0 1 ∷ Dep Env 0 1 1 ∷ []) }
+    ensures { IfOk result (λ journal. journal
+        ≡ Dep Env 0 0 1 ∷ Dep Env 0 0 1 ∷ Dep Env 0 1 1 ∷ []) }
 {
     let mut journal = Journal::new(alloc);
     journal.push(delivery(Party::Env, 0, 0))?;

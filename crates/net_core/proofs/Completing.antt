@@ -16,8 +16,12 @@ no_item : {X : Type 0} (o : Option X) → is_some o ≡ false → o ≡ None
 no_item None h = refl
 no_item (Some x) h = cc
 
-pub complete_says : (net : Network) (trace : List TraceItem) (journal : List Entry) (a b c : Bool) → CompleteOwesNothing → Legal net trace journal
-    → a ≡ is_some (head_of (owed_by_machines net journal)) → b ≡ is_some (head_of (owed_by_env net trace journal)) → (c ≡ false → (m : ℕ) → m < length net.machines → is_woken journal m ≡ false) → (((m : ℕ) → m < length net.machines → is_woken journal m ≡ false) → c ≡ false)
+pub complete_says : (net : Network) (trace : List TraceItem) (journal : List Entry) (a b c : Bool)
+    → CompleteOwesNothing → Legal net trace journal
+    → a ≡ is_some (head_of (owed_by_machines net journal))
+    → b ≡ is_some (head_of (owed_by_env net trace journal))
+    → (c ≡ false → (m : ℕ) → m < length net.machines → is_woken journal m ≡ false)
+    → (((m : ℕ) → m < length net.machines → is_woken journal m ≡ false) → c ≡ false)
     → IsTrue (not (a || b || c)) ↔ Complete net trace journal
 complete_says net trace journal a b c law legal owes env none all =
     let both = law net trace journal legal in (
@@ -33,6 +37,7 @@ complete_says net trace journal a b c law legal owes env none all =
           let nothing = both.0 complete in
           not_from_false (a || b || c)
           (or_from (a || b) c
-          (or_from a b (owes ∙ ap (λ (o : Option Owed). is_some o) nothing.0) (env ∙ ap (λ (o : Option (Owed × Bool)). is_some o) nothing.1))
+          (or_from a b (owes ∙ ap (λ (o : Option Owed). is_some o) nothing.0)
+          (env ∙ ap (λ (o : Option (Owed × Bool)). is_some o) nothing.1))
           (all nothing.2))),
     )

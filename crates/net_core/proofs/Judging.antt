@@ -29,7 +29,8 @@ find_passes : {X : Type 0} (p : X → Bool) (xs : List X) (x : X) → find p xs 
 find_passes p [] x h = cc
 find_passes p (y ∷ xs) x h = cases (p y) refl h (find_passes p xs x)
   where
-    cases : (b : Bool) → p y ≡ b → cond b (Some y) (find p xs) ≡ Some x → (find p xs ≡ Some x → p x ≡ true) → p x ≡ true
+    cases : (b : Bool) → p y ≡ b → cond b (Some y) (find p xs) ≡ Some x
+        → (find p xs ≡ Some x → p x ≡ true) → p x ≡ true
     cases true here h rest = let same : y ≡ x = cc in subst (λ z. p z ≡ true) same here
     cases false here h rest = rest h
 
@@ -39,67 +40,100 @@ party_from_same (Sender j) (Sender k) h = ap Sender (eqb-true j k h)
 party_from_same Env (Sender k) h = absurd (false≢true h)
 party_from_same (Sender j) Env h = absurd (false≢true h)
 
-owed_is : (d : Owed) (s : Party) (m e c : ℕ) → is_way s m d ≡ true → event_code d ≡ (e, c) → ◌≡◌ {A = Owed} d (record { from = s; to = m; event = e; code = c })
+owed_is : (d : Owed) (s : Party) (m e c : ℕ) → is_way s m d ≡ true → event_code d ≡ (e, c)
+    → ◌≡◌ {A = Owed} d (record { from = s; to = m; event = e; code = c })
 owed_is d s m e c h k =
     let parts = and_parts (same_party d.from s) (d.to == m) h in
     let event : d.event ≡ e = ap (λ (p : ℕ × ℕ). p.0) k in
     let code : d.code ≡ c = ap (λ (p : ℕ × ℕ). p.1) k in
-    ap (λ t. let made : Owed = record { from = t; to = d.to; event = d.event; code = d.code } in made) (party_from_same d.from s parts.0)
-    ∙ ap (λ t. let made : Owed = record { from = s; to = t; event = d.event; code = d.code } in made) (eqb-true d.to m parts.1)
-    ∙ ap (λ t. let made : Owed = record { from = s; to = m; event = t; code = d.code } in made) event
+    ap (λ t. let made : Owed = record { from = t; to = d.to; event = d.event; code = d.code } in
+    made) (party_from_same d.from s parts.0)
+    ∙ ap (λ t. let made : Owed = record { from = s; to = t; event = d.event; code = d.code } in
+    made) (eqb-true d.to m parts.1)
+    ∙ ap (λ t. let made : Owed = record { from = s; to = m; event = t; code = d.code } in
+    made) event
     ∙ ap (λ t. let made : Owed = record { from = s; to = m; event = e; code = t } in made) code
 
 -- ---- deliveries
 
 -- of the environment: the item at the receiver's cursor
-pub env_lands : (net : Network) (trace : List TraceItem) (journal : List Entry) (from : Party) (to e c place : ℕ) (b : Bool) → AtCursorMayFollow → Legal net trace journal → from ≡ Env → place ≡ cursor net trace journal to
-    → (IsTrue b ↔ (slice_get trace place ≡ Some (Event e c))) → IsTrue b ↔ MayFollow net trace journal (Dep from to e c)
+pub env_lands : (net : Network) (trace : List TraceItem) (journal : List Entry) (from : Party)
+    (to e c place : ℕ) (b : Bool) → AtCursorMayFollow → Legal net trace journal → from ≡ Env
+    → place ≡ cursor net trace journal to
+    → (IsTrue b ↔ (slice_get trace place ≡ Some (Event e c))) → IsTrue b
+    ↔ MayFollow net trace journal (Dep from to e c)
 env_lands net trace journal from to e c place b law legal env at says =
     let next = law net trace journal to e c legal in
     let item = λ (k : ℕ). slice_get trace k ≡ Some (Event e c) in
     subst (λ (s : Party). IsTrue b ↔ MayFollow net trace journal (Dep s to e c)) (sym env)
     ((λ h. next.1 (subst item at (says.0 h))), (λ h. says.1 (subst item (sym at) (next.0 h))))
 
-found_lands : (net : Network) (trace : List TraceItem) (journal : List Entry) (s to e c : ℕ) (d : Owed) → FirstOfWayMayFollow → Legal net trace journal → find (is_way (Sender s) to) (owed_by_machines net journal) ≡ Some d
+found_lands : (net : Network) (trace : List TraceItem) (journal : List Entry) (s to e c : ℕ)
+    (d : Owed) → FirstOfWayMayFollow → Legal net trace journal
+    → find (is_way (Sender s) to) (owed_by_machines net journal) ≡ Some d
     → IsTrue (d.event == e && d.code == c) ↔ MayFollow net trace journal (Dep (Sender s) to e c)
 found_lands net trace journal s to e c d law legal found =
     let next = law net trace journal s to e c legal in
     let way = find_passes (is_way (Sender s) to) (owed_by_machines net journal) d found in (
       (λ h.
           let parts = and_parts (d.event == e) (d.code == c) h in
-          let same : event_code d ≡ (e, c) = rw (eqb-true d.event e parts.0, eqb-true d.code c parts.1) refl in
+          let same : event_code d ≡ (e, c) =
+          rw (eqb-true d.event e parts.0, eqb-true d.code c parts.1) refl in
           next.1 (found ∙ ap Some (owed_is d (Sender s) to e c way same))),
       (λ h.
-          let is : d ≡ record { from = Sender s; to = to; event = e; code = c } = (let other = next.0 h in cc) in
-          and_from (d.event == e) (d.code == c) (eq-eqb d.event e (ap (λ (o : Owed). o.event) is)) (eq-eqb d.code c (ap (λ (o : Owed). o.code) is))),
+          let is : d ≡ record { from = Sender s; to = to; event = e; code = c } =
+          (let other = next.0 h in cc) in
+          and_from (d.event == e) (d.code == c) (eq-eqb d.event e (ap (λ (o : Owed). o.event) is))
+          (eq-eqb d.code c (ap (λ (o : Owed). o.code) is))),
     )
 
 -- of a machine: the first of those owed from it to the receiver
-pub machine_lands : (net : Network) (trace : List TraceItem) (journal : List Entry) (owed : List Owed) (from : Party) (s to e c : ℕ) (found : Option Owed) (d : Owed) → FirstOfWayMayFollow → Legal net trace journal → from ≡ Sender s → owed ≡ owed_by_machines net journal
+pub machine_lands : (net : Network) (trace : List TraceItem) (journal : List Entry)
+    (owed : List Owed) (from : Party) (s to e c : ℕ) (found : Option Owed) (d : Owed)
+    → FirstOfWayMayFollow → Legal net trace journal → from ≡ Sender s
+    → owed ≡ owed_by_machines net journal
     → found ≡ find (is_way (Sender s) to) owed
-    → found ≡ Some d → IsTrue (d.event == e && d.code == c) ↔ MayFollow net trace journal (Dep from to e c)
+    → found ≡ Some d → IsTrue (d.event == e && d.code == c)
+    ↔ MayFollow net trace journal (Dep from to e c)
 machine_lands net trace journal owed from s to e c found d law legal sender are at is =
-    let first : find (is_way (Sender s) to) (owed_by_machines net journal) ≡ Some d = ap (find (is_way (Sender s) to)) (sym are) ∙ sym at ∙ is in
-    subst (λ (t : Party). IsTrue (d.event == e && d.code == c) ↔ MayFollow net trace journal (Dep t to e c)) (sym sender) (found_lands net trace journal s to e c d law legal first)
+    let first : find (is_way (Sender s) to) (owed_by_machines net journal) ≡ Some d =
+    ap (find (is_way (Sender s) to)) (sym are) ∙ sym at ∙ is in
+    subst (λ (t : Party). IsTrue (d.event == e && d.code == c)
+    ↔ MayFollow net trace journal (Dep t to e c)) (sym sender)
+    (found_lands net trace journal s to e c d law legal first)
 
-pub machine_owes_none : (net : Network) (trace : List TraceItem) (journal : List Entry) (owed : List Owed) (from : Party) (s to e c : ℕ) (found : Option Owed) → FirstOfWayMayFollow → Legal net trace journal → from ≡ Sender s → owed ≡ owed_by_machines net journal
+pub machine_owes_none : (net : Network) (trace : List TraceItem) (journal : List Entry)
+    (owed : List Owed) (from : Party) (s to e c : ℕ) (found : Option Owed) → FirstOfWayMayFollow
+    → Legal net trace journal → from ≡ Sender s → owed ≡ owed_by_machines net journal
     → found ≡ find (is_way (Sender s) to) owed
     → found ≡ None → IsTrue false ↔ MayFollow net trace journal (Dep from to e c)
 machine_owes_none net trace journal owed from s to e c found law legal sender are at is =
-    let none : find (is_way (Sender s) to) (owed_by_machines net journal) ≡ None = ap (find (is_way (Sender s) to)) (sym are) ∙ sym at ∙ is in
+    let none : find (is_way (Sender s) to) (owed_by_machines net journal) ≡ None =
+    ap (find (is_way (Sender s) to)) (sym are) ∙ sym at ∙ is in
     let next = law net trace journal s to e c legal in
     subst (λ (t : Party). IsTrue false ↔ MayFollow net trace journal (Dep t to e c)) (sym sender)
     ((λ h. absurd (let no : false ≡ true = h in cc)), (λ h. absurd (let some = next.0 h in cc)))
 
-pub not_owed : (net : Network) (trace : List TraceItem) (journal : List Entry) (entry : Entry) (from : Party) (to e c : ℕ) (b : Bool) → entry ≡ Dep from to e c → (IsTrue b ↔ MayFollow net trace journal (Dep from to e c)) → b ≡ false → IsFirstCause net trace journal NotOwed entry
+pub not_owed : (net : Network) (trace : List TraceItem) (journal : List Entry) (entry : Entry)
+    (from : Party) (to e c : ℕ) (b : Bool) → entry ≡ Dep from to e c
+    → (IsTrue b ↔ MayFollow net trace journal (Dep from to e c)) → b ≡ false
+    → IsFirstCause net trace journal NotOwed entry
 not_owed net trace journal entry from to e c b is says fails =
-    subst (λ (x : Entry). IsFirstCause net trace journal NotOwed x) (sym is) (λ h. both_ways b fails (says.1 h))
+    subst (λ (x : Entry). IsFirstCause net trace journal NotOwed x) (sym is)
+    (λ h. both_ways b fails (says.1 h))
 
 -- ---- outcomes
 
-pub outcomes_agree : OneOutcome → (net : Network) (m : ℕ) (s : Snapshot) (o p q : Outcome) → AreDeterministic net → OfMachine net m (λ machine. IsSnapshot machine s × IsOutcome machine q) → OfMachine net m (λ machine. Transition machine s o) → OfMachine net m (λ machine. Transition machine s p) → o ≡ p
-outcomes_agree one net m s o p q all fits first second = at (slice_get net.machines m) refl fits first second
+pub outcomes_agree : OneOutcome → (net : Network) (m : ℕ) (s : Snapshot) (o p q : Outcome)
+    → AreDeterministic net → OfMachine net m (λ machine. IsSnapshot machine s × IsOutcome machine q)
+    → OfMachine net m (λ machine. Transition machine s o)
+    → OfMachine net m (λ machine. Transition machine s p) → o ≡ p
+outcomes_agree one net m s o p q all fits first second =
+    at (slice_get net.machines m) refl fits first second
   where
-    at : (found : Option Machine) → slice_get net.machines m ≡ found → IsSomeAnd found (λ machine. IsSnapshot machine s × IsOutcome machine q) → IsSomeAnd found (λ machine. Transition machine s o) → IsSomeAnd found (λ machine. Transition machine s p) → o ≡ p
+    at : (found : Option Machine) → slice_get net.machines m ≡ found
+        → IsSomeAnd found (λ machine. IsSnapshot machine s × IsOutcome machine q)
+        → IsSomeAnd found (λ machine. Transition machine s o)
+        → IsSomeAnd found (λ machine. Transition machine s p) → o ≡ p
     at None is f a b = absurd a
     at (Some machine) is f a b = one machine s o p (all m machine is) f.0 a b

@@ -30,31 +30,43 @@ use Rattle.journals.specs.Logs.{entries, stamped, of_machine}
 
 -- ---- tables, one item a machine
 
-set-table : {X : Type 0} (f g : ℕ → X) (n m : ℕ) (y : X) → m < n → g m ≡ y → ((k : ℕ) → (k ≡ m → ⊥) → k < n → g k ≡ f k) → set (map f (upto n)) m y ≡ map g (upto n)
+set-table : {X : Type 0} (f g : ℕ → X) (n m : ℕ) (y : X) → m < n → g m ≡ y
+    → ((k : ℕ) → (k ≡ m → ⊥) → k < n → g k ≡ f k) → set (map f (upto n)) m y ≡ map g (upto n)
 set-table {X} f g n m y below here others =
-    let size : length (set (map f (upto n)) m y) ≡ n = length-set (map f (upto n)) m y ∙ length-table f n in
+    let size : length (set (map f (upto n)) m y) ≡ n =
+    length-set (map f (upto n)) m y ∙ length-table f n in
     same_lists (set (map f (upto n)) m y) (map g (upto n)) (size ∙ sym (length-table g n)) (λ k d h.
     let inside : k < n = omega arith in
     elim (cases_eq k m) [
-      | inl same ↦ ap (λ i. get_or (set (map f (upto n)) m y) i d) same ∙ get_or-set_same (map f (upto n)) m y d (let e = length-table f n in omega arith) ∙ sym here ∙ ap g (sym same) ∙ sym (get_or-table g n k d inside)
-      | inr other ↦ get_or-set_other (map f (upto n)) m k y d other ∙ get_or-table f n k d inside ∙ sym (others k other inside) ∙ sym (get_or-table g n k d inside)
+      | inl same ↦ ap (λ i. get_or (set (map f (upto n)) m y) i d) same
+          ∙ get_or-set_same (map f (upto n)) m y d (let e = length-table f n in omega arith)
+          ∙ sym here ∙ ap g (sym same) ∙ sym (get_or-table g n k d inside)
+      | inr other ↦ get_or-set_other (map f (upto n)) m k y d other ∙ get_or-table f n k d inside
+          ∙ sym (others k other inside) ∙ sym (get_or-table g n k d inside)
     ])
 
 -- ---- entries that fit
 
-pub fitting_more : (net : Network) (journal : List Entry) (entry : Entry) → IsJournal net journal → FitsNetwork net entry → IsJournal net (journal ++ entry ∷ [])
+pub fitting_more : (net : Network) (journal : List Entry) (entry : Entry) → IsJournal net journal
+    → FitsNetwork net entry → IsJournal net (journal ++ entry ∷ [])
 fitting_more net [] entry h f = (f, tt)
 fitting_more net (first ∷ journal) entry h f = (h.0, fitting_more net journal entry h.1 f)
 
-pub sender_within : (net : Network) (s m e c : ℕ) → FitsNetwork net (Dep (Sender s) m e c) → s < length net.machines
+pub sender_within : (net : Network) (s m e c : ℕ) → FitsNetwork net (Dep (Sender s) m e c)
+    → s < length net.machines
 sender_within net s m e c h =
-    ltb-true s (length net.machines) (and_parts (nat_lt s (length net.machines)) (nat_lt m (length net.machines)) (and_parts (nat_lt s (length net.machines) && nat_lt m (length net.machines)) (is_event_code net e c) h).0).0
+    ltb-true s (length net.machines)
+    (and_parts (nat_lt s (length net.machines)) (nat_lt m (length net.machines))
+    (and_parts (nat_lt s (length net.machines) && nat_lt m (length net.machines))
+    (is_event_code net e c) h).0).0
 
-pub firings_fit : (net : Network) (s : ℕ) (done : List Stamped) → IsJournal net (entries done) → IsJournal net (entries (firings_of done s))
+pub firings_fit : (net : Network) (s : ℕ) (done : List Stamped) → IsJournal net (entries done)
+    → IsJournal net (entries (firings_of done s))
 firings_fit net s [] h = h
 firings_fit net s (x ∷ done) h = cases (is_firing_of s x.entry) h.0 (firings_fit net s done h.1)
   where
-    cases : (b : Bool) → FitsNetwork net x.entry → IsJournal net (entries (firings_of done s)) → IsJournal net (entries (cond b (x ∷ firings_of done s) (firings_of done s)))
+    cases : (b : Bool) → FitsNetwork net x.entry → IsJournal net (entries (firings_of done s))
+        → IsJournal net (entries (cond b (x ∷ firings_of done s) (firings_of done s)))
     cases true f g = (f, g)
     cases false f g = g
 
@@ -75,7 +87,8 @@ greatest_right (x ∷ xs) ys =
     let more = le-max_right x (greatest (xs ++ ys)) in
     omega arith
 
-greatest_most : (n : ℕ) (xs ys : List ℕ) → greatest xs ≤ n → greatest ys ≤ n → greatest (xs ++ ys) ≤ n
+greatest_most : (n : ℕ) (xs ys : List ℕ) → greatest xs ≤ n → greatest ys ≤ n
+    → greatest (xs ++ ys) ≤ n
 greatest_most n [] ys h g = g
 greatest_most n (x ∷ xs) ys h g =
     let left = le-max_left x (greatest xs) in
@@ -87,76 +100,114 @@ greatest_most n (x ∷ xs) ys h g =
 pub greatest_both : (xs ys : List ℕ) → greatest (xs ++ ys) ≡ max (greatest xs) (greatest ys)
 greatest_both xs ys =
     let low = max-le (greatest_left xs ys) (greatest_right xs ys) in
-    let high = greatest_most (max (greatest xs) (greatest ys)) xs ys (le-max_left (greatest xs) (greatest ys)) (le-max_right (greatest xs) (greatest ys)) in
+    let high = greatest_most (max (greatest xs) (greatest ys)) xs ys
+    (le-max_left (greatest xs) (greatest ys)) (le-max_right (greatest xs) (greatest ys)) in
     omega arith
 
-pub clock_at : (net : Network) (done : List Stamped) (clocks : List ℕ) (m v : ℕ) → m < length net.machines → clocks ≡ map (λ k. greatest (stamps_at k done)) (upto (length net.machines)) → slice_get clocks m ≡ Some v → v ≡ greatest (stamps_at m done)
+pub clock_at : (net : Network) (done : List Stamped) (clocks : List ℕ) (m v : ℕ)
+    → m < length net.machines → clocks
+    ≡ map (λ k. greatest (stamps_at k done)) (upto (length net.machines))
+    → slice_get clocks m ≡ Some v → v ≡ greatest (stamps_at m done)
 clock_at net done clocks m v below are at =
-    sym (get_or_from_slice_get clocks m v v at) ∙ ap (λ (l : List ℕ). get_or l m v) are ∙ get_or-table (λ k. greatest (stamps_at k done)) (length net.machines) m v below
+    sym (get_or_from_slice_get clocks m v v at) ∙ ap (λ (l : List ℕ). get_or l m v) are
+    ∙ get_or-table (λ k. greatest (stamps_at k done)) (length net.machines) m v below
 
-at_more : (m : ℕ) (done : List Stamped) (x : Stamped) (b : Bool) → (machine_of x.entry == m) ≡ b → stamps_at m (done ++ x ∷ []) ≡ stamps_at m done ++ cond b (x.stamp ∷ []) []
+at_more : (m : ℕ) (done : List Stamped) (x : Stamped) (b : Bool) → (machine_of x.entry == m) ≡ b
+    → stamps_at m (done ++ x ∷ []) ≡ stamps_at m done ++ cond b (x.stamp ∷ []) []
 at_more m done x b is =
     let own : List Stamped = filter (λ p. of_machine m p.entry) done in
-    ap (map (λ (p : Stamped). p.stamp)) (filter-append (λ (p : Stamped). of_machine m p.entry) done (x ∷ []) ∙ ap (λ c. own ++ cond c (x ∷ []) []) is)
+    ap (map (λ (p : Stamped). p.stamp))
+    (filter-append (λ (p : Stamped). of_machine m p.entry) done (x ∷ [])
+    ∙ ap (λ c. own ++ cond c (x ∷ []) []) is)
     ∙ map-append (λ (p : Stamped). p.stamp) own (cond b (x ∷ []) [])
     ∙ cases b
   where
-    cases : (b : Bool) → stamps_at m done ++ map (λ (p : Stamped). p.stamp) (cond b (x ∷ []) []) ≡ stamps_at m done ++ cond b (x.stamp ∷ []) []
+    cases : (b : Bool) → stamps_at m done ++ map (λ (p : Stamped). p.stamp) (cond b (x ∷ []) [])
+        ≡ stamps_at m done ++ cond b (x.stamp ∷ []) []
     cases true = refl
     cases false = refl
 
-clocks_more : (n : ℕ) (done : List Stamped) (x : Stamped) (clocks : List ℕ) → machine_of x.entry < n → clocks ≡ map (λ k. greatest (stamps_at k done)) (upto n)
-    → clocks_after (machine_of x.entry) x.stamp clocks ≡ map (λ k. greatest (stamps_at k (done ++ x ∷ []))) (upto n)
+clocks_more : (n : ℕ) (done : List Stamped) (x : Stamped) (clocks : List ℕ) → machine_of x.entry < n
+    → clocks ≡ map (λ k. greatest (stamps_at k done)) (upto n)
+    → clocks_after (machine_of x.entry) x.stamp clocks
+    ≡ map (λ k. greatest (stamps_at k (done ++ x ∷ []))) (upto n)
 clocks_more n done x clocks below are =
     let m : ℕ = machine_of x.entry in
     let f : ℕ → ℕ = λ k. greatest (stamps_at k done) in
     let g : ℕ → ℕ = λ k. greatest (stamps_at k (done ++ x ∷ [])) in
-    let here : g m ≡ max (f m) x.stamp = ap greatest (at_more m done x true (eq-eqb m m refl)) ∙ greatest_both (stamps_at m done) (x.stamp ∷ []) ∙ ap (max (f m)) (max-zero x.stamp) in
+    let here : g m ≡ max (f m) x.stamp =
+    ap greatest (at_more m done x true (eq-eqb m m refl))
+    ∙ greatest_both (stamps_at m done) (x.stamp ∷ []) ∙ ap (max (f m)) (max-zero x.stamp) in
     ap (clocks_after m x.stamp) are
     ∙ ap (λ v. set (map f (upto n)) m (max v x.stamp)) (get_or-table f n m 0 below)
-    ∙ set-table f g n m (max (f m) x.stamp) below here (λ k other inside. ap greatest (at_more k done x false (ne_eqb m k (λ e. other (sym e))) ∙ append-nil (stamps_at k done)))
+    ∙ set-table f g n m (max (f m) x.stamp) below here
+    (λ k other inside.
+    ap greatest (at_more k done x false (ne_eqb m k (λ e. other (sym e)))
+    ∙ append-nil (stamps_at k done)))
 
 -- ---- firings
 
-pub firings_more : (done : List Stamped) (x : Stamped) (s : ℕ) → firings_of (done ++ x ∷ []) s ≡ firings_of done s ++ firings_of (x ∷ []) s
+pub firings_more : (done : List Stamped) (x : Stamped) (s : ℕ)
+    → firings_of (done ++ x ∷ []) s ≡ firings_of done s ++ firings_of (x ∷ []) s
 firings_more done x s = filter-append (λ (p : Stamped). is_firing_of s p.entry) done (x ∷ [])
 
-no_more : (done : List Stamped) (x : Stamped) (s : ℕ) → is_firing_of s x.entry ≡ false → firings_of (done ++ x ∷ []) s ≡ firings_of done s
-no_more done x s h = firings_more done x s ∙ ap (λ b. firings_of done s ++ cond b (x ∷ []) []) h ∙ append-nil (firings_of done s)
+no_more : (done : List Stamped) (x : Stamped) (s : ℕ) → is_firing_of s x.entry ≡ false
+    → firings_of (done ++ x ∷ []) s ≡ firings_of done s
+no_more done x s h = firings_more done x s ∙ ap (λ b. firings_of done s ++ cond b (x ∷ []) []) h
+    ∙ append-nil (firings_of done s)
 
-lists_more : (n : ℕ) (done : List Stamped) (entry : Entry) (t : ℕ) (firings : List (List Stamped)) → machine_of entry < n → firings ≡ map (firings_of done) (upto n)
+lists_more : (n : ℕ) (done : List Stamped) (entry : Entry) (t : ℕ) (firings : List (List Stamped))
+    → machine_of entry < n → firings ≡ map (firings_of done) (upto n)
     → firings_after entry t firings ≡ map (firings_of (done ++ stamped t entry ∷ [])) (upto n)
-lists_more n done (Dep s m e c) t firings below are = are ∙ (λ i. map (λ k. sym (no_more done (stamped t (Dep s m e c)) k refl) i) (upto n))
+lists_more n done (Dep s m e c) t firings below are =
+    are ∙ (λ i. map (λ k. sym (no_more done (stamped t (Dep s m e c)) k refl) i) (upto n))
 lists_more n done (Rea m s o) t firings below are = cases o.fires refl
   where
-    cases : (b : Bool) → o.fires ≡ b → cond b (set firings m (get_or firings m [] ++ stamped t (Rea m s o) ∷ [])) firings ≡ map (firings_of (done ++ stamped t (Rea m s o) ∷ [])) (upto n)
-    cases false idle = are ∙ (λ i. map (λ k. sym (no_more done (stamped t (Rea m s o)) k (off (m == k) o.fires idle)) i) (upto n))
+    cases : (b : Bool) → o.fires ≡ b
+        → cond b (set firings m (get_or firings m [] ++ stamped t (Rea m s o) ∷ [])) firings
+        ≡ map (firings_of (done ++ stamped t (Rea m s o) ∷ [])) (upto n)
+    cases false idle =
+        are ∙ (λ i. map
+        (λ k. sym (no_more done (stamped t (Rea m s o)) k (off (m == k) o.fires idle)) i) (upto n))
       where
         off : (a b : Bool) → b ≡ false → (a && b) ≡ false
         off true b h = h
         off false b h = refl
     cases true fires =
         let x : Stamped = stamped t (Rea m s o) in
-        let here : is_firing_of m x.entry ≡ true = ap (λ b. b && o.fires) (eq-eqb m m refl) ∙ fires in
+        let here : is_firing_of m x.entry ≡ true =
+        ap (λ b. b && o.fires) (eq-eqb m m refl) ∙ fires in
         ap (λ (l : List (List Stamped)). set l m (get_or l m [] ++ x ∷ [])) are
-        ∙ ap (λ l. set (map (firings_of done) (upto n)) m (l ++ x ∷ [])) (get_or-table (firings_of done) n m [] below)
-        ∙ set-table (firings_of done) (firings_of (done ++ x ∷ [])) n m (firings_of done m ++ x ∷ []) below
+        ∙ ap (λ l. set (map (firings_of done) (upto n)) m (l ++ x ∷ []))
+        (get_or-table (firings_of done) n m [] below)
+        ∙ set-table (firings_of done) (firings_of (done ++ x ∷ [])) n m
+        (firings_of done m ++ x ∷ []) below
         (firings_more done x m ∙ ap (λ b. firings_of done m ++ cond b (x ∷ []) []) here)
-        (λ k other inside. no_more done x k (ap (λ b. b && o.fires) (ne_eqb m k (λ e. other (sym e)))))
+        (λ k other inside. no_more done x k
+        (ap (λ b. b && o.fires) (ne_eqb m k (λ e. other (sym e)))))
 
 -- ---- cursors
 
-pub sent_more : (net : Network) (s m : ℕ) (done : List Stamped) (x : Stamped) → stamps_sent net s m (done ++ x ∷ []) ≡ stamps_sent net s m done ++ flat_map (once_each net m) (firings_of (x ∷ []) s)
-sent_more net s m done x = ap (flat_map (once_each net m)) (firings_more done x s) ∙ flat_map-append (once_each net m) (firings_of done s) (firings_of (x ∷ []) s)
+pub sent_more : (net : Network) (s m : ℕ) (done : List Stamped) (x : Stamped)
+    → stamps_sent net s m (done ++ x ∷ [])
+    ≡ stamps_sent net s m done ++ flat_map (once_each net m) (firings_of (x ∷ []) s)
+sent_more net s m done x = ap (flat_map (once_each net m)) (firings_more done x s)
+    ∙ flat_map-append (once_each net m) (firings_of done s) (firings_of (x ∷ []) s)
 
-entries_more : (done : List Stamped) (x : Stamped) → entries (done ++ x ∷ []) ≡ entries done ++ x.entry ∷ []
+entries_more : (done : List Stamped) (x : Stamped)
+    → entries (done ++ x ∷ []) ≡ entries done ++ x.entry ∷ []
 entries_more done x = map-append (λ (p : Stamped). p.entry) done (x ∷ [])
 
-pub delivered_more : (s : Party) (m : ℕ) (done : List Stamped) (x : Stamped) → delivered s m (entries (done ++ x ∷ [])) ≡ delivered s m (entries done) ++ delivered s m (x.entry ∷ [])
-delivered_more s m done x = ap (delivered s m) (entries_more done x) ∙ filter_map-append (delivery s m) (entries done) (x.entry ∷ [])
+pub delivered_more : (s : Party) (m : ℕ) (done : List Stamped) (x : Stamped)
+    → delivered s m (entries (done ++ x ∷ []))
+    ≡ delivered s m (entries done) ++ delivered s m (x.entry ∷ [])
+delivered_more s m done x = ap (delivered s m) (entries_more done x)
+    ∙ filter_map-append (delivery s m) (entries done) (x.entry ∷ [])
 
 -- the entry delivers nothing from s to m
-cursor_more : (net : Network) (done : List Stamped) (x : Stamped) (s m : ℕ) (cursor : Cursor) → IsBacked net done → delivered (Sender s) m (x.entry ∷ []) ≡ [] → IsCursor net done s m cursor → IsCursor net (done ++ x ∷ []) s m cursor
+cursor_more : (net : Network) (done : List Stamped) (x : Stamped) (s m : ℕ) (cursor : Cursor)
+    → IsBacked net done → delivered (Sender s) m (x.entry ∷ []) ≡ [] → IsCursor net done s m cursor
+    → IsCursor net (done ++ x ∷ []) s m cursor
 cursor_more net done x s m cursor backed none h =
     let own : List Stamped = firings_of done s in
     let more : List Stamped = firings_of (x ∷ []) s in
@@ -166,43 +217,58 @@ cursor_more net done x s m cursor backed none h =
     let given = h.given in
     let size = length-append own more in
     let longer = length_push done x in
-    let rest : flat_map (once_each net m) (drop cursor.firing (firings_of (done ++ x ∷ []) s)) ≡ flat_map (once_each net m) (drop cursor.firing own) ++ flat_map (once_each net m) more =
+    let rest : flat_map (once_each net m) (drop cursor.firing (firings_of (done ++ x ∷ []) s))
+    ≡ flat_map (once_each net m) (drop cursor.firing own) ++ flat_map (once_each net m) more =
     ap (λ l. flat_map (once_each net m) (drop cursor.firing l)) (firings_more done x s)
     ∙ ap (flat_map (once_each net m)) (drop-append-le cursor.firing own more within)
     ∙ flat_map-append (once_each net m) (drop cursor.firing own) more in
-    let size_rest = length-append (flat_map (once_each net m) (drop cursor.firing own)) (flat_map (once_each net m) more) in
-    let same : delivered (Sender s) m (entries (done ++ x ∷ [])) ≡ delivered (Sender s) m came = delivered_more (Sender s) m done x ∙ ap (λ l. delivered (Sender s) m came ++ l) none ∙ append-nil (delivered (Sender s) m came) in
+    let size_rest =
+    length-append (flat_map (once_each net m) (drop cursor.firing own))
+    (flat_map (once_each net m) more) in
+    let same : delivered (Sender s) m (entries (done ++ x ∷ [])) ≡ delivered (Sender s) m came =
+    delivered_more (Sender s) m done x ∙ ap (λ l. delivered (Sender s) m came ++ l) none
+    ∙ append-nil (delivered (Sender s) m came) in
     record {
       within = rw (firings_more done x s) (omega arith);
       given = rw rest (omega arith);
       few = rw longer (omega arith);
       left_is = ap (drop cursor.taken) rest
-          ∙ drop-append-le cursor.taken (flat_map (once_each net m) (drop cursor.firing own)) (flat_map (once_each net m) more) given
+          ∙ drop-append-le cursor.taken (flat_map (once_each net m) (drop cursor.firing own))
+          (flat_map (once_each net m) more) given
           ∙ ap (λ l. l ++ flat_map (once_each net m) more) h.left_is
-          ∙ sym (ap (λ l. drop (length l) (stamps_sent net s m (done ++ x ∷ []))) same ∙ ap (drop (length (delivered (Sender s) m came))) (sent_more net s m done x)
-          ∙ drop-append-le (length (delivered (Sender s) m came)) (stamps_sent net s m done) (flat_map (once_each net m) more) (backed s m));
+          ∙ sym (ap (λ l. drop (length l) (stamps_sent net s m (done ++ x ∷ []))) same
+          ∙ ap (drop (length (delivered (Sender s) m came))) (sent_more net s m done x)
+          ∙ drop-append-le (length (delivered (Sender s) m came)) (stamps_sent net s m done)
+          (flat_map (once_each net m) more) (backed s m));
     }
 
 own_delivery : (s m e c : ℕ) → delivered (Sender s) m (Dep (Sender s) m e c ∷ []) ≡ (e, c) ∷ []
 own_delivery s m e c = rw (eq-eqb s s refl, eq-eqb m m refl) refl
 
 -- the entry delivers from s to m
-cursor_taken : (net : Network) (done : List Stamped) (s m e c t : ℕ) (cursor : Cursor) → IsBacked net (done ++ stamped t (Dep (Sender s) m e c) ∷ []) → IsCursor net done s m cursor → IsCursor net (done ++ stamped t (Dep (Sender s) m e c) ∷ []) s m (one_taken cursor)
+cursor_taken : (net : Network) (done : List Stamped) (s m e c t : ℕ) (cursor : Cursor)
+    → IsBacked net (done ++ stamped t (Dep (Sender s) m e c) ∷ []) → IsCursor net done s m cursor
+    → IsCursor net (done ++ stamped t (Dep (Sender s) m e c) ∷ []) s m (one_taken cursor)
 cursor_taken net done s m e c t cursor backed h =
     let x : Stamped = stamped t (Dep (Sender s) m e c) in
     let own : List Stamped = firings_of done s in
     let came : List Entry = entries done in
     let all : List ℕ = flat_map (once_each net m) (drop cursor.firing own) in
     let same : firings_of (done ++ x ∷ []) s ≡ own = no_more done x s refl in
-    let sent : stamps_sent net s m (done ++ x ∷ []) ≡ stamps_sent net s m done = ap (flat_map (once_each net m)) same in
-    let count : length (delivered (Sender s) m (entries (done ++ x ∷ []))) ≡ length (delivered (Sender s) m came) + 1 =
-    ap length (delivered_more (Sender s) m done x ∙ ap (λ l. delivered (Sender s) m came ++ l) (own_delivery s m e c)) ∙ length_push (delivered (Sender s) m came) (e, c) in
+    let sent : stamps_sent net s m (done ++ x ∷ []) ≡ stamps_sent net s m done =
+    ap (flat_map (once_each net m)) same in
+    let count : length (delivered (Sender s) m (entries (done ++ x ∷ [])))
+    ≡ length (delivered (Sender s) m came) + 1 =
+    ap length (delivered_more (Sender s) m done x
+    ∙ ap (λ l. delivered (Sender s) m came ++ l) (own_delivery s m e c))
+    ∙ length_push (delivered (Sender s) m came) (e, c) in
     let within = h.within in
     let few = h.few in
     let given = h.given in
     let longer = length_push done x in
     let enough : length (delivered (Sender s) m came) + 1 ≤ length (stamps_sent net s m done) =
-    subst (λ (l : List ℕ). length (delivered (Sender s) m came) + 1 ≤ length l) sent (subst (λ (n : ℕ). n ≤ length (stamps_sent net s m (done ++ x ∷ []))) count (backed s m)) in
+    subst (λ (l : List ℕ). length (delivered (Sender s) m came) + 1 ≤ length l) sent
+    (subst (λ (n : ℕ). n ≤ length (stamps_sent net s m (done ++ x ∷ []))) count (backed s m)) in
     let left_size = length-drop cursor.taken all in
     let owed_size = length-drop (length (delivered (Sender s) m came)) (stamps_sent net s m done) in
     let sizes = ap length h.left_is in
@@ -210,103 +276,155 @@ cursor_taken net done s m e c t cursor backed h =
       within = rw same within;
       given = rw same (omega arith);
       few = rw longer (omega arith);
-      left_is = ap (λ l. drop (cursor.taken + 1) (flat_map (once_each net m) (drop cursor.firing l))) same
+      left_is = ap (λ l. drop (cursor.taken + 1)
+          (flat_map (once_each net m) (drop cursor.firing l))) same
           ∙ sym (drop-drop 1 cursor.taken all)
           ∙ ap (drop 1) h.left_is
           ∙ drop-drop 1 (length (delivered (Sender s) m came)) (stamps_sent net s m done)
-          ∙ sym (ap (λ n. drop n (stamps_sent net s m (done ++ x ∷ []))) count ∙ ap (drop (length (delivered (Sender s) m came) + 1)) sent);
+          ∙ sym (ap (λ n. drop n (stamps_sent net s m (done ++ x ∷ []))) count
+          ∙ ap (drop (length (delivered (Sender s) m came) + 1)) sent);
     }
 
 -- ---- a cursor in its place
 
-cursor_put : (cursors : List (List Cursor)) (s m : ℕ) (cursor : Cursor) → s < length cursors → m < length (get_or cursors s []) → cursor_at (with_cursor cursors s m cursor) s m ≡ cursor
+cursor_put : (cursors : List (List Cursor)) (s m : ℕ) (cursor : Cursor) → s < length cursors
+    → m < length (get_or cursors s []) → cursor_at (with_cursor cursors s m cursor) s m ≡ cursor
 cursor_put cursors s m cursor row column =
-    ap (λ (l : List Cursor). get_or l m (record { firing = 0; taken = 0 })) (get_or-set_same cursors s (set (get_or cursors s []) m cursor) [] row)
+    ap (λ (l : List Cursor). get_or l m (record { firing = 0; taken = 0 }))
+    (get_or-set_same cursors s (set (get_or cursors s []) m cursor) [] row)
     ∙ get_or-set_same (get_or cursors s []) m cursor (record { firing = 0; taken = 0 }) column
 
-cursor_beside : (cursors : List (List Cursor)) (s m k : ℕ) (cursor : Cursor) → s < length cursors → (k ≡ m → ⊥) → cursor_at (with_cursor cursors s m cursor) s k ≡ cursor_at cursors s k
+cursor_beside : (cursors : List (List Cursor)) (s m k : ℕ) (cursor : Cursor) → s < length cursors
+    → (k ≡ m → ⊥) → cursor_at (with_cursor cursors s m cursor) s k ≡ cursor_at cursors s k
 cursor_beside cursors s m k cursor row other =
-    ap (λ (l : List Cursor). get_or l k (record { firing = 0; taken = 0 })) (get_or-set_same cursors s (set (get_or cursors s []) m cursor) [] row)
+    ap (λ (l : List Cursor). get_or l k (record { firing = 0; taken = 0 }))
+    (get_or-set_same cursors s (set (get_or cursors s []) m cursor) [] row)
     ∙ get_or-set_other (get_or cursors s []) m k cursor (record { firing = 0; taken = 0 }) other
 
-cursor_away : (cursors : List (List Cursor)) (s m j k : ℕ) (cursor : Cursor) → (j ≡ s → ⊥) → cursor_at (with_cursor cursors s m cursor) j k ≡ cursor_at cursors j k
+cursor_away : (cursors : List (List Cursor)) (s m j k : ℕ) (cursor : Cursor) → (j ≡ s → ⊥)
+    → cursor_at (with_cursor cursors s m cursor) j k ≡ cursor_at cursors j k
 cursor_away cursors s m j k cursor other =
-    ap (λ (l : List Cursor). get_or l k (record { firing = 0; taken = 0 })) (get_or-set_other cursors s j (set (get_or cursors s []) m cursor) [] other)
+    ap (λ (l : List Cursor). get_or l k (record { firing = 0; taken = 0 }))
+    (get_or-set_other cursors s j (set (get_or cursors s []) m cursor) [] other)
 
-pub columns_kept : (cursors : List (List Cursor)) (s m j n : ℕ) (cursor : Cursor) → s < length cursors → length (get_or cursors j []) ≡ n → length (get_or (with_cursor cursors s m cursor) j []) ≡ n
+pub columns_kept : (cursors : List (List Cursor)) (s m j n : ℕ) (cursor : Cursor)
+    → s < length cursors → length (get_or cursors j []) ≡ n
+    → length (get_or (with_cursor cursors s m cursor) j []) ≡ n
 columns_kept cursors s m j n cursor row size =
     elim (cases_eq j s) [
       | inl same ↦
           ap (λ (i : ℕ). length (get_or (with_cursor cursors s m cursor) i [])) same
-          ∙ ap length (get_or-set_same cursors s (set (get_or cursors s []) m cursor) [] row) ∙ length-set (get_or cursors s []) m cursor ∙ ap (λ (i : ℕ). length (get_or cursors i [])) (sym same) ∙ size
-      | inr other ↦ ap length (get_or-set_other cursors s j (set (get_or cursors s []) m cursor) [] other) ∙ size
+          ∙ ap length (get_or-set_same cursors s (set (get_or cursors s []) m cursor) [] row)
+          ∙ length-set (get_or cursors s []) m cursor
+          ∙ ap (λ (i : ℕ). length (get_or cursors i [])) (sym same) ∙ size
+      | inr other ↦ ap length
+          (get_or-set_other cursors s j (set (get_or cursors s []) m cursor) [] other) ∙ size
     ]
 
 -- a table in which one cursor is another
-pub cursors_with : (net : Network) (n : ℕ) (old new : List Stamped) (cursors : List (List Cursor)) (s m : ℕ) (cursor : Cursor) → s < length cursors → m < length (get_or cursors s [])
+pub cursors_with : (net : Network) (n : ℕ) (old new : List Stamped) (cursors : List (List Cursor))
+    (s m : ℕ) (cursor : Cursor) → s < length cursors → m < length (get_or cursors s [])
     → IsCursor net new s m cursor
-    → ((j k : ℕ) → ((j ≡ s) × (k ≡ m) → ⊥) → IsCursor net old j k (cursor_at cursors j k) → IsCursor net new j k (cursor_at cursors j k))
+    → ((j k : ℕ) → ((j ≡ s) × (k ≡ m) → ⊥) → IsCursor net old j k (cursor_at cursors j k)
+    → IsCursor net new j k (cursor_at cursors j k))
     → ((j k : ℕ) → j < n → k < n → IsCursor net old j k (cursor_at cursors j k))
-    → (j k : ℕ) → j < n → k < n → IsCursor net new j k (cursor_at (with_cursor cursors s m cursor) j k)
+    → (j k : ℕ) → j < n → k < n
+    → IsCursor net new j k (cursor_at (with_cursor cursors s m cursor) j k)
 cursors_with net n old new cursors s m cursor row column here others are j k inside within =
     elim (cases_eq j s) [
       | inl same ↦
           elim (cases_eq k m) [
             | inl own ↦
-                subst (λ (i : ℕ). IsCursor net new i k (cursor_at (with_cursor cursors s m cursor) i k)) (sym same)
-                (subst (λ (i : ℕ). IsCursor net new s i (cursor_at (with_cursor cursors s m cursor) s i)) (sym own)
-                (subst (IsCursor net new s m) (sym (cursor_put cursors s m cursor row column)) here))
+                subst (λ (i : ℕ). IsCursor net new i k
+                (cursor_at (with_cursor cursors s m cursor) i k)) (sym same)
+                (subst (λ (i : ℕ). IsCursor net new s i
+                (cursor_at (with_cursor cursors s m cursor) s i)) (sym own)
+                (subst (IsCursor net new s m) (sym (cursor_put cursors s m cursor row column))
+                here))
             | inr other ↦
-                subst (IsCursor net new j k) (sym (ap (λ (i : ℕ). cursor_at (with_cursor cursors s m cursor) i k) same ∙ cursor_beside cursors s m k cursor row other ∙ ap (λ (i : ℕ). cursor_at cursors i k) (sym same)))
+                subst (IsCursor net new j k)
+                (sym (ap (λ (i : ℕ). cursor_at (with_cursor cursors s m cursor) i k) same
+                ∙ cursor_beside cursors s m k cursor row other
+                ∙ ap (λ (i : ℕ). cursor_at cursors i k) (sym same)))
                 (others j k (λ e. other e.1) (are j k inside within))
           ]
-      | inr other ↦ subst (IsCursor net new j k) (sym (cursor_away cursors s m j k cursor other)) (others j k (λ e. other e.0) (are j k inside within))
+      | inr other ↦ subst (IsCursor net new j k) (sym (cursor_away cursors s m j k cursor other))
+          (others j k (λ e. other e.0) (are j k inside within))
     ]
 
 -- ---- all clocks
 
-none_delivered : (s m k : ℕ) (to e c : ℕ) → ((s ≡ k) × (m ≡ to) → ⊥) → delivered (Sender s) m (Dep (Sender k) to e c ∷ []) ≡ []
+none_delivered : (s m k : ℕ) (to e c : ℕ) → ((s ≡ k) × (m ≡ to) → ⊥)
+    → delivered (Sender s) m (Dep (Sender k) to e c ∷ []) ≡ []
 none_delivered s m k to e c other = cases (k == s) refl (to == m) refl
   where
-    cases : (a : Bool) → (k == s) ≡ a → (b : Bool) → (to == m) ≡ b → delivered (Sender s) m (Dep (Sender k) to e c ∷ []) ≡ []
+    cases : (a : Bool) → (k == s) ≡ a → (b : Bool) → (to == m) ≡ b
+        → delivered (Sender s) m (Dep (Sender k) to e c ∷ []) ≡ []
     cases true x true y = absurd (other (sym (eqb-true k s x), sym (eqb-true to m y)))
     cases true x false y = rw (x, y) refl
     cases false x b y = rw x refl
 
-cursors_more : (net : Network) (done : List Stamped) (entry : Entry) (t : ℕ) (c : Clocks) → FitsNetwork net entry → AreClocks net done c → IsBacked net done → IsBacked net (done ++ stamped t entry ∷ [])
-    → (j k : ℕ) → j < length net.machines → k < length net.machines → IsCursor net (done ++ stamped t entry ∷ []) j k (cursor_at (cursors_moved entry c.cursors) j k)
+cursors_more : (net : Network) (done : List Stamped) (entry : Entry) (t : ℕ) (c : Clocks)
+    → FitsNetwork net entry → AreClocks net done c → IsBacked net done
+    → IsBacked net (done ++ stamped t entry ∷ [])
+    → (j k : ℕ) → j < length net.machines → k < length net.machines
+    → IsCursor net (done ++ stamped t entry ∷ []) j k
+    (cursor_at (cursors_moved entry c.cursors) j k)
 cursors_more net done (Dep (Sender s) m e x) t c fits h backed more =
     let rows = h.rows in
     let sender = sender_within net s m e x fits in
     let receiver : m < length net.machines = machine_within net (Dep (Sender s) m e x) fits in
     let columns = h.columns s sender in
-    cursors_with net (length net.machines) done (done ++ stamped t (Dep (Sender s) m e x) ∷ []) c.cursors s m (one_taken (cursor_at c.cursors s m)) (omega arith) (omega arith)
-    (cursor_taken net done s m e x t (cursor_at c.cursors s m) more (h.cursors_are s m sender receiver))
-    (λ j k other. cursor_more net done (stamped t (Dep (Sender s) m e x)) j k (cursor_at c.cursors j k) backed (none_delivered j k s m e x other))
+    cursors_with net (length net.machines) done (done ++ stamped t (Dep (Sender s) m e x) ∷ [])
+    c.cursors s m (one_taken (cursor_at c.cursors s m)) (omega arith) (omega arith)
+    (cursor_taken net done s m e x t (cursor_at c.cursors s m) more
+    (h.cursors_are s m sender receiver))
+    (λ j k other. cursor_more net done (stamped t (Dep (Sender s) m e x)) j k
+    (cursor_at c.cursors j k) backed (none_delivered j k s m e x other))
     h.cursors_are
-cursors_more net done (Dep Env m e x) t c fits h backed more = λ j k inside within. cursor_more net done (stamped t (Dep Env m e x)) j k (cursor_at c.cursors j k) backed refl (h.cursors_are j k inside within)
-cursors_more net done (Rea m s o) t c fits h backed more = λ j k inside within. cursor_more net done (stamped t (Rea m s o)) j k (cursor_at c.cursors j k) backed refl (h.cursors_are j k inside within)
+cursors_more net done (Dep Env m e x) t c fits h backed more =
+    λ j k inside within. cursor_more net done (stamped t (Dep Env m e x)) j k
+    (cursor_at c.cursors j k) backed refl (h.cursors_are j k inside within)
+cursors_more net done (Rea m s o) t c fits h backed more =
+    λ j k inside within. cursor_more net done (stamped t (Rea m s o)) j k (cursor_at c.cursors j k)
+    backed refl (h.cursors_are j k inside within)
 
-rows_kept : (entry : Entry) (cursors : List (List Cursor)) → length (cursors_moved entry cursors) ≡ length cursors
-rows_kept (Dep (Sender s) m e x) cursors = length-set cursors s (set (get_or cursors s []) m (one_taken (cursor_at cursors s m)))
+rows_kept : (entry : Entry) (cursors : List (List Cursor))
+    → length (cursors_moved entry cursors) ≡ length cursors
+rows_kept (Dep (Sender s) m e x) cursors =
+    length-set cursors s (set (get_or cursors s []) m (one_taken (cursor_at cursors s m)))
 rows_kept (Dep Env m e x) cursors = refl
 rows_kept (Rea m s o) cursors = refl
 
-columns_more : (net : Network) (entry : Entry) (cursors : List (List Cursor)) (j n : ℕ) → FitsNetwork net entry → length cursors ≡ length net.machines → length (get_or cursors j []) ≡ n → length (get_or (cursors_moved entry cursors) j []) ≡ n
-columns_more net (Dep (Sender s) m e x) cursors j n fits rows h = let sender = sender_within net s m e x fits in columns_kept cursors s m j n (one_taken (cursor_at cursors s m)) (omega arith) h
+columns_more : (net : Network) (entry : Entry) (cursors : List (List Cursor)) (j n : ℕ)
+    → FitsNetwork net entry → length cursors ≡ length net.machines
+    → length (get_or cursors j []) ≡ n → length (get_or (cursors_moved entry cursors) j []) ≡ n
+columns_more net (Dep (Sender s) m e x) cursors j n fits rows h = let sender =
+    sender_within net s m e x fits in
+    columns_kept cursors s m j n (one_taken (cursor_at cursors s m)) (omega arith) h
 columns_more net (Dep Env m e x) cursors j n fits rows h = h
 columns_more net (Rea m s o) cursors j n fits rows h = h
 
-pub all_taken : (net : Network) (done : List Stamped) (entry : Entry) (t : ℕ) (c new : Clocks) → FitsNetwork net entry → AreClocks net done c → IsBacked net done → IsBacked net (done ++ stamped t entry ∷ [])
-    → new.clocks ≡ clocks_after (machine_of entry) t c.clocks → new.firings ≡ firings_after entry t c.firings → new.cursors ≡ cursors_moved entry c.cursors → AreClocks net (done ++ stamped t entry ∷ []) new
+pub all_taken : (net : Network) (done : List Stamped) (entry : Entry) (t : ℕ) (c new : Clocks)
+    → FitsNetwork net entry → AreClocks net done c → IsBacked net done
+    → IsBacked net (done ++ stamped t entry ∷ [])
+    → new.clocks ≡ clocks_after (machine_of entry) t c.clocks
+    → new.firings ≡ firings_after entry t c.firings
+    → new.cursors ≡ cursors_moved entry c.cursors
+    → AreClocks net (done ++ stamped t entry ∷ []) new
 all_taken net done entry t c new fits h backed more clocks firings cursors =
     let n : ℕ = length net.machines in
     let below : machine_of entry < n = machine_within net entry fits in
     record {
-      fitting = subst (IsJournal net) (sym (entries_more done (stamped t entry))) (fitting_more net (entries done) entry h.fitting fits);
+      fitting = subst (IsJournal net) (sym (entries_more done (stamped t entry)))
+          (fitting_more net (entries done) entry h.fitting fits);
       clocks_are = clocks ∙ clocks_more n done (stamped t entry) c.clocks below h.clocks_are;
       firings_are = firings ∙ lists_more n done entry t c.firings below h.firings_are;
       rows = ap length cursors ∙ rows_kept entry c.cursors ∙ h.rows;
-      columns = λ j inside. ap (λ (l : List (List Cursor)). length (get_or l j [])) cursors ∙ columns_more net entry c.cursors j n fits h.rows (h.columns j inside);
-      cursors_are = λ j k inside within. subst (λ (l : List (List Cursor)). IsCursor net (done ++ stamped t entry ∷ []) j k (cursor_at l j k)) (sym cursors) (cursors_more net done entry t c fits h backed more j k inside within);
+      columns = λ j inside. ap (λ (l : List (List Cursor)). length (get_or l j [])) cursors
+          ∙ columns_more net entry c.cursors j n fits h.rows (h.columns j inside);
+      cursors_are = λ j k inside within.
+          subst (λ (l : List (List Cursor)). IsCursor net (done ++ stamped t entry ∷ []) j k
+          (cursor_at l j k)) (sym cursors)
+          (cursors_more net done entry t c fits h backed more j k inside within);
     }

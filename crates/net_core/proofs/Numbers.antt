@@ -16,12 +16,16 @@ pub get_or-upto : (n k d : ℕ) → k < n → get_or (upto n) k d ≡ k
 get_or-upto zero k d below = absurd (omega arith)
 get_or-upto (suc n) k d below =
     elim (cases_eq k n) [
-      | inl same ↦ get_or-append_right (upto n) (n ∷ []) n k d (length-upto n) (omega arith) ∙ ap (λ i. get_or (n ∷ []) i d) (let e : k - n ≡ 0 = omega arith in e) ∙ sym same
-      | inr other ↦ get_or_append_left (upto n) (n ∷ []) d k (let e = length-upto n in omega arith) ∙ get_or-upto n k d (omega arith)
+      | inl same ↦ get_or-append_right (upto n) (n ∷ []) n k d (length-upto n) (omega arith)
+          ∙ ap (λ i. get_or (n ∷ []) i d) (let e : k - n ≡ 0 = omega arith in e) ∙ sym same
+      | inr other ↦ get_or_append_left (upto n) (n ∷ []) d k (let e = length-upto n in omega arith)
+          ∙ get_or-upto n k d (omega arith)
     ]
 
 pub length-table : {X : Type 0} (f : ℕ → X) (n : ℕ) → length (map f (upto n)) ≡ n
 length-table f n = length-map (upto n) f ∙ length-upto n
 
-pub get_or-table : {X : Type 0} (f : ℕ → X) (n k : ℕ) (d : X) → k < n → get_or (map f (upto n)) k d ≡ f k
-get_or-table f n k d below = get_or-map f (upto n) k 0 d (let e = length-upto n in omega arith) ∙ ap f (get_or-upto n k 0 below)
+pub get_or-table : {X : Type 0} (f : ℕ → X) (n k : ℕ) (d : X) → k < n
+    → get_or (map f (upto n)) k d ≡ f k
+get_or-table f n k d below = get_or-map f (upto n) k 0 d (let e = length-upto n in omega arith)
+    ∙ ap f (get_or-upto n k 0 below)

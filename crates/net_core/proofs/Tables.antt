@@ -29,12 +29,18 @@ use Rattle.net_core.proofs.Numbers.{length-table, get_or-table}
 
 -- ---- the machine of an entry
 
-pub machine_within : (net : Network) (entry : Entry) → FitsNetwork net entry → machine_of entry < length net.machines
+pub machine_within : (net : Network) (entry : Entry) → FitsNetwork net entry
+    → machine_of entry < length net.machines
 machine_within net (Dep from to e c) h =
-    ltb-true to (length net.machines) (and_parts (is_party net from) (nat_lt to (length net.machines)) (and_parts (is_party net from && nat_lt to (length net.machines)) (is_event_code net e c) h).0).1
-machine_within net (Rea m s o) h = there (λ machine. IsSnapshot machine s × IsOutcome machine o) net.machines m h
+    ltb-true to (length net.machines)
+    (and_parts (is_party net from) (nat_lt to (length net.machines))
+    (and_parts (is_party net from && nat_lt to (length net.machines)) (is_event_code net e c)
+    h).0).1
+machine_within net (Rea m s o) h =
+    there (λ machine. IsSnapshot machine s × IsOutcome machine o) net.machines m h
   where
-    there : (P : Machine → Type 0) (machines : List Machine) (k : ℕ) → IsSomeAnd (slice_get machines k) P → k < length machines
+    there : (P : Machine → Type 0) (machines : List Machine) (k : ℕ)
+        → IsSomeAnd (slice_get machines k) P → k < length machines
     there P [] k g = absurd g
     there P (machine ∷ machines) zero g = omega arith
     there P (machine ∷ machines) (suc k) g = let below = there P machines k g in omega arith
@@ -42,81 +48,124 @@ machine_within net (Rea m s o) h = there (λ machine. IsSnapshot machine s × Is
 -- ---- the owed deliveries of machines
 
 -- none of the deliveries of machines is of the environment
-none_to_all : (m e c s : ℕ) (receivers : List ℕ) → filter (is_way Env m) (map (λ k. let made : Owed = record { from = Sender s; to = k; event = e; code = c } in made) receivers) ≡ []
+none_to_all : (m e c s : ℕ) (receivers : List ℕ)
+    → filter (is_way Env m)
+    (map (λ k. let made : Owed = record { from = Sender s; to = k; event = e; code = c } in
+    made) receivers) ≡ []
 none_to_all m e c s [] = refl
 none_to_all m e c s (k ∷ receivers) = none_to_all m e c s receivers
 
-none_of_emissions : (net : Network) (m s : ℕ) (ps : List (ℕ × ℕ)) → filter (is_way Env m) (flat_map (deliveries_of net (Sender s)) ps) ≡ []
+none_of_emissions : (net : Network) (m s : ℕ) (ps : List (ℕ × ℕ))
+    → filter (is_way Env m) (flat_map (deliveries_of net (Sender s)) ps) ≡ []
 none_of_emissions net m s [] = refl
 none_of_emissions net m s ((e, c) ∷ ps) =
-    filter-append (is_way Env m) (deliveries_of net (Sender s) (e, c)) (flat_map (deliveries_of net (Sender s)) ps)
-    ∙ ap (λ l. l ++ filter (is_way Env m) (flat_map (deliveries_of net (Sender s)) ps)) (none_to_all m e c s (receivers_of net e))
+    filter-append (is_way Env m) (deliveries_of net (Sender s) (e, c))
+    (flat_map (deliveries_of net (Sender s)) ps)
+    ∙ ap (λ l. l ++ filter (is_way Env m) (flat_map (deliveries_of net (Sender s)) ps))
+    (none_to_all m e c s (receivers_of net e))
     ∙ none_of_emissions net m s ps
 
-none_of_firing : (net : Network) (m : ℕ) (entry : Entry) → filter (is_way Env m) (firing_deliveries net entry) ≡ []
+none_of_firing : (net : Network) (m : ℕ) (entry : Entry)
+    → filter (is_way Env m) (firing_deliveries net entry) ≡ []
 none_of_firing net m (Dep s k e c) = refl
 none_of_firing net m (Rea k s o) = none_of_emissions net m k (emissions net (Rea k s o))
 
-none_of_machines : (net : Network) (m : ℕ) (journal : List Entry) → filter (is_way Env m) (machine_deliveries net journal) ≡ []
+none_of_machines : (net : Network) (m : ℕ) (journal : List Entry)
+    → filter (is_way Env m) (machine_deliveries net journal) ≡ []
 none_of_machines net m [] = refl
 none_of_machines net m (entry ∷ journal) =
     filter-append (is_way Env m) (firing_deliveries net entry) (machine_deliveries net journal)
-    ∙ ap (λ l. l ++ filter (is_way Env m) (machine_deliveries net journal)) (none_of_firing net m entry)
+    ∙ ap (λ l. l ++ filter (is_way Env m) (machine_deliveries net journal))
+    (none_of_firing net m entry)
     ∙ none_of_machines net m journal
 
-none_unmade : (p : Owed → Bool) (journal : List Entry) (passed xs : List Owed) → filter p xs ≡ [] → filter p (unmade (λ d. d) journal passed xs) ≡ []
+none_unmade : (p : Owed → Bool) (journal : List Entry) (passed xs : List Owed) → filter p xs ≡ []
+    → filter p (unmade (λ d. d) journal passed xs) ≡ []
 none_unmade p journal passed [] h = refl
-none_unmade p journal passed (x ∷ xs) h = cases (p x) refl h (none_unmade p journal (passed ++ x ∷ []) xs)
+none_unmade p journal passed (x ∷ xs) h =
+    cases (p x) refl h (none_unmade p journal (passed ++ x ∷ []) xs)
   where
-    kept : (b : Bool) (rest : List Owed) → p x ≡ false → filter p rest ≡ [] → filter p (keep_unless b x rest) ≡ []
+    kept : (b : Bool) (rest : List Owed) → p x ≡ false → filter p rest ≡ []
+        → filter p (keep_unless b x rest) ≡ []
     kept true rest not none = none
     kept false rest not none = rw not none
 
-    cases : (b : Bool) → p x ≡ b → cond b (x ∷ filter p xs) (filter p xs) ≡ [] → (filter p xs ≡ [] → filter p (unmade (λ d. d) journal (passed ++ x ∷ []) xs) ≡ []) → filter p (unmade (λ d. d) journal passed (x ∷ xs)) ≡ []
+    cases : (b : Bool) → p x ≡ b → cond b (x ∷ filter p xs) (filter p xs) ≡ []
+        → (filter p xs ≡ [] → filter p (unmade (λ d. d) journal (passed ++ x ∷ []) xs) ≡ [])
+        → filter p (unmade (λ d. d) journal passed (x ∷ xs)) ≡ []
     cases true is none rest = cc
     cases false is none rest =
-        kept (nat_lt (count_by (λ y. same_way y x) passed) (length (delivered x.from x.to journal))) (unmade (λ d. d) journal (passed ++ x ∷ []) xs) is (rest none)
+        kept (nat_lt (count_by (λ y. same_way y x) passed) (length (delivered x.from x.to journal)))
+        (unmade (λ d. d) journal (passed ++ x ∷ []) xs) is (rest none)
 
-pub owed_after : (net : Network) (trace : List TraceItem) (journal : List Entry) (entry : Entry) (old new : List Owed) → MovesOwed → Legal net trace journal → old ≡ owed_by_machines net journal ++ firing_deliveries net entry → new ≡ landed entry old → new ≡ owed_by_machines net (journal ++ entry ∷ [])
-owed_after net trace journal entry old new moves legal is takes = takes ∙ ap (landed entry) is ∙ same entry ∙ sym (moves net trace journal entry legal)
+pub owed_after : (net : Network) (trace : List TraceItem) (journal : List Entry) (entry : Entry)
+    (old new : List Owed) → MovesOwed → Legal net trace journal
+    → old ≡ owed_by_machines net journal ++ firing_deliveries net entry → new ≡ landed entry old
+    → new ≡ owed_by_machines net (journal ++ entry ∷ [])
+owed_after net trace journal entry old new moves legal is takes =
+    takes ∙ ap (landed entry) is ∙ same entry ∙ sym (moves net trace journal entry legal)
   where
-    same : (entry : Entry) → landed entry (owed_by_machines net journal ++ firing_deliveries net entry) ≡ left_by entry (owed_by_machines net journal ++ firing_deliveries net entry)
+    same : (entry : Entry)
+        → landed entry (owed_by_machines net journal ++ firing_deliveries net entry)
+        ≡ left_by entry (owed_by_machines net journal ++ firing_deliveries net entry)
     same (Dep Env m e c) =
         sym (without_none (is_way Env m) (owed_by_machines net journal ++ [])
         (ap (filter (is_way Env m)) (append-nil (owed_by_machines net journal))
-        ∙ none_unmade (is_way Env m) journal [] (machine_deliveries net journal) (none_of_machines net m journal)))
+        ∙ none_unmade (is_way Env m) journal [] (machine_deliveries net journal)
+        (none_of_machines net m journal)))
     same (Dep (Sender s) m e c) = refl
     same (Rea m s o) = refl
 
 -- ---- the cursors
 
-pub env_cursors : (net : Network) (trace : List TraceItem) (entry : Entry) (from : Party) (to e c : ℕ) (cursors new : List ℕ) → entry ≡ Dep from to e c → from ≡ Env → new ≡ set cursors to (next_place net trace to (slice_index cursors to)) → new ≡ cursors_after net trace entry cursors
+pub env_cursors : (net : Network) (trace : List TraceItem) (entry : Entry) (from : Party)
+    (to e c : ℕ) (cursors new : List ℕ) → entry ≡ Dep from to e c → from ≡ Env
+    → new ≡ set cursors to (next_place net trace to (slice_index cursors to))
+    → new ≡ cursors_after net trace entry cursors
 env_cursors net trace entry from to e c cursors new is env h = rw (is, env) h
 
 -- ---- the snapshots
 
-pub moment_at : (net : Network) (journal : List Entry) (moments : List Snapshot) (m : ℕ) (s : Snapshot) → moments ≡ moments_of net journal → m < length net.machines → slice_get moments m ≡ Some s → s ≡ snap net journal m
+pub moment_at : (net : Network) (journal : List Entry) (moments : List Snapshot) (m : ℕ)
+    (s : Snapshot) → moments ≡ moments_of net journal → m < length net.machines
+    → slice_get moments m ≡ Some s → s ≡ snap net journal m
 moment_at net journal moments m s are below at =
-    sym (get_or_from_slice_get moments m s s at) ∙ ap (λ (l : List Snapshot). get_or l m s) are ∙ get_or-table (snap net journal) (length net.machines) m s below
+    sym (get_or_from_slice_get moments m s s at) ∙ ap (λ (l : List Snapshot). get_or l m s) are
+    ∙ get_or-table (snap net journal) (length net.machines) m s below
 
 -- the same of an item by its place
-pub moment_of : (net : Network) (journal : List Entry) (moments : List Snapshot) (m : ℕ) (s : Snapshot) → moments ≡ moments_of net journal → m < length net.machines → s ≡ get_or moments m s → s ≡ snap net journal m
-moment_of net journal moments m s are below at = at ∙ ap (λ (l : List Snapshot). get_or l m s) are ∙ get_or-table (snap net journal) (length net.machines) m s below
+pub moment_of : (net : Network) (journal : List Entry) (moments : List Snapshot) (m : ℕ)
+    (s : Snapshot) → moments ≡ moments_of net journal → m < length net.machines
+    → s ≡ get_or moments m s → s ≡ snap net journal m
+moment_of net journal moments m s are below at =
+    at ∙ ap (λ (l : List Snapshot). get_or l m s) are
+    ∙ get_or-table (snap net journal) (length net.machines) m s below
 
-pub length-snap : (net : Network) (journal : List Entry) (m : ℕ) → length (snap net journal m).codes ≡ length (inputs_of net m) + length (states_of net m)
+pub length-snap : (net : Network) (journal : List Entry) (m : ℕ)
+    → length (snap net journal m).codes ≡ length (inputs_of net m) + length (states_of net m)
 length-snap net journal m =
-    length-append (map (place journal m) (inputs_of net m)) (map (state net journal m) (upto (length (states_of net m))))
-    ∙ rw (length-map (inputs_of net m) (place journal m), length-table (state net journal m) (length (states_of net m))) refl
+    length-append (map (place journal m) (inputs_of net m))
+    (map (state net journal m) (upto (length (states_of net m))))
+    ∙ rw (
+      length-map (inputs_of net m) (place journal m),
+      length-table (state net journal m) (length (states_of net m)),
+    ) refl
 
-pub moment_width : (net : Network) (journal : List Entry) (m : ℕ) (machine : Machine) (s : Snapshot) → slice_get net.machines m ≡ Some machine → s ≡ snap net journal m → length s.codes ≡ length machine.inputs + length machine.states
+pub moment_width : (net : Network) (journal : List Entry) (m : ℕ) (machine : Machine) (s : Snapshot)
+    → slice_get net.machines m ≡ Some machine → s ≡ snap net journal m
+    → length s.codes ≡ length machine.inputs + length machine.states
 moment_width net journal m machine s at is =
     ap (λ (x : Snapshot). length x.codes) is ∙ length-snap net journal m
-    ∙ ap (λ (o : Option Machine). length (unwrap_or (option_map (λ machine. machine.inputs) o) []) + length (unwrap_or (option_map (λ machine. machine.states) o) [])) at
+    ∙ ap (λ (o : Option Machine). length (unwrap_or (option_map (λ machine. machine.inputs) o) [])
+    + length (unwrap_or (option_map (λ machine. machine.states) o) [])) at
 
 -- ---- tables
 
-pub table_item : {X : Type 0} (f : ℕ → X) (n : ℕ) (items : List X) (m : ℕ) (x : X) → items ≡ map f (upto n) → m < n → slice_get items m ≡ Some x → x ≡ f m
-table_item {X} f n items m x are below at = sym (get_or_from_slice_get items m x x at) ∙ ap (λ (l : List X). get_or l m x) are ∙ get_or-table f n m x below
+pub table_item : {X : Type 0} (f : ℕ → X) (n : ℕ) (items : List X) (m : ℕ) (x : X)
+    → items ≡ map f (upto n) → m < n → slice_get items m ≡ Some x → x ≡ f m
+table_item {X} f n items m x are below at =
+    sym (get_or_from_slice_get items m x x at) ∙ ap (λ (l : List X). get_or l m x) are
+    ∙ get_or-table f n m x below
 
 -- what an answer says of an equivalence
 pub not_following : {b : Bool} {P : Type 0} → (b ≡ true) ↔ P → b ≡ false → ¬ P
@@ -124,22 +173,24 @@ not_following h e p = both_ways _ e (h.1 p)
 
 -- the tables after the deliveries that the entry gives are added
 pub before_entry : (net : Network) (trace : List TraceItem) (journal : List Entry) (entry : Entry)
-    (readers : List ℕ) (moments : List Snapshot) (woken : ℕ) (cursors : List ℕ) (old new : List Owed)
+    (readers : List ℕ) (moments : List Snapshot) (woken : ℕ) (cursors : List ℕ)
+    (old new : List Owed)
     → MayFollow net trace journal entry
     → AreTables net trace journal readers moments woken cursors old
     → new ≡ old ++ firing_deliveries net entry
     → AreBefore net trace journal entry readers moments woken cursors new
-before_entry net trace journal entry readers moments woken cursors old new follows tables is = record {
-  follows = follows;
-  tables = record {
-    fits = tables.fits;
-    legal = tables.legal;
-    readers_are = tables.readers_are;
-    moments_are = tables.moments_are;
-    woken_are = tables.woken_are;
-    no_others = tables.no_others;
-    cursors_are = tables.cursors_are;
-    owed_are = refl;
-  };
-  owed_are = is ∙ ap (λ (l : List Owed). l ++ firing_deliveries net entry) tables.owed_are;
-}
+before_entry net trace journal entry readers moments woken cursors old new follows tables is =
+    record {
+      follows = follows;
+      tables = record {
+        fits = tables.fits;
+        legal = tables.legal;
+        readers_are = tables.readers_are;
+        moments_are = tables.moments_are;
+        woken_are = tables.woken_are;
+        no_others = tables.no_others;
+        cursors_are = tables.cursors_are;
+        owed_are = refl;
+      };
+      owed_are = is ∙ ap (λ (l : List Owed). l ++ firing_deliveries net entry) tables.owed_are;
+    }

@@ -42,23 +42,28 @@ IsOf records s i = (i < length records) × ((nth records i).from ≡ s)
 -- each emission names the place of the next of its sender, or one past the end
 pub record IsChained (records : List Emission) : Type 0 where
   pub further : (i : ℕ) → i < length records → i < (nth records i).next
-  pub same : (i : ℕ) → i < length records → (nth records i).next < length records → (nth records (nth records i).next).from ≡ (nth records i).from
-  pub none_between : (i j : ℕ) → i < length records → i < j → j < (nth records i).next → j < length records → (nth records j).from ≢ (nth records i).from
+  pub same : (i : ℕ) → i < length records → (nth records i).next < length records
+      → (nth records (nth records i).next).from ≡ (nth records i).from
+  pub none_between : (i j : ℕ) → i < length records → i < j → j < (nth records i).next
+      → j < length records → (nth records j).from ≢ (nth records i).from
 
 -- and the list has for each sender the place of its last
 pub record IsChain (records : List Emission) (last : List ℕ) : Type 0 where
   pub chained : IsChained records
   pub few : length records ≤ no_place
-  pub ends : (i : ℕ) → i < length records → length records ≤ (nth records i).next → (nth records i).next ≡ no_place
+  pub ends : (i : ℕ) → i < length records → length records ≤ (nth records i).next
+      → (nth records i).next ≡ no_place
   pub senders : (i : ℕ) → (nth records i).from < 64
   pub long : length last ≡ 64
   pub own : (s : ℕ) → s < 64 → IsOf records s (get_or last s 0)
-  pub none_after : (s j : ℕ) → s < 64 → get_or last s 0 < j → j < length records → (nth records j).from ≢ s
+  pub none_after : (s j : ℕ) → s < 64 → get_or last s 0 < j → j < length records
+      → (nth records j).from ≢ s
 
 -- ---- the queue
 
--- What the code keeps: the emissions so far, and the first of them for which anyone waits. It isn't struck, and those before it are.
--- The cursor of a sender and a receiver is at an emission of the sender, and for none before it the receiver waits.
+-- What the code keeps: the emissions so far, and the first of them for which anyone waits. It isn't
+-- struck, and those before it are. The cursor of a sender and a receiver is at an emission of the
+-- sender, and for none before it the receiver waits.
 pub record IsQueue (records : List Emission) (front : ℕ) (cursors last : List ℕ) : Type 0 where
   pub chain : IsChain records last
   pub within : front ≤ length records
@@ -66,16 +71,21 @@ pub record IsQueue (records : List Emission) (front : ℕ) (cursors last : List 
   pub struck : (i : ℕ) → i < front → (nth records i).left ≡ 0
   pub long : length cursors ≡ 4096
   pub starts : (s m : ℕ) → s < 64 → m < 64 → IsOf records s (get_or cursors (64 * s + m) 0)
-  pub passed : (s m i : ℕ) → s < 64 → m < 64 → i < get_or cursors (64 * s + m) 0 → waits s m (nth records i) ≡ false
+  pub passed : (s m i : ℕ) → s < 64 → m < 64 → i < get_or cursors (64 * s + m) 0
+      → waits s m (nth records i) ≡ false
 
 -- emissions that owe these deliveries beside stand at the end
-pub record IsMore (records : List Emission) (last : List ℕ) (more : List Emission) (last_more : List ℕ) (owed : List Owed) : Type 0 where
+pub record IsMore (records : List Emission) (last : List ℕ) (more : List Emission)
+    (last_more : List ℕ) (owed : List Owed) : Type 0 where
   pub chain : IsChain more last_more
   pub grown : length records ≤ length more
-  pub queue : (front : ℕ) (cursors : List ℕ) → IsQueue records front cursors last → IsQueue more front cursors last_more
-  pub view : (front : ℕ) → front ≤ length records → all_waiting (drop front more) ≡ all_waiting (drop front records) ++ owed
+  pub queue : (front : ℕ) (cursors : List ℕ) → IsQueue records front cursors last
+      → IsQueue more front cursors last_more
+  pub view : (front : ℕ) → front ≤ length records
+      → all_waiting (drop front more) ≡ all_waiting (drop front records) ++ owed
 
 -- what an event with its code gives to a set of receivers, where the code 0 is none
 abbrev pub given : ℕ → ℕ → ℕ → ℕ → List Owed
 given s e zero left = []
-given s e (suc v) left = waiting (record { from = s; event = e; code = suc v; left = left; next = no_place })
+given s e (suc v) left =
+    waiting (record { from = s; event = e; code = suc v; left = left; next = no_place })

@@ -12,18 +12,24 @@ use Rattle.net_core.specs.declared.answer.Admit.TheVariants.{Yes, No, NoMemory}
 use Rattle.journals.specs.Journals.{is_woken, snap}
 use Rattle.journals.specs.Legality.{MayFollow}
 
--- This is the first cause, in the order of the four, for which the entry may not follow. No two of them hold of one entry.
+-- This is the first cause, in the order of the four, for which the entry may not follow. No two of
+-- them hold of one entry.
 abbrev pub IsFirstCause : Network → List TraceItem → List Entry → Why → Entry → Type 0
-IsFirstCause net trace journal NotOwed (Dep s m event code) = ¬ MayFollow net trace journal (Dep s m event code)
+IsFirstCause net trace journal NotOwed (Dep s m event code) =
+    ¬ MayFollow net trace journal (Dep s m event code)
 IsFirstCause net trace journal NotWoken (Rea m s o) = is_woken journal m ≡ false
-IsFirstCause net trace journal OldSnapshot (Rea m s o) = IsTrue (is_woken journal m) × (s ≢ snap net journal m)
-IsFirstCause net trace journal OtherOutcome (Rea m s o) = IsTrue (is_woken journal m) × (s ≡ snap net journal m) × (¬ OfMachine net m (λ machine. Transition machine s o))
+IsFirstCause net trace journal OldSnapshot (Rea m s o) =
+    IsTrue (is_woken journal m) × (s ≢ snap net journal m)
+IsFirstCause net trace journal OtherOutcome (Rea m s o) =
+    IsTrue (is_woken journal m) × (s ≡ snap net journal m)
+    × (¬ OfMachine net m (λ machine. Transition machine s o))
 IsFirstCause net trace journal NotOwed (Rea m s o) = ⊥
 IsFirstCause net trace journal NotWoken (Dep s m event code) = ⊥
 IsFirstCause net trace journal OldSnapshot (Dep s m event code) = ⊥
 IsFirstCause net trace journal OtherOutcome (Dep s m event code) = ⊥
 
--- Yes where the entry may follow, No with the first cause where it may not. No two of these hold together, unless memory runs out, which is free.
+-- Yes where the entry may follow, No with the first cause where it may not. No two of these hold
+-- together, unless memory runs out, which is free.
 abbrev pub Judges : Network → List TraceItem → List Entry → Entry → Admit → Type 0
 Judges net trace journal entry Yes = MayFollow net trace journal entry
 Judges net trace journal entry (No why) = IsFirstCause net trace journal why entry
@@ -40,7 +46,8 @@ CausedMayNotFollow =
 -- no two causes hold of one entry
 abbrev pub OneCause : Type 0
 OneCause =
-    (net : Network) (trace : List TraceItem) (journal : List Entry) (why other : Why) (entry : Entry)
+    (net : Network) (trace : List TraceItem) (journal : List Entry) (why other : Why)
+    (entry : Entry)
     → IsFirstCause net trace journal why entry
     → IsFirstCause net trace journal other entry
     → why ≡ other

@@ -8,5 +8,6 @@ use Rattle.journals.specs.declared.entry.Entry.TheVariants.{Dep, Rea}
 -- the answer is whether the entry delivers an input of the machine whose code isn't 0
 abbrev pub Overwrites : Machine → Snapshot → Entry → Bool → Type 0
 Overwrites machine before (Dep from to event code) answer =
-    MatchOption (position (λ input. input == event) machine.inputs) (answer ≡ false) (λ i. answer ≡ not (slice_index before.codes i == 0))
+    MatchOption (position (λ input. input == event) machine.inputs) (answer ≡ false)
+    (λ i. answer ≡ not (slice_index before.codes i == 0))
 Overwrites machine before (Rea m s o) answer = answer ≡ false

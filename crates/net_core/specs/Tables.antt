@@ -15,7 +15,9 @@ use Rattle.journals.specs.Moved.{moments_of}
 use Rattle.net_core.specs.Readers.{AreReaders}
 
 -- each table is what the journal gives
-pub record AreTables (net : Network) (trace : List TraceItem) (journal : List Entry) (readers : List ℕ) (moments : List Snapshot) (woken : ℕ) (cursors : List ℕ) (owed : List Owed) : Type 0 where
+pub record AreTables (net : Network) (trace : List TraceItem) (journal : List Entry)
+    (readers : List ℕ) (moments : List Snapshot) (woken : ℕ) (cursors : List ℕ) (owed : List Owed) :
+    Type 0 where
   pub fits : IsTrace net trace
   pub legal : Legal net trace journal
   pub readers_are : AreReaders net readers
@@ -27,7 +29,9 @@ pub record AreTables (net : Network) (trace : List TraceItem) (journal : List En
 
 -- The tables of a journal, but that what the entry gives is owed already. The entry may follow.
 pub record AreBefore (net : Network) (trace : List TraceItem) (journal : List Entry) (entry : Entry)
-    (readers : List ℕ) (moments : List Snapshot) (woken : ℕ) (cursors : List ℕ) (owed : List Owed) : Type 0 where
+    (readers : List ℕ) (moments : List Snapshot) (woken : ℕ) (cursors : List ℕ) (owed : List Owed) :
+    Type 0 where
   pub follows : MayFollow net trace journal entry
-  pub tables : AreTables net trace journal readers moments woken cursors (owed_by_machines net journal)
+  pub tables : AreTables net trace journal readers moments woken cursors
+      (owed_by_machines net journal)
   pub owed_are : owed ≡ owed_by_machines net journal ++ firing_deliveries net entry

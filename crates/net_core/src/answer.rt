@@ -1,8 +1,8 @@
 // What a configuration answers.
 use journals::Owed;
 
-/// The first delivery that the environment owes. It is ready where no `settle` item stands between the
-/// event item before its item, or the start of the trace, and its item.
+/// The first delivery that the environment owes. It is ready where no `settle` item stands between
+/// the event item before its item, or the start of the trace, and its item.
 #[derive(Clone, Copy, Debug, PartialEq, Eq)]
 pub struct NextEnv {
     /// The delivery.

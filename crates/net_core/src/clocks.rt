@@ -70,14 +70,16 @@ impl<'a> FiringLists<'a> {
     // Puts a firing after those of its machine.
     fn push_at(&mut self, s: u32, entry: &'a Entry, stamp: u64) -> Result<(), NoMemory>
         requires { s < length self.old }
-        ensures ok { OnOk result (self.new ≡ set self.old s (get_or self.old s [] ++ stamped stamp entry.now ∷ [])) }
+        ensures ok { OnOk result (self.new
+            ≡ set self.old s (get_or self.old s [] ++ stamped stamp entry.now ∷ [])) }
         ensures err { OnErr result (self.new ≡ self.old) }
     {
         self.items[s as usize].push(Firing { entry, stamp })
     }
 }
 
-/// The firing that the next delivery comes from, or the one before it, and how many of its emissions to the receiver are taken.
+/// The firing that the next delivery comes from, or the one before it, and how many of its
+/// emissions to the receiver are taken.
 #[derive(Clone, Copy)]
 pub(crate) struct Cursor {
     pub(crate) firing: u64,
@@ -116,7 +118,8 @@ fn first_row(alloc: Global, machines: u64) -> Result<List<Cursor>, NoMemory>
 impl CursorTable {
     // Cursors at the start.
     fn new(alloc: Global, machines: u64) -> Result<CursorTable, NoMemory>
-        ensures { IfOk result (λ table. table ≡ replicate machines (replicate machines (record { firing = 0; taken = 0 }))) }
+        ensures { IfOk result (λ table. table
+            ≡ replicate machines (replicate machines (record { firing = 0; taken = 0 }))) }
     {
         let mut items = Vec::new(alloc);
         for _ in 0..machines {
@@ -179,7 +182,8 @@ fn count_outputs(net: &Network, m: u32, from: u32, outs: &Codes) -> u64
     requires machine { m < length net.now.machines }
     requires from { from < length net.now.machines }
     requires width { length outs.now ≡ length (outputs_of net.now from) }
-    ensures { result ≡ length (filter (λ e. reads net.now m e.0) (emitted (outputs_of net.now from) outs.now)) }
+    ensures { result
+        ≡ length (filter (λ e. reads net.now m e.0) (emitted (outputs_of net.now from) outs.now)) }
 {
     let outputs = &net.machines.get(from as u64).outputs;
     let mut count = 0;
@@ -212,7 +216,8 @@ fn count_emitted(net: &Network, m: u32, entry: &Entry) -> u64
     }
 }
 
-// The stamp of the first of what a sender owes to the machine, or 0 where it owes nothing. The cursor moves on to where it stands.
+// The stamp of the first of what a sender owes to the machine, or 0 where it owes nothing. The
+// cursor moves on to where it stands.
 fn first_owed(net: &Network, m: u32, firings: &List<Firing<'_>>, cursor: &mut Cursor) -> u64
     requires machine { m < length net.now.machines }
     requires fits { IsJournal net.now (entries firings.now) }
@@ -220,7 +225,10 @@ fn first_owed(net: &Network, m: u32, firings: &List<Firing<'_>>, cursor: &mut Cu
     ensures stamp { result ≡ greatest (take 1 (left net.now m firings.now cursor.old)) }
     ensures left { left net.now m firings.now cursor.new ≡ left net.now m firings.now cursor.old }
     ensures within { cursor.new.firing ≤ length firings.now }
-    ensures given { cursor.old.taken ≤ length (flat_map (once_each net.now m) (drop cursor.old.firing firings.now)) → cursor.new.taken ≤ length (flat_map (once_each net.now m) (drop cursor.new.firing firings.now)) }
+    ensures given { cursor.old.taken ≤ length
+        (flat_map (once_each net.now m) (drop cursor.old.firing firings.now))
+        → cursor.new.taken
+        ≤ length (flat_map (once_each net.now m) (drop cursor.new.firing firings.now)) }
     ensures few { cursor.new.taken ≤ cursor.old.taken }
 {
     for f in cursor.firing..firings.len() {
@@ -296,7 +304,8 @@ pub(crate) struct Clocks<'a> {
 
 // No machine has a stamp.
 fn no_clocks(alloc: Global, machines: u64) -> Result<Places, NoMemory>
-    ensures { IfOk result (λ clocks. clocks ≡ map (λ m. greatest (stamps_at m [])) (upto machines)) }
+    ensures { IfOk result (λ clocks. clocks
+        ≡ map (λ m. greatest (stamps_at m [])) (upto machines)) }
 {
     let mut clocks = Places::new(alloc);
     for _ in 0..machines {
@@ -322,8 +331,10 @@ impl<'a> Clocks<'a> {
     fn origin(&mut self, net: &Network, entry: &Entry) -> u64
         requires fits { FitsNetwork net.now entry.now }
         requires has { HasClocks net.now self.old }
-        ensures stamp { (done : List Stamped) → AreClocks net.now done self.old → result ≡ greatest (origin_of net.now done entry.now) }
-        ensures same { (done : List Stamped) → AreClocks net.now done self.old → AreClocks net.now done self.new }
+        ensures stamp { (done : List Stamped) → AreClocks net.now done self.old
+            → result ≡ greatest (origin_of net.now done entry.now) }
+        ensures same { (done : List Stamped) → AreClocks net.now done self.old
+            → AreClocks net.now done self.new }
     {
         match entry {
             Entry::Dep { from, to, .. } => {
@@ -342,8 +353,10 @@ impl<'a> Clocks<'a> {
         requires sender { s < length net.now.machines }
         requires receiver { m < length net.now.machines }
         requires has { HasClocks net.now self.old }
-        ensures stamp { (done : List Stamped) → AreClocks net.now done self.old → result ≡ greatest (take 1 (stamps_owed net.now s m done)) }
-        ensures same { (done : List Stamped) → AreClocks net.now done self.old → AreClocks net.now done self.new }
+        ensures stamp { (done : List Stamped) → AreClocks net.now done self.old
+            → result ≡ greatest (take 1 (stamps_owed net.now s m done)) }
+        ensures same { (done : List Stamped) → AreClocks net.now done self.old
+            → AreClocks net.now done self.new }
     {
         let mut cursor = self.cursors.get(s, m);
         let stamp = first_owed(net, m, self.firings.get(s), &mut cursor);
@@ -355,8 +368,10 @@ impl<'a> Clocks<'a> {
     pub(crate) fn below(&mut self, net: &Network, entry: &Entry) -> u64
         requires fits { FitsNetwork net.now entry.now }
         requires has { HasClocks net.now self.old }
-        ensures stamp { (done : List Stamped) → AreClocks net.now done self.old → result ≡ greatest (stamps_below net.now done entry.now) }
-        ensures same { (done : List Stamped) → AreClocks net.now done self.old → AreClocks net.now done self.new }
+        ensures stamp { (done : List Stamped) → AreClocks net.now done self.old
+            → result ≡ greatest (stamps_below net.now done entry.now) }
+        ensures same { (done : List Stamped) → AreClocks net.now done self.old
+            → AreClocks net.now done self.new }
     {
         let clock = *self.clocks.get(entry.machine() as u64);
         let origin = self.origin(net, entry);
@@ -372,7 +387,9 @@ impl<'a> Clocks<'a> {
     ) -> Result<(), NoMemory>
         requires fits { FitsNetwork net.now entry.now }
         requires has { HasClocks net.now self.old }
-        ensures taken { (done : List Stamped) → AreClocks net.now done self.old → IsBacked net.now done → IsBacked net.now (done ++ stamped stamp entry.now ∷ []) → OnOk result (AreClocks net.now (done ++ stamped stamp entry.now ∷ []) self.new) }
+        ensures taken { (done : List Stamped) → AreClocks net.now done self.old
+            → IsBacked net.now done → IsBacked net.now (done ++ stamped stamp entry.now ∷ [])
+            → OnOk result (AreClocks net.now (done ++ stamped stamp entry.now ∷ []) self.new) }
     {
         raise(&mut self.clocks, entry.machine(), stamp);
         pass_delivery(entry, &mut self.cursors);

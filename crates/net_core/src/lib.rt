@@ -1,4 +1,5 @@
-// The judge of entries: a legal journal, with what is needed to judge the next entry, the count of what was lost, and the stamps of a journal.
+// The judge of entries: a legal journal, with what is needed to judge the next entry, the count of
+// what was lost, and the stamps of a journal.
 #![tactic(auto)]
 
 mod answer;

@@ -33,7 +33,8 @@ fn overwrites(machine: &Machine, entry: &Entry, before: &Snapshot) -> bool
     }
 }
 
-/// How many deliveries of the journal came on an input that was present, so that the earlier one was lost.
+/// How many deliveries of the journal came on an input that was present, so that the earlier one
+/// was lost.
 pub fn lost(alloc: Global, net: &Network, j: &Journal) -> Result<u64, NoMemory>
     requires { IsJournal net.now j.now }
     ensures { IfOk result (λ count. count ≡ lost_in net.now j.now) }

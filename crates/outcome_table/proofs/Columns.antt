@@ -15,7 +15,8 @@ long_map f [] = refl
 long_map f (x ∷ xs) = ap suc (long_map f xs)
 
 -- so many lists of one length
-flat_long : {Y : Type 0} (f : ℕ → List Y) (w n : ℕ) → ((k : ℕ) → length (f k) ≡ w) → length (flat_map f (upto n)) ≡ n * w
+flat_long : {Y : Type 0} (f : ℕ → List Y) (w n : ℕ) → ((k : ℕ) → length (f k) ≡ w)
+    → length (flat_map f (upto n)) ≡ n * w
 flat_long f w zero each = omega arith
 flat_long {Y = Y} f w (suc n) each =
     let e = ap (λ (ys : List Y). length ys) (flat_upto f n) in
@@ -27,9 +28,11 @@ flat_long {Y = Y} f w (suc n) each =
 pub all_long : (sizes : List ℕ) → length (all_codes sizes) ≡ product sizes
 all_long [] = refl
 all_long (size ∷ sizes) =
-    flat_long (each_after (all_codes sizes)) (product sizes) size (λ k. long_map (λ codes. k ∷ codes) (all_codes sizes) ∙ all_long sizes)
+    flat_long (each_after (all_codes sizes)) (product sizes) size
+    (λ k. long_map (λ codes. k ∷ codes) (all_codes sizes) ∙ all_long sizes)
 
-same_first : (c : ℕ) (lists : List (List ℕ)) → column 0 (each_after lists c) ≡ replicate (length lists) c
+same_first : (c : ℕ) (lists : List (List ℕ))
+    → column 0 (each_after lists c) ≡ replicate (length lists) c
 same_first c [] = refl
 same_first c (codes ∷ lists) = ap (λ (ys : List ℕ). c ∷ ys) (same_first c lists)
 
@@ -37,32 +40,49 @@ same_rest : (v c : ℕ) (lists : List (List ℕ)) → column (suc v) (each_after
 same_rest v c [] = refl
 same_rest v c (codes ∷ lists) = ap (λ (ys : List ℕ). slice_index codes v ∷ ys) (same_rest v c lists)
 
-here : (vars : List ℕ) (i : ℕ) → i < length vars → drop i vars ≡ slice_index vars i ∷ drop (i + 1) vars
-here vars i low = drop-cons vars i 0 low ∙ (let e : suc i ≡ i + 1 = omega arith in ap (λ (k : ℕ). slice_index vars i ∷ drop k vars) e)
+here : (vars : List ℕ) (i : ℕ) → i < length vars
+    → drop i vars ≡ slice_index vars i ∷ drop (i + 1) vars
+here vars i low = drop-cons vars i 0 low
+    ∙ (let e : suc i ≡ i + 1 = omega arith in ap (λ (k : ℕ). slice_index vars i ∷ drop k vars) e)
 
 -- each code of the first variable stands once for each list of the others
-pub column_first : (vars : List ℕ) (from v : ℕ) → from ≡ v → v < length vars → column (v - from) (all_codes (drop from vars)) ≡ flat_map (λ c. replicate (product (drop (from + 1) vars)) c) (upto (slice_index vars from))
+pub column_first : (vars : List ℕ) (from v : ℕ) → from ≡ v → v < length vars
+    → column (v - from) (all_codes (drop from vars))
+    ≡ flat_map (λ c. replicate (product (drop (from + 1) vars)) c) (upto (slice_index vars from))
 column_first vars from v same low =
     let none : v - from ≡ 0 = omega arith in
     ap (λ (k : ℕ). column k (all_codes (drop from vars))) none
     ∙ ap (λ (sizes : List ℕ). column 0 (all_codes sizes)) (here vars from (omega arith))
-    ∙ map_flat (λ codes. slice_index codes 0) (each_after (all_codes (drop (from + 1) vars))) (upto (slice_index vars from))
-    ∙ flat_same (λ c. column 0 (each_after (all_codes (drop (from + 1) vars)) c)) (λ c. replicate (product (drop (from + 1) vars)) c) (upto (slice_index vars from))
-    (λ c. same_first c (all_codes (drop (from + 1) vars)) ∙ ap (λ (n : ℕ). replicate n c) (all_long (drop (from + 1) vars)))
+    ∙ map_flat (λ codes. slice_index codes 0) (each_after (all_codes (drop (from + 1) vars)))
+    (upto (slice_index vars from))
+    ∙ flat_same (λ c. column 0 (each_after (all_codes (drop (from + 1) vars)) c))
+    (λ c. replicate (product (drop (from + 1) vars)) c) (upto (slice_index vars from))
+    (λ c. same_first c (all_codes (drop (from + 1) vars))
+    ∙ ap (λ (n : ℕ). replicate n c) (all_long (drop (from + 1) vars)))
 
 -- and with each of them the codes of a later variable stand once
-pub column_later : (vars : List ℕ) (from v : ℕ) → from < v → v < length vars → column (v - from) (all_codes (drop from vars)) ≡ flat_map (λ c. column (v - (from + 1)) (all_codes (drop (from + 1) vars))) (upto (slice_index vars from))
+pub column_later : (vars : List ℕ) (from v : ℕ) → from < v → v < length vars
+    → column (v - from) (all_codes (drop from vars))
+    ≡ flat_map (λ c. column (v - (from + 1)) (all_codes (drop (from + 1) vars)))
+    (upto (slice_index vars from))
 column_later vars from v less low =
     let more : v - from ≡ suc (v - (from + 1)) = omega arith in
     ap (λ (k : ℕ). column k (all_codes (drop from vars))) more
-    ∙ ap (λ (sizes : List ℕ). column (suc (v - (from + 1))) (all_codes sizes)) (here vars from (omega arith))
-    ∙ map_flat (λ codes. slice_index codes (suc (v - (from + 1)))) (each_after (all_codes (drop (from + 1) vars))) (upto (slice_index vars from))
-    ∙ flat_same (λ c. column (suc (v - (from + 1))) (each_after (all_codes (drop (from + 1) vars)) c)) (λ c. column (v - (from + 1)) (all_codes (drop (from + 1) vars))) (upto (slice_index vars from))
+    ∙ ap (λ (sizes : List ℕ). column (suc (v - (from + 1))) (all_codes sizes))
+    (here vars from (omega arith))
+    ∙ map_flat (λ codes. slice_index codes (suc (v - (from + 1))))
+    (each_after (all_codes (drop (from + 1) vars))) (upto (slice_index vars from))
+    ∙ flat_same (λ c. column (suc (v - (from + 1)))
+    (each_after (all_codes (drop (from + 1) vars)) c))
+    (λ c. column (v - (from + 1)) (all_codes (drop (from + 1) vars)))
+    (upto (slice_index vars from))
     (λ c. same_rest (v - (from + 1)) c (all_codes (drop (from + 1) vars)))
 
 -- the product of the sizes from a place on
-pub product_here : (vars : List ℕ) (i size : ℕ) → i < length vars → slice_index vars i ≡ size → product (drop i vars) ≡ size * product (drop (i + 1) vars)
-product_here vars i size low is = ap product (here vars i low) ∙ ap (λ (n : ℕ). n * product (drop (i + 1) vars)) is
+pub product_here : (vars : List ℕ) (i size : ℕ) → i < length vars → slice_index vars i ≡ size
+    → product (drop i vars) ≡ size * product (drop (i + 1) vars)
+product_here vars i size low is = ap product (here vars i low)
+    ∙ ap (λ (n : ℕ). n * product (drop (i + 1) vars)) is
 
 pub product_end : (vars : List ℕ) (i : ℕ) → i ≡ length vars → product (drop i vars) ≡ 1
 product_end vars i end = ap (λ (k : ℕ). product (drop k vars)) end ∙ ap product (past vars)
@@ -72,7 +92,8 @@ product_end vars i end = ap (λ (k : ℕ). product (drop k vars)) end ∙ ap pro
     past (x ∷ xs) = past xs
 
 -- there are no more lists of the later variables
-pub product_later : (vars : List ℕ) (i : ℕ) → are_sizes vars ≡ true → i < length vars → product (drop (i + 1) vars) ≤ product (drop i vars)
+pub product_later : (vars : List ℕ) (i : ℕ) → are_sizes vars ≡ true → i < length vars
+    → product (drop (i + 1) vars) ≤ product (drop i vars)
 product_later vars i sizes low =
     let some = (size_at vars i sizes low).0 in
     let e = product_here vars i (slice_index vars i) low refl in

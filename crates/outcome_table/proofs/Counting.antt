@@ -16,27 +16,37 @@ use Rattle.outcome_table.specs.declared.number.Numbered.{Numbered}
 use Rattle.outcome_table.proofs.Lists.{map_flat, map_map, flat_same, map_same}
 
 -- more outcomes leave those before
-pub within_more : {X : Type 0} (old new : List X) → take (length old) new ≡ old → length old ≤ length new
-within_more old new kept = let e = ap length kept in let f = length-take (length old) new in let g : min (length old) (length new) ≡ length old = sym f ∙ e in omega (arith, g)
+pub within_more : {X : Type 0} (old new : List X) → take (length old) new ≡ old
+    → length old ≤ length new
+within_more old new kept = let e = ap length kept in let f = length-take (length old) new in
+    let g : min (length old) (length new) ≡ length old = sym f ∙ e in omega (arith, g)
 
-pub same_before : (old new : List (List ℕ)) (k : ℕ) → take (length old) new ≡ old → k < length old → get_or new k [] ≡ get_or old k []
-same_before old new k kept low = sym (get_or-take (length old) new k [] low) ∙ ap (λ (xs : List (List ℕ)). get_or xs k []) kept
+pub same_before : (old new : List (List ℕ)) (k : ℕ) → take (length old) new ≡ old → k < length old
+    → get_or new k [] ≡ get_or old k []
+same_before old new k kept low = sym (get_or-take (length old) new k [] low)
+    ∙ ap (λ (xs : List (List ℕ)). get_or xs k []) kept
 
-pub named_kept : (old new : List (List ℕ)) (numbers : List ℕ) → take (length old) new ≡ old → list_all (λ k. nat_lt k (length old)) numbers ≡ true → named new numbers ≡ named old numbers
+pub named_kept : (old new : List (List ℕ)) (numbers : List ℕ) → take (length old) new ≡ old
+    → list_all (λ k. nat_lt k (length old)) numbers ≡ true → named new numbers ≡ named old numbers
 named_kept old new [] kept all = refl
 named_kept old new (k ∷ numbers) kept all =
-    let parts = and_parts (nat_lt k (length old)) (list_all (λ k. nat_lt k (length old)) numbers) all in
-    ap (λ (x : List ℕ). x ∷ named new numbers) (same_before old new k kept (ltb-true k (length old) parts.0))
+    let parts = and_parts (nat_lt k (length old)) (list_all (λ k. nat_lt k (length old)) numbers)
+    all in
+    ap (λ (x : List ℕ). x ∷ named new numbers)
+    (same_before old new k kept (ltb-true k (length old) parts.0))
     ∙ ap (λ (xs : List (List ℕ)). get_or old k [] ∷ xs) (named_kept old new numbers kept parts.1)
 
-below_more : (a b : ℕ) (numbers : List ℕ) → a ≤ b → list_all (λ k. nat_lt k a) numbers ≡ true → list_all (λ k. nat_lt k b) numbers ≡ true
+below_more : (a b : ℕ) (numbers : List ℕ) → a ≤ b → list_all (λ k. nat_lt k a) numbers ≡ true
+    → list_all (λ k. nat_lt k b) numbers ≡ true
 below_more a b [] most all = refl
 below_more a b (k ∷ numbers) most all =
     let parts = and_parts (nat_lt k a) (list_all (λ k. nat_lt k a) numbers) all in
     let low = ltb-true k a parts.0 in
-    and_from (nat_lt k b) (list_all (λ k. nat_lt k b) numbers) (lt-ltb k b (omega arith)) (below_more a b numbers most parts.1)
+    and_from (nat_lt k b) (list_all (λ k. nat_lt k b) numbers) (lt-ltb k b (omega arith))
+    (below_more a b numbers most parts.1)
 
-pub adds_none : (m : Machine) (made : Numbered) → are_named made.outcomes made.numbers → Adds m made made []
+pub adds_none : (m : Machine) (made : Numbered) → are_named made.outcomes made.numbers
+    → Adds m made made []
 adds_none m made within = record {
   kept = whole made.outcomes;
   results = sym (append-nil (named made.outcomes made.numbers));
@@ -51,9 +61,11 @@ pub take_less : {X : Type 0} (a b : ℕ) (xs : List X) → a ≤ b → take a (t
 take_less zero b xs most = refl
 take_less (suc a) zero xs most = absurd (omega arith)
 take_less (suc a) (suc b) [] most = refl
-take_less {X = X} (suc a) (suc b) (x ∷ xs) most = ap (λ (ys : List X). x ∷ ys) (take_less a b xs (omega arith))
+take_less {X = X} (suc a) (suc b) (x ∷ xs) most =
+    ap (λ (ys : List X). x ∷ ys) (take_less a b xs (omega arith))
 
-pub adds_on : (m : Machine) (a b c : Numbered) (xs ys : List (List ℕ)) → Adds m a b xs → Adds m b c ys → Adds m a c (xs ++ ys)
+pub adds_on : (m : Machine) (a b c : Numbered) (xs ys : List (List ℕ)) → Adds m a b xs
+    → Adds m b c ys → Adds m a c (xs ++ ys)
 adds_on m a b c xs ys one two =
     let most = within_more a.outcomes b.outcomes one.kept in
     record {
@@ -62,20 +74,27 @@ adds_on m a b c xs ys one two =
           ∙ one.kept;
       results = two.results
           ∙ ap (λ (zs : List (List ℕ)). zs ++ map (result_codes m) ys) one.results
-          ∙ append_assoc (named a.outcomes a.numbers) (map (result_codes m) xs) (map (result_codes m) ys)
-          ∙ ap (λ (zs : List (List ℕ)). named a.outcomes a.numbers ++ zs) (sym (map-append (result_codes m) xs ys));
+          ∙ append_assoc (named a.outcomes a.numbers) (map (result_codes m) xs)
+          (map (result_codes m) ys)
+          ∙ ap (λ (zs : List (List ℕ)). named a.outcomes a.numbers ++ zs)
+          (sym (map-append (result_codes m) xs ys));
       within = two.within;
     }
 
 -- one more snapshot, under a number of an outcome
-pub adds_one : (m : Machine) (old new : Numbered) (k : ℕ) (s : List ℕ) → are_named old.outcomes old.numbers → take (length old.outcomes) new.outcomes ≡ old.outcomes → new.numbers ≡ old.numbers ++ k ∷ [] → k < length new.outcomes → get_or new.outcomes k [] ≡ result_codes m s → Adds m old new (s ∷ [])
+pub adds_one : (m : Machine) (old new : Numbered) (k : ℕ) (s : List ℕ)
+    → are_named old.outcomes old.numbers → take (length old.outcomes) new.outcomes ≡ old.outcomes
+    → new.numbers ≡ old.numbers ++ k ∷ [] → k < length new.outcomes
+    → get_or new.outcomes k [] ≡ result_codes m s → Adds m old new (s ∷ [])
 adds_one m old new k s within kept numbers low is =
-    let below = below_more (length old.outcomes) (length new.outcomes) old.numbers (within_more old.outcomes new.outcomes kept) within in
+    let below = below_more (length old.outcomes) (length new.outcomes) old.numbers
+    (within_more old.outcomes new.outcomes kept) within in
     record {
       kept = kept;
       results = ap (named new.outcomes) numbers
           ∙ map-append (λ k. get_or new.outcomes k []) old.numbers (k ∷ [])
-          ∙ ap (λ (xs : List (List ℕ)). xs ++ get_or new.outcomes k [] ∷ []) (named_kept old.outcomes new.outcomes old.numbers kept within)
+          ∙ ap (λ (xs : List (List ℕ)). xs ++ get_or new.outcomes k [] ∷ [])
+          (named_kept old.outcomes new.outcomes old.numbers kept within)
           ∙ ap (λ (x : List ℕ). named old.outcomes old.numbers ++ x ∷ []) is;
       within = ap (λ (xs : List ℕ). list_all (λ k. nat_lt k (length new.outcomes)) xs) numbers
           ∙ list_all-append (λ k. nat_lt k (length new.outcomes)) old.numbers (k ∷ [])
@@ -83,7 +102,8 @@ adds_one m old new k s within kept numbers low is =
           ∙ ap (λ b. b && true) (lt-ltb k (length new.outcomes) low);
     }
 
-pub begins_kept : (m : Machine) (fixed : List Bool) (old new : List (List ℕ)) → BeginWithRows m fixed old → take (length old) new ≡ old → BeginWithRows m fixed new
+pub begins_kept : (m : Machine) (fixed : List Bool) (old new : List (List ℕ))
+    → BeginWithRows m fixed old → take (length old) new ≡ old → BeginWithRows m fixed new
 begins_kept m fixed old new h kept =
     let most = within_more old new kept in
     let some = h.some in
@@ -97,16 +117,20 @@ begins_kept m fixed old new h kept =
     }
 
 -- ---- lists that begin with fixed codes
-pub lists_split : (fixed sizes rest : List ℕ) (size : ℕ) → sizes ≡ size ∷ rest → lists_after fixed sizes ≡ flat_map (λ c. lists_after (fixed ++ c ∷ []) rest) (upto size)
+pub lists_split : (fixed sizes rest : List ℕ) (size : ℕ) → sizes ≡ size ∷ rest
+    → lists_after fixed sizes ≡ flat_map (λ c. lists_after (fixed ++ c ∷ []) rest) (upto size)
 lists_split fixed sizes rest size is =
     ap (lists_after fixed) is
     ∙ map_flat (λ codes. fixed ++ codes) (each_after (all_codes rest)) (upto size)
-    ∙ flat_same (λ c. map (λ codes. fixed ++ codes) (each_after (all_codes rest) c)) (λ c. lists_after (fixed ++ c ∷ []) rest) (upto size)
+    ∙ flat_same (λ c. map (λ codes. fixed ++ codes) (each_after (all_codes rest) c))
+    (λ c. lists_after (fixed ++ c ∷ []) rest) (upto size)
     (λ c. map_map (λ codes. fixed ++ codes) (λ codes. c ∷ codes) (all_codes rest)
-    ∙ map_same (λ codes. fixed ++ c ∷ codes) (λ codes. (fixed ++ c ∷ []) ++ codes) (all_codes rest) (λ codes. sym (append_assoc fixed (c ∷ []) codes)))
+    ∙ map_same (λ codes. fixed ++ c ∷ codes) (λ codes. (fixed ++ c ∷ []) ++ codes) (all_codes rest)
+    (λ codes. sym (append_assoc fixed (c ∷ []) codes)))
 
 pub lists_end : (fixed sizes : List ℕ) → sizes ≡ [] → lists_after fixed sizes ≡ fixed ∷ []
-lists_end fixed sizes is = ap (lists_after fixed) is ∙ ap (λ (xs : List ℕ). xs ∷ []) (append-nil fixed)
+lists_end fixed sizes is = ap (lists_after fixed) is
+    ∙ ap (λ (xs : List ℕ). xs ∷ []) (append-nil fixed)
 
 pub lists_all : (sizes : List ℕ) → lists_after [] sizes ≡ all_codes sizes
 lists_all sizes = same (all_codes sizes)

@@ -14,7 +14,9 @@ use Rattle.transition_table.specs.declared.row.Row.{Row}
 use Rattle.outcome_table.proofs.Lists.{all_get}
 
 -- an item of a list with one more at its end
-pub last_or_before : (table : List (List ℕ)) (masks xs : List ℕ) (k : ℕ) → slice_get (table ++ masks ∷ []) k ≡ Some xs → (slice_get table k ≡ Some xs) ⊎ ((k ≡ length table) × (masks ≡ xs))
+pub last_or_before : (table : List (List ℕ)) (masks xs : List ℕ) (k : ℕ)
+    → slice_get (table ++ masks ∷ []) k ≡ Some xs
+    → (slice_get table k ≡ Some xs) ⊎ ((k ≡ length table) × (masks ≡ xs))
 last_or_before [] masks xs zero at = inr (refl, cc)
 last_or_before [] masks xs (suc k) at = cc
 last_or_before (first ∷ table) masks xs zero at = inl at
@@ -24,10 +26,12 @@ last_or_before (first ∷ table) masks xs (suc k) at =
       | inr last ↦ inr (ap suc last.0, last.1)
     ]
 
-pub row_fits : (m : Machine) (r : ℕ) (row : Row) → slice_get m.rows r ≡ Some row → is_row m.inputs m.vars m.results row ≡ true
+pub row_fits : (m : Machine) (r : ℕ) (row : Row) → slice_get m.rows r ≡ Some row
+    → is_row m.inputs m.vars m.results row ≡ true
 row_fits m r row at = all_get (is_row m.inputs m.vars m.results) m.rows r row m.fitting_rows at
 
-pub row_names : (m : Machine) (row : Row) → is_row m.inputs m.vars m.results row ≡ true → list_all (names_codes m.vars) row.conds ≡ true
+pub row_names : (m : Machine) (row : Row) → is_row m.inputs m.vars m.results row ≡ true
+    → list_all (names_codes m.vars) row.conds ≡ true
 row_names m row h =
     let a = list_all (names_codes m.vars) row.conds in
     let b = list_all (names_result m.inputs m.vars m.results) row.acts in
@@ -38,9 +42,11 @@ row_names m row h =
 pub results_long : (m : Machine) → length m.results ≡ 1 + length m.states + length m.outputs
 results_long m =
     let a = length m.results == 1 + length m.states + length m.outputs in
-    let b = pointwise ◌==◌ (2 ∷ map (λ size. 1 + size) (drop (length m.inputs) m.vars)) (take (1 + length m.states) m.results) in
+    let b = pointwise ◌==◌ (2 ∷ map (λ size. 1 + size) (drop (length m.inputs) m.vars))
+    (take (1 + length m.states) m.results) in
     let c = list_all (nat_le 2) (drop (1 + length m.states) m.results) in
-    eqb-true (length m.results) (1 + length m.states + length m.outputs) (and_parts a b (and_parts (a && b) c m.sized_results).0).0
+    eqb-true (length m.results) (1 + length m.states + length m.outputs)
+    (and_parts a b (and_parts (a && b) c m.sized_results).0).0
 
 -- it has at most 65,536 snapshots
 pub few_snapshots : (m : Machine) → product m.vars ≤ 65536
@@ -49,11 +55,14 @@ few_snapshots m =
     let b = nat_le (length m.outputs) 16 in
     let c = nat_le (length m.states) 8 in
     let d = nat_le (length m.rows) 512 in
-    leb-true (product m.vars) 65536 (and_parts (a && b && c && d) (nat_le (product m.vars) 65536) m.small).1
+    leb-true (product m.vars) 65536
+    (and_parts (a && b && c && d) (nat_le (product m.vars) 65536) m.small).1
 
 -- ---- the codes of the results
-map_upto : {X : Type 0} (f : ℕ → X) (a b : ℕ) → map f (upto (a + b)) ≡ map f (upto a) ++ map (λ k. f (a + k)) (upto b)
-map_upto {X = X} f a zero = let e : a + zero ≡ a = omega arith in ap (λ n. map f (upto n)) e ∙ sym (none (map f (upto a)))
+map_upto : {X : Type 0} (f : ℕ → X) (a b : ℕ)
+    → map f (upto (a + b)) ≡ map f (upto a) ++ map (λ k. f (a + k)) (upto b)
+map_upto {X = X} f a zero = let e : a + zero ≡ a = omega arith in
+    ap (λ n. map f (upto n)) e ∙ sym (none (map f (upto a)))
   where
     none : (xs : List X) → xs ++ [] ≡ xs
     none [] = refl
@@ -64,7 +73,8 @@ map_upto {X = X} f a (suc b) =
     ∙ map-append f (upto (a + b)) ((a + b) ∷ [])
     ∙ ap (λ (xs : List X). xs ++ f (a + b) ∷ []) (map_upto f a b)
     ∙ assoc (map f (upto a)) (map (λ k. f (a + k)) (upto b)) (f (a + b) ∷ [])
-    ∙ ap (λ (xs : List X). map f (upto a) ++ xs) (sym (map-append (λ k. f (a + k)) (upto b) (b ∷ [])))
+    ∙ ap (λ (xs : List X). map f (upto a) ++ xs)
+    (sym (map-append (λ k. f (a + k)) (upto b) (b ∷ [])))
   where
     assoc : (xs ys zs : List X) → (xs ++ ys) ++ zs ≡ xs ++ (ys ++ zs)
     assoc [] ys zs = refl
@@ -72,18 +82,25 @@ map_upto {X = X} f a (suc b) =
 
 map_alike : {X : Type 0} (f g : ℕ → X) (xs : List ℕ) → ((k : ℕ) → f k ≡ g k) → map f xs ≡ map g xs
 map_alike f g [] each = refl
-map_alike {X = X} f g (k ∷ xs) each = ap (λ (x : X). x ∷ map f xs) (each k) ∙ ap (λ (ys : List X). g k ∷ ys) (map_alike f g xs each)
+map_alike {X = X} f g (k ∷ xs) each =
+    ap (λ (x : X). x ∷ map f xs) (each k) ∙ ap (λ (ys : List X). g k ∷ ys) (map_alike f g xs each)
 
 -- those of the state variables and then of the outputs
-pub given_apart : (m : Machine) (codes : List ℕ) (acts : List Act) (n a b : ℕ) → n ≡ a + b → codes_given m codes acts 1 n ≡ codes_given m codes acts 1 a ++ codes_given m codes acts (1 + a) b
+pub given_apart : (m : Machine) (codes : List ℕ) (acts : List Act) (n a b : ℕ) → n ≡ a + b
+    → codes_given m codes acts 1 n ≡ codes_given m codes acts 1 a
+    ++ codes_given m codes acts (1 + a) b
 given_apart m codes acts n a b e =
     ap (λ (k : ℕ). codes_given m codes acts 1 k) e
     ∙ map_upto (λ k. code_given m codes acts (1 + k)) a b
-    ∙ ap (λ (xs : List ℕ). codes_given m codes acts 1 a ++ xs) (map_alike (λ k. code_given m codes acts (1 + (a + k))) (λ k. code_given m codes acts ((1 + a) + k)) (upto b)
+    ∙ ap (λ (xs : List ℕ). codes_given m codes acts 1 a ++ xs)
+    (map_alike (λ k. code_given m codes acts (1 + (a + k)))
+    (λ k. code_given m codes acts ((1 + a) + k)) (upto b)
     (λ k. let g : 1 + (a + k) ≡ (1 + a) + k = omega arith in ap (code_given m codes acts) g))
 
 -- one more of them
-pub given_more : (m : Machine) (codes : List ℕ) (acts : List Act) (y : ℕ) → 1 ≤ y → codes_given m codes acts 1 (y + 1 - 1) ≡ codes_given m codes acts 1 (y - 1) ++ code_given m codes acts y ∷ []
+pub given_more : (m : Machine) (codes : List ℕ) (acts : List Act) (y : ℕ) → 1 ≤ y
+    → codes_given m codes acts 1 (y + 1 - 1)
+    ≡ codes_given m codes acts 1 (y - 1) ++ code_given m codes acts y ∷ []
 given_more m codes acts y some =
     let e : y + 1 - 1 ≡ suc (y - 1) = omega arith in
     let g : 1 + (y - 1) ≡ y = omega arith in
@@ -91,8 +108,11 @@ given_more m codes acts y some =
     ∙ map-append (λ k. code_given m codes acts (1 + k)) (upto (y - 1)) ((y - 1) ∷ [])
     ∙ ap (λ (k : ℕ). codes_given m codes acts 1 (y - 1) ++ code_given m codes acts k ∷ []) g
 
-pub zeros_apart : (n a b : ℕ) → n ≡ 1 + a + b → replicate {A = ℕ} n 0 ≡ 0 ∷ replicate {A = ℕ} a 0 ++ replicate {A = ℕ} b 0
-zeros_apart n a b e = let f : 1 + a + b ≡ suc (a + b) = omega arith in ap (λ (k : ℕ). replicate {A = ℕ} k 0) (e ∙ f) ∙ ap (λ (xs : List ℕ). 0 ∷ xs) (sym (replicate-append-replicate {A = ℕ} a b 0))
+pub zeros_apart : (n a b : ℕ) → n ≡ 1 + a + b
+    → replicate {A = ℕ} n 0 ≡ 0 ∷ replicate {A = ℕ} a 0 ++ replicate {A = ℕ} b 0
+zeros_apart n a b e = let f : 1 + a + b ≡ suc (a + b) = omega arith in
+    ap (λ (k : ℕ). replicate {A = ℕ} k 0) (e ∙ f)
+    ∙ ap (λ (xs : List ℕ). 0 ∷ xs) (sym (replicate-append-replicate {A = ℕ} a b 0))
 
 -- and at most 512 rows
 pub few_rows : (m : Machine) → length m.rows ≤ 512
@@ -101,20 +121,27 @@ few_rows m =
     let b = nat_le (length m.outputs) 16 in
     let c = nat_le (length m.states) 8 in
     let d = nat_le (length m.rows) 512 in
-    leb-true (length m.rows) 512 (and_parts (a && b && c) d (and_parts (a && b && c && d) (nat_le (product m.vars) 65536) m.small).0).1
+    leb-true (length m.rows) 512
+    (and_parts (a && b && c) d
+    (and_parts (a && b && c && d) (nat_le (product m.vars) 65536) m.small).0).1
 
 pub fits_long : (sizes codes : List ℕ) → fits sizes codes ≡ true → length codes ≡ length sizes
 fits_long [] [] h = refl
 fits_long [] (code ∷ codes) h = absurd (false≢true h)
 fits_long (size ∷ sizes) [] h = absurd (false≢true h)
-fits_long (size ∷ sizes) (code ∷ codes) h = ap suc (fits_long sizes codes (and_parts (nat_lt code size) (fits sizes codes) h).1)
+fits_long (size ∷ sizes) (code ∷ codes) h =
+    ap suc (fits_long sizes codes (and_parts (nat_lt code size) (fits sizes codes) h).1)
 
 -- another code below its size
-pub fits_set : (sizes codes : List ℕ) (v code : ℕ) → fits sizes codes ≡ true → code < slice_index sizes v → fits sizes (slice_set codes v code) ≡ true
+pub fits_set : (sizes codes : List ℕ) (v code : ℕ) → fits sizes codes ≡ true
+    → code < slice_index sizes v → fits sizes (slice_set codes v code) ≡ true
 fits_set [] [] v code h low = refl
 fits_set [] (c ∷ codes) v code h low = absurd (false≢true h)
 fits_set (size ∷ sizes) [] v code h low = absurd (false≢true h)
-fits_set (size ∷ sizes) (c ∷ codes) zero code h low = and_from (nat_lt code size) (fits sizes codes) (lt-ltb code size low) (and_parts (nat_lt c size) (fits sizes codes) h).1
+fits_set (size ∷ sizes) (c ∷ codes) zero code h low =
+    and_from (nat_lt code size) (fits sizes codes) (lt-ltb code size low)
+    (and_parts (nat_lt c size) (fits sizes codes) h).1
 fits_set (size ∷ sizes) (c ∷ codes) (suc v) code h low =
     let parts = and_parts (nat_lt c size) (fits sizes codes) h in
-    and_from (nat_lt c size) (fits sizes (slice_set codes v code)) parts.0 (fits_set sizes codes v code parts.1 low)
+    and_from (nat_lt c size) (fits sizes (slice_set codes v code)) parts.0
+    (fits_set sizes codes v code parts.1 low)

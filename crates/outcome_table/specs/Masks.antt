@@ -11,7 +11,8 @@ allows_code var code condition = not (condition.var == var) || bit_at condition.
 
 -- a code of the variable that the row allows
 abbrev pub is_allowed : List ℕ → Row → ℕ → ℕ → Bool
-is_allowed vars row var code = nat_lt code (slice_index vars var) && list_all (allows_code var code) row.conds
+is_allowed vars row var code = nat_lt code (slice_index vars var)
+    && list_all (allows_code var code) row.conds
 
 -- the codes of the variable that the row allows, one bit each
 abbrev pub IsMask : List ℕ → Row → ℕ → ℕ → Type 0
@@ -25,4 +26,5 @@ pub record AreMasks (vars : List ℕ) (row : Row) (masks : List ℕ) : Type 0 wh
 -- and these for each row
 pub record IsMaskTable (vars : List ℕ) (rows : List Row) (table : List (List ℕ)) : Type 0 where
   pub long : length table ≡ length rows
-  pub each : (r : ℕ) (row : Row) (masks : List ℕ) → slice_get rows r ≡ Some row → slice_get table r ≡ Some masks → AreMasks vars row masks
+  pub each : (r : ℕ) (row : Row) (masks : List ℕ) → slice_get rows r ≡ Some row
+      → slice_get table r ≡ Some masks → AreMasks vars row masks

@@ -41,21 +41,25 @@ is_code (Add k) = false
 abbrev pub is_fixed : Act → Bool
 is_fixed act = is_code act.source
 
--- the outcome 0 is the blank one, and 1 + r that of row r, where its actions take their codes from no variable
+-- the outcome 0 is the blank one, and 1 + r that of row r, where its actions take their codes from
+-- no variable
 pub record BeginWithRows (m : Machine) (fixed : List Bool) (outcomes : List (List ℕ)) : Type 0 where
   pub long : length fixed ≡ length m.rows
   pub some : length m.rows + 1 ≤ length outcomes
   pub blank : get_or outcomes 0 [] ≡ codes_of (blank m)
-  pub rows : (r : ℕ) (row : Row) → slice_get m.rows r ≡ Some row → slice_get fixed r ≡ Some true → (s : List ℕ) → get_or outcomes (1 + r) [] ≡ codes_of (outcome_of m s true row.acts)
+  pub rows : (r : ℕ) (row : Row) → slice_get m.rows r ≡ Some row → slice_get fixed r ≡ Some true
+      → (s : List ℕ) → get_or outcomes (1 + r) [] ≡ codes_of (outcome_of m s true row.acts)
 
 -- the outcomes of these lists have been numbered after those before
 pub record Adds (m : Machine) (old new : Numbered) (lists : List (List ℕ)) : Type 0 where
   pub kept : take (length old.outcomes) new.outcomes ≡ old.outcomes
-  pub results : named new.outcomes new.numbers ≡ named old.outcomes old.numbers ++ map (result_codes m) lists
+  pub results : named new.outcomes new.numbers
+      ≡ named old.outcomes old.numbers ++ map (result_codes m) lists
   pub within : are_named new.outcomes new.numbers
 
 -- the outcome that is blank, and then that of each row, on these codes of a snapshot
 pub record AreRowOutcomes (m : Machine) (s : List ℕ) (outcomes : List (List ℕ)) : Type 0 where
   pub long : length outcomes ≡ length m.rows + 1
   pub blank : get_or outcomes 0 [] ≡ codes_of (blank m)
-  pub rows : (r : ℕ) (row : Row) → slice_get m.rows r ≡ Some row → get_or outcomes (1 + r) [] ≡ codes_of (outcome_of m s true row.acts)
+  pub rows : (r : ℕ) (row : Row) → slice_get m.rows r ≡ Some row
+      → get_or outcomes (1 + r) [] ≡ codes_of (outcome_of m s true row.acts)

@@ -35,7 +35,8 @@ fn push_column(into: &mut Codes, vars: &VarTable, from: u64, v: u64) -> Result<(
     requires from { from ≤ v }
     requires var { v < length vars.now }
     requires few { product (drop from vars.now) < 2 ^ 63 }
-    ensures { IfOk result (λ done. into.new ≡ into.old ++ column (v - from) (all_codes (drop from vars.now))) }
+    ensures { IfOk result (λ done. into.new
+        ≡ into.old ++ column (v - from) (all_codes (drop from vars.now))) }
 {
     let _ = vars.len();
     let size = *vars.get(from);

@@ -6,7 +6,5 @@ mod mask;
 mod number;
 mod row;
 mod table;
-#[cfg(test)]
-mod tests;
 
 pub use table::{Table, table_of};

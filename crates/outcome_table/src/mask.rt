@@ -13,7 +13,8 @@ pub(crate) type CodeSets = List<u64>;
 
 // Those codes of a set that all conditions on a variable allow, one bit each.
 fn allowed(conds: &[Cond], var: u32, codes: u64) -> u64
-    ensures { (code : ℕ) → (bit_at result code == 1) ≡ (bit_at codes code == 1 && list_all (allows_code var code) conds.now) }
+    ensures { (code : ℕ) → (bit_at result code == 1)
+        ≡ (bit_at codes code == 1 && list_all (allows_code var code) conds.now) }
 {
     let mut left = codes;
     for cond in conds {

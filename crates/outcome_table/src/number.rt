@@ -48,7 +48,8 @@ fn allowing(
     requires rows { IsTrue (list_all (λ r. nat_lt r (length masks.now)) rows.now) }
     requires var { IsTrue (list_all (λ sets. nat_lt var (length sets)) masks.now) }
     requires code { code < 64 }
-    ensures { IfOk result (λ kept. kept ≡ filter (λ r. bit_at (slice_index (get_or masks.now r []) var) code == 1) rows.now) }
+    ensures { IfOk result (λ kept. kept
+        ≡ filter (λ r. bit_at (slice_index (get_or masks.now r []) var) code == 1) rows.now) }
 {
     let mut kept = List::new(alloc);
     for r in rows {
@@ -70,7 +71,8 @@ fn number_one(
     requires rows { rows.now ≡ rows_left narrowing.now.machine.now s.now.codes }
     requires begins { BeginWithRows narrowing.now.machine.now narrowing.now.fixed.now made.old.outcomes }
     requires within { are_named made.old.outcomes made.old.numbers }
-    ensures { IfOk result (λ done. Adds narrowing.now.machine.now made.old made.new (s.now.codes ∷ [])) }
+    ensures { IfOk result
+        (λ done. Adds narrowing.now.machine.now made.old made.new (s.now.codes ∷ [])) }
 {
     if rows.len() == 0 {
         made.numbers.push(0)?;
@@ -89,8 +91,8 @@ fn number_one(
     Ok(())
 }
 
-// Numbers the outcomes of all snapshots that have the codes of the variables before one, given the rows whose conditions
-// on these hold.
+// Numbers the outcomes of all snapshots that have the codes of the variables before one, given the
+// rows whose conditions on these hold.
 fn number_rest(
     narrowing: &Narrowing,
     rows: &Places,
@@ -101,10 +103,13 @@ fn number_rest(
     requires at { at ≤ length narrowing.now.machine.now.vars }
     requires snapshot { IsSnapshot narrowing.now.machine.now s.old }
     requires rows { rows.now ≡ rows_left narrowing.now.machine.now (take at s.old.codes) }
-    requires masks { IsMaskTable narrowing.now.machine.now.vars narrowing.now.machine.now.rows narrowing.now.masks.now }
+    requires masks { IsMaskTable narrowing.now.machine.now.vars narrowing.now.machine.now.rows
+        narrowing.now.masks.now }
     requires begins { BeginWithRows narrowing.now.machine.now narrowing.now.fixed.now made.old.outcomes }
     requires within { are_named made.old.outcomes made.old.numbers }
-    ensures adds { IfOk result (λ done. Adds narrowing.now.machine.now made.old made.new (lists_after (take at s.old.codes) (drop at narrowing.now.machine.now.vars))) }
+    ensures adds { IfOk result (λ done.
+        Adds narrowing.now.machine.now made.old made.new
+        (lists_after (take at s.old.codes) (drop at narrowing.now.machine.now.vars))) }
     ensures snapshot { IfOk result (λ done. IsSnapshot narrowing.now.machine.now s.new) }
     ensures kept { IfOk result (λ done. take at s.new.codes ≡ take at s.old.codes) }
 {
@@ -119,8 +124,8 @@ fn number_rest(
     Ok(())
 }
 
-// The blank outcome, and then that of each row. The outcome of a row that takes a code from a variable is that of one
-// snapshot, and no number of a snapshot is its.
+// The blank outcome, and then that of each row. The outcome of a row that takes a code from a
+// variable is that of one snapshot, and no number of a snapshot is its.
 fn row_outcomes(alloc: Global, m: &Machine, s: &Snapshot) -> Result<List<Codes>, NoMemory>
     requires { IsSnapshot m.now s.now }
     ensures { IfOk result (AreRowOutcomes m.now s.now.codes) }
@@ -157,7 +162,8 @@ fn numbers_below(alloc: Global, bound: u64) -> Result<Places, NoMemory>
 
 /// Numbers the outcomes of all snapshots, in their order.
 pub(crate) fn numbers_of(alloc: Global, m: &Machine) -> Result<Numbered, NoMemory>
-    ensures results { IfOk result (λ made. named made.outcomes made.numbers ≡ map (result_codes m.now) (all_codes m.now.vars)) }
+    ensures results { IfOk result (λ made. named made.outcomes made.numbers
+        ≡ map (result_codes m.now) (all_codes m.now.vars)) }
     ensures within { IfOk result (λ made. are_named made.outcomes made.numbers) }
 {
     let mut s = Snapshot {

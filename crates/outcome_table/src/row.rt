@@ -43,7 +43,8 @@ pub(crate) fn row_codes(
 ) -> Result<Codes, NoMemory>
     requires row { IsTrue (is_row machine.now.inputs machine.now.vars machine.now.results row.now) }
     requires snapshot { IsSnapshot machine.now s.now }
-    ensures { IfOk result (λ codes. codes ≡ codes_of (outcome_of machine.now s.now.codes true row.now.acts)) }
+    ensures { IfOk result (λ codes. codes
+        ≡ codes_of (outcome_of machine.now s.now.codes true row.now.acts)) }
 {
     let mut codes = Codes::new(alloc);
     codes.push(1)?;

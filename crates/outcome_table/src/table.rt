@@ -9,18 +9,21 @@ use polis_base::{List, NoMemory, Places};
 use std::alloc::Global;
 use transition_table::Machine;
 
-/// What a machine does on each of its snapshots, in their order, in which the last variable changes fastest.
+/// What a machine does on each of its snapshots, in their order, in which the last variable changes
+/// fastest.
 #[derive(Drop)]
 pub struct Table {
     /// For each variable its code on each snapshot.
     pub codes: List<Codes>,
     /// For each snapshot the number of its outcome.
     pub numbers: Places,
-    /// For each number of an outcome the codes of the results. Several numbers may have the same codes.
+    /// For each number of an outcome the codes of the results. Several numbers may have the same
+    /// codes.
     pub outcomes: List<Codes>,
 }
 
-/// The table of a machine: its rows are narrowed variable by variable, so that no row is tried on each snapshot.
+/// The table of a machine: its rows are narrowed variable by variable, so that no row is tried on
+/// each snapshot.
 pub fn table_of(alloc: Global, m: &Machine) -> Result<Table, NoMemory>
     ensures { IfOk result (IsTableOf m.now) }
 {

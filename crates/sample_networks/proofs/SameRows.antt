@@ -6,9 +6,16 @@ use Rattle.transition_table.specs.declared.row.Row.{Row}
 use Rattle.transition_table.specs.RowFacts.{are_actions}
 
 same_row : (a b : Row) → a.conds ≡ b.conds → a.acts ≡ b.acts → a ≡ b
-same_row a b p q = λ i. record { conds = p i; acts = q i; actions = is_prop→PathP (λ j. IsTrue (are_actions (q j))) (λ j. Bool-set _ _) a.actions b.actions i }
+same_row a b p q =
+    λ i. record {
+      conds = p i;
+      acts = q i;
+      actions = is_prop→PathP (λ j. IsTrue (are_actions (q j))) (λ j. Bool-set _ _) a.actions
+          b.actions i;
+    }
 
-pub same_rows : (xs ys : List Row) → map (λ (r : Row). r.conds) xs ≡ map (λ (r : Row). r.conds) ys → map (λ (r : Row). r.acts) xs ≡ map (λ (r : Row). r.acts) ys → xs ≡ ys
+pub same_rows : (xs ys : List Row) → map (λ (r : Row). r.conds) xs ≡ map (λ (r : Row). r.conds) ys
+    → map (λ (r : Row). r.acts) xs ≡ map (λ (r : Row). r.acts) ys → xs ≡ ys
 same_rows [] [] p q = refl
 same_rows [] (y ∷ ys) p q = cc
 same_rows (x ∷ xs) [] p q = cc
@@ -22,7 +29,9 @@ same_rows (x ∷ xs) (y ∷ ys) p q =
     cc
 
 -- the same after a prefix
-pub same_after : (prefix made xs ys : List Row) → made ≡ prefix ++ xs → map (λ (r : Row). r.conds) xs ≡ map (λ (r : Row). r.conds) ys → map (λ (r : Row). r.acts) xs ≡ map (λ (r : Row). r.acts) ys → made ≡ prefix ++ ys
+pub same_after : (prefix made xs ys : List Row) → made ≡ prefix ++ xs
+    → map (λ (r : Row). r.conds) xs ≡ map (λ (r : Row). r.conds) ys
+    → map (λ (r : Row). r.acts) xs ≡ map (λ (r : Row). r.acts) ys → made ≡ prefix ++ ys
 same_after prefix made xs ys is p q =
     let same : xs ≡ ys = same_rows xs ys p q in
     cc

@@ -1,4 +1,5 @@
-// A seat belt controller with a timer, which warns after five ticks and stops the warning after ten.
+// A seat belt controller with a timer, which warns after five ticks and stops the warning after
+// ten.
 ghost use Rattle.std.specs.Prelude.{◌≡◌, ◌∷◌, [], ◌++◌, take, drop, IfOk, IsTrue};
 ghost use Rattle.transition_table.specs.RowFacts.{are_actions};
 ghost use Rattle.transition_table.specs.SampleBelt.{belt_machine as the_controller, timer_machine as the_timer, belt as the_network};
@@ -117,7 +118,8 @@ pub fn belt_machine(alloc: Global) -> Result<Machine, NoMemory>
 // A row for a tick without a start, where the timer has one of these values, by bits.
 fn tick(alloc: Global, codes: u64, acts: &[Act]) -> Result<Row, NoMemory>
     requires { IsTrue (are_actions acts.now) }
-    ensures conds { IfOk result (λ row. row.conds ≡ has_codes 1 2 ∷ has_codes 0 1 ∷ has_codes 2 codes ∷ []) }
+    ensures conds { IfOk result (λ row.
+        row.conds ≡ has_codes 1 2 ∷ has_codes 0 1 ∷ has_codes 2 codes ∷ []) }
     ensures acts { IfOk result (λ row. row.acts ≡ acts.now) }
 {
     row(alloc, &[on(1, 2), on(0, 1), on(2, codes)], acts)

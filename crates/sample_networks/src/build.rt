@@ -102,7 +102,8 @@ pub fn valued_event(
     receivers: &[u32],
 ) -> Result<EventDecl, NoMemory>
     requires { IsTrue (is_name text.now) }
-    ensures { IfOk result (λ event. event ≡ the_valued_event text.now domain sender to_env receivers.now) }
+    ensures { IfOk result (λ event. event
+        ≡ the_valued_event text.now domain sender to_env receivers.now) }
 {
     Ok(EventDecl {
         name: Name::of_token(text),
@@ -176,8 +177,8 @@ pub fn state(alloc: Global, text: &[u8], domain: u32, init: u8) -> Result<StateL
     Ok(states)
 }
 
-/// A machine: its events are the numbers of its inputs and of its outputs, its tables the sizes of its variables and of
-/// its results.
+/// A machine: its events are the numbers of its inputs and of its outputs, its tables the sizes of
+/// its variables and of its results.
 pub fn machine(
     alloc: Global,
     text: &[u8],

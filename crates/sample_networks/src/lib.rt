@@ -1,4 +1,5 @@
-// Sample networks: each as a text, and as a value that is proved to be the one that the definitions have.
+// Sample networks: each as a text, and as a value that is proved to be the one that the definitions
+// have.
 #![tactic(auto)]
 
 pub mod belt;

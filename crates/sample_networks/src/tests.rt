@@ -1,5 +1,5 @@
-// What machines of the networks give on snapshots, by hand: the codes of the state variables and of the outputs after 1,
-// where they fire, and after 0, where they don't.
+// What machines of the networks give on snapshots, by hand: the codes of the state variables and of
+// the outputs after 1, where they fire, and after 0, where they don't.
 ghost use Rattle.std.specs.Prelude.{◌≡◌, [], ◌∷◌, IfOk, IsTrue};
 ghost use Rattle.domains.specs.Tables.{fits};
 

@@ -66,7 +66,8 @@ pub fn second_machine(alloc: Global, priority: u8) -> Result<Machine, NoMemory>
 
 // The machines with these priorities.
 fn machines_of(alloc: Global, first: u8, second: u8) -> Result<MachineList, NoMemory>
-    ensures { IfOk result (λ machines. machines ≡ the_machine (codes "a") first 1 ∷ the_machine (codes "b") second 2 ∷ []) }
+    ensures { IfOk result (λ machines.
+        machines ≡ the_machine (codes "a") first 1 ∷ the_machine (codes "b") second 2 ∷ []) }
 {
     let mut machines = MachineList::new(alloc);
     machines.push(first_machine(alloc, first)?)?;

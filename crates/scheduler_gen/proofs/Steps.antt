@@ -31,56 +31,100 @@ goes_nowhere at_end old = record {
   within = omega arith;
 }
 
-pub goes_further : FollowsBySteps → (old mid new : Moment) (n : ℕ) → GoesOn old mid n → IsNext mid new → GoesOn old new (n + 1)
+pub goes_further : FollowsBySteps → (old mid new : Moment) (n : ℕ) → GoesOn old mid n
+    → IsNext mid new → GoesOn old new (n + 1)
 goes_further steps old mid new n before next =
-    let journal : new.journal ≡ mid.journal ++ next.0 ∷ [] = ap (λ (m : Moment). m.journal) next.1 in
-    let longer : length old.journal ≤ length mid.journal = rw (before.begins.1, length-append old.journal before.begins.0) (omega arith) in
+    let journal : new.journal ≡ mid.journal ++ next.0 ∷ [] =
+    ap (λ (m : Moment). m.journal) next.1 in
+    let longer : length old.journal ≤ length mid.journal =
+    rw (before.begins.1, length-append old.journal before.begins.0) (omega arith) in
     let picked : IsPicked old.net mid.journal (pick old.net old.trace mid.journal) next.0 =
-    subst (λ (net : Network). IsPicked net mid.journal (pick net old.trace mid.journal) next.0) before.net (subst (λ (trace : List TraceItem). IsPicked mid.net mid.journal (pick mid.net trace mid.journal) next.0) before.trace next.2) in
-    let follows = (steps old.net old.trace mid.journal next.0 (length old.journal) longer).1 (before.follows, picked) in
+    subst (λ (net : Network). IsPicked net mid.journal (pick net old.trace mid.journal) next.0)
+    before.net (subst
+    (λ (trace : List TraceItem). IsPicked mid.net mid.journal (pick mid.net trace mid.journal)
+    next.0) before.trace next.2) in
+    let follows = (steps old.net old.trace mid.journal next.0 (length old.journal) longer).1
+    (before.follows, picked) in
     record {
       net = ap (λ (m : Moment). m.net) next.1 ∙ before.net;
       trace = ap (λ (m : Moment). m.trace) next.1 ∙ before.trace;
-      begins = (before.begins.0 ++ next.0 ∷ [], journal ∙ ap (λ (l : List Entry). l ++ next.0 ∷ []) before.begins.1 ∙ append_assoc old.journal before.begins.0 (next.0 ∷ []));
-      follows = subst (λ (l : List Entry). Follows old.net old.trace l (length old.journal)) (sym journal) follows;
+      begins = (
+        before.begins.0 ++ next.0 ∷ [],
+        journal
+            ∙ ap (λ (l : List Entry). l ++ next.0 ∷ []) before.begins.1
+            ∙ append_assoc old.journal before.begins.0 (next.0 ∷ []),
+      );
+      follows = subst (λ (l : List Entry). Follows old.net old.trace l (length old.journal))
+          (sym journal) follows;
       within = rw (journal, length-append mid.journal (next.0 ∷ [])) (omega (arith, before.within));
     }
 
-pub longer_by_one : (mid new : Moment) → IsNext mid new → length new.journal ≡ length mid.journal + 1
-longer_by_one mid new next = ap (λ (m : Moment). length m.journal) next.1 ∙ length-append mid.journal (next.0 ∷ [])
+pub longer_by_one : (mid new : Moment) → IsNext mid new
+    → length new.journal ≡ length mid.journal + 1
+longer_by_one mid new next = ap (λ (m : Moment). length m.journal) next.1
+    ∙ length-append mid.journal (next.0 ∷ [])
 
 -- a machine has one variable for each input and each state variable
-pub count_of_vars : (net : Network) (m : ℕ) (machine : Machine) → slice_get net.machines m ≡ Some machine → length machine.vars ≡ length (inputs_of net m) + length (states_of net m)
+pub count_of_vars : (net : Network) (m : ℕ) (machine : Machine)
+    → slice_get net.machines m ≡ Some machine
+    → length machine.vars ≡ length (inputs_of net m) + length (states_of net m)
 count_of_vars net m machine at =
-    let all = and_parts (are_sizes machine.vars && length machine.vars == length machine.inputs + length machine.states && list_all (nat_le 2) (take (length machine.inputs) machine.vars)) (pointwise (λ state size. nat_lt state.init size) machine.states (drop (length machine.inputs) machine.vars)) machine.sized_vars in
-    let prefix = and_parts (are_sizes machine.vars && length machine.vars == length machine.inputs + length machine.states) (list_all (nat_le 2) (take (length machine.inputs) machine.vars)) all.0 in
-    let same = eqb-true (length machine.vars) (length machine.inputs + length machine.states) (and_parts (are_sizes machine.vars) (length machine.vars == length machine.inputs + length machine.states) prefix.0).1 in
+    let all = and_parts (are_sizes machine.vars
+    && length machine.vars == length machine.inputs + length machine.states
+    && list_all (nat_le 2) (take (length machine.inputs) machine.vars))
+    (pointwise (λ state size. nat_lt state.init size) machine.states
+    (drop (length machine.inputs) machine.vars)) machine.sized_vars in
+    let prefix = and_parts (are_sizes machine.vars
+    && length machine.vars == length machine.inputs + length machine.states)
+    (list_all (nat_le 2) (take (length machine.inputs) machine.vars)) all.0 in
+    let same = eqb-true (length machine.vars) (length machine.inputs + length machine.states)
+    (and_parts (are_sizes machine.vars)
+    (length machine.vars == length machine.inputs + length machine.states) prefix.0).1 in
     rw at same
 
-pub blank_widths : (net : Network) (m : ℕ) (o : Outcome) → OfMachine net m (λ machine. o ≡ blank machine) → OfMachine net m (λ machine. HasWidths machine o)
+pub blank_widths : (net : Network) (m : ℕ) (o : Outcome)
+    → OfMachine net m (λ machine. o ≡ blank machine)
+    → OfMachine net m (λ machine. HasWidths machine o)
 blank_widths net m o h = of (slice_get net.machines m) h
   where
-    of : (found : Option Machine) → IsSomeAnd found (λ machine. o ≡ blank machine) → IsSomeAnd found (λ machine. HasWidths machine o)
+    of : (found : Option Machine) → IsSomeAnd found (λ machine. o ≡ blank machine)
+        → IsSomeAnd found (λ machine. HasWidths machine o)
     of None none = none
-    of (Some machine) same = record { next = ap (λ (o : Outcome). length o.next) same ∙ length-replicate (length machine.states) 0; outs = ap (λ (o : Outcome). length o.outs) same ∙ length-replicate (length machine.outputs) 0 }
+    of (Some machine) same =
+        record {
+          next = ap (λ (o : Outcome). length o.next) same
+              ∙ length-replicate (length machine.states) 0;
+          outs =
+              ap (λ (o : Outcome). length o.outs) same
+              ∙ length-replicate (length machine.outputs) 0;
+        }
 
 -- nothing is picked after what was reached
-pub stops_here : (old mid new : Moment) (n count : ℕ) → GoesOn old mid n → new ≡ mid → pick mid.net mid.trace mid.journal ≡ Stop → Ends old new count
+pub stops_here : (old mid new : Moment) (n count : ℕ) → GoesOn old mid n → new ≡ mid
+    → pick mid.net mid.trace mid.journal ≡ Stop → Ends old new count
 stops_here old mid new n count before same stop =
     let by_net = subst (λ (net : Network). pick net mid.trace mid.journal ≡ Stop) before.net stop in
-    let by_trace = subst (λ (trace : List TraceItem). pick old.net trace mid.journal ≡ Stop) before.trace by_net in
+    let by_trace = subst (λ (trace : List TraceItem). pick old.net trace mid.journal ≡ Stop)
+    before.trace by_net in
     inl (subst (λ (m : Moment). pick old.net old.trace m.journal ≡ Stop) (sym same) by_trace)
 
 -- a run from a journal up to a limit
-pub ends_at : (net : Network) (trace : List TraceItem) (from journal : List Entry) (limit : ℕ) (old new : Moment) → old ≡ record { net = net; trace = trace; journal = from } → length from ≤ limit → Ends old new (limit - length from) → journal ≡ new.journal → (pick net trace journal ≡ Stop) ⊎ (length journal ≡ limit)
+pub ends_at : (net : Network) (trace : List TraceItem) (from journal : List Entry) (limit : ℕ)
+    (old new : Moment) → old ≡ record { net = net; trace = trace; journal = from }
+    → length from ≤ limit → Ends old new (limit - length from) → journal ≡ new.journal
+    → (pick net trace journal ≡ Stop) ⊎ (length journal ≡ limit)
 ends_at net trace from journal limit old new start few ends same =
     by_cases (subst (λ (m : Moment). Ends m new (limit - length from)) start ends)
   where
-    by_cases : Ends (record { net = net; trace = trace; journal = from }) new (limit - length from) → (pick net trace journal ≡ Stop) ⊎ (length journal ≡ limit)
+    by_cases : Ends (record { net = net; trace = trace; journal = from }) new (limit - length from)
+        → (pick net trace journal ≡ Stop) ⊎ (length journal ≡ limit)
     by_cases (inl stop) = inl (rw same stop)
     by_cases (inr full) = inr (rw same (omega arith))
 
-pub schedule_at : (net : Network) (trace : List TraceItem) (from journal : List Entry) (limit : ℕ) (old new : Moment) → old ≡ record { net = net; trace = trace; journal = from } → from ≡ [] → GoesOn old new (limit - length from) → Ends old new (limit - length from) → journal ≡ new.journal → IsSchedule net trace limit journal
+pub schedule_at : (net : Network) (trace : List TraceItem) (from journal : List Entry) (limit : ℕ)
+    (old new : Moment) → old ≡ record { net = net; trace = trace; journal = from } → from ≡ []
+    → GoesOn old new (limit - length from) → Ends old new (limit - length from)
+    → journal ≡ new.journal → IsSchedule net trace limit journal
 schedule_at net trace from journal limit old new start nothing goes ends same = record {
   follows = subst (λ (l : List Entry). Follows net trace journal (length l)) nothing follows;
   whole = whole (ends_at net trace from journal limit old new start few ends same);
@@ -89,7 +133,8 @@ schedule_at net trace from journal limit old new start nothing goes ends same = 
     few : length from ≤ limit
     few = let e : length from ≡ 0 = ap length nothing in omega arith
 
-    from_start : GoesOn (record { net = net; trace = trace; journal = from }) new (limit - length from)
+    from_start : GoesOn (record { net = net; trace = trace; journal = from }) new
+        (limit - length from)
     from_start = subst (λ (m : Moment). GoesOn m new (limit - length from)) start goes
 
     follows : Follows net trace journal (length from)
@@ -98,10 +143,14 @@ schedule_at net trace from journal limit old new start nothing goes ends same = 
     within : length journal ≤ limit
     within = rw same (omega (arith, from_start.within, few))
 
-    whole : (pick net trace journal ≡ Stop) ⊎ (length journal ≡ limit) → (length journal ≡ limit) ⊎ ((length journal < limit) × (pick net trace journal ≡ Stop))
+    whole : (pick net trace journal ≡ Stop) ⊎ (length journal ≡ limit)
+        → (length journal ≡ limit) ⊎ ((length journal < limit) × (pick net trace journal ≡ Stop))
     whole (inr full) = inl full
     whole (inl stop) =
-        elim (nat_lt (length journal) limit) as (λ b. nat_lt (length journal) limit ≡ b → (length journal ≡ limit) ⊎ ((length journal < limit) × (pick net trace journal ≡ Stop))) [
+        elim (nat_lt (length journal) limit) as (λ b. nat_lt (length journal) limit ≡ b
+        → (length journal ≡ limit)
+        ⊎ ((length journal < limit) × (pick net trace journal ≡ Stop))) [
           | true ↦ λ e. inr (ltb-true (length journal) limit e, stop)
-          | false ↦ λ e. let above : limit ≤ length journal = ltb-false (length journal) limit e in inl (omega (arith, within))
+          | false ↦ λ e. let above : limit ≤ length journal = ltb-false (length journal) limit e in
+              inl (omega (arith, within))
         ] refl

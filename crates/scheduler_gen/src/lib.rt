@@ -1,4 +1,5 @@
-// The scheduler with static priorities: the order of machines, what is picked next, and the run that follows the picks.
+// The scheduler with static priorities: the order of machines, what is picked next, and the run
+// that follows the picks.
 #![tactic(auto)]
 
 mod machines;

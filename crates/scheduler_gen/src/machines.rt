@@ -4,7 +4,8 @@ ghost use Rattle.std.specs.Prelude.{◌≡◌, ◌<◌, length, slice_get, Some}
 use polis_base::{Duplicate, NoMemory};
 use std::marker::Model;
 
-/// The numbers of a network's machines, in order of priority and then of number. A smaller priority goes first.
+/// The numbers of a network's machines, in order of priority and then of number. A smaller priority
+/// goes first.
 #[derive(Drop)]
 pub struct Plan {
     machines: Vec<u32>,

@@ -18,7 +18,8 @@ fn deliver(owed: Owed) -> Pick
     }
 }
 
-// The first of what machines owe, of what the environment owes and isn't held back, of a reaction, and of what the environment owes.
+// The first of what machines owe, of what the environment owes and isn't held back, of a reaction,
+// and of what the environment owes.
 fn first_of(owed: Option<Owed>, env: Option<NextEnv>, woken: Option<u32>) -> Pick
     ensures first { result ≡ first_pick owed (option_map (λ e. (e.owed, not e.ready)) env) woken }
     ensures machine { (m : ℕ) → result ≡ Pick.React m → woken ≡ Some m }
@@ -54,9 +55,10 @@ fn first_to_react(plan: &Plan, config: &Config<'_>) -> Option<u32>
     None
 }
 
-/// What comes next: the first delivery that a machine owes, by firing, then emission, then receiver; the first that
-/// the environment owes, where no `settle` item holds it back; the reaction of the first machine of the plan that a
-/// delivery came to since its last reaction; the first delivery that the environment owes; or nothing.
+/// What comes next: the first delivery that a machine owes, by firing, then emission, then
+/// receiver; the first that the environment owes, where no `settle` item holds it back; the
+/// reaction of the first machine of the plan that a delivery came to since its last reaction; the
+/// first delivery that the environment owes; or nothing.
 pub fn pick(plan: &Plan, config: &Config<'_>) -> Pick
     requires { IsPlanOf config.now.net plan.now }
     ensures pick { result ≡ picked config.now.net config.now.trace config.now.journal }

@@ -22,7 +22,8 @@ use transition_table::{Reactor, Snapshot};
 pub struct Finished {
     /// The entries in order.
     pub journal: Journal,
-    /// Whether all that was sent is delivered and no machine has a delivery after its last reaction.
+    /// Whether all that was sent is delivered and no machine has a delivery after its last
+    /// reaction.
     pub complete: bool,
 }
 
@@ -30,7 +31,8 @@ pub struct Finished {
 fn take(config: &mut Config<'_>, entry: &Entry) -> Result<(), NoMemory>
     requires fits { FitsNetwork config.old.net entry.now }
     requires follows { MayFollow config.old.net config.old.trace config.old.journal entry.now }
-    ensures ok { OnOk result (config.new ≡ record config.old { journal = config.old.journal ++ entry.now ∷ [] }) }
+    ensures ok { OnOk result (config.new
+        ≡ record config.old { journal = config.old.journal ++ entry.now ∷ [] }) }
 {
     match config.append(entry) {
         Admit::Yes => Ok(()),
@@ -41,7 +43,8 @@ fn take(config: &mut Config<'_>, entry: &Entry) -> Result<(), NoMemory>
 
 // Takes what is picked.
 fn take_picked(config: &mut Config<'_>, entry: &Entry) -> Result<(), NoMemory>
-    requires { IsPicked config.old.net config.old.journal (picked config.old.net config.old.trace config.old.journal) entry.now }
+    requires { IsPicked config.old.net config.old.journal
+        (picked config.old.net config.old.trace config.old.journal) entry.now }
     ensures ok { OnOk result (IsNext config.old config.new) }
 {
     laws();
@@ -84,7 +87,8 @@ fn advance<R: Reactor>(
     requires network { R.meaning r.now ≡ config.old.net }
     requires plan { IsPlanOf config.old.net plan.now }
     ensures next { result ≡ Ok true → IsNext config.old config.new }
-    ensures stop { result ≡ Ok false → picked config.old.net config.old.trace config.old.journal ≡ Pick.Stop }
+    ensures stop { result ≡ Ok false → picked config.old.net config.old.trace config.old.journal
+        ≡ Pick.Stop }
     ensures same { result ≡ Ok false → config.new ≡ config.old }
 {
     match pick(plan, config) {
@@ -133,8 +137,9 @@ fn run<R: Reactor>(
     Ok(())
 }
 
-/// Carries a legal journal on: each further entry is what `pick` gives after those before it, up to the limit of
-/// entries or until nothing is picked. The entries of the journal are taken as they are: their reactions aren't made again.
+/// Carries a legal journal on: each further entry is what `pick` gives after those before it, up to
+/// the limit of entries or until nothing is picked. The entries of the journal are taken as they
+/// are: their reactions aren't made again.
 pub fn complete<R: Reactor>(
     alloc: Global,
     plan: &Plan,
@@ -151,9 +156,11 @@ pub fn complete<R: Reactor>(
     ensures follows { IfOk result (λ f. Follows (R.meaning r.now) trace.now f.journal (length from)) }
     ensures legal { IfOk result (λ f. Legal (R.meaning r.now) trace.now f.journal) }
     ensures within { IfOk result (λ f. length f.journal ≤ limit) }
-    ensures ends { IfOk result (λ f. (picked (R.meaning r.now) trace.now f.journal ≡ Pick.Stop) ⊎ (length f.journal ≡ limit)) }
+    ensures ends { IfOk result (λ f. (picked (R.meaning r.now) trace.now f.journal ≡ Pick.Stop)
+        ⊎ (length f.journal ≡ limit)) }
     ensures complete { IfOk result (λ f. IsTrue f.complete ↔ Complete (R.meaning r.now) trace.now f.journal) }
-    ensures schedule { from ≡ [] → IfOk result (λ f. IsSchedule (R.meaning r.now) trace.now limit f.journal) }
+    ensures schedule { from ≡ []
+        → IfOk result (λ f. IsSchedule (R.meaning r.now) trace.now limit f.journal) }
 {
     let rest = limit - from.len();
     let mut config = Config::resume(alloc, r.network(), trace, from)?;

@@ -27,7 +27,8 @@ fn reactor(net: &Network) -> TableReactor<'_>
     TableReactor::new(net)
 }
 
-// The empty journal, or that in which the second machine gets the environment's event before the first one does.
+// The empty journal, or that in which the second machine gets the environment's event before the
+// first one does.
 fn begun(alloc: Global, net: &Network, trace: &Trace, count: u64) -> Result<Journal, NoMemory>
     requires trace { IsTrace net.now trace.now }
     requires fits { FitsNetwork net.now (Dep Env 1 0 1) }

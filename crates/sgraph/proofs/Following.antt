@@ -22,22 +22,26 @@ below [] i x e = cc
 below (y ∷ ys) zero x e = omega arith
 below (y ∷ ys) (suc i) x e = let r = below ys i x e in omega arith
 
-pub index_prefix : (xs ys : List ℕ) (i : ℕ) → i < length xs → slice_index (xs ++ ys) i ≡ slice_index xs i
+pub index_prefix : (xs ys : List ℕ) (i : ℕ) → i < length xs
+    → slice_index (xs ++ ys) i ≡ slice_index xs i
 index_prefix [] ys i low = absurd (omega arith)
 index_prefix (x ∷ xs) ys zero low = refl
 index_prefix (x ∷ xs) ys (suc i) low = index_prefix xs ys i (omega arith)
 
-pub index_after : (xs ys : List ℕ) (i : ℕ) → length xs ≤ i → slice_index (xs ++ ys) i ≡ slice_index ys (i - length xs)
+pub index_after : (xs ys : List ℕ) (i : ℕ) → length xs ≤ i
+    → slice_index (xs ++ ys) i ≡ slice_index ys (i - length xs)
 index_after [] ys i high = let e : i - 0 ≡ i = omega arith in ap (slice_index ys) (sym e)
 index_after (x ∷ xs) ys zero high = absurd (omega arith)
-index_after (x ∷ xs) ys (suc i) high = let e : suc i - suc (length xs) ≡ i - length xs = omega arith in index_after xs ys i (omega arith) ∙ ap (slice_index ys) (sym e)
+index_after (x ∷ xs) ys (suc i) high = let e : suc i - suc (length xs) ≡ i - length xs =
+    omega arith in index_after xs ys i (omega arith) ∙ ap (slice_index ys) (sym e)
 
 pub past : (xs : List ℕ) (i : ℕ) → length xs ≤ i → slice_index xs i ≡ 0
 past [] i high = refl
 past (x ∷ xs) zero high = absurd (omega arith)
 past (x ∷ xs) (suc i) high = past xs i (omega arith)
 
-pub take_one : (xs : List ℕ) (i : ℕ) → i < length xs → take (suc i) xs ≡ take i xs ++ slice_index xs i ∷ []
+pub take_one : (xs : List ℕ) (i : ℕ) → i < length xs
+    → take (suc i) xs ≡ take i xs ++ slice_index xs i ∷ []
 take_one [] i low = absurd (omega arith)
 take_one (y ∷ ys) zero low = refl
 take_one (y ∷ ys) (suc i) low = ap (λ (zs : List ℕ). y ∷ zs) (take_one ys i (omega arith))
@@ -49,7 +53,8 @@ take_whole (x ∷ xs) zero high = absurd (omega arith)
 take_whole (x ∷ xs) (suc i) high = ap (λ (zs : List ℕ). x ∷ zs) (take_whole xs i (omega arith))
 
 -- ---- nodes
-inner_in : (n : ℕ) (o : Option Node) (var : ℕ) → shape_in n o ≡ Inner var → (node : Node) × (o ≡ Some node) × (node.var ≡ var)
+inner_in : (n : ℕ) (o : Option Node) (var : ℕ) → shape_in n o ≡ Inner var
+    → (node : Node) × (o ≡ Some node) × (node.var ≡ var)
 inner_in n None var e = absurd (go (n == 0) e)
   where
     go : (b : Bool) → cond b False True ≡ Inner var → ⊥
@@ -57,10 +62,12 @@ inner_in n None var e = absurd (go (n == 0) e)
     go false f = cc
 inner_in n (Some node) var e = (node, refl, cc)
 
-pub inner_of : (s : Diagrams) (k var : ℕ) → shape_of s k ≡ Inner var → (node : Node) × (inner_at s.nodes k ≡ Some node) × (node.var ≡ var)
+pub inner_of : (s : Diagrams) (k var : ℕ) → shape_of s k ≡ Inner var
+    → (node : Node) × (inner_at s.nodes k ≡ Some node) × (node.var ≡ var)
 inner_of s k var e = inner_in k (inner_at s.nodes k) var e
 
-outer_in : (n : ℕ) (o : Option Node) (shape : Shape) → shape_in n o ≡ shape → ((var : ℕ) → shape ≡ Inner var → ⊥) → o ≡ None
+outer_in : (n : ℕ) (o : Option Node) (shape : Shape) → shape_in n o ≡ shape
+    → ((var : ℕ) → shape ≡ Inner var → ⊥) → o ≡ None
 outer_in n None shape e other = refl
 outer_in n (Some node) shape e other = absurd (other node.var (sym e))
 
@@ -73,60 +80,84 @@ true_of s k e = outer_in k (inner_at s.nodes k) True e (λ var f. cc)
 pub none_next : (s : Diagrams) (n k : ℕ) → inner_at s.nodes k ≡ None → next_nodes s n k ≡ []
 none_next s n k e = ap (next_in n) e
 
-pub test_next : (s : Diagrams) (n k var : ℕ) → shape_of s k ≡ Inner var → var < n → next_nodes s n k ≡ kids_of s k
+pub test_next : (s : Diagrams) (n k var : ℕ) → shape_of s k ≡ Inner var → var < n
+    → next_nodes s n k ≡ kids_of s k
 test_next s n k var e low =
     let node = inner_of s k var e in
     let v : node.0.var ≡ var = node.2 in
     ap (next_in n) node.1
-    ∙ ap (λ (b : Bool). cond b node.0.kids (slice_index node.0.kids (code_there node.0.kids) ∷ [])) (lt-ltb node.0.var n (omega arith))
+    ∙ ap (λ (b : Bool). cond b node.0.kids (slice_index node.0.kids (code_there node.0.kids) ∷ []))
+    (lt-ltb node.0.var n (omega arith))
     ∙ sym (ap kids_in node.1)
 
-pub result_next : (s : Diagrams) (n k var : ℕ) → shape_of s k ≡ Inner var → n ≤ var → next_nodes s n k ≡ slice_index (kids_of s k) (code_there (kids_of s k)) ∷ []
+pub result_next : (s : Diagrams) (n k var : ℕ) → shape_of s k ≡ Inner var → n ≤ var
+    → next_nodes s n k ≡ slice_index (kids_of s k) (code_there (kids_of s k)) ∷ []
 result_next s n k var e high =
     let node = inner_of s k var e in
     let v : node.0.var ≡ var = node.2 in
     ap (next_in n) node.1
-    ∙ ap (λ (b : Bool). cond b node.0.kids (slice_index node.0.kids (code_there node.0.kids) ∷ [])) (le-ltb node.0.var n (omega arith))
+    ∙ ap (λ (b : Bool). cond b node.0.kids (slice_index node.0.kids (code_there node.0.kids) ∷ []))
+    (le-ltb node.0.var n (omega arith))
     ∙ sym (ap (λ (o : Option Node). slice_index (kids_in o) (code_there (kids_in o)) ∷ []) node.1)
 
 -- the first code whose child isn't False
-pub code_is : (kids : List ℕ) (c : ℕ) → c < length kids → ((j : ℕ) → j < c → slice_index kids j ≡ 0) → slice_index kids c ≢ 0 → code_there kids ≡ c
+pub code_is : (kids : List ℕ) (c : ℕ) → c < length kids → ((j : ℕ) → j < c → slice_index kids j ≡ 0)
+    → slice_index kids c ≢ 0 → code_there kids ≡ c
 code_is [] c low zeros some = absurd (omega arith)
-code_is (kid ∷ kids) zero low zeros some = ap (λ (b : Bool). cond b (suc (code_there kids)) 0) (ne_eqb kid 0 some)
+code_is (kid ∷ kids) zero low zeros some =
+    ap (λ (b : Bool). cond b (suc (code_there kids)) 0) (ne_eqb kid 0 some)
 code_is (kid ∷ kids) (suc c) low zeros some =
     ap (λ (b : Bool). cond b (suc (code_there kids)) 0) (eq-eqb kid 0 (zeros 0 (omega arith)))
     ∙ ap suc (code_is kids c (omega arith) (λ j less. zeros (suc j) (omega arith)) some)
 
 -- not all children are False
-pub not_all : (s : Diagrams) (k var : ℕ) → AreReduced s → shape_of s k ≡ Inner var → ((j : ℕ) → j < length (kids_of s k) → slice_index (kids_of s k) j ≡ 0) → ⊥
+pub not_all : (s : Diagrams) (k var : ℕ) → AreReduced s → shape_of s k ≡ Inner var
+    → ((j : ℕ) → j < length (kids_of s k) → slice_index (kids_of s k) j ≡ 0) → ⊥
 not_all s k var ok e zeros =
     let node = inner_of s k var e in
     let same : kids_of s k ≡ node.0.kids = ap kids_in node.1 in
-    (ok.nodes k node.0 node.1).varied 0 (λ j low. ap (λ (xs : List ℕ). slice_index xs j) (sym same) ∙ zeros j (let l : length (kids_of s k) ≡ length node.0.kids = ap (λ (xs : List ℕ). length xs) same in omega arith))
+    (ok.nodes k node.0 node.1).varied 0
+    (λ j low. ap (λ (xs : List ℕ). slice_index xs j) (sym same)
+    ∙ zeros j (let l : length (kids_of s k)
+    ≡ length node.0.kids = ap (λ (xs : List ℕ). length xs) same in omega arith))
 
 -- what follows was made before
 inner_high : (s : Diagrams) (k : ℕ) (node : Node) → inner_at s.nodes k ≡ Some node → 2 ≤ k
-inner_high s k node is = ⊎_elim (λ low. absurd (let e : None ≡ Some node = sym (ap (λ (b : Bool). cond b None (slice_get s.nodes (k - 2))) (lt-ltb k 2 low)) ∙ is in cc)) (λ high. high) (cases_lt k 2)
+inner_high s k node is =
+    ⊎_elim (λ low. absurd (let e : None
+    ≡ Some node = sym (ap (λ (b : Bool). cond b None (slice_get s.nodes (k - 2))) (lt-ltb k 2 low))
+    ∙ is in cc)) (λ high. high) (cases_lt k 2)
 
-pub falls : (s : Diagrams) (n : ℕ) → AreReduced s → (k i : ℕ) → i < length (next_nodes s n k) → slice_index (next_nodes s n k) i < k
+pub falls : (s : Diagrams) (n : ℕ) → AreReduced s → (k i : ℕ) → i < length (next_nodes s n k)
+    → slice_index (next_nodes s n k) i < k
 falls s n ok k i low = go (inner_at s.nodes k) refl low
   where
     one : (node : Node) → inner_at s.nodes k ≡ Some node → (c : ℕ) → slice_index node.kids c < k
     one node is c =
         ⊎_elim
         (λ inside. (ok.nodes k node is).before c inside)
-        (λ outside. let z = past node.kids c outside in let high = inner_high s k node is in omega arith)
+        (λ outside. let z = past node.kids c outside in let high = inner_high s k node is in
+        omega arith)
         (cases_lt c (length node.kids))
 
-    go : (o : Option Node) → inner_at s.nodes k ≡ o → i < length (next_in n o) → slice_index (next_in n o) i < k
+    go : (o : Option Node) → inner_at s.nodes k ≡ o → i < length (next_in n o)
+        → slice_index (next_in n o) i < k
     go None is low = absurd (omega arith)
     go (Some node) is low =
         ⊎_elim
-        (λ on. subst (λ (b : Bool). slice_index (cond b node.kids (slice_index node.kids (code_there node.kids) ∷ [])) i < k) (sym on) (one node is i))
-        (λ off. subst (λ (b : Bool). slice_index (cond b node.kids (slice_index node.kids (code_there node.kids) ∷ [])) i < k) (sym off) (single node is i (subst (λ (b : Bool). i < length (cond b node.kids (slice_index node.kids (code_there node.kids) ∷ []))) off low)))
+        (λ on. subst (λ (b : Bool). slice_index
+        (cond b node.kids (slice_index node.kids (code_there node.kids) ∷ [])) i < k) (sym on)
+        (one node is i))
+        (λ off. subst (λ (b : Bool). slice_index
+        (cond b node.kids (slice_index node.kids (code_there node.kids) ∷ [])) i < k) (sym off)
+        (single node is i
+        (subst (λ (b : Bool). i
+        < length (cond b node.kids (slice_index node.kids (code_there node.kids) ∷ []))) off
+        low)))
         (cases_Bool (ltb node.var n))
       where
-        single : (node : Node) → inner_at s.nodes k ≡ Some node → (j : ℕ) → j < 1 → slice_index (slice_index node.kids (code_there node.kids) ∷ []) j < k
+        single : (node : Node) → inner_at s.nodes k ≡ Some node → (j : ℕ) → j < 1
+            → slice_index (slice_index node.kids (code_there node.kids) ∷ []) j < k
         single node is zero low = one node is (code_there node.kids)
         single node is (suc j) low = absurd (omega arith)
 
@@ -135,19 +166,25 @@ pub turned_push : (xs : List ℕ) (x : ℕ) → turned (xs ++ x ∷ []) ≡ x �
 turned_push [] x = refl
 turned_push (y ∷ ys) x = ap (λ (zs : List ℕ). zs ++ y ∷ []) (turned_push ys x)
 
-each_push : (visit : List ℕ → ℕ → List ℕ) (left xs : List ℕ) (x : ℕ) → each visit left (xs ++ x ∷ []) ≡ visit (each visit left xs) x
+each_push : (visit : List ℕ → ℕ → List ℕ) (left xs : List ℕ) (x : ℕ)
+    → each visit left (xs ++ x ∷ []) ≡ visit (each visit left xs) x
 each_push visit left [] x = refl
 each_push visit left (y ∷ ys) x = each_push visit (visit left y) ys x
 
 -- the nodes so far are left
-pub left_more : (s : Diagrams) (n k : ℕ) → AreReduced s → (kids first left new : List ℕ) (j kid : ℕ) → kids ≡ next_nodes s n k → slice_get kids j ≡ Some kid → turned left ≡ each (left_after k (next_nodes s n)) (turned first) (take j kids) → turned new ≡ left_after (suc kid) (next_nodes s n) (turned left) kid → turned new ≡ each (left_after k (next_nodes s n)) (turned first) (take (j + 1) kids)
+pub left_more : (s : Diagrams) (n k : ℕ) → AreReduced s → (kids first left new : List ℕ) (j kid : ℕ)
+    → kids ≡ next_nodes s n k → slice_get kids j ≡ Some kid
+    → turned left ≡ each (left_after k (next_nodes s n)) (turned first) (take j kids)
+    → turned new ≡ left_after (suc kid) (next_nodes s n) (turned left) kid
+    → turned new ≡ each (left_after k (next_nodes s n)) (turned first) (take (j + 1) kids)
 left_more s n k ok kids first left new j kid is is_kid so_far one =
     let next = next_nodes s n in
     let low = below kids j kid is_kid in
     let at = got kids j kid is_kid in
     let long : length kids ≡ length (next_nodes s n k) = ap (λ (xs : List ℕ). length xs) is in
     let less = falls s n ok k j (omega arith) in
-    let same : slice_index kids j ≡ slice_index (next_nodes s n k) j = ap (λ (xs : List ℕ). slice_index xs j) is in
+    let same : slice_index kids j ≡ slice_index (next_nodes s n k) j =
+    ap (λ (xs : List ℕ). slice_index xs j) is in
     let e : j + 1 ≡ suc j = omega arith in
     one
     ∙ enough_down next (falls s n ok) (suc kid) k (turned left) kid (omega arith) (omega arith)
@@ -160,26 +197,38 @@ left_more s n k ok kids first left new j kid is is_kid so_far one =
 same_some : {X : Type 0} (o : Option X) (a b : X) → o ≡ Some a → o ≡ Some b → a ≡ b
 same_some o a b p q = cc
 
-pub marked_is : (s : Diagrams) (marks : List Bool) (left : List ℕ) (k : ℕ) (b : Bool) → Marks s marks left → slice_get marks k ≡ Some b → has (turned left) k ≡ b
-marked_is s marks left k b ok is = same_some (slice_get marks k) (has (turned left) k) b (ok.each k (below marks k b is)) is
+pub marked_is : (s : Diagrams) (marks : List Bool) (left : List ℕ) (k : ℕ) (b : Bool)
+    → Marks s marks left → slice_get marks k ≡ Some b → has (turned left) k ≡ b
+marked_is s marks left k b ok is =
+    same_some (slice_get marks k) (has (turned left) k) b (ok.each k (below marks k b is)) is
 
-pub left_there : (s : Diagrams) (n k : ℕ) (marks : List Bool) (left : List ℕ) → Marks s marks left → slice_get marks k ≡ Some true → turned left ≡ left_after (suc k) (next_nodes s n) (turned left) k
-left_there s n k marks left ok is = sym (visit_there (next_nodes s n) k (turned left) k (marked_is s marks left k true ok is))
+pub left_there : (s : Diagrams) (n k : ℕ) (marks : List Bool) (left : List ℕ) → Marks s marks left
+    → slice_get marks k ≡ Some true → turned left
+    ≡ left_after (suc k) (next_nodes s n) (turned left) k
+left_there s n k marks left ok is =
+    sym (visit_there (next_nodes s n) k (turned left) k (marked_is s marks left k true ok is))
 
-pub left_new : (s : Diagrams) (n k : ℕ) (marks : List Bool) (kids first left new : List ℕ) (j : ℕ) → Marks s marks first → slice_get marks k ≡ Some false → kids ≡ next_nodes s n k → length kids ≤ j → turned left ≡ each (left_after k (next_nodes s n)) (turned first) (take j kids) → new ≡ left ++ k ∷ [] → turned new ≡ left_after (suc k) (next_nodes s n) (turned first) k
+pub left_new : (s : Diagrams) (n k : ℕ) (marks : List Bool) (kids first left new : List ℕ) (j : ℕ)
+    → Marks s marks first → slice_get marks k ≡ Some false → kids ≡ next_nodes s n k
+    → length kids ≤ j
+    → turned left ≡ each (left_after k (next_nodes s n)) (turned first) (take j kids)
+    → new ≡ left ++ k ∷ [] → turned new ≡ left_after (suc k) (next_nodes s n) (turned first) k
 left_new s n k marks kids first left new j ok is is_kids high so_far e =
     let next = next_nodes s n in
     ap turned e
     ∙ turned_push left k
-    ∙ ap (λ (xs : List ℕ). k ∷ xs) (so_far ∙ ap (each (left_after k next) (turned first)) (take_whole kids j high ∙ is_kids))
+    ∙ ap (λ (xs : List ℕ). k ∷ xs) (so_far
+    ∙ ap (each (left_after k next) (turned first)) (take_whole kids j high ∙ is_kids))
     ∙ sym (visit_new next k (turned first) k (marked_is s marks first k false ok is))
 
-set_same : (marks : List Bool) (k : ℕ) (b : Bool) → k < length marks → slice_get (slice_set marks k b) k ≡ Some b
+set_same : (marks : List Bool) (k : ℕ) (b : Bool) → k < length marks
+    → slice_get (slice_set marks k b) k ≡ Some b
 set_same [] k b low = absurd (omega arith)
 set_same (m ∷ marks) zero b low = refl
 set_same (m ∷ marks) (suc k) b low = set_same marks k b (omega arith)
 
-set_other : (marks : List Bool) (k j : ℕ) (b : Bool) → (k ≡ j → ⊥) → slice_get (slice_set marks k b) j ≡ slice_get marks j
+set_other : (marks : List Bool) (k j : ℕ) (b : Bool) → (k ≡ j → ⊥)
+    → slice_get (slice_set marks k b) j ≡ slice_get marks j
 set_other [] k j b other = refl
 set_other (m ∷ marks) zero zero b other = absurd (other refl)
 set_other (m ∷ marks) zero (suc j) b other = refl
@@ -191,18 +240,26 @@ set_long [] k b = refl
 set_long (m ∷ marks) zero b = refl
 set_long (m ∷ marks) (suc k) b = ap suc (set_long marks k b)
 
-pub one_mark : (s : Diagrams) (k : ℕ) (marks more : List Bool) (left new : List ℕ) → Marks s marks left → k < length marks → more ≡ slice_set marks k true → new ≡ left ++ k ∷ [] → Marks s more new
+pub one_mark : (s : Diagrams) (k : ℕ) (marks more : List Bool) (left new : List ℕ)
+    → Marks s marks left → k < length marks → more ≡ slice_set marks k true → new ≡ left ++ k ∷ []
+    → Marks s more new
 one_mark s k marks more left new ok low is e =
     let long = set_long marks k true in
-    let same : length more ≡ length (slice_set marks k true) = ap (λ (xs : List Bool). length xs) is in
+    let same : length more ≡ length (slice_set marks k true) =
+    ap (λ (xs : List Bool). length xs) is in
     let own = ok.long in
     record {
       long = omega arith;
       each = λ j inside.
           ap (λ (xs : List Bool). slice_get xs j) is
           ∙ ⊎_elim
-          (λ here. let h : k ≡ j = here in subst (λ (i : ℕ). slice_get (slice_set marks k true) i ≡ Some (eqb k i || has (turned left) i)) h (set_same marks k true low ∙ ap (λ (b : Bool). Some (b || has (turned left) k)) (sym (eq-eqb k k refl))))
-          (λ other. set_other marks k j true other ∙ ok.each j (omega arith) ∙ ap (λ (b : Bool). Some (b || has (turned left) j)) (sym (ne_eqb k j other)))
+          (λ here. let h : k ≡ j = here in
+          subst (λ (i : ℕ). slice_get (slice_set marks k true) i
+          ≡ Some (eqb k i || has (turned left) i)) h
+          (set_same marks k true low ∙ ap (λ (b : Bool). Some (b || has (turned left) k))
+          (sym (eq-eqb k k refl))))
+          (λ other. set_other marks k j true other ∙ ok.each j (omega arith)
+          ∙ ap (λ (b : Bool). Some (b || has (turned left) j)) (sym (ne_eqb k j other)))
           (cases_eq k j)
           ∙ ap (λ (xs : List ℕ). Some (has xs j)) (sym (turned_push left k) ∙ ap turned (sym e));
     }
@@ -216,20 +273,24 @@ long_marks : (n : ℕ) → length (replicate n false) ≡ n
 long_marks zero = refl
 long_marks (suc n) = ap suc (long_marks n)
 
-pub marks_none : (s : Diagrams) (count : ℕ) (marks : List Bool) (left : List ℕ) → count ≡ length s.nodes + 2 → marks ≡ replicate count false → left ≡ [] → Marks s marks left
+pub marks_none : (s : Diagrams) (count : ℕ) (marks : List Bool) (left : List ℕ)
+    → count ≡ length s.nodes + 2 → marks ≡ replicate count false → left ≡ [] → Marks s marks left
 marks_none s count marks left is are none =
     let long : length marks ≡ count = ap (λ (xs : List Bool). length xs) are ∙ long_marks count in
     record {
       long = omega arith;
-      each = λ k low. ap (λ (xs : List Bool). slice_get xs k) are ∙ no_mark count k (omega arith) ∙ ap (λ (xs : List ℕ). Some (has (turned xs) k)) (sym none);
+      each = λ k low. ap (λ (xs : List Bool). slice_get xs k) are ∙ no_mark count k (omega arith)
+          ∙ ap (λ (xs : List ℕ). Some (has (turned xs) k)) (sym none);
     }
 
 -- a node that follows was made before, so it is one
-pub kid_before : (s : Diagrams) (n k : ℕ) → AreReduced s → (kids : List ℕ) (j kid : ℕ) → kids ≡ next_nodes s n k → slice_get kids j ≡ Some kid → kid < k
+pub kid_before : (s : Diagrams) (n k : ℕ) → AreReduced s → (kids : List ℕ) (j kid : ℕ)
+    → kids ≡ next_nodes s n k → slice_get kids j ≡ Some kid → kid < k
 kid_before s n k ok kids j kid is is_kid =
     let low = below kids j kid is_kid in
     let at = got kids j kid is_kid in
     let long : length kids ≡ length (next_nodes s n k) = ap (λ (xs : List ℕ). length xs) is in
     let less = falls s n ok k j (omega arith) in
-    let same : slice_index kids j ≡ slice_index (next_nodes s n k) j = ap (λ (xs : List ℕ). slice_index xs j) is in
+    let same : slice_index kids j ≡ slice_index (next_nodes s n k) j =
+    ap (λ (xs : List ℕ). slice_index xs j) is in
     omega arith

@@ -5,7 +5,8 @@ use Rattle.std.proofs.lemmas.Bool.{and_parts, and_from, cases_lt}
 use Rattle.std.proofs.lemmas.List.{length_push}
 use Rattle.polis_base.specs.Lists.{upto}
 
-pub index_map : (f : ℕ → ℕ) (xs : List ℕ) (j : ℕ) → j < length xs → slice_index (map f xs) j ≡ f (slice_index xs j)
+pub index_map : (f : ℕ → ℕ) (xs : List ℕ) (j : ℕ) → j < length xs
+    → slice_index (map f xs) j ≡ f (slice_index xs j)
 index_map f [] j low = absurd (omega arith)
 index_map f (x ∷ xs) zero low = refl
 index_map f (x ∷ xs) (suc j) low = index_map f xs j (omega arith)
@@ -18,7 +19,8 @@ pub long_upto : (n : ℕ) → length (upto n) ≡ n
 long_upto zero = refl
 long_upto (suc n) = let e = long_upto n in let f = length_push (upto n) n in omega arith
 
-index_append : (xs ys : List ℕ) (j : ℕ) → j < length xs → slice_index (xs ++ ys) j ≡ slice_index xs j
+index_append : (xs ys : List ℕ) (j : ℕ) → j < length xs
+    → slice_index (xs ++ ys) j ≡ slice_index xs j
 index_append [] ys j low = absurd (omega arith)
 index_append (x ∷ xs) ys zero low = refl
 index_append (x ∷ xs) ys (suc j) low = index_append xs ys j (omega arith)
@@ -36,12 +38,14 @@ index_upto (suc n) j low =
     (λ more. let e : j ≡ length (upto n) = omega arith in rw e (item_at (upto n) [] n ∙ sym l))
     (cases_lt j n)
 
-pub all_append : {X : Type 0} (p : X → Bool) (xs ys : List X) → list_all p xs ≡ true → list_all p ys ≡ true → list_all p (xs ++ ys) ≡ true
+pub all_append : {X : Type 0} (p : X → Bool) (xs ys : List X) → list_all p xs ≡ true
+    → list_all p ys ≡ true → list_all p (xs ++ ys) ≡ true
 all_append p [] ys first rest = rest
 all_append p (x ∷ xs) ys first rest =
     let parts = and_parts (p x) (list_all p xs) first in
     and_from (p x) (list_all p (xs ++ ys)) parts.0 (all_append p xs ys parts.1 rest)
 
-pub all_map : {X Y : Type 0} (p : Y → Bool) (f : X → Y) (xs : List X) → list_all p (map f xs) ≡ list_all (λ x. p (f x)) xs
+pub all_map : {X Y : Type 0} (p : Y → Bool) (f : X → Y) (xs : List X)
+    → list_all p (map f xs) ≡ list_all (λ x. p (f x)) xs
 all_map p f [] = refl
 all_map p f (x ∷ xs) = ap (λ (b : Bool). p (f x) && b) (all_map p f xs)

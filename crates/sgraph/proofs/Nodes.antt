@@ -5,12 +5,14 @@ use Rattle.decision_diagram.specs.declared.node.Node.{Node}
 use Rattle.decision_diagram.specs.Diagrams.{inner_at, step}
 use Rattle.sgraph.proofs.Lists.{read_some}
 
-get_prefix : (nodes more : List Node) (k : ℕ) → k < length nodes → slice_get (nodes ++ more) k ≡ slice_get nodes k
+get_prefix : (nodes more : List Node) (k : ℕ) → k < length nodes
+    → slice_get (nodes ++ more) k ≡ slice_get nodes k
 get_prefix [] more k h = absurd (omega arith)
 get_prefix (x ∷ xs) more zero h = refl
 get_prefix (x ∷ xs) more (suc k) h = get_prefix xs more k (omega arith)
 
-get_last : (nodes : List Node) (node : Node) → slice_get (nodes ++ node ∷ []) (length nodes) ≡ Some node
+get_last : (nodes : List Node) (node : Node)
+    → slice_get (nodes ++ node ∷ []) (length nodes) ≡ Some node
 get_last [] node = refl
 get_last (x ∷ xs) node = get_last xs node
 
@@ -30,27 +32,33 @@ pub inner_low : (nodes : List Node) (n : ℕ) → n < 2 → inner_at nodes n ≡
 inner_low nodes n h = low nodes n h
 
 -- earlier nodes stay when more are added
-pub inner_prefix : (nodes more : List Node) (n : ℕ) → n < length nodes + 2 → inner_at (nodes ++ more) n ≡ inner_at nodes n
+pub inner_prefix : (nodes more : List Node) (n : ℕ) → n < length nodes + 2
+    → inner_at (nodes ++ more) n ≡ inner_at nodes n
 inner_prefix nodes more n h =
     ⊎_elim
     (λ small. low (nodes ++ more) n small ∙ sym (low nodes n small))
-    (λ large. high (nodes ++ more) n large ∙ get_prefix nodes more (n - 2) (omega arith) ∙ sym (high nodes n large))
+    (λ large. high (nodes ++ more) n large ∙ get_prefix nodes more (n - 2) (omega arith)
+    ∙ sym (high nodes n large))
     (cases_lt n 2)
 
 -- the newest node
-pub inner_last : (nodes : List Node) (node : Node) (n : ℕ) → n ≡ length nodes + 2 → inner_at (nodes ++ node ∷ []) n ≡ Some node
+pub inner_last : (nodes : List Node) (node : Node) (n : ℕ) → n ≡ length nodes + 2
+    → inner_at (nodes ++ node ∷ []) n ≡ Some node
 inner_last nodes node n is =
     let e : n - 2 ≡ length nodes = omega arith in
-    high (nodes ++ node ∷ []) n (omega arith) ∙ ap (slice_get (nodes ++ node ∷ [])) e ∙ get_last nodes node
+    high (nodes ++ node ∷ []) n (omega arith) ∙ ap (slice_get (nodes ++ node ∷ [])) e
+    ∙ get_last nodes node
 
 pub inner_past : (nodes : List Node) (n : ℕ) → length nodes + 2 ≤ n → inner_at nodes n ≡ None
 inner_past nodes n h = high nodes n (omega arith) ∙ get_past nodes (n - 2) (omega arith)
 
 -- an inner node has its number after True's and below the number of all
-pub inner_within : (nodes : List Node) (n : ℕ) (node : Node) → inner_at nodes n ≡ Some node → (2 ≤ n) × (n < length nodes + 2)
+pub inner_within : (nodes : List Node) (n : ℕ) (node : Node) → inner_at nodes n ≡ Some node
+    → (2 ≤ n) × (n < length nodes + 2)
 inner_within nodes n node is =
     ⊎_elim
-    (λ small. let none = low nodes n small in absurd (let e : None ≡ Some node = sym none ∙ is in cc))
+    (λ small. let none = low nodes n small in
+    absurd (let e : None ≡ Some node = sym none ∙ is in cc))
     (λ large.
     ⊎_elim
     (λ inside. (large, inside))
@@ -62,10 +70,12 @@ cases_Option : (o : Option Node) → (o ≡ None) ⊎ ((node : Node) × (o ≡ S
 cases_Option None = inl refl
 cases_Option (Some node) = inr (node, refl)
 
-pub cases_inner : (nodes : List Node) (n : ℕ) → (inner_at nodes n ≡ None) ⊎ ((node : Node) × (inner_at nodes n ≡ Some node))
+pub cases_inner : (nodes : List Node) (n : ℕ)
+    → (inner_at nodes n ≡ None) ⊎ ((node : Node) × (inner_at nodes n ≡ Some node))
 cases_inner nodes n = cases_Option (inner_at nodes n)
 
-some_there : (nodes : List Node) (k : ℕ) → k < length nodes → (node : Node) × (slice_get nodes k ≡ Some node)
+some_there : (nodes : List Node) (k : ℕ) → k < length nodes
+    → (node : Node) × (slice_get nodes k ≡ Some node)
 some_there [] k h = absurd (omega arith)
 some_there (x ∷ xs) zero h = (x, refl)
 some_there (x ∷ xs) (suc k) h = some_there xs k (omega arith)
@@ -75,22 +85,29 @@ pub none_low : (nodes : List Node) (n : ℕ) → n < length nodes + 2 → inner_
 none_low nodes n h none =
     ⊎_elim
     (λ small. small)
-    (λ large. let w = some_there nodes (n - 2) (omega arith) in absurd (let e : None ≡ Some w.0 = sym none ∙ high nodes n large ∙ w.1 in cc))
+    (λ large. let w = some_there nodes (n - 2) (omega arith) in
+    absurd (let e : None ≡ Some w.0 = sym none ∙ high nodes n large ∙ w.1 in cc))
     (cases_lt n 2)
 
 -- ---- reading one variable
 pub step_none : (o : Option Node) (var code n : ℕ) → o ≡ None → step o var code n ≡ n
 step_none o var code n is = ap (λ (p : Option Node). step p var code n) is
 
-pub step_here : (o : Option Node) (node : Node) (var code n : ℕ) → o ≡ Some node → node.var ≡ var → step o var code n ≡ slice_index node.kids code
+pub step_here : (o : Option Node) (node : Node) (var code n : ℕ) → o ≡ Some node → node.var ≡ var
+    → step o var code n ≡ slice_index node.kids code
 step_here o node var code n is here =
-    ap (λ (p : Option Node). step p var code n) is ∙ cond-true (eqb node.var var) (slice_index node.kids code) n (eq-eqb node.var var here)
+    ap (λ (p : Option Node). step p var code n) is
+    ∙ cond-true (eqb node.var var) (slice_index node.kids code) n (eq-eqb node.var var here)
 
-pub step_other : (o : Option Node) (node : Node) (var code n : ℕ) → o ≡ Some node → node.var ≢ var → step o var code n ≡ n
+pub step_other : (o : Option Node) (node : Node) (var code n : ℕ) → o ≡ Some node → node.var ≢ var
+    → step o var code n ≡ n
 step_other o node var code n is other =
-    ap (λ (p : Option Node). step p var code n) is ∙ cond-false (eqb node.var var) (slice_index node.kids code) n (ne_eqb node.var var other)
+    ap (λ (p : Option Node). step p var code n) is
+    ∙ cond-false (eqb node.var var) (slice_index node.kids code) n (ne_eqb node.var var other)
 
 -- what stands at an inner node's place
-pub inner_read : (nodes : List Node) (n k : ℕ) (node : Node) → 2 ≤ n → n < length nodes + 2 → k ≡ n - 2 → node ≡ get_or nodes k node → inner_at nodes n ≡ Some node
+pub inner_read : (nodes : List Node) (n k : ℕ) (node : Node) → 2 ≤ n → n < length nodes + 2
+    → k ≡ n - 2 → node ≡ get_or nodes k node → inner_at nodes n ≡ Some node
 inner_read nodes n k node large within at is =
-    high nodes n large ∙ ap (slice_get nodes) (sym at) ∙ read_some nodes k node (omega arith) ∙ ap Some (sym is)
+    high nodes n large ∙ ap (slice_get nodes) (sym at) ∙ read_some nodes k node (omega arith)
+    ∙ ap Some (sym is)

@@ -8,7 +8,8 @@ use Rattle.std.proofs.lemmas.Map.Keys.{IsDistinct-from_apart}
 use Rattle.domains.specs.Orders.{IsPermutation, place}
 
 -- v stands first at p
-pub place_here : (list : List ℕ) (v p : ℕ) → p < length list → slice_index list p ≡ v → ((j : ℕ) → j < p → slice_index list j ≢ v) → place list v ≡ p
+pub place_here : (list : List ℕ) (v p : ℕ) → p < length list → slice_index list p ≡ v
+    → ((j : ℕ) → j < p → slice_index list j ≢ v) → place list v ≡ p
 place_here [] v p h is before = absurd (omega arith)
 place_here (x ∷ xs) v zero h is before = cond-true (eqb x v) 0 (place xs v + 1) (eq-eqb x v is)
 place_here (x ∷ xs) v (suc p) h is before =
@@ -16,14 +17,16 @@ place_here (x ∷ xs) v (suc p) h is before =
     cond-false (eqb x v) 0 (place xs v + 1) (ne_eqb x v (before 0 (omega arith))) ∙ omega arith
 
 -- v stands nowhere
-pub place_none : (list : List ℕ) (v : ℕ) → ((j : ℕ) → j < length list → slice_index list j ≢ v) → place list v ≡ length list
+pub place_none : (list : List ℕ) (v : ℕ) → ((j : ℕ) → j < length list → slice_index list j ≢ v)
+    → place list v ≡ length list
 place_none [] v nowhere = refl
 place_none (x ∷ xs) v nowhere =
     let rest = place_none xs v (λ j below. nowhere (suc j) (omega arith)) in
     cond-false (eqb x v) 0 (place xs v + 1) (ne_eqb x v (nowhere 0 (omega arith))) ∙ omega arith
 
 -- what stands at a place
-pub at_place : (list : List ℕ) (v : ℕ) → place list v < length list → slice_index list (place list v) ≡ v
+pub at_place : (list : List ℕ) (v : ℕ) → place list v < length list
+    → slice_index list (place list v) ≡ v
 at_place [] v h = absurd (omega arith)
 at_place (x ∷ xs) v h =
     ⊎_elim
@@ -35,9 +38,11 @@ at_place (x ∷ xs) v h =
     (cases_eq x v)
 
 -- the first place is no later than another one
-pub place_first : (list : List ℕ) (v j : ℕ) → j < length list → slice_index list j ≡ v → place list v ≤ j
+pub place_first : (list : List ℕ) (v j : ℕ) → j < length list → slice_index list j ≡ v
+    → place list v ≤ j
 place_first [] v j h is = absurd (omega arith)
-place_first (x ∷ xs) v zero h is = let e = cond-true (eqb x v) 0 (place xs v + 1) (eq-eqb x v is) in omega arith
+place_first (x ∷ xs) v zero h is = let e = cond-true (eqb x v) 0 (place xs v + 1) (eq-eqb x v is) in
+    omega arith
 place_first (x ∷ xs) v (suc j) h is =
     let rest = place_first xs v j (omega arith) is in
     ⊎_elim
@@ -46,7 +51,8 @@ place_first (x ∷ xs) v (suc j) h is =
     (cases_eq x v)
 
 -- what is below at each place is below wherever it is found
-below_any : (list : List ℕ) (n : ℕ) → ((i : ℕ) → i < length list → slice_index list i < n) → (q : ℕ) → list_any (eqb q) list ≡ true → q < n
+below_any : (list : List ℕ) (n : ℕ) → ((i : ℕ) → i < length list → slice_index list i < n) → (q : ℕ)
+    → list_any (eqb q) list ≡ true → q < n
 below_any [] n h q found = absurd (false≢true found)
 below_any (x ∷ xs) n h q found =
     ⊎_elim
@@ -55,7 +61,9 @@ below_any (x ∷ xs) n h q found =
     (or_cases (eqb q x) (list_any (eqb q) xs) found)
 
 -- a list with one more in prefix that stands nowhere in it
-more_apart : (list : List ℕ) (v : ℕ) → IsPermutation list → ((j : ℕ) → j < length list → slice_index list j ≢ v) → (i j d : ℕ) → i < j → j < length (v ∷ list) → eqb (get_or (v ∷ list) i d) (get_or (v ∷ list) j d) ≡ false
+more_apart : (list : List ℕ) (v : ℕ) → IsPermutation list
+    → ((j : ℕ) → j < length list → slice_index list j ≢ v) → (i j d : ℕ) → i < j
+    → j < length (v ∷ list) → eqb (get_or (v ∷ list) i d) (get_or (v ∷ list) j d) ≡ false
 more_apart list v order nowhere zero zero d less below = absurd (omega arith)
 more_apart list v order nowhere zero (suc j) d less below =
     let within : j < length list = omega arith in
@@ -66,21 +74,30 @@ more_apart list v order nowhere (suc i) (suc j) d less below =
     let within : j < length list = omega arith in
     let e = get_or_default list j d 0 within in
     let f = get_or_default list i d 0 (omega arith) in
-    ne_eqb (get_or list i d) (get_or list j d) (λ same. order.distinct i j (omega arith) within (sym f ∙ same ∙ e))
+    ne_eqb (get_or list i d) (get_or list j d)
+    (λ same. order.distinct i j (omega arith) within (sym f ∙ same ∙ e))
 
 -- each number below the length has a place
-pub place_below : (list : List ℕ) → IsPermutation list → (v : ℕ) → v < length list → place list v < length list
+pub place_below : (list : List ℕ) → IsPermutation list → (v : ℕ) → v < length list
+    → place list v < length list
 place_below list order v h =
     ⊎_elim
     (λ within. within)
     (λ past.
-    let nowhere : (j : ℕ) → j < length list → slice_index list j ≢ v = λ j below same. let first = place_first list v j below same in absurd (omega arith) in
+    let nowhere : (j : ℕ) → j < length list → slice_index list j ≢ v = λ j below same. let first =
+    place_first list v j below same in absurd (omega arith) in
     let distinct = IsDistinct-from_apart eqb (v ∷ list) (more_apart list v order nowhere) in
-    let few : (q : ℕ) → list_any (eqb q) (v ∷ list) ≡ true → q < length list = λ q found. ⊎_elim (λ here. let e = eqb-true q v here in omega arith) (λ later. below_any list (length list) order.below q later) (or_cases (eqb q v) (list_any (eqb q) list) found) in
-    let all : length (v ∷ list) ≤ length list = length-le_from_distinct_below (v ∷ list) (length list) distinct few in
+    let few : (q : ℕ) → list_any (eqb q) (v ∷ list) ≡ true → q < length list =
+    λ q found. ⊎_elim (λ here. let e = eqb-true q v here in
+    omega arith) (λ later. below_any list (length list) order.below q later)
+    (or_cases (eqb q v) (list_any (eqb q) list) found) in
+    let all : length (v ∷ list) ≤ length list =
+    length-le_from_distinct_below (v ∷ list) (length list) distinct few in
     absurd (omega arith))
     (cases_lt (place list v) (length list))
 
 -- places of different numbers differ
-pub place_of_item : (list : List ℕ) → IsPermutation list → (i : ℕ) → i < length list → place list (slice_index list i) ≡ i
-place_of_item list order i h = place_here list (slice_index list i) i h refl (λ j below. order.distinct j i below h)
+pub place_of_item : (list : List ℕ) → IsPermutation list → (i : ℕ) → i < length list
+    → place list (slice_index list i) ≡ i
+place_of_item list order i h =
+    place_here list (slice_index list i) i h refl (λ j below. order.distinct j i below h)

@@ -26,7 +26,8 @@ built_is_right below m s root g number d made =
 
 pub graph_is_built : Below → GraphIsBuilt
 graph_is_built below m s root d =
-    let has = has_results m below in (built m s root d has, goes_on m s root d has, numbered m s root d has)
+    let has = has_results m below in
+    (built m s root d has, goes_on m s root d has, numbered m s root d has)
 
 pub graph_is_right : Below → GraphIsRight
 graph_is_right below m s root d =
@@ -47,11 +48,15 @@ graph_is_right below m s root d =
     }
 
 -- a walk that leaves all vertices in order goes on to vertex 1 first
-second : (g : List Vertex) (next more : ℕ) → slice_get g 0 ≡ Some (Begin next) → left_after (suc (suc more)) (kids_at g) [] 0 ≡ upto (suc (suc more)) → next ≡ 1
+second : (g : List Vertex) (next more : ℕ) → slice_get g 0 ≡ Some (Begin next)
+    → left_after (suc (suc more)) (kids_at g) [] 0 ≡ upto (suc (suc more)) → next ≡ 1
 second g next more is numbered =
     let one : kids_at g 0 ≡ next ∷ [] = ap kids_in is in
-    let first : left_after (suc (suc more)) (kids_at g) [] 0 ≡ 0 ∷ next ∷ each (left_after more (kids_at g)) [] (kids_at g next) = ap (λ (ks : List ℕ). 0 ∷ each (left_after (suc more) (kids_at g)) [] ks) one in
-    ap (λ (xs : List ℕ). slice_index xs 1) (sym first ∙ numbered) ∙ index_upto (suc (suc more)) 1 (omega arith)
+    let first : left_after (suc (suc more)) (kids_at g) [] 0
+    ≡ 0 ∷ next ∷ each (left_after more (kids_at g)) [] (kids_at g next) =
+    ap (λ (ks : List ℕ). 0 ∷ each (left_after (suc more) (kids_at g)) [] ks) one in
+    ap (λ (xs : List ℕ). slice_index xs 1) (sym first ∙ numbered)
+    ∙ index_upto (suc (suc more)) 1 (omega arith)
 
 pub numbered_goes_on : NumberedGoesOn
 numbered_goes_on g ok numbered =
@@ -59,7 +64,9 @@ numbered_goes_on g ok numbered =
     let within = ok.within 0 (Begin ok.begin.0) 0 ok.begin.1 (omega arith) in
     let more : ℕ = length g - 2 in
     let e : length g ≡ suc (suc more) = omega arith in
-    let to : ok.begin.0 ≡ 1 = second g ok.begin.0 more ok.begin.1 (subst (λ (n : ℕ). left_after n (kids_at g) [] 0 ≡ upto n) e numbered) in
+    let to : ok.begin.0 ≡ 1 =
+    second g ok.begin.0 more ok.begin.1
+    (subst (λ (n : ℕ). left_after n (kids_at g) [] 0 ≡ upto n) e numbered) in
     record {
       begin = subst (λ (n : ℕ). slice_get g 0 ≡ Some (Begin n)) to ok.begin.1;
       only = ok.only_begin;

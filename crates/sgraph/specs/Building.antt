@@ -16,7 +16,8 @@ code_there (kid ∷ kids) = cond (kid == 0) (suc (code_there kids)) 0
 -- the nodes that follow on a node: a variable's children, a result's one child that isn't False
 abbrev pub next_in : ℕ → Option Node → List ℕ
 next_in n None = []
-next_in n (Some node) = cond (nat_lt node.var n) node.kids (slice_index node.kids (code_there node.kids) ∷ [])
+next_in n (Some node) =
+    cond (nat_lt node.var n) node.kids (slice_index node.kids (code_there node.kids) ∷ [])
 
 abbrev pub next_nodes : Diagrams → ℕ → ℕ → List ℕ
 next_nodes s n k = next_in n (inner_at s.nodes k)
@@ -32,7 +33,9 @@ number_in left k = suc (place left k)
 abbrev pub vertex_in : ℕ → (ℕ → ℕ) → Option Node → Vertex
 vertex_in n number None = End
 vertex_in n number (Some node) =
-    cond (nat_lt node.var n) (Test node.var (map number node.kids)) (Assign (node.var - n) (code_there node.kids) (number (slice_index node.kids (code_there node.kids))))
+    cond (nat_lt node.var n) (Test node.var (map number node.kids))
+    (Assign (node.var - n) (code_there node.kids)
+    (number (slice_index node.kids (code_there node.kids))))
 
 abbrev pub graph_of : Machine → Diagrams → ℕ → List Vertex
 graph_of m s root =

@@ -22,7 +22,8 @@ pub record IsDiagram (m : Machine) (s : Diagrams) (root : ℕ) : Type 0 where
 -- Each node that is reached and isn't False has a vertex of its own: a variable's node a test, a
 -- result's node the assignment of the code whose child isn't False, True the end. There are no
 -- others but the begin, and vertices come before their children's.
-pub record Built (m : Machine) (s : Diagrams) (root : ℕ) (g : List Vertex) (number : ℕ → ℕ) : Type 0 where
+pub record Built (m : Machine) (s : Diagrams) (root : ℕ) (g : List Vertex) (number : ℕ → ℕ) :
+    Type 0 where
   pub begin : slice_get g 0 ≡ Some (Begin (number root))
   pub end : slice_get g (number 1) ≡ Some End
   pub test :

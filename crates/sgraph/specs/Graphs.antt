@@ -155,7 +155,9 @@ each visit left (k ∷ ks) = each visit (visit left k) ks
 -- follows on k in order, and each thing once. No path is longer than the first number.
 abbrev pub left_after : ℕ → (ℕ → List ℕ) → List ℕ → ℕ → List ℕ
 left_after zero next left k = left
-left_after (suc more) next left k = elim (has left k) as (λ b. List ℕ) [ true ↦ left | false ↦ k ∷ each (left_after more next) left (next k) ]
+left_after (suc more) next left k =
+    elim (has left k) as (λ b. List ℕ)
+    [ true ↦ left | false ↦ k ∷ each (left_after more next) left (next k) ]
 
 -- The walk from the first vertex leaves all vertices, in the reverse of their order.
 abbrev pub Numbered : List Vertex → Type 0
@@ -171,7 +173,8 @@ depth n order (Some (Assign result code next)) = place order (n + result) + 1
 depth n order (Some End) = length order + 1
 
 abbrev pub deepens : ℕ → List ℕ → List Vertex → Vertex → Bool
-deepens n order g v = list_all (λ j. nat_lt (depth n order (Some v)) (depth n order (slice_get g j))) (kids_of v)
+deepens n order g v =
+    list_all (λ j. nat_lt (depth n order (Some v)) (depth n order (slice_get g j))) (kids_of v)
 
 -- each child's variable or result stands later in the order
 abbrev pub edges_rise : ℕ → List ℕ → List Vertex → Bool

@@ -22,7 +22,8 @@ pub record FitsMachine (m : Machine) (g : List Vertex) : Type 0 where
 -- a vertex that a graph of a machine with these variables and so many results may have
 abbrev pub fits_one : List ℕ → ℕ → Vertex → Bool
 fits_one vars results (Begin next) = true
-fits_one vars results (Test var kids) = nat_lt var (length vars) && length kids == slice_index vars var
+fits_one vars results (Test var kids) =
+    nat_lt var (length vars) && length kids == slice_index vars var
 fits_one vars results (Assign result code next) = nat_lt result results
 fits_one vars results End = true
 
@@ -35,7 +36,12 @@ pub record AreOfOne (g : List Vertex) (s : Snapshot) (o : Outcome) : Type 0 wher
 
 -- an outcome by the codes of `go`, of so many state variables and of the outputs
 abbrev pub outcome_with : ℕ → List ℕ → Outcome
-outcome_with states codes = record { fires = slice_index codes 0 == 1; next = take states (drop 1 codes); outs = drop states (drop 1 codes) }
+outcome_with states codes =
+    record {
+      fires = slice_index codes 0 == 1;
+      next = take states (drop 1 codes);
+      outs = drop states (drop 1 codes);
+    }
 
 -- `go`, the state variables and the outputs
 abbrev pub width_of : Outcome → ℕ
@@ -44,6 +50,9 @@ width_of o = 1 + length o.next + length o.outs
 -- the vertex of number k of so many, on the codes of a snapshot, with so many results
 abbrev pub MayWalk : ℕ → List ℕ → ℕ → ℕ → Vertex → Type 0
 MayWalk count s results k (Begin next) = (k < next) × (next < count)
-MayWalk count s results k (Test var kids) = (var < length s) × (slice_index s var < length kids) × (k < slice_index kids (slice_index s var)) × (slice_index kids (slice_index s var) < count)
-MayWalk count s results k (Assign result code next) = (result < results) × (k < next) × (next < count)
+MayWalk count s results k (Test var kids) =
+    (var < length s) × (slice_index s var < length kids)
+    × (k < slice_index kids (slice_index s var)) × (slice_index kids (slice_index s var) < count)
+MayWalk count s results k (Assign result code next) =
+    (result < results) × (k < next) × (next < count)
 MayWalk count s results k End = ⊤

@@ -28,7 +28,10 @@ pub record Join : Type 0 where
 
 -- what isn't so: vertices in another order, two equal vertices, a test whose children are one
 pub record Refused : Type 0 where
-  pub order : left_after 5 (kids_at (Begin 1 ∷ Test 0 (2 ∷ 3 ∷ []) ∷ Assign 0 1 4 ∷ Assign 0 0 4 ∷ End ∷ [])) [] 0 ≡ 0 ∷ 1 ∷ 3 ∷ 2 ∷ 4 ∷ []
-  pub twice : is_reduced (Begin 1 ∷ Test 0 (3 ∷ 2 ∷ []) ∷ Assign 0 1 4 ∷ Assign 0 1 4 ∷ End ∷ []) ≡ false
+  pub order : left_after 5
+      (kids_at (Begin 1 ∷ Test 0 (2 ∷ 3 ∷ []) ∷ Assign 0 1 4 ∷ Assign 0 0 4 ∷ End ∷ [])) [] 0
+      ≡ 0 ∷ 1 ∷ 3 ∷ 2 ∷ 4 ∷ []
+  pub twice : is_reduced (Begin 1 ∷ Test 0 (3 ∷ 2 ∷ []) ∷ Assign 0 1 4 ∷ Assign 0 1 4 ∷ End ∷ [])
+      ≡ false
   pub idle : is_reduced (Begin 1 ∷ Test 0 (2 ∷ 2 ∷ []) ∷ Assign 0 1 3 ∷ End ∷ []) ≡ false
   pub end : is_well_made (Begin 1 ∷ End ∷ Assign 0 1 1 ∷ []) ≡ false

@@ -26,7 +26,8 @@ use transition_table::Machine;
 fn numbers_of(alloc: Global, count: u64, left: &Nodes) -> Result<Places, NoMemory>
     requires { (i : ℕ) → i < length left.now → slice_index left.now i < count }
     ensures long { IfOk result (λ numbers. length numbers ≡ count) }
-    ensures each { IfOk result (λ numbers. (k : ℕ) → has (turned left.now) k ≡ true → slice_index numbers k ≡ number_in (turned left.now) k) }
+    ensures each { IfOk result (λ numbers. (k : ℕ) → has (turned left.now) k ≡ true
+        → slice_index numbers k ≡ number_in (turned left.now) k) }
 {
     let mut numbers = Places::filled(alloc, count, 0)?;
     let len = left.len();
@@ -63,7 +64,9 @@ fn test_vertex(
     requires var { var < length m.now.vars }
     requires sizes { store.now.sizes ≡ sizes_of m.now }
     requires numbers { length numbers.now ≡ length store.now.nodes + 2 }
-    ensures { IfOk result (λ v. v ≡ vertex_in (length m.now.vars) (slice_index numbers.now) (inner_at store.now.nodes k)) }
+    ensures { IfOk result
+        (λ v. v ≡ vertex_in (length m.now.vars) (slice_index numbers.now)
+        (inner_at store.now.nodes k)) }
 {
     store.same_value_same_node();
     let kids = next_list(alloc, m, store, k)?;
@@ -78,7 +81,8 @@ fn assign_vertex(m: &Machine, store: &Store, k: NodeId, var: u32, numbers: &Plac
     requires var { length m.now.vars ≤ var }
     requires sizes { store.now.sizes ≡ sizes_of m.now }
     requires numbers { length numbers.now ≡ length store.now.nodes + 2 }
-    ensures { result ≡ vertex_in (length m.now.vars) (slice_index numbers.now) (inner_at store.now.nodes k) }
+    ensures { result ≡ vertex_in (length m.now.vars) (slice_index numbers.now)
+        (inner_at store.now.nodes k) }
 {
     let code = first_code(m, store, k, var);
     let next = *numbers.get(store.child(k, code).number());
@@ -101,7 +105,9 @@ fn vertex(
     requires node { IsNode store.now k }
     requires sizes { store.now.sizes ≡ sizes_of m.now }
     requires numbers { length numbers.now ≡ length store.now.nodes + 2 }
-    ensures { IfOk result (λ v. v ≡ vertex_in (length m.now.vars) (slice_index numbers.now) (inner_at store.now.nodes k)) }
+    ensures { IfOk result
+        (λ v. v ≡ vertex_in (length m.now.vars) (slice_index numbers.now)
+        (inner_at store.now.nodes k)) }
 {
     match store.shape(k) {
         Shape::Inner { var } => {
@@ -124,10 +130,14 @@ fn vertices_of(
     left: &Nodes,
     numbers: &Places,
 ) -> Result<VertexList, NoMemory>
-    requires nodes { (i : ℕ) → i < length left.now → slice_index left.now i < length store.now.nodes + 2 }
+    requires nodes { (i : ℕ) → i < length left.now
+        → slice_index left.now i < length store.now.nodes + 2 }
     requires sizes { store.now.sizes ≡ sizes_of m.now }
     requires numbers { length numbers.now ≡ length store.now.nodes + 2 }
-    ensures { IfOk result (λ vertices. vertices ≡ Begin 1 ∷ map (λ k. vertex_in (length m.now.vars) (slice_index numbers.now) (inner_at store.now.nodes k)) (turned left.now)) }
+    ensures { IfOk result (λ vertices.
+        vertices ≡ Begin 1
+        ∷ map (λ k. vertex_in (length m.now.vars) (slice_index numbers.now)
+        (inner_at store.now.nodes k)) (turned left.now)) }
 {
     let mut vertices = VertexList::new(alloc);
     vertices.push(Vertex::Begin { next: 1 })?;
@@ -167,7 +177,8 @@ pub fn build(alloc: Global, m: &Machine, root: &Root, order: &Order) -> Result<G
     requires means { Means root.now.store root.now.node (char m.now) }
     ensures graph { IfOk result (λ g. g ≡ graph_of m.now root.now.store root.now.node) }
     ensures fits { IfOk result (λ g. FitsMachine m.now g) }
-    ensures evaluates { IfOk result (λ g. (s : List ℕ) → IsTrue (fits m.now.vars s) → Transition m.now (reading s) (Eval m.now g s)) }
+    ensures evaluates { IfOk result (λ g. (s : List ℕ) → IsTrue (fits m.now.vars s)
+        → Transition m.now (reading s) (Eval m.now g s)) }
     ensures ordered { IfOk result (λ g. Ordered (length m.now.vars) order.now g) }
     ensures once { IfOk result (λ g. Once g) }
     ensures reduced { IfOk result (λ g. Reduced g) }

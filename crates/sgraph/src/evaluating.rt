@@ -14,7 +14,9 @@ fn set_result(y: u32, code: u8, o: &mut Outcome)
     requires { y < width_of o.old }
     ensures next { length o.new.next ≡ length o.old.next }
     ensures outs { length o.new.outs ≡ length o.old.outs }
-    ensures set { (codes : List ℕ) → length codes ≡ width_of o.old → o.old ≡ outcome_with (length o.old.next) codes → o.new ≡ outcome_with (length o.old.next) (slice_set codes y code) }
+    ensures set { (codes : List ℕ) → length codes ≡ width_of o.old
+        → o.old ≡ outcome_with (length o.old.next) codes
+        → o.new ≡ outcome_with (length o.old.next) (slice_set codes y code) }
 {
     if y == 0 {
         o.fires = code == 1;
@@ -35,7 +37,9 @@ fn step(v: &Vertex, at: u64, count: u64, s: &Snapshot, o: &mut Outcome) -> Optio
     ensures leads { result ≡ next_of s.now.codes at v.now }
     ensures next { length o.new.next ≡ length o.old.next }
     ensures outs { length o.new.outs ≡ length o.old.outs }
-    ensures set { (codes : List ℕ) → length codes ≡ width_of o.old → o.old ≡ outcome_with (length o.old.next) codes → o.new ≡ outcome_with (length o.old.next) (assign codes v.now) }
+    ensures set { (codes : List ℕ) → length codes ≡ width_of o.old
+        → o.old ≡ outcome_with (length o.old.next) codes
+        → o.new ≡ outcome_with (length o.old.next) (assign codes v.now) }
 {
     match v {
         Vertex::Begin { next } => Some(*next),

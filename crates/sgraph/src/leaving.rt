@@ -78,7 +78,8 @@ fn one_kid(
     requires node { IsNode store.now k }
     requires shape { shape_of store.now k ≡ Inner var }
     requires sizes { store.now.sizes ≡ sizes_of m.now }
-    ensures { IfOk result (λ kids. kids ≡ slice_index (kids_of store.now k) (code_there (kids_of store.now k)) ∷ []) }
+    ensures { IfOk result (λ kids. kids
+        ≡ slice_index (kids_of store.now k) (code_there (kids_of store.now k)) ∷ []) }
 {
     let mut kids = Nodes::new(alloc);
     kids.push(store.child(k, first_code(m, store, k, var)))?;
@@ -121,7 +122,8 @@ pub(crate) fn leave(
     requires node { IsNode store.now k }
     requires sizes { store.now.sizes ≡ sizes_of m.now }
     requires marks { Marks store.now marks.old left.old }
-    ensures left { OnOk result (turned left.new ≡ left_after (suc k) (next_nodes store.now (length m.now.vars)) (turned left.old) k) }
+    ensures left { OnOk result (turned left.new
+        ≡ left_after (suc k) (next_nodes store.now (length m.now.vars)) (turned left.old) k) }
     ensures marks { OnOk result (Marks store.now marks.new left.new) }
 {
     store.same_value_same_node();
@@ -146,7 +148,8 @@ pub(crate) fn all_left(
 ) -> Result<Nodes, NoMemory>
     requires node { IsNode store.now root }
     requires sizes { store.now.sizes ≡ sizes_of m.now }
-    ensures { IfOk result (λ left. turned left ≡ left_after (suc root) (next_nodes store.now (length m.now.vars)) [] root) }
+    ensures { IfOk result (λ left. turned left
+        ≡ left_after (suc root) (next_nodes store.now (length m.now.vars)) [] root) }
 {
     let mut marks = List::filled(alloc, store.node_count(), false)?;
     let mut left = Nodes::new(alloc);

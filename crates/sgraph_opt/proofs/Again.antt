@@ -26,12 +26,14 @@ kids_vertex : (o : Option Vertex) → kids_of (unwrap_or o End) ≡ kids_in o
 kids_vertex None = refl
 kids_vertex (Some v) = refl
 
-pub got_map : (f : ℕ → Vertex) (xs : List ℕ) (i : ℕ) → i < length xs → slice_get (map f xs) i ≡ Some (f (slice_index xs i))
+pub got_map : (f : ℕ → Vertex) (xs : List ℕ) (i : ℕ) → i < length xs
+    → slice_get (map f xs) i ≡ Some (f (slice_index xs i))
 got_map f [] i low = absurd (omega arith)
 got_map f (x ∷ xs) zero low = refl
 got_map f (x ∷ xs) (suc i) low = got_map f xs i (omega arith)
 
-pub got_none : (f : ℕ → Vertex) (xs : List ℕ) (i : ℕ) → length xs ≤ i → slice_get (map f xs) i ≡ None
+pub got_none : (f : ℕ → Vertex) (xs : List ℕ) (i : ℕ) → length xs ≤ i
+    → slice_get (map f xs) i ≡ None
 got_none f [] i high = refl
 got_none f (x ∷ xs) zero high = absurd (omega arith)
 got_none f (x ∷ xs) (suc i) high = got_none f xs i (omega arith)
@@ -44,7 +46,8 @@ pub long_map : (f : ℕ → ℕ) (xs : List ℕ) → length (map f xs) ≡ lengt
 long_map f [] = refl
 long_map f (x ∷ xs) = ap suc (long_map f xs)
 
-pub index_map : (f : ℕ → ℕ) (xs : List ℕ) (j : ℕ) → j < length xs → slice_index (map f xs) j ≡ f (slice_index xs j)
+pub index_map : (f : ℕ → ℕ) (xs : List ℕ) (j : ℕ) → j < length xs
+    → slice_index (map f xs) j ≡ f (slice_index xs j)
 index_map f [] j low = absurd (omega arith)
 index_map f (x ∷ xs) zero low = refl
 index_map f (x ∷ xs) (suc j) low = index_map f xs j (omega arith)
@@ -57,7 +60,8 @@ long_upto : (n : ℕ) → length (upto n) ≡ n
 long_upto zero = refl
 long_upto (suc n) = long_push (upto n) n ∙ ap suc (long_upto n)
 
-index_append : (xs ys : List ℕ) (j : ℕ) → j < length xs → slice_index (xs ++ ys) j ≡ slice_index xs j
+index_append : (xs ys : List ℕ) (j : ℕ) → j < length xs
+    → slice_index (xs ++ ys) j ≡ slice_index xs j
 index_append [] ys j low = absurd (omega arith)
 index_append (x ∷ xs) ys zero low = refl
 index_append (x ∷ xs) ys (suc j) low = index_append xs ys j (omega arith)
@@ -72,14 +76,16 @@ index_upto (suc n) j low =
     let l = long_upto n in
     ⊎_elim
     (λ less. index_append (upto n) (n ∷ []) j (omega arith) ∙ index_upto n j less)
-    (λ more. let e : j ≡ length (upto n) = omega arith in let f : n ≡ j = omega arith in ap (slice_index (upto n ++ n ∷ [])) e ∙ index_last (upto n) n ∙ f)
+    (λ more. let e : j ≡ length (upto n) = omega arith in let f : n ≡ j = omega arith in
+    ap (slice_index (upto n ++ n ∷ [])) e ∙ index_last (upto n) n ∙ f)
     (cases_lt j n)
 
 pub at_place : (xs : List ℕ) (v : ℕ) → place xs v < length xs → slice_index xs (place xs v) ≡ v
 at_place [] v low = absurd (omega arith)
 at_place (x ∷ xs) v low =
     ⊎_elim
-    (λ own. ap (λ (b : Bool). slice_index (x ∷ xs) (cond b 0 (place xs v + 1))) own ∙ eqb-true x v own)
+    (λ own. ap (λ (b : Bool). slice_index (x ∷ xs) (cond b 0 (place xs v + 1))) own
+    ∙ eqb-true x v own)
     (λ other.
     let e = ap (λ (b : Bool). cond b 0 (place xs v + 1)) other in
     let f : cond (eqb x v) 0 (place xs v + 1) ≡ suc (place xs v) = omega arith in
@@ -105,32 +111,44 @@ module _ (h : List Vertex) (some : 0 < length h) (rises : Rises h) where
   pub first_there : has (all_left h) 0 ≡ true
   first_there = (visit_beyond (kids_at h) (length h) rises (length h) [] 0 (omega arith) some).here
 
-  kids_number : (k : ℕ) → has (all_left h) k ≡ true → kids_at (numbered_of h) (place (all_left h) k) ≡ map (place (all_left h)) (kids_at h k)
+  kids_number : (k : ℕ) → has (all_left h) k ≡ true
+      → kids_at (numbered_of h) (place (all_left h) k) ≡ map (place (all_left h)) (kids_at h k)
   kids_number k there =
       let low = in_place next left k there in
-      ap kids_in (got_map vertex left (place left k) low ∙ ap (λ (j : ℕ). Some (renamed (place (all_left h)) (vertex_at h j))) (at_place left k low))
+      ap kids_in (got_map vertex left (place left k) low
+      ∙ ap (λ (j : ℕ). Some (renamed (place (all_left h)) (vertex_at h j)))
+      (at_place left k low))
       ∙ kids_renamed number (vertex_at h k)
       ∙ ap (map (place (all_left h))) (kids_vertex (slice_get h k))
 
-  pub same : (a b : ℕ) → has (all_left h) a ≡ true → has (all_left h) b ≡ true → place (all_left h) a ≡ place (all_left h) b → a ≡ b
+  pub same : (a b : ℕ) → has (all_left h) a ≡ true → has (all_left h) b ≡ true
+      → place (all_left h) a ≡ place (all_left h) b → a ≡ b
   same a b in_a in_b e =
-      sym (at_place left a (in_place next left a in_a)) ∙ ap (slice_index left) e ∙ at_place left b (in_place next left b in_b)
+      sym (at_place left a (in_place next left a in_a)) ∙ ap (slice_index left) e
+      ∙ at_place left b (in_place next left b in_b)
 
-  pub again_rises : (k i : ℕ) → i < length (kids_at (numbered_of h) k) → (k < slice_index (kids_at (numbered_of h) k) i) × (slice_index (kids_at (numbered_of h) k) i < length (all_left h))
+  pub again_rises : (k i : ℕ) → i < length (kids_at (numbered_of h) k)
+      → (k < slice_index (kids_at (numbered_of h) k) i)
+      × (slice_index (kids_at (numbered_of h) k) i < length (all_left h))
   again_rises k i low =
       ⊎_elim
       (λ inside.
       let x = slice_index left k in
       let there = has_at next left k inside in
       let own : place left x ≡ k = place_at next left k closed inside in
-      let kids : kids_at (numbered_of h) k ≡ map number (next x) = ap (kids_at (numbered_of h)) (sym own) ∙ kids_number x there in
-      let long : length (kids_at (numbered_of h) k) ≡ length (next x) = ap (λ (ks : List ℕ). length ks) kids ∙ long_map number (next x) in
+      let kids : kids_at (numbered_of h) k ≡ map number (next x) =
+      ap (kids_at (numbered_of h)) (sym own) ∙ kids_number x there in
+      let long : length (kids_at (numbered_of h) k) ≡ length (next x) =
+      ap (λ (ks : List ℕ). length ks) kids ∙ long_map number (next x) in
       let step = closed_next next left x i closed there (omega arith) in
       let later : place left x < place left (slice_index (next x) i) = step.1 in
-      let kid : slice_index (kids_at (numbered_of h) k) i ≡ place left (slice_index (next x) i) = ap (λ (ks : List ℕ). slice_index ks i) kids ∙ index_map number (next x) i (omega arith) in
+      let kid : slice_index (kids_at (numbered_of h) k) i ≡ place left (slice_index (next x) i) =
+      ap (λ (ks : List ℕ). slice_index ks i) kids ∙ index_map number (next x) i (omega arith) in
       let bound = in_place next left (slice_index (next x) i) step.0 in
       (omega arith, omega arith))
-      (λ outside. absurd (let e : length (kids_at (numbered_of h) k) ≡ 0 = ap (λ (o : Option Vertex). length (kids_in o)) (got_none vertex left k outside) in omega arith))
+      (λ outside. absurd (let e : length (kids_at (numbered_of h) k)
+      ≡ 0 = ap (λ (o : Option Vertex). length (kids_in o)) (got_none vertex left k outside) in
+      omega arith))
       (cases_lt k (length left))
 
   numbers : map (place (all_left h)) (all_left h) ≡ upto (length (all_left h))
@@ -138,7 +156,8 @@ module _ (h : List Vertex) (some : 0 < length h) (rises : Rises h) where
       let long = long_map number left in
       let total = long_upto (length left) in
       same_number_lists (map number left) (upto (length left)) (omega arith) (λ i low.
-      index_map number left i (omega arith) ∙ place_at next left i closed (omega arith) ∙ sym (index_upto (length left) i (omega arith)))
+      index_map number left i (omega arith) ∙ place_at next left i closed (omega arith)
+      ∙ sym (index_upto (length left) i (omega arith)))
 
   pub first_zero : place (all_left h) 0 ≡ 0
   first_zero = go (length h) some
@@ -153,12 +172,17 @@ module _ (h : List Vertex) (some : 0 < length h) (rises : Rises h) where
       let fuel : ℕ = length h + count in
       let long : length (numbered_of h) ≡ count = long_vertices vertex left in
       let there = in_place next left 0 first_there in
-      let inner = renamed_walk next (kids_at (numbered_of h)) number (λ k. has left k ≡ true) (λ a b in_a in_b e. same a b in_a in_b e) (λ k in_k. kids_number k in_k) (λ k i in_k low. (closed_next next left k i closed in_k low).0) fuel [] 0 tt first_there in
+      let inner = renamed_walk next (kids_at (numbered_of h)) number (λ k. has left k ≡ true)
+      (λ a b in_a in_b e. same a b in_a in_b e) (λ k in_k. kids_number k in_k)
+      (λ k i in_k low. (closed_next next left k i closed in_k low).0) fuel [] 0 tt
+      first_there in
       ap (λ (n : ℕ). left_after n (kids_at (numbered_of h)) [] 0) long
-      ∙ enough (kids_at (numbered_of h)) count again_rises count fuel [] 0 (omega arith) (omega arith) (omega arith)
+      ∙ enough (kids_at (numbered_of h)) count again_rises count fuel [] 0 (omega arith)
+      (omega arith) (omega arith)
       ∙ ap (left_after fuel (kids_at (numbered_of h)) []) (sym first_zero)
       ∙ inner.0
-      ∙ ap (map number) (enough next (length h) rises fuel (length h) [] 0 (omega arith) (omega arith) some)
+      ∙ ap (map number)
+      (enough next (length h) rises fuel (length h) [] 0 (omega arith) (omega arith) some)
       ∙ numbers
       ∙ ap upto (sym long)
 
@@ -167,7 +191,8 @@ pub map_map : (f to : ℕ → ℕ) (xs : List ℕ) → map f (map to xs) ≡ map
 map_map f to [] = refl
 map_map f to (x ∷ xs) = ap (λ (ns : List ℕ). f (to x) ∷ ns) (map_map f to xs)
 
-pub every_at : (P : ℕ → Type 0) (xs : List ℕ) (i : ℕ) → Every P xs → i < length xs → P (slice_index xs i)
+pub every_at : (P : ℕ → Type 0) (xs : List ℕ) (i : ℕ) → Every P xs → i < length xs
+    → P (slice_index xs i)
 every_at P [] i all low = absurd (omega arith)
 every_at P (x ∷ xs) zero all low = all.0
 every_at P (x ∷ xs) (suc i) all low = every_at P xs i all.1 (omega arith)
@@ -177,26 +202,37 @@ below [] n v e = cc
 below (w ∷ vs) zero v e = omega arith
 below (w ∷ vs) (suc n) v e = let r = below vs n v e in omega arith
 
-module _ (g h : List Vertex) (to : ℕ → ℕ) (some : 0 < length h) (rises : Rises h) (numbered : Numbered g) (shrinks : Shrinks g h to) (first : to 0 ≡ 0) (begins : (k next : ℕ) → slice_get g k ≡ Some (Begin next) → k ≡ 0) where
+module _ (g h : List Vertex) (to : ℕ → ℕ) (some : 0 < length h) (rises : Rises h)
+    (numbered : Numbered g) (shrinks : Shrinks g h to) (first : to 0 ≡ 0) (begins : (k next : ℕ)
+    → slice_get g k ≡ Some (Begin next) → k ≡ 0) where
   -- a kid of what stands for a vertex is left
-  on_kid : (k i : ℕ) (v : Vertex) (kids : List ℕ) → has (all_left h) (to k) ≡ true → slice_get h (to k) ≡ Some v → kids_of v ≡ map to kids → i < length kids → has (all_left h) (to (slice_index kids i)) ≡ true
+  on_kid : (k i : ℕ) (v : Vertex) (kids : List ℕ) → has (all_left h) (to k) ≡ true
+      → slice_get h (to k) ≡ Some v → kids_of v ≡ map to kids → i < length kids
+      → has (all_left h) (to (slice_index kids i)) ≡ true
   on_kid k i v kids there is e low =
       let same : kids_at h (to k) ≡ map to kids = ap kids_in is ∙ e in
-      let long : length (kids_at h (to k)) ≡ length kids = ap (λ (ks : List ℕ). length ks) same ∙ long_map to kids in
-      let step = closed_next (kids_at h) (all_left h) (to k) i (closed h some rises) there (omega arith) in
-      subst (λ (j : ℕ). has (all_left h) j ≡ true) (ap (λ (ks : List ℕ). slice_index ks i) same ∙ index_map to kids i low) step.0
+      let long : length (kids_at h (to k)) ≡ length kids =
+      ap (λ (ks : List ℕ). length ks) same ∙ long_map to kids in
+      let step = closed_next (kids_at h) (all_left h) (to k) i (closed h some rises) there
+      (omega arith) in
+      subst (λ (j : ℕ). has (all_left h) j ≡ true)
+      (ap (λ (ks : List ℕ). slice_index ks i) same ∙ index_map to kids i low) step.0
 
-  inside : (k i : ℕ) → has (all_left h) (to k) ≡ true → i < length (kids_at g k) → has (all_left h) (to (slice_index (kids_at g k) i)) ≡ true
+  inside : (k i : ℕ) → has (all_left h) (to k) ≡ true → i < length (kids_at g k)
+      → has (all_left h) (to (slice_index (kids_at g k) i)) ≡ true
   inside k i there low = go (slice_get g k) refl low
     where
       only_first : (n : ℕ) → n < 1 → n ≡ 0
       only_first n less = omega arith
 
-      go : (o : Option Vertex) → slice_get g k ≡ o → i < length (kids_in o) → has (all_left h) (to (slice_index (kids_in o) i)) ≡ true
+      go : (o : Option Vertex) → slice_get g k ≡ o → i < length (kids_in o)
+          → has (all_left h) (to (slice_index (kids_in o) i)) ≡ true
       go None is low = absurd (omega arith)
       go (Some (Begin next)) is low =
           let zero_k = begins k next is in
-          let at : slice_get h (to k) ≡ Some (Begin (to next)) = ap (λ (j : ℕ). slice_get h (to j)) zero_k ∙ ap (slice_get h) first ∙ shrinks.begin next (ap (slice_get g) (sym zero_k) ∙ is) in
+          let at : slice_get h (to k) ≡ Some (Begin (to next)) =
+          ap (λ (j : ℕ). slice_get h (to j)) zero_k ∙ ap (slice_get h) first
+          ∙ shrinks.begin next (ap (slice_get g) (sym zero_k) ∙ is) in
           on_kid k i (Begin (to next)) (next ∷ []) there at refl low
       go (Some (Test var kids)) is low =
           ⊎_elim
@@ -206,39 +242,51 @@ module _ (g h : List Vertex) (to : ℕ → ℕ) (some : 0 < length h) (rises : R
       go (Some (Assign result code next)) is low =
           ⊎_elim
           (λ real. on_kid k i (Assign result code (to next)) (next ∷ []) there real refl low)
-          (λ left. subst (λ (n : ℕ). has (all_left h) (to (slice_index (next ∷ []) n)) ≡ true) (sym (only_first i low)) (subst (λ (j : ℕ). has (all_left h) j ≡ true) (sym left.1) there))
+          (λ left. subst (λ (n : ℕ). has (all_left h) (to (slice_index (next ∷ []) n)) ≡ true)
+          (sym (only_first i low))
+          (subst (λ (j : ℕ). has (all_left h) j ≡ true) (sym left.1) there))
           (shrinks.assign k result code next is)
       go (Some End) is low = absurd (omega arith)
 
   -- what stands for each vertex is left
   pub all_there : (k : ℕ) → k < length g → has (all_left h) (to k) ≡ true
   all_there k low =
-      let every = every_left (kids_at g) (λ j. has (all_left h) (to j) ≡ true) inside (length g) [] 0 tt (ap (has (all_left h)) first ∙ first_there h some rises) in
-      let each : Every (λ j. has (all_left h) (to j) ≡ true) (upto (length g)) = subst (Every (λ j. has (all_left h) (to j) ≡ true)) numbered every in
+      let every = every_left (kids_at g) (λ j. has (all_left h) (to j) ≡ true) inside (length g) []
+      0 tt (ap (has (all_left h)) first ∙ first_there h some rises) in
+      let each : Every (λ j. has (all_left h) (to j) ≡ true) (upto (length g)) =
+      subst (Every (λ j. has (all_left h) (to j) ≡ true)) numbered every in
       let long = long_upto (length g) in
-      subst (λ (j : ℕ). has (all_left h) (to j) ≡ true) (index_upto (length g) k low) (every_at (λ j. has (all_left h) (to j) ≡ true) (upto (length g)) k each (omega arith))
+      subst (λ (j : ℕ). has (all_left h) (to j) ≡ true) (index_upto (length g) k low)
+      (every_at (λ j. has (all_left h) (to j) ≡ true) (upto (length g)) k each (omega arith))
 
   -- a vertex in its new place
-  in_new : (k : ℕ) (v : Vertex) → has (all_left h) k ≡ true → slice_get h k ≡ Some v → slice_get (numbered_of h) (place (all_left h) k) ≡ Some (renamed (place (all_left h)) v)
+  in_new : (k : ℕ) (v : Vertex) → has (all_left h) k ≡ true → slice_get h k ≡ Some v
+      → slice_get (numbered_of h) (place (all_left h) k) ≡ Some (renamed (place (all_left h)) v)
   in_new k v there is =
       let low = in_place (kids_at h) (all_left h) k there in
-      got_map (λ j. renamed (place (all_left h)) (vertex_at h j)) (all_left h) (place (all_left h) k) low
-      ∙ ap (λ (j : ℕ). Some (renamed (place (all_left h)) (vertex_at h j))) (at_place (all_left h) k low)
+      got_map (λ j. renamed (place (all_left h)) (vertex_at h j)) (all_left h)
+      (place (all_left h) k) low
+      ∙ ap (λ (j : ℕ). Some (renamed (place (all_left h)) (vertex_at h j)))
+      (at_place (all_left h) k low)
       ∙ ap (λ (o : Option Vertex). Some (renamed (place (all_left h)) (unwrap_or o End))) is
 
   pub shrinks_again : Shrinks g (numbered_of h) (λ k. place (all_left h) (to k))
   shrinks_again = record {
     begin = λ next is.
         let e = in_new 0 (Begin (to next)) (first_there h some rises) (shrinks.begin next is) in
-        subst (λ (n : ℕ). slice_get (numbered_of h) n ≡ Some (Begin (place (all_left h) (to next)))) (first_zero h some rises) e;
+        subst (λ (n : ℕ). slice_get (numbered_of h) n ≡ Some (Begin (place (all_left h) (to next))))
+        (first_zero h some rises) e;
     test = λ k var kids is.
         ⊎_elim
-        (λ real. inl (in_new (to k) (Test var (map to kids)) (all_there k (below g k (Test var kids) is)) real ∙ ap (λ (ks : List ℕ). Some (Test var ks)) (map_map (place (all_left h)) to kids)))
+        (λ real. inl (in_new (to k) (Test var (map to kids))
+        (all_there k (below g k (Test var kids) is)) real
+        ∙ ap (λ (ks : List ℕ). Some (Test var ks)) (map_map (place (all_left h)) to kids)))
         (λ idle. inr (λ i low. ap (place (all_left h)) (idle i low)))
         (shrinks.test k var kids is);
     assign = λ k result code next is.
         ⊎_elim
-        (λ real. inl (in_new (to k) (Assign result code (to next)) (all_there k (below g k (Assign result code next) is)) real))
+        (λ real. inl (in_new (to k) (Assign result code (to next))
+        (all_there k (below g k (Assign result code next) is)) real))
         (λ left. inr (left.0, ap (place (all_left h)) left.1))
         (shrinks.assign k result code next is);
     end = λ k is. in_new (to k) End (all_there k (below g k End is)) (shrinks.end k is);

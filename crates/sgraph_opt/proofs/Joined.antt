@@ -18,24 +18,33 @@ use Rattle.sgraph_opt.proofs.Standing.{got, below, set_here, set_there, same_ren
 -- ---- vertices as lists of numbers
 pub same_vertex : (u v : Vertex) → key_of u ≡ key_of v → u ≡ v
 same_vertex (Begin next) (Begin other) e = let f = ap (λ xs. slice_index xs 1) e in ap Begin f
-same_vertex (Begin next) (Test var kids) e = absurd (let f = ap (λ xs. slice_index xs 0) e in omega arith)
-same_vertex (Begin next) (Assign result code other) e = absurd (let f = ap (λ xs. slice_index xs 0) e in omega arith)
+same_vertex (Begin next) (Test var kids) e =
+    absurd (let f = ap (λ xs. slice_index xs 0) e in omega arith)
+same_vertex (Begin next) (Assign result code other) e =
+    absurd (let f = ap (λ xs. slice_index xs 0) e in omega arith)
 same_vertex (Begin next) End e = absurd (let f = ap (λ xs. slice_index xs 0) e in omega arith)
-same_vertex (Test var kids) (Begin next) e = absurd (let f = ap (λ xs. slice_index xs 0) e in omega arith)
-same_vertex (Test var kids) (Test var' kids') e = let f : var ≡ var' = ap (λ xs. slice_index xs 1) e in let g : kids ≡ kids' = ap (drop 2) e in cc
-same_vertex (Test var kids) (Assign result code other) e = absurd (let f = ap (λ xs. slice_index xs 0) e in omega arith)
+same_vertex (Test var kids) (Begin next) e =
+    absurd (let f = ap (λ xs. slice_index xs 0) e in omega arith)
+same_vertex (Test var kids) (Test var' kids') e = let f : var ≡ var' =
+    ap (λ xs. slice_index xs 1) e in let g : kids ≡ kids' = ap (drop 2) e in cc
+same_vertex (Test var kids) (Assign result code other) e =
+    absurd (let f = ap (λ xs. slice_index xs 0) e in omega arith)
 same_vertex (Test var kids) End e = absurd (let f = ap (λ xs. slice_index xs 0) e in omega arith)
-same_vertex (Assign result code next) (Begin other) e = absurd (let f = ap (λ xs. slice_index xs 0) e in omega arith)
-same_vertex (Assign result code next) (Test var kids) e = absurd (let f = ap (λ xs. slice_index xs 0) e in omega arith)
+same_vertex (Assign result code next) (Begin other) e =
+    absurd (let f = ap (λ xs. slice_index xs 0) e in omega arith)
+same_vertex (Assign result code next) (Test var kids) e =
+    absurd (let f = ap (λ xs. slice_index xs 0) e in omega arith)
 same_vertex (Assign result code next) (Assign result' code' next') e =
     let f : result ≡ result' = ap (λ xs. slice_index xs 1) e in
     let g : code ≡ code' = ap (λ xs. slice_index xs 2) e in
     let h : next ≡ next' = ap (λ xs. slice_index xs 3) e in
     cc
-same_vertex (Assign result code next) End e = absurd (let f = ap (λ xs. slice_index xs 0) e in omega arith)
+same_vertex (Assign result code next) End e =
+    absurd (let f = ap (λ xs. slice_index xs 0) e in omega arith)
 same_vertex End (Begin other) e = absurd (let f = ap (λ xs. slice_index xs 0) e in omega arith)
 same_vertex End (Test var kids) e = absurd (let f = ap (λ xs. slice_index xs 0) e in omega arith)
-same_vertex End (Assign result code next) e = absurd (let f = ap (λ xs. slice_index xs 0) e in omega arith)
+same_vertex End (Assign result code next) e =
+    absurd (let f = ap (λ xs. slice_index xs 0) e in omega arith)
 same_vertex End End e = refl
 
 same_some : {X : Type 0} (o : Option X) (a b : X) → o ≡ Some a → o ≡ Some b → a ≡ b
@@ -45,7 +54,9 @@ not_none : {X : Type 0} (o : Option X) (a : X) → o ≡ None → o ≡ Some a �
 not_none o a p q = cc
 
 -- ---- one more vertex
-module _ (g : List Vertex) (ok : IsGraph g) (reps more : List ℕ) (old new : BTreeMap (Vec ℕ Global) ℕ) (i k r : ℕ) (s : Sharing g reps old i) (at : i ≡ k + 1) (v : Vertex) (is : slice_get g k ≡ Some v) (set : more ≡ slice_set reps k r) where
+module _ (g : List Vertex) (ok : IsGraph g) (reps more : List ℕ)
+    (old new : BTreeMap (Vec ℕ Global) ℕ) (i k r : ℕ) (s : Sharing g reps old i) (at : i ≡ k + 1)
+    (v : Vertex) (is : slice_get g k ≡ Some v) (set : more ≡ slice_set reps k r) where
   abbrev to : ℕ → ℕ
   to = slice_index reps
 
@@ -53,16 +64,23 @@ module _ (g : List Vertex) (ok : IsGraph g) (reps more : List ℕ) (old new : BT
   low = below g k v is
 
   apart : (j : ℕ) → k < j → slice_index reps j ≡ slice_index more j
-  apart j up = sym (ap (λ (xs : List ℕ). slice_index xs j) set ∙ set_there reps k j r (λ f. absurd (omega arith)))
+  apart j up = sym (ap (λ (xs : List ℕ). slice_index xs j) set
+      ∙ set_there reps k j r (λ f. absurd (omega arith)))
 
   read : slice_index more k ≡ r
-  read = let own = s.stands.long in let l = low in ap (λ (xs : List ℕ). slice_index xs k) set ∙ set_here reps k r (omega arith)
+  read = let own = s.stands.long in let l = low in
+      ap (λ (xs : List ℕ). slice_index xs k) set ∙ set_here reps k r (omega arith)
 
-  same_names : (j : ℕ) (w : Vertex) → k ≤ j → slice_get g j ≡ Some w → renamed (slice_index reps) w ≡ renamed (slice_index more) w
-  same_names j w high is_w = same_renamed (slice_index reps) (slice_index more) w (later_kids g ok (slice_index reps) (slice_index more) j w is_w (λ l up. apart l (omega arith)))
+  same_names : (j : ℕ) (w : Vertex) → k ≤ j → slice_get g j ≡ Some w
+      → renamed (slice_index reps) w ≡ renamed (slice_index more) w
+  same_names j w high is_w =
+      same_renamed (slice_index reps) (slice_index more) w
+      (later_kids g ok (slice_index reps) (slice_index more) j w is_w
+      (λ l up. apart l (omega arith)))
 
   -- what the index had it still has of
-  moved_has : (key : List ℕ) (x : ℕ) → Has g (slice_index reps) i x key → Has g (slice_index more) k x key
+  moved_has : (key : List ℕ) (x : ℕ) → Has g (slice_index reps) i x key
+      → Has g (slice_index more) k x key
   moved_has key x h =
       let from = h.from in
       record {
@@ -75,7 +93,8 @@ module _ (g : List Vertex) (ok : IsGraph g) (reps more : List ℕ) (old new : BT
       }
 
   -- and what it has of now it had before, or it is the new vertex
-  back_has : (key : List ℕ) (x : ℕ) → Has g (slice_index more) k x key → (x ≡ k) ⊎ Has g (slice_index reps) i x key
+  back_has : (key : List ℕ) (x : ℕ) → Has g (slice_index more) k x key
+      → (x ≡ k) ⊎ Has g (slice_index reps) i x key
   back_has key x h =
       let from = h.from in
       ⊎_elim
@@ -95,11 +114,15 @@ module _ (g : List Vertex) (ok : IsGraph g) (reps more : List ℕ) (old new : BT
       above : (a b : ℕ) → a ≤ b → (a ≡ b → ⊥) → a < b
       above a b less other = omega (arith, other)
 
-  -- what is known where the vertex is met again, or passed over: it doesn't stand for itself, or is the begin or the end
-  passed : IsRep g (slice_index reps) k r v → Same old new → (r ≡ k → is_inner v ≡ false) → (r ≡ k → varies (renamed (slice_index reps) v) ≡ true) → Sharing g more new k
+  -- what is known where the vertex is met again, or passed over: it doesn't stand for itself, or is
+  -- the begin or the end
+  passed : IsRep g (slice_index reps) k r v → Same old new → (r ≡ k → is_inner v ≡ false)
+      → (r ≡ k → varies (renamed (slice_index reps) v) ≡ true) → Sharing g more new k
   passed rep same outer vary =
       record {
-        stands = standing_more g ok reps more i k r s.stands at low (λ w is_w. subst (IsRep g (slice_index reps) k r) (same_some (slice_get g k) v w is is_w) rep) set;
+        stands = standing_more g ok reps more i k r s.stands at low
+            (λ w is_w. subst (IsRep g (slice_index reps) k r)
+            (same_some (slice_get g k) v w is is_w) rep) set;
         vary = λ j w high is_w own. vary_all vary j w high is_w own;
         met = λ key x h. moved_has key x (s.met key x (sym (same key) ∙ h));
         all = λ key x h.
@@ -110,7 +133,8 @@ module _ (g : List Vertex) (ok : IsGraph g) (reps more : List ℕ) (old new : BT
             (back_has key x h);
       }
     where
-      inner_k : (r ≡ k → is_inner v ≡ false) → (key : List ℕ) (x : ℕ) → x ≡ k → Has g (slice_index more) k x key → ⊥
+      inner_k : (r ≡ k → is_inner v ≡ false) → (key : List ℕ) (x : ℕ) → x ≡ k
+          → Has g (slice_index more) k x key → ⊥
       inner_k outer key x here h =
           let at_k : slice_get g k ≡ Some h.vertex = ap (slice_get g) (sym here) ∙ h.is in
           let one : v ≡ h.vertex = same_some (slice_get g k) v h.vertex is at_k in
@@ -120,38 +144,52 @@ module _ (g : List Vertex) (ok : IsGraph g) (reps more : List ℕ) (old new : BT
           false_true : false ≡ true → ⊥
           false_true e = cc
 
-      vary_all : (r ≡ k → varies (renamed (slice_index reps) v) ≡ true) → (j : ℕ) (w : Vertex) → k ≤ j → slice_get g j ≡ Some w → slice_index more j ≡ j → varies (renamed (slice_index more) w) ≡ true
+      vary_all : (r ≡ k → varies (renamed (slice_index reps) v) ≡ true) → (j : ℕ) (w : Vertex)
+          → k ≤ j → slice_get g j ≡ Some w → slice_index more j ≡ j
+          → varies (renamed (slice_index more) w) ≡ true
       vary_all vary j w high is_w own =
           ⊎_elim
           (λ here.
           let at_k : slice_get g k ≡ Some w = ap (slice_get g) here ∙ is_w in
           let one : v ≡ w = same_some (slice_get g k) v w is at_k in
           let own_k : r ≡ k = sym read ∙ ap (slice_index more) here ∙ own ∙ sym here in
-          sym (ap varies (same_names j w high is_w)) ∙ sym (ap (λ (u : Vertex). varies (renamed (slice_index reps) u)) one) ∙ vary own_k)
+          sym (ap varies (same_names j w high is_w))
+          ∙ sym (ap (λ (u : Vertex). varies (renamed (slice_index reps) u)) one) ∙ vary own_k)
           (λ other.
           let up : k < j = above k j high other in
-          sym (ap varies (same_names j w high is_w)) ∙ s.vary j w (omega arith) is_w (apart j up ∙ own))
+          sym (ap varies (same_names j w high is_w))
+          ∙ s.vary j w (omega arith) is_w (apart j up ∙ own))
           (cases_eq k j)
         where
           above : (a b : ℕ) → a ≤ b → (a ≡ b → ⊥) → a < b
           above a b less other = omega (arith, other)
 
   -- a vertex that is new to the index
-  entered : is_inner v ≡ true → varies (renamed (slice_index reps) v) ≡ true → IsRep g (slice_index reps) k k v → found old (key_of (renamed (slice_index reps) v)) ≡ None → r ≡ k → ((q : List ℕ) → found new q ≡ cond (bytes_eq (key_of (renamed (slice_index reps) v)) q) (Some k) (found old q)) → Sharing g more new k
+  entered : is_inner v ≡ true → varies (renamed (slice_index reps) v) ≡ true
+      → IsRep g (slice_index reps) k k v → found old (key_of (renamed (slice_index reps) v)) ≡ None
+      → r ≡ k → ((q : List ℕ) → found new q
+      ≡ cond (bytes_eq (key_of (renamed (slice_index reps) v)) q) (Some k) (found old q))
+      → Sharing g more new k
   entered inner vary rep fresh own grows =
       record {
-        stands = standing_more g ok reps more i k r s.stands at low (λ w is_w. subst (λ (n : ℕ). IsRep g (slice_index reps) k n w) (sym own) (subst (IsRep g (slice_index reps) k k) (same_some (slice_get g k) v w is is_w) rep)) set;
+        stands = standing_more g ok reps more i k r s.stands at low
+            (λ w is_w. subst (λ (n : ℕ). IsRep g (slice_index reps) k n w) (sym own)
+            (subst (IsRep g (slice_index reps) k k) (same_some (slice_get g k) v w is is_w) rep))
+            set;
         vary = λ j w high is_w own_j.
             ⊎_elim
             (λ here.
             let at_k : slice_get g k ≡ Some w = ap (slice_get g) here ∙ is_w in
             let one : v ≡ w = same_some (slice_get g k) v w is at_k in
-            sym (ap varies (same_names j w high is_w)) ∙ sym (ap (λ (u : Vertex). varies (renamed (slice_index reps) u)) one) ∙ vary)
+            sym (ap varies (same_names j w high is_w))
+            ∙ sym (ap (λ (u : Vertex). varies (renamed (slice_index reps) u)) one) ∙ vary)
             (λ other.
             let up : k < j = above k j high other in
-            sym (ap varies (same_names j w high is_w)) ∙ s.vary j w (omega arith) is_w (apart j up ∙ own_j))
+            sym (ap varies (same_names j w high is_w))
+            ∙ s.vary j w (omega arith) is_w (apart j up ∙ own_j))
             (cases_eq k j);
-        met = λ key x h. met_new key x h (cases_Bool (bytes_eq (key_of (renamed (slice_index reps) v)) key));
+        met = λ key x h.
+            met_new key x h (cases_Bool (bytes_eq (key_of (renamed (slice_index reps) v)) key));
         all = λ key x h. all_new key x h (back_has key x h);
       }
     where
@@ -161,9 +199,14 @@ module _ (g : List Vertex) (ok : IsGraph g) (reps more : List ℕ) (old new : BT
       key_v : List ℕ
       key_v = key_of (renamed (slice_index reps) v)
 
-      met_new : (key : List ℕ) (x : ℕ) → found new key ≡ Some x → (bytes_eq (key_of (renamed (slice_index reps) v)) key ≡ true) ⊎ (bytes_eq (key_of (renamed (slice_index reps) v)) key ≡ false) → Has g (slice_index more) k x key
+      met_new : (key : List ℕ) (x : ℕ) → found new key ≡ Some x
+          → (bytes_eq (key_of (renamed (slice_index reps) v)) key ≡ true)
+          ⊎ (bytes_eq (key_of (renamed (slice_index reps) v)) key ≡ false)
+          → Has g (slice_index more) k x key
       met_new key x h (inl on) =
-          let there : found new key ≡ Some k = grows key ∙ cond-true (bytes_eq (key_of (renamed (slice_index reps) v)) key) (Some k) (found old key) on in
+          let there : found new key ≡ Some k =
+          grows key ∙ cond-true (bytes_eq (key_of (renamed (slice_index reps) v)) key) (Some k)
+          (found old key) on in
           let here : x ≡ k = same_some (found new key) x k h there in
           subst (λ (n : ℕ). Has g (slice_index more) k n key) (sym here)
           (record {
@@ -172,26 +215,41 @@ module _ (g : List Vertex) (ok : IsGraph g) (reps more : List ℕ) (old new : BT
             is = is;
             own = read ∙ own;
             inner = inner;
-            same = sym (bytes_same (key_of (renamed (slice_index reps) v)) key on) ∙ ap key_of (same_names k v (omega arith) is);
+            same = sym (bytes_same (key_of (renamed (slice_index reps) v)) key on)
+                ∙ ap key_of (same_names k v (omega arith) is);
           })
-      met_new key x h (inr off) = moved_has key x (s.met key x (sym (grows key ∙ cond-false (bytes_eq (key_of (renamed (slice_index reps) v)) key) (Some k) (found old key) off) ∙ h))
+      met_new key x h (inr off) =
+          moved_has key x
+          (s.met key x (sym
+          (grows key ∙ cond-false (bytes_eq (key_of (renamed (slice_index reps) v)) key) (Some k)
+          (found old key) off) ∙ h))
 
-      all_new : (key : List ℕ) (x : ℕ) → Has g (slice_index more) k x key → (x ≡ k) ⊎ Has g (slice_index reps) i x key → found new key ≡ Some x
+      all_new : (key : List ℕ) (x : ℕ) → Has g (slice_index more) k x key
+          → (x ≡ k) ⊎ Has g (slice_index reps) i x key → found new key ≡ Some x
       all_new key x h (inl here) =
           let at_k : slice_get g k ≡ Some h.vertex = ap (slice_get g) (sym here) ∙ h.is in
           let one : v ≡ h.vertex = same_some (slice_get g k) v h.vertex is at_k in
-          let same : key_of (renamed (slice_index reps) v) ≡ key = ap key_of (same_names k v (omega arith) is) ∙ ap (λ (u : Vertex). key_of (renamed (slice_index more) u)) one ∙ sym h.same in
-          let on : bytes_eq (key_of (renamed (slice_index reps) v)) key ≡ true = subst (λ (q : List ℕ). bytes_eq (key_of (renamed (slice_index reps) v)) q ≡ true) same (bytes_self (key_of (renamed (slice_index reps) v))) in
-          grows key ∙ cond-true (bytes_eq (key_of (renamed (slice_index reps) v)) key) (Some k) (found old key) on ∙ ap (λ (n : ℕ). Some n) (sym here)
+          let same : key_of (renamed (slice_index reps) v) ≡ key =
+          ap key_of (same_names k v (omega arith) is)
+          ∙ ap (λ (u : Vertex). key_of (renamed (slice_index more) u)) one ∙ sym h.same in
+          let on : bytes_eq (key_of (renamed (slice_index reps) v)) key ≡ true =
+          subst (λ (q : List ℕ). bytes_eq (key_of (renamed (slice_index reps) v)) q ≡ true) same
+          (bytes_self (key_of (renamed (slice_index reps) v))) in
+          grows key ∙ cond-true (bytes_eq (key_of (renamed (slice_index reps) v)) key) (Some k)
+          (found old key) on ∙ ap (λ (n : ℕ). Some n) (sym here)
       all_new key x h (inr before) =
           let had = s.all key x before in
           ⊎_elim
-          (λ on. absurd (not_none (found old key) x (sym (ap (found old) (bytes_same (key_of (renamed (slice_index reps) v)) key on)) ∙ fresh) had))
-          (λ off. grows key ∙ cond-false (bytes_eq (key_of (renamed (slice_index reps) v)) key) (Some k) (found old key) off ∙ had)
+          (λ on. absurd (not_none (found old key) x
+          (sym (ap (found old) (bytes_same (key_of (renamed (slice_index reps) v)) key on))
+          ∙ fresh) had))
+          (λ off. grows key ∙ cond-false (bytes_eq (key_of (renamed (slice_index reps) v)) key)
+          (Some k) (found old key) off ∙ had)
           (cases_Bool (bytes_eq (key_of (renamed (slice_index reps) v)) key))
 
   -- the vertex that the index has is a twin
-  twin : found old (key_of (renamed (slice_index reps) v)) ≡ Some r → IsTwin g (slice_index reps) k r v
+  twin : found old (key_of (renamed (slice_index reps) v)) ≡ Some r
+      → IsTwin g (slice_index reps) k r v
   twin there =
       let h = s.met (key_of (renamed (slice_index reps) v)) r there in
       let from = h.from in
@@ -200,19 +258,23 @@ module _ (g : List Vertex) (ok : IsGraph g) (reps more : List ℕ) (old new : BT
         later = omega arith;
         own = h.own;
         is = h.is;
-        same = sym (same_vertex (renamed (slice_index reps) v) (renamed (slice_index reps) h.vertex) h.same);
+        same = sym (same_vertex (renamed (slice_index reps) v) (renamed (slice_index reps) h.vertex)
+            h.same);
       }
 
   not_itself : IsTwin g (slice_index reps) k r v → r ≡ k → ⊥
   not_itself t e = let up = t.later in omega arith
 
 -- what stands for a vertex from number i on is no earlier
-stands_higher : (g : List Vertex) → IsGraph g → (reps : List ℕ) (i : ℕ) → Standing g reps i → (k : ℕ) → i ≤ k → k < length g → k ≤ slice_index reps k
+stands_higher : (g : List Vertex) → IsGraph g → (reps : List ℕ) (i : ℕ) → Standing g reps i
+    → (k : ℕ) → i ≤ k → k < length g → k ≤ slice_index reps k
 stands_higher g ok reps i s k high low = from (length g) k high (omega arith) low
   where
-    of : (k : ℕ) → i ≤ k → k < length g → ((j : ℕ) → k < j → j < length g → j ≤ slice_index reps j) → (o : Option Vertex) → slice_get g k ≡ o → k ≤ slice_index reps k
+    of : (k : ℕ) → i ≤ k → k < length g → ((j : ℕ) → k < j → j < length g → j ≤ slice_index reps j)
+        → (o : Option Vertex) → slice_get g k ≡ o → k ≤ slice_index reps k
     of k high low later None is = absurd (vertex_there g k low is)
-    of k high low later (Some (Begin next)) is = let own : slice_index reps k ≡ k = s.each k (Begin next) high is in omega arith
+    of k high low later (Some (Begin next)) is = let own : slice_index reps k ≡ k =
+        s.each k (Begin next) high is in omega arith
     of k high low later (Some (Test var kids)) is =
         ⊎_elim
         (λ own. omega (arith, own))
@@ -238,17 +300,26 @@ stands_higher g ok reps i s k high low = from (length g) k high (omega arith) lo
         (λ t. let up = t.later in omega arith)
         rest)
         (s.each k (Assign result code next) high is)
-    of k high low later (Some End) is = let own : slice_index reps k ≡ k = s.each k End high is in omega arith
+    of k high low later (Some End) is = let own : slice_index reps k ≡ k = s.each k End high is in
+        omega arith
 
     from : (left k : ℕ) → i ≤ k → length g ≤ k + left → k < length g → k ≤ slice_index reps k
     from zero k high e low = absurd (omega arith)
-    from (suc left) k high e low = of k high low (λ j up inside. from left j (omega arith) (omega arith) inside) (slice_get g k) refl
+    from (suc left) k high e low =
+        of k high low (λ j up inside. from left j (omega arith) (omega arith) inside)
+        (slice_get g k) refl
 
-sharing_one : (g : List Vertex) (ok : IsGraph g) (reps more : List ℕ) (old new : BTreeMap (Vec ℕ Global) ℕ) (i k r : ℕ) → Sharing g reps old i → i ≡ k + 1 → (v : Vertex) → slice_get g k ≡ Some v → more ≡ slice_set reps k r → Chosen (slice_index reps) k r old new v → Sharing g more new k
-sharing_one g ok reps more old new i k r s at (Begin next) is set (own, same) = passed g ok reps more old new i k r s at (Begin next) is set own same (λ e. refl) (λ e. refl)
-sharing_one g ok reps more old new i k r s at End is set (own, same) = passed g ok reps more old new i k r s at End is set own same (λ e. refl) (λ e. refl)
+sharing_one : (g : List Vertex) (ok : IsGraph g) (reps more : List ℕ)
+    (old new : BTreeMap (Vec ℕ Global) ℕ) (i k r : ℕ) → Sharing g reps old i → i ≡ k + 1
+    → (v : Vertex) → slice_get g k ≡ Some v → more ≡ slice_set reps k r
+    → Chosen (slice_index reps) k r old new v → Sharing g more new k
+sharing_one g ok reps more old new i k r s at (Begin next) is set (own, same) =
+    passed g ok reps more old new i k r s at (Begin next) is set own same (λ e. refl) (λ e. refl)
+sharing_one g ok reps more old new i k r s at End is set (own, same) =
+    passed g ok reps more old new i k r s at End is set own same (λ e. refl) (λ e. refl)
 sharing_one g ok reps more old new i k r s at (Test var kids) is set (inl (idle, same)) =
-    passed g ok reps more old new i k r s at (Test var kids) is set (inr (inl idle)) same (λ e. absurd (later_than e)) (λ e. absurd (later_than e))
+    passed g ok reps more old new i k r s at (Test var kids) is set (inr (inl idle)) same
+    (λ e. absurd (later_than e)) (λ e. absurd (later_than e))
   where
     later_than : r ≡ k → ⊥
     later_than e =
@@ -258,25 +329,39 @@ sharing_one g ok reps more old new i k r s at (Test var kids) is set (inl (idle,
         let one = idle 0 some in
         let high = stands_higher g ok reps i s.stands (slice_index kids 0) (omega arith) inside in
         omega arith
-sharing_one g ok reps more old new i k r s at (Test var kids) is set (inr (vary, inl (there, same))) =
+sharing_one g ok reps more old new i k r s at (Test var kids) is set
+    (inr (vary, inl (there, same))) =
     let t = twin g ok reps more old new i k r s at (Test var kids) is set there in
-    passed g ok reps more old new i k r s at (Test var kids) is set (inr (inr t)) same (λ e. absurd (not_itself g ok reps more old new i k r s at (Test var kids) is set t e)) (λ e. vary)
-sharing_one g ok reps more old new i k r s at (Test var kids) is set (inr (vary, inr (fresh, own, grows))) =
-    entered g ok reps more old new i k r s at (Test var kids) is set refl vary (inl refl) fresh own grows
+    passed g ok reps more old new i k r s at (Test var kids) is set (inr (inr t)) same
+    (λ e. absurd (not_itself g ok reps more old new i k r s at (Test var kids) is set t e))
+    (λ e. vary)
+sharing_one g ok reps more old new i k r s at (Test var kids) is set
+    (inr (vary, inr (fresh, own, grows))) =
+    entered g ok reps more old new i k r s at (Test var kids) is set refl vary (inl refl) fresh own
+    grows
 sharing_one g ok reps more old new i k r s at (Assign result code next) is set (inl (there, same)) =
     let t = twin g ok reps more old new i k r s at (Assign result code next) is set there in
-    passed g ok reps more old new i k r s at (Assign result code next) is set (inr (inr t)) same (λ e. absurd (not_itself g ok reps more old new i k r s at (Assign result code next) is set t e)) (λ e. refl)
-sharing_one g ok reps more old new i k r s at (Assign result code next) is set (inr (fresh, own, grows)) =
-    entered g ok reps more old new i k r s at (Assign result code next) is set refl refl (inl refl) fresh own grows
+    passed g ok reps more old new i k r s at (Assign result code next) is set (inr (inr t)) same
+    (λ e. absurd (not_itself g ok reps more old new i k r s at (Assign result code next) is set
+    t e)) (λ e. refl)
+sharing_one g ok reps more old new i k r s at (Assign result code next) is set
+    (inr (fresh, own, grows)) =
+    entered g ok reps more old new i k r s at (Assign result code next) is set refl refl (inl refl)
+    fresh own grows
 
-pub sharing_more : (g : List Vertex) (ok : IsGraph g) (reps more : List ℕ) (old new : BTreeMap (Vec ℕ Global) ℕ) (i k r : ℕ) → Sharing g reps old i → i ≡ k + 1 → k < length g → ((v : Vertex) → slice_get g k ≡ Some v → Chosen (slice_index reps) k r old new v) → more ≡ slice_set reps k r → Sharing g more new k
+pub sharing_more : (g : List Vertex) (ok : IsGraph g) (reps more : List ℕ)
+    (old new : BTreeMap (Vec ℕ Global) ℕ) (i k r : ℕ) → Sharing g reps old i → i ≡ k + 1
+    → k < length g → ((v : Vertex) → slice_get g k ≡ Some v
+    → Chosen (slice_index reps) k r old new v) → more ≡ slice_set reps k r → Sharing g more new k
 sharing_more g ok reps more old new i k r s at low chosen set = go (slice_get g k) refl
   where
     go : (o : Option Vertex) → slice_get g k ≡ o → Sharing g more new k
     go None is = absurd (vertex_there g k low is)
     go (Some v) is = sharing_one g ok reps more old new i k r s at v is set (chosen v is)
 
-pub sharing_start : (g : List Vertex) (reps : List ℕ) (index : BTreeMap (Vec ℕ Global) ℕ) (i count : ℕ) → reps ≡ replicate count 0 → count ≡ length g → i ≡ length g → ((q : List ℕ) → found index q ≡ None) → Sharing g reps index i
+pub sharing_start : (g : List Vertex) (reps : List ℕ) (index : BTreeMap (Vec ℕ Global) ℕ)
+    (i count : ℕ) → reps ≡ replicate count 0 → count ≡ length g → i ≡ length g
+    → ((q : List ℕ) → found index q ≡ None) → Sharing g reps index i
 sharing_start g reps index i count is all at none = record {
   stands = standing_start g reps i count is all at;
   vary = λ k v high is_v own. absurd (let low = below g k v is_v in omega arith);
@@ -294,40 +379,84 @@ inner_renamed to v w e = sym (inner_same to v) ∙ ap is_inner e ∙ inner_same 
     inner_same to (Assign result code next) = refl
     inner_same to End = refl
 
-by_index : (g : List Vertex) (reps : List ℕ) (index : BTreeMap (Vec ℕ Global) ℕ) → Sharing g reps index 0 → (a b : ℕ) (v w : Vertex) → slice_get g a ≡ Some v → slice_get g b ≡ Some w → slice_index reps a ≡ a → slice_index reps b ≡ b → is_inner v ≡ true → renamed (slice_index reps) v ≡ renamed (slice_index reps) w → a ≡ b
+by_index : (g : List Vertex) (reps : List ℕ) (index : BTreeMap (Vec ℕ Global) ℕ)
+    → Sharing g reps index 0 → (a b : ℕ) (v w : Vertex) → slice_get g a ≡ Some v
+    → slice_get g b ≡ Some w → slice_index reps a ≡ a → slice_index reps b ≡ b → is_inner v ≡ true
+    → renamed (slice_index reps) v ≡ renamed (slice_index reps) w → a ≡ b
 by_index g reps index s a b v w is_a is_b own_a own_b inner e =
     let key = key_of (renamed (slice_index reps) v) in
-    let at_a = s.all (key_of (renamed (slice_index reps) v)) a (record { vertex = v; from = omega arith; is = is_a; own = own_a; inner = inner; same = refl }) in
-    let at_b = s.all (key_of (renamed (slice_index reps) v)) b (record { vertex = w; from = omega arith; is = is_b; own = own_b; inner = sym (inner_renamed (slice_index reps) v w e) ∙ inner; same = ap key_of e }) in
+    let at_a = s.all (key_of (renamed (slice_index reps) v)) a
+    (record {
+      vertex = v;
+      from = omega arith;
+      is = is_a;
+      own = own_a;
+      inner = inner;
+      same = refl;
+    }) in
+    let at_b = s.all (key_of (renamed (slice_index reps) v)) b
+    (record {
+      vertex = w;
+      from = omega arith;
+      is = is_b;
+      own = own_b;
+      inner = sym (inner_renamed (slice_index reps) v w e) ∙ inner;
+      same = ap key_of e;
+    }) in
     same_some (found index (key_of (renamed (slice_index reps) v))) a b at_a at_b
 
-one_key : (g : List Vertex) (reps : List ℕ) (index : BTreeMap (Vec ℕ Global) ℕ) → IsGraph g → Sharing g reps index 0 → (a b : ℕ) (v w : Vertex) → slice_get g a ≡ Some v → slice_get g b ≡ Some w → slice_index reps a ≡ a → slice_index reps b ≡ b → renamed (slice_index reps) v ≡ renamed (slice_index reps) w → a ≡ b
-one_key g reps index ok s a b (Begin next) (Begin other) is_a is_b own_a own_b e = ok.only_begin a next is_a ∙ sym (ok.only_begin b other is_b)
-one_key g reps index ok s a b (Begin next) (Test var kids) is_a is_b own_a own_b e = absurd (let f : Begin (slice_index reps next) ≡ Test var (map (slice_index reps) kids) = e in cc)
-one_key g reps index ok s a b (Begin next) (Assign result code other) is_a is_b own_a own_b e = absurd (let f : Begin (slice_index reps next) ≡ Assign result code (slice_index reps other) = e in cc)
-one_key g reps index ok s a b (Begin next) End is_a is_b own_a own_b e = absurd (let f : Begin (slice_index reps next) ≡ End = e in cc)
-one_key g reps index ok s a b (Test var kids) w is_a is_b own_a own_b e = by_index g reps index s a b (Test var kids) w is_a is_b own_a own_b refl e
-one_key g reps index ok s a b (Assign result code next) w is_a is_b own_a own_b e = by_index g reps index s a b (Assign result code next) w is_a is_b own_a own_b refl e
-one_key g reps index ok s a b End (Begin next) is_a is_b own_a own_b e = absurd (let f : End ≡ Begin (slice_index reps next) = e in cc)
-one_key g reps index ok s a b End (Test var kids) is_a is_b own_a own_b e = absurd (let f : End ≡ Test var (map (slice_index reps) kids) = e in cc)
-one_key g reps index ok s a b End (Assign result code next) is_a is_b own_a own_b e = absurd (let f : End ≡ Assign result code (slice_index reps next) = e in cc)
-one_key g reps index ok s a b End End is_a is_b own_a own_b e = let p = ok.only_end a is_a in let q = ok.only_end b is_b in omega arith
+one_key : (g : List Vertex) (reps : List ℕ) (index : BTreeMap (Vec ℕ Global) ℕ) → IsGraph g
+    → Sharing g reps index 0 → (a b : ℕ) (v w : Vertex) → slice_get g a ≡ Some v
+    → slice_get g b ≡ Some w → slice_index reps a ≡ a → slice_index reps b ≡ b
+    → renamed (slice_index reps) v ≡ renamed (slice_index reps) w → a ≡ b
+one_key g reps index ok s a b (Begin next) (Begin other) is_a is_b own_a own_b e =
+    ok.only_begin a next is_a ∙ sym (ok.only_begin b other is_b)
+one_key g reps index ok s a b (Begin next) (Test var kids) is_a is_b own_a own_b e =
+    absurd (let f : Begin (slice_index reps next) ≡ Test var (map (slice_index reps) kids) = e in
+    cc)
+one_key g reps index ok s a b (Begin next) (Assign result code other) is_a is_b own_a own_b e =
+    absurd (let f : Begin (slice_index reps next)
+    ≡ Assign result code (slice_index reps other) = e in cc)
+one_key g reps index ok s a b (Begin next) End is_a is_b own_a own_b e =
+    absurd (let f : Begin (slice_index reps next) ≡ End = e in cc)
+one_key g reps index ok s a b (Test var kids) w is_a is_b own_a own_b e =
+    by_index g reps index s a b (Test var kids) w is_a is_b own_a own_b refl e
+one_key g reps index ok s a b (Assign result code next) w is_a is_b own_a own_b e =
+    by_index g reps index s a b (Assign result code next) w is_a is_b own_a own_b refl e
+one_key g reps index ok s a b End (Begin next) is_a is_b own_a own_b e =
+    absurd (let f : End ≡ Begin (slice_index reps next) = e in cc)
+one_key g reps index ok s a b End (Test var kids) is_a is_b own_a own_b e =
+    absurd (let f : End ≡ Test var (map (slice_index reps) kids) = e in cc)
+one_key g reps index ok s a b End (Assign result code next) is_a is_b own_a own_b e =
+    absurd (let f : End ≡ Assign result code (slice_index reps next) = e in cc)
+one_key g reps index ok s a b End End is_a is_b own_a own_b e = let p = ok.only_end a is_a in
+    let q = ok.only_end b is_b in omega arith
 
-pub sharing_shared : (g : List Vertex) (reps : List ℕ) (index : BTreeMap (Vec ℕ Global) ℕ) → IsGraph g → Sharing g reps index 0 → Shared g reps
+pub sharing_shared : (g : List Vertex) (reps : List ℕ) (index : BTreeMap (Vec ℕ Global) ℕ)
+    → IsGraph g → Sharing g reps index 0 → Shared g reps
 sharing_shared g reps index ok s = record {
   vary = λ k v is own. s.vary k v (omega arith) is own;
   apart = one_key g reps index ok s;
 }
 
 -- ---- what is chosen
-module _ (g : List Vertex) (reps : List ℕ) (old new : BTreeMap (Vec ℕ Global) ℕ) (k r : ℕ) (v w : Vertex) (is_v : slice_get g k ≡ Some v) (is_w : slice_get g k ≡ Some w) where
-  pub chosen_test : (var : ℕ) (kids key : List ℕ) → w ≡ Test var kids → ((var : ℕ) → varies (Test var (map (slice_index reps) kids)) ≡ true) → key ≡ key_of (Test var (map (slice_index reps) kids)) → Entered old new key k r → Chosen (slice_index reps) k r old new v
+module _ (g : List Vertex) (reps : List ℕ) (old new : BTreeMap (Vec ℕ Global) ℕ) (k r : ℕ)
+    (v w : Vertex) (is_v : slice_get g k ≡ Some v) (is_w : slice_get g k ≡ Some w) where
+  pub chosen_test : (var : ℕ) (kids key : List ℕ) → w ≡ Test var kids
+      → ((var : ℕ) → varies (Test var (map (slice_index reps) kids)) ≡ true)
+      → key ≡ key_of (Test var (map (slice_index reps) kids)) → Entered old new key k r
+      → Chosen (slice_index reps) k r old new v
   chosen_test var kids key e vary same entered =
       let is_test : v ≡ Test var kids = same_some (slice_get g k) v w is_v is_w ∙ e in
-      subst (Chosen (slice_index reps) k r old new) (sym is_test) (inr (vary var, subst (λ (q : List ℕ). Entered old new q k r) same entered))
+      subst (Chosen (slice_index reps) k r old new) (sym is_test)
+      (inr (vary var, subst (λ (q : List ℕ). Entered old new q k r) same entered))
 
-  pub chosen_assign : (result code next to : ℕ) (key : List ℕ) → w ≡ Assign result code next → slice_get reps next ≡ Some to → key ≡ key_of (Assign result code to) → Entered old new key k r → Chosen (slice_index reps) k r old new v
+  pub chosen_assign : (result code next to : ℕ) (key : List ℕ) → w ≡ Assign result code next
+      → slice_get reps next ≡ Some to → key ≡ key_of (Assign result code to)
+      → Entered old new key k r → Chosen (slice_index reps) k r old new v
   chosen_assign result code next to key e is_to same entered =
       let is_assign : v ≡ Assign result code next = same_some (slice_get g k) v w is_v is_w ∙ e in
       let rep : to ≡ slice_index reps next = sym (got reps next to is_to) in
-      subst (Chosen (slice_index reps) k r old new) (sym is_assign) (subst (λ (q : List ℕ). Entered old new q k r) (same ∙ ap (λ (n : ℕ). key_of (Assign result code n)) rep) entered)
+      subst (Chosen (slice_index reps) k r old new) (sym is_assign)
+      (subst (λ (q : List ℕ). Entered old new q k r)
+      (same ∙ ap (λ (n : ℕ). key_of (Assign result code n)) rep) entered)

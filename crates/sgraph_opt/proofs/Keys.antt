@@ -8,46 +8,65 @@ use Rattle.sgraph_opt.proofs.Again.{index_map, long_map}
 use Rattle.sgraph_opt.proofs.Reducing.{all_eq}
 use Rattle.sgraph_opt.proofs.Standing.{got, below, map_push, take_one}
 
-pub one_more_same : (reps kids : List ℕ) (i x a first : ℕ) → ((j : ℕ) → j < i → slice_index reps (slice_index kids j) ≡ first) → slice_get kids i ≡ Some x → slice_get reps x ≡ Some a → a ≡ first → (j : ℕ) → j < i + 1 → slice_index reps (slice_index kids j) ≡ first
+pub one_more_same : (reps kids : List ℕ) (i x a first : ℕ)
+    → ((j : ℕ) → j < i → slice_index reps (slice_index kids j) ≡ first) → slice_get kids i ≡ Some x
+    → slice_get reps x ≡ Some a → a ≡ first → (j : ℕ) → j < i + 1
+    → slice_index reps (slice_index kids j) ≡ first
 one_more_same reps kids i x a first so_far is_x is_a same j low =
     ⊎_elim
     (λ less. so_far j less)
     (λ last.
     let e : j ≡ i = omega arith in
-    ap (λ (n : ℕ). slice_index reps (slice_index kids n)) e ∙ ap (slice_index reps) (got kids i x is_x) ∙ got reps x a is_a ∙ same)
+    ap (λ (n : ℕ). slice_index reps (slice_index kids n)) e
+    ∙ ap (slice_index reps) (got kids i x is_x) ∙ got reps x a is_a ∙ same)
     (cases_lt j i)
 
-same_kids : (f : ℕ → ℕ) (kids : List ℕ) → are_same (map f kids) ≡ true → (i : ℕ) → i < length kids → f (slice_index kids i) ≡ f (slice_index kids 0)
+same_kids : (f : ℕ → ℕ) (kids : List ℕ) → are_same (map f kids) ≡ true → (i : ℕ) → i < length kids
+    → f (slice_index kids i) ≡ f (slice_index kids 0)
 same_kids f [] h i low = absurd (omega arith)
 same_kids f (k ∷ ks) h zero low = refl
-same_kids f (k ∷ ks) h (suc i) low = sym (index_map f ks i (omega arith)) ∙ all_eq (f k) (map f ks) h i (let l = long_map f ks in omega arith)
+same_kids f (k ∷ ks) h (suc i) low =
+    sym (index_map f ks i (omega arith))
+    ∙ all_eq (f k) (map f ks) h i (let l = long_map f ks in omega arith)
 
 -- a child with another number than the first
-pub differing : (reps kids : List ℕ) (i x a y first : ℕ) → slice_get kids 0 ≡ Some y → slice_get reps y ≡ Some first → slice_get kids i ≡ Some x → slice_get reps x ≡ Some a → a ≢ first → (var : ℕ) → varies (Test var (map (slice_index reps) kids)) ≡ true
+pub differing : (reps kids : List ℕ) (i x a y first : ℕ) → slice_get kids 0 ≡ Some y
+    → slice_get reps y ≡ Some first → slice_get kids i ≡ Some x → slice_get reps x ≡ Some a
+    → a ≢ first → (var : ℕ) → varies (Test var (map (slice_index reps) kids)) ≡ true
 differing reps kids i x a y first is_y is_first is_x is_a other var =
     ap not (false_from_ne_true (are_same (map (slice_index reps) kids)) (λ on.
-    other (sym (ap (slice_index reps) (got kids i x is_x) ∙ got reps x a is_a) ∙ same_kids (slice_index reps) kids on i (below kids i x is_x) ∙ ap (slice_index reps) (got kids 0 y is_y) ∙ got reps y first is_first)))
+    other (sym (ap (slice_index reps) (got kids i x is_x) ∙ got reps x a is_a)
+    ∙ same_kids (slice_index reps) kids on i (below kids i x is_x)
+    ∙ ap (slice_index reps) (got kids 0 y is_y) ∙ got reps y first is_first)))
 
-pub key_more : (reps kids key more : List ℕ) (var i x a : ℕ) → key ≡ 1 ∷ var ∷ map (slice_index reps) (take i kids) → slice_get kids i ≡ Some x → slice_get reps x ≡ Some a → more ≡ key ++ a ∷ [] → more ≡ 1 ∷ var ∷ map (slice_index reps) (take (i + 1) kids)
+pub key_more : (reps kids key more : List ℕ) (var i x a : ℕ)
+    → key ≡ 1 ∷ var ∷ map (slice_index reps) (take i kids) → slice_get kids i ≡ Some x
+    → slice_get reps x ≡ Some a → more ≡ key ++ a ∷ []
+    → more ≡ 1 ∷ var ∷ map (slice_index reps) (take (i + 1) kids)
 key_more reps kids key more var i x a so_far is_x is_a e =
     let f : i + 1 ≡ suc i = omega arith in
     e
     ∙ ap (λ (ks : List ℕ). ks ++ a ∷ []) so_far
-    ∙ ap (λ (n : ℕ). 1 ∷ var ∷ (map (slice_index reps) (take i kids) ++ n ∷ [])) (sym (got reps x a is_a))
+    ∙ ap (λ (n : ℕ). 1 ∷ var ∷ (map (slice_index reps) (take i kids) ++ n ∷ []))
+    (sym (got reps x a is_a))
     ∙ ap (λ (ks : List ℕ). 1 ∷ var ∷ ks) (sym (map_push (slice_index reps) (take i kids) x))
     ∙ ap (λ (ks : List ℕ). 1 ∷ var ∷ map (slice_index reps) ks) (sym (take_one kids i x is_x))
     ∙ ap (λ (n : ℕ). 1 ∷ var ∷ map (slice_index reps) (take n kids)) (sym f)
 
-take_vertex : (vs : List Vertex) (i : ℕ) (v : Vertex) → slice_get vs i ≡ Some v → take (suc i) vs ≡ take i vs ++ v ∷ []
+take_vertex : (vs : List Vertex) (i : ℕ) (v : Vertex) → slice_get vs i ≡ Some v
+    → take (suc i) vs ≡ take i vs ++ v ∷ []
 take_vertex [] i v e = cc
 take_vertex (w ∷ vs) zero v e = let f : w ≡ v = cc in ap (λ (u : Vertex). u ∷ []) f
 take_vertex (w ∷ vs) (suc i) v e = ap (λ (us : List Vertex). w ∷ us) (take_vertex vs i v e)
 
-push_vertex : (f : Vertex → Vertex) (vs : List Vertex) (v : Vertex) → map f (vs ++ v ∷ []) ≡ map f vs ++ f v ∷ []
+push_vertex : (f : Vertex → Vertex) (vs : List Vertex) (v : Vertex)
+    → map f (vs ++ v ∷ []) ≡ map f vs ++ f v ∷ []
 push_vertex f [] v = refl
 push_vertex f (w ∷ vs) v = ap (λ (us : List Vertex). f w ∷ us) (push_vertex f vs v)
 
-pub vertex_more : (f : Vertex → Vertex) (g list more : List Vertex) (i : ℕ) (v w : Vertex) → list ≡ map f (take i g) → slice_get g i ≡ Some v → w ≡ f v → more ≡ list ++ w ∷ [] → more ≡ map f (take (i + 1) g)
+pub vertex_more : (f : Vertex → Vertex) (g list more : List Vertex) (i : ℕ) (v w : Vertex)
+    → list ≡ map f (take i g) → slice_get g i ≡ Some v → w ≡ f v → more ≡ list ++ w ∷ []
+    → more ≡ map f (take (i + 1) g)
 vertex_more f g list more i v w so_far is is_w e =
     let n : i + 1 ≡ suc i = omega arith in
     e

@@ -20,21 +20,30 @@ pub bytes_self : (xs : List ℕ) → bytes_eq xs xs ≡ true
 bytes_self xs = (bytes_decides xs xs).1 (λ _. xs)
 
 module _ {K X : Type 0} (eq : K → K → Bool) (test : K → Bool) where
-  other_entries : (old new : List (K × X)) → KeepsOthers eq test old new → (other : K → Bool) → IsKeyTest eq other → AreApart test other → lookup other new ≡ lookup other old
+  other_entries : (old new : List (K × X)) → KeepsOthers eq test old new → (other : K → Bool)
+      → IsKeyTest eq other → AreApart test other → lookup other new ≡ lookup other old
   unfolding KeepsOthers
   other_entries old new h = h
 
-apart_in_order : (bs cs ks : List ℕ) → bytes_eq bs cs ≡ false → is_eq (slice_cmp nat_cmp bs ks) ≡ true → is_eq (slice_cmp nat_cmp cs ks) ≡ false
+apart_in_order : (bs cs ks : List ℕ) → bytes_eq bs cs ≡ false
+    → is_eq (slice_cmp nat_cmp bs ks) ≡ true → is_eq (slice_cmp nat_cmp cs ks) ≡ false
 apart_in_order bs cs ks n y =
     false_from_ne_true (is_eq (slice_cmp nat_cmp cs ks)) (λ e.
     let at_cs = bytes_same cs ks (sym (is_eq-slice_cmp cs ks) ∙ e) in
     let at_bs = bytes_same bs ks (sym (is_eq-slice_cmp bs ks) ∙ y) in
-    let same : bytes_eq bs cs ≡ true = subst (λ (l : List ℕ). bytes_eq bs l ≡ true) (at_bs ∙ sym at_cs) (bytes_self bs) in
+    let same : bytes_eq bs cs ≡ true =
+    subst (λ (l : List ℕ). bytes_eq bs l ≡ true) (at_bs ∙ sym at_cs) (bytes_self bs) in
     false≢true (sym n ∙ same))
 
-pub found_after : (m n : BTreeMap (Vec ℕ Global) ℕ) (key : Vec ℕ Global) (w : ℕ) → Updates (λ x y. slice_cmp nat_cmp x.items y.items) m n key (Some w) → (q : List ℕ) → found n q ≡ cond (bytes_eq key.items q) (Some w) (found m q)
+pub found_after : (m n : BTreeMap (Vec ℕ Global) ℕ) (key : Vec ℕ Global) (w : ℕ)
+    → Updates (λ x y. slice_cmp nat_cmp x.items y.items) m n key (Some w) → (q : List ℕ)
+    → found n q ≡ cond (bytes_eq key.items q) (Some w) (found m q)
 found_after m n key w h q =
     ⊎_elim
-    (λ y. subst (λ (l : List ℕ). found n l ≡ Some w) (bytes_same key.items q y) h.1 ∙ sym (cond-true (bytes_eq key.items q) (Some w) (found m q) y))
-    (λ e. other_entries _ _ _ _ h.3 _ (λ x y. (eq_by_cmp_equiv nat_list_cmp_total).congr q x.items y.items) (λ k. apart_in_order key.items q k.items e) ∙ sym (cond-false (bytes_eq key.items q) (Some w) (found m q) e))
+    (λ y. subst (λ (l : List ℕ). found n l ≡ Some w) (bytes_same key.items q y) h.1
+    ∙ sym (cond-true (bytes_eq key.items q) (Some w) (found m q) y))
+    (λ e. other_entries _ _ _ _ h.3 _ (λ x y.
+    (eq_by_cmp_equiv nat_list_cmp_total).congr q x.items y.items)
+    (λ k. apart_in_order key.items q k.items e)
+    ∙ sym (cond-false (bytes_eq key.items q) (Some w) (found m q) e))
     (cases_Bool (bytes_eq key.items q))

@@ -23,19 +23,25 @@ pub map_push : (f : ℕ → ℕ) (xs : List ℕ) (x : ℕ) → map f (xs ++ x �
 map_push f [] x = refl
 map_push f (y ∷ ys) x = ap (λ (zs : List ℕ). f y ∷ zs) (map_push f ys x)
 
-pub take_one : (xs : List ℕ) (i x : ℕ) → slice_get xs i ≡ Some x → take (suc i) xs ≡ take i xs ++ x ∷ []
+pub take_one : (xs : List ℕ) (i x : ℕ) → slice_get xs i ≡ Some x
+    → take (suc i) xs ≡ take i xs ++ x ∷ []
 take_one [] i x e = cc
 take_one (y ∷ ys) zero x e = let f : y ≡ x = cc in ap (λ (n : ℕ). n ∷ []) f
 take_one (y ∷ ys) (suc i) x e = ap (λ (zs : List ℕ). y ∷ zs) (take_one ys i x e)
 
-pub one_more : (reps one other : List ℕ) (i x y a b : ℕ) → map (slice_index reps) (take i one) ≡ map (slice_index reps) (take i other) → slice_get one i ≡ Some x → slice_get reps x ≡ Some a → slice_get other i ≡ Some y → slice_get reps y ≡ Some b → a ≡ b → map (slice_index reps) (take (i + 1) one) ≡ map (slice_index reps) (take (i + 1) other)
+pub one_more : (reps one other : List ℕ) (i x y a b : ℕ)
+    → map (slice_index reps) (take i one) ≡ map (slice_index reps) (take i other)
+    → slice_get one i ≡ Some x → slice_get reps x ≡ Some a → slice_get other i ≡ Some y
+    → slice_get reps y ≡ Some b → a ≡ b
+    → map (slice_index reps) (take (i + 1) one) ≡ map (slice_index reps) (take (i + 1) other)
 one_more reps one other i x y a b so_far is_x is_a is_y is_b same =
     let f : i + 1 ≡ suc i = omega arith in
     ap (λ (n : ℕ). map (slice_index reps) (take n one)) f
     ∙ ap (map (slice_index reps)) (take_one one i x is_x)
     ∙ map_push (slice_index reps) (take i one) x
     ∙ ap (λ (xs : List ℕ). xs ++ slice_index reps x ∷ []) so_far
-    ∙ ap (λ (n : ℕ). map (slice_index reps) (take i other) ++ n ∷ []) (got reps x a is_a ∙ same ∙ sym (got reps y b is_b))
+    ∙ ap (λ (n : ℕ). map (slice_index reps) (take i other) ++ n ∷ [])
+    (got reps x a is_a ∙ same ∙ sym (got reps y b is_b))
     ∙ sym (map_push (slice_index reps) (take i other) y)
     ∙ ap (map (slice_index reps)) (sym (take_one other i y is_y))
     ∙ ap (λ (n : ℕ). map (slice_index reps) (take n other)) (sym f)
@@ -45,7 +51,8 @@ set_here [] k x low = absurd (omega arith)
 set_here (y ∷ ys) zero x low = refl
 set_here (y ∷ ys) (suc k) x low = set_here ys k x (omega arith)
 
-pub set_there : (xs : List ℕ) (k j x : ℕ) → (k ≡ j → ⊥) → slice_index (slice_set xs k x) j ≡ slice_index xs j
+pub set_there : (xs : List ℕ) (k j x : ℕ) → (k ≡ j → ⊥)
+    → slice_index (slice_set xs k x) j ≡ slice_index xs j
 set_there [] k j x other = refl
 set_there (y ∷ ys) zero zero x other = absurd (other refl)
 set_there (y ∷ ys) zero (suc j) x other = refl
@@ -58,21 +65,30 @@ set_long (y ∷ ys) zero x = refl
 set_long (y ∷ ys) (suc k) x = ap suc (set_long ys k x)
 
 -- only what stands for later vertices matters
-same_map : (to other : ℕ → ℕ) (xs : List ℕ) → ((i : ℕ) → i < length xs → to (slice_index xs i) ≡ other (slice_index xs i)) → map to xs ≡ map other xs
+same_map : (to other : ℕ → ℕ) (xs : List ℕ)
+    → ((i : ℕ) → i < length xs → to (slice_index xs i) ≡ other (slice_index xs i))
+    → map to xs ≡ map other xs
 same_map to other [] h = refl
-same_map to other (x ∷ xs) h = ap (λ (n : ℕ). n ∷ map to xs) (h 0 (omega arith)) ∙ ap (λ (ns : List ℕ). other x ∷ ns) (same_map to other xs (λ i low. h (suc i) (omega arith)))
+same_map to other (x ∷ xs) h = ap (λ (n : ℕ). n ∷ map to xs) (h 0 (omega arith))
+    ∙ ap (λ (ns : List ℕ). other x ∷ ns) (same_map to other xs (λ i low. h (suc i) (omega arith)))
 
-pub same_renamed : (to other : ℕ → ℕ) (v : Vertex) → ((i : ℕ) → i < length (kids_of v) → to (slice_index (kids_of v) i) ≡ other (slice_index (kids_of v) i)) → renamed to v ≡ renamed other v
+pub same_renamed : (to other : ℕ → ℕ) (v : Vertex)
+    → ((i : ℕ) → i < length (kids_of v)
+    → to (slice_index (kids_of v) i) ≡ other (slice_index (kids_of v) i))
+    → renamed to v ≡ renamed other v
 same_renamed to other (Begin next) h = ap Begin (h 0 (omega arith))
 same_renamed to other (Test var kids) h = ap (Test var) (same_map to other kids h)
 same_renamed to other (Assign result code next) h = ap (Assign result code) (h 0 (omega arith))
 same_renamed to other End h = refl
 
 module _ (g : List Vertex) (ok : IsGraph g) where
-  pub later_kids : (to other : ℕ → ℕ) (k : ℕ) (v : Vertex) → slice_get g k ≡ Some v → ((j : ℕ) → k < j → to j ≡ other j) → (i : ℕ) → i < length (kids_of v) → to (slice_index (kids_of v) i) ≡ other (slice_index (kids_of v) i)
+  pub later_kids : (to other : ℕ → ℕ) (k : ℕ) (v : Vertex) → slice_get g k ≡ Some v
+      → ((j : ℕ) → k < j → to j ≡ other j) → (i : ℕ) → i < length (kids_of v)
+      → to (slice_index (kids_of v) i) ≡ other (slice_index (kids_of v) i)
   later_kids to other k v is same i low = same (slice_index (kids_of v) i) (ok.above k v i is low)
 
-  moved_twin : (to other : ℕ → ℕ) (k r : ℕ) (v : Vertex) → slice_get g k ≡ Some v → ((j : ℕ) → k < j → to j ≡ other j) → IsTwin g to k r v → IsTwin g other k r v
+  moved_twin : (to other : ℕ → ℕ) (k r : ℕ) (v : Vertex) → slice_get g k ≡ Some v
+      → ((j : ℕ) → k < j → to j ≡ other j) → IsTwin g to k r v → IsTwin g other k r v
   moved_twin to other k r v is same t =
       let up : k < r = t.later in
       record {
@@ -81,18 +97,21 @@ module _ (g : List Vertex) (ok : IsGraph g) where
         own = sym (same r up) ∙ t.own;
         is = t.is;
         same =
-            sym (same_renamed to other t.other (later_kids to other r t.other t.is (λ j more. same j (omega arith))))
+            sym (same_renamed to other t.other
+            (later_kids to other r t.other t.is (λ j more. same j (omega arith))))
             ∙ t.same
             ∙ same_renamed to other v (later_kids to other k v is same);
       }
 
-  pub moved : (to other : ℕ → ℕ) (k r : ℕ) (v : Vertex) → slice_get g k ≡ Some v → ((j : ℕ) → k < j → to j ≡ other j) → IsRep g to k r v → IsRep g other k r v
+  pub moved : (to other : ℕ → ℕ) (k r : ℕ) (v : Vertex) → slice_get g k ≡ Some v
+      → ((j : ℕ) → k < j → to j ≡ other j) → IsRep g to k r v → IsRep g other k r v
   moved to other k r (Begin next) is same h = h
   moved to other k r (Test var kids) is same h =
       ⊎_elim
       (λ own. inl own)
       (λ rest. ⊎_elim
-      (λ idle. inr (inl (λ i low. sym (later_kids to other k (Test var kids) is same i low) ∙ idle i low)))
+      (λ idle. inr (inl (λ i low. sym (later_kids to other k (Test var kids) is same i low)
+      ∙ idle i low)))
       (λ t. inr (inr (moved_twin to other k r (Test var kids) is same t)))
       rest)
       h
@@ -100,7 +119,11 @@ module _ (g : List Vertex) (ok : IsGraph g) where
       ⊎_elim
       (λ own. inl own)
       (λ rest. ⊎_elim
-      (λ left. inr (inl (left.0, sym (later_kids to other k (Assign result code next) is same 0 (omega arith)) ∙ left.1)))
+      (λ left. inr (inl (
+        left.0,
+        sym (later_kids to other k (Assign result code next) is same 0 (omega arith))
+            ∙ left.1,
+      )))
       (λ t. inr (inr (moved_twin to other k r (Assign result code next) is same t)))
       rest)
       h
@@ -110,32 +133,43 @@ pub long_zeros : (n : ℕ) → length (replicate {A = ℕ} n 0) ≡ n
 long_zeros zero = refl
 long_zeros (suc n) = ap suc (long_zeros n)
 
-pub standing_start : (g : List Vertex) (reps : List ℕ) (i count : ℕ) → reps ≡ replicate count 0 → count ≡ length g → i ≡ length g → Standing g reps i
+pub standing_start : (g : List Vertex) (reps : List ℕ) (i count : ℕ) → reps ≡ replicate count 0
+    → count ≡ length g → i ≡ length g → Standing g reps i
 standing_start g reps i count is all at = record {
   long = ap (λ (xs : List ℕ). length xs) is ∙ long_zeros count ∙ all;
   each = λ k v high is_v. absurd (let low = below g k v is_v in omega arith);
 }
 
-pub standing_more : (g : List Vertex) → IsGraph g → (reps more : List ℕ) (i k r : ℕ) → Standing g reps i → i ≡ k + 1 → k < length g → ((v : Vertex) → slice_get g k ≡ Some v → IsRep g (slice_index reps) k r v) → more ≡ slice_set reps k r → Standing g more k
+pub standing_more : (g : List Vertex) → IsGraph g → (reps more : List ℕ) (i k r : ℕ)
+    → Standing g reps i → i ≡ k + 1 → k < length g
+    → ((v : Vertex) → slice_get g k ≡ Some v → IsRep g (slice_index reps) k r v)
+    → more ≡ slice_set reps k r → Standing g more k
 standing_more g ok reps more i k r s at low rep e =
     let own = s.long in
     let long = set_long reps k r in
     let same_long : length more ≡ length (slice_set reps k r) = ap (λ (xs : List ℕ). length xs) e in
-    let apart : (j : ℕ) → k < j → slice_index reps j ≡ slice_index more j = λ j up. sym (ap (λ (xs : List ℕ). slice_index xs j) e ∙ set_there reps k j r (λ f. absurd (omega arith))) in
+    let apart : (j : ℕ) → k < j → slice_index reps j ≡ slice_index more j =
+    λ j up. sym (ap (λ (xs : List ℕ). slice_index xs j) e
+    ∙ set_there reps k j r (λ f. absurd (omega arith))) in
     record {
       long = omega arith;
       each = λ j v high is.
           ⊎_elim
           (λ here.
           let h : k ≡ j = here in
-          let is_here : slice_get g k ≡ Some v = subst (λ (n : ℕ). slice_get g n ≡ Some v) (sym h) is in
-          let rep_here = moved g ok (slice_index reps) (slice_index more) k r v is_here apart (rep v is_here) in
-          let read : slice_index more k ≡ r = ap (λ (xs : List ℕ). slice_index xs k) e ∙ set_here reps k r (omega arith) in
-          subst (λ (n : ℕ). IsRep g (slice_index more) n (slice_index more n) v) h (subst (λ (q : ℕ). IsRep g (slice_index more) k q v) (sym read) rep_here))
+          let is_here : slice_get g k ≡ Some v =
+          subst (λ (n : ℕ). slice_get g n ≡ Some v) (sym h) is in
+          let rep_here = moved g ok (slice_index reps) (slice_index more) k r v is_here apart
+          (rep v is_here) in
+          let read : slice_index more k ≡ r =
+          ap (λ (xs : List ℕ). slice_index xs k) e ∙ set_here reps k r (omega arith) in
+          subst (λ (n : ℕ). IsRep g (slice_index more) n (slice_index more n) v) h
+          (subst (λ (q : ℕ). IsRep g (slice_index more) k q v) (sym read) rep_here))
           (λ other.
           let up : k < j = above k j high other in
           let old = s.each j v (omega arith) is in
-          let new = moved g ok (slice_index reps) (slice_index more) j (slice_index reps j) v is (λ l more_up. apart l (omega arith)) old in
+          let new = moved g ok (slice_index reps) (slice_index more) j (slice_index reps j) v is
+          (λ l more_up. apart l (omega arith)) old in
           subst (λ (q : ℕ). IsRep g (slice_index more) j q v) (apart j up) new)
           (cases_eq k j);
     }
@@ -143,29 +177,40 @@ standing_more g ok reps more i k r s at low rep e =
     above : (a b : ℕ) → a ≤ b → (a ≡ b → ⊥) → a < b
     above a b less other = omega (arith, other)
 
-pub got_map : (f : Vertex → Vertex) (vs : List Vertex) (k : ℕ) (v : Vertex) → slice_get vs k ≡ Some v → slice_get (map f vs) k ≡ Some (f v)
+pub got_map : (f : Vertex → Vertex) (vs : List Vertex) (k : ℕ) (v : Vertex)
+    → slice_get vs k ≡ Some v → slice_get (map f vs) k ≡ Some (f v)
 got_map f [] k v e = cc
 got_map f (w ∷ vs) zero v e = let h : w ≡ v = cc in ap (λ (u : Vertex). Some (f u)) h
 got_map f (w ∷ vs) (suc k) v e = got_map f vs k v e
 
-pub standing_shrinks : (g : List Vertex) (reps : List ℕ) (i : ℕ) → Standing g reps i → i ≡ 0 → Shrinks g (map (renamed (slice_index reps)) g) (slice_index reps)
+pub standing_shrinks : (g : List Vertex) (reps : List ℕ) (i : ℕ) → Standing g reps i → i ≡ 0
+    → Shrinks g (map (renamed (slice_index reps)) g) (slice_index reps)
 standing_shrinks g reps i s at = record {
   begin = λ next is. got_map (renamed (slice_index reps)) g 0 (Begin next) is;
   test = λ k var kids is.
       ⊎_elim
-      (λ own. inl (subst (λ (n : ℕ). slice_get (map (renamed (slice_index reps)) g) n ≡ Some (Test var (map (slice_index reps) kids))) (sym own) (got_map (renamed (slice_index reps)) g k (Test var kids) is)))
+      (λ own. inl (subst (λ (n : ℕ). slice_get (map (renamed (slice_index reps)) g) n
+      ≡ Some (Test var (map (slice_index reps) kids))) (sym own)
+      (got_map (renamed (slice_index reps)) g k (Test var kids) is)))
       (λ rest. ⊎_elim (λ idle. inr idle) (λ t. inl (twin k (Test var kids) t)) rest)
       (s.each k (Test var kids) (omega arith) is);
   assign = λ k result code next is.
       ⊎_elim
-      (λ own. inl (subst (λ (n : ℕ). slice_get (map (renamed (slice_index reps)) g) n ≡ Some (Assign result code (slice_index reps next))) (sym own) (got_map (renamed (slice_index reps)) g k (Assign result code next) is)))
+      (λ own. inl (subst (λ (n : ℕ). slice_get (map (renamed (slice_index reps)) g) n
+      ≡ Some (Assign result code (slice_index reps next))) (sym own)
+      (got_map (renamed (slice_index reps)) g k (Assign result code next) is)))
       (λ rest. ⊎_elim (λ left. inr left) (λ t. inl (twin k (Assign result code next) t)) rest)
       (s.each k (Assign result code next) (omega arith) is);
-  end = λ k is. let own : slice_index reps k ≡ k = s.each k End (omega arith) is in subst (λ (n : ℕ). slice_get (map (renamed (slice_index reps)) g) n ≡ Some End) (sym own) (got_map (renamed (slice_index reps)) g k End is);
+  end = λ k is. let own : slice_index reps k ≡ k = s.each k End (omega arith) is in
+      subst (λ (n : ℕ). slice_get (map (renamed (slice_index reps)) g) n ≡ Some End) (sym own)
+      (got_map (renamed (slice_index reps)) g k End is);
 }
   where
-    twin : (k : ℕ) (v : Vertex) → IsTwin g (slice_index reps) k (slice_index reps k) v → slice_get (map (renamed (slice_index reps)) g) (slice_index reps k) ≡ Some (renamed (slice_index reps) v)
-    twin k v t = got_map (renamed (slice_index reps)) g (slice_index reps k) t.other t.is ∙ ap (λ (u : Vertex). Some u) t.same
+    twin : (k : ℕ) (v : Vertex) → IsTwin g (slice_index reps) k (slice_index reps k) v
+        → slice_get (map (renamed (slice_index reps)) g) (slice_index reps k)
+        ≡ Some (renamed (slice_index reps) v)
+    twin k v t = got_map (renamed (slice_index reps)) g (slice_index reps k) t.other t.is
+        ∙ ap (λ (u : Vertex). Some u) t.same
 
 -- what stands for a vertex is no earlier, and within
 pub vertex_there : (vs : List Vertex) (n : ℕ) → n < length vs → slice_get vs n ≡ None → ⊥
@@ -177,9 +222,11 @@ module _ (g : List Vertex) (ok : IsGraph g) (reps : List ℕ) (s : Standing g re
   abbrev Within : ℕ → Type 0
   Within k = (k ≤ slice_index reps k) × (slice_index reps k < length g)
 
-  within_of : (k : ℕ) → k < length g → ((j : ℕ) → k < j → j < length g → Within j) → (o : Option Vertex) → slice_get g k ≡ o → Within k
+  within_of : (k : ℕ) → k < length g → ((j : ℕ) → k < j → j < length g → Within j)
+      → (o : Option Vertex) → slice_get g k ≡ o → Within k
   within_of k low later None is = absurd (vertex_there g k low is)
-  within_of k low later (Some (Begin next)) is = let own : slice_index reps k ≡ k = s.each k (Begin next) (omega arith) is in (omega arith, omega arith)
+  within_of k low later (Some (Begin next)) is = let own : slice_index reps k ≡ k =
+      s.each k (Begin next) (omega arith) is in (omega arith, omega arith)
   within_of k low later (Some (Test var kids)) is =
       ⊎_elim
       (λ own. (omega (arith, own), omega (arith, own)))
@@ -193,7 +240,8 @@ module _ (g : List Vertex) (ok : IsGraph g) (reps : List ℕ) (s : Standing g re
       let b = kid.1 in
       let e = idle 0 some in
       (omega arith, omega arith))
-      (λ t. let up = t.later in let inside = below g (slice_index reps k) t.other t.is in (omega arith, omega arith))
+      (λ t. let up = t.later in let inside = below g (slice_index reps k) t.other t.is in
+      (omega arith, omega arith))
       rest)
       (s.each k (Test var kids) (omega arith) is)
   within_of k low later (Some (Assign result code next)) is =
@@ -208,14 +256,17 @@ module _ (g : List Vertex) (ok : IsGraph g) (reps : List ℕ) (s : Standing g re
       let b = kid.1 in
       let e = left.1 in
       (omega arith, omega arith))
-      (λ t. let up = t.later in let inside = below g (slice_index reps k) t.other t.is in (omega arith, omega arith))
+      (λ t. let up = t.later in let inside = below g (slice_index reps k) t.other t.is in
+      (omega arith, omega arith))
       rest)
       (s.each k (Assign result code next) (omega arith) is)
-  within_of k low later (Some End) is = let own : slice_index reps k ≡ k = s.each k End (omega arith) is in (omega arith, omega arith)
+  within_of k low later (Some End) is = let own : slice_index reps k ≡ k =
+      s.each k End (omega arith) is in (omega arith, omega arith)
 
   pub within : (left k : ℕ) → length g ≤ k + left → k < length g → Within k
   within zero k e low = absurd (omega arith)
-  within (suc left) k e low = within_of k low (λ j up inside. within left j (omega arith) inside) (slice_get g k) refl
+  within (suc left) k e low =
+      within_of k low (λ j up inside. within left j (omega arith) inside) (slice_get g k) refl
 
   long_vertices : (f : Vertex → Vertex) (vs : List Vertex) → length (map f vs) ≡ length vs
   long_vertices f [] = refl
@@ -227,30 +278,44 @@ module _ (g : List Vertex) (ok : IsGraph g) (reps : List ℕ) (s : Standing g re
   kids_renamed f (Assign result code next) = refl
   kids_renamed f End = refl
 
-  got_none : (f : Vertex → Vertex) (vs : List Vertex) (k : ℕ) → slice_get vs k ≡ None → slice_get (map f vs) k ≡ None
+  got_none : (f : Vertex → Vertex) (vs : List Vertex) (k : ℕ) → slice_get vs k ≡ None
+      → slice_get (map f vs) k ≡ None
   got_none f [] k e = refl
   got_none f (v ∷ vs) zero e = cc
   got_none f (v ∷ vs) (suc k) e = got_none f vs k e
 
-  index_map : (f : ℕ → ℕ) (xs : List ℕ) (j : ℕ) → j < length (map f xs) → (j < length xs) × (slice_index (map f xs) j ≡ f (slice_index xs j))
+  index_map : (f : ℕ → ℕ) (xs : List ℕ) (j : ℕ) → j < length (map f xs)
+      → (j < length xs) × (slice_index (map f xs) j ≡ f (slice_index xs j))
   index_map f [] j low = absurd (omega arith)
   index_map f (x ∷ xs) zero low = (omega arith, refl)
-  index_map f (x ∷ xs) (suc j) low = let r = index_map f xs j (omega arith) in (omega (arith, r.0), r.1)
+  index_map f (x ∷ xs) (suc j) low = let r = index_map f xs j (omega arith) in
+      (omega (arith, r.0), r.1)
 
   pub rises : Rises (map (renamed (slice_index reps)) g)
   rises k i low = go (slice_get g k) refl
     where
-      go : (o : Option Vertex) → slice_get g k ≡ o → (k < slice_index (kids_at (map (renamed (slice_index reps)) g) k) i) × (slice_index (kids_at (map (renamed (slice_index reps)) g) k) i < length (map (renamed (slice_index reps)) g))
-      go None is = absurd (let e : length (kids_at (map (renamed (slice_index reps)) g) k) ≡ 0 = ap (λ (o : Option Vertex). length (kids_in o)) (got_none (renamed (slice_index reps)) g k is) in omega arith)
+      go : (o : Option Vertex) → slice_get g k ≡ o
+          → (k < slice_index (kids_at (map (renamed (slice_index reps)) g) k) i)
+          × (slice_index (kids_at (map (renamed (slice_index reps)) g) k) i
+          < length (map (renamed (slice_index reps)) g))
+      go None is = absurd (let e : length (kids_at (map (renamed (slice_index reps)) g) k)
+          ≡ 0 = ap (λ (o : Option Vertex). length (kids_in o))
+          (got_none (renamed (slice_index reps)) g k is) in omega arith)
       go (Some v) is =
-          let e : kids_at (map (renamed (slice_index reps)) g) k ≡ map (slice_index reps) (kids_of v) = ap kids_in (got_map (renamed (slice_index reps)) g k v is) ∙ kids_renamed (slice_index reps) v in
-          let item = index_map (slice_index reps) (kids_of v) i (subst (λ (ks : List ℕ). i < length ks) e low) in
+          let e : kids_at (map (renamed (slice_index reps)) g) k
+          ≡ map (slice_index reps) (kids_of v) =
+          ap kids_in (got_map (renamed (slice_index reps)) g k v is)
+          ∙ kids_renamed (slice_index reps) v in
+          let item = index_map (slice_index reps) (kids_of v) i
+          (subst (λ (ks : List ℕ). i < length ks) e low) in
           let up = ok.above k v i is item.0 in
           let inside = ok.within k v i is item.0 in
           let kid = within (length g) (slice_index (kids_of v) i) (omega arith) inside in
           let a = kid.0 in
           let b = kid.1 in
-          let at : slice_index (kids_at (map (renamed (slice_index reps)) g) k) i ≡ slice_index reps (slice_index (kids_of v) i) = ap (λ (ks : List ℕ). slice_index ks i) e ∙ item.1 in
+          let at : slice_index (kids_at (map (renamed (slice_index reps)) g) k) i
+          ≡ slice_index reps (slice_index (kids_of v) i) =
+          ap (λ (ks : List ℕ). slice_index ks i) e ∙ item.1 in
           let long = long_vertices (renamed (slice_index reps)) g in
           (omega arith, omega arith)
 
@@ -258,12 +323,17 @@ module _ (g : List Vertex) (ok : IsGraph g) (reps : List ℕ) (s : Standing g re
   first_stands = s.each 0 (Begin ok.begin.0) (omega arith) ok.begin.1
 
   pub some_vertex : 0 < length (map (renamed (slice_index reps)) g)
-  some_vertex = let low = below g 0 (Begin ok.begin.0) ok.begin.1 in let long = long_vertices (renamed (slice_index reps)) g in omega arith
+  some_vertex = let low = below g 0 (Begin ok.begin.0) ok.begin.1 in
+      let long = long_vertices (renamed (slice_index reps)) g in omega arith
 
   -- what stands for a vertex stands for itself
-  own_of : (k : ℕ) → k < length g → ((j : ℕ) → k < j → j < length g → slice_index reps (slice_index reps j) ≡ slice_index reps j) → (o : Option Vertex) → slice_get g k ≡ o → slice_index reps (slice_index reps k) ≡ slice_index reps k
+  own_of : (k : ℕ) → k < length g
+      → ((j : ℕ) → k < j → j < length g → slice_index reps (slice_index reps j)
+      ≡ slice_index reps j) → (o : Option Vertex) → slice_get g k ≡ o
+      → slice_index reps (slice_index reps k) ≡ slice_index reps k
   own_of k low later None is = absurd (vertex_there g k low is)
-  own_of k low later (Some (Begin next)) is = ap (slice_index reps) (s.each k (Begin next) (omega arith) is)
+  own_of k low later (Some (Begin next)) is =
+      ap (slice_index reps) (s.each k (Begin next) (omega arith) is)
   own_of k low later (Some (Test var kids)) is =
       ⊎_elim
       (λ own. ap (slice_index reps) own)
@@ -271,7 +341,8 @@ module _ (g : List Vertex) (ok : IsGraph g) (reps : List ℕ) (s : Standing g re
       (λ idle.
       let some = ok.some_kid k var kids is in
       let e = idle 0 some in
-      sym (ap (slice_index reps) e) ∙ later (slice_index kids 0) (ok.above k (Test var kids) 0 is some) (ok.within k (Test var kids) 0 is some) ∙ e)
+      sym (ap (slice_index reps) e) ∙ later (slice_index kids 0)
+      (ok.above k (Test var kids) 0 is some) (ok.within k (Test var kids) 0 is some) ∙ e)
       (λ t. t.own)
       rest)
       (s.each k (Test var kids) (omega arith) is)
@@ -279,15 +350,19 @@ module _ (g : List Vertex) (ok : IsGraph g) (reps : List ℕ) (s : Standing g re
       ⊎_elim
       (λ own. ap (slice_index reps) own)
       (λ rest. ⊎_elim
-      (λ left. sym (ap (slice_index reps) left.1) ∙ later next (ok.above k (Assign result code next) 0 is (omega arith)) (ok.within k (Assign result code next) 0 is (omega arith)) ∙ left.1)
+      (λ left. sym (ap (slice_index reps) left.1)
+      ∙ later next (ok.above k (Assign result code next) 0 is (omega arith))
+      (ok.within k (Assign result code next) 0 is (omega arith)) ∙ left.1)
       (λ t. t.own)
       rest)
       (s.each k (Assign result code next) (omega arith) is)
   own_of k low later (Some End) is = ap (slice_index reps) (s.each k End (omega arith) is)
 
-  own_from : (left k : ℕ) → length g ≤ k + left → k < length g → slice_index reps (slice_index reps k) ≡ slice_index reps k
+  own_from : (left k : ℕ) → length g ≤ k + left → k < length g
+      → slice_index reps (slice_index reps k) ≡ slice_index reps k
   own_from zero k e low = absurd (omega arith)
-  own_from (suc left) k e low = own_of k low (λ j up inside. own_from left j (omega arith) inside) (slice_get g k) refl
+  own_from (suc left) k e low =
+      own_of k low (λ j up inside. own_from left j (omega arith) inside) (slice_get g k) refl
 
   pub own : (k : ℕ) → k < length g → slice_index reps (slice_index reps k) ≡ slice_index reps k
   own k low = own_from (length g) k (omega arith) low

@@ -11,12 +11,15 @@ use Rattle.sgraph_opt.specs.Found.{found, Same, Entered}
 use Rattle.sgraph_opt.specs.Representatives.{renamed, Standing}
 
 -- r is chosen for vertex k
-abbrev pub Chosen : (ℕ → ℕ) → ℕ → ℕ → BTreeMap (Vec ℕ Global) ℕ → BTreeMap (Vec ℕ Global) ℕ → Vertex → Type 0
+abbrev pub Chosen : (ℕ → ℕ) → ℕ → ℕ → BTreeMap (Vec ℕ Global) ℕ → BTreeMap (Vec ℕ Global) ℕ → Vertex
+    → Type 0
 Chosen to k r old new (Begin next) = (r ≡ k) × Same old new
 Chosen to k r old new (Test var kids) =
     (((i : ℕ) → i < length kids → to (slice_index kids i) ≡ r) × Same old new)
-    ⊎ (IsTrue (varies (Test var (map to kids))) × Entered old new (key_of (Test var (map to kids))) k r)
-Chosen to k r old new (Assign result code next) = Entered old new (key_of (Assign result code (to next))) k r
+    ⊎ (IsTrue (varies (Test var (map to kids)))
+    × Entered old new (key_of (Test var (map to kids))) k r)
+Chosen to k r old new (Assign result code next) =
+    Entered old new (key_of (Assign result code (to next))) k r
 Chosen to k r old new End = (r ≡ k) × Same old new
 
 -- a test or an assignment
@@ -37,7 +40,8 @@ pub record Has (g : List Vertex) (to : ℕ → ℕ) (i r : ℕ) (key : List ℕ)
 
 -- Each vertex from number i on has one that may stand for it, tests that stand for themselves vary,
 -- and the index has exactly the tests and assignments that stand for themselves.
-pub record Sharing (g : List Vertex) (reps : List ℕ) (index : BTreeMap (Vec ℕ Global) ℕ) (i : ℕ) : Type 0 where
+pub record Sharing (g : List Vertex) (reps : List ℕ) (index : BTreeMap (Vec ℕ Global) ℕ) (i : ℕ) :
+    Type 0 where
   pub stands : Standing g reps i
   pub vary :
       (k : ℕ) (v : Vertex)

@@ -19,4 +19,5 @@ Same old new = (q : List ℕ) → found new q ≡ found old q
 abbrev pub Entered : BTreeMap (Vec ℕ Global) ℕ → BTreeMap (Vec ℕ Global) ℕ → List ℕ → ℕ → ℕ → Type 0
 Entered old new key k r =
     ((found old key ≡ Some r) × Same old new)
-    ⊎ ((found old key ≡ None) × (r ≡ k) × ((q : List ℕ) → found new q ≡ cond (bytes_eq key q) (Some k) (found old q)))
+    ⊎ ((found old key ≡ None) × (r ≡ k)
+    × ((q : List ℕ) → found new q ≡ cond (bytes_eq key q) (Some k) (found old q)))

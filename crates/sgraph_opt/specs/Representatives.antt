@@ -23,7 +23,8 @@ pub record IsTwin (g : List Vertex) (to : ℕ → ℕ) (k r : ℕ) (v : Vertex) 
 abbrev pub IsRep : List Vertex → (ℕ → ℕ) → ℕ → ℕ → Vertex → Type 0
 IsRep g to k r (Begin next) = r ≡ k
 IsRep g to k r (Test var kids) =
-    (r ≡ k) ⊎ ((i : ℕ) → i < length kids → to (slice_index kids i) ≡ r) ⊎ IsTwin g to k r (Test var kids)
+    (r ≡ k) ⊎ ((i : ℕ) → i < length kids → to (slice_index kids i) ≡ r)
+    ⊎ IsTwin g to k r (Test var kids)
 IsRep g to k r (Assign result code next) =
     (r ≡ k) ⊎ ((code ≡ 0) × (to next ≡ r)) ⊎ IsTwin g to k r (Assign result code next)
 IsRep g to k r End = r ≡ k

@@ -10,7 +10,9 @@ pub record Shrinks (g h : List Vertex) (to : ℕ → ℕ) : Type 0 where
       (next : ℕ)
       → slice_get g 0 ≡ Some (Begin next)
       → slice_get h 0 ≡ Some (Begin (to next))
-  pub test : (k var : ℕ) (kids : List ℕ) → slice_get g k ≡ Some (Test var kids) → (slice_get h (to k) ≡ Some (Test var (map to kids))) ⊎ ((i : ℕ) → i < length kids → to (slice_index kids i) ≡ to k)
+  pub test : (k var : ℕ) (kids : List ℕ) → slice_get g k ≡ Some (Test var kids)
+      → (slice_get h (to k) ≡ Some (Test var (map to kids)))
+      ⊎ ((i : ℕ) → i < length kids → to (slice_index kids i) ≡ to k)
   pub assign :
       (k result code next : ℕ)
       → slice_get g k ≡ Some (Assign result code next)

@@ -14,7 +14,8 @@ use std::alloc::Global;
 fn past_default(g: &Graph, k: u64, reps: &Places) -> u64
     requires long { length reps.now ≡ length g.now }
     requires k { k < length g.now }
-    ensures { (v : Vertex) → slice_get g.now k ≡ Some v → result ≡ past_default (slice_index reps.now) k v }
+    ensures { (v : Vertex) → slice_get g.now k ≡ Some v
+        → result ≡ past_default (slice_index reps.now) k v }
 {
     let _ = g.len();
     let v = g.get(k);

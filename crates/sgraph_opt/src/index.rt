@@ -17,7 +17,8 @@ fn find(index: &Index, key: &[u64]) -> Option<u64>
 
 // Puts a number under a key.
 fn enter(index: &mut Index, key: Vec<u64>, number: u64) -> Result<(), NoMemory>
-    ensures { OnOk result ((q : List ℕ) → found index.new q ≡ cond (bytes_eq key.items q) (Some number) (found index.old q)) }
+    ensures { OnOk result ((q : List ℕ)
+        → found index.new q ≡ cond (bytes_eq key.items q) (Some number) (found index.old q)) }
 {
     index.insert(key, number)?;
     Ok(())

@@ -44,7 +44,8 @@ fn leave(
     requires vertex { k < length h.now }
     requires rises { Rises h.now }
     requires marks { MarksOf (length h.now) marks.old left.old }
-    ensures left { OnOk result (turned left.new ≡ left_after (length h.now) (kids_at h.now) (turned left.old) k) }
+    ensures left { OnOk result (turned left.new
+        ≡ left_after (length h.now) (kids_at h.now) (turned left.old) k) }
     ensures marks { OnOk result (MarksOf (length h.now) marks.new left.new) }
 {
     if *marks.get(k) {
@@ -75,7 +76,8 @@ fn leave_all(alloc: Global, h: &VertexList) -> Result<Places, NoMemory>
 fn numbers_of(alloc: Global, count: u64, left: &Places) -> Result<Places, NoMemory>
     requires { (i : ℕ) → i < length left.now → slice_index left.now i < count }
     ensures long { IfOk result (λ numbers. length numbers ≡ count) }
-    ensures each { IfOk result (λ numbers. (k : ℕ) → has (turned left.now) k ≡ true → slice_index numbers k ≡ place (turned left.now) k) }
+    ensures each { IfOk result (λ numbers. (k : ℕ) → has (turned left.now) k ≡ true
+        → slice_index numbers k ≡ place (turned left.now) k) }
 {
     let mut numbers = Places::filled(alloc, count, 0)?;
     let len = left.len();
@@ -100,7 +102,8 @@ fn kid_numbers(alloc: Global, kids: &Places, numbers: &Places) -> Result<Places,
 
 // A vertex with other numbers for its children.
 pub(crate) fn rename(alloc: Global, v: &Vertex, numbers: &Places) -> Result<Vertex, NoMemory>
-    requires { (j : ℕ) → j < length (kids_of v.now) → slice_index (kids_of v.now) j < length numbers.now }
+    requires { (j : ℕ) → j < length (kids_of v.now)
+        → slice_index (kids_of v.now) j < length numbers.now }
     ensures { IfOk result (λ w. w ≡ renamed (slice_index numbers.now) v.now) }
 {
     match v {
@@ -134,7 +137,9 @@ fn arrange(
     requires left { (i : ℕ) → i < length left.now → slice_index left.now i < length h.now }
     requires rises { Rises h.now }
     requires numbers { length numbers.now ≡ length h.now }
-    ensures { IfOk result (λ vertices. vertices ≡ map (λ k. renamed (slice_index numbers.now) (vertex_at h.now k)) (turned left.now)) }
+    ensures { IfOk result (λ vertices.
+        vertices ≡ map (λ k. renamed (slice_index numbers.now) (vertex_at h.now k))
+        (turned left.now)) }
 {
     let mut vertices = VertexList::new(alloc);
     for i in (0..left.len()).rev() {

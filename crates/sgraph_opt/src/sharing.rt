@@ -18,8 +18,10 @@ use std::collections::BTreeMap;
 fn one_kid(kids: &Places, reps: &Places) -> Option<u64>
     requires some { 0 < length kids.now }
     requires kids { (i : ℕ) → i < length kids.now → slice_index kids.now i < length reps.now }
-    ensures one { IfSome result (λ r. (i : ℕ) → i < length kids.now → slice_index reps.now (slice_index kids.now i) ≡ r) }
-    ensures none { IfNone result ((var : ℕ) → IsTrue (varies (Test var (map (slice_index reps.now) kids.now)))) }
+    ensures one { IfSome result (λ r. (i : ℕ) → i < length kids.now
+        → slice_index reps.now (slice_index kids.now i) ≡ r) }
+    ensures none { IfNone result ((var : ℕ)
+        → IsTrue (varies (Test var (map (slice_index reps.now) kids.now)))) }
 {
     let first = *reps.get(*kids.get(0));
     for i in 0..kids.len() {
@@ -34,7 +36,8 @@ fn one_kid(kids: &Places, reps: &Places) -> Option<u64>
 // A test with what stands for its children, as a key.
 fn test_key(alloc: Global, var: u32, kids: &Places, reps: &Places) -> Result<Vec<u64>, NoMemory>
     requires { (i : ℕ) → i < length kids.now → slice_index kids.now i < length reps.now }
-    ensures { IfOk result (λ key. key.items ≡ key_of (Test var (map (slice_index reps.now) kids.now))) }
+    ensures { IfOk result (λ key. key.items
+        ≡ key_of (Test var (map (slice_index reps.now) kids.now))) }
 {
     let mut key = Vec::new(alloc);
     key.push(1)?;
@@ -69,7 +72,8 @@ fn shared(
 ) -> Result<u64, NoMemory>
     requires long { length reps.now ≡ length g.now }
     requires k { k < length g.now }
-    ensures { IfOk result (λ r. (v : Vertex) → slice_get g.now k ≡ Some v → Chosen (slice_index reps.now) k r index.old index.new v) }
+    ensures { IfOk result (λ r. (v : Vertex) → slice_get g.now k ≡ Some v
+        → Chosen (slice_index reps.now) k r index.old index.new v) }
 {
     let _ = g.len();
     let v = g.get(k);

@@ -11,12 +11,14 @@ use Rattle.transition_table.specs.declared.decl.StateDecl.{StateDecl}
 use Rattle.task_code.specs.Listings.{event_name, labels, label}
 use Rattle.task_code.specs.Labels.{result_label}
 
-front : {X : Type 0} (xs ys : List X) (i : ℕ) → i < length xs → slice_get (xs ++ ys) i ≡ slice_get xs i
+front : {X : Type 0} (xs ys : List X) (i : ℕ) → i < length xs
+    → slice_get (xs ++ ys) i ≡ slice_get xs i
 front [] ys i low = absurd (omega arith)
 front (x ∷ xs) ys zero low = refl
 front (x ∷ xs) ys (suc i) low = front xs ys i (omega arith)
 
-behind : {X : Type 0} (xs ys : List X) (i j : ℕ) → i ≡ length xs + j → slice_get (xs ++ ys) i ≡ slice_get ys j
+behind : {X : Type 0} (xs ys : List X) (i j : ℕ) → i ≡ length xs + j
+    → slice_get (xs ++ ys) i ≡ slice_get ys j
 behind [] ys i j e = let f : i ≡ j = omega arith in ap (slice_get ys) f
 behind (x ∷ xs) ys zero j e = absurd (omega arith)
 behind (x ∷ xs) ys (suc i) j e = behind xs ys i j (omega arith)
@@ -26,7 +28,8 @@ none [] i high = refl
 none (x ∷ xs) zero high = absurd (omega arith)
 none (x ∷ xs) (suc i) high = none xs i (omega arith)
 
-mapped : {X Y : Type 0} (f : X → Y) (xs : List X) (i : ℕ) (x : X) → slice_get xs i ≡ Some x → slice_get (map f xs) i ≡ Some (f x)
+mapped : {X Y : Type 0} (f : X → Y) (xs : List X) (i : ℕ) (x : X) → slice_get xs i ≡ Some x
+    → slice_get (map f xs) i ≡ Some (f x)
 mapped f [] i x e = cc
 mapped f (y ∷ ys) zero x e = let h : y ≡ x = cc in ap (λ z. Some (f z)) h
 mapped f (y ∷ ys) (suc i) x e = mapped f ys i x e
@@ -45,8 +48,12 @@ long_vars m =
     let sizes = are_sizes m.vars in
     let lengths = length m.vars == length m.inputs + length m.states in
     let inputs = list_all (nat_le 2) (take (length m.inputs) m.vars) in
-    let states = pointwise (λ state size. ltb state.init size) m.states (drop (length m.inputs) m.vars) in
-    eqb-true (length m.vars) (length m.inputs + length m.states) (and_parts sizes lengths (and_parts (sizes && lengths) inputs (and_parts ((sizes && lengths) && inputs) states m.sized_vars).0).0).1
+    let states = pointwise (λ state size. ltb state.init size) m.states
+    (drop (length m.inputs) m.vars) in
+    eqb-true (length m.vars) (length m.inputs + length m.states)
+    (and_parts sizes lengths
+    (and_parts (sizes && lengths) inputs
+    (and_parts ((sizes && lengths) && inputs) states m.sized_vars).0).0).1
 
 module _ (net : Network) (m : Machine) where
   abbrev ins : List (List ℕ)
@@ -65,19 +72,25 @@ module _ (net : Network) (m : Machine) where
   words w o = unwrap_or o [] ≡ w
 
   grouped : labels net m ≡ ins ++ (sts ++ ((codes "go" ∷ tos) ++ outs))
-  grouped = append_assoc (ins ++ sts) (codes "go" ∷ tos) outs ∙ append_assoc ins sts ((codes "go" ∷ tos) ++ outs)
+  grouped = append_assoc (ins ++ sts) (codes "go" ∷ tos) outs
+      ∙ append_assoc ins sts ((codes "go" ∷ tos) ++ outs)
 
-  at_label : (i : ℕ) → label net m i ≡ unwrap_or (slice_get (ins ++ (sts ++ ((codes "go" ∷ tos) ++ outs))) i) []
+  at_label : (i : ℕ) → label net m i
+      ≡ unwrap_or (slice_get (ins ++ (sts ++ ((codes "go" ∷ tos) ++ outs))) i) []
   at_label i = ap (λ (xs : List (List ℕ)). unwrap_or (slice_get xs i) []) grouped
 
-  pub input_words : (i e : ℕ) → slice_get m.inputs i ≡ Some e → label net m i ≡ codes "in " ++ event_name net e
+  pub input_words : (i e : ℕ) → slice_get m.inputs i ≡ Some e
+      → label net m i ≡ codes "in " ++ event_name net e
   input_words i e is =
       let low = within m.inputs i e is in
       let l = long (λ e. codes "in " ++ event_name net e) m.inputs in
       at_label i
-      ∙ ap (λ (o : Option (List ℕ)). unwrap_or o []) (front ins (sts ++ ((codes "go" ∷ tos) ++ outs)) i (omega arith) ∙ mapped (λ e. codes "in " ++ event_name net e) m.inputs i e is)
+      ∙ ap (λ (o : Option (List ℕ)). unwrap_or o [])
+      (front ins (sts ++ ((codes "go" ∷ tos) ++ outs)) i (omega arith)
+      ∙ mapped (λ e. codes "in " ++ event_name net e) m.inputs i e is)
 
-  pub state_words : (i k : ℕ) (state : StateDecl) → slice_get m.states k ≡ Some state → i ≡ length m.inputs + k → label net m i ≡ codes "st " ++ state.name
+  pub state_words : (i k : ℕ) (state : StateDecl) → slice_get m.states k ≡ Some state
+      → i ≡ length m.inputs + k → label net m i ≡ codes "st " ++ state.name
   state_words i k state is e =
       let low = within m.states k state is in
       let l = long (λ e. codes "in " ++ event_name net e) m.inputs in
@@ -88,7 +101,8 @@ module _ (net : Network) (m : Machine) where
       ∙ front sts ((codes "go" ∷ tos) ++ outs) k (omega arith)
       ∙ mapped (λ (state : StateDecl). codes "st " ++ state.name) m.states k state is)
 
-  at_result : (y i : ℕ) → i ≡ length m.inputs + length m.states + y → label net m i ≡ unwrap_or (slice_get ((codes "go" ∷ tos) ++ outs) y) []
+  at_result : (y i : ℕ) → i ≡ length m.inputs + length m.states + y
+      → label net m i ≡ unwrap_or (slice_get ((codes "go" ∷ tos) ++ outs) y) []
   at_result y i e =
       let l = long (λ e. codes "in " ++ event_name net e) m.inputs in
       let n = long (λ (state : StateDecl). codes "st " ++ state.name) m.states in
@@ -97,13 +111,16 @@ module _ (net : Network) (m : Machine) where
       (behind ins (sts ++ ((codes "go" ∷ tos) ++ outs)) i (length m.states + y) (omega arith)
       ∙ behind sts ((codes "go" ∷ tos) ++ outs) (length m.states + y) y (omega arith))
 
-  pub same_result : (y i : ℕ) → i ≡ length m.inputs + length m.states + y → label net m i ≡ result_label net m y
-  same_result y i e = let v = long_vars m in let f : i ≡ length m.vars + y = omega arith in ap (label net m) f
+  pub same_result : (y i : ℕ) → i ≡ length m.inputs + length m.states + y
+      → label net m i ≡ result_label net m y
+  same_result y i e = let v = long_vars m in let f : i ≡ length m.vars + y = omega arith in
+      ap (label net m) f
 
   pub go_words : result_label net m 0 ≡ codes "go"
   go_words = let v = long_vars m in at_result 0 (length m.vars + 0) (omega arith)
 
-  pub to_words : (y k : ℕ) (state : StateDecl) → slice_get m.states k ≡ Some state → y ≡ 1 + k → result_label net m y ≡ codes "to " ++ state.name
+  pub to_words : (y k : ℕ) (state : StateDecl) → slice_get m.states k ≡ Some state → y ≡ 1 + k
+      → result_label net m y ≡ codes "to " ++ state.name
   to_words y k state is e =
       let v = long_vars m in
       let low = within m.states k state is in
@@ -115,7 +132,8 @@ module _ (net : Network) (m : Machine) where
       ∙ front tos outs k (omega arith)
       ∙ mapped (λ (state : StateDecl). codes "to " ++ state.name) m.states k state is)
 
-  pub out_words : (y k e : ℕ) → slice_get m.outputs k ≡ Some e → y ≡ 1 + length m.states + k → result_label net m y ≡ codes "out " ++ event_name net e
+  pub out_words : (y k e : ℕ) → slice_get m.outputs k ≡ Some e → y ≡ 1 + length m.states + k
+      → result_label net m y ≡ codes "out " ++ event_name net e
   out_words y k e is at =
       let v = long_vars m in
       let n = long (λ (state : StateDecl). codes "to " ++ state.name) m.states in
@@ -136,8 +154,11 @@ module _ (net : Network) (m : Machine) where
       ∙ none outs k (omega arith))
 
 -- two texts, one after the other
-pub two_texts : (old mid new a b : List ℕ) → mid ≡ old ++ a → new ≡ mid ++ b → (w : List ℕ) → w ≡ a ++ b → new ≡ old ++ w
-two_texts old mid new a b one two w is = two ∙ ap (λ (xs : List ℕ). xs ++ b) one ∙ append_assoc old a b ∙ ap (λ (xs : List ℕ). old ++ xs) (sym is)
+pub two_texts : (old mid new a b : List ℕ) → mid ≡ old ++ a → new ≡ mid ++ b → (w : List ℕ)
+    → w ≡ a ++ b → new ≡ old ++ w
+two_texts old mid new a b one two w is =
+    two ∙ ap (λ (xs : List ℕ). xs ++ b) one ∙ append_assoc old a b
+    ∙ ap (λ (xs : List ℕ). old ++ xs) (sym is)
 
 append_none : (xs : List ℕ) → xs ++ [] ≡ xs
 append_none [] = refl

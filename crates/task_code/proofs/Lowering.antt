@@ -23,21 +23,31 @@ module _ (g : List Vertex) (s : List ℕ) (on : GoesOn g) where
   code_from at codes = set_all codes (trail (goes_to s) code 0 at)
 
   -- one instruction
-  one_instr : (place : ℕ) (i : Instr) (codes : List ℕ) → slice_get code place ≡ Some i → Onward place (goes_to s place i) → code_from (Some place) codes ≡ code_from (goes_to s place i) (set_by codes i)
-  one_instr place i codes is onward = ap (set_all codes) (trail_at (goes_to s) code 0 place place i is (omega arith) onward)
+  one_instr : (place : ℕ) (i : Instr) (codes : List ℕ) → slice_get code place ≡ Some i
+      → Onward place (goes_to s place i)
+      → code_from (Some place) codes ≡ code_from (goes_to s place i) (set_by codes i)
+  one_instr place i codes is onward =
+      ap (set_all codes) (trail_at (goes_to s) code 0 place place i is (omega arith) onward)
 
-  one_vertex : (k : ℕ) (v : Vertex) (codes : List ℕ) → slice_get g k ≡ Some v → Onward k (next_of s k v) → graph_from (Some k) codes ≡ graph_from (next_of s k v) (assign codes v)
-  one_vertex k v codes is onward = ap (assign_all codes) (trail_at (next_of s) g 0 k k v is (omega arith) onward)
+  one_vertex : (k : ℕ) (v : Vertex) (codes : List ℕ) → slice_get g k ≡ Some v
+      → Onward k (next_of s k v) → graph_from (Some k) codes
+      ≡ graph_from (next_of s k v) (assign codes v)
+  one_vertex k v codes is onward =
+      ap (assign_all codes) (trail_at (next_of s) g 0 k k v is (omega arith) onward)
 
   -- both go on alike from a vertex
   Alike : ℕ → Type 0
   Alike k = (codes : List ℕ) → graph_from (Some k) codes ≡ code_from (Some (start g k)) codes
 
-  pub trail_none : {X : Type 0} (next : ℕ → X → Option ℕ) (xs : List X) (base : ℕ) → trail next xs base None ≡ []
+  pub trail_none : {X : Type 0} (next : ℕ → X → Option ℕ) (xs : List X) (base : ℕ)
+      → trail next xs base None ≡ []
   trail_none next [] base = refl
   trail_none next (x ∷ xs) base = trail_none next xs (suc base)
 
-  pub got_map : (f : ℕ → ℕ) (xs : List ℕ) (i : ℕ) → ((slice_get (map f xs) i ≡ None) × (slice_get xs i ≡ None)) ⊎ ((x : ℕ) × (slice_get (map f xs) i ≡ Some (f x)) × (slice_get xs i ≡ Some x) × (i < length xs) × (slice_index xs i ≡ x))
+  pub got_map : (f : ℕ → ℕ) (xs : List ℕ) (i : ℕ)
+      → ((slice_get (map f xs) i ≡ None) × (slice_get xs i ≡ None))
+      ⊎ ((x : ℕ) × (slice_get (map f xs) i ≡ Some (f x)) × (slice_get xs i ≡ Some x)
+      × (i < length xs) × (slice_index xs i ≡ x))
   got_map f [] i = inl (refl, refl)
   got_map f (x ∷ xs) zero = inr (x, refl, refl, omega arith, refl)
   got_map f (x ∷ xs) (suc i) =
@@ -46,17 +56,21 @@ module _ (g : List Vertex) (s : List ℕ) (on : GoesOn g) where
       (λ some. inr (some.0, some.1, some.2, omega (arith, some.3), some.4))
       (got_map f xs i)
 
-  of_test : (k var : ℕ) (kids : List ℕ) → slice_get g k ≡ Some (Tests var kids) → ((j : ℕ) → k < j → j < length g → Alike j) → Alike k
+  of_test : (k var : ℕ) (kids : List ℕ) → slice_get g k ≡ Some (Tests var kids)
+      → ((j : ℕ) → k < j → j < length g → Alike j) → Alike k
   unfolding Alike
   of_test k var kids is later codes =
       let zero_in : start g k + 0 ≡ start g k = omega arith in
-      let instr : slice_get code (start g k) ≡ Some (Test var (map (start g) kids)) = ap (slice_get code) (sym zero_in) ∙ instr_at g k 0 (Tests var kids) is (omega arith) in
+      let instr : slice_get code (start g k) ≡ Some (Test var (map (start g) kids)) =
+      ap (slice_get code) (sym zero_in) ∙ instr_at g k 0 (Tests var kids) is (omega arith) in
       ⊎_elim
       (λ none.
       one_vertex k (Tests var kids) codes is (rw none.1 tt)
       ∙ ap (λ (o : Option ℕ). graph_from o codes) none.1
       ∙ ap (assign_all codes) (trail_none (next_of s) g 0)
-      ∙ sym (one_instr (start g k) (Test var (map (start g) kids)) codes instr (rw none.0 tt) ∙ ap (λ (o : Option ℕ). code_from o codes) none.0 ∙ ap (set_all codes) (trail_none (goes_to s) code 0)))
+      ∙ sym (one_instr (start g k) (Test var (map (start g) kids)) codes instr (rw none.0 tt)
+      ∙ ap (λ (o : Option ℕ). code_from o codes) none.0
+      ∙ ap (set_all codes) (trail_none (goes_to s) code 0)))
       (λ some.
       let j = some.0 in
       let kid : slice_index kids (slice_index s var) ≡ j = some.4 in
@@ -67,10 +81,12 @@ module _ (g : List Vertex) (s : List ℕ) (on : GoesOn g) where
       one_vertex k (Tests var kids) codes is (rw some.2 (omega arith))
       ∙ ap (λ (o : Option ℕ). graph_from o codes) some.2
       ∙ later j (omega arith) (omega arith) codes
-      ∙ sym (one_instr (start g k) (Test var (map (start g) kids)) codes instr (rw some.1 (omega arith)) ∙ ap (λ (o : Option ℕ). code_from o codes) some.1))
+      ∙ sym (one_instr (start g k) (Test var (map (start g) kids)) codes instr
+      (rw some.1 (omega arith)) ∙ ap (λ (o : Option ℕ). code_from o codes) some.1))
       (got_map (start g) kids (slice_index s var))
 
-  of_assign : (k result c next : ℕ) → slice_get g k ≡ Some (Assign result c next) → ((j : ℕ) → k < j → j < length g → Alike j) → Alike k
+  of_assign : (k result c next : ℕ) → slice_get g k ≡ Some (Assign result c next)
+      → ((j : ℕ) → k < j → j < length g → Alike j) → Alike k
   unfolding Alike
   of_assign k result c next is later codes =
       let zero_in : start g k + 0 ≡ start g k = omega arith in
@@ -78,14 +94,20 @@ module _ (g : List Vertex) (s : List ℕ) (on : GoesOn g) where
       let within : next < length g = on.within k (Assign result c next) 0 is (omega arith) in
       let from = start_next g 0 k (Assign result c next) is in
       let own : 0 + k ≡ k = omega arith in
-      let w_own : width (0 + k) (Assign result c next) ≡ width k (Assign result c next) = ap (λ (i : ℕ). width i (Assign result c next)) own in
+      let w_own : width (0 + k) (Assign result c next) ≡ width k (Assign result c next) =
+      ap (λ (i : ℕ). width i (Assign result c next)) own in
       let vertex = one_vertex k (Assign result c next) codes is above in
       let set : List ℕ = slice_set codes result c in
       ⊎_elim
       (λ same.
-      let w : width k (Assign result c next) ≡ 1 = ap (λ (b : Bool). cond {A = ℕ} b 1 2) (eq-eqb next (suc k) same) in
-      let instr : slice_get code (start g k) ≡ Some (Set result c) = ap (slice_get code) (sym zero_in) ∙ instr_at g k 0 (Assign result c next) is (omega arith) in
-      let place : suc (start g k) ≡ start g next = (let f : given_before 0 g next ≡ given_before 0 g (suc k) = ap (given_before 0 g) same in omega arith) in
+      let w : width k (Assign result c next) ≡ 1 =
+      ap (λ (b : Bool). cond {A = ℕ} b 1 2) (eq-eqb next (suc k) same) in
+      let instr : slice_get code (start g k) ≡ Some (Set result c) =
+      ap (slice_get code) (sym zero_in) ∙ instr_at g k 0 (Assign result c next) is
+      (omega arith) in
+      let place : suc (start g k) ≡ start g next =
+      (let f : given_before 0 g next ≡ given_before 0 g (suc k) = ap (given_before 0 g) same in
+      omega arith) in
       vertex
       ∙ later next above within set
       ∙ ap (λ (p : ℕ). code_from (Some p) set) (sym place)
@@ -93,7 +115,9 @@ module _ (g : List Vertex) (s : List ℕ) (on : GoesOn g) where
       (λ other.
       let off : (next == suc k) ≡ false = ne_eqb next (suc k) other in
       let w : width k (Assign result c next) ≡ 2 = ap (λ (b : Bool). cond {A = ℕ} b 1 2) off in
-      let instr : slice_get code (start g k) ≡ Some (Set result c) = ap (slice_get code) (sym zero_in) ∙ instr_at g k 0 (Assign result c next) is (omega arith) in
+      let instr : slice_get code (start g k) ≡ Some (Set result c) =
+      ap (slice_get code) (sym zero_in) ∙ instr_at g k 0 (Assign result c next) is
+      (omega arith) in
       let one_in : start g k + 1 ≡ suc (start g k) = omega arith in
       let jump : slice_get code (suc (start g k)) ≡ Some (Goto (start g next)) =
       ap (slice_get code) (sym one_in)
@@ -103,19 +127,23 @@ module _ (g : List Vertex) (s : List ℕ) (on : GoesOn g) where
       let far = start_later g k next (Assign result c next) is above in
       vertex
       ∙ later next above within set
-      ∙ sym (one_instr (start g k) (Set result c) codes instr (omega arith) ∙ one_instr (suc (start g k)) (Goto (start g next)) set jump (omega arith)))
+      ∙ sym (one_instr (start g k) (Set result c) codes instr (omega arith)
+      ∙ one_instr (suc (start g k)) (Goto (start g next)) set jump (omega arith)))
       (cases_eq next (suc k))
 
   of_end : (k : ℕ) → slice_get g k ≡ Some End → Alike k
   unfolding Alike
   of_end k is codes =
       let zero_in : start g k + 0 ≡ start g k = omega arith in
-      let instr : slice_get code (start g k) ≡ Some Halt = ap (slice_get code) (sym zero_in) ∙ instr_at g k 0 End is (omega arith) in
+      let instr : slice_get code (start g k) ≡ Some Halt =
+      ap (slice_get code) (sym zero_in) ∙ instr_at g k 0 End is (omega arith) in
       one_vertex k End codes is tt
       ∙ ap (assign_all codes) (trail_none (next_of s) g 0)
-      ∙ sym (one_instr (start g k) Halt codes instr tt ∙ ap (set_all codes) (trail_none (goes_to s) code 0))
+      ∙ sym (one_instr (start g k) Halt codes instr tt
+      ∙ ap (set_all codes) (trail_none (goes_to s) code 0))
 
-  of_any : (k : ℕ) → 0 < k → k < length g → ((j : ℕ) → k < j → j < length g → Alike j) → (o : Option Vertex) → slice_get g k ≡ o → Alike k
+  of_any : (k : ℕ) → 0 < k → k < length g → ((j : ℕ) → k < j → j < length g → Alike j)
+      → (o : Option Vertex) → slice_get g k ≡ o → Alike k
   of_any k high low later None is = absurd (there g k low is)
     where
       there : (vs : List Vertex) (k : ℕ) → k < length vs → slice_get vs k ≡ None → ⊥
@@ -129,10 +157,13 @@ module _ (g : List Vertex) (s : List ℕ) (on : GoesOn g) where
 
   alike : (left k : ℕ) → 0 < k → length g ≤ k + left → k < length g → Alike k
   alike zero k high e low = absurd (omega arith)
-  alike (suc left) k high e low = of_any k high low (λ j less inside. alike left j (omega arith) (omega arith) inside) (slice_get g k) refl
+  alike (suc left) k high e low =
+      of_any k high low (λ j less inside. alike left j (omega arith) (omega arith) inside)
+      (slice_get g k) refl
 
   -- the code gives results the codes that the walk gives them
-  pub same_codes : (codes : List ℕ) → assign_all codes (walk g s) ≡ set_all codes (executed (laid_out (start g) 0 g) s)
+  pub same_codes : (codes : List ℕ) → assign_all codes (walk g s)
+      ≡ set_all codes (executed (laid_out (start g) 0 g) s)
   unfolding Alike
   same_codes codes =
       let one_there : 1 < length g = on.within 0 (Begin 1) 0 on.begin (omega arith) in
@@ -147,5 +178,6 @@ module _ (g : List Vertex) (s : List ℕ) (on : GoesOn g) where
 pub lowered_same : (m : Machine) (g : List Vertex) (c : List Instr) (s : List ℕ)
     → GoesOn g → Lowered g c → Exec m c s ≡ Eval m g s
 lowered_same m g c s on is =
-    ap (λ (code : List Instr). with_codes m (set_all (replicate (length m.results) 0) (executed code s))) is
+    ap (λ (code : List Instr). with_codes m
+    (set_all (replicate (length m.results) 0) (executed code s))) is
     ∙ ap (with_codes m) (sym (same_codes g s on (replicate (length m.results) 0)))

@@ -22,7 +22,9 @@ index_upto_one : (n : ℕ) → 2 ≤ n → slice_index (upto n) 1 ≡ 1
 index_upto_one zero h = absurd (omega arith)
 index_upto_one (suc zero) h = absurd (omega arith)
 index_upto_one (suc (suc zero)) h = refl
-index_upto_one (suc (suc (suc n))) h = front (upto (suc (suc n))) (suc (suc n)) (long (suc (suc n))) ∙ index_upto_one (suc (suc n)) (omega arith)
+index_upto_one (suc (suc (suc n))) h =
+    front (upto (suc (suc n))) (suc (suc n)) (long (suc (suc n)))
+    ∙ index_upto_one (suc (suc n)) (omega arith)
   where
     more : (xs : List ℕ) (x : ℕ) → length (xs ++ x ∷ []) ≡ suc (length xs)
     more [] x = refl
@@ -32,17 +34,22 @@ index_upto_one (suc (suc (suc n))) h = front (upto (suc (suc n))) (suc (suc n)) 
     long zero = refl
     long (suc k) = more (upto k) k ∙ ap suc (long k)
 
-    front : (xs : List ℕ) (x : ℕ) → length xs ≡ suc (suc n) → slice_index (xs ++ x ∷ []) 1 ≡ slice_index xs 1
+    front : (xs : List ℕ) (x : ℕ) → length xs ≡ suc (suc n)
+        → slice_index (xs ++ x ∷ []) 1 ≡ slice_index xs 1
     front [] x e = absurd (omega arith)
     front (y ∷ []) x e = absurd (omega arith)
     front (y ∷ z ∷ ys) x e = refl
 
 -- a walk that leaves all vertices in order goes on to vertex 1 first
-second : (g : List Vertex) (next more : ℕ) → slice_get g 0 ≡ Some (Begin next) → left_after (suc (suc more)) (kids_at g) [] 0 ≡ upto (suc (suc more)) → next ≡ 1
+second : (g : List Vertex) (next more : ℕ) → slice_get g 0 ≡ Some (Begin next)
+    → left_after (suc (suc more)) (kids_at g) [] 0 ≡ upto (suc (suc more)) → next ≡ 1
 second g next more is numbered =
     let one : kids_at g 0 ≡ next ∷ [] = ap kids_in is in
-    let first : left_after (suc (suc more)) (kids_at g) [] 0 ≡ 0 ∷ next ∷ each (left_after more (kids_at g)) [] (kids_at g next) = ap (λ (ks : List ℕ). 0 ∷ each (left_after (suc more) (kids_at g)) [] ks) one in
-    ap (λ (xs : List ℕ). slice_index xs 1) (sym first ∙ numbered) ∙ index_upto_one (suc (suc more)) (omega arith)
+    let first : left_after (suc (suc more)) (kids_at g) [] 0
+    ≡ 0 ∷ next ∷ each (left_after more (kids_at g)) [] (kids_at g next) =
+    ap (λ (ks : List ℕ). 0 ∷ each (left_after (suc more) (kids_at g)) [] ks) one in
+    ap (λ (xs : List ℕ). slice_index xs 1) (sym first ∙ numbered)
+    ∙ index_upto_one (suc (suc more)) (omega arith)
 
 pub goes_on_from : (g : List Vertex) → IsGraph g → Numbered g → GoesOn g
 goes_on_from g ok numbered =
@@ -50,7 +57,9 @@ goes_on_from g ok numbered =
     let within = ok.within 0 (Begin ok.begin.0) 0 ok.begin.1 (omega arith) in
     let more : ℕ = length g - 2 in
     let e : length g ≡ suc (suc more) = omega arith in
-    let to : ok.begin.0 ≡ 1 = second g ok.begin.0 more ok.begin.1 (subst (λ (n : ℕ). left_after n (kids_at g) [] 0 ≡ upto n) e numbered) in
+    let to : ok.begin.0 ≡ 1 =
+    second g ok.begin.0 more ok.begin.1
+    (subst (λ (n : ℕ). left_after n (kids_at g) [] 0 ≡ upto n) e numbered) in
     record {
       begin = subst (λ (n : ℕ). slice_get g 0 ≡ Some (Begin n)) to ok.begin.1;
       only = ok.only_begin;
@@ -68,7 +77,8 @@ module _ (g : List Vertex) (ok : IsGraph g) where
       let more : ℕ = length g - suc k in
       let e : suc k + more ≡ length g = omega arith in
       let rises = start_rises g 0 (suc k) more in
-      let at : given_before 0 g (suc k + more) ≡ given_before 0 g (length g) = ap (given_before 0 g) e in
+      let at : given_before 0 g (suc k + more) ≡ given_before 0 g (length g) =
+      ap (given_before 0 g) e in
       let next = start_next g 0 k v.0 v.1 in
       let some = wide (0 + k) k v.0 v.1 high in
       omega arith
@@ -83,7 +93,8 @@ module _ (g : List Vertex) (ok : IsGraph g) where
           go false = omega arith
       wide j k End is high = omega arith
 
-  index_map : (f : ℕ → ℕ) (xs : List ℕ) (j : ℕ) → j < length xs → slice_index (map f xs) j ≡ f (slice_index xs j)
+  index_map : (f : ℕ → ℕ) (xs : List ℕ) (j : ℕ) → j < length xs
+      → slice_index (map f xs) j ≡ f (slice_index xs j)
   index_map f [] j low = absurd (omega arith)
   index_map f (x ∷ xs) zero low = refl
   index_map f (x ∷ xs) (suc j) low = index_map f xs j (omega arith)
@@ -92,7 +103,9 @@ module _ (g : List Vertex) (ok : IsGraph g) where
   long_map f [] = refl
   long_map f (x ∷ xs) = ap suc (long_map f xs)
 
-  of_vertex : (n off p : ℕ) (v : Vertex) (i : Instr) → slice_get g n ≡ Some v → off < width n v → p ≡ start g n + off → slice_get (given_by (start g) n v) off ≡ Some i → FitsAt (length (laid g)) p i
+  of_vertex : (n off p : ℕ) (v : Vertex) (i : Instr) → slice_get g n ≡ Some v → off < width n v
+      → p ≡ start g n + off → slice_get (given_by (start g) n v) off ≡ Some i
+      → FitsAt (length (laid g)) p i
   of_vertex n off p (Begin next) i is low place instr = absurd (omega arith)
   of_vertex n off p (Tests var kids) i is low place instr =
       let zero_off : off ≡ 0 = omega arith in
@@ -109,13 +122,18 @@ module _ (g : List Vertex) (ok : IsGraph g) where
             (omega arith, omega arith),
       ))
     where
-      the : (o : ℕ) → o ≡ 0 → slice_get (Test var (map (start g) kids) ∷ []) o ≡ Some i → i ≡ Test var (map (start g) kids)
+      the : (o : ℕ) → o ≡ 0 → slice_get (Test var (map (start g) kids) ∷ []) o ≡ Some i
+          → i ≡ Test var (map (start g) kids)
       the zero e h = cc
       the (suc o) e h = absurd (omega arith)
-  of_vertex n off p (Assign result code next) i is low place instr = two (next == suc n) refl off place low instr
+  of_vertex n off p (Assign result code next) i is low place instr =
+      two (next == suc n) refl off place low instr
     where
-      two : (b : Bool) → (next == suc n) ≡ b → (o : ℕ) → p ≡ start g n + o → o < cond {A = ℕ} b 1 2 → slice_get (Set result code ∷ cond b [] (Goto (start g next) ∷ [])) o ≡ Some i → FitsAt (length (laid g)) p i
-      two b e zero at l h = let same : Set result code ≡ i = cc in subst (FitsAt (length (laid g)) p) same tt
+      two : (b : Bool) → (next == suc n) ≡ b → (o : ℕ) → p ≡ start g n + o → o < cond {A = ℕ} b 1 2
+          → slice_get (Set result code ∷ cond b [] (Goto (start g next) ∷ [])) o ≡ Some i
+          → FitsAt (length (laid g)) p i
+      two b e zero at l h = let same : Set result code ≡ i = cc in
+          subst (FitsAt (length (laid g)) p) same tt
       two true e (suc o) at l h = absurd (omega arith)
       two false e (suc zero) at l h =
           let same : Goto (start g next) ≡ i = cc in
@@ -144,13 +162,18 @@ module _ (g : List Vertex) (ok : IsGraph g) where
       let end = ok.end n e in
       let l = long_laid (start g) g 0 in
       let next = start_next g 0 n End end in
-      let at : given_before 0 g (suc n) ≡ given_before 0 g (length g) = (let f : suc n ≡ length g = omega arith in ap (given_before 0 g) f) in
+      let at : given_before 0 g (suc n) ≡ given_before 0 g (length g) =
+      (let f : suc n ≡ length g = omega arith in ap (given_before 0 g) f) in
       let w : width (0 + n) End ≡ 1 = refl in
       record {
         some = omega arith;
-        last = λ k h. let f : k ≡ start g n + 0 = omega arith in ap (slice_get (laid g)) f ∙ instr_at g n 0 End end (omega arith);
+        last = λ k h. let f : k ≡ start g n + 0 = omega arith in
+            ap (slice_get (laid g)) f ∙ instr_at g n 0 End end (omega arith);
         each = λ k i is.
             let found = located (start g) g 0 k i is in
             let z : 0 + found.n ≡ found.n = omega arith in
-            of_vertex found.n found.off k found.v i found.is (subst (λ (m : ℕ). found.off < width m found.v) z found.inside) found.place (subst (λ (m : ℕ). slice_get (given_by (start g) m found.v) found.off ≡ Some i) z found.instr);
+            of_vertex found.n found.off k found.v i found.is
+            (subst (λ (m : ℕ). found.off < width m found.v) z found.inside) found.place
+            (subst (λ (m : ℕ). slice_get (given_by (start g) m found.v) found.off ≡ Some i) z
+            found.instr);
       }

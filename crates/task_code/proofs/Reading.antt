@@ -29,18 +29,24 @@ take_one (y ∷ ys) zero x e = let f : y ≡ x = cc in ap (λ (n : ℕ). n ∷ [
 take_one (y ∷ ys) (suc i) x e = ap (λ (zs : List ℕ). y ∷ zs) (take_one ys i x e)
 
 -- one more target
-pub one_target : (starts kids targets more : List ℕ) (j kid place : ℕ) → targets ≡ map (slice_index starts) (take j kids) → slice_get kids j ≡ Some kid → slice_get starts kid ≡ Some place → more ≡ targets ++ place ∷ [] → more ≡ map (slice_index starts) (take (j + 1) kids)
+pub one_target : (starts kids targets more : List ℕ) (j kid place : ℕ)
+    → targets ≡ map (slice_index starts) (take j kids) → slice_get kids j ≡ Some kid
+    → slice_get starts kid ≡ Some place → more ≡ targets ++ place ∷ []
+    → more ≡ map (slice_index starts) (take (j + 1) kids)
 one_target starts kids targets more j kid place is is_kid is_place e =
     let f : j + 1 ≡ suc j = omega arith in
     e
     ∙ ap (λ (xs : List ℕ). xs ++ place ∷ []) is
-    ∙ ap (λ (x : ℕ). map (slice_index starts) (take j kids) ++ x ∷ []) (sym (got starts kid place is_place))
+    ∙ ap (λ (x : ℕ). map (slice_index starts) (take j kids) ++ x ∷ [])
+    (sym (got starts kid place is_place))
     ∙ sym (map_push (slice_index starts) (take j kids) kid)
     ∙ ap (map (slice_index starts)) (sym (take_one kids j kid is_kid))
     ∙ ap (λ (n : ℕ). map (slice_index starts) (take n kids)) (sym f)
 
 -- one more start
-pub one_start : (g : List Vertex) (places more : List ℕ) (k next : ℕ) → places ≡ map (start g) (upto k) → next ≡ start g k → more ≡ places ++ next ∷ [] → more ≡ map (start g) (upto (k + 1))
+pub one_start : (g : List Vertex) (places more : List ℕ) (k next : ℕ)
+    → places ≡ map (start g) (upto k) → next ≡ start g k → more ≡ places ++ next ∷ []
+    → more ≡ map (start g) (upto (k + 1))
 one_start g places more k next is at e =
     let f : k + 1 ≡ suc k = omega arith in
     e
@@ -49,7 +55,8 @@ one_start g places more k next is at e =
     ∙ sym (map_push (start g) (upto k) k)
     ∙ ap (λ (n : ℕ). map (start g) (upto n)) (sym f)
 
-pub next_start : (g : List Vertex) (k next wide : ℕ) (v : Vertex) → slice_get g k ≡ Some v → next ≡ start g k → wide ≡ width k v → next + wide ≡ start g (k + 1)
+pub next_start : (g : List Vertex) (k next wide : ℕ) (v : Vertex) → slice_get g k ≡ Some v
+    → next ≡ start g k → wide ≡ width k v → next + wide ≡ start g (k + 1)
 next_start g k next wide v is at w =
     let f : k + 1 ≡ suc k = omega arith in
     let z : 0 + k ≡ k = omega arith in
@@ -59,7 +66,8 @@ next_start g k next wide v is at w =
     omega arith
 
 -- the place of each vertex
-index_append : (xs ys : List ℕ) (j : ℕ) → j < length xs → slice_index (xs ++ ys) j ≡ slice_index xs j
+index_append : (xs ys : List ℕ) (j : ℕ) → j < length xs
+    → slice_index (xs ++ ys) j ≡ slice_index xs j
 index_append [] ys j low = absurd (omega arith)
 index_append (x ∷ xs) ys zero low = refl
 index_append (x ∷ xs) ys (suc j) low = index_append xs ys j (omega arith)
@@ -74,9 +82,11 @@ long_push (y ∷ ys) x = ap suc (long_push ys x)
 
 long_places : (f : ℕ → ℕ) (n : ℕ) → length (map f (upto n)) ≡ n
 long_places f zero = refl
-long_places f (suc n) = ap (λ (xs : List ℕ). length xs) (map_push f (upto n) n) ∙ long_push (map f (upto n)) (f n) ∙ ap suc (long_places f n)
+long_places f (suc n) = ap (λ (xs : List ℕ). length xs) (map_push f (upto n) n)
+    ∙ long_push (map f (upto n)) (f n) ∙ ap suc (long_places f n)
 
-pub long_starts : (g : List Vertex) (places : List ℕ) → places ≡ map (start g) (upto (length g)) → length places ≡ length g
+pub long_starts : (g : List Vertex) (places : List ℕ) → places ≡ map (start g) (upto (length g))
+    → length places ≡ length g
 long_starts g places is = ap (λ (xs : List ℕ). length xs) is ∙ long_places (start g) (length g)
 
 place_at : (f : ℕ → ℕ) (n j : ℕ) → j < n → slice_index (map f (upto n)) j ≡ f j
@@ -86,19 +96,26 @@ place_at f (suc n) j low =
     ap (λ (xs : List ℕ). slice_index xs j) (map_push f (upto n) n)
     ∙ ⊎_elim
     (λ less. index_append (map f (upto n)) (f n ∷ []) j (omega arith) ∙ place_at f n j less)
-    (λ more. let e : j ≡ length (map f (upto n)) = omega arith in let h : n ≡ j = omega arith in ap (slice_index (map f (upto n) ++ f n ∷ [])) e ∙ index_last (map f (upto n)) (f n) ∙ ap f h)
+    (λ more. let e : j ≡ length (map f (upto n)) = omega arith in let h : n ≡ j = omega arith in
+    ap (slice_index (map f (upto n) ++ f n ∷ [])) e ∙ index_last (map f (upto n)) (f n)
+    ∙ ap f h)
     (cases_lt j n)
 
-pub start_at : (g : List Vertex) (places : List ℕ) (j : ℕ) → places ≡ map (start g) (upto (length g)) → j < length g → slice_index places j ≡ start g j
-start_at g places j is low = ap (λ (xs : List ℕ). slice_index xs j) is ∙ place_at (start g) (length g) j low
+pub start_at : (g : List Vertex) (places : List ℕ) (j : ℕ)
+    → places ≡ map (start g) (upto (length g)) → j < length g → slice_index places j ≡ start g j
+start_at g places j is low = ap (λ (xs : List ℕ). slice_index xs j) is
+    ∙ place_at (start g) (length g) j low
 
 -- one more vertex
-drop_one : (g : List Vertex) (k : ℕ) (v : Vertex) → slice_get g k ≡ Some v → drop k g ≡ v ∷ drop (suc k) g
+drop_one : (g : List Vertex) (k : ℕ) (v : Vertex) → slice_get g k ≡ Some v
+    → drop k g ≡ v ∷ drop (suc k) g
 drop_one [] k v e = cc
 drop_one (w ∷ g) zero v e = let f : w ≡ v = cc in ap (λ (u : Vertex). u ∷ g) f
 drop_one (w ∷ g) (suc k) v e = drop_one g k v e
 
-pub one_vertex : (at : ℕ → ℕ) (g : List Vertex) (code more whole : List Instr) (k : ℕ) (v : Vertex) → code ++ laid_out at k (drop k g) ≡ whole → slice_get g k ≡ Some v → more ≡ code ++ given_by at k v → more ++ laid_out at (k + 1) (drop (k + 1) g) ≡ whole
+pub one_vertex : (at : ℕ → ℕ) (g : List Vertex) (code more whole : List Instr) (k : ℕ) (v : Vertex)
+    → code ++ laid_out at k (drop k g) ≡ whole → slice_get g k ≡ Some v
+    → more ≡ code ++ given_by at k v → more ++ laid_out at (k + 1) (drop (k + 1) g) ≡ whole
 one_vertex at g code more whole k v is is_v e =
     let f : k + 1 ≡ suc k = omega arith in
     ap (λ (n : ℕ). more ++ laid_out at n (drop n g)) f
@@ -117,16 +134,23 @@ append_none : (xs : List Instr) → xs ++ [] ≡ xs
 append_none [] = refl
 append_none (x ∷ xs) = ap (λ (ys : List Instr). x ∷ ys) (append_none xs)
 
-pub all_vertices : (at : ℕ → ℕ) (g : List Vertex) (code whole : List Instr) (k : ℕ) → code ++ laid_out at k (drop k g) ≡ whole → length g ≤ k → code ≡ whole
-all_vertices at g code whole k is h = sym (append_none code) ∙ ap (λ (vs : List Vertex). code ++ laid_out at k vs) (sym (drop_all g k h)) ∙ is
+pub all_vertices : (at : ℕ → ℕ) (g : List Vertex) (code whole : List Instr) (k : ℕ)
+    → code ++ laid_out at k (drop k g) ≡ whole → length g ≤ k → code ≡ whole
+all_vertices at g code whole k is h =
+    sym (append_none code) ∙ ap (λ (vs : List Vertex). code ++ laid_out at k vs)
+    (sym (drop_all g k h)) ∙ is
 
 -- an assignment and its goto
-pub set_goto : (starts : List ℕ) (k result code next place : ℕ) (xs ys zs : List Instr) (v : Vertex) → v ≡ Assign result code next → (next ≡ k + 1 → ⊥) → slice_get starts next ≡ Some place → ys ≡ xs ++ Set result code ∷ [] → zs ≡ ys ++ Goto place ∷ [] → zs ≡ xs ++ given_by (slice_index starts) k v
+pub set_goto : (starts : List ℕ) (k result code next place : ℕ) (xs ys zs : List Instr) (v : Vertex)
+    → v ≡ Assign result code next → (next ≡ k + 1 → ⊥) → slice_get starts next ≡ Some place
+    → ys ≡ xs ++ Set result code ∷ [] → zs ≡ ys ++ Goto place ∷ []
+    → zs ≡ xs ++ given_by (slice_index starts) k v
 set_goto starts k result code next place xs ys zs v is other is_place one two =
     let off : (next == suc k) ≡ false = ne_eqb next (suc k) (λ e. other (omega arith)) in
     two
     ∙ ap (λ (is : List Instr). is ++ Goto place ∷ []) one
     ∙ append_assoc xs (Set result code ∷ []) (Goto place ∷ [])
     ∙ ap (λ (p : ℕ). xs ++ Set result code ∷ Goto p ∷ []) (sym (got starts next place is_place))
-    ∙ ap (λ (b : Bool). xs ++ Set result code ∷ cond b [] (Goto (slice_index starts next) ∷ [])) (sym off)
+    ∙ ap (λ (b : Bool). xs ++ Set result code ∷ cond b [] (Goto (slice_index starts next) ∷ []))
+    (sym off)
     ∙ ap (λ (w : Vertex). xs ++ given_by (slice_index starts) k w) (sym is)

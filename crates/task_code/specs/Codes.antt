@@ -67,7 +67,8 @@ start g k = given_before 0 g k
 abbrev pub given_by : (ℕ → ℕ) → ℕ → Vertex → List Instr
 given_by at k (Begin next) = []
 given_by at k (Tests var kids) = Test var (map at kids) ∷ []
-given_by at k (Assign result code next) = Set result code ∷ cond (next == suc k) [] (Goto (at next) ∷ [])
+given_by at k (Assign result code next) =
+    Set result code ∷ cond (next == suc k) [] (Goto (at next) ∷ [])
 given_by at k End = Halt ∷ []
 
 abbrev pub laid_out : (ℕ → ℕ) → ℕ → List Vertex → List Instr

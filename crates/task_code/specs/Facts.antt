@@ -4,9 +4,12 @@ use Rattle.transition_table.specs.NetworkFacts.{are_different}
 use Rattle.task_code.specs.declared.instr.Instr.{Instr}
 use Rattle.task_code.specs.declared.instr.Instr.TheVariants.{Test, Set, Goto, Halt}
 
--- Of the instruction at place k of so many: a test has a target, and each target stands after it and within.
+-- Of the instruction at place k of so many: a test has a target, and each target stands after it
+-- and within.
 abbrev pub FitsAt : ℕ → ℕ → Instr → Type 0
-FitsAt count k (Test var targets) = (0 < length targets) × ((j : ℕ) → j < length targets → (k < slice_index targets j) × (slice_index targets j < count))
+FitsAt count k (Test var targets) =
+    (0 < length targets)
+    × ((j : ℕ) → j < length targets → (k < slice_index targets j) × (slice_index targets j < count))
 FitsAt count k (Set result code) = ⊤
 FitsAt count k (Goto target) = (k < target) × (target < count)
 FitsAt count k Halt = ⊤
@@ -45,4 +48,5 @@ code_tests c path = filter_map (λ k. tested_at (slice_get c k)) path
 
 -- no path from instruction 0 tests a variable twice
 abbrev pub OnceCode : List Instr → Type 0
-OnceCode c = (path : List ℕ) → IsCodePath c (0 ∷ path) → IsTrue (are_different (code_tests c (0 ∷ path)))
+OnceCode c = (path : List ℕ) → IsCodePath c (0 ∷ path)
+    → IsTrue (are_different (code_tests c (0 ∷ path)))

@@ -16,7 +16,8 @@ abbrev pub others : (ℕ → List ℕ) → List ℕ → List ℕ
 others words items = flat_map (λ item. codes ", " ++ words item) items
 
 abbrev pub head_text : Network → Machine → List ℕ → List ℕ
-head_text net m order = line (codes "machine " ++ m.name) ++ line (codes "order " ++ join_by (label net m) (codes ", ") order)
+head_text net m order = line (codes "machine " ++ m.name)
+    ++ line (codes "order " ++ join_by (label net m) (codes ", ") order)
 
 abbrev pub diagram_text : ℕ → ℕ → List ℕ
 diagram_text first count = line (codes "diagram" ++ numbers (first ∷ count ∷ []))
@@ -25,4 +26,5 @@ abbrev pub count_text : List ℕ → ℕ → List ℕ
 count_text word n = line (word ++ numbers (n ∷ []))
 
 abbrev pub part_of : List ℕ → ℕ → ℕ → List Vertex → List Instr → Part
-part_of order first count graph code = record { order = order; first = first; count = count; graph = graph; code = code }
+part_of order first count graph code =
+    record { order = order; first = first; count = count; graph = graph; code = code }

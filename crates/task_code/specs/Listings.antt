@@ -8,7 +8,8 @@ use Rattle.sgraph.specs.declared.vertex.Vertex.TheVariants.{Begin, Test as Tests
 use Rattle.task_code.specs.declared.instr.Instr.{Instr}
 use Rattle.task_code.specs.declared.instr.Instr.TheVariants.{Test, Set, Goto, Halt}
 
--- a compiled machine: an order, the sizes of the diagrams under the first order and under this one, a graph and code
+-- a compiled machine: an order, the sizes of the diagrams under the first order and under this one,
+-- a graph and code
 pub record Part : Type 0 where
   pub order : List ℕ
   pub first : ℕ
@@ -40,19 +41,22 @@ label net m i = unwrap_or (slice_get (labels net m) i) []
 abbrev pub vertex_words : Network → Machine → Vertex → List ℕ
 vertex_words net m (Begin next) = codes "begin" ++ numbers (next ∷ [])
 vertex_words net m (Tests var kids) = codes "test " ++ label net m var ++ numbers kids
-vertex_words net m (Assign result code next) = codes "assign " ++ label net m (length m.vars + result) ++ numbers (code ∷ next ∷ [])
+vertex_words net m (Assign result code next) =
+    codes "assign " ++ label net m (length m.vars + result) ++ numbers (code ∷ next ∷ [])
 vertex_words net m End = codes "end"
 
 abbrev pub instr_words : Network → Machine → Instr → List ℕ
 instr_words net m (Test var targets) = codes "test " ++ label net m var ++ numbers targets
-instr_words net m (Set result code) = codes "set " ++ label net m (length m.vars + result) ++ numbers (code ∷ [])
+instr_words net m (Set result code) =
+    codes "set " ++ label net m (length m.vars + result) ++ numbers (code ∷ [])
 instr_words net m (Goto target) = codes "goto" ++ numbers (target ∷ [])
 instr_words net m Halt = codes "halt"
 
 -- one line for each item, its number from k on before its words
 abbrev pub numbered_lines : {X : Type 0} → (X → List ℕ) → ℕ → List X → List ℕ
 numbered_lines words k [] = []
-numbered_lines words k (x ∷ xs) = line (decimal k ++ 32 ∷ words x) ++ numbered_lines words (suc k) xs
+numbered_lines words k (x ∷ xs) = line (decimal k ++ 32 ∷ words x)
+    ++ numbered_lines words (suc k) xs
 
 abbrev pub part_text : Network → Machine → Part → List ℕ
 part_text net m q =
@@ -71,4 +75,5 @@ parts_text net (m ∷ ms) [] = []
 parts_text net (m ∷ ms) (q ∷ qs) = part_text net m q ++ parts_text net ms qs
 
 abbrev pub ListingText : Network → List Part → List ℕ
-ListingText net parts = line (codes "polis listing 1") ++ parts_text net net.machines parts ++ line (codes "end")
+ListingText net parts = line (codes "polis listing 1") ++ parts_text net net.machines parts
+    ++ line (codes "end")

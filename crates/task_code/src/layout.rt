@@ -61,7 +61,8 @@ fn push_vertex(
     code: &mut InstrList,
 ) -> Result<(), NoMemory>
     requires small { k + 1 < 2 ^ 64 }
-    requires kids { (j : ℕ) → j < length (kids_of v.now) → slice_index (kids_of v.now) j < length starts.now }
+    requires kids { (j : ℕ) → j < length (kids_of v.now)
+        → slice_index (kids_of v.now) j < length starts.now }
     ensures { OnOk result (code.new ≡ code.old ++ given_by (slice_index starts.now) k v.now) }
 {
     match v {
@@ -89,12 +90,14 @@ fn push_vertex(
     }
 }
 
-/// The code of a graph whose vertices are numbered as a walk leaves them: in order of the vertices, a test for each test, a set
-/// for each assignment with a goto where its child isn't the next vertex, a halt for the end, and nothing for the begin.
+/// The code of a graph whose vertices are numbered as a walk leaves them: in order of the vertices,
+/// a test for each test, a set for each assignment with a goto where its child isn't the next
+/// vertex, a halt for the end, and nothing for the begin.
 pub fn lower(alloc: Global, g: &Graph) -> Result<Code, NoMemory>
     requires { Numbered g.now }
     ensures lowered { IfOk result (λ code. Lowered g.now code) }
-    ensures same { IfOk result (λ code. (m : Machine) (s : List ℕ) → Exec m code s ≡ Eval m g.now s) }
+    ensures same { IfOk result (λ code. (m : Machine) (s : List ℕ)
+        → Exec m code s ≡ Eval m g.now s) }
     ensures once { IfOk result (λ code. Once g.now → OnceCode code) }
 {
     let places = starts(alloc, g)?;

@@ -148,7 +148,8 @@ fn push_vertex_line(
     v: &Vertex,
     out: &mut Bytes,
 ) -> Result<(), NoMemory>
-    ensures { OnOk result (out.new ≡ out.old ++ line (decimal k ++ 32 ∷ vertex_words net.now machine.now v.now)) }
+    ensures { OnOk result (out.new ≡ out.old
+        ++ line (decimal k ++ 32 ∷ vertex_words net.now machine.now v.now)) }
 {
     out.push_decimal(k)?;
     out.push(b" ")?;
@@ -164,7 +165,8 @@ fn push_instr_line(
     i: &Instr,
     out: &mut Bytes,
 ) -> Result<(), NoMemory>
-    ensures { OnOk result (out.new ≡ out.old ++ line (decimal k ++ 32 ∷ instr_words net.now machine.now i.now)) }
+    ensures { OnOk result (out.new ≡ out.old
+        ++ line (decimal k ++ 32 ∷ instr_words net.now machine.now i.now)) }
 {
     out.push_decimal(k)?;
     out.push(b" ")?;
@@ -178,7 +180,8 @@ fn push_vertices(
     g: &Graph,
     out: &mut Bytes,
 ) -> Result<(), NoMemory>
-    ensures { OnOk result (out.new ≡ out.old ++ numbered_lines (vertex_words net.now machine.now) 0 g.now) }
+    ensures { OnOk result (out.new ≡ out.old
+        ++ numbered_lines (vertex_words net.now machine.now) 0 g.now) }
 {
     for k in 0..g.len() {
         push_vertex_line(net, machine, k, g.get(k), out)?;
@@ -192,7 +195,8 @@ fn push_instrs(
     code: &Code,
     out: &mut Bytes,
 ) -> Result<(), NoMemory>
-    ensures { OnOk result (out.new ≡ out.old ++ numbered_lines (instr_words net.now machine.now) 0 code.now) }
+    ensures { OnOk result (out.new ≡ out.old
+        ++ numbered_lines (instr_words net.now machine.now) 0 code.now) }
 {
     for k in 0..code.len() {
         push_instr_line(net, machine, k, code.get(k), out)?;
@@ -207,7 +211,8 @@ fn push_others(
     order: &Order,
     out: &mut Bytes,
 ) -> Result<(), NoMemory>
-    ensures { OnOk result (out.new ≡ out.old ++ others (label net.now machine.now) (drop 1 order.now)) }
+    ensures { OnOk result (out.new ≡ out.old
+        ++ others (label net.now machine.now) (drop 1 order.now)) }
 {
     for k in 1..order.len() {
         out.push(b", ")?;
@@ -223,7 +228,8 @@ fn push_order(
     order: &Order,
     out: &mut Bytes,
 ) -> Result<(), NoMemory>
-    ensures { OnOk result (out.new ≡ out.old ++ join_by (label net.now machine.now) (codes ", ") order.now) }
+    ensures { OnOk result (out.new ≡ out.old
+        ++ join_by (label net.now machine.now) (codes ", ") order.now) }
 {
     if order.len() == 0 {
         return Ok(());
@@ -277,7 +283,8 @@ fn push_part(
     code: &Code,
     out: &mut Bytes,
 ) -> Result<(), NoMemory>
-    ensures { OnOk result (out.new ≡ out.old ++ part_text net.now machine.now (part_of order.now diagram.0 diagram.1 g.now code.now)) }
+    ensures { OnOk result (out.new ≡ out.old
+        ++ part_text net.now machine.now (part_of order.now diagram.0 diagram.1 g.now code.now)) }
 {
     push_head(net, machine, order, out)?;
     push_diagram(diagram.0, diagram.1, out)?;
@@ -287,7 +294,8 @@ fn push_part(
     push_instrs(net, machine, code, out)
 }
 
-/// Appends machine m's part of the listing: its name, its order, the counts of its diagrams, its graph and its code.
+/// Appends machine m's part of the listing: its name, its order, the counts of its diagrams, its
+/// graph and its code.
 pub fn push_listing(
     alloc: Global,
     net: &Network,
@@ -299,7 +307,10 @@ pub fn push_listing(
     into: &mut Bytes,
 ) -> Result<(), NoMemory>
     requires { m < length net.now.machines }
-    ensures ok { OnOk result (OfMachine net.now m (λ machine. into.new ≡ into.old ++ part_text net.now machine (part_of order.now diagram.0 diagram.1 g.now code.now))) }
+    ensures ok { OnOk result
+        (OfMachine net.now m (λ machine. into.new
+        ≡ into.old ++ part_text net.now machine
+        (part_of order.now diagram.0 diagram.1 g.now code.now))) }
     ensures err { OnErr result (into.new ≡ into.old) }
 {
     let machine = net.machines.get(u64::from(m));

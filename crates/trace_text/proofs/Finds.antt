@@ -9,15 +9,20 @@ use Rattle.transition_table.specs.declared.network.Network.{Network}
 use Rattle.trace_text.specs.Traces.{is_sent, is_sent_event}
 
 -- one more number, where none before it passes
-pub find_next : (test : ℕ → Bool) (n : ℕ) → find test (upto n) ≡ None → test n ≡ false → find test (upto (n + 1)) ≡ None
+pub find_next : (test : ℕ → Bool) (n : ℕ) → find test (upto n) ≡ None → test n ≡ false
+    → find test (upto (n + 1)) ≡ None
 find_next test n before here = rw (add-one, find-append test (upto n) (n ∷ []), before, here) refl
 
 -- the first number that passes
-pub find_here : (test : ℕ → Bool) (n k : ℕ) → k < n → find test (upto k) ≡ None → test k ≡ true → find test (upto n) ≡ Some k
+pub find_here : (test : ℕ → Bool) (n k : ℕ) → k < n → find test (upto k) ≡ None → test k ≡ true
+    → find test (upto n) ≡ Some k
 find_here test zero k below before here = absurd (omega arith)
 find_here test (suc n) k below before here =
     elim (nat_lt k n) as (λ b. nat_lt k n ≡ b → find test (upto (suc n)) ≡ Some k) [
-      | true ↦ λ e. rw (find-append test (upto n) (n ∷ []), find_here test n k (ltb-true k n e) before here) refl
+      | true ↦ λ e. rw (
+        find-append test (upto n) (n ∷ []),
+        find_here test n k (ltb-true k n e) before here,
+      ) refl
       | false ↦ λ e. let above : n ≤ k = ltb-false k n e in
           let same : k ≡ n = omega arith in
           let none : find test (upto n) ≡ None = rw (← same) before in
@@ -26,14 +31,22 @@ find_here test (suc n) k below before here =
     ] refl
 
 -- no number passes
-pub find_none : (test : ℕ → Bool) (n : ℕ) → ((k : ℕ) → k < n → test k ≡ false) → find test (upto n) ≡ None
+pub find_none : (test : ℕ → Bool) (n : ℕ) → ((k : ℕ) → k < n → test k ≡ false)
+    → find test (upto n) ≡ None
 find_none test zero none = refl
-find_none test (suc n) none = rw (find-append test (upto n) (n ∷ []), find_none test n (λ k below. none k (omega arith)), none n (omega arith)) refl
+find_none test (suc n) none =
+    rw (
+      find-append test (upto n) (n ∷ []),
+      find_none test n (λ k below. none k (omega arith)),
+      none n (omega arith),
+    ) refl
 
 -- the only number that passes
-pub find_only : (test : ℕ → Bool) (n k : ℕ) → k < n → test k ≡ true → ((j : ℕ) → j < k → test j ≡ false) → find test (upto n) ≡ Some k
+pub find_only : (test : ℕ → Bool) (n k : ℕ) → k < n → test k ≡ true
+    → ((j : ℕ) → j < k → test j ≡ false) → find test (upto n) ≡ Some k
 find_only test n k below here none = find_here test n k below (find_none test k none) here
 
 -- whether the environment sends this event by this name
-pub sent_event : (net : Network) (word : List ℕ) (e : ℕ) (event : EventDecl) (b : Bool) → slice_get net.events e ≡ Some event → b ≡ is_sent word event → is_sent_event net word e ≡ b
+pub sent_event : (net : Network) (word : List ℕ) (e : ℕ) (event : EventDecl) (b : Bool)
+    → slice_get net.events e ≡ Some event → b ≡ is_sent word event → is_sent_event net word e ≡ b
 sent_event net word e event b at is = rw at (sym is)

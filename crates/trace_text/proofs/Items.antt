@@ -17,16 +17,23 @@ use Rattle.trace_text.specs.Traces.{is_sent, is_sent_event, value_named}
 use Rattle.trace_text.proofs.Finds.{find_none, find_only}
 
 -- an event of the network with one of its codes is an item where the environment sends it
-pub item_fits : (net : Network) (word : List ℕ) (e code : ℕ) (event : EventDecl) → e < length net.events → slice_get net.events e ≡ Some event → is_sent_event net word e ≡ true → 1 ≤ code → code ≤ values_of net.domains event.domain → IsTrue (is_trace_item net (Event e code))
+pub item_fits : (net : Network) (word : List ℕ) (e code : ℕ) (event : EventDecl)
+    → e < length net.events → slice_get net.events e ≡ Some event → is_sent_event net word e ≡ true
+    → 1 ≤ code → code ≤ values_of net.domains event.domain
+    → IsTrue (is_trace_item net (Event e code))
 item_fits net word e code event below at sent some few =
     let named : is_sent word event ≡ true = rw at at sent in
-    let env : same_party event.sender Env ≡ true = (and_parts (is_same event.name word) _ named).1 in
-    rw (at, env) (both_true (both_true (both_true (lt-ltb e _ below) (le-leb 1 code some)) (le-leb code _ few)) refl)
+    let env : same_party event.sender Env ≡ true =
+    (and_parts (is_same event.name word) _ named).1 in
+    rw (at, env) (both_true
+    (both_true (both_true (lt-ltb e _ below) (le-leb 1 code some)) (le-leb code _ few)) refl)
 
 -- an event's domain is of the network
-pub event_domain : (net : Network) (e : ℕ) (event : EventDecl) → e < length net.events → slice_get net.events e ≡ Some event → has_domain net.domains event ≡ true
+pub event_domain : (net : Network) (e : ℕ) (event : EventDecl) → e < length net.events
+    → slice_get net.events e ≡ Some event → has_domain net.domains event ≡ true
 event_domain net e event below at =
-    let h = AllPass-from_list_all (has_domain net.domains) net.events net.event_domains e event below in
+    let h = AllPass-from_list_all (has_domain net.domains) net.events net.event_domains e event
+    below in
     let is = get_or_from_slice_get net.events e event event at in
     rw is at h
 
@@ -56,16 +63,25 @@ word_differs xs ys h =
     ] refl
 
 -- the value that has the word, where no other value has its word
-pub value_is : (d : Domain) (word : List ℕ) (v : ℕ) → v < size_of d → word_of d v ≡ word → ((u : ℕ) → u < size_of d → word_of d u ≡ word_of d v → u ≡ v) → value_named word d ≡ Some v
+pub value_is : (d : Domain) (word : List ℕ) (v : ℕ) → v < size_of d → word_of d v ≡ word
+    → ((u : ℕ) → u < size_of d → word_of d u ≡ word_of d v → u ≡ v) → value_named word d ≡ Some v
 value_is d word v below has differ =
-    find_only (λ u. is_same (word_of d u) word) (size_of d) v below (word_same (word_of d v) word has)
-    (λ u before. word_differs (word_of d u) word (λ same. let e = differ u (omega arith) (same ∙ sym has) in let no : ⊥ = omega arith in no))
+    find_only (λ u. is_same (word_of d u) word) (size_of d) v below
+    (word_same (word_of d v) word has)
+    (λ u before. word_differs (word_of d u) word
+    (λ same. let e = differ u (omega arith) (same ∙ sym has) in let no : ⊥ = omega arith in no))
 
 -- no value has the word
-pub value_is_none : (d : Domain) (word : List ℕ) → ((v : ℕ) → v < size_of d → word_of d v ≡ word → ⊥) → value_named word d ≡ None
-value_is_none d word none = find_none (λ v. is_same (word_of d v) word) (size_of d) (λ v below. word_differs (word_of d v) word (none v below))
+pub value_is_none : (d : Domain) (word : List ℕ)
+    → ((v : ℕ) → v < size_of d → word_of d v ≡ word → ⊥) → value_named word d ≡ None
+value_is_none d word none =
+    find_none (λ v. is_same (word_of d v) word) (size_of d)
+    (λ v below. word_differs (word_of d v) word (none v below))
 
 -- what a search for a value with the word gives
-pub value_found : WordsDiffer → (d : Domain) (word : List ℕ) (found : Option ℕ) → IsDomain d → IfSome found (λ v. (v < size_of d) × (word_of d v ≡ word)) → IfNone found ((v : ℕ) → v < size_of d → word_of d v ≢ word) → found ≡ value_named word d
+pub value_found : WordsDiffer → (d : Domain) (word : List ℕ) (found : Option ℕ) → IsDomain d
+    → IfSome found (λ v. (v < size_of d) × (word_of d v ≡ word))
+    → IfNone found ((v : ℕ) → v < size_of d → word_of d v ≢ word) → found ≡ value_named word d
 value_found differ d word None domain some none = sym (value_is_none d word none)
-value_found differ d word (Some v) domain some none = sym (value_is d word v some.0 some.1 (λ u below same. differ d u v domain below some.0 same))
+value_found differ d word (Some v) domain some none =
+    sym (value_is d word v some.0 some.1 (λ u below same. differ d u v domain below some.0 same))

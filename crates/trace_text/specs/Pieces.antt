@@ -2,13 +2,15 @@
 use Rattle.std.specs.Prelude.{ℕ, Bool, true, false, not, ◌||◌, ◌==◌, List, [], ◌∷◌, filter}
 use Rattle.std.specs.List.{take_while}
 
--- a byte before the pieces of what follows: it ends an empty piece, or it is the first byte of the first piece
+-- a byte before the pieces of what follows: it ends an empty piece, or it is the first byte of the
+-- first piece
 abbrev pub with_byte : Bool → ℕ → List (List ℕ) → List (List ℕ)
 with_byte true c pieces = [] ∷ pieces
 with_byte false c [] = (c ∷ []) ∷ []
 with_byte false c (piece ∷ pieces) = (c ∷ piece) ∷ pieces
 
--- the pieces that the bytes which pass end; a last piece may lack its end, and no bytes have no piece
+-- the pieces that the bytes which pass end; a last piece may lack its end, and no bytes have no
+-- piece
 abbrev pub pieces : (ℕ → Bool) → List ℕ → List (List ℕ)
 pieces ends [] = []
 pieces ends (c ∷ rest) = with_byte (ends c) c (pieces ends rest)

@@ -37,12 +37,14 @@ abbrev pub joined : Option (Option ℕ) → Option ℕ
 joined None = None
 joined (Some found) = found
 
--- the code of a pure event without a word, which is 1, or of an event with a domain and the word of its value v, which is 1 + v
+-- the code of a pure event without a word, which is 1, or of an event with a domain and the word of
+-- its value v, which is 1 + v
 abbrev pub code_of : Network → Option ℕ → Option (List ℕ) → Option ℕ
 code_of net None None = Some 1
 code_of net None (Some word) = None
 code_of net (Some d) None = None
-code_of net (Some d) (Some word) = option_map (λ v. 1 + v) (joined (option_map (value_named word) (slice_get net.domains d)))
+code_of net (Some d) (Some word) =
+    option_map (λ v. 1 + v) (joined (option_map (value_named word) (slice_get net.domains d)))
 
 -- the domain of an event, where it has one
 abbrev pub domain_of : Network → ℕ → Option ℕ
@@ -64,8 +66,10 @@ is_settle word = is_same word (codes "settle")
 -- the item that the words of a line are, none where there is no word, or the first kind of fault
 abbrev pub item_of_words : Network → List (List ℕ) → Result (Option TraceItem) TraceKind
 item_of_words net [] = Ok None
-item_of_words net (word ∷ []) = cond (is_settle word) (Ok (Some Settle)) (event_item net (env_event net word) None)
-item_of_words net (word ∷ value ∷ []) = cond (is_settle word) (Err Shape) (event_item net (env_event net word) (Some value))
+item_of_words net (word ∷ []) =
+    cond (is_settle word) (Ok (Some Settle)) (event_item net (env_event net word) None)
+item_of_words net (word ∷ value ∷ []) =
+    cond (is_settle word) (Err Shape) (event_item net (env_event net word) (Some value))
 item_of_words net (word ∷ value ∷ more ∷ words) = Err Shape
 
 abbrev pub item_of_line : Network → List ℕ → Result (Option TraceItem) TraceKind
@@ -77,14 +81,18 @@ AddsItem net (Err kind) = ⊤
 AddsItem net (Ok None) = ⊤
 AddsItem net (Ok (Some item)) = IsTrue (is_trace_item net item)
 
--- what a line of this number adds to the items before it: an item where there are fewer than 10,000, or a fault
-abbrev pub added : List TraceItem → ℕ → Result (Option TraceItem) TraceKind → Result (List TraceItem) TraceFault
+-- what a line of this number adds to the items before it: an item where there are fewer than
+-- 10,000, or a fault
+abbrev pub added : List TraceItem → ℕ → Result (Option TraceItem) TraceKind
+    → Result (List TraceItem) TraceFault
 added items line (Err kind) = Err (Line line kind)
 added items line (Ok None) = Ok items
-added items line (Ok (Some item)) = cond (nat_lt (length items) 10000) (Ok (items ++ item ∷ [])) (Err (Line line Many))
+added items line (Ok (Some item)) =
+    cond (nat_lt (length items) 10000) (Ok (items ++ item ∷ [])) (Err (Line line Many))
 
 -- one more line with its number after those that were read; the first fault stays
-abbrev pub with_line : Network → Result (List TraceItem) TraceFault → ℕ × List ℕ → Result (List TraceItem) TraceFault
+abbrev pub with_line : Network → Result (List TraceItem) TraceFault → ℕ × List ℕ
+    → Result (List TraceItem) TraceFault
 with_line net (Err fault) (line, text) = Err fault
 with_line net (Ok items) (line, text) = added items line (item_of_line net text)
 

@@ -67,7 +67,8 @@ fn item_of_event(
     name: &[u8],
     word: Option<&[u8]>,
 ) -> Result<Option<TraceItem>, TraceKind>
-    ensures item { result ≡ event_item net.now (env_event net.now name.now) (option_copied word.entry) }
+    ensures item { result ≡ event_item net.now (env_event net.now name.now)
+        (option_copied word.entry) }
     ensures fits { AddsItem net.now result }
 {
     match event_named(net, name) {

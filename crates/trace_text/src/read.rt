@@ -18,10 +18,12 @@ const MOST_ITEMS: u64 = 10_000;
 fn add_line(net: &Network, trace: &mut Trace, line: u64, text: &[u8]) -> Result<(), TraceFault>
     requires fits { IsTrace net.now trace.old }
     requires few { length trace.old ≤ 10000 }
-    ensures ok { IfOk result (λ u. with_line net.now (Ok trace.old) (line, text.now) ≡ Ok trace.new) }
+    ensures ok { IfOk result (λ u. with_line net.now (Ok trace.old) (line, text.now)
+        ≡ Ok trace.new) }
     ensures fits { IfOk result (λ u. IsTrace net.now trace.new) }
     ensures few { IfOk result (λ u. length trace.new ≤ 10000) }
-    ensures fault { (fault : TraceFault) → result ≡ Err fault → fault ≢ TraceFault.NoMemory → with_line net.now (Ok trace.old) (line, text.now) ≡ Err fault }
+    ensures fault { (fault : TraceFault) → result ≡ Err fault → fault ≢ TraceFault.NoMemory
+        → with_line net.now (Ok trace.old) (line, text.now) ≡ Err fault }
 {
     match read_line(net, text) {
         Err(kind) => Err(TraceFault::Line { line, kind }),
@@ -42,13 +44,15 @@ fn add_line(net: &Network, trace: &mut Trace, line: u64, text: &[u8]) -> Result<
     }
 }
 
-/// Reads the items of a trace text, one a line. A line without words, as an empty one or a comment, is no item.
-/// The answer `Line` names the first line at fault, numbered from 1, and the first kind that applies to it.
+/// Reads the items of a trace text, one a line. A line without words, as an empty one or a comment,
+/// is no item. The answer `Line` names the first line at fault, numbered from 1, and the first kind
+/// that applies to it.
 pub fn read_trace(alloc: Global, net: &Network, text: &[u8]) -> Result<Trace, TraceFault>
     ensures ok { IfOk result (λ trace. trace_of net.now text.now ≡ Ok trace) }
     ensures fits { IfOk result (λ trace. IsTrace net.now trace) }
     ensures few { IfOk result (λ trace. length trace ≤ 10000) }
-    ensures fault { (fault : TraceFault) → result ≡ Err fault → fault ≢ TraceFault.NoMemory → trace_of net.now text.now ≡ Err fault }
+    ensures fault { (fault : TraceFault) → result ≡ Err fault → fault ≢ TraceFault.NoMemory
+        → trace_of net.now text.now ≡ Err fault }
 {
     let mut trace = Trace::new(alloc);
     let mut rest = text;

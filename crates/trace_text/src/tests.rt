@@ -1,4 +1,5 @@
-// Trace texts over the sample networks: a lamp that a press turns on, and one whose event `v` has the values 0 to 7.
+// Trace texts over the sample networks: a lamp that a press turns on, and one whose event `v` has
+// the values 0 to 7.
 use super::*;
 use net_core::TraceItem;
 use polis_base::{Bytes, Duplicate};

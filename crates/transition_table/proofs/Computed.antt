@@ -16,10 +16,12 @@ use Rattle.transition_table.proofs.Ranges.{results_parts}
 -- some row of these is enabled and gives the outcome, or none is and the outcome is blank
 abbrev ByRows : Machine → List ℕ → List Row → Outcome → Type 0
 ByRows m s rows o =
-    ((r : ℕ) × (holds s (slice_get rows r) ≡ true) × (o ≡ outcome_of m s true (actions (slice_get rows r))))
+    ((r : ℕ) × (holds s (slice_get rows r) ≡ true)
+    × (o ≡ outcome_of m s true (actions (slice_get rows r))))
     ⊎ (((r : ℕ) → holds s (slice_get rows r) ≡ false) × (o ≡ blank m))
 
-one_more : (m : Machine) (s : List ℕ) (row : Row) (rows : List Row) (o : Outcome) → list_all (allows s) row.conds ≡ false → ByRows m s rows o → ByRows m s (row ∷ rows) o
+one_more : (m : Machine) (s : List ℕ) (row : Row) (rows : List Row) (o : Outcome)
+    → list_all (allows s) row.conds ≡ false → ByRows m s rows o → ByRows m s (row ∷ rows) o
 one_more m s row rows o off (inl (r, on, is)) = inl (suc r, on, is)
 one_more m s row rows o off (inr (none, is)) = inr (every, is)
   where
@@ -31,9 +33,14 @@ by_rows : (m : Machine) (s : List ℕ) (rows : List Row) → ByRows m s rows (ou
 by_rows m s [] = inr (λ r. refl, refl)
 by_rows m s (row ∷ rows) =
     elim (cases_Bool (list_all (allows s) row.conds)) [
-      | inl on ↦ inl (0, on, ap (λ (b : Bool). cond b (outcome_of m s true row.acts) (outcome_by m rows s)) on)
+      | inl on ↦ inl (
+        0,
+        on,
+        ap (λ (b : Bool). cond b (outcome_of m s true row.acts) (outcome_by m rows s)) on,
+      )
       | inr off ↦
-          let e : outcome_by m (row ∷ rows) s ≡ outcome_by m rows s = ap (λ (b : Bool). cond b (outcome_of m s true row.acts) (outcome_by m rows s)) off in
+          let e : outcome_by m (row ∷ rows) s ≡ outcome_by m rows s =
+          ap (λ (b : Bool). cond b (outcome_of m s true row.acts) (outcome_by m rows s)) off in
           rw e (one_more m s row rows (outcome_by m rows s) off (by_rows m s rows))
     ]
 
@@ -41,11 +48,15 @@ pub outcome_by_rows : OutcomeByRows
 outcome_by_rows m s = by_rows m s m.rows
 
 pub only_by_rows : OnlyByRows
-only_by_rows m s o sure fit move = one_outcome m (reading s) o (outcome_by m m.rows s) sure fit move (outcome_by_rows m s)
+only_by_rows m s o sure fit move =
+    one_outcome m (reading s) o (outcome_by m m.rows s) sure fit move (outcome_by_rows m s)
 
 -- the code of `go`, and then codes that fit
-go_and_more : (results : List ℕ) (more : List ℕ) (n : ℕ) (fires : Bool) → 2 ∷ more ≡ take (suc n) results → (codes : List ℕ) → fits (drop 1 results) codes ≡ true → fits results (cond fires 1 0 ∷ codes) ≡ true
-go_and_more [] more n fires e codes fit = absurd (let l : suc (length more) ≡ 0 = ap length e in omega arith)
+go_and_more : (results : List ℕ) (more : List ℕ) (n : ℕ) (fires : Bool)
+    → 2 ∷ more ≡ take (suc n) results → (codes : List ℕ) → fits (drop 1 results) codes ≡ true
+    → fits results (cond fires 1 0 ∷ codes) ≡ true
+go_and_more [] more n fires e codes fit =
+    absurd (let l : suc (length more) ≡ 0 = ap length e in omega arith)
 go_and_more (size ∷ results) more n fires e codes fit =
     let two : 2 ≡ size = ap (λ (xs : List ℕ). first xs) e in
     both_true (lt-ltb (cond fires 1 0) size (low fires two)) fit
@@ -63,4 +74,5 @@ results_fit m s fit =
     let o = outcome_by m m.rows s in
     let next : 1 + length m.states ≡ suc (length m.states) = omega arith in
     let first = (results_parts m).1 ∙ ap (λ (k : ℕ). take k m.results) next in
-    go_and_more m.results (map (λ size. 1 + size) (drop (length m.inputs) m.vars)) (length m.states) o.fires first (o.next ++ o.outs) (codes_fit m (reading s) o fit (outcome_by_rows m s))
+    go_and_more m.results (map (λ size. 1 + size) (drop (length m.inputs) m.vars)) (length m.states)
+    o.fires first (o.next ++ o.outs) (codes_fit m (reading s) o fit (outcome_by_rows m s))

@@ -19,27 +19,41 @@ use Rattle.transition_table.specs.declared.machine.Machine.{Machine}
 use Rattle.transition_table.proofs.Rows.{left_true, right_true}
 
 -- codes that fit are below their sizes
-pub below_size : (sizes codes : List ℕ) (k : ℕ) → fits sizes codes ≡ true → k < length sizes → slice_index codes k < slice_index sizes k
+pub below_size : (sizes codes : List ℕ) (k : ℕ) → fits sizes codes ≡ true → k < length sizes
+    → slice_index codes k < slice_index sizes k
 below_size [] codes k h below = absurd (omega arith)
 below_size (size ∷ sizes) [] k h below = cc
-below_size (size ∷ sizes) (code ∷ codes) zero h below = ltb-true code size (left_true (nat_lt code size) _ h)
-below_size (size ∷ sizes) (code ∷ codes) (suc k) h below = below_size sizes codes k (right_true (nat_lt code size) _ h) (omega arith)
+below_size (size ∷ sizes) (code ∷ codes) zero h below =
+    ltb-true code size (left_true (nat_lt code size) _ h)
+below_size (size ∷ sizes) (code ∷ codes) (suc k) h below =
+    below_size sizes codes k (right_true (nat_lt code size) _ h) (omega arith)
 
 -- a machine has one size for each input and each state variable
 pub vars_length : (m : Machine) → length m.vars ≡ length m.inputs + length m.states
-vars_length m = eqb-true _ _ (right_true (are_sizes m.vars) _ (left_true _ (list_all (nat_le 2) (take (length m.inputs) m.vars)) (left_true _ _ m.sized_vars)))
+vars_length m =
+    eqb-true _ _ (right_true (are_sizes m.vars) _
+    (left_true _ (list_all (nat_le 2) (take (length m.inputs) m.vars))
+    (left_true _ _ m.sized_vars)))
 
-pub results_parts : (m : Machine) → (length m.results ≡ 1 + length m.states + length m.outputs) × ((2 ∷ map (λ size. 1 + size) (drop (length m.inputs) m.vars)) ≡ take (1 + length m.states) m.results)
+pub results_parts : (m : Machine) → (length m.results ≡ 1 + length m.states + length m.outputs)
+    × ((2 ∷ map (λ size. 1 + size) (drop (length m.inputs) m.vars))
+    ≡ take (1 + length m.states) m.results)
 results_parts m =
     let n = 1 + length m.states in
     let lengths = length m.results == 1 + length m.states + length m.outputs in
-    let prefix = pointwise ◌==◌ (2 ∷ map (λ size. 1 + size) (drop (length m.inputs) m.vars)) (take n m.results) in
+    let prefix = pointwise ◌==◌ (2 ∷ map (λ size. 1 + size) (drop (length m.inputs) m.vars))
+    (take n m.results) in
     let after = list_all (nat_le 2) (drop n m.results) in
-    let parts = and_parts lengths prefix (and_parts (lengths && prefix) after m.sized_results).0 in
-    (eqb-true (length m.results) (1 + length m.states + length m.outputs) parts.0, same_text (2 ∷ map (λ size. 1 + size) (drop (length m.inputs) m.vars)) (take n m.results) (sym parts.1))
+    let parts = and_parts lengths prefix
+    (and_parts (lengths && prefix) after m.sized_results).0 in (
+      eqb-true (length m.results) (1 + length m.states + length m.outputs) parts.0,
+      same_text (2 ∷ map (λ size. 1 + size) (drop (length m.inputs) m.vars)) (take n m.results)
+          (sym parts.1),
+    )
 
 -- the result of a state variable has one code more than the variable
-pub state_result : (m : Machine) (x : ℕ) → x < length m.states → slice_index m.results (1 + x) ≡ 1 + slice_index m.vars (length m.inputs + x)
+pub state_result : (m : Machine) (x : ℕ) → x < length m.states
+    → slice_index m.results (1 + x) ≡ 1 + slice_index m.vars (length m.inputs + x)
 state_result m x h =
     let parts = results_parts m in
     let lengths = vars_length m in
@@ -59,10 +73,15 @@ pub record Adds (m : Machine) (y k : ℕ) : Type 0 where
   pub step : k < slice_index m.vars (variable_of m.inputs y)
   pub size : slice_index m.results y ≡ 1 + slice_index m.vars (variable_of m.inputs y)
 
-pub adds : (m : Machine) (y k : ℕ) → is_source m.inputs m.vars m.results y (Add k) ≡ true → Adds m y k
+pub adds : (m : Machine) (y k : ℕ) → is_source m.inputs m.vars m.results y (Add k) ≡ true
+    → Adds m y k
 adds m y k h =
-    let some : 0 < y = ltb-true 0 y (left_true _ _ (left_true _ (nat_lt k (slice_index m.vars (variable_of m.inputs y))) h)) in
-    let var : variable_of m.inputs y < length m.vars = ltb-true _ _ (right_true (nat_lt 0 y) _ (left_true _ (nat_lt k (slice_index m.vars (variable_of m.inputs y))) h)) in
+    let some : 0 < y =
+    ltb-true 0 y (left_true _ _
+    (left_true _ (nat_lt k (slice_index m.vars (variable_of m.inputs y))) h)) in
+    let var : variable_of m.inputs y < length m.vars =
+    ltb-true _ _ (right_true (nat_lt 0 y) _
+    (left_true _ (nat_lt k (slice_index m.vars (variable_of m.inputs y))) h)) in
     let lengths = vars_length m in
     let state : y - 1 < length m.states = omega arith in
     let own : 1 + (y - 1) ≡ y = omega arith in
@@ -70,20 +89,25 @@ adds m y k h =
       some = some;
       state = state;
       var = var;
-      step = ltb-true _ _ (right_true (nat_lt 0 y && nat_lt (variable_of m.inputs y) (length m.vars)) _ h);
+      step = ltb-true _ _
+          (right_true (nat_lt 0 y && nat_lt (variable_of m.inputs y) (length m.vars)) _ h);
       size = rw own at (state_result m (y - 1) state);
     }
 
 -- what a copied input needs: it is a variable of the result's size
-pub reads : (m : Machine) (y v : ℕ) → is_source m.inputs m.vars m.results y (Input v) ≡ true → (v < length m.inputs) × (v < length m.vars) × (slice_index m.vars v ≡ slice_index m.results y)
+pub reads : (m : Machine) (y v : ℕ) → is_source m.inputs m.vars m.results y (Input v) ≡ true
+    → (v < length m.inputs) × (v < length m.vars) × (slice_index m.vars v ≡ slice_index m.results y)
 reads m y v h =
-    let parts = and_parts (nat_lt v (length m.inputs)) (slice_index m.vars v == slice_index m.results y) h in
+    let parts = and_parts (nat_lt v (length m.inputs))
+    (slice_index m.vars v == slice_index m.results y) h in
     let input : v < length m.inputs = ltb-true _ _ parts.0 in
     let lengths = vars_length m in
     (input, omega arith, eqb-true _ _ parts.1)
 
 -- a source's code is a code of the result
-pub source_below : (m : Machine) (codes : List ℕ) (y : ℕ) (source : Source) → fits m.vars codes ≡ true → is_source m.inputs m.vars m.results y source ≡ true → code_of m.inputs m.vars codes y source < slice_index m.results y
+pub source_below : (m : Machine) (codes : List ℕ) (y : ℕ) (source : Source)
+    → fits m.vars codes ≡ true → is_source m.inputs m.vars m.results y source ≡ true
+    → code_of m.inputs m.vars codes y source < slice_index m.results y
 source_below m codes y (Code code) fit h = ltb-true _ _ h
 source_below m codes y (Input v) fit h =
     let read = reads m y v h in
@@ -94,7 +118,8 @@ source_below m codes y (Add k) fit h =
     let a = adds m y k h in
     let step = a.step in
     let size = a.size in
-    let below = mod-lt (slice_index codes (variable_of m.inputs y) + k) {m = slice_index m.vars (variable_of m.inputs y)} (omega arith) in
+    let below = mod-lt (slice_index codes (variable_of m.inputs y) + k)
+    {m = slice_index m.vars (variable_of m.inputs y)} (omega arith) in
     omega arith
 
 some_code : (mask code : ℕ) → bit_at mask 0 ≡ 0 → bit_at mask code ≡ 1 → 1 ≤ code
@@ -102,7 +127,8 @@ some_code mask zero clear set = absurd (omega arith)
 some_code mask (suc code) clear set = omega arith
 
 -- a row's conditions want an input present from which it takes a code
-absent_fails : (codes : List ℕ) (v : ℕ) (conds : List Cond) → list_any (wants v) conds ≡ true → list_all (allows codes) conds ≡ true → 1 ≤ slice_index codes v
+absent_fails : (codes : List ℕ) (v : ℕ) (conds : List Cond) → list_any (wants v) conds ≡ true
+    → list_all (allows codes) conds ≡ true → 1 ≤ slice_index codes v
 absent_fails codes v [] some all = cc
 absent_fails codes v (c ∷ conds) some all =
     let parts = and_parts (allows codes c) (list_all (allows codes) conds) all in
@@ -112,41 +138,62 @@ absent_fails codes v (c ∷ conds) some all =
           let same = eqb-true c.var v own.0 in
           let clear = eqb-true (bit_at c.codes 0) 0 own.1 in
           let set = eqb-true (bit_at c.codes (slice_index codes c.var)) 1 parts.0 in
-          subst (λ k. 1 ≤ slice_index codes k) same (some_code c.codes (slice_index codes c.var) clear set)
+          subst (λ k. 1 ≤ slice_index codes k) same
+          (some_code c.codes (slice_index codes c.var) clear set)
       | inr other ↦ absent_fails codes v conds (rw other at some) parts.1
     ]
 
-pub is_present : (codes : List ℕ) (v : ℕ) (conds : List Cond) (acts : List Act) (k : ℕ) (act : Act) → list_all (λ act. has_present conds act.source) acts ≡ true → slice_get acts k ≡ Some act → act.source ≡ Input v → list_all (allows codes) conds ≡ true → 1 ≤ slice_index codes v
+pub is_present : (codes : List ℕ) (v : ℕ) (conds : List Cond) (acts : List Act) (k : ℕ) (act : Act)
+    → list_all (λ act. has_present conds act.source) acts ≡ true → slice_get acts k ≡ Some act
+    → act.source ≡ Input v → list_all (allows codes) conds ≡ true → 1 ≤ slice_index codes v
 is_present codes v conds [] k act h at reads held = cc
 is_present codes v conds (a ∷ acts) zero act h at reads held =
     let same : a ≡ act = cc in
     let own = left_true (has_present conds a.source) _ h in
-    let wanted : has_present conds (Input v) ≡ true = subst (λ source. has_present conds source ≡ true) (ap (λ (x : Act). x.source) same ∙ reads) own in
+    let wanted : has_present conds (Input v) ≡ true =
+    subst (λ source. has_present conds source ≡ true) (ap (λ (x : Act). x.source) same ∙ reads)
+    own in
     absent_fails codes v conds wanted held
-is_present codes v conds (a ∷ acts) (suc k) act h at reads held = is_present codes v conds acts k act (right_true (has_present conds a.source) _ h) at reads held
+is_present codes v conds (a ∷ acts) (suc k) act h at reads held =
+    is_present codes v conds acts k act (right_true (has_present conds a.source) _ h) at reads held
 
 -- a row of the machine, and its actions
-pub row_there : (inputs vars results : List ℕ) (rows : List Row) (k : ℕ) (row : Row) → list_all (is_row inputs vars results) rows ≡ true → slice_get rows k ≡ Some row → is_row inputs vars results row ≡ true
+pub row_there : (inputs vars results : List ℕ) (rows : List Row) (k : ℕ) (row : Row)
+    → list_all (is_row inputs vars results) rows ≡ true → slice_get rows k ≡ Some row
+    → is_row inputs vars results row ≡ true
 row_there inputs vars results [] k row all at = cc
 row_there inputs vars results (r ∷ rows) zero row all at =
     let e : r ≡ row = cc in
     rw e at (left_true (is_row inputs vars results r) _ all)
-row_there inputs vars results (r ∷ rows) (suc k) row all at = row_there inputs vars results rows k row (right_true (is_row inputs vars results r) _ all) at
+row_there inputs vars results (r ∷ rows) (suc k) row all at =
+    row_there inputs vars results rows k row (right_true (is_row inputs vars results r) _ all) at
 
-pub acts_of : (inputs vars results : List ℕ) (row : Row) → is_row inputs vars results row ≡ true → list_all (names_result inputs vars results) row.acts ≡ true
+pub acts_of : (inputs vars results : List ℕ) (row : Row) → is_row inputs vars results row ≡ true
+    → list_all (names_result inputs vars results) row.acts ≡ true
 acts_of inputs vars results row h =
-    right_true (list_all (names_codes vars) row.conds) _ (left_true _ (list_all (λ act. has_present row.conds act.source) row.acts) h)
+    right_true (list_all (names_codes vars) row.conds) _
+    (left_true _ (list_all (λ act. has_present row.conds act.source) row.acts) h)
 
 -- an action whose source is an input or an addition
-pub reads_of : (m : Machine) (act : Act) (v : ℕ) → names_result m.inputs m.vars m.results act ≡ true → act.source ≡ Input v → (v < length m.inputs) × (v < length m.vars) × (slice_index m.vars v ≡ slice_index m.results act.result)
+pub reads_of : (m : Machine) (act : Act) (v : ℕ) → names_result m.inputs m.vars m.results act ≡ true
+    → act.source ≡ Input v → (v < length m.inputs) × (v < length m.vars)
+    × (slice_index m.vars v ≡ slice_index m.results act.result)
 reads_of m act v named is =
-    reads m act.result v (subst (λ source. is_source m.inputs m.vars m.results act.result source ≡ true) is (right_true (nat_lt act.result (length m.results)) _ named))
+    reads m act.result v
+    (subst (λ source. is_source m.inputs m.vars m.results act.result source ≡ true) is
+    (right_true (nat_lt act.result (length m.results)) _ named))
 
-pub adds_of : (m : Machine) (act : Act) (k : ℕ) → names_result m.inputs m.vars m.results act ≡ true → act.source ≡ Add k → Adds m act.result k
+pub adds_of : (m : Machine) (act : Act) (k : ℕ) → names_result m.inputs m.vars m.results act ≡ true
+    → act.source ≡ Add k → Adds m act.result k
 adds_of m act k named is =
-    adds m act.result k (subst (λ source. is_source m.inputs m.vars m.results act.result source ≡ true) is (right_true (nat_lt act.result (length m.results)) _ named))
+    adds m act.result k
+    (subst (λ source. is_source m.inputs m.vars m.results act.result source ≡ true) is
+    (right_true (nat_lt act.result (length m.results)) _ named))
 
 pub small_size : (sizes : List ℕ) (k : ℕ) → are_sizes sizes ≡ true → slice_index sizes k ≤ 33
 small_size [] k h = omega arith
-small_size (size ∷ sizes) zero h = leb-true size 33 (right_true (nat_le 1 size) _ (left_true (nat_le 1 size && nat_le size 33) (are_sizes sizes) h))
-small_size (size ∷ sizes) (suc k) h = small_size sizes k (right_true (nat_le 1 size && nat_le size 33) (are_sizes sizes) h)
+small_size (size ∷ sizes) zero h =
+    leb-true size 33
+    (right_true (nat_le 1 size) _ (left_true (nat_le 1 size && nat_le size 33) (are_sizes sizes) h))
+small_size (size ∷ sizes) (suc k) h =
+    small_size sizes k (right_true (nat_le 1 size && nat_le size 33) (are_sizes sizes) h)

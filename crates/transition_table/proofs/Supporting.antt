@@ -20,13 +20,16 @@ use Rattle.transition_table.proofs.Ranges.{below_size}
 use Rattle.transition_table.proofs.Rows.{length-fits}
 
 -- ---- some item passes, or none does
-some_item : {X : Type 0} (p q : X → Bool) (xs : List X) → list_all p xs ≡ true → list_any q xs ≡ true → (x : X) × (p x ≡ true) × (q x ≡ true)
+some_item : {X : Type 0} (p q : X → Bool) (xs : List X) → list_all p xs ≡ true
+    → list_any q xs ≡ true → (x : X) × (p x ≡ true) × (q x ≡ true)
 some_item p q [] all any = absurd (false≢true any)
 some_item p q (x ∷ xs) all any =
     let parts = and_parts (p x) (list_all p xs) all in
-    ⊎_elim (λ here. (x, parts.0, here)) (λ later. some_item p q xs parts.1 later) (or_cases (q x) (list_any q xs) any)
+    ⊎_elim (λ here. (x, parts.0, here)) (λ later. some_item p q xs parts.1 later)
+    (or_cases (q x) (list_any q xs) any)
 
-none_passes : {X : Type 0} (p : X → Bool) (xs : List X) → list_any p xs ≡ false → list_all (λ x. not (p x)) xs ≡ true
+none_passes : {X : Type 0} (p : X → Bool) (xs : List X) → list_any p xs ≡ false
+    → list_all (λ x. not (p x)) xs ≡ true
 none_passes p [] h = refl
 none_passes p (x ∷ xs) h =
     let parts = or_parts (p x) (list_any p xs) h in
@@ -40,7 +43,8 @@ not_false : (b : Bool) → not b ≡ false → b ≡ true
 not_false true h = refl
 not_false false h = absurd (true≢false h)
 
-all_append : (p : ℕ → Bool) (xs ys : List ℕ) → list_all p xs ≡ true → list_all p ys ≡ true → list_all p (xs ++ ys) ≡ true
+all_append : (p : ℕ → Bool) (xs ys : List ℕ) → list_all p xs ≡ true → list_all p ys ≡ true
+    → list_all p (xs ++ ys) ≡ true
 all_append p [] ys before after = after
 all_append p (x ∷ xs) ys before after =
     let parts = and_parts (p x) (list_all p xs) before in
@@ -48,9 +52,12 @@ all_append p (x ∷ xs) ys before after =
 
 all_below : (bound n : ℕ) → n ≤ bound → list_all (λ k. nat_lt k bound) (upto n) ≡ true
 all_below bound zero h = refl
-all_below bound (suc n) h = all_append (λ k. nat_lt k bound) (upto n) (n ∷ []) (all_below bound n (omega arith)) (both_true (lt-ltb n bound (omega arith)) refl)
+all_below bound (suc n) h =
+    all_append (λ k. nat_lt k bound) (upto n) (n ∷ []) (all_below bound n (omega arith))
+    (both_true (lt-ltb n bound (omega arith)) refl)
 
-all_parts : (p : ℕ → Bool) (xs ys : List ℕ) → list_all p (xs ++ ys) ≡ true → (list_all p xs ≡ true) × (list_all p ys ≡ true)
+all_parts : (p : ℕ → Bool) (xs ys : List ℕ) → list_all p (xs ++ ys) ≡ true
+    → (list_all p xs ≡ true) × (list_all p ys ≡ true)
 all_parts p [] ys h = (refl, h)
 all_parts p (x ∷ xs) ys h =
     let parts = and_parts (p x) (list_all p (xs ++ ys)) h in
@@ -67,14 +74,17 @@ all_upto p (suc n) h k low =
     (cases_lt k n)
 
 none_below : (p : ℕ → Bool) (n : ℕ) → list_any p (upto n) ≡ false → (k : ℕ) → k < n → p k ≡ false
-none_below p n h k low = not_true (p k) (all_upto (λ x. not (p x)) n (none_passes p (upto n) h) k low)
+none_below p n h k low =
+    not_true (p k) (all_upto (λ x. not (p x)) n (none_passes p (upto n) h) k low)
 
 -- ---- lists that fit, with one code set
-fits_set : (sizes codes : List ℕ) → fits sizes codes ≡ true → (var code : ℕ) → code < slice_index sizes var → fits sizes (slice_set codes var code) ≡ true
+fits_set : (sizes codes : List ℕ) → fits sizes codes ≡ true → (var code : ℕ)
+    → code < slice_index sizes var → fits sizes (slice_set codes var code) ≡ true
 fits_set [] [] h var code below = refl
 fits_set [] (first ∷ codes) h var code below = absurd (false≢true h)
 fits_set (size ∷ sizes) [] h var code below = absurd (false≢true h)
-fits_set (size ∷ sizes) (first ∷ codes) h zero code below = both_true (lt-ltb code size below) (and_parts (nat_lt first size) (fits sizes codes) h).1
+fits_set (size ∷ sizes) (first ∷ codes) h zero code below =
+    both_true (lt-ltb code size below) (and_parts (nat_lt first size) (fits sizes codes) h).1
 fits_set (size ∷ sizes) (first ∷ codes) h (suc var) code below =
     let parts = and_parts (nat_lt first size) (fits sizes codes) h in
     both_true parts.0 (fits_set sizes codes parts.1 var code below)
@@ -85,12 +95,17 @@ set_own (x ∷ xs) zero = refl
 set_own (x ∷ xs) (suc k) = ap (λ (ys : List ℕ). x ∷ ys) (set_own xs k)
 
 -- changing a variable on which the result doesn't depend
-unsupported : ListsAll → (m : Machine) (y v : ℕ) (s : List ℕ) (code : ℕ) → fits m.vars s ≡ true → code < slice_index m.vars v → supports m y v ≡ false → result_code m y (slice_set s v code) ≡ result_code m y s
+unsupported : ListsAll → (m : Machine) (y v : ℕ) (s : List ℕ) (code : ℕ) → fits m.vars s ≡ true
+    → code < slice_index m.vars v → supports m y v ≡ false
+    → result_code m y (slice_set s v code) ≡ result_code m y s
 unsupported lists_all m y v s code fit low off =
-    let turns : List ℕ → Bool = λ s. list_any (turned (result_code m y) v s) (upto (slice_index m.vars v)) in
-    let here = not_true (turns s) (lists_all m.vars (λ s. not (turns s)) (none_passes turns (all_codes m.vars) off) s fit) in
+    let turns : List ℕ → Bool =
+    λ s. list_any (turned (result_code m y) v s) (upto (slice_index m.vars v)) in
+    let here = not_true (turns s)
+    (lists_all m.vars (λ s. not (turns s)) (none_passes turns (all_codes m.vars) off) s fit) in
     let same = none_below (turned (result_code m y) v s) (slice_index m.vars v) here code low in
-    eqb-true (result_code m y (slice_set s v code)) (result_code m y s) (not_false (result_code m y (slice_set s v code) == result_code m y s) same)
+    eqb-true (result_code m y (slice_set s v code)) (result_code m y s)
+    (not_false (result_code m y (slice_set s v code) == result_code m y s) same)
 
 -- ---- two lists that agree on what a result depends on
 -- the first k codes are those of the other list
@@ -101,39 +116,54 @@ put (suc k) s t = slice_set (put k s t) k (slice_index t k)
 put_high : (k : ℕ) (s t : List ℕ) (j : ℕ) → k ≤ j → slice_index (put k s t) j ≡ slice_index s j
 unfolding put
 put_high zero s t j h = refl
-put_high (suc k) s t j h = get_or-set_other (put k s t) k j (slice_index t k) 0 (λ same. absurd (omega arith)) ∙ put_high k s t j (omega arith)
+put_high (suc k) s t j h =
+    get_or-set_other (put k s t) k j (slice_index t k) 0 (λ same. absurd (omega arith))
+    ∙ put_high k s t j (omega arith)
 
 put_long : (k : ℕ) (s t : List ℕ) → length (put k s t) ≡ length s
 unfolding put
 put_long zero s t = refl
 put_long (suc k) s t = length-set (put k s t) k (slice_index t k) ∙ put_long k s t
 
-put_low : (k : ℕ) (s t : List ℕ) (j : ℕ) → k ≤ length s → j < k → slice_index (put k s t) j ≡ slice_index t j
+put_low : (k : ℕ) (s t : List ℕ) (j : ℕ) → k ≤ length s → j < k
+    → slice_index (put k s t) j ≡ slice_index t j
 unfolding put
 put_low zero s t j h low = absurd (omega arith)
 put_low (suc k) s t j h low =
     let l = put_long k s t in
     ⊎_elim
-    (λ less. get_or-set_other (put k s t) k j (slice_index t k) 0 (λ same. absurd (omega arith)) ∙ put_low k s t j (omega arith) less)
-    (λ more. let e : j ≡ k = omega arith in rw e (get_or-set_same (put k s t) k (slice_index t k) 0 (omega arith)))
+    (λ less. get_or-set_other (put k s t) k j (slice_index t k) 0 (λ same. absurd (omega arith))
+    ∙ put_low k s t j (omega arith) less)
+    (λ more. let e : j ≡ k = omega arith in
+    rw e (get_or-set_same (put k s t) k (slice_index t k) 0 (omega arith)))
     (cases_lt j k)
 
-put_fits : (sizes : List ℕ) (k : ℕ) (s t : List ℕ) → k ≤ length sizes → fits sizes s ≡ true → fits sizes t ≡ true → fits sizes (put k s t) ≡ true
+put_fits : (sizes : List ℕ) (k : ℕ) (s t : List ℕ) → k ≤ length sizes → fits sizes s ≡ true
+    → fits sizes t ≡ true → fits sizes (put k s t) ≡ true
 unfolding put
 put_fits sizes zero s t h fit_s fit_t = fit_s
-put_fits sizes (suc k) s t h fit_s fit_t = fits_set sizes (put k s t) (put_fits sizes k s t (omega arith) fit_s fit_t) k (slice_index t k) (below_size sizes t k fit_t (omega arith))
+put_fits sizes (suc k) s t h fit_s fit_t =
+    fits_set sizes (put k s t) (put_fits sizes k s t (omega arith) fit_s fit_t) k (slice_index t k)
+    (below_size sizes t k fit_t (omega arith))
 
-put_same : ListsAll → (m : Machine) (y k : ℕ) (s t : List ℕ) → k ≤ length m.vars → fits m.vars s ≡ true → fits m.vars t ≡ true → ((v : ℕ) → v < length m.vars → supports m y v ≡ true → slice_index s v ≡ slice_index t v) → result_code m y (put k s t) ≡ result_code m y s
+put_same : ListsAll → (m : Machine) (y k : ℕ) (s t : List ℕ) → k ≤ length m.vars
+    → fits m.vars s ≡ true → fits m.vars t ≡ true
+    → ((v : ℕ) → v < length m.vars → supports m y v ≡ true → slice_index s v ≡ slice_index t v)
+    → result_code m y (put k s t) ≡ result_code m y s
 unfolding put
 put_same lists_all m y zero s t h fit_s fit_t agree = refl
 put_same lists_all m y (suc k) s t h fit_s fit_t agree =
     let rest = put_same lists_all m y k s t (omega arith) fit_s fit_t agree in
     ⊎_elim
     (λ on.
-    let own : slice_index t k ≡ slice_index (put k s t) k = sym (agree k (omega arith) on) ∙ sym (put_high k s t k (omega arith)) in
-    ap (λ (code : ℕ). result_code m y (slice_set (put k s t) k code)) own ∙ ap (result_code m y) (set_own (put k s t) k) ∙ rest)
+    let own : slice_index t k ≡ slice_index (put k s t) k =
+    sym (agree k (omega arith) on) ∙ sym (put_high k s t k (omega arith)) in
+    ap (λ (code : ℕ). result_code m y (slice_set (put k s t) k code)) own
+    ∙ ap (result_code m y) (set_own (put k s t) k) ∙ rest)
     (λ off.
-    unsupported lists_all m y k (put k s t) (slice_index t k) (put_fits m.vars k s t (omega arith) fit_s fit_t) (below_size m.vars t k fit_t (omega arith)) off ∙ rest)
+    unsupported lists_all m y k (put k s t) (slice_index t k)
+    (put_fits m.vars k s t (omega arith) fit_s fit_t)
+    (below_size m.vars t k fit_t (omega arith)) off ∙ rest)
     (cases_Bool (supports m y k))
 
 pub same_on_support : ListsAll → SameOnSupport
@@ -142,7 +172,9 @@ same_on_support lists_all m y s t fit_s fit_t agree =
     let long_s = length-fits m.vars s fit_s in
     let long_t = length-fits m.vars t fit_t in
     let long = put_long n s t in
-    let whole : put n s t ≡ t = same_number_lists (put n s t) t (omega arith) (λ j low. put_low n s t j (omega arith) (omega arith)) in
+    let whole : put n s t ≡ t =
+    same_number_lists (put n s t) t (omega arith)
+    (λ j low. put_low n s t j (omega arith) (omega arith)) in
     sym (put_same lists_all m y n s t (omega arith) fit_s fit_t agree) ∙ ap (result_code m y) whole
 
 -- ---- the tests say what the relations say
@@ -158,7 +190,8 @@ drop_first [] ys (suc n) e = absurd (omega arith)
 drop_first (x ∷ xs) ys zero e = absurd (omega arith)
 drop_first (x ∷ xs) ys (suc n) e = drop_first xs ys n (omega arith)
 
-fits_first : (xs ys codes : List ℕ) → fits (xs ++ ys) codes ≡ true → fits xs (take (length xs) codes) ≡ true
+fits_first : (xs ys codes : List ℕ) → fits (xs ++ ys) codes ≡ true
+    → fits xs (take (length xs) codes) ≡ true
 fits_first [] ys codes h = refl
 fits_first (x ∷ xs) ys [] h = h
 fits_first (x ∷ xs) ys (code ∷ codes) h =
@@ -169,10 +202,13 @@ same_self : (xs : List ℕ) → is_same xs xs ≡ true
 same_self [] = refl
 same_self (x ∷ xs) = both_true (eq-eqb x x refl) (same_self xs)
 
-char_there : (m : Machine) (s : List ℕ) → length s ≡ length m.vars → char m (s ++ result_codes m s) ≡ true
+char_there : (m : Machine) (s : List ℕ) → length s ≡ length m.vars
+    → char m (s ++ result_codes m s) ≡ true
 char_there m s long =
-    ap (λ (xs : List ℕ). is_same (result_codes m xs) (drop (length m.vars) (s ++ result_codes m s))) (take_first s (result_codes m s) (length m.vars) (sym long))
-    ∙ ap (λ (ys : List ℕ). is_same (result_codes m s) ys) (drop_first s (result_codes m s) (length m.vars) (sym long))
+    ap (λ (xs : List ℕ). is_same (result_codes m xs) (drop (length m.vars) (s ++ result_codes m s)))
+    (take_first s (result_codes m s) (length m.vars) (sym long))
+    ∙ ap (λ (ys : List ℕ). is_same (result_codes m s) ys)
+    (drop_first s (result_codes m s) (length m.vars) (sym long))
     ∙ same_self (result_codes m s)
 
 pub char_by_test : CharByTest
@@ -181,8 +217,14 @@ char_by_test m list sure fit = (to, from)
     to : char m list ≡ true → Char m list
     to h =
         let s : List ℕ = take (length m.vars) list in
-        let e : result_codes m s ≡ drop (length m.vars) list = same_text (result_codes m s) (drop (length m.vars) list) (sym h) in
-        (s, outcome_by m m.rows s, fits_first m.vars m.results list fit, outcome_by_rows m s, sym (take-append-drop (length m.vars) list) ∙ ap (λ (xs : List ℕ). s ++ xs) (sym e))
+        let e : result_codes m s ≡ drop (length m.vars) list =
+        same_text (result_codes m s) (drop (length m.vars) list) (sym h) in (
+          s,
+          outcome_by m m.rows s,
+          fits_first m.vars m.results list fit,
+          outcome_by_rows m s,
+          sym (take-append-drop (length m.vars) list) ∙ ap (λ (xs : List ℕ). s ++ xs) (sym e),
+        )
 
     from : Char m list → char m list ≡ true
     from h =
@@ -199,9 +241,13 @@ support_by_test lists_fit lists_all m y v sure low = (to, from)
   where
     to : supports m y v ≡ true → Support m y v
     to h =
-        let some = some_item (fits m.vars) (λ s. list_any (turned (result_code m y) v s) (upto (slice_index m.vars v))) (all_codes m.vars) (lists_fit m.vars) h in
+        let some = some_item (fits m.vars)
+        (λ s. list_any (turned (result_code m y) v s) (upto (slice_index m.vars v)))
+        (all_codes m.vars) (lists_fit m.vars) h in
         let s = some.0 in
-        let code = some_item (λ k. nat_lt k (slice_index m.vars v)) (turned (result_code m y) v s) (upto (slice_index m.vars v)) (all_below (slice_index m.vars v) (slice_index m.vars v) (omega arith)) some.2 in
+        let code = some_item (λ k. nat_lt k (slice_index m.vars v)) (turned (result_code m y) v s)
+        (upto (slice_index m.vars v))
+        (all_below (slice_index m.vars v) (slice_index m.vars v) (omega arith)) some.2 in
         let c = code.0 in
         let other : List ℕ = slice_set s v c in
         record {
@@ -227,11 +273,14 @@ support_by_test lists_fit lists_all m y v sure low = (to, from)
         let whole : slice_set h.other v c ≡ h.one =
         same_number_lists (slice_set h.other v c) h.one (omega arith) (λ w inside.
         ⊎_elim
-        (λ here. let e : slice_index (slice_set h.other v c) w ≡ c = ap (slice_index (slice_set h.other v c)) here ∙ get_or-set_same h.other v c 0 (omega arith) in e ∙ ap (slice_index h.one) (sym here))
+        (λ here. let e : slice_index (slice_set h.other v c) w
+        ≡ c = ap (slice_index (slice_set h.other v c)) here
+        ∙ get_or-set_same h.other v c 0 (omega arith) in e ∙ ap (slice_index h.one) (sym here))
         (λ apart. get_or-set_other h.other v w c 0 apart ∙ sym (h.alone w apart))
         (cases_eq w v))
         in
-        let same = unsupported lists_all m y v h.other c h.fits_other (below_size m.vars h.one v h.fits_one low) off in
+        let same = unsupported lists_all m y v h.other c h.fits_other
+        (below_size m.vars h.one v h.fits_one low) off in
         let one = only_by_rows m h.one h.first sure h.fits_one h.gives_first in
         let two = only_by_rows m h.other h.second sure h.fits_other h.gives_second in
         h.differ

@@ -33,11 +33,15 @@ echo_counts = record {
     alone (suc (suc w)) apart = refl
 
 -- the code of w is that of v, whatever s is
-passes_on : (codes : List ℕ) (o : Outcome) → fits (9 ∷ 8 ∷ []) codes ≡ true → Transition echo_machine (reading codes) o → slice_index (codes_of o) 2 ≡ slice_index codes 0
-passes_on codes o fit (inl (zero, enabled, is)) = ap (λ (x : Outcome). slice_index (codes_of x) 2) is
+passes_on : (codes : List ℕ) (o : Outcome) → fits (9 ∷ 8 ∷ []) codes ≡ true
+    → Transition echo_machine (reading codes) o → slice_index (codes_of o) 2 ≡ slice_index codes 0
+passes_on codes o fit (inl (zero, enabled, is)) =
+    ap (λ (x : Outcome). slice_index (codes_of x) 2) is
 passes_on codes o fit (inl (suc r, enabled, is)) = cc
 passes_on [] o fit (inr (none, is)) = cc
-passes_on (x ∷ codes) o fit (inr (none, is)) = ap (λ (b : Outcome). slice_index (codes_of b) 2) is ∙ absent x (ltb-true x 9 (left_true (nat_lt x 9) _ fit)) (none 0)
+passes_on (x ∷ codes) o fit (inr (none, is)) =
+    ap (λ (b : Outcome). slice_index (codes_of b) 2) is
+    ∙ absent x (ltb-true x 9 (left_true (nat_lt x 9) _ fit)) (none 0)
   where
     absent : (x : ℕ) → x < 9 → is_enabled echo_machine 0 (reading (x ∷ codes)) ≡ false → 0 ≡ x
     absent zero below idle = refl
@@ -54,4 +58,5 @@ passes_on (x ∷ codes) o fit (inr (none, is)) = ap (λ (b : Outcome). slice_ind
 pub echo_passes_on : Support echo_machine 2 1 → ⊥
 echo_passes_on s =
     let same = s.alone 0 (λ (e : 0 ≡ 1). omega (arith, e)) in
-    s.differ (passes_on s.one s.first s.fits_one s.gives_first ∙ same ∙ sym (passes_on s.other s.second s.fits_other s.gives_second))
+    s.differ (passes_on s.one s.first s.fits_one s.gives_first ∙ same
+    ∙ sym (passes_on s.other s.second s.fits_other s.gives_second))

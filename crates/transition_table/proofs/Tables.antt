@@ -17,7 +17,12 @@ use Rattle.transition_table.specs.Worked.{Fires, Idles}
 use Rattle.transition_table.specs.declared.snapshot.Outcome.{Outcome}
 
 pub lamp_pressed : Fires lamp_machine (1 ∷ 0 ∷ []) 0 (2 ∷ []) (1 ∷ [])
-lamp_pressed = record { snapshot = refl; enabled = refl; gives = refl; transition = inl (0, refl, refl) }
+lamp_pressed = record {
+  snapshot = refl;
+  enabled = refl;
+  gives = refl;
+  transition = inl (0, refl, refl);
+}
 
 lamp_on-none : (row : ℕ) → is_enabled lamp_machine row (reading (1 ∷ 1 ∷ [])) ≡ false
 lamp_on-none zero = refl
@@ -31,16 +36,36 @@ lamp_unpressed-none zero = refl
 lamp_unpressed-none (suc row) = refl
 
 pub lamp_unpressed : Idles lamp_machine (0 ∷ 0 ∷ [])
-lamp_unpressed = record { snapshot = refl; none = lamp_unpressed-none; transition = inr (lamp_unpressed-none, refl) }
+lamp_unpressed =
+    record {
+      snapshot = refl;
+      none = lamp_unpressed-none;
+      transition = inr (lamp_unpressed-none, refl);
+    }
 
 pub loop_first : Fires loop_machine (1 ∷ 0 ∷ 0 ∷ []) 0 (2 ∷ []) (1 ∷ [])
-loop_first = record { snapshot = refl; enabled = refl; gives = refl; transition = inl (0, refl, refl) }
+loop_first = record {
+  snapshot = refl;
+  enabled = refl;
+  gives = refl;
+  transition = inl (0, refl, refl);
+}
 
 pub loop_second : Fires loop_machine (0 ∷ 1 ∷ 1 ∷ []) 1 (3 ∷ []) (1 ∷ [])
-loop_second = record { snapshot = refl; enabled = refl; gives = refl; transition = inl (1, refl, refl) }
+loop_second = record {
+  snapshot = refl;
+  enabled = refl;
+  gives = refl;
+  transition = inl (1, refl, refl);
+}
 
 pub loop_third : Fires loop_machine (0 ∷ 1 ∷ 2 ∷ []) 2 (4 ∷ []) (0 ∷ [])
-loop_third = record { snapshot = refl; enabled = refl; gives = refl; transition = inl (2, refl, refl) }
+loop_third = record {
+  snapshot = refl;
+  enabled = refl;
+  gives = refl;
+  transition = inl (2, refl, refl);
+}
 
 loop_end-none : (row : ℕ) → is_enabled loop_machine row (reading (1 ∷ 1 ∷ 3 ∷ [])) ≡ false
 loop_end-none zero = refl
@@ -52,14 +77,23 @@ pub loop_end : Idles loop_machine (1 ∷ 1 ∷ 3 ∷ [])
 loop_end = record { snapshot = refl; none = loop_end-none; transition = inr (loop_end-none, refl) }
 
 pub value_five : Fires value_machine (6 ∷ []) 0 [] (1 ∷ [])
-value_five = record { snapshot = refl; enabled = refl; gives = refl; transition = inl (0, refl, refl) }
+value_five = record {
+  snapshot = refl;
+  enabled = refl;
+  gives = refl;
+  transition = inl (0, refl, refl);
+}
 
 value_four-none : (row : ℕ) → is_enabled value_machine row (reading (5 ∷ [])) ≡ false
 value_four-none zero = refl
 value_four-none (suc row) = refl
 
 pub value_four : Idles value_machine (5 ∷ [])
-value_four = record { snapshot = refl; none = value_four-none; transition = inr (value_four-none, refl) }
+value_four = record {
+  snapshot = refl;
+  none = value_four-none;
+  transition = inr (value_four-none, refl);
+}
 
 pub clash : Conflict clash_machine 0 2 (reading (1 ∷ 1 ∷ []))
 clash = record {
@@ -71,10 +105,13 @@ clash = record {
 }
 
 -- a snapshot of one variable with 9 codes, of which a condition allows the code 2 alone
-one_code : (xs : List ℕ) → fits (9 ∷ []) xs ≡ true → list_all (allows xs) (has_codes 0 4 ∷ []) ≡ true → xs ≡ 2 ∷ []
+one_code : (xs : List ℕ) → fits (9 ∷ []) xs ≡ true
+    → list_all (allows xs) (has_codes 0 4 ∷ []) ≡ true → xs ≡ 2 ∷ []
 one_code [] fit held = cc
-one_code (x ∷ y ∷ xs) fit held = let long = length-fits (9 ∷ []) (x ∷ y ∷ xs) fit in absurd (omega arith)
-one_code (x ∷ []) fit held = pick x (ltb-true x 9 (left_true (nat_lt x 9) true fit)) (left_true (bit_at 4 x == 1) true held)
+one_code (x ∷ y ∷ xs) fit held = let long = length-fits (9 ∷ []) (x ∷ y ∷ xs) fit in
+    absurd (omega arith)
+one_code (x ∷ []) fit held =
+    pick x (ltb-true x 9 (left_true (nat_lt x 9) true fit)) (left_true (bit_at 4 x == 1) true held)
   where
     pick : (x : ℕ) → x < 9 → (bit_at 4 x == 1) ≡ true → x ∷ [] ≡ 2 ∷ []
     pick zero below set = cc
@@ -89,14 +126,23 @@ one_code (x ∷ []) fit held = pick x (ltb-true x 9 (left_true (nat_lt x 9) true
     pick (suc (suc (suc (suc (suc (suc (suc (suc (suc x))))))))) below set = absurd (omega arith)
 
 pub echo_six : Fires echo_machine (6 ∷ 6 ∷ []) 0 (2 ∷ []) (6 ∷ [])
-echo_six = record { snapshot = refl; enabled = refl; gives = refl; transition = inl (0, refl, refl) }
+echo_six = record {
+  snapshot = refl;
+  enabled = refl;
+  gives = refl;
+  transition = inl (0, refl, refl);
+}
 
 echo_absent-none : (row : ℕ) → is_enabled echo_machine row (reading (0 ∷ 6 ∷ [])) ≡ false
 echo_absent-none zero = refl
 echo_absent-none (suc row) = refl
 
 pub echo_absent : Idles echo_machine (0 ∷ 6 ∷ [])
-echo_absent = record { snapshot = refl; none = echo_absent-none; transition = inr (echo_absent-none, refl) }
+echo_absent = record {
+  snapshot = refl;
+  none = echo_absent-none;
+  transition = inr (echo_absent-none, refl);
+}
 
 pub differing : Conflict differing_machine 0 1 (reading (2 ∷ []))
 differing = record {
@@ -112,7 +158,8 @@ pub agreeing : IsDeterministic agreeing_machine
 agreeing zero zero s order snapshot first second = absurd (omega arith)
 agreeing zero (suc zero) s order snapshot first second =
     let only : s.codes ≡ 2 ∷ [] = one_code s.codes snapshot second in
-    subst (λ codes. result agreeing_machine 0 (reading codes) ≡ result agreeing_machine 1 (reading codes)) (sym only) refl
+    subst (λ codes. result agreeing_machine 0 (reading codes)
+    ≡ result agreeing_machine 1 (reading codes)) (sym only) refl
 agreeing zero (suc (suc b)) s order snapshot first second = cc
 agreeing (suc zero) zero s order snapshot first second = absurd (omega arith)
 agreeing (suc zero) (suc zero) s order snapshot first second = absurd (omega arith)

@@ -1,5 +1,5 @@
--- A machine's outcomes, what its results depend on and its characteristic function, by computation. For a machine that is
--- deterministic these say what the relations of Transitions and Orders say.
+-- A machine's outcomes, what its results depend on and its characteristic function, by computation.
+-- For a machine that is deterministic these say what the relations of Transitions and Orders say.
 use Rattle.std.specs.Prelude.{ℕ, Bool, true, cond, not, ◌==◌, List, [], ◌∷◌, map, length, take, drop, filter, slice_index, slice_set}
 use Rattle.std.specs.List.{list_all, list_any}
 use Rattle.polis_base.specs.Lists.{upto}
@@ -14,7 +14,8 @@ use Rattle.transition_table.specs.Transitions.{allows, outcome_of, blank}
 -- the outcome of the first of the rows that is enabled on these codes, or the blank one
 abbrev pub outcome_by : Machine → List Row → List ℕ → Outcome
 outcome_by m [] s = blank m
-outcome_by m (row ∷ rows) s = cond (list_all (allows s) row.conds) (outcome_of m s true row.acts) (outcome_by m rows s)
+outcome_by m (row ∷ rows) s =
+    cond (list_all (allows s) row.conds) (outcome_of m s true row.acts) (outcome_by m rows s)
 
 -- the codes of the results on a snapshot
 abbrev pub result_codes : Machine → List ℕ → List ℕ
@@ -34,7 +35,8 @@ turned f v s code = not (f (slice_set s v code) == f s)
 
 -- on some list of codes, changing the variable's code alone changes the function
 abbrev pub moves : (List ℕ → ℕ) → List ℕ → ℕ → Bool
-moves f sizes v = list_any (λ s. list_any (turned f v s) (upto (slice_index sizes v))) (all_codes sizes)
+moves f sizes v =
+    list_any (λ s. list_any (turned f v s) (upto (slice_index sizes v))) (all_codes sizes)
 
 -- on some snapshot, changing the variable's code alone changes the result's
 abbrev pub supports : Machine → ℕ → ℕ → Bool

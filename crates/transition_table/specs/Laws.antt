@@ -30,19 +30,24 @@ HaveWidths = (m : Machine) (s : Snapshot) (o : Outcome) → Transition m s o →
 
 -- an outcome's codes are codes of the results after `go`
 abbrev pub CodesFit : Type 0
-CodesFit = (m : Machine) (s : Snapshot) (o : Outcome) → IsSnapshot m s → Transition m s o → IsTrue (fits (drop 1 m.results) (o.next ++ o.outs))
+CodesFit = (m : Machine) (s : Snapshot) (o : Outcome) → IsSnapshot m s → Transition m s o
+    → IsTrue (fits (drop 1 m.results) (o.next ++ o.outs))
 
 -- an outcome that doesn't fire is blank
 abbrev pub IdleIsBlank : Type 0
-IdleIsBlank = (m : Machine) (s : Snapshot) (o : Outcome) → Transition m s o → o.fires ≡ false → o ≡ blank m
+IdleIsBlank = (m : Machine) (s : Snapshot) (o : Outcome) → Transition m s o → o.fires ≡ false
+    → o ≡ blank m
 
 -- a machine that is deterministic has one outcome at most on a snapshot
 abbrev pub OneOutcome : Type 0
-OneOutcome = (m : Machine) (s : Snapshot) (o p : Outcome) → IsDeterministic m → IsSnapshot m s → Transition m s o → Transition m s p → o ≡ p
+OneOutcome = (m : Machine) (s : Snapshot) (o p : Outcome) → IsDeterministic m → IsSnapshot m s
+    → Transition m s o → Transition m s p → o ≡ p
 
--- the outcome of a transition has the machine's widths and codes in range, and is blank where it doesn't fire
+-- the outcome of a transition has the machine's widths and codes in range, and is blank where it
+-- doesn't fire
 abbrev pub TransitionFits : Type 0
-TransitionFits = (m : Machine) (s : Snapshot) (o : Outcome) → IsSnapshot m s → Transition m s o → IsOutcome m o
+TransitionFits = (m : Machine) (s : Snapshot) (o : Outcome) → IsSnapshot m s → Transition m s o
+    → IsOutcome m o
 
 -- where a row is enabled, each input from which it takes a code is present
 abbrev pub InputsArePresent : Type 0
@@ -61,18 +66,22 @@ OutcomeByRows = (m : Machine) (s : List ℕ) → Transition m (reading s) (outco
 
 -- and, where the machine is deterministic, the only one
 abbrev pub OnlyByRows : Type 0
-OnlyByRows = (m : Machine) (s : List ℕ) (o : Outcome) → IsDeterministic m → fits m.vars s ≡ true → Transition m (reading s) o → o ≡ outcome_by m m.rows s
+OnlyByRows = (m : Machine) (s : List ℕ) (o : Outcome) → IsDeterministic m → fits m.vars s ≡ true
+    → Transition m (reading s) o → o ≡ outcome_by m m.rows s
 
 -- the codes of the results on a snapshot are codes of them
 abbrev pub ResultsFit : Type 0
-ResultsFit = (m : Machine) (s : List ℕ) → fits m.vars s ≡ true → fits m.results (result_codes m s) ≡ true
+ResultsFit = (m : Machine) (s : List ℕ) → fits m.vars s ≡ true
+    → fits m.results (result_codes m s) ≡ true
 
 -- the test says what the relation says
 abbrev pub CharByTest : Type 0
-CharByTest = (m : Machine) (list : List ℕ) → IsDeterministic m → fits (sizes_of m) list ≡ true → (char m list ≡ true) ↔ Char m list
+CharByTest = (m : Machine) (list : List ℕ) → IsDeterministic m → fits (sizes_of m) list ≡ true
+    → (char m list ≡ true) ↔ Char m list
 
 abbrev pub SupportByTest : Type 0
-SupportByTest = (m : Machine) (y v : ℕ) → IsDeterministic m → v < length m.vars → (supports m y v ≡ true) ↔ Support m y v
+SupportByTest = (m : Machine) (y v : ℕ) → IsDeterministic m → v < length m.vars
+    → (supports m y v ≡ true) ↔ Support m y v
 
 -- a result has one code on two snapshots that agree on what it depends on
 abbrev pub SameOnSupport : Type 0

@@ -1,5 +1,5 @@
--- What a machine's results depend on, orders of its variables and results, and its characteristic function, over plain
--- lists. The variables come first, and the results are numbered after them.
+-- What a machine's results depend on, orders of its variables and results, and its characteristic
+-- function, over plain lists. The variables come first, and the results are numbered after them.
 use Rattle.std.specs.Prelude.{◌≡◌, ◌≢◌, ℕ, ◌+◌, ◌<◌, cond, List, ◌∷◌, ◌++◌, length, slice_index, IsTrue}
 use Rattle.domains.specs.Orders.{IsPermutation, place}
 use Rattle.domains.specs.Tables.{fits}
@@ -17,9 +17,11 @@ codes_of o = cond o.fires 1 0 ∷ o.next ++ o.outs
 
 -- the list is a snapshot and the codes of its outcome
 abbrev pub Char : Machine → List ℕ → Type 0
-Char m list = (s : List ℕ) × (o : Outcome) × IsTrue (fits m.vars s) × Transition m (reading s) o × (list ≡ s ++ codes_of o)
+Char m list = (s : List ℕ) × (o : Outcome) × IsTrue (fits m.vars s) × Transition m (reading s) o
+    × (list ≡ s ++ codes_of o)
 
--- two snapshots differ in the variable v alone, and their transitions give the result y different codes
+-- two snapshots differ in the variable v alone, and their transitions give the result y different
+-- codes
 pub record Support (m : Machine) (y v : ℕ) : Type 0 where
   pub one : List ℕ
   pub other : List ℕ
@@ -36,4 +38,5 @@ pub record Support (m : Machine) (y v : ℕ) : Type 0 where
 pub record Allowed (m : Machine) (order : List ℕ) : Type 0 where
   pub permutation : IsPermutation order
   pub long : length order ≡ length (sizes_of m)
-  pub after : (y v : ℕ) → y < length m.results → v < length m.vars → Support m y v → place order v < place order (length m.vars + y)
+  pub after : (y v : ℕ) → y < length m.results → v < length m.vars → Support m y v
+      → place order v < place order (length m.vars + y)

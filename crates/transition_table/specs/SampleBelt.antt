@@ -1,22 +1,15 @@
--- A seat belt controller with a timer, which warns after five ticks and stops the warning after ten.
---   domain mode = { off, wait, alarm }; domain count = 0 .. 10
---   event key_on from env; event key_off from env; event belt_on from env; event tick from env
---   event start; event end5; event end10; event alarm_on to env; event alarm_off to env
---   machine belt priority 1
---     input key_on, key_off, belt_on, end5, end10; output start, alarm_on, alarm_off; state s : mode = off
---     when key_on, absent key_off, s = off do s := wait, emit start
---     when key_off, s = off do nothing
---     when key_off, s = wait do s := off
---     when belt_on, s = wait do s := off
---     when end5, absent key_off, absent belt_on, s = wait do s := alarm, emit alarm_on
---     when key_off, s = alarm do s := off, emit alarm_off
---     when belt_on, s = alarm do s := off, emit alarm_off
---     when end10, s = alarm do s := off, emit alarm_off
---   machine timer priority 2
---     input start, tick; output end5, end10; state n : count = 10
---     when start do n := 0
---     when tick, absent start, n = 0 do n := 1, and so on; from 4 to 5 it emits end5, from 9 to 10 it emits end10
---     when tick, absent start, n = 10 do nothing
+-- A seat belt controller with a timer, which warns after five ticks and stops the warning after
+-- ten. domain mode = { off, wait, alarm }; domain count = 0 .. 10 event key_on from env; event
+-- key_off from env; event belt_on from env; event tick from env event start; event end5; event
+-- end10; event alarm_on to env; event alarm_off to env machine belt priority 1 input key_on,
+-- key_off, belt_on, end5, end10; output start, alarm_on, alarm_off; state s : mode = off when
+-- key_on, absent key_off, s = off do s := wait, emit start when key_off, s = off do nothing when
+-- key_off, s = wait do s := off when belt_on, s = wait do s := off when end5, absent key_off,
+-- absent belt_on, s = wait do s := alarm, emit alarm_on when key_off, s = alarm do s := off, emit
+-- alarm_off when belt_on, s = alarm do s := off, emit alarm_off when end10, s = alarm do s := off,
+-- emit alarm_off machine timer priority 2 input start, tick; output end5, end10; state n : count =
+-- 10 when start do n := 0 when tick, absent start, n = 0 do n := 1, and so on; from 4 to 5 it emits
+-- end5, from 9 to 10 it emits end10 when tick, absent start, n = 10 do nothing
 use Rattle.std.specs.Prelude.{true, false, [], ◌∷◌, codes, refl}
 use Rattle.std.proofs.Common.{lit≤, lit<}
 use Rattle.domains.specs.declared.domain.Domain.TheVariants.{Names, Range}
@@ -35,14 +28,34 @@ belt_machine = record {
   vars = 2 ∷ 2 ∷ 2 ∷ 2 ∷ 2 ∷ 3 ∷ [];
   results = 2 ∷ 4 ∷ 2 ∷ 2 ∷ 2 ∷ [];
   rows =
-      record { conds = has_codes 0 2 ∷ has_codes 1 1 ∷ has_codes 5 1 ∷ []; acts = gives 1 2 ∷ gives 2 1 ∷ []; actions = refl }
+      record {
+        conds = has_codes 0 2 ∷ has_codes 1 1 ∷ has_codes 5 1 ∷ [];
+        acts = gives 1 2 ∷ gives 2 1 ∷ [];
+        actions = refl;
+      }
       ∷ record { conds = has_codes 1 2 ∷ has_codes 5 1 ∷ []; acts = []; actions = refl }
       ∷ record { conds = has_codes 1 2 ∷ has_codes 5 2 ∷ []; acts = gives 1 1 ∷ []; actions = refl }
       ∷ record { conds = has_codes 2 2 ∷ has_codes 5 2 ∷ []; acts = gives 1 1 ∷ []; actions = refl }
-      ∷ record { conds = has_codes 3 2 ∷ has_codes 1 1 ∷ has_codes 2 1 ∷ has_codes 5 2 ∷ []; acts = gives 1 3 ∷ gives 3 1 ∷ []; actions = refl }
-      ∷ record { conds = has_codes 1 2 ∷ has_codes 5 4 ∷ []; acts = gives 1 1 ∷ gives 4 1 ∷ []; actions = refl }
-      ∷ record { conds = has_codes 2 2 ∷ has_codes 5 4 ∷ []; acts = gives 1 1 ∷ gives 4 1 ∷ []; actions = refl }
-      ∷ record { conds = has_codes 4 2 ∷ has_codes 5 4 ∷ []; acts = gives 1 1 ∷ gives 4 1 ∷ []; actions = refl } ∷ [];
+      ∷ record {
+        conds = has_codes 3 2 ∷ has_codes 1 1 ∷ has_codes 2 1 ∷ has_codes 5 2 ∷ [];
+        acts = gives 1 3 ∷ gives 3 1 ∷ [];
+        actions = refl;
+      }
+      ∷ record {
+        conds = has_codes 1 2 ∷ has_codes 5 4 ∷ [];
+        acts = gives 1 1 ∷ gives 4 1 ∷ [];
+        actions = refl;
+      }
+      ∷ record {
+        conds = has_codes 2 2 ∷ has_codes 5 4 ∷ [];
+        acts = gives 1 1 ∷ gives 4 1 ∷ [];
+        actions = refl;
+      }
+      ∷ record {
+        conds = has_codes 4 2 ∷ has_codes 5 4 ∷ [];
+        acts = gives 1 1 ∷ gives 4 1 ∷ [];
+        actions = refl;
+      } ∷ [];
   sized_vars = refl;
   sized_results = refl;
   fitting_rows = refl;
@@ -60,17 +73,61 @@ timer_machine = record {
   results = 2 ∷ 12 ∷ 2 ∷ 2 ∷ [];
   rows =
       record { conds = has_codes 0 2 ∷ []; acts = gives 1 1 ∷ []; actions = refl }
-      ∷ record { conds = has_codes 1 2 ∷ has_codes 0 1 ∷ has_codes 2 1 ∷ []; acts = gives 1 2 ∷ []; actions = refl }
-      ∷ record { conds = has_codes 1 2 ∷ has_codes 0 1 ∷ has_codes 2 2 ∷ []; acts = gives 1 3 ∷ []; actions = refl }
-      ∷ record { conds = has_codes 1 2 ∷ has_codes 0 1 ∷ has_codes 2 4 ∷ []; acts = gives 1 4 ∷ []; actions = refl }
-      ∷ record { conds = has_codes 1 2 ∷ has_codes 0 1 ∷ has_codes 2 8 ∷ []; acts = gives 1 5 ∷ []; actions = refl }
-      ∷ record { conds = has_codes 1 2 ∷ has_codes 0 1 ∷ has_codes 2 16 ∷ []; acts = gives 1 6 ∷ gives 2 1 ∷ []; actions = refl }
-      ∷ record { conds = has_codes 1 2 ∷ has_codes 0 1 ∷ has_codes 2 32 ∷ []; acts = gives 1 7 ∷ []; actions = refl }
-      ∷ record { conds = has_codes 1 2 ∷ has_codes 0 1 ∷ has_codes 2 64 ∷ []; acts = gives 1 8 ∷ []; actions = refl }
-      ∷ record { conds = has_codes 1 2 ∷ has_codes 0 1 ∷ has_codes 2 128 ∷ []; acts = gives 1 9 ∷ []; actions = refl }
-      ∷ record { conds = has_codes 1 2 ∷ has_codes 0 1 ∷ has_codes 2 256 ∷ []; acts = gives 1 10 ∷ []; actions = refl }
-      ∷ record { conds = has_codes 1 2 ∷ has_codes 0 1 ∷ has_codes 2 512 ∷ []; acts = gives 1 11 ∷ gives 3 1 ∷ []; actions = refl }
-      ∷ record { conds = has_codes 1 2 ∷ has_codes 0 1 ∷ has_codes 2 1024 ∷ []; acts = []; actions = refl } ∷ [];
+      ∷ record {
+        conds = has_codes 1 2 ∷ has_codes 0 1 ∷ has_codes 2 1 ∷ [];
+        acts = gives 1 2 ∷ [];
+        actions = refl;
+      }
+      ∷ record {
+        conds = has_codes 1 2 ∷ has_codes 0 1 ∷ has_codes 2 2 ∷ [];
+        acts = gives 1 3 ∷ [];
+        actions = refl;
+      }
+      ∷ record {
+        conds = has_codes 1 2 ∷ has_codes 0 1 ∷ has_codes 2 4 ∷ [];
+        acts = gives 1 4 ∷ [];
+        actions = refl;
+      }
+      ∷ record {
+        conds = has_codes 1 2 ∷ has_codes 0 1 ∷ has_codes 2 8 ∷ [];
+        acts = gives 1 5 ∷ [];
+        actions = refl;
+      }
+      ∷ record {
+        conds = has_codes 1 2 ∷ has_codes 0 1 ∷ has_codes 2 16 ∷ [];
+        acts = gives 1 6 ∷ gives 2 1 ∷ [];
+        actions = refl;
+      }
+      ∷ record {
+        conds = has_codes 1 2 ∷ has_codes 0 1 ∷ has_codes 2 32 ∷ [];
+        acts = gives 1 7 ∷ [];
+        actions = refl;
+      }
+      ∷ record {
+        conds = has_codes 1 2 ∷ has_codes 0 1 ∷ has_codes 2 64 ∷ [];
+        acts = gives 1 8 ∷ [];
+        actions = refl;
+      }
+      ∷ record {
+        conds = has_codes 1 2 ∷ has_codes 0 1 ∷ has_codes 2 128 ∷ [];
+        acts = gives 1 9 ∷ [];
+        actions = refl;
+      }
+      ∷ record {
+        conds = has_codes 1 2 ∷ has_codes 0 1 ∷ has_codes 2 256 ∷ [];
+        acts = gives 1 10 ∷ [];
+        actions = refl;
+      }
+      ∷ record {
+        conds = has_codes 1 2 ∷ has_codes 0 1 ∷ has_codes 2 512 ∷ [];
+        acts = gives 1 11 ∷ gives 3 1 ∷ [];
+        actions = refl;
+      }
+      ∷ record {
+        conds = has_codes 1 2 ∷ has_codes 0 1 ∷ has_codes 2 1024 ∷ [];
+        acts = [];
+        actions = refl;
+      } ∷ [];
   sized_vars = refl;
   sized_results = refl;
   fitting_rows = refl;
@@ -80,7 +137,8 @@ timer_machine = record {
 abbrev pub belt : Network
 belt = record {
   name = codes "belt";
-  domains = Names (codes "off" ∷ codes "wait" ∷ codes "alarm" ∷ []) ∷ Range (record { first = 0; last = 10; ordered = lit≤ tt; few = lit< tt }) ∷ [];
+  domains = Names (codes "off" ∷ codes "wait" ∷ codes "alarm" ∷ [])
+      ∷ Range (record { first = 0; last = 10; ordered = lit≤ tt; few = lit< tt }) ∷ [];
   events =
       pure_event (codes "key_on") Env false (0 ∷ [])
       ∷ pure_event (codes "key_off") Env false (0 ∷ [])

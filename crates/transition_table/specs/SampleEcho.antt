@@ -21,7 +21,8 @@ echo_machine = record {
   states = state_of (codes "s") 0 6 ∷ [];
   vars = 9 ∷ 8 ∷ [];
   results = 2 ∷ 9 ∷ 9 ∷ [];
-  rows = record { conds = has_codes 0 510 ∷ []; acts = adds 1 3 ∷ copies 2 0 ∷ []; actions = refl } ∷ [];
+  rows = record { conds = has_codes 0 510 ∷ []; acts = adds 1 3 ∷ copies 2 0 ∷ []; actions = refl }
+      ∷ [];
   sized_vars = refl;
   sized_results = refl;
   fitting_rows = refl;

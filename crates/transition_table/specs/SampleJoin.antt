@@ -19,7 +19,11 @@ join_machine = record {
   states = [];
   vars = 2 ∷ 2 ∷ [];
   results = 2 ∷ 2 ∷ [];
-  rows = record { conds = has_codes 0 2 ∷ has_codes 1 2 ∷ []; acts = gives 1 1 ∷ []; actions = refl } ∷ [];
+  rows = record {
+    conds = has_codes 0 2 ∷ has_codes 1 2 ∷ [];
+    acts = gives 1 1 ∷ [];
+    actions = refl;
+  } ∷ [];
   sized_vars = refl;
   sized_results = refl;
   fitting_rows = refl;

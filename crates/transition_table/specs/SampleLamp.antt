@@ -21,7 +21,11 @@ lamp_machine = record {
   states = state_of (codes "s") 0 0 ∷ [];
   vars = 2 ∷ 2 ∷ [];
   results = 2 ∷ 3 ∷ 2 ∷ [];
-  rows = record { conds = has_codes 0 2 ∷ has_codes 1 1 ∷ []; acts = gives 1 2 ∷ gives 2 1 ∷ []; actions = refl } ∷ [];
+  rows = record {
+    conds = has_codes 0 2 ∷ has_codes 1 1 ∷ [];
+    acts = gives 1 2 ∷ gives 2 1 ∷ [];
+    actions = refl;
+  } ∷ [];
   sized_vars = refl;
   sized_results = refl;
   fitting_rows = refl;

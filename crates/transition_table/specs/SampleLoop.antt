@@ -24,9 +24,18 @@ loop_machine = record {
   vars = 2 ∷ 2 ∷ 4 ∷ [];
   results = 2 ∷ 5 ∷ 2 ∷ [];
   rows =
-      record { conds = has_codes 0 2 ∷ has_codes 2 1 ∷ []; acts = gives 1 2 ∷ gives 2 1 ∷ []; actions = refl }
-      ∷ record { conds = has_codes 1 2 ∷ has_codes 2 2 ∷ []; acts = gives 1 3 ∷ gives 2 1 ∷ []; actions = refl }
-      ∷ record { conds = has_codes 1 2 ∷ has_codes 2 4 ∷ []; acts = gives 1 4 ∷ []; actions = refl } ∷ [];
+      record {
+        conds = has_codes 0 2 ∷ has_codes 2 1 ∷ [];
+        acts = gives 1 2 ∷ gives 2 1 ∷ [];
+        actions = refl;
+      }
+      ∷ record {
+        conds = has_codes 1 2 ∷ has_codes 2 2 ∷ [];
+        acts = gives 1 3 ∷ gives 2 1 ∷ [];
+        actions = refl;
+      }
+      ∷ record { conds = has_codes 1 2 ∷ has_codes 2 4 ∷ []; acts = gives 1 4 ∷ []; actions = refl }
+      ∷ [];
   sized_vars = refl;
   sized_results = refl;
   fitting_rows = refl;

@@ -1,4 +1,5 @@
--- Parts of small networks. Each network that tests and worked rows speak of has a file of its own beside this one.
+-- Parts of small networks. Each network that tests and worked rows speak of has a file of its own
+-- beside this one.
 use Rattle.std.specs.Prelude.{ℕ, Bool, List, None, Some}
 use Rattle.transition_table.specs.declared.decl.EventDecl.{EventDecl}
 use Rattle.transition_table.specs.declared.decl.Party.{Party}
@@ -27,10 +28,18 @@ adds result step = record { result = result; source = Add step }
 abbrev pub state_of : List ℕ → ℕ → ℕ → StateDecl
 state_of name domain init = record { name = name; domain = domain; init = init }
 
--- an event without a value, one with a value of this domain: its sender, whether the environment reads it, and the
--- machines that do
+-- an event without a value, one with a value of this domain: its sender, whether the environment
+-- reads it, and the machines that do
 abbrev pub pure_event : List ℕ → Party → Bool → List ℕ → EventDecl
-pure_event name sender out receivers = record { name = name; domain = None; sender = sender; to_env = out; receivers = receivers }
+pure_event name sender out receivers =
+    record { name = name; domain = None; sender = sender; to_env = out; receivers = receivers }
 
 abbrev pub valued_event : List ℕ → ℕ → Party → Bool → List ℕ → EventDecl
-valued_event name domain sender out receivers = record { name = name; domain = Some domain; sender = sender; to_env = out; receivers = receivers }
+valued_event name domain sender out receivers =
+    record {
+      name = name;
+      domain = Some domain;
+      sender = sender;
+      to_env = out;
+      receivers = receivers;
+    }

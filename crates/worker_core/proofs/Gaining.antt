@@ -23,7 +23,8 @@ use Rattle.worker_core.proofs.Stepping.{is_none_at, woken_inside, hand_inside, s
 
 abbrev Gains : CoreState → CoreState → Type 0
 Gains state next =
-    1 + 2 * count_entries state.logs + count_busy next.hands ≤ 2 * count_entries next.logs + count_busy state.hands
+    1 + 2 * count_entries state.logs + count_busy next.hands
+    ≤ 2 * count_entries next.logs + count_busy state.hands
 
 -- one hand in the place of another
 busy_set : (hands : List (Option Hand)) (m : ℕ) (h old : Option Hand) → m < length hands

@@ -169,8 +169,10 @@ all_in_time_still : (net : Network) (trace : List TraceItem) (logs new : ℕ →
     (x : Stamped) → HasMore logs new m x → (before : List Entry) (xs : List Stamped)
     → AllInTime net trace logs before xs → AllInTime net trace new before xs
 all_in_time_still net trace logs new m x more before [] h = tt
-all_in_time_still net trace logs new m x more before (y ∷ xs) h =
-    (in_time_still net trace logs new m x more before y.stamp y.entry h.0, all_in_time_still net trace logs new m x more (before ++ y.entry ∷ []) xs h.1)
+all_in_time_still net trace logs new m x more before (y ∷ xs) h = (
+  in_time_still net trace logs new m x more before y.stamp y.entry h.0,
+  all_in_time_still net trace logs new m x more (before ++ y.entry ∷ []) xs h.1,
+)
 
 in_time_more : (net : Network) (trace : List TraceItem) (logs : ℕ → List Stamped)
     (before : List Entry) (xs : List Stamped) (x : Stamped) → AllInTime net trace logs before xs

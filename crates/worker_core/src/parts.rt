@@ -128,7 +128,8 @@ impl Parts {
     fn may_react(&self, net: &Network, trace: &Trace, m: u32) -> bool
         requires parts { AreParts net.now trace.now self.now }
         requires machine { m < length net.now.machines }
-        ensures { result ≡ can_react m (get_or self.now.logs m []) (get_or self.now.hands.items m None) }
+        ensures { result ≡ can_react m (get_or self.now.logs m [])
+            (get_or self.now.hands.items m None) }
     {
         moving_laws();
         let idle = self.is_idle(m);
@@ -273,7 +274,8 @@ impl Parts {
     pub(crate) fn free(&mut self, net: &Network, trace: &Trace, s: u32) -> bool
         requires parts { AreParts net.now trace.now self.old }
         requires machine { s < length net.now.machines }
-        ensures step { then_some result (state_of self.new) ≡ take_step net.now (state_of self.old) (Free s) }
+        ensures step { then_some result (state_of self.new)
+            ≡ take_step net.now (state_of self.old) (Free s) }
         ensures moments { self.new.moments ≡ own_moments net.now self.new.logs }
         ensures idle { IsFalse result → self.new ≡ self.old }
     {

@@ -31,7 +31,8 @@ fn reads_item(net: &Network, m: u32, item: TraceItem) -> bool
 pub(crate) fn next_read(net: &Network, trace: &Trace, m: u32, from: u64) -> u64
     requires machine { m < length net.now.machines }
     requires from { from ≤ length trace.now }
-    ensures { result ≡ from + prefix_len (λ item. not (is_read net.now m item)) (drop from trace.now) }
+    ensures { result ≡ from + prefix_len (λ item. not (is_read net.now m item))
+        (drop from trace.now) }
 {
     for place in from..trace.len() {
         if reads_item(net, m, *trace.get(place)) {
@@ -43,7 +44,8 @@ pub(crate) fn next_read(net: &Network, trace: &Trace, m: u32, from: u64) -> u64
 
 // The cursors before anything is delivered.
 pub(crate) fn first_cursors(alloc: Global, net: &Network, trace: &Trace) -> Result<Places, NoMemory>
-    ensures { IfOk result (λ cursors. cursors ≡ map (λ m. nth_place (is_read net.now m) trace.now 0) (upto (length net.now.machines))) }
+    ensures { IfOk result (λ cursors. cursors
+        ≡ map (λ m. nth_place (is_read net.now m) trace.now 0) (upto (length net.now.machines))) }
 {
     let mut cursors = List::new(alloc);
     for m in 0..net.machines.len() {

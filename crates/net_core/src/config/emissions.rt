@@ -1,4 +1,5 @@
-// The emissions of machines with the receivers that still wait for each, and for each sender the chain of its own.
+// The emissions of machines with the receivers that still wait for each, and for each sender the
+// chain of its own.
 ghost use Rattle.std.specs.Prelude.{◌≡◌, ◌<◌, ◌≤◌, ◌+◌, ℕ, true, false, length, flat_map, MatchOption};
 ghost use Rattle.std.specs.Vec.{vec_len, vec_capacity};
 ghost use Rattle.transition_table.specs.declared.decl.Party.TheVariants.{Machine as Sender};
@@ -15,8 +16,8 @@ use transition_table::{Network, Party};
 /// The place of an emission that isn't there.
 pub(crate) const NO_PLACE: u32 = u32::MAX;
 
-/// An event with its code that a machine has sent, and the receivers that wait for it: the m-th bit is set where
-/// the m-th machine does.
+/// An event with its code that a machine has sent, and the receivers that wait for it: the m-th bit
+/// is set where the m-th machine does.
 #[derive(Clone, Copy, Debug)]
 pub(crate) struct Emission {
     pub(crate) from: u32,
@@ -44,7 +45,9 @@ pub(crate) fn place_from(records: &[Emission], start: usize, from: u32, to: u32)
     requires to { to < 64 }
     requires chained { IsChained records.now }
     requires start { IsOf records.now from start }
-    ensures { MatchOption result ((i : ℕ) → start ≤ i → waits from to (nth records.now i) ≡ false) (λ p. (start ≤ p) × (p < length records.now) × (waits from to (nth records.now p) ≡ true) × ((i : ℕ) → start ≤ i → i < p → waits from to (nth records.now i) ≡ false)) }
+    ensures { MatchOption result ((i : ℕ) → start ≤ i → waits from to (nth records.now i) ≡ false)
+        (λ p. (start ≤ p) × (p < length records.now) × (waits from to (nth records.now p) ≡ true)
+        × ((i : ℕ) → start ≤ i → i < p → waits from to (nth records.now i) ≡ false)) }
 {
     let mut place = start;
     while place < records.len() {
@@ -65,7 +68,8 @@ fn link(records: &mut Vec<Emission>, last: &mut Vec<usize>, r: Emission)
     requires next { r.next ≡ no_place }
     requires few { length records.old.items < no_place }
     requires room { vec_len records.old < vec_capacity records.old }
-    ensures more { IsMore records.old.items last.old.items records.new.items last.new.items (waiting r) }
+    ensures more { IsMore records.old.items last.old.items records.new.items last.new.items
+        (waiting r) }
     ensures len { vec_len records.new ≡ vec_len records.old + 1 }
     ensures room { vec_capacity records.old ≤ vec_capacity records.new }
 {
@@ -95,7 +99,8 @@ fn emit(
     requires from { from < 64 }
     requires few { length records.old.items < no_place }
     requires room { vec_len records.old < vec_capacity records.old }
-    ensures more { IsMore records.old.items last.old.items records.new.items last.new.items (given from event code left) }
+    ensures more { IsMore records.old.items last.old.items records.new.items last.new.items
+        (given from event code left) }
     ensures len { vec_len records.new ≤ vec_len records.old + 1 }
     ensures room { vec_capacity records.old ≤ vec_capacity records.new }
 {
@@ -131,7 +136,8 @@ pub(crate) fn emit_all(
     requires readers { AreReaders net.now readers.now }
     requires few { length records.old.items + length outs.now ≤ no_place }
     requires room { vec_len records.old + length outs.now ≤ vec_capacity records.old }
-    ensures { IsMore records.old.items last.old.items records.new.items last.new.items (flat_map (deliveries_of net.now (Sender m)) (emitted (outputs_of net.now m) outs.now)) }
+    ensures { IsMore records.old.items last.old.items records.new.items last.new.items
+        (flat_map (deliveries_of net.now (Sender m)) (emitted (outputs_of net.now m) outs.now)) }
 {
     let outputs = &net.machines.get(m as u64).outputs;
     for k in 0..outputs.len() {

@@ -16,10 +16,11 @@ use std::alloc::Global;
 use std::marker::Model;
 use transition_table::Network;
 
-/// Deliveries of machines that are owed, in order. There is one record for each emission, with the receivers that still wait. A record
-/// for which nobody waits is struck, and stays; the front isn't struck. The first 64 records, one for each sender, are struck from the start,
-/// so that each sender's chain has a beginning. The cursor of a sender and a receiver stands at a record of the sender,
-/// and no record before it is one that the receiver waits for.
+/// Deliveries of machines that are owed, in order. There is one record for each emission, with the
+/// receivers that still wait. A record for which nobody waits is struck, and stays; the front isn't
+/// struck. The first 64 records, one for each sender, are struck from the start, so that each
+/// sender's chain has a beginning. The cursor of a sender and a receiver stands at a record of the
+/// sender, and no record before it is one that the receiver waits for.
 #[derive(Drop)]
 pub(crate) struct Owings {
     records: Vec<Emission>,
@@ -149,8 +150,8 @@ impl Owings {
         }
     }
 
-    // Puts an entry at the end of the journal, and the deliveries that it gives at the end here: both or neither.
-    // All memory is taken before anything changes.
+    // Puts an entry at the end of the journal, and the deliveries that it gives at the end here:
+    // both or neither. All memory is taken before anything changes.
     pub(crate) fn write(
         &mut self,
         net: &Network,

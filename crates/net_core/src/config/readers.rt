@@ -18,7 +18,8 @@ fn is_reader(machine: &Machine, event: u32) -> bool
 
 // The machines that read an event.
 fn readers_of(net: &Network, event: u32) -> u64
-    ensures { (k : ℕ) → (bit_at result k == 1) ≡ (nat_lt k (length net.now.machines) && reads net.now k event) }
+    ensures { (k : ℕ) → (bit_at result k == 1)
+        ≡ (nat_lt k (length net.now.machines) && reads net.now k event) }
 {
     let mut set = 0;
     for m in 0..net.machines.len() {

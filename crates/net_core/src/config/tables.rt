@@ -17,8 +17,8 @@ use polis_base::{NoMemory, Places};
 use std::alloc::Global;
 use transition_table::{Network, Party, Snapshot};
 
-/// The readers of each event, the snapshot of each machine, which of them are woken, one bit each, its cursor into the trace, and the
-/// deliveries of machines that are owed.
+/// The readers of each event, the snapshot of each machine, which of them are woken, one bit each,
+/// its cursor into the trace, and the deliveries of machines that are owed.
 #[derive(Drop)]
 pub(crate) struct Tables {
     pub(crate) readers: Vec<u64>,
@@ -31,7 +31,9 @@ pub(crate) struct Tables {
 // The tables of the empty journal.
 pub(crate) fn first_tables(alloc: Global, net: &Network, trace: &Trace) -> Result<Tables, NoMemory>
     requires { IsTrace net.now trace.now }
-    ensures { IfOk result (λ t. AreTables net.now trace.now [] t.readers.items t.moments.items t.woken t.cursors t.owed) }
+    ensures { IfOk result
+        (λ t. AreTables net.now trace.now [] t.readers.items t.moments.items t.woken t.cursors
+        t.owed) }
 {
     Ok(Tables {
         readers: all_readers(alloc, net)?,
@@ -46,7 +48,8 @@ pub(crate) fn first_tables(alloc: Global, net: &Network, trace: &Trace) -> Resul
 fn pass_item(net: &Network, trace: &Trace, m: u32, cursors: &mut Places)
     requires machine { m < length net.now.machines }
     requires cursors { length cursors.old ≡ length net.now.machines }
-    ensures { cursors.new ≡ slice_set cursors.old m (next_place net.now trace.now m (slice_index cursors.old m)) }
+    ensures { cursors.new ≡ slice_set cursors.old m
+        (next_place net.now trace.now m (slice_index cursors.old m)) }
 {
     let place = *cursors.get(m as u64);
     if place < trace.len() {
@@ -54,7 +57,8 @@ fn pass_item(net: &Network, trace: &Trace, m: u32, cursors: &mut Places)
     }
 }
 
-// What is delivered isn't owed any more: of the environment the receiver's cursor moves on, of a machine the delivery is taken away.
+// What is delivered isn't owed any more: of the environment the receiver's cursor moves on, of a
+// machine the delivery is taken away.
 fn land(net: &Network, trace: &Trace, entry: &Entry, cursors: &mut Places, owed: &mut Owings)
     requires fits { FitsNetwork net.now entry.now }
     requires cursors { length cursors.old ≡ length net.now.machines }
@@ -81,9 +85,12 @@ impl Tables {
     ) -> Result<(), NoMemory>
         requires fits { FitsNetwork net.now entry.now }
         requires follows { MayFollow net.now trace.now journal.old entry.now }
-        requires current { AreTables net.now trace.now journal.old self.old.readers.items self.old.moments.items self.old.woken self.old.cursors self.old.owed }
+        requires current { AreTables net.now trace.now journal.old self.old.readers.items self.old.moments.items
+            self.old.woken self.old.cursors self.old.owed }
         ensures journal { OnOk result (journal.new ≡ journal.old ++ entry.now ∷ []) }
-        ensures current { OnOk result (AreTables net.now trace.now (journal.old ++ entry.now ∷ []) self.new.readers.items self.new.moments.items self.new.woken self.new.cursors self.new.owed) }
+        ensures current { OnOk result (AreTables net.now trace.now (journal.old ++ entry.now ∷ [])
+            self.new.readers.items self.new.moments.items self.new.woken self.new.cursors
+            self.new.owed) }
         ensures same_journal { OnErr result (journal.new ≡ journal.old) }
         ensures same { OnErr result (self.new ≡ self.old) }
     {
@@ -95,8 +102,15 @@ impl Tables {
     // Takes an entry that a journal has after those that are taken.
     fn take_next(&mut self, net: &Network, trace: &Trace, entry: &Entry) -> Result<(), NoMemory>
         requires fits { FitsNetwork net.now entry.now }
-        requires current { (journal : List Entry) × MayFollow net.now trace.now journal entry.now × AreTables net.now trace.now journal self.old.readers.items self.old.moments.items self.old.woken self.old.cursors self.old.owed }
-        ensures { (journal : List Entry) → MayFollow net.now trace.now journal entry.now → AreTables net.now trace.now journal self.old.readers.items self.old.moments.items self.old.woken self.old.cursors self.old.owed → OnOk result (AreTables net.now trace.now (journal ++ entry.now ∷ []) self.new.readers.items self.new.moments.items self.new.woken self.new.cursors self.new.owed) }
+        requires current { (journal : List Entry) × MayFollow net.now trace.now journal entry.now
+            × AreTables net.now trace.now journal self.old.readers.items self.old.moments.items
+            self.old.woken self.old.cursors self.old.owed }
+        ensures { (journal : List Entry) → MayFollow net.now trace.now journal entry.now
+            → AreTables net.now trace.now journal self.old.readers.items self.old.moments.items
+            self.old.woken self.old.cursors self.old.owed
+            → OnOk result (AreTables net.now trace.now (journal ++ entry.now ∷ [])
+            self.new.readers.items self.new.moments.items self.new.woken self.new.cursors
+            self.new.owed) }
     {
         self.owed.add(net, &self.readers, entry)?;
         self.pass(net, trace, entry);
@@ -106,8 +120,14 @@ impl Tables {
     // Moves all tables on, after the deliveries that an entry gives are added.
     fn pass(&mut self, net: &Network, trace: &Trace, entry: &Entry)
         requires fits { FitsNetwork net.now entry.now }
-        requires current { (journal : List Entry) × AreBefore net.now trace.now journal entry.now self.old.readers.items self.old.moments.items self.old.woken self.old.cursors self.old.owed }
-        ensures { (journal : List Entry) → AreBefore net.now trace.now journal entry.now self.old.readers.items self.old.moments.items self.old.woken self.old.cursors self.old.owed → AreTables net.now trace.now (journal ++ entry.now ∷ []) self.new.readers.items self.new.moments.items self.new.woken self.new.cursors self.new.owed }
+        requires current { (journal : List Entry)
+            × AreBefore net.now trace.now journal entry.now self.old.readers.items
+            self.old.moments.items self.old.woken self.old.cursors self.old.owed }
+        ensures { (journal : List Entry)
+            → AreBefore net.now trace.now journal entry.now self.old.readers.items
+            self.old.moments.items self.old.woken self.old.cursors self.old.owed
+            → AreTables net.now trace.now (journal ++ entry.now ∷ []) self.new.readers.items
+            self.new.moments.items self.new.woken self.new.cursors self.new.owed }
     {
         laws();
         moving_laws();
@@ -131,7 +151,9 @@ pub(crate) fn tables_of(
 ) -> Result<Tables, NoMemory>
     requires trace { IsTrace net.now trace.now }
     requires legal { Legal net.now trace.now journal.now }
-    ensures { IfOk result (λ t. AreTables net.now trace.now journal.now t.readers.items t.moments.items t.woken t.cursors t.owed) }
+    ensures { IfOk result
+        (λ t. AreTables net.now trace.now journal.now t.readers.items t.moments.items t.woken
+        t.cursors t.owed) }
 {
     laws();
     let mut tables = first_tables(alloc, net, trace)?;

@@ -12,7 +12,8 @@ get-requires-in-loop-number c =
     let items = c.as_slice-number-items.result.now in
     let same : items ≡ t.numbers = c.as_slice-number-items.ensures in
     let size = ap (λ (xs : List ℕ). length xs) same in
-    let long = outcome_long m t c.requires.table c.laws_of_computing.ensures.results_fit i (let a = c.loop-number-test.true in omega arith) in
+    let long = outcome_long m t c.requires.table c.laws_of_computing.ensures.results_fit i
+    (let a = c.loop-number-test.true in omega arith) in
     let f = read t.outcomes (get_or items i 0) c.get.result.now [] c.get.ensures in
     let e = ap (λ (xs : List ℕ). length (get_or t.outcomes (get_or xs i 0) [])) same in
     let g = ap (λ (xs : List ℕ). length xs) f in
@@ -26,12 +27,16 @@ loop-number-preserved c =
     let i = c.loop-number.number-index in
     let items = c.as_slice-number-items.result.now in
     let f = read t.outcomes (get_or items i 0) c.get.result.now [] c.get.ensures in
-    let g = read c.get.result.now y c.get-in-loop-number.result.now 0 c.get-in-loop-number.ensures in
+    let g = read c.get.result.now y c.get-in-loop-number.result.now 0
+    c.get-in-loop-number.ensures in
     c.in_ok-push.ensures.ok
     ∙ ap (λ (xs : List ℕ). xs ++ c.get-in-loop-number.result.now ∷ []) c.loop-number.invariant
-    ∙ ap (λ (x : ℕ). map (λ (k : ℕ). slice_index (get_or t.outcomes k []) y) (take i items) ++ x ∷ []) (sym (ap (λ (xs : List ℕ). slice_index xs y) f ∙ g))
-    ∙ sym (map-append (λ (k : ℕ). slice_index (get_or t.outcomes k []) y) (take i items) (get_or items i 0 ∷ []))
-    ∙ sym (ap (map (λ (k : ℕ). slice_index (get_or t.outcomes k []) y)) (take_more items i 0 c.loop-number-test.true))
+    ∙ ap (λ (x : ℕ). map (λ (k : ℕ). slice_index (get_or t.outcomes k []) y) (take i items) ++ x
+    ∷ []) (sym (ap (λ (xs : List ℕ). slice_index xs y) f ∙ g))
+    ∙ sym (map-append (λ (k : ℕ). slice_index (get_or t.outcomes k []) y) (take i items)
+    (get_or items i 0 ∷ []))
+    ∙ sym (ap (map (λ (k : ℕ). slice_index (get_or t.outcomes k []) y))
+    (take_more items i 0 c.loop-number-test.true))
 
 pub returns : goal.returns
 returns c =
@@ -41,5 +46,7 @@ returns c =
     let i = c.loop-number.number-index in
     let items = c.as_slice-number-items.result.now in
     c.loop-number.invariant
-    ∙ ap (map (λ (k : ℕ). slice_index (get_or t.outcomes k []) y)) (take_all i items (let a = c.loop-number-test.false in omega arith) ∙ c.as_slice-number-items.ensures)
+    ∙ ap (map (λ (k : ℕ). slice_index (get_or t.outcomes k []) y))
+    (take_all i items (let a = c.loop-number-test.false in omega arith)
+    ∙ c.as_slice-number-items.ensures)
     ∙ result_column m t c.requires.table y

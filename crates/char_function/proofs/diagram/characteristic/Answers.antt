@@ -13,7 +13,8 @@ pub build-requires-clause-group : goal.build-requires-clause-group
 build-requires-clause-group c =
     let m = c.args.m.now in
     let n = numbers_long m c.in_ok-table.table c.in_ok-table.ensures in
-    ap (is_group (points m)) (c.as_slice.ensures ∙ c.in_ok-group.ensures) ∙ all_group (points m) c.len.result (c.len.ensures ∙ n)
+    ap (is_group (points m)) (c.as_slice.ensures ∙ c.in_ok-group.ensures)
+    ∙ all_group (points m) c.len.result (c.len.ensures ∙ n)
 
 pub returns : goal.returns
 returns c =
@@ -24,15 +25,22 @@ returns c =
     let n = c.in_ok-node.node in
     let kept = c.in_ok-node.ensures.kept in
     let fit = c.laws_of_computing.ensures.results_fit in
-    let sizes : new.sizes ≡ sizes_of m = kept.sizes ∙ c.in_ok-store.ensures.sizes ∙ c.in_ok-sizes.ensures in
+    let sizes : new.sizes ≡ sizes_of m =
+    kept.sizes ∙ c.in_ok-store.ensures.sizes ∙ c.in_ok-sizes.ensures in
     let order : new.order ≡ c.args.order.now = kept.order ∙ c.in_ok-store.ensures.order in
-    let long : length old.order ≡ length (sizes_of m) = ap (λ (xs : List ℕ). length xs) c.in_ok-store.ensures.order ∙ c.requires.order in
-    let group = c.as_slice.ensures ∙ c.in_ok-group.ensures ∙ ap upto (c.len.ensures ∙ numbers_long m table c.in_ok-table.ensures) in
-    let means : Means new n (char m) = root_means fit m c.as_slice.result.now old new n c.same_value_same_node.ensures.reduced sizes long group c.in_ok-node.ensures.value in
+    let long : length old.order ≡ length (sizes_of m) =
+    ap (λ (xs : List ℕ). length xs) c.in_ok-store.ensures.order ∙ c.requires.order in
+    let group = c.as_slice.ensures ∙ c.in_ok-group.ensures
+    ∙ ap upto (c.len.ensures ∙ numbers_long m table c.in_ok-table.ensures) in
+    let means : Means new n (char m) =
+    root_means fit m c.as_slice.result.now old new n c.same_value_same_node.ensures.reduced
+    sizes long group c.in_ok-node.ensures.value in
     record {
       sizes = sizes;
       order = order;
       value = means;
-      char = means_char c.laws_of_computing.ensures.char_by_test m c.requires.sure new n sizes means;
-      size = means_size c.laws.ensures.count_is_size m c.args.order.now new n sizes order c.same_value_same_node-2.ensures.reduced means;
+      char = means_char c.laws_of_computing.ensures.char_by_test m c.requires.sure new n sizes
+          means;
+      size = means_size c.laws.ensures.count_is_size m c.args.order.now new n sizes order
+          c.same_value_same_node-2.ensures.reduced means;
     }

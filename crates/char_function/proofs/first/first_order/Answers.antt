@@ -14,7 +14,8 @@ interleaved-requires c =
     let d = c.result_count-count.ensures.few in
     let e = c.result_count-count.ensures.count in
     let f = c.var_count.ensures.results in
-    let g : length c.args.s.now ≡ length m.results = ap (λ (s : List (List ℕ)). length s) c.requires.supports ∙ supports_long m in
+    let g : length c.args.s.now ≡ length m.results =
+    ap (λ (s : List (List ℕ)). length s) c.requires.supports ∙ supports_long m in
     omega arith
 
 pub unreachable-requires : goal.unreachable-requires
@@ -24,7 +25,8 @@ unreachable-requires c =
     c.as_slice.ensures ∙ c.in_ok-list.ensures
     ∙ ap (λ (n : ℕ). interleaved n c.args.s.now) (c.from-vars.ensures ∙ c.var_count.ensures.count)
     ∙ ap (interleaved (length m.vars)) c.requires.supports in
-    let none = subst (λ (o : _). IfNone o (¬ IsPermutation c.as_slice.result.now)) c.in-None.is c.in_ok-order.ensures.none in
+    let none = subst (λ (o : _). IfNone o (¬ IsPermutation c.as_slice.result.now)) c.in-None.is
+    c.in_ok-order.ensures.none in
     none (subst IsPermutation (sym is) (first_permutation m))
 
 pub returns-clause-allowed : goal.returns-clause-allowed
@@ -34,5 +36,7 @@ returns-clause-allowed c =
     c.as_slice.ensures ∙ c.in_ok-list.ensures
     ∙ ap (λ (n : ℕ). interleaved n c.args.s.now) (c.from-vars.ensures ∙ c.var_count.ensures.count)
     ∙ ap (interleaved (length m.vars)) c.requires.supports in
-    let made = subst (λ (o : _). IfSome o (λ order. order ≡ c.as_slice.result.now)) c.in-Some.is c.in_ok-order.ensures.some in
-    subst (Allowed m) (sym (made ∙ is)) (first_allowed c.laws_of_computing.ensures.support_by_test m c.requires.sure)
+    let made = subst (λ (o : _). IfSome o (λ order. order ≡ c.as_slice.result.now)) c.in-Some.is
+    c.in_ok-order.ensures.some in
+    subst (Allowed m) (sym (made ∙ is))
+    (first_allowed c.laws_of_computing.ensures.support_by_test m c.requires.sure)

@@ -13,7 +13,9 @@ loop-y-preserved c =
     let sup = c.args.supports.now in
     let p : ℕ → Bool = λ y. reach_at sup y == c.args.k in
     let old = c.args.list.now in
-    let at : reach_at sup y ≡ c.reach.result = ap reach (read sup y c.get.result.now [] c.get.ensures ∙ sym c.as_slice.ensures) ∙ sym c.reach.ensures in
+    let at : reach_at sup y ≡ c.reach.result =
+    ap reach (read sup y c.get.result.now [] c.get.ensures ∙ sym c.as_slice.ensures)
+    ∙ sym c.reach.ensures in
     elim c.if-reach-k.branch [
       | then-reach-k+in_ok-push w ↦
           w.list-is ∙ w.in_ok-push.ensures.ok
@@ -21,5 +23,6 @@ loop-y-preserved c =
           ∙ sym (behind_on old n y p (eq-eqb (reach_at sup y) c.args.k (at ∙ w.if-reach-k.true)))
       | else-reach-k w ↦
           w.list-is ∙ c.loop-y.invariant
-          ∙ sym (behind_off old n y p (ne_eqb (reach_at sup y) c.args.k (λ same. w.if-reach-k.false (sym at ∙ same))))
+          ∙ sym (behind_off old n y p
+          (ne_eqb (reach_at sup y) c.args.k (λ same. w.if-reach-k.false (sym at ∙ same))))
     ]

@@ -9,8 +9,10 @@ get-requires-else-item-vars-2 c =
     let m = c.args.m.now in
     let t = c.args.table.now in
     let n = numbers_long m t c.requires.table in
-    let e = read t.numbers c.args.i c.get-else-item-vars.result.now 0 c.get-else-item-vars.ensures in
-    let low = number_low m t c.requires.table c.args.i (let s = c.requires.snapshot in omega arith) in
+    let e = read t.numbers c.args.i c.get-else-item-vars.result.now 0
+    c.get-else-item-vars.ensures in
+    let low = number_low m t c.requires.table c.args.i (let s = c.requires.snapshot in
+    omega arith) in
     omega arith
 
 pub get-requires-else-item-vars-3 : goal.get-requires-else-item-vars-3
@@ -18,9 +20,12 @@ get-requires-else-item-vars-3 c =
     let m = c.args.m.now in
     let t = c.args.table.now in
     let n = numbers_long m t c.requires.table in
-    let e = read t.numbers c.args.i c.get-else-item-vars.result.now 0 c.get-else-item-vars.ensures in
-    let f = read t.outcomes c.get-else-item-vars.result.now c.get-else-item-vars-2.result.now [] c.get-else-item-vars-2.ensures in
-    let long = outcome_long m t c.requires.table c.laws_of_computing.ensures.results_fit c.args.i (let s = c.requires.snapshot in omega arith) in
+    let e = read t.numbers c.args.i c.get-else-item-vars.result.now 0
+    c.get-else-item-vars.ensures in
+    let f = read t.outcomes c.get-else-item-vars.result.now c.get-else-item-vars-2.result.now []
+    c.get-else-item-vars-2.ensures in
+    let long = outcome_long m t c.requires.table c.laws_of_computing.ensures.results_fit c.args.i
+    (let s = c.requires.snapshot in omega arith) in
     let same = ap (λ (k : ℕ). length (get_or t.outcomes k [])) e in
     let also = ap (λ (xs : List ℕ). length xs) f in
     let both = length-append m.vars m.results in
@@ -39,7 +44,8 @@ returns-then-item-vars-clause-code c =
     let b = c.len-vars.ensures.len in
     let g = c.if-item-vars.true in
     let e = read t.codes c.from-item.result c.get.result.now [] c.get.ensures in
-    let f = read c.get.result.now c.args.i c.get-then-item-vars.result.now 0 c.get-then-item-vars.ensures in
+    let f = read c.get.result.now c.args.i c.get-then-item-vars.result.now 0
+    c.get-then-item-vars.ensures in
     sym f
     ∙ ap (λ (xs : List ℕ). slice_index xs c.args.i) (sym e ∙ ap (λ (v : ℕ). get_or t.codes v []) a)
     ∙ var_at m t c.requires.table c.args.i item c.requires.snapshot (omega arith)
@@ -53,12 +59,14 @@ returns-then-item-vars-clause-below c =
     let b = c.len-vars.ensures.len in
     let g = c.if-item-vars.true in
     let e = read t.codes c.from-item.result c.get.result.now [] c.get.ensures in
-    let f = read c.get.result.now c.args.i c.get-then-item-vars.result.now 0 c.get-then-item-vars.ensures in
+    let f = read c.get.result.now c.args.i c.get-then-item-vars.result.now 0
+    c.get-then-item-vars.ensures in
     let same : c.get-then-item-vars.result.now ≡ slice_index (at_point (points m) c.args.i) item =
     sym f
     ∙ ap (λ (xs : List ℕ). slice_index xs c.args.i) (sym e ∙ ap (λ (v : ℕ). get_or t.codes v []) a)
     ∙ var_at m t c.requires.table c.args.i item c.requires.snapshot (omega arith) in
-    let low = code_below m t c.requires.table c.laws_of_computing.ensures.results_fit c.args.i item c.requires.snapshot c.requires.item in
+    let low = code_below m t c.requires.table c.laws_of_computing.ensures.results_fit c.args.i item
+    c.requires.snapshot c.requires.item in
     omega arith
 
 pub returns-else-item-vars-clause-code : goal.returns-else-item-vars-clause-code
@@ -69,13 +77,17 @@ returns-else-item-vars-clause-code c =
     let a = c.from-item.ensures in
     let b = c.len-vars.ensures.len in
     let g = c.if-item-vars.false in
-    let e = read t.numbers c.args.i c.get-else-item-vars.result.now 0 c.get-else-item-vars.ensures in
-    let f = read t.outcomes c.get-else-item-vars.result.now c.get-else-item-vars-2.result.now [] c.get-else-item-vars-2.ensures in
-    let h = read c.get-else-item-vars-2.result.now (c.from-item.result - c.len-vars.result) c.get-else-item-vars-3.result.now 0 c.get-else-item-vars-3.ensures in
+    let e = read t.numbers c.args.i c.get-else-item-vars.result.now 0
+    c.get-else-item-vars.ensures in
+    let f = read t.outcomes c.get-else-item-vars.result.now c.get-else-item-vars-2.result.now []
+    c.get-else-item-vars-2.ensures in
+    let h = read c.get-else-item-vars-2.result.now (c.from-item.result - c.len-vars.result)
+    c.get-else-item-vars-3.result.now 0 c.get-else-item-vars-3.ensures in
     let off : c.from-item.result - c.len-vars.result ≡ item - length m.vars = omega arith in
     sym h
     ∙ ap (slice_index c.get-else-item-vars-2.result.now) off
-    ∙ ap (λ (xs : List ℕ). slice_index xs (item - length m.vars)) (sym f ∙ ap (λ (k : ℕ). get_or t.outcomes k []) (sym e))
+    ∙ ap (λ (xs : List ℕ). slice_index xs (item - length m.vars))
+    (sym f ∙ ap (λ (k : ℕ). get_or t.outcomes k []) (sym e))
     ∙ result_at m t c.requires.table c.args.i item c.requires.snapshot (omega arith)
 
 pub returns-else-item-vars-clause-below : goal.returns-else-item-vars-clause-below
@@ -86,14 +98,19 @@ returns-else-item-vars-clause-below c =
     let a = c.from-item.ensures in
     let b = c.len-vars.ensures.len in
     let g = c.if-item-vars.false in
-    let e = read t.numbers c.args.i c.get-else-item-vars.result.now 0 c.get-else-item-vars.ensures in
-    let f = read t.outcomes c.get-else-item-vars.result.now c.get-else-item-vars-2.result.now [] c.get-else-item-vars-2.ensures in
-    let h = read c.get-else-item-vars-2.result.now (c.from-item.result - c.len-vars.result) c.get-else-item-vars-3.result.now 0 c.get-else-item-vars-3.ensures in
+    let e = read t.numbers c.args.i c.get-else-item-vars.result.now 0
+    c.get-else-item-vars.ensures in
+    let f = read t.outcomes c.get-else-item-vars.result.now c.get-else-item-vars-2.result.now []
+    c.get-else-item-vars-2.ensures in
+    let h = read c.get-else-item-vars-2.result.now (c.from-item.result - c.len-vars.result)
+    c.get-else-item-vars-3.result.now 0 c.get-else-item-vars-3.ensures in
     let off : c.from-item.result - c.len-vars.result ≡ item - length m.vars = omega arith in
     let same : c.get-else-item-vars-3.result.now ≡ slice_index (at_point (points m) c.args.i) item =
     sym h
     ∙ ap (slice_index c.get-else-item-vars-2.result.now) off
-    ∙ ap (λ (xs : List ℕ). slice_index xs (item - length m.vars)) (sym f ∙ ap (λ (k : ℕ). get_or t.outcomes k []) (sym e))
+    ∙ ap (λ (xs : List ℕ). slice_index xs (item - length m.vars))
+    (sym f ∙ ap (λ (k : ℕ). get_or t.outcomes k []) (sym e))
     ∙ result_at m t c.requires.table c.args.i item c.requires.snapshot (omega arith) in
-    let low = code_below m t c.requires.table c.laws_of_computing.ensures.results_fit c.args.i item c.requires.snapshot c.requires.item in
+    let low = code_below m t c.requires.table c.laws_of_computing.ensures.results_fit c.args.i item
+    c.requires.snapshot c.requires.item in
     omega arith

@@ -16,5 +16,8 @@ loop-i-preserved c =
     let size = c.requires.size in
     record {
       long = length-set parts c.from.result c.push.new.self ∙ long;
-      parts = parts_more (points m) c.args.item c.args.size group parts k (get_or group k 0) 0 c.from.result c.push.new.self c.index_mut.result.now c.index_mut.result.now long c.loop-i.invariant.parts c.loop-i-test.true refl (own ∙ c.code_at-code.ensures.code) (omega arith) c.index_mut.ensures.value c.in_ok-push.ensures.ok;
+      parts = parts_more (points m) c.args.item c.args.size group parts k (get_or group k 0) 0
+          c.from.result c.push.new.self c.index_mut.result.now c.index_mut.result.now long
+          c.loop-i.invariant.parts c.loop-i-test.true refl (own ∙ c.code_at-code.ensures.code)
+          (omega arith) c.index_mut.ensures.value c.in_ok-push.ensures.ok;
     }

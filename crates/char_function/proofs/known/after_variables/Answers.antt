@@ -14,7 +14,8 @@ loop-place-preserved c j high low =
     ⊎_elim
     (λ here.
     let same : j ≡ c.loop-place.place - 1 = omega arith in
-    let e = ap (slice_index c.args.order.now) same ∙ read c.args.order.now (c.loop-place.place - 1) c.get.result.now 0 c.get.ensures in
+    let e = ap (slice_index c.args.order.now) same
+    ∙ read c.args.order.now (c.loop-place.place - 1) c.get.result.now 0 c.get.ensures in
     let f = c.from.ensures in
     let g = c.len-vars.ensures.len in
     let h = c.if-from-vars.false in

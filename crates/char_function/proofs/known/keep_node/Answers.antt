@@ -33,10 +33,15 @@ returns-then-group-eq1 c =
     let f = number_low m t c.requires.table (slice_index group 0) (omega arith) in
     let g = c.requires.known.long in
     let k = slice_index t.numbers (slice_index group 0) in
-    let made = known_more s (length m.vars) start t.outcomes c.args.known.now k c.args.node c.requires.known (omega arith)
+    let made = known_more s (length m.vars) start t.outcomes c.args.known.now k c.args.node
+    c.requires.known (omega arith)
     (record {
       node = c.requires.value.node;
-      value = λ codes fit. c.requires.value.value codes fit ∙ group_outcome m t c.requires.table s.order start c.requires.start group codes one c.requires.group;
+      value = λ codes fit. c.requires.value.value codes fit
+          ∙ group_outcome m t c.requires.table s.order start c.requires.start group codes one
+          c.requires.group;
     })
     c.requires.level in
-    subst (AreKnown s (length m.vars) start t.outcomes) (sym (c.set.ensures ∙ ap (λ (i : ℕ). slice_set c.args.known.now i (Some c.args.node)) (sym e))) made
+    subst (AreKnown s (length m.vars) start t.outcomes)
+    (sym (c.set.ensures ∙ ap (λ (i : ℕ). slice_set c.args.known.now i (Some c.args.node))
+    (sym e))) made

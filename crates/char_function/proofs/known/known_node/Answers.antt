@@ -29,13 +29,19 @@ returns-clause-value c =
     let start = c.args.start in
     let one : length group ≡ 1 = c.if-group-ne1.false in
     let e = read t.numbers (slice_index group 0) c.get.result.now 0 c.get.ensures in
-    let is : get_or c.args.known.now (slice_index t.numbers (slice_index group 0)) None ≡ c.get-2.result.now =
-    ap (λ (k : ℕ). get_or c.args.known.now k None) e ∙ read c.args.known.now c.get.result.now c.get-2.result.now None c.get-2.ensures in
-    some_known c.get-2.result.now (λ n. Means s n (some_agrees (points m) s.order start group)) (λ n some.
-    let means = c.requires.known.means (slice_index t.numbers (slice_index group 0)) n (is ∙ some) in
+    let is : get_or c.args.known.now (slice_index t.numbers (slice_index group 0)) None
+    ≡ c.get-2.result.now =
+    ap (λ (k : ℕ). get_or c.args.known.now k None) e
+    ∙ read c.args.known.now c.get.result.now c.get-2.result.now None c.get-2.ensures in
+    some_known c.get-2.result.now (λ n. Means s n (some_agrees (points m) s.order start group))
+    (λ n some.
+    let means = c.requires.known.means (slice_index t.numbers (slice_index group 0)) n
+    (is ∙ some) in
     record {
       node = means.node;
-      value = λ codes fit. means.value codes fit ∙ sym (group_outcome m t c.requires.table s.order start c.requires.start group codes one c.requires.group);
+      value = λ codes fit. means.value codes fit
+          ∙ sym (group_outcome m t c.requires.table s.order start c.requires.start group codes one
+          c.requires.group);
     })
 
 pub returns-clause-level : goal.returns-clause-level
@@ -44,6 +50,10 @@ returns-clause-level c =
     let s = c.args.store.now in
     let group = c.args.group.now in
     let e = read t.numbers (slice_index group 0) c.get.result.now 0 c.get.ensures in
-    let is : get_or c.args.known.now (slice_index t.numbers (slice_index group 0)) None ≡ c.get-2.result.now =
-    ap (λ (k : ℕ). get_or c.args.known.now k None) e ∙ read c.args.known.now c.get.result.now c.get-2.result.now None c.get-2.ensures in
-    some_known c.get-2.result.now (λ n. c.args.start ≤ level_of s n) (λ n some. c.requires.known.levels (slice_index t.numbers (slice_index group 0)) n (is ∙ some))
+    let is : get_or c.args.known.now (slice_index t.numbers (slice_index group 0)) None
+    ≡ c.get-2.result.now =
+    ap (λ (k : ℕ). get_or c.args.known.now k None) e
+    ∙ read c.args.known.now c.get.result.now c.get-2.result.now None c.get-2.ensures in
+    some_known c.get-2.result.now (λ n. c.args.start ≤ level_of s n)
+    (λ n some. c.requires.known.levels (slice_index t.numbers (slice_index group 0)) n
+    (is ∙ some))

@@ -13,7 +13,8 @@ loop-y-preserved c =
     let y = c.loop-y.y in
     let made : c.in_ok-support.field-0 ≡ support_of m y =
     c.in_ok-support.ensures
-    ∙ ap (λ (xs : List ℕ). filter (λ v. varies m.vars v xs) (upto (length m.vars))) (c.as_slice.ensures ∙ c.in_ok-codes.ensures)
+    ∙ ap (λ (xs : List ℕ). filter (λ v. varies m.vars v xs) (upto (length m.vars)))
+    (c.as_slice.ensures ∙ c.in_ok-codes.ensures)
     ∙ column_support c.laws.ensures.ranks_reach m c.var_count-vars.ensures.sizes y in
     c.in_ok-push.ensures.ok
     ∙ ap (λ (lists : List (List ℕ)). lists ++ c.in_ok-support.field-0 ∷ []) c.loop-y.invariant
@@ -23,6 +24,11 @@ loop-y-preserved c =
 pub returns-clause-exact : goal.returns-clause-exact
 returns-clause-exact c =
     let m = c.args.m.now in
-    let all : c.loop-y.y ≡ length m.results = let a = c.loop-y-test.false in let b = c.loop-y.auto.y-end in let d = c.from-y-end.ensures in let e = c.result_count.ensures.count in let f = c.var_count-vars.ensures.results in omega arith in
-    let is : c.of.result ≡ all_supports m = c.of.ensures ∙ c.loop-y.invariant ∙ ap (λ (n : ℕ). map (support_of m) (upto n)) all in
-    subst (AreSupports m) (sym is) (are_supports c.laws_of_computing.ensures.support_by_test m c.requires)
+    let all : c.loop-y.y ≡ length m.results = let a = c.loop-y-test.false in
+    let b = c.loop-y.auto.y-end in let d = c.from-y-end.ensures in
+    let e = c.result_count.ensures.count in let f = c.var_count-vars.ensures.results in
+    omega arith in
+    let is : c.of.result ≡ all_supports m =
+    c.of.ensures ∙ c.loop-y.invariant ∙ ap (λ (n : ℕ). map (support_of m) (upto n)) all in
+    subst (AreSupports m) (sym is)
+    (are_supports c.laws_of_computing.ensures.support_by_test m c.requires)

@@ -5,4 +5,5 @@ use Rattle.decision_diagram.proofs.count.mark.Given as goal
 
 -- the nodes so far are marked
 abbrev pub invariant-loop-kid : goal.invariant-loop-kid
-invariant-loop-kid l = (m : ℕ) → 2 ≤ m → m < length l.marks + 2 → marked l.marks m ≡ (marked l.initial.marks m || list_any (nat_eq m) (take l.kid-index l.kids))
+invariant-loop-kid l = (m : ℕ) → 2 ≤ m → m < length l.marks + 2
+    → marked l.marks m ≡ (marked l.initial.marks m || list_any (nat_eq m) (take l.kid-index l.kids))

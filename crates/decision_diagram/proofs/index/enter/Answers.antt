@@ -2,4 +2,6 @@ use Rattle.decision_diagram.proofs.Lookups.{found_after}
 use Rattle.decision_diagram.proofs.index.enter.Goals as goal
 
 pub returns-clause-ok : goal.returns-clause-ok
-returns-clause-ok c = found_after c.args.index.now c.insert.new.self c.args.key c.args.number c.in_ok-insert.ensures.updates
+returns-clause-ok c =
+    found_after c.args.index.now c.insert.new.self c.args.key c.args.number
+    c.in_ok-insert.ensures.updates

@@ -7,5 +7,6 @@ use Rattle.decision_diagram.proofs.store.literal_kids.Given as goal
 abbrev pub invariant-loop-code : goal.invariant-loop-code
 invariant-loop-code l = record {
   long : length l.kids.items ≡ l.code;
-  kids : (code : ℕ) → code < l.code → slice_index l.kids.items code ≡ constant_node (bit_at l.codes code == 1);
+  kids : (code : ℕ) → code < l.code → slice_index l.kids.items code
+      ≡ constant_node (bit_at l.codes code == 1);
 }

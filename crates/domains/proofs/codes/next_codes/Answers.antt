@@ -10,22 +10,31 @@ step-requires-clause-room c =
 pub returns-in-Some-clause-fits : goal.returns-in-Some-clause-fits
 returns-in-Some-clause-fits c =
     let x = c.in-Some.ensures in
-    rw c.step.ensures (fits-stepped c.args.vars.now c.args.codes.now c.in-Some.k x.sizes c.requires x.place x.below)
+    rw c.step.ensures
+    (fits-stepped c.args.vars.now c.args.codes.now c.in-Some.k x.sizes c.requires x.place
+    x.below)
 
 pub returns-in-Some-clause-next : goal.returns-in-Some-clause-next
 returns-in-Some-clause-next c h =
     let x = c.in-Some.ensures in
-    rw c.step.ensures (rank-stepped c.args.vars.now c.args.codes.now c.in-Some.k c.requires x.place x.after)
+    rw c.step.ensures
+    (rank-stepped c.args.vars.now c.args.codes.now c.in-Some.k c.requires x.place x.after)
 
 pub returns-in-Some-clause-last : goal.returns-in-Some-clause-last
 returns-in-Some-clause-last c =
-    let x = c.in-Some.ensures in
-    (λ h. next-below c.args.vars.now c.args.codes.now c.in-Some.k x.sizes c.requires x.place x.below x.after, λ h. refl)
+    let x = c.in-Some.ensures in (
+      λ h. next-below c.args.vars.now c.args.codes.now c.in-Some.k x.sizes c.requires
+          x.place x.below
+          x.after,
+      λ h. refl,
+    )
 
 pub returns-in-Some-clause-greatest : goal.returns-in-Some-clause-greatest
 returns-in-Some-clause-greatest c =
     let x = c.in-Some.ensures in
-    not-greatest c.args.vars.now c.args.codes.now (next-below c.args.vars.now c.args.codes.now c.in-Some.k x.sizes c.requires x.place x.below x.after)
+    not-greatest c.args.vars.now c.args.codes.now
+    (next-below c.args.vars.now c.args.codes.now c.in-Some.k x.sizes c.requires x.place x.below
+    x.after)
 
 pub returns-in-None-clause-last : goal.returns-in-None-clause-last
 returns-in-None-clause-last c =

@@ -5,4 +5,5 @@ use Rattle.journal_replay.proofs.tests.stamped_verdict.Goals as goal
 
 pub replay_stamped-requires-clause-fits : goal.replay_stamped-requires-clause-fits
 replay_stamped-requires-clause-fits c =
-    subst (λ (n : Network). IsJournal n c.in_ok-journal.journal) (sym (c.reactor.ensures ∙ c.in_ok-net.ensures)) c.in_ok-journal.ensures.fits
+    subst (λ (n : Network). IsJournal n c.in_ok-journal.journal)
+    (sym (c.reactor.ensures ∙ c.in_ok-net.ensures)) c.in_ok-journal.ensures.fits

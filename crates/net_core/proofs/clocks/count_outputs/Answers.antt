@@ -18,7 +18,9 @@ loop-k-preserved c =
     elim c.if-get-gt0.branch [
       | then-get-gt0+then-reads_event w ↦
           let event = ap (λ (l : List ℕ). slice_get l k) same ∙ w.get-then-get-gt0.ensures in
-          let one = counted_one p events codes k w.get-then-get-gt0.result.now c.get-in-loop-k.result.now event c.get-in-loop-k.ensures w.if-get-gt0.true (sym w.reads_event.ensures ∙ w.if-reads_event.true) in
+          let one = counted_one p events codes k w.get-then-get-gt0.result.now
+          c.get-in-loop-k.result.now event c.get-in-loop-k.ensures w.if-get-gt0.true
+          (sym w.reads_event.ensures ∙ w.if-reads_event.true) in
           let count = w.count-is in
           record { counted = omega arith; few = omega arith }
       | else-get-gt0 v ↦
@@ -26,12 +28,16 @@ loop-k-preserved c =
           elim v.else-get-gt0.branch [
             | else-get-gt0-via-then-get-gt0+else-reads_event w ↦
                 let event = ap (λ (l : List ℕ). slice_get l k) same ∙ w.get-then-get-gt0.ensures in
-                let one = counted_past p events codes k w.get-then-get-gt0.result.now c.get-in-loop-k.result.now event c.get-in-loop-k.ensures w.if-get-gt0.true (sym w.reads_event.ensures ∙ w.if-reads_event.false) in
+                let one = counted_past p events codes k w.get-then-get-gt0.result.now
+                c.get-in-loop-k.result.now event c.get-in-loop-k.ensures w.if-get-gt0.true
+                (sym w.reads_event.ensures ∙ w.if-reads_event.false) in
                 record { counted = omega arith; few = omega arith }
             | else-get-gt0-via-else-get-gt0 w ↦
                 let code : c.get-in-loop-k.result.now ≤ 0 = w.if-get-gt0.false in
                 let below : k < length events = let size = ap length same in omega arith in
-                let one = counted_none p events codes k (get_or events k 0) c.get-in-loop-k.result.now (slice_get-get_or events k 0 below) c.get-in-loop-k.ensures (omega arith) in
+                let one = counted_none p events codes k (get_or events k 0)
+                c.get-in-loop-k.result.now (slice_get-get_or events k 0 below)
+                c.get-in-loop-k.ensures (omega arith) in
                 record { counted = omega arith; few = omega arith }
           ]
     ]

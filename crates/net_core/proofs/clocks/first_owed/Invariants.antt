@@ -9,6 +9,8 @@ invariant-loop-f l = record {
   left_is : left l.net l.m l.firings l.cursor ≡ left l.net l.m l.firings l.fn.cursor;
   here : l.cursor.firing ≡ l.f;
   within : l.cursor.firing ≤ length l.firings;
-  given : l.fn.cursor.taken ≤ length (flat_map (once_each l.net l.m) (drop l.fn.cursor.firing l.firings)) → l.cursor.taken ≤ length (flat_map (once_each l.net l.m) (drop l.cursor.firing l.firings));
+  given : l.fn.cursor.taken ≤ length
+      (flat_map (once_each l.net l.m) (drop l.fn.cursor.firing l.firings))
+      → l.cursor.taken ≤ length (flat_map (once_each l.net l.m) (drop l.cursor.firing l.firings));
   few : l.cursor.taken ≤ l.fn.cursor.taken;
 }

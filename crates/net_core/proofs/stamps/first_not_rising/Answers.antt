@@ -13,7 +13,10 @@ below-below-requires-clause-fits c =
     let i = c.loop-i.i in
     let many = c.requires.many in
     let size = length_prefix c.args.s.now i (omega arith) in
-    (is_next c.laws.ensures.prefixes c.laws.ensures.steps c.sending_laws.ensures.delivered_begins c.stamp_laws.ensures.sent_many c.args.net.now c.args.trace.now c.args.j.now (take i c.args.s.now) i c.get-entry.result.now 0 c.requires.legal (omega arith) c.get-entry.ensures size).fits
+    (is_next c.laws.ensures.prefixes c.laws.ensures.steps c.sending_laws.ensures.delivered_begins
+    c.stamp_laws.ensures.sent_many c.args.net.now c.args.trace.now c.args.j.now
+    (take i c.args.s.now) i c.get-entry.result.now 0 c.requires.legal (omega arith)
+    c.get-entry.ensures size).fits
 
 pub below-below-requires-clause-has : goal.below-below-requires-clause-has
 below-below-requires-clause-has c =
@@ -21,7 +24,10 @@ below-below-requires-clause-has c =
     let ts : List ℕ = take i c.args.s.now in
     let many = c.requires.many in
     let size = length_prefix c.args.s.now i (omega arith) in
-    let whole = (is_next c.laws.ensures.prefixes c.laws.ensures.steps c.sending_laws.ensures.delivered_begins c.stamp_laws.ensures.sent_many c.args.net.now c.args.trace.now c.args.j.now ts i c.get-entry.result.now 0 c.requires.legal (omega arith) c.get-entry.ensures size).size in
+    let whole = (is_next c.laws.ensures.prefixes c.laws.ensures.steps
+    c.sending_laws.ensures.delivered_begins c.stamp_laws.ensures.sent_many c.args.net.now
+    c.args.trace.now c.args.j.now ts i c.get-entry.result.now 0 c.requires.legal (omega arith)
+    c.get-entry.ensures size).size in
     let fits = c.len-i-end.type_inv in
     let len = c.len-i-end.ensures in
     (with_stamps (take i c.args.j.now) ts, c.loop-i.invariant.clocks_are, omega arith)
@@ -31,7 +37,10 @@ take-requires-clause-fits c =
     let i = c.loop-i.i in
     let many = c.requires.many in
     let size = length_prefix c.args.s.now i (omega arith) in
-    (is_next c.laws.ensures.prefixes c.laws.ensures.steps c.sending_laws.ensures.delivered_begins c.stamp_laws.ensures.sent_many c.args.net.now c.args.trace.now c.args.j.now (take i c.args.s.now) i c.get-entry.result.now 0 c.requires.legal (omega arith) c.get-entry.ensures size).fits
+    (is_next c.laws.ensures.prefixes c.laws.ensures.steps c.sending_laws.ensures.delivered_begins
+    c.stamp_laws.ensures.sent_many c.args.net.now c.args.trace.now c.args.j.now
+    (take i c.args.s.now) i c.get-entry.result.now 0 c.requires.legal (omega arith)
+    c.get-entry.ensures size).fits
 
 pub take-requires-clause-has : goal.take-requires-clause-has
 take-requires-clause-has c =
@@ -40,7 +49,10 @@ take-requires-clause-has c =
     let done : List Stamped = with_stamps (take i c.args.j.now) ts in
     let many = c.requires.many in
     let size = length_prefix c.args.s.now i (omega arith) in
-    let whole = (is_next c.laws.ensures.prefixes c.laws.ensures.steps c.sending_laws.ensures.delivered_begins c.stamp_laws.ensures.sent_many c.args.net.now c.args.trace.now c.args.j.now ts i c.get-entry.result.now 0 c.requires.legal (omega arith) c.get-entry.ensures size).size in
+    let whole = (is_next c.laws.ensures.prefixes c.laws.ensures.steps
+    c.sending_laws.ensures.delivered_begins c.stamp_laws.ensures.sent_many c.args.net.now
+    c.args.trace.now c.args.j.now ts i c.get-entry.result.now 0 c.requires.legal (omega arith)
+    c.get-entry.ensures size).size in
     let fits = c.len-i-end.type_inv in
     let len = c.len-i-end.ensures in
     (done, c.below-below.ensures.same done c.loop-i.invariant.clocks_are, omega arith)
@@ -88,7 +100,9 @@ loop-i-preserved c =
     let size = length_prefix c.args.s.now i (omega arith) in
     let size_prefix = length_prefix c.args.j.now i (omega arith) in
     let same : length ts ≡ length prefix = omega arith in
-    let next = is_next c.laws.ensures.prefixes c.laws.ensures.steps c.sending_laws.ensures.delivered_begins c.stamp_laws.ensures.sent_many net c.args.trace.now c.args.j.now ts i entry t c.requires.legal (omega arith) c.get-entry.ensures size in
+    let next = is_next c.laws.ensures.prefixes c.laws.ensures.steps
+    c.sending_laws.ensures.delivered_begins c.stamp_laws.ensures.sent_many net c.args.trace.now
+    c.args.j.now ts i entry t c.requires.legal (omega arith) c.get-entry.ensures size in
     let is = c.below-below.ensures.stamp done c.loop-i.invariant.clocks_are in
     let up : c.is_above.result ≡ true = cc in
     let bounds = c.is_above.ensures.0 up in

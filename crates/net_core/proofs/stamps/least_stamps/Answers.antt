@@ -14,7 +14,10 @@ below-stamp-requires-clause-fits c =
     let many : length c.loop-i.stamps ≡ c.loop-i.i =
     ap length c.loop-i.invariant.stamps_are
     ∙ c.stamp_laws.ensures.least_many c.args.net.now prefix ∙ size in
-    (is_next c.laws.ensures.prefixes c.laws.ensures.steps c.sending_laws.ensures.delivered_begins c.stamp_laws.ensures.sent_many c.args.net.now c.args.trace.now c.args.j.now c.loop-i.stamps c.loop-i.i c.get-entry.result.now 0 c.requires.legal (omega arith) c.get-entry.ensures many).fits
+    (is_next c.laws.ensures.prefixes c.laws.ensures.steps c.sending_laws.ensures.delivered_begins
+    c.stamp_laws.ensures.sent_many c.args.net.now c.args.trace.now c.args.j.now c.loop-i.stamps
+    c.loop-i.i c.get-entry.result.now 0 c.requires.legal (omega arith) c.get-entry.ensures
+    many).fits
 
 pub below-stamp-requires-clause-has : goal.below-stamp-requires-clause-has
 below-stamp-requires-clause-has c =
@@ -23,7 +26,10 @@ below-stamp-requires-clause-has c =
     let many : length c.loop-i.stamps ≡ c.loop-i.i =
     ap length c.loop-i.invariant.stamps_are
     ∙ c.stamp_laws.ensures.least_many c.args.net.now prefix ∙ size in
-    let whole = (is_next c.laws.ensures.prefixes c.laws.ensures.steps c.sending_laws.ensures.delivered_begins c.stamp_laws.ensures.sent_many c.args.net.now c.args.trace.now c.args.j.now c.loop-i.stamps c.loop-i.i c.get-entry.result.now 0 c.requires.legal (omega arith) c.get-entry.ensures many).size in
+    let whole = (is_next c.laws.ensures.prefixes c.laws.ensures.steps
+    c.sending_laws.ensures.delivered_begins c.stamp_laws.ensures.sent_many c.args.net.now
+    c.args.trace.now c.args.j.now c.loop-i.stamps c.loop-i.i c.get-entry.result.now 0
+    c.requires.legal (omega arith) c.get-entry.ensures many).size in
     let few = c.requires.few in
     (with_stamps prefix c.loop-i.stamps, c.loop-i.invariant.clocks_are, omega arith)
 
@@ -37,7 +43,8 @@ overflow_add-stamp c =
     c.below-stamp.ensures.stamp (with_stamps prefix c.loop-i.stamps) c.loop-i.invariant.clocks_are
     ∙ ap (λ (l : List ℕ). greatest (stamps_below net (with_stamps prefix l) c.get-entry.result.now))
     are in
-    let most = least_below c.stamp_laws.ensures.least_many c.stamp_laws.ensures.least_within c.stamp_laws.ensures.least_steps net prefix c.get-entry.result.now in
+    let most = least_below c.stamp_laws.ensures.least_many c.stamp_laws.ensures.least_within
+    c.stamp_laws.ensures.least_steps net prefix c.get-entry.result.now in
     let few = c.requires.few in
     omega arith
 
@@ -48,7 +55,10 @@ take-requires-clause-fits c =
     let many : length c.loop-i.stamps ≡ c.loop-i.i =
     ap length c.loop-i.invariant.stamps_are
     ∙ c.stamp_laws.ensures.least_many c.args.net.now prefix ∙ size in
-    (is_next c.laws.ensures.prefixes c.laws.ensures.steps c.sending_laws.ensures.delivered_begins c.stamp_laws.ensures.sent_many c.args.net.now c.args.trace.now c.args.j.now c.loop-i.stamps c.loop-i.i c.get-entry.result.now 0 c.requires.legal (omega arith) c.get-entry.ensures many).fits
+    (is_next c.laws.ensures.prefixes c.laws.ensures.steps c.sending_laws.ensures.delivered_begins
+    c.stamp_laws.ensures.sent_many c.args.net.now c.args.trace.now c.args.j.now c.loop-i.stamps
+    c.loop-i.i c.get-entry.result.now 0 c.requires.legal (omega arith) c.get-entry.ensures
+    many).fits
 
 pub take-requires-clause-has : goal.take-requires-clause-has
 take-requires-clause-has c =
@@ -57,9 +67,16 @@ take-requires-clause-has c =
     let many : length c.loop-i.stamps ≡ c.loop-i.i =
     ap length c.loop-i.invariant.stamps_are
     ∙ c.stamp_laws.ensures.least_many c.args.net.now prefix ∙ size in
-    let whole = (is_next c.laws.ensures.prefixes c.laws.ensures.steps c.sending_laws.ensures.delivered_begins c.stamp_laws.ensures.sent_many c.args.net.now c.args.trace.now c.args.j.now c.loop-i.stamps c.loop-i.i c.get-entry.result.now 0 c.requires.legal (omega arith) c.get-entry.ensures many).size in
-    let few = c.requires.few in
-    (with_stamps prefix c.loop-i.stamps, c.below-stamp.ensures.same (with_stamps prefix c.loop-i.stamps) c.loop-i.invariant.clocks_are, omega arith)
+    let whole = (is_next c.laws.ensures.prefixes c.laws.ensures.steps
+    c.sending_laws.ensures.delivered_begins c.stamp_laws.ensures.sent_many c.args.net.now
+    c.args.trace.now c.args.j.now c.loop-i.stamps c.loop-i.i c.get-entry.result.now 0
+    c.requires.legal (omega arith) c.get-entry.ensures many).size in
+    let few = c.requires.few in (
+      with_stamps prefix c.loop-i.stamps,
+      c.below-stamp.ensures.same (with_stamps prefix c.loop-i.stamps)
+          c.loop-i.invariant.clocks_are,
+      omega arith,
+    )
 
 pub loop-i-preserved : goal.loop-i-preserved
 loop-i-preserved c =
@@ -74,7 +91,9 @@ loop-i-preserved c =
     let size = length_prefix c.args.j.now i (omega arith) in
     let many : length stamps ≡ i =
     ap length are ∙ c.stamp_laws.ensures.least_many net prefix ∙ size in
-    let next = is_next c.laws.ensures.prefixes c.laws.ensures.steps c.sending_laws.ensures.delivered_begins c.stamp_laws.ensures.sent_many net c.args.trace.now c.args.j.now stamps i entry t c.requires.legal (omega arith) c.get-entry.ensures many in
+    let next = is_next c.laws.ensures.prefixes c.laws.ensures.steps
+    c.sending_laws.ensures.delivered_begins c.stamp_laws.ensures.sent_many net c.args.trace.now
+    c.args.j.now stamps i entry t c.requires.legal (omega arith) c.get-entry.ensures many in
     let is = c.below-stamp.ensures.stamp done c.loop-i.invariant.clocks_are in
     let least_is : t ≡ least_stamp net done entry = omega arith in
     let pushed : c.push.new.self ≡ stamps ++ t ∷ [] = c.in_ok-push.ensures.ok in

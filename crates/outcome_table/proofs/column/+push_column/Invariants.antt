@@ -12,4 +12,6 @@ abbrev pub invariant-loop-code : goal.invariant-loop-code
 invariant-loop-code l = l.into ≡ l.fn.into ++ flat_map (λ c. replicate l.times c) (upto l.code)
 
 abbrev pub invariant-loop : goal.invariant-loop
-invariant-loop l = l.into ≡ l.fn.into ++ flat_map (λ c. column (l.v - (l.from + 1)) (all_codes (drop (l.from + 1) l.vars))) (upto l.counter)
+invariant-loop l = l.into ≡ l.fn.into
+    ++ flat_map (λ c. column (l.v - (l.from + 1)) (all_codes (drop (l.from + 1) l.vars)))
+    (upto l.counter)

@@ -9,9 +9,11 @@ loop-cond-preserved c = λ code.
     let none : Cond = record { var = 0; codes = 0 } in
     elim c.if-cond-var.branch [
       | then-cond-var w ↦
-          next_leaves c.loop-cond.left c.args.var code c.loop-cond.cond-index c.if-cond-var.left c.args.conds.now none c.loop-cond-test.true (inl (w.if-cond-var.true, w.left-is))
+          next_leaves c.loop-cond.left c.args.var code c.loop-cond.cond-index c.if-cond-var.left
+          c.args.conds.now none c.loop-cond-test.true (inl (w.if-cond-var.true, w.left-is))
           ∙ c.loop-cond.invariant code
       | else-cond-var w ↦
-          next_leaves c.loop-cond.left c.args.var code c.loop-cond.cond-index c.if-cond-var.left c.args.conds.now none c.loop-cond-test.true (inr (w.if-cond-var.false, w.left-is))
+          next_leaves c.loop-cond.left c.args.var code c.loop-cond.cond-index c.if-cond-var.left
+          c.args.conds.now none c.loop-cond-test.true (inr (w.if-cond-var.false, w.left-is))
           ∙ c.loop-cond.invariant code
     ]

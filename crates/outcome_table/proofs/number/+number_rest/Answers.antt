@@ -22,7 +22,8 @@ number_one-requires-clause-rows t c =
     let m = c.args.narrowing.now.machine.now in
     let s = c.args.s.now.codes in
     let long = fits_long m.vars s c.requires.snapshot in
-    let whole : length s ≤ c.args.at = let e = c.if-at-len.true in let l = c.len.ensures.len in omega arith in
+    let whole : length s ≤ c.args.at = let e = c.if-at-len.true in let l = c.len.ensures.len in
+    omega arith in
     c.requires.rows ∙ ap (rows_left m) (take_all c.args.at s whole)
 
 past_end : (xs : List ℕ) (n : ℕ) → n ≡ length xs → drop n xs ≡ []
@@ -37,11 +38,14 @@ returns-then-at-len-clause-adds t c =
     let m = c.args.narrowing.now.machine.now in
     let s = c.args.s.now.codes in
     let long = fits_long m.vars s c.requires.snapshot in
-    let whole : length s ≤ c.args.at = let e = c.if-at-len.true in let l = c.len.ensures.len in omega arith in
+    let whole : length s ≤ c.args.at = let e = c.if-at-len.true in let l = c.len.ensures.len in
+    omega arith in
     let end : lists_after (take c.args.at s) (drop c.args.at m.vars) ≡ s ∷ [] =
-    lists_end (take c.args.at s) (drop c.args.at m.vars) (past_end m.vars c.args.at (c.if-at-len.true ∙ c.len.ensures.len))
+    lists_end (take c.args.at s) (drop c.args.at m.vars)
+    (past_end m.vars c.args.at (c.if-at-len.true ∙ c.len.ensures.len))
     ∙ ap (λ (xs : List ℕ). xs ∷ []) (take_all c.args.at s whole) in
-    subst (λ (lists : List (List ℕ)). IfOk c.number_one.result (λ done. Adds m c.args.made.now c.number_one.new.made lists)) (sym end) c.number_one.ensures
+    subst (λ (lists : List (List ℕ)). IfOk c.number_one.result
+    (λ done. Adds m c.args.made.now c.number_one.new.made lists)) (sym end) c.number_one.ensures
 
 -- what stands at one turn of the loop
 record Turn (m : Machine) (s cur : List ℕ) (at code size : ℕ) : Type 0 where
@@ -53,7 +57,9 @@ record Turn (m : Machine) (s cur : List ℕ) (at code size : ℕ) : Type 0 where
   fixed : take (at + 1) (slice_set cur at code) ≡ take at s ++ code ∷ []
   fit : fits m.vars (slice_set cur at code) ≡ true
 
-turn : (m : Machine) (s cur : List ℕ) (at code size len : ℕ) → at ≤ length m.vars → (at ≡ len → ⊥) → len ≡ length m.vars → fits m.vars s ≡ true → fits m.vars cur ≡ true → take at cur ≡ take at s → slice_get m.vars at ≡ Some size → code < size → Turn m s cur at code size
+turn : (m : Machine) (s cur : List ℕ) (at code size len : ℕ) → at ≤ length m.vars → (at ≡ len → ⊥)
+    → len ≡ length m.vars → fits m.vars s ≡ true → fits m.vars cur ≡ true → take at cur ≡ take at s
+    → slice_get m.vars at ≡ Some size → code < size → Turn m s cur at code size
 turn m s cur at code size len most other whole fit_s fit_cur kept get less =
     let low : at < length m.vars = omega (arith, other, whole, most) in
     let long = fits_long m.vars s fit_s in
@@ -72,23 +78,36 @@ turn m s cur at code size len most other whole fit_s fit_cur kept get less =
 
 pub set-requires : goal.set-requires
 set-requires t c =
-    let u = turn c.args.narrowing.now.machine.now c.args.s.now.codes c.loop-code.s.codes c.args.at c.loop-code.code c.get-code-end.result.now c.len.result c.requires.at c.if-at-len.false c.len.ensures.len c.requires.snapshot c.loop-code.invariant.snapshot c.loop-code.invariant.kept c.get-code-end.ensures c.loop-code-test.true in
+    let u = turn c.args.narrowing.now.machine.now c.args.s.now.codes c.loop-code.s.codes c.args.at
+    c.loop-code.code c.get-code-end.result.now c.len.result c.requires.at c.if-at-len.false
+    c.len.ensures.len c.requires.snapshot c.loop-code.invariant.snapshot
+    c.loop-code.invariant.kept c.get-code-end.ensures c.loop-code-test.true in
     let a = u.low in
     let b = u.long_cur in
     omega arith
 
 pub allowing-requires-clause-rows : goal.allowing-requires-clause-rows
 allowing-requires-clause-rows t c =
-    rw c.as_slice.ensures (left_below c.args.narrowing.now.machine.now (take c.args.at c.args.s.now.codes) c.args.rows.now (length c.args.narrowing.now.masks.now) c.requires.rows c.requires.masks.long)
+    rw c.as_slice.ensures
+    (left_below c.args.narrowing.now.machine.now (take c.args.at c.args.s.now.codes)
+    c.args.rows.now (length c.args.narrowing.now.masks.now) c.requires.rows
+    c.requires.masks.long)
 
 pub allowing-requires-clause-var : goal.allowing-requires-clause-var
 allowing-requires-clause-var t c =
-    let u = turn c.args.narrowing.now.machine.now c.args.s.now.codes c.loop-code.s.codes c.args.at c.loop-code.code c.get-code-end.result.now c.len.result c.requires.at c.if-at-len.false c.len.ensures.len c.requires.snapshot c.loop-code.invariant.snapshot c.loop-code.invariant.kept c.get-code-end.ensures c.loop-code-test.true in
-    table_wide c.args.narrowing.now.machine.now c.args.narrowing.now.masks.now c.args.at c.requires.masks u.low
+    let u = turn c.args.narrowing.now.machine.now c.args.s.now.codes c.loop-code.s.codes c.args.at
+    c.loop-code.code c.get-code-end.result.now c.len.result c.requires.at c.if-at-len.false
+    c.len.ensures.len c.requires.snapshot c.loop-code.invariant.snapshot
+    c.loop-code.invariant.kept c.get-code-end.ensures c.loop-code-test.true in
+    table_wide c.args.narrowing.now.machine.now c.args.narrowing.now.masks.now c.args.at
+    c.requires.masks u.low
 
 pub allowing-requires-clause-code : goal.allowing-requires-clause-code
 allowing-requires-clause-code t c =
-    (turn c.args.narrowing.now.machine.now c.args.s.now.codes c.loop-code.s.codes c.args.at c.loop-code.code c.get-code-end.result.now c.len.result c.requires.at c.if-at-len.false c.len.ensures.len c.requires.snapshot c.loop-code.invariant.snapshot c.loop-code.invariant.kept c.get-code-end.ensures c.loop-code-test.true).few
+    (turn c.args.narrowing.now.machine.now c.args.s.now.codes c.loop-code.s.codes c.args.at
+    c.loop-code.code c.get-code-end.result.now c.len.result c.requires.at c.if-at-len.false
+    c.len.ensures.len c.requires.snapshot c.loop-code.invariant.snapshot
+    c.loop-code.invariant.kept c.get-code-end.ensures c.loop-code-test.true).few
 
 pub number_rest-requires : goal.number_rest-requires
 number_rest-requires t c =
@@ -97,18 +116,40 @@ number_rest-requires t c =
     let masks = c.args.narrowing.now.masks.now in
     let at = c.args.at in
     let code = c.loop-code.code in
-    let u = turn m s c.loop-code.s.codes at code c.get-code-end.result.now c.len.result c.requires.at c.if-at-len.false c.len.ensures.len c.requires.snapshot c.loop-code.invariant.snapshot c.loop-code.invariant.kept c.get-code-end.ensures c.loop-code-test.true in
+    let u = turn m s c.loop-code.s.codes at code c.get-code-end.result.now c.len.result
+    c.requires.at c.if-at-len.false c.len.ensures.len c.requires.snapshot
+    c.loop-code.invariant.snapshot c.loop-code.invariant.kept c.get-code-end.ensures
+    c.loop-code-test.true in
     let low = u.low in
     let long = u.long in
     let prefix : at ≡ length (take at s) = sym (length-take-le at s (omega arith)) in
     let left : c.in_ok-left.left ≡ rows_left m (take (at + 1) c.set.new.self) =
     c.in_ok-left.ensures
     ∙ ap (filter (λ r. bit_at (slice_index (get_or masks r []) at) code == 1)) c.as_slice.ensures
-    ∙ narrowed m masks (take at s) c.args.rows.now at code c.requires.masks prefix low u.below c.requires.rows
+    ∙ narrowed m masks (take at s) c.args.rows.now at code c.requires.masks prefix low u.below
+    c.requires.rows
     ∙ ap (rows_left m) (sym u.fixed)
     ∙ ap (λ (xs : List ℕ). rows_left m (take (at + 1) xs)) (sym c.set.ensures) in
-    let d = c.decreases in
-    (omega arith, (omega arith, (rw c.set.ensures u.fit, (left, (c.requires.masks, (begins_kept m c.args.narrowing.now.fixed.now c.args.made.now.outcomes c.loop-code.made.outcomes c.requires.begins c.loop-code.invariant.adds.kept, c.loop-code.invariant.adds.within))))))
+    let d = c.decreases in (
+      omega arith,
+      (
+        omega arith,
+        (
+          rw c.set.ensures u.fit,
+          (
+            left,
+            (
+              c.requires.masks,
+              (
+                begins_kept m c.args.narrowing.now.fixed.now c.args.made.now.outcomes
+                    c.loop-code.made.outcomes c.requires.begins c.loop-code.invariant.adds.kept,
+                c.loop-code.invariant.adds.within,
+              ),
+            ),
+          ),
+        ),
+      ),
+    )
 
 pub loop-code-preserved : goal.loop-code-preserved
 loop-code-preserved t c =
@@ -117,15 +158,23 @@ loop-code-preserved t c =
     let at = c.args.at in
     let code = c.loop-code.code in
     let cur = c.loop-code.s.codes in
-    let u = turn m s cur at code c.get-code-end.result.now c.len.result c.requires.at c.if-at-len.false c.len.ensures.len c.requires.snapshot c.loop-code.invariant.snapshot c.loop-code.invariant.kept c.get-code-end.ensures c.loop-code-test.true in
+    let u = turn m s cur at code c.get-code-end.result.now c.len.result c.requires.at
+    c.if-at-len.false c.len.ensures.len c.requires.snapshot c.loop-code.invariant.snapshot
+    c.loop-code.invariant.kept c.get-code-end.ensures c.loop-code-test.true in
     let f : ℕ → List (List ℕ) = λ k. lists_after (take at s ++ k ∷ []) (drop (at + 1) m.vars) in
-    let fixed : take (at + 1) c.set.new.self ≡ take at s ++ code ∷ [] = ap (take (at + 1)) c.set.ensures ∙ u.fixed in
-    let one : Adds m c.loop-code.made c.number_rest.new.made (f code) = subst (λ (xs : List ℕ). Adds m c.loop-code.made c.number_rest.new.made (lists_after xs (drop (at + 1) m.vars))) fixed c.in_ok-number_rest.ensures.adds in
+    let fixed : take (at + 1) c.set.new.self ≡ take at s ++ code ∷ [] =
+    ap (take (at + 1)) c.set.ensures ∙ u.fixed in
+    let one : Adds m c.loop-code.made c.number_rest.new.made (f code) =
+    subst (λ (xs : List ℕ). Adds m c.loop-code.made c.number_rest.new.made
+    (lists_after xs (drop (at + 1) m.vars))) fixed c.in_ok-number_rest.ensures.adds in
     let e : code + 1 ≡ suc code = omega arith in
-    let more : flat_map f (upto code) ++ f code ≡ flat_map f (upto (code + 1)) = sym (ap (λ k. flat_map f (upto k)) e ∙ flat_upto f code) in
+    let more : flat_map f (upto code) ++ f code ≡ flat_map f (upto (code + 1)) =
+    sym (ap (λ k. flat_map f (upto k)) e ∙ flat_upto f code) in
     let less : at ≤ at + 1 = omega arith in
     record {
-      adds = subst (λ (lists : List (List ℕ)). Adds m c.args.made.now c.number_rest.new.made lists) more (adds_on m c.args.made.now c.loop-code.made c.number_rest.new.made (flat_map f (upto code)) (f code) c.loop-code.invariant.adds one);
+      adds = subst (λ (lists : List (List ℕ)). Adds m c.args.made.now c.number_rest.new.made lists)
+          more (adds_on m c.args.made.now c.loop-code.made c.number_rest.new.made
+          (flat_map f (upto code)) (f code) c.loop-code.invariant.adds one);
       snapshot = c.in_ok-number_rest.ensures.snapshot;
       kept = sym (take_less at (at + 1) c.number_rest.new.s.codes less)
           ∙ ap (take at) c.in_ok-number_rest.ensures.kept
@@ -140,11 +189,19 @@ returns-clause-adds t c =
     let m = c.args.narrowing.now.machine.now in
     let s = c.args.s.now.codes in
     let at = c.args.at in
-    let low : at < length m.vars = let a = c.requires.at in let b = c.if-at-len.false in let l = c.len.ensures.len in omega arith in
-    let size : c.get-code-end.result.now ≡ slice_index m.vars at = sym (get_or_from_slice_get m.vars at c.get-code-end.result.now 0 c.get-code-end.ensures) in
-    let done : c.loop-code.code ≡ slice_index m.vars at = let a = c.loop-code-test.false in let b = c.loop-code.auto.code-end in omega arith in
+    let low : at < length m.vars = let a = c.requires.at in let b = c.if-at-len.false in
+    let l = c.len.ensures.len in omega arith in
+    let size : c.get-code-end.result.now ≡ slice_index m.vars at =
+    sym (get_or_from_slice_get m.vars at c.get-code-end.result.now 0 c.get-code-end.ensures) in
+    let done : c.loop-code.code ≡ slice_index m.vars at = let a = c.loop-code-test.false in
+    let b = c.loop-code.auto.code-end in omega arith in
     let e : suc at ≡ at + 1 = omega arith in
-    let here : drop at m.vars ≡ slice_index m.vars at ∷ drop (at + 1) m.vars = drop-cons m.vars at 0 low ∙ ap (λ k. slice_index m.vars at ∷ drop k m.vars) e in
+    let here : drop at m.vars ≡ slice_index m.vars at ∷ drop (at + 1) m.vars =
+    drop-cons m.vars at 0 low ∙ ap (λ k. slice_index m.vars at ∷ drop k m.vars) e in
     let f : ℕ → List (List ℕ) = λ k. lists_after (take at s ++ k ∷ []) (drop (at + 1) m.vars) in
-    let whole : flat_map f (upto c.loop-code.code) ≡ lists_after (take at s) (drop at m.vars) = ap (λ k. flat_map f (upto k)) done ∙ sym (lists_split (take at s) (drop at m.vars) (drop (at + 1) m.vars) (slice_index m.vars at) here) in
-    subst (λ (lists : List (List ℕ)). Adds m c.args.made.now c.loop-code.made lists) whole c.loop-code.invariant.adds
+    let whole : flat_map f (upto c.loop-code.code) ≡ lists_after (take at s) (drop at m.vars) =
+    ap (λ k. flat_map f (upto k)) done
+    ∙ sym (lists_split (take at s) (drop at m.vars) (drop (at + 1) m.vars)
+    (slice_index m.vars at) here) in
+    subst (λ (lists : List (List ℕ)). Adds m c.args.made.now c.loop-code.made lists) whole
+    c.loop-code.invariant.adds

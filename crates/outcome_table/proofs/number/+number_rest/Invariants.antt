@@ -10,7 +10,9 @@ decreases-number_rest l = length l.narrowing.now.machine.now.vars - l.at
 -- those with the codes before this one
 abbrev pub invariant-loop-code : goal.invariant-loop-code
 invariant-loop-code l = record {
-  adds : Adds l.narrowing.machine.now l.fn.made l.made (flat_map (λ c. lists_after (take l.at l.fn.s.codes ++ c ∷ []) (drop (l.at + 1) l.narrowing.machine.now.vars)) (upto l.code));
+  adds : Adds l.narrowing.machine.now l.fn.made l.made
+      (flat_map (λ c. lists_after (take l.at l.fn.s.codes ++ c ∷ [])
+      (drop (l.at + 1) l.narrowing.machine.now.vars)) (upto l.code));
   snapshot : IsSnapshot l.narrowing.machine.now l.s;
   kept : take l.at l.s.codes ≡ take l.at l.fn.s.codes;
 }

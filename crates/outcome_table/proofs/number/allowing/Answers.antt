@@ -10,7 +10,10 @@ use Rattle.outcome_table.proofs.number.allowing.Goals as goal
 use Rattle.outcome_table.proofs.number.allowing.Goals.{then-get-code-eq1+in_ok-push, else-get-code-eq1}
 
 pub get-requires-in-loop-r : goal.get-requires-in-loop-r
-get-requires-in-loop-r c = ltb-true c.args.var (length c.get.result.now) (all_get (λ (sets : List ℕ). nat_lt c.args.var (length sets)) c.args.masks.now _ c.get.result.now c.requires.var c.get.ensures)
+get-requires-in-loop-r c =
+    ltb-true c.args.var (length c.get.result.now)
+    (all_get (λ (sets : List ℕ). nat_lt c.args.var (length sets)) c.args.masks.now _
+    c.get.result.now c.requires.var c.get.ensures)
 
 pub loop-r-preserved : goal.loop-r-preserved
 loop-r-preserved c =
@@ -19,11 +22,16 @@ loop-r-preserved c =
     let p : ℕ → Bool = λ r. bit_at (slice_index (get_or masks r []) c.args.var) c.args.code == 1 in
     let k = c.loop-r.r-index in
     let r = get_or rows k 0 in
-    let more : filter p (take (k + 1) rows) ≡ filter p (take k rows) ++ cond (p r) (r ∷ []) [] = ap (filter p) (take_more rows k 0 c.loop-r-test.true) ∙ filter-append p (take k rows) (r ∷ []) in
+    let more : filter p (take (k + 1) rows) ≡ filter p (take k rows) ++ cond (p r) (r ∷ []) [] =
+    ap (filter p) (take_more rows k 0 c.loop-r-test.true)
+    ∙ filter-append p (take k rows) (r ∷ []) in
     let at : slice_index (get_or masks r []) c.args.var ≡ c.get-in-loop-r.result.now =
-    ap (λ (sets : List ℕ). slice_index sets c.args.var) (get_or_from_slice_get masks r c.get.result.now [] c.get.ensures)
-    ∙ get_or_from_slice_get c.get.result.now c.args.var c.get-in-loop-r.result.now 0 c.get-in-loop-r.ensures in
-    let bit : bit_at (slice_index (get_or masks r []) c.args.var) c.args.code ≡ bit_at c.get-in-loop-r.result.now c.args.code = ap (λ n. bit_at n c.args.code) at in
+    ap (λ (sets : List ℕ). slice_index sets c.args.var)
+    (get_or_from_slice_get masks r c.get.result.now [] c.get.ensures)
+    ∙ get_or_from_slice_get c.get.result.now c.args.var c.get-in-loop-r.result.now 0
+    c.get-in-loop-r.ensures in
+    let bit : bit_at (slice_index (get_or masks r []) c.args.var) c.args.code
+    ≡ bit_at c.get-in-loop-r.result.now c.args.code = ap (λ n. bit_at n c.args.code) at in
     elim c.if-get-code-eq1.branch [
       | then-get-code-eq1+in_ok-push w ↦
           let on : p r ≡ true = eq-eqb _ 1 (bit ∙ w.if-get-code-eq1.true) in

@@ -15,5 +15,7 @@ loop-r-preserved c =
     let same : get_or rows k row ≡ row = get_or_from_slice_get rows k row row c.get.ensures in
     c.in_ok-push.ensures.ok
     ∙ ap (λ (xs : List Bool). xs ++ c.are_codes.result ∷ []) c.loop-r.invariant
-    ∙ ap (λ (b : Bool). map f (take k rows) ++ b ∷ []) (rw c.as_slice.ensures at c.are_codes.ensures)
-    ∙ sym (ap (map f) (take_more rows k row (slice_get_within rows k row c.get.ensures) ∙ ap (λ (r : Row). take k rows ++ r ∷ []) same) ∙ map-append f (take k rows) (row ∷ []))
+    ∙ ap (λ (b : Bool). map f (take k rows) ++ b ∷ [])
+    (rw c.as_slice.ensures at c.are_codes.ensures)
+    ∙ sym (ap (map f) (take_more rows k row (slice_get_within rows k row c.get.ensures)
+    ∙ ap (λ (r : Row). take k rows ++ r ∷ []) same) ∙ map-append f (take k rows) (row ∷ []))

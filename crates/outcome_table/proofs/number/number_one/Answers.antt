@@ -20,19 +20,24 @@ returns-then-len-eq0 c =
     let s = c.args.s.now.codes in
     let old = c.args.made.now in
     let some = c.requires.begins.some in
-    let none = none_left m s c.args.rows.now (fits_long m.vars s c.requires.snapshot) c.requires.rows (sym c.len.ensures ∙ c.if-len-eq0.true) in
-    adds_one m old _ 0 s c.requires.within (take-length old.outcomes) c.in_ok-push.ensures.ok (omega arith)
+    let none = none_left m s c.args.rows.now (fits_long m.vars s c.requires.snapshot)
+    c.requires.rows (sym c.len.ensures ∙ c.if-len-eq0.true) in
+    adds_one m old _ 0 s c.requires.within (take-length old.outcomes) c.in_ok-push.ensures.ok
+    (omega arith)
     (c.requires.begins.blank ∙ ap codes_of (sym none))
 
 -- the row of the number that stands first
-there : (m : Machine) (s rows : List ℕ) (r : ℕ) → (h : IsFirst m s m.rows 0 r) → slice_get m.rows r ≡ Some h.row
-there m s rows r h = let e : r - 0 ≡ r = omega arith in subst (λ k. slice_get m.rows k ≡ Some h.row) e h.at
+there : (m : Machine) (s rows : List ℕ) (r : ℕ) → (h : IsFirst m s m.rows 0 r)
+    → slice_get m.rows r ≡ Some h.row
+there m s rows r h = let e : r - 0 ≡ r = omega arith in
+    subst (λ k. slice_get m.rows k ≡ Some h.row) e h.at
 
 pub get-requires : goal.get-requires
 get-requires c =
     let m = c.args.narrowing.now.machine.now in
     let s = c.args.s.now.codes in
-    let first = first_left m s c.args.rows.now c.get-r.result.now (fits_long m.vars s c.requires.snapshot) c.requires.rows c.get-r.ensures in
+    let first = first_left m s c.args.rows.now c.get-r.result.now
+    (fits_long m.vars s c.requires.snapshot) c.requires.rows c.get-r.ensures in
     let at = there m s c.args.rows.now c.get-r.result.now first in
     let inside = slice_get_within m.rows c.get-r.result.now first.row at in
     let long = c.requires.begins.long in
@@ -40,7 +45,8 @@ get-requires c =
 
 pub overflow_add-r : goal.overflow_add-r
 overflow_add-r c =
-    let inside = slice_get_within c.args.narrowing.now.fixed.now c.get-r.result.now c.get.result.now c.get.ensures in
+    let inside = slice_get_within c.args.narrowing.now.fixed.now c.get-r.result.now c.get.result.now
+    c.get.ensures in
     let long = c.requires.begins.long in
     let few = few_rows c.args.narrowing.now.machine.now in
     omega arith
@@ -51,22 +57,28 @@ returns-then-get c =
     let s = c.args.s.now.codes in
     let old = c.args.made.now in
     let r = c.get-r.result.now in
-    let first = first_left m s c.args.rows.now r (fits_long m.vars s c.requires.snapshot) c.requires.rows c.get-r.ensures in
+    let first = first_left m s c.args.rows.now r (fits_long m.vars s c.requires.snapshot)
+    c.requires.rows c.get-r.ensures in
     let at = there m s c.args.rows.now r first in
     let inside = slice_get_within m.rows r first.row at in
     let some = c.requires.begins.some in
-    let on : slice_get c.args.narrowing.now.fixed.now r ≡ Some true = c.get.ensures ∙ ap (λ (b : Bool). Some b) c.if-get.true in
-    adds_one m old _ (1 + r) s c.requires.within (take-length old.outcomes) c.in_ok-push-2.ensures.ok (omega arith)
+    let on : slice_get c.args.narrowing.now.fixed.now r ≡ Some true =
+    c.get.ensures ∙ ap (λ (b : Bool). Some b) c.if-get.true in
+    adds_one m old _ (1 + r) s c.requires.within (take-length old.outcomes)
+    c.in_ok-push-2.ensures.ok (omega arith)
     (c.requires.begins.rows r first.row at on s ∙ ap codes_of (sym first.gives))
 
 pub get-row-requires : goal.get-row-requires
 get-row-requires c =
-    let inside = slice_get_within c.args.narrowing.now.fixed.now c.get-r.result.now c.get.result.now c.get.ensures in
+    let inside = slice_get_within c.args.narrowing.now.fixed.now c.get-r.result.now c.get.result.now
+    c.get.ensures in
     let long = c.requires.begins.long in
     omega arith
 
 pub row_codes-requires-clause-row : goal.row_codes-requires-clause-row
-row_codes-requires-clause-row c = row_fits c.args.narrowing.now.machine.now c.get-r.result.now c.get-row.result.now c.get-row.ensures
+row_codes-requires-clause-row c =
+    row_fits c.args.narrowing.now.machine.now c.get-r.result.now c.get-row.result.now
+    c.get-row.ensures
 
 pub returns : goal.returns
 returns c =
@@ -75,12 +87,14 @@ returns c =
     let old = c.args.made.now in
     let r = c.get-r.result.now in
     let made : List ℕ = c.in_ok-codes.codes in
-    let first = first_left m s c.args.rows.now r (fits_long m.vars s c.requires.snapshot) c.requires.rows c.get-r.ensures in
+    let first = first_left m s c.args.rows.now r (fits_long m.vars s c.requires.snapshot)
+    c.requires.rows c.get-r.ensures in
     let at = there m s c.args.rows.now r first in
     let same : c.get-row.result.now ≡ first.row = let a = at in let b = c.get-row.ensures in cc in
     let outcomes = c.in_ok-push-3.ensures.ok in
     let size = length_push old.outcomes made in
-    let grown : length c.push-2.new.self ≡ length old.outcomes + 1 = ap (λ (xs : List (List ℕ)). length xs) outcomes ∙ size in
+    let grown : length c.push-2.new.self ≡ length old.outcomes + 1 =
+    ap (λ (xs : List (List ℕ)). length xs) outcomes ∙ size in
     let k = c.len-number.result in
     let last : k ≡ length old.outcomes = c.len-number.ensures in
     adds_one m old _ k s c.requires.within

@@ -8,14 +8,18 @@ use Rattle.outcome_table.proofs.Starting.{all_rows, begin}
 use Rattle.outcome_table.proofs.number.numbers_of.Goals as goal
 
 pub number_rest-requires-clause-rows : goal.number_rest-requires-clause-rows
-number_rest-requires-clause-rows c = all_rows c.args.m.now c.in_ok-rows.rows c.len.result c.in_ok-rows.ensures c.len.ensures
+number_rest-requires-clause-rows c =
+    all_rows c.args.m.now c.in_ok-rows.rows c.len.result c.in_ok-rows.ensures c.len.ensures
 
 pub number_rest-requires-clause-begins : goal.number_rest-requires-clause-begins
-number_rest-requires-clause-begins c = begin c.args.m.now c.in_ok-first_codes.field-0 c.in_ok-fixed.fixed c.in_ok-row_outcomes.field-0 c.in_ok-row_outcomes.ensures c.in_ok-fixed.ensures
+number_rest-requires-clause-begins c =
+    begin c.args.m.now c.in_ok-first_codes.field-0 c.in_ok-fixed.fixed c.in_ok-row_outcomes.field-0
+    c.in_ok-row_outcomes.ensures c.in_ok-fixed.ensures
 
 pub returns-clause-results : goal.returns-clause-results
 returns-clause-results c =
     let m = c.args.m.now in
     c.in_ok-number_rest.ensures.adds.results
-    ∙ ap (λ (xs : List ℕ). named c.in_ok-row_outcomes.field-0 xs ++ map (result_codes m) (lists_after [] m.vars)) c.new.ensures
+    ∙ ap (λ (xs : List ℕ). named c.in_ok-row_outcomes.field-0 xs
+    ++ map (result_codes m) (lists_after [] m.vars)) c.new.ensures
     ∙ ap (map (result_codes c.args.m.now)) (lists_all c.args.m.now.vars)

@@ -9,5 +9,6 @@ abbrev pub invariant-loop-r : goal.invariant-loop-r
 invariant-loop-r l = record {
   long : length l.outcomes ≡ l.r + 1;
   blank : get_or l.outcomes 0 [] ≡ codes_of (blank l.m);
-  rows : (r : ℕ) (row : Row) → r < l.r → slice_get l.m.rows r ≡ Some row → get_or l.outcomes (1 + r) [] ≡ codes_of (outcome_of l.m l.s.codes true row.acts);
+  rows : (r : ℕ) (row : Row) → r < l.r → slice_get l.m.rows r ≡ Some row
+      → get_or l.outcomes (1 + r) [] ≡ codes_of (outcome_of l.m l.s.codes true row.acts);
 }

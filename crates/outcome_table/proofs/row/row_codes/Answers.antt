@@ -21,5 +21,8 @@ pub returns : goal.returns
 returns c =
     let m = c.args.machine.now in
     let some = c.loop-y.invariant.some in
-    let all : c.loop-y.y - 1 ≡ length m.states + length m.outputs = let a = c.loop-y-test.false in let b = c.loop-y.auto.y-end in let e = c.result_count-y-end.ensures.count in omega arith in
-    c.loop-y.invariant.prefix ∙ ap (λ (xs : List ℕ). 1 ∷ xs) (given_apart m c.args.s.now.codes c.args.row.now.acts (c.loop-y.y - 1) (length m.states) (length m.outputs) all)
+    let all : c.loop-y.y - 1 ≡ length m.states + length m.outputs = let a = c.loop-y-test.false in
+    let b = c.loop-y.auto.y-end in let e = c.result_count-y-end.ensures.count in omega arith in
+    c.loop-y.invariant.prefix ∙ ap (λ (xs : List ℕ). 1 ∷ xs)
+    (given_apart m c.args.s.now.codes c.args.row.now.acts (c.loop-y.y - 1) (length m.states)
+    (length m.outputs) all)

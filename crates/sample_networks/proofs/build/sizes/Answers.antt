@@ -2,7 +2,9 @@ use Rattle.sample_networks.proofs.Sizes.{size_at}
 use Rattle.sample_networks.proofs.build.sizes.Goals as goal
 
 pub push-requires-clause-some : goal.push-requires-clause-some
-push-requires-clause-some c = (size_at c.args.sizes.now c.loop-size.size-index c.requires c.loop-size-test.true).0
+push-requires-clause-some c =
+    (size_at c.args.sizes.now c.loop-size.size-index c.requires c.loop-size-test.true).0
 
 pub push-requires-clause-few : goal.push-requires-clause-few
-push-requires-clause-few c = (size_at c.args.sizes.now c.loop-size.size-index c.requires c.loop-size-test.true).1
+push-requires-clause-few c =
+    (size_at c.args.sizes.now c.loop-size.size-index c.requires c.loop-size-test.true).1

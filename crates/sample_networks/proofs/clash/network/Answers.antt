@@ -8,6 +8,9 @@ returns c =
     (record {
       name = c.of_token.ensures;
       domains = c.new.ensures;
-      events = three_made _ _ _ _ _ _ _ _ _ _ c.new-events.ensures c.in_ok-push.ensures.ok c.in_ok-push-2.ensures.ok c.in_ok-push-3.ensures.ok c.in_ok-pure_event.ensures c.in_ok-pure_event-2.ensures c.in_ok-pure_event-3.ensures;
-      machines = one_made _ _ _ _ c.new-machines.ensures c.in_ok-push-4.ensures.ok c.in_ok-clash_machine.ensures;
+      events = three_made _ _ _ _ _ _ _ _ _ _ c.new-events.ensures c.in_ok-push.ensures.ok
+          c.in_ok-push-2.ensures.ok c.in_ok-push-3.ensures.ok c.in_ok-pure_event.ensures
+          c.in_ok-pure_event-2.ensures c.in_ok-pure_event-3.ensures;
+      machines = one_made _ _ _ _ c.new-machines.ensures c.in_ok-push-4.ensures.ok
+          c.in_ok-clash_machine.ensures;
     })

@@ -7,7 +7,10 @@ returns c =
     c.laws_of_data.ensures.same_network _ the_network
     (record {
       name = c.of_token.ensures;
-      domains = one_made _ _ _ _ c.new-domains.ensures c.in_ok-push.ensures.ok c.zero_to_seven.ensures;
-      events = two_made _ _ _ _ _ _ _ c.new-events.ensures c.in_ok-push-2.ensures.ok c.in_ok-push-3.ensures.ok c.in_ok-valued_event.ensures c.in_ok-valued_event-2.ensures;
-      machines = one_made _ _ _ _ c.new-machines.ensures c.in_ok-push-4.ensures.ok c.in_ok-echo_machine.ensures;
+      domains = one_made _ _ _ _ c.new-domains.ensures c.in_ok-push.ensures.ok
+          c.zero_to_seven.ensures;
+      events = two_made _ _ _ _ _ _ _ c.new-events.ensures c.in_ok-push-2.ensures.ok
+          c.in_ok-push-3.ensures.ok c.in_ok-valued_event.ensures c.in_ok-valued_event-2.ensures;
+      machines = one_made _ _ _ _ c.new-machines.ensures c.in_ok-push-4.ensures.ok
+          c.in_ok-echo_machine.ensures;
     })

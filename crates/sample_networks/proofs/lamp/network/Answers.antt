@@ -9,6 +9,8 @@ returns c =
     (record {
       name = c.of_token-3.ensures;
       domains = search rules;
-      events = two_made _ _ _ _ _ _ _ c.new-events.ensures c.in_ok-push-2.ensures.ok c.in_ok-push-3.ensures.ok c.in_ok-pure_event.ensures c.in_ok-pure_event-2.ensures;
-      machines = one_made _ _ _ _ c.new-machines.ensures c.in_ok-push-4.ensures.ok c.in_ok-lamp_machine.ensures;
+      events = two_made _ _ _ _ _ _ _ c.new-events.ensures c.in_ok-push-2.ensures.ok
+          c.in_ok-push-3.ensures.ok c.in_ok-pure_event.ensures c.in_ok-pure_event-2.ensures;
+      machines = one_made _ _ _ _ c.new-machines.ensures c.in_ok-push-4.ensures.ok
+          c.in_ok-lamp_machine.ensures;
     })

@@ -6,17 +6,22 @@ use Rattle.scheduler_gen.proofs.Woken.{at_is_in, find_at, find_past, first_of_pl
 use Rattle.scheduler_gen.proofs.next.first_to_react.Goals as goal
 
 pub woken-requires : goal.woken-requires
-woken-requires c = (c.requires.machines c.get-machine.result.now).0 (at_is_in c.args.plan.now c.loop-i.i c.get-machine.result.now c.get-machine.ensures)
+woken-requires c =
+    (c.requires.machines c.get-machine.result.now).0
+    (at_is_in c.args.plan.now c.loop-i.i c.get-machine.result.now c.get-machine.ensures)
 
 pub returns-then-woken-clause-first : goal.returns-then-woken-clause-first
 returns-then-woken-clause-first c =
     let test = is_woken c.args.config.now.journal in
-    sym (find_at test c.args.plan.now c.loop-i.i c.get-machine.result.now c.loop-i.invariant c.get-machine.ensures (sym c.woken.ensures ∙ c.if-woken.true))
+    sym (find_at test c.args.plan.now c.loop-i.i c.get-machine.result.now c.loop-i.invariant
+    c.get-machine.ensures (sym c.woken.ensures ∙ c.if-woken.true))
     ∙ first_of_plan c.args.config.now.net c.args.plan.now test c.requires
 
 pub loop-i-preserved : goal.loop-i-preserved
 loop-i-preserved c =
-    let next = find_past (is_woken c.args.config.now.journal) c.args.plan.now c.loop-i.i c.get-machine.result.now c.loop-i.invariant c.get-machine.ensures (sym c.woken.ensures ∙ c.if-woken.false) in
+    let next = find_past (is_woken c.args.config.now.journal) c.args.plan.now c.loop-i.i
+    c.get-machine.result.now c.loop-i.invariant c.get-machine.ensures
+    (sym c.woken.ensures ∙ c.if-woken.false) in
     rw add-one next
 
 pub returns-clause-first : goal.returns-clause-first
@@ -27,4 +32,6 @@ returns-clause-first c =
     sym none ∙ first_of_plan c.args.config.now.net c.args.plan.now test c.requires
 
 pub returns-then-woken-clause-below : goal.returns-then-woken-clause-below
-returns-then-woken-clause-below c = (c.requires.machines c.get-machine.result.now).0 (at_is_in c.args.plan.now c.loop-i.i c.get-machine.result.now c.get-machine.ensures)
+returns-then-woken-clause-below c =
+    (c.requires.machines c.get-machine.result.now).0
+    (at_is_in c.args.plan.now c.loop-i.i c.get-machine.result.now c.get-machine.ensures)

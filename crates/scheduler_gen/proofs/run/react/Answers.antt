@@ -7,6 +7,15 @@ use Rattle.scheduler_gen.proofs.run.react.Goals as goal
 
 pub take_picked-requires : goal.take_picked-requires
 take_picked-requires g c =
-    let made = subst (λ (net : Network). OfMachine net c.args.m (λ machine. Transition machine c.snapshot.new.into c.react.new.o)) c.requires.network c.react.ensures in
-    let own = subst (λ (s : Snapshot). OfMachine c.args.config.now.net c.args.m (λ machine. Transition machine s c.react.new.o)) c.snapshot.ensures made in
-    rw c.requires.picked (c.react.new.o, ap (λ (s : Snapshot). Rea c.args.m s c.react.new.o) c.snapshot.ensures, own)
+    let made = subst
+    (λ (net : Network). OfMachine net c.args.m
+    (λ machine. Transition machine c.snapshot.new.into c.react.new.o)) c.requires.network
+    c.react.ensures in
+    let own = subst
+    (λ (s : Snapshot). OfMachine c.args.config.now.net c.args.m
+    (λ machine. Transition machine s c.react.new.o)) c.snapshot.ensures made in
+    rw c.requires.picked (
+      c.react.new.o,
+      ap (λ (s : Snapshot). Rea c.args.m s c.react.new.o) c.snapshot.ensures,
+      own,
+    )

@@ -6,4 +6,6 @@ use Rattle.sgraph.specs.Marks.{turned}
 use Rattle.sgraph.proofs.building.vertices_of.Given as goal
 
 abbrev pub invariant-loop-i : goal.invariant-loop-i
-invariant-loop-i l = l.vertices ≡ Begin 1 ∷ map (λ k. vertex_in (length l.m.vars) (slice_index l.numbers) (inner_at l.store.nodes k)) (turned (drop l.i l.left))
+invariant-loop-i l = l.vertices ≡ Begin 1
+    ∷ map (λ k. vertex_in (length l.m.vars) (slice_index l.numbers) (inner_at l.store.nodes k))
+    (turned (drop l.i l.left))

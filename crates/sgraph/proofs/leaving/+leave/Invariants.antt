@@ -11,6 +11,7 @@ decreases-leave l = l.k
 -- those that follow so far are left
 abbrev pub invariant-loop-j : goal.invariant-loop-j
 invariant-loop-j l = record {
-  left : turned l.left ≡ each (left_after l.k (next_nodes l.store (length l.m.vars))) (turned l.fn.left) (take l.j (next_nodes l.store (length l.m.vars) l.k));
+  left : turned l.left ≡ each (left_after l.k (next_nodes l.store (length l.m.vars)))
+      (turned l.fn.left) (take l.j (next_nodes l.store (length l.m.vars) l.k));
   marks : Marks l.store l.marks l.left;
 }

@@ -11,6 +11,7 @@ decreases-leave l = length l.h.now - l.k
 -- those that follow so far are left
 abbrev pub invariant-loop-j : goal.invariant-loop-j
 invariant-loop-j l = record {
-  left : turned l.left ≡ each (left_after (length l.h) (kids_at l.h)) (turned l.fn.left) (take l.j (kids_at l.h l.k));
+  left : turned l.left ≡ each (left_after (length l.h) (kids_at l.h)) (turned l.fn.left)
+      (take l.j (kids_at l.h l.k));
   marks : MarksOf (length l.h) l.marks l.left;
 }

@@ -14,19 +14,24 @@ number_again-requires c =
     let ok = c.len.ensures.graph in
     let same = c.in_ok-list.ensures in
     record {
-      some = subst (λ (h : List Vertex). 0 < length h) (sym same) (some_vertex g ok reps c.requires.stands);
+      some = subst (λ (h : List Vertex). 0 < length h) (sym same)
+          (some_vertex g ok reps c.requires.stands);
       rises = subst Rises (sym same) (rises g ok reps c.requires.stands);
     }
 
 pub of-requires : goal.of-requires
 of-requires c =
     let same = c.in_ok-list-2.ensures ∙ ap numbered_of c.in_ok-list.ensures in
-    subst IsGraph (sym same) (is_graph c.args.g.now c.args.reps.now c.len.ensures.graph c.requires.numbered c.requires.stands)
+    subst IsGraph (sym same)
+    (is_graph c.args.g.now c.args.reps.now c.len.ensures.graph c.requires.numbered
+    c.requires.stands)
 
 pub returns : goal.returns
 returns c =
     let same = c.of.ensures ∙ c.in_ok-list-2.ensures ∙ ap numbered_of c.in_ok-list.ensures in
     record {
       list = same;
-      keeps = subst (Keeps c.args.g.now) (sym same) (keeps c.args.g.now c.args.reps.now c.len.ensures.graph c.requires.numbered c.requires.stands);
+      keeps = subst (Keeps c.args.g.now) (sym same)
+          (keeps c.args.g.now c.args.reps.now c.len.ensures.graph c.requires.numbered
+          c.requires.stands);
     }

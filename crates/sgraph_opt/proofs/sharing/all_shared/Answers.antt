@@ -8,10 +8,13 @@ loop-k-preserved c =
     let some = c.loop-k-test.true in
     let high = c.loop-k.auto.k in
     let len = c.len-k.ensures.len in
-    sharing_more c.args.g.now c.len.ensures.graph c.loop-k.reps c.set.new.self c.loop-k.index c.shared.new.index c.loop-k.k (c.loop-k.k - 1) c.in_ok-r.r c.loop-k.invariant (omega arith) (omega arith) c.in_ok-r.ensures c.set.ensures
+    sharing_more c.args.g.now c.len.ensures.graph c.loop-k.reps c.set.new.self c.loop-k.index
+    c.shared.new.index c.loop-k.k (c.loop-k.k - 1) c.in_ok-r.r c.loop-k.invariant (omega arith)
+    (omega arith) c.in_ok-r.ensures c.set.ensures
 
 pub returns-clause-shared : goal.returns-clause-shared
 returns-clause-shared c =
     let stop = c.loop-k-test.false in
     let zero_k : c.loop-k.k ≡ 0 = omega arith in
-    sharing_shared c.args.g.now c.loop-k.reps c.loop-k.index c.len.ensures.graph (subst (Sharing c.args.g.now c.loop-k.reps c.loop-k.index) zero_k c.loop-k.invariant)
+    sharing_shared c.args.g.now c.loop-k.reps c.loop-k.index c.len.ensures.graph
+    (subst (Sharing c.args.g.now c.loop-k.reps c.loop-k.index) zero_k c.loop-k.invariant)

@@ -5,7 +5,13 @@ use Rattle.sgraph_opt.proofs.Reducing.{is_reduced_graph, stay_without}
 use Rattle.sgraph_opt.proofs.sharing.share.Goals as goal
 
 pub returns-clause-reduced : goal.returns-clause-reduced
-returns-clause-reduced c = subst Reduced (sym c.in_ok-h.ensures.list) (is_reduced_graph c.args.g.now c.in_ok-reps.reps c.len.ensures.graph c.requires c.in_ok-reps.ensures.stands c.in_ok-reps.ensures.shared)
+returns-clause-reduced c =
+    subst Reduced (sym c.in_ok-h.ensures.list)
+    (is_reduced_graph c.args.g.now c.in_ok-reps.reps c.len.ensures.graph c.requires
+    c.in_ok-reps.ensures.stands c.in_ok-reps.ensures.shared)
 
 pub returns-clause-defaults : goal.returns-clause-defaults
-returns-clause-defaults c = λ without. subst NoDefaults (sym c.in_ok-h.ensures.list) (stay_without c.args.g.now c.in_ok-reps.reps c.len.ensures.graph c.requires c.in_ok-reps.ensures.stands without)
+returns-clause-defaults c = λ without.
+    subst NoDefaults (sym c.in_ok-h.ensures.list)
+    (stay_without c.args.g.now c.in_ok-reps.reps c.len.ensures.graph c.requires
+    c.in_ok-reps.ensures.stands without)

@@ -3,7 +3,8 @@ use Rattle.sgraph_opt.specs.SampleGraphs.{idle_graph}
 use Rattle.sgraph_opt.proofs.tests.idle.Goals as goal
 
 pub of-requires : goal.of-requires
-of-requires c = rw c.in_ok-list.ensures (c.laws.ensures.edges_make_graph 1 (0 ∷ 1 ∷ []) idle_graph refl refl)
+of-requires c =
+    rw c.in_ok-list.ensures (c.laws.ensures.edges_make_graph 1 (0 ∷ 1 ∷ []) idle_graph refl refl)
 
 pub returns : goal.returns
 returns c = rw (c.of.ensures ∙ c.in_ok-list.ensures) refl

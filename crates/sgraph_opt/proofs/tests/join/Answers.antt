@@ -3,7 +3,9 @@ use Rattle.sgraph.specs.SampleGraphs.{join_graph}
 use Rattle.sgraph_opt.proofs.tests.join.Goals as goal
 
 pub of-requires : goal.of-requires
-of-requires c = rw c.in_ok-list.ensures (c.laws.ensures.edges_make_graph 2 (0 ∷ 1 ∷ 2 ∷ 3 ∷ []) join_graph refl refl)
+of-requires c =
+    rw c.in_ok-list.ensures
+    (c.laws.ensures.edges_make_graph 2 (0 ∷ 1 ∷ 2 ∷ 3 ∷ []) join_graph refl refl)
 
 pub returns : goal.returns
 returns c = rw (c.of.ensures ∙ c.in_ok-list.ensures) refl

@@ -22,17 +22,24 @@ push_vertex-requires-clause-kids c = λ j low.
 pub loop-k-preserved : goal.loop-k-preserved
 loop-k-preserved c =
     let g = c.args.g.now in
-    let same : given_by (slice_index c.in_ok-places.places) c.loop-k.k c.get.result.now ≡ given_by (start g) c.loop-k.k c.get.result.now =
-    same_given (slice_index c.in_ok-places.places) (start g) c.loop-k.k c.get.result.now (λ j low. start_at g c.in_ok-places.places (slice_index (kids_of c.get.result.now) j) c.in_ok-places.ensures (c.len-k-end.ensures.graph.within c.loop-k.k c.get.result.now j c.get.ensures low))
+    let same : given_by (slice_index c.in_ok-places.places) c.loop-k.k c.get.result.now
+    ≡ given_by (start g) c.loop-k.k c.get.result.now =
+    same_given (slice_index c.in_ok-places.places) (start g) c.loop-k.k c.get.result.now
+    (λ j low. start_at g c.in_ok-places.places (slice_index (kids_of c.get.result.now) j)
+    c.in_ok-places.ensures
+    (c.len-k-end.ensures.graph.within c.loop-k.k c.get.result.now j c.get.ensures low))
     in
-    one_vertex (start g) g c.loop-k.code c.push_vertex.new.code (laid g) c.loop-k.k c.get.result.now c.loop-k.invariant c.get.ensures (rw (← same) c.in_ok-push_vertex.ensures)
+    one_vertex (start g) g c.loop-k.code c.push_vertex.new.code (laid g) c.loop-k.k c.get.result.now
+    c.loop-k.invariant c.get.ensures (rw (← same) c.in_ok-push_vertex.ensures)
 
 pub of-requires : goal.of-requires
 of-requires c =
     let g = c.args.g.now in
     let long = c.len-k-end.ensures.len in
     let stop = c.loop-k-test.false in
-    let e : c.loop-k.code ≡ laid g = all_vertices (start g) g c.loop-k.code (laid g) c.loop-k.k c.loop-k.invariant (omega arith) in
+    let e : c.loop-k.code ≡ laid g =
+    all_vertices (start g) g c.loop-k.code (laid g) c.loop-k.k c.loop-k.invariant
+    (omega arith) in
     subst IsCode (sym e) (is_code g c.len-k-end.ensures.graph)
 
 pub returns-clause-lowered : goal.returns-clause-lowered
@@ -40,14 +47,17 @@ returns-clause-lowered c =
     let g = c.args.g.now in
     let long = c.len-k-end.ensures.len in
     let stop = c.loop-k-test.false in
-    c.of.ensures ∙ all_vertices (start g) g c.loop-k.code (laid g) c.loop-k.k c.loop-k.invariant (omega arith)
+    c.of.ensures ∙ all_vertices (start g) g c.loop-k.code (laid g) c.loop-k.k c.loop-k.invariant
+    (omega arith)
 
 pub returns-clause-same : goal.returns-clause-same
 returns-clause-same c = λ m s.
     let g = c.args.g.now in
     let long = c.len-k-end.ensures.len in
     let stop = c.loop-k-test.false in
-    let e : c.of.result ≡ laid g = c.of.ensures ∙ all_vertices (start g) g c.loop-k.code (laid g) c.loop-k.k c.loop-k.invariant (omega arith) in
+    let e : c.of.result ≡ laid g = c.of.ensures
+    ∙ all_vertices (start g) g c.loop-k.code (laid g) c.loop-k.k c.loop-k.invariant
+    (omega arith) in
     lowered_same m g c.of.result s (goes_on_from g c.len-k-end.ensures.graph c.requires) e
 
 pub returns-clause-once : goal.returns-clause-once
@@ -55,5 +65,7 @@ returns-clause-once c = λ once.
     let g = c.args.g.now in
     let long = c.len-k-end.ensures.len in
     let stop = c.loop-k-test.false in
-    let e : c.of.result ≡ laid g = c.of.ensures ∙ all_vertices (start g) g c.loop-k.code (laid g) c.loop-k.k c.loop-k.invariant (omega arith) in
+    let e : c.of.result ≡ laid g = c.of.ensures
+    ∙ all_vertices (start g) g c.loop-k.code (laid g) c.loop-k.k c.loop-k.invariant
+    (omega arith) in
     subst OnceCode (sym e) (once_code g (goes_on_from g c.len-k-end.ensures.graph c.requires) once)

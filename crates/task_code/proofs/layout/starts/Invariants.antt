@@ -5,4 +5,9 @@ use Rattle.task_code.proofs.layout.starts.Given as goal
 
 -- the places of the vertices so far, and that of the next one
 abbrev pub invariant-loop-k : goal.invariant-loop-k
-invariant-loop-k l = record { places : l.places ≡ map (start l.g) (upto l.k); next : l.next ≡ start l.g l.k; few : l.next ≤ 2 * l.k }
+invariant-loop-k l =
+    record {
+      places : l.places ≡ map (start l.g) (upto l.k);
+      next : l.next ≡ start l.g l.k;
+      few : l.next ≤ 2 * l.k;
+    }

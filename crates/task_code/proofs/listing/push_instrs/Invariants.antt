@@ -4,4 +4,5 @@ use Rattle.task_code.proofs.listing.push_instrs.Given as goal
 
 -- what is written, with what is left, is the whole
 abbrev pub invariant-loop-k : goal.invariant-loop-k
-invariant-loop-k l = l.out ++ numbered_lines (instr_words l.net l.machine) l.k (drop l.k l.code) ≡ l.fn.out ++ numbered_lines (instr_words l.net l.machine) 0 l.code
+invariant-loop-k l = l.out ++ numbered_lines (instr_words l.net l.machine) l.k (drop l.k l.code)
+    ≡ l.fn.out ++ numbered_lines (instr_words l.net l.machine) 0 l.code

@@ -4,4 +4,8 @@ use Rattle.task_code.proofs.Printing.{more_lines}
 use Rattle.task_code.proofs.listing.push_vertices.Goals as goal
 
 pub loop-k-preserved : goal.loop-k-preserved
-loop-k-preserved c = more_lines (vertex_words c.args.net.now c.args.machine.now) c.args.g.now c.loop-k.k c.get.result.now c.loop-k.out c.push_vertex_line.new.out (c.args.out.now ++ numbered_lines (vertex_words c.args.net.now c.args.machine.now) 0 c.args.g.now) c.loop-k.invariant c.get.ensures c.in_ok-push_vertex_line.ensures
+loop-k-preserved c =
+    more_lines (vertex_words c.args.net.now c.args.machine.now) c.args.g.now c.loop-k.k
+    c.get.result.now c.loop-k.out c.push_vertex_line.new.out
+    (c.args.out.now ++ numbered_lines (vertex_words c.args.net.now c.args.machine.now) 0
+    c.args.g.now) c.loop-k.invariant c.get.ensures c.in_ok-push_vertex_line.ensures

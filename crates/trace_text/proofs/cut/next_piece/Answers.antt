@@ -4,7 +4,10 @@ use Rattle.trace_text.proofs.Cuts.{pieces_cut, pieces_uncut}
 use Rattle.trace_text.proofs.cut.next_piece.Goals as goal
 
 pub returns-then-ends_a_word-clause-piece : goal.returns-then-ends_a_word-clause-piece
-returns-then-ends_a_word-clause-piece c = pieces_cut ends_word c.args.line.now c.loop-k.k c.loop-k-test.true c.loop-k.invariant (sym c.ends_a_word.ensures ∙ c.if-ends_a_word.true)
+returns-then-ends_a_word-clause-piece c =
+    pieces_cut ends_word c.args.line.now c.loop-k.k c.loop-k-test.true c.loop-k.invariant
+    (sym c.ends_a_word.ensures ∙ c.if-ends_a_word.true)
 
 pub returns-clause-piece : goal.returns-clause-piece
-returns-clause-piece c = pieces_uncut ends_word c.args.line.now c.loop-k.k c.requires (omega arith) c.loop-k.invariant
+returns-clause-piece c =
+    pieces_uncut ends_word c.args.line.now c.loop-k.k c.requires (omega arith) c.loop-k.invariant

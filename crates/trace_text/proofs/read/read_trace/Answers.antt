@@ -5,5 +5,7 @@ use Rattle.trace_text.proofs.read.read_trace.Goals as goal
 pub returns-in-Err-clause-fault : goal.returns-in-Err-clause-fault
 returns-in-Err-clause-fault c = λ fault is real.
     let same : c.in-Err.fault ≡ fault = cc in
-    read_fault c.args.net.now c.args.text.now c.loop-rest.line c.loop-rest.trace c.loop-rest.rest.now c.next_line.result.0.now c.next_line.result.1.now fault c.loop-rest.invariant.same c.next_line.ensures.line
+    read_fault c.args.net.now c.args.text.now c.loop-rest.line c.loop-rest.trace
+    c.loop-rest.rest.now c.next_line.result.0.now c.next_line.result.1.now fault
+    c.loop-rest.invariant.same c.next_line.ensures.line
     (c.in-Err.ensures.fault fault (ap Err same) real)

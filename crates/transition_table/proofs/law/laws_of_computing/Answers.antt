@@ -8,6 +8,7 @@ returns c = record {
   only_by_rows = only_by_rows;
   results_fit = results_fit;
   char_by_test = char_by_test;
-  support_by_test = support_by_test c.laws_of_all_codes.ensures.lists_fit c.laws_of_all_codes.ensures.lists_all;
+  support_by_test =
+      support_by_test c.laws_of_all_codes.ensures.lists_fit c.laws_of_all_codes.ensures.lists_all;
   same_on_support = same_on_support c.laws_of_all_codes.ensures.lists_all;
 }

@@ -5,7 +5,8 @@ use Rattle.decision_diagram.proofs.store.Store.+apply.Given as goal
 
 -- the nodes that are read are ever later in the order
 abbrev pub decreases-apply : goal.decreases-apply
-decreases-apply l = length l.self.now.order - min (level_of l.self.now l.a) (level_of l.self.now l.b)
+decreases-apply l =
+    length l.self.now.order - min (level_of l.self.now l.a) (level_of l.self.now l.b)
 
 abbrev pub invariant-loop-code : goal.invariant-loop-code
 invariant-loop-code l = record {

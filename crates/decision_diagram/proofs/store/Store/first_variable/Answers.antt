@@ -6,12 +6,14 @@ use Rattle.decision_diagram.proofs.store.Store.first_variable.Goals as goal
 pub place_of-requires : goal.place_of-requires
 place_of-requires c =
     let ok = subst (λ (d : Diagrams). AreReduced d) c.self.view_is c.self.invariant.reduced in
-    subst (λ (d : Diagrams). c.inner.result.now.var < length d.order) (sym c.self.view_is) (var_below c.args.self.now ok c.number.result c.inner.result.now c.inner.ensures.node)
+    subst (λ (d : Diagrams). c.inner.result.now.var < length d.order) (sym c.self.view_is)
+    (var_below c.args.self.now ok c.number.result c.inner.result.now c.inner.ensures.node)
 
 pub place_of-requires-2 : goal.place_of-requires-2
 place_of-requires-2 c =
     let ok = subst (λ (d : Diagrams). AreReduced d) c.self.view_is c.self.invariant.reduced in
-    subst (λ (d : Diagrams). c.inner-2.result.now.var < length d.order) (sym c.self.view_is) (var_below c.args.self.now ok c.number-2.result c.inner-2.result.now c.inner-2.ensures.node)
+    subst (λ (d : Diagrams). c.inner-2.result.now.var < length d.order) (sym c.self.view_is)
+    (var_below c.args.self.now ok c.number-2.result c.inner-2.result.now c.inner-2.ensures.node)
 
 pub returns-then-place_of-clause-var : goal.returns-then-place_of-clause-var
 returns-then-place_of-clause-var c =

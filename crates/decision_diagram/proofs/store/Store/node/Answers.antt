@@ -8,46 +8,64 @@ use Rattle.decision_diagram.proofs.Meanings.{means_only, means_found, new_node, 
 use Rattle.decision_diagram.proofs.store.Store.node.Goals as goal
 
 pub returns-in-Some-clause-value : goal.returns-in-Some-clause-value
-returns-in-Some-clause-value c = means_only c.args.self.now c.args.var c.args.kids.now c.in-Some.kid c.requires.var c.requires.kids c.requires.nodes c.in-Some.ensures.some c.in-Some.ensures.there
+returns-in-Some-clause-value c =
+    means_only c.args.self.now c.args.var c.args.kids.now c.in-Some.kid c.requires.var
+    c.requires.kids c.requires.nodes c.in-Some.ensures.some c.in-Some.ensures.there
 
 pub push_node-requires-clause-new : goal.push_node-requires-clause-new
 push_node-requires-clause-new c =
     let ok = subst (λ (d : Diagrams). AreReduced d) c.self.view_is c.self.invariant.reduced in
-    let indexed = subst (λ (d : Diagrams). IsIndexed d.nodes c.self.inside.index) c.self.view_is c.self.invariant.indexed in
-    let none : found c.self.inside.index c.deref.result.now ≡ None = sym c.find.ensures ∙ c.in-None.is in
-    new_node c.args.self.now ok c.self.inside.index c.args.var c.args.kids.now c.deref.result.now indexed (c.deref.ensures.value ∙ c.in_ok-key.ensures) none c.requires.var c.requires.kids c.requires.nodes c.requires.later c.in_default.ensures.none
+    let indexed = subst (λ (d : Diagrams). IsIndexed d.nodes c.self.inside.index) c.self.view_is
+    c.self.invariant.indexed in
+    let none : found c.self.inside.index c.deref.result.now ≡ None =
+    sym c.find.ensures ∙ c.in-None.is in
+    new_node c.args.self.now ok c.self.inside.index c.args.var c.args.kids.now c.deref.result.now
+    indexed (c.deref.ensures.value ∙ c.in_ok-key.ensures) none c.requires.var c.requires.kids
+    c.requires.nodes c.requires.later c.in_default.ensures.none
 
 pub returns-in-Some-find-clause-value : goal.returns-in-Some-find-clause-value
 returns-in-Some-find-clause-value c =
     let s = c.args.self.now in
     let ok = subst (λ (d : Diagrams). AreReduced d) c.self.view_is c.self.invariant.reduced in
-    let indexed = subst (λ (d : Diagrams). IsIndexed d.nodes c.self.inside.index) c.self.view_is c.self.invariant.indexed in
-    let some : found c.self.inside.index c.deref.result.now ≡ Some c.in-Some-find.number = sym c.find.ensures ∙ c.in-Some-find.is in
-    let w = indexed_node s c.self.inside.index c.args.var c.args.kids.now c.deref.result.now c.in-Some-find.number indexed (c.deref.ensures.value ∙ c.in_ok-key.ensures) some in
-    subst (λ (n : ℕ). Means s n (choice s c.args.var c.args.kids.now)) (sym c.new.ensures) (means_found s ok c.args.var c.args.kids.now c.in-Some-find.number w)
+    let indexed = subst (λ (d : Diagrams). IsIndexed d.nodes c.self.inside.index) c.self.view_is
+    c.self.invariant.indexed in
+    let some : found c.self.inside.index c.deref.result.now ≡ Some c.in-Some-find.number =
+    sym c.find.ensures ∙ c.in-Some-find.is in
+    let w = indexed_node s c.self.inside.index c.args.var c.args.kids.now c.deref.result.now
+    c.in-Some-find.number indexed (c.deref.ensures.value ∙ c.in_ok-key.ensures) some in
+    subst (λ (n : ℕ). Means s n (choice s c.args.var c.args.kids.now)) (sym c.new.ensures)
+    (means_found s ok c.args.var c.args.kids.now c.in-Some-find.number w)
 
 -- the node that was put may be made
-is_new : (c : goal.After-push_node) → IsNew c.args.self.now (record { var = c.args.var; kids = c.args.kids.now })
+is_new : (c : goal.After-push_node)
+    → IsNew c.args.self.now (record { var = c.args.var; kids = c.args.kids.now })
 is_new c =
     let ok = subst (λ (d : Diagrams). AreReduced d) c.self.view_is c.self.invariant.reduced in
-    let indexed = subst (λ (d : Diagrams). IsIndexed d.nodes c.self.inside.index) c.self.view_is c.self.invariant.indexed in
-    let none : found c.self.inside.index c.deref.result.now ≡ None = sym c.find.ensures ∙ c.in-None.is in
-    new_node c.args.self.now ok c.self.inside.index c.args.var c.args.kids.now c.deref.result.now indexed (c.deref.ensures.value ∙ c.in_ok-key.ensures) none c.requires.var c.requires.kids c.requires.nodes c.requires.later c.in_default.ensures.none
+    let indexed = subst (λ (d : Diagrams). IsIndexed d.nodes c.self.inside.index) c.self.view_is
+    c.self.invariant.indexed in
+    let none : found c.self.inside.index c.deref.result.now ≡ None =
+    sym c.find.ensures ∙ c.in-None.is in
+    new_node c.args.self.now ok c.self.inside.index c.args.var c.args.kids.now c.deref.result.now
+    indexed (c.deref.ensures.value ∙ c.in_ok-key.ensures) none c.requires.var c.requires.kids
+    c.requires.nodes c.requires.later c.in_default.ensures.none
 
 pub returns-in-None-clause-kept : goal.returns-in-None-clause-kept
 returns-in-None-clause-kept c =
     let ok = subst (λ (d : Diagrams). AreReduced d) c.self.view_is c.self.invariant.reduced in
     let node : Node = record { var = c.args.var; kids = c.args.kids.now } in
-    pushed_keeps c.args.self.now c.push_node.new.self ok node (is_new c) c.push_node.result c.push_node.ensures.ok c.push_node.ensures.err
+    pushed_keeps c.args.self.now c.push_node.new.self ok node (is_new c) c.push_node.result
+    c.push_node.ensures.ok c.push_node.ensures.err
 
 pub returns-in-None-clause-value : goal.returns-in-None-clause-value
 returns-in-None-clause-value c =
     let ok = subst (λ (d : Diagrams). AreReduced d) c.self.view_is c.self.invariant.reduced in
     let node : Node = record { var = c.args.var; kids = c.args.kids.now } in
-    pushed_means c.args.self.now c.push_node.new.self ok node (is_new c) c.push_node.result c.push_node.ensures.ok c.push_node.ensures.number
+    pushed_means c.args.self.now c.push_node.new.self ok node (is_new c) c.push_node.result
+    c.push_node.ensures.ok c.push_node.ensures.number
 
 pub returns-in-None-clause-level : goal.returns-in-None-clause-level
 returns-in-None-clause-level c =
     let ok = subst (λ (d : Diagrams). AreReduced d) c.self.view_is c.self.invariant.reduced in
     let node : Node = record { var = c.args.var; kids = c.args.kids.now } in
-    pushed_level c.args.self.now c.push_node.new.self ok node (is_new c) c.push_node.result c.push_node.ensures.ok c.push_node.ensures.number
+    pushed_level c.args.self.now c.push_node.new.self ok node (is_new c) c.push_node.result
+    c.push_node.ensures.ok c.push_node.ensures.number

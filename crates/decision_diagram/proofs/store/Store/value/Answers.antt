@@ -16,8 +16,11 @@ pub child-at-requires-clause-code : goal.child-at-requires-clause-code
 child-at-requires-clause-code c =
     let below = c.in-Inner.ensures.var c.in-Inner.var refl in
     let long = c.in-Inner.ensures.kids c.in-Inner.var refl in
-    let fit = fits_at c.args.self.now.sizes c.args.codes.now c.requires.codes c.in-Inner.var below in
-    let is : slice_index c.args.codes.now c.in-Inner.var ≡ c.get.result.now = subst (λ (k : ℕ). slice_index c.args.codes.now k ≡ c.get.result.now) c.from.ensures (read c.args.codes.now c.from.result c.get.result.now 0 c.get.ensures) in
+    let fit = fits_at c.args.self.now.sizes c.args.codes.now c.requires.codes c.in-Inner.var
+    below in
+    let is : slice_index c.args.codes.now c.in-Inner.var ≡ c.get.result.now =
+    subst (λ (k : ℕ). slice_index c.args.codes.now k ≡ c.get.result.now) c.from.ensures
+    (read c.args.codes.now c.from.result c.get.result.now 0 c.get.ensures) in
     omega arith
 
 pub loop-var-smaller : goal.loop-var-smaller
@@ -28,6 +31,13 @@ loop-var-smaller c =
 
 pub loop-var-preserved : goal.loop-var-preserved
 loop-var-preserved c =
-    let is : slice_index c.args.codes.now c.in-Inner.var ≡ c.get.result.now = subst (λ (k : ℕ). slice_index c.args.codes.now k ≡ c.get.result.now) c.from.ensures (read c.args.codes.now c.from.result c.get.result.now 0 c.get.ensures) in
-    let shape : shape_of c.args.self.now c.loop-var.at ≡ Inner c.in-Inner.var = sym c.shape.ensures.shape ∙ c.in-Inner.is in
-    record { node = c.child-at.ensures.node; same = c.loop-var.invariant.same ∙ c.child-at.ensures.value c.in-Inner.var c.args.codes.now shape is }
+    let is : slice_index c.args.codes.now c.in-Inner.var ≡ c.get.result.now =
+    subst (λ (k : ℕ). slice_index c.args.codes.now k ≡ c.get.result.now) c.from.ensures
+    (read c.args.codes.now c.from.result c.get.result.now 0 c.get.ensures) in
+    let shape : shape_of c.args.self.now c.loop-var.at ≡ Inner c.in-Inner.var =
+    sym c.shape.ensures.shape ∙ c.in-Inner.is in
+    record {
+      node = c.child-at.ensures.node;
+      same = c.loop-var.invariant.same ∙ c.child-at.ensures.value c.in-Inner.var c.args.codes.now
+          shape is;
+    }

@@ -7,11 +7,18 @@ use Rattle.net_core.proofs.config.Config.cursor.Goals as goal
 
 pub get-requires : goal.get-requires
 get-requires c =
-    let below = subst (λ (m : Moment). c.args.m < length m.net.machines) (sym c.self.view_is) c.requires in
-    let size = ap length c.self.invariant.cursors_are ∙ length-table (cursor c.self.inside.net.now c.self.inside.trace.now c.self.inside.journal) (length c.self.inside.net.now.machines) in
+    let below = subst (λ (m : Moment). c.args.m < length m.net.machines) (sym c.self.view_is)
+    c.requires in
+    let size = ap length c.self.invariant.cursors_are
+    ∙ length-table (cursor c.self.inside.net.now c.self.inside.trace.now c.self.inside.journal)
+    (length c.self.inside.net.now.machines) in
     omega arith
 
 pub returns : goal.returns
 returns c =
-    let below = subst (λ (m : Moment). c.args.m < length m.net.machines) (sym c.self.view_is) c.requires in
-    rw (← c.self.view_is) (table_item (cursor c.self.inside.net.now c.self.inside.trace.now c.self.inside.journal) (length c.self.inside.net.now.machines) c.self.inside.tables.cursors c.args.m c.get.result.now c.self.invariant.cursors_are below c.get.ensures)
+    let below = subst (λ (m : Moment). c.args.m < length m.net.machines) (sym c.self.view_is)
+    c.requires in
+    rw (← c.self.view_is)
+    (table_item (cursor c.self.inside.net.now c.self.inside.trace.now c.self.inside.journal)
+    (length c.self.inside.net.now.machines) c.self.inside.tables.cursors c.args.m
+    c.get.result.now c.self.invariant.cursors_are below c.get.ensures)

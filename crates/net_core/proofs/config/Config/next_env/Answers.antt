@@ -12,9 +12,11 @@ use Rattle.net_core.proofs.Numbers.{length-table}
 use Rattle.net_core.proofs.config.Config.next_env.Goals as goal
 
 -- the number of the cursors, and the first of the least
-few : (n m : ℕ) (cursors slice : List ℕ) → slice ≡ cursors → length cursors ≡ n → IsFirstBest nat_lt slice (length slice) m → IsFirstBest nat_lt cursors n m
+few : (n m : ℕ) (cursors slice : List ℕ) → slice ≡ cursors → length cursors ≡ n
+    → IsFirstBest nat_lt slice (length slice) m → IsFirstBest nat_lt cursors n m
 few n m cursors slice same size best =
-    subst (λ (k : ℕ). IsFirstBest nat_lt cursors k m) size (subst (λ (l : List ℕ). IsFirstBest nat_lt l (length l) m) same best)
+    subst (λ (k : ℕ). IsFirstBest nat_lt cursors k m) size
+    (subst (λ (l : List ℕ). IsFirstBest nat_lt l (length l) m) same best)
 
 twice : (b : Bool) → not (not b) ≡ b
 twice true = refl
@@ -24,14 +26,18 @@ pub returns-then-len-eq0-clause-first : goal.returns-then-len-eq0-clause-first
 returns-then-len-eq0-clause-first c =
     let i = c.self.inside in
     let none : length i.net.now.machines ≡ 0 = omega arith in
-    let owes = sym (ap head_of (no_machines_read i.net.now i.trace.now i.journal c.sending_laws.ensures.none_at_ends none)) in
+    let owes = sym (ap head_of
+    (no_machines_read i.net.now i.trace.now i.journal c.sending_laws.ensures.none_at_ends
+    none)) in
     rw (← c.self.view_is) owes
 
 pub overflow_cast-m : goal.overflow_cast-m
 overflow_cast-m c =
     let i = c.self.inside in
-    let size = ap length c.self.invariant.cursors_are ∙ length-table (cursor i.net.now i.trace.now i.journal) (length i.net.now.machines) in
-    let best = few (length i.net.now.machines) c.first_least-m.result i.tables.cursors c.as_slice.result.now c.as_slice.ensures size c.first_least-m.ensures in
+    let size = ap length c.self.invariant.cursors_are
+    ∙ length-table (cursor i.net.now i.trace.now i.journal) (length i.net.now.machines) in
+    let best = few (length i.net.now.machines) c.first_least-m.result i.tables.cursors
+    c.as_slice.result.now c.as_slice.ensures size c.first_least-m.ensures in
     let below = best.0 in
     let sixty_four : length i.net.now.machines ≤ 64 = i.net.now.few_machines in
     omega arith
@@ -39,18 +45,27 @@ overflow_cast-m c =
 pub cursor-place-requires : goal.cursor-place-requires
 cursor-place-requires c =
     let i = c.self.inside in
-    let size = ap length c.self.invariant.cursors_are ∙ length-table (cursor i.net.now i.trace.now i.journal) (length i.net.now.machines) in
-    let best = few (length i.net.now.machines) c.first_least-m.result i.tables.cursors c.as_slice.result.now c.as_slice.ensures size c.first_least-m.ensures in
+    let size = ap length c.self.invariant.cursors_are
+    ∙ length-table (cursor i.net.now i.trace.now i.journal) (length i.net.now.machines) in
+    let best = few (length i.net.now.machines) c.first_least-m.result i.tables.cursors
+    c.as_slice.result.now c.as_slice.ensures size c.first_least-m.ensures in
     rw (← c.self.view_is) best.0
 
 pub returns-then-place-len-clause-first : goal.returns-then-place-len-clause-first
 returns-then-place-len-clause-first c =
     let i = c.self.inside in
-    let size = ap length c.self.invariant.cursors_are ∙ length-table (cursor i.net.now i.trace.now i.journal) (length i.net.now.machines) in
-    let best = few (length i.net.now.machines) c.first_least-m.result i.tables.cursors c.as_slice.result.now c.as_slice.ensures size c.first_least-m.ensures in
-    let at = subst (λ (m : Moment). c.cursor-place.result ≡ cursor m.net m.trace m.journal c.first_least-m.result) (sym c.self.view_is) c.cursor-place.ensures in
-    let past : length i.trace.now ≤ cursor i.net.now i.trace.now i.journal c.first_least-m.result = omega arith in
-    let owes = sym (ap head_of (none_left i.net.now i.trace.now i.journal i.tables.cursors c.first_least-m.result c.sending_laws.ensures.none_at_ends c.self.invariant.cursors_are best past)) in
+    let size = ap length c.self.invariant.cursors_are
+    ∙ length-table (cursor i.net.now i.trace.now i.journal) (length i.net.now.machines) in
+    let best = few (length i.net.now.machines) c.first_least-m.result i.tables.cursors
+    c.as_slice.result.now c.as_slice.ensures size c.first_least-m.ensures in
+    let at = subst (λ (m : Moment). c.cursor-place.result
+    ≡ cursor m.net m.trace m.journal c.first_least-m.result) (sym c.self.view_is)
+    c.cursor-place.ensures in
+    let past : length i.trace.now ≤ cursor i.net.now i.trace.now i.journal c.first_least-m.result =
+    omega arith in
+    let owes = sym (ap head_of
+    (none_left i.net.now i.trace.now i.journal i.tables.cursors c.first_least-m.result
+    c.sending_laws.ensures.none_at_ends c.self.invariant.cursors_are best past)) in
     rw (← c.self.view_is) owes
 
 pub returns-in-Event-clause-first : goal.returns-in-Event-clause-first
@@ -60,19 +75,29 @@ returns-in-Event-clause-first c =
     let e = c.in-Event.event in
     let code = c.in-Event.code in
     let b = c.is_settled.result in
-    let size = ap length c.self.invariant.cursors_are ∙ length-table (cursor i.net.now i.trace.now i.journal) (length i.net.now.machines) in
-    let best = few (length i.net.now.machines) m i.tables.cursors c.as_slice.result.now c.as_slice.ensures size c.first_least-m.ensures in
-    let at = subst (λ (x : Moment). c.cursor-place.result ≡ cursor x.net x.trace x.journal m) (sym c.self.view_is) c.cursor-place.ensures in
-    let item = subst (λ (k : ℕ). slice_get i.trace.now k ≡ Some (Event e code)) at (c.get.ensures ∙ ap Some c.in-Event.is) in
-    let settled = subst (λ (k : ℕ). settled_at i.trace.now k ≡ b) at (settled_says i.trace.now c.cursor-place.result b c.is_settled.ensures) in
-    let first = first_at_least i.net.now i.trace.now i.journal i.tables.cursors m e code b c.sending_laws.ensures.first_of_cursors c.self.invariant.cursors_are best item settled in
-    let same = ap (λ (b : Bool). let p : Owed × Bool = (record { from = Env; to = m; event = e; code = code }, b) in Some p) (twice b) in
-    subst (λ (x : Moment). Some (record { from = Env; to = m; event = e; code = code }, not (not b)) ≡ head_of (owed_by_env x.net x.trace x.journal)) c.self.view_is (same ∙ sym first)
+    let size = ap length c.self.invariant.cursors_are
+    ∙ length-table (cursor i.net.now i.trace.now i.journal) (length i.net.now.machines) in
+    let best = few (length i.net.now.machines) m i.tables.cursors c.as_slice.result.now
+    c.as_slice.ensures size c.first_least-m.ensures in
+    let at = subst (λ (x : Moment). c.cursor-place.result ≡ cursor x.net x.trace x.journal m)
+    (sym c.self.view_is) c.cursor-place.ensures in
+    let item = subst (λ (k : ℕ). slice_get i.trace.now k ≡ Some (Event e code)) at
+    (c.get.ensures ∙ ap Some c.in-Event.is) in
+    let settled = subst (λ (k : ℕ). settled_at i.trace.now k ≡ b) at
+    (settled_says i.trace.now c.cursor-place.result b c.is_settled.ensures) in
+    let first = first_at_least i.net.now i.trace.now i.journal i.tables.cursors m e code b
+    c.sending_laws.ensures.first_of_cursors c.self.invariant.cursors_are best item settled in
+    let same = ap (λ (b : Bool). let p : Owed
+    × Bool = (record { from = Env; to = m; event = e; code = code }, b) in Some p) (twice b) in
+    subst (λ (x : Moment). Some (record { from = Env; to = m; event = e; code = code }, not (not b))
+    ≡ head_of (owed_by_env x.net x.trace x.journal)) c.self.view_is (same ∙ sym first)
 
 pub returns-in-Settle-clause-first : goal.returns-in-Settle-clause-first
 returns-in-Settle-clause-first c =
     let i = c.self.inside in
     let m = c.first_least-m.result in
-    let at = subst (λ (x : Moment). c.cursor-place.result ≡ cursor x.net x.trace x.journal m) (sym c.self.view_is) c.cursor-place.ensures in
-    let item = subst (λ (k : ℕ). slice_get i.trace.now k ≡ Some Settle) at (c.get.ensures ∙ ap Some c.in-Settle.is) in
+    let at = subst (λ (x : Moment). c.cursor-place.result ≡ cursor x.net x.trace x.journal m)
+    (sym c.self.view_is) c.cursor-place.ensures in
+    let item = subst (λ (k : ℕ). slice_get i.trace.now k ≡ Some Settle) at
+    (c.get.ensures ∙ ap Some c.in-Settle.is) in
     absurd (c.sending_laws.ensures.events_at_cursors i.net.now i.trace.now i.journal m item)

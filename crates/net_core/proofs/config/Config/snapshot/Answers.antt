@@ -6,7 +6,10 @@ use Rattle.net_core.proofs.config.Config.snapshot.Goals as goal
 pub copy_codes-requires : goal.copy_codes-requires
 copy_codes-requires c =
     let before = c.args.self.now in
-    c.requires.width ∙ sym (ap (λ (s : Snapshot). length s.codes) c.moment.ensures ∙ length-snap before.net before.journal c.args.m)
+    c.requires.width
+    ∙ sym (ap (λ (s : Snapshot). length s.codes) c.moment.ensures
+    ∙ length-snap before.net before.journal c.args.m)
 
 pub returns : goal.returns
-returns c = let same = c.copy_codes.ensures ∙ ap (λ (s : Snapshot). s.codes) c.moment.ensures in λ i. record { codes = same i }
+returns c = let same = c.copy_codes.ensures ∙ ap (λ (s : Snapshot). s.codes) c.moment.ensures in
+    λ i. record { codes = same i }

@@ -4,11 +4,14 @@ use Rattle.net_core.proofs.config.Config.woken.Goals as goal
 
 pub is_set-requires : goal.is_set-requires
 is_set-requires c =
-    let below = subst (λ (m : Moment). c.args.m < length m.net.machines) (sym c.self.view_is) c.requires in
-    let sixty_four : length c.self.inside.net.now.machines ≤ 64 = c.self.inside.net.now.few_machines in
+    let below = subst (λ (m : Moment). c.args.m < length m.net.machines) (sym c.self.view_is)
+    c.requires in
+    let sixty_four : length c.self.inside.net.now.machines ≤ 64 =
+    c.self.inside.net.now.few_machines in
     omega arith
 
 pub returns : goal.returns
 returns c =
-    let below = subst (λ (m : Moment). c.args.m < length m.net.machines) (sym c.self.view_is) c.requires in
+    let below = subst (λ (m : Moment). c.args.m < length m.net.machines) (sym c.self.view_is)
+    c.requires in
     rw (← c.self.view_is) (c.is_set.ensures ∙ c.self.invariant.woken_are c.args.m below)

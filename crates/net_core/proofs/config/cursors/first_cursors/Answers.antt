@@ -7,6 +7,8 @@ use Rattle.net_core.proofs.config.cursors.first_cursors.Goals as goal
 pub loop-m-preserved : goal.loop-m-preserved
 loop-m-preserved c =
     let at : ℕ → ℕ = λ m. nth_place (is_read c.args.net.now m) c.args.trace.now 0 in
-    let first : c.next_read.result ≡ at c.loop-m.m = c.next_read.ensures ∙ zero-add _ ∙ sym (nth_place_first (is_read c.args.net.now c.loop-m.m) c.args.trace.now) in
+    let first : c.next_read.result ≡ at c.loop-m.m =
+    c.next_read.ensures ∙ zero-add _ ∙ sym
+    (nth_place_first (is_read c.args.net.now c.loop-m.m) c.args.trace.now) in
     c.in_ok-push.ensures.ok ∙ ap (λ (l : List ℕ). l ++ c.next_read.result ∷ []) c.loop-m.invariant
     ∙ rw first (sym (upto_more at c.loop-m.m))

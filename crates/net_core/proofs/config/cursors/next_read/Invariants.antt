@@ -5,4 +5,6 @@ use Rattle.net_core.proofs.config.cursors.next_read.Given as goal
 
 -- none before this one is read
 abbrev pub invariant-loop-place : goal.invariant-loop-place
-invariant-loop-place l = l.place + prefix_len (λ item. not (is_read l.net l.m item)) (drop l.place l.trace) ≡ l.from + prefix_len (λ item. not (is_read l.net l.m item)) (drop l.from l.trace)
+invariant-loop-place l =
+    l.place + prefix_len (λ item. not (is_read l.net l.m item)) (drop l.place l.trace)
+    ≡ l.from + prefix_len (λ item. not (is_read l.net l.m item)) (drop l.from l.trace)

@@ -10,7 +10,8 @@ use Rattle.net_core.proofs.config.emissions.emit_all.Goals as goal
 
 pub bounds-readers-event : goal.bounds-readers-event
 bounds-readers-event c =
-    let event = output_is_event c.args.net.now c.args.m c.get.result.now c.loop-k.k c.get-event.result.now c.get.ensures c.get-event.ensures in
+    let event = output_is_event c.args.net.now c.args.m c.get.result.now c.loop-k.k
+    c.get-event.result.now c.get.ensures c.get-event.ensures in
     let long = c.requires.readers.long in
     omega arith
 
@@ -28,10 +29,13 @@ loop-k-preserved c =
     let xs : List Owed = old.0 in
     let one : List Owed = given m e code left in
     let of : List (ℕ × ℕ) → List Owed = flat_map (deliveries_of net (Sender m)) in
-    let event = ap (λ (l : List ℕ). slice_get l k) (outputs_of_machine net m c.get.result.now c.get.ensures) ∙ c.get-event.ensures in
+    let event = ap (λ (l : List ℕ). slice_get l k)
+    (outputs_of_machine net m c.get.result.now c.get.ensures) ∙ c.get-event.ensures in
     let below = output_is_event net m c.get.result.now k e c.get.ensures c.get-event.ensures in
-    let here = given_and_rest net m outputs outs k e code left event c.get-in-loop-k.ensures (c.requires.readers.are e below) in
-    let added : IsMore c.loop-k.records.items c.loop-k.last.items c.emit.new.records.items c.emit.new.last.items one = c.emit.ensures.more in
+    let here = given_and_rest net m outputs outs k e code left event c.get-in-loop-k.ensures
+    (c.requires.readers.are e below) in
+    let added : IsMore c.loop-k.records.items c.loop-k.last.items c.emit.new.records.items
+    c.emit.new.last.items one = c.emit.ensures.more in
     let few = c.loop-k.invariant.few in
     let room = c.loop-k.invariant.room in
     let len = c.emit.ensures.len in
@@ -39,8 +43,10 @@ loop-k-preserved c =
     record {
       more = (
         xs ++ one,
-        more_and_more c.args.records.now.items c.args.last.now.items c.loop-k.records.items c.loop-k.last.items c.emit.new.records.items c.emit.new.last.items xs one old.1 added,
-        append_assoc xs one (of (emitted (drop (k + 1) outputs) (drop (k + 1) outs))) ∙ ap (λ (l : List Owed). xs ++ l) here ∙ old.2,
+        more_and_more c.args.records.now.items c.args.last.now.items c.loop-k.records.items
+            c.loop-k.last.items c.emit.new.records.items c.emit.new.last.items xs one old.1 added,
+        append_assoc xs one (of (emitted (drop (k + 1) outputs) (drop (k + 1) outs)))
+            ∙ ap (λ (l : List Owed). xs ++ l) here ∙ old.2,
       );
       few = omega arith;
       room = omega arith;

@@ -12,7 +12,10 @@ loop-event-preserved c =
     let event = c.loop-event.event in
     let inv = c.loop-event.invariant in
     record {
-      long = ap length c.in_ok-push.ensures.items ∙ length_push sets c.readers_of.result ∙ (let long = inv.long in omega arith);
-      are = subst (λ (l : List ℕ). (e : ℕ) → e < event + 1 → members (get_or l e 0) ≡ receivers_of net e) (sym c.in_ok-push.ensures.items)
-          (readers_more net sets event c.readers_of.result inv.long (omega arith) c.readers_of.ensures inv.are);
+      long = ap length c.in_ok-push.ensures.items ∙ length_push sets c.readers_of.result
+          ∙ (let long = inv.long in omega arith);
+      are = subst (λ (l : List ℕ). (e : ℕ) → e < event + 1
+          → members (get_or l e 0) ≡ receivers_of net e) (sym c.in_ok-push.ensures.items)
+          (readers_more net sets event c.readers_of.result inv.long (omega arith)
+          c.readers_of.ensures inv.are);
     }

@@ -11,7 +11,9 @@ returns-then-place-len c =
     let at = get_or_from_slice_get c.args.cursors.now c.args.m place 0 c.get-place.ensures in
     let end = c.len.ensures in
     let below = lt-ltb place (length c.args.trace.now) (omega arith) in
-    c.set.ensures ∙ ap (set c.args.cursors.now c.args.m) (c.next_read.ensures ∙ sym (ap (next_place c.args.net.now c.args.trace.now c.args.m) at ∙ rw below refl))
+    c.set.ensures ∙ ap (set c.args.cursors.now c.args.m)
+    (c.next_read.ensures
+    ∙ sym (ap (next_place c.args.net.now c.args.trace.now c.args.m) at ∙ rw below refl))
 
 pub returns-else-place-len : goal.returns-else-place-len
 returns-else-place-len c =
@@ -19,4 +21,6 @@ returns-else-place-len c =
     let at = get_or_from_slice_get c.args.cursors.now c.args.m place 0 c.get-place.ensures in
     let end = c.len.ensures in
     let above = le-ltb place (length c.args.trace.now) (omega arith) in
-    sym (ap (set c.args.cursors.now c.args.m) (ap (next_place c.args.net.now c.args.trace.now c.args.m) at ∙ rw above (sym at)) ∙ set-get_or c.args.cursors.now c.args.m 0)
+    sym (ap (set c.args.cursors.now c.args.m)
+    (ap (next_place c.args.net.now c.args.trace.now c.args.m) at ∙ rw above (sym at))
+    ∙ set-get_or c.args.cursors.now c.args.m 0)

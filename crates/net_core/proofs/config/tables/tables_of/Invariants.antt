@@ -4,4 +4,6 @@ use Rattle.net_core.proofs.config.tables.tables_of.Given as goal
 
 -- the entries before this one are taken
 abbrev pub invariant-loop-i : goal.invariant-loop-i
-invariant-loop-i l = AreTables l.net l.trace (take l.i l.journal) l.tables.readers.items l.tables.moments.items l.tables.woken l.tables.cursors l.tables.owed
+invariant-loop-i l =
+    AreTables l.net l.trace (take l.i l.journal) l.tables.readers.items l.tables.moments.items
+    l.tables.woken l.tables.cursors l.tables.owed

@@ -16,7 +16,8 @@ next_moment-requires-clause-width c =
     let logs = c.args.self.now.logs in
     moment_width net
     (entries (get_or logs c.args.m [])) c.args.m c.get.result.now c.get-2.result.now c.get.ensures
-    (own_moment net logs c.args.self.now.moments c.args.m c.get-2.result.now c.requires.moments c.requires.machine c.get-2.ensures)
+    (own_moment net logs c.args.self.now.moments c.args.m c.get-2.result.now c.requires.moments
+    c.requires.machine c.get-2.ensures)
 
 pub set-requires : goal.set-requires
 set-requires c =
@@ -32,6 +33,8 @@ returns-clause-moments c =
     let many = c.requires.logs in
     let inside : c.args.m < length logs = omega arith in
     c.set.ensures
-    ∙ moments_added net logs c.args.self.now.moments c.args.m c.args.x c.get.result.now c.get-2.result.now c.in_ok-moment.moment
-    c.moving_laws.ensures.moves_moment below inside c.requires.moments c.requires.own c.get.ensures c.get-2.ensures c.in_ok-moment.ensures
+    ∙ moments_added net logs c.args.self.now.moments c.args.m c.args.x c.get.result.now
+    c.get-2.result.now c.in_ok-moment.moment
+    c.moving_laws.ensures.moves_moment below inside c.requires.moments c.requires.own c.get.ensures
+    c.get-2.ensures c.in_ok-moment.ensures
     ∙ sym (ap (own_moments net) c.in_ok-push_at.ensures.ok)

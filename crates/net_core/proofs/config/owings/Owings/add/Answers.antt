@@ -7,4 +7,5 @@ pub invariant_of-self-then-outcome : goal.invariant_of-self-then-outcome
 invariant_of-self-then-outcome c =
     let i = c.self.inside in
     c.emit_all.ensures.queue i.front i.cursors.items
-    (subst (λ (l : List Emission). IsQueue l i.front i.cursors.items i.last.items) (sym c.make_room.ensures.items) c.self.invariant)
+    (subst (λ (l : List Emission). IsQueue l i.front i.cursors.items i.last.items)
+    (sym c.make_room.ensures.items) c.self.invariant)

@@ -14,5 +14,7 @@ returns-then-self-len c =
     let m = c.lowest.result in
     let within : front < length records = omega arith in
     let is = c.index.ensures ∙ get_or_default records front c.index.result.now no_emission within in
-    let lowest = subst (λ (r : Emission). head_of (members r.left) ≡ Some m) is c.lowest.ensures.first in
-    ap Some (c.delivery.ensures ∙ ap (λ (r : Emission). owed_to r m) is) ∙ sym (first_is records front m within lowest) ∙ ap head_of c.self.view_is
+    let lowest = subst (λ (r : Emission). head_of (members r.left) ≡ Some m) is
+    c.lowest.ensures.first in
+    ap Some (c.delivery.ensures ∙ ap (λ (r : Emission). owed_to r m) is)
+    ∙ sym (first_is records front m within lowest) ∙ ap head_of c.self.view_is

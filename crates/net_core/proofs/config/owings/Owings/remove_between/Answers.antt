@@ -18,19 +18,25 @@ invariant_of-self c =
     let cursors = i.cursors.items in
     let last = i.last.items in
     let p = c.in-Some.place in
-    let start = start_is cursors s m c.pair-key.result c.index.result.now c.self.invariant.long c.requires.from c.requires.to c.pair-key.ensures c.index.ensures in
+    let start = start_is cursors s m c.pair-key.result c.index.result.now c.self.invariant.long
+    c.requires.from c.requires.to c.pair-key.ensures c.index.ensures in
     let at = rw c.deref.ensures.value at c.in-Some.ensures in
-    let before = none_passed records i.front cursors last s m c.index.result.now p c.self.invariant c.requires.from c.requires.to start at.3 in
+    let before = none_passed records i.front cursors last s m c.index.result.now p c.self.invariant
+    c.requires.from c.requires.to start at.3 in
     let r = c.index-r.result.now in
     let is = c.index-r.ensures ∙ get_or_default records p r no_emission at.1 in
     let rest = c.without.result in
-    let new : Emission = record { from = r.from; event = r.event; code = r.code; left = rest; next = r.next } in
+    let new : Emission =
+    record { from = r.from; event = r.event; code = r.code; left = rest; next = r.next } in
     let left = rw c.deref-in-Some.ensures.value at c.first_left-self-inside.ensures in
-    subst (λ (k : ℕ). IsQueue (set records p new) c.first_left-self-inside.result (set cursors k p) last) (sym c.pair-key.ensures)
-    (struck_queue records i.front c.first_left-self-inside.result cursors last p s m rest new c.self.invariant c.requires.from c.requires.to at.1 before at.2
+    subst (λ (k : ℕ). IsQueue (set records p new) c.first_left-self-inside.result (set cursors k p)
+    last) (sym c.pair-key.ensures)
+    (struck_queue records i.front c.first_left-self-inside.result cursors last p s m rest new
+    c.self.invariant c.requires.from c.requires.to at.1 before at.2
     (ap (λ (x : Emission). let made : Emission = record x { left = rest } in made) is)
     c.without.ensures.same
-    (subst (λ (x : Emission). (k : ℕ) → k < 64 → k ≢ m → bit_at rest k ≡ bit_at x.left k) is c.without.ensures.others)
+    (subst (λ (x : Emission). (k : ℕ) → k < 64 → k ≢ m → bit_at rest k ≡ bit_at x.left k) is
+    c.without.ensures.others)
     left.from left.within left.struck left.left)
 
 pub returns-in-Some : goal.returns-in-Some
@@ -42,20 +48,25 @@ returns-in-Some c =
     let cursors = i.cursors.items in
     let last = i.last.items in
     let p = c.in-Some.place in
-    let start = start_is cursors s m c.pair-key.result c.index.result.now c.self.invariant.long c.requires.from c.requires.to c.pair-key.ensures c.index.ensures in
+    let start = start_is cursors s m c.pair-key.result c.index.result.now c.self.invariant.long
+    c.requires.from c.requires.to c.pair-key.ensures c.index.ensures in
     let at = rw c.deref.ensures.value at c.in-Some.ensures in
-    let before = none_passed records i.front cursors last s m c.index.result.now p c.self.invariant c.requires.from c.requires.to start at.3 in
+    let before = none_passed records i.front cursors last s m c.index.result.now p c.self.invariant
+    c.requires.from c.requires.to start at.3 in
     let past = waits_past records i.front cursors last s m p c.self.invariant at.2 in
     let r = c.index-r.result.now in
     let is = c.index-r.ensures ∙ get_or_default records p r no_emission at.1 in
     let rest = c.without.result in
-    let new : Emission = record { from = r.from; event = r.event; code = r.code; left = rest; next = r.next } in
+    let new : Emission =
+    record { from = r.from; event = r.event; code = r.code; left = rest; next = r.next } in
     let left = rw c.deref-in-Some.ensures.value at c.first_left-self-inside.ensures in
     pass_struck (set records p new) i.front c.first_left-self-inside.result left.from left.struck
-    ∙ struck_view records i.front p s m rest new c.requires.to past (λ k low below. before k below) at.2
+    ∙ struck_view records i.front p s m rest new c.requires.to past (λ k low below. before k below)
+    at.2
     (ap (λ (x : Emission). let made : Emission = record x { left = rest } in made) is)
     c.without.ensures.same
-    (subst (λ (x : Emission). (k : ℕ) → k < 64 → k ≢ m → bit_at rest k ≡ bit_at x.left k) is c.without.ensures.others)
+    (subst (λ (x : Emission). (k : ℕ) → k < 64 → k ≢ m → bit_at rest k ≡ bit_at x.left k) is
+    c.without.ensures.others)
     ∙ ap (without_first (is_way (Sender s) m)) c.self.view_is
 
 pub returns-in_default : goal.returns-in_default
@@ -66,9 +77,12 @@ returns-in_default c =
     let records = i.records.items in
     let cursors = i.cursors.items in
     let last = i.last.items in
-    let start = start_is cursors s m c.pair-key.result c.index.result.now c.self.invariant.long c.requires.from c.requires.to c.pair-key.ensures c.index.ensures in
+    let start = start_is cursors s m c.pair-key.result c.index.result.now c.self.invariant.long
+    c.requires.from c.requires.to c.pair-key.ensures c.index.ensures in
     let none = rw c.deref.ensures.value at (rw c.in_default.is at c.place_from.ensures) in
     sym c.self.view_is
-    ∙ sym (without_none (is_way (Sender s) m) (all_waiting (drop i.front records)) (all_absent s m records i.front (λ k past.
-    none_passed records i.front cursors last s m c.index.result.now (k + 1) c.self.invariant c.requires.from c.requires.to start (λ j low high. none j low) k (omega arith))))
+    ∙ sym (without_none (is_way (Sender s) m) (all_waiting (drop i.front records))
+    (all_absent s m records i.front (λ k past.
+    none_passed records i.front cursors last s m c.index.result.now (k + 1) c.self.invariant
+    c.requires.from c.requires.to start (λ j low high. none j low) k (omega arith))))
     ∙ ap (without_first (is_way (Sender s) m)) c.self.view_is

@@ -1,6 +1,6 @@
 // Tables of small machines: what is said of some snapshots, worked out by hand.
-use crate::{Table, table_of};
 use domains::Codes;
+use outcome_table::{Table, table_of};
 use polis_base::{Bytes, List, NoMemory};
 use sample_networks::{echo, join, lamp};
 use std::alloc::Global;

@@ -9,8 +9,9 @@ use crate::graph::Graph;
 use crate::vertex::Vertex;
 use transition_table::{Outcome, Snapshot};
 
-// Gives a result a code.
-fn set_result(y: u32, code: u8, o: &mut Outcome)
+/// Gives a result of an outcome a code: result 0 is whether it fires, then come the state variables,
+/// then the outputs.
+pub fn set_result(y: u32, code: u8, o: &mut Outcome)
     requires { y < width_of o.old }
     ensures next { length o.new.next ≡ length o.old.next }
     ensures outs { length o.new.outs ≡ length o.old.outs }

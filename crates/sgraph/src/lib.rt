@@ -10,7 +10,7 @@ mod vertex;
 mod worked;
 
 pub use building::build;
-pub use evaluating::evaluate;
+pub use evaluating::{evaluate, set_result};
 pub use graph::{Graph, VertexList};
 pub use law::laws;
 pub use vertex::Vertex;

@@ -51,7 +51,8 @@ pub text_of_number : (cs : List ℕ) → is_plain cs ≡ true → number_of cs <
 text_of_number [] plain fits = absurd (false≢true plain)
 text_of_number (c ∷ cs) plain fits =
     let digits : list_all is_digit (c ∷ cs) ≡ true = left_true _ _ plain in
-    sym (decimal-digits_value own (c ∷ cs) digits (omega arith) (alone c cs (right_true _ _ plain)) fits)
+    sym (decimal-digits_value own (c ∷ cs) digits (omega arith)
+    (alone c cs (right_true _ _ plain)) fits)
 
 first_zero : (n : ℕ) → n < 2 ^ 64 → get_or (decimal n) 0 0 ≡ 48 → length (decimal n) ≡ 1
 first_zero zero fits first = ap length (decimal_digit 0 (omega arith))

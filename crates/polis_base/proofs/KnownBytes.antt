@@ -56,5 +56,8 @@ pub appended_prefix : (a b c : Option (List ℕ)) (bytes prefix rest : List ℕ)
     → bytes ≡ prefix ++ rest → Appends a b prefix → Keeps b c → (k : ℕ) × Appends a c (take k bytes)
 appended_prefix a b c bytes prefix rest is appended kept =
     let e : take (length prefix) bytes ≡ prefix = ap (take (length prefix)) is
-    ∙ take_at prefix rest (length prefix) refl in
-    (length prefix, subst (λ (zs : List ℕ). Appends a c zs) (sym e) (appended_kept a b c prefix appended kept))
+    ∙ take_at prefix rest (length prefix) refl in (
+      length prefix,
+      subst (λ (zs : List ℕ). Appends a c zs) (sym e)
+          (appended_kept a b c prefix appended kept),
+    )

@@ -36,7 +36,8 @@ before_zeros [] n continue = zeros_end n
 before_zeros (c ∷ cs) n continue =
     let here = not_zero c (left_true (continues_name c) (list_all continues_name cs) continue) in
     let later = before_zeros cs n (right_true (continues_name c) _ continue) in
-    take_while-cons (λ (b : ℕ). not (b == 0)) c (cs ++ replicate n 0) ∙ rw here (ap (λ (xs : List ℕ). c ∷ xs) later)
+    take_while-cons (λ (b : ℕ). not (b == 0)) c (cs ++ replicate n 0)
+    ∙ rw here (ap (λ (xs : List ℕ). c ∷ xs) later)
 
 word_continues : (xs : List ℕ) → is_word xs ≡ true → list_all continues_name xs ≡ true
 word_continues [] word = refl
@@ -46,7 +47,8 @@ word_continues (c ∷ cs) word =
 
 pub fits_in_place : (xs : List ℕ) → is_name xs ≡ true → length xs ≤ 24
 fits_in_place xs name =
-    short (length xs) (left_true (nat_le (length xs) 24) (is_word xs) (left_true _ (not (is_keyword xs)) name))
+    short (length xs)
+    (left_true (nat_le (length xs) 24) (is_word xs) (left_true _ (not (is_keyword xs)) name))
 
 name_word : (xs : List ℕ) → is_name xs ≡ true → is_word xs ≡ true
 name_word xs name =

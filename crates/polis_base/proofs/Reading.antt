@@ -31,21 +31,26 @@ drop_first (suc n) c rest some =
 
 -- what is read from a place on is what stands there, and then what is read after it
 step : (at : ℕ) (bytes : List ℕ) (f : Scan) → scan at bytes ≡ f → 0 < length bytes → 0 < bytes_in f
-    → tokens_from at 0 bytes ≡ joined f at (tokens_from (at + bytes_in f) 0 (drop (bytes_in f) bytes))
+    → tokens_from at 0 bytes ≡ joined f at
+    (tokens_from (at + bytes_in f) 0 (drop (bytes_in f) bytes))
 step at [] f is some more = absurd (omega arith)
 step at (c ∷ rest) f is some more =
     let n = bytes_in f in
     let e : at + 1 + (n - 1) ≡ at + n = omega arith in
     ap (λ g. joined g at (tokens_from (at + 1) (bytes_in g - 1) rest)) is
-    ∙ ap (joined f at) (passed (at + 1) (n - 1) rest ∙ ap (λ i. tokens_from i 0 (drop (n - 1) rest)) e ∙ ap (tokens_from (at + n) 0) (drop_first n c rest more))
+    ∙ ap (joined f at) (passed (at + 1) (n - 1) rest
+    ∙ ap (λ i. tokens_from i 0 (drop (n - 1) rest)) e
+    ∙ ap (tokens_from (at + n) 0) (drop_first n c rest more))
 
 from_place : (at : ℕ) (text : List ℕ) (f : Scan) → scan at (drop at text) ≡ f → at < length text
     → 0 < bytes_in f
-    → tokens_from at 0 (drop at text) ≡ joined f at (tokens_from (at + bytes_in f) 0 (drop (at + bytes_in f) text))
+    → tokens_from at 0 (drop at text) ≡ joined f at
+    (tokens_from (at + bytes_in f) 0 (drop (at + bytes_in f) text))
 from_place at text f is within more =
     let some : 0 < length (drop at text) = rw (length-drop at text) (omega arith) in
     step at (drop at text) f is some more
-    ∙ ap (λ bytes. joined f at (tokens_from (at + bytes_in f) 0 bytes)) (drop-drop (bytes_in f) at text)
+    ∙ ap (λ bytes. joined f at (tokens_from (at + bytes_in f) 0 bytes))
+    (drop-drop (bytes_in f) at text)
 
 after_with : (made : List Token) (token : Token) (read : Result (List Token) LexError)
     → after made (with_token token read) ≡ after (made ++ token ∷ []) read
@@ -55,17 +60,21 @@ after_with made token (Err error) = refl
 -- bytes that are no token
 pub skipped_more : (made : List Token) (at n : ℕ) (text : List ℕ)
     → scan at (drop at text) ≡ Skipped n → at < length text → 0 < n
-    → after made (tokens_from at 0 (drop at text)) ≡ after made (tokens_from (at + n) 0 (drop (at + n) text))
+    → after made (tokens_from at 0 (drop at text))
+    ≡ after made (tokens_from (at + n) 0 (drop (at + n) text))
 skipped_more made at n text is within more =
     ap (after made) (from_place at text (Skipped n) is within more)
 
 -- a token
 pub read_more : (made : List Token) (at n : ℕ) (kind : Kind) (text : List ℕ)
     → scan at (drop at text) ≡ Read kind n → at < length text → 0 < n
-    → after made (tokens_from at 0 (drop at text)) ≡ after (made ++ record { kind = kind; at = at; len = n } ∷ []) (tokens_from (at + n) 0 (drop (at + n) text))
+    → after made (tokens_from at 0 (drop at text))
+    ≡ after (made ++ record { kind = kind; at = at; len = n } ∷ [])
+    (tokens_from (at + n) 0 (drop (at + n) text))
 read_more made at n kind text is within more =
     ap (after made) (from_place at text (Read kind n) is within more)
-    ∙ after_with made (record { kind = kind; at = at; len = n }) (tokens_from (at + n) 0 (drop (at + n) text))
+    ∙ after_with made (record { kind = kind; at = at; len = n })
+    (tokens_from (at + n) 0 (drop (at + n) text))
 
 -- a token that doesn't read
 pub faulty_here : (made : List Token) (at : ℕ) (error : LexError) (text : List ℕ)
@@ -78,7 +87,8 @@ faulty_here made at error text is within =
 pub all_read : (made : List Token) (at : ℕ) (text : List ℕ) → length text ≤ at
     → after made (tokens_from at 0 (drop at text)) ≡ Ok made
 all_read made at text end =
-    ap (λ bytes. after made (tokens_from at 0 bytes)) (drop_all at text end) ∙ ap Ok (append-nil made)
+    ap (λ bytes. after made (tokens_from at 0 bytes)) (drop_all at text end)
+    ∙ ap Ok (append-nil made)
 
 -- what reads from a place on, by what stands there
 pub skipped_on : (at n : ℕ) (text : List ℕ) → scan at (drop at text) ≡ Skipped n → at < length text
@@ -87,7 +97,8 @@ skipped_on at n text is within more = from_place at text (Skipped n) is within m
 
 pub read_on : (at n : ℕ) (kind : Kind) (text : List ℕ) → scan at (drop at text) ≡ Read kind n
     → at < length text → 0 < n
-    → tokens_after text at ≡ with_token (record { kind = kind; at = at; len = n }) (tokens_after text (at + n))
+    → tokens_after text at ≡ with_token (record { kind = kind; at = at; len = n })
+    (tokens_after text (at + n))
 read_on at n kind text is within more = from_place at text (Read kind n) is within more
 
 pub faulty_on : (at : ℕ) (error : LexError) (text : List ℕ) → scan at (drop at text) ≡ Faulty error

@@ -40,12 +40,18 @@ begins_continues c begins = rw begins refl
 word_sized : (at n : ℕ) (word : List ℕ) → 0 < length word → length word ≤ n
     → Sized n (scan_word at word)
 word_sized at n word some within =
-    either n (nat_lt 24 (length word)) (Faulty (NameTooLong at)) (Read (word_kind (keyword_of word)) (length word)) (λ long. record { some = omega arith; within = omega arith }) (λ short. record { some = some; within = within })
+    either n (nat_lt 24 (length word)) (Faulty (NameTooLong at))
+    (Read (word_kind (keyword_of word)) (length word))
+    (λ long. record { some = omega arith; within = omega arith })
+    (λ short. record { some = some; within = within })
 
 number_sized : (at n : ℕ) (digits : List ℕ) → 0 < length digits → length digits ≤ n
     → Sized n (scan_number at digits)
 number_sized at n digits some within =
-    either n (nat_lt 4294967295 (number_of digits)) (Faulty (NumberTooLarge at)) (Read (Number (number_of digits)) (length digits)) (λ large. record { some = omega arith; within = omega arith }) (λ small. record { some = some; within = within })
+    either n (nat_lt 4294967295 (number_of digits)) (Faulty (NumberTooLarge at))
+    (Read (Number (number_of digits)) (length digits))
+    (λ large. record { some = omega arith; within = omega arith })
+    (λ small. record { some = some; within = within })
 
 two_bytes : (b : ℕ) (rest : List ℕ) → begins_with b rest ≡ true → 2 ≤ suc (length rest)
 two_bytes b [] begins = cc
@@ -159,7 +165,8 @@ scan_lexical at (c ∷ rest) =
     (of_both (c == 35) _ _ refl
     (of_both (begins_name c) _ _ (word_lexical at (take_while continues_name (c ∷ rest)))
     (of_both (c == 48) _ _ refl
-    (of_both (is_digit c) _ _ (number_lexical at (take_while is_digit (c ∷ rest))) (sign_lexical at c rest)))))
+    (of_both (is_digit c) _ _ (number_lexical at (take_while is_digit (c ∷ rest)))
+    (sign_lexical at c rest)))))
 
 pub never_memory : (at : ℕ) (bytes : List ℕ) (error : LexError) → scan at bytes ≡ Faulty error
     → Some error ≡ Some NoMemory → ⊥

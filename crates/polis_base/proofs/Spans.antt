@@ -53,7 +53,8 @@ sign_no_name : (P : ℕ → Type 0) (at c : ℕ) (rest : List ℕ) → OfName P 
 sign_no_name P at c rest =
     let bad = no_fault P (BadByte at) in
     both P (c == 61) _ _ (no_sign P Equal 1)
-    (both P (c == 58) _ _ (both P (begins_with 61 rest) _ _ (no_sign P Assign 2) (no_sign P Colon 1))
+    (both P (c == 58) _ _
+    (both P (begins_with 61 rest) _ _ (no_sign P Assign 2) (no_sign P Colon 1))
     (both P (c == 44) _ _ (no_sign P Comma 1)
     (both P (c == 123) _ _ (no_sign P LeftBrace 1)
     (both P (c == 125) _ _ (no_sign P RightBrace 1)
@@ -68,12 +69,19 @@ no_keyword (Some keyword) k n is = cc
 all_pass : (p : ℕ → Bool) (cs : List ℕ) → list_all p (take_while p cs) ≡ true
 all_pass p [] = refl
 all_pass p (c ∷ cs) =
-    rw (take_while-cons p c cs) (cond_both (p c) (c ∷ take_while p cs) [] (λ xs. list_all p xs ≡ true) (λ e. rw (e, all_pass p cs) refl) (λ e. refl))
+    rw (take_while-cons p c cs)
+    (cond_both (p c) (c ∷ take_while p cs) [] (λ xs. list_all p xs ≡ true)
+    (λ e. rw (e, all_pass p cs) refl) (λ e. refl))
 
 word_is_word : (c : ℕ) (rest : List ℕ) → begins_name c ≡ true
     → is_word (take_while continues_name (c ∷ rest)) ≡ true
 word_is_word c rest begins =
-    rw (take_while-cons continues_name c rest, begins_continues c begins, begins, all_pass continues_name rest) refl
+    rw (
+      take_while-cons continues_name c rest,
+      begins_continues c begins,
+      begins,
+      all_pass continues_name rest,
+    ) refl
 
 short_word : (n : ℕ) → nat_lt 24 n ≡ false → nat_le n 24 ≡ true
 short_word n short = grind (arith, nat_tests)
@@ -84,13 +92,15 @@ is_name_from word short is free = rw (short_word (length word) short, is, free) 
 
 -- the word at a place is a name of its bytes
 word_name : (at c : ℕ) (rest : List ℕ) → begins_name c ≡ true
-    → OfName (λ n. is_name (take n (c ∷ rest)) ≡ true) (scan_word at (take_while continues_name (c ∷ rest)))
+    → OfName (λ n. is_name (take n (c ∷ rest)) ≡ true)
+    (scan_word at (take_while continues_name (c ∷ rest)))
 word_name at c rest begins =
     let P : ℕ → Type 0 = λ k. is_name (take k (c ∷ rest)) ≡ true in
     let word = take_while continues_name (c ∷ rest) in
     let whole : take (length word) (c ∷ rest) ≡ word =
     ap (λ k. take k (c ∷ rest)) (length-prefix_len continues_name (c ∷ rest)) in
-    either P (nat_lt 24 (length word)) (Faulty (NameTooLong at)) (Read (word_kind (keyword_of word)) (length word))
+    either P (nat_lt 24 (length word)) (Faulty (NameTooLong at))
+    (Read (word_kind (keyword_of word)) (length word))
     (λ _. no_fault P (NameTooLong at))
     (λ short n is.
     let parts = no_keyword (keyword_of word) (length word) n is in
@@ -146,7 +156,8 @@ opened token (Err error) tokens is = cc
 -- what is read after the first byte lies after it
 abbrev AfterLies : List ℕ → ℕ → List ℕ → Type 0
 AfterLies text at rest =
-    (passed : ℕ) (tokens : List Token) → at + 1 + passed ≤ length text → tokens_from (at + 1) passed rest ≡ Ok tokens → Lies text (at + 1 + passed) tokens
+    (passed : ℕ) (tokens : List Token) → at + 1 + passed ≤ length text
+    → tokens_from (at + 1) passed rest ≡ Ok tokens → Lies text (at + 1 + passed) tokens
 
 here : (text : List ℕ) (at : ℕ) (rest : List ℕ) (f : Scan) → scan at (drop at text) ≡ f
     → 0 < bytes_in f → at + bytes_in f ≤ length text → AfterLies text at rest
@@ -160,7 +171,13 @@ here text at rest (Read kind n) is some within after tokens read =
     let o = opened token (tokens_from (at + 1) (n - 1) rest) tokens read in
     let h = after (n - 1) o.0 (omega arith) o.1 in
     let this : IsToken text token = token_here text at n kind is some within in
-    rw o.2 (record { order = (omega arith, lower (at + n) (at + 1 + (n - 1)) o.0 (omega arith) h.order); each = (this, h.each) })
+    rw o.2 (record {
+      order = (
+        omega arith,
+        lower (at + n) (at + 1 + (n - 1)) o.0 (omega arith) h.order,
+      );
+      each = (this, h.each);
+    })
 here text at rest (Faulty error) is some within after tokens read = cc
 
 lies : (text bytes : List ℕ) (at passed : ℕ) (tokens : List Token) → bytes ≡ drop at text
@@ -172,7 +189,8 @@ lies text [] at passed tokens is within read =
 lies text (c ∷ rest) at (suc passed) tokens is within read =
     let after : rest ≡ drop (at + 1) text = ap (drop 1) is ∙ drop-drop 1 at text in
     let e : at + 1 + passed ≡ at + suc passed = omega arith in
-    subst (λ (i : ℕ). Lies text i tokens) e (lies text rest (at + 1) passed tokens after (omega arith) read)
+    subst (λ (i : ℕ). Lies text i tokens) e
+    (lies text rest (at + 1) passed tokens after (omega arith) read)
 lies text (c ∷ rest) at zero tokens is within read =
     let after : rest ≡ drop (at + 1) text = ap (drop 1) is ∙ drop-drop 1 at text in
     let bytes = c ∷ rest in
@@ -181,14 +199,16 @@ lies text (c ∷ rest) at zero tokens is within read =
     let fits : bytes_in (scan at bytes) ≤ length bytes = scan_within at bytes (omega arith) in
     let same : scan at (drop at text) ≡ scan at bytes = ap (scan at) (sym is) in
     let h =
-    here text at rest (scan at bytes) same some (omega arith) (λ p ts w r. lies text rest (at + 1) p ts after w r) tokens read in
+    here text at rest (scan at bytes) same some (omega arith)
+    (λ p ts w r. lies text rest (at + 1) p ts after w r) tokens read in
     let e : at ≡ at + zero = omega arith in
     subst (λ (i : ℕ). Lies text i tokens) e h
 
 pub tokens_lie : (text : List ℕ) (tokens : List Token) → tokens_of text ≡ Ok tokens
     → All (IsToken text) tokens
 tokens_lie text tokens read =
-    All-from_recursion (IsToken text) tokens (lies text text 0 0 tokens refl (omega arith) read).each
+    All-from_recursion (IsToken text) tokens
+    (lies text text 0 0 tokens refl (omega arith) read).each
 
 pub tokens_in_order : (text : List ℕ) (tokens : List Token) → tokens_of text ≡ Ok tokens
     → AreInOrder 0 tokens

@@ -27,12 +27,14 @@ word_kind (Some keyword) = Keyword keyword
 -- a word of these bytes at a place
 abbrev pub scan_word : ℕ → List ℕ → Scan
 scan_word at word =
-    cond (nat_lt 24 (length word)) (Faulty (NameTooLong at)) (Read (word_kind (keyword_of word)) (length word))
+    cond (nat_lt 24 (length word)) (Faulty (NameTooLong at))
+    (Read (word_kind (keyword_of word)) (length word))
 
 -- a number of these digits at a place, of which the first isn't 0
 abbrev pub scan_number : ℕ → List ℕ → Scan
 scan_number at digits =
-    cond (nat_lt 4294967295 (number_of digits)) (Faulty (NumberTooLarge at)) (Read (Number (number_of digits)) (length digits))
+    cond (nat_lt 4294967295 (number_of digits)) (Faulty (NumberTooLarge at))
+    (Read (Number (number_of digits)) (length digits))
 
 -- the next byte is this one
 abbrev pub begins_with : ℕ → List ℕ → Bool

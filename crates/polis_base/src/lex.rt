@@ -132,7 +132,8 @@ pub fn tokens(alloc: Global, text: &[u8]) -> Result<Tokens, LexError>
     ensures ok { IfOk result (λ tokens. tokens_of text.now ≡ Ok tokens) }
     ensures spans { IfOk result (λ tokens. All (IsToken text.now) tokens) }
     ensures order { IfOk result (λ tokens. AreInOrder 0 tokens) }
-    ensures fault { (fault : LexError) → result ≡ Err fault → fault ≢ LexError.NoMemory → tokens_of text.now ≡ Err fault }
+    ensures fault { (fault : LexError) → result ≡ Err fault → fault ≢ LexError.NoMemory
+        → tokens_of text.now ≡ Err fault }
 {
     let mut made = List::new(alloc);
     let mut at = 0;

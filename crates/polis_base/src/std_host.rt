@@ -91,10 +91,13 @@ fn read_whole<R: Read>(reader: &mut R, max: u64, piece: &mut [u8], into: &mut By
     requires empty { into.old ≡ [] }
     requires room { 0 < length piece.old }
     ensures within { result ≡ Load.Read → length into.new ≤ max }
-    ensures whole { result ≡ Load.Read → IfSome (R.remaining reader.old) (λ bytes. into.new ≡ bytes) }
-    ensures long { result ≡ Load.TooLong → IfSome (R.remaining reader.old) (λ bytes. max < length bytes) }
+    ensures whole { result ≡ Load.Read
+        → IfSome (R.remaining reader.old) (λ bytes. into.new ≡ bytes) }
+    ensures long { result ≡ Load.TooLong
+        → IfSome (R.remaining reader.old) (λ bytes. max < length bytes) }
     ensures found { result ≢ Load.Absent }
-    ensures bounded { (bs : List ℕ) × Consumes (R.remaining reader.old) (R.remaining reader.new) bs × (length bs ≤ max + 1) }
+    ensures bounded { (bs : List ℕ) × Consumes (R.remaining reader.old) (R.remaining reader.new) bs
+        × (length bs ≤ max + 1) }
 {
     let mut room = max;
     loop {
@@ -120,9 +123,11 @@ fn read_whole<R: Read>(reader: &mut R, max: u64, piece: &mut [u8], into: &mut By
 // Writes all bytes. A write that takes nothing of a piece that isn't empty is a fault. Running out
 // of memory is told apart only where nothing was written.
 fn write_whole<W: Write>(writer: &mut W, bytes: &[u8]) -> Save
-    ensures written { result ≡ Save.Written → Appends (W.contents writer.old) (W.contents writer.new) bytes.now }
+    ensures written { result ≡ Save.Written
+        → Appends (W.contents writer.old) (W.contents writer.new) bytes.now }
     ensures kept { result ≡ Save.NoMemory → Keeps (W.contents writer.old) (W.contents writer.new) }
-    ensures prefix { (k : ℕ) × Appends (W.contents writer.old) (W.contents writer.new) (take k bytes.now) }
+    ensures prefix { (k : ℕ)
+        × Appends (W.contents writer.old) (W.contents writer.new) (take k bytes.now) }
 {
     let mut rest = bytes;
     while !rest.is_empty() {

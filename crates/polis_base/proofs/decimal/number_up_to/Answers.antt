@@ -7,7 +7,8 @@ returns-in_err-checked_mul-clause-none c =
     let digits = c.args.digits.now in
     let i = c.loop-digit.digit-index in
     let more =
-    number_more digits i c.loop-digit.number (get_or digits i 0) c.loop-digit-test.true c.loop-digit.invariant.same refl in
+    number_more digits i c.loop-digit.number (get_or digits i 0) c.loop-digit-test.true
+    c.loop-digit.invariant.same refl in
     let least = prefix_least (i + 1) digits in
     rw c.from_residual.ensures (omega (arith, c.in_err-checked_mul.ensures))
 
@@ -16,7 +17,8 @@ returns-in_err-number-clause-none c =
     let digits = c.args.digits.now in
     let i = c.loop-digit.digit-index in
     let more =
-    number_more digits i c.loop-digit.number (get_or digits i 0) c.loop-digit-test.true c.loop-digit.invariant.same refl in
+    number_more digits i c.loop-digit.number (get_or digits i 0) c.loop-digit-test.true
+    c.loop-digit.invariant.same refl in
     let least = prefix_least (i + 1) digits in
     rw c.from_residual-in_err-number.ensures (omega (arith, c.in_err-number.ensures))
 
@@ -25,6 +27,7 @@ returns-then-number-max-clause-none c =
     let digits = c.args.digits.now in
     let i = c.loop-digit.digit-index in
     let more =
-    number_more digits i c.loop-digit.number (get_or digits i 0) c.loop-digit-test.true c.loop-digit.invariant.same refl in
+    number_more digits i c.loop-digit.number (get_or digits i 0) c.loop-digit-test.true
+    c.loop-digit.invariant.same refl in
     let least = prefix_least (i + 1) digits in
     omega (arith, c.in_ok-number.ensures)

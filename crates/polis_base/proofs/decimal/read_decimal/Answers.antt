@@ -21,7 +21,8 @@ fits_none (Some n) text above = search rules
 
 pub returns-then-is_plain-clause-some : goal.returns-then-is_plain-clause-some
 returns-then-is_plain-clause-some c =
-    reads c.number_up_to.result c.args.text.now (sym c.is_plain.ensures ∙ c.if-is_plain.true) c.number_up_to.ensures.some c.number_up_to.ensures.within
+    reads c.number_up_to.result c.args.text.now (sym c.is_plain.ensures ∙ c.if-is_plain.true)
+    c.number_up_to.ensures.some c.number_up_to.ensures.within
 
 pub returns-then-is_plain-clause-none : goal.returns-then-is_plain-clause-none
 returns-then-is_plain-clause-none c =

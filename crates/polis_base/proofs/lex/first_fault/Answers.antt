@@ -8,7 +8,8 @@ use Rattle.polis_base.proofs.lex.first_fault.Goals as goal
 pub loop-at-preserved : goal.loop-at-preserved
 loop-at-preserved c =
     let h =
-    fault_on c.loop-at.at c.in-Ok.width c.args.text.now (sym c.in-Ok.ensures.scan) c.loop-at-test.true c.in-Ok.ensures.some in
+    fault_on c.loop-at.at c.in-Ok.width c.args.text.now (sym c.in-Ok.ensures.scan)
+    c.loop-at-test.true c.in-Ok.ensures.some in
     record { within = c.in-Ok.ensures.within; same = sym h ∙ c.loop-at.invariant.same }
 
 pub returns-in-Err-clause-fault : goal.returns-in-Err-clause-fault
@@ -34,4 +35,6 @@ returns-clause-fault c =
 pub returns-clause-reads : goal.returns-clause-reads
 returns-clause-reads c =
     let text = c.args.text.now in
-    reads_whole (tokens_of text) (ap result_err (sym (none_on c.loop-at.at text c.loop-at-test.false)) ∙ c.loop-at.invariant.same)
+    reads_whole (tokens_of text)
+    (ap result_err (sym (none_on c.loop-at.at text c.loop-at-test.false))
+    ∙ c.loop-at.invariant.same)

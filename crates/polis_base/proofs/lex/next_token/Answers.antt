@@ -8,8 +8,12 @@ use Rattle.polis_base.proofs.lex.next_token.Goals as goal
 pub loop-at-preserved : goal.loop-at-preserved
 loop-at-preserved c =
     let h =
-    skipped_on c.loop-at.at c.in-Skipped.len c.args.text.now (sym c.in-Skipped.ensures.scan) c.loop-at-test.true c.in-Skipped.ensures.some in
-    record { after = omega (arith, c.loop-at.invariant.after); same = sym h ∙ c.loop-at.invariant.same }
+    skipped_on c.loop-at.at c.in-Skipped.len c.args.text.now (sym c.in-Skipped.ensures.scan)
+    c.loop-at-test.true c.in-Skipped.ensures.some in
+    record {
+      after = omega (arith, c.loop-at.invariant.after);
+      same = sym h ∙ c.loop-at.invariant.same;
+    }
 
 pub returns-in-Read : goal.returns-in-Read
 returns-in-Read c =
@@ -21,7 +25,13 @@ returns-in-Read c =
     let first = sym c.loop-at.invariant.same ∙ h in
     let ok = sym (same_ok _ _) ∙ ap is_ok (sym first) ∙ c.requires in
     record {
-      some = record { is = token_here text at n c.in-Read.kind is c.in-Read.ensures.some c.in-Read.ensures.within; begins = c.loop-at.invariant.after; first = first; rest = ok };
+      some = record {
+        is = token_here text at n c.in-Read.kind is c.in-Read.ensures.some
+            c.in-Read.ensures.within;
+        begins = c.loop-at.invariant.after;
+        first = first;
+        rest = ok;
+      };
       none = tt;
     }
 
@@ -33,4 +43,8 @@ unreachable-requires c =
 
 pub returns : goal.returns
 returns c =
-    record { some = tt; none = sym c.loop-at.invariant.same ∙ none_on c.loop-at.at c.args.text.now c.loop-at-test.false }
+    record {
+      some = tt;
+      none = sym c.loop-at.invariant.same
+          ∙ none_on c.loop-at.at c.args.text.now c.loop-at-test.false;
+    }

@@ -14,7 +14,11 @@ returns c =
     let some : 0 < bytes_in (scan at (drop at text)) = scan_some at (drop at text) (omega arith) in
     let fits : bytes_in (scan at (drop at text)) ≤ length (drop at text) =
     scan_within at (drop at text) (omega arith) in
-    record { scan = here; some = rw here (width_some (scan at (drop at text)) some); within = rw here (width_within (scan at (drop at text)) at (length text) (omega arith)) }
+    record {
+      scan = here;
+      some = rw here (width_some (scan at (drop at text)) some);
+      within = rw here (width_within (scan at (drop at text)) at (length text) (omega arith));
+    }
 
 pub returns-then-is_blank : goal.returns-then-is_blank
 returns-then-is_blank c =

@@ -13,8 +13,11 @@ invariant_of-result c =
     let zeros : drop (length bytes) (replicate {A = ℕ} 24 0) ≡ replicate (24 - length bytes) 0 =
     drop-replicate (length bytes) 24 0 in
     let padded =
-    subst (λ (ys : List ℕ). HoldsName (record { bytes = bytes ++ ys })) (sym zeros) (holds_new bytes c.requires) in
-    subst (λ (xs : List ℕ). HoldsName (record { bytes = xs ++ drop (length bytes) (replicate 24 0) })) (sym c.copy_from_slice.ensures.after) padded
+    subst (λ (ys : List ℕ). HoldsName (record { bytes = bytes ++ ys })) (sym zeros)
+    (holds_new bytes c.requires) in
+    subst (λ (xs : List ℕ). HoldsName
+    (record { bytes = xs ++ drop (length bytes) (replicate 24 0) }))
+    (sym c.copy_from_slice.ensures.after) padded
 
 pub returns : goal.returns
 returns c =
@@ -23,4 +26,5 @@ returns c =
     let zeros : drop (length bytes) (replicate {A = ℕ} 24 0) ≡ replicate (24 - length bytes) 0 =
     drop-replicate (length bytes) 24 0 in
     let padded = subst (λ (ys : List ℕ). before_zero (bytes ++ ys) ≡ bytes) (sym zeros) same in
-    subst (λ (xs : List ℕ). before_zero (xs ++ drop (length bytes) (replicate 24 0)) ≡ bytes) (sym c.copy_from_slice.ensures.after) padded
+    subst (λ (xs : List ℕ). before_zero (xs ++ drop (length bytes) (replicate 24 0)) ≡ bytes)
+    (sym c.copy_from_slice.ensures.after) padded

@@ -37,7 +37,7 @@ impl PartialEq for Key {
     ghost laws = { partial_equiv_from_equiv nat_list_eq_equiv };
 
     fn eq(&self, other: &Key) -> bool {
-        self.name.bytes() == other.name.bytes()
+        self.name.same(&other.name)
     }
 }
 

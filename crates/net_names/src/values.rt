@@ -11,7 +11,7 @@ use polis_base::Name;
 pub fn is_same(a: &Name, b: &Name) -> bool
     ensures { result ≡ is_same a.now b.now }
 {
-    a.bytes() == b.bytes()
+    a.same(b)
 }
 
 /// Whether a word has the name.

@@ -17,10 +17,13 @@ use Rattle.determinism.proofs.Bits.{alike, both_bits}
 use Rattle.determinism.proofs.Ones.{lowest_bit}
 use Rattle.determinism.proofs.Overlaps.{allowed_here}
 
-says_low : (place : ℕ) (codes : List ℕ) → place < 32 → says place codes ≡ (slice_index codes place == 0)
+says_low : (place : ℕ) (codes : List ℕ) → place < 32
+    → says place codes ≡ (slice_index codes place == 0)
 says_low place codes below =
     elim (cases_Bool (nat_lt place 32)) [
-      | inl here ↦ ap (λ b. cond b (slice_index codes place == 0) (not (slice_index codes (place - 32) == 0))) here
+      | inl here ↦ ap
+          (λ b. cond b (slice_index codes place == 0)
+          (not (slice_index codes (place - 32) == 0))) here
       | inr past ↦ absurd (let over = ltb-false place 32 past in omega arith)
     ]
 
@@ -29,44 +32,65 @@ says_high var codes =
     let own : var + 32 - 32 ≡ var = omega arith in
     elim (cases_Bool (nat_lt (var + 32) 32)) [
       | inl here ↦ absurd (let below = ltb-true (var + 32) 32 here in omega arith)
-      | inr past ↦ ap (λ b. cond b (slice_index codes (var + 32) == 0) (not (slice_index codes (var + 32 - 32) == 0))) past ∙ ap (λ k. not (slice_index codes k == 0)) own
+      | inr past ↦ ap
+          (λ b. cond b (slice_index codes (var + 32) == 0)
+          (not (slice_index codes (var + 32 - 32) == 0))) past
+          ∙ ap (λ k. not (slice_index codes k == 0)) own
     ]
 
 -- a variable with the code 0
-pub says_first : (place var : ℕ) (codes : List ℕ) → place ≡ var → var < 32 → slice_index codes var ≡ 0 → says place codes ≡ true
-says_first place var codes here few first = ap (λ p. says p codes) here ∙ says_low var codes few ∙ alike (slice_index codes var) 0 first
+pub says_first : (place var : ℕ) (codes : List ℕ) → place ≡ var → var < 32
+    → slice_index codes var ≡ 0 → says place codes ≡ true
+says_first place var codes here few first =
+    ap (λ p. says p codes) here ∙ says_low var codes few ∙ alike (slice_index codes var) 0 first
 
-pub denies_other : (place var : ℕ) (codes : List ℕ) → place ≡ var + 32 → slice_index codes var ≡ 0 → says place codes ≡ false
-denies_other place var codes here first = ap (λ p. says p codes) here ∙ says_high var codes ∙ ap not (alike (slice_index codes var) 0 first)
+pub denies_other : (place var : ℕ) (codes : List ℕ) → place ≡ var + 32 → slice_index codes var ≡ 0
+    → says place codes ≡ false
+denies_other place var codes here first =
+    ap (λ p. says p codes) here ∙ says_high var codes
+    ∙ ap not (alike (slice_index codes var) 0 first)
 
 -- and one with another
-pub says_other : (place var : ℕ) (codes : List ℕ) → place ≡ var + 32 → slice_index codes var ≢ 0 → says place codes ≡ true
-says_other place var codes here other = ap (λ p. says p codes) here ∙ says_high var codes ∙ ap not (ne_eqb (slice_index codes var) 0 other)
+pub says_other : (place var : ℕ) (codes : List ℕ) → place ≡ var + 32 → slice_index codes var ≢ 0
+    → says place codes ≡ true
+says_other place var codes here other =
+    ap (λ p. says p codes) here ∙ says_high var codes
+    ∙ ap not (ne_eqb (slice_index codes var) 0 other)
 
-pub denies_first : (place var : ℕ) (codes : List ℕ) → place ≡ var → var < 32 → slice_index codes var ≢ 0 → says place codes ≡ false
-denies_first place var codes here few other = ap (λ p. says p codes) here ∙ says_low var codes few ∙ ne_eqb (slice_index codes var) 0 other
+pub denies_first : (place var : ℕ) (codes : List ℕ) → place ≡ var → var < 32
+    → slice_index codes var ≢ 0 → says place codes ≡ false
+denies_first place var codes here few other =
+    ap (λ p. says p codes) here ∙ says_low var codes few ∙ ne_eqb (slice_index codes var) 0 other
 
 -- a code of a variable that the row allows
-code_there : (m : Machine) (row : Row) (var mask : ℕ) (codes : List ℕ) → IsMask m.vars row var mask → Enables m row codes → var < length m.vars → bit_at mask (slice_index codes var) ≡ 1
+code_there : (m : Machine) (row : Row) (var mask : ℕ) (codes : List ℕ) → IsMask m.vars row var mask
+    → Enables m row codes → var < length m.vars → bit_at mask (slice_index codes var) ≡ 1
 code_there m row var mask codes is e below =
-    eqb-true (bit_at mask (slice_index codes var)) 1 (is (slice_index codes var) ∙ allowed_here m row codes var e.snapshot e.held below)
+    eqb-true (bit_at mask (slice_index codes var)) 1
+    (is (slice_index codes var) ∙ allowed_here m row codes var e.snapshot e.held below)
 
-pub only_first : (m : Machine) (row : Row) (var mask : ℕ) (codes : List ℕ) → IsMask m.vars row var mask → Enables m row codes → var < length m.vars → mask ≡ 1 → slice_index codes var ≡ 0
+pub only_first : (m : Machine) (row : Row) (var mask : ℕ) (codes : List ℕ)
+    → IsMask m.vars row var mask → Enables m row codes → var < length m.vars → mask ≡ 1
+    → slice_index codes var ≡ 0
 only_first m row var mask codes is e below one =
     let there = code_there m row var mask codes is e below in
     elim (eqb_tells (slice_index codes var) 0) [
       | inl here ↦ here.1
-      | inr apart ↦ absurd (let clear = ap (λ n. bit_at n (slice_index codes var)) one ∙ bit_at-pow_other 0 (slice_index codes var) apart.1 in omega arith)
+      | inr apart ↦ absurd (let clear = ap (λ n. bit_at n (slice_index codes var)) one
+          ∙ bit_at-pow_other 0 (slice_index codes var) apart.1 in omega arith)
     ]
 
-pub never_first : (m : Machine) (row : Row) (var mask : ℕ) (codes : List ℕ) → IsMask m.vars row var mask → Enables m row codes → var < length m.vars → mask % 2 ≡ 0 → slice_index codes var ≢ 0
+pub never_first : (m : Machine) (row : Row) (var mask : ℕ) (codes : List ℕ)
+    → IsMask m.vars row var mask → Enables m row codes → var < length m.vars → mask % 2 ≡ 0
+    → slice_index codes var ≢ 0
 never_first m row var mask codes is e below even first =
     let there = ap (bit_at mask) (sym first) ∙ code_there m row var mask codes is e below in
     let clear = bit_at_lowest mask ∙ even in
     omega arith
 
 -- two words with a common bit
-pub common_place : (said denied : ℕ) → said < 2 ^ 64 → not (nat_eq (bit_and said denied) 0) ≡ true → (place : ℕ) × (bit_at said place ≡ 1) × (bit_at denied place ≡ 1)
+pub common_place : (said denied : ℕ) → said < 2 ^ 64 → not (nat_eq (bit_and said denied) 0) ≡ true
+    → (place : ℕ) × (bit_at said place ≡ 1) × (bit_at denied place ≡ 1)
 common_place said denied fits some =
     let both = bit_and said denied in
     let below = and_le_l said denied in
@@ -76,26 +100,36 @@ common_place said denied fits some =
     ] in
     let place = trailing_zeros w64 both in
     let set = (lowest_bit both there (omega arith)).0 in
-    let parts = and_parts (bit_at said place == 1) (bit_at denied place == 1) (sym (both_bits said denied place) ∙ alike (bit_at both place) 1 set) in
+    let parts = and_parts (bit_at said place == 1) (bit_at denied place == 1)
+    (sym (both_bits said denied place) ∙ alike (bit_at both place) 1 set) in
     (place, eqb-true (bit_at said place) 1 parts.0, eqb-true (bit_at denied place) 1 parts.1)
 
 -- such rows don't conflict
-pub apart_rows : (m : Machine) (marks : List Marks) (a b : ℕ) (first second : Marks) → AreMarked m marks → slice_get marks a ≡ Some first → slice_get marks b ≡ Some second
-    → (place : ℕ) × (bit_at second.said place ≡ 1) × (bit_at first.denied place ≡ 1) → (t : Snapshot) → Conflict m a b t → ⊥
-apart_rows m marks a b first second are at_a at_b apart t conflict = by (slice_get m.rows a) (slice_get m.rows b) refl refl conflict.first conflict.second
+pub apart_rows : (m : Machine) (marks : List Marks) (a b : ℕ) (first second : Marks)
+    → AreMarked m marks → slice_get marks a ≡ Some first → slice_get marks b ≡ Some second
+    → (place : ℕ) × (bit_at second.said place ≡ 1) × (bit_at first.denied place ≡ 1)
+    → (t : Snapshot) → Conflict m a b t → ⊥
+apart_rows m marks a b first second are at_a at_b apart t conflict =
+    by (slice_get m.rows a) (slice_get m.rows b) refl refl conflict.first conflict.second
   where
-    by : (o p : Option Row) → slice_get m.rows a ≡ o → slice_get m.rows b ≡ p → holds t.codes o ≡ true → holds t.codes p ≡ true → ⊥
+    by : (o p : Option Row) → slice_get m.rows a ≡ o → slice_get m.rows b ≡ p
+        → holds t.codes o ≡ true → holds t.codes p ≡ true → ⊥
     by None p here there of_first of_second = cc
     by (Some row) None here there of_first of_second = cc
     by (Some row) (Some other) here there of_first of_second =
-        let denied = (are.each a row first here at_a).denied apart.0 t.codes (record { snapshot = conflict.snapshot; held = of_first }) apart.2 in
-        let said = (are.each b other second there at_b).said apart.0 t.codes (record { snapshot = conflict.snapshot; held = of_second }) apart.1 in
+        let denied = (are.each a row first here at_a).denied apart.0 t.codes
+        (record { snapshot = conflict.snapshot; held = of_first }) apart.2 in
+        let said = (are.each b other second there at_b).said apart.0 t.codes
+        (record { snapshot = conflict.snapshot; held = of_second }) apart.1 in
         true≢false (sym said ∙ denied)
 
 -- nor does any of the rows between two places
-pub none_between : (m : Machine) (marks : List Marks) (a from end : ℕ) (first : Marks) → AreMarked m marks → slice_get marks a ≡ Some first → end ≤ length marks
-    → ((r : ℕ) (of_row : Marks) → from ≤ r → r < end → slice_get marks r ≡ Some of_row → (place : ℕ) × (bit_at of_row.said place ≡ 1) × (bit_at first.denied place ≡ 1))
+pub none_between : (m : Machine) (marks : List Marks) (a from end : ℕ) (first : Marks)
+    → AreMarked m marks → slice_get marks a ≡ Some first → end ≤ length marks
+    → ((r : ℕ) (of_row : Marks) → from ≤ r → r < end → slice_get marks r ≡ Some of_row
+    → (place : ℕ) × (bit_at of_row.said place ≡ 1) × (bit_at first.denied place ≡ 1))
     → (d : ℕ) (t : Snapshot) → from ≤ d → d < end → Conflict m a d t → ⊥
 none_between m marks a from end first are at_a within apart d t low high conflict =
     let there = slice_get-get_or marks d first (omega arith) in
-    apart_rows m marks a d first (get_or marks d first) are at_a there (apart d (get_or marks d first) low high there) t conflict
+    apart_rows m marks a d first (get_or marks d first) are at_a there
+    (apart d (get_or marks d first) low high there) t conflict

@@ -15,7 +15,8 @@ use Rattle.determinism.proofs.Results.{same_result, same_codes}
 never : true ≡ false → ⊥
 never h = cc
 
-pub best_at_first : (m : Machine) (first second : Row) (sets best : List ℕ) → IsBest m first second sets 1 false best
+pub best_at_first : (m : Machine) (first second : Row) (sets best : List ℕ)
+    → IsBest m first second sets 1 false best
 best_at_first m first second sets best = record {
   none = λ f k t from below. absurd (omega arith);
   inside = λ f. absurd (never (sym f));
@@ -24,24 +25,31 @@ best_at_first m first second sets best = record {
 }
 
 -- the result nowhere differs
-pub best_kept : (m : Machine) (first second : Row) (sets : List ℕ) (y : ℕ) (found : Bool) (best : List ℕ) → IsBest m first second sets y found best → ((t : List ℕ) → IsIn sets t → Differ m first second y t → ⊥) → IsBest m first second sets (y + 1) found best
+pub best_kept : (m : Machine) (first second : Row) (sets : List ℕ) (y : ℕ) (found : Bool)
+    (best : List ℕ) → IsBest m first second sets y found best
+    → ((t : List ℕ) → IsIn sets t → Differ m first second y t → ⊥)
+    → IsBest m first second sets (y + 1) found best
 best_kept m first second sets y found best h none = record {
   none = λ f k t from below inside differ.
       elim (cases_lt k y) [
         | inl before ↦ h.none f k t from before inside differ
-        | inr over ↦ let here : k ≡ y = omega arith in none t inside (subst (λ j. Differ m first second j t) here differ)
+        | inr over ↦ let here : k ≡ y = omega arith in
+            none t inside (subst (λ j. Differ m first second j t) here differ)
       ];
   inside = h.inside;
   differ = λ f. let d = h.differ f in (d.0, d.1, (let below = d.2 in omega arith), d.3);
   least = λ f k t from below inside differ.
       elim (cases_lt k y) [
         | inl before ↦ h.least f k t from before inside differ
-        | inr over ↦ let here : k ≡ y = omega arith in absurd (none t inside (subst (λ j. Differ m first second j t) here differ))
+        | inr over ↦ let here : k ≡ y = omega arith in
+            absurd (none t inside (subst (λ j. Differ m first second j t) here differ))
       ];
 }
 
 -- the result differs first after the best so far
-pub best_stays : (m : Machine) (first second : Row) (sets : List ℕ) (y : ℕ) (best codes : List ℕ) → IsBest m first second sets y true best → IsLeastAt m first second y sets codes → Before best codes → IsBest m first second sets (y + 1) true best
+pub best_stays : (m : Machine) (first second : Row) (sets : List ℕ) (y : ℕ) (best codes : List ℕ)
+    → IsBest m first second sets y true best → IsLeastAt m first second y sets codes
+    → Before best codes → IsBest m first second sets (y + 1) true best
 best_stays m first second sets y best codes h at before = record {
   none = λ f. absurd (never f);
   inside = h.inside;
@@ -49,12 +57,17 @@ best_stays m first second sets y best codes h at before = record {
   least = λ f k t from below inside differ.
       elim (cases_lt k y) [
         | inl earlier ↦ h.least f k t from earlier inside differ
-        | inr over ↦ let here : k ≡ y = omega arith in before_trans best codes t before (at.least t inside (subst (λ j. Differ m first second j t) here differ))
+        | inr over ↦ let here : k ≡ y = omega arith in
+            before_trans best codes t before
+            (at.least t inside (subst (λ j. Differ m first second j t) here differ))
       ];
 }
 
 -- the result differs first before the best so far
-pub best_moves : (m : Machine) (first second : Row) (sets : List ℕ) (y : ℕ) (found : Bool) (best codes : List ℕ) → 1 ≤ y → IsBest m first second sets y found best → IsLeastAt m first second y sets codes → (found ≡ true → Before codes best) → IsBest m first second sets (y + 1) true codes
+pub best_moves : (m : Machine) (first second : Row) (sets : List ℕ) (y : ℕ) (found : Bool)
+    (best codes : List ℕ) → 1 ≤ y → IsBest m first second sets y found best
+    → IsLeastAt m first second y sets codes → (found ≡ true → Before codes best)
+    → IsBest m first second sets (y + 1) true codes
 best_moves m first second sets y found best codes some h at before = record {
   none = λ f. absurd (never f);
   inside = λ f. at.inside;
@@ -62,16 +75,21 @@ best_moves m first second sets y found best codes some h at before = record {
   least = λ f k t from below inside differ.
       elim (cases_lt k y) [
         | inl earlier ↦ earlier_ones found refl k t from earlier inside differ
-        | inr over ↦ let here : k ≡ y = omega arith in at.least t inside (subst (λ j. Differ m first second j t) here differ)
+        | inr over ↦ let here : k ≡ y = omega arith in
+            at.least t inside (subst (λ j. Differ m first second j t) here differ)
       ];
 }
   where
-    earlier_ones : (b : Bool) → found ≡ b → (k : ℕ) (t : List ℕ) → 1 ≤ k → k < y → IsIn sets t → Differ m first second k t → Before codes t
-    earlier_ones true is k t from earlier inside differ = before_trans codes best t (before is) (h.least is k t from earlier inside differ)
-    earlier_ones false is k t from earlier inside differ = absurd (h.none is k t from earlier inside differ)
+    earlier_ones : (b : Bool) → found ≡ b → (k : ℕ) (t : List ℕ) → 1 ≤ k → k < y → IsIn sets t
+        → Differ m first second k t → Before codes t
+    earlier_ones true is k t from earlier inside differ =
+        before_trans codes best t (before is) (h.least is k t from earlier inside differ)
+    earlier_ones false is k t from earlier inside differ =
+        absurd (h.none is k t from earlier inside differ)
 
 -- all results are the same, or one differs
-some_differs : (n : ℕ) (f g : ℕ → ℕ) → ((k : ℕ) → 1 ≤ k → k < n → f k ≡ g k) ⊎ ((k : ℕ) × (1 ≤ k) × (k < n) × (f k ≢ g k))
+some_differs : (n : ℕ) (f g : ℕ → ℕ)
+    → ((k : ℕ) → 1 ≤ k → k < n → f k ≡ g k) ⊎ ((k : ℕ) × (1 ≤ k) × (k < n) × (f k ≢ g k))
 some_differs zero f g = inl (λ k from below. absurd (omega arith))
 some_differs (suc zero) f g = inl (λ k from below. absurd (omega arith))
 some_differs (suc (suc n)) f g =
@@ -83,7 +101,8 @@ some_differs (suc (suc n)) f g =
       ]
     ]
   where
-    last_one : (n : ℕ) (f g : ℕ → ℕ) → ((k : ℕ) → 1 ≤ k → k < suc n → f k ≡ g k) → f (suc n) ≡ g (suc n) → (k : ℕ) → 1 ≤ k → k < suc (suc n) → f k ≡ g k
+    last_one : (n : ℕ) (f g : ℕ → ℕ) → ((k : ℕ) → 1 ≤ k → k < suc n → f k ≡ g k)
+        → f (suc n) ≡ g (suc n) → (k : ℕ) → 1 ≤ k → k < suc (suc n) → f k ≡ g k
     last_one n f g same here k from below =
         elim (cases_lt k (suc n)) [
           | inl before ↦ same k from before
@@ -91,32 +110,45 @@ some_differs (suc (suc n)) f g =
         ]
 
 -- a conflict enables both rows, and some result differs
-enables : (m : Machine) (a b : ℕ) (first second : Row) (t : Snapshot) → slice_get m.rows a ≡ Some first → slice_get m.rows b ≡ Some second → Conflict m a b t → EnableBoth m first second t.codes
+enables : (m : Machine) (a b : ℕ) (first second : Row) (t : Snapshot)
+    → slice_get m.rows a ≡ Some first → slice_get m.rows b ≡ Some second → Conflict m a b t
+    → EnableBoth m first second t.codes
 enables m a b first second t at_a at_b c =
     let on_first : list_all (allows t.codes) first.conds ≡ true = rw at_a at c.first in
     let on_second : list_all (allows t.codes) second.conds ≡ true = rw at_b at c.second in
     record { snapshot = c.snapshot; of_first = on_first; of_second = on_second }
 
-differs : (m : Machine) (a b : ℕ) (first second : Row) (t : Snapshot) → slice_get m.rows a ≡ Some first → slice_get m.rows b ≡ Some second → Conflict m a b t
-    → (k : ℕ) × (1 ≤ k) × (k < 1 + length m.states + length m.outputs) × Differ m first second k t.codes
+differs : (m : Machine) (a b : ℕ) (first second : Row) (t : Snapshot)
+    → slice_get m.rows a ≡ Some first → slice_get m.rows b ≡ Some second → Conflict m a b t
+    → (k : ℕ) × (1 ≤ k) × (k < 1 + length m.states + length m.outputs)
+    × Differ m first second k t.codes
 differs m a b first second t at_a at_b c =
-    elim (some_differs (1 + length m.states + length m.outputs) (code_given m t.codes first.acts) (code_given m t.codes second.acts)) [
+    elim (some_differs (1 + length m.states + length m.outputs) (code_given m t.codes first.acts)
+    (code_given m t.codes second.acts)) [
       | inl same ↦ absurd (c.differ (same_result m t a b first second at_a at_b same))
       | inr there ↦ there
     ]
 
-pub best_none : (m : Machine) (a b : ℕ) (first second : Row) (sets : List ℕ) (best : List ℕ) → slice_get m.rows a ≡ Some first → slice_get m.rows b ≡ Some second → IsBox m first second sets
-    → IsBest m first second sets (1 + length m.states + length m.outputs) false best → (t : Snapshot) → Conflict m a b t → ⊥
+pub best_none : (m : Machine) (a b : ℕ) (first second : Row) (sets : List ℕ) (best : List ℕ)
+    → slice_get m.rows a ≡ Some first → slice_get m.rows b ≡ Some second → IsBox m first second sets
+    → IsBest m first second sets (1 + length m.states + length m.outputs) false best
+    → (t : Snapshot) → Conflict m a b t → ⊥
 best_none m a b first second sets best at_a at_b box h t c =
     let inside = box.whole t.codes (enables m a b first second t at_a at_b c) in
     let d = differs m a b first second t at_a at_b c in
     h.none refl d.0 t.codes d.1 d.2 inside d.3
 
-pub none_conflict : (m : Machine) (a b : ℕ) (first second : Row) → slice_get m.rows a ≡ Some first → slice_get m.rows b ≡ Some second → ((codes : List ℕ) → EnableBoth m first second codes → ⊥) → (t : Snapshot) → Conflict m a b t → ⊥
-none_conflict m a b first second at_a at_b none t c = none t.codes (enables m a b first second t at_a at_b c)
+pub none_conflict : (m : Machine) (a b : ℕ) (first second : Row) → slice_get m.rows a ≡ Some first
+    → slice_get m.rows b ≡ Some second → ((codes : List ℕ) → EnableBoth m first second codes → ⊥)
+    → (t : Snapshot) → Conflict m a b t → ⊥
+none_conflict m a b first second at_a at_b none t c =
+    none t.codes (enables m a b first second t at_a at_b c)
 
-pub best_conflict : (m : Machine) (a b : ℕ) (first second : Row) (sets : List ℕ) (best : Snapshot) → a < b → slice_get m.rows a ≡ Some first → slice_get m.rows b ≡ Some second → IsBox m first second sets
-    → IsBest m first second sets (1 + length m.states + length m.outputs) true best.codes → IsLeastOf m a b best
+pub best_conflict : (m : Machine) (a b : ℕ) (first second : Row) (sets : List ℕ) (best : Snapshot)
+    → a < b → slice_get m.rows a ≡ Some first → slice_get m.rows b ≡ Some second
+    → IsBox m first second sets
+    → IsBest m first second sets (1 + length m.states + length m.outputs) true best.codes
+    → IsLeastOf m a b best
 best_conflict m a b first second sets best order at_a at_b box h =
     let both = box.inside best.codes (h.inside refl) in
     let d = h.differ refl in
@@ -131,7 +163,8 @@ best_conflict m a b first second sets best order at_a at_b box h =
       least = λ t c.
           let inside = box.whole t.codes (enables m a b first second t at_a at_b c) in
           let e = differs m a b first second t at_a at_b c in
-          up_to best.codes t.codes ((h.inside refl).long ∙ sym inside.long) (h.least refl e.0 t.codes e.1 e.2 inside e.3);
+          up_to best.codes t.codes ((h.inside refl).long ∙ sym inside.long)
+          (h.least refl e.0 t.codes e.1 e.2 inside e.3);
     }
 
 pub true_or_false : (b : Bool) → b ≡ true → b ≡ false → ⊥

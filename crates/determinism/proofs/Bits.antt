@@ -21,7 +21,8 @@ least_of_bits zero (suc (suc y)) a b = absurd (omega arith)
 least_of_bits (suc zero) (suc (suc y)) a b = absurd (omega arith)
 
 pub both_bits : (a b i : ℕ) → (bit_at (bit_and a b) i == 1) ≡ (bit_at a i == 1 && bit_at b i == 1)
-both_bits a b i = ap (λ n. n == 1) (bit_at_and a b i) ∙ least_of_bits (bit_at a i) (bit_at b i) (bit_at-lt a i) (bit_at-lt b i)
+both_bits a b i = ap (λ n. n == 1) (bit_at_and a b i)
+    ∙ least_of_bits (bit_at a i) (bit_at b i) (bit_at-lt a i) (bit_at-lt b i)
 
 and_grouped : (a b c : Bool) → (a && (b && c)) ≡ ((a && b) && c)
 and_grouped true b c = refl
@@ -35,55 +36,87 @@ alike a b h =
     ]
 
 -- a condition on the variable takes codes away
-pub taken : (left var code : ℕ) (item : Cond) (rest : List Cond) → item.var == var ≡ true → (bit_at left code == 1 && list_all (allows_code var code) (item ∷ rest)) ≡ (bit_at (bit_and left item.codes) code == 1 && list_all (allows_code var code) rest)
+pub taken : (left var code : ℕ) (item : Cond) (rest : List Cond) → item.var == var ≡ true
+    → (bit_at left code == 1 && list_all (allows_code var code) (item ∷ rest))
+    ≡ (bit_at (bit_and left item.codes) code == 1 && list_all (allows_code var code) rest)
 taken left var code item rest here =
     let own : allows_code var code item ≡ (bit_at item.codes code == 1) = rw here refl in
     ap (λ b. bit_at left code == 1 && (b && list_all (allows_code var code) rest)) own
-    ∙ and_grouped (bit_at left code == 1) (bit_at item.codes code == 1) (list_all (allows_code var code) rest)
+    ∙ and_grouped (bit_at left code == 1) (bit_at item.codes code == 1)
+    (list_all (allows_code var code) rest)
     ∙ ap (λ b. b && list_all (allows_code var code) rest) (sym (both_bits left item.codes code))
 
 -- and one on another doesn't
-pub passed : (left var code : ℕ) (item : Cond) (rest : List Cond) → item.var == var ≡ false → (bit_at left code == 1 && list_all (allows_code var code) (item ∷ rest)) ≡ (bit_at left code == 1 && list_all (allows_code var code) rest)
+pub passed : (left var code : ℕ) (item : Cond) (rest : List Cond) → item.var == var ≡ false
+    → (bit_at left code == 1 && list_all (allows_code var code) (item ∷ rest))
+    ≡ (bit_at left code == 1 && list_all (allows_code var code) rest)
 passed left var code item rest elsewhere =
     let own : allows_code var code item ≡ true = rw elsewhere refl in
     ap (λ b. bit_at left code == 1 && (b && list_all (allows_code var code) rest)) own
 
 -- the next condition leaves what it allows, and what the others leave of that is what all leave
 pub next_leaves : (left var code i next : ℕ) (conds : List Cond) (d : Cond) → i < length conds
-    → (((get_or conds i d).var ≡ var) × (next ≡ bit_and left (get_or conds i d).codes)) ⊎ (((get_or conds i d).var ≢ var) × (next ≡ left))
-    → (bit_at next code == 1 && list_all (allows_code var code) (drop (i + 1) conds)) ≡ (bit_at left code == 1 && list_all (allows_code var code) (drop i conds))
+    → (((get_or conds i d).var ≡ var) × (next ≡ bit_and left (get_or conds i d).codes))
+    ⊎ (((get_or conds i d).var ≢ var) × (next ≡ left))
+    → (bit_at next code == 1 && list_all (allows_code var code) (drop (i + 1) conds))
+    ≡ (bit_at left code == 1 && list_all (allows_code var code) (drop i conds))
 next_leaves left var code i next conds d below (inl h) =
-    rw (drop-cons conds i d below, add-one, h.1) (sym (taken left var code (get_or conds i d) (drop (suc i) conds) (alike (get_or conds i d).var var h.0)))
+    rw (drop-cons conds i d below, add-one, h.1)
+    (sym (taken left var code (get_or conds i d) (drop (suc i) conds)
+    (alike (get_or conds i d).var var h.0)))
 next_leaves left var code i next conds d below (inr h) =
-    rw (drop-cons conds i d below, add-one, h.1) (sym (passed left var code (get_or conds i d) (drop (suc i) conds) (ne_eqb (get_or conds i d).var var h.0)))
+    rw (drop-cons conds i d below, add-one, h.1)
+    (sym (passed left var code (get_or conds i d) (drop (suc i) conds)
+    (ne_eqb (get_or conds i d).var var h.0)))
 
 -- the next condition takes codes away from the set of its variable
-pub set_leaves : (masks : List ℕ) (var code i left : ℕ) (conds : List Cond) (d : Cond) → i < length conds → slice_get masks (get_or conds i d).var ≡ Some left → (get_or conds i d).var < length masks
-    → (bit_at (slice_index (slice_set masks (get_or conds i d).var (bit_and left (get_or conds i d).codes)) var) code == 1 && list_all (allows_code var code) (drop (i + 1) conds)) ≡ (bit_at (slice_index masks var) code == 1 && list_all (allows_code var code) (drop i conds))
+pub set_leaves : (masks : List ℕ) (var code i left : ℕ) (conds : List Cond) (d : Cond)
+    → i < length conds → slice_get masks (get_or conds i d).var ≡ Some left
+    → (get_or conds i d).var < length masks
+    → (bit_at (slice_index
+    (slice_set masks (get_or conds i d).var (bit_and left (get_or conds i d).codes)) var) code
+    == 1 && list_all (allows_code var code) (drop (i + 1) conds))
+    ≡ (bit_at (slice_index masks var) code == 1
+    && list_all (allows_code var code) (drop i conds))
 set_leaves masks var code i left conds d below at within =
     let own = (get_or conds i d).var in
     let codes = (get_or conds i d).codes in
     let next = bit_and left codes in
     elim (eqb_tells own var) [
       | inl here ↦
-          next_leaves (slice_index masks var) var code i (slice_index (slice_set masks own next) var) conds d below (inl (
+          next_leaves (slice_index masks var) var code i
+          (slice_index (slice_set masks own next) var) conds d below (inl (
             here.1,
-            ap (slice_index (slice_set masks own next)) (sym here.1) ∙ get_or-set_same masks own next 0 within ∙ ap (λ n. bit_and n codes) (sym (get_or_from_slice_get masks own left 0 at) ∙ ap (slice_index masks) here.1),
+            ap (slice_index (slice_set masks own next)) (sym here.1)
+                ∙ get_or-set_same masks own next 0 within
+                ∙ ap (λ n. bit_and n codes) (sym (get_or_from_slice_get masks own left 0 at)
+                ∙ ap (slice_index masks) here.1),
           ))
-      | inr apart ↦ next_leaves (slice_index masks var) var code i (slice_index (slice_set masks own next) var) conds d below (inr (apart.1, get_or-set_other masks own var next 0 (λ e. apart.1 (sym e))))
+      | inr apart ↦ next_leaves (slice_index masks var) var code i
+          (slice_index (slice_set masks own next) var) conds d below
+          (inr (apart.1, get_or-set_other masks own var next 0 (λ e. apart.1 (sym e))))
     ]
 
 -- and one on a variable that there isn't doesn't
-pub passes : (masks : List ℕ) (var code i : ℕ) (conds : List Cond) (d : Cond) → i < length conds → var < length masks → length masks ≤ (get_or conds i d).var
-    → (bit_at (slice_index masks var) code == 1 && list_all (allows_code var code) (drop (i + 1) conds)) ≡ (bit_at (slice_index masks var) code == 1 && list_all (allows_code var code) (drop i conds))
-passes masks var code i conds d below within past = next_leaves (slice_index masks var) var code i (slice_index masks var) conds d below (inr (λ e. omega (arith, e), refl))
+pub passes : (masks : List ℕ) (var code i : ℕ) (conds : List Cond) (d : Cond) → i < length conds
+    → var < length masks → length masks ≤ (get_or conds i d).var
+    → (bit_at (slice_index masks var) code == 1
+    && list_all (allows_code var code) (drop (i + 1) conds))
+    ≡ (bit_at (slice_index masks var) code == 1
+    && list_all (allows_code var code) (drop i conds))
+passes masks var code i conds d below within past =
+    next_leaves (slice_index masks var) var code i (slice_index masks var) conds d below
+    (inr (λ e. omega (arith, e), refl))
 
 -- the bits of two items together
-pub bits_at : (xs ys : List ℕ) (k x y code : ℕ) → slice_get xs k ≡ Some x → slice_get ys k ≡ Some y → (bit_at (bit_and x y) code == 1) ≡ (bit_at (slice_index xs k) code == 1 && bit_at (slice_index ys k) code == 1)
+pub bits_at : (xs ys : List ℕ) (k x y code : ℕ) → slice_get xs k ≡ Some x → slice_get ys k ≡ Some y
+    → (bit_at (bit_and x y) code == 1)
+    ≡ (bit_at (slice_index xs k) code == 1 && bit_at (slice_index ys k) code == 1)
 bits_at xs ys k x y code at_x at_y =
     both_bits x y code
     ∙ ap (λ n. bit_at n code == 1 && bit_at y code == 1) (sym (get_or_from_slice_get xs k x 0 at_x))
-    ∙ ap (λ n. bit_at (slice_index xs k) code == 1 && bit_at n code == 1) (sym (get_or_from_slice_get ys k y 0 at_y))
+    ∙ ap (λ n. bit_at (slice_index xs k) code == 1 && bit_at n code == 1)
+    (sym (get_or_from_slice_get ys k y 0 at_y))
 
 pub no_bits : (n code : ℕ) → n ≡ 0 → (bit_at n code == 1) ≡ false
 no_bits n code none = ap (λ i. bit_at i code == 1) none ∙ ap (λ i. i == 1) (bit_at-zero code)

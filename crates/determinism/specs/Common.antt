@@ -1,4 +1,5 @@
--- Snapshots that enable two rows, as one set of codes for each variable, and those on which a result differs.
+-- Snapshots that enable two rows, as one set of codes for each variable, and those on which a
+-- result differs.
 use Rattle.std.specs.Prelude.{◌≡◌, ◌≢◌, ◌⊎◌, ◌<◌, ◌≤◌, ◌==◌, ◌&&◌, ◌||◌, ℕ, Bool, true, false, not, nat_lt, List, [], ◌∷◌, length, slice_get, slice_index, Some, IsTrue, ⊤}
 use Rattle.std.specs.List.{list_all}
 use Rattle.std.specs.Int.{bit_at}
@@ -18,7 +19,8 @@ allows_code var code condition = not (condition.var == var) || bit_at condition.
 
 -- a code of the variable that the row allows
 abbrev pub is_allowed : List ℕ → Row → ℕ → ℕ → Bool
-is_allowed vars row var code = nat_lt code (slice_index vars var) && list_all (allows_code var code) row.conds
+is_allowed vars row var code = nat_lt code (slice_index vars var)
+    && list_all (allows_code var code) row.conds
 
 -- the codes of the variable that the row allows, one bit each
 abbrev pub IsMask : List ℕ → Row → ℕ → ℕ → Type 0
@@ -27,7 +29,8 @@ IsMask vars row var mask = (code : ℕ) → (bit_at mask code == 1) ≡ is_allow
 -- all codes of each variable
 pub record AreWhole (vars masks : List ℕ) : Type 0 where
   pub long : length masks ≡ length vars
-  pub each : (var : ℕ) → var < length vars → (code : ℕ) → (bit_at (slice_index masks var) code == 1) ≡ nat_lt code (slice_index vars var)
+  pub each : (var : ℕ) → var < length vars → (code : ℕ)
+      → (bit_at (slice_index masks var) code == 1) ≡ nat_lt code (slice_index vars var)
 
 -- one set for each variable, of the codes that the row allows
 pub record AreMasks (vars : List ℕ) (row : Row) (masks : List ℕ) : Type 0 where
@@ -37,7 +40,8 @@ pub record AreMasks (vars : List ℕ) (row : Row) (masks : List ℕ) : Type 0 wh
 -- and these for each row
 pub record IsTable (vars : List ℕ) (rows : List Row) (table : List (List ℕ)) : Type 0 where
   pub long : length table ≡ length rows
-  pub each : (r : ℕ) (row : Row) (masks : List ℕ) → slice_get rows r ≡ Some row → slice_get table r ≡ Some masks → AreMasks vars row masks
+  pub each : (r : ℕ) (row : Row) (masks : List ℕ) → slice_get rows r ≡ Some row
+      → slice_get table r ≡ Some masks → AreMasks vars row masks
 
 -- one code of each set
 pub record IsIn (sets codes : List ℕ) : Type 0 where
@@ -64,7 +68,8 @@ AreSome sets = (k : ℕ) → k < length sets → 0 < slice_index sets k
 -- the least code of each set
 pub record AreLeast (sets codes : List ℕ) : Type 0 where
   pub inside : IsIn sets codes
-  pub least : (k code : ℕ) → k < length sets → bit_at (slice_index sets k) code ≡ 1 → slice_index codes k ≤ code
+  pub least : (k code : ℕ) → k < length sets → bit_at (slice_index sets k) code ≡ 1
+      → slice_index codes k ≤ code
 
 -- the rows give the result different codes
 abbrev pub Differ : Machine → Row → Row → ℕ → List ℕ → Type 0
@@ -73,7 +78,9 @@ Differ m first second y codes = code_given m codes first.acts y ≢ code_given m
 -- what the row gives the result depends on these two variables at most
 abbrev pub Reads : Machine → Row → ℕ → ℕ → ℕ → Type 0
 Reads m row y u v =
-    (codes others : List ℕ) → slice_index codes u ≡ slice_index others u → slice_index codes v ≡ slice_index others v → code_given m codes row.acts y ≡ code_given m others row.acts y
+    (codes others : List ℕ) → slice_index codes u ≡ slice_index others u
+    → slice_index codes v ≡ slice_index others v
+    → code_given m codes row.acts y ≡ code_given m others row.acts y
 
 -- the codes are the same but at these two variables
 abbrev pub SameBut : ℕ → ℕ → List ℕ → List ℕ → Type 0
@@ -92,11 +99,14 @@ pub record IsLeastAt (m : Machine) (first second : Row) (y : ℕ) (sets codes : 
   pub least : (t : List ℕ) → IsIn sets t → Differ m first second y t → Before codes t
 
 -- the least such list for the results before y, where there is one
-pub record IsBest (m : Machine) (first second : Row) (sets : List ℕ) (y : ℕ) (found : Bool) (best : List ℕ) : Type 0 where
-  pub none : found ≡ false → (k : ℕ) (t : List ℕ) → 1 ≤ k → k < y → IsIn sets t → ¬ Differ m first second k t
+pub record IsBest (m : Machine) (first second : Row) (sets : List ℕ) (y : ℕ) (found : Bool)
+    (best : List ℕ) : Type 0 where
+  pub none : found ≡ false → (k : ℕ) (t : List ℕ) → 1 ≤ k → k < y → IsIn sets t
+      → ¬ Differ m first second k t
   pub inside : found ≡ true → IsIn sets best
   pub differ : found ≡ true → (k : ℕ) × (1 ≤ k) × (k < y) × Differ m first second k best
-  pub least : found ≡ true → (k : ℕ) (t : List ℕ) → 1 ≤ k → k < y → IsIn sets t → Differ m first second k t → Before best t
+  pub least : found ≡ true → (k : ℕ) (t : List ℕ) → 1 ≤ k → k < y → IsIn sets t
+      → Differ m first second k t → Before best t
 
 -- s is t or stands before it: of the first two codes that differ the smaller is that of s
 abbrev pub IsUpTo : Snapshot → Snapshot → Type 0

@@ -18,8 +18,8 @@ pub record IsFirstWith (m : Machine) (a b : ℕ) (s : Snapshot) : Type 0 where
   pub first_row : (d : ℕ) (t : Snapshot) → Conflict m a d t → b ≤ d
   pub least_snapshot : (t : Snapshot) → Conflict m a b t → IsUpTo s t
 
--- the two rows conflict on the snapshot; each pair that conflicts is this one or stands after it; and on each
--- snapshot on which these two conflict is this one or stands after it
+-- the two rows conflict on the snapshot; each pair that conflicts is this one or stands after it;
+-- and on each snapshot on which these two conflict is this one or stands after it
 pub record IsLeastConflict (m : Machine) (a b : ℕ) (s : Snapshot) : Type 0 where
   pub conflict : Conflict m a b s
   pub least_pair : (c d : ℕ) (t : Snapshot) → Conflict m c d t → (a < c) ⊎ ((a ≡ c) × (b ≤ d))

@@ -57,7 +57,8 @@ fn improve(
     found: bool,
     best: &mut Snapshot,
 ) -> bool
-    requires first { IsTrue (is_row machine.now.inputs machine.now.vars machine.now.results first.now) }
+    requires first { IsTrue
+        (is_row machine.now.inputs machine.now.vars machine.now.results first.now) }
     requires second { IsTrue (is_row machine.now.inputs machine.now.vars machine.now.results second.now) }
     requires area { IsBox machine.now first.now second.now sets.now }
     requires some { AreSome sets.now }
@@ -153,9 +154,9 @@ fn conflicting(
     None
 }
 
-/// Whether no two rows of a machine are enabled on one snapshot with results that differ, and otherwise the least such
-/// conflict: by the first row, then by the second, then by the snapshot, compared as a list of codes. Rows with equal
-/// results may overlap.
+/// Whether no two rows of a machine are enabled on one snapshot with results that differ, and
+/// otherwise the least such conflict: by the first row, then by the second, then by the snapshot,
+/// compared as a list of codes. Rows with equal results may overlap.
 pub fn check(alloc: Global, m: &Machine) -> Result<(), CheckFault>
     ensures { Answers m.now result }
 {

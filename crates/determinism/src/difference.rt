@@ -1,5 +1,5 @@
-// The least snapshot of two rows' overlap on which they give one result different codes. Each row's code depends on one
-// variable at most, so all other variables keep their least codes.
+// The least snapshot of two rows' overlap on which they give one result different codes. Each row's
+// code depends on one variable at most, so all other variables keep their least codes.
 ghost use Rattle.std.specs.Prelude.{◌≡◌, ◌≢◌, ◌⊎◌, ◌<◌, ◌≤◌, ◌==◌, ℕ, List, length, slice_index, IfSome, IfNone, IsTrue, IsFalse};
 ghost use Rattle.std.specs.List.{list_all};
 ghost use Rattle.std.specs.Int.{bit_at};
@@ -23,8 +23,10 @@ fn has_code(set: u64, code: u8) -> bool
 
 // The source that the actions name for a result.
 fn source_of(acts: &[Act], y: u32) -> Option<Source>
-    ensures some { IfSome result (λ source. (m : Machine) (codes : List ℕ) → code_given m codes acts.now y ≡ code_of m.inputs m.vars codes y source) }
-    ensures none { IfNone result ((m : Machine) (codes : List ℕ) → code_given m codes acts.now y ≡ 0) }
+    ensures some { IfSome result (λ source. (m : Machine) (codes : List ℕ)
+        → code_given m codes acts.now y ≡ code_of m.inputs m.vars codes y source) }
+    ensures none { IfNone result ((m : Machine) (codes : List ℕ)
+        → code_given m codes acts.now y ≡ 0) }
 {
     for act in acts {
         if act.result == y {
@@ -36,7 +38,8 @@ fn source_of(acts: &[Act], y: u32) -> Option<Source>
 
 // Both rows name no source for the result, or the same.
 fn same_source(first: &Row, second: &Row, y: u32) -> bool
-    ensures { IsTrue result → (m : Machine) (codes : List ℕ) → code_given m codes first.now.acts y ≡ code_given m codes second.now.acts y }
+    ensures { IsTrue result → (m : Machine) (codes : List ℕ)
+        → code_given m codes first.now.acts y ≡ code_given m codes second.now.acts y }
 {
     match source_of(first.acts.as_slice(), y) {
         Some(source) => match source_of(second.acts.as_slice(), y) {
@@ -52,7 +55,9 @@ fn read(machine: &Machine, act: &Act) -> u64
     requires action { IsTrue (names_result machine.now.inputs machine.now.vars machine.now.results act.now) }
     requires some { 0 < length machine.now.vars }
     ensures there { result < length machine.now.vars }
-    ensures only { (codes others : List ℕ) → slice_index codes result ≡ slice_index others result → code_of machine.now.inputs machine.now.vars codes act.now.result act.now.source ≡ code_of machine.now.inputs machine.now.vars others act.now.result act.now.source }
+    ensures only { (codes others : List ℕ) → slice_index codes result ≡ slice_index others result
+        → code_of machine.now.inputs machine.now.vars codes act.now.result act.now.source
+        ≡ code_of machine.now.inputs machine.now.vars others act.now.result act.now.source }
 {
     match act.source {
         Source::Code(_) => 0,
@@ -63,10 +68,12 @@ fn read(machine: &Machine, act: &Act) -> u64
 
 // The variable on which it depends what the actions give a result.
 fn read_by(machine: &Machine, acts: &[Act], y: u32) -> u64
-    requires actions { IsTrue (list_all (names_result machine.now.inputs machine.now.vars machine.now.results) acts.now) }
+    requires actions { IsTrue (list_all (names_result machine.now.inputs machine.now.vars machine.now.results)
+        acts.now) }
     requires some { 0 < length machine.now.vars }
     ensures there { result < length machine.now.vars }
-    ensures only { (codes others : List ℕ) → slice_index codes result ≡ slice_index others result → code_given machine.now codes acts.now y ≡ code_given machine.now others acts.now y }
+    ensures only { (codes others : List ℕ) → slice_index codes result ≡ slice_index others result
+        → code_given machine.now codes acts.now y ≡ code_given machine.now others acts.now y }
 {
     for act in acts {
         if act.result == y {
@@ -78,11 +85,13 @@ fn read_by(machine: &Machine, acts: &[Act], y: u32) -> u64
 
 // The rows give the result different codes.
 fn differ(machine: &Machine, first: &Row, second: &Row, y: u32, s: &Snapshot) -> bool
-    requires first { IsTrue (is_row machine.now.inputs machine.now.vars machine.now.results first.now) }
+    requires first { IsTrue
+        (is_row machine.now.inputs machine.now.vars machine.now.results first.now) }
     requires second { IsTrue (is_row machine.now.inputs machine.now.vars machine.now.results second.now) }
     requires snapshot { IsSnapshot machine.now s.now }
     ensures differ { IsTrue result → Differ machine.now first.now second.now y s.now.codes }
-    ensures same { IsFalse result → code_given machine.now s.now.codes first.now.acts y ≡ code_given machine.now s.now.codes second.now.acts y }
+    ensures same { IsFalse result → code_given machine.now s.now.codes first.now.acts y
+        ≡ code_given machine.now s.now.codes second.now.acts y }
 {
     first.code_for(machine, y, s) != second.code_for(machine, y, s)
 }
@@ -99,7 +108,8 @@ fn try_code(
     code: u8,
     s: &mut Snapshot,
 ) -> bool
-    requires first { IsTrue (is_row machine.now.inputs machine.now.vars machine.now.results first.now) }
+    requires first { IsTrue
+        (is_row machine.now.inputs machine.now.vars machine.now.results first.now) }
     requires second { IsTrue (is_row machine.now.inputs machine.now.vars machine.now.results second.now) }
     requires area { IsBox machine.now first.now second.now sets.now }
     requires inside { IsIn sets.now s.old.codes }
@@ -111,7 +121,9 @@ fn try_code(
     ensures same { (k : ℕ) → k ≢ v → slice_index s.new.codes k ≡ slice_index s.old.codes k }
     ensures code { IsTrue result → slice_index s.new.codes v ≡ code }
     ensures differ { IsTrue result → Differ machine.now first.now second.now y s.new.codes }
-    ensures none { IsFalse result → (t : List ℕ) → IsIn sets.now t → (u ≢ v → slice_index t u ≡ slice_index s.old.codes u) → slice_index t v ≡ code → ¬ Differ machine.now first.now second.now y t }
+    ensures none { IsFalse result → (t : List ℕ) → IsIn sets.now t
+        → (u ≢ v → slice_index t u ≡ slice_index s.old.codes u) → slice_index t v ≡ code
+        → ¬ Differ machine.now first.now second.now y t }
 {
     if !has_code(*sets.get(v), code) {
         return false;
@@ -131,7 +143,8 @@ fn first_code(
     v: u64,
     s: &mut Snapshot,
 ) -> bool
-    requires first { IsTrue (is_row machine.now.inputs machine.now.vars machine.now.results first.now) }
+    requires first { IsTrue
+        (is_row machine.now.inputs machine.now.vars machine.now.results first.now) }
     requires second { IsTrue (is_row machine.now.inputs machine.now.vars machine.now.results second.now) }
     requires area { IsBox machine.now first.now second.now sets.now }
     requires inside { IsIn sets.now s.old.codes }
@@ -141,8 +154,13 @@ fn first_code(
     ensures inside { IsIn sets.now s.new.codes }
     ensures same { (k : ℕ) → k ≢ v → slice_index s.new.codes k ≡ slice_index s.old.codes k }
     ensures differ { IsTrue result → Differ machine.now first.now second.now y s.new.codes }
-    ensures least { IsTrue result → (t : List ℕ) → IsIn sets.now t → (u ≢ v → slice_index t u ≡ slice_index s.old.codes u) → Differ machine.now first.now second.now y t → slice_index s.new.codes v ≤ slice_index t v }
-    ensures none { IsFalse result → (t : List ℕ) → IsIn sets.now t → (u ≢ v → slice_index t u ≡ slice_index s.old.codes u) → ¬ Differ machine.now first.now second.now y t }
+    ensures least { IsTrue result → (t : List ℕ) → IsIn sets.now t
+        → (u ≢ v → slice_index t u ≡ slice_index s.old.codes u)
+        → Differ machine.now first.now second.now y t
+        → slice_index s.new.codes v ≤ slice_index t v }
+    ensures none { IsFalse result → (t : List ℕ) → IsIn sets.now t
+        → (u ≢ v → slice_index t u ≡ slice_index s.old.codes u)
+        → ¬ Differ machine.now first.now second.now y t }
 {
     for code in 0..33u8 {
         if try_code(machine, first, second, y, sets, u, v, code, s) {
@@ -152,7 +170,8 @@ fn first_code(
     false
 }
 
-// Gives the variable u the code, where its set has it, and then v the least at which the result differs.
+// Gives the variable u the code, where its set has it, and then v the least at which the result
+// differs.
 fn try_first(
     machine: &Machine,
     first: &Row,
@@ -164,7 +183,8 @@ fn try_first(
     code: u8,
     s: &mut Snapshot,
 ) -> bool
-    requires first { IsTrue (is_row machine.now.inputs machine.now.vars machine.now.results first.now) }
+    requires first { IsTrue
+        (is_row machine.now.inputs machine.now.vars machine.now.results first.now) }
     requires second { IsTrue (is_row machine.now.inputs machine.now.vars machine.now.results second.now) }
     requires area { IsBox machine.now first.now second.now sets.now }
     requires inside { IsIn sets.now s.old.codes }
@@ -177,8 +197,11 @@ fn try_first(
     ensures same { SameBut u v s.new.codes s.old.codes }
     ensures code { IsTrue result → slice_index s.new.codes u ≡ code }
     ensures differ { IsTrue result → Differ machine.now first.now second.now y s.new.codes }
-    ensures least { IsTrue result → (t : List ℕ) → IsIn sets.now t → slice_index t u ≡ code → Differ machine.now first.now second.now y t → slice_index s.new.codes v ≤ slice_index t v }
-    ensures none { IsFalse result → (t : List ℕ) → IsIn sets.now t → slice_index t u ≡ code → ¬ Differ machine.now first.now second.now y t }
+    ensures least { IsTrue result → (t : List ℕ) → IsIn sets.now t → slice_index t u ≡ code
+        → Differ machine.now first.now second.now y t
+        → slice_index s.new.codes v ≤ slice_index t v }
+    ensures none { IsFalse result → (t : List ℕ) → IsIn sets.now t → slice_index t u ≡ code
+        → ¬ Differ machine.now first.now second.now y t }
 {
     if !has_code(*sets.get(u), code) {
         return false;
@@ -198,7 +221,8 @@ fn first_pair(
     v: u64,
     s: &mut Snapshot,
 ) -> bool
-    requires first { IsTrue (is_row machine.now.inputs machine.now.vars machine.now.results first.now) }
+    requires first { IsTrue
+        (is_row machine.now.inputs machine.now.vars machine.now.results first.now) }
     requires second { IsTrue (is_row machine.now.inputs machine.now.vars machine.now.results second.now) }
     requires area { IsBox machine.now first.now second.now sets.now }
     requires inside { AreLeast sets.now s.old.codes }
@@ -207,8 +231,10 @@ fn first_pair(
     requires of_first { Reads machine.now first.now y u v }
     requires of_second { Reads machine.now second.now y u v }
     ensures inside { IsIn sets.now s.new.codes }
-    ensures some { IsTrue result → IsLeastAt machine.now first.now second.now y sets.now s.new.codes }
-    ensures none { IsFalse result → (t : List ℕ) → IsIn sets.now t → ¬ Differ machine.now first.now second.now y t }
+    ensures some { IsTrue result
+        → IsLeastAt machine.now first.now second.now y sets.now s.new.codes }
+    ensures none { IsFalse result → (t : List ℕ) → IsIn sets.now t
+        → ¬ Differ machine.now first.now second.now y t }
 {
     for code in 0..33u8 {
         if try_first(machine, first, second, y, sets, u, v, code, s) {
@@ -228,7 +254,8 @@ fn first_single(
     v: u64,
     s: &mut Snapshot,
 ) -> bool
-    requires first { IsTrue (is_row machine.now.inputs machine.now.vars machine.now.results first.now) }
+    requires first { IsTrue
+        (is_row machine.now.inputs machine.now.vars machine.now.results first.now) }
     requires second { IsTrue (is_row machine.now.inputs machine.now.vars machine.now.results second.now) }
     requires area { IsBox machine.now first.now second.now sets.now }
     requires inside { AreLeast sets.now s.old.codes }
@@ -236,8 +263,10 @@ fn first_single(
     requires of_first { Reads machine.now first.now y v v }
     requires of_second { Reads machine.now second.now y v v }
     ensures inside { IsIn sets.now s.new.codes }
-    ensures some { IsTrue result → IsLeastAt machine.now first.now second.now y sets.now s.new.codes }
-    ensures none { IsFalse result → (t : List ℕ) → IsIn sets.now t → ¬ Differ machine.now first.now second.now y t }
+    ensures some { IsTrue result
+        → IsLeastAt machine.now first.now second.now y sets.now s.new.codes }
+    ensures none { IsFalse result → (t : List ℕ) → IsIn sets.now t
+        → ¬ Differ machine.now first.now second.now y t }
 {
     first_code(machine, first, second, y, sets, v, v, s)
 }
@@ -251,14 +280,17 @@ pub(crate) fn least_difference(
     sets: &CodeSets,
     s: &mut Snapshot,
 ) -> bool
-    requires first { IsTrue (is_row machine.now.inputs machine.now.vars machine.now.results first.now) }
+    requires first { IsTrue
+        (is_row machine.now.inputs machine.now.vars machine.now.results first.now) }
     requires second { IsTrue (is_row machine.now.inputs machine.now.vars machine.now.results second.now) }
     requires area { IsBox machine.now first.now second.now sets.now }
     requires some { AreSome sets.now }
     requires long { length s.old.codes ≡ length sets.now }
     ensures long { length s.new.codes ≡ length sets.now }
-    ensures some { IsTrue result → IsLeastAt machine.now first.now second.now y sets.now s.new.codes }
-    ensures none { IsFalse result → (t : List ℕ) → IsIn sets.now t → ¬ Differ machine.now first.now second.now y t }
+    ensures some { IsTrue result
+        → IsLeastAt machine.now first.now second.now y sets.now s.new.codes }
+    ensures none { IsFalse result → (t : List ℕ) → IsIn sets.now t
+        → ¬ Differ machine.now first.now second.now y t }
 {
     if same_source(first, second, y) {
         return false;

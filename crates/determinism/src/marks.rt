@@ -1,5 +1,5 @@
-// Rows that are never enabled together, seen from two words: one row wants the first code of a variable, as an absent
-// event, and the other wants another.
+// Rows that are never enabled together, seen from two words: one row wants the first code of a
+// variable, as an absent event, and the other wants another.
 ghost use Rattle.std.specs.Prelude.{◌≡◌, ◌⊎◌, ◌<◌, ◌≤◌, ℕ, length, slice_get, Some, IfOk, IsTrue};
 ghost use Rattle.std.specs.Int.{bit_at};
 ghost use Rattle.determinism.specs.declared.marks.Marks.{Marks as MarksOf};
@@ -11,8 +11,9 @@ use polis_base::{List, NoMemory};
 use std::alloc::Global;
 use transition_table::{Machine, Row};
 
-/// What is true and what is false wherever a row is enabled, one bit each: below the bit 32 that the variable of that
-/// number has the code 0, and from there on that the variable 32 bits lower has another.
+/// What is true and what is false wherever a row is enabled, one bit each: below the bit 32 that
+/// the variable of that number has the code 0, and from there on that the variable 32 bits lower
+/// has another.
 #[derive(Clone, Copy)]
 pub(crate) struct Marks {
     pub(crate) said: u64,
@@ -93,7 +94,9 @@ pub(crate) fn next_near(marks: &[Marks], denied: u64, from: u32) -> u32
     requires from { from ≤ length marks.now }
     ensures from { from ≤ result }
     ensures within { result ≤ length marks.now }
-    ensures apart { (r : ℕ) (of_row : MarksOf) → from ≤ r → r < result → slice_get marks.now r ≡ Some of_row → (place : ℕ) × (bit_at of_row.said place ≡ 1) × (bit_at denied place ≡ 1) }
+    ensures apart { (r : ℕ) (of_row : MarksOf) → from ≤ r → r < result
+        → slice_get marks.now r ≡ Some of_row
+        → (place : ℕ) × (bit_at of_row.said place ≡ 1) × (bit_at denied place ≡ 1) }
 {
     for r in from..marks.len() as u32 {
         if !apart(marks[r as usize].said, denied) {

@@ -17,7 +17,10 @@ pub(crate) type SetTable = List<CodeSets>;
 // Takes from the set of each variable the codes that a condition on it doesn't allow.
 fn narrow(conds: &[Cond], masks: &mut CodeSets)
     ensures long { length masks.new ≡ length masks.old }
-    ensures left { (var code : ℕ) → var < length masks.old → (bit_at (slice_index masks.new var) code == 1) ≡ (bit_at (slice_index masks.old var) code == 1 && list_all (allows_code var code) conds.now) }
+    ensures left { (var code : ℕ) → var < length masks.old
+        → (bit_at (slice_index masks.new var) code == 1)
+        ≡ (bit_at (slice_index masks.old var) code == 1
+        && list_all (allows_code var code) conds.now) }
 {
     for cond in conds {
         let var = u64::from(cond.var);

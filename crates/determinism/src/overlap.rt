@@ -13,8 +13,13 @@ fn common(first: &CodeSets, second: &CodeSets, sets: &mut CodeSets) -> bool
     requires long { length sets.old ≡ length first.now }
     ensures long { length sets.new ≡ length sets.old }
     ensures some { IsTrue result → AreSome sets.new }
-    ensures both { IsTrue result → (k code : ℕ) → k < length first.now → (bit_at (slice_index sets.new k) code == 1) ≡ (bit_at (slice_index first.now k) code == 1 && bit_at (slice_index second.now k) code == 1) }
-    ensures none { IsFalse result → (k : ℕ) × (k < length first.now) × ((code : ℕ) → (bit_at (slice_index first.now k) code == 1 && bit_at (slice_index second.now k) code == 1) ≡ false) }
+    ensures both { IsTrue result → (k code : ℕ) → k < length first.now
+        → (bit_at (slice_index sets.new k) code == 1)
+        ≡ (bit_at (slice_index first.now k) code == 1
+        && bit_at (slice_index second.now k) code == 1) }
+    ensures none { IsFalse result → (k : ℕ) × (k < length first.now)
+        × ((code : ℕ) → (bit_at (slice_index first.now k) code == 1
+        && bit_at (slice_index second.now k) code == 1) ≡ false) }
 {
     for k in 0..first.len() {
         let both = *first.get(k) & *second.get(k);
@@ -26,7 +31,8 @@ fn common(first: &CodeSets, second: &CodeSets, sets: &mut CodeSets) -> bool
     true
 }
 
-/// Writes the set of codes of each variable that both rows allow. False where no snapshot enables both.
+/// Writes the set of codes of each variable that both rows allow. False where no snapshot enables
+/// both.
 pub(crate) fn overlap(
     machine: &Machine,
     first: &Row,
@@ -43,7 +49,8 @@ pub(crate) fn overlap(
     ensures long { length sets.new ≡ length sets.old }
     ensures some { IsTrue result → AreSome sets.new }
     ensures area { IsTrue result → IsBox machine.now first.now second.now sets.new }
-    ensures none { IsFalse result → (codes : List ℕ) → ¬ EnableBoth machine.now first.now second.now codes }
+    ensures none { IsFalse result → (codes : List ℕ)
+        → ¬ EnableBoth machine.now first.now second.now codes }
 {
     common(of_first, of_second, sets)
 }

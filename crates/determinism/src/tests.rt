@@ -8,7 +8,8 @@ use sample_networks::{clash, echo};
 use std::alloc::Global;
 use transition_table::{Machine, RowList, StateList};
 
-// The first row asks for the first input, the second row for the second alone. They never hold together.
+// The first row asks for the first input, the second row for the second alone. They never hold
+// together.
 fn exclusive(alloc: Global) -> Result<Machine, NoMemory> {
     let mut rows = RowList::new(alloc);
     rows.push(row(alloc, &[on(0, 2)], &[gives(1, 1)])?)?;
@@ -38,8 +39,8 @@ fn never(alloc: Global) -> Result<Machine, NoMemory> {
     machine(alloc, b"m", 0, events, states, (&[2, 2], &[2, 2]), rows)
 }
 
-// Two inputs of three values. The first row conflicts with the third where the first input has the code 2, and the third
-// with the fourth.
+// Two inputs of three values. The first row conflicts with the third where the first input has the
+// code 2, and the third with the fourth.
 fn three(alloc: Global) -> Result<Machine, NoMemory> {
     let mut rows = RowList::new(alloc);
     rows.push(row(alloc, &[on(0, 6)], &[gives(1, 1)])?)?;
@@ -61,7 +62,8 @@ fn later(alloc: Global) -> Result<Machine, NoMemory> {
     machine(alloc, b"m", 0, (&[0], &[1]), states, (&[3], &[2, 2]), rows)
 }
 
-// An input of eight values. The first row emits the value that it reads, the second this code where the value 1 is read.
+// An input of eight values. The first row emits the value that it reads, the second this code where
+// the value 1 is read.
 fn twice(alloc: Global, code: u8) -> Result<Machine, NoMemory>
     requires { code < 9 }
 {

@@ -23,23 +23,31 @@ sooner-assoc (Some a) (Some b) (Some c) = ap Some (min-assoc a b c)
 
 pub least-append : (ps qs : List ℕ) → least (ps ++ qs) ≡ sooner (least ps) (least qs)
 least-append [] qs = refl
-least-append (p ∷ ps) qs = ap (sooner (Some p)) (least-append ps qs) ∙ sym (sooner-assoc (Some p) (least ps) (least qs))
+least-append (p ∷ ps) qs = ap (sooner (Some p)) (least-append ps qs)
+    ∙ sym (sooner-assoc (Some p) (least ps) (least qs))
 
 -- what was found before, then in the first part, then in the second
-pub sooner-least : (found : Option ℕ) (ps qs : List ℕ) → sooner (sooner found (least ps)) (least qs) ≡ sooner found (least (ps ++ qs))
-sooner-least found ps qs = sooner-assoc found (least ps) (least qs) ∙ ap (sooner found) (sym (least-append ps qs))
+pub sooner-least : (found : Option ℕ) (ps qs : List ℕ)
+    → sooner (sooner found (least ps)) (least qs) ≡ sooner found (least (ps ++ qs))
+sooner-least found ps qs = sooner-assoc found (least ps) (least qs)
+    ∙ ap (sooner found) (sym (least-append ps qs))
 
 -- the place, unless the test holds
-pub sooner-unless : (found : Option ℕ) (place : ℕ) (test : Bool) → sooner found (least (unless test place)) ≡ cond test found (sooner found (Some place))
+pub sooner-unless : (found : Option ℕ) (place : ℕ) (test : Bool)
+    → sooner found (least (unless test place)) ≡ cond test found (sooner found (Some place))
 sooner-unless found place true = sooner-None found
 sooner-unless found place false = refl
 
-item-first : {X : Type 0} (xs : List X) (i : ℕ) (x : X) → i < length xs → x ≡ get_or xs i x → drop i xs ≡ x ∷ drop (i + 1) xs
+item-first : {X : Type 0} (xs : List X) (i : ℕ) (x : X) → i < length xs → x ≡ get_or xs i x
+    → drop i xs ≡ x ∷ drop (i + 1) xs
 item-first xs i x below at = drop_more xs i x below ∙ ap (λ y. y ∷ drop (i + 1) xs) (sym at)
 
 -- one more item is gone over
-pub found-more : {X : Type 0} (f : X → List ℕ) (xs : List X) (i : ℕ) (x : X) (found next total : Option ℕ) → i < length xs → x ≡ get_or xs i x → next ≡ sooner found (least (f x))
-    → sooner found (least (flat_map f (drop i xs))) ≡ total → sooner next (least (flat_map f (drop (i + 1) xs))) ≡ total
+pub found-more : {X : Type 0} (f : X → List ℕ) (xs : List X) (i : ℕ) (x : X)
+    (found next total : Option ℕ) → i < length xs → x ≡ get_or xs i x
+    → next ≡ sooner found (least (f x))
+    → sooner found (least (flat_map f (drop i xs))) ≡ total
+    → sooner next (least (flat_map f (drop (i + 1) xs))) ≡ total
 found-more f xs i x found next total below at is held =
     ap (λ n. sooner n (least (flat_map f (drop (i + 1) xs)))) is
     ∙ sooner-least found (f x) (flat_map f (drop (i + 1) xs))
@@ -47,32 +55,48 @@ found-more f xs i x found next total below at is held =
     ∙ held
 
 -- one more word is gone over, and its name is taken from then on
-pub repeated-more : (taken after : List ℕ → Bool) (words : List Word) (i : ℕ) (word : Word) (found next total : Option ℕ) → i < length words → word ≡ get_or words i word
+pub repeated-more : (taken after : List ℕ → Bool) (words : List Word) (i : ℕ) (word : Word)
+    (found next total : Option ℕ) → i < length words → word ≡ get_or words i word
     → ((q : List ℕ) → after q ≡ (taken q || is_same q word.name))
     → next ≡ sooner found (least (unless (not (taken word.name)) word.at))
-    → sooner found (least (repeated taken (drop i words))) ≡ total → sooner next (least (repeated after (drop (i + 1) words))) ≡ total
+    → sooner found (least (repeated taken (drop i words))) ≡ total
+    → sooner next (least (repeated after (drop (i + 1) words))) ≡ total
 repeated-more taken after words i word found next total below at more is held =
     ap (λ n. sooner n (least (repeated after (drop (i + 1) words)))) is
-    ∙ ap (λ (t : List ℕ → Bool). sooner (sooner found (least (unless (not (taken word.name)) word.at))) (least (repeated t (drop (i + 1) words)))) (λ k q. more q k)
-    ∙ sooner-least found (unless (not (taken word.name)) word.at) (repeated (λ q. taken q || is_same q word.name) (drop (i + 1) words))
+    ∙ ap (λ (t : List ℕ → Bool). sooner
+    (sooner found (least (unless (not (taken word.name)) word.at)))
+    (least (repeated t (drop (i + 1) words)))) (λ k q. more q k)
+    ∙ sooner-least found (unless (not (taken word.name)) word.at)
+    (repeated (λ q. taken q || is_same q word.name) (drop (i + 1) words))
     ∙ ap (λ l. sooner found (least (repeated taken l))) (sym (item-first words i word below at))
     ∙ held
 
 -- an answer by another name
-pub IfOk-same : {A E : Type 0} (r : Result A E) (a b : A) → a ≡ b → IfOk r (λ x. x ≡ a) → IfOk r (λ x. x ≡ b)
+pub IfOk-same : {A E : Type 0} (r : Result A E) (a b : A) → a ≡ b → IfOk r (λ x. x ≡ a)
+    → IfOk r (λ x. x ≡ b)
 IfOk-same (Ok x) a b e h = h ∙ e
 IfOk-same (Err y) a b e h = tt
 
 -- the words of one list, then those of another
-pub sooner-missing : (declared : List ℕ → Bool) (found : Option ℕ) (xs ys : List Word) → sooner (sooner found (least (missing declared xs))) (least (missing declared ys)) ≡ sooner found (least (missing declared (xs ++ ys)))
-sooner-missing declared found xs ys = sooner-least found (missing declared xs) (missing declared ys) ∙ ap (λ l. sooner found (least l)) (sym (flat_map-append (λ (word : Word). unless (declared word.name) word.at) xs ys))
+pub sooner-missing : (declared : List ℕ → Bool) (found : Option ℕ) (xs ys : List Word)
+    → sooner (sooner found (least (missing declared xs))) (least (missing declared ys))
+    ≡ sooner found (least (missing declared (xs ++ ys)))
+sooner-missing declared found xs ys =
+    sooner-least found (missing declared xs) (missing declared ys)
+    ∙ ap (λ l. sooner found (least l))
+    (sym (flat_map-append (λ (word : Word). unless (declared word.name) word.at) xs ys))
 
 -- the places of three lists, found one after the other
-pub three : (a b : Option ℕ) (r : Result (Option ℕ) NoMemory) (ps qs rs : List ℕ) → a ≡ least ps → b ≡ sooner a (least qs) → IfOk r (λ place. place ≡ sooner b (least rs)) → IfOk r (λ place. place ≡ least (ps ++ qs ++ rs))
+pub three : (a b : Option ℕ) (r : Result (Option ℕ) NoMemory) (ps qs rs : List ℕ) → a ≡ least ps
+    → b ≡ sooner a (least qs) → IfOk r (λ place. place ≡ sooner b (least rs))
+    → IfOk r (λ place. place ≡ least (ps ++ qs ++ rs))
 three a b r ps qs rs first second third =
-    IfOk-same r _ _ (ap (λ o. sooner o (least rs)) (second ∙ ap (λ o. sooner o (least qs)) first ∙ sym (least-append ps qs)) ∙ sym (least-append (ps ++ qs) rs)) third
+    IfOk-same r _ _
+    (ap (λ o. sooner o (least rs)) (second ∙ ap (λ o. sooner o (least qs)) first
+    ∙ sym (least-append ps qs)) ∙ sym (least-append (ps ++ qs) rs)) third
 
 -- an answer about what is the same
-pub IfOk-moved : {A E X : Type 0} (r : Result A E) (P : X → A → Type 0) (a b : X) → a ≡ b → IfOk r (P a) → IfOk r (P b)
+pub IfOk-moved : {A E X : Type 0} (r : Result A E) (P : X → A → Type 0) (a b : X) → a ≡ b
+    → IfOk r (P a) → IfOk r (P b)
 IfOk-moved (Ok x) P a b e h = subst (λ y. P y x) e h
 IfOk-moved (Err y) P a b e h = tt

@@ -5,7 +5,9 @@ use Rattle.net_reader.specs.declared.raw.RawNet.{RawNet}
 use Rattle.net_names.specs.Locals.{AreLocals}
 use Rattle.net_names.specs.declared.local.Local.{Local}
 
-pub of-locals : (f : RawNet → RawMachine → List ℕ) (net : RawNet) (ms : List RawMachine) (ls : List Local) → AreLocals net ms ls → flat_map (λ (l : Local). f l.scope.now.raw.now l.machine.now) ls ≡ flat_map (f net) ms
+pub of-locals : (f : RawNet → RawMachine → List ℕ) (net : RawNet) (ms : List RawMachine)
+    (ls : List Local) → AreLocals net ms ls
+    → flat_map (λ (l : Local). f l.scope.now.raw.now l.machine.now) ls ≡ flat_map (f net) ms
 of-locals f net [] [] all = refl
 of-locals f net [] (l ∷ ls) all = absurd all
 of-locals f net (m ∷ ms) [] all = absurd all

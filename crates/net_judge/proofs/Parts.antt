@@ -13,32 +13,49 @@ use Rattle.net_judge.proofs.Least.{IfOk-same, sooner-least, least-append}
 some-is : {A : Type 0} (a b : A) → Some a ≡ Some b → a ≡ b
 some-is a b e = ap (λ o. unwrap_or o a) e
 
-pub beyond-some : (most : ℕ) (words : List Word) (w : Word) → slice_get words most ≡ Some w → beyond most words ≡ w.at ∷ []
+pub beyond-some : (most : ℕ) (words : List Word) (w : Word) → slice_get words most ≡ Some w
+    → beyond most words ≡ w.at ∷ []
 beyond-some most [] w at = absurd (true≢false (sym (ap is_some at)))
 beyond-some zero (x ∷ words) w at = ap (λ (y : Word). y.at ∷ []) (some-is x w at)
 beyond-some (suc most) (x ∷ words) w at = beyond-some most words w at
 
 -- the names of the events that pass
-pub where-words : (test : RawEnv → Bool) (events : List RawEvent) → flat_map (λ (e : RawEvent). cond (test e.env) (e.name ∷ []) []) events ≡ map (λ (e : RawEvent). e.name) (filter (λ (e : RawEvent). test e.env) events)
+pub where-words : (test : RawEnv → Bool) (events : List RawEvent)
+    → flat_map (λ (e : RawEvent). cond (test e.env) (e.name ∷ []) []) events
+    ≡ map (λ (e : RawEvent). e.name) (filter (λ (e : RawEvent). test e.env) events)
 where-words test [] = refl
 where-words test (e ∷ events) = by (test e.env) (where-words test events)
   where
-    by : (b : Bool) → flat_map (λ (e : RawEvent). cond (test e.env) (e.name ∷ []) []) events ≡ map (λ (e : RawEvent). e.name) (filter (λ (e : RawEvent). test e.env) events)
-        → cond b (e.name ∷ []) [] ++ flat_map (λ (e : RawEvent). cond (test e.env) (e.name ∷ []) []) events ≡ map (λ (e : RawEvent). e.name) (cond b (e ∷ filter (λ (e : RawEvent). test e.env) events) (filter (λ (e : RawEvent). test e.env) events))
+    by : (b : Bool) → flat_map (λ (e : RawEvent). cond (test e.env) (e.name ∷ []) []) events
+        ≡ map (λ (e : RawEvent). e.name) (filter (λ (e : RawEvent). test e.env) events)
+        → cond b (e.name ∷ []) [] ++ flat_map (λ (e : RawEvent). cond (test e.env) (e.name ∷ []) [])
+        events ≡ map (λ (e : RawEvent). e.name)
+        (cond b (e ∷ filter (λ (e : RawEvent). test e.env) events)
+        (filter (λ (e : RawEvent). test e.env) events))
     by true h = ap (λ l. e.name ∷ l) h
     by false h = h
 
 -- what was found before, then in three parts
-pub three-found : (found a b : Option ℕ) (r : Result (Option ℕ) NoMemory) (ps qs rs : List ℕ) → a ≡ sooner found (least ps) → b ≡ sooner a (least qs) → IfOk r (λ place. place ≡ sooner b (least rs)) → IfOk r (λ place. place ≡ sooner found (least (ps ++ qs ++ rs)))
+pub three-found : (found a b : Option ℕ) (r : Result (Option ℕ) NoMemory) (ps qs rs : List ℕ)
+    → a ≡ sooner found (least ps) → b ≡ sooner a (least qs)
+    → IfOk r (λ place. place ≡ sooner b (least rs))
+    → IfOk r (λ place. place ≡ sooner found (least (ps ++ qs ++ rs)))
 three-found found a b r ps qs rs first second third =
-    IfOk-same r _ _ (ap (λ o. sooner o (least rs)) (second ∙ ap (λ o. sooner o (least qs)) first ∙ sooner-least found ps qs) ∙ sooner-least found (ps ++ qs) rs) third
+    IfOk-same r _ _
+    (ap (λ o. sooner o (least rs)) (second ∙ ap (λ o. sooner o (least qs)) first
+    ∙ sooner-least found ps qs) ∙ sooner-least found (ps ++ qs) rs) third
 
 -- the places of three lists, found one after the other
-pub three-plain : (a b r : Option ℕ) (ps qs rs : List ℕ) → a ≡ least ps → b ≡ sooner a (least qs) → r ≡ sooner b (least rs) → r ≡ least (ps ++ qs ++ rs)
-three-plain a b r ps qs rs first second third = third ∙ ap (λ o. sooner o (least rs)) (second ∙ ap (λ o. sooner o (least qs)) first ∙ sym (least-append ps qs)) ∙ sym (least-append (ps ++ qs) rs)
+pub three-plain : (a b r : Option ℕ) (ps qs rs : List ℕ) → a ≡ least ps → b ≡ sooner a (least qs)
+    → r ≡ sooner b (least rs) → r ≡ least (ps ++ qs ++ rs)
+three-plain a b r ps qs rs first second third =
+    third ∙ ap (λ o. sooner o (least rs))
+    (second ∙ ap (λ o. sooner o (least qs)) first ∙ sym (least-append ps qs))
+    ∙ sym (least-append (ps ++ qs) rs)
 
 -- the names of some words and of one more
-pub name-after : (words : List Word) (word : Word) (q : List ℕ) → is_name_of (words ++ word ∷ []) q ≡ (is_name_of words q || is_same q word.name)
+pub name-after : (words : List Word) (word : Word) (q : List ℕ)
+    → is_name_of (words ++ word ∷ []) q ≡ (is_name_of words q || is_same q word.name)
 name-after [] word q = by (is_same q word.name)
   where
     by : (b : Bool) → (b || false) ≡ b
@@ -46,6 +63,9 @@ name-after [] word q = by (is_same q word.name)
     by false = refl
 name-after (w ∷ words) word q = by (is_same q w.name) (name-after words word q)
   where
-    by : (b : Bool) → is_name_of (words ++ word ∷ []) q ≡ (is_name_of words q || is_same q word.name) → (b || is_name_of (words ++ word ∷ []) q) ≡ ((b || is_name_of words q) || is_same q word.name)
+    by : (b : Bool) → is_name_of (words ++ word ∷ []) q
+        ≡ (is_name_of words q || is_same q word.name)
+        → (b || is_name_of (words ++ word ∷ []) q)
+        ≡ ((b || is_name_of words q) || is_same q word.name)
     by true h = refl
     by false h = h

@@ -11,12 +11,14 @@ Rule = ℕ × List ℕ
 
 -- the rules on where actions take values from
 abbrev pub act_rules : RawNet → List Rule
-act_rules net = (21, rule_21 net) ∷ (22, rule_22 net) ∷ (23, rule_23 net) ∷ (24, rule_24 net) ∷ (25, rule_25 net) ∷ []
+act_rules net = (21, rule_21 net) ∷ (22, rule_22 net) ∷ (23, rule_23 net) ∷ (24, rule_24 net)
+    ∷ (25, rule_25 net) ∷ []
 
 -- the rules on the values and rows of machines, and those
 abbrev pub machine_rules : RawNet → List Rule
 machine_rules net =
-    (14, rule_14 net) ∷ (15, rule_15 net) ∷ (16, rule_16 net) ∷ (17, rule_17 net) ∷ (18, rule_18 net) ∷ (19, rule_19 net) ∷ (20, rule_20 net)
+    (14, rule_14 net) ∷ (15, rule_15 net) ∷ (16, rule_16 net) ∷ (17, rule_17 net)
+    ∷ (18, rule_18 net) ∷ (19, rule_19 net) ∷ (20, rule_20 net)
     ∷ act_rules net
 
 -- the rules in order

@@ -21,4 +21,6 @@ is_plain act = is_written (source_of act)
 
 -- each action of the declarations is one of these
 abbrev pub all_plain : RawNet → Bool
-all_plain net = list_all (λ (m : RawMachine). list_all (λ (row : RawRow). list_all is_plain row.acts) m.rows) net.machines
+all_plain net =
+    list_all (λ (m : RawMachine). list_all (λ (row : RawRow). list_all is_plain row.acts) m.rows)
+    net.machines

@@ -35,11 +35,13 @@ beyond most words = map (λ (w : Word). w.at) (take 1 (drop most words))
 
 -- at most 64 domains, 256 events and 64 machines
 abbrev pub rule_2 : RawNet → List ℕ
-rule_2 net = beyond 64 (domain_words net) ++ beyond 256 (event_words net) ++ beyond 64 (machine_words net)
+rule_2 net = beyond 64 (domain_words net) ++ beyond 256 (event_words net)
+    ++ beyond 64 (machine_words net)
 
 -- the domains have distinct names, and so have the events and the machines
 abbrev pub rule_3 : RawNet → List ℕ
-rule_3 net = repeated no_name (domain_words net) ++ repeated no_name (event_words net) ++ repeated no_name (machine_words net)
+rule_3 net = repeated no_name (domain_words net) ++ repeated no_name (event_words net)
+    ++ repeated no_name (machine_words net)
 
 abbrev pub disorder : RawShape → List ℕ
 disorder (shapes.Names words) = repeated no_name words
@@ -51,11 +53,13 @@ rule_4 net = flat_map (λ (d : RawDomain). disorder d.shape) net.domains
 
 -- a domain has at most 32 values
 abbrev pub rule_5 : RawNet → List ℕ
-rule_5 net = flat_map (λ (d : RawDomain). unless (nat_le (count_of d.shape) 32) d.name.at) net.domains
+rule_5 net = flat_map (λ (d : RawDomain). unless (nat_le (count_of d.shape) 32) d.name.at)
+    net.domains
 
 -- the domains of events and of state variables
 abbrev pub used_domains : RawNet → List Word
-used_domains net = flat_map (λ (e : RawEvent). option_to_list e.domain) net.events ++ flat_map (λ (m : RawMachine). map (λ (s : RawState). s.domain) m.states) net.machines
+used_domains net = flat_map (λ (e : RawEvent). option_to_list e.domain) net.events
+    ++ flat_map (λ (m : RawMachine). map (λ (s : RawState). s.domain) m.states) net.machines
 
 -- the domain of an event or a state variable is declared
 abbrev pub rule_6 : RawNet → List ℕ
@@ -63,35 +67,43 @@ rule_6 net = missing (is_name_of (domain_words net)) (used_domains net)
 
 -- a name in an input or output list is an event
 abbrev pub rule_7 : RawNet → List ℕ
-rule_7 net = flat_map (λ (m : RawMachine). missing (is_name_of (event_words net)) (m.inputs ++ m.outputs)) net.machines
+rule_7 net = flat_map
+    (λ (m : RawMachine). missing (is_name_of (event_words net)) (m.inputs ++ m.outputs))
+    net.machines
 
--- In a machine no event stands twice in the inputs or twice in the outputs, and the state variables have distinct names,
--- which differ from those of its inputs and outputs.
+-- In a machine no event stands twice in the inputs or twice in the outputs, and the state variables
+-- have distinct names, which differ from those of its inputs and outputs.
 abbrev pub rule_8 : RawNet → List ℕ
-rule_8 net = flat_map (λ (m : RawMachine). repeated no_name m.inputs ++ repeated no_name m.outputs ++ repeated (is_name_of (m.inputs ++ m.outputs)) (state_words m)) net.machines
+rule_8 net = flat_map (λ (m : RawMachine). repeated no_name m.inputs ++ repeated no_name m.outputs
+    ++ repeated (is_name_of (m.inputs ++ m.outputs)) (state_words m)) net.machines
 
 -- at most 16 inputs, 16 outputs, 8 state variables and 512 rows
 abbrev pub is_small : RawMachine → Bool
-is_small m = nat_le (length m.inputs) 16 && nat_le (length m.outputs) 16 && nat_le (length m.states) 8 && nat_le (length m.rows) 512
+is_small m = nat_le (length m.inputs) 16 && nat_le (length m.outputs) 16
+    && nat_le (length m.states) 8 && nat_le (length m.rows) 512
 
 abbrev pub rule_9 : RawNet → List ℕ
 rule_9 net = flat_map (λ (m : RawMachine). unless (is_small m) m.name.at) net.machines
 
 -- a priority is at most 255
 abbrev pub rule_10 : RawNet → List ℕ
-rule_10 net = flat_map (λ (m : RawMachine). unless (nat_le m.priority.number 255) m.priority.at) net.machines
+rule_10 net = flat_map (λ (m : RawMachine). unless (nat_le m.priority.number 255) m.priority.at)
+    net.machines
 
 -- the words of the events whose side to the environment passes
 abbrev pub events_where : (RawEnv → Bool) → RawNet → List Word
-events_where test net = map (λ (e : RawEvent). e.name) (filter (λ (e : RawEvent). test e.env) net.events)
+events_where test net =
+    map (λ (e : RawEvent). e.name) (filter (λ (e : RawEvent). test e.env) net.events)
 
--- No event stands in two output lists, and one from the environment in none. By rule 8 no list has one twice.
+-- No event stands in two output lists, and one from the environment in none. By rule 8 no list has
+-- one twice.
 abbrev pub rule_11 : RawNet → List ℕ
 rule_11 net = repeated (is_name_of (events_where (λ env. is_from_env env) net)) (all_outputs net)
 
 -- an event that isn't from the environment stands in some output list
 abbrev pub rule_12 : RawNet → List ℕ
-rule_12 net = missing (is_name_of (all_outputs net)) (events_where (λ env. not (is_from_env env)) net)
+rule_12 net = missing (is_name_of (all_outputs net))
+    (events_where (λ env. not (is_from_env env)) net)
 
 -- an event that isn't to the environment stands in some input list
 abbrev pub rule_13 : RawNet → List ℕ
@@ -99,11 +111,15 @@ rule_13 net = missing (is_name_of (all_inputs net)) (events_where (λ env. not (
 
 -- an initial value is a value of the variable's domain
 abbrev pub rule_14 : RawNet → List ℕ
-rule_14 net = flat_map (λ (m : RawMachine). flat_map (λ (s : RawState). no_value (shape_of net s.domain.name) s.init) m.states) net.machines
+rule_14 net = flat_map
+    (λ (m : RawMachine). flat_map (λ (s : RawState). no_value (shape_of net s.domain.name) s.init)
+    m.states) net.machines
 
 -- the places that f finds in the conditions of each machine
 abbrev pub in_conds : (RawMachine → RawCond → List ℕ) → RawNet → List ℕ
-in_conds f net = flat_map (λ (m : RawMachine). flat_map (λ (row : RawRow). flat_map (f m) row.conds) m.rows) net.machines
+in_conds f net =
+    flat_map (λ (m : RawMachine). flat_map (λ (row : RawRow). flat_map (f m) row.conds) m.rows)
+    net.machines
 
 abbrev pub unknown : RawMachine → RawCond → List ℕ
 unknown m c = unless (is_name_of (var_words m) (cond_word c).name) (cond_word c).at
@@ -122,7 +138,8 @@ suits net m (conds.OneOf w values) = is_some (var_domain net m w.name)
 abbrev pub unsuited : RawNet → RawMachine → RawCond → List ℕ
 unsuited net m c = unless (suits net m c) (cond_word c).at
 
--- a bare name and a name after `absent` are inputs, and a name with values is a state variable or an event with a domain
+-- a bare name and a name after `absent` are inputs, and a name with values is a state variable or
+-- an event with a domain
 abbrev pub rule_16 : RawNet → List ℕ
 rule_16 net = in_conds (unsuited net) net
 
@@ -130,7 +147,8 @@ abbrev pub wrong_values : RawNet → RawMachine → RawCond → List ℕ
 wrong_values net m (conds.Present w) = []
 wrong_values net m (conds.Absent w) = []
 wrong_values net m (conds.Is w value) = no_value (shape_at net (var_domain net m w.name)) value
-wrong_values net m (conds.OneOf w values) = flat_map (no_value (shape_at net (var_domain net m w.name))) values
+wrong_values net m (conds.OneOf w values) =
+    flat_map (no_value (shape_at net (var_domain net m w.name))) values
 
 -- a value in a condition is a value of the domain
 abbrev pub rule_17 : RawNet → List ℕ
@@ -149,9 +167,12 @@ set_names (acts.Set w value) = w ∷ []
 abbrev pub not_once : List Word → List Word → List ℕ
 not_once declared words = missing (is_name_of declared) words ++ repeated no_name words
 
--- an emitted event is an output of the machine, a set name is a state variable, and in a row none comes twice
+-- an emitted event is an output of the machine, a set name is a state variable, and in a row none
+-- comes twice
 abbrev pub rule_18 : RawNet → List ℕ
-rule_18 net = flat_map (λ (m : RawMachine). flat_map (λ (row : RawRow). not_once m.outputs (flat_map emitted row.acts) ++ not_once (state_words m) (flat_map set_names row.acts)) m.rows) net.machines
+rule_18 net = flat_map
+    (λ (m : RawMachine). flat_map (λ (row : RawRow). not_once m.outputs (flat_map emitted row.acts)
+    ++ not_once (state_words m) (flat_map set_names row.acts)) m.rows) net.machines
 
 -- a value that is written is a value of the domain
 abbrev pub wrong_value : Option RawShape → RawSource → List ℕ
@@ -172,7 +193,9 @@ wrong_act net m row (acts.Set w source) = wrong_value (shape_at net (state_domai
 
 -- the places that f finds in the actions of each row of each machine
 abbrev pub in_acts : (RawMachine → RawRow → RawAct → List ℕ) → RawNet → List ℕ
-in_acts f net = flat_map (λ (m : RawMachine). flat_map (λ (row : RawRow). flat_map (f m row) row.acts) m.rows) net.machines
+in_acts f net =
+    flat_map (λ (m : RawMachine). flat_map (λ (row : RawRow). flat_map (f m row) row.acts) m.rows)
+    net.machines
 
 -- and a value in an action is a value of the domain
 abbrev pub rule_19 : RawNet → List ℕ
@@ -180,7 +203,8 @@ rule_19 net = in_acts (wrong_act net) net
 
 -- a machine has at most 65,536 snapshots
 abbrev pub rule_20 : RawNet → List ℕ
-rule_20 net = flat_map (λ (m : RawMachine). unless (nat_le (product (var_sizes net m)) 65536) m.name.at) net.machines
+rule_20 net = flat_map
+    (λ (m : RawMachine). unless (nat_le (product (var_sizes net m)) 65536) m.name.at) net.machines
 
 -- where an action takes its value from, if it gives one
 abbrev pub source_of : RawAct → Option RawSource
@@ -231,7 +255,9 @@ same_domain (Some d) None = false
 same_domain (Some d) (Some e) = is_same d.name e.name
 
 abbrev pub other_domain : RawNet → RawMachine → RawRow → RawAct → List ℕ
-other_domain net m row act = wrong_input (λ name. same_domain (event_domain net name) (target_domain net m act)) (source_of act)
+other_domain net m row act =
+    wrong_input (λ name. same_domain (event_domain net name) (target_domain net m act))
+    (source_of act)
 
 -- the input has the domain of what gets its value
 abbrev pub rule_23 : RawNet → List ℕ

@@ -23,7 +23,9 @@ pub(crate) trait ActRule {
 
     // The least of these and of what was found.
     fn check(&self, local: &Local, row: &RawRow, act: &RawAct, found: Option<u64>) -> Option<u64>
-        ensures { result ≡ sooner found (least (places local.now.scope.now.raw.now local.now.machine.now row.now act.now)) };
+        ensures { result
+            ≡ sooner found (least
+            (places local.now.scope.now.raw.now local.now.machine.now row.now act.now)) };
 }
 
 // The least place in these actions of a row, and of what was found.
@@ -34,7 +36,9 @@ fn in_acts<C: ActRule>(
     acts: &[RawAct],
     found: Option<u64>,
 ) -> Option<u64>
-    ensures { result ≡ sooner found (least (flat_map (C.places local.now.scope.now.raw.now local.now.machine.now row.now) acts.now)) }
+    ensures { result
+        ≡ sooner found (least
+        (flat_map (C.places local.now.scope.now.raw.now local.now.machine.now row.now) acts.now)) }
 {
     let mut found = found;
     for act in acts {
@@ -45,14 +49,20 @@ fn in_acts<C: ActRule>(
 
 // The least place in the actions of a row, and of what was found.
 fn in_row<C: ActRule>(rule: &C, local: &Local, row: &RawRow, found: Option<u64>) -> Option<u64>
-    ensures { result ≡ sooner found (least (flat_map (C.places local.now.scope.now.raw.now local.now.machine.now row.now) row.now.acts)) }
+    ensures { result
+        ≡ sooner found (least
+        (flat_map (C.places local.now.scope.now.raw.now local.now.machine.now row.now)
+        row.now.acts)) }
 {
     in_acts(rule, local, row, row.acts.as_slice(), found)
 }
 
 // The least place in these rows of a machine, and of what was found.
 fn in_rows<C: ActRule>(rule: &C, local: &Local, rows: &[RawRow], found: Option<u64>) -> Option<u64>
-    ensures { result ≡ sooner found (least (flat_map (λ (row : Row). flat_map (C.places local.now.scope.now.raw.now local.now.machine.now row) row.acts) rows.now)) }
+    ensures { result
+        ≡ sooner found (least
+        (flat_map (λ (row : Row). flat_map
+        (C.places local.now.scope.now.raw.now local.now.machine.now row) row.acts) rows.now)) }
 {
     let mut found = found;
     for row in rows {
@@ -63,14 +73,22 @@ fn in_rows<C: ActRule>(rule: &C, local: &Local, rows: &[RawRow], found: Option<u
 
 // The least place in the rows of a machine, and of what was found.
 fn in_machine<C: ActRule>(rule: &C, local: &Local, found: Option<u64>) -> Option<u64>
-    ensures { result ≡ sooner found (least (flat_map (λ (row : Row). flat_map (C.places local.now.scope.now.raw.now local.now.machine.now row) row.acts) local.now.machine.now.rows)) }
+    ensures { result
+        ≡ sooner found (least
+        (flat_map (λ (row : Row). flat_map
+        (C.places local.now.scope.now.raw.now local.now.machine.now row) row.acts)
+        local.now.machine.now.rows)) }
 {
     in_rows(rule, local, local.machine.rows.as_slice(), found)
 }
 
 // The least place in the rows of these machines, and of what was found.
 fn in_machines<C: ActRule>(rule: &C, locals: &[Local], found: Option<u64>) -> Option<u64>
-    ensures { result ≡ sooner found (least (flat_map (λ (l : Numbered). flat_map (λ (row : Row). flat_map (C.places l.scope.now.raw.now l.machine.now row) row.acts) l.machine.now.rows) locals.now)) }
+    ensures { result
+        ≡ sooner found (least
+        (flat_map (λ (l : Numbered). flat_map
+        (λ (row : Row). flat_map (C.places l.scope.now.raw.now l.machine.now row) row.acts)
+        l.machine.now.rows) locals.now)) }
 {
     let mut found = found;
     for local in locals {
@@ -86,7 +104,10 @@ pub(crate) fn broken_by_acts<C: ActRule>(
     locals: &List<Local>,
 ) -> Option<u64>
     requires { AreLocals raw.now raw.now.machines locals.now }
-    ensures { result ≡ least (flat_map (λ (m : Machine). flat_map (λ (row : Row). flat_map (C.places raw.now m row) row.acts) m.rows) raw.now.machines) }
+    ensures { result
+        ≡ least (flat_map
+        (λ (m : Machine). flat_map (λ (row : Row). flat_map (C.places raw.now m row) row.acts)
+        m.rows) raw.now.machines) }
 {
     in_machines(rule, locals.as_slice(), None)
 }

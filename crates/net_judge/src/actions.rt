@@ -24,7 +24,8 @@ fn wrong_value(shape: Option<&RawShape>, source: &RawSource, found: Option<u64>)
     }
 }
 
-// The least of what was found and of the place of an emission whose source is missing, forbidden or wrong.
+// The least of what was found and of the place of an emission whose source is missing, forbidden or
+// wrong.
 fn wrong_emission(
     local: &Local,
     name: Word,
@@ -32,7 +33,8 @@ fn wrong_emission(
     source: Option<RawSource>,
     found: Option<u64>,
 ) -> Option<u64>
-    ensures { result ≡ sooner found (least (wrong_emission local.now.scope.now.raw.now name domain source)) }
+    ensures { result
+        ≡ sooner found (least (wrong_emission local.now.scope.now.raw.now name domain source)) }
 {
     match domain {
         Some(word) => match source {
@@ -121,7 +123,9 @@ fn plain_machine(machine: &RawMachine) -> bool
 }
 
 fn plain_machines(machines: &[RawMachine]) -> bool
-    ensures { result ≡ list_all (λ (m : Machine). list_all (λ (row : Row). list_all is_plain row.acts) m.rows) machines.now }
+    ensures { result
+        ≡ list_all (λ (m : Machine). list_all (λ (row : Row). list_all is_plain row.acts) m.rows)
+        machines.now }
 {
     machines.iter().all(|machine| plain_machine(machine))
 }

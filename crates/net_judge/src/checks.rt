@@ -22,7 +22,8 @@ fn check_each<T, C: Check<T>>(
     items: &[T],
     found: Option<u64>,
 ) -> Result<Option<u64>, NoMemory>
-    ensures { IfOk result (λ place. place ≡ sooner found (least (flat_map (C.places check.now) items.now))) }
+    ensures { IfOk result (λ place. place
+        ≡ sooner found (least (flat_map (C.places check.now) items.now))) }
 {
     let mut found = found;
     for item in items {
@@ -37,7 +38,8 @@ pub(crate) fn check_all<T, C: Check<T>>(
     items: &List<T>,
     found: Option<u64>,
 ) -> Result<Option<u64>, NoMemory>
-    ensures { IfOk result (λ place. place ≡ sooner found (least (flat_map (C.places check.now) items.now))) }
+    ensures { IfOk result (λ place. place
+        ≡ sooner found (least (flat_map (C.places check.now) items.now))) }
 {
     check_each(check, items.as_slice(), found)
 }

@@ -14,8 +14,8 @@ use net_reader::{RawCond, RawNet, RawRow, RawShape, RawValue};
 use polis_base::{List, NoMemory};
 use std::alloc::Global;
 
-// The least places that were found where a name in a condition is none of the machine's variables, doesn't suit its
-// condition, or has a value that is none of its domain.
+// The least places that were found where a name in a condition is none of the machine's variables,
+// doesn't suit its condition, or has a value that is none of its domain.
 #[derive(Clone, Copy)]
 pub(crate) struct CondFaults {
     pub(crate) unknown: Option<u64>,
@@ -25,7 +25,8 @@ pub(crate) struct CondFaults {
 
 // The least of what was found and of the places of the values that are none of the domain.
 fn no_values(shape: Option<&RawShape>, values: &[RawValue], found: Option<u64>) -> Option<u64>
-    ensures { result ≡ sooner found (least (flat_map (no_value (option_copied shape.entry)) values.now)) }
+    ensures { result
+        ≡ sooner found (least (flat_map (no_value (option_copied shape.entry)) values.now)) }
 {
     let mut found = found;
     for value in values {
@@ -41,10 +42,15 @@ fn judge_cond<'s, 'a>(
     cond: &RawCond,
     found: CondFaults,
 ) -> CondFaults
-    requires { IsVar local.now.scope.now.raw.now local.now.machine.now (cond_word cond.now).name var.now }
+    requires { IsVar local.now.scope.now.raw.now local.now.machine.now (cond_word cond.now).name
+        var.now }
     ensures unknown { result.unknown ≡ sooner found.unknown (least (unknown local.now.machine.now cond.now)) }
-    ensures unsuited { result.unsuited ≡ sooner found.unsuited (least (unsuited local.now.scope.now.raw.now local.now.machine.now cond.now)) }
-    ensures valueless { result.valueless ≡ sooner found.valueless (least (wrong_values local.now.scope.now.raw.now local.now.machine.now cond.now)) }
+    ensures unsuited { result.unsuited
+        ≡ sooner found.unsuited
+        (least (unsuited local.now.scope.now.raw.now local.now.machine.now cond.now)) }
+    ensures valueless { result.valueless
+        ≡ sooner found.valueless
+        (least (wrong_values local.now.scope.now.raw.now local.now.machine.now cond.now)) }
 {
     match cond {
         RawCond::Present(word) => CondFaults {
@@ -77,10 +83,15 @@ fn in_cond<'s, 'a>(
     cond: &RawCond,
     found: CondFaults,
 ) -> CondFaults
-    requires { AreVars local.now.scope.now.raw.now local.now.machine.now (var_words local.now.machine.now) vars.now }
+    requires { AreVars local.now.scope.now.raw.now local.now.machine.now
+        (var_words local.now.machine.now) vars.now }
     ensures unknown { result.unknown ≡ sooner found.unknown (least (unknown local.now.machine.now cond.now)) }
-    ensures unsuited { result.unsuited ≡ sooner found.unsuited (least (unsuited local.now.scope.now.raw.now local.now.machine.now cond.now)) }
-    ensures valueless { result.valueless ≡ sooner found.valueless (least (wrong_values local.now.scope.now.raw.now local.now.machine.now cond.now)) }
+    ensures unsuited { result.unsuited
+        ≡ sooner found.unsuited
+        (least (unsuited local.now.scope.now.raw.now local.now.machine.now cond.now)) }
+    ensures valueless { result.valueless
+        ≡ sooner found.valueless
+        (least (wrong_values local.now.scope.now.raw.now local.now.machine.now cond.now)) }
 {
     let word = cond_word(cond);
     match local.var(word.name) {
@@ -102,10 +113,17 @@ fn in_conds<'s, 'a>(
     conds: &[RawCond],
     found: CondFaults,
 ) -> CondFaults
-    requires { AreVars local.now.scope.now.raw.now local.now.machine.now (var_words local.now.machine.now) vars.now }
-    ensures unknown { result.unknown ≡ sooner found.unknown (least (flat_map (unknown local.now.machine.now) conds.now)) }
-    ensures unsuited { result.unsuited ≡ sooner found.unsuited (least (flat_map (unsuited local.now.scope.now.raw.now local.now.machine.now) conds.now)) }
-    ensures valueless { result.valueless ≡ sooner found.valueless (least (flat_map (wrong_values local.now.scope.now.raw.now local.now.machine.now) conds.now)) }
+    requires { AreVars local.now.scope.now.raw.now local.now.machine.now
+        (var_words local.now.machine.now) vars.now }
+    ensures unknown { result.unknown ≡ sooner found.unknown
+        (least (flat_map (unknown local.now.machine.now) conds.now)) }
+    ensures unsuited { result.unsuited
+        ≡ sooner found.unsuited
+        (least (flat_map (unsuited local.now.scope.now.raw.now local.now.machine.now) conds.now)) }
+    ensures valueless { result.valueless
+        ≡ sooner found.valueless
+        (least (flat_map (wrong_values local.now.scope.now.raw.now local.now.machine.now)
+        conds.now)) }
 {
     let mut found = found;
     for cond in conds {
@@ -121,10 +139,18 @@ fn in_row<'s, 'a>(
     row: &RawRow,
     found: CondFaults,
 ) -> CondFaults
-    requires { AreVars local.now.scope.now.raw.now local.now.machine.now (var_words local.now.machine.now) vars.now }
-    ensures unknown { result.unknown ≡ sooner found.unknown (least (flat_map (unknown local.now.machine.now) row.now.conds)) }
-    ensures unsuited { result.unsuited ≡ sooner found.unsuited (least (flat_map (unsuited local.now.scope.now.raw.now local.now.machine.now) row.now.conds)) }
-    ensures valueless { result.valueless ≡ sooner found.valueless (least (flat_map (wrong_values local.now.scope.now.raw.now local.now.machine.now) row.now.conds)) }
+    requires { AreVars local.now.scope.now.raw.now local.now.machine.now
+        (var_words local.now.machine.now) vars.now }
+    ensures unknown { result.unknown ≡ sooner found.unknown
+        (least (flat_map (unknown local.now.machine.now) row.now.conds)) }
+    ensures unsuited { result.unsuited
+        ≡ sooner found.unsuited
+        (least (flat_map (unsuited local.now.scope.now.raw.now local.now.machine.now)
+        row.now.conds)) }
+    ensures valueless { result.valueless
+        ≡ sooner found.valueless
+        (least (flat_map (wrong_values local.now.scope.now.raw.now local.now.machine.now)
+        row.now.conds)) }
 {
     in_conds(local, vars, row.conds.as_slice(), found)
 }
@@ -136,10 +162,21 @@ fn in_rows<'s, 'a>(
     rows: &[RawRow],
     found: CondFaults,
 ) -> CondFaults
-    requires { AreVars local.now.scope.now.raw.now local.now.machine.now (var_words local.now.machine.now) vars.now }
-    ensures unknown { result.unknown ≡ sooner found.unknown (least (flat_map (λ (row : Row). flat_map (unknown local.now.machine.now) row.conds) rows.now)) }
-    ensures unsuited { result.unsuited ≡ sooner found.unsuited (least (flat_map (λ (row : Row). flat_map (unsuited local.now.scope.now.raw.now local.now.machine.now) row.conds) rows.now)) }
-    ensures valueless { result.valueless ≡ sooner found.valueless (least (flat_map (λ (row : Row). flat_map (wrong_values local.now.scope.now.raw.now local.now.machine.now) row.conds) rows.now)) }
+    requires { AreVars local.now.scope.now.raw.now local.now.machine.now
+        (var_words local.now.machine.now) vars.now }
+    ensures unknown { result.unknown ≡ sooner found.unknown
+        (least (flat_map (λ (row : Row). flat_map (unknown local.now.machine.now) row.conds)
+        rows.now)) }
+    ensures unsuited { result.unsuited
+        ≡ sooner found.unsuited
+        (least (flat_map
+        (λ (row : Row). flat_map (unsuited local.now.scope.now.raw.now local.now.machine.now)
+        row.conds) rows.now)) }
+    ensures valueless { result.valueless
+        ≡ sooner found.valueless
+        (least (flat_map
+        (λ (row : Row). flat_map (wrong_values local.now.scope.now.raw.now local.now.machine.now)
+        row.conds) rows.now)) }
 {
     let mut found = found;
     for row in rows {
@@ -150,9 +187,20 @@ fn in_rows<'s, 'a>(
 
 // The rows of one more machine.
 fn in_machine(alloc: Global, local: &Local, found: CondFaults) -> Result<CondFaults, NoMemory>
-    ensures unknown { IfOk result (λ next. next.unknown ≡ sooner found.unknown (least (flat_map (λ (row : Row). flat_map (unknown local.now.machine.now) row.conds) local.now.machine.now.rows))) }
-    ensures unsuited { IfOk result (λ next. next.unsuited ≡ sooner found.unsuited (least (flat_map (λ (row : Row). flat_map (unsuited local.now.scope.now.raw.now local.now.machine.now) row.conds) local.now.machine.now.rows))) }
-    ensures valueless { IfOk result (λ next. next.valueless ≡ sooner found.valueless (least (flat_map (λ (row : Row). flat_map (wrong_values local.now.scope.now.raw.now local.now.machine.now) row.conds) local.now.machine.now.rows))) }
+    ensures unknown { IfOk result (λ next. next.unknown
+        ≡ sooner found.unknown
+        (least (flat_map (λ (row : Row). flat_map (unknown local.now.machine.now) row.conds)
+        local.now.machine.now.rows))) }
+    ensures unsuited { IfOk result (λ next. next.unsuited
+        ≡ sooner found.unsuited
+        (least (flat_map
+        (λ (row : Row). flat_map (unsuited local.now.scope.now.raw.now local.now.machine.now)
+        row.conds) local.now.machine.now.rows))) }
+    ensures valueless { IfOk result (λ next. next.valueless
+        ≡ sooner found.valueless
+        (least (flat_map
+        (λ (row : Row). flat_map (wrong_values local.now.scope.now.raw.now local.now.machine.now)
+        row.conds) local.now.machine.now.rows))) }
 {
     let vars = vars_of(alloc, local)?;
     Ok(in_rows(local, &vars, local.machine.rows.as_slice(), found))
@@ -160,9 +208,23 @@ fn in_machine(alloc: Global, local: &Local, found: CondFaults) -> Result<CondFau
 
 // The rows of more machines.
 fn in_machines(alloc: Global, locals: &[Local], found: CondFaults) -> Result<CondFaults, NoMemory>
-    ensures unknown { IfOk result (λ next. next.unknown ≡ sooner found.unknown (least (flat_map (λ (l : Numbered). flat_map (λ (row : Row). flat_map (unknown l.machine.now) row.conds) l.machine.now.rows) locals.now))) }
-    ensures unsuited { IfOk result (λ next. next.unsuited ≡ sooner found.unsuited (least (flat_map (λ (l : Numbered). flat_map (λ (row : Row). flat_map (unsuited l.scope.now.raw.now l.machine.now) row.conds) l.machine.now.rows) locals.now))) }
-    ensures valueless { IfOk result (λ next. next.valueless ≡ sooner found.valueless (least (flat_map (λ (l : Numbered). flat_map (λ (row : Row). flat_map (wrong_values l.scope.now.raw.now l.machine.now) row.conds) l.machine.now.rows) locals.now))) }
+    ensures unknown { IfOk result (λ next. next.unknown
+        ≡ sooner found.unknown
+        (least (flat_map
+        (λ (l : Numbered). flat_map (λ (row : Row). flat_map (unknown l.machine.now) row.conds)
+        l.machine.now.rows) locals.now))) }
+    ensures unsuited { IfOk result (λ next. next.unsuited
+        ≡ sooner found.unsuited
+        (least (flat_map
+        (λ (l : Numbered). flat_map
+        (λ (row : Row). flat_map (unsuited l.scope.now.raw.now l.machine.now) row.conds)
+        l.machine.now.rows) locals.now))) }
+    ensures valueless { IfOk result (λ next. next.valueless
+        ≡ sooner found.valueless
+        (least (flat_map
+        (λ (l : Numbered). flat_map
+        (λ (row : Row). flat_map (wrong_values l.scope.now.raw.now l.machine.now) row.conds)
+        l.machine.now.rows) locals.now))) }
 {
     let mut found = found;
     for local in locals {

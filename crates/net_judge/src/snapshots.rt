@@ -15,7 +15,8 @@ use std::alloc::Global;
 // A product times the codes of each input.
 fn times_inputs(scope: &Scope, inputs: &[Word], count: u64) -> u64
     requires { count ≤ 65537 }
-    ensures { result ≡ min 65537 (count * product (map (event_codes scope.now.raw.now) inputs.now)) }
+    ensures { result
+        ≡ min 65537 (count * product (map (event_codes scope.now.raw.now) inputs.now)) }
 {
     let mut count = count;
     for input in inputs {
@@ -27,7 +28,8 @@ fn times_inputs(scope: &Scope, inputs: &[Word], count: u64) -> u64
 // A product times the codes of each state variable.
 fn times_states(scope: &Scope, states: &[RawState], count: u64) -> u64
     requires { count ≤ 65537 }
-    ensures { result ≡ min 65537 (count * product (map (state_codes scope.now.raw.now) states.now)) }
+    ensures { result
+        ≡ min 65537 (count * product (map (state_codes scope.now.raw.now) states.now)) }
 {
     let mut count = count;
     for state in states {

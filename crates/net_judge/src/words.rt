@@ -23,7 +23,8 @@ fn missing_each(table: &Table, words: &[Word], found: Option<u64>) -> Option<u64
     found
 }
 
-// The least of what was found and of the places of the words whose names have a number or stand before.
+// The least of what was found and of the places of the words whose names have a number or stand
+// before.
 fn repeated_each(taken: Table, words: &[Word], found: Option<u64>) -> Result<Option<u64>, NoMemory>
     ensures { IfOk result (λ place. place ≡ sooner found (least (repeated (has taken) words.now))) }
 {
@@ -44,7 +45,8 @@ pub(crate) fn missing(table: &Table, words: &List<Word>, found: Option<u64>) -> 
     missing_each(table, words.as_slice(), found)
 }
 
-// The least of what was found and of the places of the words whose names have a number or stand before.
+// The least of what was found and of the places of the words whose names have a number or stand
+// before.
 pub(crate) fn repeated(
     taken: Table,
     words: &List<Word>,
@@ -55,7 +57,8 @@ pub(crate) fn repeated(
     repeated_each(taken, words.as_slice(), found)
 }
 
-// The least of what was found and of the places of the words whose names stand before, each compared with those before.
+// The least of what was found and of the places of the words whose names stand before, each
+// compared with those before.
 fn repeats_few(words: &[Word], found: Option<u64>) -> Option<u64>
     ensures { result ≡ sooner found (least (repeated no_name words.now)) }
 {
@@ -93,14 +96,17 @@ pub(crate) fn beyond(words: &List<Word>, most: u64, found: Option<u64>) -> Optio
     }
 }
 
-// The least of what was found and of the places of the words that aren't declared or whose names stand before.
+// The least of what was found and of the places of the words that aren't declared or whose names
+// stand before.
 pub(crate) fn not_once(
     alloc: Global,
     declared: &Table,
     words: &List<Word>,
     found: Option<u64>,
 ) -> Result<Option<u64>, NoMemory>
-    ensures { IfOk result (λ place. place ≡ sooner found (least (missing (has declared.now) words.now ++ repeated no_name words.now))) }
+    ensures { IfOk result (λ place. place
+        ≡ sooner found (least (missing (has declared.now) words.now
+        ++ repeated no_name words.now))) }
 {
     let found = missing(declared, words, found);
     repeats(alloc, words, found)

@@ -15,24 +15,39 @@ some-is : {A : Type 0} (a b : A) → Some a ≡ Some b → a ≡ b
 some-is a b e = ap (λ o. unwrap_or o a) e
 
 -- the variable at a name's number is what the name stands for
-pub var-at : (net : RawNet) (m : RawMachine) (words : List Word) (vars : List Var) (name : List ℕ) (k : ℕ) (v : Var) → AreVars net m words vars → number_in (names_of words) name ≡ Some k → slice_get vars k ≡ Some v → IsVar net m name v
+pub var-at : (net : RawNet) (m : RawMachine) (words : List Word) (vars : List Var) (name : List ℕ)
+    (k : ℕ) (v : Var) → AreVars net m words vars → number_in (names_of words) name ≡ Some k
+    → slice_get vars k ≡ Some v → IsVar net m name v
 var-at net m [] vars name k v all is at = absurd (true≢false (sym (ap is_some is)))
 var-at net m (w ∷ ws) [] name k v all is at = absurd all
-var-at net m (w ∷ ws) (u ∷ us) name k v all is at = by (is_same name w.name) refl (number_in (names_of ws) name) refl is (λ j e h. var-at net m ws us name j v all.1 e h)
+var-at net m (w ∷ ws) (u ∷ us) name k v all is at =
+    by (is_same name w.name) refl (number_in (names_of ws) name) refl is
+    (λ j e h. var-at net m ws us name j v all.1 e h)
   where
-    by : (b : Bool) → is_same name w.name ≡ b → (o : Option ℕ) → number_in (names_of ws) name ≡ o → cond b (Some 0) (option_map suc o) ≡ Some k
-        → ((j : ℕ) → number_in (names_of ws) name ≡ Some j → slice_get us j ≡ Some v → IsVar net m name v) → IsVar net m name v
-    by true same o e h rest = subst (λ n. IsVar net m n v) (sym (same_text name w.name (sym same))) (subst (λ x. IsVar net m w.name x) (some-is u v (ap (slice_get (u ∷ us)) (some-is 0 k h) ∙ at)) all.0)
+    by : (b : Bool) → is_same name w.name ≡ b → (o : Option ℕ) → number_in (names_of ws) name ≡ o
+        → cond b (Some 0) (option_map suc o) ≡ Some k
+        → ((j : ℕ) → number_in (names_of ws) name ≡ Some j → slice_get us j ≡ Some v
+        → IsVar net m name v) → IsVar net m name v
+    by true same o e h rest =
+        subst (λ n. IsVar net m n v) (sym (same_text name w.name (sym same)))
+        (subst (λ x. IsVar net m w.name x)
+        (some-is u v (ap (slice_get (u ∷ us)) (some-is 0 k h) ∙ at)) all.0)
     by false other None e h rest = absurd (true≢false (sym (ap is_some h)))
     by false other (Some j) e h rest = rest j e (ap (slice_get (u ∷ us)) (some-is (suc j) k h) ∙ at)
 
 -- and there is one
-pub var-below : (net : RawNet) (m : RawMachine) (words : List Word) (vars : List Var) (name : List ℕ) (k : ℕ) → AreVars net m words vars → number_in (names_of words) name ≡ Some k → k < length vars
+pub var-below : (net : RawNet) (m : RawMachine) (words : List Word) (vars : List Var)
+    (name : List ℕ) (k : ℕ) → AreVars net m words vars → number_in (names_of words) name ≡ Some k
+    → k < length vars
 var-below net m [] vars name k all is = absurd (true≢false (sym (ap is_some is)))
 var-below net m (w ∷ ws) [] name k all is = absurd all
-var-below net m (w ∷ ws) (u ∷ us) name k all is = by (is_same name w.name) (number_in (names_of ws) name) refl is (λ j e. var-below net m ws us name j all.1 e)
+var-below net m (w ∷ ws) (u ∷ us) name k all is =
+    by (is_same name w.name) (number_in (names_of ws) name) refl is
+    (λ j e. var-below net m ws us name j all.1 e)
   where
-    by : (b : Bool) (o : Option ℕ) → number_in (names_of ws) name ≡ o → cond b (Some 0) (option_map suc o) ≡ Some k → ((j : ℕ) → number_in (names_of ws) name ≡ Some j → j < length us) → k < suc (length us)
+    by : (b : Bool) (o : Option ℕ) → number_in (names_of ws) name ≡ o
+        → cond b (Some 0) (option_map suc o) ≡ Some k
+        → ((j : ℕ) → number_in (names_of ws) name ≡ Some j → j < length us) → k < suc (length us)
     by true o e h rest = let z = some-is 0 k h in omega (arith, z)
     by false None e h rest = absurd (true≢false (sym (ap is_some h)))
     by false (Some j) e h rest = let z = some-is (suc j) k h in omega (arith, z, rest j e)

@@ -20,7 +20,8 @@ is_name_of words name = is_among (names_of words) name
 -- the number of a name: its first place among these, counted from 0
 abbrev pub number_in : List (List ℕ) → List ℕ → Option ℕ
 number_in [] name = None
-number_in (first ∷ names) name = if is_same name first then Some 0 else option_map suc (number_in names name)
+number_in (first ∷ names) name =
+    if is_same name first then Some 0 else option_map suc (number_in names name)
 
 -- no name is taken
 abbrev pub no_name : List ℕ → Bool
@@ -33,7 +34,8 @@ missing declared words = flat_map (λ (word : Word). unless (declared word.name)
 -- the places of the words whose names are taken, or are those of earlier words
 abbrev pub repeated : (List ℕ → Bool) → List Word → List ℕ
 repeated taken [] = []
-repeated taken (word ∷ words) = unless (not (taken word.name)) word.at ++ repeated (λ name. taken name || is_same name word.name) words
+repeated taken (word ∷ words) = unless (not (taken word.name)) word.at
+    ++ repeated (λ name. taken name || is_same name word.name) words
 
 -- the number of a name that is one of these, 0 where it is none
 abbrev pub number : List Word → List ℕ → ℕ

@@ -46,19 +46,26 @@ all_inputs net = flat_map (λ (m : RawMachine). m.inputs) net.machines
 
 -- the values of the domain of this name
 abbrev pub shape_of : RawNet → List ℕ → Option RawShape
-shape_of net name = option_map (λ (d : RawDomain). d.shape) (find (λ (d : RawDomain). is_same name d.name.name) net.domains)
+shape_of net name =
+    option_map (λ (d : RawDomain). d.shape)
+    (find (λ (d : RawDomain). is_same name d.name.name) net.domains)
 
 -- the name of an event's domain, where it has one
 abbrev pub event_domain : RawNet → List ℕ → Option Word
-event_domain net name = option_and_then (λ (e : RawEvent). e.domain) (find (λ (e : RawEvent). is_same name e.name.name) net.events)
+event_domain net name =
+    option_and_then (λ (e : RawEvent). e.domain)
+    (find (λ (e : RawEvent). is_same name e.name.name) net.events)
 
 -- the name of a state variable's domain
 abbrev pub state_domain : RawMachine → List ℕ → Option Word
-state_domain m name = option_map (λ (s : RawState). s.domain) (find (λ (s : RawState). is_same name s.name.name) m.states)
+state_domain m name =
+    option_map (λ (s : RawState). s.domain)
+    (find (λ (s : RawState). is_same name s.name.name) m.states)
 
 -- the name of the domain of a state variable, or else of an event
 abbrev pub var_domain : RawNet → RawMachine → List ℕ → Option Word
-var_domain net m name = if is_among (names_of (state_words m)) name then state_domain m name else event_domain net name
+var_domain net m name =
+    if is_among (names_of (state_words m)) name then state_domain m name else event_domain net name
 
 -- the values of that domain
 abbrev pub shape_at : RawNet → Option Word → Option RawShape

@@ -7,12 +7,15 @@ use Rattle.net_reader.specs.declared.raw.RawShape.TheVariants as shapes
 use Rattle.net_names.specs.Places.{unless}
 use Rattle.net_names.specs.Numbers.{names_of, number_in}
 
--- the number of a value in a domain of this shape: the place of its name, or how far it is above the first number
+-- the number of a value in a domain of this shape: the place of its name, or how far it is above
+-- the first number
 abbrev pub value_in : RawShape → RawValue → Option ℕ
 value_in (shapes.Names words) (values.Name word) = number_in (names_of words) word.name
 value_in (shapes.Names words) (values.Number n) = None
 value_in (shapes.Range first last) (values.Name word) = None
-value_in (shapes.Range first last) (values.Number n) = if nat_le first.number n.number && nat_le n.number last.number then Some (n.number - first.number) else None
+value_in (shapes.Range first last) (values.Number n) =
+    if nat_le first.number n.number && nat_le n.number last.number then Some
+    (n.number - first.number) else None
 
 -- how many values there are
 abbrev pub count_of : RawShape → ℕ

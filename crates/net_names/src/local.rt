@@ -95,7 +95,8 @@ impl<'s, 'a> Local<'s, 'a> {
 
     /// Whether the name is that of an input or of a state variable.
     pub fn is_var(&self, name: Name) -> bool
-        ensures { result ≡ is_name_of (self.now.machine.now.inputs ++ state_words self.now.machine.now) name }
+        ensures { result
+            ≡ is_name_of (self.now.machine.now.inputs ++ state_words self.now.machine.now) name }
     {
         self.vars.has(name)
     }
@@ -147,14 +148,17 @@ impl<'s, 'a> Local<'s, 'a> {
 
     /// The number of a variable by its name, if it is one.
     pub fn var(&self, name: Name) -> Option<u64>
-        ensures { result ≡ number_in (names_of (self.now.machine.now.inputs ++ state_words self.now.machine.now)) name }
+        ensures { result
+            ≡ number_in (names_of (self.now.machine.now.inputs
+            ++ state_words self.now.machine.now)) name }
     {
         self.vars.number(name)
     }
 
     /// The number of a variable by its name, 0 where it is none.
     pub fn var_number(&self, name: Name) -> u64
-        ensures { result ≡ number (self.now.machine.now.inputs ++ state_words self.now.machine.now) name }
+        ensures { result
+            ≡ number (self.now.machine.now.inputs ++ state_words self.now.machine.now) name }
     {
         match self.vars.number(name) {
             Some(number) => number,

@@ -29,7 +29,8 @@ pub fn locals_of<'s, 'a>(
     alloc: Global,
     scope: &'s Scope<'a>,
 ) -> Result<List<Local<'s, 'a>>, NoMemory>
-    ensures { IfOk result (λ locals. AreLocals scope.now.raw.now scope.now.raw.now.machines locals) }
+    ensures { IfOk result
+        (λ locals. AreLocals scope.now.raw.now scope.now.raw.now.machines locals) }
 {
     locals_each(alloc, scope, scope.raw.machines.as_slice())
 }

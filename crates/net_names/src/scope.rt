@@ -82,7 +82,8 @@ impl<'a> Scope<'a> {
     /// The number of a domain by its name, if one is named.
     pub fn domain_number(&self, domain: Option<Word>) -> Option<u32>
         requires { length self.now.raw.now.domains ≤ 64 }
-        ensures { result ≡ option_map (λ (w : RawWord). number (domain_words self.now.raw.now) w.name) domain }
+        ensures { result
+            ≡ option_map (λ (w : RawWord). number (domain_words self.now.raw.now) w.name) domain }
     {
         match domain {
             Some(word) => Some(self.number_of(word.name)),

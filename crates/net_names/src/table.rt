@@ -130,7 +130,8 @@ impl Table {
     pub fn note(&mut self, name: Name, number: u64) -> Result<bool, NoMemory>
         ensures fresh { IfOk result (λ fresh. fresh ≡ not (has self.old name)) }
         ensures noted { OnOk result (self.new ≡ noted self.old name number) }
-        ensures names { OnOk result ((q : List ℕ) → has self.new q ≡ (has self.old q || is_same q name)) }
+        ensures names { OnOk result ((q : List ℕ)
+            → has self.new q ≡ (has self.old q || is_same q name)) }
     {
         if self.has(name) {
             return Ok(false);
@@ -144,7 +145,8 @@ impl Table {
 
 // The number of each name: its first place among the words.
 fn number_each(alloc: Global, words: &[Word]) -> Result<Table, NoMemory>
-    ensures { IfOk result (λ table. (name : List ℕ) → number_at table name ≡ number_in (names_of words.now) name) }
+    ensures { IfOk result (λ table. (name : List ℕ)
+        → number_at table name ≡ number_in (names_of words.now) name) }
 {
     let mut table = Table::new(alloc);
     for (number, word) in words.iter().enumerate() {
@@ -155,7 +157,8 @@ fn number_each(alloc: Global, words: &[Word]) -> Result<Table, NoMemory>
 
 /// The number of each name: its first place among the words.
 pub fn number_all(alloc: Global, words: &List<Word>) -> Result<Table, NoMemory>
-    ensures numbers { IfOk result (λ table. (name : List ℕ) → number_at table name ≡ number_in (names_of words.now) name) }
+    ensures numbers { IfOk result (λ table. (name : List ℕ)
+        → number_at table name ≡ number_in (names_of words.now) name) }
     ensures names { IfOk result (λ table. has table ≡ is_name_of words.now) }
 {
     let table = number_each(alloc, words.as_slice())?;

@@ -45,7 +45,8 @@ fn vars_each<'s, 'a>(
     local: &Local<'s, 'a>,
     words: &[Word],
 ) -> Result<List<Var<'a>>, NoMemory>
-    ensures { IfOk result (λ vars. AreVars local.now.scope.now.raw.now local.now.machine.now words.now vars) }
+    ensures { IfOk result
+        (λ vars. AreVars local.now.scope.now.raw.now local.now.machine.now words.now vars) }
 {
     let mut vars = List::new(alloc);
     for word in words {
@@ -56,7 +57,9 @@ fn vars_each<'s, 'a>(
 
 /// What the names of a machine's variables stand for, by number.
 pub fn vars_of<'s, 'a>(alloc: Global, local: &Local<'s, 'a>) -> Result<List<Var<'a>>, NoMemory>
-    ensures { IfOk result (λ vars. AreVars local.now.scope.now.raw.now local.now.machine.now (var_words local.now.machine.now) vars) }
+    ensures { IfOk result
+        (λ vars. AreVars local.now.scope.now.raw.now local.now.machine.now
+        (var_words local.now.machine.now) vars) }
 {
     let words = var_words(alloc, local.machine)?;
     vars_each(alloc, local, words.as_slice())
@@ -69,7 +72,8 @@ pub fn var_numbered<'v, 's, 'a>(
     name: Name,
     number: u64,
 ) -> &'v Var<'a>
-    requires vars { AreVars local.now.scope.now.raw.now local.now.machine.now (var_words local.now.machine.now) vars.now }
+    requires vars { AreVars local.now.scope.now.raw.now local.now.machine.now
+        (var_words local.now.machine.now) vars.now }
     requires number { number_in (names_of (var_words local.now.machine.now)) name ≡ Some number }
     ensures { IsVar local.now.scope.now.raw.now local.now.machine.now name result.now }
 {
@@ -82,8 +86,10 @@ pub fn var_at<'v, 's, 'a>(
     vars: &'v List<Var<'a>>,
     name: Name,
 ) -> Option<&'v Var<'a>>
-    requires { AreVars local.now.scope.now.raw.now local.now.machine.now (var_words local.now.machine.now) vars.now }
-    ensures { IfSome result (λ var. IsVar local.now.scope.now.raw.now local.now.machine.now name var.now) }
+    requires { AreVars local.now.scope.now.raw.now local.now.machine.now
+        (var_words local.now.machine.now) vars.now }
+    ensures { IfSome result
+        (λ var. IsVar local.now.scope.now.raw.now local.now.machine.now name var.now) }
 {
     match local.var(name) {
         Some(number) => Some(var_numbered(local, vars, name, number)),

@@ -22,7 +22,12 @@ Faults text place = outcome text ≡ Err (Syntax place)
 read : Answers lamp_text (Ok lamp)
     × Answers echo_text (Ok echo)
     × Answers (with_action (codes "2") (codes "s := value g")) (Ok (one_action 2 set_to_input))
-unfolding only word_at num_at value_at many after_comma listed names_at range_at shape_at domain_at from_env_at to_env_at env_at typed_at typed_part_at event_at state_at absent_at is_at one_of_at after_name_at named_at cond_at plain_at input_at add_at add_or_plain_at after_value_at sum_at input_or_plain_at input_or_sum_at given_source_at source_at given_at given_part_at emit_at set_at act_at nothing_at acts_at row_at output_at outputs_at body_at machine_at net_at end_at whole_at
+unfolding only word_at num_at value_at many after_comma listed names_at range_at shape_at domain_at
+    from_env_at to_env_at env_at typed_at typed_part_at event_at state_at absent_at is_at one_of_at
+    after_name_at named_at cond_at plain_at input_at add_at add_or_plain_at after_value_at sum_at
+    input_or_plain_at input_or_sum_at given_source_at source_at given_at given_part_at emit_at
+    set_at act_at nothing_at acts_at row_at output_at outputs_at body_at machine_at net_at end_at
+    whole_at
 read = (refl, refl, refl)
 
 broken : Faults (with_action (codes "1") (codes "s := value g")) 83
@@ -30,7 +35,12 @@ broken : Faults (with_action (codes "1") (codes "s := value g")) 83
     × Faults (with_action (codes "3") (codes "emit e = value g")) 87
     × Faults (with_action (codes "1") (codes "s := s + 1")) 85
     × Faults (with_action (codes "2") (codes "emit e = s + 1")) 89
-unfolding only word_at num_at value_at many after_comma listed names_at range_at shape_at domain_at from_env_at to_env_at env_at typed_at typed_part_at event_at state_at absent_at is_at one_of_at after_name_at named_at cond_at plain_at input_at add_at add_or_plain_at after_value_at sum_at input_or_plain_at input_or_sum_at given_source_at source_at given_at given_part_at emit_at set_at act_at nothing_at acts_at row_at output_at outputs_at body_at machine_at net_at end_at whole_at
+unfolding only word_at num_at value_at many after_comma listed names_at range_at shape_at domain_at
+    from_env_at to_env_at env_at typed_at typed_part_at event_at state_at absent_at is_at one_of_at
+    after_name_at named_at cond_at plain_at input_at add_at add_or_plain_at after_value_at sum_at
+    input_or_plain_at input_or_sum_at given_source_at source_at given_at given_part_at emit_at
+    set_at act_at nothing_at acts_at row_at output_at outputs_at body_at machine_at net_at end_at
+    whole_at
 broken = (refl, refl, refl, refl, refl)
 
 pub lamp_declares : HasNet lamp_text lamp
@@ -69,6 +79,11 @@ abbrev brace : Lexeme
 brace = record { kind = Sign RightBrace; bytes = codes "}"; at = 214 }
 
 pub lamp_lacks_last : LacksLast (take 214 lamp_text)
-unfolding only word_at num_at value_at many after_comma listed names_at range_at shape_at domain_at from_env_at to_env_at env_at typed_at typed_part_at event_at state_at absent_at is_at one_of_at after_name_at named_at cond_at plain_at input_at add_at add_or_plain_at after_value_at sum_at input_or_plain_at input_or_sum_at given_source_at source_at given_at given_part_at emit_at set_at act_at nothing_at acts_at row_at output_at outputs_at body_at machine_at net_at end_at whole_at
+unfolding only word_at num_at value_at many after_comma listed names_at range_at shape_at domain_at
+    from_env_at to_env_at env_at typed_at typed_part_at event_at state_at absent_at is_at one_of_at
+    after_name_at named_at cond_at plain_at input_at add_at add_or_plain_at after_value_at sum_at
+    input_or_plain_at input_or_sum_at given_source_at source_at given_at given_part_at emit_at
+    set_at act_at nothing_at acts_at row_at output_at outputs_at body_at machine_at net_at end_at
+    whole_at
 lamp_lacks_last =
     record { tokens = _; read = refl; last = brace; net = lamp; sentence = whole_ok _ [] lamp refl }

@@ -39,9 +39,44 @@ Is_names e ts =
 pub names_laws : Laws (names_at) (Is_names) (is (kinds.Sign LeftBrace)) none false
 unfolding names_at
 names_laws = same_laws
-    (λ e ts f. (f.5.2, f.5.5.5.0, (f.0, f.1, f.3, f.4, (f.5.0, f.5.1, f.5.3, f.5.4, subst (λ (m : List Lexeme). (Sign RightBrace) m) (sym (f.5.5.3 ∙ ap (λ m. f.5.5.0 ++ m) f.5.5.5.1 ∙ append-nil f.5.5.0)) f.5.5.4))))
-    (λ e ts f. (f.2.0, f.2.1, tt, f.2.2, f.2.3, (f.2.4.0, f.2.4.1, f.0, f.2.4.2, f.2.4.3, (f.2.4.1, [], tt, sym (append-nil f.2.4.1), f.2.4.4, (f.1, refl)))))
-    (bind_laws (only_laws (kinds.Sign LeftBrace) refl) (λ _. bind_laws (listed_laws word_laws (apart _ _ refl)) (λ names. bind_laws (only_laws (kinds.Sign RightBrace) refl) (λ _. pure_laws {A = RawShape} (shapes.Names names)) (apart _ _ refl)) (apart _ _ refl)) (apart _ _ refl))
+    (λ e ts f. (
+      f.5.2,
+      f.5.5.5.0,
+      (
+        f.0,
+        f.1,
+        f.3,
+        f.4,
+        (
+          f.5.0,
+          f.5.1,
+          f.5.3,
+          f.5.4,
+          subst (λ (m : List Lexeme). (Sign RightBrace) m)
+              (sym (f.5.5.3 ∙ ap (λ m. f.5.5.0 ++ m) f.5.5.5.1 ∙ append-nil f.5.5.0)) f.5.5.4,
+        ),
+      ),
+    ))
+    (λ e ts f. (
+      f.2.0,
+      f.2.1,
+      tt,
+      f.2.2,
+      f.2.3,
+      (
+        f.2.4.0,
+        f.2.4.1,
+        f.0,
+        f.2.4.2,
+        f.2.4.3,
+        (f.2.4.1, [], tt, sym (append-nil f.2.4.1), f.2.4.4, (f.1, refl)),
+      ),
+    ))
+    (bind_laws (only_laws (kinds.Sign LeftBrace) refl)
+    (λ _. bind_laws (listed_laws word_laws (apart _ _ refl))
+    (λ names. bind_laws (only_laws (kinds.Sign RightBrace) refl)
+    (λ _. pure_laws {A = RawShape} (shapes.Names names)) (apart _ _ refl)) (apart _ _ refl))
+    (apart _ _ refl))
 
 abbrev pub Is_range : RawShape → Part
 Is_range e ts =
@@ -51,9 +86,44 @@ Is_range e ts =
 pub range_laws : Laws (range_at) (Is_range) (is (kinds.Number 0)) none false
 unfolding range_at
 range_laws = same_laws
-    (λ e ts f. (f.2, f.5.5.2, f.5.5.5.0, (f.0, f.1, f.3, f.4, (f.5.0, f.5.1, f.5.3, f.5.4, subst (λ (m : List Lexeme). (IsNum f.5.5.2) m) (sym (f.5.5.3 ∙ ap (λ m. f.5.5.0 ++ m) f.5.5.5.1 ∙ append-nil f.5.5.0)) f.5.5.4))))
-    (λ e ts f. (f.3.0, f.3.1, f.0, f.3.2, f.3.3, (f.3.4.0, f.3.4.1, tt, f.3.4.2, f.3.4.3, (f.3.4.1, [], f.1, sym (append-nil f.3.4.1), f.3.4.4, (f.2, refl)))))
-    (bind_laws num_laws (λ first. bind_laws (only_laws (kinds.Sign DotDot) refl) (λ _. bind_laws num_laws (λ last. pure_laws {A = RawShape} (shapes.Range first last)) (apart _ _ refl)) (apart _ _ refl)) (apart _ _ refl))
+    (λ e ts f. (
+      f.2,
+      f.5.5.2,
+      f.5.5.5.0,
+      (
+        f.0,
+        f.1,
+        f.3,
+        f.4,
+        (
+          f.5.0,
+          f.5.1,
+          f.5.3,
+          f.5.4,
+          subst (λ (m : List Lexeme). (IsNum f.5.5.2) m)
+              (sym (f.5.5.3 ∙ ap (λ m. f.5.5.0 ++ m) f.5.5.5.1 ∙ append-nil f.5.5.0)) f.5.5.4,
+        ),
+      ),
+    ))
+    (λ e ts f. (
+      f.3.0,
+      f.3.1,
+      f.0,
+      f.3.2,
+      f.3.3,
+      (
+        f.3.4.0,
+        f.3.4.1,
+        tt,
+        f.3.4.2,
+        f.3.4.3,
+        (f.3.4.1, [], f.1, sym (append-nil f.3.4.1), f.3.4.4, (f.2, refl)),
+      ),
+    ))
+    (bind_laws num_laws
+    (λ first. bind_laws (only_laws (kinds.Sign DotDot) refl)
+    (λ _. bind_laws num_laws (λ last. pure_laws {A = RawShape} (shapes.Range first last))
+    (apart _ _ refl)) (apart _ _ refl)) (apart _ _ refl))
 
 shape_there : (e : RawShape) (ts : List Lexeme) → Or Is_names Is_range e ts → IsShape e ts
 shape_there e ts (inl f) = subst (λ (z : RawShape). IsShape z ts) (sym f.1) f.2
@@ -63,16 +133,65 @@ shape_back : (e : RawShape) (ts : List Lexeme) → IsShape e ts → Or Is_names 
 shape_back (shapes.Names names) ts f = inl (names, refl, f)
 shape_back (shapes.Range first last) ts f = inr (first, last, refl, f)
 
-pub shape_laws : Laws shape_at IsShape (λ c. is (kinds.Sign LeftBrace) c || is (kinds.Number 0) c) none false
+pub shape_laws : Laws shape_at IsShape (λ c. is (kinds.Sign LeftBrace) c || is (kinds.Number 0) c)
+    none false
 unfolding shape_at
-shape_laws = same_laws shape_there shape_back (either_laws (is (kinds.Sign LeftBrace)) names_laws range_laws (within _ _ refl) (apart _ _ refl))
+shape_laws = same_laws shape_there shape_back
+    (either_laws (is (kinds.Sign LeftBrace)) names_laws range_laws (within _ _ refl)
+    (apart _ _ refl))
 
 pub domain_laws : Laws domain_at IsDomain (is (kinds.Keyword KwDomain)) none false
 unfolding domain_at
 domain_laws = same_laws
-    (λ e ts f. subst (λ (z : RawDomain). IsDomain z ts) (sym f.5.5.5.5.0) (f.0, f.1, f.3, f.4, (f.5.0, f.5.1, f.5.3, f.5.4, (f.5.5.0, f.5.5.1, f.5.5.3, f.5.5.4, subst (λ (m : List Lexeme). (IsShape f.5.5.5.2) m) (sym (f.5.5.5.3 ∙ ap (λ m. f.5.5.5.0 ++ m) f.5.5.5.5.1 ∙ append-nil f.5.5.5.0)) f.5.5.5.4))))
-    (λ e ts f. (f.0, f.1, tt, f.2, f.3, (f.4.0, f.4.1, e.name, f.4.2, f.4.3, (f.4.4.0, f.4.4.1, tt, f.4.4.2, f.4.4.3, (f.4.4.1, [], e.shape, sym (append-nil f.4.4.1), f.4.4.4, (refl, refl))))))
-    (bind_laws (only_laws (kinds.Keyword KwDomain) refl) (λ _. bind_laws word_laws (λ name. bind_laws (only_laws (kinds.Sign Equal) refl) (λ _. bind_laws shape_laws (λ shape. pure_laws {A = RawDomain} (record { name = name; shape = shape })) (apart _ _ refl)) (apart _ _ refl)) (apart _ _ refl)) (apart _ _ refl))
+    (λ e ts f. subst (λ (z : RawDomain). IsDomain z ts) (sym f.5.5.5.5.0) (
+      f.0,
+      f.1,
+      f.3,
+      f.4,
+      (
+        f.5.0,
+        f.5.1,
+        f.5.3,
+        f.5.4,
+        (
+          f.5.5.0,
+          f.5.5.1,
+          f.5.5.3,
+          f.5.5.4,
+          subst (λ (m : List Lexeme). (IsShape f.5.5.5.2) m)
+              (sym (f.5.5.5.3 ∙ ap (λ m. f.5.5.5.0 ++ m) f.5.5.5.5.1 ∙ append-nil f.5.5.5.0))
+              f.5.5.5.4,
+        ),
+      ),
+    ))
+    (λ e ts f. (
+      f.0,
+      f.1,
+      tt,
+      f.2,
+      f.3,
+      (
+        f.4.0,
+        f.4.1,
+        e.name,
+        f.4.2,
+        f.4.3,
+        (
+          f.4.4.0,
+          f.4.4.1,
+          tt,
+          f.4.4.2,
+          f.4.4.3,
+          (f.4.4.1, [], e.shape, sym (append-nil f.4.4.1), f.4.4.4, (refl, refl)),
+        ),
+      ),
+    ))
+    (bind_laws (only_laws (kinds.Keyword KwDomain) refl)
+    (λ _. bind_laws word_laws (λ name.
+    bind_laws (only_laws (kinds.Sign Equal) refl)
+    (λ _. bind_laws shape_laws (λ shape.
+    pure_laws {A = RawDomain} (record { name = name; shape = shape })) (apart _ _ refl))
+    (apart _ _ refl)) (apart _ _ refl)) (apart _ _ refl))
 
 abbrev pub Is_from_env : RawEnv → Part
 Is_from_env e ts = (e ≡ envs.FromEnv) × (Key KwFrom ⨾ Key KwEnv) ts
@@ -80,9 +199,28 @@ Is_from_env e ts = (e ≡ envs.FromEnv) × (Key KwFrom ⨾ Key KwEnv) ts
 pub from_env_laws : Laws (from_env_at) (Is_from_env) (is (kinds.Keyword KwFrom)) none false
 unfolding from_env_at
 from_env_laws = same_laws
-    (λ e ts f. (f.5.5.0, (f.0, f.1, f.3, f.4, subst (λ (m : List Lexeme). (Key KwEnv) m) (sym (f.5.3 ∙ ap (λ m. f.5.0 ++ m) f.5.5.1 ∙ append-nil f.5.0)) f.5.4)))
-    (λ e ts f. (f.1.0, f.1.1, tt, f.1.2, f.1.3, (f.1.1, [], tt, sym (append-nil f.1.1), f.1.4, (f.0, refl))))
-    (bind_laws (only_laws (kinds.Keyword KwFrom) refl) (λ _. bind_laws (only_laws (kinds.Keyword KwEnv) refl) (λ _. pure_laws {A = RawEnv} envs.FromEnv) (apart _ _ refl)) (apart _ _ refl))
+    (λ e ts f. (
+      f.5.5.0,
+      (
+        f.0,
+        f.1,
+        f.3,
+        f.4,
+        subst (λ (m : List Lexeme). (Key KwEnv) m)
+            (sym (f.5.3 ∙ ap (λ m. f.5.0 ++ m) f.5.5.1 ∙ append-nil f.5.0)) f.5.4,
+      ),
+    ))
+    (λ e ts f. (
+      f.1.0,
+      f.1.1,
+      tt,
+      f.1.2,
+      f.1.3,
+      (f.1.1, [], tt, sym (append-nil f.1.1), f.1.4, (f.0, refl)),
+    ))
+    (bind_laws (only_laws (kinds.Keyword KwFrom) refl)
+    (λ _. bind_laws (only_laws (kinds.Keyword KwEnv) refl)
+    (λ _. pure_laws {A = RawEnv} envs.FromEnv) (apart _ _ refl)) (apart _ _ refl))
 
 abbrev pub Is_to_env : RawEnv → Part
 Is_to_env e ts = (e ≡ envs.ToEnv) × (Key KwTo ⨾ Key KwEnv) ts
@@ -90,9 +228,28 @@ Is_to_env e ts = (e ≡ envs.ToEnv) × (Key KwTo ⨾ Key KwEnv) ts
 pub to_env_laws : Laws (to_env_at) (Is_to_env) (is (kinds.Keyword KwTo)) none false
 unfolding to_env_at
 to_env_laws = same_laws
-    (λ e ts f. (f.5.5.0, (f.0, f.1, f.3, f.4, subst (λ (m : List Lexeme). (Key KwEnv) m) (sym (f.5.3 ∙ ap (λ m. f.5.0 ++ m) f.5.5.1 ∙ append-nil f.5.0)) f.5.4)))
-    (λ e ts f. (f.1.0, f.1.1, tt, f.1.2, f.1.3, (f.1.1, [], tt, sym (append-nil f.1.1), f.1.4, (f.0, refl))))
-    (bind_laws (only_laws (kinds.Keyword KwTo) refl) (λ _. bind_laws (only_laws (kinds.Keyword KwEnv) refl) (λ _. pure_laws {A = RawEnv} envs.ToEnv) (apart _ _ refl)) (apart _ _ refl))
+    (λ e ts f. (
+      f.5.5.0,
+      (
+        f.0,
+        f.1,
+        f.3,
+        f.4,
+        subst (λ (m : List Lexeme). (Key KwEnv) m)
+            (sym (f.5.3 ∙ ap (λ m. f.5.0 ++ m) f.5.5.1 ∙ append-nil f.5.0)) f.5.4,
+      ),
+    ))
+    (λ e ts f. (
+      f.1.0,
+      f.1.1,
+      tt,
+      f.1.2,
+      f.1.3,
+      (f.1.1, [], tt, sym (append-nil f.1.1), f.1.4, (f.0, refl)),
+    ))
+    (bind_laws (only_laws (kinds.Keyword KwTo) refl)
+    (λ _. bind_laws (only_laws (kinds.Keyword KwEnv) refl)
+    (λ _. pure_laws {A = RawEnv} envs.ToEnv) (apart _ _ refl)) (apart _ _ refl))
 
 env_there : (e : RawEnv) (ts : List Lexeme) → Or Is_from_env (Or Is_to_env (Just envs.Between)) e ts
     → IsEnv e ts
@@ -109,9 +266,13 @@ env_back envs.ToEnv ts f = inr (inl (refl, f))
 abbrev pub env_goes : ℕ → Bool
 env_goes c = is (kinds.Keyword KwTo) c || is (kinds.Keyword KwFrom) c
 
-pub env_laws : Laws env_at IsEnv (λ c. is (kinds.Keyword KwFrom) c || (is (kinds.Keyword KwTo) c || false)) env_goes true
+pub env_laws : Laws env_at IsEnv (λ c.
+    is (kinds.Keyword KwFrom) c || (is (kinds.Keyword KwTo) c || false)) env_goes true
 unfolding env_at
-env_laws = same_laws env_there env_back (either_laws (is (kinds.Keyword KwFrom)) from_env_laws (either_laws (is (kinds.Keyword KwTo)) to_env_laws (pure_laws envs.Between) (within _ _ refl) (apart _ _ refl)) (within _ _ refl) (apart _ _ refl))
+env_laws = same_laws env_there env_back
+    (either_laws (is (kinds.Keyword KwFrom)) from_env_laws
+    (either_laws (is (kinds.Keyword KwTo)) to_env_laws (pure_laws envs.Between) (within _ _ refl)
+    (apart _ _ refl)) (within _ _ refl) (apart _ _ refl))
 
 abbrev pub Is_typed : Option Word → Part
 Is_typed e ts = (name : Word) × (e ≡ Some name) × (Sign Colon ⨾ IsWord name) ts
@@ -119,13 +280,38 @@ Is_typed e ts = (name : Word) × (e ≡ Some name) × (Sign Colon ⨾ IsWord nam
 pub typed_laws : Laws (typed_at) (Is_typed) (is (kinds.Sign Colon)) none false
 unfolding typed_at
 typed_laws = same_laws
-    (λ e ts f. (f.5.2, f.5.5.0, (f.0, f.1, f.3, f.4, subst (λ (m : List Lexeme). (IsWord f.5.2) m) (sym (f.5.3 ∙ ap (λ m. f.5.0 ++ m) f.5.5.1 ∙ append-nil f.5.0)) f.5.4)))
-    (λ e ts f. (f.2.0, f.2.1, tt, f.2.2, f.2.3, (f.2.1, [], f.0, sym (append-nil f.2.1), f.2.4, (f.1, refl))))
-    (bind_laws (only_laws (kinds.Sign Colon) refl) (λ _. bind_laws word_laws (λ name. pure_laws {A = Option Word} (Some name)) (apart _ _ refl)) (apart _ _ refl))
+    (λ e ts f. (
+      f.5.2,
+      f.5.5.0,
+      (
+        f.0,
+        f.1,
+        f.3,
+        f.4,
+        subst (λ (m : List Lexeme). (IsWord f.5.2) m)
+            (sym (f.5.3 ∙ ap (λ m. f.5.0 ++ m) f.5.5.1 ∙ append-nil f.5.0)) f.5.4,
+      ),
+    ))
+    (λ e ts f. (
+      f.2.0,
+      f.2.1,
+      tt,
+      f.2.2,
+      f.2.3,
+      (f.2.1, [], f.0, sym (append-nil f.2.1), f.2.4, (f.1, refl)),
+    ))
+    (bind_laws (only_laws (kinds.Sign Colon) refl)
+    (λ _. bind_laws word_laws (λ name. pure_laws {A = Option Word} (Some name))
+    (apart _ _ refl)) (apart _ _ refl))
 
-pub domain_part_laws : Laws typed_part_at (Optional (λ d. Sign Colon ⨾ IsWord d)) (λ c. is (kinds.Sign Colon) c || false) (is (kinds.Sign Colon)) true
+pub domain_part_laws : Laws typed_part_at (Optional (λ d. Sign Colon ⨾ IsWord d))
+    (λ c. is (kinds.Sign Colon) c || false) (is (kinds.Sign Colon)) true
 unfolding typed_part_at
-domain_part_laws = same_laws (optional_there (λ d. Sign Colon ⨾ IsWord d)) (optional_back (λ d. Sign Colon ⨾ IsWord d)) (either_laws (is (kinds.Sign Colon)) typed_laws (pure_laws None) (within _ _ refl) (apart _ _ refl))
+domain_part_laws =
+    same_laws (optional_there (λ d. Sign Colon ⨾ IsWord d))
+    (optional_back (λ d. Sign Colon ⨾ IsWord d))
+    (either_laws (is (kinds.Sign Colon)) typed_laws (pure_laws None) (within _ _ refl)
+    (apart _ _ refl))
 
 abbrev pub event_goes : ℕ → Bool
 event_goes c = (env_goes c || is (kinds.Sign Colon) c) || false
@@ -133,16 +319,137 @@ event_goes c = (env_goes c || is (kinds.Sign Colon) c) || false
 pub event_laws : Laws event_at IsEvent (is (kinds.Keyword KwEvent)) event_goes false
 unfolding event_at
 event_laws = same_laws
-    (λ e ts f. subst (λ (z : RawEvent). IsEvent z ts) (sym f.5.5.5.5.0) (f.0, f.1, f.3, f.4, (f.5.0, f.5.1, f.5.3, f.5.4, (f.5.5.0, f.5.5.1, f.5.5.3, f.5.5.4, subst (λ (m : List Lexeme). (IsEnv f.5.5.5.2) m) (sym (f.5.5.5.3 ∙ ap (λ m. f.5.5.5.0 ++ m) f.5.5.5.5.1 ∙ append-nil f.5.5.5.0)) f.5.5.5.4))))
-    (λ e ts f. (f.0, f.1, tt, f.2, f.3, (f.4.0, f.4.1, e.name, f.4.2, f.4.3, (f.4.4.0, f.4.4.1, e.domain, f.4.4.2, f.4.4.3, (f.4.4.1, [], e.env, sym (append-nil f.4.4.1), f.4.4.4, (refl, refl))))))
-    (bind_laws (only_laws (kinds.Keyword KwEvent) refl) (λ _. bind_laws word_laws (λ name. bind_laws domain_part_laws (λ domain. bind_laws env_laws (λ env. pure_laws {A = RawEvent} (record { name = name; domain = domain; env = env })) (apart _ _ refl)) (apart _ _ refl)) (apart _ _ refl)) (apart _ _ refl))
+    (λ e ts f. subst (λ (z : RawEvent). IsEvent z ts) (sym f.5.5.5.5.0) (
+      f.0,
+      f.1,
+      f.3,
+      f.4,
+      (
+        f.5.0,
+        f.5.1,
+        f.5.3,
+        f.5.4,
+        (
+          f.5.5.0,
+          f.5.5.1,
+          f.5.5.3,
+          f.5.5.4,
+          subst (λ (m : List Lexeme). (IsEnv f.5.5.5.2) m)
+              (sym (f.5.5.5.3 ∙ ap (λ m. f.5.5.5.0 ++ m) f.5.5.5.5.1 ∙ append-nil f.5.5.5.0))
+              f.5.5.5.4,
+        ),
+      ),
+    ))
+    (λ e ts f. (
+      f.0,
+      f.1,
+      tt,
+      f.2,
+      f.3,
+      (
+        f.4.0,
+        f.4.1,
+        e.name,
+        f.4.2,
+        f.4.3,
+        (
+          f.4.4.0,
+          f.4.4.1,
+          e.domain,
+          f.4.4.2,
+          f.4.4.3,
+          (f.4.4.1, [], e.env, sym (append-nil f.4.4.1), f.4.4.4, (refl, refl)),
+        ),
+      ),
+    ))
+    (bind_laws (only_laws (kinds.Keyword KwEvent) refl)
+    (λ _. bind_laws word_laws (λ name.
+    bind_laws domain_part_laws (λ domain.
+    bind_laws env_laws
+    (λ env. pure_laws {A = RawEvent} (record { name = name; domain = domain; env = env }))
+    (apart _ _ refl)) (apart _ _ refl)) (apart _ _ refl)) (apart _ _ refl))
 
 pub state_laws : Laws state_at IsState (is (kinds.Keyword KwState)) none false
 unfolding state_at
 state_laws = same_laws
-    (λ e ts f. subst (λ (z : RawState). IsState z ts) (sym f.5.5.5.5.5.5.0) (f.0, f.1, f.3, f.4, (f.5.0, f.5.1, f.5.3, f.5.4, (f.5.5.0, f.5.5.1, f.5.5.3, f.5.5.4, (f.5.5.5.0, f.5.5.5.1, f.5.5.5.3, f.5.5.5.4, (f.5.5.5.5.0, f.5.5.5.5.1, f.5.5.5.5.3, f.5.5.5.5.4, subst (λ (m : List Lexeme). (IsValue f.5.5.5.5.5.2) m) (sym (f.5.5.5.5.5.3 ∙ ap (λ m. f.5.5.5.5.5.0 ++ m) f.5.5.5.5.5.5.1 ∙ append-nil f.5.5.5.5.5.0)) f.5.5.5.5.5.4))))))
-    (λ e ts f. (f.0, f.1, tt, f.2, f.3, (f.4.0, f.4.1, e.name, f.4.2, f.4.3, (f.4.4.0, f.4.4.1, tt, f.4.4.2, f.4.4.3, (f.4.4.4.0, f.4.4.4.1, e.domain, f.4.4.4.2, f.4.4.4.3, (f.4.4.4.4.0, f.4.4.4.4.1, tt, f.4.4.4.4.2, f.4.4.4.4.3, (f.4.4.4.4.1, [], e.init, sym (append-nil f.4.4.4.4.1), f.4.4.4.4.4, (refl, refl))))))))
-    (bind_laws (only_laws (kinds.Keyword KwState) refl) (λ _. bind_laws word_laws (λ name. bind_laws (only_laws (kinds.Sign Colon) refl) (λ _. bind_laws word_laws (λ domain. bind_laws (only_laws (kinds.Sign Equal) refl) (λ _. bind_laws value_laws (λ init. pure_laws {A = RawState} (record { name = name; domain = domain; init = init })) (apart _ _ refl)) (apart _ _ refl)) (apart _ _ refl)) (apart _ _ refl)) (apart _ _ refl)) (apart _ _ refl))
+    (λ e ts f. subst (λ (z : RawState). IsState z ts) (sym f.5.5.5.5.5.5.0) (
+      f.0,
+      f.1,
+      f.3,
+      f.4,
+      (
+        f.5.0,
+        f.5.1,
+        f.5.3,
+        f.5.4,
+        (
+          f.5.5.0,
+          f.5.5.1,
+          f.5.5.3,
+          f.5.5.4,
+          (
+            f.5.5.5.0,
+            f.5.5.5.1,
+            f.5.5.5.3,
+            f.5.5.5.4,
+            (
+              f.5.5.5.5.0,
+              f.5.5.5.5.1,
+              f.5.5.5.5.3,
+              f.5.5.5.5.4,
+              subst (λ (m : List Lexeme). (IsValue f.5.5.5.5.5.2) m)
+                  (sym (f.5.5.5.5.5.3 ∙ ap (λ m. f.5.5.5.5.5.0 ++ m) f.5.5.5.5.5.5.1
+                  ∙ append-nil f.5.5.5.5.5.0)) f.5.5.5.5.5.4,
+            ),
+          ),
+        ),
+      ),
+    ))
+    (λ e ts f. (
+      f.0,
+      f.1,
+      tt,
+      f.2,
+      f.3,
+      (
+        f.4.0,
+        f.4.1,
+        e.name,
+        f.4.2,
+        f.4.3,
+        (
+          f.4.4.0,
+          f.4.4.1,
+          tt,
+          f.4.4.2,
+          f.4.4.3,
+          (
+            f.4.4.4.0,
+            f.4.4.4.1,
+            e.domain,
+            f.4.4.4.2,
+            f.4.4.4.3,
+            (
+              f.4.4.4.4.0,
+              f.4.4.4.4.1,
+              tt,
+              f.4.4.4.4.2,
+              f.4.4.4.4.3,
+              (f.4.4.4.4.1, [], e.init, sym (append-nil f.4.4.4.4.1), f.4.4.4.4.4, (refl, refl)),
+            ),
+          ),
+        ),
+      ),
+    ))
+    (bind_laws (only_laws (kinds.Keyword KwState) refl)
+    (λ _. bind_laws word_laws (λ name.
+    bind_laws (only_laws (kinds.Sign Colon) refl)
+    (λ _. bind_laws word_laws (λ domain.
+    bind_laws (only_laws (kinds.Sign Equal) refl)
+    (λ _. bind_laws value_laws (λ init.
+    pure_laws {A = RawState} (record { name = name; domain = domain; init = init }))
+    (apart _ _ refl)) (apart _ _ refl)) (apart _ _ refl)) (apart _ _ refl)) (apart _ _ refl))
+    (apart _ _ refl))
 
 abbrev pub Is_absent : RawCond → Part
 Is_absent e ts = (name : Word) × (e ≡ conds.Absent name) × (Key KwAbsent ⨾ IsWord name) ts
@@ -150,9 +457,29 @@ Is_absent e ts = (name : Word) × (e ≡ conds.Absent name) × (Key KwAbsent ⨾
 pub absent_laws : Laws (absent_at) (Is_absent) (is (kinds.Keyword KwAbsent)) none false
 unfolding absent_at
 absent_laws = same_laws
-    (λ e ts f. (f.5.2, f.5.5.0, (f.0, f.1, f.3, f.4, subst (λ (m : List Lexeme). (IsWord f.5.2) m) (sym (f.5.3 ∙ ap (λ m. f.5.0 ++ m) f.5.5.1 ∙ append-nil f.5.0)) f.5.4)))
-    (λ e ts f. (f.2.0, f.2.1, tt, f.2.2, f.2.3, (f.2.1, [], f.0, sym (append-nil f.2.1), f.2.4, (f.1, refl))))
-    (bind_laws (only_laws (kinds.Keyword KwAbsent) refl) (λ _. bind_laws word_laws (λ name. pure_laws {A = RawCond} (conds.Absent name)) (apart _ _ refl)) (apart _ _ refl))
+    (λ e ts f. (
+      f.5.2,
+      f.5.5.0,
+      (
+        f.0,
+        f.1,
+        f.3,
+        f.4,
+        subst (λ (m : List Lexeme). (IsWord f.5.2) m)
+            (sym (f.5.3 ∙ ap (λ m. f.5.0 ++ m) f.5.5.1 ∙ append-nil f.5.0)) f.5.4,
+      ),
+    ))
+    (λ e ts f. (
+      f.2.0,
+      f.2.1,
+      tt,
+      f.2.2,
+      f.2.3,
+      (f.2.1, [], f.0, sym (append-nil f.2.1), f.2.4, (f.1, refl)),
+    ))
+    (bind_laws (only_laws (kinds.Keyword KwAbsent) refl)
+    (λ _. bind_laws word_laws (λ name. pure_laws {A = RawCond} (conds.Absent name))
+    (apart _ _ refl)) (apart _ _ refl))
 
 abbrev pub Is_is : (name : Word) → RawCond → Part
 Is_is name e ts = (value : RawValue) × (e ≡ conds.Is name value) × (Sign Equal ⨾ IsValue value) ts
@@ -160,9 +487,29 @@ Is_is name e ts = (value : RawValue) × (e ≡ conds.Is name value) × (Sign Equ
 pub is_laws : (name : Word) → Laws (is_at name) (Is_is name) (is (kinds.Sign Equal)) none false
 unfolding is_at
 is_laws name = same_laws
-    (λ e ts f. (f.5.2, f.5.5.0, (f.0, f.1, f.3, f.4, subst (λ (m : List Lexeme). (IsValue f.5.2) m) (sym (f.5.3 ∙ ap (λ m. f.5.0 ++ m) f.5.5.1 ∙ append-nil f.5.0)) f.5.4)))
-    (λ e ts f. (f.2.0, f.2.1, tt, f.2.2, f.2.3, (f.2.1, [], f.0, sym (append-nil f.2.1), f.2.4, (f.1, refl))))
-    (bind_laws (only_laws (kinds.Sign Equal) refl) (λ _. bind_laws value_laws (λ value. pure_laws {A = RawCond} (conds.Is name value)) (apart _ _ refl)) (apart _ _ refl))
+    (λ e ts f. (
+      f.5.2,
+      f.5.5.0,
+      (
+        f.0,
+        f.1,
+        f.3,
+        f.4,
+        subst (λ (m : List Lexeme). (IsValue f.5.2) m)
+            (sym (f.5.3 ∙ ap (λ m. f.5.0 ++ m) f.5.5.1 ∙ append-nil f.5.0)) f.5.4,
+      ),
+    ))
+    (λ e ts f. (
+      f.2.0,
+      f.2.1,
+      tt,
+      f.2.2,
+      f.2.3,
+      (f.2.1, [], f.0, sym (append-nil f.2.1), f.2.4, (f.1, refl)),
+    ))
+    (bind_laws (only_laws (kinds.Sign Equal) refl)
+    (λ _. bind_laws value_laws (λ value. pure_laws {A = RawCond} (conds.Is name value))
+    (apart _ _ refl)) (apart _ _ refl))
 
 abbrev pub Is_one_of : (name : Word) → RawCond → Part
 Is_one_of name e ts =
@@ -173,9 +520,59 @@ pub one_of_laws : (name : Word)
     → Laws (one_of_at name) (Is_one_of name) (is (kinds.Keyword KwIn)) none false
 unfolding one_of_at
 one_of_laws name = same_laws
-    (λ e ts f. (f.5.5.2, f.5.5.5.5.0, (f.0, f.1, f.3, f.4, (f.5.0, f.5.1, f.5.3, f.5.4, (f.5.5.0, f.5.5.1, f.5.5.3, f.5.5.4, subst (λ (m : List Lexeme). (Sign RightBrace) m) (sym (f.5.5.5.3 ∙ ap (λ m. f.5.5.5.0 ++ m) f.5.5.5.5.1 ∙ append-nil f.5.5.5.0)) f.5.5.5.4)))))
-    (λ e ts f. (f.2.0, f.2.1, tt, f.2.2, f.2.3, (f.2.4.0, f.2.4.1, tt, f.2.4.2, f.2.4.3, (f.2.4.4.0, f.2.4.4.1, f.0, f.2.4.4.2, f.2.4.4.3, (f.2.4.4.1, [], tt, sym (append-nil f.2.4.4.1), f.2.4.4.4, (f.1, refl))))))
-    (bind_laws (only_laws (kinds.Keyword KwIn) refl) (λ _. bind_laws (only_laws (kinds.Sign LeftBrace) refl) (λ _. bind_laws (listed_laws value_laws (apart _ _ refl)) (λ values. bind_laws (only_laws (kinds.Sign RightBrace) refl) (λ _. pure_laws {A = RawCond} (conds.OneOf name values)) (apart _ _ refl)) (apart _ _ refl)) (apart _ _ refl)) (apart _ _ refl))
+    (λ e ts f. (
+      f.5.5.2,
+      f.5.5.5.5.0,
+      (
+        f.0,
+        f.1,
+        f.3,
+        f.4,
+        (
+          f.5.0,
+          f.5.1,
+          f.5.3,
+          f.5.4,
+          (
+            f.5.5.0,
+            f.5.5.1,
+            f.5.5.3,
+            f.5.5.4,
+            subst (λ (m : List Lexeme). (Sign RightBrace) m)
+                (sym (f.5.5.5.3 ∙ ap (λ m. f.5.5.5.0 ++ m) f.5.5.5.5.1 ∙ append-nil f.5.5.5.0))
+                f.5.5.5.4,
+          ),
+        ),
+      ),
+    ))
+    (λ e ts f. (
+      f.2.0,
+      f.2.1,
+      tt,
+      f.2.2,
+      f.2.3,
+      (
+        f.2.4.0,
+        f.2.4.1,
+        tt,
+        f.2.4.2,
+        f.2.4.3,
+        (
+          f.2.4.4.0,
+          f.2.4.4.1,
+          f.0,
+          f.2.4.4.2,
+          f.2.4.4.3,
+          (f.2.4.4.1, [], tt, sym (append-nil f.2.4.4.1), f.2.4.4.4, (f.1, refl)),
+        ),
+      ),
+    ))
+    (bind_laws (only_laws (kinds.Keyword KwIn) refl)
+    (λ _. bind_laws (only_laws (kinds.Sign LeftBrace) refl)
+    (λ _. bind_laws (listed_laws value_laws (apart _ _ refl))
+    (λ values. bind_laws (only_laws (kinds.Sign RightBrace) refl)
+    (λ _. pure_laws {A = RawCond} (conds.OneOf name values)) (apart _ _ refl)) (apart _ _ refl))
+    (apart _ _ refl)) (apart _ _ refl))
 
 abbrev pub Is_after : Word → RawCond → Part
 Is_after name = Or (Is_is name) (Or (Is_one_of name) (Just (conds.Present name)))
@@ -184,11 +581,16 @@ abbrev pub cond_goes : ℕ → Bool
 cond_goes c = is (kinds.Keyword KwIn) c || is (kinds.Sign Equal) c
 
 after_laws : (name : Word)
-    → Laws (after_name_at name) (Is_after name) (λ c. is (kinds.Sign Equal) c || (is (kinds.Keyword KwIn) c || false)) cond_goes true
+    → Laws (after_name_at name) (Is_after name)
+    (λ c. is (kinds.Sign Equal) c || (is (kinds.Keyword KwIn) c || false)) cond_goes true
 unfolding after_name_at
-after_laws name = either_laws (is (kinds.Sign Equal)) (is_laws name) (either_laws (is (kinds.Keyword KwIn)) (one_of_laws name) (pure_laws (conds.Present name)) (within _ _ refl) (apart _ _ refl)) (within _ _ refl) (apart _ _ refl)
+after_laws name =
+    either_laws (is (kinds.Sign Equal)) (is_laws name)
+    (either_laws (is (kinds.Keyword KwIn)) (one_of_laws name) (pure_laws (conds.Present name))
+    (within _ _ refl) (apart _ _ refl)) (within _ _ refl) (apart _ _ refl)
 
-pub named_laws : Laws named_at (Bind IsWord Is_after) (is kinds.Name) (λ c. cond_goes c || false) false
+pub named_laws : Laws named_at (Bind IsWord Is_after) (is kinds.Name)
+    (λ c. cond_goes c || false) false
 unfolding named_at
 named_laws = bind_laws word_laws after_laws (apart _ _ refl)
 
@@ -198,7 +600,9 @@ named_there name e ts x y s w (inl f) =
     subst (λ (z : RawCond). IsCond z ts) (sym f.1) (x, y, s, w, f.2)
 named_there name e ts x y s w (inr (inl f)) =
     subst (λ (z : RawCond). IsCond z ts) (sym f.1) (x, y, s, w, f.2)
-named_there name e ts x y s w (inr (inr f)) = subst (λ (z : RawCond). IsCond z ts) (sym f.0) (subst (IsWord name) (sym (s ∙ ap (λ m. x ++ m) f.1 ∙ append-nil x)) w)
+named_there name e ts x y s w (inr (inr f)) =
+    subst (λ (z : RawCond). IsCond z ts) (sym f.0)
+    (subst (IsWord name) (sym (s ∙ ap (λ m. x ++ m) f.1 ∙ append-nil x)) w)
 
 cond_there : (e : RawCond) (ts : List Lexeme) → Or Is_absent (Bind IsWord Is_after) e ts
     → IsCond e ts
@@ -214,9 +618,12 @@ cond_back (conds.Is name value) ts f = inr (f.0, f.1, name, f.2, f.3, inl (value
 cond_back (conds.OneOf name values) ts f =
     inr (f.0, f.1, name, f.2, f.3, inr (inl (values, refl, f.4)))
 
-pub cond_laws : Laws cond_at IsCond (λ c. is (kinds.Keyword KwAbsent) c || is kinds.Name c) (λ c. cond_goes c || false) false
+pub cond_laws : Laws cond_at IsCond (λ c. is (kinds.Keyword KwAbsent) c || is kinds.Name c)
+    (λ c. cond_goes c || false) false
 unfolding cond_at
-cond_laws = same_laws cond_there cond_back (either_laws (is (kinds.Keyword KwAbsent)) absent_laws named_laws (within _ _ refl) (apart _ _ refl))
+cond_laws = same_laws cond_there cond_back
+    (either_laws (is (kinds.Keyword KwAbsent)) absent_laws named_laws (within _ _ refl)
+    (apart _ _ refl))
 
 -- what an action takes a value from
 
@@ -232,9 +639,15 @@ Is_plain e ts = (value : RawValue) × (e ≡ sources.Value value) × IsValue val
 pub plain_laws : Laws plain_at Is_plain value_starts none false
 unfolding plain_at
 plain_laws = same_laws
-    (λ e ts f. (f.2, f.5.0, subst (λ (m : List Lexeme). (IsValue f.2) m) (sym (f.3 ∙ ap (λ m. f.0 ++ m) f.5.1 ∙ append-nil f.0)) f.4))
+    (λ e ts f. (
+      f.2,
+      f.5.0,
+      subst (λ (m : List Lexeme). (IsValue f.2) m)
+          (sym (f.3 ∙ ap (λ m. f.0 ++ m) f.5.1 ∙ append-nil f.0)) f.4,
+    ))
     (λ e ts f. (ts, [], f.0, sym (append-nil ts), f.2, (f.1, refl)))
-    (bind_laws value_laws (λ value. pure_laws {A = RawSource} (sources.Value value)) (apart _ _ refl))
+    (bind_laws value_laws (λ value. pure_laws {A = RawSource} (sources.Value value))
+    (apart _ _ refl))
 
 abbrev pub Is_input : RawSource → Part
 Is_input e ts = (name : Word) × (e ≡ sources.Input name) × (Key KwValue ⨾ IsWord name) ts
@@ -242,9 +655,29 @@ Is_input e ts = (name : Word) × (e ≡ sources.Input name) × (Key KwValue ⨾ 
 pub input_laws : Laws input_at Is_input (is (kinds.Keyword KwValue)) none false
 unfolding input_at
 input_laws = same_laws
-    (λ e ts f. (f.5.2, f.5.5.0, (f.0, f.1, f.3, f.4, subst (λ (m : List Lexeme). (IsWord f.5.2) m) (sym (f.5.3 ∙ ap (λ m. f.5.0 ++ m) f.5.5.1 ∙ append-nil f.5.0)) f.5.4)))
-    (λ e ts f. (f.2.0, f.2.1, tt, f.2.2, f.2.3, (f.2.1, [], f.0, sym (append-nil f.2.1), f.2.4, (f.1, refl))))
-    (bind_laws (only_laws (kinds.Keyword KwValue) refl) (λ _. bind_laws word_laws (λ name. pure_laws {A = RawSource} (sources.Input name)) (apart _ _ refl)) (apart _ _ refl))
+    (λ e ts f. (
+      f.5.2,
+      f.5.5.0,
+      (
+        f.0,
+        f.1,
+        f.3,
+        f.4,
+        subst (λ (m : List Lexeme). (IsWord f.5.2) m)
+            (sym (f.5.3 ∙ ap (λ m. f.5.0 ++ m) f.5.5.1 ∙ append-nil f.5.0)) f.5.4,
+      ),
+    ))
+    (λ e ts f. (
+      f.2.0,
+      f.2.1,
+      tt,
+      f.2.2,
+      f.2.3,
+      (f.2.1, [], f.0, sym (append-nil f.2.1), f.2.4, (f.1, refl)),
+    ))
+    (bind_laws (only_laws (kinds.Keyword KwValue) refl)
+    (λ _. bind_laws word_laws (λ name. pure_laws {A = RawSource} (sources.Input name))
+    (apart _ _ refl)) (apart _ _ refl))
 
 abbrev pub Is_add : Word → RawSource → Part
 Is_add name e ts = (number : Num) × (e ≡ sources.Add name number) × (Sign Plus ⨾ IsNum number) ts
@@ -252,9 +685,29 @@ Is_add name e ts = (number : Num) × (e ≡ sources.Add name number) × (Sign Pl
 pub add_laws : (name : Word) → Laws (add_at name) (Is_add name) (is (kinds.Sign Plus)) none false
 unfolding add_at
 add_laws name = same_laws
-    (λ e ts f. (f.5.2, f.5.5.0, (f.0, f.1, f.3, f.4, subst (λ (m : List Lexeme). (IsNum f.5.2) m) (sym (f.5.3 ∙ ap (λ m. f.5.0 ++ m) f.5.5.1 ∙ append-nil f.5.0)) f.5.4)))
-    (λ e ts f. (f.2.0, f.2.1, tt, f.2.2, f.2.3, (f.2.1, [], f.0, sym (append-nil f.2.1), f.2.4, (f.1, refl))))
-    (bind_laws (only_laws (kinds.Sign Plus) refl) (λ _. bind_laws num_laws (λ number. pure_laws {A = RawSource} (sources.Add name number)) (apart _ _ refl)) (apart _ _ refl))
+    (λ e ts f. (
+      f.5.2,
+      f.5.5.0,
+      (
+        f.0,
+        f.1,
+        f.3,
+        f.4,
+        subst (λ (m : List Lexeme). (IsNum f.5.2) m)
+            (sym (f.5.3 ∙ ap (λ m. f.5.0 ++ m) f.5.5.1 ∙ append-nil f.5.0)) f.5.4,
+      ),
+    ))
+    (λ e ts f. (
+      f.2.0,
+      f.2.1,
+      tt,
+      f.2.2,
+      f.2.3,
+      (f.2.1, [], f.0, sym (append-nil f.2.1), f.2.4, (f.1, refl)),
+    ))
+    (bind_laws (only_laws (kinds.Sign Plus) refl)
+    (λ _. bind_laws num_laws (λ number. pure_laws {A = RawSource} (sources.Add name number))
+    (apart _ _ refl)) (apart _ _ refl))
 
 -- what stands after a value
 abbrev pub After_value : RawValue → RawSource → Part
@@ -267,8 +720,12 @@ plus c = is (kinds.Sign Plus) c || false
 after_value_laws : (value : RawValue)
     → Laws (after_value_at value) (After_value value) plus (is (kinds.Sign Plus)) true
 unfolding after_value_at add_or_plain_at
-after_value_laws (values.Name name) = either_laws (is (kinds.Sign Plus)) (add_laws name) (pure_laws (sources.Value (values.Name name))) (within _ _ refl) (apart _ _ refl)
-after_value_laws (values.Number number) = wider_laws (within none plus refl) (begins_none (is (kinds.Sign Plus))) (pure_laws (sources.Value (values.Number number)))
+after_value_laws (values.Name name) =
+    either_laws (is (kinds.Sign Plus)) (add_laws name)
+    (pure_laws (sources.Value (values.Name name))) (within _ _ refl) (apart _ _ refl)
+after_value_laws (values.Number number) =
+    wider_laws (within none plus refl) (begins_none (is (kinds.Sign Plus)))
+    (pure_laws (sources.Value (values.Number number)))
 
 abbrev pub sum_goes : ℕ → Bool
 sum_goes c = is (kinds.Sign Plus) c || false
@@ -279,9 +736,12 @@ sum_laws = bind_laws value_laws after_value_laws (apart _ _ refl)
 
 input_or_plain_laws : Laws input_or_plain_at (Or Is_input Is_plain) source_starts none false
 unfolding input_or_plain_at
-input_or_plain_laws = either_laws (is (kinds.Keyword KwValue)) input_laws plain_laws (within _ _ refl) (apart _ _ refl)
+input_or_plain_laws =
+    either_laws (is (kinds.Keyword KwValue)) input_laws plain_laws (within _ _ refl)
+    (apart _ _ refl)
 
-input_or_sum_laws : Laws input_or_sum_at (Or Is_input (Bind IsValue After_value)) source_starts sum_goes false
+input_or_sum_laws : Laws input_or_sum_at (Or Is_input (Bind IsValue After_value)) source_starts
+    sum_goes false
 unfolding input_or_sum_at
 input_or_sum_laws =
     either_laws (is (kinds.Keyword KwValue)) input_laws sum_laws (within _ _ refl) (apart _ _ refl)
@@ -293,7 +753,9 @@ no_second version other P ts f = false≢true (sym other ∙ eq-eqb version 2 f.
 given_source_laws : (version : ℕ) (second : Bool) → (version == 2) ≡ second
     → Laws (given_source_at version) (IsGiven version) source_starts none false
 unfolding given_source_at
-given_source_laws version true is = subst (λ (b : Bool). Laws (cond b input_or_plain_at plain_at) (IsGiven version) source_starts none false) (sym is) (same_laws there back input_or_plain_laws)
+given_source_laws version true is =
+    subst (λ (b : Bool). Laws (cond b input_or_plain_at plain_at) (IsGiven version) source_starts
+    none false) (sym is) (same_laws there back input_or_plain_laws)
   where
     there : (e : RawSource) (ts : List Lexeme) → Or Is_input Is_plain e ts → IsGiven version e ts
     there e ts (inl f) =
@@ -304,7 +766,10 @@ given_source_laws version true is = subst (λ (b : Bool). Laws (cond b input_or_
     back (sources.Value value) ts f = inr (value, refl, f)
     back (sources.Input name) ts f = inl (name, refl, f.1)
     back (sources.Add name number) ts f = absurd f
-given_source_laws version false is = subst (λ (b : Bool). Laws (cond b input_or_plain_at plain_at) (IsGiven version) source_starts none false) (sym is) (wider_laws (within _ _ refl) (λ ls h. h) (same_laws there back plain_laws))
+given_source_laws version false is =
+    subst (λ (b : Bool). Laws (cond b input_or_plain_at plain_at) (IsGiven version) source_starts
+    none false) (sym is)
+    (wider_laws (within _ _ refl) (λ ls h. h) (same_laws there back plain_laws))
   where
     there : (e : RawSource) (ts : List Lexeme) → Is_plain e ts → IsGiven version e ts
     there e ts f = subst (λ (z : RawSource). IsGiven version z ts) (sym f.1) f.2
@@ -317,11 +782,15 @@ given_source_laws version false is = subst (λ (b : Bool). Laws (cond b input_or
 after_there : (version : ℕ) → version ≡ 2
     → (value : RawValue) (e : RawSource) (ts x y : List Lexeme) → ts ≡ x ++ y → IsValue value x
     → After_value value e y → IsSource version e ts
-after_there version is (values.Name name) e ts x y s v (inl f) = subst (λ (z : RawSource). IsSource version z ts) (sym f.1) (is, (x, y, s, value_is_word name x v, f.2))
+after_there version is (values.Name name) e ts x y s v (inl f) =
+    subst (λ (z : RawSource). IsSource version z ts) (sym f.1)
+    (is, (x, y, s, value_is_word name x v, f.2))
 after_there version is (values.Name name) e ts x y s v (inr f) =
-    subst (λ (z : RawSource). IsSource version z ts) (sym f.0) (subst (IsValue (values.Name name)) (sym (s ∙ ap (λ m. x ++ m) f.1 ∙ append-nil x)) v)
+    subst (λ (z : RawSource). IsSource version z ts) (sym f.0)
+    (subst (IsValue (values.Name name)) (sym (s ∙ ap (λ m. x ++ m) f.1 ∙ append-nil x)) v)
 after_there version is (values.Number number) e ts x y s v f =
-    subst (λ (z : RawSource). IsSource version z ts) (sym f.0) (subst (IsValue (values.Number number)) (sym (s ∙ ap (λ m. x ++ m) f.1 ∙ append-nil x)) v)
+    subst (λ (z : RawSource). IsSource version z ts) (sym f.0)
+    (subst (IsValue (values.Number number)) (sym (s ∙ ap (λ m. x ++ m) f.1 ∙ append-nil x)) v)
 
 plain_back : (value : RawValue) (ts : List Lexeme) → IsValue value ts
     → Bind IsValue After_value (sources.Value value) ts
@@ -333,7 +802,9 @@ plain_back (values.Number number) ts f =
 source_laws : (version : ℕ) (second : Bool) → (version == 2) ≡ second
     → Laws (source_at version) (IsSource version) source_starts sum_goes false
 unfolding source_at
-source_laws version true is = subst (λ (b : Bool). Laws (cond b input_or_sum_at plain_at) (IsSource version) source_starts sum_goes false) (sym is) (same_laws there back input_or_sum_laws)
+source_laws version true is =
+    subst (λ (b : Bool). Laws (cond b input_or_sum_at plain_at) (IsSource version) source_starts
+    sum_goes false) (sym is) (same_laws there back input_or_sum_laws)
   where
     there : (e : RawSource) (ts : List Lexeme) → Or Is_input (Bind IsValue After_value) e ts
         → IsSource version e ts
@@ -345,8 +816,19 @@ source_laws version true is = subst (λ (b : Bool). Laws (cond b input_or_sum_at
         → Or Is_input (Bind IsValue After_value) e ts
     back (sources.Value value) ts f = inr (plain_back value ts f)
     back (sources.Input name) ts f = inl (name, refl, f.1)
-    back (sources.Add name number) ts f = inr (f.1.0, f.1.1, values.Name name, f.1.2, word_is_value name f.1.0 f.1.3, inl (number, refl, f.1.4))
-source_laws version false is = subst (λ (b : Bool). Laws (cond b input_or_sum_at plain_at) (IsSource version) source_starts sum_goes false) (sym is) (wider_laws (within _ _ refl) (begins_none sum_goes) (same_laws there back plain_laws))
+    back (sources.Add name number) ts f =
+        inr (
+          f.1.0,
+          f.1.1,
+          values.Name name,
+          f.1.2,
+          word_is_value name f.1.0 f.1.3,
+          inl (number, refl, f.1.4),
+        )
+source_laws version false is =
+    subst (λ (b : Bool). Laws (cond b input_or_sum_at plain_at) (IsSource version) source_starts
+    sum_goes false) (sym is)
+    (wider_laws (within _ _ refl) (begins_none sum_goes) (same_laws there back plain_laws))
   where
     there : (e : RawSource) (ts : List Lexeme) → Is_plain e ts → IsSource version e ts
     there e ts f = subst (λ (z : RawSource). IsSource version z ts) (sym f.1) f.2
@@ -367,14 +849,39 @@ pub given_laws : (version : ℕ)
     → Laws (given_at version) (Is_given version) (is (kinds.Sign Equal)) none false
 unfolding given_at
 given_laws version = same_laws
-    (λ e ts f. (f.5.2, f.5.5.0, (f.0, f.1, f.3, f.4, subst (λ (m : List Lexeme). (IsGiven version f.5.2) m) (sym (f.5.3 ∙ ap (λ m. f.5.0 ++ m) f.5.5.1 ∙ append-nil f.5.0)) f.5.4)))
-    (λ e ts f. (f.2.0, f.2.1, tt, f.2.2, f.2.3, (f.2.1, [], f.0, sym (append-nil f.2.1), f.2.4, (f.1, refl))))
-    (bind_laws (only_laws (kinds.Sign Equal) refl) (λ _. bind_laws (given_source_laws version (version == 2) refl) (λ source. pure_laws {A = Option RawSource} (Some source)) (apart _ _ refl)) (apart _ _ refl))
+    (λ e ts f. (
+      f.5.2,
+      f.5.5.0,
+      (
+        f.0,
+        f.1,
+        f.3,
+        f.4,
+        subst (λ (m : List Lexeme). (IsGiven version f.5.2) m)
+            (sym (f.5.3 ∙ ap (λ m. f.5.0 ++ m) f.5.5.1 ∙ append-nil f.5.0)) f.5.4,
+      ),
+    ))
+    (λ e ts f. (
+      f.2.0,
+      f.2.1,
+      tt,
+      f.2.2,
+      f.2.3,
+      (f.2.1, [], f.0, sym (append-nil f.2.1), f.2.4, (f.1, refl)),
+    ))
+    (bind_laws (only_laws (kinds.Sign Equal) refl)
+    (λ _. bind_laws (given_source_laws version (version == 2) refl)
+    (λ source. pure_laws {A = Option RawSource} (Some source)) (apart _ _ refl))
+    (apart _ _ refl))
 
 pub value_part_laws : (version : ℕ)
-    → Laws (given_part_at version) (Optional (GivenAt version)) (λ c. is (kinds.Sign Equal) c || false) (is (kinds.Sign Equal)) true
+    → Laws (given_part_at version) (Optional (GivenAt version))
+    (λ c. is (kinds.Sign Equal) c || false) (is (kinds.Sign Equal)) true
 unfolding given_part_at
-value_part_laws version = same_laws (optional_there (GivenAt version)) (optional_back (GivenAt version)) (either_laws (is (kinds.Sign Equal)) (given_laws version) (pure_laws None) (within _ _ refl) (apart _ _ refl))
+value_part_laws version =
+    same_laws (optional_there (GivenAt version)) (optional_back (GivenAt version))
+    (either_laws (is (kinds.Sign Equal)) (given_laws version) (pure_laws None) (within _ _ refl)
+    (apart _ _ refl))
 
 abbrev pub Is_emit : ℕ → RawAct → Part
 Is_emit version e ts =
@@ -382,12 +889,49 @@ Is_emit version e ts =
     × (Key KwEmit ⨾ IsWord name ⨾ Optional (GivenAt version) value) ts
 
 pub emit_laws : (version : ℕ)
-    → Laws (emit_at version) (Is_emit version) (is (kinds.Keyword KwEmit)) (λ c. is (kinds.Sign Equal) c || false) false
+    → Laws (emit_at version) (Is_emit version) (is (kinds.Keyword KwEmit))
+    (λ c. is (kinds.Sign Equal) c || false) false
 unfolding emit_at
 emit_laws version = same_laws
-    (λ e ts f. (f.5.2, f.5.5.2, f.5.5.5.0, (f.0, f.1, f.3, f.4, (f.5.0, f.5.1, f.5.3, f.5.4, subst (λ (m : List Lexeme). (Optional (GivenAt version) f.5.5.2) m) (sym (f.5.5.3 ∙ ap (λ m. f.5.5.0 ++ m) f.5.5.5.1 ∙ append-nil f.5.5.0)) f.5.5.4))))
-    (λ e ts f. (f.3.0, f.3.1, tt, f.3.2, f.3.3, (f.3.4.0, f.3.4.1, f.0, f.3.4.2, f.3.4.3, (f.3.4.1, [], f.1, sym (append-nil f.3.4.1), f.3.4.4, (f.2, refl)))))
-    (bind_laws (only_laws (kinds.Keyword KwEmit) refl) (λ _. bind_laws word_laws (λ name. bind_laws (value_part_laws version) (λ value. pure_laws {A = RawAct} (acts.Emit name value)) (apart _ _ refl)) (apart _ _ refl)) (apart _ _ refl))
+    (λ e ts f. (
+      f.5.2,
+      f.5.5.2,
+      f.5.5.5.0,
+      (
+        f.0,
+        f.1,
+        f.3,
+        f.4,
+        (
+          f.5.0,
+          f.5.1,
+          f.5.3,
+          f.5.4,
+          subst
+              (λ (m : List Lexeme). (Optional (GivenAt version) f.5.5.2) m)
+              (sym (f.5.5.3 ∙ ap (λ m. f.5.5.0 ++ m) f.5.5.5.1 ∙ append-nil f.5.5.0)) f.5.5.4,
+        ),
+      ),
+    ))
+    (λ e ts f. (
+      f.3.0,
+      f.3.1,
+      tt,
+      f.3.2,
+      f.3.3,
+      (
+        f.3.4.0,
+        f.3.4.1,
+        f.0,
+        f.3.4.2,
+        f.3.4.3,
+        (f.3.4.1, [], f.1, sym (append-nil f.3.4.1), f.3.4.4, (f.2, refl)),
+      ),
+    ))
+    (bind_laws (only_laws (kinds.Keyword KwEmit) refl)
+    (λ _. bind_laws word_laws (λ name.
+    bind_laws (value_part_laws version) (λ value. pure_laws {A = RawAct} (acts.Emit name value))
+    (apart _ _ refl)) (apart _ _ refl)) (apart _ _ refl))
 
 abbrev pub Is_set : ℕ → RawAct → Part
 Is_set version e ts =
@@ -397,9 +941,45 @@ Is_set version e ts =
 pub set_laws : (version : ℕ) → Laws (set_at version) (Is_set version) (is kinds.Name) sum_goes false
 unfolding set_at
 set_laws version = same_laws
-    (λ e ts f. (f.2, f.5.5.2, f.5.5.5.0, (f.0, f.1, f.3, f.4, (f.5.0, f.5.1, f.5.3, f.5.4, subst (λ (m : List Lexeme). (IsSource version f.5.5.2) m) (sym (f.5.5.3 ∙ ap (λ m. f.5.5.0 ++ m) f.5.5.5.1 ∙ append-nil f.5.5.0)) f.5.5.4))))
-    (λ e ts f. (f.3.0, f.3.1, f.0, f.3.2, f.3.3, (f.3.4.0, f.3.4.1, tt, f.3.4.2, f.3.4.3, (f.3.4.1, [], f.1, sym (append-nil f.3.4.1), f.3.4.4, (f.2, refl)))))
-    (bind_laws word_laws (λ name. bind_laws (only_laws (kinds.Sign Assign) refl) (λ _. bind_laws (source_laws version (version == 2) refl) (λ value. pure_laws {A = RawAct} (acts.Set name value)) (apart _ _ refl)) (apart _ _ refl)) (apart _ _ refl))
+    (λ e ts f. (
+      f.2,
+      f.5.5.2,
+      f.5.5.5.0,
+      (
+        f.0,
+        f.1,
+        f.3,
+        f.4,
+        (
+          f.5.0,
+          f.5.1,
+          f.5.3,
+          f.5.4,
+          subst (λ (m : List Lexeme). (IsSource version f.5.5.2) m)
+              (sym (f.5.5.3 ∙ ap (λ m. f.5.5.0 ++ m) f.5.5.5.1 ∙ append-nil f.5.5.0)) f.5.5.4,
+        ),
+      ),
+    ))
+    (λ e ts f. (
+      f.3.0,
+      f.3.1,
+      f.0,
+      f.3.2,
+      f.3.3,
+      (
+        f.3.4.0,
+        f.3.4.1,
+        tt,
+        f.3.4.2,
+        f.3.4.3,
+        (f.3.4.1, [], f.1, sym (append-nil f.3.4.1), f.3.4.4, (f.2, refl)),
+      ),
+    ))
+    (bind_laws word_laws
+    (λ name. bind_laws (only_laws (kinds.Sign Assign) refl)
+    (λ _. bind_laws (source_laws version (version == 2) refl)
+    (λ value. pure_laws {A = RawAct} (acts.Set name value)) (apart _ _ refl)) (apart _ _ refl))
+    (apart _ _ refl))
 
 act_there : (version : ℕ) (e : RawAct) (ts : List Lexeme)
     → Or (Is_emit version) (Is_set version) e ts → IsAct version e ts
@@ -415,9 +995,13 @@ abbrev pub act_goes : ℕ → Bool
 act_goes c = (is (kinds.Sign Equal) c || false) || (is (kinds.Sign Plus) c || false)
 
 pub act_laws : (version : ℕ)
-    → Laws (act_at version) (IsAct version) (λ c. is (kinds.Keyword KwEmit) c || is kinds.Name c) act_goes false
+    → Laws (act_at version) (IsAct version) (λ c. is (kinds.Keyword KwEmit) c || is kinds.Name c)
+    act_goes false
 unfolding act_at
-act_laws version = same_laws (act_there version) (act_back version) (either_laws (is (kinds.Keyword KwEmit)) (emit_laws version) (set_laws version) (within _ _ refl) (apart _ _ refl))
+act_laws version =
+    same_laws (act_there version) (act_back version)
+    (either_laws (is (kinds.Keyword KwEmit)) (emit_laws version) (set_laws version)
+    (within _ _ refl) (apart _ _ refl))
 
 abbrev pub Is_nothing : List RawAct → Part
 Is_nothing e ts = (e ≡ []) × (Key KwNothing) ts
@@ -425,9 +1009,14 @@ Is_nothing e ts = (e ≡ []) × (Key KwNothing) ts
 pub nothing_laws : Laws (nothing_at) (Is_nothing) (is (kinds.Keyword KwNothing)) none false
 unfolding nothing_at
 nothing_laws = same_laws
-    (λ e ts f. (f.5.0, subst (λ (m : List Lexeme). (Key KwNothing) m) (sym (f.3 ∙ ap (λ m. f.0 ++ m) f.5.1 ∙ append-nil f.0)) f.4))
+    (λ e ts f. (
+      f.5.0,
+      subst (λ (m : List Lexeme). (Key KwNothing) m)
+          (sym (f.3 ∙ ap (λ m. f.0 ++ m) f.5.1 ∙ append-nil f.0)) f.4,
+    ))
     (λ e ts f. (ts, [], tt, sym (append-nil ts), f.1, (f.0, refl)))
-    (bind_laws (only_laws (kinds.Keyword KwNothing) refl) (λ _. pure_laws {A = List RawAct} []) (apart _ _ refl))
+    (bind_laws (only_laws (kinds.Keyword KwNothing) refl) (λ _. pure_laws {A = List RawAct} [])
+    (apart _ _ refl))
 
 acts_there : (version : ℕ) (e : List RawAct) (ts : List Lexeme)
     → Or Is_nothing (Listed (IsAct version)) e ts → AreActs version e ts
@@ -444,21 +1033,76 @@ abbrev pub acts_goes : ℕ → Bool
 acts_goes c = listed_goes act_goes c
 
 pub acts_laws : (version : ℕ)
-    → Laws (acts_at version) (AreActs version) (λ c. is (kinds.Keyword KwNothing) c || (is (kinds.Keyword KwEmit) c || is kinds.Name c)) acts_goes false
+    → Laws (acts_at version) (AreActs version)
+    (λ c. is (kinds.Keyword KwNothing) c || (is (kinds.Keyword KwEmit) c || is kinds.Name c))
+    acts_goes false
 unfolding acts_at
-acts_laws version = same_laws (acts_there version) (acts_back version) (either_laws (is (kinds.Keyword KwNothing)) nothing_laws (listed_laws (act_laws version) (apart _ _ refl)) (within _ _ refl) (apart _ _ refl))
+acts_laws version =
+    same_laws (acts_there version) (acts_back version)
+    (either_laws (is (kinds.Keyword KwNothing)) nothing_laws
+    (listed_laws (act_laws version) (apart _ _ refl)) (within _ _ refl) (apart _ _ refl))
 
 pub row_laws : (version : ℕ)
     → Laws (row_at version) (IsRow version) (is (kinds.Keyword KwWhen)) acts_goes false
 unfolding row_at
 row_laws version = same_laws
-    (λ e ts f. subst (λ (z : RawRow). IsRow version z ts) (sym f.5.5.5.5.0) (f.0, f.1, f.3, f.4, (f.5.0, f.5.1, f.5.3, f.5.4, (f.5.5.0, f.5.5.1, f.5.5.3, f.5.5.4, subst (λ (m : List Lexeme). (AreActs version f.5.5.5.2) m) (sym (f.5.5.5.3 ∙ ap (λ m. f.5.5.5.0 ++ m) f.5.5.5.5.1 ∙ append-nil f.5.5.5.0)) f.5.5.5.4))))
-    (λ e ts f. (f.0, f.1, tt, f.2, f.3, (f.4.0, f.4.1, e.conds, f.4.2, f.4.3, (f.4.4.0, f.4.4.1, tt, f.4.4.2, f.4.4.3, (f.4.4.1, [], e.acts, sym (append-nil f.4.4.1), f.4.4.4, (refl, refl))))))
-    (bind_laws (only_laws (kinds.Keyword KwWhen) refl) (λ _. bind_laws (listed_laws cond_laws (apart _ _ refl)) (λ conds. bind_laws (only_laws (kinds.Keyword KwDo) refl) (λ _. bind_laws (acts_laws version) (λ acts. pure_laws {A = RawRow} (record { conds = conds; acts = acts })) (apart _ _ refl)) (apart _ _ refl)) (apart _ _ refl)) (apart _ _ refl))
+    (λ e ts f. subst (λ (z : RawRow). IsRow version z ts) (sym f.5.5.5.5.0) (
+      f.0,
+      f.1,
+      f.3,
+      f.4,
+      (
+        f.5.0,
+        f.5.1,
+        f.5.3,
+        f.5.4,
+        (
+          f.5.5.0,
+          f.5.5.1,
+          f.5.5.3,
+          f.5.5.4,
+          subst (λ (m : List Lexeme). (AreActs version f.5.5.5.2) m)
+              (sym (f.5.5.5.3 ∙ ap (λ m. f.5.5.5.0 ++ m) f.5.5.5.5.1 ∙ append-nil f.5.5.5.0))
+              f.5.5.5.4,
+        ),
+      ),
+    ))
+    (λ e ts f. (
+      f.0,
+      f.1,
+      tt,
+      f.2,
+      f.3,
+      (
+        f.4.0,
+        f.4.1,
+        e.conds,
+        f.4.2,
+        f.4.3,
+        (
+          f.4.4.0,
+          f.4.4.1,
+          tt,
+          f.4.4.2,
+          f.4.4.3,
+          (f.4.4.1, [], e.acts, sym (append-nil f.4.4.1), f.4.4.4, (refl, refl)),
+        ),
+      ),
+    ))
+    (bind_laws (only_laws (kinds.Keyword KwWhen) refl)
+    (λ _. bind_laws (listed_laws cond_laws (apart _ _ refl))
+    (λ conds. bind_laws (only_laws (kinds.Keyword KwDo) refl)
+    (λ _. bind_laws (acts_laws version)
+    (λ acts. pure_laws {A = RawRow} (record { conds = conds; acts = acts })) (apart _ _ refl))
+    (apart _ _ refl)) (apart _ _ refl)) (apart _ _ refl))
 
-output_laws : Laws output_at (λ names. Key KwOutput ⨾ Listed IsWord names) (is (kinds.Keyword KwOutput)) (listed_goes none) false
+output_laws : Laws output_at (λ names. Key KwOutput ⨾ Listed IsWord names)
+    (is (kinds.Keyword KwOutput)) (listed_goes none) false
 unfolding output_at
-output_laws = same_laws (λ e ts f. (f.0, f.1, f.3, f.4, f.5)) (λ e ts f. (f.0, f.1, tt, f.2, f.3, f.4)) (bind_laws (only_laws (kinds.Keyword KwOutput) refl) (λ _. listed_laws word_laws (apart _ _ refl)) (apart _ _ refl))
+output_laws = same_laws (λ e ts f. (f.0, f.1, f.3, f.4, f.5))
+    (λ e ts f. (f.0, f.1, tt, f.2, f.3, f.4))
+    (bind_laws (only_laws (kinds.Keyword KwOutput) refl)
+    (λ _. listed_laws word_laws (apart _ _ refl)) (apart _ _ refl))
 
 outputs_there : (e : List Word) (ts : List Lexeme)
     → Or (λ names. Key KwOutput ⨾ Listed IsWord names) (Just []) e ts → AreOutputs e ts
@@ -474,22 +1118,133 @@ outputs_back (name ∷ names) ts f = inl f
 abbrev pub outputs_goes : ℕ → Bool
 outputs_goes c = (listed_goes none c || false) || is (kinds.Keyword KwOutput) c
 
-pub outputs_laws : Laws outputs_at AreOutputs (λ c. is (kinds.Keyword KwOutput) c || false) outputs_goes true
+pub outputs_laws : Laws outputs_at AreOutputs (λ c. is (kinds.Keyword KwOutput) c || false)
+    outputs_goes true
 unfolding outputs_at
-outputs_laws = same_laws outputs_there outputs_back (either_laws (is (kinds.Keyword KwOutput)) output_laws (pure_laws []) (within _ _ refl) (apart _ _ refl))
+outputs_laws = same_laws outputs_there outputs_back
+    (either_laws (is (kinds.Keyword KwOutput)) output_laws (pure_laws []) (within _ _ refl)
+    (apart _ _ refl))
 
 abbrev pub Is_body : ℕ → Word → Num → RawMachine → Part
 Is_body version name priority m ts =
     (m.name ≡ name) × (m.priority ≡ priority)
-    × (Key KwInput ⨾ Listed IsWord m.inputs ⨾ AreOutputs m.outputs ⨾ Each IsState m.states ⨾ Each (IsRow version) m.rows ⨾ Sign RightBrace) ts
+    × (Key KwInput ⨾ Listed IsWord m.inputs ⨾ AreOutputs m.outputs ⨾ Each IsState m.states ⨾ Each
+    (IsRow version) m.rows ⨾ Sign RightBrace) ts
 
 pub body_laws : (version : ℕ) (name : Word) (priority : Num)
-    → Laws (body_at version name priority) (Is_body version name priority) (is (kinds.Keyword KwInput)) none false
+    → Laws (body_at version name priority) (Is_body version name priority)
+    (is (kinds.Keyword KwInput)) none false
 unfolding body_at
 body_laws version name priority = same_laws
-    (λ m ts f. subst (λ (z : RawMachine). Is_body version name priority z ts) (sym f.5.5.5.5.5.5.0) (refl, refl, (f.0, f.1, f.3, f.4, (f.5.0, f.5.1, f.5.3, f.5.4, (f.5.5.0, f.5.5.1, f.5.5.3, f.5.5.4, (f.5.5.5.0, f.5.5.5.1, f.5.5.5.3, f.5.5.5.4, (f.5.5.5.5.0, f.5.5.5.5.1, f.5.5.5.5.3, f.5.5.5.5.4, subst (λ (m : List Lexeme). (Sign RightBrace) m) (sym (f.5.5.5.5.5.3 ∙ ap (λ m. f.5.5.5.5.5.0 ++ m) f.5.5.5.5.5.5.1 ∙ append-nil f.5.5.5.5.5.0)) f.5.5.5.5.5.4)))))))
-    (λ m ts f. (f.2.0, f.2.1, tt, f.2.2, f.2.3, (f.2.4.0, f.2.4.1, m.inputs, f.2.4.2, f.2.4.3, (f.2.4.4.0, f.2.4.4.1, m.outputs, f.2.4.4.2, f.2.4.4.3, (f.2.4.4.4.0, f.2.4.4.4.1, m.states, f.2.4.4.4.2, f.2.4.4.4.3, (f.2.4.4.4.4.0, f.2.4.4.4.4.1, m.rows, f.2.4.4.4.4.2, f.2.4.4.4.4.3, (f.2.4.4.4.4.1, [], tt, sym (append-nil f.2.4.4.4.4.1), f.2.4.4.4.4.4, ((λ i. record { name = f.0 i; priority = f.1 i; inputs = m.inputs; outputs = m.outputs; states = m.states; rows = m.rows }), refl))))))))
-    (bind_laws (only_laws (kinds.Keyword KwInput) refl) (λ _. bind_laws (listed_laws word_laws (apart _ _ refl)) (λ inputs. bind_laws outputs_laws (λ outputs. bind_laws (many_laws (is (kinds.Keyword KwState)) state_laws (within _ _ refl) (apart _ _ refl)) (λ states. bind_laws (many_laws (is (kinds.Keyword KwWhen)) (row_laws version) (within _ _ refl) (apart _ _ refl)) (λ rows. bind_laws (only_laws (kinds.Sign RightBrace) refl) (λ _. pure_laws {A = RawMachine} (record { name = name; priority = priority; inputs = inputs; outputs = outputs; states = states; rows = rows })) (apart _ _ refl)) (apart _ _ refl)) (apart _ _ refl)) (apart _ _ refl)) (apart _ _ refl)) (apart _ _ refl))
+    (λ m ts f. subst (λ (z : RawMachine). Is_body version name priority z ts) (sym f.5.5.5.5.5.5.0) (
+      refl,
+      refl,
+      (
+        f.0,
+        f.1,
+        f.3,
+        f.4,
+        (
+          f.5.0,
+          f.5.1,
+          f.5.3,
+          f.5.4,
+          (
+            f.5.5.0,
+            f.5.5.1,
+            f.5.5.3,
+            f.5.5.4,
+            (
+              f.5.5.5.0,
+              f.5.5.5.1,
+              f.5.5.5.3,
+              f.5.5.5.4,
+              (
+                f.5.5.5.5.0,
+                f.5.5.5.5.1,
+                f.5.5.5.5.3,
+                f.5.5.5.5.4,
+                subst (λ (m : List Lexeme). (Sign RightBrace) m)
+                    (sym (f.5.5.5.5.5.3 ∙ ap (λ m. f.5.5.5.5.5.0 ++ m) f.5.5.5.5.5.5.1
+                    ∙ append-nil f.5.5.5.5.5.0)) f.5.5.5.5.5.4,
+              ),
+            ),
+          ),
+        ),
+      ),
+    ))
+    (λ m ts f. (
+      f.2.0,
+      f.2.1,
+      tt,
+      f.2.2,
+      f.2.3,
+      (
+        f.2.4.0,
+        f.2.4.1,
+        m.inputs,
+        f.2.4.2,
+        f.2.4.3,
+        (
+          f.2.4.4.0,
+          f.2.4.4.1,
+          m.outputs,
+          f.2.4.4.2,
+          f.2.4.4.3,
+          (
+            f.2.4.4.4.0,
+            f.2.4.4.4.1,
+            m.states,
+            f.2.4.4.4.2,
+            f.2.4.4.4.3,
+            (
+              f.2.4.4.4.4.0,
+              f.2.4.4.4.4.1,
+              m.rows,
+              f.2.4.4.4.4.2,
+              f.2.4.4.4.4.3,
+              (
+                f.2.4.4.4.4.1,
+                [],
+                tt,
+                sym (append-nil f.2.4.4.4.4.1),
+                f.2.4.4.4.4.4,
+                (
+                  (λ i. record {
+                    name = f.0 i;
+                    priority = f.1 i;
+                    inputs = m.inputs;
+                    outputs = m.outputs;
+                    states = m.states;
+                    rows = m.rows;
+                  }),
+                  refl,
+                ),
+              ),
+            ),
+          ),
+        ),
+      ),
+    ))
+    (bind_laws (only_laws (kinds.Keyword KwInput) refl)
+    (λ _. bind_laws (listed_laws word_laws (apart _ _ refl))
+    (λ inputs. bind_laws outputs_laws (λ outputs.
+    bind_laws (many_laws (is (kinds.Keyword KwState)) state_laws (within _ _ refl)
+    (apart _ _ refl))
+    (λ states. bind_laws
+    (many_laws (is (kinds.Keyword KwWhen)) (row_laws version) (within _ _ refl)
+    (apart _ _ refl))
+    (λ rows. bind_laws (only_laws (kinds.Sign RightBrace) refl)
+    (λ _. pure_laws {A = RawMachine}
+    (record {
+      name = name;
+      priority = priority;
+      inputs = inputs;
+      outputs = outputs;
+      states = states;
+      rows = rows;
+    })) (apart _ _ refl)) (apart _ _ refl)) (apart _ _ refl))
+    (apart _ _ refl)) (apart _ _ refl)) (apart _ _ refl))
 
 pub machine_laws : (version : ℕ)
     → Laws (machine_at version) (IsMachine version) (is (kinds.Keyword KwMachine)) none false
@@ -550,7 +1305,12 @@ machine_laws version = same_laws
         ),
       ),
     ))
-    (bind_laws (only_laws (kinds.Keyword KwMachine) refl) (λ _. bind_laws word_laws (λ name. bind_laws (only_laws (kinds.Keyword KwPriority) refl) (λ _. bind_laws num_laws (λ priority. bind_laws (only_laws (kinds.Sign LeftBrace) refl) (λ _. body_laws version name priority) (apart _ _ refl)) (apart _ _ refl)) (apart _ _ refl)) (apart _ _ refl)) (apart _ _ refl))
+    (bind_laws (only_laws (kinds.Keyword KwMachine) refl)
+    (λ _. bind_laws word_laws (λ name.
+    bind_laws (only_laws (kinds.Keyword KwPriority) refl)
+    (λ _. bind_laws num_laws (λ priority.
+    bind_laws (only_laws (kinds.Sign LeftBrace) refl) (λ _. body_laws version name priority)
+    (apart _ _ refl)) (apart _ _ refl)) (apart _ _ refl)) (apart _ _ refl)) (apart _ _ refl))
 
 abbrev pub net_goes : ℕ → Bool
 net_goes = one_goes (is (kinds.Keyword KwMachine)) none
@@ -558,9 +1318,116 @@ net_goes = one_goes (is (kinds.Keyword KwMachine)) none
 pub net_laws : Laws net_at IsNet (is (kinds.Keyword KwNetwork)) net_goes false
 unfolding net_at
 net_laws = same_laws
-    (λ e ts f. subst (λ (z : RawNet). IsNet z ts) (sym f.5.5.5.5.5.5.5.0) (f.0, f.1, f.3, f.4, (f.5.0, f.5.1, f.5.3, f.5.4, (f.5.5.0, f.5.5.1, f.5.5.3, f.5.5.4, (f.5.5.5.0, f.5.5.5.1, f.5.5.5.3, f.5.5.5.4, (f.5.5.5.5.0, f.5.5.5.5.1, f.5.5.5.5.3, f.5.5.5.5.4, (f.5.5.5.5.5.0, f.5.5.5.5.5.1, f.5.5.5.5.5.3, f.5.5.5.5.5.4, subst (λ (m : List Lexeme). (OneAnd (IsMachine f.5.5.5.2.number) (IsMachine f.5.5.5.2.number) f.5.5.5.5.5.5.2) m) (sym (f.5.5.5.5.5.5.3 ∙ ap (λ m. f.5.5.5.5.5.5.0 ++ m) f.5.5.5.5.5.5.5.1 ∙ append-nil f.5.5.5.5.5.5.0)) f.5.5.5.5.5.5.4)))))))
-    (λ e ts f. (f.0, f.1, tt, f.2, f.3, (f.4.0, f.4.1, e.name, f.4.2, f.4.3, (f.4.4.0, f.4.4.1, tt, f.4.4.2, f.4.4.3, (f.4.4.4.0, f.4.4.4.1, e.version, f.4.4.4.2, f.4.4.4.3, (f.4.4.4.4.0, f.4.4.4.4.1, e.domains, f.4.4.4.4.2, f.4.4.4.4.3, (f.4.4.4.4.4.0, f.4.4.4.4.4.1, e.events, f.4.4.4.4.4.2, f.4.4.4.4.4.3, (f.4.4.4.4.4.1, [], e.machines, sym (append-nil f.4.4.4.4.4.1), f.4.4.4.4.4.4, (refl, refl)))))))))
-    (bind_laws (only_laws (kinds.Keyword KwNetwork) refl) (λ _. bind_laws word_laws (λ name. bind_laws (only_laws (kinds.Keyword KwVersion) refl) (λ _. bind_laws num_laws (λ version. bind_laws (many_laws (is (kinds.Keyword KwDomain)) domain_laws (within _ _ refl) (apart _ _ refl)) (λ domains. bind_laws (many_laws (is (kinds.Keyword KwEvent)) event_laws (within _ _ refl) (apart _ _ refl)) (λ events. bind_laws (some_laws (is (kinds.Keyword KwMachine)) (machine_laws version.number) (within _ _ refl) (apart _ _ refl)) (λ machines. pure_laws {A = RawNet} (record { name = name; version = version; domains = domains; events = events; machines = machines })) (apart _ _ refl)) (apart _ _ refl)) (apart _ _ refl)) (apart _ _ refl)) (apart _ _ refl)) (apart _ _ refl)) (apart _ _ refl))
+    (λ e ts f. subst (λ (z : RawNet). IsNet z ts) (sym f.5.5.5.5.5.5.5.0) (
+      f.0,
+      f.1,
+      f.3,
+      f.4,
+      (
+        f.5.0,
+        f.5.1,
+        f.5.3,
+        f.5.4,
+        (
+          f.5.5.0,
+          f.5.5.1,
+          f.5.5.3,
+          f.5.5.4,
+          (
+            f.5.5.5.0,
+            f.5.5.5.1,
+            f.5.5.5.3,
+            f.5.5.5.4,
+            (
+              f.5.5.5.5.0,
+              f.5.5.5.5.1,
+              f.5.5.5.5.3,
+              f.5.5.5.5.4,
+              (
+                f.5.5.5.5.5.0,
+                f.5.5.5.5.5.1,
+                f.5.5.5.5.5.3,
+                f.5.5.5.5.5.4,
+                subst (λ (m : List Lexeme).
+                    (OneAnd (IsMachine f.5.5.5.2.number) (IsMachine f.5.5.5.2.number) f.5.5.5.5.5.5.2) m)
+                    (sym (f.5.5.5.5.5.5.3 ∙ ap (λ m. f.5.5.5.5.5.5.0 ++ m) f.5.5.5.5.5.5.5.1
+                    ∙ append-nil f.5.5.5.5.5.5.0)) f.5.5.5.5.5.5.4,
+              ),
+            ),
+          ),
+        ),
+      ),
+    ))
+    (λ e ts f. (
+      f.0,
+      f.1,
+      tt,
+      f.2,
+      f.3,
+      (
+        f.4.0,
+        f.4.1,
+        e.name,
+        f.4.2,
+        f.4.3,
+        (
+          f.4.4.0,
+          f.4.4.1,
+          tt,
+          f.4.4.2,
+          f.4.4.3,
+          (
+            f.4.4.4.0,
+            f.4.4.4.1,
+            e.version,
+            f.4.4.4.2,
+            f.4.4.4.3,
+            (
+              f.4.4.4.4.0,
+              f.4.4.4.4.1,
+              e.domains,
+              f.4.4.4.4.2,
+              f.4.4.4.4.3,
+              (
+                f.4.4.4.4.4.0,
+                f.4.4.4.4.4.1,
+                e.events,
+                f.4.4.4.4.4.2,
+                f.4.4.4.4.4.3,
+                (
+                  f.4.4.4.4.4.1,
+                  [],
+                  e.machines,
+                  sym (append-nil f.4.4.4.4.4.1),
+                  f.4.4.4.4.4.4,
+                  (refl, refl),
+                ),
+              ),
+            ),
+          ),
+        ),
+      ),
+    ))
+    (bind_laws (only_laws (kinds.Keyword KwNetwork) refl)
+    (λ _. bind_laws word_laws (λ name.
+    bind_laws (only_laws (kinds.Keyword KwVersion) refl)
+    (λ _. bind_laws num_laws (λ version.
+    bind_laws (many_laws (is (kinds.Keyword KwDomain)) domain_laws (within _ _ refl)
+    (apart _ _ refl))
+    (λ domains. bind_laws
+    (many_laws (is (kinds.Keyword KwEvent)) event_laws (within _ _ refl) (apart _ _ refl))
+    (λ events. bind_laws
+    (some_laws (is (kinds.Keyword KwMachine)) (machine_laws version.number) (within _ _ refl)
+    (apart _ _ refl))
+    (λ machines. pure_laws {A = RawNet}
+    (record {
+      name = name;
+      version = version;
+      domains = domains;
+      events = events;
+      machines = machines;
+    })) (apart _ _ refl)) (apart _ _ refl)) (apart _ _ refl))
+    (apart _ _ refl)) (apart _ _ refl)) (apart _ _ refl)) (apart _ _ refl))
 
 pub word_shrinks : Shrinks word_at
 word_shrinks = shrinks word_laws

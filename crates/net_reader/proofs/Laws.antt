@@ -6,8 +6,8 @@ use Rattle.net_reader.specs.Lexemes.{Lexeme}
 use Rattle.net_reader.specs.Grammar.{Part}
 use Rattle.net_reader.specs.Reading.{Answer, Rule, ◌>>=◌, begins}
 
--- The rule read the value and left the rest: what it used is of the part, and it does the same where the next token is
--- the same.
+-- The rule read the value and left the rest: what it used is of the part, and it does the same
+-- where the next token is the same.
 pub record Took {A : Type 0} (p : Rule A) (P : A → Part) (ls : List Lexeme) (a : A)
     (rest : List Lexeme) : Type 0 where
   pub used : List Lexeme
@@ -16,8 +16,8 @@ pub record Took {A : Type 0} (p : Rule A) (P : A → Part) (ls : List Lexeme) (a
   pub same : (l : Lexeme) (tail later : List Lexeme) → rest ≡ l ∷ tail
       → p (used ++ l ∷ later) ≡ Ok (a, l ∷ later)
 
--- The rule stopped at the rest: the tokens before can be completed, and it stops at the same next token however the
--- list goes on.
+-- The rule stopped at the rest: the tokens before can be completed, and it stops at the same next
+-- token however the list goes on.
 pub record Broke {A : Type 0} (p : Rule A) (P : A → Part) (ls rest : List Lexeme) : Type 0 where
   pub before : List Lexeme
   pub is : ls ≡ before ++ rest

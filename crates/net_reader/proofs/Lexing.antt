@@ -126,7 +126,8 @@ reads c w rest kind at ls is l =
 abbrev pub any : List ℕ → Bool
 any bytes = true
 
--- Wherever the text stands, with something after that may stand there, its tokens are of P, and then come those after.
+-- Wherever the text stands, with something after that may stand there, its tokens are of P, and
+-- then come those after.
 pub record Made (next : List ℕ → Bool) (P : Part) (text : List ℕ) : Type 0 where
   pub made : (at : ℕ) (rest : List ℕ) (ls : List Lexeme) → next rest ≡ true
       → Lexed (at + length text) rest ls

@@ -10,19 +10,30 @@ use Rattle.net_reader.proofs.Laws.{bind_ok}
 use Rattle.net_reader.proofs.Tokens.{only_laws}
 use Rattle.net_reader.proofs.Forms.{many_none, many_some, many_err, shrinks}
 
-regroup : {A : Type 0} (made : List A) (a : A) (r : Answer (List A)) → with_before (made ++ a ∷ []) r ≡ with_before made (r >>= λ y. Ok (a ∷ y.0, y.1))
+regroup : {A : Type 0} (made : List A) (a : A) (r : Answer (List A))
+    → with_before (made ++ a ∷ []) r ≡ with_before made (r >>= λ y. Ok (a ∷ y.0, y.1))
 regroup made a (Ok y) = ap (λ (m : List _). Ok (m, y.1)) (append_assoc made (a ∷ []) y.0)
 regroup made a (Err e) = refl
 
-pub goes_on : {A : Type 0} (test : ℕ → Bool) (p : Rule A) → Shrinks p → (made : List A) (ls rest : List Lexeme) (a : A) → begins test ls ≡ true → p ls ≡ Ok (a, rest) → with_before (made ++ a ∷ []) (many test p rest) ≡ with_before made (many test p ls)
-goes_on test p shrinks made ls rest a t e = regroup made a (many test p rest) ∙ ap (with_before made) (sym (many_some test p shrinks ls rest a t e))
+pub goes_on : {A : Type 0} (test : ℕ → Bool) (p : Rule A) → Shrinks p
+    → (made : List A) (ls rest : List Lexeme) (a : A) → begins test ls ≡ true → p ls ≡ Ok (a, rest)
+    → with_before (made ++ a ∷ []) (many test p rest) ≡ with_before made (many test p ls)
+goes_on test p shrinks made ls rest a t e =
+    regroup made a (many test p rest) ∙ ap (with_before made)
+    (sym (many_some test p shrinks ls rest a t e))
 
-pub ends : {A : Type 0} (test : ℕ → Bool) (p : Rule A) (made : List A) (ls : List Lexeme) → begins test ls ≡ false → with_before made (many test p ls) ≡ Ok (made, ls)
-ends test p made ls t = ap (with_before made) (many_none test p ls t) ∙ ap (λ (m : List _). Ok (m, ls)) (append-nil made)
+pub ends : {A : Type 0} (test : ℕ → Bool) (p : Rule A) (made : List A) (ls : List Lexeme)
+    → begins test ls ≡ false → with_before made (many test p ls) ≡ Ok (made, ls)
+ends test p made ls t = ap (with_before made) (many_none test p ls t)
+    ∙ ap (λ (m : List _). Ok (m, ls)) (append-nil made)
 
 -- a part that didn't read stops the list
-pub stops_list : {A : Type 0} (test : ℕ → Bool) (p : Rule A) (made : List A) (ls rest : List Lexeme) (stop : Stop) (all : Answer (List A)) → begins test ls ≡ true → Gives {A = A} (Err stop) rest (p ls) → with_before made (many test p ls) ≡ all → Gives {A = List A} (Err stop) rest all
-stops_list test p made ls rest stops.Fault all t g e = sym e ∙ ap (with_before made) (many_err test p ls rest t g)
+pub stops_list : {A : Type 0} (test : ℕ → Bool) (p : Rule A) (made : List A) (ls rest : List Lexeme)
+    (stop : Stop) (all : Answer (List A)) → begins test ls ≡ true
+    → Gives {A = A} (Err stop) rest (p ls) → with_before made (many test p ls) ≡ all
+    → Gives {A = List A} (Err stop) rest all
+stops_list test p made ls rest stops.Fault all t g e =
+    sym e ∙ ap (with_before made) (many_err test p ls rest t g)
 stops_list test p made ls rest stops.NoMemory all t g e = tt
 
 pub none_before : {A : Type 0} (r : Answer (List A)) → with_before [] r ≡ r

@@ -1,4 +1,5 @@
--- The printed layout of a network: one line a declaration, tokens separated by one space, none before a comma.
+-- The printed layout of a network: one line a declaration, tokens separated by one space, none
+-- before a comma.
 use Rattle.std.specs.Prelude.{ℕ, List, [], ◌∷◌, ◌++◌, Option, Some, None, codes, decimal, flat_map}
 use Rattle.net_reader.specs.Lexemes.{Lexeme}
 use Rattle.net_reader.specs.Grammar.{IsNet}

@@ -24,7 +24,8 @@ left text (Some token) = token ∷ read_tokens (tokens_after text (token.at + to
 -- the next token is one of the text, and all after it reads
 abbrev pub StandsAt : List ℕ → Option Token → Type 0
 StandsAt text None = ⊤
-StandsAt text (Some token) = IsToken text token × (is_ok (tokens_after text (token.at + token.len)) ≡ true)
+StandsAt text (Some token) = IsToken text token
+    × (is_ok (tokens_after text (token.at + token.len)) ≡ true)
 
 -- the place of the first token, or the end where there is none
 abbrev pub place_of : ℕ → List Lexeme → ℕ

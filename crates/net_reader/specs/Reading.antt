@@ -1,5 +1,5 @@
--- Reading from left to right with one token of look-ahead. A rule answers what it reads and the tokens after it, or
--- the tokens from the first one on that doesn't fit.
+-- Reading from left to right with one token of look-ahead. A rule answers what it reads and the
+-- tokens after it, or the tokens from the first one on that doesn't fit.
 use Rattle.std.specs.Prelude.{◌≡◌, ℕ, zero, suc, Bool, true, false, cond, ◌==◌, List, [], ◌∷◌, ◌++◌, ◌<◌, length, Option, Some, None, Result, Ok, Err}
 use Rattle.polis_base.specs.declared.token.Keyword.TheVariants.{KwNetwork, KwVersion, KwDomain, KwEvent, KwMachine, KwFrom, KwTo, KwEnv, KwPriority, KwInput, KwOutput, KwState, KwWhen, KwDo, KwEmit, KwAbsent, KwIn, KwNothing, KwValue}
 use Rattle.polis_base.specs.declared.token.Sign.TheVariants.{Equal, Assign, Colon, Comma, LeftBrace, RightBrace, DotDot, Plus}
@@ -104,8 +104,8 @@ either test p q ls = cond (begins test ls) (p ls) (q ls)
 abbrev pub pure : {A : Type 0} → A → Rule A
 pure a ls = Ok (a, ls)
 
--- Items as long as the next token passes, at most n of them. An item has a token at least, so that no more than there
--- are tokens can come.
+-- Items as long as the next token passes, at most n of them. An item has a token at least, so that
+-- no more than there are tokens can come.
 abbrev pub many_up_to : {A : Type 0} → ℕ → (ℕ → Bool) → Rule A → Rule (List A)
 many_up_to zero test p ls = Ok ([], ls)
 many_up_to (suc n) test p ls = cond (begins test ls)

@@ -1,4 +1,5 @@
--- Small texts of both versions, and what they declare. Each name and number has its byte place in the text.
+-- Small texts of both versions, and what they declare. Each name and number has its byte place in
+-- the text.
 use Rattle.std.specs.Prelude.{ℕ, List, [], ◌∷◌, ◌++◌, Some, None, codes}
 use Rattle.net_reader.specs.declared.raw.Word.{Word}
 use Rattle.net_reader.specs.declared.raw.Num.{Num}
@@ -18,7 +19,8 @@ abbrev num : ℕ → ℕ → Num
 num number at = record { number = number; at = at }
 
 abbrev pub lamp_text : List ℕ
-lamp_text = codes "network lamp version 1\ndomain bit = { off, on }\nevent press from env\nevent light to env\nmachine lamp_ctl priority 1 {\n  input press\n  output light\n  state s : bit = off\n  when press, s = off do s := on, emit light\n}\n"
+lamp_text = codes
+    "network lamp version 1\ndomain bit = { off, on }\nevent press from env\nevent light to env\nmachine lamp_ctl priority 1 {\n  input press\n  output light\n  state s : bit = off\n  when press, s = off do s := on, emit light\n}\n"
 
 abbrev pub lamp : RawNet
 lamp = record {
@@ -64,7 +66,8 @@ lamp = record {
 }
 
 abbrev pub echo_text : List ℕ
-echo_text = codes "network echo version 2\ndomain d = 0 .. 7\nevent v : d from env\nevent w : d to env\nmachine m priority 0 {\n  input v\n  output w\n  state s : d = 6\n  when v do s := s + 3, emit w = value v\n}\n"
+echo_text = codes
+    "network echo version 2\ndomain d = 0 .. 7\nevent v : d from env\nevent w : d to env\nmachine m priority 0 {\n  input v\n  output w\n  state s : d = 6\n  when v do s := s + 3, emit w = value v\n}\n"
 
 abbrev pub echo : RawNet
 echo = record {

@@ -20,8 +20,8 @@ abbrev pub Stops : List Lexeme → List Lexeme → Type 0
 Stops before [] = (net : RawNet) → IsNet net before → ⊥
 Stops before (l ∷ rest) = BeginsSentence (before ++ l ∷ []) → ⊥
 
--- The text's tokens read and are no sentence: the ones before the place begin one, and those up to it begin none. It
--- is the text's length where all of them begin one.
+-- The text's tokens read and are no sentence: the ones before the place begin one, and those up to
+-- it begin none. It is the text's length where all of them begin one.
 pub record BreaksAt (text : List ℕ) (place : ℕ) : Type 0 where
   pub tokens : List Token
   pub read : tokens_of text ≡ Ok tokens

@@ -25,7 +25,8 @@ fn more<T: Part>(
 ) -> Result<List<T>, Stop>
     requires fixed { is_fixed begins ≡ true }
     requires shrinks { Shrinks (T.rule version) }
-    ensures { Gives result reader.new (with_before made (many (is begins) (T.rule version) reader.old)) }
+    ensures { Gives result reader.new
+        (with_before made (many (is begins) (T.rule version) reader.old)) }
 {
     let mut made = made;
     while reader.sees(begins) {
@@ -39,7 +40,9 @@ fn more<T: Part>(
 // More parts after these, each after a comma.
 fn after_commas<T: Part>(reader: &mut Reader, version: u32, made: List<T>) -> Result<List<T>, Stop>
     requires { Shrinks (T.rule version) }
-    ensures { Gives result reader.new (with_before made (many (is (Kind.Sign Sign.Comma)) (after_comma (T.rule version)) reader.old)) }
+    ensures { Gives result reader.new
+        (with_before made
+        (many (is (Kind.Sign Sign.Comma)) (after_comma (T.rule version)) reader.old)) }
 {
     let mut made = made;
     while reader.sees(Kind::Sign(Sign::Comma)) {

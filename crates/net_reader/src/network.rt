@@ -21,7 +21,8 @@ pub enum NetFault {
     /// The first token that doesn't read. It is never running out of memory.
     #[error("Lex")]
     Lex(LexError),
-    /// The place of the first token with which no sentence goes on, or the text's length where a token is missing.
+    /// The place of the first token with which no sentence goes on, or the text's length where a
+    /// token is missing.
     #[error("Syntax")]
     Syntax(u64),
     /// Out of memory.
@@ -50,18 +51,22 @@ fn read(alloc: Global, text: &[u8]) -> Result<RawNet, NetFault>
     }
 }
 
-/// The declarations of a network text of either version. A token that doesn't read is the answer also where a syntax
-/// fault stands before it.
+/// The declarations of a network text of either version. A token that doesn't read is the answer
+/// also where a syntax fault stands before it.
 pub fn read_network(alloc: Global, text: &[u8]) -> Result<RawNet, NetFault>
     ensures ok { IfOk result (λ net. HasNet text.now net) }
     ensures one { IfOk result (λ net. (other : RawNet) → HasNet text.now other → other ≡ net) }
     ensures ok_there { (net : RawNet) → HasNet text.now net → OrNoMemory result (Ok net) }
-    ensures lex { (fault : LexError) → result ≡ Err (NetFault.Lex fault) → tokens_of text.now ≡ Err fault }
-    ensures lex_there { (fault : LexError) → tokens_of text.now ≡ Err fault → OrNoMemory result (Err (NetFault.Lex fault)) }
+    ensures lex { (fault : LexError) → result ≡ Err (NetFault.Lex fault)
+        → tokens_of text.now ≡ Err fault }
+    ensures lex_there { (fault : LexError) → tokens_of text.now ≡ Err fault
+        → OrNoMemory result (Err (NetFault.Lex fault)) }
     ensures lex_memory { result ≢ Err (NetFault.Lex LexError.NoMemory) }
     ensures syntax { (place : ℕ) → result ≡ Err (NetFault.Syntax place) → BreaksAt text.now place }
-    ensures syntax_there { (place : ℕ) → BreaksAt text.now place → OrNoMemory result (Err (NetFault.Syntax place)) }
-    ensures last_missing { LacksLast text.now → OrNoMemory result (Err (NetFault.Syntax (length text.now))) }
+    ensures syntax_there { (place : ℕ) → BreaksAt text.now place
+        → OrNoMemory result (Err (NetFault.Syntax place)) }
+    ensures last_missing { LacksLast text.now
+        → OrNoMemory result (Err (NetFault.Syntax (length text.now))) }
 {
     read(alloc, text)
 }

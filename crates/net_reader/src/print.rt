@@ -367,7 +367,8 @@ impl Print for RawMachine {
     }
 }
 
-/// The text of a network in its layout: one line a declaration, one space between tokens, and none before a comma.
+/// The text of a network in its layout: one line a declaration, one space between tokens, and none
+/// before a comma.
 pub fn print_network(alloc: Global, net: &RawNet) -> Result<Bytes, NoMemory>
     requires { IsOfSentence net.now }
     ensures layout { IfOk result (λ text. text ≡ network_text net.now) }

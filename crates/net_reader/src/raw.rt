@@ -146,7 +146,8 @@ impl Duplicate for RawState {
 /// The state variables of a machine, in order.
 pub type RawStateList = List<RawState>;
 
-/// A condition: the event is present, it is absent, or the event or variable has this value or one of these.
+/// A condition: the event is present, it is absent, or the event or variable has this value or one
+/// of these.
 #[derive(Drop)]
 pub enum RawCond {
     /// `e`: this event is present.
@@ -196,8 +197,8 @@ pub enum RawSource {
     Value(RawValue),
     /// `value name`: the value that this input has. Only version 2 has it.
     Input(Word),
-    /// `name + number`: the value so many places after that of this variable, where the first value comes after the
-    /// last one. Only version 2 has it, and no emission.
+    /// `name + number`: the value so many places after that of this variable, where the first value
+    /// comes after the last one. Only version 2 has it, and no emission.
     Add {
         /// The name before `+`.
         name: Word,

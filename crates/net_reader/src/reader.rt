@@ -147,7 +147,8 @@ impl<'a> Reader<'a> {
     // The next token.
     fn peek(&self) -> Option<Piece<'a>>
         ensures seen { option_map seen result ≡ head_of self.now }
-        ensures name { IfSome result (λ piece. piece.kind ≡ Kind.Name → is_name piece.bytes.now ≡ true) }
+        ensures name { IfSome result (λ piece. piece.kind ≡ Kind.Name
+            → is_name piece.bytes.now ≡ true) }
     {
         match self.next {
             Some(token) => Some(piece_of(self.text, token)),

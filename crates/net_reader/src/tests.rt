@@ -1,4 +1,5 @@
-// What no clause says: that reading and printing succeed where there is memory. The places of faults are counted by hand.
+// What no clause says: that reading and printing succeed where there is memory. The places of
+// faults are counted by hand.
 use crate::{NetFault, print_network, read_network};
 use polis_base::LexError;
 use std::alloc::Global;

@@ -3,12 +3,13 @@ ghost use Rattle.std.specs.Prelude.{codes, take};
 ghost use Rattle.net_reader.specs.Sentences.{HasNet, BreaksAt, LacksLast};
 ghost use Rattle.net_reader.specs.Samples.{lamp_text, lamp, echo_text, echo, with_action, one_action, set_to_input};
 
-/// What small texts declare, where the forms of version 2 are a fault in a text of another version, and a text that
-/// lacks the last token of a sentence.
+/// What small texts declare, where the forms of version 2 are a fault in a text of another version,
+/// and a text that lacks the last token of a sentence.
 pub fn worked_texts()
     ensures lamp { HasNet lamp_text lamp }
     ensures echo { HasNet echo_text echo }
-    ensures input { HasNet (with_action (codes "2") (codes "s := value g")) (one_action 2 set_to_input) }
+    ensures input { HasNet (with_action (codes "2") (codes "s := value g"))
+        (one_action 2 set_to_input) }
     ensures input_in_1 { BreaksAt (with_action (codes "1") (codes "s := value g")) 83 }
     ensures input_in_3 { BreaksAt (with_action (codes "3") (codes "s := value g")) 83 }
     ensures given_in_3 { BreaksAt (with_action (codes "3") (codes "emit e = value g")) 87 }

@@ -19,21 +19,38 @@ use Rattle.net_rules.proofs.Counts.{lt-from, state-few}
 
 module _ (net : RawNet) (sound : IsSound net) where
   -- a state variable has few values
-  few-in : (name : List ℕ) (ss : List RawState) → missing (is_name_of (domain_words net)) (map (λ (s : RawState). s.domain) ss) ≡ [] → count_at net (option_map (λ (s : RawState). s.domain) (find (λ (s : RawState). is_same name s.name.name) ss)) ≤ 33
+  few-in : (name : List ℕ) (ss : List RawState)
+      → missing (is_name_of (domain_words net)) (map (λ (s : RawState). s.domain) ss) ≡ []
+      → count_at net (option_map (λ (s : RawState). s.domain)
+      (find (λ (s : RawState). is_same name s.name.name) ss)) ≤ 33
   few-in name [] h = omega arith
-  few-in name (s ∷ ss) h = by (is_same name s.name.name) (few-in name ss (rest-known (domain_words net) s.domain (map (λ (s : RawState). s.domain) ss) h))
+  few-in name (s ∷ ss) h =
+      by (is_same name s.name.name)
+      (few-in name ss
+      (rest-known (domain_words net) s.domain (map (λ (s : RawState). s.domain) ss) h))
     where
-      by : (b : Bool) → count_at net (option_map (λ (s : RawState). s.domain) (find (λ (s : RawState). is_same name s.name.name) ss)) ≤ 33
-          → count_at net (option_map (λ (s : RawState). s.domain) (cond b (Some s) (find (λ (s : RawState). is_same name s.name.name) ss))) ≤ 33
-      by true rest = state-few net s.domain sound (first-known (domain_words net) s.domain (map (λ (s : RawState). s.domain) ss) h)
+      by : (b : Bool)
+          → count_at net (option_map (λ (s : RawState). s.domain)
+          (find (λ (s : RawState). is_same name s.name.name) ss)) ≤ 33
+          → count_at net (option_map (λ (s : RawState). s.domain)
+          (cond b (Some s) (find (λ (s : RawState). is_same name s.name.name) ss))) ≤ 33
+      by true rest = state-few net s.domain sound
+          (first-known (domain_words net) s.domain (map (λ (s : RawState). s.domain) ss) h)
       by false rest = rest
 
-  pub amount-small : (m : RawMachine) (row : RawRow) (act : RawAct) → IsSoundMachine net m → IsSoundAct net m row act → amount_of (source_of act) ≤ 255
+  pub amount-small : (m : RawMachine) (row : RawRow) (act : RawAct) → IsSoundMachine net m
+      → IsSoundAct net m row act → amount_of (source_of act) ≤ 255
   amount-small m row (acts.Emit w None) kept s = omega arith
   amount-small m row (acts.Emit w (Some (sources.Value v))) kept s = omega arith
   amount-small m row (acts.Emit w (Some (sources.Input x))) kept s = omega arith
-  amount-small m row (acts.Emit w (Some (sources.Add x n))) kept s = absurd (true≢false (sym (holds false x.at s.name)))
+  amount-small m row (acts.Emit w (Some (sources.Add x n))) kept s =
+      absurd (true≢false (sym (holds false x.at s.name)))
   amount-small m row (acts.Set w (sources.Value v)) kept s = omega arith
   amount-small m row (acts.Set w (sources.Input x)) kept s = omega arith
   amount-small m row (acts.Set w (sources.Add x n)) kept s =
-      omega (arith, lt-from n.number (count_at net (state_domain m w.name)) (holds (nat_lt n.number (count_at net (state_domain m w.name))) n.at s.amount), few-in w.name m.states kept.domains)
+      omega (
+        arith,
+        lt-from n.number (count_at net (state_domain m w.name))
+            (holds (nat_lt n.number (count_at net (state_domain m w.name))) n.at s.amount),
+        few-in w.name m.states kept.domains,
+      )

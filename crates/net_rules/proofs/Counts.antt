@@ -33,65 +33,128 @@ abbrev pub InRange : ℕ → Type 0
 InRange n = (1 ≤ n) × (n ≤ 32)
 
 -- of a test for each item
-pub each-all : {X : Type 0} (test : X → Bool) (xs : List X) → list_all test xs ≡ true → Each (λ x. test x ≡ true) xs
+pub each-all : {X : Type 0} (test : X → Bool) (xs : List X) → list_all test xs ≡ true
+    → Each (λ x. test x ≡ true) xs
 each-all test [] all i x at = absurd (true≢false (sym (ap is_some at)))
-each-all test (y ∷ xs) all zero x at = subst (λ z. test z ≡ true) (some-is y x at) (and-first (test y) (list_all test xs) all)
-each-all test (y ∷ xs) all (suc i) x at = each-all test xs (and-second (test y) (list_all test xs) all) i x at
+each-all test (y ∷ xs) all zero x at =
+    subst (λ z. test z ≡ true) (some-is y x at) (and-first (test y) (list_all test xs) all)
+each-all test (y ∷ xs) all (suc i) x at =
+    each-all test xs (and-second (test y) (list_all test xs) all) i x at
 
 -- of places that no item has
-pub each-nil : {X : Type 0} (f : X → List ℕ) (xs : List X) → flat_map f xs ≡ [] → Each (λ x. f x ≡ []) xs
+pub each-nil : {X : Type 0} (f : X → List ℕ) (xs : List X) → flat_map f xs ≡ []
+    → Each (λ x. f x ≡ []) xs
 each-nil f [] none i x at = absurd (true≢false (sym (ap is_some at)))
-each-nil f (y ∷ xs) none zero x at = subst (λ z. f z ≡ []) (some-is y x at) (first-nil (f y) (flat_map f xs) none)
+each-nil f (y ∷ xs) none zero x at =
+    subst (λ z. f z ≡ []) (some-is y x at) (first-nil (f y) (flat_map f xs) none)
 each-nil f (y ∷ xs) none (suc i) x at = each-nil f xs (rest-nil (f y) (flat_map f xs) none) i x at
 
 pub count-in : (d : RawDomain) → has_count d ≡ true → InRange (count_of d.shape)
-count-in d h = (le-from 1 (count_of d.shape) (and-first (nat_le 1 (count_of d.shape)) (nat_le (count_of d.shape) 32) h), le-from (count_of d.shape) 32 (and-second (nat_le 1 (count_of d.shape)) (nat_le (count_of d.shape) 32) h))
+count-in d h = (
+  le-from 1 (count_of d.shape)
+      (and-first (nat_le 1 (count_of d.shape)) (nat_le (count_of d.shape) 32) h),
+  le-from (count_of d.shape) 32
+      (and-second (nat_le 1 (count_of d.shape)) (nat_le (count_of d.shape) 32) h),
+)
 
 -- a domain that is found has 1 to 32 values
-found-in : (name : List ℕ) (ds : List RawDomain) (shape : RawShape) → list_all has_count ds ≡ true → option_map (λ (d : RawDomain). d.shape) (find (λ (d : RawDomain). is_same name d.name.name) ds) ≡ Some shape → InRange (count_of shape)
+found-in : (name : List ℕ) (ds : List RawDomain) (shape : RawShape) → list_all has_count ds ≡ true
+    → option_map (λ (d : RawDomain). d.shape)
+    (find (λ (d : RawDomain). is_same name d.name.name) ds) ≡ Some shape → InRange (count_of shape)
 found-in name [] shape all h = absurd (true≢false (sym (ap is_some h)))
-found-in name (d ∷ ds) shape all h = by (is_same name d.name.name) h (found-in name ds shape (and-second (has_count d) (list_all has_count ds) all))
+found-in name (d ∷ ds) shape all h =
+    by (is_same name d.name.name) h
+    (found-in name ds shape (and-second (has_count d) (list_all has_count ds) all))
   where
-    by : (b : Bool) → option_map (λ (d : RawDomain). d.shape) (cond b (Some d) (find (λ (d : RawDomain). is_same name d.name.name) ds)) ≡ Some shape → (option_map (λ (d : RawDomain). d.shape) (find (λ (d : RawDomain). is_same name d.name.name) ds) ≡ Some shape → InRange (count_of shape)) → InRange (count_of shape)
-    by true h rest = subst (λ s. InRange (count_of s)) (some-is d.shape shape h) (count-in d (and-first (has_count d) (list_all has_count ds) all))
+    by : (b : Bool)
+        → option_map (λ (d : RawDomain). d.shape)
+        (cond b (Some d) (find (λ (d : RawDomain). is_same name d.name.name) ds)) ≡ Some shape
+        → (option_map (λ (d : RawDomain). d.shape)
+        (find (λ (d : RawDomain). is_same name d.name.name) ds) ≡ Some shape
+        → InRange (count_of shape)) → InRange (count_of shape)
+    by true h rest =
+        subst (λ s. InRange (count_of s)) (some-is d.shape shape h)
+        (count-in d (and-first (has_count d) (list_all has_count ds) all))
     by false h rest = rest h
 
-pub shape-in : (net : RawNet) (name : List ℕ) (shape : RawShape) → IsSound net → shape_of net name ≡ Some shape → InRange (count_of shape)
+pub shape-in : (net : RawNet) (name : List ℕ) (shape : RawShape) → IsSound net
+    → shape_of net name ≡ Some shape → InRange (count_of shape)
 shape-in net name shape s h = found-in name net.domains shape s.counts h
 
 -- a name that is declared has a domain
-declared-in : (name : List ℕ) (ds : List RawDomain) → list_all has_count ds ≡ true → is_among (names_of (map (λ (d : RawDomain). d.name) ds)) name ≡ true → InRange (unwrap_or (option_map count_of (option_map (λ (d : RawDomain). d.shape) (find (λ (d : RawDomain). is_same name d.name.name) ds))) 0)
+declared-in : (name : List ℕ) (ds : List RawDomain) → list_all has_count ds ≡ true
+    → is_among (names_of (map (λ (d : RawDomain). d.name) ds)) name ≡ true
+    → InRange (unwrap_or
+    (option_map count_of
+    (option_map (λ (d : RawDomain). d.shape)
+    (find (λ (d : RawDomain). is_same name d.name.name) ds))) 0)
 declared-in name [] all there = absurd (true≢false (sym there))
-declared-in name (d ∷ ds) all there = by (is_same name d.name.name) there (declared-in name ds (and-second (has_count d) (list_all has_count ds) all))
+declared-in name (d ∷ ds) all there =
+    by (is_same name d.name.name) there
+    (declared-in name ds (and-second (has_count d) (list_all has_count ds) all))
   where
     by : (b : Bool) → (b || is_among (names_of (map (λ (d : RawDomain). d.name) ds)) name) ≡ true
-        → (is_among (names_of (map (λ (d : RawDomain). d.name) ds)) name ≡ true → InRange (unwrap_or (option_map count_of (option_map (λ (d : RawDomain). d.shape) (find (λ (d : RawDomain). is_same name d.name.name) ds))) 0))
-        → InRange (unwrap_or (option_map count_of (option_map (λ (d : RawDomain). d.shape) (cond b (Some d) (find (λ (d : RawDomain). is_same name d.name.name) ds)))) 0)
+        → (is_among (names_of (map (λ (d : RawDomain). d.name) ds)) name ≡ true
+        → InRange (unwrap_or
+        (option_map count_of
+        (option_map (λ (d : RawDomain). d.shape)
+        (find (λ (d : RawDomain). is_same name d.name.name) ds))) 0))
+        → InRange (unwrap_or
+        (option_map count_of
+        (option_map (λ (d : RawDomain). d.shape)
+        (cond b (Some d) (find (λ (d : RawDomain). is_same name d.name.name) ds)))) 0)
     by true h rest = count-in d (and-first (has_count d) (list_all has_count ds) all)
     by false h rest = rest h
 
-pub state-in : (net : RawNet) (w : Word) → IsSound net → is_name_of (domain_words net) w.name ≡ true → InRange (count_at net (Some w))
+pub state-in : (net : RawNet) (w : Word) → IsSound net → is_name_of (domain_words net) w.name ≡ true
+    → InRange (count_at net (Some w))
 state-in net w s there = declared-in w.name net.domains s.counts there
 
 module _ (net : RawNet) (sound : IsSound net) where
   one-in : InRange 1
   one-in = (omega arith, omega arith)
 
-  word-in : (o : Option Word) → missing (is_name_of (domain_words net)) (option_to_list o) ≡ [] → InRange (count_at net o)
+  word-in : (o : Option Word) → missing (is_name_of (domain_words net)) (option_to_list o) ≡ []
+      → InRange (count_at net o)
   word-in None none = one-in
-  word-in (Some w) none = state-in net w sound (holds (is_name_of (domain_words net) w.name) w.at (first-nil (unless (is_name_of (domain_words net) w.name) w.at) [] none))
+  word-in (Some w) none =
+      state-in net w sound
+      (holds (is_name_of (domain_words net) w.name) w.at
+      (first-nil (unless (is_name_of (domain_words net) w.name) w.at) [] none))
 
-  used-in : (name : List ℕ) (es : List RawEvent) → missing (is_name_of (domain_words net)) (flat_map (λ (e : RawEvent). option_to_list e.domain) es) ≡ []
-      → InRange (count_at net (option_and_then (λ (e : RawEvent). e.domain) (find (λ (e : RawEvent). is_same name e.name.name) es)))
+  used-in : (name : List ℕ) (es : List RawEvent)
+      → missing (is_name_of (domain_words net))
+      (flat_map (λ (e : RawEvent). option_to_list e.domain) es) ≡ []
+      → InRange (count_at net
+      (option_and_then (λ (e : RawEvent). e.domain)
+      (find (λ (e : RawEvent). is_same name e.name.name) es)))
   used-in name [] none = one-in
-  used-in name (e ∷ es) none = by (is_same name e.name.name) (used-in name es (rest-nil (missing (is_name_of (domain_words net)) (option_to_list e.domain)) (missing (is_name_of (domain_words net)) (flat_map (λ (e : RawEvent). option_to_list e.domain) es)) split))
+  used-in name (e ∷ es) none =
+      by (is_same name e.name.name)
+      (used-in name es
+      (rest-nil (missing (is_name_of (domain_words net)) (option_to_list e.domain))
+      (missing (is_name_of (domain_words net))
+      (flat_map (λ (e : RawEvent). option_to_list e.domain) es)) split))
     where
-      split : missing (is_name_of (domain_words net)) (option_to_list e.domain) ++ missing (is_name_of (domain_words net)) (flat_map (λ (e : RawEvent). option_to_list e.domain) es) ≡ []
-      split = sym (flat_map-append (λ (word : Word). unless (is_name_of (domain_words net) word.name) word.at) (option_to_list e.domain) (flat_map (λ (e : RawEvent). option_to_list e.domain) es)) ∙ none
+      split : missing (is_name_of (domain_words net)) (option_to_list e.domain)
+          ++ missing (is_name_of (domain_words net))
+          (flat_map (λ (e : RawEvent). option_to_list e.domain) es) ≡ []
+      split = sym (flat_map-append
+          (λ (word : Word). unless (is_name_of (domain_words net) word.name) word.at)
+          (option_to_list e.domain)
+          (flat_map (λ (e : RawEvent). option_to_list e.domain) es)) ∙ none
 
-      by : (b : Bool) → InRange (count_at net (option_and_then (λ (e : RawEvent). e.domain) (find (λ (e : RawEvent). is_same name e.name.name) es)))
-          → InRange (count_at net (option_and_then (λ (e : RawEvent). e.domain) (cond b (Some e) (find (λ (e : RawEvent). is_same name e.name.name) es))))
-      by true rest = word-in e.domain (first-nil (missing (is_name_of (domain_words net)) (option_to_list e.domain)) (missing (is_name_of (domain_words net)) (flat_map (λ (e : RawEvent). option_to_list e.domain) es)) split)
+      by : (b : Bool)
+          → InRange (count_at net
+          (option_and_then (λ (e : RawEvent). e.domain)
+          (find (λ (e : RawEvent). is_same name e.name.name) es)))
+          → InRange (count_at net
+          (option_and_then (λ (e : RawEvent). e.domain)
+          (cond b (Some e) (find (λ (e : RawEvent). is_same name e.name.name) es))))
+      by true rest = word-in e.domain
+          (first-nil (missing (is_name_of (domain_words net)) (option_to_list e.domain))
+          (missing (is_name_of (domain_words net))
+          (flat_map (λ (e : RawEvent). option_to_list e.domain) es)) split)
       by false rest = rest
 
   pub event-in : (name : List ℕ) → InRange (count_at net (event_domain net name))
@@ -107,5 +170,6 @@ module _ (net : RawNet) (sound : IsSound net) where
 pub under-cap : (x n : ℕ) → x ≡ min 65537 n → n ≤ 33 → x ≡ n
 under-cap x n e h = grind (arith, e, h)
 
-pub state-few : (net : RawNet) (w : Word) → IsSound net → is_name_of (domain_words net) w.name ≡ true → count_at net (Some w) ≤ 33
+pub state-few : (net : RawNet) (w : Word) → IsSound net
+    → is_name_of (domain_words net) w.name ≡ true → count_at net (Some w) ≤ 33
 state-few net w s there = omega (arith, (state-in net w s there).1)

@@ -5,7 +5,8 @@ use Rattle.domains.specs.Names.{is_same}
 use Rattle.net_names.specs.Numbers.{is_among, number_in}
 
 -- whether a name has a number
-pub among-number : (names : List (List ℕ)) (name : List ℕ) → is_some (number_in names name) ≡ is_among names name
+pub among-number : (names : List (List ℕ)) (name : List ℕ)
+    → is_some (number_in names name) ≡ is_among names name
 among-number [] name = refl
 among-number (n ∷ names) name = by (is_same name n) (among-number names name)
   where
@@ -13,6 +14,8 @@ among-number (n ∷ names) name = by (is_same name n) (among-number names name)
     mapped None = refl
     mapped (Some x) = refl
 
-    by : (b : Bool) → is_some (number_in names name) ≡ is_among names name → is_some (cond b (Some 0) (option_map suc (number_in names name))) ≡ (b || is_among names name)
+    by : (b : Bool) → is_some (number_in names name) ≡ is_among names name
+        → is_some (cond b (Some 0) (option_map suc (number_in names name)))
+        ≡ (b || is_among names name)
     by true h = refl
     by false h = mapped (number_in names name) ∙ h

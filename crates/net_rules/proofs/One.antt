@@ -19,7 +19,8 @@ use Rattle.net_rules.specs.Unique.{OneNetwork}
 use Rattle.net_rules.proofs.Same.{same_row, same_machine, same_network}
 
 -- two lists that match one, item by item, are the same
-alike : {A B : Type 0} (R : A → B → Type 0) → ((a : A) (x y : B) → R a x → R a y → x ≡ y) → (raw : List A) (xs ys : List B) → AllZip R raw xs → AllZip R raw ys → xs ≡ ys
+alike : {A B : Type 0} (R : A → B → Type 0) → ((a : A) (x y : B) → R a x → R a y → x ≡ y)
+    → (raw : List A) (xs ys : List B) → AllZip R raw xs → AllZip R raw ys → xs ≡ ys
 alike R one [] [] [] p q = refl
 alike R one [] [] (y ∷ ys) p q = absurd q
 alike R one [] (x ∷ xs) ys p q = absurd p
@@ -40,12 +41,15 @@ same_span a b p q = λ i. record {
 
 one_domain : (shape : RawShape) (a b : Domain) → IsDomainOf shape a → IsDomainOf shape b → a ≡ b
 one_domain (shapes.Names words) a b p q = p ∙ sym q
-one_domain (shapes.Range first last) a b p q = p.1 ∙ ap domains.Range (same_span p.0 q.0 (p.2 ∙ sym q.2) (p.3 ∙ sym q.3)) ∙ sym q.1
+one_domain (shapes.Range first last) a b p q =
+    p.1 ∙ ap domains.Range (same_span p.0 q.0 (p.2 ∙ sym q.2) (p.3 ∙ sym q.3)) ∙ sym q.1
 
-one_row : (net : RawNet) (m : RawMachine) (raw : RawRow) (a b : Row) → IsRowOf net m raw a → IsRowOf net m raw b → a ≡ b
+one_row : (net : RawNet) (m : RawMachine) (raw : RawRow) (a b : Row) → IsRowOf net m raw a
+    → IsRowOf net m raw b → a ≡ b
 one_row net m raw a b p q = same_row a b (p.conds ∙ sym q.conds) (p.acts ∙ sym q.acts)
 
-one_machine : (net : RawNet) (raw : RawMachine) (a b : Machine) → IsMachineOf net raw a → IsMachineOf net raw b → a ≡ b
+one_machine : (net : RawNet) (raw : RawMachine) (a b : Machine) → IsMachineOf net raw a
+    → IsMachineOf net raw b → a ≡ b
 one_machine net raw a b p q = same_machine a b (record {
   name = p.name ∙ sym q.name;
   priority = p.priority ∙ sym q.priority;
@@ -60,7 +64,9 @@ one_machine net raw a b p q = same_machine a b (record {
 pub one_network : OneNetwork
 one_network raw a b p q = same_network a b (record {
   name = p.name ∙ sym q.name;
-  domains = alike (λ (d : RawDomain). IsDomainOf d.shape) (λ d. one_domain d.shape) raw.domains a.domains b.domains p.domains q.domains;
+  domains = alike (λ (d : RawDomain). IsDomainOf d.shape) (λ d. one_domain d.shape) raw.domains
+      a.domains b.domains p.domains q.domains;
   events = p.events ∙ sym q.events;
-  machines = alike (IsMachineOf raw) (one_machine raw) raw.machines a.machines b.machines p.machines q.machines;
+  machines = alike (IsMachineOf raw) (one_machine raw) raw.machines a.machines b.machines p.machines
+      q.machines;
 })

@@ -13,7 +13,13 @@ use Rattle.transition_table.specs.MachineFacts.{are_vars, are_results, is_row, i
 use Rattle.transition_table.specs.NetworkFacts.{has_receivers, has_sender, lists_once, has_vars, has_outputs, is_numbered, has_domain}
 
 pub same_row : (a b : Row) → a.conds ≡ b.conds → a.acts ≡ b.acts → a ≡ b
-same_row a b p q = λ i. record { conds = p i; acts = q i; actions = is_prop→PathP (λ j. IsTrue (are_actions (q j))) (λ j. Bool-set _ _) a.actions b.actions i }
+same_row a b p q =
+    λ i. record {
+      conds = p i;
+      acts = q i;
+      actions = is_prop→PathP (λ j. IsTrue (are_actions (q j))) (λ j. Bool-set _ _) a.actions
+          b.actions i;
+    }
 
 -- the machines have the same data
 pub record SameMachine (a b : Machine) : Type 0 where
@@ -36,10 +42,18 @@ same_machine a b s = λ i. record {
   vars = s.vars i;
   results = s.results i;
   rows = s.rows i;
-  sized_vars = is_prop→PathP (λ j. IsTrue (are_vars (s.inputs j) (s.states j) (s.vars j))) (λ j. Bool-set _ _) a.sized_vars b.sized_vars i;
-  sized_results = is_prop→PathP (λ j. IsTrue (are_results (s.inputs j) (s.outputs j) (s.states j) (s.vars j) (s.results j))) (λ j. Bool-set _ _) a.sized_results b.sized_results i;
-  fitting_rows = is_prop→PathP (λ j. IsTrue (list_all (is_row (s.inputs j) (s.vars j) (s.results j)) (s.rows j))) (λ j. Bool-set _ _) a.fitting_rows b.fitting_rows i;
-  small = is_prop→PathP (λ j. IsTrue (is_small (s.inputs j) (s.outputs j) (s.states j) (s.vars j) (s.rows j))) (λ j. Bool-set _ _) a.small b.small i;
+  sized_vars = is_prop→PathP (λ j. IsTrue (are_vars (s.inputs j) (s.states j) (s.vars j)))
+      (λ j. Bool-set _ _) a.sized_vars b.sized_vars i;
+  sized_results =
+      is_prop→PathP (λ j.
+      IsTrue (are_results (s.inputs j) (s.outputs j) (s.states j) (s.vars j) (s.results j)))
+      (λ j. Bool-set _ _) a.sized_results b.sized_results i;
+  fitting_rows = is_prop→PathP (λ j.
+      IsTrue (list_all (is_row (s.inputs j) (s.vars j) (s.results j)) (s.rows j)))
+      (λ j. Bool-set _ _) a.fitting_rows b.fitting_rows i;
+  small = is_prop→PathP
+      (λ j. IsTrue (is_small (s.inputs j) (s.outputs j) (s.states j) (s.vars j) (s.rows j)))
+      (λ j. Bool-set _ _) a.small b.small i;
 }
 
 -- the networks have the same data
@@ -55,16 +69,35 @@ same_network a b s = λ i. record {
   domains = s.domains i;
   events = s.events i;
   machines = s.machines i;
-  few_domains = is_prop→PathP (λ j. length (s.domains j) ≤ 64) (λ j. le_prop) a.few_domains b.few_domains i;
-  few_events = is_prop→PathP (λ j. length (s.events j) ≤ 256) (λ j. le_prop) a.few_events b.few_events i;
-  few_machines = is_prop→PathP (λ j. length (s.machines j) ≤ 64) (λ j. le_prop) a.few_machines b.few_machines i;
-  event_names = is_prop→PathP (λ j. IsTrue (are_distinct (map (λ event. event.name) (s.events j)))) (λ j. Bool-set _ _) a.event_names b.event_names i;
-  machine_names = is_prop→PathP (λ j. IsTrue (are_distinct (map (λ machine. machine.name) (s.machines j)))) (λ j. Bool-set _ _) a.machine_names b.machine_names i;
-  event_domains = is_prop→PathP (λ j. IsTrue (list_all (has_domain (s.domains j)) (s.events j))) (λ j. Bool-set _ _) a.event_domains b.event_domains i;
-  receivers = is_prop→PathP (λ j. IsTrue (list_all (has_receivers (s.machines j)) (enumerate_from 0 (s.events j)))) (λ j. Bool-set _ _) a.receivers b.receivers i;
-  senders = is_prop→PathP (λ j. IsTrue (list_all (has_sender (s.machines j)) (enumerate_from 0 (s.events j)))) (λ j. Bool-set _ _) a.senders b.senders i;
-  numbered = is_prop→PathP (λ j. IsTrue (list_all (is_numbered (s.domains j) (s.events j)) (s.machines j))) (λ j. Bool-set _ _) a.numbered b.numbered i;
-  once = is_prop→PathP (λ j. IsTrue (list_all lists_once (s.machines j))) (λ j. Bool-set _ _) a.once b.once i;
-  sized_vars = is_prop→PathP (λ j. IsTrue (list_all (has_vars (s.domains j) (s.events j)) (s.machines j))) (λ j. Bool-set _ _) a.sized_vars b.sized_vars i;
-  sized_outputs = is_prop→PathP (λ j. IsTrue (list_all (has_outputs (s.domains j) (s.events j)) (s.machines j))) (λ j. Bool-set _ _) a.sized_outputs b.sized_outputs i;
+  few_domains = is_prop→PathP (λ j. length (s.domains j) ≤ 64) (λ j. le_prop) a.few_domains
+      b.few_domains i;
+  few_events = is_prop→PathP (λ j. length (s.events j) ≤ 256) (λ j. le_prop) a.few_events
+      b.few_events i;
+  few_machines = is_prop→PathP (λ j. length (s.machines j) ≤ 64) (λ j. le_prop) a.few_machines
+      b.few_machines i;
+  event_names = is_prop→PathP (λ j. IsTrue (are_distinct (map (λ event. event.name) (s.events j))))
+      (λ j. Bool-set _ _) a.event_names b.event_names i;
+  machine_names =
+      is_prop→PathP (λ j. IsTrue (are_distinct (map (λ machine. machine.name) (s.machines j))))
+      (λ j. Bool-set _ _) a.machine_names b.machine_names i;
+  event_domains =
+      is_prop→PathP (λ j. IsTrue (list_all (has_domain (s.domains j)) (s.events j)))
+      (λ j. Bool-set _ _) a.event_domains b.event_domains i;
+  receivers = is_prop→PathP
+      (λ j. IsTrue (list_all (has_receivers (s.machines j)) (enumerate_from 0 (s.events j))))
+      (λ j. Bool-set _ _) a.receivers b.receivers i;
+  senders = is_prop→PathP
+      (λ j. IsTrue (list_all (has_sender (s.machines j)) (enumerate_from 0 (s.events j))))
+      (λ j. Bool-set _ _) a.senders b.senders i;
+  numbered = is_prop→PathP
+      (λ j. IsTrue (list_all (is_numbered (s.domains j) (s.events j)) (s.machines j)))
+      (λ j. Bool-set _ _) a.numbered b.numbered i;
+  once = is_prop→PathP (λ j. IsTrue (list_all lists_once (s.machines j))) (λ j. Bool-set _ _) a.once
+      b.once i;
+  sized_vars = is_prop→PathP
+      (λ j. IsTrue (list_all (has_vars (s.domains j) (s.events j)) (s.machines j)))
+      (λ j. Bool-set _ _) a.sized_vars b.sized_vars i;
+  sized_outputs =
+      is_prop→PathP (λ j. IsTrue (list_all (has_outputs (s.domains j) (s.events j)) (s.machines j)))
+      (λ j. Bool-set _ _) a.sized_outputs b.sized_outputs i;
 }

@@ -13,7 +13,8 @@ shape-value (shapes.Names []) ts h = absurd h.4.3
 shape-value (shapes.Names (word ∷ words)) ts h = refl
 shape-value (shapes.Range first last) ts h = refl
 
-all-values : (domains : List RawDomain) (ts : List Lexeme) → Each IsDomain domains ts → list_all (λ (d : RawDomain). has_value d.shape) domains ≡ true
+all-values : (domains : List RawDomain) (ts : List Lexeme) → Each IsDomain domains ts
+    → list_all (λ (d : RawDomain). has_value d.shape) domains ≡ true
 all-values [] ts h = refl
 all-values (d ∷ domains) ts h =
     let own = shape-value d.shape h.3.4.4.1 h.3.4.4.4 in

@@ -17,8 +17,16 @@ mix_machine_0 = record {
   vars = 2 ∷ 8 ∷ 3 ∷ 7 ∷ [];
   results = 2 ∷ 4 ∷ 8 ∷ 4 ∷ [];
   rows =
-      record { conds = has_codes 0 2 ∷ has_codes 2 5 ∷ has_codes 1 128 ∷ []; acts = gives 1 2 ∷ gives 2 1 ∷ gives 3 3 ∷ []; actions = refl }
-      ∷ record { conds = has_codes 0 1 ∷ has_codes 1 6 ∷ has_codes 3 4 ∷ []; acts = gives 3 1 ∷ []; actions = refl }
+      record {
+        conds = has_codes 0 2 ∷ has_codes 2 5 ∷ has_codes 1 128 ∷ [];
+        acts = gives 1 2 ∷ gives 2 1 ∷ gives 3 3 ∷ [];
+        actions = refl;
+      }
+      ∷ record {
+        conds = has_codes 0 1 ∷ has_codes 1 6 ∷ has_codes 3 4 ∷ [];
+        acts = gives 3 1 ∷ [];
+        actions = refl;
+      }
       ∷ record { conds = has_codes 0 2 ∷ has_codes 1 1 ∷ []; acts = []; actions = refl } ∷ [];
   sized_vars = refl;
   sized_results = refl;

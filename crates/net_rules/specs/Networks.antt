@@ -38,12 +38,15 @@ use Rattle.net_names.specs.Scopes.{domain_words, event_words, state_words, is_to
 
 -- the number of a value of the domain of this name
 abbrev pub value_number : RawNet → Option Word → RawValue → ℕ
-value_number net domain value = unwrap_or (option_and_then (λ shape. value_in shape value) (shape_at net domain)) 0
+value_number net domain value =
+    unwrap_or (option_and_then (λ shape. value_in shape value) (shape_at net domain)) 0
 
 -- the domain has these names, or these numbers
 abbrev pub IsDomainOf : RawShape → Domain → Type 0
 IsDomainOf (shapes.Names words) domain = domain ≡ domains.Names (names_of words)
-IsDomainOf (shapes.Range first last) domain = (span : Span) × (domain ≡ domains.Range span) × (span.first ≡ first.number) × (span.last ≡ last.number)
+IsDomainOf (shapes.Range first last) domain =
+    (span : Span) × (domain ≡ domains.Range span) × (span.first ≡ first.number)
+    × (span.last ≡ last.number)
 
 -- the machines that have a name in a list
 abbrev pub machines_with : (RawMachine → List Word) → RawNet → List ℕ → List ℕ
@@ -54,7 +57,8 @@ abbrev pub party_of : List ℕ → Party
 party_of [] = Env
 party_of (m ∷ rest) = Sender m
 
--- the machine that emits it sends it, or else the environment, and the machines that read it receive it
+-- the machine that emits it sends it, or else the environment, and the machines that read it
+-- receive it
 abbrev pub event_of : RawNet → RawEvent → EventDecl
 event_of net e = record {
   name = e.name.name;
@@ -65,9 +69,15 @@ event_of net e = record {
 }
 
 abbrev pub state_of : RawNet → RawState → StateDecl
-state_of net s = record { name = s.name.name; domain = number (domain_words net) s.domain.name; init = value_number net (Some s.domain) s.init }
+state_of net s =
+    record {
+      name = s.name.name;
+      domain = number (domain_words net) s.domain.name;
+      init = value_number net (Some s.domain) s.init;
+    }
 
--- how many codes of a variable stand before that of its first value: one for an event, none for a state variable
+-- how many codes of a variable stand before that of its first value: one for an event, none for a
+-- state variable
 abbrev pub first_code : RawMachine → List ℕ → ℕ
 first_code m name = if is_among (names_of (state_words m)) name then 0 else 1
 
@@ -80,7 +90,8 @@ abbrev pub allows : RawNet → RawMachine → RawCond → ℕ → Bool
 allows net m (conds.Present w) code = not (code == 0)
 allows net m (conds.Absent w) code = code == 0
 allows net m (conds.Is w value) code = code == code_of net m w.name value
-allows net m (conds.OneOf w values) code = list_any (λ value. code == code_of net m w.name value) values
+allows net m (conds.OneOf w values) code =
+    list_any (λ value. code == code_of net m w.name value) values
 
 -- the numbers below n that pass, one bit each
 abbrev pub bits_where : (ℕ → Bool) → ℕ → ℕ
@@ -88,7 +99,8 @@ bits_where test zero = 0
 bits_where test (suc n) = if test n then bit_or (bits_where test n) (2 ^ n) else bits_where test n
 
 abbrev pub cond_of : RawNet → RawMachine → RawCond → Cond
-cond_of net m c = let var = number (var_words m) (cond_word c).name in record { var = var; codes = bits_where (allows net m c) (slice_index (var_sizes net m) var) }
+cond_of net m c = let var = number (var_words m) (cond_word c).name in
+    record { var = var; codes = bits_where (allows net m c) (slice_index (var_sizes net m) var) }
 
 -- where an action takes the code of its result from, over the domain of what it gives a value
 abbrev pub source_in : RawNet → RawMachine → Option Word → RawSource → Source
@@ -103,8 +115,16 @@ emission_source net m domain (Some source) = source_in net m domain source
 
 -- the results are `go`, then the state variables, then the outputs
 abbrev pub act_of : RawNet → RawMachine → RawAct → Act
-act_of net m (acts.Emit w source) = record { result = 1 + length m.states + number m.outputs w.name; source = emission_source net m (event_domain net w.name) source }
-act_of net m (acts.Set w source) = record { result = 1 + number (state_words m) w.name; source = source_in net m (state_domain m w.name) source }
+act_of net m (acts.Emit w source) =
+    record {
+      result = 1 + length m.states + number m.outputs w.name;
+      source = emission_source net m (event_domain net w.name) source;
+    }
+act_of net m (acts.Set w source) =
+    record {
+      result = 1 + number (state_words m) w.name;
+      source = source_in net m (state_domain m w.name) source;
+    }
 
 pub record IsRowOf (net : RawNet) (m : RawMachine) (raw : RawRow) (row : Row) : Type 0 where
   pub conds : row.conds ≡ map (cond_of net m) raw.conds
@@ -117,7 +137,8 @@ pub record IsMachineOf (net : RawNet) (raw : RawMachine) (machine : Machine) : T
   pub outputs : machine.outputs ≡ map (λ (w : Word). number (event_words net) w.name) raw.outputs
   pub states : machine.states ≡ map (state_of net) raw.states
   pub vars : machine.vars ≡ var_sizes net raw
-  pub results : machine.results ≡ 2 ∷ map (λ s. 1 + state_codes net s) raw.states ++ map (event_codes net) raw.outputs
+  pub results : machine.results ≡ 2 ∷ map (λ s. 1 + state_codes net s) raw.states
+      ++ map (event_codes net) raw.outputs
   pub rows : AllZip (IsRowOf net raw) raw.rows machine.rows
 
 -- the network of these declarations, where no rule is broken

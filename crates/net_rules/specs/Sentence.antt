@@ -15,4 +15,5 @@ has_value (shapes.Range first last) = true
 
 -- the domains of a sentence have values
 abbrev pub SentencesHaveValues : Type 0
-SentencesHaveValues = (net : RawNet) → IsOfSentence net → list_all (λ (d : RawDomain). has_value d.shape) net.domains ≡ true
+SentencesHaveValues = (net : RawNet) → IsOfSentence net
+    → list_all (λ (d : RawDomain). has_value d.shape) net.domains ≡ true

@@ -40,18 +40,24 @@ amount_of (Some (sources.Add w n)) = n.number
 
 -- a row keeps the rules of conditions and of actions
 pub record IsSoundRow (net : RawNet) (m : RawMachine) (row : RawRow) : Type 0 where
-  pub known : flat_map (λ (c : RawCond). unless (is_name_of (m.inputs ++ state_words m) (cond_word c).name) (cond_word c).at) row.conds ≡ []
-  pub targets : not_once m.outputs (flat_map emitted row.acts) ++ not_once (state_words m) (flat_map set_names row.acts) ≡ []
+  pub known : flat_map
+      (λ (c : RawCond). unless (is_name_of (m.inputs ++ state_words m) (cond_word c).name)
+      (cond_word c).at) row.conds ≡ []
+  pub targets : not_once m.outputs (flat_map emitted row.acts)
+      ++ not_once (state_words m) (flat_map set_names row.acts) ≡ []
   pub acts : Each (IsSoundAct net m row) row.acts
 
 -- a machine keeps the rules of machines
 pub record IsSoundMachine (net : RawNet) (m : RawMachine) : Type 0 where
   pub ports : missing (is_name_of (event_words net)) (m.inputs ++ m.outputs) ≡ []
-  pub once : repeated no_name m.inputs ++ repeated no_name m.outputs ++ repeated (is_name_of (m.inputs ++ m.outputs)) (state_words m) ≡ []
+  pub once : repeated no_name m.inputs ++ repeated no_name m.outputs
+      ++ repeated (is_name_of (m.inputs ++ m.outputs)) (state_words m) ≡ []
   pub small : is_small m ≡ true
   pub priority : nat_le m.priority.number 255 ≡ true
-  pub domains : missing (is_name_of (domain_words net)) (map (λ (s : RawState). s.domain) m.states) ≡ []
-  pub inits : flat_map (λ (s : RawState). no_value (shape_of net s.domain.name) s.init) m.states ≡ []
+  pub domains : missing (is_name_of (domain_words net))
+      (map (λ (s : RawState). s.domain) m.states) ≡ []
+  pub inits : flat_map (λ (s : RawState). no_value (shape_of net s.domain.name) s.init)
+      m.states ≡ []
   pub rows : Each (IsSoundRow net m) m.rows
   pub snapshots : nat_le (product (var_sizes net m)) 65536 ≡ true
 
@@ -64,7 +70,8 @@ pub record IsSound (net : RawNet) : Type 0 where
   pub names : rule_3 net ≡ []
   pub order : Each (λ (d : RawDomain). disorder d.shape ≡ []) net.domains
   pub counts : list_all has_count net.domains ≡ true
-  pub events : missing (is_name_of (domain_words net)) (flat_map (λ (e : RawEvent). option_to_list e.domain) net.events) ≡ []
+  pub events : missing (is_name_of (domain_words net))
+      (flat_map (λ (e : RawEvent). option_to_list e.domain) net.events) ≡ []
   pub ports : rule_7 net ≡ []
   pub senders : rule_11 net ≡ []
   pub machines : Each (IsSoundMachine net) net.machines

@@ -19,7 +19,8 @@ pub(crate) fn with_code(codes: u64, code: u64) -> u64
 // The codes of the set below a size.
 pub(crate) fn below(codes: u64, size: u64) -> u64
     requires { size < 64 }
-    ensures { (test : ℕ → Bool) → ((c : ℕ) → c < size → (bit_at codes c == 1) ≡ test c) → result ≡ bits_where test size }
+    ensures { (test : ℕ → Bool) → ((c : ℕ) → c < size → (bit_at codes c == 1) ≡ test c)
+        → result ≡ bits_where test size }
 {
     codes & ((1 << size) - 1)
 }

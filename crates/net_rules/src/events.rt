@@ -28,7 +28,8 @@ fn sends(machine: &RawMachine, name: &Name) -> bool
 // The machines that read an event.
 fn receivers_of(alloc: Global, machines: &[RawMachine], name: &Name) -> Result<Numbers, NoMemory>
     requires { length machines.now ≤ 64 }
-    ensures { IfOk result (λ numbers. numbers ≡ places_where (λ m. is_name_of m.inputs name.now) machines.now) }
+    ensures { IfOk result (λ numbers. numbers
+        ≡ places_where (λ m. is_name_of m.inputs name.now) machines.now) }
 {
     let mut numbers = Numbers::new(alloc);
     for (number, machine) in machines.iter().enumerate() {
@@ -61,7 +62,8 @@ fn is_to_env(env: RawEnv) -> bool
 // The machines that read an event.
 fn readers(alloc: Global, raw: &RawNet, name: &Name) -> Result<Numbers, NoMemory>
     requires { length raw.now.machines ≤ 64 }
-    ensures { IfOk result (λ numbers. numbers ≡ machines_with (λ (m : RawMachine). m.inputs) raw.now name.now) }
+    ensures { IfOk result (λ numbers. numbers
+        ≡ machines_with (λ (m : RawMachine). m.inputs) raw.now name.now) }
 {
     receivers_of(alloc, raw.machines.as_slice(), name)
 }
@@ -94,7 +96,8 @@ fn event_of(alloc: Global, scope: &Scope, event: &RawEvent) -> Result<EventDecl,
 pub(crate) fn events_of(alloc: Global, scope: &Scope) -> Result<EventList, NoMemory>
     requires domains { length scope.now.raw.now.domains ≤ 64 }
     requires machines { length scope.now.raw.now.machines ≤ 64 }
-    ensures { IfOk result (λ events. events ≡ map (event_of scope.now.raw.now) scope.now.raw.now.events) }
+    ensures { IfOk result (λ events. events
+        ≡ map (event_of scope.now.raw.now) scope.now.raw.now.events) }
 {
     let mut events = EventList::new(alloc);
     for event in scope.raw.events.as_slice() {

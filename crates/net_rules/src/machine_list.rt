@@ -18,7 +18,8 @@ use transition_table::{Machine, MachineList, StateDecl, StateList};
 // The numbers of events.
 fn event_numbers(alloc: Global, scope: &Scope, words: &[Word]) -> Result<Numbers, NoMemory>
     requires { length scope.now.raw.now.events ≤ 256 }
-    ensures { IfOk result (λ numbers. numbers ≡ map (λ (w : Declared). number (event_words scope.now.raw.now) w.name) words.now) }
+    ensures { IfOk result (λ numbers. numbers
+        ≡ map (λ (w : Declared). number (event_words scope.now.raw.now) w.name) words.now) }
 {
     let mut numbers = Numbers::new(alloc);
     for word in words {

@@ -38,7 +38,8 @@ pub(crate) fn value_number(scope: &Scope, domain: &Option<Word>, value: &RawValu
 // The number of a value among these, 0 where it is none or there are none.
 fn shape_number(shape: Option<&RawShape>, value: &RawValue) -> u64
     requires { IfSome (option_copied shape) (λ s. count_of s ≤ 32) }
-    ensures number { result ≡ unwrap_or (option_and_then (λ s. value_in s value.now) (option_copied shape.entry)) 0 }
+    ensures number { result ≡ unwrap_or
+        (option_and_then (λ s. value_in s value.now) (option_copied shape.entry)) 0 }
     ensures small { result ≤ 32 }
 {
     match shape {
@@ -51,7 +52,9 @@ fn shape_number(shape: Option<&RawShape>, value: &RawValue) -> u64
 fn value_codes(shape: Option<&RawShape>, first: u64, values: &[RawValue]) -> u64
     requires count { IfSome (option_copied shape) (λ s. count_of s ≤ 32) }
     requires first { first ≤ 1 }
-    ensures { (c : ℕ) → (bit_at result c == 1) ≡ list_any (λ v. c == first + unwrap_or (option_and_then (λ s. value_in s v) (option_copied shape.entry)) 0) values.now }
+    ensures { (c : ℕ) → (bit_at result c == 1)
+        ≡ list_any (λ v. c == first + unwrap_or
+        (option_and_then (λ s. value_in s v) (option_copied shape.entry)) 0) values.now }
 {
     let mut codes = 0;
     for value in values {
@@ -72,7 +75,9 @@ fn first_code(var: &Var) -> u64
 fn named_codes(local: &Local, name: Name, var: &Var, values: &[RawValue]) -> u64
     requires sound { IsSound local.now.scope.now.raw.now }
     requires var { IsVar local.now.scope.now.raw.now local.now.machine.now name var.now }
-    ensures { (c : ℕ) → (bit_at result c == 1) ≡ list_any (λ v. c == code_of local.now.scope.now.raw.now local.now.machine.now name v) values.now }
+    ensures { (c : ℕ) → (bit_at result c == 1)
+        ≡ list_any (λ v. c == code_of local.now.scope.now.raw.now local.now.machine.now name v)
+        values.now }
 {
     value_codes(var.shape, first_code(var), values)
 }
@@ -81,7 +86,8 @@ fn named_codes(local: &Local, name: Name, var: &Var, values: &[RawValue]) -> u64
 fn named_code(local: &Local, name: Name, var: &Var, value: &RawValue) -> u64
     requires sound { IsSound local.now.scope.now.raw.now }
     requires var { IsVar local.now.scope.now.raw.now local.now.machine.now name var.now }
-    ensures code { result ≡ code_of local.now.scope.now.raw.now local.now.machine.now name value.now }
+    ensures code { result ≡ code_of local.now.scope.now.raw.now local.now.machine.now name
+        value.now }
     ensures small { result ≤ 33 }
 {
     first_code(var) + shape_number(var.shape, value)
@@ -90,8 +96,10 @@ fn named_code(local: &Local, name: Name, var: &Var, value: &RawValue) -> u64
 // The codes that a condition on this variable allows.
 fn allowed(local: &Local, var: &Var, cond: &RawCond) -> u64
     requires sound { IsSound local.now.scope.now.raw.now }
-    requires var { IsVar local.now.scope.now.raw.now local.now.machine.now (cond_word cond.now).name var.now }
-    ensures { (c : ℕ) → c < 64 → (bit_at result c == 1) ≡ allows local.now.scope.now.raw.now local.now.machine.now cond.now c }
+    requires var { IsVar local.now.scope.now.raw.now local.now.machine.now (cond_word cond.now).name
+        var.now }
+    ensures { (c : ℕ) → c < 64 → (bit_at result c == 1)
+        ≡ allows local.now.scope.now.raw.now local.now.machine.now cond.now c }
 {
     match cond {
         RawCond::Present(_) => !1,
@@ -109,10 +117,12 @@ fn cond_of<'s, 'a>(
     cond: &RawCond,
 ) -> Cond
     requires sound { IsSound local.now.scope.now.raw.now }
-    requires variables { AreVars local.now.scope.now.raw.now local.now.machine.now (var_words local.now.machine.now) known.now }
+    requires variables { AreVars local.now.scope.now.raw.now local.now.machine.now
+        (var_words local.now.machine.now) known.now }
     requires vars { vars.now ≡ var_sizes local.now.scope.now.raw.now local.now.machine.now }
     requires kept { IsSoundMachine local.now.scope.now.raw.now local.now.machine.now }
-    requires known { is_name_of (local.now.machine.now.inputs ++ state_words local.now.machine.now) (cond_word cond.now).name ≡ true }
+    requires known { is_name_of (local.now.machine.now.inputs ++ state_words local.now.machine.now)
+        (cond_word cond.now).name ≡ true }
     ensures { result ≡ cond_of local.now.scope.now.raw.now local.now.machine.now cond.now }
 {
     let name = cond_word(cond).name;
@@ -133,11 +143,15 @@ fn conds_of<'s, 'a>(
     conds: &[RawCond],
 ) -> Result<CondList, NoMemory>
     requires sound { IsSound local.now.scope.now.raw.now }
-    requires variables { AreVars local.now.scope.now.raw.now local.now.machine.now (var_words local.now.machine.now) known.now }
+    requires variables { AreVars local.now.scope.now.raw.now local.now.machine.now
+        (var_words local.now.machine.now) known.now }
     requires vars { vars.now ≡ var_sizes local.now.scope.now.raw.now local.now.machine.now }
     requires kept { IsSoundMachine local.now.scope.now.raw.now local.now.machine.now }
-    requires known { Each (λ (c : Declared). is_name_of (local.now.machine.now.inputs ++ state_words local.now.machine.now) (cond_word c).name ≡ true) conds.now }
-    ensures { IfOk result (λ made. made ≡ map (cond_of local.now.scope.now.raw.now local.now.machine.now) conds.now) }
+    requires known { Each
+        (λ (c : Declared). is_name_of (local.now.machine.now.inputs
+        ++ state_words local.now.machine.now) (cond_word c).name ≡ true) conds.now }
+    ensures { IfOk result (λ made. made
+        ≡ map (cond_of local.now.scope.now.raw.now local.now.machine.now) conds.now) }
 {
     let mut made = CondList::new(alloc);
     for cond in conds {
@@ -151,7 +165,8 @@ fn source_in(local: &Local, domain: &Option<Word>, source: &RawSource) -> Source
     requires sound { IsSound local.now.scope.now.raw.now }
     requires kept { IsSoundMachine local.now.scope.now.raw.now local.now.machine.now }
     requires small { amount_of (Some source.now) ≤ 255 }
-    ensures { result ≡ source_in local.now.scope.now.raw.now local.now.machine.now domain.now source.now }
+    ensures { result ≡ source_in local.now.scope.now.raw.now local.now.machine.now domain.now
+        source.now }
 {
     match source {
         RawSource::Value(value) => {
@@ -167,7 +182,8 @@ fn emission_source(local: &Local, domain: &Option<Word>, source: &Option<RawSour
     requires sound { IsSound local.now.scope.now.raw.now }
     requires kept { IsSoundMachine local.now.scope.now.raw.now local.now.machine.now }
     requires small { amount_of source.now ≤ 255 }
-    ensures { result ≡ emission_source local.now.scope.now.raw.now local.now.machine.now domain.now source.now }
+    ensures { result ≡ emission_source local.now.scope.now.raw.now local.now.machine.now domain.now
+        source.now }
 {
     match source {
         Some(source) => source_in(local, domain, source),
@@ -179,7 +195,8 @@ fn emission_source(local: &Local, domain: &Option<Word>, source: &Option<RawSour
 fn output_result(local: &Local, name: Name) -> u32
     requires sound { IsSound local.now.scope.now.raw.now }
     requires kept { IsSoundMachine local.now.scope.now.raw.now local.now.machine.now }
-    ensures { result ≡ 1 + length local.now.machine.now.states + number local.now.machine.now.outputs name }
+    ensures { result ≡ 1 + length local.now.machine.now.states
+        + number local.now.machine.now.outputs name }
 {
     (1 + local.machine.states.len() + local.output_number(name)) as u32
 }
@@ -222,7 +239,8 @@ fn acts_of(alloc: Global, local: &Local, acts: &[RawAct]) -> Result<ActList, NoM
     requires sound { IsSound local.now.scope.now.raw.now }
     requires kept { IsSoundMachine local.now.scope.now.raw.now local.now.machine.now }
     requires small { Each (λ (a : DeclaredAct). amount_of (source_of a) ≤ 255) acts.now }
-    ensures { IfOk result (λ made. made ≡ map (act_of local.now.scope.now.raw.now local.now.machine.now) acts.now) }
+    ensures { IfOk result (λ made. made
+        ≡ map (act_of local.now.scope.now.raw.now local.now.machine.now) acts.now) }
 {
     let mut made = ActList::new(alloc);
     for act in acts {
@@ -240,11 +258,13 @@ fn row_of<'s, 'a>(
     row: &RawRow,
 ) -> Result<Row, NoMemory>
     requires sound { IsSound local.now.scope.now.raw.now }
-    requires variables { AreVars local.now.scope.now.raw.now local.now.machine.now (var_words local.now.machine.now) known.now }
+    requires variables { AreVars local.now.scope.now.raw.now local.now.machine.now
+        (var_words local.now.machine.now) known.now }
     requires vars { vars.now ≡ var_sizes local.now.scope.now.raw.now local.now.machine.now }
     requires kept { IsSoundMachine local.now.scope.now.raw.now local.now.machine.now }
     requires row { IsSoundRow local.now.scope.now.raw.now local.now.machine.now row.now }
-    ensures { IfOk result (λ made. IsRowOf local.now.scope.now.raw.now local.now.machine.now row.now made) }
+    ensures { IfOk result
+        (λ made. IsRowOf local.now.scope.now.raw.now local.now.machine.now row.now made) }
 {
     let conds = conds_of(alloc, local, known, vars, row.conds.as_slice())?;
     let acts = acts_of(alloc, local, row.acts.as_slice())?;
@@ -260,11 +280,13 @@ pub(crate) fn rows_of<'s, 'a>(
     rows: &[RawRow],
 ) -> Result<RowList, NoMemory>
     requires sound { IsSound local.now.scope.now.raw.now }
-    requires variables { AreVars local.now.scope.now.raw.now local.now.machine.now (var_words local.now.machine.now) known.now }
+    requires variables { AreVars local.now.scope.now.raw.now local.now.machine.now
+        (var_words local.now.machine.now) known.now }
     requires vars { vars.now ≡ var_sizes local.now.scope.now.raw.now local.now.machine.now }
     requires kept { IsSoundMachine local.now.scope.now.raw.now local.now.machine.now }
     requires rows { Each (IsSoundRow local.now.scope.now.raw.now local.now.machine.now) rows.now }
-    ensures { IfOk result (λ made. AllZip (IsRowOf local.now.scope.now.raw.now local.now.machine.now) rows.now made) }
+    ensures { IfOk result
+        (λ made. AllZip (IsRowOf local.now.scope.now.raw.now local.now.machine.now) rows.now made) }
 {
     let mut made = RowList::new(alloc);
     for row in rows {

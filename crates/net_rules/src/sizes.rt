@@ -46,7 +46,8 @@ fn event_sizes(scope: &Scope, words: &[Word], into: &mut VarTable) -> Result<(),
 // Appends the sizes of state variables.
 fn state_sizes(scope: &Scope, states: &[RawState], into: &mut VarTable) -> Result<(), NoMemory>
     requires sound { IsSound scope.now.raw.now }
-    requires declared { Each (λ (s : Declared). is_name_of (domain_words scope.now.raw.now) s.domain.name ≡ true) states.now }
+    requires declared { Each (λ (s : Declared). is_name_of (domain_words scope.now.raw.now) s.domain.name ≡ true)
+        states.now }
     ensures { OnOk result (into.new ≡ into.old ++ map (state_codes scope.now.raw.now) states.now) }
 {
     for state in states {
@@ -58,8 +59,10 @@ fn state_sizes(scope: &Scope, states: &[RawState], into: &mut VarTable) -> Resul
 // Appends the sizes of what sets state variables: one more each.
 fn setter_sizes(scope: &Scope, states: &[RawState], into: &mut VarTable) -> Result<(), NoMemory>
     requires sound { IsSound scope.now.raw.now }
-    requires declared { Each (λ (s : Declared). is_name_of (domain_words scope.now.raw.now) s.domain.name ≡ true) states.now }
-    ensures { OnOk result (into.new ≡ into.old ++ map (λ s. 1 + state_codes scope.now.raw.now s) states.now) }
+    requires declared { Each (λ (s : Declared). is_name_of (domain_words scope.now.raw.now) s.domain.name ≡ true)
+        states.now }
+    ensures { OnOk result (into.new ≡ into.old
+        ++ map (λ s. 1 + state_codes scope.now.raw.now s) states.now) }
 {
     for state in states {
         into.push(1 + state_size(scope, state))?;
@@ -74,7 +77,8 @@ pub(crate) fn var_sizes(
     machine: &RawMachine,
 ) -> Result<VarTable, NoMemory>
     requires sound { IsSound scope.now.raw.now }
-    requires declared { Each (λ (s : Declared). is_name_of (domain_words scope.now.raw.now) s.domain.name ≡ true) machine.now.states }
+    requires declared { Each (λ (s : Declared). is_name_of (domain_words scope.now.raw.now) s.domain.name ≡ true)
+        machine.now.states }
     ensures { IfOk result (λ vars. vars ≡ var_sizes scope.now.raw.now machine.now) }
 {
     let mut vars = VarTable::new(alloc);
@@ -90,8 +94,11 @@ pub(crate) fn results_of(
     machine: &RawMachine,
 ) -> Result<VarTable, NoMemory>
     requires sound { IsSound scope.now.raw.now }
-    requires declared { Each (λ (s : Declared). is_name_of (domain_words scope.now.raw.now) s.domain.name ≡ true) machine.now.states }
-    ensures { IfOk result (λ results. results ≡ 2 ∷ map (λ s. 1 + state_codes scope.now.raw.now s) machine.now.states ++ map (event_codes scope.now.raw.now) machine.now.outputs) }
+    requires declared { Each (λ (s : Declared). is_name_of (domain_words scope.now.raw.now) s.domain.name ≡ true)
+        machine.now.states }
+    ensures { IfOk result (λ results. results
+        ≡ 2 ∷ map (λ s. 1 + state_codes scope.now.raw.now s) machine.now.states
+        ++ map (event_codes scope.now.raw.now) machine.now.outputs) }
 {
     let mut results = VarTable::new(alloc);
     results.push(2)?;

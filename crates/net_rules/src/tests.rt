@@ -177,7 +177,8 @@ machine m priority 0 {
 }
 ";
 
-// Whether the only machine has one row, which adds 3 to its variable and passes the value of its first input on.
+// Whether the only machine has one row, which adds 3 to its variable and passes the value of its
+// first input on.
 fn is_echo(net: &Network) -> bool {
     if net.machines.len() != 1 {
         return false;

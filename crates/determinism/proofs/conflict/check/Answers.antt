@@ -7,7 +7,8 @@ use Rattle.determinism.proofs.conflict.check.Goals as goal
 -- two rows that conflict are there, and each that is there was tried
 pub returns : goal.returns
 returns c =
-    let all : length c.args.m.now.rows ≤ c.loop-a.a = rw c.row_count-a-end.ensures.count at c.loop-a-test.false in
+    let all : length c.args.m.now.rows ≤ c.loop-a.a =
+    rw c.row_count-a-end.ensures.count at c.loop-a-test.false in
     (c.laws.ensures.no_conflicts c.args.m.now).1
     (λ a b s conflict.
     let there = enabled_there s.codes c.args.m.now.rows b conflict.second in
@@ -22,7 +23,11 @@ returns-in-Some c =
       conflict = found.conflict;
       least_pair = λ p q t conflict.
           elim (cases_order c.loop-a.a p) [
-            | inl here ↦ inr (here, found.first_row q t (subst (λ k. Conflict c.args.m.now k q t) (sym here) conflict))
+            | inl here ↦ inr (
+              here,
+              found.first_row q t
+                  (subst (λ k. Conflict c.args.m.now k q t) (sym here) conflict),
+            )
             | inr other ↦ elim other [
               | inl above ↦ inl above
               | inr below ↦ absurd (c.loop-a.invariant.none p q t below conflict)

@@ -23,7 +23,9 @@ loop-b-init c =
       none = λ d t below conflict.
           elim (cases_lt d (a + 1)) [
             | inl small ↦ absurd (let order = conflict.order in omega arith)
-            | inr low ↦ none_between m marks a (a + 1) c.next_near-b.result c.get.result.now c.requires.marks (rw c.from.ensures at c.get.ensures) near.within near.apart d t low below conflict
+            | inr low ↦ none_between m marks a (a + 1) c.next_near-b.result c.get.result.now
+                c.requires.marks (rw c.from.ensures at c.get.ensures) near.within near.apart d t low
+                below conflict
           ];
     }
 
@@ -47,10 +49,13 @@ loop-b-preserved c =
           elim (cases_lt d b) [
             | inl before ↦ c.loop-b.invariant.none d t before conflict
             | inr past ↦ elim (eqb_tells d b) [
-              | inl here ↦ c.conflict_of.ensures.none c.if-conflict_of.false t (subst (λ k. Conflict m a k t) here.1 conflict)
+              | inl here ↦ c.conflict_of.ensures.none c.if-conflict_of.false t
+                  (subst (λ k. Conflict m a k t) here.1 conflict)
               | inr apart ↦
                   let differ = apart.1 in
-                  none_between m marks a (b + 1) c.next_near-b-in-loop-b.result c.get.result.now c.requires.marks (rw c.from.ensures at c.get.ensures) near.within near.apart d t (omega arith) below conflict
+                  none_between m marks a (b + 1) c.next_near-b-in-loop-b.result c.get.result.now
+                  c.requires.marks (rw c.from.ensures at c.get.ensures) near.within near.apart d
+                  t (omega arith) below conflict
             ]
           ];
     }
@@ -59,5 +64,6 @@ loop-b-preserved c =
 pub returns-clause-none : goal.returns-clause-none
 returns-clause-none c = λ d t conflict.
     let there = enabled_there t.codes c.args.machine.now.rows d conflict.second in
-    let all : length c.args.machine.now.rows ≤ c.loop-b.b = rw c.row_count.ensures.count at c.loop-b-test.false in
+    let all : length c.args.machine.now.rows ≤ c.loop-b.b =
+    rw c.row_count.ensures.count at c.loop-b-test.false in
     c.loop-b.invariant.none d t (omega arith) conflict

@@ -13,6 +13,9 @@ loop-k-preserved c =
     let end = c.len-k-end.ensures in
     record {
       same = ap length c.set.ensures ∙ length-set into k x ∙ same;
-      prefix = ap (take (k + 1)) c.set.ensures ∙ take_more_set into k x (omega arith) ∙ ap (λ (l : List ℕ). l ++ x ∷ []) c.loop-k.invariant.prefix
-          ∙ ap (λ (y : ℕ). take k from ++ y ∷ []) (sym (get_or_from_slice_get from k x 0 c.get.ensures)) ∙ sym (take_more from k 0 (omega arith));
+      prefix = ap (take (k + 1)) c.set.ensures ∙ take_more_set into k x (omega arith)
+          ∙ ap (λ (l : List ℕ). l ++ x ∷ []) c.loop-k.invariant.prefix
+          ∙ ap (λ (y : ℕ). take k from ++ y ∷ [])
+          (sym (get_or_from_slice_get from k x 0 c.get.ensures))
+          ∙ sym (take_more from k 0 (omega arith));
     }

@@ -8,13 +8,15 @@ loop-code-preserved c = record {
   same = λ k apart. c.try_code.ensures.same k apart ∙ c.loop-code.invariant.same k apart;
   none = λ t there at_u within.
       elim (eqb_tells (slice_index t c.args.v) c.loop-code.code) [
-        | inl here ↦ c.try_code.ensures.none c.if-try_code.false t there (λ apart. at_u apart ∙ sym (c.loop-code.invariant.same c.args.u apart)) here.1
+        | inl here ↦ c.try_code.ensures.none c.if-try_code.false t there
+            (λ apart. at_u apart ∙ sym (c.loop-code.invariant.same c.args.u apart)) here.1
         | inr other ↦ c.loop-code.invariant.none t there at_u (let differ = other.1 in omega arith)
       ];
 }
 
 pub returns-clause-none : goal.returns-clause-none
 returns-clause-none c = λ h t there at_u.
-    let few = c.requires.area.few c.args.v (slice_index t c.args.v) c.requires.var (there.each c.args.v c.requires.var) in
+    let few = c.requires.area.few c.args.v (slice_index t c.args.v) c.requires.var
+    (there.each c.args.v c.requires.var) in
     let all = c.loop-code-test.false in
     c.loop-code.invariant.none t there at_u (omega arith)

@@ -7,5 +7,7 @@ abbrev pub invariant-loop-code : goal.invariant-loop-code
 invariant-loop-code l = record {
   inside : IsIn l.sets l.s.codes;
   same : (k : ℕ) → k ≢ l.v → slice_index l.s.codes k ≡ slice_index l.fn.s.codes k;
-  none : (t : List ℕ) → IsIn l.sets t → (l.u ≢ l.v → slice_index t l.u ≡ slice_index l.fn.s.codes l.u) → slice_index t l.v < l.code → Differ l.machine l.first l.second l.y t → ⊥;
+  none : (t : List ℕ) → IsIn l.sets t
+      → (l.u ≢ l.v → slice_index t l.u ≡ slice_index l.fn.s.codes l.u) → slice_index t l.v < l.code
+      → Differ l.machine l.first l.second l.y t → ⊥;
 }

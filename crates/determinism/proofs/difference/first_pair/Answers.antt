@@ -10,11 +10,14 @@ returns-then-try_first-clause-some c = λ h. record {
   differ = c.try_first.ensures.differ c.if-try_first.true;
   least = λ t there differ.
       let at = c.try_first.ensures.code c.if-try_first.true in
-      pair_before c.args.sets.now c.args.s.now.codes c.try_first.new.s.codes t c.args.u c.args.v c.requires.apart c.requires.var c.requires.inside c.try_first.ensures.inside
-      (λ k not_u not_v. c.try_first.ensures.same k not_u not_v ∙ c.loop-code.invariant.same k not_u not_v)
+      pair_before c.args.sets.now c.args.s.now.codes c.try_first.new.s.codes t c.args.u c.args.v
+      c.requires.apart c.requires.var c.requires.inside c.try_first.ensures.inside
+      (λ k not_u not_v. c.try_first.ensures.same k not_u not_v
+      ∙ c.loop-code.invariant.same k not_u not_v)
       there
       (elim (cases_order (slice_index t c.args.u) c.loop-code.code) [
-        | inl here ↦ inr (at ∙ sym here, c.try_first.ensures.least c.if-try_first.true t there here differ)
+        | inl here ↦ inr
+            (at ∙ sym here, c.try_first.ensures.least c.if-try_first.true t there here differ)
         | inr other ↦ elim other [
           | inl below ↦ absurd (c.loop-code.invariant.none t there below differ)
           | inr above ↦ inl (omega arith)
@@ -25,7 +28,8 @@ returns-then-try_first-clause-some c = λ h. record {
 pub loop-code-preserved : goal.loop-code-preserved
 loop-code-preserved c = record {
   inside = c.try_first.ensures.inside;
-  same = λ k not_u not_v. c.try_first.ensures.same k not_u not_v ∙ c.loop-code.invariant.same k not_u not_v;
+  same = λ k not_u not_v. c.try_first.ensures.same k not_u not_v
+      ∙ c.loop-code.invariant.same k not_u not_v;
   none = λ t there within.
       elim (eqb_tells (slice_index t c.args.u) c.loop-code.code) [
         | inl here ↦ c.try_first.ensures.none c.if-try_first.false t there here.1
@@ -37,6 +41,7 @@ pub returns-clause-none : goal.returns-clause-none
 returns-clause-none c = λ h t there.
     let var = c.requires.var in
     let order = c.requires.apart in
-    let few = c.requires.area.few c.args.u (slice_index t c.args.u) (omega arith) (there.each c.args.u (omega arith)) in
+    let few = c.requires.area.few c.args.u (slice_index t c.args.u) (omega arith)
+    (there.each c.args.u (omega arith)) in
     let all = c.loop-code-test.false in
     c.loop-code.invariant.none t there (omega arith)

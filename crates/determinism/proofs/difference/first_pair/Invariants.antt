@@ -7,5 +7,6 @@ abbrev pub invariant-loop-code : goal.invariant-loop-code
 invariant-loop-code l = record {
   inside : IsIn l.sets l.s.codes;
   same : SameBut l.u l.v l.s.codes l.fn.s.codes;
-  none : (t : List ℕ) → IsIn l.sets t → slice_index t l.u < l.code → Differ l.machine l.first l.second l.y t → ⊥;
+  none : (t : List ℕ) → IsIn l.sets t → slice_index t l.u < l.code
+      → Differ l.machine l.first l.second l.y t → ⊥;
 }

@@ -5,4 +5,5 @@ use Rattle.determinism.proofs.difference.source_of.Given as goal
 
 -- none before this one names the result
 abbrev pub invariant-loop-act : goal.invariant-loop-act
-invariant-loop-act l = (m : Machine) (codes : List ℕ) → code_given m codes l.acts l.y ≡ code_given m codes (drop l.act-index l.acts) l.y
+invariant-loop-act l = (m : Machine) (codes : List ℕ)
+    → code_given m codes l.acts l.y ≡ code_given m codes (drop l.act-index l.acts) l.y

@@ -8,5 +8,6 @@ use Rattle.determinism.proofs.marks.marks_table.Given as goal
 abbrev pub invariant-loop-r : goal.invariant-loop-r
 invariant-loop-r l = record {
   long : length l.made ≡ l.r;
-  each : (k : ℕ) (row : Row) (marks : Marks) → slice_get l.machine.rows k ≡ Some row → slice_get l.made k ≡ Some marks → IsMarked l.machine row marks;
+  each : (k : ℕ) (row : Row) (marks : Marks) → slice_get l.machine.rows k ≡ Some row
+      → slice_get l.made k ≡ Some marks → IsMarked l.machine row marks;
 }

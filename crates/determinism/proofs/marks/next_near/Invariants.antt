@@ -7,5 +7,6 @@ use Rattle.determinism.proofs.marks.next_near.Given as goal
 abbrev pub invariant-loop-r : goal.invariant-loop-r
 invariant-loop-r l = record {
   from : l.from ≤ l.r;
-  apart : (k : ℕ) (marks : Marks) → l.from ≤ k → k < l.r → slice_get l.marks k ≡ Some marks → (place : ℕ) × (bit_at marks.said place ≡ 1) × (bit_at l.denied place ≡ 1);
+  apart : (k : ℕ) (marks : Marks) → l.from ≤ k → k < l.r → slice_get l.marks k ≡ Some marks
+      → (place : ℕ) × (bit_at marks.said place ≡ 1) × (bit_at l.denied place ≡ 1);
 }

@@ -8,7 +8,8 @@ pub returns-then-mask-eq1 : goal.returns-then-mask-eq1
 returns-then-mask-eq1 c =
     let m = c.args.machine.now in
     let var = c.args.var in
-    let first = λ (codes : List ℕ) (e : Enables m c.args.row.now codes). only_first m c.args.row.now var c.args.mask codes c.requires.mask e c.requires.var c.if-mask-eq1.true in
+    let first = λ (codes : List ℕ) (e : Enables m c.args.row.now codes). only_first m c.args.row.now
+    var c.args.mask codes c.requires.mask e c.requires.var c.if-mask-eq1.true in
     record {
       said = λ place codes e set.
           elim (c.with_place.ensures place set) [
@@ -27,7 +28,8 @@ pub returns-then-mask-eq0 : goal.returns-then-mask-eq0
 returns-then-mask-eq0 c =
     let m = c.args.machine.now in
     let var = c.args.var in
-    let other = λ (codes : List ℕ) (e : Enables m c.args.row.now codes). never_first m c.args.row.now var c.args.mask codes c.requires.mask e c.requires.var c.if-mask-eq0.true in
+    let other = λ (codes : List ℕ) (e : Enables m c.args.row.now codes). never_first m
+    c.args.row.now var c.args.mask codes c.requires.mask e c.requires.var c.if-mask-eq0.true in
     record {
       said = λ place codes e set.
           elim (c.with_place-then-mask-eq0.ensures place set) [

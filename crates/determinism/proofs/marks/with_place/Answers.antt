@@ -8,5 +8,6 @@ pub returns : goal.returns
 returns c = λ p set.
     elim (eqb_tells p c.args.place) [
       | inl here ↦ inl here.1
-      | inr apart ↦ inr (sym (bit_at_set_other w64 c.args.set c.args.place c.requires p apart.1) ∙ set)
+      | inr apart ↦ inr
+          (sym (bit_at_set_other w64 c.args.set c.args.place c.requires p apart.1) ∙ set)
     ]

@@ -17,16 +17,25 @@ loop-cond-preserved c =
       | then-var-len w ↦
           let left = w.get.result.now in
           let at : slice_get masks own ≡ Some left = rw c.from-var.ensures at w.get.ensures in
-          let within : own < length masks = rw (c.from-var.ensures, c.len.ensures) at w.if-var-len.true in
-          let is : c.if-var-len.masks ≡ slice_set masks own (bit_and left (get_or conds i none).codes) = w.masks-is ∙ rw c.from-var.ensures at w.set.ensures in
+          let within : own < length masks =
+          rw (c.from-var.ensures, c.len.ensures) at w.if-var-len.true in
+          let is : c.if-var-len.masks ≡ slice_set masks own
+          (bit_and left (get_or conds i none).codes) =
+          w.masks-is ∙ rw c.from-var.ensures at w.set.ensures in
           record {
-            long = ap length is ∙ length-set masks own (bit_and left (get_or conds i none).codes) ∙ long;
-            left = λ var code inside. rw is (set_leaves masks var code i left conds none c.loop-cond-test.true at within ∙ c.loop-cond.invariant.left var code inside);
+            long = ap length is ∙ length-set masks own
+                (bit_and left (get_or conds i none).codes) ∙ long;
+            left = λ var code inside.
+                rw is (set_leaves masks var code i left conds none c.loop-cond-test.true at within
+                ∙ c.loop-cond.invariant.left var code inside);
           }
       | else-var-len w ↦
-          let past : length masks ≤ own = rw (c.from-var.ensures, c.len.ensures) at w.if-var-len.false in
+          let past : length masks ≤ own =
+          rw (c.from-var.ensures, c.len.ensures) at w.if-var-len.false in
           record {
             long = ap length w.masks-is ∙ long;
-            left = λ var code inside. rw w.masks-is (passes masks var code i conds none c.loop-cond-test.true (omega arith) past ∙ c.loop-cond.invariant.left var code inside);
+            left = λ var code inside. rw w.masks-is
+                (passes masks var code i conds none c.loop-cond-test.true (omega arith) past
+                ∙ c.loop-cond.invariant.left var code inside);
           }
     ]

@@ -8,5 +8,8 @@ use Rattle.determinism.proofs.masks.narrow.Given as goal
 abbrev pub invariant-loop-cond : goal.invariant-loop-cond
 invariant-loop-cond l = record {
   long : length l.masks ≡ length l.fn.masks;
-  left : (var code : ℕ) → var < length l.fn.masks → (bit_at (slice_index l.masks var) code == 1 && list_all (allows_code var code) (drop l.cond-index l.conds)) ≡ (bit_at (slice_index l.fn.masks var) code == 1 && list_all (allows_code var code) l.conds);
+  left : (var code : ℕ) → var < length l.fn.masks
+      → (bit_at (slice_index l.masks var) code == 1
+      && list_all (allows_code var code) (drop l.cond-index l.conds))
+      ≡ (bit_at (slice_index l.fn.masks var) code == 1 && list_all (allows_code var code) l.conds);
 }

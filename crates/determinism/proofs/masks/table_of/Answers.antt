@@ -18,8 +18,12 @@ loop-r-preserved c =
             | inl before ↦ c.loop-r.invariant.each k row masks at_row before
             | inr last ↦
                 let here : k ≡ c.loop-r.r = last.0 ∙ long in
-                let there : slice_get c.args.machine.now.rows k ≡ Some c.get.result.now = subst (λ i. slice_get c.args.machine.now.rows i ≡ Some c.get.result.now) (sym here) c.get.ensures in
+                let there : slice_get c.args.machine.now.rows k ≡ Some c.get.result.now =
+                subst (λ i. slice_get c.args.machine.now.rows i ≡ Some c.get.result.now)
+                (sym here) c.get.ensures in
                 let same : c.get.result.now ≡ row = cc in
-                subst (λ (xs : List ℕ). AreMasks c.args.machine.now.vars row xs) last.1 (subst (λ (r : Row). AreMasks c.args.machine.now.vars r made) same c.in_ok-masks_of.ensures)
+                subst (λ (xs : List ℕ). AreMasks c.args.machine.now.vars row xs) last.1
+                (subst (λ (r : Row). AreMasks c.args.machine.now.vars r made) same
+                c.in_ok-masks_of.ensures)
           ];
     }

@@ -7,5 +7,6 @@ use Rattle.determinism.proofs.masks.table_of.Given as goal
 abbrev pub invariant-loop-r : goal.invariant-loop-r
 invariant-loop-r l = record {
   long : length l.table ≡ l.r;
-  each : (k : ℕ) (row : Row) (masks : List ℕ) → slice_get l.machine.rows k ≡ Some row → slice_get l.table k ≡ Some masks → AreMasks l.machine.vars row masks;
+  each : (k : ℕ) (row : Row) (masks : List ℕ) → slice_get l.machine.rows k ≡ Some row
+      → slice_get l.table k ≡ Some masks → AreMasks l.machine.vars row masks;
 }

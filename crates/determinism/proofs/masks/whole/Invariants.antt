@@ -6,5 +6,6 @@ use Rattle.determinism.proofs.masks.whole.Given as goal
 abbrev pub invariant-loop-var : goal.invariant-loop-var
 invariant-loop-var l = record {
   long : length l.masks ≡ l.var;
-  each : (k : ℕ) → k < l.var → (code : ℕ) → (bit_at (slice_index l.masks k) code == 1) ≡ nat_lt code (slice_index l.machine.vars k);
+  each : (k : ℕ) → k < l.var → (code : ℕ)
+      → (bit_at (slice_index l.masks k) code == 1) ≡ nat_lt code (slice_index l.machine.vars k);
 }

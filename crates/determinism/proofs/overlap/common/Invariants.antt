@@ -7,5 +7,6 @@ abbrev pub invariant-loop-k : goal.invariant-loop-k
 invariant-loop-k l = record {
   same : length l.sets ≡ length l.fn.sets;
   some : (j : ℕ) → j < l.k → 0 < slice_index l.sets j;
-  both : (j code : ℕ) → j < l.k → (bit_at (slice_index l.sets j) code == 1) ≡ (bit_at (slice_index l.first j) code == 1 && bit_at (slice_index l.second j) code == 1);
+  both : (j code : ℕ) → j < l.k → (bit_at (slice_index l.sets j) code == 1)
+      ≡ (bit_at (slice_index l.first j) code == 1 && bit_at (slice_index l.second j) code == 1);
 }

@@ -20,8 +20,13 @@ loop-k-preserved c =
     let code = c.least_code.result in
     record {
       same = ap length c.set.ensures ∙ length-set codes k code ∙ same;
-      inside = rw c.set.ensures (written codes k code (λ j n. bit_at (slice_index sets j) n ≡ 1) there c.loop-k.invariant.inside (ap (λ n. bit_at n code) at ∙ c.least_code.ensures.there));
+      inside = rw c.set.ensures
+          (written codes k code (λ j n. bit_at (slice_index sets j) n ≡ 1) there
+          c.loop-k.invariant.inside (ap (λ n. bit_at n code) at ∙ c.least_code.ensures.there));
       least = λ j other within.
           rw c.set.ensures
-          (written codes k code (λ j n. bit_at (slice_index sets j) other ≡ 1 → n ≤ other) there (λ j w. c.loop-k.invariant.least j other w) (λ set. c.least_code.ensures.least other (subst (λ n. bit_at n other ≡ 1) at set)) j within);
+          (written codes k code (λ j n. bit_at (slice_index sets j) other ≡ 1 → n ≤ other) there
+          (λ j w. c.loop-k.invariant.least j other w)
+          (λ set. c.least_code.ensures.least other (subst (λ n. bit_at n other ≡ 1) at set)) j
+          within);
     }

@@ -7,5 +7,6 @@ abbrev pub invariant-loop-k : goal.invariant-loop-k
 invariant-loop-k l = record {
   same : length l.codes ≡ length l.fn.codes;
   inside : (j : ℕ) → j < l.k → bit_at (slice_index l.sets j) (slice_index l.codes j) ≡ 1;
-  least : (j code : ℕ) → j < l.k → bit_at (slice_index l.sets j) code ≡ 1 → slice_index l.codes j ≤ code;
+  least : (j code : ℕ) → j < l.k → bit_at (slice_index l.sets j) code ≡ 1
+      → slice_index l.codes j ≤ code;
 }

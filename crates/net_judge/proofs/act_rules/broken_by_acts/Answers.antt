@@ -6,4 +6,12 @@ use Rattle.net_judge.proofs.Moved.{of-locals}
 use Rattle.net_judge.proofs.act_rules.broken_by_acts.Goals as goal
 
 pub returns : goal.returns
-returns g c = c.in_machines.ensures ∙ (λ i. sooner None (least (flat_map (λ (l : Local). flat_map (λ (row : RawRow). flat_map (g.C.ActRule.places l.scope.now.raw.now l.machine.now row) row.acts) l.machine.now.rows) (c.as_slice.ensures i)))) ∙ ap least (of-locals (λ net m. flat_map (λ (row : RawRow). flat_map (g.C.ActRule.places net m row) row.acts) m.rows) c.args.raw.now c.args.raw.now.machines c.args.locals.now c.requires)
+returns g c = c.in_machines.ensures
+    ∙ (λ i. sooner None
+    (least (flat_map
+    (λ (l : Local). flat_map
+    (λ (row : RawRow). flat_map (g.C.ActRule.places l.scope.now.raw.now l.machine.now row) row.acts)
+    l.machine.now.rows) (c.as_slice.ensures i))))
+    ∙ ap least (of-locals
+    (λ net m. flat_map (λ (row : RawRow). flat_map (g.C.ActRule.places net m row) row.acts) m.rows)
+    c.args.raw.now c.args.raw.now.machines c.args.locals.now c.requires)

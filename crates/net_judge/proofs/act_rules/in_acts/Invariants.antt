@@ -4,4 +4,9 @@ use Rattle.net_names.specs.Places.{sooner, least}
 use Rattle.net_judge.proofs.act_rules.in_acts.Given as goal
 
 abbrev pub invariant-loop-act : goal.invariant-loop-act
-invariant-loop-act g l = sooner l.found (least (flat_map (g.C.ActRule.places l.local.scope.now.raw.now l.local.machine.now l.row) (drop l.act-index l.acts))) ≡ sooner l.fn.found (least (flat_map (g.C.ActRule.places l.local.scope.now.raw.now l.local.machine.now l.row) l.fn.acts))
+invariant-loop-act g l =
+    sooner l.found (least
+    (flat_map (g.C.ActRule.places l.local.scope.now.raw.now l.local.machine.now l.row)
+    (drop l.act-index l.acts))) ≡ sooner l.fn.found
+    (least (flat_map (g.C.ActRule.places l.local.scope.now.raw.now l.local.machine.now l.row)
+    l.fn.acts))

@@ -6,4 +6,13 @@ use Rattle.net_names.specs.Places.{sooner, least}
 use Rattle.net_judge.proofs.act_rules.in_machines.Given as goal
 
 abbrev pub invariant-loop-local : goal.invariant-loop-local
-invariant-loop-local g l = sooner l.found (least (flat_map (λ (l : Local). flat_map (λ (row : RawRow). flat_map (g.C.ActRule.places l.scope.now.raw.now l.machine.now row) row.acts) l.machine.now.rows) (drop l.local-index l.locals))) ≡ sooner l.fn.found (least (flat_map (λ (l : Local). flat_map (λ (row : RawRow). flat_map (g.C.ActRule.places l.scope.now.raw.now l.machine.now row) row.acts) l.machine.now.rows) l.fn.locals))
+invariant-loop-local g l =
+    sooner l.found (least
+    (flat_map (λ (l : Local). flat_map
+    (λ (row : RawRow). flat_map (g.C.ActRule.places l.scope.now.raw.now l.machine.now row) row.acts)
+    l.machine.now.rows) (drop l.local-index l.locals)))
+    ≡ sooner l.fn.found
+    (least (flat_map
+    (λ (l : Local). flat_map
+    (λ (row : RawRow). flat_map (g.C.ActRule.places l.scope.now.raw.now l.machine.now row) row.acts)
+    l.machine.now.rows) l.fn.locals))

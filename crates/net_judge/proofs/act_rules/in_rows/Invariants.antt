@@ -5,4 +5,11 @@ use Rattle.net_names.specs.Places.{sooner, least}
 use Rattle.net_judge.proofs.act_rules.in_rows.Given as goal
 
 abbrev pub invariant-loop-row : goal.invariant-loop-row
-invariant-loop-row g l = sooner l.found (least (flat_map (λ (row : RawRow). flat_map (g.C.ActRule.places l.local.scope.now.raw.now l.local.machine.now row) row.acts) (drop l.row-index l.rows))) ≡ sooner l.fn.found (least (flat_map (λ (row : RawRow). flat_map (g.C.ActRule.places l.local.scope.now.raw.now l.local.machine.now row) row.acts) l.fn.rows))
+invariant-loop-row g l =
+    sooner l.found (least
+    (flat_map (λ (row : RawRow). flat_map
+    (g.C.ActRule.places l.local.scope.now.raw.now l.local.machine.now row) row.acts)
+    (drop l.row-index l.rows))) ≡ sooner l.fn.found
+    (least (flat_map
+    (λ (row : RawRow). flat_map
+    (g.C.ActRule.places l.local.scope.now.raw.now l.local.machine.now row) row.acts) l.fn.rows))

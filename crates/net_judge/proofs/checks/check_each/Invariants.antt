@@ -4,4 +4,6 @@ use Rattle.net_names.specs.Places.{sooner, least}
 use Rattle.net_judge.proofs.checks.check_each.Given as goal
 
 abbrev pub invariant-loop-item : goal.invariant-loop-item
-invariant-loop-item g l = sooner l.found (least (flat_map (g.C.Check.places l.check) (drop l.item-index l.items))) ≡ sooner l.fn.found (least (flat_map (g.C.Check.places l.check) l.fn.items))
+invariant-loop-item g l =
+    sooner l.found (least (flat_map (g.C.Check.places l.check) (drop l.item-index l.items)))
+    ≡ sooner l.fn.found (least (flat_map (g.C.Check.places l.check) l.fn.items))

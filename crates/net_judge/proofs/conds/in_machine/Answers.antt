@@ -8,10 +8,16 @@ pub returns-clause-unsuited : goal.returns-clause-unsuited
 returns-clause-unsuited c =
     let net = c.args.local.now.scope.now.raw.now in
     let m = c.args.local.now.machine.now in
-    c.in_rows.ensures.unsuited ∙ (λ i. sooner c.args.found.unsuited (least (flat_map (λ (row : RawRow). flat_map (unsuited net m) row.conds) (c.as_slice.ensures i))))
+    c.in_rows.ensures.unsuited
+    ∙ (λ i. sooner c.args.found.unsuited
+    (least (flat_map (λ (row : RawRow). flat_map (unsuited net m) row.conds)
+    (c.as_slice.ensures i))))
 
 pub returns-clause-valueless : goal.returns-clause-valueless
 returns-clause-valueless c =
     let net = c.args.local.now.scope.now.raw.now in
     let m = c.args.local.now.machine.now in
-    c.in_rows.ensures.valueless ∙ (λ i. sooner c.args.found.valueless (least (flat_map (λ (row : RawRow). flat_map (wrong_values net m) row.conds) (c.as_slice.ensures i))))
+    c.in_rows.ensures.valueless
+    ∙ (λ i. sooner c.args.found.valueless
+    (least (flat_map (λ (row : RawRow). flat_map (wrong_values net m) row.conds)
+    (c.as_slice.ensures i))))

@@ -8,6 +8,31 @@ use Rattle.net_judge.proofs.conds.in_machines.Given as goal
 
 abbrev pub invariant-loop-local : goal.invariant-loop-local
 invariant-loop-local l =
-    (sooner l.found.unknown (least (flat_map (λ (l : Local). flat_map (λ (row : RawRow). flat_map (unknown l.machine.now) row.conds) l.machine.now.rows) (drop l.local-index l.locals))) ≡ sooner l.fn.found.unknown (least (flat_map (λ (l : Local). flat_map (λ (row : RawRow). flat_map (unknown l.machine.now) row.conds) l.machine.now.rows) l.fn.locals)))
-    × (sooner l.found.unsuited (least (flat_map (λ (l : Local). flat_map (λ (row : RawRow). flat_map (unsuited l.scope.now.raw.now l.machine.now) row.conds) l.machine.now.rows) (drop l.local-index l.locals))) ≡ sooner l.fn.found.unsuited (least (flat_map (λ (l : Local). flat_map (λ (row : RawRow). flat_map (unsuited l.scope.now.raw.now l.machine.now) row.conds) l.machine.now.rows) l.fn.locals)))
-    × (sooner l.found.valueless (least (flat_map (λ (l : Local). flat_map (λ (row : RawRow). flat_map (wrong_values l.scope.now.raw.now l.machine.now) row.conds) l.machine.now.rows) (drop l.local-index l.locals))) ≡ sooner l.fn.found.valueless (least (flat_map (λ (l : Local). flat_map (λ (row : RawRow). flat_map (wrong_values l.scope.now.raw.now l.machine.now) row.conds) l.machine.now.rows) l.fn.locals)))
+    (sooner l.found.unknown
+    (least (flat_map
+    (λ (l : Local). flat_map (λ (row : RawRow). flat_map (unknown l.machine.now) row.conds)
+    l.machine.now.rows) (drop l.local-index l.locals)))
+    ≡ sooner l.fn.found.unknown
+    (least (flat_map
+    (λ (l : Local). flat_map (λ (row : RawRow). flat_map (unknown l.machine.now) row.conds)
+    l.machine.now.rows) l.fn.locals)))
+    × (sooner l.found.unsuited
+    (least (flat_map
+    (λ (l : Local). flat_map
+    (λ (row : RawRow). flat_map (unsuited l.scope.now.raw.now l.machine.now) row.conds)
+    l.machine.now.rows) (drop l.local-index l.locals)))
+    ≡ sooner l.fn.found.unsuited
+    (least (flat_map
+    (λ (l : Local). flat_map
+    (λ (row : RawRow). flat_map (unsuited l.scope.now.raw.now l.machine.now) row.conds)
+    l.machine.now.rows) l.fn.locals)))
+    × (sooner l.found.valueless
+    (least (flat_map
+    (λ (l : Local). flat_map
+    (λ (row : RawRow). flat_map (wrong_values l.scope.now.raw.now l.machine.now) row.conds)
+    l.machine.now.rows) (drop l.local-index l.locals)))
+    ≡ sooner l.fn.found.valueless
+    (least (flat_map
+    (λ (l : Local). flat_map
+    (λ (row : RawRow). flat_map (wrong_values l.scope.now.raw.now l.machine.now) row.conds)
+    l.machine.now.rows) l.fn.locals)))

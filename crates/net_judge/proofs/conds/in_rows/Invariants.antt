@@ -7,6 +7,24 @@ use Rattle.net_judge.proofs.conds.in_rows.Given as goal
 
 abbrev pub invariant-loop-row : goal.invariant-loop-row
 invariant-loop-row l =
-    (sooner l.found.unknown (least (flat_map (λ (row : RawRow). flat_map (unknown l.local.machine.now) row.conds) (drop l.row-index l.rows))) ≡ sooner l.fn.found.unknown (least (flat_map (λ (row : RawRow). flat_map (unknown l.local.machine.now) row.conds) l.fn.rows)))
-    × (sooner l.found.unsuited (least (flat_map (λ (row : RawRow). flat_map (unsuited l.local.scope.now.raw.now l.local.machine.now) row.conds) (drop l.row-index l.rows))) ≡ sooner l.fn.found.unsuited (least (flat_map (λ (row : RawRow). flat_map (unsuited l.local.scope.now.raw.now l.local.machine.now) row.conds) l.fn.rows)))
-    × (sooner l.found.valueless (least (flat_map (λ (row : RawRow). flat_map (wrong_values l.local.scope.now.raw.now l.local.machine.now) row.conds) (drop l.row-index l.rows))) ≡ sooner l.fn.found.valueless (least (flat_map (λ (row : RawRow). flat_map (wrong_values l.local.scope.now.raw.now l.local.machine.now) row.conds) l.fn.rows)))
+    (sooner l.found.unknown
+    (least (flat_map (λ (row : RawRow). flat_map (unknown l.local.machine.now) row.conds)
+    (drop l.row-index l.rows))) ≡ sooner l.fn.found.unknown
+    (least (flat_map (λ (row : RawRow). flat_map (unknown l.local.machine.now) row.conds)
+    l.fn.rows)))
+    × (sooner l.found.unsuited
+    (least (flat_map
+    (λ (row : RawRow). flat_map (unsuited l.local.scope.now.raw.now l.local.machine.now)
+    row.conds) (drop l.row-index l.rows)))
+    ≡ sooner l.fn.found.unsuited
+    (least (flat_map
+    (λ (row : RawRow). flat_map (unsuited l.local.scope.now.raw.now l.local.machine.now)
+    row.conds) l.fn.rows)))
+    × (sooner l.found.valueless
+    (least (flat_map
+    (λ (row : RawRow). flat_map (wrong_values l.local.scope.now.raw.now l.local.machine.now)
+    row.conds) (drop l.row-index l.rows)))
+    ≡ sooner l.fn.found.valueless
+    (least (flat_map
+    (λ (row : RawRow). flat_map (wrong_values l.local.scope.now.raw.now l.local.machine.now)
+    row.conds) l.fn.rows)))

@@ -10,7 +10,10 @@ pub returns-in-OneOf-clause-valueless : goal.returns-in-OneOf-clause-valueless
 returns-in-OneOf-clause-valueless c =
     let net = c.args.local.now.scope.now.raw.now in
     let m = c.args.local.now.machine.now in
-    let shape = c.requires.shape ∙ ap (λ (q : RawCond). shape_at net (var_domain net m (cond_word q).name)) c.in-OneOf.is in
+    let shape = c.requires.shape
+    ∙ ap (λ (q : RawCond). shape_at net (var_domain net m (cond_word q).name)) c.in-OneOf.is in
     c.no_values.ensures
-    ∙ (λ i. sooner c.args.found.valueless (least (flat_map (no_value (shape i)) (c.as_slice.ensures i))))
-    ∙ ap (λ (q : RawCond). sooner c.args.found.valueless (least (wrong_values net m q))) (sym c.in-OneOf.is)
+    ∙ (λ i. sooner c.args.found.valueless
+    (least (flat_map (no_value (shape i)) (c.as_slice.ensures i))))
+    ∙ ap (λ (q : RawCond). sooner c.args.found.valueless (least (wrong_values net m q)))
+    (sym c.in-OneOf.is)

@@ -5,4 +5,7 @@ use Rattle.net_names.specs.Values.{no_value}
 use Rattle.net_judge.proofs.conds.no_values.Given as goal
 
 abbrev pub invariant-loop-value : goal.invariant-loop-value
-invariant-loop-value l = sooner l.found (least (flat_map (no_value (option_copied l.shape)) (drop l.value-index l.values))) ≡ sooner l.fn.found (least (flat_map (no_value (option_copied l.shape)) l.fn.values))
+invariant-loop-value l =
+    sooner l.found (least
+    (flat_map (no_value (option_copied l.shape)) (drop l.value-index l.values)))
+    ≡ sooner l.fn.found (least (flat_map (no_value (option_copied l.shape)) l.fn.values))

@@ -9,4 +9,8 @@ use Rattle.net_judge.proofs.Least.{IfOk-same}
 use Rattle.net_judge.proofs.initials.rule_14.Goals as goal
 
 pub returns : goal.returns
-returns c = IfOk-same c.check_all.result _ _ (ap (λ (raw : RawNet). least (flat_map (λ (m : RawMachine). flat_map (λ (s : RawState). no_value (shape_of raw s.domain.name) s.init) m.states) c.args.raw.now.machines)) c.in_ok-scope.ensures) c.check_all.ensures
+returns c = IfOk-same c.check_all.result _ _
+    (ap (λ (raw : RawNet). least
+    (flat_map (λ (m : RawMachine). flat_map
+    (λ (s : RawState). no_value (shape_of raw s.domain.name) s.init) m.states)
+    c.args.raw.now.machines)) c.in_ok-scope.ensures) c.check_all.ensures

@@ -9,5 +9,8 @@ use Rattle.net_judge.proofs.ports.rule_11.Goals as goal
 
 pub returns : goal.returns
 returns c =
-    let names : has c.in_ok-taken-2.taken ≡ is_name_of (events_where (λ env. is_from_env env) c.args.raw.now) = c.in_ok-taken-2.ensures.names ∙ ap is_name_of c.in_ok-taken.ensures in
-    IfOk-same c.repeated.result _ _ (λ i. least (repeated (names i) (c.in_ok-words.ensures i))) c.repeated.ensures
+    let names : has c.in_ok-taken-2.taken
+    ≡ is_name_of (events_where (λ env. is_from_env env) c.args.raw.now) =
+    c.in_ok-taken-2.ensures.names ∙ ap is_name_of c.in_ok-taken.ensures in
+    IfOk-same c.repeated.result _ _ (λ i. least (repeated (names i) (c.in_ok-words.ensures i)))
+    c.repeated.ensures

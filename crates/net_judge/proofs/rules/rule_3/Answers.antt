@@ -7,7 +7,14 @@ use Rattle.net_judge.proofs.rules.rule_3.Goals as goal
 
 pub returns : goal.returns
 returns c =
-    three c.in_ok-found.found c.in_ok-found-2.found c.repeats-3.result (repeated no_name (domain_words c.args.raw.now)) (repeated no_name (event_words c.args.raw.now)) (repeated no_name (machine_words c.args.raw.now))
+    three c.in_ok-found.found c.in_ok-found-2.found c.repeats-3.result
+    (repeated no_name (domain_words c.args.raw.now))
+    (repeated no_name (event_words c.args.raw.now))
+    (repeated no_name (machine_words c.args.raw.now))
     (c.in_ok-found.ensures ∙ ap (λ words. least (repeated no_name words)) c.in_ok-domains.ensures)
-    (c.in_ok-found-2.ensures ∙ ap (λ words. sooner c.in_ok-found.found (least (repeated no_name words))) c.in_ok-events.ensures)
-    (IfOk-same c.repeats-3.result _ _ (ap (λ words. sooner c.in_ok-found-2.found (least (repeated no_name words))) c.in_ok-machines.ensures) c.repeats-3.ensures)
+    (c.in_ok-found-2.ensures
+    ∙ ap (λ words. sooner c.in_ok-found.found (least (repeated no_name words)))
+    c.in_ok-events.ensures)
+    (IfOk-same c.repeats-3.result _ _
+    (ap (λ words. sooner c.in_ok-found-2.found (least (repeated no_name words)))
+    c.in_ok-machines.ensures) c.repeats-3.ensures)

@@ -9,5 +9,9 @@ use Rattle.net_judge.proofs.rules.rule_7.Goals as goal
 
 pub returns : goal.returns
 returns c =
-    let names : has c.in_ok-events.events ≡ is_name_of (event_words c.args.raw.now) = c.in_ok-events.ensures.names ∙ ap is_name_of c.in_ok-words.ensures in
-    IfOk-same c.check_all.result _ _ (ap (λ (declared : List ℕ → Bool). least (flat_map (λ (m : RawMachine). missing declared (m.inputs ++ m.outputs)) c.args.raw.now.machines)) names) c.check_all.ensures
+    let names : has c.in_ok-events.events ≡ is_name_of (event_words c.args.raw.now) =
+    c.in_ok-events.ensures.names ∙ ap is_name_of c.in_ok-words.ensures in
+    IfOk-same c.check_all.result _ _
+    (ap (λ (declared : List ℕ → Bool). least
+    (flat_map (λ (m : RawMachine). missing declared (m.inputs ++ m.outputs))
+    c.args.raw.now.machines)) names) c.check_all.ensures

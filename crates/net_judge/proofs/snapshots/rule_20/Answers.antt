@@ -8,4 +8,7 @@ use Rattle.net_judge.proofs.Least.{IfOk-same}
 use Rattle.net_judge.proofs.snapshots.rule_20.Goals as goal
 
 pub returns : goal.returns
-returns c = IfOk-same c.check_all.result _ _ (ap (λ (raw : RawNet). least (flat_map (λ (m : RawMachine). unless (nat_le (product (var_sizes raw m)) 65536) m.name.at) c.args.raw.now.machines)) c.in_ok-scope.ensures) c.check_all.ensures
+returns c = IfOk-same c.check_all.result _ _
+    (ap (λ (raw : RawNet). least
+    (flat_map (λ (m : RawMachine). unless (nat_le (product (var_sizes raw m)) 65536) m.name.at)
+    c.args.raw.now.machines)) c.in_ok-scope.ensures) c.check_all.ensures

@@ -7,5 +7,7 @@ use Rattle.net_judge.proofs.snapshots.times_states.Given as goal
 abbrev pub invariant-loop-state : goal.invariant-loop-state
 invariant-loop-state l = record {
   small : l.count ≤ 65537;
-  product : min 65537 (l.count * product (map (state_codes l.scope.raw.now) (drop l.state-index l.states))) ≡ min 65537 (l.fn.count * product (map (state_codes l.scope.raw.now) l.states));
+  product : min 65537
+      (l.count * product (map (state_codes l.scope.raw.now) (drop l.state-index l.states)))
+      ≡ min 65537 (l.fn.count * product (map (state_codes l.scope.raw.now) l.states));
 }

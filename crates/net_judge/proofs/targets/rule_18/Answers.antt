@@ -8,4 +8,8 @@ use Rattle.net_judge.proofs.Moved.{of-locals}
 use Rattle.net_judge.proofs.targets.rule_18.Goals as goal
 
 pub returns : goal.returns
-returns c = IfOk-same c.check_all.result _ _ (ap least (of-locals (λ net m. flat_map (λ (row : RawRow). not_once m.outputs (flat_map emitted row.acts) ++ not_once (state_words m) (flat_map set_names row.acts)) m.rows) c.args.raw.now c.args.raw.now.machines c.args.locals.now c.requires)) c.check_all.ensures
+returns c = IfOk-same c.check_all.result _ _
+    (ap least (of-locals
+    (λ net m. flat_map (λ (row : RawRow). not_once m.outputs (flat_map emitted row.acts)
+    ++ not_once (state_words m) (flat_map set_names row.acts)) m.rows) c.args.raw.now
+    c.args.raw.now.machines c.args.locals.now c.requires)) c.check_all.ensures

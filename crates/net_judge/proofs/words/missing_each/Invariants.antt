@@ -6,4 +6,5 @@ use Rattle.net_names.specs.Tables.{has}
 use Rattle.net_judge.proofs.words.missing_each.Given as goal
 
 abbrev pub invariant-loop-word : goal.invariant-loop-word
-invariant-loop-word l = sooner l.found (least (missing (has l.table) (drop l.word-index l.words))) ≡ sooner l.fn.found (least (missing (has l.table) l.fn.words))
+invariant-loop-word l = sooner l.found (least (missing (has l.table) (drop l.word-index l.words)))
+    ≡ sooner l.fn.found (least (missing (has l.table) l.fn.words))

@@ -9,5 +9,7 @@ pub returns : goal.returns
 returns c =
     let words = c.args.words.now in
     IfOk-same c.repeats.result _ _
-    (ap (λ f. sooner f (least (repeated no_name words))) c.missing-found.ensures ∙ sooner-least c.args.found (missing (has c.args.declared.now) words) (repeated no_name words))
+    (ap (λ f. sooner f (least (repeated no_name words))) c.missing-found.ensures
+    ∙ sooner-least c.args.found (missing (has c.args.declared.now) words)
+    (repeated no_name words))
     c.repeats.ensures

@@ -6,4 +6,5 @@ use Rattle.net_names.specs.Tables.{has}
 use Rattle.net_judge.proofs.words.repeated_each.Given as goal
 
 abbrev pub invariant-loop-word : goal.invariant-loop-word
-invariant-loop-word l = sooner l.found (least (repeated (has l.taken) (drop l.word-index l.words))) ≡ sooner l.fn.found (least (repeated (has l.fn.taken) l.fn.words))
+invariant-loop-word l = sooner l.found (least (repeated (has l.taken) (drop l.word-index l.words)))
+    ≡ sooner l.fn.found (least (repeated (has l.fn.taken) l.fn.words))

@@ -5,4 +5,6 @@ use Rattle.net_names.specs.Numbers.{repeated, no_name, is_name_of}
 use Rattle.net_judge.proofs.words.repeats_few.Given as goal
 
 abbrev pub invariant-loop-place : goal.invariant-loop-place
-invariant-loop-place l = sooner l.found (least (repeated (is_name_of (take l.place l.words)) (drop l.place l.words))) ≡ sooner l.fn.found (least (repeated no_name l.fn.words))
+invariant-loop-place l =
+    sooner l.found (least (repeated (is_name_of (take l.place l.words)) (drop l.place l.words)))
+    ≡ sooner l.fn.found (least (repeated no_name l.fn.words))

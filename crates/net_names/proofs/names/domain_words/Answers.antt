@@ -4,4 +4,5 @@ use Rattle.net_names.proofs.Answering.{IfOk-same}
 use Rattle.net_names.proofs.names.domain_words.Goals as goal
 
 pub returns : goal.returns
-returns c = IfOk-same c.gather_all.result _ _ (flat_map_single (λ (x : RawDomain). x.name) c.args.raw.now.domains) c.gather_all.ensures
+returns c = IfOk-same c.gather_all.result _ _
+    (flat_map_single (λ (x : RawDomain). x.name) c.args.raw.now.domains) c.gather_all.ensures

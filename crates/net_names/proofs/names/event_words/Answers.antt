@@ -4,4 +4,5 @@ use Rattle.net_names.proofs.Answering.{IfOk-same}
 use Rattle.net_names.proofs.names.event_words.Goals as goal
 
 pub returns : goal.returns
-returns c = IfOk-same c.gather_all.result _ _ (flat_map_single (λ (x : RawEvent). x.name) c.args.raw.now.events) c.gather_all.ensures
+returns c = IfOk-same c.gather_all.result _ _
+    (flat_map_single (λ (x : RawEvent). x.name) c.args.raw.now.events) c.gather_all.ensures

@@ -4,4 +4,7 @@ use Rattle.net_names.proofs.Named.{has-names}
 use Rattle.net_names.proofs.table.number_all.Goals as goal
 
 pub returns-clause-names : goal.returns-clause-names
-returns-clause-names c = has-names c.in_ok-table.table c.args.words.now (λ name. c.in_ok-table.ensures name ∙ ap (λ words. number_in (names_of words) name) c.as_slice.ensures)
+returns-clause-names c =
+    has-names c.in_ok-table.table c.args.words.now
+    (λ name. c.in_ok-table.ensures name
+    ∙ ap (λ words. number_in (names_of words) name) c.as_slice.ensures)

@@ -5,4 +5,5 @@ use Rattle.net_names.specs.Numbers.{names_of, number_in}
 use Rattle.net_names.proofs.table.number_each.Given as goal
 
 abbrev pub invariant-loop-number : goal.invariant-loop-number
-invariant-loop-number l = (name : List ℕ) → number_at l.table name ≡ number_in (names_of (take l.number l.words)) name
+invariant-loop-number l = (name : List ℕ)
+    → number_at l.table name ≡ number_in (names_of (take l.number l.words)) name

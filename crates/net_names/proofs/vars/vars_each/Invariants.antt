@@ -4,4 +4,5 @@ use Rattle.net_names.specs.Vars.{AreVars}
 use Rattle.net_names.proofs.vars.vars_each.Given as goal
 
 abbrev pub invariant-loop-word : goal.invariant-loop-word
-invariant-loop-word l = AreVars l.local.scope.now.raw.now l.local.machine.now (take l.word-index l.words) l.vars
+invariant-loop-word l =
+    AreVars l.local.scope.now.raw.now l.local.machine.now (take l.word-index l.words) l.vars

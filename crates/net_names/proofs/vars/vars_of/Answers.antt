@@ -4,4 +4,6 @@ use Rattle.net_names.proofs.Answering.{IfOk-moved}
 use Rattle.net_names.proofs.vars.vars_of.Goals as goal
 
 pub returns : goal.returns
-returns c = IfOk-moved c.vars_each.result (AreVars c.args.local.now.scope.now.raw.now c.args.local.now.machine.now) _ _ (c.as_slice.ensures ∙ c.in_ok-words.ensures) c.vars_each.ensures
+returns c = IfOk-moved c.vars_each.result
+    (AreVars c.args.local.now.scope.now.raw.now c.args.local.now.machine.now) _ _
+    (c.as_slice.ensures ∙ c.in_ok-words.ensures) c.vars_each.ensures

@@ -15,7 +15,9 @@ pub returns-clause-syntax : goal.returns-clause-syntax
 returns-clause-syntax c = syntax_clause c.args.text.now c.read.result c.read.ensures.settled
 
 pub returns-clause-syntax_there : goal.returns-clause-syntax_there
-returns-clause-syntax_there c = syntax_there_clause c.args.text.now c.read.result c.read.ensures.settled
+returns-clause-syntax_there c =
+    syntax_there_clause c.args.text.now c.read.result c.read.ensures.settled
 
 pub returns-clause-last_missing : goal.returns-clause-last_missing
-returns-clause-last_missing c = last_missing_clause c.args.text.now c.read.result c.read.ensures.settled
+returns-clause-last_missing c =
+    last_missing_clause c.args.text.now c.read.result c.read.ensures.settled

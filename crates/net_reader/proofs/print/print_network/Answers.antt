@@ -15,4 +15,6 @@ returns-clause-back c =
     let events : list_all event_formed c.args.net.now.events ≡ true = search rules in
     let machines : list_all machine_formed c.args.net.now.machines ≡ true = search rules in
     let text : c.print_all-3.new.out ≡ network_text c.args.net.now = search rules in
-    subst (λ (t : List ℕ). Declares t net) (sym text) (declares net c.requires.0 (formed_from net name version domains events machines) c.requires.1)
+    subst (λ (t : List ℕ). Declares t net) (sym text)
+    (declares net c.requires.0 (formed_from net name version domains events machines)
+    c.requires.1)

@@ -6,4 +6,5 @@ use Rattle.net_rules.specs.Networks.{IsDomainOf}
 use Rattle.net_rules.proofs.domain_list.domains_of.Given as goal
 
 abbrev pub invariant-loop-domain : goal.invariant-loop-domain
-invariant-loop-domain l = AllZip (λ (d : RawDomain). IsDomainOf d.shape) (take l.domain-index l.domains) l.made
+invariant-loop-domain l =
+    AllZip (λ (d : RawDomain). IsDomainOf d.shape) (take l.domain-index l.domains) l.made

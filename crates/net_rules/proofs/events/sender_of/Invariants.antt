@@ -5,4 +5,6 @@ use Rattle.net_names.specs.Numbers.{is_name_of}
 use Rattle.net_rules.proofs.events.sender_of.Given as goal
 
 abbrev pub invariant-loop-number : goal.invariant-loop-number
-invariant-loop-number l = places_from l.number (λ m. is_name_of m.outputs l.name) (drop l.number l.machines) ≡ places_where (λ m. is_name_of m.outputs l.name) l.machines
+invariant-loop-number l =
+    places_from l.number (λ m. is_name_of m.outputs l.name) (drop l.number l.machines)
+    ≡ places_where (λ m. is_name_of m.outputs l.name) l.machines

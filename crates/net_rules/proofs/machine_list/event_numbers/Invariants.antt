@@ -6,4 +6,6 @@ use Rattle.net_names.specs.Numbers.{number}
 use Rattle.net_rules.proofs.machine_list.event_numbers.Given as goal
 
 abbrev pub invariant-loop-word : goal.invariant-loop-word
-invariant-loop-word l = l.numbers ≡ map (λ (w : Word). number (event_words l.scope.raw.now) w.name) (take l.word-index l.words)
+invariant-loop-word l =
+    l.numbers ≡ map (λ (w : Word). number (event_words l.scope.raw.now) w.name)
+    (take l.word-index l.words)

@@ -4,7 +4,14 @@ use Rattle.net_rules.proofs.Zips.{zip-step, each-item}
 use Rattle.net_rules.proofs.machine_list.machines_of.Goals as goal
 
 pub machine_of-requires-clause-machine : goal.machine_of-requires-clause-machine
-machine_of-requires-clause-machine c = each-item (IsSoundMachine c.args.scope.now.raw.now) c.args.machines.now c.loop-machine.machine-index c.machine-item.result c.loop-machine-test.true c.machine-item.is c.requires.machines
+machine_of-requires-clause-machine c =
+    each-item (IsSoundMachine c.args.scope.now.raw.now) c.args.machines.now
+    c.loop-machine.machine-index c.machine-item.result c.loop-machine-test.true c.machine-item.is
+    c.requires.machines
 
 pub loop-machine-preserved : goal.loop-machine-preserved
-loop-machine-preserved c = zip-step (IsMachineOf c.args.scope.now.raw.now) c.args.machines.now c.loop-machine.machine-index c.machine-item.result c.loop-machine.made c.in_ok-next.next c.push.new.self c.loop-machine-test.true c.machine-item.is c.in_ok-push.ensures.ok c.in_ok-next.ensures c.loop-machine.invariant
+loop-machine-preserved c =
+    zip-step (IsMachineOf c.args.scope.now.raw.now) c.args.machines.now c.loop-machine.machine-index
+    c.machine-item.result c.loop-machine.made c.in_ok-next.next c.push.new.self
+    c.loop-machine-test.true c.machine-item.is c.in_ok-push.ensures.ok c.in_ok-next.ensures
+    c.loop-machine.invariant

@@ -5,4 +5,5 @@ use Rattle.net_rules.specs.Networks.{IsMachineOf}
 use Rattle.net_rules.proofs.machine_list.machines_of.Given as goal
 
 abbrev pub invariant-loop-machine : goal.invariant-loop-machine
-invariant-loop-machine l = AllZip (IsMachineOf l.scope.raw.now) (take l.machine-index l.machines) l.made
+invariant-loop-machine l =
+    AllZip (IsMachineOf l.scope.raw.now) (take l.machine-index l.machines) l.made

@@ -15,45 +15,98 @@ use Rattle.net_rules.proofs.Numbering.{domain-count, event-count, machine-count,
 use Rattle.net_rules.proofs.resolving.network_of.Goals as goal
 
 pub domains_of-requires-clause-some : goal.domains_of-requires-clause-some
-domains_of-requires-clause-some c = λ i d at. (count-in d (each-all has_count c.args.raw.now.domains c.requires.counts i d (ap (λ l. slice_get l i) (sym c.as_slice.ensures) ∙ at))).0
+domains_of-requires-clause-some c =
+    λ i d at. (count-in d
+    (each-all has_count c.args.raw.now.domains c.requires.counts i d
+    (ap (λ l. slice_get l i) (sym c.as_slice.ensures) ∙ at))).0
 
 pub domains_of-requires-clause-few : goal.domains_of-requires-clause-few
-domains_of-requires-clause-few c = λ i d at. (count-in d (each-all has_count c.args.raw.now.domains c.requires.counts i d (ap (λ l. slice_get l i) (sym c.as_slice.ensures) ∙ at))).1
+domains_of-requires-clause-few c =
+    λ i d at. (count-in d
+    (each-all has_count c.args.raw.now.domains c.requires.counts i d
+    (ap (λ l. slice_get l i) (sym c.as_slice.ensures) ∙ at))).1
 
 pub events_of-requires-clause-domains : goal.events_of-requires-clause-domains
-events_of-requires-clause-domains c = subst (λ (r : RawNet). length r.domains ≤ 64) (sym c.in_ok-scope.ensures) (domain-count c.args.raw.now c.requires)
+events_of-requires-clause-domains c =
+    subst (λ (r : RawNet). length r.domains ≤ 64) (sym c.in_ok-scope.ensures)
+    (domain-count c.args.raw.now c.requires)
 
 pub events_of-requires-clause-machines : goal.events_of-requires-clause-machines
-events_of-requires-clause-machines c = subst (λ (r : RawNet). length r.machines ≤ 64) (sym c.in_ok-scope.ensures) (machine-count c.args.raw.now c.requires)
+events_of-requires-clause-machines c =
+    subst (λ (r : RawNet). length r.machines ≤ 64) (sym c.in_ok-scope.ensures)
+    (machine-count c.args.raw.now c.requires)
 
 pub machines_of-requires-clause-domains : goal.machines_of-requires-clause-domains
-machines_of-requires-clause-domains c = subst (λ (r : RawNet). length r.domains ≤ 64) (sym c.in_ok-scope.ensures) (domain-count c.args.raw.now c.requires)
+machines_of-requires-clause-domains c =
+    subst (λ (r : RawNet). length r.domains ≤ 64) (sym c.in_ok-scope.ensures)
+    (domain-count c.args.raw.now c.requires)
 
 pub machines_of-requires-clause-events : goal.machines_of-requires-clause-events
-machines_of-requires-clause-events c = subst (λ (r : RawNet). length r.events ≤ 256) (sym c.in_ok-scope.ensures) (event-count c.args.raw.now c.requires)
+machines_of-requires-clause-events c =
+    subst (λ (r : RawNet). length r.events ≤ 256) (sym c.in_ok-scope.ensures)
+    (event-count c.args.raw.now c.requires)
 
 pub machines_of-requires-clause-machines : goal.machines_of-requires-clause-machines
-machines_of-requires-clause-machines c = subst (λ (r : RawNet). Each (IsSoundMachine r) c.as_slice-2.result.now) (sym c.in_ok-scope.ensures) (subst (λ l. Each (IsSoundMachine c.args.raw.now) l) (sym c.as_slice-2.ensures) c.requires.machines)
+machines_of-requires-clause-machines c =
+    subst (λ (r : RawNet). Each (IsSoundMachine r) c.as_slice-2.result.now)
+    (sym c.in_ok-scope.ensures)
+    (subst (λ l. Each (IsSoundMachine c.args.raw.now) l) (sym c.as_slice-2.ensures)
+    c.requires.machines)
 
 pub invariant_of-result : goal.invariant_of-result
 invariant_of-result c =
     let raw = c.args.raw.now in
     let sound = c.requires in
-    let domains : AllZip (λ (d : RawDomain). IsDomainOf d.shape) raw.domains c.in_ok-domains.domains = subst (λ l. AllZip (λ (d : RawDomain). IsDomainOf d.shape) l c.in_ok-domains.domains) c.as_slice.ensures c.in_ok-domains.ensures in
-    let events : c.in_ok-events.events ≡ map (event_of raw) raw.events = c.in_ok-events.ensures ∙ ap (λ (r : RawNet). map (event_of r) r.events) c.in_ok-scope.ensures in
-    let machines : AllZip (IsMachineOf raw) raw.machines c.in_ok-machines.machines = subst (λ l. AllZip (IsMachineOf raw) l c.in_ok-machines.machines) c.as_slice-2.ensures (subst (λ (r : RawNet). AllZip (IsMachineOf r) c.as_slice-2.result.now c.in_ok-machines.machines) c.in_ok-scope.ensures c.in_ok-machines.ensures) in
+    let domains : AllZip (λ (d : RawDomain). IsDomainOf d.shape) raw.domains
+    c.in_ok-domains.domains =
+    subst (λ l. AllZip (λ (d : RawDomain). IsDomainOf d.shape) l c.in_ok-domains.domains)
+    c.as_slice.ensures c.in_ok-domains.ensures in
+    let events : c.in_ok-events.events ≡ map (event_of raw) raw.events =
+    c.in_ok-events.ensures ∙ ap (λ (r : RawNet). map (event_of r) r.events)
+    c.in_ok-scope.ensures in
+    let machines : AllZip (IsMachineOf raw) raw.machines c.in_ok-machines.machines =
+    subst (λ l. AllZip (IsMachineOf raw) l c.in_ok-machines.machines) c.as_slice-2.ensures
+    (subst (λ (r : RawNet). AllZip (IsMachineOf r) c.as_slice-2.result.now
+    c.in_ok-machines.machines) c.in_ok-scope.ensures c.in_ok-machines.ensures) in
     let each = all-keep raw sound c.in_ok-domains.domains domains in
     record {
-      few_domains = omega (arith, zip-long (λ (d : RawDomain). IsDomainOf d.shape) raw.domains c.in_ok-domains.domains domains, domain-count raw sound);
-      few_events = omega (arith, ap length events, length-map raw.events (event_of raw), event-count raw sound);
-      few_machines = omega (arith, zip-long (IsMachineOf raw) raw.machines c.in_ok-machines.machines machines, machine-count raw sound);
-      event_names = ap (λ l. are_distinct (map (λ (event : EventDecl). event.name) l)) events ∙ event-names-kept raw sound;
+      few_domains = omega (
+        arith,
+        zip-long (λ (d : RawDomain). IsDomainOf d.shape) raw.domains
+            c.in_ok-domains.domains domains,
+        domain-count raw sound,
+      );
+      few_events = omega (
+        arith,
+        ap length events,
+        length-map raw.events (event_of raw),
+        event-count raw sound,
+      );
+      few_machines = omega (
+        arith,
+        zip-long (IsMachineOf raw) raw.machines c.in_ok-machines.machines machines,
+        machine-count raw sound,
+      );
+      event_names = ap (λ l. are_distinct (map (λ (event : EventDecl). event.name) l)) events
+          ∙ event-names-kept raw sound;
       machine_names = machine-names-kept raw sound c.in_ok-machines.machines machines;
-      event_domains = ap (list_all (has_domain c.in_ok-domains.domains)) events ∙ event-domains-kept raw sound c.in_ok-domains.domains domains;
-      receivers = ap (λ l. list_all (has_receivers c.in_ok-machines.machines) (enumerate_from 0 l)) events ∙ receivers-kept raw c.in_ok-machines.machines sound.names sound.ports machines;
-      senders = ap (λ l. list_all (has_sender c.in_ok-machines.machines) (enumerate_from 0 l)) events ∙ all-senders raw sound c.in_ok-machines.machines machines;
-      numbered = ap (λ l. list_all (is_numbered c.in_ok-domains.domains l) c.in_ok-machines.machines) events ∙ each (is_numbered c.in_ok-domains.domains (map (event_of raw) raw.events)) (λ m k. k.numbered) raw.machines c.in_ok-machines.machines sound.machines machines;
-      once = each lists_once (λ m k. k.once) raw.machines c.in_ok-machines.machines sound.machines machines;
-      sized_vars = ap (λ l. list_all (has_vars c.in_ok-domains.domains l) c.in_ok-machines.machines) events ∙ each (has_vars c.in_ok-domains.domains (map (event_of raw) raw.events)) (λ m k. k.vars) raw.machines c.in_ok-machines.machines sound.machines machines;
-      sized_outputs = ap (λ l. list_all (has_outputs c.in_ok-domains.domains l) c.in_ok-machines.machines) events ∙ each (has_outputs c.in_ok-domains.domains (map (event_of raw) raw.events)) (λ m k. k.outputs) raw.machines c.in_ok-machines.machines sound.machines machines;
+      event_domains = ap (list_all (has_domain c.in_ok-domains.domains)) events
+          ∙ event-domains-kept raw sound c.in_ok-domains.domains domains;
+      receivers = ap (λ l. list_all (has_receivers c.in_ok-machines.machines) (enumerate_from 0 l))
+          events ∙ receivers-kept raw c.in_ok-machines.machines sound.names sound.ports machines;
+      senders = ap (λ l. list_all (has_sender c.in_ok-machines.machines) (enumerate_from 0 l))
+          events ∙ all-senders raw sound c.in_ok-machines.machines machines;
+      numbered = ap (λ l. list_all (is_numbered c.in_ok-domains.domains l)
+          c.in_ok-machines.machines) events ∙ each
+          (is_numbered c.in_ok-domains.domains (map (event_of raw) raw.events)) (λ m k. k.numbered)
+          raw.machines c.in_ok-machines.machines sound.machines machines;
+      once = each lists_once (λ m k. k.once) raw.machines c.in_ok-machines.machines sound.machines
+          machines;
+      sized_vars = ap (λ l. list_all (has_vars c.in_ok-domains.domains l) c.in_ok-machines.machines)
+          events ∙ each (has_vars c.in_ok-domains.domains (map (event_of raw) raw.events))
+          (λ m k. k.vars) raw.machines c.in_ok-machines.machines sound.machines machines;
+      sized_outputs =
+          ap (λ l. list_all (has_outputs c.in_ok-domains.domains l) c.in_ok-machines.machines)
+          events ∙ each (has_outputs c.in_ok-domains.domains (map (event_of raw) raw.events))
+          (λ m k. k.outputs) raw.machines c.in_ok-machines.machines sound.machines machines;
     }

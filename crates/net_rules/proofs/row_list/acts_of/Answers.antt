@@ -7,7 +7,13 @@ use Rattle.net_rules.proofs.Zips.{each-item, map-step}
 use Rattle.net_rules.proofs.row_list.acts_of.Goals as goal
 
 pub act_of-requires-clause-small : goal.act_of-requires-clause-small
-act_of-requires-clause-small c = each-item (λ (a : RawAct). amount_of (source_of a) ≤ 255) c.args.acts.now c.loop-act.act-index c.act-item.result c.loop-act-test.true c.act-item.is c.requires.small
+act_of-requires-clause-small c =
+    each-item (λ (a : RawAct). amount_of (source_of a) ≤ 255) c.args.acts.now c.loop-act.act-index
+    c.act-item.result c.loop-act-test.true c.act-item.is c.requires.small
 
 pub loop-act-preserved : goal.loop-act-preserved
-loop-act-preserved c = map-step (act_of c.args.local.now.scope.now.raw.now c.args.local.now.machine.now) c.args.acts.now c.loop-act.act-index c.act-item.result c.loop-act.made c.push.new.self c.act_of.result c.loop-act-test.true c.act-item.is c.in_ok-push.ensures.ok c.act_of.ensures c.loop-act.invariant
+loop-act-preserved c =
+    map-step (act_of c.args.local.now.scope.now.raw.now c.args.local.now.machine.now)
+    c.args.acts.now c.loop-act.act-index c.act-item.result c.loop-act.made c.push.new.self
+    c.act_of.result c.loop-act-test.true c.act-item.is c.in_ok-push.ensures.ok c.act_of.ensures
+    c.loop-act.invariant

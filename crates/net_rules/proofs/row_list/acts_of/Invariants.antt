@@ -4,4 +4,5 @@ use Rattle.net_rules.specs.Networks.{act_of}
 use Rattle.net_rules.proofs.row_list.acts_of.Given as goal
 
 abbrev pub invariant-loop-act : goal.invariant-loop-act
-invariant-loop-act l = l.made ≡ map (act_of l.local.scope.now.raw.now l.local.machine.now) (take l.act-index l.acts)
+invariant-loop-act l =
+    l.made ≡ map (act_of l.local.scope.now.raw.now l.local.machine.now) (take l.act-index l.acts)

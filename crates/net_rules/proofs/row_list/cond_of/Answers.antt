@@ -14,38 +14,72 @@ pub get-requires : goal.get-requires
 get-requires c =
     let raw = c.args.local.now.scope.now.raw.now in
     let m = c.args.local.now.machine.now in
-    let is = c.var_number-number.ensures ∙ ap (λ (w : Word). number (m.inputs ++ state_words m) w.name) c.cond_word-name.ensures in
-    omega (arith, is, in-range (m.inputs ++ state_words m) (cond_word c.args.cond.now).name c.requires.known, vars-count raw m, ap length c.requires.vars)
+    let is = c.var_number-number.ensures
+    ∙ ap (λ (w : Word). number (m.inputs ++ state_words m) w.name) c.cond_word-name.ensures in
+    omega (
+      arith,
+      is,
+      in-range (m.inputs ++ state_words m) (cond_word c.args.cond.now).name
+          c.requires.known,
+      vars-count raw m,
+      ap length c.requires.vars,
+    )
 
 pub overflow_cast-result : goal.overflow_cast-result
 overflow_cast-result c =
     let raw = c.args.local.now.scope.now.raw.now in
     let m = c.args.local.now.machine.now in
-    let is = c.var_number-number.ensures ∙ ap (λ (w : Word). number (m.inputs ++ state_words m) w.name) c.cond_word-name.ensures in
-    omega (arith, is, in-range (m.inputs ++ state_words m) (cond_word c.args.cond.now).name c.requires.known, vars-short raw m c.requires.sound c.requires.kept, vars-count raw m)
+    let is = c.var_number-number.ensures
+    ∙ ap (λ (w : Word). number (m.inputs ++ state_words m) w.name) c.cond_word-name.ensures in
+    omega (
+      arith,
+      is,
+      in-range (m.inputs ++ state_words m) (cond_word c.args.cond.now).name
+          c.requires.known,
+      vars-short raw m c.requires.sound c.requires.kept,
+      vars-count raw m,
+    )
 
 pub below-requires : goal.below-requires
 below-requires c =
     let raw = c.args.local.now.scope.now.raw.now in
     let m = c.args.local.now.machine.now in
-    omega (arith, c.from-size.ensures, size-few (var_sizes raw m) c.var_number-number.result c.get.result.now (sizes-fit raw m c.requires.sound c.requires.kept) (ap (λ l. slice_get l c.var_number-number.result) (sym c.requires.vars) ∙ c.get.ensures))
+    omega (
+      arith,
+      c.from-size.ensures,
+      size-few (var_sizes raw m) c.var_number-number.result c.get.result.now
+          (sizes-fit raw m c.requires.sound c.requires.kept)
+          (ap (λ l. slice_get l c.var_number-number.result) (sym c.requires.vars) ∙ c.get.ensures),
+    )
 
 pub returns : goal.returns
 returns c =
     let raw = c.args.local.now.scope.now.raw.now in
     let m = c.args.local.now.machine.now in
     let q = c.args.cond.now in
-    let is = c.var_number-number.ensures ∙ ap (λ (w : Word). number (m.inputs ++ state_words m) w.name) c.cond_word-name.ensures in
-    let few = size-few (var_sizes raw m) c.var_number-number.result c.get.result.now (sizes-fit raw m c.requires.sound c.requires.kept) (ap (λ l. slice_get l c.var_number-number.result) (sym c.requires.vars) ∙ c.get.ensures) in
-    let size = c.from-size.ensures ∙ sym (get_or_from_slice_get c.args.vars.now c.var_number-number.result c.get.result.now 0 c.get.ensures) ∙ (λ i. slice_index (c.requires.vars i) (is i)) in
-    let codes = c.below.ensures (allows raw m q) (λ k h. c.allowed.ensures k (omega (arith, h, few, c.from-size.ensures))) ∙ ap (bits_where (allows raw m q)) size in
+    let is = c.var_number-number.ensures
+    ∙ ap (λ (w : Word). number (m.inputs ++ state_words m) w.name) c.cond_word-name.ensures in
+    let few = size-few (var_sizes raw m) c.var_number-number.result c.get.result.now
+    (sizes-fit raw m c.requires.sound c.requires.kept)
+    (ap (λ l. slice_get l c.var_number-number.result) (sym c.requires.vars) ∙ c.get.ensures) in
+    let size = c.from-size.ensures ∙ sym
+    (get_or_from_slice_get c.args.vars.now c.var_number-number.result c.get.result.now 0
+    c.get.ensures) ∙ (λ i. slice_index (c.requires.vars i) (is i)) in
+    let codes = c.below.ensures (allows raw m q)
+    (λ k h. c.allowed.ensures k (omega (arith, h, few, c.from-size.ensures)))
+    ∙ ap (bits_where (allows raw m q)) size in
     λ i. record { var = is i; codes = codes i }
 
 pub var_numbered-var-requires-clause-number : goal.var_numbered-var-requires-clause-number
 var_numbered-var-requires-clause-number c =
     let m = c.args.local.now.machine.now in
     let name = ap (λ (w : Word). w.name) c.cond_word-name.ensures in
-    ap (number_in (names_of (m.inputs ++ state_words m))) name ∙ has-it (m.inputs ++ state_words m) (cond_word c.args.cond.now).name c.requires.known ∙ ap Some (sym (c.var_number-number.ensures ∙ ap (number (m.inputs ++ state_words m)) name))
+    ap (number_in (names_of (m.inputs ++ state_words m))) name
+    ∙ has-it (m.inputs ++ state_words m) (cond_word c.args.cond.now).name c.requires.known
+    ∙ ap Some (sym (c.var_number-number.ensures ∙ ap (number (m.inputs ++ state_words m)) name))
 
 pub allowed-requires-clause-var : goal.allowed-requires-clause-var
-allowed-requires-clause-var c = subst (λ n. IsVar c.args.local.now.scope.now.raw.now c.args.local.now.machine.now n c.var_numbered-var.result.now) (ap (λ (w : Word). w.name) c.cond_word-name.ensures) c.var_numbered-var.ensures
+allowed-requires-clause-var c =
+    subst (λ n. IsVar c.args.local.now.scope.now.raw.now c.args.local.now.machine.now n
+    c.var_numbered-var.result.now) (ap (λ (w : Word). w.name) c.cond_word-name.ensures)
+    c.var_numbered-var.ensures

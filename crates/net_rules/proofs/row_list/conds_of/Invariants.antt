@@ -4,4 +4,5 @@ use Rattle.net_rules.specs.Networks.{cond_of}
 use Rattle.net_rules.proofs.row_list.conds_of.Given as goal
 
 abbrev pub invariant-loop-cond : goal.invariant-loop-cond
-invariant-loop-cond l = l.made ≡ map (cond_of l.local.scope.now.raw.now l.local.machine.now) (take l.cond-index l.conds)
+invariant-loop-cond l =
+    l.made ≡ map (cond_of l.local.scope.now.raw.now l.local.machine.now) (take l.cond-index l.conds)

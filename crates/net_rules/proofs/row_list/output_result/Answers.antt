@@ -7,10 +7,24 @@ pub overflow_add-result-2 : goal.overflow_add-result-2
 overflow_add-result-2 c =
     let raw = c.args.local.now.scope.now.raw.now in
     let m = c.args.local.now.machine.now in
-    omega (arith, c.len.ensures, c.output_number.ensures, number-most m.outputs c.args.name, few-outputs raw m c.requires.sound c.requires.kept, few-states raw m c.requires.sound c.requires.kept)
+    omega (
+      arith,
+      c.len.ensures,
+      c.output_number.ensures,
+      number-most m.outputs c.args.name,
+      few-outputs raw m c.requires.sound c.requires.kept,
+      few-states raw m c.requires.sound c.requires.kept,
+    )
 
 pub overflow_cast-result : goal.overflow_cast-result
 overflow_cast-result c =
     let raw = c.args.local.now.scope.now.raw.now in
     let m = c.args.local.now.machine.now in
-    omega (arith, c.len.ensures, c.output_number.ensures, number-most m.outputs c.args.name, few-outputs raw m c.requires.sound c.requires.kept, few-states raw m c.requires.sound c.requires.kept)
+    omega (
+      arith,
+      c.len.ensures,
+      c.output_number.ensures,
+      number-most m.outputs c.args.name,
+      few-outputs raw m c.requires.sound c.requires.kept,
+      few-states raw m c.requires.sound c.requires.kept,
+    )

@@ -5,4 +5,5 @@ use Rattle.net_rules.specs.Networks.{IsRowOf}
 use Rattle.net_rules.proofs.row_list.rows_of.Given as goal
 
 abbrev pub invariant-loop-row : goal.invariant-loop-row
-invariant-loop-row l = AllZip (IsRowOf l.local.scope.now.raw.now l.local.machine.now) (take l.row-index l.rows) l.made
+invariant-loop-row l =
+    AllZip (IsRowOf l.local.scope.now.raw.now l.local.machine.now) (take l.row-index l.rows) l.made

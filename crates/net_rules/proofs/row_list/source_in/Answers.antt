@@ -10,4 +10,12 @@ pub overflow_cast-result-in-Input : goal.overflow_cast-result-in-Input
 overflow_cast-result-in-Input c =
     let raw = c.args.local.now.scope.now.raw.now in
     let m = c.args.local.now.machine.now in
-    omega (arith, c.var_number.ensures, number-most (m.inputs ++ state_words m) c.in-Input.word.name, length-append m.inputs (state_words m), length-map m.states (λ (s : RawState). s.name), few-inputs raw m c.requires.sound c.requires.kept, few-states raw m c.requires.sound c.requires.kept)
+    omega (
+      arith,
+      c.var_number.ensures,
+      number-most (m.inputs ++ state_words m) c.in-Input.word.name,
+      length-append m.inputs (state_words m),
+      length-map m.states (λ (s : RawState). s.name),
+      few-inputs raw m c.requires.sound c.requires.kept,
+      few-states raw m c.requires.sound c.requires.kept,
+    )

@@ -7,10 +7,20 @@ pub overflow_add-result : goal.overflow_add-result
 overflow_add-result c =
     let raw = c.args.local.now.scope.now.raw.now in
     let m = c.args.local.now.machine.now in
-    omega (arith, c.state_number.ensures, states-most m c.args.name, few-states raw m c.requires.sound c.requires.kept)
+    omega (
+      arith,
+      c.state_number.ensures,
+      states-most m c.args.name,
+      few-states raw m c.requires.sound c.requires.kept,
+    )
 
 pub overflow_cast-result : goal.overflow_cast-result
 overflow_cast-result c =
     let raw = c.args.local.now.scope.now.raw.now in
     let m = c.args.local.now.machine.now in
-    omega (arith, c.state_number.ensures, states-most m c.args.name, few-states raw m c.requires.sound c.requires.kept)
+    omega (
+      arith,
+      c.state_number.ensures,
+      states-most m c.args.name,
+      few-states raw m c.requires.sound c.requires.kept,
+    )

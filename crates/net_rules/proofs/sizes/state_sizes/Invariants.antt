@@ -4,4 +4,5 @@ use Rattle.net_names.specs.Scopes.{state_codes}
 use Rattle.net_rules.proofs.sizes.state_sizes.Given as goal
 
 abbrev pub invariant-loop-state : goal.invariant-loop-state
-invariant-loop-state l = l.into ++ map (state_codes l.scope.raw.now) (drop l.state-index l.states) ≡ l.fn.into ++ map (state_codes l.scope.raw.now) l.states
+invariant-loop-state l = l.into ++ map (state_codes l.scope.raw.now) (drop l.state-index l.states)
+    ≡ l.fn.into ++ map (state_codes l.scope.raw.now) l.states

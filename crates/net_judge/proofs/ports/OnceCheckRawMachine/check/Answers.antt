@@ -10,7 +10,12 @@ use Rattle.net_judge.proofs.ports.OnceCheckRawMachine.check.Goals as goal
 pub returns : goal.returns
 returns c =
     let m = c.args.machine.now in
-    let names : has c.in_ok-taken.taken ≡ is_name_of (m.inputs ++ m.outputs) = c.in_ok-taken.ensures.names ∙ ap is_name_of c.in_ok-ports.ensures in
-    three-found c.args.found c.in_ok-found.found c.in_ok-found-2.found c.repeated.result (repeated no_name m.inputs) (repeated no_name m.outputs) (repeated (is_name_of (m.inputs ++ m.outputs)) (state_words m))
+    let names : has c.in_ok-taken.taken ≡ is_name_of (m.inputs ++ m.outputs) =
+    c.in_ok-taken.ensures.names ∙ ap is_name_of c.in_ok-ports.ensures in
+    three-found c.args.found c.in_ok-found.found c.in_ok-found-2.found c.repeated.result
+    (repeated no_name m.inputs) (repeated no_name m.outputs)
+    (repeated (is_name_of (m.inputs ++ m.outputs)) (state_words m))
     c.in_ok-found.ensures c.in_ok-found-2.ensures
-    (IfOk-same c.repeated.result _ _ (λ i. sooner c.in_ok-found-2.found (least (repeated (names i) (c.in_ok-states.ensures i)))) c.repeated.ensures)
+    (IfOk-same c.repeated.result _ _ (λ i.
+    sooner c.in_ok-found-2.found (least (repeated (names i) (c.in_ok-states.ensures i))))
+    c.repeated.ensures)

@@ -9,5 +9,6 @@ pub returns : goal.returns
 returns c =
     let declared = has c.args.self.now.events in
     c.missing.ensures
-    ∙ ap (λ f. sooner f (least (missing declared c.args.machine.now.outputs))) c.missing-found.ensures
+    ∙ ap (λ f. sooner f (least (missing declared c.args.machine.now.outputs)))
+    c.missing-found.ensures
     ∙ sooner-missing declared c.args.found c.args.machine.now.inputs c.args.machine.now.outputs

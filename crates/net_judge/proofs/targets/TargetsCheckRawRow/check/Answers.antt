@@ -13,7 +13,12 @@ returns c =
     let emits = not_once m.outputs (flat_map emitted acts) in
     let sets = not_once (state_words m) (flat_map set_names acts) in
     let first : c.in_ok-found.found ≡ sooner c.args.found (least emits) =
-    c.in_ok-found.ensures ∙ (λ i. sooner c.args.found (least (missing (c.outputs.ensures i) (c.in_ok-emits.ensures i) ++ repeated no_name (c.in_ok-emits.ensures i)))) in
+    c.in_ok-found.ensures
+    ∙ (λ i. sooner c.args.found
+    (least (missing (c.outputs.ensures i) (c.in_ok-emits.ensures i)
+    ++ repeated no_name (c.in_ok-emits.ensures i)))) in
     IfOk-same c.not_once-2.result _ _
-    ((λ i. sooner (first i) (least (missing (c.states.ensures i) (c.in_ok-sets.ensures i) ++ repeated no_name (c.in_ok-sets.ensures i)))) ∙ sooner-least c.args.found emits sets)
+    ((λ i. sooner (first i)
+    (least (missing (c.states.ensures i) (c.in_ok-sets.ensures i)
+    ++ repeated no_name (c.in_ok-sets.ensures i)))) ∙ sooner-least c.args.found emits sets)
     c.not_once-2.ensures

@@ -12,4 +12,8 @@ returns-clause-noted c =
     ∙ insert-noted c.args.name c.args.number c.args.self.now (sym c.has.ensures ∙ c.if-has.false)
 
 pub returns-clause-names : goal.returns-clause-names
-returns-clause-names c = λ q. ap (λ es. has es q) (c.in_ok-insert.ensures.entries ∙ ap (λ es. insert_entry is_same es c.args.name c.args.number) c.self.view_is ∙ insert-noted c.args.name c.args.number c.args.self.now (sym c.has.ensures ∙ c.if-has.false)) ∙ has-noted c.args.self.now c.args.name c.args.number q
+returns-clause-names c =
+    λ q. ap (λ es. has es q) (c.in_ok-insert.ensures.entries
+    ∙ ap (λ es. insert_entry is_same es c.args.name c.args.number) c.self.view_is
+    ∙ insert-noted c.args.name c.args.number c.args.self.now (sym c.has.ensures ∙ c.if-has.false))
+    ∙ has-noted c.args.self.now c.args.name c.args.number q

@@ -5,7 +5,8 @@ use Rattle.std.proofs.Common.{◌∙◌}
 use Rattle.net_reader.proofs.reader.Reader.next_num.Goals as goal
 
 pub returns-in-Some : goal.returns-in-Some
-returns-in-Some c = c.num_of.ensures ∙ head_next num_of c.args.self.now (seen c.in-Some.piece) c.in-Some.ensures.seen
+returns-in-Some c = c.num_of.ensures
+    ∙ head_next num_of c.args.self.now (seen c.in-Some.piece) c.in-Some.ensures.seen
 
 pub returns-in-None : goal.returns-in-None
 returns-in-None c = no_next num_of c.args.self.now c.in-None.ensures.seen

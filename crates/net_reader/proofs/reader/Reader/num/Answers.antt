@@ -13,4 +13,5 @@ returns-in-None c = next_none num_of c.args.self.now (sym c.in-None.ensures)
 
 pub returns-in-Some : goal.returns-in-Some
 unfolding num_at
-returns-in-Some c = rw c.skip.ensures (next_some num_of c.args.self.now c.in-Some.num (sym c.in-Some.ensures))
+returns-in-Some c =
+    rw c.skip.ensures (next_some num_of c.args.self.now c.in-Some.num (sym c.in-Some.ensures))

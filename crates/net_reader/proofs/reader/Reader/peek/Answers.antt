@@ -7,4 +7,5 @@ use Rattle.net_reader.proofs.reader.Reader.peek.Goals as goal
 pub returns-in-Some-clause-seen : goal.returns-in-Some-clause-seen
 returns-in-Some-clause-seen c =
     let text = c.self.inside.text.now in
-    ap Some c.piece_of.ensures ∙ ap (λ next. head_of (lexemes text (left text next))) (sym c.in-Some.is) ∙ ap head_of c.self.view_is
+    ap Some c.piece_of.ensures ∙ ap (λ next. head_of (lexemes text (left text next)))
+    (sym c.in-Some.is) ∙ ap head_of c.self.view_is

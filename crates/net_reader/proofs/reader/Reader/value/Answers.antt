@@ -13,4 +13,5 @@ returns-in-None c = next_none value_of c.args.self.now (sym c.in-None.ensures)
 
 pub returns-in-Some : goal.returns-in-Some
 unfolding value_at
-returns-in-Some c = rw c.skip.ensures (next_some value_of c.args.self.now c.in-Some.value (sym c.in-Some.ensures))
+returns-in-Some c =
+    rw c.skip.ensures (next_some value_of c.args.self.now c.in-Some.value (sym c.in-Some.ensures))

@@ -1,0 +1,10 @@
+mod Walking
+mod Executing
+mod Outcomes
+mod Doing
+mod Reacting
+mod Layouts
+mod Bounds
+mod Fits
+mod Joined
+mod Lamps

@@ -10,7 +10,7 @@ use Rattle.journal_text.proofs.Basics.{and_true}
 abbrev pub NoneBefore : ℕ → List ℕ → ℕ → Type 0
 NoneBefore mark bytes k = (j : ℕ) → j < k → (get_or bytes j 0 == mark) ≡ false
 
-cut_here : (mark : ℕ) (bytes : List ℕ) (k : ℕ) → k < length bytes → get_or bytes k 0 ≡ mark → bytes ≡ take k bytes ++ mark ∷ drop (suc k) bytes
+pub cut_here : (mark : ℕ) (bytes : List ℕ) (k : ℕ) → k < length bytes → get_or bytes k 0 ≡ mark → bytes ≡ take k bytes ++ mark ∷ drop (suc k) bytes
 cut_here mark [] k below here = absurd (omega arith)
 cut_here mark (c ∷ rest) zero below here = ap (λ x. x ∷ rest) here
 cut_here mark (c ∷ rest) (suc k) below here = ap (λ xs. c ∷ xs) (cut_here mark rest k (omega arith) here)

@@ -15,6 +15,7 @@ pub mod OnlyPrinted
 pub mod OnlyTexts
 pub mod Cutting
 pub mod Walking
+pub mod Skipping
 pub mod Finding
 pub mod Taking
 pub mod Listing

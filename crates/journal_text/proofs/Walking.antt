@@ -58,7 +58,7 @@ list_test words =
 abbrev pub Passed : Text → Text → ℕ → Type 0
 Passed sign words at = (at ≡ 0) ⊎ ((prefix : Text) × (words ≡ prefix ++ 32 ∷ drop at words) × (at ≡ length prefix + 1) × (avoids sign (words_of prefix) ≡ true))
 
-after_past : (sign : Text) (ws more : Texts) → avoids sign ws ≡ true → after sign (ws ++ more) ≡ after sign more
+pub after_past : (sign : Text) (ws more : Texts) → avoids sign ws ≡ true → after sign (ws ++ more) ≡ after sign more
 after_past sign [] more h = refl
 after_past sign (w ∷ ws) more h =
     let parts = and_parts (not (is_same w sign)) _ h in
@@ -98,7 +98,7 @@ cut_found sign words at tail word rest (inr passed) some is whole lack same =
     ap words_of (passed.1 ∙ ap (λ t. passed.0 ++ 32 ∷ t) back) ∙ pieces_both 32 passed.0 (word ++ 32 ∷ rest) ∙ ap (λ ws. words_of passed.0 ++ ws) (pieces_at 32 word rest lack ∙ ap (λ w. w ∷ words_of rest) same) in
     (ap (before sign) all ∙ before_at sign (words_of passed.0) (words_of rest) passed.3 ∙ ap words_of (sym prefix), ap (after sign) all ∙ after_at sign (words_of passed.0) (words_of rest) passed.3)
 
-all_past : (sign words prefix word rest : Text) → words ≡ prefix ++ 32 ∷ rest → avoids sign (words_of prefix) ≡ true → Passed sign words (length words - length rest)
+pub all_past : (sign words prefix word rest : Text) → words ≡ prefix ++ 32 ∷ rest → avoids sign (words_of prefix) ≡ true → Passed sign words (length words - length rest)
 all_past sign words prefix word rest is free =
     let len : length words ≡ length prefix + (length rest + 1) = ap length is ∙ length-append prefix (32 ∷ rest) ∙ add prefix rest in
     let at : length words - length rest ≡ length prefix + 1 = omega arith in

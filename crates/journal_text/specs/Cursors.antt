@@ -1,5 +1,5 @@
 -- What is left of a text that is walked piece by piece.
-use Rattle.std.specs.Prelude.{◌≡◌, ◌⊎◌, ℕ, Bool, true, not, ◌==◌, [], ◌∷◌, Option, Some, None, unwrap_or, is_some}
+use Rattle.std.specs.Prelude.{◌≡◌, ◌⊎◌, ℕ, ◌+◌, Bool, true, not, ◌==◌, [], ◌∷◌, ◌++◌, length, drop, Option, Some, None, unwrap_or, is_some}
 use Rattle.std.specs.List.{list_all}
 use Rattle.journal_text.specs.Forms.{Text, Texts, pieces, words_of, list_of, before, after}
 
@@ -19,6 +19,11 @@ CutAt sign words prefix rest = (before sign words ≡ prefix) × (after sign wor
 -- there is no such sign, or nothing before the first one, or nothing after it
 abbrev pub NoCut : Text → Texts → Type 0
 NoCut sign words = (after sign words ≡ None) ⊎ ((before sign words ≡ []) ⊎ (after sign words ≡ Some []))
+
+-- The place is the start of a word, and what stands before it lacks the mark.
+abbrev pub SkippedTo : ℕ → Text → ℕ → Type 0
+SkippedTo mark text at =
+    (at ≡ 0) ⊎ ((prefix : Text) × (text ≡ prefix ++ 32 ∷ drop at text) × (at ≡ length prefix + 1) × (lacks mark prefix ≡ true))
 
 -- the items of a list, and none where it is no list
 abbrev pub items_in : Text → Texts

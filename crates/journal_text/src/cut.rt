@@ -1,12 +1,12 @@
 // Pieces of a text, words, and the signs between lists.
-ghost use Rattle.std.specs.Prelude.{◌≡◌, ◌<◌, ◌+◌, ◌++◌, ◌∷◌, [], ℕ, true, length, IfSome, IfNone, is_some, option_copied, Some, None};
+ghost use Rattle.std.specs.Prelude.{◌≡◌, ◌<◌, ◌≤◌, ◌+◌, ◌++◌, ◌∷◌, [], ℕ, true, length, IfSome, IfNone, is_some, option_copied, Some, None};
 ghost use Rattle.std.specs.List.{list_all};
 ghost use Rattle.journal_text.specs.Forms.{pieces, is_word_byte, is_word, is_sign, words_of, list_of, dash};
 ghost use Rattle.domains.specs.Names.{is_same};
-ghost use Rattle.journal_text.specs.Cursors.{lacks, left, items_in, CutAt, NoCut};
+ghost use Rattle.journal_text.specs.Cursors.{lacks, left, items_in, CutAt, NoCut, SkippedTo};
 ghost use Rattle.memchr.specs.Find.{IsFirstByte, is_byte};
 
-use memchr::memchr;
+use memchr::{memchr, memrchr};
 
 // How many bytes are looked at one by one: most words are no longer.
 const NEAR: usize = 16;
@@ -108,13 +108,33 @@ pub fn items_of(list: &[u8]) -> Option<&[u8]>
     if is_dash(list) { None } else { Some(list) }
 }
 
+// The place of the first word that has such a byte: what stands before it lacks the byte.
+fn next_with(text: &[u8], mark: u8) -> Option<usize>
+    ensures some { IfSome result (λ at. SkippedTo mark text.now at) }
+    ensures within { IfSome result (λ at. at ≤ length text.now) }
+    ensures none { IfNone result (lacks mark text.now ≡ true) }
+{
+    let Some(found) = first_place(text, mark) else {
+        return None;
+    };
+    match memrchr(b' ', &text[..found]) {
+        Some(space) => Some(space + 1),
+        None => Some(0),
+    }
+}
+
 /// What stands before the first such sign among words, and what stands after it. None where there is no such sign, or nothing before it or after it.
 pub fn cut_at<'a>(words: &'a [u8], sign: &[u8]) -> Option<(&'a [u8], &'a [u8])>
+    requires { 0 < length sign.now }
     ensures some { IfSome result (λ r. CutAt sign.now (words_of words.now) (words_of r.0.now) (words_of r.1.now)) }
     ensures none { IfNone result (NoCut sign.now (words_of words.now)) }
 {
-    let mut at = 0;
+    let mut from = 0;
     loop {
+        let Some(skipped) = next_with(&words[from..], sign[0]) else {
+            return None;
+        };
+        let at = from + skipped;
         let (word, after) = next_piece(&words[at..], b' ');
         let Some(rest) = after else {
             return None;
@@ -126,6 +146,6 @@ pub fn cut_at<'a>(words: &'a [u8], sign: &[u8]) -> Option<(&'a [u8], &'a [u8])>
                 Some((&words[..at - 1], rest))
             };
         }
-        at = words.len() - rest.len();
+        from = words.len() - rest.len();
     }
 }

@@ -113,10 +113,10 @@ fn push_settings(
     ensures { OnOk result (into.new ≡ into.old ++ spaced (set_items net.now variables.now codes.now)) }
 {
     let mut some = false;
-    for (variable, code) in variables.iter().zip(codes) {
-        if *code > 0 {
+    for (variable, setting) in variables.iter().zip(codes) {
+        if *setting > 0 {
             push_lead(some, into)?;
-            push_state(net, variable, *code - 1, into)?;
+            push_state(net, variable, *setting - 1, into)?;
             some = true;
         }
     }

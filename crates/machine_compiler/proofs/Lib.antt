@@ -1,0 +1,10 @@
+mod Apart
+mod Collecting
+mod Cutting
+mod Labelled
+mod Parting
+mod Reading
+mod Samples
+mod Tallying
+mod Wording
+mod Writing

@@ -1,0 +1,167 @@
+-- Parts and lines, written one after another.
+use Rattle.std.proofs.Common.{◌≡◌, ⊎_elim, ◌⊎◌, inl, inr, ℕ, zero, suc, ◌+◌, ◌<◌, ◌≤◌, List, [], ◌∷◌, ◌++◌, map, length, drop, min, slice_get, Option, Some, None, refl, ap, sym, subst, ◌∙◌, arith, append_assoc}
+use Rattle.std.specs.Prelude.{IsSomeAnd}
+use Rattle.std.proofs.lemmas.Bool.{cases_lt}
+use Rattle.std.proofs.lemmas.List.{append-nil}
+use Rattle.transition_table.specs.declared.machine.Machine.{Machine}
+use Rattle.transition_table.specs.declared.network.Network.{Network}
+use Rattle.transition_table.specs.Transitions.{OfMachine}
+use Rattle.journals.specs.declared.entry.Entry.{Entry}
+use Rattle.task_code.specs.declared.instr.Instr.{Instr}
+use Rattle.task_code.specs.Listings.{Part, line, part_text, parts_text}
+use Rattle.machine_compiler.specs.declared.compiled.Compiled.{Compiled}
+use Rattle.machine_compiler.specs.Parts.{part_of_compiled, parts_of, codes_in}
+use Rattle.machine_compiler.specs.Lines.{lengths, lengths_lines, tries, tries_lines, reactions_of}
+
+drop_one : {X : Type 0} (xs : List X) (k : ℕ) (x : X) → slice_get xs k ≡ Some x
+    → drop k xs ≡ x ∷ drop (suc k) xs
+drop_one [] k x e = cc
+drop_one {X = X} (y ∷ ys) zero x e = let f : y ≡ x = cc in ap (λ (z : X). z ∷ ys) f
+drop_one (y ∷ ys) (suc k) x e = drop_one ys k x e
+
+drop_all : {X : Type 0} (xs : List X) (k : ℕ) → length xs ≤ k → drop k xs ≡ []
+drop_all [] zero high = refl
+drop_all [] (suc k) high = refl
+drop_all (x ∷ xs) zero high = absurd (omega arith)
+drop_all (x ∷ xs) (suc k) high = drop_all xs k (omega arith)
+
+-- ---- codes
+pub more_codes : (cs : List Compiled) (k : ℕ) (c : Compiled) (out new : List (List Instr))
+    (whole : List (List Instr))
+    → out ++ codes_in (parts_of (drop k cs)) ≡ whole
+    → slice_get cs k ≡ Some c
+    → new ≡ out ++ c.code ∷ []
+    → new ++ codes_in (parts_of (drop (k + 1) cs)) ≡ whole
+more_codes cs k c out new whole is at e =
+    let f : k + 1 ≡ suc k = omega arith in
+    ap (λ (n : ℕ). new ++ codes_in (parts_of (drop n cs))) f
+    ∙ ap (λ (xs : List (List Instr)). xs ++ codes_in (parts_of (drop (suc k) cs))) e
+    ∙ append_assoc out (c.code ∷ []) (codes_in (parts_of (drop (suc k) cs)))
+    ∙ ap (λ (ds : List Compiled). out ++ codes_in (parts_of ds)) (sym (drop_one cs k c at))
+    ∙ is
+
+pub all_codes_in : (cs : List Compiled) (k : ℕ) (out whole : List (List Instr)) → length cs ≤ k
+    → out ++ codes_in (parts_of (drop k cs)) ≡ whole → out ≡ whole
+all_codes_in cs k out whole high is =
+    sym (append-nil out) ∙ ap (λ (ds : List Compiled). out ++ codes_in (parts_of ds))
+    (sym (drop_all cs k high)) ∙ is
+
+-- ---- texts of machines and parts, side by side
+-- the text of machines and parts is that of each pair, one after another
+pub record Pairwise (one : ℕ → Machine → Part → List ℕ) (text : ℕ → List Machine → List Part
+    → List ℕ) : Type 0 where
+  pub no_machine : (k : ℕ) (qs : List Part) → text k [] qs ≡ []
+  pub no_part : (k : ℕ) (ms : List Machine) → text k ms [] ≡ []
+  pub pair : (k : ℕ) (m : Machine) (ms : List Machine) (q : Part) (qs : List Part)
+      → text k (m ∷ ms) (q ∷ qs) ≡ one k m q ++ text (suc k) ms qs
+
+pub listing_pairs : (net : Network)
+    → Pairwise (λ k m q. part_text net m q) (λ k ms qs. parts_text net ms qs)
+listing_pairs net =
+    record {
+      no_machine = λ k qs. refl;
+      no_part = no_parts;
+      pair = λ k m ms q qs. refl;
+    }
+  where
+    no_parts : (k : ℕ) (ms : List Machine) → parts_text net ms [] ≡ []
+    no_parts k [] = refl
+    no_parts k (m ∷ ms) = refl
+
+pub length_pairs : Pairwise (λ k m q. line (lengths m q)) (λ k ms qs. lengths_lines ms qs)
+length_pairs =
+    record {
+      no_machine = λ k qs. refl;
+      no_part = no_parts;
+      pair = λ k m ms q qs. refl;
+    }
+  where
+    no_parts : (k : ℕ) (ms : List Machine) → lengths_lines ms [] ≡ []
+    no_parts k [] = refl
+    no_parts k (m ∷ ms) = refl
+
+pub tries_pairs : (journal : List Entry)
+    → Pairwise (λ k m q. line (lengths m q ++ tries q.code (reactions_of k journal)))
+    (tries_lines journal)
+tries_pairs journal =
+    record {
+      no_machine = λ k qs. refl;
+      no_part = no_parts;
+      pair = λ k m ms q qs. refl;
+    }
+  where
+    no_parts : (k : ℕ) (ms : List Machine) → tries_lines journal k ms [] ≡ []
+    no_parts k [] = refl
+    no_parts k (m ∷ ms) = refl
+
+-- one more pair
+pub more_pairs : (one : ℕ → Machine → Part → List ℕ) (text : ℕ → List Machine → List Part → List ℕ)
+    → Pairwise one text
+    → (ms : List Machine) (cs : List Compiled) (k : ℕ) (m : Machine) (c : Compiled)
+    (out new whole : List ℕ)
+    → out ++ text k (drop k ms) (parts_of (drop k cs)) ≡ whole
+    → slice_get ms k ≡ Some m
+    → slice_get cs k ≡ Some c
+    → new ≡ out ++ one k m (part_of_compiled c)
+    → new ++ text (k + 1) (drop (k + 1) ms) (parts_of (drop (k + 1) cs)) ≡ whole
+more_pairs one text pairs ms cs k m c out new whole is at_m at_c e =
+    let f : k + 1 ≡ suc k = omega arith in
+    let rest = text (suc k) (drop (suc k) ms) (parts_of (drop (suc k) cs)) in
+    ap (λ (n : ℕ). new ++ text n (drop n ms) (parts_of (drop n cs))) f
+    ∙ ap (λ (xs : List ℕ). xs ++ rest) e
+    ∙ append_assoc out (one k m (part_of_compiled c)) rest
+    ∙ ap (λ (xs : List ℕ). out ++ xs)
+    (sym (pairs.pair k m (drop (suc k) ms) (part_of_compiled c) (parts_of (drop (suc k) cs))))
+    ∙ ap (λ (ds : List Compiled). out ++ text k (m ∷ drop (suc k) ms) (parts_of ds))
+    (sym (drop_one cs k c at_c))
+    ∙ ap (λ (ns : List Machine). out ++ text k ns (parts_of (drop k cs)))
+    (sym (drop_one ms k m at_m))
+    ∙ is
+
+-- nothing is left where the machines or the parts end
+pub all_pairs : (one : ℕ → Machine → Part → List ℕ) (text : ℕ → List Machine → List Part → List ℕ)
+    → Pairwise one text
+    → (ms : List Machine) (cs : List Compiled) (k : ℕ) (out whole : List ℕ)
+    → out ++ text k (drop k ms) (parts_of (drop k cs)) ≡ whole
+    → min (length ms) (length cs) ≤ k
+    → out ≡ whole
+all_pairs one text pairs ms cs k out whole is end =
+    ⊎_elim few_machines few_parts (short (cases_lt k (length ms)))
+  where
+    nothing : text k (drop k ms) (parts_of (drop k cs)) ≡ [] → out ≡ whole
+    nothing none = sym (append-nil out) ∙ ap (λ (xs : List ℕ). out ++ xs) (sym none) ∙ is
+
+    short : ((k < length ms) ⊎ (length ms ≤ k)) → ((length ms ≤ k) ⊎ (length cs ≤ k))
+    short (inl low) = inr (omega arith)
+    short (inr high) = inl high
+
+    few_machines : length ms ≤ k → out ≡ whole
+    few_machines high =
+        nothing (ap (λ (ns : List Machine). text k ns (parts_of (drop k cs))) (drop_all ms k high)
+        ∙ pairs.no_machine k (parts_of (drop k cs)))
+
+    few_parts : length cs ≤ k → out ≡ whole
+    few_parts high =
+        nothing (ap (λ (ds : List Compiled). text k (drop k ms) (parts_of ds)) (drop_all cs k high)
+        ∙ pairs.no_part k (drop k ms))
+
+-- ---- a part of the listing
+-- what holds of the machine of a number holds of this one
+pub of_machine : (net : Network) (k : ℕ) (m : Machine) (P : Machine → Type 0)
+    → slice_get net.machines k ≡ Some m → OfMachine net k P → P m
+of_machine net k m P at holds = go (slice_get net.machines k) at holds
+  where
+    go : (x : Option Machine) → x ≡ Some m → IsSomeAnd x P → P m
+    go None e h = absurd h
+    go (Some n) e h = let is : n ≡ m = cc in subst P is h
+
+-- three texts, one after another
+pub three_texts : (old one two new a b c : List ℕ) → one ≡ old ++ a → two ≡ one ++ b
+    → new ≡ two ++ c → new ≡ old ++ ((a ++ b) ++ c)
+three_texts old one two new a b c e f g =
+    g
+    ∙ ap (λ (xs : List ℕ). xs ++ c) (f ∙ ap (λ (xs : List ℕ). xs ++ b) e ∙ append_assoc old a b)
+    ∙ append_assoc old (a ++ b) c
+
+pub two_texts : (old one new a b : List ℕ) → one ≡ old ++ a → new ≡ one ++ b → new ≡ old ++ (a ++ b)
+two_texts old one new a b e f = f ∙ ap (λ (xs : List ℕ). xs ++ b) e ∙ append_assoc old a b

@@ -1,0 +1,5 @@
+pub mod Parts
+pub mod Making
+pub mod Lines
+pub mod Tallies
+pub mod Laws

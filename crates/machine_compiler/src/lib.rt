@@ -1,0 +1,18 @@
+// Machines compiled: an order, a graph and code for each, their listing, and the lines that say how
+// large they are.
+#![tactic(auto)]
+
+mod compiled;
+mod compiling;
+mod law;
+mod lines;
+mod listing;
+mod tallies;
+#[cfg(test)]
+mod tests;
+
+pub use compiled::{Compiled, CompiledList, codes_of};
+pub use compiling::{compile_machine, compile_network};
+pub use law::laws;
+pub use lines::{print_lengths, print_tries};
+pub use listing::print_listing;

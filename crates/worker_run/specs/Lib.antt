@@ -1,0 +1,5 @@
+pub mod Empty
+pub mod Gathered
+pub mod InHand
+pub mod Tries
+pub mod Turns

@@ -1,0 +1,13 @@
+// Workers in threads over cells, each of which stands under a lock of its own. All locked values
+// are of one network.
+#![tactic(auto)]
+
+mod gathering;
+mod in_hand;
+mod locked;
+mod logs;
+#[cfg(test)]
+mod tests;
+mod worker;
+
+pub use gathering::{Gathered, gather};

@@ -8,7 +8,8 @@ use Rattle.journal_text.specs.Texts.{spaced, space}
 use Rattle.journal_text.specs.Forms.{Text, Texts, pieces, with_byte, dash}
 pub use Rattle.journal_text.specs.Cursors.{lacks}
 
-pub pieces_at : (mark : ℕ) (w rest : Text) → lacks mark w ≡ true → pieces mark (w ++ mark ∷ rest) ≡ w ∷ pieces mark rest
+pub pieces_at : (mark : ℕ) (w rest : Text) → lacks mark w ≡ true
+    → pieces mark (w ++ mark ∷ rest) ≡ w ∷ pieces mark rest
 pieces_at mark [] rest h = rw (eq-eqb mark mark refl) refl
 pieces_at mark (c ∷ w) rest h =
     let parts = and_parts (not (c == mark)) _ h in
@@ -27,14 +28,17 @@ joined_by mark (w ∷ []) = w
 joined_by mark (w ∷ next ∷ ws) = w ++ mark ∷ joined_by mark (next ∷ ws)
 
 -- words that lack the mark are the pieces of what they join to
-pub pieces_of_joined : (mark : ℕ) (w : Text) (ws : Texts) → list_all (lacks mark) (w ∷ ws) ≡ true → pieces mark (joined_by mark (w ∷ ws)) ≡ w ∷ ws
+pub pieces_of_joined : (mark : ℕ) (w : Text) (ws : Texts) → list_all (lacks mark) (w ∷ ws) ≡ true
+    → pieces mark (joined_by mark (w ∷ ws)) ≡ w ∷ ws
 pieces_of_joined mark w [] h = pieces_end mark w (and_parts (lacks mark w) _ h).0
 pieces_of_joined mark w (next ∷ ws) h =
     let parts = and_parts (lacks mark w) _ h in
-    pieces_at mark w (joined_by mark (next ∷ ws)) parts.0 ∙ ap (λ ps. w ∷ ps) (pieces_of_joined mark next ws parts.1)
+    pieces_at mark w (joined_by mark (next ∷ ws)) parts.0
+    ∙ ap (λ ps. w ∷ ps) (pieces_of_joined mark next ws parts.1)
 
 -- the pieces join to the text
-with_byte_joined : (mark c : ℕ) (b : Bool) (w : Text) (ws : Texts) → (c == mark) ≡ b → joined_by mark (with_byte b c (w ∷ ws)) ≡ c ∷ joined_by mark (w ∷ ws)
+with_byte_joined : (mark c : ℕ) (b : Bool) (w : Text) (ws : Texts) → (c == mark) ≡ b
+    → joined_by mark (with_byte b c (w ∷ ws)) ≡ c ∷ joined_by mark (w ∷ ws)
 with_byte_joined mark c true w ws e =
     let same = eqb-true c mark e in
     rw same refl
@@ -48,7 +52,9 @@ some_piece mark (c ∷ text) =
     let r = some_piece mark text in
     go (c == mark) r.0 r.1 (ap (with_byte (c == mark) c) r.2)
   where
-    go : (b : Bool) (w : Text) (ws : Texts) → with_byte (c == mark) c (pieces mark text) ≡ with_byte b c (w ∷ ws) → (v : Text) × (vs : Texts) × (with_byte (c == mark) c (pieces mark text) ≡ v ∷ vs)
+    go : (b : Bool) (w : Text) (ws : Texts)
+        → with_byte (c == mark) c (pieces mark text) ≡ with_byte b c (w ∷ ws)
+        → (v : Text) × (vs : Texts) × (with_byte (c == mark) c (pieces mark text) ≡ v ∷ vs)
     go true w ws e = ([], w ∷ ws, e)
     go false w ws e = (c ∷ w, ws, e)
 
@@ -58,14 +64,18 @@ joined_pieces mark (c ∷ text) =
     let r = some_piece mark text in
     let e = ap (λ ps. joined_by mark (with_byte (c == mark) c ps)) r.2 in
     let f = with_byte_joined mark c (c == mark) r.0 r.1 refl in
-    let g : joined_by mark (r.0 ∷ r.1) ≡ text = ap (joined_by mark) (sym r.2) ∙ joined_pieces mark text in
+    let g : joined_by mark (r.0 ∷ r.1) ≡ text =
+    ap (joined_by mark) (sym r.2) ∙ joined_pieces mark text in
     e ∙ f ∙ ap (λ t. c ∷ t) g
 
 -- two lists of words, one after the other
-pub joined_both : (mark : ℕ) (v : Text) (vs : Texts) (w : Text) (ws : Texts) → joined_by mark ((v ∷ vs) ++ w ∷ ws) ≡ joined_by mark (v ∷ vs) ++ mark ∷ joined_by mark (w ∷ ws)
+pub joined_both : (mark : ℕ) (v : Text) (vs : Texts) (w : Text) (ws : Texts)
+    → joined_by mark ((v ∷ vs) ++ w ∷ ws)
+    ≡ joined_by mark (v ∷ vs) ++ mark ∷ joined_by mark (w ∷ ws)
 joined_both mark v [] w ws = refl
 joined_both mark v (next ∷ vs) w ws =
-    ap (λ t. v ++ mark ∷ t) (joined_both mark next vs w ws) ∙ sym (append_assoc v (mark ∷ joined_by mark (next ∷ vs)) (mark ∷ joined_by mark (w ∷ ws)))
+    ap (λ t. v ++ mark ∷ t) (joined_both mark next vs w ws)
+    ∙ sym (append_assoc v (mark ∷ joined_by mark (next ∷ vs)) (mark ∷ joined_by mark (w ∷ ws)))
 
 -- items, or `-` where there is none
 abbrev pub words_in : Texts → Texts
@@ -76,6 +86,7 @@ pub spaced_joined : (items : Texts) → spaced items ≡ joined_by 32 (words_in 
 spaced_joined [] = refl
 spaced_joined (item ∷ items) = sym (go item items)
   where
-    go : (item : Text) (items : Texts) → joined_by 32 (item ∷ items) ≡ item ++ flat_map (λ next. space ++ next) items
+    go : (item : Text) (items : Texts)
+        → joined_by 32 (item ∷ items) ≡ item ++ flat_map (λ next. space ++ next) items
     go item [] = sym (append-nil item)
     go item (next ∷ items) = ap (λ t. item ++ 32 ∷ t) (go next items)

@@ -29,28 +29,35 @@ abbrev pub still : Bool → List (List ℕ) → List ℕ
 still true items = flat_map (λ next. space ++ next) items
 still false items = spaced items
 
--- What a loop over things and their codes keeps: the codes left fit the sizes of the things left, and
--- what is written, with the items left, is the whole.
-pub record ItemsLeft {X : Type 0} (size : X → ℕ) (items : List X → List ℕ → List (List ℕ)) (whole into : List ℕ) (some : Bool) (things : List X) (codes : List ℕ) : Type 0 where
+-- What a loop over things and their codes keeps: the codes left fit the sizes of the things left,
+-- and what is written, with the items left, is the whole.
+pub record ItemsLeft {X : Type 0} (size : X → ℕ) (items : List X → List ℕ → List (List ℕ))
+    (whole into : List ℕ) (some : Bool) (things : List X) (codes : List ℕ) : Type 0 where
   pub fit : IsTrue (fits (map size things) codes)
   pub text : into ++ still some (items things codes) ≡ whole
 
 -- the first code is below the first size
-pub head_fits : {X : Type 0} (size : X → ℕ) (things rest : List X) (codes rest_codes : List ℕ) (thing : X) (code : ℕ) → things ≡ thing ∷ rest → codes ≡ code ∷ rest_codes → IsTrue (fits (map size things) codes) → code < size thing
+pub head_fits : {X : Type 0} (size : X → ℕ) (things rest : List X) (codes rest_codes : List ℕ)
+    (thing : X) (code : ℕ) → things ≡ thing ∷ rest → codes ≡ code ∷ rest_codes
+    → IsTrue (fits (map size things) codes) → code < size thing
 head_fits size things rest codes rest_codes thing code p q h =
     let f = rw (p, q) at h in
     ltb-true _ _ (left_true _ (fits (map size rest) rest_codes) f)
 
 -- one list at its end is both
-ends : {X : Type 0} (size : X → ℕ) (things : List X) (codes : List ℕ) → IsTrue (fits (map size things) codes) → (things ≡ []) ⊎ (codes ≡ []) → (things ≡ []) × (codes ≡ [])
+ends : {X : Type 0} (size : X → ℕ) (things : List X) (codes : List ℕ)
+    → IsTrue (fits (map size things) codes) → (things ≡ []) ⊎ (codes ≡ [])
+    → (things ≡ []) × (codes ≡ [])
 ends size [] [] h e = (refl, refl)
 ends size (thing ∷ things) (code ∷ codes) h e = elim e [ inl p ↦ cc | inr p ↦ cc ]
 ends size [] (code ∷ codes) h e = cc
 ends size (thing ∷ things) [] h e = cc
 
 -- at the end all items are written
-pub all_written : {X : Type 0} (size : X → ℕ) (items : List X → List ℕ → List (List ℕ)) (whole into : List ℕ) (some : Bool) (things : List X) (codes : List ℕ)
-    → items [] [] ≡ [] → ItemsLeft size items whole into some things codes → (things ≡ []) ⊎ (codes ≡ []) → into ++ end_mark some ≡ whole
+pub all_written : {X : Type 0} (size : X → ℕ) (items : List X → List ℕ → List (List ℕ))
+    (whole into : List ℕ) (some : Bool) (things : List X) (codes : List ℕ)
+    → items [] [] ≡ [] → ItemsLeft size items whole into some things codes
+    → (things ≡ []) ⊎ (codes ≡ []) → into ++ end_mark some ≡ whole
 all_written size items whole into some things codes none left e =
     let both = ends size things codes left.fit e in
     let t = left.text in
@@ -62,53 +69,62 @@ all_written size items whole into some things codes none left e =
     at_end false h = h
 
 -- a code above 0 that fits is of the event
-pub code_fits : (net : Network) (e code : ℕ) → 0 < code → code < event_size net e → is_event_code net e code ≡ true
+pub code_fits : (net : Network) (e code : ℕ) → 0 < code → code < event_size net e
+    → is_event_code net e code ≡ true
 code_fits net e code some below =
     let there : e < length net.events = declared net.events e (omega arith) in
     let first : nat_lt e (length net.events) ≡ true = lt-ltb _ _ there in
     let second : nat_le 1 code ≡ true = le-leb _ _ (omega arith) in
-    let third : nat_le code (event_values net.domains net.events e) ≡ true = le-leb _ _ (omega arith) in
+    let third : nat_le code (event_values net.domains net.events e) ≡ true =
+    le-leb _ _ (omega arith) in
     rw (first, second, third) refl
   where
-    declared : (events : List EventDecl) (e : ℕ) → 0 < event_values net.domains events e → e < length events
+    declared : (events : List EventDecl) (e : ℕ) → 0 < event_values net.domains events e
+        → e < length events
     declared [] e h = absurd (omega arith)
     declared (event ∷ events) zero h = omega arith
     declared (event ∷ events) (suc e) h = let n = declared events e h in omega arith
 
 -- a test that all pass, at one of them
-pub passes_at : {X : Type 0} (test : X → Bool) (xs : List X) (k : ℕ) (x : X) → list_all test xs ≡ true → slice_get xs k ≡ Some x → test x ≡ true
+pub passes_at : {X : Type 0} (test : X → Bool) (xs : List X) (k : ℕ) (x : X)
+    → list_all test xs ≡ true → slice_get xs k ≡ Some x → test x ≡ true
 passes_at test [] k x all at = cc
 passes_at test (y ∷ xs) zero x all at =
     let same : y ≡ x = cc in
     rw (← same) (left_true (test y) _ all)
 passes_at test (y ∷ xs) (suc k) x all at = passes_at test xs k x (right_true (test y) _ all) at
 
--- What a loop over a journal keeps: the entries left fit the network, and what is written, with the text of
--- the entries left, is the whole.
-pub record EntriesLeft (net : Network) (text_of : List Entry → List ℕ) (whole into : List ℕ) (entries : List Entry) : Type 0 where
+-- What a loop over a journal keeps: the entries left fit the network, and what is written, with the
+-- text of the entries left, is the whole.
+pub record EntriesLeft (net : Network) (text_of : List Entry → List ℕ) (whole into : List ℕ)
+    (entries : List Entry) : Type 0 where
   pub fit : IsJournal net entries
   pub text : into ++ text_of entries ≡ whole
 
 -- The same over entries with their stamps.
-pub record StampedLeft (net : Network) (whole into : List ℕ) (stamps : List ℕ) (entries : List Entry) : Type 0 where
+pub record StampedLeft (net : Network) (whole into : List ℕ) (stamps : List ℕ)
+    (entries : List Entry) : Type 0 where
   pub fit : IsJournal net entries
   pub text : into ++ flat_map (stamped_line net) (zip stamps entries) ≡ whole
 
 -- at the end all lines are written
-pub stamped_written : (net : Network) (whole into : List ℕ) (stamps : List ℕ) (entries : List Entry) → StampedLeft net whole into stamps entries → (stamps ≡ []) ⊎ (entries ≡ []) → into ≡ whole
+pub stamped_written : (net : Network) (whole into : List ℕ) (stamps : List ℕ) (entries : List Entry)
+    → StampedLeft net whole into stamps entries → (stamps ≡ []) ⊎ (entries ≡ []) → into ≡ whole
 stamped_written net whole into stamps entries left e =
     let none = no_pairs stamps entries e in
     let t = left.text in
     let u = rw none at t in
     sym (append-nil into) ∙ u
   where
-    no_pairs : (stamps : List ℕ) (entries : List Entry) → (stamps ≡ []) ⊎ (entries ≡ []) → zip stamps entries ≡ []
+    no_pairs : (stamps : List ℕ) (entries : List Entry) → (stamps ≡ []) ⊎ (entries ≡ [])
+        → zip stamps entries ≡ []
     no_pairs [] entries h = refl
     no_pairs (t ∷ stamps) [] h = refl
     no_pairs (t ∷ stamps) (entry ∷ entries) h = elim h [ inl p ↦ cc | inr p ↦ cc ]
 
 -- the first entry fits, and what is left does
-pub head_entry : (net : Network) (entries rest : List Entry) (entry : Entry) → entries ≡ entry ∷ rest → IsJournal net entries → FitsNetwork net entry × IsJournal net rest
+pub head_entry : (net : Network) (entries rest : List Entry) (entry : Entry)
+    → entries ≡ entry ∷ rest → IsJournal net entries → FitsNetwork net entry × IsJournal net rest
 head_entry net entries rest entry e h = rw e at h
 
 -- The same over events and their codes, of which those that go to the environment are written.
@@ -117,7 +133,8 @@ pub record OutputsLeft (net : Network) (whole into : List ℕ) (events codes : L
   pub text : into ++ output_lines net (emitted events codes) ≡ whole
 
 -- at the end all lines are written
-pub outputs_written : (net : Network) (whole into : List ℕ) (events codes : List ℕ) → OutputsLeft net whole into events codes → (events ≡ []) ⊎ (codes ≡ []) → into ≡ whole
+pub outputs_written : (net : Network) (whole into : List ℕ) (events codes : List ℕ)
+    → OutputsLeft net whole into events codes → (events ≡ []) ⊎ (codes ≡ []) → into ≡ whole
 outputs_written net whole into events codes left e =
     let both = ends (event_size net) events codes left.fit e in
     let t = left.text in
@@ -125,7 +142,12 @@ outputs_written net whole into events codes left e =
     sym (append-nil into) ∙ u
 
 -- the outputs of an entry, and of those after it
-pub outputs_after : (net : Network) (entry : Entry) (entries : List Entry) → output_text net (entry ∷ entries) ≡ output_lines net (emissions net entry) ++ output_text net entries
+pub outputs_after : (net : Network) (entry : Entry) (entries : List Entry)
+    → output_text net (entry ∷ entries)
+    ≡ output_lines net (emissions net entry) ++ output_text net entries
 outputs_after net entry entries =
-    ap (flat_map (event_line net)) (filter-append (λ p. goes_out net p.0) (emissions net entry) (flat_map (emissions net) entries))
-    ∙ flat_map-append (event_line net) (filter (λ p. goes_out net p.0) (emissions net entry)) (filter (λ p. goes_out net p.0) (flat_map (emissions net) entries))
+    ap (flat_map (event_line net))
+    (filter-append (λ p. goes_out net p.0) (emissions net entry)
+    (flat_map (emissions net) entries))
+    ∙ flat_map-append (event_line net) (filter (λ p. goes_out net p.0) (emissions net entry))
+    (filter (λ p. goes_out net p.0) (flat_map (emissions net) entries))

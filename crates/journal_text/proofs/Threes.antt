@@ -6,7 +6,8 @@ use Rattle.journal_text.specs.Cursors.{three_of}
 use Rattle.journal_text.proofs.Pieces.{some_piece}
 use Rattle.journal_text.proofs.Decimals.{decimal_read, decimal_is}
 
-pub four_pieces : (t u v w a b c : Text) → pieces 32 t ≡ a ∷ pieces 32 u → pieces 32 u ≡ b ∷ pieces 32 v → pieces 32 v ≡ c ∷ pieces 32 w → three_of (pieces 32 t) ≡ None
+pub four_pieces : (t u v w a b c : Text) → pieces 32 t ≡ a ∷ pieces 32 u
+    → pieces 32 u ≡ b ∷ pieces 32 v → pieces 32 v ≡ c ∷ pieces 32 w → three_of (pieces 32 t) ≡ None
 four_pieces t u v w a b c p q r =
     let s = some_piece 32 w in
     ap three_of (p ∙ ap (λ ws. a ∷ ws) (q ∙ ap (λ ws. b ∷ ws) (r ∙ ap (λ ws. c ∷ ws) s.2)))
@@ -14,7 +15,8 @@ four_pieces t u v w a b c p q r =
 pub decimal_some : (text : Text) (n : ℕ) → n < 2 ^ 64 → text ≡ decimal n → Some n ≡ decimal_of text
 decimal_some text n below is = sym (ap decimal_of is ∙ decimal_read n below)
 
-pub decimal_none : (text : Text) → ((n : ℕ) → n < 2 ^ 64 → text ≢ decimal n) → None ≡ decimal_of text
+pub decimal_none : (text : Text) → ((n : ℕ) → n < 2 ^ 64 → text ≢ decimal n)
+    → None ≡ decimal_of text
 decimal_none text none = go (decimal_of text) refl
   where
     go : (o : Option ℕ) → decimal_of text ≡ o → None ≡ decimal_of text

@@ -38,7 +38,8 @@ words_bytes (w ∷ ws) h = all_pass is_word (λ w. list_all is_word_byte w) word
 lists_bytes : (a b : Texts) → good_lists (a, b) ≡ true → all_bytes (lists_words (a, b)) ≡ true
 lists_bytes a b h =
     let parts = and_parts (list_all is_word a) _ h in
-    all_in_both (λ w. list_all is_word_byte w) (words_in a) _ (words_bytes a parts.0) (words_bytes b parts.1)
+    all_in_both (λ w. list_all is_word_byte w) (words_in a) _ (words_bytes a parts.0)
+    (words_bytes b parts.1)
 
 pub form_bytes : (form : EntryForm) → good_form form ≡ true → all_bytes (form_words form) ≡ true
 form_bytes (DepForm from to event) h =
@@ -48,13 +49,16 @@ form_bytes (DepForm from to event) h =
 form_bytes (FireForm machine (a, b) (d, e)) h =
     let parts = and_parts (is_word machine) _ h in
     let lists = and_parts (good_lists (a, b)) _ parts.1 in
-    rw (word_bytes machine parts.0) (all_in_both (λ w. list_all is_word_byte w) (lists_words (a, b)) _ (lists_bytes a b lists.0) (lists_bytes d e lists.1))
+    rw (word_bytes machine parts.0)
+    (all_in_both (λ w. list_all is_word_byte w) (lists_words (a, b)) _ (lists_bytes a b lists.0)
+    (lists_bytes d e lists.1))
 form_bytes (IdleForm machine (a, b)) h =
     let parts = and_parts (is_word machine) _ h in
     rw (word_bytes machine parts.0) (lists_bytes a b parts.1)
 
 bytes_lack_space : (words : Texts) → all_bytes words ≡ true → list_all (lacks 32) words ≡ true
-bytes_lack_space words h = all_pass (λ w. list_all is_word_byte w) (lacks 32) word_lacks_space words h
+bytes_lack_space words h =
+    all_pass (λ w. list_all is_word_byte w) (lacks 32) word_lacks_space words h
 
 -- words without LF, with spaces between
 joined_lacks_lf : (words : Texts) → all_bytes words ≡ true → lacks 10 (joined_by 32 words) ≡ true
@@ -62,21 +66,30 @@ joined_lacks_lf [] h = refl
 joined_lacks_lf (w ∷ []) h = word_lacks_lf w (and_parts (list_all is_word_byte w) _ h).0
 joined_lacks_lf (w ∷ next ∷ ws) h =
     let parts = and_parts (list_all is_word_byte w) _ h in
-    all_in_both (λ c. not (c == 10)) w (32 ∷ joined_by 32 (next ∷ ws)) (word_lacks_lf w parts.0) (joined_lacks_lf (next ∷ ws) parts.1)
+    all_in_both (λ c. not (c == 10)) w (32 ∷ joined_by 32 (next ∷ ws)) (word_lacks_lf w parts.0)
+    (joined_lacks_lf (next ∷ ws) parts.1)
 
 -- 2. An entry's line.
-entry_words : (net : Network) (entry : Entry) → Holds net → FitsNetwork net entry → words_of (entry_text net entry) ≡ form_words (form_of net entry)
+entry_words : (net : Network) (entry : Entry) → Holds net → FitsNetwork net entry
+    → words_of (entry_text net entry) ≡ form_words (form_of net entry)
 entry_words net entry hold fit =
     let good = form_good net entry hold fit in
-    rw (entry_joined net entry fit) (some_words (form_of net entry) (bytes_lack_space (form_words (form_of net entry)) (form_bytes (form_of net entry) good)))
+    rw (entry_joined net entry fit)
+    (some_words (form_of net entry)
+    (bytes_lack_space (form_words (form_of net entry)) (form_bytes (form_of net entry) good)))
   where
-    some_words : (form : EntryForm) → list_all (lacks 32) (form_words form) ≡ true → pieces 32 (joined_by 32 (form_words form)) ≡ form_words form
+    some_words : (form : EntryForm) → list_all (lacks 32) (form_words form) ≡ true
+        → pieces 32 (joined_by 32 (form_words form)) ≡ form_words form
     some_words (DepForm from to event) h = pieces_of_joined 32 _ _ h
     some_words (FireForm machine seen given) h = pieces_of_joined 32 _ _ h
     some_words (IdleForm machine seen) h = pieces_of_joined 32 _ _ h
 
-entry_lacks_lf : (net : Network) (entry : Entry) → Holds net → FitsNetwork net entry → lacks 10 (entry_text net entry) ≡ true
-entry_lacks_lf net entry hold fit = rw (entry_joined net entry fit) (joined_lacks_lf (form_words (form_of net entry)) (form_bytes (form_of net entry) (form_good net entry hold fit)))
+entry_lacks_lf : (net : Network) (entry : Entry) → Holds net → FitsNetwork net entry
+    → lacks 10 (entry_text net entry) ≡ true
+entry_lacks_lf net entry hold fit =
+    rw (entry_joined net entry fit)
+    (joined_lacks_lf (form_words (form_of net entry))
+    (form_bytes (form_of net entry) (form_good net entry hold fit)))
 
 -- the line of an entry, with its stamp in version 2
 abbrev pub line_text : Bool → Network → ℕ × Entry → Text
@@ -93,10 +106,14 @@ stamp_small stamp h =
     let top = leb-true stamp max_stamp (and_parts (nat_le 1 stamp) _ h).1 in
     omega (arith, top)
 
-stamp_bytes : (stamp : ℕ) → is_stamp stamp ≡ true → list_all is_word_byte (64 ∷ decimal stamp) ≡ true
-stamp_bytes stamp h = all_pass is_digit is_word_byte digit_byte (decimal stamp) (digits_of stamp (stamp_small stamp h))
+stamp_bytes : (stamp : ℕ) → is_stamp stamp ≡ true
+    → list_all is_word_byte (64 ∷ decimal stamp) ≡ true
+stamp_bytes stamp h =
+    all_pass is_digit is_word_byte digit_byte (decimal stamp)
+    (digits_of stamp (stamp_small stamp h))
 
-pub stamp_split : (stamp : ℕ) (text : Text) → stamp_text stamp ++ text ≡ (64 ∷ decimal stamp) ++ 32 ∷ text
+pub stamp_split : (stamp : ℕ) (text : Text)
+    → stamp_text stamp ++ text ≡ (64 ∷ decimal stamp) ++ 32 ∷ text
 stamp_split stamp text = append_assoc (64 ∷ decimal stamp) (32 ∷ []) text
 
 not_last : (w : Text) (ws : Texts) → is_same w (codes "end") ≡ false → last_form (w ∷ ws) ≡ None
@@ -107,88 +124,147 @@ not_last w (a ∷ b ∷ d ∷ ws) h = refl
 
 form_not_last : (form : EntryForm) → last_form (form_words form) ≡ None
 form_not_last (DepForm from to event) = refl
-form_not_last (FireForm machine seen given) = not_last (codes "fire") (machine ∷ colon ∷ (lists_words seen ++ arrow ∷ lists_words given)) refl
-form_not_last (IdleForm machine seen) = not_last (codes "idle") (machine ∷ colon ∷ lists_words seen) refl
+form_not_last (FireForm machine seen given) =
+    not_last (codes "fire") (machine ∷ colon ∷ (lists_words seen ++ arrow ∷ lists_words given)) refl
+form_not_last (IdleForm machine seen) =
+    not_last (codes "idle") (machine ∷ colon ∷ lists_words seen) refl
 
-entry_is_said : WordsDiffer → (stamped : Bool) (net : Network) (count stamp : ℕ) (entry : Entry) → Holds net → FitsNetwork net entry → count < 60000 → stamp_fits stamped stamp ≡ true
+entry_is_said : WordsDiffer → (stamped : Bool) (net : Network) (count stamp : ℕ) (entry : Entry)
+    → Holds net → FitsNetwork net entry → count < 60000 → stamp_fits stamped stamp ≡ true
     → entry_says stamped net count (Some (stamp, form_of net entry)) ≡ More (stamp, entry)
-entry_is_said differ false net count stamp entry hold fit few ok = rw (lt-ltb _ _ few, entry_back differ net entry hold fit) refl
-entry_is_said differ true net count stamp entry hold fit few ok = rw (lt-ltb _ _ few, ok, entry_back differ net entry hold fit) refl
+entry_is_said differ false net count stamp entry hold fit few ok =
+    rw (lt-ltb _ _ few, entry_back differ net entry hold fit) refl
+entry_is_said differ true net count stamp entry hold fit few ok =
+    rw (lt-ltb _ _ few, ok, entry_back differ net entry hold fit) refl
 
-pub line_is_said : WordsDiffer → (stamped : Bool) (net : Network) (count stamp : ℕ) (entry : Entry) → Holds net → FitsNetwork net entry → count < 60000 → stamp_fits stamped stamp ≡ true
+pub line_is_said : WordsDiffer → (stamped : Bool) (net : Network) (count stamp : ℕ) (entry : Entry)
+    → Holds net → FitsNetwork net entry → count < 60000 → stamp_fits stamped stamp ≡ true
     → line_says stamped net count (line_text stamped net (stamp, entry)) ≡ More (stamp, entry)
 line_is_said differ false net count stamp entry hold fit few ok =
     let first : stamp ≡ 0 = eqb-true stamp 0 ok in
     let said = entry_is_said differ false net count stamp entry hold fit few ok in
-    let zero_said : entry_says false net count (Some (0, form_of net entry)) ≡ More (stamp, entry) = subst (λ n. entry_says false net count (Some (n, form_of net entry)) ≡ More (stamp, entry)) first said in
-    rw (entry_words net entry hold fit) (rw (form_not_last (form_of net entry), form_of_words (form_of net entry) (form_good net entry hold fit)) zero_said)
+    let zero_said : entry_says false net count (Some (0, form_of net entry)) ≡ More (stamp, entry) =
+    subst (λ n. entry_says false net count (Some (n, form_of net entry)) ≡ More (stamp, entry))
+    first said in
+    rw (entry_words net entry hold fit)
+    (rw (
+      form_not_last (form_of net entry),
+      form_of_words (form_of net entry) (form_good net entry hold fit),
+    ) zero_said)
 line_is_said differ true net count stamp entry hold fit few ok =
-    let split : words_of (stamp_text stamp ++ entry_text net entry) ≡ (64 ∷ decimal stamp) ∷ form_words (form_of net entry) =
-    ap words_of (stamp_split stamp (entry_text net entry)) ∙ pieces_at 32 (64 ∷ decimal stamp) (entry_text net entry) (word_lacks_space (64 ∷ decimal stamp) (stamp_bytes stamp ok)) ∙ ap (λ ws. (64 ∷ decimal stamp) ∷ ws) (entry_words net entry hold fit) in
-    rw split (rw (not_last (64 ∷ decimal stamp) (form_words (form_of net entry)) refl, decimal_read stamp (stamp_small stamp ok), form_of_words (form_of net entry) (form_good net entry hold fit)) (entry_is_said differ true net count stamp entry hold fit few ok))
+    let split : words_of (stamp_text stamp ++ entry_text net entry)
+    ≡ (64 ∷ decimal stamp) ∷ form_words (form_of net entry) =
+    ap words_of (stamp_split stamp (entry_text net entry))
+    ∙ pieces_at 32 (64 ∷ decimal stamp) (entry_text net entry)
+    (word_lacks_space (64 ∷ decimal stamp) (stamp_bytes stamp ok))
+    ∙ ap (λ ws. (64 ∷ decimal stamp) ∷ ws) (entry_words net entry hold fit) in
+    rw split (rw (
+      not_last (64 ∷ decimal stamp) (form_words (form_of net entry)) refl,
+      decimal_read stamp (stamp_small stamp ok),
+      form_of_words (form_of net entry) (form_good net entry hold fit),
+    )
+    (entry_is_said differ true net count stamp entry hold fit few ok))
 
-line_lacks_lf : (stamped : Bool) (net : Network) (stamp : ℕ) (entry : Entry) → Holds net → FitsNetwork net entry → stamp_fits stamped stamp ≡ true → lacks 10 (line_text stamped net (stamp, entry)) ≡ true
+line_lacks_lf : (stamped : Bool) (net : Network) (stamp : ℕ) (entry : Entry) → Holds net
+    → FitsNetwork net entry → stamp_fits stamped stamp ≡ true
+    → lacks 10 (line_text stamped net (stamp, entry)) ≡ true
 line_lacks_lf false net stamp entry hold fit ok = entry_lacks_lf net entry hold fit
 line_lacks_lf true net stamp entry hold fit ok =
-    ap (lacks 10) (stamp_split stamp (entry_text net entry)) ∙ all_in_both (λ c. not (c == 10)) (64 ∷ decimal stamp) (32 ∷ entry_text net entry) (word_lacks_lf (64 ∷ decimal stamp) (stamp_bytes stamp ok)) (entry_lacks_lf net entry hold fit)
+    ap (lacks 10) (stamp_split stamp (entry_text net entry))
+    ∙ all_in_both (λ c. not (c == 10)) (64 ∷ decimal stamp) (32 ∷ entry_text net entry)
+    (word_lacks_lf (64 ∷ decimal stamp) (stamp_bytes stamp ok))
+    (entry_lacks_lf net entry hold fit)
 
 -- 3. The last line.
-pub last_split : (n : ℕ) (complete : Bool) → codes "end " ++ (decimal n ++ codes " " ++ ending complete) ≡ codes "end " ++ (decimal n ++ 32 ∷ ending complete)
-last_split n complete = ap (λ t. codes "end " ++ t) (append_assoc (decimal n) (codes " ") (ending complete))
+pub last_split : (n : ℕ) (complete : Bool)
+    → codes "end " ++ (decimal n ++ codes " " ++ ending complete)
+    ≡ codes "end " ++ (decimal n ++ 32 ∷ ending complete)
+last_split n complete =
+    ap (λ t. codes "end " ++ t) (append_assoc (decimal n) (codes " ") (ending complete))
 
 decimal_lacks_space : (n : ℕ) → n < 2 ^ 64 → list_all is_word_byte (decimal n) ≡ true
-decimal_lacks_space n small = all_pass is_digit is_word_byte digit_byte (decimal n) (digits_of n small)
+decimal_lacks_space n small =
+    all_pass is_digit is_word_byte digit_byte (decimal n) (digits_of n small)
 
-last_words : (n : ℕ) (complete : Bool) → n < 2 ^ 64 → words_of (codes "end " ++ (decimal n ++ codes " " ++ ending complete)) ≡ codes "end" ∷ decimal n ∷ ending complete ∷ []
+last_words : (n : ℕ) (complete : Bool) → n < 2 ^ 64
+    → words_of (codes "end " ++ (decimal n ++ codes " " ++ ending complete))
+    ≡ codes "end" ∷ decimal n ∷ ending complete ∷ []
 last_words n complete small =
     let rest : pieces 32 (decimal n ++ 32 ∷ ending complete) ≡ decimal n ∷ ending complete ∷ [] =
-    pieces_at 32 (decimal n) (ending complete) (word_lacks_space (decimal n) (decimal_lacks_space n small)) ∙ ap (λ ws. decimal n ∷ ws) (end_words complete) in
+    pieces_at 32 (decimal n) (ending complete)
+    (word_lacks_space (decimal n) (decimal_lacks_space n small))
+    ∙ ap (λ ws. decimal n ∷ ws) (end_words complete) in
     ap words_of (last_split n complete) ∙ rw rest refl
   where
     end_words : (complete : Bool) → pieces 32 (ending complete) ≡ ending complete ∷ []
     end_words true = refl
     end_words false = refl
 
-pub last_is_said : (stamped : Bool) (net : Network) (journal : List Entry) (count : ℕ) (complete : Bool) → count ≡ length journal → length journal < 2 ^ 64 → line_says stamped net count (last_text journal complete) ≡ Last complete
+pub last_is_said : (stamped : Bool) (net : Network) (journal : List Entry) (count : ℕ)
+    (complete : Bool) → count ≡ length journal → length journal < 2 ^ 64
+    → line_says stamped net count (last_text journal complete) ≡ Last complete
 last_is_said stamped net journal count complete same small =
     rw (last_words (length journal) complete small) (go complete)
   where
-    go : (complete : Bool) → words_say stamped net count (codes "end" ∷ decimal (length journal) ∷ ending complete ∷ []) (last_form (codes "end" ∷ decimal (length journal) ∷ ending complete ∷ [])) ≡ Last complete
-    go true = rw (decimal_read (length journal) small, eq-eqb (length journal) count (sym same)) refl
-    go false = rw (decimal_read (length journal) small, eq-eqb (length journal) count (sym same)) refl
+    go : (complete : Bool)
+        → words_say stamped net count (codes "end" ∷ decimal (length journal) ∷ ending complete
+        ∷ []) (last_form (codes "end" ∷ decimal (length journal) ∷ ending complete ∷ []))
+        ≡ Last complete
+    go true = rw (
+      decimal_read (length journal) small,
+      eq-eqb (length journal) count (sym same),
+    ) refl
+    go false = rw (
+      decimal_read (length journal) small,
+      eq-eqb (length journal) count (sym same),
+    ) refl
 
-pub last_lacks_lf : (journal : List Entry) (complete : Bool) → length journal < 2 ^ 64 → lacks 10 (last_text journal complete) ≡ true
+pub last_lacks_lf : (journal : List Entry) (complete : Bool) → length journal < 2 ^ 64
+    → lacks 10 (last_text journal complete) ≡ true
 last_lacks_lf journal complete small =
-    ap (lacks 10) (last_split (length journal) complete) ∙ all_in_both (λ c. not (c == 10)) (decimal (length journal)) (32 ∷ ending complete) (word_lacks_lf (decimal (length journal)) (decimal_lacks_space (length journal) small)) (go complete)
+    ap (lacks 10) (last_split (length journal) complete)
+    ∙ all_in_both (λ c. not (c == 10)) (decimal (length journal)) (32 ∷ ending complete)
+    (word_lacks_lf (decimal (length journal)) (decimal_lacks_space (length journal) small))
+    (go complete)
   where
     go : (complete : Bool) → lacks 10 (32 ∷ ending complete) ≡ true
     go true = refl
     go false = refl
 
 -- 4. The lines of a text.
-pub lines_from : (ls : Texts) (rest : Text) → list_all (lacks 10) ls ≡ true → lines_of (flat_map line ls ++ rest) ≡ ls ++ lines_of rest
+pub lines_from : (ls : Texts) (rest : Text) → list_all (lacks 10) ls ≡ true
+    → lines_of (flat_map line ls ++ rest) ≡ ls ++ lines_of rest
 lines_from [] rest h = refl
 lines_from (l ∷ ls) rest h =
     let parts = and_parts (lacks 10 l) _ h in
-    let split : (line l ++ flat_map line ls) ++ rest ≡ l ++ 10 ∷ (flat_map line ls ++ rest) = append_assoc (line l) (flat_map line ls) rest ∙ append_assoc l (10 ∷ []) (flat_map line ls ++ rest) in
-    ap lines_of split ∙ pieces_at 10 l (flat_map line ls ++ rest) parts.0 ∙ ap (λ ps. l ∷ ps) (lines_from ls rest parts.1)
+    let split : (line l ++ flat_map line ls) ++ rest ≡ l ++ 10 ∷ (flat_map line ls ++ rest) =
+    append_assoc (line l) (flat_map line ls) rest
+    ∙ append_assoc l (10 ∷ []) (flat_map line ls ++ rest) in
+    ap lines_of split ∙ pieces_at 10 l (flat_map line ls ++ rest) parts.0
+    ∙ ap (λ ps. l ∷ ps) (lines_from ls rest parts.1)
 
 -- entries with stamps that fit
 abbrev pub AllFit : Bool → Network → Numbered → Type 0
 AllFit stamped net [] = ⊤
-AllFit stamped net ((stamp, entry) ∷ rest) = (stamp_fits stamped stamp ≡ true) × FitsNetwork net entry × AllFit stamped net rest
+AllFit stamped net ((stamp, entry) ∷ rest) =
+    (stamp_fits stamped stamp ≡ true) × FitsNetwork net entry × AllFit stamped net rest
 
-pub entries_lack_lf : (stamped : Bool) (net : Network) (entries : Numbered) → Holds net → AllFit stamped net entries → list_all (lacks 10) (map (line_text stamped net) entries) ≡ true
+pub entries_lack_lf : (stamped : Bool) (net : Network) (entries : Numbered) → Holds net
+    → AllFit stamped net entries → list_all (lacks 10) (map (line_text stamped net) entries) ≡ true
 entries_lack_lf stamped net [] hold fit = refl
 entries_lack_lf stamped net ((stamp, entry) ∷ rest) hold fit =
-    and_true _ _ (line_lacks_lf stamped net stamp entry hold fit.1 fit.0) (entries_lack_lf stamped net rest hold fit.2)
+    and_true _ _ (line_lacks_lf stamped net stamp entry hold fit.1 fit.0)
+    (entries_lack_lf stamped net rest hold fit.2)
 
 abbrev some_lines : Texts → Bool
 some_lines [] = false
 some_lines (l ∷ ls) = true
 
-one_line : (stamped : Bool) (net : Network) (k : ℕ) (read : Numbered) (text : Text) (ls : Texts) → some_lines ls ≡ true
-    → lines_say stamped net k read (text ∷ ls) ≡ went_on k read ls (λ more. lines_say stamped net (k + 1) more ls) (line_says stamped net (length read) text)
+one_line : (stamped : Bool) (net : Network) (k : ℕ) (read : Numbered) (text : Text) (ls : Texts)
+    → some_lines ls ≡ true
+    → lines_say stamped net k read (text ∷ ls)
+    ≡ went_on k read ls (λ more. lines_say stamped net (k + 1) more ls)
+    (line_says stamped net (length read) text)
 one_line stamped net k read text [] h = cc
 one_line stamped net k read text (l ∷ ls) h = refl
 
@@ -197,15 +273,23 @@ some_after [] t ts = refl
 some_after (x ∷ xs) t ts = refl
 
 -- the lines of entries are passed
-pub entries_passed : WordsDiffer → (stamped : Bool) (net : Network) (k : ℕ) (read entries : Numbered) (t : Text) (ts : Texts) → Holds net → AllFit stamped net entries → length read + length entries ≤ 60000
-    → lines_say stamped net k read (map (line_text stamped net) entries ++ t ∷ ts) ≡ lines_say stamped net (k + length entries) (read ++ entries) (t ∷ ts)
+pub entries_passed : WordsDiffer
+    → (stamped : Bool) (net : Network) (k : ℕ) (read entries : Numbered) (t : Text) (ts : Texts)
+    → Holds net → AllFit stamped net entries → length read + length entries ≤ 60000
+    → lines_say stamped net k read (map (line_text stamped net) entries ++ t ∷ ts)
+    ≡ lines_say stamped net (k + length entries) (read ++ entries) (t ∷ ts)
 entries_passed differ stamped net k read [] t ts hold fit few =
     let same : k ≡ k + 0 = omega arith in
     rw (append-nil read, ← same) refl
 entries_passed differ stamped net k read ((stamp, entry) ∷ rest) t ts hold fit few =
-    let said = line_is_said differ stamped net (length read) stamp entry hold fit.1 (omega arith) fit.0 in
-    let more : length (read ++ (stamp, entry) ∷ []) + length rest ≤ 60000 = rw (length-append read ((stamp, entry) ∷ [])) (omega arith) in
-    let next = entries_passed differ stamped net (k + 1) (read ++ (stamp, entry) ∷ []) rest t ts hold fit.2 more in
+    let said = line_is_said differ stamped net (length read) stamp entry hold fit.1 (omega arith)
+    fit.0 in
+    let more : length (read ++ (stamp, entry) ∷ []) + length rest ≤ 60000 =
+    rw (length-append read ((stamp, entry) ∷ [])) (omega arith) in
+    let next = entries_passed differ stamped net (k + 1) (read ++ (stamp, entry) ∷ []) rest t ts
+    hold fit.2 more in
     let place : k + 1 + length rest ≡ k + suc (length rest) = omega arith in
-    let first = one_line stamped net k read (line_text stamped net (stamp, entry)) (map (line_text stamped net) rest ++ t ∷ ts) (some_after (map (line_text stamped net) rest) t ts) in
+    let first = one_line stamped net k read (line_text stamped net (stamp, entry))
+    (map (line_text stamped net) rest ++ t ∷ ts)
+    (some_after (map (line_text stamped net) rest) t ts) in
     first ∙ rw said (next ∙ rw (place, append_assoc read ((stamp, entry) ∷ []) rest) refl)

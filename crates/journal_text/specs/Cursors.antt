@@ -18,12 +18,14 @@ CutAt sign words prefix rest = (before sign words ≡ prefix) × (after sign wor
 
 -- there is no such sign, or nothing before the first one, or nothing after it
 abbrev pub NoCut : Text → Texts → Type 0
-NoCut sign words = (after sign words ≡ None) ⊎ ((before sign words ≡ []) ⊎ (after sign words ≡ Some []))
+NoCut sign words = (after sign words ≡ None)
+    ⊎ ((before sign words ≡ []) ⊎ (after sign words ≡ Some []))
 
 -- The place is the start of a word, and what stands before it lacks the mark.
 abbrev pub SkippedTo : ℕ → Text → ℕ → Type 0
 SkippedTo mark text at =
-    (at ≡ 0) ⊎ ((prefix : Text) × (text ≡ prefix ++ 32 ∷ drop at text) × (at ≡ length prefix + 1) × (lacks mark prefix ≡ true))
+    (at ≡ 0) ⊎ ((prefix : Text) × (text ≡ prefix ++ 32 ∷ drop at text) × (at ≡ length prefix + 1)
+    × (lacks mark prefix ≡ true))
 
 -- the items of a list, and none where it is no list
 abbrev pub items_in : Text → Texts

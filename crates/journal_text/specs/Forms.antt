@@ -1,4 +1,5 @@
--- Lines of a text, words of a line, and the forms of a line. LF is byte 10, CR is byte 13, tab is byte 9.
+-- Lines of a text, words of a line, and the forms of a line. LF is byte 10, CR is byte 13, tab is
+-- byte 9.
 use Rattle.std.specs.Prelude.{ℕ, ◌^◌, Bool, true, false, cond, not, ◌&&◌, ◌||◌, ◌==◌, nat_lt, List, [], ◌∷◌, Option, Some, None, option_map, codes}
 use Rattle.std.specs.List.{list_all}
 use Rattle.std.specs.Option.{option_and_then}
@@ -12,13 +13,15 @@ Text = List ℕ
 abbrev pub Texts : Type 0
 Texts = List (List ℕ)
 
--- a byte before pieces: a mark ends an empty piece, and any other is the first byte of the first piece
+-- a byte before pieces: a mark ends an empty piece, and any other is the first byte of the first
+-- piece
 abbrev pub with_byte : Bool → ℕ → Texts → Texts
 with_byte true c pieces = [] ∷ pieces
 with_byte false c [] = (c ∷ []) ∷ []
 with_byte false c (piece ∷ pieces) = (c ∷ piece) ∷ pieces
 
--- what stands before the first mark, between each two, and after the last: one piece more than there are marks
+-- what stands before the first mark, between each two, and after the last: one piece more than
+-- there are marks
 abbrev pub pieces : ℕ → Text → Texts
 pieces mark [] = [] ∷ []
 pieces mark (c ∷ rest) = with_byte (c == mark) c (pieces mark rest)
@@ -53,7 +56,8 @@ arrow = codes "->"
 
 -- the words that are no word W of a form
 abbrev pub is_sign : Text → Bool
-is_sign word = is_same word dash || is_same word colon || is_same word semicolon || is_same word arrow
+is_sign word = is_same word dash || is_same word colon || is_same word semicolon
+    || is_same word arrow
 
 -- W: one or more bytes, none of them space, tab, CR or LF, and none of the signs
 abbrev pub is_word : Text → Bool
@@ -62,8 +66,10 @@ is_word word = is_nonempty word && list_all is_word_byte word && not (is_sign wo
 -- L: `-`, which is the empty list, or one or more words
 abbrev pub list_of : Texts → Option Texts
 list_of [] = None
-list_of (word ∷ []) = cond (is_same word dash) (Some []) (cond (is_word word) (Some (word ∷ [])) None)
-list_of (word ∷ next ∷ words) = cond (list_all is_word (word ∷ next ∷ words)) (Some (word ∷ next ∷ words)) None
+list_of (word ∷ []) =
+    cond (is_same word dash) (Some []) (cond (is_word word) (Some (word ∷ [])) None)
+list_of (word ∷ next ∷ words) =
+    cond (list_all is_word (word ∷ next ∷ words)) (Some (word ∷ next ∷ words)) None
 
 -- what stands before the first such sign, and what stands after it, where there is one
 abbrev pub before : Text → Texts → Texts
@@ -81,17 +87,21 @@ both None b = None
 
 -- `L ; L`
 abbrev pub two_lists : Texts → Option (Texts × Texts)
-two_lists words = both (list_of (before semicolon words)) (option_and_then list_of (after semicolon words))
+two_lists words =
+    both (list_of (before semicolon words)) (option_and_then list_of (after semicolon words))
 
 -- `L ; L -> L ; L`
 abbrev pub four_lists : Texts → Option ((Texts × Texts) × (Texts × Texts))
-four_lists words = both (two_lists (before arrow words)) (option_and_then two_lists (after arrow words))
+four_lists words =
+    both (two_lists (before arrow words)) (option_and_then two_lists (after arrow words))
 
 -- a decimal text below 2^64
 abbrev pub decimal_of : Text → Option ℕ
-decimal_of text = cond (is_plain text && nat_lt (number_of text) (2 ^ 64)) (Some (number_of text)) None
+decimal_of text =
+    cond (is_plain text && nat_lt (number_of text) (2 ^ 64)) (Some (number_of text)) None
 
--- the form of an entry's line: a delivery with sender, receiver and event; a firing with `I ; X` and `N ; O`; a reaction that doesn't fire, with `I ; X`
+-- the form of an entry's line: a delivery with sender, receiver and event; a firing with `I ; X`
+-- and `N ; O`; a reaction that doesn't fire, with `I ; X`
 pub data EntryForm : Type 0 where
   DepForm : Text → Text → Text → EntryForm
   FireForm : Text → Texts × Texts → Texts × Texts → EntryForm
@@ -99,7 +109,8 @@ pub data EntryForm : Type 0 where
 
 -- `W W W` after `dep`
 abbrev pub dep_form : Texts → Option EntryForm
-dep_form (from ∷ to ∷ event ∷ []) = cond (is_word from && is_word to && is_word event) (Some (DepForm from to event)) None
+dep_form (from ∷ to ∷ event ∷ []) =
+    cond (is_word from && is_word to && is_word event) (Some (DepForm from to event)) None
 dep_form [] = None
 dep_form (from ∷ []) = None
 dep_form (from ∷ to ∷ []) = None
@@ -109,10 +120,12 @@ dep_form (from ∷ to ∷ event ∷ next ∷ words) = None
 abbrev pub reaction_form : Texts → Option (Text × Texts)
 reaction_form [] = None
 reaction_form (machine ∷ []) = None
-reaction_form (machine ∷ next ∷ words) = cond (is_word machine && is_same next colon) (Some (machine, words)) None
+reaction_form (machine ∷ next ∷ words) =
+    cond (is_word machine && is_same next colon) (Some (machine, words)) None
 
 abbrev pub fire_form : Text × Texts → Option EntryForm
-fire_form (machine, words) = option_map (λ lists. FireForm machine lists.0 lists.1) (four_lists words)
+fire_form (machine, words) =
+    option_map (λ lists. FireForm machine lists.0 lists.1) (four_lists words)
 
 abbrev pub idle_form : Text × Texts → Option EntryForm
 idle_form (machine, words) = option_map (λ lists. IdleForm machine lists) (two_lists words)
@@ -127,11 +140,14 @@ entry_form (word ∷ words) =
 
 -- `complete` or `limit`
 abbrev pub ending_of : Text → Option Bool
-ending_of word = cond (is_same word (codes "complete")) (Some true) (cond (is_same word (codes "limit")) (Some false) None)
+ending_of word =
+    cond (is_same word (codes "complete")) (Some true)
+    (cond (is_same word (codes "limit")) (Some false) None)
 
 -- `end D complete` or `end D limit`, with the number and whether it is `complete`
 abbrev pub last_form : Texts → Option (ℕ × Bool)
-last_form (word ∷ number ∷ ending ∷ []) = cond (is_same word (codes "end")) (both (decimal_of number) (ending_of ending)) None
+last_form (word ∷ number ∷ ending ∷ []) =
+    cond (is_same word (codes "end")) (both (decimal_of number) (ending_of ending)) None
 last_form [] = None
 last_form (word ∷ []) = None
 last_form (word ∷ number ∷ []) = None
@@ -142,7 +158,8 @@ abbrev pub stamp_of : Text → Option ℕ
 stamp_of [] = None
 stamp_of (c ∷ digits) = cond (c == 64) (decimal_of digits) None
 
--- the form of an entry's line with its stamp, which is 0 where there is none: version 2 has `@D` in front
+-- the form of an entry's line with its stamp, which is 0 where there is none: version 2 has `@D` in
+-- front
 abbrev pub stamped_form : Bool → Texts → Option (ℕ × EntryForm)
 stamped_form false words = both (Some 0) (entry_form words)
 stamped_form true [] = None

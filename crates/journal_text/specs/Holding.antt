@@ -12,7 +12,8 @@ use Rattle.transition_table.specs.declared.network.Network.{Network}
 
 -- 1 to 32 distinct name tokens, or numbers of 32 bits
 abbrev pub values_hold : Domain → Bool
-values_hold (Names names) = nat_le 1 (length names) && nat_le (length names) 32 && are_distinct names && list_all is_name names
+values_hold (Names names) = nat_le 1 (length names) && nat_le (length names) 32
+    && are_distinct names && list_all is_name names
 values_hold (Range span) = nat_lt span.last (2 ^ 32)
 
 -- the name of an event, or of a state variable, is a name token
@@ -27,4 +28,5 @@ machine_holds machine = is_name machine.name && list_all state_has_name machine.
 
 -- each name of an event, a machine or a state variable is a name token
 abbrev pub names_hold : Network → Bool
-names_hold net = list_all has_name_token net.events && list_all machine_holds net.machines && list_all values_hold net.domains
+names_hold net = list_all has_name_token net.events && list_all machine_holds net.machines
+    && list_all values_hold net.domains

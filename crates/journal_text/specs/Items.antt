@@ -44,7 +44,9 @@ event_named net word = find (λ e. is_same (event_name net e) word) (upto (lengt
 
 -- `env`, or the name of a machine
 abbrev pub party_named : Network → Text → Option Party
-party_named net word = cond (is_same word (codes "env")) (Some Env) (option_map (λ m. Sender m) (machine_named net word))
+party_named net word =
+    cond (is_same word (codes "env")) (Some Env)
+    (option_map (λ m. Sender m) (machine_named net word))
 
 abbrev pub joined : {A : Type 0} → Option (Option A) → Option A
 joined None = None
@@ -54,7 +56,8 @@ joined (Some found) = found
 abbrev pub value_named : Text → Domain → Option ℕ
 value_named word domain = find (λ v. is_same (word_of domain v) word) (upto (size_of domain))
 
--- what an item can name: an event or a state variable by its name, with the number of its domain, where it has one
+-- what an item can name: an event or a state variable by its name, with the number of its domain,
+-- where it has one
 abbrev pub Named : Type 0
 Named = Text × Option ℕ
 
@@ -71,12 +74,14 @@ as_state variable = (variable.name, Some variable.domain)
 abbrev pub has_name : Named → Text → Bool
 has_name named item = is_same named.0 (name_part item)
 
--- the code of what has no domain, which is 1 and has no value, or of the value v of the domain, which is 1 + v
+-- the code of what has no domain, which is 1 and has no value, or of the value v of the domain,
+-- which is 1 + v
 abbrev pub code_of : Network → Option ℕ → Option Text → Option ℕ
 code_of net None None = Some 1
 code_of net None (Some word) = None
 code_of net (Some d) None = None
-code_of net (Some d) (Some word) = option_map (λ v. 1 + v) (joined (option_map (value_named word) (slice_get net.domains d)))
+code_of net (Some d) (Some word) =
+    option_map (λ v. 1 + v) (joined (option_map (value_named word) (slice_get net.domains d)))
 
 -- the code that an item gives what it names
 abbrev pub item_code : Network → Named → Text → Option ℕ
@@ -88,8 +93,8 @@ with_code None rest = Err Value
 with_code (Some code) (Err kind) = Err kind
 with_code (Some code) (Ok codes) = Ok (code ∷ codes)
 
--- The codes of a list whose items name some of these things, in their order; what isn't named has the code 0.
--- Items that name none of those after the item before are at fault.
+-- The codes of a list whose items name some of these things, in their order; what isn't named has
+-- the code 0. Items that name none of those after the item before are at fault.
 abbrev pub some_codes : Network → List Named → Texts → Result (List ℕ) JournalKind
 some_codes net [] [] = Ok []
 some_codes net [] (item ∷ items) = Err Name
@@ -104,10 +109,13 @@ all_values net [] [] = Ok []
 all_values net [] (item ∷ items) = Err Name
 all_values net (named ∷ rest) [] = Err Name
 all_values net (named ∷ rest) (item ∷ items) =
-    cond (has_name named item) (with_code (option_map (λ code. code - 1) (item_code net named item)) (all_values net rest items)) (Err Name)
+    cond (has_name named item)
+    (with_code (option_map (λ code. code - 1) (item_code net named item))
+    (all_values net rest items)) (Err Name)
 
 -- the first of two results that is at fault, or both
-abbrev pub both_read : {A B : Type 0} → Result A JournalKind → Result B JournalKind → Result (A × B) JournalKind
+abbrev pub both_read : {A B : Type 0} → Result A JournalKind → Result B JournalKind
+    → Result (A × B) JournalKind
 both_read (Err kind) b = Err kind
 both_read (Ok a) (Err kind) = Err kind
 both_read (Ok a) (Ok b) = Ok (a, b)
@@ -119,19 +127,27 @@ map_read f (Ok a) = Ok (f a)
 -- `I ; X` of a machine: the codes of its inputs, and the values of its state variables
 abbrev pub snapshot_read : Network → ℕ → Texts × Texts → Result (List ℕ × List ℕ) JournalKind
 snapshot_read net m (present, values) =
-    both_read (some_codes net (map (as_event net) (inputs_of net m)) present) (all_values net (map as_state (states_of net m)) values)
+    both_read (some_codes net (map (as_event net) (inputs_of net m)) present)
+    (all_values net (map as_state (states_of net m)) values)
 
 -- `N ; O` of a machine: what its state variables are set to, and what it emits
 abbrev pub result_read : Network → ℕ → Texts × Texts → Result (List ℕ × List ℕ) JournalKind
 result_read net m (set, emitted) =
-    both_read (some_codes net (map as_state (states_of net m)) set) (some_codes net (map (as_event net) (outputs_of net m)) emitted)
+    both_read (some_codes net (map as_state (states_of net m)) set)
+    (some_codes net (map (as_event net) (outputs_of net m)) emitted)
 
 abbrev pub fired : ℕ → (List ℕ × List ℕ) × (List ℕ × List ℕ) → Entry
-fired m ((present, values), (next, outs)) = Rea m (record { codes = present ++ values }) (record { fires = true; next = next; outs = outs })
+fired m ((present, values), (next, outs)) =
+    Rea m (record { codes = present ++ values }) (record { fires = true; next = next; outs = outs })
 
 abbrev pub idled : Network → ℕ → List ℕ × List ℕ → Entry
 idled net m (present, values) =
-    Rea m (record { codes = present ++ values }) (record { fires = false; next = replicate (length (states_of net m)) 0; outs = replicate (length (outputs_of net m)) 0 })
+    Rea m (record { codes = present ++ values })
+    (record {
+      fires = false;
+      next = replicate (length (states_of net m)) 0;
+      outs = replicate (length (outputs_of net m)) 0;
+    })
 
 -- a delivery: names come before the value
 abbrev pub delivery_read : Option Party → Option ℕ → Option ℕ → Option ℕ → Result Entry JournalKind
@@ -146,9 +162,11 @@ abbrev pub event_code : Network → Option ℕ → Text → Option ℕ
 event_code net None item = None
 event_code net (Some e) item = item_code net (as_event net e) item
 
-abbrev pub firing_read : Network → Option ℕ → Texts × Texts → Texts × Texts → Result Entry JournalKind
+abbrev pub firing_read : Network → Option ℕ → Texts × Texts → Texts × Texts
+    → Result Entry JournalKind
 firing_read net None seen given = Err Name
-firing_read net (Some m) seen given = map_read (fired m) (both_read (snapshot_read net m seen) (result_read net m given))
+firing_read net (Some m) seen given =
+    map_read (fired m) (both_read (snapshot_read net m seen) (result_read net m given))
 
 abbrev pub idle_read : Network → Option ℕ → Texts × Texts → Result Entry JournalKind
 idle_read net None seen = Err Name
@@ -157,6 +175,8 @@ idle_read net (Some m) seen = map_read (idled net m) (snapshot_read net m seen)
 -- the entry that a line of this form names, or the kind of its first item at fault
 abbrev pub entry_read : Network → EntryForm → Result Entry JournalKind
 entry_read net (DepForm from to event) =
-    delivery_read (party_named net from) (machine_named net to) (event_named net (name_part event)) (event_code net (event_named net (name_part event)) event)
-entry_read net (FireForm machine seen given) = firing_read net (machine_named net machine) seen given
+    delivery_read (party_named net from) (machine_named net to) (event_named net (name_part event))
+    (event_code net (event_named net (name_part event)) event)
+entry_read net (FireForm machine seen given) =
+    firing_read net (machine_named net machine) seen given
 entry_read net (IdleForm machine seen) = idle_read net (machine_named net machine) seen

@@ -1,4 +1,5 @@
--- What is printed reads back, what reads was printed, a text has one journal, and where a prefix of a printed text is at fault.
+-- What is printed reads back, what reads was printed, a text has one journal, and where a prefix of
+-- a printed text is at fault.
 use Rattle.std.specs.Prelude.{◌≡◌, ℕ, ◌≤◌, cond, Bool, ◌==◌, List, [], ◌∷◌, ◌++◌, length, Some, None, Ok, Err, IsTrue}
 use Rattle.polis_base.specs.Lists.{last_of}
 use Rattle.transition_table.specs.declared.network.Network.{Network}
@@ -18,47 +19,65 @@ Prints net journal = IsTrue (names_hold net) × IsJournal net journal × (length
 
 -- what is printed in version 1 reads back, with no stamps
 abbrev pub ReadsBack : Type 0
-ReadsBack = (net : Network) (journal : List Entry) (complete : Bool) → Prints net journal → read_of net (journal_text net journal complete) ≡ Ok (journal, None, complete)
+ReadsBack = (net : Network) (journal : List Entry) (complete : Bool) → Prints net journal
+    → read_of net (journal_text net journal complete) ≡ Ok (journal, None, complete)
 
 -- what is printed in version 2 reads back, with its stamps
 abbrev pub StampedReadsBack : Type 0
-StampedReadsBack = (net : Network) (journal : List Entry) (stamps : List ℕ) (complete : Bool) → Prints net journal → AreStamps journal stamps
-    → read_of net (stamped_journal_text net journal stamps complete) ≡ Ok (journal, Some stamps, complete)
+StampedReadsBack = (net : Network) (journal : List Entry) (stamps : List ℕ) (complete : Bool)
+    → Prints net journal → AreStamps journal stamps
+    → read_of net (stamped_journal_text net journal stamps complete)
+    ≡ Ok (journal, Some stamps, complete)
 
 -- what reads with no stamps was printed in version 1
 abbrev pub ReadIsPrinted : Type 0
-ReadIsPrinted = (net : Network) (text : Text) (journal : List Entry) (complete : Bool) → read_of net text ≡ Ok (journal, None, complete)
+ReadIsPrinted = (net : Network) (text : Text) (journal : List Entry) (complete : Bool)
+    → read_of net text ≡ Ok (journal, None, complete)
     → (text ≡ journal_text net journal complete) × IsJournal net journal × (length journal ≤ 60000)
 
 -- what reads with stamps was printed in version 2
 abbrev pub StampedReadIsPrinted : Type 0
-StampedReadIsPrinted = (net : Network) (text : Text) (journal : List Entry) (stamps : List ℕ) (complete : Bool) → read_of net text ≡ Ok (journal, Some stamps, complete)
-    → (text ≡ stamped_journal_text net journal stamps complete) × IsJournal net journal × (length journal ≤ 60000) × AreStamps journal stamps
+StampedReadIsPrinted =
+    (net : Network) (text : Text) (journal : List Entry) (stamps : List ℕ) (complete : Bool)
+    → read_of net text ≡ Ok (journal, Some stamps, complete)
+    → (text ≡ stamped_journal_text net journal stamps complete) × IsJournal net journal
+    × (length journal ≤ 60000) × AreStamps journal stamps
 
 -- a text of version 1 has one journal and one last word
 abbrev pub OneJournal : Type 0
-OneJournal = (net : Network) (j k : List Entry) (a b : Bool) → Prints net j → Prints net k → journal_text net j a ≡ journal_text net k b → (j ≡ k) × (a ≡ b)
+OneJournal = (net : Network) (j k : List Entry) (a b : Bool) → Prints net j → Prints net k
+    → journal_text net j a ≡ journal_text net k b → (j ≡ k) × (a ≡ b)
 
 -- a text of version 2 has one journal, one list of stamps and one last word
 abbrev pub OneStampedJournal : Type 0
-OneStampedJournal = (net : Network) (j k : List Entry) (s t : List ℕ) (a b : Bool) → Prints net j → Prints net k → AreStamps j s → AreStamps k t
+OneStampedJournal = (net : Network) (j k : List Entry) (s t : List ℕ) (a b : Bool) → Prints net j
+    → Prints net k → AreStamps j s → AreStamps k t
     → stamped_journal_text net j s a ≡ stamped_journal_text net k t b → (j ≡ k) × (s ≡ t) × (a ≡ b)
 
 -- no text is of both versions
 abbrev pub OneVersion : Type 0
-OneVersion = (net : Network) (j k : List Entry) (t : List ℕ) (a b : Bool) → Prints net j → Prints net k → AreStamps k t
+OneVersion = (net : Network) (j k : List Entry) (t : List ℕ) (a b : Bool) → Prints net j
+    → Prints net k → AreStamps k t
     → journal_text net j a ≡ stamped_journal_text net k t b → ⊥
 
--- The fault of a prefix, by its whole lines and what stands after the last LF: where the first line isn't whole, the header; else the line after
--- the whole ones, `end` where nothing follows them and `shape` where a part of a line does.
+-- The fault of a prefix, by its whole lines and what stands after the last LF: where the first line
+-- isn't whole, the header; else the line after the whole ones, `end` where nothing follows them and
+-- `shape` where a part of a line does.
 abbrev pub prefix_fault : Texts → JournalFault
-prefix_fault lines = Line (length lines) (cond (length lines == 1) Header (cond (is_nonempty (last_of [] lines)) Shape End))
+prefix_fault lines =
+    Line (length lines)
+    (cond (length lines == 1) Header (cond (is_nonempty (last_of [] lines)) Shape End))
 
 -- a prefix of a printed text, but the whole, doesn't read
 abbrev pub PrefixFaults : Type 0
-PrefixFaults = (net : Network) (journal : List Entry) (complete : Bool) (prefix : Text) (c : ℕ) (rest : Text) → Prints net journal
-    → journal_text net journal complete ≡ prefix ++ c ∷ rest → read_of net prefix ≡ Err (prefix_fault (lines_of prefix))
+PrefixFaults = (net : Network) (journal : List Entry) (complete : Bool) (prefix : Text) (c : ℕ)
+    (rest : Text) → Prints net journal
+    → journal_text net journal complete ≡ prefix ++ c ∷ rest
+    → read_of net prefix ≡ Err (prefix_fault (lines_of prefix))
 
 abbrev pub StampedPrefixFaults : Type 0
-StampedPrefixFaults = (net : Network) (journal : List Entry) (stamps : List ℕ) (complete : Bool) (prefix : Text) (c : ℕ) (rest : Text) → Prints net journal → AreStamps journal stamps
-    → stamped_journal_text net journal stamps complete ≡ prefix ++ c ∷ rest → read_of net prefix ≡ Err (prefix_fault (lines_of prefix))
+StampedPrefixFaults =
+    (net : Network) (journal : List Entry) (stamps : List ℕ) (complete : Bool) (prefix : Text)
+    (c : ℕ) (rest : Text) → Prints net journal → AreStamps journal stamps
+    → stamped_journal_text net journal stamps complete ≡ prefix ++ c ∷ rest
+    → read_of net prefix ≡ Err (prefix_fault (lines_of prefix))

@@ -16,13 +16,16 @@ use Rattle.journal_text.specs.declared.line.Content.TheVariants.{More as MoreCon
 -- the form, with the items of its lists
 abbrev pub as_form : Form → EntryForm
 as_form (Delivery from to event) = DepForm from.now to.now event.now
-as_form (Firing machine seen given) = FireForm machine.now (items_in seen.0.now, items_in seen.1.now) (items_in given.0.now, items_in given.1.now)
+as_form (Firing machine seen given) =
+    FireForm machine.now (items_in seen.0.now, items_in seen.1.now)
+    (items_in given.0.now, items_in given.1.now)
 as_form (Try machine seen) = IdleForm machine.now (items_in seen.0.now, items_in seen.1.now)
 
 -- what stands for lists are lists
 abbrev pub HasLists : Form → Type 0
 HasLists (Delivery from to event) = ⊤
-HasLists (Firing machine seen given) = AreLists seen.0.now seen.1.now × AreLists given.0.now given.1.now
+HasLists (Firing machine seen given) =
+    AreLists seen.0.now seen.1.now × AreLists given.0.now given.1.now
 HasLists (Try machine seen) = AreLists seen.0.now seen.1.now
 
 -- `W : L ; L -> L ; L`

@@ -1,4 +1,5 @@
--- What a journal text says: its journal, its stamps and its last word, or its first line at fault with its first kind.
+-- What a journal text says: its journal, its stamps and its last word, or its first line at fault
+-- with its first kind.
 use Rattle.std.specs.Prelude.{ℕ, ◌+◌, cond, Bool, true, false, not, ◌||◌, ◌==◌, nat_lt, List, [], ◌∷◌, ◌++◌, length, map, Option, Some, None, Result, Ok, Err, codes}
 use Rattle.domains.specs.Names.{is_same}
 use Rattle.transition_table.specs.declared.network.Network.{Network}
@@ -15,7 +16,8 @@ use Rattle.journal_text.specs.declared.fault.JournalFault.TheVariants.{Line}
 abbrev pub Numbered : Type 0
 Numbered = List (ℕ × Entry)
 
--- what a line says after the entries before it: one entry more, the end with `complete` or `limit`, or a fault
+-- what a line says after the entries before it: one entry more, the end with `complete` or `limit`,
+-- or a fault
 pub data Said : Type 0 where
   More : ℕ × Entry → Said
   Last : Bool → Said
@@ -34,12 +36,14 @@ entry_says stamped net count (Some (stamp, form)) =
     (said_entry stamp (entry_read net form)))
 
 abbrev pub words_say : Bool → Network → ℕ → Texts → Option (ℕ × Bool) → Said
-words_say stamped net count words (Some (number, complete)) = cond (number == count) (Last complete) (Bad Count)
+words_say stamped net count words (Some (number, complete)) =
+    cond (number == count) (Last complete) (Bad Count)
 words_say stamped net count words None = entry_says stamped net count (stamped_form stamped words)
 
 -- what a line with its LF says after so many entries
 abbrev pub line_says : Bool → Network → ℕ → Text → Said
-line_says stamped net count line = words_say stamped net count (words_of line) (last_form (words_of line))
+line_says stamped net count line =
+    words_say stamped net count (words_of line) (last_form (words_of line))
 
 -- after the last line there is nothing
 abbrev pub ended : ℕ → Texts → Numbered × Bool → Result (Numbered × Bool) JournalFault
@@ -51,8 +55,10 @@ ended line (rest ∷ next ∷ lines) read = Err (Line (line + 1) After)
 abbrev pub unended : ℕ → Text → Result (Numbered × Bool) JournalFault
 unended line rest = Err (Line line (cond (is_nonempty rest) Shape End))
 
--- where the line before this text is one entry more, the lines after it go on; where it is the last, or at fault, that is the answer
-abbrev pub went_on : ℕ → Numbered → Texts → (Numbered → Result (Numbered × Bool) JournalFault) → Said → Result (Numbered × Bool) JournalFault
+-- where the line before this text is one entry more, the lines after it go on; where it is the
+-- last, or at fault, that is the answer
+abbrev pub went_on : ℕ → Numbered → Texts → (Numbered → Result (Numbered × Bool) JournalFault)
+    → Said → Result (Numbered × Bool) JournalFault
 went_on line read lines go (More entry) = go (read ++ entry ∷ [])
 went_on line read lines go (Last complete) = ended line lines (read, complete)
 went_on line read lines go (Bad kind) = Err (Line line kind)
@@ -62,18 +68,25 @@ abbrev pub lines_say : Bool → Network → ℕ → Numbered → Texts → Resul
 lines_say stamped net line read [] = unended line []
 lines_say stamped net line read (rest ∷ []) = unended line rest
 lines_say stamped net line read (text ∷ next ∷ lines) =
-    went_on line read (next ∷ lines) (λ more. lines_say stamped net (line + 1) more (next ∷ lines)) (line_says stamped net (length read) text)
+    went_on line read (next ∷ lines) (λ more. lines_say stamped net (line + 1) more (next ∷ lines))
+    (line_says stamped net (length read) text)
 
 -- whether the first line is that of version 2, or of version 1
 abbrev pub version_of : Text → Option Bool
-version_of line = cond (is_same line (codes "polis journal 1")) (Some false) (cond (is_same line (codes "polis journal 2")) (Some true) None)
+version_of line =
+    cond (is_same line (codes "polis journal 1")) (Some false)
+    (cond (is_same line (codes "polis journal 2")) (Some true) None)
 
 -- what is read: the journal, the stamps in version 2, and whether the last word is `complete`
 abbrev pub ReadText : Type 0
 ReadText = List Entry × Option (List ℕ) × Bool
 
 abbrev pub as_read : Bool → Numbered × Bool → ReadText
-as_read stamped (entries, complete) = (map (λ (p : ℕ × Entry). p.1) entries, cond stamped (Some (map (λ (p : ℕ × Entry). p.0) entries)) None, complete)
+as_read stamped (entries, complete) = (
+  map (λ (p : ℕ × Entry). p.1) entries,
+  cond stamped (Some (map (λ (p : ℕ × Entry). p.0) entries)) None,
+  complete,
+)
 
 abbrev pub given : Bool → Result (Numbered × Bool) JournalFault → Result ReadText JournalFault
 given stamped (Err fault) = Err fault

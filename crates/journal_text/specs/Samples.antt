@@ -13,7 +13,8 @@ head_2 = line (codes "polis journal 2")
 
 -- three deliveries and a firing, with any first line and any line of the firing
 abbrev pub join_with : List ℕ → List ℕ → List ℕ
-join_with first firing = head_1 ++ line first ++ line (codes "dep env m a") ++ line (codes "dep env m b") ++ line firing
+join_with first firing = head_1 ++ line first ++ line (codes "dep env m a")
+    ++ line (codes "dep env m b") ++ line firing
 
 abbrev pub join_entries : List ℕ
 join_entries = join_with (codes "dep env m a") (codes "fire m : a b ; - -> - ; c")
@@ -21,7 +22,8 @@ join_entries = join_with (codes "dep env m a") (codes "fire m : a b ; - -> - ; c
 -- the same with stamps, the first stamp being any text
 abbrev pub join_stamped : List ℕ → List ℕ
 join_stamped stamp =
-    head_2 ++ line (stamp ++ codes " dep env m a") ++ line (codes "@2 dep env m a") ++ line (codes "@3 dep env m b")
+    head_2 ++ line (stamp ++ codes " dep env m a") ++ line (codes "@2 dep env m a")
+    ++ line (codes "@3 dep env m b")
     ++ line (codes "@4 fire m : a b ; - -> - ; c") ++ line (codes "end 4 complete")
 
 abbrev pub one_delivery : List Entry

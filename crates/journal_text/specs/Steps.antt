@@ -10,7 +10,8 @@ use Rattle.journal_text.specs.declared.fault.JournalKind.TheVariants.{Value}
 
 -- whatever things are after it, a thing takes this code from the items, and these are left
 abbrev pub Steps : Network → Named → Texts → ℕ → Texts → Type 0
-Steps net named items code after = (things : List Named) → some_codes net (named ∷ things) items ≡ with_code (Some code) (some_codes net things after)
+Steps net named items code after = (things : List Named)
+    → some_codes net (named ∷ things) items ≡ with_code (Some code) (some_codes net things after)
 
 -- whatever things are after it, the next item has its name and a value at fault
 abbrev pub Stops : Network → Named → Texts → Type 0
@@ -18,11 +19,13 @@ Stops net named items = (things : List Named) → some_codes net (named ∷ thin
 
 -- the next item gives a state variable this value, and these items are left
 abbrev pub GivesValue : Network → Named → Texts → ℕ → Texts → Type 0
-GivesValue net named items value after = (things : List Named) → all_values net (named ∷ things) items ≡ with_code (Some value) (all_values net things after)
+GivesValue net named items value after = (things : List Named)
+    → all_values net (named ∷ things) items ≡ with_code (Some value) (all_values net things after)
 
 -- the next item has this fault
 abbrev pub StopsValues : Network → Named → Texts → JournalKind → Type 0
-StopsValues net named items kind = (things : List Named) → all_values net (named ∷ things) items ≡ Err kind
+StopsValues net named items kind = (things : List Named)
+    → all_values net (named ∷ things) items ≡ Err kind
 
 -- the codes of the inputs and then the values of the state variables
 abbrev pub whole : List ℕ × List ℕ → List ℕ
@@ -33,4 +36,5 @@ abbrev pub are_events : Network → List ℕ → Bool
 are_events net events = list_all (λ e. nat_lt e (length net.events)) events
 
 abbrev pub are_states : Network → List StateDecl → Bool
-are_states net variables = list_all (λ variable. nat_lt variable.domain (length net.domains)) variables
+are_states net variables =
+    list_all (λ variable. nat_lt variable.domain (length net.domains)) variables

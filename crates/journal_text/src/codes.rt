@@ -33,8 +33,10 @@ pub fn codes_of_events(
 ) -> Result<Codes, Stop>
     requires events { IsTrue (are_events net.now events.now) }
     requires list { is_some (list_of (words_of list.now)) ≡ true }
-    ensures ok { IfOk result (λ codes. some_codes net.now (map (as_event net.now) events.now) (items_in list.now) ≡ Ok codes) }
-    ensures fault { (kind : JournalKind) → result ≡ Err (Stop.Kind kind) → some_codes net.now (map (as_event net.now) events.now) (items_in list.now) ≡ Err kind }
+    ensures ok { IfOk result (λ codes.
+        some_codes net.now (map (as_event net.now) events.now) (items_in list.now) ≡ Ok codes) }
+    ensures fault { (kind : JournalKind) → result ≡ Err (Stop.Kind kind)
+        → some_codes net.now (map (as_event net.now) events.now) (items_in list.now) ≡ Err kind }
 {
     let mut codes = Codes::new(alloc);
     let mut items = items_of(list);
@@ -57,7 +59,8 @@ pub fn codes_of_events(
     }
 }
 
-/// The codes that the items of a list give these state variables, in their order: what each is set to.
+/// The codes that the items of a list give these state variables, in their order: what each is set
+/// to.
 pub fn codes_of_states(
     alloc: Global,
     net: &Network,
@@ -66,8 +69,10 @@ pub fn codes_of_states(
 ) -> Result<Codes, Stop>
     requires states { IsTrue (are_states net.now states.now) }
     requires list { is_some (list_of (words_of list.now)) ≡ true }
-    ensures ok { IfOk result (λ codes. some_codes net.now (map as_state states.now) (items_in list.now) ≡ Ok codes) }
-    ensures fault { (kind : JournalKind) → result ≡ Err (Stop.Kind kind) → some_codes net.now (map as_state states.now) (items_in list.now) ≡ Err kind }
+    ensures ok { IfOk result (λ codes.
+        some_codes net.now (map as_state states.now) (items_in list.now) ≡ Ok codes) }
+    ensures fault { (kind : JournalKind) → result ≡ Err (Stop.Kind kind)
+        → some_codes net.now (map as_state states.now) (items_in list.now) ≡ Err kind }
 {
     let mut codes = Codes::new(alloc);
     let mut items = items_of(list);
@@ -89,7 +94,8 @@ pub fn codes_of_states(
     }
 }
 
-/// Appends the values that the items of a list give these state variables, all of them in their order.
+/// Appends the values that the items of a list give these state variables, all of them in their
+/// order.
 pub fn push_values(
     net: &Network,
     states: &[StateDecl],
@@ -98,8 +104,11 @@ pub fn push_values(
 ) -> Result<(), Stop>
     requires states { IsTrue (are_states net.now states.now) }
     requires list { is_some (list_of (words_of list.now)) ≡ true }
-    ensures ok { IfOk result (λ u. map_read (λ values. into.old ++ values) (all_values net.now (map as_state states.now) (items_in list.now)) ≡ Ok into.new) }
-    ensures fault { (kind : JournalKind) → result ≡ Err (Stop.Kind kind) → all_values net.now (map as_state states.now) (items_in list.now) ≡ Err kind }
+    ensures ok { IfOk result
+        (λ u. map_read (λ values. into.old ++ values)
+        (all_values net.now (map as_state states.now) (items_in list.now)) ≡ Ok into.new) }
+    ensures fault { (kind : JournalKind) → result ≡ Err (Stop.Kind kind)
+        → all_values net.now (map as_state states.now) (items_in list.now) ≡ Err kind }
 {
     let mut items = items_of(list);
     for variable in states.iter() {

@@ -123,10 +123,12 @@ fn next_with(text: &[u8], mark: u8) -> Option<usize>
     }
 }
 
-/// What stands before the first such sign among words, and what stands after it. None where there is no such sign, or nothing before it or after it.
+/// What stands before the first such sign among words, and what stands after it. None where there
+/// is no such sign, or nothing before it or after it.
 pub fn cut_at<'a>(words: &'a [u8], sign: &[u8]) -> Option<(&'a [u8], &'a [u8])>
     requires { 0 < length sign.now }
-    ensures some { IfSome result (λ r. CutAt sign.now (words_of words.now) (words_of r.0.now) (words_of r.1.now)) }
+    ensures some { IfSome result (λ r.
+        CutAt sign.now (words_of words.now) (words_of r.0.now) (words_of r.1.now)) }
     ensures none { IfNone result (NoCut sign.now (words_of words.now)) }
 {
     let mut from = 0;

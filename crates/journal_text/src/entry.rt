@@ -46,8 +46,13 @@ fn delivery(net: &Network, from: &[u8], to: &[u8], event: &[u8]) -> Result<Entry
 fn snapshot(alloc: Global, net: &Network, m: u32, seen: (&[u8], &[u8])) -> Result<Snapshot, Stop>
     requires machine { m < length net.now.machines }
     requires lists { AreLists seen.0.now seen.1.now }
-    ensures ok { IfOk result (λ s. map_read whole (snapshot_read net.now m (items_in seen.entry.0.now, items_in seen.entry.1.now)) ≡ Ok s.codes) }
-    ensures fault { (kind : JournalKind) → result ≡ Err (Stop.Kind kind) → snapshot_read net.now m (items_in seen.entry.0.now, items_in seen.entry.1.now) ≡ Err kind }
+    ensures ok { IfOk result
+        (λ s. map_read whole
+        (snapshot_read net.now m (items_in seen.entry.0.now, items_in seen.entry.1.now))
+        ≡ Ok s.codes) }
+    ensures fault { (kind : JournalKind) → result ≡ Err (Stop.Kind kind)
+        → snapshot_read net.now m (items_in seen.entry.0.now, items_in seen.entry.1.now)
+        ≡ Err kind }
 {
     let (present, values) = seen;
     let machine = net.machines.get(m as u64);
@@ -61,8 +66,12 @@ fn outcome(alloc: Global, net: &Network, m: u32, given: (&[u8], &[u8])) -> Resul
     requires machine { m < length net.now.machines }
     requires lists { AreLists given.0.now given.1.now }
     ensures fires { IfOk result (λ o. o.fires ≡ true) }
-    ensures ok { IfOk result (λ o. result_read net.now m (items_in given.entry.0.now, items_in given.entry.1.now) ≡ Ok (o.next, o.outs)) }
-    ensures fault { (kind : JournalKind) → result ≡ Err (Stop.Kind kind) → result_read net.now m (items_in given.entry.0.now, items_in given.entry.1.now) ≡ Err kind }
+    ensures ok { IfOk result
+        (λ o. result_read net.now m (items_in given.entry.0.now, items_in given.entry.1.now)
+        ≡ Ok (o.next, o.outs)) }
+    ensures fault { (kind : JournalKind) → result ≡ Err (Stop.Kind kind)
+        → result_read net.now m (items_in given.entry.0.now, items_in given.entry.1.now)
+        ≡ Err kind }
 {
     let (set, emitted) = given;
     let machine = net.machines.get(m as u64);
@@ -85,8 +94,14 @@ fn firing(
 ) -> Result<Entry, Stop>
     requires seen { AreLists seen.0.now seen.1.now }
     requires given { AreLists given.0.now given.1.now }
-    ensures ok { IfOk result (λ entry. entry_read net.now (FireForm machine.now (items_in seen.entry.0.now, items_in seen.entry.1.now) (items_in given.entry.0.now, items_in given.entry.1.now)) ≡ Ok entry) }
-    ensures fault { (kind : JournalKind) → result ≡ Err (Stop.Kind kind) → entry_read net.now (FireForm machine.now (items_in seen.entry.0.now, items_in seen.entry.1.now) (items_in given.entry.0.now, items_in given.entry.1.now)) ≡ Err kind }
+    ensures ok { IfOk result (λ entry.
+        entry_read net.now
+        (FireForm machine.now (items_in seen.entry.0.now, items_in seen.entry.1.now)
+        (items_in given.entry.0.now, items_in given.entry.1.now)) ≡ Ok entry) }
+    ensures fault { (kind : JournalKind) → result ≡ Err (Stop.Kind kind)
+        → entry_read net.now
+        (FireForm machine.now (items_in seen.entry.0.now, items_in seen.entry.1.now)
+        (items_in given.entry.0.now, items_in given.entry.1.now)) ≡ Err kind }
 {
     let Some(m) = machine_of_name(net, machine) else {
         return Err(Stop::Kind(JournalKind::Name));
@@ -117,8 +132,12 @@ fn blank(alloc: Global, net: &Network, m: u32) -> Result<Outcome, Stop>
 // A reaction that doesn't fire.
 fn trying(alloc: Global, net: &Network, machine: &[u8], seen: (&[u8], &[u8])) -> Result<Entry, Stop>
     requires seen { AreLists seen.0.now seen.1.now }
-    ensures ok { IfOk result (λ entry. entry_read net.now (IdleForm machine.now (items_in seen.entry.0.now, items_in seen.entry.1.now)) ≡ Ok entry) }
-    ensures fault { (kind : JournalKind) → result ≡ Err (Stop.Kind kind) → entry_read net.now (IdleForm machine.now (items_in seen.entry.0.now, items_in seen.entry.1.now)) ≡ Err kind }
+    ensures ok { IfOk result (λ entry.
+        entry_read net.now
+        (IdleForm machine.now (items_in seen.entry.0.now, items_in seen.entry.1.now)) ≡ Ok entry) }
+    ensures fault { (kind : JournalKind) → result ≡ Err (Stop.Kind kind)
+        → entry_read net.now
+        (IdleForm machine.now (items_in seen.entry.0.now, items_in seen.entry.1.now)) ≡ Err kind }
 {
     let Some(m) = machine_of_name(net, machine) else {
         return Err(Stop::Kind(JournalKind::Name));
@@ -136,7 +155,8 @@ fn trying(alloc: Global, net: &Network, machine: &[u8], seen: (&[u8], &[u8])) ->
 pub fn entry_of_form(alloc: Global, net: &Network, form: Form<'_>) -> Result<Entry, Stop>
     requires { HasLists form }
     ensures ok { IfOk result (λ entry. entry_read net.now (as_form form.entry) ≡ Ok entry) }
-    ensures fault { (kind : JournalKind) → result ≡ Err (Stop.Kind kind) → entry_read net.now (as_form form.entry) ≡ Err kind }
+    ensures fault { (kind : JournalKind) → result ≡ Err (Stop.Kind kind)
+        → entry_read net.now (as_form form.entry) ≡ Err kind }
 {
     match form {
         Form::Delivery { from, to, event } => match delivery(net, from, to, event) {

@@ -39,7 +39,8 @@ pub enum Form<'a> {
 
 /// The two lists of `L ; L`, and None where the words aren't of that form.
 pub fn cut_two(words: &[u8]) -> Option<(&[u8], &[u8])>
-    ensures some { IfSome result (λ r. two_lists (words_of words.now) ≡ Some (items_in r.0.now, items_in r.1.now)) }
+    ensures some { IfSome result (λ r.
+        two_lists (words_of words.now) ≡ Some (items_in r.0.now, items_in r.1.now)) }
     ensures lists { IfSome result (λ r. AreLists r.0.now r.1.now) }
     ensures none { IfNone result (two_lists (words_of words.now) ≡ None) }
 {
@@ -53,7 +54,9 @@ pub fn cut_two(words: &[u8]) -> Option<(&[u8], &[u8])>
 
 /// The four lists of `L ; L -> L ; L`, and None where the words aren't of that form.
 pub fn cut_four(words: &[u8]) -> Option<((&[u8], &[u8]), (&[u8], &[u8]))>
-    ensures some { IfSome result (λ r. four_lists (words_of words.now) ≡ Some ((items_in r.0.0.now, items_in r.0.1.now), (items_in r.1.0.now, items_in r.1.1.now))) }
+    ensures some { IfSome result (λ r.
+        four_lists (words_of words.now) ≡ Some
+        ((items_in r.0.0.now, items_in r.0.1.now), (items_in r.1.0.now, items_in r.1.1.now))) }
     ensures seen { IfSome result (λ r. AreLists r.0.0.now r.0.1.now) }
     ensures given { IfSome result (λ r. AreLists r.1.0.now r.1.1.now) }
     ensures none { IfNone result (four_lists (words_of words.now) ≡ None) }
@@ -139,7 +142,8 @@ fn delivery(words: &[u8]) -> Option<Form<'_>>
 
 // The machine of `W :` with more words, and these words.
 fn reaction(words: &[u8]) -> Option<(&[u8], &[u8])>
-    ensures some { IfSome result (λ r. reaction_form (words_of words.now) ≡ Some (r.0.now, words_of r.1.now)) }
+    ensures some { IfSome result (λ r.
+        reaction_form (words_of words.now) ≡ Some (r.0.now, words_of r.1.now)) }
     ensures none { IfNone result (NoReaction (words_of words.now)) }
 {
     let (machine, after) = next_piece(words, b' ');
@@ -223,9 +227,11 @@ fn stamp(word: &[u8]) -> Option<u64>
     }
 }
 
-/// The form of an entry's line with its stamp, or with 0 where lines have no stamps. None where the line is of none.
+/// The form of an entry's line with its stamp, or with 0 where lines have no stamps. None where the
+/// line is of none.
 pub fn stamped_line(stamped: bool, line: &[u8]) -> Option<(u64, Form<'_>)>
-    ensures some { IfSome result (λ r. stamped_form stamped (words_of line.now) ≡ Some (r.0, as_form r.1)) }
+    ensures some { IfSome result (λ r.
+        stamped_form stamped (words_of line.now) ≡ Some (r.0, as_form r.1)) }
     ensures lists { IfSome result (λ r. HasLists r.1) }
     ensures none { IfNone result (stamped_form stamped (words_of line.now) ≡ None) }
 {

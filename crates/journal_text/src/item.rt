@@ -85,8 +85,9 @@ pub fn code(net: &Network, domain: Option<u32>, word: Option<&[u8]>) -> Option<u
     }
 }
 
-/// The code that the next item gives a thing of this name and domain, with the items after it; or 0 and all items, where the next item has
-/// another name or there is none. None where its value is at fault.
+/// The code that the next item gives a thing of this name and domain, with the items after it; or 0
+/// and all items, where the next item has another name or there is none. None where its value is at
+/// fault.
 pub fn code_of_next<'a>(
     net: &Network,
     name: &[u8],
@@ -94,8 +95,11 @@ pub fn code_of_next<'a>(
     items: Option<&'a [u8]>,
 ) -> Option<(u8, Option<&'a [u8]>)>
     requires { IfSome domain (λ d. d < length net.now.domains) }
-    ensures some { IfSome result (λ r. Steps net.now (name.now, domain) (left 32 (option_copied items.entry)) r.0 (left 32 (option_copied r.1))) }
-    ensures none { IfNone result (Stops net.now (name.now, domain) (left 32 (option_copied items.entry))) }
+    ensures some { IfSome result (λ r.
+        Steps net.now (name.now, domain) (left 32 (option_copied items.entry)) r.0
+        (left 32 (option_copied r.1))) }
+    ensures none { IfNone result
+        (Stops net.now (name.now, domain) (left 32 (option_copied items.entry))) }
 {
     let Some(text) = items else {
         return Some((0, None));
@@ -109,16 +113,19 @@ pub fn code_of_next<'a>(
     }
 }
 
-/// The value that the next item gives a state variable, with the items after it; or the kind of fault, where the next item isn't of that variable,
-/// or there is none, or its value is at fault.
+/// The value that the next item gives a state variable, with the items after it; or the kind of
+/// fault, where the next item isn't of that variable, or there is none, or its value is at fault.
 pub fn value_of_next<'a>(
     net: &Network,
     variable: &StateDecl,
     items: Option<&'a [u8]>,
 ) -> Result<(u8, Option<&'a [u8]>), JournalKind>
     requires { variable.now.domain < length net.now.domains }
-    ensures ok { IfOk result (λ r. GivesValue net.now (as_state variable.now) (left 32 (option_copied items.entry)) r.0 (left 32 (option_copied r.1))) }
-    ensures fault { IfErr result (λ kind. StopsValues net.now (as_state variable.now) (left 32 (option_copied items.entry)) kind) }
+    ensures ok { IfOk result
+        (λ r. GivesValue net.now (as_state variable.now) (left 32 (option_copied items.entry)) r.0
+        (left 32 (option_copied r.1))) }
+    ensures fault { IfErr result (λ kind.
+        StopsValues net.now (as_state variable.now) (left 32 (option_copied items.entry)) kind) }
 {
     let Some(text) = items else {
         return Err(JournalKind::Name);

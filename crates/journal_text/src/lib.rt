@@ -1,4 +1,5 @@
-// Journal texts, in both versions: what is printed of a journal, and what a text says or where it is at fault.
+// Journal texts, in both versions: what is printed of a journal, and what a text says or where it
+// is at fault.
 #![tactic(auto)]
 
 mod codes;

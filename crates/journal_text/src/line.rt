@@ -46,8 +46,11 @@ fn read_entry(
     count: u64,
     line: &[u8],
 ) -> Result<Content, Stop>
-    ensures ok { IfOk result (λ content. entry_says stamped net.now count (stamped_form stamped (words_of line.now)) ≡ as_said content) }
-    ensures fault { (kind : JournalKind) → result ≡ Err (Stop.Kind kind) → entry_says stamped net.now count (stamped_form stamped (words_of line.now)) ≡ Bad kind }
+    ensures ok { IfOk result (λ content.
+        entry_says stamped net.now count (stamped_form stamped (words_of line.now))
+        ≡ as_said content) }
+    ensures fault { (kind : JournalKind) → result ≡ Err (Stop.Kind kind)
+        → entry_says stamped net.now count (stamped_form stamped (words_of line.now)) ≡ Bad kind }
 {
     let Some((stamp, form)) = stamped_line(stamped, line) else {
         return Err(Stop::Kind(JournalKind::Shape));
@@ -64,7 +67,8 @@ fn read_entry(
     }
 }
 
-/// What a line with its LF says after so many entries, or the first kind of fault that applies to it.
+/// What a line with its LF says after so many entries, or the first kind of fault that applies to
+/// it.
 pub fn read_line(
     alloc: Global,
     net: &Network,
@@ -72,8 +76,10 @@ pub fn read_line(
     count: u64,
     line: &[u8],
 ) -> Result<Content, Stop>
-    ensures ok { IfOk result (λ content. line_says stamped net.now count line.now ≡ as_said content) }
-    ensures fault { (kind : JournalKind) → result ≡ Err (Stop.Kind kind) → line_says stamped net.now count line.now ≡ Bad kind }
+    ensures ok { IfOk result (λ content.
+        line_says stamped net.now count line.now ≡ as_said content) }
+    ensures fault { (kind : JournalKind) → result ≡ Err (Stop.Kind kind)
+        → line_says stamped net.now count line.now ≡ Bad kind }
 {
     match last_line(line) {
         Some((number, complete)) => {

@@ -70,7 +70,8 @@ fn push_events(
     into: &mut Bytes,
 ) -> Result<(), NoMemory>
     requires { IsTrue (are_event_codes net.now events.now codes.now) }
-    ensures { OnOk result (into.new ≡ into.old ++ spaced (event_items net.now events.now codes.now)) }
+    ensures { OnOk result (into.new ≡ into.old
+        ++ spaced (event_items net.now events.now codes.now)) }
 {
     let mut some = false;
     for (event, code) in events.iter().zip(codes) {
@@ -91,7 +92,8 @@ fn push_states(
     into: &mut Bytes,
 ) -> Result<(), NoMemory>
     requires { IsTrue (are_values net.now variables.now values.now) }
-    ensures { OnOk result (into.new ≡ into.old ++ spaced (state_items net.now variables.now values.now)) }
+    ensures { OnOk result (into.new ≡ into.old
+        ++ spaced (state_items net.now variables.now values.now)) }
 {
     let mut some = false;
     for (variable, value) in variables.iter().zip(values) {
@@ -110,7 +112,8 @@ fn push_settings(
     into: &mut Bytes,
 ) -> Result<(), NoMemory>
     requires { IsTrue (are_settings net.now variables.now codes.now) }
-    ensures { OnOk result (into.new ≡ into.old ++ spaced (set_items net.now variables.now codes.now)) }
+    ensures { OnOk result (into.new ≡ into.old
+        ++ spaced (set_items net.now variables.now codes.now)) }
 {
     let mut some = false;
     for (variable, setting) in variables.iter().zip(codes) {
@@ -132,7 +135,8 @@ pub fn push_snapshot(
 ) -> Result<(), NoMemory>
     requires sized { IsTrue (has_vars net.now.domains net.now.events machine.now) }
     requires snapshot { IsSnapshot machine.now snapshot.now }
-    ensures { OnOk result (into.new ≡ into.old ++ snapshot_text net.now machine.now snapshot.now.codes) }
+    ensures { OnOk result (into.new ≡ into.old
+        ++ snapshot_text net.now machine.now snapshot.now.codes) }
 {
     let inputs = machine.inputs.as_slice();
     let (codes, values) = snapshot.codes.as_slice().split_at(inputs.len());
@@ -180,7 +184,8 @@ fn push_reaction(
     requires sized_outputs { IsTrue (has_outputs net.now.domains net.now.events machine.now) }
     requires snapshot { IsSnapshot machine.now snapshot.now }
     requires outcome { IsOutcome machine.now outcome.now }
-    ensures { OnOk result (into.new ≡ into.old ++ reaction_text net.now machine.now snapshot.now outcome.now) }
+    ensures { OnOk result (into.new ≡ into.old
+        ++ reaction_text net.now machine.now snapshot.now outcome.now) }
 {
     into.push(if outcome.fires { b"fire " } else { b"idle " })?;
     into.push(machine.name.bytes())?;
@@ -280,7 +285,8 @@ fn push_entries(
     into: &mut Bytes,
 ) -> Result<(), NoMemory>
     requires { IsJournal net.now entries.now }
-    ensures { OnOk result (into.new ≡ into.old ++ flat_map (stamped_line net.now) (zip stamps.now entries.now)) }
+    ensures { OnOk result (into.new ≡ into.old
+        ++ flat_map (stamped_line net.now) (zip stamps.now entries.now)) }
 {
     for (stamp, entry) in stamps.iter().zip(entries) {
         push_stamp(*stamp, into)?;
@@ -297,7 +303,8 @@ pub fn push_count(j: &Journal, complete: bool, into: &mut Bytes) -> Result<(), N
     into.push(if complete { b" complete" } else { b" limit" })
 }
 
-/// The text of a journal with stamps: its head, a line an entry with its stamp, and the number of entries with `complete` or `limit`.
+/// The text of a journal with stamps: its head, a line an entry with its stamp, and the number of
+/// entries with `complete` or `limit`.
 pub fn print_journal(
     alloc: Global,
     net: &Network,
@@ -326,7 +333,8 @@ fn push_outputs(
     into: &mut Bytes,
 ) -> Result<(), NoMemory>
     requires { IsTrue (are_event_codes net.now events.now codes.now) }
-    ensures { OnOk result (into.new ≡ into.old ++ output_lines net.now (emitted events.now codes.now)) }
+    ensures { OnOk result (into.new ≡ into.old
+        ++ output_lines net.now (emitted events.now codes.now)) }
 {
     for (event, code) in events.iter().zip(codes) {
         if *code > 0 && net.events.get(*event as u64).to_env {
@@ -340,7 +348,8 @@ fn push_outputs(
 // Appends a line for each emission of an entry that goes to the environment.
 fn push_entry_outputs(net: &Network, entry: &Entry, into: &mut Bytes) -> Result<(), NoMemory>
     requires { FitsNetwork net.now entry.now }
-    ensures { OnOk result (into.new ≡ into.old ++ output_lines net.now (emissions net.now entry.now)) }
+    ensures { OnOk result (into.new ≡ into.old
+        ++ output_lines net.now (emissions net.now entry.now)) }
 {
     match entry {
         Entry::Rea {

@@ -27,7 +27,8 @@ pub struct ReadJournal {
     pub says_complete: bool,
 }
 
-// Whether the lines after this first one have stamps, and None where it is the first line of neither version.
+// Whether the lines after this first one have stamps, and None where it is the first line of
+// neither version.
 fn version(line: &[u8]) -> Option<bool>
     ensures { result ≡ version_of line.now }
 {
@@ -94,8 +95,12 @@ fn finish(
 ) -> Result<ReadJournal, JournalFault>
     requires stamps { length stamps ≡ length journal }
     requires line { line ≤ 60002 }
-    ensures ok { IfOk result (λ r. given stamped (ended line (lines_of after.now) (zip stamps journal, says_complete)) ≡ Ok (r.journal, r.stamps, r.says_complete)) }
-    ensures fault { IfErr result (λ fault. given stamped (ended line (lines_of after.now) (zip stamps journal, says_complete)) ≡ Err fault) }
+    ensures ok { IfOk result
+        (λ r. given stamped (ended line (lines_of after.now) (zip stamps journal, says_complete))
+        ≡ Ok (r.journal, r.stamps, r.says_complete)) }
+    ensures fault { IfErr result (λ fault.
+        given stamped (ended line (lines_of after.now) (zip stamps journal, says_complete))
+        ≡ Err fault) }
 {
     if !after.is_empty() {
         return Err(JournalFault::Line {
@@ -117,8 +122,10 @@ fn read_lines(
     stamped: bool,
     text: &[u8],
 ) -> Result<ReadJournal, JournalFault>
-    ensures ok { IfOk result (λ r. body_says net.now (Some stamped) (lines_of text.now) ≡ Ok (r.journal, r.stamps, r.says_complete)) }
-    ensures fault { (fault : JournalFault) → result ≡ Err fault → fault ≢ JournalFault.NoMemory → body_says net.now (Some stamped) (lines_of text.now) ≡ Err fault }
+    ensures ok { IfOk result (λ r. body_says net.now (Some stamped) (lines_of text.now)
+        ≡ Ok (r.journal, r.stamps, r.says_complete)) }
+    ensures fault { (fault : JournalFault) → result ≡ Err fault → fault ≢ JournalFault.NoMemory
+        → body_says net.now (Some stamped) (lines_of text.now) ≡ Err fault }
 {
     let mut journal = Journal::new(alloc);
     let mut stamps = Stamps::new(alloc);
@@ -145,13 +152,16 @@ fn read_lines(
     }
 }
 
-/// Reads a journal text of either version. The answer `Line` names the first line at fault, numbered from 1, and the first kind that applies to it.
+/// Reads a journal text of either version. The answer `Line` names the first line at fault,
+/// numbered from 1, and the first kind that applies to it.
 pub fn read_journal(alloc: Global, net: &Network, text: &[u8]) -> Result<ReadJournal, JournalFault>
-    ensures ok { IfOk result (λ r. read_of net.now text.now ≡ Ok (r.journal, r.stamps, r.says_complete)) }
+    ensures ok { IfOk result (λ r. read_of net.now text.now
+        ≡ Ok (r.journal, r.stamps, r.says_complete)) }
     ensures fits { IfOk result (λ r. IsJournal net.now r.journal) }
     ensures few { IfOk result (λ r. length r.journal ≤ 60000) }
     ensures stamps { IfOk result (λ r. IfSome r.stamps (AreStamps r.journal)) }
-    ensures fault { (fault : JournalFault) → result ≡ Err fault → fault ≢ JournalFault.NoMemory → read_of net.now text.now ≡ Err fault }
+    ensures fault { (fault : JournalFault) → result ≡ Err fault → fault ≢ JournalFault.NoMemory
+        → read_of net.now text.now ≡ Err fault }
 {
     let (first, after) = next_piece(text, b'\n');
     match (version(first), after) {

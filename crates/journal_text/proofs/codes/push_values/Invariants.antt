@@ -6,4 +6,6 @@ use Rattle.journal_text.proofs.codes.push_values.Given as goal
 
 -- the items of the state variables before this one are read
 abbrev pub invariant-loop-variable : goal.invariant-loop-variable
-invariant-loop-variable l = TakenAll l.net (map as_state l.states) (items_in l.list) l.fn.into l.into (map as_state (drop l.variable-index l.states)) (left 32 (option_copied l.items))
+invariant-loop-variable l =
+    TakenAll l.net (map as_state l.states) (items_in l.list) l.fn.into l.into
+    (map as_state (drop l.variable-index l.states)) (left 32 (option_copied l.items))

@@ -14,7 +14,8 @@ returns-in-Some c =
     let near_free : Nowhere (Passes (is_byte mark) text) 0 near =
     λ j low high. c.loop-k.invariant j low (omega arith)
     in
-    let found = subst (λ xs. IsFirstByte (is_byte mark) xs (Some c.in-Some.k)) rest c.in-Some.ensures in
+    let found = subst (λ xs. IsFirstByte (is_byte mark) xs (Some c.in-Some.k)) rest
+    c.in-Some.ensures in
     let long : length (drop near text) ≡ length text - near = length-drop near text in
     let before = nowhere_on (is_byte mark) text near c.in-Some.k near_free found.0.before in (
       record { low = omega arith; high = omega (arith, found.0.high); before = before },

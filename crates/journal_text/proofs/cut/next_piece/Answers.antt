@@ -17,7 +17,8 @@ returns-in-Some-clause-prefix c =
     let below = found.0.high in
     let none = none_before c.args.mark c.args.text.now c.in-Some.k found.0.before in
     let free = prefix_lacks c.args.mark c.args.text.now c.in-Some.k none (omega (arith, below)) in
-    ap (pieces c.args.mark) (cut_slice c.args.mark c.args.text.now c.in-Some.k below (eqb-true _ _ found.1))
+    ap (pieces c.args.mark)
+    (cut_slice c.args.mark c.args.text.now c.in-Some.k below (eqb-true _ _ found.1))
     ∙ pieces_at c.args.mark _ _ free
 
 pub returns-in-None-clause-piece : goal.returns-in-None-clause-piece

@@ -3,4 +3,6 @@ use Rattle.journal_text.proofs.Keeping.{holds_next}
 use Rattle.journal_text.proofs.kept.keep_tokens.Goals as goal
 
 pub loop-i-preserved : goal.loop-i-preserved
-loop-i-preserved c = holds_next is_name c.args.names.now c.loop-i.i c.get.result.now c.loop-i.invariant c.get.ensures c.bytes-token.ensures.name
+loop-i-preserved c =
+    holds_next is_name c.args.names.now c.loop-i.i c.get.result.now c.loop-i.invariant c.get.ensures
+    c.bytes-token.ensures.name

@@ -1,0 +1,9 @@
+mod Acting
+mod Drawn
+mod Dwindle
+mod Summing
+mod Keeping
+mod Naming
+mod Numbered
+mod Obeying
+mod Sentence

@@ -1,0 +1,5 @@
+use Rattle.net_gen.proofs.Obeying.{seeds_keep}
+use Rattle.net_gen.proofs.law.rules_are_kept.Goals as goal
+
+pub returns : goal.returns
+returns c = seeds_keep

@@ -1,0 +1,5 @@
+use Rattle.net_gen.proofs.Numbered.{machine_name}
+use Rattle.net_gen.proofs.words.machine.Goals as goal
+
+pub named-requires-clause-name : goal.named-requires-clause-name
+named-requires-clause-name c = machine_name c.args.i c.requires

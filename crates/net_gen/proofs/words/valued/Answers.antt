@@ -1,0 +1,5 @@
+use Rattle.net_gen.proofs.Numbered.{valued_name}
+use Rattle.net_gen.proofs.words.valued.Goals as goal
+
+pub named-requires-clause-name : goal.named-requires-clause-name
+named-requires-clause-name c = valued_name c.args.i c.requires

@@ -1,0 +1,5 @@
+pub mod Dwindling
+pub mod Draws
+pub mod Kept
+pub mod Networks
+pub mod Traces

@@ -1,0 +1,17 @@
+// A large network and a trace of it, drawn from a seed.
+#![tactic(auto)]
+
+mod draws;
+mod law;
+mod network;
+mod rows;
+#[cfg(test)]
+mod tests;
+mod texts;
+mod trace;
+mod words;
+mod worked;
+
+pub use law::{dwindling_laws, rules_are_kept};
+pub use texts::{Generated, generate};
+pub use worked::worked_draws;

@@ -1,5 +1,5 @@
 -- Words that name variables and results: `go`, or a kind, a space and a name.
-use Rattle.std.proofs.Common.{◌≡◌, ℕ, zero, suc, ◌<◌, Bool, true, false, cond, not, ◌&&◌, ◌||◌, ◌==◌, List, [], ◌∷◌, ◌++◌, map, length, get_or, slice_get, Some, refl, ap, sym, subst, ◌∙◌, append_assoc, arith, leb}
+use Rattle.std.proofs.Common.{◌≡◌, ℕ, zero, suc, Bool, true, false, cond, not, ◌&&◌, ◌==◌, List, [], ◌∷◌, ◌++◌, map, length, get_or, slice_get, Some, refl, ap, sym, subst, ◌∙◌, append_assoc, arith, leb}
 use Rattle.std.specs.List.{list_all}
 use Rattle.std.proofs.lemmas.Bool.{and_parts, and_from, eqb-true, not_from_false, false_from_ne_true, or_left}
 use Rattle.polis_base.specs.Names.{is_name, is_word, is_keyword, begins_name, continues_name}

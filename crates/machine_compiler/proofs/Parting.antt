@@ -1,30 +1,27 @@
 -- A listing has one list of parts.
-use Rattle.std.proofs.Common.{◌≡◌, ℕ, zero, suc, ◌+◌, ◌^◌, ◌<◌, ◌≤◌, Bool, true, false, not, ◌&&◌, ◌==◌, List, [], ◌∷◌, ◌++◌, map, length, get_or, slice_get, slice_index, Some, refl, ap, sym, subst, ◌∙◌, append_assoc, arith, codes, decimal}
+use Rattle.std.proofs.Common.{◌≡◌, ℕ, suc, ◌+◌, ◌^◌, ◌<◌, true, false, not, ◌==◌, List, [], ◌∷◌, ◌++◌, length, slice_get, slice_index, Some, refl, ap, sym, ◌∙◌, append_assoc, arith, codes}
 use Rattle.std.specs.Prelude.{flat_map}
 use Rattle.std.specs.List.{list_all, join_by}
 use Rattle.std.proofs.lemmas.Bool.{and_from, eq-eqb, lt-ltb}
-use Rattle.std.proofs.lemmas.List.{append_cancel_left, append_cancel_right}
+use Rattle.std.proofs.lemmas.List.{append_cancel_left}
 use Rattle.std.proofs.lemmas.List.Folds.{list_all-append}
-use Rattle.std.proofs.lemmas.Option.{slice_get_within, get_or_from_slice_get, slice_get-get_or}
+use Rattle.std.proofs.lemmas.Option.{slice_get_within, get_or_from_slice_get}
 use Rattle.domains.specs.Orders.{IsPermutation}
 use Rattle.transition_table.specs.declared.machine.Machine.{Machine}
 use Rattle.transition_table.specs.declared.network.Network.{Network}
 use Rattle.transition_table.specs.Orders.{sizes_of}
 use Rattle.char_function.specs.Sizes.{Size}
-use Rattle.char_function.specs.Orders.{first_order}
 use Rattle.sgraph.specs.declared.vertex.Vertex.{Vertex}
 use Rattle.sgraph.specs.declared.vertex.Vertex.TheVariants.{Begin, Test as Tests, Assign, End}
 use Rattle.sgraph.specs.Facts.{IsGraph}
-use Rattle.sgraph.specs.Graphs.{kids_of}
 use Rattle.sgraph.specs.Walks.{FitsMachine}
 use Rattle.task_code.specs.declared.instr.Instr.{Instr}
 use Rattle.task_code.specs.Codes.{laid_out, start}
-use Rattle.task_code.specs.Listings.{Part, line, numbers, labels, label, vertex_words, instr_words, numbered_lines, part_text, parts_text, ListingText}
-use Rattle.journal_text.specs.Holding.{names_hold}
-use Rattle.machine_compiler.specs.Parts.{Right, AreRight, AssignsBytes}
+use Rattle.task_code.specs.Listings.{Part, line, numbers, labels, label, vertex_words, instr_words, numbered_lines, part_text, parts_text}
+use Rattle.machine_compiler.specs.Parts.{Right, AssignsBytes}
 use Rattle.machine_compiler.specs.Laws.{ListingDeterminesParts}
 use Rattle.machine_compiler.proofs.Cutting.{lacks, line_cut, fits_word, numbers_break, numbers_lack, same_numbers}
-use Rattle.machine_compiler.proofs.Labelled.{IsLabel, Each, first, same_label}
+use Rattle.machine_compiler.proofs.Labelled.{Each, first, same_label}
 use Rattle.machine_compiler.proofs.Reading.{Writes, same_lines, same_items}
 use Rattle.machine_compiler.proofs.Wording.{Names, names_of, is_label, same_item, long_labels}
 

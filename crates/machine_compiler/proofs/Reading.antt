@@ -1,11 +1,11 @@
 -- Lines and joined words that are the same text are of the same things.
-use Rattle.std.proofs.Common.{◌≡◌, ℕ, zero, suc, ◌+◌, ◌^◌, ◌<◌, Bool, true, not, ◌==◌, List, [], ◌∷◌, ◌++◌, length, refl, ap, sym, ◌∙◌, append_assoc, arith, decimal, codes}
+use Rattle.std.proofs.Common.{◌≡◌, ℕ, zero, suc, ◌+◌, ◌^◌, ◌<◌, true, not, ◌==◌, List, [], ◌∷◌, ◌++◌, length, refl, ap, sym, ◌∙◌, append_assoc, arith, decimal, codes}
 use Rattle.std.specs.Prelude.{flat_map}
-use Rattle.std.specs.List.{list_all, join_by}
+use Rattle.std.specs.List.{join_by}
 use Rattle.std.proofs.lemmas.Bool.{and_from}
 use Rattle.std.proofs.lemmas.List.{append_cancel_left, append-nil}
 use Rattle.std.proofs.lemmas.List.Folds.{list_all-append}
-use Rattle.task_code.specs.Listings.{line, numbers, numbered_lines}
+use Rattle.task_code.specs.Listings.{line, numbered_lines}
 use Rattle.machine_compiler.proofs.Cutting.{lacks, cut, line_cut, decimal_lacks}
 use Rattle.machine_compiler.proofs.Labelled.{Each}
 

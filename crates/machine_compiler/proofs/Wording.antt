@@ -1,5 +1,5 @@
 -- The words for a machine's variables and results tell them apart.
-use Rattle.std.proofs.Common.{◌≡◌, ℕ, zero, suc, ◌+◌, ◌<◌, ◌≤◌, Bool, true, false, not, ◌&&◌, ◌==◌, List, [], ◌∷◌, ◌++◌, map, length, take, drop, slice_get, Option, Some, None, refl, ap, sym, subst, ◌∙◌, append_assoc, arith, leb, ltb, codes}
+use Rattle.std.proofs.Common.{◌≡◌, ℕ, zero, suc, ◌+◌, ◌<◌, true, false, not, ◌&&◌, ◌==◌, List, [], ◌∷◌, ◌++◌, map, length, take, drop, slice_get, Option, Some, None, refl, ap, sym, subst, ◌∙◌, append_assoc, arith, leb, ltb, codes}
 use Rattle.std.specs.Prelude.{option_map, unwrap_or}
 use Rattle.std.specs.List.{list_all}
 use Rattle.std.specs.Cmp.Lexicographic.{pointwise}
@@ -14,7 +14,6 @@ use Rattle.transition_table.specs.declared.decl.StateDecl.{StateDecl}
 use Rattle.transition_table.specs.declared.machine.Machine.{Machine}
 use Rattle.transition_table.specs.declared.network.Network.{Network}
 use Rattle.transition_table.specs.NetworkFacts.{are_different, is_numbered, lists_once}
-use Rattle.transition_table.specs.Orders.{sizes_of}
 use Rattle.journal_text.specs.Holding.{names_hold, has_name_token, state_has_name, machine_holds, values_hold}
 use Rattle.task_code.specs.Listings.{event_name, labels, label}
 use Rattle.machine_compiler.proofs.Apart.{Apart, at_place, all_at, apart_mapped, distinct_apart, different_apart}

@@ -1,6 +1,8 @@
 -- Small facts on lists and products.
-use Rattle.std.proofs.Common.{◌≡◌, ℕ, zero, suc, ◌*◌, ◌<◌, ◌≤◌, Bool, true, false, ◌||◌, ◌&&◌, eqb, nat_lt, nat_le, List, [], ◌∷◌, drop, refl, arith}
+use Rattle.std.proofs.Common.{◌≡◌, ◌∙◌, ℕ, zero, suc, ◌+◌, ◌*◌, ◌<◌, ◌≤◌, Bool, true, false, ◌||◌, ◌&&◌, eqb, nat_lt, nat_le, List, [], ◌∷◌, ◌++◌, length, drop, slice_index, refl, ap, arith}
 use Rattle.std.specs.List.{list_all}
+use Rattle.std.proofs.Math.Nat.{mul-le-mul_right}
+use Rattle.std.proofs.Math.Seq.{drop-cons}
 use Rattle.std.specs.Ordering.{ord_max, nat_cmp}
 use Rattle.std.proofs.lemmas.Bool.Decides.{nat_tests}
 use Rattle.std.proofs.lemmas.Bool.{and_parts, and_from, leb-true, lt-ltb, eq-eqb}
@@ -15,10 +17,13 @@ or_left : (a b : Bool) → a ≡ true → (a || b) ≡ true
 or_left true b h = refl
 or_left false b h = cc
 
-pub all_below : (xs : List ℕ) (n : ℕ) → ((v : ℕ) → stands xs v ≡ true → v < n) → list_all (λ v. nat_lt v n) xs ≡ true
+pub all_below : (xs : List ℕ) (n : ℕ) → ((v : ℕ) → stands xs v ≡ true → v < n)
+    → list_all (λ v. nat_lt v n) xs ≡ true
 all_below [] n each = refl
 all_below (x ∷ xs) n each =
-    and_from (nat_lt x n) (list_all (λ v. nat_lt v n) xs) (lt-ltb x n (each x (or_left (eqb x x) (stands xs x) (eq-eqb x x refl)))) (all_below xs n (λ v on. each v (or_right (eqb x v) (stands xs v) on)))
+    and_from (nat_lt x n) (list_all (λ v. nat_lt v n) xs)
+    (lt-ltb x n (each x (or_left (eqb x x) (stands xs x) (eq-eqb x x refl))))
+    (all_below xs n (λ v on. each v (or_right (eqb x v) (stands xs v) on)))
 
 pub product_some : (sizes : List ℕ) → are_sizes sizes ≡ true → 1 ≤ product sizes
 product_some [] h = omega arith
@@ -35,7 +40,8 @@ product_some (size ∷ sizes) h =
 pub sizes_drop : (sizes : List ℕ) (k : ℕ) → are_sizes sizes ≡ true → are_sizes (drop k sizes) ≡ true
 sizes_drop sizes zero h = h
 sizes_drop [] (suc k) h = refl
-sizes_drop (size ∷ sizes) (suc k) h = sizes_drop sizes k (and_parts (nat_le 1 size && nat_le size 33) (are_sizes sizes) h).1
+sizes_drop (size ∷ sizes) (suc k) h =
+    sizes_drop sizes k (and_parts (nat_le 1 size && nat_le size 33) (are_sizes sizes) h).1
 
 pub factor_below : (a b p q : ℕ) → a * (b * p) ≡ q → 1 ≤ p → a * b ≤ q
 factor_below a b zero q e one = elim one [ ]
@@ -47,3 +53,40 @@ max_over a b = (grind (arith, nat_tests), grind (arith, nat_tests))
 
 pub max_within : (a b k : ℕ) → a ≤ k → b ≤ k → ord_max nat_cmp a b ≤ k
 max_within a b k one other = grind (arith, nat_tests)
+
+-- ---- the lists of codes from a variable on
+pub product_here : (vars : List ℕ) (i size : ℕ) → i < length vars → slice_index vars i ≡ size
+    → product (drop i vars) ≡ size * product (drop (i + 1) vars)
+product_here vars i size low is =
+    let e : suc i ≡ i + 1 = omega arith in
+    ap product (drop-cons vars i 0 low)
+    ∙ ap (λ (k : ℕ). slice_index vars i * product (drop k vars)) e
+    ∙ ap (λ (n : ℕ). n * product (drop (i + 1) vars)) is
+
+size_some : (sizes : List ℕ) (k : ℕ) → are_sizes sizes ≡ true → k < length sizes
+    → 1 ≤ slice_index sizes k
+size_some [] k h low = absurd (omega arith)
+size_some (size ∷ sizes) zero h low =
+    (leb-true 1 size
+    (and_parts (nat_le 1 size) (nat_le size 33)
+    (and_parts (nat_le 1 size && nat_le size 33) (are_sizes sizes) h).0).0)
+size_some (size ∷ sizes) (suc k) h low =
+    size_some sizes k (and_parts (nat_le 1 size && nat_le size 33) (are_sizes sizes) h).1
+    (omega arith)
+
+pub product_later : (vars : List ℕ) (i : ℕ) → are_sizes vars ≡ true → i < length vars
+    → product (drop (i + 1) vars) ≤ product (drop i vars)
+product_later vars i sizes low =
+    let some = size_some vars i sizes low in
+    let e = product_here vars i (slice_index vars i) low refl in
+    let h = mul-le-mul_right {m = 1} {n = slice_index vars i} (product (drop (i + 1) vars)) some in
+    omega (arith, e, h)
+
+-- sizes after each other are sizes
+pub sizes_both : (one other : List ℕ) → are_sizes one ≡ true → are_sizes other ≡ true
+    → are_sizes (one ++ other) ≡ true
+sizes_both [] other h k = k
+sizes_both (size ∷ one) other h k =
+    let parts = and_parts (nat_le 1 size && nat_le size 33) (are_sizes one) h in
+    and_from (nat_le 1 size && nat_le size 33) (are_sizes (one ++ other)) parts.0
+    (sizes_both one other parts.1 k)

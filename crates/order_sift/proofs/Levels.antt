@@ -6,18 +6,26 @@ use Rattle.decision_diagram.specs.Sets.{stands, set_level, sum_of_levels}
 use Rattle.order_sift.specs.Laws.{LevelsOfSets, LevelsJoin, LevelsAfter, SizeWithItem}
 
 pub levels_of_sets : LevelsOfSets
-levels_of_sets f sizes one other v same = ap (λ (set : ℕ → Bool). set_level f sizes set v) (λ i w. same w i)
+levels_of_sets f sizes one other v same =
+    ap (λ (set : ℕ → Bool). set_level f sizes set v) (λ i w. same w i)
 
 pub levels_join : LevelsJoin
-levels_join f sizes before [] ys = ap (λ (prefix : List ℕ). sum_of_levels f sizes prefix ys) (sym (append-nil before)) ∙ (let e : sum_of_levels f sizes (before ++ []) ys ≡ 0 + sum_of_levels f sizes (before ++ []) ys = omega arith in e)
+levels_join f sizes before [] ys =
+    ap (λ (prefix : List ℕ). sum_of_levels f sizes prefix ys) (sym (append-nil before))
+    ∙ (let e : sum_of_levels f sizes (before ++ []) ys
+    ≡ 0 + sum_of_levels f sizes (before ++ []) ys = omega arith in e)
 levels_join f sizes before (x ∷ xs) ys =
     let rest = levels_join f sizes (before ++ x ∷ []) xs ys in
-    let same : sum_of_levels f sizes ((before ++ x ∷ []) ++ xs) ys ≡ sum_of_levels f sizes (before ++ x ∷ xs) ys = ap (λ (prefix : List ℕ). sum_of_levels f sizes prefix ys) (append_assoc before (x ∷ []) xs) in
+    let same : sum_of_levels f sizes ((before ++ x ∷ []) ++ xs) ys
+    ≡ sum_of_levels f sizes (before ++ x ∷ xs) ys =
+    ap (λ (prefix : List ℕ). sum_of_levels f sizes prefix ys)
+    (append_assoc before (x ∷ []) xs) in
     omega arith
 
 pub stands_both : (xs ys : List ℕ) (v : ℕ) → stands (xs ++ ys) v ≡ (stands xs v || stands ys v)
 stands_both [] ys v = refl
-stands_both (x ∷ xs) ys v = ap (λ (b : Bool). eqb x v || b) (stands_both xs ys v) ∙ assoc (eqb x v) (stands xs v) (stands ys v)
+stands_both (x ∷ xs) ys v = ap (λ (b : Bool). eqb x v || b) (stands_both xs ys v)
+    ∙ assoc (eqb x v) (stands xs v) (stands ys v)
   where
     assoc : (a b c : Bool) → (a || (b || c)) ≡ ((a || b) || c)
     assoc true b c = refl
@@ -27,7 +35,9 @@ pub levels_after : LevelsAfter
 levels_after f sizes one other [] same = refl
 levels_after f sizes one other (v ∷ vs) same =
     let here = levels_of_sets f sizes (stands one) (stands other) v same in
-    let rest = levels_after f sizes (one ++ v ∷ []) (other ++ v ∷ []) vs (λ w. stands_both one (v ∷ []) w ∙ ap (λ (b : Bool). b || stands (v ∷ []) w) (same w) ∙ sym (stands_both other (v ∷ []) w)) in
+    let rest = levels_after f sizes (one ++ v ∷ []) (other ++ v ∷ []) vs
+    (λ w. stands_both one (v ∷ []) w ∙ ap (λ (b : Bool). b || stands (v ∷ []) w) (same w)
+    ∙ sym (stands_both other (v ∷ []) w)) in
     omega arith
 
 pub size_with_item : SizeBySets → SizeWithItem

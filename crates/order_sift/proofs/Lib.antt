@@ -1,5 +1,16 @@
 mod Belows
+mod Codes
+mod Counting
+mod Pointing
+mod Differing
+mod Filling
+mod Leaving
+mod Leveling
 mod Levels
+mod Prefixes
 mod Moving
+mod Preparing
 mod Ranging
 mod Settling
+mod Stepping
+mod Sweeping

@@ -43,8 +43,10 @@ shift_low j i k low =
     let e = shift_else j i k (λ same. omega arith) in
     let w = without_low i k (omega arith) in
     ⊎_elim
-    (λ less. let p = past_low j k less in let t : shift j i k ≡ k = e ∙ ap (past j) w ∙ p in ((λ h. less), (λ h. omega arith)))
-    (λ more. let p = past_high j k more in let t : shift j i k ≡ k + 1 = e ∙ ap (past j) w ∙ p in ((λ h. absurd (omega arith)), (λ h. absurd (omega arith))))
+    (λ less. let p = past_low j k less in let t : shift j i k ≡ k = e ∙ ap (past j) w ∙ p in
+    ((λ h. less), (λ h. omega arith)))
+    (λ more. let p = past_high j k more in let t : shift j i k ≡ k + 1 = e ∙ ap (past j) w ∙ p in
+    ((λ h. absurd (omega arith)), (λ h. absurd (omega arith))))
     (cases_lt k j)
 
 pub shift_high : (j i k : ℕ) → i < k → (j < shift j i k → j < k) × (j < k → j < shift j i k)
@@ -52,8 +54,12 @@ shift_high j i k high =
     let e = shift_else j i k (λ same. omega arith) in
     let w = without_high i k high in
     ⊎_elim
-    (λ less. let p = past_low j (k - 1) less in let t : shift j i k ≡ k - 1 = e ∙ ap (past j) w ∙ p in ((λ h. omega arith), (λ h. absurd (omega arith))))
-    (λ more. let p = past_high j (k - 1) more in let t : shift j i k ≡ k - 1 + 1 = e ∙ ap (past j) w ∙ p in ((λ h. omega arith), (λ h. omega arith)))
+    (λ less. let p = past_low j (k - 1) less in
+    let t : shift j i k ≡ k - 1 = e ∙ ap (past j) w ∙ p in
+    ((λ h. omega arith), (λ h. absurd (omega arith))))
+    (λ more. let p = past_high j (k - 1) more in
+    let t : shift j i k ≡ k - 1 + 1 = e ∙ ap (past j) w ∙ p in
+    ((λ h. omega arith), (λ h. omega arith)))
     (cases_lt (k - 1) j)
 
 past_rises : (j u v : ℕ) → u < v → past j u < past j v
@@ -84,13 +90,16 @@ module _ (order : List ℕ) (i j : ℕ) (li : i < length order) (lj : j < length
   long_rest = length-remove order i li
 
   pub length_moved : length (moved order i j) ≡ length order
-  length_moved = let a = long_rest in let b = length-insert (remove order i) j (slice_index order i) (omega arith) in omega arith
+  length_moved = let a = long_rest in
+      let b = length-insert (remove order i) j (slice_index order i) (omega arith) in omega arith
 
   at_rest : (u : ℕ) → slice_index (remove order i) u ≡ slice_index order (past i u)
   at_rest u =
       ⊎_elim
-      (λ low. get_or-remove_below order i 0 u low li ∙ ap (slice_index order) (sym (past_low i u low)))
-      (λ high. get_or-remove_above order i 0 u high li ∙ ap (slice_index order) (sym (past_high i u high)))
+      (λ low. get_or-remove_below order i 0 u low li
+      ∙ ap (slice_index order) (sym (past_low i u low)))
+      (λ high. get_or-remove_above order i 0 u high li
+      ∙ ap (slice_index order) (sym (past_high i u high)))
       (cases_lt u i)
 
   pub moved_at : (k : ℕ) → slice_index (moved order i j) k ≡ slice_index order (shift i j k)
@@ -99,12 +108,16 @@ module _ (order : List ℕ) (i j : ℕ) (li : i < length order) (lj : j < length
       let fits : j ≤ length (remove order i) = omega arith in
       let x = slice_index order i in
       ⊎_elim
-      (λ here. ap (slice_index (moved order i j)) here ∙ get_or-insert_at (remove order i) j x 0 fits ∙ ap (slice_index order) (sym (ap (shift i j) here ∙ shift_here i j)))
+      (λ here. ap (slice_index (moved order i j)) here
+      ∙ get_or-insert_at (remove order i) j x 0 fits
+      ∙ ap (slice_index order) (sym (ap (shift i j) here ∙ shift_here i j)))
       (⊎_elim
       (λ low.
       get_or-insert_below (remove order i) j x 0 k low fits
       ∙ at_rest k
-      ∙ ap (slice_index order) (sym (shift_else i j k (λ same. omega arith) ∙ ap (past i) (without_low j k (omega arith)))))
+      ∙ ap (slice_index order)
+      (sym (shift_else i j k (λ same. omega arith)
+      ∙ ap (past i) (without_low j k (omega arith)))))
       (λ high.
       let e : k ≡ (k - 1) + 1 = omega arith in
       let w : without j k ≡ k - 1 = without_high j k high in
@@ -120,14 +133,18 @@ module _ (order : List ℕ) (i j : ℕ) (li : i < length order) (lj : j < length
       record {
         below = λ k lk.
             let e = moved_at k in
-            let s : shift i j k < length order = shift_below i j k (length order) lj li (omega arith) in
+            let s : shift i j k < length order =
+            shift_below i j k (length order) lj li (omega arith) in
             let b = perm.below (shift i j k) s in
             omega arith;
         distinct = λ a b less lb same.
             let apart = shift_apart i j a b (λ e. omega arith) in
-            let sa : shift i j a < length order = shift_below i j a (length order) lj li (omega arith) in
-            let sb : shift i j b < length order = shift_below i j b (length order) lj li (omega arith) in
-            let equal : slice_index order (shift i j a) ≡ slice_index order (shift i j b) = sym (moved_at a) ∙ same ∙ moved_at b in
+            let sa : shift i j a < length order =
+            shift_below i j a (length order) lj li (omega arith) in
+            let sb : shift i j b < length order =
+            shift_below i j b (length order) lj li (omega arith) in
+            let equal : slice_index order (shift i j a) ≡ slice_index order (shift i j b) =
+            sym (moved_at a) ∙ same ∙ moved_at b in
             ⊎_elim
             (λ e. apart e)
             (⊎_elim
@@ -137,12 +154,15 @@ module _ (order : List ℕ) (i j : ℕ) (li : i < length order) (lj : j < length
       }
 
   -- what stood at a place stands at the shifted one
-  pub moved_place : HavePlaces → OnePlace → IsPermutation order → (w : ℕ) → w < length order → place (moved order i j) w ≡ shift j i (place order w)
+  pub moved_place : HavePlaces → OnePlace → IsPermutation order → (w : ℕ) → w < length order
+      → place (moved order i j) w ≡ shift j i (place order w)
   moved_place have one perm w lw =
       let there = have order w perm lw in
       let p = place order w in
       let k = shift j i p in
       let lk : k < length order = shift_below j i p (length order) li lj there.0 in
       let n = length_moved in
-      let at : slice_index (moved order i j) k ≡ w = moved_at k ∙ ap (slice_index order) (shift_back i j p) ∙ there.1 in
-      ap (place (moved order i j)) (sym at) ∙ one (moved order i j) k (moved_permutation perm) (omega arith)
+      let at : slice_index (moved order i j) k ≡ w =
+      moved_at k ∙ ap (slice_index order) (shift_back i j p) ∙ there.1 in
+      ap (place (moved order i j)) (sym at)
+      ∙ one (moved order i j) k (moved_permutation perm) (omega arith)

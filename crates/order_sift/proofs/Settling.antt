@@ -10,7 +10,12 @@ use Rattle.order_sift.specs.Sifting.{IsLeast}
 use Rattle.order_sift.specs.Turns.{AreAllowedPlaces, IsSettled, StaysOrFalls}
 
 -- the items are settled where the least of the sizes isn't smaller
-pub settled_by : (m : Machine) (order sizes : List ℕ) (item first last best count : ℕ) → AreAllowedPlaces m order (place order item) first last → length sizes + first ≡ last + 1 → ((k : ℕ) → k < length sizes → slice_index sizes k ≡ Size m (moved order (place order item) (first + k))) → ((k : ℕ) → k < length sizes → slice_index sizes best ≤ slice_index sizes k) → count ≡ Size m order → count ≤ slice_index sizes best → IsSettled m order item
+pub settled_by : (m : Machine) (order sizes : List ℕ) (item first last best count : ℕ)
+    → AreAllowedPlaces m order (place order item) first last → length sizes + first ≡ last + 1
+    → ((k : ℕ) → k < length sizes → slice_index sizes k
+    ≡ Size m (moved order (place order item) (first + k)))
+    → ((k : ℕ) → k < length sizes → slice_index sizes best ≤ slice_index sizes k)
+    → count ≡ Size m order → count ≤ slice_index sizes best → IsSettled m order item
 settled_by m order sizes item first last best count places long each least is low j lj allowed =
     let h = (places j lj).0 allowed in
     let a = h.0 in
@@ -19,22 +24,32 @@ settled_by m order sizes item first last best count places long each least is lo
     let lk : k < length sizes = omega arith in
     let e : first + k ≡ j = omega arith in
     let here = each k lk in
-    let same : Size m (moved order (place order item) (first + k)) ≡ Size m (moved order (place order item) j) = ap (λ (p : ℕ). Size m (moved order (place order item) p)) e in
+    let same : Size m (moved order (place order item) (first + k))
+    ≡ Size m (moved order (place order item) j) =
+    ap (λ (p : ℕ). Size m (moved order (place order item) p)) e in
     let less = least k lk in
     omega arith
 
 -- a smaller size at an allowed place
-pub falls_by : (m : Machine) (order new : List ℕ) (i j count new_count : ℕ) → i < length order → j < length order → Allowed m (moved order i j) → new ≡ moved order i j → count ≡ Size m order → new_count ≡ Size m (moved order i j) → new_count < count → StaysOrFalls m order new count new_count
+pub falls_by : (m : Machine) (order new : List ℕ) (i j count new_count : ℕ) → i < length order
+    → j < length order → Allowed m (moved order i j) → new ≡ moved order i j → count ≡ Size m order
+    → new_count ≡ Size m (moved order i j) → new_count < count
+    → StaysOrFalls m order new count new_count
 falls_by m order new i j count new_count li lj allowed is counted new_counted less =
     inr (less, λ least. let h = least (moved order i j) (i, j, li, lj, refl) allowed in omega arith)
 
-pub falls_then : (m : Machine) (a b c : List ℕ) (k l n : ℕ) → StaysOrFalls m a b k l → StaysOrFalls m b c l n → StaysOrFalls m a c k n
+pub falls_then : (m : Machine) (a b c : List ℕ) (k l n : ℕ) → StaysOrFalls m a b k l
+    → StaysOrFalls m b c l n → StaysOrFalls m a c k n
 falls_then m a b c k l n one other =
     ⊎_elim
     (λ same.
     ⊎_elim
     (λ again. inl (again.0 ∙ same.0, again.1 ∙ same.1))
-    (λ less. inr (let e = same.1 in let f = less.0 in omega arith, λ least. less.1 (subst (IsLeast m) (sym same.0) least)))
+    (λ less. inr (
+      let e = same.1 in let f = less.0 in
+          omega arith,
+      λ least. less.1 (subst (IsLeast m) (sym same.0) least),
+    ))
     other)
     (λ less.
     ⊎_elim
@@ -44,16 +59,21 @@ falls_then m a b c k l n one other =
     one
 
 pub not_more : (m : Machine) (a b : List ℕ) (k l : ℕ) → StaysOrFalls m a b k l → l ≤ k
-not_more m a b k l one = ⊎_elim (λ same. let e = same.1 in omega arith) (λ less. let e = less.0 in omega arith) one
+not_more m a b k l one =
+    ⊎_elim (λ same. let e = same.1 in omega arith) (λ less. let e = less.0 in omega arith) one
 
 pub same_order : (m : Machine) (a b : List ℕ) (k l : ℕ) → StaysOrFalls m a b k l → l ≡ k → b ≡ a
-same_order m a b k l one e = ⊎_elim (λ same. same.0) (λ less. absurd (let h = less.0 in omega arith)) one
+same_order m a b k l one e =
+    ⊎_elim (λ same. same.0) (λ less. absurd (let h = less.0 in omega arith)) one
 
-pub stays_where_least : (m : Machine) (a b : List ℕ) (k l : ℕ) → StaysOrFalls m a b k l → IsLeast m a → b ≡ a
+pub stays_where_least : (m : Machine) (a b : List ℕ) (k l : ℕ) → StaysOrFalls m a b k l
+    → IsLeast m a → b ≡ a
 stays_where_least m a b k l one least = ⊎_elim (λ same. same.0) (λ less. absurd (less.1 least)) one
 
 -- one more item is settled
-pub settled_more : (m : Machine) (a b c : List ℕ) (k l n item : ℕ) → StaysOrFalls m a b k l → StaysOrFalls m b c l n → (l ≡ k → (w : ℕ) → w < item → IsSettled m b w) → (n ≡ l → IsSettled m c item) → n ≡ k → (w : ℕ) → w < item + 1 → IsSettled m c w
+pub settled_more : (m : Machine) (a b c : List ℕ) (k l n item : ℕ) → StaysOrFalls m a b k l
+    → StaysOrFalls m b c l n → (l ≡ k → (w : ℕ) → w < item → IsSettled m b w)
+    → (n ≡ l → IsSettled m c item) → n ≡ k → (w : ℕ) → w < item + 1 → IsSettled m c w
 settled_more m a b c k l n item one other earlier here same w lw =
     let p = not_more m a b k l one in
     let q = not_more m b c l n other in
@@ -66,12 +86,14 @@ settled_more m a b c k l n item one other earlier here same w lw =
     (cases_lt w item)
 
 -- where each item is settled no single move is better
-pub least_from_settled : (m : Machine) (order : List ℕ) → OnePlace → Allowed m order → ((w : ℕ) → w < length order → IsSettled m order w) → IsLeast m order
+pub least_from_settled : (m : Machine) (order : List ℕ) → OnePlace → Allowed m order
+    → ((w : ℕ) → w < length order → IsSettled m order w) → IsLeast m order
 least_from_settled m order one allowed settled other move ok =
     let i = move.0 in
     let j = move.1 in
     let x = slice_index order i in
     let at : place order x ≡ i = one order i allowed.permutation move.2 in
-    let is : other ≡ moved order (place order x) j = move.4 ∙ ap (λ (p : ℕ). moved order p j) (sym at) in
+    let is : other ≡ moved order (place order x) j =
+    move.4 ∙ ap (λ (p : ℕ). moved order p j) (sym at) in
     let h = settled x (allowed.permutation.below i move.2) j move.3 (subst (Allowed m) is ok) in
     subst (λ (o : List ℕ). Size m order ≤ Size m o) (sym is) h

@@ -2,3 +2,8 @@ pub mod Moves
 pub mod Laws
 pub mod Sifting
 pub mod Turns
+pub mod Below
+pub mod Pairs
+pub mod Points
+pub mod Classes
+pub mod Chains

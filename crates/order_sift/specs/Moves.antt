@@ -9,10 +9,12 @@ moved order i j = insert (remove order i) j (slice_index order i)
 
 -- the other order arises by moving one item
 abbrev pub IsMove : List ℕ → List ℕ → Type 0
-IsMove order other = (i : ℕ) × (j : ℕ) × (i < length order) × (j < length order) × (other ≡ moved order i j)
+IsMove order other = (i : ℕ) × (j : ℕ) × (i < length order) × (j < length order)
+    × (other ≡ moved order i j)
 
--- What an order costs where the item stands before place j of the rest: the levels of those before it without it, its
--- own level, and the levels of those after it with it. The first and the last do not speak of where it stands.
+-- What an order costs where the item stands before place j of the rest: the levels of those before
+-- it without it, its own level, and the levels of those after it with it. The first and the last do
+-- not speak of where it stands.
 abbrev pub cost_at : (List ℕ → Bool) → List ℕ → List ℕ → ℕ → ℕ → ℕ
 cost_at f sizes rest x j =
     sum_of_levels f sizes [] (take j rest)

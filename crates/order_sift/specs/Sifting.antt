@@ -9,10 +9,12 @@ use Rattle.order_sift.specs.Moves.{IsMove}
 
 -- no allowed order that arises by one move has a smaller count
 abbrev pub IsLeast : Machine → List ℕ → Type 0
-IsLeast m order = (other : List ℕ) → IsMove order other → Allowed m other → Size m order ≤ Size m other
+IsLeast m order = (other : List ℕ) → IsMove order other → Allowed m other
+    → Size m order ≤ Size m other
 
--- The order, the count of the first order, and that of this one. With more than 1,024 snapshots it is the first order.
--- Otherwise no single move is better, and the first order stays where that holds of it already.
+-- The order, the count of the first order, and that of this one. With more than 1,024 snapshots it
+-- is the first order. Otherwise no single move is better, and the first order stays where that
+-- holds of it already.
 pub record IsSifted (m : Machine) (order : List ℕ) (first_count count : ℕ) : Type 0 where
   pub allowed : Allowed m order
   pub first : first_count ≡ Size m (first_order m)

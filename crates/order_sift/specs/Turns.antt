@@ -9,7 +9,8 @@ use Rattle.order_sift.specs.Sifting.{IsLeast}
 
 -- the places to which the item at place i may move are those from the first to the last
 abbrev pub AreAllowedPlaces : Machine → List ℕ → ℕ → ℕ → ℕ → Type 0
-AreAllowedPlaces m order i first last = (j : ℕ) → j < length order → Allowed m (moved order i j) ↔ ((first ≤ j) × (j ≤ last))
+AreAllowedPlaces m order i first last = (j : ℕ) → j < length order → Allowed m (moved order i j)
+    ↔ ((first ≤ j) × (j ≤ last))
 
 -- an allowed order with its size
 pub record IsCounted (m : Machine) (order : List ℕ) (count : ℕ) : Type 0 where
@@ -18,7 +19,8 @@ pub record IsCounted (m : Machine) (order : List ℕ) (count : ℕ) : Type 0 whe
 
 -- no allowed place of the item has a smaller size
 abbrev pub IsSettled : Machine → List ℕ → ℕ → Type 0
-IsSettled m order item = (j : ℕ) → j < length order → Allowed m (moved order (place order item) j) → Size m order ≤ Size m (moved order (place order item) j)
+IsSettled m order item = (j : ℕ) → j < length order → Allowed m (moved order (place order item) j)
+    → Size m order ≤ Size m (moved order (place order item) j)
 
 -- The order stays as it was; or it has become smaller, and some single move of it was better.
 abbrev pub StaysOrFalls : Machine → (old new : List ℕ) → (old_count new_count : ℕ) → Type 0

@@ -1,8 +1,13 @@
 // Orders of small diagrams.
 #![tactic(auto)]
 
+mod chain;
 mod law;
+mod moves;
+mod pairs;
 mod places;
+mod points;
+mod prepare;
 mod turns;
 
 pub use law::laws;

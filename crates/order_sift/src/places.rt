@@ -23,7 +23,8 @@ fn place_after(support: &[u32], order: &Order) -> u64
     requires support { IsTrue (list_all (λ v. nat_lt v (length order.now)) support.now) }
     requires few { length order.now < 1000 }
     ensures after { (v : ℕ) → stands support.now v ≡ true → place order.now v < result }
-    ensures least { (k : ℕ) → ((v : ℕ) → stands support.now v ≡ true → place order.now v < k) → result ≤ k }
+    ensures least { (k : ℕ) → ((v : ℕ) → stands support.now v ≡ true → place order.now v < k)
+        → result ≤ k }
 {
     let mut after = 0;
     for v in support {
@@ -48,8 +49,11 @@ fn has(list: &[u32], number: u32) -> bool
 fn place_before(supports: &Supports, order: &Order, vars: u64, var: u32) -> u64
     requires long { length order.now ≡ vars + length supports.now }
     requires few { length order.now < 1000 }
-    ensures before { (y : ℕ) → y < length supports.now → stands (get_or supports.now y []) var ≡ true → result ≤ place order.now (vars + y) }
-    ensures greatest { (k : ℕ) → k ≤ length order.now → ((y : ℕ) → y < length supports.now → stands (get_or supports.now y []) var ≡ true → k ≤ place order.now (vars + y)) → k ≤ result }
+    ensures before { (y : ℕ) → y < length supports.now
+        → stands (get_or supports.now y []) var ≡ true → result ≤ place order.now (vars + y) }
+    ensures greatest { (k : ℕ) → k ≤ length order.now
+        → ((y : ℕ) → y < length supports.now → stands (get_or supports.now y []) var ≡ true
+        → k ≤ place order.now (vars + y)) → k ≤ result }
     ensures within { result ≤ length order.now }
 {
     let mut before = order.len();
@@ -71,7 +75,8 @@ pub(crate) fn allowed_places(
     requires supports { AreSupports machine.now supports.now }
     requires allowed { Allowed machine.now order.now }
     requires item { item < length order.now }
-    ensures places { AreAllowedPlaces machine.now order.now (place order.now item) result.first result.last }
+    ensures places { AreAllowedPlaces machine.now order.now (place order.now item) result.first
+        result.last }
     ensures first { result.first ≤ place order.now item }
     ensures last { place order.now item ≤ result.last }
     ensures within { result.last < length order.now }

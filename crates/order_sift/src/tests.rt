@@ -7,9 +7,10 @@ use std::alloc::Global;
 use std::test::Fail;
 use transition_table::{Machine, RowList, StateList};
 
-// Where the first input and the second are present, the output gets the first one's value. In the order first, second,
-// go, output the levels are 1 + 2 + 3 + 3 (two values of the first input let the second decide, and three outcomes are
-// left), in the order second, first, output, go they are 1 + 1 + 3 + 2, and no single move makes that smaller.
+// Where the first input and the second are present, the output gets the first one's value. In the
+// order first, second, go, output the levels are 1 + 2 + 3 + 3 (two values of the first input let
+// the second decide, and three outcomes are left), in the order second, first, output, go they are
+// 1 + 1 + 3 + 2, and no single move makes that smaller.
 fn copier(alloc: Global) -> Result<Machine, NoMemory> {
     let mut rows = RowList::new(alloc);
     rows.push(row(alloc, &[on(0, 6), on(1, 2)], &[copies(1, 0)])?)?;

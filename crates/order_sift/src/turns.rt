@@ -6,14 +6,21 @@ ghost use Rattle.transition_table.specs.Orders.{Allowed, sizes_of};
 ghost use Rattle.transition_table.specs.Transitions.{IsDeterministic};
 ghost use Rattle.char_function.specs.Supported.{AreSupports};
 ghost use Rattle.char_function.specs.Sizes.{Size};
+ghost use Rattle.order_sift.specs.Chains.{IsChain};
 ghost use Rattle.order_sift.specs.Moves.{moved};
+ghost use Rattle.order_sift.specs.Points.{IsPrepared};
 ghost use Rattle.order_sift.specs.Sifting.{IsLeast, IsSifted};
 ghost use Rattle.order_sift.specs.Turns.{AreAllowedPlaces, IsCounted, IsSettled, StaysOrFalls};
 
-use crate::places::{PlaceRange, allowed_places};
+use crate::chain::{Chain, chain_of};
+use crate::moves::{Moving, sizes_at};
+use crate::pairs::NUMBERS;
+use crate::places::allowed_places;
+use crate::points::Points;
+use crate::prepare::prepare;
 use char_function::{Supports, characteristic, first_order, supports};
 use decision_diagram::Order;
-use polis_base::{List, NoMemory, Places};
+use polis_base::NoMemory;
 use std::alloc::Global;
 use transition_table::Machine;
 
@@ -30,10 +37,11 @@ pub struct Sifted {
     pub count: u64,
 }
 
-// An order and its size.
+// An order, what it leaves, and its size.
 #[derive(Drop)]
 struct Counted {
     order: Order,
+    chain: Chain,
     count: u64,
 }
 
@@ -43,6 +51,7 @@ struct Sifting<'a> {
     alloc: Global,
     machine: &'a Machine,
     supports: &'a Supports,
+    points: &'a Points,
 }
 
 // The size under an order, by the diagram over it.
@@ -73,31 +82,14 @@ fn moved(alloc: Global, order: &Order, i: u64, j: u64) -> Result<Order, NoMemory
     }
 }
 
-// The size with the item at place i at each of these places.
-fn sizes_at(sifting: &Sifting, order: &Order, i: u64, range: PlaceRange) -> Result<Places, NoMemory>
-    requires sure { IsDeterministic sifting.now.machine.now }
-    requires allowed { Allowed sifting.now.machine.now order.now }
-    requires i { i < length order.now }
-    requires first { range.first ≤ range.last }
-    requires last { range.last < length order.now }
-    requires places { AreAllowedPlaces sifting.now.machine.now order.now i range.first range.last }
-    ensures long { IfOk result (λ sizes. length sizes + range.first ≡ range.last + 1) }
-    ensures each { IfOk result (λ sizes. (k : ℕ) → k < length sizes → slice_index sizes k ≡ Size sifting.now.machine.now (moved order.now i (range.first + k))) }
-{
-    let mut sizes = List::new(sifting.alloc);
-    for j in range.first..range.last + 1 {
-        let other = moved(sifting.alloc, order, i, j)?;
-        sizes.push(size_of(sifting.alloc, sifting.machine, &other)?)?;
-    }
-    Ok(sizes)
-}
-
 // The first place of a least number.
 fn place_of_least(numbers: &[u64]) -> usize
     requires { 0 < length numbers.now }
     ensures within { result < length numbers.now }
-    ensures least { (k : ℕ) → k < length numbers.now → slice_index numbers.now result ≤ slice_index numbers.now k }
-    ensures first { (k : ℕ) → k < result → slice_index numbers.now result < slice_index numbers.now k }
+    ensures least { (k : ℕ) → k < length numbers.now
+        → slice_index numbers.now result ≤ slice_index numbers.now k }
+    ensures first { (k : ℕ) → k < result
+        → slice_index numbers.now result < slice_index numbers.now k }
 {
     let mut best = 0;
     for (k, number) in numbers.iter().enumerate() {
@@ -109,58 +101,91 @@ fn place_of_least(numbers: &[u64]) -> usize
 }
 
 // Moves an item to the first allowed place of the least size, if that is smaller.
-fn settle(sifting: &Sifting, item: u32, at: &mut Counted) -> Result<(), NoMemory>
+fn settle(sifting: &Sifting, seen: &mut [u16], item: u32, at: &mut Counted) -> Result<(), NoMemory>
     requires sure { IsDeterministic sifting.now.machine.now }
     requires supports { AreSupports sifting.now.machine.now sifting.now.supports.now }
+    requires few { product sifting.now.machine.now.vars ≤ 1024 }
+    requires prepared { IsPrepared sifting.now.machine.now sifting.now.points.now }
+    requires room { length seen.old ≡ 1048576 }
     requires counted { IsCounted sifting.now.machine.now at.old.order at.old.count }
+    requires chain { IsChain sifting.now.machine.now at.old.order at.old.chain }
     requires item { item < length at.old.order }
     ensures counted { IfOk result (λ done. IsCounted sifting.now.machine.now at.new.order at.new.count) }
-    ensures falls { IfOk result (λ done. StaysOrFalls sifting.now.machine.now at.old.order at.new.order at.old.count at.new.count) }
-    ensures settled { IfOk result (λ done. at.new.count ≡ at.old.count → IsSettled sifting.now.machine.now at.new.order item) }
+    ensures chain { IfOk result (λ done.
+        IsChain sifting.now.machine.now at.new.order at.new.chain) }
+    ensures falls { IfOk result (λ done.
+        StaysOrFalls sifting.now.machine.now at.old.order at.new.order at.old.count at.new.count) }
+    ensures settled { IfOk result (λ done. at.new.count ≡ at.old.count
+        → IsSettled sifting.now.machine.now at.new.order item) }
 {
     domains::laws_of_orders();
     let i = at.order.place_of(item);
     let range = allowed_places(sifting.machine, sifting.supports, &at.order, item);
-    let sizes = sizes_at(sifting, &at.order, i, range)?;
+    let moving = Moving {
+        alloc: sifting.alloc,
+        machine: sifting.machine,
+        points: sifting.points,
+        order: &at.order,
+        chain: &at.chain,
+    };
+    let sizes = sizes_at(&moving, seen, i, range)?;
     let best = place_of_least(sizes.as_slice());
     let count = *sizes.get(best as u64);
     if count >= at.count {
         return Ok(());
     }
-    at.order = moved(sifting.alloc, &at.order, i, range.first + best as u64)?;
+    let order = moved(sifting.alloc, &at.order, i, range.first + best as u64)?;
+    let chain = chain_of(sifting.alloc, sifting.machine, sifting.points, seen, &order)?;
+    at.order = order;
+    at.chain = chain;
     at.count = count;
     Ok(())
 }
 
 // Each item in turn moves to its best place.
-fn turn(sifting: &Sifting, at: &mut Counted) -> Result<(), NoMemory>
+fn turn(sifting: &Sifting, seen: &mut [u16], at: &mut Counted) -> Result<(), NoMemory>
     requires sure { IsDeterministic sifting.now.machine.now }
     requires supports { AreSupports sifting.now.machine.now sifting.now.supports.now }
+    requires few { product sifting.now.machine.now.vars ≤ 1024 }
+    requires prepared { IsPrepared sifting.now.machine.now sifting.now.points.now }
+    requires room { length seen.old ≡ 1048576 }
     requires counted { IsCounted sifting.now.machine.now at.old.order at.old.count }
+    requires chain { IsChain sifting.now.machine.now at.old.order at.old.chain }
     ensures counted { IfOk result (λ done. IsCounted sifting.now.machine.now at.new.order at.new.count) }
-    ensures falls { IfOk result (λ done. StaysOrFalls sifting.now.machine.now at.old.order at.new.order at.old.count at.new.count) }
-    ensures least { IfOk result (λ done. at.new.count ≡ at.old.count → IsLeast sifting.now.machine.now at.new.order) }
+    ensures chain { IfOk result (λ done.
+        IsChain sifting.now.machine.now at.new.order at.new.chain) }
+    ensures falls { IfOk result (λ done.
+        StaysOrFalls sifting.now.machine.now at.old.order at.new.order at.old.count at.new.count) }
+    ensures least { IfOk result (λ done. at.new.count ≡ at.old.count
+        → IsLeast sifting.now.machine.now at.new.order) }
 {
     domains::laws_of_orders();
     let items = sifting.machine.var_count() + sifting.machine.result_count();
     for item in 0..items {
-        settle(sifting, item, at)?;
+        settle(sifting, seen, item, at)?;
     }
     Ok(())
 }
 
 // Takes turns until nothing falls.
-fn settle_all(sifting: &Sifting, at: &mut Counted) -> Result<(), NoMemory>
+fn settle_all(sifting: &Sifting, seen: &mut [u16], at: &mut Counted) -> Result<(), NoMemory>
     requires sure { IsDeterministic sifting.now.machine.now }
     requires supports { AreSupports sifting.now.machine.now sifting.now.supports.now }
+    requires few { product sifting.now.machine.now.vars ≤ 1024 }
+    requires prepared { IsPrepared sifting.now.machine.now sifting.now.points.now }
+    requires room { length seen.old ≡ 1048576 }
     requires counted { IsCounted sifting.now.machine.now at.old.order at.old.count }
+    requires chain { IsChain sifting.now.machine.now at.old.order at.old.chain }
     ensures counted { IfOk result (λ done. IsCounted sifting.now.machine.now at.new.order at.new.count) }
-    ensures falls { IfOk result (λ done. StaysOrFalls sifting.now.machine.now at.old.order at.new.order at.old.count at.new.count) }
+    ensures chain { IfOk result (λ done.
+        IsChain sifting.now.machine.now at.new.order at.new.chain) }
+    ensures falls { IfOk result (λ done.
+        StaysOrFalls sifting.now.machine.now at.old.order at.new.order at.old.count at.new.count) }
     ensures least { IfOk result (λ done. IsLeast sifting.now.machine.now at.new.order) }
 {
     loop {
         let before = at.count;
-        turn(sifting, at)?;
+        turn(sifting, seen, at)?;
         if at.count == before {
             return Ok(());
         }
@@ -179,31 +204,62 @@ fn snapshot_count(m: &Machine) -> u64
     count
 }
 
-/// An order for a machine. Item by item, each variable and result moves to the first of the allowed places with the least
-/// size, if that is smaller, until in a turn of all items none has moved. The order of a machine of more than 1,024
-/// snapshots is the first order.
+// Sifts an order of a machine of few snapshots.
+fn sifted_from(
+    alloc: Global,
+    m: &Machine,
+    supports: &Supports,
+    order: Order,
+    count: u64,
+) -> Result<Counted, NoMemory>
+    requires sure { IsDeterministic m.now }
+    requires few { product m.now.vars ≤ 1024 }
+    requires supports { AreSupports m.now supports.now }
+    requires counted { IsCounted m.now order count }
+    ensures counted { IfOk result (λ at. IsCounted m.now at.order at.count) }
+    ensures falls { IfOk result (λ at. StaysOrFalls m.now order at.order count at.count) }
+    ensures least { IfOk result (λ at. IsLeast m.now at.order) }
+{
+    let mut room = vec![in alloc; 0; NUMBERS * NUMBERS]?;
+    let seen = room.as_mut_slice();
+    let points = prepare(alloc, m, seen)?;
+    let chain = chain_of(alloc, m, &points, seen, &order)?;
+    let mut at = Counted {
+        order,
+        chain,
+        count,
+    };
+    let sifting = Sifting {
+        alloc,
+        machine: m,
+        supports,
+        points: &points,
+    };
+    settle_all(&sifting, seen, &mut at)?;
+    Ok(at)
+}
+
+/// An order for a machine. Item by item, each variable and result moves to the first of the allowed
+/// places with the least size, if that is smaller, until in a turn of all items none has moved. The
+/// order of a machine of more than 1,024 snapshots is the first order.
 pub fn sift(alloc: Global, m: &Machine) -> Result<Sifted, NoMemory>
     requires { IsDeterministic m.now }
     ensures { IfOk result (λ sifted. IsSifted m.now sifted.order sifted.first_count sifted.count) }
 {
     let supports = supports(alloc, m)?;
     let order = first_order(alloc, m, &supports)?;
-    let first = size_of(alloc, m, &order)?;
-    let mut at = Counted {
-        order,
-        count: first,
-    };
-    if snapshot_count(m) <= SIFTED_SNAPSHOTS {
-        let sifting = Sifting {
-            alloc,
-            machine: m,
-            supports: &supports,
-        };
-        settle_all(&sifting, &mut at)?;
+    let first_count = size_of(alloc, m, &order)?;
+    if snapshot_count(m) > SIFTED_SNAPSHOTS {
+        return Ok(Sifted {
+            order,
+            first_count,
+            count: first_count,
+        });
     }
+    let at = sifted_from(alloc, m, &supports, order, first_count)?;
     Ok(Sifted {
         order: at.order,
-        first_count: first,
+        first_count,
         count: at.count,
     })
 }

@@ -1,4 +1,4 @@
-use Rattle.std.proofs.Common.{◌≡◌, ◌∙◌, ◌++◌, ◌<◌, codes, length, List, ℕ, ap, sym, arith, append_assoc}
+use Rattle.std.proofs.Common.{◌≡◌, ◌∙◌, ◌++◌, ◌<◌, codes, length, List, ℕ, ap, arith}
 use Rattle.task_code.specs.Listings.{line, part_text, parts_text}
 use Rattle.machine_compiler.specs.Parts.{part_of_compiled, parts_of}
 use Rattle.machine_compiler.proofs.Apart.{at_place}

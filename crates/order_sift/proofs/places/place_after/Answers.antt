@@ -24,13 +24,18 @@ loop-v-preserved c =
           (λ before. let h = inv.after v before in omega arith)
           (λ here.
           let e : get_or xs i 0 ≡ v = eqb-true (get_or xs i 0) v here in
-          let f : place c.args.order.now (get_or xs i 0) ≡ place c.args.order.now v = ap (place c.args.order.now) e in
+          let f : place c.args.order.now (get_or xs i 0) ≡ place c.args.order.now v =
+          ap (place c.args.order.now) e in
           omega arith)
-          (or_cases (stands (take i xs) v) (eqb (get_or xs i 0) v) (sym (list_any_more (λ k. eqb k v) xs i 0 low) ∙ on));
+          (or_cases (stands (take i xs) v) (eqb (get_or xs i 0) v)
+          (sym (list_any_more (λ k. eqb k v) xs i 0 low) ∙ on));
       least = λ k each.
           let a = inv.least k each in
-          let b = each (get_or xs i 0) (list_any_at (λ k. eqb k (get_or xs i 0)) xs i 0 low (eq-eqb (get_or xs i 0) (get_or xs i 0) refl)) in
+          let b = each (get_or xs i 0)
+          (list_any_at (λ k. eqb k (get_or xs i 0)) xs i 0 low
+          (eq-eqb (get_or xs i 0) (get_or xs i 0) refl)) in
           let o = max_within c.loop-v.after (c.place_of.result + 1) k a (omega arith) in
           omega arith;
-      bound = let o = max_within c.loop-v.after (c.place_of.result + 1) 1000 bound (omega arith) in omega arith;
+      bound = let o = max_within c.loop-v.after (c.place_of.result + 1) 1000 bound (omega arith) in
+          omega arith;
     }

@@ -1,3 +1,4 @@
+use Rattle.std.proofs.Common.{◌∙◌}
 use Rattle.order_sift.proofs.Settling.{falls_then}
 use Rattle.order_sift.proofs.turns.settle_all.Goals as goal
 
@@ -5,6 +6,10 @@ pub loop-preserved : goal.loop-preserved
 loop-preserved c =
     let m = c.args.sifting.now.machine.now in
     record {
+      room = c.turn.auto.seen ∙ c.loop.invariant.room;
       counted = c.in_ok-turn.ensures.counted;
-      falls = falls_then m c.args.at.now.order c.loop.at.order c.turn.new.at.order c.args.at.now.count c.loop.at.count c.turn.new.at.count c.loop.invariant.falls c.in_ok-turn.ensures.falls;
+      chain = c.in_ok-turn.ensures.chain;
+      falls = falls_then m c.args.at.now.order c.loop.at.order c.turn.new.at.order
+          c.args.at.now.count c.loop.at.count c.turn.new.at.count c.loop.invariant.falls
+          c.in_ok-turn.ensures.falls;
     }

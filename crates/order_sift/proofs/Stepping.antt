@@ -1,0 +1,195 @@
+-- Numbers for what is left after one more item is fixed, and before.
+use Rattle.std.proofs.Common.{◌≡◌, ℕ, zero, suc, ◌+◌, ◌-◌, ◌*◌, ◌<◌, ◌≤◌, Bool, true, false, ◌&&◌, ltb, nat_le, List, [], ◌∷◌, length, drop, slice_index, slice_set, ap, sym, ◌∙◌, arith, subst}
+use Rattle.std.proofs.lemmas.Bool.{and_parts, leb-true}
+use Rattle.domains.specs.Tables.{fits, product, rank, are_sizes}
+use Rattle.transition_table.specs.declared.machine.Machine.{Machine}
+use Rattle.transition_table.specs.Computed.{char, result_code}
+use Rattle.transition_table.specs.Orders.{sizes_of}
+use Rattle.decision_diagram.specs.Sets.{arising}
+use Rattle.order_sift.specs.Below.{Below}
+use Rattle.order_sift.specs.Classes.{snapshot_at, AreClasses, IsNextItem, fixed_too}
+use Rattle.order_sift.specs.Pairs.{AreBelow}
+use Rattle.order_sift.proofs.Codes.{fits_set}
+use Rattle.order_sift.proofs.Leaving.{result_step, var_to, var_from}
+use Rattle.order_sift.proofs.Pointing.{point, point_result, snapshot_fits, snapshot_rank, at_rank, rank_low}
+
+-- with another code the rank is as many strides further
+rank_set : (sizes codes : List ℕ) (v code : ℕ) → v < length sizes → fits sizes codes ≡ true
+    → rank sizes (slice_set codes v code) + slice_index codes v * product (drop (v + 1) sizes)
+    ≡ rank sizes codes + code * product (drop (v + 1) sizes)
+rank_set [] codes v code low h = absurd (omega arith)
+rank_set (size ∷ sizes) [] v code low h = absurd (no h)
+  where
+    no : false ≡ true → ⊥
+    no e = cc
+rank_set (size ∷ sizes) (c ∷ codes) zero code low h = omega arith
+rank_set (size ∷ sizes) (c ∷ codes) (suc v) code low h =
+    let parts = and_parts (ltb c size) (fits sizes codes) h in
+    let rest = rank_set sizes codes v code (omega arith) parts.1 in
+    let e : suc v + 1 ≡ suc (v + 1) = omega arith in
+    let d : product (drop (suc v + 1) (size ∷ sizes)) ≡ product (drop (v + 1) sizes) =
+    ap (λ k. product (drop k (size ∷ sizes))) e in
+    let one : slice_index codes v * product (drop (suc v + 1) (size ∷ sizes))
+    ≡ slice_index codes v * product (drop (v + 1) sizes) =
+    ap (λ k. slice_index codes v * k) d in
+    let two : code * product (drop (suc v + 1) (size ∷ sizes))
+    ≡ code * product (drop (v + 1) sizes) = ap (λ k. code * k) d in
+    omega arith
+
+pub drop_below : (sizes : List ℕ) (k : ℕ) → are_sizes sizes ≡ true
+    → product (drop k sizes) ≤ product sizes
+drop_below sizes zero h = omega arith
+drop_below [] (suc k) h = omega arith
+drop_below (size ∷ sizes) (suc k) h =
+    let both = and_parts (nat_le 1 size && nat_le size 33) (are_sizes sizes) h in
+    let one = leb-true 1 size (and_parts (nat_le 1 size) (nat_le size 33) both.0).0 in
+    let rest = drop_below sizes k both.1 in
+    let more = times size (product sizes) one in
+    omega arith
+  where
+    times : (a b : ℕ) → 1 ≤ a → b ≤ a * b
+    times zero b one = elim one [ ]
+    times (suc a) b one = grind arith
+
+-- the snapshot with another code of a variable
+pub record IsNeighbour (m : Machine) (i v code : ℕ) : Type 0 where
+  pub from : slice_index (snapshot_at m i) v * product (drop (v + 1) m.vars)
+      ≤ i + code * product (drop (v + 1) m.vars)
+  pub to : i + code * product (drop (v + 1) m.vars)
+      < product m.vars + slice_index (snapshot_at m i) v * product (drop (v + 1) m.vars)
+  pub within : i + code * product (drop (v + 1) m.vars) - slice_index (snapshot_at m i) v * product
+      (drop (v + 1) m.vars) < product m.vars
+  pub is : snapshot_at m
+      (i + code * product (drop (v + 1) m.vars) - slice_index (snapshot_at m i) v * product
+      (drop (v + 1) m.vars)) ≡ slice_set (snapshot_at m i) v code
+
+-- its number
+abbrev place_of : Machine → ℕ → ℕ → ℕ → ℕ
+place_of m v i c =
+    i + c * product (drop (v + 1) m.vars) - slice_index (snapshot_at m i) v * product
+    (drop (v + 1) m.vars)
+
+pub neighbours : (m : Machine) (below : Below) (i v code : ℕ) → i < product m.vars
+    → v < length m.vars → code < slice_index m.vars v → IsNeighbour m i v code
+neighbours m below i v code li lv lc =
+    let s = snapshot_at m i in
+    let hs = snapshot_fits m below i li in
+    let t = slice_set s v code in
+    let ht = fits_set m.vars s v code hs lc in
+    let r = rank_set m.vars s v code lv hs in
+    let own = snapshot_rank m below i li in
+    let low = rank_low m below t ht in
+    let a = slice_index s v * product (drop (v + 1) m.vars) in
+    let b = code * product (drop (v + 1) m.vars) in
+    let e : rank m.vars t + a ≡ i + b = r ∙ ap (λ k. k + b) own in
+    let f : i + b - a ≡ rank m.vars t = minus (rank m.vars t) a (i + b) e in
+    record {
+      from = at_least (rank m.vars t) a (i + b) e;
+      to = under (rank m.vars t) a (i + b) (product m.vars) e low;
+      within = subst (λ k. k < product m.vars) (sym f) low;
+      is = ap (snapshot_at m) f ∙ at_rank m below t ht;
+    }
+  where
+    minus : (r a s : ℕ) → r + a ≡ s → s - a ≡ r
+    minus r a s e = omega arith
+
+    at_least : (r a s : ℕ) → r + a ≡ s → a ≤ s
+    at_least r a s e = omega arith
+
+    under : (r a s n : ℕ) → r + a ≡ s → r < n → s < n + a
+    under r a s n e low = omega arith
+
+pub result_freed : (m : Machine) (below : Below) (y : ℕ) (classes codes made : List ℕ)
+    → y < length m.results
+    → ((i : ℕ) → i < product m.vars → slice_index codes i ≡ result_code m y (snapshot_at m i))
+    → length made ≡ product m.vars → AreBelow made
+    → ((i j : ℕ) → i < product m.vars → j < product m.vars
+    → (slice_index made i ≡ slice_index made j
+    → (slice_index classes i ≡ slice_index classes j) × (slice_index codes i ≡ slice_index codes j))
+    × ((slice_index classes i ≡ slice_index classes j) × (slice_index codes i ≡ slice_index codes j)
+    → slice_index made i ≡ slice_index made j)) → (fixed : ℕ → Bool)
+    → IsNextItem m fixed (length m.vars + y)
+    → AreClasses m (fixed_too fixed (length m.vars + y)) classes → AreClasses m fixed made
+result_freed m below y classes codes made ly code long small same fixed next are = record {
+  long = long;
+  below = small;
+  same = λ i j li lj.
+      let s = snapshot_at m i in
+      let t = snapshot_at m j in
+      let hs = snapshot_fits m below i li in
+      let ht = snapshot_fits m below j lj in
+      let step = result_step m below fixed y ly next s t hs ht in
+      let one = sym (point_result m below s y hs) in
+      let other = sym (point_result m below t y ht) in (
+        λ h.
+            let both = (same i j li lj).0 h in
+            step.1 (point_result m below s y hs ∙ sym (code i li) ∙ both.1 ∙ code j lj ∙ other)
+            ((are.same i j li lj).0 both.0),
+        λ h.
+            let both = step.0 h in
+            (same i j li lj).1 (
+              (are.same i j li lj).1 both.1,
+              code i li ∙ one ∙ both.0
+                  ∙ point_result m below t y ht ∙ sym (code j lj),
+            ),
+      );
+}
+
+pub variable_freed : (m : Machine) (below : Below) (v : ℕ) (classes codes made : List ℕ)
+    (stride : ℕ) → v < length m.vars
+    → ((i : ℕ) → i < product m.vars → slice_index codes i ≡ slice_index (snapshot_at m i) v)
+    → stride ≡ product (drop (v + 1) m.vars) → length made ≡ product m.vars → AreBelow made
+    → ((i j : ℕ) → i < product m.vars → j < product m.vars
+    → (slice_index made i ≡ slice_index made j → (c : ℕ) → c < slice_index m.vars v
+    → slice_index classes (i + c * stride - slice_index codes i * stride)
+    ≡ slice_index classes (j + c * stride - slice_index codes j * stride))
+    × (((c : ℕ) → c < slice_index m.vars v
+    → slice_index classes (i + c * stride - slice_index codes i * stride)
+    ≡ slice_index classes (j + c * stride - slice_index codes j * stride))
+    → slice_index made i ≡ slice_index made j)) → (fixed : ℕ → Bool) → IsNextItem m fixed v
+    → AreClasses m (fixed_too fixed v) classes → AreClasses m fixed made
+variable_freed m below v classes codes made stride lv code is long small same fixed next are =
+    record {
+      long = long;
+      below = small;
+      same = λ i j li lj.
+          let s = snapshot_at m i in
+          let t = snapshot_at m j in
+          let hs = snapshot_fits m below i li in
+          let ht = snapshot_fits m below j lj in (
+            λ h.
+                var_from m below fixed v lv next s t hs ht (λ c lc.
+                let one = neighbours m below i v c li lv lc in
+                let other = neighbours m below j v c lj lv lc in
+                let equal = (same i j li lj).0 h c lc in
+                let e = at i c li in
+                let f = at j c lj in
+                let left = (are.same (place_of m v i c) (place_of m v j c) one.within other.within).0
+                (sym e ∙ equal ∙ f) in
+                ap (λ (q : List ℕ). arising (char m) (sizes_of m) (fixed_too fixed v) (point m q))
+                (sym one.is) ∙ left
+                ∙ ap (λ (q : List ℕ). arising (char m) (sizes_of m) (fixed_too fixed v) (point m q))
+                other.is),
+            λ h.
+                (same i j li lj).1 (λ c lc.
+                let one = neighbours m below i v c li lv lc in
+                let other = neighbours m below j v c lj lv lc in
+                let each = var_to m below fixed v lv next s t hs ht h c lc in
+                at i c li
+                ∙ (are.same (place_of m v i c) (place_of m v j c) one.within other.within).1
+                (ap (λ (q : List ℕ). arising (char m) (sizes_of m) (fixed_too fixed v) (point m q))
+                one.is ∙ each ∙ ap
+                (λ (q : List ℕ). arising (char m) (sizes_of m) (fixed_too fixed v) (point m q))
+                (sym other.is))
+                ∙ sym (at j c lj)),
+          );
+    }
+  where
+    at : (i c : ℕ) → i < product m.vars
+        → slice_index classes (i + c * stride - slice_index codes i * stride)
+        ≡ slice_index classes
+        (i + c * product (drop (v + 1) m.vars) - slice_index (snapshot_at m i) v * product
+        (drop (v + 1) m.vars))
+    at i c li = ap (λ k. slice_index classes (i + c * k - slice_index codes i * k)) is
+        ∙ ap (λ k. slice_index classes
+        (i + c * product (drop (v + 1) m.vars) - k * product (drop (v + 1) m.vars))) (code i li)

@@ -1,0 +1,20 @@
+use Rattle.std.proofs.Common.{◌≡◌, ◌+◌, ◌-◌, ◌*◌, ◌≤◌, length, take}
+use Rattle.std.specs.List.{remove}
+use Rattle.decision_diagram.specs.Sets.{stands}
+use Rattle.order_sift.specs.Chains.{AreSizes}
+use Rattle.order_sift.specs.Classes.{AreClasses}
+use Rattle.order_sift.proofs.Sweeping.{front_of}
+use Rattle.order_sift.proofs.moves.fill_after.Given as goal
+
+abbrev pub invariant-loop-j : goal.invariant-loop-j
+invariant-loop-j l = record {
+  room : length l.seen ≡ 1048576;
+  long : length l.sizes ≡ length l.fn.sizes;
+  later : l.i + 1 ≤ l.j;
+  front : l.front ≡ front_of l.moving.machine.now l.moving.order.now l.i (l.j - 1);
+  few : l.front ≤ 1024 * (length l.moving.order.now + l.j);
+  classes : AreClasses l.moving.machine.now
+      (stands (take (l.j - 1) (remove l.moving.order.now l.i))) l.without_item;
+  sizes : AreSizes l.moving.machine.now l.moving.order.now l.i l.range.first l.sizes l.range.first
+      (l.j - 1);
+}

@@ -1,0 +1,281 @@
+use Rattle.std.proofs.Common.{◌≡◌, ◌∙◌, ◌+◌, ◌-◌, ◌<◌, ◌≤◌, [], ◌∷◌, ◌++◌, ℕ, List, length, take, get_or, slice_index, arith, sym, ap, subst, refl}
+use Rattle.std.specs.List.{remove}
+use Rattle.std.proofs.lemmas.Option.{get_or_from_slice_get}
+use Rattle.decision_diagram.specs.Sets.{stands}
+use Rattle.order_sift.specs.Chains.{AreSizes}
+use Rattle.order_sift.specs.Classes.{AreClasses}
+use Rattle.order_sift.specs.Pairs.{AreBelow}
+use Rattle.order_sift.proofs.Codes.{set_long}
+use Rattle.order_sift.proofs.Filling.{Levels, sizes_set, chain_classes, front_low, steps_before, start_with, back_high}
+use Rattle.order_sift.proofs.Ranging.{items}
+use Rattle.order_sift.proofs.Sweeping.{back_of}
+use Rattle.order_sift.proofs.moves.fill_before.Goals as goal
+
+pub loop-t-init : goal.loop-t-init
+loop-t-init c =
+    let m = c.args.moving.now.machine.now in
+    let o = c.args.moving.now.order.now in
+    let chain = c.args.moving.now.chain.now in
+    let laws = c.laws_of_levels.ensures.laws in
+    let sized = c.laws_of_levels.ensures.sizes in
+    let i = c.args.i in
+    let l = c.len-items.ensures.len in
+    let first = c.args.first in
+    let li = c.requires.i in
+    let e : i ≡ i - 0 = omega arith in
+    let back : c.get-back.result.now ≡ back_of m o i i =
+    sym (ap (λ (n : ℕ). slice_index chain.backs (n - 1 - i)) (sym l)
+    ∙ get_or_from_slice_get chain.backs (c.len-items.result - 1 - i) c.get-back.result.now 0
+    c.get-back.ensures)
+    ∙ back_high m o laws c.requires.sure c.requires.allowed chain.classes chain.backs
+    c.requires.chain i li sized i (let h : i ≤ i = omega arith in h) li in
+    let few = c.requires.chain.few (length o - 1 - i) (omega arith) in
+    let few_is = ap (λ (n : ℕ). slice_index chain.backs (n - 1 - i)) (sym l)
+    ∙ get_or_from_slice_get chain.backs (c.len-items.result - 1 - i) c.get-back.result.now 0
+    c.get-back.ensures in
+    let got : get_or chain.classes (length o - 1 - i) [] ≡ c.in_ok-with_item.with_item =
+    ap (λ (n : ℕ). get_or chain.classes (n - 1 - i) []) (sym l)
+    ∙ get_or_from_slice_get chain.classes (c.len-items.result - 1 - i) c.get-start.result.now []
+    c.get-start.ensures ∙ sym c.in_ok-with_item.ensures in
+    let start = subst (AreClasses m (stands (take i (remove o i) ++ slice_index o i ∷ []))) got
+    (start_with m o laws c.requires.sure c.requires.allowed chain.classes chain.backs
+    c.requires.chain i li sized) in
+    record {
+      room = c.requires.room;
+      long = refl;
+      back = back ∙ ap (back_of m o i) e;
+      few = omega arith;
+      classes = subst
+          (λ (n : ℕ). AreClasses m (stands (take n (remove o i) ++ slice_index o i ∷ []))
+          c.in_ok-with_item.with_item) e start;
+      sizes = subst (λ (n : ℕ). AreSizes m o i first c.args.sizes.now n i) e c.requires.own;
+    }
+
+pub loop-t-preserved : goal.loop-t-preserved
+loop-t-preserved c =
+    let m = c.args.moving.now.machine.now in
+    let o = c.args.moving.now.order.now in
+    let chain = c.args.moving.now.chain.now in
+    let laws = c.laws_of_levels.ensures.laws in
+    let sized = c.laws_of_levels.ensures.sizes in
+    let i = c.args.i in
+    let l = c.len-items.ensures.len in
+    let first = c.args.first in
+    let li = c.requires.i in
+    let t = c.loop-t.t in
+    let test = c.loop-t-test.true in
+    let j = i - 1 - t in
+    let inv = c.loop-t.invariant in
+    let e_old : i - t ≡ j + 1 = omega arith in
+    let e_new : j ≡ i - (t + 1) = omega arith in
+    let low : j < i = omega arith in
+    let high : first ≤ j = omega arith in
+    let may = c.requires.places j high (omega arith) in
+    let next = c.get-next.result.now in
+    let next_is = get_or_from_slice_get o j next 0 c.get-next.ensures in
+    let item_is = get_or_from_slice_get o i c.get-item.result.now 0 c.get-item.ensures in
+    let whole_is = ap (slice_index chain.backs) (sym l)
+    ∙ get_or_from_slice_get chain.backs c.len-items.result c.get-whole.result.now 0
+    c.get-whole.ensures in
+    let after_is = ap (λ (n : ℕ). slice_index chain.backs (n - j)) (sym l)
+    ∙ get_or_from_slice_get chain.backs (c.len-items.result - j) c.get-after.result.now 0
+    c.get-after.ensures in
+    let got : c.get-without_item.result.now ≡ get_or chain.classes (length o - j) [] =
+    sym (ap (λ (n : ℕ). get_or chain.classes (n - j) []) (sym l)
+    ∙ get_or_from_slice_get chain.classes (c.len-items.result - j) c.get-without_item.result.now
+    [] c.get-without_item.ensures) in
+    let own = c.in_ok-own.own in
+    let here = c.in_ok-here.here in
+    let old_back = c.loop-t.back in
+    let front = c.get-whole.result.now - c.get-after.result.now in
+    let own_levels =
+    subst (λ (x : ℕ). Levels m x (get_or chain.classes (length o - j) []) own) (sym item_is)
+    (subst (λ (xs : List ℕ). Levels m c.get-item.result.now xs own) got
+    c.in_ok-own.ensures.level) in
+    let fronts = front_low m o laws c.requires.sure c.requires.allowed chain.classes chain.backs
+    c.requires.chain i li sized j (omega arith) in
+    let fronts_is = fronts.1 in
+    let old_are = subst
+    (λ (n : ℕ). AreClasses m (stands (take n (remove o i) ++ slice_index o i ∷ []))
+    c.loop-t.with_item) e_old inv.classes in
+    let step = steps_before m o laws c.requires.sure c.requires.allowed chain.classes chain.backs
+    c.requires.chain i li sized j next here old_back own front c.loop-t.with_item
+    c.in_ok-freer.freer low may next_is (inv.back ∙ ap (back_of m o i) e_old) old_are
+    c.in_ok-freer.ensures.classes c.in_ok-here.ensures.level own_levels (omega arith) in
+    let set = c.set.ensures in
+    let long = inv.long in
+    let room = c.requires.long in
+    let few = inv.few in
+    let few_here = c.in_ok-here.ensures.few in
+    let value = front + own + (old_back + here) in
+    let sizes = sizes_set m o c.loop-t.sizes i first j value (i - t) i j i high high (omega arith)
+    step.whole_is inv.sizes (λ k a b apart. (omega arith, b)) in
+    record {
+      room = c.freed.auto.seen ∙ inv.room;
+      long = ap (λ (xs : List ℕ). length xs) set ∙ set_long c.loop-t.sizes (j - first) value ∙ long;
+      back = step.back_is ∙ ap (back_of m o i) e_new;
+      few = omega arith;
+      classes = subst
+          (λ (n : ℕ). AreClasses m (stands (take n (remove o i) ++ slice_index o i ∷ []))
+          c.in_ok-freer.freer) e_new step.numbers;
+      sizes = subst (λ (n : ℕ). AreSizes m o i first c.set.new.self n i) e_new
+          (subst (λ (xs : List ℕ). AreSizes m o i first xs j i) (sym set) sizes);
+    }
+
+pub freed-requires-clause-item : goal.freed-requires-clause-item
+freed-requires-clause-item c =
+    let o = c.args.moving.now.order.now in
+    let n = items c.args.moving.now.machine.now o c.requires.allowed in
+    let l = c.len-items.ensures.len in
+    let is = get_or_from_slice_get o (c.args.i - 1 - c.loop-t.t) c.get-next.result.now 0
+    c.get-next.ensures in
+    let b = c.requires.allowed.permutation.below (c.args.i - 1 - c.loop-t.t)
+    (let a = c.loop-t-test.true in let b = c.requires.i in omega arith) in
+    omega arith
+
+pub level_of-requires-clause-item : goal.level_of-requires-clause-item
+level_of-requires-clause-item c =
+    let o = c.args.moving.now.order.now in
+    let n = items c.args.moving.now.machine.now o c.requires.allowed in
+    let l = c.len-items.ensures.len in
+    let is = get_or_from_slice_get o (c.args.i - 1 - c.loop-t.t) c.get-next.result.now 0
+    c.get-next.ensures in
+    let b = c.requires.allowed.permutation.below (c.args.i - 1 - c.loop-t.t)
+    (let a = c.loop-t-test.true in let b = c.requires.i in omega arith) in
+    omega arith
+
+pub level_of-requires-in-loop-t-clause-item : goal.level_of-requires-in-loop-t-clause-item
+level_of-requires-in-loop-t-clause-item c =
+    let o = c.args.moving.now.order.now in
+    let n = items c.args.moving.now.machine.now o c.requires.allowed in
+    let l = c.len-items.ensures.len in
+    let is = get_or_from_slice_get o (c.args.i) c.get-item.result.now 0 c.get-item.ensures in
+    let b = c.requires.allowed.permutation.below (c.args.i) (c.requires.i) in
+    omega arith
+
+pub level_of-requires-in-loop-t-clause-long : goal.level_of-requires-in-loop-t-clause-long
+level_of-requires-in-loop-t-clause-long c =
+    let m = c.args.moving.now.machine.now in
+    let o = c.args.moving.now.order.now in
+    let chain = c.args.moving.now.chain.now in
+    let laws = c.laws_of_levels.ensures.laws in
+    let sized = c.laws_of_levels.ensures.sizes in
+    let i = c.args.i in
+    let l = c.len-items.ensures.len in
+    let j = i - 1 - c.loop-t.t in
+    let got = ap (λ (n : ℕ). get_or chain.classes (n - j) []) (sym l)
+    ∙ get_or_from_slice_get chain.classes (c.len-items.result - j) c.get-without_item.result.now
+    [] c.get-without_item.ensures in
+    let li = c.requires.i in
+    ap (λ (xs : List ℕ). length xs) (sym got)
+    ∙ (chain_classes m o laws c.requires.sure c.requires.allowed chain.classes chain.backs
+    c.requires.chain j (omega arith)).long
+
+pub level_of-requires-in-loop-t-clause-below : goal.level_of-requires-in-loop-t-clause-below
+level_of-requires-in-loop-t-clause-below c =
+    let m = c.args.moving.now.machine.now in
+    let o = c.args.moving.now.order.now in
+    let chain = c.args.moving.now.chain.now in
+    let laws = c.laws_of_levels.ensures.laws in
+    let sized = c.laws_of_levels.ensures.sizes in
+    let i = c.args.i in
+    let l = c.len-items.ensures.len in
+    let j = i - 1 - c.loop-t.t in
+    let got = ap (λ (n : ℕ). get_or chain.classes (n - j) []) (sym l)
+    ∙ get_or_from_slice_get chain.classes (c.len-items.result - j) c.get-without_item.result.now
+    [] c.get-without_item.ensures in
+    let li = c.requires.i in
+    subst AreBelow got
+    (chain_classes m o laws c.requires.sure c.requires.allowed chain.classes chain.backs
+    c.requires.chain j (omega arith)).below
+
+pub overflow_sub-size : goal.overflow_sub-size
+overflow_sub-size c =
+    let m = c.args.moving.now.machine.now in
+    let o = c.args.moving.now.order.now in
+    let chain = c.args.moving.now.chain.now in
+    let laws = c.laws_of_levels.ensures.laws in
+    let sized = c.laws_of_levels.ensures.sizes in
+    let i = c.args.i in
+    let l = c.len-items.ensures.len in
+    let j = i - 1 - c.loop-t.t in
+    let li = c.requires.i in
+    let whole_is = ap (slice_index chain.backs) (sym l)
+    ∙ get_or_from_slice_get chain.backs c.len-items.result c.get-whole.result.now 0
+    c.get-whole.ensures in
+    let after_is = ap (λ (n : ℕ). slice_index chain.backs (n - j)) (sym l)
+    ∙ get_or_from_slice_get chain.backs (c.len-items.result - j) c.get-after.result.now 0
+    c.get-after.ensures in
+    let fronts = front_low m o laws c.requires.sure c.requires.allowed chain.classes chain.backs
+    c.requires.chain i li sized j (omega arith) in
+    let low = fronts.0 in
+    omega arith
+
+pub overflow_add-back : goal.overflow_add-back
+overflow_add-back c =
+    let n = items c.args.moving.now.machine.now c.args.moving.now.order.now c.requires.allowed in
+    let items_few = c.laws_of_levels.ensures.few in
+    let few = c.loop-t.invariant.few in
+    let here = c.in_ok-here.ensures.few in
+    let test = c.loop-t-test.true in
+    let li = c.requires.i in
+    omega arith
+
+pub overflow_add-size : goal.overflow_add-size
+overflow_add-size c =
+    let m = c.args.moving.now.machine.now in
+    let o = c.args.moving.now.order.now in
+    let chain = c.args.moving.now.chain.now in
+    let laws = c.laws_of_levels.ensures.laws in
+    let sized = c.laws_of_levels.ensures.sizes in
+    let i = c.args.i in
+    let l = c.len-items.ensures.len in
+    let n = items m o c.requires.allowed in
+    let items_few = c.laws_of_levels.ensures.few in
+    let whole_is = ap (slice_index chain.backs) (sym l)
+    ∙ get_or_from_slice_get chain.backs c.len-items.result c.get-whole.result.now 0
+    c.get-whole.ensures in
+    let whole_few =
+    c.requires.chain.few (length o) (let h : length o ≤ length o = omega arith in h) in
+    let own = c.in_ok-own.ensures.few in
+    omega arith
+
+pub overflow_add-size-in-loop-t : goal.overflow_add-size-in-loop-t
+overflow_add-size-in-loop-t c =
+    let m = c.args.moving.now.machine.now in
+    let o = c.args.moving.now.order.now in
+    let chain = c.args.moving.now.chain.now in
+    let laws = c.laws_of_levels.ensures.laws in
+    let sized = c.laws_of_levels.ensures.sizes in
+    let i = c.args.i in
+    let l = c.len-items.ensures.len in
+    let n = items m o c.requires.allowed in
+    let items_few = c.laws_of_levels.ensures.few in
+    let whole_is = ap (slice_index chain.backs) (sym l)
+    ∙ get_or_from_slice_get chain.backs c.len-items.result c.get-whole.result.now 0
+    c.get-whole.ensures in
+    let whole_few =
+    c.requires.chain.few (length o) (let h : length o ≤ length o = omega arith in h) in
+    let own = c.in_ok-own.ensures.few in
+    let few = c.loop-t.invariant.few in
+    let here = c.in_ok-here.ensures.few in
+    let test = c.loop-t-test.true in
+    let li = c.requires.i in
+    omega arith
+
+pub set-requires : goal.set-requires
+set-requires c =
+    let test = c.loop-t-test.true in
+    let long = c.loop-t.invariant.long in
+    let room = c.requires.long in
+    omega arith
+
+pub returns-clause-each : goal.returns-clause-each
+returns-clause-each c =
+    let first = c.args.first in
+    let i = c.args.i in
+    let t = c.loop-t.t in
+    let e : i - t ≡ first = let a = c.loop-t-test.false in let b = c.loop-t.auto.t-end in
+    let d = c.requires.first in omega arith in
+    subst (λ (n : ℕ). AreSizes c.args.moving.now.machine.now c.args.moving.now.order.now i first
+    c.loop-t.sizes n i) e c.loop-t.invariant.sizes

@@ -1,0 +1,19 @@
+use Rattle.std.proofs.Common.{◌≡◌, ◌+◌, ◌-◌, ◌*◌, ◌≤◌, [], ◌∷◌, ◌++◌, length, take, slice_index}
+use Rattle.std.specs.List.{remove}
+use Rattle.decision_diagram.specs.Sets.{stands}
+use Rattle.order_sift.specs.Chains.{AreSizes}
+use Rattle.order_sift.specs.Classes.{AreClasses}
+use Rattle.order_sift.proofs.Sweeping.{back_of}
+use Rattle.order_sift.proofs.moves.fill_before.Given as goal
+
+abbrev pub invariant-loop-t : goal.invariant-loop-t
+invariant-loop-t l = record {
+  room : length l.seen ≡ 1048576;
+  long : length l.sizes ≡ length l.fn.sizes;
+  back : l.back ≡ back_of l.moving.machine.now l.moving.order.now l.i (l.i - l.t);
+  few : l.back ≤ 1024 * (length l.moving.order.now + l.t);
+  classes : AreClasses l.moving.machine.now
+      (stands (take (l.i - l.t) (remove l.moving.order.now l.i)
+      ++ slice_index l.moving.order.now l.i ∷ [])) l.with_item;
+  sizes : AreSizes l.moving.machine.now l.moving.order.now l.i l.first l.sizes (l.i - l.t) l.i;
+}

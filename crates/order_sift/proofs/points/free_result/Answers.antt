@@ -1,0 +1,39 @@
+use Rattle.std.proofs.Common.{◌≡◌, ◌∙◌, ◌<◌, ℕ, [], List, length, get_or, slice_index, sym, ap, subst}
+use Rattle.std.specs.Prelude.{◌↔◌}
+use Rattle.std.proofs.lemmas.Option.{get_or_from_slice_get}
+use Rattle.domains.specs.Tables.{product}
+use Rattle.transition_table.specs.Computed.{result_code}
+use Rattle.order_sift.specs.Classes.{snapshot_at}
+use Rattle.order_sift.proofs.Stepping.{result_freed}
+use Rattle.order_sift.proofs.points.free_result.Goals as goal
+
+pub returns-clause-classes : goal.returns-clause-classes
+returns-clause-classes c =
+    let m = c.args.m.now in
+    let y = c.args.y in
+    let results = c.args.points.now.results in
+    let ly = c.requires.result in
+    let are = c.requires.prepared.results in
+    let get : get_or results y [] ≡ c.get-codes.result.now =
+    ap (λ k. get_or results k []) (sym c.from.ensures)
+    ∙ get_or_from_slice_get results c.from.result c.get-codes.result.now []
+    c.get-codes.ensures in
+    let codes : c.as_slice-2.result.now ≡ get_or results y [] = c.as_slice-2.ensures ∙ sym get in
+    let classes : c.as_slice.result.now ≡ c.args.classes.now = c.as_slice.ensures in
+    let code = subst (λ (xs : List ℕ). (i : ℕ) → i < product m.vars
+    → slice_index xs i ≡ result_code m y (snapshot_at m i)) (sym codes)
+    (λ i li. are.code y i ly li) in
+    let long : length c.as_slice.result.now ≡ product m.vars =
+    ap (λ (xs : List ℕ). length xs) classes ∙ c.requires.long in
+    let whole = subst (λ (n : ℕ). (i j : ℕ) → i < n → j < n
+    → (slice_index c.in_ok-made.made i ≡ slice_index c.in_ok-made.made j)
+    ↔ ((slice_index c.as_slice.result.now i ≡ slice_index c.as_slice.result.now j)
+    × (slice_index c.as_slice-2.result.now i ≡ slice_index c.as_slice-2.result.now j))) long
+    c.in_ok-made.ensures.same in
+    let same = subst (λ (xs : List ℕ). (i j : ℕ) → i < product m.vars → j < product m.vars
+    → (slice_index c.in_ok-made.made i ≡ slice_index c.in_ok-made.made j)
+    ↔ ((slice_index xs i ≡ slice_index xs j)
+    × (slice_index c.as_slice-2.result.now i ≡ slice_index c.as_slice-2.result.now j))) classes
+    whole in
+    result_freed m c.laws_below.ensures y c.args.classes.now c.as_slice-2.result.now
+    c.in_ok-made.made ly code (c.in_ok-made.ensures.long ∙ long) c.in_ok-made.ensures.below same

@@ -1,0 +1,13 @@
+use Rattle.std.proofs.Common.{◌≡◌, ◌<◌, ◌≤◌, ◌==◌, ℕ, false, length, get_or}
+use Rattle.std.specs.List.{list_any}
+use Rattle.order_sift.specs.Classes.{marked, differing}
+use Rattle.order_sift.proofs.points.level.Given as goal
+
+abbrev pub invariant-loop-i : goal.invariant-loop-i
+invariant-loop-i l = record {
+  count : l.count ≡ differing (marked l.classes l.marks l.i);
+  few : l.count ≤ l.i;
+  room : length l.met ≡ 1024;
+  met : (n : ℕ) → n < 1024 → get_or l.met n false
+      ≡ list_any (λ k. k == n) (marked l.classes l.marks l.i);
+}

@@ -1,0 +1,194 @@
+// The sizes with one item at each of its places.
+ghost use Rattle.std.specs.Prelude.{◌≡◌, ◌+◌, ◌-◌, ◌<◌, ◌≤◌, ℕ, length, slice_index, IfOk};
+ghost use Rattle.domains.specs.Tables.{product};
+ghost use Rattle.transition_table.specs.Orders.{Allowed};
+ghost use Rattle.transition_table.specs.Transitions.{IsDeterministic};
+ghost use Rattle.char_function.specs.Sizes.{Size};
+ghost use Rattle.order_sift.specs.Chains.{IsChain, MayStand, AreSizes};
+ghost use Rattle.order_sift.specs.Moves.{moved};
+ghost use Rattle.order_sift.specs.Points.{IsPrepared};
+
+use crate::chain::Chain;
+use crate::law::laws_of_levels;
+use crate::places::PlaceRange;
+use crate::points::{Points, freed, level_of};
+use decision_diagram::Order;
+use polis_base::{Duplicate, NoMemory, Places};
+use std::alloc::Global;
+use transition_table::Machine;
+
+/// An order whose items may move.
+#[derive(Clone, Copy)]
+pub(crate) struct Moving<'a> {
+    pub(crate) alloc: Global,
+    pub(crate) machine: &'a Machine,
+    pub(crate) points: &'a Points,
+    pub(crate) order: &'a Order,
+    pub(crate) chain: &'a Chain,
+}
+
+// Puts the sizes with the item at places before its own. Those after it stand as in the order, with
+// the item before them.
+fn fill_before(
+    moving: &Moving,
+    seen: &mut [u16],
+    i: u64,
+    first: u64,
+    sizes: &mut Places,
+) -> Result<(), NoMemory>
+    requires few { product moving.now.machine.now.vars ≤ 1024 }
+    requires prepared { IsPrepared moving.now.machine.now moving.now.points.now }
+    requires room { length seen.old ≡ 1048576 }
+    requires sure { IsDeterministic moving.now.machine.now }
+    requires allowed { Allowed moving.now.machine.now moving.now.order.now }
+    requires chain { IsChain moving.now.machine.now moving.now.order.now moving.now.chain.now }
+    requires i { i < length moving.now.order.now }
+    requires first { first ≤ i }
+    requires places { MayStand moving.now.machine.now moving.now.order.now i first i }
+    requires long { i < length sizes.old + first }
+    requires own { AreSizes moving.now.machine.now moving.now.order.now i first sizes.old i i }
+    ensures long { IfOk result (λ done. length sizes.new ≡ length sizes.old) }
+    ensures each { IfOk result (λ done.
+        AreSizes moving.now.machine.now moving.now.order.now i first sizes.new first i) }
+{
+    laws_of_levels(moving.machine);
+    let items = moving.order.len();
+    let item = *moving.order.get(i);
+    let whole = *moving.chain.backs.get(items);
+    let mut back = *moving.chain.backs.get(items - 1 - i);
+    let start = moving.chain.classes.get(items - 1 - i);
+    let mut with_item = start.copy()?;
+    for t in 0..i - first {
+        let j = i - 1 - t;
+        let next = *moving.order.get(j);
+        let freer = freed(
+            moving.alloc,
+            moving.machine,
+            moving.points,
+            seen,
+            &with_item,
+            next,
+        )?;
+        with_item = freer;
+        let here = level_of(
+            moving.alloc,
+            moving.machine,
+            moving.points,
+            &with_item,
+            next,
+        )?;
+        back += here;
+        let without_item = moving.chain.classes.get(items - j);
+        let own = level_of(
+            moving.alloc,
+            moving.machine,
+            moving.points,
+            without_item,
+            item,
+        )?;
+        let after = *moving.chain.backs.get(items - j);
+        let size = whole - after + own + back;
+        sizes.set(j - first, size);
+    }
+    Ok(())
+}
+
+// Puts the sizes with the item at places after its own. Those before it stand as in the order,
+// without the item.
+fn fill_after(
+    moving: &Moving,
+    seen: &mut [u16],
+    i: u64,
+    range: PlaceRange,
+    sizes: &mut Places,
+) -> Result<(), NoMemory>
+    requires few { product moving.now.machine.now.vars ≤ 1024 }
+    requires prepared { IsPrepared moving.now.machine.now moving.now.points.now }
+    requires room { length seen.old ≡ 1048576 }
+    requires sure { IsDeterministic moving.now.machine.now }
+    requires allowed { Allowed moving.now.machine.now moving.now.order.now }
+    requires chain { IsChain moving.now.machine.now moving.now.order.now moving.now.chain.now }
+    requires first { range.first ≤ i }
+    requires i { i ≤ range.last }
+    requires last { range.last < length moving.now.order.now }
+    requires places { MayStand moving.now.machine.now moving.now.order.now i i range.last }
+    requires long { length sizes.old + range.first ≡ range.last + 1 }
+    requires own { AreSizes moving.now.machine.now moving.now.order.now i range.first sizes.old
+        range.first i }
+    ensures long { IfOk result (λ done. length sizes.new ≡ length sizes.old) }
+    ensures each { IfOk result (λ done.
+        AreSizes moving.now.machine.now moving.now.order.now i range.first sizes.new range.first
+        range.last) }
+{
+    laws_of_levels(moving.machine);
+    let items = moving.order.len();
+    let item = *moving.order.get(i);
+    let whole = *moving.chain.backs.get(items);
+    let after = *moving.chain.backs.get(items - i);
+    let mut front = whole - after;
+    let start = moving.chain.classes.get(items - i);
+    let mut without_item = start.copy()?;
+    for j in i + 1..range.last + 1 {
+        let next = *moving.order.get(j);
+        let here = level_of(
+            moving.alloc,
+            moving.machine,
+            moving.points,
+            &without_item,
+            next,
+        )?;
+        front += here;
+        let with_item = moving.chain.classes.get(items - 1 - j);
+        let freer = freed(
+            moving.alloc,
+            moving.machine,
+            moving.points,
+            seen,
+            with_item,
+            item,
+        )?;
+        without_item = freer;
+        let own = level_of(
+            moving.alloc,
+            moving.machine,
+            moving.points,
+            &without_item,
+            item,
+        )?;
+        let back = *moving.chain.backs.get(items - 1 - j);
+        let size = front + own + back;
+        sizes.set(j - range.first, size);
+    }
+    Ok(())
+}
+
+/// The size with the item at place i at each of these places.
+pub(crate) fn sizes_at(
+    moving: &Moving,
+    seen: &mut [u16],
+    i: u64,
+    range: PlaceRange,
+) -> Result<Places, NoMemory>
+    requires few { product moving.now.machine.now.vars ≤ 1024 }
+    requires prepared { IsPrepared moving.now.machine.now moving.now.points.now }
+    requires room { length seen.old ≡ 1048576 }
+    requires sure { IsDeterministic moving.now.machine.now }
+    requires allowed { Allowed moving.now.machine.now moving.now.order.now }
+    requires chain { IsChain moving.now.machine.now moving.now.order.now moving.now.chain.now }
+    requires first { range.first ≤ i }
+    requires i { i ≤ range.last }
+    requires last { range.last < length moving.now.order.now }
+    requires places { MayStand moving.now.machine.now moving.now.order.now i range.first range.last }
+    ensures long { IfOk result (λ sizes. length sizes + range.first ≡ range.last + 1) }
+    ensures each { IfOk result (λ sizes. (k : ℕ) → k < length sizes
+        → slice_index sizes k ≡ Size moving.now.machine.now
+        (moved moving.now.order.now i (range.first + k))) }
+{
+    laws_of_levels(moving.machine);
+    let items = moving.order.len();
+    let whole = *moving.chain.backs.get(items);
+    let mut sizes = Places::filled(moving.alloc, range.last + 1 - range.first, whole)?;
+    fill_before(moving, seen, i, range.first, &mut sizes)?;
+    fill_after(moving, seen, i, range, &mut sizes)?;
+    Ok(sizes)
+}

@@ -7,7 +7,14 @@ use Rattle.polis_words.specs.declared.cause.Cause.TheVariants.{Conflict, NoMemor
 use Rattle.polis_cli.specs.Accepted.{IsConflictFault, IsFirstConflict}
 use Rattle.polis_cli.specs.Inputs.{IsNetFault}
 
-pub conflict_fault : (text : List ℕ) (net : Network) (cause : Cause) → NetOf text net → ((other : Network) → NetOf text other → other ≡ net) → IsConflictFault net cause → IsNetFault text cause
-conflict_fault text net (Conflict printed) has one fault = (net, has, λ other is. subst (λ (n : Network). IsFirstConflict n printed) (sym (one other is)) fault)
+pub conflict_fault : (text : List ℕ) (net : Network) (cause : Cause) → NetOf text net
+    → ((other : Network) → NetOf text other → other ≡ net) → IsConflictFault net cause
+    → IsNetFault text cause
+conflict_fault text net (Conflict printed) has one fault = (
+  net,
+  has,
+  λ other is. subst (λ (n : Network). IsFirstConflict n printed)
+      (sym (one other is)) fault,
+)
 conflict_fault text net Wanting has one fault = tt
 conflict_fault text net other has one fault = absurd fault

@@ -35,62 +35,100 @@ right_true true b h = h
 right_true false b h = cc
 
 -- rising stamps are stamps, one for each entry
-stamps_rise : (net : Network) (before : List Stamped) (journal : List Entry) (ts : List ℕ) → rises_after net before journal ts ≡ true
+stamps_rise : (net : Network) (before : List Stamped) (journal : List Entry) (ts : List ℕ)
+    → rises_after net before journal ts ≡ true
     → (list_all is_stamp ts ≡ true) × (length ts ≡ length journal)
 stamps_rise net before [] [] h = (refl, refl)
 stamps_rise net before [] (t ∷ ts) h = cc
 stamps_rise net before (entry ∷ journal) [] h = cc
 stamps_rise net before (entry ∷ journal) (t ∷ ts) h =
-    let rest = stamps_rise net (before ++ stamped t entry ∷ []) journal ts (right_true _ (rises_after net (before ++ stamped t entry ∷ []) journal ts) h) in
+    let rest = stamps_rise net (before ++ stamped t entry ∷ []) journal ts
+    (right_true _ (rises_after net (before ++ stamped t entry ∷ []) journal ts) h) in
     let above = left_true _ (rises_after net (before ++ stamped t entry ∷ []) journal ts) h in
     let first : is_stamp t ≡ true = left_true (is_stamp t) _ above in
     (rw (first, rest.0) refl, ap (λ n. suc n) rest.1)
 
-pub rising_stamps : (net : Network) (journal : List Entry) (ts : List ℕ) → Rising net journal ts → AreStamps journal ts
+pub rising_stamps : (net : Network) (journal : List Entry) (ts : List ℕ) → Rising net journal ts
+    → AreStamps journal ts
 rising_stamps net journal ts rising = stamps_rise net [] journal ts rising
 
 -- a journal that stands is legal
-pub stands_legal : (net : Network) (trace : List TraceItem) (journal : List Entry) (stamps : Option (List ℕ)) → Stands net trace journal stamps → Legal net trace journal
+pub stands_legal : (net : Network) (trace : List TraceItem) (journal : List Entry)
+    (stamps : Option (List ℕ)) → Stands net trace journal stamps → Legal net trace journal
 stands_legal net trace journal None h = h
 stands_legal net trace journal (Some stamps) h = h.0
 
 -- what a network and a trace are held under
 abbrev pub HoldsBoth : ReplayWords → Network → List TraceItem → Files → Type 0
-HoldsBoth replay net trace files = HoldsNet files replay.net net × HoldsTrace files replay.trace net trace
+HoldsBoth replay net trace files =
+    HoldsNet files replay.net net × HoldsTrace files replay.trace net trace
 
 -- a journal that is held and stands is judged
-pub judged_is : (o : Option Files) (replay : ReplayWords) (net : Network) (trace : List TraceItem) (journal : List Entry) (stamps : Option (List ℕ)) (complete : Bool)
-    → WhereTold o (HoldsBoth replay net trace) → WhereTold o (λ files. HoldsJournal files replay.journal net journal stamps)
-    → IsFound net trace journal stamps (IsLegal complete) → WhereTold o (λ files. IsJudged replay files net trace journal complete)
+pub judged_is : (o : Option Files) (replay : ReplayWords) (net : Network) (trace : List TraceItem)
+    (journal : List Entry) (stamps : Option (List ℕ)) (complete : Bool)
+    → WhereTold o (HoldsBoth replay net trace)
+    → WhereTold o (λ files. HoldsJournal files replay.journal net journal stamps)
+    → IsFound net trace journal stamps (IsLegal complete)
+    → WhereTold o (λ files. IsJudged replay files net trace journal complete)
 judged_is o replay net trace journal stamps complete held holds found =
-    told_both o (HoldsBoth replay net trace) (λ files. HoldsJournal files replay.journal net journal stamps) _
-    (λ files h k. record { stamps = stamps; holds = record { holds_net = h.0; holds_trace = h.1; holds_journal = k }; stands = found.0; ends = found.1 }) held holds
+    told_both o (HoldsBoth replay net trace)
+    (λ files. HoldsJournal files replay.journal net journal stamps) _
+    (λ files h k. record {
+      stamps = stamps;
+      holds = record { holds_net = h.0; holds_trace = h.1; holds_journal = k };
+      stands =
+          found.0;
+      ends = found.1;
+    }) held holds
 
 -- the journal fails, the network and the trace being accepted
-pub journal_fails : (o : Option Files) (replay : ReplayWords) (net : Network) (trace : List TraceItem) (name : List ℕ) (cause : Cause) → name ≡ replay.journal
-    → WhereTold o (HoldsBoth replay net trace) → WhereTold o (λ files. (other : Network) → HoldsNet files replay.net other → other ≡ net)
-    → WhereTold o (λ files. (items : List TraceItem) → JournalFails files net items replay.journal cause)
+pub journal_fails : (o : Option Files) (replay : ReplayWords) (net : Network)
+    (trace : List TraceItem) (name : List ℕ) (cause : Cause) → name ≡ replay.journal
+    → WhereTold o (HoldsBoth replay net trace)
+    → WhereTold o (λ files. (other : Network) → HoldsNet files replay.net other → other ≡ net)
+    → WhereTold o (λ files. (items : List TraceItem)
+    → JournalFails files net items replay.journal cause)
     → WhereTold o (λ files. FailsReplay replay files name cause)
 journal_fails o replay net trace name cause same held one fails =
-    told_both o (λ files. HoldsBoth replay net trace files × ((other : Network) → HoldsNet files replay.net other → other ≡ net)) (λ files. (items : List TraceItem) → JournalFails files net items replay.journal cause) _
-    (λ files h f. inr (same, net, trace, h.0.0, h.0.1, λ other items k l. subst (λ (n : Network). JournalFails files n items replay.journal cause) (sym (h.1 other k)) (f items)))
-    (told_both o (HoldsBoth replay net trace) (λ files. (other : Network) → HoldsNet files replay.net other → other ≡ net) _ (λ files a b. (a, b)) held one) fails
+    told_both o (λ files. HoldsBoth replay net trace files
+    × ((other : Network) → HoldsNet files replay.net other → other ≡ net))
+    (λ files. (items : List TraceItem) → JournalFails files net items replay.journal cause) _
+    (λ files h f. inr (
+      same,
+      net,
+      trace,
+      h.0.0,
+      h.0.1,
+      λ other items k l.
+          subst (λ (n : Network). JournalFails files n items replay.journal cause) (sym (h.1 other k))
+          (f items),
+    ))
+    (told_both o (HoldsBoth replay net trace) (λ files. (other : Network)
+    → HoldsNet files replay.net other → other ≡ net) _ (λ files a b. (a, b)) held one) fails
 
 -- one trace is held under a name
-one_trace : (files : Files) (name : List ℕ) (net : Network) (trace items : List TraceItem) → HoldsTrace files name net trace → HoldsTrace files name net items → items ≡ trace
+one_trace : (files : Files) (name : List ℕ) (net : Network) (trace items : List TraceItem)
+    → HoldsTrace files name net trace → HoldsTrace files name net items → items ≡ trace
 one_trace files name net trace items h k =
     let same = one_text (bytes_at files name) h.text k.text h.holds.held k.holds.held in
     let a = h.read in
-    let b : trace_of net h.text ≡ Ok items = subst (λ (t : List ℕ). trace_of net t ≡ Ok items) same k.read in
+    let b : trace_of net h.text ≡ Ok items =
+    subst (λ (t : List ℕ). trace_of net t ≡ Ok items) same k.read in
     cc
 
 -- the journal isn't legal, the three files being accepted
-pub illegal_fails : (o : Option Files) (replay : ReplayWords) (net : Network) (trace : List TraceItem) (journal : List Entry) (stamps : Option (List ℕ)) (name : List ℕ) (k : ℕ) → name ≡ replay.journal
-    → WhereTold o (HoldsBoth replay net trace) → WhereTold o (λ files. (other : Network) → HoldsNet files replay.net other → other ≡ net)
-    → WhereTold o (λ files. HoldsJournal files replay.journal net journal stamps) → FallsAt net trace journal stamps k
+pub illegal_fails : (o : Option Files) (replay : ReplayWords) (net : Network)
+    (trace : List TraceItem) (journal : List Entry) (stamps : Option (List ℕ)) (name : List ℕ)
+    (k : ℕ) → name ≡ replay.journal
+    → WhereTold o (HoldsBoth replay net trace)
+    → WhereTold o (λ files. (other : Network) → HoldsNet files replay.net other → other ≡ net)
+    → WhereTold o (λ files. HoldsJournal files replay.journal net journal stamps)
+    → FallsAt net trace journal stamps k
     → WhereTold o (λ files. FailsReplay replay files name (Unlawful k))
 illegal_fails o replay net trace journal stamps name k same held one holds fall =
-    told_both o (λ files. HoldsBoth replay net trace files × ((other : Network) → HoldsNet files replay.net other → other ≡ net)) (λ files. HoldsJournal files replay.journal net journal stamps) _
+    told_both o (λ files. HoldsBoth replay net trace files
+    × ((other : Network) → HoldsNet files replay.net other → other ≡ net))
+    (λ files. HoldsJournal files replay.journal net journal stamps) _
     (λ files h j. inr (
       same,
       net,
@@ -98,39 +136,69 @@ illegal_fails o replay net trace journal stamps name k same held one holds fall 
       h.0.0,
       h.0.1,
       λ other items n t.
-          subst (λ (m : Network). JournalFails files m items replay.journal (Unlawful k)) (sym (h.1 other n))
+          subst (λ (m : Network). JournalFails files m items replay.journal (Unlawful k))
+          (sym (h.1 other n))
           (subst (λ (xs : List TraceItem). JournalFails files net xs replay.journal (Unlawful k))
-          (sym (one_trace files replay.trace net trace items h.0.1 (subst (λ (m : Network). HoldsTrace files replay.trace m items) (h.1 other n) t)))
+          (sym (one_trace files replay.trace net trace items h.0.1
+          (subst (λ (m : Network). HoldsTrace files replay.trace m items) (h.1 other n) t)))
           (inr (j.text, j.holds, (journal, stamps, j.word, j.read, fall)))),
     ))
-    (told_both o (HoldsBoth replay net trace) (λ files. (other : Network) → HoldsNet files replay.net other → other ≡ net) _ (λ files a b. (a, b)) held one) holds
+    (told_both o (HoldsBoth replay net trace) (λ files. (other : Network)
+    → HoldsNet files replay.net other → other ≡ net) _ (λ files a b. (a, b)) held one) holds
 
 -- memory ran out over the journal
-pub journal_wants : (o : Option Files) (replay : ReplayWords) (net : Network) (trace : List TraceItem) (name : List ℕ) → name ≡ replay.journal
-    → WhereTold o (HoldsBoth replay net trace) → WhereTold o (λ files. (other : Network) → HoldsNet files replay.net other → other ≡ net)
+pub journal_wants : (o : Option Files) (replay : ReplayWords) (net : Network)
+    (trace : List TraceItem) (name : List ℕ) → name ≡ replay.journal
+    → WhereTold o (HoldsBoth replay net trace)
+    → WhereTold o (λ files. (other : Network) → HoldsNet files replay.net other → other ≡ net)
     → WhereTold o (λ files. FailsReplay replay files name Wanting)
 journal_wants o replay net trace name same held one =
-    journal_fails o replay net trace name Wanting same held one (told_always o _ (λ files items. inl tt))
+    journal_fails o replay net trace name Wanting same held one
+    (told_always o _ (λ files items. inl tt))
 
 -- a network or a trace that fails
-pub inputs_fail : (o : Option Files) (replay : ReplayWords) (name : List ℕ) (cause : Cause) → WhereTold o (λ files. InputsFail files replay.net replay.trace name cause)
+pub inputs_fail : (o : Option Files) (replay : ReplayWords) (name : List ℕ) (cause : Cause)
+    → WhereTold o (λ files. InputsFail files replay.net replay.trace name cause)
     → WhereTold o (λ files. FailsReplay replay files name cause)
-inputs_fail o replay name cause fails = told_from o (λ files. InputsFail files replay.net replay.trace name cause) _ (λ files h. inl h) fails
+inputs_fail o replay name cause fails =
+    told_from o (λ files. InputsFail files replay.net replay.trace name cause) _
+    (λ files h. inl h) fails
 
 -- the product of a replay
-pub makes_replay : (o : Option Files) (replay : ReplayWords) (net : Network) (trace : List TraceItem) (journal : List Entry) (complete : Bool) (product : Product)
-    → WhereTold o (λ files. IsJudged replay files net trace journal complete) → IsReplayProduct journal complete product → WhereTold o (λ files. MakesReplay replay files product)
+pub makes_replay : (o : Option Files) (replay : ReplayWords) (net : Network)
+    (trace : List TraceItem) (journal : List Entry) (complete : Bool) (product : Product)
+    → WhereTold o (λ files. IsJudged replay files net trace journal complete)
+    → IsReplayProduct journal complete product
+    → WhereTold o (λ files. MakesReplay replay files product)
 makes_replay o replay net trace journal complete product judged made =
     told_from o (λ files. IsJudged replay files net trace journal complete) _
-    (λ files h. record { net = net; trace = trace; journal = journal; complete = complete; judged = h; made = made }) judged
+    (λ files h. record {
+      net = net;
+      trace = trace;
+      journal = journal;
+      complete = complete;
+      judged = h;
+      made = made;
+    }) judged
 
 -- the product of a migration
-pub makes_migrate : (o : Option Files) (migrate : MigrateWords) (net : Network) (trace : List TraceItem) (journal : List Entry) (complete : Bool) (product : Product)
-    → WhereTold o (λ files. IsJudged migrate.replay files net trace journal complete) → IsMigrateProduct migrate net journal complete product
+pub makes_migrate : (o : Option Files) (migrate : MigrateWords) (net : Network)
+    (trace : List TraceItem) (journal : List Entry) (complete : Bool) (product : Product)
+    → WhereTold o (λ files. IsJudged migrate.replay files net trace journal complete)
+    → IsMigrateProduct migrate net journal complete product
     → WhereTold o (λ files. MakesMigrate migrate files product)
 makes_migrate o migrate net trace journal complete product judged made =
     told_from o (λ files. IsJudged migrate.replay files net trace journal complete) _
-    (λ files h. record { net = net; trace = trace; journal = journal; complete = complete; judged = h; made = made }) judged
+    (λ files h. record {
+      net = net;
+      trace = trace;
+      journal = journal;
+      complete = complete;
+      judged = h;
+      made = made;
+    }) judged
 
-pub migrate_well : (migrate : MigrateWords) (net : Network) (journal : List Entry) (complete : Bool) (product : Product) → IsMigrateProduct migrate net journal complete product → IsWell product
-migrate_well migrate net journal complete product p = record { end = ap is_end p.status; apart = subst AreApart (sym p.saves) (tt, tt) }
+pub migrate_well : (migrate : MigrateWords) (net : Network) (journal : List Entry) (complete : Bool)
+    (product : Product) → IsMigrateProduct migrate net journal complete product → IsWell product
+migrate_well migrate net journal complete product p =
+    record { end = ap is_end p.status; apart = subst AreApart (sym p.saves) (tt, tt) }

@@ -24,7 +24,8 @@ pub record IsConflictIn (net : Network) (machine : Machine) (printed : List ℕ)
 
 -- each machine before the place is deterministic
 abbrev pub AreBefore : Network → ℕ → Type 0
-AreBefore net place = (k : ℕ) (machine : Machine) → k < place → slice_get net.machines k ≡ Some machine → IsDeterministic machine
+AreBefore net place = (k : ℕ) (machine : Machine) → k < place
+    → slice_get net.machines k ≡ Some machine → IsDeterministic machine
 
 -- this is printed of the first machine that isn't deterministic
 pub record IsFirstConflict (net : Network) (printed : List ℕ) : Type 0 where

@@ -31,26 +31,33 @@ pub record HoldsNet (files : Files) (name : List ℕ) (net : Network) : Type 0 w
   pub accepted : Accepted text net
 
 -- a trace text of the network is held under the name, within its limit, and read
-pub record HoldsTrace (files : Files) (name : List ℕ) (net : Network) (trace : List TraceItem) : Type 0 where
+pub record HoldsTrace (files : Files) (name : List ℕ) (net : Network) (trace : List TraceItem) :
+    Type 0 where
   pub text : List ℕ
   pub holds : HoldsText files text_max name text
   pub read : trace_of net text ≡ Ok trace
 
--- Why a file isn't loaded: the load failed, nothing is held under the name, more than so many bytes are, or memory ran out.
+-- Why a file isn't loaded: the load failed, nothing is held under the name, more than so many bytes
+-- are, or memory ran out.
 abbrev pub LoadFails : Files → ℕ → List ℕ → Cause → Type 0
 LoadFails files max name Unread = ⊤
 LoadFails files max name Absent = bytes_at files name ≡ None
-LoadFails files max name TooLong = (text : List ℕ) × (bytes_at files name ≡ Some text) × (max < length text)
+LoadFails files max name TooLong =
+    (text : List ℕ) × (bytes_at files name ≡ Some text) × (max < length text)
 LoadFails files max name Wanting = ⊤
 LoadFails files max name other = ⊥
 
--- What a network text says where this is why it isn't accepted: its tokens don't read, they are no sentence, a rule is
--- broken, or rows of a machine conflict.
+-- What a network text says where this is why it isn't accepted: its tokens don't read, they are no
+-- sentence, a rule is broken, or rows of a machine conflict.
 abbrev pub IsNetFault : List ℕ → Cause → Type 0
 IsNetFault text (Lex kind place) = tokens_of text ≡ Err (lex_error kind place)
 IsNetFault text (Syntax place) = BreaksAt text place
-IsNetFault text (Rule rule place) = (raw : RawNet) × HasNet text raw × ((other : RawNet) → HasNet text other → Breaks other rule place)
-IsNetFault text (Conflict printed) = (net : Network) × NetOf text net × ((other : Network) → NetOf text other → IsFirstConflict other printed)
+IsNetFault text (Rule rule place) =
+    (raw : RawNet) × HasNet text raw
+    × ((other : RawNet) → HasNet text other → Breaks other rule place)
+IsNetFault text (Conflict printed) =
+    (net : Network) × NetOf text net
+    × ((other : Network) → NetOf text other → IsFirstConflict other printed)
 IsNetFault text Wanting = ⊤
 IsNetFault text other = ⊥
 
@@ -62,15 +69,27 @@ IsTraceFault net text other = ⊥
 
 -- why the network text of this name isn't loaded or isn't accepted
 abbrev pub NetFails : Files → List ℕ → Cause → Type 0
-NetFails files name cause = LoadFails files text_max name cause ⊎ ((text : List ℕ) × HoldsText files text_max name text × IsNetFault text cause)
+NetFails files name cause = LoadFails files text_max name cause
+    ⊎ ((text : List ℕ) × HoldsText files text_max name text × IsNetFault text cause)
 
 -- why the trace text of this name isn't loaded or isn't read as one of the network
 abbrev pub TraceFails : Files → Network → List ℕ → Cause → Type 0
-TraceFails files net name cause = LoadFails files text_max name cause ⊎ ((text : List ℕ) × HoldsText files text_max name text × IsTraceFault net text cause)
+TraceFails files net name cause = LoadFails files text_max name cause
+    ⊎ ((text : List ℕ) × HoldsText files text_max name text × IsTraceFault net text cause)
 
--- Why one of a network text and a trace text of it fails. The network text comes first: the trace is loaded only where it is
--- accepted.
+-- Why one of a network text and a trace text of it fails. The network text comes first: the trace
+-- is loaded only where it is accepted.
 abbrev pub InputsFail : Files → List ℕ → List ℕ → List ℕ → Cause → Type 0
 InputsFail files net_name trace_name name cause =
     ((name ≡ net_name) × NetFails files net_name cause)
-    ⊎ ((name ≡ trace_name) × (net : Network) × HoldsNet files net_name net × ((other : Network) → HoldsNet files net_name other → TraceFails files other trace_name cause))
+    ⊎ ((name ≡ trace_name) × (net : Network) × HoldsNet files net_name net
+    × ((other : Network) → HoldsNet files net_name other
+    → TraceFails files other trace_name cause))
+
+-- the network text of this name is held, within its limit, and accepted
+abbrev pub AcceptsNet : List ℕ → Files → Type 0
+AcceptsNet net_name files = (net : Network) × HoldsNet files net_name net
+
+-- why the file fails where a request has one, a network text of this name
+abbrev pub FailsNet : List ℕ → Files → List ℕ → Cause → Type 0
+FailsNet net_name files name cause = (name ≡ net_name) × NetFails files net_name cause

@@ -16,8 +16,10 @@ use Rattle.polis_cli.specs.Inputs.{HoldsText, LoadFails}
 abbrev pub journal_max : ℕ
 journal_max = 268435456
 
--- a journal text of the network is held under the name, within its limit, and read; whether its last word is `complete` isn't judged
-pub record HoldsJournal (files : Files) (name : List ℕ) (net : Network) (journal : List Entry) (stamps : Option (List ℕ)) : Type 0 where
+-- a journal text of the network is held under the name, within its limit, and read; whether its
+-- last word is `complete` isn't judged
+pub record HoldsJournal (files : Files) (name : List ℕ) (net : Network) (journal : List Entry)
+    (stamps : Option (List ℕ)) : Type 0 where
   pub text : List ℕ
   pub holds : HoldsText files journal_max name text
   pub word : Bool
@@ -35,15 +37,21 @@ FallsAt net trace journal stamps k =
     × Stands net trace (take k journal) (option_map (take k) stamps)
     × (¬ Stands net trace (take (k + 1) journal) (option_map (take (k + 1)) stamps))
 
--- What a journal text of the network says where this is why it isn't read, or where this is the first entry of its journal up to which
--- it isn't legal on the trace or its stamps aren't rising.
+-- What a journal text of the network says where this is why it isn't read, or where this is the
+-- first entry of its journal up to which it isn't legal on the trace or its stamps aren't rising.
 abbrev pub IsJournalFault : Network → List TraceItem → List ℕ → Cause → Type 0
-IsJournalFault net trace text (JournalLine line kind) = read_of net text ≡ Err (FaultyLine line kind)
+IsJournalFault net trace text (JournalLine line kind) =
+    read_of net text ≡ Err (FaultyLine line kind)
 IsJournalFault net trace text (Illegal k) =
-    (journal : List Entry) × (stamps : Option (List ℕ)) × (word : Bool) × (read_of net text ≡ Ok (journal, stamps, word)) × FallsAt net trace journal stamps k
+    (journal : List Entry) × (stamps : Option (List ℕ)) × (word : Bool)
+    × (read_of net text ≡ Ok (journal, stamps, word)) × FallsAt net trace journal stamps k
 IsJournalFault net trace text Wanting = ⊤
 IsJournalFault net trace text other = ⊥
 
--- why the journal text of this name isn't loaded, isn't read as one of the network, or isn't legal on the trace
+-- why the journal text of this name isn't loaded, isn't read as one of the network, or isn't legal
+-- on the trace
 abbrev pub JournalFails : Files → Network → List TraceItem → List ℕ → Cause → Type 0
-JournalFails files net trace name cause = LoadFails files journal_max name cause ⊎ ((text : List ℕ) × HoldsText files journal_max name text × IsJournalFault net trace text cause)
+JournalFails files net trace name cause =
+    LoadFails files journal_max name cause
+    ⊎ ((text : List ℕ) × HoldsText files journal_max name text
+    × IsJournalFault net trace text cause)

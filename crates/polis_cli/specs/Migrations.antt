@@ -15,10 +15,15 @@ use Rattle.polis_cli.specs.Replays.{IsJudged}
 
 -- the one save of a migration: the journal with its least stamps
 abbrev pub migrate_saves : MigrateWords → Network → List Entry → Bool → List Save
-migrate_saves migrate net journal complete = record { name = migrated_name migrate; text = stamped_journal_text net journal (least net journal) complete } ∷ []
+migrate_saves migrate net journal complete =
+    record {
+      name = migrated_name migrate;
+      text = stamped_journal_text net journal (least net journal) complete;
+    } ∷ []
 
 -- the product saves the journal with its least stamps, and shows how long it is
-pub record IsMigrateProduct (migrate : MigrateWords) (net : Network) (journal : List Entry) (complete : Bool) (product : Product) : Type 0 where
+pub record IsMigrateProduct (migrate : MigrateWords) (net : Network) (journal : List Entry)
+    (complete : Bool) (product : Product) : Type 0 where
   pub status : product.status ≡ Done
   pub saves : product.saves ≡ migrate_saves migrate net journal complete
   pub shown : product.shown ≡ migrated_text (length journal)

@@ -17,20 +17,24 @@ use Rattle.polis_cli.specs.Inputs.{HoldsNet, HoldsTrace, InputsFail}
 use Rattle.polis_cli.specs.JournalFiles.{HoldsJournal, JournalFails, Stands, FallsAt}
 
 -- what the three files hold
-pub record HoldsReplay (replay : ReplayWords) (files : Files) (net : Network) (trace : List TraceItem) (journal : List Entry) (stamps : Option (List ℕ)) : Type 0 where
+pub record HoldsReplay (replay : ReplayWords) (files : Files) (net : Network)
+    (trace : List TraceItem) (journal : List Entry) (stamps : Option (List ℕ)) : Type 0 where
   pub holds_net : HoldsNet files replay.net net
   pub holds_trace : HoldsTrace files replay.trace net trace
   pub holds_journal : HoldsJournal files replay.journal net journal stamps
 
--- The files hold a journal that is legal on the trace, with rising stamps where it has any, and this is whether it is complete.
-pub record IsJudged (replay : ReplayWords) (files : Files) (net : Network) (trace : List TraceItem) (journal : List Entry) (complete : Bool) : Type 0 where
+-- The files hold a journal that is legal on the trace, with rising stamps where it has any, and
+-- this is whether it is complete.
+pub record IsJudged (replay : ReplayWords) (files : Files) (net : Network) (trace : List TraceItem)
+    (journal : List Entry) (complete : Bool) : Type 0 where
   pub stamps : Option (List ℕ)
   pub holds : HoldsReplay replay files net trace journal stamps
   pub stands : Stands net trace journal stamps
   pub ends : IsTrue complete ↔ Complete net trace journal
 
 -- the product saves nothing, and shows how long the journal is and whether it is complete
-pub record IsReplayProduct (journal : List Entry) (complete : Bool) (product : Product) : Type 0 where
+pub record IsReplayProduct (journal : List Entry) (complete : Bool) (product : Product) :
+    Type 0 where
   pub status : product.status ≡ Done
   pub saves : product.saves ≡ []
   pub shown : product.shown ≡ legal_text (length journal) complete
@@ -46,19 +50,27 @@ pub record MakesReplay (replay : ReplayWords) (files : Files) (product : Product
 
 -- each file is held, within its limit, and accepted
 abbrev pub AcceptsReplay : ReplayWords → Files → Type 0
-AcceptsReplay replay files = (net : Network) × (trace : List TraceItem) × (journal : List Entry) × (stamps : Option (List ℕ)) × HoldsReplay replay files net trace journal stamps
+AcceptsReplay replay files = (net : Network) × (trace : List TraceItem) × (journal : List Entry)
+    × (stamps : Option (List ℕ)) × HoldsReplay replay files net trace journal stamps
 
--- The files are accepted, and the journal that they hold isn't legal on the trace, or it has stamps and they aren't rising.
+-- The files are accepted, and the journal that they hold isn't legal on the trace, or it has stamps
+-- and they aren't rising.
 pub record IsIllegalReplay (replay : ReplayWords) (files : Files) : Type 0 where
   pub accepted : AcceptsReplay replay files
-  pub falls : (net : Network) (trace : List TraceItem) (journal : List Entry) (stamps : Option (List ℕ)) → HoldsReplay replay files net trace journal stamps → ¬ Stands net trace journal stamps
+  pub falls : (net : Network) (trace : List TraceItem) (journal : List Entry)
+      (stamps : Option (List ℕ)) → HoldsReplay replay files net trace journal stamps
+      → ¬ Stands net trace journal stamps
 
--- Why a file of a replay fails: the network or the trace does, or both are accepted and the journal does.
+-- Why a file of a replay fails: the network or the trace does, or both are accepted and the journal
+-- does.
 abbrev pub FailsReplay : ReplayWords → Files → List ℕ → Cause → Type 0
 FailsReplay replay files name cause =
     InputsFail files replay.net replay.trace name cause
-    ⊎ ((name ≡ replay.journal) × (net : Network) × (trace : List TraceItem) × HoldsNet files replay.net net × HoldsTrace files replay.trace net trace
-    × ((other : Network) (items : List TraceItem) → HoldsNet files replay.net other → HoldsTrace files replay.trace other items → JournalFails files other items replay.journal cause))
+    ⊎ ((name ≡ replay.journal) × (net : Network) × (trace : List TraceItem)
+    × HoldsNet files replay.net net × HoldsTrace files replay.trace net trace
+    × ((other : Network) (items : List TraceItem) → HoldsNet files replay.net other
+    → HoldsTrace files replay.trace other items
+    → JournalFails files other items replay.journal cause))
 
 -- the statuses of a request that judges a journal, where its files are accepted
 abbrev pub ends_judged : Status → Bool
@@ -66,7 +78,9 @@ ends_judged Done = true
 ends_judged Illegal = true
 ends_judged other = false
 
--- what is found of a journal: it stands, and is complete or not; or the first entry up to which it doesn't stand
+-- what is found of a journal: it stands, and is complete or not; or the first entry up to which it
+-- doesn't stand
 abbrev pub IsFound : Network → List TraceItem → List Entry → Option (List ℕ) → Verdict → Type 0
-IsFound net trace journal stamps (IsLegal complete) = Stands net trace journal stamps × (IsTrue complete ↔ Complete net trace journal)
+IsFound net trace journal stamps (IsLegal complete) =
+    Stands net trace journal stamps × (IsTrue complete ↔ Complete net trace journal)
 IsFound net trace journal stamps (IsIllegal k) = FallsAt net trace journal stamps k

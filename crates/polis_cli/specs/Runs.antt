@@ -1,5 +1,5 @@
 -- What `run` makes.
-use Rattle.std.specs.Prelude.{◌≡◌, ◌↔◌, ℕ, ◌≤◌, Bool, true, false, List, [], ◌∷◌, length, IsTrue}
+use Rattle.std.specs.Prelude.{◌≡◌, ◌↔◌, ℕ, ◌≤◌, Bool, true, false, List, [], ◌∷◌, ◌++◌, length, IsTrue}
 use Rattle.polis_base.specs.Host.{Files}
 use Rattle.transition_table.specs.declared.network.Network.{Network}
 use Rattle.journals.specs.declared.entry.Entry.{Entry}
@@ -10,10 +10,13 @@ use Rattle.journals.specs.Stamps.{least}
 use Rattle.polis_words.specs.declared.cause.Cause.{Cause}
 use Rattle.polis_words.specs.declared.status.Status.{Status}
 use Rattle.polis_words.specs.declared.status.Status.TheVariants.{Done, Limit}
-use Rattle.polis_words.specs.Run.{RunWords, entry_max, out_name, journal_name}
+use Rattle.polis_words.specs.Run.{RunWords, entry_max, out_name, journal_name, listing_name}
 use Rattle.polis_words.specs.Texts.{summary_text}
 use Rattle.journal_text.specs.Holding.{names_hold}
 use Rattle.journal_text.specs.Texts.{stamped_journal_text, output_text}
+use Rattle.task_code.specs.Listings.{Part, ListingText}
+use Rattle.machine_compiler.specs.Parts.{AreRight}
+use Rattle.machine_compiler.specs.Lines.{tries_text}
 use Rattle.polis_cli.specs.declared.product.Product.{Product}
 use Rattle.polis_cli.specs.Saves.{Save}
 use Rattle.polis_cli.specs.Inputs.{HoldsNet, HoldsTrace, InputsFail}
@@ -21,28 +24,39 @@ use Rattle.polis_cli.specs.Inputs.{HoldsNet, HoldsTrace, InputsFail}
 -- how a run ends: with a complete journal, or with one at the limit that isn't
 abbrev pub Ends : Status → Network → List TraceItem → List Entry → ℕ → Bool → Type 0
 Ends Done net trace journal limit complete = (complete ≡ true) × Complete net trace journal
-Ends Limit net trace journal limit complete = (complete ≡ false) × (length journal ≡ limit) × (¬ Complete net trace journal)
+Ends Limit net trace journal limit complete =
+    (complete ≡ false) × (length journal ≡ limit) × (¬ Complete net trace journal)
 Ends other net trace journal limit complete = ⊥
 
 -- The saves of a run, in their order.
-abbrev pub run_saves : RunWords → Network → List Entry → Bool → List Save
-run_saves run net journal complete =
+abbrev pub run_saves : RunWords → Network → List Entry → Bool → List Part → List Save
+run_saves run net journal complete parts =
     record { name = out_name run; text = output_text net journal }
-    ∷ record { name = journal_name run; text = stamped_journal_text net journal (least net journal) complete } ∷ []
+    ∷ record {
+      name = journal_name run;
+      text = stamped_journal_text net journal (least net journal) complete;
+    }
+    ∷ record { name = listing_name run; text = ListingText net parts } ∷ []
 
--- The product's journal is what the scheduler makes of the network and the trace within the limit: a legal run of the network
--- on the trace. The product is that journal's outputs, its text with its least stamps, and its summary. The names of the network are such that
--- this text reads back, so the product's texts determine the journal.
-pub record IsRunProduct (run : RunWords) (net : Network) (trace : List TraceItem) (product : Product) : Type 0 where
+-- The product's journal is what the scheduler makes of the network and the trace within the limit:
+-- a legal run of the network on the trace. The product is that journal's outputs, its text with its
+-- least stamps, and its summary. Each machine was compiled rightly; the product has the listing of
+-- what was compiled, and for each machine how often it was tried and how many instructions its code
+-- takes for that. The names of the network are such that the journal's text reads back, so the
+-- product's texts determine the journal and the compiled machines.
+pub record IsRunProduct (run : RunWords) (net : Network) (trace : List TraceItem)
+    (product : Product) : Type 0 where
   pub journal : List Entry
   pub complete : Bool
+  pub parts : List Part
   pub named : IsTrue (names_hold net)
+  pub right : AreRight net parts
   pub within : length journal ≤ run.limit
   pub legal : Legal net trace journal
   pub scheduled : IsSchedule net trace run.limit journal
   pub ends : Ends product.status net trace journal run.limit complete
-  pub saves : product.saves ≡ run_saves run net journal complete
-  pub shown : product.shown ≡ summary_text net journal complete 0 0
+  pub saves : product.saves ≡ run_saves run net journal complete parts
+  pub shown : product.shown ≡ summary_text net journal complete 0 0 ++ tries_text net parts journal
 
 -- the files hold a network and a trace that are accepted, and the product is that of their run
 pub record MakesRun (run : RunWords) (files : Files) (product : Product) : Type 0 where
@@ -54,7 +68,8 @@ pub record MakesRun (run : RunWords) (files : Files) (product : Product) : Type 
 
 -- both files are held, within their limits, and accepted
 abbrev pub AcceptsRun : RunWords → Files → Type 0
-AcceptsRun run files = (net : Network) × HoldsNet files run.net net × ((trace : List TraceItem) × HoldsTrace files run.trace net trace)
+AcceptsRun run files = (net : Network) × HoldsNet files run.net net
+    × ((trace : List TraceItem) × HoldsTrace files run.trace net trace)
 
 -- why a file of a run fails
 abbrev pub FailsRun : RunWords → Files → List ℕ → Cause → Type 0
@@ -66,8 +81,10 @@ ends_run Done = true
 ends_run Limit = true
 ends_run other = false
 
--- the scheduler's journal of at most so many entries, with whether it is complete; where it isn't it has that many
-pub record IsFinished (net : Network) (trace : List TraceItem) (limit : ℕ) (journal : List Entry) (complete : Bool) : Type 0 where
+-- the scheduler's journal of at most so many entries, with whether it is complete; where it isn't
+-- it has that many
+pub record IsFinished (net : Network) (trace : List TraceItem) (limit : ℕ) (journal : List Entry)
+    (complete : Bool) : Type 0 where
   pub within : length journal ≤ limit
   pub legal : Legal net trace journal
   pub scheduled : IsSchedule net trace limit journal
@@ -79,8 +96,11 @@ abbrev pub end_status : Bool → Status
 end_status true = Done
 end_status false = Limit
 
--- Two products of runs that save the same texts are of one journal, with the same last word. The names of the network are names, as its types keep them.
-abbrev pub SavesDetermineJournal : Type 0
-SavesDetermineJournal =
-    (run : RunWords) (net : Network) (trace : List TraceItem) (p q : Product) (a : IsRunProduct run net trace p) (b : IsRunProduct run net trace q)
-    → run.limit ≤ entry_max → p.saves ≡ q.saves → (a.journal ≡ b.journal) × (a.complete ≡ b.complete)
+-- Two products of runs that save the same texts are of one journal, with the same last word, and of
+-- the same compiled machines. The names of the network are names, as its types keep them.
+abbrev pub SavesDetermineRun : Type 0
+SavesDetermineRun =
+    (run : RunWords) (net : Network) (trace : List TraceItem) (p q : Product)
+    (a : IsRunProduct run net trace p) (b : IsRunProduct run net trace q)
+    → run.limit ≤ entry_max → p.saves ≡ q.saves
+    → (a.journal ≡ b.journal) × (a.complete ≡ b.complete) × (a.parts ≡ b.parts)

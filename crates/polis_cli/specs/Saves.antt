@@ -14,7 +14,8 @@ files_after files saves = fold (λ held save. insert held save.name save.text) f
 
 -- after the first ones of these saves the others weren't made
 abbrev pub MadeSome : List Save → Files → Files → Type 0
-MadeSome saves before now = (first rest : List Save) × (saves ≡ first ++ rest) × (now ≡ files_after before first)
+MadeSome saves before now = (first rest : List Save) × (saves ≡ first ++ rest)
+    × (now ≡ files_after before first)
 
 -- the name is none of those of the saves
 abbrev pub IsOther : List ℕ → List Save → Type 0

@@ -13,26 +13,31 @@ use Rattle.polis_cli.specs.Saves.{IsOther, AreHeld, MadeSome}
 use Rattle.polis_cli.specs.Shown.{ShowsPrefix}
 use Rattle.polis_cli.specs.Writing.{FailsToWrite}
 
--- A product was made of the files and written: each of its texts is held under its name, every other name holds what it held,
--- and its text was shown.
-pub record MadeAndWritten (status : Status) (words : List (List ℕ)) (before now : Files) (shown_before shown_now : Option (List ℕ)) : Type 0 where
+-- A product was made of the files and written: each of its texts is held under its name, every
+-- other name holds what it held, and its text was shown.
+pub record MadeAndWritten (status : Status) (words : List (List ℕ)) (before now : Files)
+    (shown_before shown_now : Option (List ℕ)) : Type 0 where
   pub request : Request
   pub asked : Asks words request
   pub product : Product
   pub made : Makes request before product
   pub ends : status ≡ product.status
   pub saved : AreHeld now product.saves
-  pub other_names : (name : List ℕ) → IsOther name product.saves → bytes_at now name ≡ bytes_at before name
+  pub other_names : (name : List ℕ) → IsOther name product.saves
+      → bytes_at now name ≡ bytes_at before name
   pub shown : Changes shown_before shown_now (λ old new. new ≡ old ++ product.shown)
 
--- What stands where memory ran out: the files as they were, or some of the saves of one product, from the first on in order.
+-- What stands where memory ran out: the files as they were, or some of the saves of one product,
+-- from the first on in order.
 abbrev pub Stands : List (List ℕ) → Files → Files → Type 0
 Stands words before now =
     (now ≡ before)
-    ⊎ ((request : Request) × (product : Product) × Asks words request × Makes request before product × MadeSome product.saves before now)
+    ⊎ ((request : Request) × (product : Product) × Asks words request × Makes request before product
+    × MadeSome product.saves before now)
 
 -- One product was made of what the files held, and writing it failed.
-pub record LeavesUnwritten (words : List (List ℕ)) (rose : Type 0) (before now : Option Files) (shown_before shown_now : Option (List ℕ)) : Type 0 where
+pub record LeavesUnwritten (words : List (List ℕ)) (rose : Type 0) (before now : Option Files)
+    (shown_before shown_now : Option (List ℕ)) : Type 0 where
   pub request : Request
   pub asked : Asks words request
   pub product : Product
@@ -48,8 +53,10 @@ is_refusal Illegal = true
 is_refusal Differ = true
 is_refusal other = false
 
--- the line is that of a file that isn't read or isn't accepted, or whose journal isn't legal, with this status, and the files say so
-pub record HasCause (status : Status) (words : List (List ℕ)) (before : Option Files) (line : List ℕ) : Type 0 where
+-- the line is that of a file that isn't read or isn't accepted, or whose journal isn't legal, with
+-- this status, and the files say so
+pub record HasCause (status : Status) (words : List (List ℕ)) (before : Option Files)
+    (line : List ℕ) : Type 0 where
   pub request : Request
   pub asked : Asks words request
   pub name : List ℕ
@@ -69,4 +76,5 @@ IsLineOf other words before line = ⊥
 
 -- the line of the status was shown, or a prefix of it
 abbrev pub ShowsLine : Status → List (List ℕ) → Option Files → Type 0 → List ℕ → List ℕ → Type 0
-ShowsLine status words before rose old new = (line : List ℕ) × IsLineOf status words before line × ShowsPrefix (line ++ 10 ∷ []) rose old new
+ShowsLine status words before rose old new =
+    (line : List ℕ) × IsLineOf status words before line × ShowsPrefix (line ++ 10 ∷ []) rose old new

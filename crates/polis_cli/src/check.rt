@@ -3,7 +3,8 @@ ghost use Rattle.std.specs.Prelude.{◌≡◌, ◌≢◌, IfOk, IfErr, OnOk};
 ghost use Rattle.polis_base.specs.Host.{Rose, WhereTold};
 ghost use Rattle.polis_words.specs.declared.cause.Cause.{Cause};
 ghost use Rattle.polis_cli.specs.Writing.{IsWell};
-ghost use Rattle.polis_cli.specs.Checks.{MakesCheck, FailsCheck};
+ghost use Rattle.polis_cli.specs.Inputs.{FailsNet};
+ghost use Rattle.polis_cli.specs.Checks.{MakesCheck};
 
 use crate::load::load_net;
 use crate::product::Product;
@@ -17,12 +18,17 @@ pub fn make_check<'a, H: Host>(
     host: &mut H,
     check: &'a Check<'_>,
 ) -> Result<Product, Failure<'a>>
-    ensures made { IfOk result (λ product. WhereTold (H.files host.old) (λ files. MakesCheck check.now files product)) }
+    ensures made { IfOk result (λ product.
+        WhereTold (H.files host.old) (λ files. MakesCheck check.now files product)) }
     ensures well { IfOk result (λ product. IsWell product) }
-    ensures failed { IfErr result (λ failure. WhereTold (H.files host.old) (λ files. FailsCheck check.now files failure.name.now failure.cause)) }
+    ensures failed { IfErr result (λ failure.
+        WhereTold (H.files host.old) (λ files.
+        FailsNet check.now.net files failure.name.now failure.cause)) }
     ensures ok_faults { OnOk result (H.load_faults host.new ≡ H.load_faults host.old) }
-    ensures fault { IfErr result (λ failure. failure.cause ≡ Cause.ReadFault → Rose (H.load_faults host.old) (H.load_faults host.new)) }
-    ensures no_fault { IfErr result (λ failure. failure.cause ≢ Cause.ReadFault → H.load_faults host.new ≡ H.load_faults host.old) }
+    ensures fault { IfErr result (λ failure. failure.cause ≡ Cause.ReadFault
+        → Rose (H.load_faults host.old) (H.load_faults host.new)) }
+    ensures no_fault { IfErr result (λ failure. failure.cause ≢ Cause.ReadFault
+        → H.load_faults host.new ≡ H.load_faults host.old) }
     ensures files { H.files host.new ≡ H.files host.old }
     ensures shown { H.shown host.new ≡ H.shown host.old }
     ensures write_faults { H.write_faults host.new ≡ H.write_faults host.old }

@@ -30,13 +30,22 @@ pub fn load_inputs<'a, H: Host>(
     net_name: &'a str,
     trace_name: &'a str,
 ) -> Result<Inputs, Failure<'a>>
-    ensures held { IfOk result (λ inputs. WhereTold (H.files host.old) (λ files. HoldsNet files net_name.now inputs.net × HoldsTrace files trace_name.now inputs.net inputs.trace)) }
-    ensures one { IfOk result (λ inputs. WhereTold (H.files host.old) (λ files. (other : Network) → HoldsNet files net_name.now other → other ≡ inputs.net)) }
-    ensures fits { IfOk result (λ inputs. IsTrace inputs.net inputs.trace × AreDeterministic inputs.net) }
-    ensures failed { IfErr result (λ failure. WhereTold (H.files host.old) (λ files. InputsFail files net_name.now trace_name.now failure.name.now failure.cause)) }
+    ensures held { IfOk result (λ inputs.
+        WhereTold (H.files host.old) (λ files. HoldsNet files net_name.now inputs.net
+        × HoldsTrace files trace_name.now inputs.net inputs.trace)) }
+    ensures one { IfOk result (λ inputs.
+        WhereTold (H.files host.old) (λ files. (other : Network) → HoldsNet files net_name.now other
+        → other ≡ inputs.net)) }
+    ensures fits { IfOk result (λ inputs. IsTrace inputs.net inputs.trace
+        × AreDeterministic inputs.net) }
+    ensures failed { IfErr result (λ failure.
+        WhereTold (H.files host.old) (λ files.
+        InputsFail files net_name.now trace_name.now failure.name.now failure.cause)) }
     ensures ok_faults { OnOk result (H.load_faults host.new ≡ H.load_faults host.old) }
-    ensures fault { IfErr result (λ failure. failure.cause ≡ Cause.ReadFault → Rose (H.load_faults host.old) (H.load_faults host.new)) }
-    ensures no_fault { IfErr result (λ failure. failure.cause ≢ Cause.ReadFault → H.load_faults host.new ≡ H.load_faults host.old) }
+    ensures fault { IfErr result (λ failure. failure.cause ≡ Cause.ReadFault
+        → Rose (H.load_faults host.old) (H.load_faults host.new)) }
+    ensures no_fault { IfErr result (λ failure. failure.cause ≢ Cause.ReadFault
+        → H.load_faults host.new ≡ H.load_faults host.old) }
     ensures files { H.files host.new ≡ H.files host.old }
     ensures shown { H.shown host.new ≡ H.shown host.old }
     ensures write_faults { H.write_faults host.new ≡ H.write_faults host.old }

@@ -27,11 +27,15 @@ pub const JOURNAL_MAX: u64 = 268435456;
 
 // Loads a file whole.
 fn load_text<H: Host>(alloc: Global, host: &mut H, name: &str, max: u64) -> Result<Bytes, Cause>
-    ensures held { IfOk result (λ text. WhereTold (H.files host.old) (λ files. HoldsText files max name.now text)) }
-    ensures failed { IfErr result (λ cause. WhereTold (H.files host.old) (λ files. LoadFails files max name.now cause)) }
+    ensures held { IfOk result (λ text.
+        WhereTold (H.files host.old) (λ files. HoldsText files max name.now text)) }
+    ensures failed { IfErr result (λ cause.
+        WhereTold (H.files host.old) (λ files. LoadFails files max name.now cause)) }
     ensures ok_faults { OnOk result (H.load_faults host.new ≡ H.load_faults host.old) }
-    ensures fault { result ≡ Err Cause.ReadFault → Rose (H.load_faults host.old) (H.load_faults host.new) }
-    ensures no_fault { result ≢ Err Cause.ReadFault → H.load_faults host.new ≡ H.load_faults host.old }
+    ensures fault { result ≡ Err Cause.ReadFault
+        → Rose (H.load_faults host.old) (H.load_faults host.new) }
+    ensures no_fault { result ≢ Err Cause.ReadFault
+        → H.load_faults host.new ≡ H.load_faults host.old }
     ensures files { H.files host.new ≡ H.files host.old }
     ensures shown { H.shown host.new ≡ H.shown host.old }
     ensures write_faults { H.write_faults host.new ≡ H.write_faults host.old }
@@ -48,13 +52,19 @@ fn load_text<H: Host>(alloc: Global, host: &mut H, name: &str, max: u64) -> Resu
 
 /// Loads and reads a network text.
 pub fn load_net<H: Host>(alloc: Global, host: &mut H, name: &str) -> Result<Network, Cause>
-    ensures held { IfOk result (λ net. WhereTold (H.files host.old) (λ files. HoldsNet files name.now net)) }
-    ensures one { IfOk result (λ net. WhereTold (H.files host.old) (λ files. (other : Network) → HoldsNet files name.now other → other ≡ net)) }
+    ensures held { IfOk result (λ net.
+        WhereTold (H.files host.old) (λ files. HoldsNet files name.now net)) }
+    ensures one { IfOk result
+        (λ net. WhereTold (H.files host.old) (λ files. (other : Network)
+        → HoldsNet files name.now other → other ≡ net)) }
     ensures deterministic { IfOk result (λ net. AreDeterministic net) }
-    ensures failed { IfErr result (λ cause. WhereTold (H.files host.old) (λ files. NetFails files name.now cause)) }
+    ensures failed { IfErr result (λ cause.
+        WhereTold (H.files host.old) (λ files. NetFails files name.now cause)) }
     ensures ok_faults { OnOk result (H.load_faults host.new ≡ H.load_faults host.old) }
-    ensures fault { result ≡ Err Cause.ReadFault → Rose (H.load_faults host.old) (H.load_faults host.new) }
-    ensures no_fault { result ≢ Err Cause.ReadFault → H.load_faults host.new ≡ H.load_faults host.old }
+    ensures fault { result ≡ Err Cause.ReadFault
+        → Rose (H.load_faults host.old) (H.load_faults host.new) }
+    ensures no_fault { result ≢ Err Cause.ReadFault
+        → H.load_faults host.new ≡ H.load_faults host.old }
     ensures files { H.files host.new ≡ H.files host.old }
     ensures shown { H.shown host.new ≡ H.shown host.old }
     ensures write_faults { H.write_faults host.new ≡ H.write_faults host.old }
@@ -76,12 +86,16 @@ pub fn load_trace<H: Host>(
     net: &Network,
     name: &str,
 ) -> Result<Trace, Cause>
-    ensures held { IfOk result (λ trace. WhereTold (H.files host.old) (λ files. HoldsTrace files name.now net.now trace)) }
+    ensures held { IfOk result (λ trace.
+        WhereTold (H.files host.old) (λ files. HoldsTrace files name.now net.now trace)) }
     ensures fits { IfOk result (λ trace. IsTrace net.now trace) }
-    ensures failed { IfErr result (λ cause. WhereTold (H.files host.old) (λ files. TraceFails files net.now name.now cause)) }
+    ensures failed { IfErr result (λ cause.
+        WhereTold (H.files host.old) (λ files. TraceFails files net.now name.now cause)) }
     ensures ok_faults { OnOk result (H.load_faults host.new ≡ H.load_faults host.old) }
-    ensures fault { result ≡ Err Cause.ReadFault → Rose (H.load_faults host.old) (H.load_faults host.new) }
-    ensures no_fault { result ≢ Err Cause.ReadFault → H.load_faults host.new ≡ H.load_faults host.old }
+    ensures fault { result ≡ Err Cause.ReadFault
+        → Rose (H.load_faults host.old) (H.load_faults host.new) }
+    ensures no_fault { result ≢ Err Cause.ReadFault
+        → H.load_faults host.new ≡ H.load_faults host.old }
     ensures files { H.files host.new ≡ H.files host.old }
     ensures shown { H.shown host.new ≡ H.shown host.old }
     ensures write_faults { H.write_faults host.new ≡ H.write_faults host.old }
@@ -104,14 +118,20 @@ pub fn load_journal<H: Host>(
     net: &Network,
     name: &str,
 ) -> Result<ReadJournal, Cause>
-    ensures held { IfOk result (λ read. WhereTold (H.files host.old) (λ files. HoldsJournal files name.now net.now read.journal read.stamps)) }
+    ensures held { IfOk result (λ read.
+        WhereTold (H.files host.old) (λ files.
+        HoldsJournal files name.now net.now read.journal read.stamps)) }
     ensures fits { IfOk result (λ read. IsJournal net.now read.journal) }
     ensures few { IfOk result (λ read. length read.journal ≤ 60000) }
     ensures stamps { IfOk result (λ read. IfSome read.stamps (AreStamps read.journal)) }
-    ensures failed { IfErr result (λ cause. WhereTold (H.files host.old) (λ files. (trace : List TraceItem) → JournalFails files net.now trace name.now cause)) }
+    ensures failed { IfErr result (λ cause.
+        WhereTold (H.files host.old) (λ files. (trace : List TraceItem)
+        → JournalFails files net.now trace name.now cause)) }
     ensures ok_faults { OnOk result (H.load_faults host.new ≡ H.load_faults host.old) }
-    ensures fault { result ≡ Err Cause.ReadFault → Rose (H.load_faults host.old) (H.load_faults host.new) }
-    ensures no_fault { result ≢ Err Cause.ReadFault → H.load_faults host.new ≡ H.load_faults host.old }
+    ensures fault { result ≡ Err Cause.ReadFault
+        → Rose (H.load_faults host.old) (H.load_faults host.new) }
+    ensures no_fault { result ≢ Err Cause.ReadFault
+        → H.load_faults host.new ≡ H.load_faults host.old }
     ensures files { H.files host.new ≡ H.files host.old }
     ensures shown { H.shown host.new ≡ H.shown host.old }
     ensures write_faults { H.write_faults host.new ≡ H.write_faults host.old }

@@ -3,11 +3,13 @@
 
 mod accept;
 mod check;
+mod compile;
 mod inputs;
 mod law;
 mod load;
 mod migrate;
 mod product;
+mod react;
 mod replay;
 mod run;
 mod show;
@@ -19,6 +21,7 @@ mod worked;
 mod write;
 
 use crate::top::polis;
+pub use machine_compiler::{Compiled, compile_machine};
 use polis_base::{Host, NoMemory, Save, StdHost, Words};
 use polis_words::Status;
 use std::io::ErrorKind;
@@ -27,10 +30,14 @@ use std::{env, io};
 
 const HELP: &[u8] = b"polis run NET TRACE STEM [--limit N]
     runs the network text NET on the trace text TRACE, saves the output events as
-    STEM.out and the journal as STEM.jnl, and shows a summary; N is the most entries
-    of the journal, from 1 to 60000, and 60000 without the option
+    STEM.out, the journal as STEM.jnl and the listing of the compiled machines as
+    STEM.lst, and shows a summary; N is the most entries of the journal, from 1 to
+    60000, and 60000 without the option
 polis check NET
     says whether the network text NET is accepted, and shows how large it is
+polis compile NET STEM
+    compiles the machines of the network text NET, saves their listing as STEM.lst,
+    and shows how long their graphs and their code are
 polis replay NET TRACE JOURNAL
     says whether the journal text JOURNAL is a legal run of NET on TRACE, with rising
     stamps where it has any, and whether it is complete

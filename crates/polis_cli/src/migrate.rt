@@ -18,7 +18,9 @@ use std::alloc::Global;
 fn migrate_product(alloc: Global, asked: &Migrate<'_>, judged: &Judged) -> Result<Product, NoMemory>
     requires legal { Legal judged.now.inputs.net judged.now.inputs.trace judged.now.read.journal }
     requires few { length judged.now.read.journal ≤ 60000 }
-    ensures { IfOk result (λ product. IsMigrateProduct asked.now judged.now.inputs.net judged.now.read.journal judged.now.complete product) }
+    ensures { IfOk result
+        (λ product. IsMigrateProduct asked.now judged.now.inputs.net judged.now.read.journal
+        judged.now.complete product) }
 {
     let text = stamped_text(alloc, &judged.inputs, &judged.read.journal, judged.complete)?;
     let shown = print_migrated(alloc, judged.read.journal.len())?;
@@ -38,12 +40,17 @@ pub fn make_migrate<'a, H: Host>(
     host: &mut H,
     asked: &'a Migrate<'_>,
 ) -> Result<Product, Failure<'a>>
-    ensures made { IfOk result (λ product. WhereTold (H.files host.old) (λ files. MakesMigrate asked.now files product)) }
+    ensures made { IfOk result (λ product.
+        WhereTold (H.files host.old) (λ files. MakesMigrate asked.now files product)) }
     ensures well { IfOk result (λ product. IsWell product) }
-    ensures failed { IfErr result (λ failure. WhereTold (H.files host.old) (λ files. FailsReplay asked.now.replay files failure.name.now failure.cause)) }
+    ensures failed { IfErr result (λ failure.
+        WhereTold (H.files host.old) (λ files.
+        FailsReplay asked.now.replay files failure.name.now failure.cause)) }
     ensures ok_faults { OnOk result (H.load_faults host.new ≡ H.load_faults host.old) }
-    ensures fault { IfErr result (λ failure. failure.cause ≡ Cause.ReadFault → Rose (H.load_faults host.old) (H.load_faults host.new)) }
-    ensures no_fault { IfErr result (λ failure. failure.cause ≢ Cause.ReadFault → H.load_faults host.new ≡ H.load_faults host.old) }
+    ensures fault { IfErr result (λ failure. failure.cause ≡ Cause.ReadFault
+        → Rose (H.load_faults host.old) (H.load_faults host.new)) }
+    ensures no_fault { IfErr result (λ failure. failure.cause ≢ Cause.ReadFault
+        → H.load_faults host.new ≡ H.load_faults host.old) }
     ensures files { H.files host.new ≡ H.files host.old }
     ensures shown { H.shown host.new ≡ H.shown host.old }
     ensures write_faults { H.write_faults host.new ≡ H.write_faults host.old }

@@ -38,7 +38,8 @@ fn with_ending(alloc: Global, stem: &str, ending: &str) -> Result<String, NoMemo
 impl Saving {
     /// A text to be saved under a stem with an ending.
     pub fn new(alloc: Global, stem: &str, ending: &str, text: Bytes) -> Result<Saving, NoMemory>
-        ensures { IfOk result (λ saving. saving ≡ record { name = stem.now ++ ending.now; text = text }) }
+        ensures { IfOk result (λ saving. saving
+            ≡ record { name = stem.now ++ ending.now; text = text }) }
     {
         let name = with_ending(alloc, stem, ending)?;
         let line = fault_line(alloc, name.as_str())?;
@@ -67,8 +68,8 @@ impl Saving {
     }
 }
 
-/// What a call makes before it saves anything: the texts that are saved, in order, then the text that is shown, and
-/// the status with which the call then ends.
+/// What a call makes before it saves anything: the texts that are saved, in order, then the text
+/// that is shown, and the status with which the call then ends.
 #[derive(Drop)]
 pub struct Product {
     /// The texts to be saved.

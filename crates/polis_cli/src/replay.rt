@@ -12,12 +12,15 @@ ghost use Rattle.polis_cli.specs.Replays.{IsJudged, IsFound, MakesReplay, FailsR
 use crate::inputs::{Inputs, load_inputs};
 use crate::load::load_journal;
 use crate::product::Product;
+use crate::react::reactor_of;
 use journal_replay::{Verdict, replay, replay_stamped};
 use journal_text::ReadJournal;
+use machine_compiler::compile_network;
+use net_core::Trace;
 use polis_base::{Host, List, NoMemory};
 use polis_words::{Cause, Failure, Replay, Status, print_legal};
 use std::alloc::Global;
-use transition_table::TableReactor;
+use transition_table::Reactor;
 
 /// A journal that is legal, with stamps that are rising where it has any.
 #[derive(Drop)]
@@ -30,18 +33,41 @@ pub struct Judged {
     pub complete: bool,
 }
 
-// What is found of a journal that was read.
+// What a reactor finds of a journal that was read.
+fn find_by<R: Reactor>(
+    alloc: Global,
+    r: &R,
+    trace: &Trace,
+    read: &ReadJournal,
+) -> Result<Verdict, NoMemory>
+    requires trace { IsTrace (R.meaning r.now) trace.now }
+    requires fits { IsJournal (R.meaning r.now) read.now.journal }
+    requires stamps { IfSome read.now.stamps (AreStamps read.now.journal) }
+    ensures { IfOk result
+        (λ verdict. IsFound (R.meaning r.now) trace.now read.now.journal read.now.stamps verdict) }
+{
+    match &read.stamps {
+        Some(stamps) => replay_stamped(alloc, r, trace, &read.journal, stamps),
+        None => replay(alloc, r, trace, &read.journal),
+    }
+}
+
+// What is found of a journal that was read, each reaction being made again by compiled code.
 fn find(alloc: Global, inputs: &Inputs, read: &ReadJournal) -> Result<Verdict, NoMemory>
     requires trace { IsTrace inputs.now.net inputs.now.trace }
     requires deterministic { AreDeterministic inputs.now.net }
     requires fits { IsJournal inputs.now.net read.now.journal }
     requires stamps { IfSome read.now.stamps (AreStamps read.now.journal) }
-    ensures { IfOk result (λ verdict. IsFound inputs.now.net inputs.now.trace read.now.journal read.now.stamps verdict) }
+    ensures { IfOk result
+        (λ verdict. IsFound inputs.now.net inputs.now.trace read.now.journal read.now.stamps
+        verdict) }
 {
-    let reactor = TableReactor::new(&inputs.net);
-    match &read.stamps {
-        Some(stamps) => replay_stamped(alloc, &reactor, &inputs.trace, &read.journal, stamps),
-        None => replay(alloc, &reactor, &inputs.trace, &read.journal),
+    let net = &inputs.net;
+    let compiled = compile_network(alloc, net)?;
+    let reactor = reactor_of(alloc, net, &compiled)?;
+    match find_by(alloc, &reactor, &inputs.trace, read) {
+        Ok(verdict) => Ok(verdict),
+        Err(NoMemory) => Err(NoMemory),
     }
 }
 
@@ -51,13 +77,21 @@ pub fn judge_journal<'a, H: Host>(
     host: &mut H,
     asked: &'a Replay<'_>,
 ) -> Result<Judged, Failure<'a>>
-    ensures judged { IfOk result (λ judged. WhereTold (H.files host.old) (λ files. IsJudged asked.now files judged.inputs.net judged.inputs.trace judged.read.journal judged.complete)) }
-    ensures legal { IfOk result (λ judged. Legal judged.inputs.net judged.inputs.trace judged.read.journal) }
+    ensures judged { IfOk result (λ judged.
+        WhereTold (H.files host.old) (λ files.
+        IsJudged asked.now files judged.inputs.net judged.inputs.trace judged.read.journal
+        judged.complete)) }
+    ensures legal { IfOk result (λ judged.
+        Legal judged.inputs.net judged.inputs.trace judged.read.journal) }
     ensures few { IfOk result (λ judged. length judged.read.journal ≤ 60000) }
-    ensures failed { IfErr result (λ failure. WhereTold (H.files host.old) (λ files. FailsReplay asked.now files failure.name.now failure.cause)) }
+    ensures failed { IfErr result (λ failure.
+        WhereTold (H.files host.old) (λ files.
+        FailsReplay asked.now files failure.name.now failure.cause)) }
     ensures ok_faults { OnOk result (H.load_faults host.new ≡ H.load_faults host.old) }
-    ensures fault { IfErr result (λ failure. failure.cause ≡ Cause.ReadFault → Rose (H.load_faults host.old) (H.load_faults host.new)) }
-    ensures no_fault { IfErr result (λ failure. failure.cause ≢ Cause.ReadFault → H.load_faults host.new ≡ H.load_faults host.old) }
+    ensures fault { IfErr result (λ failure. failure.cause ≡ Cause.ReadFault
+        → Rose (H.load_faults host.old) (H.load_faults host.new)) }
+    ensures no_fault { IfErr result (λ failure. failure.cause ≢ Cause.ReadFault
+        → H.load_faults host.new ≡ H.load_faults host.old) }
     ensures files { H.files host.new ≡ H.files host.old }
     ensures shown { H.shown host.new ≡ H.shown host.old }
     ensures write_faults { H.write_faults host.new ≡ H.write_faults host.old }
@@ -94,12 +128,17 @@ pub fn make_replay<'a, H: Host>(
     host: &mut H,
     asked: &'a Replay<'_>,
 ) -> Result<Product, Failure<'a>>
-    ensures made { IfOk result (λ product. WhereTold (H.files host.old) (λ files. MakesReplay asked.now files product)) }
+    ensures made { IfOk result (λ product.
+        WhereTold (H.files host.old) (λ files. MakesReplay asked.now files product)) }
     ensures well { IfOk result (λ product. IsWell product) }
-    ensures failed { IfErr result (λ failure. WhereTold (H.files host.old) (λ files. FailsReplay asked.now files failure.name.now failure.cause)) }
+    ensures failed { IfErr result (λ failure.
+        WhereTold (H.files host.old) (λ files.
+        FailsReplay asked.now files failure.name.now failure.cause)) }
     ensures ok_faults { OnOk result (H.load_faults host.new ≡ H.load_faults host.old) }
-    ensures fault { IfErr result (λ failure. failure.cause ≡ Cause.ReadFault → Rose (H.load_faults host.old) (H.load_faults host.new)) }
-    ensures no_fault { IfErr result (λ failure. failure.cause ≢ Cause.ReadFault → H.load_faults host.new ≡ H.load_faults host.old) }
+    ensures fault { IfErr result (λ failure. failure.cause ≡ Cause.ReadFault
+        → Rose (H.load_faults host.old) (H.load_faults host.new)) }
+    ensures no_fault { IfErr result (λ failure. failure.cause ≢ Cause.ReadFault
+        → H.load_faults host.new ≡ H.load_faults host.old) }
     ensures files { H.files host.new ≡ H.files host.old }
     ensures shown { H.shown host.new ≡ H.shown host.old }
     ensures write_faults { H.write_faults host.new ≡ H.write_faults host.old }

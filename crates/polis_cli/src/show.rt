@@ -10,7 +10,8 @@ use std::alloc::Global;
 
 /// Shows a line. Whether it could be shown isn't looked at.
 pub fn show_line<H: Host>(host: &mut H, line: &[u8])
-    ensures shown { Changes (H.shown host.old) (H.shown host.new) (ShowsPrefix line.now (Rose (H.write_faults host.old) (H.write_faults host.new))) }
+    ensures shown { Changes (H.shown host.old) (H.shown host.new)
+        (ShowsPrefix line.now (Rose (H.write_faults host.old) (H.write_faults host.new))) }
     ensures files { H.files host.new ≡ H.files host.old }
     ensures load_faults { H.load_faults host.new ≡ H.load_faults host.old }
     ensures write_faults { H.write_faults host.old ≤ H.write_faults host.new }
@@ -21,7 +22,8 @@ pub fn show_line<H: Host>(host: &mut H, line: &[u8])
 /// Shows that memory ran out.
 pub fn no_memory<H: Host>(host: &mut H) -> Status
     ensures status { result ≡ Status.NoMemory }
-    ensures shown { Changes (H.shown host.old) (H.shown host.new) (ShowsPrefix no_memory_line (Rose (H.write_faults host.old) (H.write_faults host.new))) }
+    ensures shown { Changes (H.shown host.old) (H.shown host.new)
+        (ShowsPrefix no_memory_line (Rose (H.write_faults host.old) (H.write_faults host.new))) }
     ensures files { H.files host.new ≡ H.files host.old }
     ensures load_faults { H.load_faults host.new ≡ H.load_faults host.old }
     ensures write_faults { H.write_faults host.old ≤ H.write_faults host.new }
@@ -32,7 +34,9 @@ pub fn no_memory<H: Host>(host: &mut H) -> Status
 
 /// Shows the line of a failure, and gives its status.
 pub fn fail<H: Host>(alloc: Global, host: &mut H, failure: &Failure<'_>) -> Status
-    ensures shown { Changes (H.shown host.old) (H.shown host.new) (λ old new. (line : List ℕ) × FailsWith failure.now.name.now failure.now.cause result line × ShowsPrefix line (Rose (H.write_faults host.old) (H.write_faults host.new)) old new) }
+    ensures shown { Changes (H.shown host.old) (H.shown host.new)
+        (λ old new. (line : List ℕ) × FailsWith failure.now.name.now failure.now.cause result line
+        × ShowsPrefix line (Rose (H.write_faults host.old) (H.write_faults host.new)) old new) }
     ensures status { (result ≡ status_of failure.now.cause) ⊎ (result ≡ Status.NoMemory) }
     ensures files { H.files host.new ≡ H.files host.old }
     ensures load_faults { H.load_faults host.new ≡ H.load_faults host.old }

@@ -19,7 +19,9 @@ pub fn stamped_text(
 ) -> Result<Bytes, NoMemory>
     requires legal { Legal inputs.now.net inputs.now.trace journal.now }
     requires few { length journal.now ≤ 60000 }
-    ensures { IfOk result (λ text. text ≡ stamped_journal_text inputs.now.net journal.now (least inputs.now.net journal.now) complete) }
+    ensures { IfOk result (λ text. text
+        ≡ stamped_journal_text inputs.now.net journal.now (least inputs.now.net journal.now)
+        complete) }
 {
     let stamps = least_stamps(alloc, &inputs.net, &inputs.trace, journal)?;
     print_journal(alloc, &inputs.net, journal, &stamps, complete)

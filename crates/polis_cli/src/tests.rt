@@ -6,15 +6,19 @@ use std::alloc::Global;
 use std::process::Abort;
 use std::test::Fail;
 
+mod listings;
 mod networks;
 mod replays;
 mod rows;
 
+use crate::tests::listings::LAMP_LISTING;
 use crate::tests::networks::LAMP;
 
 const RUN: &[&str] = &["run", "net", "trc", "o"];
 
 const CHECK: &[&str] = &["check", "net"];
+
+const COMPILE: &[&str] = &["compile", "net", "o"];
 
 const PRESSED: &str = "polis journal 2
 @1 dep env lamp_ctl press
@@ -22,20 +26,27 @@ const PRESSED: &str = "polis journal 2
 end 2 complete
 ";
 
-const PRESSED_SHOWN: &str = "entries 2 complete\nlost 0\ngathered 0 adopted 0\n";
+const PRESSED_SHOWN: &str = "entries 2 complete
+lost 0
+gathered 0 adopted 0
+machine lamp_ctl vertices 7 code 6 tries 1 steps 6
+";
 
-// A call: its command line, the files before it, the host's call that fails, and what is wanted after it.
+// A call: its command line, the files before it, the calls of the host that fail, one that is torn
+// after some bytes, and what is wanted after it.
 #[derive(Clone, Copy)]
 struct Case<'a> {
     words: &'a [&'a str],
     net: Option<&'a [u8]>,
     trace: Option<&'a str>,
     read_journal: Option<&'a str>,
-    fails: Option<u64>,
+    fails: &'a [u64],
+    torn: Option<(u64, u64)>,
     status: Status,
     shown: &'a str,
     outputs: Option<&'a str>,
     journal: Option<&'a str>,
+    listing: Option<&'a str>,
     load_faults: u64,
     write_faults: u64,
 }
@@ -46,11 +57,13 @@ const PRESS: Case<'static> = Case {
     net: Some(LAMP),
     trace: Some("press\n"),
     read_journal: None,
-    fails: None,
+    fails: &[],
+    torn: None,
     status: Status::Done,
     shown: PRESSED_SHOWN,
     outputs: Some("light\n"),
     journal: Some(PRESSED),
+    listing: Some(LAMP_LISTING),
     load_faults: 0,
     write_faults: 0,
 };
@@ -63,24 +76,25 @@ fn refusal<'a>(words: &'a [&'a str], shown: &'a str) -> Case<'a> {
         shown,
         outputs: None,
         journal: None,
+        listing: None,
         ..PRESS
     }
 }
 
 // The lamp on one press, where a save or a show fails.
-fn write_fault<'a>(fails: u64, shown: &'a str) -> Case<'a> {
+fn write_fault<'a>(fails: &'a [u64], shown: &'a str) -> Case<'a> {
     Case {
-        fails: Some(fails),
+        fails,
         status: Status::WriteFault,
-        write_faults: 1,
+        write_faults: fails.len() as u64,
         ..refusal(RUN, shown)
     }
 }
 
 // The lamp on one press, where a load fails.
-fn read_fault<'a>(fails: u64, shown: &'a str) -> Case<'a> {
+fn read_fault<'a>(fails: &'a [u64], shown: &'a str) -> Case<'a> {
     Case {
-        fails: Some(fails),
+        fails,
         status: Status::ReadFault,
         load_faults: 1,
         ..refusal(RUN, shown)
@@ -114,8 +128,11 @@ fn make_host(alloc: Global, case: &Case<'_>) -> Result<MemoryHost, NoMemory> {
     if let Some(journal) = case.read_journal {
         host.put("jnl", journal.as_bytes())?;
     }
-    if let Some(call) = case.fails {
-        host.fail(call)?;
+    for call in case.fails {
+        host.fail(*call)?;
+    }
+    if let Some((call, keep)) = case.torn {
+        host.tear(call, keep)?;
     }
     Ok(host)
 }
@@ -153,6 +170,10 @@ fn try_case(rt: &impl Abort, alloc: Global, case: &Case<'_>, number: usize) -> R
         "the journal of case {number}"
     );
     assert!(rt;
+        is_held(&host, "o.lst", case.listing),
+        "the listing of case {number}"
+    );
+    assert!(rt;
         holds(&host, "net", case.net) && is_held(&host, "trc", case.trace),
         "the network and the trace of case {number}"
     );
@@ -177,7 +198,7 @@ fn try_cases(rt: &impl Abort, alloc: Global, cases: &[Case<'_>]) -> Result<(), F
 #[test]
 fn answers_usage(rt: HostRuntime) -> Result<(), Fail> {
     let shows_alone = Case {
-        fails: Some(1),
+        fails: &[1],
         ..usage(&["run", "net", "trc"])
     };
     try_cases(
@@ -196,6 +217,9 @@ fn answers_usage(rt: HostRuntime) -> Result<(), Fail> {
             usage(&["check"]),
             usage(&["check", ""]),
             usage(&["check", "net", "trc"]),
+            usage(&["compile", "net"]),
+            usage(&["compile", "net", ""]),
+            usage(&["compile", "net", "o", "--limit", "5"]),
             usage(&["replay", "net", "trc"]),
             usage(&["replay", "net", "", "jnl"]),
             usage(&["replay", "net", "trc", "jnl", "o"]),
@@ -210,39 +234,75 @@ fn answers_usage(rt: HostRuntime) -> Result<(), Fail> {
 fn tells_of_faults(rt: HostRuntime) -> Result<(), Fail> {
     let second_save = Case {
         outputs: Some("light\n"),
-        ..write_fault(3, "write fault o.jnl\n")
+        ..write_fault(&[3], "write fault o.jnl\n")
+    };
+    let third_save = Case {
+        outputs: Some("light\n"),
+        journal: Some(PRESSED),
+        ..write_fault(&[4], "write fault o.lst\n")
     };
     let summary = Case {
         outputs: Some("light\n"),
         journal: Some(PRESSED),
-        ..write_fault(4, "")
+        listing: Some(LAMP_LISTING),
+        ..write_fault(&[5], "")
+    };
+    let torn = Case {
+        torn: Some((3, 10)),
+        outputs: Some("light\n"),
+        journal: Some("polis jour"),
+        write_faults: 1,
+        ..write_fault(&[], "write fault o.jnl\n")
     };
     let no_call = Case {
-        fails: Some(5),
+        fails: &[6],
         ..PRESS
-    };
-    let refused_line = Case {
-        net: Some("network %".as_bytes()),
-        status: Status::Refused,
-        ..write_fault(1, "")
-    };
-    let finding = Case {
-        words: CHECK,
-        ..write_fault(1, "")
     };
     try_cases(
         &rt,
         rt.alloc(),
         &[
-            read_fault(0, "read fault net\n"),
-            read_fault(1, "read fault trc\n"),
-            write_fault(2, "write fault o.out\n"),
+            read_fault(&[0], "read fault net\n"),
+            read_fault(&[1], "read fault trc\n"),
+            write_fault(&[2], "write fault o.out\n"),
             second_save,
+            third_save,
             summary,
+            write_fault(&[2, 3], ""),
+            torn,
             no_call,
-            refused_line,
-            finding,
         ],
+    )
+}
+
+#[test]
+fn tells_of_faults_over_one_file(rt: HostRuntime) -> Result<(), Fail> {
+    let refused_line = Case {
+        net: Some("network %".as_bytes()),
+        status: Status::Refused,
+        ..write_fault(&[1], "")
+    };
+    let finding = Case {
+        words: CHECK,
+        ..write_fault(&[1], "")
+    };
+    let unread = Case {
+        words: COMPILE,
+        ..read_fault(&[0], "read fault net\n")
+    };
+    let unsaved = Case {
+        words: COMPILE,
+        ..write_fault(&[1], "write fault o.lst\n")
+    };
+    let unshown = Case {
+        words: COMPILE,
+        listing: Some(LAMP_LISTING),
+        ..write_fault(&[2], "")
+    };
+    try_cases(
+        &rt,
+        rt.alloc(),
+        &[refused_line, finding, unread, unsaved, unshown],
     )
 }
 
@@ -260,7 +320,11 @@ fn refuses_absent_files(rt: HostRuntime) -> Result<(), Fail> {
         net: None,
         ..refusal(CHECK, "refused net absent\n")
     };
-    try_cases(&rt, rt.alloc(), &[no_net, no_trace, unchecked])
+    let uncompiled = Case {
+        net: None,
+        ..refusal(COMPILE, "refused net absent\n")
+    };
+    try_cases(&rt, rt.alloc(), &[no_net, no_trace, unchecked, uncompiled])
 }
 
 // A call on the lamp and one press, its network text padded to so many bytes.

@@ -14,9 +14,14 @@ fn save_text<H: Host>(host: &mut H, saving: &Saving) -> Result<(), Status>
     ensures files { Changes (H.files host.old) (H.files host.new) (SavesText result saving.now) }
     ensures ok_shown { OnOk result (H.shown host.new ≡ H.shown host.old) }
     ensures ok_faults { OnOk result (H.write_faults host.new ≡ H.write_faults host.old) }
-    ensures shown { IfErr result (λ status. Changes (H.shown host.old) (H.shown host.new) (ShowsLineOf status saving.now.name (Rose (H.write_faults host.old) (H.write_faults host.new)))) }
-    ensures fault { result ≡ Err Status.WriteFault → Rose (H.write_faults host.old) (H.write_faults host.new) }
-    ensures others { IfErr result (λ status. (status ≡ Status.WriteFault) ⊎ (status ≡ Status.NoMemory)) }
+    ensures shown { IfErr result (λ status.
+        Changes (H.shown host.old) (H.shown host.new)
+        (ShowsLineOf status saving.now.name
+        (Rose (H.write_faults host.old) (H.write_faults host.new)))) }
+    ensures fault { result ≡ Err Status.WriteFault
+        → Rose (H.write_faults host.old) (H.write_faults host.new) }
+    ensures others { IfErr result (λ status. (status ≡ Status.WriteFault)
+        ⊎ (status ≡ Status.NoMemory)) }
     ensures load_faults { H.load_faults host.new ≡ H.load_faults host.old }
 {
     match host.save(saving.name(), saving.text()) {
@@ -31,11 +36,15 @@ fn save_text<H: Host>(host: &mut H, saving: &Saving) -> Result<(), Status>
 
 // Saves the texts in order. The first save that fails ends it.
 fn save_all<H: Host>(host: &mut H, saves: &[Saving]) -> Result<(), Status>
-    ensures ok_files { OnOk result (Changes (H.files host.old) (H.files host.new) (λ before now. now ≡ files_after before saves.now)) }
+    ensures ok_files { OnOk result (Changes (H.files host.old) (H.files host.new)
+        (λ before now. now ≡ files_after before saves.now)) }
     ensures ok_shown { OnOk result (H.shown host.new ≡ H.shown host.old) }
     ensures ok_faults { OnOk result (H.write_faults host.new ≡ H.write_faults host.old) }
-    ensures stops { IfErr result (λ status. StopsSaving status saves.now (Rose (H.write_faults host.old) (H.write_faults host.new)) (H.files host.old) (H.files host.new) (H.shown host.old) (H.shown host.new)) }
-    ensures fault { result ≡ Err Status.WriteFault → Rose (H.write_faults host.old) (H.write_faults host.new) }
+    ensures stops { IfErr result (λ status.
+        StopsSaving status saves.now (Rose (H.write_faults host.old) (H.write_faults host.new))
+        (H.files host.old) (H.files host.new) (H.shown host.old) (H.shown host.new)) }
+    ensures fault { result ≡ Err Status.WriteFault
+        → Rose (H.write_faults host.old) (H.write_faults host.new) }
     ensures load_faults { H.load_faults host.new ≡ H.load_faults host.old }
 {
     for saving in saves {
@@ -50,10 +59,13 @@ fn save_all<H: Host>(host: &mut H, saves: &[Saving]) -> Result<(), Status>
 // Shows a text after all saves, and gives the status with which the call then ends.
 fn show_text<H: Host>(host: &mut H, text: &[u8], end: Status) -> Status
     requires { IsTrue (is_end end) }
-    ensures shown { Changes (H.shown host.old) (H.shown host.new) (ShowsText result text.now end (Rose (H.write_faults host.old) (H.write_faults host.new))) }
+    ensures shown { Changes (H.shown host.old) (H.shown host.new)
+        (ShowsText result text.now end (Rose (H.write_faults host.old) (H.write_faults host.new))) }
     ensures others { (result ≡ end) ⊎ (result ≡ Status.WriteFault) ⊎ (result ≡ Status.NoMemory) }
-    ensures fault { result ≡ Status.WriteFault → Rose (H.write_faults host.old) (H.write_faults host.new) }
-    ensures end_faults { IsTrue (is_end result) → H.write_faults host.new ≡ H.write_faults host.old }
+    ensures fault { result ≡ Status.WriteFault
+        → Rose (H.write_faults host.old) (H.write_faults host.new) }
+    ensures end_faults { IsTrue (is_end result)
+        → H.write_faults host.new ≡ H.write_faults host.old }
     ensures files { H.files host.new ≡ H.files host.old }
     ensures load_faults { H.load_faults host.new ≡ H.load_faults host.old }
 {
@@ -64,12 +76,16 @@ fn show_text<H: Host>(host: &mut H, text: &[u8], end: Status) -> Status
     }
 }
 
-/// Saves the texts of a product in order, and then shows its text. The first of these that fails ends the call.
+/// Saves the texts of a product in order, and then shows its text. The first of these that fails
+/// ends the call.
 pub fn write_product<H: Host>(host: &mut H, product: &Product) -> Status
     requires { IsTrue (is_end product.now.status) }
-    ensures written { Writes result product.now (Rose (H.write_faults host.old) (H.write_faults host.new)) (H.files host.old) (H.files host.new) (H.shown host.old) (H.shown host.new) }
-    ensures fault { result ≡ Status.WriteFault → Rose (H.write_faults host.old) (H.write_faults host.new) }
-    ensures end_faults { IsTrue (is_end result) → H.write_faults host.new ≡ H.write_faults host.old }
+    ensures written { Writes result product.now (Rose (H.write_faults host.old) (H.write_faults host.new))
+        (H.files host.old) (H.files host.new) (H.shown host.old) (H.shown host.new) }
+    ensures fault { result ≡ Status.WriteFault
+        → Rose (H.write_faults host.old) (H.write_faults host.new) }
+    ensures end_faults { IsTrue (is_end result)
+        → H.write_faults host.new ≡ H.write_faults host.old }
     ensures load_faults { H.load_faults host.new ≡ H.load_faults host.old }
 {
     match save_all(host, product.saves.as_slice()) {

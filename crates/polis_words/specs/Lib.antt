@@ -1,6 +1,7 @@
 pub mod FileWords
 pub mod Run
 pub mod Check
+pub mod Compile
 pub mod Replay
 pub mod Migrate
 pub mod Requests

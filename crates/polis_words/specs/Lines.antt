@@ -1,4 +1,5 @@
--- Why calls end before their work is done, the statuses with which they end, and the lines that they show.
+-- Why calls end before their work is done, the statuses with which they end, and the lines that
+-- they show.
 use Rattle.std.specs.Prelude.{ℕ, List, [], ◌∷◌, ◌++◌, codes, decimal}
 use Rattle.polis_base.specs.declared.token.LexError.{LexError}
 use Rattle.polis_base.specs.declared.token.LexError.TheVariants.{BadByte, NameTooLong, NumberTooLarge, NoMemory as WantingTokens}
@@ -65,17 +66,22 @@ lex_word Number = codes "number"
 abbrev pub refused : List ℕ → List ℕ → List ℕ
 refused name why = codes "refused " ++ name ++ codes " " ++ why
 
--- the line of a file that isn't read or isn't accepted, or whose journal isn't legal, without its end
+-- the line of a file that isn't read or isn't accepted, or whose journal isn't legal, without its
+-- end
 abbrev pub failure_line : List ℕ → Cause → List ℕ
 failure_line name Unread = codes "read fault " ++ name
 failure_line name Absent = refused name (codes "absent")
 failure_line name TooLong = refused name (codes "long")
-failure_line name (Lex kind place) = refused name (codes "lex " ++ lex_word kind ++ codes " " ++ decimal place)
+failure_line name (Lex kind place) =
+    refused name (codes "lex " ++ lex_word kind ++ codes " " ++ decimal place)
 failure_line name (Syntax place) = refused name (codes "syntax " ++ decimal place)
-failure_line name (Rule rule place) = refused name (codes "rule " ++ decimal rule ++ codes " " ++ decimal place)
+failure_line name (Rule rule place) =
+    refused name (codes "rule " ++ decimal rule ++ codes " " ++ decimal place)
 failure_line name (Conflict text) = refused name (codes "conflict " ++ text)
-failure_line name (TraceLine line kind) = refused name (codes "line " ++ decimal line ++ codes " " ++ trace_word kind)
-failure_line name (JournalLine line kind) = refused name (codes "line " ++ decimal line ++ codes " " ++ journal_word kind)
+failure_line name (TraceLine line kind) =
+    refused name (codes "line " ++ decimal line ++ codes " " ++ trace_word kind)
+failure_line name (JournalLine line kind) =
+    refused name (codes "line " ++ decimal line ++ codes " " ++ journal_word kind)
 failure_line name (Unlawful entry) = codes "illegal " ++ decimal entry
 failure_line name Wanting = codes "no memory"
 

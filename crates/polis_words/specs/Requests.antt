@@ -1,9 +1,10 @@
 -- What a command line asks for.
 use Rattle.std.specs.Prelude.{ℕ, List}
 use Rattle.polis_words.specs.declared.requests.Request.{Request}
-use Rattle.polis_words.specs.declared.requests.Request.TheVariants.{Run, Check, Replay, Migrate}
+use Rattle.polis_words.specs.declared.requests.Request.TheVariants.{Run, Check, Compile, Replay, Migrate}
 use Rattle.polis_words.specs.Run.{AsksRun}
 use Rattle.polis_words.specs.Check.{AsksCheck}
+use Rattle.polis_words.specs.Compile.{AsksCompile}
 use Rattle.polis_words.specs.Replay.{AsksReplay}
 use Rattle.polis_words.specs.Migrate.{AsksMigrate}
 
@@ -11,6 +12,7 @@ use Rattle.polis_words.specs.Migrate.{AsksMigrate}
 abbrev pub Asks : List (List ℕ) → Request → Type 0
 Asks words (Run run) = AsksRun words run
 Asks words (Check check) = AsksCheck words check
+Asks words (Compile compile) = AsksCompile words compile
 Asks words (Replay replay) = AsksReplay words replay
 Asks words (Migrate migrate) = AsksMigrate words migrate
 

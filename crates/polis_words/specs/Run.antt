@@ -17,7 +17,8 @@ entry_max = 60000
 abbrev pub run_form : RunWords → List (List ℕ) → List (List ℕ)
 run_form run options = codes "run" ∷ run.net ∷ run.trace ∷ run.stem ∷ options
 
--- the options ask for this limit: `--limit N`, where N is a number from 1 to 60,000 in decimal; without an option it is 60,000
+-- the options ask for this limit: `--limit N`, where N is a number from 1 to 60,000 in decimal;
+-- without an option it is 60,000
 abbrev pub AsksLimit : List (List ℕ) → ℕ → Type 0
 AsksLimit options limit =
     ((options ≡ []) × (limit ≡ entry_max))
@@ -39,3 +40,7 @@ out_name run = run.stem ++ codes ".out"
 -- the name of the journal's file
 abbrev pub journal_name : RunWords → List ℕ
 journal_name run = run.stem ++ codes ".jnl"
+
+-- the name of the listing's file
+abbrev pub listing_name : RunWords → List ℕ
+listing_name run = run.stem ++ codes ".lst"

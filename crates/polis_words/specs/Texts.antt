@@ -8,7 +8,8 @@ use Rattle.journals.specs.declared.entry.Entry.{Entry}
 use Rattle.journals.specs.Outputs.{lost}
 use Rattle.journal_text.specs.Texts.{line, count_text, snapshot_text}
 
--- how many entries there are, how many deliveries were lost, and how long the gathered and the adopted journal are
+-- how many entries there are, how many deliveries were lost, and how long the gathered and the
+-- adopted journal are
 abbrev pub summary_text : Network → List Entry → Bool → ℕ → ℕ → List ℕ
 summary_text net journal complete gathered adopted =
     line (codes "entries " ++ count_text journal complete)
@@ -17,16 +18,20 @@ summary_text net journal complete gathered adopted =
 
 -- `M A B I ; X`: the machine, its two rows, and the snapshot on which they conflict
 abbrev pub conflict_text : Network → Machine → ℕ → ℕ → Snapshot → List ℕ
-conflict_text net machine a b s = machine.name ++ codes " " ++ decimal a ++ codes " " ++ decimal b ++ codes " " ++ snapshot_text net machine s.codes
+conflict_text net machine a b s = machine.name ++ codes " " ++ decimal a ++ codes " " ++ decimal b
+    ++ codes " " ++ snapshot_text net machine s.codes
 
 -- a machine's name, how many snapshots it has, and how many rows
 abbrev pub machine_line : Machine → List ℕ
-machine_line machine = line (codes "machine " ++ machine.name ++ codes " snapshots " ++ decimal (product machine.vars) ++ codes " rows " ++ decimal (length machine.rows))
+machine_line machine =
+    line (codes "machine " ++ machine.name ++ codes " snapshots " ++ decimal (product machine.vars)
+    ++ codes " rows " ++ decimal (length machine.rows))
 
 -- how many machines and events there are, and a line a machine
 abbrev pub accepted_text : Network → List ℕ
 accepted_text net =
-    line (codes "accepted machines " ++ decimal (length net.machines) ++ codes " events " ++ decimal (length net.events))
+    line (codes "accepted machines " ++ decimal (length net.machines) ++ codes " events "
+    ++ decimal (length net.events))
     ++ flat_map machine_line net.machines
 
 -- `complete` or `open`
@@ -35,7 +40,8 @@ found complete = cond complete (codes "complete") (codes "open")
 
 -- what `replay` shows of a legal journal of so many entries
 abbrev pub legal_text : ℕ → Bool → List ℕ
-legal_text entries complete = line (codes "legal " ++ decimal entries ++ codes " " ++ found complete)
+legal_text entries complete =
+    line (codes "legal " ++ decimal entries ++ codes " " ++ found complete)
 
 -- what `migrate` shows of a legal journal of so many entries
 abbrev pub migrated_text : ℕ → List ℕ

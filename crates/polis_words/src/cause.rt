@@ -17,7 +17,8 @@ pub enum LexKind {
     Number,
 }
 
-/// Why a file isn't read or isn't accepted, or the journal in it isn't legal. A place is a byte's number in a text.
+/// Why a file isn't read or isn't accepted, or the journal in it isn't legal. A place is a byte's
+/// number in a text.
 #[derive(Drop)]
 pub enum Cause {
     /// The host's load failed.
@@ -28,7 +29,8 @@ pub enum Cause {
     TooLong,
     /// The first token of a network text that doesn't read.
     Lex { kind: LexKind, place: u64 },
-    /// The first token of a network text with which no sentence goes on, or its length where a token is missing.
+    /// The first token of a network text with which no sentence goes on, or its length where a
+    /// token is missing.
     Syntax { place: u64 },
     /// The first rule that a network text breaks, by its number, and the least place where it does.
     Rule { rule: u8, place: u64 },
@@ -38,13 +40,15 @@ pub enum Cause {
     TraceLine { line: u64, kind: TraceKind },
     /// A line of a journal doesn't read.
     JournalLine { line: u64, kind: JournalKind },
-    /// A journal isn't legal up to an entry, or its stamps aren't rising up to there: the first such entry.
+    /// A journal isn't legal up to an entry, or its stamps aren't rising up to there: the first
+    /// such entry.
     Illegal { entry: u64 },
     /// Out of memory.
     NoMemory,
 }
 
-/// A file that isn't read or isn't accepted, or whose journal isn't legal, by the name that the command line gives it, and why.
+/// A file that isn't read or isn't accepted, or whose journal isn't legal, by the name that the
+/// command line gives it, and why.
 #[derive(Drop)]
 pub struct Failure<'a> {
     /// The file's name.

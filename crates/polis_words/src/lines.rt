@@ -56,7 +56,8 @@ fn push_numbered(word: &[u8], number: u64, into: &mut Bytes) -> Result<(), NoMem
 
 // Appends the number of a line and what is wrong with it.
 fn push_line(line: u64, kind: &[u8], into: &mut Bytes) -> Result<(), NoMemory>
-    ensures { OnOk result (into.new ≡ into.old ++ codes "line " ++ decimal line ++ codes " " ++ kind.now) }
+    ensures { OnOk result (into.new ≡ into.old ++ codes "line " ++ decimal line ++ codes " "
+        ++ kind.now) }
 {
     into.push(b"line ")?;
     into.push_decimal(line)?;
@@ -66,7 +67,8 @@ fn push_line(line: u64, kind: &[u8], into: &mut Bytes) -> Result<(), NoMemory>
 
 // Appends what is wrong with the first token that doesn't read, and its place.
 fn push_lex(kind: LexKind, place: u64, into: &mut Bytes) -> Result<(), NoMemory>
-    ensures { OnOk result (into.new ≡ into.old ++ codes "lex " ++ lex_word kind ++ codes " " ++ decimal place) }
+    ensures { OnOk result (into.new ≡ into.old ++ codes "lex " ++ lex_word kind ++ codes " "
+        ++ decimal place) }
 {
     into.push(b"lex ")?;
     push_numbered(lex_kind(kind), place, into)
@@ -74,7 +76,8 @@ fn push_lex(kind: LexKind, place: u64, into: &mut Bytes) -> Result<(), NoMemory>
 
 // Appends the number of the rule that is broken, and the place.
 fn push_rule(rule: u8, place: u64, into: &mut Bytes) -> Result<(), NoMemory>
-    ensures { OnOk result (into.new ≡ into.old ++ codes "rule " ++ decimal rule ++ codes " " ++ decimal place) }
+    ensures { OnOk result (into.new ≡ into.old ++ codes "rule " ++ decimal rule ++ codes " "
+        ++ decimal place) }
 {
     into.push(b"rule ")?;
     into.push_decimal(rule as u64)?;
@@ -126,9 +129,11 @@ fn push_refusal(name: &str, cause: &Cause, into: &mut Bytes) -> Result<(), NoMem
     }
 }
 
-/// The line of a file that isn't read or isn't accepted, or whose journal isn't legal, with its end.
+/// The line of a file that isn't read or isn't accepted, or whose journal isn't legal, with its
+/// end.
 pub fn line_of(alloc: Global, failure: &Failure<'_>) -> Result<Bytes, NoMemory>
-    ensures { IfOk result (λ line. line ≡ failure_line failure.now.name.now failure.now.cause ++ 10 ∷ []) }
+    ensures { IfOk result (λ line. line
+        ≡ failure_line failure.now.name.now failure.now.cause ++ 10 ∷ []) }
 {
     let mut line = Bytes::new(alloc);
     push_refusal(failure.name, &failure.cause, &mut line)?;

@@ -14,7 +14,8 @@ use polis_base::{Bytes, NoMemory};
 use std::alloc::Global;
 use transition_table::Network;
 
-/// What `run` shows: the number of entries, the lost deliveries, and the lengths of the gathered and the adopted journal.
+/// What `run` shows: the number of entries, the lost deliveries, and the lengths of the gathered
+/// and the adopted journal.
 pub fn print_summary(
     alloc: Global,
     net: &Network,

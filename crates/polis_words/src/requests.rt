@@ -4,6 +4,7 @@ ghost use Rattle.polis_words.specs.declared.requests.Request.{Request};
 ghost use Rattle.polis_words.specs.Requests.{Asks, AsksNothing};
 
 mod checking;
+mod compiling;
 mod file_word;
 mod migrating;
 mod replaying;
@@ -11,6 +12,8 @@ mod running;
 
 pub use checking::Check;
 use checking::check_of;
+pub use compiling::Compile;
+use compiling::compile_of;
 pub use migrating::Migrate;
 use migrating::migrate_of;
 use polis_base::Words;
@@ -26,6 +29,8 @@ pub enum Request<'a> {
     Run(Run<'a>),
     /// To say whether a network is accepted.
     Check(Check<'a>),
+    /// To compile the machines of a network.
+    Compile(Compile<'a>),
     /// To say whether a journal is legal.
     Replay(Replay<'a>),
     /// To save a legal journal with its least stamps.
@@ -35,7 +40,8 @@ pub enum Request<'a> {
 /// What the command line asks for, if it asks for anything.
 pub fn judge(words: &Words) -> Option<Request<'_>>
     ensures asks { IfSome result (λ request. Asks words.now request) }
-    ensures one { IfSome result (λ request. (other : Request) → Asks words.now other → other ≡ request) }
+    ensures one { IfSome result (λ request. (other : Request) → Asks words.now other
+        → other ≡ request) }
     ensures nothing { IfNone result (AsksNothing words.now) }
 {
     match run_of(words) {
@@ -44,6 +50,10 @@ pub fn judge(words: &Words) -> Option<Request<'_>>
     }
     match check_of(words) {
         Some(check) => return Some(Request::Check(check)),
+        None => {}
+    }
+    match compile_of(words) {
+        Some(compile) => return Some(Request::Compile(compile)),
         None => {}
     }
     match replay_of(words) {

@@ -46,14 +46,15 @@ fn judged<'a>(words: &'a [&'a str], journal: &'a str, status: Status, shown: &'a
         shown,
         outputs: None,
         journal: None,
+        listing: None,
         ..PRESS
     }
 }
 
 // The same call, where a call of the host fails.
-fn failing<'a>(fails: u64, load_faults: u64, write_faults: u64, case: Case<'a>) -> Case<'a> {
+fn failing<'a>(fails: &'a [u64], load_faults: u64, write_faults: u64, case: Case<'a>) -> Case<'a> {
     Case {
-        fails: Some(fails),
+        fails,
         load_faults,
         write_faults,
         ..case
@@ -305,20 +306,20 @@ fn tells_of_faults_over_journals(rt: HostRuntime) -> Result<(), Fail> {
         rt.alloc(),
         &[
             failing(
-                2,
+                &[2],
                 1,
                 0,
                 judged(REPLAY, JOINED, Status::ReadFault, "read fault jnl\n"),
             ),
-            failing(3, 0, 1, judged(REPLAY, JOINED, Status::WriteFault, "")),
-            failing(3, 0, 1, judged(REPLAY, illegal, Status::Illegal, "")),
+            failing(&[3], 0, 1, judged(REPLAY, JOINED, Status::WriteFault, "")),
+            failing(&[3], 0, 1, judged(REPLAY, illegal, Status::Illegal, "")),
             failing(
-                3,
+                &[3],
                 0,
                 1,
                 judged(MIGRATE, JOINED, Status::WriteFault, "write fault o.jnl\n"),
             ),
-            failing(4, 0, 1, unshown),
+            failing(&[4], 0, 1, unshown),
         ],
     )
 }

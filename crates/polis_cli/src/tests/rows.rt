@@ -1,9 +1,13 @@
 // Whole calls over files in memory, as a table.
+use crate::tests::listings::{
+    BELT_LISTING, ECHO_LISTING, JOIN_LISTING, LAMP_LISTING, LOOP_LISTING, PONG_LISTING,
+    TWO_LISTING, VALUE_LISTING,
+};
 use crate::tests::networks::{
     ABSENT_VALUE, BELT, CLASH, ECHO, ECHO_1, ECHO_CLASH, ECHO_ROWS, EVEN, JOIN, LAMP, LAMP_2, LOOP,
     OPEN_ROW, PONG, TOO_WIDE, TWO, TWO_SENDERS, VALUE, WIDE,
 };
-use crate::tests::{CHECK, Case, PRESS, PRESSED, PRESSED_SHOWN, RUN, try_cases};
+use crate::tests::{CHECK, COMPILE, Case, PRESS, PRESSED, PRESSED_SHOWN, RUN, try_cases};
 use polis_words::Status;
 use std::test::Fail;
 
@@ -60,9 +64,9 @@ const PONG_JOURNAL: &str = "polis journal 2
 end 10 limit
 ";
 
-// A run that is complete.
+// A run that is complete, of a network with its listing on a trace, and what it shows and saves.
 fn run<'a>(
-    net: &'a [u8],
+    (net, listing): (&'a [u8], &'a str),
     trace: &'a str,
     shown: &'a str,
     outputs: &'a str,
@@ -74,6 +78,7 @@ fn run<'a>(
         shown,
         outputs: Some(outputs),
         journal: Some(journal),
+        listing: Some(listing),
         ..PRESS
     }
 }
@@ -88,7 +93,17 @@ fn refused<'a>(words: &'a [&'a str], net: &'a [u8], trace: &'a str, shown: &'a s
         status: Status::Refused,
         outputs: None,
         journal: None,
+        listing: None,
         ..PRESS
+    }
+}
+
+// A compilation that saves the listing of a network.
+fn compiled<'a>(net: &'a [u8], listing: &'a str, shown: &'a str) -> Case<'a> {
+    Case {
+        status: Status::Done,
+        listing: Some(listing),
+        ..refused(COMPILE, net, "", shown)
     }
 }
 
@@ -108,73 +123,79 @@ fn runs_small_networks(rt: HostRuntime) -> Result<(), Fail> {
         &[
             PRESS,
             run(
-                LAMP,
+                (LAMP, LAMP_LISTING),
                 "",
-                "entries 0 complete\nlost 0\ngathered 0 adopted 0\n",
+                "entries 0 complete\nlost 0\ngathered 0 adopted 0\nmachine lamp_ctl vertices 7 code 6 tries 0 steps 0\n",
                 "",
                 "polis journal 2\nend 0 complete\n",
             ),
             run(
-                LAMP,
+                (LAMP, LAMP_LISTING),
                 "press\nsettle\npress\n",
-                "entries 4 complete\nlost 0\ngathered 0 adopted 0\n",
+                "entries 4 complete\nlost 0\ngathered 0 adopted 0\nmachine lamp_ctl vertices 7 code 6 tries 2 steps 9\n",
                 "light\n",
                 "polis journal 2\n@1 dep env lamp_ctl press\n@2 fire lamp_ctl : press ; s=off -> s=on ; light\n@3 dep env lamp_ctl press\n@4 idle lamp_ctl : press ; s=on\nend 4 complete\n",
             ),
-            run(LAMP_2, "press\n", PRESSED_SHOWN, "light\n", PRESSED),
             run(
-                JOIN,
+                (LAMP_2, LAMP_LISTING),
+                "press\n",
+                PRESSED_SHOWN,
+                "light\n",
+                PRESSED,
+            ),
+            run(
+                (JOIN, JOIN_LISTING),
                 "a\na\nb\n",
-                "entries 4 complete\nlost 1\ngathered 0 adopted 0\n",
+                "entries 4 complete\nlost 1\ngathered 0 adopted 0\nmachine m vertices 6 code 5 tries 1 steps 5\n",
                 "c\n",
                 "polis journal 2\n@1 dep env m a\n@2 dep env m a\n@3 dep env m b\n@4 fire m : a b ; - -> - ; c\nend 4 complete\n",
             ),
             run(
-                JOIN,
+                (JOIN, JOIN_LISTING),
                 "a\nsettle\nb\n",
-                "entries 4 complete\nlost 0\ngathered 0 adopted 0\n",
+                "entries 4 complete\nlost 0\ngathered 0 adopted 0\nmachine m vertices 6 code 5 tries 2 steps 8\n",
                 "c\n",
                 "polis journal 2\n@1 dep env m a\n@2 idle m : a ; -\n@3 dep env m b\n@4 fire m : a b ; - -> - ; c\nend 4 complete\n",
             ),
             run(
-                VALUE,
+                (VALUE, VALUE_LISTING),
                 "v 3\nv 5\n",
-                "entries 3 complete\nlost 1\ngathered 0 adopted 0\n",
+                "entries 3 complete\nlost 1\ngathered 0 adopted 0\nmachine m vertices 5 code 4 tries 1 steps 4\n",
                 "hit\n",
                 "polis journal 2\n@1 dep env m v=3\n@2 dep env m v=5\n@3 fire m : v=5 ; - -> - ; hit\nend 3 complete\n",
             ),
             run(
-                TWO,
+                (TWO, TWO_LISTING),
                 "x\n",
-                "entries 4 complete\nlost 0\ngathered 0 adopted 0\n",
+                "entries 4 complete\nlost 0\ngathered 0 adopted 0\nmachine a vertices 5 code 4 tries 1 steps 4\nmachine b vertices 5 code 4 tries 1 steps 4\n",
                 "yb\nya\n",
                 "polis journal 2\n@1 dep env a x\n@1 dep env b x\n@2 fire b : x ; - -> - ; yb\n@2 fire a : x ; - -> - ; ya\nend 4 complete\n",
             ),
             run(
-                EVEN,
+                (EVEN, TWO_LISTING),
                 "x\n",
-                "entries 4 complete\nlost 0\ngathered 0 adopted 0\n",
+                "entries 4 complete\nlost 0\ngathered 0 adopted 0\nmachine a vertices 5 code 4 tries 1 steps 4\nmachine b vertices 5 code 4 tries 1 steps 4\n",
                 "ya\nyb\n",
                 "polis journal 2\n@1 dep env a x\n@1 dep env b x\n@2 fire a : x ; - -> - ; ya\n@2 fire b : x ; - -> - ; yb\nend 4 complete\n",
             ),
             run(
-                LOOP,
+                (LOOP, LOOP_LISTING),
                 "go\n",
-                "entries 6 complete\nlost 0\ngathered 0 adopted 0\n",
+                "entries 6 complete\nlost 0\ngathered 0 adopted 0\nmachine m vertices 12 code 13 tries 3 steps 20\n",
                 "",
                 "polis journal 2\n@1 dep env m go\n@2 fire m : go ; c=0 -> c=1 ; x\n@3 dep m m x\n@4 fire m : x ; c=1 -> c=2 ; x\n@5 dep m m x\n@6 fire m : x ; c=2 -> c=3 ; -\nend 6 complete\n",
             ),
             run(
-                BELT,
+                (BELT, BELT_LISTING),
                 BELT_TRACE,
-                "entries 30 complete\nlost 0\ngathered 0 adopted 0\n",
+                "entries 30 complete\nlost 0\ngathered 0 adopted 0\nmachine belt vertices 22 code 25 tries 3 steps 26\nmachine timer vertices 20 code 29 tries 12 steps 81\n",
                 "alarm_on\nalarm_off\n",
                 BELT_JOURNAL,
             ),
             run(
-                ECHO,
+                (ECHO, ECHO_LISTING),
                 "v 5\n",
-                "entries 2 complete\nlost 0\ngathered 0 adopted 0\n",
+                "entries 2 complete\nlost 0\ngathered 0 adopted 0\nmachine m vertices 21 code 34 tries 1 steps 8\n",
                 "w=5\n",
                 "polis journal 2\n@1 dep env m v=5\n@2 fire m : v=5 ; s=6 -> s=1 ; w=5\nend 2 complete\n",
             ),
@@ -192,9 +213,9 @@ fn ends_at_the_limit(rt: HostRuntime) -> Result<(), Fail> {
         words: &["run", "net", "trc", "o", "--limit", "1"],
         status: Status::Limit,
         ..run(
-            LAMP,
+            (LAMP, LAMP_LISTING),
             "press\n",
-            "entries 1 limit\nlost 0\ngathered 0 adopted 0\n",
+            "entries 1 limit\nlost 0\ngathered 0 adopted 0\nmachine lamp_ctl vertices 7 code 6 tries 0 steps 0\n",
             "",
             "polis journal 2\n@1 dep env lamp_ctl press\nend 1 limit\n",
         )
@@ -203,14 +224,32 @@ fn ends_at_the_limit(rt: HostRuntime) -> Result<(), Fail> {
         words: &["run", "net", "trc", "o", "--limit", "10"],
         status: Status::Limit,
         ..run(
-            PONG,
+            (PONG, PONG_LISTING),
             "go\n",
-            "entries 10 limit\nlost 0\ngathered 0 adopted 0\n",
+            "entries 10 limit\nlost 0\ngathered 0 adopted 0\nmachine a vertices 6 code 5 tries 3 steps 14\nmachine b vertices 5 code 4 tries 2 steps 8\n",
             "",
             PONG_JOURNAL,
         )
     };
     try_cases(&rt, rt.alloc(), &[whole, cut, endless])
+}
+
+#[test]
+fn compiles_networks(rt: HostRuntime) -> Result<(), Fail> {
+    try_cases(
+        &rt,
+        rt.alloc(),
+        &[
+            compiled(LAMP, LAMP_LISTING, "machine lamp_ctl vertices 7 code 6\n"),
+            compiled(
+                BELT,
+                BELT_LISTING,
+                "machine belt vertices 22 code 25\nmachine timer vertices 20 code 29\n",
+            ),
+            refused(COMPILE, CLASH, "", "refused net conflict m 0 2 a b ; -\n"),
+            refused(COMPILE, OPEN_ROW, "", "refused net syntax 77\n"),
+        ],
+    )
 }
 
 #[test]

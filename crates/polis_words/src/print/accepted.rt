@@ -69,7 +69,8 @@ pub fn print_conflict(
 ) -> Result<Bytes, NoMemory>
     requires sized { IsTrue (has_vars net.now.domains net.now.events machine.now) }
     requires snapshot { IsSnapshot machine.now snapshot.now }
-    ensures { IfOk result (λ text. text ≡ conflict_text net.now machine.now row_a row_b snapshot.now) }
+    ensures { IfOk result (λ text. text
+        ≡ conflict_text net.now machine.now row_a row_b snapshot.now) }
 {
     let mut text = Bytes::new(alloc);
     text.push(machine.name.bytes())?;

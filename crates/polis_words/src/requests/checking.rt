@@ -32,7 +32,8 @@ impl<'a> Check<'a> {
 /// The check that the command line asks for, if it asks for one.
 pub fn check_of(words: &Words) -> Option<Check<'_>>
     ensures asks { IfSome result (λ check. AsksCheck words.now check) }
-    ensures one { IfSome result (λ check. (other : CheckWords) → AsksCheck words.now other → other ≡ check) }
+    ensures one { IfSome result (λ check. (other : CheckWords) → AsksCheck words.now other
+        → other ≡ check) }
     ensures nothing { IfNone result ((check : CheckWords) → ¬ AsksCheck words.now check) }
 {
     if words.len() != 2 {

@@ -41,7 +41,8 @@ impl<'a> Migrate<'a> {
 /// The migration that the command line asks for, if it asks for one.
 pub fn migrate_of(words: &Words) -> Option<Migrate<'_>>
     ensures asks { IfSome result (λ migrate. AsksMigrate words.now migrate) }
-    ensures one { IfSome result (λ migrate. (other : MigrateWords) → AsksMigrate words.now other → other ≡ migrate) }
+    ensures one { IfSome result (λ migrate. (other : MigrateWords) → AsksMigrate words.now other
+        → other ≡ migrate) }
     ensures nothing { IfNone result ((migrate : MigrateWords) → ¬ AsksMigrate words.now migrate) }
 {
     if words.len() != 5 {

@@ -52,7 +52,9 @@ pub fn files_of(words: &Words) -> Option<Replay<'_>>
     ensures trace { IfSome result (λ replay. slice_get words.now 2 ≡ Some replay.trace) }
     ensures journal { IfSome result (λ replay. slice_get words.now 3 ≡ Some replay.journal) }
     ensures files { IfSome result (λ replay. AreFileWords replay) }
-    ensures none { IfNone result ((replay : ReplayWords) → slice_get words.now 1 ≡ Some replay.net → slice_get words.now 2 ≡ Some replay.trace → slice_get words.now 3 ≡ Some replay.journal → ¬ AreFileWords replay) }
+    ensures none { IfNone result ((replay : ReplayWords) → slice_get words.now 1 ≡ Some replay.net
+        → slice_get words.now 2 ≡ Some replay.trace → slice_get words.now 3 ≡ Some replay.journal
+        → ¬ AreFileWords replay) }
 {
     let net = words.get(1);
     let trace = words.get(2);
@@ -71,7 +73,8 @@ pub fn files_of(words: &Words) -> Option<Replay<'_>>
 /// The replay that the command line asks for, if it asks for one.
 pub fn replay_of(words: &Words) -> Option<Replay<'_>>
     ensures asks { IfSome result (λ replay. AsksReplay words.now replay) }
-    ensures one { IfSome result (λ replay. (other : ReplayWords) → AsksReplay words.now other → other ≡ replay) }
+    ensures one { IfSome result (λ replay. (other : ReplayWords) → AsksReplay words.now other
+        → other ≡ replay) }
     ensures nothing { IfNone result ((replay : ReplayWords) → ¬ AsksReplay words.now replay) }
 {
     if words.len() == 4 && words.get(0) == "replay" {

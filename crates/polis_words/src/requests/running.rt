@@ -24,7 +24,12 @@ impl<'a> Model for Run<'a> {
 
     ghost Value = { RunWords };
 
-    ghost view = { λ r. record { net = r.net.now; trace = r.trace.now; stem = r.stem.now; limit = r.limit } };
+    ghost view = { λ r. record {
+      net = r.net.now;
+      trace = r.trace.now;
+      stem = r.stem.now;
+      limit = r.limit;
+    } };
 
     ghost invariant = { λ r. r.limit ≤ entry_max };
 }
@@ -106,7 +111,8 @@ fn limit_of(words: &Words) -> Option<u64>
 /// The run that the command line asks for, if it asks for one.
 pub fn run_of(words: &Words) -> Option<Run<'_>>
     ensures asks { IfSome result (λ run. AsksRun words.now run) }
-    ensures one { IfSome result (λ run. (other : RunWords) → AsksRun words.now other → other ≡ run) }
+    ensures one { IfSome result (λ run. (other : RunWords) → AsksRun words.now other
+        → other ≡ run) }
     ensures nothing { IfNone result ((run : RunWords) → ¬ AsksRun words.now run) }
 {
     if words.len() < 4 {

@@ -3,4 +3,5 @@ use Rattle.polis_cli.proofs.LampRow.{lamp_row}
 use Rattle.polis_cli.proofs.worked.worked_run.Goals as goal
 
 pub returns : goal.returns
-returns c = lamp_row (lamp_declared, c.worked_texts.ensures.lamp, c.worked_network.ensures.lamp) c.laws.ensures.one_row c.worked_rows.ensures.lamp_once
+returns c = lamp_row (lamp_declared, c.worked_texts.ensures.lamp, c.worked_network.ensures.lamp)
+    c.laws.ensures.one_row c.worked_rows.ensures.lamp_once

@@ -15,3 +15,15 @@ returns-clause-outputs c = refl
 pub returns-clause-summary : goal.returns-clause-summary
 unfolding digits
 returns-clause-summary c = refl
+
+pub returns-clause-listing : goal.returns-clause-listing
+unfolding digits
+returns-clause-listing c = refl
+
+pub returns-clause-tries : goal.returns-clause-tries
+unfolding digits
+returns-clause-tries c = refl
+
+pub returns-clause-lengths : goal.returns-clause-lengths
+unfolding digits
+returns-clause-lengths c = refl

@@ -5,9 +5,12 @@ use Rattle.polis_words.proofs.requests.replaying.replay_of.Goals as goal
 
 pub returns-in-Some-clause-asks : goal.returns-in-Some-clause-asks
 returns-in-Some-clause-asks c =
-    let command : c.get.result.now ≡ codes "replay" = (bytes_eq-Decides c.get.result.now (codes "replay")).0 (sym c.if-eq.ensures) in
+    let command : c.get.result.now ≡ codes "replay" =
+    (bytes_eq-Decides c.get.result.now (codes "replay")).0 (sym c.if-eq.ensures) in
     let found = c.in-Some.ensures in
     record {
-      form = four_words c.args.words.now (codes "replay") c.in-Some.replay.net c.in-Some.replay.trace c.in-Some.replay.journal (cc) (rw command at c.get.ensures) found.net found.trace found.journal;
+      form = four_words c.args.words.now (codes "replay") c.in-Some.replay.net
+          c.in-Some.replay.trace c.in-Some.replay.journal (cc) (rw command at c.get.ensures)
+          found.net found.trace found.journal;
       files = found.files;
     }

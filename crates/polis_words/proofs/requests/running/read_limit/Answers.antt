@@ -5,4 +5,6 @@ use Rattle.polis_words.proofs.requests.running.read_limit.Goals as goal
 pub returns-in-Some-clause-none : goal.returns-in-Some-clause-none
 returns-in-Some-clause-none c =
     let fits = rw c.in-Some.is at c.read_decimal.type_inv in
-    no_limits c.within_limits.result c.args.word.now c.in-Some.n (rw c.as_bytes.ensures.value at c.in-Some.ensures.some) (omega (arith, fits)) c.within_limits.ensures.none
+    no_limits c.within_limits.result c.args.word.now c.in-Some.n
+    (rw c.as_bytes.ensures.value at c.in-Some.ensures.some) (omega (arith, fits))
+    c.within_limits.ensures.none

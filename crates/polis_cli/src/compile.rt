@@ -1,0 +1,69 @@
+// The command `compile`: the machines of a network as code, and their listing.
+ghost use Rattle.std.specs.Prelude.{◌≡◌, ◌≢◌, IfOk, IfErr, OnOk};
+ghost use Rattle.polis_base.specs.Host.{Rose, WhereTold};
+ghost use Rattle.transition_table.specs.Transitions.{AreDeterministic};
+ghost use Rattle.polis_words.specs.declared.cause.Cause.{Cause};
+ghost use Rattle.polis_cli.specs.Inputs.{FailsNet};
+ghost use Rattle.polis_cli.specs.Writing.{IsWell};
+ghost use Rattle.polis_cli.specs.Compilations.{IsCompileProduct, MakesCompile};
+
+use crate::load::load_net;
+use crate::product::{Product, Saving};
+use machine_compiler::{compile_network, print_lengths, print_listing};
+use polis_base::{Host, List, NoMemory};
+use polis_words::{Cause, Compile, Failure, Status};
+use std::alloc::Global;
+use transition_table::Network;
+
+// Compiles each machine, and makes the texts of what was compiled.
+fn compile_product(alloc: Global, asked: &Compile<'_>, net: &Network) -> Result<Product, NoMemory>
+    requires { AreDeterministic net.now }
+    ensures { IfOk result (λ product. IsCompileProduct asked.now net.now product) }
+{
+    let machines = compile_network(alloc, net)?;
+    let text = print_listing(alloc, net, &machines)?;
+    let shown = print_lengths(alloc, net, &machines)?;
+    let saving = Saving::new(alloc, asked.stem(), ".lst", text)?;
+    let mut saves = List::new(alloc);
+    saves.push(saving)?;
+    Ok(Product {
+        saves,
+        shown,
+        status: Status::Done,
+    })
+}
+
+/// What a compilation makes of the file.
+pub fn make_compile<'a, H: Host>(
+    alloc: Global,
+    host: &mut H,
+    asked: &'a Compile<'_>,
+) -> Result<Product, Failure<'a>>
+    ensures made { IfOk result (λ product.
+        WhereTold (H.files host.old) (λ files. MakesCompile asked.now files product)) }
+    ensures well { IfOk result (λ product. IsWell product) }
+    ensures failed { IfErr result (λ failure.
+        WhereTold (H.files host.old) (λ files.
+        FailsNet asked.now.net files failure.name.now failure.cause)) }
+    ensures ok_faults { OnOk result (H.load_faults host.new ≡ H.load_faults host.old) }
+    ensures fault { IfErr result (λ failure. failure.cause ≡ Cause.ReadFault
+        → Rose (H.load_faults host.old) (H.load_faults host.new)) }
+    ensures no_fault { IfErr result (λ failure. failure.cause ≢ Cause.ReadFault
+        → H.load_faults host.new ≡ H.load_faults host.old) }
+    ensures files { H.files host.new ≡ H.files host.old }
+    ensures shown { H.shown host.new ≡ H.shown host.old }
+    ensures write_faults { H.write_faults host.new ≡ H.write_faults host.old }
+{
+    let name = asked.net();
+    let net = match load_net(alloc, host, name) {
+        Ok(net) => net,
+        Err(cause) => return Err(Failure { name, cause }),
+    };
+    match compile_product(alloc, asked, &net) {
+        Ok(product) => Ok(product),
+        Err(NoMemory) => Err(Failure {
+            name,
+            cause: Cause::NoMemory,
+        }),
+    }
+}

@@ -27,7 +27,7 @@ use Rattle.polis_cli.proofs.Saving.{held_other, all_held}
 use Rattle.polis_cli.proofs.Refusing.{refuses, illegal_found, illegal_ends, illegal_accepts, not_illegal, cases_of}
 
 -- the request is the one that the command line asks for
-abbrev IsOne : List (List ℕ) → Request → Type 0
+abbrev pub IsOne : List (List ℕ) → Request → Type 0
 IsOne words request = (other : Request) → Asks words other → other ≡ request
 
 -- what failed is why it is refused
@@ -48,7 +48,7 @@ pub failed_there : (o : Option Files) (words : List (List ℕ)) (request : Reque
     → WhereTold o (λ files. Fails request files name cause) → IsOne words request
     → (status ≡ status_of cause) ⊎ (status ≡ NoMemory)
     → WhereTold o (λ files. (other : Request) → Asks words other → Accepts other files
-    → IsTrue (ends_with other status) ⊎ (status ≡ ReadFault) ⊎ (status ≡ WriteFault)
+    → IsTrue (ends_with other status) ⊎ (status ≡ WriteFault) ⊎ (status ≡ ReadFault)
     ⊎ (status ≡ NoMemory))
 failed_there o words request name cause status fails one s =
     told_from o (λ files. Fails request files name cause) _ there fails
@@ -58,12 +58,12 @@ failed_there o words request name cause status fails one s =
         → other ≡ request
         → (status_of cause ≡ Refused) ⊎ (status_of cause ≡ ReadFault) ⊎ (status_of cause ≡ NoMemory)
         ⊎ (status_of cause ≡ Illegal) → (status ≡ status_of cause) ⊎ (status ≡ NoMemory)
-        → IsTrue (ends_with other status) ⊎ (status ≡ ReadFault) ⊎ (status ≡ WriteFault)
+        → IsTrue (ends_with other status) ⊎ (status ≡ WriteFault) ⊎ (status ≡ ReadFault)
         ⊎ (status ≡ NoMemory)
     by_cause files other h all same which (inr wanting) = inr (inr (inr wanting))
     by_cause files other h all same (inl e) (inl is) =
         absurd (refuses files request name cause e h all)
-    by_cause files other h all same (inr (inl e)) (inl is) = inr (inl (is ∙ e))
+    by_cause files other h all same (inr (inl e)) (inl is) = inr (inr (inl (is ∙ e)))
     by_cause files other h all same (inr (inr (inl e))) (inl is) = inr (inr (inr (is ∙ e)))
     by_cause files other h all same (inr (inr (inr e))) (inl is) =
         inl (ap (λ (r : Request). ends_with r status) same ∙ ap (ends_with request) (is ∙ e)
@@ -71,7 +71,7 @@ failed_there o words request name cause status fails one s =
 
     there : (files : Files) → Fails request files name cause → (other : Request) → Asks words other
         → Accepts other files
-        → IsTrue (ends_with other status) ⊎ (status ≡ ReadFault) ⊎ (status ≡ WriteFault)
+        → IsTrue (ends_with other status) ⊎ (status ≡ WriteFault) ⊎ (status ≡ ReadFault)
         ⊎ (status ≡ NoMemory)
     there files h other asks all =
         by_cause files other h (subst (λ (r : Request). Accepts r files) (one other asks) all)
@@ -342,19 +342,19 @@ pub done_there : (o : Option Files) (words : List (List ℕ)) (request : Request
     → WhereTold o (λ files. Makes request files product) → IsOne words request
     → Writes status product rose a b s t
     → WhereTold o (λ files. (other : Request) → Asks words other → Accepts other files
-    → IsTrue (ends_with other status) ⊎ (status ≡ ReadFault) ⊎ (status ≡ WriteFault)
+    → IsTrue (ends_with other status) ⊎ (status ≡ WriteFault) ⊎ (status ≡ ReadFault)
     ⊎ (status ≡ NoMemory))
 done_there o words request product status rose a b s t made one writes =
     told_from o (λ files. Makes request files product) _ (there writes) made
   where
     there : Writes status product rose a b s t → (files : Files) → Makes request files product
         → (other : Request) → Asks words other → Accepts other files
-        → IsTrue (ends_with other status) ⊎ (status ≡ ReadFault) ⊎ (status ≡ WriteFault)
+        → IsTrue (ends_with other status) ⊎ (status ≡ WriteFault) ⊎ (status ≡ ReadFault)
         ⊎ (status ≡ NoMemory)
     there (inl (e, all)) files m other asks accepts =
         inl (subst (λ (r : Request). ends_with r status ≡ true) (sym (one other asks))
         (ap (ends_with request) e ∙ makes_ends request files product m))
-    there (inr (inl (e, fails))) files m other asks accepts = inr (inr (inl e))
+    there (inr (inl (e, fails))) files m other asks accepts = inr (inl e)
     there (inr (inr (e, out))) files m other asks accepts = inr (inr (inr e))
 
 -- Done or Limit: the product was written

@@ -20,7 +20,7 @@ mod top;
 mod worked;
 mod write;
 
-use crate::top::polis;
+use crate::top::serial;
 pub use machine_compiler::{Compiled, compile_machine};
 use polis_base::{Host, NoMemory, Save, StdHost, Words};
 use polis_words::Status;
@@ -110,7 +110,7 @@ fn main(rt: HostRuntime) -> ExitCode {
     let status = match read_words(&rt) {
         Ok(words) => match answer_of(&words) {
             Some(text) => answer(&mut host, text, Status::Done),
-            None => polis(rt.alloc(), &words, &mut host),
+            None => serial(rt.alloc(), &words, &mut host),
         },
         Err(Unread::NotText) => {
             let _ = host.show(b"usage\n");

@@ -1,5 +1,5 @@
 // What no clause says: that a product is made where there is memory, and the texts of whole calls.
-use crate::top::polis;
+use crate::top::serial;
 use polis_base::{Bytes, MemoryHost, NoMemory, Words};
 use polis_words::Status;
 use std::alloc::Global;
@@ -155,7 +155,7 @@ fn is_held(host: &MemoryHost, name: &str, wanted: Option<&str>) -> bool {
 fn try_case(rt: &impl Abort, alloc: Global, case: &Case<'_>, number: usize) -> Result<(), Fail> {
     let words = make_words(alloc, case.words)?;
     let mut host = make_host(alloc, case)?;
-    let status = polis(alloc, &words, &mut host);
+    let status = serial(alloc, &words, &mut host);
     assert!(rt; status == case.status, "the status of case {number}");
     assert!(rt;
         host.shown() == case.shown.as_bytes(),
@@ -342,7 +342,7 @@ fn call_padded(
     host.put("net", text.as_slice())?;
     host.put("trc", b"press\n")?;
     let words = make_words(alloc, words)?;
-    let status = polis(alloc, &words, &mut host);
+    let status = serial(alloc, &words, &mut host);
     Ok((status, host))
 }
 

@@ -1,7 +1,7 @@
 // Whole calls that judge journals, over files in memory, as tables.
 use crate::tests::networks::{JOIN, LAMP, TWO};
 use crate::tests::{Case, PRESS, make_words, try_cases};
-use crate::top::polis;
+use crate::top::serial;
 use polis_base::{Bytes, MemoryHost, NoMemory};
 use polis_words::Status;
 use std::alloc::Global;
@@ -337,7 +337,7 @@ fn refuses_a_journal_of_too_many_entries(rt: HostRuntime) -> Result<(), Fail> {
     host.put("trc", b"press\n")?;
     host.put("jnl", text.as_slice())?;
     let words = make_words(alloc, REPLAY)?;
-    let status = polis(alloc, &words, &mut host);
+    let status = serial(alloc, &words, &mut host);
     assert!(rt; status == Status::Refused);
     assert!(rt; host.shown() == b"refused jnl line 60002 many\n".as_slice());
     Ok(())

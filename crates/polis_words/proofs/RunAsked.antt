@@ -278,8 +278,8 @@ pub needs_more : (words : List (List ℕ)) (run : RunWords) (workers : ℕ) → 
 needs_more words run workers same asks one = (
   λ test. (run, asks, subst (λ (w : ℕ). 1 < w) same (test_more test)),
   λ needs. more_test
-  (subst (λ (w : ℕ). 1 < w) (ap (λ (r : RunWords). r.workers) (one needs.0 needs.1) ∙ sym same)
-  needs.2),
+      (subst (λ (w : ℕ). 1 < w) (ap (λ (r : RunWords). r.workers) (one needs.0 needs.1) ∙ sym same)
+      needs.2),
 )
   where
     test_more : IsTrue (nat_lt 1 workers) → 1 < workers

@@ -2,7 +2,8 @@
 use Rattle.std.specs.Prelude.{◌≡◌, ◌⊎◌, ℕ, ◌+◌, ◌≤◌, ◌<◌, Some, slice_get, List, [], ◌∷◌, ◌++◌, codes, decimal}
 use Rattle.polis_words.specs.FileWords.{IsFileWord}
 
--- what a run is asked for: the names of its files, how many workers run it, and the most entries that its journal may have
+-- what a run is asked for: the names of its files, how many workers run it, and the most entries
+-- that its journal may have
 pub record RunWords : Type 0 where
   pub net : List ℕ
   pub trace : List ℕ
@@ -19,7 +20,8 @@ abbrev pub entry_max : ℕ
 entry_max = 60000
 
 -- the flag stands at this place, and after it the number in decimal, which is from 1 to `most`
-pub record IsNumberAt (words : List (List ℕ)) (place : ℕ) (flag : List ℕ) (most n : ℕ) : Type 0 where
+pub record IsNumberAt (words : List (List ℕ)) (place : ℕ) (flag : List ℕ) (most n : ℕ)
+    : Type 0 where
   pub flag_at : slice_get words place ≡ Some flag
   pub number_at : slice_get words (place + 1) ≡ Some (decimal n)
   pub some : 1 ≤ n
@@ -29,7 +31,8 @@ pub record IsNumberAt (words : List (List ℕ)) (place : ℕ) (flag : List ℕ) 
 abbrev pub run_form : RunWords → List (List ℕ) → List (List ℕ)
 run_form run options = codes "run" ∷ run.net ∷ run.trace ∷ run.stem ∷ options
 
--- These words are the option of this flag with a number from 1 to `most` in decimal; or they are none, and the number is the default.
+-- the words are this flag and a number from 1 to `most` in decimal; or there are no words, and the
+-- number is the default
 abbrev pub IsOption : List ℕ → ℕ → ℕ → List (List ℕ) → ℕ → Type 0
 IsOption flag most default words n =
     ((words ≡ []) × (n ≡ default)) ⊎ ((words ≡ flag ∷ decimal n ∷ []) × (1 ≤ n) × (n ≤ most))
@@ -42,7 +45,8 @@ AsksWorkers words workers = IsOption (codes "--workers") worker_max 1 words work
 abbrev pub AsksLimit : List (List ℕ) → ℕ → Type 0
 AsksLimit words limit = IsOption (codes "--limit") entry_max entry_max words limit
 
--- the options ask for so many workers and this limit, each option standing at most once, in any order
+-- the options ask for so many workers and this limit; each option stands at most once, in either
+-- order
 pub record AsksOptions (options : List (List ℕ)) (workers limit : ℕ) : Type 0 where
   pub of_workers : List (List ℕ)
   pub of_limit : List (List ℕ)

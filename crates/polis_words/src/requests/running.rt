@@ -34,9 +34,16 @@ impl<'a> Model for Run<'a> {
 
     ghost Value = { RunWords };
 
-    ghost view = { λ r. record { net = r.net.now; trace = r.trace.now; stem = r.stem.now; workers = r.options.workers; limit = r.options.limit } };
+    ghost view = { λ r. record {
+      net = r.net.now;
+      trace = r.trace.now;
+      stem = r.stem.now;
+      workers = r.options.workers;
+      limit = r.options.limit;
+    } };
 
-    ghost invariant = { λ r. (1 ≤ r.options.workers) × (r.options.workers ≤ worker_max) × (1 ≤ r.options.limit) × (r.options.limit ≤ entry_max) };
+    ghost invariant = { λ r. (1 ≤ r.options.workers) × (r.options.workers ≤ worker_max)
+        × (1 ≤ r.options.limit) × (r.options.limit ≤ entry_max) };
 }
 
 impl<'a> Run<'a> {
@@ -113,7 +120,8 @@ fn number_after(words: &Words, place: u64, flag: &str, most: u64) -> Option<u64>
     }
 }
 
-// The numbers after two flags, where the first flag stands after four words and the second one after its number.
+// The numbers after two flags, where the first flag stands after four words and the second one
+// after its number.
 fn numbers_after(
     words: &Words,
     first: &str,
@@ -124,7 +132,8 @@ fn numbers_after(
     requires { 8 ≤ length words.now }
     ensures first { IfSome result (λ p. IsNumberAt words.now 4 first.now first_most p.0) }
     ensures second { IfSome result (λ p. IsNumberAt words.now 6 second.now second_most p.1) }
-    ensures none { IfNone result ((n m : ℕ) → IsNumberAt words.now 4 first.now first_most n → ¬ IsNumberAt words.now 6 second.now second_most m) }
+    ensures none { IfNone result ((n m : ℕ) → IsNumberAt words.now 4 first.now first_most n
+        → ¬ IsNumberAt words.now 6 second.now second_most m) }
 {
     match number_after(words, 4, first, first_most) {
         Some(n) => match number_after(words, 6, second, second_most) {
@@ -190,7 +199,8 @@ fn options_of(words: &Words) -> Option<Options>
 /// The run that the command line asks for, if it asks for one.
 pub fn run_of(words: &Words) -> Option<Run<'_>>
     ensures asks { IfSome result (λ run. AsksRun words.now run) }
-    ensures one { IfSome result (λ run. (other : RunWords) → AsksRun words.now other → other ≡ run) }
+    ensures one { IfSome result (λ run. (other : RunWords) → AsksRun words.now other
+        → other ≡ run) }
     ensures nothing { IfNone result ((run : RunWords) → ¬ AsksRun words.now run) }
 {
     if words.len() < 4 {

@@ -19,8 +19,8 @@ use migrating::migrate_of;
 use polis_base::Words;
 pub use replaying::Replay;
 use replaying::replay_of;
-pub use running::Run;
 use running::run_of;
+pub use running::{Run, needs_workers};
 
 /// What a command line asks for, one variant for each command.
 #[derive(Drop)]

@@ -1,12 +1,15 @@
 // The command line `run NET TRACE STEM`, with its options.
-ghost use Rattle.std.specs.Prelude.{◌≡◌, ◌≢◌, ◌≤◌, ℕ, length, drop, decimal, IfSome, IfNone};
-ghost use Rattle.polis_words.specs.Run.{RunWords, AsksRun, AsksLimit, entry_max};
+ghost use Rattle.std.specs.Prelude.{◌≡◌, ◌≢◌, ◌↔◌, ◌+◌, ◌≤◌, ℕ, length, drop, decimal, codes, slice_get, Some, IfSome, IfNone, IsTrue};
+ghost use Rattle.polis_words.specs.Run.{RunWords, AsksRun, AsksOptions, IsNumberAt, NeedsWorkers, worker_max, entry_max};
 
 use crate::requests::file_word::is_file_word;
 use polis_base::{Words, read_decimal};
 use std::marker::Model;
 
-// The most entries of a journal where no option names another limit.
+// The most workers of a run.
+const WORKER_MAX: u64 = 8;
+
+// The most entries of a journal, also where no option names another limit.
 const ENTRY_MAX: u64 = 60000;
 
 /// A request to run a network on a trace.
@@ -15,12 +18,19 @@ pub struct Run<'a> {
     net: &'a str,
     trace: &'a str,
     stem: &'a str,
+    options: Options,
+}
+
+// What the options of a run ask for.
+#[derive(Clone, Copy)]
+struct Options {
+    workers: u64,
     limit: u64,
 }
 
 impl<'a> Model for Run<'a> {
     ghost use Rattle.std.specs.Prelude.{◌≤◌};
-    ghost use Rattle.polis_words.specs.Run.{RunWords, entry_max};
+    ghost use Rattle.polis_words.specs.Run.{RunWords, worker_max, entry_max};
 
     ghost Value = { RunWords };
 
@@ -28,10 +38,12 @@ impl<'a> Model for Run<'a> {
       net = r.net.now;
       trace = r.trace.now;
       stem = r.stem.now;
-      limit = r.limit;
+      workers = r.options.workers;
+      limit = r.options.limit;
     } };
 
-    ghost invariant = { λ r. r.limit ≤ entry_max };
+    ghost invariant = { λ r. (1 ≤ r.options.workers) × (r.options.workers ≤ worker_max)
+        × (1 ≤ r.options.limit) × (r.options.limit ≤ entry_max) };
 }
 
 impl<'a> Run<'a> {
@@ -56,55 +68,131 @@ impl<'a> Run<'a> {
         self.stem
     }
 
+    /// How many workers run the network; one worker is the calling thread.
+    pub fn workers(&self) -> u32
+        ensures is { result ≡ self.now.workers }
+        ensures some { 1 ≤ result }
+        ensures few { result ≤ worker_max }
+    {
+        self.options.workers as u32
+    }
+
     /// The most entries that the journal may have.
     pub fn limit(&self) -> u64
         ensures is { result ≡ self.now.limit }
+        ensures some { 1 ≤ result }
         ensures few { result ≤ entry_max }
     {
-        self.limit
+        self.options.limit
     }
 }
 
-// The number, where it is from 1 to 60,000.
-fn within_limits(n: u64) -> Option<u64>
-    ensures some { IfSome result (λ m. (m ≡ n) × (1 ≤ n) × (n ≤ entry_max)) }
-    ensures none { IfNone result ((m : ℕ) → m ≤ entry_max → 1 ≤ m → n ≢ m) }
+// The number, where it is from 1 to `most`.
+fn within(n: u64, most: u64) -> Option<u64>
+    ensures some { IfSome result (λ m. (m ≡ n) × (1 ≤ n) × (n ≤ most)) }
+    ensures none { IfNone result ((m : ℕ) → m ≤ most → 1 ≤ m → n ≢ m) }
 {
-    if 1 <= n && n <= ENTRY_MAX {
-        Some(n)
-    } else {
-        None
-    }
+    if 1 <= n && n <= most { Some(n) } else { None }
 }
 
-// A limit from 1 to 60,000 in decimal.
-fn read_limit(word: &str) -> Option<u64>
-    ensures some { IfSome result (λ n. (word.now ≡ decimal n) × (1 ≤ n) × (n ≤ entry_max)) }
-    ensures none { IfNone result ((n : ℕ) → n ≤ entry_max → 1 ≤ n → word.now ≢ decimal n) }
+// A number from 1 to `most` in decimal.
+fn read_number(word: &str, most: u64) -> Option<u64>
+    ensures some { IfSome result (λ n. (word.now ≡ decimal n) × (1 ≤ n) × (n ≤ most)) }
+    ensures none { IfNone result ((n : ℕ) → n ≤ most → 1 ≤ n → word.now ≢ decimal n) }
 {
     match read_decimal(word.as_bytes()) {
-        Some(n) => within_limits(n),
+        Some(n) => within(n, most),
         None => None,
     }
 }
 
-// The limit that the options after the first four words ask for.
-fn limit_of(words: &Words) -> Option<u64>
-    requires { 4 ≤ length words.now }
-    ensures some { IfSome result (λ n. AsksLimit (drop 4 words.now) n) }
-    ensures few { IfSome result (λ n. n ≤ entry_max) }
-    ensures none { IfNone result ((n : ℕ) → ¬ AsksLimit (drop 4 words.now) n) }
+// The number after the flag, where the flag stands at this place.
+fn number_after(words: &Words, place: u64, flag: &str, most: u64) -> Option<u64>
+    requires small { place ≤ 6 }
+    requires room { place + 2 ≤ length words.now }
+    ensures some { IfSome result (λ n. IsNumberAt words.now place flag.now most n) }
+    ensures none { IfNone result ((n : ℕ) → ¬ IsNumberAt words.now place flag.now most n) }
 {
-    if words.len() == 4 {
-        return Some(ENTRY_MAX);
-    }
-    if words.len() == 6 && words.get(4) == "--limit" {
-        match read_limit(words.get(5)) {
-            Some(limit) => Some(limit),
-            None => None,
-        }
+    if words.get(place) == flag {
+        read_number(words.get(place + 1), most)
     } else {
         None
+    }
+}
+
+// The numbers after two flags, where the first flag stands after four words and the second one
+// after its number.
+fn numbers_after(
+    words: &Words,
+    first: &str,
+    first_most: u64,
+    second: &str,
+    second_most: u64,
+) -> Option<(u64, u64)>
+    requires { 8 ≤ length words.now }
+    ensures first { IfSome result (λ p. IsNumberAt words.now 4 first.now first_most p.0) }
+    ensures second { IfSome result (λ p. IsNumberAt words.now 6 second.now second_most p.1) }
+    ensures none { IfNone result ((n m : ℕ) → IsNumberAt words.now 4 first.now first_most n
+        → ¬ IsNumberAt words.now 6 second.now second_most m) }
+{
+    match number_after(words, 4, first, first_most) {
+        Some(n) => match number_after(words, 6, second, second_most) {
+            Some(m) => Some((n, m)),
+            None => None,
+        },
+        None => None,
+    }
+}
+
+// What one option after four words asks for.
+fn one_option(words: &Words) -> Option<Options>
+    requires { length words.now ≡ 6 }
+    ensures some { IfSome result (λ o. AsksOptions (drop 4 words.now) o.workers o.limit) }
+    ensures none { IfNone result ((w n : ℕ) → ¬ AsksOptions (drop 4 words.now) w n) }
+{
+    match number_after(words, 4, "--workers", WORKER_MAX) {
+        Some(workers) => return Some(Options {
+            workers,
+            limit: ENTRY_MAX,
+        }),
+        None => {}
+    }
+    match number_after(words, 4, "--limit", ENTRY_MAX) {
+        Some(limit) => Some(Options { workers: 1, limit }),
+        None => None,
+    }
+}
+
+// What two options after four words ask for.
+fn two_options(words: &Words) -> Option<Options>
+    requires { length words.now ≡ 8 }
+    ensures some { IfSome result (λ o. AsksOptions (drop 4 words.now) o.workers o.limit) }
+    ensures none { IfNone result ((w n : ℕ) → ¬ AsksOptions (drop 4 words.now) w n) }
+{
+    match numbers_after(words, "--workers", WORKER_MAX, "--limit", ENTRY_MAX) {
+        Some((workers, limit)) => return Some(Options { workers, limit }),
+        None => {}
+    }
+    match numbers_after(words, "--limit", ENTRY_MAX, "--workers", WORKER_MAX) {
+        Some((limit, workers)) => Some(Options { workers, limit }),
+        None => None,
+    }
+}
+
+// What the options after the first four words ask for.
+fn options_of(words: &Words) -> Option<Options>
+    requires { 4 ≤ length words.now }
+    ensures some { IfSome result (λ o. AsksOptions (drop 4 words.now) o.workers o.limit) }
+    ensures none { IfNone result ((w n : ℕ) → ¬ AsksOptions (drop 4 words.now) w n) }
+{
+    match words.len() {
+        4 => Some(Options {
+            workers: 1,
+            limit: ENTRY_MAX,
+        }),
+        6 => one_option(words),
+        8 => two_options(words),
+        _ => None,
     }
 }
 
@@ -118,8 +206,8 @@ pub fn run_of(words: &Words) -> Option<Run<'_>>
     if words.len() < 4 {
         return None;
     }
-    let limit = match limit_of(words) {
-        Some(limit) => limit,
+    let options = match options_of(words) {
+        Some(options) => options,
         None => return None,
     };
     let net = words.get(1);
@@ -130,9 +218,19 @@ pub fn run_of(words: &Words) -> Option<Run<'_>>
             net,
             trace,
             stem,
-            limit,
+            options,
         })
     } else {
         None
+    }
+}
+
+/// Whether the command line asks for a run by more than one worker.
+pub fn needs_workers(words: &Words) -> bool
+    ensures { IsTrue result ↔ NeedsWorkers words.now }
+{
+    match run_of(words) {
+        Some(run) => run.workers() > 1,
+        None => false,
     }
 }

@@ -1,15 +1,13 @@
-use Rattle.std.proofs.Common.{arith}
-use Rattle.polis_words.proofs.RunAsked.{one_run, limit_asked}
+use Rattle.polis_words.proofs.RunAsked.{one_run, options_asked}
 use Rattle.polis_words.proofs.requests.running.run_of.Goals as goal
 
 pub returns-in-None-clause-nothing : goal.returns-in-None-clause-nothing
-returns-in-None-clause-nothing c =
-    λ run asks. c.in-None.ensures.none run.limit (limit_asked c.args.words.now run asks)
+returns-in-None-clause-nothing c = λ run asks.
+    c.in-None.ensures.none run.workers run.limit (options_asked c.args.words.now run asks)
 
 pub returns-then-is_file_word-3-clause-one : goal.returns-then-is_file_word-3-clause-one
 returns-then-is_file_word-3-clause-one c = λ other asks.
-    let fits = rw c.in-Some.is at c.limit_of.type_inv in
     one_run c.args.words.now c.get.result.now c.get-net.result.now c.get-trace.result.now
-    c.get-stem.result.now c.in-Some.limit other
-    c.get.ensures c.get-net.ensures c.get-trace.ensures c.get-stem.ensures (omega (arith, fits))
+    c.get-stem.result.now c.in-Some.options.workers c.in-Some.options.limit other
+    c.get.ensures c.get-net.ensures c.get-trace.ensures c.get-stem.ensures
     c.in-Some.ensures.some asks

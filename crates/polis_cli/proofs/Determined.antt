@@ -25,27 +25,28 @@ third_text [] = []
 third_text (save ∷ saves) = second_text saves
 
 prints : (run : RunWords) (net : Network) (trace : List TraceItem) (p : Product)
-    (a : IsRunProduct run net trace p) → run.limit ≤ entry_max → Prints net a.journal
-prints run net trace p a few = let within = a.within in
-    (a.named, a.legal.0, omega (arith, within, few))
+    (a : IsRunProduct run net trace p) → run.limit ≤ entry_max → Prints net a.ran.journal
+prints run net trace p a few = let within = a.is_ran.within in
+    (a.named, a.is_ran.legal.0, omega (arith, within, few))
 
 has_stamps : LeastIsRising
     → (run : RunWords) (net : Network) (trace : List TraceItem) (p : Product)
     (a : IsRunProduct run net trace p) → run.limit ≤ entry_max
-    → AreStamps a.journal (least net a.journal)
-has_stamps rises run net trace p a few = let within = a.within in
-    rising_stamps net a.journal (least net a.journal)
-    (rises net a.journal (omega (arith, within, few)))
+    → AreStamps a.ran.journal (least net a.ran.journal)
+has_stamps rises run net trace p a few = let within = a.is_ran.within in
+    rising_stamps net a.ran.journal (least net a.ran.journal)
+    (rises net a.ran.journal (omega (arith, within, few)))
 
 pub one_run : OneStampedJournal → LeastIsRising → ListingDeterminesParts → SavesDetermineRun
 unfolding second_text third_text
 one_run one rises lists = λ run net trace p q a b few same.
-    let texts : stamped_journal_text net a.journal (least net a.journal) a.complete
-    ≡ stamped_journal_text net b.journal (least net b.journal) b.complete =
+    let texts : stamped_journal_text net a.ran.journal (least net a.ran.journal) a.ran.complete
+    ≡ stamped_journal_text net b.ran.journal (least net b.ran.journal) b.ran.complete =
     ap second_text (sym a.saves ∙ same ∙ b.saves) in
     let listings : ListingText net a.parts ≡ ListingText net b.parts =
     ap third_text (sym a.saves ∙ same ∙ b.saves) in
-    let found = one net a.journal b.journal (least net a.journal) (least net b.journal) a.complete
-    b.complete (prints run net trace p a few) (prints run net trace q b few)
+    let found = one net a.ran.journal b.ran.journal (least net a.ran.journal)
+    (least net b.ran.journal) a.ran.complete
+    b.ran.complete (prints run net trace p a few) (prints run net trace q b few)
     (has_stamps rises run net trace p a few) (has_stamps rises run net trace q b few) texts in
     (found.0, found.2, lists net a.parts b.parts a.named a.right b.right listings)

@@ -314,7 +314,8 @@ ends_of_run other net trace journal limit complete h = absurd h
 makes_ends : (request : Request) (files : Files) (product : Product) → Makes request files product
     → ends_with request product.status ≡ true
 makes_ends (Run run) files product m =
-    ends_of_run product.status m.net m.trace m.made.journal run.limit m.made.complete m.made.ends
+    ends_of_run product.status m.net m.trace m.made.ran.journal run.limit m.made.ran.complete
+    m.made.ends
 makes_ends (Check check) files product m = ap ends_done m.made.status
 makes_ends (Compile compile) files product m = ap ends_done m.made.status
 makes_ends (Replay replay) files product m = ap ends_judged m.made.status

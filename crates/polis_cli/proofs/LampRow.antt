@@ -1,5 +1,5 @@
 -- What a call promises holds of the lamp on one press.
-use Rattle.std.proofs.Common.{◌≡◌, ◌≤◌, zero, suc, length, true, List, [], ◌∷◌, Some, refl, ◌∙◌, subst, inl, inr, lit<, lit≤, codes}
+use Rattle.std.proofs.Common.{◌≡◌, ◌≤◌, zero, suc, length, true, List, [], ◌∷◌, Some, refl, ◌∙◌, subst, inl, inr, lit<, lit≤, codes, arith}
 use Rattle.std.specs.Fmt.{digits}
 use Rattle.std.specs.FinMap.{empty, insert, get-insert}
 use Rattle.std.proofs.lemmas.Cmp.{nat_list_cmp_total}
@@ -13,6 +13,7 @@ use Rattle.journals.specs.Worked.{IsRun}
 use Rattle.polis_words.specs.declared.status.Status.TheVariants.{Done}
 use Rattle.polis_words.specs.declared.requests.Request.TheVariants.{Run}
 use Rattle.polis_cli.specs.declared.product.Product.{Product}
+use Rattle.polis_cli.specs.declared.ran.Ran.{Ran}
 use Rattle.journal_text.specs.Texts.{line}
 use Rattle.net_reader.specs.Samples.{lamp_text}
 use Rattle.task_code.specs.Listings.{Part, ListingText}
@@ -37,6 +38,9 @@ lamp_product parts = record {
   shown = lamp_shown parts;
   status = Done;
 }
+
+abbrev lamp_ran : Ran
+lamp_ran = record { journal = lamp_run; complete = true; gathered = 0; adopted = 0 }
 
 lamp_made : NetOf lamp_text lamp → OneRow → IsRun lamp press lamp_run ((1, 1) ∷ []) 0
     → (parts : List Part) → AreRight lamp parts
@@ -65,14 +69,24 @@ lamp_made net one run parts right = record {
     read = refl;
   };
   made = record {
-    journal = lamp_run;
-    complete = true;
+    ran = lamp_ran;
     parts = parts;
     named = refl;
     right = right;
-    within = lit≤ tt;
-    legal = run.legal;
-    scheduled = record { follows = run.follows; whole = inr (lit< tt, run.stops) };
+    is_ran = record {
+      within = lit≤ tt;
+      legal = run.legal;
+      begins = record {
+        gathered_few = lit≤ tt;
+        adopted_few = lit≤ tt;
+        alone = λ one. (refl, refl);
+        enough = λ more. absurd (omega (arith, more));
+        follows = run.follows;
+      };
+      scheduled = λ one. record { follows = run.follows; whole = inr (lit< tt, run.stops) };
+      ends = (λ whole. run.complete, λ whole. refl);
+      limited = λ none. cc;
+    };
     ends = (refl, run.complete);
     saves = refl;
     shown = refl;
@@ -115,7 +129,13 @@ lamp_row net one run parts right = record {
     net = (lit≤ tt, lit≤ tt);
     trace = (lit≤ tt, lit≤ tt);
     stem = (lit≤ tt, lit≤ tt);
-    limit = inl (refl, refl);
+    asks = record {
+      of_workers = [];
+      of_limit = [];
+      asks_workers = inl (refl, refl);
+      asks_limit = inl (refl, refl);
+      order = inl refl;
+    };
   };
   product = lamp_product parts;
   made = lamp_made net one run parts right;

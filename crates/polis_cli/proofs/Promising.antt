@@ -33,19 +33,23 @@ cause_fails : (cause : Cause) → is_failure (status_of cause) ≡ true
 unfolding is_failure
 cause_fails cause = by_case (cases_of cause)
   where
-    by_case : (status_of cause ≡ Refused) ⊎ (status_of cause ≡ ReadFault) ⊎ (status_of cause ≡ NoMemory) ⊎ (status_of cause ≡ Illegal) → is_failure (status_of cause) ≡ true
+    by_case : (status_of cause ≡ Refused) ⊎ (status_of cause ≡ ReadFault)
+        ⊎ (status_of cause ≡ NoMemory) ⊎ (status_of cause ≡ Illegal)
+        → is_failure (status_of cause) ≡ true
     by_case (inl e) = ap is_failure e
     by_case (inr (inl e)) = ap is_failure e
     by_case (inr (inr (inl e))) = ap is_failure e
     by_case (inr (inr (inr e))) = ap is_failure e
 
-status_fails : (cause : Cause) (status : Status) → (status ≡ status_of cause) ⊎ (status ≡ NoMemory) → is_failure status ≡ true
+status_fails : (cause : Cause) (status : Status) → (status ≡ status_of cause) ⊎ (status ≡ NoMemory)
+    → is_failure status ≡ true
 unfolding is_failure
 status_fails cause status (inl e) = ap is_failure e ∙ cause_fails cause
 status_fails cause status (inr e) = ap is_failure e
 
 -- a status that is none of these isn't that of a failure
-no_failure : (status other : Status) → is_failure status ≡ true → is_failure other ≡ false → status ≢ other
+no_failure : (status other : Status) → is_failure status ≡ true → is_failure other ≡ false
+    → status ≢ other
 no_failure status other fails none same = let h = sym fails ∙ ap is_failure same ∙ none in cc
 
 failure_ends : (status : Status) → is_failure status ≡ true → is_end status ≡ false
@@ -61,9 +65,13 @@ unread_cause : (cause : Cause) → status_of cause ≡ ReadFault → cause ≡ U
 unread_cause Unread e = refl
 unread_cause other e = cc
 
-pub failed_answers : PrefixesAreLegal → PrefixesRise → (words : List (List ℕ)) (request : Request) (name : List ℕ) (cause : Cause) (status : Status) (old new : Outside)
-    → Asks words request → IsOne words request → WhereTold old.files (λ files. Fails request files name cause)
-    → (cause ≡ Unread → Rose old.load_faults new.load_faults) → (cause ≢ Unread → new.load_faults ≡ old.load_faults)
+pub failed_answers : PrefixesAreLegal → PrefixesRise
+    → (words : List (List ℕ)) (request : Request) (name : List ℕ) (cause : Cause) (status : Status)
+    (old new : Outside)
+    → Asks words request → IsOne words request
+    → WhereTold old.files (λ files. Fails request files name cause)
+    → (cause ≡ Unread → Rose old.load_faults new.load_faults)
+    → (cause ≢ Unread → new.load_faults ≡ old.load_faults)
     → (status ≡ status_of cause) ⊎ (status ≡ NoMemory) → Answers status words old new
 unfolding is_failure
 failed_answers legal rise words request name cause status old new asks one fails rose stays s =
@@ -76,25 +84,30 @@ failed_answers legal rise words request name cause status old new asks one fails
       no_read_fault = λ no_fault no_want. stays (other_cause no_fault no_want s);
       write_fault = λ e. absurd (no_failure status WriteFault failure refl e);
       refused_only = refused_only old.files words request name cause status fails one s;
-      refused_there = refused_there legal rise old.files words request name cause status fails one s;
+      refused_there = refused_there legal rise old.files words request name cause status fails one
+          s;
       illegal_only = illegal_only legal rise old.files words request name cause status fails one s;
       illegal_there = illegal_there old.files words request name cause status fails one s;
       done_there = failed_there old.files words request name cause status fails one s;
       no_differ = no_failure status Differ failure refl;
     }
   where
-    read : status ≡ ReadFault → (status ≡ status_of cause) ⊎ (status ≡ NoMemory) → status_of cause ≡ ReadFault
+    read : status ≡ ReadFault → (status ≡ status_of cause) ⊎ (status ≡ NoMemory)
+        → status_of cause ≡ ReadFault
     read e (inl is) = sym is ∙ e
     read e (inr wanting) = let h = sym wanting ∙ e in cc
 
-    other_cause : status ≢ ReadFault → status ≢ NoMemory → (status ≡ status_of cause) ⊎ (status ≡ NoMemory) → cause ≢ Unread
+    other_cause : status ≢ ReadFault → status ≢ NoMemory → (status ≡ status_of cause)
+        ⊎ (status ≡ NoMemory) → cause ≢ Unread
     other_cause no_fault no_want (inl is) e = no_fault (is ∙ ap status_of e)
     other_cause no_fault no_want (inr wanting) e = no_want wanting
 
-pub failed_leaves : (words : List (List ℕ)) (request : Request) (name : List ℕ) (cause : Cause) (status : Status) (old new : Outside)
+pub failed_leaves : (words : List (List ℕ)) (request : Request) (name : List ℕ) (cause : Cause)
+    (status : Status) (old new : Outside)
     → Asks words request → WhereTold old.files (λ files. Fails request files name cause)
     → (status ≡ status_of cause) ⊎ (status ≡ NoMemory) → new.files ≡ old.files
-    → Changes old.shown new.shown (λ before now. (line : List ℕ) × FailsWith name cause status line × ShowsPrefix line (WriteFailed old new) before now)
+    → Changes old.shown new.shown (λ before now. (line : List ℕ) × FailsWith name cause status line
+    × ShowsPrefix line (WriteFailed old new) before now)
     → Leaves status words old new
 unfolding is_failure
 failed_leaves words request name cause status old new asks fails s same shown =
@@ -103,20 +116,27 @@ failed_leaves words request name cause status old new asks fails s same shown =
       kept = λ refusal. same;
       stands = λ wanting. changes_same old.files new.files _ same (λ files. inl refl);
       unwritten = λ e. absurd (no_failure status WriteFault failure refl e);
-      line = λ none no_fault. failing_line old.files words request name cause status (WriteFailed old new) old.shown new.shown asks fails shown;
+      line = λ none no_fault. failing_line old.files words request name cause status
+          (WriteFailed old new) old.shown new.shown asks fails shown;
     }
 
 -- ---- where a product was made
-pub written_answers : (words : List (List ℕ)) (request : Request) (product : Product) (status : Status) (old new : Outside)
-    → Asks words request → IsOne words request → WhereTold old.files (λ files. Makes request files product) → IsWell product
+pub written_answers : (words : List (List ℕ)) (request : Request) (product : Product)
+    (status : Status) (old new : Outside)
+    → Asks words request → IsOne words request
+    → WhereTold old.files (λ files. Makes request files product) → IsWell product
     → Writes status product (WriteFailed old new) old.files new.files old.shown new.shown
-    → (status ≡ WriteFault → WriteFailed old new) → (is_end status ≡ true → new.write_faults ≡ old.write_faults) → new.load_faults ≡ old.load_faults
+    → (status ≡ WriteFault → WriteFailed old new)
+    → (is_end status ≡ true → new.write_faults ≡ old.write_faults)
+    → new.load_faults ≡ old.load_faults
     → Answers status words old new
 written_answers words request product status old new asks one made well writes rose stays same =
-    let never = λ (other : Status). written_status old.files new.files old.shown new.shown product status other (WriteFailed old new) well writes in
+    let never = λ (other : Status). written_status old.files new.files old.shown new.shown product
+    status other (WriteFailed old new) well writes in
     record {
       ended = λ end. record {
-        made = made_written old.files new.files old.shown new.shown words request product status (WriteFailed old new) asks made well writes end;
+        made = made_written old.files new.files old.shown new.shown words request product status
+            (WriteFailed old new) asks made well writes end;
         asked = (request, asks);
         load_faults = same;
         write_faults = stays end;
@@ -130,13 +150,17 @@ written_answers words request product status old new asks one made well writes r
       refused_there = accepted_files old.files words request product _ made one;
       illegal_only = λ e. absurd (never Illegal refl (λ h. cc) (λ h. cc) e);
       illegal_there = made_legal old.files words request product _ made one;
-      done_there = done_there old.files words request product status (WriteFailed old new) old.files new.files old.shown new.shown made one writes;
+      done_there = done_there old.files words request product status (WriteFailed old new) old.files
+          new.files old.shown new.shown made one writes;
       no_differ = never Differ refl (λ h. cc) (λ h. cc);
     }
 
 -- a status of a product isn't a refusal
-not_refusal : (product : Product) (status : Status) (rose : Type 0) (a b : Option Files) (s t : Option (List ℕ)) → IsWell product → Writes status product rose a b s t → is_refusal status ≡ false
-not_refusal product status rose a b s t well (inl (e, all)) = end_no_refusal status (ap is_end e ∙ well.end)
+not_refusal : (product : Product) (status : Status) (rose : Type 0) (a b : Option Files)
+    (s t : Option (List ℕ)) → IsWell product → Writes status product rose a b s t
+    → is_refusal status ≡ false
+not_refusal product status rose a b s t well (inl (e, all)) = end_no_refusal status
+    (ap is_end e ∙ well.end)
   where
     end_no_refusal : (status : Status) → is_end status ≡ true → is_refusal status ≡ false
     end_no_refusal Done h = refl
@@ -145,18 +169,26 @@ not_refusal product status rose a b s t well (inl (e, all)) = end_no_refusal sta
 not_refusal product status rose a b s t well (inr (inl (e, fails))) = ap is_refusal e
 not_refusal product status rose a b s t well (inr (inr (e, out))) = ap is_refusal e
 
-pub written_leaves : (words : List (List ℕ)) (request : Request) (product : Product) (status : Status) (old new : Outside)
-    → Asks words request → WhereTold old.files (λ files. Makes request files product) → IsWell product
-    → Writes status product (WriteFailed old new) old.files new.files old.shown new.shown → Leaves status words old new
+pub written_leaves : (words : List (List ℕ)) (request : Request) (product : Product)
+    (status : Status) (old new : Outside)
+    → Asks words request → WhereTold old.files (λ files. Makes request files product)
+    → IsWell product
+    → Writes status product (WriteFailed old new) old.files new.files old.shown new.shown
+    → Leaves status words old new
 written_leaves words request product status old new asks made well writes = record {
-  kept = λ refusal. let h = sym refusal ∙ not_refusal product status (WriteFailed old new) old.files new.files old.shown new.shown well writes in cc;
-  stands = stands old.files new.files old.shown new.shown words request product status (WriteFailed old new) asks made well writes;
-  unwritten = unwritten old.files new.files old.shown new.shown words request product status (WriteFailed old new) asks made well writes;
-  line = wanting_shown old.files old.files new.files old.shown new.shown words product status (WriteFailed old new) well writes;
+  kept = λ refusal. let h = sym refusal ∙ not_refusal product status (WriteFailed old new) old.files
+      new.files old.shown new.shown well writes in cc;
+  stands = stands old.files new.files old.shown new.shown words request product status
+      (WriteFailed old new) asks made well writes;
+  unwritten = unwritten old.files new.files old.shown new.shown words request product status
+      (WriteFailed old new) asks made well writes;
+  line = wanting_shown old.files old.files new.files old.shown new.shown words product status
+      (WriteFailed old new) well writes;
 }
 
 -- ---- where nothing is asked for
-pub usage_answers : (words : List (List ℕ)) (old new : Outside) → AsksNothing words → new.load_faults ≡ old.load_faults → Answers Usage words old new
+pub usage_answers : (words : List (List ℕ)) (old new : Outside) → AsksNothing words
+    → new.load_faults ≡ old.load_faults → Answers Usage words old new
 usage_answers words old new nothing same = record {
   ended = λ e. cc;
   usage_only = λ e. nothing;
@@ -173,10 +205,12 @@ usage_answers words old new nothing same = record {
 }
 
 pub usage_leaves : (words : List (List ℕ)) (old new : Outside) → new.files ≡ old.files
-    → Changes old.shown new.shown (ShowsPrefix (codes "usage" ++ 10 ∷ []) (WriteFailed old new)) → Leaves Usage words old new
+    → Changes old.shown new.shown (ShowsPrefix (codes "usage" ++ 10 ∷ []) (WriteFailed old new))
+    → Leaves Usage words old new
 usage_leaves words old new same shown = record {
   kept = λ e. same;
   stands = λ e. cc;
   unwritten = λ e. cc;
-  line = λ none no_fault. changes_from old.shown new.shown (ShowsPrefix (codes "usage" ++ 10 ∷ []) (WriteFailed old new)) _ (λ before now prefix. (codes "usage", refl, prefix)) shown;
+  line = λ none no_fault. changes_from old.shown new.shown (ShowsPrefix (codes "usage" ++ 10 ∷ [])
+      (WriteFailed old new)) _ (λ before now prefix. (codes "usage", refl, prefix)) shown;
 }

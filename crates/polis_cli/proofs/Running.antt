@@ -4,57 +4,37 @@ use Rattle.polis_base.specs.Host.{Files, WhereTold}
 use Rattle.transition_table.specs.declared.network.Network.{Network}
 use Rattle.journals.specs.declared.entry.Entry.{Entry}
 use Rattle.journals.specs.declared.entry.TraceItem.{TraceItem}
-use Rattle.journals.specs.declared.entry.Pick.TheVariants.{Stop}
-use Rattle.journals.specs.Legality.{Legal, Complete}
-use Rattle.journals.specs.Laws.{StopsWhereComplete}
-use Rattle.journals.specs.Schedules.{IsSchedule, pick}
+use Rattle.journals.specs.Legality.{Complete}
 use Rattle.polis_words.specs.declared.cause.Cause.TheVariants.{NoMemory as Wanting}
 use Rattle.polis_words.specs.declared.status.Status.{Status}
 use Rattle.polis_words.specs.declared.status.Status.TheVariants.{Done, Limit}
 use Rattle.polis_words.specs.Run.{RunWords}
 use Rattle.polis_cli.specs.declared.product.Product.{Product}
+use Rattle.polis_cli.specs.declared.ran.Ran.{Ran}
 use Rattle.polis_cli.specs.Saves.{Save, AreApart}
 use Rattle.journals.specs.Stamps.{least}
 use Rattle.journal_text.specs.Texts.{stamped_journal_text, output_text}
 use Rattle.task_code.specs.Listings.{Part, ListingText}
 use Rattle.polis_cli.specs.Inputs.{HoldsNet, HoldsTrace}
-use Rattle.polis_cli.specs.Runs.{IsFinished, IsRunProduct, MakesRun, FailsRun, Ends, end_status, run_saves}
+use Rattle.polis_cli.specs.Runs.{IsRan, IsRunProduct, MakesRun, FailsRun, Ends, end_status, run_saves}
 use Rattle.polis_cli.specs.Writing.{IsWell, is_end}
 use Rattle.polis_cli.proofs.Told.{told_from, told_always}
 
--- a journal that isn't complete has no place at which the scheduler stopped
-limited : (net : Network) (trace : List TraceItem) (limit : ℕ) (journal : List Entry)
-    (complete : Bool) → StopsWhereComplete → Legal net trace journal
-    → IsTrue complete ↔ Complete net trace journal
-    → (pick net trace journal ≡ Stop) ⊎ (length journal ≡ limit) → complete ≡ false
-    → length journal ≡ limit
-limited net trace limit journal complete stops legal whole (inl stop) none = let yes' =
-    whole.1 ((stops net trace journal legal).0 stop) in cc
-limited net trace limit journal complete stops legal whole (inr full) none = full
-
-pub finished_is : (net : Network) (trace : List TraceItem) (limit : ℕ) (journal : List Entry)
-    (complete : Bool) → StopsWhereComplete → Legal net trace journal → length journal ≤ limit
-    → IsSchedule net trace limit journal → IsTrue complete ↔ Complete net trace journal
-    → (pick net trace journal ≡ Stop) ⊎ (length journal ≡ limit)
-    → IsFinished net trace limit journal complete
-finished_is net trace limit journal complete stops legal within scheduled whole ends = record {
-  within = within;
-  legal = legal;
-  scheduled = scheduled;
-  ends = whole;
-  limited = limited net trace limit journal complete stops legal whole ends;
-}
-
--- how a finished run ends
-pub ends_at : (net : Network) (trace : List TraceItem) (limit : ℕ) (journal : List Entry)
-    (complete : Bool) (status : Status)
-    → IsFinished net trace limit journal complete → status ≡ end_status complete
-    → Ends status net trace journal limit complete
-ends_at net trace limit journal true status f s =
-    subst (λ (t : Status). Ends t net trace journal limit true) (sym s) (refl, f.ends.0 refl)
-ends_at net trace limit journal false status f s =
-    subst (λ (t : Status). Ends t net trace journal limit false) (sym s)
-    (refl, f.limited refl, λ whole. let h = f.ends.1 whole in cc)
+-- how a run ends
+pub ends_at : (workers limit : ℕ) (net : Network) (trace : List TraceItem) (ran : Ran)
+    (status : Status) → IsRan workers limit net trace ran → status ≡ end_status ran.complete
+    → Ends status net trace ran.journal limit ran.complete
+ends_at workers limit net trace ran status r s = by_word ran.complete s r.ends r.limited
+  where
+    by_word : (complete : Bool) → status ≡ end_status complete
+        → IsTrue complete ↔ Complete net trace ran.journal
+        → (complete ≡ false → length ran.journal ≡ limit)
+        → Ends status net trace ran.journal limit complete
+    by_word true e whole full =
+        subst (λ (t : Status). Ends t net trace ran.journal limit true) (sym e) (refl, whole.0 refl)
+    by_word false e whole full =
+        subst (λ (t : Status). Ends t net trace ran.journal limit false) (sym e)
+        (refl, full refl, λ complete. let h = whole.1 complete in cc)
 
 end_of : (status : Status) (net : Network) (trace : List TraceItem) (journal : List Entry)
     (limit : ℕ) (complete : Bool) → Ends status net trace journal limit complete
@@ -89,8 +69,8 @@ run_apart run net journal complete parts = (
 pub run_well : (run : RunWords) (net : Network) (trace : List TraceItem) (product : Product)
     → IsRunProduct run net trace product → IsWell product
 run_well run net trace product p = record {
-  end = end_of product.status net trace p.journal run.limit p.complete p.ends;
-  apart = subst AreApart (sym p.saves) (run_apart run net p.journal p.complete p.parts);
+  end = end_of product.status net trace p.ran.journal run.limit p.ran.complete p.ends;
+  apart = subst AreApart (sym p.saves) (run_apart run net p.ran.journal p.ran.complete p.parts);
 }
 
 -- both files are held, and the product is that of their run

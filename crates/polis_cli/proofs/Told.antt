@@ -47,7 +47,8 @@ changes_through (Some x) None c R S T f h k = absurd h
 changes_through (Some x) (Some y) None R S T f h k = k
 
 -- what was told is told still
-pub changes_same : {X : Type 0} (a b : Option X) (R : X → X → Type 0) → b ≡ a → ((x : X) → R x x) → Changes a b R
+pub changes_same : {X : Type 0} (a b : Option X) (R : X → X → Type 0) → b ≡ a → ((x : X) → R x x)
+    → Changes a b R
 changes_same {X = X} a b R same each = subst (λ o. Changes a o R) (sym same) (always a)
   where
     always : (o : Option X) → Changes o o R

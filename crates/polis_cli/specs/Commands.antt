@@ -1,5 +1,5 @@
 -- What each command makes, what it accepts, and why it fails.
-use Rattle.std.specs.Prelude.{ℕ, Bool, true, false, List}
+use Rattle.std.specs.Prelude.{◌≡◌, ℕ, Bool, true, false, List, ⊤}
 use Rattle.polis_base.specs.Host.{Files}
 use Rattle.polis_words.specs.declared.cause.Cause.{Cause}
 use Rattle.polis_words.specs.declared.status.Status.{Status}
@@ -61,3 +61,11 @@ ends_with (Check check) status = ends_done status
 ends_with (Compile compile) status = ends_done status
 ends_with (Replay replay) status = ends_judged status
 ends_with (Migrate migrate) status = ends_judged status
+
+-- the request needs the calling thread alone: it isn't a run by several workers
+abbrev pub IsSerial : Request → Type 0
+IsSerial (Run run) = run.workers ≡ 1
+IsSerial (Check check) = ⊤
+IsSerial (Compile compile) = ⊤
+IsSerial (Replay replay) = ⊤
+IsSerial (Migrate migrate) = ⊤

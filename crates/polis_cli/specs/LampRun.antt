@@ -14,7 +14,13 @@ abbrev pub lamp_words : List (List ℕ)
 lamp_words = codes "run" ∷ codes "net" ∷ codes "trc" ∷ codes "o" ∷ []
 
 abbrev pub lamp_asked : RunWords
-lamp_asked = record { net = codes "net"; trace = codes "trc"; stem = codes "o"; limit = entry_max }
+lamp_asked = record {
+  net = codes "net";
+  trace = codes "trc";
+  stem = codes "o";
+  workers = 1;
+  limit = entry_max;
+}
 
 abbrev pub files_before : Files
 files_before = insert (insert empty (codes "net") lamp_text) (codes "trc") press_text

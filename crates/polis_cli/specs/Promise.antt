@@ -22,14 +22,16 @@ WriteFailed old new = Rose old.write_faults new.write_faults
 
 -- Done and Limit: a product was made and written, and no fault came.
 pub record Ended (status : Status) (words : List (List ℕ)) (old new : Outside) : Type 0 where
-  pub made : Changes old.files new.files (λ before now. MadeAndWritten status words before now old.shown new.shown)
+  pub made : Changes old.files new.files
+      (λ before now. MadeAndWritten status words before now old.shown new.shown)
   pub asked : (request : Request) × Asks words request
   pub load_faults : new.load_faults ≡ old.load_faults
   pub write_faults : new.write_faults ≡ old.write_faults
 
 -- P of the request that the command line asks for and the files, where they are told
 abbrev pub OfRequest : List (List ℕ) → Outside → (Request → Files → Type 0) → Type 0
-OfRequest words old P = WhereTold old.files (λ before. (request : Request) → Asks words request → P request before)
+OfRequest words old P = WhereTold old.files (λ before. (request : Request) → Asks words request
+    → P request before)
 
 -- a failed load and running out of memory, by which a call may end in place of another status
 abbrev pub IsCut : Status → Type 0
@@ -45,24 +47,34 @@ pub record Answers (status : Status) (words : List (List ℕ)) (old new : Outsid
   pub read_fault : status ≡ ReadFault → Rose old.load_faults new.load_faults
   pub no_read_fault : status ≢ ReadFault → status ≢ NoMemory → new.load_faults ≡ old.load_faults
   pub write_fault : status ≡ WriteFault → WriteFailed old new
-  -- Refused exactly where a file isn't held, is too long or isn't accepted, but for a failed load and running out of memory.
-  pub refused_only : status ≡ Refused → OfRequest words old (λ request before. ¬ Accepts request before)
-  pub refused_there : OfRequest words old (λ request before. ¬ Accepts request before → (status ≡ Refused) ⊎ IsCut status)
-  -- Illegal exactly where the request judges a journal that isn't legal or has stamps that aren't rising, but for a failed
-  -- load and running out of memory.
-  pub illegal_only : status ≡ Illegal → OfRequest words old (λ request before. IsIllegal request before)
-  pub illegal_there : OfRequest words old (λ request before. IsIllegal request before → (status ≡ Illegal) ⊎ IsCut status)
+  -- Refused exactly where a file isn't held, is too long or isn't accepted, but for a failed load
+  -- and running out of memory.
+  pub refused_only : status ≡ Refused
+      → OfRequest words old (λ request before. ¬ Accepts request before)
+  pub refused_there : OfRequest words old (λ request before. ¬ Accepts request before
+      → (status ≡ Refused) ⊎ IsCut status)
+  -- Illegal exactly where the request judges a journal that isn't legal or has stamps that aren't
+  -- rising, but for a failed load and running out of memory.
+  pub illegal_only : status ≡ Illegal
+      → OfRequest words old (λ request before. IsIllegal request before)
+  pub illegal_there : OfRequest words old (λ request before. IsIllegal request before
+      → (status ≡ Illegal) ⊎ IsCut status)
   -- Where its files are accepted a request is done, but for a fault and running out of memory.
-  pub done_there : OfRequest words old (λ request before. Accepts request before → IsTrue (ends_with request status) ⊎ (status ≡ WriteFault) ⊎ IsCut status)
+  pub done_there : OfRequest words old (λ request before. Accepts request before
+      → IsTrue (ends_with request status) ⊎ (status ≡ WriteFault) ⊎ IsCut status)
   -- Nothing is compared.
   pub no_differ : status ≢ Differ
 
 -- What a call leaves and shows.
 pub record Leaves (status : Status) (words : List (List ℕ)) (old new : Outside) : Type 0 where
-  -- A refusal leaves the files as they were. Where memory ran out some saves of a product may stand, from the first on.
+  -- A refusal leaves the files as they were. Where memory ran out some saves of a product may
+  -- stand, from the first on.
   pub kept : IsTrue (is_refusal status) → new.files ≡ old.files
   pub stands : status ≡ NoMemory → Changes old.files new.files (Stands words)
-  -- Where writing failed, what was saved before stands, and the line of what failed was shown, or a prefix of it.
-  pub unwritten : status ≡ WriteFault → LeavesUnwritten words (WriteFailed old new) old.files new.files old.shown new.shown
+  -- Where writing failed, what was saved before stands, and the line of what failed was shown, or a
+  -- prefix of it.
+  pub unwritten : status ≡ WriteFault → LeavesUnwritten words (WriteFailed old new) old.files
+      new.files old.shown new.shown
   -- Any other status shows its line, or a prefix of it.
-  pub line : is_end status ≡ false → status ≢ WriteFault → Changes old.shown new.shown (ShowsLine status words old.files (WriteFailed old new))
+  pub line : is_end status ≡ false → status ≢ WriteFault
+      → Changes old.shown new.shown (ShowsLine status words old.files (WriteFailed old new))

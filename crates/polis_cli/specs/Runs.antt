@@ -1,11 +1,13 @@
 -- What `run` makes.
-use Rattle.std.specs.Prelude.{◌≡◌, ◌↔◌, ℕ, ◌≤◌, Bool, true, false, List, [], ◌∷◌, ◌++◌, length, IsTrue}
+use Rattle.std.specs.Prelude.{◌≡◌, ◌⊎◌, ◌↔◌, ℕ, ◌≤◌, ◌<◌, ◌/◌, Bool, true, false, List, [], ◌∷◌, ◌++◌, length, IsTrue}
 use Rattle.polis_base.specs.Host.{Files}
+use Rattle.polis_base.specs.Lists.{Begins}
 use Rattle.transition_table.specs.declared.network.Network.{Network}
 use Rattle.journals.specs.declared.entry.Entry.{Entry}
 use Rattle.journals.specs.declared.entry.TraceItem.{TraceItem}
 use Rattle.journals.specs.Legality.{Legal, Complete}
-use Rattle.journals.specs.Schedules.{IsSchedule}
+use Rattle.journals.specs.Schedules.{IsSchedule, Follows, pick}
+use Rattle.journals.specs.declared.entry.Pick.TheVariants.{Stop}
 use Rattle.journals.specs.Stamps.{least}
 use Rattle.polis_words.specs.declared.cause.Cause.{Cause}
 use Rattle.polis_words.specs.declared.status.Status.{Status}
@@ -18,6 +20,7 @@ use Rattle.task_code.specs.Listings.{Part, ListingText}
 use Rattle.machine_compiler.specs.Parts.{AreRight}
 use Rattle.machine_compiler.specs.Lines.{tries_text}
 use Rattle.polis_cli.specs.declared.product.Product.{Product}
+use Rattle.polis_cli.specs.declared.ran.Ran.{Ran}
 use Rattle.polis_cli.specs.Saves.{Save}
 use Rattle.polis_cli.specs.Inputs.{HoldsNet, HoldsTrace, InputsFail}
 
@@ -38,25 +41,64 @@ run_saves run net journal complete parts =
     }
     ∷ record { name = listing_name run; text = ListingText net parts } ∷ []
 
--- The product's journal is what the scheduler makes of the network and the trace within the limit:
--- a legal run of the network on the trace. The product is that journal's outputs, its text with its
--- least stamps, and its summary. Each machine was compiled rightly; the product has the listing of
--- what was compiled, and for each machine how often it was tried and how many instructions its code
--- takes for that. The names of the network are such that the journal's text reads back, so the
--- product's texts determine the journal and the compiled machines.
+-- Where the scheduler began. One worker gathers nothing. Of several workers so many entries were
+-- gathered, of which the first were adopted: at least the share of one worker in the limit, or all
+-- of a complete journal. From there on each entry is what the scheduler picks.
+pub record BeginsAt (workers limit : ℕ) (net : Network) (trace : List TraceItem)
+    (journal : List Entry) (gathered adopted : ℕ) : Type 0 where
+  pub gathered_few : gathered ≤ limit
+  pub adopted_few : adopted ≤ gathered
+  pub alone : workers ≡ 1 → (gathered ≡ 0) × (adopted ≡ 0)
+  pub enough : 1 < workers → (limit / workers ≤ adopted)
+      ⊎ ((length journal ≡ adopted) × Complete net trace journal)
+  pub follows : Follows net trace journal adopted
+
+-- What was run within a limit: a legal journal, where the scheduler began, and whether it is
+-- complete; where it isn't it has as many entries as the limit. One worker's is the scheduler's.
+pub record IsRan (workers limit : ℕ) (net : Network) (trace : List TraceItem) (ran : Ran) :
+    Type 0 where
+  pub within : length ran.journal ≤ limit
+  pub legal : Legal net trace ran.journal
+  pub begins : BeginsAt workers limit net trace ran.journal ran.gathered ran.adopted
+  pub scheduled : workers ≡ 1 → IsSchedule net trace limit ran.journal
+  pub ends : IsTrue ran.complete ↔ Complete net trace ran.journal
+  pub limited : ran.complete ≡ false → length ran.journal ≡ limit
+
+-- a journal that goes on from another one by what the scheduler picks, to its end or to the limit
+pub record CarriesOn (net : Network) (trace : List TraceItem) (limit : ℕ) (start : List Entry)
+    (merged : ℕ) (ran : Ran) : Type 0 where
+  pub gathered : ran.gathered ≡ merged
+  pub adopted : ran.adopted ≡ length start
+  pub begins : Begins start ran.journal
+  pub follows : Follows net trace ran.journal (length start)
+  pub legal : Legal net trace ran.journal
+  pub within : length ran.journal ≤ limit
+  pub stops : (pick net trace ran.journal ≡ Stop) ⊎ (length ran.journal ≡ limit)
+  pub ends : IsTrue ran.complete ↔ Complete net trace ran.journal
+  pub schedule : start ≡ [] → IsSchedule net trace limit ran.journal
+
+-- what is shown of a run: its summary, and for each machine how often it was tried and how many
+-- instructions its code takes for that
+abbrev pub run_text : Network → List Part → Ran → List ℕ
+run_text net parts ran =
+    summary_text net ran.journal ran.complete ran.gathered ran.adopted
+    ++ tries_text net parts ran.journal
+
+-- The product is the outputs of a legal run of the network on the trace, its text with its least
+-- stamps, the listing of the compiled machines, and what is shown of the run; with one worker the
+-- run is what the scheduler makes. Each machine was compiled rightly. The names of the network are
+-- such that the journal's text reads back, so the product's texts determine the journal and the
+-- compiled machines.
 pub record IsRunProduct (run : RunWords) (net : Network) (trace : List TraceItem)
     (product : Product) : Type 0 where
-  pub journal : List Entry
-  pub complete : Bool
+  pub ran : Ran
   pub parts : List Part
   pub named : IsTrue (names_hold net)
   pub right : AreRight net parts
-  pub within : length journal ≤ run.limit
-  pub legal : Legal net trace journal
-  pub scheduled : IsSchedule net trace run.limit journal
-  pub ends : Ends product.status net trace journal run.limit complete
-  pub saves : product.saves ≡ run_saves run net journal complete parts
-  pub shown : product.shown ≡ summary_text net journal complete 0 0 ++ tries_text net parts journal
+  pub is_ran : IsRan run.workers run.limit net trace ran
+  pub ends : Ends product.status net trace ran.journal run.limit ran.complete
+  pub saves : product.saves ≡ run_saves run net ran.journal ran.complete parts
+  pub shown : product.shown ≡ run_text net parts ran
 
 -- the files hold a network and a trace that are accepted, and the product is that of their run
 pub record MakesRun (run : RunWords) (files : Files) (product : Product) : Type 0 where
@@ -81,16 +123,6 @@ ends_run Done = true
 ends_run Limit = true
 ends_run other = false
 
--- the scheduler's journal of at most so many entries, with whether it is complete; where it isn't
--- it has that many
-pub record IsFinished (net : Network) (trace : List TraceItem) (limit : ℕ) (journal : List Entry)
-    (complete : Bool) : Type 0 where
-  pub within : length journal ≤ limit
-  pub legal : Legal net trace journal
-  pub scheduled : IsSchedule net trace limit journal
-  pub ends : IsTrue complete ↔ Complete net trace journal
-  pub limited : complete ≡ false → length journal ≡ limit
-
 -- the status of a run that was written
 abbrev pub end_status : Bool → Status
 end_status true = Done
@@ -103,4 +135,4 @@ SavesDetermineRun =
     (run : RunWords) (net : Network) (trace : List TraceItem) (p q : Product)
     (a : IsRunProduct run net trace p) (b : IsRunProduct run net trace q)
     → run.limit ≤ entry_max → p.saves ≡ q.saves
-    → (a.journal ≡ b.journal) × (a.complete ≡ b.complete) × (a.parts ≡ b.parts)
+    → (a.ran.journal ≡ b.ran.journal) × (a.ran.complete ≡ b.ran.complete) × (a.parts ≡ b.parts)

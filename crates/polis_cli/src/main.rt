@@ -9,6 +9,7 @@ mod law;
 mod load;
 mod migrate;
 mod product;
+mod ran;
 mod react;
 mod replay;
 mod run;
@@ -20,7 +21,8 @@ mod top;
 mod worked;
 mod write;
 
-use crate::top::serial;
+use crate::top::polis;
+use event_buffer::OpenGate;
 pub use machine_compiler::{Compiled, compile_machine};
 use polis_base::{Host, NoMemory, Save, StdHost, Words};
 use polis_words::Status;
@@ -28,11 +30,12 @@ use std::io::ErrorKind;
 use std::process::ExitCode;
 use std::{env, io};
 
-const HELP: &[u8] = b"polis run NET TRACE STEM [--limit N]
+const HELP: &[u8] = b"polis run NET TRACE STEM [--workers W] [--limit N]
     runs the network text NET on the trace text TRACE, saves the output events as
     STEM.out, the journal as STEM.jnl and the listing of the compiled machines as
-    STEM.lst, and shows a summary; N is the most entries of the journal, from 1 to
-    60000, and 60000 without the option
+    STEM.lst, and shows a summary; W is how many workers run it, from 1 to 8, and 1
+    without the option; N is the most entries of the journal, from 1 to 60000, and
+    60000 without the option
 polis check NET
     says whether the network text NET is accepted, and shows how large it is
 polis compile NET STEM
@@ -110,7 +113,7 @@ fn main(rt: HostRuntime) -> ExitCode {
     let status = match read_words(&rt) {
         Ok(words) => match answer_of(&words) {
             Some(text) => answer(&mut host, text, Status::Done),
-            None => serial(rt.alloc(), &words, &mut host),
+            None => polis(&rt, rt.alloc(), &words, &mut host, &OpenGate),
         },
         Err(Unread::NotText) => {
             let _ = host.show(b"usage\n");

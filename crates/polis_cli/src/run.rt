@@ -1,57 +1,27 @@
 // The command `run`: a network on a trace, and the texts of that run.
-ghost use Rattle.std.specs.Prelude.{◌≡◌, ◌≢◌, ◌≤◌, [], ◌∷◌, ◌++◌, codes, length, IfOk, IfErr, OnOk, IsTrue};
+ghost use Rattle.std.specs.Prelude.{◌≡◌, ◌≢◌, ◌<◌, ◌≤◌, [], ◌∷◌, ◌++◌, codes, length, IfOk, IfErr, OnOk};
 ghost use Rattle.polis_base.specs.Host.{Rose, WhereTold};
 ghost use Rattle.journals.specs.Journals.{IsTrace, IsJournal};
 ghost use Rattle.transition_table.specs.Transitions.{AreDeterministic};
 ghost use Rattle.machine_compiler.specs.Parts.{AreRight, parts_of};
-ghost use Rattle.machine_compiler.specs.Lines.{tries_text};
 ghost use Rattle.polis_words.specs.declared.cause.Cause.{Cause};
 ghost use Rattle.polis_words.specs.Run.{entry_max};
-ghost use Rattle.polis_words.specs.Texts.{summary_text};
 ghost use Rattle.polis_cli.specs.Writing.{IsWell};
-ghost use Rattle.polis_cli.specs.Runs.{IsFinished, IsRunProduct, MakesRun, FailsRun, end_status};
+ghost use Rattle.polis_cli.specs.Runs.{IsRan, IsRunProduct, MakesRun, FailsRun, end_status, run_text};
 
 use crate::inputs::{Inputs, load_inputs};
 use crate::product::{Product, Saving};
+use crate::ran::{Ran, run_alone, run_by};
 use crate::react::reactor_of;
 use crate::stamp::stamped_text;
+use event_buffer::Gate;
 use journal_text::{keep_names, print_outputs};
 use machine_compiler::{CompiledList, compile_network, print_listing, print_tries};
-use net_core::{Journal, laws};
 use polis_base::{Bytes, Host, List, NoMemory};
 use polis_words::{Cause, Failure, Run, Status, print_summary};
-use scheduler_gen::{Finished, complete, plan};
 use std::alloc::Global;
-
-// The scheduler's journal of at most so many entries, each reaction made by the compiled code.
-fn finish(
-    alloc: Global,
-    inputs: &Inputs,
-    compiled: &CompiledList,
-    limit: u64,
-) -> Result<Finished, NoMemory>
-    requires trace { IsTrace inputs.now.net inputs.now.trace }
-    requires deterministic { AreDeterministic inputs.now.net }
-    requires right { AreRight inputs.now.net (parts_of compiled.now) }
-    ensures { IfOk result (λ finished.
-        IsFinished inputs.now.net inputs.now.trace limit finished.journal finished.complete) }
-{
-    laws();
-    let net = &inputs.net;
-    let plan = plan(alloc, net)?;
-    let reactor = reactor_of(alloc, net, compiled)?;
-    match complete(
-        alloc,
-        &plan,
-        &reactor,
-        &inputs.trace,
-        Journal::new(alloc),
-        limit,
-    ) {
-        Ok(finished) => Ok(finished),
-        Err(NoMemory) => Err(NoMemory),
-    }
-}
+use std::sync::Wait;
+use std::thread::Threads;
 
 fn status_at_end(complete: bool) -> Status
     ensures { result ≡ end_status complete }
@@ -68,18 +38,24 @@ fn shown_text(
     alloc: Global,
     inputs: &Inputs,
     compiled: &CompiledList,
-    finished: &Finished,
+    ran: &Ran,
 ) -> Result<Bytes, NoMemory>
     requires right { AreRight inputs.now.net (parts_of compiled.now) }
-    requires journal { IsJournal inputs.now.net finished.now.journal }
-    requires few { length finished.now.journal ≤ entry_max }
-    ensures { IfOk result (λ text. text
-        ≡ summary_text inputs.now.net finished.now.journal finished.now.complete 0 0
-        ++ tries_text inputs.now.net (parts_of compiled.now) finished.now.journal) }
+    requires journal { IsJournal inputs.now.net ran.now.journal }
+    requires few { length ran.now.journal ≤ entry_max }
+    ensures { IfOk result (λ text. text ≡
+        run_text inputs.now.net (parts_of compiled.now) ran.now) }
 {
     let net = &inputs.net;
-    let mut text = print_summary(alloc, net, &finished.journal, finished.complete, 0, 0)?;
-    let lines = print_tries(alloc, net, compiled, &finished.journal)?;
+    let mut text = print_summary(
+        alloc,
+        net,
+        &ran.journal,
+        ran.complete,
+        ran.gathered,
+        ran.adopted,
+    )?;
+    let lines = print_tries(alloc, net, compiled, &ran.journal)?;
     text.push(lines.as_slice())?;
     Ok(text)
 }
@@ -107,34 +83,132 @@ fn saves_of(
     Ok(saves)
 }
 
-// Runs the network on the trace, and makes the texts of the run.
-fn run_product(alloc: Global, run: &Run<'_>, inputs: &Inputs) -> Result<Product, NoMemory>
-    requires trace { IsTrace inputs.now.net inputs.now.trace }
-    requires deterministic { AreDeterministic inputs.now.net }
-    ensures { IfOk result
-        (λ product. IsRunProduct run.now inputs.now.net inputs.now.trace product) }
+// The texts of what was run.
+fn texts_of(
+    alloc: Global,
+    asked: &Run<'_>,
+    inputs: &Inputs,
+    compiled: &CompiledList,
+    ran: &Ran,
+) -> Result<Product, NoMemory>
+    requires right { AreRight inputs.now.net (parts_of compiled.now) }
+    requires ran { IsRan asked.now.workers asked.now.limit inputs.now.net inputs.now.trace ran.now }
+    requires few { length ran.now.journal ≤ entry_max }
+    ensures { IfOk result (λ product.
+        IsRunProduct asked.now inputs.now.net inputs.now.trace product) }
 {
     let net = &inputs.net;
-    let compiled = compile_network(alloc, net)?;
-    let finished = finish(alloc, inputs, &compiled, run.limit())?;
     keep_names(net);
-    let outputs = print_outputs(alloc, net, &finished.journal)?;
-    let journal = stamped_text(alloc, inputs, &finished.journal, finished.complete)?;
-    let listing = print_listing(alloc, net, &compiled)?;
-    let shown = shown_text(alloc, inputs, &compiled, &finished)?;
-    let saves = saves_of(alloc, run.stem(), outputs, journal, listing)?;
+    let outputs = print_outputs(alloc, net, &ran.journal)?;
+    let journal = stamped_text(alloc, inputs, &ran.journal, ran.complete)?;
+    let listing = print_listing(alloc, net, compiled)?;
+    let shown = shown_text(alloc, inputs, compiled, ran)?;
+    let saves = saves_of(alloc, asked.stem(), outputs, journal, listing)?;
     Ok(Product {
         saves,
         shown,
-        status: status_at_end(finished.complete),
+        status: status_at_end(ran.complete),
     })
 }
 
-/// What a run makes of the files.
+// Runs the network on the trace on this thread, and makes the texts of the run.
+fn product_alone(alloc: Global, asked: &Run<'_>, inputs: &Inputs) -> Result<Product, NoMemory>
+    requires one { asked.now.workers ≡ 1 }
+    requires trace { IsTrace inputs.now.net inputs.now.trace }
+    requires deterministic { AreDeterministic inputs.now.net }
+    ensures { IfOk result (λ product.
+        IsRunProduct asked.now inputs.now.net inputs.now.trace product) }
+{
+    let compiled = compile_network(alloc, &inputs.net)?;
+    let reactor = reactor_of(alloc, &inputs.net, &compiled)?;
+    let ran = run_alone(alloc, &reactor, &inputs.trace, asked.limit())?;
+    texts_of(alloc, asked, inputs, &compiled, &ran)
+}
+
+// Runs the network on the trace by so many workers, and makes the texts of the run.
+fn product_by<T: Threads + Wait + Sync, G: Gate + Sync>(
+    rt: &T,
+    alloc: Global,
+    asked: &Run<'_>,
+    inputs: &Inputs,
+    gate: &G,
+) -> Result<Product, NoMemory>
+    requires several { 1 < asked.now.workers }
+    requires trace { IsTrace inputs.now.net inputs.now.trace }
+    requires deterministic { AreDeterministic inputs.now.net }
+    ensures { IfOk result (λ product.
+        IsRunProduct asked.now inputs.now.net inputs.now.trace product) }
+{
+    let workers = asked.workers();
+    let limit = asked.limit();
+    let compiled = compile_network(alloc, &inputs.net)?;
+    let reactor = reactor_of(alloc, &inputs.net, &compiled)?;
+    let ran = run_by(rt, alloc, &reactor, &inputs.trace, workers, limit, gate)?;
+    texts_of(alloc, asked, inputs, &compiled, &ran)
+}
+
+// Runs the network on the trace by as many workers as are asked for.
+fn product_of<T: Threads + Wait + Sync, G: Gate + Sync>(
+    rt: &T,
+    alloc: Global,
+    asked: &Run<'_>,
+    inputs: &Inputs,
+    gate: &G,
+) -> Result<Product, NoMemory>
+    requires trace { IsTrace inputs.now.net inputs.now.trace }
+    requires deterministic { AreDeterministic inputs.now.net }
+    ensures { IfOk result (λ product.
+        IsRunProduct asked.now inputs.now.net inputs.now.trace product) }
+{
+    if asked.workers() > 1 {
+        product_by(rt, alloc, asked, inputs, gate)
+    } else {
+        product_alone(alloc, asked, inputs)
+    }
+}
+
+/// What a run by one worker makes of the files.
 pub fn make_run<'a, H: Host>(
     alloc: Global,
     host: &mut H,
     run: &'a Run<'_>,
+) -> Result<Product, Failure<'a>>
+    requires { run.now.workers ≡ 1 }
+    ensures made { IfOk result (λ product.
+        WhereTold (H.files host.old) (λ files. MakesRun run.now files product)) }
+    ensures well { IfOk result (λ product. IsWell product) }
+    ensures failed { IfErr result (λ failure.
+        WhereTold (H.files host.old) (λ files.
+        FailsRun run.now files failure.name.now failure.cause)) }
+    ensures ok_faults { OnOk result (H.load_faults host.new ≡ H.load_faults host.old) }
+    ensures fault { IfErr result (λ failure. failure.cause ≡ Cause.ReadFault
+        → Rose (H.load_faults host.old) (H.load_faults host.new)) }
+    ensures no_fault { IfErr result (λ failure. failure.cause ≢ Cause.ReadFault
+        → H.load_faults host.new ≡ H.load_faults host.old) }
+    ensures files { H.files host.new ≡ H.files host.old }
+    ensures shown { H.shown host.new ≡ H.shown host.old }
+    ensures write_faults { H.write_faults host.new ≡ H.write_faults host.old }
+{
+    let inputs = match load_inputs(alloc, host, run.net(), run.trace()) {
+        Ok(inputs) => inputs,
+        Err(failure) => return Err(failure),
+    };
+    match product_alone(alloc, run, &inputs) {
+        Ok(product) => Ok(product),
+        Err(NoMemory) => Err(Failure {
+            name: run.net(),
+            cause: Cause::NoMemory,
+        }),
+    }
+}
+
+/// What a run makes of the files, by as many workers as it asks for.
+pub fn make_run_by<'a, T: Threads + Wait + Sync, H: Host, G: Gate + Sync>(
+    rt: &T,
+    alloc: Global,
+    host: &mut H,
+    run: &'a Run<'_>,
+    gate: &G,
 ) -> Result<Product, Failure<'a>>
     ensures made { IfOk result (λ product.
         WhereTold (H.files host.old) (λ files. MakesRun run.now files product)) }
@@ -155,7 +229,7 @@ pub fn make_run<'a, H: Host>(
         Ok(inputs) => inputs,
         Err(failure) => return Err(failure),
     };
-    match run_product(alloc, run, &inputs) {
+    match product_of(rt, alloc, run, &inputs, gate) {
         Ok(product) => Ok(product),
         Err(NoMemory) => Err(Failure {
             name: run.net(),

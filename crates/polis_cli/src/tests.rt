@@ -1,15 +1,20 @@
 // What no clause says: that a product is made where there is memory, and the texts of whole calls.
-use crate::top::serial;
+use crate::top::polis;
+use event_buffer::OpenGate;
 use polis_base::{Bytes, MemoryHost, NoMemory, Words};
 use polis_words::Status;
 use std::alloc::Global;
 use std::process::Abort;
+use std::sync::Wait;
 use std::test::Fail;
+use std::thread::Threads;
 
+mod gates;
 mod listings;
 mod networks;
 mod replays;
 mod rows;
+mod workers;
 
 use crate::tests::listings::LAMP_LISTING;
 use crate::tests::networks::LAMP;
@@ -152,10 +157,15 @@ fn is_held(host: &MemoryHost, name: &str, wanted: Option<&str>) -> bool {
     }
 }
 
-fn try_case(rt: &impl Abort, alloc: Global, case: &Case<'_>, number: usize) -> Result<(), Fail> {
+fn try_case<T: Abort + Threads + Wait + Sync>(
+    rt: &T,
+    alloc: Global,
+    case: &Case<'_>,
+    number: usize,
+) -> Result<(), Fail> {
     let words = make_words(alloc, case.words)?;
     let mut host = make_host(alloc, case)?;
-    let status = serial(alloc, &words, &mut host);
+    let status = polis(rt, alloc, &words, &mut host, &OpenGate);
     assert!(rt; status == case.status, "the status of case {number}");
     assert!(rt;
         host.shown() == case.shown.as_bytes(),
@@ -188,7 +198,11 @@ fn try_case(rt: &impl Abort, alloc: Global, case: &Case<'_>, number: usize) -> R
     Ok(())
 }
 
-fn try_cases(rt: &impl Abort, alloc: Global, cases: &[Case<'_>]) -> Result<(), Fail> {
+fn try_cases<T: Abort + Threads + Wait + Sync>(
+    rt: &T,
+    alloc: Global,
+    cases: &[Case<'_>],
+) -> Result<(), Fail> {
     for (number, case) in cases.iter().enumerate() {
         try_case(rt, alloc, case, number)?;
     }
@@ -207,7 +221,9 @@ fn answers_usage(rt: HostRuntime) -> Result<(), Fail> {
         &[
             shows_alone,
             usage(&[]),
+            usage(&["run", "net", "trc", "o", "--workers", "0"]),
             usage(&["run", "net", "trc", "o", "--workers", "9"]),
+            usage(&["run", "net", "trc", "o", "--workers", "1", "--workers", "2"]),
             usage(&["run", "net", "trc", "o", "--limit", "0"]),
             usage(&["run", "net", "trc", "o", "--limit", "60001"]),
             usage(&["run", "net", "trc", "o", "--limit", "05"]),
@@ -328,7 +344,8 @@ fn refuses_absent_files(rt: HostRuntime) -> Result<(), Fail> {
 }
 
 // A call on the lamp and one press, its network text padded to so many bytes.
-fn call_padded(
+fn call_padded<T: Threads + Wait + Sync>(
+    rt: &T,
     alloc: Global,
     words: &[&str],
     len: usize,
@@ -342,16 +359,16 @@ fn call_padded(
     host.put("net", text.as_slice())?;
     host.put("trc", b"press\n")?;
     let words = make_words(alloc, words)?;
-    let status = serial(alloc, &words, &mut host);
+    let status = polis(rt, alloc, &words, &mut host, &OpenGate);
     Ok((status, host))
 }
 
 #[test]
 fn refuses_long_files(rt: HostRuntime) -> Result<(), Fail> {
-    let (status, host) = call_padded(rt.alloc(), RUN, 4_194_304)?;
+    let (status, host) = call_padded(&rt, rt.alloc(), RUN, 4_194_304)?;
     assert!(rt; status == Status::Done);
     assert!(rt; is_held(&host, "o.jnl", Some(PRESSED)));
-    let (status, host) = call_padded(rt.alloc(), CHECK, 4_194_305)?;
+    let (status, host) = call_padded(&rt, rt.alloc(), CHECK, 4_194_305)?;
     assert!(rt; status == Status::Refused);
     assert!(rt; host.shown() == b"refused net long\n".as_slice());
     Ok(())

@@ -1,8 +1,9 @@
-// The call that does the program's work.
+// The calls that do the program's work.
 ghost use Rattle.std.specs.Prelude.{◌≡◌, ◌≢◌, IfOk, IfErr, OnOk};
 ghost use Rattle.polis_base.specs.Host.{Rose, WhereTold};
 ghost use Rattle.polis_words.specs.declared.cause.Cause.{Cause};
-ghost use Rattle.polis_cli.specs.Commands.{Makes, Fails};
+ghost use Rattle.polis_words.specs.Run.{NeedsWorkers};
+ghost use Rattle.polis_cli.specs.Commands.{Makes, Fails, IsSerial};
 ghost use Rattle.polis_cli.specs.Writing.{IsWell};
 ghost use Rattle.polis_cli.specs.Promise.{Answers, Leaves};
 
@@ -11,20 +12,24 @@ use crate::compile::make_compile;
 use crate::migrate::make_migrate;
 use crate::product::Product;
 use crate::replay::make_replay;
-use crate::run::make_run;
+use crate::run::{make_run, make_run_by};
 use crate::show::{fail, show_line};
 use crate::write::write_product;
+use event_buffer::Gate;
 use net_core::{laws, stamp_laws};
 use polis_base::{Host, Words};
-use polis_words::{Failure, Request, Status, judge};
+use polis_words::{Failure, Request, Status, judge, needs_workers};
 use std::alloc::Global;
+use std::sync::Wait;
+use std::thread::Threads;
 
-// What a request makes of the files.
+// What a request that needs no other thread makes of the files.
 fn make<'a, H: Host>(
     alloc: Global,
     host: &mut H,
     request: &'a Request<'_>,
 ) -> Result<Product, Failure<'a>>
+    requires { IsSerial request.now }
     ensures made { IfOk result (λ product.
         WhereTold (H.files host.old) (λ files. Makes request.now files product)) }
     ensures well { IfOk result (λ product. IsWell product) }
@@ -49,8 +54,42 @@ fn make<'a, H: Host>(
     }
 }
 
-/// Does what the command line asks for on the calling thread alone.
+// What a request makes of the files, a run by as many workers as it asks for.
+fn make_by<'a, T: Threads + Wait + Sync, H: Host, G: Gate + Sync>(
+    rt: &T,
+    alloc: Global,
+    host: &mut H,
+    request: &'a Request<'_>,
+    gate: &G,
+) -> Result<Product, Failure<'a>>
+    ensures made { IfOk result (λ product.
+        WhereTold (H.files host.old) (λ files. Makes request.now files product)) }
+    ensures well { IfOk result (λ product. IsWell product) }
+    ensures failed { IfErr result (λ failure.
+        WhereTold (H.files host.old) (λ files.
+        Fails request.now files failure.name.now failure.cause)) }
+    ensures ok_faults { OnOk result (H.load_faults host.new ≡ H.load_faults host.old) }
+    ensures fault { IfErr result (λ failure. failure.cause ≡ Cause.ReadFault
+        → Rose (H.load_faults host.old) (H.load_faults host.new)) }
+    ensures no_fault { IfErr result (λ failure. failure.cause ≢ Cause.ReadFault
+        → H.load_faults host.new ≡ H.load_faults host.old) }
+    ensures files { H.files host.new ≡ H.files host.old }
+    ensures shown { H.shown host.new ≡ H.shown host.old }
+    ensures write_faults { H.write_faults host.new ≡ H.write_faults host.old }
+{
+    match request {
+        Request::Run(run) => make_run_by(rt, alloc, host, run, gate),
+        Request::Check(check) => make_check(alloc, host, check),
+        Request::Compile(compile) => make_compile(alloc, host, compile),
+        Request::Replay(replay) => make_replay(alloc, host, replay),
+        Request::Migrate(migrate) => make_migrate(alloc, host, migrate),
+    }
+}
+
+/// Does what the command line asks for on the calling thread alone, where it asks for no more than
+/// one worker.
 pub fn serial<H: Host>(alloc: Global, words: &Words, host: &mut H) -> Status
+    requires { ¬ NeedsWorkers words.now }
     ensures answers { Answers result words.now
         (record {
           files = H.files host.old;
@@ -90,5 +129,98 @@ pub fn serial<H: Host>(alloc: Global, words: &Words, host: &mut H) -> Status
     match make(alloc, host, &request) {
         Ok(product) => write_product(host, &product),
         Err(failure) => fail(alloc, host, &failure),
+    }
+}
+
+// Does what the command line asks for, a run by as many workers as it asks for.
+fn by_workers<T: Threads + Wait + Sync, H: Host, G: Gate + Sync>(
+    rt: &T,
+    alloc: Global,
+    words: &Words,
+    host: &mut H,
+    gate: &G,
+) -> Status
+    ensures answers { Answers result words.now
+        (record {
+          files = H.files host.old;
+          shown = H.shown host.old;
+          load_faults = H.load_faults host.old;
+          write_faults = H.write_faults host.old;
+        })
+        (record {
+          files = H.files host.new;
+          shown = H.shown host.new;
+          load_faults = H.load_faults host.new;
+          write_faults = H.write_faults host.new;
+        }) }
+    ensures leaves { Leaves result words.now
+        (record {
+          files = H.files host.old;
+          shown = H.shown host.old;
+          load_faults = H.load_faults host.old;
+          write_faults = H.write_faults host.old;
+        })
+        (record {
+          files = H.files host.new;
+          shown = H.shown host.new;
+          load_faults = H.load_faults host.new;
+          write_faults = H.write_faults host.new;
+        }) }
+{
+    laws();
+    stamp_laws();
+    let request = match judge(words) {
+        Some(request) => request,
+        None => {
+            show_line(host, b"usage\n");
+            return Status::Usage;
+        }
+    };
+    match make_by(rt, alloc, host, &request, gate) {
+        Ok(made) => write_product(host, &made),
+        Err(failure) => fail(alloc, host, &failure),
+    }
+}
+
+/// Does what the command line asks for. A run by several workers takes threads and waits for locks,
+/// and calls the gate as machines react; any other request is done on the calling thread alone.
+pub fn polis<T: Threads + Wait + Sync, H: Host, G: Gate + Sync>(
+    rt: &T,
+    alloc: Global,
+    words: &Words,
+    host: &mut H,
+    gate: &G,
+) -> Status
+    ensures answers { Answers result words.now
+        (record {
+          files = H.files host.old;
+          shown = H.shown host.old;
+          load_faults = H.load_faults host.old;
+          write_faults = H.write_faults host.old;
+        })
+        (record {
+          files = H.files host.new;
+          shown = H.shown host.new;
+          load_faults = H.load_faults host.new;
+          write_faults = H.write_faults host.new;
+        }) }
+    ensures leaves { Leaves result words.now
+        (record {
+          files = H.files host.old;
+          shown = H.shown host.old;
+          load_faults = H.load_faults host.old;
+          write_faults = H.write_faults host.old;
+        })
+        (record {
+          files = H.files host.new;
+          shown = H.shown host.new;
+          load_faults = H.load_faults host.new;
+          write_faults = H.write_faults host.new;
+        }) }
+{
+    if needs_workers(words) {
+        by_workers(rt, alloc, words, host, gate)
+    } else {
+        serial(alloc, words, host)
     }
 }

@@ -1,12 +1,15 @@
 // Whole calls that judge journals, over files in memory, as tables.
 use crate::tests::networks::{JOIN, LAMP, TWO};
 use crate::tests::{Case, PRESS, make_words, try_cases};
-use crate::top::serial;
+use crate::top::polis;
+use event_buffer::OpenGate;
 use polis_base::{Bytes, MemoryHost, NoMemory};
 use polis_words::Status;
 use std::alloc::Global;
 use std::process::Abort;
+use std::sync::Wait;
 use std::test::Fail;
+use std::thread::Threads;
 
 const REPLAY: &[&str] = &["replay", "net", "trc", "jnl"];
 
@@ -89,7 +92,11 @@ fn row<'a>(lines: &'a [&'a str], last: &'a str, status: Status, shown: &'a str) 
     }
 }
 
-fn try_altered(rt: &impl Abort, alloc: Global, table: &[Altered<'_>]) -> Result<(), Fail> {
+fn try_altered<T: Abort + Threads + Wait + Sync>(
+    rt: &T,
+    alloc: Global,
+    table: &[Altered<'_>],
+) -> Result<(), Fail> {
     for altered in table {
         let journal = lines_of(alloc, altered.lines, altered.last)?;
         let case = judged(REPLAY, journal.as_str(), altered.status, altered.shown);
@@ -231,8 +238,8 @@ fn two_with(alloc: Global, first: &str, last: &str) -> Result<String, NoMemory> 
     Ok(text)
 }
 
-fn try_stamps(
-    rt: &impl Abort,
+fn try_stamps<T: Abort + Threads + Wait + Sync>(
+    rt: &T,
     alloc: Global,
     stamps: (&str, &str),
     status: Status,
@@ -337,7 +344,7 @@ fn refuses_a_journal_of_too_many_entries(rt: HostRuntime) -> Result<(), Fail> {
     host.put("trc", b"press\n")?;
     host.put("jnl", text.as_slice())?;
     let words = make_words(alloc, REPLAY)?;
-    let status = serial(alloc, &words, &mut host);
+    let status = polis(&rt, alloc, &words, &mut host, &OpenGate);
     assert!(rt; status == Status::Refused);
     assert!(rt; host.shown() == b"refused jnl line 60002 many\n".as_slice());
     Ok(())

@@ -1,21 +1,21 @@
 use Rattle.polis_cli.proofs.Running.{makes_run, run_well, run_wants}
 use Rattle.polis_cli.proofs.run.make_run.Goals as goal
 
-pub returns-in-Ok-run_product-clause-made : goal.returns-in-Ok-run_product-clause-made
-returns-in-Ok-run_product-clause-made g c =
+pub returns-in-Ok-product_alone-clause-made : goal.returns-in-Ok-product_alone-clause-made
+returns-in-Ok-product_alone-clause-made g c =
     makes_run (g.H.Host.files c.args.host.now) c.args.run.now c.in-Ok.inputs.net
-    c.in-Ok.inputs.trace c.in-Ok-run_product.product
-    (rw (c.net.ensures, c.trace.ensures) at c.in-Ok.ensures.held) c.in-Ok-run_product.ensures
+    c.in-Ok.inputs.trace c.in-Ok-product_alone.product
+    (rw (c.net.ensures, c.trace.ensures) at c.in-Ok.ensures.held) c.in-Ok-product_alone.ensures
 
-pub returns-in-Ok-run_product-clause-well : goal.returns-in-Ok-run_product-clause-well
-returns-in-Ok-run_product-clause-well g c =
-    run_well c.args.run.now c.in-Ok.inputs.net c.in-Ok.inputs.trace c.in-Ok-run_product.product
-    c.in-Ok-run_product.ensures
+pub returns-in-Ok-product_alone-clause-well : goal.returns-in-Ok-product_alone-clause-well
+returns-in-Ok-product_alone-clause-well g c =
+    run_well c.args.run.now c.in-Ok.inputs.net c.in-Ok.inputs.trace c.in-Ok-product_alone.product
+    c.in-Ok-product_alone.ensures
 
 pub returns-in-Err-clause-failed : goal.returns-in-Err-clause-failed
 returns-in-Err-clause-failed g c = rw (c.net.ensures, c.trace.ensures) at c.in-Err.ensures.failed
 
 pub returns-clause-failed : goal.returns-clause-failed
 returns-clause-failed g c =
-    run_wants (g.H.Host.files c.args.host.now) c.args.run.now c.net-in-Err-run_product.result.now
-    c.net-in-Err-run_product.ensures
+    run_wants (g.H.Host.files c.args.host.now) c.args.run.now c.net-in-Err-product_alone.result.now
+    c.net-in-Err-product_alone.ensures

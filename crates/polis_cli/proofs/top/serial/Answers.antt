@@ -1,6 +1,7 @@
 use Rattle.std.proofs.Common.{sym, subst, ◌∙◌}
 use Rattle.polis_base.specs.Host.{Rose}
 use Rattle.polis_cli.proofs.Promising.{failed_answers, failed_leaves, written_answers, written_leaves}
+use Rattle.polis_cli.proofs.Serial.{one_thread}
 use Rattle.polis_cli.proofs.top.serial.Goals as goal
 
 pub returns-in-Err-clause-answers : goal.returns-in-Err-clause-answers
@@ -37,3 +38,7 @@ returns-in-Ok-clause-leaves g c =
     c.in-Some.ensures.asks c.in-Ok.ensures.made c.in-Ok.ensures.well
     (rw (c.in-Ok.ensures.files, c.in-Ok.ensures.shown, c.in-Ok.ensures.write_faults) at
     c.write_product.ensures.written)
+
+pub make-requires : goal.make-requires
+make-requires g c =
+    one_thread c.args.words.now c.in-Some.request c.in-Some.ensures.asks c.requires

@@ -1,0 +1,99 @@
+-- Journals that the scheduler carries on.
+use Rattle.std.proofs.Common.{◌≡◌, ◌⊎◌, ◌↔◌, inl, inr, ◌≤◌, ◌<◌, ◌/◌, ℕ, Bool, true, false, List, [], ◌∷◌, ◌++◌, length, take, drop, refl, sym, ap, subst, ◌∙◌, IsTrue, arith}
+use Rattle.std.proofs.lemmas.List.{append-nil}
+use Rattle.std.proofs.Math.Seq.{drop-append_seam, take-append_seam}
+use Rattle.transition_table.specs.declared.network.Network.{Network}
+use Rattle.journals.specs.declared.entry.Entry.{Entry}
+use Rattle.journals.specs.declared.entry.TraceItem.{TraceItem}
+use Rattle.journals.specs.declared.entry.Pick.{Pick}
+use Rattle.journals.specs.declared.entry.Pick.TheVariants.{Stop}
+use Rattle.journals.specs.Legality.{Legal, Complete}
+use Rattle.journals.specs.Laws.{StopsWhereComplete}
+use Rattle.journals.specs.Schedules.{IsSchedule, Follows, FollowsAfter, IsPicked, pick}
+use Rattle.worker_run.specs.Gathered.{IsEnough}
+use Rattle.polis_cli.specs.declared.ran.Ran.{Ran}
+use Rattle.polis_cli.specs.Runs.{CarriesOn, IsRan}
+
+-- a journal that isn't complete has no place at which the scheduler stopped
+limited : (net : Network) (trace : List TraceItem) (limit : ℕ) (journal : List Entry)
+    (complete : Bool) → StopsWhereComplete → Legal net trace journal
+    → IsTrue complete ↔ Complete net trace journal → (pick net trace journal ≡ Stop)
+    ⊎ (length journal ≡ limit) → complete ≡ false → length journal ≡ limit
+limited net trace limit journal complete stops legal whole (inl stop) none = let yes' = whole.1
+    ((stops net trace journal legal).0 stop) in cc
+limited net trace limit journal complete stops legal whole (inr full) none = full
+
+pub ran_alone : (net : Network) (trace : List TraceItem) (limit : ℕ) (ran : Ran)
+    → StopsWhereComplete → CarriesOn net trace limit [] 0 ran → IsRan 1 limit net trace ran
+ran_alone net trace limit ran stops c =
+    let none = c.gathered in
+    let begun = c.adopted in
+    record {
+      within = c.within;
+      legal = c.legal;
+      begins = record {
+        gathered_few = omega (arith, none);
+        adopted_few = omega (arith, none, begun);
+        alone = λ one. (none, begun);
+        enough = λ more. absurd (omega (arith, more));
+        follows = subst (Follows net trace ran.journal) (sym begun) c.follows;
+      };
+      scheduled = λ one. c.schedule refl;
+      ends = c.ends;
+      limited = limited net trace limit ran.journal ran.complete stops c.legal c.ends c.stops;
+    }
+
+-- where nothing is picked after a journal, nothing follows it
+nothing_follows : (net : Network) (trace : List TraceItem) (from rest : List Entry)
+    → pick net trace from ≡ Stop → FollowsAfter net trace from rest → rest ≡ []
+nothing_follows net trace from [] stop follows = refl
+nothing_follows net trace from (entry ∷ entries) stop follows = absurd
+    (subst (λ (p : Pick). IsPicked net from p entry) stop follows.0)
+
+-- a complete journal isn't carried on
+not_carried : (net : Network) (trace : List TraceItem) (from rest journal : List Entry)
+    → journal ≡ from ++ rest → pick net trace from ≡ Stop → Follows net trace journal (length from)
+    → journal ≡ from
+not_carried net trace from rest journal whole stop follows =
+    let after : FollowsAfter net trace from rest =
+    subst (λ (xs : List Entry). FollowsAfter net trace xs rest) (take-append_seam from rest)
+    (subst (FollowsAfter net trace (take (length from) (from ++ rest)))
+    (drop-append_seam from rest)
+    (subst (λ (j : List Entry). Follows net trace j (length from)) whole follows)) in
+    whole ∙ ap (λ (xs : List Entry). from ++ xs) (nothing_follows net trace from rest stop after) ∙
+    append-nil from
+
+pub ran_by : (net : Network) (trace : List TraceItem) (workers limit merged : ℕ) (from : List Entry)
+    (ran : Ran) → StopsWhereComplete → 2 ≤ workers
+    → Legal net trace from → (length from ≤ merged) × (merged ≤ limit)
+    → IsEnough net trace (limit / workers) from → CarriesOn net trace limit from merged ran
+    → IsRan workers limit net trace ran
+ran_by net trace workers limit merged from ran stops several legal few enough c =
+    let gathered = c.gathered in
+    let begun = c.adopted in
+    record {
+      within = c.within;
+      legal = c.legal;
+      begins = record {
+        gathered_few = omega (arith, gathered, few.1);
+        adopted_few = omega (arith, gathered, begun, few.0);
+        alone = λ one. absurd (omega (arith, one, several));
+        enough = λ more. share enough;
+        follows = subst (Follows net trace ran.journal) (sym begun) c.follows;
+      };
+      scheduled = λ one. absurd (omega (arith, one, several));
+      ends = c.ends;
+      limited = limited net trace limit ran.journal ran.complete stops c.legal c.ends c.stops;
+    }
+  where
+    share : IsEnough net trace (limit / workers) from → (limit / workers ≤ ran.adopted)
+        ⊎ ((length ran.journal ≡ ran.adopted) × Complete net trace ran.journal)
+    share (inl least) = inl (subst (λ n. limit / workers ≤ n) (sym c.adopted) least)
+    share (inr complete) =
+        let same = not_carried net trace from c.begins.0 ran.journal c.begins.1
+        ((stops net trace from legal).1 complete) c.follows in
+        inr (
+          ap (λ (j : List Entry). length j) same ∙ sym c.adopted,
+          subst (Complete net trace)
+              (sym same) complete,
+        )

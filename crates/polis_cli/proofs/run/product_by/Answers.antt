@@ -1,0 +1,18 @@
+use Rattle.std.proofs.Common.{arith}
+use Rattle.polis_cli.proofs.run.product_by.Goals as goal
+
+pub run_by-requires-clause-several : goal.run_by-requires-clause-several
+run_by-requires-clause-several g c =
+    let is = c.workers-workers.ensures.is in
+    let several = c.requires.several in
+    omega (arith, is, several)
+
+pub texts_of-requires-clause-ran : goal.texts_of-requires-clause-ran
+texts_of-requires-clause-ran g c =
+    rw (c.in_ok-reactor.ensures, c.workers-workers.ensures.is, c.limit-limit.ensures.is) at c.in_ok-ran.ensures
+
+pub texts_of-requires-clause-few : goal.texts_of-requires-clause-few
+texts_of-requires-clause-few g c =
+    let within = c.in_ok-ran.ensures.within in
+    let few = c.limit-limit.ensures.few in
+    omega (arith, within, few)

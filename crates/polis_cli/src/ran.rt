@@ -1,0 +1,100 @@
+// Running a network on a trace: the journal, and how much of it workers gathered.
+ghost use Rattle.std.specs.Prelude.{◌≡◌, ◌≤◌, [], length, IfOk};
+ghost use Rattle.journals.specs.Journals.{IsTrace};
+ghost use Rattle.journals.specs.Legality.{Legal};
+ghost use Rattle.polis_cli.specs.Runs.{CarriesOn, IsRan};
+
+use event_buffer::Gate;
+use net_core::{Journal, Trace, laws};
+use polis_base::NoMemory;
+use scheduler_gen::{complete, plan};
+use std::alloc::Global;
+use std::sync::Wait;
+use std::thread::Threads;
+use transition_table::Reactor;
+use worker_run::{Gathered, gather};
+
+/// A journal, and how it came about.
+#[derive(Drop)]
+pub struct Ran {
+    /// The entries in order.
+    pub journal: Journal,
+    /// Whether all that was sent is delivered, and no machine has a delivery after its last
+    /// reaction.
+    pub complete: bool,
+    /// How many entries workers gathered.
+    pub gathered: u64,
+    /// How many of these the journal begins with.
+    pub adopted: u64,
+}
+
+// Carries a legal journal on to the limit, or until nothing is picked.
+fn carry_on<R: Reactor>(
+    alloc: Global,
+    r: &R,
+    trace: &Trace,
+    gathered: Gathered,
+    limit: u64,
+) -> Result<Ran, NoMemory>
+    requires trace { IsTrace (R.meaning r.now) trace.now }
+    requires legal { Legal (R.meaning r.now) trace.now gathered.journal }
+    requires few { length gathered.journal ≤ limit }
+    ensures { IfOk result (λ ran. CarriesOn (R.meaning r.now) trace.now limit
+        gathered.journal gathered.merged ran) }
+{
+    let merged = gathered.merged;
+    let adopted = gathered.journal.len();
+    let plan = plan(alloc, r.network())?;
+    let finished = complete(alloc, &plan, r, trace, gathered.journal, limit)?;
+    Ok(Ran {
+        journal: finished.journal,
+        complete: finished.complete,
+        gathered: merged,
+        adopted,
+    })
+}
+
+/// What the scheduler makes of a network by itself, within a limit of entries.
+pub fn run_alone<R: Reactor>(
+    alloc: Global,
+    r: &R,
+    trace: &Trace,
+    limit: u64,
+) -> Result<Ran, NoMemory>
+    requires { IsTrace (R.meaning r.now) trace.now }
+    ensures { IfOk result (λ ran. IsRan 1 limit (R.meaning r.now) trace.now ran) }
+{
+    laws();
+    let nothing = Gathered {
+        journal: Journal::new(alloc),
+        merged: 0,
+    };
+    match carry_on(alloc, r, trace, nothing, limit) {
+        Ok(ran) => Ok(ran),
+        Err(NoMemory) => Err(NoMemory),
+    }
+}
+
+/// What the scheduler makes of the journal that workers gather, within a limit of entries.
+pub fn run_by<T: Threads + Wait + Sync, R: Reactor + Sync, G: Gate + Sync>(
+    rt: &T,
+    alloc: Global,
+    r: &R,
+    trace: &Trace,
+    workers: u32,
+    limit: u64,
+    gate: &G,
+) -> Result<Ran, NoMemory>
+    requires several { 2 ≤ workers }
+    requires few { workers ≤ 8 }
+    requires limit { (1 ≤ limit) × (limit ≤ 60000) }
+    requires trace { IsTrace (R.meaning r.now) trace.now }
+    ensures { IfOk result (λ ran. IsRan workers limit (R.meaning r.now) trace.now ran) }
+{
+    laws();
+    let gathered = gather(rt, alloc, r, trace, workers, limit, gate)?;
+    match carry_on(alloc, r, trace, gathered, limit) {
+        Ok(ran) => Ok(ran),
+        Err(NoMemory) => Err(NoMemory),
+    }
+}

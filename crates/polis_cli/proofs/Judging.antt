@@ -100,7 +100,8 @@ journal_fails o replay net trace name cause same held one fails =
       h.0.0,
       h.0.1,
       λ other items k l.
-          subst (λ (n : Network). JournalFails files n items replay.journal cause) (sym (h.1 other k))
+          subst (λ (n : Network). JournalFails files n items replay.journal cause)
+          (sym (h.1 other k))
           (f items),
     ))
     (told_both o (HoldsBoth replay net trace) (λ files. (other : Network)

@@ -9,7 +9,8 @@ run_by-requires-clause-several g c =
 
 pub texts_of-requires-clause-ran : goal.texts_of-requires-clause-ran
 texts_of-requires-clause-ran g c =
-    rw (c.in_ok-reactor.ensures, c.workers-workers.ensures.is, c.limit-limit.ensures.is) at c.in_ok-ran.ensures
+    rw (c.in_ok-reactor.ensures, c.workers-workers.ensures.is, c.limit-limit.ensures.is) at
+    c.in_ok-ran.ensures
 
 pub texts_of-requires-clause-few : goal.texts_of-requires-clause-few
 texts_of-requires-clause-few g c =

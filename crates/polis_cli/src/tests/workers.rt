@@ -77,10 +77,10 @@ fn holds_cells_side_by_side(rt: HostRuntime) -> Result<(), Fail> {
 }
 
 // Runs a network by so many workers, and has the journal judged.
-fn judge_run<T: Abort + Threads + Wait + Sync>(
+fn judge_run<'a, T: Abort + Threads + Wait + Sync>(
     rt: &T,
     alloc: Global,
-    (net, trace): (&[u8], &str),
+    (net, trace): (&'a [u8], &'a str),
     workers: &str,
 ) -> Result<(), Fail> {
     let case = Case {

@@ -1,7 +1,9 @@
 pub mod Columns
 pub mod Groups
 pub mod Known
+pub mod Left
 pub mod Orders
 pub mod Points
+pub mod Roots
 pub mod Sizes
 pub mod Supported

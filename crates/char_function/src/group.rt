@@ -10,8 +10,8 @@ use polis_base::{NoMemory, Places};
 use std::alloc::Global;
 use transition_table::Machine;
 
-// The code of a variable or result on a snapshot.
-fn code_at(m: &Machine, table: &Table, item: u32, i: u64) -> u8
+/// The code of a variable or result on a snapshot.
+pub(crate) fn code_at(m: &Machine, table: &Table, item: u32, i: u64) -> u8
     requires table { IsTableOf m.now table.now }
     requires item { item < length (sizes_of m.now) }
     requires snapshot { i < length (points m.now) }

@@ -18,7 +18,8 @@ pub(crate) type Known = List<Option<NodeId>>;
 
 /// The place after the last variable of an order.
 pub(crate) fn after_variables(m: &Machine, order: &Order) -> u64
-    ensures { OnlyResults (length m.now.vars) order.now result }
+    ensures results { OnlyResults (length m.now.vars) order.now result }
+    ensures within { result ≤ length order.now }
 {
     let vars = m.vars.len();
     for place in (0..order.len()).rev() {

@@ -4,17 +4,18 @@
 
 mod allowed;
 mod column;
-mod diagram;
 mod first;
+mod fixing;
 mod group;
 mod known;
+mod root;
 mod support;
 mod support_lists;
 
 pub use allowed::is_allowed;
-pub use diagram::characteristic;
 pub use first::first_order;
-pub use support::supports;
+pub use root::{characteristic, diagram};
+pub use support::{supports, supports_in};
 pub use support_lists::Supports;
 
 #[cfg(test)]

@@ -4,13 +4,14 @@ ghost use Rattle.polis_base.specs.Lists.{upto};
 ghost use Rattle.domains.specs.Names.{is_same};
 ghost use Rattle.transition_table.specs.Transitions.{IsDeterministic};
 ghost use Rattle.transition_table.specs.Computed.{all_supports};
+ghost use Rattle.outcome_table.specs.Outcomes.{IsTableOf};
 ghost use Rattle.char_function.specs.Columns.{varies};
 ghost use Rattle.char_function.specs.Supported.{AreSupports};
 
 use crate::column::result_column;
 use crate::support_lists::Supports;
 use domains::VarTable;
-use outcome_table::table_of;
+use outcome_table::{Table, table_of};
 use polis_base::{List, NoMemory, Numbers};
 use std::alloc::Global;
 use transition_table::Machine;
@@ -60,21 +61,32 @@ fn support(alloc: Global, column: &[u8], vars: &VarTable) -> Result<Numbers, NoM
 }
 
 /// For each result the variables in which two snapshots differ alone while their transitions give
-/// it different codes. The outcomes of all snapshots are put into a table once, and those of
-/// neighbouring codes are compared.
-pub fn supports(alloc: Global, m: &Machine) -> Result<Supports, NoMemory>
-    requires { IsDeterministic m.now }
+/// it different codes, from a table of the outcomes. The codes of neighbouring snapshots are
+/// compared.
+pub fn supports_in(alloc: Global, m: &Machine, table: &Table) -> Result<Supports, NoMemory>
+    requires sure { IsDeterministic m.now }
+    requires table { IsTableOf m.now table.now }
     ensures lists { IfOk result (λ s. s ≡ all_supports m.now) }
     ensures exact { IfOk result (λ s. AreSupports m.now s) }
 {
     transition_table::laws_of_computing();
     domains::laws();
-    let table = table_of(alloc, m)?;
     let _vars = m.var_count();
     let mut lists = List::new(alloc);
     for y in 0..u64::from(m.result_count()) {
-        let codes = result_column(alloc, m, &table, y)?;
+        let codes = result_column(alloc, m, table, y)?;
         lists.push(support(alloc, codes.as_slice(), &m.vars)?)?;
     }
     Ok(Supports::of(lists))
+}
+
+/// The same. The outcomes of all snapshots are put into a table first.
+pub fn supports(alloc: Global, m: &Machine) -> Result<Supports, NoMemory>
+    requires { IsDeterministic m.now }
+    ensures lists { IfOk result (λ s. s ≡ all_supports m.now) }
+    ensures exact { IfOk result (λ s. AreSupports m.now s) }
+{
+    let table = table_of(alloc, m)?;
+    let s = supports_in(alloc, m, &table)?;
+    Ok(s)
 }

@@ -4,13 +4,13 @@ ghost use Rattle.transition_table.specs.Orders.{Allowed};
 ghost use Rattle.transition_table.specs.Transitions.{AreDeterministic, IsDeterministic};
 ghost use Rattle.sgraph.specs.declared.vertex.Vertex.TheVariants.{Assign};
 ghost use Rattle.sgraph.specs.Facts.{IsGraph};
+ghost use Rattle.char_function.specs.Roots.{IsDiagramOf};
 ghost use Rattle.machine_compiler.specs.Parts.{AreRight, AssignsBytes, Right, part_of_compiled, parts_of};
 ghost use Rattle.machine_compiler.specs.Making.{IsSmallGraph};
 
 use crate::compiled::{Compiled, CompiledList};
-use char_function::characteristic;
-use decision_diagram::Order;
-use order_sift::sift;
+use decision_diagram::{Order, Root};
+use order_sift::{SiftedDiagram, sift_diagram};
 use polis_base::NoMemory;
 use sgraph::{Graph, Vertex, build};
 use sgraph_opt::optimise;
@@ -19,13 +19,13 @@ use task_code::lower;
 use transition_table::{Machine, Network};
 
 // The machine's diagram under the order as a graph, and that graph made smaller.
-fn small_graph(alloc: Global, m: &Machine, order: &Order) -> Result<Graph, NoMemory>
+fn small_graph(alloc: Global, m: &Machine, root: &Root, order: &Order) -> Result<Graph, NoMemory>
     requires sure { IsDeterministic m.now }
     requires allowed { Allowed m.now order.now }
+    requires diagram { IsDiagramOf m.now order.now root.now.store root.now.node }
     ensures { IfOk result (λ g. IsSmallGraph m.now order.now g) }
 {
-    let root = characteristic(alloc, m, order)?;
-    let graph = build(alloc, m, &root, order)?;
+    let graph = build(alloc, m, root, order)?;
     let small = optimise(alloc, &graph)?;
     Ok(small)
 }
@@ -56,8 +56,8 @@ pub fn compile_machine(alloc: Global, m: &Machine) -> Result<Compiled, NoMemory>
     requires { IsDeterministic m.now }
     ensures { IfOk result (λ compiled. Right m.now (part_of_compiled compiled)) }
 {
-    let sifted = sift(alloc, m)?;
-    let graph = small_graph(alloc, m, &sifted.order)?;
+    let SiftedDiagram { sifted, root } = sift_diagram(alloc, m)?;
+    let graph = small_graph(alloc, m, &root, &sifted.order)?;
     let code = lower(alloc, &graph)?;
     keep_graph(&graph);
     task_machine::laws();

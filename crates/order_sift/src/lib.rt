@@ -11,7 +11,7 @@ mod prepare;
 mod turns;
 
 pub use law::laws;
-pub use turns::{Sifted, sift};
+pub use turns::{Sifted, SiftedDiagram, sift, sift_diagram};
 
 #[cfg(test)]
 mod tests;

@@ -13,8 +13,8 @@ use crate::law::laws_below;
 use crate::pairs::joined;
 use crate::points::{Points, lists_from, neighbour};
 use domains::Codes;
-use outcome_table::{Table, table_of};
-use polis_base::{List, NoMemory, Numbers};
+use outcome_table::Table;
+use polis_base::{Duplicate, List, NoMemory, Numbers};
 use std::alloc::Global;
 use transition_table::Machine;
 
@@ -178,20 +178,26 @@ fn all_marks(
 }
 
 /// A machine on its snapshots, of which there are few. What is seen before doesn't matter.
-pub(crate) fn prepare(alloc: Global, m: &Machine, seen: &mut [u16]) -> Result<Points, NoMemory>
+pub(crate) fn prepare(
+    alloc: Global,
+    m: &Machine,
+    table: &Table,
+    seen: &mut [u16],
+) -> Result<Points, NoMemory>
+    requires table { IsTableOf m.now table.now }
     requires few { product m.now.vars ≤ 1024 }
     requires room { length seen.old ≡ 1048576 }
     ensures { IfOk result (IsPrepared m.now) }
 {
     laws_below();
-    let table = table_of(alloc, m)?;
     let snapshots = table.numbers.len();
-    let results = codes_of_results(alloc, m, &table)?;
+    let codes = table.codes.copy()?;
+    let results = codes_of_results(alloc, m, table)?;
     let outcomes = outcome_numbers(alloc, m, seen, &results, snapshots)?;
-    let marks = all_marks(alloc, m, &table.codes, &outcomes)?;
+    let marks = all_marks(alloc, m, &codes, &outcomes)?;
     Ok(Points {
         snapshots,
-        codes: table.codes,
+        codes,
         results,
         marks,
     })

@@ -2,8 +2,11 @@
 ghost use Rattle.std.specs.Prelude.{◌≡◌, ◌+◌, ◌-◌, ◌<◌, ◌≤◌, ℕ, length, slice_index, IfOk};
 ghost use Rattle.domains.specs.Orders.{place};
 ghost use Rattle.domains.specs.Tables.{product};
-ghost use Rattle.transition_table.specs.Orders.{Allowed, sizes_of};
+ghost use Rattle.transition_table.specs.Orders.{Allowed};
 ghost use Rattle.transition_table.specs.Transitions.{IsDeterministic};
+ghost use Rattle.outcome_table.specs.Outcomes.{IsTableOf};
+ghost use Rattle.char_function.specs.Orders.{first_order};
+ghost use Rattle.char_function.specs.Roots.{IsDiagramOf};
 ghost use Rattle.char_function.specs.Supported.{AreSupports};
 ghost use Rattle.char_function.specs.Sizes.{Size};
 ghost use Rattle.order_sift.specs.Chains.{IsChain};
@@ -13,13 +16,15 @@ ghost use Rattle.order_sift.specs.Sifting.{IsLeast, IsSifted};
 ghost use Rattle.order_sift.specs.Turns.{AreAllowedPlaces, IsCounted, IsSettled, StaysOrFalls};
 
 use crate::chain::{Chain, chain_of};
+use crate::law::laws_of_levels;
 use crate::moves::{Moving, sizes_at};
 use crate::pairs::NUMBERS;
 use crate::places::allowed_places;
 use crate::points::Points;
 use crate::prepare::prepare;
-use char_function::{Supports, characteristic, first_order, supports};
-use decision_diagram::Order;
+use char_function::{Supports, diagram, first_order, supports_in};
+use decision_diagram::{Order, Root};
+use outcome_table::{Table, table_of};
 use polis_base::NoMemory;
 use std::alloc::Global;
 use transition_table::Machine;
@@ -37,6 +42,13 @@ pub struct Sifted {
     pub count: u64,
 }
 
+/// An order of a machine's variables and results, and the machine's diagram under it.
+#[derive(Drop)]
+pub struct SiftedDiagram {
+    pub sifted: Sifted,
+    pub root: Root,
+}
+
 // An order, what it leaves, and its size.
 #[derive(Drop)]
 struct Counted {
@@ -52,16 +64,6 @@ struct Sifting<'a> {
     machine: &'a Machine,
     supports: &'a Supports,
     points: &'a Points,
-}
-
-// The size under an order, by the diagram over it.
-fn size_of(alloc: Global, m: &Machine, order: &Order) -> Result<u64, NoMemory>
-    requires sure { IsDeterministic m.now }
-    requires order { length order.now ≡ length (sizes_of m.now) }
-    ensures { IfOk result (λ count. count ≡ Size m.now order.now) }
-{
-    let root = characteristic(alloc, m, order)?;
-    root.store.count(root.node)
 }
 
 // The order in which the item at place i stands at place j.
@@ -204,31 +206,54 @@ fn snapshot_count(m: &Machine) -> u64
     count
 }
 
-// Sifts an order of a machine of few snapshots.
-fn sifted_from(
+// The first order of a machine of few snapshots, with its size.
+fn counted_first(
     alloc: Global,
     m: &Machine,
-    supports: &Supports,
+    points: &Points,
+    seen: &mut [u16],
     order: Order,
-    count: u64,
 ) -> Result<Counted, NoMemory>
     requires sure { IsDeterministic m.now }
     requires few { product m.now.vars ≤ 1024 }
-    requires supports { AreSupports m.now supports.now }
-    requires counted { IsCounted m.now order count }
+    requires prepared { IsPrepared m.now points.now }
+    requires room { length seen.old ≡ 1048576 }
+    requires allowed { Allowed m.now order }
+    ensures order { IfOk result (λ at. at.order ≡ order) }
     ensures counted { IfOk result (λ at. IsCounted m.now at.order at.count) }
-    ensures falls { IfOk result (λ at. StaysOrFalls m.now order at.order count at.count) }
-    ensures least { IfOk result (λ at. IsLeast m.now at.order) }
+    ensures chain { IfOk result (λ at. IsChain m.now at.order at.chain) }
 {
-    let mut room = vec![in alloc; 0; NUMBERS * NUMBERS]?;
-    let seen = room.as_mut_slice();
-    let points = prepare(alloc, m, seen)?;
-    let chain = chain_of(alloc, m, &points, seen, &order)?;
-    let mut at = Counted {
+    laws_of_levels(m);
+    let chain = chain_of(alloc, m, points, seen, &order)?;
+    let count = *chain.backs.get(order.len());
+    Ok(Counted {
         order,
         chain,
         count,
-    };
+    })
+}
+
+// Sifts the first order of a machine of few snapshots.
+fn sifted_from(
+    alloc: Global,
+    m: &Machine,
+    table: &Table,
+    supports: &Supports,
+    order: Order,
+) -> Result<Sifted, NoMemory>
+    requires sure { IsDeterministic m.now }
+    requires few { product m.now.vars ≤ 1024 }
+    requires table { IsTableOf m.now table.now }
+    requires supports { AreSupports m.now supports.now }
+    requires first { order ≡ first_order m.now }
+    requires allowed { Allowed m.now order }
+    ensures { IfOk result (λ sifted. IsSifted m.now sifted.order sifted.first_count sifted.count) }
+{
+    let mut room = vec![in alloc; 0; NUMBERS * NUMBERS]?;
+    let seen = room.as_mut_slice();
+    let points = prepare(alloc, m, table, seen)?;
+    let mut at = counted_first(alloc, m, &points, seen, order)?;
+    let first_count = at.count;
     let sifting = Sifting {
         alloc,
         machine: m,
@@ -236,30 +261,47 @@ fn sifted_from(
         points: &points,
     };
     settle_all(&sifting, seen, &mut at)?;
-    Ok(at)
-}
-
-/// An order for a machine. Item by item, each variable and result moves to the first of the allowed
-/// places with the least size, if that is smaller, until in a turn of all items none has moved. The
-/// order of a machine of more than 1,024 snapshots is the first order.
-pub fn sift(alloc: Global, m: &Machine) -> Result<Sifted, NoMemory>
-    requires { IsDeterministic m.now }
-    ensures { IfOk result (λ sifted. IsSifted m.now sifted.order sifted.first_count sifted.count) }
-{
-    let supports = supports(alloc, m)?;
-    let order = first_order(alloc, m, &supports)?;
-    let first_count = size_of(alloc, m, &order)?;
-    if snapshot_count(m) > SIFTED_SNAPSHOTS {
-        return Ok(Sifted {
-            order,
-            first_count,
-            count: first_count,
-        });
-    }
-    let at = sifted_from(alloc, m, &supports, order, first_count)?;
     Ok(Sifted {
         order: at.order,
         first_count,
         count: at.count,
     })
+}
+
+/// An order for a machine, with the machine's diagram under it. Item by item, each variable and
+/// result moves to the first of the allowed places with the least size, if that is smaller, until
+/// in a turn of all items none has moved. The order of a machine of more than 1,024 snapshots is the
+/// first order.
+pub fn sift_diagram(alloc: Global, m: &Machine) -> Result<SiftedDiagram, NoMemory>
+    requires { IsDeterministic m.now }
+    ensures sifted { IfOk result (λ made. IsSifted m.now made.sifted.order made.sifted.first_count
+        made.sifted.count) }
+    ensures diagram { IfOk result (λ made. IsDiagramOf m.now made.sifted.order made.root.store
+        made.root.node) }
+{
+    let table = table_of(alloc, m)?;
+    let supports = supports_in(alloc, m, &table)?;
+    let order = first_order(alloc, m, &supports)?;
+    if snapshot_count(m) > SIFTED_SNAPSHOTS {
+        let root = diagram(alloc, m, &table, &supports, &order)?;
+        let count = root.store.count(root.node)?;
+        let sifted = Sifted {
+            order,
+            first_count: count,
+            count,
+        };
+        return Ok(SiftedDiagram { sifted, root });
+    }
+    let sifted = sifted_from(alloc, m, &table, &supports, order)?;
+    let root = diagram(alloc, m, &table, &supports, &sifted.order)?;
+    Ok(SiftedDiagram { sifted, root })
+}
+
+/// The same, without the diagram.
+pub fn sift(alloc: Global, m: &Machine) -> Result<Sifted, NoMemory>
+    requires { IsDeterministic m.now }
+    ensures { IfOk result (λ sifted. IsSifted m.now sifted.order sifted.first_count sifted.count) }
+{
+    let made = sift_diagram(alloc, m)?;
+    Ok(made.sifted)
 }

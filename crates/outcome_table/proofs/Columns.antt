@@ -1,5 +1,5 @@
 -- The codes of one variable on all lists.
-use Rattle.std.proofs.Common.{◌≡◌, true, ℕ, zero, suc, ◌+◌, ◌-◌, ◌*◌, ◌<◌, ◌≤◌, List, [], ◌∷◌, ◌++◌, map, flat_map, length, drop, replicate, slice_index, get_or, refl, ap, sym, ◌∙◌, arith, subst, length-append}
+use Rattle.std.proofs.Common.{◌≡◌, true, ℕ, zero, suc, ◌+◌, ◌-◌, ◌*◌, ◌<◌, ◌≤◌, List, [], ◌∷◌, map, flat_map, length, drop, replicate, slice_index, refl, ap, ◌∙◌, arith, length-append}
 use Rattle.std.proofs.Math.Seq.{drop-cons}
 use Rattle.polis_base.specs.Lists.{upto}
 use Rattle.domains.specs.AllCodes.{all_codes, each_after}
@@ -8,7 +8,7 @@ use Rattle.outcome_table.specs.Outcomes.{column}
 use Rattle.std.proofs.Math.Nat.{mul-le-mul_right}
 use Rattle.domains.specs.Tables.{are_sizes}
 use Rattle.outcome_table.proofs.Ones.{size_at}
-use Rattle.outcome_table.proofs.Lists.{map_flat, map_map, flat_same, flat_upto}
+use Rattle.outcome_table.proofs.Lists.{map_flat, flat_same, flat_upto}
 
 long_map : {X Y : Type 0} (f : X → Y) (xs : List X) → length (map f xs) ≡ length xs
 long_map f [] = refl

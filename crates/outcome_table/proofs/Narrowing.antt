@@ -1,12 +1,12 @@
 -- Rows whose conditions on the variables that are fixed hold.
-use Rattle.std.proofs.Common.{◌≡◌, ◌≢◌, ⊎_elim, ℕ, zero, suc, ◌+◌, ◌-◌, ◌<◌, ◌≤◌, Bool, true, false, cond, not, ◌&&◌, ◌||◌, ◌==◌, List, [], ◌∷◌, ◌++◌, length, slice_get, slice_index, get_or, Some, refl, ap, sym, ◌∙◌, arith, ltb, eqb, nat_lt, subst}
+use Rattle.std.proofs.Common.{◌≡◌, ⊎_elim, ℕ, zero, suc, ◌+◌, ◌-◌, ◌<◌, ◌≤◌, Bool, true, false, cond, not, ◌&&◌, ◌||◌, ◌==◌, List, [], ◌∷◌, ◌++◌, length, slice_get, slice_index, get_or, Some, refl, ap, sym, ◌∙◌, arith, nat_lt, subst}
 use Rattle.std.specs.Prelude.{filter}
 use Rattle.std.specs.List.{list_all}
 use Rattle.std.specs.Int.{bit_at}
 use Rattle.std.proofs.lemmas.Bool.{and_parts, cases_lt, cases_eq, lt-ltb, ltb-true, eq-eqb, ne_eqb}
 use Rattle.std.proofs.lemmas.List.{length_push, get_or_append_left, get_or_push}
 use Rattle.std.proofs.lemmas.Option.{slice_get-get_or, slice_get_within}
-use Rattle.polis_base.specs.Lists.{places_from, places_where}
+use Rattle.polis_base.specs.Lists.{places_from}
 use Rattle.transition_table.specs.MachineFacts.{is_row, names_codes}
 use Rattle.transition_table.specs.Transitions.{allows, outcome_of, blank}
 use Rattle.transition_table.specs.declared.machine.Machine.{Machine}

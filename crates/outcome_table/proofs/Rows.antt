@@ -1,11 +1,11 @@
 -- Rows of a machine, and what they give.
-use Rattle.std.proofs.Common.{◌≡◌, ◌⊎◌, ℕ, zero, suc, ◌+◌, ◌-◌, ◌<◌, ◌≤◌, Bool, true, false, cond, not, ◌&&◌, ◌==◌, List, [], ◌∷◌, ◌++◌, map, length, take, drop, replicate, slice_get, slice_index, slice_set, Some, refl, ap, sym, ◌∙◌, arith, inl, inr, nat_lt, nat_le}
+use Rattle.std.proofs.Common.{◌≡◌, ◌⊎◌, ℕ, zero, suc, ◌+◌, ◌-◌, ◌<◌, ◌≤◌, true, ◌&&◌, ◌==◌, List, [], ◌∷◌, ◌++◌, map, length, take, drop, replicate, slice_get, slice_index, slice_set, Some, refl, ap, sym, ◌∙◌, arith, inl, inr, nat_lt, nat_le}
 use Rattle.std.specs.List.{list_all}
 use Rattle.std.specs.Cmp.Lexicographic.{pointwise}
 use Rattle.std.proofs.lemmas.Bool.{and_parts, and_from, eqb-true, leb-true, lt-ltb, false≢true}
 use Rattle.std.proofs.lemmas.List.{map-append, replicate-append-replicate}
 use Rattle.polis_base.specs.Lists.{upto}
-use Rattle.domains.specs.Tables.{are_sizes, fits, product}
+use Rattle.domains.specs.Tables.{fits, product}
 use Rattle.transition_table.specs.MachineFacts.{is_row, names_codes, names_result, has_present}
 use Rattle.transition_table.specs.Transitions.{code_given, codes_given}
 use Rattle.transition_table.specs.declared.machine.Machine.{Machine}

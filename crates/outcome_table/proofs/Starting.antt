@@ -1,9 +1,9 @@
 -- What numbering begins with.
-use Rattle.std.proofs.Common.{◌≡◌, ℕ, zero, suc, ◌+◌, ◌<◌, Bool, true, false, cond, ◌&&◌, ◌==◌, List, [], ◌∷◌, ◌++◌, map, length, slice_get, Some, option_map, refl, ap, sym, ◌∙◌, arith}
+use Rattle.std.proofs.Common.{◌≡◌, ℕ, zero, suc, ◌+◌, Bool, true, cond, ◌==◌, List, [], ◌∷◌, ◌++◌, map, length, slice_get, Some, option_map, refl, ap, sym, ◌∙◌, arith}
 use Rattle.std.specs.List.{list_all}
 use Rattle.std.proofs.lemmas.Bool.{and_parts, false≢true}
 use Rattle.std.proofs.lemmas.List.{map-append}
-use Rattle.std.proofs.lemmas.Option.{slice_get-map, slice_get_within}
+use Rattle.std.proofs.lemmas.Option.{slice_get-map}
 use Rattle.polis_base.specs.Lists.{places_from, upto}
 use Rattle.transition_table.specs.Orders.{codes_of}
 use Rattle.transition_table.specs.Sources.{code_of}
@@ -13,7 +13,6 @@ use Rattle.transition_table.specs.declared.row.Act.{Act}
 use Rattle.transition_table.specs.declared.row.Row.{Row}
 use Rattle.transition_table.specs.declared.row.Source.{Source}
 use Rattle.transition_table.specs.declared.row.Source.TheVariants.{Code, Input, Add}
-use Rattle.transition_table.specs.declared.snapshot.Outcome.{Outcome}
 use Rattle.outcome_table.specs.Numbering.{AreRowOutcomes, BeginWithRows, is_code, is_fixed, rows_left}
 use Rattle.outcome_table.proofs.Lists.{map_map, map_same}
 use Rattle.outcome_table.proofs.Narrowing.{all_left}

@@ -1,5 +1,5 @@
 -- Numbers for the outcomes of snapshots, while variables are fixed one by one.
-use Rattle.std.specs.Prelude.{◌≡◌, ℕ, ◌+◌, ◌≤◌, Bool, true, false, not, ◌||◌, nat_lt, List, [], ◌∷◌, ◌++◌, map, length, take, get_or, slice_get, Some}
+use Rattle.std.specs.Prelude.{◌≡◌, ℕ, ◌+◌, ◌≤◌, Bool, true, false, not, ◌||◌, nat_lt, List, [], ◌++◌, map, length, take, get_or, slice_get, Some}
 use Rattle.std.specs.List.{list_all}
 use Rattle.domains.specs.AllCodes.{all_codes}
 use Rattle.polis_base.specs.Lists.{places_where}

@@ -8,8 +8,9 @@ use domains::{Codes, VarTable};
 use polis_base::{List, NoMemory};
 use std::alloc::Global;
 
-// How many lists of codes there are of the variables from one on.
-fn lists_from(vars: &VarTable, from: u64) -> u64
+/// How many lists of codes there are of the variables from one on. As many snapshots apart stand
+/// those that differ by one in the code of the variable before it, and in nothing else.
+pub fn lists_from(vars: &VarTable, from: u64) -> u64
     requires from { from ≤ length vars.now }
     requires few { product (drop from vars.now) < 2 ^ 63 }
     ensures { result ≡ product (drop from vars.now) }

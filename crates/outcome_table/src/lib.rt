@@ -7,4 +7,5 @@ mod number;
 mod row;
 mod table;
 
+pub use column::lists_from;
 pub use table::{Table, table_of};

@@ -37,33 +37,41 @@ struct Narrowing<'a> {
     fixed: &'a List<bool>,
 }
 
-// Those of the rows that allow a code of a variable.
+// Puts those of the rows that allow a code of a variable into a list, in place of what it had.
 fn allowing(
-    alloc: Global,
     masks: &List<CodeSets>,
     var: u64,
     rows: &[u64],
     code: u8,
-) -> Result<Places, NoMemory>
+    kept: &mut Vec<u64>,
+) -> Result<(), NoMemory>
     requires rows { IsTrue (list_all (λ r. nat_lt r (length masks.now)) rows.now) }
     requires var { IsTrue (list_all (λ sets. nat_lt var (length sets)) masks.now) }
     requires code { code < 64 }
-    ensures { IfOk result (λ kept. kept
+    ensures { IfOk result (λ done. kept.new.items
         ≡ filter (λ r. bit_at (slice_index (get_or masks.now r []) var) code == 1) rows.now) }
 {
-    let mut kept = List::new(alloc);
+    kept.clear();
     for r in rows {
         if (*masks.get(*r).get(var) >> code) % 2 == 1 {
             kept.push(*r)?;
         }
     }
-    Ok(kept)
+    Ok(())
+}
+
+// A list that is no longer used, or a new one.
+fn spare_list(alloc: Global, spare: &mut Vec<Vec<u64>>) -> Vec<u64> {
+    match spare.pop() {
+        Some(list) => list,
+        None => Vec::new(alloc),
+    }
 }
 
 // Numbers the outcome of a snapshot, given the rows that are enabled on it.
 fn number_one(
     narrowing: &Narrowing,
-    rows: &Places,
+    rows: &[u64],
     s: &Snapshot,
     made: &mut Numbered,
 ) -> Result<(), NoMemory>
@@ -78,7 +86,7 @@ fn number_one(
         made.numbers.push(0)?;
         return Ok(());
     }
-    let r = *rows.get(0);
+    let r = rows[0];
     if *narrowing.fixed.get(r) {
         made.numbers.push(1 + r)?;
         return Ok(());
@@ -92,13 +100,14 @@ fn number_one(
 }
 
 // Numbers the outcomes of all snapshots that have the codes of the variables before one, given the
-// rows whose conditions on these hold.
+// rows whose conditions on these hold. Lists that are no longer used are kept for the next ones.
 fn number_rest(
     narrowing: &Narrowing,
-    rows: &Places,
+    rows: &[u64],
     at: u64,
     s: &mut Snapshot,
     made: &mut Numbered,
+    spare: &mut Vec<Vec<u64>>,
 ) -> Result<(), NoMemory>
     requires at { at ≤ length narrowing.now.machine.now.vars }
     requires snapshot { IsSnapshot narrowing.now.machine.now s.old }
@@ -118,8 +127,10 @@ fn number_rest(
     }
     for code in 0..*narrowing.machine.vars.get(at) {
         s.codes.set(at, code);
-        let left = allowing(narrowing.alloc, narrowing.masks, at, rows.as_slice(), code)?;
-        number_rest(narrowing, &left, at + 1, s, made)?;
+        let mut left = spare_list(narrowing.alloc, spare);
+        allowing(narrowing.masks, at, rows, code, &mut left)?;
+        number_rest(narrowing, &left, at + 1, s, made, spare)?;
+        spare.push(left)?;
     }
     Ok(())
 }
@@ -182,6 +193,14 @@ pub(crate) fn numbers_of(alloc: Global, m: &Machine) -> Result<Numbered, NoMemor
         masks: &masks,
         fixed: &fixed,
     };
-    number_rest(&narrowing, &rows, 0, &mut s, &mut made)?;
+    let mut spare = Vec::new(alloc);
+    number_rest(
+        &narrowing,
+        rows.as_slice(),
+        0,
+        &mut s,
+        &mut made,
+        &mut spare,
+    )?;
     Ok(made)
 }

@@ -6,8 +6,8 @@ use Rattle.char_function.proofs.known.after_variables.Goals as goal
 pub loop-place-init : goal.loop-place-init
 loop-place-init c j high low = absurd (let a = c.len-place.ensures.len in omega arith)
 
-pub returns-then-from-vars : goal.returns-then-from-vars
-returns-then-from-vars c j high low = c.loop-place.invariant j (omega arith) low
+pub returns-then-from-vars-clause-results : goal.returns-then-from-vars-clause-results
+returns-then-from-vars-clause-results c j high low = c.loop-place.invariant j (omega arith) low
 
 pub loop-place-preserved : goal.loop-place-preserved
 loop-place-preserved c j high low =

@@ -9,7 +9,7 @@ returns c =
     let kept = c.keep_graph.ensures in
     let lowered = c.in_ok-code.ensures.lowered in
     record {
-      sifted = c.in_ok-sifted.ensures;
+      sifted = c.in_ok-sifted.ensures.sifted;
       is_graph = kept.graph;
       few = kept.few;
       bytes = kept.bytes;

@@ -1,7 +1,7 @@
-use Rattle.std.proofs.Common.{◌≡◌, ◌∙◌, ◌+◌, ◌*◌, ◌<◌, length, drop, slice_index, arith, ap, sym}
+use Rattle.std.proofs.Common.{◌≡◌, ◌∙◌, ◌*◌, ◌<◌, length, drop, slice_index, arith, ap, sym}
 use Rattle.std.proofs.lemmas.Option.{get_or_from_slice_get}
 use Rattle.domains.specs.Tables.{product}
-use Rattle.outcome_table.proofs.Columns.{product_here, product_end, product_later}
+use Rattle.outcome_table.proofs.Columns.{product_here, product_later}
 use Rattle.outcome_table.proofs.column.+lists_from.Goals as goal
 
 pub lists_from-requires : goal.lists_from-requires

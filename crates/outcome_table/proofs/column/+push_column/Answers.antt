@@ -1,11 +1,10 @@
-use Rattle.std.proofs.Common.{◌≡◌, ◌∙◌, ◌+◌, ◌-◌, ◌++◌, ◌<◌, ◌≤◌, ℕ, List, length, drop, flat_map, replicate, slice_index, arith, ap, sym}
+use Rattle.std.proofs.Common.{◌≡◌, ◌∙◌, ◌+◌, ◌-◌, ◌++◌, ◌<◌, ℕ, List, drop, flat_map, replicate, slice_index, arith, ap, sym}
 use Rattle.std.proofs.lemmas.Option.{get_or_from_slice_get}
 use Rattle.polis_base.specs.Lists.{upto}
 use Rattle.domains.specs.AllCodes.{all_codes}
 use Rattle.domains.specs.Tables.{product}
 use Rattle.outcome_table.specs.Outcomes.{column}
 use Rattle.outcome_table.proofs.Columns.{column_first, column_later, product_later}
-use Rattle.outcome_table.proofs.Lists.{flat_upto}
 use Rattle.outcome_table.proofs.column.+push_column.Goals as goal
 
 pub overflow_add-from : goal.overflow_add-from

@@ -1,4 +1,4 @@
-use Rattle.std.proofs.Common.{◌≡◌, ◌&&◌, ◌==◌, ℕ, nat_lt, sym, ap, ◌∙◌}
+use Rattle.std.proofs.Common.{◌&&◌, nat_lt, sym, ap, ◌∙◌}
 use Rattle.std.specs.List.{list_all}
 use Rattle.std.proofs.lemmas.Option.{get_or_from_slice_get}
 use Rattle.outcome_table.specs.Masks.{allows_code}

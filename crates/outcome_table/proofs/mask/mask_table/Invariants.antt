@@ -1,4 +1,4 @@
-use Rattle.std.proofs.Common.{◌≡◌, ◌≢◌, ◌<◌, ◌≤◌, ◌&&◌, ◌==◌, ℕ, List, length, take, drop, slice_get, slice_index, Some}
+use Rattle.std.proofs.Common.{◌≡◌, ℕ, List, length, slice_get, Some}
 use Rattle.transition_table.specs.declared.row.Row.{Row}
 use Rattle.outcome_table.specs.Masks.{AreMasks}
 use Rattle.outcome_table.proofs.mask.mask_table.Given as goal

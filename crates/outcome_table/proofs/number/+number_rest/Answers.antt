@@ -1,15 +1,12 @@
-use Rattle.std.proofs.Common.{◌≡◌, ◌∙◌, ◌+◌, ◌-◌, ◌<◌, ◌≤◌, ◌==◌, ◌++◌, ◌∷◌, [], ℕ, suc, Bool, true, List, length, take, drop, flat_map, get_or, slice_get, slice_index, slice_set, Some, refl, arith, ap, sym, subst}
-use Rattle.std.specs.Prelude.{filter, IfOk, IsTrue}
-use Rattle.std.specs.Int.{bit_at}
+use Rattle.std.proofs.Common.{◌≡◌, ◌∙◌, ◌+◌, ◌<◌, ◌≤◌, ◌++◌, ◌∷◌, [], ℕ, suc, true, List, length, take, drop, flat_map, slice_get, slice_index, slice_set, Some, refl, arith, ap, sym, subst}
+use Rattle.std.specs.Prelude.{IfOk}
 use Rattle.std.proofs.Math.Seq.{drop-cons}
 use Rattle.std.proofs.lemmas.List.{length-take-le, take_more_set, take-set, take_all}
 use Rattle.std.proofs.lemmas.Option.{get_or_from_slice_get}
 use Rattle.polis_base.specs.Lists.{upto}
 use Rattle.domains.specs.Tables.{fits}
 use Rattle.transition_table.specs.declared.machine.Machine.{Machine}
-use Rattle.outcome_table.specs.Masks.{IsMaskTable}
-use Rattle.outcome_table.specs.Numbering.{Adds, BeginWithRows, lists_after, rows_left}
-use Rattle.outcome_table.specs.declared.number.Numbered.{Numbered}
+use Rattle.outcome_table.specs.Numbering.{Adds, lists_after, rows_left}
 use Rattle.outcome_table.proofs.Counting.{adds_on, begins_kept, lists_end, lists_split, take_less}
 use Rattle.outcome_table.proofs.Lists.{flat_upto}
 use Rattle.outcome_table.proofs.Narrowing.{left_below, narrowed, table_wide}
@@ -88,10 +85,9 @@ set-requires t c =
 
 pub allowing-requires-clause-rows : goal.allowing-requires-clause-rows
 allowing-requires-clause-rows t c =
-    rw c.as_slice.ensures
-    (left_below c.args.narrowing.now.machine.now (take c.args.at c.args.s.now.codes)
+    left_below c.args.narrowing.now.machine.now (take c.args.at c.args.s.now.codes)
     c.args.rows.now (length c.args.narrowing.now.masks.now) c.requires.rows
-    c.requires.masks.long)
+    c.requires.masks.long
 
 pub allowing-requires-clause-var : goal.allowing-requires-clause-var
 allowing-requires-clause-var t c =
@@ -123,9 +119,9 @@ number_rest-requires t c =
     let low = u.low in
     let long = u.long in
     let prefix : at ≡ length (take at s) = sym (length-take-le at s (omega arith)) in
-    let left : c.in_ok-left.left ≡ rows_left m (take (at + 1) c.set.new.self) =
-    c.in_ok-left.ensures
-    ∙ ap (filter (λ r. bit_at (slice_index (get_or masks r []) at) code == 1)) c.as_slice.ensures
+    let left : c.deref.result.now ≡ rows_left m (take (at + 1) c.set.new.self) =
+    c.deref.ensures.value
+    ∙ c.in_ok-allowing.ensures
     ∙ narrowed m masks (take at s) c.args.rows.now at code c.requires.masks prefix low u.below
     c.requires.rows
     ∙ ap (rows_left m) (sym u.fixed)

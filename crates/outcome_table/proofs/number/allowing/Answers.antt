@@ -1,4 +1,4 @@
-use Rattle.std.proofs.Common.{◌≡◌, ◌<◌, ◌==◌, ◌∙◌, ◌+◌, ◌++◌, ◌∷◌, [], ℕ, Bool, true, false, cond, List, length, take, get_or, slice_index, arith, ap, sym, subst}
+use Rattle.std.proofs.Common.{◌≡◌, ◌==◌, ◌∙◌, ◌+◌, ◌++◌, ◌∷◌, [], ℕ, Bool, true, false, cond, List, length, take, get_or, slice_index, ap, sym}
 use Rattle.std.specs.Prelude.{filter, nat_lt}
 use Rattle.std.specs.Int.{bit_at}
 use Rattle.std.proofs.lemmas.Bool.{eq-eqb, ne_eqb, ltb-true}
@@ -35,13 +35,13 @@ loop-r-preserved c =
     elim c.if-get-code-eq1.branch [
       | then-get-code-eq1+in_ok-push w ↦
           let on : p r ≡ true = eq-eqb _ 1 (bit ∙ w.if-get-code-eq1.true) in
-          w.kept-is ∙ w.in_ok-push.ensures.ok
+          ap (λ v. v.items) w.kept-is ∙ w.in_ok-push.ensures.items
           ∙ ap (λ (xs : List ℕ). xs ++ r ∷ []) c.loop-r.invariant
           ∙ ap (λ b. filter p (take k rows) ++ cond b (r ∷ []) []) (sym on)
           ∙ sym more
       | else-get-code-eq1 w ↦
           let off : p r ≡ false = ne_eqb _ 1 (λ e. w.if-get-code-eq1.false (sym bit ∙ e)) in
-          w.kept-is ∙ c.loop-r.invariant
+          ap (λ v. v.items) w.kept-is ∙ c.loop-r.invariant
           ∙ sym (append-nil (filter p (take k rows)))
           ∙ ap (λ b. filter p (take k rows) ++ cond b (r ∷ []) []) (sym off)
           ∙ sym more

@@ -6,5 +6,5 @@ use Rattle.outcome_table.proofs.number.allowing.Given as goal
 -- those before this one
 abbrev pub invariant-loop-r : goal.invariant-loop-r
 invariant-loop-r l =
-    l.kept ≡ filter (λ r. bit_at (slice_index (get_or l.masks r []) l.var) l.code == 1)
+    l.kept.items ≡ filter (λ r. bit_at (slice_index (get_or l.masks r []) l.var) l.code == 1)
     (take l.r-index l.rows)

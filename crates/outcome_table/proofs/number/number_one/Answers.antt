@@ -1,30 +1,31 @@
-use Rattle.std.proofs.Common.{◌≡◌, ◌∙◌, ◌+◌, ◌-◌, ◌<◌, ◌≤◌, ◌++◌, ◌∷◌, [], ℕ, Bool, true, List, length, take, get_or, slice_get, Some, refl, arith, ap, sym, subst}
+use Rattle.std.proofs.Common.{◌≡◌, ◌∙◌, ◌+◌, ◌-◌, ◌∷◌, [], ℕ, Bool, true, List, length, take, get_or, slice_get, Some, refl, arith, ap, sym, subst}
 use Rattle.std.proofs.Math.Seq.{take-length, take-append_seam}
 use Rattle.std.proofs.lemmas.List.{length_push, get_or_push}
-use Rattle.std.proofs.lemmas.Option.{slice_get_within, get_or_from_slice_get}
+use Rattle.std.proofs.lemmas.Option.{slice_get_within}
 use Rattle.transition_table.specs.Orders.{codes_of}
 use Rattle.transition_table.specs.Transitions.{outcome_of}
 use Rattle.transition_table.specs.declared.machine.Machine.{Machine}
 use Rattle.transition_table.specs.declared.row.Row.{Row}
-use Rattle.transition_table.specs.declared.snapshot.Outcome.{Outcome}
-use Rattle.outcome_table.specs.Numbering.{rows_left}
-use Rattle.outcome_table.specs.declared.number.Numbered.{Numbered}
 use Rattle.outcome_table.proofs.Rows.{few_rows, fits_long, row_fits}
 use Rattle.outcome_table.proofs.Counting.{adds_one}
 use Rattle.outcome_table.proofs.Narrowing.{IsFirst, first_left, none_left}
 use Rattle.outcome_table.proofs.number.number_one.Goals as goal
 
-pub returns-then-len-eq0 : goal.returns-then-len-eq0
-returns-then-len-eq0 c =
+pub returns-then-rows-eq0 : goal.returns-then-rows-eq0
+returns-then-rows-eq0 c =
     let m = c.args.narrowing.now.machine.now in
     let s = c.args.s.now.codes in
     let old = c.args.made.now in
     let some = c.requires.begins.some in
     let none = none_left m s c.args.rows.now (fits_long m.vars s c.requires.snapshot)
-    c.requires.rows (sym c.len.ensures ∙ c.if-len-eq0.true) in
+    c.requires.rows c.if-rows-eq0.true in
     adds_one m old _ 0 s c.requires.within (take-length old.outcomes) c.in_ok-push.ensures.ok
     (omega arith)
     (c.requires.begins.blank ∙ ap codes_of (sym none))
+
+head_is : (rows : List ℕ) → (length rows ≡ 0 → ⊥) → slice_get rows 0 ≡ Some (get_or rows 0 0)
+head_is [] some = absurd (some refl)
+head_is (x ∷ rows) some = refl
 
 -- the row of the number that stands first
 there : (m : Machine) (s rows : List ℕ) (r : ℕ) → (h : IsFirst m s m.rows 0 r)
@@ -36,16 +37,16 @@ pub get-requires : goal.get-requires
 get-requires c =
     let m = c.args.narrowing.now.machine.now in
     let s = c.args.s.now.codes in
-    let first = first_left m s c.args.rows.now c.get-r.result.now
-    (fits_long m.vars s c.requires.snapshot) c.requires.rows c.get-r.ensures in
-    let at = there m s c.args.rows.now c.get-r.result.now first in
-    let inside = slice_get_within m.rows c.get-r.result.now first.row at in
+    let first = first_left m s c.args.rows.now (get_or c.args.rows.now 0 0)
+    (fits_long m.vars s c.requires.snapshot) c.requires.rows (head_is c.args.rows.now c.if-rows-eq0.false) in
+    let at = there m s c.args.rows.now (get_or c.args.rows.now 0 0) first in
+    let inside = slice_get_within m.rows (get_or c.args.rows.now 0 0) first.row at in
     let long = c.requires.begins.long in
     omega arith
 
 pub overflow_add-r : goal.overflow_add-r
 overflow_add-r c =
-    let inside = slice_get_within c.args.narrowing.now.fixed.now c.get-r.result.now c.get.result.now
+    let inside = slice_get_within c.args.narrowing.now.fixed.now (get_or c.args.rows.now 0 0) c.get.result.now
     c.get.ensures in
     let long = c.requires.begins.long in
     let few = few_rows c.args.narrowing.now.machine.now in
@@ -56,9 +57,9 @@ returns-then-get c =
     let m = c.args.narrowing.now.machine.now in
     let s = c.args.s.now.codes in
     let old = c.args.made.now in
-    let r = c.get-r.result.now in
+    let r : ℕ = get_or c.args.rows.now 0 0 in
     let first = first_left m s c.args.rows.now r (fits_long m.vars s c.requires.snapshot)
-    c.requires.rows c.get-r.ensures in
+    c.requires.rows (head_is c.args.rows.now c.if-rows-eq0.false) in
     let at = there m s c.args.rows.now r first in
     let inside = slice_get_within m.rows r first.row at in
     let some = c.requires.begins.some in
@@ -70,14 +71,14 @@ returns-then-get c =
 
 pub get-row-requires : goal.get-row-requires
 get-row-requires c =
-    let inside = slice_get_within c.args.narrowing.now.fixed.now c.get-r.result.now c.get.result.now
+    let inside = slice_get_within c.args.narrowing.now.fixed.now (get_or c.args.rows.now 0 0) c.get.result.now
     c.get.ensures in
     let long = c.requires.begins.long in
     omega arith
 
 pub row_codes-requires-clause-row : goal.row_codes-requires-clause-row
 row_codes-requires-clause-row c =
-    row_fits c.args.narrowing.now.machine.now c.get-r.result.now c.get-row.result.now
+    row_fits c.args.narrowing.now.machine.now (get_or c.args.rows.now 0 0) c.get-row.result.now
     c.get-row.ensures
 
 pub returns : goal.returns
@@ -85,10 +86,10 @@ returns c =
     let m = c.args.narrowing.now.machine.now in
     let s = c.args.s.now.codes in
     let old = c.args.made.now in
-    let r = c.get-r.result.now in
+    let r : ℕ = get_or c.args.rows.now 0 0 in
     let made : List ℕ = c.in_ok-codes.codes in
     let first = first_left m s c.args.rows.now r (fits_long m.vars s c.requires.snapshot)
-    c.requires.rows c.get-r.ensures in
+    c.requires.rows (head_is c.args.rows.now c.if-rows-eq0.false) in
     let at = there m s c.args.rows.now r first in
     let same : c.get-row.result.now ≡ first.row = let a = at in let b = c.get-row.ensures in cc in
     let outcomes = c.in_ok-push-3.ensures.ok in

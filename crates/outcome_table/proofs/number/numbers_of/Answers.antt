@@ -1,5 +1,4 @@
-use Rattle.std.proofs.Common.{◌≡◌, ◌∙◌, ◌++◌, List, [], ℕ, map, take, drop, refl, ap, sym}
-use Rattle.domains.specs.AllCodes.{all_codes}
+use Rattle.std.proofs.Common.{◌∙◌, ◌++◌, List, [], ℕ, map, ap}
 use Rattle.transition_table.specs.Computed.{result_codes}
 use Rattle.outcome_table.specs.Numbering.{lists_after}
 use Rattle.outcome_table.specs.Outcomes.{named}
@@ -9,7 +8,8 @@ use Rattle.outcome_table.proofs.number.numbers_of.Goals as goal
 
 pub number_rest-requires-clause-rows : goal.number_rest-requires-clause-rows
 number_rest-requires-clause-rows c =
-    all_rows c.args.m.now c.in_ok-rows.rows c.len.result c.in_ok-rows.ensures c.len.ensures
+    c.as_slice.ensures
+    ∙ all_rows c.args.m.now c.in_ok-rows.rows c.len.result c.in_ok-rows.ensures c.len.ensures
 
 pub number_rest-requires-clause-begins : goal.number_rest-requires-clause-begins
 number_rest-requires-clause-begins c =

@@ -1,9 +1,9 @@
-use Rattle.std.proofs.Common.{◌≡◌, ◌∙◌, ◌+◌, ◌<◌, ◌++◌, ◌∷◌, [], ⊎_elim, ℕ, true, List, length, get_or, slice_get, Some, refl, arith, ap, sym, subst}
+use Rattle.std.proofs.Common.{◌≡◌, ◌∙◌, ◌+◌, ◌∷◌, [], ⊎_elim, ℕ, true, List, length, get_or, slice_get, Some, arith, ap, sym, subst}
 use Rattle.std.proofs.lemmas.Bool.{cases_lt}
 use Rattle.std.proofs.lemmas.List.{length_push, get_or_append_left, get_or_push}
 use Rattle.std.proofs.lemmas.Option.{slice_get_within}
 use Rattle.transition_table.specs.Orders.{codes_of}
-use Rattle.transition_table.specs.Transitions.{outcome_of, blank}
+use Rattle.transition_table.specs.Transitions.{outcome_of}
 use Rattle.transition_table.specs.declared.row.Row.{Row}
 use Rattle.outcome_table.proofs.Rows.{row_fits}
 use Rattle.outcome_table.proofs.number.row_outcomes.Goals as goal

@@ -1,4 +1,4 @@
-use Rattle.std.proofs.Common.{◌≡◌, ◌+◌, ◌<◌, true, ℕ, List, [], length, get_or, slice_get, Some}
+use Rattle.std.proofs.Common.{◌≡◌, ◌+◌, ◌<◌, true, ℕ, [], length, get_or, slice_get, Some}
 use Rattle.transition_table.specs.Transitions.{outcome_of, blank}
 use Rattle.transition_table.specs.declared.row.Row.{Row}
 use Rattle.transition_table.specs.Orders.{codes_of}

@@ -1,4 +1,4 @@
-use Rattle.std.proofs.Common.{◌≡◌, ◌∙◌, ◌+◌, ℕ, length, replicate, arith, ap}
+use Rattle.std.proofs.Common.{◌∙◌, length, arith}
 use Rattle.outcome_table.proofs.Rows.{zeros_apart}
 use Rattle.outcome_table.proofs.row.blank_codes.Goals as goal
 

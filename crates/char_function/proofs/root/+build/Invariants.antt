@@ -3,7 +3,7 @@ use Rattle.decision_diagram.specs.Diagrams.{Keeps}
 use Rattle.char_function.specs.Known.{AreKnown}
 use Rattle.char_function.specs.Points.{points}
 use Rattle.char_function.proofs.Making.{AreKids}
-use Rattle.char_function.proofs.diagram.+build.Given as goal
+use Rattle.char_function.proofs.root.+build.Given as goal
 
 abbrev pub decreases-build : goal.decreases-build
 decreases-build l = length l.store.now.order - l.place

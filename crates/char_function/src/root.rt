@@ -3,7 +3,7 @@ ghost use Rattle.std.specs.Prelude.{◌≡◌, ◌↔◌, ◌≤◌, ℕ, true, 
 ghost use Rattle.domains.specs.Tables.{fits};
 ghost use Rattle.polis_base.specs.Lists.{upto};
 ghost use Rattle.transition_table.specs.Transitions.{IsDeterministic};
-ghost use Rattle.transition_table.specs.Computed.{char};
+ghost use Rattle.transition_table.specs.Computed.{all_supports, char};
 ghost use Rattle.transition_table.specs.Orders.{Char, sizes_of};
 ghost use Rattle.decision_diagram.specs.Diagrams.{Keeps, Means, level_of, value_of};
 ghost use Rattle.decision_diagram.specs.Reached.{CountsReached};
@@ -12,9 +12,14 @@ ghost use Rattle.char_function.specs.Sizes.{Size};
 ghost use Rattle.char_function.specs.Points.{points};
 ghost use Rattle.char_function.specs.Groups.{some_agrees, is_group};
 ghost use Rattle.char_function.specs.Known.{OnlyResults, AreKnown};
+ghost use Rattle.char_function.specs.Roots.{IsDiagramOf};
 
+use crate::allowed::is_allowed;
+use crate::fixing::fixed_root;
 use crate::group::parts_of;
 use crate::known::{Known, after_variables, keep_node, known_node, none_known};
+use crate::support::supports_in;
+use crate::support_lists::Supports;
 use decision_diagram::{NodeId, Order, Root, Store};
 use domains::VarTable;
 use outcome_table::{Table, table_of};
@@ -135,6 +140,94 @@ fn numbers_below(alloc: Global, bound: u64) -> Result<Places, NoMemory>
     Ok(list)
 }
 
+// The node of a machine's characteristic function under any order, from groups of snapshots.
+fn grouped_root(
+    alloc: Global,
+    m: &Machine,
+    table: &Table,
+    order: &Order,
+    sizes: &VarTable,
+    store: &mut Store,
+) -> Result<NodeId, NoMemory>
+    requires table { IsTableOf m.now table.now }
+    requires long { length order.now ≡ length (sizes_of m.now) }
+    requires all_sizes { sizes.now ≡ sizes_of m.now }
+    requires order { store.old.order ≡ order.now }
+    requires sizes { store.old.sizes ≡ sizes.now }
+    ensures kept { Keeps store.old store.new }
+    ensures value { IfOk result (λ n. Means store.new n (char m.now)) }
+{
+    transition_table::laws_of_computing();
+    store.same_value_same_node();
+    let group = numbers_below(alloc, table.numbers.len())?;
+    let start = after_variables(m, order);
+    let mut known = none_known(alloc, m, table, store, start)?;
+    let making = Making {
+        alloc,
+        machine: m,
+        table,
+        order,
+        sizes,
+        start,
+    };
+    let node = build(&making, store, &mut known, 0, group.as_slice())?;
+    Ok(node)
+}
+
+// The node of a machine's characteristic function.
+fn root_of(
+    alloc: Global,
+    m: &Machine,
+    table: &Table,
+    s: &Supports,
+    order: &Order,
+    sizes: &VarTable,
+    store: &mut Store,
+) -> Result<NodeId, NoMemory>
+    requires sure { IsDeterministic m.now }
+    requires table { IsTableOf m.now table.now }
+    requires supports { s.now ≡ all_supports m.now }
+    requires long { length order.now ≡ length (sizes_of m.now) }
+    requires all_sizes { sizes.now ≡ sizes_of m.now }
+    requires order { store.old.order ≡ order.now }
+    requires sizes { store.old.sizes ≡ sizes.now }
+    ensures kept { Keeps store.old store.new }
+    ensures value { IfOk result (λ n. Means store.new n (char m.now)) }
+{
+    transition_table::laws_of_computing();
+    if is_allowed(s, order) {
+        let node = fixed_root(alloc, m, table, order, sizes, store)?;
+        return Ok(node);
+    }
+    let node = grouped_root(alloc, m, table, order, sizes, store)?;
+    Ok(node)
+}
+
+/// The diagram of a machine's characteristic function, over the machine's variables and then its
+/// results, read in an order, from a table of the outcomes and the supports. Where each result
+/// stands after its support this takes one step for each way to fix the variables before a place.
+pub fn diagram(
+    alloc: Global,
+    m: &Machine,
+    table: &Table,
+    s: &Supports,
+    order: &Order,
+) -> Result<Root, NoMemory>
+    requires sure { IsDeterministic m.now }
+    requires table { IsTableOf m.now table.now }
+    requires supports { s.now ≡ all_supports m.now }
+    requires order { length order.now ≡ length (sizes_of m.now) }
+    ensures { IfOk result (λ root. IsDiagramOf m.now order.now root.store root.node) }
+{
+    transition_table::laws_of_computing();
+    decision_diagram::laws();
+    let sizes = all_sizes(alloc, m)?;
+    let mut store = Store::new(alloc, &sizes, order)?;
+    let node = root_of(alloc, m, table, s, order, &sizes, &mut store)?;
+    store.same_value_same_node();
+    Ok(Root { store, node })
+}
+
 /// The node that is true for exactly the pairs of a snapshot and the codes of the machine's result
 /// on it, over the machine's variables and then its results, read in an order. The clause `size`
 /// says what the root's count is: the number of different functions that arise by fixing what
@@ -150,24 +243,8 @@ pub fn characteristic(alloc: Global, m: &Machine, order: &Order) -> Result<Root,
     ensures size { IfOk result (λ root. (count : ℕ) → CountsReached root.store root.node count
         → count ≡ Size m.now order.now) }
 {
-    transition_table::laws_of_computing();
-    decision_diagram::laws();
     let table = table_of(alloc, m)?;
-    let sizes = all_sizes(alloc, m)?;
-    let mut store = Store::new(alloc, &sizes, order)?;
-    store.same_value_same_node();
-    let group = numbers_below(alloc, table.numbers.len())?;
-    let start = after_variables(m, order);
-    let mut known = none_known(alloc, m, &table, &store, start)?;
-    let making = Making {
-        alloc,
-        machine: m,
-        table: &table,
-        order,
-        sizes: &sizes,
-        start,
-    };
-    let node = build(&making, &mut store, &mut known, 0, group.as_slice())?;
-    store.same_value_same_node();
-    Ok(Root { store, node })
+    let s = supports_in(alloc, m, &table)?;
+    let root = diagram(alloc, m, &table, &s, order)?;
+    Ok(root)
 }

@@ -7,8 +7,8 @@ use Rattle.char_function.specs.Points.{points}
 use Rattle.char_function.proofs.Knowing.{known_kept}
 use Rattle.char_function.proofs.Lists.{read}
 use Rattle.char_function.proofs.Making.{AreKids, at_var, keeps_trans, end_agrees, kids_more, node_means, part_is, part_group}
-use Rattle.char_function.proofs.diagram.+build.Goals as goal
-use Rattle.char_function.proofs.diagram.+build.Goals.{then-place-making-2, else-place-making-2}
+use Rattle.char_function.proofs.root.+build.Goals as goal
+use Rattle.char_function.proofs.root.+build.Goals.{then-place-making-2, else-place-making-2}
 
 pub returns-then-place-len-clause-value : goal.returns-then-place-len-clause-value
 returns-then-place-len-clause-value t c =

@@ -5,7 +5,7 @@ use Rattle.transition_table.specs.Computed.{support_of, all_supports}
 use Rattle.char_function.specs.Columns.{varies}
 use Rattle.char_function.specs.Supported.{AreSupports}
 use Rattle.char_function.proofs.Supporting.{column_support, supports_more, are_supports}
-use Rattle.char_function.proofs.support.supports.Goals as goal
+use Rattle.char_function.proofs.support.supports_in.Goals as goal
 
 pub loop-y-preserved : goal.loop-y-preserved
 loop-y-preserved c =
@@ -31,4 +31,4 @@ returns-clause-exact c =
     let is : c.of.result ≡ all_supports m =
     c.of.ensures ∙ c.loop-y.invariant ∙ ap (λ (n : ℕ). map (support_of m) (upto n)) all in
     subst (AreSupports m) (sym is)
-    (are_supports c.laws_of_computing.ensures.support_by_test m c.requires)
+    (are_supports c.laws_of_computing.ensures.support_by_test m c.requires.sure)

@@ -1,5 +1,5 @@
 use Rattle.std.proofs.Common.{◌≡◌, ◌++◌, take}
-use Rattle.char_function.proofs.diagram.all_sizes.Given as goal
+use Rattle.char_function.proofs.root.all_sizes.Given as goal
 
 abbrev pub invariant-loop-v : goal.invariant-loop-v
 invariant-loop-v l = l.sizes ≡ take l.v l.m.vars

@@ -1,0 +1,76 @@
+use Rattle.std.proofs.Common.{◌≡◌, ◌∙◌, ◌<◌, ◌≤◌, ℕ, List, None, Some, length, get_or, slice_index, slice_set, ap, sym, subst, arith}
+use Rattle.decision_diagram.specs.Diagrams.{Means}
+use Rattle.char_function.specs.Known.{OnlyResults}
+use Rattle.char_function.specs.Left.{AreLeft, IsOrdered, left_from}
+use Rattle.char_function.proofs.FixedKids.{left_kept, left_more}
+use Rattle.char_function.proofs.Lists.{read}
+use Rattle.char_function.proofs.Tabled.{numbers_long, number_low}
+use Rattle.char_function.proofs.fixing.outcome_node.Goals as goal
+
+pub get-requires : goal.get-requires
+get-requires c =
+    let m = c.args.fixing.now.machine.now in
+    let t = c.args.fixing.now.table.now in
+    let tabled = c.requires.fixing.table in
+    let a = numbers_long m t tabled in
+    let s = c.requires.snapshot in
+    let b = number_low m t tabled c.args.i (omega arith) in
+    let e = read t.numbers c.args.i c.get-number.result.now 0 c.get-number.ensures in
+    let l = c.requires.known.long in
+    omega arith
+
+pub returns-in-Some-clause-value : goal.returns-in-Some-clause-value
+returns-in-Some-clause-value c =
+    let m = c.args.fixing.now.machine.now in
+    let t = c.args.fixing.now.table.now in
+    let s = c.args.store.now in
+    let e = read t.numbers c.args.i c.get-number.result.now 0 c.get-number.ensures in
+    let is : get_or c.args.known.now (slice_index t.numbers c.args.i) None ≡ Some c.in-Some.node =
+    ap (λ (k : ℕ). get_or c.args.known.now k None) e
+    ∙ read c.args.known.now c.get-number.result.now c.get.result.now None c.get.ensures
+    ∙ c.in-Some.is in
+    subst (λ (order : List ℕ). Means s c.in-Some.node
+    (left_from m order c.args.fixing.now.start c.args.i)) c.requires.order
+    (c.requires.known.means c.args.i c.in-Some.node c.requires.snapshot is)
+
+pub returns-in-Some-clause-level : goal.returns-in-Some-clause-level
+returns-in-Some-clause-level c =
+    let t = c.args.fixing.now.table.now in
+    let e = read t.numbers c.args.i c.get-number.result.now 0 c.get-number.ensures in
+    let is : get_or c.args.known.now (slice_index t.numbers c.args.i) None ≡ Some c.in-Some.node =
+    ap (λ (k : ℕ). get_or c.args.known.now k None) e
+    ∙ read c.args.known.now c.get-number.result.now c.get.result.now None c.get.ensures
+    ∙ c.in-Some.is in
+    c.requires.known.levels c.args.i c.in-Some.node c.requires.snapshot is
+
+pub set-requires : goal.set-requires
+set-requires c =
+    let m = c.args.fixing.now.machine.now in
+    let t = c.args.fixing.now.table.now in
+    let tabled = c.requires.fixing.table in
+    let a = numbers_long m t tabled in
+    let s = c.requires.snapshot in
+    let b = number_low m t tabled c.args.i (omega arith) in
+    let e = read t.numbers c.args.i c.get-number.result.now 0 c.get-number.ensures in
+    let l = c.requires.known.long in
+    omega arith
+
+pub returns-clause-known : goal.returns-clause-known
+returns-clause-known c =
+    let m = c.args.fixing.now.machine.now in
+    let t = c.args.fixing.now.table.now in
+    let f = c.requires.fixing in
+    let new = c.results_node.new.store in
+    let start = c.args.fixing.now.start in
+    let kept = c.results_node.ensures.kept in
+    let same : new.order ≡ c.args.fixing.now.order.now = kept.order ∙ c.requires.order in
+    let node = c.in_ok-node.node in
+    let e = read t.numbers c.args.i c.get-number.result.now 0 c.get-number.ensures in
+    let known = left_kept m t c.args.store.now new start c.args.known.now kept c.requires.known in
+    subst (AreLeft m t new start) (sym c.set.ensures)
+    (left_more c.laws_of_computing.ensures.results_fit m t f.table new
+    (subst (IsOrdered m) (sym same) f.ordered) (kept.sizes ∙ c.requires.sizes ∙ f.all_sizes) start
+    (subst (λ (order : List ℕ). OnlyResults (length m.vars) order start) (sym same) f.results)
+    c.args.known.now c.get-number.result.now c.args.i node known (sym e) c.requires.snapshot
+    (subst (λ (order : List ℕ). Means new node (left_from m order start c.args.i)) (sym same)
+    c.in_ok-node.ensures.value) c.in_ok-node.ensures.level)

@@ -1,0 +1,28 @@
+use Rattle.std.proofs.Common.{◌≡◌, ◌∙◌, ◌<◌, ℕ, length, slice_index, ap, sym, arith}
+use Rattle.std.proofs.lemmas.Option.{get_or_from_slice_get}
+use Rattle.transition_table.specs.Computed.{char}
+use Rattle.transition_table.specs.Orders.{sizes_of}
+use Rattle.char_function.specs.Sizes.{Size}
+use Rattle.order_sift.proofs.Filling.{chain_whole}
+use Rattle.order_sift.proofs.turns.counted_first.Goals as goal
+
+pub get-count-requires : goal.get-count-requires
+get-count-requires c =
+    let l = c.len.ensures.len in
+    let b = c.in_ok-chain.ensures.long_backs in
+    omega arith
+
+pub returns-clause-counted : goal.returns-clause-counted
+returns-clause-counted c =
+    let m = c.args.m.now in
+    let o = c.args.order in
+    let chain = c.in_ok-chain.chain in
+    let laws = c.laws_of_levels.ensures.laws in
+    let count : c.get-count.result.now ≡ Size m o =
+    sym (get_or_from_slice_get chain.backs c.len.result c.get-count.result.now 0 c.get-count.ensures)
+    ∙ ap (slice_index chain.backs) c.len.ensures.len
+    ∙ chain_whole m o laws c.requires.sure c.requires.allowed chain.classes chain.backs
+    c.in_ok-chain.ensures
+    ∙ laws.size_by_sets (char m) (sizes_of m) o c.requires.allowed.permutation
+    c.requires.allowed.long c.laws_of_levels.ensures.sizes in
+    record { allowed = c.requires.allowed; counted = count }

@@ -13,7 +13,7 @@ use Rattle.net_reader.specs.declared.raw.RawMachine.{RawMachine}
 use Rattle.net_reader.specs.declared.raw.RawNet.{RawNet}
 use Rattle.net_reader.specs.declared.network.NetFault.{NetFault}
 use Rattle.net_reader.specs.declared.network.NetFault.TheVariants as faults
-use Rattle.net_reader.proofs.GrammarLaws.{net_laws, net_goes}
+use Rattle.net_reader.proofs.NetworkLaws.{net_laws, net_goes}
 use Rattle.net_reader.proofs.Whole.{net_sentence, syntax_there_clause}
 
 -- the last token is a right brace

@@ -1,12 +1,22 @@
 pub mod Forms
 pub mod Laws
 pub mod Loops
-pub mod GrammarLaws
+pub mod DeclarationLaws
+pub mod ConditionLaws
+pub mod ActionLaws
+pub mod MachineLaws
+pub mod NetworkLaws
+pub mod Shrinking
 pub mod Steps
 pub mod Tokens
 pub mod Whole
 pub mod Lexing
 pub mod Printing
-pub mod Productions
+pub mod Regrouping
+pub mod PrintedTokens
+pub mod PrintedDeclarations
+pub mod PrintedRows
+pub mod PrintedMachines
+pub mod PrintedNetworks
 mod LastToken
 mod Computed

@@ -13,7 +13,7 @@ use Rattle.net_reader.specs.declared.raw.RawNet.{RawNet}
 use Rattle.net_reader.specs.declared.network.NetFault.{NetFault}
 use Rattle.net_reader.specs.declared.network.NetFault.TheVariants as faults
 use Rattle.net_reader.proofs.Laws.{bind_ok, bind_err, step}
-use Rattle.net_reader.proofs.GrammarLaws.{net_laws}
+use Rattle.net_reader.proofs.NetworkLaws.{net_laws}
 
 end_ok : (ls rest : List Lexeme) → end_at ls ≡ Ok (tt, rest) → ls ≡ []
 unfolding end_at

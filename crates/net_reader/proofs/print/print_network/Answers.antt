@@ -3,7 +3,7 @@ use Rattle.std.specs.List.{list_all}
 use Rattle.net_reader.specs.Formed.{word_formed, num_formed, domain_formed, event_formed, machine_formed}
 use Rattle.net_reader.specs.Layout.{network_text}
 use Rattle.net_reader.specs.Places.{Declares}
-use Rattle.net_reader.proofs.Productions.{declares, formed_from}
+use Rattle.net_reader.proofs.PrintedNetworks.{declares, formed_from}
 use Rattle.net_reader.proofs.print.print_network.Goals as goal
 
 pub returns-clause-back : goal.returns-clause-back

@@ -1,6 +1,6 @@
 use Rattle.std.proofs.Common.{◌∙◌, sym, Some, ap}
 use Rattle.polis_base.specs.Lists.{head_of}
-use Rattle.net_reader.specs.Lexemes.{Lexeme, lexemes}
+use Rattle.net_reader.specs.Lexemes.{lexemes}
 use Rattle.net_reader.specs.Pieces.{left}
 use Rattle.net_reader.proofs.reader.Reader.peek.Goals as goal
 

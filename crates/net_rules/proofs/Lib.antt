@@ -7,6 +7,7 @@ pub mod Fitting
 pub mod Found
 pub mod Judging
 pub mod Kept
+pub mod Made
 pub mod Moved
 pub mod Named
 pub mod Numbering

@@ -13,4 +13,4 @@ mod tests;
 mod worked;
 
 pub use resolving::{ResolveFault, resolve};
-pub use worked::{laws, worked_network};
+pub use worked::{laws, network_laws, worked_network};

@@ -5,7 +5,7 @@ ghost use Rattle.transition_table.specs.SampleBelt.{belt as belt_network};
 ghost use Rattle.transition_table.specs.SampleEcho.{echo as echo_network};
 ghost use Rattle.transition_table.specs.SampleLamp.{lamp as lamp_network};
 ghost use Rattle.net_rules.specs.Given.{mix_network};
-ghost use Rattle.net_rules.specs.Unique.{OneNetwork};
+ghost use Rattle.net_rules.specs.Unique.{OneNetwork, SomeNetwork};
 ghost use Rattle.net_rules.specs.Sentence.{SentencesHaveValues};
 
 /// The network that the definitions give for small declarations.
@@ -20,4 +20,9 @@ pub fn worked_network()
 pub fn laws()
     ensures one { OneNetwork }
     ensures values { SentencesHaveValues }
+{}
+
+/// Declarations that break no rule give a network.
+pub fn network_laws()
+    ensures some { SomeNetwork }
 {}

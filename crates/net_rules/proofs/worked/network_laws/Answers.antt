@@ -1,0 +1,5 @@
+use Rattle.net_rules.proofs.Made.{some-network}
+use Rattle.net_rules.proofs.worked.network_laws.Goals as goal
+
+pub returns : goal.returns
+returns c = record { some = some-network }

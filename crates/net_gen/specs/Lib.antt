@@ -1,5 +1,11 @@
-pub mod Dwindling
+pub mod Demos
 pub mod Draws
+pub mod Dwindling
+pub mod Ended
+pub mod Events
+pub mod Items
 pub mod Kept
 pub mod Networks
+pub mod Texts
 pub mod Traces
+pub mod Whole

@@ -5,6 +5,7 @@ use Rattle.net_reader.specs.Places.{Declares}
 use Rattle.net_gen.specs.Draws.{after, draw}
 use Rattle.net_gen.specs.Networks.{ring, network, count}
 use Rattle.net_gen.specs.Traces.{ticks, trace_text}
+use Rattle.net_gen.specs.Whole.{AreWhole}
 use Rattle.net_gen.proofs.Drawn.{after_first, after_more}
 use Rattle.net_gen.proofs.Sentence.{sentence}
 use Rattle.net_gen.proofs.texts.generate.Goals as goal
@@ -61,3 +62,8 @@ returns-clause-declares c =
     c.in_ok-declared.declared c.draw-count.ensures.answer
     (c.draw-count.ensures.moves ∙ after_first c.args.seed) c.in_ok-declared.ensures.ring)
     c.in_ok-net.ensures.back
+
+pub returns-clause-whole : goal.returns-clause-whole
+returns-clause-whole c =
+    subst (AreWhole c.in_ok-net.net) (sym (returns-clause-trace c))
+    (c.whole_laws.ensures.whole c.args.seed c.in_ok-net.net (returns-clause-declares c))

@@ -9,7 +9,7 @@ use Rattle.journals.specs.StampLaws.{PrefixesRise}
 use Rattle.polis_words.specs.declared.cause.Cause.{Cause}
 use Rattle.polis_words.specs.declared.cause.Cause.TheVariants.{ReadFault as Unread, Absent, TooLong, Lex, Syntax, Rule, Conflict, TraceLine, JournalLine, Illegal as Unlawful, NoMemory as Wanting}
 use Rattle.polis_words.specs.declared.requests.Request.{Request}
-use Rattle.polis_words.specs.declared.requests.Request.TheVariants.{Run, Check, Compile, Replay, Migrate}
+use Rattle.polis_words.specs.declared.requests.Request.TheVariants.{Run, Check, Compile, Replay, Migrate, Demo}
 use Rattle.polis_words.specs.declared.status.Status.{Status}
 use Rattle.polis_words.specs.declared.status.Status.TheVariants.{Done, Limit, ReadFault, Refused, WriteFault, NoMemory, Illegal}
 use Rattle.polis_words.specs.Requests.{Asks}
@@ -302,6 +302,7 @@ makes_accepts (Replay replay) files product m =
     (m.net, m.trace, m.journal, m.judged.stamps, m.judged.holds)
 makes_accepts (Migrate migrate) files product m =
     (m.net, m.trace, m.journal, m.judged.stamps, m.judged.holds)
+makes_accepts (Demo demo) files product m = tt
 
 ends_of_run : (status : Status) (net : Network) (trace : List TraceItem) (journal : List Entry)
     (limit : ℕ) (complete : Bool) → Ends status net trace journal limit complete
@@ -320,6 +321,7 @@ makes_ends (Check check) files product m = ap ends_done m.made.status
 makes_ends (Compile compile) files product m = ap ends_done m.made.status
 makes_ends (Replay replay) files product m = ap ends_judged m.made.status
 makes_ends (Migrate migrate) files product m = ap ends_judged m.made.status
+makes_ends (Demo demo) files product m = ap ends_done m.status
 
 -- files of which a product is made aren't refused
 pub accepted_files : (o : Option Files) (words : List (List ℕ)) (request : Request)

@@ -4,14 +4,17 @@ use Rattle.polis_base.specs.Host.{Files, Changes, Rose, WhereTold}
 use Rattle.journals.specs.Laws.{PrefixesAreLegal}
 use Rattle.journals.specs.StampLaws.{PrefixesRise}
 use Rattle.polis_words.specs.declared.cause.Cause.{Cause}
-use Rattle.polis_words.specs.declared.cause.Cause.TheVariants.{ReadFault as Unread}
+use Rattle.polis_words.specs.declared.cause.Cause.TheVariants.{ReadFault as Unread, NoMemory as Wanting}
 use Rattle.polis_words.specs.declared.requests.Request.{Request}
+use Rattle.polis_words.specs.declared.requests.Request.TheVariants.{Demo}
 use Rattle.polis_words.specs.declared.status.Status.{Status}
 use Rattle.polis_words.specs.declared.status.Status.TheVariants.{Done, Limit, Usage, ReadFault, Refused, WriteFault, NoMemory, Illegal, Differ}
 use Rattle.polis_words.specs.Requests.{Asks, AsksNothing}
 use Rattle.polis_words.specs.Lines.{status_of}
+use Rattle.polis_words.specs.Demo.{DemoWords}
 use Rattle.polis_cli.specs.declared.product.Product.{Product}
 use Rattle.polis_cli.specs.Commands.{Makes, Fails}
+use Rattle.polis_cli.specs.Demos.{FailsDemo, OfDemo}
 use Rattle.polis_cli.specs.Shown.{ShowsPrefix, FailsWith}
 use Rattle.polis_cli.specs.Writing.{IsWell, Writes, is_end}
 use Rattle.polis_cli.specs.Top.{is_refusal}
@@ -65,6 +68,30 @@ unread_cause : (cause : Cause) → status_of cause ≡ ReadFault → cause ≡ U
 unread_cause Unread e = refl
 unread_cause other e = cc
 
+-- what holds of a request that is a demo, where one is asked for
+of_demo : (words : List (List ℕ)) (request : Request) (P : Type 0) → IsOne words request
+    → OfDemo request P → (demo : DemoWords) → Asks words (Demo demo) → P
+of_demo words request P one holds demo asks =
+    subst (λ (r : Request). OfDemo r P) (sym (one (Demo demo) asks)) holds
+
+-- how a demo ends
+abbrev pub EndsDemo : Status → Type 0
+EndsDemo status = (status ≡ Done) ⊎ (status ≡ WriteFault) ⊎ (status ≡ NoMemory)
+
+-- a demo that fails runs out of memory
+demo_fails : (status : Status) (cause : Cause) → cause ≡ Wanting
+    → (status ≡ status_of cause) ⊎ (status ≡ NoMemory) → EndsDemo status
+demo_fails status cause wants (inl e) = inr (inr (e ∙ ap status_of wants))
+demo_fails status cause wants (inr e) = inr (inr e)
+
+-- a demo that is made is done, or fails to be written
+demo_ends : (status : Status) (product : Product) (rose : Type 0) (a b : Option Files)
+    (s t : Option (List ℕ)) → product.status ≡ Done → Writes status product rose a b s t
+    → EndsDemo status
+demo_ends status product rose a b s t done (inl (e, all)) = inl (e ∙ done)
+demo_ends status product rose a b s t done (inr (inl (e, fails))) = inr (inl e)
+demo_ends status product rose a b s t done (inr (inr (e, out))) = inr (inr e)
+
 pub failed_answers : PrefixesAreLegal → PrefixesRise
     → (words : List (List ℕ)) (request : Request) (name : List ℕ) (cause : Cause) (status : Status)
     (old new : Outside)
@@ -72,9 +99,10 @@ pub failed_answers : PrefixesAreLegal → PrefixesRise
     → WhereTold old.files (λ files. Fails request files name cause)
     → (cause ≡ Unread → Rose old.load_faults new.load_faults)
     → (cause ≢ Unread → new.load_faults ≡ old.load_faults)
-    → (status ≡ status_of cause) ⊎ (status ≡ NoMemory) → Answers status words old new
+    → (status ≡ status_of cause) ⊎ (status ≡ NoMemory) → OfDemo request (FailsDemo cause)
+    → Answers status words old new
 unfolding is_failure
-failed_answers legal rise words request name cause status old new asks one fails rose stays s =
+failed_answers legal rise words request name cause status old new asks one fails rose stays s d =
     let failure = status_fails cause status s in
     record {
       ended = λ end. let h = sym (failure_ends status failure) ∙ end in cc;
@@ -89,6 +117,7 @@ failed_answers legal rise words request name cause status old new asks one fails
       illegal_only = illegal_only legal rise old.files words request name cause status fails one s;
       illegal_there = illegal_there old.files words request name cause status fails one s;
       done_there = failed_there old.files words request name cause status fails one s;
+      demo = λ demo asked. demo_fails status cause (of_demo words request _ one d demo asked) s;
       no_differ = no_failure status Differ failure refl;
     }
   where
@@ -129,8 +158,9 @@ pub written_answers : (words : List (List ℕ)) (request : Request) (product : P
     → (status ≡ WriteFault → WriteFailed old new)
     → (is_end status ≡ true → new.write_faults ≡ old.write_faults)
     → new.load_faults ≡ old.load_faults
+    → OfDemo request (product.status ≡ Done)
     → Answers status words old new
-written_answers words request product status old new asks one made well writes rose stays same =
+written_answers words request product status old new asks one made well writes rose stays same d =
     let never = λ (other : Status). written_status old.files new.files old.shown new.shown product
     status other (WriteFailed old new) well writes in
     record {
@@ -152,6 +182,8 @@ written_answers words request product status old new asks one made well writes r
       illegal_there = made_legal old.files words request product _ made one;
       done_there = done_there old.files words request product status (WriteFailed old new) old.files
           new.files old.shown new.shown made one writes;
+      demo = λ demo asked. demo_ends status product (WriteFailed old new) old.files new.files
+          old.shown new.shown (of_demo words request _ one d demo asked) writes;
       no_differ = never Differ refl (λ h. cc) (λ h. cc);
     }
 
@@ -201,6 +233,7 @@ usage_answers words old new nothing same = record {
   illegal_only = λ e. cc;
   illegal_there = nothing_asked old.files words _ nothing;
   done_there = nothing_asked old.files words _ nothing;
+  demo = λ demo asked. absurd (nothing (Demo demo) asked);
   no_differ = λ e. cc;
 }
 

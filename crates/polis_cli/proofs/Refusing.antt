@@ -19,7 +19,7 @@ use Rattle.polis_words.specs.Replay.{ReplayWords}
 use Rattle.polis_words.specs.declared.cause.Cause.{Cause}
 use Rattle.polis_words.specs.declared.cause.Cause.TheVariants.{ReadFault as Unread, Absent, TooLong, Lex, Syntax, Rule, Conflict, TraceLine, JournalLine, Illegal as Unlawful, NoMemory as Wanting}
 use Rattle.polis_words.specs.declared.requests.Request.{Request}
-use Rattle.polis_words.specs.declared.requests.Request.TheVariants.{Run, Check, Compile, Replay, Migrate}
+use Rattle.polis_words.specs.declared.requests.Request.TheVariants.{Run, Check, Compile, Replay, Migrate, Demo}
 use Rattle.polis_words.specs.declared.status.Status.TheVariants.{ReadFault, Refused, NoMemory, Illegal}
 use Rattle.polis_words.specs.Lines.{status_of, lex_error}
 use Rattle.polis_cli.specs.Accepted.{Accepted}
@@ -55,7 +55,7 @@ other_tokens : (text : List ℕ) (tokens : List Token) (error : LexError) → to
 other_tokens text tokens error read fault = cc
 
 -- a text with a fault is no text of a network that is accepted
-text_refused : (text : List ℕ) (net : Network) (cause : Cause) → status_of cause ≡ Refused
+pub text_refused : (text : List ℕ) (net : Network) (cause : Cause) → status_of cause ≡ Refused
     → IsNetFault text cause → Accepted text net → ⊥
 text_refused text net (Lex kind place) s h a =
     other_tokens text a.0.1.tokens (lex_error kind place) a.0.1.read h
@@ -156,6 +156,8 @@ refuses files (Compile compile) name cause s h =
     λ all. net_refused files compile.net cause all.0 s h.1 all.1
 refuses files (Replay replay) name cause s h = replay_refused files replay name cause s h
 refuses files (Migrate migrate) name cause s h = replay_refused files migrate.replay name cause s h
+refuses files (Demo demo) name cause s h = let wants : status_of cause ≡ NoMemory =
+    ap status_of h in cc
 
 pub cases_of : (cause : Cause) → (status_of cause ≡ Refused) ⊎ (status_of cause ≡ ReadFault)
     ⊎ (status_of cause ≡ NoMemory) ⊎ (status_of cause ≡ Illegal)
@@ -320,6 +322,8 @@ illegal_found legal rise files (Replay replay) name cause s h =
     replay_found legal rise files replay name cause s h
 illegal_found legal rise files (Migrate migrate) name cause s h =
     replay_found legal rise files migrate.replay name cause s h
+illegal_found legal rise files (Demo demo) name cause s h =
+    let wants : status_of cause ≡ NoMemory = ap status_of h in cc
 
 -- a request whose journal fails ends with that status
 pub illegal_ends : (files : Files) (request : Request) (name : List ℕ) (cause : Cause)
@@ -331,6 +335,8 @@ illegal_ends files (Compile compile) name cause s h =
     absurd (net_lawful files compile.net cause s h.1)
 illegal_ends files (Replay replay) name cause s h = refl
 illegal_ends files (Migrate migrate) name cause s h = refl
+illegal_ends files (Demo demo) name cause s h =
+    let wants : status_of cause ≡ NoMemory = ap status_of h in cc
 
 pub illegal_accepts : (files : Files) (request : Request) → IsIllegal request files
     → Accepts request files
@@ -339,6 +345,7 @@ illegal_accepts files (Check check) h = absurd h
 illegal_accepts files (Compile compile) h = absurd h
 illegal_accepts files (Replay replay) h = h.accepted
 illegal_accepts files (Migrate migrate) h = h.accepted
+illegal_accepts files (Demo demo) h = absurd h
 
 -- a journal of which a product is made is legal
 pub not_illegal : (files : Files) (request : Request) (product : Product)
@@ -350,3 +357,4 @@ not_illegal files (Replay replay) product m =
     λ h. h.falls m.net m.trace m.journal m.judged.stamps m.judged.holds m.judged.stands
 not_illegal files (Migrate migrate) product m =
     λ h. h.falls m.net m.trace m.journal m.judged.stamps m.judged.holds m.judged.stands
+not_illegal files (Demo demo) product m = λ h. h

@@ -2,7 +2,7 @@
 use Rattle.std.proofs.Common.{◌≡◌, ◌⊎◌, inl, inr, ◌≤◌, ◌<◌, ℕ, List, arith, codes}
 use Rattle.polis_words.specs.Run.{AsksRun, AsksWorkers, NeedsWorkers}
 use Rattle.polis_words.specs.declared.requests.Request.{Request}
-use Rattle.polis_words.specs.declared.requests.Request.TheVariants.{Run, Check, Compile, Replay, Migrate}
+use Rattle.polis_words.specs.declared.requests.Request.TheVariants.{Run, Check, Compile, Replay, Migrate, Demo}
 use Rattle.polis_words.specs.Requests.{Asks}
 use Rattle.polis_cli.specs.Commands.{IsSerial}
 
@@ -22,3 +22,4 @@ one_thread words (Check check) asks few = tt
 one_thread words (Compile compile) asks few = tt
 one_thread words (Replay replay) asks few = tt
 one_thread words (Migrate migrate) asks few = tt
+one_thread words (Demo demo) asks few = tt

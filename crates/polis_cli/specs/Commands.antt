@@ -5,7 +5,7 @@ use Rattle.polis_words.specs.declared.cause.Cause.{Cause}
 use Rattle.polis_words.specs.declared.status.Status.{Status}
 use Rattle.polis_words.specs.declared.status.Status.TheVariants.{Done}
 use Rattle.polis_words.specs.declared.requests.Request.{Request}
-use Rattle.polis_words.specs.declared.requests.Request.TheVariants.{Run, Check, Compile, Replay, Migrate}
+use Rattle.polis_words.specs.declared.requests.Request.TheVariants.{Run, Check, Compile, Replay, Migrate, Demo}
 use Rattle.polis_cli.specs.declared.product.Product.{Product}
 use Rattle.polis_cli.specs.Runs.{MakesRun, AcceptsRun, FailsRun, ends_run}
 use Rattle.polis_cli.specs.Inputs.{AcceptsNet, FailsNet}
@@ -13,6 +13,7 @@ use Rattle.polis_cli.specs.Checks.{MakesCheck}
 use Rattle.polis_cli.specs.Compilations.{MakesCompile}
 use Rattle.polis_cli.specs.Replays.{MakesReplay, AcceptsReplay, IsIllegalReplay, FailsReplay, ends_judged}
 use Rattle.polis_cli.specs.Migrations.{MakesMigrate}
+use Rattle.polis_cli.specs.Demos.{MakesDemo, FailsDemo}
 
 -- the product is what the request makes of the files
 abbrev pub Makes : Request → Files → Product → Type 0
@@ -21,6 +22,7 @@ Makes (Check check) files product = MakesCheck check files product
 Makes (Compile compile) files product = MakesCompile compile files product
 Makes (Replay replay) files product = MakesReplay replay files product
 Makes (Migrate migrate) files product = MakesMigrate migrate files product
+Makes (Demo demo) files product = MakesDemo demo product
 
 -- the files that the request reads are held, within their limits, and accepted
 abbrev pub Accepts : Request → Files → Type 0
@@ -29,6 +31,7 @@ Accepts (Check check) files = AcceptsNet check.net files
 Accepts (Compile compile) files = AcceptsNet compile.net files
 Accepts (Replay replay) files = AcceptsReplay replay files
 Accepts (Migrate migrate) files = AcceptsReplay migrate.replay files
+Accepts (Demo demo) files = ⊤
 
 -- the request judges a journal; its files are accepted, and the journal isn't legal, or it has
 -- stamps and they aren't rising
@@ -38,6 +41,7 @@ IsIllegal (Check check) files = ⊥
 IsIllegal (Compile compile) files = ⊥
 IsIllegal (Replay replay) files = IsIllegalReplay replay files
 IsIllegal (Migrate migrate) files = IsIllegalReplay migrate.replay files
+IsIllegal (Demo demo) files = ⊥
 
 -- the file of this name isn't read or isn't accepted, or its journal isn't legal, all files before
 -- it being accepted, and this is why
@@ -47,6 +51,7 @@ Fails (Check check) files name cause = FailsNet check.net files name cause
 Fails (Compile compile) files name cause = FailsNet compile.net files name cause
 Fails (Replay replay) files name cause = FailsReplay replay files name cause
 Fails (Migrate migrate) files name cause = FailsReplay migrate.replay files name cause
+Fails (Demo demo) files name cause = FailsDemo cause
 
 -- the one status of a request that only shows or saves what it found, where its files are accepted
 abbrev pub ends_done : Status → Bool
@@ -61,6 +66,7 @@ ends_with (Check check) status = ends_done status
 ends_with (Compile compile) status = ends_done status
 ends_with (Replay replay) status = ends_judged status
 ends_with (Migrate migrate) status = ends_judged status
+ends_with (Demo demo) status = ends_done status
 
 -- the request needs the calling thread alone: it isn't a run by several workers
 abbrev pub IsSerial : Request → Type 0
@@ -69,3 +75,4 @@ IsSerial (Check check) = ⊤
 IsSerial (Compile compile) = ⊤
 IsSerial (Replay replay) = ⊤
 IsSerial (Migrate migrate) = ⊤
+IsSerial (Demo demo) = ⊤

@@ -2,8 +2,10 @@
 use Rattle.std.specs.Prelude.{◌≡◌, ◌≢◌, ◌⊎◌, ℕ, false, List, Option, IsTrue}
 use Rattle.polis_base.specs.Host.{Files, Changes, Rose, WhereTold}
 use Rattle.polis_words.specs.declared.requests.Request.{Request}
+use Rattle.polis_words.specs.declared.requests.Request.TheVariants.{Demo}
 use Rattle.polis_words.specs.declared.status.Status.{Status}
-use Rattle.polis_words.specs.declared.status.Status.TheVariants.{Usage, ReadFault, Refused, WriteFault, NoMemory, Illegal, Differ}
+use Rattle.polis_words.specs.declared.status.Status.TheVariants.{Done, Usage, ReadFault, Refused, WriteFault, NoMemory, Illegal, Differ}
+use Rattle.polis_words.specs.Demo.{DemoWords}
 use Rattle.polis_words.specs.Requests.{Asks, AsksNothing}
 use Rattle.polis_cli.specs.Commands.{Accepts, IsIllegal, ends_with}
 use Rattle.polis_cli.specs.Writing.{is_end}
@@ -15,6 +17,15 @@ pub record Outside : Type 0 where
   pub shown : Option (List ℕ)
   pub load_faults : ℕ
   pub write_faults : ℕ
+
+-- what a host tells, in this order
+abbrev pub outside : Option Files → Option (List ℕ) → ℕ → ℕ → Outside
+outside files shown load_faults write_faults = record {
+  files = files;
+  shown = shown;
+  load_faults = load_faults;
+  write_faults = write_faults;
+}
 
 -- the count of write faults rose
 abbrev pub WriteFailed : Outside → Outside → Type 0
@@ -62,6 +73,9 @@ pub record Answers (status : Status) (words : List (List ℕ)) (old new : Outsid
   -- Where its files are accepted a request is done, but for a fault and running out of memory.
   pub done_there : OfRequest words old (λ request before. Accepts request before
       → IsTrue (ends_with request status) ⊎ (status ≡ WriteFault) ⊎ IsCut status)
+  -- A demo reads no file: it is done, but for a fault of writing and running out of memory.
+  pub demo : (demo : DemoWords) → Asks words (Demo demo)
+      → (status ≡ Done) ⊎ (status ≡ WriteFault) ⊎ (status ≡ NoMemory)
   -- Nothing is compared.
   pub no_differ : status ≢ Differ
 

@@ -4,6 +4,7 @@
 mod accept;
 mod check;
 mod compile;
+mod demo;
 mod inputs;
 mod law;
 mod load;
@@ -46,6 +47,9 @@ polis replay NET TRACE JOURNAL
     stamps where it has any, and whether it is complete
 polis migrate NET TRACE JOURNAL STEM
     judges JOURNAL as replay does, and saves it with its least stamps as STEM.jnl
+polis demo SEED
+    runs a network of 24 to 48 machines on a trace of 2000 events, both drawn from the
+    number SEED, below 2^64, and shows a summary; it reads and saves no file
 polis --help
     shows these forms
 polis --version

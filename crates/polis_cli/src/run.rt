@@ -33,8 +33,8 @@ fn status_at_end(complete: bool) -> Status
     }
 }
 
-// What is shown of a run: its summary, and a line for each machine.
-fn shown_text(
+/// What is shown of a run: its summary, and a line for each machine.
+pub fn shown_text(
     alloc: Global,
     inputs: &Inputs,
     compiled: &CompiledList,

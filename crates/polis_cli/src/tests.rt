@@ -9,6 +9,7 @@ use std::sync::Wait;
 use std::test::Fail;
 use std::thread::Threads;
 
+mod demos;
 mod gates;
 mod listings;
 mod networks;
@@ -224,6 +225,9 @@ fn answers_usage(rt: HostRuntime) -> Result<(), Fail> {
             usage(&["run", "net", "trc", "o", "--workers", "0"]),
             usage(&["run", "net", "trc", "o", "--workers", "9"]),
             usage(&["run", "net", "trc", "o", "--workers", "1", "--workers", "2"]),
+            usage(&["demo"]),
+            usage(&["demo", "007"]),
+            usage(&["demo", "18446744073709551616"]),
             usage(&["run", "net", "trc", "o", "--limit", "0"]),
             usage(&["run", "net", "trc", "o", "--limit", "60001"]),
             usage(&["run", "net", "trc", "o", "--limit", "05"]),
@@ -241,7 +245,6 @@ fn answers_usage(rt: HostRuntime) -> Result<(), Fail> {
             usage(&["replay", "net", "trc", "jnl", "o"]),
             usage(&["migrate", "net", "trc", "jnl"]),
             usage(&["migrate", "net", "trc", "jnl", ""]),
-            usage(&["demo", "007"]),
         ],
     )
 }

@@ -2,13 +2,16 @@
 ghost use Rattle.std.specs.Prelude.{◌≡◌, ◌≢◌, IfOk, IfErr, OnOk};
 ghost use Rattle.polis_base.specs.Host.{Rose, WhereTold};
 ghost use Rattle.polis_words.specs.declared.cause.Cause.{Cause};
+ghost use Rattle.polis_words.specs.declared.status.Status.{Status};
 ghost use Rattle.polis_words.specs.Run.{NeedsWorkers};
 ghost use Rattle.polis_cli.specs.Commands.{Makes, Fails, IsSerial};
 ghost use Rattle.polis_cli.specs.Writing.{IsWell};
-ghost use Rattle.polis_cli.specs.Promise.{Answers, Leaves};
+ghost use Rattle.polis_cli.specs.Promise.{Answers, Leaves, outside};
+ghost use Rattle.polis_cli.specs.Demos.{FailsDemo, MakesDemo, OfDemo};
 
 use crate::check::make_check;
 use crate::compile::make_compile;
+use crate::demo::make_demo;
 use crate::migrate::make_migrate;
 use crate::product::Product;
 use crate::replay::make_replay;
@@ -18,10 +21,22 @@ use crate::write::write_product;
 use event_buffer::Gate;
 use net_core::{laws, stamp_laws};
 use polis_base::{Host, Words};
-use polis_words::{Failure, Request, Status, judge, needs_workers};
+use polis_words::{Demo, Failure, Request, Status, judge, needs_workers};
 use std::alloc::Global;
 use std::sync::Wait;
 use std::thread::Threads;
+
+// What a demo makes. No file has to do with its failure.
+fn demo_or_failure<'a>(alloc: Global, demo: &'a Demo) -> Result<Product, Failure<'a>>
+    ensures made { IfOk result (λ product. MakesDemo demo.now product) }
+    ensures well { IfOk result (λ product. IsWell product) }
+    ensures failed { IfErr result (λ failure. FailsDemo failure.cause) }
+{
+    match make_demo(alloc, demo) {
+        Ok(product) => Ok(product),
+        Err(cause) => Err(Failure { name: "", cause }),
+    }
+}
 
 // What a request that needs no other thread makes of the files.
 fn make<'a, H: Host>(
@@ -44,6 +59,8 @@ fn make<'a, H: Host>(
     ensures files { H.files host.new ≡ H.files host.old }
     ensures shown { H.shown host.new ≡ H.shown host.old }
     ensures write_faults { H.write_faults host.new ≡ H.write_faults host.old }
+    ensures demo { IfOk result (λ product. OfDemo request.now (product.status ≡ Status.Done)) }
+    ensures no_demo { IfErr result (λ failure. OfDemo request.now (FailsDemo failure.cause)) }
 {
     match request {
         Request::Run(run) => make_run(alloc, host, run),
@@ -51,6 +68,7 @@ fn make<'a, H: Host>(
         Request::Compile(compile) => make_compile(alloc, host, compile),
         Request::Replay(replay) => make_replay(alloc, host, replay),
         Request::Migrate(migrate) => make_migrate(alloc, host, migrate),
+        Request::Demo(demo) => demo_or_failure(alloc, demo),
     }
 }
 
@@ -76,6 +94,8 @@ fn make_by<'a, T: Threads + Wait + Sync, H: Host, G: Gate + Sync>(
     ensures files { H.files host.new ≡ H.files host.old }
     ensures shown { H.shown host.new ≡ H.shown host.old }
     ensures write_faults { H.write_faults host.new ≡ H.write_faults host.old }
+    ensures demo { IfOk result (λ product. OfDemo request.now (product.status ≡ Status.Done)) }
+    ensures no_demo { IfErr result (λ failure. OfDemo request.now (FailsDemo failure.cause)) }
 {
     match request {
         Request::Run(run) => make_run_by(rt, alloc, host, run, gate),
@@ -83,6 +103,7 @@ fn make_by<'a, T: Threads + Wait + Sync, H: Host, G: Gate + Sync>(
         Request::Compile(compile) => make_compile(alloc, host, compile),
         Request::Replay(replay) => make_replay(alloc, host, replay),
         Request::Migrate(migrate) => make_migrate(alloc, host, migrate),
+        Request::Demo(demo) => demo_or_failure(alloc, demo),
     }
 }
 
@@ -91,31 +112,15 @@ fn make_by<'a, T: Threads + Wait + Sync, H: Host, G: Gate + Sync>(
 pub fn serial<H: Host>(alloc: Global, words: &Words, host: &mut H) -> Status
     requires { ¬ NeedsWorkers words.now }
     ensures answers { Answers result words.now
-        (record {
-          files = H.files host.old;
-          shown = H.shown host.old;
-          load_faults = H.load_faults host.old;
-          write_faults = H.write_faults host.old;
-        })
-        (record {
-          files = H.files host.new;
-          shown = H.shown host.new;
-          load_faults = H.load_faults host.new;
-          write_faults = H.write_faults host.new;
-        }) }
+        (outside (H.files host.old) (H.shown host.old)
+        (H.load_faults host.old) (H.write_faults host.old))
+        (outside (H.files host.new) (H.shown host.new)
+        (H.load_faults host.new) (H.write_faults host.new)) }
     ensures leaves { Leaves result words.now
-        (record {
-          files = H.files host.old;
-          shown = H.shown host.old;
-          load_faults = H.load_faults host.old;
-          write_faults = H.write_faults host.old;
-        })
-        (record {
-          files = H.files host.new;
-          shown = H.shown host.new;
-          load_faults = H.load_faults host.new;
-          write_faults = H.write_faults host.new;
-        }) }
+        (outside (H.files host.old) (H.shown host.old)
+        (H.load_faults host.old) (H.write_faults host.old))
+        (outside (H.files host.new) (H.shown host.new)
+        (H.load_faults host.new) (H.write_faults host.new)) }
 {
     laws();
     stamp_laws();
@@ -141,31 +146,15 @@ fn by_workers<T: Threads + Wait + Sync, H: Host, G: Gate + Sync>(
     gate: &G,
 ) -> Status
     ensures answers { Answers result words.now
-        (record {
-          files = H.files host.old;
-          shown = H.shown host.old;
-          load_faults = H.load_faults host.old;
-          write_faults = H.write_faults host.old;
-        })
-        (record {
-          files = H.files host.new;
-          shown = H.shown host.new;
-          load_faults = H.load_faults host.new;
-          write_faults = H.write_faults host.new;
-        }) }
+        (outside (H.files host.old) (H.shown host.old)
+        (H.load_faults host.old) (H.write_faults host.old))
+        (outside (H.files host.new) (H.shown host.new)
+        (H.load_faults host.new) (H.write_faults host.new)) }
     ensures leaves { Leaves result words.now
-        (record {
-          files = H.files host.old;
-          shown = H.shown host.old;
-          load_faults = H.load_faults host.old;
-          write_faults = H.write_faults host.old;
-        })
-        (record {
-          files = H.files host.new;
-          shown = H.shown host.new;
-          load_faults = H.load_faults host.new;
-          write_faults = H.write_faults host.new;
-        }) }
+        (outside (H.files host.old) (H.shown host.old)
+        (H.load_faults host.old) (H.write_faults host.old))
+        (outside (H.files host.new) (H.shown host.new)
+        (H.load_faults host.new) (H.write_faults host.new)) }
 {
     laws();
     stamp_laws();
@@ -192,31 +181,15 @@ pub fn polis<T: Threads + Wait + Sync, H: Host, G: Gate + Sync>(
     gate: &G,
 ) -> Status
     ensures answers { Answers result words.now
-        (record {
-          files = H.files host.old;
-          shown = H.shown host.old;
-          load_faults = H.load_faults host.old;
-          write_faults = H.write_faults host.old;
-        })
-        (record {
-          files = H.files host.new;
-          shown = H.shown host.new;
-          load_faults = H.load_faults host.new;
-          write_faults = H.write_faults host.new;
-        }) }
+        (outside (H.files host.old) (H.shown host.old)
+        (H.load_faults host.old) (H.write_faults host.old))
+        (outside (H.files host.new) (H.shown host.new)
+        (H.load_faults host.new) (H.write_faults host.new)) }
     ensures leaves { Leaves result words.now
-        (record {
-          files = H.files host.old;
-          shown = H.shown host.old;
-          load_faults = H.load_faults host.old;
-          write_faults = H.write_faults host.old;
-        })
-        (record {
-          files = H.files host.new;
-          shown = H.shown host.new;
-          load_faults = H.load_faults host.new;
-          write_faults = H.write_faults host.new;
-        }) }
+        (outside (H.files host.old) (H.shown host.old)
+        (H.load_faults host.old) (H.write_faults host.old))
+        (outside (H.files host.new) (H.shown host.new)
+        (H.load_faults host.new) (H.write_faults host.new)) }
 {
     if needs_workers(words) {
         by_workers(rt, alloc, words, host, gate)

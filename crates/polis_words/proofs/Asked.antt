@@ -1,12 +1,14 @@
 -- What a command line asks for.
-use Rattle.std.proofs.Common.{◌≡◌, ℕ, suc, ◌+◌, get_or, List, [], ◌∷◌, length, slice_get, Some, sym, ap, ◌∙◌, arith}
+use Rattle.std.proofs.Common.{◌≡◌, ℕ, suc, ◌+◌, ◌<◌, ◌^◌, get_or, List, [], ◌∷◌, length, slice_get, Option, Some, sym, ap, ◌∙◌, arith, decimal}
+use Rattle.std.proofs.lemmas.Fmt.{decimal_injective}
 use Rattle.polis_words.specs.declared.requests.Request.{Request}
-use Rattle.polis_words.specs.declared.requests.Request.TheVariants.{Run, Check, Compile, Replay, Migrate}
+use Rattle.polis_words.specs.declared.requests.Request.TheVariants.{Run, Check, Compile, Replay, Migrate, Demo}
 use Rattle.polis_words.specs.Run.{RunWords, AsksRun}
 use Rattle.polis_words.specs.Check.{CheckWords, AsksCheck}
 use Rattle.polis_words.specs.Compile.{CompileWords, AsksCompile}
 use Rattle.polis_words.specs.Replay.{ReplayWords, AsksReplay}
 use Rattle.polis_words.specs.Migrate.{MigrateWords, AsksMigrate}
+use Rattle.polis_words.specs.Demo.{DemoWords, AsksDemo}
 use Rattle.polis_words.specs.Requests.{Asks}
 
 -- two, three, four and five words
@@ -108,6 +110,19 @@ one_migrate words replay stem other a b c d asks =
     (ap (λ (w : List (List ℕ)). slice_get w 4) asks.form) in
     λ i. record { replay = files i; stem = same i }
 
+-- the number at its place is one demo's
+same_text : (a b : List ℕ) (at : Option (List ℕ)) → at ≡ Some a → at ≡ Some b → a ≡ b
+same_text a b at p q = cc
+
+pub one_demo : (words : List (List ℕ)) (seed : ℕ) → seed < 2 ^ 64
+    → slice_get words 1 ≡ Some (decimal seed)
+    → (other : DemoWords) → AsksDemo words other → other ≡ record { seed = seed }
+one_demo words seed fits at other asks =
+    let there = ap (λ (w : List (List ℕ)). slice_get w 1) asks.form in
+    let same = decimal_injective other.seed seed asks.seed fits
+    (same_text (decimal other.seed) (decimal seed) (slice_get words 1) there at) in
+    λ i. record { seed = same i }
+
 -- the first word
 first_word : List (List ℕ) → List ℕ
 first_word [] = []
@@ -123,6 +138,7 @@ letters_of (Check check) = 205
 letters_of (Compile compile) = 220
 letters_of (Replay replay) = 213
 letters_of (Migrate migrate) = 208
+letters_of (Demo demo) = 210
 
 lettered : (words : List (List ℕ)) (request : Request) → Asks words request
     → letters words ≡ letters_of request
@@ -132,6 +148,7 @@ lettered words (Check check) a = ap letters a.form
 lettered words (Compile compile) a = ap letters a.form
 lettered words (Replay replay) a = ap letters a.form
 lettered words (Migrate migrate) a = ap letters a.form
+lettered words (Demo demo) a = ap letters a.form
 
 -- requests of one command line are of one command
 same_letters : (words : List (List ℕ)) (a b : Request) → Asks words a → Asks words b
@@ -174,15 +191,24 @@ migrate_alone words migrate asks one (Migrate other) a = ap Migrate (one other a
 migrate_alone words migrate asks one other a = let same =
     same_letters words (Migrate migrate) other asks a in absurd (omega (arith, same))
 
+pub demo_alone : (words : List (List ℕ)) (demo : DemoWords) → AsksDemo words demo
+    → ((other : DemoWords) → AsksDemo words other → other ≡ demo)
+    → (other : Request) → Asks words other → other ≡ Demo demo
+demo_alone words demo asks one (Demo other) a = ap Demo (one other a)
+demo_alone words demo asks one other a = let same =
+    same_letters words (Demo demo) other asks a in absurd (omega (arith, same))
+
 -- what asks for no command's request asks for nothing
 pub none_asked : (words : List (List ℕ)) → ((run : RunWords) → ¬ AsksRun words run)
     → ((check : CheckWords) → ¬ AsksCheck words check)
     → ((compile : CompileWords) → ¬ AsksCompile words compile)
     → ((replay : ReplayWords) → ¬ AsksReplay words replay)
     → ((migrate : MigrateWords) → ¬ AsksMigrate words migrate)
+    → ((demo : DemoWords) → ¬ AsksDemo words demo)
     → (request : Request) → ¬ Asks words request
-none_asked words run check compile replay migrate (Run asked) = run asked
-none_asked words run check compile replay migrate (Check asked) = check asked
-none_asked words run check compile replay migrate (Compile asked) = compile asked
-none_asked words run check compile replay migrate (Replay asked) = replay asked
-none_asked words run check compile replay migrate (Migrate asked) = migrate asked
+none_asked words run check compile replay migrate demo (Run asked) = run asked
+none_asked words run check compile replay migrate demo (Check asked) = check asked
+none_asked words run check compile replay migrate demo (Compile asked) = compile asked
+none_asked words run check compile replay migrate demo (Replay asked) = replay asked
+none_asked words run check compile replay migrate demo (Migrate asked) = migrate asked
+none_asked words run check compile replay migrate demo (Demo asked) = demo asked

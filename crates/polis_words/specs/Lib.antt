@@ -4,6 +4,7 @@ pub mod Check
 pub mod Compile
 pub mod Replay
 pub mod Migrate
+pub mod Demo
 pub mod Requests
 pub mod Lines
 pub mod Texts

@@ -10,5 +10,5 @@ mod status;
 pub use cause::{Cause, Failure, LexKind};
 pub use lines::{fault_line, line_of};
 pub use print::{print_accepted, print_conflict, print_legal, print_migrated, print_summary};
-pub use requests::{Check, Compile, Migrate, Replay, Request, Run, judge, needs_workers};
+pub use requests::{Check, Compile, Demo, Migrate, Replay, Request, Run, judge, needs_workers};
 pub use status::Status;

@@ -5,6 +5,7 @@ ghost use Rattle.polis_words.specs.Requests.{Asks, AsksNothing};
 
 mod checking;
 mod compiling;
+mod demoing;
 mod file_word;
 mod migrating;
 mod replaying;
@@ -14,6 +15,8 @@ pub use checking::Check;
 use checking::check_of;
 pub use compiling::Compile;
 use compiling::compile_of;
+pub use demoing::Demo;
+use demoing::demo_of;
 pub use migrating::Migrate;
 use migrating::migrate_of;
 use polis_base::Words;
@@ -35,6 +38,8 @@ pub enum Request<'a> {
     Replay(Replay<'a>),
     /// To save a legal journal with its least stamps.
     Migrate(Migrate<'a>),
+    /// To run what is generated from a seed.
+    Demo(Demo),
 }
 
 /// What the command line asks for, if it asks for anything.
@@ -61,7 +66,11 @@ pub fn judge(words: &Words) -> Option<Request<'_>>
         None => {}
     }
     match migrate_of(words) {
-        Some(migrate) => Some(Request::Migrate(migrate)),
+        Some(migrate) => return Some(Request::Migrate(migrate)),
+        None => {}
+    }
+    match demo_of(words) {
+        Some(demo) => Some(Request::Demo(demo)),
         None => None,
     }
 }

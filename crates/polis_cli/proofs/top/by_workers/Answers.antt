@@ -1,6 +1,6 @@
 use Rattle.std.proofs.Common.{sym, subst, ◌∙◌}
 use Rattle.polis_base.specs.Host.{Rose}
-use Rattle.polis_cli.proofs.Promising.{failed_answers, failed_leaves, written_answers, written_leaves}
+use Rattle.polis_cli.proofs.Promising.{failed_answers, failed_leaves, usage_answers, written_answers, written_leaves}
 use Rattle.polis_cli.proofs.top.by_workers.Goals as goal
 
 pub returns-in-Err-clause-answers : goal.returns-in-Err-clause-answers
@@ -11,7 +11,7 @@ returns-in-Err-clause-answers g c =
     (λ e. subst (λ n. Rose (g.H.Host.load_faults c.args.host.now) n)
     (sym c.fail.ensures.load_faults) (c.in-Err.ensures.fault e))
     (λ other. c.fail.ensures.load_faults ∙ c.in-Err.ensures.no_fault other)
-    c.fail.ensures.status
+    c.fail.ensures.status c.in-Err.ensures.no_demo
 
 pub returns-in-Err-clause-leaves : goal.returns-in-Err-clause-leaves
 returns-in-Err-clause-leaves g c =
@@ -29,7 +29,7 @@ returns-in-Ok-clause-answers g c =
     c.write_product.ensures.written)
     (rw c.in-Ok.ensures.write_faults at c.write_product.ensures.fault)
     (rw c.in-Ok.ensures.write_faults at c.write_product.ensures.end_faults)
-    (c.write_product.ensures.load_faults ∙ c.in-Ok.ensures.ok_faults)
+    (c.write_product.ensures.load_faults ∙ c.in-Ok.ensures.ok_faults) c.in-Ok.ensures.demo
 
 pub returns-in-Ok-clause-leaves : goal.returns-in-Ok-clause-leaves
 returns-in-Ok-clause-leaves g c =
@@ -37,3 +37,7 @@ returns-in-Ok-clause-leaves g c =
     c.in-Some.ensures.asks c.in-Ok.ensures.made c.in-Ok.ensures.well
     (rw (c.in-Ok.ensures.files, c.in-Ok.ensures.shown, c.in-Ok.ensures.write_faults) at
     c.write_product.ensures.written)
+
+pub returns-in-None-clause-answers : goal.returns-in-None-clause-answers
+returns-in-None-clause-answers g c =
+    usage_answers c.args.words.now _ _ c.in-None.ensures.nothing c.show_line.ensures.load_faults

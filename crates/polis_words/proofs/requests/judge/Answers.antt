@@ -1,4 +1,4 @@
-use Rattle.polis_words.proofs.Asked.{run_alone, check_alone, compile_alone, replay_alone, migrate_alone, none_asked}
+use Rattle.polis_words.proofs.Asked.{run_alone, check_alone, compile_alone, replay_alone, migrate_alone, demo_alone, none_asked}
 use Rattle.polis_words.proofs.requests.judge.Goals as goal
 
 pub returns-in-Some-clause-one : goal.returns-in-Some-clause-one
@@ -25,8 +25,13 @@ returns-in-Some-migrate_of-clause-one c =
     migrate_alone c.args.words.now c.in-Some-migrate_of.migrate c.in-Some-migrate_of.ensures.asks
     c.in-Some-migrate_of.ensures.one
 
-pub returns-in-None-migrate_of-clause-nothing : goal.returns-in-None-migrate_of-clause-nothing
-returns-in-None-migrate_of-clause-nothing c =
+pub returns-in-Some-demo_of-clause-one : goal.returns-in-Some-demo_of-clause-one
+returns-in-Some-demo_of-clause-one c =
+    demo_alone c.args.words.now c.in-Some-demo_of.demo c.in-Some-demo_of.ensures.asks
+    c.in-Some-demo_of.ensures.one
+
+pub returns-in-None-demo_of-clause-nothing : goal.returns-in-None-demo_of-clause-nothing
+returns-in-None-demo_of-clause-nothing c =
     none_asked c.args.words.now c.in-None.ensures.nothing c.in-None-check_of.ensures.nothing
     c.in-None-compile_of.ensures.nothing c.in-None-replay_of.ensures.nothing
-    c.in-None-migrate_of.ensures.nothing
+    c.in-None-migrate_of.ensures.nothing c.in-None-demo_of.ensures.nothing

@@ -7,8 +7,6 @@ mod moments;
 mod sending;
 mod sharing;
 mod stamped;
-#[cfg(test)]
-mod tests;
 mod worked;
 
 pub use entry::{Entry, Journal, Owed, Pick, Trace, TraceItem};

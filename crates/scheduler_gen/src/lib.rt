@@ -12,6 +12,3 @@ pub use net_core::Pick;
 pub use next::pick;
 pub use order::plan;
 pub use run::{Finished, complete};
-
-#[cfg(test)]
-mod tests;

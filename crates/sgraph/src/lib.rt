@@ -15,6 +15,3 @@ pub use graph::{Graph, VertexList};
 pub use law::laws;
 pub use vertex::Vertex;
 pub use worked::worked_graphs;
-
-#[cfg(test)]
-mod tests;

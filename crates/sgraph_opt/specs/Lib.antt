@@ -3,6 +3,5 @@ pub mod Found
 pub mod Marks
 pub mod Renumbering
 pub mod Representatives
-pub mod SampleGraphs
 pub mod Shrinking
 pub mod Smaller

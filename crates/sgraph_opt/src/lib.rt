@@ -11,6 +11,3 @@ mod sharing;
 pub use dropping::drop_defaults;
 pub use optimising::optimise;
 pub use sharing::share;
-
-#[cfg(test)]
-mod tests;

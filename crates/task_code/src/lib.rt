@@ -5,8 +5,6 @@ mod code;
 mod instr;
 mod layout;
 mod listing;
-#[cfg(test)]
-mod tests;
 mod worked;
 
 pub use code::{Code, CodeList};

@@ -8,6 +8,3 @@ mod running;
 pub use law::laws;
 pub use reactor::TaskReactor;
 pub use running::run;
-
-#[cfg(test)]
-mod tests;

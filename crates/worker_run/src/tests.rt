@@ -1,19 +1,17 @@
-// Two workers over small networks, against journals written by hand. Where two machines react, a
-// gate makes their calls wait for each other.
+// Two workers over small networks, against journals written by hand. The gates at which workers wait
+// for each other stand in the tests of the program.
 ghost use Rattle.std.specs.Prelude.{◌≡◌, IfOk};
 ghost use Rattle.transition_table.specs.SampleLoop.{loop as the_loop};
 ghost use Rattle.transition_table.specs.SampleTwo.{two as the_two};
 ghost use Rattle.transition_table.specs.Transitions.{AreDeterministic};
 
 mod counting;
-mod gates;
 
 use super::*;
 use counting::Counting;
 use determinism::check;
 use domains::Codes;
 use event_buffer::OpenGate;
-use gates::{Inside, Meeting, Outside};
 use journals::{Entry, TraceItem};
 use polis_base::{Bytes, List, NoMemory};
 use std::alloc::Global;
@@ -120,28 +118,6 @@ fire 0 0 1 2 > 0
 gathered 6 adopted 6";
 
 #[test]
-fn reacts_while_another_reacts(rt: HostRuntime) -> Result<(), Fail> {
-    let net = two(rt.alloc())?;
-    let trace = List::from_slice(rt.alloc(), &[GO])?;
-    let gate = Outside(Meeting::new());
-    let gathered = gather(&rt, rt.alloc(), &reactor(&net), &trace, 2, 60_000, &gate)?;
-    assert!(rt; gate.0.was_met());
-    assert_eq!(rt; text_of(rt.alloc(), &gathered)?.as_slice(), BOTH);
-    Ok(())
-}
-
-#[test]
-fn holds_a_cell_while_another_is_held(rt: HostRuntime) -> Result<(), Fail> {
-    let net = two(rt.alloc())?;
-    let trace = List::from_slice(rt.alloc(), &[GO])?;
-    let gate = Inside(Meeting::new());
-    let gathered = gather(&rt, rt.alloc(), &reactor(&net), &trace, 2, 60_000, &gate)?;
-    assert!(rt; gate.0.was_met());
-    assert_eq!(rt; text_of(rt.alloc(), &gathered)?.as_slice(), BOTH);
-    Ok(())
-}
-
-#[test]
 fn reacts_twice_by_the_reactor_that_is_handed_in(rt: HostRuntime) -> Result<(), Fail> {
     let net = two(rt.alloc())?;
     let r = Counting {
@@ -149,8 +125,7 @@ fn reacts_twice_by_the_reactor_that_is_handed_in(rt: HostRuntime) -> Result<(), 
         calls: AtomicU64::new(0),
     };
     let trace = List::from_slice(rt.alloc(), &[GO])?;
-    let gate = Outside(Meeting::new());
-    let gathered = gather(&rt, rt.alloc(), &r, &trace, 2, 60_000, &gate)?;
+    let gathered = gather(&rt, rt.alloc(), &r, &trace, 2, 60_000, &OpenGate)?;
     assert_eq!(rt; r.count(), 2);
     assert_eq!(rt; text_of(rt.alloc(), &gathered)?.as_slice(), BOTH);
     Ok(())

@@ -10,7 +10,5 @@ pub mod join;
 pub mod lamp;
 pub mod looping;
 pub mod pong;
-#[cfg(test)]
-mod tests;
 pub mod two;
 pub mod value;

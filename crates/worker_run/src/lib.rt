@@ -6,8 +6,6 @@ mod gathering;
 mod in_hand;
 mod locked;
 mod logs;
-#[cfg(test)]
-mod tests;
 mod worker;
 
 pub use gathering::{Gathered, gather};

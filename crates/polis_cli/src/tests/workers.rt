@@ -1,8 +1,8 @@
 // Whole calls with several workers, over files in memory.
 use crate::tests::gates::{Inside, Meeting, Outside};
-use crate::tests::listings::TWO_LISTING;
+use crate::tests::listings::{LOOP_LISTING, TWO_LISTING};
 use crate::tests::networks::{BELT, EVEN, LOOP};
-use crate::tests::{Case, PRESS, is_held, make_host, make_words};
+use crate::tests::{Case, PRESS, is_held, make_host, make_words, try_cases};
 use crate::top::polis;
 use event_buffer::{Gate, OpenGate};
 use polis_base::MemoryHost;
@@ -33,6 +33,32 @@ gathered 4 adopted 4
 machine a vertices 5 code 4 tries 1 steps 4
 machine b vertices 5 code 4 tries 1 steps 4
 ";
+
+// A machine that reads what it emits, run by two workers.
+const LOOP_BY_TWO: Case<'static> = Case {
+    words: BY_TWO,
+    net: Some(LOOP),
+    trace: Some("go\n"),
+    shown: "entries 6 complete
+lost 0
+gathered 6 adopted 6
+machine m vertices 12 code 13 tries 3 steps 20
+",
+    outputs: Some(""),
+    journal: Some(
+        "polis journal 2
+@1 dep env m go
+@2 fire m : go ; c=0 -> c=1 ; x
+@3 dep m m x
+@4 fire m : x ; c=1 -> c=2 ; x
+@5 dep m m x
+@6 fire m : x ; c=2 -> c=3 ; -
+end 6 complete
+",
+    ),
+    listing: Some(LOOP_LISTING),
+    ..PRESS
+};
 
 // Two machines of one priority that read one event, run by two workers, and what they leave.
 fn run_even<T: Abort + Threads + Wait + Sync, G: Gate + Sync>(
@@ -74,6 +100,11 @@ fn holds_cells_side_by_side(rt: HostRuntime) -> Result<(), Fail> {
     let _ = run_even(&rt, rt.alloc(), &gate)?;
     assert!(rt; gate.0.was_met());
     Ok(())
+}
+
+#[test]
+fn delivers_what_a_machine_sends_itself(rt: HostRuntime) -> Result<(), Fail> {
+    try_cases(&rt, rt.alloc(), &[LOOP_BY_TWO])
 }
 
 // Runs a network by so many workers, and has the journal judged.

@@ -1,14 +1,12 @@
 -- What the nodes that the store's calls answer mean.
-use Rattle.std.proofs.Common.{◌≡◌, ⊎_elim, ℕ, ◌+◌, ◌<◌, ◌≤◌, Bool, true, false, ◌==◌, eqb, List, [], ◌∷◌, length, slice_index, Option, Some, None, Result, Ok, Err, Vec, OnOk, OnErr, IfOk, IsTrue, sym, ap, ◌∙◌, subst, arith}
-use Rattle.std.specs.BTreeMap.{BTreeMap}
+use Rattle.std.proofs.Common.{◌≡◌, ⊎_elim, ℕ, ◌+◌, ◌<◌, ◌≤◌, Bool, true, false, ◌==◌, eqb, List, [], ◌∷◌, length, slice_index, Option, Some, None, Result, Ok, Err, OnOk, OnErr, IfOk, IsTrue, sym, ap, ◌∙◌, subst, arith}
 use Rattle.std.specs.Int.{bit_at}
-use Rattle.std.specs.declared.alloc.Global.{Global}
 use Rattle.std.proofs.lemmas.Bool.{cases_Bool, cases_lt, cond-true, cond-false}
 use Rattle.domains.specs.Tables.{fits}
 use Rattle.decision_diagram.specs.declared.node.Node.{Node}
 use Rattle.decision_diagram.specs.declared.node.Shape.TheVariants.{Inner}
 use Rattle.decision_diagram.specs.Constants.{constant_node}
-use Rattle.decision_diagram.specs.Found.{found}
+use Rattle.decision_diagram.specs.Found.{Numbered, found}
 use Rattle.domains.specs.Orders.{place}
 use Rattle.decision_diagram.specs.Stores.{IsIndexed}
 use Rattle.decision_diagram.specs.Diagrams.{Diagrams, inner_at, shape_in, shape_of, level_in, level_of, IsNode, value_of, AreReduced, Keeps, IsNew, Means, choice}
@@ -100,7 +98,7 @@ level_new s node n is = let e =
 
 -- a node that the index hasn't, and whose children differ, may be made
 pub new_node : (s : Diagrams) → AreReduced s
-    → (index : BTreeMap (Vec ℕ Global) ℕ) (var : ℕ) (kids key : List ℕ) → IsIndexed s.nodes index
+    → (index : Numbered) (var : ℕ) (kids key : List ℕ) → IsIndexed s.nodes index
     → key ≡ var ∷ kids → found index key ≡ None → var < length s.sizes
     → length kids ≡ slice_index s.sizes var
     → ((code : ℕ) → code < length kids → IsNode s (slice_index kids code))

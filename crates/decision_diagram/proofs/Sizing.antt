@@ -1,6 +1,4 @@
 -- The laws of diagrams, put together.
-use Rattle.std.proofs.Common.{◌≡◌, ℕ, List}
-use Rattle.decision_diagram.specs.Diagrams.{Diagrams}
 use Rattle.decision_diagram.specs.Laws.{CountIsSize, SomewhereTrue, ReachedLed, OneChild}
 use Rattle.decision_diagram.proofs.Counting.{count_is_size as counted, lead_codes}
 use Rattle.decision_diagram.proofs.Prefixes.{true_somewhere, some_kid, one_kid}

@@ -1,11 +1,16 @@
 -- Numbers under keys that are lists of numbers.
 use Rattle.std.specs.Prelude.{ℕ, List, Option}
-use Rattle.std.specs.BTreeMap.{BTreeMap, get_by}
-use Rattle.std.specs.Cmp.Lexicographic.{slice_cmp}
-use Rattle.std.specs.Ordering.{nat_cmp}
-use Rattle.std.specs.declared.vec.Vec.{Vec}
+use Rattle.std.specs.HashMap.{HashMap, get_by}
+use Rattle.std.specs.Str.{bytes_eq}
 use Rattle.std.specs.declared.alloc.Global.{Global}
+use Rattle.std.specs.declared.hash.BuildHasherDefault.{BuildHasherDefault}
+use Rattle.std.specs.declared.hash.FoldHasher.{FoldHasher}
+use Rattle.std.specs.declared.vec.Vec.{Vec}
+
+-- an `Index`: numbers under keys
+abbrev pub Numbered : Type 0
+Numbered = HashMap (Vec ℕ Global) ℕ (BuildHasherDefault FoldHasher)
 
 -- the number under a key
-abbrev pub found : BTreeMap (Vec ℕ Global) ℕ → List ℕ → Option ℕ
-found index key = get_by (λ k. slice_cmp nat_cmp key k.items) index
+abbrev pub found : Numbered → List ℕ → Option ℕ
+found index key = get_by (λ k. bytes_eq key k.items) index

@@ -10,3 +10,4 @@ pub mod Sets
 pub mod Sizes
 pub mod Stores
 pub mod Truths
+pub mod Worked

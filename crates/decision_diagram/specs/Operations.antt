@@ -1,12 +1,10 @@
 -- What is done with two values, and with two nodes.
-use Rattle.std.specs.Prelude.{◌≡◌, ◌≤◌, ℕ, Bool, ◌&&◌, ◌||◌, List, [], ◌∷◌, Some, Vec, min, IsTrue}
-use Rattle.std.specs.BTreeMap.{BTreeMap}
-use Rattle.std.specs.declared.alloc.Global.{Global}
+use Rattle.std.specs.Prelude.{◌≡◌, ◌≤◌, ℕ, Bool, ◌&&◌, ◌||◌, List, [], ◌∷◌, Some, min, IsTrue}
 use Rattle.domains.specs.Tables.{fits}
 use Rattle.decision_diagram.specs.declared.operation.Operation.{Operation}
 use Rattle.decision_diagram.specs.declared.operation.Operation.TheVariants.{And, Or}
 use Rattle.decision_diagram.specs.Diagrams.{Diagrams, IsNode, value_of, level_of}
-use Rattle.decision_diagram.specs.Found.{found}
+use Rattle.decision_diagram.specs.Found.{Numbered, found}
 
 abbrev pub combine : Operation → Bool → Bool → Bool
 combine And x y = x && y
@@ -22,5 +20,5 @@ pub record IsResult (s : Diagrams) (op : Operation) (a b n : ℕ) : Type 0 where
   pub level : min (level_of s a) (level_of s b) ≤ level_of s n
 
 -- what the index has for two nodes is what the operation makes of them
-abbrev pub AreResults : Diagrams → Operation → BTreeMap (Vec ℕ Global) ℕ → Type 0
+abbrev pub AreResults : Diagrams → Operation → Numbered → Type 0
 AreResults s op index = (a b n : ℕ) → found index (a ∷ b ∷ []) ≡ Some n → IsResult s op a b n

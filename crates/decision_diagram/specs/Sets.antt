@@ -1,5 +1,5 @@
 -- Levels by the set of the variables that are fixed.
-use Rattle.std.specs.Prelude.{◌≡◌, ℕ, ◌+◌, Bool, cond, not, ◌==◌, List, [], ◌∷◌, ◌++◌, map, length, filter, slice_index, slice_set}
+use Rattle.std.specs.Prelude.{ℕ, ◌+◌, Bool, cond, not, ◌==◌, List, [], ◌∷◌, ◌++◌, map, length, filter, slice_index, slice_set}
 use Rattle.std.specs.List.{list_any}
 use Rattle.polis_base.specs.Lists.{upto}
 use Rattle.domains.specs.AllCodes.{all_codes}

@@ -47,8 +47,9 @@ impl Store {
             return Ok(node);
         }
         let var = self.first_variable(a, b);
-        let mut kids = Vec::new(self.global());
-        for code in 0..self.size(var) {
+        let size = self.size(var);
+        let mut kids = Vec::with_capacity(self.global(), usize::from(size))?;
+        for code in 0..size {
             let left = self.cofactor(a, var, code);
             let right = self.cofactor(b, var, code);
             kids.push(self.apply(op, left, right)?)?;

@@ -5,10 +5,10 @@ ghost use Rattle.decision_diagram.specs.Found.{found};
 
 use polis_base::NoMemory;
 use std::alloc::Global;
-use std::collections::BTreeMap;
+use std::collections::HashMap;
 
 /// Numbers under keys, a key being a list of numbers.
-pub(crate) type Index = BTreeMap<Vec<u64>, u64>;
+pub(crate) type Index = HashMap<Vec<u64>, u64>;
 
 // The number under a key.
 pub(crate) fn find(index: &Index, key: &[u64]) -> Option<u64>

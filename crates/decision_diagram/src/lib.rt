@@ -10,10 +10,7 @@ mod operation;
 mod order;
 mod store;
 
-pub use law::laws;
+pub use law::{laws, worked_sizes};
 pub use node::{NodeId, Shape};
 pub use order::Order;
 pub use store::{Root, Store};
-
-#[cfg(test)]
-mod tests;

@@ -4,6 +4,7 @@ ghost use Rattle.std.specs.Int.{bit_at};
 ghost use Rattle.domains.specs.Tables.{fits};
 ghost use Rattle.decision_diagram.specs.Constants.{constant_node};
 ghost use Rattle.decision_diagram.specs.Operations.{IsResult, AreResults};
+ghost use Rattle.decision_diagram.specs.Found.{found};
 ghost use Rattle.domains.specs.Orders.{place};
 ghost use Rattle.decision_diagram.specs.Diagrams.{IsNode, inner_at, value_of, shape_of, kids_of, level_of, choice, Keeps, Means, IsNew, AreReduced, IsCanonical};
 
@@ -14,7 +15,7 @@ use crate::order::Order;
 use domains::{Codes, VarTable};
 use polis_base::{Duplicate, List, NoMemory};
 use std::alloc::Global;
-use std::collections::BTreeMap;
+use std::collections::HashMap;
 use std::marker::Model;
 
 /// Diagrams over the variables of one table, read in one order. Equal functions are one node.
@@ -72,7 +73,7 @@ fn literal_kids(alloc: Global, size: u8, codes: u64) -> Result<Vec<NodeId>, NoMe
     ensures kids { IfOk result (λ kids. (code : ℕ) → code < size
         → slice_index kids.items code ≡ constant_node (bit_at codes code == 1)) }
 {
-    let mut kids = Vec::new(alloc);
+    let mut kids = Vec::with_capacity(alloc, usize::from(size))?;
     for code in 0..size {
         kids.push(NodeId::constant((codes >> code) % 2 == 1))?;
     }
@@ -83,12 +84,25 @@ fn literal_kids(alloc: Global, size: u8, codes: u64) -> Result<Vec<NodeId>, NoMe
 fn key_of(alloc: Global, var: u32, kids: &[NodeId]) -> Result<Vec<u64>, NoMemory>
     ensures { IfOk result (λ key. key.items ≡ var ∷ kids.now) }
 {
-    let mut key = Vec::new(alloc);
+    let mut key = Vec::with_capacity(alloc, kids.len() + 1)?;
     key.push(u64::from(var))?;
     for kid in kids {
         key.push(kid.number())?;
     }
     Ok(key)
+}
+
+// The number under a variable and its children. It takes no memory.
+fn find_node(index: &Index, var: u32, kids: &[NodeId]) -> Option<u64>
+    requires { length kids.now ≤ 33 }
+    ensures { result ≡ found index.now (var ∷ kids.now) }
+{
+    let mut key = [0u64; 34];
+    key[0] = u64::from(var);
+    for (i, kid) in kids.iter().enumerate() {
+        key[i + 1] = kid.number();
+    }
+    find(index, &key[..kids.len() + 1])
 }
 
 // Two nodes in the order of their numbers.
@@ -100,17 +114,6 @@ fn pair(a: NodeId, b: NodeId) -> [u64; 2]
     } else {
         [b.number(), a.number()]
     }
-}
-
-// The children as a list.
-fn list_of(alloc: Global, kids: &[NodeId]) -> Result<List<NodeId>, NoMemory>
-    ensures { IfOk result (λ list. list ≡ kids.now) }
-{
-    let mut list = List::new(alloc);
-    for kid in kids {
-        list.push(*kid)?;
-    }
-    Ok(list)
 }
 
 impl Store {
@@ -128,16 +131,15 @@ impl Store {
             vars: vars.copy()?,
             order: order.copy()?,
             nodes: Vec::new(alloc),
-            index: BTreeMap::new(alloc),
-            conjunctions: BTreeMap::new(alloc),
-            disjunctions: BTreeMap::new(alloc),
+            index: HashMap::new(alloc),
+            conjunctions: HashMap::new(alloc),
+            disjunctions: HashMap::new(alloc),
         })
     }
 
     // Makes an inner node that isn't there yet.
-    fn push_node(&mut self, var: u32, kids: &[NodeId], key: Vec<u64>) -> Result<NodeId, NoMemory>
-        requires key { key.items ≡ var ∷ kids.now }
-        requires new { IsNew self.old (record { var = var; kids = kids.now }) }
+    fn push_node(&mut self, var: u32, kids: &[NodeId]) -> Result<NodeId, NoMemory>
+        requires { IsNew self.old (record { var = var; kids = kids.now }) }
         ensures ok { OnOk result (self.new
             ≡ record self.old {
               nodes = self.old.nodes ++ record { var = var; kids = kids.now } ∷ [];
@@ -146,7 +148,8 @@ impl Store {
         ensures err { OnErr result (self.new ≡ self.old) }
     {
         let number = self.nodes.len() as u64 + 2;
-        let kids = list_of(self.alloc, kids)?;
+        let key = key_of(self.alloc, var, kids)?;
+        let kids = List::from_slice(self.alloc, kids)?;
         self.nodes.push(Node { var, kids })?;
         match enter(&mut self.index, key, number) {
             Ok(()) => Ok(NodeId::new(number)),
@@ -174,10 +177,9 @@ impl Store {
         if let Some(kid) = only_kid(kids) {
             return Ok(kid);
         }
-        let key = key_of(self.alloc, var, kids)?;
-        match find(&self.index, &key) {
+        match find_node(&self.index, var, kids) {
             Some(number) => Ok(NodeId::new(number)),
-            None => self.push_node(var, kids, key),
+            None => self.push_node(var, kids),
         }
     }
 
@@ -290,14 +292,6 @@ impl Store {
         self.alloc
     }
 
-    // How many variables there are.
-    #[cfg(test)]
-    pub(crate) fn var_count(&self) -> u64
-        ensures { result ≡ length self.now.sizes }
-    {
-        self.vars.len()
-    }
-
     // The size of a variable.
     pub(crate) fn size(&self, var: u32) -> u8
         requires { var < length self.now.sizes }
@@ -374,8 +368,7 @@ impl Store {
         ensures same { self.new ≡ self.old }
         ensures result { IsResult self.new op a b n }
     {
-        let mut key = Vec::new(self.alloc);
-        key.extend_from_slice(&pair(a, b))?;
+        let key = Vec::from_slice(self.alloc, &pair(a, b))?;
         match op {
             Operation::And => enter(&mut self.conjunctions, key, n.number()),
             Operation::Or => enter(&mut self.disjunctions, key, n.number()),

@@ -83,7 +83,7 @@ remember-requires t c =
     let parts = subst
     (λ (kids : List ℕ). AreParts old s op c.args.a c.args.b var kids c.loop-code.code)
     (sym c.deref.ensures.value) c.loop-code.invariant.parts in
-    let size : c.loop-code.code ≡ slice_index old.sizes var = let e = c.size-code-end.ensures in
+    let size : c.loop-code.code ≡ slice_index old.sizes var = let e = c.size-size.ensures in
     let f = c.loop-code-test.false in let g = c.loop-code.auto.code-end in omega arith in
     let means = parts_mean_one old s new op c.args.a c.args.b var c.deref.result.now
     c.loop-code.code n parts size c.first_variable-var.ensures.var

@@ -1,8 +1,8 @@
-use Rattle.std.proofs.Common.{◌≡◌, ◌∙◌, ℕ, Some, None, sym, subst}
+use Rattle.std.proofs.Common.{◌∙◌, ◌∷◌, ℕ, sym, subst, refl, arith}
 use Rattle.decision_diagram.specs.declared.node.Node.{Node}
-use Rattle.decision_diagram.specs.Found.{found}
 use Rattle.decision_diagram.specs.Diagrams.{Diagrams, AreReduced, IsNew, Means, choice}
 use Rattle.decision_diagram.specs.Stores.{IsIndexed}
+use Rattle.decision_diagram.proofs.Fitting.{size_few}
 use Rattle.decision_diagram.proofs.Growth.{indexed_node}
 use Rattle.decision_diagram.proofs.Meanings.{means_only, means_found, new_node, pushed_keeps, pushed_means, pushed_level}
 use Rattle.decision_diagram.proofs.store.Store.node.Goals as goal
@@ -12,29 +12,34 @@ returns-in-Some-clause-value c =
     means_only c.args.self.now c.args.var c.args.kids.now c.in-Some.kid c.requires.var
     c.requires.kids c.requires.nodes c.in-Some.ensures.some c.in-Some.ensures.there
 
-pub push_node-requires-clause-new : goal.push_node-requires-clause-new
-push_node-requires-clause-new c =
+-- it has one child for each code of the variable, at most 33
+pub find_node-requires : goal.find_node-requires
+find_node-requires c =
+    let ok = subst (λ (d : Diagrams). AreReduced d) c.self.view_is c.self.invariant.reduced in
+    let few = size_few c.args.self.now.sizes ok.sizes c.args.var c.requires.var in
+    let kids = c.requires.kids in
+    omega arith
+
+pub push_node-requires : goal.push_node-requires
+push_node-requires c =
     let ok = subst (λ (d : Diagrams). AreReduced d) c.self.view_is c.self.invariant.reduced in
     let indexed = subst (λ (d : Diagrams). IsIndexed d.nodes c.self.inside.index) c.self.view_is
     c.self.invariant.indexed in
-    let none : found c.self.inside.index c.deref.result.now ≡ None =
-    sym c.find.ensures ∙ c.in-None.is in
-    new_node c.args.self.now ok c.self.inside.index c.args.var c.args.kids.now c.deref.result.now
-    indexed (c.deref.ensures.value ∙ c.in_ok-key.ensures) none c.requires.var c.requires.kids
-    c.requires.nodes c.requires.later c.in_default.ensures.none
+    new_node c.args.self.now ok c.self.inside.index c.args.var c.args.kids.now
+    (c.args.var ∷ c.args.kids.now) indexed refl (sym c.find_node.ensures ∙ c.in-None.is)
+    c.requires.var c.requires.kids c.requires.nodes c.requires.later c.in_default.ensures.none
 
-pub returns-in-Some-find-clause-value : goal.returns-in-Some-find-clause-value
-returns-in-Some-find-clause-value c =
+pub returns-in-Some-find_node-clause-value : goal.returns-in-Some-find_node-clause-value
+returns-in-Some-find_node-clause-value c =
     let s = c.args.self.now in
     let ok = subst (λ (d : Diagrams). AreReduced d) c.self.view_is c.self.invariant.reduced in
     let indexed = subst (λ (d : Diagrams). IsIndexed d.nodes c.self.inside.index) c.self.view_is
     c.self.invariant.indexed in
-    let some : found c.self.inside.index c.deref.result.now ≡ Some c.in-Some-find.number =
-    sym c.find.ensures ∙ c.in-Some-find.is in
-    let w = indexed_node s c.self.inside.index c.args.var c.args.kids.now c.deref.result.now
-    c.in-Some-find.number indexed (c.deref.ensures.value ∙ c.in_ok-key.ensures) some in
+    let w = indexed_node s c.self.inside.index c.args.var c.args.kids.now
+    (c.args.var ∷ c.args.kids.now) c.in-Some-find_node.number indexed refl
+    (sym c.find_node.ensures ∙ c.in-Some-find_node.is) in
     subst (λ (n : ℕ). Means s n (choice s c.args.var c.args.kids.now)) (sym c.new.ensures)
-    (means_found s ok c.args.var c.args.kids.now c.in-Some-find.number w)
+    (means_found s ok c.args.var c.args.kids.now c.in-Some-find_node.number w)
 
 -- the node that was put may be made
 is_new : (c : goal.After-push_node)
@@ -43,11 +48,9 @@ is_new c =
     let ok = subst (λ (d : Diagrams). AreReduced d) c.self.view_is c.self.invariant.reduced in
     let indexed = subst (λ (d : Diagrams). IsIndexed d.nodes c.self.inside.index) c.self.view_is
     c.self.invariant.indexed in
-    let none : found c.self.inside.index c.deref.result.now ≡ None =
-    sym c.find.ensures ∙ c.in-None.is in
-    new_node c.args.self.now ok c.self.inside.index c.args.var c.args.kids.now c.deref.result.now
-    indexed (c.deref.ensures.value ∙ c.in_ok-key.ensures) none c.requires.var c.requires.kids
-    c.requires.nodes c.requires.later c.in_default.ensures.none
+    new_node c.args.self.now ok c.self.inside.index c.args.var c.args.kids.now
+    (c.args.var ∷ c.args.kids.now) indexed refl (sym c.find_node.ensures ∙ c.in-None.is)
+    c.requires.var c.requires.kids c.requires.nodes c.requires.later c.in_default.ensures.none
 
 pub returns-in-None-clause-kept : goal.returns-in-None-clause-kept
 returns-in-None-clause-kept c =

@@ -1,6 +1,4 @@
-use Rattle.std.proofs.Common.{◌≡◌, ◌∙◌, ◌∷◌, ◌++◌, [], ℕ, List, Vec, sym, ap, subst, refl, arith, ◌+◌}
-use Rattle.std.specs.BTreeMap.{BTreeMap}
-use Rattle.std.specs.declared.alloc.Global.{Global}
+use Rattle.std.proofs.Common.{◌≡◌, ◌∙◌, ◌∷◌, ◌++◌, [], ℕ, List, sym, ap, subst, refl, arith, ◌+◌}
 use Rattle.decision_diagram.specs.declared.operation.Operation.{Operation}
 use Rattle.decision_diagram.specs.declared.operation.Operation.TheVariants.{And, Or}
 use Rattle.decision_diagram.specs.Operations.{AreResults}
@@ -9,6 +7,7 @@ use Rattle.decision_diagram.specs.Diagrams.{Diagrams, IsNew, Keeps}
 use Rattle.decision_diagram.specs.Stores.{diagrams}
 use Rattle.decision_diagram.proofs.Growth.{keeps_node, store_more, store_same, pop_push}
 use Rattle.decision_diagram.proofs.Operating.{results_keep}
+use Rattle.decision_diagram.specs.Found.{Numbered}
 use Rattle.decision_diagram.proofs.store.Store.push_node.Goals as goal
 
 pub invariant_of-self-in-Ok : goal.invariant_of-self-in-Ok
@@ -16,14 +15,14 @@ invariant_of-self-in-Ok c =
     let s = diagrams c.self.inside in
     let node : Node = record { var = c.args.var; kids = c.args.kids.now } in
     let new : IsNew s node =
-    subst (λ (d : Diagrams). IsNew d node) (sym c.self.view_is) c.requires.new in
+    subst (λ (d : Diagrams). IsNew d node) (sym c.self.view_is) c.requires in
     let items : c.push.new.self.items ≡ s.nodes ++ node ∷ [] =
     c.in_ok-push.ensures.items
     ∙ ap (λ (kids : List ℕ). let made : Node = record { var = c.args.var; kids = kids } in
     s.nodes ++ made ∷ []) c.in_ok-kids.ensures in
     let both = store_more s node c.push.new.self.items c.self.inside.index c.enter.new.index
-    c.args.key.items (c.len.result + 2) c.self.invariant.reduced c.self.invariant.indexed new
-    items c.requires.key (omega arith) c.in-Ok.ensures.ok in
+    c.in_ok-key.key.items (c.len.result + 2) c.self.invariant.reduced c.self.invariant.indexed new
+    items c.in_ok-key.ensures (omega arith) c.in-Ok.ensures.ok in
     let kept : Keeps s
     (record { sizes = s.sizes; order = s.order; nodes = c.push.new.self.items }) =
     subst (λ (nodes : List Node). Keeps s
@@ -39,7 +38,7 @@ invariant_of-self-in-Ok c =
     }
 
 -- a store whose nodes are as before
-same_store : (s : Diagrams) (nodes : List Node) (op : Operation) (index : BTreeMap (Vec ℕ Global) ℕ)
+same_store : (s : Diagrams) (nodes : List Node) (op : Operation) (index : Numbered)
     → nodes ≡ s.nodes → AreResults s op index
     → AreResults (record { sizes = s.sizes; order = s.order; nodes = nodes }) op index
 same_store s nodes op index is results =

@@ -1,24 +1,21 @@
-use Rattle.std.proofs.Common.{◌≡◌, ◌⊎◌, ◌∙◌, ◌∷◌, ◌++◌, [], ⊎_elim, inl, inr, ℕ, List, Some, Vec, Result, OnOk, OnErr, cond, sym, ap, subst}
-use Rattle.std.specs.BTreeMap.{BTreeMap}
+use Rattle.std.proofs.Common.{◌≡◌, ◌⊎◌, ◌∙◌, ◌∷◌, [], ⊎_elim, inl, inr, ℕ, List, Some, Result, OnOk, OnErr, cond, sym, subst}
 use Rattle.std.specs.Str.{bytes_eq}
-use Rattle.std.specs.declared.alloc.Global.{Global}
 use Rattle.decision_diagram.specs.declared.operation.Operation.{Operation}
 use Rattle.decision_diagram.specs.declared.operation.Operation.TheVariants.{And, Or}
 use Rattle.decision_diagram.specs.Diagrams.{Diagrams}
-use Rattle.decision_diagram.specs.Found.{found}
+use Rattle.decision_diagram.specs.Found.{Numbered, found}
 use Rattle.decision_diagram.specs.Operations.{IsResult, AreResults}
 use Rattle.decision_diagram.specs.Stores.{diagrams}
 use Rattle.decision_diagram.proofs.Operating.{results_after}
 use Rattle.decision_diagram.proofs.store.Store.remember.Goals as goal
 
--- the key after an empty one
-key_pair : (prefix key pair : List ℕ) (a b : ℕ) → prefix ≡ [] → key ≡ prefix ++ pair
+-- a key that is the same as a pair
+key_pair : (key pair : List ℕ) (a b : ℕ) → key ≡ pair
     → (pair ≡ a ∷ b ∷ []) ⊎ (pair ≡ b ∷ a ∷ []) → (key ≡ a ∷ b ∷ []) ⊎ (key ≡ b ∷ a ∷ [])
-key_pair prefix key pair a b none is either =
-    let e : key ≡ pair = is ∙ ap (λ (xs : List ℕ). xs ++ pair) none in
-    ⊎_elim (λ forth. inl (e ∙ forth)) (λ back. inr (e ∙ back)) either
+key_pair key pair a b is either =
+    ⊎_elim (λ forth. inl (is ∙ forth)) (λ back. inr (is ∙ back)) either
 
-after : {E : Type 0} (s now : Diagrams) (op other : Operation) (old new : BTreeMap (Vec ℕ Global) ℕ)
+after : {E : Type 0} (s now : Diagrams) (op other : Operation) (old new : Numbered)
     (key : List ℕ) (a b n number : ℕ) (r : Result (Unit {0}) E) → s ≡ now → op ≡ other
     → AreResults s other old → IsResult now op a b n → number ≡ n
     → (key ≡ a ∷ b ∷ []) ⊎ (key ≡ b ∷ a ∷ [])
@@ -36,11 +33,11 @@ invariant_of-self c = record {
   reduced = c.self.invariant.reduced;
   indexed = c.self.invariant.indexed;
   conjunctions = after (diagrams c.self.inside) c.args.self.now c.args.op And
-      c.self.inside.conjunctions c.enter.new.index c.extend_from_slice.new.self.items c.args.a
+      c.self.inside.conjunctions c.enter.new.index c.in_ok-key.key.items c.args.a
       c.args.b c.args.n c.number.result c.enter.result c.self.view_is c.in-And.is
       c.self.invariant.conjunctions c.requires c.number.ensures
-      (key_pair c.new-key.result.items c.extend_from_slice.new.self.items c.pair.result c.args.a
-      c.args.b c.new-key.ensures.items c.in_ok-extend_from_slice.ensures.items c.pair.ensures)
+      (key_pair c.in_ok-key.key.items c.pair.result c.args.a c.args.b c.in_ok-key.ensures.items
+      c.pair.ensures)
       c.enter.ensures.ok c.enter.ensures.err;
   disjunctions = c.self.invariant.disjunctions;
 }
@@ -51,10 +48,10 @@ invariant_of-self-in-Or c = record {
   indexed = c.self.invariant.indexed;
   conjunctions = c.self.invariant.conjunctions;
   disjunctions = after (diagrams c.self.inside) c.args.self.now c.args.op Or
-      c.self.inside.disjunctions c.enter-in-Or.new.index c.extend_from_slice.new.self.items c.args.a
+      c.self.inside.disjunctions c.enter-in-Or.new.index c.in_ok-key.key.items c.args.a
       c.args.b c.args.n c.number-in-Or.result c.enter-in-Or.result c.self.view_is c.in-Or.is
       c.self.invariant.disjunctions c.requires c.number-in-Or.ensures
-      (key_pair c.new-key.result.items c.extend_from_slice.new.self.items c.pair.result c.args.a
-      c.args.b c.new-key.ensures.items c.in_ok-extend_from_slice.ensures.items c.pair.ensures)
+      (key_pair c.in_ok-key.key.items c.pair.result c.args.a c.args.b c.in_ok-key.ensures.items
+      c.pair.ensures)
       c.enter-in-Or.ensures.ok c.enter-in-Or.ensures.err;
 }

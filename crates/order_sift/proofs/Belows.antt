@@ -1,8 +1,6 @@
 -- Small facts on lists and products.
-use Rattle.std.proofs.Common.{◌≡◌, ◌∙◌, ℕ, zero, suc, ◌+◌, ◌*◌, ◌<◌, ◌≤◌, Bool, true, false, ◌||◌, ◌&&◌, eqb, nat_lt, nat_le, List, [], ◌∷◌, ◌++◌, length, drop, slice_index, refl, ap, arith}
+use Rattle.std.proofs.Common.{◌≡◌, ℕ, zero, suc, ◌*◌, ◌<◌, ◌≤◌, Bool, true, false, ◌||◌, ◌&&◌, eqb, nat_lt, nat_le, List, [], ◌∷◌, ◌++◌, length, drop, slice_index, refl, arith}
 use Rattle.std.specs.List.{list_all}
-use Rattle.std.proofs.Math.Nat.{mul-le-mul_right}
-use Rattle.std.proofs.Math.Seq.{drop-cons}
 use Rattle.std.specs.Ordering.{ord_max, nat_cmp}
 use Rattle.std.proofs.lemmas.Bool.Decides.{nat_tests}
 use Rattle.std.proofs.lemmas.Bool.{and_parts, and_from, leb-true, lt-ltb, eq-eqb}
@@ -54,16 +52,7 @@ max_over a b = (grind (arith, nat_tests), grind (arith, nat_tests))
 pub max_within : (a b k : ℕ) → a ≤ k → b ≤ k → ord_max nat_cmp a b ≤ k
 max_within a b k one other = grind (arith, nat_tests)
 
--- ---- the lists of codes from a variable on
-pub product_here : (vars : List ℕ) (i size : ℕ) → i < length vars → slice_index vars i ≡ size
-    → product (drop i vars) ≡ size * product (drop (i + 1) vars)
-product_here vars i size low is =
-    let e : suc i ≡ i + 1 = omega arith in
-    ap product (drop-cons vars i 0 low)
-    ∙ ap (λ (k : ℕ). slice_index vars i * product (drop k vars)) e
-    ∙ ap (λ (n : ℕ). n * product (drop (i + 1) vars)) is
-
-size_some : (sizes : List ℕ) (k : ℕ) → are_sizes sizes ≡ true → k < length sizes
+pub size_some : (sizes : List ℕ) (k : ℕ) → are_sizes sizes ≡ true → k < length sizes
     → 1 ≤ slice_index sizes k
 size_some [] k h low = absurd (omega arith)
 size_some (size ∷ sizes) zero h low =
@@ -73,14 +62,6 @@ size_some (size ∷ sizes) zero h low =
 size_some (size ∷ sizes) (suc k) h low =
     size_some sizes k (and_parts (nat_le 1 size && nat_le size 33) (are_sizes sizes) h).1
     (omega arith)
-
-pub product_later : (vars : List ℕ) (i : ℕ) → are_sizes vars ≡ true → i < length vars
-    → product (drop (i + 1) vars) ≤ product (drop i vars)
-product_later vars i sizes low =
-    let some = size_some vars i sizes low in
-    let e = product_here vars i (slice_index vars i) low refl in
-    let h = mul-le-mul_right {m = 1} {n = slice_index vars i} (product (drop (i + 1) vars)) some in
-    omega (arith, e, h)
 
 -- sizes after each other are sizes
 pub sizes_both : (one other : List ℕ) → are_sizes one ≡ true → are_sizes other ≡ true

@@ -72,15 +72,19 @@ module _ (m : Machine) (o : List ℕ) (laws : BelowOrders) (sure : IsDeterminist
       at_stands o (length o) (place o w) w there.0 there.0 there.1
 
   pub chain_start : Below → (zeros : List ℕ) (count : ℕ) (classes : List (List ℕ)) (backs : List ℕ)
-      → zeros ≡ replicate count 0 → count ≡ product m.vars → product m.vars ≤ 1024
+      → zeros ≡ replicate count 0 → count ≡ product m.vars
       → classes ≡ zeros ∷ [] → backs ≡ 0 ∷ [] → AreChain m o 0 classes backs
-  chain_start below zeros count classes backs is count_is few classes_is backs_is =
+  chain_start below zeros count classes backs is count_is classes_is backs_is =
       let none : length o - 0 ≡ length o = omega arith in
       let same : (i : ℕ) → slice_index zeros i ≡ 0 =
       λ i. ap (λ (xs : List ℕ). slice_index xs i) is ∙ all_zeros count i in
       let first : AreClasses m (stands (take (length o) o)) zeros = record {
         long = ap (λ (xs : List ℕ). length xs) is ∙ long_zeros count ∙ count_is;
-        below = λ i low. let e = same i in omega arith;
+        below = λ i low.
+            let e = same i in
+            let long : length zeros ≡ product m.vars = ap (λ (xs : List ℕ). length xs) is
+            ∙ long_zeros count ∙ count_is in
+            omega arith;
         same = λ i j li lj. (
           λ h. all_fixed m below (stands (take (length o) o)) (snapshot_at m i) (snapshot_at m j)
               (snapshot_fits m below i li) (snapshot_fits m below j lj) stands_all,

@@ -14,3 +14,4 @@ mod Ranging
 mod Settling
 mod Stepping
 mod Sweeping
+mod Keying

@@ -142,7 +142,7 @@ module _ (m : Machine) (below : Below) where
       (below.results_fit m (snapshot_at m i) hs)
 
   pub code_low : (y i : ℕ) → are_sizes m.results ≡ true → y < length m.results → i < product m.vars
-      → result_code m y (snapshot_at m i) < 1024
+      → result_code m y (snapshot_at m i) < 33
   code_low y i sized ly li =
       let low = fits_at m.results (result_codes m (snapshot_at m i)) y
       (below.results_fit m (snapshot_at m i) (snapshot_fits m below i li)) ly in

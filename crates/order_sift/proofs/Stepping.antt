@@ -102,7 +102,7 @@ neighbours m below i v code li lv lc =
 pub result_freed : (m : Machine) (below : Below) (y : ℕ) (classes codes made : List ℕ)
     → y < length m.results
     → ((i : ℕ) → i < product m.vars → slice_index codes i ≡ result_code m y (snapshot_at m i))
-    → length made ≡ product m.vars → AreBelow made
+    → length made ≡ product m.vars → AreBelow (product m.vars) made
     → ((i j : ℕ) → i < product m.vars → j < product m.vars
     → (slice_index made i ≡ slice_index made j
     → (slice_index classes i ≡ slice_index classes j) × (slice_index codes i ≡ slice_index codes j))
@@ -138,7 +138,8 @@ result_freed m below y classes codes made ly code long small same fixed next are
 pub variable_freed : (m : Machine) (below : Below) (v : ℕ) (classes codes made : List ℕ)
     (stride : ℕ) → v < length m.vars
     → ((i : ℕ) → i < product m.vars → slice_index codes i ≡ slice_index (snapshot_at m i) v)
-    → stride ≡ product (drop (v + 1) m.vars) → length made ≡ product m.vars → AreBelow made
+    → stride ≡ product (drop (v + 1) m.vars) → length made ≡ product m.vars
+    → AreBelow (product m.vars) made
     → ((i j : ℕ) → i < product m.vars → j < product m.vars
     → (slice_index made i ≡ slice_index made j → (c : ℕ) → c < slice_index m.vars v
     → slice_index classes (i + c * stride - slice_index codes i * stride)

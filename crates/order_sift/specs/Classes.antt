@@ -26,7 +26,7 @@ left_at m fixed i = arising (char m) (sizes_of m) fixed (point_at m i)
 -- two snapshots have the same number exactly where they leave the same function
 pub record AreClasses (m : Machine) (fixed : ℕ → Bool) (classes : List ℕ) : Type 0 where
   pub long : length classes ≡ product m.vars
-  pub below : (i : ℕ) → i < length classes → slice_index classes i < 1024
+  pub below : (i : ℕ) → i < length classes → slice_index classes i < product m.vars
   pub same : (i j : ℕ) → i < product m.vars → j < product m.vars
       → (slice_index classes i ≡ slice_index classes j) ↔ (left_at m fixed i ≡ left_at m fixed j)
 

@@ -1,13 +1,18 @@
--- Pairs of numbers below 1,024, and the first places that have them.
-use Rattle.std.specs.Prelude.{◌≡◌, ℕ, ◌+◌, ◌*◌, ◌<◌, List, length, slice_index}
+-- Pairs of numbers at places, and the first places that have them. Of each pair the one number is
+-- below the number of places, and the other one below that or the code of a result.
+use Rattle.std.specs.Prelude.{◌≡◌, ℕ, ◌+◌, ◌*◌, ◌<◌, ◌≤◌, List, length, slice_index}
+
+-- each number is below this one
+abbrev pub AreBelow : ℕ → List ℕ → Type 0
+AreBelow n numbers = (i : ℕ) → i < length numbers → slice_index numbers i < n
 
 -- the pair of a place, as one number
 abbrev pub key : List ℕ → List ℕ → ℕ → ℕ
-key one other p = slice_index other p * 1024 + slice_index one p
+key one other p = slice_index other p * length one + slice_index one p
 
--- each number is below 1,024
-abbrev pub AreBelow : List ℕ → Type 0
-AreBelow numbers = (i : ℕ) → i < length numbers → slice_index numbers i < 1024
+-- the pairs of so many places have room
+abbrev pub HasRoom : ℕ → List ℕ → Type 0
+HasRoom places seen = places * (places + 33) ≤ length seen
 
 -- under the pair of each of the first n places stands one of them that has it
 abbrev pub Finds : List ℕ → (one other : List ℕ) → ℕ → Type 0

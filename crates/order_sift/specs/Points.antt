@@ -24,7 +24,7 @@ pub record AreVariables (m : Machine) (codes : List (List ℕ)) : Type 0 where
 pub record AreResults (m : Machine) (results : List (List ℕ)) : Type 0 where
   pub wide : length results ≡ length m.results
   pub long : (y : ℕ) → y < length m.results → length (get_or results y []) ≡ product m.vars
-  pub below : (y : ℕ) → y < length m.results → AreBelow (get_or results y [])
+  pub below : (y : ℕ) → y < length m.results → AreBelow 33 (get_or results y [])
   pub code : (y i : ℕ) → y < length m.results → i < product m.vars
       → slice_index (get_or results y []) i ≡ result_code m y (snapshot_at m i)
 

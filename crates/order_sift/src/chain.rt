@@ -4,6 +4,7 @@ ghost use Rattle.domains.specs.Tables.{product};
 ghost use Rattle.transition_table.specs.Orders.{Allowed};
 ghost use Rattle.transition_table.specs.Transitions.{IsDeterministic};
 ghost use Rattle.order_sift.specs.Chains.{IsChain};
+ghost use Rattle.order_sift.specs.Pairs.{HasRoom};
 ghost use Rattle.order_sift.specs.Points.{IsPrepared};
 
 use crate::law::{laws_below, laws_of_levels};
@@ -32,7 +33,7 @@ pub(crate) fn chain_of(
 ) -> Result<Chain, NoMemory>
     requires few { product m.now.vars ≤ 1024 }
     requires prepared { IsPrepared m.now points.now }
-    requires room { length seen.old ≡ 1048576 }
+    requires room { HasRoom (product m.now.vars) seen.old }
     requires sure { IsDeterministic m.now }
     requires allowed { Allowed m.now order.now }
     ensures { IfOk result (IsChain m.now order.now) }

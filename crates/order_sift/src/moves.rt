@@ -6,6 +6,7 @@ ghost use Rattle.transition_table.specs.Transitions.{IsDeterministic};
 ghost use Rattle.char_function.specs.Sizes.{Size};
 ghost use Rattle.order_sift.specs.Chains.{IsChain, MayStand, AreSizes};
 ghost use Rattle.order_sift.specs.Moves.{moved};
+ghost use Rattle.order_sift.specs.Pairs.{HasRoom};
 ghost use Rattle.order_sift.specs.Points.{IsPrepared};
 
 use crate::chain::Chain;
@@ -38,7 +39,7 @@ fn fill_before(
 ) -> Result<(), NoMemory>
     requires few { product moving.now.machine.now.vars ≤ 1024 }
     requires prepared { IsPrepared moving.now.machine.now moving.now.points.now }
-    requires room { length seen.old ≡ 1048576 }
+    requires room { HasRoom (product moving.now.machine.now.vars) seen.old }
     requires sure { IsDeterministic moving.now.machine.now }
     requires allowed { Allowed moving.now.machine.now moving.now.order.now }
     requires chain { IsChain moving.now.machine.now moving.now.order.now moving.now.chain.now }
@@ -104,7 +105,7 @@ fn fill_after(
 ) -> Result<(), NoMemory>
     requires few { product moving.now.machine.now.vars ≤ 1024 }
     requires prepared { IsPrepared moving.now.machine.now moving.now.points.now }
-    requires room { length seen.old ≡ 1048576 }
+    requires room { HasRoom (product moving.now.machine.now.vars) seen.old }
     requires sure { IsDeterministic moving.now.machine.now }
     requires allowed { Allowed moving.now.machine.now moving.now.order.now }
     requires chain { IsChain moving.now.machine.now moving.now.order.now moving.now.chain.now }
@@ -171,7 +172,7 @@ pub(crate) fn sizes_at(
 ) -> Result<Places, NoMemory>
     requires few { product moving.now.machine.now.vars ≤ 1024 }
     requires prepared { IsPrepared moving.now.machine.now moving.now.points.now }
-    requires room { length seen.old ≡ 1048576 }
+    requires room { HasRoom (product moving.now.machine.now.vars) seen.old }
     requires sure { IsDeterministic moving.now.machine.now }
     requires allowed { Allowed moving.now.machine.now moving.now.order.now }
     requires chain { IsChain moving.now.machine.now moving.now.order.now moving.now.chain.now }

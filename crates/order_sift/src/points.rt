@@ -1,5 +1,5 @@
 // What a machine's levels are counted from.
-ghost use Rattle.std.specs.Prelude.{◌≡◌, ◌↔◌, ◌+◌, ◌-◌, ◌*◌, ◌^◌, ◌<◌, ◌≤◌, ◌==◌, ◌||◌, cond, not, ℕ, Bool, true, false, [], length, drop, get_or, slice_index, IfOk};
+ghost use Rattle.std.specs.Prelude.{◌≡◌, ◌↔◌, ◌+◌, ◌-◌, ◌*◌, ◌<◌, ◌≤◌, ◌==◌, ◌||◌, cond, not, ℕ, Bool, true, false, [], length, get_or, slice_index, IfOk};
 ghost use Rattle.std.specs.List.{list_any};
 ghost use Rattle.polis_base.specs.Lists.{upto};
 ghost use Rattle.domains.specs.Tables.{product};
@@ -7,12 +7,13 @@ ghost use Rattle.transition_table.specs.Computed.{char};
 ghost use Rattle.transition_table.specs.Orders.{sizes_of};
 ghost use Rattle.decision_diagram.specs.Sets.{set_level};
 ghost use Rattle.order_sift.specs.Classes.{AreClasses, IsNextItem, fixed_too, marked, differing};
-ghost use Rattle.order_sift.specs.Pairs.{AreBelow};
+ghost use Rattle.order_sift.specs.Pairs.{AreBelow, HasRoom};
 ghost use Rattle.order_sift.specs.Points.{IsPrepared, are_within};
 
 use crate::law::laws_below;
 use crate::pairs::joined;
-use domains::{Codes, VarTable};
+use domains::Codes;
+use outcome_table::lists_from;
 use polis_base::{List, NoMemory, Numbers};
 use std::alloc::Global;
 use transition_table::Machine;
@@ -29,19 +30,6 @@ pub(crate) struct Points {
     /// For each variable and result, whether another code of it would change the characteristic
     /// function there.
     pub(crate) marks: List<List<bool>>,
-}
-
-/// How many lists of codes there are of the variables from one on. As many snapshots apart stand
-/// those whose codes of the variable before it follow each other.
-pub(crate) fn lists_from(vars: &VarTable, from: u64) -> u64
-    requires from { from ≤ length vars.now }
-    requires few { product (drop from vars.now) < 2 ^ 63 }
-    ensures { result ≡ product (drop from vars.now) }
-{
-    if from == vars.len() {
-        return 1;
-    }
-    u64::from(*vars.get(from)) * lists_from(vars, from + 1)
 }
 
 /// The snapshot that has another code of a variable.
@@ -66,14 +54,16 @@ fn shifted(
     requires stride { stride ≤ 1024 }
     requires long { length codes.now ≡ length classes.now }
     requires within { are_within codes.now stride code }
+    requires below { AreBelow (length classes.now) classes.now }
     ensures long { IfOk result (λ made. length made ≡ length classes.now) }
     ensures each { IfOk result (λ made. (i : ℕ) → i < length classes.now
         → slice_index made i ≡ slice_index classes.now
         (i + code * stride - slice_index codes.now i * stride)) }
+    ensures below { IfOk result (AreBelow (length classes.now)) }
 {
-    let mut made = Numbers::new(alloc);
+    let mut made = Numbers::filled(alloc, classes.len() as u64, 0)?;
     for i in 0..classes.len() {
-        made.push(classes[neighbour(i, codes[i], code, stride)])?;
+        made.set(i as u64, classes[neighbour(i, codes[i], code, stride)]);
     }
     Ok(made)
 }
@@ -95,13 +85,13 @@ fn meet(met: &mut [bool], number: u32) -> u64
 
 // How many different numbers the marked snapshots have.
 fn level(alloc: Global, classes: &[u32], marks: &[bool]) -> Result<u64, NoMemory>
-    requires below { AreBelow classes.now }
+    requires below { AreBelow (length classes.now) classes.now }
     requires long { length marks.now ≡ length classes.now }
     ensures differing { IfOk result (λ count. count ≡ differing
         (marked classes.now marks.now (length classes.now))) }
     ensures few { IfOk result (λ count. count ≤ length classes.now) }
 {
-    let mut room = vec![in alloc; false; 1024]?;
+    let mut room = vec![in alloc; false; classes.len()]?;
     let met = room.as_mut_slice();
     let mut count = 0;
     for i in 0..classes.len() {
@@ -123,29 +113,24 @@ fn free_variable(
 ) -> Result<Numbers, NoMemory>
     requires few { product m.now.vars ≤ 1024 }
     requires prepared { IsPrepared m.now points.now }
-    requires room { length seen.old ≡ 1048576 }
+    requires room { HasRoom (product m.now.vars) seen.old }
     requires long { length classes.now ≡ product m.now.vars }
-    requires below { AreBelow classes.now }
+    requires below { AreBelow (product m.now.vars) classes.now }
     requires var { v < length m.now.vars }
     ensures classes { IfOk result (λ made. (fixed : ℕ → Bool) → IsNextItem m.now fixed v
         → AreClasses m.now (fixed_too fixed v) classes.now → AreClasses m.now fixed made) }
     ensures long { IfOk result (λ made. length made ≡ product m.now.vars) }
-    ensures below { IfOk result (λ made. AreBelow made) }
+    ensures below { IfOk result (AreBelow (product m.now.vars)) }
 {
     laws_below();
     let _ = m.var_count();
     let size = *m.vars.get(u64::from(v));
-    let codes = points.codes.get(u64::from(v));
-    let stride = lists_from(&m.vars, u64::from(v) + 1);
-    let mut made = Numbers::filled(alloc, classes.len(), 0)?;
-    for code in 0..size {
-        let other = shifted(
-            alloc,
-            classes.as_slice(),
-            codes.as_slice(),
-            stride as usize,
-            code,
-        )?;
+    let codes = points.codes.get(u64::from(v)).as_slice();
+    let stride = lists_from(&m.vars, u64::from(v) + 1) as usize;
+    let fixed = classes.as_slice();
+    let mut made = shifted(alloc, fixed, codes, stride, 0)?;
+    for code in 1..size {
+        let other = shifted(alloc, fixed, codes, stride, code)?;
         let before = made.as_slice();
         let after = other.as_slice();
         let next = joined(alloc, seen, before, after)?;
@@ -165,15 +150,15 @@ fn free_result(
 ) -> Result<Numbers, NoMemory>
     requires few { product m.now.vars ≤ 1024 }
     requires prepared { IsPrepared m.now points.now }
-    requires room { length seen.old ≡ 1048576 }
+    requires room { HasRoom (product m.now.vars) seen.old }
     requires long { length classes.now ≡ product m.now.vars }
-    requires below { AreBelow classes.now }
+    requires below { AreBelow (product m.now.vars) classes.now }
     requires result { y < length m.now.results }
     ensures classes { IfOk result (λ made. (fixed : ℕ → Bool) → IsNextItem m.now fixed (length m.now.vars + y)
         → AreClasses m.now (fixed_too fixed (length m.now.vars + y)) classes.now
         → AreClasses m.now fixed made) }
     ensures long { IfOk result (λ made. length made ≡ product m.now.vars) }
-    ensures below { IfOk result (λ made. AreBelow made) }
+    ensures below { IfOk result (AreBelow (product m.now.vars)) }
 {
     laws_below();
     let codes = points.results.get(u64::from(y));
@@ -192,14 +177,14 @@ pub(crate) fn freed(
 ) -> Result<Numbers, NoMemory>
     requires few { product m.now.vars ≤ 1024 }
     requires prepared { IsPrepared m.now points.now }
-    requires room { length seen.old ≡ 1048576 }
+    requires room { HasRoom (product m.now.vars) seen.old }
     requires long { length classes.now ≡ product m.now.vars }
-    requires below { AreBelow classes.now }
+    requires below { AreBelow (product m.now.vars) classes.now }
     requires item { item < length m.now.vars + length m.now.results }
     ensures classes { IfOk result (λ made. (fixed : ℕ → Bool) → IsNextItem m.now fixed item
         → AreClasses m.now (fixed_too fixed item) classes.now → AreClasses m.now fixed made) }
     ensures long { IfOk result (λ made. length made ≡ product m.now.vars) }
-    ensures below { IfOk result (λ made. AreBelow made) }
+    ensures below { IfOk result (AreBelow (product m.now.vars)) }
 {
     let vars = m.var_count();
     if item < vars {
@@ -220,7 +205,7 @@ pub(crate) fn level_of(
     requires few { product m.now.vars ≤ 1024 }
     requires prepared { IsPrepared m.now points.now }
     requires long { length classes.now ≡ product m.now.vars }
-    requires below { AreBelow classes.now }
+    requires below { AreBelow (product m.now.vars) classes.now }
     requires item { item < length m.now.vars + length m.now.results }
     ensures level { IfOk result (λ count. (fixed : ℕ → Bool) → fixed item ≡ false
         → AreClasses m.now fixed classes.now

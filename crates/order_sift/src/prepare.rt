@@ -6,14 +6,14 @@ ghost use Rattle.domains.specs.Tables.{product};
 ghost use Rattle.transition_table.specs.Computed.{result_code};
 ghost use Rattle.outcome_table.specs.Outcomes.{AreColumns, IsTableOf};
 ghost use Rattle.order_sift.specs.Classes.{snapshot_at, AreMarks};
-ghost use Rattle.order_sift.specs.Pairs.{AreBelow};
+ghost use Rattle.order_sift.specs.Pairs.{AreBelow, HasRoom};
 ghost use Rattle.order_sift.specs.Points.{IsPrepared, AreOutcomes, AreResults, AreVariables, are_within};
 
 use crate::law::laws_below;
 use crate::pairs::joined;
-use crate::points::{Points, lists_from, neighbour};
+use crate::points::{Points, neighbour};
 use domains::Codes;
-use outcome_table::Table;
+use outcome_table::{Table, lists_from};
 use polis_base::{Duplicate, List, NoMemory, Numbers};
 use std::alloc::Global;
 use transition_table::Machine;
@@ -23,7 +23,7 @@ fn codes_of_result(alloc: Global, m: &Machine, table: &Table, y: u64) -> Result<
     requires table { IsTableOf m.now table.now }
     requires result { y < length m.now.results }
     ensures long { IfOk result (λ codes. length codes ≡ product m.now.vars) }
-    ensures below { IfOk result (λ codes. AreBelow codes) }
+    ensures below { IfOk result (AreBelow 33) }
     ensures each { IfOk result (λ codes. (i : ℕ) → i < product m.now.vars
         → slice_index codes i ≡ result_code m.now y (snapshot_at m.now i)) }
 {
@@ -62,7 +62,7 @@ fn outcome_numbers(
 ) -> Result<Numbers, NoMemory>
     requires few { product m.now.vars ≤ 1024 }
     requires snapshots { snapshots ≡ product m.now.vars }
-    requires room { length seen.old ≡ 1048576 }
+    requires room { HasRoom (product m.now.vars) seen.old }
     requires results { AreResults m.now results.now }
     ensures { IfOk result (AreOutcomes m.now) }
 {
@@ -186,7 +186,7 @@ pub(crate) fn prepare(
 ) -> Result<Points, NoMemory>
     requires table { IsTableOf m.now table.now }
     requires few { product m.now.vars ≤ 1024 }
-    requires room { length seen.old ≡ 1048576 }
+    requires room { HasRoom (product m.now.vars) seen.old }
     ensures { IfOk result (IsPrepared m.now) }
 {
     laws_below();

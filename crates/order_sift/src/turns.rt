@@ -11,6 +11,7 @@ ghost use Rattle.char_function.specs.Supported.{AreSupports};
 ghost use Rattle.char_function.specs.Sizes.{Size};
 ghost use Rattle.order_sift.specs.Chains.{IsChain};
 ghost use Rattle.order_sift.specs.Moves.{moved};
+ghost use Rattle.order_sift.specs.Pairs.{HasRoom};
 ghost use Rattle.order_sift.specs.Points.{IsPrepared};
 ghost use Rattle.order_sift.specs.Sifting.{IsLeast, IsSifted};
 ghost use Rattle.order_sift.specs.Turns.{AreAllowedPlaces, IsCounted, IsSettled, StaysOrFalls};
@@ -18,7 +19,7 @@ ghost use Rattle.order_sift.specs.Turns.{AreAllowedPlaces, IsCounted, IsSettled,
 use crate::chain::{Chain, chain_of};
 use crate::law::laws_of_levels;
 use crate::moves::{Moving, sizes_at};
-use crate::pairs::NUMBERS;
+use crate::pairs::room_for;
 use crate::places::allowed_places;
 use crate::points::Points;
 use crate::prepare::prepare;
@@ -108,7 +109,7 @@ fn settle(sifting: &Sifting, seen: &mut [u16], item: u32, at: &mut Counted) -> R
     requires supports { AreSupports sifting.now.machine.now sifting.now.supports.now }
     requires few { product sifting.now.machine.now.vars ≤ 1024 }
     requires prepared { IsPrepared sifting.now.machine.now sifting.now.points.now }
-    requires room { length seen.old ≡ 1048576 }
+    requires room { HasRoom (product sifting.now.machine.now.vars) seen.old }
     requires counted { IsCounted sifting.now.machine.now at.old.order at.old.count }
     requires chain { IsChain sifting.now.machine.now at.old.order at.old.chain }
     requires item { item < length at.old.order }
@@ -150,7 +151,7 @@ fn turn(sifting: &Sifting, seen: &mut [u16], at: &mut Counted) -> Result<(), NoM
     requires supports { AreSupports sifting.now.machine.now sifting.now.supports.now }
     requires few { product sifting.now.machine.now.vars ≤ 1024 }
     requires prepared { IsPrepared sifting.now.machine.now sifting.now.points.now }
-    requires room { length seen.old ≡ 1048576 }
+    requires room { HasRoom (product sifting.now.machine.now.vars) seen.old }
     requires counted { IsCounted sifting.now.machine.now at.old.order at.old.count }
     requires chain { IsChain sifting.now.machine.now at.old.order at.old.chain }
     ensures counted { IfOk result (λ done. IsCounted sifting.now.machine.now at.new.order at.new.count) }
@@ -175,7 +176,7 @@ fn settle_all(sifting: &Sifting, seen: &mut [u16], at: &mut Counted) -> Result<(
     requires supports { AreSupports sifting.now.machine.now sifting.now.supports.now }
     requires few { product sifting.now.machine.now.vars ≤ 1024 }
     requires prepared { IsPrepared sifting.now.machine.now sifting.now.points.now }
-    requires room { length seen.old ≡ 1048576 }
+    requires room { HasRoom (product sifting.now.machine.now.vars) seen.old }
     requires counted { IsCounted sifting.now.machine.now at.old.order at.old.count }
     requires chain { IsChain sifting.now.machine.now at.old.order at.old.chain }
     ensures counted { IfOk result (λ done. IsCounted sifting.now.machine.now at.new.order at.new.count) }
@@ -217,7 +218,7 @@ fn counted_first(
     requires sure { IsDeterministic m.now }
     requires few { product m.now.vars ≤ 1024 }
     requires prepared { IsPrepared m.now points.now }
-    requires room { length seen.old ≡ 1048576 }
+    requires room { HasRoom (product m.now.vars) seen.old }
     requires allowed { Allowed m.now order }
     ensures order { IfOk result (λ at. at.order ≡ order) }
     ensures counted { IfOk result (λ at. IsCounted m.now at.order at.count) }
@@ -249,7 +250,7 @@ fn sifted_from(
     requires allowed { Allowed m.now order }
     ensures { IfOk result (λ sifted. IsSifted m.now sifted.order sifted.first_count sifted.count) }
 {
-    let mut room = vec![in alloc; 0; NUMBERS * NUMBERS]?;
+    let mut room = room_for(alloc, snapshot_count(m) as usize)?;
     let seen = room.as_mut_slice();
     let points = prepare(alloc, m, table, seen)?;
     let mut at = counted_first(alloc, m, &points, seen, order)?;

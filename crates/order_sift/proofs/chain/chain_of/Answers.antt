@@ -2,8 +2,10 @@ use Rattle.std.proofs.Common.{◌≡◌, ◌∙◌, ◌+◌, ◌-◌, ◌<◌, [
 use Rattle.std.proofs.lemmas.Option.{get_or_from_slice_get}
 use Rattle.order_sift.specs.Chains.{AreChain}
 use Rattle.order_sift.specs.Pairs.{AreBelow}
+use Rattle.order_sift.proofs.Keying.{room_kept}
 use Rattle.order_sift.proofs.Filling.{Frees, chain_start, chain_more}
 use Rattle.order_sift.proofs.Ranging.{items}
+use Rattle.domains.specs.Tables.{product}
 use Rattle.order_sift.proofs.chain.chain_of.Goals as goal
 
 pub loop-t-init : goal.loop-t-init
@@ -15,7 +17,7 @@ loop-t-init c =
       room = c.requires.room;
       chain = chain_start m o c.laws_of_levels.ensures.laws c.requires.sure c.requires.allowed
           c.laws_below.ensures whole c.args.points.now.snapshots _ _ c.in_ok-whole.ensures
-          c.requires.prepared.snapshots c.requires.few
+          c.requires.prepared.snapshots
           (c.in_ok-push.ensures.ok ∙ ap (λ (xs : List (List ℕ)). xs ++ whole ∷ [])
           c.new-classes.ensures)
           (c.in_ok-push-2.ensures.ok ∙ ap (λ (xs : List ℕ). xs ++ 0 ∷ []) c.new-backs.ensures);
@@ -33,7 +35,7 @@ freed-requires-clause-below c =
     let t = c.loop-t.t in
     let chain = c.loop-t.invariant.chain in
     let old = get_or_from_slice_get c.loop-t.classes t c.get-old.result.now [] c.get-old.ensures in
-    subst AreBelow old (chain.numbers t (omega arith)).below
+    subst (AreBelow (product c.args.m.now.vars)) old (chain.numbers t (omega arith)).below
 
 pub freed-requires-clause-item : goal.freed-requires-clause-item
 freed-requires-clause-item c =
@@ -77,7 +79,7 @@ loop-t-preserved c =
     (sym old) c.in_ok-made.ensures.classes in
     let here = c.in_ok-here.here in
     record {
-      room = c.freed.auto.seen ∙ c.loop-t.invariant.room;
+      room = room_kept (product m.vars) _ _ c.freed.auto.seen c.loop-t.invariant.room;
       chain = chain_more m o c.laws_of_levels.ensures.laws c.requires.sure c.requires.allowed t
           c.get-item.result.now c.loop-t.classes _ c.loop-t.backs _ c.in_ok-made.made here
           (here + c.get-last.result.now) low at chain frees c.in_ok-here.ensures.level

@@ -5,10 +5,12 @@ use Rattle.decision_diagram.specs.Sets.{stands}
 use Rattle.order_sift.specs.Chains.{AreSizes}
 use Rattle.order_sift.specs.Classes.{AreClasses}
 use Rattle.order_sift.specs.Pairs.{AreBelow}
+use Rattle.order_sift.proofs.Keying.{room_kept}
 use Rattle.order_sift.proofs.Codes.{set_long}
 use Rattle.order_sift.proofs.Filling.{Frees, Levels, sizes_set, chain_classes, front_low, steps_after, start_without}
 use Rattle.order_sift.proofs.Ranging.{items}
 use Rattle.order_sift.proofs.Sweeping.{front_of}
+use Rattle.domains.specs.Tables.{product}
 use Rattle.order_sift.proofs.moves.fill_after.Goals as goal
 
 pub loop-j-init : goal.loop-j-init
@@ -110,7 +112,7 @@ loop-j-preserved c =
     (let h : first ≤ first = omega arith in
     h) (omega arith) (omega arith) step.whole_is inv.sizes (λ k a b apart. (a, omega arith)) in
     record {
-      room = c.freed.auto.seen ∙ inv.room;
+      room = room_kept (product m.vars) _ _ c.freed.auto.seen inv.room;
       long = ap (λ (xs : List ℕ). length xs) set ∙ set_long c.loop-j.sizes (j - first) value ∙ long;
       later = omega arith;
       front = step.front_is ∙ ap (front_of m o i) e;
@@ -186,7 +188,7 @@ freed-requires-clause-below c =
     let got = ap (λ (n : ℕ). get_or chain.classes (n - 1 - j) []) (sym l)
     ∙ get_or_from_slice_get chain.classes (c.len-items.result - 1 - j)
     c.get-with_item.result.now [] c.get-with_item.ensures in
-    subst AreBelow (ap (λ (k : ℕ). get_or chain.classes k []) e ∙ got)
+    subst (AreBelow (product m.vars)) (ap (λ (k : ℕ). get_or chain.classes k []) e ∙ got)
     (chain_classes m o laws c.requires.sure c.requires.allowed chain.classes chain.backs
     c.requires.chain (j + 1) (omega arith)).below
 

@@ -4,11 +4,13 @@ use Rattle.decision_diagram.specs.Sets.{stands}
 use Rattle.order_sift.specs.Chains.{AreSizes}
 use Rattle.order_sift.specs.Classes.{AreClasses}
 use Rattle.order_sift.proofs.Sweeping.{front_of}
+use Rattle.domains.specs.Tables.{product}
+use Rattle.order_sift.specs.Pairs.{HasRoom}
 use Rattle.order_sift.proofs.moves.fill_after.Given as goal
 
 abbrev pub invariant-loop-j : goal.invariant-loop-j
 invariant-loop-j l = record {
-  room : length l.seen ≡ 1048576;
+  room : HasRoom (product l.moving.machine.now.vars) l.seen;
   long : length l.sizes ≡ length l.fn.sizes;
   later : l.i + 1 ≤ l.j;
   front : l.front ≡ front_of l.moving.machine.now l.moving.order.now l.i (l.j - 1);

@@ -5,10 +5,12 @@ use Rattle.decision_diagram.specs.Sets.{stands}
 use Rattle.order_sift.specs.Chains.{AreSizes}
 use Rattle.order_sift.specs.Classes.{AreClasses}
 use Rattle.order_sift.specs.Pairs.{AreBelow}
+use Rattle.order_sift.proofs.Keying.{room_kept}
 use Rattle.order_sift.proofs.Codes.{set_long}
 use Rattle.order_sift.proofs.Filling.{Levels, sizes_set, chain_classes, front_low, steps_before, start_with, back_high}
 use Rattle.order_sift.proofs.Ranging.{items}
 use Rattle.order_sift.proofs.Sweeping.{back_of}
+use Rattle.domains.specs.Tables.{product}
 use Rattle.order_sift.proofs.moves.fill_before.Goals as goal
 
 pub loop-t-init : goal.loop-t-init
@@ -111,7 +113,7 @@ loop-t-preserved c =
     let sizes = sizes_set m o c.loop-t.sizes i first j value (i - t) i j i high high (omega arith)
     step.whole_is inv.sizes (λ k a b apart. (omega arith, b)) in
     record {
-      room = c.freed.auto.seen ∙ inv.room;
+      room = room_kept (product m.vars) _ _ c.freed.auto.seen inv.room;
       long = ap (λ (xs : List ℕ). length xs) set ∙ set_long c.loop-t.sizes (j - first) value ∙ long;
       back = step.back_is ∙ ap (back_of m o i) e_new;
       few = omega arith;
@@ -185,7 +187,7 @@ level_of-requires-in-loop-t-clause-below c =
     ∙ get_or_from_slice_get chain.classes (c.len-items.result - j) c.get-without_item.result.now
     [] c.get-without_item.ensures in
     let li = c.requires.i in
-    subst AreBelow got
+    subst (AreBelow (product m.vars)) got
     (chain_classes m o laws c.requires.sure c.requires.allowed chain.classes chain.backs
     c.requires.chain j (omega arith)).below
 

@@ -4,11 +4,13 @@ use Rattle.decision_diagram.specs.Sets.{stands}
 use Rattle.order_sift.specs.Chains.{AreSizes}
 use Rattle.order_sift.specs.Classes.{AreClasses}
 use Rattle.order_sift.proofs.Sweeping.{back_of}
+use Rattle.domains.specs.Tables.{product}
+use Rattle.order_sift.specs.Pairs.{HasRoom}
 use Rattle.order_sift.proofs.moves.fill_before.Given as goal
 
 abbrev pub invariant-loop-t : goal.invariant-loop-t
 invariant-loop-t l = record {
-  room : length l.seen ≡ 1048576;
+  room : HasRoom (product l.moving.machine.now.vars) l.seen;
   long : length l.sizes ≡ length l.fn.sizes;
   back : l.back ≡ back_of l.moving.machine.now l.moving.order.now l.i (l.i - l.t);
   few : l.back ≤ 1024 * (length l.moving.order.now + l.t);

@@ -4,6 +4,7 @@ use Rattle.std.proofs.lemmas.Option.{get_or_from_slice_get}
 use Rattle.domains.specs.Tables.{product}
 use Rattle.transition_table.specs.Computed.{result_code}
 use Rattle.order_sift.specs.Classes.{snapshot_at}
+use Rattle.order_sift.specs.Pairs.{AreBelow}
 use Rattle.order_sift.proofs.Stepping.{result_freed}
 use Rattle.order_sift.proofs.points.free_result.Goals as goal
 
@@ -36,4 +37,5 @@ returns-clause-classes c =
     × (slice_index c.as_slice-2.result.now i ≡ slice_index c.as_slice-2.result.now j))) classes
     whole in
     result_freed m c.laws_below.ensures y c.args.classes.now c.as_slice-2.result.now
-    c.in_ok-made.made ly code (c.in_ok-made.ensures.long ∙ long) c.in_ok-made.ensures.below same
+    c.in_ok-made.made ly code (c.in_ok-made.ensures.long ∙ long)
+    (subst (λ (n : ℕ). AreBelow n c.in_ok-made.made) long c.in_ok-made.ensures.below) same

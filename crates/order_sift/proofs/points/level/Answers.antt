@@ -15,7 +15,7 @@ loop-i-preserved c =
     elim c.if-marks-i.branch [
       | then-marks-i w ↦
           let x = slice_index classes i in
-          let low : x < 1024 = c.requires.below i c.loop-i-test.true in
+          let low : x < length classes = c.requires.below i c.loop-i-test.true in
           let is = marked_on classes marks i w.if-marks-i.true in
           let here : get_or c.loop-i.met x false
           ≡ list_any (λ k. eqb k x) (marked classes marks i) = inv.met x low in

@@ -7,7 +7,7 @@ abbrev pub invariant-loop-i : goal.invariant-loop-i
 invariant-loop-i l = record {
   count : l.count ≡ differing (marked l.classes l.marks l.i);
   few : l.count ≤ l.i;
-  room : length l.met ≡ 1024;
-  met : (n : ℕ) → n < 1024 → get_or l.met n false
+  room : length l.met ≡ length l.classes;
+  met : (n : ℕ) → n < length l.classes → get_or l.met n false
       ≡ list_any (λ k. k == n) (marked l.classes l.marks l.i);
 }

@@ -62,9 +62,9 @@ loop-i-preserved c =
     record {
       long = ap (λ (xs : List ℕ). length xs) ok
           ∙ (let e : length (old ++ c.from.result ∷ []) ≡ i + 1 = omega arith in e);
-      below = subst (λ (xs : List ℕ). (k : ℕ) → k < length xs → slice_index xs k < 1024) (sym ok)
-          (λ k lk. pushed 0 (λ (k x : ℕ). x < 1024) old c.from.result inv.below
-          (let e : c.from.result < 1024 = omega arith in e) k (omega arith));
+      below = subst (λ (xs : List ℕ). (k : ℕ) → k < length xs → slice_index xs k < 33) (sym ok)
+          (λ k lk. pushed 0 (λ (k x : ℕ). x < 33) old c.from.result inv.below
+          (let e : c.from.result < 33 = omega arith in e) k (omega arith));
       each = subst (λ (xs : List ℕ). (k : ℕ) → k < i + 1
           → slice_index xs k ≡ result_code m y (snapshot_at m k)) (sym ok)
           (λ k lk. pushed 0 (λ (k x : ℕ). x ≡ result_code m y (snapshot_at m k)) old c.from.result

@@ -9,7 +9,7 @@ abbrev pub invariant-loop-y : goal.invariant-loop-y
 invariant-loop-y l = record {
   wide : length l.results ≡ l.y;
   long : (z : ℕ) → z < l.y → length (get_or l.results z []) ≡ product l.m.vars;
-  below : (z : ℕ) → z < l.y → AreBelow (get_or l.results z []);
+  below : (z : ℕ) → z < l.y → AreBelow 33 (get_or l.results z []);
   code : (z i : ℕ) → z < l.y → i < product l.m.vars
       → slice_index (get_or l.results z []) i ≡ result_code l.m z (snapshot_at l.m i);
 }

@@ -1,4 +1,5 @@
-use Rattle.std.proofs.Common.{◌∙◌}
+use Rattle.domains.specs.Tables.{product}
+use Rattle.order_sift.proofs.Keying.{room_kept}
 use Rattle.order_sift.proofs.Settling.{falls_then}
 use Rattle.order_sift.proofs.turns.settle_all.Goals as goal
 
@@ -6,7 +7,7 @@ pub loop-preserved : goal.loop-preserved
 loop-preserved c =
     let m = c.args.sifting.now.machine.now in
     record {
-      room = c.turn.auto.seen ∙ c.loop.invariant.room;
+      room = room_kept (product m.vars) _ _ c.turn.auto.seen c.loop.invariant.room;
       counted = c.in_ok-turn.ensures.counted;
       chain = c.in_ok-turn.ensures.chain;
       falls = falls_then m c.args.at.now.order c.loop.at.order c.turn.new.at.order

@@ -1,11 +1,12 @@
-use Rattle.std.proofs.Common.{◌≡◌, length}
 use Rattle.order_sift.specs.Chains.{IsChain}
 use Rattle.order_sift.specs.Turns.{IsCounted, StaysOrFalls}
+use Rattle.domains.specs.Tables.{product}
+use Rattle.order_sift.specs.Pairs.{HasRoom}
 use Rattle.order_sift.proofs.turns.settle_all.Given as goal
 
 abbrev pub invariant-loop : goal.invariant-loop
 invariant-loop l = record {
-  room : length l.seen ≡ 1048576;
+  room : HasRoom (product l.sifting.machine.now.vars) l.seen;
   counted : IsCounted l.sifting.machine.now l.at.order l.at.count;
   chain : IsChain l.sifting.machine.now l.at.order l.at.chain;
   falls : StaysOrFalls l.sifting.machine.now l.fn.at.order l.at.order l.fn.at.count l.at.count;

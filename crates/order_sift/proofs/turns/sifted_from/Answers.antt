@@ -1,4 +1,4 @@
-use Rattle.std.proofs.Common.{◌≡◌, ◌∙◌, ◌≤◌, ⊎_elim, List, ℕ, ap, sym, subst, arith}
+use Rattle.std.proofs.Common.{◌∙◌, ⊎_elim, ap, sym, subst, arith}
 use Rattle.char_function.specs.Sizes.{Size}
 use Rattle.order_sift.specs.Sifting.{IsLeast}
 use Rattle.order_sift.proofs.turns.sifted_from.Goals as goal

@@ -1,4 +1,6 @@
-use Rattle.std.proofs.Common.{◌∙◌, ◌≤◌, length, arith}
+use Rattle.std.proofs.Common.{◌≤◌, length, arith}
+use Rattle.domains.specs.Tables.{product}
+use Rattle.order_sift.proofs.Keying.{room_kept}
 use Rattle.order_sift.proofs.Ranging.{items}
 use Rattle.order_sift.proofs.Settling.{falls_then, settled_more, least_from_settled}
 use Rattle.order_sift.proofs.turns.turn.Goals as goal
@@ -9,7 +11,7 @@ loop-item-preserved c =
     let inv = c.loop-item.invariant in
     let one = c.in_ok-settle.ensures in
     record {
-      room = c.settle.auto.seen ∙ inv.room;
+      room = room_kept (product m.vars) _ _ c.settle.auto.seen inv.room;
       counted = one.counted;
       chain = one.chain;
       falls = falls_then m c.args.at.now.order c.loop-item.at.order c.settle.new.at.order

@@ -1,5 +1,6 @@
 -- The codes of one variable on all lists.
-use Rattle.std.proofs.Common.{◌≡◌, true, ℕ, zero, suc, ◌+◌, ◌-◌, ◌*◌, ◌<◌, ◌≤◌, List, [], ◌∷◌, map, flat_map, length, drop, replicate, slice_index, refl, ap, ◌∙◌, arith, length-append}
+use Rattle.std.proofs.Common.{◌≡◌, true, ℕ, zero, suc, ◌+◌, ◌-◌, ◌*◌, ◌<◌, ◌≤◌, List, [], ◌∷◌, map, flat_map, length, drop, replicate, slice_index, ◌&&◌, nat_le, refl, ap, ◌∙◌, arith, length-append}
+use Rattle.std.proofs.lemmas.Bool.{and_parts, leb-true}
 use Rattle.std.proofs.Math.Seq.{drop-cons}
 use Rattle.polis_base.specs.Lists.{upto}
 use Rattle.domains.specs.AllCodes.{all_codes, each_after}
@@ -30,6 +31,9 @@ all_long [] = refl
 all_long (size ∷ sizes) =
     flat_long (each_after (all_codes sizes)) (product sizes) size
     (λ k. long_map (λ codes. k ∷ codes) (all_codes sizes) ∙ all_long sizes)
+
+pub column_long : (v : ℕ) (sizes : List ℕ) → length (column v (all_codes sizes)) ≡ product sizes
+column_long v sizes = long_map (λ codes. slice_index codes v) (all_codes sizes) ∙ all_long sizes
 
 same_first : (c : ℕ) (lists : List (List ℕ))
     → column 0 (each_after lists c) ≡ replicate (length lists) c
@@ -100,3 +104,14 @@ product_later vars i sizes low =
     let rest = product (drop (i + 1) vars) in
     let h = mul-le-mul_right {m = 1} {n = slice_index vars i} rest some in
     omega (arith, e, h)
+
+pub product_after : (vars : List ℕ) (v : ℕ) → are_sizes vars ≡ true
+    → product (drop v vars) ≤ product vars
+product_after vars zero h = omega arith
+product_after [] (suc v) h = omega arith
+product_after (size ∷ vars) (suc v) h =
+    let parts = and_parts (nat_le 1 size && nat_le size 33) (are_sizes vars) h in
+    let some = leb-true 1 size (and_parts (nat_le 1 size) (nat_le size 33) parts.0).0 in
+    let rest = product_after vars v parts.1 in
+    let grow = mul-le-mul_right {m = 1} {n = size} (product vars) some in
+    omega (arith, rest, grow)

@@ -1,17 +1,19 @@
 -- Outcomes under numbers, one snapshot after another.
-use Rattle.std.proofs.Common.{◌≡◌, ℕ, zero, suc, ◌+◌, ◌<◌, ◌≤◌, Bool, true, ◌&&◌, List, [], ◌∷◌, ◌++◌, map, flat_map, length, take, get_or, min, refl, ap, sym, ◌∙◌, arith, nat_lt}
+use Rattle.std.proofs.Common.{◌≡◌, ℕ, zero, suc, ◌+◌, ◌<◌, ◌≤◌, Bool, true, ◌&&◌, List, [], ◌∷◌, ◌++◌, map, flat_map, length, take, get_or, replicate, min, refl, ap, sym, ◌∙◌, arith, nat_lt}
 use Rattle.std.specs.List.{list_all}
 use Rattle.std.proofs.lemmas.Bool.{and_parts, and_from, lt-ltb, ltb-true}
-use Rattle.std.proofs.lemmas.List.{map-append, append-nil, append_assoc, length-take, get_or-take}
+use Rattle.std.proofs.lemmas.List.{map-append, append_assoc, length-take, get_or-take}
 use Rattle.std.proofs.lemmas.List.Folds.{list_all-append}
 use Rattle.std.proofs.lemmas.Option.{slice_get_within}
 use Rattle.polis_base.specs.Lists.{upto}
 use Rattle.domains.specs.AllCodes.{all_codes, each_after}
+use Rattle.domains.specs.Tables.{product}
 use Rattle.transition_table.specs.declared.machine.Machine.{Machine}
 use Rattle.outcome_table.specs.Outcomes.{named, are_named}
 use Rattle.outcome_table.specs.Numbering.{Adds, BeginWithRows, lists_after}
 use Rattle.transition_table.specs.Computed.{result_codes}
 use Rattle.outcome_table.specs.declared.number.Numbered.{Numbered}
+use Rattle.outcome_table.proofs.Columns.{all_long}
 use Rattle.outcome_table.proofs.Lists.{map_flat, map_map, flat_same, map_same}
 
 -- more outcomes leave those before
@@ -44,18 +46,6 @@ below_more a b (k ∷ numbers) most all =
     and_from (nat_lt k b) (list_all (λ k. nat_lt k b) numbers) (lt-ltb k b (omega arith))
     (below_more a b numbers most parts.1)
 
-pub adds_none : (m : Machine) (made : Numbered) → are_named made.outcomes made.numbers
-    → Adds m made made []
-adds_none m made within = record {
-  kept = whole made.outcomes;
-  results = sym (append-nil (named made.outcomes made.numbers));
-  within = within;
-}
-  where
-    whole : {X : Type 0} (xs : List X) → take (length xs) xs ≡ xs
-    whole [] = refl
-    whole {X = X} (x ∷ xs) = ap (λ (ys : List X). x ∷ ys) (whole xs)
-
 pub take_less : {X : Type 0} (a b : ℕ) (xs : List X) → a ≤ b → take a (take b xs) ≡ take a xs
 take_less zero b xs most = refl
 take_less (suc a) zero xs most = absurd (omega arith)
@@ -73,33 +63,62 @@ adds_on m a b c xs ys one two =
           ∙ one.kept;
       results = two.results
           ∙ ap (λ (zs : List (List ℕ)). zs ++ map (result_codes m) ys) one.results
-          ∙ append_assoc (named a.outcomes a.numbers) (map (result_codes m) xs)
+          ∙ append_assoc (named a.outcomes a.numbers.items) (map (result_codes m) xs)
           (map (result_codes m) ys)
-          ∙ ap (λ (zs : List (List ℕ)). named a.outcomes a.numbers ++ zs)
+          ∙ ap (λ (zs : List (List ℕ)). named a.outcomes a.numbers.items ++ zs)
           (sym (map-append (result_codes m) xs ys));
       within = two.within;
     }
 
--- one more snapshot, under a number of an outcome
-pub adds_one : (m : Machine) (old new : Numbered) (k : ℕ) (s : List ℕ)
-    → are_named old.outcomes old.numbers → take (length old.outcomes) new.outcomes ≡ old.outcomes
-    → new.numbers ≡ old.numbers ++ k ∷ [] → k < length new.outcomes
-    → get_or new.outcomes k [] ≡ result_codes m s → Adds m old new (s ∷ [])
-adds_one m old new k s within kept numbers low is =
-    let below = below_more (length old.outcomes) (length new.outcomes) old.numbers
+named_same : (outcomes : List (List ℕ)) (k n : ℕ)
+    → named outcomes (replicate n k) ≡ replicate n (get_or outcomes k [])
+named_same outcomes k zero = refl
+named_same outcomes k (suc n) =
+    ap (λ (xs : List (List ℕ)). get_or outcomes k [] ∷ xs) (named_same outcomes k n)
+
+all_below : (b k n : ℕ) → nat_lt k b ≡ true → list_all (λ k. nat_lt k b) (replicate n k) ≡ true
+all_below b k zero low = refl
+all_below b k (suc n) low =
+    and_from (nat_lt k b) (list_all (λ k. nat_lt k b) (replicate n k)) low (all_below b k n low)
+
+-- so many more lists, whose outcome is that of one number
+pub adds_many : (m : Machine) (old new : Numbered) (k n : ℕ) (lists : List (List ℕ))
+    → are_named old.outcomes old.numbers.items
+    → take (length old.outcomes) new.outcomes ≡ old.outcomes
+    → new.numbers.items ≡ old.numbers.items ++ replicate n k → k < length new.outcomes
+    → map (result_codes m) lists ≡ replicate n (get_or new.outcomes k []) → Adds m old new lists
+adds_many m old new k n lists within kept numbers low is =
+    let below = below_more (length old.outcomes) (length new.outcomes) old.numbers.items
     (within_more old.outcomes new.outcomes kept) within in
     record {
       kept = kept;
       results = ap (named new.outcomes) numbers
-          ∙ map-append (λ k. get_or new.outcomes k []) old.numbers (k ∷ [])
-          ∙ ap (λ (xs : List (List ℕ)). xs ++ get_or new.outcomes k [] ∷ [])
-          (named_kept old.outcomes new.outcomes old.numbers kept within)
-          ∙ ap (λ (x : List ℕ). named old.outcomes old.numbers ++ x ∷ []) is;
+          ∙ map-append (λ k. get_or new.outcomes k []) old.numbers.items (replicate n k)
+          ∙ ap (λ (xs : List (List ℕ)). xs ++ named new.outcomes (replicate n k))
+          (named_kept old.outcomes new.outcomes old.numbers.items kept within)
+          ∙ ap (λ (xs : List (List ℕ)). named old.outcomes old.numbers.items ++ xs)
+          (named_same new.outcomes k n ∙ sym is);
       within = ap (λ (xs : List ℕ). list_all (λ k. nat_lt k (length new.outcomes)) xs) numbers
-          ∙ list_all-append (λ k. nat_lt k (length new.outcomes)) old.numbers (k ∷ [])
-          ∙ ap (λ b. b && (nat_lt k (length new.outcomes) && true)) below
-          ∙ ap (λ b. b && true) (lt-ltb k (length new.outcomes) low);
+          ∙ list_all-append (λ k. nat_lt k (length new.outcomes)) old.numbers.items (replicate n k)
+          ∙ ap (λ b. b && list_all (λ k. nat_lt k (length new.outcomes)) (replicate n k)) below
+          ∙ all_below (length new.outcomes) k n (lt-ltb k (length new.outcomes) low);
     }
+
+map_one : {X Y : Type 0} (f : X → Y) (c : Y) (xs : List X) → ((x : X) → f x ≡ c)
+    → map f xs ≡ replicate (length xs) c
+map_one f c [] each = refl
+map_one {Y = Y} f c (x ∷ xs) each =
+    ap (λ (y : Y). y ∷ map f xs) (each x) ∙ ap (λ (ys : List Y). c ∷ ys) (map_one f c xs each)
+
+-- all lists that begin with the fixed codes have one outcome
+pub same_after : (m : Machine) (fixed sizes c : List ℕ) (n : ℕ) → n ≡ product sizes
+    → ((rest : List ℕ) → c ≡ result_codes m (fixed ++ rest))
+    → map (result_codes m) (lists_after fixed sizes) ≡ replicate n c
+same_after m fixed sizes c n many each =
+    map_map (result_codes m) (λ codes. fixed ++ codes) (all_codes sizes)
+    ∙ map_one (λ codes. result_codes m (fixed ++ codes)) c (all_codes sizes)
+    (λ codes. sym (each codes))
+    ∙ ap (λ n. replicate n c) (all_long sizes ∙ sym many)
 
 pub begins_kept : (m : Machine) (fixed : List Bool) (old new : List (List ℕ))
     → BeginWithRows m fixed old → take (length old) new ≡ old → BeginWithRows m fixed new
@@ -126,10 +145,6 @@ lists_split fixed sizes rest size is =
     (λ c. map_map (λ codes. fixed ++ codes) (λ codes. c ∷ codes) (all_codes rest)
     ∙ map_same (λ codes. fixed ++ c ∷ codes) (λ codes. (fixed ++ c ∷ []) ++ codes) (all_codes rest)
     (λ codes. sym (append_assoc fixed (c ∷ []) codes)))
-
-pub lists_end : (fixed sizes : List ℕ) → sizes ≡ [] → lists_after fixed sizes ≡ fixed ∷ []
-lists_end fixed sizes is = ap (lists_after fixed) is
-    ∙ ap (λ (xs : List ℕ). xs ∷ []) (append-nil fixed)
 
 pub lists_all : (sizes : List ℕ) → lists_after [] sizes ≡ all_codes sizes
 lists_all sizes = same (all_codes sizes)

@@ -1,8 +1,10 @@
 mod Bits
 mod Columns
 mod Counting
+mod Ends
 mod Lists
 mod Narrowing
 mod Ones
 mod Rows
+mod Settled
 mod Starting

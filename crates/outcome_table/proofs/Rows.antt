@@ -1,9 +1,10 @@
 -- Rows of a machine, and what they give.
-use Rattle.std.proofs.Common.{◌≡◌, ◌⊎◌, ℕ, zero, suc, ◌+◌, ◌-◌, ◌<◌, ◌≤◌, true, ◌&&◌, ◌==◌, List, [], ◌∷◌, ◌++◌, map, length, take, drop, replicate, slice_get, slice_index, slice_set, Some, refl, ap, sym, ◌∙◌, arith, inl, inr, nat_lt, nat_le}
+use Rattle.std.proofs.Common.{◌≡◌, ℕ, zero, suc, ◌+◌, ◌-◌, ◌<◌, ◌≤◌, true, ◌&&◌, ◌==◌, List, [], ◌∷◌, ◌++◌, map, length, take, drop, replicate, slice_get, slice_index, slice_set, Some, refl, ap, sym, ◌∙◌, arith, nat_lt, nat_le, length-append}
 use Rattle.std.specs.List.{list_all}
 use Rattle.std.specs.Cmp.Lexicographic.{pointwise}
 use Rattle.std.proofs.lemmas.Bool.{and_parts, and_from, eqb-true, leb-true, lt-ltb, false≢true}
-use Rattle.std.proofs.lemmas.List.{map-append, replicate-append-replicate}
+use Rattle.std.proofs.lemmas.List.{map-append, replicate-append-replicate, length_push, append_assoc, length-replicate}
+use Rattle.std.proofs.Math.Seq.{set-append_seam}
 use Rattle.polis_base.specs.Lists.{upto}
 use Rattle.domains.specs.Tables.{fits, product}
 use Rattle.transition_table.specs.MachineFacts.{is_row, names_codes, names_result, has_present}
@@ -12,19 +13,6 @@ use Rattle.transition_table.specs.declared.machine.Machine.{Machine}
 use Rattle.transition_table.specs.declared.row.Act.{Act}
 use Rattle.transition_table.specs.declared.row.Row.{Row}
 use Rattle.outcome_table.proofs.Lists.{all_get}
-
--- an item of a list with one more at its end
-pub last_or_before : (table : List (List ℕ)) (masks xs : List ℕ) (k : ℕ)
-    → slice_get (table ++ masks ∷ []) k ≡ Some xs
-    → (slice_get table k ≡ Some xs) ⊎ ((k ≡ length table) × (masks ≡ xs))
-last_or_before [] masks xs zero at = inr (refl, cc)
-last_or_before [] masks xs (suc k) at = cc
-last_or_before (first ∷ table) masks xs zero at = inl at
-last_or_before (first ∷ table) masks xs (suc k) at =
-    elim (last_or_before table masks xs k at) [
-      | inl before ↦ inl before
-      | inr last ↦ inr (ap suc last.0, last.1)
-    ]
 
 pub row_fits : (m : Machine) (r : ℕ) (row : Row) → slice_get m.rows r ≡ Some row
     → is_row m.inputs m.vars m.results row ≡ true
@@ -37,6 +25,14 @@ row_names m row h =
     let b = list_all (names_result m.inputs m.vars m.results) row.acts in
     let c = list_all (λ act. has_present row.conds act.source) row.acts in
     (and_parts a b (and_parts (a && b) c h).0).0
+
+pub row_acts : (m : Machine) (row : Row) → is_row m.inputs m.vars m.results row ≡ true
+    → list_all (names_result m.inputs m.vars m.results) row.acts ≡ true
+row_acts m row h =
+    let a = list_all (names_codes m.vars) row.conds in
+    let b = list_all (names_result m.inputs m.vars m.results) row.acts in
+    let c = list_all (λ act. has_present row.conds act.source) row.acts in
+    (and_parts a b (and_parts (a && b) c h).0).1
 
 -- a machine has 1 + states + outputs results
 pub results_long : (m : Machine) → length m.results ≡ 1 + length m.states + length m.outputs
@@ -107,6 +103,46 @@ given_more m codes acts y some =
     ap (λ (k : ℕ). codes_given m codes acts 1 k) e
     ∙ map-append (λ k. code_given m codes acts (1 + k)) (upto (y - 1)) ((y - 1) ∷ [])
     ∙ ap (λ (k : ℕ). codes_given m codes acts 1 (y - 1) ++ code_given m codes acts k ∷ []) g
+
+long_map : {X Y : Type 0} (f : X → Y) (xs : List X) → length (map f xs) ≡ length xs
+long_map f [] = refl
+long_map f (x ∷ xs) = ap suc (long_map f xs)
+
+long_upto : (n : ℕ) → length (upto n) ≡ n
+long_upto zero = refl
+long_upto (suc n) = length_push (upto n) n ∙ (let e = long_upto n in omega arith)
+
+pub given_long : (m : Machine) (codes : List ℕ) (acts : List Act) (y : ℕ) → 1 ≤ y
+    → length (1 ∷ codes_given m codes acts 1 (y - 1)) ≡ y
+given_long m codes acts y some =
+    let e = long_map (λ k. code_given m codes acts (1 + k)) (upto (y - 1)) in
+    let f = long_upto (y - 1) in
+    omega arith
+
+-- the next code in place of a 0
+pub set_first : (n : ℕ) → 1 ≤ n
+    → slice_set (replicate {A = ℕ} n 0) 0 1 ≡ 1 ∷ replicate {A = ℕ} (n - 1) 0
+set_first zero some = absurd (omega arith)
+set_first (suc n) some = let e : n ≡ suc n - 1 = omega arith in
+    ap (λ (k : ℕ). 1 ∷ replicate {A = ℕ} k 0) e
+
+pub set_next : (xs : List ℕ) (y n code : ℕ) → length xs ≡ y → y < n
+    → slice_set (xs ++ replicate {A = ℕ} (n - y) 0) y code
+    ≡ (xs ++ code ∷ []) ++ replicate {A = ℕ} (n - (y + 1)) 0
+set_next xs y n code long low =
+    let e : n - y ≡ suc (n - (y + 1)) = omega arith in
+    ap (λ (k : ℕ). slice_set (xs ++ replicate {A = ℕ} k 0) y code) e
+    ∙ ap (λ (k : ℕ). slice_set (xs ++ 0 ∷ replicate {A = ℕ} (n - (y + 1)) 0) k code) (sym long)
+    ∙ set-append_seam xs 0 (replicate {A = ℕ} (n - (y + 1)) 0) code
+    ∙ sym (append_assoc xs (code ∷ []) (replicate {A = ℕ} (n - (y + 1)) 0))
+
+pub room : (codes xs : List ℕ) (y n : ℕ) → codes ≡ xs ++ replicate {A = ℕ} (n - y) 0
+    → length xs ≡ y → y < n → y < length codes
+room codes xs y n is long low =
+    let e = ap (λ (ys : List ℕ). length ys) is
+    ∙ length-append xs (replicate {A = ℕ} (n - y) 0) in
+    let r = length-replicate {A = ℕ} (n - y) 0 in
+    omega arith
 
 pub zeros_apart : (n a b : ℕ) → n ≡ 1 + a + b
     → replicate {A = ℕ} n 0 ≡ 0 ∷ replicate {A = ℕ} a 0 ++ replicate {A = ℕ} b 0

@@ -51,24 +51,32 @@ same_source m s t y (Code code) h = refl
 same_source m s t y (Input v) h = absurd (false≢true h)
 same_source m s t y (Add k) h = absurd (false≢true h)
 
-same_given : (m : Machine) (s t : List ℕ) (acts : List Act) (y : ℕ) → list_all is_fixed acts ≡ true
+-- and outcomes of actions that all take the same codes on two lists
+same_given : (m : Machine) (s t : List ℕ) (p : Act → Bool)
+    → ((act : Act) → p act ≡ true
+    → code_of m.inputs m.vars s act.result act.source
+    ≡ code_of m.inputs m.vars t act.result act.source)
+    → (acts : List Act) (y : ℕ) → list_all p acts ≡ true
     → code_given m s acts y ≡ code_given m t acts y
-same_given m s t [] y h = refl
-same_given m s t (act ∷ acts) y h =
-    let parts = and_parts (is_fixed act) (list_all is_fixed acts) h in
-    ap (λ k. cond (act.result == y) k (code_given m s acts y))
-    (same_source m s t act.result act.source parts.0)
+same_given m s t p each [] y h = refl
+same_given m s t p each (act ∷ acts) y h =
+    let parts = and_parts (p act) (list_all p acts) h in
+    ap (λ k. cond (act.result == y) k (code_given m s acts y)) (each act parts.0)
     ∙ ap (λ k. cond (act.result == y) (code_of m.inputs m.vars t act.result act.source) k)
-    (same_given m s t acts y parts.1)
+    (same_given m s t p each acts y parts.1)
 
-same_outcome : (m : Machine) (s t : List ℕ) (acts : List Act) → list_all is_fixed acts ≡ true
+pub same_outcome : (m : Machine) (s t : List ℕ) (p : Act → Bool)
+    → ((act : Act) → p act ≡ true
+    → code_of m.inputs m.vars s act.result act.source
+    ≡ code_of m.inputs m.vars t act.result act.source)
+    → (acts : List Act) → list_all p acts ≡ true
     → codes_of (outcome_of m s true acts) ≡ codes_of (outcome_of m t true acts)
-same_outcome m s t acts h =
+same_outcome m s t p each acts h =
     let next = map_same (λ k. code_given m s acts (1 + k)) (λ k. code_given m t acts (1 + k))
-    (upto (length m.states)) (λ k. same_given m s t acts (1 + k) h) in
+    (upto (length m.states)) (λ k. same_given m s t p each acts (1 + k) h) in
     let outs = map_same (λ k. code_given m s acts (1 + length m.states + k))
     (λ k. code_given m t acts (1 + length m.states + k)) (upto (length m.outputs))
-    (λ k. same_given m s t acts (1 + length m.states + k) h) in
+    (λ k. same_given m s t p each acts (1 + length m.states + k) h) in
     ap (λ (xs : List ℕ). 1 ∷ (xs ++ codes_given m s acts (1 + length m.states) (length m.outputs)))
     next
     ∙ ap (λ (xs : List ℕ). 1 ∷ (codes_given m t acts 1 (length m.states) ++ xs)) outs
@@ -93,5 +101,7 @@ begin m s fixed outcomes are is =
           let told : slice_get (map f m.rows) r ≡ Some true =
           ap (λ (xs : List Bool). slice_get xs r) (sym is) ∙ on in
           let h : f row ≡ true = cc in
-          are.rows r row at ∙ same_outcome m s t row.acts h;
+          are.rows r row at
+          ∙ same_outcome m s t is_fixed
+          (λ act fix. same_source m s t act.result act.source fix) row.acts h;
     }

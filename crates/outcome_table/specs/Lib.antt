@@ -1,3 +1,4 @@
 pub mod Masks
+pub mod Needs
 pub mod Numbering
 pub mod Outcomes

@@ -1,5 +1,5 @@
 -- The codes of each variable that a row allows, as sets of bits.
-use Rattle.std.specs.Prelude.{◌≡◌, ℕ, ◌<◌, Bool, not, ◌&&◌, ◌||◌, ◌==◌, nat_lt, List, length, slice_get, slice_index, Some}
+use Rattle.std.specs.Prelude.{◌≡◌, ℕ, ◌<◌, Bool, not, ◌&&◌, ◌||◌, ◌==◌, nat_lt, List, [], length, slice_get, slice_index, get_or, Some}
 use Rattle.std.specs.List.{list_all}
 use Rattle.std.specs.Int.{bit_at}
 use Rattle.transition_table.specs.declared.row.Cond.{Cond}
@@ -18,13 +18,13 @@ is_allowed vars row var code = nat_lt code (slice_index vars var)
 abbrev pub IsMask : List ℕ → Row → ℕ → ℕ → Type 0
 IsMask vars row var mask = (code : ℕ) → (bit_at mask code == 1) ≡ is_allowed vars row var code
 
--- one such set for each variable
-pub record AreMasks (vars : List ℕ) (row : Row) (masks : List ℕ) : Type 0 where
-  pub long : length masks ≡ length vars
-  pub each : (var : ℕ) → var < length vars → IsMask vars row var (slice_index masks var)
+-- one such set for each row
+pub record AreMasks (vars : List ℕ) (rows : List Row) (var : ℕ) (masks : List ℕ) : Type 0 where
+  pub long : length masks ≡ length rows
+  pub each : (r : ℕ) (row : Row) → slice_get rows r ≡ Some row
+      → IsMask vars row var (slice_index masks r)
 
--- and these for each row
+-- and these for each variable
 pub record IsMaskTable (vars : List ℕ) (rows : List Row) (table : List (List ℕ)) : Type 0 where
-  pub long : length table ≡ length rows
-  pub each : (r : ℕ) (row : Row) (masks : List ℕ) → slice_get rows r ≡ Some row
-      → slice_get table r ≡ Some masks → AreMasks vars row masks
+  pub long : length table ≡ length vars
+  pub each : (var : ℕ) → var < length vars → AreMasks vars rows var (get_or table var [])

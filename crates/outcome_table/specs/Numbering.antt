@@ -1,7 +1,8 @@
 -- Numbers for the outcomes of snapshots, while variables are fixed one by one.
-use Rattle.std.specs.Prelude.{◌≡◌, ℕ, ◌+◌, ◌≤◌, Bool, true, false, not, ◌||◌, nat_lt, List, [], ◌++◌, map, length, take, get_or, slice_get, Some}
+use Rattle.std.specs.Prelude.{◌≡◌, ℕ, ◌+◌, ◌<◌, ◌≤◌, Bool, true, false, not, ◌||◌, nat_lt, List, [], ◌++◌, map, length, take, drop, get_or, slice_get, slice_index, Some}
 use Rattle.std.specs.List.{list_all}
 use Rattle.domains.specs.AllCodes.{all_codes}
+use Rattle.domains.specs.Tables.{product}
 use Rattle.polis_base.specs.Lists.{places_where}
 use Rattle.transition_table.specs.Transitions.{allows, outcome_of, blank}
 use Rattle.transition_table.specs.declared.machine.Machine.{Machine}
@@ -53,9 +54,20 @@ pub record BeginWithRows (m : Machine) (fixed : List Bool) (outcomes : List (Lis
 -- the outcomes of these lists have been numbered after those before
 pub record Adds (m : Machine) (old new : Numbered) (lists : List (List ℕ)) : Type 0 where
   pub kept : take (length old.outcomes) new.outcomes ≡ old.outcomes
-  pub results : named new.outcomes new.numbers
-      ≡ named old.outcomes old.numbers ++ map (result_codes m) lists
-  pub within : are_named new.outcomes new.numbers
+  pub results : named new.outcomes new.numbers.items
+      ≡ named old.outcomes old.numbers.items ++ map (result_codes m) lists
+  pub within : are_named new.outcomes new.numbers.items
+
+-- the number is that of the outcome of all lists of codes that begin with the fixed ones
+pub record IsNumberAfter (m : Machine) (fixed : List ℕ) (outcomes : List (List ℕ)) (number : ℕ)
+    : Type 0 where
+  pub low : number < length outcomes
+  pub gives : (rest : List ℕ) → get_or outcomes number [] ≡ result_codes m (fixed ++ rest)
+
+-- for each variable, and after the last one, the number of lists of codes of those from it on
+pub record AreCounts (vars counts : List ℕ) : Type 0 where
+  pub long : length counts ≡ length vars + 1
+  pub each : (v : ℕ) → v ≤ length vars → slice_index counts v ≡ product (drop v vars)
 
 -- the outcome that is blank, and then that of each row, on these codes of a snapshot
 pub record AreRowOutcomes (m : Machine) (s : List ℕ) (outcomes : List (List ℕ)) : Type 0 where

@@ -1,5 +1,6 @@
 // The codes of one variable on all lists of codes.
-ghost use Rattle.std.specs.Prelude.{◌≡◌, ◌-◌, ◌<◌, ◌≤◌, ◌^◌, ◌++◌, length, drop, replicate, IfOk};
+ghost use Rattle.std.specs.Prelude.{◌≡◌, ◌-◌, ◌*◌, ◌<◌, ◌≤◌, ◌^◌, length, drop, flat_map, replicate, IfOk};
+ghost use Rattle.polis_base.specs.Lists.{upto};
 ghost use Rattle.domains.specs.AllCodes.{all_codes};
 ghost use Rattle.domains.specs.Tables.{product};
 ghost use Rattle.outcome_table.specs.Outcomes.{column, AreColumns};
@@ -21,37 +22,48 @@ pub fn lists_from(vars: &VarTable, from: u64) -> u64
     u64::from(*vars.get(from)) * lists_from(vars, from + 1)
 }
 
-// Puts a code so many times at the end.
-fn push_same(codes: &mut Codes, code: u8, times: u64) -> Result<(), NoMemory>
-    ensures { IfOk result (λ done. codes.new ≡ codes.old ++ replicate times code) }
+// Each code of a variable so many times.
+fn blocks(alloc: Global, size: u8, times: u64) -> Result<Vec<u8>, NoMemory>
+    requires { size * times < 2 ^ 63 }
+    ensures { IfOk result (λ made. made.items ≡ flat_map (replicate times) (upto size)) }
 {
-    for _ in 0..times {
-        codes.push(code)?;
+    let mut made = Vec::with_capacity(alloc, size as usize * times as usize)?;
+    for code in 0..size {
+        let count = made.len() + times as usize;
+        made.resize(count, code)?;
     }
-    Ok(())
+    Ok(made)
 }
 
-// Puts the codes of a variable on all lists of the variables from one on at the end.
-fn push_column(into: &mut Codes, vars: &VarTable, from: u64, v: u64) -> Result<(), NoMemory>
+// A piece so many times.
+fn repeated(alloc: Global, piece: &[u8], times: u8) -> Result<Vec<u8>, NoMemory>
+    requires { times * length piece.now < 2 ^ 63 }
+    ensures { IfOk result (λ made. made.items ≡ flat_map (λ c. piece.now) (upto times)) }
+{
+    let mut made = Vec::with_capacity(alloc, times as usize * piece.len())?;
+    for _ in 0..times {
+        made.extend_from_slice(piece)?;
+    }
+    Ok(made)
+}
+
+// The codes of a variable on all lists of the variables from one on.
+fn column_from(alloc: Global, vars: &VarTable, from: u64, v: u64) -> Result<Vec<u8>, NoMemory>
     requires from { from ≤ v }
     requires var { v < length vars.now }
     requires few { product (drop from vars.now) < 2 ^ 63 }
-    ensures { IfOk result (λ done. into.new
-        ≡ into.old ++ column (v - from) (all_codes (drop from vars.now))) }
+    ensures { IfOk result (λ made. made.items
+        ≡ column (v - from) (all_codes (drop from vars.now))) }
 {
     let _ = vars.len();
     let size = *vars.get(from);
     if from == v {
-        let times = lists_from(vars, from + 1);
-        for code in 0..size {
-            push_same(into, code, times)?;
-        }
-        return Ok(());
+        let made = blocks(alloc, size, lists_from(vars, from + 1))?;
+        return Ok(made);
     }
-    for _ in 0..size {
-        push_column(into, vars, from + 1, v)?;
-    }
-    Ok(())
+    let later = column_from(alloc, vars, from + 1, v)?;
+    let made = repeated(alloc, &later, size)?;
+    Ok(made)
 }
 
 /// For each variable its codes on all lists of codes, in their order.
@@ -61,9 +73,8 @@ pub(crate) fn columns_of(alloc: Global, vars: &VarTable) -> Result<List<Codes>, 
 {
     let mut columns = List::new(alloc);
     for v in 0..vars.len() {
-        let mut column = Codes::new(alloc);
-        push_column(&mut column, vars, 0, v)?;
-        columns.push(column)?;
+        let column = column_from(alloc, vars, 0, v)?;
+        columns.push(Codes::from_slice(alloc, &column)?)?;
     }
     Ok(columns)
 }

@@ -3,6 +3,7 @@
 
 mod column;
 mod mask;
+mod need;
 mod number;
 mod row;
 mod table;

@@ -1,4 +1,4 @@
-// The codes that rows allow, as one set for each row and variable, made once.
+// The codes that rows allow, as one set for each variable and row, made once.
 ghost use Rattle.std.specs.Prelude.{◌≡◌, ◌<◌, ◌≤◌, ◌&&◌, ◌==◌, ℕ, nat_lt, length, IfOk, IsTrue};
 ghost use Rattle.std.specs.List.{list_all};
 ghost use Rattle.std.specs.Int.{bit_at};
@@ -8,7 +8,7 @@ use polis_base::{List, NoMemory};
 use std::alloc::Global;
 use transition_table::{Cond, Machine, Row};
 
-/// A set of codes for each variable, one bit each.
+/// A set of codes for each row, one bit each.
 pub(crate) type CodeSets = List<u64>;
 
 // Those codes of a set that all conditions on a variable allow, one bit each.
@@ -45,24 +45,25 @@ fn mask_of(machine: &Machine, row: &Row, var: u32) -> u64
     )
 }
 
-// The codes of each variable that a row allows.
-fn masks_of(alloc: Global, machine: &Machine, row: &Row) -> Result<CodeSets, NoMemory>
-    ensures { IfOk result (AreMasks machine.now.vars row.now) }
+// The codes of a variable that each row allows.
+fn masks_of(alloc: Global, machine: &Machine, var: u32) -> Result<CodeSets, NoMemory>
+    requires { var < length machine.now.vars }
+    ensures { IfOk result (AreMasks machine.now.vars machine.now.rows var) }
 {
     let mut masks = CodeSets::new(alloc);
-    for var in 0..machine.vars.len() {
-        masks.push(mask_of(machine, row, var as u32))?;
+    for r in 0..machine.rows.len() {
+        masks.push(mask_of(machine, machine.rows.get(r), var))?;
     }
     Ok(masks)
 }
 
-/// The codes of each variable that each row allows.
+/// For each variable the codes of it that each row allows.
 pub(crate) fn mask_table(alloc: Global, machine: &Machine) -> Result<List<CodeSets>, NoMemory>
     ensures { IfOk result (IsMaskTable machine.now.vars machine.now.rows) }
 {
     let mut table = List::new(alloc);
-    for r in 0..machine.rows.len() {
-        table.push(masks_of(alloc, machine, machine.rows.get(r))?)?;
+    for var in 0..machine.vars.len() {
+        table.push(masks_of(alloc, machine, var as u32)?)?;
     }
     Ok(table)
 }

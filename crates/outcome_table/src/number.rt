@@ -1,16 +1,19 @@
 // Numbers for the outcomes of all snapshots.
-ghost use Rattle.std.specs.Prelude.{◌≡◌, ◌<◌, ◌≤◌, ◌==◌, ℕ, nat_lt, map, length, take, drop, filter, slice_index, get_or, [], ◌∷◌, IfOk, IsTrue};
+ghost use Rattle.std.specs.Prelude.{◌≡◌, ◌<◌, ◌≤◌, ◌==◌, ℕ, nat_lt, map, length, take, drop, filter, slice_index, slice_set, replicate, ◌++◌, IfOk, IsTrue};
 ghost use Rattle.std.specs.List.{list_all};
 ghost use Rattle.std.specs.Int.{bit_at};
 ghost use Rattle.domains.specs.AllCodes.{all_codes};
 ghost use Rattle.transition_table.specs.Transitions.{IsSnapshot};
 ghost use Rattle.polis_base.specs.Lists.{upto};
 ghost use Rattle.outcome_table.specs.Masks.{IsMaskTable};
-ghost use Rattle.outcome_table.specs.Numbering.{Adds, AreRowOutcomes, BeginWithRows, is_fixed, lists_after, rows_left};
+ghost use Rattle.outcome_table.specs.Needs.{AreEnds, end_left};
+ghost use Rattle.outcome_table.specs.Numbering.{Adds, AreCounts, AreRowOutcomes, BeginWithRows, IsNumberAfter, is_fixed, lists_after, rows_left};
 ghost use Rattle.outcome_table.specs.Outcomes.{named, are_named};
 ghost use Rattle.transition_table.specs.Computed.{result_codes};
 
+use crate::column::lists_from;
 use crate::mask::{CodeSets, mask_table};
+use crate::need::ends_of;
 use crate::row::{are_codes, blank_codes, row_codes};
 use domains::{Codes, first_codes};
 use polis_base::{List, NoMemory, Places};
@@ -21,7 +24,7 @@ use transition_table::{Machine, Snapshot};
 #[derive(Drop)]
 pub(crate) struct Numbered {
     /// For each snapshot the number of its outcome.
-    pub(crate) numbers: Places,
+    pub(crate) numbers: Vec<u64>,
     /// For each number the codes of the results.
     pub(crate) outcomes: List<Codes>,
 }
@@ -31,33 +34,56 @@ pub(crate) struct Numbered {
 struct Narrowing<'a> {
     alloc: Global,
     machine: &'a Machine,
-    // for each row and variable the codes that the row allows
+    // for each variable and row the codes that the row allows
     masks: &'a List<CodeSets>,
     // for each row whether its outcome is the same on all snapshots
     fixed: &'a List<bool>,
+    // for each row how many variables from the first on it needs
+    ends: &'a Places,
+    // for each variable how many lists of codes there are of those from it on
+    counts: &'a Places,
 }
 
-// Puts those of the rows that allow a code of a variable into a list, in place of what it had.
+// Makes a list at least so long.
+fn lengthen(list: &mut Vec<u64>, len: usize) -> Result<(), NoMemory>
+    ensures { IfOk result (λ done. len ≤ length list.new.items) }
+{
+    if list.len() < len {
+        list.resize(len, 0)?;
+    }
+    Ok(())
+}
+
+// Puts a row into a list in place of another.
+fn put(list: &mut Vec<u64>, at: usize, row: u64)
+    requires { at < length list.old.items }
+    ensures { list.new.items ≡ slice_set list.old.items at row }
+{
+    list[at] = row;
+}
+
+// Puts those of the rows that allow a code of a variable at the start of a list, and says how many
+// they are. Each row is put, and the next one over it where it isn't kept: a test for each row
+// would take longer.
 fn allowing(
-    masks: &List<CodeSets>,
-    var: u64,
+    masks: &CodeSets,
     rows: &[u64],
     code: u8,
     kept: &mut Vec<u64>,
-) -> Result<(), NoMemory>
+) -> Result<usize, NoMemory>
     requires rows { IsTrue (list_all (λ r. nat_lt r (length masks.now)) rows.now) }
-    requires var { IsTrue (list_all (λ sets. nat_lt var (length sets)) masks.now) }
     requires code { code < 64 }
-    ensures { IfOk result (λ done. kept.new.items
-        ≡ filter (λ r. bit_at (slice_index (get_or masks.now r []) var) code == 1) rows.now) }
+    ensures within { IfOk result (λ count. count ≤ length kept.new.items) }
+    ensures rows { IfOk result (λ count. take count kept.new.items
+        ≡ filter (λ r. bit_at (slice_index masks.now r) code == 1) rows.now) }
 {
-    kept.clear();
+    lengthen(kept, rows.len())?;
+    let mut count = 0;
     for r in rows {
-        if (*masks.get(*r).get(var) >> code) % 2 == 1 {
-            kept.push(*r)?;
-        }
+        put(kept, count, *r);
+        count += ((*masks.get(*r) >> code) % 2) as usize;
     }
-    Ok(())
+    Ok(count)
 }
 
 // A list that is no longer used, or a new one.
@@ -68,34 +94,92 @@ fn spare_list(alloc: Global, spare: &mut Vec<Vec<u64>>) -> Vec<u64> {
     }
 }
 
-// Numbers the outcome of a snapshot, given the rows that are enabled on it.
-fn number_one(
+// How many variables the first of the rows needs, none where there is no row.
+fn end_left(narrowing: &Narrowing, rows: &[u64]) -> u64
+    requires ends { AreEnds narrowing.now.machine.now narrowing.now.ends.now }
+    requires rows { IsTrue (list_all (λ r. nat_lt r (length narrowing.now.ends.now)) rows.now) }
+    ensures end { result ≡ end_left narrowing.now.ends.now rows.now }
+    ensures within { result ≤ length narrowing.now.machine.now.vars }
+{
+    match rows.split_first() {
+        Some((r, _)) => *narrowing.ends.get(*r),
+        None => 0,
+    }
+}
+
+// The number of the outcome of all snapshots that have the codes of the variables before one, given
+// the rows whose conditions on these hold, of which the first needs no later variable.
+fn number_after(
     narrowing: &Narrowing,
     rows: &[u64],
+    at: u64,
     s: &Snapshot,
-    made: &mut Numbered,
-) -> Result<(), NoMemory>
+    outcomes: &mut List<Codes>,
+) -> Result<u64, NoMemory>
+    requires at { at ≤ length narrowing.now.machine.now.vars }
     requires snapshot { IsSnapshot narrowing.now.machine.now s.now }
-    requires rows { rows.now ≡ rows_left narrowing.now.machine.now s.now.codes }
-    requires begins { BeginWithRows narrowing.now.machine.now narrowing.now.fixed.now made.old.outcomes }
-    requires within { are_named made.old.outcomes made.old.numbers }
-    ensures { IfOk result
-        (λ done. Adds narrowing.now.machine.now made.old made.new (s.now.codes ∷ [])) }
+    requires rows { rows.now ≡ rows_left narrowing.now.machine.now (take at s.now.codes) }
+    requires begins { BeginWithRows narrowing.now.machine.now narrowing.now.fixed.now outcomes.old }
+    requires ends { AreEnds narrowing.now.machine.now narrowing.now.ends.now }
+    requires end { end_left narrowing.now.ends.now rows.now ≤ at }
+    ensures kept { IfOk result (λ k. take (length outcomes.old) outcomes.new ≡ outcomes.old) }
+    ensures number { IfOk result
+        (IsNumberAfter narrowing.now.machine.now (take at s.now.codes) outcomes.new) }
 {
     if rows.len() == 0 {
-        made.numbers.push(0)?;
-        return Ok(());
+        return Ok(0);
     }
     let r = rows[0];
     if *narrowing.fixed.get(r) {
-        made.numbers.push(1 + r)?;
-        return Ok(());
+        return Ok(1 + r);
     }
     let row = narrowing.machine.rows.get(r);
     let codes = row_codes(narrowing.alloc, narrowing.machine, row, s)?;
-    let number = made.outcomes.len();
-    made.outcomes.push(codes)?;
-    made.numbers.push(number)?;
+    let number = outcomes.len();
+    outcomes.push(codes)?;
+    Ok(number)
+}
+
+// Puts a number so many times at the end.
+fn push_times(numbers: &mut Vec<u64>, number: u64, times: u64) -> Result<(), NoMemory>
+    requires { times ≤ 65536 }
+    ensures { IfOk result (λ done. numbers.new.items
+        ≡ numbers.old.items ++ replicate times number) }
+{
+    if times == 1 {
+        numbers.push(number)?;
+        return Ok(());
+    }
+    let count = numbers.len() + times as usize;
+    numbers.resize(count, number)?;
+    Ok(())
+}
+
+// Numbers the outcome of all snapshots that have the codes of the variables before one, where it is
+// the same on them.
+fn number_all(
+    narrowing: &Narrowing,
+    rows: &[u64],
+    at: u64,
+    s: &Snapshot,
+    made: &mut Numbered,
+) -> Result<(), NoMemory>
+    requires at { at ≤ length narrowing.now.machine.now.vars }
+    requires snapshot { IsSnapshot narrowing.now.machine.now s.now }
+    requires rows { rows.now ≡ rows_left narrowing.now.machine.now (take at s.now.codes) }
+    requires begins { BeginWithRows narrowing.now.machine.now narrowing.now.fixed.now
+        made.old.outcomes }
+    requires within { are_named made.old.outcomes made.old.numbers.items }
+    requires ends { AreEnds narrowing.now.machine.now narrowing.now.ends.now }
+    requires end { end_left narrowing.now.ends.now rows.now ≤ at }
+    requires counts { AreCounts narrowing.now.machine.now.vars narrowing.now.counts.now }
+    ensures { IfOk result (λ done.
+        Adds narrowing.now.machine.now made.old made.new
+        (lists_after (take at s.now.codes) (drop at narrowing.now.machine.now.vars))) }
+{
+    let times = *narrowing.counts.get(at);
+    let number = number_after(narrowing, rows, at, s, &mut made.outcomes)?;
+    push_times(&mut made.numbers, number, times)?;
     Ok(())
 }
 
@@ -114,24 +198,28 @@ fn number_rest(
     requires rows { rows.now ≡ rows_left narrowing.now.machine.now (take at s.old.codes) }
     requires masks { IsMaskTable narrowing.now.machine.now.vars narrowing.now.machine.now.rows
         narrowing.now.masks.now }
-    requires begins { BeginWithRows narrowing.now.machine.now narrowing.now.fixed.now made.old.outcomes }
-    requires within { are_named made.old.outcomes made.old.numbers }
+    requires begins { BeginWithRows narrowing.now.machine.now narrowing.now.fixed.now
+        made.old.outcomes }
+    requires within { are_named made.old.outcomes made.old.numbers.items }
+    requires ends { AreEnds narrowing.now.machine.now narrowing.now.ends.now }
+    requires counts { AreCounts narrowing.now.machine.now.vars narrowing.now.counts.now }
     ensures adds { IfOk result (λ done.
         Adds narrowing.now.machine.now made.old made.new
         (lists_after (take at s.old.codes) (drop at narrowing.now.machine.now.vars))) }
     ensures snapshot { IfOk result (λ done. IsSnapshot narrowing.now.machine.now s.new) }
     ensures kept { IfOk result (λ done. take at s.new.codes ≡ take at s.old.codes) }
 {
-    if at == narrowing.machine.vars.len() {
-        return number_one(narrowing, rows, s, made);
+    if end_left(narrowing, rows) <= at {
+        return number_all(narrowing, rows, at, s, made);
     }
+    let masks = narrowing.masks.get(at);
+    let mut left = spare_list(narrowing.alloc, spare);
     for code in 0..*narrowing.machine.vars.get(at) {
         s.codes.set(at, code);
-        let mut left = spare_list(narrowing.alloc, spare);
-        allowing(narrowing.masks, at, rows, code, &mut left)?;
-        number_rest(narrowing, &left, at + 1, s, made, spare)?;
-        spare.push(left)?;
+        let count = allowing(masks, rows, code, &mut left)?;
+        number_rest(narrowing, &left[..count], at + 1, s, made, spare)?;
     }
+    spare.push(left)?;
     Ok(())
 }
 
@@ -171,27 +259,42 @@ fn numbers_below(alloc: Global, bound: u64) -> Result<Places, NoMemory>
     Ok(list)
 }
 
+// For each variable, and after the last one, how many lists of codes there are of those from it on.
+fn counts_of(alloc: Global, m: &Machine) -> Result<Places, NoMemory>
+    ensures { IfOk result (AreCounts m.now.vars) }
+{
+    let mut counts = Places::new(alloc);
+    for v in 0..m.var_count() + 1 {
+        counts.push(lists_from(&m.vars, u64::from(v)))?;
+    }
+    Ok(counts)
+}
+
 /// Numbers the outcomes of all snapshots, in their order.
 pub(crate) fn numbers_of(alloc: Global, m: &Machine) -> Result<Numbered, NoMemory>
-    ensures results { IfOk result (λ made. named made.outcomes made.numbers
+    ensures results { IfOk result (λ made. named made.outcomes made.numbers.items
         ≡ map (result_codes m.now) (all_codes m.now.vars)) }
-    ensures within { IfOk result (λ made. are_named made.outcomes made.numbers) }
+    ensures within { IfOk result (λ made. are_named made.outcomes made.numbers.items) }
 {
     let mut s = Snapshot {
         codes: first_codes(alloc, &m.vars)?,
     };
-    let mut made = Numbered {
-        numbers: Places::new(alloc),
-        outcomes: row_outcomes(alloc, m, &s)?,
-    };
     let masks = mask_table(alloc, m)?;
     let fixed = fixed_rows(alloc, m)?;
+    let ends = ends_of(alloc, m)?;
+    let counts = counts_of(alloc, m)?;
+    let mut made = Numbered {
+        numbers: Vec::with_capacity(alloc, *counts.get(0) as usize)?,
+        outcomes: row_outcomes(alloc, m, &s)?,
+    };
     let rows = numbers_below(alloc, m.rows.len())?;
     let narrowing = Narrowing {
         alloc,
         machine: m,
         masks: &masks,
         fixed: &fixed,
+        ends: &ends,
+        counts: &counts,
     };
     let mut spare = Vec::new(alloc);
     number_rest(

@@ -46,10 +46,11 @@ pub(crate) fn row_codes(
     ensures { IfOk result (λ codes. codes
         ≡ codes_of (outcome_of machine.now s.now.codes true row.now.acts)) }
 {
-    let mut codes = Codes::new(alloc);
-    codes.push(1)?;
-    for y in 1..machine.result_count() {
-        codes.push(row.code_for(machine, y, s))?;
+    let count = machine.result_count();
+    let mut codes = Codes::filled(alloc, u64::from(count), 0)?;
+    codes.set(0, 1);
+    for y in 1..count {
+        codes.set(u64::from(y), row.code_for(machine, y, s));
     }
     Ok(codes)
 }
@@ -58,9 +59,6 @@ pub(crate) fn row_codes(
 pub(crate) fn blank_codes(alloc: Global, machine: &Machine) -> Result<Codes, NoMemory>
     ensures { IfOk result (λ codes. codes ≡ codes_of (blank machine.now)) }
 {
-    let mut codes = Codes::new(alloc);
-    for _ in 0..machine.result_count() {
-        codes.push(0)?;
-    }
+    let codes = Codes::filled(alloc, u64::from(machine.result_count()), 0)?;
     Ok(codes)
 }

@@ -22,16 +22,17 @@ pub struct Table {
     pub outcomes: List<Codes>,
 }
 
-/// The table of a machine: its rows are narrowed variable by variable, so that no row is tried on
-/// each snapshot.
+/// The table of a machine: its rows are narrowed variable by variable, as far as the first row that
+/// is left needs, so that no row is tried on each snapshot.
 pub fn table_of(alloc: Global, m: &Machine) -> Result<Table, NoMemory>
     ensures { IfOk result (IsTableOf m.now) }
 {
     let codes = columns_of(alloc, &m.vars)?;
     let numbered = numbers_of(alloc, m)?;
+    let numbers = Places::from_slice(alloc, &numbered.numbers)?;
     Ok(Table {
         codes,
-        numbers: numbered.numbers,
+        numbers,
         outcomes: numbered.outcomes,
     })
 }

@@ -1,12 +1,10 @@
-use Rattle.std.proofs.Common.{◌≡◌, ℕ, List, length, slice_get, Some}
-use Rattle.transition_table.specs.declared.row.Row.{Row}
+use Rattle.std.proofs.Common.{◌≡◌, ◌<◌, ℕ, [], length, get_or}
 use Rattle.outcome_table.specs.Masks.{AreMasks}
 use Rattle.outcome_table.proofs.mask.mask_table.Given as goal
 
--- the rows before this one
-abbrev pub invariant-loop-r : goal.invariant-loop-r
-invariant-loop-r l = record {
-  long : length l.table ≡ l.r;
-  each : (k : ℕ) (row : Row) (masks : List ℕ) → slice_get l.machine.rows k ≡ Some row
-      → slice_get l.table k ≡ Some masks → AreMasks l.machine.vars row masks;
+-- the variables before this one
+abbrev pub invariant-loop-var : goal.invariant-loop-var
+invariant-loop-var l = record {
+  long : length l.table ≡ l.var;
+  each : (k : ℕ) → k < l.var → AreMasks l.machine.vars l.machine.rows k (get_or l.table k []);
 }

@@ -1,48 +1,24 @@
-use Rattle.std.proofs.Common.{◌≡◌, ◌∙◌, ◌+◌, ◌<◌, ◌≤◌, ◌++◌, ◌∷◌, [], ℕ, suc, true, List, length, take, drop, flat_map, slice_get, slice_index, slice_set, Some, refl, arith, ap, sym, subst}
-use Rattle.std.specs.Prelude.{IfOk}
+use Rattle.std.proofs.Common.{◌≡◌, ◌∙◌, ◌+◌, ◌<◌, ◌≤◌, ◌++◌, ◌∷◌, [], ℕ, suc, true, List, length, take, drop, flat_map, slice_get, slice_index, slice_set, Some, arith, ap, sym, subst}
 use Rattle.std.proofs.Math.Seq.{drop-cons}
-use Rattle.std.proofs.lemmas.List.{length-take-le, take_more_set, take-set, take_all}
+use Rattle.std.proofs.lemmas.List.{length-take-le, take_more_set, take-set}
 use Rattle.std.proofs.lemmas.Option.{get_or_from_slice_get}
 use Rattle.polis_base.specs.Lists.{upto}
 use Rattle.domains.specs.Tables.{fits}
 use Rattle.transition_table.specs.declared.machine.Machine.{Machine}
+use Rattle.outcome_table.specs.Masks.{AreMasks}
 use Rattle.outcome_table.specs.Numbering.{Adds, lists_after, rows_left}
-use Rattle.outcome_table.proofs.Counting.{adds_on, begins_kept, lists_end, lists_split, take_less}
+use Rattle.outcome_table.proofs.Counting.{adds_on, begins_kept, lists_split, take_less}
 use Rattle.outcome_table.proofs.Lists.{flat_upto}
-use Rattle.outcome_table.proofs.Narrowing.{left_below, narrowed, table_wide}
+use Rattle.outcome_table.proofs.Narrowing.{left_below, narrowed}
 use Rattle.outcome_table.proofs.Rows.{fits_long, fits_set}
 use Rattle.outcome_table.proofs.Ones.{machine_sizes, size_at}
 use Rattle.outcome_table.proofs.number.+number_rest.Goals as goal
 
-pub number_one-requires-clause-rows : goal.number_one-requires-clause-rows
-number_one-requires-clause-rows t c =
-    let m = c.args.narrowing.now.machine.now in
-    let s = c.args.s.now.codes in
-    let long = fits_long m.vars s c.requires.snapshot in
-    let whole : length s ≤ c.args.at = let e = c.if-at-len.true in let l = c.len.ensures.len in
-    omega arith in
-    c.requires.rows ∙ ap (rows_left m) (take_all c.args.at s whole)
-
-past_end : (xs : List ℕ) (n : ℕ) → n ≡ length xs → drop n xs ≡ []
-past_end xs n e = ap (λ k. drop k xs) e ∙ past xs
-  where
-    past : (xs : List ℕ) → drop (length xs) xs ≡ []
-    past [] = refl
-    past (x ∷ xs) = past xs
-
-pub returns-then-at-len-clause-adds : goal.returns-then-at-len-clause-adds
-returns-then-at-len-clause-adds t c =
-    let m = c.args.narrowing.now.machine.now in
-    let s = c.args.s.now.codes in
-    let long = fits_long m.vars s c.requires.snapshot in
-    let whole : length s ≤ c.args.at = let e = c.if-at-len.true in let l = c.len.ensures.len in
-    omega arith in
-    let end : lists_after (take c.args.at s) (drop c.args.at m.vars) ≡ s ∷ [] =
-    lists_end (take c.args.at s) (drop c.args.at m.vars)
-    (past_end m.vars c.args.at (c.if-at-len.true ∙ c.len.ensures.len))
-    ∙ ap (λ (xs : List ℕ). xs ∷ []) (take_all c.args.at s whole) in
-    subst (λ (lists : List (List ℕ)). IfOk c.number_one.result
-    (λ done. Adds m c.args.made.now c.number_one.new.made lists)) (sym end) c.number_one.ensures
+pub end_left-requires-clause-rows : goal.end_left-requires-clause-rows
+end_left-requires-clause-rows t c =
+    left_below c.args.narrowing.now.machine.now (take c.args.at c.args.s.now.codes)
+    c.args.rows.now (length c.args.narrowing.now.ends.now) c.requires.rows
+    c.requires.ends.long
 
 -- what stands at one turn of the loop
 record Turn (m : Machine) (s cur : List ℕ) (at code size : ℕ) : Type 0 where
@@ -54,11 +30,10 @@ record Turn (m : Machine) (s cur : List ℕ) (at code size : ℕ) : Type 0 where
   fixed : take (at + 1) (slice_set cur at code) ≡ take at s ++ code ∷ []
   fit : fits m.vars (slice_set cur at code) ≡ true
 
-turn : (m : Machine) (s cur : List ℕ) (at code size len : ℕ) → at ≤ length m.vars → (at ≡ len → ⊥)
-    → len ≡ length m.vars → fits m.vars s ≡ true → fits m.vars cur ≡ true → take at cur ≡ take at s
+turn : (m : Machine) (s cur : List ℕ) (at code size : ℕ) → at < length m.vars
+    → fits m.vars s ≡ true → fits m.vars cur ≡ true → take at cur ≡ take at s
     → slice_get m.vars at ≡ Some size → code < size → Turn m s cur at code size
-turn m s cur at code size len most other whole fit_s fit_cur kept get less =
-    let low : at < length m.vars = omega (arith, other, whole, most) in
+turn m s cur at code size low fit_s fit_cur kept get less =
     let long = fits_long m.vars s fit_s in
     let long_cur = fits_long m.vars cur fit_cur in
     let is : slice_index m.vars at ≡ size = get_or_from_slice_get m.vars at size 0 get in
@@ -76,8 +51,8 @@ turn m s cur at code size len most other whole fit_s fit_cur kept get less =
 pub set-requires : goal.set-requires
 set-requires t c =
     let u = turn c.args.narrowing.now.machine.now c.args.s.now.codes c.loop-code.s.codes c.args.at
-    c.loop-code.code c.get-code-end.result.now c.len.result c.requires.at c.if-at-len.false
-    c.len.ensures.len c.requires.snapshot c.loop-code.invariant.snapshot
+    c.loop-code.code c.get-code-end.result.now (omega arith) c.requires.snapshot
+    c.loop-code.invariant.snapshot
     c.loop-code.invariant.kept c.get-code-end.ensures c.loop-code-test.true in
     let a = u.low in
     let b = u.long_cur in
@@ -86,44 +61,46 @@ set-requires t c =
 pub allowing-requires-clause-rows : goal.allowing-requires-clause-rows
 allowing-requires-clause-rows t c =
     left_below c.args.narrowing.now.machine.now (take c.args.at c.args.s.now.codes)
-    c.args.rows.now (length c.args.narrowing.now.masks.now) c.requires.rows
-    c.requires.masks.long
+    c.args.rows.now (length c.get-masks.result.now) c.requires.rows
+    (rw (get_or_from_slice_get c.args.narrowing.now.masks.now c.args.at c.get-masks.result.now []
+    c.get-masks.ensures) at (c.requires.masks.each c.args.at (omega arith)).long)
 
-pub allowing-requires-clause-var : goal.allowing-requires-clause-var
-allowing-requires-clause-var t c =
-    let u = turn c.args.narrowing.now.machine.now c.args.s.now.codes c.loop-code.s.codes c.args.at
-    c.loop-code.code c.get-code-end.result.now c.len.result c.requires.at c.if-at-len.false
-    c.len.ensures.len c.requires.snapshot c.loop-code.invariant.snapshot
-    c.loop-code.invariant.kept c.get-code-end.ensures c.loop-code-test.true in
-    table_wide c.args.narrowing.now.machine.now c.args.narrowing.now.masks.now c.args.at
-    c.requires.masks u.low
+pub get-masks-requires : goal.get-masks-requires
+get-masks-requires t c =
+    let a = c.end_left.ensures.within in
+    let b = c.if-end_left-at.false in
+    let long = c.requires.masks.long in
+    omega arith
 
 pub allowing-requires-clause-code : goal.allowing-requires-clause-code
 allowing-requires-clause-code t c =
     (turn c.args.narrowing.now.machine.now c.args.s.now.codes c.loop-code.s.codes c.args.at
-    c.loop-code.code c.get-code-end.result.now c.len.result c.requires.at c.if-at-len.false
-    c.len.ensures.len c.requires.snapshot c.loop-code.invariant.snapshot
+    c.loop-code.code c.get-code-end.result.now (omega arith) c.requires.snapshot
+    c.loop-code.invariant.snapshot
     c.loop-code.invariant.kept c.get-code-end.ensures c.loop-code-test.true).few
 
 pub number_rest-requires : goal.number_rest-requires
 number_rest-requires t c =
     let m = c.args.narrowing.now.machine.now in
     let s = c.args.s.now.codes in
-    let masks = c.args.narrowing.now.masks.now in
+    let masks : List ℕ = c.get-masks.result.now in
     let at = c.args.at in
     let code = c.loop-code.code in
-    let u = turn m s c.loop-code.s.codes at code c.get-code-end.result.now c.len.result
-    c.requires.at c.if-at-len.false c.len.ensures.len c.requires.snapshot
-    c.loop-code.invariant.snapshot c.loop-code.invariant.kept c.get-code-end.ensures
-    c.loop-code-test.true in
+    let u = turn m s c.loop-code.s.codes at code c.get-code-end.result.now (omega arith)
+    c.requires.snapshot c.loop-code.invariant.snapshot c.loop-code.invariant.kept
+    c.get-code-end.ensures c.loop-code-test.true in
     let low = u.low in
     let long = u.long in
+    let allowed : AreMasks m.vars m.rows at masks =
+    subst (λ (sets : List ℕ). AreMasks m.vars m.rows at sets)
+    (get_or_from_slice_get c.args.narrowing.now.masks.now at masks [] c.get-masks.ensures)
+    (c.requires.masks.each at low) in
     let prefix : at ≡ length (take at s) = sym (length-take-le at s (omega arith)) in
-    let left : c.deref.result.now ≡ rows_left m (take (at + 1) c.set.new.self) =
-    c.deref.ensures.value
-    ∙ c.in_ok-allowing.ensures
-    ∙ narrowed m masks (take at s) c.args.rows.now at code c.requires.masks prefix low u.below
-    c.requires.rows
+    let left : take c.in_ok-count.count c.deref.result.now
+    ≡ rows_left m (take (at + 1) c.set.new.self) =
+    ap (take c.in_ok-count.count) c.deref.ensures.value
+    ∙ c.in_ok-count.ensures.rows
+    ∙ narrowed m masks (take at s) c.args.rows.now at code allowed prefix u.below c.requires.rows
     ∙ ap (rows_left m) (sym u.fixed)
     ∙ ap (λ (xs : List ℕ). rows_left m (take (at + 1) xs)) (sym c.set.ensures) in
     let d = c.decreases in (
@@ -139,7 +116,7 @@ number_rest-requires t c =
               (
                 begins_kept m c.args.narrowing.now.fixed.now c.args.made.now.outcomes
                     c.loop-code.made.outcomes c.requires.begins c.loop-code.invariant.adds.kept,
-                c.loop-code.invariant.adds.within,
+                (c.loop-code.invariant.adds.within, (c.requires.ends, c.requires.counts)),
               ),
             ),
           ),
@@ -154,8 +131,8 @@ loop-code-preserved t c =
     let at = c.args.at in
     let code = c.loop-code.code in
     let cur = c.loop-code.s.codes in
-    let u = turn m s cur at code c.get-code-end.result.now c.len.result c.requires.at
-    c.if-at-len.false c.len.ensures.len c.requires.snapshot c.loop-code.invariant.snapshot
+    let u = turn m s cur at code c.get-code-end.result.now (omega arith) c.requires.snapshot
+    c.loop-code.invariant.snapshot
     c.loop-code.invariant.kept c.get-code-end.ensures c.loop-code-test.true in
     let f : ℕ → List (List ℕ) = λ k. lists_after (take at s ++ k ∷ []) (drop (at + 1) m.vars) in
     let fixed : take (at + 1) c.set.new.self ≡ take at s ++ code ∷ [] =
@@ -185,8 +162,8 @@ returns-clause-adds t c =
     let m = c.args.narrowing.now.machine.now in
     let s = c.args.s.now.codes in
     let at = c.args.at in
-    let low : at < length m.vars = let a = c.requires.at in let b = c.if-at-len.false in
-    let l = c.len.ensures.len in omega arith in
+    let low : at < length m.vars = let a = c.end_left.ensures.within in
+    let b = c.if-end_left-at.false in omega arith in
     let size : c.get-code-end.result.now ≡ slice_index m.vars at =
     sym (get_or_from_slice_get m.vars at c.get-code-end.result.now 0 c.get-code-end.ensures) in
     let done : c.loop-code.code ≡ slice_index m.vars at = let a = c.loop-code-test.false in

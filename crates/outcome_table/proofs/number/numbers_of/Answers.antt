@@ -21,5 +21,5 @@ returns-clause-results c =
     let m = c.args.m.now in
     c.in_ok-number_rest.ensures.adds.results
     ∙ ap (λ (xs : List ℕ). named c.in_ok-row_outcomes.field-0 xs
-    ++ map (result_codes m) (lists_after [] m.vars)) c.new.ensures
+    ++ map (result_codes m) (lists_after [] m.vars)) c.in_ok-with_capacity.ensures.items
     ∙ ap (map (result_codes c.args.m.now)) (lists_all c.args.m.now.vars)

@@ -1,0 +1,149 @@
+use Rattle.std.proofs.Common.{◌≡◌, ◌∙◌, ◌+◌, ◌-◌, ◌<◌, ◌≤◌, ◌++◌, ◌∷◌, [], ℕ, Bool, true, List, length, take, drop, get_or, slice_get, slice_index, Some, refl, arith, ap, sym, subst}
+use Rattle.std.proofs.Math.Seq.{take-length, take-append_seam}
+use Rattle.std.proofs.lemmas.List.{length_push, get_or_push, length-take-le, take-append-drop}
+use Rattle.std.proofs.lemmas.Option.{slice_get_within}
+use Rattle.transition_table.specs.Orders.{codes_of}
+use Rattle.transition_table.specs.Transitions.{outcome_of}
+use Rattle.transition_table.specs.declared.machine.Machine.{Machine}
+use Rattle.transition_table.specs.declared.row.Row.{Row}
+use Rattle.outcome_table.specs.Needs.{AreEnds, end_left, is_settled}
+use Rattle.outcome_table.specs.Numbering.{rows_left}
+use Rattle.outcome_table.proofs.Rows.{few_rows, fits_long, row_fits}
+use Rattle.outcome_table.proofs.Settled.{IsFirst, end_first, first_left, none_left, same_results}
+use Rattle.outcome_table.proofs.number.number_after.Goals as goal
+
+pub returns-then-rows-eq0 : goal.returns-then-rows-eq0
+returns-then-rows-eq0 c =
+    let m = c.args.narrowing.now.machine.now in
+    let fixed = take c.args.at c.args.s.now.codes in
+    let some = c.requires.begins.some in
+    record {
+      kept = take-length c.args.outcomes.now;
+      number = record {
+        low = omega arith;
+        gives = λ rest. c.requires.begins.blank
+            ∙ ap codes_of (sym (none_left m fixed rest c.args.rows.now c.requires.rows
+            c.if-rows-eq0.true));
+      };
+    }
+
+head_is : (rows : List ℕ) → (length rows ≡ 0 → ⊥) → slice_get rows 0 ≡ Some (get_or rows 0 0)
+head_is [] some = absurd (some refl)
+head_is (x ∷ rows) some = refl
+
+-- the first of the rows that are left
+record Head (m : Machine) (fixed ends : List ℕ) (r : ℕ) : Type 0 where
+  first : IsFirst m fixed m.rows 0 r
+  at : slice_get m.rows r ≡ Some first.row
+  inside : r < length m.rows
+  most : slice_index ends r ≤ length fixed
+  settled : is_settled m.inputs (slice_index ends r) first.row ≡ true
+
+head : (m : Machine) (s ends rows : List ℕ) (at : ℕ) → length s ≡ length m.vars
+    → at ≤ length m.vars → rows ≡ rows_left m (take at s) → AreEnds m ends → end_left ends rows ≤ at
+    → (length rows ≡ 0 → ⊥) → Head m (take at s) ends (get_or rows 0 0)
+head m s ends rows at long low is are end some =
+    let r : ℕ = get_or rows 0 0 in
+    let first = first_left m (take at s) rows r is (head_is rows some) in
+    let e : r - 0 ≡ r = omega arith in
+    let there : slice_get m.rows r ≡ Some first.row =
+    subst (λ k. slice_get m.rows k ≡ Some first.row) e first.at in
+    let fixed : length (take at s) ≡ at = length-take-le at s (omega arith) in
+    let is_end = end_first ends rows some in
+    record {
+      first = first;
+      at = there;
+      inside = slice_get_within m.rows r first.row there;
+      most = omega arith;
+      settled = (are.each r first.row there).1;
+    }
+
+pub get-requires : goal.get-requires
+get-requires c =
+    let m = c.args.narrowing.now.machine.now in
+    let h = head m c.args.s.now.codes c.args.narrowing.now.ends.now c.args.rows.now c.args.at
+    (fits_long m.vars c.args.s.now.codes c.requires.snapshot) c.requires.at c.requires.rows
+    c.requires.ends c.requires.end c.if-rows-eq0.false in
+    let inside = h.inside in
+    let long = c.requires.begins.long in
+    omega arith
+
+pub overflow_add-result : goal.overflow_add-result
+overflow_add-result c =
+    let inside = slice_get_within c.args.narrowing.now.fixed.now (get_or c.args.rows.now 0 0)
+    c.get.result.now c.get.ensures in
+    let long = c.requires.begins.long in
+    let few = few_rows c.args.narrowing.now.machine.now in
+    omega arith
+
+pub returns-then-get : goal.returns-then-get
+returns-then-get c =
+    let m = c.args.narrowing.now.machine.now in
+    let fixed = take c.args.at c.args.s.now.codes in
+    let r : ℕ = get_or c.args.rows.now 0 0 in
+    let h = head m c.args.s.now.codes c.args.narrowing.now.ends.now c.args.rows.now c.args.at
+    (fits_long m.vars c.args.s.now.codes c.requires.snapshot) c.requires.at c.requires.rows
+    c.requires.ends c.requires.end c.if-rows-eq0.false in
+    let inside = h.inside in
+    let some = c.requires.begins.some in
+    let on : slice_get c.args.narrowing.now.fixed.now r ≡ Some true =
+    c.get.ensures ∙ ap (λ (b : Bool). Some b) c.if-get.true in
+    record {
+      kept = take-length c.args.outcomes.now;
+      number = record {
+        low = omega arith;
+        gives = λ rest. c.requires.begins.rows r h.first.row h.at on (fixed ++ rest)
+            ∙ ap codes_of (sym (h.first.gives (slice_index c.args.narrowing.now.ends.now r) h.most
+            h.settled rest));
+      };
+    }
+
+pub get-row-requires : goal.get-row-requires
+get-row-requires c =
+    let inside = slice_get_within c.args.narrowing.now.fixed.now (get_or c.args.rows.now 0 0)
+    c.get.result.now c.get.ensures in
+    let long = c.requires.begins.long in
+    omega arith
+
+pub row_codes-requires-clause-row : goal.row_codes-requires-clause-row
+row_codes-requires-clause-row c =
+    row_fits c.args.narrowing.now.machine.now (get_or c.args.rows.now 0 0) c.get-row.result.now
+    c.get-row.ensures
+
+pub returns : goal.returns
+returns c =
+    let m = c.args.narrowing.now.machine.now in
+    let s = c.args.s.now.codes in
+    let fixed = take c.args.at s in
+    let old = c.args.outcomes.now in
+    let r : ℕ = get_or c.args.rows.now 0 0 in
+    let made : List ℕ = c.in_ok-codes.codes in
+    let h = head m s c.args.narrowing.now.ends.now c.args.rows.now c.args.at
+    (fits_long m.vars s c.requires.snapshot) c.requires.at c.requires.rows
+    c.requires.ends c.requires.end c.if-rows-eq0.false in
+    let there = h.at in
+    let same : c.get-row.result.now ≡ h.first.row = let a = there in let b = c.get-row.ensures in
+    cc in
+    let outcomes = c.in_ok-push.ensures.ok in
+    let size = length_push old made in
+    let grown : length c.push.new.self ≡ length old + 1 =
+    ap (λ (xs : List (List ℕ)). length xs) outcomes ∙ size in
+    let k = c.len-number.result in
+    let last : k ≡ length old = c.len-number.ensures in
+    record {
+      kept = ap (take (length old)) outcomes ∙ take-append_seam old (made ∷ []);
+      number = record {
+        low = omega arith;
+        gives = λ rest.
+            ap (λ (xs : List (List ℕ)). get_or xs k []) outcomes
+            ∙ get_or_push old made [] k (sym last)
+            ∙ c.in_ok-codes.ensures
+            ∙ ap (λ (row : Row). codes_of (outcome_of m s true row.acts)) same
+            ∙ ap (λ (codes : List ℕ). codes_of (outcome_of m codes true h.first.row.acts))
+            (sym (take-append-drop c.args.at s))
+            ∙ same_results m fixed (drop c.args.at s) rest
+            (slice_index c.args.narrowing.now.ends.now r) h.first.row h.most h.settled
+            ∙ ap codes_of (sym (h.first.gives (slice_index c.args.narrowing.now.ends.now r) h.most
+            h.settled rest));
+      };
+    }

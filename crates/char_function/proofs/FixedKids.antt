@@ -10,7 +10,7 @@ use Rattle.decision_diagram.specs.Diagrams.{Diagrams, IsNode, Keeps, Means, choi
 use Rattle.outcome_table.specs.Outcomes.{IsTableOf}
 use Rattle.outcome_table.specs.declared.table.Table.{Table}
 use Rattle.transition_table.specs.declared.machine.Machine.{Machine}
-use Rattle.transition_table.specs.Computed.{char, result_codes}
+use Rattle.transition_table.specs.Computed.{char}
 use Rattle.transition_table.specs.Laws.{ResultsFit, SameOnSupport, SupportByTest}
 use Rattle.transition_table.specs.Orders.{Allowed, sizes_of}
 use Rattle.transition_table.specs.Transitions.{IsDeterministic}

@@ -1,5 +1,5 @@
 -- What is left of a machine's characteristic function where one more item of an order is fixed.
-use Rattle.std.proofs.Common.{◌≡◌, ⊎_elim, ℕ, zero, suc, ◌+◌, ◌-◌, ◌*◌, ◌<◌, ◌≤◌, Bool, true, false, cond, ◌&&◌, ◌||◌, ◌==◌, eqb, ltb, List, [], ◌∷◌, ◌++◌, length, take, drop, get_or, slice_index, slice_get, slice_set, Some, refl, ap, sym, subst, ◌∙◌, arith, length-append}
+use Rattle.std.proofs.Common.{◌≡◌, ⊎_elim, ℕ, zero, suc, ◌+◌, ◌-◌, ◌*◌, ◌<◌, Bool, true, false, cond, ◌&&◌, ◌||◌, ◌==◌, eqb, ltb, List, [], ◌∷◌, length, take, drop, get_or, slice_index, slice_get, slice_set, Some, refl, ap, sym, subst, ◌∙◌, arith, length-append}
 use Rattle.std.proofs.lemmas.Bool.{and_parts, cases_Bool, cases_lt, cases_eq, eqb-true, eq-eqb, ne_eqb, false≢true}
 use Rattle.std.proofs.lemmas.List.{ext_get_or, get_or-take, get_or-set_same, get_or-drop, length-drop, length-take}
 use Rattle.domains.specs.AllCodes.{all_codes, StandsOnce}
@@ -16,7 +16,7 @@ use Rattle.char_function.specs.Known.{OnlyResults}
 use Rattle.char_function.specs.Left.{left_from, IsFirst, IsOrdered}
 use Rattle.char_function.specs.Points.{at_point, point, points}
 use Rattle.char_function.proofs.AllCodes.{lists_fit}
-use Rattle.char_function.proofs.Fitting.{fits_long, fits_at, fits_set, fits_both}
+use Rattle.char_function.proofs.Fitting.{fits_long, fits_set, fits_both}
 use Rattle.char_function.proofs.Lists.{all_at, at_map, index_first, index_second, read, read_some, read_within}
 use Rattle.char_function.proofs.Places.{at_place, place_below, place_of_item}
 use Rattle.char_function.proofs.Pointing.{char_there, fits_front}

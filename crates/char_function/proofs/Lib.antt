@@ -1,4 +1,6 @@
 mod AllCodes
+mod Blocks
+mod Ends
 mod Fitting
 mod FixedKids
 mod Knowing

@@ -1,6 +1,6 @@
 -- Lists of which some codes are fixed, and what stands before a place of an order.
-use Rattle.std.proofs.Common.{◌≡◌, ⊎_elim, ℕ, zero, suc, ◌<◌, ◌≤◌, Bool, true, false, cond, ◌||◌, eqb, List, [], ◌∷◌, ◌++◌, length, take, get_or, slice_index, slice_set, refl, ap, sym, ◌∙◌, arith, lt-ltb, ltb}
-use Rattle.std.proofs.lemmas.Bool.{and_from, cases_Bool, cases_lt, eqb-true, eq-eqb, false≢true, true≢false}
+use Rattle.std.proofs.Common.{◌≡◌, ⊎_elim, ℕ, zero, suc, ◌<◌, Bool, true, false, cond, ◌||◌, eqb, List, [], ◌∷◌, ◌++◌, length, take, get_or, slice_index, slice_set, refl, ap, sym, ◌∙◌, arith, lt-ltb, ltb}
+use Rattle.std.proofs.lemmas.Bool.{and_from, cases_Bool, cases_lt, eqb-true, eq-eqb, true≢false}
 use Rattle.std.proofs.lemmas.List.{ext_get_or, get_or-map, length-map, get_or_append_left}
 use Rattle.polis_base.specs.Lists.{upto}
 use Rattle.domains.specs.Tables.{fits}

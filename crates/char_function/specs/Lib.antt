@@ -5,5 +5,6 @@ pub mod Left
 pub mod Orders
 pub mod Points
 pub mod Roots
+pub mod Runs
 pub mod Sizes
 pub mod Supported

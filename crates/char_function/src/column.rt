@@ -1,5 +1,5 @@
 // The codes of one result on all snapshots.
-ghost use Rattle.std.specs.Prelude.{◌≡◌, ◌<◌, map, length, IfOk};
+ghost use Rattle.std.specs.Prelude.{◌≡◌, ◌<◌, map, length, slice_index, IfOk};
 ghost use Rattle.domains.specs.AllCodes.{all_codes};
 ghost use Rattle.transition_table.specs.Computed.{result_code};
 ghost use Rattle.outcome_table.specs.Outcomes.{IsTableOf};
@@ -10,21 +10,46 @@ use polis_base::NoMemory;
 use std::alloc::Global;
 use transition_table::Machine;
 
+// The code of a result in an outcome, 0 where it has none.
+fn code_of(outcome: &Codes, y: u64) -> u8
+    ensures { result ≡ slice_index outcome.now y }
+{
+    if y < outcome.len() {
+        return *outcome.get(y);
+    }
+    0
+}
+
+// The code of a result for each number of an outcome.
+fn codes_of(alloc: Global, table: &Table, y: u64) -> Result<Codes, NoMemory>
+    ensures { IfOk result
+        (λ codes. codes ≡ map (λ outcome. slice_index outcome y) table.now.outcomes) }
+{
+    let mut codes = Codes::new(alloc);
+    for k in 0..table.outcomes.len() {
+        codes.push(code_of(table.outcomes.get(k), y))?;
+    }
+    Ok(codes)
+}
+
 /// The codes of a result on all snapshots, in their order.
 pub(crate) fn result_column(
     alloc: Global,
     m: &Machine,
     table: &Table,
     y: u64,
-) -> Result<Codes, NoMemory>
+) -> Result<Vec<u8>, NoMemory>
     requires table { IsTableOf m.now table.now }
     requires result { y < length m.now.results }
-    ensures { IfOk result (λ codes. codes ≡ map (result_code m.now y) (all_codes m.now.vars)) }
+    ensures { IfOk result
+        (λ codes. codes.items ≡ map (result_code m.now y) (all_codes m.now.vars)) }
 {
     transition_table::laws_of_computing();
-    let mut codes = Codes::new(alloc);
-    for number in table.numbers.as_slice() {
-        codes.push(*table.outcomes.get(*number).get(y))?;
+    let of_outcomes = codes_of(alloc, table, y)?;
+    let numbers = table.numbers.as_slice();
+    let mut codes = Vec::with_capacity(alloc, numbers.len())?;
+    for number in numbers {
+        codes.push(*of_outcomes.get(*number))?;
     }
     Ok(codes)
 }

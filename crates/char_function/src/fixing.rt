@@ -1,8 +1,9 @@
 // The diagram of a machine's characteristic function under an allowed order.
 //
 // The snapshots that share the codes of the variables before a place stand for one node, and the
-// first of them stands for all: each result before the place has one code on them.
-ghost use Rattle.std.specs.Prelude.{◌≡◌, ◌<◌, ◌≤◌, ◌==◌, ◌&&◌, ◌^◌, length, drop, replicate, slice_index, IfOk};
+// first of them stands for all: each result before the place has one code on them. Where all of
+// them have one outcome, no variable is gone through.
+ghost use Rattle.std.specs.Prelude.{◌≡◌, ◌<◌, ◌≤◌, ◌==◌, ◌&&◌, ◌^◌, ◌+◌, true, length, drop, replicate, slice_index, IfOk};
 ghost use Rattle.domains.specs.Orders.{place};
 ghost use Rattle.domains.specs.Tables.{product};
 ghost use Rattle.decision_diagram.specs.Diagrams.{IsNode, Keeps, Means, level_of, value_of};
@@ -14,6 +15,7 @@ ghost use Rattle.char_function.specs.Points.{points};
 
 use crate::group::code_at;
 use crate::known::{Known, after_variables};
+use crate::runs::{ends_of, is_rising};
 use decision_diagram::{NodeId, Order, Store};
 use domains::VarTable;
 use outcome_table::{Table, lists_from};
@@ -33,6 +35,10 @@ struct Fixing<'a> {
     sizes: &'a VarTable,
     // for each variable how far apart two snapshots are whose codes of it follow each other
     strides: &'a Places,
+    // whether the variables stand by rising numbers
+    rising: bool,
+    // for each snapshot the end of those that follow it with the same number of an outcome
+    ends: &'a Places,
     // the place after the order's last variable
     start: u64,
 }
@@ -74,7 +80,8 @@ fn result_node(
 // The node of what is left after the order's last variable.
 fn results_node(fixing: &Fixing, store: &mut Store, i: u64) -> Result<NodeId, NoMemory>
     requires fixing { IsFixing fixing.now.machine.now fixing.now.table.now fixing.now.order.now
-        fixing.now.sizes.now fixing.now.strides.now fixing.now.start }
+        fixing.now.sizes.now fixing.now.strides.now fixing.now.rising fixing.now.ends.now
+        fixing.now.start }
     requires order { store.old.order ≡ fixing.now.order.now }
     requires sizes { store.old.sizes ≡ fixing.now.sizes.now }
     requires snapshot { i < length (points fixing.now.machine.now) }
@@ -105,7 +112,8 @@ fn outcome_node(
     i: u64,
 ) -> Result<NodeId, NoMemory>
     requires fixing { IsFixing fixing.now.machine.now fixing.now.table.now fixing.now.order.now
-        fixing.now.sizes.now fixing.now.strides.now fixing.now.start }
+        fixing.now.sizes.now fixing.now.strides.now fixing.now.rising fixing.now.ends.now
+        fixing.now.start }
     requires order { store.old.order ≡ fixing.now.order.now }
     requires sizes { store.old.sizes ≡ fixing.now.sizes.now }
     requires known { AreLeft fixing.now.machine.now fixing.now.table.now store.old fixing.now.start
@@ -128,6 +136,17 @@ fn outcome_node(
     Ok(node)
 }
 
+// Whether so many snapshots from one on have the same number of an outcome, and the variables stand
+// by rising numbers.
+fn have_one_outcome(fixing: &Fixing, i: u64, count: u64) -> bool
+    requires snapshot { i < length fixing.now.ends.now }
+    requires count { i + count < 2 ^ 64 }
+    ensures rising { result ≡ true → fixing.now.rising ≡ true }
+    ensures end { result ≡ true → i + count ≤ slice_index fixing.now.ends.now i }
+{
+    fixing.rising && *fixing.ends.get(i) >= i + count
+}
+
 // The node of what is left from a place on, where the codes before it are those of a snapshot.
 fn fixed_node(
     fixing: &Fixing,
@@ -138,7 +157,8 @@ fn fixed_node(
 ) -> Result<NodeId, NoMemory>
     requires place { place ≤ fixing.now.start }
     requires fixing { IsFixing fixing.now.machine.now fixing.now.table.now fixing.now.order.now
-        fixing.now.sizes.now fixing.now.strides.now fixing.now.start }
+        fixing.now.sizes.now fixing.now.strides.now fixing.now.rising fixing.now.ends.now
+        fixing.now.start }
     requires order { store.old.order ≡ fixing.now.order.now }
     requires sizes { store.old.sizes ≡ fixing.now.sizes.now }
     requires known { AreLeft fixing.now.machine.now fixing.now.table.now store.old fixing.now.start
@@ -168,6 +188,10 @@ fn fixed_node(
         return Ok(node);
     }
     let stride = *fixing.strides.get(u64::from(item));
+    if have_one_outcome(fixing, i, u64::from(size) * stride) {
+        let rest = fixed_node(fixing, store, known, place + 1, i)?;
+        return Ok(rest);
+    }
     let none = store.constant(false);
     let mut kids = same_kids(none);
     for code in 0..size {
@@ -212,6 +236,8 @@ pub(crate) fn fixed_root(
     transition_table::laws_of_computing();
     let _ = m.var_count();
     let strides = strides_of(alloc, m)?;
+    let rising = is_rising(order, m.vars.len());
+    let ends = ends_of(alloc, table.numbers.as_slice())?;
     let start = after_variables(m, order);
     let mut known = Known::filled(alloc, table.outcomes.len(), None)?;
     let fixing = Fixing {
@@ -220,6 +246,8 @@ pub(crate) fn fixed_root(
         order,
         sizes,
         strides: &strides,
+        rising,
+        ends: &ends,
         start,
     };
     let node = fixed_node(&fixing, store, &mut known, 0, 0)?;

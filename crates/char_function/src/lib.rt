@@ -9,6 +9,7 @@ mod fixing;
 mod group;
 mod known;
 mod root;
+mod runs;
 mod support;
 mod support_lists;
 

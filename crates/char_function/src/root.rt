@@ -205,7 +205,8 @@ fn root_of(
 
 /// The diagram of a machine's characteristic function, over the machine's variables and then its
 /// results, read in an order, from a table of the outcomes and the supports. Where each result
-/// stands after its support this takes one step for each way to fix the variables before a place.
+/// stands after its support this takes at most one step for each way to fix the variables before a
+/// place.
 pub fn diagram(
     alloc: Global,
     m: &Machine,

@@ -75,7 +75,7 @@ pub fn supports_in(alloc: Global, m: &Machine, table: &Table) -> Result<Supports
     let mut lists = List::new(alloc);
     for y in 0..u64::from(m.result_count()) {
         let codes = result_column(alloc, m, table, y)?;
-        lists.push(support(alloc, codes.as_slice(), &m.vars)?)?;
+        lists.push(support(alloc, &codes, &m.vars)?)?;
     }
     Ok(Supports::of(lists))
 }

@@ -1,4 +1,4 @@
-use Rattle.std.proofs.Common.{◌≡◌, ◌∙◌, ◌<◌, ◌≤◌, ℕ, List, None, Some, length, get_or, slice_index, slice_set, ap, sym, subst, arith}
+use Rattle.std.proofs.Common.{◌≡◌, ◌∙◌, ℕ, List, None, Some, length, get_or, slice_index, ap, sym, subst, arith}
 use Rattle.decision_diagram.specs.Diagrams.{Means}
 use Rattle.char_function.specs.Known.{OnlyResults}
 use Rattle.char_function.specs.Left.{AreLeft, IsOrdered, left_from}

@@ -1,4 +1,4 @@
-use Rattle.std.proofs.Common.{◌≡◌, ◌∙◌, ◌<◌, ◌==◌, Bool, ℕ, List, cond, length, slice_index, slice_set, take, ap, sym, subst, arith}
+use Rattle.std.proofs.Common.{◌∙◌, ◌<◌, ◌==◌, ℕ, slice_index, ap, sym, subst, arith}
 use Rattle.domains.specs.Orders.{place}
 use Rattle.decision_diagram.specs.Diagrams.{IsNode, level_of, value_of}
 use Rattle.char_function.proofs.Fitting.{fits_at}

@@ -1,6 +1,6 @@
-use Rattle.std.proofs.Common.{◌≡◌, ◌∙◌, ◌+◌, ◌-◌, ◌<◌, ◌≤◌, ◌==◌, ◌&&◌, ℕ, List, length, slice_index, ap, sym, subst, arith}
+use Rattle.std.proofs.Common.{◌≡◌, ◌∙◌, ◌+◌, ◌-◌, ◌≤◌, ℕ, List, length, slice_index, ap, sym, subst, arith}
 use Rattle.domains.specs.Orders.{place}
-use Rattle.decision_diagram.specs.Diagrams.{Means, level_of}
+use Rattle.decision_diagram.specs.Diagrams.{Means}
 use Rattle.transition_table.specs.Orders.{sizes_of}
 use Rattle.char_function.specs.Left.{left_from}
 use Rattle.char_function.proofs.Fitting.{size_few}

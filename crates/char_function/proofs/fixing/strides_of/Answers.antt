@@ -1,6 +1,4 @@
-use Rattle.std.proofs.Common.{◌+◌, ◌<◌, ◌≤◌, length, drop, arith}
-use Rattle.domains.specs.Tables.{product}
-use Rattle.char_function.proofs.Small.{few_snapshots}
+use Rattle.std.proofs.Common.{◌+◌, arith}
 use Rattle.char_function.proofs.Strides.{drop_below}
 use Rattle.char_function.proofs.fixing.strides_of.Goals as goal
 

@@ -14,7 +14,7 @@ loop-y-preserved c =
     let made : c.in_ok-support.field-0 ≡ support_of m y =
     c.in_ok-support.ensures
     ∙ ap (λ (xs : List ℕ). filter (λ v. varies m.vars v xs) (upto (length m.vars)))
-    (c.as_slice.ensures ∙ c.in_ok-codes.ensures)
+    (c.deref.ensures.value ∙ c.in_ok-codes.ensures)
     ∙ column_support c.laws.ensures.ranks_reach m c.var_count-vars.ensures.sizes y in
     c.in_ok-push.ensures.ok
     ∙ ap (λ (lists : List (List ℕ)). lists ++ c.in_ok-support.field-0 ∷ []) c.loop-y.invariant

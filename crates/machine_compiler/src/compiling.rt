@@ -19,13 +19,14 @@ use task_code::lower;
 use transition_table::{Machine, Network};
 
 // The machine's diagram under the order as a graph, and that graph made smaller.
-fn small_graph(alloc: Global, m: &Machine, root: &Root, order: &Order) -> Result<Graph, NoMemory>
+fn small_graph(alloc: Global, m: &Machine, root: Root, order: &Order) -> Result<Graph, NoMemory>
     requires sure { IsDeterministic m.now }
     requires allowed { Allowed m.now order.now }
-    requires diagram { IsDiagramOf m.now order.now root.now.store root.now.node }
+    requires diagram { IsDiagramOf m.now order.now root.store root.node }
     ensures { IfOk result (λ g. IsSmallGraph m.now order.now g) }
 {
-    let graph = build(alloc, m, root, order)?;
+    let graph = build(alloc, m, &root, order)?;
+    drop(root);
     let small = optimise(alloc, &graph)?;
     Ok(small)
 }
@@ -57,7 +58,7 @@ pub fn compile_machine(alloc: Global, m: &Machine) -> Result<Compiled, NoMemory>
     ensures { IfOk result (λ compiled. Right m.now (part_of_compiled compiled)) }
 {
     let SiftedDiagram { sifted, root } = sift_diagram(alloc, m)?;
-    let graph = small_graph(alloc, m, &root, &sifted.order)?;
+    let graph = small_graph(alloc, m, root, &sifted.order)?;
     let code = lower(alloc, &graph)?;
     keep_graph(&graph);
     task_machine::laws();

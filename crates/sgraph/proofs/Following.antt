@@ -1,5 +1,5 @@
 -- What follows on a node.
-use Rattle.std.proofs.Common.{◌≡◌, ◌≢◌, ⊎_elim, ℕ, zero, suc, ◌+◌, ◌-◌, ◌<◌, ◌≤◌, Bool, true, false, cond, ◌||◌, ◌==◌, List, [], ◌∷◌, ◌++◌, length, take, replicate, slice_get, slice_index, slice_set, Option, Some, None, refl, ap, sym, subst, ◌∙◌, arith, eqb, ltb}
+use Rattle.std.proofs.Common.{◌≡◌, ◌≢◌, ⊎_elim, ℕ, zero, suc, ◌+◌, ◌-◌, ◌<◌, ◌≤◌, Bool, true, false, cond, ◌||◌, ◌==◌, List, [], ◌∷◌, ◌++◌, length, take, drop, replicate, slice_get, slice_index, slice_set, Option, Some, None, refl, ap, sym, subst, ◌∙◌, arith, eqb, ltb}
 use Rattle.std.proofs.lemmas.Bool.{cases_eq, cases_lt, cases_Bool, eq-eqb, ne_eqb, lt-ltb, le-ltb}
 use Rattle.transition_table.specs.NetworkFacts.{has}
 use Rattle.decision_diagram.specs.declared.node.Node.{Node}
@@ -8,7 +8,7 @@ use Rattle.decision_diagram.specs.declared.node.Shape.TheVariants.{False, True, 
 use Rattle.decision_diagram.specs.Diagrams.{Diagrams, inner_at, shape_in, shape_of, kids_in, kids_of, AreReduced}
 use Rattle.sgraph.specs.Graphs.{each, left_after}
 use Rattle.sgraph.specs.Building.{code_there, next_in, next_nodes}
-use Rattle.sgraph.specs.Marks.{turned, Marks}
+use Rattle.sgraph.specs.Marks.{turned, Marks, AreNext}
 use Rattle.sgraph.proofs.Departures.{visit_there, visit_new, enough_down}
 
 -- ---- lists
@@ -51,6 +51,40 @@ take_whole [] zero high = refl
 take_whole [] (suc i) high = refl
 take_whole (x ∷ xs) zero high = absurd (omega arith)
 take_whole (x ∷ xs) (suc i) high = ap (λ (zs : List ℕ). x ∷ zs) (take_whole xs i (omega arith))
+
+get_take : (xs : List ℕ) (c j : ℕ) → j < c → j < length xs
+    → slice_get (take c xs) j ≡ Some (slice_index xs j)
+get_take [] c j low inside = absurd (omega arith)
+get_take (x ∷ xs) zero j low inside = absurd (omega arith)
+get_take (x ∷ xs) (suc c) zero low inside = refl
+get_take (x ∷ xs) (suc c) (suc j) low inside = get_take xs c j (omega arith) (omega arith)
+
+-- an item of a part of a list
+get_part : (xs : List ℕ) (from c j i : ℕ) → i ≡ from + j → j < c → i < length xs
+    → slice_get (take c (drop from xs)) j ≡ Some (slice_index xs i)
+get_part [] from c j i e low inside = absurd (omega arith)
+get_part (x ∷ xs) zero c j i e low inside =
+    let same : j ≡ i = omega arith in
+    get_take (x ∷ xs) c j low (omega arith) ∙ ap (λ (n : ℕ). Some (slice_index (x ∷ xs) n)) same
+get_part (x ∷ xs) (suc from) c j zero e low inside = absurd (omega arith)
+get_part (x ∷ xs) (suc from) c j (suc i) e low inside =
+    get_part xs from c j i (omega arith) low (omega arith)
+
+long_take : (xs : List ℕ) (c : ℕ) → c ≤ length xs → length (take c xs) ≡ c
+long_take [] zero low = refl
+long_take [] (suc c) low = absurd (omega arith)
+long_take (x ∷ xs) zero low = refl
+long_take (x ∷ xs) (suc c) low = ap suc (long_take xs c (omega arith))
+
+long_part : (xs : List ℕ) (from c : ℕ) → from + c ≤ length xs → length (take c (drop from xs)) ≡ c
+long_part xs zero c low = long_take xs c (omega arith)
+long_part [] (suc from) c low = absurd (omega arith)
+long_part (x ∷ xs) (suc from) c low = long_part xs from c (omega arith)
+
+one_item : (xs : List ℕ) (c : ℕ) → c < length xs → take 1 (drop c xs) ≡ slice_index xs c ∷ []
+one_item [] c low = absurd (omega arith)
+one_item (x ∷ xs) zero low = refl
+one_item (x ∷ xs) (suc c) low = one_item xs c (omega arith)
 
 -- ---- nodes
 inner_in : (n : ℕ) (o : Option Node) (var : ℕ) → shape_in n o ≡ Inner var
@@ -99,6 +133,43 @@ result_next s n k var e high =
     ∙ ap (λ (b : Bool). cond b node.0.kids (slice_index node.0.kids (code_there node.0.kids) ∷ []))
     (le-ltb node.0.var n (omega arith))
     ∙ sym (ap (λ (o : Option Node). slice_index (kids_in o) (code_there (kids_in o)) ∷ []) node.1)
+
+-- ---- the codes of what follows
+pub no_codes : (s : Diagrams) (n k : ℕ) → inner_at s.nodes k ≡ None → AreNext s n k 0 0
+no_codes s n k e = record { up = omega arith; within = omega arith; next = none_next s n k e }
+
+pub all_codes : (s : Diagrams) (n k var size : ℕ) → shape_of s k ≡ Inner var → var < n
+    → length (kids_of s k) ≡ size → AreNext s n k 0 size
+all_codes s n k var size shape low long =
+    record {
+      up = omega arith;
+      within = omega arith;
+      next = test_next s n k var shape low ∙ sym (take_whole (kids_of s k) (size - 0) (omega arith));
+    }
+
+pub one_code : (s : Diagrams) (n k var code : ℕ) → shape_of s k ≡ Inner var → n ≤ var
+    → code ≡ code_there (kids_of s k) → code < length (kids_of s k)
+    → AreNext s n k code (code + 1)
+one_code s n k var code shape high is low =
+    let one : 1 ≡ code + 1 - code = omega arith in
+    record {
+      up = omega arith;
+      within = omega arith;
+      next = result_next s n k var shape high
+          ∙ ap (λ (c : ℕ). slice_index (kids_of s k) c ∷ []) (sym is)
+          ∙ sym (one_item (kids_of s k) code low)
+          ∙ ap (λ (c : ℕ). take c (drop code (kids_of s k))) one;
+    }
+
+kid_at : (s : Diagrams) (n k from end code kid : ℕ) → AreNext s n k from end → from ≤ code
+    → code < end → kid ≡ slice_index (kids_of s k) code
+    → slice_get (next_nodes s n k) (code - from) ≡ Some kid
+kid_at s n k from end code kid ok low high is =
+    let within = ok.within in
+    ap (λ (xs : List ℕ). slice_get xs (code - from)) ok.next
+    ∙ get_part (kids_of s k) from (end - from) (code - from) code (omega arith) (omega arith)
+    (omega arith)
+    ∙ ap (λ (x : ℕ). Some x) (sym is)
 
 -- the first code whose child isn't False
 pub code_is : (kids : List ℕ) (c : ℕ) → c < length kids → ((j : ℕ) → j < c → slice_index kids j ≡ 0)
@@ -172,26 +243,29 @@ each_push visit left [] x = refl
 each_push visit left (y ∷ ys) x = each_push visit (visit left y) ys x
 
 -- the nodes so far are left
-pub left_more : (s : Diagrams) (n k : ℕ) → AreReduced s → (kids first left new : List ℕ) (j kid : ℕ)
-    → kids ≡ next_nodes s n k → slice_get kids j ≡ Some kid
-    → turned left ≡ each (left_after k (next_nodes s n)) (turned first) (take j kids)
+pub left_more : (s : Diagrams) (n k : ℕ) → AreReduced s → (from end code kid : ℕ)
+    → (first left new : List ℕ) → AreNext s n k from end → from ≤ code → code < end
+    → kid ≡ slice_index (kids_of s k) code
+    → turned left
+    ≡ each (left_after k (next_nodes s n)) (turned first) (take (code - from) (next_nodes s n k))
     → turned new ≡ left_after (suc kid) (next_nodes s n) (turned left) kid
-    → turned new ≡ each (left_after k (next_nodes s n)) (turned first) (take (j + 1) kids)
-left_more s n k ok kids first left new j kid is is_kid so_far one =
+    → turned new
+    ≡ each (left_after k (next_nodes s n)) (turned first) (take (code + 1 - from) (next_nodes s n k))
+left_more s n k ok from end code kid first left new codes low high is so_far one =
     let next = next_nodes s n in
-    let low = below kids j kid is_kid in
+    let kids = next_nodes s n k in
+    let j = code - from in
+    let is_kid = kid_at s n k from end code kid codes low high is in
+    let inside = below kids j kid is_kid in
     let at = got kids j kid is_kid in
-    let long : length kids ≡ length (next_nodes s n k) = ap (λ (xs : List ℕ). length xs) is in
-    let less = falls s n ok k j (omega arith) in
-    let same : slice_index kids j ≡ slice_index (next_nodes s n k) j =
-    ap (λ (xs : List ℕ). slice_index xs j) is in
-    let e : j + 1 ≡ suc j = omega arith in
+    let less = falls s n ok k j inside in
+    let e : code + 1 - from ≡ suc (code - from) = omega arith in
     one
     ∙ enough_down next (falls s n ok) (suc kid) k (turned left) kid (omega arith) (omega arith)
     ∙ ap (λ (xs : List ℕ). left_after k next xs kid) so_far
     ∙ sym (each_push (left_after k next) (turned first) (take j kids) kid)
     ∙ ap (λ (x : ℕ). each (left_after k next) (turned first) (take j kids ++ x ∷ [])) (sym at)
-    ∙ ap (each (left_after k next) (turned first)) (sym (take_one kids j low))
+    ∙ ap (each (left_after k next) (turned first)) (sym (take_one kids j inside))
     ∙ ap (λ (i : ℕ). each (left_after k next) (turned first) (take i kids)) (sym e)
 
 same_some : {X : Type 0} (o : Option X) (a b : X) → o ≡ Some a → o ≡ Some b → a ≡ b
@@ -208,17 +282,24 @@ pub left_there : (s : Diagrams) (n k : ℕ) (marks : List Bool) (left : List ℕ
 left_there s n k marks left ok is =
     sym (visit_there (next_nodes s n) k (turned left) k (marked_is s marks left k true ok is))
 
-pub left_new : (s : Diagrams) (n k : ℕ) (marks : List Bool) (kids first left new : List ℕ) (j : ℕ)
-    → Marks s marks first → slice_get marks k ≡ Some false → kids ≡ next_nodes s n k
-    → length kids ≤ j
-    → turned left ≡ each (left_after k (next_nodes s n)) (turned first) (take j kids)
+pub left_new : (s : Diagrams) (n k : ℕ) (marks : List Bool) (from end code : ℕ)
+    → (first left new : List ℕ) → Marks s marks first → slice_get marks k ≡ Some false
+    → AreNext s n k from end → end ≤ code
+    → turned left
+    ≡ each (left_after k (next_nodes s n)) (turned first) (take (code - from) (next_nodes s n k))
     → new ≡ left ++ k ∷ [] → turned new ≡ left_after (suc k) (next_nodes s n) (turned first) k
-left_new s n k marks kids first left new j ok is is_kids high so_far e =
+left_new s n k marks from end code first left new ok is codes high so_far e =
     let next = next_nodes s n in
+    let up = codes.up in
+    let within = codes.within in
+    let long : length (next_nodes s n k) ≡ end - from =
+    ap (λ (xs : List ℕ). length xs) codes.next
+    ∙ long_part (kids_of s k) from (end - from) (omega arith) in
     ap turned e
     ∙ turned_push left k
     ∙ ap (λ (xs : List ℕ). k ∷ xs) (so_far
-    ∙ ap (each (left_after k next) (turned first)) (take_whole kids j high ∙ is_kids))
+    ∙ ap (each (left_after k next) (turned first))
+    (take_whole (next_nodes s n k) (code - from) (omega arith)))
     ∙ sym (visit_new next k (turned first) k (marked_is s marks first k false ok is))
 
 set_same : (marks : List Bool) (k : ℕ) (b : Bool) → k < length marks
@@ -284,13 +365,12 @@ marks_none s count marks left is are none =
     }
 
 -- a node that follows was made before, so it is one
-pub kid_before : (s : Diagrams) (n k : ℕ) → AreReduced s → (kids : List ℕ) (j kid : ℕ)
-    → kids ≡ next_nodes s n k → slice_get kids j ≡ Some kid → kid < k
-kid_before s n k ok kids j kid is is_kid =
-    let low = below kids j kid is_kid in
-    let at = got kids j kid is_kid in
-    let long : length kids ≡ length (next_nodes s n k) = ap (λ (xs : List ℕ). length xs) is in
-    let less = falls s n ok k j (omega arith) in
-    let same : slice_index kids j ≡ slice_index (next_nodes s n k) j =
-    ap (λ (xs : List ℕ). slice_index xs j) is in
+pub kid_before : (s : Diagrams) (n k : ℕ) → AreReduced s → (from end code kid : ℕ)
+    → AreNext s n k from end → from ≤ code → code < end → kid ≡ slice_index (kids_of s k) code
+    → kid < k
+kid_before s n k ok from end code kid codes low high is =
+    let e = kid_at s n k from end code kid codes low high is in
+    let inside = below (next_nodes s n k) (code - from) kid e in
+    let at = got (next_nodes s n k) (code - from) kid e in
+    let less = falls s n ok k (code - from) inside in
     omega arith

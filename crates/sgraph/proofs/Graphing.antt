@@ -1,6 +1,6 @@
 -- The vertices of the nodes that were left are the graph.
 use Rattle.std.proofs.Common.{◌≡◌, ⊎_elim, ℕ, zero, suc, ◌+◌, ◌-◌, ◌<◌, ◌≤◌, Bool, true, false, cond, ◌||◌, List, [], ◌∷◌, ◌++◌, map, length, take, drop, replicate, slice_get, slice_index, slice_set, Option, Some, None, refl, ap, sym, ◌∙◌, arith, eqb, ltb}
-use Rattle.std.proofs.lemmas.Bool.{cases_eq, eq-eqb, ne_eqb, lt-ltb, le-ltb, true≢false, or_left, or_right, or_cases}
+use Rattle.std.proofs.lemmas.Bool.{cases_eq, cases_lt, eq-eqb, ne_eqb, lt-ltb, le-ltb, true≢false, or_left, or_right, or_cases}
 use Rattle.transition_table.specs.declared.machine.Machine.{Machine}
 use Rattle.transition_table.specs.NetworkFacts.{has}
 use Rattle.decision_diagram.specs.declared.node.Node.{Node}
@@ -12,8 +12,10 @@ use Rattle.sgraph.specs.declared.vertex.Vertex.TheVariants.{Begin, Test, Assign,
 use Rattle.sgraph.specs.Graphs.{left_after}
 use Rattle.sgraph.specs.Building.{code_there, next_in, next_nodes, nodes_left, number_in, vertex_in, graph_of}
 use Rattle.sgraph.specs.Marks.{turned}
+use Rattle.std.proofs.lemmas.Grind.{same_number_lists}
 use Rattle.sgraph.proofs.Departures.{Closed, visit_after, closed_next}
-use Rattle.sgraph.proofs.Following.{got, below, take_one, take_whole, inner_of, test_next, falls, turned_push}
+use Rattle.sgraph.proofs.Following.{got, below, take_one, take_whole, inner_of, falls, turned_push}
+use Rattle.sgraph.proofs.Mapping.{index_map, long_map}
 
 -- ---- lists
 has_after : (xs ys : List ℕ) (k : ℕ) → has ys k ≡ true → has (xs ++ ys) k ≡ true
@@ -142,47 +144,57 @@ numbers_end count len left numbers i ok is at k h =
     omega arith
 
 -- ---- children
-pub one_number : (numbers kids list more : List ℕ) (j kid number : ℕ)
-    → list ≡ map (slice_index numbers) (take j kids) → slice_get kids j ≡ Some kid
-    → slice_get numbers kid ≡ Some number → more ≡ list ++ number ∷ []
-    → more ≡ map (slice_index numbers) (take (j + 1) kids)
-one_number numbers kids list more j kid number is is_kid is_number e =
-    let f : j + 1 ≡ suc j = omega arith in
-    let low = below kids j kid is_kid in
-    e
-    ∙ ap (λ (xs : List ℕ). xs ++ number ∷ []) is
-    ∙ ap (λ (x : ℕ). map (slice_index numbers) (take j kids) ++ x ∷ [])
-    (sym (got numbers kid number is_number))
-    ∙ ap (λ (x : ℕ). map (slice_index numbers) (take j kids) ++ slice_index numbers x ∷ [])
-    (sym (got kids j kid is_kid))
-    ∙ sym (map_push (slice_index numbers) (take j kids) (slice_index kids j))
-    ∙ ap (map (slice_index numbers)) (sym (take_one kids j low))
-    ∙ ap (λ (n : ℕ). map (slice_index numbers) (take n kids)) (sym f)
+-- the children before a code have their numbers
+pub record KidNumbers (numbers kids list : List ℕ) (size code : ℕ) : Type 0 where
+  pub long : length list ≡ size
+  pub each : (j : ℕ) → j < code → slice_index list j ≡ slice_index numbers (slice_index kids j)
 
-pub all_numbers : (numbers kids list : List ℕ) (j : ℕ)
-    → list ≡ map (slice_index numbers) (take j kids) → length kids ≤ j
-    → list ≡ map (slice_index numbers) kids
-all_numbers numbers kids list j is high =
-    is ∙ ap (map (slice_index numbers)) (take_whole kids j high)
+pub kids_start : (numbers kids list : List ℕ) (size : ℕ) → list ≡ replicate size 0
+    → KidNumbers numbers kids list size 0
+kids_start numbers kids list size is =
+    record {
+      long = ap (λ (xs : List ℕ). length xs) is ∙ long_zeros size;
+      each = λ j low. absurd (omega arith);
+    }
 
--- what follows on a node is a node
-pub kids_within : (s : Diagrams) (n k bound : ℕ) → AreReduced s → (kids : List ℕ)
-    → kids ≡ next_nodes s n k → k < bound → (j : ℕ) → j < length kids → slice_index kids j < bound
-kids_within s n k bound ok kids is low j inside =
-    let long : length kids ≡ length (next_nodes s n k) = ap (λ (xs : List ℕ). length xs) is in
-    let less = falls s n ok k j (omega arith) in
-    let same : slice_index kids j ≡ slice_index (next_nodes s n k) j =
-    ap (λ (xs : List ℕ). slice_index xs j) is in
-    omega arith
+pub kids_more : (numbers kids list more : List ℕ) (size code kid number : ℕ)
+    → KidNumbers numbers kids list size code → code < size → kid ≡ slice_index kids code
+    → slice_get numbers kid ≡ Some number → more ≡ slice_set list code number
+    → KidNumbers numbers kids more size (code + 1)
+kids_more numbers kids list more size code kid number ok low is_kid is_number e =
+    let own = ok.long in
+    record {
+      long = ap (λ (xs : List ℕ). length xs) e ∙ set_long list code number ∙ ok.long;
+      each = λ j less.
+          ap (λ (xs : List ℕ). slice_index xs j) e
+          ∙ ⊎_elim
+          (λ before.
+          set_there list code j number (λ same. absurd (omega arith)) ∙ ok.each j before)
+          (λ last.
+          let here : code ≡ j = omega arith in
+          ap (slice_index (slice_set list code number)) (sym here)
+          ∙ set_here list code number (omega arith)
+          ∙ sym (got numbers kid number is_number)
+          ∙ ap (slice_index numbers) (is_kid ∙ ap (slice_index kids) here))
+          (cases_lt j code);
+    }
+
+pub kids_end : (numbers kids list : List ℕ) (size code : ℕ) → KidNumbers numbers kids list size code
+    → length kids ≡ size → size ≤ code → list ≡ map (slice_index numbers) kids
+kids_end numbers kids list size code ok long high =
+    let own = ok.long in
+    let all = long_map (slice_index numbers) kids in
+    same_number_lists list (map (slice_index numbers) kids) (omega arith) (λ j low.
+    ok.each j (omega arith) ∙ sym (index_map (slice_index numbers) kids j (omega arith)))
 
 -- ---- vertices
-pub test_is : (s : Diagrams) (n k var : ℕ) (numbers kids list : List ℕ) → shape_of s k ≡ Inner var
-    → var < n → kids ≡ next_nodes s n k → list ≡ map (slice_index numbers) kids
+pub test_is : (s : Diagrams) (n k var : ℕ) (numbers list : List ℕ) → shape_of s k ≡ Inner var
+    → var < n → list ≡ map (slice_index numbers) (kids_of s k)
     → Test var list ≡ vertex_in n (slice_index numbers) (inner_at s.nodes k)
-test_is s n k var numbers kids list shape low is e =
+test_is s n k var numbers list shape low e =
     let node = inner_of s k var shape in
     let v : node.0.var ≡ var = node.2 in
-    let same : kids ≡ node.0.kids = is ∙ test_next s n k var shape low ∙ ap kids_in node.1 in
+    let same : kids_of s k ≡ node.0.kids = ap kids_in node.1 in
     ap (Test var) (e ∙ ap (map (slice_index numbers)) same)
     ∙ ap (λ (x : ℕ). Test x (map (slice_index numbers) node.0.kids)) (sym v)
     ∙ sym (ap (λ (b : Bool). cond b (Test node.0.var (map (slice_index numbers) node.0.kids))

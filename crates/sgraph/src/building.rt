@@ -3,7 +3,7 @@ ghost use Rattle.std.specs.Prelude.{◌≡◌, ◌+◌, ◌<◌, ◌≤◌, ℕ,
 ghost use Rattle.domains.specs.Tables.{fits};
 ghost use Rattle.transition_table.specs.NetworkFacts.{has};
 ghost use Rattle.transition_table.specs.Transitions.{Transition, IsDeterministic, reading};
-ghost use Rattle.decision_diagram.specs.Diagrams.{IsNode, Means, inner_at, shape_of};
+ghost use Rattle.decision_diagram.specs.Diagrams.{IsNode, Means, inner_at, kids_of, shape_of};
 ghost use Rattle.decision_diagram.specs.declared.node.Shape.TheVariants.{Inner};
 ghost use Rattle.sgraph.specs.declared.vertex.Vertex.TheVariants.{Begin};
 ghost use Rattle.transition_table.specs.Computed.{char};
@@ -15,7 +15,7 @@ ghost use Rattle.sgraph.specs.Walks.{FitsMachine};
 
 use crate::graph::{Graph, VertexList};
 use crate::law::laws;
-use crate::leaving::{Nodes, all_left, first_code, next_list};
+use crate::leaving::{Nodes, all_left, first_code};
 use crate::vertex::Vertex;
 use decision_diagram::{NodeId, Order, Root, Shape, Store};
 use polis_base::{NoMemory, Places};
@@ -37,15 +37,29 @@ fn numbers_of(alloc: Global, count: u64, left: &Nodes) -> Result<Places, NoMemor
     Ok(numbers)
 }
 
-// The numbers of the vertices of nodes.
-fn kid_numbers(alloc: Global, kids: &Nodes, numbers: &Places) -> Result<Places, NoMemory>
-    requires { (j : ℕ) → j < length kids.now → slice_index kids.now j < length numbers.now }
-    ensures { IfOk result (λ list. list ≡ map (slice_index numbers.now) kids.now) }
+// The numbers of the vertices of a node's children.
+fn kid_numbers(
+    alloc: Global,
+    m: &Machine,
+    store: &Store,
+    k: NodeId,
+    var: u32,
+    numbers: &Places,
+) -> Result<Places, NoMemory>
+    requires node { IsNode store.now k }
+    requires shape { shape_of store.now k ≡ Inner var }
+    requires var { var < length m.now.vars }
+    requires sizes { store.now.sizes ≡ sizes_of m.now }
+    requires numbers { length numbers.now ≡ length store.now.nodes + 2 }
+    ensures { IfOk result (λ list. list
+        ≡ map (slice_index numbers.now) (kids_of store.now k)) }
 {
-    let mut list = Places::new(alloc);
-    for j in 0..kids.len() {
-        let number = *numbers.get(kids.get(j).number());
-        list.push(number)?;
+    let _ = store.shape(k);
+    let size = *m.vars.get(u64::from(var));
+    let mut list = Places::filled(alloc, u64::from(size), 0)?;
+    for code in 0..size {
+        let number = *numbers.get(store.child(k, code).number());
+        list.set(u64::from(code), number);
     }
     Ok(list)
 }
@@ -68,9 +82,7 @@ fn test_vertex(
         (λ v. v ≡ vertex_in (length m.now.vars) (slice_index numbers.now)
         (inner_at store.now.nodes k)) }
 {
-    store.same_value_same_node();
-    let kids = next_list(alloc, m, store, k)?;
-    let kids = kid_numbers(alloc, &kids, numbers)?;
+    let kids = kid_numbers(alloc, m, store, k, var, numbers)?;
     Ok(Vertex::Test { var, kids })
 }
 

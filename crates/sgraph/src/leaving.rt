@@ -5,7 +5,7 @@ ghost use Rattle.decision_diagram.specs.declared.node.Shape.TheVariants.{Inner};
 ghost use Rattle.transition_table.specs.Orders.{sizes_of};
 ghost use Rattle.sgraph.specs.Graphs.{left_after};
 ghost use Rattle.sgraph.specs.Building.{code_there, next_nodes};
-ghost use Rattle.sgraph.specs.Marks.{turned, Marks};
+ghost use Rattle.sgraph.specs.Marks.{turned, Marks, AreNext};
 
 use decision_diagram::{NodeId, Shape, Store};
 use polis_base::{List, NoMemory};
@@ -46,73 +46,30 @@ pub(crate) fn first_code(m: &Machine, store: &Store, k: NodeId, var: u32) -> u8
     0
 }
 
-// All children of a node.
-fn all_kids(
-    alloc: Global,
-    m: &Machine,
-    store: &Store,
-    k: NodeId,
-    var: u32,
-) -> Result<Nodes, NoMemory>
-    requires node { IsNode store.now k }
-    requires shape { shape_of store.now k ≡ Inner var }
-    requires sizes { store.now.sizes ≡ sizes_of m.now }
-    ensures { IfOk result (λ kids. kids ≡ kids_of store.now k) }
-{
-    let _ = store.shape(k);
-    let mut kids = Nodes::new(alloc);
-    for code in 0..item_size(m, var) {
-        kids.push(store.child(k, code))?;
-    }
-    Ok(kids)
-}
-
-// The one child of a result's node that isn't the node that is false.
-fn one_kid(
-    alloc: Global,
-    m: &Machine,
-    store: &Store,
-    k: NodeId,
-    var: u32,
-) -> Result<Nodes, NoMemory>
-    requires node { IsNode store.now k }
-    requires shape { shape_of store.now k ≡ Inner var }
-    requires sizes { store.now.sizes ≡ sizes_of m.now }
-    ensures { IfOk result (λ kids. kids
-        ≡ slice_index (kids_of store.now k) (code_there (kids_of store.now k)) ∷ []) }
-{
-    let mut kids = Nodes::new(alloc);
-    kids.push(store.child(k, first_code(m, store, k, var)))?;
-    Ok(kids)
-}
-
-// The nodes that follow on a node.
-pub(crate) fn next_list(
-    alloc: Global,
-    m: &Machine,
-    store: &Store,
-    k: NodeId,
-) -> Result<Nodes, NoMemory>
+// The codes whose children follow on a node, as the first one and the one after the last: all codes
+// of a variable, and the first code of a result whose child isn't the node that is false.
+fn next_codes(m: &Machine, store: &Store, k: NodeId) -> (u8, u8)
     requires node { IsNode store.now k }
     requires sizes { store.now.sizes ≡ sizes_of m.now }
-    ensures { IfOk result (λ kids. kids ≡ next_nodes store.now (length m.now.vars) k) }
+    ensures { AreNext store.now (length m.now.vars) k result.0 result.1 }
 {
     match store.shape(k) {
         Shape::Inner { var } => {
+            let size = item_size(m, var);
             if u64::from(var) < m.vars.len() {
-                all_kids(alloc, m, store, k, var)
+                (0, size)
             } else {
-                one_kid(alloc, m, store, k, var)
+                let code = first_code(m, store, k, var);
+                (code, code + 1)
             }
         }
-        Shape::False => Ok(Nodes::new(alloc)),
-        Shape::True => Ok(Nodes::new(alloc)),
+        Shape::False => (0, 0),
+        Shape::True => (0, 0),
     }
 }
 
 // Leaves a node, after those that follow on it.
-pub(crate) fn leave(
-    alloc: Global,
+fn leave(
     m: &Machine,
     store: &Store,
     k: NodeId,
@@ -130,9 +87,12 @@ pub(crate) fn leave(
     if *marks.get(k.number()) {
         return Ok(());
     }
-    let kids = next_list(alloc, m, store, k)?;
-    for j in 0..kids.len() {
-        leave(alloc, m, store, *kids.get(j), marks, left)?;
+    let (from, end) = next_codes(m, store, k);
+    for code in from..end {
+        let kid = store.child(k, code);
+        if !*marks.get(kid.number()) {
+            leave(m, store, kid, marks, left)?;
+        }
     }
     marks.set(k.number(), true);
     left.push(k)?;
@@ -153,6 +113,6 @@ pub(crate) fn all_left(
 {
     let mut marks = List::filled(alloc, store.node_count(), false)?;
     let mut left = Nodes::new(alloc);
-    leave(alloc, m, store, root, &mut marks, &mut left)?;
+    leave(m, store, root, &mut marks, &mut left)?;
     Ok(left)
 }

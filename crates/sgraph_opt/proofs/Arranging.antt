@@ -1,7 +1,8 @@
 -- The vertices that were left are the graph that is numbered again.
 use Rattle.std.proofs.Common.{◌≡◌, ⊎_elim, ℕ, zero, suc, ◌+◌, ◌-◌, ◌<◌, ◌≤◌, Bool, true, false, cond, ◌||◌, List, [], ◌∷◌, ◌++◌, map, length, take, drop, replicate, slice_get, slice_index, slice_set, Option, Some, None, refl, ap, sym, subst, ◌∙◌, arith, eqb}
 use Rattle.std.specs.Prelude.{unwrap_or}
-use Rattle.std.proofs.lemmas.Bool.{cases_eq, eq-eqb, ne_eqb, true≢false, or_left, or_right, or_cases}
+use Rattle.std.proofs.lemmas.Bool.{cases_lt, cases_eq, eq-eqb, ne_eqb, true≢false, or_left, or_right, or_cases}
+use Rattle.std.proofs.lemmas.Grind.{same_number_lists}
 use Rattle.transition_table.specs.NetworkFacts.{has}
 use Rattle.domains.specs.Orders.{place}
 use Rattle.sgraph.specs.declared.vertex.Vertex.{Vertex}
@@ -13,6 +14,7 @@ use Rattle.sgraph_opt.specs.Renumbering.{vertex_at, all_left, numbered_of, Rises
 use Rattle.sgraph_opt.proofs.Members.{Every}
 use Rattle.sgraph_opt.proofs.Departures.{Closed, closed_next, every_left}
 use Rattle.sgraph_opt.proofs.Departing.{got, below, take_one, take_whole, turned_push}
+use Rattle.sgraph_opt.proofs.Again.{index_map, long_map}
 use Rattle.sgraph_opt.proofs.Rising.{visit_beyond}
 
 -- ---- lists
@@ -142,28 +144,48 @@ numbers_end count len left numbers i ok is at k h =
     omega arith
 
 -- ---- children
-pub one_number : (numbers kids list more : List ℕ) (j kid number : ℕ)
-    → list ≡ map (slice_index numbers) (take j kids) → slice_get kids j ≡ Some kid
-    → slice_get numbers kid ≡ Some number → more ≡ list ++ number ∷ []
-    → more ≡ map (slice_index numbers) (take (j + 1) kids)
-one_number numbers kids list more j kid number is is_kid is_number e =
-    let f : j + 1 ≡ suc j = omega arith in
-    let low = below kids j kid is_kid in
-    e
-    ∙ ap (λ (xs : List ℕ). xs ++ number ∷ []) is
-    ∙ ap (λ (x : ℕ). map (slice_index numbers) (take j kids) ++ x ∷ [])
-    (sym (got numbers kid number is_number))
-    ∙ ap (λ (x : ℕ). map (slice_index numbers) (take j kids) ++ slice_index numbers x ∷ [])
-    (sym (got kids j kid is_kid))
-    ∙ sym (map_push (slice_index numbers) (take j kids) (slice_index kids j))
-    ∙ ap (map (slice_index numbers)) (sym (take_one kids j low))
-    ∙ ap (λ (n : ℕ). map (slice_index numbers) (take n kids)) (sym f)
+-- the first children have their numbers
+pub record KidNumbers (numbers kids list : List ℕ) (count : ℕ) : Type 0 where
+  pub long : length list ≡ length kids
+  pub each : (j : ℕ) → j < count → slice_index list j ≡ slice_index numbers (slice_index kids j)
 
-pub all_numbers : (numbers kids list : List ℕ) (j : ℕ)
-    → list ≡ map (slice_index numbers) (take j kids) → length kids ≤ j
-    → list ≡ map (slice_index numbers) kids
-all_numbers numbers kids list j is high =
-    is ∙ ap (map (slice_index numbers)) (take_whole kids j high)
+pub kids_start : (numbers kids list : List ℕ) → list ≡ kids → KidNumbers numbers kids list 0
+kids_start numbers kids list is =
+    record {
+      long = ap (λ (xs : List ℕ). length xs) is;
+      each = λ j low. absurd (omega arith);
+    }
+
+pub kids_more : (numbers kids list more : List ℕ) (i kid number : ℕ)
+    → KidNumbers numbers kids list i → slice_get kids i ≡ Some kid
+    → slice_get numbers kid ≡ Some number → more ≡ slice_set list i number
+    → KidNumbers numbers kids more (i + 1)
+kids_more numbers kids list more i kid number ok is_kid is_number e =
+    let own = ok.long in
+    let within = below kids i kid is_kid in
+    record {
+      long = ap (λ (xs : List ℕ). length xs) e ∙ set_long list i number ∙ ok.long;
+      each = λ j less.
+          ap (λ (xs : List ℕ). slice_index xs j) e
+          ∙ ⊎_elim
+          (λ before.
+          set_there list i j number (λ same. absurd (omega arith)) ∙ ok.each j before)
+          (λ last.
+          let here : i ≡ j = omega arith in
+          ap (slice_index (slice_set list i number)) (sym here)
+          ∙ set_here list i number (omega arith)
+          ∙ sym (got numbers kid number is_number)
+          ∙ ap (slice_index numbers) (sym (got kids i kid is_kid) ∙ ap (slice_index kids) here))
+          (cases_lt j i);
+    }
+
+pub kids_end : (numbers kids list : List ℕ) (count : ℕ) → KidNumbers numbers kids list count
+    → length kids ≤ count → list ≡ map (slice_index numbers) kids
+kids_end numbers kids list count ok high =
+    let own = ok.long in
+    let all = long_map (slice_index numbers) kids in
+    same_number_lists list (map (slice_index numbers) kids) (omega arith) (λ j low.
+    ok.each j (omega arith) ∙ sym (index_map (slice_index numbers) kids j (omega arith)))
 
 -- ---- members
 map_numbers : (a b : ℕ → ℕ) (xs : List ℕ)

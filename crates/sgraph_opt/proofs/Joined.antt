@@ -1,16 +1,13 @@
 -- Equal vertices that are joined, by an index of those that stand for themselves.
 use Rattle.std.proofs.Common.{◌≡◌, ◌⊎◌, inl, inr, ⊎_elim, ℕ, zero, suc, ◌+◌, ◌<◌, ◌≤◌, true, false, cond, List, map, length, drop, replicate, slice_get, slice_index, slice_set, Option, Some, None, refl, ap, sym, subst, ◌∙◌, arith}
-use Rattle.std.specs.BTreeMap.{BTreeMap}
 use Rattle.std.specs.Str.{bytes_eq}
-use Rattle.std.specs.declared.vec.Vec.{Vec}
-use Rattle.std.specs.declared.alloc.Global.{Global}
 use Rattle.std.proofs.lemmas.Bool.{cases_eq, cases_Bool, cond-true, cond-false}
 use Rattle.sgraph.specs.declared.vertex.Vertex.{Vertex}
 use Rattle.sgraph.specs.declared.vertex.Vertex.TheVariants.{Begin, Test, Assign, End}
 use Rattle.sgraph.specs.Facts.{IsGraph}
 use Rattle.sgraph.specs.Graphs.{key_of, varies}
 use Rattle.sgraph_opt.specs.Choices.{Chosen, is_inner, Has, Sharing, Shared}
-use Rattle.sgraph_opt.specs.Found.{found, Same, Entered}
+use Rattle.sgraph_opt.specs.Found.{Keyed, found, Same, Entered}
 use Rattle.sgraph_opt.specs.Representatives.{renamed, IsTwin, IsRep, Standing}
 use Rattle.sgraph_opt.proofs.Lookups.{bytes_same, bytes_self}
 use Rattle.sgraph_opt.proofs.Standing.{got, below, set_here, set_there, same_renamed, later_kids, standing_start, standing_more, vertex_there}
@@ -55,7 +52,7 @@ not_none o a p q = cc
 
 -- ---- one more vertex
 module _ (g : List Vertex) (ok : IsGraph g) (reps more : List ℕ)
-    (old new : BTreeMap (Vec ℕ Global) ℕ) (i k r : ℕ) (s : Sharing g reps old i) (at : i ≡ k + 1)
+    (old new : Keyed) (i k r : ℕ) (s : Sharing g reps old i) (at : i ≡ k + 1)
     (v : Vertex) (is : slice_get g k ≡ Some v) (set : more ≡ slice_set reps k r) where
   abbrev to : ℕ → ℕ
   to = slice_index reps
@@ -310,7 +307,7 @@ stands_higher g ok reps i s k high low = from (length g) k high (omega arith) lo
         (slice_get g k) refl
 
 sharing_one : (g : List Vertex) (ok : IsGraph g) (reps more : List ℕ)
-    (old new : BTreeMap (Vec ℕ Global) ℕ) (i k r : ℕ) → Sharing g reps old i → i ≡ k + 1
+    (old new : Keyed) (i k r : ℕ) → Sharing g reps old i → i ≡ k + 1
     → (v : Vertex) → slice_get g k ≡ Some v → more ≡ slice_set reps k r
     → Chosen (slice_index reps) k r old new v → Sharing g more new k
 sharing_one g ok reps more old new i k r s at (Begin next) is set (own, same) =
@@ -350,7 +347,7 @@ sharing_one g ok reps more old new i k r s at (Assign result code next) is set
     fresh own grows
 
 pub sharing_more : (g : List Vertex) (ok : IsGraph g) (reps more : List ℕ)
-    (old new : BTreeMap (Vec ℕ Global) ℕ) (i k r : ℕ) → Sharing g reps old i → i ≡ k + 1
+    (old new : Keyed) (i k r : ℕ) → Sharing g reps old i → i ≡ k + 1
     → k < length g → ((v : Vertex) → slice_get g k ≡ Some v
     → Chosen (slice_index reps) k r old new v) → more ≡ slice_set reps k r → Sharing g more new k
 sharing_more g ok reps more old new i k r s at low chosen set = go (slice_get g k) refl
@@ -359,7 +356,7 @@ sharing_more g ok reps more old new i k r s at low chosen set = go (slice_get g 
     go None is = absurd (vertex_there g k low is)
     go (Some v) is = sharing_one g ok reps more old new i k r s at v is set (chosen v is)
 
-pub sharing_start : (g : List Vertex) (reps : List ℕ) (index : BTreeMap (Vec ℕ Global) ℕ)
+pub sharing_start : (g : List Vertex) (reps : List ℕ) (index : Keyed)
     (i count : ℕ) → reps ≡ replicate count 0 → count ≡ length g → i ≡ length g
     → ((q : List ℕ) → found index q ≡ None) → Sharing g reps index i
 sharing_start g reps index i count is all at none = record {
@@ -379,7 +376,7 @@ inner_renamed to v w e = sym (inner_same to v) ∙ ap is_inner e ∙ inner_same 
     inner_same to (Assign result code next) = refl
     inner_same to End = refl
 
-by_index : (g : List Vertex) (reps : List ℕ) (index : BTreeMap (Vec ℕ Global) ℕ)
+by_index : (g : List Vertex) (reps : List ℕ) (index : Keyed)
     → Sharing g reps index 0 → (a b : ℕ) (v w : Vertex) → slice_get g a ≡ Some v
     → slice_get g b ≡ Some w → slice_index reps a ≡ a → slice_index reps b ≡ b → is_inner v ≡ true
     → renamed (slice_index reps) v ≡ renamed (slice_index reps) w → a ≡ b
@@ -405,7 +402,7 @@ by_index g reps index s a b v w is_a is_b own_a own_b inner e =
     }) in
     same_some (found index (key_of (renamed (slice_index reps) v))) a b at_a at_b
 
-one_key : (g : List Vertex) (reps : List ℕ) (index : BTreeMap (Vec ℕ Global) ℕ) → IsGraph g
+one_key : (g : List Vertex) (reps : List ℕ) (index : Keyed) → IsGraph g
     → Sharing g reps index 0 → (a b : ℕ) (v w : Vertex) → slice_get g a ≡ Some v
     → slice_get g b ≡ Some w → slice_index reps a ≡ a → slice_index reps b ≡ b
     → renamed (slice_index reps) v ≡ renamed (slice_index reps) w → a ≡ b
@@ -432,7 +429,7 @@ one_key g reps index ok s a b End (Assign result code next) is_a is_b own_a own_
 one_key g reps index ok s a b End End is_a is_b own_a own_b e = let p = ok.only_end a is_a in
     let q = ok.only_end b is_b in omega arith
 
-pub sharing_shared : (g : List Vertex) (reps : List ℕ) (index : BTreeMap (Vec ℕ Global) ℕ)
+pub sharing_shared : (g : List Vertex) (reps : List ℕ) (index : Keyed)
     → IsGraph g → Sharing g reps index 0 → Shared g reps
 sharing_shared g reps index ok s = record {
   vary = λ k v is own. s.vary k v (omega arith) is own;
@@ -440,7 +437,7 @@ sharing_shared g reps index ok s = record {
 }
 
 -- ---- what is chosen
-module _ (g : List Vertex) (reps : List ℕ) (old new : BTreeMap (Vec ℕ Global) ℕ) (k r : ℕ)
+module _ (g : List Vertex) (reps : List ℕ) (old new : Keyed) (k r : ℕ)
     (v w : Vertex) (is_v : slice_get g k ≡ Some v) (is_w : slice_get g k ≡ Some w) where
   pub chosen_test : (var : ℕ) (kids key : List ℕ) → w ≡ Test var kids
       → ((var : ℕ) → varies (Test var (map (slice_index reps) kids)) ≡ true)

@@ -1,18 +1,14 @@
 -- What is to stand for a vertex where equal vertices are joined, by an index of the later vertices
 -- that stand for themselves.
 use Rattle.std.specs.Prelude.{◌≡◌, ◌⊎◌, ℕ, ◌<◌, ◌≤◌, Bool, true, false, List, map, length, slice_get, slice_index, Some, IsTrue}
-use Rattle.std.specs.BTreeMap.{BTreeMap}
-use Rattle.std.specs.declared.vec.Vec.{Vec}
-use Rattle.std.specs.declared.alloc.Global.{Global}
 use Rattle.sgraph.specs.declared.vertex.Vertex.{Vertex}
 use Rattle.sgraph.specs.declared.vertex.Vertex.TheVariants.{Begin, Test, Assign, End}
 use Rattle.sgraph.specs.Graphs.{key_of, varies}
-use Rattle.sgraph_opt.specs.Found.{found, Same, Entered}
+use Rattle.sgraph_opt.specs.Found.{Keyed, found, Same, Entered}
 use Rattle.sgraph_opt.specs.Representatives.{renamed, Standing}
 
 -- r is chosen for vertex k
-abbrev pub Chosen : (ℕ → ℕ) → ℕ → ℕ → BTreeMap (Vec ℕ Global) ℕ → BTreeMap (Vec ℕ Global) ℕ → Vertex
-    → Type 0
+abbrev pub Chosen : (ℕ → ℕ) → ℕ → ℕ → Keyed → Keyed → Vertex → Type 0
 Chosen to k r old new (Begin next) = (r ≡ k) × Same old new
 Chosen to k r old new (Test var kids) =
     (((i : ℕ) → i < length kids → to (slice_index kids i) ≡ r) × Same old new)
@@ -40,8 +36,7 @@ pub record Has (g : List Vertex) (to : ℕ → ℕ) (i r : ℕ) (key : List ℕ)
 
 -- Each vertex from number i on has one that may stand for it, tests that stand for themselves vary,
 -- and the index has exactly the tests and assignments that stand for themselves.
-pub record Sharing (g : List Vertex) (reps : List ℕ) (index : BTreeMap (Vec ℕ Global) ℕ) (i : ℕ) :
-    Type 0 where
+pub record Sharing (g : List Vertex) (reps : List ℕ) (index : Keyed) (i : ℕ) : Type 0 where
   pub stands : Standing g reps i
   pub vary :
       (k : ℕ) (v : Vertex)

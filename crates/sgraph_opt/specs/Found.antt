@@ -1,22 +1,26 @@
 -- Numbers under keys that are lists of numbers.
 use Rattle.std.specs.Prelude.{◌≡◌, ◌⊎◌, ℕ, cond, List, Option, Some, None}
-use Rattle.std.specs.BTreeMap.{BTreeMap, get_by}
-use Rattle.std.specs.Cmp.Lexicographic.{slice_cmp}
-use Rattle.std.specs.Ordering.{nat_cmp}
+use Rattle.std.specs.HashMap.{HashMap, get_by}
 use Rattle.std.specs.Str.{bytes_eq}
-use Rattle.std.specs.declared.vec.Vec.{Vec}
 use Rattle.std.specs.declared.alloc.Global.{Global}
+use Rattle.std.specs.declared.hash.BuildHasherDefault.{BuildHasherDefault}
+use Rattle.std.specs.declared.hash.FoldHasher.{FoldHasher}
+use Rattle.std.specs.declared.vec.Vec.{Vec}
+
+-- an `Index`: numbers under keys
+abbrev pub Keyed : Type 0
+Keyed = HashMap (Vec ℕ Global) ℕ (BuildHasherDefault FoldHasher)
 
 -- the number under a key
-abbrev pub found : BTreeMap (Vec ℕ Global) ℕ → List ℕ → Option ℕ
-found index key = get_by (λ k. slice_cmp nat_cmp key k.items) index
+abbrev pub found : Keyed → List ℕ → Option ℕ
+found index key = get_by (λ k. bytes_eq key k.items) index
 
 -- the index is as before
-abbrev pub Same : BTreeMap (Vec ℕ Global) ℕ → BTreeMap (Vec ℕ Global) ℕ → Type 0
+abbrev pub Same : Keyed → Keyed → Type 0
 Same old new = (q : List ℕ) → found new q ≡ found old q
 
 -- r is the number that stood under the key, or else k, which stands there now
-abbrev pub Entered : BTreeMap (Vec ℕ Global) ℕ → BTreeMap (Vec ℕ Global) ℕ → List ℕ → ℕ → ℕ → Type 0
+abbrev pub Entered : Keyed → Keyed → List ℕ → ℕ → ℕ → Type 0
 Entered old new key k r =
     ((found old key ≡ Some r) × Same old new)
     ⊎ ((found old key ≡ None) × (r ≡ k)

@@ -4,9 +4,9 @@ ghost use Rattle.std.specs.Str.{bytes_eq};
 ghost use Rattle.sgraph_opt.specs.Found.{found, Entered};
 
 use polis_base::NoMemory;
-use std::collections::BTreeMap;
+use std::collections::HashMap;
 
-pub(crate) type Index = BTreeMap<Vec<u64>, u64>;
+pub(crate) type Index = HashMap<Vec<u64>, u64>;
 
 // The number under a key.
 fn find(index: &Index, key: &[u64]) -> Option<u64>

@@ -9,38 +9,25 @@ ghost use Rattle.sgraph_opt.specs.Smaller.{Keeps};
 ghost use Rattle.transition_table.specs.NetworkFacts.{has};
 ghost use Rattle.domains.specs.Orders.{place};
 
-use polis_base::{Duplicate, List, NoMemory, Places};
+use polis_base::{List, NoMemory, Places};
 use sgraph::{Graph, Vertex, VertexList};
 use std::alloc::Global;
+use std::slice;
 
 // The children of a vertex.
-fn kids_list(alloc: Global, v: &Vertex) -> Result<Places, NoMemory>
-    ensures { IfOk result (λ kids. kids ≡ kids_of v.now) }
+fn kids(v: &Vertex) -> &[u64]
+    ensures { result.now ≡ kids_of v.now }
 {
     match v {
-        Vertex::Begin { next } => {
-            let mut kids = Places::new(alloc);
-            kids.push(*next)?;
-            Ok(kids)
-        }
-        Vertex::Test { kids, .. } => kids.copy(),
-        Vertex::Assign { next, .. } => {
-            let mut kids = Places::new(alloc);
-            kids.push(*next)?;
-            Ok(kids)
-        }
-        Vertex::End => Ok(Places::new(alloc)),
+        Vertex::Begin { next } => slice::from_ref(next),
+        Vertex::Test { kids, .. } => kids.as_slice(),
+        Vertex::Assign { next, .. } => slice::from_ref(next),
+        Vertex::End => &[],
     }
 }
 
 // Leaves a vertex, after those that follow on it.
-fn leave(
-    alloc: Global,
-    h: &VertexList,
-    k: u64,
-    marks: &mut List<bool>,
-    left: &mut Places,
-) -> Result<(), NoMemory>
+fn leave(h: &VertexList, k: u64, marks: &mut List<bool>, left: &mut Places) -> Result<(), NoMemory>
     requires vertex { k < length h.now }
     requires rises { Rises h.now }
     requires marks { MarksOf (length h.now) marks.old left.old }
@@ -51,9 +38,10 @@ fn leave(
     if *marks.get(k) {
         return Ok(());
     }
-    let kids = kids_list(alloc, h.get(k))?;
-    for j in 0..kids.len() {
-        leave(alloc, h, *kids.get(j), marks, left)?;
+    for kid in kids(h.get(k)) {
+        if !*marks.get(*kid) {
+            leave(h, *kid, marks, left)?;
+        }
     }
     marks.set(k, true);
     left.push(k)?;
@@ -68,7 +56,7 @@ fn leave_all(alloc: Global, h: &VertexList) -> Result<Places, NoMemory>
 {
     let mut marks = List::filled(alloc, h.len(), false)?;
     let mut left = Places::new(alloc);
-    leave(alloc, h, 0, &mut marks, &mut left)?;
+    leave(h, 0, &mut marks, &mut left)?;
     Ok(left)
 }
 
@@ -92,10 +80,9 @@ fn kid_numbers(alloc: Global, kids: &Places, numbers: &Places) -> Result<Places,
     requires { (j : ℕ) → j < length kids.now → slice_index kids.now j < length numbers.now }
     ensures { IfOk result (λ list. list ≡ map (slice_index numbers.now) kids.now) }
 {
-    let mut list = Places::new(alloc);
+    let mut list = Places::from_slice(alloc, kids.as_slice())?;
     for j in 0..kids.len() {
-        let number = *numbers.get(*kids.get(j));
-        list.push(number)?;
+        list.set(j, *numbers.get(*kids.get(j)));
     }
     Ok(list)
 }
@@ -148,6 +135,7 @@ fn arrange(
         let v = rename(alloc, w, numbers)?;
         vertices.push(v)?;
     }
+    vertices.shrink();
     Ok(vertices)
 }
 

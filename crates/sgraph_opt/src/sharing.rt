@@ -12,7 +12,7 @@ use crate::numbering::renumbered;
 use polis_base::{NoMemory, Places};
 use sgraph::{Graph, Vertex};
 use std::alloc::Global;
-use std::collections::BTreeMap;
+use std::collections::HashMap;
 
 // What stands for all of some vertices, where it is one.
 fn one_kid(kids: &Places, reps: &Places) -> Option<u64>
@@ -39,7 +39,7 @@ fn test_key(alloc: Global, var: u32, kids: &Places, reps: &Places) -> Result<Vec
     ensures { IfOk result (λ key. key.items
         ≡ key_of (Test var (map (slice_index reps.now) kids.now))) }
 {
-    let mut key = Vec::new(alloc);
+    let mut key = Vec::with_capacity(alloc, kids.as_slice().len() + 2)?;
     key.push(1)?;
     key.push(u64::from(var))?;
     for i in 0..kids.len() {
@@ -53,7 +53,7 @@ fn test_key(alloc: Global, var: u32, kids: &Places, reps: &Places) -> Result<Vec
 fn assign_key(alloc: Global, y: u32, code: u8, next: u64) -> Result<Vec<u64>, NoMemory>
     ensures { IfOk result (λ key. key.items ≡ key_of (Assign y code next)) }
 {
-    let mut key = Vec::new(alloc);
+    let mut key = Vec::with_capacity(alloc, 4)?;
     key.push(2)?;
     key.push(u64::from(y))?;
     key.push(u64::from(code))?;
@@ -106,7 +106,7 @@ fn all_shared(alloc: Global, g: &Graph) -> Result<Places, NoMemory>
     ensures stands { IfOk result (λ reps. Standing g.now reps 0) }
     ensures shared { IfOk result (λ reps. Shared g.now reps) }
 {
-    let mut index = BTreeMap::new(alloc);
+    let mut index = HashMap::with_capacity(alloc, g.len() as usize)?;
     let mut reps = Places::filled(alloc, g.len(), 0)?;
     for k in (0..g.len()).rev() {
         let r = shared(alloc, g, k, &reps, &mut index)?;

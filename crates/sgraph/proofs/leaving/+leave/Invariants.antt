@@ -1,4 +1,4 @@
-use Rattle.std.proofs.Common.{◌≡◌, take, length}
+use Rattle.std.proofs.Common.{◌≡◌, ◌-◌, take, length}
 use Rattle.sgraph.specs.Graphs.{each, left_after}
 use Rattle.sgraph.specs.Building.{next_nodes}
 use Rattle.sgraph.specs.Marks.{turned, Marks}
@@ -9,9 +9,9 @@ abbrev pub decreases-leave : goal.decreases-leave
 decreases-leave l = l.k
 
 -- those that follow so far are left
-abbrev pub invariant-loop-j : goal.invariant-loop-j
-invariant-loop-j l = record {
+abbrev pub invariant-loop-code : goal.invariant-loop-code
+invariant-loop-code l = record {
   left : turned l.left ≡ each (left_after l.k (next_nodes l.store (length l.m.vars)))
-      (turned l.fn.left) (take l.j (next_nodes l.store (length l.m.vars) l.k));
+      (turned l.fn.left) (take (l.code - l.from) (next_nodes l.store (length l.m.vars) l.k));
   marks : Marks l.store l.marks l.left;
 }

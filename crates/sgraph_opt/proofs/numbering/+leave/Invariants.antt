@@ -9,9 +9,9 @@ abbrev pub decreases-leave : goal.decreases-leave
 decreases-leave l = length l.h.now - l.k
 
 -- those that follow so far are left
-abbrev pub invariant-loop-j : goal.invariant-loop-j
-invariant-loop-j l = record {
+abbrev pub invariant-loop-kid : goal.invariant-loop-kid
+invariant-loop-kid l = record {
   left : turned l.left ≡ each (left_after (length l.h) (kids_at l.h)) (turned l.fn.left)
-      (take l.j (kids_at l.h l.k));
+      (take l.kid-index (kids_at l.h l.k));
   marks : MarksOf (length l.h) l.marks l.left;
 }

@@ -219,17 +219,17 @@ fixed_more m order s new p i stride kids code n before kept few means level =
           (cases_lt c code);
     }
 
--- the node of these children is what is left before the variable
-pub node_left : SameOnSupport → (m : Machine) (order : List ℕ) (ordered : IsOrdered m order)
-    → (s new : Diagrams) (p v i stride n : ℕ) (kids some : List ℕ) → IsItem m order p v
+-- the node of children that are what is left after a variable is what is left before it
+pub kids_left : SameOnSupport → (m : Machine) (order : List ℕ) (ordered : IsOrdered m order)
+    → (s new : Diagrams) (p v i stride n : ℕ) (kids : List ℕ) → IsItem m order p v
     → v < length m.vars → i < length (points m)
     → ((c : ℕ) → c < slice_index m.vars v → IsNext m order ordered p v i c (i + c * stride))
     → s.sizes ≡ sizes_of m → new.sizes ≡ s.sizes
-    → AreFixedKids m order s p i stride kids (slice_index m.vars v)
-    → some ≡ take (slice_index m.vars v) kids → Means new n (choice s v some)
-    → Means new n (left_from m order p i)
-node_left same m order ordered s new p v i stride n kids some at inside low next sizes grown are part
-    means = record {
+    → ((c : ℕ) → c < slice_index m.vars v
+    → Means s (slice_index kids c) (left_from m order (p + 1) (i + c * stride)))
+    → Means new n (choice s v kids) → Means new n (left_from m order p i)
+kids_left same m order ordered s new p v i stride n kids at inside low next sizes grown are means =
+    record {
       node = means.node;
       value = λ codes fit.
           let fit_s : IsTrue (fits s.sizes codes) = rw grown at fit in
@@ -239,17 +239,29 @@ node_left same m order ordered s new p v i stride n kids some at inside low next
           let e : slice_index (sizes_of m) v ≡ slice_index m.vars v =
           index_first m.vars m.results v inside in
           let c_low : c < slice_index m.vars v = omega arith in
-          let kid : slice_index some c ≡ slice_index kids c =
-          ap (λ (xs : List ℕ). slice_index xs c) part
-          ∙ get_or-take (slice_index m.vars v) kids c 0 c_low in
           let f : p + 1 ≡ suc p = omega arith in
           means.value codes fit
-          ∙ ap (λ (k : ℕ). value_of s k codes) kid
-          ∙ (are.means c c_low).value codes fit_s
+          ∙ (are c c_low).value codes fit_s
           ∙ ap (λ (k : ℕ). left_from m order k (i + c * stride) codes) f
           ∙ var_step m order ordered same p v i c (i + c * stride) codes at.low at.is inside low
           (next c c_low) c_low (fits_long (sizes_of m) codes fit_m) refl;
     }
+
+-- and so the node of the children that are made one by one
+pub node_left : SameOnSupport → (m : Machine) (order : List ℕ) (ordered : IsOrdered m order)
+    → (s new : Diagrams) (p v i stride n : ℕ) (kids some : List ℕ) → IsItem m order p v
+    → v < length m.vars → i < length (points m)
+    → ((c : ℕ) → c < slice_index m.vars v → IsNext m order ordered p v i c (i + c * stride))
+    → s.sizes ≡ sizes_of m → new.sizes ≡ s.sizes
+    → AreFixedKids m order s p i stride kids (slice_index m.vars v)
+    → some ≡ take (slice_index m.vars v) kids → Means new n (choice s v some)
+    → Means new n (left_from m order p i)
+node_left same m order ordered s new p v i stride n kids some at inside low next sizes grown are
+    part =
+    kids_left same m order ordered s new p v i stride n some at inside low next sizes grown
+    (λ c c_low. subst (λ (k : ℕ). Means s k (left_from m order (p + 1) (i + c * stride)))
+    (sym (ap (λ (xs : List ℕ). slice_index xs c) part
+    ∙ get_or-take (slice_index m.vars v) kids c 0 c_low)) (are.means c c_low))
 
 -- the node of a result is what is left before it
 pub result_left : ResultsFit → SameOnSupport → (m : Machine) (order : List ℕ) → IsOrdered m order

@@ -1,6 +1,6 @@
 mod AllCodes
 mod Blocks
-mod Ends
+mod Rises
 mod Fitting
 mod FixedKids
 mod Knowing

@@ -12,7 +12,6 @@ use Rattle.transition_table.specs.Computed.{char, supports}
 use Rattle.transition_table.specs.Orders.{sizes_of}
 use Rattle.char_function.specs.Known.{OnlyResults}
 use Rattle.char_function.specs.Points.{at_point, points}
-use Rattle.char_function.specs.Runs.{AreEnds, IsRising}
 
 -- its value on a list whose codes before the place are replaced by those of the snapshot of this
 -- number and its results
@@ -38,16 +37,14 @@ pub record IsOrdered (m : Machine) (order : List ℕ) : Type 0 where
       → place order v < place order (length m.vars + y)
 
 -- what nodes of a machine are made of
-pub record IsFixing (m : Machine) (t : Table) (items sizes strides : List ℕ) (in_order : Bool)
-    (runs : List ℕ) (start : ℕ) : Type 0 where
-  pub table : IsTableOf m t
-  pub ordered : IsOrdered m items
-  pub all_sizes : sizes ≡ sizes_of m
-  pub apart : AreStrides m.vars strides
-  pub rising : in_order ≡ true → IsRising (length m.vars) items
-  pub ends : AreEnds t.numbers runs
-  pub results : OnlyResults (length m.vars) items start
-  pub within : start ≤ length items
+pub record IsFixing (m : Machine) (t : Table) (items sizes strides : List ℕ) (start : ℕ) : Type 0
+  where
+    pub table : IsTableOf m t
+    pub ordered : IsOrdered m items
+    pub all_sizes : sizes ≡ sizes_of m
+    pub apart : AreStrides m.vars strides
+    pub results : OnlyResults (length m.vars) items start
+    pub within : start ≤ length items
 
 -- A node that is known for an outcome is what is left after the place on each snapshot that has the
 -- outcome.

@@ -5,6 +5,6 @@ pub mod Left
 pub mod Orders
 pub mod Points
 pub mod Roots
-pub mod Runs
+pub mod Rising
 pub mod Sizes
 pub mod Supported

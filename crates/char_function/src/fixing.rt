@@ -1,9 +1,8 @@
 // The diagram of a machine's characteristic function under an allowed order.
 //
 // The snapshots that share the codes of the variables before a place stand for one node, and the
-// first of them stands for all: each result before the place has one code on them. Where all of
-// them have one outcome, no variable is gone through.
-ghost use Rattle.std.specs.Prelude.{◌≡◌, ◌<◌, ◌≤◌, ◌==◌, ◌&&◌, ◌^◌, ◌+◌, true, length, drop, replicate, slice_index, IfOk};
+// first of them stands for all: each result before the place has one code on them.
+ghost use Rattle.std.specs.Prelude.{◌≡◌, ◌<◌, ◌≤◌, ◌==◌, ◌&&◌, ◌^◌, length, drop, replicate, slice_index, IfOk};
 ghost use Rattle.domains.specs.Orders.{place};
 ghost use Rattle.domains.specs.Tables.{product};
 ghost use Rattle.decision_diagram.specs.Diagrams.{IsNode, Keeps, Means, level_of, value_of};
@@ -15,7 +14,8 @@ ghost use Rattle.char_function.specs.Points.{points};
 
 use crate::group::code_at;
 use crate::known::{Known, after_variables};
-use crate::runs::{ends_of, is_rising};
+use crate::levels::rising_root;
+use crate::rising::is_rising;
 use decision_diagram::{NodeId, Order, Store};
 use domains::VarTable;
 use outcome_table::{Table, lists_from};
@@ -26,21 +26,17 @@ use transition_table::Machine;
 // The most codes that a variable or result has.
 const CODES: usize = 33;
 
-// What nodes are made of.
+/// What nodes are made of.
 #[derive(Clone, Copy)]
-struct Fixing<'a> {
-    machine: &'a Machine,
-    table: &'a Table,
-    order: &'a Order,
-    sizes: &'a VarTable,
-    // for each variable how far apart two snapshots are whose codes of it follow each other
-    strides: &'a Places,
-    // whether the variables stand by rising numbers
-    rising: bool,
-    // for each snapshot the end of those that follow it with the same number of an outcome
-    ends: &'a Places,
-    // the place after the order's last variable
-    start: u64,
+pub(crate) struct Fixing<'a> {
+    pub(crate) machine: &'a Machine,
+    pub(crate) table: &'a Table,
+    pub(crate) order: &'a Order,
+    pub(crate) sizes: &'a VarTable,
+    /// For each variable how far apart two snapshots are whose codes of it follow each other.
+    pub(crate) strides: &'a Places,
+    /// The place after the order's last variable.
+    pub(crate) start: u64,
 }
 
 // The same node for each code.
@@ -50,8 +46,8 @@ fn same_kids(node: NodeId) -> [NodeId; CODES]
     [node; CODES]
 }
 
-// The node that is false but at one code of a result, where it is the kid.
-fn result_node(
+/// The node that is false but at one code of a result, where it is the kid.
+pub(crate) fn result_node(
     store: &mut Store,
     item: u32,
     size: u8,
@@ -80,8 +76,7 @@ fn result_node(
 // The node of what is left after the order's last variable.
 fn results_node(fixing: &Fixing, store: &mut Store, i: u64) -> Result<NodeId, NoMemory>
     requires fixing { IsFixing fixing.now.machine.now fixing.now.table.now fixing.now.order.now
-        fixing.now.sizes.now fixing.now.strides.now fixing.now.rising fixing.now.ends.now
-        fixing.now.start }
+        fixing.now.sizes.now fixing.now.strides.now fixing.now.start }
     requires order { store.old.order ≡ fixing.now.order.now }
     requires sizes { store.old.sizes ≡ fixing.now.sizes.now }
     requires snapshot { i < length (points fixing.now.machine.now) }
@@ -104,16 +99,15 @@ fn results_node(fixing: &Fixing, store: &mut Store, i: u64) -> Result<NodeId, No
     Ok(node)
 }
 
-// The same, made once for each outcome.
-fn outcome_node(
+/// The node of what is left after the order's last variable, made once for each outcome.
+pub(crate) fn outcome_node(
     fixing: &Fixing,
     store: &mut Store,
     known: &mut Known,
     i: u64,
 ) -> Result<NodeId, NoMemory>
     requires fixing { IsFixing fixing.now.machine.now fixing.now.table.now fixing.now.order.now
-        fixing.now.sizes.now fixing.now.strides.now fixing.now.rising fixing.now.ends.now
-        fixing.now.start }
+        fixing.now.sizes.now fixing.now.strides.now fixing.now.start }
     requires order { store.old.order ≡ fixing.now.order.now }
     requires sizes { store.old.sizes ≡ fixing.now.sizes.now }
     requires known { AreLeft fixing.now.machine.now fixing.now.table.now store.old fixing.now.start
@@ -136,17 +130,6 @@ fn outcome_node(
     Ok(node)
 }
 
-// Whether so many snapshots from one on have the same number of an outcome, and the variables stand
-// by rising numbers.
-fn have_one_outcome(fixing: &Fixing, i: u64, count: u64) -> bool
-    requires snapshot { i < length fixing.now.ends.now }
-    requires count { i + count < 2 ^ 64 }
-    ensures rising { result ≡ true → fixing.now.rising ≡ true }
-    ensures end { result ≡ true → i + count ≤ slice_index fixing.now.ends.now i }
-{
-    fixing.rising && *fixing.ends.get(i) >= i + count
-}
-
 // The node of what is left from a place on, where the codes before it are those of a snapshot.
 fn fixed_node(
     fixing: &Fixing,
@@ -157,8 +140,7 @@ fn fixed_node(
 ) -> Result<NodeId, NoMemory>
     requires place { place ≤ fixing.now.start }
     requires fixing { IsFixing fixing.now.machine.now fixing.now.table.now fixing.now.order.now
-        fixing.now.sizes.now fixing.now.strides.now fixing.now.rising fixing.now.ends.now
-        fixing.now.start }
+        fixing.now.sizes.now fixing.now.strides.now fixing.now.start }
     requires order { store.old.order ≡ fixing.now.order.now }
     requires sizes { store.old.sizes ≡ fixing.now.sizes.now }
     requires known { AreLeft fixing.now.machine.now fixing.now.table.now store.old fixing.now.start
@@ -188,10 +170,6 @@ fn fixed_node(
         return Ok(node);
     }
     let stride = *fixing.strides.get(u64::from(item));
-    if have_one_outcome(fixing, i, u64::from(size) * stride) {
-        let rest = fixed_node(fixing, store, known, place + 1, i)?;
-        return Ok(rest);
-    }
     let none = store.constant(false);
     let mut kids = same_kids(none);
     for code in 0..size {
@@ -236,8 +214,6 @@ pub(crate) fn fixed_root(
     transition_table::laws_of_computing();
     let _ = m.var_count();
     let strides = strides_of(alloc, m)?;
-    let rising = is_rising(order, m.vars.len());
-    let ends = ends_of(alloc, table.numbers.as_slice())?;
     let start = after_variables(m, order);
     let mut known = Known::filled(alloc, table.outcomes.len(), None)?;
     let fixing = Fixing {
@@ -246,10 +222,12 @@ pub(crate) fn fixed_root(
         order,
         sizes,
         strides: &strides,
-        rising,
-        ends: &ends,
         start,
     };
+    if is_rising(order, m.vars.len()) {
+        let node = rising_root(alloc, &fixing, store, &mut known)?;
+        return Ok(node);
+    }
     let node = fixed_node(&fixing, store, &mut known, 0, 0)?;
     Ok(node)
 }

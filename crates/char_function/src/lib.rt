@@ -8,8 +8,9 @@ mod first;
 mod fixing;
 mod group;
 mod known;
+mod levels;
+mod rising;
 mod root;
-mod runs;
 mod support;
 mod support_lists;
 

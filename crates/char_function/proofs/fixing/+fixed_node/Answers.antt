@@ -5,7 +5,6 @@ use Rattle.domains.specs.Tables.{product}
 use Rattle.decision_diagram.specs.Diagrams.{Means, level_of}
 use Rattle.transition_table.specs.Orders.{sizes_of}
 use Rattle.char_function.specs.Left.{IsFirst, left_from}
-use Rattle.char_function.proofs.Blocks.{rest_left, width_few}
 use Rattle.char_function.proofs.FixedKids.{AreFixedKids, fixed_more, left_kept, next_of, node_left, points_few, result_left, step_of, vars_size}
 use Rattle.char_function.proofs.Leaving.{first_more}
 use Rattle.char_function.proofs.Lists.{read}
@@ -195,134 +194,6 @@ returns-then-from-len-clause-known t c =
     left_kept c.args.fixing.now.machine.now c.args.fixing.now.table.now c.fixed_node.new.store
     c.result_node.new.store c.args.fixing.now.start c.fixed_node.new.known
     c.result_node.ensures.kept c.in_ok-kid.ensures.known
-
-pub overflow_mul-from : goal.overflow_mul-from
-overflow_mul-from t c =
-    let m = c.args.fixing.now.machine.now in
-    let order = c.args.fixing.now.order.now in
-    let f = c.requires.fixing in
-    let p = c.args.place in
-    let item = c.get-item.result.now in
-    let size = c.get-size.result.now in
-    let most = c.requires.place in
-    let other = c.if-place-fixing.false in
-    let within = f.within in
-    let p_low : p < length order = omega arith in
-    let step = step_of m order c.args.fixing.now.sizes.now c.args.store.now.sizes p item
-    c.from.result size f.ordered f.all_sizes c.requires.sizes
-    c.same_value_same_node.ensures.reduced.sizes p_low c.get-item.ensures c.from.ensures
-    c.get-size.ensures in
-    let inside : item < length m.vars = let a = c.if-from-len.false in let b = c.from-2.ensures in
-    let d = c.len.ensures.len in omega arith in
-    let stride = c.get-stride.result.now in
-    let stride_is : stride ≡ product (drop (item + 1) m.vars) =
-    sym (read c.args.fixing.now.strides.now c.from-3.result stride 0 c.get-stride.ensures)
-    ∙ ap (slice_index c.args.fixing.now.strides.now) c.from-3.ensures
-    ∙ f.apart.each item inside in
-    let few = width_few m order p item size stride c.len.ensures.sizes step inside stride_is in
-    let same : c.from-4.result * stride ≡ size * stride = ap (λ (k : ℕ). k * stride) c.from-4.ensures in
-    omega arith
-
-pub have_one_outcome-requires-clause-count : goal.have_one_outcome-requires-clause-count
-have_one_outcome-requires-clause-count t c =
-    let m = c.args.fixing.now.machine.now in
-    let order = c.args.fixing.now.order.now in
-    let f = c.requires.fixing in
-    let p = c.args.place in
-    let item = c.get-item.result.now in
-    let size = c.get-size.result.now in
-    let most = c.requires.place in
-    let other = c.if-place-fixing.false in
-    let within = f.within in
-    let p_low : p < length order = omega arith in
-    let step = step_of m order c.args.fixing.now.sizes.now c.args.store.now.sizes p item
-    c.from.result size f.ordered f.all_sizes c.requires.sizes
-    c.same_value_same_node.ensures.reduced.sizes p_low c.get-item.ensures c.from.ensures
-    c.get-size.ensures in
-    let inside : item < length m.vars = let a = c.if-from-len.false in let b = c.from-2.ensures in
-    let d = c.len.ensures.len in omega arith in
-    let stride = c.get-stride.result.now in
-    let stride_is : stride ≡ product (drop (item + 1) m.vars) =
-    sym (read c.args.fixing.now.strides.now c.from-3.result stride 0 c.get-stride.ensures)
-    ∙ ap (slice_index c.args.fixing.now.strides.now) c.from-3.ensures
-    ∙ f.apart.each item inside in
-    let few = width_few m order p item size stride c.len.ensures.sizes step inside stride_is in
-    let same : c.from-4.result * stride ≡ size * stride = ap (λ (k : ℕ). k * stride) c.from-4.ensures in
-    let low = c.requires.snapshot in
-    let all = points_few m in
-    omega arith
-
-pub fixed_node-requires-then-have_one_outcome : goal.fixed_node-requires-then-have_one_outcome
-fixed_node-requires-then-have_one_outcome t c =
-    let m = c.args.fixing.now.machine.now in
-    let order = c.args.fixing.now.order.now in
-    let f = c.requires.fixing in
-    let p = c.args.place in
-    let item = c.get-item.result.now in
-    let size = c.get-size.result.now in
-    let most = c.requires.place in
-    let other = c.if-place-fixing.false in
-    let within = f.within in
-    let p_low : p < length order = omega arith in
-    let step = step_of m order c.args.fixing.now.sizes.now c.args.store.now.sizes p item
-    c.from.result size f.ordered f.all_sizes c.requires.sizes
-    c.same_value_same_node.ensures.reduced.sizes p_low c.get-item.ensures c.from.ensures
-    c.get-size.ensures in
-    let more : suc p ≡ p + 1 = omega arith in
-    let d = c.decreases in (
-      omega arith,
-      (
-        omega arith,
-        (
-          f,
-          (
-            c.requires.order,
-            (
-              c.requires.sizes,
-              (
-                c.requires.known,
-                (
-                  c.requires.snapshot,
-                  subst (λ (k : ℕ). IsFirst m order k c.args.i) more
-                      (first_more m order f.ordered p c.args.i p_low c.requires.first),
-                ),
-              ),
-            ),
-          ),
-        ),
-      ),
-    )
-
-pub returns-then-have_one_outcome-clause-value : goal.returns-then-have_one_outcome-clause-value
-returns-then-have_one_outcome-clause-value t c =
-    let m = c.args.fixing.now.machine.now in
-    let order = c.args.fixing.now.order.now in
-    let f = c.requires.fixing in
-    let p = c.args.place in
-    let item = c.get-item.result.now in
-    let size = c.get-size.result.now in
-    let most = c.requires.place in
-    let other = c.if-place-fixing.false in
-    let within = f.within in
-    let p_low : p < length order = omega arith in
-    let step = step_of m order c.args.fixing.now.sizes.now c.args.store.now.sizes p item
-    c.from.result size f.ordered f.all_sizes c.requires.sizes
-    c.same_value_same_node.ensures.reduced.sizes p_low c.get-item.ensures c.from.ensures
-    c.get-size.ensures in
-    let inside : item < length m.vars = let a = c.if-from-len.false in let b = c.from-2.ensures in
-    let d = c.len.ensures.len in omega arith in
-    let stride = c.get-stride.result.now in
-    let stride_is : stride ≡ product (drop (item + 1) m.vars) =
-    sym (read c.args.fixing.now.strides.now c.from-3.result stride 0 c.get-stride.ensures)
-    ∙ ap (slice_index c.args.fixing.now.strides.now) c.from-3.ensures
-    ∙ f.apart.each item inside in
-    let same : c.from-4.result * stride ≡ size * stride = ap (λ (k : ℕ). k * stride) c.from-4.ensures in
-    let end = c.have_one_outcome.ensures.end c.if-have_one_outcome.true in
-    rest_left c.laws_of_all_codes.ensures.stands_once c.laws_of_computing.ensures.results_fit m
-    c.args.fixing.now.table.now f.table order c.args.fixing.now.ends.now f.ordered
-    (f.rising (c.have_one_outcome.ensures.rising c.if-have_one_outcome.true)) f.ends p item size
-    c.args.i stride step inside c.requires.snapshot c.requires.first stride_is (omega arith)
-    (c.in_ok-rest.ensures.kept.sizes ∙ c.requires.sizes ∙ f.all_sizes) c.in_ok-rest.ensures.value
 
 pub overflow_mul-first : goal.overflow_mul-first
 overflow_mul-first t c =
@@ -590,7 +461,7 @@ shared_whole_as_front-node t c =
     let done : c.loop-code.code ≡ size = let a = c.loop-code-test.false in
     let b = c.loop-code.auto.code-end in omega arith in
     let part = c.loop-code.invariant in
-    let four : c.from-5.result ≡ size = c.from-5.ensures in
+    let four : c.from-4.result ≡ size = c.from-4.ensures in
     let few = step.few in
     (omega arith, omega arith)
 
@@ -620,10 +491,10 @@ node-requires-clause-kids t c =
     let done : c.loop-code.code ≡ size = let a = c.loop-code-test.false in
     let b = c.loop-code.auto.code-end in omega arith in
     let part = c.loop-code.invariant in
-    let four : c.from-5.result ≡ size = c.from-5.ensures in
+    let four : c.from-4.result ≡ size = c.from-4.ensures in
     let few = step.few in
     let long = part.kids.long in
-    let d = length-take c.from-5.result c.loop-code.kids in
+    let d = length-take c.from-4.result c.loop-code.kids in
     let e : slice_index c.loop-code.store.sizes item ≡ slice_index (sizes_of m) item =
     ap (λ (xs : List ℕ). slice_index xs item) (part.kept.sizes ∙ c.requires.sizes ∙ f.all_sizes) in
     let sized = step.sized in
@@ -655,19 +526,19 @@ node-requires-clause-later t c code low =
     let done : c.loop-code.code ≡ size = let a = c.loop-code-test.false in
     let b = c.loop-code.auto.code-end in omega arith in
     let part = c.loop-code.invariant in
-    let four : c.from-5.result ≡ size = c.from-5.ensures in
-    let d = length-take c.from-5.result c.loop-code.kids in
-    let shown : code < length (take c.from-5.result c.loop-code.kids) = low in
+    let four : c.from-4.result ≡ size = c.from-4.ensures in
+    let d = length-take c.from-4.result c.loop-code.kids in
+    let shown : code < length (take c.from-4.result c.loop-code.kids) = low in
     let placed = step.at.placed in
     let e : place c.loop-code.store.order item ≡ place order item =
     ap (λ (xs : List ℕ). place xs item) (part.kept.order ∙ c.requires.order) in
     let code_low : code < c.loop-code.code = omega arith in
     let level = part.kids.levels code code_low in
     let g : level_of c.loop-code.store
-    (slice_index (take c.from-5.result c.loop-code.kids) code)
+    (slice_index (take c.from-4.result c.loop-code.kids) code)
     ≡ level_of c.loop-code.store (slice_index c.loop-code.kids code) =
     ap (level_of c.loop-code.store)
-    (get_or-take c.from-5.result c.loop-code.kids code 0 (omega arith)) in
+    (get_or-take c.from-4.result c.loop-code.kids code 0 (omega arith)) in
     omega arith
 
 pub returns-in_err-node-3-clause-kept : goal.returns-in_err-node-3-clause-kept
@@ -706,12 +577,12 @@ returns-clause-value t c =
     let done : c.loop-code.code ≡ size = let a = c.loop-code-test.false in
     let b = c.loop-code.auto.code-end in omega arith in
     let part = c.loop-code.invariant in
-    let four : c.from-5.result ≡ size = c.from-5.ensures in
+    let four : c.from-4.result ≡ size = c.from-4.ensures in
     let vars_sized = vars_size m order p item size step inside in
     let sized : c.loop-code.code ≡ slice_index m.vars item = done ∙ vars_sized in
     node_left c.laws_of_computing.ensures.same_on_support m order f.ordered c.loop-code.store
     c.node.new.self p item c.args.i stride c.in_ok-node-3.node c.loop-code.kids
-    (take c.from-5.result c.loop-code.kids) step.at inside c.requires.snapshot
+    (take c.from-4.result c.loop-code.kids) step.at inside c.requires.snapshot
     (λ k low. next_of c.laws_of_all_codes.ensures.stands_once m order f.ordered p item size c.args.i
     k stride step inside c.requires.snapshot (omega arith) c.requires.first stride_is)
     (part.kept.sizes ∙ c.requires.sizes ∙ f.all_sizes) c.node.ensures.kept.sizes
@@ -745,7 +616,7 @@ returns-clause-level t c =
     let done : c.loop-code.code ≡ size = let a = c.loop-code-test.false in
     let b = c.loop-code.auto.code-end in omega arith in
     let part = c.loop-code.invariant in
-    let four : c.from-5.result ≡ size = c.from-5.ensures in
+    let four : c.from-4.result ≡ size = c.from-4.ensures in
     let placed = step.at.placed in
     let e : place c.loop-code.store.order item ≡ place order item =
     ap (λ (xs : List ℕ). place xs item) (part.kept.order ∙ c.requires.order) in

@@ -1,7 +1,33 @@
-use Rattle.std.proofs.Common.{◌∙◌, ℕ, List, None, replicate, ap, subst}
-use Rattle.char_function.specs.Runs.{AreEnds, IsRising}
+use Rattle.std.proofs.Common.{◌∙◌, ℕ, None, replicate, ap, subst}
+use Rattle.char_function.specs.Rising.{IsRising}
 use Rattle.char_function.proofs.FixedKids.{first_of_all, left_none, root_left}
 use Rattle.char_function.proofs.fixing.fixed_root.Goals as goal
+
+pub rising_root-requires-clause-fixing : goal.rising_root-requires-clause-fixing
+rising_root-requires-clause-fixing c = record {
+  table = c.requires.table;
+  ordered = c.requires.ordered;
+  all_sizes = c.requires.all_sizes;
+  apart = c.in_ok-strides.ensures;
+  results = c.after_variables-start.ensures.results;
+  within = c.after_variables-start.ensures.within;
+}
+
+pub rising_root-requires-clause-rising : goal.rising_root-requires-clause-rising
+rising_root-requires-clause-rising c =
+    subst (λ (n : ℕ). IsRising n c.args.order.now) c.len-2.ensures.len
+    (c.is_rising.ensures c.if-is_rising.true)
+
+pub rising_root-requires-clause-known : goal.rising_root-requires-clause-known
+rising_root-requires-clause-known c =
+    let t = c.args.table.now in
+    left_none c.args.m.now t c.args.store.now c.after_variables-start.result c.in_ok-known.known
+    (c.in_ok-known.ensures ∙ ap (λ (n : ℕ). replicate n None) c.len.ensures)
+
+pub returns-then-is_rising-clause-value : goal.returns-then-is_rising-clause-value
+returns-then-is_rising-clause-value c =
+    root_left c.args.m.now c.args.order.now c.requires.ordered c.rising_root.new.store
+    c.in_ok-node.node c.in_ok-node.ensures.value
 
 pub fixed_node-requires-clause-fixing : goal.fixed_node-requires-clause-fixing
 fixed_node-requires-clause-fixing c = record {
@@ -9,10 +35,6 @@ fixed_node-requires-clause-fixing c = record {
   ordered = c.requires.ordered;
   all_sizes = c.requires.all_sizes;
   apart = c.in_ok-strides.ensures;
-  rising = λ on. subst (λ (n : ℕ). IsRising n c.args.order.now) c.len.ensures.len
-      (c.is_rising-rising.ensures on);
-  ends = subst (λ (xs : List ℕ). AreEnds xs c.in_ok-ends.ends) c.as_slice.ensures
-      c.in_ok-ends.ensures;
   results = c.after_variables-start.ensures.results;
   within = c.after_variables-start.ensures.within;
 }
@@ -21,7 +43,7 @@ pub fixed_node-requires-clause-known : goal.fixed_node-requires-clause-known
 fixed_node-requires-clause-known c =
     let t = c.args.table.now in
     left_none c.args.m.now t c.args.store.now c.after_variables-start.result c.in_ok-known.known
-    (c.in_ok-known.ensures ∙ ap (λ (n : ℕ). replicate n None) c.len-2.ensures)
+    (c.in_ok-known.ensures ∙ ap (λ (n : ℕ). replicate n None) c.len.ensures)
 
 pub fixed_node-requires-clause-snapshot : goal.fixed_node-requires-clause-snapshot
 fixed_node-requires-clause-snapshot c =
@@ -34,4 +56,4 @@ fixed_node-requires-clause-first c =
 pub returns-clause-value : goal.returns-clause-value
 returns-clause-value c =
     root_left c.args.m.now c.args.order.now c.requires.ordered c.fixed_node.new.store
-    c.in_ok-node.node c.in_ok-node.ensures.value
+    c.in_ok-node-2.node c.in_ok-node-2.ensures.value

@@ -1,0 +1,248 @@
+use Rattle.std.proofs.Common.{◌≡◌, ◌∙◌, ◌+◌, ◌*◌, ◌<◌, ℕ, List, length, slice_index, ap, sym, subst, arith}
+use Rattle.std.proofs.lemmas.List.{get_or_default}
+use Rattle.domains.specs.Orders.{place}
+use Rattle.decision_diagram.specs.Diagrams.{IsNode, Means, level_of}
+use Rattle.char_function.specs.Left.{left_from}
+use Rattle.char_function.proofs.Blocks.{AreHalf, half_more, half_none, result_done}
+use Rattle.char_function.proofs.FixedKids.{keeps_self, points_few, result_left, step_of}
+use Rattle.char_function.proofs.Making.{keeps_trans}
+use Rattle.char_function.proofs.levels.result_level.Goals as goal
+
+pub loop-j-init : goal.loop-j-init
+loop-j-init c =
+    let m = c.args.fixing.now.machine.now in
+    let order = c.args.fixing.now.order.now in
+    record {
+      kept = keeps_self c.args.store.now;
+      half = half_none m order c.args.store.now c.args.place c.args.block c.args.block 1
+          c.args.nodes.now.items (length c.args.nodes.now.items) c.requires.level (omega arith);
+    }
+
+pub overflow_mul-j : goal.overflow_mul-j
+overflow_mul-j c =
+    let m = c.args.fixing.now.machine.now in
+    let order = c.args.fixing.now.order.now in
+    let f = c.requires.fixing in
+    let p = c.args.place in
+    let item = c.get-item.result.now in
+    let size = c.get-size.result.now in
+    let s0 = c.args.store.now in
+    let step = step_of m order c.args.fixing.now.sizes.now s0.sizes p item c.from.result size
+    f.ordered f.all_sizes c.requires.sizes c.same_value_same_node.ensures.reduced.sizes
+    c.requires.place c.get-item.ensures c.from.ensures c.get-size.ensures in
+    let s = c.loop-j.store in
+    let part = c.loop-j.invariant in
+    let j = c.loop-j.j in
+    let low : j < length c.args.nodes.now.items = let a = c.loop-j-test.true in
+    let b = c.len-j-end.ensures in let d = c.args.nodes.now.ok.0 in omega arith in
+    let left = part.half.rest j (omega arith) (omega arith) in
+    let few = points_few m in
+    let inside = left.low in
+    omega arith
+
+pub code_at-code-requires-clause-item : goal.code_at-code-requires-clause-item
+code_at-code-requires-clause-item c =
+    let m = c.args.fixing.now.machine.now in
+    let order = c.args.fixing.now.order.now in
+    let f = c.requires.fixing in
+    let p = c.args.place in
+    let item = c.get-item.result.now in
+    let size = c.get-size.result.now in
+    let s0 = c.args.store.now in
+    let step = step_of m order c.args.fixing.now.sizes.now s0.sizes p item c.from.result size
+    f.ordered f.all_sizes c.requires.sizes c.same_value_same_node.ensures.reduced.sizes
+    c.requires.place c.get-item.ensures c.from.ensures c.get-size.ensures in
+    step.at.inside
+
+pub result_node-requires-clause-item : goal.result_node-requires-clause-item
+result_node-requires-clause-item c =
+    let m = c.args.fixing.now.machine.now in
+    let order = c.args.fixing.now.order.now in
+    let f = c.requires.fixing in
+    let p = c.args.place in
+    let item = c.get-item.result.now in
+    let size = c.get-size.result.now in
+    let s0 = c.args.store.now in
+    let step = step_of m order c.args.fixing.now.sizes.now s0.sizes p item c.from.result size
+    f.ordered f.all_sizes c.requires.sizes c.same_value_same_node.ensures.reduced.sizes
+    c.requires.place c.get-item.ensures c.from.ensures c.get-size.ensures in
+    let s = c.loop-j.store in
+    let part = c.loop-j.invariant in
+    let j = c.loop-j.j in
+    let low : j < length c.args.nodes.now.items = let a = c.loop-j-test.true in
+    let b = c.len-j-end.ensures in let d = c.args.nodes.now.ok.0 in omega arith in
+    let left = part.half.rest j (omega arith) (omega arith) in
+    let inside = step.at.inside in
+    let e = ap (λ (xs : List ℕ). length xs) (part.kept.sizes ∙ c.requires.sizes ∙ f.all_sizes) in
+    omega arith
+
+pub result_node-requires-clause-size : goal.result_node-requires-clause-size
+result_node-requires-clause-size c =
+    let m = c.args.fixing.now.machine.now in
+    let order = c.args.fixing.now.order.now in
+    let f = c.requires.fixing in
+    let p = c.args.place in
+    let item = c.get-item.result.now in
+    let size = c.get-size.result.now in
+    let s0 = c.args.store.now in
+    let step = step_of m order c.args.fixing.now.sizes.now s0.sizes p item c.from.result size
+    f.ordered f.all_sizes c.requires.sizes c.same_value_same_node.ensures.reduced.sizes
+    c.requires.place c.get-item.ensures c.from.ensures c.get-size.ensures in
+    let s = c.loop-j.store in
+    let part = c.loop-j.invariant in
+    let j = c.loop-j.j in
+    let low : j < length c.args.nodes.now.items = let a = c.loop-j-test.true in
+    let b = c.len-j-end.ensures in let d = c.args.nodes.now.ok.0 in omega arith in
+    let left = part.half.rest j (omega arith) (omega arith) in
+    step.sized
+    ∙ ap (λ (xs : List ℕ). slice_index xs item)
+    (sym (part.kept.sizes ∙ c.requires.sizes ∙ f.all_sizes))
+
+pub result_node-requires-clause-few : goal.result_node-requires-clause-few
+result_node-requires-clause-few c =
+    let m = c.args.fixing.now.machine.now in
+    let order = c.args.fixing.now.order.now in
+    let f = c.requires.fixing in
+    let p = c.args.place in
+    let item = c.get-item.result.now in
+    let size = c.get-size.result.now in
+    let s0 = c.args.store.now in
+    let step = step_of m order c.args.fixing.now.sizes.now s0.sizes p item c.from.result size
+    f.ordered f.all_sizes c.requires.sizes c.same_value_same_node.ensures.reduced.sizes
+    c.requires.place c.get-item.ensures c.from.ensures c.get-size.ensures in
+    step.few
+
+pub result_node-requires-clause-code : goal.result_node-requires-clause-code
+result_node-requires-clause-code c =
+    let m = c.args.fixing.now.machine.now in
+    let order = c.args.fixing.now.order.now in
+    let f = c.requires.fixing in
+    let p = c.args.place in
+    let item = c.get-item.result.now in
+    let size = c.get-size.result.now in
+    let s0 = c.args.store.now in
+    let step = step_of m order c.args.fixing.now.sizes.now s0.sizes p item c.from.result size
+    f.ordered f.all_sizes c.requires.sizes c.same_value_same_node.ensures.reduced.sizes
+    c.requires.place c.get-item.ensures c.from.ensures c.get-size.ensures in
+    let sized = step.sized in
+    let below = c.code_at-code.ensures.below in
+    omega arith
+
+pub result_node-requires-clause-kid : goal.result_node-requires-clause-kid
+result_node-requires-clause-kid c =
+    let m = c.args.fixing.now.machine.now in
+    let order = c.args.fixing.now.order.now in
+    let f = c.requires.fixing in
+    let p = c.args.place in
+    let item = c.get-item.result.now in
+    let size = c.get-size.result.now in
+    let s0 = c.args.store.now in
+    let step = step_of m order c.args.fixing.now.sizes.now s0.sizes p item c.from.result size
+    f.ordered f.all_sizes c.requires.sizes c.same_value_same_node.ensures.reduced.sizes
+    c.requires.place c.get-item.ensures c.from.ensures c.get-size.ensures in
+    let s = c.loop-j.store in
+    let part = c.loop-j.invariant in
+    let j = c.loop-j.j in
+    let low : j < length c.args.nodes.now.items = let a = c.loop-j-test.true in
+    let b = c.len-j-end.ensures in let d = c.args.nodes.now.ok.0 in omega arith in
+    let left = part.half.rest j (omega arith) (omega arith) in
+    let wide = part.half.long in
+    let kid = sym (c.index.ensures
+    ∙ get_or_default c.loop-j.nodes.items j c.index.result.now 0 (omega arith)) in
+    subst (λ (n : ℕ). IsNode s n) kid left.means.node
+
+pub result_node-requires-clause-later : goal.result_node-requires-clause-later
+result_node-requires-clause-later c =
+    let m = c.args.fixing.now.machine.now in
+    let order = c.args.fixing.now.order.now in
+    let f = c.requires.fixing in
+    let p = c.args.place in
+    let item = c.get-item.result.now in
+    let size = c.get-size.result.now in
+    let s0 = c.args.store.now in
+    let step = step_of m order c.args.fixing.now.sizes.now s0.sizes p item c.from.result size
+    f.ordered f.all_sizes c.requires.sizes c.same_value_same_node.ensures.reduced.sizes
+    c.requires.place c.get-item.ensures c.from.ensures c.get-size.ensures in
+    let s = c.loop-j.store in
+    let part = c.loop-j.invariant in
+    let j = c.loop-j.j in
+    let low : j < length c.args.nodes.now.items = let a = c.loop-j-test.true in
+    let b = c.len-j-end.ensures in let d = c.args.nodes.now.ok.0 in omega arith in
+    let left = part.half.rest j (omega arith) (omega arith) in
+    let wide = part.half.long in
+    let kid = sym (c.index.ensures
+    ∙ get_or_default c.loop-j.nodes.items j c.index.result.now 0 (omega arith)) in
+    let level = left.level in
+    let g = ap (level_of s) kid in
+    let placed = step.at.placed in
+    let e : place s.order item ≡ place order item =
+    ap (λ (xs : List ℕ). place xs item) (part.kept.order ∙ c.requires.order) in
+    omega arith
+
+pub returns-in_err-node-clause-kept : goal.returns-in_err-node-clause-kept
+returns-in_err-node-clause-kept c =
+    keeps_trans c.args.store.now c.loop-j.store c.result_node.new.store c.loop-j.invariant.kept
+    c.result_node.ensures.kept
+
+pub loop-j-preserved : goal.loop-j-preserved
+loop-j-preserved c =
+    let m = c.args.fixing.now.machine.now in
+    let order = c.args.fixing.now.order.now in
+    let f = c.requires.fixing in
+    let p = c.args.place in
+    let item = c.get-item.result.now in
+    let size = c.get-size.result.now in
+    let s0 = c.args.store.now in
+    let step = step_of m order c.args.fixing.now.sizes.now s0.sizes p item c.from.result size
+    f.ordered f.all_sizes c.requires.sizes c.same_value_same_node.ensures.reduced.sizes
+    c.requires.place c.get-item.ensures c.from.ensures c.get-size.ensures in
+    let s = c.loop-j.store in
+    let part = c.loop-j.invariant in
+    let j = c.loop-j.j in
+    let low : j < length c.args.nodes.now.items = let a = c.loop-j-test.true in
+    let b = c.len-j-end.ensures in let d = c.args.nodes.now.ok.0 in omega arith in
+    let left = part.half.rest j (omega arith) (omega arith) in
+    let wide = part.half.long in
+    let kid = sym (c.index.ensures
+    ∙ get_or_default c.loop-j.nodes.items j c.index.result.now 0 (omega arith)) in
+    let new = c.result_node.new.store in
+    let n = c.in_ok-node.node in
+    let placed = step.at.placed in
+    let e : place s.order item ≡ place order item =
+    ap (λ (xs : List ℕ). place xs item) (part.kept.order ∙ c.requires.order) in
+    let level = c.in_ok-node.ensures.level in
+    let at = step.at.is in
+    let result = c.requires.item in
+    record {
+      kept = keeps_trans s0 s new part.kept c.result_node.ensures.kept;
+      half = half_more m order s new p c.args.block c.args.block 1 c.loop-j.nodes.items j
+          (length c.args.nodes.now.items) n part.half c.result_node.ensures.kept (omega arith) low
+          (record {
+            low = left.low;
+            means = result_left c.laws_of_computing.ensures.results_fit
+                c.laws_of_computing.ensures.same_on_support m order f.ordered s new p item
+                c.code_at-code.result (j * c.args.block) c.index.result.now n step.at (omega arith)
+                left.low c.code_at-code.ensures.code
+                (part.kept.sizes ∙ c.requires.sizes ∙ f.all_sizes) c.result_node.ensures.kept.sizes
+                (subst (λ (k : ℕ). Means s k (left_from m order (p + 1) (j * c.args.block))) kid
+                left.means) c.in_ok-node.ensures.value;
+            level = omega arith;
+          });
+    }
+
+pub returns-clause-kept : goal.returns-clause-kept
+returns-clause-kept c =
+    c.loop-j.invariant.kept
+
+pub returns-clause-level : goal.returns-clause-level
+returns-clause-level c =
+    let m = c.args.fixing.now.machine.now in
+    let order = c.args.fixing.now.order.now in
+    let s = c.loop-j.store in
+    let count : ℕ = length c.args.nodes.now.items in
+    let done : c.loop-j.j ≡ count = let a = c.loop-j-test.false in let b = c.len-j-end.ensures in
+    let d = c.args.nodes.now.ok.0 in let e = c.loop-j.auto.j-end in omega arith in
+    result_done m order s c.args.store.now c.args.place c.args.block c.loop-j.nodes.items
+    c.args.nodes.now.items count c.requires.level c.requires.place c.requires.item (omega arith)
+    (subst (λ (k : ℕ). AreHalf m order s c.args.place c.args.block c.args.block 1
+    c.loop-j.nodes.items k count) done c.loop-j.invariant.half)

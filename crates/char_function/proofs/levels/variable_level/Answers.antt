@@ -1,0 +1,221 @@
+use Rattle.std.proofs.Common.{◌≡◌, ◌∙◌, ◌*◌, ◌/◌, ℕ, List, length, take, slice_index, ap, sym, subst, arith}
+use Rattle.domains.specs.Orders.{place}
+use Rattle.domains.specs.Tables.{product}
+use Rattle.char_function.specs.Rising.{AreLevel}
+use Rattle.char_function.proofs.Blocks.{AreHalf, block_kids, block_left, block_step, half_more, half_none, variable_done}
+use Rattle.char_function.proofs.FixedKids.{keeps_self}
+use Rattle.char_function.proofs.Making.{keeps_trans}
+use Rattle.char_function.proofs.levels.variable_level.Goals as goal
+
+pub nonzero_div-count : goal.nonzero_div-count
+nonzero_div-count c =
+    let m = c.args.fixing.now.machine.now in
+    let order = c.args.fixing.now.order.now in
+    let f = c.requires.fixing in
+    let p = c.args.place in
+    let stride = c.args.block in
+    let item = c.get-item.result.now in
+    let size = c.from-size.result in
+    let s0 = c.args.store.now in
+    let b = block_step m order c.args.fixing.now.sizes.now s0.sizes s0 p item c.from.result
+    c.get.result.now size stride c.args.nodes.now.items f.ordered f.all_sizes c.requires.sizes
+    c.same_value_same_node.ensures.reduced.sizes c.requires.rising c.requires.place c.requires.item
+    c.get-item.ensures c.from.ensures c.get.ensures c.from-size.ensures c.requires.level in
+    let one = b.one in
+    omega arith
+
+pub loop-j-init : goal.loop-j-init
+loop-j-init c =
+    let m = c.args.fixing.now.machine.now in
+    let order = c.args.fixing.now.order.now in
+    let f = c.requires.fixing in
+    let p = c.args.place in
+    let stride = c.args.block in
+    let item = c.get-item.result.now in
+    let size = c.from-size.result in
+    let s0 = c.args.store.now in
+    let b = block_step m order c.args.fixing.now.sizes.now s0.sizes s0 p item c.from.result
+    c.get.result.now size stride c.args.nodes.now.items f.ordered f.all_sizes c.requires.sizes
+    c.same_value_same_node.ensures.reduced.sizes c.requires.rising c.requires.place c.requires.item
+    c.get-item.ensures c.from.ensures c.get.ensures c.from-size.ensures c.requires.level in
+    let long : length c.args.nodes.now.items ≡ c.len.result / size * size =
+    b.whole ∙ ap (λ (k : ℕ). k / size * size) (sym (c.len.ensures ∙ c.args.nodes.now.ok.0)) in
+    record {
+      kept = keeps_self s0;
+      half = half_none m order s0 p (size * stride) stride size c.args.nodes.now.items
+          (c.len.result / size) c.requires.level long;
+    }
+
+pub node-requires-clause-var : goal.node-requires-clause-var
+node-requires-clause-var c =
+    let m = c.args.fixing.now.machine.now in
+    let order = c.args.fixing.now.order.now in
+    let f = c.requires.fixing in
+    let p = c.args.place in
+    let stride = c.args.block in
+    let item = c.get-item.result.now in
+    let size = c.from-size.result in
+    let s0 = c.args.store.now in
+    let b = block_step m order c.args.fixing.now.sizes.now s0.sizes s0 p item c.from.result
+    c.get.result.now size stride c.args.nodes.now.items f.ordered f.all_sizes c.requires.sizes
+    c.same_value_same_node.ensures.reduced.sizes c.requires.rising c.requires.place c.requires.item
+    c.get-item.ensures c.from.ensures c.get.ensures c.from-size.ensures c.requires.level in
+    let s = c.loop-j.store in
+    let part = c.loop-j.invariant in
+    let j = c.loop-j.j in
+    let low = c.loop-j-test.true in
+    let inside = b.step.at.inside in
+    let e = ap (λ (xs : List ℕ). length xs) (part.kept.sizes ∙ c.requires.sizes ∙ f.all_sizes) in
+    omega arith
+
+pub node-requires-clause-kids : goal.node-requires-clause-kids
+node-requires-clause-kids c =
+    let m = c.args.fixing.now.machine.now in
+    let order = c.args.fixing.now.order.now in
+    let f = c.requires.fixing in
+    let p = c.args.place in
+    let stride = c.args.block in
+    let item = c.get-item.result.now in
+    let size = c.from-size.result in
+    let s0 = c.args.store.now in
+    let b = block_step m order c.args.fixing.now.sizes.now s0.sizes s0 p item c.from.result
+    c.get.result.now size stride c.args.nodes.now.items f.ordered f.all_sizes c.requires.sizes
+    c.same_value_same_node.ensures.reduced.sizes c.requires.rising c.requires.place c.requires.item
+    c.get-item.ensures c.from.ensures c.get.ensures c.from-size.ensures c.requires.level in
+    let s = c.loop-j.store in
+    let part = c.loop-j.invariant in
+    let j = c.loop-j.j in
+    let low = c.loop-j-test.true in
+    let kids = block_kids m order s p (size * stride) stride size c.loop-j.nodes.items
+    c.deref.result.now j (c.len.result / size) part.half c.deref.ensures.value low in
+    kids.long ∙ b.step.sized
+    ∙ ap (λ (xs : List ℕ). slice_index xs item)
+    (sym (part.kept.sizes ∙ c.requires.sizes ∙ f.all_sizes))
+
+pub node-requires-clause-nodes : goal.node-requires-clause-nodes
+node-requires-clause-nodes c code code_low =
+    let m = c.args.fixing.now.machine.now in
+    let order = c.args.fixing.now.order.now in
+    let f = c.requires.fixing in
+    let p = c.args.place in
+    let stride = c.args.block in
+    let item = c.get-item.result.now in
+    let size = c.from-size.result in
+    let s0 = c.args.store.now in
+    let b = block_step m order c.args.fixing.now.sizes.now s0.sizes s0 p item c.from.result
+    c.get.result.now size stride c.args.nodes.now.items f.ordered f.all_sizes c.requires.sizes
+    c.same_value_same_node.ensures.reduced.sizes c.requires.rising c.requires.place c.requires.item
+    c.get-item.ensures c.from.ensures c.get.ensures c.from-size.ensures c.requires.level in
+    let s = c.loop-j.store in
+    let part = c.loop-j.invariant in
+    let j = c.loop-j.j in
+    let low = c.loop-j-test.true in
+    let kids = block_kids m order s p (size * stride) stride size c.loop-j.nodes.items
+    c.deref.result.now j (c.len.result / size) part.half c.deref.ensures.value low in
+    let long = kids.long in
+    (kids.each code (omega arith)).means.node
+
+pub node-requires-clause-later : goal.node-requires-clause-later
+node-requires-clause-later c code code_low =
+    let m = c.args.fixing.now.machine.now in
+    let order = c.args.fixing.now.order.now in
+    let f = c.requires.fixing in
+    let p = c.args.place in
+    let stride = c.args.block in
+    let item = c.get-item.result.now in
+    let size = c.from-size.result in
+    let s0 = c.args.store.now in
+    let b = block_step m order c.args.fixing.now.sizes.now s0.sizes s0 p item c.from.result
+    c.get.result.now size stride c.args.nodes.now.items f.ordered f.all_sizes c.requires.sizes
+    c.same_value_same_node.ensures.reduced.sizes c.requires.rising c.requires.place c.requires.item
+    c.get-item.ensures c.from.ensures c.get.ensures c.from-size.ensures c.requires.level in
+    let s = c.loop-j.store in
+    let part = c.loop-j.invariant in
+    let j = c.loop-j.j in
+    let low = c.loop-j-test.true in
+    let kids = block_kids m order s p (size * stride) stride size c.loop-j.nodes.items
+    c.deref.result.now j (c.len.result / size) part.half c.deref.ensures.value low in
+    let long = kids.long in
+    let level = (kids.each code (omega arith)).level in
+    let placed = b.step.at.placed in
+    let e : place s.order item ≡ place order item =
+    ap (λ (xs : List ℕ). place xs item) (part.kept.order ∙ c.requires.order) in
+    omega arith
+
+pub returns-in_err-node-clause-kept : goal.returns-in_err-node-clause-kept
+returns-in_err-node-clause-kept c =
+    keeps_trans c.args.store.now c.loop-j.store c.node.new.self c.loop-j.invariant.kept
+    c.node.ensures.kept
+
+pub loop-j-preserved : goal.loop-j-preserved
+loop-j-preserved c =
+    let m = c.args.fixing.now.machine.now in
+    let order = c.args.fixing.now.order.now in
+    let f = c.requires.fixing in
+    let p = c.args.place in
+    let stride = c.args.block in
+    let item = c.get-item.result.now in
+    let size = c.from-size.result in
+    let s0 = c.args.store.now in
+    let b = block_step m order c.args.fixing.now.sizes.now s0.sizes s0 p item c.from.result
+    c.get.result.now size stride c.args.nodes.now.items f.ordered f.all_sizes c.requires.sizes
+    c.same_value_same_node.ensures.reduced.sizes c.requires.rising c.requires.place c.requires.item
+    c.get-item.ensures c.from.ensures c.get.ensures c.from-size.ensures c.requires.level in
+    let s = c.loop-j.store in
+    let part = c.loop-j.invariant in
+    let j = c.loop-j.j in
+    let low = c.loop-j-test.true in
+    let kids = block_kids m order s p (size * stride) stride size c.loop-j.nodes.items
+    c.deref.result.now j (c.len.result / size) part.half c.deref.ensures.value low in
+    let n = c.in_ok-node.node in
+    let new = c.node.new.self in
+    let placed = b.step.at.placed in
+    let e : place s.order item ≡ place order item =
+    ap (λ (xs : List ℕ). place xs item) (part.kept.order ∙ c.requires.order) in
+    let level = c.in_ok-node.ensures.level in
+    record {
+      kept = keeps_trans s0 s new part.kept c.node.ensures.kept;
+      half = half_more m order s new p (size * stride) stride size c.loop-j.nodes.items j
+          (c.len.result / size) n part.half c.node.ensures.kept b.one low
+          (block_left c.laws_of_all_codes.ensures.stands_once
+          c.laws_of_computing.ensures.same_on_support m order f.ordered s new p item size j stride n
+          c.loop-j.nodes.items _ b.step b.inside b.one b.apart b.so_far
+          (part.kept.sizes ∙ c.requires.sizes ∙ f.all_sizes) c.node.ensures.kept.sizes kids
+          c.in_ok-node.ensures.value (omega arith));
+    }
+
+pub returns-clause-kept : goal.returns-clause-kept
+returns-clause-kept c =
+    c.loop-j.invariant.kept
+
+pub returns-clause-level : goal.returns-clause-level
+returns-clause-level c =
+    let m = c.args.fixing.now.machine.now in
+    let order = c.args.fixing.now.order.now in
+    let f = c.requires.fixing in
+    let p = c.args.place in
+    let stride = c.args.block in
+    let item = c.get-item.result.now in
+    let size = c.from-size.result in
+    let s0 = c.args.store.now in
+    let b = block_step m order c.args.fixing.now.sizes.now s0.sizes s0 p item c.from.result
+    c.get.result.now size stride c.args.nodes.now.items f.ordered f.all_sizes c.requires.sizes
+    c.same_value_same_node.ensures.reduced.sizes c.requires.rising c.requires.place c.requires.item
+    c.get-item.ensures c.from.ensures c.get.ensures c.from-size.ensures c.requires.level in
+    let part = c.loop-j.invariant in
+    let count : ℕ = c.len.result / size in
+    let done : c.loop-j.j ≡ count = let a = c.loop-j-test.false in
+    let e = c.loop-j.auto.j-end in omega arith in
+    let is : count ≡ product (take item m.vars) =
+    ap (λ (k : ℕ). k / size) (c.len.ensures ∙ c.args.nodes.now.ok.0) ∙ b.count in
+    let wide : size ≡ slice_index c.args.fixing.now.sizes.now (slice_index order p) =
+    b.step.sized
+    ∙ ap (λ (xs : List ℕ). slice_index xs item) (sym f.all_sizes)
+    ∙ ap (slice_index c.args.fixing.now.sizes.now) (sym b.step.at.is) in
+    let level = variable_done m order c.loop-j.store p item size stride c.loop-j.nodes.items count
+    c.requires.rising b.step b.inside b.one b.apart is
+    (subst (λ (k : ℕ). AreHalf m order c.loop-j.store p (size * stride) stride size
+    c.loop-j.nodes.items k count) done part.half) in
+    subst (λ (k : ℕ). AreLevel m order c.loop-j.store p (k * stride) c.truncate.new.self.items) wide
+    (subst (λ (xs : List ℕ). AreLevel m order c.loop-j.store p (size * stride) xs)
+    (sym c.truncate.ensures.items) level)

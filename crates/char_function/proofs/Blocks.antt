@@ -28,7 +28,7 @@ use Rattle.char_function.proofs.Taking.{stands_more}
 use Rattle.char_function.proofs.Walking.{all_long, at_rank, long_map}
 
 -- ---- products
-split : (sizes : List ℕ) (v : ℕ) → product (take v sizes) * product (drop v sizes) ≡ product sizes
+pub split : (sizes : List ℕ) (v : ℕ) → product (take v sizes) * product (drop v sizes) ≡ product sizes
 split sizes zero = omega arith
 split [] (suc v) = refl
 split (size ∷ sizes) (suc v) =
@@ -44,7 +44,7 @@ take_more (size ∷ sizes) (suc v) low =
     let e : suc v + 1 ≡ suc (v + 1) = omega arith in
     ap (λ (k : ℕ). product (take k (size ∷ sizes))) e ∙ omega arith
 
-times_le : (a b w : ℕ) → a ≤ b → a * w ≤ b * w
+pub times_le : (a b w : ℕ) → a ≤ b → a * w ≤ b * w
 times_le zero b w h = omega arith
 times_le (suc a) zero w h = absurd (omega arith)
 times_le (suc a) (suc b) w h = let r = times_le a b w (omega arith) in omega arith

@@ -18,3 +18,4 @@ mod Taking
 mod Turning
 mod Varying
 mod Walking
+mod Windows

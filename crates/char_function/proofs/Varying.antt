@@ -6,7 +6,6 @@ use Rattle.std.specs.Cmp.Lexicographic.{same_text}
 use Rattle.std.proofs.Math.Nat.{mul-div_cancel_left}
 use Rattle.std.proofs.lemmas.Bool.{and_parts, and_from, cases_Bool, cases_lt, eq-eqb, eqb-true, lt-ltb, ltb-true, or_left, or_right, true≢false, false_from_ne_true, true_from_ne_false}
 use Rattle.std.proofs.lemmas.Grind.{same_number_lists}
-use Rattle.std.proofs.lemmas.List.{drop_more}
 use Rattle.polis_base.specs.Lists.{upto}
 use Rattle.domains.specs.Names.{is_same}
 use Rattle.domains.specs.Tables.{fits, are_sizes, product, rank, RanksReach}
@@ -19,26 +18,8 @@ use Rattle.char_function.proofs.Lists.{read, read_within}
 use Rattle.char_function.proofs.Pointing.{same_self}
 use Rattle.char_function.proofs.Walking.{long_map, all_long, at_rank, get_map}
 
--- ---- the body's steps
-pub varies_here : (vars : List ℕ) (from v : ℕ) (column : List ℕ) → v < length vars → from ≡ v
-    → varies (drop from vars) (v - from) column
-    ≡ not (is_same (take (length column - length column / slice_index vars from) column)
-    (slice_range column (length column / slice_index vars from) (length column)))
-varies_here vars from v column low same =
-    let none : v - from ≡ 0 = omega arith in
-    ap (λ (xs : List ℕ). varies xs (v - from) column) (drop_more vars from 0 (omega arith))
-    ∙ ap (λ (k : ℕ). varies (slice_index vars from ∷ drop (from + 1) vars) k column) none
-
-pub varies_on : (vars : List ℕ) (from v : ℕ) (column : List ℕ) → v < length vars → from < v
-    → varies (drop from vars) (v - from) column
-    ≡ list_any (λ code. varies (drop (from + 1) vars) (v - (from + 1))
-    (part (slice_index vars from) column code)) (upto (slice_index vars from))
-varies_on vars from v column low less =
-    let more : v - from ≡ suc (v - (from + 1)) = omega arith in
-    ap (λ (xs : List ℕ). varies xs (v - from) column) (drop_more vars from 0 (omega arith))
-    ∙ ap (λ (k : ℕ). varies (slice_index vars from ∷ drop (from + 1) vars) k column) more
-
-any_append : {X : Type 0} (p : X → Bool) (xs ys : List X)
+-- ---- some number below another
+pub any_append : {X : Type 0} (p : X → Bool) (xs ys : List X)
     → list_any p (xs ++ ys) ≡ (list_any p xs || list_any p ys)
 any_append p [] ys = refl
 any_append p (x ∷ xs) ys = ap (λ (b : Bool). p x || b) (any_append p xs ys)

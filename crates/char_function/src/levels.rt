@@ -7,7 +7,6 @@
 ghost use Rattle.std.specs.Prelude.{◌≡◌, ◌+◌, ◌*◌, ◌<◌, ◌≤◌, length, slice_index, IfOk, OnOk};
 ghost use Rattle.decision_diagram.specs.Diagrams.{Keeps, Means};
 ghost use Rattle.char_function.specs.Left.{AreLeft, IsFixing, left_from};
-ghost use Rattle.char_function.specs.Points.{points};
 ghost use Rattle.char_function.specs.Rising.{AreLevel, IsRising};
 
 use crate::fixing::{Fixing, outcome_node, result_node};

@@ -1,7 +1,8 @@
 // What the results of a machine depend on.
-ghost use Rattle.std.specs.Prelude.{◌≡◌, ◌+◌, ◌-◌, ◌<◌, ◌≤◌, length, drop, filter, IfOk};
+ghost use Rattle.std.specs.Prelude.{◌≡◌, ◌<◌, ◌≤◌, length, filter, IfOk};
 ghost use Rattle.polis_base.specs.Lists.{upto};
 ghost use Rattle.domains.specs.Names.{is_same};
+ghost use Rattle.domains.specs.Tables.{product};
 ghost use Rattle.transition_table.specs.Transitions.{IsDeterministic};
 ghost use Rattle.transition_table.specs.Computed.{all_supports};
 ghost use Rattle.outcome_table.specs.Outcomes.{IsTableOf};
@@ -11,7 +12,7 @@ ghost use Rattle.char_function.specs.Supported.{AreSupports};
 use crate::column::result_column;
 use crate::support_lists::Supports;
 use domains::VarTable;
-use outcome_table::{Table, table_of};
+use outcome_table::{Table, lists_from, table_of};
 use polis_base::{List, NoMemory, Numbers};
 use std::alloc::Global;
 use transition_table::Machine;
@@ -23,22 +24,24 @@ fn are_same(one: &[u8], other: &[u8]) -> bool
     one == other
 }
 
-// Whether a column over the variables from one on changes where the code of a variable alone
-// changes. The column has one part for each code of its first variable.
-fn changes(column: &[u8], vars: &VarTable, from: u64, v: u64) -> bool
-    requires from { from ≤ v }
+// Whether a column over the variables changes where the code of a variable alone changes. The
+// column has one block for each way to fix the variables before it, and in a block two neighbours
+// stand so far apart as there are ways to fix those after it.
+fn changes(column: &[u8], vars: &VarTable, v: u64) -> bool
     requires var { v < length vars.now }
-    ensures { result ≡ varies (drop from vars.now) (v - from) column.now }
+    requires column { length column.now ≡ product vars.now }
+    requires few { product vars.now ≤ 65536 }
+    ensures { result ≡ varies vars.now v column.now }
 {
     let _ = vars.len();
-    let size = usize::from(*vars.get(from));
-    let part = column.len() / size;
-    if from == v {
-        return !are_same(&column[..column.len() - part], &column[part..]);
-    }
-    for code in 0..size {
-        let start = code * part;
-        if changes(&column[start..start + part], vars, from + 1, v) {
+    let stride = lists_from(vars, v + 1) as usize;
+    let block = usize::from(*vars.get(v)) * stride;
+    let long = block - stride;
+    let count = column.len() / block;
+    for j in 0..count {
+        let start = j * block;
+        let next = start + stride;
+        if !are_same(&column[start..start + long], &column[next..next + long]) {
             return true;
         }
     }
@@ -47,13 +50,15 @@ fn changes(column: &[u8], vars: &VarTable, from: u64, v: u64) -> bool
 
 // The variables that a column changes with.
 fn support(alloc: Global, column: &[u8], vars: &VarTable) -> Result<Numbers, NoMemory>
-    requires { length vars.now ≤ 24 }
+    requires vars { length vars.now ≤ 24 }
+    requires column { length column.now ≡ product vars.now }
+    requires few { product vars.now ≤ 65536 }
     ensures { IfOk result (λ list. list
         ≡ filter (λ v. varies vars.now v column.now) (upto (length vars.now))) }
 {
     let mut list = List::new(alloc);
     for v in 0..vars.len() {
-        if changes(column, vars, 0, v) {
+        if changes(column, vars, v) {
             list.push(v as u32)?;
         }
     }

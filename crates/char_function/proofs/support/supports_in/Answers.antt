@@ -1,11 +1,25 @@
 use Rattle.std.proofs.Common.{◌≡◌, ◌∙◌, ◌++◌, ◌∷◌, [], ℕ, List, map, length, sym, ap, subst, arith}
 use Rattle.std.specs.Prelude.{filter}
 use Rattle.polis_base.specs.Lists.{upto}
-use Rattle.transition_table.specs.Computed.{support_of, all_supports}
+use Rattle.domains.specs.AllCodes.{all_codes}
+use Rattle.transition_table.specs.Computed.{all_supports, result_code, support_of}
 use Rattle.char_function.specs.Columns.{varies}
 use Rattle.char_function.specs.Supported.{AreSupports}
+use Rattle.char_function.proofs.Small.{few_snapshots}
 use Rattle.char_function.proofs.Supporting.{column_support, supports_more, are_supports}
+use Rattle.char_function.proofs.Walking.{all_long, long_map}
 use Rattle.char_function.proofs.support.supports_in.Goals as goal
+
+pub support-requires-clause-column : goal.support-requires-clause-column
+support-requires-clause-column c =
+    let m = c.args.m.now in
+    ap (λ (xs : List ℕ). length xs) (c.deref.ensures.value ∙ c.in_ok-codes.ensures)
+    ∙ long_map (result_code m c.loop-y.y) (all_codes m.vars) ∙ all_long m.vars
+
+pub support-requires-clause-few : goal.support-requires-clause-few
+support-requires-clause-few c =
+    let few = few_snapshots c.args.m.now in
+    omega arith
 
 pub loop-y-preserved : goal.loop-y-preserved
 loop-y-preserved c =

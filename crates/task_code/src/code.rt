@@ -29,12 +29,14 @@ impl Model for Code {
 }
 
 impl Code {
-    /// These instructions as code.
+    /// These instructions as code. The room that they don't take is given up.
     pub fn of(items: InstrList) -> Self
         requires { IsCode items }
         ensures { result ≡ items }
     {
-        Code { instrs: items }
+        let mut instrs = items;
+        instrs.shrink();
+        Code { instrs }
     }
 
     /// How many instructions there are.

@@ -1,5 +1,5 @@
 // That runs react by the reactor that they are handed: one that counts its calls.
-ghost use Rattle.std.specs.Prelude.{◌≡◌, IfOk};
+ghost use Rattle.std.specs.Prelude.{IfOk};
 ghost use Rattle.journals.specs.Journals.{IsTrace};
 ghost use Rattle.transition_table.specs.Transitions.{AreDeterministic, HasWidths, IsSnapshot, OfMachine, Transition};
 
@@ -24,16 +24,6 @@ struct Counting<'a> {
 }
 
 impl<'a> Counting<'a> {
-    fn new(net: &'a Network) -> Counting<'a>
-        requires { AreDeterministic net.now }
-        ensures { result.inner.net.now ≡ net.now }
-    {
-        Counting {
-            inner: TableReactor::new(net),
-            calls: AtomicU64::new(0),
-        }
-    }
-
     fn count(&self) -> u64 {
         self.calls.load(Ordering::SeqCst)
     }
@@ -69,10 +59,22 @@ fn inputs_of(alloc: Global, net: &[u8], trace: &[u8]) -> Result<Inputs, Fail>
     }
 }
 
+// The reactor of the network's rows, which has made no reaction yet.
+fn make_counting(inputs: &Inputs) -> Counting<'_>
+    requires fits { IsTrace inputs.now.net inputs.now.trace }
+    requires deterministic { AreDeterministic inputs.now.net }
+    ensures fits { IsTrace result.inner.net.now inputs.now.trace }
+{
+    Counting {
+        inner: TableReactor::new(&inputs.net),
+        calls: AtomicU64::new(0),
+    }
+}
+
 #[test]
 fn workers_react_twice_in_a_run_of_two_reactions(rt: HostRuntime) -> Result<(), Fail> {
     let inputs = inputs_of(rt.alloc(), EVEN, b"x\n")?;
-    let r = Counting::new(&inputs.net);
+    let r = make_counting(&inputs);
     let gate = Outside(Meeting::new());
     let gathered = gather(&rt, rt.alloc(), &r, &inputs.trace, 2, 60_000, &gate)?;
     assert!(rt; gate.0.was_met());
@@ -84,7 +86,7 @@ fn workers_react_twice_in_a_run_of_two_reactions(rt: HostRuntime) -> Result<(), 
 #[test]
 fn the_scheduler_reacts_thrice_in_a_run_of_three_reactions(rt: HostRuntime) -> Result<(), Fail> {
     let inputs = inputs_of(rt.alloc(), LOOP, b"go\n")?;
-    let r = Counting::new(&inputs.net);
+    let r = make_counting(&inputs);
     let ran = run_alone(rt.alloc(), &r, &inputs.trace, 60_000)?;
     assert_eq!(rt; ran.journal.len(), 6);
     assert!(rt; r.count() >= 3);

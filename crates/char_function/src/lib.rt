@@ -20,5 +20,3 @@ pub use root::{characteristic, diagram};
 pub use support::{supports, supports_in};
 pub use support_lists::Supports;
 
-#[cfg(test)]
-mod tests;

@@ -13,5 +13,3 @@ pub use conflict::check;
 pub use fault::CheckFault;
 pub use worked::worked_conflict;
 
-#[cfg(test)]
-mod tests;

@@ -14,8 +14,6 @@ mod outgoing;
 mod pending;
 mod room;
 mod sharing;
-#[cfg(test)]
-mod tests;
 
 pub use arrival::Arrival;
 pub use cell::Cell;

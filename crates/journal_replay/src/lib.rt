@@ -3,8 +3,6 @@
 
 mod adoption;
 mod judge;
-#[cfg(test)]
-mod tests;
 
 pub use adoption::adopt;
 pub use judge::{Verdict, replay, replay_stamped};

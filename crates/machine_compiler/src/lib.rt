@@ -8,8 +8,6 @@ mod law;
 mod lines;
 mod listing;
 mod tallies;
-#[cfg(test)]
-mod tests;
 
 pub use compiled::{Compiled, CompiledList, codes_of};
 pub use compiling::{compile_machine, compile_network};

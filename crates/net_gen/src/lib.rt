@@ -5,8 +5,6 @@ mod draws;
 mod law;
 mod network;
 mod rows;
-#[cfg(test)]
-mod tests;
 mod texts;
 mod trace;
 mod words;

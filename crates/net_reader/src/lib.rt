@@ -7,8 +7,6 @@ mod print;
 mod raw;
 mod reader;
 mod rules;
-#[cfg(test)]
-mod tests;
 mod worked;
 
 pub use network::{NetFault, read_network};

@@ -8,8 +8,6 @@ mod machine_list;
 mod resolving;
 mod row_list;
 mod sizes;
-#[cfg(test)]
-mod tests;
 mod worked;
 
 pub use resolving::{ResolveFault, resolve};

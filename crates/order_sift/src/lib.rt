@@ -13,5 +13,3 @@ mod turns;
 pub use law::laws;
 pub use turns::{Sifted, SiftedDiagram, sift, sift_diagram};
 
-#[cfg(test)]
-mod tests;

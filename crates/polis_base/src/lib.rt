@@ -12,8 +12,6 @@ mod list;
 mod memory;
 mod name;
 mod std_host;
-#[cfg(test)]
-mod tests;
 mod token;
 mod words;
 mod worked;

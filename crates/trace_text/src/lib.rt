@@ -11,5 +11,3 @@ pub use fault::{TraceFault, TraceKind};
 pub use read::read_trace;
 pub use worked::worked_texts;
 
-#[cfg(test)]
-mod tests;

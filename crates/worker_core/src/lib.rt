@@ -19,5 +19,3 @@ pub use running::{Core, core_run};
 pub use state::{Hand, Queue};
 pub use worked::core_rows;
 
-#[cfg(test)]
-mod tests;

@@ -62,7 +62,8 @@ pub(crate) fn result_node(
     requires later { place store.old.order item < level_of store.old kid }
     ensures kept { Keeps store.old store.new }
     ensures value { IfOk result (λ n.
-        Means store.new n (λ codes. slice_index codes item == code && value_of store.old kid codes)) }
+        Means store.new n (λ codes. slice_index codes item == code && value_of store.old kid
+        codes)) }
     ensures level { IfOk result (λ n. place store.old.order item ≤ level_of store.new n) }
 {
     store.same_value_same_node();

@@ -60,8 +60,8 @@ fn variable_level(
     requires level { AreLevel fixing.now.machine.now fixing.now.order.now store.old (place + 1)
         block nodes.old.items }
     ensures kept { Keeps store.old store.new }
-    ensures level { OnOk result (AreLevel fixing.now.machine.now fixing.now.order.now store.new place
-        (slice_index fixing.now.sizes.now (slice_index fixing.now.order.now place) * block)
+    ensures level { OnOk result (AreLevel fixing.now.machine.now fixing.now.order.now store.new
+        place (slice_index fixing.now.sizes.now (slice_index fixing.now.order.now place) * block)
         nodes.new.items) }
 {
     domains::laws_of_all_codes();
@@ -96,8 +96,8 @@ fn result_level(
     requires level { AreLevel fixing.now.machine.now fixing.now.order.now store.old (place + 1)
         block nodes.old.items }
     ensures kept { Keeps store.old store.new }
-    ensures level { OnOk result (AreLevel fixing.now.machine.now fixing.now.order.now store.new place
-        block nodes.new.items) }
+    ensures level { OnOk result (AreLevel fixing.now.machine.now fixing.now.order.now store.new
+        place block nodes.new.items) }
 {
     transition_table::laws_of_computing();
     store.same_value_same_node();

@@ -19,4 +19,3 @@ pub use first::first_order;
 pub use root::{characteristic, diagram};
 pub use support::{supports, supports_in};
 pub use support_lists::Supports;
-

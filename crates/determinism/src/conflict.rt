@@ -59,7 +59,8 @@ fn improve(
 ) -> bool
     requires first { IsTrue
         (is_row machine.now.inputs machine.now.vars machine.now.results first.now) }
-    requires second { IsTrue (is_row machine.now.inputs machine.now.vars machine.now.results second.now) }
+    requires second { IsTrue (is_row machine.now.inputs machine.now.vars machine.now.results
+        second.now) }
     requires area { IsBox machine.now first.now second.now sets.now }
     requires some { AreSome sets.now }
     requires long { length s.old.codes ≡ length sets.now }

@@ -52,7 +52,8 @@ fn same_source(first: &Row, second: &Row, y: u32) -> bool
 
 // The variable that an action's source reads, the first where it reads none.
 fn read(machine: &Machine, act: &Act) -> u64
-    requires action { IsTrue (names_result machine.now.inputs machine.now.vars machine.now.results act.now) }
+    requires action { IsTrue (names_result machine.now.inputs machine.now.vars machine.now.results
+        act.now) }
     requires some { 0 < length machine.now.vars }
     ensures there { result < length machine.now.vars }
     ensures only { (codes others : List ℕ) → slice_index codes result ≡ slice_index others result
@@ -68,7 +69,8 @@ fn read(machine: &Machine, act: &Act) -> u64
 
 // The variable on which it depends what the actions give a result.
 fn read_by(machine: &Machine, acts: &[Act], y: u32) -> u64
-    requires actions { IsTrue (list_all (names_result machine.now.inputs machine.now.vars machine.now.results)
+    requires actions { IsTrue (list_all (names_result machine.now.inputs machine.now.vars
+        machine.now.results)
         acts.now) }
     requires some { 0 < length machine.now.vars }
     ensures there { result < length machine.now.vars }
@@ -87,7 +89,8 @@ fn read_by(machine: &Machine, acts: &[Act], y: u32) -> u64
 fn differ(machine: &Machine, first: &Row, second: &Row, y: u32, s: &Snapshot) -> bool
     requires first { IsTrue
         (is_row machine.now.inputs machine.now.vars machine.now.results first.now) }
-    requires second { IsTrue (is_row machine.now.inputs machine.now.vars machine.now.results second.now) }
+    requires second { IsTrue (is_row machine.now.inputs machine.now.vars machine.now.results
+        second.now) }
     requires snapshot { IsSnapshot machine.now s.now }
     ensures differ { IsTrue result → Differ machine.now first.now second.now y s.now.codes }
     ensures same { IsFalse result → code_given machine.now s.now.codes first.now.acts y
@@ -110,7 +113,8 @@ fn try_code(
 ) -> bool
     requires first { IsTrue
         (is_row machine.now.inputs machine.now.vars machine.now.results first.now) }
-    requires second { IsTrue (is_row machine.now.inputs machine.now.vars machine.now.results second.now) }
+    requires second { IsTrue (is_row machine.now.inputs machine.now.vars machine.now.results
+        second.now) }
     requires area { IsBox machine.now first.now second.now sets.now }
     requires inside { IsIn sets.now s.old.codes }
     requires var { v < length sets.now }
@@ -145,7 +149,8 @@ fn first_code(
 ) -> bool
     requires first { IsTrue
         (is_row machine.now.inputs machine.now.vars machine.now.results first.now) }
-    requires second { IsTrue (is_row machine.now.inputs machine.now.vars machine.now.results second.now) }
+    requires second { IsTrue (is_row machine.now.inputs machine.now.vars machine.now.results
+        second.now) }
     requires area { IsBox machine.now first.now second.now sets.now }
     requires inside { IsIn sets.now s.old.codes }
     requires var { v < length sets.now }
@@ -185,7 +190,8 @@ fn try_first(
 ) -> bool
     requires first { IsTrue
         (is_row machine.now.inputs machine.now.vars machine.now.results first.now) }
-    requires second { IsTrue (is_row machine.now.inputs machine.now.vars machine.now.results second.now) }
+    requires second { IsTrue (is_row machine.now.inputs machine.now.vars machine.now.results
+        second.now) }
     requires area { IsBox machine.now first.now second.now sets.now }
     requires inside { IsIn sets.now s.old.codes }
     requires apart { u < v }
@@ -223,7 +229,8 @@ fn first_pair(
 ) -> bool
     requires first { IsTrue
         (is_row machine.now.inputs machine.now.vars machine.now.results first.now) }
-    requires second { IsTrue (is_row machine.now.inputs machine.now.vars machine.now.results second.now) }
+    requires second { IsTrue (is_row machine.now.inputs machine.now.vars machine.now.results
+        second.now) }
     requires area { IsBox machine.now first.now second.now sets.now }
     requires inside { AreLeast sets.now s.old.codes }
     requires apart { u < v }
@@ -256,7 +263,8 @@ fn first_single(
 ) -> bool
     requires first { IsTrue
         (is_row machine.now.inputs machine.now.vars machine.now.results first.now) }
-    requires second { IsTrue (is_row machine.now.inputs machine.now.vars machine.now.results second.now) }
+    requires second { IsTrue (is_row machine.now.inputs machine.now.vars machine.now.results
+        second.now) }
     requires area { IsBox machine.now first.now second.now sets.now }
     requires inside { AreLeast sets.now s.old.codes }
     requires var { v < length sets.now }
@@ -282,7 +290,8 @@ pub(crate) fn least_difference(
 ) -> bool
     requires first { IsTrue
         (is_row machine.now.inputs machine.now.vars machine.now.results first.now) }
-    requires second { IsTrue (is_row machine.now.inputs machine.now.vars machine.now.results second.now) }
+    requires second { IsTrue (is_row machine.now.inputs machine.now.vars machine.now.results
+        second.now) }
     requires area { IsBox machine.now first.now second.now sets.now }
     requires some { AreSome sets.now }
     requires long { length s.old.codes ≡ length sets.now }

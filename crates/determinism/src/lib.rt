@@ -12,4 +12,3 @@ mod worked;
 pub use conflict::check;
 pub use fault::CheckFault;
 pub use worked::worked_conflict;
-

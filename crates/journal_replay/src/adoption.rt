@@ -14,7 +14,8 @@ use transition_table::Network;
 // Takes an entry where it may follow, and answers whether it may. A reaction may.
 fn appends(config: &mut Config<'_>, entry: &Entry) -> Result<bool, NoMemory>
     requires fits { FitsNetwork config.old.net entry.now }
-    requires reaction { MayFollowIfReaction config.old.net config.old.trace config.old.journal entry.now }
+    requires reaction { MayFollowIfReaction config.old.net config.old.trace config.old.journal
+        entry.now }
     ensures follows { result ≡ Ok true
         → MayFollow config.old.net config.old.trace config.old.journal entry.now }
     ensures taken { result ≡ Ok true → config.new

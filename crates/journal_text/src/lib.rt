@@ -21,4 +21,3 @@ pub use law::laws;
 pub use print::{print_journal, print_outputs, push_count, push_snapshot};
 pub use read::{ReadJournal, read_journal};
 pub use worked::worked_texts;
-

@@ -44,7 +44,8 @@ fn judge_cond<'s, 'a>(
 ) -> CondFaults
     requires { IsVar local.now.scope.now.raw.now local.now.machine.now (cond_word cond.now).name
         var.now }
-    ensures unknown { result.unknown ≡ sooner found.unknown (least (unknown local.now.machine.now cond.now)) }
+    ensures unknown { result.unknown ≡ sooner found.unknown (least (unknown local.now.machine.now
+        cond.now)) }
     ensures unsuited { result.unsuited
         ≡ sooner found.unsuited
         (least (unsuited local.now.scope.now.raw.now local.now.machine.now cond.now)) }
@@ -85,7 +86,8 @@ fn in_cond<'s, 'a>(
 ) -> CondFaults
     requires { AreVars local.now.scope.now.raw.now local.now.machine.now
         (var_words local.now.machine.now) vars.now }
-    ensures unknown { result.unknown ≡ sooner found.unknown (least (unknown local.now.machine.now cond.now)) }
+    ensures unknown { result.unknown ≡ sooner found.unknown (least (unknown local.now.machine.now
+        cond.now)) }
     ensures unsuited { result.unsuited
         ≡ sooner found.unsuited
         (least (unsuited local.now.scope.now.raw.now local.now.machine.now cond.now)) }

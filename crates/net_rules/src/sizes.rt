@@ -46,7 +46,8 @@ fn event_sizes(scope: &Scope, words: &[Word], into: &mut VarTable) -> Result<(),
 // Appends the sizes of state variables.
 fn state_sizes(scope: &Scope, states: &[RawState], into: &mut VarTable) -> Result<(), NoMemory>
     requires sound { IsSound scope.now.raw.now }
-    requires declared { Each (λ (s : Declared). is_name_of (domain_words scope.now.raw.now) s.domain.name ≡ true)
+    requires declared { Each (λ (s : Declared). is_name_of (domain_words scope.now.raw.now)
+        s.domain.name ≡ true)
         states.now }
     ensures { OnOk result (into.new ≡ into.old ++ map (state_codes scope.now.raw.now) states.now) }
 {
@@ -59,7 +60,8 @@ fn state_sizes(scope: &Scope, states: &[RawState], into: &mut VarTable) -> Resul
 // Appends the sizes of what sets state variables: one more each.
 fn setter_sizes(scope: &Scope, states: &[RawState], into: &mut VarTable) -> Result<(), NoMemory>
     requires sound { IsSound scope.now.raw.now }
-    requires declared { Each (λ (s : Declared). is_name_of (domain_words scope.now.raw.now) s.domain.name ≡ true)
+    requires declared { Each (λ (s : Declared). is_name_of (domain_words scope.now.raw.now)
+        s.domain.name ≡ true)
         states.now }
     ensures { OnOk result (into.new ≡ into.old
         ++ map (λ s. 1 + state_codes scope.now.raw.now s) states.now) }
@@ -77,7 +79,8 @@ pub(crate) fn var_sizes(
     machine: &RawMachine,
 ) -> Result<VarTable, NoMemory>
     requires sound { IsSound scope.now.raw.now }
-    requires declared { Each (λ (s : Declared). is_name_of (domain_words scope.now.raw.now) s.domain.name ≡ true)
+    requires declared { Each (λ (s : Declared). is_name_of (domain_words scope.now.raw.now)
+        s.domain.name ≡ true)
         machine.now.states }
     ensures { IfOk result (λ vars. vars ≡ var_sizes scope.now.raw.now machine.now) }
 {
@@ -94,7 +97,8 @@ pub(crate) fn results_of(
     machine: &RawMachine,
 ) -> Result<VarTable, NoMemory>
     requires sound { IsSound scope.now.raw.now }
-    requires declared { Each (λ (s : Declared). is_name_of (domain_words scope.now.raw.now) s.domain.name ≡ true)
+    requires declared { Each (λ (s : Declared). is_name_of (domain_words scope.now.raw.now)
+        s.domain.name ≡ true)
         machine.now.states }
     ensures { IfOk result (λ results. results
         ≡ 2 ∷ map (λ s. 1 + state_codes scope.now.raw.now s) machine.now.states

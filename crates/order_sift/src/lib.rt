@@ -12,4 +12,3 @@ mod turns;
 
 pub use law::laws;
 pub use turns::{Sifted, SiftedDiagram, sift, sift_diagram};
-

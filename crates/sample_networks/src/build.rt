@@ -192,7 +192,8 @@ pub fn machine(
     requires sizes { IsTrue (are_sizes tables.0.now) }
     requires result_sizes { IsTrue (are_sizes tables.1.now) }
     requires vars { IsTrue (are_vars events.0.now states tables.0.now) }
-    requires results { IsTrue (are_results events.0.now events.1.now states tables.0.now tables.1.now) }
+    requires results { IsTrue (are_results events.0.now events.1.now states tables.0.now
+        tables.1.now) }
     requires rows { IsTrue (list_all (is_row events.0.now tables.0.now tables.1.now) rows) }
     requires small { IsTrue (is_small events.0.now events.1.now states tables.0.now rows) }
     ensures name { IfOk result (λ m. m.name ≡ text.now) }

@@ -153,12 +153,14 @@ pub fn complete<R: Reactor>(
     requires legal { Legal (R.meaning r.now) trace.now from }
     requires few { length from ≤ limit }
     ensures begins { IfOk result (λ f. Begins from f.journal) }
-    ensures follows { IfOk result (λ f. Follows (R.meaning r.now) trace.now f.journal (length from)) }
+    ensures follows { IfOk result (λ f. Follows (R.meaning r.now) trace.now f.journal (length
+        from)) }
     ensures legal { IfOk result (λ f. Legal (R.meaning r.now) trace.now f.journal) }
     ensures within { IfOk result (λ f. length f.journal ≤ limit) }
     ensures ends { IfOk result (λ f. (picked (R.meaning r.now) trace.now f.journal ≡ Pick.Stop)
         ⊎ (length f.journal ≡ limit)) }
-    ensures complete { IfOk result (λ f. IsTrue f.complete ↔ Complete (R.meaning r.now) trace.now f.journal) }
+    ensures complete { IfOk result (λ f. IsTrue f.complete ↔ Complete (R.meaning r.now) trace.now
+        f.journal) }
     ensures schedule { from ≡ []
         → IfOk result (λ f. IsSchedule (R.meaning r.now) trace.now limit f.journal) }
 {

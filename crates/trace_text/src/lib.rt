@@ -10,4 +10,3 @@ mod worked;
 pub use fault::{TraceFault, TraceKind};
 pub use read::read_trace;
 pub use worked::worked_texts;
-

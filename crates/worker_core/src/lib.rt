@@ -18,4 +18,3 @@ pub use merging::merge;
 pub use running::{Core, core_run};
 pub use state::{Hand, Queue};
 pub use worked::core_rows;
-

@@ -85,7 +85,8 @@ impl Tables {
     ) -> Result<(), NoMemory>
         requires fits { FitsNetwork net.now entry.now }
         requires follows { MayFollow net.now trace.now journal.old entry.now }
-        requires current { AreTables net.now trace.now journal.old self.old.readers.items self.old.moments.items
+        requires current { AreTables net.now trace.now journal.old self.old.readers.items
+            self.old.moments.items
             self.old.woken self.old.cursors self.old.owed }
         ensures journal { OnOk result (journal.new ≡ journal.old ++ entry.now ∷ []) }
         ensures current { OnOk result (AreTables net.now trace.now (journal.old ++ entry.now ∷ [])

@@ -67,9 +67,6 @@ or_none : (a b : Bool) → a ≡ false → (a || b) ≡ b
 or_none false b h = refl
 or_none true b h = absurd (true≢false h)
 
-has_here : (x : List Bool) (ys : List (List Bool)) → has x (x ∷ ys) ≡ true
-has_here x ys = or_first (same_truths x x) (has x ys) (truths_self x)
-
 -- another one stands among the others exactly where it stands
 has_others : (x z : List Bool) (ys : List (List Bool)) → same_truths x z ≡ false
     → has z (others x ys) ≡ has z ys

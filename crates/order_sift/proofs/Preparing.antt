@@ -53,17 +53,6 @@ none_upto zero = refl
 none_upto (suc n) = list_any-append (λ (c : ℕ). false) (upto n) (n ∷ [])
     ∙ ap (λ b. b || (false || false)) (none_upto n)
 
-pub any_upto_more : (p : ℕ → Bool) (n : ℕ)
-    → list_any p (upto (n + 1)) ≡ (list_any p (upto n) || p n)
-any_upto_more p n =
-    let e : n + 1 ≡ suc n = omega arith in
-    ap (λ (k : ℕ). list_any p (upto k)) e ∙ list_any-append p (upto n) (n ∷ [])
-    ∙ ap (λ b. list_any p (upto n) || b) (or_false (p n))
-  where
-    or_false : (t : Bool) → (t || false) ≡ t
-    or_false true = refl
-    or_false false = refl
-
 -- with one code changed it is the same exactly where the code was that
 same_with : (xs : List ℕ) (y c : ℕ) → y < length xs
     → is_same xs (slice_set xs y c) ≡ eqb (slice_index xs y) c

@@ -1,6 +1,5 @@
 -- What a move, and a turn of moves, leave.
 use Rattle.std.proofs.Common.{◌≡◌, ⊎_elim, inl, inr, ℕ, ◌+◌, ◌-◌, ◌<◌, ◌≤◌, List, length, slice_index, refl, ap, sym, ◌∙◌, arith, subst}
-use Rattle.std.proofs.lemmas.Bool.{cases_lt}
 use Rattle.domains.specs.Orders.{place, OnePlace}
 use Rattle.transition_table.specs.declared.machine.Machine.{Machine}
 use Rattle.transition_table.specs.Orders.{Allowed}
@@ -58,32 +57,9 @@ falls_then m a b c k l n one other =
     other)
     one
 
-pub not_more : (m : Machine) (a b : List ℕ) (k l : ℕ) → StaysOrFalls m a b k l → l ≤ k
-not_more m a b k l one =
-    ⊎_elim (λ same. let e = same.1 in omega arith) (λ less. let e = less.0 in omega arith) one
-
 pub same_order : (m : Machine) (a b : List ℕ) (k l : ℕ) → StaysOrFalls m a b k l → l ≡ k → b ≡ a
 same_order m a b k l one e =
     ⊎_elim (λ same. same.0) (λ less. absurd (let h = less.0 in omega arith)) one
-
-pub stays_where_least : (m : Machine) (a b : List ℕ) (k l : ℕ) → StaysOrFalls m a b k l
-    → IsLeast m a → b ≡ a
-stays_where_least m a b k l one least = ⊎_elim (λ same. same.0) (λ less. absurd (less.1 least)) one
-
--- one more item is settled
-pub settled_more : (m : Machine) (a b c : List ℕ) (k l n item : ℕ) → StaysOrFalls m a b k l
-    → StaysOrFalls m b c l n → (l ≡ k → (w : ℕ) → w < item → IsSettled m b w)
-    → (n ≡ l → IsSettled m c item) → n ≡ k → (w : ℕ) → w < item + 1 → IsSettled m c w
-settled_more m a b c k l n item one other earlier here same w lw =
-    let p = not_more m a b k l one in
-    let q = not_more m b c l n other in
-    let el : l ≡ k = omega arith in
-    let en : n ≡ l = omega arith in
-    let order = same_order m b c l n other en in
-    ⊎_elim
-    (λ before. subst (λ (o : List ℕ). IsSettled m o w) (sym order) (earlier el w before))
-    (λ at. subst (IsSettled m c) (let e : item ≡ w = omega arith in e) (here en))
-    (cases_lt w item)
 
 -- where each item is settled no single move is better
 pub least_from_settled : (m : Machine) (order : List ℕ) → OnePlace → Allowed m order

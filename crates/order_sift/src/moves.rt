@@ -14,7 +14,7 @@ use crate::law::laws_of_levels;
 use crate::places::PlaceRange;
 use crate::points::{Points, freed, level_of};
 use decision_diagram::Order;
-use polis_base::{Duplicate, NoMemory, Places};
+use polis_base::{NoMemory, Numbers, Places};
 use std::alloc::Global;
 use transition_table::Machine;
 
@@ -58,7 +58,7 @@ fn fill_before(
     let whole = *moving.chain.backs.get(items);
     let mut back = *moving.chain.backs.get(items - 1 - i);
     let start = moving.chain.classes.get(items - 1 - i);
-    let mut with_item = start.copy()?;
+    let mut with_item = Numbers::from_slice(moving.alloc, start.as_slice())?;
     for t in 0..i - first {
         let j = i - 1 - t;
         let next = *moving.order.get(j);
@@ -128,7 +128,7 @@ fn fill_after(
     let after = *moving.chain.backs.get(items - i);
     let mut front = whole - after;
     let start = moving.chain.classes.get(items - i);
-    let mut without_item = start.copy()?;
+    let mut without_item = Numbers::from_slice(moving.alloc, start.as_slice())?;
     for j in i + 1..range.last + 1 {
         let next = *moving.order.get(j);
         let here = level_of(

@@ -1,6 +1,7 @@
 // Numbers for pairs of numbers.
-ghost use Rattle.std.specs.Prelude.{◌≡◌, ◌↔◌, ◌+◌, ◌*◌, ◌<◌, ◌≤◌, ℕ, true, length, slice_index, IfOk};
-ghost use Rattle.order_sift.specs.Pairs.{Finds, key, AreBelow, HasRoom};
+ghost use Rattle.std.specs.Prelude.{◌≡◌, ◌↔◌, ◌+◌, ◌-◌, ◌*◌, ◌<◌, ◌≤◌, ℕ, length, slice_index, IfOk};
+ghost use Rattle.order_sift.specs.Pairs.{AreNumbered, key_of, AreBelow, HasRoom};
+ghost use Rattle.order_sift.specs.Points.{are_within};
 
 use polis_base::{NoMemory, Numbers};
 use std::alloc::Global;
@@ -17,45 +18,43 @@ pub(crate) fn room_for(alloc: Global, places: usize) -> Result<Vec<u16>, NoMemor
     Ok(room)
 }
 
-// Whether an earlier place has the pair of this one.
-fn is_alike(one: &[u32], other: &[u32], first: usize, i: usize) -> bool
-    requires place { i < length one.now }
-    requires long { length other.now ≡ length one.now }
-    ensures { (result ≡ true)
-        ↔ ((first < i) × (slice_index one.now first ≡ slice_index one.now i)
-        × (slice_index other.now first ≡ slice_index other.now i)) }
+// The number of a pair: that which it has, or the next. What is seen under a pair without a number
+// is of no account.
+#[inline(always)]
+fn number_of(
+    seen: &mut [u16],
+    met: &mut [u32],
+    count: &mut usize,
+    places: usize,
+    one: u32,
+    other: u32,
+) -> u32
+    requires room { HasRoom places seen.old }
+    requires few { places ≤ 1024 }
+    requires one { one < places }
+    requires other { other < places + 33 }
+    requires long { length met.old ≡ places }
+    requires count { count.old < places }
+    requires numbered { AreNumbered seen.old met.old count.old }
+    ensures is { slice_index met.new result ≡ key_of places one other }
+    ensures within { result < count.new }
+    ensures grows { count.old ≤ count.new }
+    ensures few { count.new ≤ count.old + 1 }
+    ensures kept { (p : ℕ) → p < count.old → slice_index met.new p ≡ slice_index met.old p }
+    ensures numbered { AreNumbered seen.new met.new count.new }
 {
-    if first >= i {
-        return false;
+    let key = other as usize * places + one as usize;
+    let number = usize::from(seen[key]);
+    if number < *count {
+        if met[number] as usize == key {
+            return number as u32;
+        }
     }
-    if one[first] != one[i] {
-        return false;
-    }
-    other[first] == other[i]
-}
-
-// The first place that has the pair of this one. What is seen under a pair that no earlier place
-// has is of no account.
-fn first_alike(seen: &mut [u16], one: &[u32], other: &[u32], i: usize) -> u32
-    requires room { HasRoom (length one.now) seen.old }
-    requires place { i < length one.now }
-    requires long { length other.now ≡ length one.now }
-    requires few { length one.now ≤ 1024 }
-    requires one_below { AreBelow (length one.now) one.now }
-    requires other_below { AreBelow (length one.now + 33) other.now }
-    requires found { Finds seen.old one.now other.now i }
-    ensures found { Finds seen.new one.now other.now (i + 1) }
-    ensures is { result ≡ slice_index seen.new (key one.now other.now i) }
-    ensures kept { (p : ℕ) → p < i → slice_index seen.new (key one.now other.now p)
-        ≡ slice_index seen.old (key one.now other.now p) }
-{
-    let key = other[i] as usize * one.len() + one[i] as usize;
-    let first = seen[key];
-    if is_alike(one, other, usize::from(first), i) {
-        return u32::from(first);
-    }
-    seen[key] = i as u16;
-    i as u32
+    let next = *count;
+    seen[key] = next as u16;
+    met[next] = key as u32;
+    *count = next + 1;
+    next as u32
 }
 
 /// Two places get the same number exactly where both their numbers are the same. What is seen
@@ -78,9 +77,55 @@ pub(crate) fn joined(
         ↔ ((slice_index one.now i ≡ slice_index one.now j)
         × (slice_index other.now i ≡ slice_index other.now j))) }
 {
-    let mut made = Numbers::filled(alloc, one.len() as u64, 0)?;
-    for i in 0..one.len() {
-        made.set(i as u64, first_alike(seen, one, other, i));
+    let places = one.len();
+    let mut made = Numbers::from_slice(alloc, one)?;
+    let mut room = vec![in alloc; 0; places]?;
+    let met = room.as_mut_slice();
+    let mut count = 0;
+    for i in 0..places {
+        let number = number_of(seen, met, &mut count, places, one[i], other[i]);
+        made.set(i as u64, number);
+    }
+    Ok(made)
+}
+
+/// Numbers for what the snapshots with a variable's first codes have, up to the snapshot's own: with
+/// the first code it is the number there, and with another one that of a pair, of the number there
+/// and of what the snapshot before it got.
+pub(crate) fn chained(
+    alloc: Global,
+    seen: &mut [u16],
+    classes: &[u32],
+    codes: &[u8],
+    stride: usize,
+) -> Result<Numbers, NoMemory>
+    requires room { HasRoom (length classes.now) seen.old }
+    requires few { length classes.now ≤ 1024 }
+    requires long { length codes.now ≡ length classes.now }
+    requires stride { 0 < stride }
+    requires within { are_within codes.now stride 0 }
+    requires below { AreBelow (length classes.now) classes.now }
+    ensures long { IfOk result (λ made. length made ≡ length classes.now) }
+    ensures below { IfOk result (AreBelow (length classes.now)) }
+    ensures first { IfOk result (λ made. (i : ℕ) → i < length classes.now
+        → slice_index codes.now i ≡ 0 → slice_index made i ≡ slice_index classes.now i) }
+    ensures more { IfOk result (λ made. (i j : ℕ) → i < length classes.now
+        → j < length classes.now → 0 < slice_index codes.now i → 0 < slice_index codes.now j
+        → (slice_index made i ≡ slice_index made j)
+        ↔ ((slice_index made (i - stride) ≡ slice_index made (j - stride))
+        × (slice_index classes.now i ≡ slice_index classes.now j))) }
+{
+    let places = classes.len();
+    let mut made = Numbers::from_slice(alloc, classes)?;
+    let mut room = vec![in alloc; 0; places]?;
+    let met = room.as_mut_slice();
+    let mut count = 0;
+    for i in 0..places {
+        if codes[i] > 0 {
+            let before = *made.get((i - stride) as u64);
+            let number = number_of(seen, met, &mut count, places, before, classes[i]);
+            made.set(i as u64, number);
+        }
     }
     Ok(made)
 }

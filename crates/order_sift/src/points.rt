@@ -11,7 +11,7 @@ ghost use Rattle.order_sift.specs.Pairs.{AreBelow, HasRoom};
 ghost use Rattle.order_sift.specs.Points.{IsPrepared, are_within};
 
 use crate::law::laws_below;
-use crate::pairs::joined;
+use crate::pairs::{chained, joined};
 use domains::Codes;
 use outcome_table::lists_from;
 use polis_base::{List, NoMemory, Numbers};
@@ -61,7 +61,7 @@ fn shifted(
         (i + code * stride - slice_index codes.now i * stride)) }
     ensures below { IfOk result (AreBelow (length classes.now)) }
 {
-    let mut made = Numbers::filled(alloc, classes.len() as u64, 0)?;
+    let mut made = Numbers::from_slice(alloc, classes)?;
     for i in 0..classes.len() {
         made.set(i as u64, classes[neighbour(i, codes[i], code, stride)]);
     }
@@ -128,14 +128,9 @@ fn free_variable(
     let codes = points.codes.get(u64::from(v)).as_slice();
     let stride = lists_from(&m.vars, u64::from(v) + 1) as usize;
     let fixed = classes.as_slice();
-    let mut made = shifted(alloc, fixed, codes, stride, 0)?;
-    for code in 1..size {
-        let other = shifted(alloc, fixed, codes, stride, code)?;
-        let before = made.as_slice();
-        let after = other.as_slice();
-        let next = joined(alloc, seen, before, after)?;
-        made = next;
-    }
+    let chain = chained(alloc, seen, fixed, codes, stride)?;
+    let numbers = chain.as_slice();
+    let made = shifted(alloc, numbers, codes, stride, size - 1)?;
     Ok(made)
 }
 

@@ -145,8 +145,23 @@ fn settle(sifting: &Sifting, seen: &mut [u16], item: u32, at: &mut Counted) -> R
     Ok(())
 }
 
-// Each item in turn moves to its best place.
-fn turn(sifting: &Sifting, seen: &mut [u16], at: &mut Counted) -> Result<(), NoMemory>
+// The item so many places after one, where the first follows the last.
+fn item_after(first: u32, k: u32, items: u32) -> u32
+    requires first { first ≤ items }
+    requires k { k < items }
+    ensures within { result < items }
+    ensures up { first + k < items → result ≡ first + k }
+    ensures round { items ≤ first + k → result + items ≡ first + k }
+{
+    if k < items - first {
+        return first + k;
+    }
+    k - (items - first)
+}
+
+// From one item on each in turn moves to its best place, until one has moved: then the item after it
+// is the next to begin with.
+fn turn(sifting: &Sifting, seen: &mut [u16], first: u32, at: &mut Counted) -> Result<u32, NoMemory>
     requires sure { IsDeterministic sifting.now.machine.now }
     requires supports { AreSupports sifting.now.machine.now sifting.now.supports.now }
     requires few { product sifting.now.machine.now.vars ≤ 1024 }
@@ -154,20 +169,27 @@ fn turn(sifting: &Sifting, seen: &mut [u16], at: &mut Counted) -> Result<(), NoM
     requires room { HasRoom (product sifting.now.machine.now.vars) seen.old }
     requires counted { IsCounted sifting.now.machine.now at.old.order at.old.count }
     requires chain { IsChain sifting.now.machine.now at.old.order at.old.chain }
-    ensures counted { IfOk result (λ done. IsCounted sifting.now.machine.now at.new.order at.new.count) }
-    ensures chain { IfOk result (λ done.
+    requires first { first ≤ length at.old.order }
+    ensures counted { IfOk result (λ next. IsCounted sifting.now.machine.now at.new.order at.new.count) }
+    ensures chain { IfOk result (λ next.
         IsChain sifting.now.machine.now at.new.order at.new.chain) }
-    ensures falls { IfOk result (λ done.
+    ensures falls { IfOk result (λ next.
         StaysOrFalls sifting.now.machine.now at.old.order at.new.order at.old.count at.new.count) }
-    ensures least { IfOk result (λ done. at.new.count ≡ at.old.count
+    ensures least { IfOk result (λ next. at.new.count ≡ at.old.count
         → IsLeast sifting.now.machine.now at.new.order) }
+    ensures next { IfOk result (λ next. next ≤ length at.new.order) }
 {
     domains::laws_of_orders();
     let items = sifting.machine.var_count() + sifting.machine.result_count();
-    for item in 0..items {
+    for k in 0..items {
+        let item = item_after(first, k, items);
+        let before = at.count;
         settle(sifting, seen, item, at)?;
+        if at.count != before {
+            return Ok(item + 1);
+        }
     }
-    Ok(())
+    Ok(first)
 }
 
 // Takes turns until nothing falls.
@@ -186,9 +208,10 @@ fn settle_all(sifting: &Sifting, seen: &mut [u16], at: &mut Counted) -> Result<(
         StaysOrFalls sifting.now.machine.now at.old.order at.new.order at.old.count at.new.count) }
     ensures least { IfOk result (λ done. IsLeast sifting.now.machine.now at.new.order) }
 {
+    let mut first = 0;
     loop {
         let before = at.count;
-        turn(sifting, seen, at)?;
+        first = turn(sifting, seen, first, at)?;
         if at.count == before {
             return Ok(());
         }

@@ -40,7 +40,7 @@ loop-j-init c =
     let got : get_or chain.classes (length o - i) [] ≡ c.in_ok-without_item.without_item =
     ap (λ (n : ℕ). get_or chain.classes (n - i) []) (sym l)
     ∙ get_or_from_slice_get chain.classes (c.len-items.result - i) c.get-start.result.now []
-    c.get-start.ensures ∙ sym c.in_ok-without_item.ensures in
+    c.get-start.ensures ∙ sym c.as_slice.ensures ∙ sym c.in_ok-without_item.ensures in
     let start = subst (AreClasses m (stands (take i (remove o i)))) got
     (start_without m o laws c.requires.sure c.requires.allowed chain.classes chain.backs
     c.requires.chain i li sized) in

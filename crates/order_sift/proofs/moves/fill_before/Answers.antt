@@ -38,7 +38,7 @@ loop-t-init c =
     let got : get_or chain.classes (length o - 1 - i) [] ≡ c.in_ok-with_item.with_item =
     ap (λ (n : ℕ). get_or chain.classes (n - 1 - i) []) (sym l)
     ∙ get_or_from_slice_get chain.classes (c.len-items.result - 1 - i) c.get-start.result.now []
-    c.get-start.ensures ∙ sym c.in_ok-with_item.ensures in
+    c.get-start.ensures ∙ sym c.as_slice.ensures ∙ sym c.in_ok-with_item.ensures in
     let start = subst (AreClasses m (stands (take i (remove o i) ++ slice_index o i ∷ []))) got
     (start_with m o laws c.requires.sure c.requires.allowed chain.classes chain.backs
     c.requires.chain i li sized) in

@@ -1,5 +1,5 @@
 -- Numbers for what is left after one more item is fixed, and before.
-use Rattle.std.proofs.Common.{◌≡◌, ℕ, zero, suc, ◌+◌, ◌-◌, ◌*◌, ◌<◌, ◌≤◌, Bool, true, false, ◌&&◌, ltb, nat_le, List, [], ◌∷◌, length, drop, slice_index, slice_set, ap, sym, ◌∙◌, arith, subst}
+use Rattle.std.proofs.Common.{◌≡◌, ℕ, zero, suc, ◌+◌, ◌-◌, ◌*◌, ◌<◌, ◌≤◌, Bool, true, false, ◌&&◌, ltb, nat_le, List, [], ◌∷◌, length, drop, get_or, slice_index, slice_set, ap, sym, ◌∙◌, arith, subst}
 use Rattle.std.proofs.lemmas.Bool.{and_parts, leb-true}
 use Rattle.domains.specs.Tables.{fits, product, rank, are_sizes}
 use Rattle.transition_table.specs.declared.machine.Machine.{Machine}
@@ -9,6 +9,7 @@ use Rattle.decision_diagram.specs.Sets.{arising}
 use Rattle.order_sift.specs.Below.{Below}
 use Rattle.order_sift.specs.Classes.{snapshot_at, AreClasses, IsNextItem, fixed_too}
 use Rattle.order_sift.specs.Pairs.{AreBelow}
+use Rattle.order_sift.specs.Points.{AreVariables, are_within}
 use Rattle.order_sift.proofs.Codes.{fits_set}
 use Rattle.order_sift.proofs.Leaving.{result_step, var_to, var_from}
 use Rattle.order_sift.proofs.Pointing.{point, point_result, snapshot_fits, snapshot_rank, at_rank, rank_low}
@@ -98,6 +99,25 @@ neighbours m below i v code li lv lc =
 
     under : (r a s n : ℕ) → r + a ≡ s → r < n → s < n + a
     under r a s n e low = omega arith
+
+-- each code that the variable has leads to a snapshot
+pub within_of : (m : Machine) (below : Below) (codes : List (List ℕ)) (vars : AreVariables m codes)
+    (v code stride : ℕ) (shown : List ℕ) → v < length m.vars → code < slice_index m.vars v
+    → stride ≡ product (drop (v + 1) m.vars) → get_or codes v [] ≡ shown
+    → are_within shown stride code
+within_of m below codes vars v code stride shown lv lc is column =
+    subst (λ (k : ℕ). are_within shown k code) (sym is)
+    (subst (λ (xs : List ℕ). are_within xs (product (drop (v + 1) m.vars)) code) column
+    (λ i li.
+    let l = vars.long v lv in
+    let low : i < product m.vars = omega arith in
+    let n = neighbours m below i v code low lv lc in
+    let e : slice_index (get_or codes v []) i * product (drop (v + 1) m.vars)
+    ≡ slice_index (snapshot_at m i) v * product (drop (v + 1) m.vars) =
+    ap (λ k. k * product (drop (v + 1) m.vars)) (vars.code v i lv low) in
+    let a = n.from in
+    let b = n.to in
+    (omega arith, omega arith)))
 
 pub result_freed : (m : Machine) (below : Below) (y : ℕ) (classes codes made : List ℕ)
     → y < length m.results

@@ -179,7 +179,8 @@ pub(crate) fn sizes_at(
     requires first { range.first ≤ i }
     requires i { i ≤ range.last }
     requires last { range.last < length moving.now.order.now }
-    requires places { MayStand moving.now.machine.now moving.now.order.now i range.first range.last }
+    requires places { MayStand moving.now.machine.now moving.now.order.now i range.first
+        range.last }
     ensures long { IfOk result (λ sizes. length sizes + range.first ≡ range.last + 1) }
     ensures each { IfOk result (λ sizes. (k : ℕ) → k < length sizes
         → slice_index sizes k ≡ Size moving.now.machine.now

@@ -89,9 +89,9 @@ pub(crate) fn joined(
     Ok(made)
 }
 
-/// Numbers for what the snapshots with a variable's first codes have, up to the snapshot's own: with
-/// the first code it is the number there, and with another one that of a pair, of the number there
-/// and of what the snapshot before it got.
+/// Numbers for what the snapshots with a variable's first codes have, up to the snapshot's own:
+/// with the first code it is the number there, and with another one that of a pair, of the number
+/// there and of what the snapshot with one code less got. What is seen before doesn't matter.
 pub(crate) fn chained(
     alloc: Global,
     seen: &mut [u16],

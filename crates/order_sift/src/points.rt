@@ -149,7 +149,8 @@ fn free_result(
     requires long { length classes.now ≡ product m.now.vars }
     requires below { AreBelow (product m.now.vars) classes.now }
     requires result { y < length m.now.results }
-    ensures classes { IfOk result (λ made. (fixed : ℕ → Bool) → IsNextItem m.now fixed (length m.now.vars + y)
+    ensures classes { IfOk result (λ made. (fixed : ℕ → Bool)
+        → IsNextItem m.now fixed (length m.now.vars + y)
         → AreClasses m.now (fixed_too fixed (length m.now.vars + y)) classes.now
         → AreClasses m.now fixed made) }
     ensures long { IfOk result (λ made. length made ≡ product m.now.vars) }

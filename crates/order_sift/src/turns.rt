@@ -113,7 +113,8 @@ fn settle(sifting: &Sifting, seen: &mut [u16], item: u32, at: &mut Counted) -> R
     requires counted { IsCounted sifting.now.machine.now at.old.order at.old.count }
     requires chain { IsChain sifting.now.machine.now at.old.order at.old.chain }
     requires item { item < length at.old.order }
-    ensures counted { IfOk result (λ done. IsCounted sifting.now.machine.now at.new.order at.new.count) }
+    ensures counted { IfOk result (λ done.
+        IsCounted sifting.now.machine.now at.new.order at.new.count) }
     ensures chain { IfOk result (λ done.
         IsChain sifting.now.machine.now at.new.order at.new.chain) }
     ensures falls { IfOk result (λ done.
@@ -159,8 +160,8 @@ fn item_after(first: u32, k: u32, items: u32) -> u32
     k - (items - first)
 }
 
-// From one item on each in turn moves to its best place, until one has moved: then the item after it
-// is the next to begin with.
+// From one item on each in turn moves to its best place, until one has moved: then the item after
+// it is the next to begin with.
 fn turn(sifting: &Sifting, seen: &mut [u16], first: u32, at: &mut Counted) -> Result<u32, NoMemory>
     requires sure { IsDeterministic sifting.now.machine.now }
     requires supports { AreSupports sifting.now.machine.now sifting.now.supports.now }
@@ -170,7 +171,8 @@ fn turn(sifting: &Sifting, seen: &mut [u16], first: u32, at: &mut Counted) -> Re
     requires counted { IsCounted sifting.now.machine.now at.old.order at.old.count }
     requires chain { IsChain sifting.now.machine.now at.old.order at.old.chain }
     requires first { first ≤ length at.old.order }
-    ensures counted { IfOk result (λ next. IsCounted sifting.now.machine.now at.new.order at.new.count) }
+    ensures counted { IfOk result (λ next.
+        IsCounted sifting.now.machine.now at.new.order at.new.count) }
     ensures chain { IfOk result (λ next.
         IsChain sifting.now.machine.now at.new.order at.new.chain) }
     ensures falls { IfOk result (λ next.
@@ -201,7 +203,8 @@ fn settle_all(sifting: &Sifting, seen: &mut [u16], at: &mut Counted) -> Result<(
     requires room { HasRoom (product sifting.now.machine.now.vars) seen.old }
     requires counted { IsCounted sifting.now.machine.now at.old.order at.old.count }
     requires chain { IsChain sifting.now.machine.now at.old.order at.old.chain }
-    ensures counted { IfOk result (λ done. IsCounted sifting.now.machine.now at.new.order at.new.count) }
+    ensures counted { IfOk result (λ done.
+        IsCounted sifting.now.machine.now at.new.order at.new.count) }
     ensures chain { IfOk result (λ done.
         IsChain sifting.now.machine.now at.new.order at.new.chain) }
     ensures falls { IfOk result (λ done.
@@ -294,8 +297,8 @@ fn sifted_from(
 
 /// An order for a machine, with the machine's diagram under it. Item by item, each variable and
 /// result moves to the first of the allowed places with the least size, if that is smaller, until
-/// in a turn of all items none has moved. The order of a machine of more than 1,024 snapshots is the
-/// first order.
+/// in a turn of all items none has moved. The order of a machine of more than 1,024 snapshots is
+/// the first order.
 pub fn sift_diagram(alloc: Global, m: &Machine) -> Result<SiftedDiagram, NoMemory>
     requires { IsDeterministic m.now }
     ensures sifted { IfOk result (λ made. IsSifted m.now made.sifted.order made.sifted.first_count

@@ -7,11 +7,10 @@ use Rattle.transition_table.specs.declared.machine.Machine.{Machine}
 use Rattle.order_sift.specs.Below.{Below}
 use Rattle.order_sift.specs.Classes.{snapshot_at}
 use Rattle.order_sift.specs.Pairs.{AreBelow, HasRoom}
-use Rattle.order_sift.specs.Points.{AreVariables, are_within}
 use Rattle.order_sift.proofs.Belows.{product_some, size_some, sizes_drop}
 use Rattle.order_sift.proofs.Codes.{fits_long}
 use Rattle.order_sift.proofs.Pointing.{snapshot_fits}
-use Rattle.order_sift.proofs.Stepping.{variable_freed, neighbours, drop_below}
+use Rattle.order_sift.proofs.Stepping.{variable_freed, neighbours, drop_below, within_of}
 use Rattle.order_sift.proofs.points.free_variable.Goals as goal
 
 pub lists_from-stride-requires-clause-few : goal.lists_from-stride-requires-clause-few
@@ -29,25 +28,6 @@ column_of codes v from got shown at there is =
 stride_is : (vars : List ℕ) (v from stride : ℕ) → from ≡ v
     → stride ≡ product (drop (from + 1) vars) → stride ≡ product (drop (v + 1) vars)
 stride_is vars v from stride at is = is ∙ ap (λ k. product (drop (k + 1) vars)) at
-
--- each code that the variable has leads to a snapshot
-within_of : (m : Machine) (below : Below) (codes : List (List ℕ)) (vars : AreVariables m codes)
-    (v code stride : ℕ) (shown : List ℕ) → v < length m.vars → code < slice_index m.vars v
-    → stride ≡ product (drop (v + 1) m.vars) → get_or codes v [] ≡ shown
-    → are_within shown stride code
-within_of m below codes vars v code stride shown lv lc is column =
-    subst (λ (k : ℕ). are_within shown k code) (sym is)
-    (subst (λ (xs : List ℕ). are_within xs (product (drop (v + 1) m.vars)) code) column
-    (λ i li.
-    let l = vars.long v lv in
-    let low : i < product m.vars = omega arith in
-    let n = neighbours m below i v code low lv lc in
-    let e : slice_index (get_or codes v []) i * product (drop (v + 1) m.vars)
-    ≡ slice_index (snapshot_at m i) v * product (drop (v + 1) m.vars) =
-    ap (λ k. k * product (drop (v + 1) m.vars)) (vars.code v i lv low) in
-    let a = n.from in
-    let b = n.to in
-    (omega arith, omega arith)))
 
 size_of : (vars : List ℕ) (v from size : ℕ) → from ≡ v → slice_get vars from ≡ Some size
     → slice_index vars v ≡ size

@@ -1,10 +1,10 @@
-use Rattle.std.proofs.Common.{◌≡◌, ◌∙◌, ◌+◌, ◌*◌, ◌<◌, ◌++◌, ◌∷◌, [], ℕ, Bool, false, List, length, drop, get_or, slice_index, arith, sym, ap, subst, length-append}
+use Rattle.std.proofs.Common.{◌≡◌, ◌∙◌, ◌+◌, ◌<◌, ◌++◌, ◌∷◌, [], ℕ, Bool, false, List, length, get_or, slice_index, arith, sym, ap, subst, length-append}
 use Rattle.std.proofs.lemmas.Option.{get_or_from_slice_get}
 use Rattle.domains.specs.Tables.{product}
 use Rattle.order_sift.specs.Classes.{snapshot_at, matters}
-use Rattle.order_sift.specs.Points.{AreOutcomes, are_within}
+use Rattle.order_sift.specs.Points.{AreOutcomes}
 use Rattle.order_sift.proofs.Preparing.{pushed, matters_var}
-use Rattle.order_sift.proofs.Stepping.{neighbours, drop_below}
+use Rattle.order_sift.proofs.Stepping.{drop_below, within_of}
 use Rattle.order_sift.proofs.prepare.marks_of_variable.Goals as goal
 
 pub lists_from-stride-requires-clause-few : goal.lists_from-stride-requires-clause-few
@@ -41,29 +41,13 @@ differs-mark-requires-clause-within c code lc =
     let m = c.args.m.now in
     let v = c.args.v in
     let codes = c.args.codes.now in
-    let vars = c.requires.variables in
-    let column : c.as_slice-column.result.now ≡ get_or codes v [] =
-    c.as_slice-column.ensures
-    ∙ sym (get_or_from_slice_get codes v c.get.result.now [] c.get.ensures) in
+    let column : get_or codes v [] ≡ c.as_slice-column.result.now =
+    get_or_from_slice_get codes v c.get.result.now [] c.get.ensures
+    ∙ sym c.as_slice-column.ensures in
     let size : slice_index m.vars v ≡ c.get-size.result.now =
     get_or_from_slice_get m.vars v c.get-size.result.now 0 c.get-size.ensures in
-    let low_code : code < slice_index m.vars v = omega arith in
-    let made : are_within (get_or codes v []) (product (drop (v + 1) m.vars)) code = λ i li.
-    let l = vars.long v c.requires.var in
-    let low : i < product m.vars = omega arith in
-    let n = neighbours m c.laws_below.ensures i v code low c.requires.var low_code in
-    let is = vars.code v i c.requires.var low in
-    let e : slice_index (get_or codes v []) i * product (drop (v + 1) m.vars)
-    ≡ slice_index (snapshot_at m i) v * product (drop (v + 1) m.vars) =
-    ap (λ k. k * product (drop (v + 1) m.vars)) is in
-    let a = n.from in
-    let b = n.to in
-    (omega arith, omega arith)
-    in
-    subst (λ (k : ℕ). are_within c.as_slice-column.result.now k code)
-    (sym c.lists_from-stride.ensures)
-    (subst (λ (zs : List ℕ). are_within zs (product (drop (v + 1) m.vars)) code)
-    (sym column) made)
+    within_of m c.laws_below.ensures codes c.requires.variables v code c.lists_from-stride.result
+    c.as_slice-column.result.now c.requires.var (omega arith) c.lists_from-stride.ensures column
 
 pub loop-i-preserved : goal.loop-i-preserved
 loop-i-preserved c =

@@ -145,22 +145,21 @@ numbers_end count len left numbers i ok is at k h =
 
 -- ---- children
 -- the first children have their numbers
-pub record KidNumbers (numbers kids list : List ℕ) (count : ℕ) : Type 0 where
+pub record KidNumbers (to : ℕ → ℕ) (kids list : List ℕ) (count : ℕ) : Type 0 where
   pub long : length list ≡ length kids
-  pub each : (j : ℕ) → j < count → slice_index list j ≡ slice_index numbers (slice_index kids j)
+  pub each : (j : ℕ) → j < count → slice_index list j ≡ to (slice_index kids j)
 
-pub kids_start : (numbers kids list : List ℕ) → list ≡ kids → KidNumbers numbers kids list 0
-kids_start numbers kids list is =
+pub kids_start : (to : ℕ → ℕ) (kids list : List ℕ) → list ≡ kids → KidNumbers to kids list 0
+kids_start to kids list is =
     record {
       long = ap (λ (xs : List ℕ). length xs) is;
       each = λ j low. absurd (omega arith);
     }
 
-pub kids_more : (numbers kids list more : List ℕ) (i kid number : ℕ)
-    → KidNumbers numbers kids list i → slice_get kids i ≡ Some kid
-    → slice_get numbers kid ≡ Some number → more ≡ slice_set list i number
-    → KidNumbers numbers kids more (i + 1)
-kids_more numbers kids list more i kid number ok is_kid is_number e =
+pub kids_more : (to : ℕ → ℕ) (kids list more : List ℕ) (i kid number : ℕ) → KidNumbers to kids list i
+    → slice_get kids i ≡ Some kid → number ≡ to kid → more ≡ slice_set list i number
+    → KidNumbers to kids more (i + 1)
+kids_more to kids list more i kid number ok is_kid is_number e =
     let own = ok.long in
     let within = below kids i kid is_kid in
     record {
@@ -174,18 +173,18 @@ kids_more numbers kids list more i kid number ok is_kid is_number e =
           let here : i ≡ j = omega arith in
           ap (slice_index (slice_set list i number)) (sym here)
           ∙ set_here list i number (omega arith)
-          ∙ sym (got numbers kid number is_number)
-          ∙ ap (slice_index numbers) (sym (got kids i kid is_kid) ∙ ap (slice_index kids) here))
+          ∙ is_number
+          ∙ ap to (sym (got kids i kid is_kid) ∙ ap (slice_index kids) here))
           (cases_lt j i);
     }
 
-pub kids_end : (numbers kids list : List ℕ) (count : ℕ) → KidNumbers numbers kids list count
-    → length kids ≤ count → list ≡ map (slice_index numbers) kids
-kids_end numbers kids list count ok high =
+pub kids_end : (to : ℕ → ℕ) (kids list : List ℕ) (count : ℕ) → KidNumbers to kids list count
+    → length kids ≤ count → list ≡ map to kids
+kids_end to kids list count ok high =
     let own = ok.long in
-    let all = long_map (slice_index numbers) kids in
-    same_number_lists list (map (slice_index numbers) kids) (omega arith) (λ j low.
-    ok.each j (omega arith) ∙ sym (index_map (slice_index numbers) kids j (omega arith)))
+    let all = long_map to kids in
+    same_number_lists list (map to kids) (omega arith) (λ j low.
+    ok.each j (omega arith) ∙ sym (index_map to kids j (omega arith)))
 
 -- ---- members
 map_numbers : (a b : ℕ → ℕ) (xs : List ℕ)
@@ -285,16 +284,3 @@ is_numbered_of h rises some left numbers vertices is numbered e =
     ∙ ap (λ (xs : List ℕ). place xs (slice_index (kids_at h k) i)) is
     ∙ ap (place (all_left h)) (sym at)))
     (λ k there. there)
-
--- the children of a vertex are within
-pub kids_inside : (h : List Vertex) → Rises h → (k : ℕ) (v : Vertex) (bound : ℕ)
-    → slice_get h k ≡ Some v → bound ≡ length h → (j : ℕ) → j < length (kids_of v)
-    → slice_index (kids_of v) j < bound
-kids_inside h rises k v bound is e j low =
-    let same : kids_at h k ≡ kids_of v = ap kids_in is in
-    let long : length (kids_at h k) ≡ length (kids_of v) = ap (λ (xs : List ℕ). length xs) same in
-    let r = rises k j (omega arith) in
-    let inside : slice_index (kids_at h k) j < length h = r.1 in
-    let at : slice_index (kids_at h k) j ≡ slice_index (kids_of v) j =
-    ap (λ (xs : List ℕ). slice_index xs j) same in
-    omega arith

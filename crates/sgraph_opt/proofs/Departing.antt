@@ -160,7 +160,7 @@ left_more h kids first left new j kid is_kid so_far one =
     ∙ ap (each (left_after (length h) (kids_at h)) (turned first)) (sym (take_one kids j low))
     ∙ ap (λ (i : ℕ). each (left_after (length h) (kids_at h)) (turned first) (take i kids)) (sym e)
 
-get_at : (xs : List ℕ) (i : ℕ) → i < length xs → slice_get xs i ≡ Some (slice_index xs i)
+pub get_at : (xs : List ℕ) (i : ℕ) → i < length xs → slice_get xs i ≡ Some (slice_index xs i)
 get_at [] i low = absurd (omega arith)
 get_at (x ∷ xs) zero low = refl
 get_at (x ∷ xs) (suc i) low = get_at xs i (omega arith)
@@ -229,9 +229,3 @@ kid_inside h rises k j kid kids is is_kid =
     let same : slice_index kids j ≡ slice_index (kids_at h k) j =
     ap (λ (xs : List ℕ). slice_index xs j) is in
     (omega arith, omega arith)
-
-pub next_inside : (h : List Vertex) → Rises h → (k : ℕ) (v : Vertex) (kids : List ℕ) (i : ℕ)
-    → slice_get h k ≡ Some v → kids ≡ kids_of v → i < length kids → slice_index kids i < length h
-next_inside h rises k v kids i is_v e low =
-    (kid_inside h rises k i (slice_index kids i) kids (kids_here h k v kids is_v e)
-    (get_at kids i low)).1

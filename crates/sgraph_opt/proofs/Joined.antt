@@ -1,12 +1,12 @@
 -- Equal vertices that are joined, by an index of those that stand for themselves.
-use Rattle.std.proofs.Common.{◌≡◌, ◌⊎◌, inl, inr, ⊎_elim, ℕ, zero, suc, ◌+◌, ◌<◌, ◌≤◌, true, false, cond, List, map, length, drop, replicate, slice_get, slice_index, slice_set, Option, Some, None, refl, ap, sym, subst, ◌∙◌, arith}
+use Rattle.std.proofs.Common.{◌≡◌, ◌⊎◌, inl, inr, ⊎_elim, ℕ, zero, suc, ◌+◌, ◌<◌, ◌≤◌, Bool, true, false, not, cond, ◌&&◌, List, map, length, drop, replicate, slice_get, slice_index, slice_set, Option, Some, None, refl, ap, sym, subst, ◌∙◌, arith, eqb}
 use Rattle.std.specs.Str.{bytes_eq}
-use Rattle.std.proofs.lemmas.Bool.{cases_eq, cases_Bool, cond-true, cond-false}
+use Rattle.std.proofs.lemmas.Bool.{cases_eq, cases_Bool, cond-true, cond-false, and_parts, eqb-true, ne_eqb}
 use Rattle.sgraph.specs.declared.vertex.Vertex.{Vertex}
 use Rattle.sgraph.specs.declared.vertex.Vertex.TheVariants.{Begin, Test, Assign, End}
 use Rattle.sgraph.specs.Facts.{IsGraph}
 use Rattle.sgraph.specs.Graphs.{key_of, varies}
-use Rattle.sgraph_opt.specs.Choices.{Chosen, is_inner, Has, Sharing, Shared}
+use Rattle.sgraph_opt.specs.Choices.{Chosen, is_inner, stays, Has, Sharing, Shared}
 use Rattle.sgraph_opt.specs.Found.{Keyed, found, Same, Entered}
 use Rattle.sgraph_opt.specs.Representatives.{renamed, IsTwin, IsRep, Standing}
 use Rattle.sgraph_opt.proofs.Lookups.{bytes_same, bytes_self}
@@ -51,8 +51,8 @@ not_none : {X : Type 0} (o : Option X) (a : X) → o ≡ None → o ≡ Some a �
 not_none o a p q = cc
 
 -- ---- one more vertex
-module _ (g : List Vertex) (ok : IsGraph g) (reps more : List ℕ)
-    (old new : Keyed) (i k r : ℕ) (s : Sharing g reps old i) (at : i ≡ k + 1)
+module _ (drops : Bool) (g : List Vertex) (ok : IsGraph g) (reps more : List ℕ)
+    (old new : Keyed) (i k r : ℕ) (s : Sharing drops g reps old i) (at : i ≡ k + 1)
     (v : Vertex) (is : slice_get g k ≡ Some v) (set : more ≡ slice_set reps k r) where
   abbrev to : ℕ → ℕ
   to = slice_index reps
@@ -114,13 +114,13 @@ module _ (g : List Vertex) (ok : IsGraph g) (reps more : List ℕ)
   -- what is known where the vertex is met again, or passed over: it doesn't stand for itself, or is
   -- the begin or the end
   passed : IsRep g (slice_index reps) k r v → Same old new → (r ≡ k → is_inner v ≡ false)
-      → (r ≡ k → varies (renamed (slice_index reps) v) ≡ true) → Sharing g more new k
+      → (r ≡ k → stays drops (renamed (slice_index reps) v) ≡ true) → Sharing drops g more new k
   passed rep same outer vary =
       record {
         stands = standing_more g ok reps more i k r s.stands at low
             (λ w is_w. subst (IsRep g (slice_index reps) k r)
             (same_some (slice_get g k) v w is is_w) rep) set;
-        vary = λ j w high is_w own. vary_all vary j w high is_w own;
+        stay = λ j w high is_w own. vary_all vary j w high is_w own;
         met = λ key x h. moved_has key x (s.met key x (sym (same key) ∙ h));
         all = λ key x h.
             same key
@@ -141,49 +141,49 @@ module _ (g : List Vertex) (ok : IsGraph g) (reps more : List ℕ)
           false_true : false ≡ true → ⊥
           false_true e = cc
 
-      vary_all : (r ≡ k → varies (renamed (slice_index reps) v) ≡ true) → (j : ℕ) (w : Vertex)
+      vary_all : (r ≡ k → stays drops (renamed (slice_index reps) v) ≡ true) → (j : ℕ) (w : Vertex)
           → k ≤ j → slice_get g j ≡ Some w → slice_index more j ≡ j
-          → varies (renamed (slice_index more) w) ≡ true
+          → stays drops (renamed (slice_index more) w) ≡ true
       vary_all vary j w high is_w own =
           ⊎_elim
           (λ here.
           let at_k : slice_get g k ≡ Some w = ap (slice_get g) here ∙ is_w in
           let one : v ≡ w = same_some (slice_get g k) v w is at_k in
           let own_k : r ≡ k = sym read ∙ ap (slice_index more) here ∙ own ∙ sym here in
-          sym (ap varies (same_names j w high is_w))
-          ∙ sym (ap (λ (u : Vertex). varies (renamed (slice_index reps) u)) one) ∙ vary own_k)
+          sym (ap (stays drops) (same_names j w high is_w))
+          ∙ sym (ap (λ (u : Vertex). stays drops (renamed (slice_index reps) u)) one) ∙ vary own_k)
           (λ other.
           let up : k < j = above k j high other in
-          sym (ap varies (same_names j w high is_w))
-          ∙ s.vary j w (omega arith) is_w (apart j up ∙ own))
+          sym (ap (stays drops) (same_names j w high is_w))
+          ∙ s.stay j w (omega arith) is_w (apart j up ∙ own))
           (cases_eq k j)
         where
           above : (a b : ℕ) → a ≤ b → (a ≡ b → ⊥) → a < b
           above a b less other = omega (arith, other)
 
   -- a vertex that is new to the index
-  entered : is_inner v ≡ true → varies (renamed (slice_index reps) v) ≡ true
+  entered : is_inner v ≡ true → stays drops (renamed (slice_index reps) v) ≡ true
       → IsRep g (slice_index reps) k k v → found old (key_of (renamed (slice_index reps) v)) ≡ None
       → r ≡ k → ((q : List ℕ) → found new q
       ≡ cond (bytes_eq (key_of (renamed (slice_index reps) v)) q) (Some k) (found old q))
-      → Sharing g more new k
+      → Sharing drops g more new k
   entered inner vary rep fresh own grows =
       record {
         stands = standing_more g ok reps more i k r s.stands at low
             (λ w is_w. subst (λ (n : ℕ). IsRep g (slice_index reps) k n w) (sym own)
             (subst (IsRep g (slice_index reps) k k) (same_some (slice_get g k) v w is is_w) rep))
             set;
-        vary = λ j w high is_w own_j.
+        stay = λ j w high is_w own_j.
             ⊎_elim
             (λ here.
             let at_k : slice_get g k ≡ Some w = ap (slice_get g) here ∙ is_w in
             let one : v ≡ w = same_some (slice_get g k) v w is at_k in
-            sym (ap varies (same_names j w high is_w))
-            ∙ sym (ap (λ (u : Vertex). varies (renamed (slice_index reps) u)) one) ∙ vary)
+            sym (ap (stays drops) (same_names j w high is_w))
+            ∙ sym (ap (λ (u : Vertex). stays drops (renamed (slice_index reps) u)) one) ∙ vary)
             (λ other.
             let up : k < j = above k j high other in
-            sym (ap varies (same_names j w high is_w))
-            ∙ s.vary j w (omega arith) is_w (apart j up ∙ own_j))
+            sym (ap (stays drops) (same_names j w high is_w))
+            ∙ s.stay j w (omega arith) is_w (apart j up ∙ own_j))
             (cases_eq k j);
         met = λ key x h.
             met_new key x h (cases_Bool (bytes_eq (key_of (renamed (slice_index reps) v)) key));
@@ -192,9 +192,6 @@ module _ (g : List Vertex) (ok : IsGraph g) (reps more : List ℕ)
     where
       above : (a b : ℕ) → a ≤ b → (a ≡ b → ⊥) → a < b
       above a b less other = omega (arith, other)
-
-      key_v : List ℕ
-      key_v = key_of (renamed (slice_index reps) v)
 
       met_new : (key : List ℕ) (x : ℕ) → found new key ≡ Some x
           → (bytes_eq (key_of (renamed (slice_index reps) v)) key ≡ true)
@@ -306,16 +303,16 @@ stands_higher g ok reps i s k high low = from (length g) k high (omega arith) lo
         of k high low (λ j up inside. from left j (omega arith) (omega arith) inside)
         (slice_get g k) refl
 
-sharing_one : (g : List Vertex) (ok : IsGraph g) (reps more : List ℕ)
-    (old new : Keyed) (i k r : ℕ) → Sharing g reps old i → i ≡ k + 1
+sharing_one : (drops : Bool) (g : List Vertex) (ok : IsGraph g) (reps more : List ℕ)
+    (old new : Keyed) (i k r : ℕ) → Sharing drops g reps old i → i ≡ k + 1
     → (v : Vertex) → slice_get g k ≡ Some v → more ≡ slice_set reps k r
-    → Chosen (slice_index reps) k r old new v → Sharing g more new k
-sharing_one g ok reps more old new i k r s at (Begin next) is set (own, same) =
-    passed g ok reps more old new i k r s at (Begin next) is set own same (λ e. refl) (λ e. refl)
-sharing_one g ok reps more old new i k r s at End is set (own, same) =
-    passed g ok reps more old new i k r s at End is set own same (λ e. refl) (λ e. refl)
-sharing_one g ok reps more old new i k r s at (Test var kids) is set (inl (idle, same)) =
-    passed g ok reps more old new i k r s at (Test var kids) is set (inr (inl idle)) same
+    → Chosen drops (slice_index reps) k r old new v → Sharing drops g more new k
+sharing_one drops g ok reps more old new i k r s at (Begin next) is set (own, same) =
+    passed drops g ok reps more old new i k r s at (Begin next) is set own same (λ e. refl) (λ e. refl)
+sharing_one drops g ok reps more old new i k r s at End is set (own, same) =
+    passed drops g ok reps more old new i k r s at End is set own same (λ e. refl) (λ e. refl)
+sharing_one drops g ok reps more old new i k r s at (Test var kids) is set (inl (idle, same)) =
+    passed drops g ok reps more old new i k r s at (Test var kids) is set (inr (inl idle)) same
     (λ e. absurd (later_than e)) (λ e. absurd (later_than e))
   where
     later_than : r ≡ k → ⊥
@@ -326,42 +323,56 @@ sharing_one g ok reps more old new i k r s at (Test var kids) is set (inl (idle,
         let one = idle 0 some in
         let high = stands_higher g ok reps i s.stands (slice_index kids 0) (omega arith) inside in
         omega arith
-sharing_one g ok reps more old new i k r s at (Test var kids) is set
+sharing_one drops g ok reps more old new i k r s at (Test var kids) is set
     (inr (vary, inl (there, same))) =
-    let t = twin g ok reps more old new i k r s at (Test var kids) is set there in
-    passed g ok reps more old new i k r s at (Test var kids) is set (inr (inr t)) same
-    (λ e. absurd (not_itself g ok reps more old new i k r s at (Test var kids) is set t e))
+    let t = twin drops g ok reps more old new i k r s at (Test var kids) is set there in
+    passed drops g ok reps more old new i k r s at (Test var kids) is set (inr (inr t)) same
+    (λ e. absurd (not_itself drops g ok reps more old new i k r s at (Test var kids) is set t e))
     (λ e. vary)
-sharing_one g ok reps more old new i k r s at (Test var kids) is set
+sharing_one drops g ok reps more old new i k r s at (Test var kids) is set
     (inr (vary, inr (fresh, own, grows))) =
-    entered g ok reps more old new i k r s at (Test var kids) is set refl vary (inl refl) fresh own
+    entered drops g ok reps more old new i k r s at (Test var kids) is set refl vary (inl refl) fresh own
     grows
-sharing_one g ok reps more old new i k r s at (Assign result code next) is set (inl (there, same)) =
-    let t = twin g ok reps more old new i k r s at (Assign result code next) is set there in
-    passed g ok reps more old new i k r s at (Assign result code next) is set (inr (inr t)) same
-    (λ e. absurd (not_itself g ok reps more old new i k r s at (Assign result code next) is set
-    t e)) (λ e. refl)
-sharing_one g ok reps more old new i k r s at (Assign result code next) is set
-    (inr (fresh, own, grows)) =
-    entered g ok reps more old new i k r s at (Assign result code next) is set refl refl (inl refl)
-    fresh own grows
-
-pub sharing_more : (g : List Vertex) (ok : IsGraph g) (reps more : List ℕ)
-    (old new : Keyed) (i k r : ℕ) → Sharing g reps old i → i ≡ k + 1
-    → k < length g → ((v : Vertex) → slice_get g k ≡ Some v
-    → Chosen (slice_index reps) k r old new v) → more ≡ slice_set reps k r → Sharing g more new k
-sharing_more g ok reps more old new i k r s at low chosen set = go (slice_get g k) refl
+sharing_one drops g ok reps more old new i k r s at (Assign result code next) is set
+    (inl (dropped, idle, same)) =
+    passed drops g ok reps more old new i k r s at (Assign result code next) is set
+    (inr (inl (eqb-true code 0 (and_parts drops (eqb code 0) dropped).1, idle))) same
+    (λ e. absurd (later_than e)) (λ e. absurd (later_than e))
   where
-    go : (o : Option Vertex) → slice_get g k ≡ o → Sharing g more new k
-    go None is = absurd (vertex_there g k low is)
-    go (Some v) is = sharing_one g ok reps more old new i k r s at v is set (chosen v is)
+    later_than : r ≡ k → ⊥
+    later_than e =
+        let up : k < next = ok.above k (Assign result code next) 0 is (omega arith) in
+        let inside : next < length g = ok.within k (Assign result code next) 0 is (omega arith) in
+        let high = stands_higher g ok reps i s.stands next (omega arith) inside in
+        omega arith
+sharing_one drops g ok reps more old new i k r s at (Assign result code next) is set
+    (inr (stay, inl (there, same))) =
+    let t = twin drops g ok reps more old new i k r s at (Assign result code next) is set there in
+    passed drops g ok reps more old new i k r s at (Assign result code next) is set (inr (inr t))
+    same
+    (λ e. absurd (not_itself drops g ok reps more old new i k r s at (Assign result code next) is
+    set t e)) (λ e. stay)
+sharing_one drops g ok reps more old new i k r s at (Assign result code next) is set
+    (inr (stay, inr (fresh, own, grows))) =
+    entered drops g ok reps more old new i k r s at (Assign result code next) is set refl stay
+    (inl refl) fresh own grows
 
-pub sharing_start : (g : List Vertex) (reps : List ℕ) (index : Keyed)
+pub sharing_more : (drops : Bool) (g : List Vertex) (ok : IsGraph g) (reps more : List ℕ)
+    (old new : Keyed) (i k r : ℕ) → Sharing drops g reps old i → i ≡ k + 1
+    → k < length g → ((v : Vertex) → slice_get g k ≡ Some v
+    → Chosen drops (slice_index reps) k r old new v) → more ≡ slice_set reps k r → Sharing drops g more new k
+sharing_more drops g ok reps more old new i k r s at low chosen set = go (slice_get g k) refl
+  where
+    go : (o : Option Vertex) → slice_get g k ≡ o → Sharing drops g more new k
+    go None is = absurd (vertex_there g k low is)
+    go (Some v) is = sharing_one drops g ok reps more old new i k r s at v is set (chosen v is)
+
+pub sharing_start : (drops : Bool) (g : List Vertex) (reps : List ℕ) (index : Keyed)
     (i count : ℕ) → reps ≡ replicate count 0 → count ≡ length g → i ≡ length g
-    → ((q : List ℕ) → found index q ≡ None) → Sharing g reps index i
-sharing_start g reps index i count is all at none = record {
+    → ((q : List ℕ) → found index q ≡ None) → Sharing drops g reps index i
+sharing_start drops g reps index i count is all at none = record {
   stands = standing_start g reps i count is all at;
-  vary = λ k v high is_v own. absurd (let low = below g k v is_v in omega arith);
+  stay = λ k v high is_v own. absurd (let low = below g k v is_v in omega arith);
   met = λ key r h. absurd (not_none (found index key) r (none key) h);
   all = λ key r h. absurd (let low = below g r h.vertex h.is in let from = h.from in omega arith);
 }
@@ -376,11 +387,11 @@ inner_renamed to v w e = sym (inner_same to v) ∙ ap is_inner e ∙ inner_same 
     inner_same to (Assign result code next) = refl
     inner_same to End = refl
 
-by_index : (g : List Vertex) (reps : List ℕ) (index : Keyed)
-    → Sharing g reps index 0 → (a b : ℕ) (v w : Vertex) → slice_get g a ≡ Some v
+by_index : (drops : Bool) (g : List Vertex) (reps : List ℕ) (index : Keyed)
+    → Sharing drops g reps index 0 → (a b : ℕ) (v w : Vertex) → slice_get g a ≡ Some v
     → slice_get g b ≡ Some w → slice_index reps a ≡ a → slice_index reps b ≡ b → is_inner v ≡ true
     → renamed (slice_index reps) v ≡ renamed (slice_index reps) w → a ≡ b
-by_index g reps index s a b v w is_a is_b own_a own_b inner e =
+by_index drops g reps index s a b v w is_a is_b own_a own_b inner e =
     let key = key_of (renamed (slice_index reps) v) in
     let at_a = s.all (key_of (renamed (slice_index reps) v)) a
     (record {
@@ -402,58 +413,80 @@ by_index g reps index s a b v w is_a is_b own_a own_b inner e =
     }) in
     same_some (found index (key_of (renamed (slice_index reps) v))) a b at_a at_b
 
-one_key : (g : List Vertex) (reps : List ℕ) (index : Keyed) → IsGraph g
-    → Sharing g reps index 0 → (a b : ℕ) (v w : Vertex) → slice_get g a ≡ Some v
+one_key : (drops : Bool) (g : List Vertex) (reps : List ℕ) (index : Keyed) → IsGraph g
+    → Sharing drops g reps index 0 → (a b : ℕ) (v w : Vertex) → slice_get g a ≡ Some v
     → slice_get g b ≡ Some w → slice_index reps a ≡ a → slice_index reps b ≡ b
     → renamed (slice_index reps) v ≡ renamed (slice_index reps) w → a ≡ b
-one_key g reps index ok s a b (Begin next) (Begin other) is_a is_b own_a own_b e =
+one_key drops g reps index ok s a b (Begin next) (Begin other) is_a is_b own_a own_b e =
     ok.only_begin a next is_a ∙ sym (ok.only_begin b other is_b)
-one_key g reps index ok s a b (Begin next) (Test var kids) is_a is_b own_a own_b e =
+one_key drops g reps index ok s a b (Begin next) (Test var kids) is_a is_b own_a own_b e =
     absurd (let f : Begin (slice_index reps next) ≡ Test var (map (slice_index reps) kids) = e in
     cc)
-one_key g reps index ok s a b (Begin next) (Assign result code other) is_a is_b own_a own_b e =
+one_key drops g reps index ok s a b (Begin next) (Assign result code other) is_a is_b own_a own_b e =
     absurd (let f : Begin (slice_index reps next)
     ≡ Assign result code (slice_index reps other) = e in cc)
-one_key g reps index ok s a b (Begin next) End is_a is_b own_a own_b e =
+one_key drops g reps index ok s a b (Begin next) End is_a is_b own_a own_b e =
     absurd (let f : Begin (slice_index reps next) ≡ End = e in cc)
-one_key g reps index ok s a b (Test var kids) w is_a is_b own_a own_b e =
-    by_index g reps index s a b (Test var kids) w is_a is_b own_a own_b refl e
-one_key g reps index ok s a b (Assign result code next) w is_a is_b own_a own_b e =
-    by_index g reps index s a b (Assign result code next) w is_a is_b own_a own_b refl e
-one_key g reps index ok s a b End (Begin next) is_a is_b own_a own_b e =
+one_key drops g reps index ok s a b (Test var kids) w is_a is_b own_a own_b e =
+    by_index drops g reps index s a b (Test var kids) w is_a is_b own_a own_b refl e
+one_key drops g reps index ok s a b (Assign result code next) w is_a is_b own_a own_b e =
+    by_index drops g reps index s a b (Assign result code next) w is_a is_b own_a own_b refl e
+one_key drops g reps index ok s a b End (Begin next) is_a is_b own_a own_b e =
     absurd (let f : End ≡ Begin (slice_index reps next) = e in cc)
-one_key g reps index ok s a b End (Test var kids) is_a is_b own_a own_b e =
+one_key drops g reps index ok s a b End (Test var kids) is_a is_b own_a own_b e =
     absurd (let f : End ≡ Test var (map (slice_index reps) kids) = e in cc)
-one_key g reps index ok s a b End (Assign result code next) is_a is_b own_a own_b e =
+one_key drops g reps index ok s a b End (Assign result code next) is_a is_b own_a own_b e =
     absurd (let f : End ≡ Assign result code (slice_index reps next) = e in cc)
-one_key g reps index ok s a b End End is_a is_b own_a own_b e = let p = ok.only_end a is_a in
+one_key drops g reps index ok s a b End End is_a is_b own_a own_b e = let p = ok.only_end a is_a in
     let q = ok.only_end b is_b in omega arith
 
-pub sharing_shared : (g : List Vertex) (reps : List ℕ) (index : Keyed)
-    → IsGraph g → Sharing g reps index 0 → Shared g reps
-sharing_shared g reps index ok s = record {
-  vary = λ k v is own. s.vary k v (omega arith) is own;
-  apart = one_key g reps index ok s;
+pub sharing_shared : (drops : Bool) (g : List Vertex) (reps : List ℕ) (index : Keyed)
+    → IsGraph g → Sharing drops g reps index 0 → Shared drops g reps
+sharing_shared drops g reps index ok s = record {
+  stay = λ k v is own. s.stay k v (omega arith) is own;
+  apart = one_key drops g reps index ok s;
 }
 
 -- ---- what is chosen
-module _ (g : List Vertex) (reps : List ℕ) (old new : Keyed) (k r : ℕ)
+pub stays_other : (drops : Bool) (code : ℕ) → (code ≡ 0 → ⊥) → not (drops && eqb code 0) ≡ true
+stays_other true code other = ap not (ne_eqb code 0 other)
+stays_other false code other = refl
+
+pub stays_all : (drops : Bool) (code : ℕ) → drops ≡ false → not (drops && eqb code 0) ≡ true
+stays_all drops code e = ap (λ (b : Bool). not (b && eqb code 0)) e
+
+module _ (drops : Bool) (g : List Vertex) (reps : List ℕ) (old new : Keyed) (k r : ℕ)
     (v w : Vertex) (is_v : slice_get g k ≡ Some v) (is_w : slice_get g k ≡ Some w) where
   pub chosen_test : (var : ℕ) (kids key : List ℕ) → w ≡ Test var kids
       → ((var : ℕ) → varies (Test var (map (slice_index reps) kids)) ≡ true)
       → key ≡ key_of (Test var (map (slice_index reps) kids)) → Entered old new key k r
-      → Chosen (slice_index reps) k r old new v
+      → Chosen drops (slice_index reps) k r old new v
   chosen_test var kids key e vary same entered =
       let is_test : v ≡ Test var kids = same_some (slice_get g k) v w is_v is_w ∙ e in
-      subst (Chosen (slice_index reps) k r old new) (sym is_test)
+      subst (Chosen drops (slice_index reps) k r old new) (sym is_test)
       (inr (vary var, subst (λ (q : List ℕ). Entered old new q k r) same entered))
 
-  pub chosen_assign : (result code next to : ℕ) (key : List ℕ) → w ≡ Assign result code next
-      → slice_get reps next ≡ Some to → key ≡ key_of (Assign result code to)
-      → Entered old new key k r → Chosen (slice_index reps) k r old new v
-  chosen_assign result code next to key e is_to same entered =
-      let is_assign : v ≡ Assign result code next = same_some (slice_get g k) v w is_v is_w ∙ e in
-      let rep : to ≡ slice_index reps next = sym (got reps next to is_to) in
-      subst (Chosen (slice_index reps) k r old new) (sym is_assign)
-      (subst (λ (q : List ℕ). Entered old new q k r)
-      (same ∙ ap (λ (n : ℕ). key_of (Assign result code n)) rep) entered)
+  module _ (result code next to : ℕ) (e : w ≡ Assign result code next)
+      (is_to : slice_get reps next ≡ Some to) where
+    rep : to ≡ slice_index reps next
+    rep = sym (got reps next to is_to)
+
+    is_assign : v ≡ Assign result code next
+    is_assign = same_some (slice_get g k) v w is_v is_w ∙ e
+
+    pub chosen_default : drops && eqb code 0 ≡ true → r ≡ to → Same old new
+        → Chosen drops (slice_index reps) k r old new v
+    chosen_default dropped is_r same =
+        subst (Chosen drops (slice_index reps) k r old new) (sym is_assign)
+        (inl (dropped, sym (is_r ∙ rep), same))
+
+    pub chosen_assign : (key : List ℕ) → not (drops && eqb code 0) ≡ true
+        → key ≡ key_of (Assign result code to) → Entered old new key k r
+        → Chosen drops (slice_index reps) k r old new v
+    chosen_assign key stay same entered =
+        subst (Chosen drops (slice_index reps) k r old new) (sym is_assign)
+        (inr (
+          stay,
+          subst (λ (q : List ℕ). Entered old new q k r)
+              (same ∙ ap (λ (n : ℕ). key_of (Assign result code n)) rep) entered,
+        ))

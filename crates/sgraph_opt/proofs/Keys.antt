@@ -1,7 +1,6 @@
 -- Keys and lists, one item more.
 use Rattle.std.proofs.Common.{◌≡◌, ◌≢◌, ⊎_elim, ℕ, zero, suc, ◌+◌, ◌<◌, true, not, List, [], ◌∷◌, ◌++◌, map, length, take, slice_get, slice_index, Some, refl, ap, sym, ◌∙◌, arith}
 use Rattle.std.proofs.lemmas.Bool.{cases_lt, false_from_ne_true}
-use Rattle.sgraph.specs.declared.vertex.Vertex.{Vertex}
 use Rattle.sgraph.specs.declared.vertex.Vertex.TheVariants.{Test}
 use Rattle.sgraph.specs.Graphs.{are_same, varies}
 use Rattle.sgraph_opt.proofs.Again.{index_map, long_map}
@@ -52,26 +51,3 @@ key_more reps kids key more var i x a so_far is_x is_a e =
     ∙ ap (λ (ks : List ℕ). 1 ∷ var ∷ ks) (sym (map_push (slice_index reps) (take i kids) x))
     ∙ ap (λ (ks : List ℕ). 1 ∷ var ∷ map (slice_index reps) ks) (sym (take_one kids i x is_x))
     ∙ ap (λ (n : ℕ). 1 ∷ var ∷ map (slice_index reps) (take n kids)) (sym f)
-
-take_vertex : (vs : List Vertex) (i : ℕ) (v : Vertex) → slice_get vs i ≡ Some v
-    → take (suc i) vs ≡ take i vs ++ v ∷ []
-take_vertex [] i v e = cc
-take_vertex (w ∷ vs) zero v e = let f : w ≡ v = cc in ap (λ (u : Vertex). u ∷ []) f
-take_vertex (w ∷ vs) (suc i) v e = ap (λ (us : List Vertex). w ∷ us) (take_vertex vs i v e)
-
-push_vertex : (f : Vertex → Vertex) (vs : List Vertex) (v : Vertex)
-    → map f (vs ++ v ∷ []) ≡ map f vs ++ f v ∷ []
-push_vertex f [] v = refl
-push_vertex f (w ∷ vs) v = ap (λ (us : List Vertex). f w ∷ us) (push_vertex f vs v)
-
-pub vertex_more : (f : Vertex → Vertex) (g list more : List Vertex) (i : ℕ) (v w : Vertex)
-    → list ≡ map f (take i g) → slice_get g i ≡ Some v → w ≡ f v → more ≡ list ++ w ∷ []
-    → more ≡ map f (take (i + 1) g)
-vertex_more f g list more i v w so_far is is_w e =
-    let n : i + 1 ≡ suc i = omega arith in
-    e
-    ∙ ap (λ (us : List Vertex). us ++ w ∷ []) so_far
-    ∙ ap (λ (u : Vertex). map f (take i g) ++ u ∷ []) is_w
-    ∙ sym (push_vertex f (take i g) v)
-    ∙ ap (map f) (sym (take_vertex g i v is))
-    ∙ ap (λ (k : ℕ). map f (take k g)) (sym n)

@@ -11,6 +11,7 @@ mod Lifting
 mod Lookups
 mod Members
 mod Reducing
+mod Replaced
 mod Rising
 mod Standing
 mod Walking

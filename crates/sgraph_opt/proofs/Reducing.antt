@@ -10,7 +10,7 @@ use Rattle.sgraph.specs.declared.vertex.Vertex.{Vertex}
 use Rattle.sgraph.specs.declared.vertex.Vertex.TheVariants.{Begin, Test, Assign, End}
 use Rattle.sgraph.specs.Facts.{IsGraph}
 use Rattle.sgraph.specs.Graphs.{kids_of, kids_in, kids_at, key_of, are_same, varies, Numbered, Reduced}
-use Rattle.sgraph_opt.specs.Choices.{Shared}
+use Rattle.sgraph_opt.specs.Choices.{stays, Shared}
 use Rattle.sgraph_opt.specs.Renumbering.{vertex_at, all_left, numbered_of, replaced}
 use Rattle.sgraph_opt.specs.Representatives.{renamed, Standing, Dropping}
 use Rattle.sgraph_opt.specs.Smaller.{NoDefaults}
@@ -147,6 +147,12 @@ varies_back f In one (Test var kids) in_v h =
 varies_back f In one (Assign result code next) in_v h = refl
 varies_back f In one End in_v h = refl
 
+stays_varies : (drops : Bool) (v : Vertex) → stays drops v ≡ true → varies v ≡ true
+stays_varies drops (Begin next) h = refl
+stays_varies drops (Test var kids) h = h
+stays_varies drops (Assign result code next) h = refl
+stays_varies drops End h = refl
+
 module _ (g : List Vertex) (reps : List ℕ) (ok : IsGraph g) (numbered : Numbered g)
     (s : Standing g reps 0) where
   abbrev In : ℕ → Type 0
@@ -184,10 +190,10 @@ module _ (g : List Vertex) (reps : List ℕ) (ok : IsGraph g) (numbered : Number
           long_vertices (λ k. renamed (place (all_left (replaced g reps)))
           (vertex_at (replaced g reps) k)) (all_left (replaced g reps)) in omega arith
 
-  once_each : Shared g reps → (i j : ℕ) (v : Vertex)
+  once_each : (drops : Bool) → Shared drops g reps → (i j : ℕ) (v : Vertex)
       → slice_get (numbered_of (replaced g reps)) i ≡ Some v
       → slice_get (numbered_of (replaced g reps)) j ≡ Some v → i ≡ j
-  once_each shared i j v at_i at_j =
+  once_each drops shared i j v at_i at_j =
       let a = origin_of g reps ok numbered s i v at_i in
       let b = origin_of g reps ok numbered s j v at_j in
       let low_i = below (numbered_of (replaced g reps)) i v at_i in
@@ -199,21 +205,22 @@ module _ (g : List Vertex) (reps : List ℕ) (ok : IsGraph g) (numbered : Number
       b.0.itself same in
       sym a.0.place_is ∙ ap (place (all_left (replaced g reps))) one ∙ b.0.place_is
 
-  all_vary : Shared g reps → (j : ℕ) (v : Vertex)
+  all_vary : (drops : Bool) → Shared drops g reps → (j : ℕ) (v : Vertex)
       → slice_get (numbered_of (replaced g reps)) j ≡ Some v → varies v ≡ true
-  all_vary shared j v at_j =
+  all_vary drops shared j v at_j =
       let a = origin_of g reps ok numbered s j v at_j in
       let low = below (numbered_of (replaced g reps)) j v at_j in
       ap varies a.1 ∙ varies_back (place (all_left (replaced g reps))) In one_number
       (renamed (slice_index reps) a.0.vertex) (kids_left j low a.0)
-      (shared.vary a.0.number a.0.vertex a.0.is a.0.itself)
+      (stays_varies drops (renamed (slice_index reps) a.0.vertex)
+      (shared.stay a.0.number a.0.vertex a.0.is a.0.itself))
 
-  pub is_reduced_graph : Shared g reps → Reduced (numbered_of (replaced g reps))
-  is_reduced_graph shared =
+  pub is_reduced_graph : (drops : Bool) → Shared drops g reps → Reduced (numbered_of (replaced g reps))
+  is_reduced_graph drops shared =
       and_from (are_distinct (map key_of (numbered_of (replaced g reps))))
       (list_all varies (numbered_of (replaced g reps)))
-      (distinct_keys (numbered_of (replaced g reps)) (once_each shared))
-      (each_vertex varies (numbered_of (replaced g reps)) (all_vary shared))
+      (distinct_keys (numbered_of (replaced g reps)) (once_each drops shared))
+      (each_vertex varies (numbered_of (replaced g reps)) (all_vary drops shared))
 
   -- ---- no code 0
   pub stay_without : NoDefaults g → NoDefaults (numbered_of (replaced g reps))
@@ -236,3 +243,13 @@ module _ (g : List Vertex) (reps : List ℕ) (ok : IsGraph g) (numbered : Number
       ok.within o.0.number (Assign result code was.0) 0 there (omega arith) in
       let high = (within g ok reps s (length g) was.0 (omega arith) inside).0 in
       not_default g ok reps dropped s o.0.number result code was.0 there o.0.itself (omega arith)
+
+  pub drop_without : Shared true g reps → NoDefaults (numbered_of (replaced g reps))
+  drop_without shared k result code next is =
+      let o = origin_of g reps ok numbered s k (Assign result code next) is in
+      let was = was_assign g reps ok numbered s (place (all_left (replaced g reps)))
+      (slice_index reps) o.0.vertex result code next o.1 in
+      let there : slice_get g o.0.number ≡ Some (Assign result code was.0) =
+      o.0.is ∙ ap (λ (v : Vertex). Some v) was.1 in
+      λ zero_code. true≢false (sym (shared.stay o.0.number (Assign result code was.0) there
+      o.0.itself) ∙ ap not (eq-eqb code 0 zero_code))

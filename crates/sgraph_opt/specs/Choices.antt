@@ -1,22 +1,32 @@
 -- What is to stand for a vertex where equal vertices are joined, by an index of the later vertices
 -- that stand for themselves.
-use Rattle.std.specs.Prelude.{◌≡◌, ◌⊎◌, ℕ, ◌<◌, ◌≤◌, Bool, true, false, List, map, length, slice_get, slice_index, Some, IsTrue}
+use Rattle.std.specs.Prelude.{◌≡◌, ◌⊎◌, ℕ, ◌<◌, ◌≤◌, ◌==◌, ◌&&◌, not, Bool, true, false, List, map, length, slice_get, slice_index, Some, IsTrue}
 use Rattle.sgraph.specs.declared.vertex.Vertex.{Vertex}
 use Rattle.sgraph.specs.declared.vertex.Vertex.TheVariants.{Begin, Test, Assign, End}
 use Rattle.sgraph.specs.Graphs.{key_of, varies}
 use Rattle.sgraph_opt.specs.Found.{Keyed, found, Same, Entered}
 use Rattle.sgraph_opt.specs.Representatives.{renamed, Standing}
 
+-- a vertex that may stand for itself: no test whose children are all the same, and where assignments
+-- of the code 0 are dropped, none of these
+abbrev pub stays : Bool → Vertex → Bool
+stays drops (Begin next) = true
+stays drops (Test var kids) = varies (Test var kids)
+stays drops (Assign result code next) = not (drops && code == 0)
+stays drops End = true
+
 -- r is chosen for vertex k
-abbrev pub Chosen : (ℕ → ℕ) → ℕ → ℕ → Keyed → Keyed → Vertex → Type 0
-Chosen to k r old new (Begin next) = (r ≡ k) × Same old new
-Chosen to k r old new (Test var kids) =
+abbrev pub Chosen : Bool → (ℕ → ℕ) → ℕ → ℕ → Keyed → Keyed → Vertex → Type 0
+Chosen drops to k r old new (Begin next) = (r ≡ k) × Same old new
+Chosen drops to k r old new (Test var kids) =
     (((i : ℕ) → i < length kids → to (slice_index kids i) ≡ r) × Same old new)
     ⊎ (IsTrue (varies (Test var (map to kids)))
     × Entered old new (key_of (Test var (map to kids))) k r)
-Chosen to k r old new (Assign result code next) =
-    Entered old new (key_of (Assign result code (to next))) k r
-Chosen to k r old new End = (r ≡ k) × Same old new
+Chosen drops to k r old new (Assign result code next) =
+    (IsTrue (drops && code == 0) × (to next ≡ r) × Same old new)
+    ⊎ (IsTrue (not (drops && code == 0))
+    × Entered old new (key_of (Assign result code (to next))) k r)
+Chosen drops to k r old new End = (r ≡ k) × Same old new
 
 -- a test or an assignment
 abbrev pub is_inner : Vertex → Bool
@@ -34,26 +44,26 @@ pub record Has (g : List Vertex) (to : ℕ → ℕ) (i r : ℕ) (key : List ℕ)
   pub inner : IsTrue (is_inner vertex)
   pub same : key ≡ key_of (renamed to vertex)
 
--- Each vertex from number i on has one that may stand for it, tests that stand for themselves vary,
+-- Each vertex from number i on has one that may stand for it, those that stand for themselves stay,
 -- and the index has exactly the tests and assignments that stand for themselves.
-pub record Sharing (g : List Vertex) (reps : List ℕ) (index : Keyed) (i : ℕ) : Type 0 where
+pub record Sharing (drops : Bool) (g : List Vertex) (reps : List ℕ) (index : Keyed) (i : ℕ) : Type 0 where
   pub stands : Standing g reps i
-  pub vary :
+  pub stay :
       (k : ℕ) (v : Vertex)
       → i ≤ k
       → slice_get g k ≡ Some v
       → slice_index reps k ≡ k
-      → IsTrue (varies (renamed (slice_index reps) v))
+      → IsTrue (stays drops (renamed (slice_index reps) v))
   pub met : (key : List ℕ) (r : ℕ) → found index key ≡ Some r → Has g (slice_index reps) i r key
   pub all : (key : List ℕ) (r : ℕ) → Has g (slice_index reps) i r key → found index key ≡ Some r
 
--- no two vertices that stand for themselves are equal, and their tests vary
-pub record Shared (g : List Vertex) (reps : List ℕ) : Type 0 where
-  pub vary :
+-- no two vertices that stand for themselves are equal, and they stay
+pub record Shared (drops : Bool) (g : List Vertex) (reps : List ℕ) : Type 0 where
+  pub stay :
       (k : ℕ) (v : Vertex)
       → slice_get g k ≡ Some v
       → slice_index reps k ≡ k
-      → IsTrue (varies (renamed (slice_index reps) v))
+      → IsTrue (stays drops (renamed (slice_index reps) v))
   pub apart :
       (a b : ℕ) (v w : Vertex)
       → slice_get g a ≡ Some v

@@ -4,6 +4,7 @@ ghost use Rattle.std.specs.Str.{bytes_eq};
 ghost use Rattle.sgraph_opt.specs.Found.{found, Entered};
 
 use polis_base::NoMemory;
+use std::alloc::Global;
 use std::collections::HashMap;
 
 pub(crate) type Index = HashMap<Vec<u64>, u64>;
@@ -25,13 +26,18 @@ fn enter(index: &mut Index, key: Vec<u64>, number: u64) -> Result<(), NoMemory>
 }
 
 // The number that stands under a key, or else this one, which is put there.
-pub(crate) fn known_or_new(index: &mut Index, key: Vec<u64>, k: u64) -> Result<u64, NoMemory>
-    ensures { IfOk result (λ r. Entered index.old index.new key.items k r) }
+pub(crate) fn known_or_new(
+    alloc: Global,
+    index: &mut Index,
+    key: &[u64],
+    k: u64,
+) -> Result<u64, NoMemory>
+    ensures { IfOk result (λ r. Entered index.old index.new key.now k r) }
 {
-    match find(index, &key) {
+    match find(index, key) {
         Some(r) => Ok(r),
         None => {
-            enter(index, key, k)?;
+            enter(index, Vec::from_slice(alloc, key)?, k)?;
             Ok(k)
         }
     }

@@ -1,10 +1,11 @@
 // Vertices that are numbered again.
-ghost use Rattle.std.specs.Prelude.{◌≡◌, ◌+◌, ◌<◌, ℕ, true, false, [], length, replicate, slice_index, map, IfOk, OnOk};
+ghost use Rattle.std.specs.Prelude.{◌≡◌, ◌<◌, ℕ, true, length, slice_index, map, IfOk, OnOk};
+ghost use Rattle.sgraph.specs.Facts.{IsGraph};
 ghost use Rattle.sgraph.specs.Graphs.{kids_of, kids_at, left_after, Numbered};
 ghost use Rattle.sgraph.specs.Marks.{turned};
 ghost use Rattle.sgraph_opt.specs.Marks.{MarksOf};
 ghost use Rattle.sgraph_opt.specs.Representatives.{renamed, Standing};
-ghost use Rattle.sgraph_opt.specs.Renumbering.{Rises, all_left, vertex_at, numbered_of, replaced};
+ghost use Rattle.sgraph_opt.specs.Renumbering.{all_left, vertex_at, numbered_of, replaced};
 ghost use Rattle.sgraph_opt.specs.Smaller.{Keeps};
 ghost use Rattle.transition_table.specs.NetworkFacts.{has};
 ghost use Rattle.domains.specs.Orders.{place};
@@ -26,21 +27,30 @@ fn kids(v: &Vertex) -> &[u64]
     }
 }
 
-// Leaves a vertex, after those that follow on it.
-fn leave(h: &VertexList, k: u64, marks: &mut List<bool>, left: &mut Places) -> Result<(), NoMemory>
-    requires vertex { k < length h.now }
-    requires rises { Rises h.now }
-    requires marks { MarksOf (length h.now) marks.old left.old }
+// Leaves a vertex, after what stands for those that follow on it.
+fn leave(
+    g: &Graph,
+    reps: &Places,
+    k: u64,
+    marks: &mut List<bool>,
+    left: &mut Places,
+) -> Result<(), NoMemory>
+    requires graph { IsGraph g.now }
+    requires stands { Standing g.now reps.now 0 }
+    requires vertex { k < length g.now }
+    requires marks { MarksOf (length (replaced g.now reps.now)) marks.old left.old }
     ensures left { OnOk result (turned left.new
-        ≡ left_after (length h.now) (kids_at h.now) (turned left.old) k) }
-    ensures marks { OnOk result (MarksOf (length h.now) marks.new left.new) }
+        ≡ left_after (length (replaced g.now reps.now)) (kids_at (replaced g.now reps.now))
+        (turned left.old) k) }
+    ensures marks { OnOk result (MarksOf (length (replaced g.now reps.now)) marks.new left.new) }
 {
     if *marks.get(k) {
         return Ok(());
     }
-    for kid in kids(h.get(k)) {
-        if !*marks.get(*kid) {
-            leave(h, *kid, marks, left)?;
+    for kid in kids(g.get(k)) {
+        let rep = *reps.get(*kid);
+        if !*marks.get(rep) {
+            leave(g, reps, rep, marks, left)?;
         }
     }
     marks.set(k, true);
@@ -48,15 +58,15 @@ fn leave(h: &VertexList, k: u64, marks: &mut List<bool>, left: &mut Places) -> R
     Ok(())
 }
 
-// The vertices that a walk from the first one leaves, in the order in which it leaves them.
-fn leave_all(alloc: Global, h: &VertexList) -> Result<Places, NoMemory>
-    requires some { 0 < length h.now }
-    requires rises { Rises h.now }
-    ensures { IfOk result (λ left. turned left ≡ all_left h.now) }
+// The vertices that a walk from the first one leaves, in the order in which it leaves them, where
+// each vertex has what stands for its children.
+fn leave_all(alloc: Global, g: &Graph, reps: &Places) -> Result<Places, NoMemory>
+    requires { Standing g.now reps.now 0 }
+    ensures { IfOk result (λ left. turned left ≡ all_left (replaced g.now reps.now)) }
 {
-    let mut marks = List::filled(alloc, h.len(), false)?;
+    let mut marks = List::filled(alloc, g.len(), false)?;
     let mut left = Places::new(alloc);
-    leave(h, 0, &mut marks, &mut left)?;
+    leave(g, reps, 0, &mut marks, &mut left)?;
     Ok(left)
 }
 
@@ -75,105 +85,99 @@ fn numbers_of(alloc: Global, count: u64, left: &Places) -> Result<Places, NoMemo
     Ok(numbers)
 }
 
-// The new numbers of vertices.
-fn kid_numbers(alloc: Global, kids: &Places, numbers: &Places) -> Result<Places, NoMemory>
-    requires { (j : ℕ) → j < length kids.now → slice_index kids.now j < length numbers.now }
-    ensures { IfOk result (λ list. list ≡ map (slice_index numbers.now) kids.now) }
+// The new number of what stands for a vertex.
+fn number_of(k: u64, reps: &Places, numbers: &Places) -> u64
+    requires within { k < length reps.now }
+    requires rep { slice_index reps.now k < length numbers.now }
+    ensures { result ≡ slice_index numbers.now (slice_index reps.now k) }
+{
+    *numbers.get(*reps.get(k))
+}
+
+// The new numbers of what stands for vertices.
+fn kid_numbers(
+    alloc: Global,
+    kids: &Places,
+    reps: &Places,
+    numbers: &Places,
+) -> Result<Places, NoMemory>
+    requires within { (j : ℕ) → j < length kids.now → slice_index kids.now j < length reps.now }
+    requires reps { (j : ℕ) → j < length kids.now
+        → slice_index reps.now (slice_index kids.now j) < length numbers.now }
+    ensures { IfOk result (λ list. list
+        ≡ map (λ k. slice_index numbers.now (slice_index reps.now k)) kids.now) }
 {
     let mut list = Places::from_slice(alloc, kids.as_slice())?;
     for j in 0..kids.len() {
-        list.set(j, *numbers.get(*kids.get(j)));
+        list.set(j, number_of(*kids.get(j), reps, numbers));
     }
     Ok(list)
 }
 
-// A vertex with other numbers for its children.
-pub(crate) fn rename(alloc: Global, v: &Vertex, numbers: &Places) -> Result<Vertex, NoMemory>
-    requires { (j : ℕ) → j < length (kids_of v.now)
-        → slice_index (kids_of v.now) j < length numbers.now }
-    ensures { IfOk result (λ w. w ≡ renamed (slice_index numbers.now) v.now) }
+// A vertex with the new numbers of what stands for its children.
+fn rename(alloc: Global, v: &Vertex, reps: &Places, numbers: &Places) -> Result<Vertex, NoMemory>
+    requires within { (j : ℕ) → j < length (kids_of v.now)
+        → slice_index (kids_of v.now) j < length reps.now }
+    requires reps { (j : ℕ) → j < length (kids_of v.now)
+        → slice_index reps.now (slice_index (kids_of v.now) j) < length numbers.now }
+    ensures { IfOk result
+        (λ w. w ≡ renamed (λ k. slice_index numbers.now (slice_index reps.now k)) v.now) }
 {
     match v {
-        Vertex::Begin { next } => {
-            let next = *numbers.get(*next);
-            Ok(Vertex::Begin { next })
-        }
-        Vertex::Test { var, kids } => {
-            let kids = kid_numbers(alloc, kids, numbers)?;
-            Ok(Vertex::Test { var: *var, kids })
-        }
-        Vertex::Assign { result, code, next } => {
-            let next = *numbers.get(*next);
-            Ok(Vertex::Assign {
-                result: *result,
-                code: *code,
-                next,
-            })
-        }
+        Vertex::Begin { next } => Ok(Vertex::Begin {
+            next: number_of(*next, reps, numbers),
+        }),
+        Vertex::Test { var, kids } => Ok(Vertex::Test {
+            var: *var,
+            kids: kid_numbers(alloc, kids, reps, numbers)?,
+        }),
+        Vertex::Assign { result, code, next } => Ok(Vertex::Assign {
+            result: *result,
+            code: *code,
+            next: number_of(*next, reps, numbers),
+        }),
         Vertex::End => Ok(Vertex::End),
     }
 }
 
-// The vertices that were left, the last one first, with their new numbers.
+// The vertices that were left, the last one first, with the new numbers of what stands for their
+// children.
 fn arrange(
     alloc: Global,
-    h: &VertexList,
+    g: &Graph,
+    reps: &Places,
     left: &Places,
     numbers: &Places,
 ) -> Result<VertexList, NoMemory>
-    requires left { (i : ℕ) → i < length left.now → slice_index left.now i < length h.now }
-    requires rises { Rises h.now }
-    requires numbers { length numbers.now ≡ length h.now }
+    requires graph { IsGraph g.now }
+    requires stands { Standing g.now reps.now 0 }
+    requires left { (i : ℕ) → i < length left.now → slice_index left.now i < length g.now }
+    requires numbers { length numbers.now ≡ length g.now }
     ensures { IfOk result (λ vertices.
-        vertices ≡ map (λ k. renamed (slice_index numbers.now) (vertex_at h.now k))
-        (turned left.now)) }
+        vertices ≡ map (λ k. renamed (slice_index numbers.now)
+        (vertex_at (replaced g.now reps.now) k)) (turned left.now)) }
 {
     let mut vertices = VertexList::new(alloc);
     for i in (0..left.len()).rev() {
         let k = *left.get(i);
-        let w = h.get(k);
-        let v = rename(alloc, w, numbers)?;
+        let v = rename(alloc, g.get(k), reps, numbers)?;
         vertices.push(v)?;
     }
     vertices.shrink();
     Ok(vertices)
 }
 
-// The vertices that are reached from the first one, numbered again in the reverse of the order in
-// which a walk leaves them.
-pub(crate) fn number_again(alloc: Global, h: &VertexList) -> Result<VertexList, NoMemory>
-    requires some { 0 < length h.now }
-    requires rises { Rises h.now }
-    ensures { IfOk result (λ vertices. vertices ≡ numbered_of h.now) }
-{
-    let left = leave_all(alloc, h)?;
-    let numbers = numbers_of(alloc, h.len(), &left)?;
-    let vertices = arrange(alloc, h, &left, &numbers)?;
-    Ok(vertices)
-}
-
-// The vertices with what stands for their children.
-fn replaced(alloc: Global, g: &Graph, reps: &Places) -> Result<VertexList, NoMemory>
-    requires { length reps.now ≡ length g.now }
-    ensures { IfOk result (λ list. list ≡ replaced g.now reps.now) }
-{
-    let mut list = VertexList::new(alloc);
-    for k in 0..g.len() {
-        let v = rename(alloc, g.get(k), reps)?;
-        list.push(v)?;
-    }
-    Ok(list)
-}
-
-// The graph of what stands for the vertices, numbered again.
+// The graph of what stands for the vertices that are reached from the first one, numbered again in
+// the reverse of the order in which a walk leaves them.
 pub(crate) fn renumbered(alloc: Global, g: &Graph, reps: &Places) -> Result<Graph, NoMemory>
     requires numbered { Numbered g.now }
     requires stands { Standing g.now reps.now 0 }
     ensures list { IfOk result (λ h. h ≡ numbered_of (replaced g.now reps.now)) }
     ensures keeps { IfOk result (λ h. Keeps g.now h) }
 {
-    let _ = g.len();
-    let list = replaced(alloc, g, reps)?;
-    let list = number_again(alloc, &list)?;
-    Ok(Graph::of(list))
+    let count = g.len();
+    let left = leave_all(alloc, g, reps)?;
+    let numbers = numbers_of(alloc, count, &left)?;
+    let vertices = arrange(alloc, g, reps, &left, &numbers)?;
+    Ok(Graph::of(vertices))
 }

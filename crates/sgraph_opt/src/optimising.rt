@@ -3,8 +3,8 @@ ghost use Rattle.std.specs.Prelude.{IfOk};
 ghost use Rattle.sgraph.specs.Graphs.{Numbered, Reduced};
 ghost use Rattle.sgraph_opt.specs.Smaller.{Keeps, NoDefaults};
 
-use crate::dropping::drop_defaults;
-use crate::sharing::share;
+use crate::numbering::renumbered;
+use crate::sharing::all_shared;
 use polis_base::NoMemory;
 use sgraph::Graph;
 use std::alloc::Global;
@@ -18,7 +18,8 @@ pub fn optimise(alloc: Global, g: &Graph) -> Result<Graph, NoMemory>
     ensures reduced { IfOk result (λ h. Reduced h) }
     ensures defaults { IfOk result (λ h. NoDefaults h) }
 {
-    let smaller = drop_defaults(alloc, g)?;
-    let h = share(alloc, &smaller)?;
+    let _ = g.len();
+    let reps = all_shared(alloc, g, true)?;
+    let h = renumbered(alloc, g, &reps)?;
     Ok(h)
 }

@@ -1,5 +1,5 @@
 // Equal vertices are joined, and tests are left out whose children are one.
-ghost use Rattle.std.specs.Prelude.{◌≡◌, ◌<◌, ℕ, ◌∷◌, [], map, length, slice_get, slice_index, Some, IfOk, IfSome, IfNone, IsTrue};
+ghost use Rattle.std.specs.Prelude.{◌≡◌, ◌<◌, ℕ, map, length, slice_get, slice_index, Some, IfOk, OnOk, IfSome, IfNone, IsTrue};
 ghost use Rattle.sgraph.specs.declared.vertex.Vertex.{Vertex};
 ghost use Rattle.sgraph.specs.declared.vertex.Vertex.TheVariants.{Test, Assign};
 ghost use Rattle.sgraph.specs.Graphs.{key_of, varies, Numbered, Reduced};
@@ -33,47 +33,45 @@ fn one_kid(kids: &Places, reps: &Places) -> Option<u64>
     Some(first)
 }
 
-// A test with what stands for its children, as a key.
-fn test_key(alloc: Global, var: u32, kids: &Places, reps: &Places) -> Result<Vec<u64>, NoMemory>
+// Makes a key of a test with what stands for its children.
+fn test_key(var: u32, kids: &Places, reps: &Places, key: &mut Vec<u64>) -> Result<(), NoMemory>
     requires { (i : ℕ) → i < length kids.now → slice_index kids.now i < length reps.now }
-    ensures { IfOk result (λ key. key.items
+    ensures { OnOk result (key.new.items
         ≡ key_of (Test var (map (slice_index reps.now) kids.now))) }
 {
-    let mut key = Vec::with_capacity(alloc, kids.as_slice().len() + 2)?;
+    key.clear();
     key.push(1)?;
     key.push(u64::from(var))?;
     for i in 0..kids.len() {
         let number = *reps.get(*kids.get(i));
         key.push(number)?;
     }
-    Ok(key)
+    Ok(())
 }
 
 // An assignment with what stands for its child, as a key.
-fn assign_key(alloc: Global, y: u32, code: u8, next: u64) -> Result<Vec<u64>, NoMemory>
-    ensures { IfOk result (λ key. key.items ≡ key_of (Assign y code next)) }
+fn assign_key(y: u32, code: u8, next: u64) -> [u64; 4]
+    ensures { result ≡ key_of (Assign y code next) }
 {
-    let mut key = Vec::with_capacity(alloc, 4)?;
-    key.push(2)?;
-    key.push(u64::from(y))?;
-    key.push(u64::from(code))?;
-    key.push(next)?;
-    Ok(key)
+    [2, u64::from(y), u64::from(code), next]
 }
 
 // What stands for a vertex, where the later ones have what stands for them: what stands for all its
-// children, a later vertex that is equal with what stands for the children, or itself.
+// children, a later vertex that is equal with what stands for the children, or itself. Where
+// assignments of the code 0 are dropped, what stands for the child of one.
 fn shared(
     alloc: Global,
     g: &Graph,
     k: u64,
     reps: &Places,
+    drops: bool,
+    key: &mut Vec<u64>,
     index: &mut Index,
 ) -> Result<u64, NoMemory>
     requires long { length reps.now ≡ length g.now }
     requires k { k < length g.now }
     ensures { IfOk result (λ r. (v : Vertex) → slice_get g.now k ≡ Some v
-        → Chosen (slice_index reps.now) k r index.old index.new v) }
+        → Chosen drops (slice_index reps.now) k r index.old index.new v) }
 {
     let _ = g.len();
     let v = g.get(k);
@@ -83,8 +81,8 @@ fn shared(
             if let Some(r) = one_kid(kids, reps) {
                 return Ok(r);
             }
-            let key = test_key(alloc, *var, kids, reps)?;
-            let r = known_or_new(index, key, k)?;
+            test_key(*var, kids, reps, key)?;
+            let r = known_or_new(alloc, index, key, k)?;
             Ok(r)
         }
         Vertex::Assign {
@@ -93,23 +91,26 @@ fn shared(
             next,
         } => {
             let next = *reps.get(*next);
-            let key = assign_key(alloc, *y, *code, next)?;
-            let r = known_or_new(index, key, k)?;
+            if drops && *code == 0 {
+                return Ok(next);
+            }
+            let r = known_or_new(alloc, index, &assign_key(*y, *code, next), k)?;
             Ok(r)
         }
         Vertex::End => Ok(k),
     }
 }
 
-// What stands for each vertex.
-fn all_shared(alloc: Global, g: &Graph) -> Result<Places, NoMemory>
+// What stands for each vertex, where assignments of the code 0 may be dropped.
+pub(crate) fn all_shared(alloc: Global, g: &Graph, drops: bool) -> Result<Places, NoMemory>
     ensures stands { IfOk result (λ reps. Standing g.now reps 0) }
-    ensures shared { IfOk result (λ reps. Shared g.now reps) }
+    ensures shared { IfOk result (λ reps. Shared drops g.now reps) }
 {
     let mut index = HashMap::with_capacity(alloc, g.len() as usize)?;
+    let mut key = Vec::new(alloc);
     let mut reps = Places::filled(alloc, g.len(), 0)?;
     for k in (0..g.len()).rev() {
-        let r = shared(alloc, g, k, &reps, &mut index)?;
+        let r = shared(alloc, g, k, &reps, drops, &mut key, &mut index)?;
         reps.set(k, r);
     }
     Ok(reps)
@@ -123,7 +124,7 @@ pub fn share(alloc: Global, g: &Graph) -> Result<Graph, NoMemory>
     ensures defaults { NoDefaults g.now → IfOk result (λ h. NoDefaults h) }
 {
     let _ = g.len();
-    let reps = all_shared(alloc, g)?;
+    let reps = all_shared(alloc, g, false)?;
     let h = renumbered(alloc, g, &reps)?;
     Ok(h)
 }

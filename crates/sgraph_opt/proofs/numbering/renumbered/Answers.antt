@@ -1,37 +1,64 @@
-use Rattle.std.proofs.Common.{◌<◌, ◌∙◌, List, length, subst, sym, ap}
-use Rattle.sgraph.specs.declared.vertex.Vertex.{Vertex}
+use Rattle.std.proofs.Common.{◌∙◌, subst, sym, arith}
 use Rattle.sgraph.specs.Facts.{IsGraph}
-use Rattle.sgraph_opt.specs.Renumbering.{Rises, numbered_of}
+use Rattle.sgraph_opt.specs.Renumbering.{replaced}
 use Rattle.sgraph_opt.specs.Smaller.{Keeps}
+use Rattle.sgraph_opt.proofs.Arranging.{all_inside, is_numbered_of}
 use Rattle.sgraph_opt.proofs.Kept.{is_graph, keeps}
+use Rattle.sgraph_opt.proofs.Replaced.{long_replaced}
 use Rattle.sgraph_opt.proofs.Standing.{some_vertex, rises}
 use Rattle.sgraph_opt.proofs.numbering.renumbered.Goals as goal
 
-pub number_again-requires : goal.number_again-requires
-number_again-requires c =
+pub numbers_of-requires : goal.numbers_of-requires
+numbers_of-requires c = λ i low.
     let g = c.args.g.now in
     let reps = c.args.reps.now in
-    let ok = c.len.ensures.graph in
-    let same = c.in_ok-list.ensures in
+    let ok = c.len-count.ensures.graph in
+    let len = c.len-count.ensures.len in
+    let long = long_replaced g reps in
+    let inside = all_inside (replaced g reps) (rises g ok reps c.requires.stands)
+    (some_vertex g ok reps c.requires.stands) c.in_ok-left.left c.in_ok-left.ensures i low in
+    omega arith
+
+pub arrange-requires : goal.arrange-requires
+arrange-requires c =
+    let g = c.args.g.now in
+    let reps = c.args.reps.now in
+    let ok = c.len-count.ensures.graph in
+    let len = c.len-count.ensures.len in
+    let long = long_replaced g reps in
+    let each = c.in_ok-numbers.ensures.long in
     record {
-      some = subst (λ (h : List Vertex). 0 < length h) (sym same)
-          (some_vertex g ok reps c.requires.stands);
-      rises = subst Rises (sym same) (rises g ok reps c.requires.stands);
+      graph = ok;
+      stands = c.requires.stands;
+      left = λ i low.
+          let inside = all_inside (replaced g reps) (rises g ok reps c.requires.stands)
+          (some_vertex g ok reps c.requires.stands) c.in_ok-left.left c.in_ok-left.ensures i low in
+          omega arith;
+      numbers = omega arith;
     }
 
 pub of-requires : goal.of-requires
 of-requires c =
-    let same = c.in_ok-list-2.ensures ∙ ap numbered_of c.in_ok-list.ensures in
-    subst IsGraph (sym same)
-    (is_graph c.args.g.now c.args.reps.now c.len.ensures.graph c.requires.numbered
-    c.requires.stands)
+    let g = c.args.g.now in
+    let reps = c.args.reps.now in
+    let ok = c.len-count.ensures.graph in
+    subst IsGraph (sym (is_numbered_of (replaced g reps) (rises g ok reps c.requires.stands)
+    (some_vertex g ok reps c.requires.stands) c.in_ok-left.left c.in_ok-numbers.numbers
+    c.in_ok-vertices.vertices c.in_ok-left.ensures c.in_ok-numbers.ensures.each
+    c.in_ok-vertices.ensures))
+    (is_graph g reps ok c.requires.numbered c.requires.stands)
 
 pub returns : goal.returns
 returns c =
-    let same = c.of.ensures ∙ c.in_ok-list-2.ensures ∙ ap numbered_of c.in_ok-list.ensures in
+    let g = c.args.g.now in
+    let reps = c.args.reps.now in
+    let ok = c.len-count.ensures.graph in
+    let same = c.of.ensures
+    ∙ is_numbered_of (replaced g reps) (rises g ok reps c.requires.stands)
+    (some_vertex g ok reps c.requires.stands) c.in_ok-left.left c.in_ok-numbers.numbers
+    c.in_ok-vertices.vertices c.in_ok-left.ensures c.in_ok-numbers.ensures.each
+    c.in_ok-vertices.ensures in
     record {
       list = same;
-      keeps = subst (Keeps c.args.g.now) (sym same)
-          (keeps c.args.g.now c.args.reps.now c.len.ensures.graph c.requires.numbered
-          c.requires.stands);
+      keeps = subst (Keeps g) (sym same) (keeps g reps ok c.requires.numbered c.requires.stands);
     }

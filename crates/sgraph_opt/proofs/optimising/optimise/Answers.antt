@@ -1,20 +1,17 @@
-use Rattle.std.proofs.Common.{List, ◌∙◌, arith}
-use Rattle.sgraph.specs.declared.vertex.Vertex.{Vertex}
-use Rattle.sgraph_opt.specs.Smaller.{Keeps}
+use Rattle.std.proofs.Common.{subst, sym, true}
+use Rattle.sgraph.specs.Graphs.{Reduced}
+use Rattle.sgraph_opt.specs.Smaller.{NoDefaults}
+use Rattle.sgraph_opt.proofs.Reducing.{is_reduced_graph, drop_without}
 use Rattle.sgraph_opt.proofs.optimising.optimise.Goals as goal
 
-both : (f g h : List Vertex) → Keeps f g → Keeps g h → Keeps f h
-both f g h a b = record {
-  fits_machine = λ m fit. b.fits_machine m (a.fits_machine m fit);
-  evaluates = λ m s fit codes. b.evaluates m s (a.fits_machine m fit) codes
-      ∙ a.evaluates m s fit codes;
-  ordered = λ n order goes. b.ordered n order (a.ordered n order goes);
-  once = λ goes. b.once (a.once goes);
-  fewer = let p = a.fewer in let q = b.fewer in omega arith;
-  numbered = b.numbered;
-}
+pub returns-clause-reduced : goal.returns-clause-reduced
+returns-clause-reduced c =
+    subst Reduced (sym c.in_ok-h.ensures.list)
+    (is_reduced_graph c.args.g.now c.in_ok-reps.reps c.len.ensures.graph c.requires
+    c.in_ok-reps.ensures.stands true c.in_ok-reps.ensures.shared)
 
-pub returns-clause-keeps : goal.returns-clause-keeps
-returns-clause-keeps c =
-    both c.args.g.now c.in_ok-smaller.smaller c.in_ok-h.h c.in_ok-smaller.ensures.keeps
-    c.in_ok-h.ensures.keeps
+pub returns-clause-defaults : goal.returns-clause-defaults
+returns-clause-defaults c =
+    subst NoDefaults (sym c.in_ok-h.ensures.list)
+    (drop_without c.args.g.now c.in_ok-reps.reps c.len.ensures.graph c.requires
+    c.in_ok-reps.ensures.stands c.in_ok-reps.ensures.shared)

@@ -6,7 +6,7 @@ use Rattle.sgraph_opt.proofs.sharing.all_shared.Goals as goal
 
 pub loop-k-init : goal.loop-k-init
 loop-k-init c =
-    sharing_start c.args.g.now c.in_ok-reps.reps c.in_ok-index.index c.len-k.result c.len-2.result
+    sharing_start c.args.drops c.args.g.now c.in_ok-reps.reps c.in_ok-index.index c.len-k.result c.len-2.result
     c.in_ok-reps.ensures c.len-2.ensures.len c.len-k.ensures.len
     (found_none c.in_ok-index.index c.in_ok-index.ensures.empty)
 
@@ -15,7 +15,7 @@ loop-k-preserved c =
     let some = c.loop-k-test.true in
     let high = c.loop-k.auto.k in
     let len = c.len-k.ensures.len in
-    sharing_more c.args.g.now c.len.ensures.graph c.loop-k.reps c.set.new.self c.loop-k.index
+    sharing_more c.args.drops c.args.g.now c.len.ensures.graph c.loop-k.reps c.set.new.self c.loop-k.index
     c.shared.new.index c.loop-k.k (c.loop-k.k - 1) c.in_ok-r.r c.loop-k.invariant (omega arith)
     (omega arith) c.in_ok-r.ensures c.set.ensures
 
@@ -23,5 +23,5 @@ pub returns-clause-shared : goal.returns-clause-shared
 returns-clause-shared c =
     let stop = c.loop-k-test.false in
     let zero_k : c.loop-k.k ≡ 0 = omega arith in
-    sharing_shared c.args.g.now c.loop-k.reps c.loop-k.index c.len.ensures.graph
-    (subst (Sharing c.args.g.now c.loop-k.reps c.loop-k.index) zero_k c.loop-k.invariant)
+    sharing_shared c.args.drops c.args.g.now c.loop-k.reps c.loop-k.index c.len.ensures.graph
+    (subst (Sharing c.args.drops c.args.g.now c.loop-k.reps c.loop-k.index) zero_k c.loop-k.invariant)

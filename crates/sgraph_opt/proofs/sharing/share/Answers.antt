@@ -1,4 +1,4 @@
-use Rattle.std.proofs.Common.{subst, sym}
+use Rattle.std.proofs.Common.{false, subst, sym}
 use Rattle.sgraph.specs.Graphs.{Reduced}
 use Rattle.sgraph_opt.specs.Smaller.{NoDefaults}
 use Rattle.sgraph_opt.proofs.Reducing.{is_reduced_graph, stay_without}
@@ -8,7 +8,7 @@ pub returns-clause-reduced : goal.returns-clause-reduced
 returns-clause-reduced c =
     subst Reduced (sym c.in_ok-h.ensures.list)
     (is_reduced_graph c.args.g.now c.in_ok-reps.reps c.len.ensures.graph c.requires
-    c.in_ok-reps.ensures.stands c.in_ok-reps.ensures.shared)
+    c.in_ok-reps.ensures.stands false c.in_ok-reps.ensures.shared)
 
 pub returns-clause-defaults : goal.returns-clause-defaults
 returns-clause-defaults c = λ without.

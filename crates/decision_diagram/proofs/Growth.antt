@@ -1,13 +1,13 @@
 -- Stores with more nodes.
 use Rattle.std.proofs.Common.{◌≡◌, ◌⊎◌, inl, inr, ⊎_elim, ℕ, ◌+◌, ◌-◌, true, cond, eqb, List, [], ◌∷◌, ◌++◌, length, take, slice_index, Some, None, refl, sym, ap, ◌∙◌, subst, arith}
+use Rattle.std.specs.Cmp.Lexicographic.{bytes_decides}
 use Rattle.std.specs.Str.{bytes_eq}
 use Rattle.std.proofs.lemmas.Bool.{cases_lt, cases_Bool, cond-true, cond-false}
 use Rattle.std.proofs.lemmas.List.{length_push, take_at}
 use Rattle.decision_diagram.specs.declared.node.Node.{Node}
-use Rattle.decision_diagram.specs.Found.{Numbered, found}
+use Rattle.polis_base.specs.Index.{Keyed, found}
 use Rattle.decision_diagram.specs.Diagrams.{Diagrams, inner_at, shape_in, kids_in, level_in, level_of, IsNode, IsReducedNode, AreReduced, Keeps, IsNew}
 use Rattle.decision_diagram.specs.Stores.{IsIndexed}
-use Rattle.decision_diagram.proofs.Lookups.{bytes_same, bytes_self}
 use Rattle.decision_diagram.proofs.Nodes.{inner_prefix, inner_last, inner_within}
 use Rattle.decision_diagram.proofs.Values.{follow_prefix}
 
@@ -136,21 +136,21 @@ reduced_more s ok node new = record {
 key_parts : (v w : ℕ) (xs ys : List ℕ) → v ∷ xs ≡ w ∷ ys → (v ≡ w) × (xs ≡ ys)
 key_parts v w xs ys h = (cc, cc)
 
-pub indexed_same : (nodes : List Node) (old new : Numbered) → IsIndexed nodes old
+pub indexed_same : (nodes : List Node) (old new : Keyed) → IsIndexed nodes old
     → ((q : List ℕ) → found new q ≡ found old q) → IsIndexed nodes new
 indexed_same nodes old new ok same = record {
   known = λ n node is. same (node.var ∷ node.kids) ∙ ok.known n node is;
   entered = λ key n is. ok.entered key n (sym (same key) ∙ is);
 }
 
-pub indexed_none : (index : Numbered) → ((q : List ℕ) → found index q ≡ None)
+pub indexed_none : (index : Keyed) → ((q : List ℕ) → found index q ≡ None)
     → IsIndexed [] index
 indexed_none index none = record {
   known = λ n node is. let w = inner_within [] n node is in absurd (omega (arith, w.0, w.1));
   entered = λ key n is. absurd (let e : None ≡ Some n = sym (none key) ∙ is in cc);
 }
 
-pub indexed_more : (s : Diagrams) (node : Node) (old new : Numbered) (key : List ℕ)
+pub indexed_more : (s : Diagrams) (node : Node) (old new : Keyed) (key : List ℕ)
     (number : ℕ) → IsIndexed s.nodes old → IsNew s node → key ≡ node.var ∷ node.kids
     → number ≡ length s.nodes + 2
     → ((q : List ℕ) → found new q ≡ cond (bytes_eq key q) (Some number) (found old q))
@@ -162,7 +162,7 @@ indexed_more s node old new key number ok fresh key_is number_is after = record 
       ⊎_elim
       (λ same.
       let parts = key_parts other.var node.var other.kids node.kids
-      (sym (bytes_same key (other.var ∷ other.kids) same) ∙ key_is) in
+      (sym ((bytes_decides key (other.var ∷ other.kids)).0 same) ∙ key_is) in
       absurd (fresh.fresh n other earlier parts.0 parts.1))
       (λ apart. after (other.var ∷ other.kids)
       ∙ cond-false (bytes_eq key (other.var ∷ other.kids)) (Some number)
@@ -171,7 +171,7 @@ indexed_more s node old new key number ok fresh key_is number_is after = record 
       (λ now.
       let here : bytes_eq key (other.var ∷ other.kids) ≡ true =
       subst (λ (x : Node). bytes_eq key (x.var ∷ x.kids) ≡ true) (sym now.1)
-      (subst (λ (q : List ℕ). bytes_eq key q ≡ true) key_is (bytes_self key)) in
+      (subst (λ (q : List ℕ). bytes_eq key q ≡ true) key_is ((bytes_decides key key).1 refl)) in
       after (other.var ∷ other.kids) ∙ cond-true (bytes_eq key (other.var ∷ other.kids))
       (Some number) (found old (other.var ∷ other.kids)) here ∙ ap Some (number_is ∙ sym now.0))
       (cases_node s node n other is);
@@ -181,7 +181,7 @@ indexed_more s node old new key number ok fresh key_is number_is after = record 
       let e : Some number ≡ Some n =
       sym (after q ∙ cond-true (bytes_eq key q) (Some number) (found old q) same) ∙ is in
       let f : number ≡ n = cc in
-      (node, inner_last s.nodes node n (sym f ∙ number_is), sym (bytes_same key q same) ∙ key_is))
+      (node, inner_last s.nodes node n (sym f ∙ number_is), sym ((bytes_decides key q).0 same) ∙ key_is))
       (λ apart.
       let w = ok.entered q n
       (sym (after q ∙ cond-false (bytes_eq key q) (Some number) (found old q) apart) ∙ is) in
@@ -191,7 +191,7 @@ indexed_more s node old new key number ok fresh key_is number_is after = record 
 }
 
 -- the node that the index names
-pub indexed_node : (s : Diagrams) (index : Numbered) (var : ℕ) (kids key : List ℕ)
+pub indexed_node : (s : Diagrams) (index : Keyed) (var : ℕ) (kids key : List ℕ)
     (n : ℕ) → IsIndexed s.nodes index → key ≡ var ∷ kids → found index key ≡ Some n
     → (node : Node) × (inner_at s.nodes n ≡ Some node) × (node.var ≡ var) × (node.kids ≡ kids)
 indexed_node s index var kids key n ok key_is is =
@@ -200,7 +200,7 @@ indexed_node s index var kids key n ok key_is is =
     (w.0, w.1, parts.0, parts.1)
 
 -- what the index hasn't is no inner node
-pub indexed_fresh : (s : Diagrams) (index : Numbered) (var : ℕ) (kids key : List ℕ)
+pub indexed_fresh : (s : Diagrams) (index : Keyed) (var : ℕ) (kids key : List ℕ)
     → IsIndexed s.nodes index → key ≡ var ∷ kids → found index key ≡ None → (n : ℕ) (other : Node)
     → inner_at s.nodes n ≡ Some other → other.var ≡ var → other.kids ≡ kids → ⊥
 indexed_fresh s index var kids key ok key_is none n other is same_var same_kids =
@@ -212,7 +212,7 @@ indexed_fresh s index var kids key ok key_is none n other is same_var same_kids 
 
 -- a store that got one more inner node
 pub store_more : (s : Diagrams) (node : Node) (nodes : List Node)
-    (old new : Numbered) (key : List ℕ) (number : ℕ) → AreReduced s
+    (old new : Keyed) (key : List ℕ) (number : ℕ) → AreReduced s
     → IsIndexed s.nodes old → IsNew s node → nodes ≡ s.nodes ++ node ∷ []
     → key ≡ node.var ∷ node.kids → number ≡ length s.nodes + 2
     → ((q : List ℕ) → found new q ≡ cond (bytes_eq key q) (Some number) (found old q))
@@ -225,7 +225,7 @@ store_more s node nodes old new key number ok indexed fresh is key_is number_is 
 )
 
 -- a store that is as before, under another index with the same numbers
-pub store_same : (s : Diagrams) (nodes : List Node) (old new : Numbered)
+pub store_same : (s : Diagrams) (nodes : List Node) (old new : Keyed)
     → AreReduced s → IsIndexed s.nodes old → nodes ≡ s.nodes
     → ((q : List ℕ) → found new q ≡ found old q)
     → AreReduced (record { sizes = s.sizes; order = s.order; nodes = nodes }) × IsIndexed nodes new

@@ -1,5 +1,4 @@
 pub mod Places
-pub mod Lookups
 pub mod Lists
 pub mod Nodes
 pub mod Values

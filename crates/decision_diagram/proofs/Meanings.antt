@@ -6,7 +6,7 @@ use Rattle.domains.specs.Tables.{fits}
 use Rattle.decision_diagram.specs.declared.node.Node.{Node}
 use Rattle.decision_diagram.specs.declared.node.Shape.TheVariants.{Inner}
 use Rattle.decision_diagram.specs.Constants.{constant_node}
-use Rattle.decision_diagram.specs.Found.{Numbered, found}
+use Rattle.polis_base.specs.Index.{Keyed, found}
 use Rattle.domains.specs.Orders.{place}
 use Rattle.decision_diagram.specs.Stores.{IsIndexed}
 use Rattle.decision_diagram.specs.Diagrams.{Diagrams, inner_at, shape_in, shape_of, level_in, level_of, IsNode, value_of, AreReduced, Keeps, IsNew, Means, choice}
@@ -98,7 +98,7 @@ level_new s node n is = let e =
 
 -- a node that the index hasn't, and whose children differ, may be made
 pub new_node : (s : Diagrams) → AreReduced s
-    → (index : Numbered) (var : ℕ) (kids key : List ℕ) → IsIndexed s.nodes index
+    → (index : Keyed) (var : ℕ) (kids key : List ℕ) → IsIndexed s.nodes index
     → key ≡ var ∷ kids → found index key ≡ None → var < length s.sizes
     → length kids ≡ slice_index s.sizes var
     → ((code : ℕ) → code < length kids → IsNode s (slice_index kids code))

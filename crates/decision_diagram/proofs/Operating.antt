@@ -1,18 +1,18 @@
 -- Conjunction and disjunction of values.
 use Rattle.std.proofs.Common.{◌≡◌, ◌⊎◌, ⊎_elim, ℕ, ◌+◌, ◌<◌, ◌≤◌, Bool, true, false, not, cond, List, [], ◌∷◌, ◌++◌, min, length, slice_index, Some, None, Result, Ok, Err, OnOk, OnErr, IsTrue, refl, sym, ap, ◌∙◌, subst, arith}
+use Rattle.std.specs.Cmp.Lexicographic.{bytes_decides}
 use Rattle.std.specs.Str.{bytes_eq}
 use Rattle.std.proofs.lemmas.Bool.{cases_lt, cases_Bool, cond-true, cond-false}
 use Rattle.std.proofs.lemmas.List.{get_or_append_left, get_or_push, length_push}
 use Rattle.domains.specs.Tables.{fits}
 use Rattle.decision_diagram.specs.declared.operation.Operation.{Operation}
 use Rattle.decision_diagram.specs.declared.operation.Operation.TheVariants.{And, Or}
-use Rattle.decision_diagram.specs.Found.{Numbered, found}
+use Rattle.polis_base.specs.Index.{Keyed, found}
 use Rattle.decision_diagram.specs.Constants.{constant_node}
 use Rattle.domains.specs.Orders.{place}
 use Rattle.decision_diagram.specs.Diagrams.{Diagrams, IsNode, value_of, level_of, Keeps, Means, choice}
 use Rattle.decision_diagram.specs.Operations.{combine, IsResult, AreResults}
 use Rattle.decision_diagram.proofs.Fitting.{fits_at}
-use Rattle.decision_diagram.proofs.Lookups.{bytes_same}
 use Rattle.decision_diagram.proofs.Growth.{keeps_level}
 use Rattle.decision_diagram.proofs.Meanings.{value_constant}
 
@@ -206,18 +206,18 @@ result_keeps old new op a b n keeps result = record {
       omega arith;
 }
 
-pub results_keep : (old new : Diagrams) (op : Operation) (index : Numbered)
+pub results_keep : (old new : Diagrams) (op : Operation) (index : Keyed)
     → Keeps old new → AreResults old op index → AreResults new op index
 results_keep old new op index keeps results =
     λ a b n is. result_keeps old new op a b n keeps (results a b n is)
 
-pub results_none : (s : Diagrams) (op : Operation) (index : Numbered)
+pub results_none : (s : Diagrams) (op : Operation) (index : Keyed)
     → ((q : List ℕ) → found index q ≡ None) → AreResults s op index
 results_none s op index none = λ a b n is.
     absurd (let e : None ≡ Some n = sym (none (a ∷ b ∷ [])) ∙ is in cc)
 
 -- a result under the key of its two nodes, in one order or the other
-pub results_more : (s : Diagrams) (op : Operation) (old new : Numbered)
+pub results_more : (s : Diagrams) (op : Operation) (old new : Keyed)
     (key : List ℕ) (a b n : ℕ) → AreResults s op old → IsResult s op a b n
     → (key ≡ a ∷ b ∷ []) ⊎ (key ≡ b ∷ a ∷ [])
     → ((q : List ℕ) → found new q ≡ cond (bytes_eq key q) (Some n) (found old q))
@@ -229,7 +229,7 @@ results_more s op old new key a b n results result pair after = λ x y m is.
     sym (after (x ∷ y ∷ []) ∙ cond-true (bytes_eq key (x ∷ y ∷ [])) (Some n)
     (found old (x ∷ y ∷ [])) same) ∙ is in
     let n_is : n ≡ m = cc in
-    let key_is = bytes_same key (x ∷ y ∷ []) same in
+    let key_is = (bytes_decides key (x ∷ y ∷ [])).0 same in
     subst (IsResult s op x y) n_is (⊎_elim
     (λ forth. let f : a ∷ b ∷ [] ≡ x ∷ y ∷ [] = sym forth ∙ key_is in let a_is : a ≡ x = cc in
     let b_is : b ≡ y = cc in
@@ -245,12 +245,12 @@ results_more s op old new key a b n results result pair after = λ x y m is.
     (found old (x ∷ y ∷ [])) apart) ∙ is))
     (cases_Bool (bytes_eq key (x ∷ y ∷ [])))
 
-pub results_same : (s : Diagrams) (op : Operation) (old new : Numbered)
+pub results_same : (s : Diagrams) (op : Operation) (old new : Keyed)
     → AreResults s op old → ((q : List ℕ) → found new q ≡ found old q) → AreResults s op new
 results_same s op old new results same = λ a b n is. results a b n (sym (same (a ∷ b ∷ [])) ∙ is)
 
 -- the result that the index has under the key of two nodes
-pub results_found : (s : Diagrams) (op : Operation) (index : Numbered)
+pub results_found : (s : Diagrams) (op : Operation) (index : Keyed)
     (key : List ℕ) (a b n : ℕ) → AreResults s op index → (key ≡ a ∷ b ∷ []) ⊎ (key ≡ b ∷ a ∷ [])
     → found index key ≡ Some n → IsResult s op a b n
 results_found s op index key a b n results pair is =
@@ -261,7 +261,7 @@ results_found s op index key a b n results pair is =
 
 -- what the index holds after an entry that was made or not
 pub results_after : {E : Type 0} (s : Diagrams) (op : Operation)
-    (old new : Numbered) (key : List ℕ) (a b n : ℕ) (r : Result (Unit {0}) E)
+    (old new : Keyed) (key : List ℕ) (a b n : ℕ) (r : Result (Unit {0}) E)
     → AreResults s op old → IsResult s op a b n → (key ≡ a ∷ b ∷ []) ⊎ (key ≡ b ∷ a ∷ [])
     → OnOk r ((q : List ℕ) → found new q ≡ cond (bytes_eq key q) (Some n) (found old q))
     → OnErr r ((q : List ℕ) → found new q ≡ found old q) → AreResults s op new

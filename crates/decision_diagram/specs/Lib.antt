@@ -1,6 +1,5 @@
 pub mod Constants
 pub mod Diagrams
-pub mod Found
 pub mod Laws
 pub mod Leading
 pub mod Operations

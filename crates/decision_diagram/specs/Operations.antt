@@ -4,7 +4,7 @@ use Rattle.domains.specs.Tables.{fits}
 use Rattle.decision_diagram.specs.declared.operation.Operation.{Operation}
 use Rattle.decision_diagram.specs.declared.operation.Operation.TheVariants.{And, Or}
 use Rattle.decision_diagram.specs.Diagrams.{Diagrams, IsNode, value_of, level_of}
-use Rattle.decision_diagram.specs.Found.{Numbered, found}
+use Rattle.polis_base.specs.Index.{Keyed, found}
 
 abbrev pub combine : Operation → Bool → Bool → Bool
 combine And x y = x && y
@@ -20,5 +20,5 @@ pub record IsResult (s : Diagrams) (op : Operation) (a b n : ℕ) : Type 0 where
   pub level : min (level_of s a) (level_of s b) ≤ level_of s n
 
 -- what the index has for two nodes is what the operation makes of them
-abbrev pub AreResults : Diagrams → Operation → Numbered → Type 0
+abbrev pub AreResults : Diagrams → Operation → Keyed → Type 0
 AreResults s op index = (a b n : ℕ) → found index (a ∷ b ∷ []) ≡ Some n → IsResult s op a b n

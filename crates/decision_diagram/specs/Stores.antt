@@ -2,13 +2,13 @@
 use Rattle.std.specs.Prelude.{◌≡◌, ℕ, List, ◌∷◌, Some}
 use Rattle.decision_diagram.specs.declared.node.Node.{Node}
 use Rattle.decision_diagram.specs.Diagrams.{Diagrams, inner_at, AreReduced}
-use Rattle.decision_diagram.specs.Found.{Numbered, found}
+use Rattle.polis_base.specs.Index.{Keyed, found}
 use Rattle.decision_diagram.specs.Operations.{AreResults}
 use Rattle.decision_diagram.specs.declared.operation.Operation.TheVariants.{And, Or}
 use Rattle.decision_diagram.specs.declared.store.Store.TheInside.{Inside}
 
 -- the index has the number of each inner node under its variable and children, and nothing else
-pub record IsIndexed (nodes : List Node) (index : Numbered) : Type 0 where
+pub record IsIndexed (nodes : List Node) (index : Keyed) : Type 0 where
   pub known : (n : ℕ) (node : Node) → inner_at nodes n ≡ Some node
       → found index (node.var ∷ node.kids) ≡ Some n
   pub entered : (key : List ℕ) (n : ℕ) → found index key ≡ Some n

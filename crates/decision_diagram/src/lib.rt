@@ -3,7 +3,6 @@
 
 mod apply;
 mod count;
-mod index;
 mod law;
 mod node;
 mod operation;

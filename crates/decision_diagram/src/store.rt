@@ -4,18 +4,17 @@ ghost use Rattle.std.specs.Int.{bit_at};
 ghost use Rattle.domains.specs.Tables.{fits};
 ghost use Rattle.decision_diagram.specs.Constants.{constant_node};
 ghost use Rattle.decision_diagram.specs.Operations.{IsResult, AreResults};
-ghost use Rattle.decision_diagram.specs.Found.{found};
+ghost use Rattle.polis_base.specs.Index.{found};
 ghost use Rattle.domains.specs.Orders.{place};
 ghost use Rattle.decision_diagram.specs.Diagrams.{IsNode, inner_at, value_of, shape_of, kids_of, level_of, choice, Keeps, Means, IsNew, AreReduced, IsCanonical};
 
-use crate::index::{Index, enter, find};
 use crate::node::{Node, NodeId, Shape};
 use crate::operation::Operation;
 use crate::order::Order;
 use domains::{Codes, VarTable};
+use polis_base::index::{Index, empty_index, enter, find};
 use polis_base::{Duplicate, List, NoMemory};
 use std::alloc::Global;
-use std::collections::HashMap;
 use std::marker::Model;
 
 /// Diagrams over the variables of one table, read in one order. Equal functions are one node.
@@ -131,9 +130,9 @@ impl Store {
             vars: vars.copy()?,
             order: order.copy()?,
             nodes: Vec::new(alloc),
-            index: HashMap::new(alloc),
-            conjunctions: HashMap::new(alloc),
-            disjunctions: HashMap::new(alloc),
+            index: empty_index(alloc),
+            conjunctions: empty_index(alloc),
+            disjunctions: empty_index(alloc),
         })
     }
 

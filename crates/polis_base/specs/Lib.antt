@@ -2,6 +2,7 @@ pub mod Digits
 pub mod Faults
 pub mod Held
 pub mod Host
+pub mod Index
 pub mod Keywords
 pub mod Lists
 pub mod Memory

@@ -5,6 +5,7 @@
 mod bytes;
 mod decimal;
 mod host;
+pub mod index;
 mod keyword;
 mod lex;
 pub mod limits;

@@ -1,15 +1,15 @@
 -- Equal vertices that are joined, by an index of those that stand for themselves.
 use Rattle.std.proofs.Common.{◌≡◌, ◌⊎◌, inl, inr, ⊎_elim, ℕ, zero, suc, ◌+◌, ◌<◌, ◌≤◌, Bool, true, false, not, cond, ◌&&◌, List, map, length, drop, replicate, slice_get, slice_index, slice_set, Option, Some, None, refl, ap, sym, subst, ◌∙◌, arith, eqb}
+use Rattle.std.specs.Cmp.Lexicographic.{bytes_decides}
 use Rattle.std.specs.Str.{bytes_eq}
 use Rattle.std.proofs.lemmas.Bool.{cases_eq, cases_Bool, cond-true, cond-false, and_parts, eqb-true, ne_eqb}
 use Rattle.sgraph.specs.declared.vertex.Vertex.{Vertex}
 use Rattle.sgraph.specs.declared.vertex.Vertex.TheVariants.{Begin, Test, Assign, End}
 use Rattle.sgraph.specs.Facts.{IsGraph}
 use Rattle.sgraph.specs.Graphs.{key_of, varies}
-use Rattle.sgraph_opt.specs.Choices.{Chosen, is_inner, stays, Has, Sharing, Shared}
-use Rattle.sgraph_opt.specs.Found.{Keyed, found, Same, Entered}
+use Rattle.polis_base.specs.Index.{Keyed, found}
+use Rattle.sgraph_opt.specs.Choices.{Same, Entered, Chosen, is_inner, stays, Has, Sharing, Shared}
 use Rattle.sgraph_opt.specs.Representatives.{renamed, IsTwin, IsRep, Standing}
-use Rattle.sgraph_opt.proofs.Lookups.{bytes_same, bytes_self}
 use Rattle.sgraph_opt.proofs.Standing.{got, below, set_here, set_there, same_renamed, later_kids, standing_start, standing_more, vertex_there}
 
 -- ---- vertices as lists of numbers
@@ -209,7 +209,7 @@ module _ (drops : Bool) (g : List Vertex) (ok : IsGraph g) (reps more : List ℕ
             is = is;
             own = read ∙ own;
             inner = inner;
-            same = sym (bytes_same (key_of (renamed (slice_index reps) v)) key on)
+            same = sym ((bytes_decides (key_of (renamed (slice_index reps) v)) key).0 on)
                 ∙ ap key_of (same_names k v (omega arith) is);
           })
       met_new key x h (inr off) =
@@ -228,14 +228,15 @@ module _ (drops : Bool) (g : List Vertex) (ok : IsGraph g) (reps more : List ℕ
           ∙ ap (λ (u : Vertex). key_of (renamed (slice_index more) u)) one ∙ sym h.same in
           let on : bytes_eq (key_of (renamed (slice_index reps) v)) key ≡ true =
           subst (λ (q : List ℕ). bytes_eq (key_of (renamed (slice_index reps) v)) q ≡ true) same
-          (bytes_self (key_of (renamed (slice_index reps) v))) in
+          ((bytes_decides (key_of (renamed (slice_index reps) v))
+          (key_of (renamed (slice_index reps) v))).1 refl) in
           grows key ∙ cond-true (bytes_eq (key_of (renamed (slice_index reps) v)) key) (Some k)
           (found old key) on ∙ ap (λ (n : ℕ). Some n) (sym here)
       all_new key x h (inr before) =
           let had = s.all key x before in
           ⊎_elim
           (λ on. absurd (not_none (found old key) x
-          (sym (ap (found old) (bytes_same (key_of (renamed (slice_index reps) v)) key on))
+          (sym (ap (found old) ((bytes_decides (key_of (renamed (slice_index reps) v)) key).0 on))
           ∙ fresh) had))
           (λ off. grows key ∙ cond-false (bytes_eq (key_of (renamed (slice_index reps) v)) key)
           (Some k) (found old key) off ∙ had)

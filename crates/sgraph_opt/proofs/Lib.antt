@@ -8,7 +8,6 @@ mod Joined
 mod Kept
 mod Keys
 mod Lifting
-mod Lookups
 mod Members
 mod Reducing
 mod Replaced

@@ -1,11 +1,23 @@
 -- What is to stand for a vertex where equal vertices are joined, by an index of the later vertices
 -- that stand for themselves.
-use Rattle.std.specs.Prelude.{◌≡◌, ◌⊎◌, ℕ, ◌<◌, ◌≤◌, ◌==◌, ◌&&◌, not, Bool, true, false, List, map, length, slice_get, slice_index, Some, IsTrue}
+use Rattle.std.specs.Prelude.{◌≡◌, ◌⊎◌, ℕ, ◌<◌, ◌≤◌, ◌==◌, ◌&&◌, not, cond, Bool, true, false, List, map, length, slice_get, slice_index, Some, None, IsTrue}
+use Rattle.std.specs.Str.{bytes_eq}
+use Rattle.polis_base.specs.Index.{Keyed, found}
 use Rattle.sgraph.specs.declared.vertex.Vertex.{Vertex}
 use Rattle.sgraph.specs.declared.vertex.Vertex.TheVariants.{Begin, Test, Assign, End}
 use Rattle.sgraph.specs.Graphs.{key_of, varies}
-use Rattle.sgraph_opt.specs.Found.{Keyed, found, Same, Entered}
 use Rattle.sgraph_opt.specs.Representatives.{renamed, Standing}
+
+-- the index is as before
+abbrev pub Same : Keyed → Keyed → Type 0
+Same old new = (q : List ℕ) → found new q ≡ found old q
+
+-- r is the number that stood under the key, or else k, which stands there now
+abbrev pub Entered : Keyed → Keyed → List ℕ → ℕ → ℕ → Type 0
+Entered old new key k r =
+    ((found old key ≡ Some r) × Same old new)
+    ⊎ ((found old key ≡ None) × (r ≡ k)
+    × ((q : List ℕ) → found new q ≡ cond (bytes_eq key q) (Some k) (found old q)))
 
 -- a vertex that may stand for itself: no test whose children are all the same, and where assignments
 -- of the code 0 are dropped, none of these

@@ -1,5 +1,4 @@
 pub mod Choices
-pub mod Found
 pub mod Marks
 pub mod Renumbering
 pub mod Representatives

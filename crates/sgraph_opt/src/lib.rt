@@ -3,7 +3,6 @@
 #![tactic(auto)]
 
 mod dropping;
-mod index;
 mod numbering;
 mod optimising;
 mod sharing;

@@ -3,16 +3,15 @@ ghost use Rattle.std.specs.Prelude.{◌≡◌, ◌<◌, ℕ, map, length, slice_
 ghost use Rattle.sgraph.specs.declared.vertex.Vertex.{Vertex};
 ghost use Rattle.sgraph.specs.declared.vertex.Vertex.TheVariants.{Test, Assign};
 ghost use Rattle.sgraph.specs.Graphs.{key_of, varies, Numbered, Reduced};
-ghost use Rattle.sgraph_opt.specs.Choices.{Chosen, Shared};
+ghost use Rattle.sgraph_opt.specs.Choices.{Entered, Chosen, Shared};
 ghost use Rattle.sgraph_opt.specs.Representatives.{Standing};
 ghost use Rattle.sgraph_opt.specs.Smaller.{Keeps, NoDefaults};
 
-use crate::index::{Index, known_or_new};
 use crate::numbering::renumbered;
+use polis_base::index::{Index, enter, find, index_with_room};
 use polis_base::{NoMemory, Places};
 use sgraph::{Graph, Vertex};
 use std::alloc::Global;
-use std::collections::HashMap;
 
 // What stands for all of some vertices, where it is one.
 fn one_kid(kids: &Places, reps: &Places) -> Option<u64>
@@ -54,6 +53,19 @@ fn assign_key(y: u32, code: u8, next: u64) -> [u64; 4]
     ensures { result ≡ key_of (Assign y code next) }
 {
     [2, u64::from(y), u64::from(code), next]
+}
+
+// The number that stands under a key, or else this one, which is put there.
+fn known_or_new(alloc: Global, index: &mut Index, key: &[u64], k: u64) -> Result<u64, NoMemory>
+    ensures { IfOk result (λ r. Entered index.old index.new key.now k r) }
+{
+    match find(index, key) {
+        Some(r) => Ok(r),
+        None => {
+            enter(index, Vec::from_slice(alloc, key)?, k)?;
+            Ok(k)
+        }
+    }
 }
 
 // What stands for a vertex, where the later ones have what stands for them: what stands for all its
@@ -106,7 +118,7 @@ pub(crate) fn all_shared(alloc: Global, g: &Graph, drops: bool) -> Result<Places
     ensures stands { IfOk result (λ reps. Standing g.now reps 0) }
     ensures shared { IfOk result (λ reps. Shared drops g.now reps) }
 {
-    let mut index = HashMap::with_capacity(alloc, g.len() as usize)?;
+    let mut index = index_with_room(alloc, g.len())?;
     let mut key = Vec::new(alloc);
     let mut reps = Places::filled(alloc, g.len(), 0)?;
     for k in (0..g.len()).rev() {

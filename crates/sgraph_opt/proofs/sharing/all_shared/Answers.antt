@@ -1,14 +1,13 @@
 use Rattle.std.proofs.Common.{◌≡◌, ◌-◌, arith, subst}
 use Rattle.sgraph_opt.specs.Choices.{Sharing}
 use Rattle.sgraph_opt.proofs.Joined.{sharing_start, sharing_more, sharing_shared}
-use Rattle.sgraph_opt.proofs.Lookups.{found_none}
 use Rattle.sgraph_opt.proofs.sharing.all_shared.Goals as goal
 
 pub loop-k-init : goal.loop-k-init
 loop-k-init c =
     sharing_start c.args.drops c.args.g.now c.in_ok-reps.reps c.in_ok-index.index c.len-k.result c.len-2.result
     c.in_ok-reps.ensures c.len-2.ensures.len c.len-k.ensures.len
-    (found_none c.in_ok-index.index c.in_ok-index.ensures.empty)
+    c.in_ok-index.ensures
 
 pub loop-k-preserved : goal.loop-k-preserved
 loop-k-preserved c =

@@ -7,7 +7,7 @@ use Rattle.decision_diagram.specs.Diagrams.{Diagrams, IsNew, Keeps}
 use Rattle.decision_diagram.specs.Stores.{diagrams}
 use Rattle.decision_diagram.proofs.Growth.{keeps_node, store_more, store_same, pop_push}
 use Rattle.decision_diagram.proofs.Operating.{results_keep}
-use Rattle.decision_diagram.specs.Found.{Numbered}
+use Rattle.polis_base.specs.Index.{Keyed}
 use Rattle.decision_diagram.proofs.store.Store.push_node.Goals as goal
 
 pub invariant_of-self-in-Ok : goal.invariant_of-self-in-Ok
@@ -38,7 +38,7 @@ invariant_of-self-in-Ok c =
     }
 
 -- a store whose nodes are as before
-same_store : (s : Diagrams) (nodes : List Node) (op : Operation) (index : Numbered)
+same_store : (s : Diagrams) (nodes : List Node) (op : Operation) (index : Keyed)
     → nodes ≡ s.nodes → AreResults s op index
     → AreResults (record { sizes = s.sizes; order = s.order; nodes = nodes }) op index
 same_store s nodes op index is results =

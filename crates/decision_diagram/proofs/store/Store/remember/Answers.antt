@@ -3,7 +3,7 @@ use Rattle.std.specs.Str.{bytes_eq}
 use Rattle.decision_diagram.specs.declared.operation.Operation.{Operation}
 use Rattle.decision_diagram.specs.declared.operation.Operation.TheVariants.{And, Or}
 use Rattle.decision_diagram.specs.Diagrams.{Diagrams}
-use Rattle.decision_diagram.specs.Found.{Numbered, found}
+use Rattle.polis_base.specs.Index.{Keyed, found}
 use Rattle.decision_diagram.specs.Operations.{IsResult, AreResults}
 use Rattle.decision_diagram.specs.Stores.{diagrams}
 use Rattle.decision_diagram.proofs.Operating.{results_after}
@@ -15,7 +15,7 @@ key_pair : (key pair : List ℕ) (a b : ℕ) → key ≡ pair
 key_pair key pair a b is either =
     ⊎_elim (λ forth. inl (is ∙ forth)) (λ back. inr (is ∙ back)) either
 
-after : {E : Type 0} (s now : Diagrams) (op other : Operation) (old new : Numbered)
+after : {E : Type 0} (s now : Diagrams) (op other : Operation) (old new : Keyed)
     (key : List ℕ) (a b n number : ℕ) (r : Result (Unit {0}) E) → s ≡ now → op ≡ other
     → AreResults s other old → IsResult now op a b n → number ≡ n
     → (key ≡ a ∷ b ∷ []) ⊎ (key ≡ b ∷ a ∷ [])

@@ -1,5 +1,5 @@
-use Rattle.decision_diagram.proofs.Lookups.{found_after}
-use Rattle.decision_diagram.proofs.index.enter.Goals as goal
+use Rattle.polis_base.proofs.Lookups.{found_after}
+use Rattle.polis_base.proofs.index.enter.Goals as goal
 
 pub returns-clause-ok : goal.returns-clause-ok
 returns-clause-ok c =

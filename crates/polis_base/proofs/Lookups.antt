@@ -1,19 +1,16 @@
 -- Look-ups by lists of numbers.
-use Rattle.std.proofs.Common.{◌≡◌, ℕ, List, Some, None, Bool, true, false, cond, Vec, ap, sym, subst, ◌∙◌, ⊎_elim}
-use Rattle.std.specs.HashMap.{IsEmpty, Updates}
+use Rattle.std.proofs.Common.{◌≡◌, ℕ, List, Some, Bool, true, false, cond, Vec, sym, subst, ◌∙◌, ⊎_elim}
+use Rattle.std.specs.HashMap.{Updates}
 use Rattle.std.specs.Cmp.Lexicographic.{bytes_decides, nat_list_eq_equiv}
 use Rattle.std.specs.Map.{KeepsOthers, IsKeyTest, AreApart, lookup}
 use Rattle.std.specs.Str.{bytes_eq}
 use Rattle.std.specs.declared.alloc.Global.{Global}
 use Rattle.std.proofs.lemmas.Bool.{cases_Bool, cond-true, cond-false, false_from_ne_true, false≢true}
-use Rattle.sgraph_opt.specs.Found.{Keyed, found}
+use Rattle.polis_base.specs.Index.{Keyed, found}
 
 -- two lists of numbers that pass the test are the same
-pub bytes_same : (xs ys : List ℕ) → bytes_eq xs ys ≡ true → xs ≡ ys
+bytes_same : (xs ys : List ℕ) → bytes_eq xs ys ≡ true → xs ≡ ys
 bytes_same xs ys h = (bytes_decides xs ys).0 h
-
-pub bytes_self : (xs : List ℕ) → bytes_eq xs xs ≡ true
-bytes_self xs = (bytes_decides xs xs).1 (λ _. xs)
 
 module _ {K X : Type 0} (eq : K → K → Bool) (test : K → Bool) where
   other_entries : (old new : List (K × X)) → KeepsOthers eq test old new → (other : K → Bool)
@@ -41,6 +38,3 @@ found_after m n key w h q =
     (λ k. apart_keys key.items q k.items e)
     ∙ sym (cond-false (bytes_eq key.items q) (Some w) (found m q) e))
     (cases_Bool (bytes_eq key.items q))
-
-pub found_none : (index : Keyed) → IsEmpty index → (q : List ℕ) → found index q ≡ None
-found_none index e q = ap (lookup (λ (k : Vec ℕ Global). bytes_eq q k.items)) e

@@ -8,9 +8,9 @@ use Rattle.std.specs.declared.hash.FoldHasher.{FoldHasher}
 use Rattle.std.specs.declared.vec.Vec.{Vec}
 
 -- an `Index`: numbers under keys
-abbrev pub Numbered : Type 0
-Numbered = HashMap (Vec ℕ Global) ℕ (BuildHasherDefault FoldHasher)
+abbrev pub Keyed : Type 0
+Keyed = HashMap (Vec ℕ Global) ℕ (BuildHasherDefault FoldHasher)
 
 -- the number under a key
-abbrev pub found : Numbered → List ℕ → Option ℕ
+abbrev pub found : Keyed → List ℕ → Option ℕ
 found index key = get_by (λ k. bytes_eq key k.items) index

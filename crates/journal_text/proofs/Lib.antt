@@ -17,6 +17,7 @@ pub mod Cutting
 pub mod Walking
 pub mod Skipping
 pub mod Finding
+pub mod Numbering
 pub mod Taking
 pub mod Listing
 pub mod Threes

@@ -12,25 +12,27 @@ ghost use Rattle.journal_text.specs.declared.codes.Stop.{Stop};
 use crate::codes::{Stop, codes_of_events, codes_of_states, push_values};
 use crate::fault::JournalKind;
 use crate::form::Form;
-use crate::item::{code, event_of_name, machine_of_name, party_of_name, split};
+use crate::index::Index;
+use crate::item::{code, party_of_name, split};
 use journals::Entry;
 use std::alloc::Global;
 use transition_table::{Network, Outcome, Snapshot};
 
 // The delivery from a sender to a receiver of an event with its value.
-fn delivery(net: &Network, from: &[u8], to: &[u8], event: &[u8]) -> Result<Entry, JournalKind>
-    ensures { result ≡ entry_read net.now (DepForm from.now to.now event.now) }
+fn delivery(index: &Index, from: &[u8], to: &[u8], event: &[u8]) -> Result<Entry, JournalKind>
+    ensures { result ≡ entry_read index.now.net.now (DepForm from.now to.now event.now) }
 {
-    let Some(from) = party_of_name(net, from) else {
+    let Some(from) = party_of_name(index, from) else {
         return Err(JournalKind::Name);
     };
-    let Some(to) = machine_of_name(net, to) else {
+    let Some(to) = index.machine(to) else {
         return Err(JournalKind::Name);
     };
     let (name, value) = split(event);
-    let Some(event) = event_of_name(net, name) else {
+    let Some(event) = index.event(name) else {
         return Err(JournalKind::Name);
     };
+    let net = index.net;
     match code(net, net.events.get(event as u64).domain, value) {
         None => Err(JournalKind::Value),
         Some(code) => Ok(Entry::Dep {
@@ -87,7 +89,7 @@ fn outcome(alloc: Global, net: &Network, m: u32, given: (&[u8], &[u8])) -> Resul
 // A reaction that fires.
 fn firing(
     alloc: Global,
-    net: &Network,
+    index: &Index,
     machine: &[u8],
     seen: (&[u8], &[u8]),
     given: (&[u8], &[u8]),
@@ -95,19 +97,19 @@ fn firing(
     requires seen { AreLists seen.0.now seen.1.now }
     requires given { AreLists given.0.now given.1.now }
     ensures ok { IfOk result (λ entry.
-        entry_read net.now
+        entry_read index.now.net.now
         (FireForm machine.now (items_in seen.entry.0.now, items_in seen.entry.1.now)
         (items_in given.entry.0.now, items_in given.entry.1.now)) ≡ Ok entry) }
     ensures fault { (kind : JournalKind) → result ≡ Err (Stop.Kind kind)
-        → entry_read net.now
+        → entry_read index.now.net.now
         (FireForm machine.now (items_in seen.entry.0.now, items_in seen.entry.1.now)
         (items_in given.entry.0.now, items_in given.entry.1.now)) ≡ Err kind }
 {
-    let Some(m) = machine_of_name(net, machine) else {
+    let Some(m) = index.machine(machine) else {
         return Err(Stop::Kind(JournalKind::Name));
     };
-    let snapshot = snapshot(alloc, net, m, seen)?;
-    match outcome(alloc, net, m, given) {
+    let snapshot = snapshot(alloc, index.net, m, seen)?;
+    match outcome(alloc, index.net, m, given) {
         Ok(outcome) => Ok(Entry::Rea {
             machine: m,
             snapshot,
@@ -130,20 +132,20 @@ fn blank(alloc: Global, net: &Network, m: u32) -> Result<Outcome, Stop>
 }
 
 // A reaction that doesn't fire.
-fn trying(alloc: Global, net: &Network, machine: &[u8], seen: (&[u8], &[u8])) -> Result<Entry, Stop>
+fn trying(alloc: Global, index: &Index, machine: &[u8], seen: (&[u8], &[u8])) -> Result<Entry, Stop>
     requires seen { AreLists seen.0.now seen.1.now }
     ensures ok { IfOk result (λ entry.
-        entry_read net.now
+        entry_read index.now.net.now
         (IdleForm machine.now (items_in seen.entry.0.now, items_in seen.entry.1.now)) ≡ Ok entry) }
     ensures fault { (kind : JournalKind) → result ≡ Err (Stop.Kind kind)
-        → entry_read net.now
+        → entry_read index.now.net.now
         (IdleForm machine.now (items_in seen.entry.0.now, items_in seen.entry.1.now)) ≡ Err kind }
 {
-    let Some(m) = machine_of_name(net, machine) else {
+    let Some(m) = index.machine(machine) else {
         return Err(Stop::Kind(JournalKind::Name));
     };
-    let snapshot = snapshot(alloc, net, m, seen)?;
-    let outcome = blank(alloc, net, m)?;
+    let snapshot = snapshot(alloc, index.net, m, seen)?;
+    let outcome = blank(alloc, index.net, m)?;
     Ok(Entry::Rea {
         machine: m,
         snapshot,
@@ -152,14 +154,14 @@ fn trying(alloc: Global, net: &Network, machine: &[u8], seen: (&[u8], &[u8])) ->
 }
 
 /// The entry that a line of this form names, or the kind of its first item at fault.
-pub fn entry_of_form(alloc: Global, net: &Network, form: Form<'_>) -> Result<Entry, Stop>
+pub fn entry_of_form(alloc: Global, index: &Index, form: Form<'_>) -> Result<Entry, Stop>
     requires { HasLists form }
-    ensures ok { IfOk result (λ entry. entry_read net.now (as_form form.entry) ≡ Ok entry) }
+    ensures ok { IfOk result (λ entry. entry_read index.now.net.now (as_form form.entry) ≡ Ok entry) }
     ensures fault { (kind : JournalKind) → result ≡ Err (Stop.Kind kind)
-        → entry_read net.now (as_form form.entry) ≡ Err kind }
+        → entry_read index.now.net.now (as_form form.entry) ≡ Err kind }
 {
     match form {
-        Form::Delivery { from, to, event } => match delivery(net, from, to, event) {
+        Form::Delivery { from, to, event } => match delivery(index, from, to, event) {
             Ok(entry) => Ok(entry),
             Err(kind) => Err(Stop::Kind(kind)),
         },
@@ -167,7 +169,7 @@ pub fn entry_of_form(alloc: Global, net: &Network, form: Form<'_>) -> Result<Ent
             machine,
             seen,
             given,
-        } => firing(alloc, net, machine, seen, given),
-        Form::Try { machine, seen } => trying(alloc, net, machine, seen),
+        } => firing(alloc, index, machine, seen, given),
+        Form::Try { machine, seen } => trying(alloc, index, machine, seen),
     }
 }

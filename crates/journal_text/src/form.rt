@@ -1,5 +1,5 @@
 // The forms of a line.
-ghost use Rattle.std.specs.Prelude.{◌≡◌, [], ◌∷◌, true, is_some, Some, None, IfSome, IfNone};
+ghost use Rattle.std.specs.Prelude.{◌≡◌, [], ◌∷◌, true, is_some, Some, None, IfSome, IfNone, IsFalse};
 ghost use Rattle.journal_text.specs.Forms.{words_of, list_of, two_lists, four_lists, decimal_of, ending_of, stamp_of, last_form, stamped_form, dep_form, reaction_form, entry_form};
 ghost use Rattle.journal_text.specs.Cursors.{items_in, AreLists, three_of};
 ghost use Rattle.journal_text.specs.Lines.{as_form, HasLists, NoReaction, fire_words, idle_words};
@@ -108,10 +108,23 @@ fn ending(word: &[u8]) -> Option<bool>
     None
 }
 
+// Whether the line may be a last one. Of most lines the first byte shows that they are none.
+fn may_be_last(line: &[u8]) -> bool
+    ensures { IsFalse result → last_form (words_of line.now) ≡ None }
+{
+    match line.split_first() {
+        Some((first, _)) => *first == b'e',
+        None => false,
+    }
+}
+
 /// The number and the last word of a last line, and None where the line is none.
 pub fn last_line(line: &[u8]) -> Option<(u64, bool)>
     ensures { result ≡ last_form (words_of line.now) }
 {
+    if !may_be_last(line) {
+        return None;
+    }
     let Some((first, number, last)) = three_words(line) else {
         return None;
     };

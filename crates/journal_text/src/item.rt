@@ -3,12 +3,13 @@ ghost use Rattle.std.specs.Prelude.{◌≡◌, ◌<◌, ◌≤◌, ◌∷◌, Li
 ghost use Rattle.domains.specs.Domains.{size_of};
 ghost use Rattle.transition_table.specs.NetworkFacts.{values_of, has_domain};
 ghost use Rattle.journals.specs.Journals.{is_party};
-ghost use Rattle.journal_text.specs.Items.{name_part, value_part_of, machine_named, event_named, party_named, value_named, code_of, as_state};
+ghost use Rattle.journal_text.specs.Items.{name_part, value_part_of, party_named, value_named, code_of, as_state};
 ghost use Rattle.journal_text.specs.Cursors.{left};
 ghost use Rattle.journal_text.specs.Steps.{Steps, Stops, GivesValue, StopsValues};
 
 use crate::cut::next_piece;
 use crate::fault::JournalKind;
+use crate::index::Index;
 use domains::{Domain, laws};
 use transition_table::{Network, Party, StateDecl};
 
@@ -20,40 +21,14 @@ pub fn split(item: &[u8]) -> (&[u8], Option<&[u8]>)
     next_piece(item, b'=')
 }
 
-/// The number of the machine of this name.
-pub fn machine_of_name(net: &Network, word: &[u8]) -> Option<u32>
-    ensures machine { result ≡ machine_named net.now word.now }
-    ensures below { IfSome result (λ m. m < length net.now.machines) }
-{
-    for m in 0..net.machines.len() as u32 {
-        if net.machines.get(m as u64).name.bytes() == word {
-            return Some(m);
-        }
-    }
-    None
-}
-
-/// The number of the event of this name.
-pub fn event_of_name(net: &Network, word: &[u8]) -> Option<u32>
-    ensures event { result ≡ event_named net.now word.now }
-    ensures below { IfSome result (λ e. e < length net.now.events) }
-{
-    for e in 0..net.events.len() as u32 {
-        if net.events.get(e as u64).name.bytes() == word {
-            return Some(e);
-        }
-    }
-    None
-}
-
 /// The party of this name: the environment by `env`, or a machine.
-pub fn party_of_name(net: &Network, word: &[u8]) -> Option<Party>
-    ensures { result ≡ party_named net.now word.now }
+pub fn party_of_name(index: &Index, word: &[u8]) -> Option<Party>
+    ensures { result ≡ party_named index.now.net.now word.now }
 {
     if word == b"env".as_slice() {
         return Some(Party::Env);
     }
-    Some(Party::Machine(machine_of_name(net, word)?))
+    Some(Party::Machine(index.machine(word)?))
 }
 
 // The value of a domain that has this word.

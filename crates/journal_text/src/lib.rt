@@ -7,6 +7,7 @@ mod cut;
 mod entry;
 mod fault;
 mod form;
+mod index;
 mod item;
 mod kept;
 mod law;

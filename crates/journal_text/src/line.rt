@@ -11,9 +11,9 @@ use crate::codes::Stop;
 use crate::entry::entry_of_form;
 use crate::fault::JournalKind;
 use crate::form::{last_line, stamped_line};
+use crate::index::Index;
 use journals::{Entry, MAX_STAMP};
 use std::alloc::Global;
-use transition_table::Network;
 
 /// The most entries of a journal.
 const MOST_ENTRIES: u64 = 60_000;
@@ -41,16 +41,16 @@ fn is_a_stamp(stamp: u64) -> bool
 // What an entry's line says after so many entries.
 fn read_entry(
     alloc: Global,
-    net: &Network,
+    index: &Index,
     stamped: bool,
     count: u64,
     line: &[u8],
 ) -> Result<Content, Stop>
     ensures ok { IfOk result (λ content.
-        entry_says stamped net.now count (stamped_form stamped (words_of line.now))
+        entry_says stamped index.now.net.now count (stamped_form stamped (words_of line.now))
         ≡ as_said content) }
     ensures fault { (kind : JournalKind) → result ≡ Err (Stop.Kind kind)
-        → entry_says stamped net.now count (stamped_form stamped (words_of line.now)) ≡ Bad kind }
+        → entry_says stamped index.now.net.now count (stamped_form stamped (words_of line.now)) ≡ Bad kind }
 {
     let Some((stamp, form)) = stamped_line(stamped, line) else {
         return Err(Stop::Kind(JournalKind::Shape));
@@ -61,7 +61,7 @@ fn read_entry(
     if stamped && !is_a_stamp(stamp) {
         return Err(Stop::Kind(JournalKind::Stamp));
     }
-    match entry_of_form(alloc, net, form) {
+    match entry_of_form(alloc, index, form) {
         Ok(entry) => Ok(Content::More { stamp, entry }),
         Err(stop) => Err(stop),
     }
@@ -71,15 +71,15 @@ fn read_entry(
 /// it.
 pub fn read_line(
     alloc: Global,
-    net: &Network,
+    index: &Index,
     stamped: bool,
     count: u64,
     line: &[u8],
 ) -> Result<Content, Stop>
     ensures ok { IfOk result (λ content.
-        line_says stamped net.now count line.now ≡ as_said content) }
+        line_says stamped index.now.net.now count line.now ≡ as_said content) }
     ensures fault { (kind : JournalKind) → result ≡ Err (Stop.Kind kind)
-        → line_says stamped net.now count line.now ≡ Bad kind }
+        → line_says stamped index.now.net.now count line.now ≡ Bad kind }
 {
     match last_line(line) {
         Some((number, complete)) => {
@@ -89,6 +89,6 @@ pub fn read_line(
                 Err(Stop::Kind(JournalKind::Count))
             }
         }
-        None => read_entry(alloc, net, stamped, count, line),
+        None => read_entry(alloc, index, stamped, count, line),
     }
 }

@@ -11,6 +11,7 @@ ghost use Rattle.journal_text.specs.declared.fault.JournalFault.{JournalFault};
 use crate::codes::Stop;
 use crate::cut::next_piece;
 use crate::fault::{JournalFault, JournalKind};
+use crate::index::Index;
 use crate::line::{Content, read_line};
 use journals::{Entry, Journal, Stamps};
 use std::alloc::Global;
@@ -118,14 +119,14 @@ fn finish(
 // Reads the lines after the first one.
 fn read_lines(
     alloc: Global,
-    net: &Network,
+    index: &Index,
     stamped: bool,
     text: &[u8],
 ) -> Result<ReadJournal, JournalFault>
-    ensures ok { IfOk result (λ r. body_says net.now (Some stamped) (lines_of text.now)
+    ensures ok { IfOk result (λ r. body_says index.now.net.now (Some stamped) (lines_of text.now)
         ≡ Ok (r.journal, r.stamps, r.says_complete)) }
     ensures fault { (fault : JournalFault) → result ≡ Err fault → fault ≢ JournalFault.NoMemory
-        → body_says net.now (Some stamped) (lines_of text.now) ≡ Err fault }
+        → body_says index.now.net.now (Some stamped) (lines_of text.now) ≡ Err fault }
 {
     let mut journal = Journal::new(alloc);
     let mut stamps = Stamps::new(alloc);
@@ -136,7 +137,7 @@ fn read_lines(
         let Some(after) = after else {
             return Err(without_lf(line, first));
         };
-        match read_line(alloc, net, stamped, journal.len(), first) {
+        match read_line(alloc, index, stamped, journal.len(), first) {
             Err(stop) => return Err(fault_at(line, stop)),
             Ok(Content::Last(complete)) => {
                 return finish(line, stamped, journal, stamps, complete, after);
@@ -149,6 +150,24 @@ fn read_lines(
             }
         }
         rest = after;
+    }
+}
+
+// Reads what stands after the first line.
+fn read_body(
+    alloc: Global,
+    net: &Network,
+    stamped: bool,
+    text: &[u8],
+) -> Result<ReadJournal, JournalFault>
+    ensures ok { IfOk result (λ r. body_says net.now (Some stamped) (lines_of text.now)
+        ≡ Ok (r.journal, r.stamps, r.says_complete)) }
+    ensures fault { (fault : JournalFault) → result ≡ Err fault → fault ≢ JournalFault.NoMemory
+        → body_says net.now (Some stamped) (lines_of text.now) ≡ Err fault }
+{
+    match Index::new(alloc, net) {
+        Ok(index) => read_lines(alloc, &index, stamped, text),
+        Err(_) => Err(JournalFault::NoMemory),
     }
 }
 
@@ -165,7 +184,7 @@ pub fn read_journal(alloc: Global, net: &Network, text: &[u8]) -> Result<ReadJou
 {
     let (first, after) = next_piece(text, b'\n');
     match (version(first), after) {
-        (Some(stamped), Some(rest)) => read_lines(alloc, net, stamped, rest),
+        (Some(stamped), Some(rest)) => read_body(alloc, net, stamped, rest),
         _ => Err(JournalFault::Line {
             line: 1,
             kind: JournalKind::Header,

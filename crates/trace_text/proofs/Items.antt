@@ -1,9 +1,10 @@
 -- Items that fit a network.
-use Rattle.std.proofs.Common.{◌≡◌, ◌<◌, ◌≤◌, ℕ, true, false, List, [], ◌∷◌, ◌==◌, length, Option, Some, None, IfSome, IfNone, ◌≢◌, slice_get, refl, sym, ◌∙◌, arith, IsTrue}
+use Rattle.std.proofs.Common.{◌≡◌, ◌<◌, ◌≤◌, ℕ, Bool, true, false, true≢false, ap, ◌&&◌, List, [], ◌∷◌, ◌==◌, length, Option, Some, None, IfSome, IfNone, ◌≢◌, slice_get, refl, sym, ◌∙◌, arith, IsTrue}
 use Rattle.std.specs.Cmp.Derive.{both_true}
 use Rattle.std.proofs.lemmas.Bool.{lt-ltb, le-leb, and_parts, eqb-true, eq-eqb}
 use Rattle.std.proofs.lemmas.List.Sums.{AllPass-from_list_all}
 use Rattle.std.proofs.lemmas.Option.{get_or_from_slice_get}
+use Rattle.polis_base.specs.Names.{is_name}
 use Rattle.domains.specs.Names.{is_same}
 use Rattle.domains.specs.Domains.{size_of, word_of, IsDomain, WordsDiffer}
 use Rattle.domains.specs.declared.domain.Domain.{Domain}
@@ -14,7 +15,7 @@ use Rattle.transition_table.specs.declared.network.Network.{Network}
 use Rattle.journals.specs.declared.entry.TraceItem.TheVariants.{Event}
 use Rattle.journals.specs.Journals.{is_trace_item, same_party}
 use Rattle.trace_text.specs.Traces.{is_sent, is_sent_event, value_named}
-use Rattle.trace_text.proofs.Finds.{find_none, find_only}
+use Rattle.trace_text.proofs.Finds.{find_none, find_only, sent_event}
 
 -- an event of the network with one of its codes is an item where the environment sends it
 pub item_fits : (net : Network) (word : List ℕ) (e code : ℕ) (event : EventDecl)
@@ -85,3 +86,15 @@ pub value_found : WordsDiffer → (d : Domain) (word : List ℕ) (found : Option
 value_found differ d word None domain some none = sym (value_is_none d word none)
 value_found differ d word (Some v) domain some none =
     sym (value_is d word v some.0 some.1 (λ u below same. differ d u v domain below some.0 same))
+
+-- an event whose name is a name token hasn't another word as its name
+pub not_sent : (net : Network) (word : List ℕ) (e : ℕ) (event : EventDecl)
+    → slice_get net.events e ≡ Some event → is_name event.name ≡ true → is_name word ≡ false
+    → is_sent_event net word e ≡ false
+not_sent net word e event at token strange =
+    sent_event net word e event false at (by (is_same event.name word) refl)
+  where
+    by : (b : Bool) → is_same event.name word ≡ b
+        → false ≡ (b && same_party event.sender Env)
+    by true h = absurd (true≢false (sym token ∙ ap is_name (same_word event.name word h) ∙ strange))
+    by false h = refl

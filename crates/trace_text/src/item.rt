@@ -1,5 +1,6 @@
 // The item of one line.
-ghost use Rattle.std.specs.Prelude.{◌≡◌, ◌<◌, ◌≤◌, length, option_copied, IfSome, IsTrue};
+ghost use Rattle.std.specs.Prelude.{◌≡◌, ◌<◌, ◌≤◌, false, length, option_copied, None, IfSome, IsTrue};
+ghost use Rattle.polis_base.specs.Names.{is_name};
 ghost use Rattle.domains.specs.Domains.{size_of};
 ghost use Rattle.transition_table.specs.NetworkFacts.{has_domain, values_of};
 ghost use Rattle.trace_text.specs.Traces.{is_sent, is_sent_event, env_event, value_named, code_of, event_item, is_settle, item_of_words, item_of_line, AddsItem};
@@ -8,27 +9,53 @@ use crate::cut::{next_word, text_of};
 use crate::fault::TraceKind;
 use domains::{Domain, laws};
 use net_core::TraceItem;
+use polis_base::Name;
 use transition_table::{EventDecl, Network, Party};
 
 // Whether the environment sends an event of this name.
-fn is_event(event: &EventDecl, word: &[u8]) -> bool
-    ensures { result ≡ is_sent word.now event.now }
+fn is_event(event: &EventDecl, name: &Name) -> bool
+    ensures { result ≡ is_sent name.now event.now }
 {
-    event.name.bytes() == word && matches!(event.sender, Party::Env)
+    event.name.same(name) && matches!(event.sender, Party::Env)
 }
 
 // The number of the event of this name that the environment sends.
+fn event_of_name(net: &Network, name: &Name) -> Option<u32>
+    ensures event { result ≡ env_event net.now name.now }
+    ensures below { IfSome result (λ e. e < length net.now.events) }
+    ensures sent { IfSome result (λ e. IsTrue (is_sent_event net.now name.now e)) }
+{
+    for e in 0..net.events.len() as u32 {
+        if is_event(net.events.get(e as u64), name) {
+            return Some(e);
+        }
+    }
+    None
+}
+
+// Each event has a name token as its name, so none has this word.
+fn keep_names(net: &Network, word: &[u8])
+    requires { is_name word.now ≡ false }
+    ensures { env_event net.now word.now ≡ None }
+{
+    for e in 0..net.events.len() {
+        let _token = net.events.get(e).name.bytes();
+    }
+}
+
+// The number of the event that the environment sends and that has this word as its name.
 fn event_named(net: &Network, word: &[u8]) -> Option<u32>
     ensures event { result ≡ env_event net.now word.now }
     ensures below { IfSome result (λ e. e < length net.now.events) }
     ensures sent { IfSome result (λ e. IsTrue (is_sent_event net.now word.now e)) }
 {
-    for e in 0..net.events.len() as u32 {
-        if is_event(net.events.get(e as u64), word) {
-            return Some(e);
+    match Name::new(word) {
+        Some(name) => event_of_name(net, &name),
+        None => {
+            keep_names(net, word);
+            None
         }
     }
-    None
 }
 
 // The value of a domain that has this word.

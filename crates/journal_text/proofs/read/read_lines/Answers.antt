@@ -6,7 +6,7 @@ use Rattle.journal_text.proofs.read.read_lines.Goals as goal
 pub returns-in-Err-clause-fault : goal.returns-in-Err-clause-fault
 returns-in-Err-clause-fault c = λ fault e other.
     let same : c.fault_at.result ≡ fault = cc in
-    line_stopped c.args.net.now c.args.stamped c.args.text.now c.loop-after.stamps
+    line_stopped c.args.index.now.net.now c.args.stamped c.args.text.now c.loop-after.stamps
     c.loop-after.journal c.loop-after.rest.now _ c.in-Some.after.now c.in-Err.stop fault
     c.loop-after.invariant (rw c.in-Some.is at c.next_piece.ensures.prefix)
     (λ kind is. rw c.len.ensures at (c.in-Err.ensures.fault kind (cc)))
@@ -14,7 +14,7 @@ returns-in-Err-clause-fault c = λ fault e other.
 
 pub loop-after-preserved : goal.loop-after-preserved
 loop-after-preserved c =
-    one_more_read c.args.net.now c.args.stamped c.args.text.now c.loop-after.stamps
+    one_more_read c.args.index.now.net.now c.args.stamped c.args.text.now c.loop-after.stamps
     c.loop-after.journal c.loop-after.rest.now _ c.in-Some.after.now c.in-Ok-More.stamp
     c.in-Ok-More.entry _ _ c.loop-after.invariant
     (rw c.in-Some.is at c.next_piece.ensures.prefix)
@@ -23,16 +23,16 @@ loop-after-preserved c =
 
 pub returns-in-Ok-Last-clause-ok : goal.returns-in-Ok-Last-clause-ok
 returns-in-Ok-Last-clause-ok c =
-    let is = last_said c.args.net.now c.args.stamped c.args.text.now c.loop-after.stamps
+    let is = last_said c.args.index.now.net.now c.args.stamped c.args.text.now c.loop-after.stamps
     c.loop-after.journal c.loop-after.rest.now _ c.in-Some.after.now c.in-Ok-Last.complete
     c.loop-after.invariant (rw c.in-Some.is at c.next_piece.ensures.prefix)
     (rw c.len.ensures at (c.in-Ok-Last.ensures.ok ∙ ap as_said c.in-Ok-Last.field-0-is)) in
-    read_at_last c.args.net.now c.args.stamped c.args.text.now _ c.finish.result is
+    read_at_last c.args.index.now.net.now c.args.stamped c.args.text.now _ c.finish.result is
     (rw c.len-line.ensures at c.finish.ensures.ok)
 
 pub returns-in-Ok-Last-clause-fault : goal.returns-in-Ok-Last-clause-fault
 returns-in-Ok-Last-clause-fault c = λ fault e other.
-    let is = last_said c.args.net.now c.args.stamped c.args.text.now c.loop-after.stamps
+    let is = last_said c.args.index.now.net.now c.args.stamped c.args.text.now c.loop-after.stamps
     c.loop-after.journal c.loop-after.rest.now _ c.in-Some.after.now c.in-Ok-Last.complete
     c.loop-after.invariant (rw c.in-Some.is at c.next_piece.ensures.prefix)
     (rw c.len.ensures at (c.in-Ok-Last.ensures.ok ∙ ap as_said c.in-Ok-Last.field-0-is)) in

@@ -8,6 +8,10 @@ use crate::raw::{RawValue, Word};
 use crate::reader::{Reader, Stop};
 use polis_base::{Kind, List, Sign};
 
+// How many parts most lists with commas have. Where a list has just so many, none of its room is
+// given up, nor is more asked for.
+const FEW: u64 = 2;
+
 // What a rule of the grammar reads in a sentence of some version.
 pub(crate) trait Part: Drop {
     ghost rule: { ℕ → Rule Self };
@@ -97,7 +101,7 @@ pub(crate) fn listed<T: Part>(reader: &mut Reader, version: u32) -> Result<List<
     requires { Shrinks (T.rule version) }
     ensures { Gives result reader.new (listed (T.rule version) reader.old) }
 {
-    let mut made = List::new(reader.alloc());
+    let mut made = List::with_room(reader.alloc(), FEW)?;
     let part = T::read(reader, version)?;
     made.push(part)?;
     after_commas(reader, version, made)

@@ -1,3 +1,4 @@
+pub mod Classes
 pub mod Digits
 pub mod Faults
 pub mod Held

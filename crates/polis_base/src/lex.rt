@@ -7,11 +7,11 @@ ghost use Rattle.polis_base.specs.Digits.{is_digit};
 ghost use Rattle.polis_base.specs.Tokens.{tokens_of, fault_of, tokens_after, scan, scan_word, scan_number, scan_sign, begins_with, is_blank, bytes_in, width};
 ghost use Rattle.polis_base.specs.Spans.{IsToken, IsNext, AreInOrder};
 
+use crate::class::{BLANK, DIGIT, HASH, LETTER, ZERO, class_of, continues, is_blank};
 use crate::decimal::{is_digit, number_up_to};
 use crate::keyword::keyword_of;
 use crate::limits::NAME_MAX;
 use crate::list::List;
-use crate::name::{begins, continues};
 use crate::token::{Kind, LexError, Sign, Token, Tokens};
 use std::alloc::Global;
 
@@ -24,12 +24,6 @@ pub(crate) enum Scan {
     Read(Kind, u64),
     // A token that doesn't read.
     Faulty(LexError),
-}
-
-const fn is_blank(byte: u8) -> bool
-    ensures { result ≡ is_blank byte }
-{
-    matches!(byte, b' ' | b'\t' | b'\r' | b'\n')
 }
 
 fn word_len(bytes: &[u8]) -> usize
@@ -103,14 +97,30 @@ fn scan_of(at: u64, bytes: &[u8]) -> Scan
     let Some((first, rest)) = bytes.split_first() else {
         return Scan::Skipped(0);
     };
-    match *first {
-        byte if is_blank(byte) => Scan::Skipped(1),
-        b'#' => Scan::Skipped(line_len(bytes) as u64),
-        byte if begins(byte) => scan_word(at, &bytes[..word_len(bytes)]),
-        b'0' => Scan::Read(Kind::Number(0), 1),
-        byte if is_digit(byte) => scan_number(at, &bytes[..digits_len(bytes)]),
-        byte => scan_sign(at, byte, rest),
+    match class_of(*first) {
+        BLANK => Scan::Skipped(1),
+        HASH => Scan::Skipped(line_len(bytes) as u64),
+        LETTER => scan_word(at, &bytes[..word_len(bytes)]),
+        ZERO => Scan::Read(Kind::Number(0), 1),
+        DIGIT => scan_number(at, &bytes[..digits_len(bytes)]),
+        _ => scan_sign(at, *first, rest),
     }
+}
+
+// The first place from this one on where no blank stands, or the end.
+fn after_blanks(text: &[u8], from: usize) -> usize
+    ensures after { from ≤ result }
+    ensures within { from ≤ length text.now → result ≤ length text.now }
+    ensures same { tokens_after text.now result ≡ tokens_after text.now from }
+{
+    let mut at = from;
+    while at < text.len() {
+        if !is_blank(text[at]) {
+            return at;
+        }
+        at += 1;
+    }
+    at
 }
 
 // What stands at a place of a text: at least one byte, and no more than there are.
@@ -120,9 +130,6 @@ fn scan_at(text: &[u8], at: usize) -> Scan
     ensures some { 0 < bytes_in result }
     ensures within { at + bytes_in result ≤ length text.now }
 {
-    if is_blank(text[at]) {
-        return Scan::Skipped(1);
-    }
     scan_of(at as u64, &text[at..])
 }
 
@@ -184,13 +191,13 @@ fn width_of(at: u64, bytes: &[u8]) -> Result<u64, LexError>
     let Some((first, rest)) = bytes.split_first() else {
         return Ok(0);
     };
-    match *first {
-        byte if is_blank(byte) => Ok(1),
-        b'#' => Ok(line_len(bytes) as u64),
-        byte if begins(byte) => width_of_word(at, &bytes[..word_len(bytes)]),
-        b'0' => Ok(1),
-        byte if is_digit(byte) => width_of_other(scan_number(at, &bytes[..digits_len(bytes)])),
-        byte => width_of_other(scan_sign(at, byte, rest)),
+    match class_of(*first) {
+        BLANK => Ok(1),
+        HASH => Ok(line_len(bytes) as u64),
+        LETTER => width_of_word(at, &bytes[..word_len(bytes)]),
+        ZERO => Ok(1),
+        DIGIT => width_of_other(scan_number(at, &bytes[..digits_len(bytes)])),
+        _ => width_of_other(scan_sign(at, *first, rest)),
     }
 }
 
@@ -201,9 +208,6 @@ fn width_at(text: &[u8], at: usize) -> Result<u64, LexError>
     ensures some { IfOk result (λ n. 0 < n) }
     ensures within { IfOk result (λ n. at + n ≤ length text.now) }
 {
-    if is_blank(text[at]) {
-        return Ok(1);
-    }
     width_of(at as u64, &text[at..])
 }
 
@@ -214,10 +218,10 @@ pub fn first_fault(text: &[u8]) -> Option<LexError>
     ensures no_memory { result ≢ Some LexError.NoMemory }
     ensures reads { IfNone result (IsOk (tokens_after text.now 0)) }
 {
-    let mut at = 0;
+    let mut at = after_blanks(text, 0);
     while at < text.len() {
         match width_at(text, at) {
-            Ok(width) => at += width as usize,
+            Ok(width) => at = after_blanks(text, at + width as usize),
             Err(error) => return Some(error),
         }
     }
@@ -231,10 +235,10 @@ pub fn next_token(text: &[u8], from: u64) -> Option<Token>
     ensures some { IfSome result (λ token. IsNext text.now from token) }
     ensures none { IfNone result (tokens_after text.now from ≡ Ok []) }
 {
-    let mut at = from as usize;
+    let mut at = after_blanks(text, from as usize);
     while at < text.len() {
         match scan_at(text, at) {
-            Scan::Skipped(len) => at += len as usize,
+            Scan::Skipped(len) => at = after_blanks(text, at + len as usize),
             Scan::Read(kind, len) => {
                 return Some(Token {
                     kind,

@@ -3,6 +3,7 @@
 #![tactic(auto)]
 
 mod bytes;
+mod class;
 mod decimal;
 mod host;
 pub mod index;

@@ -11,8 +11,8 @@ loop-at-preserved c =
     skipped_on c.loop-at.at c.in-Skipped.len c.args.text.now (sym c.in-Skipped.ensures.scan)
     c.loop-at-test.true c.in-Skipped.ensures.some in
     record {
-      after = omega (arith, c.loop-at.invariant.after);
-      same = sym h ∙ c.loop-at.invariant.same;
+      after = omega (arith, c.loop-at.invariant.after, c.after_blanks-at-in-Skipped.ensures.after);
+      same = c.after_blanks-at-in-Skipped.ensures.same ∙ (sym h ∙ c.loop-at.invariant.same);
     }
 
 pub returns-in-Read : goal.returns-in-Read

@@ -1,7 +1,7 @@
 use Rattle.std.proofs.Common.{◌≡◌, ◌<◌, ◌≤◌, ◌-◌, length, drop, sym, ◌∙◌, ap, arith}
 use Rattle.std.proofs.lemmas.List.{take_rest, length-drop}
 use Rattle.polis_base.specs.Tokens.{scan, bytes_in}
-use Rattle.polis_base.proofs.Scans.{scan_some, scan_within, blank_here}
+use Rattle.polis_base.proofs.Scans.{scan_some, scan_within}
 use Rattle.polis_base.proofs.lex.scan_at.Goals as goal
 
 pub returns : goal.returns
@@ -15,9 +15,3 @@ returns c =
     let within : bytes_in (scan at (drop at text)) ≤ length (drop at text) =
     scan_within at (drop at text) (omega arith) in
     record { scan = here; some = rw here some; within = rw here (omega arith) }
-
-pub returns-then-is_blank : goal.returns-then-is_blank
-returns-then-is_blank c =
-    let text = c.args.text.now in
-    let is = blank_here text c.args.at 0 c.requires (sym c.is_blank.ensures ∙ c.if-is_blank.true) in
-    record { scan = sym is; some = omega arith; within = omega arith }

@@ -1,7 +1,7 @@
 use Rattle.std.proofs.Common.{◌≡◌, ◌<◌, ◌≤◌, ◌-◌, length, drop, sym, ◌∙◌, ap, arith}
 use Rattle.std.proofs.lemmas.List.{take_rest, length-drop}
 use Rattle.polis_base.specs.Tokens.{scan, bytes_in, width}
-use Rattle.polis_base.proofs.Scans.{scan_some, scan_within, blank_here, width_some, width_within}
+use Rattle.polis_base.proofs.Scans.{scan_some, scan_within, width_some, width_within}
 use Rattle.polis_base.proofs.lex.width_at.Goals as goal
 
 pub returns : goal.returns
@@ -19,9 +19,3 @@ returns c =
       some = rw here (width_some (scan at (drop at text)) some);
       within = rw here (width_within (scan at (drop at text)) at (length text) (omega arith));
     }
-
-pub returns-then-is_blank : goal.returns-then-is_blank
-returns-then-is_blank c =
-    let text = c.args.text.now in
-    let is = blank_here text c.args.at 0 c.requires (sym c.is_blank.ensures ∙ c.if-is_blank.true) in
-    record { scan = sym (ap width is); some = omega arith; within = omega arith }

@@ -1,0 +1,14 @@
+use Rattle.std.proofs.Common.{◌≡◌, ◌≤◌, ◌-◌, length}
+use Rattle.polis_base.specs.Tokens.{tokens_after}
+use Rattle.polis_base.proofs.lex.after_blanks.Given as goal
+
+-- the tokens from this place on are those from the given place on
+abbrev pub invariant-loop-at : goal.invariant-loop-at
+invariant-loop-at l = record {
+  after : l.from ≤ l.at;
+  within : l.from ≤ length l.text → l.at ≤ length l.text;
+  same : tokens_after l.text l.at ≡ tokens_after l.text l.from;
+}
+
+abbrev pub decreases-loop-at : goal.decreases-loop-at
+decreases-loop-at l = length l.text - l.at

@@ -1,8 +1,8 @@
 // A reader that stands at a token. It is seen as the tokens that are left.
-ghost use Rattle.std.specs.Prelude.{◌≡◌, ◌<◌, true, List, length, drop, option_map, IfSome, IsTrue, IsOk};
+ghost use Rattle.std.specs.Prelude.{◌≡◌, ◌<◌, true, List, [], length, drop, option_map, Ok, IfSome, IfNone, IsTrue, IsOk};
 ghost use Rattle.polis_base.specs.Lists.{head_of};
 ghost use Rattle.polis_base.specs.Names.{is_name};
-ghost use Rattle.polis_base.specs.Spans.{IsToken};
+ghost use Rattle.polis_base.specs.Spans.{IsToken, IsNext};
 ghost use Rattle.polis_base.specs.Tokens.{tokens_of, tokens_after};
 ghost use Rattle.polis_base.specs.declared.token.Kind.{Kind};
 ghost use Rattle.net_reader.specs.Kinds.{class_of};
@@ -127,17 +127,26 @@ fn is_kind(wanted: Kind, kind: Kind) -> bool
     same(kind, wanted)
 }
 
+// Finds the first token at a place or after it. It is the only place that looks for one, so that
+// all of it is one function, which writes where the reader has its token.
+#[inline(never)]
+fn go_to(text: &[u8], from: u64, next: &mut Option<Token>)
+    requires { IsOk (tokens_after text.now from) }
+    ensures some { IfSome next.new (λ token. IsNext text.now from token) }
+    ensures none { IfNone next.new (tokens_after text.now from ≡ Ok []) }
+{
+    *next = next_token(text, from);
+}
+
 impl<'a> Reader<'a> {
     // At the first token.
     pub(crate) fn new(alloc: Global, text: &'a [u8]) -> Self
         requires { IsOk (tokens_after text.now 0) }
         ensures { result ≡ lexemes text.now (read_tokens (tokens_of text.now)) }
     {
-        Reader {
-            alloc,
-            text,
-            next: next_token(text, 0),
-        }
+        let mut next = None;
+        go_to(text, 0, &mut next);
+        Reader { alloc, text, next }
     }
 
     pub(crate) fn alloc(&self) -> Global {
@@ -162,7 +171,7 @@ impl<'a> Reader<'a> {
         ensures { self.new ≡ drop 1 self.old }
     {
         match self.next {
-            Some(token) => self.next = next_token(self.text, token.at + token.len),
+            Some(token) => go_to(self.text, token.at + token.len, &mut self.next),
             None => {}
         }
     }

@@ -179,6 +179,7 @@ fn one_of(reader: &mut Reader, version: u32, name: Word) -> Result<RawCond, Stop
 
 // What stands after the name of a condition.
 #[tactic(auto, unfolding(crate::specs::Reading::after_name_at))]
+#[inline(always)]
 fn after_name(reader: &mut Reader, version: u32, name: Word) -> Result<RawCond, Stop>
     ensures { Gives result reader.new (after_name_at name reader.old) }
 {
@@ -192,6 +193,7 @@ fn after_name(reader: &mut Reader, version: u32, name: Word) -> Result<RawCond, 
 }
 
 #[tactic(auto, unfolding(crate::specs::Reading::named_at))]
+#[inline(always)]
 fn named(reader: &mut Reader, version: u32) -> Result<RawCond, Stop>
     ensures { Gives result reader.new (named_at reader.old) }
 {
@@ -205,6 +207,7 @@ impl Part for RawCond {
     ghost rule = { λ _. cond_at };
 
     #[tactic(auto, unfolding(crate::specs::Reading::cond_at))]
+    #[inline(always)]
     fn read(reader: &mut Reader, version: u32) -> Result<RawCond, Stop> {
         if reader.sees(Kind::Keyword(KwAbsent)) {
             absent(reader)
@@ -370,6 +373,7 @@ impl Part for RawAct {
     ghost rule = { act_at };
 
     #[tactic(auto, unfolding(crate::specs::Reading::act_at))]
+    #[inline(always)]
     fn read(reader: &mut Reader, version: u32) -> Result<RawAct, Stop> {
         if reader.sees(Kind::Keyword(KwEmit)) {
             emit(reader, version)

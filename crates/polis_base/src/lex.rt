@@ -91,6 +91,7 @@ fn scan_sign(at: u64, first: u8, rest: &[u8]) -> Scan
     }
 }
 
+#[inline(always)]
 fn scan_of(at: u64, bytes: &[u8]) -> Scan
     ensures { result ≡ scan at bytes.now }
 {
@@ -124,6 +125,7 @@ fn after_blanks(text: &[u8], from: usize) -> usize
 }
 
 // What stands at a place of a text: at least one byte, and no more than there are.
+#[inline(always)]
 fn scan_at(text: &[u8], at: usize) -> Scan
     requires { at < length text.now }
     ensures scan { result ≡ scan at (drop at text.now) }
@@ -230,6 +232,7 @@ pub fn first_fault(text: &[u8]) -> Option<LexError>
 
 /// The first token at a place or after it, if one is left, where all from the place on read. It
 /// takes no memory. The token after it is the first from the end of this one on.
+#[inline(always)]
 pub fn next_token(text: &[u8], from: u64) -> Option<Token>
     requires { IsOk (tokens_after text.now from) }
     ensures some { IfSome result (λ token. IsNext text.now from token) }

@@ -7,13 +7,13 @@ use Rattle.net_reader.proofs.reader.Reader.skip.Goals as goal
 pub invariant_of-self : goal.invariant_of-self
 invariant_of-self c =
     stands_after c.self.inside.text.now (c.in-Some.token.at + c.in-Some.token.len)
-    c.next_token-self-inside.result c.next_token-self-inside.ensures.some
+    c.go_to.new.next c.go_to.ensures.some
 
 pub returns-in-Some : goal.returns-in-Some
 returns-in-Some c =
     let text = c.self.inside.text.now in
     let token = c.in-Some.token in
-    let e = left_after text (token.at + token.len) c.next_token-self-inside.result
-    c.next_token-self-inside.ensures.some c.next_token-self-inside.ensures.none in
+    let e = left_after text (token.at + token.len) c.go_to.new.next
+    c.go_to.ensures.some c.go_to.ensures.none in
     ap (lexemes text) e ∙ ap (λ next. drop 1 (lexemes text (left text next))) (sym c.in-Some.is)
     ∙ ap (drop 1) c.self.view_is

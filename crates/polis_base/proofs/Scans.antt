@@ -1,14 +1,15 @@
 -- What stands at a place takes at least one byte, and no more than there are.
-use Rattle.std.proofs.Common.{◌≡◌, ℕ, suc, ◌+◌, ◌<◌, ◌≤◌, Bool, true, false, cond, not, ◌==◌, nat_lt, List, [], ◌∷◌, length, drop, get_or, Some, IfOk, refl, sym, ◌∙◌, ap, arith}
+use Rattle.std.proofs.Common.{◌≡◌, ◌⊎◌, ℕ, suc, ◌+◌, ◌<◌, ◌≤◌, Bool, true, false, cond, not, ◌||◌, ◌==◌, nat_lt, List, [], ◌∷◌, length, drop, get_or, Some, Ok, IfOk, refl, sym, ◌∙◌, ap, arith, inl, inr}
 use Rattle.std.specs.List.{take_while, prefix_len}
 use Rattle.std.proofs.Math.Seq.{drop-cons}
-use Rattle.std.proofs.lemmas.Bool.{cond_both, false≢true}
+use Rattle.std.proofs.lemmas.Bool.{cond_both, eqb-true, false≢true}
 use Rattle.std.proofs.lemmas.Bool.Decides.{nat_tests}
 use Rattle.std.proofs.lemmas.List.Sums.{prefix_len-le-length}
 use Rattle.std.proofs.lemmas.List.Folds.{length-prefix_len}
 use Rattle.polis_base.specs.declared.lex.Scan.{Scan}
 use Rattle.polis_base.specs.declared.lex.Scan.TheVariants.{Skipped, Read, Faulty}
 use Rattle.polis_base.specs.Names.{begins_name, continues_name}
+use Rattle.polis_base.specs.Classes.{is_sign, is_alone}
 use Rattle.polis_base.specs.Digits.{is_digit, number_of}
 use Rattle.polis_base.specs.Tokens.{scan, scan_word, scan_number, scan_sign, begins_with, bytes_in, width, is_blank, word_kind}
 use Rattle.polis_base.specs.Keywords.{keyword_of}
@@ -179,6 +180,39 @@ never_memory at bytes error is memory =
 pub blank_here : (text : List ℕ) (at d : ℕ) → at < length text → is_blank (get_or text at d) ≡ true
     → scan at (drop at text) ≡ Skipped 1
 blank_here text at d below blank = rw (drop-cons text at d below, blank) refl
+
+either_true : (a b : Bool) → (a || b) ≡ true → (a ≡ true) ⊎ (b ≡ true)
+either_true true b h = inl refl
+either_true false b h = inr h
+
+sign_width : (at c n : ℕ) (rest : List ℕ) → (c == n) ≡ true → width (scan at (n ∷ rest)) ≡ Ok 1
+    → width (scan at (c ∷ rest)) ≡ Ok 1
+sign_width at c n rest is wide = rw (eqb-true c n is) wide
+
+alone_width : (at c : ℕ) (rest : List ℕ) → is_alone c ≡ true → width (scan at (c ∷ rest)) ≡ Ok 1
+alone_width at c rest alone =
+    elim (either_true (is_blank c) (is_sign c) alone) [
+      | inl blank ↦ rw blank refl
+      | inr sign ↦ elim (either_true (c == 61) _ sign) [
+        | inl is ↦ sign_width at c 61 rest is refl
+        | inr sign ↦ elim (either_true (c == 44) _ sign) [
+          | inl is ↦ sign_width at c 44 rest is refl
+          | inr sign ↦ elim (either_true (c == 123) _ sign) [
+            | inl is ↦ sign_width at c 123 rest is refl
+            | inr sign ↦ elim (either_true (c == 125) (c == 43) sign) [
+              | inl is ↦ sign_width at c 125 rest is refl
+              | inr is ↦ sign_width at c 43 rest is refl
+            ]
+          ]
+        ]
+      ]
+    ]
+
+-- a blank and such a sign take one byte
+pub alone_here : (text : List ℕ) (at d : ℕ) → at < length text → is_alone (get_or text at d) ≡ true
+    → width (scan at (drop at text)) ≡ Ok 1
+alone_here text at d below alone =
+    rw (drop-cons text at d below) (alone_width at (get_or text at d) (drop (suc at) text) alone)
 
 pub width_some : (f : Scan) → 0 < bytes_in f → IfOk (width f) (λ n. 0 < n)
 width_some (Skipped n) some = some

@@ -1,13 +1,14 @@
 // Cutting a network text into tokens.
 ghost use Rattle.std.specs.Prelude.{◌≡◌, ◌≢◌, ◌+◌, ◌<◌, ◌≤◌, ◌==◌, not, length, drop, Ok, Err, Some, [], IfOk, IfSome, IfNone, IsOk};
 ghost use Rattle.std.specs.List.{prefix_len, All};
+ghost use Rattle.std.specs.Result.{result_err};
 ghost use Rattle.polis_base.specs.declared.token.LexError.{LexError};
 ghost use Rattle.polis_base.specs.Names.{continues_name};
 ghost use Rattle.polis_base.specs.Digits.{is_digit};
 ghost use Rattle.polis_base.specs.Tokens.{tokens_of, fault_of, tokens_after, scan, scan_word, scan_number, scan_sign, begins_with, is_blank, bytes_in, width};
 ghost use Rattle.polis_base.specs.Spans.{IsToken, IsNext, AreInOrder};
 
-use crate::class::{BLANK, DIGIT, HASH, LETTER, ZERO, class_of, continues, is_blank};
+use crate::class::{BLANK, DIGIT, HASH, LETTER, ZERO, class_of, continues, is_alone, is_blank};
 use crate::decimal::{is_digit, number_up_to};
 use crate::keyword::keyword_of;
 use crate::limits::NAME_MAX;
@@ -124,6 +125,23 @@ fn after_blanks(text: &[u8], from: usize) -> usize
     at
 }
 
+// The first place from this one on where neither a blank nor such a sign stands, or the end.
+fn after_alone(text: &[u8], from: usize) -> usize
+    ensures after { from ≤ result }
+    ensures within { from ≤ length text.now → result ≤ length text.now }
+    ensures same { result_err (tokens_after text.now result)
+        ≡ result_err (tokens_after text.now from) }
+{
+    let mut at = from;
+    while at < text.len() {
+        if !is_alone(text[at]) {
+            return at;
+        }
+        at += 1;
+    }
+    at
+}
+
 // What stands at a place of a text: at least one byte, and no more than there are.
 #[inline(always)]
 fn scan_at(text: &[u8], at: usize) -> Scan
@@ -220,10 +238,10 @@ pub fn first_fault(text: &[u8]) -> Option<LexError>
     ensures no_memory { result ≢ Some LexError.NoMemory }
     ensures reads { IfNone result (IsOk (tokens_after text.now 0)) }
 {
-    let mut at = after_blanks(text, 0);
+    let mut at = after_alone(text, 0);
     while at < text.len() {
         match width_at(text, at) {
-            Ok(width) => at = after_blanks(text, at + width as usize),
+            Ok(width) => at = after_alone(text, at + width as usize),
             Err(error) => return Some(error),
         }
     }

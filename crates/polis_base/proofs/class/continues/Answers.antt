@@ -6,4 +6,4 @@ use Rattle.polis_base.proofs.class.continues.Goals as goal
 
 pub returns : goal.returns
 returns c =
-    tests_agree (λ k. nat_le 51 (get_or CLASSES k 0)) continues_name c.args.byte (omega arith) refl
+    tests_agree (λ k. nat_le 52 (get_or CLASSES k 0)) continues_name c.args.byte (omega arith) refl

@@ -5,4 +5,4 @@ use Rattle.polis_base.proofs.Classes.{tests_agree}
 use Rattle.polis_base.proofs.class.is_blank.Goals as goal
 
 pub returns : goal.returns
-returns c = tests_agree (λ k. get_or CLASSES k 0 == 49) is_blank c.args.byte (omega arith) refl
+returns c = tests_agree (λ k. get_or CLASSES k 0 == 48) is_blank c.args.byte (omega arith) refl

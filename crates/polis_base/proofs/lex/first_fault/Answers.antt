@@ -11,9 +11,8 @@ loop-at-preserved c =
     fault_on c.loop-at.at c.in-Ok.width c.args.text.now (sym c.in-Ok.ensures.scan)
     c.loop-at-test.true c.in-Ok.ensures.some in
     record {
-      within = c.after_blanks-at-in-Ok.ensures.within c.in-Ok.ensures.within;
-      same = ap result_err c.after_blanks-at-in-Ok.ensures.same
-          ∙ (sym h ∙ c.loop-at.invariant.same);
+      within = c.after_alone-at-in-Ok.ensures.within c.in-Ok.ensures.within;
+      same = c.after_alone-at-in-Ok.ensures.same ∙ (sym h ∙ c.loop-at.invariant.same);
     }
 
 pub returns-in-Err-clause-fault : goal.returns-in-Err-clause-fault

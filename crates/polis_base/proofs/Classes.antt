@@ -23,7 +23,7 @@ agree_at same is f g (suc n) h b lt =
     elim (cases_eq b n) [
       | inl at ↦ rw at (is (f n) (g n) (left_of (same (f n) (g n)) (agree_below same f g n) h))
       | inr other ↦ agree_at same is f g n
-        (right_of (same (f n) (g n)) (agree_below same f g n) h) b (omega arith)
+          (right_of (same (f n) (g n)) (agree_below same f g n) h) b (omega arith)
     ]
 
 same_bool : (a b : Bool) → beq a b ≡ true → a ≡ b

@@ -1,4 +1,4 @@
-use Rattle.std.proofs.Common.{◌≡◌, ◌<◌, ◌≤◌, ◌-◌, length, drop, sym, ◌∙◌, ap, arith}
+use Rattle.std.proofs.Common.{◌≡◌, ◌<◌, ◌≤◌, ◌-◌, length, drop, ◌∙◌, ap, arith}
 use Rattle.std.proofs.lemmas.List.{take_rest, length-drop}
 use Rattle.polis_base.specs.Tokens.{scan, bytes_in}
 use Rattle.polis_base.proofs.Scans.{scan_some, scan_within}

@@ -50,7 +50,7 @@ fn masks_of(alloc: Global, machine: &Machine, var: u32) -> Result<CodeSets, NoMe
     requires { var < length machine.now.vars }
     ensures { IfOk result (AreMasks machine.now.vars machine.now.rows var) }
 {
-    let mut masks = CodeSets::new(alloc);
+    let mut masks = CodeSets::with_room(alloc, machine.rows.len())?;
     for r in 0..machine.rows.len() {
         masks.push(mask_of(machine, machine.rows.get(r), var))?;
     }

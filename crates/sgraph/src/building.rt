@@ -151,7 +151,7 @@ fn vertices_of(
         ∷ map (λ k. vertex_in (length m.now.vars) (slice_index numbers.now)
         (inner_at store.now.nodes k)) (turned left.now)) }
 {
-    let mut vertices = VertexList::new(alloc);
+    let mut vertices = VertexList::with_room(alloc, numbers.len())?;
     vertices.push(Vertex::Begin { next: 1 })?;
     for i in (0..left.len()).rev() {
         let v = vertex(alloc, m, store, *left.get(i), numbers)?;

@@ -157,13 +157,12 @@ fn arrange(
         vertices ≡ map (λ k. renamed (slice_index numbers.now)
         (vertex_at (replaced g.now reps.now) k)) (turned left.now)) }
 {
-    let mut vertices = VertexList::new(alloc);
+    let mut vertices = VertexList::with_room(alloc, left.len())?;
     for i in (0..left.len()).rev() {
         let k = *left.get(i);
         let v = rename(alloc, g.get(k), reps, numbers)?;
         vertices.push(v)?;
     }
-    vertices.shrink();
     Ok(vertices)
 }
 

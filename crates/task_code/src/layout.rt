@@ -30,7 +30,7 @@ fn width(v: &Vertex, k: u64) -> u64
 fn starts(alloc: Global, g: &Graph) -> Result<Places, NoMemory>
     ensures { IfOk result (λ places. places ≡ map (start g.now) (upto (length g.now))) }
 {
-    let mut places = Places::new(alloc);
+    let mut places = Places::with_room(alloc, g.len())?;
     let mut next = 0;
     for k in 0..g.len() {
         places.push(next)?;
@@ -44,7 +44,7 @@ fn targets(alloc: Global, kids: &Places, starts: &Places) -> Result<Places, NoMe
     requires { (j : ℕ) → j < length kids.now → slice_index kids.now j < length starts.now }
     ensures { IfOk result (λ targets. targets ≡ map (slice_index starts.now) kids.now) }
 {
-    let mut targets = Places::new(alloc);
+    let mut targets = Places::with_room(alloc, kids.len())?;
     for j in 0..kids.len() {
         let target = *starts.get(*kids.get(j));
         targets.push(target)?;

@@ -9,13 +9,20 @@ use std::sync::Wait;
 use std::test::Fail;
 use std::thread::Threads;
 
+mod cells;
 mod counts;
 mod demos;
+mod faults;
 mod gates;
+mod journals;
 mod listings;
 mod networks;
+mod orders;
 mod replays;
 mod rows;
+mod steps;
+mod system;
+mod traces;
 mod workers;
 
 use crate::tests::listings::LAMP_LISTING;
@@ -114,6 +121,14 @@ fn usage<'a>(words: &'a [&'a str]) -> Case<'a> {
         status: Status::Usage,
         ..refusal(words, "usage\n")
     }
+}
+
+// A line of two parts.
+fn line_of(alloc: Global, first: &str, last: &str) -> Result<String, NoMemory> {
+    let mut line = String::from_str(alloc, first)?;
+    line.push_str(last)?;
+    line.push_str("\n")?;
+    Ok(line)
 }
 
 fn make_words(alloc: Global, words: &[&str]) -> Result<Words, NoMemory> {

@@ -45,7 +45,7 @@ impl<'a> Reactor for Counting<'a> {
 }
 
 // A network and a trace of it that are accepted.
-fn inputs_of(alloc: Global, net: &[u8], trace: &[u8]) -> Result<Inputs, Fail>
+pub fn inputs_of(alloc: Global, net: &[u8], trace: &[u8]) -> Result<Inputs, Fail>
     ensures fits { IfOk result (λ inputs. IsTrace inputs.net inputs.trace) }
     ensures deterministic { IfOk result (λ inputs. AreDeterministic inputs.net) }
 {

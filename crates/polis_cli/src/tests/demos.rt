@@ -1,8 +1,10 @@
-// Demos, over a host that holds no file.
+// Demos, over a host that holds no file, and the texts of one, reckoned outside by a script of the
+// definition.
 use crate::tests::make_words;
 use crate::top::polis;
 use event_buffer::OpenGate;
-use polis_base::MemoryHost;
+use net_gen::{Generated, generate};
+use polis_base::{Bytes, MemoryHost};
 use polis_words::Status;
 use std::alloc::Global;
 use std::process::Abort;
@@ -48,4 +50,39 @@ fn a_demo_is_the_same_again(rt: HostRuntime) -> Result<(), Fail> {
     let again = after_demo(&rt, rt.alloc(), "7")?;
     assert!(rt; once.shown() == again.shown());
     Ok(())
+}
+
+const FIRST_LINES: &str =
+    "network demo version 1\ndomain d = 0 .. 7\nevent t0 from env\nevent e0 : d\nevent o0 to env\nevent t1 from env\n";
+
+const FIRST_MACHINE: &str =
+    "machine m0 priority 3 {\n  input t0, e0\n  output e1, o0\n  state s : d = 0\n  when t0, absent e0, s = 0 do s := 1, emit e1 = 1\n  when t0, absent e0, s = 1 do s := 1, emit e1 = 3\n  when t0, absent e0, s = 2 do s := 0, emit e1 = 4\n  when t0, absent e0, s = 3 do s := 3, emit e1 = 6\n  when t0, absent e0, s = 4 do s := 3, emit e1 = 3\n  when t0, absent e0, s = 5 do s := 0, emit e1 = 0\n  when t0, absent e0, s = 6 do s := 5, emit e1 = 2\n  when t0, absent e0, s = 7 do s := 5, emit e1 = 3\n  when e0 = 1 do s := 4, emit e1 = 0\n  when e0 = 2 do s := 7, emit e1 = 1\n  when e0 = 3 do s := 0, emit e1 = 2\n  when e0 = 4 do s := 1, emit e1 = 3\n  when e0 = 5 do s := 6, emit e1 = 4\n  when e0 = 6 do s := 2, emit e1 = 5\n  when e0 = 7 do s := 5, emit e1 = 6\n  when e0 = 0 do s := 0, emit o0\n}\n";
+
+// Where the machine's text begins.
+const FIRST_MACHINE_AT: usize = 1361;
+
+const FIRST_TICKS: &str = "t20\nt17\nt4\nt21\nt8\nt4\nt17\nt8\nt5\nt25\nsettle\nt18\nt10\n";
+
+// The text has these bytes from a place on.
+fn has_at(text: &Bytes, place: usize, wanted: &str) -> bool {
+    let bytes = text.as_slice();
+    match bytes.get(place..) {
+        Some(rest) => rest.starts_with(wanted.as_bytes()),
+        None => false,
+    }
+}
+
+fn begins_as_said(made: &Generated) -> bool {
+    has_at(&made.net, 0, FIRST_LINES)
+        && has_at(&made.net, FIRST_MACHINE_AT, FIRST_MACHINE)
+        && has_at(&made.trace, 0, FIRST_TICKS)
+}
+
+#[test]
+fn the_first_lines(rt: HostRuntime) {
+    let said = match generate(rt.alloc(), 7) {
+        Ok(made) => begins_as_said(&made),
+        Err(_) => false,
+    };
+    assert!(rt; said);
 }

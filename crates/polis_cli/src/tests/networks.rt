@@ -49,19 +49,6 @@ machine b priority 1 {
 }
 ";
 
-// The same text in version 1, which has no sum: byte 162 is the plus.
-pub const ECHO_1: &[u8] = b"network echo version 1
-domain d = 0 .. 7
-event v : d from env
-event w : d to env
-machine m priority 0 {
-  input v
-  output w
-  state s : d = 6
-  when v do s := s + 3, emit w = value v
-}
-";
-
 // Two rows overlap where v is 1, and give the same there.
 pub const ECHO_ROWS: &[u8] = b"network echo version 2
 domain d = 0 .. 7
@@ -88,14 +75,6 @@ machine m priority 0 {
 }
 ";
 
-// Two machines emit p: byte 132 is the second one's.
-pub const TWO_SENDERS: &[u8] =
-    b"network t version 1 event g from env event p to env machine a priority 0 { input g output p } machine b priority 0 { input g output p }";
-
-// A value of an event that is absent: byte 150 is its name after `value`.
-pub const ABSENT_VALUE: &[u8] =
-    b"network t version 2 domain d = 0 .. 1 event v : d from env event w : d to env machine m priority 0 { input v output w when absent v do emit w = value v }";
-
 // 16 events without values make 65,536 snapshots.
 pub const WIDE: &[u8] = b"network t version 1
 event e0 from env
@@ -118,10 +97,6 @@ machine m priority 0 {
   input e0, e1, e2, e3, e4, e5, e6, e7, e8, e9, e10, e11, e12, e13, e14, e15
 }
 ";
-
-// 2 * 23 * 19 * 3 * 5 * 5 are 65,550 snapshots: byte 161 is the machine's name.
-pub const TOO_WIDE: &[u8] =
-    b"network t version 1 domain a = 0 .. 21 domain b = 0 .. 17 domain c = 0 .. 2 domain d = 0 .. 4 event p from env event q : a from env event r : b from env machine m priority 0 { input p, q, r state s : c = 0 state t : d = 0 state u : d = 0 }";
 
 // The text ends where a condition's rest is wanted.
 pub const OPEN_ROW: &[u8] =

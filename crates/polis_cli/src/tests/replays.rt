@@ -1,9 +1,7 @@
 // Whole calls that judge journals, over files in memory, as tables.
-use crate::tests::networks::{JOIN, LAMP, TWO};
-use crate::tests::{Case, PRESS, make_words, try_cases};
-use crate::top::polis;
-use event_buffer::OpenGate;
-use polis_base::{Bytes, MemoryHost, NoMemory};
+use crate::tests::networks::{JOIN, TWO};
+use crate::tests::{Case, PRESS, try_cases};
+use polis_base::NoMemory;
 use polis_words::Status;
 use std::alloc::Global;
 use std::process::Abort;
@@ -329,23 +327,4 @@ fn tells_of_faults_over_journals(rt: HostRuntime) -> Result<(), Fail> {
             failing(&[4], 0, 1, unshown),
         ],
     )
-}
-
-#[test]
-fn refuses_a_journal_of_too_many_entries(rt: HostRuntime) -> Result<(), Fail> {
-    let alloc = rt.alloc();
-    let mut text = Bytes::new(alloc);
-    text.push(b"polis journal 1\n")?;
-    for _ in 0..60_001 {
-        text.push(b"dep env lamp_ctl press\n")?;
-    }
-    let mut host = MemoryHost::new(alloc);
-    host.put("net", LAMP)?;
-    host.put("trc", b"press\n")?;
-    host.put("jnl", text.as_slice())?;
-    let words = make_words(alloc, REPLAY)?;
-    let status = polis(&rt, alloc, &words, &mut host, &OpenGate);
-    assert!(rt; status == Status::Refused);
-    assert!(rt; host.shown() == b"refused jnl line 60002 many\n".as_slice());
-    Ok(())
 }

@@ -4,8 +4,8 @@ use crate::tests::listings::{
     TWO_LISTING, VALUE_LISTING,
 };
 use crate::tests::networks::{
-    ABSENT_VALUE, BELT, CLASH, ECHO, ECHO_1, ECHO_CLASH, ECHO_ROWS, EVEN, JOIN, LAMP, LAMP_2, LOOP,
-    OPEN_ROW, PONG, TOO_WIDE, TWO, TWO_SENDERS, VALUE, WIDE,
+    BELT, CLASH, ECHO, ECHO_CLASH, ECHO_ROWS, EVEN, JOIN, LAMP, LAMP_2, LOOP, OPEN_ROW, PONG, TWO,
+    VALUE, WIDE,
 };
 use crate::tests::{CHECK, COMPILE, Case, PRESS, PRESSED, PRESSED_SHOWN, RUN, try_cases};
 use polis_words::Status;
@@ -253,21 +253,6 @@ fn compiles_networks(rt: HostRuntime) -> Result<(), Fail> {
 }
 
 #[test]
-fn refuses_traces(rt: HostRuntime) -> Result<(), Fail> {
-    try_cases(
-        &rt,
-        rt.alloc(),
-        &[
-            refused(RUN, LAMP, "press\nfoo\n", "refused trc line 2 event\n"),
-            refused(RUN, LAMP, "press 1\n", "refused trc line 1 value\n"),
-            refused(RUN, LAMP, "settle press\n", "refused trc line 1 shape\n"),
-            refused(RUN, VALUE, "v 8\n", "refused trc line 1 value\n"),
-            refused(RUN, VALUE, "v\n", "refused trc line 1 value\n"),
-        ],
-    )
-}
-
-#[test]
 fn checks_networks(rt: HostRuntime) -> Result<(), Fail> {
     try_cases(
         &rt,
@@ -293,29 +278,7 @@ fn checks_networks(rt: HostRuntime) -> Result<(), Fail> {
             ),
             refused(CHECK, CLASH, "", "refused net conflict m 0 2 a b ; -\n"),
             refused(RUN, CLASH, "a\n", "refused net conflict m 0 2 a b ; -\n"),
-            refused(CHECK, TWO_SENDERS, "", "refused net rule 11 132\n"),
-            refused(CHECK, TOO_WIDE, "", "refused net rule 20 161\n"),
-            refused(CHECK, ABSENT_VALUE, "", "refused net rule 22 150\n"),
-            refused(CHECK, ECHO_1, "", "refused net syntax 162\n"),
             refused(CHECK, OPEN_ROW, "", "refused net syntax 77\n"),
-            refused(
-                CHECK,
-                "network %".as_bytes(),
-                "",
-                "refused net lex byte 8\n",
-            ),
-            refused(
-                CHECK,
-                "network abcdefghijklmnopqrstuvwxy".as_bytes(),
-                "",
-                "refused net lex name 8\n",
-            ),
-            refused(
-                CHECK,
-                "network t version 4294967296".as_bytes(),
-                "",
-                "refused net lex number 18\n",
-            ),
             refused(
                 RUN,
                 "network t network %".as_bytes(),

@@ -1,0 +1,135 @@
+// Traces that a run reads, and traces that it refuses.
+use crate::tests::listings::VALUE_LISTING;
+use crate::tests::networks::{LAMP, VALUE};
+use crate::tests::{Case, PRESS, RUN, line_of, refusal, try_case, try_cases};
+use polis_base::NoMemory;
+use polis_words::Status;
+use std::alloc::Global;
+use std::process::Abort;
+use std::sync::Wait;
+use std::test::Fail;
+use std::thread::Threads;
+
+const REPLAY: &[&str] = &["replay", "net", "trc", "jnl"];
+
+// Traces at fault: the lamp reads the pure event `press`, and the other network an event with the
+// values 0 to 7.
+const FAULTS: &[(&[u8], &str, &str)] = &[
+    (LAMP, "settle press\n", "line 1 shape"),
+    (LAMP, "# a\n\nfoo 1 2\n", "line 3 shape"),
+    (LAMP, "press\nfoo\n", "line 2 event"),
+    (LAMP, "light\n", "line 1 event"),
+    (LAMP, "press 1\nfoo\n", "line 1 value"),
+    (LAMP, "press 1\n", "line 1 value"),
+    (VALUE, "v\n", "line 1 value"),
+    (VALUE, "v 8\n", "line 1 value"),
+    (VALUE, "v 07\n", "line 1 value"),
+];
+
+#[test]
+fn refuses_traces(rt: HostRuntime) -> Result<(), Fail> {
+    for (number, (net, trace, fault)) in FAULTS.iter().enumerate() {
+        let shown = line_of(rt.alloc(), "refused trc ", fault)?;
+        let case = Case {
+            net: Some(net),
+            trace: Some(trace),
+            ..refusal(RUN, shown.as_str())
+        };
+        try_case(&rt, rt.alloc(), &case, number)?;
+    }
+    Ok(())
+}
+
+// Blanks, comments, empty lines and a last line without LF.
+const LAID_OUT: Case<'static> = Case {
+    trace: Some("\tpress \r\n# press\n\n   # press\nsettle# wait\npress"),
+    shown: "entries 4 complete
+lost 0
+gathered 0 adopted 0
+machine lamp_ctl vertices 7 code 6 tries 2 steps 9
+",
+    journal: Some(
+        "polis journal 2
+@1 dep env lamp_ctl press
+@2 fire lamp_ctl : press ; s=off -> s=on ; light
+@3 dep env lamp_ctl press
+@4 idle lamp_ctl : press ; s=on
+end 4 complete
+",
+    ),
+    ..PRESS
+};
+
+// The first and the last value. The code tests v and halts.
+const ENDS: Case<'static> = Case {
+    net: Some(VALUE),
+    trace: Some("v 0\nv 7\n"),
+    shown: "entries 3 complete
+lost 1
+gathered 0 adopted 0
+machine m vertices 5 code 4 tries 1 steps 2
+",
+    outputs: Some(""),
+    journal: Some(
+        "polis journal 2
+@1 dep env m v=0
+@2 dep env m v=7
+@3 idle m : v=7 ; -
+end 3 complete
+",
+    ),
+    listing: Some(VALUE_LISTING),
+    ..PRESS
+};
+
+#[test]
+fn reads_traces(rt: HostRuntime) -> Result<(), Fail> {
+    try_cases(&rt, rt.alloc(), &[LAID_OUT, ENDS])
+}
+
+// 5,000 times an event and a settle item, with empty lines between them and a comment after them;
+// and this last line.
+fn many_items(alloc: Global, last: &str) -> Result<String, NoMemory> {
+    let mut text = String::new(alloc);
+    for _ in 0..5_000 {
+        text.push_str("press\n\nsettle\n")?;
+    }
+    text.push_str("# press\n")?;
+    text.push_str(last)?;
+    Ok(text)
+}
+
+// A replay of no entry on a trace.
+fn replayed<'a>(trace: &'a str, status: Status, shown: &'a str) -> Case<'a> {
+    Case {
+        trace: Some(trace),
+        read_journal: Some("polis journal 1\nend 0 limit\n"),
+        status,
+        ..refusal(REPLAY, shown)
+    }
+}
+
+fn try_many<T: Abort + Threads + Wait + Sync>(
+    rt: &T,
+    alloc: Global,
+    last: &str,
+    status: Status,
+    shown: &str,
+) -> Result<(), Fail> {
+    let text = many_items(alloc, last)?;
+    let case = replayed(text.as_str(), status, shown);
+    try_case(rt, alloc, &case, 0)
+}
+
+#[test]
+fn takes_ten_thousand_items(rt: HostRuntime) -> Result<(), Fail> {
+    let alloc = rt.alloc();
+    try_many(
+        &rt,
+        alloc,
+        "settle",
+        Status::Refused,
+        "refused trc line 15002 many\n",
+    )?;
+    try_many(&rt, alloc, "", Status::Done, "legal 0 open\n")
+}

@@ -18,6 +18,7 @@ mod journals;
 mod listings;
 mod networks;
 mod orders;
+mod printed;
 mod replays;
 mod rows;
 mod steps;

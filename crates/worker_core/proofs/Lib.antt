@@ -17,6 +17,5 @@ pub mod Making
 pub mod Giving
 pub mod Turning
 pub mod Passing
-pub mod Agreeing
 pub mod Sizes
 pub mod ByMachine

@@ -1,4 +1,3 @@
-pub mod Agreeing
 pub mod ByMachine
 pub mod Cores
 pub mod CoreLaws

@@ -20,7 +20,6 @@ pub(crate) fn room_for(alloc: Global, places: usize) -> Result<Vec<u16>, NoMemor
 
 // The number of a pair: that which it has, or the next. What is seen under a pair without a number
 // is of no account.
-#[inline(always)]
 fn number_of(
     seen: &mut [u16],
     met: &mut [u32],

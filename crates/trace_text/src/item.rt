@@ -16,7 +16,7 @@ use transition_table::{EventDecl, Network, Party};
 fn is_event(event: &EventDecl, name: &Name) -> bool
     ensures { result ≡ is_sent name.now event.now }
 {
-    event.name.same(name) && matches!(event.sender, Party::Env)
+    matches!(event.sender, Party::Env) && event.name.same(name)
 }
 
 // The number of the event of this name that the environment sends.

@@ -262,28 +262,26 @@ line_is o words request name cause asks fails = of_cause cause fails
 
 -- the line of what failed is shown
 pub failing_line : (o : Option Files) (words : List (List ℕ)) (request : Request) (name : List ℕ)
-    (cause : Cause) (status : Status) (rose : Type 0) (a b : Option (List ℕ))
+    (cause : Cause) (status : Status) (text : List ℕ) (rose : Type 0) (a b : Option (List ℕ))
     → Asks words request → WhereTold o (λ files. Fails request files name cause)
-    → Changes a b (λ old new. (line : List ℕ) × FailsWith name cause status line
-    × ShowsPrefix line rose old new)
+    → FailsWith name cause status text → Changes a b (ShowsPrefix text rose)
     → Changes a b (ShowsLine status words o rose)
-failing_line o words request name cause status rose a b asks fails shown =
-    changes_from a b _ _ shows shown
-  where
-    shows : (old new : List ℕ) → (line : List ℕ) × FailsWith name cause status line
-        × ShowsPrefix line rose old new → ShowsLine status words o rose old new
-    shows old new (line, inl (s, l), prefix) = (
+failing_line o words request name cause status text rose a b asks fails (inl (s, l)) shown =
+    changes_from a b (ShowsPrefix text rose) _
+    (λ old new prefix. (
       failure_line name cause,
       subst (λ (t : Status). IsLineOf t words o (failure_line name cause)) (sym s)
           (line_is o words request name cause asks fails),
       subst (λ (t : List ℕ). ShowsPrefix t rose old new) l prefix,
-    )
-    shows old new (line, inr (s, l), prefix) = (
+    )) shown
+failing_line o words request name cause status text rose a b asks fails (inr (s, l)) shown =
+    changes_from a b (ShowsPrefix text rose) _
+    (λ old new prefix. (
       codes "no memory",
       subst (λ (t : Status). IsLineOf t words o (codes "no memory")) (sym s)
           refl,
       subst (λ (t : List ℕ). ShowsPrefix t rose old new) l prefix,
-    )
+    )) shown
 
 -- a command line that asks for nothing
 pub nothing_asked : (o : Option Files) (words : List (List ℕ)) (P : Files → Request → Type 0)

@@ -1,6 +1,6 @@
 -- Requests that need the calling thread alone.
-use Rattle.std.proofs.Common.{◌≡◌, ◌⊎◌, inl, inr, ◌≤◌, ◌<◌, ℕ, List, arith, codes}
-use Rattle.polis_words.specs.Run.{AsksRun, AsksWorkers, NeedsWorkers}
+use Rattle.std.proofs.Common.{inl, inr, ◌≤◌, ◌<◌, ℕ, List, arith}
+use Rattle.polis_words.specs.Run.{AsksWorkers, NeedsWorkers}
 use Rattle.polis_words.specs.declared.requests.Request.{Request}
 use Rattle.polis_words.specs.declared.requests.Request.TheVariants.{Run, Check, Compile, Replay, Migrate, Demo}
 use Rattle.polis_words.specs.Requests.{Asks}

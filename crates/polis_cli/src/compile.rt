@@ -1,11 +1,11 @@
 // The command `compile`: the machines of a network as code, and their listing.
-ghost use Rattle.std.specs.Prelude.{◌≡◌, ◌≢◌, IfOk, IfErr, OnOk};
-ghost use Rattle.polis_base.specs.Host.{Rose, WhereTold};
+ghost use Rattle.std.specs.Prelude.{IfOk, IfErr};
+ghost use Rattle.polis_base.specs.Host.{WhereTold};
 ghost use Rattle.transition_table.specs.Transitions.{AreDeterministic};
-ghost use Rattle.polis_words.specs.declared.cause.Cause.{Cause};
 ghost use Rattle.polis_cli.specs.Inputs.{FailsNet};
 ghost use Rattle.polis_cli.specs.Writing.{IsWell};
 ghost use Rattle.polis_cli.specs.Compilations.{IsCompileProduct, MakesCompile};
+ghost use Rattle.polis_cli.specs.Left.{LeftByLoads, fails_unread};
 
 use crate::load::load_net;
 use crate::product::{Product, Saving};
@@ -45,14 +45,7 @@ pub fn make_compile<'a, H: Host>(
     ensures failed { IfErr result (λ failure.
         WhereTold (H.files host.old) (λ files.
         FailsNet asked.now.net files failure.name.now failure.cause)) }
-    ensures ok_faults { OnOk result (H.load_faults host.new ≡ H.load_faults host.old) }
-    ensures fault { IfErr result (λ failure. failure.cause ≡ Cause.ReadFault
-        → Rose (H.load_faults host.old) (H.load_faults host.new)) }
-    ensures no_fault { IfErr result (λ failure. failure.cause ≢ Cause.ReadFault
-        → H.load_faults host.new ≡ H.load_faults host.old) }
-    ensures files { H.files host.new ≡ H.files host.old }
-    ensures shown { H.shown host.new ≡ H.shown host.old }
-    ensures write_faults { H.write_faults host.new ≡ H.write_faults host.old }
+    ensures left { LeftByLoads ⟦<H as Host>⟧ (fails_unread result) host.old host.new }
 {
     let name = asked.net();
     let net = match load_net(alloc, host, name) {

@@ -1,14 +1,14 @@
 // Loading the files that a command line names.
-ghost use Rattle.std.specs.Prelude.{◌≡◌, ◌≢◌, ◌≤◌, List, length, Err, IfOk, IfErr, IfSome, OnOk};
-ghost use Rattle.polis_base.specs.Host.{Rose, WhereTold};
+ghost use Rattle.std.specs.Prelude.{◌≡◌, ◌≤◌, List, length, IfOk, IfErr, IfSome};
+ghost use Rattle.polis_base.specs.Host.{WhereTold};
 ghost use Rattle.journals.specs.Journals.{IsTrace, IsJournal};
 ghost use Rattle.journals.specs.declared.entry.TraceItem.{TraceItem};
 ghost use Rattle.journal_text.specs.Texts.{AreStamps};
 ghost use Rattle.transition_table.specs.Transitions.{AreDeterministic};
 ghost use Rattle.transition_table.specs.declared.network.Network.{Network};
-ghost use Rattle.polis_words.specs.declared.cause.Cause.{Cause};
-ghost use Rattle.polis_cli.specs.Inputs.{HoldsText, HoldsNet, HoldsTrace, LoadFails, NetFails, TraceFails, text_max};
-ghost use Rattle.polis_cli.specs.JournalFiles.{HoldsJournal, JournalFails, journal_max};
+ghost use Rattle.polis_cli.specs.Inputs.{HoldsText, HoldsNet, HoldsTrace, LoadFails, NetFails, TraceFails};
+ghost use Rattle.polis_cli.specs.JournalFiles.{HoldsJournal, JournalFails};
+ghost use Rattle.polis_cli.specs.Left.{LeftByLoads, is_unread};
 
 use crate::accept::network_in;
 use journal_text::{JournalFault, ReadJournal, read_journal};
@@ -31,14 +31,7 @@ fn load_text<H: Host>(alloc: Global, host: &mut H, name: &str, max: u64) -> Resu
         WhereTold (H.files host.old) (λ files. HoldsText files max name.now text)) }
     ensures failed { IfErr result (λ cause.
         WhereTold (H.files host.old) (λ files. LoadFails files max name.now cause)) }
-    ensures ok_faults { OnOk result (H.load_faults host.new ≡ H.load_faults host.old) }
-    ensures fault { result ≡ Err Cause.ReadFault
-        → Rose (H.load_faults host.old) (H.load_faults host.new) }
-    ensures no_fault { result ≢ Err Cause.ReadFault
-        → H.load_faults host.new ≡ H.load_faults host.old }
-    ensures files { H.files host.new ≡ H.files host.old }
-    ensures shown { H.shown host.new ≡ H.shown host.old }
-    ensures write_faults { H.write_faults host.new ≡ H.write_faults host.old }
+    ensures left { LeftByLoads ⟦<H as Host>⟧ (is_unread result) host.old host.new }
 {
     let mut text = Bytes::new(alloc);
     match host.load(name, max, &mut text) {
@@ -60,23 +53,10 @@ pub fn load_net<H: Host>(alloc: Global, host: &mut H, name: &str) -> Result<Netw
     ensures deterministic { IfOk result (λ net. AreDeterministic net) }
     ensures failed { IfErr result (λ cause.
         WhereTold (H.files host.old) (λ files. NetFails files name.now cause)) }
-    ensures ok_faults { OnOk result (H.load_faults host.new ≡ H.load_faults host.old) }
-    ensures fault { result ≡ Err Cause.ReadFault
-        → Rose (H.load_faults host.old) (H.load_faults host.new) }
-    ensures no_fault { result ≢ Err Cause.ReadFault
-        → H.load_faults host.new ≡ H.load_faults host.old }
-    ensures files { H.files host.new ≡ H.files host.old }
-    ensures shown { H.shown host.new ≡ H.shown host.old }
-    ensures write_faults { H.write_faults host.new ≡ H.write_faults host.old }
+    ensures left { LeftByLoads ⟦<H as Host>⟧ (is_unread result) host.old host.new }
 {
-    let text = match load_text(alloc, host, name, TEXT_MAX) {
-        Ok(text) => text,
-        Err(cause) => return Err(cause),
-    };
-    match network_in(alloc, text.as_slice()) {
-        Ok(net) => Ok(net),
-        Err(cause) => Err(cause),
-    }
+    let text = load_text(alloc, host, name, TEXT_MAX)?;
+    network_in(alloc, text.as_slice())
 }
 
 /// Loads and reads a trace text of a network.
@@ -91,19 +71,9 @@ pub fn load_trace<H: Host>(
     ensures fits { IfOk result (λ trace. IsTrace net.now trace) }
     ensures failed { IfErr result (λ cause.
         WhereTold (H.files host.old) (λ files. TraceFails files net.now name.now cause)) }
-    ensures ok_faults { OnOk result (H.load_faults host.new ≡ H.load_faults host.old) }
-    ensures fault { result ≡ Err Cause.ReadFault
-        → Rose (H.load_faults host.old) (H.load_faults host.new) }
-    ensures no_fault { result ≢ Err Cause.ReadFault
-        → H.load_faults host.new ≡ H.load_faults host.old }
-    ensures files { H.files host.new ≡ H.files host.old }
-    ensures shown { H.shown host.new ≡ H.shown host.old }
-    ensures write_faults { H.write_faults host.new ≡ H.write_faults host.old }
+    ensures left { LeftByLoads ⟦<H as Host>⟧ (is_unread result) host.old host.new }
 {
-    let text = match load_text(alloc, host, name, TEXT_MAX) {
-        Ok(text) => text,
-        Err(cause) => return Err(cause),
-    };
+    let text = load_text(alloc, host, name, TEXT_MAX)?;
     match read_trace(alloc, net, text.as_slice()) {
         Ok(trace) => Ok(trace),
         Err(TraceFault::Line { line, kind }) => Err(Cause::TraceLine { line, kind }),
@@ -127,19 +97,9 @@ pub fn load_journal<H: Host>(
     ensures failed { IfErr result (λ cause.
         WhereTold (H.files host.old) (λ files. (trace : List TraceItem)
         → JournalFails files net.now trace name.now cause)) }
-    ensures ok_faults { OnOk result (H.load_faults host.new ≡ H.load_faults host.old) }
-    ensures fault { result ≡ Err Cause.ReadFault
-        → Rose (H.load_faults host.old) (H.load_faults host.new) }
-    ensures no_fault { result ≢ Err Cause.ReadFault
-        → H.load_faults host.new ≡ H.load_faults host.old }
-    ensures files { H.files host.new ≡ H.files host.old }
-    ensures shown { H.shown host.new ≡ H.shown host.old }
-    ensures write_faults { H.write_faults host.new ≡ H.write_faults host.old }
+    ensures left { LeftByLoads ⟦<H as Host>⟧ (is_unread result) host.old host.new }
 {
-    let text = match load_text(alloc, host, name, JOURNAL_MAX) {
-        Ok(text) => text,
-        Err(cause) => return Err(cause),
-    };
+    let text = load_text(alloc, host, name, JOURNAL_MAX)?;
     match read_journal(alloc, net, text.as_slice()) {
         Ok(read) => Ok(read),
         Err(JournalFault::Line { line, kind }) => Err(Cause::JournalLine { line, kind }),

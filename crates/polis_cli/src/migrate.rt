@@ -1,11 +1,11 @@
 // The command `migrate`: a legal journal with its least stamps.
-ghost use Rattle.std.specs.Prelude.{◌≡◌, ◌≢◌, ◌≤◌, length, IfOk, IfErr, OnOk};
-ghost use Rattle.polis_base.specs.Host.{Rose, WhereTold};
+ghost use Rattle.std.specs.Prelude.{◌≤◌, length, IfOk, IfErr};
+ghost use Rattle.polis_base.specs.Host.{WhereTold};
 ghost use Rattle.journals.specs.Legality.{Legal};
-ghost use Rattle.polis_words.specs.declared.cause.Cause.{Cause};
 ghost use Rattle.polis_cli.specs.Writing.{IsWell};
 ghost use Rattle.polis_cli.specs.Replays.{FailsReplay};
 ghost use Rattle.polis_cli.specs.Migrations.{IsMigrateProduct, MakesMigrate};
+ghost use Rattle.polis_cli.specs.Left.{LeftByLoads, fails_unread};
 
 use crate::product::{Product, Saving};
 use crate::replay::{Judged, judge_journal};
@@ -46,14 +46,7 @@ pub fn make_migrate<'a, H: Host>(
     ensures failed { IfErr result (λ failure.
         WhereTold (H.files host.old) (λ files.
         FailsReplay asked.now.replay files failure.name.now failure.cause)) }
-    ensures ok_faults { OnOk result (H.load_faults host.new ≡ H.load_faults host.old) }
-    ensures fault { IfErr result (λ failure. failure.cause ≡ Cause.ReadFault
-        → Rose (H.load_faults host.old) (H.load_faults host.new)) }
-    ensures no_fault { IfErr result (λ failure. failure.cause ≢ Cause.ReadFault
-        → H.load_faults host.new ≡ H.load_faults host.old) }
-    ensures files { H.files host.new ≡ H.files host.old }
-    ensures shown { H.shown host.new ≡ H.shown host.old }
-    ensures write_faults { H.write_faults host.new ≡ H.write_faults host.old }
+    ensures left { LeftByLoads ⟦<H as Host>⟧ (fails_unread result) host.old host.new }
 {
     let replay = asked.replay();
     let judged = match judge_journal(alloc, host, replay) {

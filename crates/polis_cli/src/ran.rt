@@ -1,5 +1,5 @@
 // Running a network on a trace: the journal, and how much of it workers gathered.
-ghost use Rattle.std.specs.Prelude.{◌≡◌, ◌≤◌, [], length, IfOk};
+ghost use Rattle.std.specs.Prelude.{◌≤◌, length, IfOk};
 ghost use Rattle.journals.specs.Journals.{IsTrace};
 ghost use Rattle.journals.specs.Legality.{Legal};
 ghost use Rattle.polis_cli.specs.Runs.{CarriesOn, IsRan};

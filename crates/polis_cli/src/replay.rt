@@ -1,13 +1,13 @@
 // The command `replay`: whether a journal is legal.
-ghost use Rattle.std.specs.Prelude.{◌≡◌, ◌≢◌, ◌≤◌, length, IfOk, IfErr, IfSome, OnOk};
-ghost use Rattle.polis_base.specs.Host.{Rose, WhereTold};
+ghost use Rattle.std.specs.Prelude.{◌≤◌, length, IfOk, IfErr, IfSome};
+ghost use Rattle.polis_base.specs.Host.{WhereTold};
 ghost use Rattle.journals.specs.Journals.{IsTrace, IsJournal};
 ghost use Rattle.journals.specs.Legality.{Legal};
 ghost use Rattle.journal_text.specs.Texts.{AreStamps};
 ghost use Rattle.transition_table.specs.Transitions.{AreDeterministic};
-ghost use Rattle.polis_words.specs.declared.cause.Cause.{Cause};
 ghost use Rattle.polis_cli.specs.Writing.{IsWell};
 ghost use Rattle.polis_cli.specs.Replays.{IsJudged, IsFound, MakesReplay, FailsReplay};
+ghost use Rattle.polis_cli.specs.Left.{LeftByLoads, fails_unread};
 
 use crate::inputs::{Inputs, load_inputs};
 use crate::load::load_journal;
@@ -87,14 +87,7 @@ pub fn judge_journal<'a, H: Host>(
     ensures failed { IfErr result (λ failure.
         WhereTold (H.files host.old) (λ files.
         FailsReplay asked.now files failure.name.now failure.cause)) }
-    ensures ok_faults { OnOk result (H.load_faults host.new ≡ H.load_faults host.old) }
-    ensures fault { IfErr result (λ failure. failure.cause ≡ Cause.ReadFault
-        → Rose (H.load_faults host.old) (H.load_faults host.new)) }
-    ensures no_fault { IfErr result (λ failure. failure.cause ≢ Cause.ReadFault
-        → H.load_faults host.new ≡ H.load_faults host.old) }
-    ensures files { H.files host.new ≡ H.files host.old }
-    ensures shown { H.shown host.new ≡ H.shown host.old }
-    ensures write_faults { H.write_faults host.new ≡ H.write_faults host.old }
+    ensures left { LeftByLoads ⟦<H as Host>⟧ (fails_unread result) host.old host.new }
 {
     let inputs = match load_inputs(alloc, host, asked.net(), asked.trace()) {
         Ok(inputs) => inputs,
@@ -134,19 +127,9 @@ pub fn make_replay<'a, H: Host>(
     ensures failed { IfErr result (λ failure.
         WhereTold (H.files host.old) (λ files.
         FailsReplay asked.now files failure.name.now failure.cause)) }
-    ensures ok_faults { OnOk result (H.load_faults host.new ≡ H.load_faults host.old) }
-    ensures fault { IfErr result (λ failure. failure.cause ≡ Cause.ReadFault
-        → Rose (H.load_faults host.old) (H.load_faults host.new)) }
-    ensures no_fault { IfErr result (λ failure. failure.cause ≢ Cause.ReadFault
-        → H.load_faults host.new ≡ H.load_faults host.old) }
-    ensures files { H.files host.new ≡ H.files host.old }
-    ensures shown { H.shown host.new ≡ H.shown host.old }
-    ensures write_faults { H.write_faults host.new ≡ H.write_faults host.old }
+    ensures left { LeftByLoads ⟦<H as Host>⟧ (fails_unread result) host.old host.new }
 {
-    let judged = match judge_journal(alloc, host, asked) {
-        Ok(judged) => judged,
-        Err(failure) => return Err(failure),
-    };
+    let judged = judge_journal(alloc, host, asked)?;
     match print_legal(alloc, judged.read.journal.len(), judged.complete) {
         Ok(shown) => Ok(Product {
             saves: List::new(alloc),

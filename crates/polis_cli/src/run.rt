@@ -1,13 +1,13 @@
 // The command `run`: a network on a trace, and the texts of that run.
-ghost use Rattle.std.specs.Prelude.{◌≡◌, ◌≢◌, ◌<◌, ◌≤◌, [], ◌∷◌, ◌++◌, codes, length, IfOk, IfErr, OnOk};
-ghost use Rattle.polis_base.specs.Host.{Rose, WhereTold};
+ghost use Rattle.std.specs.Prelude.{◌≡◌, ◌<◌, ◌≤◌, [], ◌∷◌, ◌++◌, codes, length, IfOk, IfErr};
+ghost use Rattle.polis_base.specs.Host.{WhereTold};
 ghost use Rattle.journals.specs.Journals.{IsTrace, IsJournal};
 ghost use Rattle.transition_table.specs.Transitions.{AreDeterministic};
 ghost use Rattle.machine_compiler.specs.Parts.{AreRight, parts_of};
-ghost use Rattle.polis_words.specs.declared.cause.Cause.{Cause};
 ghost use Rattle.polis_words.specs.Run.{entry_max};
 ghost use Rattle.polis_cli.specs.Writing.{IsWell};
 ghost use Rattle.polis_cli.specs.Runs.{IsRan, IsRunProduct, MakesRun, FailsRun, end_status, run_text};
+ghost use Rattle.polis_cli.specs.Left.{LeftByLoads, fails_unread};
 
 use crate::inputs::{Inputs, load_inputs};
 use crate::product::{Product, Saving};
@@ -147,26 +147,6 @@ fn product_by<T: Threads + Wait + Sync, G: Gate + Sync>(
     texts_of(alloc, asked, inputs, &compiled, &ran)
 }
 
-// Runs the network on the trace by as many workers as are asked for.
-fn product_of<T: Threads + Wait + Sync, G: Gate + Sync>(
-    rt: &T,
-    alloc: Global,
-    asked: &Run<'_>,
-    inputs: &Inputs,
-    gate: &G,
-) -> Result<Product, NoMemory>
-    requires trace { IsTrace inputs.now.net inputs.now.trace }
-    requires deterministic { AreDeterministic inputs.now.net }
-    ensures { IfOk result (λ product.
-        IsRunProduct asked.now inputs.now.net inputs.now.trace product) }
-{
-    if asked.workers() > 1 {
-        product_by(rt, alloc, asked, inputs, gate)
-    } else {
-        product_alone(alloc, asked, inputs)
-    }
-}
-
 /// What a run by one worker makes of the files.
 pub fn make_run<'a, H: Host>(
     alloc: Global,
@@ -180,14 +160,7 @@ pub fn make_run<'a, H: Host>(
     ensures failed { IfErr result (λ failure.
         WhereTold (H.files host.old) (λ files.
         FailsRun run.now files failure.name.now failure.cause)) }
-    ensures ok_faults { OnOk result (H.load_faults host.new ≡ H.load_faults host.old) }
-    ensures fault { IfErr result (λ failure. failure.cause ≡ Cause.ReadFault
-        → Rose (H.load_faults host.old) (H.load_faults host.new)) }
-    ensures no_fault { IfErr result (λ failure. failure.cause ≢ Cause.ReadFault
-        → H.load_faults host.new ≡ H.load_faults host.old) }
-    ensures files { H.files host.new ≡ H.files host.old }
-    ensures shown { H.shown host.new ≡ H.shown host.old }
-    ensures write_faults { H.write_faults host.new ≡ H.write_faults host.old }
+    ensures left { LeftByLoads ⟦<H as Host>⟧ (fails_unread result) host.old host.new }
 {
     let inputs = match load_inputs(alloc, host, run.net(), run.trace()) {
         Ok(inputs) => inputs,
@@ -216,20 +189,16 @@ pub fn make_run_by<'a, T: Threads + Wait + Sync, H: Host, G: Gate + Sync>(
     ensures failed { IfErr result (λ failure.
         WhereTold (H.files host.old) (λ files.
         FailsRun run.now files failure.name.now failure.cause)) }
-    ensures ok_faults { OnOk result (H.load_faults host.new ≡ H.load_faults host.old) }
-    ensures fault { IfErr result (λ failure. failure.cause ≡ Cause.ReadFault
-        → Rose (H.load_faults host.old) (H.load_faults host.new)) }
-    ensures no_fault { IfErr result (λ failure. failure.cause ≢ Cause.ReadFault
-        → H.load_faults host.new ≡ H.load_faults host.old) }
-    ensures files { H.files host.new ≡ H.files host.old }
-    ensures shown { H.shown host.new ≡ H.shown host.old }
-    ensures write_faults { H.write_faults host.new ≡ H.write_faults host.old }
+    ensures left { LeftByLoads ⟦<H as Host>⟧ (fails_unread result) host.old host.new }
 {
+    if run.workers() == 1 {
+        return make_run(alloc, host, run);
+    }
     let inputs = match load_inputs(alloc, host, run.net(), run.trace()) {
         Ok(inputs) => inputs,
         Err(failure) => return Err(failure),
     };
-    match product_of(rt, alloc, run, &inputs, gate) {
+    match product_by(rt, alloc, run, &inputs, gate) {
         Ok(product) => Ok(product),
         Err(NoMemory) => Err(Failure {
             name: run.net(),

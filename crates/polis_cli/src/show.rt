@@ -1,8 +1,7 @@
 // Showing the one line of a call that wrote nothing.
-ghost use Rattle.std.specs.Prelude.{◌≡◌, ◌≤◌, ◌⊎◌, List, ℕ};
-ghost use Rattle.polis_base.specs.Host.{Rose, Changes};
-ghost use Rattle.polis_words.specs.Lines.{status_of};
-ghost use Rattle.polis_cli.specs.Shown.{ShowsPrefix, FailsWith, no_memory_line};
+ghost use Rattle.std.specs.Prelude.{◌≡◌, List, ℕ};
+ghost use Rattle.polis_cli.specs.Shown.{FailsWith, no_memory_line};
+ghost use Rattle.polis_cli.specs.Left.{LeftByLine};
 
 use polis_base::{Host, NoMemory};
 use polis_words::{Failure, Status, line_of};
@@ -10,11 +9,7 @@ use std::alloc::Global;
 
 /// Shows a line. Whether it could be shown isn't looked at.
 pub fn show_line<H: Host>(host: &mut H, line: &[u8])
-    ensures shown { Changes (H.shown host.old) (H.shown host.new)
-        (ShowsPrefix line.now (Rose (H.write_faults host.old) (H.write_faults host.new))) }
-    ensures files { H.files host.new ≡ H.files host.old }
-    ensures load_faults { H.load_faults host.new ≡ H.load_faults host.old }
-    ensures write_faults { H.write_faults host.old ≤ H.write_faults host.new }
+    ensures { LeftByLine ⟦<H as Host>⟧ line.now host.old host.new }
 {
     let _ = host.show(line);
 }
@@ -22,11 +17,7 @@ pub fn show_line<H: Host>(host: &mut H, line: &[u8])
 /// Shows that memory ran out.
 pub fn no_memory<H: Host>(host: &mut H) -> Status
     ensures status { result ≡ Status.NoMemory }
-    ensures shown { Changes (H.shown host.old) (H.shown host.new)
-        (ShowsPrefix no_memory_line (Rose (H.write_faults host.old) (H.write_faults host.new))) }
-    ensures files { H.files host.new ≡ H.files host.old }
-    ensures load_faults { H.load_faults host.new ≡ H.load_faults host.old }
-    ensures write_faults { H.write_faults host.old ≤ H.write_faults host.new }
+    ensures left { LeftByLine ⟦<H as Host>⟧ no_memory_line host.old host.new }
 {
     show_line(host, b"no memory\n");
     Status::NoMemory
@@ -34,13 +25,8 @@ pub fn no_memory<H: Host>(host: &mut H) -> Status
 
 /// Shows the line of a failure, and gives its status.
 pub fn fail<H: Host>(alloc: Global, host: &mut H, failure: &Failure<'_>) -> Status
-    ensures shown { Changes (H.shown host.old) (H.shown host.new)
-        (λ old new. (line : List ℕ) × FailsWith failure.now.name.now failure.now.cause result line
-        × ShowsPrefix line (Rose (H.write_faults host.old) (H.write_faults host.new)) old new) }
-    ensures status { (result ≡ status_of failure.now.cause) ⊎ (result ≡ Status.NoMemory) }
-    ensures files { H.files host.new ≡ H.files host.old }
-    ensures load_faults { H.load_faults host.new ≡ H.load_faults host.old }
-    ensures write_faults { H.write_faults host.old ≤ H.write_faults host.new }
+    ensures { (line : List ℕ) × FailsWith failure.now.name.now failure.now.cause result line
+        × LeftByLine ⟦<H as Host>⟧ line host.old host.new }
 {
     match line_of(alloc, failure) {
         Ok(line) => {

@@ -1,10 +1,10 @@
 // The calls that do the program's work.
-ghost use Rattle.std.specs.Prelude.{◌≡◌, ◌≢◌, IfOk, IfErr, OnOk};
-ghost use Rattle.polis_base.specs.Host.{Rose, WhereTold};
-ghost use Rattle.polis_words.specs.declared.cause.Cause.{Cause};
+ghost use Rattle.std.specs.Prelude.{◌≡◌, IfOk, IfErr};
+ghost use Rattle.polis_base.specs.Host.{WhereTold};
 ghost use Rattle.polis_words.specs.declared.status.Status.{Status};
 ghost use Rattle.polis_words.specs.Run.{NeedsWorkers};
 ghost use Rattle.polis_cli.specs.Commands.{Makes, Fails, IsSerial};
+ghost use Rattle.polis_cli.specs.Left.{LeftByLoads, fails_unread};
 ghost use Rattle.polis_cli.specs.Writing.{IsWell};
 ghost use Rattle.polis_cli.specs.Promise.{Answers, Leaves, outside};
 ghost use Rattle.polis_cli.specs.Demos.{FailsDemo, MakesDemo, OfDemo};
@@ -51,14 +51,7 @@ fn make<'a, H: Host>(
     ensures failed { IfErr result (λ failure.
         WhereTold (H.files host.old) (λ files.
         Fails request.now files failure.name.now failure.cause)) }
-    ensures ok_faults { OnOk result (H.load_faults host.new ≡ H.load_faults host.old) }
-    ensures fault { IfErr result (λ failure. failure.cause ≡ Cause.ReadFault
-        → Rose (H.load_faults host.old) (H.load_faults host.new)) }
-    ensures no_fault { IfErr result (λ failure. failure.cause ≢ Cause.ReadFault
-        → H.load_faults host.new ≡ H.load_faults host.old) }
-    ensures files { H.files host.new ≡ H.files host.old }
-    ensures shown { H.shown host.new ≡ H.shown host.old }
-    ensures write_faults { H.write_faults host.new ≡ H.write_faults host.old }
+    ensures left { LeftByLoads ⟦<H as Host>⟧ (fails_unread result) host.old host.new }
     ensures demo { IfOk result (λ product. OfDemo request.now (product.status ≡ Status.Done)) }
     ensures no_demo { IfErr result (λ failure. OfDemo request.now (FailsDemo failure.cause)) }
 {
@@ -86,24 +79,13 @@ fn make_by<'a, T: Threads + Wait + Sync, H: Host, G: Gate + Sync>(
     ensures failed { IfErr result (λ failure.
         WhereTold (H.files host.old) (λ files.
         Fails request.now files failure.name.now failure.cause)) }
-    ensures ok_faults { OnOk result (H.load_faults host.new ≡ H.load_faults host.old) }
-    ensures fault { IfErr result (λ failure. failure.cause ≡ Cause.ReadFault
-        → Rose (H.load_faults host.old) (H.load_faults host.new)) }
-    ensures no_fault { IfErr result (λ failure. failure.cause ≢ Cause.ReadFault
-        → H.load_faults host.new ≡ H.load_faults host.old) }
-    ensures files { H.files host.new ≡ H.files host.old }
-    ensures shown { H.shown host.new ≡ H.shown host.old }
-    ensures write_faults { H.write_faults host.new ≡ H.write_faults host.old }
+    ensures left { LeftByLoads ⟦<H as Host>⟧ (fails_unread result) host.old host.new }
     ensures demo { IfOk result (λ product. OfDemo request.now (product.status ≡ Status.Done)) }
     ensures no_demo { IfErr result (λ failure. OfDemo request.now (FailsDemo failure.cause)) }
 {
     match request {
         Request::Run(run) => make_run_by(rt, alloc, host, run, gate),
-        Request::Check(check) => make_check(alloc, host, check),
-        Request::Compile(compile) => make_compile(alloc, host, compile),
-        Request::Replay(replay) => make_replay(alloc, host, replay),
-        Request::Migrate(migrate) => make_migrate(alloc, host, migrate),
-        Request::Demo(demo) => demo_or_failure(alloc, demo),
+        other => make(alloc, host, other),
     }
 }
 
@@ -166,7 +148,7 @@ fn by_workers<T: Threads + Wait + Sync, H: Host, G: Gate + Sync>(
         }
     };
     match make_by(rt, alloc, host, &request, gate) {
-        Ok(made) => write_product(host, &made),
+        Ok(product) => write_product(host, &product),
         Err(failure) => fail(alloc, host, &failure),
     }
 }

@@ -2,7 +2,8 @@
 ghost use Rattle.std.specs.Prelude.{◌≡◌, ◌⊎◌, Err, OnOk, IfErr, IsTrue};
 ghost use Rattle.polis_base.specs.Host.{Rose, Changes};
 ghost use Rattle.polis_cli.specs.Saves.{files_after};
-ghost use Rattle.polis_cli.specs.Writing.{is_end, SavesText, ShowsLineOf, StopsSaving, ShowsText, Writes};
+ghost use Rattle.polis_cli.specs.Writing.{is_end, SavesText, ShowsLineOf, StopsSaving, ShowsText};
+ghost use Rattle.polis_cli.specs.Left.{LeftByWriting};
 
 use crate::product::{Product, Saving};
 use crate::show::{no_memory, show_line};
@@ -80,13 +81,7 @@ fn show_text<H: Host>(host: &mut H, text: &[u8], end: Status) -> Status
 /// ends the call.
 pub fn write_product<H: Host>(host: &mut H, product: &Product) -> Status
     requires { IsTrue (is_end product.now.status) }
-    ensures written { Writes result product.now (Rose (H.write_faults host.old) (H.write_faults host.new))
-        (H.files host.old) (H.files host.new) (H.shown host.old) (H.shown host.new) }
-    ensures fault { result ≡ Status.WriteFault
-        → Rose (H.write_faults host.old) (H.write_faults host.new) }
-    ensures end_faults { IsTrue (is_end result)
-        → H.write_faults host.new ≡ H.write_faults host.old }
-    ensures load_faults { H.load_faults host.new ≡ H.load_faults host.old }
+    ensures { LeftByWriting ⟦<H as Host>⟧ result product.now host.old host.new }
 {
     match save_all(host, product.saves.as_slice()) {
         Ok(()) => show_text(host, product.shown.as_slice(), product.status),

@@ -13,7 +13,7 @@ returns-in-Err-load_journal-clause-failed g c =
     c.journal-name.ensures
     (rw (c.net.ensures, c.trace.ensures) at c.in-Ok.ensures.held)
     (rw c.net.ensures at c.in-Ok.ensures.one)
-    (rw (c.in-Ok.ensures.files, c.journal-name.ensures) at c.in-Err-load_journal.ensures.failed)
+    (rw (c.in-Ok.ensures.left.files, c.journal-name.ensures) at c.in-Err-load_journal.ensures.failed)
 
 pub returns-in-Ok-Legal-clause-judged : goal.returns-in-Ok-Legal-clause-judged
 returns-in-Ok-Legal-clause-judged g c =
@@ -21,7 +21,7 @@ returns-in-Ok-Legal-clause-judged g c =
     judged_is (g.H.Host.files c.args.host.now) c.args.asked.now c.in-Ok.inputs.net
     c.in-Ok.inputs.trace read.journal read.stamps c.in-Ok-Legal.complete
     (rw (c.net.ensures, c.trace.ensures) at c.in-Ok.ensures.held)
-    (rw (c.in-Ok.ensures.files, c.journal-name.ensures) at c.in-Ok-load_journal.ensures.held)
+    (rw (c.in-Ok.ensures.left.files, c.journal-name.ensures) at c.in-Ok-load_journal.ensures.held)
     (rw c.in-Ok-Legal.field-0-is at c.in-Ok-Legal.ensures)
 
 pub returns-in-Ok-Illegal-clause-failed : goal.returns-in-Ok-Illegal-clause-failed
@@ -32,7 +32,7 @@ returns-in-Ok-Illegal-clause-failed g c =
     c.in-Ok-Illegal.entry c.journal-name.ensures
     (rw (c.net.ensures, c.trace.ensures) at c.in-Ok.ensures.held)
     (rw c.net.ensures at c.in-Ok.ensures.one)
-    (rw (c.in-Ok.ensures.files, c.journal-name.ensures) at c.in-Ok-load_journal.ensures.held)
+    (rw (c.in-Ok.ensures.left.files, c.journal-name.ensures) at c.in-Ok-load_journal.ensures.held)
     (rw c.in-Ok-Illegal.field-0-is at c.in-Ok-Illegal.ensures)
 
 pub returns-clause-failed : goal.returns-clause-failed

@@ -2,6 +2,7 @@ mod Bits
 mod Columns
 mod Counting
 mod Ends
+mod Known
 mod Lists
 mod Narrowing
 mod Ones

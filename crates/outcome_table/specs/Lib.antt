@@ -1,3 +1,4 @@
+pub mod Known
 pub mod Masks
 pub mod Needs
 pub mod Numbering

@@ -5,6 +5,7 @@ mod column;
 mod mask;
 mod need;
 mod number;
+mod outcomes;
 mod row;
 mod table;
 

@@ -14,6 +14,7 @@ ghost use Rattle.transition_table.specs.Computed.{result_codes};
 use crate::column::lists_from;
 use crate::mask::{CodeSets, mask_table};
 use crate::need::ends_of;
+use crate::outcomes::Outcomes;
 use crate::row::{are_codes, blank_codes, row_codes};
 use domains::{Codes, first_codes};
 use polis_base::{List, NoMemory, Places};
@@ -26,7 +27,7 @@ pub(crate) struct Numbered {
     /// For each snapshot the number of its outcome.
     pub(crate) numbers: Vec<u64>,
     /// For each number the codes of the results.
-    pub(crate) outcomes: List<Codes>,
+    pub(crate) outcomes: Outcomes,
 }
 
 // What stays while rows are narrowed.
@@ -114,7 +115,7 @@ fn number_after(
     rows: &[u64],
     at: u64,
     s: &Snapshot,
-    outcomes: &mut List<Codes>,
+    outcomes: &mut Outcomes,
 ) -> Result<u64, NoMemory>
     requires at { at ≤ length narrowing.now.machine.now.vars }
     requires snapshot { IsSnapshot narrowing.now.machine.now s.now }
@@ -135,8 +136,7 @@ fn number_after(
     }
     let row = narrowing.machine.rows.get(r);
     let codes = row_codes(narrowing.alloc, narrowing.machine, row, s)?;
-    let number = outcomes.len();
-    outcomes.push(codes)?;
+    let number = outcomes.add(codes)?;
     Ok(number)
 }
 
@@ -285,7 +285,7 @@ pub(crate) fn numbers_of(alloc: Global, m: &Machine) -> Result<Numbered, NoMemor
     let counts = counts_of(alloc, m)?;
     let mut made = Numbered {
         numbers: Vec::with_capacity(alloc, *counts.get(0) as usize)?,
-        outcomes: row_outcomes(alloc, m, &s)?,
+        outcomes: Outcomes::of(alloc, row_outcomes(alloc, m, &s)?),
     };
     let rows = numbers_below(alloc, m.rows.len())?;
     let narrowing = Narrowing {

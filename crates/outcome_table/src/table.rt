@@ -33,6 +33,6 @@ pub fn table_of(alloc: Global, m: &Machine) -> Result<Table, NoMemory>
     Ok(Table {
         codes,
         numbers,
-        outcomes: numbered.outcomes,
+        outcomes: numbered.outcomes.into_list(),
     })
 }

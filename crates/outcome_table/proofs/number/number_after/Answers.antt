@@ -1,6 +1,6 @@
-use Rattle.std.proofs.Common.{◌≡◌, ◌∙◌, ◌+◌, ◌-◌, ◌<◌, ◌≤◌, ◌++◌, ◌∷◌, [], ℕ, Bool, true, List, length, take, drop, get_or, slice_get, slice_index, Some, refl, arith, ap, sym, subst}
-use Rattle.std.proofs.Math.Seq.{take-length, take-append_seam}
-use Rattle.std.proofs.lemmas.List.{length_push, get_or_push, length-take-le, take-append-drop}
+use Rattle.std.proofs.Common.{◌≡◌, ◌∙◌, ◌-◌, ◌<◌, ◌≤◌, ◌++◌, ◌∷◌, [], ℕ, Bool, true, List, length, take, drop, get_or, slice_get, slice_index, Some, refl, arith, ap, sym, subst}
+use Rattle.std.proofs.Math.Seq.{take-length}
+use Rattle.std.proofs.lemmas.List.{length-take-le, take-append-drop}
 use Rattle.std.proofs.lemmas.Option.{slice_get_within}
 use Rattle.transition_table.specs.Orders.{codes_of}
 use Rattle.transition_table.specs.Transitions.{outcome_of}
@@ -115,28 +115,19 @@ returns c =
     let m = c.args.narrowing.now.machine.now in
     let s = c.args.s.now.codes in
     let fixed = take c.args.at s in
-    let old = c.args.outcomes.now in
     let r : ℕ = get_or c.args.rows.now 0 0 in
-    let made : List ℕ = c.in_ok-codes.codes in
     let h = head m s c.args.narrowing.now.ends.now c.args.rows.now c.args.at
     (fits_long m.vars s c.requires.snapshot) c.requires.at c.requires.rows
     c.requires.ends c.requires.end c.if-rows-eq0.false in
     let there = h.at in
     let same : c.get-row.result.now ≡ h.first.row = let a = there in let b = c.get-row.ensures in
     cc in
-    let outcomes = c.in_ok-push.ensures.ok in
-    let size = length_push old made in
-    let grown : length c.push.new.self ≡ length old + 1 =
-    ap (λ (xs : List (List ℕ)). length xs) outcomes ∙ size in
-    let k = c.len-number.result in
-    let last : k ≡ length old = c.len-number.ensures in
     record {
-      kept = ap (take (length old)) outcomes ∙ take-append_seam old (made ∷ []);
+      kept = c.in_ok-number.ensures.kept;
       number = record {
-        low = omega arith;
+        low = c.in_ok-number.ensures.low;
         gives = λ rest.
-            ap (λ (xs : List (List ℕ)). get_or xs k []) outcomes
-            ∙ get_or_push old made [] k (sym last)
+            c.in_ok-number.ensures.is
             ∙ c.in_ok-codes.ensures
             ∙ ap (λ (row : Row). codes_of (outcome_of m s true row.acts)) same
             ∙ ap (λ (codes : List ℕ). codes_of (outcome_of m codes true h.first.row.acts))

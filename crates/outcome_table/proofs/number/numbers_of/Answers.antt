@@ -13,13 +13,13 @@ number_rest-requires-clause-rows c =
 
 pub number_rest-requires-clause-begins : goal.number_rest-requires-clause-begins
 number_rest-requires-clause-begins c =
-    begin c.args.m.now c.in_ok-first_codes.field-0 c.in_ok-fixed.fixed c.in_ok-row_outcomes.field-0
-    c.in_ok-row_outcomes.ensures c.in_ok-fixed.ensures
+    rw c.of.ensures (begin c.args.m.now c.in_ok-first_codes.field-0 c.in_ok-fixed.fixed
+    c.in_ok-row_outcomes.field-0 c.in_ok-row_outcomes.ensures c.in_ok-fixed.ensures)
 
 pub returns-clause-results : goal.returns-clause-results
 returns-clause-results c =
     let m = c.args.m.now in
     c.in_ok-number_rest.ensures.adds.results
-    ∙ ap (λ (xs : List ℕ). named c.in_ok-row_outcomes.field-0 xs
+    ∙ ap (λ (xs : List ℕ). named c.of.result xs
     ++ map (result_codes m) (lists_after [] m.vars)) c.in_ok-with_capacity.ensures.items
     ∙ ap (map (result_codes c.args.m.now)) (lists_all c.args.m.now.vars)

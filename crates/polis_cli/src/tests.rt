@@ -14,7 +14,7 @@ mod counts;
 mod demos;
 mod faults;
 mod gates;
-mod journals;
+mod journal_faults;
 mod listings;
 mod networks;
 mod orders;

@@ -5,9 +5,8 @@ use Rattle.std.proofs.lemmas.Grind.{same_number_lists}
 use Rattle.std.proofs.lemmas.List.{length_push}
 use Rattle.polis_base.specs.Lists.{upto}
 use Rattle.domains.specs.Tables.{fits}
-use Rattle.decision_diagram.specs.declared.node.Node.{Node}
 use Rattle.domains.specs.Orders.{IsPermutation, place}
-use Rattle.decision_diagram.specs.Diagrams.{Diagrams, inner_at, step, follow, AreReduced, Means}
+use Rattle.decision_diagram.specs.Diagrams.{Diagrams, Node, inner_at, step, follow, AreReduced, Means}
 use Rattle.decision_diagram.specs.Sizes.{by_variable}
 use Rattle.decision_diagram.proofs.Fitting.{fits_long, fits_at}
 use Rattle.decision_diagram.proofs.Places.{place_below, place_of_item, at_place}

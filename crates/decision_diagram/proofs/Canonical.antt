@@ -4,9 +4,8 @@ use Rattle.std.proofs.lemmas.Bool.{cases_lt, cases_eq, eqb-true, eq-eqb}
 use Rattle.std.proofs.lemmas.List.{get_or-drop}
 use Rattle.std.proofs.lemmas.Grind.{same_number_lists}
 use Rattle.domains.specs.Tables.{fits}
-use Rattle.decision_diagram.specs.declared.node.Node.{Node}
 use Rattle.domains.specs.Orders.{place}
-use Rattle.decision_diagram.specs.Diagrams.{Diagrams, inner_at, step, follow, level_of, IsNode, value_of, AreReduced}
+use Rattle.decision_diagram.specs.Diagrams.{Diagrams, Node, inner_at, step, follow, level_of, IsNode, value_of, AreReduced}
 use Rattle.decision_diagram.proofs.Fitting.{fits_long, fits_set, fits_zeros, size_some}
 use Rattle.decision_diagram.proofs.Nodes.{none_low, cases_inner, step_here}
 use Rattle.decision_diagram.proofs.Values.{level_none, level_some, level_below, item_at_level, follow_none, follow_one, follow_codes, step_before, step_within}

@@ -6,9 +6,8 @@ use Rattle.std.proofs.lemmas.Bool.{and_parts, and_from, cases_Bool, eqb-true, eq
 use Rattle.std.proofs.lemmas.List.{append_assoc, append-nil, map-append, take_more, take-append-drop, drop_more}
 use Rattle.polis_base.specs.Lists.{upto}
 use Rattle.domains.specs.Tables.{fits}
-use Rattle.decision_diagram.specs.declared.node.Node.{Node}
 use Rattle.domains.specs.Orders.{place}
-use Rattle.decision_diagram.specs.Diagrams.{Diagrams, inner_at, step, level_of, IsNode, AreReduced, Means, kids_of, kids_in}
+use Rattle.decision_diagram.specs.Diagrams.{Diagrams, Node, inner_at, step, level_of, IsNode, AreReduced, Means, kids_of, kids_in}
 use Rattle.decision_diagram.specs.Reached.{Walk, Reaches, marked, CountsReached}
 use Rattle.domains.specs.AllCodes.{all_codes}
 use Rattle.decision_diagram.specs.Sizes.{levels, size_along}

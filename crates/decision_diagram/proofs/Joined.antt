@@ -4,9 +4,8 @@ use Rattle.std.specs.List.{Contains}
 use Rattle.std.proofs.lemmas.Bool.{and_parts, and_from, cases_Bool, eq-eqb, or_left, or_right, true≢false}
 use Rattle.std.proofs.lemmas.List.{get_or_default}
 use Rattle.domains.specs.Tables.{fits}
-use Rattle.decision_diagram.specs.declared.node.Node.{Node}
 use Rattle.domains.specs.Orders.{place}
-use Rattle.decision_diagram.specs.Diagrams.{Diagrams, inner_at, kids_in, kids_of}
+use Rattle.decision_diagram.specs.Diagrams.{Diagrams, Node, inner_at, kids_in, kids_of}
 use Rattle.decision_diagram.specs.Reached.{Reaches}
 use Rattle.decision_diagram.specs.Sets.{stands}
 

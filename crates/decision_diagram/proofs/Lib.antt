@@ -5,6 +5,7 @@ pub mod Values
 pub mod Fitting
 pub mod Canonical
 pub mod Growth
+pub mod Keys
 pub mod Meanings
 pub mod Operating
 pub mod Marking

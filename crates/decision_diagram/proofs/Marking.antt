@@ -3,8 +3,7 @@ use Rattle.std.proofs.Common.{◌≡◌, ⊎_elim, ℕ, zero, suc, ◌+◌, ◌-
 use Rattle.std.specs.List.{list_any, Contains}
 use Rattle.std.proofs.lemmas.Bool.{cases_lt, cases_eq, or_cases, or_left, or_right, eqb-true, eq-eqb, false≢true}
 use Rattle.std.proofs.lemmas.List.{append-nil, get_or-replicate, get_or_default, get_or_past, take_all, drop_all}
-use Rattle.decision_diagram.specs.declared.node.Node.{Node}
-use Rattle.decision_diagram.specs.Diagrams.{Diagrams, inner_at, kids_in, kids_of, IsNode}
+use Rattle.decision_diagram.specs.Diagrams.{Diagrams, Node, inner_at, kids_in, kids_of, IsNode}
 use Rattle.decision_diagram.specs.Reached.{Walk, Reaches, marked, CountsReached}
 use Rattle.decision_diagram.proofs.Nodes.{cases_inner, inner_within}
 

@@ -3,16 +3,13 @@ use Rattle.std.proofs.Common.{◌≡◌, ⊎_elim, ℕ, ◌+◌, ◌<◌, ◌≤
 use Rattle.std.specs.Int.{bit_at}
 use Rattle.std.proofs.lemmas.Bool.{cases_Bool, cases_lt, cond-true, cond-false}
 use Rattle.domains.specs.Tables.{fits}
-use Rattle.decision_diagram.specs.declared.node.Node.{Node}
 use Rattle.decision_diagram.specs.declared.node.Shape.TheVariants.{Inner}
 use Rattle.decision_diagram.specs.Constants.{constant_node}
-use Rattle.polis_base.specs.Index.{Keyed, found}
 use Rattle.domains.specs.Orders.{place}
-use Rattle.decision_diagram.specs.Stores.{IsIndexed}
-use Rattle.decision_diagram.specs.Diagrams.{Diagrams, inner_at, shape_in, shape_of, level_in, level_of, IsNode, value_of, AreReduced, Keeps, IsNew, Means, choice}
+use Rattle.decision_diagram.specs.Diagrams.{Diagrams, Node, inner_at, shape_in, shape_of, level_in, level_of, IsNode, value_of, AreReduced, Keeps, IsNew, Means, choice}
 use Rattle.decision_diagram.proofs.Fitting.{fits_at, size_some}
 use Rattle.decision_diagram.proofs.Places.{place_below, at_place}
-use Rattle.decision_diagram.proofs.Growth.{with_node, keeps_same, keeps_node, reduced_more, indexed_fresh}
+use Rattle.decision_diagram.proofs.Growth.{with_node, keeps_same, keeps_node, reduced_more}
 use Rattle.decision_diagram.proofs.Nodes.{inner_low, inner_last, inner_within, cases_inner}
 use Rattle.decision_diagram.proofs.Values.{level_none, level_some, item_at_level, value_none, value_inner}
 
@@ -96,23 +93,24 @@ pub level_new : (s : Diagrams) (node : Node) (n : ℕ) → n ≡ length s.nodes 
 level_new s node n is = let e =
     level_some (with_node s node) n node (inner_last s.nodes node n is) in omega arith
 
--- a node that the index hasn't, and whose children differ, may be made
+-- a node that isn't there, and whose children differ, may be made
 pub new_node : (s : Diagrams) → AreReduced s
-    → (index : Keyed) (var : ℕ) (kids key : List ℕ) → IsIndexed s.nodes index
-    → key ≡ var ∷ kids → found index key ≡ None → var < length s.sizes
+    → (var : ℕ) (kids : List ℕ)
+    → ((n : ℕ) (other : Node) → inner_at s.nodes n ≡ Some other → other.var ≡ var
+    → other.kids ≡ kids → ⊥) → var < length s.sizes
     → length kids ≡ slice_index s.sizes var
     → ((code : ℕ) → code < length kids → IsNode s (slice_index kids code))
     → ((code : ℕ) → code < length kids → place s.order var < level_of s (slice_index kids code))
     → ((kid : ℕ) → 0 < length kids → ((code : ℕ) → code < length kids → slice_index kids code ≡ kid)
     → ⊥) → IsNew s (record { var = var; kids = kids })
-new_node s ok index var kids key indexed key_is none below long nodes later varied = record {
+new_node s ok var kids fresh below long nodes later varied = record {
   var = below;
   kids = long;
   nodes = nodes;
   later = later;
   varied = λ kid same. let some = size_some s.sizes ok.sizes var below in
       varied kid (omega arith) same;
-  fresh = indexed_fresh s index var kids key indexed key_is none;
+  fresh = fresh;
 }
 
 -- ---- what a call of `push_node` leaves

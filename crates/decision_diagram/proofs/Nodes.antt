@@ -1,8 +1,7 @@
 -- Inner nodes by their numbers, and what reading a variable does.
 use Rattle.std.proofs.Common.{◌≡◌, ◌≢◌, ◌⊎◌, inl, inr, ⊎_elim, ℕ, zero, suc, ◌+◌, ◌-◌, ◌<◌, ◌≤◌, eqb, ltb, List, [], ◌∷◌, ◌++◌, length, get_or, slice_get, slice_index, Option, Some, None, refl, sym, ap, ◌∙◌, arith}
 use Rattle.std.proofs.lemmas.Bool.{cases_lt, lt-ltb, le-ltb, eq-eqb, ne_eqb, cond-true, cond-false}
-use Rattle.decision_diagram.specs.declared.node.Node.{Node}
-use Rattle.decision_diagram.specs.Diagrams.{inner_at, step}
+use Rattle.decision_diagram.specs.Diagrams.{Node, inner_at, step}
 use Rattle.decision_diagram.proofs.Lists.{read_some}
 
 get_prefix : (nodes more : List Node) (k : ℕ) → k < length nodes
@@ -24,8 +23,9 @@ get_past (x ∷ xs) (suc k) h = get_past xs k (omega arith)
 low : (nodes : List Node) (n : ℕ) → n < 2 → inner_at nodes n ≡ None
 low nodes n h = cond-true (ltb n 2) None (slice_get nodes (n - 2)) (lt-ltb n 2 h)
 
-high : (nodes : List Node) (n : ℕ) → 2 ≤ n → inner_at nodes n ≡ slice_get nodes (n - 2)
-high nodes n h = cond-false (ltb n 2) None (slice_get nodes (n - 2)) (le-ltb n 2 h)
+-- the other numbers are those of inner nodes
+pub inner_high : (nodes : List Node) (n : ℕ) → 2 ≤ n → inner_at nodes n ≡ slice_get nodes (n - 2)
+inner_high nodes n h = cond-false (ltb n 2) None (slice_get nodes (n - 2)) (le-ltb n 2 h)
 
 -- False and True are no inner nodes
 pub inner_low : (nodes : List Node) (n : ℕ) → n < 2 → inner_at nodes n ≡ None
@@ -37,8 +37,8 @@ pub inner_prefix : (nodes more : List Node) (n : ℕ) → n < length nodes + 2
 inner_prefix nodes more n h =
     ⊎_elim
     (λ small. low (nodes ++ more) n small ∙ sym (low nodes n small))
-    (λ large. high (nodes ++ more) n large ∙ get_prefix nodes more (n - 2) (omega arith)
-    ∙ sym (high nodes n large))
+    (λ large. inner_high (nodes ++ more) n large ∙ get_prefix nodes more (n - 2) (omega arith)
+    ∙ sym (inner_high nodes n large))
     (cases_lt n 2)
 
 -- the newest node
@@ -46,11 +46,11 @@ pub inner_last : (nodes : List Node) (node : Node) (n : ℕ) → n ≡ length no
     → inner_at (nodes ++ node ∷ []) n ≡ Some node
 inner_last nodes node n is =
     let e : n - 2 ≡ length nodes = omega arith in
-    high (nodes ++ node ∷ []) n (omega arith) ∙ ap (slice_get (nodes ++ node ∷ [])) e
+    inner_high (nodes ++ node ∷ []) n (omega arith) ∙ ap (slice_get (nodes ++ node ∷ [])) e
     ∙ get_last nodes node
 
 pub inner_past : (nodes : List Node) (n : ℕ) → length nodes + 2 ≤ n → inner_at nodes n ≡ None
-inner_past nodes n h = high nodes n (omega arith) ∙ get_past nodes (n - 2) (omega arith)
+inner_past nodes n h = inner_high nodes n (omega arith) ∙ get_past nodes (n - 2) (omega arith)
 
 -- an inner node has its number after True's and below the number of all
 pub inner_within : (nodes : List Node) (n : ℕ) (node : Node) → inner_at nodes n ≡ Some node
@@ -86,7 +86,7 @@ none_low nodes n h none =
     ⊎_elim
     (λ small. small)
     (λ large. let w = some_there nodes (n - 2) (omega arith) in
-    absurd (let e : None ≡ Some w.0 = sym none ∙ high nodes n large ∙ w.1 in cc))
+    absurd (let e : None ≡ Some w.0 = sym none ∙ inner_high nodes n large ∙ w.1 in cc))
     (cases_lt n 2)
 
 -- ---- reading one variable
@@ -109,5 +109,5 @@ step_other o node var code n is other =
 pub inner_read : (nodes : List Node) (n k : ℕ) (node : Node) → 2 ≤ n → n < length nodes + 2
     → k ≡ n - 2 → node ≡ get_or nodes k node → inner_at nodes n ≡ Some node
 inner_read nodes n k node large within at is =
-    high nodes n large ∙ ap (slice_get nodes) (sym at) ∙ read_some nodes k node (omega arith)
+    inner_high nodes n large ∙ ap (slice_get nodes) (sym at) ∙ read_some nodes k node (omega arith)
     ∙ ap Some (sym is)

@@ -1,9 +1,8 @@
 -- The nodes that codes lead to, from the root on.
 use Rattle.std.proofs.Common.{◌≡◌, ℕ, zero, suc, ◌+◌, ◌-◌, ◌<◌, ◌≤◌, List, [], ◌∷◌, ◌++◌, length, take, slice_index, Some, refl, ap, ◌∙◌, arith}
 use Rattle.std.proofs.lemmas.List.{take_more}
-use Rattle.decision_diagram.specs.declared.node.Node.{Node}
 use Rattle.domains.specs.Orders.{place}
-use Rattle.decision_diagram.specs.Diagrams.{Diagrams, inner_at, step, follow, level_of, AreReduced}
+use Rattle.decision_diagram.specs.Diagrams.{Diagrams, Node, inner_at, step, follow, level_of, AreReduced}
 use Rattle.decision_diagram.proofs.Nodes.{step_here}
 use Rattle.decision_diagram.proofs.Values.{level_some, level_below, level_within, item_at_level, step_before}
 use Rattle.decision_diagram.specs.Leading.{led, LeadTo}

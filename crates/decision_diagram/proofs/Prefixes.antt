@@ -3,9 +3,8 @@ use Rattle.std.proofs.Common.{◌≡◌, ◌≢◌, ◌⊎◌, inl, inr, ⊎_eli
 use Rattle.std.proofs.lemmas.Bool.{cases_eq, eq-eqb}
 use Rattle.std.proofs.lemmas.List.{take-append-drop}
 use Rattle.domains.specs.Tables.{fits}
-use Rattle.decision_diagram.specs.declared.node.Node.{Node}
 use Rattle.domains.specs.Orders.{place}
-use Rattle.decision_diagram.specs.Diagrams.{Diagrams, inner_at, step, follow, level_of, IsNode, value_of, AreReduced}
+use Rattle.decision_diagram.specs.Diagrams.{Diagrams, Node, inner_at, step, follow, level_of, IsNode, value_of, AreReduced}
 use Rattle.decision_diagram.specs.Leading.{led, TrueSomewhere, Decided}
 use Rattle.decision_diagram.proofs.Fitting.{fits_long, fits_at, fits_set, fits_zeros}
 use Rattle.decision_diagram.proofs.Nodes.{none_low, cases_inner, inner_within}

@@ -6,8 +6,7 @@ use Rattle.std.proofs.lemmas.Bool.{and_parts, and_from, cases_Bool, eqb-true, tr
 use Rattle.std.proofs.lemmas.List.{append_assoc, map-append}
 use Rattle.polis_base.specs.Lists.{upto}
 use Rattle.domains.specs.Tables.{fits}
-use Rattle.decision_diagram.specs.declared.node.Node.{Node}
-use Rattle.decision_diagram.specs.Diagrams.{Diagrams, inner_at, step, follow, level_of, IsNode, AreReduced, Means}
+use Rattle.decision_diagram.specs.Diagrams.{Diagrams, Node, inner_at, step, follow, level_of, IsNode, AreReduced, Means}
 use Rattle.domains.specs.AllCodes.{all_codes}
 use Rattle.decision_diagram.specs.Truths.{same_truth, same_truths, different}
 use Rattle.decision_diagram.specs.Sizes.{by_variable, truths, turns, depends, level}

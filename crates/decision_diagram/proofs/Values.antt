@@ -2,9 +2,8 @@
 use Rattle.std.proofs.Common.{◌≡◌, ⊎_elim, ℕ, zero, suc, ◌+◌, ◌<◌, ◌≤◌, eqb, List, [], ◌∷◌, ◌++◌, length, drop, slice_index, Option, Some, None, refl, sym, ap, ◌∙◌, arith}
 use Rattle.std.proofs.lemmas.Bool.{cases_lt, cases_eq}
 use Rattle.std.proofs.lemmas.List.{get_or_past, drop_more}
-use Rattle.decision_diagram.specs.declared.node.Node.{Node}
 use Rattle.domains.specs.Orders.{place}
-use Rattle.decision_diagram.specs.Diagrams.{Diagrams, inner_at, step, follow, level_in, level_of, value_of, AreReduced}
+use Rattle.decision_diagram.specs.Diagrams.{Diagrams, Node, inner_at, step, follow, level_in, level_of, value_of, AreReduced}
 use Rattle.decision_diagram.proofs.Places.{place_below, place_of_item, at_place}
 use Rattle.decision_diagram.proofs.Nodes.{inner_prefix, inner_within, cases_inner, step_none, step_here, step_other}
 

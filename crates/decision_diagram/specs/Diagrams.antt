@@ -2,9 +2,13 @@
 use Rattle.std.specs.Prelude.{◌≡◌, ℕ, ◌+◌, ◌-◌, ◌<◌, ◌==◌, Bool, cond, nat_lt, List, [], ◌∷◌, length, Option, Some, None, slice_get, slice_index, IsTrue}
 use Rattle.domains.specs.Tables.{fits, are_sizes}
 use Rattle.domains.specs.Orders.{IsPermutation, place}
-use Rattle.decision_diagram.specs.declared.node.Node.{Node}
 use Rattle.decision_diagram.specs.declared.node.Shape.{Shape}
 use Rattle.decision_diagram.specs.declared.node.Shape.TheVariants.{False, True, Inner}
+
+-- an inner node: its variable, and its children, one for each code
+pub record Node : Type 0 where
+  pub var : ℕ
+  pub kids : List ℕ
 
 -- The sizes of the variables, the order in which they are read, and the inner nodes, children
 -- first. Node 0 is false, node 1 is true, and the inner nodes have the numbers from 2 on.

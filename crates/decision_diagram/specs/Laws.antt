@@ -1,9 +1,8 @@
 -- Laws of diagrams, for whoever reads one.
 use Rattle.std.specs.Prelude.{◌≡◌, ◌≢◌, ℕ, Bool, true, List, [], length, Some, IsTrue}
 use Rattle.domains.specs.Tables.{fits, are_sizes}
-use Rattle.decision_diagram.specs.declared.node.Node.{Node}
 use Rattle.domains.specs.Orders.{IsPermutation}
-use Rattle.decision_diagram.specs.Diagrams.{Diagrams, inner_at, IsNode, AreReduced, Means}
+use Rattle.decision_diagram.specs.Diagrams.{Diagrams, Node, inner_at, IsNode, AreReduced, Means}
 use Rattle.decision_diagram.specs.Reached.{Reaches, CountsReached}
 use Rattle.decision_diagram.specs.Sizes.{size_along}
 use Rattle.decision_diagram.specs.Sets.{sum_of_levels}

@@ -1,5 +1,6 @@
 pub mod Constants
 pub mod Diagrams
+pub mod Keys
 pub mod Laws
 pub mod Leading
 pub mod Operations

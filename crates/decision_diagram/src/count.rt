@@ -10,16 +10,15 @@ use crate::store::Store;
 use polis_base::NoMemory;
 
 // Marks inner nodes. The mark of node `n` stands at place `n - 2`.
-fn mark(marks: &mut [bool], kids: &[NodeId])
+fn mark(marks: &mut [bool], kids: &[u64])
     requires { (code : ℕ) → code < length kids.now
         → slice_index kids.now code < length marks.old + 2 }
     ensures { (m : ℕ) → 2 ≤ m → m < length marks.old + 2
         → marked marks.new m ≡ (marked marks.old m || list_any (nat_eq m) kids.now) }
 {
     for kid in kids {
-        let number = kid.number();
-        if number >= 2 {
-            marks[(number - 2) as usize] = true;
+        if *kid >= 2 {
+            marks[(*kid - 2) as usize] = true;
         }
     }
 }
@@ -42,12 +41,12 @@ impl Store {
         self.same_value_same_node();
         let mut i = (self.node_count() - 2) as usize;
         let mut marks = vec![in self.global(); false; i]?;
-        mark(&mut marks, &[n]);
+        mark(&mut marks, &[n.number()]);
         while i > 0 {
             i -= 1;
             if marks[i] {
                 let node = self.inner(i as u64 + 2);
-                mark(&mut marks, node.kids.as_slice());
+                mark(&mut marks, node.kids());
             }
         }
         Ok(marked_count(&marks))

@@ -1,5 +1,5 @@
 // Nodes of a diagram.
-use polis_base::{Duplicate, List, NoMemory};
+use polis_base::{Duplicate, NoMemory};
 use std::marker::Model;
 
 /// A node of a store, by its number: 0 is the node that is false, 1 is the one that is true, and
@@ -53,11 +53,48 @@ impl Duplicate for NodeId {
     }
 }
 
-/// An inner node: a variable, and one child for each of its codes.
+/// An inner node: a variable, and one child for each of its codes. It lends the key that the store
+/// keeps of it.
 #[derive(Drop)]
-pub(crate) struct Node {
-    pub(crate) var: u32,
-    pub(crate) kids: List<NodeId>,
+pub(crate) struct Node<'a> {
+    key: &'a [u64],
+}
+
+impl<'a> Model for Node<'a> {
+    ghost use Rattle.decision_diagram.specs.Diagrams.{Node as VarAndKids};
+    ghost use Rattle.decision_diagram.specs.Keys.{node_of, IsKey};
+
+    ghost Value = { VarAndKids };
+
+    ghost view = { λ n. node_of n.key.now };
+
+    ghost invariant = { λ n. IsKey n.key.now };
+}
+
+impl<'a> Node<'a> {
+    ghost use Rattle.std.specs.Prelude.{◌≡◌};
+    ghost use Rattle.decision_diagram.specs.Keys.{node_of, IsKey};
+
+    // The node of a key.
+    pub(crate) fn new(key: &'a [u64]) -> Node<'a>
+        requires { IsKey key.now }
+        ensures { result ≡ node_of key.now }
+    {
+        Node { key }
+    }
+
+    pub(crate) fn var(&self) -> u32
+        ensures { result ≡ self.now.var }
+    {
+        self.key[0] as u32
+    }
+
+    // The numbers of the children.
+    pub(crate) fn kids(&self) -> &'a [u64]
+        ensures { result.now ≡ self.now.kids }
+    {
+        &self.key[1..]
+    }
 }
 
 /// What kind of node a node is.

@@ -4,7 +4,7 @@ ghost use Rattle.std.specs.Int.{bit_at};
 ghost use Rattle.domains.specs.Tables.{fits};
 ghost use Rattle.decision_diagram.specs.Constants.{constant_node};
 ghost use Rattle.decision_diagram.specs.Operations.{IsResult, AreResults};
-ghost use Rattle.polis_base.specs.Index.{found};
+ghost use Rattle.decision_diagram.specs.Keys.{number_of, IsKey};
 ghost use Rattle.domains.specs.Orders.{place};
 ghost use Rattle.decision_diagram.specs.Diagrams.{IsNode, inner_at, value_of, shape_of, kids_of, level_of, choice, Keeps, Means, IsNew, AreReduced, IsCanonical};
 
@@ -12,10 +12,14 @@ use crate::node::{Node, NodeId, Shape};
 use crate::operation::Operation;
 use crate::order::Order;
 use domains::{Codes, VarTable};
+use indexmap::IndexSet;
 use polis_base::index::{Index, empty_index, enter, find};
-use polis_base::{Duplicate, List, NoMemory};
+use polis_base::{Duplicate, NoMemory};
 use std::alloc::Global;
 use std::marker::Model;
+
+// The keys of the inner nodes, in the order in which they were made.
+type Keys = IndexSet<Vec<u64>>;
 
 /// Diagrams over the variables of one table, read in one order. Equal functions are one node.
 #[derive(Drop)]
@@ -23,8 +27,7 @@ pub struct Store {
     alloc: Global,
     vars: VarTable,
     order: Order,
-    nodes: Vec<Node>,
-    index: Index,
+    nodes: Keys,
     conjunctions: Index,
     disjunctions: Index,
 }
@@ -81,7 +84,8 @@ fn literal_kids(alloc: Global, size: u8, codes: u64) -> Result<Vec<NodeId>, NoMe
 
 // A variable and its children as a key.
 fn key_of(alloc: Global, var: u32, kids: &[NodeId]) -> Result<Vec<u64>, NoMemory>
-    ensures { IfOk result (λ key. key.items ≡ var ∷ kids.now) }
+    ensures items { IfOk result (λ key. key.items ≡ var ∷ kids.now) }
+    ensures key { IfOk result (λ key. IsKey key.items) }
 {
     let mut key = Vec::with_capacity(alloc, kids.len() + 1)?;
     key.push(u64::from(var))?;
@@ -91,17 +95,20 @@ fn key_of(alloc: Global, var: u32, kids: &[NodeId]) -> Result<Vec<u64>, NoMemory
     Ok(key)
 }
 
-// The number under a variable and its children. It takes no memory.
-fn find_node(index: &Index, var: u32, kids: &[NodeId]) -> Option<u64>
+// The number of the node with a variable and children. It takes no memory.
+fn find_node(keys: &Keys, var: u32, kids: &[NodeId]) -> Option<u64>
     requires { length kids.now ≤ 33 }
-    ensures { result ≡ found index.now (var ∷ kids.now) }
+    ensures { result ≡ number_of keys.now.keys (var ∷ kids.now) }
 {
+    let count = keys.len();
     let mut key = [0u64; 34];
     key[0] = u64::from(var);
     for (i, kid) in kids.iter().enumerate() {
         key[i + 1] = kid.number();
     }
-    find(index, &key[..kids.len() + 1])
+    let place = keys.get_index_of(&key[..kids.len() + 1])?;
+    prove!(place < count);
+    Some(place as u64 + 2)
 }
 
 // Two nodes in the order of their numbers.
@@ -129,8 +136,7 @@ impl Store {
             alloc,
             vars: vars.copy()?,
             order: order.copy()?,
-            nodes: Vec::new(alloc),
-            index: empty_index(alloc),
+            nodes: IndexSet::new(alloc),
             conjunctions: empty_index(alloc),
             disjunctions: empty_index(alloc),
         })
@@ -148,15 +154,8 @@ impl Store {
     {
         let number = self.nodes.len() as u64 + 2;
         let key = key_of(self.alloc, var, kids)?;
-        let kids = List::from_slice(self.alloc, kids)?;
-        self.nodes.push(Node { var, kids })?;
-        match enter(&mut self.index, key, number) {
-            Ok(()) => Ok(NodeId::new(number)),
-            Err(NoMemory) => {
-                self.nodes.pop();
-                Err(NoMemory)
-            }
-        }
+        self.nodes.insert(key)?;
+        Ok(NodeId::new(number))
     }
 
     /// The node whose value is that of the child at the code of a variable. Where all children are
@@ -176,7 +175,7 @@ impl Store {
         if let Some(kid) = only_kid(kids) {
             return Ok(kid);
         }
-        match find_node(&self.index, var, kids) {
+        match find_node(&self.nodes, var, kids) {
             Some(number) => Ok(NodeId::new(number)),
             None => self.push_node(var, kids),
         }
@@ -215,14 +214,14 @@ impl Store {
     }
 
     // The inner node with a number.
-    pub(crate) fn inner(&self, number: u64) -> &Node
+    pub(crate) fn inner(&self, number: u64) -> Node<'_>
         requires inner { 2 ≤ number }
         requires node { IsNode self.now number }
-        ensures node { inner_at self.now.nodes number ≡ Some result.now }
-        ensures before { (code : ℕ) → code < length result.now.kids
-            → slice_index result.now.kids code < number }
+        ensures node { inner_at self.now.nodes number ≡ Some result }
+        ensures before { (code : ℕ) → code < length result.kids
+            → slice_index result.kids code < number }
     {
-        &self.nodes[(number - 2) as usize]
+        Node::new(&self.nodes.as_slice()[(number - 2) as usize])
     }
 
     /// What kind of node a node is.
@@ -241,7 +240,7 @@ impl Store {
             0 => Shape::False,
             1 => Shape::True,
             number => Shape::Inner {
-                var: self.inner(number).var,
+                var: self.inner(number).var(),
             },
         }
     }
@@ -258,7 +257,7 @@ impl Store {
             ≡ value_of self.now result codes }
     {
         let _ = &self.nodes;
-        *self.inner(n.number()).kids.get(u64::from(code))
+        NodeId::new(self.inner(n.number()).kids()[usize::from(code)])
     }
 
     /// The value of a node on a list of codes, one per variable.
@@ -309,8 +308,8 @@ impl Store {
         ensures place { place self.now.order result
             ≡ min (level_of self.now a) (level_of self.now b) }
     {
-        let left = self.inner(a.number()).var;
-        let right = self.inner(b.number()).var;
+        let left = self.inner(a.number()).var();
+        let right = self.inner(b.number()).var();
         if self.order.place_of(left) <= self.order.place_of(right) {
             left
         } else {

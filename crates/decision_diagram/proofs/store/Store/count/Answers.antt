@@ -19,13 +19,13 @@ loop-i-preserved-then-index c =
     (let h = c.loop-i-test.true in let w = c.loop-i.invariant.within in
     omega arith) refl c.index.ensures ∙ c.if-index.true in
     let after : (m : ℕ) → 2 ≤ m → m < length old + 2
-    → marked new m ≡ (marked old m || list_any (nat_eq m) c.inner-node.result.now.kids) =
+    → marked new m ≡ (marked old m || list_any (nat_eq m) c.inner-node.result.kids) =
     λ m large h.
     c.mark-then-index.ensures m large (subst (λ (xs : List Bool). m < length xs + 2) (sym same) h)
-    ∙ ap (λ (xs : List Bool). marked xs m || list_any (nat_eq m) c.as_slice.result.now) same
-    ∙ ap (λ (xs : List ℕ). marked old m || list_any (nat_eq m) xs) c.as_slice.ensures in
+    ∙ ap (λ (xs : List Bool). marked xs m || list_any (nat_eq m) c.kids.result.now) same
+    ∙ ap (λ (xs : List ℕ). marked old m || list_any (nat_eq m) xs) c.kids.ensures in
     let all = marked_kids c.args.self.now c.args.n old new c.loop-i.i (c.loop-i.i - 1)
-    c.inner-node.result.now c.loop-i.invariant (let h = c.loop-i-test.true in
+    c.inner-node.result c.loop-i.invariant (let h = c.loop-i-test.true in
     omega arith) on c.inner-node.ensures.node c.inner-node.ensures.before long after in
     subst (λ (xs : List Bool). AreMarked c.args.self.now c.args.n xs (c.loop-i.i - 1))
     (sym (whole_part new old c.loop-i.marks.len long (let h = c.loop-i.marks.ok.0 in

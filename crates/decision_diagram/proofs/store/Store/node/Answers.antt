@@ -1,10 +1,9 @@
-use Rattle.std.proofs.Common.{◌∙◌, ◌∷◌, ℕ, sym, subst, refl, arith}
-use Rattle.decision_diagram.specs.declared.node.Node.{Node}
-use Rattle.decision_diagram.specs.Diagrams.{Diagrams, AreReduced, IsNew, Means, choice}
-use Rattle.decision_diagram.specs.Stores.{IsIndexed}
+use Rattle.std.proofs.Common.{◌≤◌, ◌∙◌, ℕ, sym, ap, subst, arith}
+use Rattle.domains.specs.Orders.{place}
+use Rattle.decision_diagram.specs.Diagrams.{Diagrams, Node, AreReduced, IsNew, Means, level_of, choice}
 use Rattle.decision_diagram.proofs.Fitting.{size_few}
-use Rattle.decision_diagram.proofs.Growth.{indexed_node}
-use Rattle.decision_diagram.proofs.Meanings.{means_only, means_found, new_node, pushed_keeps, pushed_means, pushed_level}
+use Rattle.decision_diagram.proofs.Keys.{number_found, number_fresh}
+use Rattle.decision_diagram.proofs.Meanings.{means_only, means_found, level_found, new_node, pushed_keeps, pushed_means, pushed_level}
 use Rattle.decision_diagram.proofs.store.Store.node.Goals as goal
 
 pub returns-in-Some-clause-value : goal.returns-in-Some-clause-value
@@ -22,34 +21,43 @@ find_node-requires c =
 
 pub push_node-requires : goal.push_node-requires
 push_node-requires c =
+    let s = c.args.self.now in
     let ok = subst (λ (d : Diagrams). AreReduced d) c.self.view_is c.self.invariant.reduced in
-    let indexed = subst (λ (d : Diagrams). IsIndexed d.nodes c.self.inside.index) c.self.view_is
-    c.self.invariant.indexed in
-    new_node c.args.self.now ok c.self.inside.index c.args.var c.args.kids.now
-    (c.args.var ∷ c.args.kids.now) indexed refl (sym c.find_node.ensures ∙ c.in-None.is)
+    new_node s ok c.args.var c.args.kids.now
+    (number_fresh s c.self.inside.nodes.keys c.args.var c.args.kids.now
+    (ap (λ (d : Diagrams). d.nodes) c.self.view_is) c.self.invariant.keys
+    (sym c.find_node.ensures ∙ c.in-None.is))
     c.requires.var c.requires.kids c.requires.nodes c.requires.later c.in_default.ensures.none
 
 pub returns-in-Some-find_node-clause-value : goal.returns-in-Some-find_node-clause-value
 returns-in-Some-find_node-clause-value c =
     let s = c.args.self.now in
     let ok = subst (λ (d : Diagrams). AreReduced d) c.self.view_is c.self.invariant.reduced in
-    let indexed = subst (λ (d : Diagrams). IsIndexed d.nodes c.self.inside.index) c.self.view_is
-    c.self.invariant.indexed in
-    let w = indexed_node s c.self.inside.index c.args.var c.args.kids.now
-    (c.args.var ∷ c.args.kids.now) c.in-Some-find_node.number indexed refl
+    let w = number_found s c.self.inside.nodes.keys c.args.var c.args.kids.now
+    c.in-Some-find_node.number (ap (λ (d : Diagrams). d.nodes) c.self.view_is)
     (sym c.find_node.ensures ∙ c.in-Some-find_node.is) in
     subst (λ (n : ℕ). Means s n (choice s c.args.var c.args.kids.now)) (sym c.new.ensures)
     (means_found s ok c.args.var c.args.kids.now c.in-Some-find_node.number w)
+
+pub returns-in-Some-find_node-clause-level : goal.returns-in-Some-find_node-clause-level
+returns-in-Some-find_node-clause-level c =
+    let s = c.args.self.now in
+    let w = number_found s c.self.inside.nodes.keys c.args.var c.args.kids.now
+    c.in-Some-find_node.number (ap (λ (d : Diagrams). d.nodes) c.self.view_is)
+    (sym c.find_node.ensures ∙ c.in-Some-find_node.is) in
+    subst (λ (n : ℕ). place s.order c.args.var ≤ level_of s n) (sym c.new.ensures)
+    (level_found s c.args.var c.args.kids.now c.in-Some-find_node.number w)
 
 -- the node that was put may be made
 is_new : (c : goal.After-push_node)
     → IsNew c.args.self.now (record { var = c.args.var; kids = c.args.kids.now })
 is_new c =
+    let s = c.args.self.now in
     let ok = subst (λ (d : Diagrams). AreReduced d) c.self.view_is c.self.invariant.reduced in
-    let indexed = subst (λ (d : Diagrams). IsIndexed d.nodes c.self.inside.index) c.self.view_is
-    c.self.invariant.indexed in
-    new_node c.args.self.now ok c.self.inside.index c.args.var c.args.kids.now
-    (c.args.var ∷ c.args.kids.now) indexed refl (sym c.find_node.ensures ∙ c.in-None.is)
+    new_node s ok c.args.var c.args.kids.now
+    (number_fresh s c.self.inside.nodes.keys c.args.var c.args.kids.now
+    (ap (λ (d : Diagrams). d.nodes) c.self.view_is) c.self.invariant.keys
+    (sym c.find_node.ensures ∙ c.in-None.is))
     c.requires.var c.requires.kids c.requires.nodes c.requires.later c.in_default.ensures.none
 
 pub returns-in-None-clause-kept : goal.returns-in-None-clause-kept

@@ -31,7 +31,7 @@ after s now op other old new key a b n number r same op_is results result number
 pub invariant_of-self : goal.invariant_of-self
 invariant_of-self c = record {
   reduced = c.self.invariant.reduced;
-  indexed = c.self.invariant.indexed;
+  keys = c.self.invariant.keys;
   conjunctions = after (diagrams c.self.inside) c.args.self.now c.args.op And
       c.self.inside.conjunctions c.enter.new.index c.in_ok-key.key.items c.args.a
       c.args.b c.args.n c.number.result c.enter.result c.self.view_is c.in-And.is
@@ -45,7 +45,7 @@ invariant_of-self c = record {
 pub invariant_of-self-in-Or : goal.invariant_of-self-in-Or
 invariant_of-self-in-Or c = record {
   reduced = c.self.invariant.reduced;
-  indexed = c.self.invariant.indexed;
+  keys = c.self.invariant.keys;
   conjunctions = c.self.invariant.conjunctions;
   disjunctions = after (diagrams c.self.inside) c.args.self.now c.args.op Or
       c.self.inside.disjunctions c.enter-in-Or.new.index c.in_ok-key.key.items c.args.a

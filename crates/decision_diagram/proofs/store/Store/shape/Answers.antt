@@ -15,6 +15,6 @@ pub returns-in_default-clause-var : goal.returns-in_default-clause-var
 returns-in_default-clause-var c = λ var is.
     let s = c.args.self.now in
     let ok = subst (λ (d : Diagrams). AreReduced d) c.self.view_is c.self.invariant.reduced in
-    let same : c.inner.result.now.var ≡ var = cc in
+    let same : c.inner.result.var ≡ var = cc in
     subst (λ (v : ℕ). v < length s.sizes) same
-    (ok.nodes c.number.result c.inner.result.now c.inner.ensures.node).var
+    (ok.nodes c.number.result c.inner.result c.inner.ensures.node).var

@@ -1,5 +1,6 @@
 -- Words on lists.
-use Rattle.std.proofs.Common.{◌≡◌, ◌==◌, ℕ, zero, suc, ◌+◌, ◌-◌, ◌<◌, cond, get_or, slice_set, Bool, true, false, ◌&&◌, List, [], ◌∷◌, ◌++◌, map, flat_map, length, take, replicate, arith, slice_get, Some, refl, ap, sym, ◌∙◌}
+use Rattle.std.proofs.Common.{◌≡◌, ◌==◌, ℕ, zero, suc, ◌+◌, ◌-◌, ◌<◌, cond, get_or, drop, slice_set, Bool, true, false, ◌&&◌, List, [], ◌∷◌, ◌++◌, map, flat_map, length, take, replicate, arith, slice_get, Some, refl, ap, sym, ◌∙◌}
+use Rattle.std.proofs.Math.Seq.{drop-cons}
 use Rattle.std.specs.List.{list_all}
 use Rattle.std.proofs.lemmas.Bool.{and_parts}
 use Rattle.std.proofs.lemmas.List.{map-append, append-nil, take_all, take_more, take_more_set, take-set}
@@ -94,3 +95,27 @@ next_kept p xs rows count k bit low room few same kept = by bit few same
         ∙ ap (λ (ys : List ℕ). ys ++ r ∷ []) kept
         ∙ sym (more ∙ ap (λ b. filter p (take k rows) ++ cond b (r ∷ []) []) (sym is))
     by (suc (suc b)) few is = absurd (omega arith)
+
+-- ---- the first item that passes
+-- the next one does
+pub first_here : (p : ℕ → Bool) (rows all : List ℕ) (k : ℕ) → k < length rows
+    → filter p (drop k rows) ≡ all → p (get_or rows k 0) ≡ true
+    → slice_get all 0 ≡ Some (get_or rows k 0)
+first_here p rows all k low rest here =
+    let r : ℕ = get_or rows k 0 in
+    ap (λ (xs : List ℕ). slice_get xs 0) (sym rest)
+    ∙ ap (λ (xs : List ℕ). slice_get (filter p xs) 0) (drop-cons rows k 0 low)
+    ∙ ap (λ b. slice_get (cond b (r ∷ filter p (drop (suc k) rows)) (filter p (drop (suc k) rows)))
+    0) here
+
+-- the next one doesn't
+pub first_later : (p : ℕ → Bool) (rows all : List ℕ) (k : ℕ) → k < length rows
+    → filter p (drop k rows) ≡ all → p (get_or rows k 0) ≡ false
+    → filter p (drop (k + 1) rows) ≡ all
+first_later p rows all k low rest off =
+    let r : ℕ = get_or rows k 0 in
+    let e : k + 1 ≡ suc k = omega arith in
+    ap (λ n. filter p (drop n rows)) e
+    ∙ sym (ap (filter p) (drop-cons rows k 0 low)
+    ∙ ap (λ b. cond b (r ∷ filter p (drop (suc k) rows)) (filter p (drop (suc k) rows))) off)
+    ∙ rest

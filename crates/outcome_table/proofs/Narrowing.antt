@@ -1,9 +1,9 @@
 -- Rows whose conditions on the variables that are fixed hold.
-use Rattle.std.proofs.Common.{◌≡◌, ⊎_elim, ℕ, zero, suc, ◌+◌, ◌<◌, ◌≤◌, Bool, true, false, cond, not, ◌&&◌, ◌||◌, ◌==◌, List, [], ◌∷◌, ◌++◌, length, slice_get, slice_index, Some, refl, ap, sym, ◌∙◌, arith, nat_lt}
+use Rattle.std.proofs.Common.{◌≡◌, ⊎_elim, ℕ, zero, suc, ◌+◌, ◌<◌, ◌≤◌, Bool, true, false, cond, not, ◌&&◌, ◌||◌, ◌==◌, List, [], ◌∷◌, ◌++◌, length, slice_get, slice_index, Option, Some, IfSome, refl, ap, sym, subst, ◌∙◌, arith, nat_lt}
 use Rattle.std.specs.Prelude.{filter}
 use Rattle.std.specs.List.{list_all}
 use Rattle.std.specs.Int.{bit_at}
-use Rattle.std.proofs.lemmas.Bool.{cases_lt, cases_eq, lt-ltb, ltb-true, eq-eqb, ne_eqb}
+use Rattle.std.proofs.lemmas.Bool.{and_parts, cases_lt, cases_eq, lt-ltb, ltb-true, eq-eqb, ne_eqb}
 use Rattle.std.proofs.lemmas.List.{length_push, get_or_append_left, get_or_push}
 use Rattle.polis_base.specs.Lists.{places_from}
 use Rattle.transition_table.specs.Transitions.{allows}
@@ -167,3 +167,15 @@ pub left_below : (m : Machine) (fixed rows : List ℕ) (k : ℕ) → rows ≡ ro
 left_below m fixed rows k is whole =
     ap (list_all (λ r. nat_lt r k)) is
     ∙ places_below (may_be_enabled fixed) 0 k m.rows (omega arith)
+
+head_below : (rows : List ℕ) (k : ℕ) → list_all (λ r. nat_lt r k) rows ≡ true
+    → IfSome (slice_get rows 0) (λ r. r < k)
+head_below [] k all = search
+head_below (r ∷ rows) k all =
+    ltb-true r k (and_parts (nat_lt r k) (list_all (λ r. nat_lt r k) rows) all).0
+
+pub first_below : (m : Machine) (fixed : List ℕ) (first : Option ℕ) (k : ℕ)
+    → first ≡ slice_get (rows_left m fixed) 0 → k ≡ length m.rows → IfSome first (λ r. r < k)
+first_below m fixed first k is whole =
+    subst (λ (o : Option ℕ). IfSome o (λ r. r < k)) (sym is)
+    (head_below (rows_left m fixed) k (left_below m fixed (rows_left m fixed) k refl whole))

@@ -1,6 +1,6 @@
 -- Rows that say nothing of the variables that aren't fixed: the outcome on all lists that begin
 -- with the fixed codes.
-use Rattle.std.proofs.Common.{◌≡◌, ℕ, suc, ◌+◌, ◌-◌, ◌%◌, ◌<◌, ◌≤◌, Bool, true, false, cond, not, ◌||◌, ◌==◌, List, [], ◌∷◌, ◌++◌, length, slice_get, slice_index, get_or, Some, refl, ap, sym, ◌∙◌, arith, nat_lt, subst}
+use Rattle.std.proofs.Common.{◌≡◌, ℕ, suc, ◌+◌, ◌-◌, ◌%◌, ◌<◌, ◌≤◌, Bool, true, false, cond, not, ◌||◌, ◌==◌, List, [], ◌∷◌, ◌++◌, length, slice_get, slice_index, None, Some, refl, ap, sym, ◌∙◌, arith, nat_lt, subst}
 use Rattle.std.specs.List.{list_all}
 use Rattle.std.specs.Int.{bit_at}
 use Rattle.std.proofs.lemmas.Bool.{and_parts, and_from, lt-ltb, ltb-true, false≢true}
@@ -16,7 +16,7 @@ use Rattle.transition_table.specs.declared.row.Cond.{Cond}
 use Rattle.transition_table.specs.declared.row.Row.{Row}
 use Rattle.transition_table.specs.declared.row.Source.{Source}
 use Rattle.transition_table.specs.declared.row.Source.TheVariants.{Code, Input, Add}
-use Rattle.outcome_table.specs.Needs.{AreEnds, asks_before, end_left, is_before, is_settled, takes_before}
+use Rattle.outcome_table.specs.Needs.{AreEnds, asks_before, is_before, is_settled, takes_before}
 use Rattle.outcome_table.specs.Numbering.{may_hold, may_be_enabled, rows_left}
 use Rattle.outcome_table.proofs.Starting.{same_outcome}
 
@@ -93,10 +93,13 @@ none_by m fixed rest n (row ∷ rows) none =
         length (cond b (n ∷ places_from (n + 1) (may_be_enabled fixed) rows)
         (places_from (n + 1) (may_be_enabled fixed) rows))) (sym e) ∙ none)
 
-pub none_left : (m : Machine) (fixed rest rows : List ℕ) → rows ≡ rows_left m fixed
-    → length rows ≡ 0 → outcome_by m m.rows (fixed ++ rest) ≡ blank m
-none_left m fixed rest rows is none =
-    none_by m fixed rest 0 m.rows (sym (ap (λ (xs : List ℕ). length xs) is) ∙ none)
+none_long : (rows : List ℕ) → slice_get rows 0 ≡ None → length rows ≡ 0
+none_long [] none = refl
+none_long (r ∷ rows) none = cc
+
+pub none_left : (m : Machine) (fixed rest : List ℕ) → slice_get (rows_left m fixed) 0 ≡ None
+    → outcome_by m m.rows (fixed ++ rest) ≡ blank m
+none_left m fixed rest none = none_by m fixed rest 0 m.rows (none_long (rows_left m fixed) none)
 
 -- ---- the row of this number, whose outcome is that of the rows where it is settled
 pub record IsFirst (m : Machine) (fixed : List ℕ) (rows : List Row) (n r : ℕ) : Type 0 where
@@ -151,10 +154,9 @@ first_by m fixed n r (row ∷ rows) first =
               ∙ h.gives end most settled rest;
         }
 
-pub first_left : (m : Machine) (fixed rows : List ℕ) (r : ℕ) → rows ≡ rows_left m fixed
-    → slice_get rows 0 ≡ Some r → IsFirst m fixed m.rows 0 r
-first_left m fixed rows r is first =
-    first_by m fixed 0 r m.rows (ap (λ (xs : List ℕ). slice_get xs 0) (sym is) ∙ first)
+pub first_left : (m : Machine) (fixed : List ℕ) (r : ℕ)
+    → slice_get (rows_left m fixed) 0 ≡ Some r → IsFirst m fixed m.rows 0 r
+first_left m fixed r first = first_by m fixed 0 r m.rows first
 
 -- ---- what the actions of a settled row give
 same_source : (m : Machine) (fixed rest more : List ℕ) (n y : ℕ) (source : Source)
@@ -181,18 +183,10 @@ same_results m fixed rest more end row most settled =
     (and_parts (list_all (asks_before end) row.conds)
     (list_all (takes_before m.inputs end) row.acts) settled).1
 
--- ---- the number of variables that the first row needs
-pub end_first : (ends rows : List ℕ) → (length rows ≡ 0 → ⊥)
-    → end_left ends rows ≡ slice_index ends (get_or rows 0 0)
-end_first ends [] some = absurd (some refl)
-end_first ends (r ∷ rows) some = refl
-
-pub end_within : (m : Machine) (ends rows : List ℕ) → AreEnds m ends
-    → list_all (λ r. nat_lt r (length ends)) rows ≡ true → end_left ends rows ≤ length m.vars
-end_within m ends [] are below = omega arith
-end_within m ends (r ∷ rows) are below =
-    let low = ltb-true r (length ends)
-    (and_parts (nat_lt r (length ends)) (list_all (λ r. nat_lt r (length ends)) rows) below).0 in
+-- ---- the number of variables that a row needs
+pub end_within : (m : Machine) (ends : List ℕ) (r : ℕ) → AreEnds m ends → r < length ends
+    → slice_index ends r ≤ length m.vars
+end_within m ends r are low =
     let long = are.long in
     let get = slice_get-get_or m.rows r (record { conds = []; acts = []; actions = refl })
     (omega arith) in

@@ -1,5 +1,5 @@
 -- How many variables from the first on a row needs to be enabled or not, and to give its results.
-use Rattle.std.specs.Prelude.{◌≡◌, ℕ, ◌≤◌, Bool, true, ◌&&◌, nat_lt, List, [], ◌∷◌, length, slice_get, slice_index, Some}
+use Rattle.std.specs.Prelude.{◌≡◌, ℕ, ◌≤◌, Bool, true, ◌&&◌, nat_lt, List, length, slice_get, slice_index, Option, None, Some}
 use Rattle.std.specs.List.{list_all}
 use Rattle.transition_table.specs.Sources.{variable_of}
 use Rattle.transition_table.specs.declared.machine.Machine.{Machine}
@@ -35,7 +35,7 @@ pub record AreEnds (m : Machine) (ends : List ℕ) : Type 0 where
       → (slice_index ends r ≤ length m.vars)
       × (is_settled m.inputs (slice_index ends r) row ≡ true)
 
--- that of the first of these rows, 0 where there is none
-abbrev pub end_left : List ℕ → List ℕ → ℕ
-end_left ends [] = 0
-end_left ends (r ∷ rows) = slice_index ends r
+-- that of a row, 0 where there is none
+abbrev pub end_left : List ℕ → Option ℕ → ℕ
+end_left ends None = 0
+end_left ends (Some r) = slice_index ends r

@@ -1,5 +1,5 @@
 // Numbers for the outcomes of all snapshots.
-ghost use Rattle.std.specs.Prelude.{◌≡◌, ◌<◌, ◌≤◌, ◌==◌, ℕ, nat_lt, map, length, take, drop, filter, slice_index, slice_set, replicate, ◌++◌, IfOk, IsTrue};
+ghost use Rattle.std.specs.Prelude.{◌≡◌, ◌<◌, ◌≤◌, ◌==◌, ℕ, nat_lt, map, length, take, drop, filter, slice_index, slice_set, replicate, ◌++◌, [], slice_get, IfOk, IfSome, IsTrue};
 ghost use Rattle.std.specs.List.{list_all};
 ghost use Rattle.std.specs.Int.{bit_at};
 ghost use Rattle.domains.specs.AllCodes.{all_codes};
@@ -95,48 +95,72 @@ fn spare_list(alloc: Global, spare: &mut Vec<Vec<u64>>) -> Vec<u64> {
     }
 }
 
-// How many variables the first of the rows needs, none where there is no row.
-fn end_left(narrowing: &Narrowing, rows: &[u64]) -> u64
-    requires ends { AreEnds narrowing.now.machine.now narrowing.now.ends.now }
-    requires rows { IsTrue (list_all (λ r. nat_lt r (length narrowing.now.ends.now)) rows.now) }
-    ensures end { result ≡ end_left narrowing.now.ends.now rows.now }
-    ensures within { result ≤ length narrowing.now.machine.now.vars }
+// The first of the rows.
+fn first_of(rows: &[u64]) -> Option<u64>
+    ensures { result ≡ slice_get rows.now 0 }
 {
     match rows.split_first() {
-        Some((r, _)) => *narrowing.ends.get(*r),
+        Some((r, _)) => Some(*r),
+        None => None,
+    }
+}
+
+// The first of the rows that allow a code of a variable.
+fn first_allowing(masks: &CodeSets, rows: &[u64], code: u8) -> Option<u64>
+    requires rows { IsTrue (list_all (λ r. nat_lt r (length masks.now)) rows.now) }
+    requires code { code < 64 }
+    ensures { result ≡ slice_get
+        (filter (λ r. bit_at (slice_index masks.now r) code == 1) rows.now) 0 }
+{
+    for r in rows {
+        if (*masks.get(*r) >> code) % 2 == 1 {
+            return Some(*r);
+        }
+    }
+    None
+}
+
+// How many variables a row needs, none where there is no row.
+fn end_left(narrowing: &Narrowing, first: Option<u64>) -> u64
+    requires ends { AreEnds narrowing.now.machine.now narrowing.now.ends.now }
+    requires first { IfSome first (λ r. r < length narrowing.now.ends.now) }
+    ensures end { result ≡ end_left narrowing.now.ends.now first }
+    ensures within { result ≤ length narrowing.now.machine.now.vars }
+{
+    match first {
+        Some(r) => *narrowing.ends.get(r),
         None => 0,
     }
 }
 
 // The number of the outcome of all snapshots that have the codes of the variables before one, given
-// the rows whose conditions on these hold, of which the first needs no later variable.
+// the first row whose conditions on these hold, which needs no later variable.
 fn number_after(
     narrowing: &Narrowing,
-    rows: &[u64],
+    first: Option<u64>,
     at: u64,
     s: &Snapshot,
     outcomes: &mut Outcomes,
 ) -> Result<u64, NoMemory>
     requires at { at ≤ length narrowing.now.machine.now.vars }
     requires snapshot { IsSnapshot narrowing.now.machine.now s.now }
-    requires rows { rows.now ≡ rows_left narrowing.now.machine.now (take at s.now.codes) }
+    requires first { first
+        ≡ slice_get (rows_left narrowing.now.machine.now (take at s.now.codes)) 0 }
     requires begins { BeginWithRows narrowing.now.machine.now narrowing.now.fixed.now outcomes.old }
     requires ends { AreEnds narrowing.now.machine.now narrowing.now.ends.now }
-    requires end { end_left narrowing.now.ends.now rows.now ≤ at }
+    requires end { end_left narrowing.now.ends.now first ≤ at }
     ensures kept { IfOk result (λ k. take (length outcomes.old) outcomes.new ≡ outcomes.old) }
     ensures number { IfOk result
         (IsNumberAfter narrowing.now.machine.now (take at s.now.codes) outcomes.new) }
 {
-    if rows.len() == 0 {
+    let Some(r) = first else {
         return Ok(0);
-    }
-    let r = rows[0];
+    };
     if *narrowing.fixed.get(r) {
         return Ok(1 + r);
     }
     let row = narrowing.machine.rows.get(r);
-    let codes = row_codes(narrowing.alloc, narrowing.machine, row, s)?;
-    let number = outcomes.add(codes)?;
+    let number = outcomes.add(narrowing.machine, row, s)?;
     Ok(number)
 }
 
@@ -159,32 +183,34 @@ fn push_times(numbers: &mut Vec<u64>, number: u64, times: u64) -> Result<(), NoM
 // the same on them.
 fn number_all(
     narrowing: &Narrowing,
-    rows: &[u64],
+    first: Option<u64>,
     at: u64,
     s: &Snapshot,
     made: &mut Numbered,
 ) -> Result<(), NoMemory>
     requires at { at ≤ length narrowing.now.machine.now.vars }
     requires snapshot { IsSnapshot narrowing.now.machine.now s.now }
-    requires rows { rows.now ≡ rows_left narrowing.now.machine.now (take at s.now.codes) }
+    requires first { first
+        ≡ slice_get (rows_left narrowing.now.machine.now (take at s.now.codes)) 0 }
     requires begins { BeginWithRows narrowing.now.machine.now narrowing.now.fixed.now
         made.old.outcomes }
     requires within { are_named made.old.outcomes made.old.numbers.items }
     requires ends { AreEnds narrowing.now.machine.now narrowing.now.ends.now }
-    requires end { end_left narrowing.now.ends.now rows.now ≤ at }
+    requires end { end_left narrowing.now.ends.now first ≤ at }
     requires counts { AreCounts narrowing.now.machine.now.vars narrowing.now.counts.now }
     ensures { IfOk result (λ done.
         Adds narrowing.now.machine.now made.old made.new
         (lists_after (take at s.now.codes) (drop at narrowing.now.machine.now.vars))) }
 {
     let times = *narrowing.counts.get(at);
-    let number = number_after(narrowing, rows, at, s, &mut made.outcomes)?;
+    let number = number_after(narrowing, first, at, s, &mut made.outcomes)?;
     push_times(&mut made.numbers, number, times)?;
     Ok(())
 }
 
 // Numbers the outcomes of all snapshots that have the codes of the variables before one, given the
-// rows whose conditions on these hold. Lists that are no longer used are kept for the next ones.
+// rows whose conditions on these hold. Where the first row that allows a code needs no later
+// variable, the others aren't looked for. Lists that are no longer used are kept for the next ones.
 fn number_rest(
     narrowing: &Narrowing,
     rows: &[u64],
@@ -193,7 +219,7 @@ fn number_rest(
     made: &mut Numbered,
     spare: &mut Vec<Vec<u64>>,
 ) -> Result<(), NoMemory>
-    requires at { at ≤ length narrowing.now.machine.now.vars }
+    requires at { at < length narrowing.now.machine.now.vars }
     requires snapshot { IsSnapshot narrowing.now.machine.now s.old }
     requires rows { rows.now ≡ rows_left narrowing.now.machine.now (take at s.old.codes) }
     requires masks { IsMaskTable narrowing.now.machine.now.vars narrowing.now.machine.now.rows
@@ -209,17 +235,48 @@ fn number_rest(
     ensures snapshot { IfOk result (λ done. IsSnapshot narrowing.now.machine.now s.new) }
     ensures kept { IfOk result (λ done. take at s.new.codes ≡ take at s.old.codes) }
 {
-    if end_left(narrowing, rows) <= at {
-        return number_all(narrowing, rows, at, s, made);
-    }
     let masks = narrowing.masks.get(at);
     let mut left = spare_list(narrowing.alloc, spare);
     for code in 0..*narrowing.machine.vars.get(at) {
         s.codes.set(at, code);
+        let first = first_allowing(masks, rows, code);
+        if end_left(narrowing, first) <= at + 1 {
+            number_all(narrowing, first, at + 1, s, made)?;
+            continue;
+        }
         let count = allowing(masks, rows, code, &mut left)?;
         number_rest(narrowing, &left[..count], at + 1, s, made, spare)?;
     }
     spare.push(left)?;
+    Ok(())
+}
+
+// Numbers the outcomes of all snapshots, given all rows.
+fn number_every(
+    narrowing: &Narrowing,
+    rows: &[u64],
+    s: &mut Snapshot,
+    made: &mut Numbered,
+) -> Result<(), NoMemory>
+    requires snapshot { IsSnapshot narrowing.now.machine.now s.old }
+    requires rows { rows.now ≡ rows_left narrowing.now.machine.now [] }
+    requires masks { IsMaskTable narrowing.now.machine.now.vars narrowing.now.machine.now.rows
+        narrowing.now.masks.now }
+    requires begins { BeginWithRows narrowing.now.machine.now narrowing.now.fixed.now
+        made.old.outcomes }
+    requires within { are_named made.old.outcomes made.old.numbers.items }
+    requires ends { AreEnds narrowing.now.machine.now narrowing.now.ends.now }
+    requires counts { AreCounts narrowing.now.machine.now.vars narrowing.now.counts.now }
+    ensures { IfOk result (λ done. Adds narrowing.now.machine.now made.old made.new
+        (lists_after [] narrowing.now.machine.now.vars)) }
+{
+    let first = first_of(rows);
+    if end_left(narrowing, first) == 0 {
+        number_all(narrowing, first, 0, s, made)?;
+        return Ok(());
+    }
+    let mut spare = Vec::new(narrowing.alloc);
+    number_rest(narrowing, rows, 0, s, made, &mut spare)?;
     Ok(())
 }
 
@@ -296,14 +353,6 @@ pub(crate) fn numbers_of(alloc: Global, m: &Machine) -> Result<Numbered, NoMemor
         ends: &ends,
         counts: &counts,
     };
-    let mut spare = Vec::new(alloc);
-    number_rest(
-        &narrowing,
-        rows.as_slice(),
-        0,
-        &mut s,
-        &mut made,
-        &mut spare,
-    )?;
+    number_every(&narrowing, rows.as_slice(), &mut s, &mut made)?;
     Ok(made)
 }

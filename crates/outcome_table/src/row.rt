@@ -55,6 +55,26 @@ pub(crate) fn row_codes(
     Ok(codes)
 }
 
+/// Makes a key of the codes of the results on a snapshot that enables a row.
+pub(crate) fn row_key(
+    machine: &Machine,
+    row: &Row,
+    s: &Snapshot,
+    key: &mut Vec<u64>,
+) -> Result<(), NoMemory>
+    requires row { IsTrue (is_row machine.now.inputs machine.now.vars machine.now.results row.now) }
+    requires snapshot { IsSnapshot machine.now s.now }
+    ensures { IfOk result (λ done. key.new.items
+        ≡ codes_of (outcome_of machine.now s.now.codes true row.now.acts)) }
+{
+    key.clear();
+    key.push(1)?;
+    for y in 1..machine.result_count() {
+        key.push(u64::from(row.code_for(machine, y, s)))?;
+    }
+    Ok(())
+}
+
 /// The codes of the results on a snapshot that enables no row.
 pub(crate) fn blank_codes(alloc: Global, machine: &Machine) -> Result<Codes, NoMemory>
     ensures { IfOk result (λ codes. codes ≡ codes_of (blank machine.now)) }

@@ -1,24 +1,21 @@
-use Rattle.std.proofs.Common.{◌≡◌, ◌∙◌, ◌+◌, ◌<◌, ◌≤◌, ◌++◌, ◌∷◌, [], ℕ, suc, true, List, length, take, drop, flat_map, slice_get, slice_index, slice_set, Some, arith, ap, sym, subst}
+use Rattle.std.proofs.Common.{◌≡◌, ◌∙◌, ◌+◌, ◌<◌, ◌≤◌, ◌++◌, ◌∷◌, ◌==◌, [], ℕ, suc, true, List, length, take, drop, flat_map, slice_get, slice_index, slice_set, Some, arith, ap, sym, subst}
+use Rattle.std.specs.Prelude.{filter}
+use Rattle.std.specs.Int.{bit_at}
 use Rattle.std.proofs.Math.Seq.{drop-cons}
 use Rattle.std.proofs.lemmas.List.{length-take-le, take_more_set, take-set}
 use Rattle.std.proofs.lemmas.Option.{get_or_from_slice_get}
 use Rattle.polis_base.specs.Lists.{upto}
 use Rattle.domains.specs.Tables.{fits}
 use Rattle.transition_table.specs.declared.machine.Machine.{Machine}
-use Rattle.outcome_table.specs.Masks.{AreMasks}
+use Rattle.outcome_table.specs.Masks.{AreMasks, IsMaskTable}
 use Rattle.outcome_table.specs.Numbering.{Adds, lists_after, rows_left}
+use Rattle.outcome_table.specs.declared.number.Numbered.{Numbered}
 use Rattle.outcome_table.proofs.Counting.{adds_on, begins_kept, lists_split, take_less}
 use Rattle.outcome_table.proofs.Lists.{flat_upto}
-use Rattle.outcome_table.proofs.Narrowing.{left_below, narrowed}
+use Rattle.outcome_table.proofs.Narrowing.{first_below, left_below, narrowed}
 use Rattle.outcome_table.proofs.Rows.{fits_long, fits_set}
 use Rattle.outcome_table.proofs.Ones.{machine_sizes, size_at}
 use Rattle.outcome_table.proofs.number.+number_rest.Goals as goal
-
-pub end_left-requires-clause-rows : goal.end_left-requires-clause-rows
-end_left-requires-clause-rows t c =
-    left_below c.args.narrowing.now.machine.now (take c.args.at c.args.s.now.codes)
-    c.args.rows.now (length c.args.narrowing.now.ends.now) c.requires.rows
-    c.requires.ends.long
 
 -- what stands at one turn of the loop
 record Turn (m : Machine) (s cur : List ℕ) (at code size : ℕ) : Type 0 where
@@ -48,34 +45,149 @@ turn m s cur at code size low fit_s fit_cur kept get less =
       fit = fits_set m.vars cur at code fit_cur (omega arith);
     }
 
+-- the rows that are left for one more code
+left_next : (m : Machine) (table : List (List ℕ)) (masks s cur new rows : List ℕ)
+    (at code size : ℕ) → Turn m s cur at code size → IsMaskTable m.vars m.rows table
+    → slice_get table at ≡ Some masks → rows ≡ rows_left m (take at s)
+    → new ≡ slice_set cur at code
+    → filter (λ r. bit_at (slice_index masks r) code == 1) rows ≡ rows_left m (take (at + 1) new)
+left_next m table masks s cur new rows at code size u all get left is =
+    let low = u.low in
+    let long = u.long in
+    let allowed : AreMasks m.vars m.rows at masks =
+    subst (λ (sets : List ℕ). AreMasks m.vars m.rows at sets)
+    (get_or_from_slice_get table at masks [] get) (all.each at low) in
+    let prefix : at ≡ length (take at s) = sym (length-take-le at s (omega arith)) in
+    narrowed m masks (take at s) rows at code allowed prefix u.below left
+    ∙ ap (rows_left m) (sym u.fixed)
+    ∙ ap (λ (xs : List ℕ). rows_left m (take (at + 1) xs)) (sym is)
+
+-- and the lists of codes that are numbered with it
+adds_next : (m : Machine) (old a b : Numbered) (s new : List ℕ) (at code : ℕ)
+    → take (at + 1) new ≡ take at s ++ code ∷ []
+    → Adds m old a (flat_map (λ c. lists_after (take at s ++ c ∷ []) (drop (at + 1) m.vars))
+    (upto code))
+    → Adds m a b (lists_after (take (at + 1) new) (drop (at + 1) m.vars))
+    → Adds m old b (flat_map (λ c. lists_after (take at s ++ c ∷ []) (drop (at + 1) m.vars))
+    (upto (code + 1)))
+adds_next m old a b s new at code fixed before next =
+    let f : ℕ → List (List ℕ) = λ k. lists_after (take at s ++ k ∷ []) (drop (at + 1) m.vars) in
+    let one : Adds m a b (f code) =
+    subst (λ (xs : List ℕ). Adds m a b (lists_after xs (drop (at + 1) m.vars))) fixed next in
+    let e : code + 1 ≡ suc code = omega arith in
+    let more : flat_map f (upto code) ++ f code ≡ flat_map f (upto (code + 1)) =
+    sym (ap (λ k. flat_map f (upto k)) e ∙ flat_upto f code) in
+    subst (λ (lists : List (List ℕ)). Adds m old b lists) more
+    (adds_on m old a b (flat_map f (upto code)) (f code) before one)
+
 pub set-requires : goal.set-requires
 set-requires t c =
     let u = turn c.args.narrowing.now.machine.now c.args.s.now.codes c.loop-code.s.codes c.args.at
-    c.loop-code.code c.get-code-end.result.now (omega arith) c.requires.snapshot
+    c.loop-code.code c.get-code-end.result.now c.requires.at c.requires.snapshot
     c.loop-code.invariant.snapshot
     c.loop-code.invariant.kept c.get-code-end.ensures c.loop-code-test.true in
     let a = u.low in
     let b = u.long_cur in
     omega arith
 
+pub first_allowing-first-requires-clause-rows : goal.first_allowing-first-requires-clause-rows
+first_allowing-first-requires-clause-rows t c =
+    left_below c.args.narrowing.now.machine.now (take c.args.at c.args.s.now.codes)
+    c.args.rows.now (length c.get-masks.result.now) c.requires.rows
+    (rw (get_or_from_slice_get c.args.narrowing.now.masks.now c.args.at c.get-masks.result.now []
+    c.get-masks.ensures) at (c.requires.masks.each c.args.at c.requires.at).long)
+
+pub first_allowing-first-requires-clause-code : goal.first_allowing-first-requires-clause-code
+first_allowing-first-requires-clause-code t c =
+    (turn c.args.narrowing.now.machine.now c.args.s.now.codes c.loop-code.s.codes c.args.at
+    c.loop-code.code c.get-code-end.result.now c.requires.at c.requires.snapshot
+    c.loop-code.invariant.snapshot
+    c.loop-code.invariant.kept c.get-code-end.ensures c.loop-code-test.true).few
+
+pub end_left-requires-clause-first : goal.end_left-requires-clause-first
+end_left-requires-clause-first t c =
+    let m = c.args.narrowing.now.machine.now in
+    let s = c.args.s.now.codes in
+    let masks : List ℕ = c.get-masks.result.now in
+    let at = c.args.at in
+    let code = c.loop-code.code in
+    let u = turn c.args.narrowing.now.machine.now c.args.s.now.codes c.loop-code.s.codes c.args.at
+    c.loop-code.code c.get-code-end.result.now c.requires.at c.requires.snapshot
+    c.loop-code.invariant.snapshot
+    c.loop-code.invariant.kept c.get-code-end.ensures c.loop-code-test.true in
+    let next = left_next m c.args.narrowing.now.masks.now masks s c.loop-code.s.codes c.set.new.self
+    c.args.rows.now at code c.get-code-end.result.now u c.requires.masks c.get-masks.ensures
+    c.requires.rows c.set.ensures in
+    let first : c.first_allowing-first.result
+    ≡ slice_get (rows_left m (take (at + 1) c.set.new.self)) 0 =
+    c.first_allowing-first.ensures ∙ ap (λ (xs : List ℕ). slice_get xs 0) next in
+    first_below m (take (at + 1) c.set.new.self) c.first_allowing-first.result
+    (length c.args.narrowing.now.ends.now) first c.requires.ends.long
+
+pub number_all-requires-clause-snapshot : goal.number_all-requires-clause-snapshot
+number_all-requires-clause-snapshot t c =
+    rw c.set.ensures
+    (turn c.args.narrowing.now.machine.now c.args.s.now.codes c.loop-code.s.codes c.args.at
+    c.loop-code.code c.get-code-end.result.now c.requires.at c.requires.snapshot
+    c.loop-code.invariant.snapshot
+    c.loop-code.invariant.kept c.get-code-end.ensures c.loop-code-test.true).fit
+
+pub number_all-requires-clause-first : goal.number_all-requires-clause-first
+number_all-requires-clause-first t c =
+    let m = c.args.narrowing.now.machine.now in
+    let s = c.args.s.now.codes in
+    let masks : List ℕ = c.get-masks.result.now in
+    let at = c.args.at in
+    let code = c.loop-code.code in
+    let u = turn c.args.narrowing.now.machine.now c.args.s.now.codes c.loop-code.s.codes c.args.at
+    c.loop-code.code c.get-code-end.result.now c.requires.at c.requires.snapshot
+    c.loop-code.invariant.snapshot
+    c.loop-code.invariant.kept c.get-code-end.ensures c.loop-code-test.true in
+    let next = left_next m c.args.narrowing.now.masks.now masks s c.loop-code.s.codes c.set.new.self
+    c.args.rows.now at code c.get-code-end.result.now u c.requires.masks c.get-masks.ensures
+    c.requires.rows c.set.ensures in
+    let first : c.first_allowing-first.result
+    ≡ slice_get (rows_left m (take (at + 1) c.set.new.self)) 0 =
+    c.first_allowing-first.ensures ∙ ap (λ (xs : List ℕ). slice_get xs 0) next in
+    first
+
+pub number_all-requires-clause-begins : goal.number_all-requires-clause-begins
+number_all-requires-clause-begins t c =
+    begins_kept c.args.narrowing.now.machine.now c.args.narrowing.now.fixed.now c.args.made.now.outcomes
+    c.loop-code.made.outcomes c.requires.begins c.loop-code.invariant.adds.kept
+
+pub loop-code-preserved-then-end_left-at : goal.loop-code-preserved-then-end_left-at
+loop-code-preserved-then-end_left-at t c =
+    let m = c.args.narrowing.now.machine.now in
+    let s = c.args.s.now.codes in
+    let masks : List ℕ = c.get-masks.result.now in
+    let at = c.args.at in
+    let code = c.loop-code.code in
+    let u = turn c.args.narrowing.now.machine.now c.args.s.now.codes c.loop-code.s.codes c.args.at
+    c.loop-code.code c.get-code-end.result.now c.requires.at c.requires.snapshot
+    c.loop-code.invariant.snapshot
+    c.loop-code.invariant.kept c.get-code-end.ensures c.loop-code-test.true in
+    let cur = c.loop-code.s.codes in
+    let fixed : take (at + 1) c.set.new.self ≡ take at s ++ code ∷ [] =
+    ap (take (at + 1)) c.set.ensures ∙ u.fixed in
+    record {
+      adds = adds_next m c.args.made.now c.loop-code.made c.number_all.new.made s c.set.new.self at
+          code fixed c.loop-code.invariant.adds c.in_ok-number_all.ensures;
+      snapshot = rw c.set.ensures u.fit;
+      kept = ap (take at) c.set.ensures ∙ take-set cur at code ∙ c.loop-code.invariant.kept;
+    }
+
 pub allowing-requires-clause-rows : goal.allowing-requires-clause-rows
 allowing-requires-clause-rows t c =
     left_below c.args.narrowing.now.machine.now (take c.args.at c.args.s.now.codes)
     c.args.rows.now (length c.get-masks.result.now) c.requires.rows
     (rw (get_or_from_slice_get c.args.narrowing.now.masks.now c.args.at c.get-masks.result.now []
-    c.get-masks.ensures) at (c.requires.masks.each c.args.at (omega arith)).long)
-
-pub get-masks-requires : goal.get-masks-requires
-get-masks-requires t c =
-    let a = c.end_left.ensures.within in
-    let b = c.if-end_left-at.false in
-    let long = c.requires.masks.long in
-    omega arith
+    c.get-masks.ensures) at (c.requires.masks.each c.args.at c.requires.at).long)
 
 pub allowing-requires-clause-code : goal.allowing-requires-clause-code
 allowing-requires-clause-code t c =
     (turn c.args.narrowing.now.machine.now c.args.s.now.codes c.loop-code.s.codes c.args.at
-    c.loop-code.code c.get-code-end.result.now (omega arith) c.requires.snapshot
+    c.loop-code.code c.get-code-end.result.now c.requires.at c.requires.snapshot
     c.loop-code.invariant.snapshot
     c.loop-code.invariant.kept c.get-code-end.ensures c.loop-code-test.true).few
 
@@ -86,23 +198,20 @@ number_rest-requires t c =
     let masks : List ℕ = c.get-masks.result.now in
     let at = c.args.at in
     let code = c.loop-code.code in
-    let u = turn m s c.loop-code.s.codes at code c.get-code-end.result.now (omega arith)
-    c.requires.snapshot c.loop-code.invariant.snapshot c.loop-code.invariant.kept
-    c.get-code-end.ensures c.loop-code-test.true in
-    let low = u.low in
-    let long = u.long in
-    let allowed : AreMasks m.vars m.rows at masks =
-    subst (λ (sets : List ℕ). AreMasks m.vars m.rows at sets)
-    (get_or_from_slice_get c.args.narrowing.now.masks.now at masks [] c.get-masks.ensures)
-    (c.requires.masks.each at low) in
-    let prefix : at ≡ length (take at s) = sym (length-take-le at s (omega arith)) in
+    let u = turn c.args.narrowing.now.machine.now c.args.s.now.codes c.loop-code.s.codes c.args.at
+    c.loop-code.code c.get-code-end.result.now c.requires.at c.requires.snapshot
+    c.loop-code.invariant.snapshot
+    c.loop-code.invariant.kept c.get-code-end.ensures c.loop-code-test.true in
+    let next = left_next m c.args.narrowing.now.masks.now masks s c.loop-code.s.codes c.set.new.self
+    c.args.rows.now at code c.get-code-end.result.now u c.requires.masks c.get-masks.ensures
+    c.requires.rows c.set.ensures in
     let left : take c.in_ok-count.count c.deref.result.now
     ≡ rows_left m (take (at + 1) c.set.new.self) =
     ap (take c.in_ok-count.count) c.deref.ensures.value
     ∙ c.in_ok-count.ensures.rows
-    ∙ narrowed m masks (take at s) c.args.rows.now at code allowed prefix u.below c.requires.rows
-    ∙ ap (rows_left m) (sym u.fixed)
-    ∙ ap (λ (xs : List ℕ). rows_left m (take (at + 1) xs)) (sym c.set.ensures) in
+    ∙ next in
+    let within = c.end_left.ensures.within in
+    let more = c.if-end_left-at.false in
     let d = c.decreases in (
       omega arith,
       (
@@ -128,26 +237,20 @@ pub loop-code-preserved : goal.loop-code-preserved
 loop-code-preserved t c =
     let m = c.args.narrowing.now.machine.now in
     let s = c.args.s.now.codes in
+    let masks : List ℕ = c.get-masks.result.now in
     let at = c.args.at in
     let code = c.loop-code.code in
-    let cur = c.loop-code.s.codes in
-    let u = turn m s cur at code c.get-code-end.result.now (omega arith) c.requires.snapshot
+    let u = turn c.args.narrowing.now.machine.now c.args.s.now.codes c.loop-code.s.codes c.args.at
+    c.loop-code.code c.get-code-end.result.now c.requires.at c.requires.snapshot
     c.loop-code.invariant.snapshot
     c.loop-code.invariant.kept c.get-code-end.ensures c.loop-code-test.true in
-    let f : ℕ → List (List ℕ) = λ k. lists_after (take at s ++ k ∷ []) (drop (at + 1) m.vars) in
+    let cur = c.loop-code.s.codes in
     let fixed : take (at + 1) c.set.new.self ≡ take at s ++ code ∷ [] =
     ap (take (at + 1)) c.set.ensures ∙ u.fixed in
-    let one : Adds m c.loop-code.made c.number_rest.new.made (f code) =
-    subst (λ (xs : List ℕ). Adds m c.loop-code.made c.number_rest.new.made
-    (lists_after xs (drop (at + 1) m.vars))) fixed c.in_ok-number_rest.ensures.adds in
-    let e : code + 1 ≡ suc code = omega arith in
-    let more : flat_map f (upto code) ++ f code ≡ flat_map f (upto (code + 1)) =
-    sym (ap (λ k. flat_map f (upto k)) e ∙ flat_upto f code) in
     let less : at ≤ at + 1 = omega arith in
     record {
-      adds = subst (λ (lists : List (List ℕ)). Adds m c.args.made.now c.number_rest.new.made lists)
-          more (adds_on m c.args.made.now c.loop-code.made c.number_rest.new.made
-          (flat_map f (upto code)) (f code) c.loop-code.invariant.adds one);
+      adds = adds_next m c.args.made.now c.loop-code.made c.number_rest.new.made s c.set.new.self
+          at code fixed c.loop-code.invariant.adds c.in_ok-number_rest.ensures.adds;
       snapshot = c.in_ok-number_rest.ensures.snapshot;
       kept = sym (take_less at (at + 1) c.number_rest.new.s.codes less)
           ∙ ap (take at) c.in_ok-number_rest.ensures.kept
@@ -162,15 +265,13 @@ returns-clause-adds t c =
     let m = c.args.narrowing.now.machine.now in
     let s = c.args.s.now.codes in
     let at = c.args.at in
-    let low : at < length m.vars = let a = c.end_left.ensures.within in
-    let b = c.if-end_left-at.false in omega arith in
     let size : c.get-code-end.result.now ≡ slice_index m.vars at =
     sym (get_or_from_slice_get m.vars at c.get-code-end.result.now 0 c.get-code-end.ensures) in
     let done : c.loop-code.code ≡ slice_index m.vars at = let a = c.loop-code-test.false in
     let b = c.loop-code.auto.code-end in omega arith in
     let e : suc at ≡ at + 1 = omega arith in
     let here : drop at m.vars ≡ slice_index m.vars at ∷ drop (at + 1) m.vars =
-    drop-cons m.vars at 0 low ∙ ap (λ k. slice_index m.vars at ∷ drop k m.vars) e in
+    drop-cons m.vars at 0 c.requires.at ∙ ap (λ k. slice_index m.vars at ∷ drop k m.vars) e in
     let f : ℕ → List (List ℕ) = λ k. lists_after (take at s ++ k ∷ []) (drop (at + 1) m.vars) in
     let whole : flat_map f (upto c.loop-code.code) ≡ lists_after (take at s) (drop at m.vars) =
     ap (λ k. flat_map f (upto k)) done

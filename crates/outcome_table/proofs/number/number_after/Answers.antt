@@ -1,4 +1,4 @@
-use Rattle.std.proofs.Common.{◌≡◌, ◌∙◌, ◌-◌, ◌<◌, ◌≤◌, ◌++◌, ◌∷◌, [], ℕ, Bool, true, List, length, take, drop, get_or, slice_get, slice_index, Some, refl, arith, ap, sym, subst}
+use Rattle.std.proofs.Common.{◌≡◌, ◌∙◌, ◌-◌, ◌<◌, ◌≤◌, ◌++◌, ℕ, Bool, true, Option, List, length, take, drop, slice_get, slice_index, Some, arith, ap, sym, subst}
 use Rattle.std.proofs.Math.Seq.{take-length}
 use Rattle.std.proofs.lemmas.List.{length-take-le, take-append-drop}
 use Rattle.std.proofs.lemmas.Option.{slice_get_within}
@@ -9,27 +9,19 @@ use Rattle.transition_table.specs.declared.row.Row.{Row}
 use Rattle.outcome_table.specs.Needs.{AreEnds, end_left, is_settled}
 use Rattle.outcome_table.specs.Numbering.{rows_left}
 use Rattle.outcome_table.proofs.Rows.{few_rows, fits_long, row_fits}
-use Rattle.outcome_table.proofs.Settled.{IsFirst, end_first, first_left, none_left, same_results}
+use Rattle.outcome_table.proofs.Settled.{IsFirst, first_left, none_left, same_results}
 use Rattle.outcome_table.proofs.number.number_after.Goals as goal
 
-pub returns-then-rows-eq0 : goal.returns-then-rows-eq0
-returns-then-rows-eq0 c =
+pub returns-in_default-clause-number : goal.returns-in_default-clause-number
+returns-in_default-clause-number c =
     let m = c.args.narrowing.now.machine.now in
     let fixed = take c.args.at c.args.s.now.codes in
     let some = c.requires.begins.some in
     record {
-      kept = take-length c.args.outcomes.now;
-      number = record {
-        low = omega arith;
-        gives = λ rest. c.requires.begins.blank
-            ∙ ap codes_of (sym (none_left m fixed rest c.args.rows.now c.requires.rows
-            c.if-rows-eq0.true));
-      };
+      low = omega arith;
+      gives = λ rest. c.requires.begins.blank
+          ∙ ap codes_of (sym (none_left m fixed rest (sym c.requires.first ∙ c.in_default.is)));
     }
-
-head_is : (rows : List ℕ) → (length rows ≡ 0 → ⊥) → slice_get rows 0 ≡ Some (get_or rows 0 0)
-head_is [] some = absurd (some refl)
-head_is (x ∷ rows) some = refl
 
 -- the first of the rows that are left
 record Head (m : Machine) (fixed ends : List ℕ) (r : ℕ) : Type 0 where
@@ -39,17 +31,16 @@ record Head (m : Machine) (fixed ends : List ℕ) (r : ℕ) : Type 0 where
   most : slice_index ends r ≤ length fixed
   settled : is_settled m.inputs (slice_index ends r) first.row ≡ true
 
-head : (m : Machine) (s ends rows : List ℕ) (at : ℕ) → length s ≡ length m.vars
-    → at ≤ length m.vars → rows ≡ rows_left m (take at s) → AreEnds m ends → end_left ends rows ≤ at
-    → (length rows ≡ 0 → ⊥) → Head m (take at s) ends (get_or rows 0 0)
-head m s ends rows at long low is are end some =
-    let r : ℕ = get_or rows 0 0 in
-    let first = first_left m (take at s) rows r is (head_is rows some) in
+head : (m : Machine) (s ends : List ℕ) (at r : ℕ) (first : Option ℕ) → length s ≡ length m.vars
+    → at ≤ length m.vars → first ≡ slice_get (rows_left m (take at s)) 0 → AreEnds m ends
+    → end_left ends first ≤ at → first ≡ Some r → Head m (take at s) ends r
+head m s ends at r first long low is are end some =
+    let first = first_left m (take at s) r (sym is ∙ some) in
     let e : r - 0 ≡ r = omega arith in
     let there : slice_get m.rows r ≡ Some first.row =
     subst (λ k. slice_get m.rows k ≡ Some first.row) e first.at in
     let fixed : length (take at s) ≡ at = length-take-le at s (omega arith) in
-    let is_end = end_first ends rows some in
+    let is_end : end_left ends (Some r) ≤ at = rw some at end in
     record {
       first = first;
       at = there;
@@ -61,16 +52,16 @@ head m s ends rows at long low is are end some =
 pub get-requires : goal.get-requires
 get-requires c =
     let m = c.args.narrowing.now.machine.now in
-    let h = head m c.args.s.now.codes c.args.narrowing.now.ends.now c.args.rows.now c.args.at
-    (fits_long m.vars c.args.s.now.codes c.requires.snapshot) c.requires.at c.requires.rows
-    c.requires.ends c.requires.end c.if-rows-eq0.false in
+    let h = head m c.args.s.now.codes c.args.narrowing.now.ends.now c.args.at c.in-Some.r c.args.first
+    (fits_long m.vars c.args.s.now.codes c.requires.snapshot) c.requires.at c.requires.first
+    c.requires.ends c.requires.end c.in-Some.is in
     let inside = h.inside in
     let long = c.requires.begins.long in
     omega arith
 
 pub overflow_add-result : goal.overflow_add-result
 overflow_add-result c =
-    let inside = slice_get_within c.args.narrowing.now.fixed.now (get_or c.args.rows.now 0 0)
+    let inside = slice_get_within c.args.narrowing.now.fixed.now (c.in-Some.r)
     c.get.result.now c.get.ensures in
     let long = c.requires.begins.long in
     let few = few_rows c.args.narrowing.now.machine.now in
@@ -80,10 +71,10 @@ pub returns-then-get : goal.returns-then-get
 returns-then-get c =
     let m = c.args.narrowing.now.machine.now in
     let fixed = take c.args.at c.args.s.now.codes in
-    let r : ℕ = get_or c.args.rows.now 0 0 in
-    let h = head m c.args.s.now.codes c.args.narrowing.now.ends.now c.args.rows.now c.args.at
-    (fits_long m.vars c.args.s.now.codes c.requires.snapshot) c.requires.at c.requires.rows
-    c.requires.ends c.requires.end c.if-rows-eq0.false in
+    let r : ℕ = c.in-Some.r in
+    let h = head m c.args.s.now.codes c.args.narrowing.now.ends.now c.args.at c.in-Some.r c.args.first
+    (fits_long m.vars c.args.s.now.codes c.requires.snapshot) c.requires.at c.requires.first
+    c.requires.ends c.requires.end c.in-Some.is in
     let inside = h.inside in
     let some = c.requires.begins.some in
     let on : slice_get c.args.narrowing.now.fixed.now r ≡ Some true =
@@ -100,14 +91,14 @@ returns-then-get c =
 
 pub get-row-requires : goal.get-row-requires
 get-row-requires c =
-    let inside = slice_get_within c.args.narrowing.now.fixed.now (get_or c.args.rows.now 0 0)
+    let inside = slice_get_within c.args.narrowing.now.fixed.now (c.in-Some.r)
     c.get.result.now c.get.ensures in
     let long = c.requires.begins.long in
     omega arith
 
-pub row_codes-requires-clause-row : goal.row_codes-requires-clause-row
-row_codes-requires-clause-row c =
-    row_fits c.args.narrowing.now.machine.now (get_or c.args.rows.now 0 0) c.get-row.result.now
+pub add-requires-clause-row : goal.add-requires-clause-row
+add-requires-clause-row c =
+    row_fits c.args.narrowing.now.machine.now (c.in-Some.r) c.get-row.result.now
     c.get-row.ensures
 
 pub returns : goal.returns
@@ -115,10 +106,10 @@ returns c =
     let m = c.args.narrowing.now.machine.now in
     let s = c.args.s.now.codes in
     let fixed = take c.args.at s in
-    let r : ℕ = get_or c.args.rows.now 0 0 in
-    let h = head m s c.args.narrowing.now.ends.now c.args.rows.now c.args.at
-    (fits_long m.vars s c.requires.snapshot) c.requires.at c.requires.rows
-    c.requires.ends c.requires.end c.if-rows-eq0.false in
+    let r : ℕ = c.in-Some.r in
+    let h = head m s c.args.narrowing.now.ends.now c.args.at c.in-Some.r c.args.first
+    (fits_long m.vars s c.requires.snapshot) c.requires.at c.requires.first
+    c.requires.ends c.requires.end c.in-Some.is in
     let there = h.at in
     let same : c.get-row.result.now ≡ h.first.row = let a = there in let b = c.get-row.ensures in
     cc in
@@ -128,7 +119,6 @@ returns c =
         low = c.in_ok-number.ensures.low;
         gives = λ rest.
             c.in_ok-number.ensures.is
-            ∙ c.in_ok-codes.ensures
             ∙ ap (λ (row : Row). codes_of (outcome_of m s true row.acts)) same
             ∙ ap (λ (codes : List ℕ). codes_of (outcome_of m codes true h.first.row.acts))
             (sym (take-append-drop c.args.at s))

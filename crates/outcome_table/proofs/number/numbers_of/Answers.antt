@@ -6,20 +6,20 @@ use Rattle.outcome_table.proofs.Counting.{lists_all}
 use Rattle.outcome_table.proofs.Starting.{all_rows, begin}
 use Rattle.outcome_table.proofs.number.numbers_of.Goals as goal
 
-pub number_rest-requires-clause-rows : goal.number_rest-requires-clause-rows
-number_rest-requires-clause-rows c =
+pub number_every-requires-clause-rows : goal.number_every-requires-clause-rows
+number_every-requires-clause-rows c =
     c.as_slice.ensures
     ∙ all_rows c.args.m.now c.in_ok-rows.rows c.len.result c.in_ok-rows.ensures c.len.ensures
 
-pub number_rest-requires-clause-begins : goal.number_rest-requires-clause-begins
-number_rest-requires-clause-begins c =
+pub number_every-requires-clause-begins : goal.number_every-requires-clause-begins
+number_every-requires-clause-begins c =
     rw c.of.ensures (begin c.args.m.now c.in_ok-first_codes.field-0 c.in_ok-fixed.fixed
     c.in_ok-row_outcomes.field-0 c.in_ok-row_outcomes.ensures c.in_ok-fixed.ensures)
 
 pub returns-clause-results : goal.returns-clause-results
 returns-clause-results c =
     let m = c.args.m.now in
-    c.in_ok-number_rest.ensures.adds.results
+    c.in_ok-number_every.ensures.results
     ∙ ap (λ (xs : List ℕ). named c.of.result xs
     ++ map (result_codes m) (lists_after [] m.vars)) c.in_ok-with_capacity.ensures.items
     ∙ ap (map (result_codes c.args.m.now)) (lists_all c.args.m.now.vars)

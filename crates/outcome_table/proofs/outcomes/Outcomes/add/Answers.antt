@@ -5,11 +5,10 @@ use Rattle.outcome_table.proofs.outcomes.Outcomes.add.Goals as goal
 
 pub returns-in-Some-clause-low : goal.returns-in-Some-clause-low
 returns-in-Some-clause-low c =
-    subst (λ (xs : List (List ℕ)). c.in-Some.number < length xs) c.self.view_is
     (c.self.invariant c.deref.result.now c.in-Some.number (sym c.find.ensures ∙ c.in-Some.is)).0
 
-pub invariant_of-self : goal.invariant_of-self
-invariant_of-self c =
+pub invariant_of-self-in_err-push : goal.invariant_of-self-in_err-push
+invariant_of-self-in_err-push c =
     subst (λ (xs : List (List ℕ)). AreKnown xs c.self.inside.known)
     (sym c.in_err-push.ensures.err) c.self.invariant
 
@@ -23,7 +22,10 @@ invariant_of-self-in_err-enter c =
 
 pub invariant_of-self-2 : goal.invariant_of-self-2
 invariant_of-self-2 c =
+    let same : c.in_ok-key.key.items ≡ c.in_ok-row_codes.field-0 =
+    let a = c.in_ok-key.ensures.items in let b = c.deref-2.ensures.value in
+    let d = c.in_ok-row_key.ensures in let e = c.in_ok-row_codes.ensures in cc in
     subst (λ (xs : List (List ℕ)). AreKnown xs c.enter.new.index) (sym c.in_ok-push.ensures.ok)
-    (known_last c.self.inside.list _ c.in_ok-key.key.items c.self.inside.known c.enter.new.index
-    c.len-number.result c.self.invariant c.in_ok-key.ensures c.len-number.ensures
+    (known_last c.self.inside.list _ c.in_ok-key.key.items c.self.inside.known
+    c.enter.new.index c.len-number.result c.self.invariant same c.len-number.ensures
     c.in_ok-enter.ensures.ok)

@@ -1,8 +1,7 @@
 -- Inner nodes by their numbers, and what reading a variable does.
-use Rattle.std.proofs.Common.{◌≡◌, ◌≢◌, ◌⊎◌, inl, inr, ⊎_elim, ℕ, zero, suc, ◌+◌, ◌-◌, ◌<◌, ◌≤◌, eqb, ltb, List, [], ◌∷◌, ◌++◌, length, get_or, slice_get, slice_index, Option, Some, None, refl, sym, ap, ◌∙◌, arith}
+use Rattle.std.proofs.Common.{◌≡◌, ◌≢◌, ◌⊎◌, inl, inr, ⊎_elim, ℕ, zero, suc, ◌+◌, ◌-◌, ◌<◌, ◌≤◌, eqb, ltb, List, [], ◌∷◌, ◌++◌, length, slice_get, slice_index, Option, Some, None, refl, sym, ap, ◌∙◌, arith}
 use Rattle.std.proofs.lemmas.Bool.{cases_lt, lt-ltb, le-ltb, eq-eqb, ne_eqb, cond-true, cond-false}
 use Rattle.decision_diagram.specs.Diagrams.{Node, inner_at, step}
-use Rattle.decision_diagram.proofs.Lists.{read_some}
 
 get_prefix : (nodes more : List Node) (k : ℕ) → k < length nodes
     → slice_get (nodes ++ more) k ≡ slice_get nodes k
@@ -104,10 +103,3 @@ pub step_other : (o : Option Node) (node : Node) (var code n : ℕ) → o ≡ So
 step_other o node var code n is other =
     ap (λ (p : Option Node). step p var code n) is
     ∙ cond-false (eqb node.var var) (slice_index node.kids code) n (ne_eqb node.var var other)
-
--- what stands at an inner node's place
-pub inner_read : (nodes : List Node) (n k : ℕ) (node : Node) → 2 ≤ n → n < length nodes + 2
-    → k ≡ n - 2 → node ≡ get_or nodes k node → inner_at nodes n ≡ Some node
-inner_read nodes n k node large within at is =
-    inner_high nodes n large ∙ ap (slice_get nodes) (sym at) ∙ read_some nodes k node (omega arith)
-    ∙ ap Some (sym is)

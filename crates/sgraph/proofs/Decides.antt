@@ -4,9 +4,8 @@ use Rattle.std.specs.Cmp.Lexicographic.{same_text}
 use Rattle.std.proofs.lemmas.Bool.{and_parts, and_from, true≢false}
 use Rattle.domains.specs.Tables.{fits}
 use Rattle.transition_table.specs.declared.machine.Machine.{Machine}
-use Rattle.decision_diagram.specs.declared.node.Node.{Node}
 use Rattle.domains.specs.Orders.{place}
-use Rattle.decision_diagram.specs.Diagrams.{Diagrams, inner_at}
+use Rattle.decision_diagram.specs.Diagrams.{Node, Diagrams, inner_at}
 use Rattle.decision_diagram.specs.Leading.{LeadTo, Decided, OneCode}
 use Rattle.transition_table.specs.Computed.{char, result_codes}
 use Rattle.transition_table.specs.Orders.{sizes_of}

@@ -7,9 +7,8 @@ use Rattle.std.specs.Cmp.Lexicographic.{same_text}
 use Rattle.domains.specs.Names.{is_same, are_distinct}
 use Rattle.domains.specs.Tables.{fits}
 use Rattle.transition_table.specs.declared.machine.Machine.{Machine}
-use Rattle.decision_diagram.specs.declared.node.Node.{Node}
 use Rattle.domains.specs.Orders.{place}
-use Rattle.decision_diagram.specs.Diagrams.{Diagrams, inner_at, level_of, IsNode, value_of, AreReduced, kids_of as kids_of_node, kids_in as kids_in_node}
+use Rattle.decision_diagram.specs.Diagrams.{Node, Diagrams, inner_at, level_of, IsNode, value_of, AreReduced, kids_of as kids_of_node, kids_in as kids_in_node}
 use Rattle.decision_diagram.specs.Reached.{Walk, Reaches}
 use Rattle.std.specs.Prelude.{Contains, slice_index_or}
 use Rattle.sgraph.specs.declared.vertex.Vertex.{Vertex}

@@ -9,9 +9,8 @@ use Rattle.domains.specs.Tables.{fits}
 use Rattle.transition_table.specs.declared.machine.Machine.{Machine}
 use Rattle.transition_table.specs.Transitions.{Transition}
 use Rattle.transition_table.specs.Transitions.{reading}
-use Rattle.decision_diagram.specs.declared.node.Node.{Node}
 use Rattle.domains.specs.Orders.{place}
-use Rattle.decision_diagram.specs.Diagrams.{Diagrams, inner_at, IsNode, value_of, kids_of, kids_in as kids_of_node}
+use Rattle.decision_diagram.specs.Diagrams.{Node, Diagrams, inner_at, IsNode, value_of, kids_of, kids_in as kids_of_node}
 use Rattle.decision_diagram.specs.Reached.{Reaches}
 use Rattle.sgraph.specs.declared.vertex.Vertex.{Vertex}
 use Rattle.sgraph.specs.declared.vertex.Vertex.TheVariants.{Begin, Test, Assign, End}

@@ -2,10 +2,9 @@
 use Rattle.std.proofs.Common.{◌≡◌, ◌≢◌, ⊎_elim, ℕ, zero, suc, ◌+◌, ◌-◌, ◌<◌, ◌≤◌, Bool, true, false, cond, ◌||◌, ◌==◌, List, [], ◌∷◌, ◌++◌, length, take, drop, replicate, slice_get, slice_index, slice_set, Option, Some, None, refl, ap, sym, subst, ◌∙◌, arith, eqb, ltb}
 use Rattle.std.proofs.lemmas.Bool.{cases_eq, cases_lt, cases_Bool, eq-eqb, ne_eqb, lt-ltb, le-ltb}
 use Rattle.transition_table.specs.NetworkFacts.{has}
-use Rattle.decision_diagram.specs.declared.node.Node.{Node}
 use Rattle.decision_diagram.specs.declared.node.Shape.{Shape}
 use Rattle.decision_diagram.specs.declared.node.Shape.TheVariants.{False, True, Inner}
-use Rattle.decision_diagram.specs.Diagrams.{Diagrams, inner_at, shape_in, shape_of, kids_in, kids_of, AreReduced}
+use Rattle.decision_diagram.specs.Diagrams.{Node, Diagrams, inner_at, shape_in, shape_of, kids_in, kids_of, AreReduced}
 use Rattle.sgraph.specs.Graphs.{each, left_after}
 use Rattle.sgraph.specs.Building.{code_there, next_in, next_nodes}
 use Rattle.sgraph.specs.Marks.{turned, Marks, AreNext}

@@ -6,9 +6,8 @@ use Rattle.domains.specs.Names.{is_same, are_distinct}
 use Rattle.domains.specs.Tables.{are_sizes}
 use Rattle.transition_table.specs.declared.machine.Machine.{Machine}
 use Rattle.transition_table.specs.NetworkFacts.{has, are_different}
-use Rattle.decision_diagram.specs.declared.node.Node.{Node}
 use Rattle.domains.specs.Orders.{place}
-use Rattle.decision_diagram.specs.Diagrams.{Diagrams, inner_at, AreReduced}
+use Rattle.decision_diagram.specs.Diagrams.{Node, Diagrams, inner_at, AreReduced}
 use Rattle.sgraph.specs.declared.vertex.Vertex.{Vertex}
 use Rattle.sgraph.specs.declared.vertex.Vertex.TheVariants.{Begin, Test, Assign, End}
 use Rattle.sgraph.specs.Graphs.{IsPath, item_of, items, rises, key_of, varies, Ordered, Reduced, GoesOn}

@@ -1,8 +1,7 @@
 -- Inner nodes by their numbers, and what reading a variable does.
 use Rattle.std.proofs.Common.{◌≡◌, ◌≢◌, ◌⊎◌, inl, inr, ⊎_elim, ℕ, zero, suc, ◌+◌, ◌-◌, ◌<◌, ◌≤◌, eqb, ltb, List, [], ◌∷◌, ◌++◌, length, get_or, slice_get, slice_index, Option, Some, None, refl, sym, ap, ◌∙◌, arith}
 use Rattle.std.proofs.lemmas.Bool.{cases_lt, lt-ltb, le-ltb, eq-eqb, ne_eqb, cond-true, cond-false}
-use Rattle.decision_diagram.specs.declared.node.Node.{Node}
-use Rattle.decision_diagram.specs.Diagrams.{inner_at, step}
+use Rattle.decision_diagram.specs.Diagrams.{Node, inner_at, step}
 use Rattle.sgraph.proofs.Lists.{read_some}
 
 get_prefix : (nodes more : List Node) (k : ℕ) → k < length nodes

@@ -6,9 +6,8 @@ use Rattle.std.proofs.lemmas.Grind.{same_number_lists}
 use Rattle.polis_base.specs.Lists.{upto}
 use Rattle.transition_table.specs.declared.machine.Machine.{Machine}
 use Rattle.transition_table.specs.NetworkFacts.{has}
-use Rattle.decision_diagram.specs.declared.node.Node.{Node}
 use Rattle.domains.specs.Orders.{place}
-use Rattle.decision_diagram.specs.Diagrams.{Diagrams, inner_at, IsNode, kids_of as kids_of_node, kids_in as kids_in_node}
+use Rattle.decision_diagram.specs.Diagrams.{Node, Diagrams, inner_at, IsNode, kids_of as kids_of_node, kids_in as kids_in_node}
 use Rattle.decision_diagram.specs.Reached.{Walk, Reaches}
 use Rattle.sgraph.specs.declared.vertex.Vertex.{Vertex}
 use Rattle.sgraph.specs.declared.vertex.Vertex.TheVariants.{Begin, Test, Assign}

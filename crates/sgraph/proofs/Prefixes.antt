@@ -3,9 +3,8 @@ use Rattle.std.proofs.Common.{◌≡◌, ◌≢◌, ◌⊎◌, inl, inr, ⊎_eli
 use Rattle.std.proofs.lemmas.Bool.{cases_eq}
 use Rattle.std.proofs.lemmas.List.{take-append-drop}
 use Rattle.domains.specs.Tables.{fits}
-use Rattle.decision_diagram.specs.declared.node.Node.{Node}
 use Rattle.domains.specs.Orders.{place}
-use Rattle.decision_diagram.specs.Diagrams.{Diagrams, inner_at, step, follow, level_of, value_of, AreReduced}
+use Rattle.decision_diagram.specs.Diagrams.{Node, Diagrams, inner_at, step, follow, level_of, value_of, AreReduced}
 use Rattle.decision_diagram.specs.Leading.{led}
 use Rattle.sgraph.proofs.Fitting.{fits_long, fits_at, fits_set}
 use Rattle.sgraph.proofs.Places.{place_of_item}

@@ -1,9 +1,8 @@
 -- Values of nodes: reading the variables in order.
 use Rattle.std.proofs.Common.{◌≡◌, ⊎_elim, ℕ, zero, suc, ◌+◌, ◌<◌, ◌≤◌, eqb, List, [], ◌∷◌, length, drop, slice_index, Some, None, refl, sym, ap, ◌∙◌, arith}
 use Rattle.std.proofs.lemmas.List.{drop_more}
-use Rattle.decision_diagram.specs.declared.node.Node.{Node}
 use Rattle.domains.specs.Orders.{place}
-use Rattle.decision_diagram.specs.Diagrams.{Diagrams, inner_at, step, follow, level_in, level_of, value_of, AreReduced}
+use Rattle.decision_diagram.specs.Diagrams.{Node, Diagrams, inner_at, step, follow, level_in, level_of, value_of, AreReduced}
 use Rattle.sgraph.proofs.Places.{place_below, place_of_item, at_place}
 use Rattle.sgraph.proofs.Nodes.{cases_inner, step_none, step_here, step_other}
 

@@ -1,9 +1,8 @@
 -- The graph that a diagram becomes, as one function.
 use Rattle.std.specs.Prelude.{ℕ, suc, ◌-◌, cond, ◌==◌, nat_lt, List, [], ◌∷◌, map, length, slice_index, Option, Some, None}
 use Rattle.transition_table.specs.declared.machine.Machine.{Machine}
-use Rattle.decision_diagram.specs.declared.node.Node.{Node}
 use Rattle.domains.specs.Orders.{place}
-use Rattle.decision_diagram.specs.Diagrams.{Diagrams, inner_at}
+use Rattle.decision_diagram.specs.Diagrams.{Node, Diagrams, inner_at}
 use Rattle.sgraph.specs.declared.vertex.Vertex.{Vertex}
 use Rattle.sgraph.specs.declared.vertex.Vertex.TheVariants.{Begin, Test, Assign, End}
 use Rattle.sgraph.specs.Graphs.{left_after}

@@ -1,8 +1,7 @@
 -- A machine's diagram, and the graph that it becomes.
 use Rattle.std.specs.Prelude.{◌≡◌, ◌≢◌, ◌⊎◌, ℕ, ◌+◌, ◌<◌, List, map, length, slice_get, slice_index, Some}
 use Rattle.transition_table.specs.declared.machine.Machine.{Machine}
-use Rattle.decision_diagram.specs.declared.node.Node.{Node}
-use Rattle.decision_diagram.specs.Diagrams.{Diagrams, inner_at, Means, AreReduced}
+use Rattle.decision_diagram.specs.Diagrams.{Node, Diagrams, inner_at, Means, AreReduced}
 use Rattle.decision_diagram.specs.Reached.{Reaches}
 use Rattle.sgraph.specs.declared.vertex.Vertex.{Vertex}
 use Rattle.sgraph.specs.declared.vertex.Vertex.TheVariants.{Begin, Test, Assign, End}

@@ -1,4 +1,4 @@
-use Rattle.std.proofs.Common.{◌≡◌, ◌∙◌, ◌∷◌, ◌++◌, [], ℕ, List, sym, ap, subst, refl}
+use Rattle.std.proofs.Common.{◌≡◌, ◌∙◌, ◌∷◌, ◌++◌, [], List, sym, ap, subst, refl}
 use Rattle.decision_diagram.specs.declared.operation.Operation.{Operation}
 use Rattle.decision_diagram.specs.declared.operation.Operation.TheVariants.{And, Or}
 use Rattle.decision_diagram.specs.Operations.{AreResults}

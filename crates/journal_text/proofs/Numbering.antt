@@ -1,71 +1,24 @@
 -- The numbers of names that are noted one by one, and words that are no names.
-use Rattle.std.proofs.Common.{◌≡◌, ◌<◌, ◌+◌, ℕ, zero, suc, Bool, true, false, cond, List, [], ◌∷◌, ◌++◌, length, Option, Some, None, is_some, refl, sym, ◌∙◌, ap, arith, slice_get, true≢false}
+use Rattle.std.proofs.Common.{◌≡◌, ◌<◌, ◌+◌, ℕ, zero, suc, true, false, cond, List, [], ◌∷◌, length, Option, Some, None, refl, sym, ◌∙◌, ap, arith, slice_get, true≢false}
 use Rattle.std.specs.Prelude.{option_map, unwrap_or}
 use Rattle.std.specs.List.{find, list_all}
 use Rattle.std.specs.Option.{option_or}
+use Rattle.std.specs.Cmp.Lexicographic.{nat_list_eq_equiv}
 use Rattle.std.proofs.lemmas.Bool.{and_parts}
 use Rattle.std.proofs.lemmas.List.Folds.{find-append}
 use Rattle.polis_base.specs.Lists.{upto}
 use Rattle.polis_base.specs.Names.{is_name}
 use Rattle.domains.specs.Names.{is_same}
-use Rattle.net_names.specs.Tables.{Numbered, number_at, has, noted}
+use Rattle.net_names.specs.Tables.{Numbered, number_at}
 use Rattle.transition_table.specs.declared.decl.EventDecl.{EventDecl}
 use Rattle.transition_table.specs.declared.machine.Machine.{Machine}
 use Rattle.transition_table.specs.declared.network.Network.{Network}
 use Rattle.journal_text.specs.Forms.{Text}
 use Rattle.journal_text.specs.Items.{machine_named, event_named}
 use Rattle.journal_text.specs.Holding.{names_hold, machine_holds, state_has_name}
-use Rattle.journal_text.proofs.Basics.{same_texts, texts_same, texts_differ, all_pass}
+use Rattle.journal_text.proofs.Basics.{all_pass}
 use Rattle.journal_text.proofs.Entering.{holds_of}
 use Rattle.journal_text.proofs.Naming.{text_at, find_is, has_found_name}
-
-either_way : (a b : Text) → is_same a b ≡ is_same b a
-either_way a b =
-    elim (is_same a b) as (λ r. is_same a b ≡ r → r ≡ is_same b a) [
-      | true ↦ λ e. sym (texts_same b a (sym (same_texts a b e)))
-      | false ↦ λ e. sym (texts_differ b a
-          (λ same. absurd (true≢false (sym (texts_same a b (sym same)) ∙ e))))
-    ] refl
-
-module _ (name : Text) (number : ℕ) (q : Text) where
-  at_end : (es : Numbered) → number_at (es ++ (name, number) ∷ []) q
-      ≡ option_or (number_at es q) (cond (is_same q name) (Some number) None)
-  at_end [] = refl
-  at_end (e ∷ es) = by (is_same q e.0) (at_end es)
-    where
-      by : (b : Bool) → number_at (es ++ (name, number) ∷ []) q
-          ≡ option_or (number_at es q) (cond (is_same q name) (Some number) None)
-          → cond b (Some e.1) (number_at (es ++ (name, number) ∷ []) q)
-          ≡ option_or (cond b (Some e.1) (number_at es q))
-          (cond (is_same q name) (Some number) None)
-      by true h = refl
-      by false h = h
-
-  -- a name that has a number keeps it, and another gets this one
-  after_note : (es : Numbered) → number_at (noted es name number) q
-      ≡ option_or (number_at es q) (cond (is_same q name) (Some number) None)
-  after_note es = by (has es name) refl
-    where
-      kept : (o : Option ℕ) (p : Option ℕ) → is_some o ≡ true → o ≡ option_or o p
-      kept None p h = absurd (true≢false (sym h))
-      kept (Some x) p h = refl
-
-      ends : (o : Option ℕ) → o ≡ option_or o None
-      ends None = refl
-      ends (Some x) = refl
-
-      here : (b : Bool) → is_same q name ≡ b → has es name ≡ true
-          → number_at es q ≡ option_or (number_at es q) (cond b (Some number) None)
-      here true same h = kept (number_at es q) (Some number)
-          (ap (has es) (same_texts q name same) ∙ h)
-      here false other h = ends (number_at es q)
-
-      by : (b : Bool) → has es name ≡ b → number_at (noted es name number) q
-          ≡ option_or (number_at es q) (cond (is_same q name) (Some number) None)
-      by true h = ap (λ b. number_at (cond b es (es ++ (name, number) ∷ [])) q) h
-          ∙ here (is_same q name) refl h
-      by false h = ap (λ b. number_at (cond b es (es ++ (name, number) ∷ [])) q) h
-          ∙ at_end es
 
 module _ {X : Type 0} (f : X → Text) (xs : List X) where
   -- the first of so many things with this name
@@ -74,15 +27,17 @@ module _ {X : Type 0} (f : X → Text) (xs : List X) where
 
   -- one more thing with its number
   pub one_more_noted : (n : ℕ) (x : X) (before after : Numbered) → slice_get xs n ≡ Some x
-      → after ≡ noted before (f x) n → ((q : Text) → number_at before q ≡ first_of n q) → (q : Text)
+      → ((q : Text) → number_at after q
+      ≡ option_or (number_at before q) (cond (is_same q (f x)) (Some n) None))
+      → ((q : Text) → number_at before q ≡ first_of n q) → (q : Text)
       → number_at after q ≡ first_of (n + 1) q
   one_more_noted n x before after at is held q =
       let next : n + 1 ≡ suc n = omega arith in
-      ap (λ es. number_at es q) is
-      ∙ after_note (f x) n q before
+      is q
       ∙ ap (λ o. option_or o (cond (is_same q (f x)) (Some n) None)) (held q)
       ∙ ap (λ b. option_or (first_of n q) (cond b (Some n) None))
-      (either_way q (f x) ∙ ap (λ o. is_same (unwrap_or (option_map f o) []) q) (sym at))
+      (nat_list_eq_equiv.symm q (f x)
+      ∙ ap (λ o. is_same (unwrap_or (option_map f o) []) q) (sym at))
       ∙ sym (find-append (λ k. is_same (text_at f xs k) q) (upto n) (n ∷ []))
       ∙ ap (λ k. first_of k q) (sym next)
 

@@ -1,5 +1,6 @@
 // The numbers of names.
-ghost use Rattle.std.specs.Prelude.{◌≡◌, ◌<◌, ℕ, List, [], Some, not, ◌||◌, nat_eq, IfOk, IfSome, OnOk};
+ghost use Rattle.std.specs.Prelude.{◌≡◌, ◌<◌, ℕ, List, [], Some, None, not, ◌||◌, if◌then◌else◌, nat_eq, IfOk, IfSome, OnOk};
+ghost use Rattle.std.specs.Option.{option_or};
 ghost use Rattle.std.specs.Cmp.{partial_equiv_from_equiv};
 ghost use Rattle.std.specs.Cmp.Lexicographic.{nat_list_eq_equiv, pointwise};
 ghost use Rattle.std.specs.Hash as fed;
@@ -130,6 +131,8 @@ impl Table {
     pub fn note(&mut self, name: Name, number: u64) -> Result<bool, NoMemory>
         ensures fresh { IfOk result (λ fresh. fresh ≡ not (has self.old name)) }
         ensures noted { OnOk result (self.new ≡ noted self.old name number) }
+        ensures number { OnOk result ((q : List ℕ) → number_at self.new q
+            ≡ option_or (number_at self.old q) (if is_same q name then Some number else None)) }
         ensures names { OnOk result ((q : List ℕ)
             → has self.new q ≡ (has self.old q || is_same q name)) }
     {

@@ -1,62 +1,15 @@
 // The item of one line.
-ghost use Rattle.std.specs.Prelude.{◌≡◌, ◌<◌, ◌≤◌, false, length, option_copied, None, IfSome, IsTrue};
-ghost use Rattle.polis_base.specs.Names.{is_name};
+ghost use Rattle.std.specs.Prelude.{◌≡◌, ◌<◌, ◌≤◌, option_copied, IfSome, IsTrue};
 ghost use Rattle.domains.specs.Domains.{size_of};
 ghost use Rattle.transition_table.specs.NetworkFacts.{has_domain, values_of};
-ghost use Rattle.trace_text.specs.Traces.{is_sent, is_sent_event, env_event, value_named, code_of, event_item, is_settle, item_of_words, item_of_line, AddsItem};
+ghost use Rattle.trace_text.specs.Traces.{env_event, value_named, code_of, event_item, is_settle, item_of_words, item_of_line, AddsItem};
 
 use crate::cut::{next_word, text_of};
 use crate::fault::TraceKind;
+use crate::sent::Sent;
 use domains::{Domain, laws};
 use net_core::TraceItem;
-use polis_base::Name;
-use transition_table::{EventDecl, Network, Party};
-
-// Whether the environment sends an event of this name.
-fn is_event(event: &EventDecl, name: &Name) -> bool
-    ensures { result ≡ is_sent name.now event.now }
-{
-    matches!(event.sender, Party::Env) && event.name.same(name)
-}
-
-// The number of the event of this name that the environment sends.
-fn event_of_name(net: &Network, name: &Name) -> Option<u32>
-    ensures event { result ≡ env_event net.now name.now }
-    ensures below { IfSome result (λ e. e < length net.now.events) }
-    ensures sent { IfSome result (λ e. IsTrue (is_sent_event net.now name.now e)) }
-{
-    for e in 0..net.events.len() as u32 {
-        if is_event(net.events.get(e as u64), name) {
-            return Some(e);
-        }
-    }
-    None
-}
-
-// Each event has a name token as its name, so none has this word.
-fn keep_names(net: &Network, word: &[u8])
-    requires { is_name word.now ≡ false }
-    ensures { env_event net.now word.now ≡ None }
-{
-    for e in 0..net.events.len() {
-        let _token = net.events.get(e).name.bytes();
-    }
-}
-
-// The number of the event that the environment sends and that has this word as its name.
-fn event_named(net: &Network, word: &[u8]) -> Option<u32>
-    ensures event { result ≡ env_event net.now word.now }
-    ensures below { IfSome result (λ e. e < length net.now.events) }
-    ensures sent { IfSome result (λ e. IsTrue (is_sent_event net.now word.now e)) }
-{
-    match Name::new(word) {
-        Some(name) => event_of_name(net, &name),
-        None => {
-            keep_names(net, word);
-            None
-        }
-    }
-}
+use transition_table::{EventDecl, Network};
 
 // The value of a domain that has this word.
 fn value_in(domain: &Domain, word: &[u8]) -> Option<u8>
@@ -90,15 +43,16 @@ fn code(net: &Network, event: &EventDecl, word: Option<&[u8]>) -> Option<u8>
 
 // The item of an event of this name with the word after it.
 fn item_of_event(
-    net: &Network,
+    sent: &Sent,
     name: &[u8],
     word: Option<&[u8]>,
 ) -> Result<Option<TraceItem>, TraceKind>
-    ensures item { result ≡ event_item net.now (env_event net.now name.now)
+    ensures item { result ≡ event_item sent.now.net.now (env_event sent.now.net.now name.now)
         (option_copied word.entry) }
-    ensures fits { AddsItem net.now result }
+    ensures fits { AddsItem sent.now.net.now result }
 {
-    match event_named(net, name) {
+    let net = sent.net;
+    match sent.event(name) {
         None => Err(TraceKind::Event),
         Some(e) => match code(net, net.events.get(e as u64), word) {
             None => Err(TraceKind::Value),
@@ -114,21 +68,21 @@ fn is_settle_word(word: &[u8]) -> bool
 }
 
 /// The item that a line is, if it is one, or the first kind of fault that applies to it.
-pub fn read_line(net: &Network, line: &[u8]) -> Result<Option<TraceItem>, TraceKind>
-    ensures item { result ≡ item_of_line net.now line.now }
-    ensures fits { AddsItem net.now result }
+pub fn read_line(sent: &Sent, line: &[u8]) -> Result<Option<TraceItem>, TraceKind>
+    ensures item { result ≡ item_of_line sent.now.net.now line.now }
+    ensures fits { AddsItem sent.now.net.now result }
 {
     let Some((first, rest)) = next_word(text_of(line)) else {
         return Ok(None);
     };
     match next_word(rest) {
         None if is_settle_word(first) => Ok(Some(TraceItem::Settle)),
-        None => item_of_event(net, first, None),
+        None => item_of_event(sent, first, None),
         Some((second, rest)) => {
             if is_settle_word(first) || next_word(rest).is_some() {
                 Err(TraceKind::Shape)
             } else {
-                item_of_event(net, first, Some(second))
+                item_of_event(sent, first, Some(second))
             }
         }
     }

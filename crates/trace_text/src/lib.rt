@@ -5,6 +5,7 @@ mod cut;
 mod fault;
 mod item;
 mod read;
+mod sent;
 mod worked;
 
 pub use fault::{TraceFault, TraceKind};

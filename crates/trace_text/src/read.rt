@@ -7,6 +7,7 @@ ghost use Rattle.trace_text.specs.declared.fault.TraceFault.{TraceFault};
 use crate::cut::next_line;
 use crate::fault::{TraceFault, TraceKind};
 use crate::item::read_line;
+use crate::sent::Sent;
 use net_core::Trace;
 use std::alloc::Global;
 use transition_table::Network;
@@ -15,17 +16,17 @@ use transition_table::Network;
 const MOST_ITEMS: u64 = 10_000;
 
 // Adds what a line of this number says to the items before it.
-fn add_line(net: &Network, trace: &mut Trace, line: u64, text: &[u8]) -> Result<(), TraceFault>
-    requires fits { IsTrace net.now trace.old }
+fn add_line(sent: &Sent, trace: &mut Trace, line: u64, text: &[u8]) -> Result<(), TraceFault>
+    requires fits { IsTrace sent.now.net.now trace.old }
     requires few { length trace.old ≤ 10000 }
-    ensures ok { IfOk result (λ u. with_line net.now (Ok trace.old) (line, text.now)
+    ensures ok { IfOk result (λ u. with_line sent.now.net.now (Ok trace.old) (line, text.now)
         ≡ Ok trace.new) }
-    ensures fits { IfOk result (λ u. IsTrace net.now trace.new) }
+    ensures fits { IfOk result (λ u. IsTrace sent.now.net.now trace.new) }
     ensures few { IfOk result (λ u. length trace.new ≤ 10000) }
     ensures fault { (fault : TraceFault) → result ≡ Err fault → fault ≢ TraceFault.NoMemory
-        → with_line net.now (Ok trace.old) (line, text.now) ≡ Err fault }
+        → with_line sent.now.net.now (Ok trace.old) (line, text.now) ≡ Err fault }
 {
-    match read_line(net, text) {
+    match read_line(sent, text) {
         Err(kind) => Err(TraceFault::Line { line, kind }),
         Ok(None) => Ok(()),
         Ok(Some(item)) => {
@@ -44,6 +45,28 @@ fn add_line(net: &Network, trace: &mut Trace, line: u64, text: &[u8]) -> Result<
     }
 }
 
+// Reads the items, one a line.
+fn read_lines(alloc: Global, sent: &Sent, text: &[u8]) -> Result<Trace, TraceFault>
+    ensures ok { IfOk result (λ trace. trace_of sent.now.net.now text.now ≡ Ok trace) }
+    ensures fits { IfOk result (λ trace. IsTrace sent.now.net.now trace) }
+    ensures few { IfOk result (λ trace. length trace ≤ 10000) }
+    ensures fault { (fault : TraceFault) → result ≡ Err fault → fault ≢ TraceFault.NoMemory
+        → trace_of sent.now.net.now text.now ≡ Err fault }
+{
+    let mut trace = Trace::new(alloc);
+    let mut rest = text;
+    let mut line = 0;
+    while !rest.is_empty() {
+        let (first, after) = next_line(rest);
+        line += 1;
+        if let Err(fault) = add_line(sent, &mut trace, line, first) {
+            return Err(fault);
+        }
+        rest = after;
+    }
+    Ok(trace)
+}
+
 /// Reads the items of a trace text, one a line. A line without words, as an empty one or a comment,
 /// is no item. The answer `Line` names the first line at fault, numbered from 1, and the first kind
 /// that applies to it.
@@ -54,16 +77,8 @@ pub fn read_trace(alloc: Global, net: &Network, text: &[u8]) -> Result<Trace, Tr
     ensures fault { (fault : TraceFault) → result ≡ Err fault → fault ≢ TraceFault.NoMemory
         → trace_of net.now text.now ≡ Err fault }
 {
-    let mut trace = Trace::new(alloc);
-    let mut rest = text;
-    let mut line = 0;
-    while !rest.is_empty() {
-        let (first, after) = next_line(rest);
-        line += 1;
-        if let Err(fault) = add_line(net, &mut trace, line, first) {
-            return Err(fault);
-        }
-        rest = after;
+    match Sent::new(alloc, net) {
+        Ok(sent) => read_lines(alloc, &sent, text),
+        Err(_) => Err(TraceFault::NoMemory),
     }
-    Ok(trace)
 }

@@ -1,0 +1,5 @@
+use Rattle.trace_text.proofs.Numbering.{HasEvents}
+use Rattle.trace_text.proofs.sent.number_events.Given as goal
+
+abbrev pub invariant-loop-e : goal.invariant-loop-e
+invariant-loop-e l = HasEvents l.net l.e l.table

@@ -14,6 +14,7 @@ pub mod ReadingBack
 pub mod OnlyPrinted
 pub mod OnlyTexts
 pub mod Cutting
+pub mod Plain
 pub mod Walking
 pub mod Skipping
 pub mod Finding

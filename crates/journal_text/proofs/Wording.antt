@@ -19,7 +19,7 @@ use Rattle.journal_text.proofs.Coding.{lacks_equals, after_equals}
 use Rattle.journal_text.proofs.Decimals.{digits_of}
 
 -- a byte that passes isn't one that doesn't
-byte_differs : (test : ℕ → Bool) (d c : ℕ) → test d ≡ false → test c ≡ true → (c == d) ≡ false
+pub byte_differs : (test : ℕ → Bool) (d c : ℕ) → test d ≡ false → test c ≡ true → (c == d) ≡ false
 byte_differs test d c isnt is =
     differ_false (c == d) (λ e. false≢true (sym isnt ∙ ap test (sym (eqb-true c d e)) ∙ is))
 

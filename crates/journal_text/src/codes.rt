@@ -1,5 +1,5 @@
 // The codes that the items of a list give.
-ghost use Rattle.std.specs.Prelude.{◌≡◌, ◌<◌, ◌++◌, true, length, map, is_some, option_copied, Ok, Err, IfOk, IfSome, IsTrue};
+ghost use Rattle.std.specs.Prelude.{◌≡◌, ◌≢◌, ◌<◌, ◌++◌, [], true, length, map, is_some, option_copied, Ok, Err, IfOk, IfSome, IsTrue};
 ghost use Rattle.std.specs.List.{list_all};
 ghost use Rattle.journal_text.specs.Forms.{list_of, words_of};
 ghost use Rattle.journal_text.specs.Items.{as_event, as_state, some_codes, all_values, map_read};
@@ -24,12 +24,24 @@ pub enum Stop {
     NoMemory,
 }
 
-/// The codes that the items of a list give these events, in their order.
+// No codes, with room for so many.
+fn no_codes(alloc: Global, room: u64) -> Result<Codes, Stop>
+    ensures ok { IfOk result (λ codes. codes ≡ []) }
+    ensures fault { (kind : JournalKind) → result ≢ Err (Stop.Kind kind) }
+{
+    match Codes::with_room(alloc, room) {
+        Ok(codes) => Ok(codes),
+        Err(_) => Err(Stop::NoMemory),
+    }
+}
+
+/// The codes that the items of a list give these events, in their order, with room for so many.
 pub fn codes_of_events(
     alloc: Global,
     net: &Network,
     events: &[u32],
     list: &[u8],
+    room: u64,
 ) -> Result<Codes, Stop>
     requires events { IsTrue (are_events net.now events.now) }
     requires list { is_some (list_of (words_of list.now)) ≡ true }
@@ -38,7 +50,7 @@ pub fn codes_of_events(
     ensures fault { (kind : JournalKind) → result ≡ Err (Stop.Kind kind)
         → some_codes net.now (map (as_event net.now) events.now) (items_in list.now) ≡ Err kind }
 {
-    let mut codes = Codes::new(alloc);
+    let mut codes = no_codes(alloc, room)?;
     let mut items = items_of(list);
     for e in events.iter() {
         let event = net.events.get(*e as u64);
@@ -74,7 +86,7 @@ pub fn codes_of_states(
     ensures fault { (kind : JournalKind) → result ≡ Err (Stop.Kind kind)
         → some_codes net.now (map as_state states.now) (items_in list.now) ≡ Err kind }
 {
-    let mut codes = Codes::new(alloc);
+    let mut codes = no_codes(alloc, states.len() as u64)?;
     let mut items = items_of(list);
     for variable in states.iter() {
         match code_of_next(net, variable.name.bytes(), Some(variable.domain), items) {

@@ -1,7 +1,7 @@
 // Pieces of a text, words, and the signs between lists.
-ghost use Rattle.std.specs.Prelude.{◌≡◌, ◌<◌, ◌≤◌, ◌+◌, ◌++◌, ◌∷◌, [], ℕ, true, length, IfSome, IfNone, is_some, option_copied, Some, None};
-ghost use Rattle.std.specs.List.{list_all};
-ghost use Rattle.journal_text.specs.Forms.{pieces, is_word_byte, is_word, is_sign, words_of, list_of, dash};
+ghost use Rattle.std.specs.Prelude.{◌≡◌, ◌<◌, ◌≤◌, ◌+◌, ◌++◌, ◌∷◌, [], ℕ, true, false, length, IfSome, IfNone, is_some, option_copied, Some, None};
+ghost use Rattle.std.specs.List.{list_all, prefix_len};
+ghost use Rattle.journal_text.specs.Forms.{pieces, is_word_byte, is_word, is_sign, lines_of, words_of, list_of, dash};
 ghost use Rattle.domains.specs.Names.{is_same};
 ghost use Rattle.journal_text.specs.Cursors.{lacks, left, items_in, CutAt, NoCut, SkippedTo};
 ghost use Rattle.memchr.specs.Find.{IsFirstByte, is_byte};
@@ -27,6 +27,21 @@ fn first_place(text: &[u8], mark: u8) -> Option<usize>
     }
 }
 
+// The first piece of a text, and what stands after the mark that ends it, which is at this place.
+fn parted(text: &[u8], mark: u8, place: Option<usize>) -> (&[u8], Option<&[u8]>)
+    requires { IsFirstByte (is_byte mark) text.now place }
+    ensures some { IfSome result.1 (λ r. text.now ≡ result.0.now ++ mark ∷ r.now) }
+    ensures none { IfNone result.1 (text.now ≡ result.0.now) }
+    ensures piece { lacks mark result.0.now ≡ true }
+    ensures prefix { pieces mark text.now ≡ result.0.now ∷ left mark (option_copied result.1) }
+    ensures shorter { IfSome result.1 (λ r. length r.now < length text.now) }
+{
+    match place {
+        Some(k) => (&text[..k], Some(&text[k + 1..])),
+        None => (text, None),
+    }
+}
+
 /// The first piece of a text, and what stands after the mark that ends it, where one does.
 pub fn next_piece(text: &[u8], mark: u8) -> (&[u8], Option<&[u8]>)
     ensures some { IfSome result.1 (λ r. text.now ≡ result.0.now ++ mark ∷ r.now) }
@@ -35,10 +50,15 @@ pub fn next_piece(text: &[u8], mark: u8) -> (&[u8], Option<&[u8]>)
     ensures prefix { pieces mark text.now ≡ result.0.now ∷ left mark (option_copied result.1) }
     ensures shorter { IfSome result.1 (λ r. length r.now < length text.now) }
 {
-    match first_place(text, mark) {
-        Some(k) => (&text[..k], Some(&text[k + 1..])),
-        None => (text, None),
-    }
+    parted(text, mark, first_place(text, mark))
+}
+
+/// The first line of a text, and what stands after the LF that ends it, where one does.
+pub fn next_line(text: &[u8]) -> (&[u8], Option<&[u8]>)
+    ensures prefix { lines_of text.now ≡ result.0.now ∷ left 10 (option_copied result.1) }
+    ensures shorter { IfSome result.1 (λ r. length r.now < length text.now) }
+{
+    parted(text, b'\n', memchr(b'\n', text))
 }
 
 fn is_a_word_byte(byte: u8) -> bool
@@ -69,14 +89,55 @@ pub fn is_a_word(word: &[u8]) -> bool
     !word.is_empty() && all_word_bytes(word) && !is_a_sign(word)
 }
 
+// Whether bytes that words have are a word.
+fn is_plain_word(word: &[u8]) -> bool
+    requires { list_all is_word_byte word.now ≡ true }
+    ensures { result ≡ is_word word.now }
+{
+    !word.is_empty() && !is_a_sign(word)
+}
+
+// How many bytes that words have a text begins with.
+fn plain_len(text: &[u8]) -> usize
+    ensures plain { result ≡ prefix_len is_word_byte text.now }
+    ensures within { result ≤ length text.now }
+{
+    text.iter()
+        .take_while(|byte| is_a_word_byte(**byte))
+        .count()
+}
+
+// The first piece between spaces, where it has just bytes that words have, and what stands after
+// the space that ends it.
+fn next_plain(text: &[u8]) -> Option<(&[u8], Option<&[u8]>)>
+    ensures some { IfSome result (λ r.
+        words_of text.now ≡ r.0.now ∷ left 32 (option_copied r.1)) }
+    ensures plain { IfSome result (λ r. list_all is_word_byte r.0.now ≡ true) }
+    ensures shorter { IfSome result (λ r.
+        IfSome r.1 (λ rest. length rest.now < length text.now)) }
+    ensures none { IfNone result (list_all is_word (words_of text.now) ≡ false) }
+{
+    let end = plain_len(text);
+    if end == text.len() {
+        return Some((text, None));
+    }
+    if text[end] == b' ' {
+        Some((&text[..end], Some(&text[end + 1..])))
+    } else {
+        None
+    }
+}
+
 // Whether all pieces between single spaces are words.
 fn all_words(words: &[u8]) -> bool
     ensures { result ≡ list_all is_word (words_of words.now) }
 {
     let mut rest = words;
     loop {
-        let (word, after) = next_piece(rest, b' ');
-        if !is_a_word(word) {
+        let Some((word, after)) = next_plain(rest) else {
+            return false;
+        };
+        if !is_plain_word(word) {
             return false;
         }
         match after {

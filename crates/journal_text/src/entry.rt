@@ -58,7 +58,9 @@ fn snapshot(alloc: Global, net: &Network, m: u32, seen: (&[u8], &[u8])) -> Resul
 {
     let (present, values) = seen;
     let machine = net.machines.get(m as u64);
-    let mut codes = codes_of_events(alloc, net, machine.inputs.as_slice(), present)?;
+    let inputs = machine.inputs.as_slice();
+    let room = machine.inputs.len() + machine.states.len();
+    let mut codes = codes_of_events(alloc, net, inputs, present, room)?;
     push_values(net, machine.states.as_slice(), values, &mut codes)?;
     Ok(Snapshot { codes })
 }
@@ -78,7 +80,8 @@ fn outcome(alloc: Global, net: &Network, m: u32, given: (&[u8], &[u8])) -> Resul
     let (set, emitted) = given;
     let machine = net.machines.get(m as u64);
     let next = codes_of_states(alloc, net, machine.states.as_slice(), set)?;
-    let outs = codes_of_events(alloc, net, machine.outputs.as_slice(), emitted)?;
+    let outputs = machine.outputs.as_slice();
+    let outs = codes_of_events(alloc, net, outputs, emitted, machine.outputs.len())?;
     Ok(Outcome {
         fires: true,
         next,

@@ -9,7 +9,7 @@ ghost use Rattle.journal_text.specs.Reading.{version_of, ended, unended, given, 
 ghost use Rattle.journal_text.specs.declared.fault.JournalFault.{JournalFault};
 
 use crate::codes::Stop;
-use crate::cut::next_piece;
+use crate::cut::next_line;
 use crate::fault::{JournalFault, JournalKind};
 use crate::index::Index;
 use crate::line::{Content, read_line};
@@ -133,7 +133,7 @@ fn read_lines(
     let mut rest = text;
     loop {
         let line = journal.len() + 2;
-        let (first, after) = next_piece(rest, b'\n');
+        let (first, after) = next_line(rest);
         let Some(after) = after else {
             return Err(without_lf(line, first));
         };
@@ -182,7 +182,7 @@ pub fn read_journal(alloc: Global, net: &Network, text: &[u8]) -> Result<ReadJou
     ensures fault { (fault : JournalFault) → result ≡ Err fault → fault ≢ JournalFault.NoMemory
         → read_of net.now text.now ≡ Err fault }
 {
-    let (first, after) = next_piece(text, b'\n');
+    let (first, after) = next_line(text);
     match (version(first), after) {
         (Some(stamped), Some(rest)) => read_body(alloc, net, stamped, rest),
         _ => Err(JournalFault::Line {

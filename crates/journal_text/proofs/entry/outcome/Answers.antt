@@ -8,5 +8,5 @@ codes_of_states-requires-clause-states c =
 
 pub codes_of_events-requires-clause-events : goal.codes_of_events-requires-clause-events
 codes_of_events-requires-clause-events c =
-    rw c.as_slice-2.ensures
+    rw c.as_slice-outputs.ensures
     (outputs_numbered c.args.net.now _ c.get-machine.result.now c.get-machine.ensures)

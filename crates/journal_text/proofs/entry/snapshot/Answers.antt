@@ -3,10 +3,10 @@ use Rattle.journal_text.proofs.entry.snapshot.Goals as goal
 
 pub codes_of_events-requires-clause-events : goal.codes_of_events-requires-clause-events
 codes_of_events-requires-clause-events c =
-    rw c.as_slice.ensures
+    rw c.as_slice-inputs.ensures
     (inputs_numbered c.args.net.now _ c.get-machine.result.now c.get-machine.ensures)
 
 pub push_values-requires-clause-states : goal.push_values-requires-clause-states
 push_values-requires-clause-states c =
-    rw c.as_slice-2.ensures
+    rw c.as_slice.ensures
     (states_numbered c.args.net.now _ c.get-machine.result.now c.get-machine.ensures)

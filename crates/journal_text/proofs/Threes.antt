@@ -1,16 +1,19 @@
 -- Words of which there are just three, and decimal words.
 use Rattle.std.proofs.Common.{◌≡◌, ◌≢◌, ℕ, ◌<◌, ◌^◌, ◌∷◌, Option, Some, None, refl, sym, ◌∙◌, ap}
 use Rattle.std.specs.Prelude.{decimal}
-use Rattle.journal_text.specs.Forms.{Text, pieces, decimal_of}
-use Rattle.journal_text.specs.Cursors.{three_of}
+use Rattle.journal_text.specs.Forms.{Text, Texts, pieces, decimal_of}
 use Rattle.journal_text.proofs.Pieces.{some_piece}
 use Rattle.journal_text.proofs.Decimals.{decimal_read, decimal_is}
 
-pub four_pieces : (t u v w a b c : Text) → pieces 32 t ≡ a ∷ pieces 32 u
-    → pieces 32 u ≡ b ∷ pieces 32 v → pieces 32 v ≡ c ∷ pieces 32 w → three_of (pieces 32 t) ≡ None
-four_pieces t u v w a b c p q r =
+-- what is made of four pieces or more
+pub four_pieces : {A : Type 0} (f : Texts → A) (none : A)
+    → ((a b c d : Text) (ws : Texts) → f (a ∷ b ∷ c ∷ d ∷ ws) ≡ none) → (t u v w a b c : Text)
+    → pieces 32 t ≡ a ∷ pieces 32 u → pieces 32 u ≡ b ∷ pieces 32 v
+    → pieces 32 v ≡ c ∷ pieces 32 w → f (pieces 32 t) ≡ none
+four_pieces f none more t u v w a b c p q r =
     let s = some_piece 32 w in
-    ap three_of (p ∙ ap (λ ws. a ∷ ws) (q ∙ ap (λ ws. b ∷ ws) (r ∙ ap (λ ws. c ∷ ws) s.2)))
+    ap f (p ∙ ap (λ ws. a ∷ ws) (q ∙ ap (λ ws. b ∷ ws) (r ∙ ap (λ ws. c ∷ ws) s.2)))
+    ∙ more a b c s.0 s.1
 
 pub decimal_some : (text : Text) (n : ℕ) → n < 2 ^ 64 → text ≡ decimal n → Some n ≡ decimal_of text
 decimal_some text n below is = sym (ap decimal_of is ∙ decimal_read n below)

@@ -128,18 +128,35 @@ fn next_plain(text: &[u8]) -> Option<(&[u8], Option<&[u8]>)>
     }
 }
 
+/// The first piece between spaces, where it is a word, and what stands after the space that ends
+/// it.
+pub fn next_word(text: &[u8]) -> Option<(&[u8], Option<&[u8]>)>
+    ensures some { IfSome result (λ r.
+        words_of text.now ≡ r.0.now ∷ left 32 (option_copied r.1)) }
+    ensures word { IfSome result (λ r. is_word r.0.now ≡ true) }
+    ensures shorter { IfSome result (λ r.
+        IfSome r.1 (λ rest. length rest.now < length text.now)) }
+    ensures none { IfNone result (list_all is_word (words_of text.now) ≡ false) }
+{
+    let Some((word, after)) = next_plain(text) else {
+        return None;
+    };
+    if is_plain_word(word) {
+        Some((word, after))
+    } else {
+        None
+    }
+}
+
 // Whether all pieces between single spaces are words.
 fn all_words(words: &[u8]) -> bool
     ensures { result ≡ list_all is_word (words_of words.now) }
 {
     let mut rest = words;
     loop {
-        let Some((word, after)) = next_plain(rest) else {
+        let Some((_, after)) = next_word(rest) else {
             return false;
         };
-        if !is_plain_word(word) {
-            return false;
-        }
         match after {
             None => return true,
             Some(more) => rest = more,

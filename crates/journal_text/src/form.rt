@@ -4,7 +4,7 @@ ghost use Rattle.journal_text.specs.Forms.{words_of, list_of, two_lists, four_li
 ghost use Rattle.journal_text.specs.Cursors.{items_in, AreLists, three_of};
 ghost use Rattle.journal_text.specs.Lines.{as_form, HasLists, NoReaction, fire_words, idle_words};
 
-use crate::cut::{cut_at, is_a_list, is_a_word, next_piece};
+use crate::cut::{cut_at, is_a_list, is_a_word, next_piece, next_word};
 use polis_base::read_decimal;
 
 /// The form of an entry's line, with its words and lists.
@@ -143,13 +143,24 @@ fn delivery(words: &[u8]) -> Option<Form<'_>>
     ensures lists { IfSome result HasLists }
     ensures none { IfNone result (dep_form (words_of words.now) ≡ None) }
 {
-    let Some((from, to, event)) = three_words(words) else {
+    let Some((from, after)) = next_word(words) else {
         return None;
     };
-    if is_a_word(from) && is_a_word(to) && is_a_word(event) {
-        Some(Form::Delivery { from, to, event })
-    } else {
-        None
+    let Some(rest) = after else {
+        return None;
+    };
+    let Some((to, after)) = next_word(rest) else {
+        return None;
+    };
+    let Some(rest) = after else {
+        return None;
+    };
+    let Some((event, after)) = next_word(rest) else {
+        return None;
+    };
+    match after {
+        None => Some(Form::Delivery { from, to, event }),
+        Some(_) => None,
     }
 }
 

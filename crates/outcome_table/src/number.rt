@@ -135,6 +135,7 @@ fn end_left(narrowing: &Narrowing, first: Option<u64>) -> u64
 
 // The number of the outcome of all snapshots that have the codes of the variables before one, given
 // the first row whose conditions on these hold, which needs no later variable.
+#[inline(always)]
 fn number_after(
     narrowing: &Narrowing,
     first: Option<u64>,
@@ -181,6 +182,7 @@ fn push_times(numbers: &mut Vec<u64>, number: u64, times: u64) -> Result<(), NoM
 
 // Numbers the outcome of all snapshots that have the codes of the variables before one, where it is
 // the same on them.
+#[inline(always)]
 fn number_all(
     narrowing: &Narrowing,
     first: Option<u64>,

@@ -55,6 +55,7 @@ impl Outcomes {
 
     /// The number of the outcome of a row on a snapshot that enables it: that of an equal one that
     /// was added before, or the next.
+    #[inline(never)]
     pub(crate) fn add(
         &mut self,
         machine: &Machine,

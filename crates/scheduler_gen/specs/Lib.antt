@@ -1,3 +1,4 @@
+pub mod Picks
 pub mod Plans
 pub mod Runs
 pub mod Single

@@ -1,11 +1,13 @@
 // What is picked next.
-ghost use Rattle.std.specs.Prelude.{◌≡◌, ◌<◌, ℕ, length, Some, option_map, not, IfSome};
-ghost use Rattle.journals.specs.Schedules.{deliver as pick_of, first_pick, first_woken, pick as picked};
+ghost use Rattle.std.specs.Prelude.{◌≡◌, ◌≢◌, ◌<◌, ℕ, length, None, IfSome};
+ghost use Rattle.polis_base.specs.Lists.{head_of};
+ghost use Rattle.journals.specs.Schedules.{deliver as pick_of, first_pick, first_woken, owed_by_env, pick as picked};
 ghost use Rattle.journals.specs.declared.entry.Pick.{Pick};
+ghost use Rattle.scheduler_gen.specs.Picks.{reaction_or};
 ghost use Rattle.scheduler_gen.specs.Plans.{IsPlanOf};
 
 use crate::machines::Plan;
-use net_core::{Config, NextEnv, Owed, Pick};
+use net_core::{Config, Owed, Pick};
 
 fn deliver(owed: Owed) -> Pick
     ensures { result ≡ pick_of owed }
@@ -15,28 +17,6 @@ fn deliver(owed: Owed) -> Pick
         to: owed.to,
         event: owed.event,
         code: owed.code,
-    }
-}
-
-// The first of what machines owe, of what the environment owes and isn't held back, of a reaction,
-// and of what the environment owes.
-fn first_of(owed: Option<Owed>, env: Option<NextEnv>, woken: Option<u32>) -> Pick
-    ensures first { result ≡ first_pick owed (option_map (λ e. (e.owed, not e.ready)) env) woken }
-    ensures machine { (m : ℕ) → result ≡ Pick.React m → woken ≡ Some m }
-{
-    match owed {
-        Some(owed) => deliver(owed),
-        None => match env {
-            Some(next) if next.ready => deliver(next.owed),
-            Some(next) => match woken {
-                Some(machine) => Pick::React { machine },
-                None => deliver(next.owed),
-            },
-            None => match woken {
-                Some(machine) => Pick::React { machine },
-                None => Pick::Stop,
-            },
-        },
     }
 }
 
@@ -55,6 +35,39 @@ fn first_to_react(plan: &Plan, config: &Config<'_>) -> Option<u32>
     None
 }
 
+// The reaction of the first woken machine, or this where none is woken.
+fn react_or(plan: &Plan, config: &Config<'_>, other: Pick) -> Pick
+    requires plan { IsPlanOf config.now.net plan.now }
+    requires other { (m : ℕ) → other ≢ Pick.React m }
+    ensures first { result ≡ reaction_or (first_woken config.now.net config.now.journal) other }
+    ensures machine { (m : ℕ) → result ≡ Pick.React m → m < length config.now.net.machines }
+{
+    match first_to_react(plan, config) {
+        Some(machine) => Pick::React { machine },
+        None => other,
+    }
+}
+
+// What comes next where no machine owes a delivery. A woken machine is looked for only where the
+// environment has no delivery that is ready.
+fn pick_beside(plan: &Plan, config: &Config<'_>) -> Pick
+    requires { IsPlanOf config.now.net plan.now }
+    ensures first { result ≡ first_pick None
+        (head_of (owed_by_env config.now.net config.now.trace config.now.journal))
+        (first_woken config.now.net config.now.journal) }
+    ensures machine { (m : ℕ) → result ≡ Pick.React m → m < length config.now.net.machines }
+{
+    match config.next_env() {
+        Some(next) => {
+            if next.ready {
+                return deliver(next.owed);
+            }
+            react_or(plan, config, deliver(next.owed))
+        }
+        None => react_or(plan, config, Pick::Stop),
+    }
+}
+
 /// What comes next: the first delivery that a machine owes, by firing, then emission, then
 /// receiver; the first that the environment owes, where no `settle` item holds it back; the
 /// reaction of the first machine of the plan that a delivery came to since its last reaction; the
@@ -64,9 +77,8 @@ pub fn pick(plan: &Plan, config: &Config<'_>) -> Pick
     ensures pick { result ≡ picked config.now.net config.now.trace config.now.journal }
     ensures machine { (m : ℕ) → result ≡ Pick.React m → m < length config.now.net.machines }
 {
-    first_of(
-        config.owed(),
-        config.next_env(),
-        first_to_react(plan, config),
-    )
+    match config.owed() {
+        Some(owed) => deliver(owed),
+        None => pick_beside(plan, config),
+    }
 }

@@ -167,6 +167,18 @@ table_item {X} f n items m x are below at =
     sym (get_or_from_slice_get items m x x at) ∙ ap (λ (l : List X). get_or l m x) are
     ∙ get_or-table f n m x below
 
+-- ---- the entry that was put at the end
+
+at_end : {X : Type 0} (xs : List X) (x : X) → slice_get (xs ++ x ∷ []) (length xs) ≡ Some x
+at_end [] x = refl
+at_end (y ∷ xs) x = at_end xs x
+
+pub last_item : {X : Type 0} (xs l : List X) (place : ℕ) (x y : X) → l ≡ xs ++ x ∷ []
+    → place ≡ length xs → slice_get l place ≡ Some y → y ≡ x
+last_item {X} xs l place x y is end at =
+    let own : slice_get l place ≡ Some x = rw (is, end) (at_end xs x) in
+    cc
+
 -- what an answer says of an equivalence
 pub not_following : {b : Bool} {P : Type 0} → (b ≡ true) ↔ P → b ≡ false → ¬ P
 not_following h e p = both_ways _ e (h.1 p)

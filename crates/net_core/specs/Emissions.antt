@@ -1,7 +1,9 @@
 -- Emissions with the receivers that wait for them.
-use Rattle.std.specs.Prelude.{◌≡◌, ◌≢◌, ℕ, zero, suc, ◌+◌, ◌*◌, ◌<◌, ◌≤◌, Bool, false, ◌&&◌, ◌==◌, List, [], ◌++◌, map, flat_map, length, drop, get_or}
+use Rattle.std.specs.Prelude.{◌≡◌, ◌≢◌, ℕ, zero, suc, ◌+◌, ◌*◌, ◌<◌, ◌≤◌, Bool, false, cond, ◌&&◌, ◌==◌, List, [], ◌++◌, map, flat_map, length, drop, get_or}
 use Rattle.std.specs.Int.{bit_at}
 use Rattle.transition_table.specs.declared.decl.Party.TheVariants.{Machine as Sender}
+use Rattle.journals.specs.declared.entry.Entry.{Entry}
+use Rattle.journals.specs.declared.entry.Entry.TheVariants.{Dep, Rea}
 use Rattle.journals.specs.declared.entry.Owed.{Owed}
 use Rattle.net_core.specs.declared.config.emissions.Emission.{Emission}
 use Rattle.net_core.specs.Readers.{members}
@@ -89,3 +91,8 @@ abbrev pub given : ℕ → ℕ → ℕ → ℕ → List Owed
 given s e zero left = []
 given s e (suc v) left =
     waiting (record { from = s; event = e; code = suc v; left = left; next = no_place })
+
+-- how many records there are at most of what an entry gives
+abbrev pub most_given : Entry → ℕ
+most_given (Dep s m event code) = 0
+most_given (Rea m s o) = cond o.fires (length o.outs) 0

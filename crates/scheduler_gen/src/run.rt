@@ -1,8 +1,8 @@
 // Running a network on a trace.
-ghost use Rattle.std.specs.Prelude.{◌≡◌, ◌<◌, ◌≤◌, ◌⊎◌, ◌↔◌, ◌+◌, [], ◌∷◌, ◌++◌, length, true, false, Ok, IfOk, OnOk, OnErr, IsTrue};
+ghost use Rattle.std.specs.Prelude.{◌≡◌, ◌<◌, ◌≤◌, ◌⊎◌, ◌↔◌, ◌+◌, [], length, true, false, Ok, IfOk, OnOk, IsTrue};
 ghost use Rattle.polis_base.specs.Lists.{Begins};
-ghost use Rattle.journals.specs.Journals.{FitsNetwork, IsTrace};
-ghost use Rattle.journals.specs.Legality.{Legal, MayFollow, Complete};
+ghost use Rattle.journals.specs.Journals.{IsTrace};
+ghost use Rattle.journals.specs.Legality.{Legal, Complete};
 ghost use Rattle.net_core.specs.Moments.{Moment};
 ghost use Rattle.journals.specs.Schedules.{IsPicked, Follows, IsSchedule, pick as picked};
 ghost use Rattle.journals.specs.declared.entry.Pick.{Pick};
@@ -12,7 +12,7 @@ ghost use Rattle.scheduler_gen.specs.Runs.{IsNext, GoesOn, Ends};
 use crate::machines::Plan;
 use crate::next::pick;
 use domains::first_codes;
-use net_core::{Admit, Config, Entry, Journal, Pick, Trace, laws};
+use net_core::{Config, Entry, Journal, Pick, Trace, laws};
 use polis_base::NoMemory;
 use std::alloc::Global;
 use transition_table::{Reactor, Snapshot};
@@ -27,30 +27,16 @@ pub struct Finished {
     pub complete: bool,
 }
 
-// Takes an entry that may follow.
-fn take(config: &mut Config<'_>, entry: &Entry) -> Result<(), NoMemory>
-    requires fits { FitsNetwork config.old.net entry.now }
-    requires follows { MayFollow config.old.net config.old.trace config.old.journal entry.now }
-    ensures ok { OnOk result (config.new
-        ≡ record config.old { journal = config.old.journal ++ entry.now ∷ [] }) }
-{
-    match config.append(entry) {
-        Admit::Yes => Ok(()),
-        Admit::No(_) => unreachable!(),
-        Admit::NoMemory => Err(NoMemory),
-    }
-}
-
 // Takes what is picked.
-fn take_picked(config: &mut Config<'_>, entry: &Entry) -> Result<(), NoMemory>
+fn take_picked(config: &mut Config<'_>, entry: Entry) -> Result<(), NoMemory>
     requires { IsPicked config.old.net config.old.journal
-        (picked config.old.net config.old.trace config.old.journal) entry.now }
+        (picked config.old.net config.old.trace config.old.journal) entry }
     ensures ok { OnOk result (IsNext config.old config.new) }
 {
     laws();
     let _trace = config.trace();
     let _journal = config.journal();
-    take(config, entry)
+    config.take(entry)
 }
 
 // Takes the reaction of a machine to its snapshot.
@@ -74,7 +60,7 @@ fn react<R: Reactor>(alloc: Global, r: &R, config: &mut Config<'_>, m: u32) -> R
         snapshot,
         outcome,
     };
-    take_picked(config, &entry)
+    take_picked(config, entry)
 }
 
 // Takes what is picked, if anything is.
@@ -104,7 +90,7 @@ fn advance<R: Reactor>(
                 event,
                 code,
             };
-            take_picked(config, &entry)?;
+            take_picked(config, entry)?;
             Ok(true)
         }
         Pick::React { machine } => {

@@ -5,13 +5,13 @@ ghost use Rattle.polis_base.specs.Lists.{head_of};
 ghost use Rattle.transition_table.specs.declared.decl.Party.TheVariants.{Machine as Sender};
 ghost use Rattle.journals.specs.Journals.{FitsNetwork};
 ghost use Rattle.journals.specs.Schedules.{is_way, without_first, firing_deliveries};
-ghost use Rattle.net_core.specs.Emissions.{no_place, nth};
+ghost use Rattle.net_core.specs.Emissions.{no_place, nth, most_given, IsChain, IsMore};
 ghost use Rattle.net_core.specs.Readers.{AreReaders};
 
 use crate::config::bits::{lowest, without};
 use crate::config::emissions::{Emission, NO_PLACE, delivery, emit_all, place_from};
 use journals::{Entry, Journal, Owed};
-use polis_base::{Duplicate, NoMemory};
+use polis_base::NoMemory;
 use std::alloc::Global;
 use std::marker::Model;
 use transition_table::Network;
@@ -78,6 +78,50 @@ fn make_room(records: &mut Vec<Emission>, count: usize) -> Result<(), NoMemory>
     }
     records.reserve(count)?;
     Ok(())
+}
+
+// Makes room for the records of what an entry gives.
+fn make_room_for(records: &mut Vec<Emission>, entry: &Entry) -> Result<(), NoMemory>
+    requires { length records.old.items ≤ no_place }
+    ensures items { records.new.items ≡ records.old.items }
+    ensures few { OnOk result (length records.old.items + most_given entry.now ≤ no_place) }
+    ensures room { OnOk result (vec_len records.new + most_given entry.now
+        ≤ vec_capacity records.new) }
+{
+    if let Entry::Rea { outcome, .. } = entry {
+        if outcome.fires {
+            return make_room(records, outcome.outs.len() as usize);
+        }
+    }
+    Ok(())
+}
+
+// Adds what an entry gives. There is room for it.
+fn emit_given(
+    records: &mut Vec<Emission>,
+    last: &mut Vec<usize>,
+    net: &Network,
+    readers: &[u64],
+    entry: &Entry,
+)
+    requires chain { IsChain records.old.items last.old.items }
+    requires fits { FitsNetwork net.now entry.now }
+    requires readers { AreReaders net.now readers.now }
+    requires few { length records.old.items + most_given entry.now ≤ no_place }
+    requires room { vec_len records.old + most_given entry.now ≤ vec_capacity records.old }
+    ensures { IsMore records.old.items last.old.items records.new.items last.new.items
+        (firing_deliveries net.now entry.now) }
+{
+    if let Entry::Rea {
+        machine,
+        outcome,
+        ..
+    } = entry
+    {
+        if outcome.fires {
+            emit_all(records, last, net, readers, *machine, &outcome.outs);
+        }
+    }
 }
 
 impl Owings {
@@ -156,38 +200,27 @@ impl Owings {
         &mut self,
         net: &Network,
         readers: &[u64],
-        entry: &Entry,
+        entry: Entry,
         journal: &mut Journal,
     ) -> Result<(), NoMemory>
-        requires fits { FitsNetwork net.now entry.now }
+        requires fits { FitsNetwork net.now entry }
         requires readers { AreReaders net.now readers.now }
-        ensures journal { OnOk result (journal.new ≡ journal.old ++ entry.now ∷ []) }
-        ensures owed { OnOk result (self.new ≡ self.old ++ firing_deliveries net.now entry.now) }
+        ensures journal { OnOk result (journal.new ≡ journal.old ++ entry ∷ []) }
+        ensures owed { OnOk result (self.new ≡ self.old ++ firing_deliveries net.now entry) }
         ensures same_journal { OnErr result (journal.new ≡ journal.old) }
         ensures same_owed { OnErr result (self.new ≡ self.old) }
     {
-        let copy = entry.copy()?;
-        if let Entry::Rea {
-            machine,
-            outcome,
-            ..
-        } = entry
-        {
-            if outcome.fires {
-                make_room(&mut self.records, outcome.outs.len() as usize)?;
-                journal.push(copy)?;
-                emit_all(
-                    &mut self.records,
-                    &mut self.last,
-                    net,
-                    readers,
-                    *machine,
-                    &outcome.outs,
-                );
-                return Ok(());
-            }
-        }
-        journal.push(copy)
+        let place = journal.len();
+        make_room_for(&mut self.records, &entry)?;
+        journal.push(entry)?;
+        emit_given(
+            &mut self.records,
+            &mut self.last,
+            net,
+            readers,
+            journal.get(place),
+        );
+        Ok(())
     }
 
     // Puts the deliveries that an entry gives at the end.
@@ -201,24 +234,8 @@ impl Owings {
         requires readers { AreReaders net.now readers.now }
         ensures owed { OnOk result (self.new ≡ self.old ++ firing_deliveries net.now entry.now) }
     {
-        if let Entry::Rea {
-            machine,
-            outcome,
-            ..
-        } = entry
-        {
-            if outcome.fires {
-                make_room(&mut self.records, outcome.outs.len() as usize)?;
-                emit_all(
-                    &mut self.records,
-                    &mut self.last,
-                    net,
-                    readers,
-                    *machine,
-                    &outcome.outs,
-                );
-            }
-        }
+        make_room_for(&mut self.records, entry)?;
+        emit_given(&mut self.records, &mut self.last, net, readers, entry);
         Ok(())
     }
 }

@@ -80,23 +80,24 @@ impl Tables {
         &mut self,
         net: &Network,
         trace: &Trace,
-        entry: &Entry,
+        entry: Entry,
         journal: &mut Journal,
     ) -> Result<(), NoMemory>
-        requires fits { FitsNetwork net.now entry.now }
-        requires follows { MayFollow net.now trace.now journal.old entry.now }
+        requires fits { FitsNetwork net.now entry }
+        requires follows { MayFollow net.now trace.now journal.old entry }
         requires current { AreTables net.now trace.now journal.old self.old.readers.items
             self.old.moments.items
             self.old.woken self.old.cursors self.old.owed }
-        ensures journal { OnOk result (journal.new ≡ journal.old ++ entry.now ∷ []) }
-        ensures current { OnOk result (AreTables net.now trace.now (journal.old ++ entry.now ∷ [])
+        ensures journal { OnOk result (journal.new ≡ journal.old ++ entry ∷ []) }
+        ensures current { OnOk result (AreTables net.now trace.now (journal.old ++ entry ∷ [])
             self.new.readers.items self.new.moments.items self.new.woken self.new.cursors
             self.new.owed) }
         ensures same_journal { OnErr result (journal.new ≡ journal.old) }
         ensures same { OnErr result (self.new ≡ self.old) }
     {
+        let place = journal.len();
         self.owed.write(net, &self.readers, entry, journal)?;
-        self.pass(net, trace, entry);
+        self.pass(net, trace, journal.get(place));
         Ok(())
     }
 

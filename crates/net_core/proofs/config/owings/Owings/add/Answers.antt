@@ -3,9 +3,9 @@ use Rattle.net_core.specs.declared.config.emissions.Emission.{Emission}
 use Rattle.net_core.specs.Emissions.{IsQueue}
 use Rattle.net_core.proofs.config.owings.Owings.add.Goals as goal
 
-pub invariant_of-self-then-outcome : goal.invariant_of-self-then-outcome
-invariant_of-self-then-outcome c =
+pub invariant_of-self-2 : goal.invariant_of-self-2
+invariant_of-self-2 c =
     let i = c.self.inside in
-    c.emit_all.ensures.queue i.front i.cursors.items
+    c.emit_given.ensures.queue i.front i.cursors.items
     (subst (λ (l : List Emission). IsQueue l i.front i.cursors.items i.last.items)
-    (sym c.make_room.ensures.items) c.self.invariant)
+    (sym c.make_room_for.ensures.items) c.self.invariant)

@@ -1,20 +1,36 @@
-use Rattle.net_core.proofs.Tables.{before_entry}
+use Rattle.std.proofs.Common.{[], ◌∷◌, ◌++◌, sym, subst}
+use Rattle.journals.specs.declared.entry.Entry.{Entry}
+use Rattle.net_core.specs.Tables.{AreBefore, AreTables}
+use Rattle.net_core.proofs.Tables.{before_entry, last_item}
 use Rattle.net_core.proofs.config.tables.Tables.take.Goals as goal
 
 pub pass-requires-clause-current : goal.pass-requires-clause-current
 pass-requires-clause-current c =
-    let tables = c.args.self.now in (
+    let tables = c.args.self.now in
+    let is = last_item c.args.journal.now c.write.new.journal c.len-place.result c.args.entry
+    c.get.result.now c.in_ok-write.ensures.journal c.len-place.ensures c.get.ensures in (
       c.args.journal.now,
-      before_entry c.args.net.now c.args.trace.now c.args.journal.now
-          c.args.entry.now tables.readers.items tables.moments.items tables.woken tables.cursors
-          tables.owed c.write.new.self c.requires.follows c.requires.current
-          c.in_ok-write.ensures.owed,
+      subst (λ (e : Entry). AreBefore c.args.net.now c.args.trace.now c.args.journal.now e
+          tables.readers.items tables.moments.items tables.woken tables.cursors c.write.new.self)
+          (sym is)
+          (before_entry c.args.net.now c.args.trace.now c.args.journal.now c.args.entry
+          tables.readers.items tables.moments.items tables.woken tables.cursors tables.owed
+          c.write.new.self c.requires.follows c.requires.current c.in_ok-write.ensures.owed),
     )
 
 pub returns-clause-current : goal.returns-clause-current
 returns-clause-current c =
     let tables = c.args.self.now in
-    c.pass.ensures c.args.journal.now
-    (before_entry c.args.net.now c.args.trace.now c.args.journal.now c.args.entry.now
+    let new = c.pass.new.self in
+    let is = last_item c.args.journal.now c.write.new.journal c.len-place.result c.args.entry
+    c.get.result.now c.in_ok-write.ensures.journal c.len-place.ensures c.get.ensures in
+    subst (λ (e : Entry). AreTables c.args.net.now c.args.trace.now
+    (c.args.journal.now ++ e ∷ []) new.readers.items new.moments.items new.woken new.cursors
+    new.owed) is
+    (c.pass.ensures c.args.journal.now
+    (subst (λ (e : Entry). AreBefore c.args.net.now c.args.trace.now c.args.journal.now e
+    tables.readers.items tables.moments.items tables.woken tables.cursors c.write.new.self)
+    (sym is)
+    (before_entry c.args.net.now c.args.trace.now c.args.journal.now c.args.entry
     tables.readers.items tables.moments.items tables.woken tables.cursors tables.owed
-    c.write.new.self c.requires.follows c.requires.current c.in_ok-write.ensures.owed)
+    c.write.new.self c.requires.follows c.requires.current c.in_ok-write.ensures.owed)))

@@ -1,30 +1,26 @@
 -- The clocks after one entry more.
-use Rattle.std.specs.Prelude.{◌≡◌, ℕ, zero, suc, ◌+◌, ◌-◌, ◌<◌, ◌≤◌, max, Bool, true, false, cond, ◌&&◌, ◌==◌, nat_lt, List, [], ◌∷◌, ◌++◌, map, filter, filter_map, flat_map, length, take, drop, slice_get, Option, Some, IsSomeAnd}
-use Rattle.std.proofs.Common.{inl, inr, refl, sym, ap, ◌∙◌, subst, arith, get_or, set, length-append, add-one}
-use Rattle.std.proofs.lemmas.List.{append-nil, map-append, drop-drop, length-drop, drop-append-le, length_push, length-map, length-set, get_or_append_left, get_or-append_right, get_or-map, get_or-set_other, get_or-set_same, same_lists}
+use Rattle.std.specs.Prelude.{◌≡◌, ℕ, ◌+◌, ◌<◌, ◌≤◌, max, Bool, true, false, cond, ◌&&◌, ◌==◌, nat_lt, List, [], ◌∷◌, ◌++◌, map, filter, flat_map, length, drop, slice_get, Some}
+use Rattle.std.proofs.Common.{inl, inr, refl, sym, ap, ◌∙◌, subst, arith, get_or, set, length-append}
+use Rattle.std.proofs.lemmas.List.{append-nil, map-append, drop-drop, length-drop, drop-append-le, length_push, length-set, get_or-set_other, get_or-set_same, same_lists}
 use Rattle.std.proofs.lemmas.List.Concat.{flat_map-append}
 use Rattle.std.proofs.lemmas.List.Elements.{filter_map-append, filter-append}
-use Rattle.std.proofs.lemmas.Bool.{false≢true, eq-eqb, ne_eqb, eqb-true, cases_eq, ltb-true, and_parts}
+use Rattle.std.proofs.lemmas.Bool.{eq-eqb, ne_eqb, eqb-true, cases_eq, ltb-true, and_parts}
 use Rattle.std.proofs.lemmas.Option.{get_or_from_slice_get}
 use Rattle.std.proofs.Math.Nat.{le-max_left, le-max_right, max-le, max-zero}
 use Rattle.polis_base.specs.Lists.{upto}
-use Rattle.transition_table.specs.Transitions.{IsSnapshot}
 use Rattle.transition_table.specs.declared.decl.Party.{Party}
 use Rattle.transition_table.specs.declared.decl.Party.TheVariants.{Env, Machine as Sender}
-use Rattle.transition_table.specs.declared.machine.Machine.{Machine}
 use Rattle.transition_table.specs.declared.network.Network.{Network}
-use Rattle.transition_table.specs.declared.snapshot.Snapshot.{Snapshot}
-use Rattle.transition_table.specs.declared.snapshot.Outcome.{Outcome}
 use Rattle.journals.specs.declared.entry.Entry.{Entry}
 use Rattle.journals.specs.declared.entry.Entry.TheVariants.{Dep, Rea}
-use Rattle.journals.specs.Journals.{FitsNetwork, IsJournal, same_party, is_party, is_event_code, is_firing_of, delivery, delivered}
+use Rattle.journals.specs.Journals.{FitsNetwork, IsJournal, is_event_code, is_firing_of, delivery, delivered}
 use Rattle.journals.specs.Moved.{machine_of}
 use Rattle.net_core.proofs.Numbers.{length-table, get_or-table}
 use Rattle.net_core.proofs.Tables.{machine_within}
 use Rattle.net_core.specs.declared.clocks.Cursor.{Cursor}
 use Rattle.net_core.specs.declared.clocks.Clocks.{Clocks}
-use Rattle.net_core.specs.Clocks.{firings_of, cursor_at, with_cursor, left, IsCursor, AreClocks, IsBacked, one_taken, clocks_after, cursors_moved, firings_after}
-use Rattle.journals.specs.Stamps.{greatest, stamps_at, once_each, stamps_sent, stamps_owed}
+use Rattle.net_core.specs.Clocks.{firings_of, cursor_at, with_cursor, IsCursor, AreClocks, IsBacked, one_taken, clocks_after, cursors_moved, firings_after}
+use Rattle.journals.specs.Stamps.{greatest, stamps_at, once_each, stamps_sent}
 use Rattle.journals.specs.declared.stamped.Stamped.{Stamped}
 use Rattle.journals.specs.Logs.{entries, stamped, of_machine}
 

@@ -7,13 +7,12 @@ use Rattle.transition_table.specs.declared.decl.Party.TheVariants.{Machine as Se
 use Rattle.transition_table.specs.declared.network.Network.{Network}
 use Rattle.journals.specs.declared.entry.Entry.{Entry}
 use Rattle.journals.specs.declared.entry.TraceItem.{TraceItem}
-use Rattle.journals.specs.declared.stamped.Stamped.{Stamped}
 use Rattle.journals.specs.Journals.{FitsNetwork, delivered, sent}
 use Rattle.journals.specs.Legality.{Legal, MayFollow}
 use Rattle.journals.specs.Laws.{PrefixesAreLegal, GoesOnBySteps, DeliveredBeginsSent}
 use Rattle.journals.specs.Logs.{entries, stamped, with_stamps}
 use Rattle.journals.specs.StampLaws.{AsManyStampsSent, LeastAreAsMany, LeastAreWithin, LeastBySteps}
-use Rattle.journals.specs.Stamps.{greatest, stamps_sent, stamps_below, least_stamp, least}
+use Rattle.journals.specs.Stamps.{greatest, stamps_below, least_stamp, least}
 use Rattle.net_core.specs.Clocks.{IsBacked}
 
 -- ---- one more of the first entries

@@ -1,5 +1,5 @@
 -- What is left of what a machine has sent, firing by firing.
-use Rattle.std.specs.Prelude.{◌≡◌, ℕ, zero, suc, ◌+◌, ◌-◌, ◌<◌, ◌≤◌, max, Bool, true, false, cond, not, ◌&&◌, ◌==◌, List, [], ◌∷◌, ◌++◌, map, filter, flat_map, length, take, drop, replicate, slice_get, Option, Some, option_map, unwrap_or}
+use Rattle.std.specs.Prelude.{◌≡◌, ℕ, zero, suc, ◌+◌, ◌-◌, ◌<◌, ◌≤◌, Bool, true, false, List, [], ◌∷◌, ◌++◌, filter, flat_map, length, take, drop, replicate, slice_get, Option, Some, option_map, unwrap_or}
 use Rattle.std.proofs.Common.{refl, sym, ap, ◌∙◌, subst, arith, length-append}
 use Rattle.std.proofs.lemmas.List.{drop_more, drop_all, length-replicate}
 use Rattle.std.proofs.lemmas.Option.{slice_get_within, get_or_from_slice_get}
@@ -7,9 +7,7 @@ use Rattle.std.proofs.Math.Nat.{max-zero}
 use Rattle.std.proofs.Math.Seq.{drop-append-add}
 use Rattle.transition_table.specs.declared.machine.Machine.{Machine}
 use Rattle.transition_table.specs.declared.network.Network.{Network}
-use Rattle.journals.specs.declared.entry.Entry.{Entry}
 use Rattle.journals.specs.Journals.{FitsNetwork, IsJournal, outputs_of, reads, emitted, emissions}
-use Rattle.net_core.specs.declared.clocks.Cursor.{Cursor}
 use Rattle.net_core.specs.Clocks.{left}
 use Rattle.journals.specs.Stamps.{greatest, once_each}
 use Rattle.journals.specs.declared.stamped.Stamped.{Stamped}

@@ -1,5 +1,5 @@
 -- What is kept beside a journal.
-use Rattle.std.specs.Prelude.{◌≡◌, ℕ, List, map, length, ◌<◌, ◌≤◌, ◌==◌, ◌++◌, ◌∷◌, []}
+use Rattle.std.specs.Prelude.{◌≡◌, ℕ, List, map, length, ◌<◌, ◌≤◌, ◌==◌, ◌++◌}
 use Rattle.std.specs.Int.{bit_at}
 use Rattle.polis_base.specs.Lists.{upto}
 use Rattle.transition_table.specs.declared.network.Network.{Network}

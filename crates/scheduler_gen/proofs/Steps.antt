@@ -4,9 +4,8 @@ use Rattle.std.specs.Prelude.{IsSomeAnd}
 use Rattle.std.proofs.lemmas.Bool.{and_parts, eqb-true, ltb-true, ltb-false}
 use Rattle.std.specs.List.{list_all}
 use Rattle.std.specs.Cmp.Lexicographic.{pointwise}
-use Rattle.std.proofs.lemmas.List.{append-nil, take_more, take-append-drop, length-replicate}
+use Rattle.std.proofs.lemmas.List.{append-nil, length-replicate}
 use Rattle.domains.specs.Tables.{are_sizes}
-use Rattle.std.proofs.lemmas.Option.{get_or_from_slice_get}
 use Rattle.transition_table.specs.Transitions.{OfMachine, HasWidths, blank}
 use Rattle.transition_table.specs.declared.machine.Machine.{Machine}
 use Rattle.transition_table.specs.declared.network.Network.{Network}
@@ -14,9 +13,8 @@ use Rattle.transition_table.specs.declared.snapshot.Outcome.{Outcome}
 use Rattle.journals.specs.declared.entry.Entry.{Entry}
 use Rattle.journals.specs.declared.entry.TraceItem.{TraceItem}
 use Rattle.journals.specs.declared.entry.Pick.TheVariants.{Stop}
-use Rattle.journals.specs.Journals.{FitsNetwork, inputs_of, states_of}
-use Rattle.journals.specs.Legality.{Legal, MayFollow}
-use Rattle.journals.specs.Laws.{PrefixesAreLegal, GoesOnBySteps, FollowsBySteps, FollowsAtEnd}
+use Rattle.journals.specs.Journals.{inputs_of, states_of}
+use Rattle.journals.specs.Laws.{FollowsBySteps, FollowsAtEnd}
 use Rattle.net_core.specs.Moments.{Moment}
 use Rattle.journals.specs.Schedules.{pick, IsPicked, Follows, IsSchedule}
 use Rattle.scheduler_gen.specs.Runs.{IsNext, GoesOn, Ends}

@@ -1,9 +1,7 @@
-use Rattle.std.proofs.Common.{refl, ◌≡◌, ◌<◌, ◌≤◌, ◌+◌, ◌-◌, ℕ, List, take, length, flat_map, drop, Some, slice_get, sym, ap, subst, ◌∙◌, arith}
-use Rattle.journals.specs.declared.entry.Entry.{Entry}
-use Rattle.journals.specs.Journals.{FitsNetwork}
+use Rattle.std.proofs.Common.{refl, ◌≡◌, ◌≤◌, ℕ, List, take, length, flat_map, drop, Some, slice_get, sym, ap, subst, ◌∙◌, arith}
 use Rattle.net_core.specs.Clocks.{left}
 use Rattle.journals.specs.Stamps.{greatest, once_each}
-use Rattle.net_core.proofs.Walking.{fits_at, left_further, given_further, left_here, left_at_end}
+use Rattle.net_core.proofs.Walking.{fits_at, left_further, given_further, left_here}
 use Rattle.net_core.proofs.clocks.first_owed.Goals as goal
 use Rattle.journals.specs.declared.stamped.Stamped.{Stamped}
 use Rattle.journals.specs.Logs.{stamped}

@@ -1,4 +1,4 @@
-use Rattle.std.proofs.Common.{◌≡◌, take}
+use Rattle.std.proofs.Common.{take}
 use Rattle.net_core.specs.Clocks.{AreClocks}
 use Rattle.journals.specs.Stamps.{Rising}
 use Rattle.net_core.proofs.stamps.first_not_rising.Given as goal

@@ -2,7 +2,7 @@ use Rattle.std.proofs.Common.{◌≡◌, take}
 use Rattle.net_core.specs.Clocks.{AreClocks}
 use Rattle.journals.specs.Stamps.{least}
 use Rattle.net_core.proofs.stamps.least_stamps.Given as goal
-use Rattle.journals.specs.Logs.{entries, with_stamps}
+use Rattle.journals.specs.Logs.{with_stamps}
 
 -- the entries before this one have their least stamps
 abbrev pub invariant-loop-i : goal.invariant-loop-i

@@ -1,4 +1,4 @@
-use Rattle.std.proofs.Common.{◌≡◌, ◌<◌, ℕ, max, length, slice_get, Some, sym, ap, subst, ◌∙◌, arith}
+use Rattle.std.proofs.Common.{◌≡◌, ℕ, max, length, slice_get, Some, sym, ap, subst, ◌∙◌, arith}
 use Rattle.journals.specs.Moved.{machine_of}
 use Rattle.journals.specs.Stamps.{greatest, stamps_at, origin}
 use Rattle.net_core.proofs.Keeping.{clock_at, greatest_both}

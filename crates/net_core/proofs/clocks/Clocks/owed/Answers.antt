@@ -1,8 +1,7 @@
-use Rattle.std.proofs.Common.{◌≡◌, ◌<◌, ◌≤◌, ℕ, [], List, map, take, length, flat_map, drop, get_or, set, sym, ap, subst, ◌∙◌, arith}
+use Rattle.std.proofs.Common.{◌≡◌, ◌<◌, ◌≤◌, ℕ, [], List, take, length, flat_map, drop, get_or, set, sym, ap, subst, ◌∙◌, arith}
 use Rattle.std.proofs.lemmas.List.{length-set}
-use Rattle.journals.specs.declared.entry.Entry.{Entry}
 use Rattle.journals.specs.Journals.{IsJournal}
-use Rattle.net_core.specs.Clocks.{firings_of, left, cursor_at, with_cursor, IsCursor}
+use Rattle.net_core.specs.Clocks.{firings_of, left, cursor_at, IsCursor}
 use Rattle.net_core.specs.declared.clocks.Cursor.{Cursor}
 use Rattle.journals.specs.Stamps.{greatest, once_each}
 use Rattle.net_core.proofs.Keeping.{firings_fit, cursors_with, columns_kept}

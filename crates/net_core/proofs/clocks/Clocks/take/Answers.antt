@@ -1,5 +1,4 @@
-use Rattle.std.proofs.Common.{◌≡◌, ◌<◌, ℕ, List, length, sym, ap, ◌∙◌, arith}
-use Rattle.std.specs.Prelude.{OnOk, Ok, Err}
+use Rattle.std.proofs.Common.{ℕ, length, ap, ◌∙◌, arith}
 use Rattle.net_core.specs.Clocks.{firings_of, clocks_after}
 use Rattle.journals.specs.Stamps.{greatest, stamps_at}
 use Rattle.net_core.proofs.Keeping.{all_taken}

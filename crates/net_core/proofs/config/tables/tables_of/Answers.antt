@@ -1,4 +1,4 @@
-use Rattle.std.proofs.Common.{◌≡◌, List, take, sym, subst, arith}
+use Rattle.std.proofs.Common.{List, take, sym, subst, arith}
 use Rattle.journals.specs.declared.entry.Entry.{Entry}
 use Rattle.net_core.specs.Tables.{AreTables}
 use Rattle.net_core.proofs.Stamping.{prefix_more, prefix_step}

@@ -78,7 +78,7 @@ none_is p m (suc n) h =
         ne_eqb n m (λ e. both_ways (p m) h (sym (ap p e) ∙ is)) in rw other refl
     last false is = refl
 
-find_none : {X : Type 0} (t : X → Bool) (xs : List X) → filter t xs ≡ [] → find t xs ≡ None
+pub find_none : {X : Type 0} (t : X → Bool) (xs : List X) → filter t xs ≡ [] → find t xs ≡ None
 find_none t [] h = refl
 find_none t (x ∷ xs) h = cases (t x) h (find_none t xs)
   where

@@ -77,7 +77,7 @@ reads_at net e k = cases (slice_get net.machines k)
     cases None = refl
     cases (Some machine) = refl
 
-receivers_are : (net : Network) (e : ℕ) (event : EventDecl) → slice_get net.events e ≡ Some event
+pub receivers_are : (net : Network) (e : ℕ) (event : EventDecl) → slice_get net.events e ≡ Some event
     → event.receivers ≡ filter (λ k. reads net k e) (upto (length net.machines))
 receivers_are net e event at =
     let places = places_where (λ machine. has machine.inputs e) net.machines in
@@ -90,7 +90,7 @@ receivers_are net e event at =
     ap (λ k. reads net k e) same ∙ sym (reads_at net e i))
     ∙ ap (filter (λ k. reads net k e)) (sym (upto_from (length net.machines)))
 
-some_at : {X : Type 0} (xs : List X) (i : ℕ) → i < length xs → (x : X) × (slice_get xs i ≡ Some x)
+pub some_at : {X : Type 0} (xs : List X) (i : ℕ) → i < length xs → (x : X) × (slice_get xs i ≡ Some x)
 some_at [] i below = absurd (omega arith)
 some_at (x ∷ xs) zero below = (x, refl)
 some_at (x ∷ xs) (suc i) below = some_at xs i (omega arith)

@@ -1,13 +1,12 @@
 -- What is kept beside a journal, one entry more.
-use Rattle.std.specs.Prelude.{◌≡◌, ◌↔◌, ℕ, zero, suc, ◌+◌, ◌<◌, Bool, true, false, cond, ◌&&◌, nat_lt, List, [], ◌∷◌, ◌++◌, map, filter, flat_map, count_by, length, slice_get, slice_index, Option, Some, option_map, unwrap_or, IsSomeAnd}
-use Rattle.std.proofs.Common.{refl, sym, ap, ◌∙◌, arith, set, get_or, length-append}
+use Rattle.std.specs.Prelude.{◌≡◌, ◌↔◌, ℕ, zero, suc, ◌+◌, ◌<◌, Bool, true, false, cond, ◌&&◌, nat_lt, List, [], ◌∷◌, ◌++◌, map, filter, flat_map, count_by, length, slice_get, Option, Some, option_map, unwrap_or, IsSomeAnd}
+use Rattle.std.proofs.Common.{refl, sym, ap, ◌∙◌, arith, get_or, length-append}
 use Rattle.std.proofs.lemmas.List.{length-map, append-nil}
 use Rattle.std.proofs.lemmas.List.Elements.{filter-append}
 use Rattle.std.proofs.lemmas.Bool.{ltb-true, and_parts, both_ways}
 use Rattle.std.proofs.lemmas.Option.{get_or_from_slice_get}
 use Rattle.polis_base.specs.Lists.{upto}
 use Rattle.transition_table.specs.Transitions.{IsSnapshot, IsOutcome}
-use Rattle.transition_table.specs.declared.decl.Party.{Party}
 use Rattle.transition_table.specs.declared.decl.Party.TheVariants.{Env, Machine as Sender}
 use Rattle.transition_table.specs.declared.machine.Machine.{Machine}
 use Rattle.transition_table.specs.declared.network.Network.{Network}
@@ -18,7 +17,6 @@ use Rattle.journals.specs.declared.entry.Owed.{Owed}
 use Rattle.journals.specs.declared.entry.TraceItem.{TraceItem}
 use Rattle.journals.specs.Journals.{FitsNetwork, inputs_of, states_of, snap, place, state, is_party, is_event_code, emissions, delivered}
 use Rattle.net_core.specs.Landed.{landed}
-use Rattle.journals.specs.Cursors.{next_place, cursors_after}
 use Rattle.journals.specs.Legality.{Legal, MayFollow}
 use Rattle.net_core.specs.Tables.{AreBefore, AreTables}
 use Rattle.journals.specs.Moved.{machine_of, moments_of}
@@ -115,14 +113,6 @@ owed_after net trace journal entry old new moves legal is takes =
         (none_of_machines net m journal)))
     same (Dep (Sender s) m e c) = refl
     same (Rea m s o) = refl
-
--- ---- the cursors
-
-pub env_cursors : (net : Network) (trace : List TraceItem) (entry : Entry) (from : Party)
-    (to e c : ℕ) (cursors new : List ℕ) → entry ≡ Dep from to e c → from ≡ Env
-    → new ≡ set cursors to (next_place net trace to (slice_index cursors to))
-    → new ≡ cursors_after net trace entry cursors
-env_cursors net trace entry from to e c cursors new is env h = rw (is, env) h
 
 -- ---- the snapshots
 

@@ -3,39 +3,42 @@ ghost use Rattle.std.specs.Prelude.{◌≡◌, ◌<◌, ◌≤◌, ◌+◌, not,
 ghost use Rattle.std.specs.List.{prefix_len, IsFirstBest};
 ghost use Rattle.journals.specs.declared.entry.TraceItem.TheVariants.{Settle};
 ghost use Rattle.polis_base.specs.Lists.{upto};
+ghost use Rattle.journals.specs.Journals.{IsTrace};
 ghost use Rattle.journals.specs.Cursors.{is_read, nth_place};
+ghost use Rattle.net_core.specs.Marks.{is_marked};
+ghost use Rattle.net_core.specs.Readers.{AreReaders};
 
+use crate::config::bits::is_set;
 use journals::{Trace, TraceItem};
 use polis_base::{List, NoMemory, Places};
 use std::alloc::Global;
 use transition_table::Network;
 
 // The item is an event that the machine reads.
-fn reads_item(net: &Network, m: u32, item: TraceItem) -> bool
-    requires { m < length net.now.machines }
-    ensures { result ≡ is_read net.now m item }
+fn reads_item(readers: &[u64], m: u32, item: TraceItem) -> bool
+    requires { m < 64 }
+    ensures { result ≡ is_marked readers.now m item }
 {
     match item {
         TraceItem::Event { event, .. } => {
-            net.machines
-                .get(m as u64)
-                .inputs
-                .as_slice()
-                .contains(&event)
+            if event as usize >= readers.len() {
+                return false;
+            }
+            is_set(readers[event as usize], m)
         }
         TraceItem::Settle => false,
     }
 }
 
 // The place of the first item from here on that the machine reads, or the trace's length.
-pub(crate) fn next_read(net: &Network, trace: &Trace, m: u32, from: u64) -> u64
-    requires machine { m < length net.now.machines }
+pub(crate) fn next_read(readers: &[u64], trace: &Trace, m: u32, from: u64) -> u64
+    requires machine { m < 64 }
     requires from { from ≤ length trace.now }
-    ensures { result ≡ from + prefix_len (λ item. not (is_read net.now m item))
+    ensures { result ≡ from + prefix_len (λ item. not (is_marked readers.now m item))
         (drop from trace.now) }
 {
     for place in from..trace.len() {
-        if reads_item(net, m, *trace.get(place)) {
+        if reads_item(readers, m, *trace.get(place)) {
             return place;
         }
     }
@@ -43,13 +46,20 @@ pub(crate) fn next_read(net: &Network, trace: &Trace, m: u32, from: u64) -> u64
 }
 
 // The cursors before anything is delivered.
-pub(crate) fn first_cursors(alloc: Global, net: &Network, trace: &Trace) -> Result<Places, NoMemory>
+pub(crate) fn first_cursors(
+    alloc: Global,
+    net: &Network,
+    readers: &[u64],
+    trace: &Trace,
+) -> Result<Places, NoMemory>
+    requires readers { AreReaders net.now readers.now }
+    requires trace { IsTrace net.now trace.now }
     ensures { IfOk result (λ cursors. cursors
         ≡ map (λ m. nth_place (is_read net.now m) trace.now 0) (upto (length net.now.machines))) }
 {
     let mut cursors = List::new(alloc);
     for m in 0..net.machines.len() {
-        cursors.push(next_read(net, trace, m as u32, 0))?;
+        cursors.push(next_read(readers, trace, m as u32, 0))?;
     }
     Ok(cursors)
 }

@@ -1,10 +1,10 @@
 // What is kept beside a journal, so that no call looks back through it.
-ghost use Rattle.std.specs.Prelude.{List, ◌≡◌, ◌<◌, [], ◌∷◌, ◌++◌, length, slice_index, slice_set, IfOk, OnOk, OnErr};
+ghost use Rattle.std.specs.Prelude.{List, ◌≡◌, ◌<◌, ◌≤◌, [], ◌∷◌, ◌++◌, length, slice_index, slice_set, IfOk, OnOk, OnErr, IsTrue};
 ghost use Rattle.journals.specs.Journals.{FitsNetwork, IsTrace};
 ghost use Rattle.journals.specs.declared.entry.Entry.{Entry};
 ghost use Rattle.journals.specs.Legality.{Legal, MayFollow};
-ghost use Rattle.journals.specs.Cursors.{cursors_after, next_place};
 ghost use Rattle.net_core.specs.Landed.{landed};
+ghost use Rattle.net_core.specs.Marks.{lands_below, marked_after, next_marked};
 ghost use Rattle.net_core.specs.Tables.{AreBefore, AreTables};
 
 use crate::config::bits::mark;
@@ -35,40 +35,42 @@ pub(crate) fn first_tables(alloc: Global, net: &Network, trace: &Trace) -> Resul
         (λ t. AreTables net.now trace.now [] t.readers.items t.moments.items t.woken t.cursors
         t.owed) }
 {
+    let readers = all_readers(alloc, net)?;
+    let cursors = first_cursors(alloc, net, &readers, trace)?;
     Ok(Tables {
-        readers: all_readers(alloc, net)?,
+        readers,
         moments: first_moments(alloc, net)?,
         woken: 0,
-        cursors: first_cursors(alloc, net, trace)?,
+        cursors,
         owed: Owings::new(alloc)?,
     })
 }
 
 // Moves the cursor of a machine on to the next item that it reads. At the end it stays.
-fn pass_item(net: &Network, trace: &Trace, m: u32, cursors: &mut Places)
-    requires machine { m < length net.now.machines }
-    requires cursors { length cursors.old ≡ length net.now.machines }
+fn pass_item(readers: &[u64], trace: &Trace, m: u32, cursors: &mut Places)
+    requires machine { m < length cursors.old }
+    requires few { length cursors.old ≤ 64 }
     ensures { cursors.new ≡ slice_set cursors.old m
-        (next_place net.now trace.now m (slice_index cursors.old m)) }
+        (next_marked readers.now trace.now m (slice_index cursors.old m)) }
 {
     let place = *cursors.get(m as u64);
     if place < trace.len() {
-        cursors.set(m as u64, next_read(net, trace, m, place + 1));
+        cursors.set(m as u64, next_read(readers, trace, m, place + 1));
     }
 }
 
 // What is delivered isn't owed any more: of the environment the receiver's cursor moves on, of a
 // machine the delivery is taken away.
-fn land(net: &Network, trace: &Trace, entry: &Entry, cursors: &mut Places, owed: &mut Owings)
-    requires fits { FitsNetwork net.now entry.now }
-    requires cursors { length cursors.old ≡ length net.now.machines }
-    ensures cursors { cursors.new ≡ cursors_after net.now trace.now entry.now cursors.old }
+fn land(readers: &[u64], trace: &Trace, entry: &Entry, cursors: &mut Places, owed: &mut Owings)
+    requires below { IsTrue (lands_below (length cursors.old) entry.now) }
+    requires few { length cursors.old ≤ 64 }
+    ensures cursors { cursors.new ≡ marked_after readers.now trace.now entry.now cursors.old }
     ensures owed { owed.new ≡ landed entry.now owed.old }
 {
     if let Entry::Dep { from, to, .. } = entry {
         let from = *from;
         match from {
-            Party::Env => pass_item(net, trace, *to, cursors),
+            Party::Env => pass_item(readers, trace, *to, cursors),
             Party::Machine(s) => owed.remove_between(s, *to),
         }
     }
@@ -140,7 +142,13 @@ impl Tables {
             &mut self.moments[m as usize],
         );
         self.woken = mark(self.woken, m, entry.is_delivery());
-        land(net, trace, entry, &mut self.cursors, &mut self.owed);
+        land(
+            &self.readers,
+            trace,
+            entry,
+            &mut self.cursors,
+            &mut self.owed,
+        );
     }
 }
 

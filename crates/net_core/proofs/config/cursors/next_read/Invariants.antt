@@ -1,10 +1,10 @@
 use Rattle.std.proofs.Common.{◌≡◌, ◌+◌, not, drop}
 use Rattle.std.specs.List.{prefix_len}
-use Rattle.journals.specs.Cursors.{is_read}
+use Rattle.net_core.specs.Marks.{is_marked}
 use Rattle.net_core.proofs.config.cursors.next_read.Given as goal
 
 -- none before this one is read
 abbrev pub invariant-loop-place : goal.invariant-loop-place
 invariant-loop-place l =
-    l.place + prefix_len (λ item. not (is_read l.net l.m item)) (drop l.place l.trace)
-    ≡ l.from + prefix_len (λ item. not (is_read l.net l.m item)) (drop l.from l.trace)
+    l.place + prefix_len (λ item. not (is_marked l.readers l.m item)) (drop l.place l.trace)
+    ≡ l.from + prefix_len (λ item. not (is_marked l.readers l.m item)) (drop l.from l.trace)

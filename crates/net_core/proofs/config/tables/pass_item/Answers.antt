@@ -2,7 +2,7 @@ use Rattle.std.proofs.Common.{refl, length, set, ap, sym, ◌∙◌, arith}
 use Rattle.std.proofs.lemmas.Bool.{lt-ltb, le-ltb}
 use Rattle.std.proofs.lemmas.List.{set-get_or}
 use Rattle.std.proofs.lemmas.Option.{get_or_from_slice_get}
-use Rattle.journals.specs.Cursors.{next_place}
+use Rattle.net_core.specs.Marks.{next_marked}
 use Rattle.net_core.proofs.config.tables.pass_item.Goals as goal
 
 pub returns-then-place-len : goal.returns-then-place-len
@@ -13,7 +13,7 @@ returns-then-place-len c =
     let below = lt-ltb place (length c.args.trace.now) (omega arith) in
     c.set.ensures ∙ ap (set c.args.cursors.now c.args.m)
     (c.next_read.ensures
-    ∙ sym (ap (next_place c.args.net.now c.args.trace.now c.args.m) at ∙ rw below refl))
+    ∙ sym (ap (next_marked c.args.readers.now c.args.trace.now c.args.m) at ∙ rw below refl))
 
 pub returns-else-place-len : goal.returns-else-place-len
 returns-else-place-len c =
@@ -22,5 +22,5 @@ returns-else-place-len c =
     let end = c.len.ensures in
     let above = le-ltb place (length c.args.trace.now) (omega arith) in
     sym (ap (set c.args.cursors.now c.args.m)
-    (ap (next_place c.args.net.now c.args.trace.now c.args.m) at ∙ rw above (sym at))
+    (ap (next_marked c.args.readers.now c.args.trace.now c.args.m) at ∙ rw above (sym at))
     ∙ set-get_or c.args.cursors.now c.args.m 0)

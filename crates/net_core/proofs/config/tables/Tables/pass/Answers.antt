@@ -6,6 +6,8 @@ use Rattle.journals.specs.Moved.{moments_of}
 use Rattle.net_core.proofs.Numbers.{length-table}
 use Rattle.net_core.proofs.Wakings.{woken_after, others_after}
 use Rattle.net_core.proofs.Losses.{suits_machine}
+use Rattle.net_core.specs.Marks.{marked_after}
+use Rattle.net_core.proofs.Marking.{marked_cursors, lands_in}
 use Rattle.net_core.proofs.Tables.{machine_within, moment_of, moment_width, owed_after}
 use Rattle.net_core.proofs.config.tables.Tables.pass.Goals as goal
 
@@ -39,10 +41,20 @@ move_on-requires-clause-entry c =
     (subst (λ (k : ℕ). slice_get c.args.net.now.machines k ≡ Some c.get.result.now)
     c.machine-m.ensures c.get.ensures)
 
-pub land-requires-clause-cursors : goal.land-requires-clause-cursors
-land-requires-clause-cursors c = ap length c.requires.current.1.tables.cursors_are
+pub land-requires-clause-below : goal.land-requires-clause-below
+land-requires-clause-below c =
+    lands_in c.args.net.now c.args.entry.now (length c.args.self.now.cursors) c.requires.fits
+    (ap length c.requires.current.1.tables.cursors_are
     ∙ length-table (cursor c.args.net.now c.args.trace.now c.requires.current.0)
-    (length c.args.net.now.machines)
+    (length c.args.net.now.machines))
+
+pub land-requires-clause-few : goal.land-requires-clause-few
+land-requires-clause-few c =
+    let size = ap length c.requires.current.1.tables.cursors_are
+    ∙ length-table (cursor c.args.net.now c.args.trace.now c.requires.current.0)
+    (length c.args.net.now.machines) in
+    let sixty_four : length c.args.net.now.machines ≤ 64 = c.args.net.now.few_machines in
+    omega arith
 
 pub mark-self-requires : goal.mark-self-requires
 mark-self-requires c =
@@ -82,7 +94,12 @@ returns c = λ journal current.
           c.mark-self.ensures.others;
       no_others = others_after (length net.machines) m c.args.self.now.woken c.mark-self.result
           below tables.no_others c.mark-self.ensures.others;
-      cursors_are = c.land.ensures.cursors ∙ ap (cursors_after net trace entry) tables.cursors_are
+      cursors_are = c.land.ensures.cursors
+          ∙ ap (λ (l : List ℕ). marked_after l trace entry c.args.self.now.cursors)
+          c.deref.ensures.value
+          ∙ marked_cursors net c.args.self.now.readers.items trace entry c.args.self.now.cursors
+          tables.readers_are tables.fits c.requires.fits
+          ∙ ap (cursors_after net trace entry) tables.cursors_are
           ∙ c.moving_laws.ensures.moves_cursors net trace journal entry c.requires.fits tables.legal
           current.follows;
       owed_are = owed_after net trace journal entry c.args.self.now.owed c.land.new.owed

@@ -47,9 +47,9 @@ pub(crate) fn result_column(
     transition_table::laws_of_computing();
     let of_outcomes = codes_of(alloc, table, y)?;
     let numbers = table.numbers.as_slice();
-    let mut codes = Vec::with_capacity(alloc, numbers.len())?;
-    for number in numbers {
-        codes.push(*of_outcomes.get(*number))?;
+    let mut codes = vec![in alloc; 0; numbers.len()]?;
+    for i in 0..numbers.len() {
+        codes[i] = *of_outcomes.get(numbers[i]);
     }
     Ok(codes)
 }

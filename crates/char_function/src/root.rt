@@ -67,50 +67,29 @@ fn build(
         (λ n. AreKnown store.new (length making.now.machine.now.vars) making.now.start
         making.now.table.now.outcomes known.new) }
 {
+    let (machine, table, start) = (making.machine, making.table, making.start);
     if group.len() == 0 {
         return Ok(store.constant(false));
     }
     if place == making.order.len() {
         return Ok(store.constant(true));
     }
-    if place == making.start {
-        if let Some(node) = known_node(
-            making.machine,
-            making.table,
-            store,
-            known,
-            making.start,
-            group,
-        ) {
+    if place == start {
+        if let Some(node) = known_node(machine, table, store, known, start, group) {
             return Ok(node);
         }
     }
     store.same_value_same_node();
     let item = *making.order.get(place);
     let size = *making.sizes.get(u64::from(item));
-    let parts = parts_of(
-        making.alloc,
-        making.machine,
-        making.table,
-        item,
-        size,
-        group,
-    )?;
+    let parts = parts_of(making.alloc, machine, table, item, size, group)?;
     let mut kids = Vec::new(making.alloc);
     for part in &parts {
         kids.push(build(making, store, known, place + 1, part.as_slice())?)?;
     }
     let node = store.node(item, &kids)?;
-    if place == making.start {
-        keep_node(
-            making.machine,
-            making.table,
-            store,
-            known,
-            making.start,
-            group,
-            node,
-        );
+    if place == start {
+        keep_node(machine, table, store, known, start, group, node);
     }
     Ok(node)
 }

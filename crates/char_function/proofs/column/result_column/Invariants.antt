@@ -1,7 +1,10 @@
-use Rattle.std.proofs.Common.{◌≡◌, [], map, take, get_or, slice_index}
+use Rattle.std.proofs.Common.{◌≡◌, [], map, take, length, get_or, slice_index}
 use Rattle.char_function.proofs.column.result_column.Given as goal
 
-abbrev pub invariant-loop-number : goal.invariant-loop-number
-invariant-loop-number l =
-    l.codes.items ≡ map (λ k. slice_index (get_or l.table.outcomes k []) l.y)
-    (take l.number-index l.numbers)
+-- those before this one
+abbrev pub invariant-loop-i : goal.invariant-loop-i
+invariant-loop-i l = record {
+  long : length l.codes.items ≡ length l.numbers;
+  codes : take l.i l.codes.items
+      ≡ map (λ k. slice_index (get_or l.table.outcomes k []) l.y) (take l.i l.numbers);
+}

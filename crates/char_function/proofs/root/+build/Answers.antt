@@ -8,7 +8,7 @@ use Rattle.char_function.proofs.Knowing.{known_kept}
 use Rattle.char_function.proofs.Lists.{read}
 use Rattle.char_function.proofs.Making.{AreKids, at_var, keeps_trans, end_agrees, kids_more, node_means, part_is, part_group}
 use Rattle.char_function.proofs.root.+build.Goals as goal
-use Rattle.char_function.proofs.root.+build.Goals.{then-place-making-2, else-place-making-2}
+use Rattle.char_function.proofs.root.+build.Goals.{then-place-start-2, else-place-start-2}
 
 pub returns-then-place-len-clause-value : goal.returns-then-place-len-clause-value
 returns-then-place-len-clause-value t c =
@@ -235,7 +235,7 @@ keep_node-requires-clause-value t c =
     let items = ap (λ (xs : List (List ℕ)). length xs) c.deref-part-items.ensures.value in
     omega arith in
     subst (λ (i : ℕ). Means c.node.new.self c.in_ok-node.node
-    (some_agrees points c.node.new.self.order i c.args.group.now)) c.if-place-making-2.true
+    (some_agrees points c.node.new.self.order i c.args.group.now)) c.if-place-start-2.true
     (subst (λ (order : List ℕ). Means c.node.new.self c.in_ok-node.node
     (some_agrees points order c.args.place c.args.group.now))
     (sym (c.node.ensures.kept.order ∙ c.loop-part.invariant.kept.order))
@@ -253,7 +253,7 @@ keep_node-requires-clause-level t c =
     let here : place s.order item ≡ c.args.place =
     ap (λ (xs : List ℕ). place xs item) c.loop-part.invariant.kept.order ∙ at.place in
     let level = c.in_ok-node.ensures.level in
-    let f = c.if-place-making-2.true in
+    let f = c.if-place-start-2.true in
     let g = c.node.ensures.kept.order in
     omega arith
 
@@ -304,10 +304,10 @@ returns-clause-known t c =
     let outcomes = c.args.making.now.table.now.outcomes in
     let s = c.loop-part.store in
     let new = c.node.new.self in
-    elim c.if-place-making-2.branch [
-      | then-place-making-2 w ↦ subst (AreKnown new (length m.vars) start outcomes) (sym w.known-is)
+    elim c.if-place-start-2.branch [
+      | then-place-start-2 w ↦ subst (AreKnown new (length m.vars) start outcomes) (sym w.known-is)
           w.keep_node.ensures
-      | else-place-making-2 w ↦ subst (AreKnown new (length m.vars) start outcomes) (sym w.known-is)
+      | else-place-start-2 w ↦ subst (AreKnown new (length m.vars) start outcomes) (sym w.known-is)
           (known_kept s new (length m.vars) start outcomes c.loop-part.known c.node.ensures.kept
           c.loop-part.invariant.known)
     ]

@@ -1,5 +1,5 @@
 // For each machine the place of the next event item that it reads and that isn't delivered to it.
-ghost use Rattle.std.specs.Prelude.{◌≡◌, ◌<◌, ◌≤◌, ◌+◌, not, length, drop, map, IfOk, IsTrue, ◌↔◌, ◌-◌, nat_lt, slice_get, Some};
+ghost use Rattle.std.specs.Prelude.{◌≡◌, ◌<◌, ◌≤◌, ◌+◌, not, length, drop, map, IfOk, IsTrue, ◌↔◌, ◌-◌, nat_lt, slice_get, slice_set, Some};
 ghost use Rattle.std.specs.List.{prefix_len, IsFirstBest};
 ghost use Rattle.journals.specs.declared.entry.TraceItem.TheVariants.{Settle};
 ghost use Rattle.polis_base.specs.Lists.{upto};
@@ -12,7 +12,28 @@ use crate::config::bits::is_set;
 use journals::{Trace, TraceItem};
 use polis_base::{List, NoMemory, Places};
 use std::alloc::Global;
+use std::marker::Model;
 use transition_table::Network;
+
+/// For each machine the place of the next event item that it reads and that isn't delivered to it,
+/// and the first machine of those whose place is least.
+#[derive(Drop)]
+pub(crate) struct Cursors {
+    places: Places,
+    first: usize,
+}
+
+impl Model for Cursors {
+    ghost use Rattle.std.specs.Prelude.{List, ℕ, ◌<◌, length, nat_lt};
+    ghost use Rattle.std.specs.List.{IsFirstBest};
+
+    ghost Value = { List ℕ };
+
+    ghost view = { λ c. c.places };
+
+    ghost invariant = { λ c. 0 < length c.places
+        → IsFirstBest nat_lt c.places (length c.places) c.first };
+}
 
 // The item is an event that the machine reads.
 fn reads_item(readers: &[u64], m: u32, item: TraceItem) -> bool
@@ -51,23 +72,22 @@ pub(crate) fn first_cursors(
     net: &Network,
     readers: &[u64],
     trace: &Trace,
-) -> Result<Places, NoMemory>
+) -> Result<Cursors, NoMemory>
     requires readers { AreReaders net.now readers.now }
     requires trace { IsTrace net.now trace.now }
     ensures { IfOk result (λ cursors. cursors
         ≡ map (λ m. nth_place (is_read net.now m) trace.now 0) (upto (length net.now.machines))) }
 {
-    let mut cursors = List::new(alloc);
+    let mut places = List::new(alloc);
     for m in 0..net.machines.len() {
-        cursors.push(next_read(readers, trace, m as u32, 0))?;
+        places.push(next_read(readers, trace, m as u32, 0))?;
     }
-    Ok(cursors)
+    Ok(Cursors::of(places))
 }
 
 // The first machine of those whose cursor is least.
-pub(crate) fn first_least(cursors: &[u64]) -> usize
-    requires { 0 < length cursors.now }
-    ensures { IsFirstBest nat_lt cursors.now (length cursors.now) result }
+fn first_least(cursors: &[u64]) -> usize
+    ensures { 0 < length cursors.now → IsFirstBest nat_lt cursors.now (length cursors.now) result }
 {
     let mut best = 0;
     for m in 1..cursors.len() {
@@ -76,6 +96,41 @@ pub(crate) fn first_least(cursors: &[u64]) -> usize
         }
     }
     best
+}
+
+impl Cursors {
+    // These places.
+    fn of(places: Places) -> Cursors
+        ensures { result ≡ places }
+    {
+        let first = first_least(places.as_slice());
+        Cursors { places, first }
+    }
+
+    // The place of a machine's cursor.
+    pub(crate) fn get(&self, m: u64) -> u64
+        requires { m < length self.now }
+        ensures { slice_get self.now m ≡ Some result }
+    {
+        *self.places.get(m)
+    }
+
+    // Moves the cursor of a machine to a place.
+    pub(crate) fn set(&mut self, m: u64, place: u64)
+        requires { m < length self.old }
+        ensures { self.new ≡ slice_set self.old m place }
+    {
+        self.places.set(m, place);
+        self.first = first_least(self.places.as_slice());
+    }
+
+    // The first machine of those whose cursor is least.
+    pub(crate) fn first(&self) -> usize
+        requires { 0 < length self.now }
+        ensures { IsFirstBest nat_lt self.now (length self.now) result }
+    {
+        self.first
+    }
 }
 
 // The item before a place is `settle`.

@@ -8,12 +8,12 @@ ghost use Rattle.net_core.specs.Marks.{lands_below, marked_after, next_marked};
 ghost use Rattle.net_core.specs.Tables.{AreBefore, AreTables};
 
 use crate::config::bits::mark;
-use crate::config::cursors::{first_cursors, next_read};
+use crate::config::cursors::{Cursors, first_cursors, next_read};
 use crate::config::owings::Owings;
 use crate::config::readers::all_readers;
 use crate::moments::first_moments;
 use journals::{Entry, Journal, Trace, laws, move_on, moving_laws};
-use polis_base::{NoMemory, Places};
+use polis_base::NoMemory;
 use std::alloc::Global;
 use transition_table::{Network, Party, Snapshot};
 
@@ -24,7 +24,7 @@ pub(crate) struct Tables {
     pub(crate) readers: Vec<u64>,
     pub(crate) moments: Vec<Snapshot>,
     pub(crate) woken: u64,
-    pub(crate) cursors: Places,
+    pub(crate) cursors: Cursors,
     pub(crate) owed: Owings,
 }
 
@@ -47,13 +47,13 @@ pub(crate) fn first_tables(alloc: Global, net: &Network, trace: &Trace) -> Resul
 }
 
 // Moves the cursor of a machine on to the next item that it reads. At the end it stays.
-fn pass_item(readers: &[u64], trace: &Trace, m: u32, cursors: &mut Places)
+fn pass_item(readers: &[u64], trace: &Trace, m: u32, cursors: &mut Cursors)
     requires machine { m < length cursors.old }
     requires few { length cursors.old ≤ 64 }
     ensures { cursors.new ≡ slice_set cursors.old m
         (next_marked readers.now trace.now m (slice_index cursors.old m)) }
 {
-    let place = *cursors.get(m as u64);
+    let place = cursors.get(m as u64);
     if place < trace.len() {
         cursors.set(m as u64, next_read(readers, trace, m, place + 1));
     }
@@ -61,7 +61,7 @@ fn pass_item(readers: &[u64], trace: &Trace, m: u32, cursors: &mut Places)
 
 // What is delivered isn't owed any more: of the environment the receiver's cursor moves on, of a
 // machine the delivery is taken away.
-fn land(readers: &[u64], trace: &Trace, entry: &Entry, cursors: &mut Places, owed: &mut Owings)
+fn land(readers: &[u64], trace: &Trace, entry: &Entry, cursors: &mut Cursors, owed: &mut Owings)
     requires below { IsTrue (lands_below (length cursors.old) entry.now) }
     requires few { length cursors.old ≤ 64 }
     ensures cursors { cursors.new ≡ marked_after readers.now trace.now entry.now cursors.old }

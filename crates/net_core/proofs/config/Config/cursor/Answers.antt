@@ -21,4 +21,4 @@ returns c =
     rw (← c.self.view_is)
     (table_item (cursor c.self.inside.net.now c.self.inside.trace.now c.self.inside.journal)
     (length c.self.inside.net.now.machines) c.self.inside.tables.cursors c.args.m
-    c.get.result.now c.self.invariant.cursors_are below c.get.ensures)
+    c.get.result c.self.invariant.cursors_are below c.get.ensures)

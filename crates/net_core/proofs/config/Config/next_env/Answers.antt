@@ -12,11 +12,9 @@ use Rattle.net_core.proofs.Numbers.{length-table}
 use Rattle.net_core.proofs.config.Config.next_env.Goals as goal
 
 -- the number of the cursors, and the first of the least
-few : (n m : ℕ) (cursors slice : List ℕ) → slice ≡ cursors → length cursors ≡ n
-    → IsFirstBest nat_lt slice (length slice) m → IsFirstBest nat_lt cursors n m
-few n m cursors slice same size best =
-    subst (λ (k : ℕ). IsFirstBest nat_lt cursors k m) size
-    (subst (λ (l : List ℕ). IsFirstBest nat_lt l (length l) m) same best)
+few : (n m : ℕ) (cursors : List ℕ) → length cursors ≡ n
+    → IsFirstBest nat_lt cursors (length cursors) m → IsFirstBest nat_lt cursors n m
+few n m cursors size best = subst (λ (k : ℕ). IsFirstBest nat_lt cursors k m) size best
 
 twice : (b : Bool) → not (not b) ≡ b
 twice true = refl
@@ -36,8 +34,8 @@ overflow_cast-m c =
     let i = c.self.inside in
     let size = ap length c.self.invariant.cursors_are
     ∙ length-table (cursor i.net.now i.trace.now i.journal) (length i.net.now.machines) in
-    let best = few (length i.net.now.machines) c.first_least-m.result i.tables.cursors
-    c.as_slice.result.now c.as_slice.ensures size c.first_least-m.ensures in
+    let best = few (length i.net.now.machines) c.first-m.result i.tables.cursors size
+    c.first-m.ensures in
     let below = best.0 in
     let sixty_four : length i.net.now.machines ≤ 64 = i.net.now.few_machines in
     omega arith
@@ -47,8 +45,8 @@ cursor-place-requires c =
     let i = c.self.inside in
     let size = ap length c.self.invariant.cursors_are
     ∙ length-table (cursor i.net.now i.trace.now i.journal) (length i.net.now.machines) in
-    let best = few (length i.net.now.machines) c.first_least-m.result i.tables.cursors
-    c.as_slice.result.now c.as_slice.ensures size c.first_least-m.ensures in
+    let best = few (length i.net.now.machines) c.first-m.result i.tables.cursors size
+    c.first-m.ensures in
     rw (← c.self.view_is) best.0
 
 pub returns-then-place-len-clause-first : goal.returns-then-place-len-clause-first
@@ -56,29 +54,28 @@ returns-then-place-len-clause-first c =
     let i = c.self.inside in
     let size = ap length c.self.invariant.cursors_are
     ∙ length-table (cursor i.net.now i.trace.now i.journal) (length i.net.now.machines) in
-    let best = few (length i.net.now.machines) c.first_least-m.result i.tables.cursors
-    c.as_slice.result.now c.as_slice.ensures size c.first_least-m.ensures in
+    let best = few (length i.net.now.machines) c.first-m.result i.tables.cursors size
+    c.first-m.ensures in
     let at = subst (λ (m : Moment). c.cursor-place.result
-    ≡ cursor m.net m.trace m.journal c.first_least-m.result) (sym c.self.view_is)
+    ≡ cursor m.net m.trace m.journal c.first-m.result) (sym c.self.view_is)
     c.cursor-place.ensures in
-    let past : length i.trace.now ≤ cursor i.net.now i.trace.now i.journal c.first_least-m.result =
+    let past : length i.trace.now ≤ cursor i.net.now i.trace.now i.journal c.first-m.result =
     omega arith in
     let owes = sym (ap head_of
-    (none_left i.net.now i.trace.now i.journal i.tables.cursors c.first_least-m.result
+    (none_left i.net.now i.trace.now i.journal i.tables.cursors c.first-m.result
     c.sending_laws.ensures.none_at_ends c.self.invariant.cursors_are best past)) in
     rw (← c.self.view_is) owes
 
 pub returns-in-Event-clause-first : goal.returns-in-Event-clause-first
 returns-in-Event-clause-first c =
     let i = c.self.inside in
-    let m = c.first_least-m.result in
+    let m = c.first-m.result in
     let e = c.in-Event.event in
     let code = c.in-Event.code in
     let b = c.is_settled.result in
     let size = ap length c.self.invariant.cursors_are
     ∙ length-table (cursor i.net.now i.trace.now i.journal) (length i.net.now.machines) in
-    let best = few (length i.net.now.machines) m i.tables.cursors c.as_slice.result.now
-    c.as_slice.ensures size c.first_least-m.ensures in
+    let best = few (length i.net.now.machines) m i.tables.cursors size c.first-m.ensures in
     let at = subst (λ (x : Moment). c.cursor-place.result ≡ cursor x.net x.trace x.journal m)
     (sym c.self.view_is) c.cursor-place.ensures in
     let item = subst (λ (k : ℕ). slice_get i.trace.now k ≡ Some (Event e code)) at
@@ -95,7 +92,7 @@ returns-in-Event-clause-first c =
 pub returns-in-Settle-clause-first : goal.returns-in-Settle-clause-first
 returns-in-Settle-clause-first c =
     let i = c.self.inside in
-    let m = c.first_least-m.result in
+    let m = c.first-m.result in
     let at = subst (λ (x : Moment). c.cursor-place.result ≡ cursor x.net x.trace x.journal m)
     (sym c.self.view_is) c.cursor-place.ensures in
     let item = subst (λ (k : ℕ). slice_get i.trace.now k ≡ Some Settle) at

@@ -7,7 +7,7 @@ use Rattle.net_core.proofs.config.tables.pass_item.Goals as goal
 
 pub returns-then-place-len : goal.returns-then-place-len
 returns-then-place-len c =
-    let place = c.get-place.result.now in
+    let place = c.get-place.result in
     let at = get_or_from_slice_get c.args.cursors.now c.args.m place 0 c.get-place.ensures in
     let end = c.len.ensures in
     let below = lt-ltb place (length c.args.trace.now) (omega arith) in
@@ -17,7 +17,7 @@ returns-then-place-len c =
 
 pub returns-else-place-len : goal.returns-else-place-len
 returns-else-place-len c =
-    let place = c.get-place.result.now in
+    let place = c.get-place.result in
     let at = get_or_from_slice_get c.args.cursors.now c.args.m place 0 c.get-place.ensures in
     let end = c.len.ensures in
     let above = le-ltb place (length c.args.trace.now) (omega arith) in

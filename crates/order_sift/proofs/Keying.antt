@@ -4,7 +4,7 @@ use Rattle.std.specs.Prelude.{◌↔◌}
 use Rattle.std.proofs.Math.Nat.{mul-le-mul_right}
 use Rattle.std.proofs.lemmas.Bool.{cases_eq, cases_lt}
 use Rattle.std.proofs.lemmas.List.{length-set}
-use Rattle.order_sift.specs.Pairs.{AreBelow, AreNumbered, HasRoom, key_of}
+use Rattle.order_sift.specs.Pairs.{AreBelow, HasRoom, HaveFirsts, key_of}
 
 below_next : (n a b c d : ℕ) → b < n → a < c → a * n + b ≡ c * n + d → ⊥
 below_next n a b c d low less same =
@@ -30,75 +30,67 @@ key_low n a b room low other wide =
     let h = mul-le-mul_right {m = a + 1} {n = n + 33} n (omega arith) in
     omega (arith, h)
 
--- a pair gets the next number
-pub numbered_more : (seen met : List ℕ) (count key : ℕ) → key < length seen → count < length met
-    → AreNumbered seen met count
-    → ((slice_index seen key < count) × (slice_index met (slice_index seen key) ≡ key) → ⊥)
-    → AreNumbered (slice_set seen key count) (slice_set met count key) (count + 1)
-numbered_more seen met count key room low are own p lp =
+-- one more place has the first place with its pair
+pub first_more : (pair new_pair : ℕ → ℕ) (seen new_seen made : List ℕ) (stride i x : ℕ)
+    (paired : ℕ → Type 0) → i < length made → x ≤ i → stride ≤ x → pair x ≡ pair i
+    → slice_index new_seen (pair i) ≡ x
+    → ((k : ℕ) → (k ≡ pair i → ⊥) → slice_index new_seen k ≡ slice_index seen k)
+    → ((p : ℕ) → slice_index seen (pair i) ≡ p → p < i → stride ≤ p → pair p ≡ pair i → x ≡ p)
+    → ((p : ℕ) → p ≤ i → new_pair p ≡ pair p) → HaveFirsts pair seen made stride i paired
+    → HaveFirsts new_pair new_seen (slice_set made i x) stride (i + 1) paired
+first_more pair new_pair seen new_seen made stride i x paired inside within early is there kept again
+    same firsts p lp h =
     ⊎_elim
     (λ less.
-    let is : slice_index (slice_set met count key) p ≡ slice_index met p =
-    get_or-set_other met count p key 0 (λ e. omega arith) in
-    let apart : slice_index met p ≡ key → ⊥ = λ e.
-    let at : slice_index seen key ≡ p = ap (slice_index seen) (sym e) ∙ are p less in
-    own (subst (λ (k : ℕ). k < count) (sym at) less, ap (slice_index met) at ∙ e)
-    in
-    subst (λ (k : ℕ). slice_index (slice_set seen key count) k ≡ p) (sym is)
-    (get_or-set_other seen key (slice_index met p) count 0 apart ∙ are p less))
-    (λ more.
-    let e : count ≡ p = omega arith in
-    subst (λ (q : ℕ). slice_index (slice_set seen key count)
-    (slice_index (slice_set met count key) q) ≡ q) e
-    (ap (slice_index (slice_set seen key count)) (get_or-set_same met count key 0 low)
-    ∙ get_or-set_same seen key count 0 room))
-    (cases_lt p count)
-
--- two pairs have one number exactly where they are the same
-pub same_number : (seen met : List ℕ) (count places x y a b c d : ℕ) → AreNumbered seen met count
-    → (x < count) × (slice_index met x ≡ key_of places a b)
-    → (y < count) × (slice_index met y ≡ key_of places c d) → a < places → c < places
-    → (x ≡ y) ↔ ((a ≡ c) × (b ≡ d))
-same_number seen met count places x y a b c d are one other la lc = (
-  λ h.
-      let parts = key_parts places b a d c la lc
-      (sym one.1 ∙ ap (slice_index met) h ∙ other.1) in
-      (parts.1, parts.0),
-  λ h.
-      sym (are x one.0)
-      ∙ ap (slice_index seen) (one.1 ∙ ap (λ (k : ℕ). key_of places k b) h.0
-      ∙ ap (key_of places c) h.1 ∙ sym other.1)
-      ∙ are y other.0,
-)
-
--- one more place has the number of its pair
-pub each_more : (made met new_met : List ℕ) (count new_count i x : ℕ) (pair new_pair : ℕ → ℕ)
-    (holds : ℕ → Type 0) → i < length made → x < new_count → count ≤ new_count
-    → slice_index new_met x ≡ new_pair i
-    → ((p : ℕ) → p < count → slice_index new_met p ≡ slice_index met p)
-    → ((p : ℕ) → p < i → new_pair p ≡ pair p)
-    → ((p : ℕ) → p < i → holds p
-    → (slice_index made p < count) × (slice_index met (slice_index made p) ≡ pair p)) → (p : ℕ)
-    → p < i + 1 → holds p → (slice_index (slice_set made i x) p < new_count)
-    × (slice_index new_met (slice_index (slice_set made i x) p) ≡ new_pair p)
-each_more made met new_met count new_count i x pair new_pair holds inside low grows here kept same
-    each p lp h =
-    ⊎_elim
-    (λ less.
-    let is : slice_index (slice_set made i x) p ≡ slice_index made p =
+    let own : slice_index (slice_set made i x) p ≡ slice_index made p =
     get_or-set_other made i p x 0 (λ e. omega arith) in
-    let old = each p less h in
-    let a = old.0 in (
-      omega arith,
-      ap (slice_index new_met) is ∙ kept (slice_index made p) old.0 ∙ old.1 ∙ sym (same p less),
-    ))
+    let old = firsts p less h in
+    let low = old.0 in
+    let high = old.1 in
+    let new : new_pair p ≡ pair p = same p (omega arith) in
+    let first_is : new_pair (slice_index made p) ≡ new_pair p =
+    same (slice_index made p) (omega arith) ∙ old.2 ∙ sym new in
+    let stands : slice_index new_seen (pair p) ≡ slice_index made p =
+    ⊎_elim
+    (λ e.
+    let was : slice_index seen (pair i) ≡ slice_index made p =
+    ap (slice_index seen) (sym e) ∙ old.3 in
+    ap (slice_index new_seen) e ∙ there ∙ again (slice_index made p) was high low (old.2 ∙ e))
+    (λ apart. kept (pair p) apart ∙ old.3)
+    (cases_eq (pair p) (pair i)) in
+    subst (λ (q : ℕ). (stride ≤ q) × (q < i + 1) × (new_pair q ≡ new_pair p)
+    × (slice_index new_seen (new_pair p) ≡ q)) (sym own)
+    (low, omega arith, first_is, ap (slice_index new_seen) new ∙ stands))
     (λ more.
     let e : i ≡ p = omega arith in
-    let is : slice_index (slice_set made i x) i ≡ x = get_or-set_same made i x 0 inside in
-    subst (λ (q : ℕ). (slice_index (slice_set made i x) q < new_count)
-    × (slice_index new_met (slice_index (slice_set made i x) q) ≡ new_pair q)) e
-    (omega arith, ap (slice_index new_met) is ∙ here))
+    let new : new_pair i ≡ pair i = same i (omega arith) in
+    subst (λ (q : ℕ). (stride ≤ slice_index (slice_set made i x) q)
+    × (slice_index (slice_set made i x) q < i + 1)
+    × (new_pair (slice_index (slice_set made i x) q) ≡ new_pair q)
+    × (slice_index new_seen (new_pair q) ≡ slice_index (slice_set made i x) q)) e
+    (subst (λ (q : ℕ). (stride ≤ q) × (q < i + 1) × (new_pair q ≡ new_pair i)
+    × (slice_index new_seen (new_pair i) ≡ q)) (sym (get_or-set_same made i x 0 inside))
+    (early, omega arith, same x within ∙ is ∙ sym new, ap (slice_index new_seen) new ∙ there)))
     (cases_lt p i)
+
+-- two places have one number exactly where their pairs are the same
+pub same_first : (pair : ℕ → ℕ) (seen made : List ℕ) (stride n : ℕ) (paired : ℕ → Type 0)
+    → HaveFirsts pair seen made stride n paired → (i j : ℕ) → i < n → j < n → paired i → paired j
+    → (slice_index made i ≡ slice_index made j) ↔ (pair i ≡ pair j)
+same_first pair seen made stride n paired firsts i j li lj one other =
+    let a = firsts i li one in
+    let b = firsts j lj other in (
+      λ h. sym a.2 ∙ ap pair h ∙ b.2,
+      λ h. sym a.3 ∙ ap (slice_index seen) h ∙ b.3,
+    )
+
+-- and where both parts are
+pub same_parts : (n a b c d : ℕ) → b < n → d < n
+    → (key_of n b a ≡ key_of n d c) ↔ ((b ≡ d) × (a ≡ c))
+same_parts n a b c d low other = (
+  λ h. let parts = key_parts n a b c d low other h in (parts.1, parts.0),
+  λ h. ap (λ (k : ℕ). key_of n k a) h.0 ∙ ap (key_of n d) h.1,
+)
 
 pub below_set : (n i x : ℕ) (made : List ℕ) → x < n → AreBelow n made
     → AreBelow n (slice_set made i x)

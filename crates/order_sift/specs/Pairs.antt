@@ -1,6 +1,6 @@
 -- Pairs of numbers at places, and numbers for the pairs. Of each pair the one number is below the
 -- number of places, and the other one below that or the code of a result.
-use Rattle.std.specs.Prelude.{◌≡◌, ℕ, ◌+◌, ◌*◌, ◌<◌, ◌≤◌, List, length, slice_index}
+use Rattle.std.specs.Prelude.{◌≡◌, ℕ, ◌+◌, ◌-◌, ◌*◌, ◌<◌, ◌≤◌, List, length, slice_index}
 
 -- each number is below this one
 abbrev pub AreBelow : ℕ → List ℕ → Type 0
@@ -14,6 +14,14 @@ key_of places one other = other * places + one
 abbrev pub HasRoom : ℕ → List ℕ → Type 0
 HasRoom places seen = places * (places + 33) ≤ length seen
 
--- under each of the first so many pairs that were met stands its number
-abbrev pub AreNumbered : List ℕ → List ℕ → ℕ → Type 0
-AreNumbered seen met count = (p : ℕ) → p < count → slice_index seen (slice_index met p) ≡ p
+-- the pair of a place: what stands one stride before it, and what stands there
+abbrev pub pair_at : List ℕ → List ℕ → ℕ → ℕ → ℕ
+pair_at one other stride p =
+    key_of (length one) (slice_index one (p - stride)) (slice_index other p)
+
+-- Each of the first n places with a pair has the first place with its pair as its number, and that
+-- stands under the pair.
+abbrev pub HaveFirsts : (ℕ → ℕ) → List ℕ → List ℕ → ℕ → ℕ → (ℕ → Type 0) → Type 0
+HaveFirsts pair seen made stride n paired = (p : ℕ) → p < n → paired p
+    → (stride ≤ slice_index made p) × (slice_index made p < n)
+    × (pair (slice_index made p) ≡ pair p) × (slice_index seen (pair p) ≡ slice_index made p)

@@ -1,6 +1,6 @@
 // Numbers for pairs of numbers.
 ghost use Rattle.std.specs.Prelude.{◌≡◌, ◌↔◌, ◌+◌, ◌-◌, ◌*◌, ◌<◌, ◌≤◌, ℕ, length, slice_index, IfOk};
-ghost use Rattle.order_sift.specs.Pairs.{AreNumbered, key_of, AreBelow, HasRoom};
+ghost use Rattle.order_sift.specs.Pairs.{pair_at, AreBelow, HasRoom};
 ghost use Rattle.order_sift.specs.Points.{are_within};
 
 use polis_base::{NoMemory, Numbers};
@@ -18,42 +18,38 @@ pub(crate) fn room_for(alloc: Global, places: usize) -> Result<Vec<u16>, NoMemor
     Ok(room)
 }
 
-// The number of a pair: that which it has, or the next. What is seen under a pair without a number
-// is of no account.
-fn number_of(
-    seen: &mut [u16],
-    met: &mut [u32],
-    count: &mut usize,
-    places: usize,
-    one: u32,
-    other: u32,
-) -> u32
-    requires room { HasRoom places seen.old }
-    requires few { places ≤ 1024 }
-    requires one { one < places }
-    requires other { other < places + 33 }
-    requires long { length met.old ≡ places }
-    requires count { count.old < places }
-    requires numbered { AreNumbered seen.old met.old count.old }
-    ensures is { slice_index met.new result ≡ key_of places one other }
-    ensures within { result < count.new }
-    ensures grows { count.old ≤ count.new }
-    ensures few { count.new ≤ count.old + 1 }
-    ensures kept { (p : ℕ) → p < count.old → slice_index met.new p ≡ slice_index met.old p }
-    ensures numbered { AreNumbered seen.new met.new count.new }
+// The first place with the pair of this one, which may be this one. The pair of a place is of what
+// stands one stride before it and of what stands there. What is seen under a pair that no place so
+// far has is of no account.
+fn first_with(seen: &mut [u16], one: &[u32], other: &[u32], stride: usize, i: usize) -> usize
+    requires room { HasRoom (length one.now) seen.old }
+    requires few { length one.now ≤ 1024 }
+    requires long { length other.now ≡ length one.now }
+    requires one_below { AreBelow (length one.now) one.now }
+    requires other_below { AreBelow (length one.now + 33) other.now }
+    requires early { stride ≤ i }
+    requires place { i < length one.now }
+    ensures within { result ≤ i }
+    ensures early { stride ≤ result }
+    ensures is { pair_at one.now other.now stride result ≡ pair_at one.now other.now stride i }
+    ensures seen { slice_index seen.new (pair_at one.now other.now stride i) ≡ result }
+    ensures kept { (k : ℕ) → (k ≡ pair_at one.now other.now stride i → ⊥)
+        → slice_index seen.new k ≡ slice_index seen.old k }
+    ensures again { (p : ℕ) → slice_index seen.old (pair_at one.now other.now stride i) ≡ p
+        → p < i → stride ≤ p
+        → pair_at one.now other.now stride p ≡ pair_at one.now other.now stride i → result ≡ p }
 {
-    let key = other as usize * places + one as usize;
-    let number = usize::from(seen[key]);
-    if number < *count {
-        if met[number] as usize == key {
-            return number as u32;
+    let before = one[i - stride];
+    let here = other[i];
+    let key = here as usize * one.len() + before as usize;
+    let first = usize::from(seen[key]);
+    if first < i && first >= stride {
+        if one[first - stride] == before && other[first] == here {
+            return first;
         }
     }
-    let next = *count;
-    seen[key] = next as u16;
-    met[next] = key as u32;
-    *count = next + 1;
-    next as u32
+    seen[key] = i as u16;
+    i
 }
 
 /// Two places get the same number exactly where both their numbers are the same. What is seen
@@ -78,12 +74,9 @@ pub(crate) fn joined(
 {
     let places = one.len();
     let mut made = Numbers::from_slice(alloc, one)?;
-    let mut room = vec![in alloc; 0; places]?;
-    let met = room.as_mut_slice();
-    let mut count = 0;
     for i in 0..places {
-        let number = number_of(seen, met, &mut count, places, one[i], other[i]);
-        made.set(i as u64, number);
+        let first = first_with(seen, one, other, 0, i);
+        made.set(i as u64, first as u32);
     }
     Ok(made)
 }
@@ -116,14 +109,10 @@ pub(crate) fn chained(
 {
     let places = classes.len();
     let mut made = Numbers::from_slice(alloc, classes)?;
-    let mut room = vec![in alloc; 0; places]?;
-    let met = room.as_mut_slice();
-    let mut count = 0;
     for i in 0..places {
         if codes[i] > 0 {
-            let before = *made.get((i - stride) as u64);
-            let number = number_of(seen, met, &mut count, places, before, classes[i]);
-            made.set(i as u64, number);
+            let first = first_with(seen, made.as_slice(), classes, stride, i);
+            made.set(i as u64, first as u32);
         }
     }
     Ok(made)

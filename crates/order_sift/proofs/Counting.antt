@@ -1,13 +1,13 @@
 -- Counting different numbers one after another.
-use Rattle.std.proofs.Common.{◌≡◌, ◌∙◌, ⊎_elim, ◌+◌, ◌++◌, ◌∷◌, ◌||◌, ℕ, suc, Bool, true, false, cond, [], List, map, get_or, slice_index, arith, sym, ap, refl, eqb}
+use Rattle.std.proofs.Common.{◌≡◌, ◌∙◌, ⊎_elim, ◌+◌, ◌++◌, ◌∷◌, ◌||◌, ℕ, suc, Bool, true, false, cond, [], List, map, length, take, ◌<◌, slice_index, arith, sym, ap, refl, eqb}
 use Rattle.std.specs.Prelude.{filter}
 use Rattle.std.specs.List.{list_any}
 use Rattle.std.proofs.lemmas.Bool.{cases_eq, eq-eqb, ne_eqb}
-use Rattle.std.proofs.lemmas.List.{map-append, append-nil}
+use Rattle.std.proofs.lemmas.List.{map-append, append-nil, take_more}
 use Rattle.std.proofs.lemmas.List.Folds.{list_any-append}
 use Rattle.std.proofs.lemmas.List.Elements.{filter-append}
 use Rattle.polis_base.specs.Lists.{upto}
-use Rattle.order_sift.specs.Classes.{marked, differing}
+use Rattle.order_sift.specs.Classes.{differing}
 
 eqb_swap : (a b : ℕ) → eqb a b ≡ eqb b a
 eqb_swap a b = ⊎_elim (λ e. eq-eqb a b e ∙ sym (eq-eqb b a (sym e)))
@@ -67,22 +67,21 @@ differing_more x (z ∷ zs) =
         ap (λ b. b || list_any (λ w. eqb z w) ys) (ap (λ n. eqb n y) same ∙ eqb_swap x y)
         ∙ ap (λ b. eqb y x || b) (swapped ys same)
 
-kept_more : (classes : List ℕ) (marks : List Bool) (i : ℕ) (b : Bool) → get_or marks i false ≡ b
-    → marked classes marks (i + 1) ≡ marked classes marks i
-    ++ map (slice_index classes) (cond b (i ∷ []) [])
-kept_more classes marks i b is =
+pub marked_more : (classes marks : List ℕ) (i : ℕ) → i < length marks
+    → map (slice_index classes) (take (i + 1) marks) ≡ map (slice_index classes) (take i marks)
+    ++ slice_index classes (slice_index marks i) ∷ []
+marked_more classes marks i low = ap (map (slice_index classes)) (take_more marks i 0 low)
+    ∙ map-append (slice_index classes) (take i marks) (slice_index marks i ∷ [])
+
+-- one more number that passes, or does not
+pub passes_more : (p : ℕ → Bool) (i : ℕ) (b : Bool) → p i ≡ b
+    → filter p (upto (i + 1)) ≡ filter p (upto i) ++ cond b (i ∷ []) []
+passes_more p i b is =
     let e : i + 1 ≡ suc i = omega arith in
-    ap (marked classes marks) e
-    ∙ ap (map (slice_index classes)) (filter-append (λ k. get_or marks k false) (upto i) (i ∷ [])
-    ∙ ap (λ t. filter (λ k. get_or marks k false) (upto i) ++ cond t (i ∷ []) []) is)
-    ∙ map-append (slice_index classes) (filter (λ k. get_or marks k false) (upto i))
-    (cond b (i ∷ []) [])
+    ap (λ k. filter p (upto k)) e
+    ∙ filter-append p (upto i) (i ∷ [])
+    ∙ ap (λ t. filter p (upto i) ++ cond t (i ∷ []) []) is
 
-pub marked_on : (classes : List ℕ) (marks : List Bool) (i : ℕ) → get_or marks i false ≡ true
-    → marked classes marks (i + 1) ≡ marked classes marks i ++ slice_index classes i ∷ []
-marked_on classes marks i on = kept_more classes marks i true on
-
-pub marked_off : (classes : List ℕ) (marks : List Bool) (i : ℕ) → get_or marks i false ≡ false
-    → marked classes marks (i + 1) ≡ marked classes marks i
-marked_off classes marks i off = kept_more classes marks i false off
-    ∙ append-nil (marked classes marks i)
+pub passes_not : (p : ℕ → Bool) (i : ℕ) → p i ≡ false
+    → filter p (upto (i + 1)) ≡ filter p (upto i)
+passes_not p i off = passes_more p i false off ∙ append-nil (filter p (upto i))

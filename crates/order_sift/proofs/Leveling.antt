@@ -1,5 +1,5 @@
 -- A level, by numbers for what is left.
-use Rattle.std.proofs.Common.{◌≡◌, ⊎_elim, ℕ, zero, suc, ◌<◌, ◌≤◌, Bool, true, false, cond, not, ltb, List, [], ◌∷◌, ◌&&◌, map, length, take, get_or, slice_index, slice_set, slice_get, Some, refl, ap, sym, ◌∙◌, arith}
+use Rattle.std.proofs.Common.{◌≡◌, ⊎_elim, ℕ, zero, suc, ◌<◌, ◌≤◌, Bool, true, false, cond, not, ltb, List, [], ◌∷◌, ◌&&◌, map, length, take, slice_index, slice_set, slice_get, Some, refl, ap, sym, ◌∙◌, arith, subst}
 use Rattle.std.specs.Prelude.{filter}
 use Rattle.std.specs.List.{list_all}
 use Rattle.std.proofs.lemmas.Bool.{and_parts, and_from, cases_eq, cases_Bool, lt-ltb, ltb-true, true≢false}
@@ -13,8 +13,9 @@ use Rattle.transition_table.specs.Orders.{sizes_of}
 use Rattle.decision_diagram.specs.Sets.{taking, arising, turns_at, depends_on, set_level}
 use Rattle.decision_diagram.specs.Truths.{same_truth}
 use Rattle.order_sift.specs.Below.{Below}
-use Rattle.order_sift.specs.Classes.{snapshot_at, point_at, left_at, AreClasses, AreMarks, matters, marked, differing}
-use Rattle.order_sift.proofs.Codes.{fits_long, fits_at, fits_set, taking_is, taking_at, taking_long, taking_fits, cond_same, set_at, set_else, set_long, some_upto}
+use Rattle.order_sift.specs.Classes.{snapshot_at, point_at, left_at, AreClasses, AreMarks, matters, differing}
+use Rattle.order_sift.specs.Pairs.{AreBelow}
+use Rattle.order_sift.proofs.Codes.{fits_long, fits_at, fits_set, taking_is, taking_at, taking_long, taking_fits, cond_same, set_at, set_else, set_long, some_upto, length_upto}
 use Rattle.order_sift.proofs.Differing.{has, same_items, by_numbers, all_kept, any_kept, some_item, any_item}
 use Rattle.order_sift.proofs.Leaving.{same_where_fixed}
 use Rattle.order_sift.proofs.Pointing.{point, point_fits, point_true, true_point, snapshot_of, snapshot_fits, at_rank, rank_low}
@@ -182,12 +183,11 @@ module _ (m : Machine) (below : Below) (fixed : ℕ → Bool) (x : ℕ) (lx : x 
       (ap (λ t. not (same_truth t (char m (taking fixed p p)))) a
       ∙ ap (λ t. not (same_truth false t)) b))
 
-  pub level_by_marks : (classes : List ℕ) (marks : List Bool) → AreClasses m fixed classes
-      → AreMarks m x marks → set_level (char m) (sizes_of m) fixed x
-      ≡ differing (marked classes marks (product m.vars))
+  pub level_by_marks : (classes marks : List ℕ) → AreClasses m fixed classes → AreMarks m x marks
+      → set_level (char m) (sizes_of m) fixed x ≡ differing (map (slice_index classes) marks)
   level_by_marks classes marks are signs =
       let n = product m.vars in
-      let kept = filter (λ i. get_or marks i false) (upto n) in
+      let kept = filter (matters m x) (upto n) in
       let T = arising (char m) (sizes_of m) fixed in
       let dep = depends_on (char m) (sizes_of m) fixed x in
       let upto_low = all_upto n n (let e : n ≤ n = omega arith in e) in
@@ -195,9 +195,9 @@ module _ (m : Machine) (below : Below) (fixed : ℕ → Bool) (x : ℕ) (lx : x 
       (all_kept (fits (sizes_of m)) dep (λ z. has z (map (left_at m fixed) kept)) T
       (all_codes (sizes_of m)) (below.lists_fit (sizes_of m)) (λ a ha on.
       let f = from_depends a ha on in
-      any_kept (λ i. get_or marks i false) (left_at m fixed) (T a) (upto n) f.number f.number
-      (some_upto n f.number f.low) (signs.each f.number f.low ∙ f.on) f.same))
-      (all_kept (λ i. ltb i n) (λ i. get_or marks i false)
+      any_kept (matters m x) (left_at m fixed) (T a) (upto n) f.number f.number
+      (some_upto n f.number f.low) f.on f.same))
+      (all_kept (λ i. ltb i n) (matters m x)
       (λ z. has z (map T (filter dep (all_codes (sizes_of m))))) (left_at m fixed) (upto n)
       upto_low (λ i low on.
       let li = ltb-true i n low in
@@ -205,6 +205,48 @@ module _ (m : Machine) (below : Below) (fixed : ℕ → Bool) (x : ℕ) (lx : x 
       let hp = point_fits m below (snapshot_at m i) (snapshot_fits m below i li) in
       any_kept dep T (left_at m fixed i) (all_codes (sizes_of m)) (rank (sizes_of m) p) p
       (below.stands_at_rank (sizes_of m) p hp)
-      (to_depends i li (sym (signs.each i li) ∙ on)) refl))
+      (to_depends i li on) refl))
       ∙ by_numbers (left_at m fixed) (slice_index classes) n are.same kept
-      (all_filter (λ i. ltb i n) (λ i. get_or marks i false) (upto n) upto_low)
+      (all_filter (λ i. ltb i n) (matters m x) (upto n) upto_low)
+      ∙ ap (λ (ks : List ℕ). differing (map (slice_index classes) ks)) (sym signs)
+
+-- ---- the marks are snapshots, and not more than there are
+all_at : (p : ℕ → Bool) (xs : List ℕ) (i : ℕ) → i < length xs → list_all p xs ≡ true
+    → p (slice_index xs i) ≡ true
+all_at p [] i low all = absurd (omega arith)
+all_at p (x ∷ xs) zero low all = (and_parts (p x) (list_all p xs) all).0
+all_at p (x ∷ xs) (suc i) low all =
+    all_at p xs i (omega arith) (and_parts (p x) (list_all p xs) all).1
+
+filter_few : (p : ℕ → Bool) (xs : List ℕ) → length (filter p xs) ≤ length xs
+filter_few p [] = omega arith
+filter_few p (x ∷ xs) =
+    let rest = filter_few p xs in
+    ⊎_elim
+    (λ on.
+    let e : length (filter p (x ∷ xs)) ≡ suc (length (filter p xs)) =
+    ap (λ b. length (cond b (x ∷ filter p xs) (filter p xs))) on in
+    omega arith)
+    (λ off.
+    let e : length (filter p (x ∷ xs)) ≡ length (filter p xs) =
+    ap (λ b. length (cond b (x ∷ filter p xs) (filter p xs))) off in
+    omega arith)
+    (cases_Bool (p x))
+
+pub marks_low : (m : Machine) (x : ℕ) (marks : List ℕ) → AreMarks m x marks
+    → AreBelow (product m.vars) marks
+marks_low m x marks signs =
+    let n = product m.vars in
+    subst (AreBelow n) (sym signs) (λ i li. ltb-true (slice_index (filter (matters m x) (upto n)) i) n
+    (all_at (λ k. ltb k n) (filter (matters m x) (upto n)) i li
+    (all_filter (λ k. ltb k n) (matters m x) (upto n)
+    (all_upto n n (let e : n ≤ n = omega arith in e)))))
+
+pub marks_few : (m : Machine) (x : ℕ) (marks : List ℕ) → AreMarks m x marks
+    → length marks ≤ product m.vars
+marks_few m x marks signs =
+    let n = product m.vars in
+    let few = filter_few (matters m x) (upto n) in
+    let l = length_upto n in
+    let e = ap (λ (xs : List ℕ). length xs) signs in
+    omega arith

@@ -1,9 +1,9 @@
 -- What a machine's levels are counted from, by its table.
-use Rattle.std.proofs.Common.{◌≡◌, ⊎_elim, ℕ, zero, suc, ◌+◌, ◌-◌, ◌*◌, ◌<◌, ◌≤◌, Bool, true, false, not, ◌&&◌, ◌||◌, ◌==◌, eqb, nat_lt, nat_le, List, [], ◌∷◌, ◌++◌, length, take, drop, get_or, slice_index, slice_set, slice_get, replicate, Some, refl, ap, sym, ◌∙◌, arith, subst}
+use Rattle.std.proofs.Common.{◌≡◌, ⊎_elim, ℕ, zero, suc, ◌+◌, ◌-◌, ◌*◌, ◌<◌, ◌≤◌, Bool, true, false, not, ◌&&◌, ◌||◌, ◌==◌, eqb, nat_lt, nat_le, List, [], ◌∷◌, ◌++◌, length, take, drop, get_or, slice_index, slice_set, slice_get, Some, refl, ap, sym, ◌∙◌, arith, subst}
 use Rattle.std.specs.Prelude.{◌↔◌}
 use Rattle.std.specs.List.{list_all, list_any}
 use Rattle.std.proofs.lemmas.Bool.{and_parts, cases_eq, cases_lt, eq-eqb, ne_eqb, ltb-true, le-leb, leb-true, false_from_ne_true}
-use Rattle.std.proofs.lemmas.List.{length-replicate, ext_get_or, get_or-map, length-map, get_or_append_left, get_or-append-add}
+use Rattle.std.proofs.lemmas.List.{ext_get_or, get_or-map, length-map, get_or_append_left, get_or-append-add}
 use Rattle.std.proofs.lemmas.List.Folds.{list_any-append}
 use Rattle.std.proofs.lemmas.Option.{get_or_from_slice_get}
 use Rattle.std.proofs.Math.Seq.{take-append_seam, drop-append_seam}
@@ -17,7 +17,7 @@ use Rattle.transition_table.specs.Orders.{sizes_of}
 use Rattle.outcome_table.specs.Outcomes.{IsTableOf}
 use Rattle.outcome_table.specs.declared.table.Table.{Table}
 use Rattle.order_sift.specs.Below.{Below}
-use Rattle.order_sift.specs.Classes.{snapshot_at, point_at, matters, AreMarks}
+use Rattle.order_sift.specs.Classes.{snapshot_at, point_at, matters}
 use Rattle.order_sift.specs.Points.{AreOutcomes, AreVariables}
 use Rattle.order_sift.proofs.Codes.{same_self, same_is, fits_long, fits_at, set_at, some_upto}
 use Rattle.order_sift.proofs.Differing.{any_item}
@@ -326,24 +326,3 @@ module _ (m : Machine) (below : Below) where
           ∙ sym (any_item (λ c. not (eqb (suc code) c)) (upto (suc (suc n))) 0 0
           (some_upto (suc (suc n)) 0 (omega arith))
           (ap not (ne_eqb (suc code) 0 (λ e. omega arith))))
-
-  -- where it has two codes, it matters on each snapshot
-  pub marks_filled : (item size count : ℕ) (marks : List Bool) → length m.vars ≤ item
-      → item < length m.vars + length m.results
-      → size ≡ slice_index m.results (item - length m.vars) → count ≡ product m.vars
-      → marks ≡ replicate count (nat_le 2 size) → AreMarks m item marks
-  marks_filled item size count marks high low has count_is is = record {
-    long = ap (λ (xs : List Bool). length xs) is ∙ length-replicate count (nat_le 2 size)
-        ∙ count_is;
-    each = λ i li.
-        let e : length m.vars + (item - length m.vars) ≡ item = omega arith in
-        ap (λ (xs : List Bool). get_or xs i false) is
-        ∙ filled (nat_le 2 size) count i (omega arith)
-        ∙ matters_result (item - length m.vars) i size (omega arith) li has
-        ∙ ap (λ (x : ℕ). matters m x i) e;
-  }
-    where
-      filled : (b : Bool) (n i : ℕ) → i < n → get_or (replicate n b) i false ≡ b
-      filled b zero i low = absurd (omega arith)
-      filled b (suc n) zero low = refl
-      filled b (suc n) (suc i) low = filled b n i (omega arith)

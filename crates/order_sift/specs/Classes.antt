@@ -1,6 +1,6 @@
 -- Numbers for the functions that are left of a machine's characteristic function where items are
 -- fixed, one for each snapshot.
-use Rattle.std.specs.Prelude.{◌≡◌, ◌↔◌, ℕ, ◌+◌, ◌<◌, Bool, true, false, cond, not, ◌||◌, ◌==◌, List, [], ◌∷◌, ◌++◌, map, length, filter, get_or, slice_index, slice_set}
+use Rattle.std.specs.Prelude.{◌≡◌, ◌↔◌, ℕ, ◌+◌, ◌<◌, Bool, true, false, cond, not, ◌||◌, ◌==◌, List, [], ◌∷◌, ◌++◌, length, filter, get_or, slice_index, slice_set}
 use Rattle.std.specs.List.{list_any}
 use Rattle.polis_base.specs.Lists.{upto}
 use Rattle.domains.specs.AllCodes.{all_codes}
@@ -36,19 +36,14 @@ matters m item i =
     list_any (λ code. not (char m (slice_set (point_at m i) item code)))
     (upto (slice_index (sizes_of m) item))
 
--- of each snapshot, whether the item matters there
-pub record AreMarks (m : Machine) (item : ℕ) (marks : List Bool) : Type 0 where
-  pub long : length marks ≡ product m.vars
-  pub each : (i : ℕ) → i < product m.vars → get_or marks i false ≡ matters m item i
+-- the snapshots on which the item matters, in order
+abbrev pub AreMarks : Machine → ℕ → List ℕ → Type 0
+AreMarks m item marks = marks ≡ filter (matters m item) (upto (product m.vars))
 
 -- how many different numbers there are
 abbrev pub differing : List ℕ → ℕ
 differing [] = 0
 differing (x ∷ xs) = cond (list_any (λ y. x == y) xs) 0 1 + differing xs
-
--- the numbers at the marked places among the first so many
-abbrev pub marked : List ℕ → List Bool → ℕ → List ℕ
-marked classes marks n = map (slice_index classes) (filter (λ i. get_or marks i false) (upto n))
 
 -- one more item is fixed
 abbrev pub fixed_too : (ℕ → Bool) → ℕ → ℕ → Bool

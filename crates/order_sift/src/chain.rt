@@ -50,7 +50,7 @@ pub(crate) fn chain_of(
         let item = *order.get(items - 1 - t);
         let old = classes.get(t);
         let made = freed(alloc, m, points, seen, old, item)?;
-        let here = level_of(alloc, m, points, &made, item)?;
+        let here = level_of(m, points, &made, item);
         let last = *backs.get(t);
         classes.push(made)?;
         let back = here + last;

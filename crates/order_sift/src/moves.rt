@@ -71,22 +71,10 @@ fn fill_before(
             next,
         )?;
         with_item = freer;
-        let here = level_of(
-            moving.alloc,
-            moving.machine,
-            moving.points,
-            &with_item,
-            next,
-        )?;
+        let here = level_of(moving.machine, moving.points, &with_item, next);
         back += here;
         let without_item = moving.chain.classes.get(items - j);
-        let own = level_of(
-            moving.alloc,
-            moving.machine,
-            moving.points,
-            without_item,
-            item,
-        )?;
+        let own = level_of(moving.machine, moving.points, without_item, item);
         let after = *moving.chain.backs.get(items - j);
         let size = whole - after + own + back;
         sizes.set(j - first, size);
@@ -131,13 +119,7 @@ fn fill_after(
     let mut without_item = Numbers::from_slice(moving.alloc, start.as_slice())?;
     for j in i + 1..range.last + 1 {
         let next = *moving.order.get(j);
-        let here = level_of(
-            moving.alloc,
-            moving.machine,
-            moving.points,
-            &without_item,
-            next,
-        )?;
+        let here = level_of(moving.machine, moving.points, &without_item, next);
         front += here;
         let with_item = moving.chain.classes.get(items - 1 - j);
         let freer = freed(
@@ -149,13 +131,7 @@ fn fill_after(
             item,
         )?;
         without_item = freer;
-        let own = level_of(
-            moving.alloc,
-            moving.machine,
-            moving.points,
-            &without_item,
-            item,
-        )?;
+        let own = level_of(moving.machine, moving.points, &without_item, item);
         let back = *moving.chain.backs.get(items - 1 - j);
         let size = front + own + back;
         sizes.set(j - range.first, size);

@@ -1,14 +1,14 @@
 // What a machine's levels are counted from.
-ghost use Rattle.std.specs.Prelude.{◌≡◌, ◌↔◌, ◌+◌, ◌-◌, ◌*◌, ◌<◌, ◌≤◌, ◌==◌, ◌||◌, cond, not, ℕ, Bool, true, false, [], length, get_or, slice_index, IfOk};
+ghost use Rattle.std.specs.Prelude.{◌≡◌, ◌↔◌, ◌+◌, ◌-◌, ◌*◌, ◌<◌, ◌≤◌, ◌==◌, ◌||◌, cond, not, ℕ, Bool, true, false, [], length, map, get_or, slice_index, IfOk};
 ghost use Rattle.std.specs.List.{list_any};
 ghost use Rattle.polis_base.specs.Lists.{upto};
 ghost use Rattle.domains.specs.Tables.{product};
 ghost use Rattle.transition_table.specs.Computed.{char};
 ghost use Rattle.transition_table.specs.Orders.{sizes_of};
 ghost use Rattle.decision_diagram.specs.Sets.{set_level};
-ghost use Rattle.order_sift.specs.Classes.{AreClasses, IsNextItem, fixed_too, marked, differing};
+ghost use Rattle.order_sift.specs.Classes.{AreClasses, IsNextItem, fixed_too, differing};
 ghost use Rattle.order_sift.specs.Pairs.{AreBelow, HasRoom};
-ghost use Rattle.order_sift.specs.Points.{IsPrepared, are_within};
+ghost use Rattle.order_sift.specs.Points.{IsPrepared};
 
 use crate::law::laws_below;
 use crate::pairs::{chained, joined};
@@ -17,6 +17,9 @@ use outcome_table::lists_from;
 use polis_base::{List, NoMemory, Numbers};
 use std::alloc::Global;
 use transition_table::Machine;
+
+/// The most snapshots that a machine may have for its order to be sifted.
+pub(crate) const SIFTED_SNAPSHOTS: u64 = 1024;
 
 /// A machine on its snapshots, in their order.
 #[derive(Drop)]
@@ -27,45 +30,35 @@ pub(crate) struct Points {
     pub(crate) codes: List<Codes>,
     /// For each result its code on each snapshot.
     pub(crate) results: List<Numbers>,
-    /// For each variable and result, whether another code of it would change the characteristic
-    /// function there.
-    pub(crate) marks: List<List<bool>>,
+    /// For each variable and result the snapshots on which another code of it would change the
+    /// characteristic function.
+    pub(crate) marks: List<Numbers>,
 }
 
-/// The snapshot that has another code of a variable.
-pub(crate) fn neighbour(i: usize, old: u8, new: u8, stride: usize) -> usize
+// Gives each snapshot the number of the one that has a variable's last code.
+fn take_last(numbers: &mut Numbers, codes: &[u8], stride: usize, last: u8)
+    requires few { length codes.now ≤ 1024 }
+    requires long { length numbers.old ≡ length codes.now }
+    requires some { 0 < stride }
     requires stride { stride ≤ 1024 }
-    requires place { i < 1024 }
-    requires within { old * stride ≤ i + new * stride }
-    ensures { result ≡ i + new * stride - old * stride }
+    requires most { (i : ℕ) → i < length codes.now → slice_index codes.now i ≤ last }
+    requires steps { (i : ℕ) → i < length codes.now → slice_index codes.now i < last
+        → (i + stride < length codes.now)
+        × (slice_index codes.now (i + stride) ≡ slice_index codes.now i + 1) }
+    requires below { AreBelow (length codes.now) numbers.old }
+    ensures long { length numbers.new ≡ length codes.now }
+    ensures below { AreBelow (length codes.now) numbers.new }
+    ensures each { (i : ℕ) → i < length codes.now → slice_index numbers.new i
+        ≡ slice_index numbers.old (i + last * stride - slice_index codes.now i * stride) }
 {
-    i + usize::from(new) * stride - usize::from(old) * stride
-}
-
-// For each snapshot the number of the one that has another code of a variable.
-fn shifted(
-    alloc: Global,
-    classes: &[u32],
-    codes: &[u8],
-    stride: usize,
-    code: u8,
-) -> Result<Numbers, NoMemory>
-    requires few { length classes.now ≤ 1024 }
-    requires stride { stride ≤ 1024 }
-    requires long { length codes.now ≡ length classes.now }
-    requires within { are_within codes.now stride code }
-    requires below { AreBelow (length classes.now) classes.now }
-    ensures long { IfOk result (λ made. length made ≡ length classes.now) }
-    ensures each { IfOk result (λ made. (i : ℕ) → i < length classes.now
-        → slice_index made i ≡ slice_index classes.now
-        (i + code * stride - slice_index codes.now i * stride)) }
-    ensures below { IfOk result (AreBelow (length classes.now)) }
-{
-    let mut made = Numbers::from_slice(alloc, classes)?;
-    for i in 0..classes.len() {
-        made.set(i as u64, classes[neighbour(i, codes[i], code, stride)]);
+    let snapshots = codes.len();
+    for t in 0..snapshots {
+        let i = snapshots - 1 - t;
+        if codes[i] < last {
+            let number = *numbers.get((i + stride) as u64);
+            numbers.set(i as u64, number);
+        }
     }
-    Ok(made)
 }
 
 // Marks a number as met: 1 where it hadn't been, and 0 where it had.
@@ -76,30 +69,25 @@ fn meet(met: &mut [bool], number: u32) -> u64
     ensures met { (n : ℕ) → n < length met.old
         → get_or met.new n false ≡ (get_or met.old n false || number == n) }
 {
-    if met[number as usize] {
-        return 0;
-    }
+    let fresh = !met[number as usize];
     met[number as usize] = true;
-    1
+    u64::from(fresh)
 }
 
 // How many different numbers the marked snapshots have.
-fn level(alloc: Global, classes: &[u32], marks: &[bool]) -> Result<u64, NoMemory>
+fn level(classes: &[u32], marks: &[u32]) -> u64
+    requires few { length classes.now ≤ 1024 }
     requires below { AreBelow (length classes.now) classes.now }
-    requires long { length marks.now ≡ length classes.now }
-    ensures differing { IfOk result (λ count. count ≡ differing
-        (marked classes.now marks.now (length classes.now))) }
-    ensures few { IfOk result (λ count. count ≤ length classes.now) }
+    requires marks { AreBelow (length classes.now) marks.now }
+    ensures differing { result ≡ differing (map (slice_index classes.now) marks.now) }
+    ensures few { result ≤ length marks.now }
 {
-    let mut room = vec![in alloc; false; classes.len()]?;
-    let met = room.as_mut_slice();
+    let mut met = [false; SIFTED_SNAPSHOTS as usize];
     let mut count = 0;
-    for i in 0..classes.len() {
-        if marks[i] {
-            count += meet(met, classes[i]);
-        }
+    for i in 0..marks.len() {
+        count += meet(&mut met, classes[marks[i] as usize]);
     }
-    Ok(count)
+    count
 }
 
 // Numbers after a variable is no longer fixed.
@@ -128,10 +116,9 @@ fn free_variable(
     let codes = points.codes.get(u64::from(v)).as_slice();
     let stride = lists_from(&m.vars, u64::from(v) + 1) as usize;
     let fixed = classes.as_slice();
-    let chain = chained(alloc, seen, fixed, codes, stride)?;
-    let numbers = chain.as_slice();
-    let made = shifted(alloc, numbers, codes, stride, size - 1)?;
-    Ok(made)
+    let mut numbers = chained(alloc, seen, fixed, codes, stride)?;
+    take_last(&mut numbers, codes, stride, size - 1);
+    Ok(numbers)
 }
 
 // Numbers after a result is no longer fixed.
@@ -191,26 +178,18 @@ pub(crate) fn freed(
 }
 
 /// The level of an item after those that are fixed, by the numbers for what these leave.
-pub(crate) fn level_of(
-    alloc: Global,
-    m: &Machine,
-    points: &Points,
-    classes: &Numbers,
-    item: u32,
-) -> Result<u64, NoMemory>
+pub(crate) fn level_of(m: &Machine, points: &Points, classes: &Numbers, item: u32) -> u64
     requires few { product m.now.vars ≤ 1024 }
     requires prepared { IsPrepared m.now points.now }
     requires long { length classes.now ≡ product m.now.vars }
     requires below { AreBelow (product m.now.vars) classes.now }
     requires item { item < length m.now.vars + length m.now.results }
-    ensures level { IfOk result (λ count. (fixed : ℕ → Bool) → fixed item ≡ false
-        → AreClasses m.now fixed classes.now
-        → count ≡ set_level (char m.now) (sizes_of m.now) fixed item) }
-    ensures few { IfOk result (λ count. count ≤ 1024) }
+    ensures level { (fixed : ℕ → Bool) → fixed item ≡ false → AreClasses m.now fixed classes.now
+        → result ≡ set_level (char m.now) (sizes_of m.now) fixed item }
+    ensures few { result ≤ 1024 }
 {
     laws_below();
     let place = u64::from(item);
     let marks = points.marks.get(place);
-    let count = level(alloc, classes.as_slice(), marks.as_slice())?;
-    Ok(count)
+    level(classes.as_slice(), marks.as_slice())
 }

@@ -11,7 +11,7 @@ ghost use Rattle.order_sift.specs.Points.{IsPrepared, AreOutcomes, AreResults, A
 
 use crate::law::laws_below;
 use crate::pairs::joined;
-use crate::points::{Points, neighbour};
+use crate::points::Points;
 use domains::Codes;
 use outcome_table::{Table, lists_from};
 use polis_base::{Duplicate, List, NoMemory, Numbers};
@@ -77,6 +77,16 @@ fn outcome_numbers(
     Ok(made)
 }
 
+// The snapshot that has another code of a variable.
+fn neighbour(i: usize, old: u8, new: u8, stride: usize) -> usize
+    requires stride { stride ≤ 1024 }
+    requires place { i < 1024 }
+    requires within { old * stride ≤ i + new * stride }
+    ensures { result ≡ i + new * stride - old * stride }
+{
+    i + usize::from(new) * stride - usize::from(old) * stride
+}
+
 // Whether the snapshot with some other code of a variable has another outcome.
 fn differs(outcomes: &[u32], codes: &[u8], stride: usize, size: u8, i: usize) -> bool
     requires few { length outcomes.now ≤ 1024 }
@@ -97,14 +107,14 @@ fn differs(outcomes: &[u32], codes: &[u8], stride: usize, size: u8, i: usize) ->
     false
 }
 
-// Of each snapshot, whether a variable matters there.
+// The snapshots on which a variable matters.
 fn marks_of_variable(
     alloc: Global,
     m: &Machine,
     codes: &List<Codes>,
     outcomes: &Numbers,
     v: u64,
-) -> Result<List<bool>, NoMemory>
+) -> Result<Numbers, NoMemory>
     requires few { product m.now.vars ≤ 1024 }
     requires variables { AreVariables m.now codes.now }
     requires outcomes { AreOutcomes m.now outcomes.now }
@@ -116,41 +126,53 @@ fn marks_of_variable(
     let size = *m.vars.get(v);
     let stride = lists_from(&m.vars, v + 1);
     let column = codes.get(v).as_slice();
-    let mut marks = List::new(alloc);
-    for i in 0..outcomes.len() {
-        let mark = differs(
-            outcomes.as_slice(),
-            column,
-            stride as usize,
-            size,
-            i as usize,
-        );
-        marks.push(mark)?;
+    let numbers = outcomes.as_slice();
+    let mut marks = Numbers::new(alloc);
+    for i in 0..numbers.len() {
+        if differs(numbers, column, stride as usize, size, i) {
+            marks.push(i as u32)?;
+        }
     }
     Ok(marks)
 }
 
-// Of each snapshot, whether an item matters there.
+// The snapshots on which a result matters: all, if it has two codes.
+fn marks_of_result(alloc: Global, m: &Machine, snapshots: u64, y: u64) -> Result<Numbers, NoMemory>
+    requires few { product m.now.vars ≤ 1024 }
+    requires snapshots { snapshots ≡ product m.now.vars }
+    requires result { y < length m.now.results }
+    ensures { IfOk result (AreMarks m.now (length m.now.vars + y)) }
+{
+    laws_below();
+    let size = *m.results.get(y);
+    let mut marks = Numbers::new(alloc);
+    for i in 0..snapshots {
+        if size >= 2 {
+            marks.push(i as u32)?;
+        }
+    }
+    Ok(marks)
+}
+
+// The snapshots on which an item matters.
 fn marks_of(
     alloc: Global,
     m: &Machine,
     codes: &List<Codes>,
     outcomes: &Numbers,
     item: u64,
-) -> Result<List<bool>, NoMemory>
+) -> Result<Numbers, NoMemory>
     requires few { product m.now.vars ≤ 1024 }
     requires variables { AreVariables m.now codes.now }
     requires outcomes { AreOutcomes m.now outcomes.now }
     requires item { item < length m.now.vars + length m.now.results }
     ensures { IfOk result (AreMarks m.now item) }
 {
-    laws_below();
     let vars = m.vars.len();
     if item < vars {
         return marks_of_variable(alloc, m, codes, outcomes, item);
     }
-    let size = *m.results.get(item - vars);
-    let marks = List::filled(alloc, outcomes.len(), size >= 2)?;
+    let marks = marks_of_result(alloc, m, outcomes.len(), item - vars)?;
     Ok(marks)
 }
 
@@ -160,7 +182,7 @@ fn all_marks(
     m: &Machine,
     codes: &List<Codes>,
     outcomes: &Numbers,
-) -> Result<List<List<bool>>, NoMemory>
+) -> Result<List<Numbers>, NoMemory>
     requires few { product m.now.vars ≤ 1024 }
     requires variables { AreVariables m.now codes.now }
     requires outcomes { AreOutcomes m.now outcomes.now }

@@ -21,7 +21,7 @@ use crate::law::laws_of_levels;
 use crate::moves::{Moving, sizes_at};
 use crate::pairs::room_for;
 use crate::places::allowed_places;
-use crate::points::Points;
+use crate::points::{Points, SIFTED_SNAPSHOTS};
 use crate::prepare::prepare;
 use char_function::{Supports, diagram, first_order, supports_in};
 use decision_diagram::{Order, Root};
@@ -29,9 +29,6 @@ use outcome_table::{Table, table_of};
 use polis_base::NoMemory;
 use std::alloc::Global;
 use transition_table::Machine;
-
-// The most snapshots that a machine may have for its order to be sifted.
-const SIFTED_SNAPSHOTS: u64 = 1024;
 
 /// An order of a machine's variables and results.
 #[derive(Drop)]

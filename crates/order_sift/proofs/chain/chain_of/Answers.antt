@@ -49,8 +49,8 @@ freed-requires-clause-item c =
     let b = c.requires.allowed.permutation.below (c.len-items.result - 1 - t) (omega arith) in
     omega arith
 
-pub level_of-requires-clause-item : goal.level_of-requires-clause-item
-level_of-requires-clause-item c =
+pub level_of-here-requires-clause-item : goal.level_of-here-requires-clause-item
+level_of-here-requires-clause-item c =
     let o = c.args.order.now in
     let t = c.loop-t.t in
     let n = items c.args.m.now o c.requires.allowed in
@@ -77,13 +77,13 @@ loop-t-preserved c =
     let last = get_or_from_slice_get c.loop-t.backs t c.get-last.result.now 0 c.get-last.ensures in
     let frees = subst (λ (xs : List ℕ). Frees m c.get-item.result.now xs c.in_ok-made.made)
     (sym old) c.in_ok-made.ensures.classes in
-    let here = c.in_ok-here.here in
+    let here = c.level_of-here.result in
     record {
       room = room_kept (product m.vars) _ _ c.freed.auto.seen c.loop-t.invariant.room;
       chain = chain_more m o c.laws_of_levels.ensures.laws c.requires.sure c.requires.allowed t
           c.get-item.result.now c.loop-t.classes _ c.loop-t.backs _ c.in_ok-made.made here
-          (here + c.get-last.result.now) low at chain frees c.in_ok-here.ensures.level
-          c.in_ok-here.ensures.few (ap (λ (k : ℕ). here + k) (sym last)) c.in_ok-push-3.ensures.ok
+          (here + c.get-last.result.now) low at chain frees c.level_of-here.ensures.level
+          c.level_of-here.ensures.few (ap (λ (k : ℕ). here + k) (sym last)) c.in_ok-push-3.ensures.ok
           c.in_ok-push-4.ensures.ok;
     }
 
@@ -97,7 +97,7 @@ overflow_add-back c =
     let low = c.loop-t-test.true in
     let last = get_or_from_slice_get c.loop-t.backs t c.get-last.result.now 0 c.get-last.ensures in
     let a = chain.few t (omega arith) in
-    let b = c.in_ok-here.ensures.few in
+    let b = c.level_of-here.ensures.few in
     omega arith
 
 pub returns : goal.returns

@@ -88,25 +88,25 @@ loop-j-preserved c =
     sym (ap (λ (n : ℕ). slice_index chain.backs (n - 1 - j)) (sym l)
     ∙ get_or_from_slice_get chain.backs (c.len-items.result - 1 - j) c.get-back.result.now 0
     c.get-back.ensures) in
-    let own = c.in_ok-own.own in
-    let here = c.in_ok-here.here in
+    let own = c.level_of-own.result in
+    let here = c.level_of-here.result in
     let old_front = c.loop-j.front in
     let freer = c.in_ok-freer.freer in
     let frees = subst (λ (x : ℕ). Frees m x (get_or chain.classes (length o - 1 - j) []) freer)
     (sym item_is) (subst (λ (xs : List ℕ). Frees m c.get-item.result.now xs freer) got
     c.in_ok-freer.ensures.classes) in
     let own_levels =
-    subst (λ (x : ℕ). Levels m x freer own) (sym item_is) c.in_ok-own.ensures.level in
+    subst (λ (x : ℕ). Levels m x freer own) (sym item_is) c.level_of-own.ensures.level in
     let step = steps_after m o laws c.requires.sure c.requires.allowed chain.classes chain.backs
     c.requires.chain i li sized j next here old_front own c.get-back.result.now
     c.loop-j.without_item freer high lj may_before may next_is inv.front inv.classes
-    c.in_ok-here.ensures.level frees own_levels back in
+    c.level_of-here.ensures.level frees own_levels back in
     let e : j ≡ j + 1 - 1 = omega arith in
     let set = c.set.ensures in
     let long = inv.long in
     let room = c.requires.long in
     let few = inv.few in
-    let few_here = c.in_ok-here.ensures.few in
+    let few_here = c.level_of-here.ensures.few in
     let value = (old_front + here) + own + c.get-back.result.now in
     let sizes = sizes_set m o c.loop-j.sizes i first j value first (j - 1) first j
     (let h : first ≤ first = omega arith in
@@ -122,8 +122,8 @@ loop-j-preserved c =
           (subst (λ (xs : List ℕ). AreSizes m o i first xs first j) (sym set) sizes);
     }
 
-pub level_of-requires-clause-item : goal.level_of-requires-clause-item
-level_of-requires-clause-item c =
+pub level_of-here-requires-clause-item : goal.level_of-here-requires-clause-item
+level_of-here-requires-clause-item c =
     let o = c.args.moving.now.order.now in
     let n = items c.args.moving.now.machine.now o c.requires.allowed in
     let l = c.len-items.ensures.len in
@@ -142,8 +142,8 @@ freed-requires-clause-item c =
     let b = c.requires.last in omega arith) in
     omega arith
 
-pub level_of-requires-in-loop-j-clause-item : goal.level_of-requires-in-loop-j-clause-item
-level_of-requires-in-loop-j-clause-item c =
+pub level_of-own-requires-clause-item : goal.level_of-own-requires-clause-item
+level_of-own-requires-clause-item c =
     let o = c.args.moving.now.order.now in
     let n = items c.args.moving.now.machine.now o c.requires.allowed in
     let l = c.len-items.ensures.len in
@@ -218,7 +218,7 @@ overflow_add-front c =
     let n = items c.args.moving.now.machine.now c.args.moving.now.order.now c.requires.allowed in
     let items_few = c.laws_of_levels.ensures.few in
     let few = c.loop-j.invariant.few in
-    let here = c.in_ok-here.ensures.few in
+    let here = c.level_of-here.ensures.few in
     let test = c.loop-j-test.true in
     let last = c.requires.last in
     omega arith
@@ -228,8 +228,8 @@ overflow_add-size c =
     let n = items c.args.moving.now.machine.now c.args.moving.now.order.now c.requires.allowed in
     let items_few = c.laws_of_levels.ensures.few in
     let few = c.loop-j.invariant.few in
-    let here = c.in_ok-here.ensures.few in
-    let own = c.in_ok-own.ensures.few in
+    let here = c.level_of-here.ensures.few in
+    let own = c.level_of-own.ensures.few in
     let test = c.loop-j-test.true in
     let last = c.requires.last in
     omega arith
@@ -247,8 +247,8 @@ overflow_add-size-in-loop-j c =
     let n = items m o c.requires.allowed in
     let items_few = c.laws_of_levels.ensures.few in
     let few = c.loop-j.invariant.few in
-    let here = c.in_ok-here.ensures.few in
-    let own = c.in_ok-own.ensures.few in
+    let here = c.level_of-here.ensures.few in
+    let own = c.level_of-own.ensures.few in
     let test = c.loop-j-test.true in
     let last = c.requires.last in
     let back = ap (λ (n : ℕ). slice_index chain.backs (n - 1 - j)) (sym l)

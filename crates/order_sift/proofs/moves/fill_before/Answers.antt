@@ -86,14 +86,14 @@ loop-t-preserved c =
     sym (ap (λ (n : ℕ). get_or chain.classes (n - j) []) (sym l)
     ∙ get_or_from_slice_get chain.classes (c.len-items.result - j) c.get-without_item.result.now
     [] c.get-without_item.ensures) in
-    let own = c.in_ok-own.own in
-    let here = c.in_ok-here.here in
+    let own = c.level_of-own.result in
+    let here = c.level_of-here.result in
     let old_back = c.loop-t.back in
     let front = c.get-whole.result.now - c.get-after.result.now in
     let own_levels =
     subst (λ (x : ℕ). Levels m x (get_or chain.classes (length o - j) []) own) (sym item_is)
     (subst (λ (xs : List ℕ). Levels m c.get-item.result.now xs own) got
-    c.in_ok-own.ensures.level) in
+    c.level_of-own.ensures.level) in
     let fronts = front_low m o laws c.requires.sure c.requires.allowed chain.classes chain.backs
     c.requires.chain i li sized j (omega arith) in
     let fronts_is = fronts.1 in
@@ -103,12 +103,12 @@ loop-t-preserved c =
     let step = steps_before m o laws c.requires.sure c.requires.allowed chain.classes chain.backs
     c.requires.chain i li sized j next here old_back own front c.loop-t.with_item
     c.in_ok-freer.freer low may next_is (inv.back ∙ ap (back_of m o i) e_old) old_are
-    c.in_ok-freer.ensures.classes c.in_ok-here.ensures.level own_levels (omega arith) in
+    c.in_ok-freer.ensures.classes c.level_of-here.ensures.level own_levels (omega arith) in
     let set = c.set.ensures in
     let long = inv.long in
     let room = c.requires.long in
     let few = inv.few in
-    let few_here = c.in_ok-here.ensures.few in
+    let few_here = c.level_of-here.ensures.few in
     let value = front + own + (old_back + here) in
     let sizes = sizes_set m o c.loop-t.sizes i first j value (i - t) i j i high high (omega arith)
     step.whole_is inv.sizes (λ k a b apart. (omega arith, b)) in
@@ -135,8 +135,8 @@ freed-requires-clause-item c =
     (let a = c.loop-t-test.true in let b = c.requires.i in omega arith) in
     omega arith
 
-pub level_of-requires-clause-item : goal.level_of-requires-clause-item
-level_of-requires-clause-item c =
+pub level_of-here-requires-clause-item : goal.level_of-here-requires-clause-item
+level_of-here-requires-clause-item c =
     let o = c.args.moving.now.order.now in
     let n = items c.args.moving.now.machine.now o c.requires.allowed in
     let l = c.len-items.ensures.len in
@@ -146,8 +146,8 @@ level_of-requires-clause-item c =
     (let a = c.loop-t-test.true in let b = c.requires.i in omega arith) in
     omega arith
 
-pub level_of-requires-in-loop-t-clause-item : goal.level_of-requires-in-loop-t-clause-item
-level_of-requires-in-loop-t-clause-item c =
+pub level_of-own-requires-clause-item : goal.level_of-own-requires-clause-item
+level_of-own-requires-clause-item c =
     let o = c.args.moving.now.order.now in
     let n = items c.args.moving.now.machine.now o c.requires.allowed in
     let l = c.len-items.ensures.len in
@@ -155,8 +155,8 @@ level_of-requires-in-loop-t-clause-item c =
     let b = c.requires.allowed.permutation.below (c.args.i) (c.requires.i) in
     omega arith
 
-pub level_of-requires-in-loop-t-clause-long : goal.level_of-requires-in-loop-t-clause-long
-level_of-requires-in-loop-t-clause-long c =
+pub level_of-own-requires-clause-long : goal.level_of-own-requires-clause-long
+level_of-own-requires-clause-long c =
     let m = c.args.moving.now.machine.now in
     let o = c.args.moving.now.order.now in
     let chain = c.args.moving.now.chain.now in
@@ -173,8 +173,8 @@ level_of-requires-in-loop-t-clause-long c =
     ∙ (chain_classes m o laws c.requires.sure c.requires.allowed chain.classes chain.backs
     c.requires.chain j (omega arith)).long
 
-pub level_of-requires-in-loop-t-clause-below : goal.level_of-requires-in-loop-t-clause-below
-level_of-requires-in-loop-t-clause-below c =
+pub level_of-own-requires-clause-below : goal.level_of-own-requires-clause-below
+level_of-own-requires-clause-below c =
     let m = c.args.moving.now.machine.now in
     let o = c.args.moving.now.order.now in
     let chain = c.args.moving.now.chain.now in
@@ -218,7 +218,7 @@ overflow_add-back c =
     let n = items c.args.moving.now.machine.now c.args.moving.now.order.now c.requires.allowed in
     let items_few = c.laws_of_levels.ensures.few in
     let few = c.loop-t.invariant.few in
-    let here = c.in_ok-here.ensures.few in
+    let here = c.level_of-here.ensures.few in
     let test = c.loop-t-test.true in
     let li = c.requires.i in
     omega arith
@@ -239,7 +239,7 @@ overflow_add-size c =
     c.get-whole.ensures in
     let whole_few =
     c.requires.chain.few (length o) (let h : length o ≤ length o = omega arith in h) in
-    let own = c.in_ok-own.ensures.few in
+    let own = c.level_of-own.ensures.few in
     omega arith
 
 pub overflow_add-size-in-loop-t : goal.overflow_add-size-in-loop-t
@@ -258,9 +258,9 @@ overflow_add-size-in-loop-t c =
     c.get-whole.ensures in
     let whole_few =
     c.requires.chain.few (length o) (let h : length o ≤ length o = omega arith in h) in
-    let own = c.in_ok-own.ensures.few in
+    let own = c.level_of-own.ensures.few in
     let few = c.loop-t.invariant.few in
-    let here = c.in_ok-here.ensures.few in
+    let here = c.level_of-here.ensures.few in
     let test = c.loop-t-test.true in
     let li = c.requires.i in
     omega arith

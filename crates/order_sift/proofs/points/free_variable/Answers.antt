@@ -5,10 +5,12 @@ use Rattle.std.proofs.lemmas.Option.{get_or_from_slice_get}
 use Rattle.domains.specs.Tables.{product}
 use Rattle.transition_table.specs.declared.machine.Machine.{Machine}
 use Rattle.order_sift.specs.Below.{Below}
+use Rattle.order_sift.specs.declared.points.Points.{Points}
 use Rattle.order_sift.specs.Classes.{snapshot_at}
 use Rattle.order_sift.specs.Pairs.{AreBelow, HasRoom}
+use Rattle.order_sift.specs.Points.{IsPrepared}
 use Rattle.order_sift.proofs.Belows.{product_some, size_some, sizes_drop}
-use Rattle.order_sift.proofs.Codes.{fits_long}
+use Rattle.order_sift.proofs.Codes.{fits_at, fits_long}
 use Rattle.order_sift.proofs.Pointing.{snapshot_fits}
 use Rattle.order_sift.proofs.Stepping.{variable_freed, neighbours, drop_below, within_of}
 use Rattle.order_sift.proofs.points.free_variable.Goals as goal
@@ -186,8 +188,56 @@ overflow_sub-size c =
     c.get-size.ensures in
     omega arith
 
-pub shifted-requires-clause-stride : goal.shifted-requires-clause-stride
-shifted-requires-clause-stride c =
+-- the length of the column that was read
+column_long : (m : Machine) (points : Points) (v : ℕ) (shown : List ℕ) → IsPrepared m points
+    → v < length m.vars → get_or points.codes v [] ≡ shown → length shown ≡ product m.vars
+column_long m points v shown prepared lv column =
+    ap (λ (xs : List ℕ). length xs) (sym column) ∙ prepared.variables.long v lv
+
+column_code : (m : Machine) (points : Points) (v : ℕ) (shown : List ℕ) → IsPrepared m points
+    → v < length m.vars → get_or points.codes v [] ≡ shown → (i : ℕ) → i < product m.vars
+    → slice_index shown i ≡ slice_index (snapshot_at m i) v
+column_code m points v shown prepared lv column i li =
+    ap (λ (xs : List ℕ). slice_index xs i) (sym column) ∙ prepared.variables.code v i lv li
+
+pub take_last-requires-clause-few : goal.take_last-requires-clause-few
+take_last-requires-clause-few c =
+    let column = column_of c.args.points.now.codes c.args.v c.from-2.result c.get.result.now
+    c.as_slice-codes.result.now c.from-2.ensures c.get.ensures c.as_slice-codes.ensures in
+    let long = column_long c.args.m.now c.args.points.now c.args.v c.as_slice-codes.result.now
+    c.requires.prepared c.requires.var column in
+    let few = c.requires.few in
+    omega arith
+
+pub take_last-requires-clause-long : goal.take_last-requires-clause-long
+take_last-requires-clause-long c =
+    let column = column_of c.args.points.now.codes c.args.v c.from-2.result c.get.result.now
+    c.as_slice-codes.result.now c.from-2.ensures c.get.ensures c.as_slice-codes.ensures in
+    c.in_ok-numbers.ensures.long
+    ∙ ap (λ (xs : List ℕ). length xs) c.as_slice-fixed.ensures ∙ c.requires.long
+    ∙ sym (column_long c.args.m.now c.args.points.now c.args.v c.as_slice-codes.result.now
+    c.requires.prepared c.requires.var column)
+
+pub take_last-requires-clause-below : goal.take_last-requires-clause-below
+take_last-requires-clause-below c =
+    let column = column_of c.args.points.now.codes c.args.v c.from-2.result c.get.result.now
+    c.as_slice-codes.result.now c.from-2.ensures c.get.ensures c.as_slice-codes.ensures in
+    let long = ap (λ (xs : List ℕ). length xs) c.as_slice-fixed.ensures ∙ c.requires.long in
+    subst (λ (k : ℕ). AreBelow k c.in_ok-numbers.numbers) (long ∙ sym (column_long c.args.m.now
+    c.args.points.now c.args.v c.as_slice-codes.result.now c.requires.prepared c.requires.var
+    column)) c.in_ok-numbers.ensures.below
+
+pub take_last-requires-clause-some : goal.take_last-requires-clause-some
+take_last-requires-clause-some c =
+    let vars = c.args.m.now.vars in
+    let some = product_some (drop (c.args.v + 1) vars)
+    (sizes_drop vars (c.args.v + 1) c.var_count.ensures.sizes) in
+    let is = stride_is vars c.args.v c.from-3.result c.lists_from-stride.result c.from-3.ensures
+    c.lists_from-stride.ensures in
+    omega arith
+
+pub take_last-requires-clause-stride : goal.take_last-requires-clause-stride
+take_last-requires-clause-stride c =
     let vars = c.args.m.now.vars in
     let low = drop_below vars (c.args.v + 1) c.var_count.ensures.sizes in
     let is = stride_is vars c.args.v c.from-3.result c.lists_from-stride.result c.from-3.ensures
@@ -195,29 +245,50 @@ shifted-requires-clause-stride c =
     let few = c.requires.few in
     omega arith
 
-pub shifted-requires-clause-long : goal.shifted-requires-clause-long
-shifted-requires-clause-long c =
-    let column = column_of c.args.points.now.codes c.args.v c.from-2.result c.get.result.now
-    c.as_slice-codes.result.now c.from-2.ensures c.get.ensures c.as_slice-codes.ensures in
-    ap (λ (xs : List ℕ). length xs) (sym column)
-    ∙ c.requires.prepared.variables.long c.args.v c.requires.var ∙ sym c.requires.long
-    ∙ ap (λ (xs : List ℕ). length xs) (sym c.as_slice-fixed.ensures)
-    ∙ sym c.in_ok-chain.ensures.long
-    ∙ ap (λ (xs : List ℕ). length xs) (sym c.as_slice-numbers.ensures)
-
-pub shifted-requires-clause-within : goal.shifted-requires-clause-within
-shifted-requires-clause-within c =
+pub take_last-requires-clause-most : goal.take_last-requires-clause-most
+take_last-requires-clause-most c i li =
     let m = c.args.m.now in
-    let some = size_some m.vars c.args.v c.var_count.ensures.sizes c.requires.var in
-    let size = size_of m.vars c.args.v c.from.result c.get-size.result.now c.from.ensures
+    let v = c.args.v in
+    let lv = c.requires.var in
+    let column = column_of c.args.points.now.codes v c.from-2.result c.get.result.now
+    c.as_slice-codes.result.now c.from-2.ensures c.get.ensures c.as_slice-codes.ensures in
+    let long = column_long m c.args.points.now v c.as_slice-codes.result.now c.requires.prepared lv
+    column in
+    let inside : i < product m.vars = omega arith in
+    let code = column_code m c.args.points.now v c.as_slice-codes.result.now c.requires.prepared lv
+    column i inside in
+    let low = fits_at m.vars (snapshot_at m i) v (snapshot_fits m c.laws_below.ensures i inside)
+    lv in
+    let size = size_of m.vars v c.from.result c.get-size.result.now c.from.ensures
     c.get-size.ensures in
-    within_of m c.laws_below.ensures c.args.points.now.codes c.requires.prepared.variables c.args.v
-    (c.get-size.result.now - 1) c.lists_from-stride.result c.as_slice-codes.result.now
-    c.requires.var (omega arith)
-    (stride_is m.vars c.args.v c.from-3.result c.lists_from-stride.result c.from-3.ensures
-    c.lists_from-stride.ensures)
-    (column_of c.args.points.now.codes c.args.v c.from-2.result c.get.result.now
-    c.as_slice-codes.result.now c.from-2.ensures c.get.ensures c.as_slice-codes.ensures)
+    omega arith
+
+pub take_last-requires-clause-steps : goal.take_last-requires-clause-steps
+take_last-requires-clause-steps c i li more =
+    let m = c.args.m.now in
+    let v = c.args.v in
+    let lv = c.requires.var in
+    let stride = c.lists_from-stride.result in
+    let codes = c.as_slice-codes.result.now in
+    let column = column_of c.args.points.now.codes v c.from-2.result c.get.result.now codes
+    c.from-2.ensures c.get.ensures c.as_slice-codes.ensures in
+    let long = column_long m c.args.points.now v codes c.requires.prepared lv column in
+    let size = size_of m.vars v c.from.result c.get-size.result.now c.from.ensures
+    c.get-size.ensures in
+    let is = stride_is m.vars v c.from-3.result stride c.from-3.ensures
+    c.lists_from-stride.ensures in
+    let next = at_code m c.laws_below.ensures v stride codes lv
+    (column_code m c.args.points.now v codes c.requires.prepared lv column) is i
+    (slice_index codes i + 1) (omega arith) (omega arith) in
+    let e = onward i (slice_index codes i) stride in
+    subst (λ (k : ℕ). (k < length codes) × (slice_index codes k ≡ slice_index codes i + 1)) e (
+      subst (λ (n : ℕ). i + (slice_index codes i + 1) * stride - slice_index codes i * stride < n)
+          (sym long) next.0,
+      next.1,
+    )
+  where
+    onward : (i code stride : ℕ) → i + (code + 1) * stride - code * stride ≡ i + stride
+    onward i code stride = omega arith
 
 pub returns-clause-classes : goal.returns-clause-classes
 returns-clause-classes c =
@@ -228,8 +299,8 @@ returns-clause-classes c =
     let stride = c.lists_from-stride.result in
     let codes = c.as_slice-codes.result.now in
     let fixed = c.as_slice-fixed.result.now in
-    let chain = c.in_ok-chain.chain in
-    let made = c.in_ok-made.made in
+    let chain = c.in_ok-numbers.numbers in
+    let made = c.take_last.new.numbers in
     let some = size_some m.vars v c.var_count.ensures.sizes lv in
     let size = size_of m.vars v c.from.result c.get-size.result.now c.from.ensures
     c.get-size.ensures in
@@ -243,18 +314,17 @@ returns-clause-classes c =
     c.lists_from-stride.ensures in
     let long : length fixed ≡ n = ap (λ (xs : List ℕ). length xs) c.as_slice-fixed.ensures
     ∙ c.requires.long in
-    let chain_long : length chain ≡ n = c.in_ok-chain.ensures.long ∙ long in
+    let chain_long : length chain ≡ n = c.in_ok-numbers.ensures.long ∙ long in
     let first = subst (λ (k : ℕ). (i : ℕ) → i < k → slice_index codes i ≡ 0
-    → slice_index chain i ≡ slice_index fixed i) long c.in_ok-chain.ensures.first in
+    → slice_index chain i ≡ slice_index fixed i) long c.in_ok-numbers.ensures.first in
     let pairs = subst (λ (k : ℕ). (i j : ℕ) → i < k → j < k → 0 < slice_index codes i
     → 0 < slice_index codes j → (slice_index chain i ≡ slice_index chain j)
     ↔ ((slice_index chain (i - stride) ≡ slice_index chain (j - stride))
-    × (slice_index fixed i ≡ slice_index fixed j))) long c.in_ok-chain.ensures.more in
-    let whole = subst (λ (xs : List ℕ). (i : ℕ) → i < length xs → slice_index made i
-    ≡ slice_index xs (i + last * stride - slice_index codes i * stride)) c.as_slice-numbers.ensures
-    c.in_ok-made.ensures.each in
+    × (slice_index fixed i ≡ slice_index fixed j))) long c.in_ok-numbers.ensures.more in
+    let codes_long = column_long m c.args.points.now v codes c.requires.prepared lv column in
     let each = subst (λ (k : ℕ). (i : ℕ) → i < k → slice_index made i
-    ≡ slice_index chain (i + last * stride - slice_index codes i * stride)) chain_long whole in
+    ≡ slice_index chain (i + last * stride - slice_index codes i * stride)) codes_long
+    c.take_last.ensures.each in
     let end : last + 1 ≡ slice_index m.vars v = omega arith in
     let told = told_all n (slice_index m.vars v) stride fixed codes chain
     (at_code m c.laws_below.ensures v stride codes lv code is) first pairs last made end each in
@@ -264,7 +334,22 @@ returns-clause-classes c =
     → slice_index xs (i + k * stride - slice_index codes i * stride)
     ≡ slice_index xs (j + k * stride - slice_index codes j * stride))) c.as_slice-fixed.ensures
     told in
-    let numbers_long = ap (λ (xs : List ℕ). length xs) c.as_slice-numbers.ensures ∙ chain_long in
     variable_freed m c.laws_below.ensures v c.args.classes.now codes made stride lv code is
-    (c.in_ok-made.ensures.long ∙ numbers_long)
-    (subst (λ (k : ℕ). AreBelow k made) numbers_long c.in_ok-made.ensures.below) same
+    (c.take_last.ensures.long ∙ codes_long)
+    (subst (λ (k : ℕ). AreBelow k made) codes_long c.take_last.ensures.below) same
+
+pub returns-clause-long : goal.returns-clause-long
+returns-clause-long c =
+    c.take_last.ensures.long
+    ∙ column_long c.args.m.now c.args.points.now c.args.v c.as_slice-codes.result.now
+    c.requires.prepared c.requires.var (column_of c.args.points.now.codes c.args.v c.from-2.result
+    c.get.result.now c.as_slice-codes.result.now c.from-2.ensures c.get.ensures
+    c.as_slice-codes.ensures)
+
+pub returns-clause-below : goal.returns-clause-below
+returns-clause-below c =
+    subst (λ (k : ℕ). AreBelow k c.take_last.new.numbers)
+    (column_long c.args.m.now c.args.points.now c.args.v c.as_slice-codes.result.now
+    c.requires.prepared c.requires.var (column_of c.args.points.now.codes c.args.v c.from-2.result
+    c.get.result.now c.as_slice-codes.result.now c.from-2.ensures c.get.ensures
+    c.as_slice-codes.ensures)) c.take_last.ensures.below

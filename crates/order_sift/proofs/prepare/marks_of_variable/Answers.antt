@@ -1,11 +1,13 @@
-use Rattle.std.proofs.Common.{◌≡◌, ◌∙◌, ◌+◌, ◌<◌, ◌++◌, ◌∷◌, [], ℕ, Bool, false, List, length, get_or, slice_index, arith, sym, ap, subst, length-append}
+use Rattle.std.proofs.Common.{◌≡◌, ◌∙◌, ◌+◌, ◌<◌, ◌++◌, ◌∷◌, [], ℕ, true, List, length, get_or, slice_index, arith, sym, ap, subst}
 use Rattle.std.proofs.lemmas.Option.{get_or_from_slice_get}
 use Rattle.domains.specs.Tables.{product}
 use Rattle.order_sift.specs.Classes.{snapshot_at, matters}
 use Rattle.order_sift.specs.Points.{AreOutcomes}
-use Rattle.order_sift.proofs.Preparing.{pushed, matters_var}
+use Rattle.order_sift.proofs.Counting.{passes_more, passes_not}
+use Rattle.order_sift.proofs.Preparing.{matters_var}
 use Rattle.order_sift.proofs.Stepping.{drop_below, within_of}
 use Rattle.order_sift.proofs.prepare.marks_of_variable.Goals as goal
+use Rattle.order_sift.proofs.prepare.marks_of_variable.Goals.{then-differs+in_ok-push, else-differs}
 
 pub lists_from-stride-requires-clause-few : goal.lists_from-stride-requires-clause-few
 lists_from-stride-requires-clause-few c =
@@ -13,31 +15,31 @@ lists_from-stride-requires-clause-few c =
     let few = c.requires.few in
     omega arith
 
-pub differs-mark-requires-clause-few : goal.differs-mark-requires-clause-few
-differs-mark-requires-clause-few c =
-    let long = ap (λ (xs : List ℕ). length xs) c.as_slice.ensures ∙ c.requires.outcomes.long in
+pub differs-requires-clause-few : goal.differs-requires-clause-few
+differs-requires-clause-few c =
+    let long = ap (λ (xs : List ℕ). length xs) c.as_slice-numbers.ensures ∙ c.requires.outcomes.long in
     let few = c.requires.few in
     omega arith
 
-pub differs-mark-requires-clause-stride : goal.differs-mark-requires-clause-stride
-differs-mark-requires-clause-stride c =
+pub differs-requires-clause-stride : goal.differs-requires-clause-stride
+differs-requires-clause-stride c =
     let d = drop_below c.args.m.now.vars (c.args.v + 1) c.var_count.ensures.sizes in
     let is = c.lists_from-stride.ensures in
     let few = c.requires.few in
     omega arith
 
-pub differs-mark-requires-clause-long : goal.differs-mark-requires-clause-long
-differs-mark-requires-clause-long c =
+pub differs-requires-clause-long : goal.differs-requires-clause-long
+differs-requires-clause-long c =
     let codes = c.args.codes.now in
     let v = c.args.v in
     let column : c.as_slice-column.result.now ≡ get_or codes v [] =
     c.as_slice-column.ensures
     ∙ sym (get_or_from_slice_get codes v c.get.result.now [] c.get.ensures) in
     ap (λ (xs : List ℕ). length xs) column ∙ c.requires.variables.long v c.requires.var
-    ∙ sym c.requires.outcomes.long ∙ ap (λ (xs : List ℕ). length xs) (sym c.as_slice.ensures)
+    ∙ sym c.requires.outcomes.long ∙ ap (λ (xs : List ℕ). length xs) (sym c.as_slice-numbers.ensures)
 
-pub differs-mark-requires-clause-within : goal.differs-mark-requires-clause-within
-differs-mark-requires-clause-within c code lc =
+pub differs-requires-clause-within : goal.differs-requires-clause-within
+differs-requires-clause-within c code lc =
     let m = c.args.m.now in
     let v = c.args.v in
     let codes = c.args.codes.now in
@@ -55,10 +57,9 @@ loop-i-preserved c =
     let v = c.args.v in
     let i = c.loop-i.i in
     let codes = c.args.codes.now in
-    let old = c.loop-i.marks in
     let inv = c.loop-i.invariant in
-    let ok = c.in_ok-push.ensures.ok in
-    let li : i < product m.vars = let a = c.loop-i-test.true in let b = c.len-i-end.ensures in
+    let li : i < product m.vars = let a = c.loop-i-test.true in
+    let b = ap (λ (xs : List ℕ). length xs) c.as_slice-numbers.ensures in
     let d = c.requires.outcomes.long in omega arith in
     let column : c.as_slice-column.result.now ≡ get_or codes v [] =
     c.as_slice-column.ensures
@@ -68,18 +69,15 @@ loop-i-preserved c =
     ∙ c.requires.variables.code v i c.requires.var li in
     let size : c.get-size.result.now ≡ slice_index m.vars v =
     sym (get_or_from_slice_get m.vars v c.get-size.result.now 0 c.get-size.ensures) in
-    let are = subst (AreOutcomes m) (sym c.as_slice.ensures) c.requires.outcomes in
-    let mark : c.differs-mark.result ≡ matters m v i =
-    c.differs-mark.ensures ∙ matters_var m c.laws_below.ensures c.as_slice.result.now
+    let are = subst (AreOutcomes m) (sym c.as_slice-numbers.ensures) c.requires.outcomes in
+    let mark : matters m v i ≡ c.differs.result =
+    sym (c.differs.ensures ∙ matters_var m c.laws_below.ensures c.as_slice-numbers.result.now
     c.as_slice-column.result.now v i are c.requires.var li code c.lists_from-stride.result
-    c.lists_from-stride.ensures c.get-size.result.now size in
-    let at : matters m v i ≡ matters m v (length old) = ap (matters m v) (sym inv.long) in
-    let long = inv.long in
-    let more = length-append old (c.differs-mark.result ∷ []) in
-    record {
-      long = ap (λ (xs : List Bool). length xs) ok
-          ∙ (let e : length (old ++ c.differs-mark.result ∷ []) ≡ i + 1 = omega arith in e);
-      each = subst (λ (xs : List Bool). (k : ℕ) → k < i + 1 → get_or xs k false ≡ matters m v k)
-          (sym ok) (λ k lk. pushed false (λ (k : ℕ) (b : Bool). b ≡ matters m v k) old
-          c.differs-mark.result (λ k lk. inv.each k (omega arith)) (mark ∙ at) k (omega arith));
-    }
+    c.lists_from-stride.ensures c.get-size.result.now size) in
+    elim c.if-differs.branch [
+      | then-differs+in_ok-push w ↦
+          w.marks-is ∙ w.in_ok-push.ensures.ok ∙ ap (λ (xs : List ℕ). xs ++ i ∷ []) inv
+          ∙ sym (passes_more (matters m v) i true (mark ∙ w.if-differs.true))
+      | else-differs w ↦
+          w.marks-is ∙ inv ∙ sym (passes_not (matters m v) i (mark ∙ w.if-differs.false))
+    ]

@@ -6,6 +6,7 @@ mod Known
 mod Lists
 mod Narrowing
 mod Ones
+mod RowSets
 mod Rows
 mod Settled
 mod Starting

@@ -1,11 +1,8 @@
 -- Words on lists.
-use Rattle.std.proofs.Common.{◌≡◌, ◌==◌, ℕ, zero, suc, ◌+◌, ◌-◌, ◌<◌, cond, get_or, drop, slice_set, Bool, true, false, ◌&&◌, List, [], ◌∷◌, ◌++◌, map, flat_map, length, take, replicate, arith, slice_get, Some, refl, ap, sym, ◌∙◌}
-use Rattle.std.proofs.Math.Seq.{drop-cons}
+use Rattle.std.proofs.Common.{◌≡◌, ℕ, zero, suc, ◌+◌, ◌-◌, Bool, true, false, ◌&&◌, List, [], ◌∷◌, ◌++◌, map, flat_map, length, take, replicate, arith, slice_get, Some, refl, ap, sym, ◌∙◌}
 use Rattle.std.specs.List.{list_all}
 use Rattle.std.proofs.lemmas.Bool.{and_parts}
-use Rattle.std.proofs.lemmas.List.{map-append, append-nil, take_all, take_more, take_more_set, take-set}
-use Rattle.std.proofs.lemmas.List.Elements.{filter-append}
-use Rattle.std.specs.Prelude.{filter}
+use Rattle.std.proofs.lemmas.List.{map-append, append-nil, take_all}
 use Rattle.std.proofs.lemmas.Grind.{flat_map-append}
 use Rattle.polis_base.specs.Lists.{upto}
 
@@ -70,52 +67,3 @@ resized xs ys n len times item more long is =
     let left : n - len ≡ times = omega arith in
     is ∙ ap (λ (zs : List ℕ). zs ++ replicate (n - len) item) (take_all n xs (omega arith))
     ∙ ap (λ (k : ℕ). xs ++ replicate k item) left
-
--- one more item, put at the end of those that are kept: it stays where it passes
-pub next_kept : (p : ℕ → Bool) (xs rows : List ℕ) (count k bit : ℕ) → k < length rows
-    → count < length xs → bit < 2 → (bit == 1) ≡ p (get_or rows k 0)
-    → take count xs ≡ filter p (take k rows)
-    → take (count + bit) (slice_set xs count (get_or rows k 0)) ≡ filter p (take (k + 1) rows)
-next_kept p xs rows count k bit low room few same kept = by bit few same
-  where
-    r : ℕ
-    r = get_or rows k 0
-
-    more : filter p (take (k + 1) rows) ≡ filter p (take k rows) ++ cond (p r) (r ∷ []) []
-    more = ap (filter p) (take_more rows k 0 low) ∙ filter-append p (take k rows) (r ∷ [])
-
-    by : (b : ℕ) → b < 2 → (b == 1) ≡ p r
-        → take (count + b) (slice_set xs count r) ≡ filter p (take (k + 1) rows)
-    by zero few is = let e : count + zero ≡ count = omega arith in
-        ap (λ n. take n (slice_set xs count r)) e ∙ take-set xs count r ∙ kept
-        ∙ sym (more ∙ ap (λ b. filter p (take k rows) ++ cond b (r ∷ []) []) (sym is)
-        ∙ append-nil (filter p (take k rows)))
-    by (suc zero) few is = let e : count + suc zero ≡ count + 1 = omega arith in
-        ap (λ n. take n (slice_set xs count r)) e ∙ take_more_set xs count r room
-        ∙ ap (λ (ys : List ℕ). ys ++ r ∷ []) kept
-        ∙ sym (more ∙ ap (λ b. filter p (take k rows) ++ cond b (r ∷ []) []) (sym is))
-    by (suc (suc b)) few is = absurd (omega arith)
-
--- ---- the first item that passes
--- the next one does
-pub first_here : (p : ℕ → Bool) (rows all : List ℕ) (k : ℕ) → k < length rows
-    → filter p (drop k rows) ≡ all → p (get_or rows k 0) ≡ true
-    → slice_get all 0 ≡ Some (get_or rows k 0)
-first_here p rows all k low rest here =
-    let r : ℕ = get_or rows k 0 in
-    ap (λ (xs : List ℕ). slice_get xs 0) (sym rest)
-    ∙ ap (λ (xs : List ℕ). slice_get (filter p xs) 0) (drop-cons rows k 0 low)
-    ∙ ap (λ b. slice_get (cond b (r ∷ filter p (drop (suc k) rows)) (filter p (drop (suc k) rows)))
-    0) here
-
--- the next one doesn't
-pub first_later : (p : ℕ → Bool) (rows all : List ℕ) (k : ℕ) → k < length rows
-    → filter p (drop k rows) ≡ all → p (get_or rows k 0) ≡ false
-    → filter p (drop (k + 1) rows) ≡ all
-first_later p rows all k low rest off =
-    let r : ℕ = get_or rows k 0 in
-    let e : k + 1 ≡ suc k = omega arith in
-    ap (λ n. filter p (drop n rows)) e
-    ∙ sym (ap (filter p) (drop-cons rows k 0 low)
-    ∙ ap (λ b. cond b (r ∷ filter p (drop (suc k) rows)) (filter p (drop (suc k) rows))) off)
-    ∙ rest

@@ -10,11 +10,12 @@ use Rattle.transition_table.specs.Transitions.{allows}
 use Rattle.transition_table.specs.declared.machine.Machine.{Machine}
 use Rattle.transition_table.specs.declared.row.Cond.{Cond}
 use Rattle.transition_table.specs.declared.row.Row.{Row}
-use Rattle.outcome_table.specs.Masks.{allows_code, AreMasks}
+use Rattle.outcome_table.specs.Masks.{allows_code}
+use Rattle.outcome_table.specs.RowSets.{IsSetOf, has_row}
 use Rattle.outcome_table.specs.Numbering.{may_hold, may_be_enabled, rows_left}
 use Rattle.outcome_table.proofs.Lists.{all_both}
 
-not_below : (a b : ℕ) → b ≤ a → nat_lt a b ≡ false
+pub not_below : (a b : ℕ) → b ≤ a → nat_lt a b ≡ false
 not_below a b h = off (nat_lt a b) refl
   where
     off : (t : Bool) → nat_lt a b ≡ t → nat_lt a b ≡ false
@@ -108,27 +109,24 @@ filter_places {X = X} p q keep n (x ∷ xs) each =
         (filter keep (places_from (n + 1) p xs))) first
     one false = refl
 
--- the rows that are left are narrowed by the codes that they allow
-pub narrowed : (m : Machine) (sets fixed rows : List ℕ) (at code : ℕ)
-    → AreMasks m.vars m.rows at sets → at ≡ length fixed → code < slice_index m.vars at
-    → rows ≡ rows_left m fixed
-    → filter (λ r. bit_at (slice_index sets r) code == 1) rows ≡ rows_left m (fixed ++ code ∷ [])
-narrowed m sets fixed rows at code masks here small is =
-    ap (filter (λ r. bit_at (slice_index sets r) code == 1)) is
+-- the rows that are left are narrowed by the rows that allow a code
+pub narrowed : (m : Machine) (set fixed rows : List ℕ) (at code : ℕ) → IsSetOf m at code set
+    → at ≡ length fixed → code < slice_index m.vars at → rows ≡ rows_left m fixed
+    → filter (has_row set) rows ≡ rows_left m (fixed ++ code ∷ [])
+narrowed m set fixed rows at code allowed here small is =
+    ap (filter (has_row set)) is
     ∙ filter_places (may_be_enabled fixed)
-    (λ row. list_all (allows_code (length fixed) code) row.conds)
-    (λ r. bit_at (slice_index sets r) code == 1) 0 m.rows each
+    (λ row. list_all (allows_code (length fixed) code) row.conds) (has_row set) 0 m.rows each
     ∙ places_same (λ row. may_be_enabled fixed row
     && list_all (allows_code (length fixed) code) row.conds)
     (may_be_enabled (fixed ++ code ∷ [])) 0 m.rows (λ row. sym (enabled_more fixed code row))
   where
     each : (i : ℕ) (row : Row) → slice_get m.rows i ≡ Some row
-        → (bit_at (slice_index sets (0 + i)) code == 1)
-        ≡ list_all (allows_code (length fixed) code) row.conds
+        → has_row set (0 + i) ≡ list_all (allows_code (length fixed) code) row.conds
     each i row get =
         let e : 0 + i ≡ i = omega arith in
-        ap (λ k. bit_at (slice_index sets k) code == 1) e
-        ∙ masks.each i row get code
+        ap (has_row set) e
+        ∙ allowed.each i row get
         ∙ ap (λ b. b && list_all (allows_code at code) row.conds)
         (lt-ltb code (slice_index m.vars at) small)
         ∙ ap (λ k. list_all (allows_code k code) row.conds) here
@@ -162,7 +160,7 @@ places_below p n k (x ∷ xs) most =
         ∙ rest
     one false low rest = rest
 
-pub left_below : (m : Machine) (fixed rows : List ℕ) (k : ℕ) → rows ≡ rows_left m fixed
+left_below : (m : Machine) (fixed rows : List ℕ) (k : ℕ) → rows ≡ rows_left m fixed
     → k ≡ length m.rows → list_all (λ r. nat_lt r k) rows ≡ true
 left_below m fixed rows k is whole =
     ap (list_all (λ r. nat_lt r k)) is

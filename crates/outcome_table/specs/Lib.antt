@@ -3,3 +3,4 @@ pub mod Masks
 pub mod Needs
 pub mod Numbering
 pub mod Outcomes
+pub mod RowSets

@@ -1,5 +1,5 @@
 -- The codes of each variable that a row allows, as sets of bits.
-use Rattle.std.specs.Prelude.{◌≡◌, ℕ, ◌<◌, Bool, not, ◌&&◌, ◌||◌, ◌==◌, nat_lt, List, [], length, slice_get, slice_index, get_or, Some}
+use Rattle.std.specs.Prelude.{◌≡◌, ℕ, Bool, not, ◌&&◌, ◌||◌, ◌==◌, nat_lt, List, length, slice_get, slice_index, Some}
 use Rattle.std.specs.List.{list_all}
 use Rattle.std.specs.Int.{bit_at}
 use Rattle.transition_table.specs.declared.row.Cond.{Cond}
@@ -23,8 +23,3 @@ pub record AreMasks (vars : List ℕ) (rows : List Row) (var : ℕ) (masks : Lis
   pub long : length masks ≡ length rows
   pub each : (r : ℕ) (row : Row) → slice_get rows r ≡ Some row
       → IsMask vars row var (slice_index masks r)
-
--- and these for each variable
-pub record IsMaskTable (vars : List ℕ) (rows : List Row) (table : List (List ℕ)) : Type 0 where
-  pub long : length table ≡ length vars
-  pub each : (var : ℕ) → var < length vars → AreMasks vars rows var (get_or table var [])

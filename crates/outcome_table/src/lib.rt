@@ -7,6 +7,7 @@ mod need;
 mod number;
 mod outcomes;
 mod row;
+mod row_set;
 mod table;
 
 pub use column::lists_from;

@@ -1,9 +1,11 @@
-// The codes that rows allow, as one set for each variable and row, made once.
+// The codes that rows allow, and the rows that allow a code, as sets that are made once.
 ghost use Rattle.std.specs.Prelude.{◌≡◌, ◌<◌, ◌≤◌, ◌&&◌, ◌==◌, ℕ, nat_lt, length, IfOk, IsTrue};
 ghost use Rattle.std.specs.List.{list_all};
 ghost use Rattle.std.specs.Int.{bit_at};
-ghost use Rattle.outcome_table.specs.Masks.{allows_code, IsMask, AreMasks, IsMaskTable};
+ghost use Rattle.outcome_table.specs.Masks.{allows_code, IsMask, AreMasks};
+ghost use Rattle.outcome_table.specs.RowSets.{AreAllowed, AreSets};
 
+use crate::row_set::{RowSet, rows_with};
 use polis_base::{List, NoMemory};
 use std::alloc::Global;
 use transition_table::{Cond, Machine, Row};
@@ -57,13 +59,29 @@ fn masks_of(alloc: Global, machine: &Machine, var: u32) -> Result<CodeSets, NoMe
     Ok(masks)
 }
 
-/// For each variable the codes of it that each row allows.
-pub(crate) fn mask_table(alloc: Global, machine: &Machine) -> Result<List<CodeSets>, NoMemory>
-    ensures { IfOk result (IsMaskTable machine.now.vars machine.now.rows) }
+// For each code of a variable the rows that allow it.
+fn sets_of(alloc: Global, machine: &Machine, var: u32) -> Result<List<RowSet>, NoMemory>
+    requires { var < length machine.now.vars }
+    ensures { IfOk result (AreSets machine.now var) }
+{
+    let masks = masks_of(alloc, machine, var)?;
+    let mut sets = List::new(alloc);
+    for code in 0..*machine.vars.get(u64::from(var)) {
+        sets.push(rows_with(&masks, code))?;
+    }
+    Ok(sets)
+}
+
+/// For each variable and code of it the rows that allow the code.
+pub(crate) fn allowed_table(
+    alloc: Global,
+    machine: &Machine,
+) -> Result<List<List<RowSet>>, NoMemory>
+    ensures { IfOk result (AreAllowed machine.now) }
 {
     let mut table = List::new(alloc);
     for var in 0..machine.vars.len() {
-        table.push(masks_of(alloc, machine, var as u32)?)?;
+        table.push(sets_of(alloc, machine, var as u32)?)?;
     }
     Ok(table)
 }

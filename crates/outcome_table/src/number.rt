@@ -1,21 +1,20 @@
 // Numbers for the outcomes of all snapshots.
-ghost use Rattle.std.specs.Prelude.{◌≡◌, ◌<◌, ◌≤◌, ◌==◌, ℕ, nat_lt, map, length, take, drop, filter, slice_index, slice_set, replicate, ◌++◌, [], slice_get, IfOk, IfSome, IsTrue};
+ghost use Rattle.std.specs.Prelude.{◌≡◌, ◌<◌, ◌≤◌, map, length, take, drop, replicate, ◌++◌, [], slice_get, IfOk, IfSome};
 ghost use Rattle.std.specs.List.{list_all};
-ghost use Rattle.std.specs.Int.{bit_at};
 ghost use Rattle.domains.specs.AllCodes.{all_codes};
 ghost use Rattle.transition_table.specs.Transitions.{IsSnapshot};
-ghost use Rattle.polis_base.specs.Lists.{upto};
-ghost use Rattle.outcome_table.specs.Masks.{IsMaskTable};
 ghost use Rattle.outcome_table.specs.Needs.{AreEnds, end_left};
 ghost use Rattle.outcome_table.specs.Numbering.{Adds, AreCounts, AreRowOutcomes, BeginWithRows, IsNumberAfter, is_fixed, lists_after, rows_left};
 ghost use Rattle.outcome_table.specs.Outcomes.{named, are_named};
+ghost use Rattle.outcome_table.specs.RowSets.{AreAllowed, rows_in};
 ghost use Rattle.transition_table.specs.Computed.{result_codes};
 
 use crate::column::lists_from;
-use crate::mask::{CodeSets, mask_table};
+use crate::mask::allowed_table;
 use crate::need::ends_of;
 use crate::outcomes::Outcomes;
 use crate::row::{are_codes, blank_codes, row_codes};
+use crate::row_set::{RowSet, both, first_of_both, first_rows};
 use domains::{Codes, first_codes};
 use polis_base::{List, NoMemory, Places};
 use std::alloc::Global;
@@ -33,91 +32,15 @@ pub(crate) struct Numbered {
 // What stays while rows are narrowed.
 #[derive(Clone, Copy)]
 struct Narrowing<'a> {
-    alloc: Global,
     machine: &'a Machine,
-    // for each variable and row the codes that the row allows
-    masks: &'a List<CodeSets>,
+    // for each variable and code the rows that allow the code
+    allowed: &'a List<List<RowSet>>,
     // for each row whether its outcome is the same on all snapshots
     fixed: &'a List<bool>,
     // for each row how many variables from the first on it needs
     ends: &'a Places,
     // for each variable how many lists of codes there are of those from it on
     counts: &'a Places,
-}
-
-// Makes a list at least so long.
-fn lengthen(list: &mut Vec<u64>, len: usize) -> Result<(), NoMemory>
-    ensures { IfOk result (λ done. len ≤ length list.new.items) }
-{
-    if list.len() < len {
-        list.resize(len, 0)?;
-    }
-    Ok(())
-}
-
-// Puts a row into a list in place of another.
-fn put(list: &mut Vec<u64>, at: usize, row: u64)
-    requires { at < length list.old.items }
-    ensures { list.new.items ≡ slice_set list.old.items at row }
-{
-    list[at] = row;
-}
-
-// Puts those of the rows that allow a code of a variable at the start of a list, and says how many
-// they are. Each row is put, and the next one over it where it isn't kept: a test for each row
-// would take longer.
-fn allowing(
-    masks: &CodeSets,
-    rows: &[u64],
-    code: u8,
-    kept: &mut Vec<u64>,
-) -> Result<usize, NoMemory>
-    requires rows { IsTrue (list_all (λ r. nat_lt r (length masks.now)) rows.now) }
-    requires code { code < 64 }
-    ensures within { IfOk result (λ count. count ≤ length kept.new.items) }
-    ensures rows { IfOk result (λ count. take count kept.new.items
-        ≡ filter (λ r. bit_at (slice_index masks.now r) code == 1) rows.now) }
-{
-    lengthen(kept, rows.len())?;
-    let mut count = 0;
-    for r in rows {
-        put(kept, count, *r);
-        count += ((*masks.get(*r) >> code) % 2) as usize;
-    }
-    Ok(count)
-}
-
-// A list that is no longer used, or a new one.
-fn spare_list(alloc: Global, spare: &mut Vec<Vec<u64>>) -> Vec<u64> {
-    match spare.pop() {
-        Some(list) => list,
-        None => Vec::new(alloc),
-    }
-}
-
-// The first of the rows.
-fn first_of(rows: &[u64]) -> Option<u64>
-    ensures { result ≡ slice_get rows.now 0 }
-{
-    match rows.split_first() {
-        Some((r, _)) => Some(*r),
-        None => None,
-    }
-}
-
-// The first of the rows that allow a code of a variable.
-fn first_allowing(masks: &CodeSets, rows: &[u64], code: u8) -> Option<u64>
-    requires rows { IsTrue (list_all (λ r. nat_lt r (length masks.now)) rows.now) }
-    requires code { code < 64 }
-    ensures { result ≡ slice_get
-        (filter (λ r. bit_at (slice_index masks.now r) code == 1) rows.now) 0 }
-{
-    for r in rows {
-        if (*masks.get(*r) >> code) % 2 == 1 {
-            return Some(*r);
-        }
-    }
-    None
 }
 
 // How many variables a row needs, none where there is no row.
@@ -212,20 +135,18 @@ fn number_all(
 
 // Numbers the outcomes of all snapshots that have the codes of the variables before one, given the
 // rows whose conditions on these hold. Where the first row that allows a code needs no later
-// variable, the others aren't looked for. Lists that are no longer used are kept for the next ones.
+// variable, the others aren't looked for.
 fn number_rest(
     narrowing: &Narrowing,
-    rows: &[u64],
+    rows: &RowSet,
     at: u64,
     s: &mut Snapshot,
     made: &mut Numbered,
-    spare: &mut Vec<Vec<u64>>,
 ) -> Result<(), NoMemory>
     requires at { at < length narrowing.now.machine.now.vars }
     requires snapshot { IsSnapshot narrowing.now.machine.now s.old }
-    requires rows { rows.now ≡ rows_left narrowing.now.machine.now (take at s.old.codes) }
-    requires masks { IsMaskTable narrowing.now.machine.now.vars narrowing.now.machine.now.rows
-        narrowing.now.masks.now }
+    requires rows { rows_in rows.now ≡ rows_left narrowing.now.machine.now (take at s.old.codes) }
+    requires allowed { AreAllowed narrowing.now.machine.now narrowing.now.allowed.now }
     requires begins { BeginWithRows narrowing.now.machine.now narrowing.now.fixed.now
         made.old.outcomes }
     requires within { are_named made.old.outcomes made.old.numbers.items }
@@ -237,33 +158,30 @@ fn number_rest(
     ensures snapshot { IfOk result (λ done. IsSnapshot narrowing.now.machine.now s.new) }
     ensures kept { IfOk result (λ done. take at s.new.codes ≡ take at s.old.codes) }
 {
-    let masks = narrowing.masks.get(at);
-    let mut left = spare_list(narrowing.alloc, spare);
+    let sets = narrowing.allowed.get(at);
     for code in 0..*narrowing.machine.vars.get(at) {
         s.codes.set(at, code);
-        let first = first_allowing(masks, rows, code);
+        let allowed = sets.get(u64::from(code));
+        let first = first_of_both(rows, allowed);
         if end_left(narrowing, first) <= at + 1 {
             number_all(narrowing, first, at + 1, s, made)?;
             continue;
         }
-        let count = allowing(masks, rows, code, &mut left)?;
-        number_rest(narrowing, &left[..count], at + 1, s, made, spare)?;
+        number_rest(narrowing, &both(rows, allowed), at + 1, s, made)?;
     }
-    spare.push(left)?;
     Ok(())
 }
 
 // Numbers the outcomes of all snapshots, given all rows.
 fn number_every(
     narrowing: &Narrowing,
-    rows: &[u64],
+    rows: &RowSet,
     s: &mut Snapshot,
     made: &mut Numbered,
 ) -> Result<(), NoMemory>
     requires snapshot { IsSnapshot narrowing.now.machine.now s.old }
-    requires rows { rows.now ≡ rows_left narrowing.now.machine.now [] }
-    requires masks { IsMaskTable narrowing.now.machine.now.vars narrowing.now.machine.now.rows
-        narrowing.now.masks.now }
+    requires rows { rows_in rows.now ≡ rows_left narrowing.now.machine.now [] }
+    requires allowed { AreAllowed narrowing.now.machine.now narrowing.now.allowed.now }
     requires begins { BeginWithRows narrowing.now.machine.now narrowing.now.fixed.now
         made.old.outcomes }
     requires within { are_named made.old.outcomes made.old.numbers.items }
@@ -272,13 +190,12 @@ fn number_every(
     ensures { IfOk result (λ done. Adds narrowing.now.machine.now made.old made.new
         (lists_after [] narrowing.now.machine.now.vars)) }
 {
-    let first = first_of(rows);
+    let first = first_of_both(rows, rows);
     if end_left(narrowing, first) == 0 {
         number_all(narrowing, first, 0, s, made)?;
         return Ok(());
     }
-    let mut spare = Vec::new(narrowing.alloc);
-    number_rest(narrowing, rows, 0, s, made, &mut spare)?;
+    number_rest(narrowing, rows, 0, s, made)?;
     Ok(())
 }
 
@@ -307,17 +224,6 @@ fn fixed_rows(alloc: Global, m: &Machine) -> Result<List<bool>, NoMemory>
     Ok(fixed)
 }
 
-// The numbers below a bound.
-fn numbers_below(alloc: Global, bound: u64) -> Result<Places, NoMemory>
-    ensures { IfOk result (λ list. list ≡ upto bound) }
-{
-    let mut list = List::new(alloc);
-    for i in 0..bound {
-        list.push(i)?;
-    }
-    Ok(list)
-}
-
 // For each variable, and after the last one, how many lists of codes there are of those from it on.
 fn counts_of(alloc: Global, m: &Machine) -> Result<Places, NoMemory>
     ensures { IfOk result (AreCounts m.now.vars) }
@@ -338,7 +244,7 @@ pub(crate) fn numbers_of(alloc: Global, m: &Machine) -> Result<Numbered, NoMemor
     let mut s = Snapshot {
         codes: first_codes(alloc, &m.vars)?,
     };
-    let masks = mask_table(alloc, m)?;
+    let allowed = allowed_table(alloc, m)?;
     let fixed = fixed_rows(alloc, m)?;
     let ends = ends_of(alloc, m)?;
     let counts = counts_of(alloc, m)?;
@@ -346,15 +252,14 @@ pub(crate) fn numbers_of(alloc: Global, m: &Machine) -> Result<Numbered, NoMemor
         numbers: Vec::with_capacity(alloc, *counts.get(0) as usize)?,
         outcomes: Outcomes::of(alloc, row_outcomes(alloc, m, &s)?),
     };
-    let rows = numbers_below(alloc, m.rows.len())?;
+    let rows = first_rows(m.rows.len());
     let narrowing = Narrowing {
-        alloc,
         machine: m,
-        masks: &masks,
+        allowed: &allowed,
         fixed: &fixed,
         ends: &ends,
         counts: &counts,
     };
-    number_every(&narrowing, rows.as_slice(), &mut s, &mut made)?;
+    number_every(&narrowing, &rows, &mut s, &mut made)?;
     Ok(made)
 }

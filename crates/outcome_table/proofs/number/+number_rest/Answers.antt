@@ -1,18 +1,17 @@
-use Rattle.std.proofs.Common.{◌≡◌, ◌∙◌, ◌+◌, ◌<◌, ◌≤◌, ◌++◌, ◌∷◌, ◌==◌, [], ℕ, suc, true, List, length, take, drop, flat_map, slice_get, slice_index, slice_set, Some, arith, ap, sym, subst}
+use Rattle.std.proofs.Common.{◌≡◌, ◌∙◌, ◌+◌, ◌<◌, ◌≤◌, ◌++◌, ◌∷◌, [], ℕ, suc, true, List, length, take, drop, flat_map, slice_get, slice_index, slice_set, Some, arith, ap, sym, subst}
 use Rattle.std.specs.Prelude.{filter}
-use Rattle.std.specs.Int.{bit_at}
 use Rattle.std.proofs.Math.Seq.{drop-cons}
 use Rattle.std.proofs.lemmas.List.{length-take-le, take_more_set, take-set}
-use Rattle.std.proofs.lemmas.Option.{get_or_from_slice_get}
+use Rattle.std.proofs.lemmas.Option.{get_or_from_slice_get, slice_get_within}
 use Rattle.polis_base.specs.Lists.{upto}
 use Rattle.domains.specs.Tables.{fits}
 use Rattle.transition_table.specs.declared.machine.Machine.{Machine}
-use Rattle.outcome_table.specs.Masks.{AreMasks, IsMaskTable}
 use Rattle.outcome_table.specs.Numbering.{Adds, lists_after, rows_left}
+use Rattle.outcome_table.specs.RowSets.{AreAllowed, AreSets, IsSetOf, has_row, rows_in}
 use Rattle.outcome_table.specs.declared.number.Numbered.{Numbered}
 use Rattle.outcome_table.proofs.Counting.{adds_on, begins_kept, lists_split, take_less}
 use Rattle.outcome_table.proofs.Lists.{flat_upto}
-use Rattle.outcome_table.proofs.Narrowing.{first_below, left_below, narrowed}
+use Rattle.outcome_table.proofs.Narrowing.{first_below, narrowed}
 use Rattle.outcome_table.proofs.Rows.{fits_long, fits_set}
 use Rattle.outcome_table.proofs.Ones.{machine_sizes, size_at}
 use Rattle.outcome_table.proofs.number.+number_rest.Goals as goal
@@ -46,19 +45,21 @@ turn m s cur at code size low fit_s fit_cur kept get less =
     }
 
 -- the rows that are left for one more code
-left_next : (m : Machine) (table : List (List ℕ)) (masks s cur new rows : List ℕ)
-    (at code size : ℕ) → Turn m s cur at code size → IsMaskTable m.vars m.rows table
-    → slice_get table at ≡ Some masks → rows ≡ rows_left m (take at s)
-    → new ≡ slice_set cur at code
-    → filter (λ r. bit_at (slice_index masks r) code == 1) rows ≡ rows_left m (take (at + 1) new)
-left_next m table masks s cur new rows at code size u all get left is =
+left_next : (m : Machine) (table : List (List (List ℕ))) (sets : List (List ℕ))
+    (set s cur new rows : List ℕ) (at code size : ℕ) → Turn m s cur at code size
+    → AreAllowed m table → slice_get table at ≡ Some sets → slice_get sets code ≡ Some set
+    → rows ≡ rows_left m (take at s) → new ≡ slice_set cur at code
+    → filter (has_row set) rows ≡ rows_left m (take (at + 1) new)
+left_next m table sets set s cur new rows at code size u all get own left is =
     let low = u.low in
     let long = u.long in
-    let allowed : AreMasks m.vars m.rows at masks =
-    subst (λ (sets : List ℕ). AreMasks m.vars m.rows at sets)
-    (get_or_from_slice_get table at masks [] get) (all.each at low) in
+    let of_var : AreSets m at sets =
+    subst (AreSets m at) (get_or_from_slice_get table at sets [] get) (all.each at low) in
+    let of_code : IsSetOf m at code set =
+    subst (IsSetOf m at code) (get_or_from_slice_get sets code set [] own)
+    (of_var.each code (slice_get_within sets code set own)) in
     let prefix : at ≡ length (take at s) = sym (length-take-le at s (omega arith)) in
-    narrowed m masks (take at s) rows at code allowed prefix u.below left
+    narrowed m set (take at s) rows at code of_code prefix u.below left
     ∙ ap (rows_left m) (sym u.fixed)
     ∙ ap (λ (xs : List ℕ). rows_left m (take (at + 1) xs)) (sym is)
 
@@ -90,38 +91,41 @@ set-requires t c =
     let b = u.long_cur in
     omega arith
 
-pub first_allowing-first-requires-clause-rows : goal.first_allowing-first-requires-clause-rows
-first_allowing-first-requires-clause-rows t c =
-    left_below c.args.narrowing.now.machine.now (take c.args.at c.args.s.now.codes)
-    c.args.rows.now (length c.get-masks.result.now) c.requires.rows
-    (rw (get_or_from_slice_get c.args.narrowing.now.masks.now c.args.at c.get-masks.result.now []
-    c.get-masks.ensures) at (c.requires.masks.each c.args.at c.requires.at).long)
-
-pub first_allowing-first-requires-clause-code : goal.first_allowing-first-requires-clause-code
-first_allowing-first-requires-clause-code t c =
-    (turn c.args.narrowing.now.machine.now c.args.s.now.codes c.loop-code.s.codes c.args.at
+pub get-allowed-requires : goal.get-allowed-requires
+get-allowed-requires t c =
+    let m = c.args.narrowing.now.machine.now in
+    let at = c.args.at in
+    let sets = c.get-sets.result.now in
+    let u = turn c.args.narrowing.now.machine.now c.args.s.now.codes c.loop-code.s.codes c.args.at
     c.loop-code.code c.get-code-end.result.now c.requires.at c.requires.snapshot
     c.loop-code.invariant.snapshot
-    c.loop-code.invariant.kept c.get-code-end.ensures c.loop-code-test.true).few
+    c.loop-code.invariant.kept c.get-code-end.ensures c.loop-code-test.true in
+    let of_var : AreSets m at sets =
+    subst (AreSets m at)
+    (get_or_from_slice_get c.args.narrowing.now.allowed.now at sets [] c.get-sets.ensures)
+    (c.requires.allowed.each at c.requires.at) in
+    let long = of_var.long in
+    let below = u.below in
+    rw c.from.ensures (omega arith)
 
 pub end_left-requires-clause-first : goal.end_left-requires-clause-first
 end_left-requires-clause-first t c =
     let m = c.args.narrowing.now.machine.now in
     let s = c.args.s.now.codes in
-    let masks : List ℕ = c.get-masks.result.now in
     let at = c.args.at in
     let code = c.loop-code.code in
     let u = turn c.args.narrowing.now.machine.now c.args.s.now.codes c.loop-code.s.codes c.args.at
     c.loop-code.code c.get-code-end.result.now c.requires.at c.requires.snapshot
     c.loop-code.invariant.snapshot
     c.loop-code.invariant.kept c.get-code-end.ensures c.loop-code-test.true in
-    let next = left_next m c.args.narrowing.now.masks.now masks s c.loop-code.s.codes c.set.new.self
-    c.args.rows.now at code c.get-code-end.result.now u c.requires.masks c.get-masks.ensures
-    c.requires.rows c.set.ensures in
-    let first : c.first_allowing-first.result
+    let next = left_next m c.args.narrowing.now.allowed.now c.get-sets.result.now
+    c.get-allowed.result.now s c.loop-code.s.codes c.set.new.self (rows_in c.args.rows.now) at code
+    c.get-code-end.result.now u c.requires.allowed c.get-sets.ensures
+    (rw c.from.ensures at c.get-allowed.ensures) c.requires.rows c.set.ensures in
+    let first : c.first_of_both-first.result
     ≡ slice_get (rows_left m (take (at + 1) c.set.new.self)) 0 =
-    c.first_allowing-first.ensures ∙ ap (λ (xs : List ℕ). slice_get xs 0) next in
-    first_below m (take (at + 1) c.set.new.self) c.first_allowing-first.result
+    c.first_of_both-first.ensures ∙ ap (λ (xs : List ℕ). slice_get xs 0) next in
+    first_below m (take (at + 1) c.set.new.self) c.first_of_both-first.result
     (length c.args.narrowing.now.ends.now) first c.requires.ends.long
 
 pub number_all-requires-clause-snapshot : goal.number_all-requires-clause-snapshot
@@ -136,19 +140,19 @@ pub number_all-requires-clause-first : goal.number_all-requires-clause-first
 number_all-requires-clause-first t c =
     let m = c.args.narrowing.now.machine.now in
     let s = c.args.s.now.codes in
-    let masks : List ℕ = c.get-masks.result.now in
     let at = c.args.at in
     let code = c.loop-code.code in
     let u = turn c.args.narrowing.now.machine.now c.args.s.now.codes c.loop-code.s.codes c.args.at
     c.loop-code.code c.get-code-end.result.now c.requires.at c.requires.snapshot
     c.loop-code.invariant.snapshot
     c.loop-code.invariant.kept c.get-code-end.ensures c.loop-code-test.true in
-    let next = left_next m c.args.narrowing.now.masks.now masks s c.loop-code.s.codes c.set.new.self
-    c.args.rows.now at code c.get-code-end.result.now u c.requires.masks c.get-masks.ensures
-    c.requires.rows c.set.ensures in
-    let first : c.first_allowing-first.result
+    let next = left_next m c.args.narrowing.now.allowed.now c.get-sets.result.now
+    c.get-allowed.result.now s c.loop-code.s.codes c.set.new.self (rows_in c.args.rows.now) at code
+    c.get-code-end.result.now u c.requires.allowed c.get-sets.ensures
+    (rw c.from.ensures at c.get-allowed.ensures) c.requires.rows c.set.ensures in
+    let first : c.first_of_both-first.result
     ≡ slice_get (rows_left m (take (at + 1) c.set.new.self)) 0 =
-    c.first_allowing-first.ensures ∙ ap (λ (xs : List ℕ). slice_get xs 0) next in
+    c.first_of_both-first.ensures ∙ ap (λ (xs : List ℕ). slice_get xs 0) next in
     first
 
 pub number_all-requires-clause-begins : goal.number_all-requires-clause-begins
@@ -160,7 +164,6 @@ pub loop-code-preserved-then-end_left-at : goal.loop-code-preserved-then-end_lef
 loop-code-preserved-then-end_left-at t c =
     let m = c.args.narrowing.now.machine.now in
     let s = c.args.s.now.codes in
-    let masks : List ℕ = c.get-masks.result.now in
     let at = c.args.at in
     let code = c.loop-code.code in
     let u = turn c.args.narrowing.now.machine.now c.args.s.now.codes c.loop-code.s.codes c.args.at
@@ -177,39 +180,22 @@ loop-code-preserved-then-end_left-at t c =
       kept = ap (take at) c.set.ensures ∙ take-set cur at code ∙ c.loop-code.invariant.kept;
     }
 
-pub allowing-requires-clause-rows : goal.allowing-requires-clause-rows
-allowing-requires-clause-rows t c =
-    left_below c.args.narrowing.now.machine.now (take c.args.at c.args.s.now.codes)
-    c.args.rows.now (length c.get-masks.result.now) c.requires.rows
-    (rw (get_or_from_slice_get c.args.narrowing.now.masks.now c.args.at c.get-masks.result.now []
-    c.get-masks.ensures) at (c.requires.masks.each c.args.at c.requires.at).long)
-
-pub allowing-requires-clause-code : goal.allowing-requires-clause-code
-allowing-requires-clause-code t c =
-    (turn c.args.narrowing.now.machine.now c.args.s.now.codes c.loop-code.s.codes c.args.at
-    c.loop-code.code c.get-code-end.result.now c.requires.at c.requires.snapshot
-    c.loop-code.invariant.snapshot
-    c.loop-code.invariant.kept c.get-code-end.ensures c.loop-code-test.true).few
-
 pub number_rest-requires : goal.number_rest-requires
 number_rest-requires t c =
     let m = c.args.narrowing.now.machine.now in
     let s = c.args.s.now.codes in
-    let masks : List ℕ = c.get-masks.result.now in
     let at = c.args.at in
     let code = c.loop-code.code in
     let u = turn c.args.narrowing.now.machine.now c.args.s.now.codes c.loop-code.s.codes c.args.at
     c.loop-code.code c.get-code-end.result.now c.requires.at c.requires.snapshot
     c.loop-code.invariant.snapshot
     c.loop-code.invariant.kept c.get-code-end.ensures c.loop-code-test.true in
-    let next = left_next m c.args.narrowing.now.masks.now masks s c.loop-code.s.codes c.set.new.self
-    c.args.rows.now at code c.get-code-end.result.now u c.requires.masks c.get-masks.ensures
-    c.requires.rows c.set.ensures in
-    let left : take c.in_ok-count.count c.deref.result.now
-    ≡ rows_left m (take (at + 1) c.set.new.self) =
-    ap (take c.in_ok-count.count) c.deref.ensures.value
-    ∙ c.in_ok-count.ensures.rows
-    ∙ next in
+    let next = left_next m c.args.narrowing.now.allowed.now c.get-sets.result.now
+    c.get-allowed.result.now s c.loop-code.s.codes c.set.new.self (rows_in c.args.rows.now) at code
+    c.get-code-end.result.now u c.requires.allowed c.get-sets.ensures
+    (rw c.from.ensures at c.get-allowed.ensures) c.requires.rows c.set.ensures in
+    let left : rows_in c.both.result ≡ rows_left m (take (at + 1) c.set.new.self) =
+    c.both.ensures ∙ next in
     let within = c.end_left.ensures.within in
     let more = c.if-end_left-at.false in
     let d = c.decreases in (
@@ -221,7 +207,7 @@ number_rest-requires t c =
           (
             left,
             (
-              c.requires.masks,
+              c.requires.allowed,
               (
                 begins_kept m c.args.narrowing.now.fixed.now c.args.made.now.outcomes
                     c.loop-code.made.outcomes c.requires.begins c.loop-code.invariant.adds.kept,
@@ -237,7 +223,6 @@ pub loop-code-preserved : goal.loop-code-preserved
 loop-code-preserved t c =
     let m = c.args.narrowing.now.machine.now in
     let s = c.args.s.now.codes in
-    let masks : List ℕ = c.get-masks.result.now in
     let at = c.args.at in
     let code = c.loop-code.code in
     let u = turn c.args.narrowing.now.machine.now c.args.s.now.codes c.loop-code.s.codes c.args.at

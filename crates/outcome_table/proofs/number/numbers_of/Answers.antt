@@ -1,15 +1,23 @@
-use Rattle.std.proofs.Common.{◌∙◌, ◌++◌, List, [], ℕ, map, ap}
+use Rattle.std.proofs.Common.{◌∙◌, ◌++◌, List, [], ℕ, map, arith, ap}
 use Rattle.transition_table.specs.Computed.{result_codes}
 use Rattle.outcome_table.specs.Numbering.{lists_after}
 use Rattle.outcome_table.specs.Outcomes.{named}
+use Rattle.outcome_table.specs.RowSets.{rows_in}
 use Rattle.outcome_table.proofs.Counting.{lists_all}
+use Rattle.outcome_table.proofs.Rows.{few_rows}
 use Rattle.outcome_table.proofs.Starting.{all_rows, begin}
 use Rattle.outcome_table.proofs.number.numbers_of.Goals as goal
 
+pub first_rows-rows-requires : goal.first_rows-rows-requires
+first_rows-rows-requires c =
+    let few = few_rows c.args.m.now in
+    let long = c.len.ensures in
+    omega arith
+
 pub number_every-requires-clause-rows : goal.number_every-requires-clause-rows
 number_every-requires-clause-rows c =
-    c.as_slice.ensures
-    ∙ all_rows c.args.m.now c.in_ok-rows.rows c.len.result c.in_ok-rows.ensures c.len.ensures
+    all_rows c.args.m.now (rows_in c.first_rows-rows.result) c.len.result c.first_rows-rows.ensures
+    c.len.ensures
 
 pub number_every-requires-clause-begins : goal.number_every-requires-clause-begins
 number_every-requires-clause-begins c =

@@ -1,10 +1,10 @@
 use Rattle.std.proofs.Common.{◌≡◌, ◌<◌, ℕ, [], length, get_or}
-use Rattle.outcome_table.specs.Masks.{AreMasks}
-use Rattle.outcome_table.proofs.mask.mask_table.Given as goal
+use Rattle.outcome_table.specs.RowSets.{AreSets}
+use Rattle.outcome_table.proofs.mask.allowed_table.Given as goal
 
 -- the variables before this one
 abbrev pub invariant-loop-var : goal.invariant-loop-var
 invariant-loop-var l = record {
   long : length l.table ≡ l.var;
-  each : (k : ℕ) → k < l.var → AreMasks l.machine.vars l.machine.rows k (get_or l.table k []);
+  each : (k : ℕ) → k < l.var → AreSets l.machine k (get_or l.table k []);
 }

@@ -1,6 +1,0 @@
-use Rattle.std.proofs.Common.{◌≡◌}
-use Rattle.polis_base.specs.Lists.{upto}
-use Rattle.outcome_table.proofs.number.numbers_below.Given as goal
-
-abbrev pub invariant-loop-i : goal.invariant-loop-i
-invariant-loop-i l = l.list ≡ upto l.i

@@ -6,5 +6,6 @@ mod Parting
 mod Reading
 mod Samples
 mod Tallying
+mod Texting
 mod Wording
 mod Writing

@@ -145,6 +145,30 @@ all_pairs one text pairs ms cs k out whole is end =
         nothing (ap (λ (ds : List Compiled). text k (drop k ms) (parts_of ds)) (drop_all cs k high)
         ∙ pairs.no_part k (drop k ms))
 
+-- one more part
+pub one_more : (one : ℕ → Machine → Part → List ℕ) (text : ℕ → List Machine → List Part → List ℕ)
+    → Pairwise one text
+    → (k : ℕ) (ms : List Machine) (m : Machine) (qs : List Part) (q : Part)
+    → slice_get ms (length qs) ≡ Some m
+    → text k ms (qs ++ q ∷ []) ≡ text k ms qs ++ one (k + length qs) m q
+one_more one text pairs k [] m qs q at = cc
+one_more one text pairs k (n ∷ ms) m [] q at =
+    let is : n ≡ m = cc in
+    let here : k ≡ k + 0 = omega arith in
+    pairs.pair k n ms q []
+    ∙ ap (λ (xs : List ℕ). one k n q ++ xs) (pairs.no_part (suc k) ms)
+    ∙ append-nil (one k n q)
+    ∙ ap (λ (l : Machine). one k l q) is
+    ∙ ap (λ (i : ℕ). one i m q) here
+    ∙ ap (λ (xs : List ℕ). xs ++ one (k + 0) m q) (sym (pairs.no_part k (n ∷ ms)))
+one_more one text pairs k (n ∷ ms) m (p ∷ qs) q at =
+    let next : suc k + length qs ≡ k + suc (length qs) = omega arith in
+    pairs.pair k n ms p (qs ++ q ∷ [])
+    ∙ ap (λ (xs : List ℕ). one k n p ++ xs) (one_more one text pairs (suc k) ms m qs q at)
+    ∙ sym (append_assoc (one k n p) (text (suc k) ms qs) (one (suc k + length qs) m q))
+    ∙ ap (λ (xs : List ℕ). xs ++ one (suc k + length qs) m q) (sym (pairs.pair k n ms p qs))
+    ∙ ap (λ (i : ℕ). text k (n ∷ ms) (p ∷ qs) ++ one i m q) next
+
 -- ---- a part of the listing
 -- what holds of the machine of a number holds of this one
 pub of_machine : (net : Network) (k : ℕ) (m : Machine) (P : Machine → Type 0)

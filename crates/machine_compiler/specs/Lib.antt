@@ -3,3 +3,4 @@ pub mod Making
 pub mod Lines
 pub mod Tallies
 pub mod Laws
+pub mod Texts

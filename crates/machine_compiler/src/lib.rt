@@ -8,9 +8,11 @@ mod law;
 mod lines;
 mod listing;
 mod tallies;
+mod texts;
 
 pub use compiled::{Compiled, CompiledList, codes_of};
 pub use compiling::{compile_machine, compile_network};
 pub use law::laws;
-pub use lines::{print_lengths, print_tries};
+pub use lines::print_tries;
 pub use listing::print_listing;
+pub use texts::{Texts, compile_texts};

@@ -3,7 +3,7 @@ ghost use Rattle.std.specs.Prelude.{◌≡◌, ◌<◌, ◌^◌, ◌++◌, lengt
 ghost use Rattle.journals.specs.Journals.{IsJournal};
 ghost use Rattle.task_code.specs.Listings.{line};
 ghost use Rattle.machine_compiler.specs.Parts.{AreRight, parts_of, part_of_compiled};
-ghost use Rattle.machine_compiler.specs.Lines.{lengths, lengths_text, tally_text, tries_text};
+ghost use Rattle.machine_compiler.specs.Lines.{lengths, tally_text, tries_text};
 
 use crate::compiled::{Compiled, CompiledList};
 use crate::tallies::{Tally, count_reactions};
@@ -13,7 +13,11 @@ use std::alloc::Global;
 use transition_table::{Machine, Network};
 
 // How many vertices and instructions a machine has.
-fn push_lengths(machine: &Machine, part: &Compiled, out: &mut Bytes) -> Result<(), NoMemory>
+pub(crate) fn push_lengths(
+    machine: &Machine,
+    part: &Compiled,
+    out: &mut Bytes,
+) -> Result<(), NoMemory>
     ensures { OnOk result (out.new ≡ out.old ++ lengths machine.now (part_of_compiled part.now)) }
 {
     out.push(b"machine ")?;
@@ -32,23 +36,6 @@ fn push_tally(tally: &Tally, out: &mut Bytes) -> Result<(), NoMemory>
     out.push_decimal(tally.tries)?;
     out.push(b" steps ")?;
     out.push_decimal(tally.steps)
-}
-
-/// A line for each machine: how many vertices and how many instructions it has.
-pub fn print_lengths(
-    alloc: Global,
-    net: &Network,
-    compiled: &CompiledList,
-) -> Result<Bytes, NoMemory>
-    ensures { IfOk result (λ text. text ≡ lengths_text net.now (parts_of compiled.now)) }
-{
-    let mut text = Bytes::new(alloc);
-    let count = net.machines.len().min(compiled.len());
-    for k in 0..count {
-        push_lengths(net.machines.get(k), compiled.get(k), &mut text)?;
-        text.push(b"\n")?;
-    }
-    Ok(text)
 }
 
 /// A line for each machine: how many vertices and how many instructions it has, how often it reacts

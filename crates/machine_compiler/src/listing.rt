@@ -1,13 +1,40 @@
 // The listing of a network.
-ghost use Rattle.std.specs.Prelude.{◌≡◌, IfOk};
-ghost use Rattle.task_code.specs.Listings.{ListingText};
-ghost use Rattle.machine_compiler.specs.Parts.{parts_of};
+ghost use Rattle.std.specs.Prelude.{◌≡◌, ◌<◌, ◌++◌, length, IfOk, OnOk};
+ghost use Rattle.transition_table.specs.Transitions.{OfMachine};
+ghost use Rattle.task_code.specs.Listings.{ListingText, part_text};
+ghost use Rattle.machine_compiler.specs.Parts.{part_of_compiled, parts_of};
 
-use crate::compiled::CompiledList;
+use crate::compiled::{Compiled, CompiledList};
 use polis_base::{Bytes, NoMemory};
 use std::alloc::Global;
 use task_code::push_listing;
 use transition_table::Network;
+
+// Adds the part of a compiled machine to a listing.
+pub(crate) fn push_part(
+    alloc: Global,
+    net: &Network,
+    m: u32,
+    part: &Compiled,
+    listing: &mut Bytes,
+) -> Result<(), NoMemory>
+    requires { m < length net.now.machines }
+    ensures { OnOk result (OfMachine net.now m (λ machine. listing.new
+        ≡ listing.old ++ part_text net.now machine (part_of_compiled part.now))) }
+{
+    let sizes = (part.sifted.first_count, part.sifted.count);
+    let order = &part.sifted.order;
+    push_listing(
+        alloc,
+        net,
+        m,
+        sizes,
+        order,
+        &part.graph,
+        &part.code,
+        listing,
+    )
+}
 
 /// The listing of a network: a first line, the part of each compiled machine, and the line `end`.
 pub fn print_listing(
@@ -21,19 +48,7 @@ pub fn print_listing(
     text.push(b"polis listing 1\n")?;
     let count = net.machines.len().min(compiled.len());
     for k in 0..count {
-        let part = compiled.get(k);
-        let sizes = (part.sifted.first_count, part.sifted.count);
-        let order = &part.sifted.order;
-        push_listing(
-            alloc,
-            net,
-            k as u32,
-            sizes,
-            order,
-            &part.graph,
-            &part.code,
-            &mut text,
-        )?;
+        push_part(alloc, net, k as u32, compiled.get(k), &mut text)?;
     }
     text.push(b"end\n")?;
     Ok(text)

@@ -9,7 +9,7 @@ ghost use Rattle.polis_cli.specs.Left.{LeftByLoads, fails_unread};
 
 use crate::load::load_net;
 use crate::product::{Product, Saving};
-use machine_compiler::{compile_network, print_lengths, print_listing};
+use machine_compiler::{Texts, compile_texts};
 use polis_base::{Host, List, NoMemory};
 use polis_words::{Cause, Compile, Failure, Status};
 use std::alloc::Global;
@@ -20,15 +20,13 @@ fn compile_product(alloc: Global, asked: &Compile<'_>, net: &Network) -> Result<
     requires { AreDeterministic net.now }
     ensures { IfOk result (λ product. IsCompileProduct asked.now net.now product) }
 {
-    let machines = compile_network(alloc, net)?;
-    let text = print_listing(alloc, net, &machines)?;
-    let shown = print_lengths(alloc, net, &machines)?;
-    let saving = Saving::new(alloc, asked.stem(), ".lst", text)?;
+    let Texts { listing, lengths } = compile_texts(alloc, net)?;
+    let saving = Saving::new(alloc, asked.stem(), ".lst", listing)?;
     let mut saves = List::new(alloc);
     saves.push(saving)?;
     Ok(Product {
         saves,
-        shown,
+        shown: lengths,
         status: Status::Done,
     })
 }

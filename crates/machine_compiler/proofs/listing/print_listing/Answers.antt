@@ -10,20 +10,20 @@ loop-k-preserved c =
     let net = c.args.net.now in
     let cs = c.args.compiled.now in
     let k = c.loop-k.k in
-    let part = c.get-part.result.now in
+    let part = c.get.result.now in
     let low : k < length net.machines = let a = c.loop-k-test.true in let b = c.len.ensures in
     let d = c.min-count.ensures in omega arith in
     let m = at_place net.machines k low in
-    let written : c.push_listing.new.into
+    let written : c.push_part.new.listing
     ≡ c.loop-k.text ++ part_text net m.0 (part_of_compiled part) =
-    of_machine net k m.0 (λ machine. c.push_listing.new.into
+    of_machine net k m.0 (λ machine. c.push_part.new.listing
     ≡ c.loop-k.text ++ part_text net machine (part_of_compiled part)) m.1
-    c.in_ok-push_listing.ensures.ok
+    c.in_ok-push_part.ensures
     in
     more_pairs (λ k m q. part_text net m q) (λ k ms qs. parts_text net ms qs) (listing_pairs net)
-    net.machines cs k m.0 part c.loop-k.text c.push_listing.new.into
+    net.machines cs k m.0 part c.loop-k.text c.push_part.new.listing
     (line (codes "polis listing 1") ++ parts_text net net.machines (parts_of cs))
-    c.loop-k.invariant m.1 c.get-part.ensures written
+    c.loop-k.invariant m.1 c.get.ensures written
 
 pub returns : goal.returns
 returns c =

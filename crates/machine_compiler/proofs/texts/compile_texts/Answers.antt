@@ -1,0 +1,38 @@
+use Rattle.std.proofs.Common.{◌≡◌, ◌∙◌, ◌++◌, ◌∷◌, [], List, ℕ, ap, refl, length, arith}
+use Rattle.task_code.specs.Listings.{part_text}
+use Rattle.machine_compiler.specs.Parts.{part_of_compiled}
+use Rattle.machine_compiler.specs.Lines.{lengths}
+use Rattle.machine_compiler.proofs.Texting.{nothing_written, one_written, all_written}
+use Rattle.machine_compiler.proofs.Writing.{of_machine, two_texts}
+use Rattle.machine_compiler.proofs.texts.compile_texts.Goals as goal
+
+pub loop-k-init : goal.loop-k-init
+loop-k-init c =
+    nothing_written c.args.net.now c.push.new.self c.new-lengths.result
+    (c.in_ok-push.ensures.ok ∙ ap (λ (xs : List ℕ). xs ++ _) c.new-listing.ensures)
+    c.new-lengths.ensures
+
+pub loop-k-preserved : goal.loop-k-preserved
+loop-k-preserved c =
+    let net = c.args.net.now in
+    let k = c.loop-k.k in
+    let m = c.get-machine.result.now in
+    let part = c.in_ok-part.part in
+    let written = of_machine net k m (λ machine. c.push_part.new.listing
+    ≡ c.loop-k.listing ++ part_text net machine (part_of_compiled part)) c.get-machine.ensures
+    c.in_ok-push_part.ensures in
+    one_written net k c.loop-k.listing c.loop-k.lengths c.push_part.new.listing
+    c.push-in-loop-k.new.self m (part_of_compiled part) c.loop-k.invariant c.get-machine.ensures
+    c.in_ok-part.ensures written
+    (two_texts c.loop-k.lengths c.push_lengths.new.out c.push-in-loop-k.new.self
+    (lengths m (part_of_compiled part)) (10 ∷ []) c.in_ok-push_lengths.ensures
+    c.in_ok-push-2.ensures.ok)
+
+pub returns : goal.returns
+returns c =
+    let net = c.args.net.now in
+    let all : c.loop-k.k ≡ length net.machines = let a = c.loop-k-test.false in
+    let b = c.loop-k.auto.k-end in let d = c.len-k-end.ensures in omega arith in
+    all_written net c.loop-k.k c.loop-k.listing c.loop-k.lengths
+    (record { listing = c.push-2.new.self; lengths = c.loop-k.lengths }) c.loop-k.invariant all
+    c.in_ok-push-3.ensures.ok refl

@@ -3,7 +3,7 @@ use Rattle.std.proofs.Common.{◌≡◌, ⊎_elim, ℕ, zero, suc, ◌+◌, ◌-
 use Rattle.std.specs.Prelude.{IsTrue}
 use Rattle.std.specs.List.{remove}
 use Rattle.std.proofs.lemmas.Bool.{cases_eq, cases_lt}
-use Rattle.std.proofs.lemmas.List.{get_or_append_left}
+use Rattle.std.proofs.lemmas.List.{get_or_append_left, take_more}
 use Rattle.domains.specs.Orders.{place}
 use Rattle.domains.specs.Tables.{are_sizes, product}
 use Rattle.transition_table.specs.declared.machine.Machine.{Machine}
@@ -20,7 +20,7 @@ use Rattle.order_sift.proofs.Codes.{set_at, set_else}
 use Rattle.order_sift.proofs.Leaving.{all_fixed}
 use Rattle.order_sift.proofs.Pointing.{snapshot_fits}
 use Rattle.order_sift.proofs.Prefixes.{at_stands}
-use Rattle.order_sift.proofs.Sweeping.{front_of, back_of, next_item, classes_more, levels_more, rest_long, rest_low, rest_high, size_is, next_with, next_without, free_without, classes_with, classes_without, classes_before, classes_start, back_step, front_step, back_end, front_start}
+use Rattle.order_sift.proofs.Sweeping.{stands_more, front_of, back_of, next_item, classes_more, levels_more, rest_long, rest_low, rest_high, size_is, next_with, next_without, free_without, classes_with, classes_without, classes_before, classes_start, back_step, front_step, back_end, front_start}
 
 at_end : {X : Type 0} (xs : List X) (x d : X) (k : ℕ) → k ≡ length xs
     → get_or (xs ++ x ∷ []) k d ≡ x
@@ -34,14 +34,10 @@ filled_at x zero i low = absurd (omega arith)
 filled_at x (suc n) zero low = refl
 filled_at x (suc n) (suc i) low = filled_at x n i (omega arith)
 
--- what is made where an item is no longer fixed, and the level of an item
-abbrev pub Frees : Machine → ℕ → List ℕ → List ℕ → Type 0
-Frees m x classes made = (fixed : ℕ → Bool) → IsNextItem m fixed x
-    → AreClasses m (fixed_too fixed x) classes → AreClasses m fixed made
-
-abbrev pub Levels : Machine → ℕ → List ℕ → ℕ → Type 0
-Levels m x classes count = (fixed : ℕ → Bool) → fixed x ≡ false → AreClasses m fixed classes
-    → count ≡ set_level (char m) (sizes_of m) fixed x
+-- what numbering asks of a set to which an item was fixed too
+pub record Follows (m : Machine) (fixed : ℕ → Bool) (item : ℕ) (old : List ℕ) : Type 0 where
+  pub next : IsNextItem m fixed item
+  pub too : AreClasses m (fixed_too fixed item) old
 
 -- one more size is put
 pub sizes_set : (m : Machine) (o sizes : List ℕ) (i first j value one other new_one new_other : ℕ)
@@ -131,30 +127,40 @@ module _ (m : Machine) (o : List ℕ) (laws : BelowOrders) (sure : IsDeterminist
       no_levels = ap (λ (xs : List ℕ). sum_of_levels (char m) (sizes_of m) (take (length o) o) xs)
           (past o)
 
+  pub chain_next : (t item : ℕ) (classes : List (List ℕ)) (backs : List ℕ) → t < length o
+      → slice_index o (length o - 1 - t) ≡ item → AreChain m o t classes backs
+      → Follows m (stands (take (length o - 1 - t) o)) item (get_or classes t [])
+  chain_next t item classes backs low is chain =
+      let k = length o - 1 - t in
+      let lk : k < length o = omega arith in
+      let up : length o - t ≡ k + 1 = omega arith in
+      let before : AreClasses m (stands (take (k + 1) o)) (get_or classes t []) =
+      subst (λ (n : ℕ). AreClasses m (stands (take n o)) (get_or classes t [])) up
+      (chain.numbers t (omega arith)) in
+      record {
+        next = subst (IsNextItem m (stands (take k o))) is
+            (next_item m o laws sure allowed k lk);
+        too = subst
+            (λ (x : ℕ). AreClasses m (fixed_too (stands (take k o)) x) (get_or classes t [])) is
+            (classes_more m o laws sure allowed k (get_or classes t []) lk before);
+      }
+
   pub chain_more : (t item : ℕ) (classes new_classes : List (List ℕ))
       (backs new_backs made : List ℕ) (here back : ℕ) → t < length o
       → slice_index o (length o - 1 - t) ≡ item → AreChain m o t classes backs
-      → Frees m item (get_or classes t []) made → Levels m item made here → here ≤ 1024
+      → AreClasses m (stands (take (length o - 1 - t) o)) made
+      → here ≡ set_level (char m) (sizes_of m) (stands (take (length o - 1 - t) o)) item
+      → here ≤ 1024
       → back ≡ here + slice_index backs t → new_classes ≡ classes ++ made ∷ []
       → new_backs ≡ backs ++ back ∷ [] → AreChain m o (t + 1) new_classes new_backs
-  chain_more t item classes new_classes backs new_backs made here back low is chain frees levels few
-      sum new_is new_backs_is =
+  chain_more t item classes new_classes backs new_backs made here back low is chain own level_is
+      few sum new_is new_backs_is =
       let k = length o - 1 - t in
       let lk : k < length o = omega arith in
       let up : length o - t ≡ k + 1 = omega arith in
       let down : length o - (t + 1) ≡ k = omega arith in
-      let next = subst (IsNextItem m (stands (take k o))) is
-      (next_item m o laws sure allowed k lk) in
-      let before : AreClasses m (stands (take (k + 1) o)) (get_or classes t []) =
-      subst (λ (n : ℕ). AreClasses m (stands (take n o)) (get_or classes t [])) up
-      (chain.numbers t (omega arith)) in
-      let too : AreClasses m (fixed_too (stands (take k o)) item) (get_or classes t []) =
-      subst (λ (x : ℕ). AreClasses m (fixed_too (stands (take k o)) x) (get_or classes t [])) is
-      (classes_more m o laws sure allowed k (get_or classes t []) lk before) in
-      let own : AreClasses m (stands (take k o)) made = frees (stands (take k o)) next too in
       let level : here ≡ set_level (char m) (sizes_of m) (stands (take k o)) (slice_index o k) =
-      levels (stands (take k o)) next.free own
-      ∙ ap (set_level (char m) (sizes_of m) (stands (take k o))) (sym is) in
+      level_is ∙ ap (set_level (char m) (sizes_of m) (stands (take k o))) (sym is) in
       let more = levels_more m o laws sure allowed k lk in
       let old : slice_index backs t ≡ levels_from m o (k + 1) =
       chain.levels t (omega arith) ∙ ap (levels_from m o) up in
@@ -260,31 +266,50 @@ module _ (m : Machine) (o : List ℕ) (laws : BelowOrders) (sure : IsDeterminist
         pub numbers : AreClasses m (stands (take j (remove o i) ++ slice_index o i ∷ [])) with_item
         pub whole_is : front + own + (old_back + here) ≡ Size m (moved o i j)
 
-      pub steps_before : (j next here old_back own front : ℕ) (old with_item : List ℕ) → j < i
-          → Allowed m (moved o i j) → slice_index o j ≡ next → old_back ≡ back_of m o i (j + 1)
+      pub before_next : (j next : ℕ) (old : List ℕ) → j < i → Allowed m (moved o i j)
+          → slice_index o j ≡ next
           → AreClasses m (stands (take (j + 1) (remove o i) ++ slice_index o i ∷ [])) old
-          → Frees m next old with_item → Levels m next with_item here
-          → Levels m (slice_index o i) (get_or classes (length o - j) []) own
-          → front ≡ front_of m o i j → StepsBefore j next here old_back own front with_item
-      steps_before j next here old_back own front old with_item low may is back_is old_are frees
-          levels levels_own front_is =
+          → Follows m (stands (take j (remove o i) ++ slice_index o i ∷ [])) next old
+      before_next j next old low may is old_are =
           let l = rest_long m o laws sure allowed i li in
           let lj : j < length (remove o i) = omega arith in
           let at : slice_index (remove o i) j ≡ next =
           rest_low m o laws sure allowed i li j low ∙ is in
           let set = stands (take j (remove o i) ++ slice_index o i ∷ []) in
-          let following =
-          subst (IsNextItem m set) at (next_with m o laws sure allowed i li j lj may) in
-          let too = subst (λ (x : ℕ). AreClasses m (fixed_too set x) old) at
-          (classes_with m o laws sure allowed i li j old lj old_are) in
-          let made = frees set following too in
+          record {
+            next = subst (IsNextItem m set) at (next_with m o laws sure allowed i li j lj may);
+            too = subst (λ (x : ℕ). AreClasses m (fixed_too set x) old) at
+                (classes_with m o laws sure allowed i li j old lj old_are);
+          }
+
+      -- the item itself isn't fixed without it
+      pub own_free : (j : ℕ) → j ≤ length (remove o i) → Allowed m (moved o i j)
+          → stands (take j (remove o i)) (slice_index o i) ≡ false
+      own_free j low may = (next_without m o laws sure allowed i li j low may).free
+
+      pub own_classes : (j : ℕ) → j ≤ i
+          → AreClasses m (stands (take j (remove o i))) (get_or classes (length o - j) [])
+      own_classes j low =
+          classes_before m o laws sure allowed i li j (get_or classes (length o - j) []) low
+          (chain_classes j (omega arith))
+
+      pub steps_before : (j next here old_back own front : ℕ) (with_item : List ℕ) → j < i
+          → slice_index o j ≡ next → old_back ≡ back_of m o i (j + 1)
+          → AreClasses m (stands (take j (remove o i) ++ slice_index o i ∷ [])) with_item
+          → here ≡ set_level (char m) (sizes_of m)
+          (stands (take j (remove o i) ++ slice_index o i ∷ [])) next
+          → own ≡ set_level (char m) (sizes_of m) (stands (take j (remove o i))) (slice_index o i)
+          → front ≡ front_of m o i j → StepsBefore j next here old_back own front with_item
+      steps_before j next here old_back own front with_item low is back_is made level_is own_level
+          front_is =
+          let l = rest_long m o laws sure allowed i li in
+          let lj : j < length (remove o i) = omega arith in
+          let at : slice_index (remove o i) j ≡ next =
+          rest_low m o laws sure allowed i li j low ∙ is in
+          let set = stands (take j (remove o i) ++ slice_index o i ∷ []) in
           let level : here ≡ set_level (char m) (sizes_of m) set (slice_index (remove o i) j) =
-          levels set following.free made ∙ ap (set_level (char m) (sizes_of m) set) (sym at) in
+          level_is ∙ ap (set_level (char m) (sizes_of m) set) (sym at) in
           let step = back_step m o laws sure allowed i li j lj in
-          let free = (next_without m o laws sure allowed i li j (omega arith) may).free in
-          let before = classes_before m o laws sure allowed i li j
-          (get_or classes (length o - j) []) (omega arith) (chain_classes j (omega arith)) in
-          let own_level = levels_own (stands (take j (remove o i))) free before in
           let whole = size_is m o laws sure allowed i li sized j (omega arith) in
           record {
             back_is = omega arith;
@@ -314,37 +339,67 @@ module _ (m : Machine) (o : List ℕ) (laws : BelowOrders) (sure : IsDeterminist
         pub numbers : AreClasses m (stands (take j (remove o i))) without_item
         pub whole_is : (old_front + here) + own + back ≡ Size m (moved o i j)
 
-      pub steps_after : (j next here old_front own back : ℕ) (old without_item : List ℕ) → i < j
-          → j < length o → Allowed m (moved o i (j - 1)) → Allowed m (moved o i j)
-          → slice_index o j ≡ next → old_front ≡ front_of m o i (j - 1)
-          → AreClasses m (stands (take (j - 1) (remove o i))) old → Levels m next old here
-          → Frees m (slice_index o i) (get_or classes (length o - 1 - j) []) without_item
-          → Levels m (slice_index o i) without_item own
+      -- the next item after it
+      pub next_after : (j next : ℕ) → i < j → j < length o → slice_index o j ≡ next
+          → slice_index (remove o i) (j - 1) ≡ next
+      next_after j next high low is =
+          let up : j - 1 + 1 ≡ j = omega arith in
+          rest_high m o laws sure allowed i li (j - 1) (omega arith) ∙ ap (slice_index o) up ∙ is
+
+      pub after_free : (j next : ℕ) → i < j → j < length o → Allowed m (moved o i (j - 1))
+          → slice_index o j ≡ next → stands (take (j - 1) (remove o i)) next ≡ false
+      after_free j next high low may is =
+          let l = rest_long m o laws sure allowed i li in
+          subst (λ (x : ℕ). stands (take (j - 1) (remove o i)) x ≡ false)
+          (next_after j next high low is)
+          (free_without m o laws sure allowed i li (j - 1) (omega arith) may)
+
+      -- and stands before the next place
+      pub after_more : (j next w : ℕ) → i < j → j < length o → slice_index o j ≡ next
+          → fixed_too (stands (take (j - 1) (remove o i))) next w ≡ stands (take j (remove o i)) w
+      after_more j next w high low is =
+          let l = rest_long m o laws sure allowed i li in
+          let p = j - 1 in
+          let up : p + 1 ≡ j = omega arith in
+          let at = next_after j next high low is in
+          sym (ap (λ (n : ℕ). stands (take n (remove o i)) w) (sym up)
+          ∙ ap (λ (xs : List ℕ). stands xs w) (take_more (remove o i) p 0 (omega arith))
+          ∙ stands_more (take p (remove o i)) (slice_index (remove o i) p) w
+          ∙ ap (λ (x : ℕ). fixed_too (stands (take p (remove o i))) x w) at)
+
+      pub after_next : (j : ℕ) → i < j → j < length o → Allowed m (moved o i j)
+          → Follows m (stands (take j (remove o i))) (slice_index o i)
+          (get_or classes (length o - 1 - j) [])
+      after_next j high low may =
+          let l = rest_long m o laws sure allowed i li in
+          let e : length o - suc j ≡ length o - 1 - j = omega arith in
+          let all = subst (λ (n : ℕ). AreClasses m (stands (take (suc j) o)) (get_or classes n []))
+          e (chain_classes (suc j) (omega arith)) in
+          record {
+            next = next_without m o laws sure allowed i li j (omega arith) may;
+            too = classes_without m o laws sure allowed i li j
+                (get_or classes (length o - 1 - j) []) (omega arith) all;
+          }
+
+      pub steps_after : (j next here old_front own back : ℕ) (without_item : List ℕ) → i < j
+          → j < length o → slice_index o j ≡ next → old_front ≡ front_of m o i (j - 1)
+          → here ≡ set_level (char m) (sizes_of m) (stands (take (j - 1) (remove o i))) next
+          → AreClasses m (stands (take j (remove o i))) without_item
+          → own ≡ set_level (char m) (sizes_of m) (stands (take j (remove o i))) (slice_index o i)
           → back ≡ slice_index backs (length o - 1 - j)
           → StepsAfter j here old_front own back without_item
-      steps_after j next here old_front own back old without_item high low may_before may is
-          front_is old_are levels frees levels_own back_is =
+      steps_after j next here old_front own back without_item high low is front_is level_is made
+          own_level back_is =
           let l = rest_long m o laws sure allowed i li in
           let p = j - 1 in
           let up : p + 1 ≡ j = omega arith in
           let lp : p < length (remove o i) = omega arith in
-          let at : slice_index (remove o i) p ≡ next =
-          rest_high m o laws sure allowed i li p (omega arith) ∙ ap (slice_index o) up ∙ is in
-          let free = subst (λ (x : ℕ). stands (take p (remove o i)) x ≡ false) at
-          (free_without m o laws sure allowed i li p lp may_before) in
+          let at = next_after j next high low is in
           let level : here ≡ set_level (char m) (sizes_of m) (stands (take p (remove o i)))
-          (slice_index (remove o i) p) = levels (stands (take p (remove o i))) free old_are
+          (slice_index (remove o i) p) = level_is
           ∙ ap (set_level (char m) (sizes_of m) (stands (take p (remove o i)))) (sym at) in
           let step = front_step m o laws sure allowed i li p lp in
           let same = ap (front_of m o i) up in
-          let e : length o - suc j ≡ length o - 1 - j = omega arith in
-          let all = subst (λ (n : ℕ). AreClasses m (stands (take (suc j) o)) (get_or classes n []))
-          e (chain_classes (suc j) (omega arith)) in
-          let too = classes_without m o laws sure allowed i li j
-          (get_or classes (length o - 1 - j) []) (omega arith) all in
-          let following = next_without m o laws sure allowed i li j (omega arith) may in
-          let made = frees (stands (take j (remove o i))) following too in
-          let own_level = levels_own (stands (take j (remove o i))) following.free made in
           let after = back_high j (omega arith) low in
           let whole = size_is m o laws sure allowed i li sized j low in
           record {

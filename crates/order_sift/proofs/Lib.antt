@@ -15,3 +15,4 @@ mod Settling
 mod Stepping
 mod Sweeping
 mod Keying
+mod Knowing

@@ -49,14 +49,14 @@ pub same_classes : (m : Machine) (one other : ℕ → Bool) (classes : List ℕ)
 same_classes m one other classes same are =
     subst (λ (set : ℕ → Bool). AreClasses m set classes) (λ i w. same w i) are
 
-same_next : (m : Machine) (one other : ℕ → Bool) (x y : ℕ) → ((w : ℕ) → one w ≡ other w) → x ≡ y
+pub same_next : (m : Machine) (one other : ℕ → Bool) (x y : ℕ) → ((w : ℕ) → one w ≡ other w) → x ≡ y
     → IsNextItem m one x → IsNextItem m other y
 same_next m one other x y same is next =
     subst (IsNextItem m other) is
     (subst (λ (set : ℕ → Bool). IsNextItem m set x) (λ i w. same w i) next)
 
 -- ---- without one item
-take_low : (xs : List ℕ) (i j : ℕ) → j ≤ i → take j (remove xs i) ≡ take j xs
+pub take_low : (xs : List ℕ) (i j : ℕ) → j ≤ i → take j (remove xs i) ≡ take j xs
 take_low xs i zero low = refl
 take_low [] zero (suc j) low = absurd (omega arith)
 take_low [] (suc i) (suc j) low = refl

@@ -4,6 +4,7 @@ pub mod Sifting
 pub mod Turns
 pub mod Below
 pub mod Pairs
+pub mod Known
 pub mod Points
 pub mod Classes
 pub mod Chains

@@ -4,11 +4,13 @@ ghost use Rattle.domains.specs.Tables.{product};
 ghost use Rattle.transition_table.specs.Orders.{Allowed};
 ghost use Rattle.transition_table.specs.Transitions.{IsDeterministic};
 ghost use Rattle.order_sift.specs.Chains.{IsChain};
+ghost use Rattle.order_sift.specs.Known.{AreKnown};
 ghost use Rattle.order_sift.specs.Pairs.{HasRoom};
 ghost use Rattle.order_sift.specs.Points.{IsPrepared};
 
 use crate::law::{laws_below, laws_of_levels};
-use crate::points::{Points, freed, level_of};
+use crate::points::Points;
+use crate::sets::{Known, first_items, level_after, numbers_of};
 use decision_diagram::Order;
 use polis_base::{List, NoMemory, Numbers, Places};
 use std::alloc::Global;
@@ -29,14 +31,17 @@ pub(crate) fn chain_of(
     m: &Machine,
     points: &Points,
     seen: &mut [u16],
+    known: &mut Known,
     order: &Order,
 ) -> Result<Chain, NoMemory>
     requires few { product m.now.vars ≤ 1024 }
     requires prepared { IsPrepared m.now points.now }
     requires room { HasRoom (product m.now.vars) seen.old }
+    requires known { AreKnown m.now known.old }
     requires sure { IsDeterministic m.now }
     requires allowed { Allowed m.now order.now }
-    ensures { IfOk result (IsChain m.now order.now) }
+    ensures chain { IfOk result (IsChain m.now order.now) }
+    ensures known { IfOk result (λ chain. AreKnown m.now known.new) }
 {
     laws_below();
     laws_of_levels(m);
@@ -49,8 +54,9 @@ pub(crate) fn chain_of(
     for t in 0..items {
         let item = *order.get(items - 1 - t);
         let old = classes.get(t);
-        let made = freed(alloc, m, points, seen, old, item)?;
-        let here = level_of(m, points, &made, item);
+        let set = first_items(order, items - 1 - t);
+        let made = numbers_of(m, points, seen, known, set, old, item)?;
+        let here = level_after(m, points, known, set, &made, item)?;
         let last = *backs.get(t);
         classes.push(made)?;
         let back = here + last;

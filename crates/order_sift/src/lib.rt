@@ -8,6 +8,7 @@ mod pairs;
 mod places;
 mod points;
 mod prepare;
+mod sets;
 mod turns;
 
 pub use law::laws;

@@ -6,13 +6,15 @@ ghost use Rattle.transition_table.specs.Transitions.{IsDeterministic};
 ghost use Rattle.char_function.specs.Sizes.{Size};
 ghost use Rattle.order_sift.specs.Chains.{IsChain, MayStand, AreSizes};
 ghost use Rattle.order_sift.specs.Moves.{moved};
+ghost use Rattle.order_sift.specs.Known.{AreKnown};
 ghost use Rattle.order_sift.specs.Pairs.{HasRoom};
 ghost use Rattle.order_sift.specs.Points.{IsPrepared};
 
 use crate::chain::Chain;
 use crate::law::laws_of_levels;
 use crate::places::PlaceRange;
-use crate::points::{Points, freed, level_of};
+use crate::points::Points;
+use crate::sets::{Known, first_items, level_after, numbers_of, with};
 use decision_diagram::Order;
 use polis_base::{NoMemory, Numbers, Places};
 use std::alloc::Global;
@@ -33,6 +35,7 @@ pub(crate) struct Moving<'a> {
 fn fill_before(
     moving: &Moving,
     seen: &mut [u16],
+    known: &mut Known,
     i: u64,
     first: u64,
     sizes: &mut Places,
@@ -40,6 +43,7 @@ fn fill_before(
     requires few { product moving.now.machine.now.vars ≤ 1024 }
     requires prepared { IsPrepared moving.now.machine.now moving.now.points.now }
     requires room { HasRoom (product moving.now.machine.now.vars) seen.old }
+    requires known { AreKnown moving.now.machine.now known.old }
     requires sure { IsDeterministic moving.now.machine.now }
     requires allowed { Allowed moving.now.machine.now moving.now.order.now }
     requires chain { IsChain moving.now.machine.now moving.now.order.now moving.now.chain.now }
@@ -48,6 +52,7 @@ fn fill_before(
     requires places { MayStand moving.now.machine.now moving.now.order.now i first i }
     requires long { i < length sizes.old + first }
     requires own { AreSizes moving.now.machine.now moving.now.order.now i first sizes.old i i }
+    ensures known { IfOk result (λ done. AreKnown moving.now.machine.now known.new) }
     ensures long { IfOk result (λ done. length sizes.new ≡ length sizes.old) }
     ensures each { IfOk result (λ done.
         AreSizes moving.now.machine.now moving.now.order.now i first sizes.new first i) }
@@ -62,19 +67,29 @@ fn fill_before(
     for t in 0..i - first {
         let j = i - 1 - t;
         let next = *moving.order.get(j);
-        let freer = freed(
-            moving.alloc,
+        let before = first_items(moving.order, j);
+        let set = with(before, item);
+        let freer = numbers_of(
             moving.machine,
             moving.points,
             seen,
+            known,
+            set,
             &with_item,
             next,
         )?;
         with_item = freer;
-        let here = level_of(moving.machine, moving.points, &with_item, next);
+        let here = level_after(moving.machine, moving.points, known, set, &with_item, next)?;
         back += here;
         let without_item = moving.chain.classes.get(items - j);
-        let own = level_of(moving.machine, moving.points, without_item, item);
+        let own = level_after(
+            moving.machine,
+            moving.points,
+            known,
+            before,
+            without_item,
+            item,
+        )?;
         let after = *moving.chain.backs.get(items - j);
         let size = whole - after + own + back;
         sizes.set(j - first, size);
@@ -87,6 +102,7 @@ fn fill_before(
 fn fill_after(
     moving: &Moving,
     seen: &mut [u16],
+    known: &mut Known,
     i: u64,
     range: PlaceRange,
     sizes: &mut Places,
@@ -94,6 +110,7 @@ fn fill_after(
     requires few { product moving.now.machine.now.vars ≤ 1024 }
     requires prepared { IsPrepared moving.now.machine.now moving.now.points.now }
     requires room { HasRoom (product moving.now.machine.now.vars) seen.old }
+    requires known { AreKnown moving.now.machine.now known.old }
     requires sure { IsDeterministic moving.now.machine.now }
     requires allowed { Allowed moving.now.machine.now moving.now.order.now }
     requires chain { IsChain moving.now.machine.now moving.now.order.now moving.now.chain.now }
@@ -104,6 +121,7 @@ fn fill_after(
     requires long { length sizes.old + range.first ≡ range.last + 1 }
     requires own { AreSizes moving.now.machine.now moving.now.order.now i range.first sizes.old
         range.first i }
+    ensures known { IfOk result (λ done. AreKnown moving.now.machine.now known.new) }
     ensures long { IfOk result (λ done. length sizes.new ≡ length sizes.old) }
     ensures each { IfOk result (λ done.
         AreSizes moving.now.machine.now moving.now.order.now i range.first sizes.new range.first
@@ -117,21 +135,39 @@ fn fill_after(
     let mut front = whole - after;
     let start = moving.chain.classes.get(items - i);
     let mut without_item = Numbers::from_slice(moving.alloc, start.as_slice())?;
+    let mut set = first_items(moving.order, i);
     for j in i + 1..range.last + 1 {
         let next = *moving.order.get(j);
-        let here = level_of(moving.machine, moving.points, &without_item, next);
+        let here = level_after(
+            moving.machine,
+            moving.points,
+            known,
+            set,
+            &without_item,
+            next,
+        )?;
         front += here;
         let with_item = moving.chain.classes.get(items - 1 - j);
-        let freer = freed(
-            moving.alloc,
+        let more = with(set, next);
+        set = more;
+        let freer = numbers_of(
             moving.machine,
             moving.points,
             seen,
+            known,
+            set,
             with_item,
             item,
         )?;
         without_item = freer;
-        let own = level_of(moving.machine, moving.points, &without_item, item);
+        let own = level_after(
+            moving.machine,
+            moving.points,
+            known,
+            set,
+            &without_item,
+            item,
+        )?;
         let back = *moving.chain.backs.get(items - 1 - j);
         let size = front + own + back;
         sizes.set(j - range.first, size);
@@ -143,12 +179,14 @@ fn fill_after(
 pub(crate) fn sizes_at(
     moving: &Moving,
     seen: &mut [u16],
+    known: &mut Known,
     i: u64,
     range: PlaceRange,
 ) -> Result<Places, NoMemory>
     requires few { product moving.now.machine.now.vars ≤ 1024 }
     requires prepared { IsPrepared moving.now.machine.now moving.now.points.now }
     requires room { HasRoom (product moving.now.machine.now.vars) seen.old }
+    requires known { AreKnown moving.now.machine.now known.old }
     requires sure { IsDeterministic moving.now.machine.now }
     requires allowed { Allowed moving.now.machine.now moving.now.order.now }
     requires chain { IsChain moving.now.machine.now moving.now.order.now moving.now.chain.now }
@@ -157,6 +195,7 @@ pub(crate) fn sizes_at(
     requires last { range.last < length moving.now.order.now }
     requires places { MayStand moving.now.machine.now moving.now.order.now i range.first
         range.last }
+    ensures known { IfOk result (λ sizes. AreKnown moving.now.machine.now known.new) }
     ensures long { IfOk result (λ sizes. length sizes + range.first ≡ range.last + 1) }
     ensures each { IfOk result (λ sizes. (k : ℕ) → k < length sizes
         → slice_index sizes k ≡ Size moving.now.machine.now
@@ -166,7 +205,7 @@ pub(crate) fn sizes_at(
     let items = moving.order.len();
     let whole = *moving.chain.backs.get(items);
     let mut sizes = Places::filled(moving.alloc, range.last + 1 - range.first, whole)?;
-    fill_before(moving, seen, i, range.first, &mut sizes)?;
-    fill_after(moving, seen, i, range, &mut sizes)?;
+    fill_before(moving, seen, known, i, range.first, &mut sizes)?;
+    fill_after(moving, seen, known, i, range, &mut sizes)?;
     Ok(sizes)
 }

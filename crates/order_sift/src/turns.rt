@@ -11,6 +11,7 @@ ghost use Rattle.char_function.specs.Supported.{AreSupports};
 ghost use Rattle.char_function.specs.Sizes.{Size};
 ghost use Rattle.order_sift.specs.Chains.{IsChain};
 ghost use Rattle.order_sift.specs.Moves.{moved};
+ghost use Rattle.order_sift.specs.Known.{AreKnown};
 ghost use Rattle.order_sift.specs.Pairs.{HasRoom};
 ghost use Rattle.order_sift.specs.Points.{IsPrepared};
 ghost use Rattle.order_sift.specs.Sifting.{IsLeast, IsSifted};
@@ -23,6 +24,7 @@ use crate::pairs::room_for;
 use crate::places::allowed_places;
 use crate::points::{Points, SIFTED_SNAPSHOTS};
 use crate::prepare::prepare;
+use crate::sets::{Known, nothing_known};
 use char_function::{Supports, diagram, first_order, supports_in};
 use decision_diagram::{Order, Root};
 use outcome_table::{Table, table_of};
@@ -101,17 +103,25 @@ fn place_of_least(numbers: &[u64]) -> usize
 }
 
 // Moves an item to the first allowed place of the least size, if that is smaller.
-fn settle(sifting: &Sifting, seen: &mut [u16], item: u32, at: &mut Counted) -> Result<(), NoMemory>
+fn settle(
+    sifting: &Sifting,
+    seen: &mut [u16],
+    known: &mut Known,
+    item: u32,
+    at: &mut Counted,
+) -> Result<(), NoMemory>
     requires sure { IsDeterministic sifting.now.machine.now }
     requires supports { AreSupports sifting.now.machine.now sifting.now.supports.now }
     requires few { product sifting.now.machine.now.vars ≤ 1024 }
     requires prepared { IsPrepared sifting.now.machine.now sifting.now.points.now }
     requires room { HasRoom (product sifting.now.machine.now.vars) seen.old }
+    requires known { AreKnown sifting.now.machine.now known.old }
     requires counted { IsCounted sifting.now.machine.now at.old.order at.old.count }
     requires chain { IsChain sifting.now.machine.now at.old.order at.old.chain }
     requires item { item < length at.old.order }
     ensures counted { IfOk result (λ done.
         IsCounted sifting.now.machine.now at.new.order at.new.count) }
+    ensures known { IfOk result (λ done. AreKnown sifting.now.machine.now known.new) }
     ensures chain { IfOk result (λ done.
         IsChain sifting.now.machine.now at.new.order at.new.chain) }
     ensures falls { IfOk result (λ done.
@@ -129,14 +139,21 @@ fn settle(sifting: &Sifting, seen: &mut [u16], item: u32, at: &mut Counted) -> R
         order: &at.order,
         chain: &at.chain,
     };
-    let sizes = sizes_at(&moving, seen, i, range)?;
+    let sizes = sizes_at(&moving, seen, known, i, range)?;
     let best = place_of_least(sizes.as_slice());
     let count = *sizes.get(best as u64);
     if count >= at.count {
         return Ok(());
     }
     let order = moved(sifting.alloc, &at.order, i, range.first + best as u64)?;
-    let chain = chain_of(sifting.alloc, sifting.machine, sifting.points, seen, &order)?;
+    let chain = chain_of(
+        sifting.alloc,
+        sifting.machine,
+        sifting.points,
+        seen,
+        known,
+        &order,
+    )?;
     at.order = order;
     at.chain = chain;
     at.count = count;
@@ -159,17 +176,25 @@ fn item_after(first: u32, k: u32, items: u32) -> u32
 
 // From one item on each in turn moves to its best place, until one has moved: then the item after
 // it is the next to begin with.
-fn turn(sifting: &Sifting, seen: &mut [u16], first: u32, at: &mut Counted) -> Result<u32, NoMemory>
+fn turn(
+    sifting: &Sifting,
+    seen: &mut [u16],
+    known: &mut Known,
+    first: u32,
+    at: &mut Counted,
+) -> Result<u32, NoMemory>
     requires sure { IsDeterministic sifting.now.machine.now }
     requires supports { AreSupports sifting.now.machine.now sifting.now.supports.now }
     requires few { product sifting.now.machine.now.vars ≤ 1024 }
     requires prepared { IsPrepared sifting.now.machine.now sifting.now.points.now }
     requires room { HasRoom (product sifting.now.machine.now.vars) seen.old }
+    requires known { AreKnown sifting.now.machine.now known.old }
     requires counted { IsCounted sifting.now.machine.now at.old.order at.old.count }
     requires chain { IsChain sifting.now.machine.now at.old.order at.old.chain }
     requires first { first ≤ length at.old.order }
     ensures counted { IfOk result (λ next.
         IsCounted sifting.now.machine.now at.new.order at.new.count) }
+    ensures known { IfOk result (λ next. AreKnown sifting.now.machine.now known.new) }
     ensures chain { IfOk result (λ next.
         IsChain sifting.now.machine.now at.new.order at.new.chain) }
     ensures falls { IfOk result (λ next.
@@ -183,7 +208,7 @@ fn turn(sifting: &Sifting, seen: &mut [u16], first: u32, at: &mut Counted) -> Re
     for k in 0..items {
         let item = item_after(first, k, items);
         let before = at.count;
-        settle(sifting, seen, item, at)?;
+        settle(sifting, seen, known, item, at)?;
         if at.count != before {
             return Ok(item + 1);
         }
@@ -192,16 +217,23 @@ fn turn(sifting: &Sifting, seen: &mut [u16], first: u32, at: &mut Counted) -> Re
 }
 
 // Takes turns until nothing falls.
-fn settle_all(sifting: &Sifting, seen: &mut [u16], at: &mut Counted) -> Result<(), NoMemory>
+fn settle_all(
+    sifting: &Sifting,
+    seen: &mut [u16],
+    known: &mut Known,
+    at: &mut Counted,
+) -> Result<(), NoMemory>
     requires sure { IsDeterministic sifting.now.machine.now }
     requires supports { AreSupports sifting.now.machine.now sifting.now.supports.now }
     requires few { product sifting.now.machine.now.vars ≤ 1024 }
     requires prepared { IsPrepared sifting.now.machine.now sifting.now.points.now }
     requires room { HasRoom (product sifting.now.machine.now.vars) seen.old }
+    requires known { AreKnown sifting.now.machine.now known.old }
     requires counted { IsCounted sifting.now.machine.now at.old.order at.old.count }
     requires chain { IsChain sifting.now.machine.now at.old.order at.old.chain }
     ensures counted { IfOk result (λ done.
         IsCounted sifting.now.machine.now at.new.order at.new.count) }
+    ensures known { IfOk result (λ done. AreKnown sifting.now.machine.now known.new) }
     ensures chain { IfOk result (λ done.
         IsChain sifting.now.machine.now at.new.order at.new.chain) }
     ensures falls { IfOk result (λ done.
@@ -211,7 +243,7 @@ fn settle_all(sifting: &Sifting, seen: &mut [u16], at: &mut Counted) -> Result<(
     let mut first = 0;
     loop {
         let before = at.count;
-        first = turn(sifting, seen, first, at)?;
+        first = turn(sifting, seen, known, first, at)?;
         if at.count == before {
             return Ok(());
         }
@@ -236,19 +268,22 @@ fn counted_first(
     m: &Machine,
     points: &Points,
     seen: &mut [u16],
+    known: &mut Known,
     order: Order,
 ) -> Result<Counted, NoMemory>
     requires sure { IsDeterministic m.now }
     requires few { product m.now.vars ≤ 1024 }
     requires prepared { IsPrepared m.now points.now }
     requires room { HasRoom (product m.now.vars) seen.old }
+    requires known { AreKnown m.now known.old }
     requires allowed { Allowed m.now order }
     ensures order { IfOk result (λ at. at.order ≡ order) }
     ensures counted { IfOk result (λ at. IsCounted m.now at.order at.count) }
+    ensures known { IfOk result (λ at. AreKnown m.now known.new) }
     ensures chain { IfOk result (λ at. IsChain m.now at.order at.chain) }
 {
     laws_of_levels(m);
-    let chain = chain_of(alloc, m, points, seen, &order)?;
+    let chain = chain_of(alloc, m, points, seen, known, &order)?;
     let count = *chain.backs.get(order.len());
     Ok(Counted {
         order,
@@ -276,7 +311,8 @@ fn sifted_from(
     let mut room = room_for(alloc, snapshot_count(m) as usize)?;
     let seen = room.as_mut_slice();
     let points = prepare(alloc, m, table, seen)?;
-    let mut at = counted_first(alloc, m, &points, seen, order)?;
+    let mut known = nothing_known(alloc, m);
+    let mut at = counted_first(alloc, m, &points, seen, &mut known, order)?;
     let first_count = at.count;
     let sifting = Sifting {
         alloc,
@@ -284,7 +320,7 @@ fn sifted_from(
         supports,
         points: &points,
     };
-    settle_all(&sifting, seen, &mut at)?;
+    settle_all(&sifting, seen, &mut known, &mut at)?;
     Ok(Sifted {
         order: at.order,
         first_count,

@@ -1,11 +1,15 @@
-use Rattle.std.proofs.Common.{◌≡◌, ◌∙◌, ◌+◌, ◌-◌, ◌<◌, [], ◌∷◌, ◌++◌, ℕ, List, length, slice_index, arith, sym, ap, subst}
+use Rattle.std.proofs.Common.{◌≡◌, ◌∙◌, ◌+◌, ◌-◌, ◌<◌, [], ◌∷◌, ◌++◌, ℕ, List, length, take, slice_index, arith, refl, sym, ap, subst}
 use Rattle.std.proofs.lemmas.Option.{get_or_from_slice_get}
 use Rattle.order_sift.specs.Chains.{AreChain}
-use Rattle.order_sift.specs.Pairs.{AreBelow}
-use Rattle.order_sift.proofs.Keying.{room_kept}
-use Rattle.order_sift.proofs.Filling.{Frees, chain_start, chain_more}
-use Rattle.order_sift.proofs.Ranging.{items}
+use Rattle.decision_diagram.specs.Sets.{stands}
+use Rattle.order_sift.specs.Classes.{AreClasses, fixed_too}
+use Rattle.order_sift.specs.Known.{in_set}
+use Rattle.order_sift.proofs.Filling.{chain_start, chain_next, chain_more}
 use Rattle.domains.specs.Tables.{product}
+use Rattle.order_sift.proofs.Keying.{room_kept}
+use Rattle.order_sift.proofs.Knowing.{same_level, same_too, small_items}
+use Rattle.order_sift.proofs.Ranging.{items}
+use Rattle.order_sift.proofs.Sweeping.{same_classes, same_next}
 use Rattle.order_sift.proofs.chain.chain_of.Goals as goal
 
 pub loop-t-init : goal.loop-t-init
@@ -15,6 +19,7 @@ loop-t-init c =
     let whole = c.in_ok-whole.whole in
     record {
       room = c.requires.room;
+      known = c.requires.known;
       chain = chain_start m o c.laws_of_levels.ensures.laws c.requires.sure c.requires.allowed
           c.laws_below.ensures whole c.args.points.now.snapshots _ _ c.in_ok-whole.ensures
           c.requires.prepared.snapshots
@@ -23,22 +28,67 @@ loop-t-init c =
           (c.in_ok-push-2.ensures.ok ∙ ap (λ (xs : List ℕ). xs ++ 0 ∷ []) c.new-backs.ensures);
     }
 
-pub freed-requires-clause-long : goal.freed-requires-clause-long
-freed-requires-clause-long c =
-    let t = c.loop-t.t in
-    let chain = c.loop-t.invariant.chain in
-    let old = get_or_from_slice_get c.loop-t.classes t c.get-old.result.now [] c.get-old.ensures in
-    ap (λ (xs : List ℕ). length xs) (sym old) ∙ (chain.numbers t (omega arith)).long
+pub first_items-set-requires-clause-count : goal.first_items-set-requires-clause-count
+first_items-set-requires-clause-count c = let l = c.len-items.ensures.len in omega arith
 
-pub freed-requires-clause-below : goal.freed-requires-clause-below
-freed-requires-clause-below c =
-    let t = c.loop-t.t in
-    let chain = c.loop-t.invariant.chain in
-    let old = get_or_from_slice_get c.loop-t.classes t c.get-old.result.now [] c.get-old.ensures in
-    subst (AreBelow (product c.args.m.now.vars)) old (chain.numbers t (omega arith)).below
+pub first_items-set-requires-clause-small : goal.first_items-set-requires-clause-small
+first_items-set-requires-clause-small c =
+    small_items c.args.m.now c.args.order.now c.requires.allowed c.laws_of_levels.ensures.few
 
-pub freed-requires-clause-item : goal.freed-requires-clause-item
-freed-requires-clause-item c =
+pub numbers_of-requires-clause-next : goal.numbers_of-requires-clause-next
+numbers_of-requires-clause-next c =
+    let m = c.args.m.now in
+    let o = c.args.order.now in
+    let t = c.loop-t.t in
+    let l = c.len-items.ensures.len in
+    let low : t < length o = let a = c.loop-t-test.true in omega arith in
+    let item = c.get-item.result.now in
+    let set = c.first_items-set.result in
+    let at : slice_index o (length o - 1 - t) ≡ item =
+    ap (λ (n : ℕ). slice_index o (n - 1 - t)) (sym l)
+    ∙ get_or_from_slice_get o (c.len-items.result - 1 - t) item 0 c.get-item.ensures in
+    same_next m (stands (take (length o - 1 - t) o)) (in_set set) item item
+    (λ w. sym (c.first_items-set.ensures w ∙ ap (λ (n : ℕ). stands (take (n - 1 - t) o) w) l)) refl
+    (chain_next m o c.laws_of_levels.ensures.laws c.requires.sure c.requires.allowed t item
+    c.loop-t.classes c.loop-t.backs low at c.loop-t.invariant.chain).next
+
+pub numbers_of-requires-clause-classes : goal.numbers_of-requires-clause-classes
+numbers_of-requires-clause-classes c =
+    let m = c.args.m.now in
+    let o = c.args.order.now in
+    let t = c.loop-t.t in
+    let l = c.len-items.ensures.len in
+    let low : t < length o = let a = c.loop-t-test.true in omega arith in
+    let item = c.get-item.result.now in
+    let set = c.first_items-set.result in
+    let at : slice_index o (length o - 1 - t) ≡ item =
+    ap (λ (n : ℕ). slice_index o (n - 1 - t)) (sym l)
+    ∙ get_or_from_slice_get o (c.len-items.result - 1 - t) item 0 c.get-item.ensures in
+    let old = get_or_from_slice_get c.loop-t.classes t c.get-old.result.now [] c.get-old.ensures in
+    same_too m (stands (take (length o - 1 - t) o)) (in_set set) item c.get-old.result.now
+    (λ w. sym (c.first_items-set.ensures w ∙ ap (λ (n : ℕ). stands (take (n - 1 - t) o) w) l))
+    (subst (AreClasses m (fixed_too (stands (take (length o - 1 - t) o)) item)) old
+    (chain_next m o c.laws_of_levels.ensures.laws c.requires.sure c.requires.allowed t item
+    c.loop-t.classes c.loop-t.backs low at c.loop-t.invariant.chain).too)
+
+pub level_after-requires-clause-free : goal.level_after-requires-clause-free
+level_after-requires-clause-free c =
+    let m = c.args.m.now in
+    let o = c.args.order.now in
+    let t = c.loop-t.t in
+    let l = c.len-items.ensures.len in
+    let low : t < length o = let a = c.loop-t-test.true in omega arith in
+    let item = c.get-item.result.now in
+    let at : slice_index o (length o - 1 - t) ≡ item =
+    ap (λ (n : ℕ). slice_index o (n - 1 - t)) (sym l)
+    ∙ get_or_from_slice_get o (c.len-items.result - 1 - t) item 0 c.get-item.ensures in
+    let next = chain_next m o c.laws_of_levels.ensures.laws c.requires.sure c.requires.allowed t
+    item c.loop-t.classes c.loop-t.backs low at c.loop-t.invariant.chain in
+    (c.first_items-set.ensures item ∙ ap (λ (n : ℕ). stands (take (n - 1 - t) o) item) l)
+    ∙ next.next.free
+
+pub numbers_of-requires-clause-item : goal.numbers_of-requires-clause-item
+numbers_of-requires-clause-item c =
     let o = c.args.order.now in
     let t = c.loop-t.t in
     let n = items c.args.m.now o c.requires.allowed in
@@ -49,8 +99,8 @@ freed-requires-clause-item c =
     let b = c.requires.allowed.permutation.below (c.len-items.result - 1 - t) (omega arith) in
     omega arith
 
-pub level_of-here-requires-clause-item : goal.level_of-here-requires-clause-item
-level_of-here-requires-clause-item c =
+pub level_after-requires-clause-item : goal.level_after-requires-clause-item
+level_after-requires-clause-item c =
     let o = c.args.order.now in
     let t = c.loop-t.t in
     let n = items c.args.m.now o c.requires.allowed in
@@ -75,15 +125,20 @@ loop-t-preserved c =
     c.get-item.ensures in
     let old = get_or_from_slice_get c.loop-t.classes t c.get-old.result.now [] c.get-old.ensures in
     let last = get_or_from_slice_get c.loop-t.backs t c.get-last.result.now 0 c.get-last.ensures in
-    let frees = subst (λ (xs : List ℕ). Frees m c.get-item.result.now xs c.in_ok-made.made)
-    (sym old) c.in_ok-made.ensures.classes in
-    let here = c.level_of-here.result in
+    let set = c.first_items-set.result in
+    let same : (w : ℕ) → in_set set w ≡ stands (take (length o - 1 - t) o) w =
+    λ w. c.first_items-set.ensures w ∙ ap (λ (n : ℕ). stands (take (n - 1 - t) o) w) l in
+    let made = same_classes m (in_set set) (stands (take (length o - 1 - t) o)) c.in_ok-made.made
+    same c.in_ok-made.ensures.numbers in
+    let here = c.in_ok-here.here in
+    let level = same_level m (in_set set) (stands (take (length o - 1 - t) o))
+    c.get-item.result.now here same c.in_ok-here.ensures.level in
     record {
-      room = room_kept (product m.vars) _ _ c.freed.auto.seen c.loop-t.invariant.room;
+      room = room_kept (product m.vars) _ _ c.numbers_of.auto.seen c.loop-t.invariant.room;
+      known = c.in_ok-here.ensures.known;
       chain = chain_more m o c.laws_of_levels.ensures.laws c.requires.sure c.requires.allowed t
           c.get-item.result.now c.loop-t.classes _ c.loop-t.backs _ c.in_ok-made.made here
-          (here + c.get-last.result.now) low at chain frees c.level_of-here.ensures.level
-          c.level_of-here.ensures.few (ap (λ (k : ℕ). here + k) (sym last)) c.in_ok-push-3.ensures.ok
+          (here + c.get-last.result.now) low at chain made level c.in_ok-here.ensures.few (ap (λ (k : ℕ). here + k) (sym last)) c.in_ok-push-3.ensures.ok
           c.in_ok-push-4.ensures.ok;
     }
 
@@ -97,11 +152,11 @@ overflow_add-back c =
     let low = c.loop-t-test.true in
     let last = get_or_from_slice_get c.loop-t.backs t c.get-last.result.now 0 c.get-last.ensures in
     let a = chain.few t (omega arith) in
-    let b = c.level_of-here.ensures.few in
+    let b = c.in_ok-here.ensures.few in
     omega arith
 
-pub returns : goal.returns
-returns c =
+pub returns-clause-chain : goal.returns-clause-chain
+returns-clause-chain c =
     let m = c.args.m.now in
     let o = c.args.order.now in
     let l = c.len-items.ensures.len in

@@ -1,10 +1,12 @@
 use Rattle.order_sift.specs.Chains.{AreChain}
 use Rattle.domains.specs.Tables.{product}
+use Rattle.order_sift.specs.Known.{AreKnown}
 use Rattle.order_sift.specs.Pairs.{HasRoom}
 use Rattle.order_sift.proofs.chain.chain_of.Given as goal
 
 abbrev pub invariant-loop-t : goal.invariant-loop-t
 invariant-loop-t l = record {
   room : HasRoom (product l.m.vars) l.seen;
+  known : AreKnown l.m l.known;
   chain : AreChain l.m l.order l.t l.classes l.backs;
 }

@@ -1,16 +1,19 @@
-use Rattle.std.proofs.Common.{◌≡◌, ◌∙◌, ◌+◌, ◌-◌, ◌<◌, ◌≤◌, [], ℕ, List, length, take, get_or, slice_index, arith, sym, ap, subst, refl}
+use Rattle.std.proofs.Common.{◌≡◌, ◌∙◌, ◌||◌, ◌==◌, ◌+◌, ◌-◌, ◌<◌, ◌≤◌, [], ℕ, List, length, take, get_or, slice_index, arith, sym, ap, subst, refl}
 use Rattle.std.specs.List.{remove}
 use Rattle.std.proofs.lemmas.Option.{get_or_from_slice_get}
-use Rattle.decision_diagram.specs.Sets.{stands}
+use Rattle.transition_table.specs.Computed.{char}
+use Rattle.transition_table.specs.Orders.{sizes_of}
+use Rattle.decision_diagram.specs.Sets.{stands, set_level}
 use Rattle.order_sift.specs.Chains.{AreSizes}
-use Rattle.order_sift.specs.Classes.{AreClasses}
-use Rattle.order_sift.specs.Pairs.{AreBelow}
-use Rattle.order_sift.proofs.Keying.{room_kept}
+use Rattle.order_sift.specs.Classes.{AreClasses, fixed_too}
+use Rattle.order_sift.specs.Known.{in_set}
 use Rattle.order_sift.proofs.Codes.{set_long}
-use Rattle.order_sift.proofs.Filling.{Frees, Levels, sizes_set, chain_classes, front_low, steps_after, start_without}
-use Rattle.order_sift.proofs.Ranging.{items}
-use Rattle.order_sift.proofs.Sweeping.{front_of}
+use Rattle.order_sift.proofs.Filling.{sizes_set, front_low, after_free, after_more, after_next, steps_after, start_without}
 use Rattle.domains.specs.Tables.{product}
+use Rattle.order_sift.proofs.Keying.{room_kept}
+use Rattle.order_sift.proofs.Knowing.{same_level, same_too, small_items}
+use Rattle.order_sift.proofs.Ranging.{items}
+use Rattle.order_sift.proofs.Sweeping.{front_of, same_classes, same_next, take_low}
 use Rattle.order_sift.proofs.moves.fill_after.Goals as goal
 
 pub loop-j-init : goal.loop-j-init
@@ -46,6 +49,11 @@ loop-j-init c =
     c.requires.chain i li sized) in
     record {
       room = c.requires.room;
+      known = c.requires.known;
+      set = λ w. c.first_items-set.ensures w
+          ∙ ap (λ (xs : List ℕ). stands xs w)
+          (sym (take_low o i i (let h : i ≤ i = omega arith in h)))
+          ∙ ap (λ (n : ℕ). stands (take n (remove o i)) w) e;
       long = refl;
       later = omega arith;
       front = front ∙ ap (front_of m o i) e;
@@ -75,44 +83,46 @@ loop-j-preserved c =
     let later = inv.later in
     let high : i < j = omega arith in
     let lj : j < length o = omega arith in
-    let may_before = c.requires.places (j - 1) (omega arith) (omega arith) in
-    let may = c.requires.places j (omega arith) (omega arith) in
     let next = c.get-next.result.now in
     let next_is = get_or_from_slice_get o j next 0 c.get-next.ensures in
     let item_is = get_or_from_slice_get o i c.get-item.result.now 0 c.get-item.ensures in
-    let got : c.get-with_item.result.now ≡ get_or chain.classes (length o - 1 - j) [] =
-    sym (ap (λ (n : ℕ). get_or chain.classes (n - 1 - j) []) (sym l)
-    ∙ get_or_from_slice_get chain.classes (c.len-items.result - 1 - j)
-    c.get-with_item.result.now [] c.get-with_item.ensures) in
     let back : c.get-back.result.now ≡ slice_index chain.backs (length o - 1 - j) =
     sym (ap (λ (n : ℕ). slice_index chain.backs (n - 1 - j)) (sym l)
     ∙ get_or_from_slice_get chain.backs (c.len-items.result - 1 - j) c.get-back.result.now 0
     c.get-back.ensures) in
-    let own = c.level_of-own.result in
-    let here = c.level_of-here.result in
+    let own = c.in_ok-own.own in
+    let here = c.in_ok-here.here in
     let old_front = c.loop-j.front in
     let freer = c.in_ok-freer.freer in
-    let frees = subst (λ (x : ℕ). Frees m x (get_or chain.classes (length o - 1 - j) []) freer)
-    (sym item_is) (subst (λ (xs : List ℕ). Frees m c.get-item.result.now xs freer) got
-    c.in_ok-freer.ensures.classes) in
-    let own_levels =
-    subst (λ (x : ℕ). Levels m x freer own) (sym item_is) c.level_of-own.ensures.level in
+    let bare = stands (take j (remove o i)) in
+    let same : (w : ℕ) → in_set c.with-more.result w ≡ bare w =
+    λ w. c.with-more.ensures w ∙ ap (λ b. b || next == w) (inv.set w)
+    ∙ after_more m o laws c.requires.sure c.requires.allowed chain.classes chain.backs
+    c.requires.chain i li sized j next w high lj next_is in
+    let made = same_classes m (in_set c.with-more.result) bare freer same
+    c.in_ok-freer.ensures.numbers in
+    let level = same_level m (in_set c.loop-j.set) (stands (take (j - 1) (remove o i))) next here
+    inv.set c.in_ok-here.ensures.level in
+    let own_level = subst (λ (x : ℕ). own ≡ set_level (char m) (sizes_of m) bare x) (sym item_is)
+    (same_level m (in_set c.with-more.result) bare c.get-item.result.now own same
+    c.in_ok-own.ensures.level) in
     let step = steps_after m o laws c.requires.sure c.requires.allowed chain.classes chain.backs
     c.requires.chain i li sized j next here old_front own c.get-back.result.now
-    c.loop-j.without_item freer high lj may_before may next_is inv.front inv.classes
-    c.level_of-here.ensures.level frees own_levels back in
+    freer high lj next_is inv.front level made own_level back in
     let e : j ≡ j + 1 - 1 = omega arith in
     let set = c.set.ensures in
     let long = inv.long in
     let room = c.requires.long in
     let few = inv.few in
-    let few_here = c.level_of-here.ensures.few in
+    let few_here = c.in_ok-here.ensures.few in
     let value = (old_front + here) + own + c.get-back.result.now in
     let sizes = sizes_set m o c.loop-j.sizes i first j value first (j - 1) first j
     (let h : first ≤ first = omega arith in
     h) (omega arith) (omega arith) step.whole_is inv.sizes (λ k a b apart. (a, omega arith)) in
     record {
-      room = room_kept (product m.vars) _ _ c.freed.auto.seen inv.room;
+      room = room_kept (product m.vars) _ _ c.numbers_of.auto.seen inv.room;
+      known = c.in_ok-own.ensures.known;
+      set = λ w. same w ∙ ap (λ (n : ℕ). stands (take n (remove o i)) w) e;
       long = ap (λ (xs : List ℕ). length xs) set ∙ set_long c.loop-j.sizes (j - first) value ∙ long;
       later = omega arith;
       front = step.front_is ∙ ap (front_of m o i) e;
@@ -122,8 +132,8 @@ loop-j-preserved c =
           (subst (λ (xs : List ℕ). AreSizes m o i first xs first j) (sym set) sizes);
     }
 
-pub level_of-here-requires-clause-item : goal.level_of-here-requires-clause-item
-level_of-here-requires-clause-item c =
+pub level_after-requires-clause-item : goal.level_after-requires-clause-item
+level_after-requires-clause-item c =
     let o = c.args.moving.now.order.now in
     let n = items c.args.moving.now.machine.now o c.requires.allowed in
     let l = c.len-items.ensures.len in
@@ -132,8 +142,8 @@ level_of-here-requires-clause-item c =
     let b = c.requires.last in omega arith) in
     omega arith
 
-pub freed-requires-clause-item : goal.freed-requires-clause-item
-freed-requires-clause-item c =
+pub numbers_of-requires-clause-item : goal.numbers_of-requires-clause-item
+numbers_of-requires-clause-item c =
     let o = c.args.moving.now.order.now in
     let n = items c.args.moving.now.machine.now o c.requires.allowed in
     let l = c.len-items.ensures.len in
@@ -142,8 +152,8 @@ freed-requires-clause-item c =
     let b = c.requires.last in omega arith) in
     omega arith
 
-pub level_of-own-requires-clause-item : goal.level_of-own-requires-clause-item
-level_of-own-requires-clause-item c =
+pub level_after-requires-in-loop-j-clause-item : goal.level_after-requires-in-loop-j-clause-item
+level_after-requires-in-loop-j-clause-item c =
     let o = c.args.moving.now.order.now in
     let n = items c.args.moving.now.machine.now o c.requires.allowed in
     let l = c.len-items.ensures.len in
@@ -152,45 +162,155 @@ level_of-own-requires-clause-item c =
     let b = c.requires.last in omega arith) in
     omega arith
 
-pub freed-requires-clause-long : goal.freed-requires-clause-long
-freed-requires-clause-long c =
-    let m = c.args.moving.now.machine.now in
-    let o = c.args.moving.now.order.now in
-    let chain = c.args.moving.now.chain.now in
-    let laws = c.laws_of_levels.ensures.laws in
-    let sized = c.laws_of_levels.ensures.sizes in
-    let i = c.args.i in
-    let l = c.len-items.ensures.len in
-    let j = c.loop-j.j in
-    let test = c.loop-j-test.true in
-    let last = c.requires.last in
-    let e : length o - (j + 1) ≡ length o - 1 - j = omega arith in
-    let got = ap (λ (n : ℕ). get_or chain.classes (n - 1 - j) []) (sym l)
-    ∙ get_or_from_slice_get chain.classes (c.len-items.result - 1 - j)
-    c.get-with_item.result.now [] c.get-with_item.ensures in
-    ap (λ (xs : List ℕ). length xs) (sym (ap (λ (k : ℕ). get_or chain.classes k []) e ∙ got))
-    ∙ (chain_classes m o laws c.requires.sure c.requires.allowed chain.classes chain.backs
-    c.requires.chain (j + 1) (omega arith)).long
+pub first_items-set-requires-clause-count : goal.first_items-set-requires-clause-count
+first_items-set-requires-clause-count c =
+    let a = c.requires.i in let b = c.requires.last in omega arith
 
-pub freed-requires-clause-below : goal.freed-requires-clause-below
-freed-requires-clause-below c =
+pub first_items-set-requires-clause-small : goal.first_items-set-requires-clause-small
+first_items-set-requires-clause-small c =
+    small_items c.args.moving.now.machine.now c.args.moving.now.order.now c.requires.allowed
+    c.laws_of_levels.ensures.few
+
+pub with-more-requires : goal.with-more-requires
+with-more-requires c =
+    let m = c.args.moving.now.machine.now in
+    let o = c.args.moving.now.order.now in
+    let is = get_or_from_slice_get o c.loop-j.j c.get-next.result.now 0 c.get-next.ensures in
+    let low = small_items m o c.requires.allowed c.laws_of_levels.ensures.few c.loop-j.j
+    (let a = c.loop-j-test.true in let b = c.requires.last in omega arith) in
+    omega arith
+
+pub level_after-requires-clause-free : goal.level_after-requires-clause-free
+level_after-requires-clause-free c =
     let m = c.args.moving.now.machine.now in
     let o = c.args.moving.now.order.now in
     let chain = c.args.moving.now.chain.now in
     let laws = c.laws_of_levels.ensures.laws in
     let sized = c.laws_of_levels.ensures.sizes in
     let i = c.args.i in
-    let l = c.len-items.ensures.len in
     let j = c.loop-j.j in
+    let li : i < length o = let a = c.requires.i in let b = c.requires.last in omega arith in
     let test = c.loop-j-test.true in
     let last = c.requires.last in
-    let e : length o - (j + 1) ≡ length o - 1 - j = omega arith in
+    let later = c.loop-j.invariant.later in
+    let high : i < j = omega arith in
+    let lj : j < length o = omega arith in
+    let next = c.get-next.result.now in
+    let next_is = get_or_from_slice_get o j next 0 c.get-next.ensures in
+    let low = c.requires.first in
+    let may = c.requires.places (j - 1) (omega arith) (omega arith) in
+    c.loop-j.invariant.set next
+    ∙ after_free m o laws c.requires.sure c.requires.allowed chain.classes chain.backs
+    c.requires.chain i li sized j next high lj may next_is
+
+pub level_after-requires-clause-classes : goal.level_after-requires-clause-classes
+level_after-requires-clause-classes c =
+    let m = c.args.moving.now.machine.now in
+    let o = c.args.moving.now.order.now in
+    let i = c.args.i in
+    let j = c.loop-j.j in
+    same_classes m (stands (take (j - 1) (remove o i))) (in_set c.loop-j.set)
+    c.loop-j.without_item (λ w. sym (c.loop-j.invariant.set w)) c.loop-j.invariant.classes
+
+pub numbers_of-requires-clause-next : goal.numbers_of-requires-clause-next
+numbers_of-requires-clause-next c =
+    let m = c.args.moving.now.machine.now in
+    let o = c.args.moving.now.order.now in
+    let chain = c.args.moving.now.chain.now in
+    let laws = c.laws_of_levels.ensures.laws in
+    let sized = c.laws_of_levels.ensures.sizes in
+    let i = c.args.i in
+    let j = c.loop-j.j in
+    let li : i < length o = let a = c.requires.i in let b = c.requires.last in omega arith in
+    let test = c.loop-j-test.true in
+    let last = c.requires.last in
+    let later = c.loop-j.invariant.later in
+    let high : i < j = omega arith in
+    let lj : j < length o = omega arith in
+    let next = c.get-next.result.now in
+    let next_is = get_or_from_slice_get o j next 0 c.get-next.ensures in
+    let item = c.get-item.result.now in
+    let item_is = get_or_from_slice_get o i item 0 c.get-item.ensures in
+    let l = c.len-items.ensures.len in
+    let low = c.requires.first in
+    let may = c.requires.places j (omega arith) (omega arith) in
+    let bare = stands (take j (remove o i)) in
+    let same : (w : ℕ) → in_set c.with-more.result w ≡ bare w =
+    λ w. c.with-more.ensures w ∙ ap (λ b. b || next == w) (c.loop-j.invariant.set w)
+    ∙ after_more m o laws c.requires.sure c.requires.allowed chain.classes chain.backs
+    c.requires.chain i li sized j next w high lj next_is in
+    let follows = after_next m o laws c.requires.sure c.requires.allowed chain.classes chain.backs
+    c.requires.chain i li sized j high lj may in
+    same_next m bare (in_set c.with-more.result) (slice_index o i) item (λ w. sym (same w)) item_is
+    follows.next
+
+pub numbers_of-requires-clause-classes : goal.numbers_of-requires-clause-classes
+numbers_of-requires-clause-classes c =
+    let m = c.args.moving.now.machine.now in
+    let o = c.args.moving.now.order.now in
+    let chain = c.args.moving.now.chain.now in
+    let laws = c.laws_of_levels.ensures.laws in
+    let sized = c.laws_of_levels.ensures.sizes in
+    let i = c.args.i in
+    let j = c.loop-j.j in
+    let li : i < length o = let a = c.requires.i in let b = c.requires.last in omega arith in
+    let test = c.loop-j-test.true in
+    let last = c.requires.last in
+    let later = c.loop-j.invariant.later in
+    let high : i < j = omega arith in
+    let lj : j < length o = omega arith in
+    let next = c.get-next.result.now in
+    let next_is = get_or_from_slice_get o j next 0 c.get-next.ensures in
+    let item = c.get-item.result.now in
+    let item_is = get_or_from_slice_get o i item 0 c.get-item.ensures in
+    let l = c.len-items.ensures.len in
+    let low = c.requires.first in
+    let may = c.requires.places j (omega arith) (omega arith) in
+    let bare = stands (take j (remove o i)) in
+    let same : (w : ℕ) → in_set c.with-more.result w ≡ bare w =
+    λ w. c.with-more.ensures w ∙ ap (λ b. b || next == w) (c.loop-j.invariant.set w)
+    ∙ after_more m o laws c.requires.sure c.requires.allowed chain.classes chain.backs
+    c.requires.chain i li sized j next w high lj next_is in
+    let follows = after_next m o laws c.requires.sure c.requires.allowed chain.classes chain.backs
+    c.requires.chain i li sized j high lj may in
     let got = ap (λ (n : ℕ). get_or chain.classes (n - 1 - j) []) (sym l)
     ∙ get_or_from_slice_get chain.classes (c.len-items.result - 1 - j)
     c.get-with_item.result.now [] c.get-with_item.ensures in
-    subst (AreBelow (product m.vars)) (ap (λ (k : ℕ). get_or chain.classes k []) e ∙ got)
-    (chain_classes m o laws c.requires.sure c.requires.allowed chain.classes chain.backs
-    c.requires.chain (j + 1) (omega arith)).below
+    same_too m bare (in_set c.with-more.result) item c.get-with_item.result.now
+    (λ w. sym (same w))
+    (subst (λ (x : ℕ). AreClasses m (fixed_too bare x) c.get-with_item.result.now) item_is
+    (subst (AreClasses m (fixed_too bare (slice_index o i))) got follows.too))
+
+pub level_after-requires-in-loop-j-clause-free : goal.level_after-requires-in-loop-j-clause-free
+level_after-requires-in-loop-j-clause-free c =
+    let m = c.args.moving.now.machine.now in
+    let o = c.args.moving.now.order.now in
+    let chain = c.args.moving.now.chain.now in
+    let laws = c.laws_of_levels.ensures.laws in
+    let sized = c.laws_of_levels.ensures.sizes in
+    let i = c.args.i in
+    let j = c.loop-j.j in
+    let li : i < length o = let a = c.requires.i in let b = c.requires.last in omega arith in
+    let test = c.loop-j-test.true in
+    let last = c.requires.last in
+    let later = c.loop-j.invariant.later in
+    let high : i < j = omega arith in
+    let lj : j < length o = omega arith in
+    let next = c.get-next.result.now in
+    let next_is = get_or_from_slice_get o j next 0 c.get-next.ensures in
+    let item = c.get-item.result.now in
+    let item_is = get_or_from_slice_get o i item 0 c.get-item.ensures in
+    let l = c.len-items.ensures.len in
+    let low = c.requires.first in
+    let may = c.requires.places j (omega arith) (omega arith) in
+    let bare = stands (take j (remove o i)) in
+    let same : (w : ℕ) → in_set c.with-more.result w ≡ bare w =
+    λ w. c.with-more.ensures w ∙ ap (λ b. b || next == w) (c.loop-j.invariant.set w)
+    ∙ after_more m o laws c.requires.sure c.requires.allowed chain.classes chain.backs
+    c.requires.chain i li sized j next w high lj next_is in
+    let follows = after_next m o laws c.requires.sure c.requires.allowed chain.classes chain.backs
+    c.requires.chain i li sized j high lj may in
+    same item ∙ ap bare (sym item_is) ∙ follows.next.free
 
 pub overflow_sub-front : goal.overflow_sub-front
 overflow_sub-front c =
@@ -218,7 +338,7 @@ overflow_add-front c =
     let n = items c.args.moving.now.machine.now c.args.moving.now.order.now c.requires.allowed in
     let items_few = c.laws_of_levels.ensures.few in
     let few = c.loop-j.invariant.few in
-    let here = c.level_of-here.ensures.few in
+    let here = c.in_ok-here.ensures.few in
     let test = c.loop-j-test.true in
     let last = c.requires.last in
     omega arith
@@ -228,8 +348,8 @@ overflow_add-size c =
     let n = items c.args.moving.now.machine.now c.args.moving.now.order.now c.requires.allowed in
     let items_few = c.laws_of_levels.ensures.few in
     let few = c.loop-j.invariant.few in
-    let here = c.level_of-here.ensures.few in
-    let own = c.level_of-own.ensures.few in
+    let here = c.in_ok-here.ensures.few in
+    let own = c.in_ok-own.ensures.few in
     let test = c.loop-j-test.true in
     let last = c.requires.last in
     omega arith
@@ -247,8 +367,8 @@ overflow_add-size-in-loop-j c =
     let n = items m o c.requires.allowed in
     let items_few = c.laws_of_levels.ensures.few in
     let few = c.loop-j.invariant.few in
-    let here = c.level_of-here.ensures.few in
-    let own = c.level_of-own.ensures.few in
+    let here = c.in_ok-here.ensures.few in
+    let own = c.in_ok-own.ensures.few in
     let test = c.loop-j-test.true in
     let last = c.requires.last in
     let back = ap (λ (n : ℕ). slice_index chain.backs (n - 1 - j)) (sym l)

@@ -1,16 +1,19 @@
 use Rattle.std.proofs.Common.{◌≡◌, ◌∙◌, ◌+◌, ◌-◌, ◌<◌, ◌≤◌, [], ◌∷◌, ◌++◌, ℕ, List, length, take, get_or, slice_index, arith, sym, ap, subst, refl}
 use Rattle.std.specs.List.{remove}
 use Rattle.std.proofs.lemmas.Option.{get_or_from_slice_get}
-use Rattle.decision_diagram.specs.Sets.{stands}
+use Rattle.transition_table.specs.Computed.{char}
+use Rattle.transition_table.specs.Orders.{sizes_of}
+use Rattle.decision_diagram.specs.Sets.{stands, set_level}
 use Rattle.order_sift.specs.Chains.{AreSizes}
 use Rattle.order_sift.specs.Classes.{AreClasses}
-use Rattle.order_sift.specs.Pairs.{AreBelow}
-use Rattle.order_sift.proofs.Keying.{room_kept}
+use Rattle.order_sift.specs.Known.{in_set}
 use Rattle.order_sift.proofs.Codes.{set_long}
-use Rattle.order_sift.proofs.Filling.{Levels, sizes_set, chain_classes, front_low, steps_before, start_with, back_high}
-use Rattle.order_sift.proofs.Ranging.{items}
-use Rattle.order_sift.proofs.Sweeping.{back_of}
+use Rattle.order_sift.proofs.Filling.{sizes_set, front_low, before_next, own_free, own_classes, steps_before, start_with, back_high}
 use Rattle.domains.specs.Tables.{product}
+use Rattle.order_sift.proofs.Keying.{room_kept}
+use Rattle.order_sift.proofs.Knowing.{set_before, set_with, same_level, same_too, small_items}
+use Rattle.order_sift.proofs.Ranging.{items}
+use Rattle.order_sift.proofs.Sweeping.{back_of, same_classes, same_next, rest_long}
 use Rattle.order_sift.proofs.moves.fill_before.Goals as goal
 
 pub loop-t-init : goal.loop-t-init
@@ -44,6 +47,7 @@ loop-t-init c =
     c.requires.chain i li sized) in
     record {
       room = c.requires.room;
+      known = c.requires.known;
       long = refl;
       back = back ∙ ap (back_of m o i) e;
       few = omega arith;
@@ -72,7 +76,6 @@ loop-t-preserved c =
     let e_new : j ≡ i - (t + 1) = omega arith in
     let low : j < i = omega arith in
     let high : first ≤ j = omega arith in
-    let may = c.requires.places j high (omega arith) in
     let next = c.get-next.result.now in
     let next_is = get_or_from_slice_get o j next 0 c.get-next.ensures in
     let item_is = get_or_from_slice_get o i c.get-item.result.now 0 c.get-item.ensures in
@@ -86,34 +89,42 @@ loop-t-preserved c =
     sym (ap (λ (n : ℕ). get_or chain.classes (n - j) []) (sym l)
     ∙ get_or_from_slice_get chain.classes (c.len-items.result - j) c.get-without_item.result.now
     [] c.get-without_item.ensures) in
-    let own = c.level_of-own.result in
-    let here = c.level_of-here.result in
+    let own = c.in_ok-own.own in
+    let here = c.in_ok-here.here in
     let old_back = c.loop-t.back in
     let front = c.get-whole.result.now - c.get-after.result.now in
-    let own_levels =
-    subst (λ (x : ℕ). Levels m x (get_or chain.classes (length o - j) []) own) (sym item_is)
-    (subst (λ (xs : List ℕ). Levels m c.get-item.result.now xs own) got
-    c.level_of-own.ensures.level) in
+    let bare = stands (take j (remove o i)) in
+    let with_it = stands (take j (remove o i) ++ slice_index o i ∷ []) in
+    let same : (w : ℕ) → in_set c.first_items-before.result w ≡ bare w =
+    set_before o c.first_items-before.result i j c.first_items-before.ensures (omega arith) in
+    let same_with : (w : ℕ) → in_set c.with-set.result w ≡ with_it w =
+    set_with o c.first_items-before.result c.with-set.result c.get-item.result.now i j item_is same
+    c.with-set.ensures in
+    let made = same_classes m (in_set c.with-set.result) with_it c.in_ok-freer.freer same_with
+    c.in_ok-freer.ensures.numbers in
+    let level = same_level m (in_set c.with-set.result) with_it next here same_with
+    c.in_ok-here.ensures.level in
+    let own_level = subst (λ (x : ℕ). own ≡ set_level (char m) (sizes_of m) bare x) (sym item_is)
+    (same_level m (in_set c.first_items-before.result) bare c.get-item.result.now own same
+    c.in_ok-own.ensures.level) in
     let fronts = front_low m o laws c.requires.sure c.requires.allowed chain.classes chain.backs
     c.requires.chain i li sized j (omega arith) in
     let fronts_is = fronts.1 in
-    let old_are = subst
-    (λ (n : ℕ). AreClasses m (stands (take n (remove o i) ++ slice_index o i ∷ []))
-    c.loop-t.with_item) e_old inv.classes in
     let step = steps_before m o laws c.requires.sure c.requires.allowed chain.classes chain.backs
-    c.requires.chain i li sized j next here old_back own front c.loop-t.with_item
-    c.in_ok-freer.freer low may next_is (inv.back ∙ ap (back_of m o i) e_old) old_are
-    c.in_ok-freer.ensures.classes c.level_of-here.ensures.level own_levels (omega arith) in
+    c.requires.chain i li sized j next here old_back own front
+    c.in_ok-freer.freer low next_is (inv.back ∙ ap (back_of m o i) e_old) made level own_level
+    (omega arith) in
     let set = c.set.ensures in
     let long = inv.long in
     let room = c.requires.long in
     let few = inv.few in
-    let few_here = c.level_of-here.ensures.few in
+    let few_here = c.in_ok-here.ensures.few in
     let value = front + own + (old_back + here) in
     let sizes = sizes_set m o c.loop-t.sizes i first j value (i - t) i j i high high (omega arith)
     step.whole_is inv.sizes (λ k a b apart. (omega arith, b)) in
     record {
-      room = room_kept (product m.vars) _ _ c.freed.auto.seen inv.room;
+      room = room_kept (product m.vars) _ _ c.numbers_of.auto.seen inv.room;
+      known = c.in_ok-own.ensures.known;
       long = ap (λ (xs : List ℕ). length xs) set ∙ set_long c.loop-t.sizes (j - first) value ∙ long;
       back = step.back_is ∙ ap (back_of m o i) e_new;
       few = omega arith;
@@ -124,8 +135,8 @@ loop-t-preserved c =
           (subst (λ (xs : List ℕ). AreSizes m o i first xs j i) (sym set) sizes);
     }
 
-pub freed-requires-clause-item : goal.freed-requires-clause-item
-freed-requires-clause-item c =
+pub numbers_of-requires-clause-item : goal.numbers_of-requires-clause-item
+numbers_of-requires-clause-item c =
     let o = c.args.moving.now.order.now in
     let n = items c.args.moving.now.machine.now o c.requires.allowed in
     let l = c.len-items.ensures.len in
@@ -135,8 +146,8 @@ freed-requires-clause-item c =
     (let a = c.loop-t-test.true in let b = c.requires.i in omega arith) in
     omega arith
 
-pub level_of-here-requires-clause-item : goal.level_of-here-requires-clause-item
-level_of-here-requires-clause-item c =
+pub level_after-requires-clause-item : goal.level_after-requires-clause-item
+level_after-requires-clause-item c =
     let o = c.args.moving.now.order.now in
     let n = items c.args.moving.now.machine.now o c.requires.allowed in
     let l = c.len-items.ensures.len in
@@ -146,8 +157,8 @@ level_of-here-requires-clause-item c =
     (let a = c.loop-t-test.true in let b = c.requires.i in omega arith) in
     omega arith
 
-pub level_of-own-requires-clause-item : goal.level_of-own-requires-clause-item
-level_of-own-requires-clause-item c =
+pub level_after-requires-in-loop-t-clause-item : goal.level_after-requires-in-loop-t-clause-item
+level_after-requires-in-loop-t-clause-item c =
     let o = c.args.moving.now.order.now in
     let n = items c.args.moving.now.machine.now o c.requires.allowed in
     let l = c.len-items.ensures.len in
@@ -155,41 +166,151 @@ level_of-own-requires-clause-item c =
     let b = c.requires.allowed.permutation.below (c.args.i) (c.requires.i) in
     omega arith
 
-pub level_of-own-requires-clause-long : goal.level_of-own-requires-clause-long
-level_of-own-requires-clause-long c =
-    let m = c.args.moving.now.machine.now in
-    let o = c.args.moving.now.order.now in
-    let chain = c.args.moving.now.chain.now in
-    let laws = c.laws_of_levels.ensures.laws in
-    let sized = c.laws_of_levels.ensures.sizes in
-    let i = c.args.i in
-    let l = c.len-items.ensures.len in
-    let j = i - 1 - c.loop-t.t in
-    let got = ap (λ (n : ℕ). get_or chain.classes (n - j) []) (sym l)
-    ∙ get_or_from_slice_get chain.classes (c.len-items.result - j) c.get-without_item.result.now
-    [] c.get-without_item.ensures in
-    let li = c.requires.i in
-    ap (λ (xs : List ℕ). length xs) (sym got)
-    ∙ (chain_classes m o laws c.requires.sure c.requires.allowed chain.classes chain.backs
-    c.requires.chain j (omega arith)).long
+pub first_items-before-requires-clause-count : goal.first_items-before-requires-clause-count
+first_items-before-requires-clause-count c =
+    let li = c.requires.i in let a = c.loop-t-test.true in omega arith
 
-pub level_of-own-requires-clause-below : goal.level_of-own-requires-clause-below
-level_of-own-requires-clause-below c =
+pub first_items-before-requires-clause-small : goal.first_items-before-requires-clause-small
+first_items-before-requires-clause-small c =
+    small_items c.args.moving.now.machine.now c.args.moving.now.order.now c.requires.allowed
+    c.laws_of_levels.ensures.few
+
+pub with-set-requires : goal.with-set-requires
+with-set-requires c =
+    let m = c.args.moving.now.machine.now in
+    let o = c.args.moving.now.order.now in
+    let is = get_or_from_slice_get o c.args.i c.get-item.result.now 0 c.get-item.ensures in
+    let low = small_items m o c.requires.allowed c.laws_of_levels.ensures.few c.args.i
+    c.requires.i in
+    omega arith
+
+pub numbers_of-requires-clause-next : goal.numbers_of-requires-clause-next
+numbers_of-requires-clause-next c =
+    let m = c.args.moving.now.machine.now in
+    let o = c.args.moving.now.order.now in
+    let chain = c.args.moving.now.chain.now in
+    let i = c.args.i in
+    let t = c.loop-t.t in
+    let test = c.loop-t-test.true in
+    let j = i - 1 - t in
+    let e_old : i - t ≡ j + 1 = omega arith in
+    let low : j < i = omega arith in
+    let may = c.requires.places j (omega arith) (omega arith) in
+    let next = c.get-next.result.now in
+    let next_is = get_or_from_slice_get o j next 0 c.get-next.ensures in
+    let item_is = get_or_from_slice_get o i c.get-item.result.now 0 c.get-item.ensures in
+    let with_it = stands (take j (remove o i) ++ slice_index o i ∷ []) in
+    let old_are = subst
+    (λ (n : ℕ). AreClasses m (stands (take n (remove o i) ++ slice_index o i ∷ []))
+    c.loop-t.with_item) e_old c.loop-t.invariant.classes in
+    let same = set_before o c.first_items-before.result i j c.first_items-before.ensures
+    (omega arith) in
+    let same_with : (w : ℕ) → in_set c.with-set.result w ≡ with_it w =
+    set_with o c.first_items-before.result c.with-set.result c.get-item.result.now i j item_is same
+    c.with-set.ensures in
+    same_next m with_it (in_set c.with-set.result) next next (λ w. sym (same_with w)) refl
+    (before_next m o c.laws_of_levels.ensures.laws c.requires.sure c.requires.allowed chain.classes
+    chain.backs c.requires.chain i c.requires.i c.laws_of_levels.ensures.sizes j next
+    c.loop-t.with_item low may next_is old_are).next
+
+pub numbers_of-requires-clause-classes : goal.numbers_of-requires-clause-classes
+numbers_of-requires-clause-classes c =
+    let m = c.args.moving.now.machine.now in
+    let o = c.args.moving.now.order.now in
+    let chain = c.args.moving.now.chain.now in
+    let i = c.args.i in
+    let t = c.loop-t.t in
+    let test = c.loop-t-test.true in
+    let j = i - 1 - t in
+    let e_old : i - t ≡ j + 1 = omega arith in
+    let low : j < i = omega arith in
+    let may = c.requires.places j (omega arith) (omega arith) in
+    let next = c.get-next.result.now in
+    let next_is = get_or_from_slice_get o j next 0 c.get-next.ensures in
+    let item_is = get_or_from_slice_get o i c.get-item.result.now 0 c.get-item.ensures in
+    let with_it = stands (take j (remove o i) ++ slice_index o i ∷ []) in
+    let old_are = subst
+    (λ (n : ℕ). AreClasses m (stands (take n (remove o i) ++ slice_index o i ∷ []))
+    c.loop-t.with_item) e_old c.loop-t.invariant.classes in
+    let same = set_before o c.first_items-before.result i j c.first_items-before.ensures
+    (omega arith) in
+    let same_with : (w : ℕ) → in_set c.with-set.result w ≡ with_it w =
+    set_with o c.first_items-before.result c.with-set.result c.get-item.result.now i j item_is same
+    c.with-set.ensures in
+    same_too m with_it (in_set c.with-set.result) next c.loop-t.with_item
+    (λ w. sym (same_with w))
+    (before_next m o c.laws_of_levels.ensures.laws c.requires.sure c.requires.allowed chain.classes
+    chain.backs c.requires.chain i c.requires.i c.laws_of_levels.ensures.sizes j next
+    c.loop-t.with_item low may next_is old_are).too
+
+pub level_after-requires-clause-free : goal.level_after-requires-clause-free
+level_after-requires-clause-free c =
+    let m = c.args.moving.now.machine.now in
+    let o = c.args.moving.now.order.now in
+    let chain = c.args.moving.now.chain.now in
+    let i = c.args.i in
+    let t = c.loop-t.t in
+    let test = c.loop-t-test.true in
+    let j = i - 1 - t in
+    let e_old : i - t ≡ j + 1 = omega arith in
+    let low : j < i = omega arith in
+    let may = c.requires.places j (omega arith) (omega arith) in
+    let next = c.get-next.result.now in
+    let next_is = get_or_from_slice_get o j next 0 c.get-next.ensures in
+    let item_is = get_or_from_slice_get o i c.get-item.result.now 0 c.get-item.ensures in
+    let with_it = stands (take j (remove o i) ++ slice_index o i ∷ []) in
+    let old_are = subst
+    (λ (n : ℕ). AreClasses m (stands (take n (remove o i) ++ slice_index o i ∷ []))
+    c.loop-t.with_item) e_old c.loop-t.invariant.classes in
+    let same = set_before o c.first_items-before.result i j c.first_items-before.ensures
+    (omega arith) in
+    let same_with : (w : ℕ) → in_set c.with-set.result w ≡ with_it w =
+    set_with o c.first_items-before.result c.with-set.result c.get-item.result.now i j item_is same
+    c.with-set.ensures in
+    let next_one = before_next m o c.laws_of_levels.ensures.laws c.requires.sure c.requires.allowed
+    chain.classes chain.backs c.requires.chain i c.requires.i c.laws_of_levels.ensures.sizes j next
+    c.loop-t.with_item low may next_is old_are in
+    same_with next ∙ next_one.next.free
+
+pub level_after-requires-in-loop-t-clause-free : goal.level_after-requires-in-loop-t-clause-free
+level_after-requires-in-loop-t-clause-free c =
     let m = c.args.moving.now.machine.now in
     let o = c.args.moving.now.order.now in
     let chain = c.args.moving.now.chain.now in
     let laws = c.laws_of_levels.ensures.laws in
-    let sized = c.laws_of_levels.ensures.sizes in
+    let i = c.args.i in
+    let li = c.requires.i in
+    let test = c.loop-t-test.true in
+    let j = i - 1 - c.loop-t.t in
+    let may = c.requires.places j (omega arith) (omega arith) in
+    let item = c.get-item.result.now in
+    let item_is = get_or_from_slice_get o i item 0 c.get-item.ensures in
+    let same = set_before o c.first_items-before.result i j c.first_items-before.ensures
+    (omega arith) in
+    let long = rest_long m o laws c.requires.sure c.requires.allowed i li in
+    same item ∙ ap (stands (take j (remove o i))) (sym item_is)
+    ∙ own_free m o laws c.requires.sure c.requires.allowed chain.classes chain.backs
+    c.requires.chain i li c.laws_of_levels.ensures.sizes j (omega arith) may
+
+pub level_after-requires-in-loop-t-clause-classes : goal.level_after-requires-in-loop-t-clause-classes
+level_after-requires-in-loop-t-clause-classes c =
+    let m = c.args.moving.now.machine.now in
+    let o = c.args.moving.now.order.now in
+    let chain = c.args.moving.now.chain.now in
+    let laws = c.laws_of_levels.ensures.laws in
     let i = c.args.i in
     let l = c.len-items.ensures.len in
     let j = i - 1 - c.loop-t.t in
     let got = ap (λ (n : ℕ). get_or chain.classes (n - j) []) (sym l)
     ∙ get_or_from_slice_get chain.classes (c.len-items.result - j) c.get-without_item.result.now
     [] c.get-without_item.ensures in
-    let li = c.requires.i in
-    subst (AreBelow (product m.vars)) got
-    (chain_classes m o laws c.requires.sure c.requires.allowed chain.classes chain.backs
-    c.requires.chain j (omega arith)).below
+    let same = set_before o c.first_items-before.result i j c.first_items-before.ensures
+    (omega arith) in
+    same_classes m (stands (take j (remove o i))) (in_set c.first_items-before.result)
+    c.get-without_item.result.now (λ w. sym (same w))
+    (subst (AreClasses m (stands (take j (remove o i)))) got
+    (own_classes m o laws c.requires.sure c.requires.allowed chain.classes chain.backs
+    c.requires.chain i c.requires.i c.laws_of_levels.ensures.sizes j (omega arith)))
 
 pub overflow_sub-size : goal.overflow_sub-size
 overflow_sub-size c =
@@ -218,7 +339,7 @@ overflow_add-back c =
     let n = items c.args.moving.now.machine.now c.args.moving.now.order.now c.requires.allowed in
     let items_few = c.laws_of_levels.ensures.few in
     let few = c.loop-t.invariant.few in
-    let here = c.level_of-here.ensures.few in
+    let here = c.in_ok-here.ensures.few in
     let test = c.loop-t-test.true in
     let li = c.requires.i in
     omega arith
@@ -239,7 +360,7 @@ overflow_add-size c =
     c.get-whole.ensures in
     let whole_few =
     c.requires.chain.few (length o) (let h : length o ≤ length o = omega arith in h) in
-    let own = c.level_of-own.ensures.few in
+    let own = c.in_ok-own.ensures.few in
     omega arith
 
 pub overflow_add-size-in-loop-t : goal.overflow_add-size-in-loop-t
@@ -258,9 +379,9 @@ overflow_add-size-in-loop-t c =
     c.get-whole.ensures in
     let whole_few =
     c.requires.chain.few (length o) (let h : length o ≤ length o = omega arith in h) in
-    let own = c.level_of-own.ensures.few in
+    let own = c.in_ok-own.ensures.few in
     let few = c.loop-t.invariant.few in
-    let here = c.level_of-here.ensures.few in
+    let here = c.in_ok-here.ensures.few in
     let test = c.loop-t-test.true in
     let li = c.requires.i in
     omega arith

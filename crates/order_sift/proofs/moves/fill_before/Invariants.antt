@@ -5,12 +5,14 @@ use Rattle.order_sift.specs.Chains.{AreSizes}
 use Rattle.order_sift.specs.Classes.{AreClasses}
 use Rattle.order_sift.proofs.Sweeping.{back_of}
 use Rattle.domains.specs.Tables.{product}
+use Rattle.order_sift.specs.Known.{AreKnown}
 use Rattle.order_sift.specs.Pairs.{HasRoom}
 use Rattle.order_sift.proofs.moves.fill_before.Given as goal
 
 abbrev pub invariant-loop-t : goal.invariant-loop-t
 invariant-loop-t l = record {
   room : HasRoom (product l.moving.machine.now.vars) l.seen;
+  known : AreKnown l.moving.machine.now l.known;
   long : length l.sizes ≡ length l.fn.sizes;
   back : l.back ≡ back_of l.moving.machine.now l.moving.order.now l.i (l.i - l.t);
   few : l.back ≤ 1024 * (length l.moving.order.now + l.t);

@@ -9,7 +9,7 @@ use Rattle.order_sift.proofs.turns.counted_first.Goals as goal
 pub get-count-requires : goal.get-count-requires
 get-count-requires c =
     let l = c.len.ensures.len in
-    let b = c.in_ok-chain.ensures.long_backs in
+    let b = c.in_ok-chain.ensures.chain.long_backs in
     omega arith
 
 pub returns-clause-counted : goal.returns-clause-counted
@@ -22,7 +22,7 @@ returns-clause-counted c =
     sym (get_or_from_slice_get chain.backs c.len.result c.get-count.result.now 0 c.get-count.ensures)
     ∙ ap (slice_index chain.backs) c.len.ensures.len
     ∙ chain_whole m o laws c.requires.sure c.requires.allowed chain.classes chain.backs
-    c.in_ok-chain.ensures
+    c.in_ok-chain.ensures.chain
     ∙ laws.size_by_sets (char m) (sizes_of m) o c.requires.allowed.permutation
     c.requires.allowed.long c.laws_of_levels.ensures.sizes in
     record { allowed = c.requires.allowed; counted = count }

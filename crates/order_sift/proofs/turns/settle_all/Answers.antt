@@ -8,6 +8,7 @@ loop-first-preserved c =
     let m = c.args.sifting.now.machine.now in
     record {
       room = room_kept (product m.vars) _ _ c.turn.auto.seen c.loop-first.invariant.room;
+      known = c.in_ok-first.ensures.known;
       counted = c.in_ok-first.ensures.counted;
       chain = c.in_ok-first.ensures.chain;
       falls = falls_then m c.args.at.now.order c.loop-first.at.order c.turn.new.at.order

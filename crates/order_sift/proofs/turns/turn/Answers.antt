@@ -1,7 +1,7 @@
 use Rattle.std.proofs.Common.{◌≡◌, ◌∙◌, ⊎_elim, ◌+◌, ◌≤◌, ℕ, List, length, arith, sym, subst}
 use Rattle.std.proofs.lemmas.Bool.{cases_lt}
-use Rattle.domains.specs.Tables.{product}
 use Rattle.order_sift.specs.Turns.{IsSettled, StaysOrFalls}
+use Rattle.domains.specs.Tables.{product}
 use Rattle.order_sift.proofs.Keying.{room_kept}
 use Rattle.order_sift.proofs.Ranging.{items}
 use Rattle.order_sift.proofs.Settling.{same_order, least_from_settled}
@@ -33,6 +33,7 @@ loop-k-preserved c =
     λ w e. subst (IsSettled m new.order) e (one.settled stays) in
     record {
       room = room_kept (product m.vars) _ _ c.settle.auto.seen inv.room;
+      known = one.known;
       counted = one.counted;
       chain = one.chain;
       order = order ∙ inv.order;

@@ -57,7 +57,9 @@ fn fill_before(
     ensures each { IfOk result (λ done.
         AreSizes moving.now.machine.now moving.now.order.now i first sizes.new first i) }
 {
-    laws_of_levels(moving.machine);
+    let machine = moving.machine;
+    let points = moving.points;
+    laws_of_levels(machine);
     let items = moving.order.len();
     let item = *moving.order.get(i);
     let whole = *moving.chain.backs.get(items);
@@ -69,27 +71,12 @@ fn fill_before(
         let next = *moving.order.get(j);
         let before = first_items(moving.order, j);
         let set = with(before, item);
-        let freer = numbers_of(
-            moving.machine,
-            moving.points,
-            seen,
-            known,
-            set,
-            &with_item,
-            next,
-        )?;
+        let freer = numbers_of(machine, points, seen, known, set, &with_item, next)?;
         with_item = freer;
-        let here = level_after(moving.machine, moving.points, known, set, &with_item, next)?;
+        let here = level_after(machine, points, known, set, &with_item, next)?;
         back += here;
         let without_item = moving.chain.classes.get(items - j);
-        let own = level_after(
-            moving.machine,
-            moving.points,
-            known,
-            before,
-            without_item,
-            item,
-        )?;
+        let own = level_after(machine, points, known, before, without_item, item)?;
         let after = *moving.chain.backs.get(items - j);
         let size = whole - after + own + back;
         sizes.set(j - first, size);
@@ -127,7 +114,9 @@ fn fill_after(
         AreSizes moving.now.machine.now moving.now.order.now i range.first sizes.new range.first
         range.last) }
 {
-    laws_of_levels(moving.machine);
+    let machine = moving.machine;
+    let points = moving.points;
+    laws_of_levels(machine);
     let items = moving.order.len();
     let item = *moving.order.get(i);
     let whole = *moving.chain.backs.get(items);
@@ -138,36 +127,14 @@ fn fill_after(
     let mut set = first_items(moving.order, i);
     for j in i + 1..range.last + 1 {
         let next = *moving.order.get(j);
-        let here = level_after(
-            moving.machine,
-            moving.points,
-            known,
-            set,
-            &without_item,
-            next,
-        )?;
+        let here = level_after(machine, points, known, set, &without_item, next)?;
         front += here;
         let with_item = moving.chain.classes.get(items - 1 - j);
         let more = with(set, next);
         set = more;
-        let freer = numbers_of(
-            moving.machine,
-            moving.points,
-            seen,
-            known,
-            set,
-            with_item,
-            item,
-        )?;
+        let freer = numbers_of(machine, points, seen, known, set, with_item, item)?;
         without_item = freer;
-        let own = level_after(
-            moving.machine,
-            moving.points,
-            known,
-            set,
-            &without_item,
-            item,
-        )?;
+        let own = level_after(machine, points, known, set, &without_item, item)?;
         let back = *moving.chain.backs.get(items - 1 - j);
         let size = front + own + back;
         sizes.set(j - range.first, size);

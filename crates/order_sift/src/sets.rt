@@ -49,7 +49,6 @@ pub(crate) struct Known {
 pub(crate) fn nothing_known(alloc: Global, m: &Machine) -> Known
     ensures { AreKnown m.now result }
 {
-    let _ = m.vars.len();
     let numbers = List::new(alloc);
     let levels = List::new(alloc);
     Known {

@@ -118,6 +118,11 @@ pub record IsNew (s : Diagrams) (node : Node) : Type 0 where
   pub fresh : (n : ℕ) (other : Node) → inner_at s.nodes n ≡ Some other → other.var ≡ node.var
       → other.kids ≡ node.kids → ⊥
 
+-- n is the inner node with this variable and these children
+abbrev pub HasNode : Diagrams → ℕ → ℕ → List ℕ → Type 0
+HasNode s n var kids =
+    (node : Node) × (inner_at s.nodes n ≡ Some node) × (node.var ≡ var) × (node.kids ≡ kids)
+
 -- two nodes with the same value on all codes that fit the table are the same node
 abbrev pub IsCanonical : Diagrams → Type 0
 IsCanonical s = (a b : ℕ) → IsNode s a → IsNode s b

@@ -5,6 +5,7 @@ mod apply;
 mod count;
 mod law;
 mod node;
+mod noted;
 mod operation;
 mod order;
 mod store;

@@ -6,9 +6,10 @@ ghost use Rattle.decision_diagram.specs.Constants.{constant_node};
 ghost use Rattle.decision_diagram.specs.Operations.{IsResult, AreResults};
 ghost use Rattle.decision_diagram.specs.Keys.{number_of, IsKey};
 ghost use Rattle.domains.specs.Orders.{place};
-ghost use Rattle.decision_diagram.specs.Diagrams.{IsNode, inner_at, value_of, shape_of, kids_of, level_of, choice, Keeps, Means, IsNew, AreReduced, IsCanonical};
+ghost use Rattle.decision_diagram.specs.Diagrams.{IsNode, inner_at, value_of, shape_of, kids_of, level_of, choice, Keeps, Means, IsNew, HasNode, AreReduced, IsCanonical};
 
 use crate::node::{Node, NodeId, Shape};
+use crate::noted::{Noted, slot_of};
 use crate::operation::Operation;
 use crate::order::Order;
 use domains::{Codes, VarTable};
@@ -28,6 +29,7 @@ pub struct Store {
     vars: VarTable,
     order: Order,
     nodes: Keys,
+    noted: Noted,
     conjunctions: Index,
     disjunctions: Index,
 }
@@ -95,6 +97,21 @@ fn key_of(alloc: Global, var: u32, kids: &[NodeId]) -> Result<Vec<u64>, NoMemory
     Ok(key)
 }
 
+// Whether a node's children are these.
+fn are_kids(kept: &[u64], kids: &[NodeId]) -> bool
+    ensures { result ≡ true → kept.now ≡ kids.now }
+{
+    if kept.len() != kids.len() {
+        return false;
+    }
+    for (i, kid) in kids.iter().enumerate() {
+        if kept[i] != kid.number() {
+            return false;
+        }
+    }
+    true
+}
+
 // The number of the node with a variable and children. It takes no memory.
 fn find_node(keys: &Keys, var: u32, kids: &[NodeId]) -> Option<u64>
     requires { length kids.now ≤ 33 }
@@ -137,6 +154,7 @@ impl Store {
             vars: vars.copy()?,
             order: order.copy()?,
             nodes: IndexSet::new(alloc),
+            noted: Noted::new(alloc)?,
             conjunctions: empty_index(alloc),
             disjunctions: empty_index(alloc),
         })
@@ -158,6 +176,52 @@ impl Store {
         Ok(NodeId::new(number))
     }
 
+    // The node with a variable and children, where it is noted.
+    fn noted_node(&self, slot: usize, var: u32, kids: &[NodeId]) -> Option<NodeId>
+        requires { slot < 4096 }
+        ensures { IfSome result (λ n. HasNode self.now n var kids.now) }
+    {
+        let number = self.noted.get(slot);
+        if number < 2 || number >= self.node_count() {
+            return None;
+        }
+        let node = self.inner(number);
+        if node.var() == var && are_kids(node.kids(), kids) {
+            Some(NodeId::new(number))
+        } else {
+            None
+        }
+    }
+
+    // Notes a node.
+    fn note(&mut self, slot: usize, n: NodeId)
+        requires { slot < 4096 }
+        ensures { self.new ≡ self.old }
+    {
+        self.noted.set(slot, n);
+    }
+
+    // The node with a variable and children that aren't all the same. It is made where there is
+    // none.
+    fn find_or_push(&mut self, var: u32, kids: &[NodeId]) -> Result<NodeId, NoMemory>
+        requires var { var < length self.old.sizes }
+        requires kids { length kids.now ≡ slice_index self.old.sizes var }
+        requires nodes { (code : ℕ) → code < length kids.now
+            → IsNode self.old (slice_index kids.now code) }
+        requires later { (code : ℕ) → code < length kids.now
+            → place self.old.order var < level_of self.old (slice_index kids.now code) }
+        requires varied { (kid : ℕ) → 0 < length kids.now
+            → ((code : ℕ) → code < length kids.now → slice_index kids.now code ≡ kid) → ⊥ }
+        ensures kept { Keeps self.old self.new }
+        ensures value { IfOk result (λ n. Means self.new n (choice self.old var kids.now)) }
+        ensures level { IfOk result (λ n. place self.old.order var ≤ level_of self.new n) }
+    {
+        match find_node(&self.nodes, var, kids) {
+            Some(number) => Ok(NodeId::new(number)),
+            None => self.push_node(var, kids),
+        }
+    }
+
     /// The node whose value is that of the child at the code of a variable. Where all children are
     /// the same it is that child, and where there is such a node already it is that one (Bryant
     /// 1986).
@@ -172,13 +236,17 @@ impl Store {
         ensures value { IfOk result (λ n. Means self.new n (choice self.old var kids.now)) }
         ensures level { IfOk result (λ n. place self.old.order var ≤ level_of self.new n) }
     {
+        let _ = &self.nodes;
         if let Some(kid) = only_kid(kids) {
             return Ok(kid);
         }
-        match find_node(&self.nodes, var, kids) {
-            Some(number) => Ok(NodeId::new(number)),
-            None => self.push_node(var, kids),
+        let slot = slot_of(var, kids);
+        if let Some(node) = self.noted_node(slot, var, kids) {
+            return Ok(node);
         }
+        let node = self.find_or_push(var, kids)?;
+        self.note(slot, node);
+        Ok(node)
     }
 
     /// The node that is true where the code of a variable is in a set, whose bit `c` stands for

@@ -6,6 +6,7 @@ pub mod Fitting
 pub mod Canonical
 pub mod Growth
 pub mod Keys
+pub mod Entering
 pub mod Meanings
 pub mod Operating
 pub mod Marking

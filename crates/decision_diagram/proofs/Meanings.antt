@@ -1,16 +1,15 @@
 -- What the nodes that the store's calls answer mean.
-use Rattle.std.proofs.Common.{◌≡◌, ⊎_elim, ℕ, ◌+◌, ◌<◌, ◌≤◌, Bool, true, false, ◌==◌, eqb, List, [], ◌∷◌, length, slice_index, Option, Some, None, Result, Ok, Err, OnOk, OnErr, IfOk, IsTrue, sym, ap, ◌∙◌, subst, arith}
+use Rattle.std.proofs.Common.{◌≡◌, ⊎_elim, ℕ, ◌+◌, ◌<◌, ◌≤◌, Bool, true, false, ◌==◌, eqb, List, [], ◌∷◌, length, slice_index, Option, Some, None, Result, Ok, Err, IfOk, IsTrue, sym, ap, ◌∙◌, subst, arith}
 use Rattle.std.specs.Int.{bit_at}
 use Rattle.std.proofs.lemmas.Bool.{cases_Bool, cases_lt, cond-true, cond-false}
 use Rattle.domains.specs.Tables.{fits}
 use Rattle.decision_diagram.specs.declared.node.Shape.TheVariants.{Inner}
 use Rattle.decision_diagram.specs.Constants.{constant_node}
 use Rattle.domains.specs.Orders.{place}
-use Rattle.decision_diagram.specs.Diagrams.{Diagrams, Node, inner_at, shape_in, shape_of, level_in, level_of, IsNode, value_of, AreReduced, Keeps, IsNew, Means, choice}
+use Rattle.decision_diagram.specs.Diagrams.{Diagrams, Node, inner_at, shape_in, shape_of, level_in, level_of, IsNode, value_of, AreReduced, IsNew, Means, choice}
 use Rattle.decision_diagram.proofs.Fitting.{fits_at, size_some}
 use Rattle.decision_diagram.proofs.Places.{place_below, at_place}
-use Rattle.decision_diagram.proofs.Growth.{with_node, keeps_same, keeps_node, reduced_more}
-use Rattle.decision_diagram.proofs.Nodes.{inner_low, inner_last, inner_within, cases_inner}
+use Rattle.decision_diagram.proofs.Nodes.{inner_low, inner_within, cases_inner}
 use Rattle.decision_diagram.proofs.Values.{level_none, level_some, item_at_level, value_none, value_inner}
 
 pub value_constant : (s : Diagrams) (b : Bool) (n : ℕ) (codes : List ℕ) → n ≡ constant_node b
@@ -72,27 +71,6 @@ pub level_found : (s : Diagrams) (var : ℕ) (kids : List ℕ) (n : ℕ)
 level_found s var kids n w = let e = level_some s n w.0 w.1 in let f = ap (place s.order) w.2 in
     omega arith
 
--- the inner node that was made
-pub means_new : (s : Diagrams) → AreReduced s → (node : Node) → IsNew s node → (n : ℕ)
-    → n ≡ length s.nodes + 2 → Means (with_node s node) n (choice s node.var node.kids)
-means_new s ok node new n is =
-    let all = means_inner (with_node s node) (reduced_more s ok node new) n node
-    (inner_last s.nodes node n is) in
-    record {
-      node = all.node;
-      value = λ codes fit.
-          let low = fits_at s.sizes codes fit node.var new.var in
-          let long = new.kids in
-          all.value codes fit ∙ (keeps_node s ok node).values
-          (slice_index node.kids (slice_index codes node.var)) codes
-          (new.nodes (slice_index codes node.var) (omega arith));
-    }
-
-pub level_new : (s : Diagrams) (node : Node) (n : ℕ) → n ≡ length s.nodes + 2
-    → place s.order node.var ≤ level_of (with_node s node) n
-level_new s node n is = let e =
-    level_some (with_node s node) n node (inner_last s.nodes node n is) in omega arith
-
 -- a node that isn't there, and whose children differ, may be made
 pub new_node : (s : Diagrams) → AreReduced s
     → (var : ℕ) (kids : List ℕ)
@@ -112,29 +90,6 @@ new_node s ok var kids fresh below long nodes later varied = record {
       varied kid (omega arith) same;
   fresh = fresh;
 }
-
--- ---- what a call of `push_node` leaves
-module _ {E : Type 0} (s new : Diagrams) (ok : AreReduced s) (node : Node)
-    (fresh : IsNew s node) where
-  pub pushed_keeps : (r : Result ℕ E) → OnOk r (new ≡ with_node s node) → OnErr r (new ≡ s)
-      → Keeps s new
-  pushed_keeps (Ok n) at_ok at_err = subst (Keeps s) (sym at_ok) (keeps_node s ok node)
-  pushed_keeps (Err e) at_ok at_err = subst (Keeps s) (sym at_err) (keeps_same s)
-
-  pub pushed_means : (r : Result ℕ E) → OnOk r (new ≡ with_node s node)
-      → IfOk r (λ n. n ≡ length s.nodes + 2)
-      → IfOk r (λ n. Means new n (choice s node.var node.kids))
-  pushed_means (Ok n) at_ok number =
-      subst (λ (d : Diagrams). Means d n (choice s node.var node.kids)) (sym at_ok)
-      (means_new s ok node fresh n number)
-  pushed_means (Err e) at_ok number = tt
-
-  pub pushed_level : (r : Result ℕ E) → OnOk r (new ≡ with_node s node)
-      → IfOk r (λ n. n ≡ length s.nodes + 2) → IfOk r (λ n. place s.order node.var ≤ level_of new n)
-  pushed_level (Ok n) at_ok number =
-      subst (λ (d : Diagrams). place s.order node.var ≤ level_of d n) (sym at_ok)
-      (level_new s node n number)
-  pushed_level (Err e) at_ok number = tt
 
 -- ---- levels
 place_within : (list : List ℕ) (v : ℕ) → place list v ≤ length list

@@ -1,6 +1,5 @@
 -- Inner nodes as keys.
-use Rattle.std.specs.Prelude.{◌≡◌, ℕ, ◌+◌, ◌<◌, ◌^◌, List, length, map, drop, Option, Some, position, option_map, slice_get, slice_index}
-use Rattle.std.specs.Str.{bytes_eq}
+use Rattle.std.specs.Prelude.{◌≡◌, ℕ, ◌<◌, ◌^◌, List, length, map, drop, Some, slice_get, slice_index}
 use Rattle.std.specs.declared.alloc.Global.{Global}
 use Rattle.std.specs.declared.vec.Vec.{Vec}
 use Rattle.decision_diagram.specs.Diagrams.{Node}
@@ -25,9 +24,3 @@ node_of key = record { var = slice_index key 0; kids = drop 1 key }
 -- the nodes of keys
 abbrev pub nodes_of : List Key → List Node
 nodes_of keys = map (λ (key : Key). node_of key.items) keys
-
--- the number of the node with these numbers as its key
-abbrev pub number_of : List Key → List ℕ → Option ℕ
-number_of keys numbers =
-    option_map (λ (place : ℕ). place + 2)
-    (position (λ (key : Key). bytes_eq numbers key.items) keys)

@@ -4,9 +4,9 @@ ghost use Rattle.std.specs.Int.{bit_at};
 ghost use Rattle.domains.specs.Tables.{fits};
 ghost use Rattle.decision_diagram.specs.Constants.{constant_node};
 ghost use Rattle.decision_diagram.specs.Operations.{IsResult, AreResults};
-ghost use Rattle.decision_diagram.specs.Keys.{number_of, IsKey};
+ghost use Rattle.decision_diagram.specs.Keys.{IsKey};
 ghost use Rattle.domains.specs.Orders.{place};
-ghost use Rattle.decision_diagram.specs.Diagrams.{IsNode, inner_at, value_of, shape_of, kids_of, level_of, choice, Keeps, Means, IsNew, HasNode, AreReduced, IsCanonical};
+ghost use Rattle.decision_diagram.specs.Diagrams.{IsNode, inner_at, value_of, shape_of, kids_of, level_of, choice, Keeps, Means, HasNode, AreReduced, IsCanonical};
 
 use crate::node::{Node, NodeId, Shape};
 use crate::noted::{Noted, slot_of};
@@ -112,22 +112,6 @@ fn are_kids(kept: &[u64], kids: &[NodeId]) -> bool
     true
 }
 
-// The number of the node with a variable and children. It takes no memory.
-fn find_node(keys: &Keys, var: u32, kids: &[NodeId]) -> Option<u64>
-    requires { length kids.now ≤ 33 }
-    ensures { result ≡ number_of keys.now.keys (var ∷ kids.now) }
-{
-    let count = keys.len();
-    let mut key = [0u64; 34];
-    key[0] = u64::from(var);
-    for (i, kid) in kids.iter().enumerate() {
-        key[i + 1] = kid.number();
-    }
-    let place = keys.get_index_of(&key[..kids.len() + 1])?;
-    prove!(place < count);
-    Some(place as u64 + 2)
-}
-
 // Two nodes in the order of their numbers.
 fn pair(a: NodeId, b: NodeId) -> [u64; 2]
     ensures { (result ≡ a ∷ b ∷ []) ⊎ (result ≡ b ∷ a ∷ []) }
@@ -160,22 +144,6 @@ impl Store {
         })
     }
 
-    // Makes an inner node that isn't there yet.
-    fn push_node(&mut self, var: u32, kids: &[NodeId]) -> Result<NodeId, NoMemory>
-        requires { IsNew self.old (record { var = var; kids = kids.now }) }
-        ensures ok { OnOk result (self.new
-            ≡ record self.old {
-              nodes = self.old.nodes ++ record { var = var; kids = kids.now } ∷ [];
-            }) }
-        ensures number { IfOk result (λ n. n ≡ length self.old.nodes + 2) }
-        ensures err { OnErr result (self.new ≡ self.old) }
-    {
-        let number = self.nodes.len() as u64 + 2;
-        let key = key_of(self.alloc, var, kids)?;
-        self.nodes.insert(key)?;
-        Ok(NodeId::new(number))
-    }
-
     // The node with a variable and children, where it is noted.
     fn noted_node(&self, slot: usize, var: u32, kids: &[NodeId]) -> Option<NodeId>
         requires { slot < 4096 }
@@ -203,7 +171,7 @@ impl Store {
 
     // The node with a variable and children that aren't all the same. It is made where there is
     // none.
-    fn find_or_push(&mut self, var: u32, kids: &[NodeId]) -> Result<NodeId, NoMemory>
+    fn enter_node(&mut self, var: u32, kids: &[NodeId]) -> Result<NodeId, NoMemory>
         requires var { var < length self.old.sizes }
         requires kids { length kids.now ≡ slice_index self.old.sizes var }
         requires nodes { (code : ℕ) → code < length kids.now
@@ -216,10 +184,11 @@ impl Store {
         ensures value { IfOk result (λ n. Means self.new n (choice self.old var kids.now)) }
         ensures level { IfOk result (λ n. place self.old.order var ≤ level_of self.new n) }
     {
-        match find_node(&self.nodes, var, kids) {
-            Some(number) => Ok(NodeId::new(number)),
-            None => self.push_node(var, kids),
-        }
+        let key = key_of(self.alloc, var, kids)?;
+        let (place, _) = self.nodes.insert_full(key)?;
+        let count = self.nodes.len();
+        prove!(place < count);
+        Ok(NodeId::new(place as u64 + 2))
     }
 
     /// The node whose value is that of the child at the code of a variable. Where all children are
@@ -244,7 +213,7 @@ impl Store {
         if let Some(node) = self.noted_node(slot, var, kids) {
             return Ok(node);
         }
-        let node = self.find_or_push(var, kids)?;
+        let node = self.enter_node(var, kids)?;
         self.note(slot, node);
         Ok(node)
     }

@@ -2,7 +2,7 @@
 //
 // The snapshots that share the codes of the variables before a place stand for one node, and the
 // first of them stands for all: each result before the place has one code on them.
-ghost use Rattle.std.specs.Prelude.{◌≡◌, ◌<◌, ◌≤◌, ◌==◌, ◌&&◌, ◌^◌, length, drop, replicate, slice_index, IfOk};
+ghost use Rattle.std.specs.Prelude.{◌≡◌, ◌<◌, ◌≤◌, ◌==◌, ◌&&◌, ◌^◌, length, drop, replicate, slice_index, IfOk, IfSome};
 ghost use Rattle.domains.specs.Orders.{place};
 ghost use Rattle.domains.specs.Tables.{product};
 ghost use Rattle.decision_diagram.specs.Diagrams.{IsNode, Keeps, Means, level_of, value_of};
@@ -100,8 +100,24 @@ fn results_node(fixing: &Fixing, store: &mut Store, i: u64) -> Result<NodeId, No
     Ok(node)
 }
 
-/// The node of what is left after the order's last variable, made once for each outcome.
-pub(crate) fn outcome_node(
+/// The node of what is left after the order's last variable, where it is known for the outcome.
+pub(crate) fn known_outcome(fixing: &Fixing, store: &Store, known: &Known, i: u64) -> Option<NodeId>
+    requires fixing { IsFixing fixing.now.machine.now fixing.now.table.now fixing.now.order.now
+        fixing.now.sizes.now fixing.now.strides.now fixing.now.start }
+    requires order { store.now.order ≡ fixing.now.order.now }
+    requires known { AreLeft fixing.now.machine.now fixing.now.table.now store.now fixing.now.start
+        known.now }
+    requires snapshot { i < length (points fixing.now.machine.now) }
+    ensures value { IfSome result (λ n. Means store.now n
+        (left_from fixing.now.machine.now fixing.now.order.now fixing.now.start i)) }
+    ensures level { IfSome result (λ n. fixing.now.start ≤ level_of store.now n) }
+{
+    transition_table::laws_of_computing();
+    *known.get(*fixing.table.numbers.get(i))
+}
+
+/// The same node, made and then known for the outcome.
+pub(crate) fn make_outcome(
     fixing: &Fixing,
     store: &mut Store,
     known: &mut Known,
@@ -123,11 +139,36 @@ pub(crate) fn outcome_node(
 {
     transition_table::laws_of_computing();
     let number = *fixing.table.numbers.get(i);
-    if let Some(node) = *known.get(number) {
-        return Ok(node);
-    }
     let node = results_node(fixing, store, i)?;
     known.set(number, Some(node));
+    Ok(node)
+}
+
+// The same node, made once for each outcome.
+fn outcome_node(
+    fixing: &Fixing,
+    store: &mut Store,
+    known: &mut Known,
+    i: u64,
+) -> Result<NodeId, NoMemory>
+    requires fixing { IsFixing fixing.now.machine.now fixing.now.table.now fixing.now.order.now
+        fixing.now.sizes.now fixing.now.strides.now fixing.now.start }
+    requires order { store.old.order ≡ fixing.now.order.now }
+    requires sizes { store.old.sizes ≡ fixing.now.sizes.now }
+    requires known { AreLeft fixing.now.machine.now fixing.now.table.now store.old fixing.now.start
+        known.old }
+    requires snapshot { i < length (points fixing.now.machine.now) }
+    ensures kept { Keeps store.old store.new }
+    ensures value { IfOk result (λ n. Means store.new n
+        (left_from fixing.now.machine.now fixing.now.order.now fixing.now.start i)) }
+    ensures level { IfOk result (λ n. fixing.now.start ≤ level_of store.new n) }
+    ensures known { IfOk result (λ n.
+        AreLeft fixing.now.machine.now fixing.now.table.now store.new fixing.now.start known.new) }
+{
+    if let Some(node) = known_outcome(fixing, store, known, i) {
+        return Ok(node);
+    }
+    let node = make_outcome(fixing, store, known, i)?;
     Ok(node)
 }
 

@@ -9,7 +9,7 @@ ghost use Rattle.decision_diagram.specs.Diagrams.{Keeps, Means};
 ghost use Rattle.char_function.specs.Left.{AreLeft, IsFixing, left_from};
 ghost use Rattle.char_function.specs.Rising.{AreLevel, IsRising};
 
-use crate::fixing::{Fixing, outcome_node, result_node};
+use crate::fixing::{Fixing, known_outcome, make_outcome, result_node};
 use crate::group::code_at;
 use crate::known::Known;
 use decision_diagram::{NodeId, Store};
@@ -36,7 +36,11 @@ fn last_level(
     let count = fixing.table.numbers.len();
     let mut nodes = Vec::with_capacity(alloc, count as usize)?;
     for i in 0..count {
-        let node = outcome_node(fixing, store, known, i)?;
+        if let Some(node) = known_outcome(fixing, store, known, i) {
+            nodes.push(node)?;
+            continue;
+        }
+        let node = make_outcome(fixing, store, known, i)?;
         nodes.push(node)?;
     }
     Ok(nodes)

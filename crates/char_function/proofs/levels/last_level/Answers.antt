@@ -15,17 +15,31 @@ loop-i-init c = record {
       c.args.fixing.now.order.now c.args.store.now c.args.fixing.now.start);
 }
 
-pub outcome_node-requires-clause-order : goal.outcome_node-requires-clause-order
-outcome_node-requires-clause-order c = c.loop-i.invariant.kept.order ∙ c.requires.order
+pub known_outcome-requires-clause-order : goal.known_outcome-requires-clause-order
+known_outcome-requires-clause-order c = c.loop-i.invariant.kept.order ∙ c.requires.order
 
-pub outcome_node-requires-clause-sizes : goal.outcome_node-requires-clause-sizes
-outcome_node-requires-clause-sizes c = c.loop-i.invariant.kept.sizes ∙ c.requires.sizes
+pub known_outcome-requires-clause-known : goal.known_outcome-requires-clause-known
+known_outcome-requires-clause-known c = c.loop-i.invariant.known
 
-pub outcome_node-requires-clause-known : goal.outcome_node-requires-clause-known
-outcome_node-requires-clause-known c = c.loop-i.invariant.known
+pub known_outcome-requires-clause-snapshot : goal.known_outcome-requires-clause-snapshot
+known_outcome-requires-clause-snapshot c =
+    let a = numbers_long c.args.fixing.now.machine.now c.args.fixing.now.table.now
+    c.requires.fixing.table in
+    let b = c.loop-i-test.true in
+    let d = c.len-count.ensures in
+    omega arith
 
-pub outcome_node-requires-clause-snapshot : goal.outcome_node-requires-clause-snapshot
-outcome_node-requires-clause-snapshot c =
+pub make_outcome-requires-clause-order : goal.make_outcome-requires-clause-order
+make_outcome-requires-clause-order c = c.loop-i.invariant.kept.order ∙ c.requires.order
+
+pub make_outcome-requires-clause-sizes : goal.make_outcome-requires-clause-sizes
+make_outcome-requires-clause-sizes c = c.loop-i.invariant.kept.sizes ∙ c.requires.sizes
+
+pub make_outcome-requires-clause-known : goal.make_outcome-requires-clause-known
+make_outcome-requires-clause-known c = c.loop-i.invariant.known
+
+pub make_outcome-requires-clause-snapshot : goal.make_outcome-requires-clause-snapshot
+make_outcome-requires-clause-snapshot c =
     let a = numbers_long c.args.fixing.now.machine.now c.args.fixing.now.table.now
     c.requires.fixing.table in
     let b = c.loop-i-test.true in
@@ -34,31 +48,50 @@ outcome_node-requires-clause-snapshot c =
 
 pub returns-in_err-node-clause-kept : goal.returns-in_err-node-clause-kept
 returns-in_err-node-clause-kept c =
-    keeps_trans c.args.store.now c.loop-i.store c.outcome_node.new.store c.loop-i.invariant.kept
-    c.outcome_node.ensures.kept
+    keeps_trans c.args.store.now c.loop-i.store c.make_outcome.new.store c.loop-i.invariant.kept
+    c.make_outcome.ensures.kept
 
-pub returns-in_err-push-clause-kept : goal.returns-in_err-push-clause-kept
-returns-in_err-push-clause-kept c =
-    keeps_trans c.args.store.now c.loop-i.store c.outcome_node.new.store c.loop-i.invariant.kept
-    c.outcome_node.ensures.kept
+pub returns-in_err-push-2-clause-kept : goal.returns-in_err-push-2-clause-kept
+returns-in_err-push-2-clause-kept c =
+    keeps_trans c.args.store.now c.loop-i.store c.make_outcome.new.store c.loop-i.invariant.kept
+    c.make_outcome.ensures.kept
+
+pub loop-i-preserved-in-Some : goal.loop-i-preserved-in-Some
+loop-i-preserved-in-Some c =
+    let m = c.args.fixing.now.machine.now in
+    let order = c.args.fixing.now.order.now in
+    let start = c.args.fixing.now.start in
+    let s = c.loop-i.store in
+    let a = numbers_long m c.args.fixing.now.table.now c.requires.fixing.table in
+    let b = c.loop-i-test.true in
+    let d = c.len-count.ensures in
+    record {
+      kept = c.loop-i.invariant.kept;
+      known = c.loop-i.invariant.known;
+      made = subst (λ (xs : List ℕ). AreFirstLeft m order s start xs (c.loop-i.i + 1))
+          (sym c.in_ok-push.ensures.items)
+          (first_next m order s s start c.loop-i.nodes.items c.loop-i.i c.in-Some.node
+          c.loop-i.invariant.made (keeps_self s) (omega arith) c.in-Some.ensures.value
+          c.in-Some.ensures.level);
+    }
 
 pub loop-i-preserved : goal.loop-i-preserved
 loop-i-preserved c =
     let m = c.args.fixing.now.machine.now in
     let order = c.args.fixing.now.order.now in
     let start = c.args.fixing.now.start in
-    let new = c.outcome_node.new.store in
+    let new = c.make_outcome.new.store in
     let a = numbers_long m c.args.fixing.now.table.now c.requires.fixing.table in
     let b = c.loop-i-test.true in
     let d = c.len-count.ensures in
     record {
       kept = keeps_trans c.args.store.now c.loop-i.store new c.loop-i.invariant.kept
-          c.outcome_node.ensures.kept;
+          c.make_outcome.ensures.kept;
       known = c.in_ok-node.ensures.known;
       made = subst (λ (xs : List ℕ). AreFirstLeft m order new start xs (c.loop-i.i + 1))
-          (sym c.in_ok-push.ensures.items)
+          (sym c.in_ok-push-2.ensures.items)
           (first_next m order c.loop-i.store new start c.loop-i.nodes.items c.loop-i.i
-          c.in_ok-node.node c.loop-i.invariant.made c.outcome_node.ensures.kept (omega arith)
+          c.in_ok-node.node c.loop-i.invariant.made c.make_outcome.ensures.kept (omega arith)
           c.in_ok-node.ensures.value c.in_ok-node.ensures.level);
     }
 

@@ -1,47 +1,11 @@
-use Rattle.std.proofs.Common.{◌≡◌, ◌∙◌, ℕ, List, None, Some, length, get_or, slice_index, ap, sym, subst, arith}
+use Rattle.std.proofs.Common.{◌≡◌, ◌∙◌, ℕ, List, length, sym, subst, arith}
 use Rattle.decision_diagram.specs.Diagrams.{Means}
 use Rattle.char_function.specs.Known.{OnlyResults}
 use Rattle.char_function.specs.Left.{AreLeft, IsOrdered, left_from}
 use Rattle.char_function.proofs.FixedKids.{left_kept, left_more}
 use Rattle.char_function.proofs.Lists.{read}
 use Rattle.char_function.proofs.Tabled.{numbers_long, number_low}
-use Rattle.char_function.proofs.fixing.outcome_node.Goals as goal
-
-pub get-requires : goal.get-requires
-get-requires c =
-    let m = c.args.fixing.now.machine.now in
-    let t = c.args.fixing.now.table.now in
-    let tabled = c.requires.fixing.table in
-    let a = numbers_long m t tabled in
-    let s = c.requires.snapshot in
-    let b = number_low m t tabled c.args.i (omega arith) in
-    let e = read t.numbers c.args.i c.get-number.result.now 0 c.get-number.ensures in
-    let l = c.requires.known.long in
-    omega arith
-
-pub returns-in-Some-clause-value : goal.returns-in-Some-clause-value
-returns-in-Some-clause-value c =
-    let m = c.args.fixing.now.machine.now in
-    let t = c.args.fixing.now.table.now in
-    let s = c.args.store.now in
-    let e = read t.numbers c.args.i c.get-number.result.now 0 c.get-number.ensures in
-    let is : get_or c.args.known.now (slice_index t.numbers c.args.i) None ≡ Some c.in-Some.node =
-    ap (λ (k : ℕ). get_or c.args.known.now k None) e
-    ∙ read c.args.known.now c.get-number.result.now c.get.result.now None c.get.ensures
-    ∙ c.in-Some.is in
-    subst (λ (order : List ℕ). Means s c.in-Some.node
-    (left_from m order c.args.fixing.now.start c.args.i)) c.requires.order
-    (c.requires.known.means c.args.i c.in-Some.node c.requires.snapshot is)
-
-pub returns-in-Some-clause-level : goal.returns-in-Some-clause-level
-returns-in-Some-clause-level c =
-    let t = c.args.fixing.now.table.now in
-    let e = read t.numbers c.args.i c.get-number.result.now 0 c.get-number.ensures in
-    let is : get_or c.args.known.now (slice_index t.numbers c.args.i) None ≡ Some c.in-Some.node =
-    ap (λ (k : ℕ). get_or c.args.known.now k None) e
-    ∙ read c.args.known.now c.get-number.result.now c.get.result.now None c.get.ensures
-    ∙ c.in-Some.is in
-    c.requires.known.levels c.args.i c.in-Some.node c.requires.snapshot is
+use Rattle.char_function.proofs.fixing.make_outcome.Goals as goal
 
 pub set-requires : goal.set-requires
 set-requires c =

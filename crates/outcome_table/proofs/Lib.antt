@@ -10,3 +10,4 @@ mod RowSets
 mod Rows
 mod Settled
 mod Starting
+mod Tails

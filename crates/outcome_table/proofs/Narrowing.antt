@@ -22,7 +22,7 @@ not_below a b h = off (nat_lt a b) refl
     off true e = absurd (let l = ltb-true a b e in omega arith)
     off false e = e
 
-and_true : (b : Bool) → b ≡ (b && true)
+pub and_true : (b : Bool) → b ≡ (b && true)
 and_true true = refl
 and_true false = refl
 
@@ -81,14 +81,14 @@ enabled_more fixed code row =
     all_both (may_hold fixed) (allows_code (length fixed) code) (may_hold (fixed ++ code ∷ []))
     row.conds (hold_more fixed code)
 
-places_same : {X : Type 0} (p q : X → Bool) (n : ℕ) (xs : List X) → ((x : X) → p x ≡ q x)
+pub places_same : {X : Type 0} (p q : X → Bool) (n : ℕ) (xs : List X) → ((x : X) → p x ≡ q x)
     → places_from n p xs ≡ places_from n q xs
 places_same p q n [] each = refl
 places_same p q n (x ∷ xs) each =
     ap (λ b. cond b (n ∷ places_from (n + 1) p xs) (places_from (n + 1) p xs)) (each x)
     ∙ ap (λ (ys : List ℕ). cond (q x) (n ∷ ys) ys) (places_same p q (n + 1) xs each)
 
-filter_places : {X : Type 0} (p q : X → Bool) (keep : ℕ → Bool) (n : ℕ) (xs : List X)
+pub filter_places : {X : Type 0} (p q : X → Bool) (keep : ℕ → Bool) (n : ℕ) (xs : List X)
     → ((i : ℕ) (x : X) → slice_get xs i ≡ Some x → keep (n + i) ≡ q x)
     → filter keep (places_from n p xs) ≡ places_from n (λ x. p x && q x) xs
 filter_places p q keep n [] each = refl

@@ -7,7 +7,7 @@ use Rattle.std.proofs.lemmas.List.{append-nil, get_or_append_left, get_or_push, 
 use Rattle.std.proofs.lemmas.List.Elements.{filter-append}
 use Rattle.std.proofs.lemmas.Nat.Bits.{bit_at-trailing_zeros, bit_at-zero, bit_at_set_same, bit_at_set_other}
 use Rattle.polis_base.specs.Lists.{upto}
-use Rattle.outcome_table.specs.RowSets.{has_row, rows_in}
+use Rattle.outcome_table.specs.RowSets.{IsBoth, has_row, rows_in}
 use Rattle.outcome_table.proofs.Bits.{both_bits}
 use Rattle.outcome_table.proofs.Narrowing.{not_below}
 
@@ -80,7 +80,7 @@ below_all n (suc m) most =
         ∙ ap (λ l. l ++ cond (nat_lt i n) (i ∷ []) []) (all_pass i (λ k b. h k (omega arith)))
         ∙ ap (λ b. upto i ++ cond b (i ∷ []) []) (h i (omega arith))
 
-filter_twice : (p q : ℕ → Bool) (xs : List ℕ)
+pub filter_twice : (p q : ℕ → Bool) (xs : List ℕ)
     → filter q (filter p xs) ≡ filter (λ x. p x && q x) xs
 filter_twice p q [] = refl
 filter_twice p q (x ∷ xs) = cases (p x) (filter_twice p q xs)
@@ -116,6 +116,27 @@ rows_both a b words long each =
     ∙ same_below (has_row words) (λ r. has_row a r && has_row b r) (64 * length a)
     (λ r low. ap (λ n. bit_at n (r % 64) == 1) (each (r / 64) (omega arith)) ∙ sym (in_both a b r))
     ∙ sym (filter_twice (has_row a) (has_row b) (upto (64 * length a)))
+
+beyond : (xs : List ℕ) (k : ℕ) → length xs ≤ k → slice_index xs k ≡ 0
+beyond [] k past = refl
+beyond (x ∷ xs) zero past = absurd (omega arith)
+beyond (x ∷ xs) (suc k) past = beyond xs k (omega arith)
+
+pub both_each : (a b words : List ℕ)
+    → ((k : ℕ) → k < length a
+    → slice_index words k ≡ bit_and (slice_index a k) (slice_index b k))
+    → ((k : ℕ) → length a ≤ k → slice_index words k ≡ slice_index a k) → IsBoth a b words
+both_each a b words each rest = λ r.
+    elim (cases_lt (r / 64) (length a)) [
+      | inl below ↦
+          ap (λ n. bit_at n (r % 64) == 1) (each (r / 64) below) ∙ sym (in_both a b r)
+      | inr past ↦
+          let none : slice_index a (r / 64) ≡ 0 = beyond a (r / 64) past in
+          ap (λ n. bit_at n (r % 64) == 1) (rest (r / 64) past ∙ none)
+          ∙ ap (λ n. n == 1) (bit_at-zero (r % 64))
+          ∙ sym (ap (λ n. (bit_at n (r % 64) == 1) && has_row b r) none
+          ∙ ap (λ n. (n == 1) && has_row b r) (bit_at-zero (r % 64)))
+    ]
 
 -- the first row is the least bit of the first word that isn't 0
 pub first_found : (a b : List ℕ) (w : ℕ) → w < length a

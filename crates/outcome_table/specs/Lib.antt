@@ -4,3 +4,4 @@ pub mod Needs
 pub mod Numbering
 pub mod Outcomes
 pub mod RowSets
+pub mod Tails

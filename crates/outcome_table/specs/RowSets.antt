@@ -1,5 +1,5 @@
 -- Sets of rows, one bit each, and the rows that allow a code.
-use Rattle.std.specs.Prelude.{◌≡◌, ℕ, ◌*◌, ◌/◌, ◌%◌, ◌<◌, Bool, ◌==◌, List, [], filter, length, get_or, slice_get, slice_index, Some}
+use Rattle.std.specs.Prelude.{◌≡◌, ℕ, ◌*◌, ◌/◌, ◌%◌, ◌<◌, Bool, ◌&&◌, ◌==◌, List, [], filter, length, get_or, slice_get, slice_index, Some}
 use Rattle.std.specs.Int.{bit_at}
 use Rattle.polis_base.specs.Lists.{upto}
 use Rattle.transition_table.specs.declared.machine.Machine.{Machine}
@@ -13,6 +13,10 @@ has_row words r = bit_at (slice_index words (r / 64)) (r % 64) == 1
 -- the rows of a set, in order
 abbrev pub rows_in : List ℕ → List ℕ
 rows_in words = filter (has_row words) (upto (64 * length words))
+
+-- the set has the rows that are in both of two
+abbrev pub IsBoth : List ℕ → List ℕ → List ℕ → Type 0
+IsBoth a b set = (r : ℕ) → has_row set r ≡ (has_row a r && has_row b r)
 
 -- the rows that allow the code of the variable
 pub record IsSetOf (m : Machine) (var code : ℕ) (set : List ℕ) : Type 0 where

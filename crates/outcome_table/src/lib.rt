@@ -9,6 +9,7 @@ mod outcomes;
 mod row;
 mod row_set;
 mod table;
+mod tail;
 
 pub use column::lists_from;
 pub use table::{Table, table_of};

@@ -7,6 +7,7 @@ ghost use Rattle.outcome_table.specs.Needs.{AreEnds, end_left};
 ghost use Rattle.outcome_table.specs.Numbering.{Adds, AreCounts, AreRowOutcomes, BeginWithRows, IsNumberAfter, is_fixed, lists_after, rows_left};
 ghost use Rattle.outcome_table.specs.Outcomes.{named, are_named};
 ghost use Rattle.outcome_table.specs.RowSets.{AreAllowed, rows_in};
+ghost use Rattle.outcome_table.specs.Tails.{AreTails, number_under};
 ghost use Rattle.transition_table.specs.Computed.{result_codes};
 
 use crate::column::lists_from;
@@ -15,6 +16,7 @@ use crate::need::ends_of;
 use crate::outcomes::Outcomes;
 use crate::row::{are_codes, blank_codes, row_codes};
 use crate::row_set::{RowSet, both, first_of_both, first_rows};
+use crate::tail::{Tails, tails_of};
 use domains::{Codes, first_codes};
 use polis_base::{List, NoMemory, Places};
 use std::alloc::Global;
@@ -41,6 +43,8 @@ struct Narrowing<'a> {
     ends: &'a Places,
     // for each variable how many lists of codes there are of those from it on
     counts: &'a Places,
+    // the rows that allow the codes of the last variables
+    tails: &'a Tails,
 }
 
 // How many variables a row needs, none where there is no row.
@@ -133,6 +137,48 @@ fn number_all(
     Ok(())
 }
 
+// The number under which the outcome of a row stands, or of none.
+fn number_under(first: Option<u64>) -> u64
+    requires { IfSome first (λ r. r < 512) }
+    ensures { result ≡ number_under first }
+{
+    match first {
+        Some(r) => 1 + r,
+        None => 0,
+    }
+}
+
+// Numbers the outcomes of all snapshots that have the codes of the variables before the last ones,
+// given the rows whose conditions on these hold.
+fn number_tails(
+    narrowing: &Narrowing,
+    rows: &RowSet,
+    s: &Snapshot,
+    made: &mut Numbered,
+) -> Result<(), NoMemory>
+    requires from { narrowing.now.tails.now.from < length narrowing.now.machine.now.vars }
+    requires snapshot { IsSnapshot narrowing.now.machine.now s.now }
+    requires rows { rows_in rows.now
+        ≡ rows_left narrowing.now.machine.now (take narrowing.now.tails.now.from s.now.codes) }
+    requires begins { BeginWithRows narrowing.now.machine.now narrowing.now.fixed.now
+        made.old.outcomes }
+    requires within { are_named made.old.outcomes made.old.numbers.items }
+    requires ends { AreEnds narrowing.now.machine.now narrowing.now.ends.now }
+    requires tails { AreTails narrowing.now.machine.now narrowing.now.fixed.now
+        narrowing.now.tails.now }
+    ensures { IfOk result (λ done.
+        Adds narrowing.now.machine.now made.old made.new
+        (lists_after (take narrowing.now.tails.now.from s.now.codes)
+        (drop narrowing.now.tails.now.from narrowing.now.machine.now.vars))) }
+{
+    let sets = &narrowing.tails.sets;
+    for j in 0..sets.len() {
+        let first = first_of_both(rows, sets.get(j));
+        made.numbers.push(number_under(first))?;
+    }
+    Ok(())
+}
+
 // Numbers the outcomes of all snapshots that have the codes of the variables before one, given the
 // rows whose conditions on these hold. Where the first row that allows a code needs no later
 // variable, the others aren't looked for.
@@ -152,12 +198,18 @@ fn number_rest(
     requires within { are_named made.old.outcomes made.old.numbers.items }
     requires ends { AreEnds narrowing.now.machine.now narrowing.now.ends.now }
     requires counts { AreCounts narrowing.now.machine.now.vars narrowing.now.counts.now }
+    requires tails { AreTails narrowing.now.machine.now narrowing.now.fixed.now
+        narrowing.now.tails.now }
     ensures adds { IfOk result (λ done.
         Adds narrowing.now.machine.now made.old made.new
         (lists_after (take at s.old.codes) (drop at narrowing.now.machine.now.vars))) }
     ensures snapshot { IfOk result (λ done. IsSnapshot narrowing.now.machine.now s.new) }
     ensures kept { IfOk result (λ done. take at s.new.codes ≡ take at s.old.codes) }
 {
+    if at == narrowing.tails.from {
+        number_tails(narrowing, rows, s, made)?;
+        return Ok(());
+    }
     let sets = narrowing.allowed.get(at);
     for code in 0..*narrowing.machine.vars.get(at) {
         s.codes.set(at, code);
@@ -187,6 +239,8 @@ fn number_every(
     requires within { are_named made.old.outcomes made.old.numbers.items }
     requires ends { AreEnds narrowing.now.machine.now narrowing.now.ends.now }
     requires counts { AreCounts narrowing.now.machine.now.vars narrowing.now.counts.now }
+    requires tails { AreTails narrowing.now.machine.now narrowing.now.fixed.now
+        narrowing.now.tails.now }
     ensures { IfOk result (λ done. Adds narrowing.now.machine.now made.old made.new
         (lists_after [] narrowing.now.machine.now.vars)) }
 {
@@ -248,6 +302,7 @@ pub(crate) fn numbers_of(alloc: Global, m: &Machine) -> Result<Numbered, NoMemor
     let fixed = fixed_rows(alloc, m)?;
     let ends = ends_of(alloc, m)?;
     let counts = counts_of(alloc, m)?;
+    let tails = tails_of(alloc, m, &allowed, &fixed, &counts)?;
     let mut made = Numbered {
         numbers: Vec::with_capacity(alloc, *counts.get(0) as usize)?,
         outcomes: Outcomes::of(alloc, row_outcomes(alloc, m, &s)?),
@@ -259,6 +314,7 @@ pub(crate) fn numbers_of(alloc: Global, m: &Machine) -> Result<Numbered, NoMemor
         fixed: &fixed,
         ends: &ends,
         counts: &counts,
+        tails: &tails,
     };
     number_every(&narrowing, &rows, &mut s, &mut made)?;
     Ok(made)

@@ -1,8 +1,8 @@
 // Sets of rows, one bit each.
-ghost use Rattle.std.specs.Prelude.{◌≡◌, ◌≢◌, ◌<◌, ◌≤◌, ◌==◌, ℕ, true, filter, length, slice_get, slice_index};
+ghost use Rattle.std.specs.Prelude.{◌≡◌, ◌≢◌, ◌<◌, ◌≤◌, ◌==◌, ℕ, true, filter, nat_lt, length, slice_get, slice_index};
 ghost use Rattle.std.specs.Int.{bit_at};
 ghost use Rattle.polis_base.specs.Lists.{upto};
-ghost use Rattle.outcome_table.specs.RowSets.{has_row, rows_in};
+ghost use Rattle.outcome_table.specs.RowSets.{IsBoth, has_row, rows_in};
 
 use crate::mask::CodeSets;
 
@@ -22,7 +22,8 @@ fn add(set: &mut RowSet, r: u64)
 /// The rows below a bound.
 pub(crate) fn first_rows(count: u64) -> RowSet
     requires { count ≤ 512 }
-    ensures { rows_in result ≡ upto count }
+    ensures rows { rows_in result ≡ upto count }
+    ensures each { (r : ℕ) → has_row result r ≡ nat_lt r count }
 {
     let mut set = [0; 8];
     for r in 0..count {
@@ -49,7 +50,8 @@ pub(crate) fn rows_with(masks: &CodeSets, code: u8) -> RowSet
 
 /// The rows that are in both sets.
 pub(crate) fn both(a: &RowSet, b: &RowSet) -> RowSet
-    ensures { rows_in result ≡ filter (has_row b.now) (rows_in a.now) }
+    ensures rows { rows_in result ≡ filter (has_row b.now) (rows_in a.now) }
+    ensures each { IsBoth a.now b.now result }
 {
     let mut set = *a;
     for w in 0..8 {

@@ -195,7 +195,7 @@ number_rest-requires t c =
     c.get-code-end.result.now u c.requires.allowed c.get-sets.ensures
     (rw c.from.ensures at c.get-allowed.ensures) c.requires.rows c.set.ensures in
     let left : rows_in c.both.result ≡ rows_left m (take (at + 1) c.set.new.self) =
-    c.both.ensures ∙ next in
+    c.both.ensures.rows ∙ next in
     let within = c.end_left.ensures.within in
     let more = c.if-end_left-at.false in
     let d = c.decreases in (
@@ -211,7 +211,7 @@ number_rest-requires t c =
               (
                 begins_kept m c.args.narrowing.now.fixed.now c.args.made.now.outcomes
                     c.loop-code.made.outcomes c.requires.begins c.loop-code.invariant.adds.kept,
-                (c.loop-code.invariant.adds.within, (c.requires.ends, c.requires.counts)),
+                (c.loop-code.invariant.adds.within, (c.requires.ends, (c.requires.counts, c.requires.tails))),
               ),
             ),
           ),

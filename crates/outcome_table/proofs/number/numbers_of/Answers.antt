@@ -16,7 +16,7 @@ first_rows-rows-requires c =
 
 pub number_every-requires-clause-rows : goal.number_every-requires-clause-rows
 number_every-requires-clause-rows c =
-    all_rows c.args.m.now (rows_in c.first_rows-rows.result) c.len.result c.first_rows-rows.ensures
+    all_rows c.args.m.now (rows_in c.first_rows-rows.result) c.len.result c.first_rows-rows.ensures.rows
     c.len.ensures
 
 pub number_every-requires-clause-begins : goal.number_every-requires-clause-begins

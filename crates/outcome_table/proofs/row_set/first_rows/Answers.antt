@@ -28,10 +28,15 @@ loop-r-preserved c =
           ];
     }
 
-pub returns : goal.returns
-returns c =
+pub returns-clause-rows : goal.returns-clause-rows
+returns-clause-rows c =
     let long = c.loop-r.invariant.long in
     let done : c.loop-r.r ≡ c.args.count = omega arith in
     same_below (has_row c.loop-r.set) (λ k. nat_lt k c.args.count) (64 * length c.loop-r.set)
     (λ k low. c.loop-r.invariant.each k ∙ ap (nat_lt k) done)
     ∙ below_all c.args.count (64 * length c.loop-r.set) (omega arith)
+
+pub returns-clause-each : goal.returns-clause-each
+returns-clause-each c =
+    let done : c.loop-r.r ≡ c.args.count = omega arith in
+    λ k. c.loop-r.invariant.each k ∙ ap (nat_lt k) done

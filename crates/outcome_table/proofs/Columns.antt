@@ -1,12 +1,13 @@
 -- The codes of one variable on all lists.
-use Rattle.std.proofs.Common.{◌≡◌, true, ℕ, zero, suc, ◌+◌, ◌-◌, ◌*◌, ◌<◌, ◌≤◌, List, [], ◌∷◌, map, flat_map, length, drop, replicate, slice_index, ◌&&◌, nat_le, refl, ap, ◌∙◌, arith, length-append}
+use Rattle.std.proofs.Common.{◌≡◌, true, ℕ, zero, suc, ◌+◌, ◌-◌, ◌*◌, ◌<◌, ◌≤◌, List, [], ◌∷◌, map, flat_map, length, take, drop, replicate, slice_index, ◌++◌, ◌/◌, sym, ◌&&◌, nat_le, refl, ap, ◌∙◌, arith, length-append}
 use Rattle.std.proofs.lemmas.Bool.{and_parts, leb-true}
 use Rattle.std.proofs.Math.Seq.{drop-cons}
 use Rattle.polis_base.specs.Lists.{upto}
 use Rattle.domains.specs.AllCodes.{all_codes, each_after}
 use Rattle.domains.specs.Tables.{product}
 use Rattle.outcome_table.specs.Outcomes.{column}
-use Rattle.std.proofs.Math.Nat.{mul-le-mul_right}
+use Rattle.std.proofs.Math.Nat.{mul-div_cancel, mul-le-mul_right, mul_assoc, suc-mul}
+use Rattle.std.proofs.lemmas.List.{append-nil, append_assoc}
 use Rattle.domains.specs.Tables.{are_sizes}
 use Rattle.outcome_table.proofs.Ones.{size_at}
 use Rattle.outcome_table.proofs.Lists.{map_flat, flat_same, flat_upto}
@@ -115,3 +116,79 @@ product_after (size ∷ vars) (suc v) h =
     let rest = product_after vars v parts.1 in
     let grow = mul-le-mul_right {m = 1} {n = size} (product vars) some in
     omega (arith, rest, grow)
+
+pub product_some : (vars : List ℕ) (v : ℕ) → are_sizes vars ≡ true → 0 < product (drop v vars)
+product_some [] zero h = omega arith
+product_some [] (suc v) h = omega arith
+product_some (size ∷ vars) zero h =
+    let parts = and_parts (nat_le 1 size && nat_le size 33) (are_sizes vars) h in
+    let some = leb-true 1 size (and_parts (nat_le 1 size) (nat_le size 33) parts.0).0 in
+    let rest = product_some vars zero parts.1 in
+    let grow = mul-le-mul_right {m = 1} {n = size} (product vars) some in
+    omega (arith, rest, grow)
+product_some (size ∷ vars) (suc v) h =
+    product_some vars v (and_parts (nat_le 1 size && nat_le size 33) (are_sizes vars) h).1
+
+-- ---- a column is the part of it for the later variables over and over
+pub product_split : (vars : List ℕ) (v : ℕ)
+    → product (take v vars) * product (drop v vars) ≡ product vars
+product_split vars zero = omega arith
+product_split [] (suc v) = refl
+product_split (size ∷ vars) (suc v) =
+    mul_assoc size (product (take v vars)) (product (drop v vars))
+    ∙ ap (λ (n : ℕ). size * n) (product_split vars v)
+
+pub product_times : (vars : List ℕ) (v : ℕ) → are_sizes vars ≡ true
+    → product vars / product (drop v vars) ≡ product (take v vars)
+product_times vars v h =
+    ap (λ (n : ℕ). n / product (drop v vars)) (sym (product_split vars v))
+    ∙ mul-div_cancel (product (take v vars)) (product_some vars v h)
+
+product_more : (vars : List ℕ) (v : ℕ) → v < length vars
+    → product (take (suc v) vars) ≡ product (take v vars) * slice_index vars v
+product_more [] v low = absurd (omega arith)
+product_more (size ∷ vars) zero low = omega arith
+product_more (size ∷ vars) (suc v) low =
+    ap (λ (n : ℕ). size * n) (product_more vars v (omega arith))
+    ∙ sym (mul_assoc size (product (take v vars)) (slice_index vars v))
+
+abbrev over : ℕ → List ℕ → List ℕ
+over n xs = flat_map (λ (c : ℕ). xs) (upto n)
+
+over_sum : (xs : List ℕ) (a b : ℕ) → over (a + b) xs ≡ over a xs ++ over b xs
+over_sum xs a zero = let e : a + zero ≡ a = omega arith in
+    ap (λ k. over k xs) e ∙ sym (append-nil (over a xs))
+over_sum xs a (suc b) =
+    let f : ℕ → List ℕ = λ (c : ℕ). xs in
+    let e : a + suc b ≡ suc (a + b) = omega arith in
+    ap (λ k. over k xs) e
+    ∙ flat_upto f (a + b)
+    ∙ ap (λ (ys : List ℕ). ys ++ xs) (over_sum xs a b)
+    ∙ append_assoc (over a xs) (over b xs) xs
+    ∙ ap (λ (ys : List ℕ). over a xs ++ ys) (sym (flat_upto f b))
+
+over_over : (xs : List ℕ) (a b : ℕ) → over a (over b xs) ≡ over (a * b) xs
+over_over xs zero b = let e : zero ≡ zero * b = omega arith in ap (λ k. over k xs) e
+over_over xs (suc a) b =
+    flat_upto (λ (c : ℕ). over b xs) a
+    ∙ ap (λ (ys : List ℕ). ys ++ over b xs) (over_over xs a b)
+    ∙ sym (over_sum xs (a * b) b)
+    ∙ ap (λ k. over k xs) (sym (suc-mul a b))
+
+pub column_pieces : (vars : List ℕ) (from v : ℕ) → from ≤ v → v < length vars
+    → column v (all_codes vars)
+    ≡ flat_map (λ c. column (v - from) (all_codes (drop from vars)))
+    (upto (product (take from vars)))
+column_pieces vars zero v most low =
+    let e : v ≡ v - zero = omega arith in
+    ap (λ k. column k (all_codes vars)) e
+    ∙ sym (flat_upto (λ (c : ℕ). column (v - zero) (all_codes vars)) 0)
+column_pieces vars (suc from) v most low =
+    let e : from + 1 ≡ suc from = omega arith in
+    let n = product (take from vars) in
+    let later : List ℕ = column (v - (from + 1)) (all_codes (drop (from + 1) vars)) in
+    column_pieces vars from v (omega arith) low
+    ∙ ap (λ (xs : List ℕ). over n xs) (column_later vars from v (omega arith) low)
+    ∙ over_over later n (slice_index vars from)
+    ∙ ap (λ k. over k later) (sym (product_more vars from (omega arith)))
+    ∙ ap (λ k. over (product (take (suc from) vars)) (column (v - k) (all_codes (drop k vars)))) e

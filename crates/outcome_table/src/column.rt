@@ -9,6 +9,9 @@ use domains::{Codes, VarTable};
 use polis_base::{List, NoMemory};
 use std::alloc::Global;
 
+// A column is a piece over and over, which has at most so many codes where that can be.
+const PIECE: u64 = 2048;
+
 /// How many lists of codes there are of the variables from one on. As many snapshots apart stand
 /// those that differ by one in the code of the variable before it, and in nothing else.
 pub fn lists_from(vars: &VarTable, from: u64) -> u64
@@ -36,7 +39,7 @@ fn blocks(alloc: Global, size: u8, times: u64) -> Result<Vec<u8>, NoMemory>
 }
 
 // A piece so many times.
-fn repeated(alloc: Global, piece: &[u8], times: u8) -> Result<Vec<u8>, NoMemory>
+fn repeated(alloc: Global, piece: &[u8], times: u64) -> Result<Vec<u8>, NoMemory>
     requires { times * length piece.now < 2 ^ 63 }
     ensures { IfOk result (λ made. made.items ≡ flat_map (λ c. piece.now) (upto times)) }
 {
@@ -62,7 +65,40 @@ fn column_from(alloc: Global, vars: &VarTable, from: u64, v: u64) -> Result<Vec<
         return Ok(made);
     }
     let later = column_from(alloc, vars, from + 1, v)?;
-    let made = repeated(alloc, &later, size)?;
+    let made = repeated(alloc, &later, u64::from(size))?;
+    Ok(made)
+}
+
+// The first variable up to this one such that there are few lists of codes of those from it on, or
+// this one.
+fn piece_from(vars: &VarTable, v: u64) -> u64
+    requires var { v < length vars.now }
+    requires few { product vars.now < 2 ^ 63 }
+    ensures { result ≤ v }
+{
+    let _ = vars.len();
+    for from in 0..v {
+        if lists_from(vars, from) <= PIECE {
+            return from;
+        }
+    }
+    v
+}
+
+// The codes of a variable on all lists of codes.
+fn column_of(alloc: Global, vars: &VarTable, v: u64) -> Result<Vec<u8>, NoMemory>
+    requires var { v < length vars.now }
+    requires few { product vars.now < 2 ^ 63 }
+    ensures { IfOk result (λ made. made.items ≡ column v (all_codes vars.now)) }
+{
+    let _ = vars.len();
+    let from = piece_from(vars, v);
+    let piece = column_from(alloc, vars, from, v)?;
+    if from == 0 {
+        return Ok(piece);
+    }
+    let times = lists_from(vars, 0) / lists_from(vars, from);
+    let made = repeated(alloc, &piece, times)?;
     Ok(made)
 }
 
@@ -73,7 +109,7 @@ pub(crate) fn columns_of(alloc: Global, vars: &VarTable) -> Result<List<Codes>, 
 {
     let mut columns = List::new(alloc);
     for v in 0..vars.len() {
-        let column = column_from(alloc, vars, 0, v)?;
+        let column = column_of(alloc, vars, v)?;
         columns.push(Codes::from_slice(alloc, &column)?)?;
     }
     Ok(columns)

@@ -59,27 +59,29 @@ column_from-requires t c =
 pub repeated-requires : goal.repeated-requires
 repeated-requires t c =
     let vars = c.args.vars.now in
-    let size : slice_index vars c.args.from ≡ c.get-size.result.now =
-    get_or_from_slice_get vars c.args.from c.get-size.result.now 0 c.get-size.ensures in
+    let size : slice_index vars c.args.from ≡ c.from.result =
+    get_or_from_slice_get vars c.args.from c.get-size.result.now 0 c.get-size.ensures
+    ∙ sym c.from.ensures in
     let few = c.requires.few in
     let long : length c.deref.result.now ≡ product (drop (c.args.from + 1) vars) =
     ap (λ (xs : List ℕ). length xs) (c.deref.ensures.value ∙ c.in_ok-later.ensures)
     ∙ column_long (c.args.v - (c.args.from + 1)) (drop (c.args.from + 1) vars) in
-    let here : product (drop c.args.from vars) ≡ c.get-size.result.now * length c.deref.result.now =
-    product_here vars c.args.from c.get-size.result.now
+    let here : product (drop c.args.from vars) ≡ c.from.result * length c.deref.result.now =
+    product_here vars c.args.from c.from.result
     (let a = c.requires.from in let b = c.requires.var in omega arith) size
-    ∙ ap (λ n. c.get-size.result.now * n) (sym long) in
+    ∙ ap (λ n. c.from.result * n) (sym long) in
     omega arith
 
 pub returns : goal.returns
 returns t c =
     let vars = c.args.vars.now in
-    let size : c.get-size.result.now ≡ slice_index vars c.args.from =
-    sym (get_or_from_slice_get vars c.args.from c.get-size.result.now 0 c.get-size.ensures) in
+    let size : c.from.result ≡ slice_index vars c.args.from =
+    c.from.ensures
+    ∙ sym (get_or_from_slice_get vars c.args.from c.get-size.result.now 0 c.get-size.ensures) in
     let less : c.args.from < c.args.v = let a = c.requires.from in let e = c.if-from-v.false in
     omega arith in
     c.in_ok-made-2.ensures
-    ∙ ap (λ (xs : List ℕ). flat_map (λ (k : ℕ). xs) (upto c.get-size.result.now))
+    ∙ ap (λ (xs : List ℕ). flat_map (λ (k : ℕ). xs) (upto c.from.result))
     (c.deref.ensures.value ∙ c.in_ok-later.ensures)
     ∙ ap (λ (n : ℕ). flat_map
     (λ (k : ℕ). column (c.args.v - (c.args.from + 1)) (all_codes (drop (c.args.from + 1) vars)))

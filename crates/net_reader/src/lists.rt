@@ -8,9 +8,9 @@ use crate::raw::{RawValue, Word};
 use crate::reader::{Reader, Stop};
 use polis_base::{Kind, List, Sign};
 
-// How many parts most lists with commas have. Where a list has just so many, none of its room is
-// given up, nor is more asked for.
-const FEW: u64 = 2;
+// How many parts most lists of names and values have. Where a list has just so many, none of its
+// room is given up, nor is more asked for.
+pub(crate) const FEW: u64 = 2;
 
 // What a rule of the grammar reads in a sentence of some version.
 pub(crate) trait Part: Drop {
@@ -95,13 +95,13 @@ pub(crate) fn some<T: Part>(
     more(reader, version, begins, made)
 }
 
-// One or more parts with commas between them.
+// One or more parts with commas between them, with room for so many before the first is read.
 #[tactic(auto, unfolding(crate::specs::Reading::listed))]
-pub(crate) fn listed<T: Part>(reader: &mut Reader, version: u32) -> Result<List<T>, Stop>
+pub(crate) fn listed<T: Part>(reader: &mut Reader, version: u32, room: u64) -> Result<List<T>, Stop>
     requires { Shrinks (T.rule version) }
     ensures { Gives result reader.new (listed (T.rule version) reader.old) }
 {
-    let mut made = List::with_room(reader.alloc(), FEW)?;
+    let mut made = List::with_room(reader.alloc(), room)?;
     let part = T::read(reader, version)?;
     made.push(part)?;
     after_commas(reader, version, made)

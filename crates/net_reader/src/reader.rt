@@ -10,10 +10,14 @@ ghost use Rattle.net_reader.specs.Lexemes.{Lexeme, lexeme, lexemes, word_of, num
 ghost use Rattle.net_reader.specs.Pieces.{seen, read_tokens, place_of};
 ghost use Rattle.net_reader.specs.Reading.{Gives, next_of, begins, is, is_fixed, only, word_at, num_at, value_at, end_at};
 
+use crate::lists::FEW;
 use crate::raw::{Num, RawValue, Word};
 use polis_base::{Keyword, Kind, Name, NoMemory, Sign, Token, next_token};
 use std::alloc::Global;
 use std::marker::Model;
+
+// For how many parts of a row there is room at most before one of them is read.
+const ROOM_MAX: u64 = 64;
 
 // Why reading stopped.
 #[derive(Clone, Copy, Debug)]
@@ -48,6 +52,9 @@ pub(crate) struct Reader<'a> {
     alloc: Global,
     text: &'a [u8],
     next: Option<Token>,
+    // For how many conditions and how many actions of the next row there is to be room.
+    conds_room: u64,
+    acts_room: u64,
 }
 
 impl<'a> Model for Reader<'a> {
@@ -146,7 +153,32 @@ impl<'a> Reader<'a> {
     {
         let mut next = None;
         go_to(text, 0, &mut next);
-        Reader { alloc, text, next }
+        Reader {
+            alloc,
+            text,
+            next,
+            conds_room: FEW,
+            acts_room: FEW,
+        }
+    }
+
+    // For how many conditions of the next row there is to be room.
+    pub(crate) fn conds_room(&self) -> u64 {
+        self.conds_room
+    }
+
+    // For how many actions of the next row there is to be room.
+    pub(crate) fn acts_room(&self) -> u64 {
+        self.acts_room
+    }
+
+    // A row has so many conditions and actions. The next one most often has as many, so its lists
+    // get just that room.
+    pub(crate) fn note_row(&mut self, conds: u64, acts: u64)
+        ensures { self.new ≡ self.old }
+    {
+        self.conds_room = conds.min(ROOM_MAX);
+        self.acts_room = acts.min(ROOM_MAX);
     }
 
     pub(crate) fn alloc(&self) -> Global {

@@ -5,7 +5,7 @@ ghost use Rattle.polis_base.specs.declared.token.Keyword.{Keyword};
 ghost use Rattle.polis_base.specs.declared.token.Sign.{Sign};
 ghost use Rattle.net_reader.specs.Reading.{Gives, either, pure, is, names_at, range_at, shape_at, domain_at, env_at, from_env_at, to_env_at, typed_at, typed_part_at, event_at, state_at, absent_at, is_at, one_of_at, after_name_at, named_at, cond_at, plain_at, input_at, add_at, add_or_plain_at, after_value_at, sum_at, input_or_plain_at, input_or_sum_at, given_source_at, source_at, given_at, given_part_at, emit_at, set_at, act_at, nothing_at, acts_at, row_at, output_at, outputs_at, body_at, machine_at, net_at, whole_at};
 
-use crate::lists::{Part, listed, many, some};
+use crate::lists::{FEW, Part, listed, many, some};
 use crate::raw::{
     Num, RawAct, RawActList, RawCond, RawDomain, RawEnv, RawEvent, RawMachine, RawNet, RawRow,
     RawShape, RawSource, RawState, RawValue, Word, WordList,
@@ -23,7 +23,7 @@ fn names(reader: &mut Reader, version: u32) -> Result<RawShape, Stop>
     ensures { Gives result reader.new (names_at reader.old) }
 {
     reader.sign(LeftBrace)?;
-    let names = listed(reader, version)?;
+    let names = listed(reader, version, FEW)?;
     reader.sign(RightBrace)?;
     Ok(RawShape::Names(names))
 }
@@ -172,7 +172,7 @@ fn one_of(reader: &mut Reader, version: u32, name: Word) -> Result<RawCond, Stop
 {
     reader.keyword(KwIn)?;
     reader.sign(LeftBrace)?;
-    let values = listed(reader, version)?;
+    let values = listed(reader, version, FEW)?;
     reader.sign(RightBrace)?;
     Ok(RawCond::OneOf { name, values })
 }
@@ -398,7 +398,8 @@ fn acts(reader: &mut Reader, version: u32) -> Result<RawActList, Stop>
     if reader.sees(Kind::Keyword(KwNothing)) {
         nothing(reader)
     } else {
-        listed(reader, version)
+        let room = reader.acts_room();
+        listed(reader, version, room)
     }
 }
 
@@ -410,9 +411,11 @@ impl Part for RawRow {
     #[tactic(auto, unfolding(crate::specs::Reading::row_at))]
     fn read(reader: &mut Reader, version: u32) -> Result<RawRow, Stop> {
         reader.keyword(KwWhen)?;
-        let conds = listed(reader, version)?;
+        let room = reader.conds_room();
+        let conds = listed(reader, version, room)?;
         reader.keyword(KwDo)?;
         let acts = acts(reader, version)?;
+        reader.note_row(conds.len(), acts.len());
         Ok(RawRow { conds, acts })
     }
 }
@@ -422,7 +425,7 @@ fn output(reader: &mut Reader, version: u32) -> Result<WordList, Stop>
     ensures { Gives result reader.new (output_at reader.old) }
 {
     reader.keyword(KwOutput)?;
-    listed(reader, version)
+    listed(reader, version, FEW)
 }
 
 #[tactic(auto, unfolding(crate::specs::Reading::outputs_at))]
@@ -442,7 +445,7 @@ fn body(reader: &mut Reader, version: u32, name: Word, priority: Num) -> Result<
     ensures { Gives result reader.new (body_at version name priority reader.old) }
 {
     reader.keyword(KwInput)?;
-    let inputs = listed(reader, version)?;
+    let inputs = listed(reader, version, FEW)?;
     let outputs = outputs(reader, version)?;
     let states = many(reader, version, Kind::Keyword(KwState))?;
     let rows = many(reader, version, Kind::Keyword(KwWhen))?;

@@ -88,22 +88,6 @@ never_first m row var mask codes is e below even first =
     let clear = bit_at_lowest mask ∙ even in
     omega arith
 
--- two words with a common bit
-pub common_place : (said denied : ℕ) → said < 2 ^ 64 → not (nat_eq (bit_and said denied) 0) ≡ true
-    → (place : ℕ) × (bit_at said place ≡ 1) × (bit_at denied place ≡ 1)
-common_place said denied fits some =
-    let both = bit_and said denied in
-    let below = and_le_l said denied in
-    let there : 0 < both = elim (eqb_tells both 0) [
-      | inl here ↦ absurd (true≢false (sym some ∙ ap not here.0))
-      | inr apart ↦ let differ = apart.1 in omega arith
-    ] in
-    let place = trailing_zeros w64 both in
-    let set = (lowest_bit both there (omega arith)).0 in
-    let parts = and_parts (bit_at said place == 1) (bit_at denied place == 1)
-    (sym (both_bits said denied place) ∙ alike (bit_at both place) 1 set) in
-    (place, eqb-true (bit_at said place) 1 parts.0, eqb-true (bit_at denied place) 1 parts.1)
-
 -- such rows don't conflict
 pub apart_rows : (m : Machine) (marks : List Marks) (a b : ℕ) (first second : Marks)
     → AreMarked m marks → slice_get marks a ≡ Some first → slice_get marks b ≡ Some second

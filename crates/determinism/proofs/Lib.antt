@@ -7,3 +7,4 @@ pub mod Ones
 pub mod Overlaps
 pub mod Picks
 pub mod Results
+pub mod Saying

@@ -1,3 +1,4 @@
 pub mod Common
 pub mod Conflicts
 pub mod Marks
+pub mod Sayers

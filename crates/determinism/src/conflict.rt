@@ -6,12 +6,14 @@ ghost use Rattle.transition_table.specs.Transitions.{Conflict};
 ghost use Rattle.determinism.specs.Common.{IsTable, IsBox, AreSome, IsBest, Before};
 ghost use Rattle.determinism.specs.Conflicts.{IsLeastOf, IsFirstWith, Answers};
 ghost use Rattle.determinism.specs.Marks.{AreMarked};
+ghost use Rattle.determinism.specs.Sayers.{AreSayers};
 
 use crate::difference::least_difference;
 use crate::fault::CheckFault;
-use crate::marks::{Marks, marks_table, next_near};
+use crate::marks::{Marks, marks_table};
 use crate::masks::{CodeSets, SetTable, table_of};
 use crate::overlap::overlap;
+use crate::sayers::{Sayers, next_near, sayers_of};
 use domains::{Codes, first_codes};
 use polis_base::{List, NoMemory};
 use std::alloc::Global;
@@ -128,6 +130,7 @@ fn conflicting(
     a: u32,
     table: &SetTable,
     marks: &List<Marks>,
+    sayers: &Sayers,
     sets: &mut CodeSets,
     s: &mut Snapshot,
     best: &mut Snapshot,
@@ -135,6 +138,7 @@ fn conflicting(
     requires row { a < length machine.now.rows }
     requires table { IsTable machine.now.vars machine.now.rows table.now }
     requires marks { AreMarked machine.now marks.now }
+    requires sayers { AreSayers marks.now sayers.now }
     requires sets { length sets.old ≡ length machine.now.vars }
     requires long { length s.old.codes ≡ length machine.now.vars }
     requires best_long { length best.old.codes ≡ length machine.now.vars }
@@ -145,12 +149,12 @@ fn conflicting(
     ensures none { IfNone result ((b : ℕ) (t : SnapshotOf) → ¬ Conflict machine.now a b t) }
 {
     let denied = marks.get(u64::from(a)).denied;
-    let mut b = next_near(marks.as_slice(), denied, a + 1);
+    let mut b = next_near(marks.as_slice(), sayers, denied, a + 1);
     while b < machine.row_count() {
         if conflict_of(machine, a, b, table, sets, s, best) {
             return Some(b);
         }
-        b = next_near(marks.as_slice(), denied, b + 1);
+        b = next_near(marks.as_slice(), sayers, denied, b + 1);
     }
     None
 }
@@ -164,6 +168,7 @@ pub fn check(alloc: Global, m: &Machine) -> Result<(), CheckFault>
     laws();
     let table = table_of(alloc, m)?;
     let marks = marks_table(alloc, m, &table)?;
+    let sayers = sayers_of(alloc, &marks)?;
     let mut sets = CodeSets::filled(alloc, m.vars.len(), 0)?;
     let mut s = Snapshot {
         codes: first_codes(alloc, &m.vars)?,
@@ -172,7 +177,7 @@ pub fn check(alloc: Global, m: &Machine) -> Result<(), CheckFault>
         codes: first_codes(alloc, &m.vars)?,
     };
     for a in 0..m.row_count() {
-        if let Some(b) = conflicting(m, a, &table, &marks, &mut sets, &mut s, &mut best) {
+        if let Some(b) = conflicting(m, a, &table, &marks, &sayers, &mut sets, &mut s, &mut best) {
             return Err(CheckFault::Conflict {
                 row_a: a,
                 row_b: b,

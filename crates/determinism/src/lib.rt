@@ -7,6 +7,7 @@ mod fault;
 mod marks;
 mod masks;
 mod overlap;
+mod sayers;
 mod worked;
 
 pub use conflict::check;

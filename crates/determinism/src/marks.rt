@@ -1,8 +1,7 @@
 // Rows that are never enabled together, seen from two words: one row wants the first code of a
 // variable, as an absent event, and the other wants another.
-ghost use Rattle.std.specs.Prelude.{◌≡◌, ◌⊎◌, ◌<◌, ◌≤◌, ℕ, length, slice_get, Some, IfOk, IsTrue};
+ghost use Rattle.std.specs.Prelude.{◌≡◌, ◌⊎◌, ◌<◌, ℕ, length, IfOk};
 ghost use Rattle.std.specs.Int.{bit_at};
-ghost use Rattle.determinism.specs.declared.marks.Marks.{Marks as MarksOf};
 ghost use Rattle.determinism.specs.Common.{IsMask, AreMasks, IsTable};
 ghost use Rattle.determinism.specs.Marks.{IsMarked, AreMarked};
 
@@ -21,7 +20,7 @@ pub(crate) struct Marks {
 }
 
 // The set and one more place.
-fn with_place(set: u64, place: u64) -> u64
+pub(crate) fn with_place(set: u64, place: u64) -> u64
     requires { place < 64 }
     ensures { (p : ℕ) → bit_at result p ≡ 1 → (p ≡ place) ⊎ (bit_at set p ≡ 1) }
 {
@@ -74,34 +73,9 @@ pub(crate) fn marks_table(
     requires { IsTable machine.now.vars machine.now.rows table.now }
     ensures { IfOk result (AreMarked machine.now) }
 {
-    let mut made = List::new(alloc);
+    let mut made = List::with_room(alloc, machine.rows.len())?;
     for r in 0..machine.rows.len() {
         made.push(marks_of(machine, machine.rows.get(r), table.get(r)))?;
     }
     Ok(made)
-}
-
-// One place is said and denied.
-fn apart(said: u64, denied: u64) -> bool
-    ensures { IsTrue result → (place : ℕ) × (bit_at said place ≡ 1) × (bit_at denied place ≡ 1) }
-{
-    said & denied != 0
-}
-
-/// The first row from this one on that says nothing of what is denied, or the number of rows.
-pub(crate) fn next_near(marks: &[Marks], denied: u64, from: u32) -> u32
-    requires few { length marks.now ≤ 512 }
-    requires from { from ≤ length marks.now }
-    ensures from { from ≤ result }
-    ensures within { result ≤ length marks.now }
-    ensures apart { (r : ℕ) (of_row : MarksOf) → from ≤ r → r < result
-        → slice_get marks.now r ≡ Some of_row
-        → (place : ℕ) × (bit_at of_row.said place ≡ 1) × (bit_at denied place ≡ 1) }
-{
-    for r in from..marks.len() as u32 {
-        if !apart(marks[r as usize].said, denied) {
-            return r;
-        }
-    }
-    marks.len() as u32
 }

@@ -43,7 +43,7 @@ fn all_codes(size: u8) -> u64
 fn whole(alloc: Global, machine: &Machine) -> Result<CodeSets, NoMemory>
     ensures { IfOk result (AreWhole machine.now.vars) }
 {
-    let mut masks = CodeSets::new(alloc);
+    let mut masks = CodeSets::with_room(alloc, machine.vars.len())?;
     for var in 0..machine.vars.len() {
         masks.push(all_codes(*machine.vars.get(var)))?;
     }
@@ -70,7 +70,7 @@ pub(crate) fn table_of(alloc: Global, machine: &Machine) -> Result<SetTable, NoM
     ensures { IfOk result (IsTable machine.now.vars machine.now.rows) }
 {
     let all = whole(alloc, machine)?;
-    let mut table = SetTable::new(alloc);
+    let mut table = SetTable::with_room(alloc, machine.rows.len())?;
     for r in 0..machine.rows.len() {
         table.push(masks_of(alloc, machine, &all, machine.rows.get(r))?)?;
     }

@@ -1,4 +1,4 @@
-use Rattle.std.proofs.Common.{◌≡◌, ◌+◌, ◌≤◌, ℕ, Bool, true, false, length, arith, sym, ◌∙◌, subst}
+use Rattle.std.proofs.Common.{◌≡◌, ◌+◌, ℕ, Bool, length, arith, subst}
 use Rattle.determinism.specs.Common.{IsBest}
 use Rattle.determinism.proofs.Bests.{best_none, best_conflict}
 use Rattle.determinism.proofs.Overlaps.{row_of}

@@ -1,4 +1,4 @@
-use Rattle.std.proofs.Common.{◌≡◌, ◌≢◌, ◌<◌, ◌≤◌, ◌&&◌, ◌==◌, ℕ, List, length, take, drop, slice_get, slice_index, Some}
+use Rattle.std.proofs.Common.{◌≡◌, length}
 use Rattle.determinism.specs.Common.{IsBest}
 use Rattle.determinism.proofs.conflict.conflict_of.Given as goal
 

@@ -1,4 +1,4 @@
-use Rattle.std.proofs.Common.{◌≡◌, ℕ, Bool, true, sym, ◌∙◌, subst}
+use Rattle.std.proofs.Common.{Bool, subst}
 use Rattle.determinism.specs.Common.{IsBest}
 use Rattle.determinism.proofs.Bests.{best_stays, best_moves, true_or_false}
 use Rattle.determinism.proofs.conflict.improve.Goals as goal

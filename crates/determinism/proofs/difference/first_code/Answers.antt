@@ -1,4 +1,4 @@
-use Rattle.std.proofs.Common.{◌≡◌, ◌<◌, ◌≤◌, ℕ, slice_index, arith, sym, ◌∙◌, inl, inr}
+use Rattle.std.proofs.Common.{slice_index, arith, sym, ◌∙◌, inl, inr}
 use Rattle.std.proofs.lemmas.Bool.Decides.{eqb_tells}
 use Rattle.determinism.proofs.difference.first_code.Goals as goal
 

@@ -1,4 +1,4 @@
-use Rattle.std.proofs.Common.{◌≡◌, ◌≢◌, ◌<◌, ◌≤◌, ◌&&◌, ◌==◌, ℕ, List, length, take, drop, slice_get, slice_index, Some}
+use Rattle.std.proofs.Common.{◌≡◌, ◌≢◌, ◌<◌, ℕ, List, slice_index}
 use Rattle.determinism.specs.Common.{IsIn, Differ}
 use Rattle.determinism.proofs.difference.first_code.Given as goal
 

@@ -1,4 +1,4 @@
-use Rattle.std.proofs.Common.{◌≡◌, ℕ, refl}
+use Rattle.std.proofs.Common.{refl}
 use Rattle.determinism.proofs.Picks.{single_before}
 use Rattle.determinism.proofs.difference.first_single.Goals as goal
 

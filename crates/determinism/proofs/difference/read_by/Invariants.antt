@@ -1,4 +1,4 @@
-use Rattle.std.proofs.Common.{◌≡◌, ◌≢◌, ◌<◌, ◌≤◌, ◌&&◌, ◌==◌, ℕ, List, length, take, drop, slice_get, slice_index, Some}
+use Rattle.std.proofs.Common.{◌≡◌, ℕ, List, drop}
 use Rattle.transition_table.specs.Transitions.{code_given}
 use Rattle.determinism.proofs.difference.read_by.Given as goal
 

@@ -1,4 +1,4 @@
-use Rattle.std.proofs.Common.{◌≡◌, ℕ, ◌∙◌}
+use Rattle.std.proofs.Common.{◌∙◌}
 use Rattle.determinism.proofs.Overlaps.{row_of, none_enables, box_is}
 use Rattle.determinism.proofs.overlap.overlap.Goals as goal
 

@@ -1,0 +1,5 @@
+use Rattle.determinism.proofs.Saying.{of_either}
+use Rattle.determinism.proofs.sayers.joined.Goals as goal
+
+pub returns : goal.returns
+returns c = of_either c.args.a c.args.b

@@ -1,10 +1,9 @@
 -- Rows of which one says what the other denies.
-use Rattle.std.proofs.Common.{◌≡◌, ◌≢◌, ◌<◌, ◌≤◌, ◌+◌, ◌-◌, ◌^◌, ◌%◌, ◌==◌, ℕ, true, false, not, cond, nat_lt, nat_eq, List, length, get_or, slice_get, slice_index, Option, Some, None, bit_and, arith, refl, sym, ◌∙◌, ap, inl, inr, true≢false}
-use Rattle.std.specs.Int.{bit_at, trailing_zeros, w64}
-use Rattle.std.proofs.lemmas.Bool.{ltb-true, ltb-false, and_parts, cases_Bool, eqb-true, ne_eqb}
+use Rattle.std.proofs.Common.{◌≡◌, ◌≢◌, ◌<◌, ◌≤◌, ◌+◌, ◌-◌, ◌%◌, ◌==◌, ℕ, true, false, not, cond, nat_lt, List, length, get_or, slice_get, slice_index, Option, Some, None, arith, refl, sym, ◌∙◌, ap, inl, inr, true≢false}
+use Rattle.std.specs.Int.{bit_at}
+use Rattle.std.proofs.lemmas.Bool.{ltb-true, ltb-false, cases_Bool, eqb-true, ne_eqb}
 use Rattle.std.proofs.lemmas.Bool.Decides.{eqb_tells}
 use Rattle.std.proofs.lemmas.Option.{slice_get-get_or}
-use Rattle.std.proofs.lemmas.Nat.{and_le_l}
 use Rattle.std.proofs.lemmas.Nat.Bits.{bit_at_lowest, bit_at-pow_other}
 use Rattle.transition_table.specs.declared.row.Row.{Row}
 use Rattle.transition_table.specs.declared.machine.Machine.{Machine}
@@ -13,8 +12,7 @@ use Rattle.transition_table.specs.Transitions.{Conflict, holds}
 use Rattle.determinism.specs.declared.marks.Marks.{Marks}
 use Rattle.determinism.specs.Common.{IsMask}
 use Rattle.determinism.specs.Marks.{Enables, says, AreMarked}
-use Rattle.determinism.proofs.Bits.{alike, both_bits}
-use Rattle.determinism.proofs.Ones.{lowest_bit}
+use Rattle.determinism.proofs.Bits.{alike}
 use Rattle.determinism.proofs.Overlaps.{allowed_here}
 
 says_low : (place : ℕ) (codes : List ℕ) → place < 32

@@ -1,12 +1,12 @@
 -- The least codes at which any of the results before one differs.
-use Rattle.std.proofs.Common.{◌≡◌, ◌≢◌, ◌⊎◌, ◌<◌, ◌≤◌, ◌+◌, ℕ, zero, suc, Bool, true, false, List, length, slice_get, Some, arith, refl, sym, ◌∙◌, ap, subst, inl, inr}
+use Rattle.std.proofs.Common.{◌≡◌, ◌≢◌, ◌⊎◌, ◌<◌, ◌≤◌, ◌+◌, ℕ, zero, suc, Bool, true, false, List, length, slice_get, Some, arith, refl, sym, ◌∙◌, subst, inl, inr}
 use Rattle.std.specs.List.{list_all}
 use Rattle.std.proofs.lemmas.Bool.Decides.{eqb_tells}
 use Rattle.std.proofs.lemmas.Bool.{cases_lt}
 use Rattle.transition_table.specs.declared.row.Row.{Row}
 use Rattle.transition_table.specs.declared.machine.Machine.{Machine}
 use Rattle.transition_table.specs.declared.snapshot.Snapshot.{Snapshot}
-use Rattle.transition_table.specs.Transitions.{allows, code_given, result, Conflict}
+use Rattle.transition_table.specs.Transitions.{allows, code_given, Conflict}
 use Rattle.determinism.specs.Common.{IsIn, IsBox, EnableBoth, Differ, Before, IsLeastAt, IsBest}
 use Rattle.determinism.specs.Conflicts.{IsLeastOf}
 use Rattle.determinism.proofs.Befores.{before_trans, up_to}

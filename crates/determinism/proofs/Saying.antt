@@ -1,5 +1,5 @@
 -- Rows by what they say.
-use Rattle.std.proofs.Common.{◌≡◌, ◌≢◌, ◌⊎◌, ◌<◌, ◌≤◌, ◌+◌, ◌-◌, ◌*◌, ◌/◌, ◌^◌, ◌%◌, ◌==◌, ℕ, List, length, get_or, slice_get, slice_index, slice_set, Some, bit_and, bit_or, replicate, arith, refl, sym, ◌∙◌, ap, inl, inr}
+use Rattle.std.proofs.Common.{◌≡◌, ◌≢◌, ◌⊎◌, ◌<◌, ◌≤◌, ◌+◌, ◌-◌, ◌*◌, ◌/◌, ◌^◌, ◌%◌, ◌==◌, ℕ, List, length, slice_get, slice_index, slice_set, Some, bit_and, bit_or, replicate, arith, sym, ◌∙◌, ap, inl, inr}
 use Rattle.std.specs.Int.{bit_at, trailing_ones, w64}
 use Rattle.std.proofs.Math.Nat.{div-div-eq-div-mul, div-le_self}
 use Rattle.std.proofs.lemmas.Bool.{and_parts, eqb-true, cases_lt}
@@ -8,7 +8,7 @@ use Rattle.std.proofs.lemmas.List.{get_or-set_same, get_or-set_other, get_or-rep
 use Rattle.std.proofs.lemmas.Nat.{pow-add}
 use Rattle.std.proofs.lemmas.Nat.Bits.{bit_at_or, bit_at-lt, bit_at-zero, bit_at_ones, bit_at-trailing_ones}
 use Rattle.determinism.specs.declared.marks.Marks.{Marks}
-use Rattle.determinism.specs.Sayers.{IsSaid, AreSayers, HasAdded, IsFar}
+use Rattle.determinism.specs.Sayers.{AreSayers, HasAdded, IsFar}
 use Rattle.determinism.proofs.Bits.{alike, both_bits}
 
 pub of_both : (a b i : ℕ) → bit_at (bit_and a b) i ≡ 1 → (bit_at a i ≡ 1) × (bit_at b i ≡ 1)

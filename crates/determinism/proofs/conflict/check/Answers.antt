@@ -1,4 +1,4 @@
-use Rattle.std.proofs.Common.{◌≡◌, ◌≤◌, length, arith, sym, subst, inl, inr}
+use Rattle.std.proofs.Common.{◌≤◌, length, arith, sym, subst, inl, inr}
 use Rattle.std.proofs.lemmas.Bool.{cases_order}
 use Rattle.transition_table.specs.Transitions.{Conflict}
 use Rattle.determinism.proofs.Overlaps.{enabled_there}

@@ -1,4 +1,4 @@
-use Rattle.std.proofs.Common.{◌≡◌, ◌≢◌, ◌<◌, ◌≤◌, ◌&&◌, ◌==◌, ℕ, List, length, take, drop, slice_get, slice_index, Some}
+use Rattle.std.proofs.Common.{◌≡◌, ◌<◌, ℕ, length}
 use Rattle.transition_table.specs.declared.snapshot.Snapshot.{Snapshot}
 use Rattle.transition_table.specs.Transitions.{Conflict}
 use Rattle.determinism.proofs.conflict.check.Given as goal

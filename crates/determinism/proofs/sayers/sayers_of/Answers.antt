@@ -1,6 +1,3 @@
-use Rattle.std.proofs.Common.{◌≡◌, ap, sym, ◌∙◌, inl, inr, ℕ, slice_get, Some}
-use Rattle.std.specs.Int.{bit_at}
-use Rattle.determinism.specs.declared.marks.Marks.{Marks}
 use Rattle.determinism.proofs.Saying.{none_said, next_row}
 use Rattle.determinism.proofs.sayers.sayers_of.Goals as goal
 

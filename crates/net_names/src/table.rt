@@ -56,15 +56,20 @@ impl Hash for Key {
     }
 }
 
-// A number below 64 that tells most names apart that differ in their last two bytes.
+// A number below 256 that tells most names apart that differ in their length or in their last three
+// bytes, as names that end with a number do.
 fn slot(bytes: &[u8]) -> usize
-    ensures { result < 64 }
+    ensures { result < 256 }
 {
     let len = bytes.len();
     if len < 2 {
         return 0;
     }
-    (usize::from(bytes[len - 2]) * 10 + usize::from(bytes[len - 1])) % 64
+    let last = usize::from(bytes[len - 2]) * 10 + usize::from(bytes[len - 1]) + len % 32 * 87;
+    if len < 3 {
+        return last % 256;
+    }
+    (usize::from(bytes[len - 3]) * 107 + last) % 256
 }
 
 /// Which names have a number, and which.
@@ -72,7 +77,7 @@ fn slot(bytes: &[u8]) -> usize
 pub struct Table {
     numbers: IndexMap<Key, u64>,
     // For each slot the place of an entry that is tried before the name is hashed.
-    likely: [u8; 64],
+    likely: [u8; 256],
 }
 
 impl Model for Table {
@@ -90,7 +95,7 @@ impl Table {
     {
         Table {
             numbers: IndexMap::new(alloc),
-            likely: [0; 64],
+            likely: [0; 256],
         }
     }
 

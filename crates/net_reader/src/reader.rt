@@ -223,8 +223,8 @@ impl<'a> Reader<'a> {
         requires { is_fixed kind ≡ true }
         ensures { result ≡ begins (is kind) self.now }
     {
-        match self.peek() {
-            Some(piece) => is_kind(kind, piece.kind),
+        match self.next {
+            Some(token) => is_kind(kind, token.kind),
             None => false,
         }
     }

@@ -3,11 +3,13 @@
 #![tactic(auto)]
 
 mod answer;
+mod blanks;
 mod clocks;
 mod config;
 mod law;
 mod loss;
 mod moments;
+mod prefix;
 mod stamps;
 
 pub use answer::{Admit, NextEnv, Why};
@@ -18,4 +20,5 @@ pub use journals::{
 };
 pub use law::judging_laws;
 pub use loss::lost;
+pub use prefix::{Prefix, legal_prefix};
 pub use stamps::{first_not_rising, least_stamps};

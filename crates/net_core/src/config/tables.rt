@@ -104,7 +104,12 @@ impl Tables {
     }
 
     // Takes an entry that a journal has after those that are taken.
-    fn take_next(&mut self, net: &Network, trace: &Trace, entry: &Entry) -> Result<(), NoMemory>
+    pub(crate) fn take_next(
+        &mut self,
+        net: &Network,
+        trace: &Trace,
+        entry: &Entry,
+    ) -> Result<(), NoMemory>
         requires fits { FitsNetwork net.now entry.now }
         requires current { (journal : List Entry) × MayFollow net.now trace.now journal entry.now
             × AreTables net.now trace.now journal self.old.readers.items self.old.moments.items

@@ -13,6 +13,7 @@ use Rattle.journals.specs.Legality.{Legal, MayFollow, MayFollowIfReaction}
 use Rattle.journals.specs.Laws.{PrefixesAreLegal, GoesOnBySteps, ReactsByOwn}
 use Rattle.journals.specs.Moved.{machine_of}
 use Rattle.journals.specs.Stamps.{Rising, IsFirstNotRising}
+use Rattle.net_core.specs.Moments.{Moment}
 use Rattle.journal_replay.specs.Verdicts.{IsAdopted, IsLegalAndRises}
 
 -- ---- prefixes
@@ -148,6 +149,13 @@ adopted_within net trace journal adopted count limit few most h =
             | inr under ↦ h.longest k (most k under small) legal
           ];
     }
+
+-- only the journal is another
+pub only_journal : (old new : Moment) (journal : List Entry)
+    → new ≡ record old { journal = journal } → new ≡ record old { journal = new.journal }
+only_journal old new journal is =
+    is ∙ ap (λ (l : List Entry). let moment : Moment = record old { journal = l } in moment)
+    (sym (ap (λ (m : Moment). m.journal) is))
 
 -- ---- a journal with its stamps
 

@@ -30,13 +30,6 @@ IsStampedVerdict net trace journal stamps (Illegal k) =
     × IsLegalAndRises net trace (take k journal) (take k stamps)
     × (¬ IsLegalAndRises net trace (take (k + 1) journal) (take (k + 1) stamps))
 
--- so many of the first entries are legal, and no more of them are
-pub record IsLegalUpTo (net : Network) (trace : List TraceItem) (journal : List Entry)
-    (k : ℕ) : Type 0 where
-  pub within : k ≤ length journal
-  pub legal : Legal net trace (take k journal)
-  pub longest : k < length journal → ¬ Legal net trace (take (k + 1) journal)
-
 -- the longest legal prefix of at most so many entries
 pub record IsAdopted (net : Network) (trace : List TraceItem) (journal : List Entry) (limit : ℕ)
     (adopted : List Entry) : Type 0 where

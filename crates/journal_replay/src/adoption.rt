@@ -37,8 +37,10 @@ fn append_all(config: &mut Config<'_>, j: &Journal, count: u64) -> Result<(), No
     requires start { config.old.journal ≡ [] }
     requires alone { (m : ℕ) → IsAlone config.old.net m j.now }
     requires few { count ≤ length j.now }
-    ensures { OnOk result
+    ensures adopted { OnOk result
         (IsAdopted config.old.net config.old.trace j.now count config.new.journal) }
+    ensures same { OnOk result
+        (config.new ≡ record config.old { journal = config.new.journal }) }
 {
     laws();
     for i in 0..count {
@@ -57,6 +59,28 @@ fn smaller(a: u64, b: u64) -> u64
     if a < b { a } else { b }
 }
 
+/// The longest legal prefix of a journal that has at most so many entries, ready to be carried on.
+/// Each machine's entries are legal by themselves, so no reaction is made: only the deliveries are
+/// judged.
+pub fn adopt_on<'a>(
+    alloc: Global,
+    net: &'a Network,
+    trace: &'a Trace,
+    j: &Journal,
+    limit: u64,
+) -> Result<Config<'a>, NoMemory>
+    requires trace { IsTrace net.now trace.now }
+    requires alone { (m : ℕ) → IsAlone net.now m j.now }
+    ensures adopted { IfOk result
+        (λ config. IsAdopted net.now trace.now j.now limit config.journal) }
+    ensures network { IfOk result (λ config. config.net ≡ net.now) }
+    ensures trace { IfOk result (λ config. config.trace ≡ trace.now) }
+{
+    let mut config = Config::start(alloc, net, trace)?;
+    append_all(&mut config, j, smaller(j.len(), limit))?;
+    Ok(config)
+}
+
 /// The longest legal prefix of a journal that has at most so many entries. Each machine's entries
 /// are legal by themselves, so no reaction is made: only the deliveries are judged.
 pub fn adopt(
@@ -70,7 +94,6 @@ pub fn adopt(
     requires alone { (m : ℕ) → IsAlone net.now m j }
     ensures { IfOk result (λ adopted. IsAdopted net.now trace.now j limit adopted) }
 {
-    let mut config = Config::start(alloc, net, trace)?;
-    append_all(&mut config, &j, smaller(j.len(), limit))?;
+    let config = adopt_on(alloc, net, trace, &j, limit)?;
     Ok(config.into_journal())
 }

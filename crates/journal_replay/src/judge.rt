@@ -1,16 +1,14 @@
 // Judging a journal from its first entry on.
-ghost use Rattle.std.specs.Prelude.{◌≡◌, ◌≤◌, ◌++◌, ◌∷◌, [], length, take, true, false, Ok, IfOk};
-ghost use Rattle.journals.specs.Journals.{FitsNetwork, IsJournal, IsTrace};
-ghost use Rattle.journals.specs.Legality.{MayFollow};
-ghost use Rattle.net_core.specs.Moments.{Moment};
-ghost use Rattle.journal_replay.specs.Verdicts.{IsVerdict, IsStampedVerdict, IsLegalUpTo};
+ghost use Rattle.std.specs.Prelude.{◌≡◌, ◌<◌, ◌≤◌, length, take, IfOk};
+ghost use Rattle.journals.specs.Journals.{IsJournal, IsTrace};
+ghost use Rattle.net_core.specs.Prefixes.{IsLegalUpTo};
+ghost use Rattle.journal_replay.specs.Verdicts.{IsVerdict, IsStampedVerdict};
+ghost use Rattle.journal_replay.specs.declared.judge.Verdict.TheVariants.{Illegal};
 
-use net_core::{
-    Admit, Config, Entry, Journal, Stamps, Trace, first_not_rising, judging_laws, laws,
-};
-use polis_base::NoMemory;
+use net_core::{Journal, Stamps, Trace, first_not_rising, laws, legal_prefix};
+use polis_base::{Duplicate, NoMemory};
 use std::alloc::Global;
-use transition_table::Reactor;
+use transition_table::{Network, Reactor};
 
 /// What is found of a journal.
 #[derive(Clone, Copy, Debug, PartialEq, Eq)]
@@ -27,43 +25,6 @@ pub enum Verdict {
     },
 }
 
-// Takes an entry where it may follow, and answers whether it may.
-fn admits<R: Reactor>(r: &R, config: &mut Config<'_>, entry: &Entry) -> Result<bool, NoMemory>
-    requires fits { FitsNetwork config.old.net entry.now }
-    requires network { R.meaning r.now ≡ config.old.net }
-    ensures follows { result ≡ Ok true
-        → MayFollow config.old.net config.old.trace config.old.journal entry.now }
-    ensures taken { result ≡ Ok true → config.new
-        ≡ record config.old { journal = config.old.journal ++ entry.now ∷ [] } }
-    ensures other { result ≡ Ok false
-        → ¬ MayFollow config.old.net config.old.trace config.old.journal entry.now }
-    ensures same { result ≡ Ok false → config.new ≡ config.old }
-{
-    judging_laws();
-    match config.admit(r, entry) {
-        Admit::Yes => Ok(true),
-        Admit::No(_) => Ok(false),
-        Admit::NoMemory => Err(NoMemory),
-    }
-}
-
-// Takes the first entries of a journal as long as they may follow, and answers how many.
-fn admit_all<R: Reactor>(r: &R, config: &mut Config<'_>, j: &Journal) -> Result<u64, NoMemory>
-    requires start { config.old.journal ≡ [] }
-    requires fits { IsJournal config.old.net j.now }
-    requires network { R.meaning r.now ≡ config.old.net }
-    ensures prefix { IfOk result (λ k. config.new ≡ record config.old { journal = take k j.now }) }
-    ensures longest { IfOk result (λ k. IsLegalUpTo config.old.net config.old.trace j.now k) }
-{
-    laws();
-    for i in 0..j.len() {
-        if !admits(r, config, j.get(i))? {
-            return Ok(i);
-        }
-    }
-    Ok(j.len())
-}
-
 /// Judges a journal of the reactor's network on a trace. Each reaction is made again and compared.
 pub fn replay<R: Reactor>(
     alloc: Global,
@@ -75,13 +36,13 @@ pub fn replay<R: Reactor>(
     requires fits { IsJournal (R.meaning r.now) j.now }
     ensures { IfOk result (λ v. IsVerdict (R.meaning r.now) trace.now j.now v) }
 {
-    let mut config = Config::start(alloc, r.network(), trace)?;
-    let count = admit_all(r, &mut config, j)?;
+    let prefix = legal_prefix(alloc, r, trace, j)?;
+    let count = prefix.count;
     if count < j.len() {
         return Ok(Verdict::Illegal { entry: count });
     }
     Ok(Verdict::Legal {
-        complete: config.is_complete(),
+        complete: prefix.complete,
     })
 }
 
@@ -95,6 +56,43 @@ fn first_stamps(alloc: Global, s: &Stamps, count: u64) -> Result<Stamps, NoMemor
         first.push(*s.get(i))?;
     }
     Ok(first)
+}
+
+// The first entries, so many.
+fn first_entries(alloc: Global, j: &Journal, count: u64) -> Result<Journal, NoMemory>
+    requires { count ≤ length j.now }
+    ensures { IfOk result (λ first. first ≡ take count j.now) }
+{
+    let mut first = Journal::new(alloc);
+    for i in 0..count {
+        first.push(j.get(i).copy()?)?;
+    }
+    Ok(first)
+}
+
+// The first wrong entry of a journal of which so many entries are legal, and no more: the first of
+// these whose stamp doesn't rise, or else the one after them.
+fn first_wrong(
+    alloc: Global,
+    net: &Network,
+    trace: &Trace,
+    j: &Journal,
+    s: &Stamps,
+    legal: u64,
+) -> Result<u64, NoMemory>
+    requires legal { IsLegalUpTo net.now trace.now j.now legal }
+    requires more { legal < length j.now }
+    requires many { length s.now ≡ length j.now }
+    ensures { IfOk result
+        (λ entry. IsStampedVerdict net.now trace.now j.now s.now (Illegal entry)) }
+{
+    laws();
+    let entries = first_entries(alloc, j, legal)?;
+    let stamps = first_stamps(alloc, s, legal)?;
+    match first_not_rising(alloc, net, trace, &entries, &stamps)? {
+        Some(entry) => Ok(entry),
+        None => Ok(legal),
+    }
 }
 
 /// Judges a journal with its stamps, one for each entry. An entry whose stamp doesn't rise is as
@@ -112,18 +110,16 @@ pub fn replay_stamped<R: Reactor>(
     ensures { IfOk result (λ v. IsStampedVerdict (R.meaning r.now) trace.now j.now s.now v) }
 {
     laws();
-    let mut config = Config::start(alloc, r.network(), trace)?;
-    let legal = admit_all(r, &mut config, j)?;
-    let first = first_stamps(alloc, s, legal)?;
-    match first_not_rising(alloc, r.network(), trace, config.journal(), &first)? {
+    let prefix = legal_prefix(alloc, r, trace, j)?;
+    let legal = prefix.count;
+    if legal < j.len() {
+        let entry = first_wrong(alloc, r.network(), trace, j, s, legal)?;
+        return Ok(Verdict::Illegal { entry });
+    }
+    match first_not_rising(alloc, r.network(), trace, j, s)? {
         Some(entry) => Ok(Verdict::Illegal { entry }),
-        None => {
-            if legal < j.len() {
-                return Ok(Verdict::Illegal { entry: legal });
-            }
-            Ok(Verdict::Legal {
-                complete: config.is_complete(),
-            })
-        }
+        None => Ok(Verdict::Legal {
+            complete: prefix.complete,
+        }),
     }
 }

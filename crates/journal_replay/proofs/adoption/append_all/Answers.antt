@@ -1,9 +1,9 @@
-use Rattle.std.proofs.Common.{◌≡◌, ◌<◌, ◌≤◌, ◌+◌, ◌∷◌, ◌++◌, [], true, false, Ok, length, take, sym, ap, subst, ◌∙◌, arith}
+use Rattle.std.proofs.Common.{◌≡◌, ◌<◌, ◌∷◌, ◌++◌, [], true, false, Ok, length, take, sym, ap, subst, ◌∙◌, arith}
 use Rattle.journals.specs.Journals.{FitsNetwork}
 use Rattle.journals.specs.Legality.{MayFollowIfReaction}
 use Rattle.journals.specs.Legality.{MayFollow}
 use Rattle.net_core.specs.Moments.{Moment}
-use Rattle.journal_replay.proofs.Judged.{prefix_more, entry_fits, entry_reacts, follows_if_legal, legal_if_follows, adopted_here, adopted_all}
+use Rattle.journal_replay.proofs.Judged.{prefix_more, entry_fits, entry_reacts, follows_if_legal, legal_if_follows, adopted_here, only_journal}
 use Rattle.journal_replay.proofs.adoption.append_all.Goals as goal
 
 pub appends-requires-clause-fits : goal.appends-requires-clause-fits
@@ -21,8 +21,8 @@ appends-requires-clause-reaction c =
     entry_reacts c.laws.ensures.reacts_by_own c.args.config.now.net c.args.config.now.trace
     c.args.j.now c.loop-i.i c.get.result.now c.requires.alone (omega arith) c.get.ensures)
 
-pub returns-then-not-branch : goal.returns-then-not-branch
-returns-then-not-branch c =
+pub returns-then-not-branch-clause-adopted : goal.returns-then-not-branch-clause-adopted
+returns-then-not-branch-clause-adopted c =
     let is : c.in_ok-appends.field-0 ≡ false = cc in
     let few = c.requires.few in
     let below : c.loop-i.i < length c.args.j.now = omega arith in
@@ -36,6 +36,17 @@ returns-then-not-branch c =
     (sym c.loop-i.invariant.config_is)
     (follows_if_legal c.laws.ensures.steps c.args.config.now.net c.args.config.now.trace
     c.args.j.now c.loop-i.i c.get.result.now below c.get.ensures h)))
+
+pub returns-then-not-branch-clause-same : goal.returns-then-not-branch-clause-same
+returns-then-not-branch-clause-same c =
+    let is : c.in_ok-appends.field-0 ≡ false = cc in
+    only_journal c.args.config.now c.appends.new.config (take c.loop-i.i c.args.j.now)
+    (c.in_ok-appends.ensures.same (ap Ok is) ∙ c.loop-i.invariant.config_is)
+
+pub returns-clause-same : goal.returns-clause-same
+returns-clause-same c =
+    only_journal c.args.config.now c.loop-i.config (take c.loop-i.i c.args.j.now)
+    c.loop-i.invariant.config_is
 
 pub loop-i-preserved : goal.loop-i-preserved
 loop-i-preserved c =

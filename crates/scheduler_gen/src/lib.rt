@@ -11,4 +11,4 @@ pub use machines::Plan;
 pub use net_core::Pick;
 pub use next::pick;
 pub use order::plan;
-pub use run::{Finished, complete};
+pub use run::{Finished, complete, complete_on};

@@ -123,6 +123,40 @@ fn run<R: Reactor>(
     Ok(())
 }
 
+/// Carries a configuration on: each further entry is what `pick` gives after those before it, up to
+/// the limit of entries or until nothing is picked.
+pub fn complete_on<R: Reactor>(
+    alloc: Global,
+    plan: &Plan,
+    r: &R,
+    from: Config<'_>,
+    limit: u64,
+) -> Result<Finished, NoMemory>
+    requires network { R.meaning r.now ≡ from.net }
+    requires plan { IsPlanOf from.net plan.now }
+    requires few { length from.journal ≤ limit }
+    ensures begins { IfOk result (λ f. Begins from.entry.journal f.journal) }
+    ensures follows { IfOk result
+        (λ f. Follows from.entry.net from.entry.trace f.journal (length from.entry.journal)) }
+    ensures legal { IfOk result (λ f. Legal from.entry.net from.entry.trace f.journal) }
+    ensures within { IfOk result (λ f. length f.journal ≤ limit) }
+    ensures ends { IfOk result (λ f. (picked from.entry.net from.entry.trace f.journal ≡ Pick.Stop)
+        ⊎ (length f.journal ≡ limit)) }
+    ensures complete { IfOk result (λ f. IsTrue f.complete
+        ↔ Complete from.entry.net from.entry.trace f.journal) }
+    ensures schedule { from.entry.journal ≡ []
+        → IfOk result (λ f. IsSchedule from.entry.net from.entry.trace limit f.journal) }
+{
+    let mut config = from;
+    let rest = limit - config.len();
+    run(alloc, plan, r, &mut config, rest)?;
+    let complete = config.is_complete();
+    Ok(Finished {
+        journal: config.into_journal(),
+        complete,
+    })
+}
+
 /// Carries a legal journal on: each further entry is what `pick` gives after those before it, up to
 /// the limit of entries or until nothing is picked. The entries of the journal are taken as they
 /// are: their reactions aren't made again.
@@ -150,12 +184,7 @@ pub fn complete<R: Reactor>(
     ensures schedule { from ≡ []
         → IfOk result (λ f. IsSchedule (R.meaning r.now) trace.now limit f.journal) }
 {
-    let rest = limit - from.len();
-    let mut config = Config::resume(alloc, r.network(), trace, from)?;
-    run(alloc, plan, r, &mut config, rest)?;
-    let complete = config.is_complete();
-    Ok(Finished {
-        journal: config.into_journal(),
-        complete,
-    })
+    let config = Config::resume(alloc, r.network(), trace, from)?;
+    let finished = complete_on(alloc, plan, r, config, limit)?;
+    Ok(finished)
 }

@@ -115,13 +115,18 @@ impl Cursors {
         *self.places.get(m)
     }
 
-    // Moves the cursor of a machine to a place.
+    // Moves the cursor of a machine to a place. The first of the least stays the first where it is
+    // another one, and is before this place.
     pub(crate) fn set(&mut self, m: u64, place: u64)
         requires { m < length self.old }
         ensures { self.new ≡ slice_set self.old m place }
     {
+        let first = self.first as u64;
+        let least = *self.places.get(first);
         self.places.set(m, place);
-        self.first = first_least(self.places.as_slice());
+        if first == m || place <= least {
+            self.first = first_least(self.places.as_slice());
+        }
     }
 
     // The first machine of those whose cursor is least.

@@ -10,7 +10,7 @@ use Rattle.decision_diagram.specs.Leading.{LeadTo, Decided, OneCode}
 use Rattle.transition_table.specs.Computed.{char, result_codes}
 use Rattle.transition_table.specs.Orders.{sizes_of}
 use Rattle.sgraph.specs.Built.{IsDiagram}
-use Rattle.sgraph.proofs.Places.{place_below, at_place}
+use Rattle.sgraph.proofs.Positions.{place_below, at_place}
 use Rattle.sgraph.proofs.Known.{Below}
 
 pub fits_prefix : (xs ys codes : List ℕ) → fits (xs ++ ys) codes ≡ true

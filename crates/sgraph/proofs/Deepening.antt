@@ -26,7 +26,7 @@ use Rattle.decision_diagram.specs.Leading.{led, OneCode}
 use Rattle.sgraph.proofs.Known.{HasResults}
 use Rattle.sgraph.proofs.Prefixes.{led_codes, led_value, some_kid, mixed, mixed_fits, mixed_prefix, mixed_value}
 use Rattle.sgraph.proofs.Nodes.{none_low, cases_inner, inner_low, inner_within}
-use Rattle.sgraph.proofs.Places.{place_of_item}
+use Rattle.sgraph.proofs.Positions.{place_of_item}
 use Rattle.sgraph.proofs.Values.{level_none, level_some, level_below, value_inner}
 
 prefix_item : (xs ys : List ℕ) (v : ℕ) → v < length xs → slice_index (xs ++ ys) v ≡ slice_index xs v

@@ -18,7 +18,7 @@ use Rattle.transition_table.specs.Computed.{char, result_codes, outcome_by}
 use Rattle.sgraph.specs.Trails.{trail}
 use Rattle.sgraph.specs.Graphs.{next_of, walk, assign, assign_all, Eval}
 use Rattle.sgraph.specs.Built.{IsDiagram, Built}
-use Rattle.sgraph.proofs.Places.{place_below, place_of_item}
+use Rattle.sgraph.proofs.Positions.{place_below, place_of_item}
 use Rattle.sgraph.proofs.Fitting.{fits_long, fits_at, fits_set}
 use Rattle.sgraph.proofs.Nodes.{none_low, cases_inner, inner_low}
 use Rattle.sgraph.proofs.Values.{value_none, value_inner}

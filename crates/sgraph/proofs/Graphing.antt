@@ -52,12 +52,12 @@ drop_whole (x ∷ xs) zero high = absurd (omega arith)
 drop_whole (x ∷ xs) (suc i) high = drop_whole xs i (omega arith)
 
 -- ---- numbers
-set_here : (xs : List ℕ) (k x : ℕ) → k < length xs → slice_index (slice_set xs k x) k ≡ x
+pub set_here : (xs : List ℕ) (k x : ℕ) → k < length xs → slice_index (slice_set xs k x) k ≡ x
 set_here [] k x low = absurd (omega arith)
 set_here (y ∷ ys) zero x low = refl
 set_here (y ∷ ys) (suc k) x low = set_here ys k x (omega arith)
 
-set_there : (xs : List ℕ) (k j x : ℕ) → (k ≡ j → ⊥)
+pub set_there : (xs : List ℕ) (k j x : ℕ) → (k ≡ j → ⊥)
     → slice_index (slice_set xs k x) j ≡ slice_index xs j
 set_there [] k j x other = refl
 set_there (y ∷ ys) zero zero x other = absurd (other refl)
@@ -65,7 +65,7 @@ set_there (y ∷ ys) zero (suc j) x other = refl
 set_there (y ∷ ys) (suc k) zero x other = refl
 set_there (y ∷ ys) (suc k) (suc j) x other = set_there ys k j x (λ e. other (ap suc e))
 
-set_long : (xs : List ℕ) (k x : ℕ) → length (slice_set xs k x) ≡ length xs
+pub set_long : (xs : List ℕ) (k x : ℕ) → length (slice_set xs k x) ≡ length xs
 set_long [] k x = refl
 set_long (y ∷ ys) zero x = refl
 set_long (y ∷ ys) (suc k) x = ap suc (set_long ys k x)

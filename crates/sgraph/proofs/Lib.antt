@@ -17,9 +17,10 @@ mod Members
 mod Nodes
 mod Numbering
 mod Outcomes
-mod Places
+mod Positions
 mod Prefixes
 mod Resulting
 mod Together
+mod Sending
 mod Values
 mod Walking

@@ -24,7 +24,7 @@ use Rattle.sgraph.proofs.Evaluated.{reaches_kid}
 use Rattle.sgraph.proofs.Prefixes.{some_kid}
 use Rattle.sgraph.proofs.Departures.{After, Closed, visit_after, visit_new, in_place, has_at, place_at, closed_next, enough, enough_down, renamed, every_left}
 use Rattle.sgraph.proofs.Nodes.{cases_inner, inner_low, none_low}
-use Rattle.sgraph.proofs.Places.{at_place}
+use Rattle.sgraph.proofs.Positions.{at_place}
 
 code_found : (kids : List ℕ) (c : ℕ) → c < length kids → slice_index kids c ≢ 0
     → (code_there kids < length kids) × (slice_index kids (code_there kids) ≢ 0)

@@ -7,7 +7,7 @@ use Rattle.domains.specs.Orders.{place}
 use Rattle.decision_diagram.specs.Diagrams.{Node, Diagrams, inner_at, step, follow, level_of, value_of, AreReduced}
 use Rattle.decision_diagram.specs.Leading.{led}
 use Rattle.sgraph.proofs.Fitting.{fits_long, fits_at, fits_set}
-use Rattle.sgraph.proofs.Places.{place_of_item}
+use Rattle.sgraph.proofs.Positions.{place_of_item}
 use Rattle.sgraph.proofs.Values.{level_some, level_below, skip, value_inner, follow_codes}
 
 -- ---- a node that isn't False is true somewhere

@@ -3,7 +3,7 @@ use Rattle.std.proofs.Common.{◌≡◌, ⊎_elim, ℕ, zero, suc, ◌+◌, ◌<
 use Rattle.std.proofs.lemmas.List.{drop_more}
 use Rattle.domains.specs.Orders.{place}
 use Rattle.decision_diagram.specs.Diagrams.{Node, Diagrams, inner_at, step, follow, level_in, level_of, value_of, AreReduced}
-use Rattle.sgraph.proofs.Places.{place_below, place_of_item, at_place}
+use Rattle.sgraph.proofs.Positions.{place_below, place_of_item, at_place}
 use Rattle.sgraph.proofs.Nodes.{cases_inner, step_none, step_here, step_other}
 
 -- ---- levels

@@ -2,6 +2,7 @@ pub mod Building
 pub mod Built
 pub mod Facts
 pub mod Graphs
+pub mod Kept
 pub mod Laws
 pub mod Marks
 pub mod SampleGraphs

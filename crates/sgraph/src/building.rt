@@ -15,21 +15,22 @@ ghost use Rattle.sgraph.specs.Walks.{FitsMachine};
 
 use crate::graph::{Graph, VertexList};
 use crate::law::laws;
-use crate::leaving::{Nodes, all_left, first_code};
+use crate::leaving::{Nodes, all_left, first_code, item_size};
+use crate::places::Places;
 use crate::vertex::Vertex;
 use decision_diagram::{NodeId, Order, Root, Shape, Store};
-use polis_base::{NoMemory, Places};
+use polis_base::{List, NoMemory};
 use std::alloc::Global;
 use transition_table::Machine;
 
 // The number of each node's vertex.
-fn numbers_of(alloc: Global, count: u64, left: &Nodes) -> Result<Places, NoMemory>
+fn numbers_of(alloc: Global, count: u64, left: &Nodes) -> Result<List<u64>, NoMemory>
     requires { (i : ℕ) → i < length left.now → slice_index left.now i < count }
     ensures long { IfOk result (λ numbers. length numbers ≡ count) }
     ensures each { IfOk result (λ numbers. (k : ℕ) → has (turned left.now) k ≡ true
         → slice_index numbers k ≡ number_in (turned left.now) k) }
 {
-    let mut numbers = Places::filled(alloc, count, 0)?;
+    let mut numbers = List::filled(alloc, count, 0)?;
     let len = left.len();
     for i in 0..len {
         numbers.set(left.get(i).number(), len - i);
@@ -44,8 +45,8 @@ fn kid_numbers(
     store: &Store,
     k: NodeId,
     var: u32,
-    numbers: &Places,
-) -> Result<Places, NoMemory>
+    numbers: &List<u64>,
+) -> Result<List<u64>, NoMemory>
     requires node { IsNode store.now k }
     requires shape { shape_of store.now k ≡ Inner var }
     requires var { var < length m.now.vars }
@@ -56,12 +57,49 @@ fn kid_numbers(
 {
     let _ = store.shape(k);
     let size = *m.vars.get(u64::from(var));
-    let mut list = Places::filled(alloc, u64::from(size), 0)?;
+    let mut list = List::filled(alloc, u64::from(size), 0)?;
     for code in 0..size {
         let number = *numbers.get(store.child(k, code).number());
         list.set(u64::from(code), number);
     }
     Ok(list)
+}
+
+// The number of the vertex of a node's child.
+fn kid_number(store: &Store, k: NodeId, code: u8, numbers: &List<u64>) -> u64
+    requires node { IsNode store.now k }
+    requires code { code < length (kids_of store.now k) }
+    requires numbers { length numbers.now ≡ length store.now.nodes + 2 }
+    ensures { result ≡ slice_index numbers.now (slice_index (kids_of store.now k) code) }
+{
+    *numbers.get(store.child(k, code).number())
+}
+
+// The numbers of the vertices of a node's children, as a test has them.
+fn kid_places(
+    alloc: Global,
+    m: &Machine,
+    store: &Store,
+    k: NodeId,
+    var: u32,
+    numbers: &List<u64>,
+) -> Result<Places, NoMemory>
+    requires node { IsNode store.now k }
+    requires shape { shape_of store.now k ≡ Inner var }
+    requires var { var < length m.now.vars }
+    requires sizes { store.now.sizes ≡ sizes_of m.now }
+    requires numbers { length numbers.now ≡ length store.now.nodes + 2 }
+    ensures { IfOk result (λ list. list
+        ≡ map (slice_index numbers.now) (kids_of store.now k)) }
+{
+    let _ = store.shape(k);
+    if item_size(m, var) == 2 {
+        let first = kid_number(store, k, 0, numbers);
+        let second = kid_number(store, k, 1, numbers);
+        return Ok(Places::two(first, second));
+    }
+    let list = kid_numbers(alloc, m, store, k, var, numbers)?;
+    Ok(Places::of(list))
 }
 
 // The test of a variable's node.
@@ -71,7 +109,7 @@ fn test_vertex(
     store: &Store,
     k: NodeId,
     var: u32,
-    numbers: &Places,
+    numbers: &List<u64>,
 ) -> Result<Vertex, NoMemory>
     requires node { IsNode store.now k }
     requires shape { shape_of store.now k ≡ Inner var }
@@ -82,12 +120,12 @@ fn test_vertex(
         (λ v. v ≡ vertex_in (length m.now.vars) (slice_index numbers.now)
         (inner_at store.now.nodes k)) }
 {
-    let kids = kid_numbers(alloc, m, store, k, var, numbers)?;
+    let kids = kid_places(alloc, m, store, k, var, numbers)?;
     Ok(Vertex::Test { var, kids })
 }
 
 // The assignment of a result's node.
-fn assign_vertex(m: &Machine, store: &Store, k: NodeId, var: u32, numbers: &Places) -> Vertex
+fn assign_vertex(m: &Machine, store: &Store, k: NodeId, var: u32, numbers: &List<u64>) -> Vertex
     requires node { IsNode store.now k }
     requires shape { shape_of store.now k ≡ Inner var }
     requires var { length m.now.vars ≤ var }
@@ -112,7 +150,7 @@ fn vertex(
     m: &Machine,
     store: &Store,
     k: NodeId,
-    numbers: &Places,
+    numbers: &List<u64>,
 ) -> Result<Vertex, NoMemory>
     requires node { IsNode store.now k }
     requires sizes { store.now.sizes ≡ sizes_of m.now }
@@ -140,7 +178,7 @@ fn vertices_of(
     m: &Machine,
     store: &Store,
     left: &Nodes,
-    numbers: &Places,
+    numbers: &List<u64>,
 ) -> Result<VertexList, NoMemory>
     requires nodes { (i : ℕ) → i < length left.now
         → slice_index left.now i < length store.now.nodes + 2 }

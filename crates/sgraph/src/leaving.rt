@@ -16,7 +16,7 @@ use transition_table::Machine;
 pub(crate) type Nodes = List<NodeId>;
 
 // How many codes a variable or result has.
-fn item_size(m: &Machine, item: u32) -> u8
+pub(crate) fn item_size(m: &Machine, item: u32) -> u8
     requires { item < length (sizes_of m.now) }
     ensures { result ≡ slice_index (sizes_of m.now) item }
 {

@@ -6,6 +6,7 @@ mod evaluating;
 mod graph;
 mod law;
 mod leaving;
+mod places;
 mod vertex;
 mod worked;
 
@@ -13,5 +14,6 @@ pub use building::build;
 pub use evaluating::{evaluate, set_result};
 pub use graph::{Graph, VertexList};
 pub use law::laws;
+pub use places::Places;
 pub use vertex::Vertex;
 pub use worked::worked_graphs;

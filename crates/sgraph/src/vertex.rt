@@ -1,7 +1,8 @@
 // Vertices of graphs.
 ghost use Rattle.std.specs.Prelude.{◌≡◌, IfOk};
 
-use polis_base::{Duplicate, NoMemory, Places};
+use crate::places::Places;
+use polis_base::{Duplicate, NoMemory};
 
 /// A vertex of a graph. Vertices are numbered from 0.
 #[derive(Drop)]

@@ -1,8 +1,7 @@
 -- The vertices that were left are the graph that is numbered again.
 use Rattle.std.proofs.Common.{◌≡◌, ⊎_elim, ℕ, zero, suc, ◌+◌, ◌-◌, ◌<◌, ◌≤◌, Bool, true, false, cond, ◌||◌, List, [], ◌∷◌, ◌++◌, map, length, take, drop, replicate, slice_get, slice_index, slice_set, Option, Some, None, refl, ap, sym, subst, ◌∙◌, arith, eqb}
 use Rattle.std.specs.Prelude.{unwrap_or}
-use Rattle.std.proofs.lemmas.Bool.{cases_lt, cases_eq, eq-eqb, ne_eqb, true≢false, or_left, or_right, or_cases}
-use Rattle.std.proofs.lemmas.Grind.{same_number_lists}
+use Rattle.std.proofs.lemmas.Bool.{cases_eq, eq-eqb, ne_eqb, true≢false, or_left, or_right, or_cases}
 use Rattle.transition_table.specs.NetworkFacts.{has}
 use Rattle.domains.specs.Orders.{place}
 use Rattle.sgraph.specs.declared.vertex.Vertex.{Vertex}
@@ -14,7 +13,7 @@ use Rattle.sgraph_opt.specs.Renumbering.{vertex_at, all_left, numbered_of, Rises
 use Rattle.sgraph_opt.proofs.Members.{Every}
 use Rattle.sgraph_opt.proofs.Departures.{Closed, closed_next, every_left}
 use Rattle.sgraph_opt.proofs.Departing.{got, below, take_one, take_whole, turned_push}
-use Rattle.sgraph_opt.proofs.Again.{index_map, long_map}
+use Rattle.sgraph_opt.proofs.Again.{index_map, long_map, map_map}
 use Rattle.sgraph_opt.proofs.Rising.{visit_beyond}
 
 -- ---- lists
@@ -144,47 +143,25 @@ numbers_end count len left numbers i ok is at k h =
     omega arith
 
 -- ---- children
--- the first children have their numbers
-pub record KidNumbers (to : ℕ → ℕ) (kids list : List ℕ) (count : ℕ) : Type 0 where
-  pub long : length list ≡ length kids
-  pub each : (j : ℕ) → j < count → slice_index list j ≡ to (slice_index kids j)
+-- what stands for the children is within
+pub named_low : (reps kids named : List ℕ) (count : ℕ) → named ≡ map (slice_index reps) kids
+    → ((j : ℕ) → j < length kids → slice_index reps (slice_index kids j) < count)
+    → (j : ℕ) → j < length named → slice_index named j < count
+named_low reps kids named count is all j low =
+    let long : length named ≡ length kids =
+    ap (λ (xs : List ℕ). length xs) is ∙ long_map (slice_index reps) kids in
+    let at_j : slice_index named j ≡ slice_index reps (slice_index kids j) =
+    ap (λ (xs : List ℕ). slice_index xs j) is
+    ∙ index_map (slice_index reps) kids j (omega arith) in
+    let inside = all j (omega arith) in
+    omega arith
 
-pub kids_start : (to : ℕ → ℕ) (kids list : List ℕ) → list ≡ kids → KidNumbers to kids list 0
-kids_start to kids list is =
-    record {
-      long = ap (λ (xs : List ℕ). length xs) is;
-      each = λ j low. absurd (omega arith);
-    }
-
-pub kids_more : (to : ℕ → ℕ) (kids list more : List ℕ) (i kid number : ℕ) → KidNumbers to kids list i
-    → slice_get kids i ≡ Some kid → number ≡ to kid → more ≡ slice_set list i number
-    → KidNumbers to kids more (i + 1)
-kids_more to kids list more i kid number ok is_kid is_number e =
-    let own = ok.long in
-    let within = below kids i kid is_kid in
-    record {
-      long = ap (λ (xs : List ℕ). length xs) e ∙ set_long list i number ∙ ok.long;
-      each = λ j less.
-          ap (λ (xs : List ℕ). slice_index xs j) e
-          ∙ ⊎_elim
-          (λ before.
-          set_there list i j number (λ same. absurd (omega arith)) ∙ ok.each j before)
-          (λ last.
-          let here : i ≡ j = omega arith in
-          ap (slice_index (slice_set list i number)) (sym here)
-          ∙ set_here list i number (omega arith)
-          ∙ is_number
-          ∙ ap to (sym (got kids i kid is_kid) ∙ ap (slice_index kids) here))
-          (cases_lt j i);
-    }
-
-pub kids_end : (to : ℕ → ℕ) (kids list : List ℕ) (count : ℕ) → KidNumbers to kids list count
-    → length kids ≤ count → list ≡ map to kids
-kids_end to kids list count ok high =
-    let own = ok.long in
-    let all = long_map to kids in
-    same_number_lists list (map to kids) (omega arith) (λ j low.
-    ok.each j (omega arith) ∙ sym (index_map to kids j (omega arith)))
+-- the new numbers of what stands for the children
+pub named_twice : (reps numbers kids named list : List ℕ) → named ≡ map (slice_index reps) kids
+    → list ≡ map (slice_index numbers) named
+    → list ≡ map (λ k. slice_index numbers (slice_index reps k)) kids
+named_twice reps numbers kids named list is e =
+    e ∙ ap (map (slice_index numbers)) is ∙ map_map (slice_index numbers) (slice_index reps) kids
 
 -- ---- members
 map_numbers : (a b : ℕ → ℕ) (xs : List ℕ)

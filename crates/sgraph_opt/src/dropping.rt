@@ -6,12 +6,12 @@ ghost use Rattle.sgraph_opt.specs.Representatives.{past_default, Dropping};
 ghost use Rattle.sgraph_opt.specs.Smaller.{Keeps, NoDefaults};
 
 use crate::numbering::renumbered;
-use polis_base::{NoMemory, Places};
+use polis_base::{List, NoMemory};
 use sgraph::{Graph, Vertex};
 use std::alloc::Global;
 
 // What stands for a vertex, where the later ones have what stands for them.
-fn past_default(g: &Graph, k: u64, reps: &Places) -> u64
+fn past_default(g: &Graph, k: u64, reps: &List<u64>) -> u64
     requires long { length reps.now ≡ length g.now }
     requires k { k < length g.now }
     ensures { (v : Vertex) → slice_get g.now k ≡ Some v
@@ -31,10 +31,10 @@ fn past_default(g: &Graph, k: u64, reps: &Places) -> u64
 }
 
 // What stands for each vertex.
-fn past_defaults(alloc: Global, g: &Graph) -> Result<Places, NoMemory>
+fn past_defaults(alloc: Global, g: &Graph) -> Result<List<u64>, NoMemory>
     ensures { IfOk result (λ reps. Dropping g.now reps 0) }
 {
-    let mut reps = Places::filled(alloc, g.len(), 0)?;
+    let mut reps = List::filled(alloc, g.len(), 0)?;
     for k in (0..g.len()).rev() {
         let r = past_default(g, k, &reps);
         reps.set(k, r);

@@ -10,8 +10,8 @@ ghost use Rattle.sgraph_opt.specs.Smaller.{Keeps};
 ghost use Rattle.transition_table.specs.NetworkFacts.{has};
 ghost use Rattle.domains.specs.Orders.{place};
 
-use polis_base::{List, NoMemory, Places};
-use sgraph::{Graph, Vertex, VertexList};
+use polis_base::{Duplicate, List, NoMemory};
+use sgraph::{Graph, Places, Vertex, VertexList};
 use std::alloc::Global;
 use std::slice;
 
@@ -30,10 +30,10 @@ fn kids(v: &Vertex) -> &[u64]
 // Leaves a vertex, after what stands for those that follow on it.
 fn leave(
     g: &Graph,
-    reps: &Places,
+    reps: &List<u64>,
     k: u64,
     marks: &mut List<bool>,
-    left: &mut Places,
+    left: &mut List<u64>,
 ) -> Result<(), NoMemory>
     requires graph { IsGraph g.now }
     requires stands { Standing g.now reps.now 0 }
@@ -60,24 +60,24 @@ fn leave(
 
 // The vertices that a walk from the first one leaves, in the order in which it leaves them, where
 // each vertex has what stands for its children.
-fn leave_all(alloc: Global, g: &Graph, reps: &Places) -> Result<Places, NoMemory>
+fn leave_all(alloc: Global, g: &Graph, reps: &List<u64>) -> Result<List<u64>, NoMemory>
     requires { Standing g.now reps.now 0 }
     ensures { IfOk result (λ left. turned left ≡ all_left (replaced g.now reps.now)) }
 {
     let mut marks = List::filled(alloc, g.len(), false)?;
-    let mut left = Places::new(alloc);
+    let mut left = List::new(alloc);
     leave(g, reps, 0, &mut marks, &mut left)?;
     Ok(left)
 }
 
 // The new number of each vertex.
-fn numbers_of(alloc: Global, count: u64, left: &Places) -> Result<Places, NoMemory>
+fn numbers_of(alloc: Global, count: u64, left: &List<u64>) -> Result<List<u64>, NoMemory>
     requires { (i : ℕ) → i < length left.now → slice_index left.now i < count }
     ensures long { IfOk result (λ numbers. length numbers ≡ count) }
     ensures each { IfOk result (λ numbers. (k : ℕ) → has (turned left.now) k ≡ true
         → slice_index numbers k ≡ place (turned left.now) k) }
 {
-    let mut numbers = Places::filled(alloc, count, 0)?;
+    let mut numbers = List::filled(alloc, count, 0)?;
     let len = left.len();
     for i in 0..len {
         numbers.set(*left.get(i), len - i - 1);
@@ -86,7 +86,7 @@ fn numbers_of(alloc: Global, count: u64, left: &Places) -> Result<Places, NoMemo
 }
 
 // The new number of what stands for a vertex.
-fn number_of(k: u64, reps: &Places, numbers: &Places) -> u64
+fn number_of(k: u64, reps: &List<u64>, numbers: &List<u64>) -> u64
     requires within { k < length reps.now }
     requires rep { slice_index reps.now k < length numbers.now }
     ensures { result ≡ slice_index numbers.now (slice_index reps.now k) }
@@ -95,27 +95,20 @@ fn number_of(k: u64, reps: &Places, numbers: &Places) -> u64
 }
 
 // The new numbers of what stands for vertices.
-fn kid_numbers(
-    alloc: Global,
-    kids: &Places,
-    reps: &Places,
-    numbers: &Places,
-) -> Result<Places, NoMemory>
+fn kid_numbers(kids: &Places, reps: &List<u64>, numbers: &List<u64>) -> Result<Places, NoMemory>
     requires within { (j : ℕ) → j < length kids.now → slice_index kids.now j < length reps.now }
     requires reps { (j : ℕ) → j < length kids.now
         → slice_index reps.now (slice_index kids.now j) < length numbers.now }
     ensures { IfOk result (λ list. list
         ≡ map (λ k. slice_index numbers.now (slice_index reps.now k)) kids.now) }
 {
-    let mut list = Places::from_slice(alloc, kids.as_slice())?;
-    for j in 0..kids.len() {
-        list.set(j, number_of(*kids.get(j), reps, numbers));
-    }
+    let named = kids.copy()?.through(reps);
+    let list = named.through(numbers);
     Ok(list)
 }
 
 // A vertex with the new numbers of what stands for its children.
-fn rename(alloc: Global, v: &Vertex, reps: &Places, numbers: &Places) -> Result<Vertex, NoMemory>
+fn rename(v: &Vertex, reps: &List<u64>, numbers: &List<u64>) -> Result<Vertex, NoMemory>
     requires within { (j : ℕ) → j < length (kids_of v.now)
         → slice_index (kids_of v.now) j < length reps.now }
     requires reps { (j : ℕ) → j < length (kids_of v.now)
@@ -129,7 +122,7 @@ fn rename(alloc: Global, v: &Vertex, reps: &Places, numbers: &Places) -> Result<
         }),
         Vertex::Test { var, kids } => Ok(Vertex::Test {
             var: *var,
-            kids: kid_numbers(alloc, kids, reps, numbers)?,
+            kids: kid_numbers(kids, reps, numbers)?,
         }),
         Vertex::Assign { result, code, next } => Ok(Vertex::Assign {
             result: *result,
@@ -145,9 +138,9 @@ fn rename(alloc: Global, v: &Vertex, reps: &Places, numbers: &Places) -> Result<
 fn arrange(
     alloc: Global,
     g: &Graph,
-    reps: &Places,
-    left: &Places,
-    numbers: &Places,
+    reps: &List<u64>,
+    left: &List<u64>,
+    numbers: &List<u64>,
 ) -> Result<VertexList, NoMemory>
     requires graph { IsGraph g.now }
     requires stands { Standing g.now reps.now 0 }
@@ -160,7 +153,7 @@ fn arrange(
     let mut vertices = VertexList::with_room(alloc, left.len())?;
     for i in (0..left.len()).rev() {
         let k = *left.get(i);
-        let v = rename(alloc, g.get(k), reps, numbers)?;
+        let v = rename(g.get(k), reps, numbers)?;
         vertices.push(v)?;
     }
     Ok(vertices)
@@ -168,7 +161,7 @@ fn arrange(
 
 // The graph of what stands for the vertices that are reached from the first one, numbered again in
 // the reverse of the order in which a walk leaves them.
-pub(crate) fn renumbered(alloc: Global, g: &Graph, reps: &Places) -> Result<Graph, NoMemory>
+pub(crate) fn renumbered(alloc: Global, g: &Graph, reps: &List<u64>) -> Result<Graph, NoMemory>
     requires numbered { Numbered g.now }
     requires stands { Standing g.now reps.now 0 }
     ensures list { IfOk result (λ h. h ≡ numbered_of (replaced g.now reps.now)) }

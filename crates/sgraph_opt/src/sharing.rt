@@ -9,12 +9,12 @@ ghost use Rattle.sgraph_opt.specs.Smaller.{Keeps, NoDefaults};
 
 use crate::numbering::renumbered;
 use polis_base::index::{Index, enter, find, index_with_room};
-use polis_base::{NoMemory, Places};
-use sgraph::{Graph, Vertex};
+use polis_base::{List, NoMemory};
+use sgraph::{Graph, Places, Vertex};
 use std::alloc::Global;
 
 // What stands for all of some vertices, where it is one.
-fn one_kid(kids: &Places, reps: &Places) -> Option<u64>
+fn one_kid(kids: &Places, reps: &List<u64>) -> Option<u64>
     requires some { 0 < length kids.now }
     requires kids { (i : ℕ) → i < length kids.now → slice_index kids.now i < length reps.now }
     ensures one { IfSome result (λ r. (i : ℕ) → i < length kids.now
@@ -33,7 +33,7 @@ fn one_kid(kids: &Places, reps: &Places) -> Option<u64>
 }
 
 // Makes a key of a test with what stands for its children.
-fn test_key(var: u32, kids: &Places, reps: &Places, key: &mut Vec<u64>) -> Result<(), NoMemory>
+fn test_key(var: u32, kids: &Places, reps: &List<u64>, key: &mut Vec<u64>) -> Result<(), NoMemory>
     requires { (i : ℕ) → i < length kids.now → slice_index kids.now i < length reps.now }
     ensures { OnOk result (key.new.items
         ≡ key_of (Test var (map (slice_index reps.now) kids.now))) }
@@ -75,7 +75,7 @@ fn shared(
     alloc: Global,
     g: &Graph,
     k: u64,
-    reps: &Places,
+    reps: &List<u64>,
     drops: bool,
     key: &mut Vec<u64>,
     index: &mut Index,
@@ -114,13 +114,13 @@ fn shared(
 }
 
 // What stands for each vertex, where assignments of the code 0 may be dropped.
-pub(crate) fn all_shared(alloc: Global, g: &Graph, drops: bool) -> Result<Places, NoMemory>
+pub(crate) fn all_shared(alloc: Global, g: &Graph, drops: bool) -> Result<List<u64>, NoMemory>
     ensures stands { IfOk result (λ reps. Standing g.now reps 0) }
     ensures shared { IfOk result (λ reps. Shared drops g.now reps) }
 {
     let mut index = index_with_room(alloc, g.len())?;
     let mut key = Vec::new(alloc);
-    let mut reps = Places::filled(alloc, g.len(), 0)?;
+    let mut reps = List::filled(alloc, g.len(), 0)?;
     for k in (0..g.len()).rev() {
         let r = shared(alloc, g, k, &reps, drops, &mut key, &mut index)?;
         reps.set(k, r);

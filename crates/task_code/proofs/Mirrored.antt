@@ -1,6 +1,6 @@
 -- Paths of the code are paths of the graph.
-use Rattle.std.proofs.Common.{◌≡◌, ◌⊎◌, inl, inr, ⊎_elim, ℕ, zero, suc, ◌+◌, ◌-◌, ◌<◌, ◌≤◌, Bool, true, false, cond, ◌==◌, List, [], ◌∷◌, map, length, slice_get, slice_index, Option, Some, None, refl, ap, sym, subst, ◌∙◌, arith}
-use Rattle.std.specs.Prelude.{Contains, slice_index_or, filter_map}
+use Rattle.std.proofs.Common.{◌≡◌, ⊎_elim, ℕ, zero, suc, ◌+◌, ◌<◌, ◌≤◌, Bool, true, false, cond, ◌==◌, List, [], ◌∷◌, map, length, slice_get, slice_index, Option, Some, refl, ap, sym, subst, ◌∙◌, arith}
+use Rattle.std.specs.Prelude.{Contains, slice_index_or}
 use Rattle.std.specs.List.{cons_option}
 use Rattle.std.proofs.lemmas.Bool.{cases_eq, eq-eqb, ne_eqb}
 use Rattle.transition_table.specs.NetworkFacts.{are_different}
@@ -8,9 +8,8 @@ use Rattle.sgraph.specs.declared.vertex.Vertex.{Vertex}
 use Rattle.sgraph.specs.declared.vertex.Vertex.TheVariants.{Begin, Test as Tests, Assign, End}
 use Rattle.task_code.specs.declared.instr.Instr.{Instr}
 use Rattle.task_code.specs.declared.instr.Instr.TheVariants.{Test, Set, Goto, Halt}
-use Rattle.sgraph.specs.Graphs.{kids_of, kids_in, kids_at, IsPath, tested_by, tests, GoesOn, Once}
+use Rattle.sgraph.specs.Graphs.{kids_of, kids_in, IsPath, tested_by, tests, GoesOn, Once}
 use Rattle.task_code.specs.Codes.{width, given_before, start, given_by}
-use Rattle.sgraph.specs.Facts.{IsGraph}
 use Rattle.task_code.specs.Facts.{goes_on, IsCodePath, tested_at, code_tests, OnceCode}
 use Rattle.task_code.proofs.Laying.{laid, start_next, instr_at}
 use Rattle.task_code.proofs.Placing.{there_is}

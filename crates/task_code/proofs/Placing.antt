@@ -1,13 +1,12 @@
 -- The layout of a graph is code.
-use Rattle.std.proofs.Common.{◌≡◌, ◌⊎◌, inl, inr, ⊎_elim, ℕ, zero, suc, ◌+◌, ◌-◌, ◌<◌, ◌≤◌, Bool, true, false, cond, ◌==◌, List, [], ◌∷◌, ◌++◌, map, length, slice_get, slice_index, Option, Some, None, refl, ap, sym, subst, ◌∙◌, arith}
-use Rattle.std.proofs.lemmas.Bool.{cases_Bool, true≢false}
+use Rattle.std.proofs.Common.{◌≡◌, ℕ, zero, suc, ◌+◌, ◌-◌, ◌<◌, ◌≤◌, Bool, true, false, cond, ◌==◌, List, [], ◌∷◌, ◌++◌, map, length, slice_get, slice_index, Some, refl, ap, sym, subst, ◌∙◌, arith}
 use Rattle.polis_base.specs.Lists.{upto}
 use Rattle.sgraph.specs.declared.vertex.Vertex.{Vertex}
 use Rattle.sgraph.specs.declared.vertex.Vertex.TheVariants.{Begin, Test as Tests, Assign, End}
 use Rattle.task_code.specs.declared.instr.Instr.{Instr}
 use Rattle.task_code.specs.declared.instr.Instr.TheVariants.{Test, Set, Goto, Halt}
-use Rattle.sgraph.specs.Graphs.{kids_of, kids_in, kids_at, each, left_after, GoesOn, Numbered}
-use Rattle.task_code.specs.Codes.{width, given_before, start, given_by, laid_out}
+use Rattle.sgraph.specs.Graphs.{kids_in, kids_at, each, left_after, GoesOn, Numbered}
+use Rattle.task_code.specs.Codes.{width, given_before, start, given_by}
 use Rattle.sgraph.specs.Facts.{IsGraph}
 use Rattle.task_code.specs.Facts.{FitsAt, IsCode}
 use Rattle.task_code.proofs.Laying.{laid, located, long_laid, start_next, start_rises, start_later, instr_at}

@@ -1,5 +1,5 @@
 -- Reading lists, and one more item.
-use Rattle.std.proofs.Common.{◌≡◌, ℕ, zero, suc, ◌+◌, ◌<◌, ◌≤◌, ⊎_elim, Bool, false, cond, ◌==◌, List, [], ◌∷◌, ◌++◌, map, length, take, drop, slice_get, slice_index, Option, Some, None, refl, ap, sym, ◌∙◌, arith, append_assoc}
+use Rattle.std.proofs.Common.{◌≡◌, ℕ, zero, suc, ◌+◌, ◌<◌, ◌≤◌, ⊎_elim, Bool, false, cond, ◌==◌, List, [], ◌∷◌, ◌++◌, map, length, take, drop, slice_get, slice_index, Some, refl, ap, sym, ◌∙◌, arith, append_assoc}
 use Rattle.std.proofs.lemmas.Bool.{cases_lt, ne_eqb}
 use Rattle.polis_base.specs.Lists.{upto}
 use Rattle.sgraph.specs.declared.vertex.Vertex.{Vertex}
@@ -27,21 +27,6 @@ take_one : (xs : List ℕ) (i x : ℕ) → slice_get xs i ≡ Some x → take (s
 take_one [] i x e = cc
 take_one (y ∷ ys) zero x e = let f : y ≡ x = cc in ap (λ (n : ℕ). n ∷ []) f
 take_one (y ∷ ys) (suc i) x e = ap (λ (zs : List ℕ). y ∷ zs) (take_one ys i x e)
-
--- one more target
-pub one_target : (starts kids targets more : List ℕ) (j kid place : ℕ)
-    → targets ≡ map (slice_index starts) (take j kids) → slice_get kids j ≡ Some kid
-    → slice_get starts kid ≡ Some place → more ≡ targets ++ place ∷ []
-    → more ≡ map (slice_index starts) (take (j + 1) kids)
-one_target starts kids targets more j kid place is is_kid is_place e =
-    let f : j + 1 ≡ suc j = omega arith in
-    e
-    ∙ ap (λ (xs : List ℕ). xs ++ place ∷ []) is
-    ∙ ap (λ (x : ℕ). map (slice_index starts) (take j kids) ++ x ∷ [])
-    (sym (got starts kid place is_place))
-    ∙ sym (map_push (slice_index starts) (take j kids) kid)
-    ∙ ap (map (slice_index starts)) (sym (take_one kids j kid is_kid))
-    ∙ ap (λ (n : ℕ). map (slice_index starts) (take n kids)) (sym f)
 
 -- one more start
 pub one_start : (g : List Vertex) (places more : List ℕ) (k next : ℕ)

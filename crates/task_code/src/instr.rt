@@ -2,7 +2,8 @@
 
 ghost use Rattle.std.specs.Prelude.{◌≡◌, IfOk};
 
-use polis_base::{Duplicate, List, NoMemory, Places};
+use polis_base::{Duplicate, List, NoMemory};
+use sgraph::Places;
 
 /// An instruction. Instructions are numbered from 0.
 #[derive(Drop)]

@@ -8,8 +8,8 @@ ghost use Rattle.task_code.specs.Facts.{OnceCode};
 
 use crate::code::Code;
 use crate::instr::{Instr, InstrList};
-use polis_base::{NoMemory, Places};
-use sgraph::{Graph, Vertex};
+use polis_base::{Duplicate, List, NoMemory};
+use sgraph::{Graph, Places, Vertex};
 use std::alloc::Global;
 
 // How many instructions the vertex of this number gives.
@@ -27,10 +27,10 @@ fn width(v: &Vertex, k: u64) -> u64
 }
 
 // The place of each vertex's first instruction.
-fn starts(alloc: Global, g: &Graph) -> Result<Places, NoMemory>
+fn starts(alloc: Global, g: &Graph) -> Result<List<u64>, NoMemory>
     ensures { IfOk result (λ places. places ≡ map (start g.now) (upto (length g.now))) }
 {
-    let mut places = Places::with_room(alloc, g.len())?;
+    let mut places = List::with_room(alloc, g.len())?;
     let mut next = 0;
     for k in 0..g.len() {
         places.push(next)?;
@@ -40,26 +40,16 @@ fn starts(alloc: Global, g: &Graph) -> Result<Places, NoMemory>
 }
 
 // The places of children.
-fn targets(alloc: Global, kids: &Places, starts: &Places) -> Result<Places, NoMemory>
+fn targets(kids: &Places, starts: &List<u64>) -> Result<Places, NoMemory>
     requires { (j : ℕ) → j < length kids.now → slice_index kids.now j < length starts.now }
     ensures { IfOk result (λ targets. targets ≡ map (slice_index starts.now) kids.now) }
 {
-    let mut targets = Places::with_room(alloc, kids.len())?;
-    for j in 0..kids.len() {
-        let target = *starts.get(*kids.get(j));
-        targets.push(target)?;
-    }
+    let targets = kids.copy()?.through(starts);
     Ok(targets)
 }
 
 // Appends what the vertex of this number gives.
-fn push_vertex(
-    alloc: Global,
-    v: &Vertex,
-    k: u64,
-    starts: &Places,
-    code: &mut InstrList,
-) -> Result<(), NoMemory>
+fn push_vertex(v: &Vertex, k: u64, starts: &List<u64>, code: &mut InstrList) -> Result<(), NoMemory>
     requires small { k + 1 < 2 ^ 64 }
     requires kids { (j : ℕ) → j < length (kids_of v.now)
         → slice_index (kids_of v.now) j < length starts.now }
@@ -68,7 +58,7 @@ fn push_vertex(
     match v {
         Vertex::Begin { .. } => Ok(()),
         Vertex::Test { var, kids } => {
-            let targets = targets(alloc, kids, starts)?;
+            let targets = targets(kids, starts)?;
             code.push(Instr::Test { var: *var, targets })
         }
         Vertex::Assign {
@@ -103,7 +93,7 @@ pub fn lower(alloc: Global, g: &Graph) -> Result<Code, NoMemory>
     let places = starts(alloc, g)?;
     let mut code = InstrList::new(alloc);
     for k in 0..g.len() {
-        push_vertex(alloc, g.get(k), k, &places, &mut code)?;
+        push_vertex(g.get(k), k, &places, &mut code)?;
     }
     Ok(Code::of(code))
 }

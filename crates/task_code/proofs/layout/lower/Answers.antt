@@ -1,10 +1,9 @@
-use Rattle.std.proofs.Common.{◌≡◌, ◌<◌, ◌≤◌, ◌∙◌, ℕ, length, slice_index, arith, sym, refl, subst, List}
-use Rattle.task_code.specs.declared.instr.Instr.{Instr}
-use Rattle.task_code.specs.Codes.{Lowered, start, given_by, laid_out, Exec}
+use Rattle.std.proofs.Common.{◌≡◌, ◌∙◌, slice_index, arith, sym, refl, subst}
+use Rattle.task_code.specs.Codes.{start, given_by}
 use Rattle.sgraph.specs.Graphs.{kids_of}
 use Rattle.task_code.specs.Facts.{IsCode, OnceCode}
 use Rattle.task_code.proofs.Laying.{laid, same_given}
-use Rattle.task_code.proofs.Reading.{below, long_starts, start_at, one_vertex, all_vertices}
+use Rattle.task_code.proofs.Reading.{long_starts, start_at, one_vertex, all_vertices}
 use Rattle.task_code.proofs.Placing.{goes_on_from, is_code}
 use Rattle.task_code.proofs.Mirrored.{once_code}
 use Rattle.task_code.proofs.Lowering.{lowered_same}

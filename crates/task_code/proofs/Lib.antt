@@ -5,5 +5,6 @@ mod Placing
 mod Mirrored
 mod Reading
 mod Labelling
+mod Making
 mod Printing
 mod Lamps

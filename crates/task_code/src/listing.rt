@@ -1,17 +1,20 @@
 // A machine's part of the listing.
-ghost use Rattle.std.specs.Prelude.{◌≡◌, ◌+◌, ◌<◌, ◌++◌, ◌∷◌, drop, length, decimal, codes, OnOk, OnErr};
+ghost use Rattle.std.specs.Prelude.{◌≡◌, ◌+◌, ◌<◌, ◌++◌, ◌∷◌, drop, length, decimal, codes, IfOk, OnOk, OnErr};
 ghost use Rattle.std.specs.List.{join_by};
 ghost use Rattle.transition_table.specs.Transitions.{OfMachine};
 ghost use Rattle.task_code.specs.Listings.{line, numbers, event_name, label, vertex_words, instr_words, numbered_lines, part_text};
-ghost use Rattle.task_code.specs.Labels.{result_label, others, head_text, diagram_text, count_text, part_of};
+ghost use Rattle.task_code.specs.Labels.{AreLabels, result_label, others, head_text, diagram_text, count_text, part_of};
 
 use crate::code::Code;
 use crate::instr::Instr;
 use decision_diagram::Order;
-use polis_base::{Bytes, NoMemory};
+use polis_base::{Bytes, List, NoMemory};
 use sgraph::{Graph, Vertex};
 use std::alloc::Global;
 use transition_table::{Machine, Network};
+
+// Words for items, in order.
+type Labels = List<Bytes>;
 
 // A number after a space.
 fn push_number(n: u64, out: &mut Bytes) -> Result<(), NoMemory>
@@ -85,12 +88,48 @@ fn push_label(net: &Network, machine: &Machine, item: u32, out: &mut Bytes) -> R
     push_result(net, machine, (k - inputs - states) as u32, out)
 }
 
+// The words for the variables of a machine, made once.
+fn labels_of(alloc: Global, net: &Network, machine: &Machine) -> Result<Labels, NoMemory>
+    ensures { IfOk result (λ labels. AreLabels net.now machine.now labels) }
+{
+    let count = machine.vars.len() as u32;
+    let mut labels = Labels::new(alloc);
+    for item in 0..count {
+        let mut text = Bytes::new(alloc);
+        push_label(net, machine, item, &mut text)?;
+        labels.push(text)?;
+    }
+    Ok(labels)
+}
+
+// The words for a variable, or for a result that is numbered after the variables, from those that
+// were made where they are there.
+fn push_known(
+    net: &Network,
+    machine: &Machine,
+    labels: &Labels,
+    item: u32,
+    out: &mut Bytes,
+) -> Result<(), NoMemory>
+    requires { AreLabels net.now machine.now labels.now }
+    ensures { OnOk result (out.new ≡ out.old ++ label net.now machine.now item) }
+{
+    let k = u64::from(item);
+    if k < labels.len() {
+        out.push(labels.get(k).as_slice())?;
+        return Ok(());
+    }
+    push_label(net, machine, item, out)
+}
+
 fn push_vertex_words(
     net: &Network,
     machine: &Machine,
+    labels: &Labels,
     v: &Vertex,
     out: &mut Bytes,
 ) -> Result<(), NoMemory>
+    requires { AreLabels net.now machine.now labels.now }
     ensures { OnOk result (out.new ≡ out.old ++ vertex_words net.now machine.now v.now) }
 {
     match v {
@@ -100,7 +139,7 @@ fn push_vertex_words(
         }
         Vertex::Test { var, kids } => {
             out.push(b"test ")?;
-            push_label(net, machine, *var, out)?;
+            push_known(net, machine, labels, *var, out)?;
             push_numbers(kids.as_slice(), out)
         }
         Vertex::Assign { result, code, next } => {
@@ -116,15 +155,17 @@ fn push_vertex_words(
 fn push_instr_words(
     net: &Network,
     machine: &Machine,
+    labels: &Labels,
     i: &Instr,
     out: &mut Bytes,
 ) -> Result<(), NoMemory>
+    requires { AreLabels net.now machine.now labels.now }
     ensures { OnOk result (out.new ≡ out.old ++ instr_words net.now machine.now i.now) }
 {
     match i {
         Instr::Test { var, targets } => {
             out.push(b"test ")?;
-            push_label(net, machine, *var, out)?;
+            push_known(net, machine, labels, *var, out)?;
             push_numbers(targets.as_slice(), out)
         }
         Instr::Set { result, code } => {
@@ -144,16 +185,18 @@ fn push_instr_words(
 fn push_vertex_line(
     net: &Network,
     machine: &Machine,
+    labels: &Labels,
     k: u64,
     v: &Vertex,
     out: &mut Bytes,
 ) -> Result<(), NoMemory>
+    requires { AreLabels net.now machine.now labels.now }
     ensures { OnOk result (out.new ≡ out.old
         ++ line (decimal k ++ 32 ∷ vertex_words net.now machine.now v.now)) }
 {
     out.push_decimal(k)?;
     out.push(b" ")?;
-    push_vertex_words(net, machine, v, out)?;
+    push_vertex_words(net, machine, labels, v, out)?;
     out.push(b"\n")
 }
 
@@ -161,30 +204,34 @@ fn push_vertex_line(
 fn push_instr_line(
     net: &Network,
     machine: &Machine,
+    labels: &Labels,
     k: u64,
     i: &Instr,
     out: &mut Bytes,
 ) -> Result<(), NoMemory>
+    requires { AreLabels net.now machine.now labels.now }
     ensures { OnOk result (out.new ≡ out.old
         ++ line (decimal k ++ 32 ∷ instr_words net.now machine.now i.now)) }
 {
     out.push_decimal(k)?;
     out.push(b" ")?;
-    push_instr_words(net, machine, i, out)?;
+    push_instr_words(net, machine, labels, i, out)?;
     out.push(b"\n")
 }
 
 fn push_vertices(
     net: &Network,
     machine: &Machine,
+    labels: &Labels,
     g: &Graph,
     out: &mut Bytes,
 ) -> Result<(), NoMemory>
+    requires { AreLabels net.now machine.now labels.now }
     ensures { OnOk result (out.new ≡ out.old
         ++ numbered_lines (vertex_words net.now machine.now) 0 g.now) }
 {
     for k in 0..g.len() {
-        push_vertex_line(net, machine, k, g.get(k), out)?;
+        push_vertex_line(net, machine, labels, k, g.get(k), out)?;
     }
     Ok(())
 }
@@ -192,14 +239,16 @@ fn push_vertices(
 fn push_instrs(
     net: &Network,
     machine: &Machine,
+    labels: &Labels,
     code: &Code,
     out: &mut Bytes,
 ) -> Result<(), NoMemory>
+    requires { AreLabels net.now machine.now labels.now }
     ensures { OnOk result (out.new ≡ out.old
         ++ numbered_lines (instr_words net.now machine.now) 0 code.now) }
 {
     for k in 0..code.len() {
-        push_instr_line(net, machine, k, code.get(k), out)?;
+        push_instr_line(net, machine, labels, k, code.get(k), out)?;
     }
     Ok(())
 }
@@ -275,6 +324,7 @@ fn push_count(word: &[u8], n: u64, out: &mut Bytes) -> Result<(), NoMemory>
 
 // The part of a machine.
 fn push_part(
+    alloc: Global,
     net: &Network,
     machine: &Machine,
     diagram: (u64, u64),
@@ -286,12 +336,13 @@ fn push_part(
     ensures { OnOk result (out.new ≡ out.old
         ++ part_text net.now machine.now (part_of order.now diagram.0 diagram.1 g.now code.now)) }
 {
+    let labels = labels_of(alloc, net, machine)?;
     push_head(net, machine, order, out)?;
     push_diagram(diagram.0, diagram.1, out)?;
     push_count(b"vertices", g.len(), out)?;
-    push_vertices(net, machine, g, out)?;
+    push_vertices(net, machine, &labels, g, out)?;
     push_count(b"code", code.len(), out)?;
-    push_instrs(net, machine, code, out)
+    push_instrs(net, machine, &labels, code, out)
 }
 
 /// Appends machine m's part of the listing: its name, its order, the counts of its diagrams, its
@@ -315,6 +366,6 @@ pub fn push_listing(
 {
     let machine = net.machines.get(u64::from(m));
     let mut text = Bytes::new(alloc);
-    push_part(net, machine, diagram, order, g, code, &mut text)?;
+    push_part(alloc, net, machine, diagram, order, g, code, &mut text)?;
     into.push(text.as_slice())
 }

@@ -153,7 +153,7 @@ fn conds_of<'s, 'a>(
     ensures { IfOk result (λ made. made
         ≡ map (cond_of local.now.scope.now.raw.now local.now.machine.now) conds.now) }
 {
-    let mut made = CondList::new(alloc);
+    let mut made = CondList::with_room(alloc, conds.len() as u64)?;
     for cond in conds {
         made.push(cond_of(local, known, vars, cond))?;
     }
@@ -242,7 +242,7 @@ fn acts_of(alloc: Global, local: &Local, acts: &[RawAct]) -> Result<ActList, NoM
     ensures { IfOk result (λ made. made
         ≡ map (act_of local.now.scope.now.raw.now local.now.machine.now) acts.now) }
 {
-    let mut made = ActList::new(alloc);
+    let mut made = ActList::with_room(alloc, acts.len() as u64)?;
     for act in acts {
         made.push(act_of(local, act))?;
     }
@@ -288,7 +288,7 @@ pub(crate) fn rows_of<'s, 'a>(
     ensures { IfOk result
         (λ made. AllZip (IsRowOf local.now.scope.now.raw.now local.now.machine.now) rows.now made) }
 {
-    let mut made = RowList::new(alloc);
+    let mut made = RowList::with_room(alloc, rows.len() as u64)?;
     for row in rows {
         let next = row_of(alloc, local, known, vars, row)?;
         made.push(next)?;

@@ -20,15 +20,10 @@ use Rattle.polis_cli.specs.Shown.{FailsWith}
 use Rattle.polis_cli.specs.Writing.{IsWell, Writes, is_end}
 use Rattle.polis_cli.specs.Left.{LeftByLoads, LeftByLine, LeftByWriting, is_read_fault}
 use Rattle.polis_cli.specs.Top.{is_refusal}
-use Rattle.polis_cli.specs.Promise.{Outside, outside, WriteFailed, Answers, Leaves}
+use Rattle.polis_cli.specs.Promise.{Outside, told, WriteFailed, Answers, Leaves}
 use Rattle.polis_cli.proofs.Told.{changes_from, changes_same}
 use Rattle.polis_cli.proofs.Ending.{IsOne, nothing_asked, refused_only, refused_there, failed_there, illegal_only, illegal_there, failing_line, accepted_files, made_legal, done_there, made_written, stands, unwritten, wanting_shown, written_status}
 use Rattle.polis_cli.proofs.Refusing.{cases_of}
-
--- what a host tells at this moment
-abbrev pub seen : {S : Type 0} → Ghosts S → S → Outside
-seen host s =
-    outside (host.files s) (host.shown s) (host.load_faults s) (host.write_faults s)
 
 -- ---- where a file failed
 -- the statuses of causes
@@ -126,7 +121,7 @@ pub failed_answers : PrefixesAreLegal → PrefixesRise → {S : Type 0} (host : 
     → Asks words request → IsOne words request
     → WhereTold (host.files a) (λ files. Fails request files name cause)
     → LeftByLoads host (is_read_fault cause) a b → ShowsFailure host name cause status b c
-    → OfDemo request (FailsDemo cause) → Answers status words (seen host a) (seen host c)
+    → OfDemo request (FailsDemo cause) → Answers status words (told host a) (told host c)
 unfolding is_failure
 failed_answers legal rise host a b c words request name cause status asks one fails left
     (text, with, shown) d =
@@ -165,7 +160,7 @@ pub failed_leaves : {S : Type 0} (host : Ghosts S) (a b c : S)
     (words : List (List ℕ)) (request : Request) (name : List ℕ) (cause : Cause) (status : Status)
     → Asks words request → WhereTold (host.files a) (λ files. Fails request files name cause)
     → LeftByLoads host (is_read_fault cause) a b → ShowsFailure host name cause status b c
-    → Leaves status words (seen host a) (seen host c)
+    → Leaves status words (told host a) (told host c)
 unfolding is_failure
 failed_leaves host a b c words request name cause status asks fails left (text, with, shown) =
     let same = shown.files ∙ left.files in
@@ -175,7 +170,7 @@ failed_leaves host a b c words request name cause status asks fails left (text, 
       stands = λ wanting. changes_same (host.files a) (host.files c) _ same (λ files. inl refl);
       unwritten = λ e. absurd (no_failure status WriteFault failure refl e);
       line = λ none no_fault. failing_line (host.files a) words request name cause status text
-          (WriteFailed (seen host a) (seen host c)) (host.shown a) (host.shown c) asks fails with
+          (WriteFailed (told host a) (told host c)) (host.shown a) (host.shown c) asks fails with
           (rw (left.shown, left.write_faults) at shown.shown);
     }
 
@@ -196,11 +191,11 @@ pub written_answers : {S : Type 0} (host : Ghosts S) (a b c : S)
     → Asks words request → IsOne words request
     → WhereTold (host.files a) (λ files. Makes request files product) → IsWell product
     → LeftByLoads host false a b → LeftByWriting host status product b c
-    → OfDemo request (product.status ≡ Done) → Answers status words (seen host a) (seen host c)
+    → OfDemo request (product.status ≡ Done) → Answers status words (told host a) (told host c)
 written_answers host a b c words request product status asks one made well left writing d =
     let w = after_loads host a b c status product left writing in
-    let old = seen host a in
-    let new = seen host c in
+    let old = told host a in
+    let new = told host c in
     let writes = w.written in
     let never = λ (other : Status). written_status old.files new.files old.shown new.shown product
     status other (WriteFailed old new) well writes in
@@ -246,10 +241,10 @@ pub written_leaves : {S : Type 0} (host : Ghosts S) (a b c : S)
     (words : List (List ℕ)) (request : Request) (product : Product) (status : Status)
     → Asks words request → WhereTold (host.files a) (λ files. Makes request files product)
     → IsWell product → LeftByLoads host false a b → LeftByWriting host status product b c
-    → Leaves status words (seen host a) (seen host c)
+    → Leaves status words (told host a) (told host c)
 written_leaves host a b c words request product status asks made well left writing =
-    let old = seen host a in
-    let new = seen host c in
+    let old = told host a in
+    let new = told host c in
     let writes = (after_loads host a b c status product left writing).written in
     record {
       kept = λ refusal. let h = sym refusal ∙ not_refusal product status (WriteFailed old new) old.files
@@ -265,7 +260,7 @@ written_leaves host a b c words request product status asks made well left writi
 -- ---- where nothing is asked for
 pub usage_answers : {S : Type 0} (host : Ghosts S) (a b : S) (words : List (List ℕ))
     → AsksNothing words → LeftByLine host (codes "usage" ++ 10 ∷ []) a b
-    → Answers Usage words (seen host a) (seen host b)
+    → Answers Usage words (told host a) (told host b)
 usage_answers host a b words nothing shown = record {
   ended = λ e. cc;
   usage_only = λ e. nothing;
@@ -284,7 +279,7 @@ usage_answers host a b words nothing shown = record {
 
 pub usage_leaves : {S : Type 0} (host : Ghosts S) (a b : S) (words : List (List ℕ))
     → LeftByLine host (codes "usage" ++ 10 ∷ []) a b
-    → Leaves Usage words (seen host a) (seen host b)
+    → Leaves Usage words (told host a) (told host b)
 usage_leaves host a b words shown = record {
   kept = λ e. shown.files;
   stands = λ e. cc;

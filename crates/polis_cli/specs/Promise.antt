@@ -1,6 +1,7 @@
 -- What each call of the program promises.
 use Rattle.std.specs.Prelude.{◌≡◌, ◌≢◌, ◌⊎◌, ℕ, false, List, Option, IsTrue}
 use Rattle.polis_base.specs.Host.{Files, Changes, Rose, WhereTold}
+use Rattle.polis_base.specs.declared.host.Host.{Ghosts}
 use Rattle.polis_words.specs.declared.requests.Request.{Request}
 use Rattle.polis_words.specs.declared.requests.Request.TheVariants.{Demo}
 use Rattle.polis_words.specs.declared.status.Status.{Status}
@@ -18,13 +19,13 @@ pub record Outside : Type 0 where
   pub load_faults : ℕ
   pub write_faults : ℕ
 
--- what a host tells, in this order
-abbrev pub outside : Option Files → Option (List ℕ) → ℕ → ℕ → Outside
-outside files shown load_faults write_faults = record {
-  files = files;
-  shown = shown;
-  load_faults = load_faults;
-  write_faults = write_faults;
+-- what a host tells at this moment
+abbrev pub told : {S : Type 0} → Ghosts S → S → Outside
+told host s = record {
+  files = host.files s;
+  shown = host.shown s;
+  load_faults = host.load_faults s;
+  write_faults = host.write_faults s;
 }
 
 -- the count of write faults rose

@@ -124,6 +124,24 @@ fn usage<'a>(words: &'a [&'a str]) -> Case<'a> {
     }
 }
 
+// A text, which has a part so many times between its begin and its end.
+#[derive(Clone, Copy)]
+struct Repeated<'a> {
+    begin: &'a str,
+    part: &'a str,
+    count: u64,
+    end: &'a str,
+}
+
+fn text_of(alloc: Global, repeated: &Repeated<'_>) -> Result<String, NoMemory> {
+    let mut text = String::from_str(alloc, repeated.begin)?;
+    for _ in 0..repeated.count {
+        text.push_str(repeated.part)?;
+    }
+    text.push_str(repeated.end)?;
+    Ok(text)
+}
+
 // A line of two parts.
 fn line_of(alloc: Global, first: &str, last: &str) -> Result<String, NoMemory> {
     let mut line = String::from_str(alloc, first)?;
@@ -290,10 +308,6 @@ fn tells_of_faults(rt: HostRuntime) -> Result<(), Fail> {
         write_faults: 1,
         ..write_fault(&[], "write fault o.jnl\n")
     };
-    let no_call = Case {
-        fails: &[6],
-        ..PRESS
-    };
     try_cases(
         &rt,
         rt.alloc(),
@@ -306,7 +320,10 @@ fn tells_of_faults(rt: HostRuntime) -> Result<(), Fail> {
             summary,
             write_fault(&[2, 3], ""),
             torn,
-            no_call,
+            Case {
+                fails: &[6],
+                ..PRESS
+            },
         ],
     )
 }

@@ -6,7 +6,7 @@ ghost use Rattle.polis_words.specs.Run.{NeedsWorkers};
 ghost use Rattle.polis_cli.specs.Commands.{Makes, Fails, IsSerial};
 ghost use Rattle.polis_cli.specs.Left.{LeftByLoads, fails_unread};
 ghost use Rattle.polis_cli.specs.Writing.{IsWell};
-ghost use Rattle.polis_cli.specs.Promise.{Answers, Leaves, outside};
+ghost use Rattle.polis_cli.specs.Promise.{Answers, Leaves, told};
 ghost use Rattle.polis_cli.specs.Demos.{FailsDemo, MakesDemo, OfDemo};
 
 use crate::check::make_check;
@@ -94,15 +94,9 @@ fn make_by<'a, T: Threads + Wait + Sync, H: Host, G: Gate + Sync>(
 pub fn serial<H: Host>(alloc: Global, words: &Words, host: &mut H) -> Status
     requires { ¬ NeedsWorkers words.now }
     ensures answers { Answers result words.now
-        (outside (H.files host.old) (H.shown host.old)
-        (H.load_faults host.old) (H.write_faults host.old))
-        (outside (H.files host.new) (H.shown host.new)
-        (H.load_faults host.new) (H.write_faults host.new)) }
+        (told ⟦<H as Host>⟧ host.old) (told ⟦<H as Host>⟧ host.new) }
     ensures leaves { Leaves result words.now
-        (outside (H.files host.old) (H.shown host.old)
-        (H.load_faults host.old) (H.write_faults host.old))
-        (outside (H.files host.new) (H.shown host.new)
-        (H.load_faults host.new) (H.write_faults host.new)) }
+        (told ⟦<H as Host>⟧ host.old) (told ⟦<H as Host>⟧ host.new) }
 {
     laws();
     stamp_laws();
@@ -128,15 +122,9 @@ fn by_workers<T: Threads + Wait + Sync, H: Host, G: Gate + Sync>(
     gate: &G,
 ) -> Status
     ensures answers { Answers result words.now
-        (outside (H.files host.old) (H.shown host.old)
-        (H.load_faults host.old) (H.write_faults host.old))
-        (outside (H.files host.new) (H.shown host.new)
-        (H.load_faults host.new) (H.write_faults host.new)) }
+        (told ⟦<H as Host>⟧ host.old) (told ⟦<H as Host>⟧ host.new) }
     ensures leaves { Leaves result words.now
-        (outside (H.files host.old) (H.shown host.old)
-        (H.load_faults host.old) (H.write_faults host.old))
-        (outside (H.files host.new) (H.shown host.new)
-        (H.load_faults host.new) (H.write_faults host.new)) }
+        (told ⟦<H as Host>⟧ host.old) (told ⟦<H as Host>⟧ host.new) }
 {
     laws();
     stamp_laws();
@@ -163,15 +151,9 @@ pub fn polis<T: Threads + Wait + Sync, H: Host, G: Gate + Sync>(
     gate: &G,
 ) -> Status
     ensures answers { Answers result words.now
-        (outside (H.files host.old) (H.shown host.old)
-        (H.load_faults host.old) (H.write_faults host.old))
-        (outside (H.files host.new) (H.shown host.new)
-        (H.load_faults host.new) (H.write_faults host.new)) }
+        (told ⟦<H as Host>⟧ host.old) (told ⟦<H as Host>⟧ host.new) }
     ensures leaves { Leaves result words.now
-        (outside (H.files host.old) (H.shown host.old)
-        (H.load_faults host.old) (H.write_faults host.old))
-        (outside (H.files host.new) (H.shown host.new)
-        (H.load_faults host.new) (H.write_faults host.new)) }
+        (told ⟦<H as Host>⟧ host.old) (told ⟦<H as Host>⟧ host.new) }
 {
     if needs_workers(words) {
         by_workers(rt, alloc, words, host, gate)

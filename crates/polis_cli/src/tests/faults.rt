@@ -1,6 +1,5 @@
 // Network texts that `check` refuses, and what it names. The places were counted by hand.
-use crate::tests::{CHECK, Case, line_of, refusal, try_case};
-use polis_base::NoMemory;
+use crate::tests::{CHECK, Case, Repeated, line_of, refusal, text_of, try_case};
 use polis_words::Status;
 use std::alloc::Global;
 use std::process::Abort;
@@ -348,71 +347,76 @@ const ACCEPTED: &[&str] = &[
     "network t version 1 event a from env event b from env event c to env machine m priority 0 { input a, b output c when a do emit c when a, absent a do nothing }",
 ];
 
-// A text, which has a part so many times between its begin and its end, and what is named of it.
-struct Repeated<'a> {
-    begin: &'a str,
-    part: &'a str,
-    count: u64,
-    end: &'a str,
-    fault: &'a str,
-}
-
 const ONE_MACHINE: &str = " machine m priority 0 { input g }";
 
 const ONE_EVENT: &str = " event g from env machine m priority 0 { input g }";
 
 // As many declarations as there may be, of which the second has the first one's name, and one more.
 // Up to the parts there are 19, 19 and 36 bytes, and the parts have 18, 8 and 33.
-const REPEATED: &[Repeated<'_>] = &[
-    Repeated {
-        begin: "network t version 1",
-        part: " domain d = 0 .. 0",
-        count: 64,
-        end: ONE_EVENT,
-        fault: "rule 3 45",
-    },
-    Repeated {
-        begin: "network t version 1",
-        part: " domain d = 0 .. 0",
-        count: 65,
-        end: ONE_EVENT,
-        fault: "rule 2 1179",
-    },
-    Repeated {
-        begin: "network t version 1",
-        part: " event g",
-        count: 256,
-        end: ONE_MACHINE,
-        fault: "rule 3 34",
-    },
-    Repeated {
-        begin: "network t version 1",
-        part: " event g",
-        count: 257,
-        end: ONE_MACHINE,
-        fault: "rule 2 2074",
-    },
-    Repeated {
-        begin: "network t version 1 event g from env",
-        part: ONE_MACHINE,
-        count: 64,
-        end: "",
-        fault: "rule 3 78",
-    },
-    Repeated {
-        begin: "network t version 1 event g from env",
-        part: ONE_MACHINE,
-        count: 65,
-        end: "",
-        fault: "rule 2 2157",
-    },
-    Repeated {
-        begin: "network t version 1 event g from env machine m priority 0 { input g",
-        part: " when g do nothing",
-        count: 513,
-        end: " }",
-        fault: "rule 9 45",
-    },
+const REPEATED: &[(Repeated<'_>, &str)] = &[
+    (
+        Repeated {
+            begin: "network t version 1",
+            part: " domain d = 0 .. 0",
+            count: 64,
+            end: ONE_EVENT,
+        },
+        "rule 3 45",
+    ),
+    (
+        Repeated {
+            begin: "network t version 1",
+            part: " domain d = 0 .. 0",
+            count: 65,
+            end: ONE_EVENT,
+        },
+        "rule 2 1179",
+    ),
+    (
+        Repeated {
+            begin: "network t version 1",
+            part: " event g",
+            count: 256,
+            end: ONE_MACHINE,
+        },
+        "rule 3 34",
+    ),
+    (
+        Repeated {
+            begin: "network t version 1",
+            part: " event g",
+            count: 257,
+            end: ONE_MACHINE,
+        },
+        "rule 2 2074",
+    ),
+    (
+        Repeated {
+            begin: "network t version 1 event g from env",
+            part: ONE_MACHINE,
+            count: 64,
+            end: "",
+        },
+        "rule 3 78",
+    ),
+    (
+        Repeated {
+            begin: "network t version 1 event g from env",
+            part: ONE_MACHINE,
+            count: 65,
+            end: "",
+        },
+        "rule 2 2157",
+    ),
+    (
+        Repeated {
+            begin: "network t version 1 event g from env machine m priority 0 { input g",
+            part: " when g do nothing",
+            count: 513,
+            end: " }",
+        },
+        "rule 9 45",
+    ),
 ];
 
 fn try_fault<T: Abort + Threads + Wait + Sync>(
@@ -449,21 +453,12 @@ fn names_the_place_of_each_fault(rt: HostRuntime) -> Result<(), Fail> {
     try_faults(&rt, alloc, CONFLICTS)
 }
 
-fn text_of(alloc: Global, repeated: &Repeated<'_>) -> Result<String, NoMemory> {
-    let mut text = String::from_str(alloc, repeated.begin)?;
-    for _ in 0..repeated.count {
-        text.push_str(repeated.part)?;
-    }
-    text.push_str(repeated.end)?;
-    Ok(text)
-}
-
 #[test]
 fn names_the_first_declaration_beyond(rt: HostRuntime) -> Result<(), Fail> {
     let alloc = rt.alloc();
-    for (number, repeated) in REPEATED.iter().enumerate() {
+    for (number, (repeated, fault)) in REPEATED.iter().enumerate() {
         let text = text_of(alloc, repeated)?;
-        try_fault(&rt, alloc, (text.as_bytes(), repeated.fault), number)?;
+        try_fault(&rt, alloc, (text.as_bytes(), fault), number)?;
     }
     Ok(())
 }

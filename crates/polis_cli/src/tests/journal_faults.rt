@@ -1,7 +1,6 @@
 // Journal texts that `replay` refuses, and journals that `migrate` prints as they are read.
 use crate::tests::networks::{ECHO, JOIN, LAMP, VALUE};
-use crate::tests::{Case, line_of, refusal, try_case};
-use polis_base::NoMemory;
+use crate::tests::{Case, Repeated, line_of, refusal, text_of, try_case};
 use polis_words::Status;
 use std::alloc::Global;
 use std::process::Abort;
@@ -225,16 +224,6 @@ fn reads_the_greatest_stamp(rt: HostRuntime) -> Result<(), Fail> {
     try_case(&rt, rt.alloc(), &case, 0)
 }
 
-// A journal of 60,000 deliveries, and these lines.
-fn many_entries(alloc: Global, last: &str) -> Result<String, NoMemory> {
-    let mut text = String::from_str(alloc, "polis journal 1\n")?;
-    for _ in 0..60_000 {
-        text.push_str("dep env m a\n")?;
-    }
-    text.push_str(last)?;
-    Ok(text)
-}
-
 // A replay of a journal of the join where the environment sends a.
 fn judged<'a>(journal: &'a str, status: Status, shown: &'a str) -> Case<'a> {
     Case {
@@ -246,6 +235,7 @@ fn judged<'a>(journal: &'a str, status: Status, shown: &'a str) -> Case<'a> {
     }
 }
 
+// A replay of a journal of 60,000 deliveries, and these lines.
 fn try_many<T: Abort + Threads + Wait + Sync>(
     rt: &T,
     alloc: Global,
@@ -253,7 +243,13 @@ fn try_many<T: Abort + Threads + Wait + Sync>(
     status: Status,
     shown: &str,
 ) -> Result<(), Fail> {
-    let text = many_entries(alloc, last)?;
+    let many = Repeated {
+        begin: "polis journal 1\n",
+        part: "dep env m a\n",
+        count: 60_000,
+        end: last,
+    };
+    let text = text_of(alloc, &many)?;
     let case = judged(text.as_str(), status, shown);
     try_case(rt, alloc, &case, 0)
 }

@@ -105,7 +105,6 @@ fn try_altered<T: Abort + Threads + Wait + Sync>(
 
 #[test]
 fn judges_journals(rt: HostRuntime) -> Result<(), Fail> {
-    let illegal = Status::Illegal;
     try_altered(
         &rt,
         rt.alloc(),
@@ -129,6 +128,17 @@ fn judges_journals(rt: HostRuntime) -> Result<(), Fail> {
                 Status::Done,
                 "legal 3 open\n",
             ),
+        ],
+    )
+}
+
+#[test]
+fn finds_the_first_illegal_entry(rt: HostRuntime) -> Result<(), Fail> {
+    let illegal = Status::Illegal;
+    try_altered(
+        &rt,
+        rt.alloc(),
+        &[
             row(&[A, A, A, B, C], "end 5 complete\n", illegal, "illegal 2\n"),
             row(&[A, A, C, B], "end 4 complete\n", illegal, "illegal 2\n"),
             row(&[A, B, C], "end 3 complete\n", illegal, "illegal 1\n"),
@@ -189,6 +199,17 @@ fn refuses_journals(rt: HostRuntime) -> Result<(), Fail> {
                 refused,
                 "refused jnl line 7 after\n",
             ),
+        ],
+    )
+}
+
+#[test]
+fn refuses_wrong_items(rt: HostRuntime) -> Result<(), Fail> {
+    let refused = Status::Refused;
+    try_altered(
+        &rt,
+        rt.alloc(),
+        &[
             row(
                 &["dep env m zz\n", A, B, C],
                 "end 4 complete\n",
@@ -208,7 +229,12 @@ fn refuses_journals(rt: HostRuntime) -> Result<(), Fail> {
                 "refused jnl line 5 name\n",
             ),
         ],
-    )?;
+    )
+}
+
+#[test]
+fn refuses_what_is_no_journal(rt: HostRuntime) -> Result<(), Fail> {
+    let refused = Status::Refused;
     let header = judged(
         REPLAY,
         "polis journal 3\n",

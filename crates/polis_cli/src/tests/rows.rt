@@ -116,7 +116,7 @@ fn accepted<'a>(net: &'a [u8], shown: &'a str) -> Case<'a> {
 }
 
 #[test]
-fn runs_small_networks(rt: HostRuntime) -> Result<(), Fail> {
+fn runs_the_lamp(rt: HostRuntime) -> Result<(), Fail> {
     try_cases(
         &rt,
         rt.alloc(),
@@ -143,6 +143,16 @@ fn runs_small_networks(rt: HostRuntime) -> Result<(), Fail> {
                 "light\n",
                 PRESSED,
             ),
+        ],
+    )
+}
+
+#[test]
+fn runs_single_machines(rt: HostRuntime) -> Result<(), Fail> {
+    try_cases(
+        &rt,
+        rt.alloc(),
+        &[
             run(
                 (JOIN, JOIN_LISTING),
                 "a\na\nb\n",
@@ -164,6 +174,23 @@ fn runs_small_networks(rt: HostRuntime) -> Result<(), Fail> {
                 "hit\n",
                 "polis journal 2\n@1 dep env m v=3\n@2 dep env m v=5\n@3 fire m : v=5 ; - -> - ; hit\nend 3 complete\n",
             ),
+            run(
+                (ECHO, ECHO_LISTING),
+                "v 5\n",
+                "entries 2 complete\nlost 0\ngathered 0 adopted 0\nmachine m vertices 21 code 34 tries 1 steps 8\n",
+                "w=5\n",
+                "polis journal 2\n@1 dep env m v=5\n@2 fire m : v=5 ; s=6 -> s=1 ; w=5\nend 2 complete\n",
+            ),
+        ],
+    )
+}
+
+#[test]
+fn runs_machines_that_send_or_stand_side_by_side(rt: HostRuntime) -> Result<(), Fail> {
+    try_cases(
+        &rt,
+        rt.alloc(),
+        &[
             run(
                 (TWO, TWO_LISTING),
                 "x\n",
@@ -191,13 +218,6 @@ fn runs_small_networks(rt: HostRuntime) -> Result<(), Fail> {
                 "entries 30 complete\nlost 0\ngathered 0 adopted 0\nmachine belt vertices 22 code 25 tries 3 steps 26\nmachine timer vertices 20 code 29 tries 12 steps 81\n",
                 "alarm_on\nalarm_off\n",
                 BELT_JOURNAL,
-            ),
-            run(
-                (ECHO, ECHO_LISTING),
-                "v 5\n",
-                "entries 2 complete\nlost 0\ngathered 0 adopted 0\nmachine m vertices 21 code 34 tries 1 steps 8\n",
-                "w=5\n",
-                "polis journal 2\n@1 dep env m v=5\n@2 fire m : v=5 ; s=6 -> s=1 ; w=5\nend 2 complete\n",
             ),
         ],
     )

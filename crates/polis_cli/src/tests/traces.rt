@@ -1,8 +1,7 @@
 // Traces that a run reads, and traces that it refuses.
 use crate::tests::listings::VALUE_LISTING;
 use crate::tests::networks::{LAMP, VALUE};
-use crate::tests::{Case, PRESS, RUN, line_of, refusal, try_case, try_cases};
-use polis_base::NoMemory;
+use crate::tests::{Case, PRESS, RUN, Repeated, line_of, refusal, text_of, try_case, try_cases};
 use polis_words::Status;
 use std::alloc::Global;
 use std::process::Abort;
@@ -87,18 +86,6 @@ fn reads_traces(rt: HostRuntime) -> Result<(), Fail> {
     try_cases(&rt, rt.alloc(), &[LAID_OUT, ENDS])
 }
 
-// 5,000 times an event and a settle item, with empty lines between them and a comment after them;
-// and this last line.
-fn many_items(alloc: Global, last: &str) -> Result<String, NoMemory> {
-    let mut text = String::new(alloc);
-    for _ in 0..5_000 {
-        text.push_str("press\n\nsettle\n")?;
-    }
-    text.push_str("# press\n")?;
-    text.push_str(last)?;
-    Ok(text)
-}
-
 // A replay of no entry on a trace.
 fn replayed<'a>(trace: &'a str, status: Status, shown: &'a str) -> Case<'a> {
     Case {
@@ -109,6 +96,7 @@ fn replayed<'a>(trace: &'a str, status: Status, shown: &'a str) -> Case<'a> {
     }
 }
 
+// 5,000 times an event and a settle item, with empty lines between them, and these lines.
 fn try_many<T: Abort + Threads + Wait + Sync>(
     rt: &T,
     alloc: Global,
@@ -116,7 +104,13 @@ fn try_many<T: Abort + Threads + Wait + Sync>(
     status: Status,
     shown: &str,
 ) -> Result<(), Fail> {
-    let text = many_items(alloc, last)?;
+    let many = Repeated {
+        begin: "",
+        part: "press\n\nsettle\n",
+        count: 5_000,
+        end: last,
+    };
+    let text = text_of(alloc, &many)?;
     let case = replayed(text.as_str(), status, shown);
     try_case(rt, alloc, &case, 0)
 }
@@ -127,9 +121,9 @@ fn takes_ten_thousand_items(rt: HostRuntime) -> Result<(), Fail> {
     try_many(
         &rt,
         alloc,
-        "settle",
+        "# press\nsettle",
         Status::Refused,
         "refused trc line 15002 many\n",
     )?;
-    try_many(&rt, alloc, "", Status::Done, "legal 0 open\n")
+    try_many(&rt, alloc, "# press\n", Status::Done, "legal 0 open\n")
 }

@@ -8,7 +8,7 @@ ghost use Rattle.worker_run.specs.Gathered.{AreAlone, IsEnough};
 
 use crate::logs::gather_logs;
 use event_buffer::Gate;
-use journal_replay::adopt;
+use journal_replay::adopt_on;
 use journals::{Journal, LogList, Trace, laws};
 use net_core::Config;
 use polis_base::NoMemory;
@@ -28,6 +28,15 @@ pub struct Gathered {
     pub merged: u64,
 }
 
+/// What the workers gathered, ready to be carried on.
+#[derive(Drop)]
+pub struct GatheredOn<'a> {
+    /// A configuration with the legal journal that was adopted.
+    pub config: Config<'a>,
+    /// How many entries the merge of the logs has, but at most as many as the limit.
+    pub merged: u64,
+}
+
 fn smaller(a: u64, b: u64) -> u64
     ensures { result ≡ min a b }
 {
@@ -35,72 +44,77 @@ fn smaller(a: u64, b: u64) -> u64
 }
 
 // The merge of logs that are legal by themselves, up to the limit and as far as it is legal.
-fn adopt_merge(
+fn adopt_merge<'a>(
     alloc: Global,
-    net: &Network,
-    trace: &Trace,
+    net: &'a Network,
+    trace: &'a Trace,
     logs: &LogList,
     limit: u64,
-) -> Result<Gathered, NoMemory>
+) -> Result<GatheredOn<'a>, NoMemory>
     requires trace { IsTrace net.now trace.now }
     requires alone { AreAlone net.now logs.now }
     ensures adopted { IfOk result (λ x.
-        IsAdopted net.now trace.now (merged logs.now) limit x.journal) }
+        IsAdopted net.now trace.now (merged logs.now) limit x.config.journal) }
     ensures kept { IfOk result (λ x. x.merged ≡ min (length (merged logs.now)) limit) }
+    ensures network { IfOk result (λ x. x.config.net ≡ net.now) }
+    ensures trace { IfOk result (λ x. x.config.trace ≡ trace.now) }
 {
     laws();
     let all = merge(alloc, logs)?;
     let merged = smaller(all.len(), limit);
-    let journal = adopt(alloc, net, trace, all, limit)?;
-    Ok(Gathered { journal, merged })
+    let config = adopt_on(alloc, net, trace, &all, limit)?;
+    Ok(GatheredOn { config, merged })
 }
 
 // What the core gathers when it is left to itself on this thread.
-fn gather_alone<R: Reactor>(
+fn gather_alone<'a, R: Reactor>(
     alloc: Global,
-    r: &R,
-    trace: &Trace,
+    r: &'a R,
+    trace: &'a Trace,
     least: u64,
-) -> Result<Gathered, NoMemory>
+) -> Result<GatheredOn<'a>, NoMemory>
     requires least { least ≤ 60000 }
     requires trace { IsTrace (R.meaning r.now) trace.now }
-    ensures legal { IfOk result (λ x. Legal (R.meaning r.now) trace.now x.journal) }
-    ensures most { IfOk result (λ x. (length x.journal ≤ x.merged) × (x.merged ≤ least)) }
-    ensures enough { IfOk result (λ x. IsEnough (R.meaning r.now) trace.now least x.journal) }
+    ensures network { IfOk result (λ x. x.config.net ≡ R.meaning r.now) }
+    ensures trace { IfOk result (λ x. x.config.trace ≡ trace.now) }
+    ensures legal { IfOk result (λ x. Legal (R.meaning r.now) trace.now x.config.journal) }
+    ensures most { IfOk result (λ x. (length x.config.journal ≤ x.merged) × (x.merged ≤ least)) }
+    ensures enough { IfOk result (λ x.
+        IsEnough (R.meaning r.now) trace.now least x.config.journal) }
 {
     let journal = core_alone(alloc, r, trace, least)?;
     let merged = journal.len();
-    Ok(Gathered { journal, merged })
+    let config = Config::resume(alloc, r.network(), trace, journal)?;
+    Ok(GatheredOn { config, merged })
 }
 
 // What was gathered, where it has so many entries or is complete; otherwise what the core gathers
 // when it is left to itself.
-fn or_alone<R: Reactor>(
+fn or_alone<'a, R: Reactor>(
     alloc: Global,
-    r: &R,
-    trace: &Trace,
-    found: Gathered,
+    r: &'a R,
+    trace: &'a Trace,
+    found: GatheredOn<'a>,
     least: u64,
     limit: u64,
-) -> Result<Gathered, NoMemory>
+) -> Result<GatheredOn<'a>, NoMemory>
     requires least { (least ≤ limit) × (least ≤ 60000) }
-    requires trace { IsTrace (R.meaning r.now) trace.now }
-    requires legal { Legal (R.meaning r.now) trace.now found.journal }
-    requires most { (length found.journal ≤ found.merged) × (found.merged ≤ limit) }
-    ensures legal { IfOk result (λ x. Legal (R.meaning r.now) trace.now x.journal) }
-    ensures most { IfOk result (λ x. (length x.journal ≤ x.merged) × (x.merged ≤ limit)) }
-    ensures enough { IfOk result (λ x. IsEnough (R.meaning r.now) trace.now least x.journal) }
+    requires network { found.config.net ≡ R.meaning r.now }
+    requires trace { found.config.trace ≡ trace.now }
+    requires fits { IsTrace (R.meaning r.now) trace.now }
+    requires most { (length found.config.journal ≤ found.merged) × (found.merged ≤ limit) }
+    ensures network { IfOk result (λ x. x.config.net ≡ R.meaning r.now) }
+    ensures trace { IfOk result (λ x. x.config.trace ≡ trace.now) }
+    ensures legal { IfOk result (λ x. Legal (R.meaning r.now) trace.now x.config.journal) }
+    ensures most { IfOk result (λ x. (length x.config.journal ≤ x.merged) × (x.merged ≤ limit)) }
+    ensures enough { IfOk result (λ x.
+        IsEnough (R.meaning r.now) trace.now least x.config.journal) }
 {
-    if found.journal.len() >= least {
+    if found.config.len() >= least {
         return Ok(found);
     }
-    let Gathered { journal, merged } = found;
-    let config = Config::resume(alloc, r.network(), trace, journal)?;
-    if config.is_complete() {
-        return Ok(Gathered {
-            journal: config.into_journal(),
-            merged,
-        });
+    if found.config.is_complete() {
+        return Ok(found);
     }
     gather_alone(alloc, r, trace, least)
 }
@@ -108,6 +122,32 @@ fn or_alone<R: Reactor>(
 /// Lets workers take turns side by side, each up to its part of the limit. What they leave is
 /// merged by stamps, and adopted up to the limit as far as it is legal. Out of memory is answered
 /// where any worker found none.
+pub fn gather_on<'a, T: Threads + Wait + Sync, R: Reactor + Sync, G: Gate + Sync>(
+    rt: &T,
+    alloc: Global,
+    r: &'a R,
+    trace: &'a Trace,
+    workers: u32,
+    limit: u64,
+    g: &G,
+) -> Result<GatheredOn<'a>, NoMemory>
+    requires workers { (2 ≤ workers) × (workers ≤ 8) }
+    requires limit { (1 ≤ limit) × (limit ≤ 60000) }
+    requires trace { IsTrace (R.meaning r.now) trace.now }
+    ensures network { IfOk result (λ x. x.config.net ≡ R.meaning r.now) }
+    ensures trace { IfOk result (λ x. x.config.trace ≡ trace.now) }
+    ensures legal { IfOk result (λ x. Legal (R.meaning r.now) trace.now x.config.journal) }
+    ensures most { IfOk result (λ x. (length x.config.journal ≤ x.merged) × (x.merged ≤ limit)) }
+    ensures enough { IfOk result (λ x.
+        IsEnough (R.meaning r.now) trace.now (limit / workers) x.config.journal) }
+{
+    let least = limit / workers as u64;
+    let logs = gather_logs(rt, alloc, r, trace, workers, least, g)?;
+    let found = adopt_merge(alloc, r.network(), trace, &logs, limit)?;
+    or_alone(alloc, r, trace, found, least, limit)
+}
+
+/// The journal of what `gather_on` gives.
 pub fn gather<T: Threads + Wait + Sync, R: Reactor + Sync, G: Gate + Sync>(
     rt: &T,
     alloc: Global,
@@ -125,8 +165,10 @@ pub fn gather<T: Threads + Wait + Sync, R: Reactor + Sync, G: Gate + Sync>(
     ensures enough { IfOk result (λ x.
         IsEnough (R.meaning r.now) trace.now (limit / workers) x.journal) }
 {
-    let least = limit / workers as u64;
-    let logs = gather_logs(rt, alloc, r, trace, workers, least, g)?;
-    let found = adopt_merge(alloc, r.network(), trace, &logs, limit)?;
-    or_alone(alloc, r, trace, found, least, limit)
+    let gathered = gather_on(rt, alloc, r, trace, workers, limit, g)?;
+    let GatheredOn { config, merged } = gathered;
+    Ok(Gathered {
+        journal: config.into_journal(),
+        merged,
+    })
 }

@@ -8,4 +8,4 @@ mod locked;
 mod logs;
 mod worker;
 
-pub use gathering::{Gathered, gather};
+pub use gathering::{Gathered, GatheredOn, gather, gather_on};

@@ -6,7 +6,7 @@ use Rattle.worker_run.proofs.gathering.adopt_merge.Goals as goal
 pub merge-requires : goal.merge-requires
 merge-requires c = λ m. (c.requires.alone m).rising
 
-pub adopt-requires-clause-alone : goal.adopt-requires-clause-alone
-adopt-requires-clause-alone c = λ m.
+pub adopt_on-requires-clause-alone : goal.adopt_on-requires-clause-alone
+adopt_on-requires-clause-alone c = λ m.
     subst (IsAlone c.args.net.now m) (sym c.in_ok-all.ensures)
     (merged_alone c.laws.ensures.log_alone c.args.net.now c.args.logs.now c.requires.alone m)

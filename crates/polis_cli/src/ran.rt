@@ -1,18 +1,17 @@
 // Running a network on a trace: the journal, and how much of it workers gathered.
-ghost use Rattle.std.specs.Prelude.{◌≤◌, length, IfOk};
+ghost use Rattle.std.specs.Prelude.{◌≡◌, ◌≤◌, length, IfOk};
 ghost use Rattle.journals.specs.Journals.{IsTrace};
-ghost use Rattle.journals.specs.Legality.{Legal};
 ghost use Rattle.polis_cli.specs.Runs.{CarriesOn, IsRan};
 
 use event_buffer::Gate;
-use net_core::{Journal, Trace, laws};
+use net_core::{Config, Journal, Trace, laws};
 use polis_base::NoMemory;
-use scheduler_gen::{complete, plan};
+use scheduler_gen::{complete_on, plan};
 use std::alloc::Global;
 use std::sync::Wait;
 use std::thread::Threads;
 use transition_table::Reactor;
-use worker_run::{Gathered, gather};
+use worker_run::{GatheredOn, gather_on};
 
 /// A journal, and how it came about.
 #[derive(Drop)]
@@ -32,20 +31,18 @@ pub struct Ran {
 fn carry_on<R: Reactor>(
     alloc: Global,
     r: &R,
-    trace: &Trace,
-    gathered: Gathered,
+    gathered: GatheredOn<'_>,
     limit: u64,
 ) -> Result<Ran, NoMemory>
-    requires trace { IsTrace (R.meaning r.now) trace.now }
-    requires legal { Legal (R.meaning r.now) trace.now gathered.journal }
-    requires few { length gathered.journal ≤ limit }
-    ensures { IfOk result (λ ran. CarriesOn (R.meaning r.now) trace.now limit
-        gathered.journal gathered.merged ran) }
+    requires network { gathered.config.net ≡ R.meaning r.now }
+    requires few { length gathered.config.journal ≤ limit }
+    ensures { IfOk result (λ ran. CarriesOn (R.meaning r.now) gathered.entry.config.trace limit
+        gathered.entry.config.journal gathered.entry.merged ran) }
 {
     let merged = gathered.merged;
-    let adopted = gathered.journal.len();
+    let adopted = gathered.config.len();
     let plan = plan(alloc, r.network())?;
-    let finished = complete(alloc, &plan, r, trace, gathered.journal, limit)?;
+    let finished = complete_on(alloc, &plan, r, gathered.config, limit)?;
     Ok(Ran {
         journal: finished.journal,
         complete: finished.complete,
@@ -65,11 +62,9 @@ pub fn run_alone<R: Reactor>(
     ensures { IfOk result (λ ran. IsRan 1 limit (R.meaning r.now) trace.now ran) }
 {
     laws();
-    let nothing = Gathered {
-        journal: Journal::new(alloc),
-        merged: 0,
-    };
-    match carry_on(alloc, r, trace, nothing, limit) {
+    let config = Config::start(alloc, r.network(), trace)?;
+    let nothing = GatheredOn { config, merged: 0 };
+    match carry_on(alloc, r, nothing, limit) {
         Ok(ran) => Ok(ran),
         Err(NoMemory) => Err(NoMemory),
     }
@@ -92,8 +87,8 @@ pub fn run_by<T: Threads + Wait + Sync, R: Reactor + Sync, G: Gate + Sync>(
     ensures { IfOk result (λ ran. IsRan workers limit (R.meaning r.now) trace.now ran) }
 {
     laws();
-    let gathered = gather(rt, alloc, r, trace, workers, limit, gate)?;
-    match carry_on(alloc, r, trace, gathered, limit) {
+    let gathered = gather_on(rt, alloc, r, trace, workers, limit, gate)?;
+    match carry_on(alloc, r, gathered, limit) {
         Ok(ran) => Ok(ran),
         Err(NoMemory) => Err(NoMemory),
     }

@@ -2,14 +2,17 @@ use Rattle.std.proofs.Common.{refl}
 use Rattle.polis_cli.proofs.ran.carry_on.Goals as goal
 
 pub returns : goal.returns
-returns g c = record {
-  gathered = refl;
-  adopted = c.len-adopted.ensures;
-  begins = c.in_ok-finished.ensures.begins;
-  follows = c.in_ok-finished.ensures.follows;
-  legal = c.in_ok-finished.ensures.legal;
-  within = c.in_ok-finished.ensures.within;
-  stops = c.in_ok-finished.ensures.ends;
-  ends = c.in_ok-finished.ensures.complete;
-  schedule = c.in_ok-finished.ensures.schedule;
-}
+returns g c =
+    let net = c.requires.network in
+    let finished = c.in_ok-finished.ensures in
+    record {
+      gathered = refl;
+      adopted = c.len-adopted.ensures.len;
+      begins = finished.begins;
+      follows = rw net at finished.follows;
+      legal = rw net at finished.legal;
+      within = finished.within;
+      stops = rw net at finished.ends;
+      ends = rw net at finished.complete;
+      schedule = rw net at finished.schedule;
+    }

@@ -12,6 +12,7 @@ carry_on-requires-clause-few g c =
 pub returns-in-Ok : goal.returns-in-Ok
 returns-in-Ok g c =
     ran_by (g.R.Reactor.meaning c.args.r.now) c.args.trace.now c.args.workers c.args.limit
-    c.in_ok-gathered.gathered.merged c.in_ok-gathered.gathered.journal c.in-Ok.ran
+    c.in_ok-gathered.gathered.merged c.in_ok-gathered.gathered.config.journal c.in-Ok.ran
     c.laws.ensures.stops c.requires.several c.in_ok-gathered.ensures.legal
-    c.in_ok-gathered.ensures.most c.in_ok-gathered.ensures.enough c.in-Ok.ensures
+    c.in_ok-gathered.ensures.most c.in_ok-gathered.ensures.enough
+    (rw c.in_ok-gathered.ensures.trace at c.in-Ok.ensures)

@@ -76,7 +76,7 @@ last_same (x ∷ z ∷ xs) [] l m e = absurd cc
 last_same (x ∷ xs) (y ∷ ys) l m e =
     let tails : xs ++ l ∷ [] ≡ ys ++ m ∷ [] = cc in last_same xs ys l m tails
 
-last_brace : (net : RawNet) (ts : List Lexeme) (l : Lexeme) → IsNet net (ts ++ l ∷ [])
+pub last_brace : (net : RawNet) (ts : List Lexeme) (l : Lexeme) → IsNet net (ts ++ l ∷ [])
     → l.kind ≡ kinds.Sign RightBrace
 last_brace net ts l f =
     let h = net_ends net (ts ++ l ∷ []) f in ap (λ (m : Lexeme). m.kind)

@@ -19,4 +19,6 @@ pub mod PrintedRows
 pub mod PrintedMachines
 pub mod PrintedNetworks
 mod LastToken
+mod Marks
+mod Stopping
 mod Computed

@@ -1,16 +1,14 @@
 -- Steps of the reader.
-use Rattle.std.proofs.Common.{◌≡◌, ℕ, ◌<◌, Bool, true, false, cond, IsTrue, List, [], ◌∷◌, length, drop, Option, Some, None, IfSome, IfNone, Result, Ok, Err, refl, sym, ◌∙◌, ap, arith}
-use Rattle.std.specs.Result.{is_ok}
+use Rattle.std.proofs.Common.{◌≡◌, ℕ, ◌<◌, Bool, true, false, cond, IsTrue, List, [], ◌∷◌, length, drop, Option, Some, None, IfSome, IfNone, Ok, Err, refl, sym, ap, arith}
 use Rattle.std.proofs.lemmas.Bool.{eqb-true, eq-eqb, false≢true}
 use Rattle.polis_base.specs.Lists.{head_of}
-use Rattle.polis_base.specs.Tokens.{with_token, tokens_after}
+use Rattle.polis_base.specs.Tokens.{marked_after}
 use Rattle.polis_base.specs.Spans.{IsNext}
 use Rattle.polis_base.specs.declared.token.Token.{Token}
-use Rattle.polis_base.specs.declared.token.LexError.{LexError}
 use Rattle.polis_base.specs.declared.token.Kind.{Kind}
 use Rattle.net_reader.specs.Kinds.{class_of}
 use Rattle.net_reader.specs.Lexemes.{Lexeme}
-use Rattle.net_reader.specs.Pieces.{read_tokens, left, StandsAt}
+use Rattle.net_reader.specs.Pieces.{left, StandsAt}
 use Rattle.net_reader.specs.Reading.{taken, one, next_of, is, is_fixed, begins, only, end_at}
 use Rattle.net_reader.proofs.Tokens.{kind_same, fixed_or_number}
 
@@ -73,23 +71,17 @@ unfolding end_at
 end_no [] l h = absurd cc
 end_no (m ∷ ls) l h = refl
 
-with_read : (token : Token) (r : Result (List Token) LexError) → is_ok r ≡ true
-    → read_tokens (with_token token r) ≡ token ∷ read_tokens r
-with_read token (Ok tokens) ok = refl
-with_read token (Err error) ok = cc
-
--- what is left after the next token is found is what reads from there on
+-- what is left after the next token is found is what stands from there on
 pub left_after : (text : List ℕ) (from : ℕ) (next : Option Token)
-    → IfSome next (λ token. IsNext text from token) → IfNone next (tokens_after text from ≡ Ok [])
-    → left text next ≡ read_tokens (tokens_after text from)
-left_after text from None some none = sym (ap read_tokens none)
-left_after text from (Some token) some none =
-    sym (ap read_tokens some.first ∙ with_read token _ some.rest)
+    → IfSome next (λ token. IsNext text from token) → IfNone next (marked_after text from ≡ [])
+    → left text next ≡ marked_after text from
+left_after text from None some none = sym none
+left_after text from (Some token) some none = sym some.first
 
 pub stands_after : (text : List ℕ) (from : ℕ) (next : Option Token)
     → IfSome next (λ token. IsNext text from token) → StandsAt text next
 stands_after text from None some = tt
-stands_after text from (Some token) some = (some.is, some.rest)
+stands_after text from (Some token) some = (some.within, some.name)
 
 pub tested : (r : Bool) (a b : Kind) → is_fixed b ≡ true → (IsTrue r → a ≡ b) → (a ≡ b → IsTrue r)
     → r ≡ is b (class_of a)

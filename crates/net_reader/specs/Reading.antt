@@ -118,6 +118,18 @@ many test p ls = many_up_to (length ls) test p ls
 abbrev pub with_before : {A : Type 0} → List A → Answer (List A) → Answer (List A)
 with_before items answer = answer >>= λ y. Ok (items ++ y.0, y.1)
 
+-- what is read, after other items
+abbrev pub with_one : {A : Type 0} → List A → Answer A → Answer (List A)
+with_one items answer = answer >>= λ x. Ok (items ++ x.0 ∷ [], x.1)
+
+-- A function that puts what it reads after other items left these items and these tokens, as the
+-- answer says, unless memory ran out.
+abbrev pub Adds : {A : Type 0} → Result (Unit {0}) Stop → List Lexeme → List A → Answer (List A)
+    → Type 0
+Adds (Ok u) left made answer = answer ≡ Ok (made, left)
+Adds (Err stops.Fault) left made answer = answer ≡ Err left
+Adds (Err stops.NoMemory) left made answer = Unit {0}
+
 -- an item and the ones after it
 abbrev pub more : {A : Type 0} → (ℕ → Bool) → Rule A → A → Rule (List A)
 more test p a ls = many test p ls >>= λ y. Ok (a ∷ y.0, y.1)

@@ -2,7 +2,7 @@
 ghost use Rattle.std.specs.Prelude.{◌≡◌, ℕ, true, List};
 ghost use Rattle.polis_base.specs.declared.token.Kind.{Kind};
 ghost use Rattle.polis_base.specs.declared.token.Sign.{Sign};
-ghost use Rattle.net_reader.specs.Reading.{Rule, Gives, Shrinks, is, is_fixed, many, some, listed, after_comma, with_before};
+ghost use Rattle.net_reader.specs.Reading.{Rule, Gives, Adds, Shrinks, is, is_fixed, many, some, listed, with_before, with_one};
 
 use crate::raw::{RawValue, Word};
 use crate::reader::{Reader, Stop};
@@ -16,8 +16,9 @@ pub(crate) const FEW: u64 = 2;
 pub(crate) trait Part: Drop {
     ghost rule: { ℕ → Rule Self };
 
-    fn read(reader: &mut Reader, version: u32) -> Result<Self, Stop>
-        ensures { Gives result reader.new (rule version reader.old) };
+    // Reads one, and puts it after those that are made.
+    fn read(reader: &mut Reader, version: u32, made: &mut List<Self>) -> Result<(), Stop>
+        ensures { Adds result reader.new made.new (with_one made.old (rule version reader.old)) };
 }
 
 // More parts after these, as long as one begins with this kind of token.
@@ -34,35 +35,10 @@ fn more<T: Part>(
 {
     let mut made = made;
     while reader.sees(begins) {
-        let part = T::read(reader, version)?;
-        made.push(part)?;
+        T::read(reader, version, &mut made)?;
     }
     made.shrink();
     Ok(made)
-}
-
-// More parts after these, each after a comma.
-fn after_commas<T: Part>(reader: &mut Reader, version: u32, made: List<T>) -> Result<List<T>, Stop>
-    requires { Shrinks (T.rule version) }
-    ensures { Gives result reader.new
-        (with_before made
-        (many (is (Kind.Sign Sign.Comma)) (after_comma (T.rule version)) reader.old)) }
-{
-    let mut made = made;
-    while reader.sees(Kind::Sign(Sign::Comma)) {
-        let part = part_after_comma(reader, version)?;
-        made.push(part)?;
-    }
-    made.shrink();
-    Ok(made)
-}
-
-#[tactic(auto, unfolding(crate::specs::Reading::after_comma))]
-fn part_after_comma<T: Part>(reader: &mut Reader, version: u32) -> Result<T, Stop>
-    ensures { Gives result reader.new (after_comma (T.rule version) reader.old) }
-{
-    reader.sign(Sign::Comma)?;
-    T::read(reader, version)
 }
 
 // None or more parts that begin with this kind of token.
@@ -90,21 +66,23 @@ pub(crate) fn some<T: Part>(
     ensures { Gives result reader.new (some (is begins) (T.rule version) reader.old) }
 {
     let mut made = List::new(reader.alloc());
-    let part = T::read(reader, version)?;
-    made.push(part)?;
+    T::read(reader, version, &mut made)?;
     more(reader, version, begins, made)
 }
 
 // One or more parts with commas between them, with room for so many before the first is read.
-#[tactic(auto, unfolding(crate::specs::Reading::listed))]
 pub(crate) fn listed<T: Part>(reader: &mut Reader, version: u32, room: u64) -> Result<List<T>, Stop>
     requires { Shrinks (T.rule version) }
     ensures { Gives result reader.new (listed (T.rule version) reader.old) }
 {
     let mut made = List::with_room(reader.alloc(), room)?;
-    let part = T::read(reader, version)?;
-    made.push(part)?;
-    after_commas(reader, version, made)
+    loop {
+        T::read(reader, version, &mut made)?;
+        if !reader.takes(Kind::Sign(Sign::Comma)) {
+            made.shrink();
+            return Ok(made);
+        }
+    }
 }
 
 impl Part for Word {
@@ -112,8 +90,10 @@ impl Part for Word {
 
     ghost rule = { λ _. word_at };
 
-    fn read(reader: &mut Reader, _: u32) -> Result<Word, Stop> {
-        reader.word()
+    fn read(reader: &mut Reader, _: u32, made: &mut List<Word>) -> Result<(), Stop> {
+        let name = reader.name()?;
+        made.push(name.word())?;
+        Ok(())
     }
 }
 
@@ -122,7 +102,9 @@ impl Part for RawValue {
 
     ghost rule = { λ _. value_at };
 
-    fn read(reader: &mut Reader, _: u32) -> Result<RawValue, Stop> {
-        reader.value()
+    fn read(reader: &mut Reader, _: u32, made: &mut List<RawValue>) -> Result<(), Stop> {
+        let value = reader.value()?;
+        made.push(value)?;
+        Ok(())
     }
 }

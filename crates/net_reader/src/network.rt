@@ -1,17 +1,18 @@
 // Reading a network text.
 ghost use Rattle.std.specs.Prelude.{◌≡◌, ◌≢◌, ◌⊎◌, ℕ, length, Ok, Err, IfOk};
-ghost use Rattle.polis_base.specs.Tokens.{tokens_of};
+ghost use Rattle.polis_base.specs.Tokens.{tokens_of, marked_after};
 ghost use Rattle.polis_base.specs.declared.token.LexError.{LexError};
 ghost use Rattle.net_reader.specs.declared.raw.RawNet.{RawNet};
 ghost use Rattle.net_reader.specs.declared.network.NetFault.{NetFault};
 ghost use Rattle.net_reader.specs.Reading.{whole_at};
 ghost use Rattle.net_reader.specs.Sentences.{HasNet, BreaksAt, LacksLast, OrNoMemory};
-ghost use Rattle.net_reader.specs.Outcomes.{judged, outcome};
+ghost use Rattle.net_reader.specs.Lexemes.{lexemes};
+ghost use Rattle.net_reader.specs.Outcomes.{outcome};
 
 use crate::raw::RawNet;
 use crate::reader::{Reader, Stop};
 use crate::rules::whole;
-use polis_base::{LexError, first_fault};
+use polis_base::{LexError, fault_after};
 use std::alloc::Global;
 use thiserror::Error;
 
@@ -30,13 +31,27 @@ pub enum NetFault {
     NoMemory,
 }
 
-fn judge(reader: &mut Reader, end: u64) -> Result<RawNet, NetFault>
-    ensures settled { OrNoMemory result (judged end (whole_at reader.old)) }
-    ensures no_lex { (fault : LexError) → result ≢ Err (NetFault.Lex fault) }
+// Why a text is no network whose reading stopped where the reader stands. All before the next token
+// reads.
+fn cause(text: &[u8], reader: &mut Reader) -> NetFault
+    requires { whole_at (lexemes text.now (marked_after text.now 0)) ≡ Err reader.old }
+    ensures settled { Err result ≡ outcome text.now }
+    ensures no_memory { result ≢ NetFault.Lex LexError.NoMemory }
+{
+    match fault_after(text, reader.place(0)) {
+        Some(fault) => NetFault::Lex(fault),
+        None => NetFault::Syntax(reader.place(text.len() as u64)),
+    }
+}
+
+fn judge(text: &[u8], reader: &mut Reader) -> Result<RawNet, NetFault>
+    requires { reader.old ≡ lexemes text.now (marked_after text.now 0) }
+    ensures settled { OrNoMemory result (outcome text.now) }
+    ensures no_memory { result ≢ Err (NetFault.Lex LexError.NoMemory) }
 {
     match whole(reader) {
         Ok(net) => Ok(net),
-        Err(Stop::Fault) => Err(NetFault::Syntax(reader.place(end))),
+        Err(Stop::Fault) => Err(cause(text, reader)),
         Err(Stop::NoMemory) => Err(NetFault::NoMemory),
     }
 }
@@ -45,10 +60,7 @@ fn read(alloc: Global, text: &[u8]) -> Result<RawNet, NetFault>
     ensures settled { OrNoMemory result (outcome text.now) }
     ensures no_memory { result ≢ Err (NetFault.Lex LexError.NoMemory) }
 {
-    match first_fault(text) {
-        None => judge(&mut Reader::new(alloc, text), text.len() as u64),
-        Some(fault) => Err(NetFault::Lex(fault)),
-    }
+    judge(text, &mut Reader::new(alloc, text))
 }
 
 /// The declarations of a network text of either version. A token that doesn't read is the answer

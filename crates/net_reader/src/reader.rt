@@ -1,13 +1,14 @@
-// A reader that stands at a token. It is seen as the tokens that are left.
-ghost use Rattle.std.specs.Prelude.{◌≡◌, ◌<◌, true, List, [], length, drop, option_map, Ok, IfSome, IfNone, IsTrue, IsOk};
+// A reader that stands at a token. It is seen as the tokens that are left, up to the first that
+// doesn't read: in its place stands the keyword `settle`, with which no network text goes on.
+ghost use Rattle.std.specs.Prelude.{◌≡◌, ◌+◌, ◌<◌, ◌≤◌, true, cond, List, [], length, drop, option_map, IfSome, IfNone, IsTrue};
 ghost use Rattle.polis_base.specs.Lists.{head_of};
 ghost use Rattle.polis_base.specs.Names.{is_name};
-ghost use Rattle.polis_base.specs.Spans.{IsToken, IsNext};
-ghost use Rattle.polis_base.specs.Tokens.{tokens_of, tokens_after};
+ghost use Rattle.polis_base.specs.Spans.{IsNext};
+ghost use Rattle.polis_base.specs.Tokens.{marked_after};
 ghost use Rattle.polis_base.specs.declared.token.Kind.{Kind};
 ghost use Rattle.net_reader.specs.Kinds.{class_of};
 ghost use Rattle.net_reader.specs.Lexemes.{Lexeme, lexeme, lexemes, word_of, num_of, value_of};
-ghost use Rattle.net_reader.specs.Pieces.{seen, read_tokens, place_of};
+ghost use Rattle.net_reader.specs.Pieces.{seen, place_of};
 ghost use Rattle.net_reader.specs.Reading.{Gives, next_of, begins, is, is_fixed, only, word_at, num_at, value_at, end_at};
 
 use crate::lists::FEW;
@@ -46,7 +47,39 @@ pub(crate) struct Piece<'a> {
     at: u64,
 }
 
-// A text each token of which reads, and the next one.
+// A name in a text, with its place. It is seen as the word, whose bytes are kept only once what
+// holds it is known.
+#[derive(Drop)]
+pub(crate) struct NameToken<'a> {
+    bytes: &'a [u8],
+    at: u64,
+}
+
+impl<'a> Model for NameToken<'a> {
+    ghost use Rattle.std.specs.Prelude.{◌≡◌, true};
+    ghost use Rattle.polis_base.specs.Names.{is_name};
+    ghost use Rattle.net_reader.specs.declared.raw.Word.{Word};
+
+    ghost Value = { Word };
+
+    ghost view = { λ n. record { name = n.bytes.now; at = n.at } };
+
+    ghost invariant = { λ n. is_name n.bytes.now ≡ true };
+}
+
+impl<'a> NameToken<'a> {
+    // The word.
+    pub(crate) fn word(&self) -> Word
+        ensures { result ≡ self.now }
+    {
+        Word {
+            name: Name::of_token(self.bytes),
+            at: self.at,
+        }
+    }
+}
+
+// A text, and the next token of it.
 #[derive(Drop)]
 pub(crate) struct Reader<'a> {
     alloc: Global,
@@ -71,7 +104,7 @@ impl<'a> Model for Reader<'a> {
 
 // A token of a text with its bytes.
 fn piece_of(text: &[u8], token: Token) -> Piece
-    requires { IsToken text.now token }
+    requires { token.at + token.len ≤ length text.now }
     ensures { seen result ≡ lexeme text.now token }
 {
     let start = token.at as usize;
@@ -82,13 +115,13 @@ fn piece_of(text: &[u8], token: Token) -> Piece
     }
 }
 
-fn word_of(piece: &Piece) -> Option<Word>
+fn name_of<'a>(piece: &Piece<'a>) -> Option<NameToken<'a>>
     requires { piece.now.kind ≡ Kind.Name → is_name piece.now.bytes.now ≡ true }
     ensures { result ≡ word_of (seen piece.now) }
 {
     match piece.kind {
-        Kind::Name => Some(Word {
-            name: Name::of_token(piece.bytes),
+        Kind::Name => Some(NameToken {
+            bytes: piece.bytes,
             at: piece.at,
         }),
         _ => None,
@@ -116,7 +149,11 @@ fn value_of(piece: &Piece) -> Option<RawValue>
             number,
             at: piece.at,
         })),
-        _ => Some(RawValue::Name(word_of(piece)?)),
+        Kind::Name => Some(RawValue::Name(Word {
+            name: Name::of_token(piece.bytes),
+            at: piece.at,
+        })),
+        _ => None,
     }
 }
 
@@ -138,9 +175,8 @@ fn is_kind(wanted: Kind, kind: Kind) -> bool
 // all of it is one function, which writes where the reader has its token.
 #[inline(never)]
 fn go_to(text: &[u8], from: u64, next: &mut Option<Token>)
-    requires { IsOk (tokens_after text.now from) }
     ensures some { IfSome next.new (λ token. IsNext text.now from token) }
-    ensures none { IfNone next.new (tokens_after text.now from ≡ Ok []) }
+    ensures none { IfNone next.new (marked_after text.now from ≡ []) }
 {
     *next = next_token(text, from);
 }
@@ -148,8 +184,7 @@ fn go_to(text: &[u8], from: u64, next: &mut Option<Token>)
 impl<'a> Reader<'a> {
     // At the first token.
     pub(crate) fn new(alloc: Global, text: &'a [u8]) -> Self
-        requires { IsOk (tokens_after text.now 0) }
-        ensures { result ≡ lexemes text.now (read_tokens (tokens_of text.now)) }
+        ensures { result ≡ lexemes text.now (marked_after text.now 0) }
     {
         let mut next = None;
         go_to(text, 0, &mut next);
@@ -229,6 +264,19 @@ impl<'a> Reader<'a> {
         }
     }
 
+    // Goes after the next token where it is of this kind, and says whether it is.
+    pub(crate) fn takes(&mut self, kind: Kind) -> bool
+        requires { is_fixed kind ≡ true }
+        ensures seen { result ≡ begins (is kind) self.old }
+        ensures left { self.new ≡ cond (begins (is kind) self.old) (drop 1 self.old) self.old }
+    {
+        let seen = self.sees(kind);
+        if seen {
+            self.skip();
+        }
+        seen
+    }
+
     // Reads a token of this kind.
     pub(crate) fn expect(&mut self, kind: Kind) -> Result<(), Stop>
         requires { is_fixed kind ≡ true }
@@ -256,11 +304,11 @@ impl<'a> Reader<'a> {
     }
 
     // The name that comes next, if one does.
-    fn next_word(&self) -> Option<Word>
+    fn next_name(&self) -> Option<NameToken<'a>>
         ensures { result ≡ next_of word_of self.now }
     {
         match self.peek() {
-            Some(piece) => word_of(&piece),
+            Some(piece) => name_of(&piece),
             None => None,
         }
     }
@@ -285,17 +333,25 @@ impl<'a> Reader<'a> {
         }
     }
 
+    // Reads a name, whose bytes stay in the text.
+    pub(crate) fn name(&mut self) -> Result<NameToken<'a>, Stop>
+        ensures { Gives result self.new (word_at self.old) }
+    {
+        match self.next_name() {
+            Some(name) => {
+                self.skip();
+                Ok(name)
+            }
+            None => Err(Stop::Fault),
+        }
+    }
+
     // Reads a name.
     pub(crate) fn word(&mut self) -> Result<Word, Stop>
         ensures { Gives result self.new (word_at self.old) }
     {
-        match self.next_word() {
-            Some(word) => {
-                self.skip();
-                Ok(word)
-            }
-            None => Err(Stop::Fault),
-        }
+        let name = self.name()?;
+        Ok(name.word())
     }
 
     // Reads a number.

@@ -3,14 +3,14 @@ ghost use Rattle.std.specs.Prelude.{◌≡◌, ◌==◌, List};
 ghost use Rattle.polis_base.specs.declared.token.Kind.{Kind};
 ghost use Rattle.polis_base.specs.declared.token.Keyword.{Keyword};
 ghost use Rattle.polis_base.specs.declared.token.Sign.{Sign};
-ghost use Rattle.net_reader.specs.Reading.{Gives, either, pure, is, names_at, range_at, shape_at, domain_at, env_at, from_env_at, to_env_at, typed_at, typed_part_at, event_at, state_at, absent_at, is_at, one_of_at, after_name_at, named_at, cond_at, plain_at, input_at, add_at, add_or_plain_at, after_value_at, sum_at, input_or_plain_at, input_or_sum_at, given_source_at, source_at, given_at, given_part_at, emit_at, set_at, act_at, nothing_at, acts_at, row_at, output_at, outputs_at, body_at, machine_at, net_at, whole_at};
+ghost use Rattle.net_reader.specs.Reading.{Gives, Adds, with_one, either, pure, is, names_at, range_at, shape_at, domain_at, env_at, from_env_at, to_env_at, typed_at, typed_part_at, event_at, state_at, absent_at, is_at, one_of_at, after_name_at, named_at, cond_at, plain_at, input_at, add_at, add_or_plain_at, after_value_at, sum_at, input_or_plain_at, input_or_sum_at, given_source_at, source_at, given_at, emit_at, set_at, act_at, nothing_at, acts_at, row_at, output_at, outputs_at, body_at, machine_at, net_at, whole_at};
 
 use crate::lists::{FEW, Part, listed, many, some};
 use crate::raw::{
     Num, RawAct, RawActList, RawCond, RawDomain, RawEnv, RawEvent, RawMachine, RawNet, RawRow,
     RawShape, RawSource, RawState, RawValue, Word, WordList,
 };
-use crate::reader::{Reader, Stop};
+use crate::reader::{NameToken, Reader, Stop};
 use polis_base::Keyword::{
     KwAbsent, KwDo, KwDomain, KwEmit, KwEnv, KwEvent, KwFrom, KwIn, KwInput, KwMachine, KwNetwork,
     KwNothing, KwOutput, KwPriority, KwState, KwTo, KwValue, KwVersion, KwWhen,
@@ -55,12 +55,13 @@ impl Part for RawDomain {
     ghost rule = { λ _. domain_at };
 
     #[tactic(auto, unfolding(crate::specs::Reading::domain_at))]
-    fn read(reader: &mut Reader, version: u32) -> Result<RawDomain, Stop> {
+    fn read(reader: &mut Reader, version: u32, made: &mut List<RawDomain>) -> Result<(), Stop> {
         reader.keyword(KwDomain)?;
         let name = reader.word()?;
         reader.sign(Equal)?;
         let shape = shape(reader, version)?;
-        Ok(RawDomain { name, shape })
+        made.push(RawDomain { name, shape })?;
+        Ok(())
     }
 }
 
@@ -122,12 +123,13 @@ impl Part for RawEvent {
     ghost rule = { λ _. event_at };
 
     #[tactic(auto, unfolding(crate::specs::Reading::event_at))]
-    fn read(reader: &mut Reader, _: u32) -> Result<RawEvent, Stop> {
+    fn read(reader: &mut Reader, _: u32, made: &mut List<RawEvent>) -> Result<(), Stop> {
         reader.keyword(KwEvent)?;
         let name = reader.word()?;
         let domain = typed_part(reader)?;
         let env = env(reader)?;
-        Ok(RawEvent { name, domain, env })
+        made.push(RawEvent { name, domain, env })?;
+        Ok(())
     }
 }
 
@@ -137,68 +139,86 @@ impl Part for RawState {
     ghost rule = { λ _. state_at };
 
     #[tactic(auto, unfolding(crate::specs::Reading::state_at))]
-    fn read(reader: &mut Reader, _: u32) -> Result<RawState, Stop> {
+    fn read(reader: &mut Reader, _: u32, made: &mut List<RawState>) -> Result<(), Stop> {
         reader.keyword(KwState)?;
         let name = reader.word()?;
         reader.sign(Colon)?;
         let domain = reader.word()?;
         reader.sign(Equal)?;
         let init = reader.value()?;
-        Ok(RawState { name, domain, init })
+        made.push(RawState { name, domain, init })?;
+        Ok(())
     }
 }
 
 #[tactic(auto, unfolding(crate::specs::Reading::absent_at))]
-fn absent(reader: &mut Reader) -> Result<RawCond, Stop>
-    ensures { Gives result reader.new (absent_at reader.old) }
+fn absent(reader: &mut Reader, made: &mut List<RawCond>) -> Result<(), Stop>
+    ensures { Adds result reader.new made.new (with_one made.old (absent_at reader.old)) }
 {
     reader.keyword(KwAbsent)?;
-    let name = reader.word()?;
-    Ok(RawCond::Absent(name))
+    let name = reader.name()?;
+    made.push(RawCond::Absent(name.word()))?;
+    Ok(())
 }
 
 #[tactic(auto, unfolding(crate::specs::Reading::is_at))]
-fn is(reader: &mut Reader, name: Word) -> Result<RawCond, Stop>
-    ensures { Gives result reader.new (is_at name reader.old) }
+fn is(reader: &mut Reader, name: &NameToken, made: &mut List<RawCond>) -> Result<(), Stop>
+    ensures { Adds result reader.new made.new (with_one made.old (is_at name.now reader.old)) }
 {
     reader.sign(Equal)?;
     let value = reader.value()?;
-    Ok(RawCond::Is { name, value })
+    let name = name.word();
+    made.push(RawCond::Is { name, value })?;
+    Ok(())
 }
 
 #[tactic(auto, unfolding(crate::specs::Reading::one_of_at))]
-fn one_of(reader: &mut Reader, version: u32, name: Word) -> Result<RawCond, Stop>
-    ensures { Gives result reader.new (one_of_at name reader.old) }
+fn one_of(
+    reader: &mut Reader,
+    version: u32,
+    name: &NameToken,
+    made: &mut List<RawCond>,
+) -> Result<(), Stop>
+    ensures { Adds result reader.new made.new (with_one made.old (one_of_at name.now reader.old)) }
 {
     reader.keyword(KwIn)?;
     reader.sign(LeftBrace)?;
     let values = listed(reader, version, FEW)?;
     reader.sign(RightBrace)?;
-    Ok(RawCond::OneOf { name, values })
+    let name = name.word();
+    made.push(RawCond::OneOf { name, values })?;
+    Ok(())
 }
 
 // What stands after the name of a condition.
 #[tactic(auto, unfolding(crate::specs::Reading::after_name_at))]
 #[inline(always)]
-fn after_name(reader: &mut Reader, version: u32, name: Word) -> Result<RawCond, Stop>
-    ensures { Gives result reader.new (after_name_at name reader.old) }
+fn after_name(
+    reader: &mut Reader,
+    version: u32,
+    name: &NameToken,
+    made: &mut List<RawCond>,
+) -> Result<(), Stop>
+    ensures { Adds result reader.new made.new
+        (with_one made.old (after_name_at name.now reader.old)) }
 {
     if reader.sees(Kind::Sign(Equal)) {
-        is(reader, name)
+        is(reader, name, made)
     } else if reader.sees(Kind::Keyword(KwIn)) {
-        one_of(reader, version, name)
+        one_of(reader, version, name, made)
     } else {
-        Ok(RawCond::Present(name))
+        made.push(RawCond::Present(name.word()))?;
+        Ok(())
     }
 }
 
 #[tactic(auto, unfolding(crate::specs::Reading::named_at))]
 #[inline(always)]
-fn named(reader: &mut Reader, version: u32) -> Result<RawCond, Stop>
-    ensures { Gives result reader.new (named_at reader.old) }
+fn named(reader: &mut Reader, version: u32, made: &mut List<RawCond>) -> Result<(), Stop>
+    ensures { Adds result reader.new made.new (with_one made.old (named_at reader.old)) }
 {
-    let name = reader.word()?;
-    after_name(reader, version, name)
+    let name = reader.name()?;
+    after_name(reader, version, &name, made)
 }
 
 impl Part for RawCond {
@@ -208,11 +228,11 @@ impl Part for RawCond {
 
     #[tactic(auto, unfolding(crate::specs::Reading::cond_at))]
     #[inline(always)]
-    fn read(reader: &mut Reader, version: u32) -> Result<RawCond, Stop> {
+    fn read(reader: &mut Reader, version: u32, made: &mut List<RawCond>) -> Result<(), Stop> {
         if reader.sees(Kind::Keyword(KwAbsent)) {
-            absent(reader)
+            absent(reader, made)
         } else {
-            named(reader, version)
+            named(reader, version, made)
         }
     }
 }
@@ -335,36 +355,34 @@ fn given(reader: &mut Reader, version: u32) -> Result<Option<RawSource>, Stop>
     Ok(Some(source))
 }
 
-// What an emission gives, if anything.
-#[tactic(auto, unfolding(crate::specs::Reading::given_part_at))]
-fn given_part(reader: &mut Reader, version: u32) -> Result<Option<RawSource>, Stop>
-    ensures { Gives result reader.new (given_part_at version reader.old) }
-{
-    if reader.sees(Kind::Sign(Equal)) {
-        given(reader, version)
-    } else {
-        Ok(None)
-    }
-}
-
-#[tactic(auto, unfolding(crate::specs::Reading::emit_at))]
-fn emit(reader: &mut Reader, version: u32) -> Result<RawAct, Stop>
-    ensures { Gives result reader.new (emit_at version reader.old) }
+// An emission. It has a value where `=` stands after its name.
+#[tactic(auto, unfolding(crate::specs::Reading::emit_at, crate::specs::Reading::given_part_at))]
+fn emit(reader: &mut Reader, version: u32, made: &mut List<RawAct>) -> Result<(), Stop>
+    ensures { Adds result reader.new made.new (with_one made.old (emit_at version reader.old)) }
 {
     reader.keyword(KwEmit)?;
-    let name = reader.word()?;
-    let value = given_part(reader, version)?;
-    Ok(RawAct::Emit { name, value })
+    let name = reader.name()?;
+    if reader.sees(Kind::Sign(Equal)) {
+        let value = given(reader, version)?;
+        let name = name.word();
+        made.push(RawAct::Emit { name, value })?;
+    } else {
+        let name = name.word();
+        made.push(RawAct::Emit { name, value: None })?;
+    }
+    Ok(())
 }
 
 #[tactic(auto, unfolding(crate::specs::Reading::set_at))]
-fn set(reader: &mut Reader, version: u32) -> Result<RawAct, Stop>
-    ensures { Gives result reader.new (set_at version reader.old) }
+fn set(reader: &mut Reader, version: u32, made: &mut List<RawAct>) -> Result<(), Stop>
+    ensures { Adds result reader.new made.new (with_one made.old (set_at version reader.old)) }
 {
-    let name = reader.word()?;
+    let name = reader.name()?;
     reader.sign(Assign)?;
     let value = source(reader, version)?;
-    Ok(RawAct::Set { name, value })
+    let name = name.word();
+    made.push(RawAct::Set { name, value })?;
+    Ok(())
 }
 
 impl Part for RawAct {
@@ -374,11 +392,11 @@ impl Part for RawAct {
 
     #[tactic(auto, unfolding(crate::specs::Reading::act_at))]
     #[inline(always)]
-    fn read(reader: &mut Reader, version: u32) -> Result<RawAct, Stop> {
+    fn read(reader: &mut Reader, version: u32, made: &mut List<RawAct>) -> Result<(), Stop> {
         if reader.sees(Kind::Keyword(KwEmit)) {
-            emit(reader, version)
+            emit(reader, version, made)
         } else {
-            set(reader, version)
+            set(reader, version, made)
         }
     }
 }
@@ -409,14 +427,16 @@ impl Part for RawRow {
     ghost rule = { row_at };
 
     #[tactic(auto, unfolding(crate::specs::Reading::row_at))]
-    fn read(reader: &mut Reader, version: u32) -> Result<RawRow, Stop> {
+    #[inline(always)]
+    fn read(reader: &mut Reader, version: u32, made: &mut List<RawRow>) -> Result<(), Stop> {
         reader.keyword(KwWhen)?;
         let room = reader.conds_room();
         let conds = listed(reader, version, room)?;
         reader.keyword(KwDo)?;
         let acts = acts(reader, version)?;
         reader.note_row(conds.len(), acts.len());
-        Ok(RawRow { conds, acts })
+        made.push(RawRow { conds, acts })?;
+        Ok(())
     }
 }
 
@@ -466,13 +486,15 @@ impl Part for RawMachine {
     ghost rule = { machine_at };
 
     #[tactic(auto, unfolding(crate::specs::Reading::machine_at))]
-    fn read(reader: &mut Reader, version: u32) -> Result<RawMachine, Stop> {
+    fn read(reader: &mut Reader, version: u32, made: &mut List<RawMachine>) -> Result<(), Stop> {
         reader.keyword(KwMachine)?;
         let name = reader.word()?;
         reader.keyword(KwPriority)?;
         let priority = reader.num()?;
         reader.sign(LeftBrace)?;
-        body(reader, version, name, priority)
+        let machine = body(reader, version, name, priority)?;
+        made.push(machine)?;
+        Ok(())
     }
 }
 

@@ -23,7 +23,7 @@ passed at (suc n) (c ∷ rest) =
     let e : at + 1 + n ≡ at + suc n = omega arith in
     passed (at + 1) n rest ∙ ap (λ i. tokens_from i 0 (drop n rest)) e
 
-drop_first : (n c : ℕ) (rest : List ℕ) → 0 < n → drop (n - 1) rest ≡ drop n (c ∷ rest)
+pub drop_first : (n c : ℕ) (rest : List ℕ) → 0 < n → drop (n - 1) rest ≡ drop n (c ∷ rest)
 drop_first zero c rest some = absurd (omega arith)
 drop_first (suc n) c rest some =
     let e : suc n - 1 ≡ n = omega arith in
@@ -118,11 +118,6 @@ pub same_ok : (token : Token) (read : Result (List Token) LexError)
     → is_ok (with_token token read) ≡ is_ok read
 same_ok token (Ok tokens) = refl
 same_ok token (Err error) = refl
-
--- without a fault the tokens read
-pub reads_whole : (r : Result (List Token) LexError) → None ≡ result_err r → is_ok r ≡ true
-reads_whole (Ok tokens) none = refl
-reads_whole (Err error) none = cc
 
 width_passed : (at n : ℕ) (text : List ℕ) (f : Scan) → scan at (drop at text) ≡ f → width f ≡ Ok n
     → at < length text → 0 < n

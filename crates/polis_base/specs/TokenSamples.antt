@@ -6,7 +6,7 @@ use Rattle.polis_base.specs.declared.token.Keyword.TheVariants.{KwIn}
 use Rattle.polis_base.specs.declared.token.Sign.TheVariants.{Assign, DotDot}
 use Rattle.polis_base.specs.declared.token.Token.{Token}
 use Rattle.polis_base.specs.declared.token.LexError.{LexError}
-use Rattle.polis_base.specs.Tokens.{tokens_of}
+use Rattle.polis_base.specs.Tokens.{tokens_of, mark, marked_after}
 
 -- a text that reads as these kinds, each with its place and its number of bytes
 abbrev pub Reads : List ℕ → List Token → Type 0
@@ -15,6 +15,10 @@ Reads text tokens = tokens_of text ≡ Ok tokens
 -- a text that doesn't read, for this reason
 abbrev pub Fails : List ℕ → LexError → Type 0
 Fails text error = tokens_of text ≡ Err error
+
+-- a text that is met as these tokens, the last of which may be a mark
+abbrev pub Meets : List ℕ → List Token → Type 0
+Meets text tokens = marked_after text 0 ≡ tokens
 
 abbrev token : Kind → ℕ → ℕ → Token
 token kind at len = record { kind = kind; at = at; len = len }
@@ -46,3 +50,7 @@ after_comment = token Name 3 1 ∷ []
 
 abbrev pub comment_then : ℕ → List ℕ
 comment_then c = codes "#a" ++ c ∷ codes "b"
+
+-- a name, and then a mark with all six bytes that are left
+abbrev pub name_and_mark : List Token
+name_and_mark = token Name 0 1 ∷ mark 2 6 ∷ []

@@ -6,6 +6,7 @@ use Rattle.polis_base.specs.Names.{begins_name, continues_name}
 use Rattle.polis_base.specs.Digits.{is_digit, number_of}
 pub use Rattle.polis_base.specs.Keywords.{keyword_of}
 use Rattle.polis_base.specs.declared.token.Keyword.{Keyword as Reserved}
+use Rattle.polis_base.specs.declared.token.Keyword.TheVariants.{KwSettle}
 use Rattle.polis_base.specs.declared.token.Sign.TheVariants.{Equal, Assign, Colon, Comma, LeftBrace, RightBrace, DotDot, Plus}
 use Rattle.polis_base.specs.declared.token.Kind.{Kind}
 use Rattle.polis_base.specs.declared.token.Kind.TheVariants.{Keyword, Name, Number, Sign}
@@ -108,3 +109,27 @@ fault_of text = result_err (tokens_of text)
 -- the tokens of what stands from a place of a text on
 abbrev pub tokens_after : List ℕ → ℕ → Result (List Token) LexError
 tokens_after text at = tokens_from at 0 (drop at text)
+
+-- What stands for a token at a place that doesn't read: `settle`, a keyword that no network text
+-- has, with all bytes from the place on.
+abbrev pub mark : ℕ → ℕ → Token
+mark at left = record { kind = Keyword KwSettle; at = at; len = left }
+
+-- what stands at a place, from which so many bytes are left, and then the tokens after it
+abbrev pub marked : Scan → ℕ → ℕ → List Token → List Token
+marked (Skipped n) at left tokens = tokens
+marked (Read kind n) at left tokens = record { kind = kind; at = at; len = n } ∷ tokens
+marked (Faulty error) at left tokens = mark at left ∷ []
+
+-- The tokens up to the first that doesn't read, and a mark in its place. As in `tokens_from`, the
+-- first bytes are of what stood before.
+abbrev pub marked_from : ℕ → ℕ → List ℕ → List Token
+marked_from at passed [] = []
+marked_from at (suc passed) (c ∷ rest) = marked_from (at + 1) passed rest
+marked_from at zero (c ∷ rest) =
+    marked (scan at (c ∷ rest)) at (length (c ∷ rest))
+    (marked_from (at + 1) (bytes_in (scan at (c ∷ rest)) - 1) rest)
+
+-- the tokens of what stands from a place of a text on, with a mark where one doesn't read
+abbrev pub marked_after : List ℕ → ℕ → List Token
+marked_after text at = marked_from at 0 (drop at text)

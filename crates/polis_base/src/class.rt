@@ -42,7 +42,7 @@ pub(crate) fn class_of(byte: u8) -> u8
 pub(crate) fn is_blank(byte: u8) -> bool
     ensures { result ≡ is_blank byte }
 {
-    CLASSES[byte as usize] == BLANK
+    CLASSES[byte as usize] <= BLANK
 }
 
 /// A blank, or a sign of one byte with which none of two begins.

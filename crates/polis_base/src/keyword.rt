@@ -1,138 +1,196 @@
 // The words that are no names.
-ghost use Rattle.std.specs.Prelude.{◌≡◌, length};
+ghost use Rattle.std.specs.Prelude.{◌≡◌, ◌∷◌};
 ghost use Rattle.polis_base.specs.Keywords.{keyword_of as keyword_in_table};
 
 use crate::token::Keyword;
 
-// The keyword that a word of two bytes is, if it is one.
-fn keyword_of_two(word: &[u8]) -> Option<Keyword>
-    requires { length word.now ≡ 2 }
-    ensures { result ≡ keyword_in_table word.now }
+// The keyword that `a` and these bytes are, if they are one.
+#[inline(always)]
+fn after_a(rest: &[u8]) -> Option<Keyword>
+    ensures { result ≡ keyword_in_table (97 ∷ rest.now) }
 {
-    if word == b"to".as_slice() {
-        return Some(Keyword::KwTo);
-    }
-    if word == b"do".as_slice() {
-        return Some(Keyword::KwDo);
-    }
-    if word == b"in".as_slice() {
-        return Some(Keyword::KwIn);
+    if rest == b"bsent".as_slice() {
+        return Some(Keyword::KwAbsent);
     }
     None
 }
 
-// The keyword that a word of three bytes is, if it is one.
-fn keyword_of_three(word: &[u8]) -> Option<Keyword>
-    requires { length word.now ≡ 3 }
-    ensures { result ≡ keyword_in_table word.now }
+// The keyword that `d` and these bytes are, if they are one.
+#[inline(always)]
+fn after_d(rest: &[u8]) -> Option<Keyword>
+    ensures { result ≡ keyword_in_table (100 ∷ rest.now) }
 {
-    if word == b"env".as_slice() {
+    if rest == b"omain".as_slice() {
+        return Some(Keyword::KwDomain);
+    }
+    if rest == b"o".as_slice() {
+        return Some(Keyword::KwDo);
+    }
+    None
+}
+
+// The keyword that `e` and these bytes are, if they are one.
+#[inline(always)]
+fn after_e(rest: &[u8]) -> Option<Keyword>
+    ensures { result ≡ keyword_in_table (101 ∷ rest.now) }
+{
+    if rest == b"vent".as_slice() {
+        return Some(Keyword::KwEvent);
+    }
+    if rest == b"mit".as_slice() {
+        return Some(Keyword::KwEmit);
+    }
+    if rest == b"nv".as_slice() {
         return Some(Keyword::KwEnv);
     }
     None
 }
 
-// The keyword that a word of four bytes is, if it is one.
-fn keyword_of_four(word: &[u8]) -> Option<Keyword>
-    requires { length word.now ≡ 4 }
-    ensures { result ≡ keyword_in_table word.now }
+// The keyword that `f` and these bytes are, if they are one.
+#[inline(always)]
+fn after_f(rest: &[u8]) -> Option<Keyword>
+    ensures { result ≡ keyword_in_table (102 ∷ rest.now) }
 {
-    if word == b"from".as_slice() {
+    if rest == b"rom".as_slice() {
         return Some(Keyword::KwFrom);
     }
-    if word == b"when".as_slice() {
-        return Some(Keyword::KwWhen);
-    }
-    if word == b"emit".as_slice() {
-        return Some(Keyword::KwEmit);
-    }
     None
 }
 
-// The keyword that a word of five bytes is, if it is one.
-fn keyword_of_five(word: &[u8]) -> Option<Keyword>
-    requires { length word.now ≡ 5 }
-    ensures { result ≡ keyword_in_table word.now }
+// The keyword that `i` and these bytes are, if they are one.
+#[inline(always)]
+fn after_i(rest: &[u8]) -> Option<Keyword>
+    ensures { result ≡ keyword_in_table (105 ∷ rest.now) }
 {
-    if word == b"event".as_slice() {
-        return Some(Keyword::KwEvent);
-    }
-    if word == b"input".as_slice() {
+    if rest == b"nput".as_slice() {
         return Some(Keyword::KwInput);
     }
-    if word == b"state".as_slice() {
-        return Some(Keyword::KwState);
-    }
-    if word == b"value".as_slice() {
-        return Some(Keyword::KwValue);
+    if rest == b"n".as_slice() {
+        return Some(Keyword::KwIn);
     }
     None
 }
 
-// The keyword that a word of six bytes is, if it is one.
-fn keyword_of_six(word: &[u8]) -> Option<Keyword>
-    requires { length word.now ≡ 6 }
-    ensures { result ≡ keyword_in_table word.now }
+// The keyword that `m` and these bytes are, if they are one.
+#[inline(always)]
+fn after_m(rest: &[u8]) -> Option<Keyword>
+    ensures { result ≡ keyword_in_table (109 ∷ rest.now) }
 {
-    if word == b"domain".as_slice() {
-        return Some(Keyword::KwDomain);
-    }
-    if word == b"output".as_slice() {
-        return Some(Keyword::KwOutput);
-    }
-    if word == b"absent".as_slice() {
-        return Some(Keyword::KwAbsent);
-    }
-    if word == b"settle".as_slice() {
-        return Some(Keyword::KwSettle);
-    }
-    None
-}
-
-// The keyword that a word of seven bytes is, if it is one.
-fn keyword_of_seven(word: &[u8]) -> Option<Keyword>
-    requires { length word.now ≡ 7 }
-    ensures { result ≡ keyword_in_table word.now }
-{
-    if word == b"network".as_slice() {
-        return Some(Keyword::KwNetwork);
-    }
-    if word == b"version".as_slice() {
-        return Some(Keyword::KwVersion);
-    }
-    if word == b"machine".as_slice() {
+    if rest == b"achine".as_slice() {
         return Some(Keyword::KwMachine);
     }
-    if word == b"nothing".as_slice() {
+    None
+}
+
+// The keyword that `n` and these bytes are, if they are one.
+#[inline(always)]
+fn after_n(rest: &[u8]) -> Option<Keyword>
+    ensures { result ≡ keyword_in_table (110 ∷ rest.now) }
+{
+    if rest == b"etwork".as_slice() {
+        return Some(Keyword::KwNetwork);
+    }
+    if rest == b"othing".as_slice() {
         return Some(Keyword::KwNothing);
     }
     None
 }
 
-// The keyword that a word of eight bytes is, if it is one.
-fn keyword_of_eight(word: &[u8]) -> Option<Keyword>
-    requires { length word.now ≡ 8 }
-    ensures { result ≡ keyword_in_table word.now }
+// The keyword that `o` and these bytes are, if they are one.
+#[inline(always)]
+fn after_o(rest: &[u8]) -> Option<Keyword>
+    ensures { result ≡ keyword_in_table (111 ∷ rest.now) }
 {
-    if word == b"priority".as_slice() {
+    if rest == b"utput".as_slice() {
+        return Some(Keyword::KwOutput);
+    }
+    None
+}
+
+// The keyword that `p` and these bytes are, if they are one.
+#[inline(always)]
+fn after_p(rest: &[u8]) -> Option<Keyword>
+    ensures { result ≡ keyword_in_table (112 ∷ rest.now) }
+{
+    if rest == b"riority".as_slice() {
         return Some(Keyword::KwPriority);
     }
     None
 }
 
-/// The keyword that a word is, if it is one. The length comes first, so that most names are
-/// compared with few keywords or none.
+// The keyword that `s` and these bytes are, if they are one.
+#[inline(always)]
+fn after_s(rest: &[u8]) -> Option<Keyword>
+    ensures { result ≡ keyword_in_table (115 ∷ rest.now) }
+{
+    if rest == b"tate".as_slice() {
+        return Some(Keyword::KwState);
+    }
+    if rest == b"ettle".as_slice() {
+        return Some(Keyword::KwSettle);
+    }
+    None
+}
+
+// The keyword that `t` and these bytes are, if they are one.
+#[inline(always)]
+fn after_t(rest: &[u8]) -> Option<Keyword>
+    ensures { result ≡ keyword_in_table (116 ∷ rest.now) }
+{
+    if rest == b"o".as_slice() {
+        return Some(Keyword::KwTo);
+    }
+    None
+}
+
+// The keyword that `v` and these bytes are, if they are one.
+#[inline(always)]
+fn after_v(rest: &[u8]) -> Option<Keyword>
+    ensures { result ≡ keyword_in_table (118 ∷ rest.now) }
+{
+    if rest == b"ersion".as_slice() {
+        return Some(Keyword::KwVersion);
+    }
+    if rest == b"alue".as_slice() {
+        return Some(Keyword::KwValue);
+    }
+    None
+}
+
+// The keyword that `w` and these bytes are, if they are one.
+#[inline(always)]
+fn after_w(rest: &[u8]) -> Option<Keyword>
+    ensures { result ≡ keyword_in_table (119 ∷ rest.now) }
+{
+    if rest == b"hen".as_slice() {
+        return Some(Keyword::KwWhen);
+    }
+    None
+}
+
+/// The keyword that a word is, if it is one. The first byte comes first, so that a name is compared
+/// with the few keywords that begin with it, or with none.
+#[inline(always)]
 pub(crate) fn keyword_of(word: &[u8]) -> Option<Keyword>
     ensures { result ≡ keyword_in_table word.now }
 {
-    match word.len() {
-        2 => keyword_of_two(word),
-        3 => keyword_of_three(word),
-        4 => keyword_of_four(word),
-        5 => keyword_of_five(word),
-        6 => keyword_of_six(word),
-        7 => keyword_of_seven(word),
-        8 => keyword_of_eight(word),
+    let Some((first, rest)) = word.split_first() else {
+        return None;
+    };
+    match *first {
+        b'a' => after_a(rest),
+        b'd' => after_d(rest),
+        b'e' => after_e(rest),
+        b'f' => after_f(rest),
+        b'i' => after_i(rest),
+        b'm' => after_m(rest),
+        b'n' => after_n(rest),
+        b'o' => after_o(rest),
+        b'p' => after_p(rest),
+        b's' => after_s(rest),
+        b't' => after_t(rest),
+        b'v' => after_v(rest),
+        b'w' => after_w(rest),
         _ => None,
     }
 }

@@ -1,11 +1,11 @@
 // Cutting a network text into tokens.
-ghost use Rattle.std.specs.Prelude.{◌≡◌, ◌≢◌, ◌+◌, ◌<◌, ◌≤◌, ◌==◌, not, length, drop, Ok, Err, Some, [], IfOk, IfSome, IfNone, IsOk};
+ghost use Rattle.std.specs.Prelude.{◌≡◌, ◌≢◌, ◌+◌, ◌-◌, ◌<◌, ◌≤◌, ◌==◌, not, length, drop, Ok, Err, Some, [], IfOk, IfSome, IfNone, IsOk};
 ghost use Rattle.std.specs.List.{prefix_len, All};
 ghost use Rattle.std.specs.Result.{result_err};
 ghost use Rattle.polis_base.specs.declared.token.LexError.{LexError};
 ghost use Rattle.polis_base.specs.Names.{continues_name};
 ghost use Rattle.polis_base.specs.Digits.{is_digit};
-ghost use Rattle.polis_base.specs.Tokens.{tokens_of, fault_of, tokens_after, scan, scan_word, scan_number, scan_sign, begins_with, is_blank, bytes_in, width};
+ghost use Rattle.polis_base.specs.Tokens.{tokens_of, fault_of, tokens_after, mark, marked_after, scan, scan_word, scan_number, scan_sign, begins_with, is_blank, bytes_in, width};
 ghost use Rattle.polis_base.specs.Spans.{IsToken, IsNext, AreInOrder};
 
 use crate::class::{BLANK, DIGIT, HASH, LETTER, ZERO, class_of, continues, is_alone, is_blank};
@@ -13,7 +13,7 @@ use crate::decimal::{is_digit, number_up_to};
 use crate::keyword::keyword_of;
 use crate::limits::NAME_MAX;
 use crate::list::List;
-use crate::token::{Kind, LexError, Sign, Token, Tokens};
+use crate::token::{Keyword, Kind, LexError, Sign, Token, Tokens};
 use std::alloc::Global;
 
 // What the bytes at a place begin with.
@@ -109,26 +109,9 @@ fn scan_of(at: u64, bytes: &[u8]) -> Scan
     }
 }
 
-// The first place from this one on where no blank stands, or the end.
-fn after_blanks(text: &[u8], from: usize) -> usize
-    ensures after { from ≤ result }
-    ensures within { from ≤ length text.now → result ≤ length text.now }
-    ensures same { tokens_after text.now result ≡ tokens_after text.now from }
-{
-    let mut at = from;
-    while at < text.len() {
-        if !is_blank(text[at]) {
-            return at;
-        }
-        at += 1;
-    }
-    at
-}
-
 // The first place from this one on where neither a blank nor such a sign stands, or the end.
 fn after_alone(text: &[u8], from: usize) -> usize
     ensures after { from ≤ result }
-    ensures within { from ≤ length text.now → result ≤ length text.now }
     ensures same { result_err (tokens_after text.now result)
         ≡ result_err (tokens_after text.now from) }
 {
@@ -231,14 +214,13 @@ fn width_at(text: &[u8], at: usize) -> Result<u64, LexError>
     width_of(at as u64, &text[at..])
 }
 
-/// The first token of a text that doesn't read, if there is one. None exactly where the text has
-/// tokens. It takes no memory, and goes over the text once.
-pub fn first_fault(text: &[u8]) -> Option<LexError>
-    ensures fault { result ≡ fault_of text.now }
+/// The first token from a place of a text on that doesn't read, if there is one. None exactly where
+/// all from the place on reads. It takes no memory, and goes over these bytes once.
+pub fn fault_after(text: &[u8], from: u64) -> Option<LexError>
+    ensures fault { result ≡ result_err (tokens_after text.now from) }
     ensures no_memory { result ≢ Some LexError.NoMemory }
-    ensures reads { IfNone result (IsOk (tokens_after text.now 0)) }
 {
-    let mut at = after_alone(text, 0);
+    let mut at = after_alone(text, from as usize);
     while at < text.len() {
         match width_at(text, at) {
             Ok(width) => at = after_alone(text, at + width as usize),
@@ -248,26 +230,43 @@ pub fn first_fault(text: &[u8]) -> Option<LexError>
     None
 }
 
-/// The first token at a place or after it, if one is left, where all from the place on read. It
-/// takes no memory. The token after it is the first from the end of this one on.
+// What stands for the token at a place, which doesn't read.
+fn mark(text: &[u8], at: usize) -> Token
+    requires { at ≤ length text.now }
+    ensures { result ≡ mark at (length text.now - at) }
+{
+    Token {
+        kind: Kind::Keyword(Keyword::KwSettle),
+        at: at as u64,
+        len: (text.len() - at) as u64,
+    }
+}
+
+/// The first token at a place or after it, if one is left. In the place of one that doesn't read
+/// it is `settle`, which no network text has, with all bytes from there on. It takes no memory. The
+/// token after it is the first from the end of this one on.
 #[inline(always)]
 pub fn next_token(text: &[u8], from: u64) -> Option<Token>
-    requires { IsOk (tokens_after text.now from) }
     ensures some { IfSome result (λ token. IsNext text.now from token) }
     ensures none { IfNone result (tokens_after text.now from ≡ Ok []) }
+    ensures none_marked { IfNone result (marked_after text.now from ≡ []) }
 {
-    let mut at = after_blanks(text, from as usize);
+    let mut at = from as usize;
     while at < text.len() {
-        match scan_at(text, at) {
-            Scan::Skipped(len) => at = after_blanks(text, at + len as usize),
-            Scan::Read(kind, len) => {
-                return Some(Token {
-                    kind,
-                    at: at as u64,
-                    len,
-                });
+        if is_blank(text[at]) {
+            at += 1;
+        } else {
+            match scan_at(text, at) {
+                Scan::Skipped(len) => at += len as usize,
+                Scan::Read(kind, len) => {
+                    return Some(Token {
+                        kind,
+                        at: at as u64,
+                        len,
+                    });
+                }
+                Scan::Faulty(_) => return Some(mark(text, at)),
             }
-            Scan::Faulty(_) => unreachable!(),
         }
     }
     None

@@ -21,7 +21,7 @@ mod worked;
 pub use bytes::Bytes;
 pub use decimal::read_decimal;
 pub use host::{Host, Load, Save};
-pub use lex::{first_fault, next_token, tokens};
+pub use lex::{fault_after, next_token, tokens};
 pub use list::{Duplicate, List, Numbers, Places};
 pub use memory::MemoryHost;
 pub use name::Name;

@@ -1,7 +1,7 @@
 // Worked texts: what the definition of tokens says of them.
 ghost use Rattle.std.specs.Prelude.{[], codes};
 ghost use Rattle.polis_base.specs.declared.token.LexError.{LexError};
-ghost use Rattle.polis_base.specs.TokenSamples.{Reads, Fails, zero_zero_seven, zero_to_seven, one_and_x, assign, keyword_and_name, longest_name, largest_number, after_comment, comment_then};
+ghost use Rattle.polis_base.specs.TokenSamples.{Reads, Fails, Meets, name_and_mark, zero_zero_seven, zero_to_seven, one_and_x, assign, keyword_and_name, longest_name, largest_number, after_comment, comment_then};
 
 /// The definition gives the tokens of the worked texts: the longest at each place, and the first
 /// fault.
@@ -19,6 +19,8 @@ pub fn worked_tokens()
     ensures three_dots { Fails (codes "...") (LexError.BadByte 2) }
     ensures bad_byte { Fails (codes "network %") (LexError.BadByte 8) }
     ensures first_fault { Fails (codes "a % 4294967296") (LexError.BadByte 2) }
+    ensures met_up_to_fault { Meets (codes "a .% b+5") name_and_mark }
+    ensures met_whole { Meets (codes "0..7") zero_to_seven }
     ensures comment_ends_at_lf { Reads (comment_then 10) after_comment }
     ensures comment_goes_over_cr { Reads (comment_then 13) [] }
 {}

@@ -11,6 +11,5 @@ loop-at-preserved c =
     let wide = alone_here text at 0 below (sym c.is_alone.ensures ∙ c.if-not-is_alone.false) in
     record {
       after = omega (arith, c.loop-at.invariant.after);
-      within = λ _. omega (arith, below);
       same = sym (fault_on at 1 text wide below (omega arith)) ∙ c.loop-at.invariant.same;
     }

@@ -7,7 +7,6 @@ use Rattle.polis_base.proofs.lex.after_alone.Given as goal
 abbrev pub invariant-loop-at : goal.invariant-loop-at
 invariant-loop-at l = record {
   after : l.from ≤ l.at;
-  within : l.from ≤ length l.text → l.at ≤ length l.text;
   same : result_err (tokens_after l.text l.at) ≡ result_err (tokens_after l.text l.from);
 }
 

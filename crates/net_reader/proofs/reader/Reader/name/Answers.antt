@@ -2,10 +2,10 @@ use Rattle.net_reader.specs.Lexemes.{word_of}
 use Rattle.net_reader.specs.Reading.{word_at}
 use Rattle.net_reader.proofs.Steps.{next_none, next_some, next_long}
 use Rattle.std.proofs.Common.{sym}
-use Rattle.net_reader.proofs.reader.Reader.word.Goals as goal
+use Rattle.net_reader.proofs.reader.Reader.name.Goals as goal
 
 pub skip-requires : goal.skip-requires
-skip-requires c = next_long word_of c.args.self.now c.in-Some.word (sym c.in-Some.ensures)
+skip-requires c = next_long word_of c.args.self.now c.in-Some.name (sym c.in-Some.ensures)
 
 pub returns-in-None : goal.returns-in-None
 unfolding word_at
@@ -14,4 +14,4 @@ returns-in-None c = next_none word_of c.args.self.now (sym c.in-None.ensures)
 pub returns-in-Some : goal.returns-in-Some
 unfolding word_at
 returns-in-Some c =
-    rw c.skip.ensures (next_some word_of c.args.self.now c.in-Some.word (sym c.in-Some.ensures))
+    rw c.skip.ensures (next_some word_of c.args.self.now c.in-Some.name (sym c.in-Some.ensures))

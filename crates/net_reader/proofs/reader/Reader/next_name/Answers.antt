@@ -2,10 +2,10 @@ use Rattle.net_reader.specs.Lexemes.{word_of}
 use Rattle.net_reader.specs.Pieces.{seen}
 use Rattle.net_reader.proofs.Steps.{head_next, no_next}
 use Rattle.std.proofs.Common.{◌∙◌}
-use Rattle.net_reader.proofs.reader.Reader.next_word.Goals as goal
+use Rattle.net_reader.proofs.reader.Reader.next_name.Goals as goal
 
 pub returns-in-Some : goal.returns-in-Some
-returns-in-Some c = c.word_of.ensures
+returns-in-Some c = c.name_of.ensures
     ∙ head_next word_of c.args.self.now (seen c.in-Some.piece) c.in-Some.ensures.seen
 
 pub returns-in-None : goal.returns-in-None

@@ -12,6 +12,10 @@ sooner-None : (a : Option ℕ) → sooner a None ≡ a
 sooner-None None = refl
 sooner-None (Some a) = refl
 
+-- nothing is at fault
+pub found-none : (found : Option ℕ) (ps : List ℕ) → ps ≡ [] → found ≡ sooner found (least ps)
+found-none found ps none = sym (sooner-None found) ∙ ap (λ l. sooner found (least l)) (sym none)
+
 min-assoc : (a b c : ℕ) → min (min a b) c ≡ min a (min b c)
 min-assoc a b c = grind arith
 
@@ -38,7 +42,7 @@ pub sooner-unless : (found : Option ℕ) (place : ℕ) (test : Bool)
 sooner-unless found place true = sooner-None found
 sooner-unless found place false = refl
 
-item-first : {X : Type 0} (xs : List X) (i : ℕ) (x : X) → i < length xs → x ≡ get_or xs i x
+pub item-first : {X : Type 0} (xs : List X) (i : ℕ) (x : X) → i < length xs → x ≡ get_or xs i x
     → drop i xs ≡ x ∷ drop (i + 1) xs
 item-first xs i x below at = drop_more xs i x below ∙ ap (λ y. y ∷ drop (i + 1) xs) (sym at)
 

@@ -3,3 +3,4 @@ pub mod Least
 pub mod Moved
 pub mod Parts
 pub mod Plain
+pub mod Repeats

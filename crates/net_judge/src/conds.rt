@@ -1,7 +1,8 @@
 // The rules on conditions, in one walk.
-ghost use Rattle.std.specs.Prelude.{◌≡◌, flat_map, option_copied, IfOk};
+ghost use Rattle.std.specs.Prelude.{◌≡◌, [], flat_map, option_copied, IsTrue, IfOk};
 ghost use Rattle.net_reader.specs.declared.raw.RawRow.{RawRow as Row};
 ghost use Rattle.net_names.specs.Places.{sooner, least};
+ghost use Rattle.net_names.specs.Numbers.{names_of, number_in};
 ghost use Rattle.net_names.specs.Values.{no_value};
 ghost use Rattle.net_names.specs.Scopes.{cond_word, var_words};
 ghost use Rattle.net_names.specs.Locals.{AreLocals};
@@ -9,7 +10,9 @@ ghost use Rattle.net_names.specs.Vars.{IsVar, AreVars};
 ghost use Rattle.net_names.specs.declared.local.Local.{Local as Numbered};
 ghost use Rattle.net_judge.specs.Rules.{unknown, unsuited, wrong_values, rule_15, rule_16, rule_17};
 
-use net_names::{Local, Var, cond_word, no_value, unless, var_numbered, var_of, vars_of};
+use net_names::{
+    Local, Var, cond_name, cond_word, no_value, unless, var_numbered, var_of, vars_of,
+};
 use net_reader::{RawCond, RawNet, RawRow, RawShape, RawValue};
 use polis_base::{List, NoMemory};
 use std::alloc::Global;
@@ -77,15 +80,63 @@ fn judge_cond<'s, 'a>(
     }
 }
 
-// One more condition.
+// Whether a condition asks for the presence or the absence of an input, as breaks no rule. It is
+// tested before the places are looked at, since most conditions are of this kind.
+fn keeps<'s, 'a>(local: &Local<'s, 'a>, var: &Var<'a>, cond: &RawCond) -> bool
+    requires { IsVar local.now.scope.now.raw.now local.now.machine.now (cond_word cond.now).name
+        var.now }
+    ensures unknown { IsTrue result → unknown local.now.machine.now cond.now ≡ [] }
+    ensures unsuited { IsTrue result
+        → unsuited local.now.scope.now.raw.now local.now.machine.now cond.now ≡ [] }
+    ensures valueless { IsTrue result
+        → wrong_values local.now.scope.now.raw.now local.now.machine.now cond.now ≡ [] }
+{
+    match cond {
+        RawCond::Present(_) => var.is_known && var.is_input,
+        RawCond::Absent(_) => var.is_known && var.is_input,
+        RawCond::Is { .. } => false,
+        RawCond::OneOf { .. } => false,
+    }
+}
+
+// Whether a condition whose name has this number is of that kind.
+fn is_kept<'s, 'a>(
+    local: &Local<'s, 'a>,
+    vars: &List<Var<'a>>,
+    cond: &RawCond,
+    number: Option<u64>,
+) -> bool
+    requires vars { AreVars local.now.scope.now.raw.now local.now.machine.now
+        (var_words local.now.machine.now) vars.now }
+    requires number { number
+        ≡ number_in (names_of (var_words local.now.machine.now)) (cond_word cond.now).name }
+    ensures unknown { IsTrue result → unknown local.now.machine.now cond.now ≡ [] }
+    ensures unsuited { IsTrue result
+        → unsuited local.now.scope.now.raw.now local.now.machine.now cond.now ≡ [] }
+    ensures valueless { IsTrue result
+        → wrong_values local.now.scope.now.raw.now local.now.machine.now cond.now ≡ [] }
+{
+    match number {
+        Some(number) => {
+            let var = var_numbered(local, vars, cond_word(cond).name, number);
+            keeps(local, var, cond)
+        }
+        None => false,
+    }
+}
+
+// One more condition, whose name has this number.
 fn in_cond<'s, 'a>(
     local: &Local<'s, 'a>,
     vars: &List<Var<'a>>,
     cond: &RawCond,
+    number: Option<u64>,
     found: CondFaults,
 ) -> CondFaults
-    requires { AreVars local.now.scope.now.raw.now local.now.machine.now
+    requires vars { AreVars local.now.scope.now.raw.now local.now.machine.now
         (var_words local.now.machine.now) vars.now }
+    requires number { number
+        ≡ number_in (names_of (var_words local.now.machine.now)) (cond_word cond.now).name }
     ensures unknown { result.unknown ≡ sooner found.unknown (least (unknown local.now.machine.now
         cond.now)) }
     ensures unsuited { result.unsuited
@@ -96,7 +147,7 @@ fn in_cond<'s, 'a>(
         (least (wrong_values local.now.scope.now.raw.now local.now.machine.now cond.now)) }
 {
     let word = cond_word(cond);
-    match local.var(word.name) {
+    match number {
         Some(number) => {
             let var = var_numbered(local, vars, word.name, number);
             judge_cond(local, var, cond, found)
@@ -105,6 +156,14 @@ fn in_cond<'s, 'a>(
             let var = var_of(local, word.name);
             judge_cond(local, &var, cond, found)
         }
+    }
+}
+
+// The number that the next condition's name is likely to have.
+fn after(number: Option<u64>) -> u64 {
+    match number {
+        Some(number) => number.saturating_add(1),
+        None => 0,
     }
 }
 
@@ -128,8 +187,13 @@ fn in_conds<'s, 'a>(
         conds.now)) }
 {
     let mut found = found;
+    let mut first = 0;
     for cond in conds {
-        found = in_cond(local, vars, cond, found);
+        let number = local.var_from(first, cond_name(cond));
+        first = after(number);
+        if !is_kept(local, vars, cond, number) {
+            found = in_cond(local, vars, cond, number, found);
+        }
     }
     found
 }

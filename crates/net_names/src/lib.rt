@@ -16,7 +16,9 @@ pub use counts::{count_at, event_codes, value_count};
 pub use gather::{Gather, append, gather_all, gather_into};
 pub use local::{Local, no_value};
 pub use locals::locals_of;
-pub use names::{cond_word, domain_words, event_words, machine_words, state_words, var_words};
+pub use names::{
+    cond_name, cond_word, domain_words, event_words, machine_words, state_words, var_words,
+};
 pub use places::{sooner, unless};
 pub use scope::Scope;
 pub use table::{Table, number_all};

@@ -155,12 +155,34 @@ impl<'s, 'a> Local<'s, 'a> {
         self.vars.number(name)
     }
 
+    /// The number of a variable by its name, if it is one. The variable of this number and the next
+    /// two are tried first.
+    pub fn var_from(&self, first: u64, name: &Name) -> Option<u64>
+        ensures { result
+            ≡ number_in (names_of (self.now.machine.now.inputs
+            ++ state_words self.now.machine.now)) name.now }
+    {
+        self.vars.number_from(first, name)
+    }
+
     /// The number of a variable by its name, 0 where it is none.
     pub fn var_number(&self, name: Name) -> u64
         ensures { result
             ≡ number (self.now.machine.now.inputs ++ state_words self.now.machine.now) name }
     {
         match self.vars.number(name) {
+            Some(number) => number,
+            None => 0,
+        }
+    }
+
+    /// The number of a variable by its name, 0 where it is none. The variable of this number and the
+    /// next two are tried first.
+    pub fn var_number_from(&self, first: u64, name: &Name) -> u64
+        ensures { result
+            ≡ number (self.now.machine.now.inputs ++ state_words self.now.machine.now) name.now }
+    {
+        match self.vars.number_from(first, name) {
             Some(number) => number,
             None => 0,
         }

@@ -4,7 +4,7 @@ ghost use Rattle.net_names.specs.Scopes.{domain_words, event_words, machine_word
 
 use crate::gather::{Gather, append, gather_all};
 use net_reader::{RawCond, RawDomain, RawEvent, RawMachine, RawNet, RawState, Word};
-use polis_base::{List, NoMemory};
+use polis_base::{List, Name, NoMemory};
 use std::alloc::Global;
 
 struct DomainName;
@@ -93,5 +93,17 @@ pub fn cond_word(cond: &RawCond) -> Word
     match cond {
         RawCond::Present(name) | RawCond::Absent(name) => *name,
         RawCond::Is { name, .. } | RawCond::OneOf { name, .. } => *name,
+    }
+}
+
+/// The name that a condition is about, where it stands.
+pub fn cond_name(cond: &RawCond) -> &Name
+    ensures { result.now ≡ (cond_word cond.now).name }
+{
+    match cond {
+        RawCond::Present(word) => &word.name,
+        RawCond::Absent(word) => &word.name,
+        RawCond::Is { name: word, .. } => &word.name,
+        RawCond::OneOf { name: word, .. } => &word.name,
     }
 }

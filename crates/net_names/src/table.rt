@@ -18,6 +18,9 @@ use std::alloc::Global;
 use std::hash::{Hash, Hasher};
 use std::marker::Model;
 
+// How many entries are tried from a given one on.
+const NEAR: u64 = 3;
+
 // A name as a key.
 #[derive(Drop)]
 struct Key {
@@ -99,12 +102,12 @@ impl Table {
         }
     }
 
-    // The number of the name, if it is that of the entry that its slot gives.
-    fn likely_number(&self, name: &Name) -> Option<u64>
+    // The number of the name, if it is that of the entry at this place.
+    #[inline(always)]
+    fn number_here(&self, place: usize, name: &Name) -> Option<u64>
         ensures { IfSome result (λ number. number_at self.now name.now ≡ Some number) }
     {
-        let place = self.likely[slot(name.bytes())];
-        match self.numbers.get_index(usize::from(place)) {
+        match self.numbers.get_index(place) {
             Some((key, number)) => {
                 if is_same(name, &key.name) {
                     Some(*number)
@@ -116,14 +119,37 @@ impl Table {
         }
     }
 
+    // The number of the name. The entry that its slot gives is tried before it is hashed.
+    fn number_by_slot(&self, name: &Name) -> Option<u64>
+        ensures { result ≡ number_at self.now name.now }
+    {
+        let place = self.likely[slot(name.bytes())];
+        match self.number_here(usize::from(place), name) {
+            Some(number) => Some(number),
+            None => self.numbers.get(&Key { name: *name }).copied(),
+        }
+    }
+
+    /// The number of a name, if it has one. The entries at this place and at the next two are tried
+    /// first, since names are often used in the order in which they are declared.
+    pub fn number_from(&self, first: u64, name: &Name) -> Option<u64>
+        ensures { result ≡ number_at self.now name.now }
+    {
+        for near in 0..NEAR {
+            let place = first.saturating_add(near) as usize;
+            if let Some(number) = self.number_here(place, name) {
+                return Some(number);
+            }
+        }
+        self.number_by_slot(name)
+    }
+
     /// The number of a name, if it has one.
+    #[inline(always)]
     pub fn number(&self, name: Name) -> Option<u64>
         ensures { result ≡ number_at self.now name }
     {
-        match self.likely_number(&name) {
-            Some(number) => Some(number),
-            None => self.numbers.get(&Key { name }).copied(),
-        }
+        self.number_by_slot(&name)
     }
 
     pub fn has(&self, name: Name) -> bool

@@ -8,13 +8,13 @@ ghost use Rattle.net_judge.specs.Rules.{source_of};
 ghost use Rattle.net_names.specs.Numbers.{is_name_of, number};
 ghost use Rattle.net_names.specs.Values.{value_in, count_of};
 ghost use Rattle.net_names.specs.Vars.{IsVar, AreVars};
-ghost use Rattle.net_names.specs.Scopes.{state_words, cond_word, var_sizes, var_words};
+ghost use Rattle.net_names.specs.Scopes.{event_domain, state_words, cond_word, var_sizes, var_words};
 ghost use Rattle.net_rules.specs.Networks.{value_number, code_of, allows, cond_of, act_of, source_in, emission_source, IsRowOf};
 ghost use Rattle.net_rules.specs.Sound.{Each, IsSound, IsSoundMachine, IsSoundRow, amount_of};
 
 use crate::codes::{below, value_or_zero, with_code};
 use domains::VarTable;
-use net_names::{Local, Scope, Var, cond_word, var_numbered};
+use net_names::{Local, Scope, Var, cond_name, cond_word, var_numbered};
 use net_reader::{RawAct, RawCond, RawRow, RawShape, RawSource, RawValue, Word};
 use polis_base::{List, Name, NoMemory};
 use std::alloc::Global;
@@ -109,12 +109,13 @@ fn allowed(local: &Local, var: &Var, cond: &RawCond) -> u64
     }
 }
 
-// A condition on a variable of the machine.
+// A condition on the variable of the machine that has this number.
 fn cond_of<'s, 'a>(
     local: &Local<'s, 'a>,
     known: &List<Var<'a>>,
     vars: &VarTable,
     cond: &RawCond,
+    var_number: u64,
 ) -> Cond
     requires sound { IsSound local.now.scope.now.raw.now }
     requires variables { AreVars local.now.scope.now.raw.now local.now.machine.now
@@ -123,14 +124,15 @@ fn cond_of<'s, 'a>(
     requires kept { IsSoundMachine local.now.scope.now.raw.now local.now.machine.now }
     requires known { is_name_of (local.now.machine.now.inputs ++ state_words local.now.machine.now)
         (cond_word cond.now).name ≡ true }
+    requires number { var_number
+        ≡ number (local.now.machine.now.inputs ++ state_words local.now.machine.now)
+        (cond_word cond.now).name }
     ensures { result ≡ cond_of local.now.scope.now.raw.now local.now.machine.now cond.now }
 {
-    let name = cond_word(cond).name;
-    let number = local.var_number(name);
-    let var = var_numbered(local, known, name, number);
-    let size = u64::from(*vars.get(number));
+    let var = var_numbered(local, known, cond_word(cond).name, var_number);
+    let size = u64::from(*vars.get(var_number));
     Cond {
-        var: number as u32,
+        var: var_number as u32,
         codes: below(allowed(local, var, cond), size),
     }
 }
@@ -154,8 +156,11 @@ fn conds_of<'s, 'a>(
         ≡ map (cond_of local.now.scope.now.raw.now local.now.machine.now) conds.now) }
 {
     let mut made = CondList::with_room(alloc, conds.len() as u64)?;
+    let mut first = 0;
     for cond in conds {
-        made.push(cond_of(local, known, vars, cond))?;
+        let number = local.var_number_from(first, cond_name(cond));
+        first = number.saturating_add(1);
+        made.push(cond_of(local, known, vars, cond, number))?;
     }
     Ok(made)
 }
@@ -177,16 +182,17 @@ fn source_in(local: &Local, domain: &Option<Word>, source: &RawSource) -> Source
     }
 }
 
-// Where an emission takes its code from.
-fn emission_source(local: &Local, domain: &Option<Word>, source: &Option<RawSource>) -> Source
+// Where an emission of an event takes its code from.
+fn emission_source(local: &Local, event: &Word, source: &Option<RawSource>) -> Source
     requires sound { IsSound local.now.scope.now.raw.now }
     requires kept { IsSoundMachine local.now.scope.now.raw.now local.now.machine.now }
     requires small { amount_of source.now ≤ 255 }
-    ensures { result ≡ emission_source local.now.scope.now.raw.now local.now.machine.now domain.now
-        source.now }
+    ensures { result
+        ≡ emission_source local.now.scope.now.raw.now local.now.machine.now
+        (event_domain local.now.scope.now.raw.now event.now.name) source.now }
 {
     match source {
-        Some(source) => source_in(local, domain, source),
+        Some(source) => source_in(local, &local.scope.event_domain(event.name), source),
         None => Source::Code(1),
     }
 }
@@ -218,13 +224,10 @@ fn act_of(local: &Local, act: &RawAct) -> Act
     ensures { result ≡ act_of local.now.scope.now.raw.now local.now.machine.now act.now }
 {
     match act {
-        RawAct::Emit { name, value } => {
-            let domain = local.scope.event_domain(name.name);
-            Act {
-                result: output_result(local, name.name),
-                source: emission_source(local, &domain, value),
-            }
-        }
+        RawAct::Emit { name, value } => Act {
+            result: output_result(local, name.name),
+            source: emission_source(local, name, value),
+        },
         RawAct::Set { name, value } => {
             let domain = local.state_domain(name.name);
             Act {

@@ -1,18 +1,44 @@
+use Rattle.std.proofs.Common.{◌≡◌, ◌∙◌, ap}
+use Rattle.net_names.specs.Places.{sooner, least}
+use Rattle.net_judge.specs.declared.conds.CondFaults.{CondFaults}
 use Rattle.net_judge.specs.Rules.{unknown, unsuited, wrong_values}
-use Rattle.net_judge.proofs.Least.{found-more}
+use Rattle.net_judge.proofs.Least.{found-more, found-none}
 use Rattle.net_judge.proofs.conds.in_conds.Goals as goal
+use Rattle.net_judge.proofs.conds.in_conds.Goals.{then-not-is_kept, else-not-is_kept}
 
 pub loop-cond-preserved : goal.loop-cond-preserved
-loop-cond-preserved c = (
-  found-more (unknown c.args.local.now.machine.now) c.args.conds.now c.loop-cond.cond-index
-      c.cond-item.result c.loop-cond.found.unknown c.in_cond-found.result.unknown _
-      c.loop-cond-test.true c.cond-item.is c.in_cond-found.ensures.unknown c.loop-cond.invariant.0,
-  found-more (unsuited c.args.local.now.scope.now.raw.now c.args.local.now.machine.now)
-      c.args.conds.now c.loop-cond.cond-index c.cond-item.result c.loop-cond.found.unsuited
-      c.in_cond-found.result.unsuited _ c.loop-cond-test.true c.cond-item.is
-      c.in_cond-found.ensures.unsuited c.loop-cond.invariant.1,
-  found-more (wrong_values c.args.local.now.scope.now.raw.now c.args.local.now.machine.now)
-      c.args.conds.now c.loop-cond.cond-index c.cond-item.result c.loop-cond.found.valueless
-      c.in_cond-found.result.valueless _ c.loop-cond-test.true c.cond-item.is
-      c.in_cond-found.ensures.valueless c.loop-cond.invariant.2,
-)
+loop-cond-preserved c =
+    let net = c.args.local.now.scope.now.raw.now in
+    let m = c.args.local.now.machine.now in
+    let cond = c.cond-item.result in
+    let found = c.loop-cond.found in
+    let next = c.if-not-is_kept.found in
+    let kept = c.is_kept.ensures in
+    let first : next.unknown ≡ sooner found.unknown (least (unknown m cond)) =
+    elim c.if-not-is_kept.branch [
+      | then-not-is_kept w ↦ ap (λ (f : CondFaults). f.unknown) w.found-is
+          ∙ w.in_cond-found.ensures.unknown
+      | else-not-is_kept w ↦ ap (λ (f : CondFaults). f.unknown) w.found-is
+          ∙ found-none found.unknown _ (kept.unknown w.if-not-is_kept.false)
+    ] in
+    let second : next.unsuited ≡ sooner found.unsuited (least (unsuited net m cond)) =
+    elim c.if-not-is_kept.branch [
+      | then-not-is_kept w ↦ ap (λ (f : CondFaults). f.unsuited) w.found-is
+          ∙ w.in_cond-found.ensures.unsuited
+      | else-not-is_kept w ↦ ap (λ (f : CondFaults). f.unsuited) w.found-is
+          ∙ found-none found.unsuited _ (kept.unsuited w.if-not-is_kept.false)
+    ] in
+    let third : next.valueless ≡ sooner found.valueless (least (wrong_values net m cond)) =
+    elim c.if-not-is_kept.branch [
+      | then-not-is_kept w ↦ ap (λ (f : CondFaults). f.valueless) w.found-is
+          ∙ w.in_cond-found.ensures.valueless
+      | else-not-is_kept w ↦ ap (λ (f : CondFaults). f.valueless) w.found-is
+          ∙ found-none found.valueless _ (kept.valueless w.if-not-is_kept.false)
+    ] in (
+      found-more (unknown m) c.args.conds.now c.loop-cond.cond-index cond found.unknown
+          next.unknown _ c.loop-cond-test.true c.cond-item.is first c.loop-cond.invariant.0,
+      found-more (unsuited net m) c.args.conds.now c.loop-cond.cond-index cond found.unsuited
+          next.unsuited _ c.loop-cond-test.true c.cond-item.is second c.loop-cond.invariant.1,
+      found-more (wrong_values net m) c.args.conds.now c.loop-cond.cond-index cond found.valueless
+          next.valueless _ c.loop-cond-test.true c.cond-item.is third c.loop-cond.invariant.2,
+    )

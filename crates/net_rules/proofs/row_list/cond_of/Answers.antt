@@ -3,7 +3,7 @@ use Rattle.std.proofs.lemmas.Option.{get_or_from_slice_get}
 use Rattle.net_reader.specs.declared.raw.Word.{Word}
 use Rattle.net_names.specs.Scopes.{cond_word, state_words, var_sizes}
 use Rattle.net_rules.specs.Networks.{allows, bits_where}
-use Rattle.net_names.specs.Numbers.{names_of, number_in, number}
+use Rattle.net_names.specs.Numbers.{names_of, number_in}
 use Rattle.net_names.specs.Vars.{IsVar}
 use Rattle.net_rules.proofs.Acts.{in-range, has-it}
 use Rattle.net_rules.proofs.Bits.{vars-count, size-few}
@@ -14,8 +14,7 @@ pub get-requires : goal.get-requires
 get-requires c =
     let raw = c.args.local.now.scope.now.raw.now in
     let m = c.args.local.now.machine.now in
-    let is = c.var_number-number.ensures
-    ∙ ap (λ (w : Word). number (m.inputs ++ state_words m) w.name) c.cond_word-name.ensures in
+    let is = c.requires.number in
     omega (
       arith,
       is,
@@ -29,8 +28,7 @@ pub overflow_cast-result : goal.overflow_cast-result
 overflow_cast-result c =
     let raw = c.args.local.now.scope.now.raw.now in
     let m = c.args.local.now.machine.now in
-    let is = c.var_number-number.ensures
-    ∙ ap (λ (w : Word). number (m.inputs ++ state_words m) w.name) c.cond_word-name.ensures in
+    let is = c.requires.number in
     omega (
       arith,
       is,
@@ -47,9 +45,9 @@ below-requires c =
     omega (
       arith,
       c.from-size.ensures,
-      size-few (var_sizes raw m) c.var_number-number.result c.get.result.now
+      size-few (var_sizes raw m) c.args.var_number c.get.result.now
           (sizes-fit raw m c.requires.sound c.requires.kept)
-          (ap (λ l. slice_get l c.var_number-number.result) (sym c.requires.vars) ∙ c.get.ensures),
+          (ap (λ l. slice_get l c.args.var_number) (sym c.requires.vars) ∙ c.get.ensures),
     )
 
 pub returns : goal.returns
@@ -57,13 +55,12 @@ returns c =
     let raw = c.args.local.now.scope.now.raw.now in
     let m = c.args.local.now.machine.now in
     let q = c.args.cond.now in
-    let is = c.var_number-number.ensures
-    ∙ ap (λ (w : Word). number (m.inputs ++ state_words m) w.name) c.cond_word-name.ensures in
-    let few = size-few (var_sizes raw m) c.var_number-number.result c.get.result.now
+    let is = c.requires.number in
+    let few = size-few (var_sizes raw m) c.args.var_number c.get.result.now
     (sizes-fit raw m c.requires.sound c.requires.kept)
-    (ap (λ l. slice_get l c.var_number-number.result) (sym c.requires.vars) ∙ c.get.ensures) in
+    (ap (λ l. slice_get l c.args.var_number) (sym c.requires.vars) ∙ c.get.ensures) in
     let size = c.from-size.ensures ∙ sym
-    (get_or_from_slice_get c.args.vars.now c.var_number-number.result c.get.result.now 0
+    (get_or_from_slice_get c.args.vars.now c.args.var_number c.get.result.now 0
     c.get.ensures) ∙ (λ i. slice_index (c.requires.vars i) (is i)) in
     let codes = c.below.ensures (allows raw m q)
     (λ k h. c.allowed.ensures k (omega (arith, h, few, c.from-size.ensures)))
@@ -73,13 +70,12 @@ returns c =
 pub var_numbered-var-requires-clause-number : goal.var_numbered-var-requires-clause-number
 var_numbered-var-requires-clause-number c =
     let m = c.args.local.now.machine.now in
-    let name = ap (λ (w : Word). w.name) c.cond_word-name.ensures in
-    ap (number_in (names_of (m.inputs ++ state_words m))) name
+    ap (λ (w : Word). number_in (names_of (m.inputs ++ state_words m)) w.name) c.cond_word.ensures
     ∙ has-it (m.inputs ++ state_words m) (cond_word c.args.cond.now).name c.requires.known
-    ∙ ap Some (sym (c.var_number-number.ensures ∙ ap (number (m.inputs ++ state_words m)) name))
+    ∙ ap Some (sym c.requires.number)
 
 pub allowed-requires-clause-var : goal.allowed-requires-clause-var
 allowed-requires-clause-var c =
-    subst (λ n. IsVar c.args.local.now.scope.now.raw.now c.args.local.now.machine.now n
-    c.var_numbered-var.result.now) (ap (λ (w : Word). w.name) c.cond_word-name.ensures)
+    subst (λ (w : Word). IsVar c.args.local.now.scope.now.raw.now c.args.local.now.machine.now
+    w.name c.var_numbered-var.result.now) c.cond_word.ensures
     c.var_numbered-var.ensures

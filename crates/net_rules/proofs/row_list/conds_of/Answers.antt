@@ -1,3 +1,6 @@
+use Rattle.std.proofs.Common.{◌∙◌, ◌++◌, ap}
+use Rattle.net_names.specs.Numbers.{number}
+use Rattle.net_names.specs.Scopes.{state_words}
 use Rattle.net_rules.specs.Networks.{cond_of}
 use Rattle.net_rules.proofs.Zips.{map-step}
 use Rattle.net_rules.proofs.row_list.conds_of.Goals as goal
@@ -8,3 +11,8 @@ loop-cond-preserved c =
     c.args.conds.now c.loop-cond.cond-index c.cond-item.result c.loop-cond.made c.push.new.self
     c.cond_of.result c.loop-cond-test.true c.cond-item.is c.in_ok-push.ensures.ok c.cond_of.ensures
     c.loop-cond.invariant
+
+pub cond_of-requires-clause-number : goal.cond_of-requires-clause-number
+cond_of-requires-clause-number c =
+    let m = c.args.local.now.machine.now in
+    c.var_number_from-number.ensures ∙ ap (number (m.inputs ++ state_words m)) c.cond_name.ensures

@@ -4,11 +4,11 @@ use Rattle.net_names.specs.Numbers.{missing, repeated, no_name}
 use Rattle.net_names.specs.Scopes.{state_words}
 use Rattle.net_judge.specs.Rules.{emitted, set_names, not_once}
 use Rattle.net_judge.proofs.Least.{IfOk-same, sooner-least}
-use Rattle.net_judge.proofs.targets.TargetsCheckRawRow.check.Goals as goal
+use Rattle.net_judge.proofs.targets.in_many.Goals as goal
 
 pub returns : goal.returns
 returns c =
-    let m = c.args.self.now.local.now.machine.now in
+    let m = c.args.local.now.machine.now in
     let acts = c.args.row.now.acts in
     let emits = not_once m.outputs (flat_map emitted acts) in
     let sets = not_once (state_words m) (flat_map set_names acts) in

@@ -1,5 +1,5 @@
 -- What the tests know of the sample networks.
-use Rattle.std.specs.Prelude.{◌≡◌, ℕ, zero, suc, ◌≤◌, true, false, ◌==◌, Bool, cond, filter, nat_le, List, [], ◌∷◌, ◌++◌, length, slice_get, Some, IsTrue}
+use Rattle.std.specs.Prelude.{◌≡◌, ℕ, zero, suc, ◌≤◌, false, ◌==◌, Bool, cond, filter, nat_le, List, [], ◌∷◌, ◌++◌, length, slice_get, Some, IsTrue}
 use Rattle.std.specs.List.{list_all}
 use Rattle.std.proofs.Common.{refl, sym, ap, subst, arith}
 use Rattle.std.proofs.lemmas.Bool.{false≢true, ne_eqb, leb-true, and_parts}
@@ -7,7 +7,7 @@ use Rattle.transition_table.specs.Laws.{OneRow}
 use Rattle.transition_table.specs.SampleJoin.{join}
 use Rattle.transition_table.specs.SampleTwo.{two}
 use Rattle.transition_table.specs.Transitions.{AreDeterministic}
-use Rattle.transition_table.specs.declared.decl.Party.TheVariants.{Env, Machine as Sender}
+use Rattle.transition_table.specs.declared.decl.Party.TheVariants.{Env}
 use Rattle.transition_table.specs.declared.machine.Machine.{Machine}
 use Rattle.transition_table.specs.declared.network.Network.{Network}
 use Rattle.journals.specs.declared.entry.Entry.{Entry}

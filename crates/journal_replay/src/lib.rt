@@ -4,5 +4,5 @@
 mod adoption;
 mod judge;
 
-pub use adoption::{adopt, adopt_on};
+pub use adoption::adopt;
 pub use judge::{Verdict, replay, replay_stamped};

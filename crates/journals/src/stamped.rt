@@ -74,6 +74,13 @@ impl LogList {
         &self.items
     }
 
+    /// The logs as a vector.
+    pub fn into_vec(self) -> Vec<Log>
+        ensures { result.items ≡ self }
+    {
+        self.items
+    }
+
     /// The log of a machine.
     pub fn get(&self, m: u32) -> &Log
         requires { m < length self.now }

@@ -6,7 +6,7 @@ ghost use Rattle.worker_core.specs.Merges.{merged};
 ghost use Rattle.worker_core.specs.Turns.{Took, IsStill, IsStopped, IsWhole, adds_entry};
 
 use crate::law::core_laws;
-use crate::merging::merge;
+use crate::merging::merge_logs;
 use crate::running::Core;
 use journals::{CoreStep, Journal, Trace};
 use polis_base::NoMemory;
@@ -108,11 +108,12 @@ fn turn<'a, R: Reactor>(
 }
 
 // The merge of a core's logs.
-fn merged_logs<'a>(alloc: Global, core: &Core<'a>) -> Result<Journal, NoMemory>
-    ensures legal { IfOk result (λ j. Legal core.now.net core.now.trace j) }
-    ensures merge { IfOk result (λ j. j ≡ merged core.now.state.logs) }
+fn merged_logs<'a>(alloc: Global, core: Core<'a>) -> Result<Journal, NoMemory>
+    ensures legal { IfOk result (λ j. Legal core.entry.net core.entry.trace j) }
+    ensures merge { IfOk result (λ j. j ≡ merged core.entry.state.logs) }
 {
-    match merge(alloc, core.logs()) {
+    core.logs();
+    match merge_logs(alloc, core.into_logs()) {
         Ok(journal) => Ok(journal),
         Err(fault) => Err(fault),
     }
@@ -139,17 +140,17 @@ fn run_alone<R: Reactor>(
     let mut machine = 0;
     for _ in 0..2 * count {
         if made == count {
-            return merged_logs(alloc, &core);
+            return merged_logs(alloc, core);
         }
         match turn(&mut core, r, machine)? {
             Some(step) => {
                 made += added_by(step);
                 machine = taken_by(step, machine);
             }
-            None => return merged_logs(alloc, &core),
+            None => return merged_logs(alloc, core),
         }
     }
-    merged_logs(alloc, &core)
+    merged_logs(alloc, core)
 }
 
 /// Takes steps until there are `count` entries or no step can be taken, and gives the merge of

@@ -14,7 +14,7 @@ mod worked;
 pub use alone::core_alone;
 pub use journals::{CoreStep, Log, LogList, MAX_STAMP, Stamped};
 pub use law::core_laws;
-pub use merging::merge;
+pub use merging::{merge, merge_logs};
 pub use running::{Core, core_run};
 pub use state::{Hand, Queue};
 pub use worked::core_rows;

@@ -115,6 +115,13 @@ impl<'a> Core<'a> {
         core_laws();
         &self.parts.logs
     }
+
+    // Gives the logs up.
+    pub(crate) fn into_logs(self) -> LogList
+        ensures { result ≡ self.entry.state.logs }
+    {
+        self.parts.logs
+    }
 }
 
 // Takes the steps in order, and skips those that can't be taken.

@@ -6,7 +6,7 @@ use Rattle.std.proofs.lemmas.List.{length-take}
 use Rattle.transition_table.specs.declared.network.Network.{Network}
 use Rattle.journals.specs.declared.entry.Entry.{Entry}
 use Rattle.journals.specs.declared.entry.TraceItem.{TraceItem}
-use Rattle.journal_replay.specs.Verdicts.{IsAdopted}
+use Rattle.net_core.specs.Prefixes.{IsAdopted}
 
 -- no more than the journal has, and than the limit
 pub adopted_most : (net : Network) (trace : List TraceItem) (journal : List Entry) (limit : ℕ)

@@ -2,13 +2,12 @@
 ghost use Rattle.std.specs.Prelude.{◌≡◌, ◌≤◌, ◌/◌, length, min, IfOk};
 ghost use Rattle.journals.specs.Journals.{IsTrace};
 ghost use Rattle.journals.specs.Legality.{Legal};
-ghost use Rattle.journal_replay.specs.Verdicts.{IsAdopted};
+ghost use Rattle.net_core.specs.Prefixes.{IsAdopted};
 ghost use Rattle.worker_core.specs.Merges.{merged};
 ghost use Rattle.worker_run.specs.Gathered.{AreAlone, IsEnough};
 
 use crate::logs::gather_logs;
 use event_buffer::Gate;
-use journal_replay::adopt_on;
 use journals::{Journal, LogList, Trace, laws};
 use net_core::Config;
 use polis_base::NoMemory;
@@ -16,7 +15,7 @@ use std::alloc::Global;
 use std::sync::Wait;
 use std::thread::Threads;
 use transition_table::{Network, Reactor};
-use worker_core::{core_alone, merge};
+use worker_core::{core_alone, merge_logs};
 
 /// What the workers gathered.
 #[derive(Drop)]
@@ -43,26 +42,27 @@ fn smaller(a: u64, b: u64) -> u64
     if a < b { a } else { b }
 }
 
-// The merge of logs that are legal by themselves, up to the limit and as far as it is legal.
+// The merge of logs that are legal by themselves, up to the limit and as far as it is legal. The
+// entries are moved, and none is copied.
 fn adopt_merge<'a>(
     alloc: Global,
     net: &'a Network,
     trace: &'a Trace,
-    logs: &LogList,
+    logs: LogList,
     limit: u64,
 ) -> Result<GatheredOn<'a>, NoMemory>
     requires trace { IsTrace net.now trace.now }
-    requires alone { AreAlone net.now logs.now }
+    requires alone { AreAlone net.now logs }
     ensures adopted { IfOk result (λ x.
-        IsAdopted net.now trace.now (merged logs.now) limit x.config.journal) }
-    ensures kept { IfOk result (λ x. x.merged ≡ min (length (merged logs.now)) limit) }
+        IsAdopted net.now trace.now (merged logs) limit x.config.journal) }
+    ensures kept { IfOk result (λ x. x.merged ≡ min (length (merged logs)) limit) }
     ensures network { IfOk result (λ x. x.config.net ≡ net.now) }
     ensures trace { IfOk result (λ x. x.config.trace ≡ trace.now) }
 {
     laws();
-    let all = merge(alloc, logs)?;
+    let all = merge_logs(alloc, logs)?;
     let merged = smaller(all.len(), limit);
-    let config = adopt_on(alloc, net, trace, &all, limit)?;
+    let config = Config::resume_prefix(alloc, net, trace, all, limit)?;
     Ok(GatheredOn { config, merged })
 }
 
@@ -143,7 +143,7 @@ pub fn gather_on<'a, T: Threads + Wait + Sync, R: Reactor + Sync, G: Gate + Sync
 {
     let least = limit / workers as u64;
     let logs = gather_logs(rt, alloc, r, trace, workers, least, g)?;
-    let found = adopt_merge(alloc, r.network(), trace, &logs, limit)?;
+    let found = adopt_merge(alloc, r.network(), trace, logs, limit)?;
     or_alone(alloc, r, trace, found, least, limit)
 }
 

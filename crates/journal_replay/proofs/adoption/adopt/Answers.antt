@@ -1,6 +1,6 @@
 use Rattle.std.proofs.Common.{List, sym, subst}
 use Rattle.journals.specs.declared.entry.Entry.{Entry}
-use Rattle.journal_replay.specs.Verdicts.{IsAdopted}
+use Rattle.net_core.specs.Prefixes.{IsAdopted}
 use Rattle.journal_replay.proofs.adoption.adopt.Goals as goal
 
 pub returns : goal.returns

@@ -3,10 +3,10 @@ use Rattle.journals.specs.Alone.{IsAlone}
 use Rattle.worker_run.proofs.Parting.{merged_alone}
 use Rattle.worker_run.proofs.gathering.adopt_merge.Goals as goal
 
-pub merge-requires : goal.merge-requires
-merge-requires c = λ m. (c.requires.alone m).rising
+pub merge_logs-requires : goal.merge_logs-requires
+merge_logs-requires c = λ m. (c.requires.alone m).rising
 
-pub adopt_on-requires-clause-alone : goal.adopt_on-requires-clause-alone
-adopt_on-requires-clause-alone c = λ m.
+pub resume_prefix-requires-clause-alone : goal.resume_prefix-requires-clause-alone
+resume_prefix-requires-clause-alone c = λ m.
     subst (IsAlone c.args.net.now m) (sym c.in_ok-all.ensures)
-    (merged_alone c.laws.ensures.log_alone c.args.net.now c.args.logs.now c.requires.alone m)
+    (merged_alone c.laws.ensures.log_alone c.args.net.now c.args.logs c.requires.alone m)

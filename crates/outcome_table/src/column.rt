@@ -110,7 +110,7 @@ pub(crate) fn columns_of(alloc: Global, vars: &VarTable) -> Result<List<Codes>, 
     let mut columns = List::new(alloc);
     for v in 0..vars.len() {
         let column = column_of(alloc, vars, v)?;
-        columns.push(Codes::from_slice(alloc, &column)?)?;
+        columns.push(Codes::of(column))?;
     }
     Ok(columns)
 }

@@ -29,10 +29,9 @@ pub fn table_of(alloc: Global, m: &Machine) -> Result<Table, NoMemory>
 {
     let codes = columns_of(alloc, &m.vars)?;
     let numbered = numbers_of(alloc, m)?;
-    let numbers = Places::from_slice(alloc, &numbered.numbers)?;
     Ok(Table {
         codes,
-        numbers,
+        numbers: Places::of(numbered.numbers),
         outcomes: numbered.outcomes.into_list(),
     })
 }

@@ -1,5 +1,5 @@
 // The variables of a machine, each looked up once.
-ghost use Rattle.std.specs.Prelude.{◌≡◌, ◌<◌, Some, length, IfOk, IfSome};
+ghost use Rattle.std.specs.Prelude.{◌≡◌, ◌<◌, Some, length, IfOk};
 ghost use Rattle.net_names.specs.Numbers.{names_of, number_in};
 ghost use Rattle.net_names.specs.Scopes.{var_words};
 ghost use Rattle.net_names.specs.Vars.{IsVar, AreVars};
@@ -78,21 +78,4 @@ pub fn var_numbered<'v, 's, 'a>(
     ensures { IsVar local.now.scope.now.raw.now local.now.machine.now name result.now }
 {
     vars.get(number)
-}
-
-/// What a name stands for, if it is that of a variable.
-pub fn var_at<'v, 's, 'a>(
-    local: &Local<'s, 'a>,
-    vars: &'v List<Var<'a>>,
-    name: Name,
-) -> Option<&'v Var<'a>>
-    requires { AreVars local.now.scope.now.raw.now local.now.machine.now
-        (var_words local.now.machine.now) vars.now }
-    ensures { IfSome result
-        (λ var. IsVar local.now.scope.now.raw.now local.now.machine.now name var.now) }
-{
-    match local.var(name) {
-        Some(number) => Some(var_numbered(local, vars, name, number)),
-        None => None,
-    }
 }

@@ -1,6 +1,6 @@
 pub mod Sent
 pub mod Sorting
-pub mod Stable
+pub mod Rounds
 pub mod Due
 pub mod Legal
 pub mod Growing

@@ -22,7 +22,7 @@ use journals::{
 use polis_base::{Duplicate, List, NoMemory};
 use std::alloc::Global;
 use std::marker::Model;
-use transition_table::{Network, Outcome, Reactor, Snapshot};
+use transition_table::{Network, Outcome, Party, Reactor, Snapshot};
 
 /// The cell of one machine of a network. In the log that contracts see, a frozen reaction has the
 /// outcome of the machine's transition, which is written when it is settled.
@@ -98,10 +98,11 @@ fn prepare<'a>(
         snapshot: moment.copy()?,
         outcome: net.blank(alloc, m)?,
     };
-    let entry = Entry::Rea {
-        machine: m,
-        snapshot: moment.copy()?,
-        outcome: net.blank(alloc, m)?,
+    let entry = Entry::Dep {
+        from: Party::Env,
+        to: m,
+        event: 0,
+        code: 1,
     };
     let frozen = Frozen {
         net,

@@ -11,7 +11,7 @@ use std::sync::{Mutex, Wait};
 use transition_table::Reactor;
 
 /// A worker. The cells whose place modulo the number of workers is its number are its own.
-#[derive(Drop)]
+#[derive(Clone, Copy)]
 pub(crate) struct Worker {
     number: usize,
     workers: usize,
@@ -293,7 +293,8 @@ fn take_turn<'a, N: Naming, T: Wait, R: Reactor, G: Gate>(
     turn_among::<N, T, R, G>(rt, r, g, cells, worker, 0, 1)
 }
 
-/// Takes turns until one appends nothing.
+/// Takes turns until one appends nothing. Meanwhile the worker stands on the thread's own stack,
+/// and not beside the workers of other threads.
 pub(crate) fn work<'a, N: Naming, T: Wait, R: Reactor, G: Gate>(
     rt: &T,
     r: &R,
@@ -304,10 +305,14 @@ pub(crate) fn work<'a, N: Naming, T: Wait, R: Reactor, G: Gate>(
 )
     requires { R.meaning r.now ≡ N.net }
 {
+    let mut here = *worker;
     loop {
-        match take_turn::<N, T, R, G>(rt, r, g, cells, feed, worker) {
+        match take_turn::<N, T, R, G>(rt, r, g, cells, feed, &mut here) {
             Turn::Went => {}
-            Turn::Idle | Turn::Stopped => return,
+            Turn::Idle | Turn::Stopped => {
+                *worker = here;
+                return;
+            }
         }
     }
 }

@@ -1,4 +1,4 @@
 use Rattle.worker_run.proofs.worker.work.Given as goal
 
-abbrev pub decreases-loop : goal.decreases-loop
-decreases-loop g l = l.worker.budget
+abbrev pub decreases-loop-here : goal.decreases-loop-here
+decreases-loop-here g l = l.here.budget

@@ -5,6 +5,7 @@ mod Labelled
 mod Parting
 mod Reading
 mod Samples
+mod Sharing
 mod Tallying
 mod Texting
 mod Wording

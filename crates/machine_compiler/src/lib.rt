@@ -7,6 +7,7 @@ mod compiling;
 mod law;
 mod lines;
 mod listing;
+mod shares;
 mod tallies;
 mod texts;
 
@@ -15,4 +16,5 @@ pub use compiling::{compile_machine, compile_network};
 pub use law::laws;
 pub use lines::print_tries;
 pub use listing::print_listing;
+pub use shares::compile_network_by;
 pub use texts::{Texts, compile_texts};

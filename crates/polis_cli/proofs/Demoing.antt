@@ -1,5 +1,5 @@
 -- Why what is drawn from a seed is accepted, and its run complete.
-use Rattle.std.proofs.Common.{◌≡◌, ℕ, List, Ok, Err, true, refl, sym, subst}
+use Rattle.std.proofs.Common.{◌≡◌, ℕ, List, Ok, Err, refl, sym, subst}
 use Rattle.std.specs.Prelude.{Result}
 use Rattle.transition_table.specs.declared.network.Network.{Network}
 use Rattle.journals.specs.declared.entry.TraceItem.{TraceItem}
@@ -13,12 +13,10 @@ use Rattle.net_rules.specs.NetOf.{NetOf}
 use Rattle.net_gen.specs.Whole.{AreWhole}
 use Rattle.polis_words.specs.declared.cause.Cause.{Cause}
 use Rattle.polis_words.specs.declared.cause.Cause.TheVariants.{Lex, Syntax, Rule, Conflict, NoMemory as Wanting}
-use Rattle.polis_words.specs.Run.{entry_max}
 use Rattle.polis_cli.specs.declared.ran.Ran.{Ran}
 use Rattle.polis_cli.specs.Accepted.{Accepted}
 use Rattle.polis_cli.specs.Demos.{RunsWhole}
 use Rattle.polis_cli.specs.Inputs.{IsNetFault}
-use Rattle.polis_cli.specs.Runs.{IsRan}
 use Rattle.polis_cli.proofs.Refusing.{text_refused}
 
 -- a text that is accepted fails only where memory runs out

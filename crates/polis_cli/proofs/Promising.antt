@@ -20,7 +20,7 @@ use Rattle.polis_cli.specs.Shown.{FailsWith}
 use Rattle.polis_cli.specs.Writing.{IsWell, Writes, is_end}
 use Rattle.polis_cli.specs.Left.{LeftByLoads, LeftByLine, LeftByWriting, is_read_fault}
 use Rattle.polis_cli.specs.Top.{is_refusal}
-use Rattle.polis_cli.specs.Promise.{Outside, told, WriteFailed, Answers, Leaves}
+use Rattle.polis_cli.specs.Promise.{told, WriteFailed, Answers, Leaves}
 use Rattle.polis_cli.proofs.Told.{changes_from, changes_same}
 use Rattle.polis_cli.proofs.Ending.{IsOne, nothing_asked, refused_only, refused_there, failed_there, illegal_only, illegal_there, failing_line, accepted_files, made_legal, done_there, made_written, stands, unwritten, wanting_shown, written_status}
 use Rattle.polis_cli.proofs.Refusing.{cases_of}

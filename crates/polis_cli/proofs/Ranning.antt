@@ -1,5 +1,5 @@
 -- Journals that the scheduler carries on.
-use Rattle.std.proofs.Common.{◌≡◌, ◌⊎◌, ◌↔◌, inl, inr, ◌≤◌, ◌<◌, ◌/◌, ℕ, Bool, true, false, List, [], ◌∷◌, ◌++◌, length, take, drop, refl, sym, ap, subst, ◌∙◌, IsTrue, arith}
+use Rattle.std.proofs.Common.{◌≡◌, ◌⊎◌, ◌↔◌, inl, inr, ◌≤◌, ◌/◌, ℕ, Bool, false, List, [], ◌∷◌, ◌++◌, length, take, refl, sym, ap, subst, ◌∙◌, IsTrue, arith}
 use Rattle.std.proofs.lemmas.List.{append-nil}
 use Rattle.std.proofs.Math.Seq.{drop-append_seam, take-append_seam}
 use Rattle.transition_table.specs.declared.network.Network.{Network}
@@ -9,7 +9,7 @@ use Rattle.journals.specs.declared.entry.Pick.{Pick}
 use Rattle.journals.specs.declared.entry.Pick.TheVariants.{Stop}
 use Rattle.journals.specs.Legality.{Legal, Complete}
 use Rattle.journals.specs.Laws.{StopsWhereComplete}
-use Rattle.journals.specs.Schedules.{IsSchedule, Follows, FollowsAfter, IsPicked, pick}
+use Rattle.journals.specs.Schedules.{Follows, FollowsAfter, IsPicked, pick}
 use Rattle.worker_run.specs.Gathered.{IsEnough}
 use Rattle.polis_cli.specs.declared.ran.Ran.{Ran}
 use Rattle.polis_cli.specs.Runs.{CarriesOn, IsRan}

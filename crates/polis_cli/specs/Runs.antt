@@ -21,6 +21,8 @@ use Rattle.machine_compiler.specs.Parts.{AreRight}
 use Rattle.machine_compiler.specs.Lines.{tries_text}
 use Rattle.polis_cli.specs.declared.product.Product.{Product}
 use Rattle.polis_cli.specs.declared.ran.Ran.{Ran}
+use Rattle.polis_cli.specs.declared.texts.JournalTexts.{JournalTexts}
+use Rattle.polis_cli.specs.declared.texts.MachineTexts.{MachineTexts}
 use Rattle.polis_cli.specs.Saves.{Save}
 use Rattle.polis_cli.specs.Inputs.{HoldsNet, HoldsTrace, InputsFail}
 
@@ -83,6 +85,20 @@ abbrev pub run_text : Network → List Part → Ran → List ℕ
 run_text net parts ran =
     summary_text net ran.journal ran.complete ran.gathered ran.adopted
     ++ tries_text net parts ran.journal
+
+-- the texts of the journal of a run: its outputs, and the journal with its least stamps
+pub record AreJournalTexts (net : Network) (ran : Ran) (texts : JournalTexts) : Type 0 where
+  pub outputs : texts.outputs ≡ output_text net ran.journal
+  pub journal :
+      texts.journal
+      ≡ stamped_journal_text net ran.journal (least net ran.journal) ran.complete
+
+-- the texts of the machines of a run, which were compiled rightly: their listing, and what is shown
+pub record AreMachineTexts (net : Network) (ran : Ran) (texts : MachineTexts) : Type 0 where
+  pub parts : List Part
+  pub right : AreRight net parts
+  pub listing : texts.listing ≡ ListingText net parts
+  pub shown : texts.shown ≡ run_text net parts ran
 
 -- The product is the outputs of a legal run of the network on the trace, its text with its least
 -- stamps, the listing of the compiled machines, and what is shown of the run; with one worker the

@@ -13,7 +13,7 @@ use crate::inputs::Inputs;
 use crate::product::Product;
 use crate::ran::run_alone;
 use crate::react::reactor_of;
-use crate::run::shown_text;
+use crate::texts::shown_text;
 use machine_compiler::compile_network;
 use net_gen::{Generated, generate};
 use polis_base::{List, NoMemory};

@@ -18,6 +18,7 @@ mod show;
 mod stamp;
 #[cfg(test)]
 mod tests;
+mod texts;
 mod top;
 mod worked;
 mod write;

@@ -1,24 +1,22 @@
 // The command `run`: a network on a trace, and the texts of that run.
-ghost use Rattle.std.specs.Prelude.{◌≡◌, ◌<◌, ◌≤◌, [], ◌∷◌, ◌++◌, codes, length, IfOk, IfErr};
+ghost use Rattle.std.specs.Prelude.{◌≡◌, ◌<◌, ◌∷◌, ◌++◌, [], codes, IfOk, IfErr};
 ghost use Rattle.polis_base.specs.Host.{WhereTold};
-ghost use Rattle.journals.specs.Journals.{IsTrace, IsJournal};
+ghost use Rattle.journals.specs.Journals.{IsTrace};
 ghost use Rattle.transition_table.specs.Transitions.{AreDeterministic};
-ghost use Rattle.machine_compiler.specs.Parts.{AreRight, parts_of};
-ghost use Rattle.polis_words.specs.Run.{entry_max};
 ghost use Rattle.polis_cli.specs.Writing.{IsWell};
-ghost use Rattle.polis_cli.specs.Runs.{IsRan, IsRunProduct, MakesRun, FailsRun, end_status, run_text};
+ghost use Rattle.polis_cli.specs.Runs.{IsRan, AreJournalTexts, AreMachineTexts, IsRunProduct, MakesRun, FailsRun, end_status};
 ghost use Rattle.polis_cli.specs.Left.{LeftByLoads, fails_unread};
 
 use crate::inputs::{Inputs, load_inputs};
 use crate::product::{Product, Saving};
 use crate::ran::{Ran, run_alone, run_by};
 use crate::react::reactor_of;
-use crate::stamp::stamped_text;
+use crate::texts::{JournalTexts, MachineTexts, journal_texts, machine_texts, texts_by};
 use event_buffer::Gate;
-use journal_text::{keep_names, print_outputs};
-use machine_compiler::{CompiledList, compile_network, print_listing, print_tries};
+use journal_text::keep_names;
+use machine_compiler::{compile_network, compile_network_by};
 use polis_base::{Bytes, Host, List, NoMemory};
-use polis_words::{Cause, Failure, Run, Status, print_summary};
+use polis_words::{Cause, Failure, Run, Status};
 use std::alloc::Global;
 use std::sync::Wait;
 use std::thread::Threads;
@@ -31,33 +29,6 @@ fn status_at_end(complete: bool) -> Status
     } else {
         Status::Limit
     }
-}
-
-/// What is shown of a run: its summary, and a line for each machine.
-pub fn shown_text(
-    alloc: Global,
-    inputs: &Inputs,
-    compiled: &CompiledList,
-    ran: &Ran,
-) -> Result<Bytes, NoMemory>
-    requires right { AreRight inputs.now.net (parts_of compiled.now) }
-    requires journal { IsJournal inputs.now.net ran.now.journal }
-    requires few { length ran.now.journal ≤ entry_max }
-    ensures { IfOk result (λ text. text ≡
-        run_text inputs.now.net (parts_of compiled.now) ran.now) }
-{
-    let net = &inputs.net;
-    let mut text = print_summary(
-        alloc,
-        net,
-        &ran.journal,
-        ran.complete,
-        ran.gathered,
-        ran.adopted,
-    )?;
-    let lines = print_tries(alloc, net, compiled, &ran.journal)?;
-    text.push(lines.as_slice())?;
-    Ok(text)
 }
 
 // The saves of a run, in their order.
@@ -83,26 +54,24 @@ fn saves_of(
     Ok(saves)
 }
 
-// The texts of what was run.
-fn texts_of(
+// The product of these texts.
+fn product_of(
     alloc: Global,
     asked: &Run<'_>,
     inputs: &Inputs,
-    compiled: &CompiledList,
     ran: &Ran,
+    journal: JournalTexts,
+    machines: MachineTexts,
 ) -> Result<Product, NoMemory>
-    requires right { AreRight inputs.now.net (parts_of compiled.now) }
     requires ran { IsRan asked.now.workers asked.now.limit inputs.now.net inputs.now.trace ran.now }
-    requires few { length ran.now.journal ≤ entry_max }
+    requires journal { AreJournalTexts inputs.now.net ran.now journal }
+    requires machines { AreMachineTexts inputs.now.net ran.now machines }
     ensures { IfOk result (λ product.
         IsRunProduct asked.now inputs.now.net inputs.now.trace product) }
 {
-    let net = &inputs.net;
-    keep_names(net);
-    let outputs = print_outputs(alloc, net, &ran.journal)?;
-    let journal = stamped_text(alloc, inputs, &ran.journal, ran.complete)?;
-    let listing = print_listing(alloc, net, compiled)?;
-    let shown = shown_text(alloc, inputs, compiled, ran)?;
+    keep_names(&inputs.net);
+    let JournalTexts { outputs, journal } = journal;
+    let MachineTexts { listing, shown } = machines;
     let saves = saves_of(alloc, asked.stem(), outputs, journal, listing)?;
     Ok(Product {
         saves,
@@ -122,10 +91,12 @@ fn product_alone(alloc: Global, asked: &Run<'_>, inputs: &Inputs) -> Result<Prod
     let compiled = compile_network(alloc, &inputs.net)?;
     let reactor = reactor_of(alloc, &inputs.net, &compiled)?;
     let ran = run_alone(alloc, &reactor, &inputs.trace, asked.limit())?;
-    texts_of(alloc, asked, inputs, &compiled, &ran)
+    let journal = journal_texts(alloc, inputs, &ran)?;
+    let machines = machine_texts(alloc, inputs, &compiled, &ran)?;
+    product_of(alloc, asked, inputs, &ran, journal, machines)
 }
 
-// Runs the network on the trace by so many workers, and makes the texts of the run.
+// Compiles the network and runs it on the trace by so many workers, and makes the texts of the run.
 fn product_by<T: Threads + Wait + Sync, G: Gate + Sync>(
     rt: &T,
     alloc: Global,
@@ -141,10 +112,11 @@ fn product_by<T: Threads + Wait + Sync, G: Gate + Sync>(
 {
     let workers = asked.workers();
     let limit = asked.limit();
-    let compiled = compile_network(alloc, &inputs.net)?;
+    let compiled = compile_network_by(rt, alloc, &inputs.net, workers)?;
     let reactor = reactor_of(alloc, &inputs.net, &compiled)?;
     let ran = run_by(rt, alloc, &reactor, &inputs.trace, workers, limit, gate)?;
-    texts_of(alloc, asked, inputs, &compiled, &ran)
+    let (journal, machines) = texts_by(rt, alloc, inputs, &compiled, &ran);
+    product_of(alloc, asked, inputs, &ran, journal?, machines?)
 }
 
 /// What a run by one worker makes of the files.

@@ -2,14 +2,20 @@ use Rattle.std.proofs.Common.{arith, sym, subst}
 use Rattle.polis_cli.specs.Runs.{IsRan}
 use Rattle.polis_cli.proofs.run.product_alone.Goals as goal
 
-pub texts_of-requires-clause-ran : goal.texts_of-requires-clause-ran
-texts_of-requires-clause-ran c =
-    subst (λ n. IsRan n c.args.asked.now.limit c.args.inputs.now.net c.args.inputs.now.trace
-    c.in_ok-ran.ran) (sym c.requires.one)
-    (rw (c.in_ok-reactor.ensures, c.limit.ensures.is) at c.in_ok-ran.ensures)
-
-pub texts_of-requires-clause-few : goal.texts_of-requires-clause-few
-texts_of-requires-clause-few c =
+pub journal_texts-requires-clause-few : goal.journal_texts-requires-clause-few
+journal_texts-requires-clause-few c =
     let within = c.in_ok-ran.ensures.within in
     let few = c.limit.ensures.few in
     omega (arith, within, few)
+
+pub machine_texts-requires-clause-few : goal.machine_texts-requires-clause-few
+machine_texts-requires-clause-few c =
+    let within = c.in_ok-ran.ensures.within in
+    let few = c.limit.ensures.few in
+    omega (arith, within, few)
+
+pub product_of-requires-clause-ran : goal.product_of-requires-clause-ran
+product_of-requires-clause-ran c =
+    subst (λ n. IsRan n c.args.asked.now.limit c.args.inputs.now.net c.args.inputs.now.trace
+    c.in_ok-ran.ran) (sym c.requires.one)
+    (rw (c.in_ok-reactor.ensures, c.limit.ensures.is) at c.in_ok-ran.ensures)

@@ -1,5 +1,5 @@
 -- The least codes at which any of the results before one differs.
-use Rattle.std.proofs.Common.{◌≡◌, ◌≢◌, ◌⊎◌, ◌<◌, ◌≤◌, ◌+◌, ℕ, zero, suc, Bool, true, false, List, length, slice_get, Some, arith, refl, sym, ◌∙◌, subst, inl, inr}
+use Rattle.std.proofs.Common.{◌≡◌, ◌≢◌, ◌⊎◌, ◌<◌, ◌≤◌, ◌+◌, ℕ, zero, suc, Bool, true, false, List, slice_get, Some, arith, refl, sym, ◌∙◌, subst, inl, inr}
 use Rattle.std.specs.List.{list_all}
 use Rattle.std.proofs.lemmas.Bool.Decides.{eqb_tells}
 use Rattle.std.proofs.lemmas.Bool.{cases_lt}
@@ -7,34 +7,33 @@ use Rattle.transition_table.specs.declared.row.Row.{Row}
 use Rattle.transition_table.specs.declared.machine.Machine.{Machine}
 use Rattle.transition_table.specs.declared.snapshot.Snapshot.{Snapshot}
 use Rattle.transition_table.specs.Transitions.{allows, code_given, Conflict}
-use Rattle.determinism.specs.Common.{IsIn, IsBox, EnableBoth, Differ, Before, IsLeastAt, IsBest}
+use Rattle.determinism.specs.Common.{IsIn, EnableBoth, Before}
+use Rattle.determinism.specs.Pairs.{Differ, NeverDiffer, results_end, IsLeastAt, IsBest}
 use Rattle.determinism.specs.Conflicts.{IsLeastOf}
+use Rattle.determinism.specs.declared.pair.Pair.{Pair}
 use Rattle.determinism.proofs.Befores.{before_trans, up_to}
 use Rattle.determinism.proofs.Results.{same_result, same_codes}
 
 never : true ≡ false → ⊥
 never h = cc
 
-pub best_at_first : (m : Machine) (first second : Row) (sets best : List ℕ)
-    → IsBest m first second sets 1 false best
-best_at_first m first second sets best = record {
-  none = λ f k t from below. absurd (omega arith);
+pub best_at_first : (pair : Pair) (best : List ℕ) → IsBest pair 1 false best
+best_at_first pair best = record {
+  none = λ f k from below. absurd (omega arith);
   inside = λ f. absurd (never (sym f));
   differ = λ f. absurd (never (sym f));
   least = λ f. absurd (never (sym f));
 }
 
 -- the result nowhere differs
-pub best_kept : (m : Machine) (first second : Row) (sets : List ℕ) (y : ℕ) (found : Bool)
-    (best : List ℕ) → IsBest m first second sets y found best
-    → ((t : List ℕ) → IsIn sets t → Differ m first second y t → ⊥)
-    → IsBest m first second sets (y + 1) found best
-best_kept m first second sets y found best h none = record {
-  none = λ f k t from below inside differ.
+pub best_kept : (pair : Pair) (y : ℕ) (found : Bool) (best : List ℕ) → IsBest pair y found best
+    → NeverDiffer pair y → IsBest pair (y + 1) found best
+best_kept pair y found best h none = record {
+  none = λ f k from below t inside differ.
       elim (cases_lt k y) [
-        | inl before ↦ h.none f k t from before inside differ
+        | inl before ↦ h.none f k from before t inside differ
         | inr over ↦ let here : k ≡ y = omega arith in
-            none t inside (subst (λ j. Differ m first second j t) here differ)
+            none t inside (subst (λ j. Differ pair j t) here differ)
       ];
   inside = h.inside;
   differ = λ f. let d = h.differ f in (d.0, d.1, (let below = d.2 in omega arith), d.3);
@@ -42,15 +41,14 @@ best_kept m first second sets y found best h none = record {
       elim (cases_lt k y) [
         | inl before ↦ h.least f k t from before inside differ
         | inr over ↦ let here : k ≡ y = omega arith in
-            absurd (none t inside (subst (λ j. Differ m first second j t) here differ))
+            absurd (none t inside (subst (λ j. Differ pair j t) here differ))
       ];
 }
 
 -- the result differs first after the best so far
-pub best_stays : (m : Machine) (first second : Row) (sets : List ℕ) (y : ℕ) (best codes : List ℕ)
-    → IsBest m first second sets y true best → IsLeastAt m first second y sets codes
-    → Before best codes → IsBest m first second sets (y + 1) true best
-best_stays m first second sets y best codes h at before = record {
+pub best_stays : (pair : Pair) (y : ℕ) (best codes : List ℕ) → IsBest pair y true best
+    → IsLeastAt pair y codes → Before best codes → IsBest pair (y + 1) true best
+best_stays pair y best codes h at before = record {
   none = λ f. absurd (never f);
   inside = h.inside;
   differ = λ f. let d = h.differ f in (d.0, d.1, (let below = d.2 in omega arith), d.3);
@@ -59,16 +57,15 @@ best_stays m first second sets y best codes h at before = record {
         | inl earlier ↦ h.least f k t from earlier inside differ
         | inr over ↦ let here : k ≡ y = omega arith in
             before_trans best codes t before
-            (at.least t inside (subst (λ j. Differ m first second j t) here differ))
+            (at.least t inside (subst (λ j. Differ pair j t) here differ))
       ];
 }
 
 -- the result differs first before the best so far
-pub best_moves : (m : Machine) (first second : Row) (sets : List ℕ) (y : ℕ) (found : Bool)
-    (best codes : List ℕ) → 1 ≤ y → IsBest m first second sets y found best
-    → IsLeastAt m first second y sets codes → (found ≡ true → Before codes best)
-    → IsBest m first second sets (y + 1) true codes
-best_moves m first second sets y found best codes some h at before = record {
+pub best_moves : (pair : Pair) (y : ℕ) (found : Bool) (best codes : List ℕ) → 1 ≤ y
+    → IsBest pair y found best → IsLeastAt pair y codes → (found ≡ true → Before codes best)
+    → IsBest pair (y + 1) true codes
+best_moves pair y found best codes some h at before = record {
   none = λ f. absurd (never f);
   inside = λ f. at.inside;
   differ = λ f. (y, some, omega arith, at.differ);
@@ -76,16 +73,16 @@ best_moves m first second sets y found best codes some h at before = record {
       elim (cases_lt k y) [
         | inl earlier ↦ earlier_ones found refl k t from earlier inside differ
         | inr over ↦ let here : k ≡ y = omega arith in
-            at.least t inside (subst (λ j. Differ m first second j t) here differ)
+            at.least t inside (subst (λ j. Differ pair j t) here differ)
       ];
 }
   where
-    earlier_ones : (b : Bool) → found ≡ b → (k : ℕ) (t : List ℕ) → 1 ≤ k → k < y → IsIn sets t
-        → Differ m first second k t → Before codes t
+    earlier_ones : (b : Bool) → found ≡ b → (k : ℕ) (t : List ℕ) → 1 ≤ k → k < y
+        → IsIn pair.sets.now t → Differ pair k t → Before codes t
     earlier_ones true is k t from earlier inside differ =
         before_trans codes best t (before is) (h.least is k t from earlier inside differ)
     earlier_ones false is k t from earlier inside differ =
-        absurd (h.none is k t from earlier inside differ)
+        absurd (h.none is k from earlier t inside differ)
 
 -- all results are the same, or one differs
 some_differs : (n : ℕ) (f g : ℕ → ℕ)
@@ -118,25 +115,28 @@ enables m a b first second t at_a at_b c =
     let on_second : list_all (allows t.codes) second.conds ≡ true = rw at_b at c.second in
     record { snapshot = c.snapshot; of_first = on_first; of_second = on_second }
 
-differs : (m : Machine) (a b : ℕ) (first second : Row) (t : Snapshot)
-    → slice_get m.rows a ≡ Some first → slice_get m.rows b ≡ Some second → Conflict m a b t
-    → (k : ℕ) × (1 ≤ k) × (k < 1 + length m.states + length m.outputs)
-    × Differ m first second k t.codes
-differs m a b first second t at_a at_b c =
-    elim (some_differs (1 + length m.states + length m.outputs) (code_given m t.codes first.acts)
-    (code_given m t.codes second.acts)) [
-      | inl same ↦ absurd (c.differ (same_result m t a b first second at_a at_b same))
+differs : (pair : Pair) (a b : ℕ) (t : Snapshot)
+    → slice_get pair.machine.now.rows a ≡ Some pair.first.now
+    → slice_get pair.machine.now.rows b ≡ Some pair.second.now → Conflict pair.machine.now a b t
+    → (k : ℕ) × (1 ≤ k) × (k < results_end pair) × Differ pair k t.codes
+differs pair a b t at_a at_b c =
+    let m = pair.machine.now in
+    elim (some_differs (results_end pair) (code_given m t.codes pair.first.now.acts)
+    (code_given m t.codes pair.second.now.acts)) [
+      | inl same ↦
+          absurd (c.differ (same_result m t a b pair.first.now pair.second.now at_a at_b same))
       | inr there ↦ there
     ]
 
-pub best_none : (m : Machine) (a b : ℕ) (first second : Row) (sets : List ℕ) (best : List ℕ)
-    → slice_get m.rows a ≡ Some first → slice_get m.rows b ≡ Some second → IsBox m first second sets
-    → IsBest m first second sets (1 + length m.states + length m.outputs) false best
-    → (t : Snapshot) → Conflict m a b t → ⊥
-best_none m a b first second sets best at_a at_b box h t c =
-    let inside = box.whole t.codes (enables m a b first second t at_a at_b c) in
-    let d = differs m a b first second t at_a at_b c in
-    h.none refl d.0 t.codes d.1 d.2 inside d.3
+pub best_none : {pair : Pair} (a b : ℕ) (found : Bool) (best : List ℕ)
+    → IsBest pair (results_end pair) found best
+    → slice_get pair.machine.now.rows a ≡ Some pair.first.now
+    → slice_get pair.machine.now.rows b ≡ Some pair.second.now → found ≡ false
+    → (t : Snapshot) → Conflict pair.machine.now a b t → ⊥
+best_none {pair} a b found best h at_a at_b none t c =
+    let on = enables pair.machine.now a b pair.first.now pair.second.now t at_a at_b c in
+    let d = differs pair a b t at_a at_b c in
+    h.none none d.0 d.1 d.2 t.codes (pair.area.whole t.codes on) d.3
 
 pub none_conflict : (m : Machine) (a b : ℕ) (first second : Row) → slice_get m.rows a ≡ Some first
     → slice_get m.rows b ≡ Some second → ((codes : List ℕ) → EnableBoth m first second codes → ⊥)
@@ -144,14 +144,17 @@ pub none_conflict : (m : Machine) (a b : ℕ) (first second : Row) → slice_get
 none_conflict m a b first second at_a at_b none t c =
     none t.codes (enables m a b first second t at_a at_b c)
 
-pub best_conflict : (m : Machine) (a b : ℕ) (first second : Row) (sets : List ℕ) (best : Snapshot)
-    → a < b → slice_get m.rows a ≡ Some first → slice_get m.rows b ≡ Some second
-    → IsBox m first second sets
-    → IsBest m first second sets (1 + length m.states + length m.outputs) true best.codes
-    → IsLeastOf m a b best
-best_conflict m a b first second sets best order at_a at_b box h =
-    let both = box.inside best.codes (h.inside refl) in
-    let d = h.differ refl in
+pub best_conflict : {pair : Pair} (a b : ℕ) (found : Bool) (best : Snapshot)
+    → IsBest pair (results_end pair) found best.codes → a < b
+    → slice_get pair.machine.now.rows a ≡ Some pair.first.now
+    → slice_get pair.machine.now.rows b ≡ Some pair.second.now → found ≡ true
+    → IsLeastOf pair.machine.now a b best
+best_conflict {pair} a b found best h order at_a at_b some =
+    let m = pair.machine.now in
+    let first = pair.first.now in
+    let second = pair.second.now in
+    let both = pair.area.inside best.codes (h.inside some) in
+    let d = h.differ some in
     record {
       conflict = record {
         order = order;
@@ -161,10 +164,10 @@ best_conflict m a b first second sets best order at_a at_b box h =
         differ = λ same. d.3 (same_codes m best a b first second at_a at_b same d.0 d.1 d.2);
       };
       least = λ t c.
-          let inside = box.whole t.codes (enables m a b first second t at_a at_b c) in
-          let e = differs m a b first second t at_a at_b c in
-          up_to best.codes t.codes ((h.inside refl).long ∙ sym inside.long)
-          (h.least refl e.0 t.codes e.1 e.2 inside e.3);
+          let inside = pair.area.whole t.codes (enables m a b first second t at_a at_b c) in
+          let e = differs pair a b t at_a at_b c in
+          up_to best.codes t.codes ((h.inside some).long ∙ sym inside.long)
+          (h.least some e.0 t.codes e.1 e.2 inside e.3);
     }
 
 pub true_or_false : (b : Bool) → b ≡ true → b ≡ false → ⊥

@@ -3,10 +3,9 @@ use Rattle.std.proofs.Common.{◌≡◌, ◌≢◌, ◌⊎◌, ◌<◌, ◌≤�
 use Rattle.std.specs.Int.{bit_at}
 use Rattle.std.proofs.lemmas.List.{length-set, get_or-set_same, get_or-set_other, nil_from_length}
 use Rattle.std.proofs.lemmas.Bool.Decides.{eqb_tells}
-use Rattle.transition_table.specs.declared.row.Row.{Row}
-use Rattle.transition_table.specs.declared.machine.Machine.{Machine}
-use Rattle.transition_table.specs.Transitions.{code_given}
-use Rattle.determinism.specs.Common.{IsIn, AreLeast, Differ, Reads, SameBut, Before}
+use Rattle.determinism.specs.Common.{IsIn, AreLeast, SameBut, Before}
+use Rattle.determinism.specs.Pairs.{Agree, Differ, HangsOn}
+use Rattle.determinism.specs.declared.pair.Pair.{Pair}
 use Rattle.determinism.proofs.Befores.{before_all, before_at}
 
 -- another code of a set
@@ -27,13 +26,11 @@ in_set sets codes v code h below set = record {
 }
 
 -- codes that agree where the rows read
-pub same_there : (m : Machine) (first second : Row) (y u v : ℕ) (t codes : List ℕ)
-    → Reads m first y u v → Reads m second y u v → slice_index t u ≡ slice_index codes u
-    → slice_index t v ≡ slice_index codes v
-    → code_given m codes first.acts y ≡ code_given m codes second.acts y
-    → Differ m first second y t → ⊥
-same_there m first second y u v t codes of_first of_second at_u at_v same differ =
-    differ (of_first t codes at_u at_v ∙ same ∙ sym (of_second t codes at_u at_v))
+pub same_there : (pair : Pair) (y u v : ℕ) (t codes : List ℕ) → HangsOn pair y u v
+    → slice_index t u ≡ slice_index codes u → slice_index t v ≡ slice_index codes v
+    → Agree pair y codes → Differ pair y t → ⊥
+same_there pair y u v t codes reads at_u at_v same differ =
+    differ (reads.of_first t codes at_u at_v ∙ same ∙ sym (reads.of_second t codes at_u at_v))
 
 pub set_agrees : (codes t : List ℕ) (u v code : ℕ) → v < length codes
     → (u ≢ v → slice_index t u ≡ slice_index codes u) → slice_index t v ≡ code

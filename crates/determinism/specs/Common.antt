@@ -1,6 +1,6 @@
--- Snapshots that enable two rows, as one set of codes for each variable, and those on which a
--- result differs.
-use Rattle.std.specs.Prelude.{◌≡◌, ◌≢◌, ◌⊎◌, ◌<◌, ◌≤◌, ◌==◌, ◌&&◌, ◌||◌, ℕ, Bool, true, false, not, nat_lt, List, [], ◌∷◌, length, slice_get, slice_index, Some, IsTrue, ⊤}
+-- Snapshots that enable two rows, as one set of codes for each variable, and the order of lists of
+-- codes.
+use Rattle.std.specs.Prelude.{◌≡◌, ◌≢◌, ◌⊎◌, ◌<◌, ◌≤◌, ◌==◌, ◌&&◌, ◌||◌, ℕ, Bool, not, nat_lt, List, [], ◌∷◌, length, slice_get, slice_index, Some, IsTrue, ⊤}
 use Rattle.std.specs.List.{list_all}
 use Rattle.std.specs.Int.{bit_at}
 use Rattle.std.specs.Cmp.Lexicographic.{slice_cmp}
@@ -11,7 +11,8 @@ use Rattle.transition_table.specs.declared.row.Cond.{Cond}
 use Rattle.transition_table.specs.declared.row.Row.{Row}
 use Rattle.transition_table.specs.declared.machine.Machine.{Machine}
 use Rattle.transition_table.specs.declared.snapshot.Snapshot.{Snapshot}
-use Rattle.transition_table.specs.Transitions.{allows, code_given}
+use Rattle.transition_table.specs.MachineFacts.{is_row}
+use Rattle.transition_table.specs.Transitions.{allows}
 
 -- the condition allows the code of the variable, or is on another variable
 abbrev pub allows_code : ℕ → ℕ → Cond → Bool
@@ -48,6 +49,10 @@ pub record IsIn (sets codes : List ℕ) : Type 0 where
   pub long : length codes ≡ length sets
   pub each : (k : ℕ) → k < length sets → bit_at (slice_index sets k) (slice_index codes k) ≡ 1
 
+-- the row is of the machine's form
+abbrev pub IsRowOf : Machine → Row → Type 0
+IsRowOf m row = IsTrue (is_row m.inputs m.vars m.results row)
+
 -- the codes are of a snapshot that enables both rows
 pub record EnableBoth (m : Machine) (first second : Row) (codes : List ℕ) : Type 0 where
   pub snapshot : IsTrue (fits m.vars codes)
@@ -71,17 +76,6 @@ pub record AreLeast (sets codes : List ℕ) : Type 0 where
   pub least : (k code : ℕ) → k < length sets → bit_at (slice_index sets k) code ≡ 1
       → slice_index codes k ≤ code
 
--- the rows give the result different codes
-abbrev pub Differ : Machine → Row → Row → ℕ → List ℕ → Type 0
-Differ m first second y codes = code_given m codes first.acts y ≢ code_given m codes second.acts y
-
--- what the row gives the result depends on these two variables at most
-abbrev pub Reads : Machine → Row → ℕ → ℕ → ℕ → Type 0
-Reads m row y u v =
-    (codes others : List ℕ) → slice_index codes u ≡ slice_index others u
-    → slice_index codes v ≡ slice_index others v
-    → code_given m codes row.acts y ≡ code_given m others row.acts y
-
 -- the codes are the same but at these two variables
 abbrev pub SameBut : ℕ → ℕ → List ℕ → List ℕ → Type 0
 SameBut u v codes others = (k : ℕ) → k ≢ u → k ≢ v → slice_index codes k ≡ slice_index others k
@@ -91,22 +85,6 @@ abbrev pub Before : List ℕ → List ℕ → Type 0
 Before [] ys = ⊤
 Before (x ∷ xs) [] = ⊥
 Before (x ∷ xs) (y ∷ ys) = (x < y) ⊎ ((x ≡ y) × Before xs ys)
-
--- the least list of one code of each set on which the result differs
-pub record IsLeastAt (m : Machine) (first second : Row) (y : ℕ) (sets codes : List ℕ) : Type 0 where
-  pub inside : IsIn sets codes
-  pub differ : Differ m first second y codes
-  pub least : (t : List ℕ) → IsIn sets t → Differ m first second y t → Before codes t
-
--- the least such list for the results before y, where there is one
-pub record IsBest (m : Machine) (first second : Row) (sets : List ℕ) (y : ℕ) (found : Bool)
-    (best : List ℕ) : Type 0 where
-  pub none : found ≡ false → (k : ℕ) (t : List ℕ) → 1 ≤ k → k < y → IsIn sets t
-      → ¬ Differ m first second k t
-  pub inside : found ≡ true → IsIn sets best
-  pub differ : found ≡ true → (k : ℕ) × (1 ≤ k) × (k < y) × Differ m first second k best
-  pub least : found ≡ true → (k : ℕ) (t : List ℕ) → 1 ≤ k → k < y → IsIn sets t
-      → Differ m first second k t → Before best t
 
 -- s is t or stands before it: of the first two codes that differ the smaller is that of s
 abbrev pub IsUpTo : Snapshot → Snapshot → Type 0

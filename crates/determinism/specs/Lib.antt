@@ -1,4 +1,5 @@
 pub mod Common
 pub mod Conflicts
 pub mod Marks
+pub mod Pairs
 pub mod Sayers

@@ -1,11 +1,11 @@
 // The least conflict of a machine.
 ghost use Rattle.std.specs.Prelude.{◌≡◌, ◌<◌, ◌≤◌, ◌+◌, ℕ, length, IfOk, IfSome, IfNone, IsTrue, IsFalse};
 ghost use Rattle.transition_table.specs.declared.snapshot.Snapshot.{Snapshot as SnapshotOf};
-ghost use Rattle.transition_table.specs.MachineFacts.{is_row};
 ghost use Rattle.transition_table.specs.Transitions.{Conflict};
-ghost use Rattle.determinism.specs.Common.{IsTable, IsBox, AreSome, IsBest, Before};
+ghost use Rattle.determinism.specs.Common.{IsTable, Before};
 ghost use Rattle.determinism.specs.Conflicts.{IsLeastOf, IsFirstWith, Answers};
 ghost use Rattle.determinism.specs.Marks.{AreMarked};
+ghost use Rattle.determinism.specs.Pairs.{results_end, IsBest};
 ghost use Rattle.determinism.specs.Sayers.{AreSayers};
 
 use crate::difference::least_difference;
@@ -13,11 +13,12 @@ use crate::fault::CheckFault;
 use crate::marks::{Marks, marks_table};
 use crate::masks::{CodeSets, SetTable, table_of};
 use crate::overlap::overlap;
+use crate::pair::Pair;
 use crate::sayers::{Sayers, next_near, sayers_of};
 use domains::{Codes, first_codes};
 use polis_base::{List, NoMemory};
 use std::alloc::Global;
-use transition_table::{Machine, Row, Snapshot, laws};
+use transition_table::{Machine, Snapshot, laws};
 
 // Writes the same codes.
 fn copy_codes(from: &Codes, into: &mut Codes)
@@ -49,31 +50,16 @@ fn stands_before(codes: &Codes, others: &Codes) -> bool
 }
 
 // Keeps in `best` the lesser of it and the least codes at which this result differs.
-fn improve(
-    machine: &Machine,
-    first: &Row,
-    second: &Row,
-    y: u32,
-    sets: &CodeSets,
-    s: &mut Snapshot,
-    found: bool,
-    best: &mut Snapshot,
-) -> bool
-    requires first { IsTrue
-        (is_row machine.now.inputs machine.now.vars machine.now.results first.now) }
-    requires second { IsTrue (is_row machine.now.inputs machine.now.vars machine.now.results
-        second.now) }
-    requires area { IsBox machine.now first.now second.now sets.now }
-    requires some { AreSome sets.now }
-    requires long { length s.old.codes ≡ length sets.now }
-    requires best_long { length best.old.codes ≡ length sets.now }
+fn improve(pair: &Pair<'_>, y: u32, s: &mut Snapshot, found: bool, best: &mut Snapshot) -> bool
+    requires long { length s.old.codes ≡ length pair.now.sets.now }
+    requires best_long { length best.old.codes ≡ length pair.now.sets.now }
     requires number { 1 ≤ y }
-    requires best { IsBest machine.now first.now second.now sets.now y found best.old.codes }
-    ensures long { length s.new.codes ≡ length sets.now }
-    ensures best_long { length best.new.codes ≡ length sets.now }
-    ensures best { IsBest machine.now first.now second.now sets.now (y + 1) result best.new.codes }
+    requires best { IsBest pair.now y found best.old.codes }
+    ensures long { length s.new.codes ≡ length pair.now.sets.now }
+    ensures best_long { length best.new.codes ≡ length pair.now.sets.now }
+    ensures best { IsBest pair.now (y + 1) result best.new.codes }
 {
-    if !least_difference(machine, first, second, y, sets, s) {
+    if !least_difference(pair, y, s) {
         return found;
     }
     if found && stands_before(&best.codes, &s.codes) {
@@ -81,6 +67,21 @@ fn improve(
     }
     copy_codes(&s.codes, &mut best.codes);
     true
+}
+
+// Writes into `best` the least codes at which any result differs. False where none does.
+fn any_difference(pair: &Pair<'_>, s: &mut Snapshot, best: &mut Snapshot) -> bool
+    requires long { length s.old.codes ≡ length pair.now.sets.now }
+    requires best_long { length best.old.codes ≡ length pair.now.sets.now }
+    ensures long { length s.new.codes ≡ length pair.now.sets.now }
+    ensures best_long { length best.new.codes ≡ length pair.now.sets.now }
+    ensures best { IsBest pair.now (results_end pair.now) result best.new.codes }
+{
+    let mut found = false;
+    for y in 1..pair.machine.result_count() {
+        found = improve(pair, y, s, found, best);
+    }
+    found
 }
 
 // Writes into `best` the least snapshot on which two rows conflict. False where there is none.
@@ -117,11 +118,13 @@ fn conflict_of(
     ) {
         return false;
     }
-    let mut found = false;
-    for y in 1..machine.result_count() {
-        found = improve(machine, first, second, y, sets, s, found, best);
-    }
-    found
+    let pair = Pair {
+        machine,
+        first,
+        second,
+        sets,
+    };
+    any_difference(&pair, s, best)
 }
 
 // The first row after a row that conflicts with it, and the least snapshot on which they do.

@@ -4,13 +4,14 @@ ghost use Rattle.std.specs.Prelude.{◌≡◌, ◌≢◌, ◌⊎◌, ◌<◌, �
 ghost use Rattle.std.specs.List.{list_all};
 ghost use Rattle.std.specs.Int.{bit_at};
 ghost use Rattle.transition_table.specs.declared.machine.Machine.{Machine};
-ghost use Rattle.transition_table.specs.MachineFacts.{names_result, is_row};
+ghost use Rattle.transition_table.specs.MachineFacts.{names_result};
 ghost use Rattle.transition_table.specs.Sources.{code_of};
 ghost use Rattle.transition_table.specs.Transitions.{IsSnapshot, code_given};
-ghost use Rattle.determinism.specs.Common.{IsIn, IsBox, AreSome, AreLeast, Differ, Reads, SameBut, IsLeastAt};
+ghost use Rattle.determinism.specs.Common.{IsIn, AreLeast, SameBut};
+ghost use Rattle.determinism.specs.Pairs.{Agree, Differ, HangsOn, NeverDiffer, IsLeastAt};
 
-use crate::masks::CodeSets;
 use crate::overlap::write_least;
+use crate::pair::Pair;
 use transition_table::{Act, Machine, Row, Snapshot, Source};
 
 // Whether the set has the code.
@@ -86,89 +87,49 @@ fn read_by(machine: &Machine, acts: &[Act], y: u32) -> u64
 }
 
 // The rows give the result different codes.
-fn differ(machine: &Machine, first: &Row, second: &Row, y: u32, s: &Snapshot) -> bool
-    requires first { IsTrue
-        (is_row machine.now.inputs machine.now.vars machine.now.results first.now) }
-    requires second { IsTrue (is_row machine.now.inputs machine.now.vars machine.now.results
-        second.now) }
-    requires snapshot { IsSnapshot machine.now s.now }
-    ensures differ { IsTrue result → Differ machine.now first.now second.now y s.now.codes }
-    ensures same { IsFalse result → code_given machine.now s.now.codes first.now.acts y
-        ≡ code_given machine.now s.now.codes second.now.acts y }
+fn differ(pair: &Pair<'_>, y: u32, s: &Snapshot) -> bool
+    requires snapshot { IsSnapshot pair.now.machine.now s.now }
+    ensures differ { IsTrue result → Differ pair.now y s.now.codes }
+    ensures same { IsFalse result → Agree pair.now y s.now.codes }
 {
-    first.code_for(machine, y, s) != second.code_for(machine, y, s)
+    pair.first.code_for(pair.machine, y, s) != pair.second.code_for(pair.machine, y, s)
 }
 
 // Gives the variable v the code, where its set has it. Whether the result then differs.
-fn try_code(
-    machine: &Machine,
-    first: &Row,
-    second: &Row,
-    y: u32,
-    sets: &CodeSets,
-    u: u64,
-    v: u64,
-    code: u8,
-    s: &mut Snapshot,
-) -> bool
-    requires first { IsTrue
-        (is_row machine.now.inputs machine.now.vars machine.now.results first.now) }
-    requires second { IsTrue (is_row machine.now.inputs machine.now.vars machine.now.results
-        second.now) }
-    requires area { IsBox machine.now first.now second.now sets.now }
-    requires inside { IsIn sets.now s.old.codes }
-    requires var { v < length sets.now }
+fn try_code(pair: &Pair<'_>, y: u32, u: u64, v: u64, code: u8, s: &mut Snapshot) -> bool
+    requires reads { HangsOn pair.now y u v }
     requires code { code < 64 }
-    requires of_first { Reads machine.now first.now y u v }
-    requires of_second { Reads machine.now second.now y u v }
-    ensures inside { IsIn sets.now s.new.codes }
+    requires inside { IsIn pair.now.sets.now s.old.codes }
+    ensures inside { IsIn pair.now.sets.now s.new.codes }
     ensures same { (k : ℕ) → k ≢ v → slice_index s.new.codes k ≡ slice_index s.old.codes k }
     ensures code { IsTrue result → slice_index s.new.codes v ≡ code }
-    ensures differ { IsTrue result → Differ machine.now first.now second.now y s.new.codes }
-    ensures none { IsFalse result → (t : List ℕ) → IsIn sets.now t
+    ensures differ { IsTrue result → Differ pair.now y s.new.codes }
+    ensures none { IsFalse result → (t : List ℕ) → IsIn pair.now.sets.now t
         → (u ≢ v → slice_index t u ≡ slice_index s.old.codes u) → slice_index t v ≡ code
-        → ¬ Differ machine.now first.now second.now y t }
+        → ¬ Differ pair.now y t }
 {
-    if !has_code(*sets.get(v), code) {
+    if !has_code(*pair.sets.get(v), code) {
         return false;
     }
     s.codes.set(v, code);
-    differ(machine, first, second, y, s)
+    differ(pair, y, s)
 }
 
 // Gives the variable v the least code at which the result differs.
-fn first_code(
-    machine: &Machine,
-    first: &Row,
-    second: &Row,
-    y: u32,
-    sets: &CodeSets,
-    u: u64,
-    v: u64,
-    s: &mut Snapshot,
-) -> bool
-    requires first { IsTrue
-        (is_row machine.now.inputs machine.now.vars machine.now.results first.now) }
-    requires second { IsTrue (is_row machine.now.inputs machine.now.vars machine.now.results
-        second.now) }
-    requires area { IsBox machine.now first.now second.now sets.now }
-    requires inside { IsIn sets.now s.old.codes }
-    requires var { v < length sets.now }
-    requires of_first { Reads machine.now first.now y u v }
-    requires of_second { Reads machine.now second.now y u v }
-    ensures inside { IsIn sets.now s.new.codes }
+fn first_code(pair: &Pair<'_>, y: u32, u: u64, v: u64, s: &mut Snapshot) -> bool
+    requires reads { HangsOn pair.now y u v }
+    requires inside { IsIn pair.now.sets.now s.old.codes }
+    ensures inside { IsIn pair.now.sets.now s.new.codes }
     ensures same { (k : ℕ) → k ≢ v → slice_index s.new.codes k ≡ slice_index s.old.codes k }
-    ensures differ { IsTrue result → Differ machine.now first.now second.now y s.new.codes }
-    ensures least { IsTrue result → (t : List ℕ) → IsIn sets.now t
-        → (u ≢ v → slice_index t u ≡ slice_index s.old.codes u)
-        → Differ machine.now first.now second.now y t
+    ensures differ { IsTrue result → Differ pair.now y s.new.codes }
+    ensures least { IsTrue result → (t : List ℕ) → IsIn pair.now.sets.now t
+        → (u ≢ v → slice_index t u ≡ slice_index s.old.codes u) → Differ pair.now y t
         → slice_index s.new.codes v ≤ slice_index t v }
-    ensures none { IsFalse result → (t : List ℕ) → IsIn sets.now t
-        → (u ≢ v → slice_index t u ≡ slice_index s.old.codes u)
-        → ¬ Differ machine.now first.now second.now y t }
+    ensures none { IsFalse result → (t : List ℕ) → IsIn pair.now.sets.now t
+        → (u ≢ v → slice_index t u ≡ slice_index s.old.codes u) → ¬ Differ pair.now y t }
 {
     for code in 0..33u8 {
-        if try_code(machine, first, second, y, sets, u, v, code, s) {
+        if try_code(pair, y, u, v, code, s) {
             return true;
         }
     }
@@ -177,74 +138,39 @@ fn first_code(
 
 // Gives the variable u the code, where its set has it, and then v the least at which the result
 // differs.
-fn try_first(
-    machine: &Machine,
-    first: &Row,
-    second: &Row,
-    y: u32,
-    sets: &CodeSets,
-    u: u64,
-    v: u64,
-    code: u8,
-    s: &mut Snapshot,
-) -> bool
-    requires first { IsTrue
-        (is_row machine.now.inputs machine.now.vars machine.now.results first.now) }
-    requires second { IsTrue (is_row machine.now.inputs machine.now.vars machine.now.results
-        second.now) }
-    requires area { IsBox machine.now first.now second.now sets.now }
-    requires inside { IsIn sets.now s.old.codes }
+fn try_first(pair: &Pair<'_>, y: u32, u: u64, v: u64, code: u8, s: &mut Snapshot) -> bool
+    requires reads { HangsOn pair.now y u v }
     requires apart { u < v }
-    requires var { v < length sets.now }
     requires code { code < 64 }
-    requires of_first { Reads machine.now first.now y u v }
-    requires of_second { Reads machine.now second.now y u v }
-    ensures inside { IsIn sets.now s.new.codes }
+    requires inside { IsIn pair.now.sets.now s.old.codes }
+    ensures inside { IsIn pair.now.sets.now s.new.codes }
     ensures same { SameBut u v s.new.codes s.old.codes }
     ensures code { IsTrue result → slice_index s.new.codes u ≡ code }
-    ensures differ { IsTrue result → Differ machine.now first.now second.now y s.new.codes }
-    ensures least { IsTrue result → (t : List ℕ) → IsIn sets.now t → slice_index t u ≡ code
-        → Differ machine.now first.now second.now y t
+    ensures differ { IsTrue result → Differ pair.now y s.new.codes }
+    ensures least { IsTrue result → (t : List ℕ) → IsIn pair.now.sets.now t
+        → slice_index t u ≡ code → Differ pair.now y t
         → slice_index s.new.codes v ≤ slice_index t v }
-    ensures none { IsFalse result → (t : List ℕ) → IsIn sets.now t → slice_index t u ≡ code
-        → ¬ Differ machine.now first.now second.now y t }
+    ensures none { IsFalse result → (t : List ℕ) → IsIn pair.now.sets.now t
+        → slice_index t u ≡ code → ¬ Differ pair.now y t }
 {
-    if !has_code(*sets.get(u), code) {
+    if !has_code(*pair.sets.get(u), code) {
         return false;
     }
     s.codes.set(u, code);
-    first_code(machine, first, second, y, sets, u, v, s)
+    first_code(pair, y, u, v, s)
 }
 
 // Gives two variables the least codes at which the result differs.
-fn first_pair(
-    machine: &Machine,
-    first: &Row,
-    second: &Row,
-    y: u32,
-    sets: &CodeSets,
-    u: u64,
-    v: u64,
-    s: &mut Snapshot,
-) -> bool
-    requires first { IsTrue
-        (is_row machine.now.inputs machine.now.vars machine.now.results first.now) }
-    requires second { IsTrue (is_row machine.now.inputs machine.now.vars machine.now.results
-        second.now) }
-    requires area { IsBox machine.now first.now second.now sets.now }
-    requires inside { AreLeast sets.now s.old.codes }
+fn first_pair(pair: &Pair<'_>, y: u32, u: u64, v: u64, s: &mut Snapshot) -> bool
+    requires reads { HangsOn pair.now y u v }
     requires apart { u < v }
-    requires var { v < length sets.now }
-    requires of_first { Reads machine.now first.now y u v }
-    requires of_second { Reads machine.now second.now y u v }
-    ensures inside { IsIn sets.now s.new.codes }
-    ensures some { IsTrue result
-        → IsLeastAt machine.now first.now second.now y sets.now s.new.codes }
-    ensures none { IsFalse result → (t : List ℕ) → IsIn sets.now t
-        → ¬ Differ machine.now first.now second.now y t }
+    requires inside { AreLeast pair.now.sets.now s.old.codes }
+    ensures inside { IsIn pair.now.sets.now s.new.codes }
+    ensures some { IsTrue result → IsLeastAt pair.now y s.new.codes }
+    ensures none { IsFalse result → NeverDiffer pair.now y }
 {
     for code in 0..33u8 {
-        if try_first(machine, first, second, y, sets, u, v, code, s) {
+        if try_first(pair, y, u, v, code, s) {
             return true;
         }
     }
@@ -252,69 +178,37 @@ fn first_pair(
 }
 
 // Gives one variable the least code at which the result differs.
-fn first_single(
-    machine: &Machine,
-    first: &Row,
-    second: &Row,
-    y: u32,
-    sets: &CodeSets,
-    v: u64,
-    s: &mut Snapshot,
-) -> bool
-    requires first { IsTrue
-        (is_row machine.now.inputs machine.now.vars machine.now.results first.now) }
-    requires second { IsTrue (is_row machine.now.inputs machine.now.vars machine.now.results
-        second.now) }
-    requires area { IsBox machine.now first.now second.now sets.now }
-    requires inside { AreLeast sets.now s.old.codes }
-    requires var { v < length sets.now }
-    requires of_first { Reads machine.now first.now y v v }
-    requires of_second { Reads machine.now second.now y v v }
-    ensures inside { IsIn sets.now s.new.codes }
-    ensures some { IsTrue result
-        → IsLeastAt machine.now first.now second.now y sets.now s.new.codes }
-    ensures none { IsFalse result → (t : List ℕ) → IsIn sets.now t
-        → ¬ Differ machine.now first.now second.now y t }
+fn first_single(pair: &Pair<'_>, y: u32, v: u64, s: &mut Snapshot) -> bool
+    requires reads { HangsOn pair.now y v v }
+    requires inside { AreLeast pair.now.sets.now s.old.codes }
+    ensures inside { IsIn pair.now.sets.now s.new.codes }
+    ensures some { IsTrue result → IsLeastAt pair.now y s.new.codes }
+    ensures none { IsFalse result → NeverDiffer pair.now y }
 {
-    first_code(machine, first, second, y, sets, v, v, s)
+    first_code(pair, y, v, v, s)
 }
 
 /// Writes the least codes of the sets at which the result differs. False where it nowhere does.
-pub(crate) fn least_difference(
-    machine: &Machine,
-    first: &Row,
-    second: &Row,
-    y: u32,
-    sets: &CodeSets,
-    s: &mut Snapshot,
-) -> bool
-    requires first { IsTrue
-        (is_row machine.now.inputs machine.now.vars machine.now.results first.now) }
-    requires second { IsTrue (is_row machine.now.inputs machine.now.vars machine.now.results
-        second.now) }
-    requires area { IsBox machine.now first.now second.now sets.now }
-    requires some { AreSome sets.now }
-    requires long { length s.old.codes ≡ length sets.now }
-    ensures long { length s.new.codes ≡ length sets.now }
-    ensures some { IsTrue result
-        → IsLeastAt machine.now first.now second.now y sets.now s.new.codes }
-    ensures none { IsFalse result → (t : List ℕ) → IsIn sets.now t
-        → ¬ Differ machine.now first.now second.now y t }
+pub(crate) fn least_difference(pair: &Pair<'_>, y: u32, s: &mut Snapshot) -> bool
+    requires long { length s.old.codes ≡ length pair.now.sets.now }
+    ensures long { length s.new.codes ≡ length pair.now.sets.now }
+    ensures some { IsTrue result → IsLeastAt pair.now y s.new.codes }
+    ensures none { IsFalse result → NeverDiffer pair.now y }
 {
-    if same_source(first, second, y) {
+    if same_source(pair.first, pair.second, y) {
         return false;
     }
-    write_least(sets, &mut s.codes);
-    if sets.len() == 0 {
-        return differ(machine, first, second, y, s);
+    write_least(pair.sets, &mut s.codes);
+    if pair.sets.len() == 0 {
+        return differ(pair, y, s);
     }
-    let u = read_by(machine, first.acts.as_slice(), y);
-    let v = read_by(machine, second.acts.as_slice(), y);
+    let u = read_by(pair.machine, pair.first.acts.as_slice(), y);
+    let v = read_by(pair.machine, pair.second.acts.as_slice(), y);
     if u < v {
-        return first_pair(machine, first, second, y, sets, u, v, s);
+        return first_pair(pair, y, u, v, s);
     }
     if v < u {
-        return first_pair(machine, first, second, y, sets, v, u, s);
+        return first_pair(pair, y, v, u, s);
     }
-    first_single(machine, first, second, y, sets, v, s)
+    first_single(pair, y, v, s)
 }

@@ -7,6 +7,7 @@ mod fault;
 mod marks;
 mod masks;
 mod overlap;
+mod pair;
 mod sayers;
 mod worked;
 

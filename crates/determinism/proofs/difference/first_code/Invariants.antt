@@ -1,13 +1,14 @@
 use Rattle.std.proofs.Common.{◌≡◌, ◌≢◌, ◌<◌, ℕ, List, slice_index}
-use Rattle.determinism.specs.Common.{IsIn, Differ}
+use Rattle.determinism.specs.Common.{IsIn}
+use Rattle.determinism.specs.Pairs.{Differ}
 use Rattle.determinism.proofs.difference.first_code.Given as goal
 
 -- at no code before this one does the result differ
 abbrev pub invariant-loop-code : goal.invariant-loop-code
 invariant-loop-code l = record {
-  inside : IsIn l.sets l.s.codes;
+  inside : IsIn l.pair.sets.now l.s.codes;
   same : (k : ℕ) → k ≢ l.v → slice_index l.s.codes k ≡ slice_index l.fn.s.codes k;
-  none : (t : List ℕ) → IsIn l.sets t
+  none : (t : List ℕ) → IsIn l.pair.sets.now t
       → (l.u ≢ l.v → slice_index t l.u ≡ slice_index l.fn.s.codes l.u) → slice_index t l.v < l.code
-      → Differ l.machine l.first l.second l.y t → ⊥;
+      → ¬ Differ l.pair l.y t;
 }

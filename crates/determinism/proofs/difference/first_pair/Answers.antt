@@ -10,8 +10,8 @@ returns-then-try_first-clause-some c = λ h. record {
   differ = c.try_first.ensures.differ c.if-try_first.true;
   least = λ t there differ.
       let at = c.try_first.ensures.code c.if-try_first.true in
-      pair_before c.args.sets.now c.args.s.now.codes c.try_first.new.s.codes t c.args.u c.args.v
-      c.requires.apart c.requires.var c.requires.inside c.try_first.ensures.inside
+      pair_before c.args.pair.now.sets.now c.args.s.now.codes c.try_first.new.s.codes t c.args.u c.args.v
+      c.requires.apart c.requires.reads.there c.requires.inside c.try_first.ensures.inside
       (λ k not_u not_v. c.try_first.ensures.same k not_u not_v
       ∙ c.loop-code.invariant.same k not_u not_v)
       there
@@ -39,9 +39,9 @@ loop-code-preserved c = record {
 
 pub returns-clause-none : goal.returns-clause-none
 returns-clause-none c = λ h t there.
-    let var = c.requires.var in
+    let var = c.requires.reads.there in
     let order = c.requires.apart in
-    let few = c.requires.area.few c.args.u (slice_index t c.args.u) (omega arith)
+    let few = c.args.pair.now.area.few c.args.u (slice_index t c.args.u) (omega arith)
     (there.each c.args.u (omega arith)) in
     let all = c.loop-code-test.false in
     c.loop-code.invariant.none t there (omega arith)

@@ -7,7 +7,7 @@ returns-clause-some c = λ h. record {
   inside = c.first_code.ensures.inside;
   differ = c.first_code.ensures.differ h;
   least = λ t there differ.
-      single_before c.args.sets.now c.args.s.now.codes c.first_code.new.s.codes t c.args.v
+      single_before c.args.pair.now.sets.now c.args.s.now.codes c.first_code.new.s.codes t c.args.v
       c.requires.inside c.first_code.ensures.inside c.first_code.ensures.same there
       (c.first_code.ensures.least h t there (λ apart. absurd (apart refl)) differ);
 }

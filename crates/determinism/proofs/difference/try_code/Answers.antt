@@ -7,31 +7,30 @@ use Rattle.determinism.proofs.difference.try_code.Goals as goal
 
 pub returns-clause-inside : goal.returns-clause-inside
 returns-clause-inside c =
-    let sets = c.args.sets.now in
+    let sets = c.args.pair.now.sets.now in
     let at = get_or_from_slice_get sets c.args.v c.get.result.now 0 c.get.ensures in
     let set = eqb-true (bit_at c.get.result.now c.args.code) 1
     (sym c.has_code.ensures ∙ c.if-not-has_code.false) in
     rw c.set.ensures
-    (in_set sets c.args.s.now.codes c.args.v c.args.code c.requires.inside c.requires.var
+    (in_set sets c.args.s.now.codes c.args.v c.args.code c.requires.inside c.requires.reads.there
     (ap (λ n. bit_at n c.args.code) at ∙ set))
 
-pub differ-requires-clause-snapshot : goal.differ-requires-clause-snapshot
-differ-requires-clause-snapshot c =
-    let sets = c.args.sets.now in
+pub differ-requires : goal.differ-requires
+differ-requires c =
+    let sets = c.args.pair.now.sets.now in
     let at = get_or_from_slice_get sets c.args.v c.get.result.now 0 c.get.ensures in
     let set = eqb-true (bit_at c.get.result.now c.args.code) 1
     (sym c.has_code.ensures ∙ c.if-not-has_code.false) in
     let inside = in_set sets c.args.s.now.codes c.args.v c.args.code c.requires.inside
-    c.requires.var (ap (λ n. bit_at n c.args.code) at ∙ set) in
-    rw c.set.ensures (c.requires.area.inside _ inside).snapshot
+    c.requires.reads.there (ap (λ n. bit_at n c.args.code) at ∙ set) in
+    record { snapshot = rw c.set.ensures (c.args.pair.now.area.inside _ inside).snapshot }
 
 pub returns-clause-none : goal.returns-clause-none
 returns-clause-none c = λ h t there at_u at_v.
     let long = c.requires.inside.long in
-    let var = c.requires.var in
+    let var = c.requires.reads.there in
     let agrees = set_agrees c.args.s.now.codes t c.args.u c.args.v c.args.code (omega arith)
     at_u at_v in
-    same_there c.args.machine.now c.args.first.now c.args.second.now c.args.y c.args.u c.args.v t
-    (slice_set c.args.s.now.codes c.args.v c.args.code) c.requires.of_first c.requires.of_second
-    agrees.0 agrees.1
+    same_there c.args.pair.now c.args.y c.args.u c.args.v t
+    (slice_set c.args.s.now.codes c.args.v c.args.code) c.requires.reads agrees.0 agrees.1
     (rw c.set.ensures at (c.differ.ensures.same h))

@@ -79,13 +79,13 @@ none_more x h = cases x.stamp x.entry h
 
 -- a reaction at the end is the last one
 pub last_here :
-    (net : Network) (m : ℕ) (log : List Stamped) (p : Pending)
-    → IsLast net m (Some (p.stamp, p.snapshot)) (log ++ decided net m p ∷ [])
-last_here net m log p = (
-  ap (last_of {X = Option (ℕ × Snapshot)} None) (reactions_more log (decided net m p))
-      ∙ last_more {X = Option (ℕ × Snapshot)} None (reactions log) (Some (p.stamp, p.snapshot)),
-  λ fires. firings_more m log (decided net m p) true
-      (and_from (m == m) (outcome_in net m p.snapshot).fires (eq-eqb m m refl) fires),
+    (net : Network) (m : ℕ) (moment : Snapshot) (log : List Stamped) (p : Pending)
+    → IsLast net m (Some (p.stamp, moment)) (log ++ decided net m moment p ∷ [])
+last_here net m moment log p = (
+  ap (last_of {X = Option (ℕ × Snapshot)} None) (reactions_more log (decided net m moment p))
+      ∙ last_more {X = Option (ℕ × Snapshot)} None (reactions log) (Some (p.stamp, moment)),
+  λ fires. firings_more m log (decided net m moment p) true
+      (and_from (m == m) (outcome_in net m moment).fires (eq-eqb m m refl) fires),
 )
 
 -- and stays so when a delivery comes after it

@@ -2,7 +2,7 @@
 use Rattle.std.specs.Prelude.{◌≡◌, ℕ, ◌+◌, ◌<◌, Bool, true, false, cond, ◌||◌, is_some, List, [], ◌∷◌, ◌++◌, take, length, slice_get, slice_set, Option, Some, None, IsSomeAnd}
 use Rattle.std.proofs.Common.{refl, sym, ap, ◌∙◌, subst, arith}
 use Rattle.std.proofs.lemmas.Bool.{eq-eqb}
-use Rattle.transition_table.specs.Transitions.{OfMachine, IsSnapshot, IsOutcome, HasWidths}
+use Rattle.transition_table.specs.Transitions.{OfMachine, IsSnapshot, IsOutcome}
 use Rattle.transition_table.specs.declared.machine.Machine.{Machine}
 use Rattle.transition_table.specs.declared.network.Network.{Network}
 use Rattle.transition_table.specs.declared.snapshot.Snapshot.{Snapshot}
@@ -24,9 +24,11 @@ use Rattle.event_buffer.proofs.Tabling.{outcome_holds}
 
 -- ---- where nothing is pending
 
-pub nothing_pending : (p : Option Pending) → frozen_of p ≡ None → p ≡ None
-nothing_pending None h = refl
-nothing_pending (Some p) h = absurd cc
+pub nothing_pending :
+    (moment : Snapshot) (p : Option Pending)
+    → frozen_of moment p ≡ None → p ≡ None
+nothing_pending moment None h = refl
+nothing_pending moment (Some p) h = absurd cc
 
 pub ready_parts :
     (busy : Bool) (frozen : Option (ℕ × Snapshot)) (woken : Bool)
@@ -39,29 +41,23 @@ ready_parts false None false h = absurd cc
 
 -- a cell that looks Ready
 pub ready_cell :
-    (net : Network) (m : ℕ) (busy : Bool) (pending : Option Pending) (log : List Stamped)
-    (c : CellState)
-    → shown net m busy pending log ≡ c
+    (net : Network) (m : ℕ) (moment : Snapshot) (woken : Bool) (time : ℕ) (busy : Bool)
+    (pending : Option Pending) (log : List Stamped) (c : CellState)
+    → IsCell net m moment woken time pending log
+    → shown net m moment busy pending log ≡ c
     → look c ≡ Ready
     → (pending ≡ None) × (is_woken (entries log) m ≡ true)
-ready_cell net m busy pending log c view ready =
+    × IsCell net m moment woken time None log
+ready_cell net m moment woken time busy pending log c kept view ready =
     let parts =
-    ready_parts busy (frozen_of pending) (is_woken (entries (filled net m pending log)) m)
-    (ap look view ∙ ready) in
-    let none = nothing_pending pending parts.1 in (
+    ready_parts busy (frozen_of moment pending)
+    (is_woken (entries (filled net m moment pending log)) m) (ap look view ∙ ready) in
+    let none = nothing_pending moment pending parts.1 in (
       none,
-      subst (λ (o : Option Pending). is_woken (entries (filled net m o log)) m ≡ true) none
+      subst (λ (o : Option Pending). is_woken (entries (filled net m moment o log)) m ≡ true) none
           parts.2,
+      subst (λ (o : Option Pending). IsCell net m moment woken time o log) none kept,
     )
-
-pub none_pending :
-    (net : Network) (m : ℕ) (moment : Snapshot) (woken : Bool) (time : ℕ)
-    (pending : Option Pending) (log : List Stamped)
-    → pending ≡ None
-    → IsCell net m moment woken time pending log
-    → IsCell net m moment woken time None log
-none_pending net m moment woken time pending log none kept =
-    subst (λ (o : Option Pending). IsCell net m moment woken time o log) none kept
 
 pub moment_fits :
     (net : Network) (m : ℕ) (moment : Snapshot) (woken : Bool) (time : ℕ) (log : List Stamped)
@@ -94,22 +90,27 @@ may_react net m log gives fits exists legal woken room = record {
 }
 
 pub frozen_log :
-    (net : Network) (m : ℕ) (log more : List Stamped) (p : Pending) (x : Stamped)
+    (net : Network) (m : ℕ) (moment : Snapshot) (log more : List Stamped) (p : Pending)
+    (x : Stamped)
     → p.place ≡ length log
     → more ≡ log ++ x ∷ []
-    → slice_set more p.place (decided net m p) ≡ log ++ decided net m p ∷ []
-frozen_log net m log more p x place is =
-    ap (λ (l : List Stamped). slice_set l p.place (decided net m p)) is
-    ∙ ap (λ (k : ℕ). slice_set (log ++ x ∷ []) k (decided net m p)) place
-    ∙ set_last log x (decided net m p)
+    → filled net m moment (Some p) more ≡ log ++ decided net m moment p ∷ []
+frozen_log net m moment log more p x place is =
+    let y : Stamped = decided net m moment p in
+    ap (λ (l : List Stamped). slice_set l p.place y) is
+    ∙ ap (λ (k : ℕ). slice_set (log ++ x ∷ []) k y) place
+    ∙ set_last log x y
 
 pub decided_is :
-    (net : Network) (m : ℕ) (log : List Stamped) (p : Pending)
-    → p.stamp ≡ clock log + 1
-    → p.snapshot ≡ snap net (entries log) m
-    → decided net m p ≡ reacting net m log
-decided_is net m log p stamp snapshot =
-    λ i. stamped (stamp i) (Rea m (snapshot i) (outcome_in net m (snapshot i)))
+    (net : Network) (m : ℕ) (moment : Snapshot) (woken : Bool) (time : ℕ) (log : List Stamped)
+    (p : Pending)
+    → IsCell net m moment woken time None log
+    → p.stamp ≡ time + 1
+    → decided net m moment p ≡ reacting net m log
+decided_is net m moment woken time log p kept stamp =
+    let at : p.stamp ≡ clock log + 1 = stamp ∙ ap (λ (n : ℕ). n + 1) kept.time_is in
+    let to = kept.moment_is in
+    λ i. stamped (at i) (Rea m (to i) (outcome_in net m (to i)))
 
 pub frozen_kept :
     (net : Network) (m : ℕ) (moment : Snapshot) (woken : Bool) (time : ℕ)
@@ -123,20 +124,15 @@ pub frozen_kept :
     → time < max_stamp
     → p.place ≡ length log
     → p.stamp ≡ time + 1
-    → p.snapshot ≡ moment
-    → OfMachine net m (λ machine. HasWidths machine p.outcome)
     → more ≡ log ++ x ∷ []
     → IsCell net m moment false (time + 1) (Some p) more
 frozen_kept net m moment woken time log more p x gives fits steps waking kept ready room place stamp
-    snapshot widths is =
-    let y : Stamped = decided net m p in
-    let whole : slice_set more p.place y ≡ log ++ y ∷ [] =
-    frozen_log net m log more p x place is in
+    is =
+    let y : Stamped = decided net m moment p in
+    let whole = frozen_log net m moment log more p x place is in
     let same = kept.time_is in
-    let reaction : y ≡ reacting net m log =
-    decided_is net m log p (stamp ∙ ap (λ (n : ℕ). n + 1) same) (snapshot ∙ kept.moment_is) in
     let next : MayAppend net m log y =
-    subst (MayAppend net m log) (sym reaction)
+    subst (MayAppend net m log) (sym (decided_is net m moment woken time log p kept stamp))
     (may_react net m log gives fits kept.exists kept.legal ready (omega arith)) in
     let first : take p.place more ≡ log =
     ap (λ (l : List Stamped). take p.place l) is
@@ -158,9 +154,9 @@ frozen_kept net m moment woken time log more p x gives fits steps waking kept re
           ∙ waking (entries log) y.entry m
           ∙ ap (λ b. cond b false (is_woken (entries log) m)) (eq-eqb m m refl));
       time_is = sym (ap clock whole ∙ clock_more log y ∙ stamp);
-      pending_is = (omega arith, snapshot, widths);
+      pending_is = omega arith;
       last_is =
-          subst (IsLast net m (Some (p.stamp, p.snapshot))) (sym whole) (last_here net m log p);
+          subst (IsLast net m (Some (p.stamp, moment))) (sym whole) (last_here net m moment log p);
     }
   where
     long : (xs : List Stamped) (y : Stamped) → length (xs ++ y ∷ []) ≡ length xs + 1
@@ -173,20 +169,20 @@ pub frozen_view :
     (c : CellState)
     → IsCell net m moment woken time None log
     → pending ≡ None
-    → shown net m busy pending log ≡ c
+    → shown net m moment busy pending log ≡ c
     → p.place ≡ length log
     → p.stamp ≡ time + 1
-    → p.snapshot ≡ moment
     → more ≡ log ++ x ∷ []
-    → shown net m busy (Some p) more ≡ freezing c
-frozen_view net m moment woken time busy pending log more p x c kept none view place stamp
-    snapshot is =
+    → shown net m moment busy (Some p) more ≡ freezing c
+frozen_view net m moment woken time busy pending log more p x c kept none view place stamp is =
     let at : p.stamp ≡ clock log + 1 = stamp ∙ ap (λ (n : ℕ). n + 1) kept.time_is in
-    let to : p.snapshot ≡ snap net (entries log) m = snapshot ∙ kept.moment_is in
-    let whole : filled net m (Some p) more ≡ log ++ reacting net m log ∷ [] =
-    frozen_log net m log more p x place is
-    ∙ ap (λ (y : Stamped). log ++ y ∷ []) (decided_is net m log p at to) in
-    let here : shown net m busy (Some p) more ≡ freezing (shown net m busy None log) =
+    let to = kept.moment_is in
+    let whole : filled net m moment (Some p) more ≡ log ++ reacting net m log ∷ [] =
+    frozen_log net m moment log more p x place is
+    ∙ ap (λ (y : Stamped). log ++ y ∷ [])
+    (decided_is net m moment woken time log p kept stamp) in
+    let here :
+    shown net m moment busy (Some p) more ≡ freezing (shown net m moment busy None log) =
     λ i. record {
       net = net;
       machine = m;
@@ -195,7 +191,7 @@ frozen_view net m moment woken time busy pending log more p x c kept none view p
       frozen = Some (at i, to i);
     } in
     here
-    ∙ ap (λ (o : Option Pending). freezing (shown net m busy o log)) (sym none)
+    ∙ ap (λ (o : Option Pending). freezing (shown net m moment busy o log)) (sym none)
     ∙ ap freezing view
 
 -- ---- what a pending reaction is to
@@ -204,16 +200,16 @@ pub pending_fits :
     (net : Network) (m : ℕ) (moment : Snapshot) (woken : Bool) (time : ℕ) (p : Pending)
     (log : List Stamped)
     → IsCell net m moment woken time (Some p) log
-    → OfMachine net m (λ machine. IsSnapshot machine p.snapshot)
+    → OfMachine net m (λ machine. IsSnapshot machine moment)
 pending_fits net m moment woken time p log kept =
+    let y : Stamped = decided net m moment p in
     let item =
-    item_of_legal net m (filled net m (Some p) log) p.place (decided net m p) kept.legal
-    (get_of_set log p.place (decided net m p) (kept.pending_is).0) in
+    item_of_legal net m (filled net m moment (Some p) log) p.place y kept.legal
+    (get_of_set log p.place y kept.pending_is) in
     elim (slice_get net.machines m) as (λ (found : Option Machine).
     IsSomeAnd found
-    (λ machine. IsSnapshot machine p.snapshot
-    × IsOutcome machine (outcome_in net m p.snapshot))
-    → IsSomeAnd found (λ machine. IsSnapshot machine p.snapshot)) [
+    (λ machine. IsSnapshot machine moment × IsOutcome machine (outcome_in net m moment))
+    → IsSomeAnd found (λ machine. IsSnapshot machine moment)) [
       | None ↦ λ none. absurd none
       | Some machine ↦ λ here. here.0
     ] item.0

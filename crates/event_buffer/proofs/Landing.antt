@@ -47,39 +47,27 @@ may_land net m log a latest h to below room =
 pub filled_more :
     (net : Network) (m : ℕ) (moment : Snapshot) (pending : Option Pending) (log : List Stamped)
     (x : Stamped)
-    → IsPending net m moment pending log
-    → filled net m pending (log ++ x ∷ []) ≡ filled net m pending log ++ x ∷ []
+    → IsPending pending log
+    → filled net m moment pending (log ++ x ∷ []) ≡ filled net m moment pending log ++ x ∷ []
 filled_more net m moment None log x h = refl
-filled_more net m moment (Some p) log x h = set_within log p.place x (decided net m p) h.0
-
-pub landed_log :
-    (net : Network) (m : ℕ) (moment : Snapshot) (woken : Bool) (time : ℕ) (busy : Bool)
-    (pending : Option Pending) (log more : List Stamped) (a : Arrival) (latest : ℕ)
-    (c : CellState)
-    → IsCell net m moment woken time pending log
-    → shown net m busy pending log ≡ c
-    → latest ≡ max (clock c.log) a.stamp
-    → more ≡ log ++ stamped (latest + 1) (delivering (owed_of a)) ∷ []
-    → filled net m pending more ≡ c.log ++ landing c.log a.stamp (owed_of a) ∷ []
-landed_log net m moment woken time busy pending log more a latest c kept view is added =
-    let x : Stamped = stamped (latest + 1) (delivering (owed_of a)) in
-    ap (filled net m pending) added
-    ∙ filled_more net m moment pending log x kept.pending_is
-    ∙ ap (λ (s : CellState). s.log ++ x ∷ []) view
-    ∙ ap (λ (n : ℕ). c.log ++ stamped (n + 1) (delivering (owed_of a)) ∷ []) is
+filled_more net m moment (Some p) log x h = set_within log p.place x (decided net m moment p) h
 
 pub landed_view :
     (net : Network) (m : ℕ) (moment : Snapshot) (woken : Bool) (time : ℕ) (busy : Bool)
     (pending : Option Pending) (log more : List Stamped) (a : Arrival) (latest : ℕ)
     (c : CellState)
     → IsCell net m moment woken time pending log
-    → shown net m busy pending log ≡ c
+    → shown net m moment busy pending log ≡ c
     → latest ≡ max (clock c.log) a.stamp
     → more ≡ log ++ stamped (latest + 1) (delivering (owed_of a)) ∷ []
-    → shown net m busy pending more ≡ taking c a
+    → shown net m moment busy pending more ≡ taking c a
 landed_view net m moment woken time busy pending log more a latest c kept view is added =
-    let whole =
-    landed_log net m moment woken time busy pending log more a latest c kept view is added in
+    let x : Stamped = stamped (latest + 1) (delivering (owed_of a)) in
+    let whole : filled net m moment pending more ≡ c.log ++ landing c.log a.stamp (owed_of a) ∷ [] =
+    ap (filled net m moment pending) added
+    ∙ filled_more net m moment pending log x kept.pending_is
+    ∙ ap (λ (s : CellState). s.log ++ x ∷ []) view
+    ∙ ap (λ (n : ℕ). c.log ++ stamped (n + 1) (delivering (owed_of a)) ∷ []) is in
     λ i. record {
       net = (ap (λ (s : CellState). s.net) view) i;
       machine = (ap (λ (s : CellState). s.machine) view) i;
@@ -90,27 +78,28 @@ landed_view net m moment woken time busy pending log more a latest c kept view i
 
 -- the last firing is the same
 pub landed_firing :
-    (net : Network) (m : ℕ) (busy : Bool) (pending : Option Pending) (more : List Stamped)
-    (a : Arrival) (c : CellState)
-    → shown net m busy pending more ≡ taking c a
-    → firing_stamp m (filled net m pending more) ≡ firing_stamp c.machine c.log
-landed_firing net m busy pending more a c view =
+    (net : Network) (m : ℕ) (moment : Snapshot) (busy : Bool) (pending : Option Pending)
+    (more : List Stamped) (a : Arrival) (c : CellState)
+    → shown net m moment busy pending more ≡ taking c a
+    → firing_stamp m (filled net m moment pending more) ≡ firing_stamp c.machine c.log
+landed_firing net m moment busy pending more a c view =
     ap (λ (s : CellState). firing_stamp s.machine s.log) view
     ∙ same_firing c.machine c.log (landing c.log a.stamp (owed_of a)) refl
 
 -- what lands in a cell may come after its log
 pub may_land_in :
-    (net : Network) (m : ℕ) (busy : Bool) (pending : Option Pending) (log : List Stamped)
-    (a : Arrival) (latest : ℕ) (c : CellState)
-    → shown net m busy pending log ≡ c
+    (net : Network) (m : ℕ) (moment : Snapshot) (busy : Bool) (pending : Option Pending)
+    (log : List Stamped) (a : Arrival) (latest : ℕ) (c : CellState)
+    → shown net m moment busy pending log ≡ c
     → is_arrival c.net a ≡ true
     → a.to ≡ c.machine
     → latest ≡ max (clock c.log) a.stamp
     → latest < max_stamp
-    → MayAppend net m (filled net m pending log) (stamped (latest + 1) (delivering (owed_of a)))
-may_land_in net m busy pending log a latest c view arrives to is room =
+    → MayAppend net m (filled net m moment pending log)
+    (stamped (latest + 1) (delivering (owed_of a)))
+may_land_in net m moment busy pending log a latest c view arrives to is room =
     let same = ap (λ (s : CellState). clock s.log) view in
-    may_land net m (filled net m pending log) a latest
+    may_land net m (filled net m moment pending log) a latest
     (subst (λ (s : CellState). is_arrival s.net a ≡ true) (sym view) arrives)
     (to ∙ sym (ap (λ (s : CellState). s.machine) view))
     (omega arith)
@@ -122,18 +111,16 @@ landed_kept :
     → AloneBySteps
     → MovesWaking
     → IsCell net m moment woken time pending log
-    → MayAppend net m (filled net m pending log) x
+    → MayAppend net m (filled net m moment pending log) x
     → is_dep x.entry ≡ true
-    → more ≡ log ++ x ∷ []
+    → filled net m after pending more ≡ filled net m moment pending log ++ x ∷ []
+    → frozen_of after pending ≡ frozen_of moment pending
     → after ≡ snap net (entries (before pending more)) m
-    → IsPending net m after pending more
+    → IsPending pending more
     → IsCell net m after true x.stamp pending more
-landed_kept net m moment after woken time pending log more x steps waking kept next dep is
+landed_kept net m moment after woken time pending log more x steps waking kept next dep whole frozen
     moment_is pending_is =
-    let old : List Stamped = filled net m pending log in
-    let whole : filled net m pending more ≡ old ++ x ∷ [] =
-    ap (λ (l : List Stamped). filled net m pending l) is
-    ∙ filled_more net m moment pending log x kept.pending_is in
+    let old : List Stamped = filled net m moment pending log in
     let own = own_machine net m x.entry next.own in
     record {
       exists = kept.exists;
@@ -151,27 +138,23 @@ landed_kept net m moment after woken time pending log more x steps waking kept n
       time_is = sym (ap clock whole ∙ clock_more old x);
       pending_is = pending_is;
       last_is =
-          subst (IsLast net m (frozen_of pending)) (sym whole)
-          (last_stays net m (frozen_of pending) old x dep kept.last_is);
+          subst (λ f. IsLast net m f (filled net m after pending more)) (sym frozen)
+          (subst (IsLast net m (frozen_of moment pending)) (sym whole)
+          (last_stays net m (frozen_of moment pending) old x dep kept.last_is));
     }
 
 -- ---- beside a pending reaction
 
 landed_beside :
-    (net : Network) (m : ℕ) (moment : Snapshot) (p : Pending) (log more : List Stamped)
-    (x : Stamped)
-    → IsPending net m moment (Some p) log
+    (pending : Option Pending) (log more : List Stamped) (x : Stamped) (p : Pending)
+    → IsPending pending log
     → more ≡ log ++ x ∷ []
-    → (take p.place more ≡ take p.place log) × IsPending net m moment (Some p) more
-landed_beside net m moment p log more x h is = (
-  ap (λ (l : List Stamped). take p.place l) is
-      ∙ take_within log p.place x (let a = h.0 in omega arith),
-  (
-    (let size = ap (λ (l : List Stamped). length l) is ∙ long log x in
-        let a = h.0 in omega arith),
-    h.1,
-    h.2,
-  ),
+    → pending ≡ Some p
+    → (before pending more ≡ before pending log) × IsPending pending more
+landed_beside None log more x p h is some = absurd cc
+landed_beside (Some q) log more x p h is some = (
+  ap (λ (l : List Stamped). take q.place l) is ∙ take_within log q.place x (omega arith),
+  (let size = ap (λ (l : List Stamped). length l) is ∙ long log x in omega arith),
 )
   where
     long : (xs : List Stamped) (y : Stamped) → length (xs ++ y ∷ []) ≡ length xs + 1
@@ -184,23 +167,29 @@ pub landed_frozen :
     → AloneBySteps
     → MovesWaking
     → IsCell net m moment woken time pending log
-    → MayAppend net m (filled net m pending log) x
+    → MayAppend net m (filled net m moment pending log) x
     → is_dep x.entry ≡ true
     → more ≡ log ++ x ∷ []
     → pending ≡ Some p
     → IsCell net m moment true x.stamp pending more
 landed_frozen net m moment woken time pending log more x p steps waking kept next dep is some =
-    let here : IsPending net m moment (Some p) log =
-    subst (λ (o : Option Pending). IsPending net m moment o log) some kept.pending_is in
-    let beside = landed_beside net m moment p log more x here is in
-    landed_kept net m moment moment woken time pending log more x steps waking kept next dep is
-    (kept.moment_is
-    ∙ ap (λ (o : Option Pending). snap net (entries (before o log)) m) some
-    ∙ ap (λ (l : List Stamped). snap net (entries l) m) (sym beside.0)
-    ∙ ap (λ (o : Option Pending). snap net (entries (before o more)) m) (sym some))
-    (subst (λ (o : Option Pending). IsPending net m moment o more) (sym some) beside.1)
+    let beside = landed_beside pending log more x p kept.pending_is is some in
+    landed_kept net m moment moment woken time pending log more x steps waking kept next dep
+    (ap (filled net m moment pending) is ∙ filled_more net m moment pending log x kept.pending_is)
+    refl
+    (kept.moment_is ∙ ap (λ (l : List Stamped). snap net (entries l) m) (sym beside.0))
+    beside.1
 
 -- ---- and where none is
+
+-- the moment is in no place then
+pub moved_view :
+    (net : Network) (m : ℕ) (moment after : Snapshot) (busy : Bool) (pending : Option Pending)
+    (log : List Stamped)
+    → pending ≡ None
+    → shown net m after busy pending log ≡ shown net m moment busy pending log
+moved_view net m moment after busy None log none = refl
+moved_view net m moment after busy (Some p) log none = absurd cc
 
 pub landed_thawed :
     (net : Network) (m : ℕ) (moment after : Snapshot) (woken : Bool) (time : ℕ)
@@ -208,7 +197,7 @@ pub landed_thawed :
     → AloneBySteps
     → MovesWaking
     → IsCell net m moment woken time pending log
-    → MayAppend net m (filled net m pending log) x
+    → MayAppend net m (filled net m moment pending log) x
     → is_dep x.entry ≡ true
     → more ≡ log ++ x ∷ []
     → pending ≡ None
@@ -216,7 +205,12 @@ pub landed_thawed :
     → IsCell net m after true x.stamp pending more
 landed_thawed net m moment after woken time pending log more x steps waking kept next dep is none
     moment_is =
-    landed_kept net m moment after woken time pending log more x steps waking kept next dep is
+    let same = moved_view net m moment after true pending more none in
+    landed_kept net m moment after woken time pending log more x steps waking kept next dep
+    (ap (λ (s : CellState). s.log) same
+    ∙ ap (filled net m moment pending) is
+    ∙ filled_more net m moment pending log x kept.pending_is)
+    (ap (λ (s : CellState). s.frozen) same)
     (moment_is
     ∙ ap (λ (o : Option Pending). snap net (entries (before o more)) m) (sym none))
-    (subst (λ (o : Option Pending). IsPending net m after o more) (sym none) tt)
+    (subst (λ (o : Option Pending). IsPending o more) (sym none) tt)

@@ -21,8 +21,8 @@ use Rattle.event_buffer.proofs.Tabling.{one_written}
 
 -- what is written is the pending reaction with its outcome
 pub written_is :
-    (net : Network) (m : ℕ) (p : Pending) (other : Network) (machine stamp : ℕ)
-    (snapshot : Snapshot) (outcome : Outcome)
+    (net : Network) (m : ℕ) (moment : Snapshot) (p : Pending) (other : Network)
+    (machine stamp : ℕ) (snapshot : Snapshot) (outcome : Outcome)
     → OneOutcome
     → GivesTransition
     → AreDeterministic net
@@ -31,9 +31,9 @@ pub written_is :
     → other ≡ net
     → machine ≡ m
     → stamp ≡ p.stamp
-    → snapshot ≡ p.snapshot
-    → stamped stamp (Rea machine snapshot outcome) ≡ decided net m p
-written_is net m p other machine stamp snapshot outcome one gives all fits written same_net
+    → snapshot ≡ moment
+    → stamped stamp (Rea machine snapshot outcome) ≡ decided net m moment p
+written_is net m moment p other machine stamp snapshot outcome one gives all fits written same_net
     same_machine same_stamp same_snapshot =
     let fit =
     subst (λ (n : Network). OfMachine n machine (λ machine. IsSnapshot machine snapshot))
@@ -46,7 +46,7 @@ written_is net m p other machine stamp snapshot outcome one gives all fits writt
     let done' =
     subst (λ (k : ℕ). OfMachine net k (λ machine. Transition machine snapshot outcome))
     same_machine done in
-    let is : outcome ≡ outcome_in net m p.snapshot =
+    let is : outcome ≡ outcome_in net m moment =
     one_written net m snapshot outcome one gives all fit' done'
     ∙ ap (outcome_in net m) same_snapshot in
     λ i. stamped (same_stamp i) (Rea (same_machine i) (same_snapshot i) (is i))
@@ -55,7 +55,7 @@ pub settled_kept :
     (net : Network) (m : ℕ) (moment after : Snapshot) (woken : Bool) (time : ℕ) (p : Pending)
     (log more : List Stamped)
     → IsCell net m moment woken time (Some p) log
-    → more ≡ filled net m (Some p) log
+    → more ≡ filled net m moment (Some p) log
     → after ≡ snap net (entries more) m
     → IsCell net m after woken time None more
 settled_kept net m moment after woken time p log more kept is moment_is = record {
@@ -94,40 +94,24 @@ pub settling_is :
     → OneOutcome
     → GivesTransition
     → IsCell net m moment woken time pending log
-    → shown net m busy pending log ≡ c
+    → shown net m moment busy pending log ≡ c
     → pending ≡ Some p
     → c.frozen ≡ Some (stamp, snapshot)
     → machine ≡ c.machine
     → OfMachine c.net machine (λ machine. IsSnapshot machine snapshot)
     → OfMachine c.net machine (λ machine. Transition machine snapshot outcome)
-    → (stamped stamp (Rea machine snapshot outcome) ≡ decided net m p) × (stamp ≡ p.stamp)
+    → (stamped stamp (Rea machine snapshot outcome) ≡ decided net m moment p)
+    × (stamp ≡ p.stamp)
 settling_is net m moment woken time busy pending log p c machine stamp snapshot outcome one gives
     kept view some frozen same fits ran =
-    let at : ◌≡◌ {A = Option (ℕ × Snapshot)} (Some (stamp, snapshot)) (Some (p.stamp, p.snapshot)) =
-    sym frozen ∙ sym (ap (λ (s : CellState). s.frozen) view) ∙ ap frozen_of some in
-    let parts = same_parts stamp p.stamp snapshot p.snapshot at in (
-      written_is net m p c.net machine stamp snapshot outcome one gives kept.deterministic fits ran
-          (sym (ap (λ (s : CellState). s.net) view))
+    let at : ◌≡◌ {A = Option (ℕ × Snapshot)} (Some (stamp, snapshot)) (Some (p.stamp, moment)) =
+    sym frozen ∙ sym (ap (λ (s : CellState). s.frozen) view) ∙ ap (frozen_of moment) some in
+    let parts = same_parts stamp p.stamp snapshot moment at in (
+      written_is net m moment p c.net machine stamp snapshot outcome one gives kept.deterministic
+          fits ran (sym (ap (λ (s : CellState). s.net) view))
           (same ∙ sym (ap (λ (s : CellState). s.machine) view)) parts.0 parts.1,
       parts.0,
     )
-
--- and its outcome is the one that the rows give
-pub settling_outcome :
-    (net : Network) (m : ℕ) (moment : Snapshot) (woken : Bool) (time : ℕ) (busy : Bool)
-    (pending : Option Pending) (log : List Stamped) (c : CellState) (machine : ℕ)
-    (snapshot : Snapshot) (outcome : Outcome)
-    → OneOutcome
-    → GivesTransition
-    → IsCell net m moment woken time pending log
-    → shown net m busy pending log ≡ c
-    → OfMachine c.net machine (λ machine. IsSnapshot machine snapshot)
-    → OfMachine c.net machine (λ machine. Transition machine snapshot outcome)
-    → outcome ≡ outcome_in c.net machine snapshot
-settling_outcome net m moment woken time busy pending log c machine snapshot outcome one gives kept
-    view fits ran =
-    one_written c.net machine snapshot outcome one gives
-    (subst AreDeterministic (ap (λ (s : CellState). s.net) view) kept.deterministic) fits ran
 
 pub outcome_seen :
     (f g : FrozenState) (net : Network)
@@ -141,35 +125,35 @@ outcome_seen f g net view same is =
 
 -- the log in which the pending reaction is written is the one that contracts see
 pub settled_log :
-    (net : Network) (m : ℕ) (busy : Bool) (pending : Option Pending) (log more : List Stamped)
-    (p : Pending) (c : CellState) (x : Stamped)
-    → shown net m busy pending log ≡ c
+    (net : Network) (m : ℕ) (moment : Snapshot) (busy : Bool) (pending : Option Pending)
+    (log more : List Stamped) (p : Pending) (c : CellState) (x : Stamped)
+    → shown net m moment busy pending log ≡ c
     → pending ≡ Some p
     → more ≡ slice_set log p.place x
-    → x ≡ decided net m p
+    → x ≡ decided net m moment p
     → more ≡ c.log
-settled_log net m busy pending log more p c x view some set is =
+settled_log net m moment busy pending log more p c x view some set is =
     set
     ∙ ap (slice_set log p.place) is
-    ∙ sym (ap (λ (o : Option Pending). filled net m o log) some)
+    ∙ sym (ap (λ (o : Option Pending). filled net m moment o log) some)
     ∙ ap (λ (s : CellState). s.log) view
 
 pub thawed_view :
-    (net : Network) (m : ℕ) (busy : Bool) (pending : Option Pending) (log more : List Stamped)
-    (after : Option Pending) (c : CellState)
-    → shown net m busy pending log ≡ c
-    → after ≡ None
+    (net : Network) (m : ℕ) (moment after : Snapshot) (busy : Bool) (pending rest : Option Pending)
+    (log more : List Stamped) (c : CellState)
+    → shown net m moment busy pending log ≡ c
+    → rest ≡ None
     → more ≡ c.log
-    → shown net m busy after more ≡ record c { frozen = None }
-thawed_view net m busy pending log more after c view none is =
-    let whole : filled net m after more ≡ c.log =
-    ap (λ (o : Option Pending). filled net m o more) none ∙ is in
+    → shown net m after busy rest more ≡ record c { frozen = None }
+thawed_view net m moment after busy pending rest log more c view none is =
+    let whole : filled net m after rest more ≡ c.log =
+    ap (λ (o : Option Pending). filled net m after o more) none ∙ is in
     λ i. record {
       net = (ap (λ (s : CellState). s.net) view) i;
       machine = (ap (λ (s : CellState). s.machine) view) i;
       log = whole i;
       busy = (ap (λ (s : CellState). s.busy) view) i;
-      frozen = (ap frozen_of none) i;
+      frozen = (ap (frozen_of after) none) i;
     }
 
 -- where the pending reaction fires, it is the machine's last firing
@@ -177,15 +161,15 @@ pub settled_firing :
     (net : Network) (m : ℕ) (moment : Snapshot) (woken : Bool) (time : ℕ) (busy : Bool)
     (pending : Option Pending) (log : List Stamped) (p : Pending) (c : CellState) (stamp : ℕ)
     → IsCell net m moment woken time pending log
-    → shown net m busy pending log ≡ c
+    → shown net m moment busy pending log ≡ c
     → pending ≡ Some p
     → stamp ≡ p.stamp
-    → (outcome_in net m p.snapshot).fires ≡ true
+    → (outcome_in net m moment).fires ≡ true
     → firing_stamp c.machine c.log ≡ stamp
 settled_firing net m moment woken time busy pending log p c stamp kept view some at fires =
     let last = (some_pending net m moment woken time pending log p some kept).last_is in
     sym (ap (λ (s : CellState). firing_stamp s.machine s.log) view)
-    ∙ ap (λ (o : Option Pending). firing_stamp m (filled net m o log)) some
+    ∙ ap (λ (o : Option Pending). firing_stamp m (filled net m moment o log)) some
     ∙ last.1 fires
     ∙ sym at
 

@@ -1,7 +1,7 @@
 -- What a cell stands for, and what it keeps. One reaction in its log may wait for its outcome.
 use Rattle.std.specs.Prelude.{◌≡◌, ℕ, ◌+◌, ◌<◌, Bool, true, false, ◌||◌, List, [], ◌∷◌, ◌++◌, map, filter, length, take, slice_set, is_some, Option, Some, None, ⊤}
 use Rattle.polis_base.specs.Lists.{last_of}
-use Rattle.transition_table.specs.Transitions.{OfMachine, HasWidths, AreDeterministic}
+use Rattle.transition_table.specs.Transitions.{AreDeterministic}
 use Rattle.transition_table.specs.declared.network.Network.{Network}
 use Rattle.transition_table.specs.declared.snapshot.Snapshot.{Snapshot}
 use Rattle.journals.specs.declared.entry.Entry.{Entry}
@@ -67,40 +67,39 @@ last_reaction log =
 
 -- ---- what it keeps
 
--- the pending reaction with the outcome of the machine's transition
-abbrev pub decided : Network → ℕ → Pending → Stamped
-decided net m p = stamped p.stamp (Rea m p.snapshot (outcome_in net m p.snapshot))
+-- the pending reaction, which is to the snapshot that is kept, with the outcome of the transition
+abbrev pub decided : Network → ℕ → Snapshot → Pending → Stamped
+decided net m moment p = stamped p.stamp (Rea m moment (outcome_in net m moment))
 
 -- the log, in which the pending reaction has that outcome
-abbrev pub filled : Network → ℕ → Option Pending → List Stamped → List Stamped
-filled net m None log = log
-filled net m (Some p) log = slice_set log p.place (decided net m p)
+abbrev pub filled : Network → ℕ → Snapshot → Option Pending → List Stamped → List Stamped
+filled net m moment None log = log
+filled net m moment (Some p) log = slice_set log p.place (decided net m moment p)
 
 -- the entries before the pending reaction, or all
 abbrev pub before : Option Pending → List Stamped → List Stamped
 before None log = log
 before (Some p) log = take p.place log
 
-abbrev pub frozen_of : Option Pending → Option (ℕ × Snapshot)
-frozen_of None = None
-frozen_of (Some p) = Some (p.stamp, p.snapshot)
+abbrev pub frozen_of : Snapshot → Option Pending → Option (ℕ × Snapshot)
+frozen_of moment None = None
+frozen_of moment (Some p) = Some (p.stamp, moment)
 
 -- so it stands for this
-abbrev pub shown : Network → ℕ → Bool → Option Pending → List Stamped → CellState
-shown net m busy pending log = record {
+abbrev pub shown :
+    Network → ℕ → Snapshot → Bool → Option Pending → List Stamped → CellState
+shown net m moment busy pending log = record {
   net = net;
   machine = m;
-  log = filled net m pending log;
+  log = filled net m moment pending log;
   busy = busy;
-  frozen = frozen_of pending;
+  frozen = frozen_of moment pending;
 }
 
--- it has an entry in the log, is to the snapshot that is kept, and has room for its outcome
-abbrev pub IsPending : Network → ℕ → Snapshot → Option Pending → List Stamped → Type 0
-IsPending net m moment None log = ⊤
-IsPending net m moment (Some p) log =
-    (p.place < length log) × (p.snapshot ≡ moment)
-    × OfMachine net m (λ machine. HasWidths machine p.outcome)
+-- it has an entry in the log
+abbrev pub IsPending : Option Pending → List Stamped → Type 0
+IsPending None log = ⊤
+IsPending (Some p) log = p.place < length log
 
 -- it is the log's last reaction, and where it fires it is the machine's last firing
 abbrev pub IsLast : Network → ℕ → Option (ℕ × Snapshot) → List Stamped → Type 0
@@ -115,9 +114,10 @@ pub record IsCell (net : Network) (machine : ℕ) (moment : Snapshot) (woken : B
     (pending : Option Pending) (log : List Stamped) : Type 0 where
   pub exists : machine < length net.machines
   pub deterministic : AreDeterministic net
-  pub legal : LegalAlone net machine (filled net machine pending log)
+  pub legal : LegalAlone net machine (filled net machine moment pending log)
   pub moment_is : moment ≡ snap net (entries (before pending log)) machine
-  pub woken_is : woken ≡ is_woken (entries (filled net machine pending log)) machine
-  pub time_is : time ≡ clock (filled net machine pending log)
-  pub pending_is : IsPending net machine moment pending log
-  pub last_is : IsLast net machine (frozen_of pending) (filled net machine pending log)
+  pub woken_is : woken ≡ is_woken (entries (filled net machine moment pending log)) machine
+  pub time_is : time ≡ clock (filled net machine moment pending log)
+  pub pending_is : IsPending pending log
+  pub last_is :
+      IsLast net machine (frozen_of moment pending) (filled net machine moment pending log)

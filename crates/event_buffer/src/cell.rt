@@ -36,17 +36,21 @@ pub struct Cell<'a> {
     busy: bool,
     time: u64,
     pending: Option<Pending>,
+    // room for the outcome of a reaction that is still pending as the log is given up
+    spare: Outcome,
     log: Log,
 }
 
 impl<'a> Model for Cell<'a> {
+    ghost use Rattle.transition_table.specs.Transitions.{OfMachine, HasWidths};
     ghost use Rattle.event_buffer.specs.Cells.{CellState, IsCell, shown};
 
     ghost Value = { CellState };
 
-    ghost view = { λ c. shown c.net.now c.machine c.busy c.pending c.log };
+    ghost view = { λ c. shown c.net.now c.machine c.moment c.busy c.pending c.log };
 
-    ghost invariant = { λ c. IsCell c.net.now c.machine c.moment c.woken c.time c.pending c.log };
+    ghost invariant = { λ c. IsCell c.net.now c.machine c.moment c.woken c.time c.pending c.log
+        × OfMachine c.net.now c.machine (λ machine. HasWidths machine c.spare) };
 }
 
 // The later of two stamps.
@@ -71,48 +75,30 @@ fn catch_up(net: &Network, m: u32, log: &Log, from: u64, moment: &mut Snapshot)
     }
 }
 
-// What a freezing keeps, what stands in the log until the reaction is settled, and what is run.
+// A reaction to a snapshot as it is run, with room for its outcome and its deliveries.
 fn prepare<'a>(
     alloc: Global,
     net: &'a Network,
     m: u32,
     stamp: u64,
-    place: u64,
     moment: &Snapshot,
-) -> Result<(Pending, Entry, Frozen<'a>), NoMemory>
+) -> Result<Frozen<'a>, NoMemory>
     requires exists { m < length net.now.machines }
     requires stamp { stamp ≤ max_stamp }
     requires snapshot { OfMachine net.now m (λ machine. IsSnapshot machine moment.now) }
-    ensures pending { IfOk result (λ t. (t.0.place ≡ place)
-        × (t.0.stamp ≡ stamp)
-        × (t.0.snapshot ≡ moment.now)
-        × OfMachine net.now m (λ machine. HasWidths machine t.0.outcome)) }
-    ensures frozen { IfOk result (λ t. (t.2.net ≡ net.now)
-        × (t.2.machine ≡ m)
-        × (t.2.stamp ≡ stamp)
-        × (t.2.snapshot ≡ moment.now)) }
+    ensures { IfOk result (λ f. (f.net ≡ net.now)
+        × (f.machine ≡ m)
+        × (f.stamp ≡ stamp)
+        × (f.snapshot ≡ moment.now)) }
 {
-    let pending = Pending {
-        place,
-        stamp,
-        snapshot: moment.copy()?,
-        outcome: net.blank(alloc, m)?,
-    };
-    let entry = Entry::Dep {
-        from: Party::Env,
-        to: m,
-        event: 0,
-        code: 1,
-    };
-    let frozen = Frozen {
+    Ok(Frozen {
         net,
         machine: m,
         stamp,
         snapshot: moment.copy()?,
         outcome: net.blank(alloc, m)?,
         room: make_room(alloc, net, m)?,
-    };
-    Ok((pending, entry, frozen))
+    })
 }
 
 impl<'a> Cell<'a> {
@@ -136,6 +122,7 @@ impl<'a> Cell<'a> {
     {
         moving_laws();
         let moment = first_moment(alloc, net.machines.get(machine as u64))?;
+        let spare = net.blank(alloc, machine)?;
         Ok(Cell {
             alloc,
             net,
@@ -145,6 +132,7 @@ impl<'a> Cell<'a> {
             busy: false,
             time: 0,
             pending: None,
+            spare,
             log: List::new(alloc),
         })
     }
@@ -191,7 +179,7 @@ impl<'a> Cell<'a> {
             Some(p) => {
                 self.machine == f.machine
                     && p.stamp == f.stamp
-                    && p.snapshot.codes.as_slice() == f.snapshot.codes.as_slice()
+                    && self.moment.codes.as_slice() == f.snapshot.codes.as_slice()
             }
         }
     }
@@ -213,28 +201,29 @@ impl<'a> Cell<'a> {
             return Err(CellError::ClockFull);
         }
         let stamp = self.time + 1;
-        match prepare(
-            self.alloc,
-            self.net,
-            self.machine,
-            stamp,
-            self.log.len(),
-            &self.moment,
-        ) {
-            Err(NoMemory) => Err(CellError::NoMemory),
-            Ok((pending, entry, frozen)) => match self.log.push(Stamped { stamp, entry }) {
-                Err(NoMemory) => {
-                    frozen.abandon();
-                    Err(CellError::NoMemory)
-                }
-                Ok(()) => {
-                    g.hold(self.machine);
-                    self.pending = Some(pending);
-                    self.woken = false;
-                    self.time = stamp;
-                    Ok(frozen)
-                }
-            },
+        let frozen = match prepare(self.alloc, self.net, self.machine, stamp, &self.moment) {
+            Err(NoMemory) => return Err(CellError::NoMemory),
+            Ok(frozen) => frozen,
+        };
+        let place = self.log.len();
+        let entry = Entry::Dep {
+            from: Party::Env,
+            to: self.machine,
+            event: 0,
+            code: 1,
+        };
+        match self.log.push(Stamped { stamp, entry }) {
+            Err(NoMemory) => {
+                frozen.abandon();
+                Err(CellError::NoMemory)
+            }
+            Ok(()) => {
+                g.hold(self.machine);
+                self.pending = Some(Pending { place, stamp });
+                self.woken = false;
+                self.time = stamp;
+                Ok(frozen)
+            }
         }
     }
 
@@ -373,27 +362,23 @@ impl<'a> Cell<'a> {
             alloc: _,
             net: _,
             machine,
-            moment: _,
+            moment,
             woken: _,
             busy: _,
             time: _,
             pending,
+            mut spare,
             mut log,
         } = self;
         match pending {
             None => log,
             Some(p) => {
-                let Pending {
-                    place,
-                    stamp,
-                    snapshot,
-                    mut outcome,
-                } = p;
-                r.react(machine, &snapshot, &mut outcome);
+                let Pending { place, stamp } = p;
+                r.react(machine, &moment, &mut spare);
                 let entry = Entry::Rea {
                     machine,
-                    snapshot,
-                    outcome,
+                    snapshot: moment,
+                    outcome: spare,
                 };
                 log.set(place, Stamped { stamp, entry });
                 log

@@ -10,35 +10,30 @@ use Rattle.event_buffer.proofs.cell.Cell.into_log.Goals as goal
 pub react-requires-clause-snapshot : goal.react-requires-clause-snapshot
 react-requires-clause-snapshot g c =
     let i = c.self.inside in
-    let p = c.in-Some.p in
-    let kept =
-    some_pending i.net.now i.machine i.moment i.woken i.time i.pending i.log p c.in-Some.is
-    c.self.invariant in
+    let kept = some_pending _ _ _ _ _ _ _ _ c.in-Some.is c.self.invariant.0 in
     let net = c.requires ∙ sym (ap (λ (s : CellState). s.net) c.self.view_is) in
-    subst (λ (n : Network). OfMachine n i.machine (λ machine. IsSnapshot machine p.snapshot))
-    (sym net) (pending_fits i.net.now i.machine i.moment i.woken i.time p i.log kept)
+    subst (λ (n : Network). OfMachine n i.machine (λ machine. IsSnapshot machine i.moment))
+    (sym net) (pending_fits _ _ _ _ _ _ _ kept)
 
-pub returns-clause-log : goal.returns-clause-log
-returns-clause-log g c =
+pub returns-in-Some-clause-log : goal.returns-in-Some-clause-log
+returns-in-Some-clause-log g c =
     let i = c.self.inside in
     let p = c.in-Some.p in
-    let kept =
-    some_pending i.net.now i.machine i.moment i.woken i.time i.pending i.log p c.in-Some.is
-    c.self.invariant in
+    let kept = some_pending _ _ _ _ _ _ _ _ c.in-Some.is c.self.invariant.0 in
     let net = c.requires ∙ sym (ap (λ (s : CellState). s.net) c.self.view_is) in
     let fits =
-    subst (λ (n : Network). OfMachine n i.machine (λ machine. IsSnapshot machine p.snapshot))
-    (sym net) (pending_fits i.net.now i.machine i.moment i.woken i.time p i.log kept) in
+    subst (λ (n : Network). OfMachine n i.machine (λ machine. IsSnapshot machine i.moment))
+    (sym net) (pending_fits _ _ _ _ _ _ _ kept) in
     let is =
-    written_is i.net.now i.machine p (g.R.Reactor.meaning c.args.r.now) i.machine p.stamp
-    p.snapshot c.react.new.o c.laws.ensures.one_outcome
-    c.laws-2.ensures.gives_transition kept.deterministic fits c.react.ensures net refl refl refl in
-    settled_log i.net.now i.machine i.busy i.pending i.log c.set.new.self p c.args.self _
+    written_is i.net.now i.machine i.moment p (g.R.Reactor.meaning c.args.r.now) i.machine p.stamp
+    i.moment c.react.new.o c.laws.ensures.one_outcome c.laws-2.ensures.gives_transition
+    kept.deterministic fits c.react.ensures net refl refl refl in
+    settled_log i.net.now i.machine i.moment i.busy i.pending i.log c.set.new.self p c.args.self _
     c.self.view_is c.in-Some.is c.set.ensures is
 
-pub returns-clause-legal : goal.returns-clause-legal
-returns-clause-legal g c =
-    let log = returns-clause-log g c in
+pub returns-in-Some-clause-legal : goal.returns-in-Some-clause-legal
+returns-in-Some-clause-legal g c =
+    let log = returns-in-Some-clause-log g c in
     subst (λ l. LegalAlone c.args.self.net c.args.self.machine l) (sym log)
     (subst (λ (s : CellState). LegalAlone s.net s.machine s.log) c.self.view_is
-    c.self.invariant.legal)
+    c.self.invariant.0.legal)

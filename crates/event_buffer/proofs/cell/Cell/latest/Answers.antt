@@ -6,9 +6,10 @@ use Rattle.event_buffer.proofs.cell.Cell.latest.Goals as goal
 pub returns-clause-small : goal.returns-clause-small
 returns-clause-small c =
     let i = c.self.inside in
-    let kept = c.self.invariant in
+    let kept = c.self.invariant.0 in
     let small =
-    clock_small i.net.now i.machine (filled i.net.now i.machine i.pending i.log) kept.legal in
+    clock_small i.net.now i.machine (filled i.net.now i.machine i.moment i.pending i.log)
+    kept.legal in
     let clock = kept.time_is in
     let is = c.later.ensures in
     let other = c.requires in

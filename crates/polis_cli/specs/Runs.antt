@@ -21,8 +21,7 @@ use Rattle.machine_compiler.specs.Parts.{AreRight}
 use Rattle.machine_compiler.specs.Lines.{tries_text}
 use Rattle.polis_cli.specs.declared.product.Product.{Product}
 use Rattle.polis_cli.specs.declared.ran.Ran.{Ran}
-use Rattle.polis_cli.specs.declared.texts.JournalTexts.{JournalTexts}
-use Rattle.polis_cli.specs.declared.texts.MachineTexts.{MachineTexts}
+use Rattle.polis_cli.specs.declared.texts.OtherTexts.{OtherTexts}
 use Rattle.polis_cli.specs.Saves.{Save}
 use Rattle.polis_cli.specs.Inputs.{HoldsNet, HoldsTrace, InputsFail}
 
@@ -86,17 +85,16 @@ run_text net parts ran =
     summary_text net ran.journal ran.complete ran.gathered ran.adopted
     ++ tries_text net parts ran.journal
 
--- the texts of the journal of a run: its outputs, and the journal with its least stamps
-pub record AreJournalTexts (net : Network) (ran : Ran) (texts : JournalTexts) : Type 0 where
-  pub outputs : texts.outputs ≡ output_text net ran.journal
-  pub journal :
-      texts.journal
-      ≡ stamped_journal_text net ran.journal (least net ran.journal) ran.complete
+-- the text of the journal of a run, with its least stamps
+abbrev pub journal_of : Network → Ran → List ℕ
+journal_of net ran = stamped_journal_text net ran.journal (least net ran.journal) ran.complete
 
--- the texts of the machines of a run, which were compiled rightly: their listing, and what is shown
-pub record AreMachineTexts (net : Network) (ran : Ran) (texts : MachineTexts) : Type 0 where
+-- the other texts of a run of a network whose machines were compiled rightly: the outputs, the
+-- listing of the machines, and what is shown
+pub record AreOtherTexts (net : Network) (ran : Ran) (texts : OtherTexts) : Type 0 where
   pub parts : List Part
   pub right : AreRight net parts
+  pub outputs : texts.outputs ≡ output_text net ran.journal
   pub listing : texts.listing ≡ ListingText net parts
   pub shown : texts.shown ≡ run_text net parts ran
 

@@ -4,14 +4,15 @@ ghost use Rattle.polis_base.specs.Host.{WhereTold};
 ghost use Rattle.journals.specs.Journals.{IsTrace};
 ghost use Rattle.transition_table.specs.Transitions.{AreDeterministic};
 ghost use Rattle.polis_cli.specs.Writing.{IsWell};
-ghost use Rattle.polis_cli.specs.Runs.{IsRan, AreJournalTexts, AreMachineTexts, IsRunProduct, MakesRun, FailsRun, end_status};
+ghost use Rattle.polis_cli.specs.Runs.{IsRan, AreOtherTexts, IsRunProduct, MakesRun, FailsRun, end_status, journal_of};
 ghost use Rattle.polis_cli.specs.Left.{LeftByLoads, fails_unread};
 
 use crate::inputs::{Inputs, load_inputs};
 use crate::product::{Product, Saving};
 use crate::ran::{Ran, run_alone, run_by};
 use crate::react::reactor_of;
-use crate::texts::{JournalTexts, MachineTexts, journal_texts, machine_texts, texts_by};
+use crate::stamp::stamped_text;
+use crate::texts::{OtherTexts, other_texts, texts_by};
 use event_buffer::Gate;
 use journal_text::keep_names;
 use machine_compiler::{compile_network, compile_network_by};
@@ -60,18 +61,21 @@ fn product_of(
     asked: &Run<'_>,
     inputs: &Inputs,
     ran: &Ran,
-    journal: JournalTexts,
-    machines: MachineTexts,
+    journal: Bytes,
+    others: OtherTexts,
 ) -> Result<Product, NoMemory>
     requires ran { IsRan asked.now.workers asked.now.limit inputs.now.net inputs.now.trace ran.now }
-    requires journal { AreJournalTexts inputs.now.net ran.now journal }
-    requires machines { AreMachineTexts inputs.now.net ran.now machines }
+    requires journal { journal ≡ journal_of inputs.now.net ran.now }
+    requires others { AreOtherTexts inputs.now.net ran.now others }
     ensures { IfOk result (λ product.
         IsRunProduct asked.now inputs.now.net inputs.now.trace product) }
 {
     keep_names(&inputs.net);
-    let JournalTexts { outputs, journal } = journal;
-    let MachineTexts { listing, shown } = machines;
+    let OtherTexts {
+        outputs,
+        listing,
+        shown,
+    } = others;
     let saves = saves_of(alloc, asked.stem(), outputs, journal, listing)?;
     Ok(Product {
         saves,
@@ -91,9 +95,9 @@ fn product_alone(alloc: Global, asked: &Run<'_>, inputs: &Inputs) -> Result<Prod
     let compiled = compile_network(alloc, &inputs.net)?;
     let reactor = reactor_of(alloc, &inputs.net, &compiled)?;
     let ran = run_alone(alloc, &reactor, &inputs.trace, asked.limit())?;
-    let journal = journal_texts(alloc, inputs, &ran)?;
-    let machines = machine_texts(alloc, inputs, &compiled, &ran)?;
-    product_of(alloc, asked, inputs, &ran, journal, machines)
+    let others = other_texts(alloc, inputs, &compiled, &ran)?;
+    let journal = stamped_text(alloc, inputs, &ran.journal, ran.complete)?;
+    product_of(alloc, asked, inputs, &ran, journal, others)
 }
 
 // Compiles the network and runs it on the trace by so many workers, and makes the texts of the run.
@@ -115,8 +119,8 @@ fn product_by<T: Threads + Wait + Sync, G: Gate + Sync>(
     let compiled = compile_network_by(rt, alloc, &inputs.net, workers)?;
     let reactor = reactor_of(alloc, &inputs.net, &compiled)?;
     let ran = run_by(rt, alloc, &reactor, &inputs.trace, workers, limit, gate)?;
-    let (journal, machines) = texts_by(rt, alloc, inputs, &compiled, &ran);
-    product_of(alloc, asked, inputs, &ran, journal?, machines?)
+    let (journal, others) = texts_by(rt, alloc, inputs, &compiled, &ran);
+    product_of(alloc, asked, inputs, &ran, journal?, others?)
 }
 
 /// What a run by one worker makes of the files.

@@ -4,7 +4,7 @@ ghost use Rattle.journals.specs.Journals.{IsJournal};
 ghost use Rattle.journals.specs.Legality.{Legal};
 ghost use Rattle.machine_compiler.specs.Parts.{AreRight, parts_of};
 ghost use Rattle.polis_words.specs.Run.{entry_max};
-ghost use Rattle.polis_cli.specs.Runs.{AreJournalTexts, AreMachineTexts, run_text};
+ghost use Rattle.polis_cli.specs.Runs.{AreOtherTexts, journal_of, run_text};
 
 use crate::inputs::Inputs;
 use crate::ran::Ran;
@@ -16,33 +16,15 @@ use polis_words::print_summary;
 use std::alloc::Global;
 use std::thread::{Threads, join};
 
-/// The texts that a journal gives.
+/// The texts of a run other than its journal.
 #[derive(Drop)]
-pub struct JournalTexts {
+pub struct OtherTexts {
     /// The events that the environment gets, in order.
     pub outputs: Bytes,
-    /// The journal with its least stamps.
-    pub journal: Bytes,
-}
-
-/// The texts that compiled machines give.
-#[derive(Drop)]
-pub struct MachineTexts {
-    /// Their listing.
+    /// The listing of the compiled machines.
     pub listing: Bytes,
-    /// What is shown of the run: its summary, and a line for each machine.
+    /// What is shown: the summary of the run, and a line for each machine.
     pub shown: Bytes,
-}
-
-/// The texts of the journal of a run.
-pub fn journal_texts(alloc: Global, inputs: &Inputs, ran: &Ran) -> Result<JournalTexts, NoMemory>
-    requires legal { Legal inputs.now.net inputs.now.trace ran.now.journal }
-    requires few { length ran.now.journal ≤ entry_max }
-    ensures { IfOk result (λ texts. AreJournalTexts inputs.now.net ran.now texts) }
-{
-    let outputs = print_outputs(alloc, &inputs.net, &ran.journal)?;
-    let journal = stamped_text(alloc, inputs, &ran.journal, ran.complete)?;
-    Ok(JournalTexts { outputs, journal })
 }
 
 /// What is shown of a run: its summary, and a line for each machine.
@@ -72,57 +54,58 @@ pub fn shown_text(
     Ok(text)
 }
 
-/// The texts of the machines of a run.
-pub fn machine_texts(
+/// The texts of a run other than its journal.
+pub fn other_texts(
     alloc: Global,
     inputs: &Inputs,
     compiled: &CompiledList,
     ran: &Ran,
-) -> Result<MachineTexts, NoMemory>
+) -> Result<OtherTexts, NoMemory>
     requires right { AreRight inputs.now.net (parts_of compiled.now) }
     requires legal { Legal inputs.now.net inputs.now.trace ran.now.journal }
     requires few { length ran.now.journal ≤ entry_max }
-    ensures { IfOk result (λ texts.
-        AreMachineTexts inputs.now.net ran.now texts) }
+    ensures { IfOk result (λ texts. AreOtherTexts inputs.now.net ran.now texts) }
 {
+    let outputs = print_outputs(alloc, &inputs.net, &ran.journal)?;
     let listing = print_listing(alloc, &inputs.net, compiled)?;
     let shown = shown_text(alloc, inputs, compiled, ran)?;
-    Ok(MachineTexts { listing, shown })
+    Ok(OtherTexts {
+        outputs,
+        listing,
+        shown,
+    })
 }
 
-/// Both, those of the machines in another thread where one can be made.
+/// The text of the journal, and the other texts, which are made in another thread where one can be
+/// had.
 pub fn texts_by<T: Threads + Sync>(
     rt: &T,
     alloc: Global,
     inputs: &Inputs,
     compiled: &CompiledList,
     ran: &Ran,
-) -> (
-    Result<JournalTexts, NoMemory>,
-    Result<MachineTexts, NoMemory>,
-)
+) -> (Result<Bytes, NoMemory>, Result<OtherTexts, NoMemory>)
     requires right { AreRight inputs.now.net (parts_of compiled.now) }
     requires legal { Legal inputs.now.net inputs.now.trace ran.now.journal }
     requires few { length ran.now.journal ≤ entry_max }
-    ensures journal { IfOk result.0 (λ texts. AreJournalTexts inputs.now.net ran.now texts) }
-    ensures machines { IfOk result.1 (λ texts.
-        AreMachineTexts inputs.now.net ran.now texts) }
+    ensures journal { IfOk result.0 (λ text. text ≡ journal_of inputs.now.net ran.now) }
+    ensures others { IfOk result.1 (λ texts. AreOtherTexts inputs.now.net ran.now texts) }
 {
-    let (machines, journal) = join(
+    let (others, journal) = join(
         rt,
-        || -> Result<MachineTexts, NoMemory>
+        || -> Result<OtherTexts, NoMemory>
             requires { AreRight inputs.now.net (parts_of compiled.now)
                 × Legal inputs.now.net inputs.now.trace ran.now.journal
                 × (length ran.now.journal ≤ entry_max) }
             ensures { IfOk result (λ texts.
-                AreMachineTexts inputs.entry.now.net ran.entry.now texts) }
-        { machine_texts(alloc, inputs, compiled, ran) },
-        || -> Result<JournalTexts, NoMemory>
+                AreOtherTexts inputs.entry.now.net ran.entry.now texts) }
+        { other_texts(alloc, inputs, compiled, ran) },
+        || -> Result<Bytes, NoMemory>
             requires { Legal inputs.now.net inputs.now.trace ran.now.journal
                 × (length ran.now.journal ≤ entry_max) }
-            ensures { IfOk result (λ texts.
-                AreJournalTexts inputs.entry.now.net ran.entry.now texts) }
-        { journal_texts(alloc, inputs, ran) },
+            ensures { IfOk result (λ text.
+                text ≡ journal_of inputs.entry.now.net ran.entry.now) }
+        { stamped_text(alloc, inputs, &ran.journal, ran.complete) },
     );
-    (journal, machines)
+    (journal, others)
 }

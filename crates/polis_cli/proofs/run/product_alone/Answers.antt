@@ -2,14 +2,14 @@ use Rattle.std.proofs.Common.{arith, sym, subst}
 use Rattle.polis_cli.specs.Runs.{IsRan}
 use Rattle.polis_cli.proofs.run.product_alone.Goals as goal
 
-pub journal_texts-requires-clause-few : goal.journal_texts-requires-clause-few
-journal_texts-requires-clause-few c =
+pub stamped_text-requires-clause-few : goal.stamped_text-requires-clause-few
+stamped_text-requires-clause-few c =
     let within = c.in_ok-ran.ensures.within in
     let few = c.limit.ensures.few in
     omega (arith, within, few)
 
-pub machine_texts-requires-clause-few : goal.machine_texts-requires-clause-few
-machine_texts-requires-clause-few c =
+pub other_texts-requires-clause-few : goal.other_texts-requires-clause-few
+other_texts-requires-clause-few c =
     let within = c.in_ok-ran.ensures.within in
     let few = c.limit.ensures.few in
     omega (arith, within, few)

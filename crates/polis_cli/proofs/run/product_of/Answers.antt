@@ -6,19 +6,18 @@ returns c =
     let run = c.args.asked.now in
     let net = c.args.inputs.now.net in
     let ran = c.args.ran.now in
-    let journal = c.requires.journal in
-    let machines = c.requires.machines in
+    let others = c.requires.others in
     record {
       ran = ran;
-      parts = machines.parts;
+      parts = others.parts;
       named = c.keep_names.ensures;
-      right = machines.right;
+      right = others.right;
       is_ran = c.requires.ran;
       ends = ends_at run.workers run.limit net c.args.inputs.now.trace ran c.status_at_end.result
           c.requires.ran c.status_at_end.ensures;
-      saves = saves_are run net ran.journal ran.complete machines.parts c.stem.result.now
-          c.args.journal.outputs c.args.journal.journal c.args.machines.listing
+      saves = saves_are run net ran.journal ran.complete others.parts c.stem.result.now
+          c.args.others.outputs c.args.journal c.args.others.listing
           c.in_ok-saves.saves
-          c.in_ok-saves.ensures c.stem.ensures journal.outputs journal.journal machines.listing;
-      shown = machines.shown;
+          c.in_ok-saves.ensures c.stem.ensures others.outputs c.requires.journal others.listing;
+      shown = others.shown;
     }

@@ -1,8 +1,9 @@
 -- The answers to the worked texts, computed.
-use Rattle.std.proofs.Common.{◌≡◌, ℕ, List, [], take, codes, Result, Ok, Err, refl}
+use Rattle.std.proofs.Common.{◌≡◌, ℕ, ◌≤◌, List, [], take, codes, Result, Ok, Err, refl, subst}
 use Rattle.polis_base.specs.Tokens.{tokens_of}
 use Rattle.polis_base.specs.declared.token.Sign.TheVariants.{RightBrace}
 use Rattle.polis_base.specs.declared.token.Kind.TheVariants.{Sign}
+use Rattle.polis_base.specs.declared.token.Token.{Token}
 use Rattle.net_reader.specs.Lexemes.{Lexeme}
 use Rattle.net_reader.specs.Reading.{only, word_at, num_at, value_at, many, after_comma, listed, names_at, range_at, shape_at, domain_at, from_env_at, to_env_at, env_at, typed_at, typed_part_at, event_at, state_at, absent_at, is_at, one_of_at, after_name_at, named_at, cond_at, plain_at, input_at, add_at, add_or_plain_at, after_value_at, sum_at, input_or_plain_at, input_or_sum_at, given_source_at, source_at, given_at, given_part_at, emit_at, set_at, act_at, nothing_at, acts_at, row_at, output_at, outputs_at, body_at, machine_at, net_at, end_at, whole_at}
 use Rattle.net_reader.specs.Outcomes.{outcome}
@@ -11,6 +12,7 @@ use Rattle.net_reader.specs.Samples.{lamp_text, lamp, echo_text, echo, with_acti
 use Rattle.net_reader.specs.declared.raw.RawNet.{RawNet}
 use Rattle.net_reader.specs.declared.network.NetFault.{NetFault}
 use Rattle.net_reader.specs.declared.network.NetFault.TheVariants.{Syntax}
+use Rattle.net_reader.proofs.CutTexts.{last_end, first_bytes_need}
 use Rattle.net_reader.proofs.Whole.{whole_ok, has_net, breaks_at}
 
 abbrev Answers : List ℕ → Result RawNet NetFault → Type 0
@@ -87,3 +89,12 @@ unfolding only word_at num_at value_at many after_comma listed names_at range_at
     whole_at
 lamp_lacks_last =
     record { tokens = _; read = refl; last = brace; net = lamp; sentence = whole_ok _ [] lamp refl }
+
+-- the lamp's tokens end at byte 215
+lamp_tokens : (ts : List Token) × (tokens_of lamp_text ≡ Ok ts) × (last_end ts ≡ 215)
+lamp_tokens = (_, refl, refl)
+
+pub lamp_cut : (k : ℕ) (cut : RawNet) → HasNet (take k lamp_text) cut → 215 ≤ k
+lamp_cut k cut f =
+    subst (λ n. n ≤ k) lamp_tokens.2
+    (first_bytes_need lamp_text lamp_tokens.0 k cut lamp lamp_tokens.1 lamp_declares refl f)

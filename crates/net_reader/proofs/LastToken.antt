@@ -17,7 +17,7 @@ use Rattle.net_reader.proofs.NetworkLaws.{net_laws, net_goes}
 use Rattle.net_reader.proofs.Whole.{net_sentence, syntax_there_clause}
 
 -- the last token is a right brace
-abbrev Ends : List Lexeme → Type 0
+abbrev pub Ends : List Lexeme → Type 0
 Ends ts =
     (before : List Lexeme) × (l : Lexeme) × (ts ≡ before ++ l ∷ [])
     × (l.kind ≡ kinds.Sign RightBrace)
@@ -55,7 +55,7 @@ machines_end version (m ∷ []) ts f = alone ts f.0 f.1 f.2 f.4 (machine_ends ve
 machines_end version (m ∷ n ∷ others) ts f =
     after ts f.0 f.1 f.2 (machines_end version (n ∷ others) f.1 f.4)
 
-net_ends : (net : RawNet) (ts : List Lexeme) → IsNet net ts → Ends ts
+pub net_ends : (net : RawNet) (ts : List Lexeme) → IsNet net ts → Ends ts
 net_ends net ts f =
     let f1 = f.4 in
     let f2 = f1.4 in

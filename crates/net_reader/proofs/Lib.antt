@@ -21,4 +21,7 @@ pub mod PrintedNetworks
 mod LastToken
 mod Marks
 mod Stopping
+mod Cuts
+mod FirstMachines
+mod CutTexts
 mod Computed

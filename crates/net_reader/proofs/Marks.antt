@@ -17,33 +17,33 @@ use Rattle.net_reader.specs.Pieces.{place_of}
 
 -- what stands at a place: bytes of no token, a token, or one that doesn't read
 
-abbrev answer_of : {A B C : Type 0} → (A → B → C) → Type 0
+abbrev pub answer_of : {A B C : Type 0} → (A → B → C) → Type 0
 answer_of {A} {B} {C} f = C
 
 -- what the bytes at a place may begin with: the answers of `scan`, whose cases have no names here
-abbrev Scanned : Type 0
+abbrev pub Scanned : Type 0
 Scanned = answer_of scan
 
-abbrev token_at : Kind → ℕ → ℕ → Token
+abbrev pub token_at : Kind → ℕ → ℕ → Token
 token_at kind len at = record { kind = kind; at = at; len = len }
 
-record Skips (f : Scanned) : Type 0 where
-  joins : (at : ℕ) (r : Result (List Token) LexError) → joined f at r ≡ r
-  marks : (at left : ℕ) (ts : List Token) → marked f at left ts ≡ ts
+pub record Skips (f : Scanned) : Type 0 where
+  pub joins : (at : ℕ) (r : Result (List Token) LexError) → joined f at r ≡ r
+  pub marks : (at left : ℕ) (ts : List Token) → marked f at left ts ≡ ts
 
-record Reads (f : Scanned) : Type 0 where
-  kind : Kind
-  len : ℕ
-  joins : (at : ℕ) (r : Result (List Token) LexError)
+pub record Reads (f : Scanned) : Type 0 where
+  pub kind : Kind
+  pub len : ℕ
+  pub joins : (at : ℕ) (r : Result (List Token) LexError)
       → joined f at r ≡ with_token (token_at kind len at) r
-  marks : (at left : ℕ) (ts : List Token) → marked f at left ts ≡ token_at kind len at ∷ ts
+  pub marks : (at left : ℕ) (ts : List Token) → marked f at left ts ≡ token_at kind len at ∷ ts
 
-record Fails (f : Scanned) : Type 0 where
-  error : LexError
-  joins : (at : ℕ) (r : Result (List Token) LexError) → joined f at r ≡ Err error
-  marks : (at left : ℕ) (ts : List Token) → marked f at left ts ≡ mark at left ∷ []
+pub record Fails (f : Scanned) : Type 0 where
+  pub error : LexError
+  pub joins : (at : ℕ) (r : Result (List Token) LexError) → joined f at r ≡ Err error
+  pub marks : (at left : ℕ) (ts : List Token) → marked f at left ts ≡ mark at left ∷ []
 
-abbrev Is : Scanned → Type 0
+abbrev pub Is : Scanned → Type 0
 Is f = Skips f ⊎ (Reads f ⊎ Fails f)
 
 pick : (b : Bool) {x y : Scanned} → Is x → Is y → Is (cond b x y)
@@ -92,7 +92,7 @@ sign_is at c rest =
     (pick (c == 43) (reads (Sign Plus) 1 (λ _ _. refl) (λ _ _ _. refl))
     (fails (BadByte at) (λ _ _. refl) (λ _ _ _. refl))))))))
 
-scan_is : (at c : ℕ) (rest : List ℕ) → Is (scan at (c ∷ rest))
+pub scan_is : (at c : ℕ) (rest : List ℕ) → Is (scan at (c ∷ rest))
 scan_is at c rest =
     pick (is_blank c) (skips (λ _ _. refl) (λ _ _ _. refl))
     (pick (c == 35) (skips (λ _ _. refl) (λ _ _ _. refl))

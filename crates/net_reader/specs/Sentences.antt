@@ -1,5 +1,6 @@
 -- What a text declares, and where it is no network.
 use Rattle.std.specs.Prelude.{◌≡◌, ◌⊎◌, ℕ, List, [], ◌∷◌, ◌++◌, length, Result, Ok, Err}
+use Rattle.polis_base.specs.Lists.{Begins}
 use Rattle.polis_base.specs.Tokens.{tokens_of}
 use Rattle.polis_base.specs.declared.token.Token.{Token}
 use Rattle.net_reader.specs.Lexemes.{Lexeme, lexemes}
@@ -43,3 +44,36 @@ pub record LacksLast (text : List ℕ) : Type 0 where
 -- this answer, unless memory ran out
 abbrev pub OrNoMemory : Result RawNet NetFault → Result RawNet NetFault → Type 0
 OrNoMemory result answer = (result ≡ Err faults.NoMemory) ⊎ (result ≡ answer)
+
+-- It declares what the whole does, but of the machines only the first ones.
+pub record HasFirstMachines (cut whole : RawNet) : Type 0 where
+  pub name : cut.name ≡ whole.name
+  pub version : cut.version ≡ whole.version
+  pub domains : cut.domains ≡ whole.domains
+  pub events : cut.events ≡ whole.events
+  pub machines : Begins cut.machines whole.machines
+
+-- a sentence that goes on to another one has the first machines of that one
+abbrev pub SentencesHaveFirstMachines : Type 0
+SentencesHaveFirstMachines =
+    (before more : List Lexeme) (cut whole : RawNet) → IsNet cut before
+    → IsNet whole (before ++ more) → HasFirstMachines cut whole
+
+-- A text that is cut off, at whatever byte, and that still declares a network declares the first
+-- machines of what the whole text declares, and all else that it declares.
+abbrev pub CutsHaveFirstMachines : Type 0
+CutsHaveFirstMachines =
+    (text rest : List ℕ) (cut whole : RawNet) → HasNet text cut → HasNet (text ++ rest) whole
+    → HasFirstMachines cut whole
+
+-- Where it declares as many machines as the whole text, no token was cut off.
+abbrev pub CutsNeedAllTokens : Type 0
+CutsNeedAllTokens =
+    (text rest : List ℕ) (cut whole : RawNet) → HasNet text cut → HasNet (text ++ rest) whole
+    → length cut.machines ≡ length whole.machines → tokens_of (text ++ rest) ≡ tokens_of text
+
+-- So a text of one machine that lacks a token, or a part of one, at its end is no network text.
+abbrev pub OneMachineNeedsAllTokens : Type 0
+OneMachineNeedsAllTokens =
+    (text rest : List ℕ) (cut whole : RawNet) → HasNet text cut → HasNet (text ++ rest) whole
+    → length whole.machines ≡ 1 → tokens_of (text ++ rest) ≡ tokens_of text

@@ -1,6 +1,7 @@
 // The grammar of network texts, versions 1 and 2: what a text declares, and back.
 #![tactic(auto)]
 
+mod law;
 mod lists;
 mod network;
 mod print;
@@ -9,6 +10,7 @@ mod reader;
 mod rules;
 mod worked;
 
+pub use law::cut_laws;
 pub use network::{NetFault, read_network};
 pub use print::print_network;
 pub use raw::{

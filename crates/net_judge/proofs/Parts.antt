@@ -1,14 +1,16 @@
 -- Words beyond a number, words of events on one side, and places found in three parts.
-use Rattle.std.proofs.Common.{◌≡◌, ◌∙◌, ℕ, zero, suc, Result, IfOk, Bool, true, false, ◌||◌, cond, List, [], ◌∷◌, ◌++◌, map, flat_map, filter, slice_get, Option, Some, is_some, unwrap_or, refl, ap, sym, true≢false}
+use Rattle.std.proofs.Common.{◌≡◌, ◌∙◌, ℕ, zero, suc, ◌+◌, ◌<◌, Result, IfOk, Bool, true, false, not, ◌||◌, cond, List, [], ◌∷◌, ◌++◌, map, flat_map, filter, length, take, drop, get_or, slice_get, Option, Some, is_some, unwrap_or, refl, ap, sym, true≢false}
+use Rattle.std.proofs.lemmas.List.{take_more}
 use Rattle.polis_base.specs.declared.NoMemory.{NoMemory}
 use Rattle.net_reader.specs.declared.raw.Word.{Word}
 use Rattle.net_reader.specs.declared.raw.RawEnv.{RawEnv}
 use Rattle.net_reader.specs.declared.raw.RawEvent.{RawEvent}
-use Rattle.net_names.specs.Places.{sooner, least}
-use Rattle.net_names.specs.Numbers.{is_name_of}
+use Rattle.net_names.specs.Places.{unless, sooner, least}
+use Rattle.net_names.specs.Numbers.{is_name_of, repeated}
 use Rattle.domains.specs.Names.{is_same}
 use Rattle.net_judge.specs.Rules.{beyond}
-use Rattle.net_judge.proofs.Least.{IfOk-same, sooner-least, least-append}
+use Rattle.net_judge.specs.Sorting.{taken_before}
+use Rattle.net_judge.proofs.Least.{IfOk-same, sooner-least, least-append, repeated-more}
 
 some-is : {A : Type 0} (a b : A) → Some a ≡ Some b → a ≡ b
 some-is a b e = ap (λ o. unwrap_or o a) e
@@ -69,3 +71,28 @@ name-after (w ∷ words) word q = by (is_same q w.name) (name-after words word q
         ≡ ((b || is_name_of words q) || is_same q word.name)
     by true h = refl
     by false h = h
+
+or-swap : (a b c : Bool) → ((a || b) || c) ≡ ((a || c) || b)
+or-swap true b c = refl
+or-swap false true true = refl
+or-swap false true false = refl
+or-swap false false true = refl
+or-swap false false false = refl
+
+-- one more word is gone over, whose name stands before, is taken, or neither
+pub taken-more : (taken words : List Word) (i : ℕ) (word : Word) (stands : Bool)
+    (found next total : Option ℕ) → i < length words → word ≡ get_or words i word
+    → stands ≡ taken_before taken (take i words) word.name
+    → next ≡ sooner found (least (unless (not stands) word.at))
+    → sooner found (least (repeated (taken_before taken (take i words)) (drop i words))) ≡ total
+    → sooner next (least (repeated (taken_before taken (take (i + 1) words)) (drop (i + 1) words)))
+    ≡ total
+taken-more taken words i word stands found next total below at test is held =
+    repeated-more (taken_before taken (take i words)) (taken_before taken (take (i + 1) words)) words
+    i word found next total below at
+    (λ q. ap (λ b. b || is_name_of taken q)
+    (ap (λ (ws : List Word). is_name_of ws q)
+    (take_more words i word below ∙ ap (λ (w : Word). take i words ++ w ∷ []) (sym at))
+    ∙ name-after (take i words) word q)
+    ∙ or-swap (is_name_of (take i words) q) (is_same q word.name) (is_name_of taken q))
+    (is ∙ ap (λ b. sooner found (least (unless (not b) word.at))) test) held

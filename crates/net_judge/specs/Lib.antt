@@ -3,3 +3,4 @@ pub mod Making
 pub mod Plain
 pub mod Rules
 pub mod Samples
+pub mod Sorting

@@ -4,7 +4,6 @@ use Rattle.std.specs.List.{list_any}
 use Rattle.domains.specs.Names.{is_same}
 use Rattle.domains.specs.Tables.{product}
 use Rattle.net_reader.specs.declared.raw.Word.{Word}
-use Rattle.net_reader.specs.declared.raw.RawValue.{RawValue}
 use Rattle.net_reader.specs.declared.raw.RawShape.{RawShape}
 use Rattle.net_reader.specs.declared.raw.RawShape.TheVariants as shapes
 use Rattle.net_reader.specs.declared.raw.RawDomain.{RawDomain}
@@ -23,7 +22,7 @@ use Rattle.net_reader.specs.declared.raw.RawNet.{RawNet}
 use Rattle.net_names.specs.Places.{unless}
 use Rattle.net_names.specs.Numbers.{is_name_of, no_name, missing, repeated}
 use Rattle.net_names.specs.Values.{count_of, no_value}
-use Rattle.net_names.specs.Scopes.{domain_words, event_words, machine_words, state_words, is_from_env, is_to_env, all_outputs, all_inputs, shape_of, event_domain, state_domain, var_domain, shape_at, event_codes, state_codes, count_at, cond_word, var_sizes, var_words}
+use Rattle.net_names.specs.Scopes.{domain_words, event_words, machine_words, state_words, is_from_env, is_to_env, all_outputs, all_inputs, shape_of, event_domain, state_domain, var_domain, shape_at, count_at, cond_word, var_sizes, var_words}
 
 -- the version is 1 or 2
 abbrev pub rule_1 : RawNet → List ℕ

@@ -9,6 +9,7 @@ mod initials;
 mod ports;
 mod rules;
 mod snapshots;
+mod sorted;
 mod targets;
 mod verdict;
 mod words;

@@ -34,12 +34,11 @@ impl Check<RawMachine> for Once {
     ghost places = { λ _ m. repeated no_name m.inputs ++ repeated no_name m.outputs ++ repeated (is_name_of (m.inputs ++ m.outputs)) (state_words m) };
 
     fn check(&self, machine: &RawMachine, found: Option<u64>) -> Result<Option<u64>, NoMemory> {
-        let ports = port_words(self.alloc, machine)?;
-        let taken = number_all(self.alloc, &ports)?;
+        let taken = port_words(self.alloc, machine)?;
         let states = state_words(self.alloc, machine)?;
         let found = repeats(self.alloc, &machine.inputs, found)?;
         let found = repeats(self.alloc, &machine.outputs, found)?;
-        repeated(taken, &states, found)
+        repeated(self.alloc, &taken, &states, found)
     }
 }
 
@@ -195,9 +194,8 @@ pub(crate) fn rule_11(alloc: Global, raw: &RawNet) -> Result<Option<u64>, NoMemo
     ensures { IfOk result (λ place. place ≡ least (rule_11 raw.now)) }
 {
     let taken = from_env(alloc, raw)?;
-    let taken = number_all(alloc, &taken)?;
     let words = all_outputs(alloc, raw)?;
-    repeated(taken, &words, None)
+    repeated(alloc, &taken, &words, None)
 }
 
 pub(crate) fn rule_12(alloc: Global, raw: &RawNet) -> Result<Option<u64>, NoMemory>

@@ -1,14 +1,19 @@
 // Words with names that aren't declared, or that repeat.
 ghost use Rattle.std.specs.Prelude.{◌≡◌, ◌++◌, IfOk};
 ghost use Rattle.net_names.specs.Places.{sooner, least};
-ghost use Rattle.net_names.specs.Numbers.{missing, repeated, no_name};
+ghost use Rattle.net_names.specs.Numbers.{missing, repeated, no_name, is_name_of};
 ghost use Rattle.net_judge.specs.Rules.{beyond};
 ghost use Rattle.net_names.specs.Tables.{has};
+ghost use Rattle.net_judge.specs.Sorting.{taken_before};
 
-use net_names::{Table, has_name, sooner};
+use crate::sorted::repeated_many;
+use net_names::{Table, has_name, sooner, unless};
 use net_reader::Word;
-use polis_base::{List, NoMemory};
+use polis_base::{List, Name, NoMemory};
 use std::alloc::Global;
+
+// So many words are compared with all others, and more of them are sorted.
+const FEW_WORDS: u64 = 8;
 
 // The least of what was found and of the places of the words without a number.
 fn missing_each(table: &Table, words: &[Word], found: Option<u64>) -> Option<u64>
@@ -23,21 +28,6 @@ fn missing_each(table: &Table, words: &[Word], found: Option<u64>) -> Option<u64
     found
 }
 
-// The least of what was found and of the places of the words whose names have a number or stand
-// before.
-fn repeated_each(taken: Table, words: &[Word], found: Option<u64>) -> Result<Option<u64>, NoMemory>
-    ensures { IfOk result (λ place. place ≡ sooner found (least (repeated (has taken) words.now))) }
-{
-    let mut taken = taken;
-    let mut found = found;
-    for word in words {
-        if !taken.note(word.name, 0)? {
-            found = sooner(found, word.at);
-        }
-    }
-    Ok(found)
-}
-
 // The least of what was found and of the places of the words without a number.
 pub(crate) fn missing(table: &Table, words: &List<Word>, found: Option<u64>) -> Option<u64>
     ensures { result ≡ sooner found (least (missing (has table.now) words.now)) }
@@ -45,30 +35,40 @@ pub(crate) fn missing(table: &Table, words: &List<Word>, found: Option<u64>) -> 
     missing_each(table, words.as_slice(), found)
 }
 
-// The least of what was found and of the places of the words whose names have a number or stand
-// before.
-pub(crate) fn repeated(
-    taken: Table,
-    words: &List<Word>,
-    found: Option<u64>,
-) -> Result<Option<u64>, NoMemory>
-    ensures { IfOk result (λ place. place ≡ sooner found (least (repeated (has taken) words.now))) }
+// Whether the name is that of a word before, or is taken.
+fn is_taken(taken: &[Word], before: &[Word], name: &Name) -> bool
+    ensures { result ≡ taken_before taken.now before.now name.now }
 {
-    repeated_each(taken, words.as_slice(), found)
+    has_name(before, name) || has_name(taken, name)
 }
 
-// The least of what was found and of the places of the words whose names stand before, each
-// compared with those before.
-fn repeats_few(words: &[Word], found: Option<u64>) -> Option<u64>
-    ensures { result ≡ sooner found (least (repeated no_name words.now)) }
+// The least of what was found and of the places of the words whose names are taken or stand before,
+// each compared with all of these.
+fn repeated_few(taken: &[Word], words: &[Word], found: Option<u64>) -> Option<u64>
+    ensures { result ≡ sooner found (least (repeated (is_name_of taken.now) words.now)) }
 {
     let mut found = found;
     for (place, word) in words.iter().enumerate() {
-        if has_name(&words[..place], &word.name) {
-            found = sooner(found, word.at);
-        }
+        let stands = is_taken(taken, &words[..place], &word.name);
+        found = unless(!stands, word.at, found);
     }
     found
+}
+
+// The least of what was found and of the places of the words whose names are taken or stand before.
+pub(crate) fn repeated(
+    alloc: Global,
+    taken: &List<Word>,
+    words: &List<Word>,
+    found: Option<u64>,
+) -> Result<Option<u64>, NoMemory>
+    ensures { IfOk result (λ place. place
+        ≡ sooner found (least (repeated (is_name_of taken.now) words.now))) }
+{
+    if words.len() <= FEW_WORDS {
+        return Ok(repeated_few(taken.as_slice(), words.as_slice(), found));
+    }
+    repeated_many(alloc, taken, words, found)
 }
 
 // The least of what was found and of the places of the words whose names stand before.
@@ -79,10 +79,9 @@ pub(crate) fn repeats(
 ) -> Result<Option<u64>, NoMemory>
     ensures { IfOk result (λ place. place ≡ sooner found (least (repeated no_name words.now))) }
 {
-    if words.len() <= 8 {
-        return Ok(repeats_few(words.as_slice(), found));
-    }
-    repeated(Table::new(alloc), words, found)
+    let none = List::new(alloc);
+    let place = repeated(alloc, &none, words, found)?;
+    Ok(place)
 }
 
 // The least of what was found and of the place of the first word beyond so many.

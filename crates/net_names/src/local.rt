@@ -81,12 +81,6 @@ impl<'s, 'a> Local<'s, 'a> {
         self.inputs.has(name)
     }
 
-    pub fn is_output(&self, name: Name) -> bool
-        ensures { result ≡ is_name_of self.now.machine.now.outputs name }
-    {
-        self.outputs.has(name)
-    }
-
     pub fn is_state(&self, name: Name) -> bool
         ensures { result ≡ is_name_of (state_words self.now.machine.now) name }
     {

@@ -1,7 +1,6 @@
-use Rattle.std.proofs.Common.{◌≡◌, ◌∙◌, ◌++◌, ap}
+use Rattle.std.proofs.Common.{◌++◌}
 use Rattle.net_names.specs.Places.{sooner, least}
 use Rattle.net_names.specs.Numbers.{repeated, no_name, is_name_of}
-use Rattle.net_names.specs.Tables.{has}
 use Rattle.net_names.specs.Scopes.{state_words}
 use Rattle.net_judge.proofs.Least.{IfOk-same}
 use Rattle.net_judge.proofs.Parts.{three-found}
@@ -10,12 +9,11 @@ use Rattle.net_judge.proofs.ports.OnceCheckRawMachine.check.Goals as goal
 pub returns : goal.returns
 returns c =
     let m = c.args.machine.now in
-    let names : has c.in_ok-taken.taken ≡ is_name_of (m.inputs ++ m.outputs) =
-    c.in_ok-taken.ensures.names ∙ ap is_name_of c.in_ok-ports.ensures in
     three-found c.args.found c.in_ok-found.found c.in_ok-found-2.found c.repeated.result
     (repeated no_name m.inputs) (repeated no_name m.outputs)
     (repeated (is_name_of (m.inputs ++ m.outputs)) (state_words m))
     c.in_ok-found.ensures c.in_ok-found-2.ensures
     (IfOk-same c.repeated.result _ _ (λ i.
-    sooner c.in_ok-found-2.found (least (repeated (names i) (c.in_ok-states.ensures i))))
+    sooner c.in_ok-found-2.found
+    (least (repeated (is_name_of (c.in_ok-taken.ensures i)) (c.in_ok-states.ensures i))))
     c.repeated.ensures)

@@ -25,3 +25,4 @@ pub mod Threes
 pub mod Machines
 pub mod LineSteps
 pub mod Keeping
+pub mod Answering

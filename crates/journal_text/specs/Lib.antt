@@ -8,3 +8,4 @@ pub mod Laws
 pub mod Cursors
 pub mod Steps
 pub mod Lines
+pub mod Answered

@@ -1,17 +1,21 @@
 // Reading a journal text.
-ghost use Rattle.std.specs.Prelude.{◌≡◌, ◌≢◌, ◌≤◌, ◌+◌, ◌++◌, [], ◌∷◌, length, Some, Ok, Err, IfOk, IfErr, IfSome};
+ghost use Rattle.std.specs.Prelude.{◌≡◌, ◌≢◌, ℕ, ◌≤◌, ◌+◌, ◌++◌, [], ◌∷◌, length, Some, Ok, Err, IfOk, IfErr, IfSome};
 ghost use Rattle.journals.specs.Journals.{IsJournal};
 ghost use Rattle.std.specs.List.{zip};
 ghost use Rattle.journal_text.specs.Lines.{at_line};
 ghost use Rattle.journal_text.specs.Texts.{AreStamps};
-ghost use Rattle.journal_text.specs.Forms.{lines_of};
-ghost use Rattle.journal_text.specs.Reading.{version_of, ended, unended, given, body_says, read_of};
+ghost use Rattle.journal_text.specs.Forms.{Text, lines_of};
+ghost use Rattle.journal_text.specs.Reading.{ReadText, version_of, ended, unended, given, body_says, read_of};
+ghost use Rattle.journal_text.specs.Laws.{prefix_fault};
+ghost use Rattle.journal_text.specs.Answered.{text_of, IsPrintable, Gives, Refuses};
 ghost use Rattle.journal_text.specs.declared.fault.JournalFault.{JournalFault};
 
 use crate::codes::Stop;
 use crate::cut::next_line;
 use crate::fault::{JournalFault, JournalKind};
 use crate::index::Index;
+use crate::kept::keep_names;
+use crate::law::laws;
 use crate::line::{Content, read_line};
 use journals::{Entry, Journal, Stamps};
 use std::alloc::Global;
@@ -171,9 +175,8 @@ fn read_body(
     }
 }
 
-/// Reads a journal text of either version. The answer `Line` names the first line at fault,
-/// numbered from 1, and the first kind that applies to it.
-pub fn read_journal(alloc: Global, net: &Network, text: &[u8]) -> Result<ReadJournal, JournalFault>
+// Reads a journal text of either version.
+fn read_text(alloc: Global, net: &Network, text: &[u8]) -> Result<ReadJournal, JournalFault>
     ensures ok { IfOk result (λ r. read_of net.now text.now
         ≡ Ok (r.journal, r.stamps, r.says_complete)) }
     ensures fits { IfOk result (λ r. IsJournal net.now r.journal) }
@@ -190,4 +193,28 @@ pub fn read_journal(alloc: Global, net: &Network, text: &[u8]) -> Result<ReadJou
             kind: JournalKind::Header,
         }),
     }
+}
+
+/// Reads a journal text of either version. The answer `Line` names the first line at fault,
+/// numbered from 1, and the first kind that applies to it.
+pub fn read_journal(alloc: Global, net: &Network, text: &[u8]) -> Result<ReadJournal, JournalFault>
+    ensures ok { IfOk result (λ r. read_of net.now text.now
+        ≡ Ok (r.journal, r.stamps, r.says_complete)) }
+    ensures fits { IfOk result (λ r. IsJournal net.now r.journal) }
+    ensures few { IfOk result (λ r. length r.journal ≤ 60000) }
+    ensures stamps { IfOk result (λ r. IfSome r.stamps (AreStamps r.journal)) }
+    ensures fault { (fault : JournalFault) → result ≡ Err fault → fault ≢ JournalFault.NoMemory
+        → read_of net.now text.now ≡ Err fault }
+    ensures printed { IfOk result
+        (λ r. text.now ≡ text_of net.now (r.journal, r.stamps, r.says_complete)) }
+    ensures reads { (read : ReadText) → IsPrintable net.now read → text.now ≡ text_of net.now read
+        → Gives result read }
+    ensures prefix { (read : ReadText) (c : ℕ) (rest : Text) → IsPrintable net.now read
+        → text_of net.now read ≡ text.now ++ c ∷ rest
+        → Refuses result (prefix_fault (lines_of text.now)) }
+{
+    keep_names(net);
+    laws();
+    let read = read_text(alloc, net, text);
+    read
 }

@@ -1,31 +1,19 @@
-use Rattle.std.proofs.Common.{◌∙◌}
-use Rattle.journal_text.proofs.LineSteps.{by_version, read_is_journal, read_is_short, read_has_stamps}
+use Rattle.journal_text.proofs.Answering.{is_printed, was_read, was_refused}
 use Rattle.journal_text.proofs.read.read_journal.Goals as goal
 
-pub returns-in-Some-Some-clause-fits : goal.returns-in-Some-Some-clause-fits
-returns-in-Some-Some-clause-fits c =
-    let is = by_version c.args.net.now c.args.text.now _ c.in-Some-Some.rest.now c.version.result
-    c.in-Some-Some.stamped (rw c.in-Some-Some.is-1 at c.next_line.ensures.prefix)
-    c.version.ensures c.in-Some-Some.is-0 in
-    read_is_journal c.args.net.now c.args.text.now _ c.read_body.result is c.read_body.ensures.ok
+pub returns-clause-printed : goal.returns-clause-printed
+returns-clause-printed c =
+    is_printed c.laws.ensures.read_is_printed c.laws.ensures.stamped_read_is_printed c.args.net.now
+    c.args.text.now c.read_text-read.result c.read_text-read.ensures.ok
 
-pub returns-in-Some-Some-clause-few : goal.returns-in-Some-Some-clause-few
-returns-in-Some-Some-clause-few c =
-    let is = by_version c.args.net.now c.args.text.now _ c.in-Some-Some.rest.now c.version.result
-    c.in-Some-Some.stamped (rw c.in-Some-Some.is-1 at c.next_line.ensures.prefix)
-    c.version.ensures c.in-Some-Some.is-0 in
-    read_is_short c.args.net.now c.args.text.now _ c.read_body.result is c.read_body.ensures.ok
+pub returns-clause-reads : goal.returns-clause-reads
+returns-clause-reads c =
+    was_read c.laws.ensures.reads_back c.laws.ensures.stamped_reads_back c.args.net.now
+    c.keep_names.ensures c.args.text.now c.read_text-read.result c.read_text-read.ensures.ok
+    c.read_text-read.ensures.fault
 
-pub returns-in-Some-Some-clause-stamps : goal.returns-in-Some-Some-clause-stamps
-returns-in-Some-Some-clause-stamps c =
-    let is = by_version c.args.net.now c.args.text.now _ c.in-Some-Some.rest.now c.version.result
-    c.in-Some-Some.stamped (rw c.in-Some-Some.is-1 at c.next_line.ensures.prefix)
-    c.version.ensures c.in-Some-Some.is-0 in
-    read_has_stamps c.args.net.now c.args.text.now _ c.read_body.result is c.read_body.ensures.ok
-
-pub returns-in-Some-Some-clause-fault : goal.returns-in-Some-Some-clause-fault
-returns-in-Some-Some-clause-fault c = λ fault e other.
-    by_version c.args.net.now c.args.text.now _ c.in-Some-Some.rest.now c.version.result
-    c.in-Some-Some.stamped (rw c.in-Some-Some.is-1 at c.next_line.ensures.prefix)
-    c.version.ensures c.in-Some-Some.is-0
-    ∙ c.read_body.ensures.fault fault e other
+pub returns-clause-prefix : goal.returns-clause-prefix
+returns-clause-prefix c =
+    was_refused c.laws.ensures.prefix_faults c.laws.ensures.stamped_prefix_faults c.args.net.now
+    c.keep_names.ensures c.args.text.now c.read_text-read.result c.read_text-read.ensures.ok
+    c.read_text-read.ensures.fault

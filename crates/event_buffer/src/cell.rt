@@ -185,7 +185,8 @@ impl<'a> Cell<'a> {
     }
 
     /// Appends its reaction to this moment, whose outcome `settle` writes. All memory is taken
-    /// first, then the gate's `hold` is called once, and only then anything changes.
+    /// first, and with it a placeholder for the log entry, a delivery of event 0; then the gate's
+    /// `hold` is called once, and then the reaction is noted.
     pub fn freeze<G: Gate>(&mut self, g: &G) -> Result<Frozen<'a>, CellError>
         requires { look self.old ≡ Look.Ready }
         ensures reacts { OnOk result (self.new ≡ freezing self.old) }

@@ -25,7 +25,7 @@ use Rattle.worker_core.specs.Known.{Known}
 use Rattle.journals.specs.StampLaws.{origin_in}
 use Rattle.journals.specs.Stamps.{greatest, stamps_sent}
 use Rattle.journals.specs.Schedules.{is_way, event_code}
-use Rattle.worker_core.proofs.Sorting.{all_more, rises_from}
+use Rattle.worker_core.proofs.Sorting.{all_more, rises_from, rises_unbounded}
 use Rattle.worker_core.proofs.Sent.{same_party_self, party_from_same, delivered_more, delivered_own, sent_more, sent_by_delivery}
 use Rattle.worker_core.proofs.Leasting.{stamps_push, drop_replicate, stamp_in, held_same, nothing_held, all_least_more}
 use Rattle.worker_core.proofs.Growing.{HasMore, more_or_same, within_more, hand_within_more, all_push, entries_more, alone_more, all_in_time_more, last_firing_more}
@@ -106,7 +106,7 @@ all_sent_below net trace j k t f low (x ∷ xs) rising last below =
         (and_from (nat_lt f x.stamp) (list_all (λ y. nat_lt f y.stamp) xs) (lt-ltb f x.stamp first)
         (all_more (λ y. nat_lt x.stamp y.stamp) (λ y. nat_lt f y.stamp) xs
         (λ y more. lt-ltb f y.stamp (let less = ltb-true x.stamp y.stamp more in omega arith))
-        (rises_from x.stamp xs steps.1)))))
+        (rises_from x.stamp xs (rises_unbounded x.stamp xs steps.1))))))
 
 -- what the sender of a hand has sent is all sent by firings below a stamp above the hand's
 pub sent_by_then : (net : Network) (trace : List TraceItem) (j k t : ℕ) (log : List Stamped)

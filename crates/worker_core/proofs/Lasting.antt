@@ -1,5 +1,5 @@
 -- A core that is left to itself.
-use Rattle.std.specs.Prelude.{◌≡◌, ℕ, zero, suc, ◌+◌, ◌*◌, ◌<◌, ◌≤◌, Bool, true, false, cond, ◌&&◌, nat_lt, is_none, List, [], ◌∷◌, length, set, replicate, Option, Some, None, Result, Ok, Err, IfOk}
+use Rattle.std.specs.Prelude.{◌≡◌, ℕ, zero, suc, ◌+◌, ◌*◌, ◌<◌, ◌≤◌, Bool, true, false, cond, ◌&&◌, nat_lt, is_none, List, [], ◌∷◌, ◌++◌, length, set, replicate, Option, Some, None, unwrap_or, Result, Ok, Err, IfOk}
 use Rattle.std.specs.List.{list_all}
 use Rattle.std.proofs.Common.{refl, sym, ap, ◌∙◌, subst, inl, inr, arith}
 use Rattle.std.proofs.lemmas.Option.{same_Some, none-some}
@@ -14,13 +14,13 @@ use Rattle.journals.specs.Legality.{Complete}
 use Rattle.worker_core.specs.declared.state.Hand.{Hand}
 use Rattle.journals.specs.declared.stamped.CoreStep.{CoreStep}
 use Rattle.journals.specs.declared.stamped.CoreStep.TheVariants.{React, Land, Free, Feed}
-use Rattle.worker_core.specs.Cores.{CoreState, log_of, hand_of, with_entry, may_react, may_land, reacting, reacted, landing, landed, land, freed, free, fed, take_step, at_start}
+use Rattle.worker_core.specs.Cores.{CoreState, log_of, hand_of, with_entry, may_react, may_land, reacting, reacted, landing, landed, land, freed, free, fed, take_step, run_steps, at_start}
 use Rattle.journals.specs.Logs.{entries, clock, max_stamp}
 use Rattle.worker_core.specs.CoreLaws.{StartIsCore, StoppedIsComplete}
 use Rattle.worker_core.specs.Facts.{IsCore, count_entries, count_busy, is_due}
 use Rattle.worker_core.specs.Merges.{merged}
 use Rattle.worker_core.specs.Running.{CoreMoment}
-use Rattle.worker_core.specs.Turns.{Took, IsStopped, IsWhole, adds_entry}
+use Rattle.worker_core.specs.Turns.{Took, IsStopped, IsWhole, IsRun, adds_entry}
 use Rattle.worker_core.proofs.Completing.{length_merged}
 use Rattle.worker_core.proofs.Gaining.{step_gains, due_inside}
 use Rattle.worker_core.proofs.Growing.{count_more}
@@ -116,6 +116,16 @@ pub record IsAlone (net : Network) (trace : List TraceItem) (core : CoreMoment)
   pub is_core : IsCore net trace core.state
   pub made_are : made ≡ count_entries core.state.logs
   pub gain : k + count_busy core.state.hands ≤ 2 * made
+  pub steps : List CoreStep
+  pub state_is : core.state ≡ run_steps net (at_start net trace) steps
+
+-- one step more
+run_more : (net : Network) (state : CoreState) (steps : List CoreStep) (step : CoreStep)
+    → run_steps net state (steps ++ step ∷ [])
+    ≡ unwrap_or (take_step net (run_steps net state steps) step) (run_steps net state steps)
+run_more net state [] step = refl
+run_more net state (first ∷ steps) step =
+    run_more net (unwrap_or (take_step net state first) state) steps step
 
 pub turn_gains : (net : Network) (trace : List TraceItem) (old new : CoreMoment) (step : CoreStep)
     (made k added : ℕ)
@@ -138,6 +148,11 @@ turn_gains net trace old new step made k added keeps alone took is =
       is_core = keeps old.state new.state step alone.is_core taken;
       made_are = omega arith;
       gain = omega arith;
+      steps = alone.steps ++ step ∷ [];
+      state_is = sym
+          (run_more net (at_start net trace) alone.steps step
+          ∙ ap (λ (s : CoreState). unwrap_or (take_step net s step) s) (sym alone.state_is)
+          ∙ ap (λ (o : Option CoreState). unwrap_or o old.state) taken);
     }
 
 -- ---- the end
@@ -146,6 +161,14 @@ pub if_ok_then : {X E : Type 0} (r : Result X E) (P Q : X → Type 0) → IfOk r
     → ((x : X) → P x → Q x) → IfOk r Q
 if_ok_then (Ok x) P Q h f = f x h
 if_ok_then (Err e) P Q h f = tt
+
+pub run_merges : (net : Network) (trace : List TraceItem) (core : CoreMoment) (made k : ℕ)
+    (journal : List Entry) → IsAlone net trace core made k → journal ≡ merged core.state.logs
+    → IsRun net trace journal
+run_merges net trace core made k journal alone is = record {
+  steps = alone.steps;
+  merges = is ∙ ap (λ (s : CoreState). merged s.logs) alone.state_is;
+}
 
 pub whole_by_count : (net : Network) (trace : List TraceItem) (core : CoreMoment) (made k count : ℕ)
     (journal : List Entry) → IsAlone net trace core made k → made ≡ count
@@ -189,6 +212,8 @@ alone_first net trace core start fits is =
           (ap (λ (v : CoreMoment). count_entries v.state.logs) is
           ∙ ap length (no_entries (length net.machines)));
       gain = omega arith;
+      steps = [];
+      state_is = ap (λ (v : CoreMoment). v.state) is;
     }
 
 pub at_most : (made added count : ℕ) (step : CoreStep) → made ≤ count → (made ≡ count → ⊥)

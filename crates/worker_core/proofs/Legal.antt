@@ -25,7 +25,7 @@ use Rattle.worker_core.specs.Merges.{put, by_stamp, merged, merged_stamps}
 use Rattle.journals.specs.StampLaws.{not_falling}
 use Rattle.journals.specs.Stamps.{least}
 use Rattle.worker_core.specs.Known.{Known}
-use Rattle.worker_core.proofs.Sorting.{all_more, all_of_filter, not_above, Ordered, is_ordered, ordered_after, kept_by_order, one_of_all}
+use Rattle.worker_core.proofs.Sorting.{all_more, all_of_filter, not_above, Ordered, is_ordered, ordered_after, kept_by_order, one_of_all, rises_unbounded}
 use Rattle.worker_core.proofs.Sent.{begins_further, filter_of_map, delivered_more, sent_more}
 
 abbrev pub at_machine : ℕ → Stamped → Bool
@@ -237,7 +237,9 @@ merge_is net logs alone =
     (λ x h. own_is_at net k x.entry h) (alone k).own) in
     record {
       kept = λ m. kept_by_order (at_machine m) 0 all
-          (subst (λ l. rises 0 l ≡ true) (sym (found m)) (alone m).rising) ∙ found m;
+          (rises_unbounded 0 (filter (at_machine m) all)
+          (subst (λ l. rises 0 l ≡ true) (sym (found m)) (alone m).rising))
+          ∙ found m;
       ordered = is_ordered all;
     }
 

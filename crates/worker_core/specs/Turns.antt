@@ -6,7 +6,8 @@ use Rattle.journals.specs.declared.entry.TraceItem.{TraceItem}
 use Rattle.journals.specs.Legality.{Complete}
 use Rattle.journals.specs.declared.stamped.CoreStep.{CoreStep}
 use Rattle.journals.specs.declared.stamped.CoreStep.TheVariants.{React, Land, Free, Feed}
-use Rattle.worker_core.specs.Cores.{CoreState, take_step}
+use Rattle.worker_core.specs.Cores.{CoreState, at_start, take_step, run_steps}
+use Rattle.worker_core.specs.Merges.{merged}
 use Rattle.worker_core.specs.Running.{CoreMoment}
 
 -- the step was taken, or nothing has changed
@@ -36,3 +37,8 @@ adds_entry Feed = true
 abbrev pub IsWhole : Network → List TraceItem → ℕ → List Entry → Type 0
 IsWhole net trace count journal =
     (length journal ≡ count) ⊎ ((length journal < count) × Complete net trace journal)
+
+-- it is the merge of the logs that some steps of the core make of the start
+pub record IsRun (net : Network) (trace : List TraceItem) (journal : List Entry) : Type 0 where
+  pub steps : List CoreStep
+  pub merges : journal ≡ merged (run_steps net (at_start net trace) steps).logs

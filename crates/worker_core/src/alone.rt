@@ -3,7 +3,7 @@ ghost use Rattle.std.specs.Prelude.{◌≡◌, ◌<◌, ◌≤◌, ℕ, cond, No
 ghost use Rattle.journals.specs.Journals.{IsTrace};
 ghost use Rattle.journals.specs.Legality.{Legal};
 ghost use Rattle.worker_core.specs.Merges.{merged};
-ghost use Rattle.worker_core.specs.Turns.{Took, IsStill, IsStopped, IsWhole, adds_entry};
+ghost use Rattle.worker_core.specs.Turns.{Took, IsStill, IsStopped, IsWhole, IsRun, adds_entry};
 
 use crate::law::core_laws;
 use crate::merging::merge_logs;
@@ -133,6 +133,7 @@ fn run_alone<R: Reactor>(
     requires count { count ≤ 60000 }
     ensures legal { IfOk result (λ j. Legal net.now trace.now j) }
     ensures whole { IfOk result (λ j. IsWhole net.now trace.now count j) }
+    ensures run { IfOk result (λ j. IsRun net.now trace.now j) }
 {
     core_laws();
     let mut core = Core::start(alloc, net, trace)?;
@@ -165,6 +166,7 @@ pub fn core_alone<R: Reactor>(
     requires count { count ≤ 60000 }
     ensures legal { IfOk result (λ j. Legal (R.meaning r.now) trace.now j) }
     ensures whole { IfOk result (λ j. IsWhole (R.meaning r.now) trace.now count j) }
+    ensures run { IfOk result (λ j. IsRun (R.meaning r.now) trace.now j) }
 {
     run_alone(alloc, r.network(), r, trace, count)
 }

@@ -4,6 +4,7 @@ ghost use Rattle.journals.specs.Journals.{IsTrace};
 ghost use Rattle.journals.specs.Logs.{rises};
 ghost use Rattle.worker_core.specs.CoreLaws.{RunsWell};
 ghost use Rattle.worker_core.specs.Cores.{at_start, take_step, run_steps};
+ghost use Rattle.worker_core.specs.Merges.{stamps_rise};
 ghost use Rattle.worker_core.specs.Parts.{state_of, AreParts};
 ghost use Rattle.worker_core.specs.Running.{CoreMoment};
 ghost use Rattle.worker_core.specs.Turns.{IsStill};
@@ -111,6 +112,7 @@ impl<'a> Core<'a> {
         ensures logs { result.now ≡ self.now.state.logs }
         ensures well { RunsWell self.now.net self.now.trace self.now.state }
         ensures rising { (m : ℕ) → IsTrue (rises 0 (get_or result.now m [])) }
+        ensures mergeable { (m : ℕ) → IsTrue (stamps_rise (get_or result.now m [])) }
     {
         core_laws();
         &self.parts.logs

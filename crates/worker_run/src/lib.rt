@@ -2,6 +2,7 @@
 // are of one network.
 #![tactic(auto)]
 
+mod budget;
 mod gathering;
 mod in_hand;
 mod locked;

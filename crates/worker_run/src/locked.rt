@@ -1,11 +1,13 @@
 // What lies under the locks.
-ghost use Rattle.std.specs.Prelude.{◌≡◌, ◌<◌, [], length, IfOk, IfSome, IsTrue};
+ghost use Rattle.std.specs.Prelude.{◌≡◌, ◌<◌, ◌==◌, [], cond, false, length, map, IfOk, IfSome, IsTrue};
 ghost use Rattle.transition_table.specs.Transitions.{AreDeterministic, OfMachine, Transition};
 ghost use Rattle.journals.specs.Alone.{LegalAlone};
 ghost use Rattle.journals.specs.Journals.{IsTrace};
+ghost use Rattle.journals.specs.Schedules.{trace_deliveries};
 ghost use Rattle.event_buffer.specs.Arrivals.{is_arrival, are_arrivals};
 ghost use Rattle.worker_run.specs.InHand.{is_in_hand};
 
+use crate::budget::Budget;
 use crate::in_hand::InHand;
 use event_buffer::{Arrival, Cell, CellError, Feed, Frozen, Gate, Look, Outgoing};
 use journals::{Log, Trace};
@@ -70,7 +72,11 @@ pub(crate) enum Landed {
 }
 
 impl<'a, N: Naming> Locked<'a, N> {
-    ghost use Rattle.worker_run.specs.Tries.{IsTried, given_by};
+    ghost use Rattle.std.specs.Prelude.{None};
+    ghost use Rattle.worker_run.specs.declared.in_hand.InHand.TheVariants.{Nothing};
+    ghost use Rattle.worker_run.specs.Locks.{Freezes, Settles, Lands, Releases};
+    ghost use Rattle.worker_run.specs.Tries.{IsTried, frozen_count, given_by, landed_count};
+    ghost use Rattle.worker_run.specs.Turns.{Counts, CountsAppended};
 
     /// The cell of a machine to which nothing was delivered.
     pub(crate) fn new(
@@ -81,6 +87,14 @@ impl<'a, N: Naming> Locked<'a, N> {
         requires network { net.now ≡ N.net }
         requires machine { machine < length net.now.machines }
         requires deterministic { AreDeterministic net.now }
+        ensures cell { IfOk result (λ l. l.cell ≡ record {
+          net = net.now;
+          machine = machine;
+          log = [];
+          busy = false;
+          frozen = None;
+        }) }
+        ensures hand { IfOk result (λ l. l.hand ≡ Nothing) }
     {
         Ok(Locked {
             cell: Cell::new(alloc, net, machine)?,
@@ -90,9 +104,14 @@ impl<'a, N: Naming> Locked<'a, N> {
         })
     }
 
-    /// Freezes a reaction where the cell is ready.
-    pub(crate) fn try_freeze<G: Gate>(&mut self, g: &G) -> Tried<'a>
-        ensures { IsTried N.net result }
+    /// Freezes a reaction where the cell is ready, and counts its entry.
+    pub(crate) fn try_freeze<G: Gate>(&mut self, g: &G, budget: &mut Budget) -> Tried<'a>
+        requires left { budget.old.used < budget.old.most }
+        ensures freezes { Freezes (record { cell = self.old.cell; hand = self.old.hand })
+            (record { cell = self.new.cell; hand = self.new.hand }) result }
+        ensures appended { CountsAppended budget.old budget.new self.old.cell self.new.cell }
+        ensures counted { Counts budget.old budget.new (frozen_count result) }
+        ensures network { IsTried N.net result }
     {
         match self.cell.look() {
             Look::Ready => {}
@@ -101,6 +120,7 @@ impl<'a, N: Naming> Locked<'a, N> {
         match self.cell.freeze(g) {
             Ok(f) => {
                 self.hand = InHand::Reaction(f.stamp());
+                budget.count();
                 Tried::Frozen(f)
             }
             Err(e) => Tried::Failed(e),
@@ -112,7 +132,9 @@ impl<'a, N: Naming> Locked<'a, N> {
         requires network { f.net ≡ N.net }
         requires ran { OfMachine f.net f.machine
             (λ machine. Transition machine f.snapshot f.outcome) }
-        ensures { IsTrue (are_arrivals N.net (given_by result)) }
+        ensures settles { Settles f.entry (record { cell = self.old.cell; hand = self.old.hand })
+            (record { cell = self.new.cell; hand = self.new.hand }) result }
+        ensures arrivals { IsTrue (are_arrivals N.net (given_by result)) }
     {
         if !self.cell.settles(&f) {
             f.abandon();
@@ -130,15 +152,23 @@ impl<'a, N: Naming> Locked<'a, N> {
         }
     }
 
-    /// Lands a delivery where its receiver is this machine.
-    pub(crate) fn receive(&mut self, a: &Arrival) -> Landed
-        requires { IsTrue (is_arrival N.net a.now) }
+    /// Lands a delivery where its receiver is this machine, and counts its entry.
+    pub(crate) fn receive(&mut self, a: &Arrival, budget: &mut Budget) -> Landed
+        requires arrival { IsTrue (is_arrival N.net a.now) }
+        requires left { budget.old.used < budget.old.most }
+        ensures lands { Lands a.now (record { cell = self.old.cell; hand = self.old.hand })
+            (record { cell = self.new.cell; hand = self.new.hand }) result }
+        ensures appended { CountsAppended budget.old budget.new self.old.cell self.new.cell }
+        ensures counted { Counts budget.old budget.new (landed_count result) }
     {
         if self.machine != a.to {
             return Landed::Elsewhere;
         }
         match self.cell.land(a) {
-            Ok(_) => Landed::Yes,
+            Ok(_) => {
+                budget.count();
+                Landed::Yes
+            }
             Err(e) => Landed::Failed(e),
         }
     }
@@ -147,6 +177,8 @@ impl<'a, N: Naming> Locked<'a, N> {
     /// cell. Otherwise gives it up.
     pub(crate) fn release(&mut self, out: Outgoing) -> bool
         requires { out.arrivals ≡ [] }
+        ensures { Releases out (record { cell = self.old.cell; hand = self.old.hand })
+            (record { cell = self.new.cell; hand = self.new.hand }) result }
     {
         match self.hand {
             InHand::Deliveries(stamp) => {
@@ -169,7 +201,9 @@ impl<'a, N: Naming> Locked<'a, N> {
     /// The log where the machine is this one, an empty log otherwise.
     pub(crate) fn into_log_of<R: Reactor>(self, alloc: Global, r: &R, machine: u32) -> Log
         requires { R.meaning r.now ≡ N.net }
-        ensures { LegalAlone N.net machine result }
+        ensures log { result
+            ≡ cond (self.entry.cell.machine == machine) self.entry.cell.log [] }
+        ensures legal { LegalAlone N.net machine result }
     {
         if self.machine == machine {
             self.cell.into_log(r)
@@ -188,10 +222,17 @@ pub(crate) struct Source<'a, N: Naming> {
 }
 
 impl<'a, N: Naming> Source<'a, N> {
+    ghost use Rattle.worker_run.specs.Locks.{Gives, Takes};
+
     /// All deliveries of a trace.
     pub(crate) fn new(net: &'a Network, trace: &'a Trace) -> Result<Source<'a, N>, NoMemory>
         requires network { net.now ≡ N.net }
         requires trace { IsTrace net.now trace.now }
+        ensures { IfOk result (λ s. s.feed ≡ record {
+          net = net.now;
+          trace = trace.now;
+          left = map (λ d. d.0) (trace_deliveries net.now false trace.now);
+        }) }
     {
         Ok(Source {
             feed: Feed::new(net, trace)?,
@@ -201,13 +242,16 @@ impl<'a, N: Naming> Source<'a, N> {
 
     /// The next, if any is left.
     pub(crate) fn peek(&self) -> Option<Arrival>
-        ensures { IfSome result (λ a. IsTrue (is_arrival N.net a)) }
+        ensures gives { Gives self.now.feed result }
+        ensures arrival { IfSome result (λ a. IsTrue (is_arrival N.net a)) }
     {
         self.feed.peek()
     }
 
     /// Takes the next away, if any is left.
-    pub(crate) fn advance(&mut self) {
+    pub(crate) fn advance(&mut self)
+        ensures { Takes self.old.feed self.new.feed }
+    {
         match self.feed.peek() {
             Some(_) => self.feed.advance(),
             None => {}

@@ -1,10 +1,11 @@
 // The turns of a worker.
-ghost use Rattle.std.specs.Prelude.{◌≡◌, ◌<◌, ◌≤◌, ◌+◌, [], false, IsTrue};
+ghost use Rattle.std.specs.Prelude.{◌≡◌, ◌<◌, ◌≤◌, ◌-◌, [], cond, drop, length, IsTrue};
 ghost use Rattle.transition_table.specs.Transitions.{OfMachine, Transition};
 ghost use Rattle.event_buffer.specs.Arrivals.{is_arrival, are_arrivals};
-ghost use Rattle.worker_run.specs.Tries.{IsTried, given_by};
-ghost use Rattle.worker_run.specs.Turns.{Spends};
+ghost use Rattle.worker_run.specs.Tries.{IsTried, Hands, deliveries_of, frozen_count, given_by};
+ghost use Rattle.worker_run.specs.Turns.{Counts, CountsTurn, Spends, StaysWithin, fed_count};
 
+use crate::budget::Budget;
 use crate::locked::{Landed, Locked, Naming, Settled, Source, Tried};
 use event_buffer::{Arrival, CellError, Frozen, Gate, Outgoing};
 use std::sync::{Mutex, Wait};
@@ -15,7 +16,7 @@ use transition_table::Reactor;
 pub(crate) struct Worker {
     number: usize,
     workers: usize,
-    budget: u64,
+    budget: Budget,
     out_of_memory: bool,
     ghost some: { 0 < workers },
 }
@@ -33,14 +34,15 @@ pub(crate) enum Turn {
 
 impl Worker {
     /// A worker that may still append so many entries.
-    pub(crate) fn new(number: u32, workers: u32, budget: u64) -> Worker
+    pub(crate) fn new(number: u32, workers: u32, most: u64) -> Worker
         requires { 0 < workers }
-        ensures { result.budget ≡ budget }
+        ensures most { result.budget.most ≡ most }
+        ensures used { result.budget.used ≡ 0 }
     {
         Worker {
             number: number as usize,
             workers: workers as usize,
-            budget,
+            budget: Budget::new(most),
             out_of_memory: false,
         }
     }
@@ -50,18 +52,6 @@ impl Worker {
         ensures { result ≡ self.now.out_of_memory }
     {
         self.out_of_memory
-    }
-
-    // Takes one entry from the budget. False where none is left.
-    fn spend(&mut self) -> bool
-        ensures spent { IsTrue result → self.new.budget + 1 ≡ self.old.budget }
-        ensures none { result ≡ false → self.new.budget ≡ self.old.budget }
-    {
-        if self.budget == 0 {
-            return false;
-        }
-        self.budget -= 1;
-        true
     }
 
     // Notes why a cell couldn't take an entry.
@@ -83,14 +73,16 @@ fn land<'a, N: Naming, T: Wait>(
     a: &Arrival,
 ) -> bool
     requires { IsTrue (is_arrival N.net a.now) }
-    ensures counted { IsTrue result → worker.new.budget < worker.old.budget }
-    ensures most { worker.new.budget ≤ worker.old.budget }
+    ensures { Counts worker.old.budget worker.new.budget (cond result 1 0) }
 {
     let to = a.to as usize;
-    if to >= cells.len() || !worker.spend() {
+    if to >= cells.len() {
         return false;
     }
-    match cells[to].lock(rt).receive(a) {
+    if worker.budget.is_spent() {
+        return false;
+    }
+    match cells[to].lock(rt).receive(a, &mut worker.budget) {
         Landed::Yes => true,
         Landed::Elsewhere => false,
         Landed::Failed(e) => {
@@ -109,7 +101,11 @@ fn land_all<'a, N: Naming, T: Wait>(
 ) -> bool
     requires { IsTrue (are_arrivals N.net out.old.arrivals) }
     ensures landed { IsTrue result → out.new.arrivals ≡ [] }
-    ensures most { worker.new.budget ≤ worker.old.budget }
+    ensures passed { out.new ≡ record out.old {
+      arrivals = drop (length out.old.arrivals - length out.new.arrivals) out.old.arrivals;
+    } }
+    ensures counted { Counts worker.old.budget worker.new.budget
+        (length out.old.arrivals - length out.new.arrivals) }
 {
     while let Some(a) = out.first() {
         let a = *a;
@@ -122,17 +118,25 @@ fn land_all<'a, N: Naming, T: Wait>(
 }
 
 // Freezes a reaction under the cell's lock, where the cell is ready.
-fn freeze<'a, N: Naming, T: Wait, G: Gate>(rt: &T, g: &G, cell: &Mutex<Locked<'a, N>>) -> Tried<'a>
-    ensures { IsTried N.net result }
+fn freeze<'a, N: Naming, T: Wait, G: Gate>(
+    rt: &T,
+    g: &G,
+    cell: &Mutex<Locked<'a, N>>,
+    worker: &mut Worker,
+) -> Tried<'a>
+    requires { worker.old.budget.used < worker.old.budget.most }
+    ensures counted { Counts worker.old.budget worker.new.budget (frozen_count result) }
+    ensures network { IsTried N.net result }
 {
-    cell.lock(rt).try_freeze(g)
+    cell.lock(rt).try_freeze(g, &mut worker.budget)
 }
 
 // Settles a reaction that was run, under the cell's lock.
 fn settle<'a, N: Naming, T: Wait>(rt: &T, cell: &Mutex<Locked<'a, N>>, f: Frozen<'a>) -> Settled
     requires network { f.net ≡ N.net }
     requires ran { OfMachine f.net f.machine (λ machine. Transition machine f.snapshot f.outcome) }
-    ensures { IsTrue (are_arrivals N.net (given_by result)) }
+    ensures hands { Hands f.entry result }
+    ensures arrivals { IsTrue (are_arrivals N.net (given_by result)) }
 {
     cell.lock(rt).try_settle(f)
 }
@@ -153,7 +157,7 @@ fn deliver<'a, N: Naming, T: Wait>(
     mut out: Outgoing,
 ) -> Turn
     requires { IsTrue (are_arrivals N.net out.arrivals) }
-    ensures most { worker.new.budget ≤ worker.old.budget }
+    ensures { CountsTurn worker.old.budget worker.new.budget (length out.arrivals) result }
 {
     if !land_all::<N, T>(rt, cells, worker, &mut out) {
         out.abandon();
@@ -179,7 +183,7 @@ fn finish<'a, N: Naming, T: Wait, R: Reactor, G: Gate>(
 ) -> Turn
     requires network { R.meaning r.now ≡ N.net }
     requires frozen { f.net ≡ N.net }
-    ensures most { worker.new.budget ≤ worker.old.budget }
+    ensures { CountsTurn worker.old.budget worker.new.budget (length (deliveries_of f.entry)) result }
 {
     f.run(r, g);
     match settle::<N, T>(rt, own, f) {
@@ -202,19 +206,16 @@ fn turn_on<'a, N: Naming, T: Wait, R: Reactor, G: Gate>(
     requires { R.meaning r.now ≡ N.net }
     ensures { Spends worker.old.budget worker.new.budget result }
 {
-    if worker.budget == 0 {
+    if worker.budget.is_spent() {
         return Turn::Stopped;
     }
-    match freeze::<N, T, G>(rt, g, own) {
+    match freeze::<N, T, G>(rt, g, own, worker) {
         Tried::Idle => Turn::Idle,
         Tried::Failed(e) => {
             worker.note(e);
             Turn::Stopped
         }
-        Tried::Frozen(f) => {
-            worker.budget -= 1;
-            finish::<N, T, R, G>(rt, r, g, cells, worker, own, f)
-        }
+        Tried::Frozen(f) => finish::<N, T, R, G>(rt, r, g, cells, worker, own, f),
     }
 }
 
@@ -249,7 +250,7 @@ fn feed_one<'a, N: Naming, T: Wait>(
     feed: &Mutex<Source<'a, N>>,
     worker: &mut Worker,
 ) -> Turn
-    ensures { Spends worker.old.budget worker.new.budget result }
+    ensures { Counts worker.old.budget worker.new.budget (fed_count result) }
 {
     let mut feed = feed.lock(rt);
     let Some(a) = feed.peek() else {
@@ -304,6 +305,7 @@ pub(crate) fn work<'a, N: Naming, T: Wait, R: Reactor, G: Gate>(
     worker: &mut Worker,
 )
     requires { R.meaning r.now ≡ N.net }
+    ensures { StaysWithin worker.old.budget worker.new.budget }
 {
     let mut here = *worker;
     loop {

@@ -12,7 +12,7 @@ loop-cell-preserved g c =
     let size = length_push c.loop-cell.logs c.into_log_of.result in
     let log = c.into_log_of.result in
     let here =
-    subst (λ m. LegalAlone g.N.Naming.net m log) before.count c.into_log_of.ensures in
+    subst (λ m. LegalAlone g.N.Naming.net m log) before.count c.into_log_of.ensures.legal in
     record {
       left = search rules;
       count = omega arith;

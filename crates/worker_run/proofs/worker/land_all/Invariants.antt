@@ -1,12 +1,16 @@
-use Rattle.std.proofs.Common.{◌≤◌, IsTrue, length}
+use Rattle.std.proofs.Common.{◌-◌, IsTrue, length}
 use Rattle.event_buffer.specs.Arrivals.{are_arrivals}
+use Rattle.worker_run.specs.Turns.{Counts}
+use Rattle.worker_run.proofs.Passing.{Passed}
 use Rattle.worker_run.proofs.worker.land_all.Given as goal
 
--- what is left may arrive, and nothing was added to the budget
+-- what is left may arrive, and what was passed is counted
 abbrev pub invariant-loop-a : goal.invariant-loop-a
 invariant-loop-a g l = record {
   left : IsTrue (are_arrivals g.N.Naming.net l.out.arrivals);
-  most : l.worker.budget ≤ l.fn.worker.budget;
+  passed : Passed l.fn.out l.out;
+  counted : Counts l.fn.worker.budget l.worker.budget
+      (length l.fn.out.arrivals - length l.out.arrivals);
 }
 
 abbrev pub decreases-loop-a : goal.decreases-loop-a

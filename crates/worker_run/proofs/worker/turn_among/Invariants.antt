@@ -1,6 +1,6 @@
-use Rattle.std.proofs.Common.{◌≤◌}
+use Rattle.worker_run.specs.Turns.{Counts}
 use Rattle.worker_run.proofs.worker.turn_among.Given as goal
 
--- nothing was added to the budget
+-- nothing was counted
 abbrev pub invariant-loop-own : goal.invariant-loop-own
-invariant-loop-own g l = l.worker.budget ≤ l.fn.worker.budget
+invariant-loop-own g l = Counts l.fn.worker.budget l.worker.budget 0

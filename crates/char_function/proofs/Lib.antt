@@ -1,6 +1,7 @@
 mod AllCodes
 mod Blocks
 mod Rises
+pub mod Sized
 mod Fitting
 mod FixedKids
 mod Knowing

@@ -12,13 +12,13 @@ use Rattle.transition_table.specs.declared.machine.Machine.{Machine}
 use Rattle.transition_table.specs.Laws.{ResultsFit, CharByTest}
 use Rattle.domains.specs.AllCodes.{all_codes}
 use Rattle.domains.specs.Orders.{IsPermutation, place}
-use Rattle.decision_diagram.specs.Diagrams.{Diagrams, Means, Keeps, AreReduced, level_of, value_of, choice}
+use Rattle.decision_diagram.specs.Diagrams.{Diagrams, IsNode, Means, Keeps, AreReduced, level_of, value_of, choice}
 use Rattle.decision_diagram.specs.Laws.{CountIsSize}
 use Rattle.decision_diagram.specs.Reached.{CountsReached}
 use Rattle.decision_diagram.specs.Sizes.{size_along}
 use Rattle.transition_table.specs.Transitions.{IsDeterministic}
 use Rattle.transition_table.specs.Orders.{Char, sizes_of}
-use Rattle.char_function.specs.Sizes.{Size}
+use Rattle.char_function.specs.Sizes.{Decides, IsSize}
 use Rattle.transition_table.specs.Computed.{char, result_codes}
 use Rattle.char_function.specs.Points.{at_point, point, points}
 use Rattle.char_function.specs.Groups.{agrees, some_agrees, with_code, is_group}
@@ -348,12 +348,17 @@ means_char test m sure s n sizes means codes fit =
     (λ on. (test m codes sure fit).0 (sym same ∙ on), λ is. same ∙ (test m codes sure fit).1 is)
 
 pub means_size : CountIsSize → (m : Machine) (order : List ℕ) (s : Diagrams) (n : ℕ)
-    → s.sizes ≡ sizes_of m → s.order ≡ order → AreReduced s → Means s n (char m) → (count : ℕ)
-    → CountsReached s n count → count ≡ Size m order
-means_size law m order s n sizes same ok means count reached =
-    law s n (char m) count ok means reached
-    ∙ ap (λ (xs : List ℕ). size_along (char m) xs s.order) sizes
-    ∙ ap (size_along (char m) (sizes_of m)) same
+    → s.sizes ≡ sizes_of m → s.order ≡ order → AreReduced s → IsNode s n → Decides (value_of s n) m
+    → (count : ℕ) → CountsReached s n count → IsSize m order count
+means_size law m order s n sizes same ok node exact count reached =
+    let means : Means s n (value_of s n) = record { node = node; value = λ codes fit. refl } in
+    record {
+      function = value_of s n;
+      decides = exact;
+      size = law s n (value_of s n) count ok means reached
+          ∙ ap (λ (xs : List ℕ). size_along (value_of s n) xs s.order) sizes
+          ∙ ap (size_along (value_of s n) (sizes_of m)) same;
+    }
 
 pub root_means : ResultsFit → (m : Machine) (group : List ℕ) (old new : Diagrams) (n : ℕ)
     → AreReduced old → new.sizes ≡ sizes_of m → length old.order ≡ length (sizes_of m)

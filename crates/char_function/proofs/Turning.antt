@@ -342,13 +342,18 @@ supports_long m = long_map (support_of m) (upto (length m.results)) ∙ long_upt
 pub first_permutation : (m : Machine) → IsPermutation (first_order m)
 first_permutation m = permutation (length m.vars) (all_supports m) (reach_few m)
 
+pub first_long : (m : Machine) → length (first_order m) ≡ length (sizes_of m)
+first_long m =
+    let s = supports_long m in
+    long (length m.vars) (all_supports m) (reach_few m)
+    ∙ (let b = length-append m.vars m.results in omega arith)
+
 pub first_allowed : SupportByTest → (m : Machine) → IsDeterministic m → Allowed m (first_order m)
 first_allowed test m sure =
     let s = supports_long m in
     record {
       permutation = first_permutation m;
-      long = long (length m.vars) (all_supports m) (reach_few m)
-          ∙ (let b = length-append m.vars m.results in omega arith);
+      long = first_long m;
       after = λ y v y_low v_low sup. after (length m.vars) (all_supports m) (reach_few m) y v
           (omega arith) v_low (((are_supports test m sure).exact y v y_low).1 (v_low, sup));
     }

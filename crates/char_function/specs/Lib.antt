@@ -1,6 +1,7 @@
 pub mod Columns
 pub mod Groups
 pub mod Known
+pub mod Laws
 pub mod Left
 pub mod Orders
 pub mod Points

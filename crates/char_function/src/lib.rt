@@ -8,6 +8,7 @@ mod first;
 mod fixing;
 mod group;
 mod known;
+mod law;
 mod levels;
 mod rising;
 mod root;
@@ -16,6 +17,7 @@ mod support_lists;
 
 pub use allowed::is_allowed;
 pub use first::first_order;
+pub use law::laws;
 pub use root::{characteristic, diagram};
 pub use support::{supports, supports_in};
 pub use support_lists::Supports;

@@ -5,10 +5,10 @@ ghost use Rattle.polis_base.specs.Lists.{upto};
 ghost use Rattle.transition_table.specs.Transitions.{IsDeterministic};
 ghost use Rattle.transition_table.specs.Computed.{all_supports, char};
 ghost use Rattle.transition_table.specs.Orders.{Char, sizes_of};
-ghost use Rattle.decision_diagram.specs.Diagrams.{Keeps, Means, level_of, value_of};
+ghost use Rattle.decision_diagram.specs.Diagrams.{IsNode, Keeps, Means, level_of, value_of};
 ghost use Rattle.decision_diagram.specs.Reached.{CountsReached};
 ghost use Rattle.outcome_table.specs.Outcomes.{IsTableOf};
-ghost use Rattle.char_function.specs.Sizes.{Size};
+ghost use Rattle.char_function.specs.Sizes.{IsSize};
 ghost use Rattle.char_function.specs.Points.{points};
 ghost use Rattle.char_function.specs.Groups.{some_agrees, is_group};
 ghost use Rattle.char_function.specs.Known.{OnlyResults, AreKnown};
@@ -211,17 +211,19 @@ pub fn diagram(
 /// The node that is true for exactly the pairs of a snapshot and the codes of the machine's result
 /// on it, over the machine's variables and then its results, read in an order. The clause `size`
 /// says what the root's count is: the number of different functions that arise by fixing what
-/// stands before a place of the order and that depend on what stands there, over all places.
+/// stands before a place of the order and that depend on what stands there, over all places. Both
+/// speak of the relation between a snapshot and its results, and `laws` says that the function by
+/// computation decides it.
 pub fn characteristic(alloc: Global, m: &Machine, order: &Order) -> Result<Root, NoMemory>
     requires sure { IsDeterministic m.now }
     requires order { length order.now ≡ length (sizes_of m.now) }
     ensures sizes { IfOk result (λ root. root.store.sizes ≡ sizes_of m.now) }
     ensures order { IfOk result (λ root. root.store.order ≡ order.now) }
-    ensures value { IfOk result (λ root. Means root.store root.node (char m.now)) }
+    ensures node { IfOk result (λ root. IsNode root.store root.node) }
     ensures char { IfOk result (λ root. (codes : List ℕ) → IsTrue (fits (sizes_of m.now) codes)
         → (value_of root.store root.node codes ≡ true) ↔ Char m.now codes) }
     ensures size { IfOk result (λ root. (count : ℕ) → CountsReached root.store root.node count
-        → count ≡ Size m.now order.now) }
+        → IsSize m.now order.now count) }
 {
     let table = table_of(alloc, m)?;
     let s = supports_in(alloc, m, &table)?;

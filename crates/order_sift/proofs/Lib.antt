@@ -12,6 +12,7 @@ mod Moving
 mod Preparing
 mod Ranging
 mod Settling
+mod Sizing
 mod Stepping
 mod Sweeping
 mod Keying

@@ -5,8 +5,7 @@ use Rattle.transition_table.specs.declared.machine.Machine.{Machine}
 use Rattle.transition_table.specs.Orders.{Allowed}
 use Rattle.char_function.specs.Sizes.{Size}
 use Rattle.order_sift.specs.Moves.{moved}
-use Rattle.order_sift.specs.Sifting.{IsLeast}
-use Rattle.order_sift.specs.Turns.{AreAllowedPlaces, IsSettled, StaysOrFalls}
+use Rattle.order_sift.specs.Turns.{AreAllowedPlaces, IsSettled, NoneSmaller, StaysOrFalls}
 
 -- the items are settled where the least of the sizes isn't smaller
 pub settled_by : (m : Machine) (order sizes : List ℕ) (item first last best count : ℕ)
@@ -47,7 +46,7 @@ falls_then m a b c k l n one other =
     (λ less. inr (
       let e = same.1 in let f = less.0 in
           omega arith,
-      λ least. less.1 (subst (IsLeast m) (sym same.0) least),
+      λ least. less.1 (subst (NoneSmaller m) (sym same.0) least),
     ))
     other)
     (λ less.
@@ -63,7 +62,7 @@ same_order m a b k l one e =
 
 -- where each item is settled no single move is better
 pub least_from_settled : (m : Machine) (order : List ℕ) → OnePlace → Allowed m order
-    → ((w : ℕ) → w < length order → IsSettled m order w) → IsLeast m order
+    → ((w : ℕ) → w < length order → IsSettled m order w) → NoneSmaller m order
 least_from_settled m order one allowed settled other move ok =
     let i = move.0 in
     let j = move.1 in

@@ -8,14 +8,13 @@ ghost use Rattle.outcome_table.specs.Outcomes.{IsTableOf};
 ghost use Rattle.char_function.specs.Orders.{first_order};
 ghost use Rattle.char_function.specs.Roots.{IsDiagramOf};
 ghost use Rattle.char_function.specs.Supported.{AreSupports};
-ghost use Rattle.char_function.specs.Sizes.{Size};
 ghost use Rattle.order_sift.specs.Chains.{IsChain};
 ghost use Rattle.order_sift.specs.Moves.{moved};
 ghost use Rattle.order_sift.specs.Known.{AreKnown};
 ghost use Rattle.order_sift.specs.Pairs.{HasRoom};
 ghost use Rattle.order_sift.specs.Points.{IsPrepared};
-ghost use Rattle.order_sift.specs.Sifting.{IsLeast, IsSifted};
-ghost use Rattle.order_sift.specs.Turns.{AreAllowedPlaces, IsCounted, IsSettled, StaysOrFalls};
+ghost use Rattle.order_sift.specs.Sifting.{IsSifted};
+ghost use Rattle.order_sift.specs.Turns.{AreAllowedPlaces, IsCounted, IsSettled, NoneSmaller, StaysOrFalls};
 
 use crate::chain::{Chain, chain_of};
 use crate::law::laws_of_levels;
@@ -200,7 +199,7 @@ fn turn(
     ensures falls { IfOk result (λ next.
         StaysOrFalls sifting.now.machine.now at.old.order at.new.order at.old.count at.new.count) }
     ensures least { IfOk result (λ next. at.new.count ≡ at.old.count
-        → IsLeast sifting.now.machine.now at.new.order) }
+        → NoneSmaller sifting.now.machine.now at.new.order) }
     ensures next { IfOk result (λ next. next ≤ length at.new.order) }
 {
     domains::laws_of_orders();
@@ -238,7 +237,7 @@ fn settle_all(
         IsChain sifting.now.machine.now at.new.order at.new.chain) }
     ensures falls { IfOk result (λ done.
         StaysOrFalls sifting.now.machine.now at.old.order at.new.order at.old.count at.new.count) }
-    ensures least { IfOk result (λ done. IsLeast sifting.now.machine.now at.new.order) }
+    ensures least { IfOk result (λ done. NoneSmaller sifting.now.machine.now at.new.order) }
 {
     let mut first = 0;
     loop {
@@ -321,6 +320,7 @@ fn sifted_from(
         points: &points,
     };
     settle_all(&sifting, seen, &mut known, &mut at)?;
+    char_function::laws();
     Ok(Sifted {
         order: at.order,
         first_count,
@@ -330,8 +330,9 @@ fn sifted_from(
 
 /// An order for a machine, with the machine's diagram under it. Item by item, each variable and
 /// result moves to the first of the allowed places with the least size, if that is smaller, until
-/// in a turn of all items none has moved. The order of a machine of more than 1,024 snapshots is
-/// the first order.
+/// in a turn of all items none has moved: then no single move that keeps each result after what it
+/// depends on makes the diagram smaller. The order of a machine of more than 1,024 snapshots is the
+/// first order.
 pub fn sift_diagram(alloc: Global, m: &Machine) -> Result<SiftedDiagram, NoMemory>
     requires { IsDeterministic m.now }
     ensures sifted { IfOk result (λ made. IsSifted m.now made.sifted.order made.sifted.first_count

@@ -6,7 +6,7 @@ returns c =
     record {
       sizes = made.sizes;
       order = made.order;
-      value = made.value;
+      node = made.node;
       char = made.exact;
       size = made.size;
     }

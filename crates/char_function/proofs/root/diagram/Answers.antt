@@ -13,12 +13,13 @@ returns c =
     let sizes : new.sizes ≡ sizes_of m =
     kept.sizes ∙ c.in_ok-store.ensures.sizes ∙ c.in_ok-sizes.ensures in
     let order : new.order ≡ c.args.order.now = kept.order ∙ c.in_ok-store.ensures.order in
+    let exact = means_char c.laws_of_computing.ensures.char_by_test m c.requires.sure new n sizes
+    means in
     record {
       sizes = sizes;
       order = order;
-      value = means;
-      exact = means_char c.laws_of_computing.ensures.char_by_test m c.requires.sure new n sizes
-          means;
+      node = means.node;
+      exact = exact;
       size = means_size c.laws.ensures.count_is_size m c.args.order.now new n sizes order
-          c.same_value_same_node.ensures.reduced means;
+          c.same_value_same_node.ensures.reduced means.node exact;
     }

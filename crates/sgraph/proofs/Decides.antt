@@ -9,7 +9,7 @@ use Rattle.decision_diagram.specs.Diagrams.{Node, Diagrams, inner_at}
 use Rattle.decision_diagram.specs.Leading.{LeadTo, Decided, OneCode}
 use Rattle.transition_table.specs.Computed.{char, result_codes}
 use Rattle.transition_table.specs.Orders.{sizes_of}
-use Rattle.sgraph.specs.Built.{IsDiagram}
+use Rattle.sgraph.proofs.ByRows.{IsDiagramByRows}
 use Rattle.sgraph.proofs.Positions.{place_below, at_place}
 use Rattle.sgraph.proofs.Known.{Below}
 
@@ -42,7 +42,7 @@ char_code m codes y h =
     sym (get_or-drop (length m.vars) codes y 0) ∙ ap (λ (xs : List ℕ). slice_index xs y) (sym e)
 
 -- codes that agree on the variables before the result agree on the result
-pub decided : (m : Machine) → Below → (s : Diagrams) (root y : ℕ) → IsDiagram m s root
+pub decided : (m : Machine) → Below → (s : Diagrams) (root y : ℕ) → IsDiagramByRows m s root
     → y < length m.results → Decided s root (length m.vars + y)
 decided m laws s root y d hy one other fit_one fit_other true_one true_other agree =
     let n = length m.vars in
@@ -68,7 +68,7 @@ decided m laws s root y d hy one other fit_one fit_other true_one true_other agr
 
 -- at a result's node that codes lead to, exactly one code has a child that isn't False
 pub one_code : (m : Machine) → Below → (s : Diagrams) (root n : ℕ) (node : Node) (y : ℕ)
-    → IsDiagram m s root → inner_at s.nodes n ≡ Some node → node.var ≡ length m.vars + y
+    → IsDiagramByRows m s root → inner_at s.nodes n ≡ Some node → node.var ≡ length m.vars + y
     → y < length m.results → (a : List ℕ) → fits s.sizes a ≡ true → LeadTo s root a n
     → OneCode node.kids
 one_code m laws s root n node y d is var hy a fit there =

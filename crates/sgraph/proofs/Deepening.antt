@@ -16,7 +16,8 @@ use Rattle.sgraph.specs.declared.vertex.Vertex.TheVariants.{Begin, Test, Assign,
 use Rattle.transition_table.specs.Computed.{char, result_codes, supports}
 use Rattle.transition_table.specs.Orders.{sizes_of}
 use Rattle.sgraph.specs.Graphs.{kids_of, key_of, are_same, varies, is_reduced, depth, deepens, edges_rise}
-use Rattle.sgraph.specs.Built.{IsDiagram, Built}
+use Rattle.sgraph.specs.Built.{Built}
+use Rattle.sgraph.proofs.ByRows.{IsDiagramByRows}
 use Rattle.sgraph.specs.Walks.{FitsMachine}
 use Rattle.sgraph.proofs.Mapping.{all_map, long_map}
 use Rattle.sgraph.proofs.Decides.{char_code, fits_prefix, fits_both, one_code}
@@ -43,7 +44,7 @@ node_of_kid s ok n node c is low =
     omega arith
 
 -- ---- no child of a variable's node is False
-module _ (m : Machine) (s : Diagrams) (root : ℕ) (d : IsDiagram m s root) (has : HasResults m) where
+module _ (m : Machine) (s : Diagrams) (root : ℕ) (d : IsDiagramByRows m s root) (has : HasResults m) where
   -- another code of a variable leaves the results before it as they are
   turned_agrees : (one : List ℕ) (v c : ℕ) → fits s.sizes one ≡ true → value_of s root one ≡ true
       → v < length m.vars → c < slice_index m.vars v → (j : ℕ) → j < place s.order v
@@ -169,7 +170,7 @@ module _ (m : Machine) (s : Diagrams) (root : ℕ) (d : IsDiagram m s root) (has
       not_low s root both (d.means.value both fit_both
       ∙ char_there m snap (fits_long m.vars snap fit_snap))
 
-module _ (m : Machine) (s : Diagrams) (root : ℕ) (d : IsDiagram m s root) where
+module _ (m : Machine) (s : Diagrams) (root : ℕ) (d : IsDiagramByRows m s root) where
   pub reached_node : (n : ℕ) → Reaches s root n → IsNode s n
   reached_node n there = walked there.0 n there.1
     where
@@ -267,7 +268,7 @@ distinct_keys (v ∷ vs) once =
     suc i ≡ suc j = once (suc i) (suc j) w at_i at_j in omega arith))
 
 module _ (m : Machine) (s : Diagrams) (root : ℕ) (g : List Vertex) (number : ℕ → ℕ)
-    (d : IsDiagram m s root) (built : Built m s root g number) (has : HasResults m) where
+    (d : IsDiagramByRows m s root) (built : Built m s root g number) (has : HasResults m) where
   vars_long : length s.sizes ≡ length m.vars + length m.results
   vars_long = ap (λ (xs : List ℕ). length xs) d.sizes ∙ length-append m.vars m.results
 

@@ -17,7 +17,8 @@ use Rattle.sgraph.specs.declared.vertex.Vertex.TheVariants.{Begin, Test, Assign,
 use Rattle.transition_table.specs.Computed.{char, result_codes, outcome_by}
 use Rattle.sgraph.specs.Trails.{trail}
 use Rattle.sgraph.specs.Graphs.{next_of, walk, assign, assign_all, Eval}
-use Rattle.sgraph.specs.Built.{IsDiagram, Built}
+use Rattle.sgraph.specs.Built.{Built}
+use Rattle.sgraph.proofs.ByRows.{IsDiagramByRows}
 use Rattle.sgraph.proofs.Positions.{place_below, place_of_item}
 use Rattle.sgraph.proofs.Fitting.{fits_long, fits_at, fits_set}
 use Rattle.sgraph.proofs.Nodes.{none_low, cases_inner, inner_low}
@@ -57,7 +58,7 @@ not_low s n codes h same =
     true≢false (sym h ∙ value_none s n codes none ∙ e)
 
 module _ (m : Machine) (s : Diagrams) (root : ℕ) (g : List Vertex) (number : ℕ → ℕ)
-    (d : IsDiagram m s root) (built : Built m s root g number) (snap b : List ℕ)
+    (d : IsDiagramByRows m s root) (built : Built m s root g number) (snap b : List ℕ)
     (fit_b : fits s.sizes b ≡ true) (same_vars : (v : ℕ) → v < length m.vars
     → slice_index b v ≡ slice_index snap v) where
   -- what a walk from a node leaves of a result's code: the code that the list has, or what was
@@ -308,7 +309,7 @@ char_there m snap long =
     ∙ same_self (result_codes m snap)
 
 pub walk_codes : (m : Machine) (s : Diagrams) (root : ℕ) (g : List Vertex) (number : ℕ → ℕ)
-    → IsDiagram m s root → Built m s root g number → HasResults m → (snap : List ℕ)
+    → IsDiagramByRows m s root → Built m s root g number → HasResults m → (snap : List ℕ)
     → fits m.vars snap ≡ true → assign_all (replicate (length m.results) 0) (walk g snap)
     ≡ result_codes m snap
 walk_codes m s root g number d built has snap fit =
@@ -343,7 +344,7 @@ walk_codes m s root g number d built has snap fit =
 
 -- A graph that a diagram became gives the transition on each snapshot.
 pub built_evaluates : (m : Machine) (s : Diagrams) (root : ℕ) (g : List Vertex) (number : ℕ → ℕ)
-    → IsDiagram m s root → Built m s root g number → HasResults m → (snap : List ℕ)
+    → IsDiagramByRows m s root → Built m s root g number → HasResults m → (snap : List ℕ)
     → fits m.vars snap ≡ true → Transition m (reading snap) (Eval m g snap)
 built_evaluates m s root g number d built has snap fit =
     let o = outcome_by m m.rows snap in

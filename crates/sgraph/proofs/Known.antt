@@ -3,7 +3,7 @@ use Rattle.std.proofs.Common.{◌≡◌, ℕ, ◌<◌, ◌≤◌, true, List, le
 use Rattle.domains.specs.Tables.{fits}
 use Rattle.transition_table.specs.declared.machine.Machine.{Machine}
 use Rattle.transition_table.specs.Computed.{result_codes}
-use Rattle.transition_table.specs.Laws.{HaveWidths, OutcomeByRows, ResultsFit, SupportByTest, SameOnSupport}
+use Rattle.transition_table.specs.Laws.{HaveWidths, OutcomeByRows, ResultsFit, CharByTest, SupportByTest, SameOnSupport}
 use Rattle.decision_diagram.specs.Laws.{SomewhereTrue, ReachedLed, OneChild}
 
 -- laws of the crates below
@@ -11,6 +11,7 @@ pub record Below : Type 0 where
   pub widths : HaveWidths
   pub by_rows : OutcomeByRows
   pub fit : ResultsFit
+  pub char_test : CharByTest
   pub by_test : SupportByTest
   pub on_support : SameOnSupport
   pub somewhere : SomewhereTrue

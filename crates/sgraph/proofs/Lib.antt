@@ -1,3 +1,4 @@
+mod ByRows
 mod Decides
 mod Deepening
 mod Doing

@@ -13,7 +13,8 @@ use Rattle.sgraph.specs.declared.vertex.Vertex.{Vertex}
 use Rattle.sgraph.specs.declared.vertex.Vertex.TheVariants.{Begin, Test, Assign}
 use Rattle.sgraph.specs.Graphs.{kids_of, kids_in, kids_at, each, left_after, Numbered, GoesOn}
 use Rattle.sgraph.specs.Building.{code_there, next_in, next_nodes, nodes_left, number_in, vertex_in, graph_of}
-use Rattle.sgraph.specs.Built.{IsDiagram, Built}
+use Rattle.sgraph.specs.Built.{Built}
+use Rattle.sgraph.proofs.ByRows.{IsDiagramByRows}
 use Rattle.sgraph.proofs.Mapping.{index_map, long_map, long_upto, index_upto}
 use Rattle.sgraph.proofs.Known.{HasResults}
 use Rattle.decision_diagram.specs.Leading.{OneCode}
@@ -106,7 +107,7 @@ every_at P [] i all low = absurd (omega arith)
 every_at P (x ∷ xs) zero all low = all.0
 every_at P (x ∷ xs) (suc i) all low = every_at P xs i all.1 (omega arith)
 
-module _ (m : Machine) (s : Diagrams) (root : ℕ) (d : IsDiagram m s root)
+module _ (m : Machine) (s : Diagrams) (root : ℕ) (d : IsDiagramByRows m s root)
     (good : HasResults m) where
   abbrev next : ℕ → List ℕ
   next k = next_nodes s (length m.vars) k

@@ -6,6 +6,7 @@ use Rattle.sgraph.specs.declared.vertex.Vertex.TheVariants.{Begin}
 use Rattle.sgraph.specs.Building.{graph_of, nodes_left, number_in}
 use Rattle.sgraph.specs.Graphs.{kids_in, kids_at, each, left_after}
 use Rattle.sgraph.specs.Laws.{BuiltIsRight, GraphIsBuilt, GraphIsRight, NumberedGoesOn}
+use Rattle.sgraph.proofs.ByRows.{by_rows}
 use Rattle.sgraph.proofs.Deepening.{built_rises, built_reduced, built_fits}
 use Rattle.sgraph.proofs.Edges.{edges_order, edges_once}
 use Rattle.sgraph.proofs.Evaluated.{built_evaluates}
@@ -16,7 +17,8 @@ use Rattle.sgraph.proofs.Numbering.{built, goes_on, numbered}
 use Rattle.sgraph.proofs.Resulting.{has_results}
 
 pub built_is_right : Below → BuiltIsRight
-built_is_right below m s root g number d made =
+built_is_right below m s root g number exact made =
+    let d = by_rows below.char_test m s root exact in
     let has = has_results m below in (
       built_evaluates m s root g number d made has,
       built_rises m s root g number d made has,
@@ -25,7 +27,8 @@ built_is_right below m s root g number d made =
     )
 
 pub graph_is_built : Below → GraphIsBuilt
-graph_is_built below m s root d =
+graph_is_built below m s root exact =
+    let d = by_rows below.char_test m s root exact in
     let has = has_results m below in
     (built m s root d has, goes_on m s root d has, numbered m s root d has)
 
@@ -38,13 +41,15 @@ graph_is_right below m s root d =
     let ordered = edges_order n s.order g right.1 in
     record {
       graph = is_graph m s root s.order d.reduced made.1 ordered right.2;
-      fits_machine = right.3;
-      evaluates = right.0;
       rises = right.1;
-      ordered = ordered;
-      once = edges_once n s.order g right.1;
-      reduced = right.2;
-      numbered = made.2;
+      of_machine = record {
+        fits_machine = right.3;
+        evaluates = right.0;
+        ordered = ordered;
+        once = edges_once n s.order g right.1;
+        reduced = right.2;
+        numbered = made.2;
+      };
     }
 
 -- a walk that leaves all vertices in order goes on to vertex 1 first

@@ -1,22 +1,29 @@
 -- A machine's diagram, and the graph that it becomes.
-use Rattle.std.specs.Prelude.{◌≡◌, ◌≢◌, ◌⊎◌, ℕ, ◌+◌, ◌<◌, List, map, length, slice_get, slice_index, Some}
+use Rattle.std.specs.Prelude.{◌≡◌, ◌≢◌, ◌↔◌, ◌⊎◌, ℕ, ◌+◌, ◌<◌, true, List, map, length, slice_get, slice_index, Some, IsTrue}
+use Rattle.domains.specs.Tables.{fits}
 use Rattle.transition_table.specs.declared.machine.Machine.{Machine}
-use Rattle.decision_diagram.specs.Diagrams.{Node, Diagrams, inner_at, Means, AreReduced}
+use Rattle.decision_diagram.specs.Diagrams.{Node, Diagrams, inner_at, IsNode, value_of, AreReduced}
 use Rattle.decision_diagram.specs.Reached.{Reaches}
 use Rattle.sgraph.specs.declared.vertex.Vertex.{Vertex}
 use Rattle.sgraph.specs.declared.vertex.Vertex.TheVariants.{Begin, Test, Assign, End}
-use Rattle.transition_table.specs.Computed.{char}
 use Rattle.transition_table.specs.Transitions.{IsDeterministic}
-use Rattle.transition_table.specs.Orders.{sizes_of, Allowed}
+use Rattle.transition_table.specs.Orders.{Char, sizes_of, Allowed}
 
--- the root of a reduced diagram whose value is a deterministic machine's characteristic function,
--- in an allowed order
+-- of codes that fit, the node is true exactly of a snapshot and the codes of its outcome
+abbrev pub IsExact : Machine → Diagrams → ℕ → Type 0
+IsExact m s n =
+    (codes : List ℕ)
+    → IsTrue (fits (sizes_of m) codes)
+    → (value_of s n codes ≡ true) ↔ Char m codes
+
+-- the root of a reduced diagram that is exact for a deterministic machine, in an allowed order
 pub record IsDiagram (m : Machine) (s : Diagrams) (root : ℕ) : Type 0 where
   pub sure : IsDeterministic m
   pub reduced : AreReduced s
   pub sizes : s.sizes ≡ sizes_of m
   pub allowed : Allowed m s.order
-  pub means : Means s root (char m)
+  pub node : IsNode s root
+  pub exact : IsExact m s root
 
 -- Each node that is reached and isn't False has a vertex of its own: a variable's node a test, a
 -- result's node the assignment of the code whose child isn't False, True the end. There are no

@@ -10,6 +10,7 @@ use Rattle.sgraph.specs.Building.{graph_of, nodes_left, number_in}
 use Rattle.sgraph.specs.Built.{IsDiagram, Built}
 use Rattle.sgraph.specs.Facts.{IsGraph, is_well_made}
 use Rattle.sgraph.specs.Graphs.{edges_rise, Ordered, Once, Reduced, Eval, GoesOn, Numbered}
+use Rattle.sgraph.specs.Reactions.{IsGraphOf}
 use Rattle.sgraph.specs.Walks.{FitsMachine, fits_one}
 
 -- where each child's variable or result stands later in the order, each path is in the order
@@ -55,13 +56,8 @@ GraphIsBuilt =
 -- what holds of the graph that is built of a machine
 pub record IsRightGraph (m : Machine) (order : List ℕ) (g : List Vertex) : Type 0 where
   pub graph : IsGraph g
-  pub fits_machine : FitsMachine m g
-  pub evaluates : (s : List ℕ) → IsTrue (fits m.vars s) → Transition m (reading s) (Eval m g s)
   pub rises : IsTrue (edges_rise (length m.vars) order g)
-  pub ordered : Ordered (length m.vars) order g
-  pub once : Once g
-  pub reduced : Reduced g
-  pub numbered : Numbered g
+  pub of_machine : IsGraphOf m order g
 
 abbrev pub GraphIsRight : Type 0
 GraphIsRight =

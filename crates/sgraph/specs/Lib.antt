@@ -5,6 +5,7 @@ pub mod Graphs
 pub mod Kept
 pub mod Laws
 pub mod Marks
+pub mod Reactions
 pub mod SampleGraphs
 pub mod Trails
 pub mod Walks

@@ -1,17 +1,15 @@
 // The graph of a diagram.
-ghost use Rattle.std.specs.Prelude.{◌≡◌, ◌+◌, ◌<◌, ◌≤◌, ℕ, List, true, ◌∷◌, map, length, replicate, slice_index, IfOk, IsTrue};
-ghost use Rattle.domains.specs.Tables.{fits};
+ghost use Rattle.std.specs.Prelude.{◌≡◌, ◌+◌, ◌<◌, ◌≤◌, ℕ, true, ◌∷◌, map, length, slice_index, IfOk};
 ghost use Rattle.transition_table.specs.NetworkFacts.{has};
-ghost use Rattle.transition_table.specs.Transitions.{Transition, IsDeterministic, reading};
-ghost use Rattle.decision_diagram.specs.Diagrams.{IsNode, Means, inner_at, kids_of, shape_of};
+ghost use Rattle.transition_table.specs.Transitions.{IsDeterministic};
+ghost use Rattle.decision_diagram.specs.Diagrams.{IsNode, inner_at, kids_of, shape_of};
 ghost use Rattle.decision_diagram.specs.declared.node.Shape.TheVariants.{Inner};
 ghost use Rattle.sgraph.specs.declared.vertex.Vertex.TheVariants.{Begin};
-ghost use Rattle.transition_table.specs.Computed.{char};
 ghost use Rattle.transition_table.specs.Orders.{sizes_of, Allowed};
-ghost use Rattle.sgraph.specs.Graphs.{Eval, Ordered, Once, Reduced, Numbered};
 ghost use Rattle.sgraph.specs.Building.{number_in, vertex_in, graph_of};
+ghost use Rattle.sgraph.specs.Built.{IsExact};
 ghost use Rattle.sgraph.specs.Marks.{turned};
-ghost use Rattle.sgraph.specs.Walks.{FitsMachine};
+ghost use Rattle.sgraph.specs.Reactions.{IsGraphOf};
 
 use crate::graph::{Graph, VertexList};
 use crate::law::laws;
@@ -216,23 +214,17 @@ fn graph_vertices(
     Ok(vertices)
 }
 
-/// The graph of a machine's diagram under an order in which each result stands after its support: a
-/// test for each node of a variable, an assignment for each node of a result, the end for the node
-/// that is true.
+/// A graph of a machine from its diagram under an order in which each result stands after its
+/// support: a test for each node of a variable that is reached, an assignment for each such node of
+/// a result, the end for the node that is true.
 pub fn build(alloc: Global, m: &Machine, root: &Root, order: &Order) -> Result<Graph, NoMemory>
     requires sure { IsDeterministic m.now }
     requires sizes { root.now.store.sizes ≡ sizes_of m.now }
     requires order { root.now.store.order ≡ order.now }
     requires allowed { Allowed m.now order.now }
-    requires means { Means root.now.store root.now.node (char m.now) }
-    ensures graph { IfOk result (λ g. g ≡ graph_of m.now root.now.store root.now.node) }
-    ensures fits { IfOk result (λ g. FitsMachine m.now g) }
-    ensures evaluates { IfOk result (λ g. (s : List ℕ) → IsTrue (fits m.now.vars s)
-        → Transition m.now (reading s) (Eval m.now g s)) }
-    ensures ordered { IfOk result (λ g. Ordered (length m.now.vars) order.now g) }
-    ensures once { IfOk result (λ g. Once g) }
-    ensures reduced { IfOk result (λ g. Reduced g) }
-    ensures numbered { IfOk result (λ g. Numbered g) }
+    requires node { IsNode root.now.store root.now.node }
+    requires exact { IsExact m.now root.now.store root.now.node }
+    ensures { IfOk result (λ g. IsGraphOf m.now order.now g) }
 {
     laws();
     let _ = order;

@@ -1,7 +1,7 @@
 -- Vertices that are numbered again stand in the order of the walk.
 use Rattle.std.proofs.Common.{◌≡◌, inl, inr, ⊎_elim, ℕ, zero, suc, ◌+◌, ◌<◌, ◌≤◌, Bool, true, cond, List, [], ◌∷◌, ◌++◌, map, length, slice_get, slice_index, Option, Some, None, refl, ap, sym, subst, ◌∙◌, arith, eqb}
 use Rattle.std.specs.Prelude.{unwrap_or}
-use Rattle.std.proofs.lemmas.Bool.{cases_Bool, cases_lt, eqb-true}
+use Rattle.std.proofs.lemmas.Bool.{cases_Bool, cases_lt, eqb-true, or_cases, true≢false}
 use Rattle.std.proofs.lemmas.Grind.{same_number_lists}
 use Rattle.polis_base.specs.Lists.{upto}
 use Rattle.transition_table.specs.NetworkFacts.{has}
@@ -56,7 +56,7 @@ long_push : (xs : List ℕ) (x : ℕ) → length (xs ++ x ∷ []) ≡ suc (lengt
 long_push [] x = refl
 long_push (y ∷ ys) x = ap suc (long_push ys x)
 
-long_upto : (n : ℕ) → length (upto n) ≡ n
+pub long_upto : (n : ℕ) → length (upto n) ≡ n
 long_upto zero = refl
 long_upto (suc n) = long_push (upto n) n ∙ ap suc (long_upto n)
 
@@ -70,7 +70,7 @@ index_last : (xs : List ℕ) (x : ℕ) → slice_index (xs ++ x ∷ []) (length 
 index_last [] x = refl
 index_last (y ∷ ys) x = index_last ys x
 
-index_upto : (n j : ℕ) → j < n → slice_index (upto n) j ≡ j
+pub index_upto : (n j : ℕ) → j < n → slice_index (upto n) j ≡ j
 index_upto zero j low = absurd (omega arith)
 index_upto (suc n) j low =
     let l = long_upto n in
@@ -197,14 +197,22 @@ every_at P [] i all low = absurd (omega arith)
 every_at P (x ∷ xs) zero all low = all.0
 every_at P (x ∷ xs) (suc i) all low = every_at P xs i all.1 (omega arith)
 
+every_has : (P : ℕ → Type 0) (xs : List ℕ) (k : ℕ) → Every P xs → has xs k ≡ true → P k
+every_has P [] k all h = absurd (true≢false (sym h))
+every_has P (x ∷ xs) k all h =
+    ⊎_elim
+    (λ own. subst P (eqb-true x k own) all.0)
+    (λ rest. every_has P xs k all.1 rest)
+    (or_cases (eqb x k) (has xs k) h)
+
 pub below : (vs : List Vertex) (n : ℕ) (v : Vertex) → slice_get vs n ≡ Some v → n < length vs
 below [] n v e = cc
 below (w ∷ vs) zero v e = omega arith
 below (w ∷ vs) (suc n) v e = let r = below vs n v e in omega arith
 
 module _ (g h : List Vertex) (to : ℕ → ℕ) (some : 0 < length h) (rises : Rises h)
-    (numbered : Numbered g) (shrinks : Shrinks g h to) (first : to 0 ≡ 0) (begins : (k next : ℕ)
-    → slice_get g k ≡ Some (Begin next) → k ≡ 0) where
+    (some_g : 0 < length g) (rises_g : Rises g) (shrinks : Shrinks g h to (λ k. true))
+    (first : to 0 ≡ 0) (begins : (k next : ℕ) → slice_get g k ≡ Some (Begin next) → k ≡ 0) where
   -- a kid of what stands for a vertex is left
   on_kid : (k i : ℕ) (v : Vertex) (kids : List ℕ) → has (all_left h) (to k) ≡ true
       → slice_get h (to k) ≡ Some v → kids_of v ≡ map to kids → i < length kids
@@ -238,26 +246,22 @@ module _ (g h : List Vertex) (to : ℕ → ℕ) (some : 0 < length h) (rises : R
           ⊎_elim
           (λ real. on_kid k i (Test var (map to kids)) kids there real refl low)
           (λ idle. subst (λ (j : ℕ). has (all_left h) j ≡ true) (sym (idle i low)) there)
-          (shrinks.test k var kids is)
+          (shrinks.test k var kids refl is)
       go (Some (Assign result code next)) is low =
           ⊎_elim
           (λ real. on_kid k i (Assign result code (to next)) (next ∷ []) there real refl low)
           (λ left. subst (λ (n : ℕ). has (all_left h) (to (slice_index (next ∷ []) n)) ≡ true)
           (sym (only_first i low))
           (subst (λ (j : ℕ). has (all_left h) j ≡ true) (sym left.1) there))
-          (shrinks.assign k result code next is)
+          (shrinks.assign k result code next refl is)
       go (Some End) is low = absurd (omega arith)
 
-  -- what stands for each vertex is left
-  pub all_there : (k : ℕ) → k < length g → has (all_left h) (to k) ≡ true
-  all_there k low =
-      let every = every_left (kids_at g) (λ j. has (all_left h) (to j) ≡ true) inside (length g) []
-      0 tt (ap (has (all_left h)) first ∙ first_there h some rises) in
-      let each : Every (λ j. has (all_left h) (to j) ≡ true) (upto (length g)) =
-      subst (Every (λ j. has (all_left h) (to j) ≡ true)) numbered every in
-      let long = long_upto (length g) in
-      subst (λ (j : ℕ). has (all_left h) (to j) ≡ true) (index_upto (length g) k low)
-      (every_at (λ j. has (all_left h) (to j) ≡ true) (upto (length g)) k each (omega arith))
+  -- what stands for a vertex that is reached is left
+  pub all_there : (k : ℕ) → has (all_left g) k ≡ true → has (all_left h) (to k) ≡ true
+  all_there k on =
+      every_has (λ j. has (all_left h) (to j) ≡ true) (all_left g) k
+      (every_left (kids_at g) (λ j. has (all_left h) (to j) ≡ true) inside (length g) [] 0 tt
+      (ap (has (all_left h)) first ∙ first_there h some rises)) on
 
   -- a vertex in its new place
   in_new : (k : ℕ) (v : Vertex) → has (all_left h) k ≡ true → slice_get h k ≡ Some v
@@ -270,24 +274,27 @@ module _ (g h : List Vertex) (to : ℕ → ℕ) (some : 0 < length h) (rises : R
       (at_place (all_left h) k low)
       ∙ ap (λ (o : Option Vertex). Some (renamed (place (all_left h)) (unwrap_or o End))) is
 
-  pub shrinks_again : Shrinks g (numbered_of h) (λ k. place (all_left h) (to k))
+  pub shrinks_again : Shrinks g (numbered_of h) (λ k. place (all_left h) (to k)) (has (all_left g))
   shrinks_again = record {
+    first = first_there g some_g rises_g;
+    onward = λ k i on low.
+        (closed_next (kids_at g) (all_left g) k i (closed g some_g rises_g) on low).0;
     begin = λ next is.
         let e = in_new 0 (Begin (to next)) (first_there h some rises) (shrinks.begin next is) in
         subst (λ (n : ℕ). slice_get (numbered_of h) n ≡ Some (Begin (place (all_left h) (to next))))
         (first_zero h some rises) e;
-    test = λ k var kids is.
+    test = λ k var kids on is.
         ⊎_elim
         (λ real. inl (in_new (to k) (Test var (map to kids))
-        (all_there k (below g k (Test var kids) is)) real
+        (all_there k on) real
         ∙ ap (λ (ks : List ℕ). Some (Test var ks)) (map_map (place (all_left h)) to kids)))
         (λ idle. inr (λ i low. ap (place (all_left h)) (idle i low)))
-        (shrinks.test k var kids is);
-    assign = λ k result code next is.
+        (shrinks.test k var kids refl is);
+    assign = λ k result code next on is.
         ⊎_elim
         (λ real. inl (in_new (to k) (Assign result code (to next))
-        (all_there k (below g k (Assign result code next) is)) real))
+        (all_there k on) real))
         (λ left. inr (left.0, ap (place (all_left h)) left.1))
-        (shrinks.assign k result code next is);
-    end = λ k is. in_new (to k) End (all_there k (below g k End is)) (shrinks.end k is);
+        (shrinks.assign k result code next refl is);
+    end = λ k on is. in_new (to k) End (all_there k on) (shrinks.end k refl is);
   }

@@ -1,5 +1,5 @@
 -- What is left out or joined changes nothing of what a walk gives.
-use Rattle.std.proofs.Common.{◌≡◌, ⊎_elim, ℕ, zero, suc, ◌+◌, ◌<◌, ◌≤◌, true, not, List, [], ◌∷◌, map, length, replicate, slice_get, slice_index, slice_set, Option, Some, None, refl, ap, sym, subst, ◌∙◌, arith, eqb, get_or-set_other}
+use Rattle.std.proofs.Common.{◌≡◌, ⊎_elim, ℕ, zero, suc, ◌+◌, ◌<◌, ◌≤◌, Bool, true, not, List, [], ◌∷◌, map, length, replicate, slice_get, slice_index, slice_set, Option, Some, None, refl, ap, sym, subst, ◌∙◌, arith, eqb, get_or-set_other}
 use Rattle.std.specs.Prelude.{Contains}
 use Rattle.std.specs.List.{cons_option}
 use Rattle.std.proofs.lemmas.Bool.{and_parts, cases_lt, eq-eqb, or_left, or_right, true≢false}
@@ -13,6 +13,7 @@ use Rattle.sgraph.specs.Graphs.{next_of, walk, assign_all, with_codes, kids_of, 
 use Rattle.sgraph.specs.Trails.{trail}
 use Rattle.sgraph_opt.specs.Shrinking.{Shrinks, HasKids}
 use Rattle.sgraph_opt.proofs.Lifting.{contains_at}
+use Rattle.sgraph_opt.proofs.Onward.{some_child}
 use Rattle.sgraph_opt.proofs.Standing.{vertex_there}
 use Rattle.sgraph_opt.proofs.Walking.{Onward, trail_at}
 
@@ -48,8 +49,9 @@ abbrev given : List Vertex → List ℕ
 given [] = []
 given (v ∷ vs) = cons_option (assigned_by (Some v)) (given vs)
 
-module _ (g h : List Vertex) (to : ℕ → ℕ) (s : List ℕ) (ok : IsGraph g) (up_h : Above h)
-    (shrinks : Shrinks g h to) (first : to 0 ≡ 0) (kids_there : HasKids g s) where
+module _ (g h : List Vertex) (to : ℕ → ℕ) (some : ℕ → Bool) (s : List ℕ) (ok : IsGraph g)
+    (up_h : Above h) (shrinks : Shrinks g h to some) (first : to 0 ≡ 0)
+    (kids_there : HasKids g some s) where
   abbrev from : List Vertex → ℕ → List Vertex
   from graph k = trail (next_of s) graph 0 (Some k)
 
@@ -59,7 +61,7 @@ module _ (g h : List Vertex) (to : ℕ → ℕ) (s : List ℕ) (ok : IsGraph g) 
       × ((y : ℕ) → has (given (from g k)) y ≡ true → slice_index codes y ≡ 0)
 
   abbrev Alike : ℕ → Type 0
-  Alike k = (codes : List ℕ) → Unset k codes
+  Alike k = some k ≡ true → (codes : List ℕ) → Unset k codes
       → assign_all codes (from g k) ≡ assign_all codes (from h (to k))
 
   one : (graph : List Vertex) (k : ℕ) (v : Vertex) → slice_get graph k ≡ Some v
@@ -74,7 +76,7 @@ module _ (g h : List Vertex) (to : ℕ → ℕ) (s : List ℕ) (ok : IsGraph g) 
 
   of_begin : (k next : ℕ) → slice_get g k ≡ Some (Begin next)
       → ((j : ℕ) → k < j → j < length g → Alike j) → Alike k
-  of_begin k next is later codes unset =
+  of_begin k next is later on codes unset =
       let zero_k = ok.only_begin k next is in
       let there : slice_get h (to k) ≡ Some (Begin (to next)) =
       ap (λ (j : ℕ). slice_get h (to j)) zero_k ∙ ap (slice_get h) first
@@ -84,21 +86,23 @@ module _ (g h : List Vertex) (to : ℕ → ℕ) (s : List ℕ) (ok : IsGraph g) 
       let above_too : to k < to next = up_h (to k) (Begin (to next)) 0 there (omega arith) in
       let mine = one_kid g k next (Begin next) is refl above in
       let theirs = one_kid h (to k) (to next) (Begin (to next)) there refl above_too in
-      ap (assign_all codes) mine ∙ later next above within codes
+      let on_next = some_child g h to some shrinks k 0 (Begin next) is on (omega arith) in
+      ap (assign_all codes) mine ∙ later next above within on_next codes
       (subst (λ (vs : List Vertex). (are_different (given vs) ≡ true)
       × ((y : ℕ) → has (given vs) y ≡ true → slice_index codes y ≡ 0)) mine unset)
       ∙ sym (ap (assign_all codes) theirs)
 
   of_test : (k var : ℕ) (kids : List ℕ) → slice_get g k ≡ Some (Test var kids)
       → ((j : ℕ) → k < j → j < length g → Alike j) → Alike k
-  of_test k var kids is later codes unset =
+  of_test k var kids is later on codes unset =
       let i = slice_index s var in
-      let low = kids_there k var kids is in
+      let low = kids_there k var kids on is in
       let j = slice_index kids i in
+      let on_kid = some_child g h to some shrinks k i (Test var kids) is on low in
       let above = ok.above k (Test var kids) i is low in
       let within = ok.within k (Test var kids) i is low in
       let mine = one_kid g k j (Test var kids) is (got_some kids i low) above in
-      let rest = later j above within codes
+      let rest = later j above within on_kid codes
       (subst (λ (vs : List Vertex). (are_different (given vs) ≡ true)
       × ((y : ℕ) → has (given vs) y ≡ true → slice_index codes y ≡ 0)) mine unset) in
       ⊎_elim
@@ -111,11 +115,12 @@ module _ (g h : List Vertex) (to : ℕ → ℕ) (s : List ℕ) (ok : IsGraph g) 
       ap (assign_all codes) mine ∙ rest ∙ sym (ap (assign_all codes) theirs))
       (λ idle. ap (assign_all codes) mine ∙ rest
       ∙ ap (λ (n : ℕ). assign_all codes (from h n)) (idle i low))
-      (shrinks.test k var kids is)
+      (shrinks.test k var kids on is)
 
   of_assign : (k result c next : ℕ) → slice_get g k ≡ Some (Assign result c next)
       → ((j : ℕ) → k < j → j < length g → Alike j) → Alike k
-  of_assign k result c next is later codes unset =
+  of_assign k result c next is later on codes unset =
+      let on_next = some_child g h to some shrinks k 0 (Assign result c next) is on (omega arith) in
       let above : k < next = ok.above k (Assign result c next) 0 is (omega arith) in
       let within : next < length g = ok.within k (Assign result c next) 0 is (omega arith) in
       let mine = one_kid g k next (Assign result c next) is refl above in
@@ -124,13 +129,13 @@ module _ (g h : List Vertex) (to : ℕ → ℕ) (s : List ℕ) (ok : IsGraph g) 
       let parts = and_parts (not (has (given (from g next)) result))
       (are_different (given (from g next))) all.0 in
       let set : List ℕ = slice_set codes result c in
-      let rest = later next above within set (
+      let rest = later next above within on_next set (
         parts.1,
-        λ y on.
+        λ y there.
             get_or-set_other codes result y c 0
             (λ same. true≢false
-            (sym parts.0 ∙ ap not (ap (has (given (from g next))) (sym same) ∙ on)))
-            ∙ all.1 y (or_right (eqb result y) (has (given (from g next)) y) on),
+            (sym parts.0 ∙ ap not (ap (has (given (from g next))) (sym same) ∙ there)))
+            ∙ all.1 y (or_right (eqb result y) (has (given (from g next)) y) there),
       )
       in
       ⊎_elim
@@ -148,7 +153,7 @@ module _ (g h : List Vertex) (to : ℕ → ℕ) (s : List ℕ) (ok : IsGraph g) 
       ∙ set_own codes result in
       ap (assign_all codes) mine ∙ rest ∙ ap (λ (n : ℕ). assign_all set (from h n)) dropped.1
       ∙ ap (λ (cs : List ℕ). assign_all cs (from h (to k))) same)
-      (shrinks.assign k result c next is)
+      (shrinks.assign k result c next on is)
 
   none : {X : Type 0} (next : ℕ → X → Option ℕ) (xs : List X) (base : ℕ)
       → trail next xs base None ≡ []
@@ -156,10 +161,10 @@ module _ (g h : List Vertex) (to : ℕ → ℕ) (s : List ℕ) (ok : IsGraph g) 
   none next (x ∷ xs) base = none next xs (suc base)
 
   of_end : (k : ℕ) → slice_get g k ≡ Some End → Alike k
-  of_end k is codes unset =
+  of_end k is on codes unset =
       ap (assign_all codes) (one g k End is tt
       ∙ ap (λ (vs : List Vertex). End ∷ vs) (none (next_of s) g 0))
-      ∙ sym (ap (assign_all codes) (one h (to k) End (shrinks.end k is) tt
+      ∙ sym (ap (assign_all codes) (one h (to k) End (shrinks.end k on is) tt
       ∙ ap (λ (vs : List Vertex). End ∷ vs) (none (next_of s) h 0)))
 
   of_any : (k : ℕ) → k < length g → ((j : ℕ) → k < j → j < length g → Alike j) → (o : Option Vertex)
@@ -177,15 +182,16 @@ module _ (g h : List Vertex) (to : ℕ → ℕ) (s : List ℕ) (ok : IsGraph g) 
 
   -- ---- a walk is a path
   abbrev Walked : ℕ → Type 0
-  Walked k = (path : List ℕ) × IsPath g (k ∷ path) × (assigned g (k ∷ path) ≡ given (from g k))
+  Walked k = some k ≡ true → (path : List ℕ) × IsPath g (k ∷ path) × (assigned g (k ∷ path) ≡ given (from g k))
 
   walked_on : (k i : ℕ) (v : Vertex) → slice_get g k ≡ Some v → i < length (kids_of v)
       → next_of s k v ≡ Some (slice_index (kids_of v) i)
       → ((j : ℕ) → k < j → j < length g → Walked j) → Walked k
-  walked_on k i v is low next later =
+  walked_on k i v is low next later on =
       let kid : ℕ = slice_index (kids_of v) i in
       let up = ok.above k v i is low in
-      let rest = later kid up (ok.within k v i is low) in
+      let rest = later kid up (ok.within k v i is low)
+      (some_child g h to some shrinks k i v is on low) in
       let here : Contains (kids_at g k) kid =
       subst (λ (ks : List ℕ). Contains ks kid) (sym (ap kids_in is))
       (contains_at (kids_of v) i low) in (
@@ -198,15 +204,15 @@ module _ (g h : List Vertex) (to : ℕ → ℕ) (s : List ℕ) (ok : IsGraph g) 
 
   walked_any : (k : ℕ) → k < length g → ((j : ℕ) → k < j → j < length g → Walked j)
       → (o : Option Vertex) → slice_get g k ≡ o → Walked k
-  walked_any k low later None is = absurd (vertex_there g k low is)
-  walked_any k low later (Some (Begin next)) is =
-      walked_on k 0 (Begin next) is (omega arith) refl later
-  walked_any k low later (Some (Test var kids)) is = let inside = kids_there k var kids is in
+  walked_any k low later None is on = absurd (vertex_there g k low is)
+  walked_any k low later (Some (Begin next)) is on =
+      walked_on k 0 (Begin next) is (omega arith) refl later on
+  walked_any k low later (Some (Test var kids)) is on = let inside = kids_there k var kids on is in
       walked_on k (slice_index s var) (Test var kids) is inside
-      (got_some kids (slice_index s var) inside) later
-  walked_any k low later (Some (Assign result c next)) is =
-      walked_on k 0 (Assign result c next) is (omega arith) refl later
-  walked_any k low later (Some End) is = (
+      (got_some kids (slice_index s var) inside) later on
+  walked_any k low later (Some (Assign result c next)) is on =
+      walked_on k 0 (Assign result c next) is (omega arith) refl later on
+  walked_any k low later (Some End) is on = (
     [],
     tt,
     ap (λ (o : Option Vertex). cons_option (assigned_by o) []) is
@@ -221,19 +227,21 @@ module _ (g h : List Vertex) (to : ℕ → ℕ) (s : List ℕ) (ok : IsGraph g) 
 
   pub same_codes : 0 < length g → (results : ℕ)
       → assign_all (replicate results 0) (walk h s) ≡ assign_all (replicate results 0) (walk g s)
-  same_codes some results =
+  same_codes there results =
       let zeros : List ℕ = replicate results 0 in
       let blank : (y : ℕ) → slice_index zeros y ≡ 0 =
       λ y. ⊎_elim (λ low. get_or-replicate results y 0 0 low)
       (λ past. get_or_past zeros y 0 (omega (arith, length-replicate {A = ℕ} results 0)))
       (cases_lt y results) in
-      let path = walked (length g) 0 (omega arith) some in
+      let path = walked (length g) 0 (omega arith) there shrinks.first in
       let once : are_different (given (from g 0)) ≡ true =
       sym (ap are_different path.2) ∙ ok.assigns_once (0 ∷ path.0) path.1 in
-      sym (alike (length g) 0 (omega arith) some zeros (once, λ y on. blank y)
+      sym (alike (length g) 0 (omega arith) there shrinks.first zeros (once, λ y on. blank y)
       ∙ ap (λ (n : ℕ). assign_all zeros (from h n)) first)
 
-pub same_outcome : (m : Machine) (g h : List Vertex) (to : ℕ → ℕ) (s : List ℕ) → IsGraph g → Above h
-    → Shrinks g h to → to 0 ≡ 0 → HasKids g s → 0 < length g → Eval m h s ≡ Eval m g s
-same_outcome m g h to s ok up_h shrinks first kids some =
-    ap (with_codes m) (same_codes g h to s ok up_h shrinks first kids some (length m.results))
+pub same_outcome : (m : Machine) (g h : List Vertex) (to : ℕ → ℕ) (some : ℕ → Bool) (s : List ℕ)
+    → IsGraph g → Above h → Shrinks g h to some → to 0 ≡ 0 → HasKids g some s → 0 < length g
+    → Eval m h s ≡ Eval m g s
+same_outcome m g h to some s ok up_h shrinks first kids there =
+    ap (with_codes m)
+    (same_codes g h to some s ok up_h shrinks first kids there (length m.results))

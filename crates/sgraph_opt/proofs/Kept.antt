@@ -1,5 +1,5 @@
 -- What stands for the vertices, numbered again, is a graph that keeps what the graph does.
-use Rattle.std.proofs.Common.{◌≡◌, ⊎_elim, ℕ, zero, suc, ◌+◌, ◌-◌, ◌<◌, ◌≤◌, true, false, List, [], ◌∷◌, map, length, slice_get, slice_index, get_or, Option, Some, refl, ap, sym, subst, ◌∙◌, arith, eqb, ltb}
+use Rattle.std.proofs.Common.{◌≡◌, ⊎_elim, ℕ, zero, suc, ◌+◌, ◌-◌, ◌<◌, ◌≤◌, true, false, List, [], ◌∷◌, map, length, slice_get, slice_index, get_or, Option, Some, None, refl, ap, sym, subst, ◌∙◌, arith, eqb, ltb}
 use Rattle.std.specs.Prelude.{unwrap_or, filter_map}
 use Rattle.std.specs.List.{list_any}
 use Rattle.std.proofs.lemmas.Bool.{and_parts, eqb-true, ltb-true, ne_eqb, or_cases, false≢true}
@@ -8,21 +8,23 @@ use Rattle.std.proofs.lemmas.Map.Steps.{length-le_from_distinct_below}
 use Rattle.std.proofs.lemmas.Map.Keys.{IsDistinct-from_apart}
 use Rattle.domains.specs.Orders.{place}
 use Rattle.domains.specs.Tables.{fits}
+use Rattle.transition_table.specs.NetworkFacts.{has, are_different}
 use Rattle.transition_table.specs.declared.machine.Machine.{Machine}
 use Rattle.sgraph.specs.declared.vertex.Vertex.{Vertex}
 use Rattle.sgraph.specs.declared.vertex.Vertex.TheVariants.{Begin, Test, Assign, End}
 use Rattle.sgraph.specs.Facts.{IsGraph, assigned_by}
-use Rattle.sgraph.specs.Graphs.{kids_of, kids_in, kids_at, item_of, tested_by, Numbered}
+use Rattle.sgraph.specs.Graphs.{kids_of, kids_in, kids_at, IsPath, item_of, tested_by, items, tests, Numbered, rises as rises_of}
 use Rattle.sgraph.specs.Walks.{FitsMachine}
 use Rattle.sgraph_opt.specs.Renumbering.{vertex_at, all_left, numbered_of, replaced, Rises}
 use Rattle.sgraph_opt.specs.Representatives.{renamed, Standing}
 use Rattle.sgraph_opt.specs.Shrinking.{Shrinks}
-use Rattle.sgraph_opt.specs.Smaller.{Keeps}
+use Rattle.sgraph_opt.specs.Smaller.{FitsReached, OrderedReached, OnceReached, Keeps}
 use Rattle.sgraph_opt.proofs.Again.{again, again_rises, closed, first_zero, shrinks_again, every_at, long_vertices, got_map as got_map_vertex, kids_renamed, index_map, long_map}
 use Rattle.sgraph_opt.proofs.Alike.{same_outcome}
 use Rattle.sgraph_opt.proofs.Departures.{Closed, every_left, place_at}
-use Rattle.sgraph_opt.proofs.Lifting.{lifted, part_different, part_rises}
+use Rattle.sgraph_opt.proofs.Lifting.{BeginsWith, lifted, part_different, part_rises}
 use Rattle.sgraph_opt.proofs.Members.{Every}
+use Rattle.sgraph_opt.proofs.Reaching.{source, had, few}
 use Rattle.sgraph_opt.proofs.Standing.{below, got_map, standing_shrinks, rises, first_stands, some_vertex, own, within}
 
 there_is : (vs : List Vertex) (n : ℕ) → n < length vs → (v : Vertex) × (slice_get vs n ≡ Some v)
@@ -61,8 +63,51 @@ same_assigned to (Test var kids) = refl
 same_assigned to (Assign result code next) = refl
 same_assigned to End = refl
 
-module _ (g : List Vertex) (reps : List ℕ) (ok : IsGraph g) (numbered : Numbered g)
-    (s : Standing g reps 0) where
+-- what a vertex with other children was
+test_once : (to : ℕ → ℕ) (v : Vertex) (var : ℕ) (kids : List ℕ) → Test var kids ≡ renamed to v
+    → (ks : List ℕ) × (v ≡ Test var ks) × (length kids ≡ length ks)
+test_once to (Begin n) var kids e = absurd (let f : Test var kids ≡ Begin (to n) = e in cc)
+test_once to (Test w ks) var kids e =
+    let f : Test var kids ≡ Test w (map to ks) = e in
+    let same_var : var ≡ w = cc in
+    let same_kids : kids ≡ map to ks = cc in (
+      ks,
+      ap (λ (n : ℕ). Test n ks) (sym same_var),
+      ap (λ (xs : List ℕ). length xs) same_kids ∙ long_map to ks,
+    )
+test_once to (Assign result code n) var kids e =
+    absurd (let f : Test var kids ≡ Assign result code (to n) = e in cc)
+test_once to End var kids e = absurd (let f : Test var kids ≡ End = e in cc)
+
+assign_once : (to : ℕ → ℕ) (v : Vertex) (result code next : ℕ)
+    → Assign result code next ≡ renamed to v → (n : ℕ) × (v ≡ Assign result code n)
+assign_once to (Begin n) result code next e =
+    absurd (let f : Assign result code next ≡ Begin (to n) = e in cc)
+assign_once to (Test var kids) result code next e =
+    absurd (let f : Assign result code next ≡ Test var (map to kids) = e in cc)
+assign_once to (Assign y c n) result code next e =
+    let f : Assign result code next ≡ Assign y c (to n) = e in
+    let same_result : result ≡ y = cc in
+    let same_code : code ≡ c = cc in (
+      n,
+      ap (λ (z : ℕ). Assign z c n) (sym same_result)
+          ∙ ap (λ (z : ℕ). Assign result z n) (sym same_code),
+    )
+assign_once to End result code next e = absurd (let f : Assign result code next ≡ End = e in cc)
+
+-- paths of reached vertices
+ordered_path : (g : List Vertex) (n : ℕ) (order : List ℕ) → OrderedReached n order g
+    → (path : List ℕ) → BeginsWith (has (all_left g)) path → IsPath g path
+    → rises_of (map (place order) (items n g path)) ≡ true
+ordered_path g n order goes [] on walk = refl
+ordered_path g n order goes (k ∷ path) on walk = goes k path on walk
+
+once_path : (g : List Vertex) → OnceReached g → (path : List ℕ)
+    → BeginsWith (has (all_left g)) path → IsPath g path → are_different (tests g path) ≡ true
+once_path g goes [] on walk = refl
+once_path g goes (k ∷ path) on walk = goes k path on walk
+
+module _ (g : List Vertex) (reps : List ℕ) (ok : IsGraph g) (s : Standing g reps 0) where
   abbrev pub h : List Vertex
   h = replaced g reps
 
@@ -85,9 +130,17 @@ module _ (g : List Vertex) (reps : List ℕ) (ok : IsGraph g) (numbered : Number
   some_here : 0 < length g
   some_here = below g 0 (Begin ok.begin.0) ok.begin.1
 
+  rising_here : Rises g
+  rising_here k i low = go (slice_get g k) refl low
+    where
+      go : (o : Option Vertex) → slice_get g k ≡ o → i < length (kids_in o)
+          → (k < slice_index (kids_in o) i) × (slice_index (kids_in o) i < length g)
+      go None is low = absurd (omega arith)
+      go (Some v) is low = (ok.above k v i is low, ok.within k v i is low)
+
   shrinks : Shrinks g (numbered_of (replaced g reps))
-      (λ k. place (all_left (replaced g reps)) (slice_index reps k))
-  shrinks = shrinks_again g (replaced g reps) (slice_index reps) some rising numbered
+      (λ k. place (all_left (replaced g reps)) (slice_index reps k)) (has (all_left g))
+  shrinks = shrinks_again g (replaced g reps) (slice_index reps) some rising some_here rising_here
       (standing_shrinks g reps 0 s refl) (first_stands g ok reps s) ok.only_begin
 
   first : place (all_left (replaced g reps)) (slice_index reps 0) ≡ 0
@@ -174,11 +227,6 @@ module _ (g : List Vertex) (reps : List ℕ) (ok : IsGraph g) (numbered : Number
                 ∙ ap (λ (o : Option Vertex). Some
                 (renamed (place (all_left (replaced g reps))) (unwrap_or o End))) here;
           }
-
-  reached : (j : ℕ) → j < length (numbered_of (replaced g reps))
-      → (k : ℕ) × (k < length g) × (place (all_left (replaced g reps)) (slice_index reps k) ≡ j)
-  reached j low = let o = origin j low in
-      (o.number, o.inside, ap (place (all_left (replaced g reps))) o.itself ∙ o.place_is)
 
   -- what a vertex of the smaller graph is in the graph
   pub origin_of : (j : ℕ) (w : Vertex) → slice_get (numbered_of (replaced g reps)) j ≡ Some w
@@ -302,6 +350,16 @@ module _ (g : List Vertex) (reps : List ℕ) (ok : IsGraph g) (numbered : Number
       let same : a.0.number ≡ b.0.number = omega arith in
       sym a.0.place_is ∙ ap (place (all_left (replaced g reps))) same ∙ b.0.place_is
 
+  is_numbered : Numbered (numbered_of (replaced g reps))
+  is_numbered = again (replaced g reps) some rising
+
+  pub had_reached : (j : ℕ) → j < length (numbered_of (replaced g reps))
+      → (k : ℕ) × (k < length g) × (has (all_left g) k ≡ true)
+      × (place (all_left (replaced g reps)) (slice_index reps k) ≡ j)
+  had_reached = had g (numbered_of (replaced g reps))
+      (λ k. place (all_left (replaced g reps)) (slice_index reps k)) (has (all_left g)) ok shrinks
+      first is_numbered
+
   pub is_graph : IsGraph (numbered_of (replaced g reps))
   is_graph = record {
     begin = (
@@ -324,10 +382,10 @@ module _ (g : List Vertex) (reps : List ℕ) (ok : IsGraph g) (numbered : Number
     some_kid = some_kid;
     assigns_once = λ path walk.
         let more = lifted g (numbered_of (replaced g reps))
-        (λ k. place (all_left (replaced g reps)) (slice_index reps k)) ok shrinks first
-        assigned_by refl
-        (same_assigned (λ k. place (all_left (replaced g reps)) (slice_index reps k))) reached
-        path walk in
+        (λ k. place (all_left (replaced g reps)) (slice_index reps k)) (has (all_left g)) ok
+        shrinks first assigned_by refl
+        (same_assigned (λ k. place (all_left (replaced g reps)) (slice_index reps k)))
+        had_reached path walk in
         part_different (filter_map (λ k. assigned_by (slice_get (numbered_of (replaced g reps)) k))
         path) (filter_map (λ k. assigned_by (slice_get g k)) more.0) more.2
         (ok.assigns_once more.0 more.1);
@@ -355,27 +413,49 @@ module _ (g : List Vertex) (reps : List ℕ) (ok : IsGraph g) (numbered : Number
       (λ later. low_any xs all.1 q later)
       (or_cases (eqb q x) (list_any (eqb q) xs) found)
 
-  fewer : length (numbered_of (replaced g reps)) ≤ length g
-  fewer =
+  fewer_than_all : length (numbered_of (replaced g reps)) ≤ length g
+  fewer_than_all =
       let l = long in
       let few = length-le_from_distinct_below (all_left (replaced g reps)) (length g)
       (IsDistinct-from_apart eqb (all_left (replaced g reps)) distinct)
       (low_any (all_left (replaced g reps)) all_own) in
       omega arith
 
-  fits_machine : (m : Machine) → FitsMachine m g → FitsMachine m (numbered_of (replaced g reps))
+  fewer : length (numbered_of (replaced g reps)) ≤ length (all_left g)
+  fewer = few (length (numbered_of (replaced g reps)))
+      (λ k. place (all_left (replaced g reps)) (slice_index reps k)) (all_left g)
+      (λ j low. let from = had_reached j low in (from.0, from.2, from.3))
+
+  -- the reached vertex of the graph that does what vertex j of the smaller one does
+  from_reached : (j : ℕ) (w : Vertex) → slice_get (numbered_of (replaced g reps)) j ≡ Some w
+      → (k : ℕ) × (v : Vertex) × (has (all_left g) k ≡ true) × (slice_get g k ≡ Some v)
+      × (w ≡ renamed (λ k. place (all_left (replaced g reps)) (slice_index reps k)) v)
+  from_reached j w is =
+      let o = source g (numbered_of (replaced g reps))
+      (λ k. place (all_left (replaced g reps)) (slice_index reps k)) (has (all_left g)) ok shrinks
+      first is_numbered j (below (numbered_of (replaced g reps)) j w is) in (
+        o.number,
+        o.vertex,
+        o.on,
+        o.is,
+        got_one (slice_get (numbered_of (replaced g reps)) j) w
+            (renamed (λ k. place (all_left (replaced g reps)) (slice_index reps k)) o.vertex) is
+            o.there,
+      )
+
+  fits_machine : (m : Machine) → FitsReached m g → FitsMachine m (numbered_of (replaced g reps))
   fits_machine m fit = record {
     tests = λ k var kids is.
-        let o = origin_of k (Test var kids) is in
-        let was = was_test (place (all_left (replaced g reps))) (slice_index reps) o.0.vertex var
-        kids o.1 in
-        let there = fit.tests o.0.number var was.0 (o.0.is ∙ ap (λ (v : Vertex). Some v) was.1) in
+        let o = from_reached k (Test var kids) is in
+        let was = test_once (λ k. place (all_left (replaced g reps)) (slice_index reps k)) o.1 var
+        kids o.4 in
+        let there = fit.tests o.0 var was.0 o.2 (o.3 ∙ ap (λ (v : Vertex). Some v) was.1) in
         (there.0, was.2 ∙ there.1);
     assigns = λ k result code next is.
-        let o = origin_of k (Assign result code next) is in
-        let was = was_assign (place (all_left (replaced g reps))) (slice_index reps) o.0.vertex
-        result code next o.1 in
-        fit.assigns o.0.number result code was.0 (o.0.is ∙ ap (λ (v : Vertex). Some v) was.1);
+        let o = from_reached k (Assign result code next) is in
+        let was = assign_once (λ k. place (all_left (replaced g reps)) (slice_index reps k)) o.1
+        result code next o.4 in
+        fit.assigns o.0 result code was.0 o.2 (o.3 ∙ ap (λ (v : Vertex). Some v) was.1);
   }
 
   pub keeps : Keeps g (numbered_of (replaced g reps))
@@ -383,28 +463,32 @@ module _ (g : List Vertex) (reps : List ℕ) (ok : IsGraph g) (numbered : Number
     fits_machine = fits_machine;
     evaluates = λ m snap fit codes.
         same_outcome m g (numbered_of (replaced g reps))
-        (λ k. place (all_left (replaced g reps)) (slice_index reps k)) snap ok is_graph.above
-        shrinks first (λ k var kids is.
-        let there = fit.tests k var kids is in
+        (λ k. place (all_left (replaced g reps)) (slice_index reps k)) (has (all_left g)) snap ok
+        is_graph.above shrinks first (λ k var kids on is.
+        let there = fit.tests k var kids on is in
         let low = fits_codes m.vars snap var codes there.0 in
         let e = there.1 in
         omega arith) some_here;
     ordered = λ n order goes path walk.
         let more = lifted g (numbered_of (replaced g reps))
-        (λ k. place (all_left (replaced g reps)) (slice_index reps k)) ok shrinks first
-        (item_of n) refl
-        (same_item n (λ k. place (all_left (replaced g reps)) (slice_index reps k))) reached
+        (λ k. place (all_left (replaced g reps)) (slice_index reps k)) (has (all_left g)) ok
+        shrinks first (item_of n) refl
+        (same_item n (λ k. place (all_left (replaced g reps)) (slice_index reps k))) had_reached
         path walk in
         part_rises (place order)
         (filter_map (λ k. item_of n (slice_get (numbered_of (replaced g reps)) k)) path)
-        (filter_map (λ k. item_of n (slice_get g k)) more.0) more.2 (goes more.0 more.1);
+        (filter_map (λ k. item_of n (slice_get g k)) more.0) more.2
+        (ordered_path g n order goes more.0 more.3 more.1);
     once = λ goes path walk.
         let more = lifted g (numbered_of (replaced g reps))
-        (λ k. place (all_left (replaced g reps)) (slice_index reps k)) ok shrinks first
-        tested_by refl (same_tested
-        (λ k. place (all_left (replaced g reps)) (slice_index reps k))) reached path walk in
+        (λ k. place (all_left (replaced g reps)) (slice_index reps k)) (has (all_left g)) ok
+        shrinks first tested_by refl
+        (same_tested (λ k. place (all_left (replaced g reps)) (slice_index reps k))) had_reached
+        path walk in
         part_different (filter_map (λ k. tested_by (slice_get (numbered_of (replaced g reps)) k))
-        path) (filter_map (λ k. tested_by (slice_get g k)) more.0) more.2 (goes more.0 more.1);
+        path) (filter_map (λ k. tested_by (slice_get g k)) more.0) more.2
+        (once_path g goes more.0 more.3 more.1);
     fewer = fewer;
-    numbered = again (replaced g reps) some rising;
+    fewer_than_all = fewer_than_all;
+    numbered = is_numbered;
   }

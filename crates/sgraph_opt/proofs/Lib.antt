@@ -9,6 +9,9 @@ mod Kept
 mod Keys
 mod Lifting
 mod Members
+pub mod OfMachine
+mod Onward
+mod Reaching
 mod Reducing
 mod Replaced
 mod Rising

@@ -1,5 +1,5 @@
 -- A path of a graph that shrank is a part of a path of the graph.
-use Rattle.std.proofs.Common.{◌≡◌, ◌⊎◌, inl, inr, ⊎_elim, ℕ, zero, suc, ◌+◌, ◌<◌, ◌≤◌, true, not, List, [], ◌∷◌, map, length, slice_get, slice_index, Option, Some, None, refl, ap, sym, subst, ◌∙◌, arith, eqb, ltb}
+use Rattle.std.proofs.Common.{◌≡◌, ◌⊎◌, inl, inr, ⊎_elim, ℕ, zero, suc, ◌+◌, ◌<◌, ◌≤◌, Bool, true, not, List, [], ◌∷◌, map, length, slice_get, slice_index, Option, Some, None, refl, ap, sym, subst, ◌∙◌, arith, eqb, ltb}
 use Rattle.std.specs.Prelude.{Contains, ⊤, slice_index_or, filter_map}
 use Rattle.std.specs.List.{cons_option}
 use Rattle.std.proofs.lemmas.Bool.{and_parts, and_from, ltb-true, lt-ltb, or_cases, or_left, or_right, true≢false, false≢true, false_from_ne_true}
@@ -11,6 +11,7 @@ use Rattle.sgraph.specs.Graphs.{kids_of, kids_in, kids_at, IsPath, rises}
 use Rattle.sgraph_opt.specs.Representatives.{renamed}
 use Rattle.sgraph_opt.specs.Shrinking.{Shrinks}
 use Rattle.sgraph_opt.proofs.Again.{kids_renamed}
+use Rattle.sgraph_opt.proofs.Onward.{some_child}
 use Rattle.sgraph_opt.proofs.Standing.{vertex_there}
 
 -- ---- parts of lists
@@ -114,12 +115,17 @@ item_mapped f (x ∷ xs) zero low = (omega arith, refl)
 item_mapped f (x ∷ xs) (suc i) low = let r = item_mapped f xs i (omega arith) in
     (omega (arith, r.0), r.1)
 
+-- the first vertex of a path, where there is one, is one of these
+abbrev pub BeginsWith : (ℕ → Bool) → List ℕ → Type 0
+BeginsWith some [] = ⊤
+BeginsWith some (k ∷ path) = some k ≡ true
+
 -- what a path shows, where each vertex shows a number or none
 abbrev pub shown : (Option Vertex → Option ℕ) → List Vertex → List ℕ → List ℕ
 shown f g path = filter_map (λ k. f (slice_get g k)) path
 
-module _ (g h : List Vertex) (to : ℕ → ℕ) (ok : IsGraph g) (shrinks : Shrinks g h to)
-    (first : to 0 ≡ 0) (f : Option Vertex → Option ℕ) (none : f None ≡ None) (same : (v : Vertex)
+module _ (g h : List Vertex) (to : ℕ → ℕ) (some : ℕ → Bool) (ok : IsGraph g)
+    (shrinks : Shrinks g h to some) (first : to 0 ≡ 0) (f : Option Vertex → Option ℕ) (none : f None ≡ None) (same : (v : Vertex)
     → f (Some (renamed to v)) ≡ f (Some v)) where
   -- a path of the graph from vertex k of which that of the smaller graph is a part
   abbrev Lifted : ℕ → List ℕ → Type 0
@@ -127,25 +133,26 @@ module _ (g h : List Vertex) (to : ℕ → ℕ) (ok : IsGraph g) (shrinks : Shri
       × Part (shown f h (to k ∷ path)) (shown f g (k ∷ more))
 
   abbrev Lifts : ℕ → Type 0
-  Lifts k = (path : List ℕ) → IsPath h (to k ∷ path) → Lifted k path
+  Lifts k = some k ≡ true → (path : List ℕ) → IsPath h (to k ∷ path) → Lifted k path
 
   real : (k : ℕ) (v : Vertex) → slice_get g k ≡ Some v → slice_get h (to k) ≡ Some (renamed to v)
       → ((j : ℕ) → k < j → j < length g → Lifts j) → Lifts k
-  real k v is there later [] path = (
+  real k v is there later on [] path = (
     [],
     tt,
     subst (λ (o : Option ℕ). Part (cons_option o [])
         (cons_option (f (slice_get g k)) [])) (ap f is ∙ sym (same v) ∙ ap f (sym there))
         (part_both (f (slice_get g k)) [] [] tt),
   )
-  real k v is there later (j ∷ path) walk =
+  real k v is there later on (j ∷ path) walk =
       let kids : kids_at h (to k) ≡ map to (kids_of v) = ap kids_in there ∙ kids_renamed to v in
       let found = contained (map to (kids_of v)) j
       (subst (λ (ks : List ℕ). Contains ks j) kids walk.0) in
       let item = item_mapped to (kids_of v) found.0 found.1 in
       let kid : ℕ = slice_index (kids_of v) found.0 in
       let e : to kid ≡ j = sym item.1 ∙ found.2 in
-      let rest = later kid (ok.above k v found.0 is item.0) (ok.within k v found.0 is item.0) path
+      let rest = later kid (ok.above k v found.0 is item.0) (ok.within k v found.0 is item.0)
+      (some_child g h to some shrinks k found.0 v is on item.0) path
       (subst (λ (n : ℕ). IsPath h (n ∷ path)) (sym e) walk.1) in
       let here : Contains (kids_at g k) kid =
       subst (λ (ks : List ℕ). Contains ks kid) (sym (ap kids_in is))
@@ -164,9 +171,10 @@ module _ (g h : List Vertex) (to : ℕ → ℕ) (ok : IsGraph g) (shrinks : Shri
   -- where the first child's vertex stands for it
   passed : (k i : ℕ) (v : Vertex) → slice_get g k ≡ Some v → i < length (kids_of v)
       → to (slice_index (kids_of v) i) ≡ to k → ((j : ℕ) → k < j → j < length g → Lifts j) → Lifts k
-  passed k i v is low e later path walk =
+  passed k i v is low e later on path walk =
       let kid : ℕ = slice_index (kids_of v) i in
-      let rest = later kid (ok.above k v i is low) (ok.within k v i is low) path
+      let rest = later kid (ok.above k v i is low) (ok.within k v i is low)
+      (some_child g h to some shrinks k i v is on low) path
       (subst (λ (n : ℕ). IsPath h (n ∷ path)) (sym e) walk) in
       let here : Contains (kids_at g k) kid =
       subst (λ (ks : List ℕ). Contains ks kid) (sym (ap kids_in is))
@@ -181,33 +189,35 @@ module _ (g h : List Vertex) (to : ℕ → ℕ) (ok : IsGraph g) (shrinks : Shri
 
   lift_any : (k : ℕ) → k < length g → ((j : ℕ) → k < j → j < length g → Lifts j)
       → (o : Option Vertex) → slice_get g k ≡ o → Lifts k
-  lift_any k low later None is = absurd (vertex_there g k low is)
-  lift_any k low later (Some (Begin next)) is =
+  lift_any k low later None is on = absurd (vertex_there g k low is)
+  lift_any k low later (Some (Begin next)) is on =
       let zero_k = ok.only_begin k next is in
       real k (Begin next) is (ap (λ (j : ℕ). slice_get h (to j)) zero_k ∙ ap (slice_get h) first
-      ∙ shrinks.begin next (ap (slice_get g) (sym zero_k) ∙ is)) later
-  lift_any k low later (Some (Test var kids)) is =
+      ∙ shrinks.begin next (ap (slice_get g) (sym zero_k) ∙ is)) later on
+  lift_any k low later (Some (Test var kids)) is on =
       ⊎_elim
-      (λ there. real k (Test var kids) is there later)
-      (λ idle. let some = ok.some_kid k var kids is in
-      passed k 0 (Test var kids) is some (idle 0 some) later)
-      (shrinks.test k var kids is)
-  lift_any k low later (Some (Assign result code next)) is =
+      (λ there. real k (Test var kids) is there later on)
+      (λ idle. let one = ok.some_kid k var kids is in
+      passed k 0 (Test var kids) is one (idle 0 one) later on)
+      (shrinks.test k var kids on is)
+  lift_any k low later (Some (Assign result code next)) is on =
       ⊎_elim
-      (λ there. real k (Assign result code next) is there later)
-      (λ left. passed k 0 (Assign result code next) is (omega arith) left.1 later)
-      (shrinks.assign k result code next is)
-  lift_any k low later (Some End) is = real k End is (shrinks.end k is) later
+      (λ there. real k (Assign result code next) is there later on)
+      (λ left. passed k 0 (Assign result code next) is (omega arith) left.1 later on)
+      (shrinks.assign k result code next on is)
+  lift_any k low later (Some End) is on = real k End is (shrinks.end k on is) later on
 
   lift : (bound k : ℕ) → length g ≤ k + bound → k < length g → Lifts k
   lift zero k e low = absurd (omega arith)
   lift (suc bound) k e low =
       lift_any k low (λ j up inside. lift bound j (omega arith) inside) (slice_get g k) refl
 
-  -- any path of the smaller graph, where each of its vertices stands for one of the graph
-  pub lifted : ((j : ℕ) → j < length h → (k : ℕ) × (k < length g) × (to k ≡ j)) → (path : List ℕ)
-      → IsPath h path → (more : List ℕ) × IsPath g more × Part (shown f h path) (shown f g more)
-  lifted reached [] walk = ([], tt, tt)
+  -- any path of the smaller graph, where each of its vertices stands for one of these
+  pub lifted : ((j : ℕ) → j < length h → (k : ℕ) × (k < length g) × (some k ≡ true) × (to k ≡ j))
+      → (path : List ℕ) → IsPath h path
+      → (more : List ℕ) × IsPath g more × Part (shown f h path) (shown f g more)
+      × BeginsWith some more
+  lifted reached [] walk = ([], tt, tt, tt)
   lifted reached (j ∷ path) walk = go (slice_get h j) refl path walk
     where
       inside : (vs : List Vertex) (k : ℕ) (v : Vertex) → slice_get vs k ≡ Some v → k < length vs
@@ -217,17 +227,19 @@ module _ (g h : List Vertex) (to : ℕ → ℕ) (ok : IsGraph g) (shrinks : Shri
 
       go : (o : Option Vertex) → slice_get h j ≡ o → (path : List ℕ) → IsPath h (j ∷ path)
           → (more : List ℕ) × IsPath g more × Part (shown f h (j ∷ path)) (shown f g more)
+          × BeginsWith some more
       go None is [] walk =
-          ([], tt, subst (λ (o : Option ℕ). Part (cons_option o []) []) (sym (ap f is ∙ none)) tt)
+          ([], tt, subst (λ (o : Option ℕ). Part (cons_option o []) []) (sym (ap f is ∙ none)) tt, tt)
       go None is (i ∷ path) walk =
           absurd (let there = subst (λ (ks : List ℕ). Contains ks i) (ap kids_in is) walk.0 in
           omega (arith, there.1))
       go (Some v) is path walk =
           let from = reached j (inside h j v is) in
-          let one = lift (length g) from.0 (omega arith) from.1 path
-          (subst (λ (n : ℕ). IsPath h (n ∷ path)) (sym from.2) walk) in (
+          let one = lift (length g) from.0 (omega arith) from.1 from.2 path
+          (subst (λ (n : ℕ). IsPath h (n ∷ path)) (sym from.3) walk) in (
             from.0 ∷ one.0,
             one.1,
-            subst (λ (n : ℕ). Part (shown f h (n ∷ path)) (shown f g (from.0 ∷ one.0))) from.2
+            subst (λ (n : ℕ). Part (shown f h (n ∷ path)) (shown f g (from.0 ∷ one.0))) from.3
                 one.2,
+            from.2,
           )

@@ -9,7 +9,7 @@ use Rattle.transition_table.specs.NetworkFacts.{has}
 use Rattle.sgraph.specs.declared.vertex.Vertex.{Vertex}
 use Rattle.sgraph.specs.declared.vertex.Vertex.TheVariants.{Begin, Test, Assign, End}
 use Rattle.sgraph.specs.Facts.{IsGraph}
-use Rattle.sgraph.specs.Graphs.{kids_of, kids_in, kids_at, key_of, are_same, varies, Numbered, Reduced}
+use Rattle.sgraph.specs.Graphs.{kids_of, kids_in, kids_at, key_of, are_same, varies, Reduced}
 use Rattle.sgraph_opt.specs.Choices.{stays, Shared}
 use Rattle.sgraph_opt.specs.Renumbering.{vertex_at, all_left, numbered_of, replaced}
 use Rattle.sgraph_opt.specs.Representatives.{renamed, Standing, Dropping}
@@ -153,8 +153,7 @@ stays_varies drops (Test var kids) h = h
 stays_varies drops (Assign result code next) h = refl
 stays_varies drops End h = refl
 
-module _ (g : List Vertex) (reps : List ℕ) (ok : IsGraph g) (numbered : Numbered g)
-    (s : Standing g reps 0) where
+module _ (g : List Vertex) (reps : List ℕ) (ok : IsGraph g) (s : Standing g reps 0) where
   abbrev In : ℕ → Type 0
   In k = has (all_left (replaced g reps)) k ≡ true
 
@@ -165,7 +164,7 @@ module _ (g : List Vertex) (reps : List ℕ) (ok : IsGraph g) (numbered : Number
 
   -- the children of what stands for itself are left
   kids_left : (j : ℕ) → j < length (numbered_of (replaced g reps))
-      → (o : Origin g reps ok numbered s j) → (i : ℕ)
+      → (o : Origin g reps ok s j) → (i : ℕ)
       → i < length (kids_of (renamed (slice_index reps) o.vertex))
       → In (slice_index (kids_of (renamed (slice_index reps) o.vertex)) i)
   kids_left j low o i inside =
@@ -194,8 +193,8 @@ module _ (g : List Vertex) (reps : List ℕ) (ok : IsGraph g) (numbered : Number
       → slice_get (numbered_of (replaced g reps)) i ≡ Some v
       → slice_get (numbered_of (replaced g reps)) j ≡ Some v → i ≡ j
   once_each drops shared i j v at_i at_j =
-      let a = origin_of g reps ok numbered s i v at_i in
-      let b = origin_of g reps ok numbered s j v at_j in
+      let a = origin_of g reps ok s i v at_i in
+      let b = origin_of g reps ok s j v at_j in
       let low_i = below (numbered_of (replaced g reps)) i v at_i in
       let low_j = below (numbered_of (replaced g reps)) j v at_j in
       let same = back_vertex (place (all_left (replaced g reps))) In one_number
@@ -208,7 +207,7 @@ module _ (g : List Vertex) (reps : List ℕ) (ok : IsGraph g) (numbered : Number
   all_vary : (drops : Bool) → Shared drops g reps → (j : ℕ) (v : Vertex)
       → slice_get (numbered_of (replaced g reps)) j ≡ Some v → varies v ≡ true
   all_vary drops shared j v at_j =
-      let a = origin_of g reps ok numbered s j v at_j in
+      let a = origin_of g reps ok s j v at_j in
       let low = below (numbered_of (replaced g reps)) j v at_j in
       ap varies a.1 ∙ varies_back (place (all_left (replaced g reps))) In one_number
       (renamed (slice_index reps) a.0.vertex) (kids_left j low a.0)
@@ -225,15 +224,15 @@ module _ (g : List Vertex) (reps : List ℕ) (ok : IsGraph g) (numbered : Number
   -- ---- no code 0
   pub stay_without : NoDefaults g → NoDefaults (numbered_of (replaced g reps))
   stay_without none k result code next is =
-      let o = origin_of g reps ok numbered s k (Assign result code next) is in
-      let was = was_assign g reps ok numbered s (place (all_left (replaced g reps)))
+      let o = origin_of g reps ok s k (Assign result code next) is in
+      let was = was_assign g reps ok s (place (all_left (replaced g reps)))
       (slice_index reps) o.0.vertex result code next o.1 in
       none o.0.number result code was.0 (o.0.is ∙ ap (λ (v : Vertex). Some v) was.1)
 
   pub are_without : Dropping g reps 0 → NoDefaults (numbered_of (replaced g reps))
   are_without dropped k result code next is =
-      let o = origin_of g reps ok numbered s k (Assign result code next) is in
-      let was = was_assign g reps ok numbered s (place (all_left (replaced g reps)))
+      let o = origin_of g reps ok s k (Assign result code next) is in
+      let was = was_assign g reps ok s (place (all_left (replaced g reps)))
       (slice_index reps) o.0.vertex result code next o.1 in
       let there : slice_get g o.0.number ≡ Some (Assign result code was.0) =
       o.0.is ∙ ap (λ (v : Vertex). Some v) was.1 in
@@ -246,8 +245,8 @@ module _ (g : List Vertex) (reps : List ℕ) (ok : IsGraph g) (numbered : Number
 
   pub drop_without : Shared true g reps → NoDefaults (numbered_of (replaced g reps))
   drop_without shared k result code next is =
-      let o = origin_of g reps ok numbered s k (Assign result code next) is in
-      let was = was_assign g reps ok numbered s (place (all_left (replaced g reps)))
+      let o = origin_of g reps ok s k (Assign result code next) is in
+      let was = was_assign g reps ok s (place (all_left (replaced g reps)))
       (slice_index reps) o.0.vertex result code next o.1 in
       let there : slice_get g o.0.number ≡ Some (Assign result code was.0) =
       o.0.is ∙ ap (λ (v : Vertex). Some v) was.1 in

@@ -1,5 +1,5 @@
 -- What stands for vertices, from one on.
-use Rattle.std.proofs.Common.{◌≡◌, inl, inr, ⊎_elim, ℕ, zero, suc, ◌+◌, ◌<◌, ◌≤◌, List, [], ◌∷◌, ◌++◌, map, length, take, replicate, slice_get, slice_index, slice_set, Option, Some, None, refl, ap, sym, subst, ◌∙◌, arith}
+use Rattle.std.proofs.Common.{◌≡◌, inl, inr, ⊎_elim, ℕ, zero, suc, ◌+◌, ◌<◌, ◌≤◌, true, List, [], ◌∷◌, ◌++◌, map, length, take, replicate, slice_get, slice_index, slice_set, Option, Some, None, refl, ap, sym, subst, ◌∙◌, arith}
 use Rattle.std.proofs.lemmas.Bool.{cases_eq}
 use Rattle.sgraph.specs.declared.vertex.Vertex.{Vertex}
 use Rattle.sgraph.specs.declared.vertex.Vertex.TheVariants.{Begin, Test, Assign, End}
@@ -184,24 +184,26 @@ got_map f (w ∷ vs) zero v e = let h : w ≡ v = cc in ap (λ (u : Vertex). Som
 got_map f (w ∷ vs) (suc k) v e = got_map f vs k v e
 
 pub standing_shrinks : (g : List Vertex) (reps : List ℕ) (i : ℕ) → Standing g reps i → i ≡ 0
-    → Shrinks g (map (renamed (slice_index reps)) g) (slice_index reps)
+    → Shrinks g (map (renamed (slice_index reps)) g) (slice_index reps) (λ k. true)
 standing_shrinks g reps i s at = record {
+  first = refl;
+  onward = λ k i on low. refl;
   begin = λ next is. got_map (renamed (slice_index reps)) g 0 (Begin next) is;
-  test = λ k var kids is.
+  test = λ k var kids on is.
       ⊎_elim
       (λ own. inl (subst (λ (n : ℕ). slice_get (map (renamed (slice_index reps)) g) n
       ≡ Some (Test var (map (slice_index reps) kids))) (sym own)
       (got_map (renamed (slice_index reps)) g k (Test var kids) is)))
       (λ rest. ⊎_elim (λ idle. inr idle) (λ t. inl (twin k (Test var kids) t)) rest)
       (s.each k (Test var kids) (omega arith) is);
-  assign = λ k result code next is.
+  assign = λ k result code next on is.
       ⊎_elim
       (λ own. inl (subst (λ (n : ℕ). slice_get (map (renamed (slice_index reps)) g) n
       ≡ Some (Assign result code (slice_index reps next))) (sym own)
       (got_map (renamed (slice_index reps)) g k (Assign result code next) is)))
       (λ rest. ⊎_elim (λ left. inr left) (λ t. inl (twin k (Assign result code next) t)) rest)
       (s.each k (Assign result code next) (omega arith) is);
-  end = λ k is. let own : slice_index reps k ≡ k = s.each k End (omega arith) is in
+  end = λ k on is. let own : slice_index reps k ≡ k = s.each k End (omega arith) is in
       subst (λ (n : ℕ). slice_get (map (renamed (slice_index reps)) g) n ≡ Some End) (sym own)
       (got_map (renamed (slice_index reps)) g k End is);
 }

@@ -10,6 +10,7 @@ use Rattle.sgraph_opt.specs.Representatives.{renamed}
 abbrev pub vertex_at : List Vertex → ℕ → Vertex
 vertex_at h k = unwrap_or (slice_get h k) End
 
+-- the vertices that are reached from the first one, each once
 abbrev pub all_left : List Vertex → List ℕ
 all_left h = left_after (length h) (kids_at h) [] 0
 

@@ -1,7 +1,6 @@
 // Assignments of the code 0 are left out.
 ghost use Rattle.std.specs.Prelude.{◌≡◌, ◌<◌, ℕ, length, slice_get, slice_index, Some, IfOk};
 ghost use Rattle.sgraph.specs.declared.vertex.Vertex.{Vertex};
-ghost use Rattle.sgraph.specs.Graphs.{Numbered};
 ghost use Rattle.sgraph_opt.specs.Representatives.{past_default, Dropping};
 ghost use Rattle.sgraph_opt.specs.Smaller.{Keeps, NoDefaults};
 
@@ -44,7 +43,6 @@ fn past_defaults(alloc: Global, g: &Graph) -> Result<List<u64>, NoMemory>
 
 /// The graph without its assignments of the code 0, which each result has from the beginning.
 pub fn drop_defaults(alloc: Global, g: &Graph) -> Result<Graph, NoMemory>
-    requires { Numbered g.now }
     ensures keeps { IfOk result (λ h. Keeps g.now h) }
     ensures defaults { IfOk result (λ h. NoDefaults h) }
 {

@@ -1,7 +1,7 @@
 // Vertices that are numbered again.
 ghost use Rattle.std.specs.Prelude.{◌≡◌, ◌<◌, ℕ, true, length, slice_index, map, IfOk, OnOk};
 ghost use Rattle.sgraph.specs.Facts.{IsGraph};
-ghost use Rattle.sgraph.specs.Graphs.{kids_of, kids_at, left_after, Numbered};
+ghost use Rattle.sgraph.specs.Graphs.{kids_of, kids_at, left_after};
 ghost use Rattle.sgraph.specs.Marks.{turned};
 ghost use Rattle.sgraph_opt.specs.Marks.{MarksOf};
 ghost use Rattle.sgraph_opt.specs.Representatives.{renamed, Standing};
@@ -162,8 +162,7 @@ fn arrange(
 // The graph of what stands for the vertices that are reached from the first one, numbered again in
 // the reverse of the order in which a walk leaves them.
 pub(crate) fn renumbered(alloc: Global, g: &Graph, reps: &List<u64>) -> Result<Graph, NoMemory>
-    requires numbered { Numbered g.now }
-    requires stands { Standing g.now reps.now 0 }
+    requires { Standing g.now reps.now 0 }
     ensures list { IfOk result (λ h. h ≡ numbered_of (replaced g.now reps.now)) }
     ensures keeps { IfOk result (λ h. Keeps g.now h) }
 {

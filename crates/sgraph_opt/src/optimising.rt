@@ -1,6 +1,8 @@
 // Graphs made as small as they get here.
-ghost use Rattle.std.specs.Prelude.{IfOk};
-ghost use Rattle.sgraph.specs.Graphs.{Numbered, Reduced};
+ghost use Rattle.std.specs.Prelude.{ℕ, List, IfOk};
+ghost use Rattle.sgraph.specs.Graphs.{Reduced};
+ghost use Rattle.sgraph.specs.Reactions.{IsGraphOf};
+ghost use Rattle.transition_table.specs.declared.machine.Machine.{Machine};
 ghost use Rattle.sgraph_opt.specs.Smaller.{Keeps, NoDefaults};
 
 use crate::numbering::renumbered;
@@ -13,9 +15,10 @@ use std::alloc::Global;
 /// assignment that is left out can make the children of a test one, and a test that is left out can
 /// make vertices before it equal.
 pub fn optimise(alloc: Global, g: &Graph) -> Result<Graph, NoMemory>
-    requires { Numbered g.now }
     ensures keeps { IfOk result (λ h. Keeps g.now h) }
     ensures reduced { IfOk result (λ h. Reduced h) }
+    ensures of_machine { (m : Machine) (order : List ℕ) → IsGraphOf m order g.now
+        → IfOk result (λ h. IsGraphOf m order h) }
     ensures defaults { IfOk result (λ h. NoDefaults h) }
 {
     let _ = g.len();

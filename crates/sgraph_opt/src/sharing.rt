@@ -1,10 +1,12 @@
 // Equal vertices are joined, and tests are left out whose children are one.
-ghost use Rattle.std.specs.Prelude.{◌≡◌, ◌<◌, ℕ, map, length, slice_get, slice_index, Some, IfOk, OnOk, IfSome, IfNone, IsTrue};
+ghost use Rattle.std.specs.Prelude.{◌≡◌, ◌<◌, ℕ, List, map, length, slice_get, slice_index, Some, IfOk, OnOk, IfSome, IfNone, IsTrue};
 ghost use Rattle.sgraph.specs.declared.vertex.Vertex.{Vertex};
 ghost use Rattle.sgraph.specs.declared.vertex.Vertex.TheVariants.{Test, Assign};
-ghost use Rattle.sgraph.specs.Graphs.{key_of, varies, Numbered, Reduced};
+ghost use Rattle.sgraph.specs.Graphs.{key_of, varies, Reduced};
 ghost use Rattle.sgraph_opt.specs.Choices.{Entered, Chosen, Shared};
 ghost use Rattle.sgraph_opt.specs.Representatives.{Standing};
+ghost use Rattle.sgraph.specs.Reactions.{IsGraphOf};
+ghost use Rattle.transition_table.specs.declared.machine.Machine.{Machine};
 ghost use Rattle.sgraph_opt.specs.Smaller.{Keeps, NoDefaults};
 
 use crate::numbering::renumbered;
@@ -130,9 +132,10 @@ pub(crate) fn all_shared(alloc: Global, g: &Graph, drops: bool) -> Result<List<u
 
 /// The graph in which equal vertices are one, and no test has all its children the same.
 pub fn share(alloc: Global, g: &Graph) -> Result<Graph, NoMemory>
-    requires { Numbered g.now }
     ensures keeps { IfOk result (λ h. Keeps g.now h) }
     ensures reduced { IfOk result (λ h. Reduced h) }
+    ensures of_machine { (m : Machine) (order : List ℕ) → IsGraphOf m order g.now
+        → IfOk result (λ h. IsGraphOf m order h) }
     ensures defaults { NoDefaults g.now → IfOk result (λ h. NoDefaults h) }
 {
     let _ = g.len();

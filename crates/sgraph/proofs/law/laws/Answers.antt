@@ -10,6 +10,7 @@ returns c =
       widths = c.laws.ensures.have_widths;
       by_rows = c.laws_of_computing.ensures.outcome_by_rows;
       fit = c.laws_of_computing.ensures.results_fit;
+      char_test = c.laws_of_computing.ensures.char_by_test;
       by_test = c.laws_of_computing.ensures.support_by_test;
       on_support = c.laws_of_computing.ensures.same_on_support;
       somewhere = c.laws-2.ensures.somewhere_true;

@@ -5,14 +5,10 @@ use Rattle.sgraph_opt.proofs.Reducing.{are_without}
 use Rattle.sgraph_opt.proofs.dropping.drop_defaults.Goals as goal
 
 pub renumbered-requires : goal.renumbered-requires
-renumbered-requires c =
-    record {
-      numbered = c.requires;
-      stands = dropping_stands c.args.g.now c.in_ok-reps.reps c.in_ok-reps.ensures;
-    }
+renumbered-requires c = dropping_stands c.args.g.now c.in_ok-reps.reps c.in_ok-reps.ensures
 
 pub returns-clause-defaults : goal.returns-clause-defaults
 returns-clause-defaults c =
     subst NoDefaults (sym c.in_ok-h.ensures.list)
-    (are_without c.args.g.now c.in_ok-reps.reps c.len.ensures.graph c.requires
+    (are_without c.args.g.now c.in_ok-reps.reps c.len.ensures.graph
     (dropping_stands c.args.g.now c.in_ok-reps.reps c.in_ok-reps.ensures) c.in_ok-reps.ensures)

@@ -15,8 +15,8 @@ numbers_of-requires c = λ i low.
     let ok = c.len-count.ensures.graph in
     let len = c.len-count.ensures.len in
     let long = long_replaced g reps in
-    let inside = all_inside (replaced g reps) (rises g ok reps c.requires.stands)
-    (some_vertex g ok reps c.requires.stands) c.in_ok-left.left c.in_ok-left.ensures i low in
+    let inside = all_inside (replaced g reps) (rises g ok reps c.requires)
+    (some_vertex g ok reps c.requires) c.in_ok-left.left c.in_ok-left.ensures i low in
     omega arith
 
 pub arrange-requires : goal.arrange-requires
@@ -29,10 +29,10 @@ arrange-requires c =
     let each = c.in_ok-numbers.ensures.long in
     record {
       graph = ok;
-      stands = c.requires.stands;
+      stands = c.requires;
       left = λ i low.
-          let inside = all_inside (replaced g reps) (rises g ok reps c.requires.stands)
-          (some_vertex g ok reps c.requires.stands) c.in_ok-left.left c.in_ok-left.ensures i low in
+          let inside = all_inside (replaced g reps) (rises g ok reps c.requires)
+          (some_vertex g ok reps c.requires) c.in_ok-left.left c.in_ok-left.ensures i low in
           omega arith;
       numbers = omega arith;
     }
@@ -42,11 +42,11 @@ of-requires c =
     let g = c.args.g.now in
     let reps = c.args.reps.now in
     let ok = c.len-count.ensures.graph in
-    subst IsGraph (sym (is_numbered_of (replaced g reps) (rises g ok reps c.requires.stands)
-    (some_vertex g ok reps c.requires.stands) c.in_ok-left.left c.in_ok-numbers.numbers
+    subst IsGraph (sym (is_numbered_of (replaced g reps) (rises g ok reps c.requires)
+    (some_vertex g ok reps c.requires) c.in_ok-left.left c.in_ok-numbers.numbers
     c.in_ok-vertices.vertices c.in_ok-left.ensures c.in_ok-numbers.ensures.each
     c.in_ok-vertices.ensures))
-    (is_graph g reps ok c.requires.numbered c.requires.stands)
+    (is_graph g reps ok c.requires)
 
 pub returns : goal.returns
 returns c =
@@ -54,11 +54,11 @@ returns c =
     let reps = c.args.reps.now in
     let ok = c.len-count.ensures.graph in
     let same = c.of.ensures
-    ∙ is_numbered_of (replaced g reps) (rises g ok reps c.requires.stands)
-    (some_vertex g ok reps c.requires.stands) c.in_ok-left.left c.in_ok-numbers.numbers
+    ∙ is_numbered_of (replaced g reps) (rises g ok reps c.requires)
+    (some_vertex g ok reps c.requires) c.in_ok-left.left c.in_ok-numbers.numbers
     c.in_ok-vertices.vertices c.in_ok-left.ensures c.in_ok-numbers.ensures.each
     c.in_ok-vertices.ensures in
     record {
       list = same;
-      keeps = subst (Keeps g) (sym same) (keeps g reps ok c.requires.numbered c.requires.stands);
+      keeps = subst (Keeps g) (sym same) (keeps g reps ok c.requires);
     }

@@ -1,5 +1,5 @@
 -- A listing has one list of parts.
-use Rattle.std.proofs.Common.{◌≡◌, ℕ, suc, ◌+◌, ◌^◌, ◌<◌, true, false, not, ◌==◌, List, [], ◌∷◌, ◌++◌, length, slice_get, slice_index, Some, refl, ap, sym, ◌∙◌, append_assoc, arith, codes}
+use Rattle.std.proofs.Common.{◌≡◌, ℕ, suc, ◌+◌, ◌^◌, ◌<◌, true, false, not, ◌==◌, List, [], ◌∷◌, ◌++◌, length, slice_get, slice_index, Some, refl, ap, sym, subst, ◌∙◌, append_assoc, arith, codes}
 use Rattle.std.specs.Prelude.{flat_map}
 use Rattle.std.specs.List.{list_all, join_by}
 use Rattle.std.proofs.lemmas.Bool.{and_from, eq-eqb, lt-ltb}
@@ -10,7 +10,8 @@ use Rattle.domains.specs.Orders.{IsPermutation}
 use Rattle.transition_table.specs.declared.machine.Machine.{Machine}
 use Rattle.transition_table.specs.declared.network.Network.{Network}
 use Rattle.transition_table.specs.Orders.{sizes_of}
-use Rattle.char_function.specs.Sizes.{Size}
+use Rattle.char_function.specs.Sizes.{IsSize}
+use Rattle.char_function.proofs.Sized.{one_first_size, one_size}
 use Rattle.sgraph.specs.declared.vertex.Vertex.{Vertex}
 use Rattle.sgraph.specs.declared.vertex.Vertex.TheVariants.{Begin, Test as Tests, Assign, End}
 use Rattle.sgraph.specs.Facts.{IsGraph}
@@ -290,9 +291,11 @@ module _ (net : Network) (m : Machine) (names : Names net m) where
       (append_cancel_left head (line (order_line net m p.order) ++ from p t)
       (line (order_line net m q.order) ++ from q u) whole) in
       let order : p.order ≡ q.order = one.0 in
-      let first_same : p.first ≡ q.first = rp.sifted.first ∙ sym rq.sifted.first in
+      let first_same : p.first ≡ q.first =
+      one_first_size m p.first q.first rp.sifted.first rq.sifted.first in
       let count_same : p.count ≡ q.count =
-      rp.sifted.counted ∙ ap (Size m) order ∙ sym rq.sifted.counted in
+      one_size m q.order p.count q.count rq.sifted.allowed.permutation rq.sifted.allowed.long
+      (subst (λ (o : List ℕ). IsSize m o p.count) order rp.sifted.counted) rq.sifted.counted in
       let counts_same : counts p ≡ counts q =
       ap (λ (n : ℕ). line (codes "diagram" ++ numbers (n ∷ p.count ∷ []))) first_same
       ∙ ap (λ (n : ℕ). line (codes "diagram" ++ numbers (q.first ∷ n ∷ []))) count_same in
@@ -308,8 +311,8 @@ module _ (net : Network) (m : Machine) (names : Names net m) where
       refl (omega arith) (omega arith) two in
       let four = same_lines (vertex_words net m) (Holds m) (writes net m names) p.graph q.graph 0
       (sizes p ++ (instrs p ++ t)) (sizes q ++ (instrs q ++ u))
-      (each_holds m p.graph rp.is_graph rp.fits_machine rp.bytes rp.few)
-      (each_holds m q.graph rq.is_graph rq.fits_machine rq.bytes rq.few) three.0 (omega arith)
+      (each_holds m p.graph rp.is_graph rp.of_machine.fits_machine rp.bytes rp.few)
+      (each_holds m q.graph rq.is_graph rq.of_machine.fits_machine rq.bytes rq.few) three.0 (omega arith)
       three.1 in
       let graph : p.graph ≡ q.graph = four.0 in
       let code : p.code ≡ q.code = rp.lowered

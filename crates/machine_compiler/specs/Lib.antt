@@ -1,5 +1,4 @@
 pub mod Parts
-pub mod Making
 pub mod Lines
 pub mod Tallies
 pub mod Laws

@@ -3,13 +3,11 @@ use Rattle.std.specs.Prelude.{◌≡◌, ℕ, ◌^◌, ◌<◌, ◌≤◌, List,
 use Rattle.domains.specs.Tables.{fits}
 use Rattle.transition_table.specs.declared.machine.Machine.{Machine}
 use Rattle.transition_table.specs.declared.network.Network.{Network}
-use Rattle.transition_table.specs.Transitions.{Transition, reading}
 use Rattle.order_sift.specs.Sifting.{IsSifted}
 use Rattle.sgraph.specs.declared.vertex.Vertex.{Vertex}
 use Rattle.sgraph.specs.declared.vertex.Vertex.TheVariants.{Assign}
 use Rattle.sgraph.specs.Facts.{IsGraph}
-use Rattle.sgraph.specs.Graphs.{Eval, Ordered, Once, Reduced, Numbered}
-use Rattle.sgraph.specs.Walks.{FitsMachine}
+use Rattle.sgraph.specs.Reactions.{IsGraphOf}
 use Rattle.sgraph_opt.specs.Smaller.{NoDefaults}
 use Rattle.task_code.specs.declared.instr.Instr.{Instr}
 use Rattle.task_code.specs.Codes.{Lowered, Computes, StepsOf}
@@ -41,8 +39,8 @@ AssignsBytes g =
     (k result code next : ℕ) → slice_get g k ≡ Some (Assign result code next) → code < 256
 
 -- The order is allowed and sifted, and the counts are the sizes of the machine's diagrams. The
--- graph is of the machine, follows the order, tests no variable twice on a path, is reduced and
--- numbered, assigns no code 0, and gives the transition on each snapshot. The code is the graph's
+-- graph is one of the machine in that order: it gives the transition on each snapshot, tests no
+-- variable twice on a path, is reduced and numbered. It assigns no code 0. The code is the graph's
 -- layout, is of the machine, gives the transition on each snapshot in at most 75 instructions, and
 -- tests no variable twice on a path.
 pub record Right (m : Machine) (q : Part) : Type 0 where
@@ -50,16 +48,8 @@ pub record Right (m : Machine) (q : Part) : Type 0 where
   pub is_graph : IsGraph q.graph
   pub few : length q.graph < 2 ^ 63
   pub bytes : AssignsBytes q.graph
-  pub fits_machine : FitsMachine m q.graph
-  pub ordered : Ordered (length m.vars) q.order q.graph
-  pub once : Once q.graph
-  pub reduced : Reduced q.graph
-  pub numbered : Numbered q.graph
+  pub of_machine : IsGraphOf m q.order q.graph
   pub no_defaults : NoDefaults q.graph
-  pub evaluates :
-      (s : List ℕ)
-      → IsTrue (fits m.vars s)
-      → Transition m (reading s) (Eval m q.graph s)
   pub lowered : Lowered q.graph q.code
   pub code_fits : CodeFits m q.code
   pub computes : Computes q.code m

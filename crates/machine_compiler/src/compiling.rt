@@ -4,9 +4,10 @@ ghost use Rattle.transition_table.specs.Orders.{Allowed};
 ghost use Rattle.transition_table.specs.Transitions.{AreDeterministic, IsDeterministic};
 ghost use Rattle.sgraph.specs.declared.vertex.Vertex.TheVariants.{Assign};
 ghost use Rattle.sgraph.specs.Facts.{IsGraph};
+ghost use Rattle.sgraph.specs.Reactions.{IsGraphOf};
+ghost use Rattle.sgraph_opt.specs.Smaller.{NoDefaults};
 ghost use Rattle.char_function.specs.Roots.{IsDiagramOf};
 ghost use Rattle.machine_compiler.specs.Parts.{AreRight, AssignsBytes, Right, part_of_compiled, parts_of};
-ghost use Rattle.machine_compiler.specs.Making.{IsSmallGraph};
 
 use crate::compiled::{Compiled, CompiledList};
 use decision_diagram::{Order, Root};
@@ -23,7 +24,8 @@ fn small_graph(alloc: Global, m: &Machine, root: Root, order: &Order) -> Result<
     requires sure { IsDeterministic m.now }
     requires allowed { Allowed m.now order.now }
     requires diagram { IsDiagramOf m.now order.now root.store root.node }
-    ensures { IfOk result (λ g. IsSmallGraph m.now order.now g) }
+    ensures of_machine { IfOk result (λ g. IsGraphOf m.now order.now g) }
+    ensures defaults { IfOk result (λ g. NoDefaults g) }
 {
     let graph = build(alloc, m, &root, order)?;
     drop(root);

@@ -29,14 +29,12 @@ impl Model for Code {
 }
 
 impl Code {
-    /// These instructions as code. The room that they don't take is given up.
+    /// These instructions as code, in the list that they stand in. It takes no memory.
     pub fn of(items: InstrList) -> Self
         requires { IsCode items }
         ensures { result ≡ items }
     {
-        let mut instrs = items;
-        instrs.shrink();
-        Code { instrs }
+        Code { instrs: items }
     }
 
     /// How many instructions there are.

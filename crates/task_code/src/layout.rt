@@ -95,5 +95,6 @@ pub fn lower(alloc: Global, g: &Graph) -> Result<Code, NoMemory>
     for k in 0..g.len() {
         push_vertex(g.get(k), k, &places, &mut code)?;
     }
+    code.shrink();
     Ok(Code::of(code))
 }

@@ -5,7 +5,7 @@ returns c =
     let m = c.args.m.now in
     let g = c.in_ok-graph.graph in
     let code = c.in_ok-code.code in
-    let small = c.in_ok-graph.ensures in
+    let of_machine = c.in_ok-graph.ensures.of_machine in
     let kept = c.keep_graph.ensures in
     let lowered = c.in_ok-code.ensures.lowered in
     record {
@@ -13,18 +13,13 @@ returns c =
       is_graph = kept.graph;
       few = kept.few;
       bytes = kept.bytes;
-      fits_machine = small.fits_machine;
-      ordered = small.ordered;
-      once = small.once;
-      reduced = small.reduced;
-      numbered = small.numbered;
-      no_defaults = small.no_defaults;
-      evaluates = small.evaluates;
+      of_machine = of_machine;
+      no_defaults = c.in_ok-graph.ensures.defaults;
       lowered = lowered;
-      code_fits = c.laws.ensures.lowered_fits m g code lowered small.fits_machine;
-      computes = c.laws.ensures.lowered_computes m g code kept.graph small.numbered lowered
-          small.evaluates;
-      once_code = c.in_ok-code.ensures.once small.once;
-      steps = λ s fit. c.laws.ensures.few_steps m g code s kept.graph small.numbered small.once
-          small.fits_machine lowered;
+      code_fits = c.laws.ensures.lowered_fits m g code lowered of_machine.fits_machine;
+      computes = c.laws.ensures.lowered_computes m g code kept.graph of_machine.numbered lowered
+          of_machine.evaluates;
+      once_code = c.in_ok-code.ensures.once of_machine.once;
+      steps = λ s fit. c.laws.ensures.few_steps m g code s kept.graph of_machine.numbered
+          of_machine.once of_machine.fits_machine lowered;
     }

@@ -36,8 +36,8 @@ of-requires c =
     let g = c.args.g.now in
     let long = c.len-k-end.ensures.len in
     let stop = c.loop-k-test.false in
-    let e : c.loop-k.code ≡ laid g =
-    all_vertices (start g) g c.loop-k.code (laid g) c.loop-k.k c.loop-k.invariant
+    let e : c.shrink.new.self ≡ laid g = c.shrink.ensures
+    ∙ all_vertices (start g) g c.loop-k.code (laid g) c.loop-k.k c.loop-k.invariant
     (omega arith) in
     subst IsCode (sym e) (is_code g c.len-k-end.ensures.graph)
 
@@ -46,7 +46,8 @@ returns-clause-lowered c =
     let g = c.args.g.now in
     let long = c.len-k-end.ensures.len in
     let stop = c.loop-k-test.false in
-    c.of.ensures ∙ all_vertices (start g) g c.loop-k.code (laid g) c.loop-k.k c.loop-k.invariant
+    c.of.ensures ∙ c.shrink.ensures
+    ∙ all_vertices (start g) g c.loop-k.code (laid g) c.loop-k.k c.loop-k.invariant
     (omega arith)
 
 pub returns-clause-same : goal.returns-clause-same
@@ -54,7 +55,7 @@ returns-clause-same c = λ m s.
     let g = c.args.g.now in
     let long = c.len-k-end.ensures.len in
     let stop = c.loop-k-test.false in
-    let e : c.of.result ≡ laid g = c.of.ensures
+    let e : c.of.result ≡ laid g = c.of.ensures ∙ c.shrink.ensures
     ∙ all_vertices (start g) g c.loop-k.code (laid g) c.loop-k.k c.loop-k.invariant
     (omega arith) in
     lowered_same m g c.of.result s (goes_on_from g c.len-k-end.ensures.graph c.requires) e
@@ -64,7 +65,7 @@ returns-clause-once c = λ once.
     let g = c.args.g.now in
     let long = c.len-k-end.ensures.len in
     let stop = c.loop-k-test.false in
-    let e : c.of.result ≡ laid g = c.of.ensures
+    let e : c.of.result ≡ laid g = c.of.ensures ∙ c.shrink.ensures
     ∙ all_vertices (start g) g c.loop-k.code (laid g) c.loop-k.k c.loop-k.invariant
     (omega arith) in
     subst OnceCode (sym e) (once_code g (goes_on_from g c.len-k-end.ensures.graph c.requires) once)

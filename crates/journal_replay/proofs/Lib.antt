@@ -1,2 +1,2 @@
 mod Judged
-mod Sampled
+pub mod Sampled

@@ -79,6 +79,7 @@ lamp_made net one run parts right = record {
       begins = record {
         gathered_few = lit≤ tt;
         adopted_few = lit≤ tt;
+        adopted_first = lit≤ tt;
         alone = λ one. (refl, refl);
         enough = λ more. absurd (omega (arith, more));
         follows = run.follows;

@@ -1,26 +1,27 @@
 -- What each call of the program promises, from what its parts give.
-use Rattle.std.proofs.Common.{◌≡◌, ◌≢◌, ◌⊎◌, inl, inr, ℕ, Bool, false, true, List, ◌∷◌, [], ◌++◌, Option, refl, sym, ap, subst, ◌∙◌, codes}
+use Rattle.std.proofs.Common.{◌≡◌, ◌≢◌, ◌⊎◌, inl, inr, IsTrue, ℕ, Bool, false, true, List, ◌∷◌, [], ◌++◌, Option, refl, sym, ap, subst, ◌∙◌, codes}
+use Rattle.std.specs.Prelude.{⊤}
 use Rattle.polis_base.specs.Host.{Files, CountsFault, Rose, WhereTold}
 use Rattle.polis_base.specs.declared.host.Host.{Ghosts}
 use Rattle.journals.specs.Laws.{PrefixesAreLegal}
 use Rattle.journals.specs.StampLaws.{PrefixesRise}
 use Rattle.polis_words.specs.declared.cause.Cause.{Cause}
-use Rattle.polis_words.specs.declared.cause.Cause.TheVariants.{ReadFault as Unread, NoMemory as Wanting}
+use Rattle.polis_words.specs.declared.cause.Cause.TheVariants.{ReadFault as Unread}
 use Rattle.polis_words.specs.declared.requests.Request.{Request}
-use Rattle.polis_words.specs.declared.requests.Request.TheVariants.{Demo}
+use Rattle.polis_words.specs.declared.requests.Request.TheVariants.{Run, Check, Compile, Replay, Migrate, Demo}
 use Rattle.polis_words.specs.declared.status.Status.{Status}
-use Rattle.polis_words.specs.declared.status.Status.TheVariants.{Done, Limit, Usage, ReadFault, Refused, WriteFault, NoMemory, Illegal, Differ}
+use Rattle.polis_words.specs.declared.status.Status.TheVariants.{Done, Limit, Usage, ReadFault, Refused, WriteFault, NoMemory, Illegal}
 use Rattle.polis_words.specs.Requests.{Asks, AsksNothing}
 use Rattle.polis_words.specs.Lines.{status_of}
 use Rattle.polis_words.specs.Demo.{DemoWords}
 use Rattle.polis_cli.specs.declared.product.Product.{Product}
-use Rattle.polis_cli.specs.Commands.{Makes, Fails}
-use Rattle.polis_cli.specs.Demos.{FailsDemo, OfDemo}
+use Rattle.polis_cli.specs.Commands.{Makes, Fails, MayFail, ends_done, ends_with}
+use Rattle.polis_cli.specs.Replays.{ends_judged}
 use Rattle.polis_cli.specs.Shown.{FailsWith}
 use Rattle.polis_cli.specs.Writing.{IsWell, Writes, is_end}
 use Rattle.polis_cli.specs.Left.{LeftByLoads, LeftByLine, LeftByWriting, is_read_fault}
 use Rattle.polis_cli.specs.Top.{is_refusal}
-use Rattle.polis_cli.specs.Promise.{told, WriteFailed, Answers, Leaves}
+use Rattle.polis_cli.specs.Promise.{told, WriteFailed, IsFailure, Answers, Leaves}
 use Rattle.polis_cli.proofs.Told.{changes_from, changes_same}
 use Rattle.polis_cli.proofs.Ending.{IsOne, nothing_asked, refused_only, refused_there, failed_there, illegal_only, illegal_there, failing_line, accepted_files, made_legal, done_there, made_written, stands, unwritten, wanting_shown, written_status}
 use Rattle.polis_cli.proofs.Refusing.{cases_of}
@@ -70,29 +71,95 @@ unread_cause : (cause : Cause) → status_of cause ≡ ReadFault → cause ≡ U
 unread_cause Unread e = refl
 unread_cause other e = cc
 
--- what holds of a request that is a demo, where one is asked for
-of_demo : (words : List (List ℕ)) (request : Request) (P : Type 0) → IsOne words request
-    → OfDemo request P → (demo : DemoWords) → Asks words (Demo demo) → P
-of_demo words request P one holds demo asks =
-    subst (λ (r : Request). OfDemo r P) (sym (one (Demo demo) asks)) holds
+-- what holds of a request holds of each request of the same command line
+of_other : (words : List (List ℕ)) (request other : Request) (P : Request → Type 0)
+    → IsOne words request → P request → Asks words other → P other
+of_other words request other P one holds asks = subst P (sym (one other asks)) holds
+
+-- ---- how a call ends, whatever the host tells
+-- the ends of a call for what is asked for
+abbrev pub EndsFor : Status → Request → Type 0
+EndsFor status request = IsTrue (ends_with request status) ⊎ IsFailure status
+
+-- a cause by which no journal is judged has the status of a failure
+not_judged : (cause : Cause) → status_of cause ≢ Illegal → IsFailure (status_of cause)
+not_judged cause legal = by_case (cases_of cause)
+  where
+    by_case : (status_of cause ≡ Refused) ⊎ (status_of cause ≡ ReadFault)
+        ⊎ (status_of cause ≡ NoMemory) ⊎ (status_of cause ≡ Illegal)
+        → IsFailure (status_of cause)
+    by_case (inl e) = inr (inl e)
+    by_case (inr (inl e)) = inl e
+    by_case (inr (inr (inl e))) = inr (inr (inr e))
+    by_case (inr (inr (inr e))) = absurd (legal e)
+
+-- a request that judges a journal ends with Illegal, too
+judged : (cause : Cause) → IsTrue (ends_judged (status_of cause)) ⊎ IsFailure (status_of cause)
+judged cause = by_case (cases_of cause)
+  where
+    by_case : (status_of cause ≡ Refused) ⊎ (status_of cause ≡ ReadFault)
+        ⊎ (status_of cause ≡ NoMemory) ⊎ (status_of cause ≡ Illegal)
+        → IsTrue (ends_judged (status_of cause)) ⊎ IsFailure (status_of cause)
+    by_case (inl e) = inr (inr (inl e))
+    by_case (inr (inl e)) = inr (inl e)
+    by_case (inr (inr (inl e))) = inr (inr (inr (inr e)))
+    by_case (inr (inr (inr e))) = inl (ap ends_judged e)
+
+-- the status of a cause for which the request may fail
+cause_ends : (request : Request) (cause : Cause) → MayFail request cause
+    → EndsFor (status_of cause) request
+cause_ends (Run run) cause may = inr (not_judged cause may)
+cause_ends (Check check) cause may = inr (not_judged cause may)
+cause_ends (Compile compile) cause may = inr (not_judged cause may)
+cause_ends (Replay replay) cause may = judged cause
+cause_ends (Migrate migrate) cause may = judged cause
+cause_ends (Demo demo) cause may = inr (inr (inr (inr (ap status_of may))))
+
+failed_ends : (request : Request) (cause : Cause) (status : Status) → MayFail request cause
+    → (status ≡ status_of cause) ⊎ (status ≡ NoMemory) → EndsFor status request
+failed_ends request cause status may (inl e) =
+    subst (λ (s : Status). EndsFor s request) (sym e) (cause_ends request cause may)
+failed_ends request cause status may (inr e) = inr (inr (inr (inr e)))
+
+written_ends : (request : Request) (status : Status) (product : Product) (rose : Type 0)
+    (a b : Option Files) (s t : Option (List ℕ)) → IsTrue (ends_with request product.status)
+    → Writes status product rose a b s t → EndsFor status request
+written_ends request status product rose a b s t ends (inl (e, all)) =
+    inl (ap (ends_with request) e ∙ ends)
+written_ends request status product rose a b s t ends (inr (inl (e, fails))) =
+    inr (inr (inr (inl e)))
+written_ends request status product rose a b s t ends (inr (inr (e, out))) =
+    inr (inr (inr (inr e)))
 
 -- how a demo ends
 abbrev pub EndsDemo : Status → Type 0
 EndsDemo status = (status ≡ Done) ⊎ (status ≡ WriteFault) ⊎ (status ≡ NoMemory)
 
+-- what holds of a demo, whatever it is of the other requests
+abbrev OfDemo : Type 0 → Request → Type 0
+OfDemo P (Demo demo) = P
+OfDemo P other = ⊤
+
 -- a demo that fails runs out of memory
-demo_fails : (status : Status) (cause : Cause) → cause ≡ Wanting
-    → (status ≡ status_of cause) ⊎ (status ≡ NoMemory) → EndsDemo status
-demo_fails status cause wants (inl e) = inr (inr (e ∙ ap status_of wants))
-demo_fails status cause wants (inr e) = inr (inr e)
+demo_fails : (request : Request) (cause : Cause) (status : Status) → MayFail request cause
+    → (status ≡ status_of cause) ⊎ (status ≡ NoMemory) → OfDemo (EndsDemo status) request
+demo_fails (Demo demo) cause status wants (inl e) = inr (inr (e ∙ ap status_of wants))
+demo_fails (Demo demo) cause status wants (inr e) = inr (inr e)
+demo_fails other cause status wants e = tt
+
+is_done : (status : Status) → IsTrue (ends_done status) → status ≡ Done
+is_done Done e = refl
+is_done other e = cc
 
 -- a demo that is made is done, or fails to be written
-demo_ends : (status : Status) (product : Product) (rose : Type 0) (a b : Option Files)
-    (s t : Option (List ℕ)) → product.status ≡ Done → Writes status product rose a b s t
-    → EndsDemo status
-demo_ends status product rose a b s t done (inl (e, all)) = inl (e ∙ done)
-demo_ends status product rose a b s t done (inr (inl (e, fails))) = inr (inl e)
-demo_ends status product rose a b s t done (inr (inr (e, out))) = inr (inr e)
+demo_ends : (request : Request) (status : Status) (product : Product) (rose : Type 0)
+    (a b : Option Files) (s t : Option (List ℕ)) → IsTrue (ends_with request product.status)
+    → Writes status product rose a b s t → OfDemo (EndsDemo status) request
+demo_ends (Demo demo) status product rose a b s t done (inl (e, all)) =
+    inl (e ∙ is_done product.status done)
+demo_ends (Demo demo) status product rose a b s t done (inr (inl (e, fails))) = inr (inl e)
+demo_ends (Demo demo) status product rose a b s t done (inr (inr (e, out))) = inr (inr e)
+demo_ends other status product rose a b s t done writes = tt
 
 -- a failed load raised the count, and nothing else did
 read_raises : (cause : Cause) (before now : ℕ) → CountsFault (is_read_fault cause) before now
@@ -121,10 +188,10 @@ pub failed_answers : PrefixesAreLegal → PrefixesRise → {S : Type 0} (host : 
     → Asks words request → IsOne words request
     → WhereTold (host.files a) (λ files. Fails request files name cause)
     → LeftByLoads host (is_read_fault cause) a b → ShowsFailure host name cause status b c
-    → OfDemo request (FailsDemo cause) → Answers status words (told host a) (told host c)
+    → MayFail request cause → Answers status words (told host a) (told host c)
 unfolding is_failure
 failed_answers legal rise host a b c words request name cause status asks one fails left
-    (text, with, shown) d =
+    (text, with, shown) may =
     let o = host.files a in
     let s = status_with name cause status text with in
     let failure = status_fails cause status s in
@@ -142,8 +209,10 @@ failed_answers legal rise host a b c words request name cause status asks one fa
       illegal_only = illegal_only legal rise o words request name cause status fails one s;
       illegal_there = illegal_there o words request name cause status fails one s;
       done_there = failed_there o words request name cause status fails one s;
-      demo = λ demo asked. demo_fails status cause (of_demo words request _ one d demo asked) s;
-      no_differ = no_failure status Differ failure refl;
+      demo = λ demo asked. of_other words request (Demo demo) (OfDemo (EndsDemo status)) one
+          (demo_fails request cause status may s) asked;
+      ends = λ other asked. of_other words request other (EndsFor status) one
+          (failed_ends request cause status may s) asked;
     }
   where
     read : status ≡ ReadFault → (status ≡ status_of cause) ⊎ (status ≡ NoMemory)
@@ -191,8 +260,9 @@ pub written_answers : {S : Type 0} (host : Ghosts S) (a b c : S)
     → Asks words request → IsOne words request
     → WhereTold (host.files a) (λ files. Makes request files product) → IsWell product
     → LeftByLoads host false a b → LeftByWriting host status product b c
-    → OfDemo request (product.status ≡ Done) → Answers status words (told host a) (told host c)
-written_answers host a b c words request product status asks one made well left writing d =
+    → IsTrue (ends_with request product.status)
+    → Answers status words (told host a) (told host c)
+written_answers host a b c words request product status asks one made well left writing ends =
     let w = after_loads host a b c status product left writing in
     let old = told host a in
     let new = told host c in
@@ -218,9 +288,12 @@ written_answers host a b c words request product status asks one made well left 
       illegal_there = made_legal old.files words request product _ made one;
       done_there = done_there old.files words request product status (WriteFailed old new) old.files
           new.files old.shown new.shown made one writes;
-      demo = λ demo asked. demo_ends status product (WriteFailed old new) old.files new.files
-          old.shown new.shown (of_demo words request _ one d demo asked) writes;
-      no_differ = never Differ refl (λ h. cc) (λ h. cc);
+      demo = λ demo asked. of_other words request (Demo demo) (OfDemo (EndsDemo status)) one
+          (demo_ends request status product (WriteFailed old new) old.files new.files old.shown
+          new.shown ends writes) asked;
+      ends = λ other asked. of_other words request other (EndsFor status) one
+          (written_ends request status product (WriteFailed old new) old.files new.files old.shown
+          new.shown ends writes) asked;
     }
 
 -- a status of a product isn't a refusal
@@ -274,7 +347,7 @@ usage_answers host a b words nothing shown = record {
   illegal_there = nothing_asked (host.files a) words _ nothing;
   done_there = nothing_asked (host.files a) words _ nothing;
   demo = λ demo asked. absurd (nothing (Demo demo) asked);
-  no_differ = λ e. cc;
+  ends = λ request asked. absurd (nothing request asked);
 }
 
 pub usage_leaves : {S : Type 0} (host : Ghosts S) (a b : S) (words : List (List ℕ))

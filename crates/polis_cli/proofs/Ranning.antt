@@ -1,7 +1,8 @@
 -- Journals that the scheduler carries on.
 use Rattle.std.proofs.Common.{◌≡◌, ◌⊎◌, ◌↔◌, inl, inr, ◌≤◌, ◌/◌, ℕ, Bool, false, List, [], ◌∷◌, ◌++◌, length, take, refl, sym, ap, subst, ◌∙◌, IsTrue, arith}
-use Rattle.std.proofs.lemmas.List.{append-nil}
+use Rattle.std.proofs.lemmas.List.{append-nil, length-append}
 use Rattle.std.proofs.Math.Seq.{drop-append_seam, take-append_seam}
+use Rattle.polis_base.specs.Lists.{Begins}
 use Rattle.transition_table.specs.declared.network.Network.{Network}
 use Rattle.journals.specs.declared.entry.Entry.{Entry}
 use Rattle.journals.specs.declared.entry.TraceItem.{TraceItem}
@@ -23,6 +24,14 @@ limited net trace limit journal complete stops legal whole (inl stop) none = let
     ((stops net trace journal legal).0 stop) in cc
 limited net trace limit journal complete stops legal whole (inr full) none = full
 
+-- a journal is as long as the one that it goes on from, or longer
+begun_within : (from journal : List Entry) (adopted : ℕ) → adopted ≡ length from
+    → Begins from journal → adopted ≤ length journal
+begun_within from journal adopted begun (rest, whole) =
+    let sum = length-append from rest in
+    let same = ap (λ (xs : List Entry). length xs) whole in
+    omega (arith, begun, sum, same)
+
 pub ran_alone : (net : Network) (trace : List TraceItem) (limit : ℕ) (ran : Ran)
     → StopsWhereComplete → CarriesOn net trace limit [] 0 ran → IsRan 1 limit net trace ran
 ran_alone net trace limit ran stops c =
@@ -34,6 +43,7 @@ ran_alone net trace limit ran stops c =
       begins = record {
         gathered_few = omega (arith, none);
         adopted_few = omega (arith, none, begun);
+        adopted_first = begun_within [] ran.journal ran.adopted begun c.begins;
         alone = λ one. (none, begun);
         enough = λ more. absurd (omega (arith, more));
         follows = subst (Follows net trace ran.journal) (sym begun) c.follows;
@@ -77,6 +87,7 @@ ran_by net trace workers limit merged from ran stops several legal few enough c 
       begins = record {
         gathered_few = omega (arith, gathered, few.1);
         adopted_few = omega (arith, gathered, begun, few.0);
+        adopted_first = begun_within from ran.journal ran.adopted begun c.begins;
         alone = λ one. absurd (omega (arith, one, several));
         enough = λ more. share enough;
         follows = subst (Follows net trace ran.journal) (sym begun) c.follows;

@@ -16,7 +16,7 @@ use Rattle.journals.specs.Stamps.{least}
 use Rattle.journal_text.specs.Texts.{stamped_journal_text, output_text}
 use Rattle.task_code.specs.Listings.{Part, ListingText}
 use Rattle.polis_cli.specs.Inputs.{HoldsNet, HoldsTrace}
-use Rattle.polis_cli.specs.Runs.{IsRan, IsRunProduct, MakesRun, FailsRun, Ends, end_status, run_saves}
+use Rattle.polis_cli.specs.Runs.{IsRan, IsRunProduct, MakesRun, FailsRun, Ends, ends_run, end_status, run_saves}
 use Rattle.polis_cli.specs.Writing.{IsWell, is_end}
 use Rattle.polis_cli.proofs.Told.{told_from, told_always}
 
@@ -42,6 +42,19 @@ end_of : (status : Status) (net : Network) (trace : List TraceItem) (journal : L
 end_of Done net trace journal limit complete h = refl
 end_of Limit net trace journal limit complete h = refl
 end_of other net trace journal limit complete h = absurd h
+
+-- how a run ends is one of the two ends of runs
+run_end : (status : Status) (net : Network) (trace : List TraceItem) (journal : List Entry)
+    (limit : ℕ) (complete : Bool) → Ends status net trace journal limit complete
+    → IsTrue (ends_run status)
+run_end Done net trace journal limit complete h = refl
+run_end Limit net trace journal limit complete h = refl
+run_end other net trace journal limit complete h = absurd h
+
+pub run_ends : (run : RunWords) (net : Network) (trace : List TraceItem) (product : Product)
+    → IsRunProduct run net trace product → IsTrue (ends_run product.status)
+run_ends run net trace product p =
+    run_end product.status net trace p.ran.journal run.limit p.ran.complete p.ends
 
 -- lists with one prefix have one rest
 same_rest : (prefix a b : List ℕ) → prefix ++ a ≡ prefix ++ b → a ≡ b

@@ -1,11 +1,12 @@
 -- What each command makes, what it accepts, and why it fails.
-use Rattle.std.specs.Prelude.{◌≡◌, ℕ, Bool, true, false, List, ⊤}
+use Rattle.std.specs.Prelude.{◌≡◌, ◌≢◌, ℕ, Bool, true, false, List, ⊤}
 use Rattle.polis_base.specs.Host.{Files}
 use Rattle.polis_words.specs.declared.cause.Cause.{Cause}
 use Rattle.polis_words.specs.declared.status.Status.{Status}
-use Rattle.polis_words.specs.declared.status.Status.TheVariants.{Done}
+use Rattle.polis_words.specs.declared.status.Status.TheVariants.{Done, Illegal}
 use Rattle.polis_words.specs.declared.requests.Request.{Request}
 use Rattle.polis_words.specs.declared.requests.Request.TheVariants.{Run, Check, Compile, Replay, Migrate, Demo}
+use Rattle.polis_words.specs.Lines.{status_of}
 use Rattle.polis_cli.specs.declared.product.Product.{Product}
 use Rattle.polis_cli.specs.Runs.{MakesRun, AcceptsRun, FailsRun, ends_run}
 use Rattle.polis_cli.specs.Inputs.{AcceptsNet, FailsNet}
@@ -67,6 +68,16 @@ ends_with (Compile compile) status = ends_done status
 ends_with (Replay replay) status = ends_judged status
 ends_with (Migrate migrate) status = ends_judged status
 ends_with (Demo demo) status = ends_done status
+
+-- a cause for which the request may fail, whatever the files hold: only a request that judges a
+-- journal finds one that isn't legal, and a demo runs out of memory alone
+abbrev pub MayFail : Request → Cause → Type 0
+MayFail (Run run) cause = status_of cause ≢ Illegal
+MayFail (Check check) cause = status_of cause ≢ Illegal
+MayFail (Compile compile) cause = status_of cause ≢ Illegal
+MayFail (Replay replay) cause = ⊤
+MayFail (Migrate migrate) cause = ⊤
+MayFail (Demo demo) cause = FailsDemo cause
 
 -- the request needs the calling thread alone: it isn't a run by several workers
 abbrev pub IsSerial : Request → Type 0

@@ -1,5 +1,5 @@
 -- What `demo` makes.
-use Rattle.std.specs.Prelude.{◌≡◌, ℕ, true, List, [], Ok, ⊤}
+use Rattle.std.specs.Prelude.{◌≡◌, ℕ, true, List, [], Ok}
 use Rattle.transition_table.specs.declared.network.Network.{Network}
 use Rattle.journals.specs.declared.entry.TraceItem.{TraceItem}
 use Rattle.trace_text.specs.Traces.{trace_of}
@@ -10,8 +10,6 @@ use Rattle.net_gen.specs.Networks.{network}
 use Rattle.net_gen.specs.Traces.{trace_text}
 use Rattle.polis_words.specs.declared.cause.Cause.{Cause}
 use Rattle.polis_words.specs.declared.cause.Cause.TheVariants.{NoMemory as Wanting}
-use Rattle.polis_words.specs.declared.requests.Request.{Request}
-use Rattle.polis_words.specs.declared.requests.Request.TheVariants.{Demo}
 use Rattle.polis_words.specs.declared.status.Status.TheVariants.{Done}
 use Rattle.polis_words.specs.Demo.{DemoWords}
 use Rattle.polis_words.specs.Run.{entry_max}
@@ -47,8 +45,3 @@ pub record MakesDemo (demo : DemoWords) (product : Product) : Type 0 where
 -- a demo fails only where memory runs out
 abbrev pub FailsDemo : Cause → Type 0
 FailsDemo cause = cause ≡ Wanting
-
--- this holds where a demo is asked for, whatever it is of the others
-abbrev pub OfDemo : Request → Type 0 → Type 0
-OfDemo (Demo demo) P = P
-OfDemo other P = ⊤

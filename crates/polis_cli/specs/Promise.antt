@@ -5,7 +5,7 @@ use Rattle.polis_base.specs.declared.host.Host.{Ghosts}
 use Rattle.polis_words.specs.declared.requests.Request.{Request}
 use Rattle.polis_words.specs.declared.requests.Request.TheVariants.{Demo}
 use Rattle.polis_words.specs.declared.status.Status.{Status}
-use Rattle.polis_words.specs.declared.status.Status.TheVariants.{Done, Usage, ReadFault, Refused, WriteFault, NoMemory, Illegal, Differ}
+use Rattle.polis_words.specs.declared.status.Status.TheVariants.{Done, Usage, ReadFault, Refused, WriteFault, NoMemory, Illegal}
 use Rattle.polis_words.specs.Demo.{DemoWords}
 use Rattle.polis_words.specs.Requests.{Asks, AsksNothing}
 use Rattle.polis_cli.specs.Commands.{Accepts, IsIllegal, ends_with}
@@ -49,6 +49,11 @@ OfRequest words old P = WhereTold old.files (λ before. (request : Request) → 
 abbrev pub IsCut : Status → Type 0
 IsCut status = (status ≡ ReadFault) ⊎ (status ≡ NoMemory)
 
+-- a status of a failure, with which each request may end
+abbrev pub IsFailure : Status → Type 0
+IsFailure status =
+    (status ≡ ReadFault) ⊎ (status ≡ Refused) ⊎ (status ≡ WriteFault) ⊎ (status ≡ NoMemory)
+
 -- The status of a call, and when it comes.
 pub record Answers (status : Status) (words : List (List ℕ)) (old new : Outside) : Type 0 where
   pub ended : IsTrue (is_end status) → Ended status words old new
@@ -77,8 +82,10 @@ pub record Answers (status : Status) (words : List (List ℕ)) (old new : Outsid
   -- A demo reads no file: it is done, but for a fault of writing and running out of memory.
   pub demo : (demo : DemoWords) → Asks words (Demo demo)
       → (status ≡ Done) ⊎ (status ≡ WriteFault) ⊎ (status ≡ NoMemory)
-  -- Nothing is compared.
-  pub no_differ : status ≢ Differ
+  -- Whatever the host tells, the status is one with which what is asked for ends where its files
+  -- are accepted, or that of a failure.
+  pub ends : (request : Request) → Asks words request
+      → IsTrue (ends_with request status) ⊎ IsFailure status
 
 -- What a call leaves and shows.
 pub record Leaves (status : Status) (words : List (List ℕ)) (old new : Outside) : Type 0 where

@@ -49,6 +49,7 @@ pub record BeginsAt (workers limit : ℕ) (net : Network) (trace : List TraceIte
     (journal : List Entry) (gathered adopted : ℕ) : Type 0 where
   pub gathered_few : gathered ≤ limit
   pub adopted_few : adopted ≤ gathered
+  pub adopted_first : adopted ≤ length journal
   pub alone : workers ≡ 1 → (gathered ≡ 0) × (adopted ≡ 0)
   pub enough : 1 < workers → (limit / workers ≤ adopted)
       ⊎ ((length journal ≡ adopted) × Complete net trace journal)

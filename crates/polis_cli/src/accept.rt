@@ -1,9 +1,11 @@
 // The network of a text that is accepted.
-ghost use Rattle.std.specs.Prelude.{◌≡◌, IfOk, IfErr, OnOk, IsTrue};
+ghost use Rattle.std.specs.Prelude.{◌≡◌, IfOk, IfErr, OnOk, IsTrue, ◌≢◌};
 ghost use Rattle.transition_table.specs.NetworkFacts.{has_vars};
 ghost use Rattle.transition_table.specs.Transitions.{IsDeterministic, AreDeterministic};
 ghost use Rattle.transition_table.specs.declared.network.Network.{Network};
 ghost use Rattle.net_rules.specs.NetOf.{NetOf};
+ghost use Rattle.polis_words.specs.declared.status.Status.{Status};
+ghost use Rattle.polis_words.specs.Lines.{status_of};
 ghost use Rattle.polis_cli.specs.Accepted.{Accepted, IsMachineFault, IsConflictFault};
 ghost use Rattle.polis_cli.specs.Inputs.{IsNetFault};
 
@@ -75,6 +77,7 @@ pub fn network_in(alloc: Global, text: &[u8]) -> Result<Network, Cause>
     ensures ok { IfOk result (λ net. Accepted text.now net) }
     ensures one { IfOk result (λ net. (other : Network) → NetOf text.now other → other ≡ net) }
     ensures failed { IfErr result (λ cause. IsNetFault text.now cause) }
+    ensures unjudged { IfErr result (λ cause. status_of cause ≢ Status.Illegal) }
 {
     let net = match declared_in(alloc, text) {
         Ok(net) => net,

@@ -1,9 +1,12 @@
 // The command `check`: whether a network is accepted.
-ghost use Rattle.std.specs.Prelude.{IfOk, IfErr};
+ghost use Rattle.std.specs.Prelude.{IfOk, IfErr, ◌≢◌, IsTrue};
 ghost use Rattle.polis_base.specs.Host.{WhereTold};
+ghost use Rattle.polis_words.specs.declared.status.Status.{Status};
+ghost use Rattle.polis_words.specs.Lines.{status_of};
 ghost use Rattle.polis_cli.specs.Writing.{IsWell};
 ghost use Rattle.polis_cli.specs.Inputs.{FailsNet};
 ghost use Rattle.polis_cli.specs.Checks.{MakesCheck};
+ghost use Rattle.polis_cli.specs.Commands.{ends_done};
 ghost use Rattle.polis_cli.specs.Left.{LeftByLoads, fails_unread};
 
 use crate::load::load_net;
@@ -21,9 +24,11 @@ pub fn make_check<'a, H: Host>(
     ensures made { IfOk result (λ product.
         WhereTold (H.files host.old) (λ files. MakesCheck check.now files product)) }
     ensures well { IfOk result (λ product. IsWell product) }
+    ensures ends { IfOk result (λ product. IsTrue (ends_done product.status)) }
     ensures failed { IfErr result (λ failure.
         WhereTold (H.files host.old) (λ files.
         FailsNet check.now.net files failure.name.now failure.cause)) }
+    ensures unjudged { IfErr result (λ failure. status_of failure.cause ≢ Status.Illegal) }
     ensures left { LeftByLoads ⟦<H as Host>⟧ (fails_unread result) host.old host.new }
 {
     let name = check.net();

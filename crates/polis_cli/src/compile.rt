@@ -1,9 +1,12 @@
 // The command `compile`: the machines of a network as code, and their listing.
-ghost use Rattle.std.specs.Prelude.{IfOk, IfErr};
+ghost use Rattle.std.specs.Prelude.{IfOk, IfErr, ◌≢◌, IsTrue};
 ghost use Rattle.polis_base.specs.Host.{WhereTold};
 ghost use Rattle.transition_table.specs.Transitions.{AreDeterministic};
 ghost use Rattle.polis_cli.specs.Inputs.{FailsNet};
+ghost use Rattle.polis_words.specs.declared.status.Status.{Status};
+ghost use Rattle.polis_words.specs.Lines.{status_of};
 ghost use Rattle.polis_cli.specs.Writing.{IsWell};
+ghost use Rattle.polis_cli.specs.Commands.{ends_done};
 ghost use Rattle.polis_cli.specs.Compilations.{IsCompileProduct, MakesCompile};
 ghost use Rattle.polis_cli.specs.Left.{LeftByLoads, fails_unread};
 
@@ -40,9 +43,11 @@ pub fn make_compile<'a, H: Host>(
     ensures made { IfOk result (λ product.
         WhereTold (H.files host.old) (λ files. MakesCompile asked.now files product)) }
     ensures well { IfOk result (λ product. IsWell product) }
+    ensures ends { IfOk result (λ product. IsTrue (ends_done product.status)) }
     ensures failed { IfErr result (λ failure.
         WhereTold (H.files host.old) (λ files.
         FailsNet asked.now.net files failure.name.now failure.cause)) }
+    ensures unjudged { IfErr result (λ failure. status_of failure.cause ≢ Status.Illegal) }
     ensures left { LeftByLoads ⟦<H as Host>⟧ (fails_unread result) host.old host.new }
 {
     let name = asked.net();

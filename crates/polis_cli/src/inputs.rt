@@ -1,9 +1,11 @@
 // The network and the trace that a run or a replay is of.
-ghost use Rattle.std.specs.Prelude.{◌≡◌, IfOk, IfErr};
+ghost use Rattle.std.specs.Prelude.{◌≡◌, IfOk, IfErr, ◌≢◌};
 ghost use Rattle.polis_base.specs.Host.{WhereTold};
 ghost use Rattle.journals.specs.Journals.{IsTrace};
 ghost use Rattle.transition_table.specs.Transitions.{AreDeterministic};
 ghost use Rattle.transition_table.specs.declared.network.Network.{Network};
+ghost use Rattle.polis_words.specs.declared.status.Status.{Status};
+ghost use Rattle.polis_words.specs.Lines.{status_of};
 ghost use Rattle.polis_cli.specs.Inputs.{HoldsNet, HoldsTrace, InputsFail};
 ghost use Rattle.polis_cli.specs.Left.{LeftByLoads, fails_unread};
 
@@ -41,6 +43,7 @@ pub fn load_inputs<'a, H: Host>(
     ensures failed { IfErr result (λ failure.
         WhereTold (H.files host.old) (λ files.
         InputsFail files net_name.now trace_name.now failure.name.now failure.cause)) }
+    ensures unjudged { IfErr result (λ failure. status_of failure.cause ≢ Status.Illegal) }
     ensures left { LeftByLoads ⟦<H as Host>⟧ (fails_unread result) host.old host.new }
 {
     let net = match load_net(alloc, host, net_name) {

@@ -1,11 +1,13 @@
 // Loading the files that a command line names.
-ghost use Rattle.std.specs.Prelude.{◌≡◌, ◌≤◌, List, length, IfOk, IfErr, IfSome};
+ghost use Rattle.std.specs.Prelude.{◌≡◌, ◌≤◌, List, length, IfOk, IfErr, IfSome, ◌≢◌};
 ghost use Rattle.polis_base.specs.Host.{WhereTold};
 ghost use Rattle.journals.specs.Journals.{IsTrace, IsJournal};
 ghost use Rattle.journals.specs.declared.entry.TraceItem.{TraceItem};
 ghost use Rattle.journal_text.specs.Texts.{AreStamps};
 ghost use Rattle.transition_table.specs.Transitions.{AreDeterministic};
 ghost use Rattle.transition_table.specs.declared.network.Network.{Network};
+ghost use Rattle.polis_words.specs.declared.status.Status.{Status};
+ghost use Rattle.polis_words.specs.Lines.{status_of};
 ghost use Rattle.polis_cli.specs.Inputs.{HoldsText, HoldsNet, HoldsTrace, LoadFails, NetFails, TraceFails};
 ghost use Rattle.polis_cli.specs.JournalFiles.{HoldsJournal, JournalFails};
 ghost use Rattle.polis_cli.specs.Left.{LeftByLoads, is_unread};
@@ -31,6 +33,7 @@ fn load_text<H: Host>(alloc: Global, host: &mut H, name: &str, max: u64) -> Resu
         WhereTold (H.files host.old) (λ files. HoldsText files max name.now text)) }
     ensures failed { IfErr result (λ cause.
         WhereTold (H.files host.old) (λ files. LoadFails files max name.now cause)) }
+    ensures unjudged { IfErr result (λ cause. status_of cause ≢ Status.Illegal) }
     ensures left { LeftByLoads ⟦<H as Host>⟧ (is_unread result) host.old host.new }
 {
     let mut text = Bytes::new(alloc);
@@ -53,6 +56,7 @@ pub fn load_net<H: Host>(alloc: Global, host: &mut H, name: &str) -> Result<Netw
     ensures deterministic { IfOk result (λ net. AreDeterministic net) }
     ensures failed { IfErr result (λ cause.
         WhereTold (H.files host.old) (λ files. NetFails files name.now cause)) }
+    ensures unjudged { IfErr result (λ cause. status_of cause ≢ Status.Illegal) }
     ensures left { LeftByLoads ⟦<H as Host>⟧ (is_unread result) host.old host.new }
 {
     let text = load_text(alloc, host, name, TEXT_MAX)?;
@@ -71,6 +75,7 @@ pub fn load_trace<H: Host>(
     ensures fits { IfOk result (λ trace. IsTrace net.now trace) }
     ensures failed { IfErr result (λ cause.
         WhereTold (H.files host.old) (λ files. TraceFails files net.now name.now cause)) }
+    ensures unjudged { IfErr result (λ cause. status_of cause ≢ Status.Illegal) }
     ensures left { LeftByLoads ⟦<H as Host>⟧ (is_unread result) host.old host.new }
 {
     let text = load_text(alloc, host, name, TEXT_MAX)?;

@@ -1,9 +1,9 @@
 // The command `migrate`: a legal journal with its least stamps.
-ghost use Rattle.std.specs.Prelude.{◌≤◌, length, IfOk, IfErr};
+ghost use Rattle.std.specs.Prelude.{◌≤◌, length, IfOk, IfErr, IsTrue};
 ghost use Rattle.polis_base.specs.Host.{WhereTold};
 ghost use Rattle.journals.specs.Legality.{Legal};
 ghost use Rattle.polis_cli.specs.Writing.{IsWell};
-ghost use Rattle.polis_cli.specs.Replays.{FailsReplay};
+ghost use Rattle.polis_cli.specs.Replays.{FailsReplay, ends_judged};
 ghost use Rattle.polis_cli.specs.Migrations.{IsMigrateProduct, MakesMigrate};
 ghost use Rattle.polis_cli.specs.Left.{LeftByLoads, fails_unread};
 
@@ -43,6 +43,7 @@ pub fn make_migrate<'a, H: Host>(
     ensures made { IfOk result (λ product.
         WhereTold (H.files host.old) (λ files. MakesMigrate asked.now files product)) }
     ensures well { IfOk result (λ product. IsWell product) }
+    ensures ends { IfOk result (λ product. IsTrue (ends_judged product.status)) }
     ensures failed { IfErr result (λ failure.
         WhereTold (H.files host.old) (λ files.
         FailsReplay asked.now.replay files failure.name.now failure.cause)) }

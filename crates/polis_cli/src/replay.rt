@@ -1,12 +1,12 @@
 // The command `replay`: whether a journal is legal.
-ghost use Rattle.std.specs.Prelude.{◌≤◌, length, IfOk, IfErr, IfSome};
+ghost use Rattle.std.specs.Prelude.{◌≤◌, length, IfOk, IfErr, IfSome, IsTrue};
 ghost use Rattle.polis_base.specs.Host.{WhereTold};
 ghost use Rattle.journals.specs.Journals.{IsTrace, IsJournal};
 ghost use Rattle.journals.specs.Legality.{Legal};
 ghost use Rattle.journal_text.specs.Texts.{AreStamps};
 ghost use Rattle.transition_table.specs.Transitions.{AreDeterministic};
 ghost use Rattle.polis_cli.specs.Writing.{IsWell};
-ghost use Rattle.polis_cli.specs.Replays.{IsJudged, IsFound, MakesReplay, FailsReplay};
+ghost use Rattle.polis_cli.specs.Replays.{IsJudged, IsFound, MakesReplay, FailsReplay, ends_judged};
 ghost use Rattle.polis_cli.specs.Left.{LeftByLoads, fails_unread};
 
 use crate::inputs::{Inputs, load_inputs};
@@ -124,6 +124,7 @@ pub fn make_replay<'a, H: Host>(
     ensures made { IfOk result (λ product.
         WhereTold (H.files host.old) (λ files. MakesReplay asked.now files product)) }
     ensures well { IfOk result (λ product. IsWell product) }
+    ensures ends { IfOk result (λ product. IsTrue (ends_judged product.status)) }
     ensures failed { IfErr result (λ failure.
         WhereTold (H.files host.old) (λ files.
         FailsReplay asked.now files failure.name.now failure.cause)) }

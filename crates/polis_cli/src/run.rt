@@ -1,10 +1,12 @@
 // The command `run`: a network on a trace, and the texts of that run.
-ghost use Rattle.std.specs.Prelude.{◌≡◌, ◌<◌, ◌∷◌, ◌++◌, [], codes, IfOk, IfErr};
+ghost use Rattle.std.specs.Prelude.{◌≡◌, ◌<◌, ◌∷◌, ◌++◌, [], codes, IfOk, IfErr, ◌≢◌, IsTrue};
 ghost use Rattle.polis_base.specs.Host.{WhereTold};
 ghost use Rattle.journals.specs.Journals.{IsTrace};
 ghost use Rattle.transition_table.specs.Transitions.{AreDeterministic};
+ghost use Rattle.polis_words.specs.declared.status.Status.{Status};
+ghost use Rattle.polis_words.specs.Lines.{status_of};
 ghost use Rattle.polis_cli.specs.Writing.{IsWell};
-ghost use Rattle.polis_cli.specs.Runs.{IsRan, AreOtherTexts, IsRunProduct, MakesRun, FailsRun, end_status, journal_of};
+ghost use Rattle.polis_cli.specs.Runs.{IsRan, AreOtherTexts, IsRunProduct, MakesRun, FailsRun, ends_run, end_status, journal_of};
 ghost use Rattle.polis_cli.specs.Left.{LeftByLoads, fails_unread};
 
 use crate::inputs::{Inputs, load_inputs};
@@ -133,9 +135,11 @@ pub fn make_run<'a, H: Host>(
     ensures made { IfOk result (λ product.
         WhereTold (H.files host.old) (λ files. MakesRun run.now files product)) }
     ensures well { IfOk result (λ product. IsWell product) }
+    ensures ends { IfOk result (λ product. IsTrue (ends_run product.status)) }
     ensures failed { IfErr result (λ failure.
         WhereTold (H.files host.old) (λ files.
         FailsRun run.now files failure.name.now failure.cause)) }
+    ensures unjudged { IfErr result (λ failure. status_of failure.cause ≢ Status.Illegal) }
     ensures left { LeftByLoads ⟦<H as Host>⟧ (fails_unread result) host.old host.new }
 {
     let inputs = match load_inputs(alloc, host, run.net(), run.trace()) {
@@ -162,9 +166,11 @@ pub fn make_run_by<'a, T: Threads + Wait + Sync, H: Host, G: Gate + Sync>(
     ensures made { IfOk result (λ product.
         WhereTold (H.files host.old) (λ files. MakesRun run.now files product)) }
     ensures well { IfOk result (λ product. IsWell product) }
+    ensures ends { IfOk result (λ product. IsTrue (ends_run product.status)) }
     ensures failed { IfErr result (λ failure.
         WhereTold (H.files host.old) (λ files.
         FailsRun run.now files failure.name.now failure.cause)) }
+    ensures unjudged { IfErr result (λ failure. status_of failure.cause ≢ Status.Illegal) }
     ensures left { LeftByLoads ⟦<H as Host>⟧ (fails_unread result) host.old host.new }
 {
     if run.workers() == 1 {

@@ -9,11 +9,15 @@ use std::sync::Wait;
 use std::test::Fail;
 use std::thread::Threads;
 
+mod calls;
 mod cells;
 mod counts;
 mod demos;
+mod diagrams;
+mod failing;
 mod faults;
 mod gates;
+mod hostile;
 mod journal_faults;
 mod listings;
 mod networks;
@@ -31,9 +35,15 @@ use crate::tests::networks::LAMP;
 
 const RUN: &[&str] = &["run", "net", "trc", "o"];
 
+const BY_TWO: &[&str] = &["run", "net", "trc", "o", "--workers", "2"];
+
 const CHECK: &[&str] = &["check", "net"];
 
 const COMPILE: &[&str] = &["compile", "net", "o"];
+
+const REPLAY: &[&str] = &["replay", "net", "trc", "jnl"];
+
+const MIGRATE: &[&str] = &["migrate", "net", "trc", "jnl", "o"];
 
 const PRESSED: &str = "polis journal 2
 @1 dep env lamp_ctl press
@@ -83,46 +93,51 @@ const PRESS: Case<'static> = Case {
     write_faults: 0,
 };
 
-// The lamp on one press, in a call that shows a line and saves nothing.
-fn refusal<'a>(words: &'a [&'a str], shown: &'a str) -> Case<'a> {
+// The lamp on one press, in a call that is refused: it shows a line and saves nothing.
+const REFUSED: Case<'static> = Case {
+    status: Status::Refused,
+    shown: "",
+    outputs: None,
+    journal: None,
+    listing: None,
+    ..PRESS
+};
+
+// The lamp on one press, in a call that is refused with a line.
+fn refused<'a>(words: &'a [&'a str], shown: &'a str) -> Case<'a> {
     Case {
         words,
-        status: Status::Refused,
         shown,
-        outputs: None,
-        journal: None,
-        listing: None,
-        ..PRESS
+        ..REFUSED
     }
 }
 
-// The lamp on one press, where a save or a show fails.
-fn write_fault<'a>(fails: &'a [u64], shown: &'a str) -> Case<'a> {
-    Case {
-        fails,
-        status: Status::WriteFault,
-        write_faults: fails.len() as u64,
-        ..refusal(RUN, shown)
-    }
-}
-
-// The lamp on one press, where a load fails.
-fn read_fault<'a>(fails: &'a [u64], shown: &'a str) -> Case<'a> {
-    Case {
-        fails,
-        status: Status::ReadFault,
-        load_faults: 1,
-        ..refusal(RUN, shown)
-    }
-}
+// A call that shows a line and is done, and saves nothing or a listing.
+const DONE: Case<'static> = Case {
+    status: Status::Done,
+    ..REFUSED
+};
 
 // Words that ask for nothing.
-fn usage<'a>(words: &'a [&'a str]) -> Case<'a> {
-    Case {
-        status: Status::Usage,
-        ..refusal(words, "usage\n")
-    }
-}
+const USAGE: Case<'static> = Case {
+    status: Status::Usage,
+    shown: "usage\n",
+    ..REFUSED
+};
+
+// The lamp on one press, where a load fails.
+const UNREAD: Case<'static> = Case {
+    status: Status::ReadFault,
+    load_faults: 1,
+    ..REFUSED
+};
+
+// The lamp on one press, where a save or a show fails.
+const UNWRITTEN: Case<'static> = Case {
+    status: Status::WriteFault,
+    write_faults: 1,
+    ..REFUSED
+};
 
 // A text, which has a part so many times between its begin and its end.
 #[derive(Clone, Copy)]
@@ -245,139 +260,168 @@ fn try_cases<T: Abort + Threads + Wait + Sync>(
     Ok(())
 }
 
+// Command lines that ask for nothing.
+const NO_REQUESTS: &[&[&str]] = &[
+    &[],
+    &["run", "net", "trc"],
+    &["run", "net", "trc", "o", "--workers", "0"],
+    &["run", "net", "trc", "o", "--workers", "9"],
+    &["run", "net", "trc", "o", "--workers", "1", "--workers", "2"],
+    &["demo"],
+    &["demo", "007"],
+    &["demo", "18446744073709551616"],
+    &["run", "net", "trc", "o", "--limit", "0"],
+    &["run", "net", "trc", "o", "--limit", "60001"],
+    &["run", "net", "trc", "o", "--limit", "05"],
+    &["run", "net", "trc", "o", "--limit"],
+    &["run", "net", "trc", "o", "--limit", "5", "--limit", "5"],
+    &["run", "net", "", "o"],
+    &["check"],
+    &["check", ""],
+    &["check", "net", "trc"],
+    &["compile", "net"],
+    &["compile", "net", ""],
+    &["compile", "net", "o", "--limit", "5"],
+    &["replay", "net", "trc"],
+    &["replay", "net", "", "jnl"],
+    &["replay", "net", "trc", "jnl", "o"],
+    &["migrate", "net", "trc", "jnl"],
+    &["migrate", "net", "trc", "jnl", ""],
+];
+
 #[test]
 fn answers_usage(rt: HostRuntime) -> Result<(), Fail> {
-    let shows_alone = Case {
-        fails: &[1],
-        ..usage(&["run", "net", "trc"])
-    };
-    try_cases(
-        &rt,
-        rt.alloc(),
-        &[
-            shows_alone,
-            usage(&[]),
-            usage(&["run", "net", "trc", "o", "--workers", "0"]),
-            usage(&["run", "net", "trc", "o", "--workers", "9"]),
-            usage(&["run", "net", "trc", "o", "--workers", "1", "--workers", "2"]),
-            usage(&["demo"]),
-            usage(&["demo", "007"]),
-            usage(&["demo", "18446744073709551616"]),
-            usage(&["run", "net", "trc", "o", "--limit", "0"]),
-            usage(&["run", "net", "trc", "o", "--limit", "60001"]),
-            usage(&["run", "net", "trc", "o", "--limit", "05"]),
-            usage(&["run", "net", "trc", "o", "--limit"]),
-            usage(&["run", "net", "trc", "o", "--limit", "5", "--limit", "5"]),
-            usage(&["run", "net", "", "o"]),
-            usage(&["check"]),
-            usage(&["check", ""]),
-            usage(&["check", "net", "trc"]),
-            usage(&["compile", "net"]),
-            usage(&["compile", "net", ""]),
-            usage(&["compile", "net", "o", "--limit", "5"]),
-            usage(&["replay", "net", "trc"]),
-            usage(&["replay", "net", "", "jnl"]),
-            usage(&["replay", "net", "trc", "jnl", "o"]),
-            usage(&["migrate", "net", "trc", "jnl"]),
-            usage(&["migrate", "net", "trc", "jnl", ""]),
-        ],
-    )
+    for (number, words) in NO_REQUESTS.iter().enumerate() {
+        try_case(&rt, rt.alloc(), &Case { words, ..USAGE }, number)?;
+    }
+    Ok(())
 }
+
+// A byte that begins no token.
+const NO_TOKEN: &[u8] = b"network %";
+
+// Calls over a lamp and one press in which a call of the host fails.
+const FAULTS: &[Case<'_>] = &[
+    Case {
+        words: &["run", "net", "trc"],
+        fails: &[1],
+        ..USAGE
+    },
+    Case {
+        fails: &[0],
+        shown: "read fault net\n",
+        ..UNREAD
+    },
+    Case {
+        fails: &[1],
+        shown: "read fault trc\n",
+        ..UNREAD
+    },
+    Case {
+        fails: &[2],
+        shown: "write fault o.out\n",
+        ..UNWRITTEN
+    },
+    Case {
+        fails: &[3],
+        shown: "write fault o.jnl\n",
+        outputs: Some("light\n"),
+        ..UNWRITTEN
+    },
+    Case {
+        fails: &[4],
+        shown: "write fault o.lst\n",
+        outputs: Some("light\n"),
+        journal: Some(PRESSED),
+        ..UNWRITTEN
+    },
+    Case {
+        fails: &[5],
+        outputs: Some("light\n"),
+        journal: Some(PRESSED),
+        listing: Some(LAMP_LISTING),
+        ..UNWRITTEN
+    },
+    Case {
+        fails: &[2, 3],
+        write_faults: 2,
+        ..UNWRITTEN
+    },
+    Case {
+        torn: Some((3, 10)),
+        shown: "write fault o.jnl\n",
+        outputs: Some("light\n"),
+        journal: Some("polis jour"),
+        ..UNWRITTEN
+    },
+    Case {
+        fails: &[6],
+        ..PRESS
+    },
+    Case {
+        net: Some(NO_TOKEN),
+        fails: &[1],
+        write_faults: 1,
+        ..REFUSED
+    },
+    Case {
+        words: CHECK,
+        fails: &[1],
+        ..UNWRITTEN
+    },
+    Case {
+        words: COMPILE,
+        fails: &[0],
+        shown: "read fault net\n",
+        ..UNREAD
+    },
+    Case {
+        words: COMPILE,
+        fails: &[1],
+        shown: "write fault o.lst\n",
+        ..UNWRITTEN
+    },
+    Case {
+        words: COMPILE,
+        fails: &[2],
+        listing: Some(LAMP_LISTING),
+        ..UNWRITTEN
+    },
+];
 
 #[test]
 fn tells_of_faults(rt: HostRuntime) -> Result<(), Fail> {
-    let second_save = Case {
-        outputs: Some("light\n"),
-        ..write_fault(&[3], "write fault o.jnl\n")
-    };
-    let third_save = Case {
-        outputs: Some("light\n"),
-        journal: Some(PRESSED),
-        ..write_fault(&[4], "write fault o.lst\n")
-    };
-    let summary = Case {
-        outputs: Some("light\n"),
-        journal: Some(PRESSED),
-        listing: Some(LAMP_LISTING),
-        ..write_fault(&[5], "")
-    };
-    let torn = Case {
-        torn: Some((3, 10)),
-        outputs: Some("light\n"),
-        journal: Some("polis jour"),
-        write_faults: 1,
-        ..write_fault(&[], "write fault o.jnl\n")
-    };
-    try_cases(
-        &rt,
-        rt.alloc(),
-        &[
-            read_fault(&[0], "read fault net\n"),
-            read_fault(&[1], "read fault trc\n"),
-            write_fault(&[2], "write fault o.out\n"),
-            second_save,
-            third_save,
-            summary,
-            write_fault(&[2, 3], ""),
-            torn,
-            Case {
-                fails: &[6],
-                ..PRESS
-            },
-        ],
-    )
+    try_cases(&rt, rt.alloc(), FAULTS)
 }
 
-#[test]
-fn tells_of_faults_over_one_file(rt: HostRuntime) -> Result<(), Fail> {
-    let refused_line = Case {
-        net: Some("network %".as_bytes()),
-        status: Status::Refused,
-        ..write_fault(&[1], "")
-    };
-    let finding = Case {
+const ABSENT: &[Case<'_>] = &[
+    Case {
+        net: None,
+        shown: "refused net absent\n",
+        ..REFUSED
+    },
+    Case {
+        trace: None,
+        shown: "refused trc absent\n",
+        ..REFUSED
+    },
+    Case {
         words: CHECK,
-        ..write_fault(&[1], "")
-    };
-    let unread = Case {
+        net: None,
+        shown: "refused net absent\n",
+        ..REFUSED
+    },
+    Case {
         words: COMPILE,
-        ..read_fault(&[0], "read fault net\n")
-    };
-    let unsaved = Case {
-        words: COMPILE,
-        ..write_fault(&[1], "write fault o.lst\n")
-    };
-    let unshown = Case {
-        words: COMPILE,
-        listing: Some(LAMP_LISTING),
-        ..write_fault(&[2], "")
-    };
-    try_cases(
-        &rt,
-        rt.alloc(),
-        &[refused_line, finding, unread, unsaved, unshown],
-    )
-}
+        net: None,
+        shown: "refused net absent\n",
+        ..REFUSED
+    },
+];
 
 #[test]
 fn refuses_absent_files(rt: HostRuntime) -> Result<(), Fail> {
-    let no_net = Case {
-        net: None,
-        ..refusal(RUN, "refused net absent\n")
-    };
-    let no_trace = Case {
-        trace: None,
-        ..refusal(RUN, "refused trc absent\n")
-    };
-    let unchecked = Case {
-        net: None,
-        ..refusal(CHECK, "refused net absent\n")
-    };
-    let uncompiled = Case {
-        net: None,
-        ..refusal(COMPILE, "refused net absent\n")
-    };
-    try_cases(&rt, rt.alloc(), &[no_net, no_trace, unchecked, uncompiled])
+    try_cases(&rt, rt.alloc(), ABSENT)
 }
 
 // A call on the lamp and one press, its network text padded to so many bytes.

@@ -1,13 +1,12 @@
 // The calls that do the program's work.
-ghost use Rattle.std.specs.Prelude.{◌≡◌, IfOk, IfErr};
+ghost use Rattle.std.specs.Prelude.{◌≡◌, IfOk, IfErr, IsTrue};
 ghost use Rattle.polis_base.specs.Host.{WhereTold};
-ghost use Rattle.polis_words.specs.declared.status.Status.{Status};
 ghost use Rattle.polis_words.specs.Run.{NeedsWorkers};
-ghost use Rattle.polis_cli.specs.Commands.{Makes, Fails, IsSerial};
+ghost use Rattle.polis_cli.specs.Commands.{Makes, Fails, MayFail, IsSerial, ends_done, ends_with};
 ghost use Rattle.polis_cli.specs.Left.{LeftByLoads, fails_unread};
 ghost use Rattle.polis_cli.specs.Writing.{IsWell};
 ghost use Rattle.polis_cli.specs.Promise.{Answers, Leaves, told};
-ghost use Rattle.polis_cli.specs.Demos.{FailsDemo, MakesDemo, OfDemo};
+ghost use Rattle.polis_cli.specs.Demos.{FailsDemo, MakesDemo};
 
 use crate::check::make_check;
 use crate::compile::make_compile;
@@ -30,6 +29,7 @@ use std::thread::Threads;
 fn demo_or_failure<'a>(alloc: Global, demo: &'a Demo) -> Result<Product, Failure<'a>>
     ensures made { IfOk result (λ product. MakesDemo demo.now product) }
     ensures well { IfOk result (λ product. IsWell product) }
+    ensures ends { IfOk result (λ product. IsTrue (ends_done product.status)) }
     ensures failed { IfErr result (λ failure. FailsDemo failure.cause) }
 {
     match make_demo(alloc, demo) {
@@ -52,8 +52,8 @@ fn make<'a, H: Host>(
         WhereTold (H.files host.old) (λ files.
         Fails request.now files failure.name.now failure.cause)) }
     ensures left { LeftByLoads ⟦<H as Host>⟧ (fails_unread result) host.old host.new }
-    ensures demo { IfOk result (λ product. OfDemo request.now (product.status ≡ Status.Done)) }
-    ensures no_demo { IfErr result (λ failure. OfDemo request.now (FailsDemo failure.cause)) }
+    ensures ends { IfOk result (λ product. IsTrue (ends_with request.now product.status)) }
+    ensures fails { IfErr result (λ failure. MayFail request.now failure.cause) }
 {
     match request {
         Request::Run(run) => make_run(alloc, host, run),
@@ -80,8 +80,8 @@ fn make_by<'a, T: Threads + Wait + Sync, H: Host, G: Gate + Sync>(
         WhereTold (H.files host.old) (λ files.
         Fails request.now files failure.name.now failure.cause)) }
     ensures left { LeftByLoads ⟦<H as Host>⟧ (fails_unread result) host.old host.new }
-    ensures demo { IfOk result (λ product. OfDemo request.now (product.status ≡ Status.Done)) }
-    ensures no_demo { IfErr result (λ failure. OfDemo request.now (FailsDemo failure.cause)) }
+    ensures ends { IfOk result (λ product. IsTrue (ends_with request.now product.status)) }
+    ensures fails { IfErr result (λ failure. MayFail request.now failure.cause) }
 {
     match request {
         Request::Run(run) => make_run_by(rt, alloc, host, run, gate),

@@ -1,6 +1,5 @@
 // Network texts that `check` refuses, and what it names. The places were counted by hand.
-use crate::tests::{CHECK, Case, Repeated, line_of, refusal, text_of, try_case};
-use polis_words::Status;
+use crate::tests::{CHECK, Case, DONE, Repeated, line_of, refused, text_of, try_case};
 use std::alloc::Global;
 use std::process::Abort;
 use std::sync::Wait;
@@ -428,7 +427,7 @@ fn try_fault<T: Abort + Threads + Wait + Sync>(
     let shown = line_of(alloc, "refused net ", fault)?;
     let case = Case {
         net: Some(net),
-        ..refusal(CHECK, shown.as_str())
+        ..refused(CHECK, shown.as_str())
     };
     try_case(rt, alloc, &case, number)
 }
@@ -467,12 +466,10 @@ fn names_the_first_declaration_beyond(rt: HostRuntime) -> Result<(), Fail> {
 fn accepts_rows_that_agree(rt: HostRuntime) -> Result<(), Fail> {
     for (number, net) in ACCEPTED.iter().enumerate() {
         let case = Case {
+            words: CHECK,
             net: Some(net.as_bytes()),
-            status: Status::Done,
-            ..refusal(
-                CHECK,
-                "accepted machines 1 events 3\nmachine m snapshots 4 rows 2\n",
-            )
+            shown: "accepted machines 1 events 3\nmachine m snapshots 4 rows 2\n",
+            ..DONE
         };
         try_case(&rt, rt.alloc(), &case, number)?;
     }

@@ -1,16 +1,8 @@
 // Journal texts that `replay` refuses, and journals that `migrate` prints as they are read.
 use crate::tests::networks::{ECHO, JOIN, LAMP, VALUE};
-use crate::tests::{Case, Repeated, line_of, refusal, text_of, try_case};
+use crate::tests::{Case, DONE, MIGRATE, REPLAY, Repeated, line_of, refused, text_of, try_case};
 use polis_words::Status;
-use std::alloc::Global;
-use std::process::Abort;
-use std::sync::Wait;
 use std::test::Fail;
-use std::thread::Threads;
-
-const REPLAY: &[&str] = &["replay", "net", "trc", "jnl"];
-
-const MIGRATE: &[&str] = &["migrate", "net", "trc", "jnl", "o"];
 
 // Events with the values of greatest words.
 const GREATEST: &[u8] = b"network t version 1
@@ -121,7 +113,7 @@ fn names_the_first_line_at_fault(rt: HostRuntime) -> Result<(), Fail> {
             net: Some(net),
             trace: Some(""),
             read_journal: Some(journal),
-            ..refusal(REPLAY, shown.as_str())
+            ..refused(REPLAY, shown.as_str())
         };
         try_case(&rt, rt.alloc(), &case, number)?;
     }
@@ -182,12 +174,13 @@ end 1 limit
 fn prints_journals_back(rt: HostRuntime) -> Result<(), Fail> {
     for (number, (net, trace, journal, shown)) in PRINTED.iter().enumerate() {
         let case = Case {
+            words: MIGRATE,
             net: Some(net),
             trace: Some(trace),
             read_journal: Some(journal),
             journal: Some(journal),
-            status: Status::Done,
-            ..refusal(MIGRATE, shown)
+            shown,
+            ..DONE
         };
         try_case(&rt, rt.alloc(), &case, number)?;
     }
@@ -211,64 +204,61 @@ const LEAST: &str = "polis journal 2
 end 4 complete
 ";
 
+const GREATEST_STAMP: Case<'static> = Case {
+    words: MIGRATE,
+    net: Some(JOIN),
+    trace: Some("a\nsettle\nb\n"),
+    read_journal: Some(HIGH),
+    journal: Some(LEAST),
+    shown: "migrated 4\n",
+    ..DONE
+};
+
 #[test]
 fn reads_the_greatest_stamp(rt: HostRuntime) -> Result<(), Fail> {
-    let case = Case {
-        net: Some(JOIN),
-        trace: Some("a\nsettle\nb\n"),
-        read_journal: Some(HIGH),
-        journal: Some(LEAST),
-        status: Status::Done,
-        ..refusal(MIGRATE, "migrated 4\n")
-    };
-    try_case(&rt, rt.alloc(), &case, 0)
+    try_case(&rt, rt.alloc(), &GREATEST_STAMP, 0)
 }
 
-// A replay of a journal of the join where the environment sends a.
+// 60,000 deliveries to the join, where the environment sends one, and what stands after them.
+const MANY: &[(Repeated<'_>, Status, &str)] = &[
+    (
+        Repeated {
+            begin: "polis journal 1\n",
+            part: "dep env m a\n",
+            count: 60_000,
+            end: "dep env m zz\n",
+        },
+        Status::Refused,
+        "refused jnl line 60002 many\n",
+    ),
+    (
+        Repeated {
+            begin: "polis journal 1\n",
+            part: "dep env m a\n",
+            count: 60_000,
+            end: "end 60000 limit\n",
+        },
+        Status::Illegal,
+        "illegal 1\n",
+    ),
+];
+
 fn judged<'a>(journal: &'a str, status: Status, shown: &'a str) -> Case<'a> {
     Case {
         net: Some(JOIN),
         trace: Some("a\n"),
         read_journal: Some(journal),
         status,
-        ..refusal(REPLAY, shown)
+        ..refused(REPLAY, shown)
     }
-}
-
-// A replay of a journal of 60,000 deliveries, and these lines.
-fn try_many<T: Abort + Threads + Wait + Sync>(
-    rt: &T,
-    alloc: Global,
-    last: &str,
-    status: Status,
-    shown: &str,
-) -> Result<(), Fail> {
-    let many = Repeated {
-        begin: "polis journal 1\n",
-        part: "dep env m a\n",
-        count: 60_000,
-        end: last,
-    };
-    let text = text_of(alloc, &many)?;
-    let case = judged(text.as_str(), status, shown);
-    try_case(rt, alloc, &case, 0)
 }
 
 #[test]
 fn takes_sixty_thousand_entries(rt: HostRuntime) -> Result<(), Fail> {
-    let alloc = rt.alloc();
-    try_many(
-        &rt,
-        alloc,
-        "dep env m zz\n",
-        Status::Refused,
-        "refused jnl line 60002 many\n",
-    )?;
-    try_many(
-        &rt,
-        alloc,
-        "end 60000 limit\n",
-        Status::Illegal,
-        "illegal 1\n",
-    )
+    for (number, (many, status, shown)) in MANY.iter().enumerate() {
+        let text = text_of(rt.alloc(), many)?;
+        let case = judged(text.as_str(), *status, shown);
+        try_case(&rt, rt.alloc(), &case, number)?;
+    }
+    Ok(())
 }

@@ -3,8 +3,7 @@
 // A size is the sum over the places of the order. At each place, fix what stands before it in every
 // possible way: of the different functions that are left, those count that change with what
 // stands at the place. So a result counts where it has one code, and a variable of one code never.
-use crate::tests::{COMPILE, Case, refusal, try_case};
-use polis_words::Status;
+use crate::tests::{COMPILE, Case, DONE, try_case};
 use std::test::Fail;
 
 // No row: each result has one code, so 1 + 1, and nothing depends on the input.
@@ -246,10 +245,11 @@ const COMPILED: &[(&[u8], &str, &str)] = &[
 fn orders_and_sizes_are_those_worked_out(rt: HostRuntime) -> Result<(), Fail> {
     for (number, (net, listing, shown)) in COMPILED.iter().enumerate() {
         let case = Case {
+            words: COMPILE,
             net: Some(net),
             listing: Some(listing),
-            status: Status::Done,
-            ..refusal(COMPILE, shown)
+            shown,
+            ..DONE
         };
         try_case(&rt, rt.alloc(), &case, number)?;
     }

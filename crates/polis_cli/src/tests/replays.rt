@@ -1,23 +1,8 @@
 // Whole calls that judge journals, over files in memory, as tables.
 use crate::tests::networks::{JOIN, TWO};
-use crate::tests::{Case, PRESS, try_cases};
-use polis_base::NoMemory;
+use crate::tests::{Case, DONE, MIGRATE, REPLAY, UNREAD, UNWRITTEN, try_cases};
 use polis_words::Status;
-use std::alloc::Global;
-use std::process::Abort;
-use std::sync::Wait;
 use std::test::Fail;
-use std::thread::Threads;
-
-const REPLAY: &[&str] = &["replay", "net", "trc", "jnl"];
-
-const MIGRATE: &[&str] = &["migrate", "net", "trc", "jnl", "o"];
-
-const A: &str = "dep env m a\n";
-
-const B: &str = "dep env m b\n";
-
-const C: &str = "fire m : a b ; - -> - ; c\n";
 
 // The journal of a join's run on the trace `a`, `a`, `b`, in both versions.
 const JOINED: &str = "polis journal 1
@@ -36,321 +21,356 @@ const JOINED_2: &str = "polis journal 2
 end 4 complete
 ";
 
-// A call on a join and a journal of its run on the trace `a`, `a`, `b`, that saves nothing.
-fn judged<'a>(words: &'a [&'a str], journal: &'a str, status: Status, shown: &'a str) -> Case<'a> {
+// What isn't legal at its first entry.
+const UNSENT: &str = "polis journal 1\ndep env m b\nend 1 limit\n";
+
+// A replay on a join and the trace `a`, `a`, `b`.
+const JUDGED: Case<'static> = Case {
+    words: REPLAY,
+    net: Some(JOIN),
+    trace: Some("a\na\nb\n"),
+    ..DONE
+};
+
+const LEGAL: &[Case<'_>] = &[
     Case {
-        words,
-        net: Some(JOIN),
-        trace: Some("a\na\nb\n"),
-        read_journal: Some(journal),
-        status,
-        shown,
-        outputs: None,
-        journal: None,
-        listing: None,
-        ..PRESS
-    }
-}
-
-// The same call, where a call of the host fails.
-fn failing<'a>(fails: &'a [u64], load_faults: u64, write_faults: u64, case: Case<'a>) -> Case<'a> {
+        read_journal: Some(JOINED),
+        shown: "legal 4 complete\n",
+        ..JUDGED
+    },
     Case {
-        fails,
-        load_faults,
-        write_faults,
-        ..case
-    }
-}
-
-// A journal of these lines in version 1.
-fn lines_of(alloc: Global, lines: &[&str], last: &str) -> Result<String, NoMemory> {
-    let mut text = String::from_str(alloc, "polis journal 1\n")?;
-    for line in lines {
-        text.push_str(line)?;
-    }
-    text.push_str(last)?;
-    Ok(text)
-}
-
-// An altered journal: its lines, its last line, and what is shown with which status.
-#[derive(Clone, Copy)]
-struct Altered<'a> {
-    lines: &'a [&'a str],
-    last: &'a str,
-    status: Status,
-    shown: &'a str,
-}
-
-fn row<'a>(lines: &'a [&'a str], last: &'a str, status: Status, shown: &'a str) -> Altered<'a> {
-    Altered {
-        lines,
-        last,
-        status,
-        shown,
-    }
-}
-
-fn try_altered<T: Abort + Threads + Wait + Sync>(
-    rt: &T,
-    alloc: Global,
-    table: &[Altered<'_>],
-) -> Result<(), Fail> {
-    for altered in table {
-        let journal = lines_of(alloc, altered.lines, altered.last)?;
-        let case = judged(REPLAY, journal.as_str(), altered.status, altered.shown);
-        try_cases(rt, alloc, &[case])?;
-    }
-    Ok(())
-}
+        read_journal: Some(
+            "polis journal 1\ndep env m a\ndep env m a\ndep env m b\nfire m : a b ; - -> - ; c\nend 4 limit\n",
+        ),
+        shown: "legal 4 complete\n",
+        ..JUDGED
+    },
+    Case {
+        read_journal: Some("polis journal 1\ndep env m a\nend 1 limit\n"),
+        shown: "legal 1 open\n",
+        ..JUDGED
+    },
+    Case {
+        read_journal: Some(
+            "polis journal 1\ndep env m a\ndep env m a\ndep env m b\nend 3 complete\n",
+        ),
+        shown: "legal 3 open\n",
+        ..JUDGED
+    },
+];
 
 #[test]
 fn judges_journals(rt: HostRuntime) -> Result<(), Fail> {
-    try_altered(
-        &rt,
-        rt.alloc(),
-        &[
-            row(
-                &[A, A, B, C],
-                "end 4 complete\n",
-                Status::Done,
-                "legal 4 complete\n",
-            ),
-            row(
-                &[A, A, B, C],
-                "end 4 limit\n",
-                Status::Done,
-                "legal 4 complete\n",
-            ),
-            row(&[A], "end 1 limit\n", Status::Done, "legal 1 open\n"),
-            row(
-                &[A, A, B],
-                "end 3 complete\n",
-                Status::Done,
-                "legal 3 open\n",
-            ),
-        ],
-    )
+    try_cases(&rt, rt.alloc(), LEGAL)
 }
+
+const ILLEGAL: Case<'static> = Case {
+    status: Status::Illegal,
+    ..JUDGED
+};
+
+// Journals that aren't legal: an entry twice, too early, left out or out of order, a reaction with
+// another outcome or snapshot, one without a delivery, and a delivery that nobody sent.
+const WRONG: &[Case<'_>] = &[
+    Case {
+        read_journal: Some(
+            "polis journal 1\ndep env m a\ndep env m a\ndep env m a\ndep env m b\nfire m : a b ; - -> - ; c\nend 5 complete\n",
+        ),
+        shown: "illegal 2\n",
+        ..ILLEGAL
+    },
+    Case {
+        read_journal: Some(
+            "polis journal 1\ndep env m a\ndep env m a\nfire m : a b ; - -> - ; c\ndep env m b\nend 4 complete\n",
+        ),
+        shown: "illegal 2\n",
+        ..ILLEGAL
+    },
+    Case {
+        read_journal: Some(
+            "polis journal 1\ndep env m a\ndep env m b\nfire m : a b ; - -> - ; c\nend 3 complete\n",
+        ),
+        shown: "illegal 1\n",
+        ..ILLEGAL
+    },
+    Case {
+        read_journal: Some(
+            "polis journal 1\ndep env m a\ndep env m a\nfire m : a b ; - -> - ; c\nend 3 complete\n",
+        ),
+        shown: "illegal 2\n",
+        ..ILLEGAL
+    },
+    Case {
+        read_journal: Some(
+            "polis journal 1\ndep env m a\ndep env m b\ndep env m a\nfire m : a b ; - -> - ; c\nend 4 complete\n",
+        ),
+        shown: "illegal 1\n",
+        ..ILLEGAL
+    },
+    Case {
+        read_journal: Some(
+            "polis journal 1\ndep env m a\ndep env m a\ndep env m b\nfire m : a b ; - -> - ; -\nend 4 complete\n",
+        ),
+        shown: "illegal 3\n",
+        ..ILLEGAL
+    },
+    Case {
+        read_journal: Some(
+            "polis journal 1\ndep env m a\ndep env m a\ndep env m b\nidle m : a b ; -\nend 4 complete\n",
+        ),
+        shown: "illegal 3\n",
+        ..ILLEGAL
+    },
+    Case {
+        read_journal: Some(
+            "polis journal 1\ndep env m a\ndep env m a\ndep env m b\nfire m : a ; - -> - ; c\nend 4 complete\n",
+        ),
+        shown: "illegal 3\n",
+        ..ILLEGAL
+    },
+    Case {
+        read_journal: Some(
+            "polis journal 1\ndep env m a\ndep env m a\ndep env m b\nfire m : a b ; - -> - ; c\nfire m : a b ; - -> - ; c\nend 5 complete\n",
+        ),
+        shown: "illegal 4\n",
+        ..ILLEGAL
+    },
+    Case {
+        read_journal: Some(
+            "polis journal 1\ndep m m a\ndep env m a\ndep env m b\nfire m : a b ; - -> - ; c\nend 4 complete\n",
+        ),
+        shown: "illegal 0\n",
+        ..ILLEGAL
+    },
+];
 
 #[test]
 fn finds_the_first_illegal_entry(rt: HostRuntime) -> Result<(), Fail> {
-    let illegal = Status::Illegal;
-    try_altered(
-        &rt,
-        rt.alloc(),
-        &[
-            row(&[A, A, A, B, C], "end 5 complete\n", illegal, "illegal 2\n"),
-            row(&[A, A, C, B], "end 4 complete\n", illegal, "illegal 2\n"),
-            row(&[A, B, C], "end 3 complete\n", illegal, "illegal 1\n"),
-            row(&[A, A, C], "end 3 complete\n", illegal, "illegal 2\n"),
-            row(&[A, B, A, C], "end 4 complete\n", illegal, "illegal 1\n"),
-            row(
-                &[A, A, B, "fire m : a b ; - -> - ; -\n"],
-                "end 4 complete\n",
-                illegal,
-                "illegal 3\n",
-            ),
-            row(
-                &[A, A, B, "idle m : a b ; -\n"],
-                "end 4 complete\n",
-                illegal,
-                "illegal 3\n",
-            ),
-            row(
-                &[A, A, B, "fire m : a ; - -> - ; c\n"],
-                "end 4 complete\n",
-                illegal,
-                "illegal 3\n",
-            ),
-            row(&[A, A, B, C, C], "end 5 complete\n", illegal, "illegal 4\n"),
-            row(
-                &["dep m m a\n", A, B, C],
-                "end 4 complete\n",
-                illegal,
-                "illegal 0\n",
-            ),
-        ],
-    )
+    try_cases(&rt, rt.alloc(), WRONG)
 }
 
-#[test]
-fn refuses_journals(rt: HostRuntime) -> Result<(), Fail> {
-    let refused = Status::Refused;
-    try_altered(
-        &rt,
-        rt.alloc(),
-        &[
-            row(&[A, A, B, C], "", refused, "refused jnl line 6 end\n"),
-            row(
-                &[A, A, B, C],
-                "end 5 complete\n",
-                refused,
-                "refused jnl line 6 count\n",
-            ),
-            row(
-                &[A, A, B, C],
-                "end 04 complete\n",
-                refused,
-                "refused jnl line 6 shape\n",
-            ),
-            row(
-                &[A, A, B, C],
-                "end 4 complete\nx\n",
-                refused,
-                "refused jnl line 7 after\n",
-            ),
-        ],
-    )
-}
+const UNREADABLE: Case<'static> = Case {
+    status: Status::Refused,
+    ..JUDGED
+};
 
-#[test]
-fn refuses_wrong_items(rt: HostRuntime) -> Result<(), Fail> {
-    let refused = Status::Refused;
-    try_altered(
-        &rt,
-        rt.alloc(),
-        &[
-            row(
-                &["dep env m zz\n", A, B, C],
-                "end 4 complete\n",
-                refused,
-                "refused jnl line 2 name\n",
-            ),
-            row(
-                &["dep env m a=1\n", A, B, C],
-                "end 4 complete\n",
-                refused,
-                "refused jnl line 2 value\n",
-            ),
-            row(
-                &[A, A, B, "fire m : b a ; - -> - ; c\n"],
-                "end 4 complete\n",
-                refused,
-                "refused jnl line 5 name\n",
-            ),
-        ],
-    )
-}
+// Journals that don't read, and files that aren't there.
+const NO_JOURNALS: &[Case<'_>] = &[
+    Case {
+        read_journal: Some(
+            "polis journal 1\ndep env m a\ndep env m a\ndep env m b\nfire m : a b ; - -> - ; c\n",
+        ),
+        shown: "refused jnl line 6 end\n",
+        ..UNREADABLE
+    },
+    Case {
+        read_journal: Some(
+            "polis journal 1\ndep env m a\ndep env m a\ndep env m b\nfire m : a b ; - -> - ; c\nend 5 complete\n",
+        ),
+        shown: "refused jnl line 6 count\n",
+        ..UNREADABLE
+    },
+    Case {
+        read_journal: Some(
+            "polis journal 1\ndep env m a\ndep env m a\ndep env m b\nfire m : a b ; - -> - ; c\nend 04 complete\n",
+        ),
+        shown: "refused jnl line 6 shape\n",
+        ..UNREADABLE
+    },
+    Case {
+        read_journal: Some(
+            "polis journal 1\ndep env m a\ndep env m a\ndep env m b\nfire m : a b ; - -> - ; c\nend 4 complete\nx\n",
+        ),
+        shown: "refused jnl line 7 after\n",
+        ..UNREADABLE
+    },
+    Case {
+        read_journal: Some(
+            "polis journal 1\ndep env m zz\ndep env m a\ndep env m b\nfire m : a b ; - -> - ; c\nend 4 complete\n",
+        ),
+        shown: "refused jnl line 2 name\n",
+        ..UNREADABLE
+    },
+    Case {
+        read_journal: Some(
+            "polis journal 1\ndep env m a=1\ndep env m a\ndep env m b\nfire m : a b ; - -> - ; c\nend 4 complete\n",
+        ),
+        shown: "refused jnl line 2 value\n",
+        ..UNREADABLE
+    },
+    Case {
+        read_journal: Some(
+            "polis journal 1\ndep env m a\ndep env m a\ndep env m b\nfire m : b a ; - -> - ; c\nend 4 complete\n",
+        ),
+        shown: "refused jnl line 5 name\n",
+        ..UNREADABLE
+    },
+    Case {
+        read_journal: Some("polis journal 3\n"),
+        shown: "refused jnl line 1 header\n",
+        ..UNREADABLE
+    },
+    Case {
+        shown: "refused jnl absent\n",
+        ..UNREADABLE
+    },
+    Case {
+        words: MIGRATE,
+        trace: None,
+        read_journal: Some(JOINED),
+        shown: "refused trc absent\n",
+        ..UNREADABLE
+    },
+];
 
 #[test]
 fn refuses_what_is_no_journal(rt: HostRuntime) -> Result<(), Fail> {
-    let refused = Status::Refused;
-    let header = judged(
-        REPLAY,
-        "polis journal 3\n",
-        refused,
-        "refused jnl line 1 header\n",
-    );
-    let absent = Case {
-        read_journal: None,
-        ..judged(REPLAY, "", refused, "refused jnl absent\n")
-    };
-    let no_trace = Case {
-        trace: None,
-        ..judged(MIGRATE, JOINED, refused, "refused trc absent\n")
-    };
-    try_cases(&rt, rt.alloc(), &[header, absent, no_trace])
+    try_cases(&rt, rt.alloc(), NO_JOURNALS)
 }
 
-// A journal of two machines that read one event, with the stamps of its first and last entry.
-fn two_with(alloc: Global, first: &str, last: &str) -> Result<String, NoMemory> {
-    let mut text = String::from_str(alloc, "polis journal 2\n")?;
-    text.push_str(first)?;
-    text.push_str(" dep env a x\n@1 dep env b x\n@2 fire b : x ; - -> - ; yb\n")?;
-    text.push_str(last)?;
-    text.push_str(" fire a : x ; - -> - ; ya\nend 4 complete\n")?;
-    Ok(text)
-}
+// A replay on two machines that read one event.
+const OF_TWO: Case<'static> = Case {
+    words: REPLAY,
+    net: Some(TWO),
+    trace: Some("x\n"),
+    ..DONE
+};
 
-fn try_stamps<T: Abort + Threads + Wait + Sync>(
-    rt: &T,
-    alloc: Global,
-    stamps: (&str, &str),
-    status: Status,
-    shown: &str,
-) -> Result<(), Fail> {
-    let journal = two_with(alloc, stamps.0, stamps.1)?;
-    let case = Case {
-        net: Some(TWO),
-        trace: Some("x\n"),
-        ..judged(REPLAY, journal.as_str(), status, shown)
-    };
-    try_cases(rt, alloc, &[case])
-}
+// Stamps that rise and stamps that don't, and what is no stamp.
+const STAMPED: &[Case<'_>] = &[
+    Case {
+        read_journal: Some(
+            "polis journal 2\n@1 dep env a x\n@1 dep env b x\n@2 fire b : x ; - -> - ; yb\n@2 fire a : x ; - -> - ; ya\nend 4 complete\n",
+        ),
+        shown: "legal 4 complete\n",
+        ..OF_TWO
+    },
+    Case {
+        read_journal: Some(
+            "polis journal 2\n@1 dep env a x\n@1 dep env b x\n@2 fire b : x ; - -> - ; yb\n@9 fire a : x ; - -> - ; ya\nend 4 complete\n",
+        ),
+        shown: "legal 4 complete\n",
+        ..OF_TWO
+    },
+    Case {
+        status: Status::Illegal,
+        read_journal: Some(
+            "polis journal 2\n@1 dep env a x\n@1 dep env b x\n@2 fire b : x ; - -> - ; yb\n@1 fire a : x ; - -> - ; ya\nend 4 complete\n",
+        ),
+        shown: "illegal 3\n",
+        ..OF_TWO
+    },
+    Case {
+        status: Status::Refused,
+        read_journal: Some(
+            "polis journal 2\n@0 dep env a x\n@1 dep env b x\n@2 fire b : x ; - -> - ; yb\n@2 fire a : x ; - -> - ; ya\nend 4 complete\n",
+        ),
+        shown: "refused jnl line 2 stamp\n",
+        ..OF_TWO
+    },
+    Case {
+        status: Status::Refused,
+        read_journal: Some(
+            "polis journal 2\n@01 dep env a x\n@1 dep env b x\n@2 fire b : x ; - -> - ; yb\n@2 fire a : x ; - -> - ; ya\nend 4 complete\n",
+        ),
+        shown: "refused jnl line 2 shape\n",
+        ..OF_TWO
+    },
+];
 
 #[test]
 fn judges_stamps(rt: HostRuntime) -> Result<(), Fail> {
-    let alloc = rt.alloc();
-    let refused = Status::Refused;
-    try_stamps(&rt, alloc, ("@1", "@2"), Status::Done, "legal 4 complete\n")?;
-    try_stamps(&rt, alloc, ("@1", "@9"), Status::Done, "legal 4 complete\n")?;
-    try_stamps(&rt, alloc, ("@1", "@1"), Status::Illegal, "illegal 3\n")?;
-    try_stamps(
-        &rt,
-        alloc,
-        ("@0", "@2"),
-        refused,
-        "refused jnl line 2 stamp\n",
-    )?;
-    try_stamps(
-        &rt,
-        alloc,
-        ("@01", "@2"),
-        refused,
-        "refused jnl line 2 shape\n",
-    )
+    try_cases(&rt, rt.alloc(), STAMPED)
 }
+
+const MIGRATED: &[Case<'_>] = &[
+    Case {
+        words: MIGRATE,
+        read_journal: Some(JOINED),
+        shown: "migrated 4\n",
+        journal: Some(JOINED_2),
+        ..JUDGED
+    },
+    Case {
+        words: MIGRATE,
+        read_journal: Some("polis journal 2\n@7 dep env m a\nend 1 complete\n"),
+        shown: "migrated 1\n",
+        journal: Some("polis journal 2\n@1 dep env m a\nend 1 limit\n"),
+        ..JUDGED
+    },
+    Case {
+        words: MIGRATE,
+        read_journal: Some(UNSENT),
+        shown: "illegal 0\n",
+        ..ILLEGAL
+    },
+];
 
 #[test]
 fn migrates_journals(rt: HostRuntime) -> Result<(), Fail> {
-    let saved = Case {
-        journal: Some(JOINED_2),
-        ..judged(MIGRATE, JOINED, Status::Done, "migrated 4\n")
-    };
-    let open = Case {
-        journal: Some("polis journal 2\n@1 dep env m a\nend 1 limit\n"),
-        ..judged(
-            MIGRATE,
-            "polis journal 2\n@7 dep env m a\nend 1 complete\n",
-            Status::Done,
-            "migrated 1\n",
-        )
-    };
-    let illegal = judged(
-        MIGRATE,
-        "polis journal 1\ndep env m b\nend 1 limit\n",
-        Status::Illegal,
-        "illegal 0\n",
-    );
-    try_cases(&rt, rt.alloc(), &[saved, open, illegal])
+    try_cases(&rt, rt.alloc(), MIGRATED)
 }
+
+// Calls on a join in which a call of the host fails.
+const FAULTS: &[Case<'_>] = &[
+    Case {
+        words: REPLAY,
+        read_journal: Some(JOINED),
+        fails: &[0],
+        shown: "read fault net\n",
+        ..UNREAD
+    },
+    Case {
+        words: REPLAY,
+        read_journal: Some(JOINED),
+        fails: &[1],
+        shown: "read fault trc\n",
+        ..UNREAD
+    },
+    Case {
+        read_journal: Some(JOINED),
+        fails: &[2],
+        status: Status::ReadFault,
+        load_faults: 1,
+        shown: "read fault jnl\n",
+        ..JUDGED
+    },
+    Case {
+        read_journal: Some(JOINED),
+        fails: &[3],
+        status: Status::WriteFault,
+        write_faults: 1,
+        shown: "",
+        ..JUDGED
+    },
+    Case {
+        read_journal: Some(UNSENT),
+        fails: &[3],
+        write_faults: 1,
+        shown: "",
+        ..ILLEGAL
+    },
+    Case {
+        words: MIGRATE,
+        net: Some(JOIN),
+        trace: Some("a\na\nb\n"),
+        read_journal: Some(JOINED),
+        fails: &[3],
+        shown: "write fault o.jnl\n",
+        ..UNWRITTEN
+    },
+    Case {
+        words: MIGRATE,
+        net: Some(JOIN),
+        trace: Some("a\na\nb\n"),
+        read_journal: Some(JOINED),
+        journal: Some(JOINED_2),
+        fails: &[4],
+        ..UNWRITTEN
+    },
+];
 
 #[test]
 fn tells_of_faults_over_journals(rt: HostRuntime) -> Result<(), Fail> {
-    let illegal = "polis journal 1\ndep env m b\nend 1 limit\n";
-    let unshown = Case {
-        journal: Some(JOINED_2),
-        ..judged(MIGRATE, JOINED, Status::WriteFault, "")
-    };
-    try_cases(
-        &rt,
-        rt.alloc(),
-        &[
-            failing(
-                &[2],
-                1,
-                0,
-                judged(REPLAY, JOINED, Status::ReadFault, "read fault jnl\n"),
-            ),
-            failing(&[3], 0, 1, judged(REPLAY, JOINED, Status::WriteFault, "")),
-            failing(&[3], 0, 1, judged(REPLAY, illegal, Status::Illegal, "")),
-            failing(
-                &[3],
-                0,
-                1,
-                judged(MIGRATE, JOINED, Status::WriteFault, "write fault o.jnl\n"),
-            ),
-            failing(&[4], 0, 1, unshown),
-        ],
-    )
+    try_cases(&rt, rt.alloc(), FAULTS)
 }

@@ -1,15 +1,11 @@
 // Traces that a run reads, and traces that it refuses.
 use crate::tests::listings::VALUE_LISTING;
 use crate::tests::networks::{LAMP, VALUE};
-use crate::tests::{Case, PRESS, RUN, Repeated, line_of, refusal, text_of, try_case, try_cases};
+use crate::tests::{
+    Case, PRESS, REPLAY, RUN, Repeated, line_of, refused, text_of, try_case, try_cases,
+};
 use polis_words::Status;
-use std::alloc::Global;
-use std::process::Abort;
-use std::sync::Wait;
 use std::test::Fail;
-use std::thread::Threads;
-
-const REPLAY: &[&str] = &["replay", "net", "trc", "jnl"];
 
 // Traces at fault: the lamp reads the pure event `press`, and the other network an event with the
 // values 0 to 7.
@@ -32,7 +28,7 @@ fn refuses_traces(rt: HostRuntime) -> Result<(), Fail> {
         let case = Case {
             net: Some(net),
             trace: Some(trace),
-            ..refusal(RUN, shown.as_str())
+            ..refused(RUN, shown.as_str())
         };
         try_case(&rt, rt.alloc(), &case, number)?;
     }
@@ -81,10 +77,36 @@ end 3 complete
     ..PRESS
 };
 
+const READ: &[Case<'_>] = &[LAID_OUT, ENDS];
+
 #[test]
 fn reads_traces(rt: HostRuntime) -> Result<(), Fail> {
-    try_cases(&rt, rt.alloc(), &[LAID_OUT, ENDS])
+    try_cases(&rt, rt.alloc(), READ)
 }
+
+// 5,000 times an event and a settle item, with empty lines between them, and what stands after them.
+const MANY: &[(Repeated<'_>, Status, &str)] = &[
+    (
+        Repeated {
+            begin: "",
+            part: "press\n\nsettle\n",
+            count: 5_000,
+            end: "# press\nsettle",
+        },
+        Status::Refused,
+        "refused trc line 15002 many\n",
+    ),
+    (
+        Repeated {
+            begin: "",
+            part: "press\n\nsettle\n",
+            count: 5_000,
+            end: "# press\n",
+        },
+        Status::Done,
+        "legal 0 open\n",
+    ),
+];
 
 // A replay of no entry on a trace.
 fn replayed<'a>(trace: &'a str, status: Status, shown: &'a str) -> Case<'a> {
@@ -92,38 +114,16 @@ fn replayed<'a>(trace: &'a str, status: Status, shown: &'a str) -> Case<'a> {
         trace: Some(trace),
         read_journal: Some("polis journal 1\nend 0 limit\n"),
         status,
-        ..refusal(REPLAY, shown)
+        ..refused(REPLAY, shown)
     }
-}
-
-// 5,000 times an event and a settle item, with empty lines between them, and these lines.
-fn try_many<T: Abort + Threads + Wait + Sync>(
-    rt: &T,
-    alloc: Global,
-    last: &str,
-    status: Status,
-    shown: &str,
-) -> Result<(), Fail> {
-    let many = Repeated {
-        begin: "",
-        part: "press\n\nsettle\n",
-        count: 5_000,
-        end: last,
-    };
-    let text = text_of(alloc, &many)?;
-    let case = replayed(text.as_str(), status, shown);
-    try_case(rt, alloc, &case, 0)
 }
 
 #[test]
 fn takes_ten_thousand_items(rt: HostRuntime) -> Result<(), Fail> {
-    let alloc = rt.alloc();
-    try_many(
-        &rt,
-        alloc,
-        "# press\nsettle",
-        Status::Refused,
-        "refused trc line 15002 many\n",
-    )?;
-    try_many(&rt, alloc, "# press\n", Status::Done, "legal 0 open\n")
+    for (number, (many, status, shown)) in MANY.iter().enumerate() {
+        let text = text_of(rt.alloc(), many)?;
+        let case = replayed(text.as_str(), *status, shown);
+        try_case(&rt, rt.alloc(), &case, number)?;
+    }
+    Ok(())
 }

@@ -1,8 +1,8 @@
 // Whole calls with several workers, over files in memory.
 use crate::tests::gates::{Inside, Meeting, Outside};
-use crate::tests::listings::{LOOP_LISTING, TWO_LISTING};
+use crate::tests::listings::{BELT_LISTING, LOOP_LISTING, TWO_LISTING};
 use crate::tests::networks::{BELT, EVEN, LOOP};
-use crate::tests::{Case, PRESS, is_held, make_host, make_words, try_cases};
+use crate::tests::{BY_TWO, COMPILE, Case, PRESS, RUN, is_held, make_host, make_words, try_case};
 use crate::top::polis;
 use event_buffer::{Gate, OpenGate};
 use polis_base::MemoryHost;
@@ -13,7 +13,7 @@ use std::sync::Wait;
 use std::test::Fail;
 use std::thread::Threads;
 
-const BY_TWO: &[&str] = &["run", "net", "trc", "o", "--workers", "2"];
+const BY_FOUR: &[&str] = &["run", "net", "trc", "o", "--workers", "4"];
 
 const JUDGE: &[&str] = &["replay", "net", "trc", "o.jnl"];
 
@@ -104,7 +104,7 @@ fn holds_cells_side_by_side(rt: HostRuntime) -> Result<(), Fail> {
 
 #[test]
 fn delivers_what_a_machine_sends_itself(rt: HostRuntime) -> Result<(), Fail> {
-    try_cases(&rt, rt.alloc(), &[LOOP_BY_TWO])
+    try_case(&rt, rt.alloc(), &LOOP_BY_TWO, 0)
 }
 
 // Runs a network by so many workers, and has the journal judged.
@@ -141,6 +141,28 @@ fn journals_of_workers_are_legal(rt: HostRuntime) -> Result<(), Fail> {
             (BELT, "key_on\nsettle\ntick\nsettle\ntick\n"),
             workers,
         )?;
+    }
+    Ok(())
+}
+
+// The belt, where the key is turned on.
+const KEY_ON: Case<'static> = Case {
+    net: Some(BELT),
+    trace: Some("key_on\n"),
+    ..PRESS
+};
+
+// Calls that list the compiled machines.
+const LISTING: &[&[&str]] = &[COMPILE, RUN, BY_FOUR];
+
+#[test]
+fn lists_the_same_machines_by_each_call(rt: HostRuntime) -> Result<(), Fail> {
+    for words in LISTING {
+        let mut host = make_host(rt.alloc(), &KEY_ON)?;
+        let words = make_words(rt.alloc(), words)?;
+        let status = polis(&rt, rt.alloc(), &words, &mut host, &OpenGate);
+        assert!(rt; status == Status::Done);
+        assert!(rt; is_held(&host, "o.lst", Some(BELT_LISTING)));
     }
     Ok(())
 }

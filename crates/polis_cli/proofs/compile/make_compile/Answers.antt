@@ -1,3 +1,5 @@
+use Rattle.std.proofs.Common.{ap}
+use Rattle.polis_cli.specs.Commands.{ends_done}
 use Rattle.polis_cli.proofs.Compiling.{makes_compile, compile_well}
 use Rattle.polis_cli.proofs.compile.make_compile.Goals as goal
 
@@ -11,3 +13,7 @@ pub returns-in-Ok-compile_product-clause-well : goal.returns-in-Ok-compile_produ
 returns-in-Ok-compile_product-clause-well g c =
     compile_well c.args.asked.now c.in-Ok.net c.in-Ok-compile_product.product
     c.in-Ok-compile_product.ensures
+
+pub returns-in-Ok-compile_product-clause-ends : goal.returns-in-Ok-compile_product-clause-ends
+returns-in-Ok-compile_product-clause-ends g c =
+    ap ends_done c.in-Ok-compile_product.ensures.status

@@ -1,3 +1,5 @@
+use Rattle.std.proofs.Common.{ap}
+use Rattle.polis_cli.specs.Replays.{ends_judged}
 use Rattle.polis_cli.proofs.Judging.{makes_migrate, migrate_well}
 use Rattle.polis_cli.proofs.migrate.make_migrate.Goals as goal
 
@@ -16,3 +18,7 @@ returns-in-Ok-migrate_product-clause-well g c =
 
 pub returns-in-Err-clause-failed : goal.returns-in-Err-clause-failed
 returns-in-Err-clause-failed g c = rw c.replay-replay.ensures at c.in-Err.ensures.failed
+
+pub returns-in-Ok-migrate_product-clause-ends : goal.returns-in-Ok-migrate_product-clause-ends
+returns-in-Ok-migrate_product-clause-ends g c =
+    ap ends_judged c.in-Ok-migrate_product.ensures.status

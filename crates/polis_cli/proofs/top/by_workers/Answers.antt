@@ -6,7 +6,7 @@ returns-in-Err-clause-answers g c =
     failed_answers c.laws.ensures.prefixes c.stamp_laws.ensures.prefixes_rise g.H.Host _ _ _
     c.args.words.now c.in-Some.request c.in-Err.failure.name.now c.in-Err.failure.cause
     c.fail.result c.in-Some.ensures.asks c.in-Some.ensures.one c.in-Err.ensures.failed
-    c.in-Err.ensures.left c.fail.ensures c.in-Err.ensures.no_demo
+    c.in-Err.ensures.left c.fail.ensures c.in-Err.ensures.fails
 
 pub returns-in-Err-clause-leaves : goal.returns-in-Err-clause-leaves
 returns-in-Err-clause-leaves g c =
@@ -18,7 +18,7 @@ pub returns-in-Ok-clause-answers : goal.returns-in-Ok-clause-answers
 returns-in-Ok-clause-answers g c =
     written_answers g.H.Host _ _ _ c.args.words.now c.in-Some.request c.in-Ok.product
     c.write_product.result c.in-Some.ensures.asks c.in-Some.ensures.one c.in-Ok.ensures.made
-    c.in-Ok.ensures.well c.in-Ok.ensures.left c.write_product.ensures c.in-Ok.ensures.demo
+    c.in-Ok.ensures.well c.in-Ok.ensures.left c.write_product.ensures c.in-Ok.ensures.ends
 
 pub returns-in-Ok-clause-leaves : goal.returns-in-Ok-clause-leaves
 returns-in-Ok-clause-leaves g c =

@@ -1,0 +1,362 @@
+// Calls that no command makes, each once on a small network, against texts written by hand.
+ghost use Rattle.std.specs.Prelude.{◌≡◌, ◌≢◌, ◌++◌, [], ◌∷◌, IfOk, OnOk, IsTrue};
+ghost use Rattle.domains.specs.Tables.{fits};
+ghost use Rattle.transition_table.specs.Transitions.{AreDeterministic};
+ghost use Rattle.transition_table.specs.declared.decl.Party.TheVariants.{Env};
+ghost use Rattle.journals.specs.declared.entry.Entry.TheVariants.{Dep};
+ghost use Rattle.journals.specs.Journals.{FitsNetwork, IsJournal, IsTrace};
+ghost use Rattle.journals.specs.Legality.{Legal};
+ghost use Rattle.net_core.specs.declared.answer.Admit.{Admit};
+
+use crate::inputs::Inputs;
+use crate::stamp::stamped_text;
+use crate::tests::counts::inputs_of;
+use crate::tests::networks::TWO;
+use domains::{Codes, VarTable, first_codes, next_codes};
+use journal_replay::adopt;
+use journal_text::read_journal;
+use net_core::{Admit, Config, Entry, Journal};
+use polis_base::{Bytes, NoMemory};
+use sample_networks::join;
+use scheduler_gen::{Finished, complete, plan};
+use std::alloc::Global;
+use std::test::Fail;
+use trace_text::read_trace;
+use transition_table::{Party, TableReactor};
+use worker_core::{Core, CoreStep, core_alone, core_run, merge};
+
+// Both machines get the event, and then react in the order of their numbers.
+const BY_NUMBER: &[u8] = b"polis journal 2
+@1 dep env a x
+@1 dep env b x
+@2 fire a : x ; - -> - ; ya
+@2 fire b : x ; - -> - ; yb
+end 4 complete
+";
+
+// The same without stamps.
+const WITHOUT_STAMPS: &[u8] = b"polis journal 1
+dep env a x
+dep env b x
+fire a : x ; - -> - ; ya
+fire b : x ; - -> - ; yb
+end 4 complete
+";
+
+// The machine with the smaller priority reacts first.
+const BY_PRIORITY: &[u8] = b"polis journal 2
+@1 dep env a x
+@1 dep env b x
+@2 fire b : x ; - -> - ; yb
+@2 fire a : x ; - -> - ; ya
+end 4 complete
+";
+
+const FIRST: CoreStep = CoreStep::React { machine: 0 };
+
+const SECOND: CoreStep = CoreStep::React { machine: 1 };
+
+const STEPS: &[CoreStep] = &[CoreStep::Feed, CoreStep::Feed, FIRST, SECOND];
+
+// Steps, and whether they can be taken. What the first machine emits goes to the environment, so
+// it has nothing in hand.
+const TRIES: &[(CoreStep, bool)] = &[
+    (FIRST, false),
+    (CoreStep::Feed, true),
+    (FIRST, true),
+    (CoreStep::Land { machine: 0 }, false),
+    (CoreStep::Feed, true),
+    (CoreStep::Feed, false),
+    (SECOND, true),
+];
+
+// The reactor of the network's rows.
+fn reactor_of(inputs: &Inputs) -> TableReactor<'_>
+    requires { AreDeterministic inputs.now.net }
+    ensures { result.net.now ≡ inputs.now.net }
+{
+    TableReactor::new(&inputs.net)
+}
+
+// The text of a journal with its least stamps.
+fn text_of(
+    alloc: Global,
+    inputs: &Inputs,
+    journal: &Journal,
+    complete: bool,
+) -> Result<Bytes, NoMemory>
+    requires { Legal inputs.now.net inputs.now.trace journal.now }
+{
+    if journal.len() > 60_000 {
+        return Err(NoMemory);
+    }
+    stamped_text(alloc, inputs, journal, complete)
+}
+
+// The merge of the logs after the four steps.
+fn merged(alloc: Global, inputs: &Inputs) -> Result<Journal, NoMemory>
+    requires fits { IsTrace inputs.now.net inputs.now.trace }
+    requires deterministic { AreDeterministic inputs.now.net }
+    ensures { IfOk result (λ journal. Legal inputs.now.net inputs.now.trace journal) }
+{
+    let r = reactor_of(inputs);
+    let core = core_run(alloc, &r, &inputs.trace, STEPS)?;
+    let journal = merge(alloc, core.logs())?;
+    Ok(journal)
+}
+
+#[test]
+fn merges_the_logs_of_four_steps(rt: HostRuntime) -> Result<(), Fail> {
+    let inputs = inputs_of(rt.alloc(), TWO, b"x\n")?;
+    let journal = merged(rt.alloc(), &inputs)?;
+    let text = text_of(rt.alloc(), &inputs, &journal, true)?;
+    assert_eq!(rt; text.as_slice(), BY_NUMBER);
+    Ok(())
+}
+
+// Whether each of these steps is taken or not, as is said with it.
+fn takes(
+    core: &mut Core<'_>,
+    r: &TableReactor<'_>,
+    tries: &[(CoreStep, bool)],
+) -> Result<bool, NoMemory>
+    requires { r.now.net.now ≡ core.old.net }
+{
+    for (step, taken) in tries {
+        if core.step(r, *step)? != *taken {
+            return Ok(false);
+        }
+    }
+    Ok(true)
+}
+
+#[test]
+fn takes_the_steps_that_can_be_taken(rt: HostRuntime) -> Result<(), Fail> {
+    let inputs = inputs_of(rt.alloc(), TWO, b"x\n")?;
+    let r = reactor_of(&inputs);
+    let mut core = Core::start(rt.alloc(), &inputs.net, &inputs.trace)?;
+    assert!(rt; takes(&mut core, &r, TRIES)?);
+    Ok(())
+}
+
+#[test]
+fn steps_until_none_is_left(rt: HostRuntime) -> Result<(), Fail> {
+    let inputs = inputs_of(rt.alloc(), TWO, b"x\n")?;
+    let r = reactor_of(&inputs);
+    let journal = core_alone(rt.alloc(), &r, &inputs.trace, 60_000)?;
+    let text = text_of(rt.alloc(), &inputs, &journal, true)?;
+    assert_eq!(rt; text.as_slice(), BY_NUMBER);
+    Ok(())
+}
+
+// Offers an entry: a reaction is made again.
+fn offer(config: &mut Config<'_>, r: &TableReactor<'_>, entry: &Entry) -> Admit
+    requires network { r.now.net.now ≡ config.old.net }
+    requires fits { FitsNetwork config.old.net entry.now }
+    ensures taken { result ≡ Admit.Yes
+        → config.new ≡ record config.old { journal = config.old.journal ++ entry.now ∷ [] } }
+    ensures same { result ≢ Admit.Yes → config.new ≡ config.old }
+{
+    match entry {
+        Entry::Dep { .. } => config.append(entry),
+        Entry::Rea { .. } => config.admit(r, entry),
+    }
+}
+
+// Offers the entry at a place of a journal, and answers whether it is taken.
+fn is_taken(
+    config: &mut Config<'_>,
+    r: &TableReactor<'_>,
+    journal: &Journal,
+    place: u64,
+) -> Result<bool, NoMemory>
+    requires network { r.now.net.now ≡ config.old.net }
+    requires fits { IsJournal config.old.net journal.now }
+    ensures network { OnOk result (config.new.net ≡ config.old.net) }
+    ensures trace { OnOk result (config.new.trace ≡ config.old.trace) }
+{
+    if place >= journal.len() {
+        return Err(NoMemory);
+    }
+    match offer(config, r, journal.get(place)) {
+        Admit::Yes => Ok(true),
+        Admit::No(_) => Ok(false),
+        Admit::NoMemory => Err(NoMemory),
+    }
+}
+
+// Offers the first entries of a journal, so many, and answers whether all are taken.
+fn are_taken(
+    config: &mut Config<'_>,
+    r: &TableReactor<'_>,
+    journal: &Journal,
+    count: u64,
+) -> Result<bool, NoMemory>
+    requires network { r.now.net.now ≡ config.old.net }
+    requires fits { IsJournal config.old.net journal.now }
+    ensures network { OnOk result (config.new.net ≡ config.old.net) }
+    ensures trace { OnOk result (config.new.trace ≡ config.old.trace) }
+{
+    for place in 0..count {
+        if !is_taken(config, r, journal, place)? {
+            return Ok(false);
+        }
+    }
+    Ok(true)
+}
+
+// The journal of the text without stamps.
+fn read(alloc: Global, inputs: &Inputs) -> Result<Journal, NoMemory>
+    ensures { IfOk result (λ journal. IsJournal inputs.now.net journal) }
+{
+    match read_journal(alloc, &inputs.net, WITHOUT_STAMPS) {
+        Ok(read) => Ok(read.journal),
+        Err(_) => Err(NoMemory),
+    }
+}
+
+// The first entries of that journal, so many, where all are taken.
+fn begun(alloc: Global, inputs: &Inputs, count: u64) -> Result<Journal, NoMemory>
+    requires fits { IsTrace inputs.now.net inputs.now.trace }
+    requires deterministic { AreDeterministic inputs.now.net }
+    ensures { IfOk result (λ journal. Legal inputs.now.net inputs.now.trace journal) }
+{
+    let r = reactor_of(inputs);
+    let journal = read(alloc, inputs)?;
+    let mut config = Config::start(alloc, &inputs.net, &inputs.trace)?;
+    if !are_taken(&mut config, &r, &journal, count)? {
+        return Err(NoMemory);
+    }
+    Ok(config.into_journal())
+}
+
+// Whether all four entries are taken and are complete, and the first one isn't taken again.
+fn ends_after_four(alloc: Global, inputs: &Inputs) -> Result<bool, NoMemory>
+    requires fits { IsTrace inputs.now.net inputs.now.trace }
+    requires deterministic { AreDeterministic inputs.now.net }
+{
+    let r = reactor_of(inputs);
+    let journal = read(alloc, inputs)?;
+    let mut config = Config::start(alloc, &inputs.net, &inputs.trace)?;
+    if !are_taken(&mut config, &r, &journal, 4)? {
+        return Ok(false);
+    }
+    let again = is_taken(&mut config, &r, &journal, 0)?;
+    Ok(!again && config.is_complete())
+}
+
+#[test]
+fn takes_the_entries_of_a_legal_journal(rt: HostRuntime) -> Result<(), Fail> {
+    let inputs = inputs_of(rt.alloc(), TWO, b"x\n")?;
+    assert!(rt; ends_after_four(rt.alloc(), &inputs)?);
+    let journal = begun(rt.alloc(), &inputs, 4)?;
+    let text = text_of(rt.alloc(), &inputs, &journal, true)?;
+    assert_eq!(rt; text.as_slice(), BY_NUMBER);
+    Ok(())
+}
+
+// The same journal, where it has two entries and isn't complete.
+fn resumed(alloc: Global, inputs: &Inputs, journal: Journal) -> Result<Journal, NoMemory>
+    requires fits { IsTrace inputs.now.net inputs.now.trace }
+    requires legal { Legal inputs.now.net inputs.now.trace journal }
+    ensures { IfOk result (λ journal. Legal inputs.now.net inputs.now.trace journal) }
+{
+    let config = Config::resume(alloc, &inputs.net, &inputs.trace, journal)?;
+    if config.len() != 2 || config.is_complete() {
+        return Err(NoMemory);
+    }
+    Ok(config.into_journal())
+}
+
+// The journal carried on by the picks.
+fn finished(alloc: Global, inputs: &Inputs, from: Journal) -> Result<Finished, NoMemory>
+    requires fits { IsTrace inputs.now.net inputs.now.trace }
+    requires deterministic { AreDeterministic inputs.now.net }
+    requires legal { Legal inputs.now.net inputs.now.trace from }
+    ensures { IfOk result (λ made. Legal inputs.now.net inputs.now.trace made.journal) }
+{
+    if from.len() > 60_000 {
+        return Err(NoMemory);
+    }
+    let r = reactor_of(inputs);
+    let plan = plan(alloc, &inputs.net)?;
+    let made = complete(alloc, &plan, &r, &inputs.trace, from, 60_000)?;
+    Ok(made)
+}
+
+#[test]
+fn carries_a_legal_journal_on(rt: HostRuntime) -> Result<(), Fail> {
+    let inputs = inputs_of(rt.alloc(), TWO, b"x\n")?;
+    let first = begun(rt.alloc(), &inputs, 2)?;
+    let from = resumed(rt.alloc(), &inputs, first)?;
+    let made = finished(rt.alloc(), &inputs, from)?;
+    let text = text_of(rt.alloc(), &inputs, &made.journal, made.complete)?;
+    assert_eq!(rt; text.as_slice(), BY_PRIORITY);
+    Ok(())
+}
+
+// A delivery of the environment to the first machine.
+fn landing(event: u32) -> Entry
+    ensures { result ≡ Dep Env 0 event 1 }
+{
+    Entry::Dep {
+        from: Party::Env,
+        to: 0,
+        event,
+        code: 1,
+    }
+}
+
+// The first event twice, and then the second one.
+fn landings(alloc: Global) -> Result<Journal, NoMemory>
+    ensures { IfOk result (λ journal. journal
+        ≡ Dep Env 0 0 1 ∷ Dep Env 0 0 1 ∷ Dep Env 0 1 1 ∷ []) }
+{
+    let mut journal = Journal::new(alloc);
+    journal.push(landing(0))?;
+    journal.push(landing(0))?;
+    journal.push(landing(1))?;
+    Ok(journal)
+}
+
+// How many of these landings are adopted where the environment sends what lands.
+fn count_adopted(alloc: Global, limit: u64) -> Result<u64, NoMemory> {
+    let net = join::network(alloc)?;
+    let trace = match read_trace(alloc, &net, b"a\na\nb\n") {
+        Ok(trace) => trace,
+        Err(_) => return Err(NoMemory),
+    };
+    let journal = landings(alloc)?;
+    let adopted = adopt(alloc, &net, &trace, journal, limit)?;
+    Ok(adopted.len())
+}
+
+#[test]
+fn adopts_landings_up_to_the_limit(rt: HostRuntime) -> Result<(), Fail> {
+    assert_eq!(rt; count_adopted(rt.alloc(), 2)?, 2);
+    assert_eq!(rt; count_adopted(rt.alloc(), 60_000)?, 3);
+    Ok(())
+}
+
+// How many lists of codes follow these.
+fn count_next(vars: &VarTable, codes: &mut Codes) -> Result<u64, NoMemory>
+    requires { IsTrue (fits vars.now codes.old) }
+{
+    for count in 0..60_000 {
+        if !next_codes(codes, vars) {
+            return Ok(count);
+        }
+    }
+    Err(NoMemory)
+}
+
+#[test]
+fn eleven_lists_of_codes_follow_the_first(rt: HostRuntime) -> Result<(), Fail> {
+    let mut vars = VarTable::new(rt.alloc());
+    vars.push(2)?;
+    vars.push(2)?;
+    vars.push(3)?;
+    let mut codes = first_codes(rt.alloc(), &vars)?;
+    assert_eq!(rt; count_next(&vars, &mut codes)?, 11);
+    Ok(())
+}

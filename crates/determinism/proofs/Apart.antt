@@ -10,9 +10,9 @@ use Rattle.transition_table.specs.declared.machine.Machine.{Machine}
 use Rattle.transition_table.specs.declared.snapshot.Snapshot.{Snapshot}
 use Rattle.transition_table.specs.Transitions.{Conflict, holds}
 use Rattle.determinism.specs.declared.marks.Marks.{Marks}
-use Rattle.determinism.specs.Common.{IsMask}
-use Rattle.determinism.specs.Marks.{Enables, says, AreMarked}
-use Rattle.determinism.proofs.Bits.{alike}
+use Rattle.transition_table.specs.inner.Masks.{IsMask}
+use Rattle.determinism.specs.inner.Marks.{Enables, says, AreMarked}
+use Rattle.transition_table.proofs.Bits.{alike}
 use Rattle.determinism.proofs.Overlaps.{allowed_here}
 
 says_low : (place : ℕ) (codes : List ℕ) → place < 32

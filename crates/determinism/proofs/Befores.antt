@@ -5,7 +5,7 @@ use Rattle.std.specs.Cmp.Lexicographic.{slice_cmp}
 use Rattle.std.specs.Ordering.{nat_cmp}
 use Rattle.std.specs.declared.cmp.Ordering.TheVariants.{Less, Equal, Greater}
 use Rattle.std.proofs.lemmas.Bool.Decides.{eqb_tells}
-use Rattle.determinism.specs.Common.{Before}
+use Rattle.determinism.specs.inner.Boxes.{Before}
 
 -- in the words of `cmp`
 pub up_to : (xs ys : List ℕ) → length xs ≡ length ys → Before xs ys

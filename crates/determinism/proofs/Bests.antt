@@ -7,9 +7,9 @@ use Rattle.transition_table.specs.declared.row.Row.{Row}
 use Rattle.transition_table.specs.declared.machine.Machine.{Machine}
 use Rattle.transition_table.specs.declared.snapshot.Snapshot.{Snapshot}
 use Rattle.transition_table.specs.Transitions.{allows, code_given, Conflict}
-use Rattle.determinism.specs.Common.{IsIn, EnableBoth, Before}
-use Rattle.determinism.specs.Pairs.{Differ, NeverDiffer, results_end, IsLeastAt, IsBest}
-use Rattle.determinism.specs.Conflicts.{IsLeastOf}
+use Rattle.determinism.specs.inner.Boxes.{IsIn, EnableBoth, Before}
+use Rattle.determinism.specs.inner.Pairs.{Differ, NeverDiffer, results_end, IsLeastAt, IsBest}
+use Rattle.determinism.specs.inner.Conflicts.{IsLeastOf}
 use Rattle.determinism.specs.declared.pair.Pair.{Pair}
 use Rattle.determinism.proofs.Befores.{before_trans, up_to}
 use Rattle.determinism.proofs.Results.{same_result, same_codes}

@@ -7,9 +7,9 @@ use Rattle.std.specs.Ordering.{nat_cmp}
 use Rattle.std.specs.declared.cmp.Ordering.TheVariants.{Greater}
 use Rattle.std.proofs.lemmas.Bool.{ltb-true, and_parts}
 use Rattle.transition_table.specs.declared.snapshot.Snapshot.{Snapshot}
-use Rattle.transition_table.specs.SampleClash.{clash_machine}
-use Rattle.transition_table.specs.SampleTwice.{differing_machine}
-use Rattle.transition_table.specs.Samples.{has_codes}
+use Rattle.transition_table.specs.samples.Clash.{clash_machine}
+use Rattle.transition_table.specs.samples.Twice.{differing_machine}
+use Rattle.transition_table.specs.samples.Parts.{has_codes}
 use Rattle.transition_table.specs.Transitions.{Conflict, allows, is_enabled}
 use Rattle.transition_table.specs.Transitions.{reading}
 use Rattle.domains.specs.Tables.{fits}

@@ -10,9 +10,10 @@ use Rattle.transition_table.specs.declared.row.Row.{Row}
 use Rattle.transition_table.specs.declared.machine.Machine.{Machine}
 use Rattle.transition_table.specs.MachineFacts.{names_codes, names_result, has_present, is_row}
 use Rattle.transition_table.specs.Transitions.{allows, holds}
-use Rattle.determinism.specs.Common.{allows_code, is_allowed, AreMasks, IsBox, EnableBoth}
-use Rattle.determinism.proofs.Bits.{alike}
-use Rattle.determinism.proofs.Ones.{size_at, machine_sizes}
+use Rattle.determinism.specs.inner.Boxes.{AreMasks, IsBox, EnableBoth}
+use Rattle.transition_table.specs.inner.Masks.{allows_code, row_allows}
+use Rattle.transition_table.proofs.Bits.{alike}
+use Rattle.transition_table.proofs.Ones.{size_at, machine_sizes}
 
 both : (a b : Bool) → a ≡ true → b ≡ true → (a && b) ≡ true
 both true b h k = k
@@ -116,7 +117,7 @@ row_parts m row h =
 -- a row that is enabled allows the code of each variable
 pub allowed_here : (m : Machine) (row : Row) (codes : List ℕ) (k : ℕ) → fits m.vars codes ≡ true
     → list_all (allows codes) row.conds ≡ true → k < length m.vars
-    → is_allowed m.vars row k (slice_index codes k) ≡ true
+    → row_allows m.vars row k (slice_index codes k) ≡ true
 allowed_here m row codes k fit held below =
     both (nat_lt (slice_index codes k) (slice_index m.vars k))
     (list_all (allows_code k (slice_index codes k)) row.conds)
@@ -190,7 +191,7 @@ box_is m first second of_first of_second sets rf rs mf ms long are = record {
 }
   where
     allowed : (k code : ℕ) → k < length m.vars → bit_at (slice_index sets k) code ≡ 1
-        → (is_allowed m.vars first k code ≡ true) × (is_allowed m.vars second k code ≡ true)
+        → (row_allows m.vars first k code ≡ true) × (row_allows m.vars second k code ≡ true)
     allowed k code inside set =
         let within : k < length of_first = let same = mf.long in omega arith in
         let bits = and_parts (bit_at (slice_index of_first k) code == 1)

@@ -3,8 +3,8 @@ use Rattle.std.proofs.Common.{◌≡◌, ◌≢◌, ◌⊎◌, ◌<◌, ◌≤�
 use Rattle.std.specs.Int.{bit_at}
 use Rattle.std.proofs.lemmas.List.{length-set, get_or-set_same, get_or-set_other, nil_from_length}
 use Rattle.std.proofs.lemmas.Bool.Decides.{eqb_tells}
-use Rattle.determinism.specs.Common.{IsIn, AreLeast, SameBut, Before}
-use Rattle.determinism.specs.Pairs.{Agree, Differ, HangsOn}
+use Rattle.determinism.specs.inner.Boxes.{IsIn, AreLeast, SameBut, Before}
+use Rattle.determinism.specs.inner.Pairs.{Agree, Differ, HangsOn}
 use Rattle.determinism.specs.declared.pair.Pair.{Pair}
 use Rattle.determinism.proofs.Befores.{before_all, before_at}
 

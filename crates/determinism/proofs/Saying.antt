@@ -8,8 +8,8 @@ use Rattle.std.proofs.lemmas.List.{get_or-set_same, get_or-set_other, get_or-rep
 use Rattle.std.proofs.lemmas.Nat.{pow-add}
 use Rattle.std.proofs.lemmas.Nat.Bits.{bit_at_or, bit_at-lt, bit_at-zero, bit_at_ones, bit_at-trailing_ones}
 use Rattle.determinism.specs.declared.marks.Marks.{Marks}
-use Rattle.determinism.specs.Sayers.{AreSayers, HasAdded, IsFar}
-use Rattle.determinism.proofs.Bits.{alike, both_bits}
+use Rattle.determinism.specs.inner.Sayers.{AreSayers, HasAdded, IsFar}
+use Rattle.transition_table.proofs.Bits.{alike, both_bits}
 
 pub of_both : (a b i : ℕ) → bit_at (bit_and a b) i ≡ 1 → (bit_at a i ≡ 1) × (bit_at b i ≡ 1)
 of_both a b i set =

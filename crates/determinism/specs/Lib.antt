@@ -1,5 +1,3 @@
-pub mod Common
+pub mod SnapshotOrder
 pub mod Conflicts
-pub mod Marks
-pub mod Pairs
-pub mod Sayers
+pub mod inner

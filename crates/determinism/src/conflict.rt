@@ -2,11 +2,12 @@
 ghost use Rattle.std.specs.Prelude.{◌≡◌, ◌<◌, ◌≤◌, ◌+◌, ℕ, length, IfOk, IfSome, IfNone, IsTrue, IsFalse};
 ghost use Rattle.transition_table.specs.declared.snapshot.Snapshot.{Snapshot as SnapshotOf};
 ghost use Rattle.transition_table.specs.Transitions.{Conflict};
-ghost use Rattle.determinism.specs.Common.{IsTable, Before};
-ghost use Rattle.determinism.specs.Conflicts.{IsLeastOf, IsFirstWith, Answers};
-ghost use Rattle.determinism.specs.Marks.{AreMarked};
-ghost use Rattle.determinism.specs.Pairs.{results_end, IsBest};
-ghost use Rattle.determinism.specs.Sayers.{AreSayers};
+ghost use Rattle.determinism.specs.inner.Boxes.{IsTable, Before, HaveRoom};
+ghost use Rattle.determinism.specs.Conflicts.{Answers};
+ghost use Rattle.determinism.specs.inner.Conflicts.{IsLeastOf, IsFirstWith};
+ghost use Rattle.determinism.specs.inner.Marks.{AreMarked};
+ghost use Rattle.determinism.specs.inner.Pairs.{results_end, IsBest};
+ghost use Rattle.determinism.specs.inner.Sayers.{AreSayers};
 
 use crate::difference::least_difference;
 use crate::fault::CheckFault;
@@ -97,12 +98,8 @@ fn conflict_of(
     requires order { a < b }
     requires second { b < length machine.now.rows }
     requires table { IsTable machine.now.vars machine.now.rows table.now }
-    requires sets { length sets.old ≡ length machine.now.vars }
-    requires long { length s.old.codes ≡ length machine.now.vars }
-    requires best_long { length best.old.codes ≡ length machine.now.vars }
-    ensures sets { length sets.new ≡ length machine.now.vars }
-    ensures long { length s.new.codes ≡ length machine.now.vars }
-    ensures best_long { length best.new.codes ≡ length machine.now.vars }
+    requires room { HaveRoom machine.now sets.old s.old.codes best.old.codes }
+    ensures room { HaveRoom machine.now sets.new s.new.codes best.new.codes }
     ensures some { IsTrue result → IsLeastOf machine.now a b best.new }
     ensures none { IsFalse result → (t : SnapshotOf) → ¬ Conflict machine.now a b t }
 {
@@ -142,12 +139,8 @@ fn conflicting(
     requires table { IsTable machine.now.vars machine.now.rows table.now }
     requires marks { AreMarked machine.now marks.now }
     requires sayers { AreSayers marks.now sayers.now }
-    requires sets { length sets.old ≡ length machine.now.vars }
-    requires long { length s.old.codes ≡ length machine.now.vars }
-    requires best_long { length best.old.codes ≡ length machine.now.vars }
-    ensures sets { length sets.new ≡ length machine.now.vars }
-    ensures long { length s.new.codes ≡ length machine.now.vars }
-    ensures best_long { length best.new.codes ≡ length machine.now.vars }
+    requires room { HaveRoom machine.now sets.old s.old.codes best.old.codes }
+    ensures room { HaveRoom machine.now sets.new s.new.codes best.new.codes }
     ensures some { IfSome result (λ b. IsFirstWith machine.now a b best.new) }
     ensures none { IfNone result ((b : ℕ) (t : SnapshotOf) → ¬ Conflict machine.now a b t) }
 {

@@ -7,8 +7,8 @@ ghost use Rattle.transition_table.specs.declared.machine.Machine.{Machine};
 ghost use Rattle.transition_table.specs.MachineFacts.{names_result};
 ghost use Rattle.transition_table.specs.Sources.{code_of};
 ghost use Rattle.transition_table.specs.Transitions.{IsSnapshot, code_given};
-ghost use Rattle.determinism.specs.Common.{IsIn, AreLeast, SameBut};
-ghost use Rattle.determinism.specs.Pairs.{Agree, Differ, HangsOn, NeverDiffer, IsLeastAt};
+ghost use Rattle.determinism.specs.inner.Boxes.{IsIn, AreLeast, SameBut};
+ghost use Rattle.determinism.specs.inner.Pairs.{Agree, Differ, HangsOn, NeverDiffer, IsLeastAt};
 
 use crate::overlap::write_least;
 use crate::pair::Pair;

@@ -2,8 +2,9 @@
 // variable, as an absent event, and the other wants another.
 ghost use Rattle.std.specs.Prelude.{◌≡◌, ◌⊎◌, ◌<◌, ℕ, length, IfOk};
 ghost use Rattle.std.specs.Int.{bit_at};
-ghost use Rattle.determinism.specs.Common.{IsMask, AreMasks, IsTable};
-ghost use Rattle.determinism.specs.Marks.{IsMarked, AreMarked};
+ghost use Rattle.determinism.specs.inner.Boxes.{AreMasks, IsTable};
+ghost use Rattle.transition_table.specs.inner.Masks.{IsMask};
+ghost use Rattle.determinism.specs.inner.Marks.{IsMarked, AreMarked};
 
 use crate::masks::{CodeSets, SetTable};
 use polis_base::{List, NoMemory};

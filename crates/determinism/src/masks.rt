@@ -2,7 +2,8 @@
 ghost use Rattle.std.specs.Prelude.{◌≡◌, ◌<◌, ◌≤◌, ◌&&◌, ◌==◌, ℕ, nat_lt, length, slice_index, IfOk};
 ghost use Rattle.std.specs.List.{list_all};
 ghost use Rattle.std.specs.Int.{bit_at};
-ghost use Rattle.determinism.specs.Common.{allows_code, AreWhole, AreMasks, IsTable};
+ghost use Rattle.determinism.specs.inner.Boxes.{AreWhole, AreMasks, IsTable};
+ghost use Rattle.transition_table.specs.inner.Masks.{allows_code};
 
 use polis_base::{List, NoMemory};
 use std::alloc::Global;

@@ -1,7 +1,7 @@
 // The snapshots that enable two rows.
 ghost use Rattle.std.specs.Prelude.{◌≡◌, ◌<◌, ◌≤◌, ◌&&◌, ◌==◌, ℕ, false, List, length, slice_get, slice_index, Some, IsTrue, IsFalse};
 ghost use Rattle.std.specs.Int.{bit_at};
-ghost use Rattle.determinism.specs.Common.{AreMasks, IsBox, AreSome, AreLeast, EnableBoth};
+ghost use Rattle.determinism.specs.inner.Boxes.{AreMasks, IsBox, AreSome, AreLeast, EnableBoth};
 
 use crate::masks::CodeSets;
 use domains::Codes;

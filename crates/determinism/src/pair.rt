@@ -1,5 +1,5 @@
 // Two rows of a machine.
-ghost use Rattle.determinism.specs.Common.{IsRowOf, IsBox, AreSome};
+ghost use Rattle.determinism.specs.inner.Boxes.{IsRowOf, IsBox, AreSome};
 
 use crate::masks::CodeSets;
 use transition_table::{Machine, Row};

@@ -3,7 +3,7 @@
 ghost use Rattle.std.specs.Prelude.{◌≡◌, ◌⊎◌, ◌<◌, ◌≤◌, ◌+◌, ◌*◌, ◌/◌, ◌%◌, ℕ, length, slice_index, slice_get, Some, IfOk};
 ghost use Rattle.std.specs.Int.{bit_at};
 ghost use Rattle.determinism.specs.declared.marks.Marks.{Marks as MarksOf};
-ghost use Rattle.determinism.specs.Sayers.{AreSayers, HasAdded, IsFar};
+ghost use Rattle.determinism.specs.inner.Sayers.{AreSayers, HasAdded, IsFar};
 
 use crate::marks::{Marks, with_place};
 use polis_base::{List, NoMemory};

@@ -1,7 +1,7 @@
 // A worked machine: what the definitions say of it.
 ghost use Rattle.std.specs.Prelude.{[], ◌∷◌};
-ghost use Rattle.transition_table.specs.SampleClash.{clash_machine};
-ghost use Rattle.transition_table.specs.SampleTwice.{differing_machine};
+ghost use Rattle.transition_table.specs.samples.Clash.{clash_machine};
+ghost use Rattle.transition_table.specs.samples.Twice.{differing_machine};
 ghost use Rattle.transition_table.specs.Transitions.{reading};
 ghost use Rattle.determinism.specs.Conflicts.{IsLeastConflict};
 

@@ -10,7 +10,7 @@ use Rattle.domains.specs.AllCodes.{each_after, all_codes, CountsAll, StandsAtRan
 use Rattle.domains.proofs.Ranks.{ranks_below, ranks_reach}
 
 -- ---- lengths
-long_map : {X Y : Type 0} (f : X → Y) (xs : List X) → length (map f xs) ≡ length xs
+pub long_map : {X Y : Type 0} (f : X → Y) (xs : List X) → length (map f xs) ≡ length xs
 long_map f [] = refl
 long_map f (x ∷ xs) = ap suc (long_map f xs)
 

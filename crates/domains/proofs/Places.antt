@@ -43,7 +43,7 @@ place_first (x ∷ xs) v (suc j) h is =
     (cases_eq x v)
 
 -- what is below at each place is below wherever it is found
-below_any : (list : List ℕ) (n : ℕ) → ((i : ℕ) → i < length list → slice_index list i < n) → (q : ℕ)
+pub below_any : (list : List ℕ) (n : ℕ) → ((i : ℕ) → i < length list → slice_index list i < n) → (q : ℕ)
     → list_any (eqb q) list ≡ true → q < n
 below_any [] n h q found = absurd (false≢true found)
 below_any (x ∷ xs) n h q found =
@@ -53,7 +53,7 @@ below_any (x ∷ xs) n h q found =
     (or_cases (eqb q x) (list_any (eqb q) xs) found)
 
 -- a list with one more before it that stands nowhere in it
-more_apart : (list : List ℕ) (v : ℕ) → IsPermutation list
+pub more_apart : (list : List ℕ) (v : ℕ) → IsPermutation list
     → ((j : ℕ) → j < length list → slice_index list j ≢ v) → (i j d : ℕ) → i < j
     → j < length (v ∷ list) → eqb (get_or (v ∷ list) i d) (get_or (v ∷ list) j d) ≡ false
 more_apart list v order nowhere zero zero d less below = absurd (omega arith)

@@ -1,5 +1,6 @@
 // Finite domains.
 ghost use Rattle.std.specs.Prelude.{◌≡◌, ◌≢◌, ℕ, ◌<◌, ◌≤◌, ◌+◌, ◌-◌, ◌++◌, length, slice_get, Some, ◌^◌, IsTrue, IfOk, OnOk, OnErr, IfSome, IfNone, decimal};
+ghost use Rattle.polis_base.specs.declared.limits.TheConstants.{DOMAIN_SIZE_MAX};
 ghost use Rattle.domains.specs.Names.{AreValues};
 
 use polis_base::{Bytes, Duplicate, List, Name, NoMemory, read_decimal};
@@ -82,7 +83,7 @@ pub struct Span {
     /// The greatest number.
     pub last: u32,
     pub ghost ordered: { first ≤ last },
-    pub ghost few: { last - first < 32 },
+    pub ghost few: { last - first < DOMAIN_SIZE_MAX },
 }
 
 impl Span {
@@ -134,7 +135,7 @@ impl Domain {
     /// How many values there are.
     pub fn size(&self) -> u8
         ensures size { result ≡ size_of self.now }
-        ensures few { result ≤ 32 }
+        ensures few { result ≤ DOMAIN_SIZE_MAX }
         ensures some { 1 ≤ result }
         ensures domain { IsDomain self.now }
     {

@@ -1,5 +1,5 @@
 -- The codes of one variable on all lists.
-use Rattle.std.proofs.Common.{◌≡◌, true, ℕ, zero, suc, ◌+◌, ◌-◌, ◌*◌, ◌<◌, ◌≤◌, List, [], ◌∷◌, map, flat_map, length, take, drop, replicate, slice_index, ◌++◌, ◌/◌, sym, ◌&&◌, nat_le, refl, ap, ◌∙◌, arith, length-append}
+use Rattle.std.proofs.Common.{◌≡◌, true, ℕ, zero, suc, ◌+◌, ◌-◌, ◌*◌, ◌<◌, ◌≤◌, List, ◌∷◌, flat_map, length, take, drop, replicate, slice_index, ◌++◌, ◌/◌, sym, ◌&&◌, nat_le, refl, ap, ◌∙◌, arith, length-append, []}
 use Rattle.std.proofs.lemmas.Bool.{and_parts, leb-true}
 use Rattle.std.proofs.Math.Seq.{drop-cons}
 use Rattle.polis_base.specs.Lists.{upto}
@@ -9,12 +9,9 @@ use Rattle.outcome_table.specs.Outcomes.{column}
 use Rattle.std.proofs.Math.Nat.{mul-div_cancel, mul-le-mul_right, mul_assoc, suc-mul}
 use Rattle.std.proofs.lemmas.List.{append-nil, append_assoc}
 use Rattle.domains.specs.Tables.{are_sizes}
-use Rattle.outcome_table.proofs.Ones.{size_at}
+use Rattle.transition_table.proofs.Ones.{size_at}
 use Rattle.outcome_table.proofs.Lists.{map_flat, flat_same, flat_upto}
-
-long_map : {X Y : Type 0} (f : X → Y) (xs : List X) → length (map f xs) ≡ length xs
-long_map f [] = refl
-long_map f (x ∷ xs) = ap suc (long_map f xs)
+use Rattle.domains.proofs.AllCodes.{long_map}
 
 -- so many lists of one length
 flat_long : {Y : Type 0} (f : ℕ → List Y) (w n : ℕ) → ((k : ℕ) → length (f k) ≡ w)

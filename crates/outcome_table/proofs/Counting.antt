@@ -10,7 +10,7 @@ use Rattle.domains.specs.AllCodes.{all_codes, each_after}
 use Rattle.domains.specs.Tables.{product}
 use Rattle.transition_table.specs.declared.machine.Machine.{Machine}
 use Rattle.outcome_table.specs.Outcomes.{named, are_named}
-use Rattle.outcome_table.specs.Numbering.{Adds, BeginWithRows, lists_after}
+use Rattle.outcome_table.specs.inner.Numbering.{Adds, BeginWithRows, lists_after}
 use Rattle.transition_table.specs.Computed.{result_codes}
 use Rattle.outcome_table.specs.declared.number.Numbered.{Numbered}
 use Rattle.outcome_table.proofs.Columns.{all_long}

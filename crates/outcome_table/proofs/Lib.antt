@@ -1,13 +1,11 @@
-mod Bits
-mod Columns
-mod Counting
-mod Ends
-mod Known
-mod Lists
-mod Narrowing
-mod Ones
-mod RowSets
-mod Rows
-mod Settled
-mod Starting
-mod Tails
+pub mod Columns
+pub mod Counting
+pub mod Ends
+pub mod Known
+pub mod Lists
+pub mod Narrowing
+pub mod RowSets
+pub mod Rows
+pub mod Settled
+pub mod Starting
+pub mod Tails

@@ -10,9 +10,9 @@ use Rattle.transition_table.specs.Transitions.{allows}
 use Rattle.transition_table.specs.declared.machine.Machine.{Machine}
 use Rattle.transition_table.specs.declared.row.Cond.{Cond}
 use Rattle.transition_table.specs.declared.row.Row.{Row}
-use Rattle.outcome_table.specs.Masks.{allows_code}
-use Rattle.outcome_table.specs.RowSets.{IsSetOf, has_row}
-use Rattle.outcome_table.specs.Numbering.{may_hold, may_be_enabled, rows_left}
+use Rattle.transition_table.specs.inner.Masks.{allows_code}
+use Rattle.outcome_table.specs.inner.RowSets.{IsSetOf, has_row}
+use Rattle.outcome_table.specs.inner.Numbering.{may_hold, may_be_enabled, rows_left}
 use Rattle.outcome_table.proofs.Lists.{all_both}
 
 pub not_below : (a b : ℕ) → b ≤ a → nat_lt a b ≡ false

@@ -7,8 +7,8 @@ use Rattle.std.proofs.lemmas.List.{append-nil, get_or_append_left, get_or_push, 
 use Rattle.std.proofs.lemmas.List.Elements.{filter-append}
 use Rattle.std.proofs.lemmas.Nat.Bits.{bit_at-trailing_zeros, bit_at-zero, bit_at_set_same, bit_at_set_other}
 use Rattle.polis_base.specs.Lists.{upto}
-use Rattle.outcome_table.specs.RowSets.{IsBoth, has_row, rows_in}
-use Rattle.outcome_table.proofs.Bits.{both_bits}
+use Rattle.outcome_table.specs.inner.RowSets.{IsBoth, has_row, rows_in}
+use Rattle.transition_table.proofs.Bits.{both_bits}
 use Rattle.outcome_table.proofs.Narrowing.{not_below}
 
 one_more : (p : ℕ → Bool) (n : ℕ) → filter p (upto (suc n))

@@ -1,5 +1,5 @@
 -- Rows of a machine, and what they give.
-use Rattle.std.proofs.Common.{◌≡◌, ℕ, zero, suc, ◌+◌, ◌-◌, ◌<◌, ◌≤◌, true, ◌&&◌, ◌==◌, List, [], ◌∷◌, ◌++◌, map, length, take, drop, replicate, slice_get, slice_index, slice_set, Some, refl, ap, sym, ◌∙◌, arith, nat_lt, nat_le, length-append}
+use Rattle.std.proofs.Common.{◌≡◌, ℕ, zero, suc, ◌+◌, ◌-◌, ◌<◌, ◌≤◌, true, ◌&&◌, ◌==◌, List, ◌∷◌, ◌++◌, map, length, take, drop, replicate, slice_get, slice_index, slice_set, Some, refl, ap, sym, ◌∙◌, arith, nat_lt, nat_le, length-append, []}
 use Rattle.std.specs.List.{list_all}
 use Rattle.std.specs.Cmp.Lexicographic.{pointwise}
 use Rattle.std.proofs.lemmas.Bool.{and_parts, and_from, eqb-true, leb-true, lt-ltb, false≢true}
@@ -13,6 +13,7 @@ use Rattle.transition_table.specs.declared.machine.Machine.{Machine}
 use Rattle.transition_table.specs.declared.row.Act.{Act}
 use Rattle.transition_table.specs.declared.row.Row.{Row}
 use Rattle.outcome_table.proofs.Lists.{all_get}
+use Rattle.domains.proofs.AllCodes.{long_map}
 
 pub row_fits : (m : Machine) (r : ℕ) (row : Row) → slice_get m.rows r ≡ Some row
     → is_row m.inputs m.vars m.results row ≡ true
@@ -103,10 +104,6 @@ given_more m codes acts y some =
     ap (λ (k : ℕ). codes_given m codes acts 1 k) e
     ∙ map-append (λ k. code_given m codes acts (1 + k)) (upto (y - 1)) ((y - 1) ∷ [])
     ∙ ap (λ (k : ℕ). codes_given m codes acts 1 (y - 1) ++ code_given m codes acts k ∷ []) g
-
-long_map : {X Y : Type 0} (f : X → Y) (xs : List X) → length (map f xs) ≡ length xs
-long_map f [] = refl
-long_map f (x ∷ xs) = ap suc (long_map f xs)
 
 long_upto : (n : ℕ) → length (upto n) ≡ n
 long_upto zero = refl

@@ -16,8 +16,8 @@ use Rattle.transition_table.specs.declared.row.Cond.{Cond}
 use Rattle.transition_table.specs.declared.row.Row.{Row}
 use Rattle.transition_table.specs.declared.row.Source.{Source}
 use Rattle.transition_table.specs.declared.row.Source.TheVariants.{Code, Input, Add}
-use Rattle.outcome_table.specs.Needs.{AreEnds, asks_before, is_before, is_settled, takes_before}
-use Rattle.outcome_table.specs.Numbering.{may_hold, may_be_enabled, rows_left}
+use Rattle.outcome_table.specs.inner.Needs.{AreEnds, asks_before, is_before, is_settled, takes_before}
+use Rattle.outcome_table.specs.inner.Numbering.{may_hold, may_be_enabled, rows_left}
 use Rattle.outcome_table.proofs.Starting.{same_outcome}
 
 same_code : (fixed rest : List ℕ) (v : ℕ) → v < length fixed

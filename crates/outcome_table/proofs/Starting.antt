@@ -1,5 +1,5 @@
 -- What numbering begins with.
-use Rattle.std.proofs.Common.{◌≡◌, ℕ, zero, suc, ◌+◌, Bool, true, cond, ◌==◌, List, [], ◌∷◌, ◌++◌, map, length, slice_get, Some, option_map, refl, ap, sym, ◌∙◌, arith}
+use Rattle.std.proofs.Common.{◌≡◌, ℕ, zero, suc, ◌+◌, Bool, true, cond, ◌==◌, List, ◌∷◌, ◌++◌, map, length, slice_get, Some, option_map, refl, ap, sym, ◌∙◌, arith, []}
 use Rattle.std.specs.List.{list_all}
 use Rattle.std.proofs.lemmas.Bool.{and_parts, false≢true}
 use Rattle.std.proofs.lemmas.List.{map-append}
@@ -13,9 +13,10 @@ use Rattle.transition_table.specs.declared.row.Act.{Act}
 use Rattle.transition_table.specs.declared.row.Row.{Row}
 use Rattle.transition_table.specs.declared.row.Source.{Source}
 use Rattle.transition_table.specs.declared.row.Source.TheVariants.{Code, Input, Add}
-use Rattle.outcome_table.specs.Numbering.{AreRowOutcomes, BeginWithRows, is_code, is_fixed, rows_left}
+use Rattle.outcome_table.specs.inner.Numbering.{AreRowOutcomes, BeginWithRows, is_code, is_fixed, rows_left}
 use Rattle.outcome_table.proofs.Lists.{map_map, map_same}
 use Rattle.outcome_table.proofs.Narrowing.{all_left}
+use Rattle.domains.proofs.AllCodes.{long_map}
 
 upto_more : (k : ℕ) → upto (suc k) ≡ 0 ∷ map suc (upto k)
 upto_more zero = refl
@@ -80,10 +81,6 @@ same_outcome m s t p each acts h =
     ap (λ (xs : List ℕ). 1 ∷ (xs ++ codes_given m s acts (1 + length m.states) (length m.outputs)))
     next
     ∙ ap (λ (xs : List ℕ). 1 ∷ (codes_given m t acts 1 (length m.states) ++ xs)) outs
-
-long_map : {X Y : Type 0} (f : X → Y) (xs : List X) → length (map f xs) ≡ length xs
-long_map f [] = refl
-long_map f (x ∷ xs) = ap suc (long_map f xs)
 
 pub begin : (m : Machine) (s : List ℕ) (fixed : List Bool) (outcomes : List (List ℕ))
     → AreRowOutcomes m s outcomes → fixed ≡ map (λ (row : Row). list_all is_fixed row.acts) m.rows

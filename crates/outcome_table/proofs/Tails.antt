@@ -1,5 +1,5 @@
 -- The rows that allow the codes of the last variables, and the numbers that they give.
-use Rattle.std.proofs.Common.{◌≡◌, ℕ, zero, suc, ◌+◌, ◌-◌, ◌<◌, ◌≤◌, Bool, true, cond, ◌&&◌, List, [], ◌∷◌, ◌++◌, map, flat_map, length, take, drop, get_or, slice_get, slice_index, Option, None, Some, refl, ap, sym, ◌∙◌, subst, inl, inr, arith, nat_lt, length-append, IfSome}
+use Rattle.std.proofs.Common.{◌≡◌, ℕ, zero, suc, ◌+◌, ◌-◌, ◌<◌, ◌≤◌, Bool, true, cond, ◌&&◌, List, ◌∷◌, ◌++◌, map, flat_map, length, take, drop, get_or, slice_get, slice_index, Option, None, Some, refl, ap, sym, ◌∙◌, subst, inl, inr, arith, nat_lt, length-append, IfSome, []}
 use Rattle.std.specs.Prelude.{filter}
 use Rattle.std.proofs.Math.Seq.{drop-cons, take-length}
 use Rattle.std.proofs.lemmas.Bool.{cases_lt, lt-ltb}
@@ -11,25 +11,22 @@ use Rattle.transition_table.specs.Computed.{result_codes}
 use Rattle.transition_table.specs.Orders.{codes_of}
 use Rattle.transition_table.specs.declared.machine.Machine.{Machine}
 use Rattle.transition_table.specs.declared.row.Row.{Row}
-use Rattle.outcome_table.specs.Needs.{AreEnds}
-use Rattle.outcome_table.specs.Numbering.{Adds, BeginWithRows, may_be_enabled, rows_left}
-use Rattle.outcome_table.specs.RowSets.{IsBoth, IsSetOf, has_row}
-use Rattle.outcome_table.specs.Tails.{AddsBoth, EachNarrows, Narrows, number_under}
+use Rattle.outcome_table.specs.inner.Needs.{AreEnds}
+use Rattle.outcome_table.specs.inner.Numbering.{Adds, BeginWithRows, may_be_enabled, rows_left}
+use Rattle.outcome_table.specs.inner.RowSets.{IsBoth, IsSetOf, has_row}
+use Rattle.outcome_table.specs.inner.Tails.{AddsBoth, EachNarrows, Narrows, number_under}
 use Rattle.outcome_table.specs.declared.number.Numbered.{Numbered}
 use Rattle.outcome_table.proofs.Counting.{adds_many, adds_on, same_before}
 use Rattle.outcome_table.proofs.Narrowing.{and_true, filter_places, narrowed, places_same}
 use Rattle.outcome_table.proofs.RowSets.{filter_twice}
 use Rattle.outcome_table.proofs.Settled.{first_left, none_left}
+use Rattle.domains.proofs.AllCodes.{long_map}
 
 filter_same : (p q : ℕ → Bool) (xs : List ℕ) → ((x : ℕ) → p x ≡ q x) → filter p xs ≡ filter q xs
 filter_same p q [] each = refl
 filter_same p q (x ∷ xs) each =
     ap (λ b. cond b (x ∷ filter p xs) (filter p xs)) (each x)
     ∙ ap (λ (ys : List ℕ). cond (q x) (x ∷ ys) ys) (filter_same p q xs each)
-
-long_map : {X Y : Type 0} (f : X → Y) (xs : List X) → length (map f xs) ≡ length xs
-long_map f [] = refl
-long_map f (x ∷ xs) = ap suc (long_map f xs)
 
 get_map : (f : List ℕ → List ℕ) (xs : List (List ℕ)) (i : ℕ) → i < length xs
     → get_or (map f xs) i [] ≡ f (get_or xs i [])

@@ -1,7 +1,3 @@
 pub mod Known
-pub mod Masks
-pub mod Needs
-pub mod Numbering
 pub mod Outcomes
-pub mod RowSets
-pub mod Tails
+pub mod inner

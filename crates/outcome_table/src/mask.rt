@@ -2,8 +2,9 @@
 ghost use Rattle.std.specs.Prelude.{◌≡◌, ◌<◌, ◌≤◌, ◌&&◌, ◌==◌, ℕ, nat_lt, length, IfOk, IsTrue};
 ghost use Rattle.std.specs.List.{list_all};
 ghost use Rattle.std.specs.Int.{bit_at};
-ghost use Rattle.outcome_table.specs.Masks.{allows_code, IsMask, AreMasks};
-ghost use Rattle.outcome_table.specs.RowSets.{AreAllowed, AreSets};
+ghost use Rattle.transition_table.specs.inner.Masks.{allows_code, IsMask};
+ghost use Rattle.outcome_table.specs.inner.Masks.{AreMasks};
+ghost use Rattle.outcome_table.specs.inner.RowSets.{AreAllowed, AreSets};
 
 use crate::row_set::{RowSet, rows_with};
 use polis_base::{List, NoMemory};

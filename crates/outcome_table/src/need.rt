@@ -2,9 +2,9 @@
 ghost use Rattle.std.specs.Prelude.{◌≡◌, ◌≤◌, nat_lt, length, IfOk, IsTrue};
 ghost use Rattle.std.specs.List.{list_all};
 ghost use Rattle.transition_table.specs.MachineFacts.{is_row, names_codes, names_result};
-ghost use Rattle.outcome_table.specs.Needs.{AreEnds, asks_before, is_settled, takes_before};
+ghost use Rattle.outcome_table.specs.inner.Needs.{AreEnds, asks_before, is_settled, takes_before};
 
-use polis_base::{List, NoMemory, Places};
+use polis_base::{List, NoMemory};
 use std::alloc::Global;
 use transition_table::{Act, Cond, Machine, Row, Source};
 
@@ -60,7 +60,7 @@ fn end_of(machine: &Machine, row: &Row) -> u64
 }
 
 /// For each row how many variables from the first on it needs.
-pub(crate) fn ends_of(alloc: Global, machine: &Machine) -> Result<Places, NoMemory>
+pub(crate) fn ends_of(alloc: Global, machine: &Machine) -> Result<List<u64>, NoMemory>
     ensures { IfOk result (AreEnds machine.now) }
 {
     let mut ends = List::new(alloc);

@@ -3,11 +3,11 @@ ghost use Rattle.std.specs.Prelude.{◌≡◌, ◌<◌, ◌≤◌, map, length, 
 ghost use Rattle.std.specs.List.{list_all};
 ghost use Rattle.domains.specs.AllCodes.{all_codes};
 ghost use Rattle.transition_table.specs.Transitions.{IsSnapshot};
-ghost use Rattle.outcome_table.specs.Needs.{AreEnds, end_left};
-ghost use Rattle.outcome_table.specs.Numbering.{Adds, AreCounts, AreRowOutcomes, BeginWithRows, IsNumberAfter, is_fixed, lists_after, rows_left};
+ghost use Rattle.outcome_table.specs.inner.Needs.{AreEnds, end_left};
+ghost use Rattle.outcome_table.specs.inner.Numbering.{Adds, AreCounts, AreRowOutcomes, BeginWithRows, IsNumberAfter, is_fixed, lists_after, rows_left};
 ghost use Rattle.outcome_table.specs.Outcomes.{named, are_named};
-ghost use Rattle.outcome_table.specs.RowSets.{AreAllowed, rows_in};
-ghost use Rattle.outcome_table.specs.Tails.{AreTails, number_under};
+ghost use Rattle.outcome_table.specs.inner.RowSets.{AreAllowed, rows_in};
+ghost use Rattle.outcome_table.specs.inner.Tails.{AreTails, number_under};
 ghost use Rattle.transition_table.specs.Computed.{result_codes};
 
 use crate::column::lists_from;
@@ -18,7 +18,7 @@ use crate::row::{are_codes, blank_codes, row_codes};
 use crate::row_set::{RowSet, both, first_of_both, first_rows};
 use crate::tail::{Tails, tails_of};
 use domains::{Codes, first_codes};
-use polis_base::{List, NoMemory, Places};
+use polis_base::{List, NoMemory};
 use std::alloc::Global;
 use transition_table::{Machine, Snapshot};
 
@@ -40,9 +40,9 @@ struct Narrowing<'a> {
     // for each row whether its outcome is the same on all snapshots
     fixed: &'a List<bool>,
     // for each row how many variables from the first on it needs
-    ends: &'a Places,
+    ends: &'a List<u64>,
     // for each variable how many lists of codes there are of those from it on
-    counts: &'a Places,
+    counts: &'a List<u64>,
     // the rows that allow the codes of the last variables
     tails: &'a Tails,
 }
@@ -279,10 +279,10 @@ fn fixed_rows(alloc: Global, m: &Machine) -> Result<List<bool>, NoMemory>
 }
 
 // For each variable, and after the last one, how many lists of codes there are of those from it on.
-fn counts_of(alloc: Global, m: &Machine) -> Result<Places, NoMemory>
+fn counts_of(alloc: Global, m: &Machine) -> Result<List<u64>, NoMemory>
     ensures { IfOk result (AreCounts m.now.vars) }
 {
-    let mut counts = Places::new(alloc);
+    let mut counts = List::new(alloc);
     for v in 0..m.var_count() + 1 {
         counts.push(lists_from(&m.vars, u64::from(v)))?;
     }

@@ -4,7 +4,7 @@ ghost use Rattle.std.specs.List.{list_all};
 ghost use Rattle.transition_table.specs.MachineFacts.{is_row};
 ghost use Rattle.transition_table.specs.Transitions.{IsSnapshot, outcome_of, blank};
 ghost use Rattle.transition_table.specs.Orders.{codes_of};
-ghost use Rattle.outcome_table.specs.Numbering.{is_fixed};
+ghost use Rattle.outcome_table.specs.inner.Numbering.{is_fixed};
 
 use domains::Codes;
 use polis_base::NoMemory;

@@ -2,7 +2,7 @@
 ghost use Rattle.std.specs.Prelude.{◌≡◌, ◌≢◌, ◌<◌, ◌≤◌, ◌==◌, ℕ, true, filter, nat_lt, length, slice_get, slice_index};
 ghost use Rattle.std.specs.Int.{bit_at};
 ghost use Rattle.polis_base.specs.Lists.{upto};
-ghost use Rattle.outcome_table.specs.RowSets.{IsBoth, has_row, rows_in};
+ghost use Rattle.outcome_table.specs.inner.RowSets.{IsBoth, has_row, rows_in};
 
 use crate::mask::CodeSets;
 

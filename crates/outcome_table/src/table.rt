@@ -5,7 +5,7 @@ ghost use Rattle.outcome_table.specs.Outcomes.{IsTableOf};
 use crate::column::columns_of;
 use crate::number::numbers_of;
 use domains::Codes;
-use polis_base::{List, NoMemory, Places};
+use polis_base::{List, NoMemory};
 use std::alloc::Global;
 use transition_table::Machine;
 
@@ -16,7 +16,7 @@ pub struct Table {
     /// For each variable its code on each snapshot.
     pub codes: List<Codes>,
     /// For each snapshot the number of its outcome.
-    pub numbers: Places,
+    pub numbers: List<u64>,
     /// For each number of an outcome the codes of the results. Several numbers may have the same
     /// codes.
     pub outcomes: List<Codes>,
@@ -31,7 +31,7 @@ pub fn table_of(alloc: Global, m: &Machine) -> Result<Table, NoMemory>
     let numbered = numbers_of(alloc, m)?;
     Ok(Table {
         codes,
-        numbers: Places::of(numbered.numbers),
+        numbers: List::of(numbered.numbers),
         outcomes: numbered.outcomes.into_list(),
     })
 }

@@ -2,12 +2,12 @@
 ghost use Rattle.std.specs.Prelude.{◌≡◌, ◌≤◌, ◌+◌, length, drop, IfOk};
 ghost use Rattle.std.specs.List.{list_all};
 ghost use Rattle.domains.specs.AllCodes.{all_codes};
-ghost use Rattle.outcome_table.specs.Numbering.{AreCounts};
-ghost use Rattle.outcome_table.specs.RowSets.{AreAllowed};
-ghost use Rattle.outcome_table.specs.Tails.{AddsBoth, AreTails, EachNarrows};
+ghost use Rattle.outcome_table.specs.inner.Numbering.{AreCounts};
+ghost use Rattle.outcome_table.specs.inner.RowSets.{AreAllowed};
+ghost use Rattle.outcome_table.specs.inner.Tails.{AddsBoth, AreTails, EachNarrows};
 
 use crate::row_set::{RowSet, both, first_rows};
-use polis_base::{List, NoMemory, Places};
+use polis_base::{List, NoMemory};
 use std::alloc::Global;
 use transition_table::Machine;
 
@@ -71,7 +71,7 @@ fn are_all(fixed: &[bool]) -> bool
 }
 
 // The first variable such that there are few lists of codes of those from it on.
-fn first_of_few(machine: &Machine, counts: &Places) -> u64
+fn first_of_few(machine: &Machine, counts: &List<u64>) -> u64
     requires { AreCounts machine.now.vars counts.now }
     ensures { result ≤ length machine.now.vars }
 {
@@ -89,7 +89,7 @@ pub(crate) fn tails_of(
     machine: &Machine,
     allowed: &List<List<RowSet>>,
     fixed: &List<bool>,
-    counts: &Places,
+    counts: &List<u64>,
 ) -> Result<Tails, NoMemory>
     requires allowed { AreAllowed machine.now allowed.now }
     requires counts { AreCounts machine.now.vars counts.now }

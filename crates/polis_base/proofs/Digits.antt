@@ -10,7 +10,7 @@ use Rattle.std.proofs.lemmas.Str.Parse.{IsNumeralModel, numerals_by_fold}
 use Rattle.std.proofs.lemmas.Fmt.{decimal-digits_value, digits_decimal, digits_value-decimal, decimal_nonempty, first_decimal, decimal_digit}
 use Rattle.polis_base.specs.Digits.{is_digit, is_plain, number_of}
 
-abbrev next : ℕ → ℕ → ℕ
+abbrev pub next : ℕ → ℕ → ℕ
 next n c = n * 10 + (c - 48)
 
 -- digits after a number make it no smaller
@@ -26,7 +26,7 @@ prefix_least k cs =
     omega (arith, grows (number_of (take k cs)) (drop k cs))
 
 -- a zero at the start stands alone
-alone : (c : ℕ) (cs : List ℕ) → (not (c == 48) || length cs == 0) ≡ true → c ≡ 48
+pub alone : (c : ℕ) (cs : List ℕ) → (not (c == 48) || length cs == 0) ≡ true → c ≡ 48
     → length (c ∷ cs) ≡ 1
 alone c cs plain zero_first = grind (arith, nat_tests)
 
@@ -38,11 +38,11 @@ left_true : (a b : Bool) → (a && b) ≡ true → a ≡ true
 left_true true b h = refl
 left_true false b h = h
 
-right_true : (a b : Bool) → (a && b) ≡ true → b ≡ true
+pub right_true : (a b : Bool) → (a && b) ≡ true → b ≡ true
 right_true true b h = h
 right_true false b h = absurd (false≢true h)
 
-own : IsNumeralModel (λ cs. list_all is_digit cs ≡ true) number_of
+pub own : IsNumeralModel (λ cs. list_all is_digit cs ≡ true) number_of
 own = numerals_by_fold _ (search rules) (fold next) (search rules)
 
 -- plain digits are the text of their number
@@ -54,7 +54,7 @@ text_of_number (c ∷ cs) plain fits =
     sym (decimal-digits_value own (c ∷ cs) digits (omega arith)
     (alone c cs (right_true _ _ plain)) fits)
 
-first_zero : (n : ℕ) → n < 2 ^ 64 → get_or (decimal n) 0 0 ≡ 48 → length (decimal n) ≡ 1
+pub first_zero : (n : ℕ) → n < 2 ^ 64 → get_or (decimal n) 0 0 ≡ 48 → length (decimal n) ≡ 1
 first_zero zero fits first = ap length (decimal_digit 0 (omega arith))
 first_zero (suc n) fits first = absurd (omega (arith, first_decimal (suc n) (omega arith) fits))
 

@@ -18,11 +18,11 @@ not_zero (suc c) continues = grind (arith, nat_tests)
 begins_continues : (c : ℕ) → begins_name c ≡ true → continues_name c ≡ true
 begins_continues c begins = rw begins refl
 
-left_true : (a b : Bool) → (a && b) ≡ true → a ≡ true
+pub left_true : (a b : Bool) → (a && b) ≡ true → a ≡ true
 left_true true b h = refl
 left_true false b h = h
 
-right_true : (a b : Bool) → (a && b) ≡ true → b ≡ true
+pub right_true : (a b : Bool) → (a && b) ≡ true → b ≡ true
 right_true true b h = h
 right_true false b h = cc
 

@@ -7,7 +7,8 @@ use Rattle.polis_base.specs.declared.token.Token.{Token}
 use Rattle.polis_base.specs.declared.token.LexError.{LexError}
 use Rattle.polis_base.specs.declared.lex.Scan.{Scan}
 use Rattle.polis_base.specs.declared.lex.Scan.TheVariants.{Skipped, Read, Faulty}
-use Rattle.polis_base.specs.Tokens.{scan, bytes_in, width, with_token, joined, tokens_from, tokens_after}
+use Rattle.polis_base.specs.Tokens.{scan, bytes_in, with_token, joined, tokens_from, tokens_after}
+use Rattle.polis_base.specs.Tokens.{width}
 
 -- the tokens, where they read, with others before them
 abbrev pub after : List Token → Result (List Token) LexError → Result (List Token) LexError
@@ -15,7 +16,7 @@ after made (Ok tokens) = Ok (made ++ tokens)
 after made (Err error) = Err error
 
 -- the first bytes are passed over
-passed : (at n : ℕ) (bytes : List ℕ)
+pub passed : (at n : ℕ) (bytes : List ℕ)
     → tokens_from at n bytes ≡ tokens_from (at + n) 0 (drop n bytes)
 passed at zero bytes = rw add-zero refl
 passed at (suc n) [] = refl

@@ -9,10 +9,11 @@ use Rattle.std.proofs.lemmas.List.Folds.{length-prefix_len}
 use Rattle.polis_base.specs.declared.lex.Scan.{Scan}
 use Rattle.polis_base.specs.declared.lex.Scan.TheVariants.{Skipped, Read, Faulty}
 use Rattle.polis_base.specs.Names.{begins_name, continues_name}
-use Rattle.polis_base.specs.Classes.{is_sign, is_alone}
+use Rattle.polis_base.specs.inner.Classes.{is_sign, is_alone}
 use Rattle.polis_base.specs.Digits.{is_digit, number_of}
-use Rattle.polis_base.specs.Tokens.{scan, scan_word, scan_number, scan_sign, begins_with, bytes_in, width, is_blank, word_kind}
-use Rattle.polis_base.specs.Keywords.{keyword_of}
+use Rattle.polis_base.specs.Tokens.{scan, scan_word, scan_number, scan_sign, begins_with, bytes_in, is_blank, word_kind}
+use Rattle.polis_base.specs.Tokens.{width}
+use Rattle.polis_base.specs.inner.Keywords.{keyword_of}
 use Rattle.polis_base.specs.declared.token.Kind.TheVariants.{Number}
 use Rattle.polis_base.specs.declared.token.LexError.{LexError}
 use Rattle.polis_base.specs.declared.token.LexError.TheVariants.{BadByte, NameTooLong, NumberTooLarge, NoMemory}

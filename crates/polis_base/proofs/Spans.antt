@@ -8,7 +8,7 @@ use Rattle.std.proofs.lemmas.List.Folds.{length-prefix_len}
 use Rattle.std.proofs.lemmas.List.Sums.{take_while-cons}
 use Rattle.std.proofs.lemmas.List.Elements.{All-from_recursion}
 use Rattle.polis_base.specs.Names.{begins_name, continues_name, is_word, is_name}
-use Rattle.polis_base.specs.Keywords.{keyword_of}
+use Rattle.polis_base.specs.inner.Keywords.{keyword_of}
 use Rattle.polis_base.specs.Digits.{is_digit, number_of}
 use Rattle.polis_base.specs.declared.token.Keyword.{Keyword as Reserved}
 use Rattle.polis_base.specs.declared.token.Kind.{Kind}

@@ -1,10 +1,7 @@
-pub mod Classes
 pub mod Digits
 pub mod Faults
-pub mod Held
 pub mod Host
 pub mod Index
-pub mod Keywords
 pub mod Lists
 pub mod Memory
 pub mod NameFields
@@ -13,3 +10,4 @@ pub mod Saves
 pub mod Spans
 pub mod TokenSamples
 pub mod Tokens
+pub mod inner

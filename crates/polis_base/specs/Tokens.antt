@@ -4,7 +4,7 @@ use Rattle.std.specs.List.{take_while, prefix_len}
 use Rattle.std.specs.Result.{result_err}
 use Rattle.polis_base.specs.Names.{begins_name, continues_name}
 use Rattle.polis_base.specs.Digits.{is_digit, number_of}
-pub use Rattle.polis_base.specs.Keywords.{keyword_of}
+pub use Rattle.polis_base.specs.inner.Keywords.{keyword_of}
 use Rattle.polis_base.specs.declared.token.Keyword.{Keyword as Reserved}
 use Rattle.polis_base.specs.declared.token.Keyword.TheVariants.{KwSettle}
 use Rattle.polis_base.specs.declared.token.Sign.TheVariants.{Equal, Assign, Colon, Comma, LeftBrace, RightBrace, DotDot, Plus}

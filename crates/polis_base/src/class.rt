@@ -1,6 +1,6 @@
 // The classes of bytes, by a table.
 ghost use Rattle.std.specs.Prelude.{◌≡◌};
-ghost use Rattle.polis_base.specs.Classes.{class_of, is_alone};
+ghost use Rattle.polis_base.specs.inner.Classes.{class_of, is_alone};
 ghost use Rattle.polis_base.specs.Names.{continues_name};
 ghost use Rattle.polis_base.specs.Tokens.{is_blank};
 

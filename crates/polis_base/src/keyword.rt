@@ -1,6 +1,6 @@
 // The words that are no names.
 ghost use Rattle.std.specs.Prelude.{◌≡◌, ◌∷◌};
-ghost use Rattle.polis_base.specs.Keywords.{keyword_of as keyword_in_table};
+ghost use Rattle.polis_base.specs.inner.Keywords.{keyword_of as keyword_in_table};
 
 use crate::token::Keyword;
 

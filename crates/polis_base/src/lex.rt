@@ -5,7 +5,8 @@ ghost use Rattle.std.specs.Result.{result_err};
 ghost use Rattle.polis_base.specs.declared.token.LexError.{LexError};
 ghost use Rattle.polis_base.specs.Names.{continues_name};
 ghost use Rattle.polis_base.specs.Digits.{is_digit};
-ghost use Rattle.polis_base.specs.Tokens.{tokens_of, fault_of, tokens_after, mark, marked_after, scan, scan_word, scan_number, scan_sign, begins_with, is_blank, bytes_in, width};
+ghost use Rattle.polis_base.specs.Tokens.{tokens_of, tokens_after, mark, marked_after, scan, scan_word, scan_number, scan_sign, begins_with, is_blank, bytes_in};
+ghost use Rattle.polis_base.specs.Tokens.{fault_of, width};
 ghost use Rattle.polis_base.specs.Spans.{IsToken, IsNext, AreInOrder};
 
 use crate::class::{BLANK, DIGIT, HASH, LETTER, ZERO, class_of, continues, is_alone, is_blank};

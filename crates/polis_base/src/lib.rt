@@ -22,7 +22,7 @@ pub use bytes::Bytes;
 pub use decimal::read_decimal;
 pub use host::{Host, Load, Save};
 pub use lex::{fault_after, next_token, tokens};
-pub use list::{Duplicate, List, Numbers, Places};
+pub use list::{Duplicate, List, Numbers};
 pub use memory::MemoryHost;
 pub use name::Name;
 pub use std_host::StdHost;

@@ -16,7 +16,7 @@ use Rattle.transition_table.specs.declared.row.Row.{Row}
 use Rattle.transition_table.specs.declared.row.Source.{Source}
 use Rattle.transition_table.specs.declared.row.Source.TheVariants.{Code, Input, Add}
 use Rattle.transition_table.specs.declared.machine.Machine.{Machine}
-use Rattle.transition_table.proofs.Rows.{left_true, right_true}
+use Rattle.polis_base.proofs.Names.{left_true, right_true}
 
 -- codes that fit are below their sizes
 pub below_size : (sizes codes : List ℕ) (k : ℕ) → fits sizes codes ≡ true → k < length sizes

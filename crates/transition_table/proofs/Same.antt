@@ -1,5 +1,6 @@
 -- Values with the same data are the same.
 use Rattle.std.proofs.Common.{◌≤◌, length, map, IsTrue}
+use Rattle.polis_base.specs.declared.limits.TheConstants.{DOMAINS_MAX, EVENTS_MAX, MACHINES_MAX}
 use mathlib.Core.HLevel.{is_prop→PathP}
 use mathlib.Core.Bool.{Bool-set}
 use Rattle.std.specs.Coded.{le_prop}
@@ -7,7 +8,8 @@ use Rattle.std.specs.List.{list_all, enumerate_from}
 use Rattle.domains.specs.Names.{are_distinct}
 use Rattle.transition_table.specs.Laws.{SameRow, SameMachine, SameNetwork}
 use Rattle.transition_table.specs.MachineFacts.{are_vars, are_results, is_row, is_small}
-use Rattle.transition_table.specs.NetworkFacts.{has_receivers, has_sender, lists_once, has_vars, has_outputs, is_numbered, has_domain}
+use Rattle.transition_table.specs.NetworkFacts.{has_vars}
+use Rattle.transition_table.specs.inner.NetworkFacts.{has_receivers, has_sender, lists_once, has_outputs, is_numbered, has_domain}
 use Rattle.transition_table.specs.RowFacts.{are_actions}
 
 pub same_row : SameRow
@@ -49,11 +51,11 @@ same_network a b s = λ i. record {
   domains = s.domains i;
   events = s.events i;
   machines = s.machines i;
-  few_domains = is_prop→PathP (λ j. length (s.domains j) ≤ 64) (λ j. le_prop) a.few_domains
+  few_domains = is_prop→PathP (λ j. length (s.domains j) ≤ DOMAINS_MAX) (λ j. le_prop) a.few_domains
       b.few_domains i;
-  few_events = is_prop→PathP (λ j. length (s.events j) ≤ 256) (λ j. le_prop) a.few_events
+  few_events = is_prop→PathP (λ j. length (s.events j) ≤ EVENTS_MAX) (λ j. le_prop) a.few_events
       b.few_events i;
-  few_machines = is_prop→PathP (λ j. length (s.machines j) ≤ 64) (λ j. le_prop) a.few_machines
+  few_machines = is_prop→PathP (λ j. length (s.machines j) ≤ MACHINES_MAX) (λ j. le_prop) a.few_machines
       b.few_machines i;
   event_names = is_prop→PathP (λ j. IsTrue (are_distinct (map (λ event. event.name) (s.events j))))
       (λ j. Bool-set _ _) a.event_names b.event_names i;

@@ -20,7 +20,7 @@ use Rattle.transition_table.proofs.Ranges.{below_size}
 use Rattle.transition_table.proofs.Rows.{length-fits}
 
 -- ---- some item passes, or none does
-some_item : {X : Type 0} (p q : X → Bool) (xs : List X) → list_all p xs ≡ true
+pub some_item : {X : Type 0} (p q : X → Bool) (xs : List X) → list_all p xs ≡ true
     → list_any q xs ≡ true → (x : X) × (p x ≡ true) × (q x ≡ true)
 some_item p q [] all any = absurd (false≢true any)
 some_item p q (x ∷ xs) all any =
@@ -89,7 +89,7 @@ fits_set (size ∷ sizes) (first ∷ codes) h (suc var) code below =
     let parts = and_parts (nat_lt first size) (fits sizes codes) h in
     both_true parts.0 (fits_set sizes codes parts.1 var code below)
 
-set_own : (xs : List ℕ) (k : ℕ) → slice_set xs k (slice_index xs k) ≡ xs
+pub set_own : (xs : List ℕ) (k : ℕ) → slice_set xs k (slice_index xs k) ≡ xs
 set_own [] k = refl
 set_own (x ∷ xs) zero = refl
 set_own (x ∷ xs) (suc k) = ap (λ (ys : List ℕ). x ∷ ys) (set_own xs k)

@@ -4,10 +4,10 @@ use Rattle.std.proofs.lemmas.Bool.{ltb-true}
 use Rattle.domains.specs.Tables.{fits}
 use Rattle.transition_table.specs.declared.snapshot.Outcome.{Outcome}
 use Rattle.transition_table.specs.Orders.{codes_of, Char, Support}
-use Rattle.transition_table.specs.SampleEcho.{echo_machine}
+use Rattle.transition_table.specs.samples.Echo.{echo_machine}
 use Rattle.transition_table.specs.Transitions.{reading, is_enabled, Transition}
 use Rattle.transition_table.specs.Worked.{firing}
-use Rattle.transition_table.proofs.Rows.{left_true}
+use Rattle.polis_base.proofs.Names.{left_true}
 
 pub echo_char : Char echo_machine (6 ∷ 6 ∷ 1 ∷ 2 ∷ 6 ∷ [])
 echo_char = (6 ∷ 6 ∷ [], firing (2 ∷ []) (6 ∷ []), refl, inl (0, refl, refl), refl)

@@ -4,14 +4,15 @@ use Rattle.std.specs.List.{list_all}
 use Rattle.std.specs.Int.{bit_at}
 use Rattle.std.proofs.lemmas.Bool.{ltb-true}
 use Rattle.domains.specs.Tables.{fits}
-use Rattle.transition_table.proofs.Rows.{left_true, length-fits}
-use Rattle.transition_table.specs.SampleClash.{clash_machine}
-use Rattle.transition_table.specs.SampleEcho.{echo_machine}
-use Rattle.transition_table.specs.SampleLamp.{lamp_machine}
-use Rattle.transition_table.specs.SampleLoop.{loop_machine}
-use Rattle.transition_table.specs.SampleTwice.{agreeing_machine, differing_machine}
-use Rattle.transition_table.specs.SampleValue.{value_machine}
-use Rattle.transition_table.specs.Samples.{has_codes}
+use Rattle.transition_table.proofs.Rows.{length-fits}
+use Rattle.polis_base.proofs.Names.{left_true}
+use Rattle.transition_table.specs.samples.Clash.{clash_machine}
+use Rattle.transition_table.specs.samples.Echo.{echo_machine}
+use Rattle.transition_table.specs.samples.Lamp.{lamp_machine}
+use Rattle.transition_table.specs.samples.Loop.{loop_machine}
+use Rattle.transition_table.specs.samples.Twice.{agreeing_machine, differing_machine}
+use Rattle.transition_table.specs.samples.Value.{value_machine}
+use Rattle.transition_table.specs.samples.Parts.{has_codes}
 use Rattle.transition_table.specs.Transitions.{reading, is_enabled, allows, result, IsDeterministic, Conflict}
 use Rattle.transition_table.specs.Worked.{Fires, Idles}
 use Rattle.transition_table.specs.declared.snapshot.Outcome.{Outcome}

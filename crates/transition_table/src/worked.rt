@@ -1,12 +1,12 @@
 // Worked rows: what the definitions say of small machines.
 ghost use Rattle.std.specs.Prelude.{[], ◌∷◌};
 ghost use Rattle.transition_table.specs.Orders.{Char, Support};
-ghost use Rattle.transition_table.specs.SampleClash.{clash_machine};
-ghost use Rattle.transition_table.specs.SampleEcho.{echo_machine};
-ghost use Rattle.transition_table.specs.SampleLamp.{lamp_machine};
-ghost use Rattle.transition_table.specs.SampleLoop.{loop_machine};
-ghost use Rattle.transition_table.specs.SampleTwice.{agreeing_machine, differing_machine};
-ghost use Rattle.transition_table.specs.SampleValue.{value_machine};
+ghost use Rattle.transition_table.specs.samples.Clash.{clash_machine};
+ghost use Rattle.transition_table.specs.samples.Echo.{echo_machine};
+ghost use Rattle.transition_table.specs.samples.Lamp.{lamp_machine};
+ghost use Rattle.transition_table.specs.samples.Loop.{loop_machine};
+ghost use Rattle.transition_table.specs.samples.Twice.{agreeing_machine, differing_machine};
+ghost use Rattle.transition_table.specs.samples.Value.{value_machine};
 ghost use Rattle.transition_table.specs.Transitions.{reading, Conflict, IsDeterministic};
 ghost use Rattle.transition_table.specs.Worked.{Fires, Idles};
 

@@ -1,5 +1,5 @@
 use Rattle.std.proofs.Common.{◌≡◌, ℕ, arith, subst}
-use Rattle.determinism.specs.Pairs.{results_end, IsBest}
+use Rattle.determinism.specs.inner.Pairs.{results_end, IsBest}
 use Rattle.determinism.proofs.conflict.any_difference.Goals as goal
 
 pub returns-clause-best : goal.returns-clause-best

@@ -1,5 +1,5 @@
 use Rattle.std.proofs.Common.{◌≡◌, length}
-use Rattle.determinism.specs.Pairs.{IsBest}
+use Rattle.determinism.specs.inner.Pairs.{IsBest}
 use Rattle.determinism.proofs.conflict.any_difference.Given as goal
 
 -- the least codes for the results before this one

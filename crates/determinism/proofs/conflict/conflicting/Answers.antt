@@ -15,9 +15,9 @@ loop-b-init c =
     let near = rw c.as_slice.ensures at c.next_near-b.ensures in
     let long = c.requires.marks.long in
     record {
-      sets = c.requires.sets;
-      long = c.requires.long;
-      best_long = c.requires.best_long;
+      sets = c.requires.room.sets;
+      long = c.requires.room.long;
+      best_long = c.requires.room.best_long;
       from = let start = near.from in omega arith;
       within = let end = near.within in omega arith;
       none = λ d t below conflict.
@@ -40,9 +40,9 @@ loop-b-preserved c =
     let long = c.requires.marks.long in
     let order = c.loop-b.invariant.from in
     record {
-      sets = c.conflict_of.ensures.sets;
-      long = c.conflict_of.ensures.long;
-      best_long = c.conflict_of.ensures.best_long;
+      sets = c.conflict_of.ensures.room.sets;
+      long = c.conflict_of.ensures.room.long;
+      best_long = c.conflict_of.ensures.room.best_long;
       from = let start = near.from in omega arith;
       within = let end = near.within in omega arith;
       none = λ d t below conflict.

@@ -1,5 +1,5 @@
 use Rattle.std.proofs.Common.{Bool, subst}
-use Rattle.determinism.specs.Pairs.{IsBest}
+use Rattle.determinism.specs.inner.Pairs.{IsBest}
 use Rattle.determinism.proofs.Bests.{best_stays, best_moves, true_or_false}
 use Rattle.determinism.proofs.conflict.improve.Goals as goal
 use Rattle.determinism.proofs.conflict.improve.Goals.{else-found-via-then-found+else-stands_before, else-found-via-else-found}

@@ -1,6 +1,6 @@
 use Rattle.std.proofs.Common.{◌<◌, ℕ, List, slice_index}
-use Rattle.determinism.specs.Common.{IsIn, SameBut}
-use Rattle.determinism.specs.Pairs.{Differ}
+use Rattle.determinism.specs.inner.Boxes.{IsIn, SameBut}
+use Rattle.determinism.specs.inner.Pairs.{Differ}
 use Rattle.determinism.proofs.difference.first_pair.Given as goal
 
 -- at no code before this one does the result differ

@@ -1,4 +1,4 @@
-use Rattle.determinism.specs.Marks.{IsMarked}
+use Rattle.determinism.specs.inner.Marks.{IsMarked}
 use Rattle.determinism.proofs.marks.marks_of.Given as goal
 
 -- the marks by the variables before this one

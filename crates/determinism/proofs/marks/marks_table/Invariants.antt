@@ -1,7 +1,7 @@
 use Rattle.std.proofs.Common.{◌≡◌, ℕ, length, slice_get, Some}
 use Rattle.transition_table.specs.declared.row.Row.{Row}
 use Rattle.determinism.specs.declared.marks.Marks.{Marks}
-use Rattle.determinism.specs.Marks.{IsMarked}
+use Rattle.determinism.specs.inner.Marks.{IsMarked}
 use Rattle.determinism.proofs.marks.marks_table.Given as goal
 
 -- the rows before this one

@@ -1,5 +1,5 @@
 use Rattle.std.proofs.Common.{ℕ, List, inl, inr}
-use Rattle.determinism.specs.Marks.{Enables}
+use Rattle.determinism.specs.inner.Marks.{Enables}
 use Rattle.determinism.proofs.Apart.{says_first, says_other, denies_first, denies_other, only_first, never_first}
 use Rattle.determinism.proofs.marks.with_mask.Goals as goal
 

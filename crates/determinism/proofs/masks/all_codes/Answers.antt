@@ -1,4 +1,4 @@
-use Rattle.determinism.proofs.Ones.{all_ones}
+use Rattle.transition_table.proofs.Ones.{all_ones}
 use Rattle.determinism.proofs.masks.all_codes.Goals as goal
 
 pub returns : goal.returns

@@ -1,7 +1,7 @@
 use Rattle.std.proofs.Common.{◌≡◌, ◌∙◌, ◌<◌, ◌≤◌, length, slice_get, slice_set, Some, get_or, bit_and, arith, ap}
 use Rattle.std.proofs.lemmas.List.{length-set}
 use Rattle.transition_table.specs.declared.row.Cond.{Cond}
-use Rattle.determinism.proofs.Bits.{set_leaves, passes}
+use Rattle.transition_table.proofs.Bits.{set_leaves, passes}
 use Rattle.determinism.proofs.masks.narrow.Goals as goal
 use Rattle.determinism.proofs.masks.narrow.Goals.{then-var-len, else-var-len}
 

@@ -1,7 +1,7 @@
 use Rattle.std.proofs.Common.{◌≡◌, ◌<◌, ◌&&◌, ◌==◌, ℕ, length, slice_index, drop}
 use Rattle.std.specs.List.{list_all}
 use Rattle.std.specs.Int.{bit_at}
-use Rattle.determinism.specs.Common.{allows_code}
+use Rattle.transition_table.specs.inner.Masks.{allows_code}
 use Rattle.determinism.proofs.masks.narrow.Given as goal
 
 -- what the conditions from this one on leave of what is left is what all leave of the sets

@@ -1,6 +1,6 @@
 use Rattle.std.proofs.Common.{◌≡◌, ℕ, List, length, slice_get, Some}
 use Rattle.transition_table.specs.declared.row.Row.{Row}
-use Rattle.determinism.specs.Common.{AreMasks}
+use Rattle.determinism.specs.inner.Boxes.{AreMasks}
 use Rattle.determinism.proofs.masks.table_of.Given as goal
 
 -- the rows before this one

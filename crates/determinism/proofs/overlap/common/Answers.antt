@@ -1,7 +1,7 @@
 use Rattle.std.proofs.Common.{◌≡◌, ◌<◌, ◌&&◌, ◌==◌, length, slice_index, bit_and, arith, sym, ap, ◌∙◌}
 use Rattle.std.specs.Int.{bit_at}
 use Rattle.std.proofs.lemmas.List.{length-set}
-use Rattle.determinism.proofs.Bits.{bits_at, no_bits}
+use Rattle.transition_table.proofs.Bits.{bits_at, no_bits}
 use Rattle.determinism.proofs.Picks.{written}
 use Rattle.determinism.proofs.overlap.common.Goals as goal
 

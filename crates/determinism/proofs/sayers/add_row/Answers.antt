@@ -2,7 +2,7 @@ use Rattle.std.proofs.Common.{◌+◌, ◌*◌, ◌/◌, length, ap, sym, ◌∙
 use Rattle.std.specs.Int.{bit_at}
 use Rattle.std.proofs.lemmas.List.{length-set}
 use Rattle.std.proofs.lemmas.Option.{get_or_from_slice_get}
-use Rattle.determinism.specs.Sayers.{HasAdded}
+use Rattle.determinism.specs.inner.Sayers.{HasAdded}
 use Rattle.determinism.proofs.Saying.{added, more_added}
 use Rattle.determinism.proofs.sayers.add_row.Goals as goal
 

@@ -1,6 +1,6 @@
 use Rattle.std.proofs.Common.{◌≡◌, ℕ, length}
 use Rattle.std.specs.Int.{bit_at}
-use Rattle.determinism.specs.Sayers.{HasAdded}
+use Rattle.determinism.specs.inner.Sayers.{HasAdded}
 use Rattle.determinism.proofs.sayers.add_row.Given as goal
 
 -- the places that are left are said

@@ -1,6 +1,6 @@
 use Rattle.std.proofs.Common.{◌≡◌, ℕ}
 use Rattle.std.specs.Int.{bit_at}
-use Rattle.determinism.specs.Sayers.{IsFar}
+use Rattle.determinism.specs.inner.Sayers.{IsFar}
 use Rattle.determinism.proofs.sayers.far_in.Given as goal
 
 -- the places that are left are denied

@@ -1,4 +1,4 @@
-use Rattle.determinism.specs.Sayers.{AreSayers}
+use Rattle.determinism.specs.inner.Sayers.{AreSayers}
 use Rattle.determinism.proofs.sayers.sayers_of.Given as goal
 
 -- what is said so far is said by these rows

@@ -1,4 +1,4 @@
-use Rattle.outcome_table.proofs.Ones.{all_ones}
+use Rattle.transition_table.proofs.Ones.{all_ones}
 use Rattle.outcome_table.proofs.mask.all_codes.Goals as goal
 
 pub returns : goal.returns

@@ -1,6 +1,6 @@
 use Rattle.std.proofs.Common.{◌∙◌, inl, inr}
 use Rattle.transition_table.specs.declared.row.Cond.{Cond}
-use Rattle.outcome_table.proofs.Bits.{next_leaves}
+use Rattle.transition_table.proofs.Bits.{next_leaves}
 use Rattle.outcome_table.proofs.mask.allowed.Goals as goal
 use Rattle.outcome_table.proofs.mask.allowed.Goals.{then-cond-var, else-cond-var}
 

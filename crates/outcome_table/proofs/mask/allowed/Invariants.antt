@@ -1,7 +1,7 @@
 use Rattle.std.proofs.Common.{◌≡◌, ◌&&◌, ◌==◌, ℕ, drop}
 use Rattle.std.specs.List.{list_all}
 use Rattle.std.specs.Int.{bit_at}
-use Rattle.outcome_table.specs.Masks.{allows_code}
+use Rattle.transition_table.specs.inner.Masks.{allows_code}
 use Rattle.outcome_table.proofs.mask.allowed.Given as goal
 
 -- what the conditions from this one on leave of what is left is what all leave of the set

@@ -1,5 +1,5 @@
 use Rattle.std.proofs.Common.{◌≡◌, ◌<◌, ℕ, [], length, get_or}
-use Rattle.outcome_table.specs.RowSets.{AreSets}
+use Rattle.outcome_table.specs.inner.RowSets.{AreSets}
 use Rattle.outcome_table.proofs.mask.allowed_table.Given as goal
 
 -- the variables before this one

@@ -3,7 +3,7 @@ use Rattle.std.proofs.lemmas.Bool.{cases_lt}
 use Rattle.std.proofs.lemmas.List.{length_push, get_or_append_left, get_or_push}
 use Rattle.std.proofs.lemmas.Option.{slice_get_within}
 use Rattle.transition_table.specs.declared.row.Row.{Row}
-use Rattle.outcome_table.specs.Masks.{IsMask}
+use Rattle.transition_table.specs.inner.Masks.{IsMask}
 use Rattle.outcome_table.proofs.mask.masks_of.Goals as goal
 
 pub loop-r-preserved : goal.loop-r-preserved

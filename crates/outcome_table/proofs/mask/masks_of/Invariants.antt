@@ -1,6 +1,6 @@
 use Rattle.std.proofs.Common.{◌≡◌, ◌<◌, ℕ, length, slice_get, slice_index, Some}
 use Rattle.transition_table.specs.declared.row.Row.{Row}
-use Rattle.outcome_table.specs.Masks.{IsMask}
+use Rattle.transition_table.specs.inner.Masks.{IsMask}
 use Rattle.outcome_table.proofs.mask.masks_of.Given as goal
 
 -- the masks before this one

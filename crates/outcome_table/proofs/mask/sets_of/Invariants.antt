@@ -1,5 +1,5 @@
 use Rattle.std.proofs.Common.{◌≡◌, ◌<◌, ℕ, [], length, get_or}
-use Rattle.outcome_table.specs.RowSets.{IsSetOf}
+use Rattle.outcome_table.specs.inner.RowSets.{IsSetOf}
 use Rattle.outcome_table.proofs.mask.sets_of.Given as goal
 
 -- the codes before this one

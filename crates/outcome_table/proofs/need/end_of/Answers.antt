@@ -1,7 +1,7 @@
 use Rattle.std.proofs.Common.{arith}
 use Rattle.std.specs.List.{list_all}
 use Rattle.std.proofs.lemmas.Bool.{and_from}
-use Rattle.outcome_table.specs.Needs.{asks_before, takes_before}
+use Rattle.outcome_table.specs.inner.Needs.{asks_before, takes_before}
 use Rattle.outcome_table.proofs.Ends.{asks_more, max_over, takes_more}
 use Rattle.outcome_table.proofs.need.end_of.Goals as goal
 

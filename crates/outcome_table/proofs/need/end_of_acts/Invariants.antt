@@ -1,6 +1,6 @@
 use Rattle.std.proofs.Common.{◌≡◌, ◌≤◌, true, length, take}
 use Rattle.std.specs.List.{list_all}
-use Rattle.outcome_table.specs.Needs.{takes_before}
+use Rattle.outcome_table.specs.inner.Needs.{takes_before}
 use Rattle.outcome_table.proofs.need.end_of_acts.Given as goal
 
 -- those before this one need no more

@@ -1,6 +1,6 @@
 use Rattle.std.proofs.Common.{◌≡◌, ◌≤◌, true, length, take}
 use Rattle.std.specs.List.{list_all}
-use Rattle.outcome_table.specs.Needs.{asks_before}
+use Rattle.outcome_table.specs.inner.Needs.{asks_before}
 use Rattle.outcome_table.proofs.need.end_of_conds.Given as goal
 
 -- those before this one need no more

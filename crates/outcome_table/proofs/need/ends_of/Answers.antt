@@ -3,7 +3,7 @@ use Rattle.std.proofs.lemmas.Bool.{cases_lt}
 use Rattle.std.proofs.lemmas.List.{length_push, get_or_append_left, get_or_push}
 use Rattle.std.proofs.lemmas.Option.{slice_get_within}
 use Rattle.transition_table.specs.declared.row.Row.{Row}
-use Rattle.outcome_table.specs.Needs.{is_settled}
+use Rattle.outcome_table.specs.inner.Needs.{is_settled}
 use Rattle.outcome_table.proofs.Rows.{row_fits}
 use Rattle.outcome_table.proofs.need.ends_of.Goals as goal
 

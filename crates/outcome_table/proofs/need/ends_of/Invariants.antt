@@ -1,6 +1,6 @@
 use Rattle.std.proofs.Common.{◌≡◌, ◌<◌, ◌≤◌, true, ℕ, length, slice_get, slice_index, Some}
 use Rattle.transition_table.specs.declared.row.Row.{Row}
-use Rattle.outcome_table.specs.Needs.{is_settled}
+use Rattle.outcome_table.specs.inner.Needs.{is_settled}
 use Rattle.outcome_table.proofs.need.ends_of.Given as goal
 
 -- those of the rows before this one

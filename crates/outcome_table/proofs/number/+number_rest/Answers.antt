@@ -6,14 +6,14 @@ use Rattle.std.proofs.lemmas.Option.{get_or_from_slice_get, slice_get_within}
 use Rattle.polis_base.specs.Lists.{upto}
 use Rattle.domains.specs.Tables.{fits}
 use Rattle.transition_table.specs.declared.machine.Machine.{Machine}
-use Rattle.outcome_table.specs.Numbering.{Adds, lists_after, rows_left}
-use Rattle.outcome_table.specs.RowSets.{AreAllowed, AreSets, IsSetOf, has_row, rows_in}
+use Rattle.outcome_table.specs.inner.Numbering.{Adds, lists_after, rows_left}
+use Rattle.outcome_table.specs.inner.RowSets.{AreAllowed, AreSets, IsSetOf, has_row, rows_in}
 use Rattle.outcome_table.specs.declared.number.Numbered.{Numbered}
 use Rattle.outcome_table.proofs.Counting.{adds_on, begins_kept, lists_split, take_less}
 use Rattle.outcome_table.proofs.Lists.{flat_upto}
 use Rattle.outcome_table.proofs.Narrowing.{first_below, narrowed}
 use Rattle.outcome_table.proofs.Rows.{fits_long, fits_set}
-use Rattle.outcome_table.proofs.Ones.{machine_sizes, size_at}
+use Rattle.transition_table.proofs.Ones.{machine_sizes, size_at}
 use Rattle.outcome_table.proofs.number.+number_rest.Goals as goal
 
 -- what stands at one turn of the loop

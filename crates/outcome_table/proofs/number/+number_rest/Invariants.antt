@@ -1,7 +1,7 @@
 use Rattle.std.proofs.Common.{◌≡◌, ◌+◌, ◌-◌, ◌++◌, ◌∷◌, [], length, take, drop, flat_map}
 use Rattle.polis_base.specs.Lists.{upto}
 use Rattle.transition_table.specs.Transitions.{IsSnapshot}
-use Rattle.outcome_table.specs.Numbering.{Adds, lists_after}
+use Rattle.outcome_table.specs.inner.Numbering.{Adds, lists_after}
 use Rattle.outcome_table.proofs.number.+number_rest.Given as goal
 
 abbrev pub decreases-number_rest : goal.decreases-number_rest

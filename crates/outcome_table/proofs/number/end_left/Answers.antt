@@ -1,6 +1,6 @@
 use Rattle.std.proofs.Common.{◌∙◌, arith, ap, sym}
 use Rattle.std.proofs.lemmas.Option.{get_or_from_slice_get, slice_get_within}
-use Rattle.outcome_table.specs.Needs.{end_left}
+use Rattle.outcome_table.specs.inner.Needs.{end_left}
 use Rattle.outcome_table.proofs.Settled.{end_within}
 use Rattle.outcome_table.proofs.number.end_left.Goals as goal
 

@@ -3,7 +3,7 @@ use Rattle.std.specs.List.{list_all}
 use Rattle.std.proofs.lemmas.List.{map-append, take_more}
 use Rattle.std.proofs.lemmas.Option.{get_or_from_slice_get, slice_get_within}
 use Rattle.transition_table.specs.declared.row.Row.{Row}
-use Rattle.outcome_table.specs.Numbering.{is_fixed}
+use Rattle.outcome_table.specs.inner.Numbering.{is_fixed}
 use Rattle.outcome_table.proofs.number.fixed_rows.Goals as goal
 
 pub loop-r-preserved : goal.loop-r-preserved

@@ -1,6 +1,6 @@
 use Rattle.std.proofs.Common.{◌≡◌, map, take}
 use Rattle.std.specs.List.{list_all}
-use Rattle.outcome_table.specs.Numbering.{is_fixed}
+use Rattle.outcome_table.specs.inner.Numbering.{is_fixed}
 use Rattle.outcome_table.proofs.number.fixed_rows.Given as goal
 
 -- the rows before this one

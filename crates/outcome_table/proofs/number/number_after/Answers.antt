@@ -6,8 +6,8 @@ use Rattle.transition_table.specs.Orders.{codes_of}
 use Rattle.transition_table.specs.Transitions.{outcome_of}
 use Rattle.transition_table.specs.declared.machine.Machine.{Machine}
 use Rattle.transition_table.specs.declared.row.Row.{Row}
-use Rattle.outcome_table.specs.Needs.{AreEnds, end_left, is_settled}
-use Rattle.outcome_table.specs.Numbering.{rows_left}
+use Rattle.outcome_table.specs.inner.Needs.{AreEnds, end_left, is_settled}
+use Rattle.outcome_table.specs.inner.Numbering.{rows_left}
 use Rattle.outcome_table.proofs.Rows.{few_rows, fits_long, row_fits}
 use Rattle.outcome_table.proofs.Settled.{IsFirst, first_left, none_left, same_results}
 use Rattle.outcome_table.proofs.number.number_after.Goals as goal

@@ -3,7 +3,7 @@ use Rattle.std.proofs.lemmas.Option.{get_or_from_slice_get}
 use Rattle.domains.specs.Tables.{product}
 use Rattle.outcome_table.proofs.Columns.{product_after}
 use Rattle.outcome_table.proofs.Counting.{adds_many, same_after}
-use Rattle.outcome_table.proofs.Ones.{machine_sizes}
+use Rattle.transition_table.proofs.Ones.{machine_sizes}
 use Rattle.outcome_table.proofs.Rows.{few_snapshots}
 use Rattle.outcome_table.proofs.number.number_all.Goals as goal
 

@@ -1,8 +1,8 @@
 use Rattle.std.proofs.Common.{◌≡◌, ◌∙◌, ◌++◌, ℕ, [], List, length, map, take, drop, get_or, refl, arith, ap, sym, subst, slice_get}
 use Rattle.std.proofs.lemmas.List.{take_all}
 use Rattle.domains.specs.AllCodes.{all_codes}
-use Rattle.outcome_table.specs.Numbering.{Adds, rows_left}
-use Rattle.outcome_table.specs.RowSets.{rows_in}
+use Rattle.outcome_table.specs.inner.Numbering.{Adds, rows_left}
+use Rattle.outcome_table.specs.inner.RowSets.{rows_in}
 use Rattle.outcome_table.proofs.Counting.{begins_kept}
 use Rattle.outcome_table.proofs.Narrowing.{first_below}
 use Rattle.outcome_table.proofs.Rows.{few_rows, fits_long}

@@ -1,6 +1,6 @@
 use Rattle.std.proofs.Common.{◌++◌, map, take, drop}
 use Rattle.domains.specs.AllCodes.{all_codes}
-use Rattle.outcome_table.specs.Numbering.{Adds}
+use Rattle.outcome_table.specs.inner.Numbering.{Adds}
 use Rattle.outcome_table.proofs.number.number_tails.Given as goal
 
 -- those with the lists of codes before this one

@@ -1,8 +1,8 @@
 use Rattle.std.proofs.Common.{◌∙◌, ◌++◌, List, [], ℕ, map, arith, ap}
 use Rattle.transition_table.specs.Computed.{result_codes}
-use Rattle.outcome_table.specs.Numbering.{lists_after}
+use Rattle.outcome_table.specs.inner.Numbering.{lists_after}
 use Rattle.outcome_table.specs.Outcomes.{named}
-use Rattle.outcome_table.specs.RowSets.{rows_in}
+use Rattle.outcome_table.specs.inner.RowSets.{rows_in}
 use Rattle.outcome_table.proofs.Counting.{lists_all}
 use Rattle.outcome_table.proofs.Rows.{few_rows}
 use Rattle.outcome_table.proofs.Starting.{all_rows, begin}

@@ -1,5 +1,5 @@
 use Rattle.std.proofs.Common.{◌≡◌, ℕ, length, nat_lt}
-use Rattle.outcome_table.specs.RowSets.{has_row}
+use Rattle.outcome_table.specs.inner.RowSets.{has_row}
 use Rattle.outcome_table.proofs.row_set.first_rows.Given as goal
 
 abbrev pub invariant-loop-r : goal.invariant-loop-r

@@ -1,6 +1,6 @@
 use Rattle.std.proofs.Common.{◌≡◌, ◌<◌, ◌≤◌, ◌==◌, ℕ, false, length, slice_index}
 use Rattle.std.specs.Int.{bit_at}
-use Rattle.outcome_table.specs.RowSets.{has_row}
+use Rattle.outcome_table.specs.inner.RowSets.{has_row}
 use Rattle.outcome_table.proofs.row_set.rows_with.Given as goal
 
 -- the rows before this one

@@ -1,7 +1,7 @@
 use Rattle.std.proofs.Common.{◌-◌, ◌+◌, length, drop, flat_map}
 use Rattle.polis_base.specs.Lists.{upto}
 use Rattle.domains.specs.AllCodes.{all_codes, each_after}
-use Rattle.outcome_table.specs.Tails.{EachNarrows}
+use Rattle.outcome_table.specs.inner.Tails.{EachNarrows}
 use Rattle.outcome_table.proofs.tail.+sets_from.Given as goal
 
 abbrev pub decreases-sets_from : goal.decreases-sets_from

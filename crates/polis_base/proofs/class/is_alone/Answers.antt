@@ -1,6 +1,6 @@
 use Rattle.std.proofs.Common.{get_or, nat_le, refl, arith}
 use Rattle.polis_base.specs.declared.class.TheConstants.{CLASSES}
-use Rattle.polis_base.specs.Classes.{is_alone}
+use Rattle.polis_base.specs.inner.Classes.{is_alone}
 use Rattle.polis_base.proofs.Classes.{tests_agree}
 use Rattle.polis_base.proofs.class.is_alone.Goals as goal
 

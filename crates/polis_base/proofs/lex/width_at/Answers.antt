@@ -1,6 +1,7 @@
 use Rattle.std.proofs.Common.{◌≡◌, ◌<◌, ◌≤◌, ◌-◌, length, drop, ◌∙◌, ap, arith}
 use Rattle.std.proofs.lemmas.List.{take_rest, length-drop}
-use Rattle.polis_base.specs.Tokens.{scan, bytes_in, width}
+use Rattle.polis_base.specs.Tokens.{scan, bytes_in}
+use Rattle.polis_base.specs.Tokens.{width}
 use Rattle.polis_base.proofs.Scans.{scan_some, scan_within, width_some, width_within}
 use Rattle.polis_base.proofs.lex.width_at.Goals as goal
 

@@ -1,5 +1,5 @@
 use Rattle.std.proofs.Common.{lit≤}
-use Rattle.transition_table.specs.SampleLamp.{lamp_machine}
+use Rattle.transition_table.specs.samples.Lamp.{lamp_machine}
 use Rattle.transition_table.proofs.Determinism.{one_row}
 use Rattle.transition_table.proofs.Supports.{echo_char, echo_counts, echo_passes_on}
 use Rattle.transition_table.proofs.Tables.{lamp_pressed, lamp_on, lamp_unpressed, loop_first, loop_second, loop_third, loop_end, value_five, value_four, clash, echo_six, echo_absent, agreeing, differing}

@@ -5,7 +5,7 @@
 use Rattle.std.specs.Prelude.{ℕ, List, [], ◌∷◌, codes, refl}
 use Rattle.transition_table.specs.declared.row.Row.{Row}
 use Rattle.transition_table.specs.declared.machine.Machine.{Machine}
-use Rattle.transition_table.specs.Samples.{has_codes, gives, copies}
+use Rattle.transition_table.specs.samples.Parts.{has_codes, gives, copies}
 
 -- the second row emits this code
 abbrev pub twice_rows : ℕ → List Row

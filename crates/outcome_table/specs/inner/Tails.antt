@@ -2,8 +2,8 @@
 use Rattle.std.specs.Prelude.{◌≡◌, ℕ, ◌+◌, ◌<◌, Bool, true, List, [], ◌++◌, filter, length, take, drop, get_or, slice_get, Option, None, Some}
 use Rattle.domains.specs.AllCodes.{all_codes}
 use Rattle.transition_table.specs.declared.machine.Machine.{Machine}
-use Rattle.outcome_table.specs.Numbering.{rows_left}
-use Rattle.outcome_table.specs.RowSets.{IsBoth, has_row}
+use Rattle.outcome_table.specs.inner.Numbering.{rows_left}
+use Rattle.outcome_table.specs.inner.RowSets.{IsBoth, has_row}
 use Rattle.outcome_table.specs.declared.tail.Tails.{Tails}
 
 -- of the rows that are left for codes of the variables before this one, the set has those that are

@@ -1,17 +1,19 @@
--- Two events of the environment together give a third to it.
+-- A machine whose first and last row conflict.
 --   event a from env; event b from env; event c to env
 --   machine m priority 0
 --     input a, b; output c
---     when a, b do emit c
+--     when a do emit c
+--     when b, absent a do nothing
+--     when a, b do nothing
 use Rattle.std.specs.Prelude.{true, false, [], ◌∷◌, codes, refl}
 use Rattle.std.proofs.Common.{lit≤}
 use Rattle.transition_table.specs.declared.decl.Party.TheVariants.{Env, Machine as Sender}
 use Rattle.transition_table.specs.declared.machine.Machine.{Machine}
 use Rattle.transition_table.specs.declared.network.Network.{Network}
-use Rattle.transition_table.specs.Samples.{has_codes, gives, pure_event}
+use Rattle.transition_table.specs.samples.Parts.{has_codes, gives, pure_event}
 
-abbrev pub join_machine : Machine
-join_machine = record {
+abbrev pub clash_machine : Machine
+clash_machine = record {
   name = codes "m";
   priority = 0;
   inputs = 0 ∷ 1 ∷ [];
@@ -19,26 +21,25 @@ join_machine = record {
   states = [];
   vars = 2 ∷ 2 ∷ [];
   results = 2 ∷ 2 ∷ [];
-  rows = record {
-    conds = has_codes 0 2 ∷ has_codes 1 2 ∷ [];
-    acts = gives 1 1 ∷ [];
-    actions = refl;
-  } ∷ [];
+  rows =
+      record { conds = has_codes 0 2 ∷ []; acts = gives 1 1 ∷ []; actions = refl }
+      ∷ record { conds = has_codes 1 2 ∷ has_codes 0 1 ∷ []; acts = []; actions = refl }
+      ∷ record { conds = has_codes 0 2 ∷ has_codes 1 2 ∷ []; acts = []; actions = refl } ∷ [];
   sized_vars = refl;
   sized_results = refl;
   fitting_rows = refl;
   small = refl;
 }
 
-abbrev pub join : Network
-join = record {
-  name = codes "join";
+abbrev pub clash : Network
+clash = record {
+  name = codes "clash";
   domains = [];
   events =
       pure_event (codes "a") Env false (0 ∷ [])
       ∷ pure_event (codes "b") Env false (0 ∷ [])
       ∷ pure_event (codes "c") (Sender 0) true [] ∷ [];
-  machines = join_machine ∷ [];
+  machines = clash_machine ∷ [];
   few_domains = lit≤ tt;
   few_events = lit≤ tt;
   few_machines = lit≤ tt;

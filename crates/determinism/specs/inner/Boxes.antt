@@ -1,31 +1,13 @@
--- Snapshots that enable two rows, as one set of codes for each variable, and the order of lists of
--- codes.
-use Rattle.std.specs.Prelude.{◌≡◌, ◌≢◌, ◌⊎◌, ◌<◌, ◌≤◌, ◌==◌, ◌&&◌, ◌||◌, ℕ, Bool, not, nat_lt, List, [], ◌∷◌, length, slice_get, slice_index, Some, IsTrue, ⊤}
+-- Snapshots that enable two rows, as one set of codes for each variable.
+use Rattle.std.specs.Prelude.{◌≡◌, ◌≢◌, ◌⊎◌, ◌<◌, ◌≤◌, ◌==◌, ℕ, nat_lt, List, [], ◌∷◌, length, slice_get, slice_index, Some, IsTrue, ⊤}
 use Rattle.std.specs.List.{list_all}
 use Rattle.std.specs.Int.{bit_at}
-use Rattle.std.specs.Cmp.Lexicographic.{slice_cmp}
-use Rattle.std.specs.Ordering.{nat_cmp}
-use Rattle.std.specs.declared.cmp.Ordering.TheVariants.{Greater}
 use Rattle.domains.specs.Tables.{fits}
-use Rattle.transition_table.specs.declared.row.Cond.{Cond}
 use Rattle.transition_table.specs.declared.row.Row.{Row}
 use Rattle.transition_table.specs.declared.machine.Machine.{Machine}
-use Rattle.transition_table.specs.declared.snapshot.Snapshot.{Snapshot}
 use Rattle.transition_table.specs.MachineFacts.{is_row}
 use Rattle.transition_table.specs.Transitions.{allows}
-
--- the condition allows the code of the variable, or is on another variable
-abbrev pub allows_code : ℕ → ℕ → Cond → Bool
-allows_code var code condition = not (condition.var == var) || bit_at condition.codes code == 1
-
--- a code of the variable that the row allows
-abbrev pub is_allowed : List ℕ → Row → ℕ → ℕ → Bool
-is_allowed vars row var code = nat_lt code (slice_index vars var)
-    && list_all (allows_code var code) row.conds
-
--- the codes of the variable that the row allows, one bit each
-abbrev pub IsMask : List ℕ → Row → ℕ → ℕ → Type 0
-IsMask vars row var mask = (code : ℕ) → (bit_at mask code == 1) ≡ is_allowed vars row var code
+use Rattle.transition_table.specs.inner.Masks.{IsMask}
 
 -- all codes of each variable
 pub record AreWhole (vars masks : List ℕ) : Type 0 where
@@ -86,6 +68,8 @@ Before [] ys = ⊤
 Before (x ∷ xs) [] = ⊥
 Before (x ∷ xs) (y ∷ ys) = (x < y) ⊎ ((x ≡ y) × Before xs ys)
 
--- s is t or stands before it: of the first two codes that differ the smaller is that of s
-abbrev pub IsUpTo : Snapshot → Snapshot → Type 0
-IsUpTo s t = slice_cmp nat_cmp s.codes t.codes ≢ Greater
+-- a set and two codes for each variable
+pub record HaveRoom (m : Machine) (work codes least : List ℕ) : Type 0 where
+  pub sets : length work ≡ length m.vars
+  pub long : length codes ≡ length m.vars
+  pub best_long : length least ≡ length m.vars

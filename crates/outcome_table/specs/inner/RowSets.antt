@@ -4,7 +4,7 @@ use Rattle.std.specs.Int.{bit_at}
 use Rattle.polis_base.specs.Lists.{upto}
 use Rattle.transition_table.specs.declared.machine.Machine.{Machine}
 use Rattle.transition_table.specs.declared.row.Row.{Row}
-use Rattle.outcome_table.specs.Masks.{is_allowed}
+use Rattle.transition_table.specs.inner.Masks.{row_allows}
 
 -- the row is in the set
 abbrev pub has_row : List ℕ → ℕ → Bool
@@ -21,7 +21,7 @@ IsBoth a b set = (r : ℕ) → has_row set r ≡ (has_row a r && has_row b r)
 -- the rows that allow the code of the variable
 pub record IsSetOf (m : Machine) (var code : ℕ) (set : List ℕ) : Type 0 where
   pub each : (r : ℕ) (row : Row) → slice_get m.rows r ≡ Some row
-      → has_row set r ≡ is_allowed m.vars row var code
+      → has_row set r ≡ row_allows m.vars row var code
 
 -- one such set for each code of the variable
 pub record AreSets (m : Machine) (var : ℕ) (sets : List (List ℕ)) : Type 0 where

@@ -2,7 +2,7 @@
 use Rattle.std.specs.Prelude.{◌≡◌, ◌<◌, ◌≤◌, ◌+◌, ℕ, Bool, true, false, List, length, slice_index}
 use Rattle.transition_table.specs.declared.row.Row.{Row}
 use Rattle.transition_table.specs.Transitions.{code_given}
-use Rattle.determinism.specs.Common.{IsIn, Before}
+use Rattle.determinism.specs.inner.Boxes.{IsIn, Before}
 use Rattle.determinism.specs.declared.pair.Pair.{Pair}
 
 -- the code that a row gives the result

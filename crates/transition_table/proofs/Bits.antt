@@ -1,14 +1,15 @@
 -- The codes of a set that conditions allow.
-use Rattle.std.proofs.Common.{◌≡◌, ◌≢◌, ◌⊎◌, ◌<◌, ◌+◌, ℕ, zero, suc, Bool, true, false, ◌&&◌, ◌==◌, List, ◌∷◌, length, get_or, slice_get, slice_index, Some, drop, min, bit_and, arith, refl, sym, ◌∙◌, ap, inl, inr, add-one}
+use Rattle.std.proofs.Common.{◌≡◌, ◌≢◌, ◌⊎◌, ◌<◌, ◌≤◌, ◌+◌, ℕ, zero, suc, Bool, true, false, ◌&&◌, ◌==◌, List, ◌∷◌, length, get_or, slice_get, slice_index, slice_set, Some, drop, min, bit_and, arith, refl, sym, ◌∙◌, ap, inl, inr, add-one}
 use Rattle.std.proofs.Math.Seq.{drop-cons}
 use Rattle.std.specs.List.{list_all}
 use Rattle.std.specs.Int.{bit_at}
+use Rattle.std.proofs.lemmas.List.{get_or-set_same, get_or-set_other}
 use Rattle.std.proofs.lemmas.Bool.{ne_eqb}
 use Rattle.std.proofs.lemmas.Bool.Decides.{eqb_tells}
 use Rattle.std.proofs.lemmas.Nat.Bits.{bit_at_and, bit_at-lt, bit_at-zero}
 use Rattle.std.proofs.lemmas.Option.{get_or_from_slice_get}
 use Rattle.transition_table.specs.declared.row.Cond.{Cond}
-use Rattle.outcome_table.specs.Masks.{allows_code}
+use Rattle.transition_table.specs.inner.Masks.{allows_code}
 
 least_of_bits : (x y : ℕ) → x < 2 → y < 2 → (min x y == 1) ≡ (x == 1 && y == 1)
 least_of_bits zero zero a b = refl
@@ -67,6 +68,45 @@ next_leaves left var code i next conds d below (inr h) =
     rw (drop-cons conds i d below, add-one, h.1)
     (sym (passed left var code (get_or conds i d) (drop (suc i) conds)
     (ne_eqb (get_or conds i d).var var h.0)))
+
+-- the next condition takes codes away from the set of its variable
+pub set_leaves : (masks : List ℕ) (var code i left : ℕ) (conds : List Cond) (d : Cond)
+    → i < length conds → slice_get masks (get_or conds i d).var ≡ Some left
+    → (get_or conds i d).var < length masks
+    → (bit_at (slice_index
+    (slice_set masks (get_or conds i d).var (bit_and left (get_or conds i d).codes)) var) code
+    == 1 && list_all (allows_code var code) (drop (i + 1) conds))
+    ≡ (bit_at (slice_index masks var) code == 1
+    && list_all (allows_code var code) (drop i conds))
+set_leaves masks var code i left conds d below at within =
+    let own = (get_or conds i d).var in
+    let codes = (get_or conds i d).codes in
+    let next = bit_and left codes in
+    elim (eqb_tells own var) [
+      | inl here ↦
+          next_leaves (slice_index masks var) var code i
+          (slice_index (slice_set masks own next) var) conds d below (inl (
+            here.1,
+            ap (slice_index (slice_set masks own next)) (sym here.1)
+                ∙ get_or-set_same masks own next 0 within
+                ∙ ap (λ n. bit_and n codes) (sym (get_or_from_slice_get masks own left 0 at)
+                ∙ ap (slice_index masks) here.1),
+          ))
+      | inr apart ↦ next_leaves (slice_index masks var) var code i
+          (slice_index (slice_set masks own next) var) conds d below
+          (inr (apart.1, get_or-set_other masks own var next 0 (λ e. apart.1 (sym e))))
+    ]
+
+-- and one on a variable that there isn't doesn't
+pub passes : (masks : List ℕ) (var code i : ℕ) (conds : List Cond) (d : Cond) → i < length conds
+    → var < length masks → length masks ≤ (get_or conds i d).var
+    → (bit_at (slice_index masks var) code == 1
+    && list_all (allows_code var code) (drop (i + 1) conds))
+    ≡ (bit_at (slice_index masks var) code == 1
+    && list_all (allows_code var code) (drop i conds))
+passes masks var code i conds d below within past =
+    next_leaves (slice_index masks var) var code i (slice_index masks var) conds d below
+    (inr (λ e. omega (arith, e), refl))
 
 -- the bits of two items together
 pub bits_at : (xs ys : List ℕ) (k x y code : ℕ) → slice_get xs k ≡ Some x → slice_get ys k ≡ Some y

@@ -10,16 +10,10 @@ abbrev pub allows_code : ℕ → ℕ → Cond → Bool
 allows_code var code condition = not (condition.var == var) || bit_at condition.codes code == 1
 
 -- a code of the variable that the row allows
-abbrev pub is_allowed : List ℕ → Row → ℕ → ℕ → Bool
-is_allowed vars row var code = nat_lt code (slice_index vars var)
+abbrev pub row_allows : List ℕ → Row → ℕ → ℕ → Bool
+row_allows vars row var code = nat_lt code (slice_index vars var)
     && list_all (allows_code var code) row.conds
 
 -- the codes of the variable that the row allows, one bit each
 abbrev pub IsMask : List ℕ → Row → ℕ → ℕ → Type 0
-IsMask vars row var mask = (code : ℕ) → (bit_at mask code == 1) ≡ is_allowed vars row var code
-
--- one such set for each row
-pub record AreMasks (vars : List ℕ) (rows : List Row) (var : ℕ) (masks : List ℕ) : Type 0 where
-  pub long : length masks ≡ length rows
-  pub each : (r : ℕ) (row : Row) → slice_get rows r ≡ Some row
-      → IsMask vars row var (slice_index masks r)
+IsMask vars row var mask = (code : ℕ) → (bit_at mask code == 1) ≡ row_allows vars row var code

@@ -11,7 +11,7 @@ use Rattle.std.proofs.Common.{lit≤}
 use Rattle.transition_table.specs.declared.decl.Party.TheVariants.{Env, Machine as Sender}
 use Rattle.transition_table.specs.declared.machine.Machine.{Machine}
 use Rattle.transition_table.specs.declared.network.Network.{Network}
-use Rattle.transition_table.specs.Samples.{has_codes, gives, pure_event}
+use Rattle.transition_table.specs.samples.Parts.{has_codes, gives, pure_event}
 
 -- of this name and priority, with this event as its output
 abbrev pub two_machine : List ℕ → ℕ → ℕ → Machine

@@ -1,0 +1,5 @@
+pub mod Masks
+pub mod Needs
+pub mod Numbering
+pub mod RowSets
+pub mod Tails

@@ -1,0 +1,11 @@
+pub mod Belt
+pub mod Clash
+pub mod Echo
+pub mod Join
+pub mod Lamp
+pub mod Loop
+pub mod Parts
+pub mod Pong
+pub mod Twice
+pub mod Two
+pub mod Value

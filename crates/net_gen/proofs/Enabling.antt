@@ -9,7 +9,7 @@ use Rattle.std.proofs.lemmas.List.{length_push}
 use Rattle.std.proofs.lemmas.Nat.Bits.{bit_at-pow_other}
 use Rattle.polis_base.specs.Lists.{upto}
 use Rattle.domains.specs.Tables.{fits}
-use Rattle.transition_table.specs.Samples.{gives}
+use Rattle.transition_table.specs.samples.Parts.{gives}
 use Rattle.transition_table.specs.Transitions.{reading, IsDeterministic, actions, allows, holds, is_enabled, result}
 use Rattle.transition_table.specs.declared.row.Act.{Act}
 use Rattle.transition_table.specs.declared.row.Row.{Row}

@@ -6,7 +6,7 @@ use Rattle.std.proofs.lemmas.Option.{slice_get_within}
 use Rattle.polis_base.specs.Lists.{upto}
 use Rattle.domains.specs.Tables.{fits}
 use Rattle.transition_table.specs.NetworkFacts.{event_values, values_of}
-use Rattle.transition_table.specs.Samples.{gives}
+use Rattle.transition_table.specs.samples.Parts.{gives}
 use Rattle.transition_table.specs.Transitions.{reading, Transition, actions, codes_given}
 use Rattle.transition_table.specs.declared.decl.EventDecl.{EventDecl}
 use Rattle.transition_table.specs.declared.decl.Party.{Party}
@@ -17,7 +17,7 @@ use Rattle.transition_table.specs.declared.network.Network.{Network}
 use Rattle.transition_table.specs.declared.snapshot.Snapshot.{Snapshot}
 use Rattle.transition_table.specs.declared.snapshot.Outcome.{Outcome}
 use Rattle.journals.specs.declared.entry.Entry.TheVariants.{Dep, Rea}
-use Rattle.journals.specs.Journals.{emitted, is_event_code, outputs_of, place, snap, state, states_of}
+use Rattle.journals.specs.Journals.{emitted, is_event_code, outputs_of, buffered, snap, state, states_of}
 use Rattle.journals.specs.Moved.{codes_after}
 use Rattle.journals.specs.Schedules.{deliveries_of, firing_deliveries, receivers_of}
 use Rattle.net_gen.specs.Draws.{after}
@@ -107,7 +107,7 @@ module _ (n x : ℕ) (net : Network) (events : HasDemoEvents n net)
   starts_empty : (m : ℕ) (machine : Machine) → slice_get net.machines m ≡ Some machine
       → demo_held m (snap net [] m).codes ≡ 0
   starts_empty m machine at =
-      ap (λ (l : List ℕ). demo_held m (map (place [] m) l
+      ap (λ (l : List ℕ). demo_held m (map (buffered [] m) l
       ++ map (state net [] m) (upto (length (states_of net m)))))
       (events.reads m (within m machine at))
 

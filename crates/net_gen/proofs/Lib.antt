@@ -1,22 +1,22 @@
-mod Acting
-mod Arriving
-mod Drawn
-mod Dwindle
-mod Enabling
-mod Ending
-mod Eventing
-mod Keeping
-mod Lines
-mod Looked
-mod Machining
-mod Naming
-mod Numbered
-mod Obeying
-mod Placing
-mod Sentence
-mod Summing
-mod Texting
-mod Tracing
-mod Unplaced
-mod UnplacedActs
-mod UnplacedNets
+pub mod Acting
+pub mod Arriving
+pub mod Drawn
+pub mod Dwindle
+pub mod Enabling
+pub mod Ending
+pub mod Eventing
+pub mod Keeping
+pub mod Lines
+pub mod Looked
+pub mod Machining
+pub mod Naming
+pub mod Numbered
+pub mod Obeying
+pub mod Placing
+pub mod Sentence
+pub mod Summing
+pub mod Texting
+pub mod Tracing
+pub mod Unplaced
+pub mod UnplacedActs
+pub mod UnplacedNets

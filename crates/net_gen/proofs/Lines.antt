@@ -9,8 +9,9 @@ use Rattle.std.proofs.lemmas.List.Sums.{take_while-cons}
 use Rattle.std.proofs.lemmas.Grind.{flat_map-append}
 use Rattle.transition_table.specs.declared.network.Network.{Network}
 use Rattle.journals.specs.declared.entry.TraceItem.{TraceItem}
-use Rattle.trace_text.specs.Pieces.{with_byte, pieces, ends_line, ends_word, begins_comment, lines_of, without_comment, is_nonempty, words_of}
+use Rattle.trace_text.specs.Pieces.{runs, ends_line, ends_word, begins_comment, trace_lines, without_comment, trace_words}
 use Rattle.trace_text.specs.Traces.{added, with_line, item_of_line, item_of_words}
+use Rattle.journal_text.specs.Forms.{with_byte, is_nonempty}
 
 -- no byte passes
 abbrev pub is_free : (ℕ → Bool) → List ℕ → Bool
@@ -23,14 +24,14 @@ not_true false h = refl
 -- a piece that something ends, and one that the text's end does
 piece_ended : (ends : ℕ → Bool) (piece rest : List ℕ) (e : ℕ) → ends e ≡ true
     → is_free ends piece ≡ true
-    → pieces ends (piece ++ e ∷ rest) ≡ piece ∷ pieces ends rest
+    → runs ends (piece ++ e ∷ rest) ≡ piece ∷ runs ends rest
 piece_ended ends [] rest e end free = rw end refl
 piece_ended ends (c ∷ piece) rest e end free =
     let parts = and_parts (not (ends c)) (is_free ends piece) free in
     rw (not_true (ends c) parts.0, piece_ended ends piece rest e end parts.1) refl
 
 piece_last : (ends : ℕ → Bool) (c : ℕ) (piece : List ℕ) → is_free ends (c ∷ piece) ≡ true
-    → pieces ends (c ∷ piece) ≡ (c ∷ piece) ∷ []
+    → runs ends (c ∷ piece) ≡ (c ∷ piece) ∷ []
 piece_last ends c [] free =
     let parts = and_parts (not (ends c)) true free in
     rw (not_true (ends c) parts.0) refl
@@ -47,11 +48,11 @@ abbrev pub are_lines : List (List ℕ) → Bool
 are_lines lines = list_all (is_free ends_line) lines
 
 pub lines_back : (lines : List (List ℕ)) → are_lines lines ≡ true
-    → lines_of (text_of lines) ≡ lines
+    → trace_lines (text_of lines) ≡ lines
 lines_back [] free = refl
 lines_back (line ∷ lines) free =
     let parts = and_parts (is_free ends_line line) (are_lines lines) free in
-    ap lines_of (append_assoc line (10 ∷ []) (text_of lines))
+    ap trace_lines (append_assoc line (10 ∷ []) (text_of lines))
     ∙ piece_ended ends_line line (text_of lines) 10 refl parts.0
     ∙ ap (λ (ls : List (List ℕ)). line ∷ ls) (lines_back lines parts.1)
 
@@ -68,7 +69,7 @@ pub one_word : (net : Network) (c : ℕ) (line : List ℕ) → is_free begins_co
     → is_free ends_word (c ∷ line) ≡ true
     → item_of_line net (c ∷ line) ≡ item_of_words net ((c ∷ line) ∷ [])
 one_word net c line plain free =
-    ap (λ (l : List ℕ). item_of_words net (words_of l)) (whole_line (c ∷ line) plain)
+    ap (λ (l : List ℕ). item_of_words net (trace_words l)) (whole_line (c ∷ line) plain)
     ∙ ap (λ (ps : List (List ℕ)). item_of_words net (filter is_nonempty ps))
     (piece_last ends_word c line free)
 

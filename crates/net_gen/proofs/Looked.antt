@@ -18,7 +18,7 @@ use Rattle.net_reader.specs.Places.{word_alone, value_alone, shape_alone, domain
 use Rattle.net_names.specs.Numbers.{is_among, is_name_of}
 use Rattle.net_names.specs.Values.{count_of, is_value, no_value, place_of}
 use Rattle.net_names.specs.Scopes.{domain_words, event_words, machine_words, state_words, all_outputs, all_inputs, shape_of, event_domain, state_domain, var_domain, shape_at, count_at, event_codes, state_codes, cond_word, var_sizes, var_words}
-use Rattle.net_judge.specs.Rules.{events_where, used_domains}
+use Rattle.rule_judge.specs.Rules.{events_where, used_domains}
 use Rattle.net_gen.proofs.Placing.{empty, unless_alone, names_alone, find_alone, shape_of_alone, event_domain_alone, is_value_alone, count_alone}
 
 -- ---- lists of words

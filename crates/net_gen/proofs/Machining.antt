@@ -8,7 +8,7 @@ use Rattle.std.proofs.lemmas.Option.{same_Some, slice_get_within}
 use Rattle.std.proofs.lemmas.List.{map-append}
 use Rattle.std.proofs.lemmas.Simd.{map-map}
 use Rattle.polis_base.specs.Lists.{upto}
-use Rattle.transition_table.specs.Samples.{gives, has_codes}
+use Rattle.transition_table.specs.samples.Parts.{gives, has_codes}
 use Rattle.transition_table.specs.declared.row.Row.{Row}
 use Rattle.transition_table.specs.declared.row.Source.{Source}
 use Rattle.transition_table.specs.declared.row.Source.TheVariants.{Code}
@@ -23,7 +23,7 @@ use Rattle.net_reader.specs.declared.raw.RawRow.{RawRow}
 use Rattle.net_reader.specs.declared.raw.RawSource.TheVariants as sources
 use Rattle.net_names.specs.Numbers.{number}
 use Rattle.net_names.specs.Scopes.{cond_word, event_codes, event_domain, var_sizes, var_words}
-use Rattle.net_rules.specs.Networks.{IsNetworkOf, IsMachineOf, IsRowOf, act_of, allows, bits_where, code_of, cond_of, emission_source, value_number}
+use Rattle.net_rules.specs.Networks.{IsNetworkOf, IsMachineOf, IsRowOf, act_of, allows, bits_where, value_code, cond_of, emission_source, value_number}
 use Rattle.net_gen.specs.Draws.{after, draw}
 use Rattle.net_gen.specs.Events.{next_machine}
 use Rattle.net_gen.specs.Networks.{word, value, tick, valued, output, is_state, set_state, emit_value, tick_row_at, value_row_at, last_row, rows, tick_rows, value_rows, machine, machine_at, ring, count, network}
@@ -91,11 +91,11 @@ module _ (n x i j y : ℕ) (few : n ≤ 48) (below : i < n) (next : j < n) where
   valued_var : number (var_words own) (valued i).name ≡ 1
   valued_var = rw (same_self (decimal i)) refl
 
-  state_code : (v : ℕ) → v < 8 → code_of net own (codes "s") (value v) ≡ v
+  state_code : (v : ℕ) → v < 8 → value_code net own (codes "s") (value v) ≡ v
   state_code v small =
       ap (λ (k : ℕ). 0 + k) (value_is n x v small) ∙ (let e : 0 + v ≡ v = omega arith in e)
 
-  valued_code : (v : ℕ) → v < 8 → code_of net own (valued i).name (value v) ≡ 1 + v
+  valued_code : (v : ℕ) → v < 8 → value_code net own (valued i).name (value v) ≡ 1 + v
   valued_code v small =
       ap (λ o. 1 + value_number net o (value v)) domain_own
       ∙ ap (λ (k : ℕ). 1 + k) (value_is n x v small)

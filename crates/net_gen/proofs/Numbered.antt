@@ -1,15 +1,15 @@
 -- Names with a number of one or two digits.
-use Rattle.std.proofs.Common.{◌≡◌, ℕ, zero, suc, ◌+◌, ◌-◌, ◌*◌, ◌/◌, ◌%◌, ◌^◌, ◌<◌, ◌≤◌, ◌==◌, ◌||◌, not, Bool, true, cond, List, [], ◌∷◌, length, fold, refl, arith, rules, subst, sym, ap, ◌∙◌, nat_lt, inl, inr}
+use Rattle.std.proofs.Common.{◌≡◌, ℕ, zero, suc, ◌+◌, ◌-◌, ◌*◌, ◌/◌, ◌%◌, ◌^◌, ◌<◌, ◌≤◌, ◌==◌, ◌||◌, not, Bool, true, cond, List, ◌∷◌, length, fold, refl, arith, rules, subst, sym, ap, ◌∙◌, nat_lt, inl, inr, []}
 use Rattle.std.specs.Prelude.{decimal}
 use Rattle.std.specs.List.{list_all}
 use Rattle.std.proofs.lemmas.Bool.{false≢true, and_parts, cases_eq, lt-ltb, le-ltb, eqb-true}
-use Rattle.std.proofs.lemmas.Bool.Decides.{nat_tests}
 use Rattle.std.proofs.lemmas.List.Folds.{list_all-append}
 use Rattle.std.proofs.lemmas.Str.Parse.{IsNumeralModel, numerals_by_fold}
 use Rattle.std.proofs.lemmas.Fmt.{decimal-digits_value}
 use Rattle.polis_base.specs.Digits.{is_digit, is_plain, number_of}
 use Rattle.polis_base.specs.Lists.{upto}
 use Rattle.polis_base.specs.Names.{is_name}
+use Rattle.polis_base.proofs.Digits.{alone}
 
 -- what holds of each number of a table holds of one below its length
 pub each_below : (p : ℕ → Bool) (n i : ℕ) → list_all p (upto n) ≡ true → i < n → p i ≡ true
@@ -27,10 +27,6 @@ shifted n c = n * 10 + (c - 48)
 
 own : IsNumeralModel (λ cs. list_all is_digit cs ≡ true) number_of
 own = numerals_by_fold _ (search rules) (fold shifted) (search rules)
-
-alone : (c : ℕ) (cs : List ℕ) → (not (c == 48) || length cs == 0) ≡ true → c ≡ 48
-    → length (c ∷ cs) ≡ 1
-alone c cs plain zero_first = grind (arith, nat_tests)
 
 -- plain digits are the text of their number
 text_of_number : (cs : List ℕ) → is_plain cs ≡ true → number_of cs < 2 ^ 64

@@ -7,11 +7,11 @@ use Rattle.polis_base.specs.Lists.{upto}
 use Rattle.net_reader.specs.declared.raw.RawRow.{RawRow}
 use Rattle.net_reader.specs.declared.raw.RawMachine.{RawMachine}
 use Rattle.net_reader.specs.declared.raw.RawShape.TheVariants as shapes
-use Rattle.net_names.specs.Places.{least}
+use Rattle.net_names.specs.Places.{least_place}
 use Rattle.net_names.specs.Scopes.{state_words}
 use Rattle.net_names.specs.Values.{is_value}
-use Rattle.net_judge.specs.Judged.{Rule, broken_at, first_broken, rules, broken}
-use Rattle.net_judge.specs.Rules.{rule_15, rule_16, rule_17, rule_18, rule_19, rule_20, rule_21, rule_22, rule_23, rule_24, rule_25, unknown, unsuited, wrong_values, not_once, emitted, set_names, wrong_act, no_input, not_shown, other_domain, other_name, too_much}
+use Rattle.rule_judge.specs.Judged.{Rule, broken_at, first_broken, rules, broken}
+use Rattle.rule_judge.specs.Rules.{rule_15, rule_16, rule_17, rule_18, rule_19, rule_20, rule_21, rule_22, rule_23, rule_24, rule_25, unknown, unsuited, wrong_values, not_once, emitted, set_names, wrong_act, no_input, not_shown, other_domain, other_name, too_much}
 use Rattle.net_gen.specs.Draws.{after, draw}
 use Rattle.net_gen.specs.Networks.{num, value, machine, ring, count, network}
 use Rattle.net_gen.proofs.Naming.{same_self}
@@ -144,7 +144,7 @@ AllNone (rule ∷ rest) = (rule.1 ≡ []) × AllNone rest
 first_none : (list : List Rule) → AllNone list → first_broken list ≡ None
 first_none [] h = refl
 first_none (rule ∷ rest) h =
-    ap (λ (ps : List ℕ). broken_at rule.0 (least ps) (first_broken rest)) h.0
+    ap (λ (ps : List ℕ). broken_at rule.0 (least_place ps) (first_broken rest)) h.0
     ∙ first_none rest h.1
 
 none_broken : (n x : ℕ) → n ≤ 48 → broken (ring n x) ≡ None

@@ -1,7 +1,7 @@
 -- The network text of a seed breaks no rule, and its network is the seed's.
 use Rattle.std.proofs.Common.{◌≡◌, None, sym, subst}
 use Rattle.net_reader.specs.declared.raw.RawNet.{RawNet}
-use Rattle.net_judge.specs.Judged.{broken}
+use Rattle.rule_judge.specs.Judged.{broken}
 use Rattle.net_rules.specs.Networks.{IsNetworkOf}
 use Rattle.net_gen.specs.Networks.{network}
 use Rattle.net_gen.specs.Texts.{RulesIgnorePlaces, NetworksIgnorePlaces, TextsKeepRules, TextsHaveNetwork}

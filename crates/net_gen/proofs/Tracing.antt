@@ -11,18 +11,19 @@ use Rattle.domains.specs.Names.{is_same}
 use Rattle.transition_table.specs.declared.decl.EventDecl.{EventDecl}
 use Rattle.transition_table.specs.declared.network.Network.{Network}
 use Rattle.journals.specs.declared.entry.TraceItem.TheVariants.{Settle}
-use Rattle.trace_text.specs.Pieces.{ends_line, ends_word, begins_comment, lines_of}
-use Rattle.trace_text.specs.Traces.{is_sent, is_sent_event, env_event, joined, code_of, domain_of, coded, event_item, with_line, trace_of}
+use Rattle.trace_text.specs.Pieces.{ends_line, ends_word, begins_comment, trace_lines}
+use Rattle.trace_text.specs.Traces.{is_sent, is_sent_event, env_event, coded, sent_item, with_line, trace_of}
 use Rattle.net_gen.specs.Draws.{after, draw}
 use Rattle.net_gen.specs.Events.{HasDemoEvents}
 use Rattle.net_gen.specs.Items.{tick_item, items_at, tick_items, trace_items}
 use Rattle.net_gen.specs.Networks.{count}
-use Rattle.net_gen.specs.Traces.{tick_line, lines_at, ticks, trace_text}
+use Rattle.net_gen.specs.inner.Traces.{tick_line, lines_at, ticks, trace_text}
 use Rattle.net_gen.proofs.Drawn.{flat_snoc}
 use Rattle.net_gen.proofs.Keeping.{draw_below}
 use Rattle.net_gen.proofs.Lines.{is_free, text_of, are_lines, lines_back, one_word, IsItem, all_read, zip_flat, all_flat, text_flat}
 use Rattle.net_gen.proofs.Naming.{same_self, other_number}
 use Rattle.net_gen.proofs.Numbered.{each_below, one_digit, two_digits}
+use Rattle.journal_text.specs.Items.{joined, word_code, event_domain}
 
 -- ---- the lines
 
@@ -157,12 +158,12 @@ module _ (n : ℕ) (net : Network) (few : n ≤ 48) (has : HasDemoEvents n net) 
 
   tick_read : (i : ℕ) → i < n → IsItem net (tick_word i) (tick_item i)
   tick_read i below =
-      let pure : domain_of net (3 * i) ≡ None =
+      let pure : event_domain net (3 * i) ≡ None =
       ap (λ o. joined (option_map (λ (event : EventDecl). event.domain) o)) (has.tick_is i below) in
       one_word net 116 (decimal i) (free_tick begins_comment refl i (omega arith))
       (free_tick ends_word refl i (omega arith))
-      ∙ ap (λ o. event_item net o None) (tick_found i below)
-      ∙ ap (λ o. coded (3 * i) (code_of net o None)) pure
+      ∙ ap (λ o. sent_item net o None) (tick_found i below)
+      ∙ ap (λ o. coded (3 * i) (word_code net o None)) pure
 
   settle_read : IsItem net (codes "settle") Settle
   settle_read = refl
@@ -200,8 +201,8 @@ module _ (n : ℕ) (net : Network) (few : n ≤ 48) (has : HasDemoEvents n net) 
   ticks_read x m some small =
       let words : List (List ℕ) = flat_map (words_at n x) (upto m) in
       let long = long_words x m in
-      let lines : lines_of (flat_map (lines_at n x) (upto m)) ≡ words =
-      ap lines_of (sym (text_flat (words_at n x) (lines_at n x) (text_at n x) (upto m)))
+      let lines : trace_lines (flat_map (lines_at n x) (upto m)) ≡ words =
+      ap trace_lines (sym (text_flat (words_at n x) (lines_at n x) (text_at n x) (upto m)))
       ∙ lines_back words (all_flat (is_free ends_line) (words_at n x)
       (λ k. are_lines_at n x k some few) (upto m)) in
       ap (λ ls. fold (with_line net) (Ok []) (enumerate_from 1 ls)) lines

@@ -16,7 +16,7 @@ use Rattle.net_names.specs.Places.{unless}
 use Rattle.net_names.specs.Numbers.{is_name_of, no_name, missing, repeated}
 use Rattle.net_names.specs.Scopes.{domain_words, event_words, machine_words, state_words, is_from_env, is_to_env, all_outputs, all_inputs, shape_of}
 use Rattle.net_names.specs.Values.{count_of, no_value}
-use Rattle.net_judge.specs.Rules.{beyond, disorder, used_domains, is_small, events_where, rule_1, rule_2, rule_3, rule_4, rule_5, rule_6, rule_7, rule_8, rule_9, rule_10, rule_11, rule_12, rule_13, rule_14}
+use Rattle.rule_judge.specs.Rules.{beyond, disorder, used_domains, is_small, events_where, rule_1, rule_2, rule_3, rule_4, rule_5, rule_6, rule_7, rule_8, rule_9, rule_10, rule_11, rule_12, rule_13, rule_14}
 use Rattle.net_gen.proofs.Placing.{empty, append_alone, unless_alone, flat_alone, missing_alone, repeated_alone, shape_of_alone, count_alone}
 use Rattle.net_gen.proofs.Looked.{is_name_alone, domain_words_alone, event_words_alone, machine_words_alone, state_words_alone, all_outputs_alone, all_inputs_alone, ports_alone, used_domains_alone, events_where_alone, no_value_alone}
 

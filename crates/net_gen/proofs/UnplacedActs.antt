@@ -19,13 +19,13 @@ use Rattle.net_reader.specs.declared.raw.RawRow.{RawRow}
 use Rattle.net_reader.specs.declared.raw.RawMachine.{RawMachine}
 use Rattle.net_reader.specs.declared.raw.RawNet.{RawNet}
 use Rattle.net_reader.specs.Places.{word_alone, value_alone, shape_alone, typed_alone, cond_alone, source_alone, given_alone, act_alone, row_alone, machine_alone, without_places}
-use Rattle.net_names.specs.Places.{unless, sooner, least}
+use Rattle.net_names.specs.Places.{unless, sooner, least_place}
 use Rattle.net_names.specs.Numbers.{is_name_of, no_name, missing, repeated}
 use Rattle.net_names.specs.Scopes.{state_words, shape_of, event_domain, state_domain, var_domain, shape_at, count_at, cond_word, var_sizes, var_words}
 use Rattle.net_names.specs.Values.{no_value}
-use Rattle.net_judge.specs.declared.verdict.Broken.{Broken}
-use Rattle.net_judge.specs.Judged.{Rule, broken_at, first_broken, rules, broken}
-use Rattle.net_judge.specs.Rules.{in_conds, unknown, suits, unsuited, wrong_values, emitted, set_names, not_once, wrong_value, wrong_emission, wrong_act, in_acts, source_of, target_domain, wrong_input, is_valued, no_input, shows, not_shown, same_domain, other_domain, wrong_sum, other_name, not_below, too_much, rule_15, rule_16, rule_17, rule_18, rule_19, rule_20, rule_21, rule_22, rule_23, rule_24, rule_25}
+use Rattle.rule_judge.specs.declared.verdict.Broken.{Broken}
+use Rattle.rule_judge.specs.Judged.{Rule, broken_at, first_broken, rules, broken}
+use Rattle.rule_judge.specs.Rules.{in_conds, unknown, suits, unsuited, wrong_values, emitted, set_names, not_once, wrong_value, wrong_emission, wrong_act, in_acts, source_of, target_domain, wrong_input, is_valued, no_input, shows, not_shown, same_domain, other_domain, wrong_sum, other_name, not_below, too_much, rule_15, rule_16, rule_17, rule_18, rule_19, rule_20, rule_21, rule_22, rule_23, rule_24, rule_25}
 use Rattle.net_gen.proofs.Placing.{empty, append_alone, unless_alone, flat_alone, shape_of_alone, event_domain_alone}
 use Rattle.net_gen.proofs.Looked.{flat_words, is_name_alone, state_words_alone, var_words_alone, state_domain_alone, var_domain_alone, is_typed_alone, shape_at_alone, count_at_alone, var_sizes_alone, no_value_alone, cond_word_alone}
 use Rattle.net_gen.proofs.Unplaced.{Alone, lacks_alone, names_are_alone, once_alone, each_alone, alone_1, alone_2, alone_3, alone_4, alone_5, alone_6, alone_7, alone_8, alone_9, alone_10, alone_11, alone_12, alone_13, alone_14}
@@ -325,10 +325,10 @@ rules_alone net =
     ⩓ alone_20 net ⩓ alone_21 net ⩓ alone_22 net ⩓ alone_23 net ⩓ alone_24 net ⩓ alone_25 net ⩓ refl
 
 none_least : (places : List ℕ) (rule : ℕ) (later : Option Broken)
-    → broken_at rule (least places) later ≡ None
+    → broken_at rule (least_place places) later ≡ None
     → (empty places ≡ true) × (later ≡ None)
 none_least [] rule later none = (refl, none)
-none_least (p ∷ ps) rule later none = by (least ps) none
+none_least (p ∷ ps) rule later none = by (least_place ps) none
   where
     by : (o : Option ℕ) → broken_at rule (sooner (Some p) o) later ≡ None
         → (false ≡ true) × (later ≡ None)
@@ -347,7 +347,7 @@ kept_none (r ∷ rs) all = by r.1 (kept_none rs) all
   where
     by : (places : List ℕ) → (kept rs ≡ true → first_broken rs ≡ None)
         → (empty places && kept rs) ≡ true
-        → broken_at r.0 (least places) (first_broken rs) ≡ None
+        → broken_at r.0 (least_place places) (first_broken rs) ≡ None
     by [] rest h = rest h
     by (p ∷ ps) rest h = absurd (true≢false (sym h))
 

@@ -30,7 +30,7 @@ use Rattle.net_reader.specs.Places.{word_alone, value_alone, shape_alone, domain
 use Rattle.net_names.specs.Numbers.{names_of, is_among, number_in, number}
 use Rattle.net_names.specs.Values.{value_in}
 use Rattle.net_names.specs.Scopes.{domain_words, event_words, state_words, is_to_env, shape_at, event_domain, state_domain, var_domain, event_codes, state_codes, cond_word, var_words}
-use Rattle.net_rules.specs.Networks.{value_number, IsDomainOf, machines_with, party_of, event_of, state_of, first_code, code_of, allows, bits_where, cond_of, source_in, emission_source, act_of, IsRowOf, IsMachineOf, IsNetworkOf}
+use Rattle.net_rules.specs.Networks.{value_number, IsDomainOf, machines_with, party_of, event_of, state_of, first_code, value_code, allows, bits_where, cond_of, source_in, emission_source, act_of, IsRowOf, IsMachineOf, IsNetworkOf}
 use Rattle.net_gen.proofs.Placing.{names_alone, event_domain_alone, value_in_alone}
 use Rattle.net_gen.proofs.Looked.{map_alone, domain_words_alone, event_words_alone, state_words_alone, var_words_alone, state_domain_alone, var_domain_alone, shape_at_alone, count_at_alone, event_codes_alone, var_sizes_alone, cond_word_alone}
 use Rattle.net_gen.proofs.Unplaced.{names_are_alone}
@@ -125,7 +125,7 @@ first_code_alone m name =
     (names_are_alone (state_words (machine_alone m)) (state_words m) (state_words_alone m) name)
 
 code_alone : (net : RawNet) (m : RawMachine) (name : List ℕ) (v : RawValue)
-    → code_of (without_places net) (machine_alone m) name (value_alone v) ≡ code_of net m name v
+    → value_code (without_places net) (machine_alone m) name (value_alone v) ≡ value_code net m name v
 code_alone net m name v =
     ap (λ (k : ℕ). k + value_number (without_places net)
     (var_domain (without_places net) (machine_alone m) name) (value_alone v))
@@ -151,8 +151,8 @@ allows_alone net m (conds.Is w value) code =
     ap (λ (k : ℕ). code == k) (code_alone net m w.name value)
 allows_alone net m (conds.OneOf w values) code =
     any_alone
-    (λ value. code == code_of (without_places net) (machine_alone m) w.name value)
-    (λ value. code == code_of net m w.name value) value_alone
+    (λ value. code == value_code (without_places net) (machine_alone m) w.name value)
+    (λ value. code == value_code net m w.name value) value_alone
     (λ value. ap (λ (k : ℕ). code == k) (code_alone net m w.name value)) values
 
 cond_alone_of : (net : RawNet) (m : RawMachine) (c : RawCond)

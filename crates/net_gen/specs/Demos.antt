@@ -1,7 +1,7 @@
 -- The machines of a ring, as they are in its network.
 use Rattle.std.specs.Prelude.{◌≡◌, ℕ, ◌+◌, ◌*◌, ◌^◌, List, [], ◌∷◌, ◌++◌, map, Some, slice_get, codes}
 use Rattle.polis_base.specs.Lists.{upto}
-use Rattle.transition_table.specs.Samples.{gives, has_codes, state_of}
+use Rattle.transition_table.specs.samples.Parts.{gives, has_codes, state_of}
 use Rattle.transition_table.specs.declared.row.Cond.{Cond}
 use Rattle.transition_table.specs.declared.row.Act.{Act}
 use Rattle.transition_table.specs.declared.row.Row.{Row}

@@ -3,7 +3,7 @@ use Rattle.std.specs.Prelude.{◌≡◌, ◌↔◌, ℕ, None}
 use Rattle.transition_table.specs.declared.network.Network.{Network}
 use Rattle.net_reader.specs.declared.raw.RawNet.{RawNet}
 use Rattle.net_reader.specs.Places.{without_places}
-use Rattle.net_judge.specs.Judged.{broken}
+use Rattle.rule_judge.specs.Judged.{broken}
 use Rattle.net_rules.specs.Networks.{IsNetworkOf}
 use Rattle.net_gen.specs.Networks.{network}
 

@@ -11,7 +11,7 @@ use Rattle.net_rules.specs.NetOf.{NetOf}
 use Rattle.net_rules.specs.Networks.{IsNetworkOf}
 use Rattle.trace_text.specs.Traces.{trace_of}
 use Rattle.net_gen.specs.Networks.{network}
-use Rattle.net_gen.specs.Traces.{trace_text}
+use Rattle.net_gen.specs.inner.Traces.{trace_text}
 
 -- the declarations of each seed give a network
 abbrev pub SeedsHaveNetwork : Type 0

@@ -102,6 +102,7 @@ module _ (words : List Word) (name : List ℕ) (i : ℕ) (word : Word) (below : 
   number-later other = first-word ∙ ap (λ b. cond b (Some i) (number_from words name (i + 1))) other
 
 -- all of them, and none of them
+
 pub number-all : (words : List Word) (name : List ℕ)
     → number_from words name 0 ≡ number_in (names_of words) name
 unfolding number_from

@@ -7,11 +7,11 @@ use Rattle.std.specs.Map.{lookup}
 use Rattle.std.specs.Cmp.Lexicographic.{nat_list_eq_equiv}
 use Rattle.indexmap.specs.IndexMap.{insert_entry}
 use Rattle.domains.specs.Names.{is_same}
-use Rattle.net_names.specs.Tables.{Numbered, number_at, has, noted}
+use Rattle.net_names.specs.Tables.{NameNumbers, number_at, has, noted}
 use Rattle.net_names.specs.Numbers.{names_of, is_among, is_name_of, number_in}
 
 module _ (name : List ℕ) (number : ℕ) where
-  insert-end : (es : Numbered) → has es name ≡ false
+  insert-end : (es : NameNumbers) → has es name ≡ false
       → insert_entry is_same es name number ≡ es ++ (name, number) ∷ []
   insert-end [] absent = refl
   insert-end (e ∷ es) absent = by (is_same name e.0) absent (insert-end es)
@@ -24,12 +24,12 @@ module _ (name : List ℕ) (number : ℕ) where
       by false h rest = ap (λ l. e ∷ l) (rest h)
 
   -- what the map does with a name that isn't there
-  pub insert-noted : (es : Numbered) → has es name ≡ false
+  pub insert-noted : (es : NameNumbers) → has es name ≡ false
       → insert_entry is_same es name number ≡ noted es name number
   insert-noted es absent = insert-end es absent
       ∙ sym (ap (λ b. cond b es (es ++ (name, number) ∷ [])) absent)
 
-  number-append : (es : Numbered) (q : List ℕ)
+  number-append : (es : NameNumbers) (q : List ℕ)
       → number_at (es ++ (name, number) ∷ []) q
       ≡ option_or (number_at es q) (cond (is_same q name) (Some number) None)
   number-append [] q = refl
@@ -43,7 +43,7 @@ module _ (name : List ℕ) (number : ℕ) where
       by true h = refl
       by false h = h
 
-same-number : (es : Numbered) (q name : List ℕ) → is_same q name ≡ true
+same-number : (es : NameNumbers) (q name : List ℕ) → is_same q name ≡ true
     → number_at es q ≡ number_at es name
 same-number [] q name same = refl
 same-number (e ∷ es) q name same =
@@ -51,7 +51,7 @@ same-number (e ∷ es) q name same =
     ∙ ap (cond (is_same name e.0) (Some e.1)) (same-number es q name same)
 
 -- a name that has a number keeps it, and the new name gets its own
-pub number-noted : (es : Numbered) (name : List ℕ) (number : ℕ) (q : List ℕ)
+pub number-noted : (es : NameNumbers) (name : List ℕ) (number : ℕ) (q : List ℕ)
     → number_at (noted es name number) q
     ≡ option_or (number_at es q) (cond (is_same q name) (Some number) None)
 number-noted es name number q = by (has es name) refl
@@ -79,7 +79,7 @@ number-noted es name number q = by (has es name) refl
         ∙ number-append name number es q
 
 -- whether a name has a number after one more
-pub has-noted : (es : Numbered) (name : List ℕ) (number : ℕ) (q : List ℕ)
+pub has-noted : (es : NameNumbers) (name : List ℕ) (number : ℕ) (q : List ℕ)
     → has (noted es name number) q ≡ (has es q || is_same q name)
 has-noted es name number q = ap is_some (number-noted es name number q)
     ∙ by (number_at es q) (is_same q name)
@@ -113,7 +113,7 @@ number-push (n ∷ names) name q = by (is_same q n) (number-push names name q)
     by false h = ap (option_map suc) h ∙ more (number_in names q) (is_same q name)
 
 -- one more word gets its number
-pub number-step : (words : List Word) (i : ℕ) (word : Word) (before after : Numbered)
+pub number-step : (words : List Word) (i : ℕ) (word : Word) (before after : NameNumbers)
     → i < length words → word ≡ get_or words i word → after ≡ noted before word.name i
     → ((q : List ℕ) → number_at before q ≡ number_in (names_of (take i words)) q) → (q : List ℕ)
     → number_at after q ≡ number_in (names_of (take (i + 1) words)) q
@@ -149,7 +149,7 @@ among-number (n ∷ names) name = by (is_same name n) (among-number names name)
     by false h = mapped (number_in names name) ∙ h
 
 -- the table has the names of the words
-pub has-names : (table : Numbered) (words : List Word)
+pub has-names : (table : NameNumbers) (words : List Word)
     → ((name : List ℕ) → number_at table name ≡ number_in (names_of words) name)
     → has table ≡ is_name_of words
 has-names table words same = λ k name.

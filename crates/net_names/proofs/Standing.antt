@@ -11,7 +11,7 @@ use Rattle.net_names.specs.declared.vars.Var.{Var}
 use Rattle.net_names.specs.Numbers.{names_of, number_in}
 use Rattle.net_names.specs.Vars.{IsVar, AreVars}
 
-some-is : {A : Type 0} (a b : A) → Some a ≡ Some b → a ≡ b
+pub some-is : {A : Type 0} (a b : A) → Some a ≡ Some b → a ≡ b
 some-is a b e = ap (λ o. unwrap_or o a) e
 
 -- the variable at a name's number is what the name stands for

@@ -1,6 +1,6 @@
 // What the names of a machine stand for.
 ghost use Rattle.std.specs.Prelude.{◌≡◌, ◌∷◌, ◌++◌, ℕ, List, option_copied, IfOk};
-ghost use Rattle.net_names.specs.Places.{sooner, least};
+ghost use Rattle.net_names.specs.Places.{sooner, least_place};
 ghost use Rattle.net_names.specs.Numbers.{names_of, number_in, is_name_of, number};
 ghost use Rattle.net_names.specs.Tables.{number_at, has};
 ghost use Rattle.net_names.specs.Values.{no_value, is_value};
@@ -27,7 +27,7 @@ fn is_value(shape: Option<&RawShape>, value: &RawValue) -> bool
 
 /// The least of what was found and of the value's place, where it is no value of the domain.
 pub fn no_value(shape: Option<&RawShape>, value: &RawValue, found: Option<u64>) -> Option<u64>
-    ensures { result ≡ sooner found (least (no_value (option_copied shape.entry) value.now)) }
+    ensures { result ≡ sooner found (least_place (no_value (option_copied shape.entry) value.now)) }
 {
     unless(is_value(shape, value), place_of(value), found)
 }

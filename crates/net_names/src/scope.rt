@@ -1,5 +1,6 @@
 // What the names of a network stand for.
 ghost use Rattle.std.specs.Prelude.{◌≡◌, ◌<◌, ◌≤◌, ℕ, List, length, slice_get, Some, None, option_copied, IfOk, IfSome};
+ghost use Rattle.polis_base.specs.declared.limits.TheConstants.{DOMAINS_MAX, EVENTS_MAX};
 ghost use Rattle.std.specs.Option.{option_map};
 ghost use Rattle.net_reader.specs.declared.raw.Word.{Word as RawWord};
 ghost use Rattle.net_names.specs.Numbers.{number, names_of, number_in};
@@ -59,7 +60,7 @@ impl<'a> Scope<'a> {
 
     /// The number of a domain by its name, 0 where it isn't declared.
     pub fn number_of(&self, name: Name) -> u32
-        requires { length self.now.raw.now.domains ≤ 64 }
+        requires { length self.now.raw.now.domains ≤ DOMAINS_MAX }
         ensures { result ≡ number (domain_words self.now.raw.now) name }
     {
         match self.domains.number(name) {
@@ -70,7 +71,7 @@ impl<'a> Scope<'a> {
 
     /// The number of an event by its name, 0 where it isn't declared.
     pub fn event_number(&self, name: Name) -> u32
-        requires { length self.now.raw.now.events ≤ 256 }
+        requires { length self.now.raw.now.events ≤ EVENTS_MAX }
         ensures { result ≡ number (event_words self.now.raw.now) name }
     {
         match self.events.number(name) {
@@ -81,7 +82,7 @@ impl<'a> Scope<'a> {
 
     /// The number of a domain by its name, if one is named.
     pub fn domain_number(&self, domain: Option<Word>) -> Option<u32>
-        requires { length self.now.raw.now.domains ≤ 64 }
+        requires { length self.now.raw.now.domains ≤ DOMAINS_MAX }
         ensures { result
             ≡ option_map (λ (w : RawWord). number (domain_words self.now.raw.now) w.name) domain }
     {

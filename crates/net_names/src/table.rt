@@ -85,9 +85,9 @@ pub struct Table {
 
 impl Model for Table {
     ghost use Rattle.domains.specs.Names.{is_same};
-    ghost use Rattle.net_names.specs.Tables.{Numbered};
+    ghost use Rattle.net_names.specs.Tables.{NameNumbers};
 
-    ghost Value = { Numbered };
+    ghost Value = { NameNumbers };
 
     ghost view = { λ t. t.numbers.entries };
 }

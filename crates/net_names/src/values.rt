@@ -1,7 +1,7 @@
 // Values of declared domains, and numbers of snapshots.
 ghost use Rattle.std.specs.Prelude.{◌≡◌, ◌≤◌, ◌*◌, min, Some, None, length};
 ghost use Rattle.domains.specs.Names.{is_same};
-ghost use Rattle.net_names.specs.Places.{unless, sooner, least};
+ghost use Rattle.net_names.specs.Places.{unless, sooner, least_place};
 ghost use Rattle.net_names.specs.Numbers.{names_of, number_in, is_name_of};
 ghost use Rattle.net_names.specs.Values.{value_in, count_of, place_of};
 

@@ -6,7 +6,7 @@ use Rattle.polis_base.specs.declared.token.Kind.TheVariants.{Sign}
 use Rattle.polis_base.specs.declared.token.Token.{Token}
 use Rattle.net_reader.specs.Lexemes.{Lexeme}
 use Rattle.net_reader.specs.Reading.{only, word_at, num_at, value_at, many, after_comma, listed, names_at, range_at, shape_at, domain_at, from_env_at, to_env_at, env_at, typed_at, typed_part_at, event_at, state_at, absent_at, is_at, one_of_at, after_name_at, named_at, cond_at, plain_at, input_at, add_at, add_or_plain_at, after_value_at, sum_at, input_or_plain_at, input_or_sum_at, given_source_at, source_at, given_at, given_part_at, emit_at, set_at, act_at, nothing_at, acts_at, row_at, output_at, outputs_at, body_at, machine_at, net_at, end_at, whole_at}
-use Rattle.net_reader.specs.Outcomes.{outcome}
+use Rattle.net_reader.specs.inner.Outcomes.{outcome}
 use Rattle.net_reader.specs.Sentences.{HasNet, BreaksAt, LacksLast}
 use Rattle.net_reader.specs.Samples.{lamp_text, lamp, echo_text, echo, with_action, one_action, set_to_input}
 use Rattle.net_reader.specs.declared.raw.RawNet.{RawNet}

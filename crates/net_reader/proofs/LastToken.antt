@@ -8,7 +8,7 @@ use Rattle.net_reader.specs.Lexemes.{Lexeme, lexemes}
 use Rattle.net_reader.specs.Grammar.{OneAnd, IsMachine, IsNet}
 use Rattle.net_reader.specs.Reading.{Answer, begins}
 use Rattle.net_reader.specs.Sentences.{BreaksAt, LacksLast, OrNoMemory}
-use Rattle.net_reader.specs.Outcomes.{outcome}
+use Rattle.net_reader.specs.inner.Outcomes.{outcome}
 use Rattle.net_reader.specs.declared.raw.RawMachine.{RawMachine}
 use Rattle.net_reader.specs.declared.raw.RawNet.{RawNet}
 use Rattle.net_reader.specs.declared.network.NetFault.{NetFault}

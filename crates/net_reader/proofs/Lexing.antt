@@ -1,5 +1,5 @@
 -- What a text whose tokens are known reads as, from a place on.
-use Rattle.std.proofs.Common.{◌≡◌, ℕ, zero, suc, ◌+◌, ◌-◌, Bool, true, false, ◌&&◌, List, [], ◌∷◌, ◌++◌, length, take, drop, Result, Ok, refl, sym, ◌∙◌, ap, subst, arith, add-zero}
+use Rattle.std.proofs.Common.{◌≡◌, ℕ, suc, ◌+◌, ◌-◌, Bool, true, List, ◌∷◌, ◌++◌, length, take, drop, Result, Ok, refl, sym, ◌∙◌, ap, subst, arith, add-zero, []}
 use Rattle.std.specs.List.{list_all}
 use Rattle.std.proofs.lemmas.List.{append_assoc, length-append}
 use Rattle.polis_base.specs.declared.token.Kind.{Kind}
@@ -8,6 +8,8 @@ use Rattle.polis_base.specs.declared.token.LexError.{LexError}
 use Rattle.polis_base.specs.Tokens.{scan, is_blank, bytes_in, with_token, joined, tokens_from}
 use Rattle.net_reader.specs.Lexemes.{Lexeme, lexemes}
 use Rattle.net_reader.specs.Grammar.{Part, ◌⨾◌, Only}
+use Rattle.polis_base.proofs.Names.{left_true, right_true}
+use Rattle.polis_base.proofs.Reading.{passed}
 
 -- from a place on the bytes read as these tokens, whatever stood before
 pub record Lexed (at : ℕ) (bytes : List ℕ) (ls : List Lexeme) : Type 0 where
@@ -26,14 +28,6 @@ moved at to bytes new ls ms p q r l = record {
   read = rw (← p, ← q) l.read;
   same = λ before h. rw (← q, ← r) (l.same before (h ∙ sym p));
 }
-
-left_true : (a b : Bool) → (a && b) ≡ true → a ≡ true
-left_true true b h = refl
-left_true false b h = h
-
-right_true : (a b : Bool) → (a && b) ≡ true → b ≡ true
-right_true true b h = h
-right_true false b h = cc
 
 -- blanks before are passed over
 pub skips : (blanks bytes : List ℕ) (at : ℕ) (ls : List Lexeme) → list_all is_blank blanks ≡ true
@@ -62,15 +56,6 @@ skips (c ∷ blanks) bytes at ls blank l =
           ∙ later.same (before ++ c ∷ []) n;
     }
 
--- the first bytes are passed over
-passed : (at n : ℕ) (bytes : List ℕ)
-    → tokens_from at n bytes ≡ tokens_from (at + n) 0 (drop n bytes)
-passed at zero bytes = rw add-zero refl
-passed at (suc n) [] = refl
-passed at (suc n) (c ∷ rest) =
-    let e : at + 1 + n ≡ at + suc n = omega arith in
-    passed (at + 1) n rest ∙ ap (λ i. tokens_from i 0 (drop n rest)) e
-
 dropped : (w rest : List ℕ) → drop (length w) (w ++ rest) ≡ rest
 dropped [] rest = refl
 dropped (c ∷ w) rest = dropped w rest
@@ -85,14 +70,14 @@ dropped_at before bytes at h =
     ap (λ (n : ℕ). drop n (before ++ bytes)) (sym h) ∙ dropped before bytes
 
 -- what stands at a place is a token of n bytes
-pub record Stands (at : ℕ) (bytes : List ℕ) (kind : Kind) (n : ℕ) : Type 0 where
+pub record ReadsAs (at : ℕ) (bytes : List ℕ) (kind : Kind) (n : ℕ) : Type 0 where
   pub size : bytes_in (scan at bytes) ≡ n
   pub token : (read : Result (List Token) LexError)
       → joined (scan at bytes) at read ≡ with_token (record { kind = kind; at = at; len = n }) read
 
 -- a token
 pub reads : (c : ℕ) (w rest : List ℕ) (kind : Kind) (at : ℕ) (ls : List Lexeme)
-    → Stands at ((c ∷ w) ++ rest) kind (length (c ∷ w)) → Lexed (at + length (c ∷ w)) rest ls
+    → ReadsAs at ((c ∷ w) ++ rest) kind (length (c ∷ w)) → Lexed (at + length (c ∷ w)) rest ls
     → Lexed at ((c ∷ w) ++ rest) (record { kind = kind; bytes = c ∷ w; at = at } ∷ ls)
 reads c w rest kind at ls is l =
     let n = length w in
@@ -157,7 +142,7 @@ seq {t = t} {u = u} p q fits = record {
 -- one token with blanks round it
 pub lit : (before : List ℕ) (c : ℕ) (w after : List ℕ) (kind : Kind)
     → list_all is_blank before ≡ true → list_all is_blank after ≡ true
-    → ((at : ℕ) (rest : List ℕ) → Stands at ((c ∷ w) ++ (after ++ rest)) kind (length (c ∷ w)))
+    → ((at : ℕ) (rest : List ℕ) → ReadsAs at ((c ∷ w) ++ (after ++ rest)) kind (length (c ∷ w)))
     → Made any (Only kind) (before ++ ((c ∷ w) ++ after))
 lit before c w after kind blank blank_too is = record {
   made = λ at rest ls h l.

@@ -18,10 +18,10 @@ pub mod PrintedDeclarations
 pub mod PrintedRows
 pub mod PrintedMachines
 pub mod PrintedNetworks
-mod LastToken
-mod Marks
-mod Stopping
-mod Cuts
-mod FirstMachines
-mod CutTexts
-mod Computed
+pub mod LastToken
+pub mod Marks
+pub mod Stopping
+pub mod Cuts
+pub mod FirstMachines
+pub mod CutTexts
+pub mod Computed

@@ -11,7 +11,8 @@ use Rattle.polis_base.specs.declared.token.Sign.TheVariants.{Equal, Assign, Colo
 use Rattle.polis_base.specs.declared.token.Token.{Token}
 use Rattle.polis_base.specs.declared.token.LexError.{LexError}
 use Rattle.polis_base.specs.declared.token.LexError.TheVariants.{BadByte, NameTooLong, NumberTooLarge}
-use Rattle.polis_base.specs.Tokens.{is_blank, begins_with, keyword_of, word_kind, scan, scan_word, scan_number, scan_sign, bytes_in, with_token, joined, tokens_from, tokens_after, fault_of, mark, marked, marked_from, marked_after}
+use Rattle.polis_base.specs.Tokens.{is_blank, begins_with, keyword_of, word_kind, scan, scan_word, scan_number, scan_sign, bytes_in, with_token, joined, tokens_from, tokens_after, mark, marked, marked_from, marked_after}
+use Rattle.polis_base.specs.Tokens.{fault_of}
 use Rattle.net_reader.specs.Lexemes.{Lexeme, lexeme, lexemes}
 use Rattle.net_reader.specs.Pieces.{place_of}
 

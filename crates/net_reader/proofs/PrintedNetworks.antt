@@ -5,14 +5,16 @@ use Rattle.std.specs.List.{list_all}
 use Rattle.std.proofs.lemmas.List.{append-nil}
 use Rattle.net_reader.specs.Lexemes.{Lexeme}
 use Rattle.net_reader.specs.Grammar.{Each, OneAnd, IsDomain, IsEvent, IsMachine, IsNet}
-use Rattle.net_reader.specs.Formed.{word_formed, num_formed, domain_formed, event_formed, machine_formed, net_formed}
+use Rattle.net_reader.specs.Formed.{word_formed, num_formed, domain_formed, event_formed, machine_formed}
+use Rattle.net_reader.specs.inner.Formed.{net_formed}
 use Rattle.net_reader.specs.Layout.{domain_text, event_text, machine_text, network_text}
 use Rattle.net_reader.specs.Places.{Declares, num_alone, domain_alone, event_alone, machine_alone, without_places}
 use Rattle.net_reader.specs.declared.raw.Num.{Num}
 use Rattle.net_reader.specs.declared.raw.RawMachine.{RawMachine}
 use Rattle.net_reader.specs.declared.raw.RawNet.{RawNet}
 use Rattle.net_reader.proofs.Lexing.{Made, conv, seq, trail, retext, moved, any, nothing_left}
-use Rattle.net_reader.proofs.Printing.{Like, word_made, number_made, each_made, left_true, right_true}
+use Rattle.net_reader.proofs.Printing.{Like, word_made, number_made, each_made}
+use Rattle.polis_base.proofs.Names.{left_true, right_true}
 use Rattle.net_reader.proofs.Regrouping.{as3, as7}
 use Rattle.net_reader.proofs.PrintedTokens.{network_key, version_key}
 use Rattle.net_reader.proofs.PrintedDeclarations.{domain_made, event_made}

@@ -1,5 +1,5 @@
 -- The tokens of printed names, numbers and lists.
-use Rattle.std.proofs.Common.{◌≡◌, ℕ, zero, suc, ◌+◌, ◌-◌, ◌*◌, ◌^◌, ◌<◌, ◌≤◌, Bool, true, false, not, ◌&&◌, ◌==◌, nat_le, nat_lt, List, [], ◌∷◌, ◌++◌, length, map, Option, Some, None, get_or, fold, refl, sym, ◌∙◌, ap, arith, rules, add-zero}
+use Rattle.std.proofs.Common.{◌≡◌, ℕ, zero, suc, ◌+◌, ◌-◌, ◌*◌, ◌^◌, ◌<◌, ◌≤◌, Bool, true, false, not, ◌&&◌, ◌==◌, nat_le, nat_lt, List, ◌∷◌, ◌++◌, length, map, Option, Some, None, get_or, fold, refl, sym, ◌∙◌, ap, arith, rules, add-zero, []}
 use Rattle.std.specs.Prelude.{is_some, codes, flat_map, decimal}
 use Rattle.std.specs.List.{list_all, take_while}
 use Rattle.std.proofs.lemmas.Bool.{false≢true}
@@ -8,7 +8,7 @@ use Rattle.std.proofs.lemmas.List.Sums.{take_while-cons}
 use Rattle.std.proofs.lemmas.Str.Parse.{IsNumeralModel, numerals_by_fold}
 use Rattle.std.proofs.lemmas.Fmt.{digits_decimal, digits_value-decimal, decimal_nonempty, first_decimal, decimal_digit}
 use Rattle.polis_base.specs.Names.{begins_name, continues_name, is_word, is_name, is_keyword}
-use Rattle.polis_base.specs.Keywords.{keyword_of}
+use Rattle.polis_base.specs.inner.Keywords.{keyword_of}
 use Rattle.polis_base.specs.Digits.{is_digit, number_of}
 use Rattle.polis_base.specs.Tokens.{is_blank}
 use Rattle.polis_base.specs.declared.token.Keyword.{Keyword as Reserved}
@@ -24,20 +24,13 @@ use Rattle.net_reader.specs.declared.raw.Word.{Word}
 use Rattle.net_reader.specs.declared.raw.Num.{Num}
 use Rattle.net_reader.specs.declared.raw.RawValue.{RawValue}
 use Rattle.net_reader.specs.declared.raw.RawValue.TheVariants as values
-use Rattle.net_reader.proofs.Lexing.{Stands, Lexed, Made, reads, conv, seq, lit, moved, any}
+use Rattle.net_reader.proofs.Lexing.{ReadsAs, Lexed, Made, reads, conv, seq, lit, moved, any}
+use Rattle.polis_base.proofs.Names.{left_true, right_true}
 
 -- what may stand after a name or a number
 abbrev pub ends : List ℕ → Bool
 ends [] = false
 ends (c ∷ rest) = not (continues_name c)
-
-pub left_true : (a b : Bool) → (a && b) ≡ true → a ≡ true
-left_true true b h = refl
-left_true false b h = h
-
-pub right_true : (a b : Bool) → (a && b) ≡ true → b ≡ true
-right_true true b h = h
-right_true false b h = cc
 
 not_true : (a : Bool) → not a ≡ true → a ≡ false
 not_true true h = cc
@@ -69,7 +62,7 @@ no_comment : (c : ℕ) → begins_name c ≡ true → (c == 35) ≡ false
 no_comment c h = grind (arith, nat_tests)
 
 word_stands : (at c : ℕ) (cs : List ℕ) (d : ℕ) (rest : List ℕ) → is_name (c ∷ cs) ≡ true
-    → continues_name d ≡ false → Stands at (c ∷ (cs ++ d ∷ rest)) kinds.Name (length (c ∷ cs))
+    → continues_name d ≡ false → ReadsAs at (c ∷ (cs ++ d ∷ rest)) kinds.Name (length (c ∷ cs))
 word_stands at c cs d rest name stop =
     let parts = left_true (nat_le (length (c ∷ cs)) 24 && is_word (c ∷ cs))
     (not (is_keyword (c ∷ cs))) name in
@@ -112,7 +105,7 @@ digit_stops d h = grind (arith, nat_tests)
 
 large_stands : (at c : ℕ) (cs : List ℕ) (d : ℕ) (rest : List ℕ) → list_all is_digit (c ∷ cs) ≡ true
     → (c == 48) ≡ false → number_of (c ∷ cs) ≤ 4294967295 → continues_name d ≡ false
-    → Stands at (c ∷ (cs ++ d ∷ rest)) (kinds.Number (number_of (c ∷ cs))) (length (c ∷ cs))
+    → ReadsAs at (c ∷ (cs ++ d ∷ rest)) (kinds.Number (number_of (c ∷ cs))) (length (c ∷ cs))
 large_stands at c cs d rest digits some fits stop =
     let digit : is_digit c ≡ true = left_true (is_digit c) (list_all is_digit cs) digits in
     let number : take_while is_digit (c ∷ (cs ++ d ∷ rest)) ≡ c
@@ -150,7 +143,7 @@ empty_from (c ∷ cs) h = absurd (omega arith)
 number_stands : (at c : ℕ) (cs : List ℕ) (d : ℕ) (rest : List ℕ) (b : Bool) → (c == 48) ≡ b
     → list_all is_digit (c ∷ cs) ≡ true → (c ≡ 48 → length (c ∷ cs) ≡ 1)
     → number_of (c ∷ cs) ≤ 4294967295 → continues_name d ≡ false
-    → Stands at (c ∷ (cs ++ d ∷ rest)) (kinds.Number (number_of (c ∷ cs))) (length (c ∷ cs))
+    → ReadsAs at (c ∷ (cs ++ d ∷ rest)) (kinds.Number (number_of (c ∷ cs))) (length (c ∷ cs))
 number_stands at c cs d rest false some digits alone fits stop =
     large_stands at c cs d rest digits some fits stop
 number_stands at c cs d rest true none digits alone fits stop =

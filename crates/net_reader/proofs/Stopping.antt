@@ -7,12 +7,13 @@ use Rattle.polis_base.specs.declared.token.Keyword.TheVariants.{KwSettle}
 use Rattle.polis_base.specs.declared.token.Sign.TheVariants.{RightBrace}
 use Rattle.polis_base.specs.declared.token.Token.{Token}
 use Rattle.polis_base.specs.declared.token.LexError.{LexError}
-use Rattle.polis_base.specs.Tokens.{tokens_of, tokens_after, fault_of, marked_after}
+use Rattle.polis_base.specs.Tokens.{tokens_of, tokens_after, marked_after}
+use Rattle.polis_base.specs.Tokens.{fault_of}
 use Rattle.net_reader.specs.Lexemes.{Lexeme, lexeme, lexemes}
 use Rattle.net_reader.specs.Grammar.{IsNet}
 use Rattle.net_reader.specs.Reading.{Answer, whole_at}
 use Rattle.net_reader.specs.Pieces.{place_of}
-use Rattle.net_reader.specs.Outcomes.{judged, outcome_of, outcome}
+use Rattle.net_reader.specs.inner.Outcomes.{judged, outcome_of, outcome}
 use Rattle.net_reader.specs.declared.raw.RawNet.{RawNet}
 use Rattle.net_reader.specs.declared.network.NetFault.{NetFault}
 use Rattle.net_reader.specs.declared.network.NetFault.TheVariants as faults

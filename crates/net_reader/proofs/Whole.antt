@@ -8,7 +8,7 @@ use Rattle.net_reader.specs.Grammar.{IsNet, BeginsSentence}
 use Rattle.net_reader.specs.Reading.{Answer, ◌>>=◌, net_at, end_at, whole_at}
 use Rattle.net_reader.specs.Pieces.{place_of}
 use Rattle.net_reader.specs.Sentences.{HasNet, BreaksAt, Stops, OrNoMemory}
-use Rattle.net_reader.specs.Outcomes.{judged, outcome_of, outcome}
+use Rattle.net_reader.specs.inner.Outcomes.{judged, outcome_of, outcome}
 use Rattle.net_reader.specs.declared.raw.RawNet.{RawNet}
 use Rattle.net_reader.specs.declared.network.NetFault.{NetFault}
 use Rattle.net_reader.specs.declared.network.NetFault.TheVariants as faults

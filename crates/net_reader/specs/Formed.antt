@@ -19,7 +19,6 @@ use Rattle.net_reader.specs.declared.raw.RawAct.{RawAct}
 use Rattle.net_reader.specs.declared.raw.RawAct.TheVariants as acts
 use Rattle.net_reader.specs.declared.raw.RawRow.{RawRow}
 use Rattle.net_reader.specs.declared.raw.RawMachine.{RawMachine}
-use Rattle.net_reader.specs.declared.raw.RawNet.{RawNet}
 
 abbrev pub word_formed : Word → Bool
 word_formed w = is_name w.name
@@ -80,9 +79,3 @@ abbrev pub machine_formed : RawMachine → Bool
 machine_formed m =
     head_formed m
     && (ports_formed m && (list_all state_formed m.states && list_all row_formed m.rows))
-
-abbrev pub net_formed : RawNet → Bool
-net_formed n =
-    word_formed n.name
-    && (num_formed n.version && (list_all domain_formed n.domains
-    && (list_all event_formed n.events && list_all machine_formed n.machines)))

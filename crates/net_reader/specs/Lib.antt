@@ -3,9 +3,9 @@ pub mod Grammar
 pub mod Kinds
 pub mod Layout
 pub mod Lexemes
-pub mod Outcomes
 pub mod Pieces
 pub mod Places
 pub mod Reading
 pub mod Sentences
 pub mod Samples
+pub mod inner

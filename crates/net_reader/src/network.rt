@@ -7,7 +7,7 @@ ghost use Rattle.net_reader.specs.declared.network.NetFault.{NetFault};
 ghost use Rattle.net_reader.specs.Reading.{whole_at};
 ghost use Rattle.net_reader.specs.Sentences.{HasNet, BreaksAt, LacksLast, OrNoMemory};
 ghost use Rattle.net_reader.specs.Lexemes.{lexemes};
-ghost use Rattle.net_reader.specs.Outcomes.{outcome};
+ghost use Rattle.net_reader.specs.inner.Outcomes.{outcome};
 
 use crate::raw::RawNet;
 use crate::reader::{Reader, Stop};

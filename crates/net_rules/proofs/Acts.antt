@@ -17,11 +17,12 @@ use Rattle.net_reader.specs.declared.raw.RawNet.{RawNet}
 use Rattle.net_names.specs.Places.{unless}
 use Rattle.net_names.specs.Numbers.{names_of, number_in, is_among, is_name_of, missing, repeated, no_name, number}
 use Rattle.net_names.specs.Scopes.{state_words}
-use Rattle.net_judge.specs.Rules.{emitted, set_names, not_once}
+use Rattle.rule_judge.specs.Rules.{emitted, set_names, not_once}
 use Rattle.net_rules.specs.Networks.{act_of}
-use Rattle.net_rules.proofs.Named.{among-number}
-use Rattle.net_rules.proofs.Found.{number-below}
-use Rattle.net_rules.proofs.Facts.{some-is, and-first, and-second, not-false}
+use Rattle.net_names.proofs.Named.{among-number}
+use Rattle.net_names.proofs.Found.{number-below}
+use Rattle.net_rules.proofs.Facts.{and-first, and-second, not-false}
+use Rattle.net_names.proofs.Standing.{some-is}
 use Rattle.net_rules.proofs.Kept.{first-nil, rest-nil, holds, fresh, or-first, or-second}
 
 -- two names that have numbers are the same where the numbers are

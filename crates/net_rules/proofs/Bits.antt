@@ -10,10 +10,11 @@ use Rattle.net_reader.specs.declared.raw.RawState.{RawState}
 use Rattle.net_reader.specs.declared.raw.RawMachine.{RawMachine}
 use Rattle.net_reader.specs.declared.raw.RawNet.{RawNet}
 use Rattle.net_names.specs.Numbers.{is_name_of, missing, names_of, number_in, number}
-use Rattle.net_rules.proofs.Found.{number-below}
+use Rattle.net_names.proofs.Found.{number-below}
 use Rattle.net_names.specs.Scopes.{domain_words, state_words, event_codes, state_codes, var_sizes}
-use Rattle.net_rules.specs.Sound.{Each}
-use Rattle.net_rules.proofs.Facts.{some-is, and-first, and-second}
+use Rattle.net_rules.specs.inner.Sound.{Each}
+use Rattle.net_rules.proofs.Facts.{and-first, and-second}
+use Rattle.net_names.proofs.Standing.{some-is}
 use Rattle.net_rules.proofs.Acts.{first-known, rest-known}
 use Rattle.net_rules.proofs.Counts.{le-from}
 

@@ -1,5 +1,5 @@
 -- What the numbers of names keep of the names.
-use Rattle.std.proofs.Common.{◌≡◌, ◌∙◌, ℕ, zero, suc, ◌+◌, Bool, true, false, cond, not, ◌&&◌, ◌||◌, ◌==◌, List, [], ◌∷◌, ◌++◌, map, slice_get, Option, Some, None, is_some, unwrap_or, refl, ap, sym, true≢false}
+use Rattle.std.proofs.Common.{◌≡◌, ◌∙◌, ℕ, zero, suc, ◌+◌, Bool, true, false, cond, not, ◌&&◌, ◌||◌, ◌==◌, List, ◌∷◌, ◌++◌, map, slice_get, Option, Some, None, is_some, unwrap_or, refl, ap, sym, true≢false, []}
 use Rattle.std.proofs.Math.Dec.{eqb-suc-zero, eqb-zero-suc, eqb-suc-suc}
 use Rattle.std.specs.Option.{option_map}
 use Rattle.std.specs.List.{list_any, AllZip}
@@ -12,10 +12,8 @@ use Rattle.net_reader.specs.declared.raw.Word.{Word}
 use Rattle.net_reader.specs.declared.raw.RawMachine.{RawMachine}
 use Rattle.net_names.specs.Places.{unless}
 use Rattle.net_names.specs.Numbers.{names_of, number_in, is_among, is_name_of, missing, number}
-use Rattle.net_rules.proofs.Named.{among-number}
-
-pub some-is : {A : Type 0} (a b : A) → Some a ≡ Some b → a ≡ b
-some-is a b e = ap (λ o. unwrap_or o a) e
+use Rattle.net_names.proofs.Named.{among-number}
+use Rattle.net_names.proofs.Standing.{some-is}
 
 pub and-first : (a b : Bool) → (a && b) ≡ true → a ≡ true
 and-first true b h = refl

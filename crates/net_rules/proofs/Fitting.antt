@@ -28,12 +28,12 @@ use Rattle.net_names.specs.Places.{unless}
 use Rattle.net_names.specs.Numbers.{names_of, is_among, is_name_of, number_in, missing, repeated, no_name, number}
 use Rattle.net_names.specs.Values.{value_in, count_of, is_value, no_value, place_of}
 use Rattle.net_names.specs.Scopes.{domain_words, event_words, state_words, cond_word, shape_of, shape_at, state_domain, event_domain, count_at, event_codes, state_codes, var_sizes, var_words}
-use Rattle.net_judge.specs.Rules.{emitted, set_names, not_once, wrong_emission, wrong_input, is_valued, same_domain}
+use Rattle.rule_judge.specs.Rules.{emitted, set_names, not_once, wrong_emission, wrong_input, is_valued, same_domain}
 use Rattle.net_rules.specs.Networks.{state_of, cond_of, act_of, allows, bits_where, value_number, source_in, emission_source, IsRowOf}
-use Rattle.net_rules.specs.Sound.{Each, IsSound, IsSoundMachine, IsSoundAct, IsSoundRow}
+use Rattle.net_rules.specs.inner.Sound.{Each, IsSound, IsSoundMachine, IsSoundAct, IsSoundRow}
 use Rattle.net_rules.proofs.Facts.{and-first, and-second}
 use Rattle.net_rules.proofs.Kept.{first-nil, rest-nil, holds}
-use Rattle.net_rules.proofs.Named.{among-number}
+use Rattle.net_names.proofs.Named.{among-number}
 use Rattle.net_rules.proofs.Found.{value-below}
 use Rattle.net_rules.proofs.Sets.{bits-below}
 use Rattle.net_rules.proofs.Shown.{number-first, all-shown}
@@ -76,7 +76,7 @@ value-fits (Some shape) v h = by (value_in shape v) refl h
     by (Some k) e h = value-below shape v k e
 
 -- the item of a name stands at the name's number
-pub record Stands {X : Type 0} (nm : X → List ℕ) (f : X → ℕ) (name : List ℕ) (xs : List X) :
+pub record IsFoundAt {X : Type 0} (nm : X → List ℕ) (f : X → ℕ) (name : List ℕ) (xs : List X) :
     Type 0 where
   pub item : X
   pub found : find (λ x. is_same name (nm x)) xs ≡ Some item
@@ -84,7 +84,7 @@ pub record Stands {X : Type 0} (nm : X → List ℕ) (f : X → ℕ) (name : Lis
   pub same : is_same name (nm item) ≡ true
 
 pub stands : {X : Type 0} (nm : X → List ℕ) (f : X → ℕ) (name : List ℕ) (xs : List X)
-    → is_among (map nm xs) name ≡ true → Stands nm f name xs
+    → is_among (map nm xs) name ≡ true → IsFoundAt nm f name xs
 stands nm f name [] there = absurd (true≢false (sym there))
 stands nm f name (x ∷ xs) there = by (is_same name (nm x)) refl there (stands nm f name xs)
   where
@@ -95,7 +95,7 @@ stands nm f name (x ∷ xs) there = by (is_same name (nm x)) refl there (stands 
     moved (Some k) h = refl
 
     by : (b : Bool) → is_same name (nm x) ≡ b → (b || is_among (map nm xs) name) ≡ true
-        → (is_among (map nm xs) name ≡ true → Stands nm f name xs) → Stands nm f name (x ∷ xs)
+        → (is_among (map nm xs) name ≡ true → IsFoundAt nm f name xs) → IsFoundAt nm f name (x ∷ xs)
     by true e h rest = record {
       item = x;
       found = ap (λ b. cond b (Some x) (find (λ x. is_same name (nm x)) xs)) e;

@@ -15,15 +15,16 @@ use Rattle.net_reader.specs.declared.raw.RawAct.{RawAct}
 use Rattle.net_reader.specs.declared.raw.RawRow.{RawRow}
 use Rattle.net_reader.specs.declared.raw.RawMachine.{RawMachine}
 use Rattle.net_reader.specs.declared.raw.RawNet.{RawNet}
-use Rattle.net_names.specs.Places.{unless, sooner, least}
+use Rattle.net_names.specs.Places.{unless, sooner, least_place}
 use Rattle.net_names.specs.Numbers.{is_name_of, missing, repeated, no_name}
 use Rattle.net_names.specs.Values.{count_of, no_value}
 use Rattle.net_names.specs.Scopes.{domain_words, event_words, state_words, cond_word, shape_of, var_sizes}
-use Rattle.net_judge.specs.Rules.{disorder, is_small, emitted, set_names, not_once, wrong_act, no_input, not_shown, other_domain, other_name, too_much, in_acts}
-use Rattle.net_judge.specs.Judged.{Rule, rules, broken, broken_at, first_broken}
+use Rattle.rule_judge.specs.Rules.{disorder, is_small, emitted, set_names, not_once, wrong_act, no_input, not_shown, other_domain, other_name, too_much, in_acts}
+use Rattle.rule_judge.specs.Judged.{Rule, rules, broken, broken_at, first_broken}
 use Rattle.net_rules.specs.Sentence.{has_value}
-use Rattle.net_rules.specs.Sound.{Each, IsSound, has_count}
-use Rattle.net_rules.proofs.Facts.{some-is, and-first, and-second}
+use Rattle.net_rules.specs.inner.Sound.{Each, IsSound, has_count}
+use Rattle.net_rules.proofs.Facts.{and-first, and-second}
+use Rattle.net_names.proofs.Standing.{some-is}
 use Rattle.net_rules.proofs.Kept.{first-nil, rest-nil, holds}
 use Rattle.net_rules.proofs.Counts.{le-to, each-nil}
 
@@ -40,10 +41,10 @@ all-nil (r ∷ rs) h = by r.1 refl h (all-nil rs)
     some p None h = true≢false (ap is_some h)
     some p (Some q) h = true≢false (ap is_some h)
 
-    by : (ps : List ℕ) → r.1 ≡ ps → broken_at r.0 (least ps) (first_broken rs) ≡ None
+    by : (ps : List ℕ) → r.1 ≡ ps → broken_at r.0 (least_place ps) (first_broken rs) ≡ None
         → (first_broken rs ≡ None → AllNil rs) → (r.1 ≡ []) × AllNil rs
     by [] e h rest = (e, rest h)
-    by (p ∷ ps) e h rest = absurd (some p (least ps) h)
+    by (p ∷ ps) e h rest = absurd (some p (least_place ps) h)
 
 -- an enumerated domain that has a value, or a range, has at least one
 count-some : (shape : RawShape) → has_value shape ≡ true → 1 ≤ count_of shape

@@ -4,7 +4,7 @@ use Rattle.std.proofs.lemmas.Grind.{flat_map-append}
 use Rattle.std.specs.List.{list_any, list_all, enumerate_from, AllZip}
 use Rattle.std.specs.Cmp.Lexicographic.{nat_list_eq_equiv, pointwise}
 use Rattle.domains.specs.Names.{is_same, are_distinct}
-use Rattle.transition_table.specs.NetworkFacts.{has_receivers}
+use Rattle.transition_table.specs.inner.NetworkFacts.{has_receivers}
 use Rattle.transition_table.specs.declared.machine.Machine.{Machine}
 use Rattle.net_reader.specs.declared.raw.Word.{Word}
 use Rattle.net_reader.specs.declared.raw.RawEvent.{RawEvent}
@@ -13,9 +13,10 @@ use Rattle.net_reader.specs.declared.raw.RawNet.{RawNet}
 use Rattle.net_names.specs.Places.{unless}
 use Rattle.net_names.specs.Numbers.{names_of, is_name_of, missing, repeated, no_name, number}
 use Rattle.net_names.specs.Scopes.{domain_words, event_words, machine_words}
-use Rattle.net_judge.specs.Rules.{rule_3, rule_7}
+use Rattle.rule_judge.specs.Rules.{rule_3, rule_7}
 use Rattle.net_rules.specs.Networks.{event_of, IsMachineOf}
-use Rattle.net_rules.proofs.Facts.{places-with, some-is}
+use Rattle.net_rules.proofs.Facts.{places-with}
+use Rattle.net_names.proofs.Standing.{some-is}
 
 is_nil : {A : Type 0} → List A → Bool
 is_nil [] = true

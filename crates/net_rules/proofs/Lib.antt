@@ -9,10 +9,8 @@ pub mod Judging
 pub mod Kept
 pub mod Made
 pub mod Moved
-pub mod Named
 pub mod Numbering
 pub mod One
-pub mod Same
 pub mod Senders
 pub mod Sentences
 pub mod Sets

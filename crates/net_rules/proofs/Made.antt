@@ -5,7 +5,8 @@ use Rattle.std.specs.List.{AllZip}
 use Rattle.domains.specs.declared.domain.Domain.{Domain}
 use Rattle.domains.specs.declared.domain.Span.{Span}
 use Rattle.domains.specs.declared.domain.Domain.TheVariants as domains
-use Rattle.transition_table.specs.NetworkFacts.{has_vars, has_outputs, is_numbered, lists_once}
+use Rattle.transition_table.specs.NetworkFacts.{has_vars}
+use Rattle.transition_table.specs.inner.NetworkFacts.{has_outputs, is_numbered, lists_once}
 use Rattle.transition_table.specs.declared.row.Row.{Row}
 use Rattle.transition_table.specs.declared.machine.Machine.{Machine}
 use Rattle.transition_table.specs.declared.network.Network.{Network}
@@ -19,9 +20,9 @@ use Rattle.net_reader.specs.declared.raw.RawNet.{RawNet}
 use Rattle.net_names.specs.Numbers.{names_of, number}
 use Rattle.net_names.specs.Values.{count_of}
 use Rattle.net_names.specs.Scopes.{event_codes, event_words, state_codes, var_sizes}
-use Rattle.net_judge.specs.Rules.{disorder}
+use Rattle.rule_judge.specs.Rules.{disorder}
 use Rattle.net_rules.specs.Networks.{IsDomainOf, IsMachineOf, IsNetworkOf, IsRowOf, act_of, cond_of, event_of, state_of}
-use Rattle.net_rules.specs.Sound.{Each, IsSound, IsSoundMachine, IsSoundRow, has_count}
+use Rattle.net_rules.specs.inner.Sound.{Each, IsSound, IsSoundMachine, IsSoundRow, has_count}
 use Rattle.net_rules.specs.Unique.{SomeNetwork}
 use Rattle.net_rules.proofs.Acts.{actions-kept}
 use Rattle.net_rules.proofs.Counts.{count-in, each-all, le-from}

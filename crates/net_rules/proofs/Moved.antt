@@ -11,7 +11,7 @@ use Rattle.net_reader.specs.declared.raw.RawNet.{RawNet}
 use Rattle.net_names.specs.Scopes.{event_words, var_sizes}
 use Rattle.net_rules.specs.Networks.{state_of, IsRowOf}
 use Rattle.net_names.specs.Numbers.{number}
-use Rattle.net_rules.specs.Sound.{Each, IsSound, IsSoundRow, IsSoundMachine}
+use Rattle.net_rules.specs.inner.Sound.{Each, IsSound, IsSoundRow, IsSoundMachine}
 use Rattle.net_rules.proofs.Counts.{le-to}
 use Rattle.net_rules.proofs.Zips.{zip-long}
 use Rattle.net_rules.proofs.Fitting.{few-inputs, few-outputs, few-states, few-rows}

@@ -7,7 +7,8 @@ use Rattle.std.specs.Cmp.Lexicographic.{nat_list_eq_equiv, pointwise}
 use Rattle.domains.specs.Names.{is_same, are_distinct}
 use Rattle.domains.specs.Domains.{size_of}
 use Rattle.domains.specs.declared.domain.Domain.{Domain}
-use Rattle.transition_table.specs.NetworkFacts.{has as has_number, are_different, values_of, event_values, has_sender, senders, lists_once, has_vars, has_outputs, is_numbered, has_domain}
+use Rattle.transition_table.specs.NetworkFacts.{has as has_number, are_different, values_of, event_values, has_vars}
+use Rattle.transition_table.specs.inner.NetworkFacts.{has_sender, senders, lists_once, has_outputs, is_numbered, has_domain}
 use Rattle.transition_table.specs.declared.decl.EventDecl.{EventDecl}
 use Rattle.transition_table.specs.declared.decl.StateDecl.{StateDecl}
 use Rattle.transition_table.specs.declared.machine.Machine.{Machine}
@@ -22,13 +23,13 @@ use Rattle.net_reader.specs.declared.raw.RawNet.{RawNet}
 use Rattle.net_names.specs.Numbers.{names_of, is_among, is_name_of, missing, repeated, no_name, number}
 use Rattle.net_names.specs.Values.{count_of}
 use Rattle.net_names.specs.Scopes.{domain_words, event_words, machine_words, state_words, event_domain, count_at, event_codes, state_codes}
-use Rattle.net_judge.specs.Rules.{beyond}
+use Rattle.rule_judge.specs.Rules.{beyond}
 use Rattle.net_rules.specs.Networks.{event_of, state_of, machines_with, IsDomainOf, IsMachineOf}
-use Rattle.net_rules.specs.Sound.{Each, IsSound, IsSoundMachine}
+use Rattle.net_rules.specs.inner.Sound.{Each, IsSound, IsSoundMachine}
 use Rattle.net_rules.proofs.Facts.{and-first, and-second, not-false, places-with}
 use Rattle.net_rules.proofs.Kept.{first-nil, rest-nil, fresh, or-first, or-second, enumerated, name-at}
 use Rattle.net_rules.proofs.Senders.{senders-kept}
-use Rattle.net_rules.proofs.Found.{find-number}
+use Rattle.net_names.proofs.Found.{find-number}
 use Rattle.net_rules.proofs.Acts.{in-range, same-declared, first-known, rest-known, has-it}
 use Rattle.net_rules.proofs.Counts.{lt-to}
 use Rattle.net_rules.proofs.Judging.{split-missing, each-missing}

@@ -16,7 +16,7 @@ use Rattle.net_reader.specs.declared.raw.RawMachine.{RawMachine}
 use Rattle.net_reader.specs.declared.raw.RawNet.{RawNet}
 use Rattle.net_rules.specs.Networks.{IsDomainOf, IsRowOf, IsMachineOf}
 use Rattle.net_rules.specs.Unique.{OneNetwork}
-use Rattle.net_rules.proofs.Same.{same_row, same_machine, same_network}
+use Rattle.transition_table.proofs.Same.{same_row, same_machine, same_network}
 
 -- two lists that match one, item by item, are the same
 alike : {A B : Type 0} (R : A → B → Type 0) → ((a : A) (x y : B) → R a x → R a y → x ≡ y)

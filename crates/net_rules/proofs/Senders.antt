@@ -5,14 +5,14 @@ use Rattle.std.specs.List.{list_any}
 use Rattle.std.specs.Cmp.Lexicographic.{nat_list_eq_equiv}
 use Rattle.polis_base.specs.Lists.{places_from}
 use Rattle.domains.specs.Names.{is_same, are_distinct}
-use Rattle.transition_table.specs.NetworkFacts.{senders}
+use Rattle.transition_table.specs.inner.NetworkFacts.{senders}
 use Rattle.net_reader.specs.declared.raw.Word.{Word}
 use Rattle.net_reader.specs.declared.raw.RawMachine.{RawMachine}
 use Rattle.net_reader.specs.declared.raw.RawNet.{RawNet}
 use Rattle.net_names.specs.Numbers.{names_of, is_among, is_name_of}
 use Rattle.net_rules.specs.Networks.{party_of, machines_with}
 use Rattle.net_names.specs.Scopes.{all_outputs, is_from_env}
-use Rattle.net_judge.specs.Rules.{rule_11, events_where}
+use Rattle.rule_judge.specs.Rules.{rule_11, events_where}
 use Rattle.net_rules.proofs.Facts.{and-first, and-second, not-false}
 use Rattle.net_rules.proofs.Kept.{fresh, or-first, or-second}
 

@@ -10,7 +10,7 @@ use Rattle.net_reader.specs.declared.raw.RawShape.{RawShape}
 use Rattle.net_reader.specs.declared.raw.RawShape.TheVariants as shapes
 use Rattle.net_names.specs.Numbers.{names_of, no_name}
 use Rattle.net_names.specs.Values.{count_of}
-use Rattle.net_judge.specs.Rules.{disorder}
+use Rattle.rule_judge.specs.Rules.{disorder}
 use Rattle.net_rules.specs.Networks.{IsDomainOf}
 use Rattle.net_rules.proofs.Kept.{fresh}
 

@@ -22,10 +22,10 @@ use Rattle.net_reader.specs.declared.raw.RawNet.{RawNet}
 use Rattle.net_names.specs.Places.{unless}
 use Rattle.net_names.specs.Numbers.{names_of, is_among, is_name_of, number_in, number, repeated, no_name}
 use Rattle.net_names.specs.Scopes.{state_words, cond_word, event_domain, var_sizes, var_words}
-use Rattle.net_judge.specs.Rules.{shows, is_valued}
-use Rattle.net_rules.specs.Networks.{allows, bits_where, cond_of, act_of, code_of, value_number}
+use Rattle.rule_judge.specs.Rules.{shows, is_valued}
+use Rattle.net_rules.specs.Networks.{allows, bits_where, cond_of, act_of, value_code, value_number}
 use Rattle.net_names.specs.Scopes.{var_domain}
-use Rattle.net_rules.specs.Sound.{Each, IsSoundMachine, IsSoundAct}
+use Rattle.net_rules.specs.inner.Sound.{Each, IsSoundMachine, IsSoundAct}
 use Rattle.net_rules.proofs.Facts.{and-first}
 use Rattle.net_rules.proofs.Kept.{rest-nil, holds, fresh, or-first, or-second}
 use Rattle.net_rules.proofs.Sets.{passes, no-more}
@@ -83,14 +83,14 @@ module _ (net : RawNet) (m : RawMachine) (kept : IsSoundMachine net m) where
 
   -- code 0 is no value of an input
   no-code : (name : List ℕ) (v : RawValue) → is_among (names_of (state_words m)) name ≡ false
-      → (0 == code_of net m name v) ≡ false
+      → (0 == value_code net m name v) ≡ false
   no-code name v none = ap (λ b. 0 == cond b 0 1 + value_number net (var_domain net m name) v) none
       ∙ (let e : 1 + value_number net (var_domain net m name) v
       ≡ suc (value_number net (var_domain net m name) v) = omega arith in
       ap (λ n. 0 == n) e ∙ eqb-zero-suc (value_number net (var_domain net m name) v))
 
   no-codes : (name : List ℕ) (vs : List RawValue) → is_among (names_of (state_words m)) name ≡ false
-      → list_any (λ v. 0 == code_of net m name v) vs ≡ false
+      → list_any (λ v. 0 == value_code net m name v) vs ≡ false
   no-codes name [] none = refl
   no-codes name (v ∷ vs) none = let own = no-code name v none in let rest = no-codes name vs none in
       λ i. own i || rest i

@@ -11,8 +11,8 @@ use Rattle.net_names.specs.declared.vars.Var.{Var}
 use Rattle.net_names.specs.Values.{value_in, count_of}
 use Rattle.net_names.specs.Scopes.{var_domain, shape_at, shape_of}
 use Rattle.net_names.specs.Vars.{IsVar}
-use Rattle.net_rules.specs.Networks.{code_of}
-use Rattle.net_rules.specs.Sound.{IsSound}
+use Rattle.net_rules.specs.Networks.{value_code}
+use Rattle.net_rules.specs.inner.Sound.{IsSound}
 use Rattle.net_rules.proofs.Counts.{shape-in}
 
 -- the domain of a variable has few values
@@ -34,7 +34,7 @@ var-few net m name var sound is =
 pub var-code : (net : RawNet) (m : RawMachine) (name : List ℕ) (var : Var) (v : RawValue)
     → IsVar net m name var → cond var.is_state 0 1
     + unwrap_or (option_and_then (λ s. value_in s v) (option_copied var.shape)) 0
-    ≡ code_of net m name v
+    ≡ value_code net m name v
 var-code net m name var v is = λ i.
     cond (is.state i) 0 1 + unwrap_or (option_and_then (λ s. value_in s v) (is.shape i)) 0
 
@@ -43,7 +43,7 @@ pub var-codes : (net : RawNet) (m : RawMachine) (name : List ℕ) (var : Var) (v
     (c : ℕ) → IsVar net m name var
     → list_any (λ v. c == cond var.is_state 0 1
     + unwrap_or (option_and_then (λ s. value_in s v) (option_copied var.shape)) 0) vs
-    ≡ list_any (λ v. c == code_of net m name v) vs
+    ≡ list_any (λ v. c == value_code net m name v) vs
 var-codes net m name var vs c is =
     λ i. list_any (λ v. c == cond (is.state i) 0 1
     + unwrap_or (option_and_then (λ s. value_in s v) (is.shape i)) 0) vs

@@ -5,7 +5,7 @@ use Rattle.domains.specs.declared.domain.Domain.TheVariants.{Names, Range}
 use Rattle.transition_table.specs.declared.decl.Party.TheVariants.{Env, Machine as Sender}
 use Rattle.transition_table.specs.declared.network.Network.{Network}
 use Rattle.transition_table.specs.declared.machine.Machine.{Machine}
-use Rattle.transition_table.specs.Samples.{has_codes, gives, state_of, pure_event, valued_event}
+use Rattle.transition_table.specs.samples.Parts.{has_codes, gives, state_of, pure_event, valued_event}
 
 abbrev pub mix_machine_0 : Machine
 mix_machine_0 = record {

@@ -3,5 +3,5 @@ pub mod NetOf
 pub mod Networks
 pub mod Resolved
 pub mod Sentence
-pub mod Sound
 pub mod Unique
+pub mod inner

@@ -82,16 +82,16 @@ abbrev pub first_code : RawMachine → List ℕ → ℕ
 first_code m name = if is_among (names_of (state_words m)) name then 0 else 1
 
 -- the code of a value of a variable
-abbrev pub code_of : RawNet → RawMachine → List ℕ → RawValue → ℕ
-code_of net m name value = first_code m name + value_number net (var_domain net m name) value
+abbrev pub value_code : RawNet → RawMachine → List ℕ → RawValue → ℕ
+value_code net m name value = first_code m name + value_number net (var_domain net m name) value
 
 -- the codes that a condition allows
 abbrev pub allows : RawNet → RawMachine → RawCond → ℕ → Bool
 allows net m (conds.Present w) code = not (code == 0)
 allows net m (conds.Absent w) code = code == 0
-allows net m (conds.Is w value) code = code == code_of net m w.name value
+allows net m (conds.Is w value) code = code == value_code net m w.name value
 allows net m (conds.OneOf w values) code =
-    list_any (λ value. code == code_of net m w.name value) values
+    list_any (λ value. code == value_code net m w.name value) values
 
 -- the numbers below n that pass, one bit each
 abbrev pub bits_where : (ℕ → Bool) → ℕ → ℕ

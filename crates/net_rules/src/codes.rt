@@ -1,5 +1,6 @@
 // Sets of codes, one bit each.
 ghost use Rattle.std.specs.Prelude.{◌≡◌, ◌<◌, ◌≤◌, ◌+◌, ℕ, Bool, ◌==◌, ◌||◌, unwrap_or};
+ghost use Rattle.polis_base.specs.declared.limits.TheConstants.{DOMAIN_SIZE_MAX};
 ghost use Rattle.std.specs.List.{list_any};
 ghost use Rattle.std.specs.Int.{bit_at};
 ghost use Rattle.net_names.specs.Values.{value_in, count_of};
@@ -27,7 +28,7 @@ pub(crate) fn below(codes: u64, size: u64) -> u64
 
 // The number of a value, or 0 where it is none of the domain.
 pub(crate) fn value_or_zero(shape: &RawShape, value: &RawValue) -> u64
-    requires { count_of shape.now ≤ 32 }
+    requires { count_of shape.now ≤ DOMAIN_SIZE_MAX }
     ensures number { result ≡ unwrap_or (value_in shape.now value.now) 0 }
     ensures small { result ≤ 32 }
 {

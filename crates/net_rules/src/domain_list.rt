@@ -1,11 +1,12 @@
 // The domains of a network.
 ghost use Rattle.std.specs.Prelude.{◌≡◌, ◌≤◌, [], IfOk};
+ghost use Rattle.polis_base.specs.declared.limits.TheConstants.{DOMAIN_SIZE_MAX};
 ghost use Rattle.std.specs.List.{AllZip};
 ghost use Rattle.net_reader.specs.declared.raw.RawDomain.{RawDomain as Declared};
 ghost use Rattle.net_names.specs.Numbers.{names_of};
 ghost use Rattle.net_names.specs.Values.{count_of};
-ghost use Rattle.net_judge.specs.Rules.{disorder};
-ghost use Rattle.net_rules.specs.Sound.{Each};
+ghost use Rattle.rule_judge.specs.Rules.{disorder};
+ghost use Rattle.net_rules.specs.inner.Sound.{Each};
 ghost use Rattle.net_rules.specs.Networks.{IsDomainOf};
 
 use domains::{Domain, NameList, Names, Span};
@@ -33,7 +34,7 @@ fn names_domain(alloc: Global, words: &List<Word>) -> Result<Names, NoMemory>
 fn domain_of(alloc: Global, shape: &RawShape) -> Result<Domain, NoMemory>
     requires order { disorder shape.now ≡ [] }
     requires some { 1 ≤ count_of shape.now }
-    requires few { count_of shape.now ≤ 32 }
+    requires few { count_of shape.now ≤ DOMAIN_SIZE_MAX }
     ensures { IfOk result (λ made. IsDomainOf shape.now made) }
 {
     match shape {
@@ -52,7 +53,7 @@ fn domain_of(alloc: Global, shape: &RawShape) -> Result<Domain, NoMemory>
 pub(crate) fn domains_of(alloc: Global, domains: &[RawDomain]) -> Result<List<Domain>, NoMemory>
     requires order { Each (λ (d : Declared). disorder d.shape ≡ []) domains.now }
     requires some { Each (λ (d : Declared). 1 ≤ count_of d.shape) domains.now }
-    requires few { Each (λ (d : Declared). count_of d.shape ≤ 32) domains.now }
+    requires few { Each (λ (d : Declared). count_of d.shape ≤ DOMAIN_SIZE_MAX) domains.now }
     ensures { IfOk result (λ made. AllZip (λ (d : Declared). IsDomainOf d.shape) domains.now made) }
 {
     let mut made = List::new(alloc);

@@ -1,5 +1,6 @@
 // The events of a network.
 ghost use Rattle.std.specs.Prelude.{◌≡◌, ◌≤◌, length, map, IfOk};
+ghost use Rattle.polis_base.specs.declared.limits.TheConstants.{DOMAINS_MAX, MACHINES_MAX};
 ghost use Rattle.polis_base.specs.Lists.{places_where};
 ghost use Rattle.transition_table.specs.declared.decl.Party.{Party};
 ghost use Rattle.net_reader.specs.declared.raw.RawMachine.{RawMachine};
@@ -27,7 +28,7 @@ fn sends(machine: &RawMachine, name: &Name) -> bool
 
 // The machines that read an event.
 fn receivers_of(alloc: Global, machines: &[RawMachine], name: &Name) -> Result<Numbers, NoMemory>
-    requires { length machines.now ≤ 64 }
+    requires { length machines.now ≤ MACHINES_MAX }
     ensures { IfOk result (λ numbers. numbers
         ≡ places_where (λ m. is_name_of m.inputs name.now) machines.now) }
 {
@@ -42,7 +43,7 @@ fn receivers_of(alloc: Global, machines: &[RawMachine], name: &Name) -> Result<N
 
 // The machine that sends an event, or the environment.
 fn sender_of(machines: &[RawMachine], name: &Name) -> Party
-    requires { length machines.now ≤ 64 }
+    requires { length machines.now ≤ MACHINES_MAX }
     ensures { result ≡ party_of (places_where (λ m. is_name_of m.outputs name.now) machines.now) }
 {
     for (number, machine) in machines.iter().enumerate() {
@@ -61,7 +62,7 @@ fn is_to_env(env: RawEnv) -> bool
 
 // The machines that read an event.
 fn readers(alloc: Global, raw: &RawNet, name: &Name) -> Result<Numbers, NoMemory>
-    requires { length raw.now.machines ≤ 64 }
+    requires { length raw.now.machines ≤ MACHINES_MAX }
     ensures { IfOk result (λ numbers. numbers
         ≡ machines_with (λ (m : RawMachine). m.inputs) raw.now name.now) }
 {
@@ -70,7 +71,7 @@ fn readers(alloc: Global, raw: &RawNet, name: &Name) -> Result<Numbers, NoMemory
 
 // The machine that sends an event, or the environment.
 fn sender(raw: &RawNet, name: &Name) -> Party
-    requires { length raw.now.machines ≤ 64 }
+    requires { length raw.now.machines ≤ MACHINES_MAX }
     ensures { result ≡ party_of (machines_with (λ (m : RawMachine). m.outputs) raw.now name.now) }
 {
     sender_of(raw.machines.as_slice(), name)
@@ -78,8 +79,8 @@ fn sender(raw: &RawNet, name: &Name) -> Party
 
 // An event of a network with few domains and machines.
 fn event_of(alloc: Global, scope: &Scope, event: &RawEvent) -> Result<EventDecl, NoMemory>
-    requires domains { length scope.now.raw.now.domains ≤ 64 }
-    requires machines { length scope.now.raw.now.machines ≤ 64 }
+    requires domains { length scope.now.raw.now.domains ≤ DOMAINS_MAX }
+    requires machines { length scope.now.raw.now.machines ≤ MACHINES_MAX }
     ensures { IfOk result (λ made. made ≡ event_of scope.now.raw.now event.now) }
 {
     let receivers = readers(alloc, scope.raw, &event.name.name)?;
@@ -94,8 +95,8 @@ fn event_of(alloc: Global, scope: &Scope, event: &RawEvent) -> Result<EventDecl,
 
 // The events of a network with few domains and machines.
 pub(crate) fn events_of(alloc: Global, scope: &Scope) -> Result<EventList, NoMemory>
-    requires domains { length scope.now.raw.now.domains ≤ 64 }
-    requires machines { length scope.now.raw.now.machines ≤ 64 }
+    requires domains { length scope.now.raw.now.domains ≤ DOMAINS_MAX }
+    requires machines { length scope.now.raw.now.machines ≤ MACHINES_MAX }
     ensures { IfOk result (λ events. events
         ≡ map (event_of scope.now.raw.now) scope.now.raw.now.events) }
 {

@@ -1,11 +1,12 @@
 // The machines of a network.
 ghost use Rattle.std.specs.Prelude.{◌≡◌, ◌≤◌, length, map, IfOk};
+ghost use Rattle.polis_base.specs.declared.limits.TheConstants.{DOMAINS_MAX, EVENTS_MAX};
 ghost use Rattle.std.specs.List.{AllZip};
 ghost use Rattle.net_reader.specs.declared.raw.Word.{Word as Declared};
 ghost use Rattle.net_names.specs.Scopes.{event_words};
 ghost use Rattle.net_rules.specs.Networks.{state_of, IsMachineOf};
 ghost use Rattle.net_names.specs.Numbers.{number};
-ghost use Rattle.net_rules.specs.Sound.{Each, IsSound, IsSoundMachine};
+ghost use Rattle.net_rules.specs.inner.Sound.{Each, IsSound, IsSoundMachine};
 
 use crate::row_list::{rows_of, value_number};
 use crate::sizes::{results_of, var_sizes};
@@ -17,7 +18,7 @@ use transition_table::{Machine, MachineList, StateDecl, StateList};
 
 // The numbers of events.
 fn event_numbers(alloc: Global, scope: &Scope, words: &[Word]) -> Result<Numbers, NoMemory>
-    requires { length scope.now.raw.now.events ≤ 256 }
+    requires { length scope.now.raw.now.events ≤ EVENTS_MAX }
     ensures { IfOk result (λ numbers. numbers
         ≡ map (λ (w : Declared). number (event_words scope.now.raw.now) w.name) words.now) }
 {
@@ -31,7 +32,7 @@ fn event_numbers(alloc: Global, scope: &Scope, words: &[Word]) -> Result<Numbers
 // A state variable.
 fn state_of(scope: &Scope, state: &RawState) -> StateDecl
     requires sound { IsSound scope.now.raw.now }
-    requires domains { length scope.now.raw.now.domains ≤ 64 }
+    requires domains { length scope.now.raw.now.domains ≤ DOMAINS_MAX }
     ensures { result ≡ state_of scope.now.raw.now state.now }
 {
     StateDecl {
@@ -43,7 +44,7 @@ fn state_of(scope: &Scope, state: &RawState) -> StateDecl
 
 fn states_of(alloc: Global, scope: &Scope, states: &[RawState]) -> Result<StateList, NoMemory>
     requires sound { IsSound scope.now.raw.now }
-    requires domains { length scope.now.raw.now.domains ≤ 64 }
+    requires domains { length scope.now.raw.now.domains ≤ DOMAINS_MAX }
     ensures { IfOk result (λ made. made ≡ map (state_of scope.now.raw.now) states.now) }
 {
     let mut made = StateList::new(alloc);
@@ -60,8 +61,8 @@ fn machine_of<'s, 'a>(
     machine: &'a RawMachine,
 ) -> Result<Machine, NoMemory>
     requires sound { IsSound scope.now.raw.now }
-    requires domains { length scope.now.raw.now.domains ≤ 64 }
-    requires events { length scope.now.raw.now.events ≤ 256 }
+    requires domains { length scope.now.raw.now.domains ≤ DOMAINS_MAX }
+    requires events { length scope.now.raw.now.events ≤ EVENTS_MAX }
     requires machine { IsSoundMachine scope.now.raw.now machine.now }
     ensures { IfOk result (λ made. IsMachineOf scope.now.raw.now machine.now made) }
 {
@@ -92,8 +93,8 @@ pub(crate) fn machines_of<'s, 'a>(
     machines: &'a [RawMachine],
 ) -> Result<MachineList, NoMemory>
     requires sound { IsSound scope.now.raw.now }
-    requires domains { length scope.now.raw.now.domains ≤ 64 }
-    requires events { length scope.now.raw.now.events ≤ 256 }
+    requires domains { length scope.now.raw.now.domains ≤ DOMAINS_MAX }
+    requires events { length scope.now.raw.now.events ≤ EVENTS_MAX }
     requires machines { Each (IsSoundMachine scope.now.raw.now) machines.now }
     ensures { IfOk result (λ made. AllZip (IsMachineOf scope.now.raw.now) machines.now made) }
 {

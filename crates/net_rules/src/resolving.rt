@@ -1,20 +1,20 @@
 // The network of declarations.
 ghost use Rattle.std.specs.Prelude.{◌≡◌, None, IfOk, IfErr};
 ghost use Rattle.transition_table.specs.declared.network.Network.{Network as Made};
-ghost use Rattle.net_judge.specs.Judged.{broken};
+ghost use Rattle.rule_judge.specs.Judged.{broken};
 ghost use Rattle.net_rules.specs.NetOf.{IsNetOf};
 ghost use Rattle.net_rules.specs.Networks.{IsNetworkOf};
 ghost use Rattle.net_reader.specs.Layout.{IsOfSentence};
-ghost use Rattle.net_rules.specs.Sound.{IsSound};
+ghost use Rattle.net_rules.specs.inner.Sound.{IsSound};
 ghost use Rattle.net_rules.specs.Resolved.{IsFaultOf};
 
 use crate::domain_list::domains_of;
 use crate::events::events_of;
 use crate::machine_list::machines_of;
-use net_judge::judge;
 use net_names::Scope;
 use net_reader::RawNet;
 use polis_base::NoMemory;
+use rule_judge::judge;
 use std::alloc::Global;
 use thiserror::Error;
 use transition_table::Network;

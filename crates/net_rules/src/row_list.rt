@@ -1,16 +1,17 @@
 // The rows of a machine.
 ghost use Rattle.std.specs.Prelude.{◌≡◌, ◌<◌, ◌≤◌, ◌+◌, ◌++◌, ℕ, ◌==◌, true, Some, length, map, unwrap_or, option_and_then, option_copied, cond as choose, IfOk, IfSome};
+ghost use Rattle.polis_base.specs.declared.limits.TheConstants.{DOMAIN_SIZE_MAX};
 ghost use Rattle.std.specs.List.{list_any, AllZip};
 ghost use Rattle.std.specs.Int.{bit_at};
 ghost use Rattle.net_reader.specs.declared.raw.RawCond.{RawCond as Declared};
 ghost use Rattle.net_reader.specs.declared.raw.RawAct.{RawAct as DeclaredAct};
-ghost use Rattle.net_judge.specs.Rules.{source_of};
+ghost use Rattle.rule_judge.specs.Rules.{source_of};
 ghost use Rattle.net_names.specs.Numbers.{is_name_of, number};
 ghost use Rattle.net_names.specs.Values.{value_in, count_of};
 ghost use Rattle.net_names.specs.Vars.{IsVar, AreVars};
 ghost use Rattle.net_names.specs.Scopes.{event_domain, state_words, cond_word, var_sizes, var_words};
-ghost use Rattle.net_rules.specs.Networks.{value_number, code_of, allows, cond_of, act_of, source_in, emission_source, IsRowOf};
-ghost use Rattle.net_rules.specs.Sound.{Each, IsSound, IsSoundMachine, IsSoundRow, amount_of};
+ghost use Rattle.net_rules.specs.Networks.{value_number, value_code, allows, cond_of, act_of, source_in, emission_source, IsRowOf};
+ghost use Rattle.net_rules.specs.inner.Sound.{Each, IsSound, IsSoundMachine, IsSoundRow, amount_of};
 
 use crate::codes::{below, value_or_zero, with_code};
 use domains::VarTable;
@@ -37,7 +38,7 @@ pub(crate) fn value_number(scope: &Scope, domain: &Option<Word>, value: &RawValu
 
 // The number of a value among these, 0 where it is none or there are none.
 fn shape_number(shape: Option<&RawShape>, value: &RawValue) -> u64
-    requires { IfSome (option_copied shape) (λ s. count_of s ≤ 32) }
+    requires { IfSome (option_copied shape) (λ s. count_of s ≤ DOMAIN_SIZE_MAX) }
     ensures number { result ≡ unwrap_or
         (option_and_then (λ s. value_in s value.now) (option_copied shape.entry)) 0 }
     ensures small { result ≤ 32 }
@@ -50,7 +51,7 @@ fn shape_number(shape: Option<&RawShape>, value: &RawValue) -> u64
 
 // The codes of the values, the first value's code being `first`.
 fn value_codes(shape: Option<&RawShape>, first: u64, values: &[RawValue]) -> u64
-    requires count { IfSome (option_copied shape) (λ s. count_of s ≤ 32) }
+    requires count { IfSome (option_copied shape) (λ s. count_of s ≤ DOMAIN_SIZE_MAX) }
     requires first { first ≤ 1 }
     ensures { (c : ℕ) → (bit_at result c == 1)
         ≡ list_any (λ v. c == first + unwrap_or
@@ -76,7 +77,7 @@ fn named_codes(local: &Local, name: Name, var: &Var, values: &[RawValue]) -> u64
     requires sound { IsSound local.now.scope.now.raw.now }
     requires var { IsVar local.now.scope.now.raw.now local.now.machine.now name var.now }
     ensures { (c : ℕ) → (bit_at result c == 1)
-        ≡ list_any (λ v. c == code_of local.now.scope.now.raw.now local.now.machine.now name v)
+        ≡ list_any (λ v. c == value_code local.now.scope.now.raw.now local.now.machine.now name v)
         values.now }
 {
     value_codes(var.shape, first_code(var), values)
@@ -86,7 +87,7 @@ fn named_codes(local: &Local, name: Name, var: &Var, values: &[RawValue]) -> u64
 fn named_code(local: &Local, name: Name, var: &Var, value: &RawValue) -> u64
     requires sound { IsSound local.now.scope.now.raw.now }
     requires var { IsVar local.now.scope.now.raw.now local.now.machine.now name var.now }
-    ensures code { result ≡ code_of local.now.scope.now.raw.now local.now.machine.now name
+    ensures code { result ≡ value_code local.now.scope.now.raw.now local.now.machine.now name
         value.now }
     ensures small { result ≤ 33 }
 {

@@ -3,7 +3,7 @@ ghost use Rattle.std.specs.Prelude.{◌≡◌, ◌≤◌, ◌+◌, ◌∷◌, �
 ghost use Rattle.net_reader.specs.declared.raw.RawState.{RawState as Declared};
 ghost use Rattle.net_names.specs.Numbers.{is_name_of};
 ghost use Rattle.net_names.specs.Scopes.{domain_words, event_codes, state_codes, var_sizes};
-ghost use Rattle.net_rules.specs.Sound.{Each, IsSound, IsSoundMachine};
+ghost use Rattle.net_rules.specs.inner.Sound.{Each, IsSound, IsSoundMachine};
 
 use domains::VarTable;
 use net_names::{Scope, count_at, event_codes};

@@ -1,9 +1,9 @@
 // Networks that the definitions give for small declarations, and laws over definitions.
-ghost use Rattle.net_judge.specs.Samples.{lamp, belt, mix, echo};
+ghost use Rattle.rule_judge.specs.Samples.{lamp, belt, mix, echo};
 ghost use Rattle.net_rules.specs.NetOf.{IsNetOf};
-ghost use Rattle.transition_table.specs.SampleBelt.{belt as belt_network};
-ghost use Rattle.transition_table.specs.SampleEcho.{echo as echo_network};
-ghost use Rattle.transition_table.specs.SampleLamp.{lamp as lamp_network};
+ghost use Rattle.transition_table.specs.samples.Belt.{belt as belt_network};
+ghost use Rattle.transition_table.specs.samples.Echo.{echo as echo_network};
+ghost use Rattle.transition_table.specs.samples.Lamp.{lamp as lamp_network};
 ghost use Rattle.net_rules.specs.Given.{mix_network};
 ghost use Rattle.net_rules.specs.Unique.{OneNetwork, SomeNetwork};
 ghost use Rattle.net_rules.specs.Sentence.{SentencesHaveValues};

@@ -1,6 +1,6 @@
 use Rattle.net_reader.specs.declared.raw.RawDomain.{RawDomain}
 use Rattle.net_rules.specs.Networks.{IsDomainOf}
-use Rattle.net_rules.proofs.Zips.{zip-step}
+use Rattle.net_names.proofs.Zips.{zip-step}
 use Rattle.net_rules.proofs.domain_list.domains_of.Goals as goal
 
 pub loop-domain-preserved : goal.loop-domain-preserved

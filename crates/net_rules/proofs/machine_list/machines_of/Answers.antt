@@ -1,6 +1,7 @@
 use Rattle.net_rules.specs.Networks.{IsMachineOf}
-use Rattle.net_rules.specs.Sound.{IsSoundMachine}
-use Rattle.net_rules.proofs.Zips.{zip-step, each-item}
+use Rattle.net_rules.specs.inner.Sound.{IsSoundMachine}
+use Rattle.net_rules.proofs.Zips.{each-item}
+use Rattle.net_names.proofs.Zips.{zip-step}
 use Rattle.net_rules.proofs.machine_list.machines_of.Goals as goal
 
 pub machine_of-requires-clause-machine : goal.machine_of-requires-clause-machine

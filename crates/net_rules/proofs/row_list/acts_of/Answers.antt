@@ -1,7 +1,7 @@
 use Rattle.std.proofs.Common.{◌≤◌}
 use Rattle.net_reader.specs.declared.raw.RawAct.{RawAct}
-use Rattle.net_judge.specs.Rules.{source_of}
-use Rattle.net_rules.specs.Sound.{amount_of}
+use Rattle.rule_judge.specs.Rules.{source_of}
+use Rattle.net_rules.specs.inner.Sound.{amount_of}
 use Rattle.net_rules.specs.Networks.{act_of}
 use Rattle.net_rules.proofs.Zips.{each-item, map-step}
 use Rattle.net_rules.proofs.row_list.acts_of.Goals as goal

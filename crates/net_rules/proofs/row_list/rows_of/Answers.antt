@@ -1,6 +1,7 @@
 use Rattle.net_rules.specs.Networks.{IsRowOf}
-use Rattle.net_rules.specs.Sound.{IsSoundRow}
-use Rattle.net_rules.proofs.Zips.{zip-step, each-item}
+use Rattle.net_rules.specs.inner.Sound.{IsSoundRow}
+use Rattle.net_rules.proofs.Zips.{each-item}
+use Rattle.net_names.proofs.Zips.{zip-step}
 use Rattle.net_rules.proofs.row_list.rows_of.Goals as goal
 
 pub row_of-requires-clause-row : goal.row_of-requires-clause-row

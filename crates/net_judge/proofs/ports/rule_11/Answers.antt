@@ -1,9 +1,0 @@
-use Rattle.net_names.specs.Places.{least}
-use Rattle.net_names.specs.Numbers.{repeated, is_name_of}
-use Rattle.net_judge.proofs.Least.{IfOk-same}
-use Rattle.net_judge.proofs.ports.rule_11.Goals as goal
-
-pub returns : goal.returns
-returns c = IfOk-same c.repeated.result _ _
-    (λ i. least (repeated (is_name_of (c.in_ok-taken.ensures i)) (c.in_ok-words.ensures i)))
-    c.repeated.ensures

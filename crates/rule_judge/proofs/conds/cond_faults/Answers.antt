@@ -1,0 +1,46 @@
+use Rattle.std.proofs.Common.{◌≡◌, ◌∙◌, flat_map, None, ap}
+use Rattle.net_reader.specs.declared.raw.RawRow.{RawRow}
+use Rattle.net_names.specs.declared.local.Local.{Local}
+use Rattle.net_names.specs.Places.{sooner, least_place}
+use Rattle.rule_judge.specs.Rules.{unknown, unsuited, wrong_values}
+use Rattle.rule_judge.proofs.Moved.{of-locals}
+use Rattle.net_names.proofs.Answering.{IfOk-moved}
+use Rattle.rule_judge.proofs.conds.cond_faults.Goals as goal
+
+pub returns-clause-unknown : goal.returns-clause-unknown
+returns-clause-unknown c =
+    IfOk-moved c.in_machines.result (λ places found. found.unknown ≡ places) _ _
+    ((λ i. sooner None
+    (least_place (flat_map
+    (λ (l : Local). flat_map (λ (row : RawRow). flat_map (unknown l.machine.now) row.conds)
+    l.machine.now.rows) (c.as_slice.ensures i))))
+    ∙ ap least_place (of-locals
+    (λ net m. flat_map (λ (row : RawRow). flat_map (unknown m) row.conds) m.rows) c.args.raw.now
+    c.args.raw.now.machines c.args.locals.now c.requires))
+    c.in_machines.ensures.unknown
+
+pub returns-clause-unsuited : goal.returns-clause-unsuited
+returns-clause-unsuited c =
+    IfOk-moved c.in_machines.result (λ places found. found.unsuited ≡ places) _ _
+    ((λ i. sooner None
+    (least_place (flat_map
+    (λ (l : Local). flat_map
+    (λ (row : RawRow). flat_map (unsuited l.scope.now.raw.now l.machine.now) row.conds)
+    l.machine.now.rows) (c.as_slice.ensures i))))
+    ∙ ap least_place (of-locals
+    (λ net m. flat_map (λ (row : RawRow). flat_map (unsuited net m) row.conds) m.rows)
+    c.args.raw.now c.args.raw.now.machines c.args.locals.now c.requires))
+    c.in_machines.ensures.unsuited
+
+pub returns-clause-valueless : goal.returns-clause-valueless
+returns-clause-valueless c =
+    IfOk-moved c.in_machines.result (λ places found. found.valueless ≡ places) _ _
+    ((λ i. sooner None
+    (least_place (flat_map
+    (λ (l : Local). flat_map
+    (λ (row : RawRow). flat_map (wrong_values l.scope.now.raw.now l.machine.now) row.conds)
+    l.machine.now.rows) (c.as_slice.ensures i))))
+    ∙ ap least_place (of-locals
+    (λ net m. flat_map (λ (row : RawRow). flat_map (wrong_values net m) row.conds) m.rows)
+    c.args.raw.now c.args.raw.now.machines c.args.locals.now c.requires))
+    c.in_machines.ensures.valueless

@@ -1,0 +1,9 @@
+use Rattle.std.proofs.Common.{not}
+use Rattle.net_names.specs.Scopes.{is_to_env}
+use Rattle.net_names.proofs.Answering.{IfOk-same}
+use Rattle.rule_judge.proofs.Parts.{where-words}
+use Rattle.rule_judge.proofs.ports.not_to_env.Goals as goal
+
+pub returns : goal.returns
+returns c = IfOk-same c.gather_all.result _ _
+    (where-words (λ env. not (is_to_env env)) c.args.raw.now.events) c.gather_all.ensures

@@ -1,0 +1,15 @@
+use Rattle.std.proofs.Common.{◌++◌, flat_map, ap}
+use Rattle.net_reader.specs.declared.raw.RawRow.{RawRow}
+use Rattle.net_names.specs.Places.{least_place}
+use Rattle.net_names.specs.Scopes.{state_words}
+use Rattle.rule_judge.specs.Rules.{emitted, set_names, not_once}
+use Rattle.net_names.proofs.Answering.{IfOk-same}
+use Rattle.rule_judge.proofs.Moved.{of-locals}
+use Rattle.rule_judge.proofs.targets.rule_18.Goals as goal
+
+pub returns : goal.returns
+returns c = IfOk-same c.check_all.result _ _
+    (ap least_place (of-locals
+    (λ net m. flat_map (λ (row : RawRow). not_once m.outputs (flat_map emitted row.acts)
+    ++ not_once (state_words m) (flat_map set_names row.acts)) m.rows) c.args.raw.now
+    c.args.raw.now.machines c.args.locals.now c.requires)) c.check_all.ensures

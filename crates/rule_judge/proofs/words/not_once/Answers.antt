@@ -1,0 +1,16 @@
+use Rattle.std.proofs.Common.{◌∙◌, ap}
+use Rattle.net_names.specs.Places.{sooner, least_place}
+use Rattle.net_names.specs.Numbers.{missing, repeated, no_name}
+use Rattle.net_names.specs.Tables.{has}
+use Rattle.rule_judge.proofs.Least.{sooner-least}
+use Rattle.net_names.proofs.Answering.{IfOk-same}
+use Rattle.rule_judge.proofs.words.not_once.Goals as goal
+
+pub returns : goal.returns
+returns c =
+    let words = c.args.words.now in
+    IfOk-same c.repeats.result _ _
+    (ap (λ f. sooner f (least_place (repeated no_name words))) c.missing-found.ensures
+    ∙ sooner-least c.args.found (missing (has c.args.declared.now) words)
+    (repeated no_name words))
+    c.repeats.ensures

@@ -12,10 +12,10 @@ use Rattle.journals.specs.declared.entry.TraceItem.{TraceItem}
 use Rattle.journals.specs.declared.entry.TraceItem.TheVariants.{Event, Settle}
 use Rattle.journals.specs.Journals.{is_event_code, is_trace_item}
 use Rattle.journals.specs.Laws.{EnvMayArrive}
-use Rattle.journals.specs.Schedules.{deliveries_of, trace_deliveries}
+use Rattle.journals.specs.Schedules.{deliveries_of, trace_deliveries, item_deliveries}
 use Rattle.event_buffer.specs.declared.arrival.Arrival.{Arrival}
 use Rattle.event_buffer.specs.Arrivals.{is_arrival, are_arrivals, arrival_of}
-use Rattle.event_buffer.specs.Feeds.{item_deliveries, all_deliveries, deliveries_at, left_at, IsNext}
+use Rattle.event_buffer.specs.Feeds.{all_deliveries, deliveries_at, left_at, IsNext}
 use Rattle.event_buffer.proofs.Firing.{all_arrive}
 use Rattle.event_buffer.proofs.Listing.{drop_at, drop_of_joined, drop_past, head_of_joined, nothing_left, past_is_none}
 

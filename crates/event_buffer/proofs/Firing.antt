@@ -23,8 +23,8 @@ use Rattle.journals.specs.Schedules.{deliveries_of, firing_deliveries}
 use Rattle.event_buffer.specs.declared.pending.Pending.{Pending}
 use Rattle.event_buffer.specs.Arrivals.{is_arrival, are_arrivals, arrival_of}
 use Rattle.event_buffer.specs.Cells.{firing_stamp, reaction_in, last_reaction, decided, IsLast}
-use Rattle.event_buffer.proofs.Listing.{last_more}
 use Rattle.event_buffer.proofs.Logging.{clock_more}
+use Rattle.journals.proofs.Moved.{last_of_push}
 
 firings_more :
     (m : ℕ) (log : List Stamped) (x : Stamped) (b : Bool)
@@ -83,7 +83,7 @@ pub last_here :
     → IsLast net m (Some (p.stamp, moment)) (log ++ decided net m moment p ∷ [])
 last_here net m moment log p = (
   ap (last_of {X = Option (ℕ × Snapshot)} None) (reactions_more log (decided net m moment p))
-      ∙ last_more {X = Option (ℕ × Snapshot)} None (reactions log) (Some (p.stamp, moment)),
+      ∙ last_of_push {X = Option (ℕ × Snapshot)} None (reactions log) (Some (p.stamp, moment)),
   λ fires. firings_more m log (decided net m moment p) true
       (and_from (m == m) (outcome_in net m moment).fires (eq-eqb m m refl) fires),
 )

@@ -19,8 +19,9 @@ use Rattle.event_buffer.specs.declared.pending.Pending.{Pending}
 use Rattle.event_buffer.specs.Cells.{CellState, look, look_of, freezing, decided, filled, frozen_of, shown, IsLast, IsCell}
 use Rattle.event_buffer.proofs.Firing.{last_here}
 use Rattle.event_buffer.proofs.Listing.{get_of_set, set_last, take_within, take_whole}
-use Rattle.event_buffer.proofs.Logging.{entries_more, clock_more, item_of_legal}
+use Rattle.event_buffer.proofs.Logging.{clock_more, item_of_legal}
 use Rattle.event_buffer.proofs.Tabling.{outcome_holds}
+use Rattle.journals.proofs.StampSteps.{entries_more}
 
 -- ---- where nothing is pending
 

@@ -17,7 +17,8 @@ use Rattle.event_buffer.specs.Arrivals.{is_arrival, owed_of}
 use Rattle.event_buffer.specs.Cells.{CellState, taking, firing_stamp, before, decided, filled, frozen_of, shown, IsLast, IsPending, IsCell}
 use Rattle.event_buffer.proofs.Firing.{last_stays, same_firing}
 use Rattle.event_buffer.proofs.Listing.{set_within, take_within}
-use Rattle.event_buffer.proofs.Logging.{entries_more, clock_more, own_machine}
+use Rattle.event_buffer.proofs.Logging.{clock_more, own_machine}
+use Rattle.journals.proofs.StampSteps.{entries_more}
 
 -- it may come after the log
 pub may_land :

@@ -1,22 +1,7 @@
 -- Lists.
-use Rattle.std.specs.Prelude.{◌≡◌, ℕ, zero, suc, ◌<◌, ◌≤◌, Bool, true, List, [], ◌∷◌, ◌++◌, take, drop, length, slice_get, slice_set, Some, None}
-use Rattle.std.specs.List.{list_all}
-use Rattle.std.proofs.Common.{refl, ap, ◌∙◌, subst, arith}
-use Rattle.std.proofs.lemmas.Bool.{and_parts}
-use Rattle.polis_base.specs.Lists.{head_of, last_of}
-
-pub last_more : {X : Type 0} (d : X) (xs : List X) (y : X) → last_of d (xs ++ y ∷ []) ≡ y
-last_more d [] y = refl
-last_more d (x ∷ xs) y = last_more x xs y
-
-pub passes_of_all :
-    {X : Type 0} (p : X → Bool) (xs : List X) (i : ℕ) (x : X)
-    → list_all p xs ≡ true → slice_get xs i ≡ Some x → p x ≡ true
-passes_of_all p [] i x h e = cc
-passes_of_all p (y ∷ xs) zero x h e =
-    let same : y ≡ x = cc in subst (λ z. p z ≡ true) same (and_parts (p y) (list_all p xs) h).0
-passes_of_all p (y ∷ xs) (suc i) x h e =
-    passes_of_all p xs i x (and_parts (p y) (list_all p xs) h).1 e
+use Rattle.std.specs.Prelude.{◌≡◌, ℕ, zero, suc, ◌<◌, ◌≤◌, List, [], ◌∷◌, ◌++◌, take, drop, length, slice_get, slice_set, Some, None}
+use Rattle.std.proofs.Common.{refl, ap, ◌∙◌, arith}
+use Rattle.polis_base.specs.Lists.{head_of}
 
 pub nothing_left : {X : Type 0} (xs : List X) → length xs ≡ 0 → xs ≡ []
 nothing_left [] h = refl
@@ -77,11 +62,6 @@ pub take_set_next :
 take_set_next [] k y h = absurd (omega arith)
 take_set_next (x ∷ xs) zero y h = refl
 take_set_next (x ∷ xs) (suc k) y h = ap (λ l. x ∷ l) (take_set_next xs k y (omega arith))
-
-pub length_of_take : {X : Type 0} (xs : List X) (k : ℕ) → k ≤ length xs → length (take k xs) ≡ k
-length_of_take xs zero h = refl
-length_of_take [] (suc k) h = absurd (omega arith)
-length_of_take (x ∷ xs) (suc k) h = ap suc (length_of_take xs k (omega arith))
 
 -- ---- what is left
 

@@ -1,6 +1,6 @@
 -- One entry more in a log, and the entries of a log that is legal by itself.
-use Rattle.std.specs.Prelude.{◌≡◌, ℕ, zero, suc, ◌≤◌, ◌&&◌, ◌==◌, nat_lt, nat_le, true, List, [], ◌∷◌, ◌++◌, slice_get, Some}
-use Rattle.std.proofs.Common.{ap, ◌∙◌, subst, arith}
+use Rattle.std.specs.Prelude.{◌≡◌, ℕ, ◌≤◌, ◌&&◌, ◌==◌, nat_lt, nat_le, true, List, [], ◌∷◌, ◌++◌, slice_get, Some}
+use Rattle.std.proofs.Common.{ap, ◌∙◌, arith}
 use Rattle.std.proofs.lemmas.List.{map-append}
 use Rattle.std.proofs.lemmas.Bool.{and_parts, eqb-true, leb-true}
 use Rattle.polis_base.specs.Lists.{last_of}
@@ -9,19 +9,17 @@ use Rattle.journals.specs.declared.entry.Entry.{Entry}
 use Rattle.journals.specs.declared.entry.Entry.TheVariants.{Dep, Rea}
 use Rattle.journals.specs.declared.stamped.Stamped.{Stamped}
 use Rattle.journals.specs.Alone.{is_own, LegalAlone}
-use Rattle.journals.specs.Journals.{FitsNetwork, IsJournal, reads}
-use Rattle.journals.specs.Logs.{clock, entries, stamps, max_stamp, rises}
+use Rattle.journals.specs.Journals.{FitsNetwork, reads}
+use Rattle.journals.specs.Logs.{clock, stamps, max_stamp, rises}
 use Rattle.journals.specs.Moved.{machine_of}
-use Rattle.event_buffer.proofs.Listing.{last_more, passes_of_all}
-
-pub entries_more :
-    (log : List Stamped) (x : Stamped) → entries (log ++ x ∷ []) ≡ entries log ++ x.entry ∷ []
-entries_more log x = map-append (λ (s : Stamped). s.entry) log (x ∷ [])
+use Rattle.journals.proofs.Ways.{passes_of_all}
+use Rattle.journals.proofs.Moved.{last_of_push}
+use Rattle.journals.proofs.StampSteps.{item_fits}
 
 pub clock_more : (log : List Stamped) (x : Stamped) → clock (log ++ x ∷ []) ≡ x.stamp
 clock_more log x =
     ap (last_of 0) (map-append (λ (s : Stamped). s.stamp) log (x ∷ []))
-    ∙ last_more 0 (stamps log) x.stamp
+    ∙ last_of_push 0 (stamps log) x.stamp
 
 -- no stamp is above the greatest
 small_from :
@@ -45,14 +43,6 @@ pub own_machine :
 own_machine net m (Dep s to event code) h =
     eqb-true to m (and_parts (to == m) (reads net m event) h).0
 own_machine net m (Rea k s o) h = eqb-true k m h
-
-item_fits :
-    (net : Network) (log : List Stamped) (k : ℕ) (x : Stamped)
-    → IsJournal net (entries log) → slice_get log k ≡ Some x → FitsNetwork net x.entry
-item_fits net [] k x h at = absurd cc
-item_fits net (y ∷ log) zero x h at =
-    let same : y ≡ x = cc in subst (λ (z : Stamped). FitsNetwork net z.entry) same h.0
-item_fits net (y ∷ log) (suc k) x h at = item_fits net log k x h.1 at
 
 -- each entry fits the network and is its machine's own
 pub item_of_legal :

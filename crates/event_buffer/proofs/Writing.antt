@@ -1,43 +1,16 @@
 -- What a firing emits, output by output, written one delivery after another.
-use Rattle.std.specs.Prelude.{◌≡◌, ℕ, zero, suc, ◌+◌, ◌<◌, ◌≤◌, ◌&&◌, nat_lt, List, [], ◌∷◌, ◌++◌, map, flat_map, length, take, drop, slice_get, Option, Some, option_map, unwrap_or}
-use Rattle.std.specs.List.{list_all}
+use Rattle.std.specs.Prelude.{◌≡◌, ℕ, zero, suc, ◌+◌, ◌≤◌, List, [], ◌∷◌, ◌++◌, map, flat_map, length, take, slice_get, Option, Some, option_map, unwrap_or}
 use Rattle.std.proofs.Common.{refl, sym, ap, ◌∙◌, arith, append_assoc}
-use Rattle.std.proofs.lemmas.List.{drop_more, length-map}
-use Rattle.std.proofs.lemmas.Bool.{ltb-true, and_parts}
-use Rattle.std.proofs.lemmas.Option.{slice_get_within, get_or_from_slice_get}
-use Rattle.transition_table.specs.NetworkFacts.{is_numbered}
-use Rattle.transition_table.specs.declared.machine.Machine.{Machine}
+use Rattle.std.proofs.lemmas.List.{length-map}
 use Rattle.transition_table.specs.declared.network.Network.{Network}
 use Rattle.transition_table.specs.declared.decl.Party.{Party}
 use Rattle.transition_table.specs.declared.decl.EventDecl.{EventDecl}
-use Rattle.journals.specs.Journals.{outputs_of, emitted}
+use Rattle.journals.specs.Journals.{emitted}
 use Rattle.journals.specs.Schedules.{receivers_of, deliveries_of}
 use Rattle.journals.specs.declared.entry.Owed.{Owed}
 use Rattle.event_buffer.specs.declared.arrival.Arrival.{Arrival}
 use Rattle.event_buffer.specs.Arrivals.{arrival_of}
-use Rattle.event_buffer.proofs.Listing.{passes_of_all, length_of_take}
-
--- an output of a machine is an event
-pub output_is_event :
-    (net : Network) (m : ℕ) (machine : Machine) (k e : ℕ)
-    → slice_get net.machines m ≡ Some machine
-    → slice_get machine.outputs k ≡ Some e
-    → e < length net.events
-output_is_event net m machine k e at is =
-    let all =
-    passes_of_all (is_numbered net.domains net.events) net.machines m machine net.numbered at in
-    let inputs = list_all (λ e. nat_lt e (length net.events)) machine.inputs in
-    let outputs = list_all (λ e. nat_lt e (length net.events)) machine.outputs in
-    let states = list_all (λ state. nat_lt state.domain (length net.domains)) machine.states in
-    ltb-true e (length net.events)
-    (passes_of_all (λ e. nat_lt e (length net.events)) machine.outputs k e
-    (and_parts inputs outputs (and_parts (inputs && outputs) states all).0).1 is)
-
-pub outputs_of_machine :
-    (net : Network) (m : ℕ) (machine : Machine)
-    → slice_get net.machines m ≡ Some machine → outputs_of net m ≡ machine.outputs
-outputs_of_machine net m machine at =
-    ap (λ (o : Option Machine). unwrap_or (option_map (λ machine. machine.outputs) o) []) at
+use Rattle.journals.proofs.StampSteps.{length_prefix}
 
 pub receivers_of_event :
     (net : Network) (e : ℕ) (event : EventDecl)
@@ -48,38 +21,6 @@ receivers_of_event net e event at =
 -- what s gives by emitting these events with these codes
 abbrev pub given_by : Network → Party → List ℕ → List ℕ → List Owed
 given_by net s events codes = flat_map (deliveries_of net s) (emitted events codes)
-
--- ---- what is emitted from a place on
-
-drop_at_item :
-    {X : Type 0} (xs : List X) (i : ℕ) (x : X)
-    → slice_get xs i ≡ Some x → drop i xs ≡ x ∷ drop (i + 1) xs
-drop_at_item xs i x at =
-    drop_more xs i x (slice_get_within xs i x at)
-    ∙ ap (λ y. y ∷ drop (i + 1) xs) (get_or_from_slice_get xs i x x at)
-
-pub emitted_none :
-    (events codes : List ℕ) (k e c : ℕ)
-    → slice_get events k ≡ Some e
-    → slice_get codes k ≡ Some c
-    → c ≡ 0
-    → emitted (drop k events) (drop k codes) ≡ emitted (drop (k + 1) events) (drop (k + 1) codes)
-emitted_none events codes k e c event code none =
-    ap (λ l. emitted l (drop k codes)) (drop_at_item events k e event)
-    ∙ ap (λ l. emitted (e ∷ drop (k + 1) events) l) (drop_at_item codes k c code)
-    ∙ ap (λ n. emitted (e ∷ drop (k + 1) events) (n ∷ drop (k + 1) codes)) none
-
-pub emitted_one :
-    (events codes : List ℕ) (k e c : ℕ)
-    → slice_get events k ≡ Some e
-    → slice_get codes k ≡ Some c
-    → 0 < c
-    → emitted (drop k events) (drop k codes)
-    ≡ (e, c) ∷ emitted (drop (k + 1) events) (drop (k + 1) codes)
-emitted_one events codes k e zero event code some = absurd (omega arith)
-emitted_one events codes k e (suc v) event code some =
-    ap (λ l. emitted l (drop k codes)) (drop_at_item events k e event)
-    ∙ ap (λ l. emitted (e ∷ drop (k + 1) events) l) (drop_at_item codes k (suc v) code)
 
 -- ---- how many there are
 
@@ -164,7 +105,7 @@ pub room_for :
 room_for net s stamp room count e c here rest whole inside few is all =
     let a = ap (λ (l : List Arrival). length l) all in
     let b = long (take count room) (map (arrival_of stamp) here) in
-    let d = length_of_take room count inside in
+    let d = length_prefix room count inside in
     let f = length-map here (arrival_of stamp) in
     let g = length-map whole (arrival_of stamp) in
     let h = ap (λ (l : List Owed). length l) is ∙ long (deliveries_of net s (e, c)) rest in

@@ -17,6 +17,7 @@ use Rattle.event_buffer.specs.declared.look.Look.{Look}
 use Rattle.event_buffer.specs.declared.look.Look.TheVariants.{Ready, Busy, Quiet}
 use Rattle.event_buffer.specs.declared.pending.Pending.{Pending}
 use Rattle.event_buffer.specs.Arrivals.{owed_of}
+use Rattle.event_buffer.specs.Reacting.{FrozenState}
 
 -- ---- what a cell stands for
 
@@ -64,6 +65,10 @@ abbrev pub last_reaction : List Stamped → Option (ℕ × Snapshot)
 last_reaction log =
     last_of {X = Option (ℕ × Snapshot)} None
     (filter is_some (map (λ (x : Stamped). reaction_in x.stamp x.entry) log))
+
+-- the reaction is the one that is frozen in this cell
+abbrev pub IsFrozenIn : CellState → FrozenState → Type 0
+IsFrozenIn c f = (c.frozen ≡ Some (f.stamp, f.snapshot)) × (f.machine ≡ c.machine)
 
 -- ---- what it keeps
 

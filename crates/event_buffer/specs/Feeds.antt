@@ -1,21 +1,15 @@
 -- The environment's deliveries that are left.
 use Rattle.std.specs.Prelude.{ℕ, ◌+◌, ◌<◌, List, [], ◌++◌, flat_map, drop, length, slice_get, Option, Some, None, ⊤}
-use Rattle.transition_table.specs.declared.decl.Party.TheVariants.{Env}
 use Rattle.transition_table.specs.declared.network.Network.{Network}
 use Rattle.journals.specs.declared.entry.Owed.{Owed}
 use Rattle.journals.specs.declared.entry.TraceItem.{TraceItem}
-use Rattle.journals.specs.declared.entry.TraceItem.TheVariants.{Event, Settle}
-use Rattle.journals.specs.Schedules.{deliveries_of}
+use Rattle.journals.specs.Schedules.{item_deliveries}
 
 -- a network, a trace of it, and the environment's deliveries that are left
 pub record FeedState : Type 0 where
   pub net : Network
   pub trace : List TraceItem
   pub left : List Owed
-
-abbrev pub item_deliveries : Network → TraceItem → List Owed
-item_deliveries net (Event e code) = deliveries_of net Env (e, code)
-item_deliveries net Settle = []
 
 -- the deliveries of these items, by item and then by receiver
 abbrev pub all_deliveries : Network → List TraceItem → List Owed

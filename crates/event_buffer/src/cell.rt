@@ -104,7 +104,7 @@ fn prepare<'a>(
 impl<'a> Cell<'a> {
     ghost use Rattle.worker_core.specs.Cores.{landing};
     ghost use Rattle.event_buffer.specs.Arrivals.{owed_of};
-    ghost use Rattle.event_buffer.specs.Cells.{look, freezing, taking, last_reaction, firing_stamp};
+    ghost use Rattle.event_buffer.specs.Cells.{look, freezing, taking, last_reaction, firing_stamp, IsFrozenIn};
     ghost use Rattle.event_buffer.specs.Reacting.{reaction_of};
     ghost use Rattle.event_buffer.specs.declared.look.Look.{Look};
 
@@ -168,9 +168,7 @@ impl<'a> Cell<'a> {
     /// Whether it is frozen and this is its frozen reaction, the last one of its log. It takes no
     /// memory.
     pub fn settles(&self, f: &Frozen<'_>) -> bool
-        ensures settles { IsTrue result
-            ↔ ((self.now.frozen ≡ Some (f.now.stamp, f.now.snapshot))
-            × (f.now.machine ≡ self.now.machine)) }
+        ensures settles { IsTrue result ↔ IsFrozenIn self.now f.now }
         ensures last { IsTrue (is_some self.now.frozen)
             → self.now.frozen ≡ last_reaction self.now.log }
     {
@@ -260,8 +258,7 @@ impl<'a> Cell<'a> {
     /// Writes the outcome of its frozen reaction, and hands on the deliveries that it gives. The
     /// log that contracts see stays. It takes no memory.
     pub fn settle(&mut self, f: Frozen<'_>) -> Option<Outgoing>
-        requires frozen { self.old.frozen ≡ Some (f.stamp, f.snapshot) }
-        requires machine { f.machine ≡ self.old.machine }
+        requires frozen { IsFrozenIn self.old f }
         requires network { f.net ≡ self.old.net }
         requires ran { OfMachine f.net f.machine
             (λ machine. Transition machine f.snapshot f.outcome) }

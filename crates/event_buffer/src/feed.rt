@@ -2,9 +2,9 @@
 ghost use Rattle.std.specs.Prelude.{◌≡◌, ◌<◌, ◌≤◌, ◌+◌, true, false, drop, length, map, slice_get, option_map, IfOk, IfSome, IsTrue};
 ghost use Rattle.polis_base.specs.Lists.{head_of};
 ghost use Rattle.journals.specs.Journals.{IsTrace, is_trace_item};
-ghost use Rattle.journals.specs.Schedules.{trace_deliveries};
+ghost use Rattle.journals.specs.Schedules.{trace_deliveries, item_deliveries};
 ghost use Rattle.event_buffer.specs.Arrivals.{is_arrival, arrival_of};
-ghost use Rattle.event_buffer.specs.Feeds.{item_deliveries, all_deliveries, IsNext};
+ghost use Rattle.event_buffer.specs.Feeds.{all_deliveries, IsNext};
 
 use crate::arrival::Arrival;
 use journals::{Trace, TraceItem, sending_laws};

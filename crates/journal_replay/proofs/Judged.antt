@@ -1,8 +1,7 @@
 -- A journal judged with its stamps.
-use Rattle.std.specs.Prelude.{◌≡◌, ℕ, zero, suc, ◌+◌, ◌<◌, ◌≤◌, List, [], ◌∷◌, ◌++◌, length, take, drop, slice_get, Some}
-use Rattle.std.proofs.Common.{refl, sym, ap, subst, arith}
-use Rattle.std.proofs.lemmas.List.{take-append-drop, take-take, take_more}
-use Rattle.std.proofs.lemmas.Option.{get_or_from_slice_get}
+use Rattle.std.specs.Prelude.{◌≡◌, ℕ, ◌+◌, ◌<◌, ◌≤◌, List, length, take, Some}
+use Rattle.std.proofs.Common.{sym, subst, arith}
+use Rattle.std.proofs.lemmas.List.{take-take}
 use Rattle.transition_table.specs.declared.network.Network.{Network}
 use Rattle.journals.specs.declared.entry.Entry.{Entry}
 use Rattle.journals.specs.declared.entry.TraceItem.{TraceItem}
@@ -10,27 +9,8 @@ use Rattle.journals.specs.Legality.{Legal}
 use Rattle.journals.specs.Laws.{PrefixesAreLegal}
 use Rattle.journals.specs.Stamps.{Rising, IsFirstNotRising}
 use Rattle.journal_replay.specs.Verdicts.{IsLegalAndRises}
-
--- ---- prefixes
-
-pub prefix_more : {X : Type 0} (xs : List X) (i : ℕ) (x : X) → i < length xs
-    → slice_get xs i ≡ Some x → take (i + 1) xs ≡ take i xs ++ x ∷ []
-prefix_more xs i x below at =
-    let item = get_or_from_slice_get xs i x x at in
-    let more = take_more xs i x below in
-    rw item at more
-
-length_prefix : {X : Type 0} (xs : List X) (i : ℕ) → i ≤ length xs → length (take i xs) ≡ i
-length_prefix xs zero h = refl
-length_prefix [] (suc i) h = absurd (omega arith)
-length_prefix (x ∷ xs) (suc i) h = ap suc (length_prefix xs i (omega arith))
-
-shorter : PrefixesAreLegal → (net : Network) (trace : List TraceItem) (journal : List Entry)
-    (p k : ℕ) → p ≤ k → Legal net trace (take k journal) → Legal net trace (take p journal)
-shorter prefixes net trace journal p k within h =
-    subst (Legal net trace) (take-take p k journal within)
-    (prefixes net trace (take p (take k journal)) (drop p (take k journal))
-    (subst (Legal net trace) (sym (take-append-drop p (take k journal))) h))
+use Rattle.journals.proofs.StampSteps.{length_prefix}
+use Rattle.net_core.proofs.Adopting.{shorter}
 
 -- ---- a journal with its stamps
 

@@ -1,11 +1,11 @@
 -- What the tests know of the sample networks.
-use Rattle.std.specs.Prelude.{◌≡◌, ℕ, zero, suc, ◌≤◌, false, ◌==◌, Bool, cond, filter, nat_le, List, [], ◌∷◌, ◌++◌, length, slice_get, Some, IsTrue}
+use Rattle.std.specs.Prelude.{◌≡◌, ℕ, zero, suc, ◌≤◌, false, ◌==◌, Bool, cond, filter, nat_le, List, [], ◌∷◌, length, slice_get, Some, IsTrue}
 use Rattle.std.specs.List.{list_all}
 use Rattle.std.proofs.Common.{refl, sym, ap, subst, arith}
 use Rattle.std.proofs.lemmas.Bool.{false≢true, ne_eqb, leb-true, and_parts}
 use Rattle.transition_table.specs.Laws.{OneRow}
-use Rattle.transition_table.specs.SampleJoin.{join}
-use Rattle.transition_table.specs.SampleTwo.{two}
+use Rattle.transition_table.specs.samples.Join.{join}
+use Rattle.transition_table.specs.samples.Two.{two}
 use Rattle.transition_table.specs.Transitions.{AreDeterministic}
 use Rattle.transition_table.specs.declared.decl.Party.TheVariants.{Env}
 use Rattle.transition_table.specs.declared.machine.Machine.{Machine}
@@ -37,11 +37,6 @@ single_rows one net all k m at = one m (each net.machines k all at)
         each machines k
         (and_parts (nat_le (length first.rows) 1)
         (list_all (λ (m : Machine). nat_le (length m.rows) 1) machines) all).1 at
-
-pub fitting_more : (net : Network) (journal : List Entry) (entry : Entry)
-    → IsJournal net journal → FitsNetwork net entry → IsJournal net (journal ++ entry ∷ [])
-fitting_more net [] entry h f = (f, tt)
-fitting_more net (first ∷ journal) entry h f = (h.0, fitting_more net journal entry h.1 f)
 
 -- ---- entries that fit
 

@@ -14,7 +14,7 @@ use Rattle.journal_text.specs.declared.fault.JournalKind.{JournalKind}
 use Rattle.journal_text.specs.declared.fault.JournalKind.TheVariants.{Name}
 use Rattle.journal_text.specs.Texts.{value_part}
 use Rattle.journal_text.specs.Forms.{Text, Texts}
-use Rattle.journal_text.specs.Items.{Named, is_equals, name_part, value_part_of, has_name, code_of, item_code, joined, value_named, with_code, some_codes, all_values}
+use Rattle.journal_text.specs.Items.{Named, is_equals, name_part, value_part_of, has_name, word_code, item_code, joined, value_named, with_code, some_codes, all_values}
 use Rattle.journal_text.specs.Holding.{values_hold}
 use Rattle.journal_text.proofs.Basics.{and_true, same_texts, is_same_self}
 use Rattle.journal_text.proofs.Shapes.{some_same}
@@ -149,7 +149,7 @@ item_of_code net (name, domain) item code h is =
         found d value domain (value_named value domain) refl p whole is
 
     go : (o : Option ℕ) (value : Option Text) → item ≡ name ++ after_equals value
-        → code_of net o value ≡ Some code → (v : ℕ) × (code ≡ suc v)
+        → word_code net o value ≡ Some code → (v : ℕ) × (code ≡ suc v)
         × (item ≡ item_text net (name, o) v) × (suc v < named_size net (name, o))
     go None None whole is =
         let one : 1 ≡ code = some_same is in

@@ -1,5 +1,5 @@
 -- The form that an entry is printed in, and what is read of it.
-use Rattle.std.proofs.Common.{◌≡◌, ℕ, zero, suc, Bool, true, false, ◌&&◌, cond, List, [], ◌∷◌, ◌++◌, length, take, drop, Option, Some, None, refl, sym, ◌∙◌, ap, slice_get, subst}
+use Rattle.std.proofs.Common.{◌≡◌, ℕ, Bool, true, false, ◌&&◌, cond, List, [], ◌∷◌, ◌++◌, length, take, drop, Option, Some, None, refl, sym, ◌∙◌, ap, slice_get}
 use Rattle.std.specs.Prelude.{codes, IsSomeAnd}
 use Rattle.std.specs.List.{list_all}
 use Rattle.std.proofs.lemmas.Bool.{and_parts}
@@ -18,22 +18,15 @@ use Rattle.journal_text.specs.Texts.{spaced, event_item, event_items, state_item
 use Rattle.journal_text.specs.Forms.{Text, Texts, EntryForm, DepForm, FireForm, IdleForm, colon, semicolon, arrow}
 use Rattle.journal_text.specs.Holding.{values_hold, machine_holds, names_hold}
 use Rattle.journal_text.proofs.Pieces.{joined_by, joined_both, words_in, spaced_joined}
-use Rattle.journal_text.proofs.Shapes.{lists_words, form_words, some_same}
+use Rattle.journal_text.proofs.Shapes.{lists_words, form_words}
 use Rattle.journal_text.proofs.Coding.{DomainsHold}
+use Rattle.journals.proofs.Ways.{passes_of_all}
 
 -- what the types of the network keep
 pub record Holds (net : Network) : Type 0 where
   pub events : list_all (λ (event : EventDecl). is_name event.name) net.events ≡ true
   pub machines : list_all machine_holds net.machines ≡ true
   pub domains : DomainsHold net
-
--- an item of the list, where all pass
-pub one_passes : {X : Type 0} (test : X → Bool) (xs : List X) (k : ℕ) (x : X)
-    → list_all test xs ≡ true → slice_get xs k ≡ Some x → test x ≡ true
-one_passes test [] k x all at = cc
-one_passes test (y ∷ xs) zero x all at =
-    subst (λ z. test z ≡ true) (some_same at) (and_parts (test y) _ all).0
-one_passes test (y ∷ xs) (suc k) x all at = one_passes test xs k x (and_parts (test y) _ all).1 at
 
 pub holds_of : (net : Network) → names_hold net ≡ true → Holds net
 holds_of net h =
@@ -43,7 +36,7 @@ holds_of net h =
     record {
       events = b.0;
       machines = b.1;
-      domains = λ d domain at. one_passes values_hold net.domains d domain a.1 at;
+      domains = λ d domain at. passes_of_all values_hold net.domains d domain a.1 at;
     }
 
 -- the form that an entry is printed in

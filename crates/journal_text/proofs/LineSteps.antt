@@ -10,13 +10,13 @@ use Rattle.journals.specs.declared.entry.Entry.{Entry}
 use Rattle.journals.specs.Journals.{IsJournal}
 use Rattle.journal_text.specs.Texts.{AreStamps}
 use Rattle.journal_text.specs.Forms.{Text, Texts, with_byte, lines_of}
-use Rattle.journal_text.specs.Reading.{Numbered, Said, More, Last, Bad, line_says, went_on, ended, unended, lines_say, version_of, ReadText, given, body_says, text_says, read_of}
+use Rattle.journal_text.specs.Reading.{Timeline, Said, More, Last, Bad, line_says, went_on, ended, unended, lines_say, version_of, ReadText, read_as, body_says, text_says, read_of}
 use Rattle.journal_text.specs.declared.fault.JournalFault.{JournalFault}
 use Rattle.journal_text.specs.declared.fault.JournalFault.TheVariants.{Line, NoMemory}
 use Rattle.journal_text.specs.declared.codes.Stop.{Stop}
 use Rattle.journal_text.specs.declared.codes.Stop.TheVariants.{Kind, NoMemory as OutOfMemory}
 use Rattle.journal_text.specs.declared.read.ReadJournal.{ReadJournal}
-use Rattle.journal_text.specs.Lines.{at_line}
+use Rattle.journal_text.specs.inner.Lines.{at_line}
 use Rattle.journal_text.specs.declared.fault.JournalKind.{JournalKind}
 use Rattle.journal_text.specs.declared.fault.JournalKind.TheVariants.{Header, After}
 use Rattle.journal_text.proofs.Pieces.{some_piece}
@@ -107,7 +107,7 @@ pub line_at_fault : (net : Network) (stamped : Bool) (text : Text) (stamps : Lis
     → line_says stamped net (length journal) first ≡ Bad kind
     → body_says net (Some stamped) (lines_of text) ≡ Err (Line (length journal + 2) kind)
 line_at_fault net stamped text stamps journal rest first after kind read cut is =
-    ap (given stamped)
+    ap (read_as stamped)
     (by_next net stamped text stamps journal rest first after (Bad kind) read cut is)
 
 -- a line that wasn't read to its end
@@ -130,9 +130,9 @@ pub no_more_lines : (net : Network) (stamped : Bool) (text : Text) (stamps : Lis
     (journal : List Entry) (rest first : Text)
     → IsRead net stamped text stamps journal rest → lines_of rest ≡ first ∷ []
     → body_says net (Some stamped) (lines_of text)
-    ≡ given stamped (unended (length journal + 2) first)
+    ≡ read_as stamped (unended (length journal + 2) first)
 no_more_lines net stamped text stamps journal rest first read cut =
-    ap (given stamped)
+    ap (read_as stamped)
     (read.says ∙ ap (lines_say stamped net (length journal + 2) (zip stamps journal)) cut)
 
 -- the last line
@@ -141,13 +141,13 @@ pub last_said : (net : Network) (stamped : Bool) (text : Text) (stamps : List �
     → IsRead net stamped text stamps journal rest → lines_of rest ≡ first ∷ lines_of after
     → line_says stamped net (length journal) first ≡ Last complete
     → body_says net (Some stamped) (lines_of text)
-    ≡ given stamped (ended (length journal + 2) (lines_of after) (zip stamps journal, complete))
+    ≡ read_as stamped (ended (length journal + 2) (lines_of after) (zip stamps journal, complete))
 last_said net stamped text stamps journal rest first after complete read cut is =
-    ap (given stamped)
+    ap (read_as stamped)
     (by_next net stamped text stamps journal rest first after (Last complete) read cut is)
 
 -- bytes after the last line
-pub bytes_after : (line : ℕ) (after : Text) (read : Numbered × Bool) → (length after == 0) ≡ false
+pub bytes_after : (line : ℕ) (after : Text) (read : Timeline × Bool) → (length after == 0) ≡ false
     → ended line (lines_of after) read ≡ Err (Line (line + 1) After)
 bytes_after line [] read h = cc
 bytes_after line (c ∷ xs) read h =
@@ -164,7 +164,7 @@ bytes_after line (c ∷ xs) read h =
 -- nothing after the last line
 pub all_read : (line : ℕ) (after : Text) (stamped : Bool) (stamps : List ℕ) (journal : List Entry)
     (complete : Bool) → (length after == 0) ≡ true → length stamps ≡ length journal
-    → given stamped (ended line (lines_of after) (zip stamps journal, complete))
+    → read_as stamped (ended line (lines_of after) (zip stamps journal, complete))
     ≡ Ok (journal, then_some stamped stamps, complete)
 all_read line (c ∷ after) stamped stamps journal complete none same =
     let zero : length (c ∷ after) ≡ 0 = eqb-true (length (c ∷ after)) 0 none in

@@ -6,7 +6,8 @@ use Rattle.std.specs.Cmp.Lexicographic.{pointwise, same_text}
 use Rattle.std.proofs.lemmas.List.{take-append-drop, length-map, take_at, drop_at}
 use Rattle.std.proofs.lemmas.Simd.{map-map}
 use Rattle.domains.specs.Tables.{fits}
-use Rattle.transition_table.specs.NetworkFacts.{has_vars, has_outputs}
+use Rattle.transition_table.specs.NetworkFacts.{has_vars}
+use Rattle.transition_table.specs.inner.NetworkFacts.{has_outputs}
 use Rattle.transition_table.specs.Transitions.{IsSnapshot, IsOutcome}
 use Rattle.journals.specs.Journals.{FitsNetwork}
 use Rattle.journals.specs.declared.entry.Entry.TheVariants.{Rea}
@@ -14,8 +15,9 @@ use Rattle.transition_table.specs.declared.machine.Machine.{Machine}
 use Rattle.transition_table.specs.declared.network.Network.{Network}
 use Rattle.transition_table.specs.declared.snapshot.Snapshot.{Snapshot}
 use Rattle.transition_table.specs.declared.snapshot.Outcome.{Outcome}
-use Rattle.journal_text.proofs.TextLemmas.{left_true, right_true, passes_at}
-use Rattle.journal_text.specs.Texts.{event_size, state_size, set_size, are_event_codes, are_values, are_settings}
+use Rattle.polis_base.proofs.Names.{left_true, right_true}
+use Rattle.journal_text.specs.inner.Texts.{event_size, state_size, set_size, are_event_codes, are_values, are_settings}
+use Rattle.journals.proofs.Ways.{passes_of_all}
 
 -- codes that fit two lists of sizes, one after the other
 long_enough : (xs ys codes : List ℕ) → fits (xs ++ ys) codes ≡ true → length xs ≤ length codes
@@ -130,8 +132,8 @@ pub emitted_fit : (net : Network) (k : ℕ) (s : Snapshot) (o : Outcome) (m : Ma
     → FitsNetwork net (Rea k s o) → slice_get net.machines k ≡ Some m
     → are_event_codes net m.outputs o.outs ≡ true
 emitted_fit net k s o m fit there =
-    let vars = passes_at (has_vars net.domains net.events) net.machines k m net.sized_vars there in
-    let outs = passes_at (has_outputs net.domains net.events) net.machines k m net.sized_outputs
+    let vars = passes_of_all (has_vars net.domains net.events) net.machines k m net.sized_vars there in
+    let outs = passes_of_all (has_outputs net.domains net.events) net.machines k m net.sized_outputs
     there in
     let is = rw there at fit in
     outputs_fit net m o vars outs is.1

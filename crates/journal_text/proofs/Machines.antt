@@ -1,19 +1,20 @@
 -- What a network keeps of its machines' lists, and reactions that are read part by part.
 use Rattle.std.proofs.Common.{◌≡◌, ◌&&◌, ℕ, true, List, Some, Result, Ok, Err, slice_get, sym, ◌∙◌, ap}
 use Rattle.std.proofs.lemmas.Bool.{and_parts}
-use Rattle.transition_table.specs.NetworkFacts.{is_numbered}
+use Rattle.transition_table.specs.inner.NetworkFacts.{is_numbered}
 use Rattle.transition_table.specs.declared.machine.Machine.{Machine}
 use Rattle.transition_table.specs.declared.network.Network.{Network}
 use Rattle.journal_text.specs.Forms.{Text, Texts}
 use Rattle.journal_text.specs.Items.{machine_named, map_read, both_read, snapshot_read, result_read, fired, firing_read}
-use Rattle.journal_text.specs.Steps.{whole, are_events, are_states}
+use Rattle.journal_text.specs.Steps.{are_events, are_states}
+use Rattle.journal_text.specs.inner.Steps.{whole}
 use Rattle.journal_text.specs.declared.fault.JournalKind.{JournalKind}
-use Rattle.journal_text.proofs.Entering.{one_passes}
+use Rattle.journals.proofs.Ways.{passes_of_all}
 
 numbered : (net : Network) (m : ℕ) (machine : Machine) → slice_get net.machines m ≡ Some machine
     → is_numbered net.domains net.events machine ≡ true
 numbered net m machine at =
-    one_passes (is_numbered net.domains net.events) net.machines m machine net.numbered at
+    passes_of_all (is_numbered net.domains net.events) net.machines m machine net.numbered at
 
 pub inputs_numbered : (net : Network) (m : ℕ) (machine : Machine)
     → slice_get net.machines m ≡ Some machine → are_events net machine.inputs ≡ true

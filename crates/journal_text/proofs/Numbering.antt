@@ -9,7 +9,7 @@ use Rattle.std.proofs.lemmas.List.Folds.{find-append}
 use Rattle.polis_base.specs.Lists.{upto}
 use Rattle.polis_base.specs.Names.{is_name}
 use Rattle.domains.specs.Names.{is_same}
-use Rattle.net_names.specs.Tables.{Numbered, number_at}
+use Rattle.net_names.specs.Tables.{NameNumbers, number_at}
 use Rattle.transition_table.specs.declared.decl.EventDecl.{EventDecl}
 use Rattle.transition_table.specs.declared.machine.Machine.{Machine}
 use Rattle.transition_table.specs.declared.network.Network.{Network}
@@ -26,7 +26,7 @@ module _ {X : Type 0} (f : X → Text) (xs : List X) where
   first_of n word = find (λ k. is_same (text_at f xs k) word) (upto n)
 
   -- one more thing with its number
-  pub one_more_noted : (n : ℕ) (x : X) (before after : Numbered) → slice_get xs n ≡ Some x
+  pub one_more_noted : (n : ℕ) (x : X) (before after : NameNumbers) → slice_get xs n ≡ Some x
       → ((q : Text) → number_at after q
       ≡ option_or (number_at before q) (cond (is_same q (f x)) (Some n) None))
       → ((q : Text) → number_at before q ≡ first_of n q) → (q : Text)

@@ -6,7 +6,8 @@ use Rattle.std.proofs.lemmas.Bool.{and_parts, lt-ltb, le-leb, false≢true}
 use Rattle.std.proofs.lemmas.List.{length-map, take_at, drop_at}
 use Rattle.domains.specs.Names.{is_same}
 use Rattle.domains.specs.Tables.{fits}
-use Rattle.transition_table.specs.NetworkFacts.{event_values, has_vars, has_outputs, is_numbered}
+use Rattle.transition_table.specs.NetworkFacts.{event_values, has_vars}
+use Rattle.transition_table.specs.inner.NetworkFacts.{has_outputs, is_numbered}
 use Rattle.transition_table.specs.Transitions.{blank, IsOutcome}
 use Rattle.transition_table.specs.declared.decl.Party.{Party}
 use Rattle.transition_table.specs.declared.decl.Party.TheVariants.{Env, Machine as Sender}
@@ -18,37 +19,25 @@ use Rattle.journals.specs.declared.entry.Entry.{Entry}
 use Rattle.journals.specs.declared.entry.Entry.TheVariants.{Dep}
 use Rattle.journals.specs.Journals.{FitsNetwork, is_party}
 use Rattle.journal_text.specs.declared.fault.JournalKind.{JournalKind}
-use Rattle.journal_text.specs.Texts.{event_item, event_items, state_items, set_items, party_name, event_size, state_size, set_size}
+use Rattle.journal_text.specs.Texts.{event_item, event_items, state_items, set_items, party_name}
+use Rattle.journal_text.specs.inner.Texts.{event_size, state_size, set_size}
 use Rattle.journal_text.specs.Forms.{Text, Texts, EntryForm, DepForm, FireForm, IdleForm}
 use Rattle.journal_text.specs.Items.{as_event, as_state, machine_named, event_named, party_named, name_part, item_code, event_code, some_codes, all_values, snapshot_read, result_read, both_read, map_read, fired, idled, delivery_read, firing_read, idle_read, entry_read}
 use Rattle.journal_text.proofs.Basics.{and_true, same_texts, is_same_self}
 use Rattle.journal_text.proofs.Shapes.{some_same}
 use Rattle.journal_text.proofs.Naming.{has_found_name}
 use Rattle.journal_text.proofs.Coding.{items_are, values_are, item_of_code}
-use Rattle.journal_text.proofs.Entering.{one_passes, seen_of, given_of, form_of}
+use Rattle.journal_text.proofs.Entering.{seen_of, given_of, form_of}
 use Rattle.journal_text.proofs.MachineCodes.{vars_are, results_are}
 use Rattle.journal_text.proofs.Rereading.{event_item_is, event_items_are, set_items_are, state_items_are, are_events, event_sizes, event_sized, set_sizes, state_sizes}
+use Rattle.journals.proofs.Ways.{passes_of_all}
+use Rattle.domains.proofs.Ranks.{length-fits}
+use Rattle.journals.proofs.Moment.{fits_after_fits}
 
 there : {X : Type 0} (xs : List X) (k : ℕ) → k < length xs → (x : X) × (slice_get xs k ≡ Some x)
 there [] k below = absurd (omega arith)
 there (x ∷ xs) zero below = (x, refl)
 there (x ∷ xs) (suc k) below = there xs k (omega arith)
-
--- codes that fit
-pub fits_both : (xs ys a b : List ℕ) → fits xs a ≡ true → fits ys b ≡ true
-    → fits (xs ++ ys) (a ++ b) ≡ true
-fits_both [] ys [] b p q = q
-fits_both [] ys (c ∷ a) b p q = cc
-fits_both (x ∷ xs) ys [] b p q = cc
-fits_both (x ∷ xs) ys (c ∷ a) b p q =
-    let f = and_parts (nat_lt c x) _ p in
-    and_true _ _ f.0 (fits_both xs ys a b f.1 q)
-
-pub fits_length : (xs a : List ℕ) → fits xs a ≡ true → length a ≡ length xs
-fits_length [] [] p = refl
-fits_length [] (c ∷ a) p = cc
-fits_length (x ∷ xs) [] p = cc
-fits_length (x ∷ xs) (c ∷ a) p = ap suc (fits_length xs a (and_parts (nat_lt c x) _ p).1)
 
 -- what stands under answers
 pub ok_same : {A E : Type 0} {a b : A} → ◌≡◌ {A = Result A E} (Ok a) (Ok b) → a ≡ b
@@ -140,7 +129,7 @@ pub record MachineNumbers (net : Network) (machine : Machine) : Type 0 where
 machine_numbers : (net : Network) (m : ℕ) (machine : Machine)
     → slice_get net.machines m ≡ Some machine → MachineNumbers net machine
 machine_numbers net m machine at =
-    let numbered = one_passes (is_numbered net.domains net.events) net.machines m machine
+    let numbered = passes_of_all (is_numbered net.domains net.events) net.machines m machine
     net.numbered at in
     let n = and_parts (list_all (λ e. nat_lt e (length net.events)) machine.inputs
     && list_all (λ e. nat_lt e (length net.events)) machine.outputs) _ numbered in
@@ -148,8 +137,8 @@ machine_numbers net m machine at =
     record {
       inputs = n2.0;
       outputs = n2.1;
-      vars = one_passes (has_vars net.domains net.events) net.machines m machine net.sized_vars at;
-      outs = one_passes (has_outputs net.domains net.events) net.machines m machine
+      vars = passes_of_all (has_vars net.domains net.events) net.machines m machine net.sized_vars at;
+      outs = passes_of_all (has_outputs net.domains net.events) net.machines m machine
           net.sized_outputs at;
     }
 
@@ -186,13 +175,13 @@ snapshot_is net m machine a b present values at h =
     let p = events_are net machine.inputs a present facts.inputs parts.0 in
     let v = states_are net machine.states b values parts.1 in
     let len : length present ≡ length machine.inputs =
-    fits_length _ present p.1 ∙ length-map machine.inputs (event_size net) in
+    length-fits _ present p.1 ∙ length-map machine.inputs (event_size net) in
     let prefix : take (length machine.inputs) (present ++ values) ≡ present =
     take_at present values _ len in
     let back : drop (length machine.inputs) (present ++ values) ≡ values =
     drop_at present values _ len in (
       rw at (rw (prefix, back, p.0, v.0) refl),
-      rw (vars_are net machine facts.vars) (fits_both _ _ present values p.1 v.1),
+      rw (vars_are net machine facts.vars) (fits_after_fits _ _ present values p.1 v.1),
     )
 
 result_is : (net : Network) (m : ℕ) (machine : Machine) (a b : Texts) (next outs : List ℕ)
@@ -209,11 +198,11 @@ result_is net m machine a b next outs at h =
       rw at (rw (s.0, o.0) refl),
       record {
         widths = record {
-          next = fits_length _ next s.1 ∙ length-map machine.states (set_size net);
-          outs = fits_length _ outs o.1 ∙ length-map machine.outputs (event_size net);
+          next = length-fits _ next s.1 ∙ length-map machine.states (set_size net);
+          outs = length-fits _ outs o.1 ∙ length-map machine.outputs (event_size net);
         };
         codes = rw (results_are net machine facts.vars facts.outs)
-            (fits_both _ _ next outs s.1 o.1);
+            (fits_after_fits _ _ next outs s.1 o.1);
         idle = λ e. absurd (false≢true (sym e));
       },
     )
@@ -237,7 +226,7 @@ blank_is net m machine at =
         outs = zeros_length (length machine.outputs);
       };
       codes = rw (results_are net machine facts.vars facts.outs)
-          (fits_both _ _ (replicate (length machine.states) 0)
+          (fits_after_fits _ _ (replicate (length machine.states) 0)
           (replicate (length machine.outputs) 0)
           (zeros_fit (set_size net) machine.states (λ x. lt-ltb _ _ (omega arith)))
           (zeros_fit (event_size net) machine.outputs (λ x. lt-ltb _ _ (omega arith))));

@@ -15,7 +15,7 @@ use Rattle.journal_text.specs.declared.fault.JournalKind.TheVariants.{Many, Stam
 use Rattle.journal_text.specs.Texts.{line, entry_text, last_text, ending, is_stamp, journal_text, stamped_journal_text, AreStamps}
 use Rattle.journal_text.specs.Forms.{Text, Texts, EntryForm, DepForm, FireForm, IdleForm, lines_of, words_of, both, decimal_of, ending_of, last_form, stamp_of, entry_form, stamped_form}
 use Rattle.journal_text.specs.Items.{entry_read}
-use Rattle.journal_text.specs.Reading.{Numbered, Said, More, Last, Bad, said_entry, entry_says, words_say, line_says, went_on, ended, lines_say, version_of, as_read, given, body_says, text_says, read_of, ReadText}
+use Rattle.journal_text.specs.Reading.{Timeline, Said, More, Last, Bad, said_entry, entry_says, words_say, line_says, went_on, ended, lines_say, version_of, as_read, read_as, body_says, text_says, read_of, ReadText}
 use Rattle.journal_text.specs.Laws.{ReadIsPrinted, StampedReadIsPrinted}
 use Rattle.journal_text.proofs.Basics.{and_true, same_texts}
 use Rattle.journal_text.proofs.Pieces.{joined_by, joined_pieces}
@@ -226,14 +226,14 @@ last_only stamped net count text complete h =
     go (Some (n, c)) p e = counted n c (n == count) p refl e
 
 -- 3. All lines.
-more_few : (xs : Numbered) (stamp : ℕ) (entry : Entry) → length xs < 60000
+more_few : (xs : Timeline) (stamp : ℕ) (entry : Entry) → length xs < 60000
     → length (xs ++ (stamp, entry) ∷ []) ≤ 60000
 more_few xs stamp entry below = rw (length-append xs ((stamp, entry) ∷ [])) (omega arith)
 
-pub lines_only : (stamped : Bool) (net : Network) (k : ℕ) (read : Numbered) (lines : Texts)
-    (entries : Numbered) (complete : Bool)
+pub lines_only : (stamped : Bool) (net : Network) (k : ℕ) (read : Timeline) (lines : Texts)
+    (entries : Timeline) (complete : Bool)
     → lines_say stamped net k read lines ≡ Ok (entries, complete)
-    → (more : Numbered) × (entries ≡ read ++ more)
+    → (more : Timeline) × (entries ≡ read ++ more)
     × (lines ≡ map (line_text stamped net) more ++ last_line (length entries) complete ∷ []
     ∷ []) × AllFit stamped net more × (length read ≤ 60000 → length entries ≤ 60000)
 lines_only stamped net k read [] entries complete h = cc
@@ -244,7 +244,7 @@ lines_only stamped net k read (text ∷ next ∷ lines) entries complete h =
   where
     end_with : (rest : Texts) (c : Bool) → line_says stamped net (length read) text ≡ Last c
         → ended k rest (read, c) ≡ Ok (entries, complete) → (rest ≡ [] → ⊥)
-        → (more : Numbered) × (entries ≡ read ++ more)
+        → (more : Timeline) × (entries ≡ read ++ more)
         × (text ∷ rest ≡ map (line_text stamped net) more ++ last_line (length entries) complete
         ∷ [] ∷ []) × AllFit stamped net more × (length read ≤ 60000 → length entries ≤ 60000)
     end_with [] c p e some = absurd (some refl)
@@ -252,8 +252,8 @@ lines_only stamped net k read (text ∷ next ∷ lines) entries complete h =
     end_with (x ∷ y ∷ rest) c p e some = cc
     end_with ([] ∷ []) c p e some =
         let pair : (read, c) ≡ (entries, complete) = ok_same e in
-        let first : read ≡ entries = ap (λ (q : Numbered × Bool). q.0) pair in
-        let second : c ≡ complete = ap (λ (q : Numbered × Bool). q.1) pair in
+        let first : read ≡ entries = ap (λ (q : Timeline × Bool). q.0) pair in
+        let second : c ≡ complete = ap (λ (q : Timeline × Bool). q.1) pair in
         let is = last_only stamped net (length read) text c p in
         let whole : text ∷ [] ∷ [] ≡ last_line (length entries) complete ∷ [] ∷ [] =
         ap (λ t. t ∷ [] ∷ []) (is ∙ ap (λ xs. last_line (length xs) c) first
@@ -269,13 +269,13 @@ lines_only stamped net k read (text ∷ next ∷ lines) entries complete h =
     go : (said : Said) → line_says stamped net (length read) text ≡ said
         → went_on k read (next ∷ lines) (λ more. lines_say stamped net (k + 1) more (next ∷ lines))
         said ≡ Ok (entries, complete)
-        → ((prefix : Numbered) → lines_say stamped net (k + 1) prefix (next ∷ lines)
+        → ((prefix : Timeline) → lines_say stamped net (k + 1) prefix (next ∷ lines)
         ≡ Ok (entries, complete)
-        → (more : Numbered) × (entries ≡ prefix ++ more)
+        → (more : Timeline) × (entries ≡ prefix ++ more)
         × (next ∷ lines ≡ map (line_text stamped net) more
         ++ last_line (length entries) complete ∷ [] ∷ []) × AllFit stamped net more
         × (length prefix ≤ 60000 → length entries ≤ 60000))
-        → (more : Numbered) × (entries ≡ read ++ more)
+        → (more : Timeline) × (entries ≡ read ++ more)
         × (text ∷ next ∷ lines ≡ map (line_text stamped net) more
         ++ last_line (length entries) complete ∷ [] ∷ []) × AllFit stamped net more
         × (length read ≤ 60000 → length entries ≤ 60000)
@@ -315,7 +315,7 @@ version_is first stamped h =
 -- what is read of a text, and its lines
 pub record TextIs (net : Network) (text : Text) (read : ReadText) : Type 0 where
   pub stamped : Bool
-  pub entries : Numbered
+  pub entries : Timeline
   pub complete : Bool
   pub is : as_read stamped (entries, complete) ≡ read
   pub fit : AllFit stamped net entries
@@ -329,9 +329,9 @@ pub text_only : (net : Network) (text : Text) (read : ReadText) → read_of net 
 text_only net text read h = go (lines_of text) refl h
   where
     whole : (first : Text) (lines : Texts) (stamped : Bool)
-        (r : Result (Numbered × Bool) JournalFault) → lines_of text ≡ first ∷ lines
+        (r : Result (Timeline × Bool) JournalFault) → lines_of text ≡ first ∷ lines
         → version_of first ≡ Some stamped → lines_say stamped net 2 [] lines ≡ r
-        → given stamped r ≡ Ok read → TextIs net text read
+        → read_as stamped r ≡ Ok read → TextIs net text read
     whole first lines stamped (Err fault) p v q e = cc
     whole first lines stamped (Ok (entries, complete)) p v q e =
         let r = lines_only stamped net 2 [] lines entries complete q in
@@ -372,24 +372,24 @@ text_only net text read h = go (lines_of text) refl h
     go (first ∷ next ∷ lines) p e = version first (next ∷ lines) (version_of first) p refl e
 
 -- in version 1 each stamp is 0
-no_stamps : (net : Network) (entries : Numbered) → AllFit false net entries
+no_stamps : (net : Network) (entries : Timeline) → AllFit false net entries
     → entries ≡ without_stamps (map (λ (p : ℕ × Entry). p.1) entries)
 no_stamps net [] fit = refl
 no_stamps net ((stamp, entry) ∷ rest) fit =
     let first = eqb-true stamp 0 fit.0 in
     ap (λ n. (n, entry) ∷ rest) first ∙ ap (λ xs. (0, entry) ∷ xs) (no_stamps net rest fit.2)
 
-zip_parts : (entries : Numbered)
+zip_parts : (entries : Timeline)
     → zip (map (λ (p : ℕ × Entry). p.0) entries) (map (λ (p : ℕ × Entry). p.1) entries) ≡ entries
 zip_parts [] = refl
 zip_parts ((stamp, entry) ∷ rest) = ap (λ xs. (stamp, entry) ∷ xs) (zip_parts rest)
 
-journal_fits : (stamped : Bool) (net : Network) (entries : Numbered) → AllFit stamped net entries
+journal_fits : (stamped : Bool) (net : Network) (entries : Timeline) → AllFit stamped net entries
     → IsJournal net (map (λ (p : ℕ × Entry). p.1) entries)
 journal_fits stamped net [] fit = tt
 journal_fits stamped net ((stamp, entry) ∷ rest) fit = (fit.1, journal_fits stamped net rest fit.2)
 
-stamps_fit : (net : Network) (entries : Numbered) → AllFit true net entries
+stamps_fit : (net : Network) (entries : Timeline) → AllFit true net entries
     → list_all is_stamp (map (λ (p : ℕ × Entry). p.0) entries) ≡ true
 stamps_fit net [] fit = refl
 stamps_fit net ((stamp, entry) ∷ rest) fit = and_true _ _ fit.0 (stamps_fit net rest fit.2)
@@ -398,7 +398,7 @@ last_is : (journal : List Entry) (n : ℕ) (complete : Bool) → n ≡ length jo
     → last_line n complete ≡ last_text journal complete
 last_is journal n complete same = ap (λ k. last_line k complete) same
 
-plain_is : (net : Network) (text : Text) (entries : Numbered) (complete : Bool)
+plain_is : (net : Network) (text : Text) (entries : Timeline) (complete : Bool)
     (journal : List Entry) (whole : Bool) → map (λ (p : ℕ × Entry). p.1) entries ≡ journal
     → complete ≡ whole → AllFit false net entries → length entries ≤ 60000
     → text ≡ flat_map line (head_text false
@@ -416,7 +416,7 @@ plain_is net text entries complete journal whole first second fit few is =
     ++ []) zeros ∙ sym (plain_text net journal whole) in
     (same, subst (IsJournal net) first (journal_fits false net entries fit), omega arith)
 
-stamped_is : (net : Network) (text : Text) (entries : Numbered) (complete : Bool)
+stamped_is : (net : Network) (text : Text) (entries : Timeline) (complete : Bool)
     (journal : List Entry) (stamps : List ℕ) (whole : Bool)
     → map (λ (p : ℕ × Entry). p.1) entries ≡ journal → map (λ (p : ℕ × Entry). p.0) entries ≡ stamps
     → complete ≡ whole → AllFit true net entries → length entries ≤ 60000
@@ -455,7 +455,7 @@ read_is_printed net text journal complete h =
     let t = text_only net text (journal, None, complete) h in
     go t.stamped t.entries t.complete t.is t.fit t.few t.text_is
   where
-    go : (stamped : Bool) (entries : Numbered) (c : Bool)
+    go : (stamped : Bool) (entries : Timeline) (c : Bool)
         → as_read stamped (entries, c) ≡ (journal, None, complete) → AllFit stamped net entries
         → length entries ≤ 60000
         → text ≡ flat_map line (head_text stamped
@@ -472,7 +472,7 @@ stamped_read_is_printed net text journal stamps complete h =
     let t = text_only net text (journal, Some stamps, complete) h in
     go t.stamped t.entries t.complete t.is t.fit t.few t.text_is
   where
-    go : (stamped : Bool) (entries : Numbered) (c : Bool)
+    go : (stamped : Bool) (entries : Timeline) (c : Bool)
         → as_read stamped (entries, c) ≡ (journal, Some stamps, complete)
         → AllFit stamped net entries → length entries ≤ 60000
         → text ≡ flat_map line (head_text stamped

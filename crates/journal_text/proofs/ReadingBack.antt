@@ -14,7 +14,7 @@ use Rattle.journal_text.specs.declared.fault.JournalFault.TheVariants.{Line}
 use Rattle.journal_text.specs.declared.fault.JournalKind.TheVariants.{Shape, End}
 use Rattle.journal_text.specs.Texts.{line, entry_line, stamp_text, entry_text, stamped_line, last_text, is_stamp, journal_text, stamped_journal_text}
 use Rattle.journal_text.specs.Forms.{Text, Texts, pieces, lines_of, is_nonempty}
-use Rattle.journal_text.specs.Reading.{Numbered, ReadText, version_of, as_read, body_says, text_says, read_of}
+use Rattle.journal_text.specs.Reading.{Timeline, ReadText, version_of, as_read, body_says, text_says, read_of}
 use Rattle.journal_text.specs.Laws.{ReadsBack, StampedReadsBack, OneJournal, OneStampedJournal, OneVersion, PrefixFaults, StampedPrefixFaults, prefix_fault}
 use Rattle.journal_text.proofs.Basics.{and_true, all_in_both, differ_false}
 use Rattle.journal_text.proofs.Pieces.{lacks, joined_by, joined_pieces, some_piece}
@@ -35,11 +35,11 @@ head_version false = refl
 head_version true = refl
 
 -- the lines of a printed text
-abbrev pub printed_lines : Bool → Network → Numbered → Text → Texts
+abbrev pub printed_lines : Bool → Network → Timeline → Text → Texts
 printed_lines stamped net entries last =
     head_text stamped ∷ (map (line_text stamped net) entries ++ last ∷ [])
 
-printed_lack : (stamped : Bool) (net : Network) (entries : Numbered) (journal : List Entry)
+printed_lack : (stamped : Bool) (net : Network) (entries : Timeline) (journal : List Entry)
     (complete : Bool) → Holds net → AllFit stamped net entries → length journal < 2 ^ 64
     → list_all (lacks 10) (printed_lines stamped net entries (last_text journal complete)) ≡ true
 printed_lack stamped net entries journal complete hold fit small =
@@ -55,7 +55,7 @@ body_from net first (x ∷ xs) t ts = refl
 
 -- what is said of the lines
 said_whole : WordsDiffer
-    → (stamped : Bool) (net : Network) (entries : Numbered) (journal : List Entry) (complete : Bool)
+    → (stamped : Bool) (net : Network) (entries : Timeline) (journal : List Entry) (complete : Bool)
     → Holds net → AllFit stamped net entries → length entries ≡ length journal
     → length journal ≤ 60000
     → text_says net (head_text stamped
@@ -70,7 +70,7 @@ said_whole differ stamped net entries journal complete hold fit same few =
     first ∙ rw (head_version stamped, passed, last) refl
 
 pub reads_back : WordsDiffer
-    → (stamped : Bool) (net : Network) (entries : Numbered) (journal : List Entry) (complete : Bool)
+    → (stamped : Bool) (net : Network) (entries : Timeline) (journal : List Entry) (complete : Bool)
     → Holds net → AllFit stamped net entries → length entries ≡ length journal
     → length journal ≤ 60000
     → read_of net (flat_map line (printed_lines stamped net entries (last_text journal complete))
@@ -84,7 +84,7 @@ reads_back differ stamped net entries journal complete hold fit same few =
     ∙ said_whole differ stamped net entries journal complete hold fit same few
 
 -- 1. The printed texts, line by line.
-abbrev pub without_stamps : List Entry → Numbered
+abbrev pub without_stamps : List Entry → Timeline
 without_stamps journal = map (λ entry. (0, entry)) journal
 
 plain_lines : (net : Network) (journal : List Entry)
@@ -93,7 +93,7 @@ plain_lines : (net : Network) (journal : List Entry)
 plain_lines net [] = refl
 plain_lines net (entry ∷ journal) = ap (λ t. entry_line net entry ++ t) (plain_lines net journal)
 
-stamped_lines : (net : Network) (entries : Numbered)
+stamped_lines : (net : Network) (entries : Timeline)
     → flat_map (stamped_line net) entries ≡ flat_map line (map (line_text true net) entries)
 stamped_lines net [] = refl
 stamped_lines net ((stamp, entry) ∷ rest) =
@@ -265,9 +265,9 @@ cut_before (l ∷ ls) (i ∷ init) x qs some e =
     (r.0, r.1, rw (first, r.2) refl)
 
 -- entries' lines cut before the last line
-entries_cut : (stamped : Bool) (net : Network) (entries : Numbered) (last : Text) (init : Texts)
+entries_cut : (stamped : Bool) (net : Network) (entries : Timeline) (last : Text) (init : Texts)
     (r : Text) (rest : Texts) → map (line_text stamped net) entries ++ last ∷ [] ≡ init ++ r ∷ rest
-    → (prefix : Numbered) × (back : Numbered) × (entries ≡ prefix ++ back)
+    → (prefix : Timeline) × (back : Timeline) × (entries ≡ prefix ++ back)
     × (init ≡ map (line_text stamped net) prefix)
 entries_cut stamped net entries last [] r rest e = ([], entries, refl, refl)
 entries_cut stamped net [] last (i ∷ []) r rest e = cc
@@ -283,14 +283,14 @@ entries_cut stamped net (p ∷ entries) last (i ∷ init) r rest e =
           ∙ ap (λ xs. line_text stamped net p ∷ xs) s.3,
     )
 
-prefix_fits : (stamped : Bool) (net : Network) (prefix back : Numbered)
+prefix_fits : (stamped : Bool) (net : Network) (prefix back : Timeline)
     → AllFit stamped net (prefix ++ back) → AllFit stamped net prefix
 prefix_fits stamped net [] back h = tt
 prefix_fits stamped net ((stamp, entry) ∷ prefix) back h =
     (h.0, h.1, prefix_fits stamped net prefix back h.2)
 
 -- the fault of a prefix
-lines_fault : WordsDiffer → (stamped : Bool) (net : Network) (prefix : Numbered) (last : Text)
+lines_fault : WordsDiffer → (stamped : Bool) (net : Network) (prefix : Timeline) (last : Text)
     → Holds net → AllFit stamped net prefix → length prefix ≤ 60000
     → text_says net (head_text stamped ∷ (map (line_text stamped net) prefix ++ last ∷ []))
     ≡ Err (prefix_fault (head_text stamped ∷ (map (line_text stamped net) prefix ++ last ∷ [])))
@@ -311,7 +311,7 @@ lines_fault differ stamped net prefix last hold fit few =
     first ∙ rw (head_version stamped, passed) refl in
     said ∙ sym (rw (len, more, ends) refl)
 
-prefix_short : (entries prefix back : Numbered) (n : ℕ) → entries ≡ prefix ++ back
+prefix_short : (entries prefix back : Timeline) (n : ℕ) → entries ≡ prefix ++ back
     → length entries ≡ n → n ≤ 60000 → length prefix ≤ 60000
 prefix_short entries prefix back n is len few =
     let both : length entries ≡ length prefix + length back =
@@ -319,7 +319,7 @@ prefix_short entries prefix back n is len few =
     omega arith
 
 pub prefix_is_at_fault : WordsDiffer
-    → (stamped : Bool) (net : Network) (entries : Numbered) (journal : List Entry) (complete : Bool)
+    → (stamped : Bool) (net : Network) (entries : Timeline) (journal : List Entry) (complete : Bool)
     (prefix : Text) (c : ℕ) (rest : Text) → Holds net → AllFit stamped net entries
     → length entries ≡ length journal → length journal ≤ 60000
     → flat_map line (printed_lines stamped net entries (last_text journal complete)) ++ []

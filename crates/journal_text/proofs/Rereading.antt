@@ -11,7 +11,8 @@ use Rattle.domains.specs.Names.{is_same, are_distinct}
 use Rattle.domains.specs.Domains.{WordsDiffer, size_of, word_of}
 use Rattle.domains.specs.Tables.{fits}
 use Rattle.domains.specs.declared.domain.Domain.{Domain}
-use Rattle.transition_table.specs.NetworkFacts.{values_of, event_values, has_vars, has_outputs, has, are_different, lists_once, is_numbered}
+use Rattle.transition_table.specs.NetworkFacts.{values_of, event_values, has_vars, has, are_different}
+use Rattle.transition_table.specs.inner.NetworkFacts.{has_outputs, lists_once, is_numbered}
 use Rattle.transition_table.specs.Transitions.{IsSnapshot, blank, IsOutcome}
 use Rattle.transition_table.specs.declared.decl.Party.{Party}
 use Rattle.transition_table.specs.declared.decl.Party.TheVariants.{Env, Machine as Sender}
@@ -24,7 +25,8 @@ use Rattle.transition_table.specs.declared.snapshot.Outcome.{Outcome}
 use Rattle.journals.specs.declared.entry.Entry.{Entry}
 use Rattle.journals.specs.declared.entry.Entry.TheVariants.{Dep, Rea}
 use Rattle.journals.specs.Journals.{FitsNetwork, is_party}
-use Rattle.journal_text.specs.Texts.{value_part, event_item, event_items, state_item, state_items, set_items, machine_name, party_name, event_size, state_size, set_size}
+use Rattle.journal_text.specs.Texts.{value_part, event_item, event_items, state_item, state_items, set_items, machine_name, party_name}
+use Rattle.journal_text.specs.inner.Texts.{event_size, state_size, set_size}
 use Rattle.journal_text.specs.Forms.{Text, FireForm, IdleForm, is_word, is_word_byte}
 use Rattle.journal_text.specs.Items.{Named, event_name, as_event, as_state, joined, machine_named, event_named, party_named, name_part, some_codes, all_values, snapshot_read, result_read, fired, idled, entry_read}
 use Rattle.journal_text.specs.Holding.{machine_holds}
@@ -32,9 +34,10 @@ use Rattle.journal_text.proofs.Basics.{and_true, texts_differ, all_pass}
 use Rattle.journal_text.proofs.Shapes.{good_lists, good_form, some_same}
 use Rattle.journal_text.proofs.Naming.{found_by_name, neither_0, neither_1}
 use Rattle.journal_text.proofs.Coding.{named_size, item_text, named_items, DomainsHold, value_word, item_is, item_has_code, codes_read, values_read, names_lack, names_of, lacks_equals, after_equals, name_of_item}
-use Rattle.journal_text.proofs.Entering.{Holds, one_passes, seen_of, given_of, form_of, machine_there}
+use Rattle.journal_text.proofs.Entering.{Holds, seen_of, given_of, form_of, machine_there}
 use Rattle.journal_text.proofs.MachineCodes.{inputs_fit, states_fit, settings_fit, outputs_fit}
 use Rattle.journal_text.proofs.Wording.{name_lacks_equals, item_word, value_bytes}
+use Rattle.journals.proofs.Ways.{passes_of_all}
 
 -- 1. Events and state variables as things that items name.
 pub event_item_is : (net : Network) (e v : ℕ)
@@ -133,7 +136,7 @@ events_named net [] hold h = refl
 events_named net (e ∷ events) hold h =
     let parts = and_parts (nat_lt e (length net.events)) _ h in
     let t = event_there net e parts.0 in
-    let name = one_passes (λ (event : EventDecl). is_name event.name) net.events e t.0
+    let name = passes_of_all (λ (event : EventDecl). is_name event.name) net.events e t.0
     hold.events t.1 in
     and_true _ _ (rw t.1 name) (events_named net events hold parts.1)
 
@@ -198,13 +201,13 @@ pub machine_facts : (net : Network) (m : ℕ) (machine : Machine) → Holds net
     → slice_get net.machines m ≡ Some machine → MachineHolds net machine
 machine_facts net m machine hold at =
     let names = and_parts (is_name machine.name) _
-    (one_passes machine_holds net.machines m machine hold.machines at) in
-    let numbered = one_passes (is_numbered net.domains net.events) net.machines m machine
+    (passes_of_all machine_holds net.machines m machine hold.machines at) in
+    let numbered = passes_of_all (is_numbered net.domains net.events) net.machines m machine
     net.numbered at in
     let n = and_parts (list_all (λ e. nat_lt e (length net.events)) machine.inputs
     && list_all (λ e. nat_lt e (length net.events)) machine.outputs) _ numbered in
     let n2 = and_parts (list_all (λ e. nat_lt e (length net.events)) machine.inputs) _ n.0 in
-    let once = one_passes lists_once net.machines m machine net.once at in
+    let once = passes_of_all lists_once net.machines m machine net.once at in
     let o = and_parts (are_different machine.inputs && are_different machine.outputs) _ once in
     let o2 = and_parts (are_different machine.inputs) _ o.0 in
     record {
@@ -215,8 +218,8 @@ machine_facts net m machine hold at =
       outputs_once = o2.1;
       states = names.1;
       states_once = o.1;
-      vars = one_passes (has_vars net.domains net.events) net.machines m machine net.sized_vars at;
-      outs = one_passes (has_outputs net.domains net.events) net.machines m machine
+      vars = passes_of_all (has_vars net.domains net.events) net.machines m machine net.sized_vars at;
+      outs = passes_of_all (has_outputs net.domains net.events) net.machines m machine
           net.sized_outputs at;
     }
 
@@ -439,7 +442,7 @@ event_is_named : (net : Network) (e : ℕ) → Holds net → e < length net.even
     → is_name (event_name net e) ≡ true
 event_is_named net e hold below =
     let t = event_there net e (lt-ltb _ _ below) in
-    rw t.1 (one_passes (λ (event : EventDecl). is_name event.name) net.events e t.0 hold.events t.1)
+    rw t.1 (passes_of_all (λ (event : EventDecl). is_name event.name) net.events e t.0 hold.events t.1)
 
 party_good : (net : Network) (from : Party) → Holds net → is_party net from ≡ true
     → is_word (party_name net from) ≡ true

@@ -5,7 +5,8 @@ use Rattle.std.proofs.lemmas.Bool.{and_parts, eqb-true, not-true}
 use Rattle.std.proofs.lemmas.List.{append_assoc, append-nil, get_or-take, length-append, length-take-le}
 use Rattle.domains.specs.Names.{is_same}
 use Rattle.journal_text.specs.Forms.{Text, Texts, with_byte, words_of, after}
-use Rattle.journal_text.specs.Cursors.{lacks, NoCut, SkippedTo}
+use Rattle.journal_text.specs.Cursors.{lacks, NoCut}
+use Rattle.journal_text.specs.inner.Cursors.{SkippedTo}
 use Rattle.journal_text.proofs.Basics.{and_true, all_pass, all_in_both}
 use Rattle.journal_text.proofs.Cutting.{NoneBefore, cut_here, prefix_lacks}
 use Rattle.journal_text.proofs.Pieces.{some_piece}

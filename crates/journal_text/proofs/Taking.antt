@@ -2,7 +2,7 @@
 use Rattle.std.proofs.Common.{◌≡◌, ◌<◌, ◌≤◌, ℕ, zero, suc, true, nat_lt, List, [], ◌∷◌, ◌++◌, map, length, drop, Option, Some, None, is_some, IfSome, Result, Ok, Err, slice_get, refl, sym, ◌∙◌, ap, arith, Bor, option_copied}
 use Rattle.std.specs.Option.{option_map_or}
 use Rattle.std.proofs.lemmas.Bool.{ltb-true, false≢true}
-use Rattle.transition_table.specs.NetworkFacts.{has_domain}
+use Rattle.transition_table.specs.inner.NetworkFacts.{has_domain}
 use Rattle.transition_table.specs.declared.decl.EventDecl.{EventDecl}
 use Rattle.transition_table.specs.declared.network.Network.{Network}
 use Rattle.journal_text.specs.Forms.{Text, Texts, pieces}
@@ -11,7 +11,7 @@ use Rattle.journal_text.specs.Cursors.{left}
 use Rattle.journal_text.specs.declared.fault.JournalKind.{JournalKind}
 use Rattle.journal_text.specs.declared.fault.JournalKind.TheVariants.{Name}
 use Rattle.journal_text.proofs.Pieces.{some_piece}
-use Rattle.journal_text.proofs.Entering.{one_passes}
+use Rattle.journals.proofs.Ways.{passes_of_all}
 
 -- these codes are taken, and what is left is to be read for the things that are left
 abbrev pub Taken : Network → List Named → Texts → List ℕ → List Named → Texts → Type 0
@@ -51,7 +51,7 @@ no_things f (x ∷ xs) (suc i) over = no_things f xs i (omega arith)
 pub domain_in : (net : Network) (e : ℕ) (event : EventDecl) → slice_get net.events e ≡ Some event
     → IfSome event.domain (λ d. d < length net.domains)
 domain_in net e event at =
-    go event.domain (one_passes (has_domain net.domains) net.events e event net.event_domains at)
+    go event.domain (passes_of_all (has_domain net.domains) net.events e event net.event_domains at)
   where
     go : (o : Option ℕ) → option_map_or (λ d. nat_lt d (length net.domains)) o true ≡ true
         → IfSome o (λ d. d < length net.domains)

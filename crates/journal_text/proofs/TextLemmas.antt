@@ -1,28 +1,21 @@
 -- Lists of items that are written one after another.
-use Rattle.std.proofs.Common.{◌≡◌, ◌<◌, ℕ, zero, suc, Bool, true, false, ◌&&◌, nat_lt, nat_le, List, [], ◌∷◌, ◌++◌, ◌⊎◌, inl, inr, map, length, refl, sym, ap, ◌∙◌, arith}
-use Rattle.std.specs.Prelude.{filter, slice_get, Some, IsTrue, flat_map}
+use Rattle.std.proofs.Common.{◌≡◌, ◌<◌, ℕ, zero, suc, Bool, true, false, nat_lt, nat_le, List, ◌∷◌, ◌++◌, ◌⊎◌, inl, inr, map, length, refl, sym, ap, ◌∙◌, arith, []}
+use Rattle.std.specs.Prelude.{filter, IsTrue, flat_map}
 use Rattle.std.proofs.lemmas.Bool.{ltb-true, lt-ltb, le-leb}
 use Rattle.domains.specs.Tables.{fits}
 use Rattle.transition_table.specs.NetworkFacts.{event_values}
 use Rattle.journals.specs.Journals.{is_event_code, IsJournal, FitsNetwork, emitted, emissions}
 use Rattle.journals.specs.declared.entry.Entry.{Entry}
-use Rattle.std.specs.List.{list_all, zip}
+use Rattle.std.specs.List.{zip}
 use Rattle.transition_table.specs.declared.decl.EventDecl.{EventDecl}
 use Rattle.transition_table.specs.declared.network.Network.{Network}
-use Rattle.journal_text.specs.Texts.{spaced, end_mark, space, event_size, are_event_codes, event_line, output_text, output_lines, stamped_line}
+use Rattle.journal_text.specs.Texts.{spaced, space, event_line, output_text, stamped_line}
+use Rattle.journal_text.specs.inner.Texts.{end_mark, event_size, are_event_codes, output_lines}
 use Rattle.std.proofs.lemmas.List.{append-nil}
 use Rattle.std.proofs.lemmas.List.Elements.{filter-append}
 use Rattle.std.proofs.lemmas.Grind.{flat_map-append}
 use Rattle.journals.specs.Outputs.{goes_out}
-
--- both of two tests that pass together
-pub left_true : (a b : Bool) → (a && b) ≡ true → a ≡ true
-left_true true b h = refl
-left_true false b h = h
-
-pub right_true : (a b : Bool) → (a && b) ≡ true → b ≡ true
-right_true true b h = h
-right_true false b h = cc
+use Rattle.polis_base.proofs.Names.{left_true}
 
 -- what is still to be written of these items, where some were or none was
 abbrev pub still : Bool → List (List ℕ) → List ℕ
@@ -84,15 +77,6 @@ code_fits net e code some below =
     declared [] e h = absurd (omega arith)
     declared (event ∷ events) zero h = omega arith
     declared (event ∷ events) (suc e) h = let n = declared events e h in omega arith
-
--- a test that all pass, at one of them
-pub passes_at : {X : Type 0} (test : X → Bool) (xs : List X) (k : ℕ) (x : X)
-    → list_all test xs ≡ true → slice_get xs k ≡ Some x → test x ≡ true
-passes_at test [] k x all at = cc
-passes_at test (y ∷ xs) zero x all at =
-    let same : y ≡ x = cc in
-    rw (← same) (left_true (test y) _ all)
-passes_at test (y ∷ xs) (suc k) x all at = passes_at test xs k x (right_true (test y) _ all) at
 
 -- What a loop over a journal keeps: the entries left fit the network, and what is written, with the
 -- text of the entries left, is the whole.

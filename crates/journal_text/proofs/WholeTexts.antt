@@ -14,7 +14,7 @@ use Rattle.journals.specs.Journals.{FitsNetwork}
 use Rattle.journal_text.specs.Texts.{line, entry_text, stamp_text, last_text, ending, is_stamp}
 use Rattle.journals.specs.Logs.{max_stamp}
 use Rattle.journal_text.specs.Forms.{Text, Texts, EntryForm, DepForm, FireForm, IdleForm, pieces, lines_of, words_of, is_word, is_word_byte, colon, arrow, last_form}
-use Rattle.journal_text.specs.Reading.{Numbered, More, Last, line_says, entry_says, went_on, lines_say, words_say}
+use Rattle.journal_text.specs.Reading.{Timeline, More, Last, line_says, entry_says, went_on, lines_say, words_say}
 use Rattle.journal_text.proofs.Basics.{and_true, all_pass, all_in_both}
 use Rattle.journal_text.proofs.Pieces.{lacks, pieces_at, joined_by, pieces_of_joined, words_in}
 use Rattle.journal_text.proofs.Shapes.{form_words, lists_words, good_lists, good_form, form_of_words}
@@ -244,12 +244,12 @@ lines_from (l ∷ ls) rest h =
     ∙ ap (λ ps. l ∷ ps) (lines_from ls rest parts.1)
 
 -- entries with stamps that fit
-abbrev pub AllFit : Bool → Network → Numbered → Type 0
+abbrev pub AllFit : Bool → Network → Timeline → Type 0
 AllFit stamped net [] = ⊤
 AllFit stamped net ((stamp, entry) ∷ rest) =
     (stamp_fits stamped stamp ≡ true) × FitsNetwork net entry × AllFit stamped net rest
 
-pub entries_lack_lf : (stamped : Bool) (net : Network) (entries : Numbered) → Holds net
+pub entries_lack_lf : (stamped : Bool) (net : Network) (entries : Timeline) → Holds net
     → AllFit stamped net entries → list_all (lacks 10) (map (line_text stamped net) entries) ≡ true
 entries_lack_lf stamped net [] hold fit = refl
 entries_lack_lf stamped net ((stamp, entry) ∷ rest) hold fit =
@@ -260,7 +260,7 @@ abbrev some_lines : Texts → Bool
 some_lines [] = false
 some_lines (l ∷ ls) = true
 
-one_line : (stamped : Bool) (net : Network) (k : ℕ) (read : Numbered) (text : Text) (ls : Texts)
+one_line : (stamped : Bool) (net : Network) (k : ℕ) (read : Timeline) (text : Text) (ls : Texts)
     → some_lines ls ≡ true
     → lines_say stamped net k read (text ∷ ls)
     ≡ went_on k read ls (λ more. lines_say stamped net (k + 1) more ls)
@@ -274,7 +274,7 @@ some_after (x ∷ xs) t ts = refl
 
 -- the lines of entries are passed
 pub entries_passed : WordsDiffer
-    → (stamped : Bool) (net : Network) (k : ℕ) (read entries : Numbered) (t : Text) (ts : Texts)
+    → (stamped : Bool) (net : Network) (k : ℕ) (read entries : Timeline) (t : Text) (ts : Texts)
     → Holds net → AllFit stamped net entries → length read + length entries ≤ 60000
     → lines_say stamped net k read (map (line_text stamped net) entries ++ t ∷ ts)
     ≡ lines_say stamped net (k + length entries) (read ++ entries) (t ∷ ts)

@@ -17,6 +17,7 @@ use Rattle.journal_text.proofs.Basics.{and_true, all_pass, all_in_both, differ_f
 use Rattle.journal_text.proofs.Pieces.{lacks}
 use Rattle.journal_text.proofs.Coding.{lacks_equals, after_equals}
 use Rattle.journal_text.proofs.Decimals.{digits_of}
+use Rattle.polis_base.proofs.Scans.{begins_continues}
 
 -- a byte that passes isn't one that doesn't
 pub byte_differs : (test : ℕ → Bool) (d c : ℕ) → test d ≡ false → test c ≡ true → (c == d) ≡ false
@@ -50,9 +51,6 @@ pub word_lacks_lf : (w : Text) → list_all is_word_byte w ≡ true → lacks 10
 word_lacks_lf w h =
     all_pass is_word_byte (λ c. not (c == 10))
     (λ c is. not_from_false _ (byte_differs is_word_byte 10 c refl is)) w h
-
-begins_continues : (c : ℕ) → begins_name c ≡ true → continues_name c ≡ true
-begins_continues c h = rw h refl
 
 -- the bytes of a name
 pub name_continues : (name : Text) → is_name name ≡ true → list_all continues_name name ≡ true

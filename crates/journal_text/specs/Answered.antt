@@ -1,5 +1,6 @@
 -- What the reader answers, by the texts that are printed.
-use Rattle.std.specs.Prelude.{◌≡◌, ◌⊎◌, ◌≤◌, List, length, Some, None, Result, Ok, Err, IfSome}
+use Rattle.std.specs.Prelude.{◌≡◌, ◌⊎◌, ◌≤◌, length, Some, None, Result, Ok, Err, IfSome}
+use Rattle.polis_base.specs.declared.limits.TheConstants.{ENTRIES_MAX}
 use Rattle.transition_table.specs.declared.network.Network.{Network}
 use Rattle.journals.specs.Journals.{IsJournal}
 use Rattle.journal_text.specs.Texts.{journal_text, stamped_journal_text, AreStamps}
@@ -17,7 +18,7 @@ text_of net (journal, Some stamps, complete) = stamped_journal_text net journal 
 -- at most 60,000 entries that fit the network, and with stamps one an entry
 abbrev pub IsPrintable : Network → ReadText → Type 0
 IsPrintable net (journal, stamps, complete) =
-    IsJournal net journal × (length journal ≤ 60000) × IfSome stamps (AreStamps journal)
+    IsJournal net journal × (length journal ≤ ENTRIES_MAX) × IfSome stamps (AreStamps journal)
 
 -- just this was read, unless memory ran out
 abbrev pub Gives : Result ReadJournal JournalFault → ReadText → Type 0

@@ -1,5 +1,5 @@
 -- What is left of a text that is walked piece by piece.
-use Rattle.std.specs.Prelude.{◌≡◌, ◌⊎◌, ℕ, ◌+◌, Bool, true, not, ◌==◌, [], ◌∷◌, ◌++◌, length, drop, Option, Some, None, unwrap_or, is_some}
+use Rattle.std.specs.Prelude.{◌≡◌, ◌⊎◌, ℕ, Bool, true, not, ◌==◌, Option, Some, None, unwrap_or, is_some, []}
 use Rattle.std.specs.List.{list_all}
 use Rattle.journal_text.specs.Forms.{Text, Texts, pieces, words_of, list_of, before, after}
 
@@ -21,12 +21,6 @@ abbrev pub NoCut : Text → Texts → Type 0
 NoCut sign words = (after sign words ≡ None)
     ⊎ ((before sign words ≡ []) ⊎ (after sign words ≡ Some []))
 
--- The place is the start of a word, and what stands before it lacks the mark.
-abbrev pub SkippedTo : ℕ → Text → ℕ → Type 0
-SkippedTo mark text at =
-    (at ≡ 0) ⊎ ((prefix : Text) × (text ≡ prefix ++ 32 ∷ drop at text) × (at ≡ length prefix + 1)
-    × (lacks mark prefix ≡ true))
-
 -- the items of a list, and none where it is no list
 abbrev pub items_in : Text → Texts
 items_in list = unwrap_or (list_of (words_of list)) []
@@ -34,11 +28,3 @@ items_in list = unwrap_or (list_of (words_of list)) []
 -- both are lists
 abbrev pub AreLists : Text → Text → Type 0
 AreLists a b = (is_some (list_of (words_of a)) ≡ true) × (is_some (list_of (words_of b)) ≡ true)
-
--- the words, where there are just three
-abbrev pub three_of : Texts → Option (Text × Text × Text)
-three_of [] = None
-three_of (a ∷ []) = None
-three_of (a ∷ b ∷ []) = None
-three_of (a ∷ b ∷ c ∷ []) = Some (a, b, c)
-three_of (a ∷ b ∷ c ∷ d ∷ words) = None

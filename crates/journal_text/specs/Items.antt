@@ -76,16 +76,16 @@ has_name named item = is_same named.0 (name_part item)
 
 -- the code of what has no domain, which is 1 and has no value, or of the value v of the domain,
 -- which is 1 + v
-abbrev pub code_of : Network → Option ℕ → Option Text → Option ℕ
-code_of net None None = Some 1
-code_of net None (Some word) = None
-code_of net (Some d) None = None
-code_of net (Some d) (Some word) =
+abbrev pub word_code : Network → Option ℕ → Option Text → Option ℕ
+word_code net None None = Some 1
+word_code net None (Some word) = None
+word_code net (Some d) None = None
+word_code net (Some d) (Some word) =
     option_map (λ v. 1 + v) (joined (option_map (value_named word) (slice_get net.domains d)))
 
 -- the code that an item gives what it names
 abbrev pub item_code : Network → Named → Text → Option ℕ
-item_code net named item = code_of net named.1 (value_part_of item)
+item_code net named item = word_code net named.1 (value_part_of item)
 
 -- one code more in front; a value at fault comes before what is after it
 abbrev pub with_code : Option ℕ → Result (List ℕ) JournalKind → Result (List ℕ) JournalKind

@@ -1,6 +1,7 @@
 -- What is printed reads back, what reads was printed, a text has one journal, and where a prefix of
 -- a printed text is at fault.
 use Rattle.std.specs.Prelude.{◌≡◌, ℕ, ◌≤◌, cond, Bool, ◌==◌, List, [], ◌∷◌, ◌++◌, length, Some, None, Ok, Err, IsTrue}
+use Rattle.polis_base.specs.declared.limits.TheConstants.{ENTRIES_MAX}
 use Rattle.polis_base.specs.Lists.{last_of}
 use Rattle.transition_table.specs.declared.network.Network.{Network}
 use Rattle.journals.specs.declared.entry.Entry.{Entry}
@@ -15,7 +16,7 @@ use Rattle.journal_text.specs.declared.fault.JournalFault.TheVariants.{Line}
 
 -- a network as its types keep it, and a journal of at most 60,000 entries that fit it
 abbrev pub Prints : Network → List Entry → Type 0
-Prints net journal = IsTrue (names_hold net) × IsJournal net journal × (length journal ≤ 60000)
+Prints net journal = IsTrue (names_hold net) × IsJournal net journal × (length journal ≤ ENTRIES_MAX)
 
 -- what is printed in version 1 reads back, with no stamps
 abbrev pub ReadsBack : Type 0
@@ -33,7 +34,7 @@ StampedReadsBack = (net : Network) (journal : List Entry) (stamps : List ℕ) (c
 abbrev pub ReadIsPrinted : Type 0
 ReadIsPrinted = (net : Network) (text : Text) (journal : List Entry) (complete : Bool)
     → read_of net text ≡ Ok (journal, None, complete)
-    → (text ≡ journal_text net journal complete) × IsJournal net journal × (length journal ≤ 60000)
+    → (text ≡ journal_text net journal complete) × IsJournal net journal × (length journal ≤ ENTRIES_MAX)
 
 -- what reads with stamps was printed in version 2
 abbrev pub StampedReadIsPrinted : Type 0
@@ -41,7 +42,7 @@ StampedReadIsPrinted =
     (net : Network) (text : Text) (journal : List Entry) (stamps : List ℕ) (complete : Bool)
     → read_of net text ≡ Ok (journal, Some stamps, complete)
     → (text ≡ stamped_journal_text net journal stamps complete) × IsJournal net journal
-    × (length journal ≤ 60000) × AreStamps journal stamps
+    × (length journal ≤ ENTRIES_MAX) × AreStamps journal stamps
 
 -- a text of version 1 has one journal and one last word
 abbrev pub OneJournal : Type 0

@@ -9,3 +9,4 @@ pub mod Cursors
 pub mod Steps
 pub mod Lines
 pub mod Answered
+pub mod inner

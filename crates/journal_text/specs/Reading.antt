@@ -13,8 +13,8 @@ use Rattle.journal_text.specs.declared.fault.JournalFault.{JournalFault}
 use Rattle.journal_text.specs.declared.fault.JournalFault.TheVariants.{Line}
 
 -- entries with their stamps; in version 1 each stamp is 0
-abbrev pub Numbered : Type 0
-Numbered = List (ℕ × Entry)
+abbrev pub Timeline : Type 0
+Timeline = List (ℕ × Entry)
 
 -- what a line says after the entries before it: one entry more, the end with `complete` or `limit`,
 -- or a fault
@@ -46,25 +46,25 @@ line_says stamped net count line =
     words_say stamped net count (words_of line) (last_form (words_of line))
 
 -- after the last line there is nothing
-abbrev pub ended : ℕ → Texts → Numbered × Bool → Result (Numbered × Bool) JournalFault
+abbrev pub ended : ℕ → Texts → Timeline × Bool → Result (Timeline × Bool) JournalFault
 ended line [] read = Ok read
 ended line (rest ∷ []) read = cond (is_nonempty rest) (Err (Line (line + 1) After)) (Ok read)
 ended line (rest ∷ next ∷ lines) read = Err (Line (line + 1) After)
 
 -- what stands after the last LF: nothing, or a line without its LF
-abbrev pub unended : ℕ → Text → Result (Numbered × Bool) JournalFault
+abbrev pub unended : ℕ → Text → Result (Timeline × Bool) JournalFault
 unended line rest = Err (Line line (cond (is_nonempty rest) Shape End))
 
 -- where the line before this text is one entry more, the lines after it go on; where it is the
 -- last, or at fault, that is the answer
-abbrev pub went_on : ℕ → Numbered → Texts → (Numbered → Result (Numbered × Bool) JournalFault)
-    → Said → Result (Numbered × Bool) JournalFault
+abbrev pub went_on : ℕ → Timeline → Texts → (Timeline → Result (Timeline × Bool) JournalFault)
+    → Said → Result (Timeline × Bool) JournalFault
 went_on line read lines go (More entry) = go (read ++ entry ∷ [])
 went_on line read lines go (Last complete) = ended line lines (read, complete)
 went_on line read lines go (Bad kind) = Err (Line line kind)
 
 -- the lines from this one on, after the entries before it
-abbrev pub lines_say : Bool → Network → ℕ → Numbered → Texts → Result (Numbered × Bool) JournalFault
+abbrev pub lines_say : Bool → Network → ℕ → Timeline → Texts → Result (Timeline × Bool) JournalFault
 lines_say stamped net line read [] = unended line []
 lines_say stamped net line read (rest ∷ []) = unended line rest
 lines_say stamped net line read (text ∷ next ∷ lines) =
@@ -81,20 +81,20 @@ version_of line =
 abbrev pub ReadText : Type 0
 ReadText = List Entry × Option (List ℕ) × Bool
 
-abbrev pub as_read : Bool → Numbered × Bool → ReadText
+abbrev pub as_read : Bool → Timeline × Bool → ReadText
 as_read stamped (entries, complete) = (
   map (λ (p : ℕ × Entry). p.1) entries,
   cond stamped (Some (map (λ (p : ℕ × Entry). p.0) entries)) None,
   complete,
 )
 
-abbrev pub given : Bool → Result (Numbered × Bool) JournalFault → Result ReadText JournalFault
-given stamped (Err fault) = Err fault
-given stamped (Ok read) = Ok (as_read stamped read)
+abbrev pub read_as : Bool → Result (Timeline × Bool) JournalFault → Result ReadText JournalFault
+read_as stamped (Err fault) = Err fault
+read_as stamped (Ok read) = Ok (as_read stamped read)
 
 abbrev pub body_says : Network → Option Bool → Texts → Result ReadText JournalFault
 body_says net None lines = Err (Line 1 Header)
-body_says net (Some stamped) lines = given stamped (lines_say stamped net 2 [] lines)
+body_says net (Some stamped) lines = read_as stamped (lines_say stamped net 2 [] lines)
 
 abbrev pub text_says : Network → Texts → Result ReadText JournalFault
 text_says net [] = Err (Line 1 Header)

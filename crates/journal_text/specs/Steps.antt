@@ -1,5 +1,5 @@
 -- One step of reading a list of items.
-use Rattle.std.specs.Prelude.{◌≡◌, ℕ, Bool, nat_lt, length, List, ◌∷◌, ◌++◌, Some, Err}
+use Rattle.std.specs.Prelude.{◌≡◌, ℕ, Bool, nat_lt, length, List, ◌∷◌, Some, Err}
 use Rattle.std.specs.List.{list_all}
 use Rattle.transition_table.specs.declared.decl.StateDecl.{StateDecl}
 use Rattle.transition_table.specs.declared.network.Network.{Network}
@@ -26,10 +26,6 @@ GivesValue net named items value after = (things : List Named)
 abbrev pub StopsValues : Network → Named → Texts → JournalKind → Type 0
 StopsValues net named items kind = (things : List Named)
     → all_values net (named ∷ things) items ≡ Err kind
-
--- the codes of the inputs and then the values of the state variables
-abbrev pub whole : List ℕ × List ℕ → List ℕ
-whole (present, values) = present ++ values
 
 -- the events are of the network, and the domains of the state variables are
 abbrev pub are_events : Network → List ℕ → Bool

@@ -3,7 +3,8 @@ ghost use Rattle.std.specs.Prelude.{◌≡◌, ◌<◌, ◌≤◌, ◌+◌, ◌+
 ghost use Rattle.std.specs.List.{list_all, prefix_len};
 ghost use Rattle.journal_text.specs.Forms.{pieces, is_word_byte, is_word, is_sign, lines_of, words_of, list_of, dash};
 ghost use Rattle.domains.specs.Names.{is_same};
-ghost use Rattle.journal_text.specs.Cursors.{lacks, left, items_in, CutAt, NoCut, SkippedTo};
+ghost use Rattle.journal_text.specs.Cursors.{lacks, left, items_in, CutAt, NoCut};
+ghost use Rattle.journal_text.specs.inner.Cursors.{SkippedTo};
 ghost use Rattle.memchr.specs.Find.{IsFirstByte, is_byte};
 
 use memchr::{memchr, memrchr};

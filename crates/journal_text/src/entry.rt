@@ -4,7 +4,7 @@ ghost use Rattle.transition_table.specs.Transitions.{OfMachine, blank};
 ghost use Rattle.journal_text.specs.Forms.{DepForm, FireForm, IdleForm};
 ghost use Rattle.journal_text.specs.Items.{snapshot_read, result_read, map_read, entry_read};
 ghost use Rattle.journal_text.specs.Cursors.{items_in, AreLists};
-ghost use Rattle.journal_text.specs.Steps.{whole};
+ghost use Rattle.journal_text.specs.inner.Steps.{whole};
 ghost use Rattle.journal_text.specs.Lines.{as_form, HasLists};
 ghost use Rattle.journal_text.specs.declared.fault.JournalKind.{JournalKind};
 ghost use Rattle.journal_text.specs.declared.codes.Stop.{Stop};
@@ -13,7 +13,8 @@ use crate::codes::{Stop, codes_of_events, codes_of_states, push_values};
 use crate::fault::JournalKind;
 use crate::form::Form;
 use crate::index::Index;
-use crate::item::{code, party_of_name, split};
+use crate::item::{party_of_name, split};
+use crate::value::code_of_word;
 use journals::Entry;
 use std::alloc::Global;
 use transition_table::{Network, Outcome, Snapshot};
@@ -33,7 +34,7 @@ fn delivery(index: &Index, from: &[u8], to: &[u8], event: &[u8]) -> Result<Entry
         return Err(JournalKind::Name);
     };
     let net = index.net;
-    match code(net, net.events.get(event as u64).domain, value) {
+    match code_of_word(net, net.events.get(event as u64).domain, value) {
         None => Err(JournalKind::Value),
         Some(code) => Ok(Entry::Dep {
             from,

@@ -1,8 +1,10 @@
 // The forms of a line.
 ghost use Rattle.std.specs.Prelude.{◌≡◌, [], ◌∷◌, true, is_some, Some, None, IfSome, IfNone, IsFalse};
 ghost use Rattle.journal_text.specs.Forms.{words_of, list_of, two_lists, four_lists, decimal_of, ending_of, stamp_of, last_form, stamped_form, dep_form, reaction_form, entry_form};
-ghost use Rattle.journal_text.specs.Cursors.{items_in, AreLists, three_of};
-ghost use Rattle.journal_text.specs.Lines.{as_form, HasLists, NoReaction, fire_words, idle_words};
+ghost use Rattle.journal_text.specs.Cursors.{items_in, AreLists};
+ghost use Rattle.journal_text.specs.inner.Cursors.{three_of};
+ghost use Rattle.journal_text.specs.Lines.{as_form, HasLists};
+ghost use Rattle.journal_text.specs.inner.Lines.{NoReaction, fire_words, idle_words};
 
 use crate::cut::{cut_at, is_a_list, is_a_word, next_piece, next_word};
 use polis_base::read_decimal;

@@ -1,16 +1,14 @@
 // What the words of a line name.
-ghost use Rattle.std.specs.Prelude.{◌≡◌, ◌<◌, ◌≤◌, ◌∷◌, List, length, option_copied, Some, Err, IfOk, IfErr, IfSome, IfNone, IsTrue};
-ghost use Rattle.domains.specs.Domains.{size_of};
-ghost use Rattle.transition_table.specs.NetworkFacts.{values_of, has_domain};
+ghost use Rattle.std.specs.Prelude.{◌≡◌, ◌<◌, ◌∷◌, List, length, option_copied, Some, Err, IfOk, IfErr, IfSome, IfNone, IsTrue};
 ghost use Rattle.journals.specs.Journals.{is_party};
-ghost use Rattle.journal_text.specs.Items.{name_part, value_part_of, party_named, value_named, code_of, as_state};
+ghost use Rattle.journal_text.specs.Items.{name_part, value_part_of, party_named, as_state};
 ghost use Rattle.journal_text.specs.Cursors.{left};
 ghost use Rattle.journal_text.specs.Steps.{Steps, Stops, GivesValue, StopsValues};
 
 use crate::cut::next_piece;
 use crate::fault::JournalKind;
 use crate::index::Index;
-use domains::{Domain, laws};
+use crate::value::code_of_word;
 use transition_table::{Network, Party, StateDecl};
 
 /// The name of an item, up to its first `=`, and what stands after that.
@@ -29,35 +27,6 @@ pub fn party_of_name(index: &Index, word: &[u8]) -> Option<Party>
         return Some(Party::Env);
     }
     Some(Party::Machine(index.machine(word)?))
-}
-
-// The value of a domain that has this word.
-fn value_in(domain: &Domain, word: &[u8]) -> Option<u8>
-    ensures value { result ≡ value_named word.now domain.now }
-    ensures below { IfSome result (λ v. v < size_of domain.now) }
-    ensures few { IfSome result (λ v. v < 32) }
-{
-    laws();
-    let _size = domain.size();
-    domain.value_of(word)
-}
-
-/// The code of what has this domain, or none, with the word after `=`.
-pub fn code(net: &Network, domain: Option<u32>, word: Option<&[u8]>) -> Option<u8>
-    requires { IfSome domain (λ d. d < length net.now.domains) }
-    ensures code { result ≡ code_of net.now domain (option_copied word.entry) }
-    ensures some { IfSome result (λ c. 1 ≤ c) }
-{
-    match domain {
-        None => match word {
-            None => Some(1),
-            Some(_) => None,
-        },
-        Some(d) => match word {
-            None => None,
-            Some(word) => Some(value_in(net.domains.get(d as u64), word)? + 1),
-        },
-    }
 }
 
 /// The code that the next item gives a thing of this name and domain, with the items after it; or 0
@@ -82,7 +51,7 @@ pub fn code_of_next<'a>(
     let (item, after) = next_piece(text, b' ');
     let (found, value) = split(item);
     if name == found {
-        Some((code(net, domain, value)?, after))
+        Some((code_of_word(net, domain, value)?, after))
     } else {
         Some((0, Some(text)))
     }
@@ -108,7 +77,7 @@ pub fn value_of_next<'a>(
     let (item, after) = next_piece(text, b' ');
     let (found, value) = split(item);
     if variable.name.bytes() == found {
-        match code(net, Some(variable.domain), value) {
+        match code_of_word(net, Some(variable.domain), value) {
             Some(code) => Ok((code - 1, after)),
             None => Err(JournalKind::Value),
         }

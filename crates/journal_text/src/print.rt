@@ -1,10 +1,12 @@
 // The texts that are written.
 ghost use Rattle.std.specs.List.{zip};
 ghost use Rattle.std.specs.Prelude.{◌≡◌, ◌<◌, ◌+◌, ◌++◌, flat_map, length, Some, OnOk, IfOk, IsTrue};
-ghost use Rattle.transition_table.specs.NetworkFacts.{values_of, has_vars, has_outputs};
+ghost use Rattle.transition_table.specs.NetworkFacts.{values_of, has_vars};
+ghost use Rattle.transition_table.specs.inner.NetworkFacts.{has_outputs};
 ghost use Rattle.transition_table.specs.Transitions.{IsSnapshot, IsOutcome};
 ghost use Rattle.journals.specs.Journals.{IsJournal, FitsNetwork, is_event_code, is_party, emitted, emissions};
-ghost use Rattle.journal_text.specs.Texts.{stamped_journal_text, stamped_line, stamp_text, AreStamps, output_text, count_text, entry_line, delivery_text, reaction_text, snapshot_text, result_text, event_item, event_items, state_item, state_items, set_items, spaced, value_part, machine_name, party_name, lead, end_mark, are_event_codes, are_values, are_settings, state_size, output_lines};
+ghost use Rattle.journal_text.specs.Texts.{stamped_journal_text, stamped_line, stamp_text, AreStamps, output_text, count_text, entry_line, delivery_text, reaction_text, snapshot_text, result_text, event_item, event_items, state_item, state_items, set_items, spaced, value_part, machine_name, party_name};
+ghost use Rattle.journal_text.specs.inner.Texts.{lead, end_mark, are_event_codes, are_values, are_settings, state_size, output_lines};
 
 use journals::{Entry, Journal, Stamps};
 use polis_base::{Bytes, NoMemory};

@@ -1,11 +1,12 @@
 // Reading a journal text.
 ghost use Rattle.std.specs.Prelude.{◌≡◌, ◌≢◌, ℕ, ◌≤◌, ◌+◌, ◌++◌, [], ◌∷◌, length, Some, Ok, Err, IfOk, IfErr, IfSome};
+ghost use Rattle.polis_base.specs.declared.limits.TheConstants.{ENTRIES_MAX};
 ghost use Rattle.journals.specs.Journals.{IsJournal};
 ghost use Rattle.std.specs.List.{zip};
-ghost use Rattle.journal_text.specs.Lines.{at_line};
+ghost use Rattle.journal_text.specs.inner.Lines.{at_line};
 ghost use Rattle.journal_text.specs.Texts.{AreStamps};
 ghost use Rattle.journal_text.specs.Forms.{Text, lines_of};
-ghost use Rattle.journal_text.specs.Reading.{ReadText, version_of, ended, unended, given, body_says, read_of};
+ghost use Rattle.journal_text.specs.Reading.{ReadText, version_of, ended, unended, read_as, body_says, read_of};
 ghost use Rattle.journal_text.specs.Laws.{prefix_fault};
 ghost use Rattle.journal_text.specs.Answered.{text_of, IsPrintable, Gives, Refuses};
 ghost use Rattle.journal_text.specs.declared.fault.JournalFault.{JournalFault};
@@ -101,10 +102,10 @@ fn finish(
     requires stamps { length stamps ≡ length journal }
     requires line { line ≤ 60002 }
     ensures ok { IfOk result
-        (λ r. given stamped (ended line (lines_of after.now) (zip stamps journal, says_complete))
+        (λ r. read_as stamped (ended line (lines_of after.now) (zip stamps journal, says_complete))
         ≡ Ok (r.journal, r.stamps, r.says_complete)) }
     ensures fault { IfErr result (λ fault.
-        given stamped (ended line (lines_of after.now) (zip stamps journal, says_complete))
+        read_as stamped (ended line (lines_of after.now) (zip stamps journal, says_complete))
         ≡ Err fault) }
 {
     if !after.is_empty() {
@@ -180,7 +181,7 @@ fn read_text(alloc: Global, net: &Network, text: &[u8]) -> Result<ReadJournal, J
     ensures ok { IfOk result (λ r. read_of net.now text.now
         ≡ Ok (r.journal, r.stamps, r.says_complete)) }
     ensures fits { IfOk result (λ r. IsJournal net.now r.journal) }
-    ensures few { IfOk result (λ r. length r.journal ≤ 60000) }
+    ensures few { IfOk result (λ r. length r.journal ≤ ENTRIES_MAX) }
     ensures stamps { IfOk result (λ r. IfSome r.stamps (AreStamps r.journal)) }
     ensures fault { (fault : JournalFault) → result ≡ Err fault → fault ≢ JournalFault.NoMemory
         → read_of net.now text.now ≡ Err fault }
@@ -201,7 +202,7 @@ pub fn read_journal(alloc: Global, net: &Network, text: &[u8]) -> Result<ReadJou
     ensures ok { IfOk result (λ r. read_of net.now text.now
         ≡ Ok (r.journal, r.stamps, r.says_complete)) }
     ensures fits { IfOk result (λ r. IsJournal net.now r.journal) }
-    ensures few { IfOk result (λ r. length r.journal ≤ 60000) }
+    ensures few { IfOk result (λ r. length r.journal ≤ ENTRIES_MAX) }
     ensures stamps { IfOk result (λ r. IfSome r.stamps (AreStamps r.journal)) }
     ensures fault { (fault : JournalFault) → result ≡ Err fault → fault ≢ JournalFault.NoMemory
         → read_of net.now text.now ≡ Err fault }

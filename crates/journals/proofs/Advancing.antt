@@ -24,7 +24,7 @@ use Rattle.journals.proofs.Moved.{get_or-table, set-table}
 use Rattle.journals.proofs.Owing.{reaction_owes, delivery_owes}
 use Rattle.journals.proofs.Sent.{delivered_own, delivered_other, delivered_by_reaction, delivered_begins_sent, may_follow_next}
 
-machine_within : (net : Network) (entry : Entry) → FitsNetwork net entry
+pub machine_within : (net : Network) (entry : Entry) → FitsNetwork net entry
     → machine_of entry < length net.machines
 machine_within net (Dep from to e c) h =
     ltb-true to (length net.machines)

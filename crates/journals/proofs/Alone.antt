@@ -51,7 +51,7 @@ reacts_by_own net trace prefix entry rest alone =
     (reacts_at net [] (filter (of_machine m) prefix) entry (filter (of_machine m) rest)
     (subst (ReactsAfter net []) parts alone.reacting))
 
-fitting_prefix : (net : Network) (prefix rest : List Entry) → IsJournal net (prefix ++ rest)
+pub fitting_prefix : (net : Network) (prefix rest : List Entry) → IsJournal net (prefix ++ rest)
     → IsJournal net prefix
 fitting_prefix net [] rest h = tt
 fitting_prefix net (entry ∷ prefix) rest h = (h.0, fitting_prefix net prefix rest h.1)

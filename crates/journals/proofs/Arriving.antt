@@ -19,11 +19,11 @@ use Rattle.journals.proofs.Fitting.{receivers_within, emissions_fit}
 use Rattle.journals.proofs.Sent.{same_party_self}
 use Rattle.journals.proofs.Ways.{receivers_once}
 
-or_left : (a b : Bool) → a ≡ true → (a || b) ≡ true
+pub or_left : (a b : Bool) → a ≡ true → (a || b) ≡ true
 or_left true b h = refl
 or_left false b h = absurd (false≢true h)
 
-or_right : (a b : Bool) → b ≡ true → (a || b) ≡ true
+pub or_right : (a b : Bool) → b ≡ true → (a || b) ≡ true
 or_right true b h = refl
 or_right false b h = h
 
@@ -95,7 +95,7 @@ all_may_arrive net s ((e, c) ∷ ps) party h =
 
 -- ---- from whom they are
 
-from_sender : (s : Party) (e c : ℕ) (receivers : List ℕ)
+pub from_sender : (s : Party) (e c : ℕ) (receivers : List ℕ)
     → list_all (λ (d : Owed). same_party d.from s)
     (map (λ m. record { from = s; to = m; event = e; code = c }) receivers) ≡ true
 from_sender s e c [] = refl
@@ -105,7 +105,7 @@ from_sender s e c (m ∷ receivers) =
     (map (λ m. record { from = s; to = m; event = e; code = c }) receivers))
     (same_party_self s) (from_sender s e c receivers)
 
-all_from_sender : (net : Network) (s : Party) (ps : List (ℕ × ℕ))
+pub all_from_sender : (net : Network) (s : Party) (ps : List (ℕ × ℕ))
     → list_all (λ (d : Owed). same_party d.from s) (flat_map (deliveries_of net s) ps) ≡ true
 all_from_sender net s [] = refl
 all_from_sender net s ((e, c) ∷ ps) =

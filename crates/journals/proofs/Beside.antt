@@ -13,7 +13,7 @@ use Rattle.transition_table.specs.declared.network.Network.{Network}
 use Rattle.journals.specs.declared.entry.Entry.{Entry}
 use Rattle.journals.specs.declared.entry.Entry.TheVariants.{Dep, Rea}
 use Rattle.journals.specs.declared.entry.TraceItem.{TraceItem}
-use Rattle.journals.specs.Journals.{reads, same_party, inputs_of, states_of, is_firing_of, is_reaction_of, is_delivery_to, code_brought, place, value_given, initial, state, snap, is_woken, emissions, delivery, delivered, sent}
+use Rattle.journals.specs.Journals.{reads, same_party, inputs_of, states_of, is_firing_of, is_reaction_of, is_delivery_to, code_brought, buffered, value_given, initial, state, snap, is_woken, emissions, delivery, delivered, sent}
 use Rattle.journals.specs.Logs.{of_machine}
 use Rattle.journals.proofs.Moved.{after_last_push}
 
@@ -134,7 +134,7 @@ woken_by_own m journal =
     (delivery_is_own m)
 
 place_by_own : (m x : ℕ) (journal : List Entry)
-    → place (filter (of_machine m) journal) m x ≡ place journal m x
+    → buffered (filter (of_machine m) journal) m x ≡ buffered journal m x
 place_by_own m x journal =
     ap (λ l. last_of 0 (filter_map (code_brought m x) l))
     (after_of_filter (is_firing_of m) (of_machine m) journal (firing_is_own m))

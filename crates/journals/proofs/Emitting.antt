@@ -5,7 +5,7 @@ use Rattle.std.proofs.Common.{ap, ◌∙◌, arith}
 use Rattle.std.proofs.lemmas.List.{drop_more}
 use Rattle.std.proofs.lemmas.Bool.{ltb-true, and_parts}
 use Rattle.std.proofs.lemmas.Option.{slice_get_within, get_or_from_slice_get}
-use Rattle.transition_table.specs.NetworkFacts.{is_numbered}
+use Rattle.transition_table.specs.inner.NetworkFacts.{is_numbered}
 use Rattle.transition_table.specs.declared.machine.Machine.{Machine}
 use Rattle.transition_table.specs.declared.network.Network.{Network}
 use Rattle.journals.specs.Journals.{outputs_of, emitted}
@@ -30,7 +30,7 @@ pub outputs_of_machine : (net : Network) (m : ℕ) (machine : Machine)
 outputs_of_machine net m machine at =
     ap (λ (o : Option Machine). unwrap_or (option_map (λ machine. machine.outputs) o) []) at
 
-drop_at_item : {X : Type 0} (xs : List X) (i : ℕ) (x : X) → slice_get xs i ≡ Some x
+pub drop_at_item : {X : Type 0} (xs : List X) (i : ℕ) (x : X) → slice_get xs i ≡ Some x
     → drop i xs ≡ x ∷ drop (i + 1) xs
 drop_at_item xs i x at = drop_more xs i x (slice_get_within xs i x at)
     ∙ ap (λ y. y ∷ drop (i + 1) xs) (get_or_from_slice_get xs i x x at)

@@ -7,11 +7,7 @@ use Rattle.journals.specs.declared.entry.TraceItem.{TraceItem}
 use Rattle.journals.specs.Journals.{FitsNetwork, IsJournal}
 use Rattle.journals.specs.Legality.{Legal, MayFollow, MayGoOn}
 use Rattle.journals.specs.Laws.{PrefixesAreLegal, GoesOnBySteps}
-
-fitting_prefix : (net : Network) (prefix rest : List Entry) → IsJournal net (prefix ++ rest)
-    → IsJournal net prefix
-fitting_prefix net [] rest h = tt
-fitting_prefix net (entry ∷ prefix) rest h = (h.0, fitting_prefix net prefix rest h.1)
+use Rattle.journals.proofs.Alone.{fitting_prefix}
 
 legal_prefix : (net : Network) (trace : List TraceItem) (before prefix rest : List Entry)
     → MayGoOn net trace before (prefix ++ rest) → MayGoOn net trace before prefix
@@ -28,7 +24,7 @@ fitting_last : (net : Network) (journal : List Entry) (entry : Entry)
 fitting_last net [] entry h = h.0
 fitting_last net (first ∷ journal) entry h = fitting_last net journal entry h.1
 
-fitting_more : (net : Network) (journal : List Entry) (entry : Entry) → IsJournal net journal
+pub fitting_more : (net : Network) (journal : List Entry) (entry : Entry) → IsJournal net journal
     → FitsNetwork net entry → IsJournal net (journal ++ entry ∷ [])
 fitting_more net [] entry h f = (f, tt)
 fitting_more net (first ∷ journal) entry h f = (h.0, fitting_more net journal entry h.1 f)

@@ -1,27 +1,27 @@
-mod Advancing
-mod Alone
-mod Arriving
-mod Beside
-mod Bounded
-mod Cursors
-mod Emitting
-mod Fitting
-mod Following
-mod Legal
-mod Moment
-mod Moved
-mod Next
-mod Owing
-mod Peeking
-mod Reacting
-mod Refused
-mod Readiness
-mod Runs
-mod Sent
-mod Stopping
-mod Ways
-mod Stamping
-mod StampSteps
-mod Origins
-mod Merging
-mod OriginPlaces
+pub mod Advancing
+pub mod Alone
+pub mod Arriving
+pub mod Beside
+pub mod Bounded
+pub mod Cursors
+pub mod Emitting
+pub mod Fitting
+pub mod Following
+pub mod Legal
+pub mod Moment
+pub mod Moved
+pub mod Next
+pub mod Owing
+pub mod Peeking
+pub mod Reacting
+pub mod Refused
+pub mod Readiness
+pub mod Runs
+pub mod Sent
+pub mod Stopping
+pub mod Ways
+pub mod Stamping
+pub mod StampSteps
+pub mod Origins
+pub mod Merging
+pub mod OriginPlaces

@@ -21,13 +21,14 @@ use Rattle.transition_table.specs.declared.snapshot.Snapshot.{Snapshot}
 use Rattle.transition_table.specs.declared.snapshot.Outcome.{Outcome}
 use Rattle.journals.specs.declared.entry.Entry.{Entry}
 use Rattle.journals.specs.declared.entry.Entry.TheVariants.{Dep, Rea}
-use Rattle.journals.specs.Journals.{FitsNetwork, IsJournal, is_party, is_event_code, inputs_of, states_of, is_firing_of, code_brought, place, value_set, value_given, initial, state, snap}
+use Rattle.journals.specs.Journals.{FitsNetwork, IsJournal, is_party, is_event_code, inputs_of, states_of, is_firing_of, code_brought, buffered, value_set, value_given, initial, state, snap}
 use Rattle.journals.proofs.Moved.{length-upto, get_or-upto}
 use Rattle.journals.proofs.Ways.{passes_of_all}
+use Rattle.transition_table.proofs.Ranges.{below_size}
 
 -- ---- lists
 
-fits_after_fits : (sizes more xs ys : List ℕ) → fits sizes xs ≡ true → fits more ys ≡ true
+pub fits_after_fits : (sizes more xs ys : List ℕ) → fits sizes xs ≡ true → fits more ys ≡ true
     → fits (sizes ++ more) (xs ++ ys) ≡ true
 fits_after_fits [] more [] ys h g = g
 fits_after_fits [] more (x ∷ xs) ys h g = absurd (false≢true h)
@@ -46,15 +47,6 @@ fits_from_each (size ∷ sizes) [] same h = absurd (omega arith)
 fits_from_each (size ∷ sizes) (c ∷ codes) same h =
     and_from (nat_lt c size) (fits sizes codes) (lt-ltb c size (h 0 (omega arith)))
     (fits_from_each sizes codes (omega arith) (λ k below. h (suc k) (omega arith)))
-
-each_from_fits : (sizes codes : List ℕ) (k : ℕ) → fits sizes codes ≡ true → k < length sizes
-    → slice_index codes k < slice_index sizes k
-each_from_fits [] codes k h below = absurd (omega arith)
-each_from_fits (size ∷ sizes) [] k h below = absurd (false≢true h)
-each_from_fits (size ∷ sizes) (c ∷ codes) zero h below =
-    ltb-true c size (and_parts (nat_lt c size) (fits sizes codes) h).0
-each_from_fits (size ∷ sizes) (c ∷ codes) (suc k) h below =
-    each_from_fits sizes codes k (and_parts (nat_lt c size) (fits sizes codes) h).1 (omega arith)
 
 get_of_upto : (f : ℕ → ℕ) (n k : ℕ) → k < n → slice_index (map f (upto n)) k ≡ f k
 get_of_upto f n k h = let size = length-upto n in get_or-map f (upto n) k 0 0 (omega arith)
@@ -107,7 +99,7 @@ brought_fits net m e (Dep from to event code ∷ journal) h =
     cases false is rest = rest
 
 place_fits : (net : Network) (journal : List Entry) (m e : ℕ) → IsJournal net journal
-    → place journal m e < 1 + event_values net.domains net.events e
+    → buffered journal m e < 1 + event_values net.domains net.events e
 place_fits net journal m e h =
     last_below (1 + event_values net.domains net.events e) 0
     (filter_map (code_brought m e) (after_last (is_firing_of m) journal)) (omega arith)
@@ -116,13 +108,13 @@ place_fits net journal m e h =
 places_fit : (net : Network) (journal : List Entry) (m : ℕ) (events : List ℕ)
     → IsJournal net journal
     → fits (map (λ e. 1 + event_values net.domains net.events e) events)
-    (map (place journal m) events) ≡ true
+    (map (buffered journal m) events) ≡ true
 places_fit net journal m [] h = refl
 places_fit net journal m (e ∷ events) h =
-    and_from (nat_lt (place journal m e) (1 + event_values net.domains net.events e))
+    and_from (nat_lt (buffered journal m e) (1 + event_values net.domains net.events e))
     (fits (map (λ e. 1 + event_values net.domains net.events e) events)
-    (map (place journal m) events))
-    (lt-ltb (place journal m e) (1 + event_values net.domains net.events e)
+    (map (buffered journal m) events))
+    (lt-ltb (buffered journal m e) (1 + event_values net.domains net.events e)
     (place_fits net journal m e h))
     (places_fit net journal m events h)
 
@@ -243,7 +235,7 @@ next_fits machine o x fit h =
     let size = length-drop 1 machine.results in
     let here = get_or_append_left o.next o.outs 0 x (omega arith) in
     let below =
-    each_from_fits (drop 1 machine.results) (o.next ++ o.outs) x fit.codes (omega arith) in
+    below_size (drop 1 machine.results) (o.next ++ o.outs) x fit.codes (omega arith) in
     let there = get_or-drop 1 machine.results x 0 in
     let what = state_result machine x h in
     omega arith
@@ -330,10 +322,10 @@ snap_fits net journal m machine h is =
     let count = length_state_sizes machine in
     let whole : fits
     (map (λ e. 1 + event_values net.domains net.events e) machine.inputs ++ state_sizes machine)
-    (map (place journal m) machine.inputs
+    (map (buffered journal m) machine.inputs
     ++ map (state net journal m) (upto (length machine.states))) ≡ true =
     fits_after_fits (map (λ e. 1 + event_values net.domains net.events e) machine.inputs)
-    (state_sizes machine) (map (place journal m) machine.inputs)
+    (state_sizes machine) (map (buffered journal m) machine.inputs)
     (map (state net journal m) (upto (length machine.states)))
     (places_fit net journal m machine.inputs h)
     (fits_from_each (state_sizes machine) (map (state net journal m) (upto (length machine.states)))
@@ -347,18 +339,19 @@ snap_fits net journal m machine h is =
     subst
     (λ vars.
     fits vars
-    (map (place journal m) (inputs_of net m)
+    (map (buffered journal m) (inputs_of net m)
     ++ map (state net journal m) (upto (length (states_of net m)))) ≡ true)
     (sym (vars_of_inputs net m machine is))
     (subst
     (λ (l : List StateDecl). fits
     (map (λ e. 1 + event_values net.domains net.events e) machine.inputs ++ state_sizes machine)
-    (map (place journal m) (inputs_of net m) ++ map (state net journal m) (upto (length l))) ≡ true)
+    (map (buffered journal m) (inputs_of net m)
+    ++ map (state net journal m) (upto (length l))) ≡ true)
     (sym states)
     (subst
     (λ (l : List ℕ). fits
     (map (λ e. 1 + event_values net.domains net.events e) machine.inputs ++ state_sizes machine)
-    (map (place journal m) l ++ map (state net journal m) (upto (length machine.states))) ≡ true)
+    (map (buffered journal m) l ++ map (state net journal m) (upto (length machine.states))) ≡ true)
     (sym inputs) whole))
 
 pub snap_fits_below : (net : Network) (journal : List Entry) (m : ℕ) → IsJournal net journal

@@ -17,7 +17,7 @@ use Rattle.transition_table.specs.declared.snapshot.Snapshot.{Snapshot}
 use Rattle.transition_table.specs.declared.snapshot.Outcome.{Outcome}
 use Rattle.journals.specs.declared.entry.Entry.{Entry}
 use Rattle.journals.specs.declared.entry.Entry.TheVariants.{Dep, Rea}
-use Rattle.journals.specs.Journals.{inputs_of, states_of, is_firing_of, is_reaction_of, is_delivery_to, code_brought, place, value_set, value_given, initial, state, snap, is_woken}
+use Rattle.journals.specs.Journals.{inputs_of, states_of, is_firing_of, is_reaction_of, is_delivery_to, code_brought, buffered, value_set, value_given, initial, state, snap, is_woken}
 use Rattle.journals.specs.Laws.{FittingSuits, SnapWidth}
 use Rattle.journals.specs.Moved.{machine_of, is_dep, code_after, codes_after, moments_of}
 
@@ -51,7 +51,8 @@ last_of_push d (x ∷ xs) y = last_of_push x xs y
 -- ---- the places
 
 pub place_dep : (journal : List Entry) (s : Party) (to e c m x : ℕ)
-    → place (journal ++ Dep s to e c ∷ []) m x ≡ cond (to == m && e == x) c (place journal m x)
+    → buffered (journal ++ Dep s to e c ∷ []) m x
+    ≡ cond (to == m && e == x) c (buffered journal m x)
 place_dep journal s to e c m x =
     let entry : Entry = Dep s to e c in
     let kept : List Entry = after_last (is_firing_of m) journal in
@@ -63,7 +64,7 @@ place_dep journal s to e c m x =
     ∙ (elim
     (to == m && e == x) as (λ b. (to == m && e == x) ≡ b
     → last_of 0 (filter_map (code_brought m x) kept ++ filter_map (code_brought m x) (entry ∷ []))
-    ≡ cond b c (place journal m x)) [
+    ≡ cond b c (buffered journal m x)) [
       | true ↦ λ here.
           let one : filter_map (code_brought m x) (entry ∷ []) ≡ c ∷ [] = rw here refl in
           ap (λ l. last_of 0 (filter_map (code_brought m x) kept ++ l)) one
@@ -75,7 +76,7 @@ place_dep journal s to e c m x =
     ] refl)
 
 pub place_rea : (journal : List Entry) (k : ℕ) (s : Snapshot) (o : Outcome) (m x : ℕ)
-    → place (journal ++ Rea k s o ∷ []) m x ≡ cond (k == m && o.fires) 0 (place journal m x)
+    → buffered (journal ++ Rea k s o ∷ []) m x ≡ cond (k == m && o.fires) 0 (buffered journal m x)
 place_rea journal k s o m x =
     let entry : Entry = Rea k s o in
     let kept : List Entry = after_last (is_firing_of m) journal in
@@ -84,7 +85,7 @@ place_rea journal k s o m x =
     ∙ (elim
     (k == m && o.fires) as (λ b.
     last_of 0 (filter_map (code_brought m x) (cond b [] (kept ++ entry ∷ [])))
-    ≡ cond b 0 (place journal m x)) [
+    ≡ cond b 0 (buffered journal m x)) [
       | true ↦ refl
       | false ↦
           ap (last_of 0)
@@ -220,7 +221,7 @@ set-table {X} f g n m y below here others =
 
 -- ---- the empty journal
 
-no_places : (m : ℕ) (inputs : List ℕ) → map (place [] m) inputs ≡ replicate (length inputs) 0
+no_places : (m : ℕ) (inputs : List ℕ) → map (buffered [] m) inputs ≡ replicate (length inputs) 0
 no_places m [] = refl
 no_places m (x ∷ inputs) = ap (λ l. 0 ∷ l) (no_places m inputs)
 
@@ -263,7 +264,7 @@ moments_more net journal n s e = ap (λ x. map (snap net journal) (upto n) ++ x 
 -- ---- the snapshot of one machine
 
 place_away : (journal : List Entry) (entry : Entry) (k x : ℕ) → (machine_of entry == k) ≡ false
-    → place (journal ++ entry ∷ []) k x ≡ place journal k x
+    → buffered (journal ++ entry ∷ []) k x ≡ buffered journal k x
 place_away journal (Dep s to e c) k x h = place_dep journal s to e c k x ∙ rw h refl
 place_away journal (Rea m s o) k x h = place_rea journal m s o k x ∙ rw h refl
 
@@ -286,14 +287,15 @@ snap_away net journal entry k other =
 
 place_code : (machine : Machine) (journal : List Entry) (entry : Entry) (i x : ℕ)
     → slice_get machine.inputs i ≡ Some x
-    → place (journal ++ entry ∷ []) (machine_of entry) x
-    ≡ code_after machine entry i (place journal (machine_of entry) x)
+    → buffered (journal ++ entry ∷ []) (machine_of entry) x
+    ≡ code_after machine entry i (buffered journal (machine_of entry) x)
 place_code machine journal (Dep s to e c) i x at = place_dep journal s to e c to x
     ∙ rw (eq-eqb to to refl)
     (sym
     (ap
-    (λ (o : Option ℕ). unwrap_or (option_map (λ input. cond (e == input) c (place journal to x)) o)
-    (place journal to x)) at))
+    (λ (o : Option ℕ).
+    unwrap_or (option_map (λ input. cond (e == input) c (buffered journal to x)) o)
+    (buffered journal to x)) at))
 place_code machine journal (Rea m s o) i x at = place_rea journal m s o m x
     ∙ rw
     (eq-eqb m m refl, lt-ltb i (length machine.inputs) (slice_get_within machine.inputs i x at))
@@ -314,15 +316,15 @@ state_code net machine journal (Rea m s o) i x past is = state_rea net journal m
     ∙ rw (eq-eqb m m refl, le-ltb i (length machine.inputs) past, is) refl
 
 moved_codes : (net : Network) (machine : Machine) (journal : List Entry) (entry : Entry) (n : ℕ) →
-    map (place (journal ++ entry ∷ []) (machine_of entry)) machine.inputs
+    map (buffered (journal ++ entry ∷ []) (machine_of entry)) machine.inputs
     ++ map (state net (journal ++ entry ∷ []) (machine_of entry)) (upto n)
     ≡ codes_after machine entry
-    (map (place journal (machine_of entry)) machine.inputs
+    (map (buffered journal (machine_of entry)) machine.inputs
     ++ map (state net journal (machine_of entry)) (upto n))
 moved_codes net machine journal entry n =
     let m = machine_of entry in
-    let p : ℕ → ℕ = place journal m in
-    let q : ℕ → ℕ = place (journal ++ entry ∷ []) m in
+    let p : ℕ → ℕ = buffered journal m in
+    let q : ℕ → ℕ = buffered (journal ++ entry ∷ []) m in
     let f : ℕ → ℕ = state net journal m in
     let g : ℕ → ℕ = state net (journal ++ entry ∷ []) m in
     let old = map p machine.inputs ++ map f (upto n) in
@@ -377,7 +379,7 @@ snap_after net machine journal entry s before at was is =
     ap (λ (o : Option Machine). unwrap_or (option_map (λ machine. machine.inputs) o) []) at in
     let whole : List Entry → List ℕ
     → List ℕ = λ entries list.
-    map (place entries m) list ++ map (state net entries m) (upto (length (states_of net m))) in
+    map (buffered entries m) list ++ map (state net entries m) (upto (length (states_of net m))) in
     let same = is ∙ ap (λ (x : Snapshot). codes_after machine entry x.codes) was
     ∙ ap (λ list. codes_after machine entry (whole journal list)) inputs
     ∙ sym (moved_codes net machine journal entry (length (states_of net m)))
@@ -413,9 +415,9 @@ snap_width net m machine journal at =
     ap (λ (o : Option Machine). unwrap_or (option_map (λ machine. machine.inputs) o) []) at in
     let states : states_of net m ≡ machine.states =
     ap (λ (o : Option Machine). unwrap_or (option_map (λ machine. machine.states) o) []) at in
-    let places : List ℕ = map (place journal m) (inputs_of net m) in
+    let places : List ℕ = map (buffered journal m) (inputs_of net m) in
     let values : List ℕ = map (state net journal m) (upto (length (states_of net m))) in
-    let left = length-map (inputs_of net m) (place journal m) in
+    let left = length-map (inputs_of net m) (buffered journal m) in
     let right = length-table (state net journal m) (length (states_of net m)) in
     let whole = length-append places values in
     let a = ap length inputs in
@@ -430,3 +432,23 @@ fitting_suits net machine (Rea m s o) h at =
     (λ (found : Option Machine). IsSomeAnd found
     (λ machine. IsSnapshot machine s × IsOutcome machine o)) at h in
     of.1.widths
+
+-- ---- the length of a snapshot
+
+pub length-snap : (net : Network) (journal : List Entry) (m : ℕ)
+    → length (snap net journal m).codes ≡ length (inputs_of net m) + length (states_of net m)
+length-snap net journal m =
+    length-append (map (buffered journal m) (inputs_of net m))
+    (map (state net journal m) (upto (length (states_of net m))))
+    ∙ rw (
+      length-map (inputs_of net m) (buffered journal m),
+      length-table (state net journal m) (length (states_of net m)),
+    ) refl
+
+pub moment_width : (net : Network) (journal : List Entry) (m : ℕ) (machine : Machine) (s : Snapshot)
+    → slice_get net.machines m ≡ Some machine → s ≡ snap net journal m
+    → length s.codes ≡ length machine.inputs + length machine.states
+moment_width net journal m machine s at is =
+    ap (λ (x : Snapshot). length x.codes) is ∙ length-snap net journal m
+    ∙ ap (λ (o : Option Machine). length (unwrap_or (option_map (λ machine. machine.inputs) o) [])
+    + length (unwrap_or (option_map (λ machine. machine.states) o) [])) at

@@ -5,7 +5,6 @@ use Rattle.std.proofs.Common.{refl, sym, ap, ◌∙◌, subst, inl, inr, arith, 
 use Rattle.std.proofs.lemmas.List.{append-nil, length-map}
 use Rattle.std.proofs.lemmas.List.Concat.{flat_map-append}
 use Rattle.std.proofs.lemmas.List.Elements.{filter-append}
-use Rattle.std.proofs.lemmas.List.Folds.{list_all-append}
 use Rattle.std.proofs.lemmas.List.Sums.{length-filter}
 use Rattle.std.proofs.lemmas.Bool.{eqb-true, eq-eqb, and_parts, and_from, both_ways, false_from_ne_true, cases_lt, lt-ltb, le-ltb}
 use Rattle.polis_base.specs.Lists.{Begins}
@@ -24,10 +23,11 @@ use Rattle.journals.specs.Legality.{Legal}
 use Rattle.journals.specs.Schedules.{is_way, event_code, without_first, receivers_of, deliveries_of, firing_deliveries, machine_deliveries, trace_deliveries, keep_unless, unmade, owed_by_machines, owed_by_env}
 use Rattle.journals.proofs.Sent.{same_party_self, party_from_same, delivered_own, delivered_other, delivered_by_reaction, delivered_begins_sent}
 use Rattle.journals.proofs.Ways.{ways_of_emissions, machine_ways}
+use Rattle.journals.proofs.Arriving.{all_from_sender}
 
 -- ---- lists
 
-drop_of_nothing : (X : Type 0) (n : ℕ) → ◌≡◌ {A = List X} (drop n []) []
+pub drop_of_nothing : (X : Type 0) (n : ℕ) → ◌≡◌ {A = List X} (drop n []) []
 drop_of_nothing X zero = refl
 drop_of_nothing X (suc n) = refl
 
@@ -297,27 +297,7 @@ none_made way s journal passed (x ∷ xs) h above =
     further m b here = let count =
         count_more (λ x. is_way s m (way x)) passed x b here in let before = above m in omega arith
 
-from_one : (s : Party) (e c : ℕ) (receivers : List ℕ)
-    → list_all (λ (d : Owed). same_party d.from s)
-    (map (λ m. record { from = s; to = m; event = e; code = c }) receivers) ≡ true
-from_one s e c [] = refl
-from_one s e c (m ∷ receivers) =
-    and_from (same_party s s)
-    (list_all (λ (d : Owed). same_party d.from s)
-    (map (λ m. record { from = s; to = m; event = e; code = c }) receivers)) (same_party_self s)
-    (from_one s e c receivers)
-
-all_from_one : (net : Network) (s : Party) (ps : List (ℕ × ℕ))
-    → list_all (λ (d : Owed). same_party d.from s) (flat_map (deliveries_of net s) ps) ≡ true
-all_from_one net s [] = refl
-all_from_one net s ((e, c) ∷ ps) =
-    list_all-append (λ (d : Owed). same_party d.from s) (deliveries_of net s (e, c))
-    (flat_map (deliveries_of net s) ps)
-    ∙ and_from (list_all (λ (d : Owed). same_party d.from s) (deliveries_of net s (e, c)))
-    (list_all (λ (d : Owed). same_party d.from s) (flat_map (deliveries_of net s) ps))
-    (from_one s e c (receivers_of net e)) (all_from_one net s ps)
-
-begins_shorter : {X : Type 0} (xs ys : List X) → Begins xs ys → length xs ≤ length ys
+pub begins_shorter : {X : Type 0} (xs ys : List X) → Begins xs ys → length xs ≤ length ys
 begins_shorter xs ys (rest, h) = let long : length ys ≡ length xs + length rest = ap length h
     ∙ length-append xs rest in omega arith
 
@@ -360,7 +340,7 @@ reaction_owes net trace journal m x o h =
     (firing_deliveries net (Rea m x o))
     ∙ ap (λ l. owed_by_machines net journal ++ l)
     (none_made (λ d. d) (Sender m) journal (machine_deliveries net journal)
-    (firing_deliveries net (Rea m x o)) (all_from_one net (Sender m) (emissions net (Rea m x o)))
+    (firing_deliveries net (Rea m x o)) (all_from_sender net (Sender m) (emissions net (Rea m x o)))
     (λ k. delivered_below net trace m k journal h))
 
 -- a delivery takes the first of its way away, whoever made it
@@ -374,7 +354,7 @@ delivery_owes net journal s m e c =
     ∙ owed_by_delivery (λ d. d) s m e c journal (machine_deliveries net journal)
 
 -- no machine gives a delivery of the environment
-no_env_way : (net : Network) (m : ℕ) (journal : List Entry)
+pub no_env_way : (net : Network) (m : ℕ) (journal : List Entry)
     → filter (is_way Env m) (machine_deliveries net journal) ≡ []
 no_env_way net m [] = refl
 no_env_way net m (Dep from to e c ∷ journal) = no_env_way net m journal

@@ -28,7 +28,7 @@ use Rattle.journals.proofs.Stopping.{first_woken_is, picked_is_legal}
 pub gives_transition : OutcomeByRows → GivesTransition
 gives_transition by_rows m s = by_rows m s.codes
 
-none_within : (xs : List Machine) (k : ℕ) → k < length xs → slice_get xs k ≡ None → ⊥
+pub none_within : (xs : List Machine) (k : ℕ) → k < length xs → slice_get xs k ≡ None → ⊥
 none_within [] k h e = omega arith
 none_within (x ∷ xs) zero h e = none-some x (sym e)
 none_within (x ∷ xs) (suc k) h e = none_within xs k (omega arith) e

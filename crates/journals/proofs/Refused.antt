@@ -3,8 +3,8 @@ use Rattle.std.specs.Prelude.{◌≡◌, ℕ, zero, suc, false, List, [], ◌∷
 use Rattle.std.proofs.Common.{refl, sym, ap, arith, inl, inr}
 use Rattle.std.proofs.lemmas.Bool.{false≢true}
 use Rattle.transition_table.specs.Transitions.{Transition, is_enabled, reading}
-use Rattle.transition_table.specs.SampleLamp.{lamp_machine}
-use Rattle.transition_table.specs.SamplePong.{pong}
+use Rattle.transition_table.specs.samples.Lamp.{lamp_machine}
+use Rattle.transition_table.specs.samples.Pong.{pong}
 use Rattle.transition_table.specs.Worked.{firing}
 use Rattle.transition_table.specs.declared.decl.Party.TheVariants.{Env, Machine as Sender}
 use Rattle.transition_table.specs.declared.snapshot.Outcome.{Outcome}

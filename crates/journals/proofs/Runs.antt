@@ -1,9 +1,9 @@
 -- Runs of the small networks, one a worked row.
 use Rattle.std.proofs.Common.{◌≡◌, ℕ, zero, suc, false, [], ◌∷◌, refl, inl, inr}
 use Rattle.transition_table.specs.Transitions.{is_enabled, reading}
-use Rattle.transition_table.specs.SampleJoin.{join_machine}
-use Rattle.transition_table.specs.SampleLamp.{lamp_machine}
-use Rattle.transition_table.specs.SamplePong.{pong}
+use Rattle.transition_table.specs.samples.Join.{join_machine}
+use Rattle.transition_table.specs.samples.Lamp.{lamp_machine}
+use Rattle.transition_table.specs.samples.Pong.{pong}
 use Rattle.transition_table.specs.Worked.{firing}
 use Rattle.journals.specs.Legality.{Legal}
 use Rattle.journals.specs.Samples.{lamp, press, lamp_run, join, value, two, loop}

@@ -2,7 +2,7 @@
 use Rattle.std.specs.Prelude.{◌≡◌, ℕ, zero, suc, ◌+◌, ◌<◌, ◌≤◌, Bool, true, false, cond, ◌&&◌, nat_lt, nat_le, List, [], ◌∷◌, ◌++◌, filter, flat_map, length, take, drop, slice_get, Some}
 use Rattle.std.specs.List.{list_all}
 use Rattle.std.proofs.Common.{refl, sym, ap, ◌∙◌, subst, arith, length-append, append_assoc}
-use Rattle.std.proofs.lemmas.List.{append-nil, length-replicate, take_more, take-append-drop}
+use Rattle.std.proofs.lemmas.List.{append-nil, length-replicate, take_more, take-append-drop, map-append}
 use Rattle.std.proofs.lemmas.List.Elements.{filter-append}
 use Rattle.std.proofs.lemmas.Bool.{false≢true, leb-true, le-leb, and_parts, and_from}
 use Rattle.std.proofs.lemmas.Option.{get_or_from_slice_get}
@@ -11,7 +11,7 @@ use Rattle.transition_table.specs.declared.network.Network.{Network}
 use Rattle.journals.specs.declared.entry.Entry.{Entry}
 use Rattle.journals.specs.declared.entry.TraceItem.{TraceItem}
 use Rattle.journals.specs.declared.stamped.Stamped.{Stamped}
-use Rattle.journals.specs.Journals.{FitsNetwork, reads, is_firing_of, emissions, sent}
+use Rattle.journals.specs.Journals.{FitsNetwork, reads, is_firing_of, emissions, sent, IsJournal}
 use Rattle.journals.specs.Laws.{PrefixesAreLegal, GoesOnBySteps}
 use Rattle.journals.specs.Legality.{Legal, MayFollow}
 use Rattle.journals.specs.Logs.{entries, max_stamp, stamped, with_stamps}
@@ -21,7 +21,7 @@ use Rattle.journals.proofs.Stamping.{all_below, above_greatest}
 
 -- ---- prefixes of a legal journal
 
-prefix_more : {X : Type 0} (journal : List X) (i : ℕ) (entry : X) → i < length journal
+pub prefix_more : {X : Type 0} (journal : List X) (i : ℕ) (entry : X) → i < length journal
     → slice_get journal i ≡ Some entry
     → take (i + 1) journal ≡ take i journal ++ entry ∷ []
 prefix_more journal i entry below at =
@@ -195,3 +195,15 @@ stands_above below t = (above, within)
         (and_from (nat_le 1 t) (nat_le t max_stamp) (le-leb 1 t (omega arith))
         (le-leb t max_stamp high))
         (all_below below t low)
+
+pub entries_more : (done : List Stamped) (x : Stamped)
+    → entries (done ++ x ∷ []) ≡ entries done ++ x.entry ∷ []
+entries_more done x = map-append (λ (p : Stamped). p.entry) done (x ∷ [])
+
+pub item_fits :
+    (net : Network) (log : List Stamped) (k : ℕ) (x : Stamped)
+    → IsJournal net (entries log) → slice_get log k ≡ Some x → FitsNetwork net x.entry
+item_fits net [] k x h at = absurd cc
+item_fits net (y ∷ log) zero x h at =
+    let same : y ≡ x = cc in subst (λ (z : Stamped). FitsNetwork net z.entry) same h.0
+item_fits net (y ∷ log) (suc k) x h at = item_fits net log k x h.1 at

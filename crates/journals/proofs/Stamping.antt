@@ -27,7 +27,7 @@ greatest_cons n x xs h =
     let left = le-max_left x (greatest xs) in
     let right = le-max_right x (greatest xs) in (omega arith, omega arith)
 
-greatest_append : (n : ℕ) (xs ys : List ℕ) → greatest xs ≤ n → greatest ys ≤ n
+pub greatest_append : (n : ℕ) (xs ys : List ℕ) → greatest xs ≤ n → greatest ys ≤ n
     → greatest (xs ++ ys) ≤ n
 greatest_append n [] ys h g = g
 greatest_append n (x ∷ xs) ys h g =
@@ -390,3 +390,7 @@ goes_on_after net before (entry ∷ journal) more =
 
 pub least_goes_on : LeastGoesOn
 least_goes_on net journal more = goes_on_after net [] journal more
+
+pub greatest_both : (xs ys : List ℕ) → greatest (xs ++ ys) ≡ max (greatest xs) (greatest ys)
+greatest_both [] ys = omega arith
+greatest_both (x ∷ xs) ys = let rest = greatest_both xs ys in omega arith

@@ -20,7 +20,7 @@ use Rattle.journals.specs.declared.entry.Pick.TheVariants.{React, Stop}
 use Rattle.journals.specs.declared.entry.TraceItem.{TraceItem}
 use Rattle.journals.specs.Journals.{FitsNetwork, is_party, is_woken, is_firing_of, inputs_of, outputs_of, emitted, emissions, reads, delivered, sent}
 use Rattle.journals.specs.Legality.{Legal, MayFollow, Complete}
-use Rattle.journals.specs.Schedules.{OwesNothing, is_way, event_code, machine_deliveries, trace_deliveries, unmade, owed_by_machines, owed_by_env, priority_of, least, first_woken, first_pick, pick, IsPicked}
+use Rattle.journals.specs.Schedules.{OwesNothing, is_way, event_code, machine_deliveries, trace_deliveries, unmade, owed_by_machines, owed_by_env, priority_of, least_by, first_woken, first_pick, pick, IsPicked}
 use Rattle.journals.proofs.Legal.{legal_step}
 use Rattle.journals.proofs.Sent.{delivered_begins_sent, may_follow_next}
 use Rattle.journals.proofs.Ways.{filter_nothing, machine_ways, env_ways}
@@ -128,19 +128,19 @@ some_either : (b : Bool) (k m : ℕ) → cond b (Some k) (Some m) ≡ None → �
 some_either true k m h = cc
 some_either false k m h = cc
 
-least_none : (priority : ℕ → ℕ) (ms : List ℕ) → least priority ms ≡ None → ms ≡ []
+least_none : (priority : ℕ → ℕ) (ms : List ℕ) → least_by priority ms ≡ None → ms ≡ []
 least_none priority [] h = refl
 least_none priority (m ∷ ms) h =
-    absurd (elim (least priority ms) as (λ (o : Option ℕ). least priority ms ≡ o → ⊥) [
+    absurd (elim (least_by priority ms) as (λ (o : Option ℕ). least_by priority ms ≡ o → ⊥) [
       | None ↦ λ is. let g : Some m ≡ None = rw is at h in cc
       | Some k ↦ λ is. some_either (nat_lt (priority k) (priority m)) k m (rw is at h)
     ] refl)
 
 pub least_passes : (p : ℕ → Bool) (priority : ℕ → ℕ) (ms : List ℕ) (m : ℕ) → list_all p ms ≡ true
-    → least priority ms ≡ Some m → p m ≡ true
+    → least_by priority ms ≡ Some m → p m ≡ true
 least_passes p priority [] m all h = cc
 least_passes p priority (k ∷ ms) m all h =
-    elim (least priority ms) as (λ (o : Option ℕ). least priority ms ≡ o → p m ≡ true) [
+    elim (least_by priority ms) as (λ (o : Option ℕ). least_by priority ms ≡ o → p m ≡ true) [
       | None ↦ λ is. let g : Some k ≡ Some m =
           rw is at h in subst (λ j. p j ≡ true) (same_some k m g) parts.0
       | Some j ↦ λ is.
@@ -314,7 +314,7 @@ complete_is_stopped : (net : Network) (trace : List TraceItem) (journal : List E
 complete_is_stopped net trace journal legal complete =
     let parts = complete_is_owing_nothing net trace journal legal complete in
     let woken : first_woken net journal ≡ None =
-    ap (least (priority_of net)) (below_none (is_woken journal) (length net.machines) parts.2) in
+    ap (least_by (priority_of net)) (below_none (is_woken journal) (length net.machines) parts.2) in
     ap (λ (a : Option Owed). first_pick a (head_of (owed_by_env net trace journal))
     (first_woken net journal)) parts.0
     ∙ ap (λ (b : Option (Owed × Bool)). first_pick None b (first_woken net journal)) parts.1

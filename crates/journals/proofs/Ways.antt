@@ -10,7 +10,8 @@ use Rattle.std.proofs.lemmas.Bool.Decides.{Decides-eqb}
 use Rattle.std.proofs.lemmas.Option.{slice_get_cases}
 use Rattle.std.proofs.lemmas.Slice.Eq.{slice_eq-Decides}
 use Rattle.polis_base.specs.Lists.{places_from, places_where}
-use Rattle.transition_table.specs.NetworkFacts.{has, has_receivers, is_numbered}
+use Rattle.transition_table.specs.NetworkFacts.{has}
+use Rattle.transition_table.specs.inner.NetworkFacts.{has_receivers, is_numbered}
 use Rattle.transition_table.specs.declared.decl.EventDecl.{EventDecl}
 use Rattle.transition_table.specs.declared.decl.Party.{Party}
 use Rattle.transition_table.specs.declared.decl.Party.TheVariants.{Env, Machine as Sender}
@@ -58,7 +59,7 @@ passes_of_all p (y ∷ xs) (suc i) x h e =
     passes_of_all p xs i x (and_parts (p y) (list_all p xs) h).1 e
 
 -- the same with the items' places
-passes_of_each : {X : Type 0} (p : ℕ × X → Bool) (n i m : ℕ) (xs : List X) (x : X) → n + i ≡ m
+pub passes_of_each : {X : Type 0} (p : ℕ × X → Bool) (n i m : ℕ) (xs : List X) (x : X) → n + i ≡ m
     → list_all p (enumerate_from n xs) ≡ true → slice_get xs i ≡ Some x → p (m, x) ≡ true
 passes_of_each p n i m [] x place h e = cc
 passes_of_each p n zero m (y ∷ xs) x place h e =

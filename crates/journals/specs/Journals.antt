@@ -90,8 +90,9 @@ code_brought m e (Dep from to event code) = then_some (to == m && event == e) co
 code_brought m e (Rea k s o) = None
 
 -- the code of the last delivery of e to m after m's last firing, 0 where there is none
-abbrev pub place : List Entry → ℕ → ℕ → ℕ
-place journal m e = last_of 0 (filter_map (code_brought m e) (after_last (is_firing_of m) journal))
+abbrev pub buffered : List Entry → ℕ → ℕ → ℕ
+buffered journal m e =
+    last_of 0 (filter_map (code_brought m e) (after_last (is_firing_of m) journal))
 
 -- a result's code 1 + v sets v, and code 0 keeps
 abbrev pub value_set : ℕ → Option ℕ
@@ -117,7 +118,7 @@ abbrev pub snap : Network → List Entry → ℕ → Snapshot
 snap net journal m =
     record {
       codes =
-          map (place journal m) (inputs_of net m)
+          map (buffered journal m) (inputs_of net m)
           ++ map (state net journal m) (upto (length (states_of net m)));
     }
 

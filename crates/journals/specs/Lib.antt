@@ -13,3 +13,4 @@ pub mod Schedules
 pub mod StampLaws
 pub mod Stamps
 pub mod Worked
+pub mod inner

@@ -1,4 +1,5 @@
 -- Logs: the entries of one machine with their stamps.
+use Rattle.polis_base.specs.declared.limits.TheConstants.{MAX_STAMP}
 use Rattle.std.specs.Prelude.{ℕ, Bool, true, ◌&&◌, ◌==◌, nat_lt, nat_le, List, [], ◌∷◌, map}
 use Rattle.polis_base.specs.Lists.{last_of}
 use Rattle.journals.specs.declared.entry.Entry.{Entry}
@@ -7,7 +8,7 @@ use Rattle.journals.specs.Moved.{machine_of}
 
 -- the greatest stamp
 abbrev pub max_stamp : ℕ
-max_stamp = 1099511627776
+max_stamp = MAX_STAMP
 
 -- the entry with its stamp
 abbrev pub stamped : ℕ → Entry → Stamped

@@ -3,7 +3,7 @@ use Rattle.std.specs.Prelude.{ℕ, ◌+◌, Bool, false, cond, not, ◌&&◌, �
 use Rattle.transition_table.specs.declared.network.Network.{Network}
 use Rattle.journals.specs.declared.entry.Entry.{Entry}
 use Rattle.journals.specs.declared.entry.Entry.TheVariants.{Dep, Rea}
-use Rattle.journals.specs.Journals.{reads, place, emissions}
+use Rattle.journals.specs.Journals.{reads, buffered, emissions}
 
 -- the event goes to the environment
 abbrev pub goes_out : Network → ℕ → Bool
@@ -15,7 +15,8 @@ outputs net journal = filter (λ p. goes_out net p.0) (flat_map (emissions net) 
 
 -- the entry delivers to an input that is present after the journal
 abbrev pub overwrites : Network → List Entry → Entry → Bool
-overwrites net journal (Dep s m event code) = reads net m event && not (place journal m event == 0)
+overwrites net journal (Dep s m event code) =
+    reads net m event && not (buffered journal m event == 0)
 overwrites net journal (Rea m s o) = false
 
 abbrev pub lost_after : Network → List Entry → List Entry → ℕ

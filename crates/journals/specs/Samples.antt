@@ -1,13 +1,12 @@
 -- Entries of small networks, and those networks.
-use Rattle.std.specs.Prelude.{ℕ, true, false, List, [], ◌∷◌}
-use Rattle.transition_table.specs.SampleJoin.{join as the_join}
-use Rattle.transition_table.specs.SampleLamp.{lamp as the_lamp, lamp_machine}
-use Rattle.transition_table.specs.SampleLoop.{loop as the_loop}
-use Rattle.transition_table.specs.SampleTwo.{two as the_two}
-use Rattle.transition_table.specs.SampleValue.{value as the_value}
+use Rattle.std.specs.Prelude.{ℕ, true, false, List, ◌∷◌, []}
+use Rattle.transition_table.specs.samples.Join.{join as the_join}
+use Rattle.transition_table.specs.samples.Lamp.{lamp as the_lamp}
+use Rattle.transition_table.specs.samples.Loop.{loop as the_loop}
+use Rattle.transition_table.specs.samples.Two.{two as the_two}
+use Rattle.transition_table.specs.samples.Value.{value as the_value}
 use Rattle.transition_table.specs.declared.decl.Party.{Party}
 use Rattle.transition_table.specs.declared.decl.Party.TheVariants.{Env}
-use Rattle.transition_table.specs.declared.machine.Machine.{Machine}
 use Rattle.transition_table.specs.declared.network.Network.{Network}
 use Rattle.journals.specs.declared.entry.Entry.{Entry}
 use Rattle.journals.specs.declared.entry.Entry.TheVariants.{Dep, Rea}
@@ -26,10 +25,6 @@ fires m codes next outs =
 abbrev pub idles : ℕ → List ℕ → List ℕ → List ℕ → Entry
 idles m codes next outs =
     Rea m (record { codes = codes }) (record { fires = false; next = next; outs = outs })
-
--- the networks whose runs stand in Runs
-abbrev pub lamp_ctl : Machine
-lamp_ctl = lamp_machine
 
 abbrev pub lamp : Network
 lamp = the_lamp

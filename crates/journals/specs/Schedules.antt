@@ -32,6 +32,11 @@ firing_deliveries net (Rea m s o) =
 abbrev pub machine_deliveries : Network → List Entry → List Owed
 machine_deliveries net journal = flat_map (firing_deliveries net) journal
 
+-- what an item of the trace gives: an event to each of its receivers, and nothing for `settle`
+abbrev pub item_deliveries : Network → TraceItem → List Owed
+item_deliveries net (Event e code) = deliveries_of net Env (e, code)
+item_deliveries net Settle = []
+
 -- the environment's deliveries by item and then by receiver, each with whether a `settle` item
 -- stands between the event item before its item, or the start, and its item
 abbrev pub trace_deliveries : Network → Bool → List TraceItem → List (Owed × Bool)
@@ -97,9 +102,9 @@ priority_of net m =
     unwrap_or (option_map (λ machine. machine.priority) (slice_get net.machines m)) 0
 
 -- the machine of a rising list that is least by priority and then by number
-abbrev pub least : (ℕ → ℕ) → List ℕ → Option ℕ
-least priority [] = None
-least priority (m ∷ ms) = before (least priority ms)
+abbrev pub least_by : (ℕ → ℕ) → List ℕ → Option ℕ
+least_by priority [] = None
+least_by priority (m ∷ ms) = before (least_by priority ms)
   where
     before : Option ℕ → Option ℕ
     before None = Some m
@@ -108,7 +113,7 @@ least priority (m ∷ ms) = before (least priority ms)
 -- the woken machine that is least by priority and then by number
 abbrev pub first_woken : Network → List Entry → Option ℕ
 first_woken net journal =
-    least (priority_of net) (filter (is_woken journal) (upto (length net.machines)))
+    least_by (priority_of net) (filter (is_woken journal) (upto (length net.machines)))
 
 abbrev pub deliver : Owed → Pick
 deliver d = Deliver d.from d.to d.event d.code

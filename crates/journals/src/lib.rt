@@ -12,6 +12,6 @@ mod worked;
 pub use entry::{Entry, Journal, Owed, Pick, Trace, TraceItem};
 pub use law::{laws, moving_laws, sending_laws, stamp_laws};
 pub use moments::{Moments, first_moment, first_moments, move_on, next_moment};
-pub use sending::deliveries;
+pub use sending::{add_deliveries, deliveries};
 pub use stamped::{CoreStep, Log, LogList, MAX_STAMP, Stamped, Stamps};
 pub use worked::{refused_rows, stamp_rows, worked_rows};

@@ -10,8 +10,8 @@ use polis_base::{List, NoMemory};
 use std::alloc::Global;
 use transition_table::{Network, Party};
 
-// Adds a delivery to each receiver of an event.
-fn add_deliveries(
+/// Adds a delivery to each receiver of an event.
+pub fn add_deliveries(
     net: &Network,
     from: Party,
     event: u32,

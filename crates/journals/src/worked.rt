@@ -1,7 +1,7 @@
 // The worked rows: what the definitions say of small networks.
 ghost use Rattle.std.specs.Prelude.{true, false, [], ◌∷◌, Some, None};
 ghost use Rattle.transition_table.specs.declared.decl.Party.TheVariants.{Env, Machine as Sender};
-ghost use Rattle.transition_table.specs.SamplePong.{pong};
+ghost use Rattle.transition_table.specs.samples.Pong.{pong};
 ghost use Rattle.transition_table.specs.Transitions.{reading};
 ghost use Rattle.transition_table.specs.Worked.{firing};
 ghost use Rattle.journals.specs.Legality.{Legal};

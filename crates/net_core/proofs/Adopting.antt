@@ -11,7 +11,7 @@ use Rattle.journals.specs.Legality.{Legal, MayFollowIfReaction}
 use Rattle.journals.specs.Laws.{PrefixesAreLegal, ReactsByOwn}
 use Rattle.journals.specs.Moved.{machine_of}
 use Rattle.net_core.specs.Prefixes.{IsAdopted}
-use Rattle.net_core.proofs.Stamping.{length_prefix, prefix_more}
+use Rattle.journals.proofs.StampSteps.{length_prefix, prefix_more}
 
 -- the list in three parts: what stands before an item, the item, and what stands after it
 around : {X : Type 0} (xs : List X) (i : ℕ) (x : X) → i < length xs → slice_get xs i ≡ Some x
@@ -31,7 +31,7 @@ entry_reacts by_own net trace journal i entry alone below at =
     (subst (IsAlone net (machine_of entry)) (around journal i entry below at)
     (alone (machine_of entry)))
 
-shorter : PrefixesAreLegal → (net : Network) (trace : List TraceItem) (journal : List Entry)
+pub shorter : PrefixesAreLegal → (net : Network) (trace : List TraceItem) (journal : List Entry)
     (p k : ℕ) → p ≤ k → Legal net trace (take k journal) → Legal net trace (take p journal)
 shorter prefixes net trace journal p k within h =
     subst (Legal net trace) (take-take p k journal within)

@@ -1,5 +1,5 @@
 -- The deliveries that emissions still owe.
-use Rattle.std.specs.Prelude.{◌≡◌, ◌≢◌, ℕ, zero, suc, ◌+◌, ◌<◌, ◌≤◌, Bool, true, false, cond, ◌&&◌, ◌==◌, List, [], ◌∷◌, ◌++◌, map, filter, length, drop, set, None, Some, find, option_map}
+use Rattle.std.specs.Prelude.{◌≡◌, ◌≢◌, ℕ, zero, suc, ◌+◌, ◌<◌, ◌≤◌, Bool, true, false, cond, ◌&&◌, ◌==◌, List, ◌∷◌, ◌++◌, map, filter, length, drop, set, Some, find, option_map, []}
 use Rattle.std.specs.Int.{bit_at}
 use Rattle.std.specs.Option.{option_or}
 use Rattle.std.proofs.Common.{refl, sym, ap, ◌∙◌, arith}
@@ -15,20 +15,11 @@ use Rattle.journals.specs.Schedules.{is_way, without_first}
 use Rattle.net_core.specs.declared.config.emissions.Emission.{Emission}
 use Rattle.net_core.specs.Emissions.{waits, no_emission, nth, owed_to, waiting, all_waiting}
 use Rattle.net_core.specs.Readers.{members}
-use Rattle.net_core.proofs.Bitsets.{none_is, one_is, without_one, none_past}
+use Rattle.net_core.proofs.Bitsets.{none_is, one_is, without_one, none_past, find_none}
+use Rattle.journals.proofs.Ways.{filter_nothing, filter_of_map}
+use Rattle.journals.proofs.Owing.{drop_of_nothing}
 
 -- ---- lists
-
-filter_of_map : {X Y : Type 0} (p : Y → Bool) (f : X → Y) (xs : List X)
-    → filter p (map f xs) ≡ map f (filter (λ x. p (f x)) xs)
-filter_of_map p f [] = refl
-filter_of_map p f (x ∷ xs) =
-    let rest = filter_of_map p f xs in
-    elim (p (f x)) as (λ b. cond b (f x ∷ filter p (map f xs)) (filter p (map f xs))
-    ≡ map f (cond b (x ∷ filter (λ y. p (f y)) xs) (filter (λ y. p (f y)) xs))) [
-      | true ↦ ap (λ l. f x ∷ l) rest
-      | false ↦ rest
-    ]
 
 find_of_map : {X Y : Type 0} (p : Y → Bool) (f : X → Y) (xs : List X)
     → find p (map f xs) ≡ option_map f (find (λ x. p (f x)) xs)
@@ -51,19 +42,6 @@ without_of_map p f (x ∷ xs) =
       | true ↦ refl
       | false ↦ ap (λ l. f x ∷ l) rest
     ]
-
-filter_nothing : {X : Type 0} (xs : List X) → filter (λ x. false) xs ≡ []
-filter_nothing [] = refl
-filter_nothing (x ∷ xs) = filter_nothing xs
-
-pub find_none : {X : Type 0} (t : X → Bool) (xs : List X) → filter t xs ≡ [] → find t xs ≡ None
-find_none t [] h = refl
-find_none t (x ∷ xs) h = cases (t x) h (find_none t xs)
-  where
-    cases : (b : Bool) → cond b (x ∷ filter t xs) (filter t xs) ≡ []
-        → (filter t xs ≡ [] → find t xs ≡ None) → cond b (Some x) (find t xs) ≡ None
-    cases true h rest = cc
-    cases false h rest = rest h
 
 pub without_none : {X : Type 0} (t : X → Bool) (xs : List X) → filter t xs ≡ []
     → without_first t xs ≡ xs
@@ -108,10 +86,6 @@ length_without t (x ∷ xs) d h = cases (t x) h (length_without t xs d)
         → length (cond b xs (x ∷ without_first t xs)) + 1 ≡ suc (length xs)
     cases true h rest = omega arith
     cases false h rest = let more = rest h in omega arith
-
-drop_of_nothing : (X : Type 0) (n : ℕ) → ◌≡◌ {A = List X} (drop n []) []
-drop_of_nothing X zero = refl
-drop_of_nothing X (suc n) = refl
 
 -- ---- one emission
 

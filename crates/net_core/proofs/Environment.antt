@@ -12,7 +12,7 @@ use Rattle.journals.specs.declared.entry.TraceItem.{TraceItem}
 use Rattle.journals.specs.declared.entry.TraceItem.TheVariants.{Event, Settle}
 use Rattle.journals.specs.Schedules.{owed_by_env}
 use Rattle.journals.specs.Cursors.{cursor, is_settle, settled_at}
-use Rattle.net_core.proofs.Numbers.{get_or-table}
+use Rattle.journals.proofs.Moved.{get_or-table}
 use Rattle.journals.specs.Laws.{FirstOfCursors, NoneAtEnds}
 
 -- whether the item before a place is `settle`

@@ -1,7 +1,7 @@
 -- What may land, and which outcome is the machine's.
-use Rattle.std.specs.Prelude.{◌≡◌, ◌↔◌, ℕ, Bool, true, false, cond, [], ◌∷◌, ◌&&◌, ◌==◌, List, slice_get, Option, Some, None, find, IsTrue, IsSomeAnd}
+use Rattle.std.specs.Prelude.{◌≡◌, ◌↔◌, ℕ, Bool, true, false, ◌&&◌, ◌==◌, List, slice_get, Option, Some, None, find, IsTrue, IsSomeAnd}
 use Rattle.std.proofs.Common.{refl, sym, ap, ◌∙◌, subst}
-use Rattle.std.proofs.lemmas.Bool.{false≢true, eqb-true, eq-eqb, and_parts, and_from, both_ways}
+use Rattle.std.proofs.lemmas.Bool.{eqb-true, eq-eqb, and_parts, and_from, both_ways}
 use Rattle.transition_table.specs.Transitions.{OfMachine, IsSnapshot, Transition, AreDeterministic, IsOutcome}
 use Rattle.transition_table.specs.declared.decl.Party.{Party}
 use Rattle.transition_table.specs.declared.decl.Party.TheVariants.{Env, Machine as Sender}
@@ -15,44 +15,13 @@ use Rattle.journals.specs.declared.entry.Owed.{Owed}
 use Rattle.journals.specs.declared.entry.TraceItem.{TraceItem}
 use Rattle.journals.specs.declared.entry.TraceItem.TheVariants.{Event}
 use Rattle.net_core.specs.declared.answer.Why.TheVariants.{NotOwed}
-use Rattle.journals.specs.Journals.{same_party}
 use Rattle.net_core.specs.Judging.{IsFirstCause}
 use Rattle.journals.specs.Legality.{Legal, MayFollow}
 use Rattle.journals.specs.Schedules.{owed_by_machines, is_way, event_code}
 use Rattle.journals.specs.Cursors.{cursor}
 use Rattle.transition_table.specs.Laws.{OneOutcome}
 use Rattle.journals.specs.Laws.{FirstOfWayMayFollow, AtCursorMayFollow}
-
--- ---- the first of a way
-
-find_passes : {X : Type 0} (p : X → Bool) (xs : List X) (x : X) → find p xs ≡ Some x → p x ≡ true
-find_passes p [] x h = cc
-find_passes p (y ∷ xs) x h = cases (p y) refl h (find_passes p xs x)
-  where
-    cases : (b : Bool) → p y ≡ b → cond b (Some y) (find p xs) ≡ Some x
-        → (find p xs ≡ Some x → p x ≡ true) → p x ≡ true
-    cases true here h rest = let same : y ≡ x = cc in subst (λ z. p z ≡ true) same here
-    cases false here h rest = rest h
-
-party_from_same : (s t : Party) → same_party s t ≡ true → s ≡ t
-party_from_same Env Env h = refl
-party_from_same (Sender j) (Sender k) h = ap Sender (eqb-true j k h)
-party_from_same Env (Sender k) h = absurd (false≢true h)
-party_from_same (Sender j) Env h = absurd (false≢true h)
-
-owed_is : (d : Owed) (s : Party) (m e c : ℕ) → is_way s m d ≡ true → event_code d ≡ (e, c)
-    → ◌≡◌ {A = Owed} d (record { from = s; to = m; event = e; code = c })
-owed_is d s m e c h k =
-    let parts = and_parts (same_party d.from s) (d.to == m) h in
-    let event : d.event ≡ e = ap (λ (p : ℕ × ℕ). p.0) k in
-    let code : d.code ≡ c = ap (λ (p : ℕ × ℕ). p.1) k in
-    ap (λ t. let made : Owed = record { from = t; to = d.to; event = d.event; code = d.code } in
-    made) (party_from_same d.from s parts.0)
-    ∙ ap (λ t. let made : Owed = record { from = s; to = t; event = d.event; code = d.code } in
-    made) (eqb-true d.to m parts.1)
-    ∙ ap (λ t. let made : Owed = record { from = s; to = m; event = t; code = d.code } in
-    made) event
-    ∙ ap (λ t. let made : Owed = record { from = s; to = m; event = e; code = t } in made) code
+use Rattle.journals.proofs.Next.{owed_is, find_passes}
 
 -- ---- deliveries
 

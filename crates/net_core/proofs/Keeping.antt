@@ -1,7 +1,7 @@
 -- The clocks after one entry more.
-use Rattle.std.specs.Prelude.{◌≡◌, ℕ, ◌+◌, ◌<◌, ◌≤◌, max, Bool, true, false, cond, ◌&&◌, ◌==◌, nat_lt, List, [], ◌∷◌, ◌++◌, map, filter, flat_map, length, drop, slice_get, Some}
+use Rattle.std.specs.Prelude.{◌≡◌, ℕ, ◌+◌, ◌<◌, ◌≤◌, max, Bool, true, false, cond, ◌&&◌, ◌==◌, nat_lt, List, ◌∷◌, ◌++◌, map, filter, flat_map, length, drop, slice_get, Some, []}
 use Rattle.std.proofs.Common.{inl, inr, refl, sym, ap, ◌∙◌, subst, arith, get_or, set, length-append}
-use Rattle.std.proofs.lemmas.List.{append-nil, map-append, drop-drop, length-drop, drop-append-le, length_push, length-set, get_or-set_other, get_or-set_same, same_lists}
+use Rattle.std.proofs.lemmas.List.{append-nil, map-append, drop-drop, length-drop, drop-append-le, length_push, length-set, get_or-set_other, get_or-set_same}
 use Rattle.std.proofs.lemmas.List.Concat.{flat_map-append}
 use Rattle.std.proofs.lemmas.List.Elements.{filter_map-append, filter-append}
 use Rattle.std.proofs.lemmas.Bool.{eq-eqb, ne_eqb, eqb-true, cases_eq, ltb-true, and_parts}
@@ -15,38 +15,19 @@ use Rattle.journals.specs.declared.entry.Entry.{Entry}
 use Rattle.journals.specs.declared.entry.Entry.TheVariants.{Dep, Rea}
 use Rattle.journals.specs.Journals.{FitsNetwork, IsJournal, is_event_code, is_firing_of, delivery, delivered}
 use Rattle.journals.specs.Moved.{machine_of}
-use Rattle.net_core.proofs.Numbers.{length-table, get_or-table}
-use Rattle.net_core.proofs.Tables.{machine_within}
+use Rattle.journals.proofs.Moved.{get_or-table, set-table}
 use Rattle.net_core.specs.declared.clocks.Cursor.{Cursor}
 use Rattle.net_core.specs.declared.clocks.Clocks.{Clocks}
-use Rattle.net_core.specs.Clocks.{firings_of, cursor_at, with_cursor, IsCursor, AreClocks, IsBacked, one_taken, clocks_after, cursors_moved, firings_after}
+use Rattle.net_core.specs.inner.Clocks.{firings_of, cursor_at, with_cursor, IsCursor, AreClocks, IsBacked, one_taken, clocks_after, cursors_moved, firings_after}
 use Rattle.journals.specs.Stamps.{greatest, stamps_at, once_each, stamps_sent}
 use Rattle.journals.specs.declared.stamped.Stamped.{Stamped}
 use Rattle.journals.specs.Logs.{entries, stamped, of_machine}
-
--- ---- tables, one item a machine
-
-set-table : {X : Type 0} (f g : ℕ → X) (n m : ℕ) (y : X) → m < n → g m ≡ y
-    → ((k : ℕ) → (k ≡ m → ⊥) → k < n → g k ≡ f k) → set (map f (upto n)) m y ≡ map g (upto n)
-set-table {X} f g n m y below here others =
-    let size : length (set (map f (upto n)) m y) ≡ n =
-    length-set (map f (upto n)) m y ∙ length-table f n in
-    same_lists (set (map f (upto n)) m y) (map g (upto n)) (size ∙ sym (length-table g n)) (λ k d h.
-    let inside : k < n = omega arith in
-    elim (cases_eq k m) [
-      | inl same ↦ ap (λ i. get_or (set (map f (upto n)) m y) i d) same
-          ∙ get_or-set_same (map f (upto n)) m y d (let e = length-table f n in omega arith)
-          ∙ sym here ∙ ap g (sym same) ∙ sym (get_or-table g n k d inside)
-      | inr other ↦ get_or-set_other (map f (upto n)) m k y d other ∙ get_or-table f n k d inside
-          ∙ sym (others k other inside) ∙ sym (get_or-table g n k d inside)
-    ])
+use Rattle.journals.proofs.Stamping.{greatest_both}
+use Rattle.journals.proofs.Advancing.{machine_within}
+use Rattle.journals.proofs.Legal.{fitting_more}
+use Rattle.journals.proofs.StampSteps.{entries_more}
 
 -- ---- entries that fit
-
-pub fitting_more : (net : Network) (journal : List Entry) (entry : Entry) → IsJournal net journal
-    → FitsNetwork net entry → IsJournal net (journal ++ entry ∷ [])
-fitting_more net [] entry h f = (f, tt)
-fitting_more net (first ∷ journal) entry h f = (h.0, fitting_more net journal entry h.1 f)
 
 pub sender_within : (net : Network) (s m e c : ℕ) → FitsNetwork net (Dep (Sender s) m e c)
     → s < length net.machines
@@ -75,30 +56,6 @@ greatest_left (x ∷ xs) ys =
     let first = le-max_left x (greatest (xs ++ ys)) in
     let more = le-max_right x (greatest (xs ++ ys)) in
     max-le first (let h : greatest xs ≤ max x (greatest (xs ++ ys)) = omega arith in h)
-
-pub greatest_right : (xs ys : List ℕ) → greatest ys ≤ greatest (xs ++ ys)
-greatest_right [] ys = omega arith
-greatest_right (x ∷ xs) ys =
-    let rest = greatest_right xs ys in
-    let more = le-max_right x (greatest (xs ++ ys)) in
-    omega arith
-
-greatest_most : (n : ℕ) (xs ys : List ℕ) → greatest xs ≤ n → greatest ys ≤ n
-    → greatest (xs ++ ys) ≤ n
-greatest_most n [] ys h g = g
-greatest_most n (x ∷ xs) ys h g =
-    let left = le-max_left x (greatest xs) in
-    let right = le-max_right x (greatest xs) in
-    let first : x ≤ n = omega arith in
-    let rest : greatest xs ≤ n = omega arith in
-    max-le first (greatest_most n xs ys rest g)
-
-pub greatest_both : (xs ys : List ℕ) → greatest (xs ++ ys) ≡ max (greatest xs) (greatest ys)
-greatest_both xs ys =
-    let low = max-le (greatest_left xs ys) (greatest_right xs ys) in
-    let high = greatest_most (max (greatest xs) (greatest ys)) xs ys
-    (le-max_left (greatest xs) (greatest ys)) (le-max_right (greatest xs) (greatest ys)) in
-    omega arith
 
 pub clock_at : (net : Network) (done : List Stamped) (clocks : List ℕ) (m v : ℕ)
     → m < length net.machines → clocks
@@ -189,10 +146,6 @@ pub sent_more : (net : Network) (s m : ℕ) (done : List Stamped) (x : Stamped)
     ≡ stamps_sent net s m done ++ flat_map (once_each net m) (firings_of (x ∷ []) s)
 sent_more net s m done x = ap (flat_map (once_each net m)) (firings_more done x s)
     ∙ flat_map-append (once_each net m) (firings_of done s) (firings_of (x ∷ []) s)
-
-entries_more : (done : List Stamped) (x : Stamped)
-    → entries (done ++ x ∷ []) ≡ entries done ++ x.entry ∷ []
-entries_more done x = map-append (λ (p : Stamped). p.entry) done (x ∷ [])
 
 pub delivered_more : (s : Party) (m : ℕ) (done : List Stamped) (x : Stamped)
     → delivered s m (entries (done ++ x ∷ []))

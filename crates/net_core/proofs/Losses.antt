@@ -15,8 +15,8 @@ use Rattle.transition_table.specs.declared.network.Network.{Network}
 use Rattle.transition_table.specs.declared.snapshot.Snapshot.{Snapshot}
 use Rattle.journals.specs.declared.entry.Entry.{Entry}
 use Rattle.journals.specs.declared.entry.Entry.TheVariants.{Dep, Rea}
-use Rattle.journals.specs.Journals.{FitsNetwork, IsJournal, inputs_of, states_of, place, state, snap}
-use Rattle.net_core.specs.Losses.{Overwrites}
+use Rattle.journals.specs.Journals.{FitsNetwork, IsJournal, inputs_of, states_of, buffered, state, snap}
+use Rattle.net_core.specs.inner.Losses.{Overwrites}
 use Rattle.journals.specs.Moved.{machine_of, SuitsMachine}
 use Rattle.journals.specs.Outputs.{overwrites, lost_after}
 
@@ -104,9 +104,9 @@ overwrites_is net journal machine before (Dep s m e c) b at is h =
     ap (λ (o : Option Machine). unwrap_or (option_map (λ machine. machine.inputs) o) []) at in
     let values = map (state net journal m) (upto (length (states_of net m))) in
     let codes = ap (λ (x : Snapshot). x.codes) is
-    ∙ ap (λ (l : List ℕ). map (place journal m) l ++ values) inputs in
-    present_by_position machine.inputs before.codes (place journal m) values e b codes h
-    ∙ ap (λ (l : List ℕ). has l e && not (place journal m e == 0)) (sym inputs)
+    ∙ ap (λ (l : List ℕ). map (buffered journal m) l ++ values) inputs in
+    present_by_position machine.inputs before.codes (buffered journal m) values e b codes h
+    ∙ ap (λ (l : List ℕ). has l e && not (buffered journal m e == 0)) (sym inputs)
 
 -- ---- one entry more
 

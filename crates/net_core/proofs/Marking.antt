@@ -16,11 +16,12 @@ use Rattle.journals.specs.declared.entry.TraceItem.TheVariants.{Event, Settle}
 use Rattle.journals.specs.Journals.{FitsNetwork, IsTrace, reads, is_event_code, is_trace_item, same_party}
 use Rattle.journals.specs.Cursors.{is_read, cursors_after}
 use Rattle.journals.specs.Schedules.{receivers_of}
-use Rattle.net_core.specs.Marks.{is_marked, marked_after, lands_below}
+use Rattle.net_core.specs.Marks.{is_marked}
+use Rattle.net_core.specs.inner.Marks.{marked_after, lands_below}
 use Rattle.net_core.specs.Readers.{AreReaders}
 use Rattle.net_core.proofs.Bitsets.{find_none, none_is, one_is}
 use Rattle.net_core.proofs.Reading.{some_at, receivers_are}
-use Rattle.net_core.proofs.Tables.{machine_within}
+use Rattle.journals.proofs.Advancing.{machine_within}
 
 -- two tests that the same numbers pass agree
 same_test : (p q : ℕ → Bool) (m a b : ℕ) → m < a → m < b → filter p (upto a) ≡ filter q (upto b)

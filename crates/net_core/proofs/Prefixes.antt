@@ -1,5 +1,5 @@
 -- Reactions made again, and the legal entries that a journal begins with.
-use Rattle.std.specs.Prelude.{◌≡◌, ◌⊎◌, ℕ, zero, suc, ◌+◌, ◌<◌, List, [], ◌∷◌, map, length, replicate, take, slice_get, slice_set, Option, Some, unwrap_or, IsSomeAnd}
+use Rattle.std.specs.Prelude.{◌≡◌, ◌⊎◌, ℕ, zero, suc, ◌+◌, ◌<◌, List, [], ◌∷◌, map, length, replicate, take, slice_get, slice_set, Option, Some, IsSomeAnd}
 use Rattle.std.proofs.Common.{inl, inr, refl, sym, ap, ◌∙◌, subst}
 use Rattle.std.proofs.lemmas.List.{length-map}
 use Rattle.transition_table.specs.Laws.{TransitionFits}
@@ -10,11 +10,10 @@ use Rattle.transition_table.specs.declared.snapshot.Snapshot.{Snapshot}
 use Rattle.transition_table.specs.declared.snapshot.Outcome.{Outcome}
 use Rattle.journals.specs.declared.entry.Entry.{Entry}
 use Rattle.journals.specs.declared.entry.TraceItem.{TraceItem}
-use Rattle.journals.specs.Journals.{FitsNetwork, IsJournal}
 use Rattle.journals.specs.Laws.{GoesOnBySteps}
 use Rattle.journals.specs.Legality.{Legal, MayFollow}
 use Rattle.net_core.specs.Blanks.{AreWide}
-use Rattle.net_core.proofs.Stamping.{prefix_more}
+use Rattle.journals.proofs.StampSteps.{prefix_more}
 
 -- ---- outcomes to write into
 
@@ -81,13 +80,6 @@ wide_after law net outcomes m s o p wide fits made = record {
 }
 
 -- ---- one entry of a journal
-
-pub entry_fits : (net : Network) (journal : List Entry) (i : ℕ) (entry : Entry)
-    → IsJournal net journal → slice_get journal i ≡ Some entry → FitsNetwork net entry
-entry_fits net [] i entry h at = absurd (cc)
-entry_fits net (e ∷ journal) zero entry h at =
-    subst (λ (o : Option Entry). FitsNetwork net (unwrap_or o e)) at h.0
-entry_fits net (e ∷ journal) (suc i) entry h at = entry_fits net journal i entry h.1 at
 
 -- it may follow where the journal with it is legal
 pub follows_if_legal : GoesOnBySteps

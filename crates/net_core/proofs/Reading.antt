@@ -1,15 +1,15 @@
 -- The receivers of an event as a set of bits.
-use Rattle.std.specs.Prelude.{◌≡◌, ◌≢◌, ℕ, zero, suc, ◌+◌, ◌-◌, ◌<◌, ◌≤◌, Bool, true, false, cond, ◌&&◌, ◌==◌, nat_lt, List, [], ◌∷◌, ◌++◌, filter, length, slice_get, Option, Some, None, option_map, unwrap_or}
-use Rattle.std.specs.List.{list_all, enumerate_from}
+use Rattle.std.specs.Prelude.{◌≡◌, ◌≢◌, ℕ, zero, suc, ◌+◌, ◌-◌, ◌<◌, ◌≤◌, Bool, false, cond, ◌&&◌, ◌==◌, nat_lt, List, ◌∷◌, ◌++◌, filter, length, slice_get, Option, Some, None, option_map, unwrap_or, []}
 use Rattle.std.specs.Int.{bit_at}
 use Rattle.std.specs.Cmp.Lexicographic.{pointwise}
-use Rattle.std.proofs.Common.{refl, sym, ap, ◌∙◌, subst, inl, inr, arith, get_or}
+use Rattle.std.proofs.Common.{refl, sym, ap, ◌∙◌, inl, inr, arith, get_or}
 use Rattle.std.proofs.lemmas.List.{get_or_append_left, get_or-append_right}
-use Rattle.std.proofs.lemmas.Bool.{and_parts, lt-ltb, le-ltb, cases_eq, cases_lt}
+use Rattle.std.proofs.lemmas.Bool.{lt-ltb, le-ltb, cases_eq, cases_lt}
 use Rattle.std.proofs.lemmas.Bool.Decides.{Decides-eqb}
 use Rattle.std.proofs.lemmas.Slice.Eq.{slice_eq-Decides}
 use Rattle.polis_base.specs.Lists.{upto, places_from, places_where}
-use Rattle.transition_table.specs.NetworkFacts.{has, has_receivers}
+use Rattle.transition_table.specs.NetworkFacts.{has}
+use Rattle.transition_table.specs.inner.NetworkFacts.{has_receivers}
 use Rattle.transition_table.specs.declared.decl.EventDecl.{EventDecl}
 use Rattle.transition_table.specs.declared.machine.Machine.{Machine}
 use Rattle.transition_table.specs.declared.network.Network.{Network}
@@ -17,6 +17,7 @@ use Rattle.journals.specs.Journals.{reads}
 use Rattle.journals.specs.Schedules.{receivers_of}
 use Rattle.net_core.specs.Readers.{members}
 use Rattle.net_core.proofs.Bitsets.{same_below, none_past}
+use Rattle.journals.proofs.Ways.{passes_of_each}
 
 -- the test of the i-th item
 abbrev at_item : {X : Type 0} → (X → Bool) → List X → ℕ → Bool
@@ -54,19 +55,6 @@ places_are {X} test n p (x ∷ xs) same =
     (filter p (from (n + 1) (length xs)))) (sym first)
 
 -- ---- receivers
-
-passes_of_each : {X : Type 0} (p : ℕ × X → Bool) (n i m : ℕ) (xs : List X) (x : X) → n + i ≡ m
-    → list_all p (enumerate_from n xs) ≡ true → slice_get xs i ≡ Some x → p (m, x) ≡ true
-passes_of_each p n i m [] x place h e = cc
-passes_of_each p n zero m (y ∷ xs) x place h e =
-    let same : y ≡ x = cc in
-    let here : n ≡ m = omega arith in
-    subst (λ k. p (k, x) ≡ true) here
-    (subst (λ z. p (n, z) ≡ true) same
-    (and_parts (p (n, y)) (list_all p (enumerate_from (n + 1) xs)) h).0)
-passes_of_each p n (suc i) m (y ∷ xs) x place h e =
-    passes_of_each p (n + 1) i m xs x (omega arith)
-    (and_parts (p (n, y)) (list_all p (enumerate_from (n + 1) xs)) h).1 e
 
 reads_at : (net : Network) (e k : ℕ)
     → at_item (λ machine. has machine.inputs e) net.machines k ≡ reads net k e

@@ -1,48 +1,19 @@
 -- Stamps made and judged entry by entry.
-use Rattle.std.specs.Prelude.{◌≡◌, ℕ, zero, suc, ◌+◌, ◌<◌, ◌≤◌, List, [], ◌∷◌, ◌++◌, length, ◌-◌, take, drop, get_or, slice_get, Some}
-use Rattle.std.proofs.Common.{refl, sym, ap, ◌∙◌, subst, arith, length-append}
-use Rattle.std.proofs.lemmas.List.{take_more, take-append-drop, get_or-append_right}
-use Rattle.std.proofs.lemmas.Option.{get_or_from_slice_get}
+use Rattle.std.specs.Prelude.{◌≡◌, ℕ, suc, ◌+◌, ◌<◌, ◌≤◌, List, ◌∷◌, ◌++◌, length, ◌-◌, take, get_or, slice_get, Some, []}
+use Rattle.std.proofs.Common.{refl, ap, ◌∙◌, subst, arith, length-append}
+use Rattle.std.proofs.lemmas.List.{get_or-append_right}
 use Rattle.transition_table.specs.declared.decl.Party.TheVariants.{Machine as Sender}
 use Rattle.transition_table.specs.declared.network.Network.{Network}
 use Rattle.journals.specs.declared.entry.Entry.{Entry}
 use Rattle.journals.specs.declared.entry.TraceItem.{TraceItem}
 use Rattle.journals.specs.Journals.{FitsNetwork, delivered, sent}
-use Rattle.journals.specs.Legality.{Legal, MayFollow}
+use Rattle.journals.specs.Legality.{Legal}
 use Rattle.journals.specs.Laws.{PrefixesAreLegal, GoesOnBySteps, DeliveredBeginsSent}
 use Rattle.journals.specs.Logs.{entries, stamped, with_stamps}
 use Rattle.journals.specs.StampLaws.{AsManyStampsSent, LeastAreAsMany, LeastAreWithin, LeastBySteps}
 use Rattle.journals.specs.Stamps.{greatest, stamps_below, least_stamp, least}
-use Rattle.net_core.specs.Clocks.{IsBacked}
-
--- ---- one more of the first entries
-
-pub prefix_more : {X : Type 0} (journal : List X) (i : ℕ) (entry : X) → i < length journal
-    → slice_get journal i ≡ Some entry → take (i + 1) journal ≡ take i journal ++ entry ∷ []
-prefix_more journal i entry below at =
-    let item = get_or_from_slice_get journal i entry entry at in
-    let more = take_more journal i entry below in
-    rw item at more
-
-pub length_prefix : {X : Type 0} (xs : List X) (i : ℕ) → i ≤ length xs → length (take i xs) ≡ i
-length_prefix xs zero h = refl
-length_prefix [] (suc i) h = absurd (omega arith)
-length_prefix (x ∷ xs) (suc i) h = ap suc (length_prefix xs i (omega arith))
-
--- an entry of a legal journal may follow those before it
-pub prefix_step : PrefixesAreLegal → GoesOnBySteps
-    → (net : Network) (trace : List TraceItem) (journal : List Entry) (i : ℕ) (entry : Entry)
-    → Legal net trace journal → i < length journal → slice_get journal i ≡ Some entry
-    → Legal net trace (take i journal) × FitsNetwork net entry
-    × MayFollow net trace (take i journal) entry
-prefix_step prefixes steps net trace journal i entry legal below at =
-    let whole : journal ≡ take (i + 1) journal ++ drop (i + 1) journal =
-    sym (take-append-drop (i + 1) journal) in
-    let prefix =
-    prefixes net trace (take (i + 1) journal) (drop (i + 1) journal)
-    (subst (Legal net trace) whole legal) in
-    (steps net trace (take i journal) entry).0
-    (subst (Legal net trace) (prefix_more journal i entry below at) prefix)
+use Rattle.net_core.specs.inner.Clocks.{IsBacked}
+use Rattle.journals.proofs.StampSteps.{length_prefix, prefix_step, prefix_more, entries_with_stamps}
 
 -- ---- entries with their stamps
 
@@ -56,12 +27,6 @@ stamps_more (e ∷ journal) [] entry t h = absurd (omega arith)
 stamps_more (e ∷ journal) (u ∷ ts) entry t h =
     ap (λ l. stamped u e ∷ l) (stamps_more journal ts entry t (omega arith))
 
-entries_are : (journal : List Entry) (ts : List ℕ) → length ts ≡ length journal
-    → entries (with_stamps journal ts) ≡ journal
-entries_are [] ts h = refl
-entries_are (e ∷ journal) [] h = absurd (omega arith)
-entries_are (e ∷ journal) (t ∷ ts) h = ap (λ l. e ∷ l) (entries_are journal ts (omega arith))
-
 length_stamped : (journal : List Entry) (ts : List ℕ) → length ts ≡ length journal
     → length (with_stamps journal ts) ≡ length journal
 length_stamped [] ts h = refl
@@ -74,7 +39,7 @@ legal_is_backed : DeliveredBeginsSent → AsManyStampsSent
     → (net : Network) (trace : List TraceItem) (journal : List Entry) (ts : List ℕ)
     → Legal net trace journal → length ts ≡ length journal → IsBacked net (with_stamps journal ts)
 legal_is_backed begins_sent as_many net trace journal ts legal many = λ s m.
-    let same : entries (with_stamps journal ts) ≡ journal = entries_are journal ts many in
+    let same : entries (with_stamps journal ts) ≡ journal = entries_with_stamps journal ts many in
     let begins = begins_sent net trace (Sender s) m journal legal in
     let whole = ap length begins.1 ∙ length-append (delivered (Sender s) m journal) begins.0 in
     let count =

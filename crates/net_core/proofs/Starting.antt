@@ -6,7 +6,7 @@ use Rattle.std.proofs.lemmas.Bool.{cases_lt}
 use Rattle.polis_base.specs.Lists.{upto}
 use Rattle.net_core.specs.declared.config.emissions.Emission.{Emission}
 use Rattle.net_core.specs.Emissions.{nth, no_emission, no_place, all_waiting, IsQueue}
-use Rattle.net_core.proofs.Numbers.{length-table, get_or-table}
+use Rattle.journals.proofs.Moved.{length-table, get_or-table}
 use Rattle.net_core.proofs.Queueing.{waits_struck}
 
 -- the record with which a sender's chain begins

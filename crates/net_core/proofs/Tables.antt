@@ -1,47 +1,29 @@
 -- What is kept beside a journal, one entry more.
-use Rattle.std.specs.Prelude.{◌≡◌, ◌↔◌, ℕ, zero, suc, ◌+◌, ◌<◌, Bool, true, false, cond, ◌&&◌, nat_lt, List, [], ◌∷◌, ◌++◌, map, filter, flat_map, count_by, length, slice_get, Option, Some, option_map, unwrap_or, IsSomeAnd}
-use Rattle.std.proofs.Common.{refl, sym, ap, ◌∙◌, arith, get_or, length-append}
-use Rattle.std.proofs.lemmas.List.{length-map, append-nil}
+use Rattle.std.specs.Prelude.{◌≡◌, ◌↔◌, ℕ, ◌+◌, ◌<◌, Bool, true, false, cond, nat_lt, List, [], ◌∷◌, ◌++◌, map, filter, flat_map, count_by, length, slice_get, Some}
+use Rattle.std.proofs.Common.{refl, sym, ap, ◌∙◌, get_or}
+use Rattle.std.proofs.lemmas.List.{append-nil}
 use Rattle.std.proofs.lemmas.List.Elements.{filter-append}
-use Rattle.std.proofs.lemmas.Bool.{ltb-true, and_parts, both_ways}
+use Rattle.std.proofs.lemmas.Bool.{both_ways}
 use Rattle.std.proofs.lemmas.Option.{get_or_from_slice_get}
 use Rattle.polis_base.specs.Lists.{upto}
-use Rattle.transition_table.specs.Transitions.{IsSnapshot, IsOutcome}
 use Rattle.transition_table.specs.declared.decl.Party.TheVariants.{Env, Machine as Sender}
-use Rattle.transition_table.specs.declared.machine.Machine.{Machine}
 use Rattle.transition_table.specs.declared.network.Network.{Network}
 use Rattle.transition_table.specs.declared.snapshot.Snapshot.{Snapshot}
 use Rattle.journals.specs.declared.entry.Entry.{Entry}
 use Rattle.journals.specs.declared.entry.Entry.TheVariants.{Dep, Rea}
 use Rattle.journals.specs.declared.entry.Owed.{Owed}
 use Rattle.journals.specs.declared.entry.TraceItem.{TraceItem}
-use Rattle.journals.specs.Journals.{FitsNetwork, inputs_of, states_of, snap, place, state, is_party, is_event_code, emissions, delivered}
-use Rattle.net_core.specs.Landed.{landed}
+use Rattle.journals.specs.Journals.{snap, emissions, delivered}
+use Rattle.net_core.specs.inner.Landed.{landed}
 use Rattle.journals.specs.Legality.{Legal, MayFollow}
-use Rattle.net_core.specs.Tables.{AreBefore, AreTables}
-use Rattle.journals.specs.Moved.{machine_of, moments_of}
+use Rattle.net_core.specs.Tables.{AreTables}
+use Rattle.net_core.specs.inner.Tables.{AreBefore}
+use Rattle.journals.specs.Moved.{moments_of}
 use Rattle.journals.specs.Schedules.{is_way, left_by, firing_deliveries, owed_by_machines, deliveries_of, receivers_of, machine_deliveries, unmade, keep_unless, same_way}
 use Rattle.journals.specs.Laws.{MovesOwed}
 use Rattle.net_core.proofs.Emitting.{without_none}
-use Rattle.net_core.proofs.Numbers.{length-table, get_or-table}
-
--- ---- the machine of an entry
-
-pub machine_within : (net : Network) (entry : Entry) → FitsNetwork net entry
-    → machine_of entry < length net.machines
-machine_within net (Dep from to e c) h =
-    ltb-true to (length net.machines)
-    (and_parts (is_party net from) (nat_lt to (length net.machines))
-    (and_parts (is_party net from && nat_lt to (length net.machines)) (is_event_code net e c)
-    h).0).1
-machine_within net (Rea m s o) h =
-    there (λ machine. IsSnapshot machine s × IsOutcome machine o) net.machines m h
-  where
-    there : (P : Machine → Type 0) (machines : List Machine) (k : ℕ)
-        → IsSomeAnd (slice_get machines k) P → k < length machines
-    there P [] k g = absurd g
-    there P (machine ∷ machines) zero g = omega arith
-    there P (machine ∷ machines) (suc k) g = let below = there P machines k g in omega arith
+use Rattle.journals.proofs.Moved.{get_or-table}
+use Rattle.journals.proofs.Owing.{no_env_way}
 
 -- ---- the owed deliveries of machines
 
@@ -67,15 +49,6 @@ none_of_firing : (net : Network) (m : ℕ) (entry : Entry)
     → filter (is_way Env m) (firing_deliveries net entry) ≡ []
 none_of_firing net m (Dep s k e c) = refl
 none_of_firing net m (Rea k s o) = none_of_emissions net m k (emissions net (Rea k s o))
-
-none_of_machines : (net : Network) (m : ℕ) (journal : List Entry)
-    → filter (is_way Env m) (machine_deliveries net journal) ≡ []
-none_of_machines net m [] = refl
-none_of_machines net m (entry ∷ journal) =
-    filter-append (is_way Env m) (firing_deliveries net entry) (machine_deliveries net journal)
-    ∙ ap (λ l. l ++ filter (is_way Env m) (machine_deliveries net journal))
-    (none_of_firing net m entry)
-    ∙ none_of_machines net m journal
 
 none_unmade : (p : Owed → Bool) (journal : List Entry) (passed xs : List Owed) → filter p xs ≡ []
     → filter p (unmade (λ d. d) journal passed xs) ≡ []
@@ -110,7 +83,7 @@ owed_after net trace journal entry old new moves legal is takes =
         sym (without_none (is_way Env m) (owed_by_machines net journal ++ [])
         (ap (filter (is_way Env m)) (append-nil (owed_by_machines net journal))
         ∙ none_unmade (is_way Env m) journal [] (machine_deliveries net journal)
-        (none_of_machines net m journal)))
+        (no_env_way net m journal)))
     same (Dep (Sender s) m e c) = refl
     same (Rea m s o) = refl
 
@@ -130,24 +103,6 @@ pub moment_of : (net : Network) (journal : List Entry) (moments : List Snapshot)
 moment_of net journal moments m s are below at =
     at ∙ ap (λ (l : List Snapshot). get_or l m s) are
     ∙ get_or-table (snap net journal) (length net.machines) m s below
-
-pub length-snap : (net : Network) (journal : List Entry) (m : ℕ)
-    → length (snap net journal m).codes ≡ length (inputs_of net m) + length (states_of net m)
-length-snap net journal m =
-    length-append (map (place journal m) (inputs_of net m))
-    (map (state net journal m) (upto (length (states_of net m))))
-    ∙ rw (
-      length-map (inputs_of net m) (place journal m),
-      length-table (state net journal m) (length (states_of net m)),
-    ) refl
-
-pub moment_width : (net : Network) (journal : List Entry) (m : ℕ) (machine : Machine) (s : Snapshot)
-    → slice_get net.machines m ≡ Some machine → s ≡ snap net journal m
-    → length s.codes ≡ length machine.inputs + length machine.states
-moment_width net journal m machine s at is =
-    ap (λ (x : Snapshot). length x.codes) is ∙ length-snap net journal m
-    ∙ ap (λ (o : Option Machine). length (unwrap_or (option_map (λ machine. machine.inputs) o) [])
-    + length (unwrap_or (option_map (λ machine. machine.states) o) [])) at
 
 -- ---- tables
 

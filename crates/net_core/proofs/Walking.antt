@@ -1,46 +1,17 @@
 -- What is left of what a machine has sent, firing by firing.
-use Rattle.std.specs.Prelude.{◌≡◌, ℕ, zero, suc, ◌+◌, ◌-◌, ◌<◌, ◌≤◌, Bool, true, false, List, [], ◌∷◌, ◌++◌, filter, flat_map, length, take, drop, replicate, slice_get, Option, Some, option_map, unwrap_or}
-use Rattle.std.proofs.Common.{refl, sym, ap, ◌∙◌, subst, arith, length-append}
-use Rattle.std.proofs.lemmas.List.{drop_more, drop_all, length-replicate}
-use Rattle.std.proofs.lemmas.Option.{slice_get_within, get_or_from_slice_get}
+use Rattle.std.specs.Prelude.{◌≡◌, ℕ, zero, suc, ◌+◌, ◌-◌, ◌<◌, ◌≤◌, Bool, true, false, List, ◌∷◌, ◌++◌, filter, flat_map, length, take, drop, replicate, slice_get, Some, []}
+use Rattle.std.proofs.Common.{refl, sym, ap, ◌∙◌, arith, length-append}
+use Rattle.std.proofs.lemmas.List.{drop_all, length-replicate}
 use Rattle.std.proofs.Math.Nat.{max-zero}
 use Rattle.std.proofs.Math.Seq.{drop-append-add}
-use Rattle.transition_table.specs.declared.machine.Machine.{Machine}
 use Rattle.transition_table.specs.declared.network.Network.{Network}
-use Rattle.journals.specs.Journals.{FitsNetwork, IsJournal, outputs_of, reads, emitted, emissions}
-use Rattle.net_core.specs.Clocks.{left}
+use Rattle.journals.specs.Journals.{reads, emitted, emissions}
+use Rattle.net_core.specs.inner.Clocks.{left}
 use Rattle.journals.specs.Stamps.{greatest, once_each}
 use Rattle.journals.specs.declared.stamped.Stamped.{Stamped}
-use Rattle.journals.specs.Logs.{entries}
-
-pub outputs_of_machine : (net : Network) (m : ℕ) (machine : Machine)
-    → slice_get net.machines m ≡ Some machine → outputs_of net m ≡ machine.outputs
-outputs_of_machine net m machine at =
-    ap (λ (o : Option Machine). unwrap_or (option_map (λ machine. machine.outputs) o) []) at
-
-pub drop_at_item : {X : Type 0} (xs : List X) (i : ℕ) (x : X) → slice_get xs i ≡ Some x
-    → drop i xs ≡ x ∷ drop (i + 1) xs
-drop_at_item xs i x at = drop_more xs i x (slice_get_within xs i x at)
-    ∙ ap (λ y. y ∷ drop (i + 1) xs) (get_or_from_slice_get xs i x x at)
+use Rattle.journals.proofs.Emitting.{drop_at_item, emitted_none, emitted_one}
 
 -- ---- one output more
-
-emitted_none : (events codes : List ℕ) (k e c : ℕ) → slice_get events k ≡ Some e
-    → slice_get codes k ≡ Some c → c ≡ 0
-    → emitted (drop k events) (drop k codes) ≡ emitted (drop (k + 1) events) (drop (k + 1) codes)
-emitted_none events codes k e c event code none =
-    ap (λ l. emitted l (drop k codes)) (drop_at_item events k e event)
-    ∙ ap (λ l. emitted (e ∷ drop (k + 1) events) l) (drop_at_item codes k c code)
-    ∙ ap (λ n. emitted (e ∷ drop (k + 1) events) (n ∷ drop (k + 1) codes)) none
-
-emitted_one : (events codes : List ℕ) (k e c : ℕ) → slice_get events k ≡ Some e
-    → slice_get codes k ≡ Some c → 0 < c
-    → emitted (drop k events) (drop k codes)
-    ≡ (e, c) ∷ emitted (drop (k + 1) events) (drop (k + 1) codes)
-emitted_one events codes k e zero event code some = absurd (omega arith)
-emitted_one events codes k e (suc v) event code some =
-    ap (λ l. emitted l (drop k codes)) (drop_at_item events k e event)
-    ∙ ap (λ l. emitted (e ∷ drop (k + 1) events) l) (drop_at_item codes k (suc v) code)
 
 pub counted_one : (p : ℕ → Bool) (events codes : List ℕ) (k e c : ℕ) → slice_get events k ≡ Some e
     → slice_get codes k ≡ Some c → 0 < c → p e ≡ true
@@ -70,13 +41,6 @@ counted_past p events codes k e c event code some fails =
     (emitted_one events codes k e c event code some) ∙ rw fails refl
 
 -- ---- one firing more
-
-pub fits_at : (net : Network) (xs : List Stamped) (i : ℕ) (x : Stamped) → IsJournal net (entries xs)
-    → slice_get xs i ≡ Some x → FitsNetwork net x.entry
-fits_at net [] i x h at = absurd (cc)
-fits_at net (y ∷ xs) zero x h at =
-    subst (λ (o : Option (Stamped)). FitsNetwork net (unwrap_or o y).entry) at h.0
-fits_at net (y ∷ xs) (suc i) x h at = fits_at net xs i x h.1 at
 
 -- a firing of which all is taken is passed
 pub left_further : (net : Network) (m : ℕ) (firings : List Stamped) (f taken count : ℕ)

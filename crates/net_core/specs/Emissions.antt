@@ -1,5 +1,5 @@
 -- Emissions with the receivers that wait for them.
-use Rattle.std.specs.Prelude.{◌≡◌, ◌≢◌, ℕ, zero, suc, ◌+◌, ◌*◌, ◌<◌, ◌≤◌, Bool, false, cond, ◌&&◌, ◌==◌, List, [], ◌++◌, map, flat_map, length, drop, get_or}
+use Rattle.std.specs.Prelude.{◌≡◌, ◌≢◌, ℕ, ◌+◌, ◌*◌, ◌<◌, ◌≤◌, Bool, false, cond, ◌&&◌, ◌==◌, List, ◌++◌, map, flat_map, length, drop, get_or}
 use Rattle.std.specs.Int.{bit_at}
 use Rattle.transition_table.specs.declared.decl.Party.TheVariants.{Machine as Sender}
 use Rattle.journals.specs.declared.entry.Entry.{Entry}
@@ -85,12 +85,6 @@ pub record IsMore (records : List Emission) (last : List ℕ) (more : List Emiss
       → IsQueue more front cursors last_more
   pub view : (front : ℕ) → front ≤ length records
       → all_waiting (drop front more) ≡ all_waiting (drop front records) ++ owed
-
--- what an event with its code gives to a set of receivers, where the code 0 is none
-abbrev pub given : ℕ → ℕ → ℕ → ℕ → List Owed
-given s e zero left = []
-given s e (suc v) left =
-    waiting (record { from = s; event = e; code = suc v; left = left; next = no_place })
 
 -- how many records there are at most of what an entry gives
 abbrev pub most_given : Entry → ℕ

@@ -1,5 +1,5 @@
 -- What is kept beside a journal.
-use Rattle.std.specs.Prelude.{◌≡◌, ℕ, List, map, length, ◌<◌, ◌≤◌, ◌==◌, ◌++◌}
+use Rattle.std.specs.Prelude.{◌≡◌, ℕ, List, map, length, ◌<◌, ◌≤◌, ◌==◌}
 use Rattle.std.specs.Int.{bit_at}
 use Rattle.polis_base.specs.Lists.{upto}
 use Rattle.transition_table.specs.declared.network.Network.{Network}
@@ -9,8 +9,8 @@ use Rattle.journals.specs.declared.entry.Owed.{Owed}
 use Rattle.journals.specs.declared.entry.TraceItem.{TraceItem}
 use Rattle.journals.specs.Journals.{IsTrace, is_woken}
 use Rattle.journals.specs.Cursors.{cursor}
-use Rattle.journals.specs.Legality.{Legal, MayFollow}
-use Rattle.journals.specs.Schedules.{firing_deliveries, owed_by_machines}
+use Rattle.journals.specs.Legality.{Legal}
+use Rattle.journals.specs.Schedules.{owed_by_machines}
 use Rattle.journals.specs.Moved.{moments_of}
 use Rattle.net_core.specs.Readers.{AreReaders}
 
@@ -26,12 +26,3 @@ pub record AreTables (net : Network) (trace : List TraceItem) (journal : List En
   pub no_others : (m : ℕ) → length net.machines ≤ m → bit_at woken m ≡ 0
   pub cursors_are : cursors ≡ map (cursor net trace journal) (upto (length net.machines))
   pub owed_are : owed ≡ owed_by_machines net journal
-
--- The tables of a journal, but that what the entry gives is owed already. The entry may follow.
-pub record AreBefore (net : Network) (trace : List TraceItem) (journal : List Entry) (entry : Entry)
-    (readers : List ℕ) (moments : List Snapshot) (woken : ℕ) (cursors : List ℕ) (owed : List Owed) :
-    Type 0 where
-  pub follows : MayFollow net trace journal entry
-  pub tables : AreTables net trace journal readers moments woken cursors
-      (owed_by_machines net journal)
-  pub owed_are : owed ≡ owed_by_machines net journal ++ firing_deliveries net entry

@@ -4,14 +4,14 @@ ghost use Rattle.polis_base.specs.Lists.{upto};
 ghost use Rattle.journals.specs.declared.entry.Entry.{Entry};
 ghost use Rattle.journals.specs.Journals.{FitsNetwork, IsJournal, outputs_of, reads, emitted, emissions};
 ghost use Rattle.journals.specs.Moved.{machine_of};
-ghost use Rattle.net_core.specs.Clocks.{firings_of, left, most, cursor_at, one_taken, with_cursor, clocks_after, HasCursor, cursors_moved, firings_after, AreClocks, HasClocks, IsBacked};
+ghost use Rattle.net_core.specs.inner.Clocks.{firings_of, left, most, cursor_at, one_taken, with_cursor, clocks_after, HasCursor, cursors_moved, firings_after, AreClocks, HasClocks, IsBacked};
 ghost use Rattle.journals.specs.Stamps.{greatest, stamps_at, once_each, stamps_owed, origin as origin_of, stamps_below};
 ghost use Rattle.journals.specs.declared.stamped.Stamped.{Stamped};
 ghost use Rattle.journals.specs.Logs.{entries, stamped};
 
 use domains::Codes;
 use journals::Entry;
-use polis_base::{List, NoMemory, Places};
+use polis_base::{List, NoMemory};
 use std::alloc::Global;
 use std::marker::Model;
 use transition_table::{Network, Party};
@@ -243,19 +243,13 @@ fn first_owed(net: &Network, m: u32, firings: &List<Firing<'_>>, cursor: &mut Cu
     0
 }
 
-fn greater(a: u64, b: u64) -> u64
-    ensures { result ≡ max a b }
-{
-    if a < b { b } else { a }
-}
-
 // A machine's clock isn't below a stamp.
-fn raise(clocks: &mut Places, m: u32, stamp: u64)
+fn raise(clocks: &mut List<u64>, m: u32, stamp: u64)
     requires { m < length clocks.old }
     ensures { clocks.new ≡ clocks_after m stamp clocks.old }
 {
     let before = *clocks.get(m as u64);
-    clocks.set(m as u64, greater(before, stamp));
+    clocks.set(m as u64, before.max(stamp));
 }
 
 // A delivery from a machine takes one from what is left for its receiver.
@@ -297,17 +291,17 @@ fn add_firing<'a>(
 /// The clock of each machine, its firings, and the cursors of its receivers.
 #[derive(Drop)]
 pub(crate) struct Clocks<'a> {
-    clocks: Places,
+    clocks: List<u64>,
     firings: FiringLists<'a>,
     cursors: CursorTable,
 }
 
 // No machine has a stamp.
-fn no_clocks(alloc: Global, machines: u64) -> Result<Places, NoMemory>
+fn no_clocks(alloc: Global, machines: u64) -> Result<List<u64>, NoMemory>
     ensures { IfOk result (λ clocks. clocks
         ≡ map (λ m. greatest (stamps_at m [])) (upto machines)) }
 {
-    let mut clocks = Places::new(alloc);
+    let mut clocks = List::new(alloc);
     for _ in 0..machines {
         clocks.push(0)?;
     }
@@ -375,7 +369,7 @@ impl<'a> Clocks<'a> {
     {
         let clock = *self.clocks.get(entry.machine() as u64);
         let origin = self.origin(net, entry);
-        greater(clock, origin)
+        clock.max(origin)
     }
 
     /// Takes an entry with its stamp.

@@ -1,7 +1,7 @@
 // The deliveries of a journal that came on a present input.
 ghost use Rattle.std.specs.Prelude.{◌≡◌, ◌≤◌, ◌==◌, length, position, IfOk};
 ghost use Rattle.journals.specs.Journals.{IsJournal};
-ghost use Rattle.net_core.specs.Losses.{Overwrites};
+ghost use Rattle.net_core.specs.inner.Losses.{Overwrites};
 ghost use Rattle.journals.specs.Outputs.{lost as lost_in};
 
 use crate::moments::first_moments;

@@ -1,5 +1,6 @@
 // The least stamps of a journal, and the first stamp that doesn't rise.
 ghost use Rattle.std.specs.Prelude.{◌≡◌, ◌↔◌, ◌<◌, ◌≤◌, length, IfOk, IsTrue};
+ghost use Rattle.polis_base.specs.declared.limits.TheConstants.{ENTRIES_MAX};
 ghost use Rattle.journals.specs.Legality.{Legal};
 ghost use Rattle.journals.specs.Logs.{max_stamp};
 ghost use Rattle.journals.specs.Stamps.{Rising, least, IsFirstNotRising};
@@ -19,7 +20,7 @@ pub fn least_stamps(
     j: &Journal,
 ) -> Result<Stamps, NoMemory>
     requires legal { Legal net.now trace.now j.now }
-    requires few { length j.now ≤ 60000 }
+    requires few { length j.now ≤ ENTRIES_MAX }
     ensures least { IfOk result (λ s. s ≡ least net.now j.now) }
     ensures rising { IfOk result (λ s. Rising net.now j.now s) }
 {

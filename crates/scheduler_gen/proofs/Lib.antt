@@ -1,5 +1,4 @@
-mod Ordered
-mod Single
-mod Sizes
-mod Steps
-mod Woken
+pub mod Ordered
+pub mod Single
+pub mod Steps
+pub mod Woken

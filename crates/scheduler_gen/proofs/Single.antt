@@ -7,7 +7,7 @@ use Rattle.transition_table.specs.declared.row.Row.{Row}
 use Rattle.transition_table.specs.declared.machine.Machine.{Machine}
 use Rattle.transition_table.specs.declared.network.Network.{Network}
 use Rattle.transition_table.specs.Transitions.{AreDeterministic, IsDeterministic, holds}
-use Rattle.scheduler_gen.specs.Single.{has_one_row}
+use Rattle.scheduler_gen.specs.inner.Single.{has_one_row}
 
 single_is_deterministic : (m : Machine) → has_one_row m ≡ true → IsDeterministic m
 single_is_deterministic m one a b s below snapshot first second =

@@ -1,5 +1,5 @@
 -- Runs with one more entry.
-use Rattle.std.proofs.Common.{◌≡◌, ◌<◌, ◌≤◌, ◌+◌, ◌-◌, ◌⊎◌, ℕ, true, false, ◌==◌, ◌&&◌, nat_lt, nat_le, List, [], ◌∷◌, ◌++◌, length, take, drop, slice_get, Option, Some, None, refl, sym, ap, subst, ◌∙◌, inl, inr, arith, append_assoc, length-append}
+use Rattle.std.proofs.Common.{◌≡◌, ◌<◌, ◌≤◌, ◌+◌, ◌-◌, ◌⊎◌, ℕ, true, false, ◌==◌, ◌&&◌, nat_lt, nat_le, List, [], ◌∷◌, ◌++◌, length, take, drop, slice_get, Option, Some, None, refl, sym, ap, subst, ◌∙◌, inl, inr, arith, append_assoc, length-append, ◌↔◌, IsTrue, Bool}
 use Rattle.std.specs.Prelude.{IsSomeAnd}
 use Rattle.std.proofs.lemmas.Bool.{and_parts, eqb-true, ltb-true, ltb-false}
 use Rattle.std.specs.List.{list_all}
@@ -17,7 +17,10 @@ use Rattle.journals.specs.Journals.{inputs_of, states_of}
 use Rattle.journals.specs.Laws.{FollowsBySteps, FollowsAtEnd}
 use Rattle.net_core.specs.Moments.{Moment}
 use Rattle.journals.specs.Schedules.{pick, IsPicked, Follows, IsSchedule}
-use Rattle.scheduler_gen.specs.Runs.{IsNext, GoesOn, Ends}
+use Rattle.scheduler_gen.specs.inner.Runs.{IsNext, GoesOn, Ends}
+use Rattle.scheduler_gen.specs.Finishing.{IsFinished}
+use Rattle.polis_base.specs.Lists.{Begins}
+use Rattle.journals.specs.Legality.{Legal, Complete}
 
 -- nothing is added yet
 pub goes_nowhere : FollowsAtEnd → (old : Moment) → GoesOn old old 0
@@ -152,3 +155,32 @@ schedule_at net trace from journal limit old new start nothing goes ends same = 
           | false ↦ λ e. let above : limit ≤ length journal = ltb-false (length journal) limit e in
               inl (omega (arith, within))
         ] refl
+
+-- what is reached is what a run that is finished gives
+pub finished_at : (start old new : Moment) (limit : ℕ) (journal : List Entry) (complete : Bool)
+    → old ≡ start → length start.journal ≤ limit
+    → GoesOn old new (limit - length start.journal) → Ends old new (limit - length start.journal)
+    → journal ≡ new.journal → Legal new.net new.trace journal
+    → IsTrue complete ↔ Complete new.net new.trace new.journal
+    → IsFinished start limit journal complete
+finished_at start old new limit journal complete is few goes ends same legal whole =
+    let on : GoesOn start new (limit - length start.journal) =
+    subst (λ (m : Moment). GoesOn m new (limit - length start.journal)) is goes in
+    let moved : (P : Network → List TraceItem → List Entry → Type 0)
+    → P new.net new.trace new.journal → P start.net start.trace journal =
+    λ P h. subst (λ (l : List Entry). P start.net start.trace l) (sym same)
+    (subst (λ (trace : List TraceItem). P start.net trace new.journal) on.trace
+    (subst (λ (net : Network). P net new.trace new.journal) on.net h)) in
+    record {
+      begins = subst (λ (l : List Entry). Begins start.journal l) (sym same) on.begins;
+      follows = subst
+          (λ (l : List Entry). Follows start.net start.trace l (length start.journal))
+          (sym same) on.follows;
+      legal = moved Legal (subst (λ (l : List Entry). Legal new.net new.trace l) same legal);
+      within = rw same (omega (arith, on.within, few));
+      ends = ends_at start.net start.trace start.journal journal limit old new is few ends same;
+      complete = moved (λ net trace l. IsTrue complete ↔ Complete net trace l) whole;
+      schedule = λ nothing.
+          schedule_at start.net start.trace start.journal journal limit old new is nothing goes ends
+          same;
+    }

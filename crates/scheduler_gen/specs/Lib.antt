@@ -1,4 +1,3 @@
-pub mod Picks
+pub mod Finishing
 pub mod Plans
-pub mod Runs
-pub mod Single
+pub mod inner

@@ -3,7 +3,7 @@ ghost use Rattle.std.specs.Prelude.{◌≡◌, ◌≢◌, ◌<◌, ℕ, length, 
 ghost use Rattle.polis_base.specs.Lists.{head_of};
 ghost use Rattle.journals.specs.Schedules.{deliver as pick_of, first_pick, first_woken, owed_by_env, pick as picked};
 ghost use Rattle.journals.specs.declared.entry.Pick.{Pick};
-ghost use Rattle.scheduler_gen.specs.Picks.{reaction_or};
+ghost use Rattle.scheduler_gen.specs.inner.Picks.{reaction_or};
 ghost use Rattle.scheduler_gen.specs.Plans.{IsPlanOf};
 
 use crate::machines::Plan;

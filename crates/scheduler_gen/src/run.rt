@@ -1,13 +1,13 @@
 // Running a network on a trace.
-ghost use Rattle.std.specs.Prelude.{◌≡◌, ◌<◌, ◌≤◌, ◌⊎◌, ◌↔◌, ◌+◌, [], length, true, false, Ok, IfOk, OnOk, IsTrue};
-ghost use Rattle.polis_base.specs.Lists.{Begins};
+ghost use Rattle.std.specs.Prelude.{◌≡◌, ◌<◌, ◌≤◌, length, true, false, Ok, IfOk, OnOk};
 ghost use Rattle.journals.specs.Journals.{IsTrace};
-ghost use Rattle.journals.specs.Legality.{Legal, Complete};
+ghost use Rattle.journals.specs.Legality.{Legal};
 ghost use Rattle.net_core.specs.Moments.{Moment};
-ghost use Rattle.journals.specs.Schedules.{IsPicked, Follows, IsSchedule, pick as picked};
+ghost use Rattle.journals.specs.Schedules.{IsPicked, pick as picked};
 ghost use Rattle.journals.specs.declared.entry.Pick.{Pick};
+ghost use Rattle.scheduler_gen.specs.Finishing.{IsFinished};
 ghost use Rattle.scheduler_gen.specs.Plans.{IsPlanOf};
-ghost use Rattle.scheduler_gen.specs.Runs.{IsNext, GoesOn, Ends};
+ghost use Rattle.scheduler_gen.specs.inner.Runs.{IsNext, GoesOn, Ends};
 
 use crate::machines::Plan;
 use crate::next::pick;
@@ -135,17 +135,7 @@ pub fn complete_on<R: Reactor>(
     requires network { R.meaning r.now ≡ from.net }
     requires plan { IsPlanOf from.net plan.now }
     requires few { length from.journal ≤ limit }
-    ensures begins { IfOk result (λ f. Begins from.entry.journal f.journal) }
-    ensures follows { IfOk result
-        (λ f. Follows from.entry.net from.entry.trace f.journal (length from.entry.journal)) }
-    ensures legal { IfOk result (λ f. Legal from.entry.net from.entry.trace f.journal) }
-    ensures within { IfOk result (λ f. length f.journal ≤ limit) }
-    ensures ends { IfOk result (λ f. (picked from.entry.net from.entry.trace f.journal ≡ Pick.Stop)
-        ⊎ (length f.journal ≡ limit)) }
-    ensures complete { IfOk result (λ f. IsTrue f.complete
-        ↔ Complete from.entry.net from.entry.trace f.journal) }
-    ensures schedule { from.entry.journal ≡ []
-        → IfOk result (λ f. IsSchedule from.entry.net from.entry.trace limit f.journal) }
+    ensures { IfOk result (λ f. IsFinished from.entry limit f.journal f.complete) }
 {
     let mut config = from;
     let rest = limit - config.len();
@@ -172,17 +162,9 @@ pub fn complete<R: Reactor>(
     requires plan { IsPlanOf (R.meaning r.now) plan.now }
     requires legal { Legal (R.meaning r.now) trace.now from }
     requires few { length from ≤ limit }
-    ensures begins { IfOk result (λ f. Begins from f.journal) }
-    ensures follows { IfOk result (λ f. Follows (R.meaning r.now) trace.now f.journal (length
-        from)) }
-    ensures legal { IfOk result (λ f. Legal (R.meaning r.now) trace.now f.journal) }
-    ensures within { IfOk result (λ f. length f.journal ≤ limit) }
-    ensures ends { IfOk result (λ f. (picked (R.meaning r.now) trace.now f.journal ≡ Pick.Stop)
-        ⊎ (length f.journal ≡ limit)) }
-    ensures complete { IfOk result (λ f. IsTrue f.complete ↔ Complete (R.meaning r.now) trace.now
-        f.journal) }
-    ensures schedule { from ≡ []
-        → IfOk result (λ f. IsSchedule (R.meaning r.now) trace.now limit f.journal) }
+    ensures { IfOk result (λ f. IsFinished
+        (record { net = R.meaning r.now; trace = trace.now; journal = from }) limit f.journal
+        f.complete) }
 {
     let config = Config::resume(alloc, r.network(), trace, from)?;
     let finished = complete_on(alloc, plan, r, config, limit)?;

@@ -6,7 +6,7 @@ use Rattle.std.specs.Cmp.Lexicographic.{nat_list_eq_equiv}
 use Rattle.std.proofs.lemmas.List.Folds.{find-append}
 use Rattle.polis_base.specs.Lists.{upto}
 use Rattle.domains.specs.Names.{is_same}
-use Rattle.net_names.specs.Tables.{Numbered, number_at}
+use Rattle.net_names.specs.Tables.{NameNumbers, number_at}
 use Rattle.transition_table.specs.declared.decl.Party.TheVariants.{Env}
 use Rattle.transition_table.specs.declared.decl.EventDecl.{EventDecl}
 use Rattle.transition_table.specs.declared.network.Network.{Network}
@@ -15,7 +15,7 @@ use Rattle.trace_text.specs.Traces.{is_sent_event}
 use Rattle.trace_text.proofs.Finds.{sent_event}
 
 -- the table has the events before this one that the environment sends
-abbrev pub HasEvents : Network → ℕ → Numbered → Type 0
+abbrev pub HasEvents : Network → ℕ → NameNumbers → Type 0
 HasEvents net n table =
     (word : List ℕ) → number_at table word ≡ find (is_sent_event net word) (upto n)
 
@@ -24,7 +24,7 @@ find_more : (test : ℕ → Bool) (n : ℕ) → find test (upto (n + 1))
     ≡ option_or (find test (upto n)) (cond (test n) (Some n) None)
 find_more test n = rw add-one (find-append test (upto n) (n ∷ []))
 
-pub one_noted : (net : Network) (n : ℕ) (event : EventDecl) (before after : Numbered)
+pub one_noted : (net : Network) (n : ℕ) (event : EventDecl) (before after : NameNumbers)
     → slice_get net.events n ≡ Some event → same_party event.sender Env ≡ true
     → ((word : List ℕ) → number_at after word
     ≡ option_or (number_at before word) (cond (is_same word event.name) (Some n) None))
@@ -41,7 +41,7 @@ one_noted net n event before after at env noted has word =
     with_true true b h = sym h
     with_true false b h = refl
 
-pub none_noted : (net : Network) (n : ℕ) (event : EventDecl) (table : Numbered)
+pub none_noted : (net : Network) (n : ℕ) (event : EventDecl) (table : NameNumbers)
     → slice_get net.events n ≡ Some event → same_party event.sender Env ≡ false
     → HasEvents net n table → HasEvents net (n + 1) table
 none_noted net n event table at other has word =

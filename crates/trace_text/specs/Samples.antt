@@ -1,9 +1,6 @@
 -- Trace texts. LF is byte 10, CR is byte 13, tab is byte 9.
 use Rattle.std.specs.Prelude.{ℕ, List, [], ◌∷◌, ◌++◌, codes}
-
--- lines that end with LF
-abbrev pub line : List ℕ → List ℕ
-line text = text ++ 10 ∷ []
+use Rattle.journal_text.specs.Texts.{line}
 
 -- a tab before a word and a CR after it, a comment, an empty line, a line of spaces and a comment,
 -- `settle`, and a last line without its LF

@@ -1,21 +1,20 @@
 -- What a trace text says: its items, or the first line at fault.
-use Rattle.std.specs.Prelude.{ℕ, ◌+◌, cond, Bool, false, ◌&&◌, nat_lt, List, [], ◌∷◌, ◌++◌, length, fold, slice_get, Option, Some, None, option_map, unwrap_or, Result, Ok, Err, codes, IsTrue, ⊤}
+use Rattle.std.specs.Prelude.{ℕ, cond, Bool, false, ◌&&◌, nat_lt, List, [], ◌∷◌, ◌++◌, length, fold, slice_get, Option, Some, None, option_map, unwrap_or, Result, Ok, Err, codes, IsTrue, ⊤}
 use Rattle.std.specs.List.{find, enumerate_from}
 use Rattle.polis_base.specs.Lists.{upto}
 use Rattle.domains.specs.Names.{is_same}
-use Rattle.domains.specs.Domains.{size_of, word_of}
-use Rattle.domains.specs.declared.domain.Domain.{Domain}
 use Rattle.transition_table.specs.declared.decl.Party.TheVariants.{Env}
 use Rattle.transition_table.specs.declared.decl.EventDecl.{EventDecl}
 use Rattle.transition_table.specs.declared.network.Network.{Network}
 use Rattle.journals.specs.declared.entry.TraceItem.{TraceItem}
 use Rattle.journals.specs.declared.entry.TraceItem.TheVariants.{Event as EventItem, Settle}
 use Rattle.journals.specs.Journals.{same_party, is_trace_item}
-use Rattle.trace_text.specs.Pieces.{lines_of, without_comment, words_of}
+use Rattle.trace_text.specs.Pieces.{trace_lines, without_comment, trace_words}
 use Rattle.trace_text.specs.declared.fault.TraceKind.{TraceKind}
 use Rattle.trace_text.specs.declared.fault.TraceKind.TheVariants.{Shape, Event, Value, Many}
 use Rattle.trace_text.specs.declared.fault.TraceFault.{TraceFault}
 use Rattle.trace_text.specs.declared.fault.TraceFault.TheVariants.{Line}
+use Rattle.journal_text.specs.Items.{word_code, event_domain}
 
 -- the environment sends an event of this name
 abbrev pub is_sent : List ℕ → EventDecl → Bool
@@ -29,36 +28,15 @@ is_sent_event net word e = unwrap_or (option_map (is_sent word) (slice_get net.e
 abbrev pub env_event : Network → List ℕ → Option ℕ
 env_event net word = find (is_sent_event net word) (upto (length net.events))
 
--- the value of a domain that has this word
-abbrev pub value_named : List ℕ → Domain → Option ℕ
-value_named word domain = find (λ v. is_same (word_of domain v) word) (upto (size_of domain))
-
-abbrev pub joined : Option (Option ℕ) → Option ℕ
-joined None = None
-joined (Some found) = found
-
--- the code of a pure event without a word, which is 1, or of an event with a domain and the word of
--- its value v, which is 1 + v
-abbrev pub code_of : Network → Option ℕ → Option (List ℕ) → Option ℕ
-code_of net None None = Some 1
-code_of net None (Some word) = None
-code_of net (Some d) None = None
-code_of net (Some d) (Some word) =
-    option_map (λ v. 1 + v) (joined (option_map (value_named word) (slice_get net.domains d)))
-
--- the domain of an event, where it has one
-abbrev pub domain_of : Network → ℕ → Option ℕ
-domain_of net e = joined (option_map (λ event. event.domain) (slice_get net.events e))
-
 -- the item of an event with its code
 abbrev pub coded : ℕ → Option ℕ → Result (Option TraceItem) TraceKind
 coded e None = Err Value
 coded e (Some code) = Ok (Some (EventItem e code))
 
 -- the item of an event with the word after its name
-abbrev pub event_item : Network → Option ℕ → Option (List ℕ) → Result (Option TraceItem) TraceKind
-event_item net None word = Err Event
-event_item net (Some e) word = coded e (code_of net (domain_of net e) word)
+abbrev pub sent_item : Network → Option ℕ → Option (List ℕ) → Result (Option TraceItem) TraceKind
+sent_item net None word = Err Event
+sent_item net (Some e) word = coded e (word_code net (event_domain net e) word)
 
 abbrev pub is_settle : List ℕ → Bool
 is_settle word = is_same word (codes "settle")
@@ -67,13 +45,13 @@ is_settle word = is_same word (codes "settle")
 abbrev pub item_of_words : Network → List (List ℕ) → Result (Option TraceItem) TraceKind
 item_of_words net [] = Ok None
 item_of_words net (word ∷ []) =
-    cond (is_settle word) (Ok (Some Settle)) (event_item net (env_event net word) None)
+    cond (is_settle word) (Ok (Some Settle)) (sent_item net (env_event net word) None)
 item_of_words net (word ∷ value ∷ []) =
-    cond (is_settle word) (Err Shape) (event_item net (env_event net word) (Some value))
+    cond (is_settle word) (Err Shape) (sent_item net (env_event net word) (Some value))
 item_of_words net (word ∷ value ∷ more ∷ words) = Err Shape
 
 abbrev pub item_of_line : Network → List ℕ → Result (Option TraceItem) TraceKind
-item_of_line net line = item_of_words net (words_of (without_comment line))
+item_of_line net line = item_of_words net (trace_words (without_comment line))
 
 -- an item that a line is fits the network
 abbrev pub AddsItem : Network → Result (Option TraceItem) TraceKind → Type 0
@@ -98,4 +76,4 @@ with_line net (Ok items) (line, text) = added items line (item_of_line net text)
 
 -- the items of a text, or the first line at fault, where lines are numbered from 1
 abbrev pub trace_of : Network → List ℕ → Result (List TraceItem) TraceFault
-trace_of net text = fold (with_line net) (Ok []) (enumerate_from 1 (lines_of text))
+trace_of net text = fold (with_line net) (Ok []) (enumerate_from 1 (trace_lines text))

@@ -1,12 +1,8 @@
 // Cutting a text into lines, and a line into words.
 ghost use Rattle.std.specs.Prelude.{◌≡◌, ◌<◌, ℕ, [], ◌∷◌, length, IfNone, IfSome};
-ghost use Rattle.trace_text.specs.Pieces.{ends_line, ends_word, begins_comment, lines_of, words_of, without_comment, pieces};
+ghost use Rattle.trace_text.specs.Pieces.{ends_word, trace_lines, trace_words, without_comment, runs};
 
-fn ends_a_line(byte: u8) -> bool
-    ensures { result ≡ ends_line byte }
-{
-    byte == b'\n'
-}
+use journal_text::next_piece;
 
 fn ends_a_word(byte: u8) -> bool
     ensures { result ≡ ends_word byte }
@@ -14,30 +10,23 @@ fn ends_a_word(byte: u8) -> bool
     matches!(byte, b' ' | b'\t' | b'\r')
 }
 
-fn begins_a_comment(byte: u8) -> bool
-    ensures { result ≡ begins_comment byte }
-{
-    byte == b'#'
-}
-
 /// The first line of a text that isn't empty, without its LF, and what stands after it.
 pub fn next_line(text: &[u8]) -> (&[u8], &[u8])
     requires { 0 < length text.now }
-    ensures line { lines_of text.now ≡ result.0.now ∷ lines_of result.1.now }
+    ensures line { trace_lines text.now ≡ result.0.now ∷ trace_lines result.1.now }
     ensures shorter { length result.1.now < length text.now }
 {
-    for k in 0..text.len() {
-        if ends_a_line(text[k]) {
-            return (&text[..k], &text[k + 1..]);
-        }
+    let (line, after) = next_piece(text, b'\n');
+    match after {
+        Some(rest) => (line, rest),
+        None => (line, &[]),
     }
-    (text, &[])
 }
 
-// The first piece of a line, up to a byte that no word has, and what stands after it.
-fn next_piece(line: &[u8]) -> (&[u8], &[u8])
+// The first run of a line, up to a byte that no word has, and what stands after it.
+fn next_run(line: &[u8]) -> (&[u8], &[u8])
     requires { 0 < length line.now }
-    ensures piece { pieces ends_word line.now ≡ result.0.now ∷ pieces ends_word result.1.now }
+    ensures run { runs ends_word line.now ≡ result.0.now ∷ runs ends_word result.1.now }
     ensures shorter { length result.1.now < length line.now }
 {
     for k in 0..line.len() {
@@ -50,12 +39,12 @@ fn next_piece(line: &[u8]) -> (&[u8], &[u8])
 
 /// The first word of a line, and what stands after it.
 pub fn next_word(line: &[u8]) -> Option<(&[u8], &[u8])>
-    ensures some { IfSome result (λ r. words_of line.now ≡ r.0.now ∷ words_of r.1.now) }
-    ensures none { IfNone result (words_of line.now ≡ []) }
+    ensures some { IfSome result (λ r. trace_words line.now ≡ r.0.now ∷ trace_words r.1.now) }
+    ensures none { IfNone result (trace_words line.now ≡ []) }
 {
     let mut rest = line;
     while !rest.is_empty() {
-        let (word, after) = next_piece(rest);
+        let (word, after) = next_run(rest);
         if !word.is_empty() {
             return Some((word, after));
         }
@@ -68,10 +57,5 @@ pub fn next_word(line: &[u8]) -> Option<(&[u8], &[u8])>
 pub fn text_of(line: &[u8]) -> &[u8]
     ensures { result.now ≡ without_comment line.now }
 {
-    for k in 0..line.len() {
-        if begins_a_comment(line[k]) {
-            return &line[..k];
-        }
-    }
-    line
+    next_piece(line, b'#').0
 }

@@ -1,5 +1,6 @@
 // Reading a trace text.
 ghost use Rattle.std.specs.Prelude.{◌≡◌, ◌≢◌, ◌≤◌, length, Ok, Err, IfOk};
+ghost use Rattle.polis_base.specs.declared.limits.TheConstants.{TRACE_ITEMS_MAX};
 ghost use Rattle.journals.specs.Journals.{IsTrace};
 ghost use Rattle.trace_text.specs.Traces.{trace_of, with_line};
 ghost use Rattle.trace_text.specs.declared.fault.TraceFault.{TraceFault};
@@ -18,11 +19,11 @@ const MOST_ITEMS: u64 = 10_000;
 // Adds what a line of this number says to the items before it.
 fn add_line(sent: &Sent, trace: &mut Trace, line: u64, text: &[u8]) -> Result<(), TraceFault>
     requires fits { IsTrace sent.now.net.now trace.old }
-    requires few { length trace.old ≤ 10000 }
+    requires few { length trace.old ≤ TRACE_ITEMS_MAX }
     ensures ok { IfOk result (λ u. with_line sent.now.net.now (Ok trace.old) (line, text.now)
         ≡ Ok trace.new) }
     ensures fits { IfOk result (λ u. IsTrace sent.now.net.now trace.new) }
-    ensures few { IfOk result (λ u. length trace.new ≤ 10000) }
+    ensures few { IfOk result (λ u. length trace.new ≤ TRACE_ITEMS_MAX) }
     ensures fault { (fault : TraceFault) → result ≡ Err fault → fault ≢ TraceFault.NoMemory
         → with_line sent.now.net.now (Ok trace.old) (line, text.now) ≡ Err fault }
 {
@@ -49,7 +50,7 @@ fn add_line(sent: &Sent, trace: &mut Trace, line: u64, text: &[u8]) -> Result<()
 fn read_lines(alloc: Global, sent: &Sent, text: &[u8]) -> Result<Trace, TraceFault>
     ensures ok { IfOk result (λ trace. trace_of sent.now.net.now text.now ≡ Ok trace) }
     ensures fits { IfOk result (λ trace. IsTrace sent.now.net.now trace) }
-    ensures few { IfOk result (λ trace. length trace ≤ 10000) }
+    ensures few { IfOk result (λ trace. length trace ≤ TRACE_ITEMS_MAX) }
     ensures fault { (fault : TraceFault) → result ≡ Err fault → fault ≢ TraceFault.NoMemory
         → trace_of sent.now.net.now text.now ≡ Err fault }
 {
@@ -73,7 +74,7 @@ fn read_lines(alloc: Global, sent: &Sent, text: &[u8]) -> Result<Trace, TraceFau
 pub fn read_trace(alloc: Global, net: &Network, text: &[u8]) -> Result<Trace, TraceFault>
     ensures ok { IfOk result (λ trace. trace_of net.now text.now ≡ Ok trace) }
     ensures fits { IfOk result (λ trace. IsTrace net.now trace) }
-    ensures few { IfOk result (λ trace. length trace ≤ 10000) }
+    ensures few { IfOk result (λ trace. length trace ≤ TRACE_ITEMS_MAX) }
     ensures fault { (fault : TraceFault) → result ≡ Err fault → fault ≢ TraceFault.NoMemory
         → trace_of net.now text.now ≡ Err fault }
 {

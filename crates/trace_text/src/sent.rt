@@ -69,9 +69,7 @@ impl<'n> Sent<'n> {
             IsTrue (is_sent_event self.now.net.now word.now e)) }
     {
         let name = Name::new(word)?;
-        match self.events.number(name) {
-            Some(e) => Some(e as u32),
-            None => None,
-        }
+        let e = self.events.number(name)?;
+        Some(e as u32)
     }
 }

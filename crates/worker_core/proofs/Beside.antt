@@ -1,11 +1,11 @@
 -- What the core's code keeps, one entry more.
 use Rattle.std.specs.Prelude.{◌≡◌, ℕ, zero, suc, ◌+◌, ◌<◌, Bool, true, false, cond, ◌==◌, List, [], ◌∷◌, ◌++◌, map, length, get_or, set, slice_get, Option, Some, None, option_map, unwrap_or, IsSomeAnd}
 use Rattle.std.specs.List.{list_all}
-use Rattle.std.proofs.Common.{refl, sym, ap, ◌∙◌, arith, length-append, append_assoc}
-use Rattle.std.proofs.lemmas.List.{append-nil, length-map, get_or-set_same, get_or-set_other}
+use Rattle.std.proofs.Common.{refl, sym, ap, ◌∙◌, arith, append_assoc}
+use Rattle.std.proofs.lemmas.List.{append-nil, get_or-set_same, get_or-set_other}
 use Rattle.std.proofs.lemmas.Option.{same_Some, get_or_from_slice_get}
 use Rattle.std.proofs.lemmas.Bool.{and_parts}
-use Rattle.polis_base.specs.Lists.{upto, last_of}
+use Rattle.polis_base.specs.Lists.{last_of}
 use Rattle.transition_table.specs.Transitions.{AreDeterministic, OfMachine, IsSnapshot, Transition}
 use Rattle.transition_table.specs.declared.machine.Machine.{Machine}
 use Rattle.transition_table.specs.declared.network.Network.{Network}
@@ -13,7 +13,7 @@ use Rattle.transition_table.specs.declared.snapshot.Snapshot.{Snapshot}
 use Rattle.transition_table.specs.declared.snapshot.Outcome.{Outcome}
 use Rattle.journals.specs.declared.entry.Entry.{Entry}
 use Rattle.journals.specs.declared.entry.Entry.TheVariants.{Dep, Rea}
-use Rattle.journals.specs.Journals.{inputs_of, states_of, place, state, snap, is_woken, reads}
+use Rattle.journals.specs.Journals.{snap, is_woken, reads}
 use Rattle.transition_table.specs.Laws.{OneOutcome}
 use Rattle.journals.specs.Moved.{machine_of, is_dep, codes_after}
 use Rattle.journals.specs.declared.stamped.Stamped.{Stamped}
@@ -21,9 +21,10 @@ use Rattle.journals.specs.Alone.{is_own}
 use Rattle.journals.specs.Logs.{entries}
 use Rattle.journals.specs.Reactions.{outcome_on, outcome_in, reaction}
 use Rattle.journals.specs.Laws.{MovesMoment, MovesWaking, GivesTransition}
-use Rattle.worker_core.specs.Parts.{own_moments, ends_in_delivery}
-use Rattle.worker_core.proofs.Growing.{entries_more}
-use Rattle.worker_core.proofs.Tables.{length-table, get_or-table, set-table}
+use Rattle.worker_core.specs.Parts.{own_moments}
+use Rattle.worker_core.specs.inner.Parts.{ends_in_delivery}
+use Rattle.journals.proofs.Moved.{length-table, set-table, get_or-table}
+use Rattle.journals.proofs.StampSteps.{entries_more}
 
 -- ---- the last of a list
 
@@ -48,26 +49,6 @@ pub own_moment : (net : Network) (logs : List (List Stamped)) (moments : List Sn
 own_moment net logs moments m s are below at =
     sym (get_or_from_slice_get moments m s s at) ∙ ap (λ (l : List Snapshot). get_or l m s) are
     ∙ get_or-table (λ m. snap net (entries (get_or logs m [])) m) (length net.machines) m s below
-
-length-snap : (net : Network) (journal : List Entry) (m : ℕ)
-    → length (snap net journal m).codes ≡ length (inputs_of net m) + length (states_of net m)
-length-snap net journal m =
-    length-append (map (place journal m) (inputs_of net m))
-    (map (state net journal m) (upto (length (states_of net m))))
-    ∙ rw (
-      length-map (inputs_of net m) (place journal m),
-      length-table (state net journal m)
-          (length (states_of net m)),
-    ) refl
-
-pub moment_width : (net : Network) (journal : List Entry) (m : ℕ) (machine : Machine) (s : Snapshot)
-    → slice_get net.machines m ≡ Some machine → s ≡ snap net journal m
-    → length s.codes ≡ length machine.inputs + length machine.states
-moment_width net journal m machine s at is =
-    ap (λ (x : Snapshot). length x.codes) is ∙ length-snap net journal m
-    ∙ ap (λ (o : Option Machine). length
-    (unwrap_or (option_map (λ machine. machine.inputs) o) []) + length
-    (unwrap_or (option_map (λ machine. machine.states) o) [])) at
 
 pub moments_added : (net : Network) (logs : List (List Stamped)) (moments : List Snapshot) (m : ℕ)
     (x : Stamped) (machine : Machine) (before s : Snapshot)

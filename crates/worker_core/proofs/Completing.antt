@@ -20,7 +20,7 @@ use Rattle.worker_core.specs.Cores.{CoreState, log_of, hand_of, may_react, may_l
 use Rattle.journals.specs.Logs.{entries, clock, max_stamp, of_machine}
 use Rattle.worker_core.specs.Facts.{IsCore, deliveries_in, count_entries, held_by, on_way, is_hand_within, log_of_party}
 use Rattle.worker_core.specs.Merges.{put, by_stamp, merged}
-use Rattle.worker_core.specs.Known.{Known}
+use Rattle.worker_core.specs.inner.Known.{Known}
 use Rattle.worker_core.proofs.Growing.{clock_within}
 use Rattle.worker_core.proofs.Legal.{merge_is, own_entries}
 

@@ -16,7 +16,8 @@ use Rattle.journals.specs.declared.stamped.CoreStep.{CoreStep}
 use Rattle.journals.specs.declared.stamped.CoreStep.TheVariants.{React, Land, Free, Feed}
 use Rattle.worker_core.specs.Cores.{CoreState, log_of, hand_of, hand_after, with_entry, may_react, may_land, reacting, reacted, landing, landed, land, freed, free, fed, take_step}
 use Rattle.journals.specs.Logs.{entries, clock, max_stamp}
-use Rattle.worker_core.specs.Facts.{IsCore, count_entries, count_busy, deliveries_in, is_due}
+use Rattle.worker_core.specs.Facts.{IsCore, count_entries, deliveries_in, is_due}
+use Rattle.worker_core.specs.inner.Facts.{count_busy}
 use Rattle.worker_core.proofs.Growing.{count_more}
 use Rattle.worker_core.proofs.Landing.{due_within}
 use Rattle.worker_core.proofs.Stepping.{is_none_at, woken_inside, hand_inside, some_when}

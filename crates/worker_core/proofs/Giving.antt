@@ -20,7 +20,7 @@ use Rattle.journals.specs.Moved.{moments_of}
 use Rattle.journals.specs.Schedules.{deliveries_of, trace_deliveries}
 use Rattle.worker_core.specs.Cores.{CoreState, at_start, take_step, run_steps}
 use Rattle.journals.specs.Logs.{entries}
-use Rattle.worker_core.specs.Given.{item_deliveries}
+use Rattle.journals.specs.Schedules.{item_deliveries}
 use Rattle.worker_core.specs.Parts.{state_of, own_moments, AreParts}
 use Rattle.worker_core.proofs.Stepping.{same_everywhere}
 

@@ -2,7 +2,7 @@
 use Rattle.std.specs.Prelude.{◌≡◌, ℕ, zero, suc, ◌+◌, ◌<◌, ◌≤◌, Bool, true, false, cond, not, ◌&&◌, ◌||◌, nat_lt, nat_le, List, [], ◌∷◌, ◌++◌, map, flat_map, length, get_or, set, Option, Some, None, ◌⊎◌}
 use Rattle.std.specs.List.{list_all}
 use Rattle.std.proofs.Common.{refl, sym, ap, ◌∙◌, subst, inl, inr, arith, append_assoc, length-append}
-use Rattle.std.proofs.lemmas.List.{append-nil, map-append}
+use Rattle.std.proofs.lemmas.List.{append-nil}
 use Rattle.std.proofs.lemmas.List.Folds.{list_all-append}
 use Rattle.std.proofs.lemmas.Bool.{leb-true, le-leb, lt-ltb, ltb-true, cases_eq, and_parts, and_from, or_left}
 use Rattle.polis_base.specs.Lists.{Begins, last_of}
@@ -21,7 +21,7 @@ use Rattle.journals.specs.Logs.{rises}
 use Rattle.journals.specs.Alone.{is_own, ReactsAfter, LegalAlone}
 use Rattle.worker_core.specs.Facts.{stamped_below, log_of_party, InTime, AllInTime, is_last_firing, is_hand_within, count_entries}
 use Rattle.worker_core.proofs.Sorting.{all_more}
-use Rattle.worker_core.proofs.Sent.{begins_further}
+use Rattle.journals.proofs.Sent.{begins_further}
 use Rattle.worker_core.proofs.Legal.{begins_sent, both_fit}
 
 -- the logs with the entry x more in m's
@@ -99,10 +99,6 @@ all_push p xs x h g =
     ∙ and_from (list_all p xs) (p x && true) h (and_from (p x) true g refl)
 
 -- ---- legal by itself
-
-pub entries_more : (xs : List Stamped) (x : Stamped)
-    → entries (xs ++ x ∷ []) ≡ entries xs ++ x.entry ∷ []
-entries_more xs x = map-append (λ (y : Stamped). y.entry) xs (x ∷ [])
 
 reacts_more : (net : Network) (before : List Entry) (xs : List Stamped) (x : Stamped)
     → ReactsAfter net before (entries xs)

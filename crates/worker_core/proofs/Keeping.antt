@@ -25,11 +25,12 @@ use Rattle.journals.specs.Alone.{LegalAlone}
 use Rattle.worker_core.specs.Facts.{log_of_party, deliveries_in, held_by, on_way, is_last_firing, is_hand_within, is_due, stamps_out, stamps_held, CoreFacts}
 use Rattle.journals.specs.Stamps.{stamps_sent}
 use Rattle.worker_core.proofs.Sorting.{all_more}
-use Rattle.worker_core.proofs.Sent.{delivered_by_reaction, sent_more}
-use Rattle.worker_core.specs.Known.{Known}
+use Rattle.worker_core.specs.inner.Known.{Known}
 use Rattle.worker_core.proofs.Due.{firing_due}
 use Rattle.worker_core.proofs.Leasting.{stamps_push, stamps_of_one, drop_whole, all_least_more}
-use Rattle.worker_core.proofs.Growing.{HasMore, more_or_same, none_above_clock, within_more, hand_within_more, all_push, entries_more, alone_more, all_in_time_more}
+use Rattle.worker_core.proofs.Growing.{HasMore, more_or_same, none_above_clock, within_more, hand_within_more, all_push, alone_more, all_in_time_more}
+use Rattle.journals.proofs.Sent.{sent_more, delivered_by_reaction}
+use Rattle.journals.proofs.StampSteps.{entries_more}
 
 -- ---- a reaction
 

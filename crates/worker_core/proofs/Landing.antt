@@ -21,14 +21,15 @@ use Rattle.journals.specs.Logs.{rises}
 use Rattle.journals.specs.Alone.{is_own, LegalAlone}
 use Rattle.journals.specs.Laws.{may_arrive}
 use Rattle.worker_core.specs.Facts.{stamped_below, log_of_party, InTime, deliveries_in, held_by, on_way, is_last_firing, is_hand_within, is_due, stamps_out, stamps_held, CoreFacts}
-use Rattle.worker_core.specs.Known.{Known}
+use Rattle.worker_core.specs.inner.Known.{Known}
 use Rattle.journals.specs.StampLaws.{origin_in}
 use Rattle.journals.specs.Stamps.{greatest, stamps_sent}
 use Rattle.journals.specs.Schedules.{is_way, event_code}
 use Rattle.worker_core.proofs.Sorting.{all_more, rises_from, rises_unbounded}
-use Rattle.worker_core.proofs.Sent.{same_party_self, party_from_same, delivered_more, delivered_own, sent_more, sent_by_delivery}
+use Rattle.journals.proofs.Sent.{same_party_self, party_from_same, delivered_more, sent_more, delivered_own, sent_by_delivery}
 use Rattle.worker_core.proofs.Leasting.{stamps_push, drop_replicate, stamp_in, held_same, nothing_held, all_least_more}
-use Rattle.worker_core.proofs.Growing.{HasMore, more_or_same, within_more, hand_within_more, all_push, entries_more, alone_more, all_in_time_more, last_firing_more}
+use Rattle.worker_core.proofs.Growing.{HasMore, more_or_same, within_more, hand_within_more, all_push, alone_more, all_in_time_more, last_firing_more}
+use Rattle.journals.proofs.StampSteps.{entries_more}
 
 -- ---- where the last firing is below a stamp, all was sent by firings below it
 

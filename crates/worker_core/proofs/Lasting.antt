@@ -17,15 +17,18 @@ use Rattle.journals.specs.declared.stamped.CoreStep.TheVariants.{React, Land, Fr
 use Rattle.worker_core.specs.Cores.{CoreState, log_of, hand_of, with_entry, may_react, may_land, reacting, reacted, landing, landed, land, freed, free, fed, take_step, run_steps, at_start}
 use Rattle.journals.specs.Logs.{entries, clock, max_stamp}
 use Rattle.worker_core.specs.CoreLaws.{StartIsCore, StoppedIsComplete}
-use Rattle.worker_core.specs.Facts.{IsCore, count_entries, count_busy, is_due}
+use Rattle.worker_core.specs.Facts.{IsCore, count_entries, is_due}
+use Rattle.worker_core.specs.inner.Facts.{count_busy}
 use Rattle.worker_core.specs.Merges.{merged}
 use Rattle.worker_core.specs.Running.{CoreMoment}
-use Rattle.worker_core.specs.Turns.{Took, IsStopped, IsWhole, IsRun, adds_entry}
+use Rattle.worker_core.specs.Turns.{IsWhole, IsRun}
+use Rattle.worker_core.specs.inner.Turns.{Took, IsStopped, adds_entry}
 use Rattle.worker_core.proofs.Completing.{length_merged}
 use Rattle.worker_core.proofs.Gaining.{step_gains, due_inside}
 use Rattle.worker_core.proofs.Growing.{count_more}
 use Rattle.worker_core.proofs.Landing.{due_within}
 use Rattle.worker_core.proofs.Stepping.{woken_inside, some_when, no_entries}
+use Rattle.worker_core.proofs.Giving.{run_steps_push}
 
 -- ---- the entries after a step
 
@@ -119,14 +122,6 @@ pub record IsAlone (net : Network) (trace : List TraceItem) (core : CoreMoment)
   pub steps : List CoreStep
   pub state_is : core.state ≡ run_steps net (at_start net trace) steps
 
--- one step more
-run_more : (net : Network) (state : CoreState) (steps : List CoreStep) (step : CoreStep)
-    → run_steps net state (steps ++ step ∷ [])
-    ≡ unwrap_or (take_step net (run_steps net state steps) step) (run_steps net state steps)
-run_more net state [] step = refl
-run_more net state (first ∷ steps) step =
-    run_more net (unwrap_or (take_step net state first) state) steps step
-
 pub turn_gains : (net : Network) (trace : List TraceItem) (old new : CoreMoment) (step : CoreStep)
     (made k added : ℕ)
     → ((state next : CoreState) (step : CoreStep) → IsCore net trace state
@@ -150,7 +145,7 @@ turn_gains net trace old new step made k added keeps alone took is =
       gain = omega arith;
       steps = alone.steps ++ step ∷ [];
       state_is = sym
-          (run_more net (at_start net trace) alone.steps step
+          (run_steps_push net (at_start net trace) alone.steps step
           ∙ ap (λ (s : CoreState). unwrap_or (take_step net s step) s) (sym alone.state_is)
           ∙ ap (λ (o : Option CoreState). unwrap_or o old.state) taken);
     }

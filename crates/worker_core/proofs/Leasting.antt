@@ -1,5 +1,5 @@
 -- The stamps of the logs are the least ones.
-use Rattle.std.specs.Prelude.{◌≡◌, ℕ, zero, suc, ◌+◌, ◌<◌, ◌≤◌, max, Bool, true, false, cond, ◌&&◌, nat_lt, nat_le, List, [], ◌∷◌, ◌++◌, filter, flat_map, length, take, drop, replicate, Option, Some, None}
+use Rattle.std.specs.Prelude.{◌≡◌, ℕ, zero, suc, ◌+◌, ◌<◌, max, Bool, true, false, cond, ◌&&◌, nat_lt, nat_le, List, [], ◌∷◌, ◌++◌, filter, flat_map, length, take, drop, replicate, Option, Some, None}
 use Rattle.std.proofs.Common.{refl, sym, ap, ◌∙◌, subst, inl, inr, arith, append_assoc, length-append}
 use Rattle.std.proofs.lemmas.List.{append-nil, drop_all, drop-append-le, take-append-le, length-drop}
 use Rattle.std.proofs.lemmas.Option.{same_Some, none-some}
@@ -20,16 +20,15 @@ use Rattle.journals.specs.StampLaws.{origin_in, AllLeastIn}
 use Rattle.journals.specs.Stamps.{greatest, once_each, stamps_sent}
 use Rattle.worker_core.specs.declared.state.Hand.{Hand}
 use Rattle.worker_core.specs.Facts.{stamped_below, InTime, AllInTime, deliveries_in, on_way, stamps_held}
-use Rattle.worker_core.specs.Known.{Known}
-use Rattle.worker_core.proofs.Sent.{delivered_own}
+use Rattle.worker_core.specs.inner.Known.{Known}
 use Rattle.worker_core.proofs.Legal.{begins_sent}
-use Rattle.worker_core.proofs.Growing.{HasMore, more_or_same, entries_more}
+use Rattle.worker_core.proofs.Growing.{HasMore, more_or_same}
+use Rattle.journals.proofs.Sent.{delivered_own}
+use Rattle.journals.proofs.Owing.{begins_shorter}
+use Rattle.journals.proofs.StampSteps.{entries_more}
+use Rattle.journals.proofs.Stamping.{greatest_both}
 
 -- ---- the greatest stamp of a log is its clock
-
-pub greatest_both : (xs ys : List ℕ) → greatest (xs ++ ys) ≡ max (greatest xs) (greatest ys)
-greatest_both [] ys = omega arith
-greatest_both (x ∷ xs) ys = let rest = greatest_both xs ys in omega arith
 
 greatest_rising : (low : ℕ) (log : List Stamped) → rises low log ≡ true
     → max low (greatest (stamps_of log)) ≡ last_of low (stamps_of log)
@@ -116,12 +115,6 @@ stamped_begins t (x ∷ xs) = cases (nat_lt x.stamp t) (stamped_begins t xs)
     cases true (rest, e) = (rest, ap (λ l. x ∷ l) e)
     cases false g = (x ∷ xs, refl)
 
-begins_length : {X : Type 0} (xs ys : List X) → Begins xs ys → length xs ≤ length ys
-begins_length xs ys (rest, e) =
-    let whole = ap length e in
-    let parts = length-append xs rest in
-    omega arith
-
 -- fewer were delivered before a landing in time than were sent
 fewer_delivered : (net : Network) (trace : List TraceItem) (logs : ℕ → List Stamped)
     (before : List Entry) (t s m e c : ℕ) → InTime net trace logs before t (Dep (Sender s) m e c)
@@ -131,10 +124,10 @@ fewer_delivered net trace logs before t s m e c h =
     let one = ap length (delivered_own (Sender s) m e c before) in
     let two = length-append (delivered (Sender s) m before) ((e, c) ∷ []) in
     let low =
-    begins_length (delivered (Sender s) m (before ++ Dep (Sender s) m e c ∷ []))
+    begins_shorter (delivered (Sender s) m (before ++ Dep (Sender s) m e c ∷ []))
     (sent net trace (Sender s) m (entries (stamped_below t (logs s)))) h in
     let high =
-    begins_length (sent net trace (Sender s) m (entries (stamped_below t (logs s))))
+    begins_shorter (sent net trace (Sender s) m (entries (stamped_below t (logs s))))
     (sent net trace (Sender s) m (entries (logs s)))
     (begins_sent net trace s m (stamped_below t (logs s)) (logs s)
     (stamped_begins t (logs s))) in

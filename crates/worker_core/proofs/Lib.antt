@@ -1,4 +1,3 @@
-pub mod Sent
 pub mod Sorting
 pub mod Rounds
 pub mod Due
@@ -11,11 +10,9 @@ pub mod Stepping
 pub mod Completing
 pub mod Gaining
 pub mod Lasting
-pub mod Tables
 pub mod Beside
 pub mod Making
 pub mod Giving
 pub mod Turning
 pub mod Passing
-pub mod Sizes
 pub mod ByMachine

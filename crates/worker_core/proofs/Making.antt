@@ -25,10 +25,12 @@ use Rattle.worker_core.specs.declared.state.Hand.{Hand}
 use Rattle.worker_core.specs.CoreLaws.{StepsKeepCores}
 use Rattle.worker_core.specs.Cores.{CoreState, log_of, hand_of, may_react, take_step}
 use Rattle.worker_core.specs.Facts.{IsCore, is_due, deliveries_in}
-use Rattle.worker_core.specs.Parts.{state_of, own_moments, ends_in_delivery, first_held, AreParts}
+use Rattle.worker_core.specs.Parts.{state_of, own_moments, AreParts}
+use Rattle.worker_core.specs.inner.Parts.{ends_in_delivery, first_held}
 use Rattle.worker_core.proofs.Beside.{woken_at_end}
 use Rattle.worker_core.proofs.Landing.{due_within}
-use Rattle.worker_core.proofs.Stepping.{none_within, woken_inside}
+use Rattle.worker_core.proofs.Stepping.{woken_inside}
+use Rattle.journals.proofs.Reacting.{none_within}
 
 pub may_react_is : (net : Network) (trace : List TraceItem) (state : CoreState) (m n : ℕ)
     (idle woken : Bool) (a b : List Stamped) → MovesWaking → IsCore net trace state

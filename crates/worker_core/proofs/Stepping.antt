@@ -1,5 +1,5 @@
 -- The start is a core, and each step leads from a core to a core.
-use Rattle.std.specs.Prelude.{◌≡◌, ℕ, zero, suc, ◌<◌, max, Bool, true, false, ◌&&◌, nat_lt, is_none, List, [], ◌∷◌, ◌++◌, map, filter, flat_map, length, get_or, set, replicate, slice_get, Option, Some, None, option_map, unwrap_or, IsSomeAnd}
+use Rattle.std.specs.Prelude.{◌≡◌, ℕ, zero, suc, ◌<◌, max, Bool, true, false, ◌&&◌, nat_lt, is_none, List, ◌∷◌, ◌++◌, map, filter, flat_map, length, get_or, set, replicate, slice_get, Option, Some, None, option_map, unwrap_or, IsSomeAnd, []}
 use Rattle.std.specs.Bool.{then_some}
 use Rattle.std.specs.List.{list_all}
 use Rattle.std.proofs.Common.{refl, sym, ap, ◌∙◌, subst, inl, inr, arith}
@@ -28,8 +28,9 @@ use Rattle.journals.specs.Reactions.{outcome_on, outcome_in, reaction}
 use Rattle.worker_core.specs.CoreLaws.{RunsWell}
 use Rattle.worker_core.specs.Facts.{CoreFacts, IsCore, count_entries, held_by, deliveries_in, on_way, is_due, is_last_firing, is_hand_within, log_of_party, stamped_below}
 use Rattle.journals.specs.Schedules.{is_way, event_code}
-use Rattle.worker_core.proofs.Sent.{party_from_same, filter_of_map, map_of_map}
-use Rattle.worker_core.specs.Known.{Known}
+use Rattle.journals.proofs.Sent.{party_from_same}
+use Rattle.journals.proofs.Ways.{map_of_map, filter_of_map}
+use Rattle.worker_core.specs.inner.Known.{Known}
 use Rattle.worker_core.proofs.Due.{trace_due}
 use Rattle.worker_core.proofs.Growing.{HasMore, clock_within, count_more}
 use Rattle.worker_core.proofs.Keeping.{keeps_reaction}
@@ -37,6 +38,7 @@ use Rattle.worker_core.proofs.Landing.{stamps_in, stamp_held_by, sent_by_then, d
 use Rattle.worker_core.proofs.Leasting.{stamp_in}
 use Rattle.journals.specs.Stamps.{greatest}
 use Rattle.worker_core.proofs.Legal.{merged_is_legal, merged_is_least}
+use Rattle.journals.proofs.Reacting.{none_within}
 
 -- ---- the start
 
@@ -107,11 +109,6 @@ start_is_core net trace known h =
     }
 
 -- ---- the reaction
-
-pub none_within : (xs : List Machine) (k : ℕ) → k < length xs → slice_get xs k ≡ None → ⊥
-none_within [] k h e = omega arith
-none_within (x ∷ xs) zero h e = none-some x (sym e)
-none_within (x ∷ xs) (suc k) h e = none_within xs k (omega arith) e
 
 made : (net : Network) (m : ℕ) (s : Snapshot) (found : Option Machine) → Known
     → slice_get net.machines m ≡ found → m < length net.machines

@@ -10,7 +10,7 @@ use Rattle.journals.specs.declared.stamped.CoreStep.TheVariants.{React, Land, Fr
 use Rattle.worker_core.specs.Cores.{CoreState, hand_of, land, free, take_step}
 use Rattle.worker_core.specs.Facts.{IsCore}
 use Rattle.worker_core.specs.Running.{CoreMoment}
-use Rattle.worker_core.specs.Turns.{Took, IsStill}
+use Rattle.worker_core.specs.inner.Turns.{Took, IsStill}
 use Rattle.worker_core.proofs.Making.{may_react_inside}
 use Rattle.worker_core.proofs.Stepping.{some_when}
 

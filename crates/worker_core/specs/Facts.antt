@@ -1,5 +1,5 @@
 -- What is true of the core after any steps.
-use Rattle.std.specs.Prelude.{◌≡◌, ℕ, Bool, true, cond, not, ◌&&◌, ◌||◌, nat_lt, nat_le, List, [], ◌∷◌, ◌++◌, map, filter, flat_map, length, drop, replicate, count_by, is_some, Option, Some, None, IsTrue, ⊤}
+use Rattle.std.specs.Prelude.{◌≡◌, ℕ, Bool, true, cond, not, ◌&&◌, ◌||◌, nat_lt, nat_le, List, ◌∷◌, ◌++◌, map, filter, flat_map, length, drop, replicate, Option, Some, None, IsTrue, ⊤, []}
 use Rattle.std.specs.List.{list_all}
 use Rattle.polis_base.specs.Lists.{Begins}
 use Rattle.transition_table.specs.declared.decl.Party.{Party}
@@ -119,7 +119,3 @@ pub record IsCore (net : Network) (trace : List TraceItem) (state : CoreState) :
   pub hands : length state.hands ≡ length net.machines
   pub facts : CoreFacts net trace (log_of state) (hand_of state) state.rest
       (count_entries state.logs)
-
--- the number of busy machines
-abbrev pub count_busy : List (Option Hand) → ℕ
-count_busy hands = count_by is_some hands

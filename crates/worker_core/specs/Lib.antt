@@ -2,11 +2,10 @@ pub mod ByMachine
 pub mod Cores
 pub mod CoreLaws
 pub mod Facts
-pub mod Given
-pub mod Known
 pub mod Merges
 pub mod Parts
 pub mod Rows
 pub mod Running
 pub mod Samples
 pub mod Turns
+pub mod inner

@@ -1,8 +1,8 @@
 -- Runs of the core on two small networks.
 use Rattle.std.specs.Prelude.{ℕ, true, false, List, [], ◌∷◌, codes, refl}
 use Rattle.std.proofs.Common.{lit≤}
-use Rattle.transition_table.specs.SamplePong.{serving_machine, returning_machine}
-use Rattle.transition_table.specs.Samples.{has_codes, pure_event}
+use Rattle.transition_table.specs.samples.Pong.{serving_machine, returning_machine}
+use Rattle.transition_table.specs.samples.Parts.{has_codes, pure_event}
 use Rattle.transition_table.specs.declared.decl.Party.TheVariants.{Env, Machine as Sender}
 use Rattle.transition_table.specs.declared.machine.Machine.{Machine}
 use Rattle.transition_table.specs.declared.network.Network.{Network}

@@ -1,9 +1,11 @@
 // A core that is left to itself.
 ghost use Rattle.std.specs.Prelude.{◌≡◌, ◌<◌, ◌≤◌, ℕ, cond, None, IfOk};
+ghost use Rattle.polis_base.specs.declared.limits.TheConstants.{ENTRIES_MAX};
 ghost use Rattle.journals.specs.Journals.{IsTrace};
 ghost use Rattle.journals.specs.Legality.{Legal};
 ghost use Rattle.worker_core.specs.Merges.{merged};
-ghost use Rattle.worker_core.specs.Turns.{Took, IsStill, IsStopped, IsWhole, IsRun, adds_entry};
+ghost use Rattle.worker_core.specs.Turns.{IsWhole, IsRun};
+ghost use Rattle.worker_core.specs.inner.Turns.{Took, IsStill, IsStopped, adds_entry};
 
 use crate::law::core_laws;
 use crate::merging::merge_logs;
@@ -130,7 +132,7 @@ fn run_alone<R: Reactor>(
 ) -> Result<Journal, NoMemory>
     requires network { R.meaning r.now ≡ net.now }
     requires fits { IsTrace net.now trace.now }
-    requires count { count ≤ 60000 }
+    requires count { count ≤ ENTRIES_MAX }
     ensures legal { IfOk result (λ j. Legal net.now trace.now j) }
     ensures whole { IfOk result (λ j. IsWhole net.now trace.now count j) }
     ensures run { IfOk result (λ j. IsRun net.now trace.now j) }
@@ -163,7 +165,7 @@ pub fn core_alone<R: Reactor>(
     count: u64,
 ) -> Result<Journal, NoMemory>
     requires fits { IsTrace (R.meaning r.now) trace.now }
-    requires count { count ≤ 60000 }
+    requires count { count ≤ ENTRIES_MAX }
     ensures legal { IfOk result (λ j. Legal (R.meaning r.now) trace.now j) }
     ensures whole { IfOk result (λ j. IsWhole (R.meaning r.now) trace.now count j) }
     ensures run { IfOk result (λ j. IsRun (R.meaning r.now) trace.now j) }

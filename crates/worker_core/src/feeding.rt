@@ -1,31 +1,14 @@
 // The deliveries of the environment.
-ghost use Rattle.std.specs.Prelude.{◌≡◌, ◌<◌, ◌++◌, length, map, false, IfOk, OnOk, IsTrue};
+ghost use Rattle.std.specs.Prelude.{◌≡◌, ◌<◌, ◌++◌, map, false, IfOk, OnOk, IsTrue};
 ghost use Rattle.transition_table.specs.declared.decl.Party.TheVariants.{Env};
 ghost use Rattle.journals.specs.Journals.{IsTrace, is_trace_item};
-ghost use Rattle.journals.specs.Schedules.{deliveries_of, trace_deliveries};
-ghost use Rattle.worker_core.specs.Given.{item_deliveries};
+ghost use Rattle.journals.specs.Schedules.{item_deliveries, trace_deliveries};
 
 use crate::state::Queue;
-use journals::{Owed, Trace, TraceItem};
+use journals::{Owed, Trace, TraceItem, add_deliveries};
 use polis_base::{List, NoMemory};
 use std::alloc::Global;
 use transition_table::{Network, Party};
-
-// Adds a delivery to each receiver of an event.
-fn add_event(net: &Network, event: u32, code: u8, owed: &mut List<Owed>) -> Result<(), NoMemory>
-    requires { event < length net.now.events }
-    ensures { OnOk result (owed.new ≡ owed.old ++ deliveries_of net.now Env (event, code)) }
-{
-    for to in net.events.get(event as u64).receivers.as_slice() {
-        owed.push(Owed {
-            from: Party::Env,
-            to: *to,
-            event,
-            code,
-        })?;
-    }
-    Ok(())
-}
 
 // Adds the deliveries that an item of the trace gives.
 fn add_item(net: &Network, item: &TraceItem, owed: &mut List<Owed>) -> Result<(), NoMemory>
@@ -33,7 +16,7 @@ fn add_item(net: &Network, item: &TraceItem, owed: &mut List<Owed>) -> Result<()
     ensures { OnOk result (owed.new ≡ owed.old ++ item_deliveries net.now item.now) }
 {
     match *item {
-        TraceItem::Event { event, code } => add_event(net, event, code, owed),
+        TraceItem::Event { event, code } => add_deliveries(net, Party::Env, event, code, owed),
         TraceItem::Settle => Ok(()),
     }
 }

@@ -1,7 +1,7 @@
 // Laws of the core.
 ghost use Rattle.worker_core.specs.CoreLaws.{StartIsCore, StepsKeepCores, StoppedIsComplete, MergedHasAll, CoresRunWell, EachRunIsWell};
 ghost use Rattle.worker_core.specs.ByMachine.{ReactsByMachine, LandsByMachine, FreesByMachine};
-ghost use Rattle.worker_core.specs.Known.{Known};
+ghost use Rattle.worker_core.specs.inner.Known.{Known};
 
 use journals::{laws, sending_laws, stamp_laws};
 

@@ -7,7 +7,8 @@ ghost use Rattle.journals.specs.Moved.{machine_of, SuitsMachine};
 ghost use Rattle.journals.specs.Reactions.{reaction as reaction_of};
 ghost use Rattle.journals.specs.declared.stamped.CoreStep.TheVariants.{React, Land, Free, Feed};
 ghost use Rattle.worker_core.specs.Cores.{taken_up as taken_up_by, with_entry, may_react as can_react, may_land, landing, delivering, take_step};
-ghost use Rattle.worker_core.specs.Parts.{state_of, own_moments, ends_in_delivery, first_held, passed, AreParts};
+ghost use Rattle.worker_core.specs.Parts.{state_of, own_moments, AreParts};
+ghost use Rattle.worker_core.specs.inner.Parts.{HasMoments, ends_in_delivery, first_held, passed};
 
 use crate::state::{Hand, Queue};
 use journals::{
@@ -54,12 +55,6 @@ fn all_three(a: bool, b: bool, c: bool) -> bool
     a && b && c
 }
 
-fn greater(a: u64, b: u64) -> u64
-    ensures { result ≡ max a b }
-{
-    if a < b { b } else { a }
-}
-
 // The entry of a delivery.
 fn delivery(owed: Owed) -> Entry
     ensures { result ≡ delivering owed }
@@ -95,14 +90,12 @@ impl Parts {
     // Puts an entry at the end of its machine's log.
     fn append(&mut self, alloc: Global, net: &Network, m: u32, x: Stamped) -> Result<(), NoMemory>
         requires machine { m < length net.now.machines }
-        requires logs { length self.old.logs ≡ length net.now.machines }
-        requires moments { self.old.moments ≡ own_moments net.now self.old.logs }
+        requires parts { HasMoments net.now self.old }
         requires own { machine_of x.entry ≡ m }
         requires suits { OfMachine net.now m (λ machine. SuitsMachine machine x.entry) }
         ensures logs { OnOk result (self.new.logs ≡ with_entry (state_of self.old) m x) }
         ensures moments { OnOk result (self.new.moments ≡ own_moments net.now self.new.logs) }
-        ensures hands { self.new.hands ≡ self.old.hands }
-        ensures rest { self.new.rest ≡ self.old.rest }
+        ensures others { (self.new.hands ≡ self.old.hands) × (self.new.rest ≡ self.old.rest) }
         ensures err { OnErr result (self.new ≡ self.old) }
     {
         moving_laws();
@@ -218,20 +211,18 @@ impl Parts {
         stamp: u64,
     ) -> Result<bool, NoMemory>
         requires machine { owed.to < length net.now.machines }
-        requires logs { length self.old.logs ≡ length net.now.machines }
-        requires moments { self.old.moments ≡ own_moments net.now self.old.logs }
+        requires parts { HasMoments net.now self.old }
         ensures taken { IfOk result (λ taken.
             taken ≡ may_land (get_or self.old.logs owed.to []) stamp) }
         ensures logs { IfOk result (λ taken.
             IsTrue taken → self.new.logs ≡ with_entry (state_of self.old) owed.to
             (landing (get_or self.old.logs owed.to []) stamp owed)) }
         ensures moments { OnOk result (self.new.moments ≡ own_moments net.now self.new.logs) }
-        ensures hands { self.new.hands ≡ self.old.hands }
-        ensures rest { self.new.rest ≡ self.old.rest }
+        ensures others { (self.new.hands ≡ self.old.hands) × (self.new.rest ≡ self.old.rest) }
         ensures idle { IfOk result (λ taken. IsFalse taken → self.new ≡ self.old) }
         ensures err { OnErr result (self.new ≡ self.old) }
     {
-        let last = greater(clock(self.logs.get(owed.to)), stamp);
+        let last = clock(self.logs.get(owed.to)).max(stamp);
         if last >= MAX_STAMP {
             return Ok(false);
         }

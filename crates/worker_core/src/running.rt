@@ -7,7 +7,7 @@ ghost use Rattle.worker_core.specs.Cores.{at_start, take_step, run_steps};
 ghost use Rattle.worker_core.specs.Merges.{stamps_rise};
 ghost use Rattle.worker_core.specs.Parts.{state_of, AreParts};
 ghost use Rattle.worker_core.specs.Running.{CoreMoment};
-ghost use Rattle.worker_core.specs.Turns.{IsStill};
+ghost use Rattle.worker_core.specs.inner.Turns.{IsStill};
 
 use crate::feeding::given_by_trace;
 use crate::law::core_laws;
@@ -30,7 +30,7 @@ pub struct Core<'a> {
 
 impl<'a> Model for Core<'a> {
     ghost use Rattle.worker_core.specs.Running.{CoreMoment};
-    ghost use Rattle.worker_core.specs.Turns.{IsStill};
+    ghost use Rattle.worker_core.specs.inner.Turns.{IsStill};
     ghost use Rattle.worker_core.specs.Parts.{state_of, AreParts};
 
     ghost Value = { CoreMoment };

@@ -4,7 +4,7 @@ use Rattle.std.proofs.Common.{refl, ap, ◌∙◌, subst, arith}
 use Rattle.worker_run.specs.declared.budget.Budget.{Budget}
 use Rattle.worker_run.specs.declared.worker.Turn.{Turn}
 use Rattle.worker_run.specs.declared.worker.Turn.TheVariants.{Went, Idle, Stopped}
-use Rattle.worker_run.specs.Turns.{Counts, CountsTurn, Spends, StaysWithin, fed_count}
+use Rattle.worker_run.specs.inner.Turns.{Counts, CountsTurn, Spends, StaysWithin, fed_count}
 
 -- nothing more
 pub counts_none : (b : Budget) → Counts b b 0

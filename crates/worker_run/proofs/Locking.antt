@@ -14,9 +14,9 @@ use Rattle.worker_run.specs.declared.locked.Settled.{Settled}
 use Rattle.worker_run.specs.declared.locked.Settled.TheVariants.{Elsewhere as NotSettled, Silent, Sending}
 use Rattle.worker_run.specs.declared.locked.Landed.{Landed}
 use Rattle.worker_run.specs.declared.locked.Landed.TheVariants.{Yes, Elsewhere, Failed}
-use Rattle.worker_run.specs.Locks.{UnderLock, Freezes, Settles, Lands}
-use Rattle.worker_run.specs.Tries.{Hands, frozen_count, landed_count}
-use Rattle.worker_run.specs.Turns.{Counts, CountsAppended}
+use Rattle.worker_run.specs.inner.Locks.{UnderLock, Freezes, Settles, Lands}
+use Rattle.worker_run.specs.inner.Tries.{Hands, frozen_count, landed_count}
+use Rattle.worker_run.specs.inner.Turns.{Counts, CountsAppended}
 use Rattle.worker_run.proofs.Counting.{counts_same}
 
 -- a log that stays

@@ -1,6 +1,4 @@
 pub mod Empty
 pub mod Gathered
 pub mod InHand
-pub mod Locks
-pub mod Tries
-pub mod Turns
+pub mod inner

@@ -10,7 +10,7 @@ pub(crate) struct Budget {
 }
 
 impl Budget {
-    ghost use Rattle.worker_run.specs.Turns.{Counts};
+    ghost use Rattle.worker_run.specs.inner.Turns.{Counts};
 
     /// Nothing is appended yet.
     pub(crate) fn new(most: u64) -> Budget

@@ -1,10 +1,12 @@
 // What the workers gather.
 ghost use Rattle.std.specs.Prelude.{◌≡◌, ◌≤◌, ◌/◌, length, min, IfOk};
+ghost use Rattle.polis_base.specs.declared.limits.TheConstants.{ENTRIES_MAX, WORKERS_MAX};
 ghost use Rattle.journals.specs.Journals.{IsTrace};
 ghost use Rattle.journals.specs.Legality.{Legal};
 ghost use Rattle.net_core.specs.Prefixes.{IsAdopted};
 ghost use Rattle.worker_core.specs.Merges.{merged};
-ghost use Rattle.worker_run.specs.Gathered.{AreAlone, IsEnough};
+ghost use Rattle.worker_run.specs.Gathered.{IsEnough};
+ghost use Rattle.worker_run.specs.inner.Gathered.{AreAlone, IsFound};
 
 use crate::logs::gather_logs;
 use event_buffer::Gate;
@@ -73,7 +75,7 @@ fn gather_alone<'a, R: Reactor>(
     trace: &'a Trace,
     least: u64,
 ) -> Result<GatheredOn<'a>, NoMemory>
-    requires least { least ≤ 60000 }
+    requires least { least ≤ ENTRIES_MAX }
     requires trace { IsTrace (R.meaning r.now) trace.now }
     ensures network { IfOk result (λ x. x.config.net ≡ R.meaning r.now) }
     ensures trace { IfOk result (λ x. x.config.trace ≡ trace.now) }
@@ -98,15 +100,12 @@ fn or_alone<'a, R: Reactor>(
     least: u64,
     limit: u64,
 ) -> Result<GatheredOn<'a>, NoMemory>
-    requires least { (least ≤ limit) × (least ≤ 60000) }
-    requires network { found.config.net ≡ R.meaning r.now }
-    requires trace { found.config.trace ≡ trace.now }
+    requires least { (least ≤ limit) × (least ≤ ENTRIES_MAX) }
     requires fits { IsTrace (R.meaning r.now) trace.now }
-    requires most { (length found.config.journal ≤ found.merged) × (found.merged ≤ limit) }
-    ensures network { IfOk result (λ x. x.config.net ≡ R.meaning r.now) }
-    ensures trace { IfOk result (λ x. x.config.trace ≡ trace.now) }
+    requires found { IsFound (R.meaning r.now) trace.now limit found.config found.merged }
+    ensures found { IfOk result
+        (λ x. IsFound (R.meaning r.now) trace.now limit x.config x.merged) }
     ensures legal { IfOk result (λ x. Legal (R.meaning r.now) trace.now x.config.journal) }
-    ensures most { IfOk result (λ x. (length x.config.journal ≤ x.merged) × (x.merged ≤ limit)) }
     ensures enough { IfOk result (λ x.
         IsEnough (R.meaning r.now) trace.now least x.config.journal) }
 {
@@ -131,8 +130,8 @@ pub fn gather_on<'a, T: Threads + Wait + Sync, R: Reactor + Sync, G: Gate + Sync
     limit: u64,
     g: &G,
 ) -> Result<GatheredOn<'a>, NoMemory>
-    requires workers { (2 ≤ workers) × (workers ≤ 8) }
-    requires limit { (1 ≤ limit) × (limit ≤ 60000) }
+    requires workers { (2 ≤ workers) × (workers ≤ WORKERS_MAX) }
+    requires limit { (1 ≤ limit) × (limit ≤ ENTRIES_MAX) }
     requires trace { IsTrace (R.meaning r.now) trace.now }
     ensures network { IfOk result (λ x. x.config.net ≡ R.meaning r.now) }
     ensures trace { IfOk result (λ x. x.config.trace ≡ trace.now) }
@@ -157,8 +156,8 @@ pub fn gather<T: Threads + Wait + Sync, R: Reactor + Sync, G: Gate + Sync>(
     limit: u64,
     g: &G,
 ) -> Result<Gathered, NoMemory>
-    requires workers { (2 ≤ workers) × (workers ≤ 8) }
-    requires limit { (1 ≤ limit) × (limit ≤ 60000) }
+    requires workers { (2 ≤ workers) × (workers ≤ WORKERS_MAX) }
+    requires limit { (1 ≤ limit) × (limit ≤ ENTRIES_MAX) }
     requires trace { IsTrace (R.meaning r.now) trace.now }
     ensures legal { IfOk result (λ x. Legal (R.meaning r.now) trace.now x.journal) }
     ensures most { IfOk result (λ x. (length x.journal ≤ x.merged) × (x.merged ≤ limit)) }

@@ -74,9 +74,9 @@ pub(crate) enum Landed {
 impl<'a, N: Naming> Locked<'a, N> {
     ghost use Rattle.std.specs.Prelude.{None};
     ghost use Rattle.worker_run.specs.declared.in_hand.InHand.TheVariants.{Nothing};
-    ghost use Rattle.worker_run.specs.Locks.{Freezes, Settles, Lands, Releases};
-    ghost use Rattle.worker_run.specs.Tries.{IsTried, frozen_count, given_by, landed_count};
-    ghost use Rattle.worker_run.specs.Turns.{Counts, CountsAppended};
+    ghost use Rattle.worker_run.specs.inner.Locks.{Freezes, Settles, Lands, Releases};
+    ghost use Rattle.worker_run.specs.inner.Tries.{IsTried, frozen_count, given_by, landed_count};
+    ghost use Rattle.worker_run.specs.inner.Turns.{Counts, CountsAppended};
 
     /// The cell of a machine to which nothing was delivered.
     pub(crate) fn new(
@@ -222,7 +222,7 @@ pub(crate) struct Source<'a, N: Naming> {
 }
 
 impl<'a, N: Naming> Source<'a, N> {
-    ghost use Rattle.worker_run.specs.Locks.{Gives, Takes};
+    ghost use Rattle.worker_run.specs.inner.Locks.{Gives, Takes};
 
     /// All deliveries of a trace.
     pub(crate) fn new(net: &'a Network, trace: &'a Trace) -> Result<Source<'a, N>, NoMemory>

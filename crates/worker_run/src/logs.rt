@@ -2,7 +2,7 @@
 ghost use Rattle.std.specs.Prelude.{◌≡◌, ◌<◌, ◌^◌, length, IfOk, vec_len};
 ghost use Rattle.transition_table.specs.Transitions.{AreDeterministic};
 ghost use Rattle.journals.specs.Journals.{IsTrace};
-ghost use Rattle.worker_run.specs.Gathered.{AreAlone};
+ghost use Rattle.worker_run.specs.inner.Gathered.{AreAlone};
 
 use crate::locked::{Locked, Naming, Source};
 use crate::worker::{Worker, work};

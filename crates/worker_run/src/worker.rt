@@ -2,8 +2,8 @@
 ghost use Rattle.std.specs.Prelude.{◌≡◌, ◌<◌, ◌≤◌, ◌-◌, [], cond, drop, length, IsTrue};
 ghost use Rattle.transition_table.specs.Transitions.{OfMachine, Transition};
 ghost use Rattle.event_buffer.specs.Arrivals.{is_arrival, are_arrivals};
-ghost use Rattle.worker_run.specs.Tries.{IsTried, Hands, deliveries_of, frozen_count, given_by};
-ghost use Rattle.worker_run.specs.Turns.{Counts, CountsTurn, Spends, StaysWithin, fed_count};
+ghost use Rattle.worker_run.specs.inner.Tries.{IsTried, Hands, frozen_deliveries, frozen_count, given_by};
+ghost use Rattle.worker_run.specs.inner.Turns.{Counts, CountsTurn, Spends, StaysWithin, fed_count};
 
 use crate::budget::Budget;
 use crate::locked::{Landed, Locked, Naming, Settled, Source, Tried};
@@ -132,7 +132,11 @@ fn freeze<'a, N: Naming, T: Wait, G: Gate>(
 }
 
 // Settles a reaction that was run, under the cell's lock.
-fn settle<'a, N: Naming, T: Wait>(rt: &T, cell: &Mutex<Locked<'a, N>>, f: Frozen<'a>) -> Settled
+fn settle_under_lock<'a, N: Naming, T: Wait>(
+    rt: &T,
+    cell: &Mutex<Locked<'a, N>>,
+    f: Frozen<'a>,
+) -> Settled
     requires network { f.net ≡ N.net }
     requires ran { OfMachine f.net f.machine (λ machine. Transition machine f.snapshot f.outcome) }
     ensures hands { Hands f.entry result }
@@ -183,10 +187,11 @@ fn finish<'a, N: Naming, T: Wait, R: Reactor, G: Gate>(
 ) -> Turn
     requires network { R.meaning r.now ≡ N.net }
     requires frozen { f.net ≡ N.net }
-    ensures { CountsTurn worker.old.budget worker.new.budget (length (deliveries_of f.entry)) result }
+    ensures { CountsTurn worker.old.budget worker.new.budget
+        (length (frozen_deliveries f.entry)) result }
 {
     f.run(r, g);
-    match settle::<N, T>(rt, own, f) {
+    match settle_under_lock::<N, T>(rt, own, f) {
         Settled::Elsewhere => Turn::Stopped,
         Settled::Silent => Turn::Went,
         Settled::Sending(out) => deliver::<N, T>(rt, cells, worker, own, out),

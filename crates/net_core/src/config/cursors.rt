@@ -10,7 +10,7 @@ ghost use Rattle.net_core.specs.Readers.{AreReaders};
 
 use crate::config::bits::is_set;
 use journals::{Trace, TraceItem};
-use polis_base::{List, NoMemory, Places};
+use polis_base::{List, NoMemory};
 use std::alloc::Global;
 use std::marker::Model;
 use transition_table::Network;
@@ -19,7 +19,7 @@ use transition_table::Network;
 /// and the first machine of those whose place is least.
 #[derive(Drop)]
 pub(crate) struct Cursors {
-    places: Places,
+    places: List<u64>,
     first: usize,
 }
 
@@ -100,7 +100,7 @@ fn first_least(cursors: &[u64]) -> usize
 
 impl Cursors {
     // These places.
-    fn of(places: Places) -> Cursors
+    fn of(places: List<u64>) -> Cursors
         ensures { result ≡ places }
     {
         let first = first_least(places.as_slice());

@@ -5,8 +5,9 @@ ghost use Rattle.std.specs.Vec.{vec_len, vec_capacity};
 ghost use Rattle.transition_table.specs.declared.decl.Party.TheVariants.{Machine as Sender};
 ghost use Rattle.journals.specs.Journals.{outputs_of, emitted};
 ghost use Rattle.journals.specs.Schedules.{deliveries_of};
-ghost use Rattle.net_core.specs.Emissions.{nth, waits, owed_to, waiting, no_place, given, IsOf, IsChained, IsChain, IsMore};
+ghost use Rattle.net_core.specs.Emissions.{nth, waits, owed_to, waiting, no_place, IsOf, IsChained, IsChain, IsMore};
 ghost use Rattle.net_core.specs.Readers.{AreReaders};
+ghost use Rattle.net_core.specs.inner.Emissions.{given_to};
 
 use crate::config::bits::is_set;
 use domains::Codes;
@@ -63,9 +64,7 @@ pub(crate) fn place_from(records: &[Emission], start: usize, from: u32, to: u32)
 // Puts an emission at the end, after the last of its sender. There is room for it.
 fn link(records: &mut Vec<Emission>, last: &mut Vec<usize>, r: Emission)
     requires chain { IsChain records.old.items last.old.items }
-    requires from { r.from < 64 }
-    requires left { 0 < r.left }
-    requires next { r.next ≡ no_place }
+    requires loose { (r.from < 64) × (0 < r.left) × (r.next ≡ no_place) }
     requires few { length records.old.items < no_place }
     requires room { vec_len records.old < vec_capacity records.old }
     ensures more { IsMore records.old.items last.old.items records.new.items last.new.items
@@ -100,7 +99,7 @@ fn emit(
     requires few { length records.old.items < no_place }
     requires room { vec_len records.old < vec_capacity records.old }
     ensures more { IsMore records.old.items last.old.items records.new.items last.new.items
-        (given from event code left) }
+        (given_to from event code left) }
     ensures len { vec_len records.new ≤ vec_len records.old + 1 }
     ensures room { vec_capacity records.old ≤ vec_capacity records.new }
 {

@@ -3,9 +3,10 @@ ghost use Rattle.std.specs.Prelude.{List, ◌≡◌, ◌<◌, ◌≤◌, [], ◌
 ghost use Rattle.journals.specs.Journals.{FitsNetwork, IsTrace};
 ghost use Rattle.journals.specs.declared.entry.Entry.{Entry};
 ghost use Rattle.journals.specs.Legality.{Legal, MayFollow};
-ghost use Rattle.net_core.specs.Landed.{landed};
-ghost use Rattle.net_core.specs.Marks.{lands_below, marked_after, next_marked};
-ghost use Rattle.net_core.specs.Tables.{AreBefore, AreTables};
+ghost use Rattle.net_core.specs.inner.Landed.{landed};
+ghost use Rattle.net_core.specs.inner.Marks.{lands_below, marked_after, next_marked};
+ghost use Rattle.net_core.specs.Tables.{AreTables};
+ghost use Rattle.net_core.specs.inner.Tables.{AreBefore};
 
 use crate::config::bits::mark;
 use crate::config::cursors::{Cursors, first_cursors, next_read};

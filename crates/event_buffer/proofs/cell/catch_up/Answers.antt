@@ -4,7 +4,8 @@ use Rattle.journals.specs.declared.stamped.Stamped.{Stamped}
 use Rattle.journals.specs.Journals.{snap}
 use Rattle.journals.specs.Logs.{entries}
 use Rattle.event_buffer.proofs.Listing.{take_next}
-use Rattle.event_buffer.proofs.Logging.{entries_more, own_machine, item_of_legal}
+use Rattle.event_buffer.proofs.Logging.{own_machine, item_of_legal}
+use Rattle.journals.proofs.StampSteps.{entries_more}
 use Rattle.event_buffer.proofs.cell.catch_up.Goals as goal
 
 pub move_on-requires-clause-width : goal.move_on-requires-clause-width

@@ -1,6 +1,6 @@
 use Rattle.std.proofs.Common.{List, ◌∷◌, ◌++◌, [], take, ap, sym, ◌∙◌, arith}
 use Rattle.journals.specs.declared.entry.Entry.{Entry}
-use Rattle.journal_replay.proofs.Judged.{prefix_more}
+use Rattle.journals.proofs.StampSteps.{prefix_more}
 use Rattle.journal_replay.proofs.judge.first_entries.Goals as goal
 
 pub loop-i-preserved : goal.loop-i-preserved

@@ -1,5 +1,5 @@
 use Rattle.journal_text.proofs.Taking.{domain_in}
 use Rattle.journal_text.proofs.entry.delivery.Goals as goal
 
-pub code-requires : goal.code-requires
-code-requires c = domain_in c.args.index.now.net.now _ c.get.result.now c.get.ensures
+pub code_of_word-requires : goal.code_of_word-requires
+code_of_word-requires c = domain_in c.args.index.now.net.now _ c.get.result.now c.get.ensures

@@ -1,5 +1,5 @@
 use Rattle.std.proofs.Common.{None, refl}
-use Rattle.journal_text.specs.Cursors.{three_of}
+use Rattle.journal_text.specs.inner.Cursors.{three_of}
 use Rattle.journal_text.proofs.Threes.{four_pieces}
 use Rattle.journal_text.proofs.form.three_words.Goals as goal
 

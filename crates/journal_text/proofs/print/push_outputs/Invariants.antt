@@ -1,7 +1,7 @@
 use Rattle.std.proofs.Common.{◌++◌}
 use Rattle.std.specs.Iterator.Adapters.{zip_first, zip_second}
 use Rattle.std.specs.Slice.Iter.{iter_rest}
-use Rattle.journal_text.specs.Texts.{output_lines}
+use Rattle.journal_text.specs.inner.Texts.{output_lines}
 use Rattle.journals.specs.Journals.{emitted}
 use Rattle.journal_text.proofs.TextLemmas.{OutputsLeft}
 use Rattle.journal_text.proofs.print.push_outputs.Given as goal

@@ -4,7 +4,7 @@ use Rattle.transition_table.specs.Transitions.{blank}
 use Rattle.transition_table.specs.declared.machine.Machine.{Machine}
 use Rattle.transition_table.specs.declared.snapshot.Outcome.{Outcome}
 use Rattle.net_core.proofs.Prefixes.{blanks_are_wide}
-use Rattle.net_core.proofs.Stamping.{prefix_more}
+use Rattle.journals.proofs.StampSteps.{prefix_more}
 use Rattle.net_core.proofs.blanks.all_blank.Goals as goal
 
 pub loop-m-preserved : goal.loop-m-preserved

@@ -1,14 +1,15 @@
 use Rattle.std.proofs.Common.{refl, ◌≡◌, ◌≤◌, ℕ, List, take, length, flat_map, drop, Some, slice_get, sym, ap, subst, ◌∙◌, arith}
-use Rattle.net_core.specs.Clocks.{left}
+use Rattle.net_core.specs.inner.Clocks.{left}
 use Rattle.journals.specs.Stamps.{greatest, once_each}
-use Rattle.net_core.proofs.Walking.{fits_at, left_further, given_further, left_here}
+use Rattle.net_core.proofs.Walking.{left_further, given_further, left_here}
 use Rattle.net_core.proofs.clocks.first_owed.Goals as goal
 use Rattle.journals.specs.declared.stamped.Stamped.{Stamped}
 use Rattle.journals.specs.Logs.{stamped}
+use Rattle.journals.proofs.StampSteps.{item_fits}
 
 pub count_emitted-count-requires-clause-fits : goal.count_emitted-count-requires-clause-fits
 count_emitted-count-requires-clause-fits c =
-    fits_at c.args.net.now c.args.firings.now c.loop-f.f
+    item_fits c.args.net.now c.args.firings.now c.loop-f.f
     (stamped c.firing.inside.stamp c.firing.inside.entry.now) c.requires.fits
     (c.get-firing.ensures ∙ ap Some (sym c.firing.view_is))
 

@@ -1,5 +1,5 @@
 use Rattle.std.proofs.Common.{◌≡◌, ◌≤◌, flat_map, length, drop}
-use Rattle.net_core.specs.Clocks.{left}
+use Rattle.net_core.specs.inner.Clocks.{left}
 use Rattle.journals.specs.Stamps.{once_each}
 use Rattle.net_core.proofs.clocks.first_owed.Given as goal
 

@@ -1,14 +1,15 @@
 use Rattle.std.proofs.Common.{List, take, sym, subst, ◌∙◌, arith}
 use Rattle.journals.specs.declared.entry.Entry.{Entry}
 use Rattle.net_core.specs.Tables.{AreTables}
-use Rattle.net_core.proofs.Prefixes.{entry_fits, follows_if_legal}
-use Rattle.net_core.proofs.Stamping.{prefix_more}
+use Rattle.net_core.proofs.Prefixes.{follows_if_legal}
 use Rattle.net_core.proofs.Tables.{not_following}
+use Rattle.journals.proofs.StampSteps.{prefix_more}
+use Rattle.net_core.proofs.Losses.{fits_at}
 use Rattle.net_core.proofs.prefix.take_legal.Goals as goal
 
 pub may_follow-requires-clause-fits : goal.may_follow-requires-clause-fits
 may_follow-requires-clause-fits g c =
-    entry_fits c.args.net.now c.args.j.now c.loop-i.i c.get-entry.result.now c.requires.fits
+    fits_at c.args.net.now c.args.j.now c.loop-i.i c.get-entry.result.now c.requires.fits
     c.get-entry.ensures
 
 pub may_follow-requires-clause-current : goal.may_follow-requires-clause-current
@@ -32,7 +33,7 @@ returns-then-not-may_follow-clause-longest g c =
 
 pub take_next-requires-clause-fits : goal.take_next-requires-clause-fits
 take_next-requires-clause-fits g c =
-    entry_fits c.args.net.now c.args.j.now c.loop-i.i c.get-entry.result.now c.requires.fits
+    fits_at c.args.net.now c.args.j.now c.loop-i.i c.get-entry.result.now c.requires.fits
     c.get-entry.ensures
 
 pub take_next-requires-clause-current : goal.take_next-requires-clause-current

@@ -4,8 +4,9 @@ use Rattle.journals.specs.declared.entry.Entry.{Entry}
 use Rattle.journals.specs.declared.stamped.Stamped.{Stamped}
 use Rattle.journals.specs.Logs.{with_stamps}
 use Rattle.journals.specs.Stamps.{greatest, stamps_below, Rising}
-use Rattle.net_core.specs.Clocks.{AreClocks}
-use Rattle.net_core.proofs.Stamping.{prefix_more, length_prefix, is_next}
+use Rattle.net_core.specs.inner.Clocks.{AreClocks}
+use Rattle.net_core.proofs.Stamping.{is_next}
+use Rattle.journals.proofs.StampSteps.{length_prefix, prefix_more}
 use Rattle.net_core.proofs.stamps.first_not_rising.Goals as goal
 
 pub below-below-requires-clause-fits : goal.below-below-requires-clause-fits

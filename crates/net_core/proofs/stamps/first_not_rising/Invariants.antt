@@ -1,5 +1,5 @@
 use Rattle.std.proofs.Common.{take}
-use Rattle.net_core.specs.Clocks.{AreClocks}
+use Rattle.net_core.specs.inner.Clocks.{AreClocks}
 use Rattle.journals.specs.Stamps.{Rising}
 use Rattle.net_core.proofs.stamps.first_not_rising.Given as goal
 use Rattle.journals.specs.Logs.{with_stamps}

@@ -1,5 +1,5 @@
 use Rattle.std.proofs.Common.{◌≡◌, ◌+◌, length}
-use Rattle.scheduler_gen.specs.Runs.{GoesOn}
+use Rattle.scheduler_gen.specs.inner.Runs.{GoesOn}
 use Rattle.scheduler_gen.proofs.run.run.Given as goal
 
 -- so many entries are taken

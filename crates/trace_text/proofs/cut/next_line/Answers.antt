@@ -1,13 +1,22 @@
-use Rattle.std.proofs.Common.{sym, ◌∙◌, arith}
-use Rattle.trace_text.specs.Pieces.{ends_line}
-use Rattle.trace_text.proofs.Cuts.{pieces_cut, pieces_uncut}
+use Rattle.std.proofs.Common.{◌≡◌, ℕ, List, ◌∷◌, ◌++◌, Option, IfSome, IfNone, Bor, ap, subst, ◌∙◌, arith, length}
+use Rattle.trace_text.specs.Pieces.{trace_lines}
+use Rattle.trace_text.proofs.Cuts.{line_cut, line_uncut}
 use Rattle.trace_text.proofs.cut.next_line.Goals as goal
 
-pub returns-then-ends_a_line-clause-line : goal.returns-then-ends_a_line-clause-line
-returns-then-ends_a_line-clause-line c =
-    pieces_cut ends_line c.args.text.now c.loop-k.k c.loop-k-test.true c.loop-k.invariant
-    (sym c.ends_a_line.ensures ∙ c.if-ends_a_line.true)
+pub returns-in-Some-clause-line : goal.returns-in-Some-clause-line
+returns-in-Some-clause-line c =
+    let text = c.args.text.now in
+    let line = c.next_piece.result.0.now in
+    let cut = subst (λ (o : Option (Bor (List ℕ))). IfSome o (λ r. text ≡ line ++ 10 ∷ r.now))
+    c.in-Some.is c.next_piece.ensures.some in
+    ap trace_lines cut ∙ line_cut line c.in-Some.rest.now c.next_piece.ensures.piece
 
-pub returns-clause-line : goal.returns-clause-line
-returns-clause-line c =
-    pieces_uncut ends_line c.args.text.now c.loop-k.k c.requires (omega arith) c.loop-k.invariant
+pub returns-in-None-clause-line : goal.returns-in-None-clause-line
+returns-in-None-clause-line c =
+    let text = c.args.text.now in
+    let line = c.next_piece.result.0.now in
+    let whole = subst (λ (o : Option (Bor (List ℕ))). IfNone o (text ≡ line)) c.in-None.is
+    c.next_piece.ensures.none in
+    let size = ap (λ (l : List ℕ). length l) whole in
+    let some = c.requires in
+    ap trace_lines whole ∙ line_uncut line (omega arith) c.next_piece.ensures.piece

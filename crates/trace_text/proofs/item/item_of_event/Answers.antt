@@ -1,12 +1,14 @@
-use Rattle.trace_text.proofs.Items.{item_fits, event_domain}
+use Rattle.journal_text.proofs.Taking.{domain_in}
+use Rattle.trace_text.proofs.Items.{item_fits}
 use Rattle.trace_text.proofs.item.item_of_event.Goals as goal
 
-pub code-requires : goal.code-requires
-code-requires c =
-    event_domain c.args.sent.now.net.now c.in-Some.e c.get.result.now c.in-Some.ensures.below c.get.ensures
+pub code_of_word-requires : goal.code_of_word-requires
+code_of_word-requires c =
+    domain_in c.args.sent.now.net.now c.in-Some.e c.get.result.now c.get.ensures
 
-pub returns-in-Some-code-clause-fits : goal.returns-in-Some-code-clause-fits
-returns-in-Some-code-clause-fits c =
-    item_fits c.args.sent.now.net.now c.args.name.now c.in-Some.e c.in-Some-code.code c.get.result.now
-    c.in-Some.ensures.below c.get.ensures c.in-Some.ensures.sent c.in-Some-code.ensures.some
-    c.in-Some-code.ensures.few
+pub returns-in-Some-code_of_word-clause-fits : goal.returns-in-Some-code_of_word-clause-fits
+returns-in-Some-code_of_word-clause-fits c =
+    let found = c.in-Some-code_of_word in
+    item_fits c.args.sent.now.net.now c.args.name.now c.in-Some.e found.code c.get.result.now
+    c.in-Some.ensures.below c.get.ensures c.in-Some.ensures.sent found.ensures.some
+    found.ensures.few

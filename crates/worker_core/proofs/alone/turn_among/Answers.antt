@@ -1,5 +1,5 @@
 use Rattle.std.proofs.Common.{subst, ◌∙◌}
-use Rattle.worker_core.specs.Turns.{Took}
+use Rattle.worker_core.specs.inner.Turns.{Took}
 use Rattle.worker_core.proofs.Turning.{turn_still}
 use Rattle.worker_core.proofs.alone.turn_among.Goals as goal
 

@@ -1,5 +1,5 @@
 use Rattle.std.proofs.Common.{◌≡◌, ◌≤◌, ◌<◌, ℕ}
-use Rattle.worker_core.specs.Turns.{IsStill}
+use Rattle.worker_core.specs.inner.Turns.{IsStill}
 use Rattle.worker_core.proofs.alone.turn_among.Given as goal
 
 abbrev pub invariant-loop-m : goal.invariant-loop-m

@@ -1,5 +1,5 @@
 use Rattle.std.proofs.Common.{◌≡◌, take, flat_map}
-use Rattle.worker_core.specs.Given.{item_deliveries}
+use Rattle.journals.specs.Schedules.{item_deliveries}
 use Rattle.worker_core.proofs.feeding.given_by_trace.Given as goal
 
 abbrev pub invariant-loop-item : goal.invariant-loop-item

@@ -1,5 +1,5 @@
 use Rattle.std.proofs.Common.{◌≡◌, length, vec_len, ◌+◌}
-use Rattle.worker_run.specs.Gathered.{AreAlone}
+use Rattle.worker_run.specs.inner.Gathered.{AreAlone}
 use Rattle.worker_run.proofs.logs.logs_of.Given as goal
 
 -- a log for each machine before this place

@@ -1,6 +1,6 @@
 use Rattle.std.proofs.Common.{◌-◌, IsTrue, length}
 use Rattle.event_buffer.specs.Arrivals.{are_arrivals}
-use Rattle.worker_run.specs.Turns.{Counts}
+use Rattle.worker_run.specs.inner.Turns.{Counts}
 use Rattle.worker_run.proofs.Passing.{Passed}
 use Rattle.worker_run.proofs.worker.land_all.Given as goal
 

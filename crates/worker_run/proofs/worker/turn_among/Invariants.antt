@@ -1,4 +1,4 @@
-use Rattle.worker_run.specs.Turns.{Counts}
+use Rattle.worker_run.specs.inner.Turns.{Counts}
 use Rattle.worker_run.proofs.worker.turn_among.Given as goal
 
 -- nothing was counted

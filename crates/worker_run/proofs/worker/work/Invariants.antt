@@ -1,5 +1,5 @@
 use Rattle.std.proofs.Common.{◌-◌}
-use Rattle.worker_run.specs.Turns.{StaysWithin}
+use Rattle.worker_run.specs.inner.Turns.{StaysWithin}
 use Rattle.worker_run.proofs.worker.work.Given as goal
 
 -- the count stays within the budget

@@ -8,8 +8,8 @@ use Rattle.event_buffer.specs.declared.arrival.Arrival.{Arrival}
 use Rattle.event_buffer.specs.Arrivals.{OutgoingState, are_arrivals, arrival_of}
 use Rattle.event_buffer.specs.Reacting.{FrozenState}
 use Rattle.event_buffer.proofs.Firing.{all_arrive, fires_where_sent}
-use Rattle.event_buffer.proofs.Listing.{length_of_take}
 use Rattle.event_buffer.proofs.Tabling.{written_fits}
+use Rattle.journals.proofs.StampSteps.{length_prefix}
 use Rattle.event_buffer.proofs.cell.Cell.settle.Goals as goal
 
 pub returns-clause-own : goal.returns-clause-own
@@ -19,7 +19,7 @@ returns-clause-own c =
     let room : List Arrival = c.write_firing-count.new.room in
     let made = c.write_firing-count.ensures in
     let entry : Entry = Rea f.machine f.snapshot f.outcome in
-    let whole = length_of_take room count made.inside in
+    let whole = length_prefix room count made.inside in
     let sent =
     ap (λ (l : List Arrival). length l) made.written
     ∙ length-map (firing_deliveries f.net.now entry) (arrival_of f.stamp) in

@@ -1,9 +1,10 @@
 use Rattle.std.proofs.Common.{◌≤◌, ◌+◌, List, length, drop, sym, ap, ◌∙◌, arith}
 use Rattle.journals.specs.declared.entry.Owed.{Owed}
 use Rattle.journals.specs.Journals.{is_trace_item}
-use Rattle.event_buffer.specs.Feeds.{FeedState, item_deliveries}
+use Rattle.event_buffer.specs.Feeds.{FeedState}
 use Rattle.event_buffer.proofs.Feeding.{is_next, one_more, one_item_more, none_left}
-use Rattle.event_buffer.proofs.Listing.{passes_of_all}
+use Rattle.journals.proofs.Ways.{passes_of_all}
+use Rattle.journals.specs.Schedules.{item_deliveries}
 use Rattle.event_buffer.proofs.feed.Feed.advance.Goals as goal
 
 abbrev passed : FeedState → FeedState

@@ -5,7 +5,7 @@ use Rattle.journals.specs.Journals.{is_trace_item}
 use Rattle.event_buffer.specs.Arrivals.{is_arrival, arrival_of}
 use Rattle.event_buffer.specs.Feeds.{FeedState}
 use Rattle.event_buffer.proofs.Feeding.{is_next, first_left, none_left, arrives}
-use Rattle.event_buffer.proofs.Listing.{passes_of_all}
+use Rattle.journals.proofs.Ways.{passes_of_all}
 use Rattle.event_buffer.proofs.feed.Feed.peek.Goals as goal
 
 pub arrival_at-requires : goal.arrival_at-requires

@@ -1,9 +1,10 @@
 use Rattle.std.proofs.Common.{◌≡◌, ℕ, max, length, slice_get, Some, sym, ap, subst, ◌∙◌, arith}
 use Rattle.journals.specs.Moved.{machine_of}
 use Rattle.journals.specs.Stamps.{greatest, stamps_at, origin}
-use Rattle.net_core.proofs.Keeping.{clock_at, greatest_both}
-use Rattle.net_core.proofs.Numbers.{length-table}
-use Rattle.net_core.proofs.Tables.{machine_within}
+use Rattle.net_core.proofs.Keeping.{clock_at}
+use Rattle.journals.proofs.Moved.{length-table}
+use Rattle.journals.proofs.Advancing.{machine_within}
+use Rattle.journals.proofs.Stamping.{greatest_both}
 use Rattle.net_core.proofs.clocks.Clocks.below.Goals as goal
 
 pub get-clock-requires : goal.get-clock-requires
@@ -22,7 +23,7 @@ returns-clause-stamp c = λ done h.
     let m : ℕ = machine_of entry in
     let at = subst (λ (i : ℕ). slice_get c.args.self.now.clocks i ≡ Some c.get-clock.result.now)
     c.machine.ensures c.get-clock.ensures in
-    c.greater.ensures
+    c.max.ensures
     ∙ ap (λ (i : ℕ). max i c.origin-origin.result)
     (clock_at net done c.args.self.now.clocks m c.get-clock.result.now
     (machine_within net entry c.requires.fits) h.clocks_are at)

@@ -1,9 +1,9 @@
 use Rattle.std.proofs.Common.{ℕ, length, ap, ◌∙◌, arith}
-use Rattle.net_core.specs.Clocks.{firings_of, clocks_after}
+use Rattle.net_core.specs.inner.Clocks.{firings_of, clocks_after}
 use Rattle.journals.specs.Stamps.{greatest, stamps_at}
 use Rattle.net_core.proofs.Keeping.{all_taken}
-use Rattle.net_core.proofs.Numbers.{length-table}
-use Rattle.net_core.proofs.Tables.{machine_within}
+use Rattle.journals.proofs.Moved.{length-table}
+use Rattle.journals.proofs.Advancing.{machine_within}
 use Rattle.net_core.proofs.clocks.Clocks.take.Goals as goal
 
 pub raise-requires : goal.raise-requires

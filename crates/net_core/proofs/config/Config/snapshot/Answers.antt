@@ -1,6 +1,6 @@
 use Rattle.std.proofs.Common.{ap, sym, ◌∙◌, length}
 use Rattle.transition_table.specs.declared.snapshot.Snapshot.{Snapshot}
-use Rattle.net_core.proofs.Tables.{length-snap}
+use Rattle.journals.proofs.Moved.{length-snap}
 use Rattle.net_core.proofs.config.Config.snapshot.Goals as goal
 
 pub copy_codes-requires : goal.copy_codes-requires

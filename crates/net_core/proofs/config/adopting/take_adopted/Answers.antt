@@ -2,14 +2,15 @@ use Rattle.std.proofs.Common.{◌<◌, List, length, take, sym, subst, arith}
 use Rattle.journals.specs.declared.entry.Entry.{Entry}
 use Rattle.net_core.specs.Tables.{AreTables}
 use Rattle.net_core.proofs.Adopting.{adopted_at, entry_reacts}
-use Rattle.net_core.proofs.Prefixes.{entry_fits, follows_if_legal}
-use Rattle.net_core.proofs.Stamping.{prefix_more}
+use Rattle.net_core.proofs.Prefixes.{follows_if_legal}
 use Rattle.net_core.proofs.Tables.{not_following}
+use Rattle.journals.proofs.StampSteps.{prefix_more}
+use Rattle.net_core.proofs.Losses.{fits_at}
 use Rattle.net_core.proofs.config.adopting.take_adopted.Goals as goal
 
 pub lands-requires-clause-fits : goal.lands-requires-clause-fits
 lands-requires-clause-fits c =
-    entry_fits c.args.net.now c.args.j.now c.loop-i.i c.get-entry.result.now
+    fits_at c.args.net.now c.args.j.now c.loop-i.i c.get-entry.result.now
     (c.laws.ensures.alone_fits c.args.net.now c.args.j.now c.requires.alone) c.get-entry.ensures
 
 pub lands-requires-clause-current : goal.lands-requires-clause-current
@@ -33,7 +34,7 @@ returns-then-not-lands-clause-adopted c =
 
 pub take_next-requires-clause-fits : goal.take_next-requires-clause-fits
 take_next-requires-clause-fits c =
-    entry_fits c.args.net.now c.args.j.now c.loop-i.i c.get-entry.result.now
+    fits_at c.args.net.now c.args.j.now c.loop-i.i c.get-entry.result.now
     (c.laws.ensures.alone_fits c.args.net.now c.args.j.now c.requires.alone) c.get-entry.ensures
 
 pub take_next-requires-clause-current : goal.take_next-requires-clause-current

@@ -1,8 +1,8 @@
 use Rattle.std.proofs.Common.{◌≡◌, ℕ, List, [], ◌∷◌, ◌++◌, ap, sym, ◌∙◌, zero-add, arith}
 use Rattle.journals.specs.Cursors.{is_read, nth_place}
-use Rattle.net_core.proofs.Cursors.{nth_place_first}
 use Rattle.net_core.proofs.Marking.{prefix_marked}
-use Rattle.net_core.proofs.Numbers.{upto_more}
+use Rattle.journals.proofs.Moved.{upto_more}
+use Rattle.journals.proofs.Cursors.{nth_place_first}
 use Rattle.net_core.proofs.config.cursors.first_cursors.Goals as goal
 
 pub loop-m-preserved : goal.loop-m-preserved

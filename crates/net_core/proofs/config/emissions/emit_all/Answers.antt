@@ -3,9 +3,11 @@ use Rattle.transition_table.specs.declared.decl.Party.TheVariants.{Machine as Se
 use Rattle.journals.specs.declared.entry.Owed.{Owed}
 use Rattle.journals.specs.Journals.{outputs_of, emitted}
 use Rattle.journals.specs.Schedules.{deliveries_of}
-use Rattle.net_core.specs.Emissions.{given, IsMore}
-use Rattle.net_core.proofs.Outputs.{output_is_event, outputs_of_machine, given_and_rest}
+use Rattle.net_core.specs.Emissions.{IsMore}
+use Rattle.net_core.proofs.Outputs.{given_and_rest}
+use Rattle.journals.proofs.Emitting.{outputs_of_machine, output_is_event}
 use Rattle.net_core.proofs.Queueing.{more_and_more}
+use Rattle.net_core.specs.inner.Emissions.{given_to}
 use Rattle.net_core.proofs.config.emissions.emit_all.Goals as goal
 
 pub bounds-readers-event : goal.bounds-readers-event
@@ -27,7 +29,7 @@ loop-k-preserved c =
     let left = get_or c.args.readers.now e 0 in
     let old = c.loop-k.invariant.more in
     let xs : List Owed = old.0 in
-    let one : List Owed = given m e code left in
+    let one : List Owed = given_to m e code left in
     let of : List (ℕ × ℕ) → List Owed = flat_map (deliveries_of net (Sender m)) in
     let event = ap (λ (l : List ℕ). slice_get l k)
     (outputs_of_machine net m c.get.result.now c.get.ensures) ∙ c.get-event.ensures in

@@ -15,10 +15,10 @@ returns-clause-more c =
     let e = c.index-earlier.result.now in
     let size : n ≡ length records = omega arith in
     let long = c.requires.chain.long in
-    let small = c.requires.from in
+    let small = c.requires.loose.0 in
     let before : p ≡ get_or last r.from 0 =
     c.index-before.ensures ∙ get_or_default last r.from p 0 (omega arith) in
-    let own = c.requires.chain.own r.from c.requires.from in
+    let own = c.requires.chain.own r.from small in
     let inside = own.0 in
     let earlier : e ≡ nth records p = c.index-earlier.ensures
     ∙ get_or_default records p e no_emission (omega arith) in
@@ -30,8 +30,8 @@ returns-clause-more c =
     with_next) size
     ∙ ap (λ (x : Emission). let with_next : Emission = record x { next = length records } in
     with_next) (earlier ∙ ap (λ k. nth records k) before) in
-    let more = linked_more records last q r c.requires.chain c.requires.from c.requires.next
-    c.requires.few c.requires.left made in
+    let more = linked_more records last q r c.requires.chain small c.requires.loose.2
+    c.requires.few c.requires.loose.1 made in
     subst (λ (l : List Emission). IsMore records last l (set last r.from n) (waiting r))
     (sym c.in-Ok.ensures.items)
     (subst (λ (k : ℕ). IsMore records last (set records p q ++ r ∷ []) (set last r.from k)

@@ -2,7 +2,7 @@ use Rattle.std.proofs.Common.{refl, length, set, ap, sym, ◌∙◌, arith}
 use Rattle.std.proofs.lemmas.Bool.{lt-ltb, le-ltb}
 use Rattle.std.proofs.lemmas.List.{set-get_or}
 use Rattle.std.proofs.lemmas.Option.{get_or_from_slice_get}
-use Rattle.net_core.specs.Marks.{next_marked}
+use Rattle.net_core.specs.inner.Marks.{next_marked}
 use Rattle.net_core.proofs.config.tables.pass_item.Goals as goal
 
 pub returns-then-place-len : goal.returns-then-place-len

@@ -1,7 +1,7 @@
 use Rattle.std.proofs.Common.{List, take, sym, subst, arith}
 use Rattle.journals.specs.declared.entry.Entry.{Entry}
 use Rattle.net_core.specs.Tables.{AreTables}
-use Rattle.net_core.proofs.Stamping.{prefix_more, prefix_step}
+use Rattle.journals.proofs.StampSteps.{prefix_step, prefix_more}
 use Rattle.net_core.proofs.config.tables.tables_of.Goals as goal
 
 pub take_next-requires-clause-fits : goal.take_next-requires-clause-fits

@@ -1,6 +1,7 @@
 use Rattle.std.proofs.Common.{[], ◌∷◌, ◌++◌, sym, subst}
 use Rattle.journals.specs.declared.entry.Entry.{Entry}
-use Rattle.net_core.specs.Tables.{AreBefore, AreTables}
+use Rattle.net_core.specs.Tables.{AreTables}
+use Rattle.net_core.specs.inner.Tables.{AreBefore}
 use Rattle.net_core.proofs.Tables.{before_entry, last_item}
 use Rattle.net_core.proofs.config.tables.Tables.take.Goals as goal
 

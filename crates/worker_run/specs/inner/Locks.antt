@@ -6,7 +6,7 @@ use Rattle.event_buffer.specs.declared.arrival.Arrival.{Arrival}
 use Rattle.event_buffer.specs.declared.look.CellError.TheVariants.{ClockFull}
 use Rattle.event_buffer.specs.declared.look.Look.TheVariants.{Ready}
 use Rattle.event_buffer.specs.Arrivals.{OutgoingState, arrival_of}
-use Rattle.event_buffer.specs.Cells.{CellState, look, freezing, taking}
+use Rattle.event_buffer.specs.Cells.{CellState, look, freezing, taking, IsFrozenIn}
 use Rattle.event_buffer.specs.Feeds.{FeedState}
 use Rattle.event_buffer.specs.Reacting.{FrozenState}
 use Rattle.worker_run.specs.declared.in_hand.InHand.{InHand}
@@ -17,7 +17,7 @@ use Rattle.worker_run.specs.declared.locked.Settled.{Settled}
 use Rattle.worker_run.specs.declared.locked.Settled.TheVariants.{Elsewhere as NotSettled, Silent, Sending}
 use Rattle.worker_run.specs.declared.locked.Landed.{Landed}
 use Rattle.worker_run.specs.declared.locked.Landed.TheVariants.{Yes, Elsewhere, Failed}
-use Rattle.worker_run.specs.Tries.{arrivals_of}
+use Rattle.worker_run.specs.inner.Tries.{arrivals_of}
 
 -- a cell, and what is out of it
 pub record UnderLock : Type 0 where
@@ -35,10 +35,6 @@ Freezes old new (Frozen f) =
     × (new.cell.frozen ≡ Some (f.stamp, f.snapshot))
 Freezes old new (NotFrozen e) =
     (look old.cell ≡ Ready) × (new ≡ old) × ((e ≡ ClockFull) ↔ (clock old.cell.log ≡ max_stamp))
-
--- the reaction is the one that is frozen in this cell
-abbrev pub IsFrozenIn : CellState → FrozenState → Type 0
-IsFrozenIn c f = (c.frozen ≡ Some (f.stamp, f.snapshot)) × (f.machine ≡ c.machine)
 
 -- Another cell's reaction leaves the cell as it is. The cell's own one is no longer frozen. The log
 -- stays, and the cell is busy exactly where the reaction gives deliveries, all of which are handed

@@ -40,13 +40,13 @@ landed_count NotHere = 0
 landed_count (NotLanded e) = 0
 
 -- what the reaction gives by the outcome of its machine's transition
-abbrev pub deliveries_of : FrozenState → List Owed
-deliveries_of f =
+abbrev pub frozen_deliveries : FrozenState → List Owed
+frozen_deliveries f =
     firing_deliveries f.net (Rea f.machine f.snapshot (outcome_in f.net f.machine f.snapshot))
 
 -- the same with the reaction's stamp
 abbrev pub arrivals_of : FrozenState → List Arrival
-arrivals_of f = map (arrival_of f.stamp) (deliveries_of f)
+arrivals_of f = map (arrival_of f.stamp) (frozen_deliveries f)
 
 -- where the reaction was settled, all that it gives came into hand
 abbrev pub Hands : FrozenState → Settled → Type 0

@@ -1,6 +1,6 @@
 use Rattle.trace_text.specs.Pieces.{ends_word}
 use Rattle.trace_text.proofs.Cuts.{NoneBefore}
-use Rattle.trace_text.proofs.cut.next_piece.Given as goal
+use Rattle.trace_text.proofs.cut.next_run.Given as goal
 
 -- no byte before this one passes
 abbrev pub invariant-loop-k : goal.invariant-loop-k

@@ -1,5 +1,5 @@
 use Rattle.net_core.proofs.Judging.{not_owed}
-use Rattle.net_core.proofs.config.Config.judge_delivery.Goals as goal
+use Rattle.net_core.proofs.config.Config.admits_delivery.Goals as goal
 
 pub returns-else-may_land : goal.returns-else-may_land
 returns-else-may_land c =

@@ -1,0 +1,6 @@
+pub mod Clocks
+pub mod Emissions
+pub mod Landed
+pub mod Losses
+pub mod Marks
+pub mod Tables

@@ -1,7 +1,0 @@
-use Rattle.trace_text.specs.Pieces.{ends_line}
-use Rattle.trace_text.proofs.Cuts.{NoneBefore}
-use Rattle.trace_text.proofs.cut.next_line.Given as goal
-
--- no byte before this one passes
-abbrev pub invariant-loop-k : goal.invariant-loop-k
-invariant-loop-k l = NoneBefore ends_line l.text l.k

@@ -1,7 +1,0 @@
-use Rattle.trace_text.proofs.Items.{value_found}
-use Rattle.trace_text.proofs.item.value_in.Goals as goal
-
-pub returns-clause-value : goal.returns-clause-value
-returns-clause-value c =
-    value_found c.laws.ensures.words c.args.domain.now c.args.word.now c.value_of.result
-    c.size-size.ensures.domain c.value_of.ensures.some c.value_of.ensures.none

@@ -1,0 +1,5 @@
+pub mod Facts
+pub mod Known
+pub mod Merges
+pub mod Parts
+pub mod Turns

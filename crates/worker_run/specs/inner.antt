@@ -1,0 +1,4 @@
+pub mod Gathered
+pub mod Locks
+pub mod Tries
+pub mod Turns

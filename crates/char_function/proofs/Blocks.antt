@@ -12,29 +12,23 @@ use Rattle.decision_diagram.specs.Sets.{stands}
 use Rattle.transition_table.specs.declared.machine.Machine.{Machine}
 use Rattle.transition_table.specs.Laws.{SameOnSupport}
 use Rattle.transition_table.specs.Orders.{sizes_of}
-use Rattle.char_function.specs.Known.{OnlyResults}
-use Rattle.char_function.specs.Left.{IsFirst, IsOrdered, left_from}
-use Rattle.char_function.specs.Points.{point, points}
-use Rattle.char_function.specs.Rising.{AreLevel, IsLeft, IsRising}
-use Rattle.char_function.proofs.Fitting.{size_some}
+use Rattle.char_function.specs.inner.Known.{OnlyResults}
+use Rattle.char_function.specs.inner.Left.{IsFirst, IsOrdered, left_from}
+use Rattle.char_function.specs.inner.Points.{point, points}
+use Rattle.char_function.specs.inner.Rising.{AreLevel, IsLeft, IsRising}
+use Rattle.decision_diagram.proofs.Fitting.{size_some}
 use Rattle.char_function.proofs.FixedKids.{IsStep, kids_left, next_of, step_of, vars_size}
 use Rattle.char_function.proofs.Leaving.{before_place, snapshot, snapshot_fits, sizes_long, var_of}
-use Rattle.char_function.proofs.Lists.{read_some, read_within}
-use Rattle.char_function.proofs.Making.{means_kept}
-use Rattle.char_function.proofs.Places.{at_place, place_below}
-use Rattle.char_function.proofs.Small.{few_snapshots}
-use Rattle.char_function.proofs.Strides.{drop_below}
+use Rattle.decision_diagram.proofs.Lists.{read_some, read_within}
+use Rattle.char_function.proofs.GroupNodes.{means_kept}
 use Rattle.char_function.proofs.Taking.{stands_more}
-use Rattle.char_function.proofs.Walking.{all_long, at_rank, long_map}
+use Rattle.char_function.proofs.Walking.{at_rank}
+use Rattle.domains.proofs.AllCodes.{long_map}
+use Rattle.domains.proofs.Places.{at_place, place_below}
+use Rattle.outcome_table.proofs.Rows.{few_snapshots}
+use Rattle.outcome_table.proofs.Columns.{product_after, all_long, product_split}
 
 -- ---- products
-pub split : (sizes : List ℕ) (v : ℕ) → product (take v sizes) * product (drop v sizes) ≡ product sizes
-split sizes zero = omega arith
-split [] (suc v) = refl
-split (size ∷ sizes) (suc v) =
-    let rest = ap (λ (k : ℕ). size * k) (split sizes v) in
-    omega arith
-
 take_more : (sizes : List ℕ) (v : ℕ) → v < length sizes
     → product (take (v + 1) sizes) ≡ product (take v sizes) * slice_index sizes v
 take_more [] v low = absurd (omega arith)
@@ -102,7 +96,7 @@ zeros_from (size ∷ sizes) (code ∷ codes) zero j u fit is high low =
 zeros_from (size ∷ sizes) (code ∷ codes) (suc v) j zero fit is high low = absurd (omega arith)
 zeros_from (size ∷ sizes) (code ∷ codes) (suc v) j (suc u) fit is high low =
     let parts = and_parts (ltb code size) (fits sizes codes) fit in
-    let whole = ap (λ (k : ℕ). code * k) (split sizes v) in
+    let whole = ap (λ (k : ℕ). code * k) (product_split sizes v) in
     zeros_from sizes codes v (j - code * product (take v sizes)) u parts.1
     (less_times (code * product (take v sizes)) (rank sizes codes) j (product (drop v sizes))
     (omega arith)) (omega arith) (omega arith)
@@ -123,7 +117,7 @@ first_block once m order p next j block so_far apart low v v_low off =
     (λ more. more) (cases_lt v next)) v_low
 
 -- ---- variables before a place
-or_on : (a b : Bool) → b ≡ true → (a || b) ≡ true
+pub or_on : (a b : Bool) → b ≡ true → (a || b) ≡ true
 or_on true b h = refl
 or_on false b h = h
 
@@ -477,7 +471,7 @@ last_done m order ordered s start only nodes count is are =
     let a = long_map (point m) (all_codes m.vars) in
     let b = all_long m.vars in
     let l = are.long in
-    let all = split m.vars (length m.vars) in
+    let all = product_split m.vars (length m.vars) in
     let none : product (drop (length m.vars) m.vars) ≡ 1 = ap product (drop_none m.vars) in
     let one : product (take (length m.vars) m.vars) * product (drop (length m.vars) m.vars)
     ≡ product (take (length m.vars) m.vars) =
@@ -499,7 +493,7 @@ last_done m order ordered s start only nodes count is are =
 pub block_few : (m : Machine) (order : List ℕ) (s : Diagrams) (p block : ℕ) (nodes : List ℕ)
     → are_sizes m.vars ≡ true → AreLevel m order s p block nodes → block ≤ 65536
 block_few m order s p block nodes are level =
-    let below = drop_below m.vars level.next are in
+    let below = product_after m.vars level.next are in
     let few = few_snapshots m in
     let apart = level.apart in
     omega arith

@@ -14,28 +14,21 @@ use Rattle.transition_table.specs.Computed.{char}
 use Rattle.transition_table.specs.Laws.{ResultsFit, SameOnSupport, SupportByTest}
 use Rattle.transition_table.specs.Orders.{Allowed, sizes_of}
 use Rattle.transition_table.specs.Transitions.{IsDeterministic}
-use Rattle.char_function.specs.Known.{OnlyResults}
-use Rattle.char_function.specs.Left.{AreLeft, IsFirst, IsOrdered, left_from}
-use Rattle.char_function.specs.Points.{at_point, point, points}
-use Rattle.char_function.proofs.Fitting.{fits_at, fits_long, fits_zeros, size_few}
+use Rattle.char_function.specs.inner.Known.{OnlyResults}
+use Rattle.char_function.specs.inner.Left.{AreLeft, IsFirst, IsOrdered, left_from}
+use Rattle.char_function.specs.inner.Points.{at_point, point, points}
+use Rattle.decision_diagram.proofs.Fitting.{fits_at, size_few}
 use Rattle.char_function.proofs.Leaving.{IsNext, next_first, left_end, left_outcome, left_start, var_of, result_step, snapshot, var_step, sizes_long}
-use Rattle.char_function.proofs.Lists.{index_first, read, read_within}
-use Rattle.char_function.proofs.Making.{means_kept}
-use Rattle.char_function.proofs.Places.{place_of_item}
-use Rattle.char_function.proofs.Small.{few_snapshots}
-use Rattle.char_function.proofs.Walking.{all_long, at_rank, long_map}
+use Rattle.decision_diagram.proofs.Lists.{read, read_within}
+use Rattle.char_function.proofs.GroupNodes.{means_kept}
+use Rattle.domains.proofs.Places.{place_of_item}
+use Rattle.char_function.proofs.Walking.{at_rank}
+use Rattle.domains.proofs.AllCodes.{long_map}
 use Rattle.char_function.proofs.Tabled.{numbers_long, number_low, outcome_at}
-
-pub keeps_self : (s : Diagrams) → Keeps s s
-keeps_self s = record {
-  sizes = refl;
-  order = refl;
-  nodes = λ n h. h;
-  values = λ n codes h. refl;
-  shapes = λ n h. refl;
-  children = λ n h. refl;
-  levels = λ n h. refl;
-}
+use Rattle.domains.proofs.Ranks.{length-fits, fits-zeros}
+use Rattle.decision_diagram.proofs.Along.{index_append}
+use Rattle.outcome_table.proofs.Rows.{few_snapshots}
+use Rattle.outcome_table.proofs.Columns.{all_long}
 
 -- of the first children all are the same but one
 pub one_kid : (kids : List ℕ) (f kid size code w at c : ℕ) → kids ≡ replicate 33 f → w ≡ size
@@ -138,7 +131,7 @@ step_of m order sizes all p item from size ordered of same are low got is sized 
 pub vars_size : (m : Machine) (order : List ℕ) (p item size : ℕ) → IsStep m order p item size
     → item < length m.vars → size ≡ slice_index m.vars item
 vars_size m order p item size step inside =
-    step.sized ∙ index_first m.vars m.results item inside
+    step.sized ∙ index_append m.vars m.results item inside
 
 -- the first snapshot with a code of the variable
 pub next_of : StandsOnce → (m : Machine) (order : List ℕ) (ordered : IsOrdered m order)
@@ -237,14 +230,14 @@ kids_left same m order ordered s new p v i stride n kids at inside low next size
           let c = slice_index codes v in
           let below = fits_at (sizes_of m) codes fit_m v at.inside in
           let e : slice_index (sizes_of m) v ≡ slice_index m.vars v =
-          index_first m.vars m.results v inside in
+          index_append m.vars m.results v inside in
           let c_low : c < slice_index m.vars v = omega arith in
           let f : p + 1 ≡ suc p = omega arith in
           means.value codes fit
           ∙ (are c c_low).value codes fit_s
           ∙ ap (λ (k : ℕ). left_from m order k (i + c * stride) codes) f
           ∙ var_step m order ordered same p v i c (i + c * stride) codes at.low at.is inside low
-          (next c c_low) c_low (fits_long (sizes_of m) codes fit_m) refl;
+          (next c c_low) c_low (length-fits (sizes_of m) codes fit_m) refl;
     }
 
 -- and so the node of the children that are made one by one
@@ -396,7 +389,7 @@ first_of_all m order are =
     let zeros : List ℕ = replicate (length m.vars) 0 in
     let found : slice_get (all_codes m.vars) 0 ≡ Some zeros =
     ap (slice_get (all_codes m.vars)) (sym (rank_zeros m.vars))
-    ∙ at_rank m.vars zeros (fits_zeros m.vars are) in
+    ∙ at_rank m.vars zeros (fits-zeros m.vars are) in
     let within = read_within (all_codes m.vars) 0 zeros found in
     let long = long_map (point m) (all_codes m.vars) in
     let low : 0 < length (points m) = omega arith in

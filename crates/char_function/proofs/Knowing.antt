@@ -8,10 +8,10 @@ use Rattle.decision_diagram.specs.Diagrams.{Diagrams, Keeps, Means, level_of}
 use Rattle.outcome_table.specs.Outcomes.{IsTableOf}
 use Rattle.outcome_table.specs.declared.table.Table.{Table}
 use Rattle.transition_table.specs.declared.machine.Machine.{Machine}
-use Rattle.char_function.specs.Groups.{agrees, some_agrees, is_group}
-use Rattle.char_function.specs.Known.{OnlyResults, has_outcome, AreKnown}
-use Rattle.char_function.specs.Points.{at_point, points}
-use Rattle.char_function.proofs.Making.{means_kept}
+use Rattle.char_function.specs.inner.Groups.{agrees, some_agrees, is_group}
+use Rattle.char_function.specs.inner.Known.{OnlyResults, has_outcome, AreKnown}
+use Rattle.char_function.specs.inner.Points.{at_point, points}
+use Rattle.char_function.proofs.GroupNodes.{means_kept}
 use Rattle.char_function.proofs.Tabled.{result_at}
 
 -- nodes stay known while the store grows

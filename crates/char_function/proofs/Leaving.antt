@@ -12,19 +12,24 @@ use Rattle.transition_table.specs.Computed.{char, result_code, result_codes, sup
 use Rattle.transition_table.specs.Laws.{ResultsFit, SameOnSupport}
 use Rattle.transition_table.specs.Orders.{sizes_of}
 use Rattle.std.specs.Cmp.Lexicographic.{same_text}
-use Rattle.char_function.specs.Known.{OnlyResults}
-use Rattle.char_function.specs.Left.{left_from, IsFirst, IsOrdered}
-use Rattle.char_function.specs.Points.{at_point, point, points}
-use Rattle.char_function.proofs.AllCodes.{lists_fit}
-use Rattle.char_function.proofs.Fitting.{fits_long, fits_set, fits_both}
-use Rattle.char_function.proofs.Lists.{all_at, at_map, index_first, index_second, read, read_some, read_within}
-use Rattle.char_function.proofs.Places.{at_place, place_below, place_of_item}
-use Rattle.char_function.proofs.Pointing.{char_there, fits_front}
+use Rattle.char_function.specs.inner.Known.{OnlyResults}
+use Rattle.char_function.specs.inner.Left.{left_from, IsFirst, IsOrdered}
+use Rattle.char_function.specs.inner.Points.{at_point, point, points}
+use Rattle.decision_diagram.proofs.Fitting.{fits_set}
+use Rattle.char_function.proofs.Lists.{all_at, at_map, index_second}
+use Rattle.decision_diagram.proofs.Lists.{read, read_some, read_within}
+use Rattle.domains.proofs.Places.{place_of_item, at_place, place_below}
+use Rattle.char_function.proofs.Pointing.{char_there}
 use Rattle.char_function.proofs.Taking.{at_stands, cond_step, set_else, stands_at, stands_more, taking_at, taking_fits, taking_is, taking_long, taking_same}
-use Rattle.char_function.proofs.Walking.{at_rank, long_map}
+use Rattle.char_function.proofs.Walking.{at_rank}
+use Rattle.domains.proofs.AllCodes.{long_map}
+use Rattle.decision_diagram.proofs.AllCodes.{lists_fit}
+use Rattle.decision_diagram.proofs.Joined.{fits_both, fits_prefix}
+use Rattle.domains.proofs.Ranks.{length-fits}
+use Rattle.decision_diagram.proofs.Along.{index_append}
 
 -- with another code the rank is as many strides further
-rank_set : (sizes codes : List ℕ) (v code : ℕ) → v < length sizes → fits sizes codes ≡ true
+pub rank_set : (sizes codes : List ℕ) (v code : ℕ) → v < length sizes → fits sizes codes ≡ true
     → rank sizes (slice_set codes v code) + slice_index codes v * product (drop (v + 1) sizes)
     ≡ rank sizes codes + code * product (drop (v + 1) sizes)
 rank_set [] codes v code low h = absurd (omega arith)
@@ -61,14 +66,14 @@ module _ (m : Machine) where
   pub var_of : (i w : ℕ) → i < length (points m) → w < length m.vars
       → slice_index (at_point (points m) i) w ≡ slice_index (snapshot m i) w
   var_of i w low inside =
-      let l = fits_long m.vars (snapshot m i) (snapshot_fits i low) in
+      let l = length-fits m.vars (snapshot m i) (snapshot_fits i low) in
       ap (λ (p : List ℕ). slice_index p w) (point_is i low)
-      ∙ index_first (snapshot m i) (result_codes m (snapshot m i)) w (omega arith)
+      ∙ index_append (snapshot m i) (result_codes m (snapshot m i)) w (omega arith)
 
   pub result_of : (i y : ℕ) → i < length (points m)
       → slice_index (at_point (points m) i) (length m.vars + y) ≡ result_code m y (snapshot m i)
   result_of i y low =
-      let l = fits_long m.vars (snapshot m i) (snapshot_fits i low) in
+      let l = length-fits m.vars (snapshot m i) (snapshot_fits i low) in
       ap (λ (p : List ℕ). slice_index p (length m.vars + y)) (point_is i low)
       ∙ ap (λ (k : ℕ). slice_index (point m (snapshot m i)) (k + y)) (sym l)
       ∙ index_second (snapshot m i) (result_codes m (snapshot m i)) y
@@ -208,7 +213,7 @@ module _ (m : Machine) where
       where
         set_here : slice_index (snapshot m j) v ≡ c
         set_here =
-            let l = fits_long m.vars (snapshot m i) (snapshot_fits i i_low) in
+            let l = length-fits m.vars (snapshot m i) (snapshot_fits i i_low) in
             ap (λ (xs : List ℕ). slice_index xs v) next.snap
             ∙ get_or-set_same (snapshot m i) v c 0 (omega arith)
 
@@ -281,7 +286,7 @@ module _ (m : Machine) where
         item = length m.vars + y
 
         long : length codes ≡ length (sizes_of m)
-        long = fits_long (sizes_of m) codes fit
+        long = length-fits (sizes_of m) codes fit
 
         list : List ℕ
         list = taking (stands (take p order)) (at_point (points m) i) codes
@@ -291,7 +296,7 @@ module _ (m : Machine) where
             (point_fits results_fit i i_low) fit
 
         front_fits : fits m.vars (take (length m.vars) list) ≡ true
-        front_fits = fits_front m.vars m.results list list_fits
+        front_fits = fits_prefix m.vars m.results list list_fits
 
         own : slice_index list item ≡ slice_index codes item
         own =
@@ -334,8 +339,8 @@ module _ (m : Machine) where
         → i < length (points m) → fits (sizes_of m) codes ≡ true
         → left_from m order p i codes ≡ true
     left_end results_fit p i codes end i_low fit =
-        let long = fits_long (sizes_of m) codes fit in
-        let own = fits_long (sizes_of m) (at_point (points m) i)
+        let long = length-fits (sizes_of m) codes fit in
+        let own = length-fits (sizes_of m) (at_point (points m) i)
         (point_fits results_fit i i_low) in
         let o = ordered.long in
         ap (char m)
@@ -346,7 +351,7 @@ module _ (m : Machine) where
         (let l = place_below order ordered.permutation w (omega arith) in omega arith))))
         ∙ ap (char m) (point_is i i_low)
         ∙ char_there m (snapshot m i)
-        (fits_long m.vars (snapshot m i) (snapshot_fits i i_low))
+        (length-fits m.vars (snapshot m i) (snapshot_fits i i_low))
 
     pub left_start : (i : ℕ) (codes : List ℕ) → left_from m order 0 i codes ≡ char m codes
     left_start i codes =
@@ -372,7 +377,7 @@ module _ (m : Machine) where
         list k = taking (stands (take p order)) (at_point (points m) k) codes
 
         long : length codes ≡ length (sizes_of m)
-        long = fits_long (sizes_of m) codes fit
+        long = length-fits (sizes_of m) codes fit
 
         list_long : (k : ℕ) → length (list k) ≡ length codes
         list_long k = taking_long (stands (take p order)) (at_point (points m) k) codes
@@ -394,7 +399,7 @@ module _ (m : Machine) where
             let s = sizes_long in
             let l = list_long k in
             let c = long in
-            let own = fits_long m.vars (snapshot m k) (snapshot_fits k low) in
+            let own = length-fits m.vars (snapshot m k) (snapshot_fits k low) in
             let t = length-take (length m.vars) (list k) in
             ext_get_or 0 (take (length m.vars) (list k)) (snapshot m k) (omega arith) (λ u u_in.
             let u_low : u < length m.vars = omega arith in

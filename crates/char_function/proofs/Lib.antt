@@ -1,22 +1,19 @@
-mod AllCodes
-mod Blocks
-mod Rises
+pub mod Blocks
+pub mod Rises
 pub mod Sized
-mod Fitting
-mod FixedKids
-mod Knowing
-mod Leaving
-mod Lists
-mod Making
-mod MoreResults
-mod Places
-mod Pointing
-mod Small
-mod Strides
-mod Supporting
-mod Tabled
-mod Taking
-mod Turning
-mod Varying
-mod Walking
-mod Windows
+pub mod FixedKids
+pub mod Knowing
+pub mod Leaving
+pub mod Lists
+pub mod GroupNodes
+pub mod MoreResults
+pub mod Pointing
+pub mod Small
+pub mod Strides
+pub mod Supporting
+pub mod Tabled
+pub mod Taking
+pub mod Turning
+pub mod Varying
+pub mod Walking
+pub mod Windows

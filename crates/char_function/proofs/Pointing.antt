@@ -1,20 +1,11 @@
 -- Points: a snapshot and the codes of its results.
-use Rattle.std.proofs.Common.{◌≡◌, ℕ, true, List, [], ◌∷◌, ◌++◌, length, take, drop, refl, ap, sym, ◌∙◌, eqb, ltb}
-use Rattle.std.proofs.lemmas.Bool.{and_parts, and_from, eq-eqb}
+use Rattle.std.proofs.Common.{◌≡◌, ℕ, true, List, [], ◌∷◌, ◌++◌, length, drop, refl, ap, sym, ◌∙◌, eqb}
+use Rattle.std.proofs.lemmas.Bool.{and_from, eq-eqb}
 use Rattle.domains.specs.Names.{is_same}
-use Rattle.domains.specs.Tables.{fits}
 use Rattle.transition_table.specs.declared.machine.Machine.{Machine}
 use Rattle.transition_table.specs.Computed.{char, result_codes}
-use Rattle.char_function.proofs.Lists.{take_first, drop_first}
-
-pub fits_front : (xs ys codes : List ℕ) → fits (xs ++ ys) codes ≡ true
-    → fits xs (take (length xs) codes) ≡ true
-fits_front [] ys codes h = refl
-fits_front (x ∷ xs) ys [] h = h
-fits_front (x ∷ xs) ys (code ∷ codes) h =
-    let parts = and_parts (ltb code x) (fits (xs ++ ys) codes) h in
-    and_from (ltb code x) (fits xs (take (length xs) codes)) parts.0
-    (fits_front xs ys codes parts.1)
+use Rattle.char_function.proofs.Lists.{take_first}
+use Rattle.decision_diagram.proofs.Joined.{drop_prefix}
 
 pub same_self : (xs : List ℕ) → is_same xs xs ≡ true
 same_self [] = refl
@@ -27,5 +18,5 @@ char_there m snap long =
     (drop (length m.vars) (snap ++ result_codes m snap)))
     (take_first snap (result_codes m snap) (length m.vars) (sym long))
     ∙ ap (λ (ys : List ℕ). is_same (result_codes m snap) ys)
-    (drop_first snap (result_codes m snap) (length m.vars) (sym long))
+    (drop_prefix snap (result_codes m snap) (length m.vars) (sym long))
     ∙ same_self (result_codes m snap)

@@ -20,8 +20,8 @@ use Rattle.transition_table.specs.Orders.{sizes_of}
 use Rattle.char_function.specs.Laws.{CharDecides, HasSize, OneSize}
 use Rattle.char_function.specs.Orders.{first_order}
 use Rattle.char_function.specs.Sizes.{Decides, IsSize}
-use Rattle.char_function.proofs.AllCodes.{lists_fit, upto_all}
 use Rattle.char_function.proofs.Turning.{first_long, first_permutation}
+use Rattle.decision_diagram.proofs.AllCodes.{lists_fit, upto_all}
 
 -- the two say the same of each list that fits
 abbrev pub Agree : (List ℕ → Bool) → (List ℕ → Bool) → List ℕ → Type 0

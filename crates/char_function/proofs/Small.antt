@@ -38,13 +38,3 @@ few_items m =
     let few_outputs = leb-true (length m.outputs) 16 one.1 in
     let few_states = leb-true (length m.states) 8 two.1 in
     omega arith
-
--- and at most 65,536 snapshots
-pub few_snapshots : (m : Machine) → product m.vars ≤ 65536
-few_snapshots m =
-    let a = nat_le (length m.inputs) 16 in
-    let b = nat_le (length m.outputs) 16 in
-    let c = nat_le (length m.states) 8 in
-    let d = nat_le (length m.rows) 512 in
-    let e = nat_le (product m.vars) 65536 in
-    leb-true (product m.vars) 65536 (and_parts (((a && b) && c) && d) e m.small).1

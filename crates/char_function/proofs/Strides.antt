@@ -1,23 +1,8 @@
 -- How far apart snapshots stand.
-use Rattle.std.proofs.Common.{◌≡◌, ⊎_elim, ℕ, zero, suc, ◌+◌, ◌*◌, ◌<◌, ◌≤◌, ◌&&◌, true, nat_le, List, [], ◌∷◌, ◌++◌, length, drop, slice_index, refl, ap, sym, ◌∙◌, arith, length-append}
-use Rattle.std.proofs.lemmas.Bool.{and_parts, cases_lt, leb-true}
+use Rattle.std.proofs.Common.{◌≡◌, ⊎_elim, ℕ, ◌+◌, ◌<◌, List, [], ◌∷◌, ◌++◌, length, drop, slice_index, refl, ap, sym, ◌∙◌, arith, length-append}
+use Rattle.std.proofs.lemmas.Bool.{cases_lt}
 use Rattle.std.proofs.lemmas.List.{get_or_append_left}
-use Rattle.domains.specs.Tables.{are_sizes, product}
-
-pub drop_below : (sizes : List ℕ) (k : ℕ) → are_sizes sizes ≡ true
-    → product (drop k sizes) ≤ product sizes
-drop_below sizes zero h = omega arith
-drop_below [] (suc k) h = omega arith
-drop_below (size ∷ sizes) (suc k) h =
-    let both = and_parts (nat_le 1 size && nat_le size 33) (are_sizes sizes) h in
-    let one = leb-true 1 size (and_parts (nat_le 1 size) (nat_le size 33) both.0).0 in
-    let rest = drop_below sizes k both.1 in
-    let more = times size (product sizes) one in
-    omega arith
-  where
-    times : (a b : ℕ) → 1 ≤ a → b ≤ a * b
-    times zero b one = elim one [ ]
-    times (suc a) b one = grind arith
+use Rattle.domains.specs.Tables.{product}
 
 -- the strides of the first variables
 pub record AreStridesTo (vars strides : List ℕ) (n : ℕ) : Type 0 where

@@ -1,5 +1,5 @@
 -- The supports, from the columns of the results.
-use Rattle.std.proofs.Common.{◌≡◌, ⊎_elim, ℕ, zero, suc, ◌+◌, ◌<◌, Bool, true, false, cond, ◌||◌, List, [], ◌∷◌, ◌++◌, map, length, slice_get, get_or, Some, refl, ap, sym, ◌∙◌, arith, eqb, ltb, nat_lt, length-append}
+use Rattle.std.proofs.Common.{◌≡◌, ⊎_elim, ℕ, zero, suc, ◌+◌, ◌<◌, Bool, true, false, cond, ◌||◌, List, [], ◌∷◌, ◌++◌, map, length, slice_get, get_or, Some, refl, ap, sym, ◌∙◌, arith, eqb, ltb, nat_lt}
 use Rattle.std.specs.Prelude.{filter, ◌↔◌}
 use Rattle.std.specs.List.{list_all}
 use Rattle.std.proofs.lemmas.Bool.{and_parts, and_from, cases_lt, eq-eqb, eqb-true, lt-ltb, ltb-true, or_cases, or_left, or_right, false≢true}
@@ -11,13 +11,15 @@ use Rattle.transition_table.specs.Transitions.{IsDeterministic}
 use Rattle.domains.specs.AllCodes.{all_codes}
 use Rattle.decision_diagram.specs.Sets.{stands}
 use Rattle.transition_table.specs.Computed.{supports, support_of, all_supports, result_code}
-use Rattle.char_function.specs.Columns.{varies}
+use Rattle.char_function.specs.inner.Columns.{varies}
 use Rattle.transition_table.specs.Laws.{SupportByTest}
 use Rattle.char_function.specs.Supported.{rises, AreSupports}
-use Rattle.char_function.proofs.AllCodes.{upto_all, all_append}
-use Rattle.char_function.proofs.Lists.{read}
+use Rattle.decision_diagram.proofs.Lists.{read}
 use Rattle.char_function.proofs.Varying.{varies_moves}
-use Rattle.char_function.proofs.Walking.{long_map, get_map}
+use Rattle.char_function.proofs.Walking.{get_map}
+use Rattle.domains.proofs.AllCodes.{long_map}
+use Rattle.decision_diagram.proofs.AllCodes.{upto_all, all_append}
+use Rattle.decision_diagram.proofs.Along.{long_upto}
 
 pub all_weaken : {X : Type 0} (p q : X → Bool) (xs : List X) → list_all p xs ≡ true
     → ((x : X) → p x ≡ true → q x ≡ true) → list_all q xs ≡ true
@@ -25,14 +27,6 @@ all_weaken p q [] all go = refl
 all_weaken p q (x ∷ xs) all go =
     let parts = and_parts (p x) (list_all p xs) all in
     and_from (q x) (list_all q xs) (go x parts.0) (all_weaken p q xs parts.1 go)
-
-pub map_same : {X Y : Type 0} (p : X → Bool) (f g : X → Y) (xs : List X) → list_all p xs ≡ true
-    → ((x : X) → p x ≡ true → f x ≡ g x) → map f xs ≡ map g xs
-map_same p f g [] all same = refl
-map_same {Y = Y} p f g (x ∷ xs) all same =
-    let parts = and_parts (p x) (list_all p xs) all in
-    ap (λ (y : Y). y ∷ map f xs) (same x parts.0)
-    ∙ ap (λ (ys : List Y). g x ∷ ys) (map_same p f g xs parts.1 same)
 
 pub filter_same : {X : Type 0} (r p q : X → Bool) (xs : List X) → list_all r xs ≡ true
     → ((x : X) → r x ≡ true → p x ≡ q x) → filter p xs ≡ filter q xs
@@ -62,11 +56,7 @@ supports_more m y =
     ap (λ (n : ℕ). map (support_of m) (upto n)) e ∙ map-append (support_of m) (upto y) (y ∷ [])
 
 -- ---- exactly the supports
-pub long_upto : (n : ℕ) → length (upto n) ≡ n
-long_upto zero = refl
-long_upto (suc n) = let e = long_upto n in let l = length-append (upto n) (n ∷ []) in omega arith
-
-get_upto : (n k : ℕ) → k < n → slice_get (upto n) k ≡ Some k
+pub get_upto : (n k : ℕ) → k < n → slice_get (upto n) k ≡ Some k
 get_upto zero k low = absurd (omega arith)
 get_upto (suc n) k low =
     ⊎_elim
@@ -140,7 +130,7 @@ rises_filter p (suc n) = ap rises (filter_append p (upto n) (n ∷ [])) ∙ one 
         (filter_all p (λ k. ltb k n) (upto n) (below_upto n))
     one false before = ap rises (none (filter p (upto n))) ∙ before
 
-stands_both : (xs ys : List ℕ) (v : ℕ) → stands (xs ++ ys) v ≡ (stands xs v || stands ys v)
+pub stands_both : (xs ys : List ℕ) (v : ℕ) → stands (xs ++ ys) v ≡ (stands xs v || stands ys v)
 stands_both [] ys v = refl
 stands_both (x ∷ xs) ys v = ap (λ (b : Bool). eqb x v || b) (stands_both xs ys v)
     ∙ assoc (eqb x v) (stands xs v) (stands ys v)

@@ -10,13 +10,16 @@ use Rattle.transition_table.specs.Orders.{sizes_of}
 use Rattle.transition_table.specs.declared.machine.Machine.{Machine}
 use Rattle.outcome_table.specs.Outcomes.{IsTableOf}
 use Rattle.outcome_table.specs.declared.table.Table.{Table}
-use Rattle.char_function.specs.Points.{at_point, point, points}
-use Rattle.char_function.proofs.AllCodes.{all_map, lists_fit}
-use Rattle.char_function.proofs.Fitting.{fits_at, fits_both, fits_long}
-use Rattle.char_function.proofs.Lists.{all_at, at_map, index_first, index_second}
+use Rattle.char_function.specs.inner.Points.{at_point, point, points}
+use Rattle.decision_diagram.proofs.AllCodes.{all_map, lists_fit}
+use Rattle.decision_diagram.proofs.Fitting.{fits_at}
+use Rattle.char_function.proofs.Lists.{all_at, at_map, index_second}
 use Rattle.char_function.proofs.Supporting.{all_weaken}
-use Rattle.char_function.proofs.Varying.{map_map}
-use Rattle.char_function.proofs.Walking.{long_map}
+use Rattle.domains.proofs.AllCodes.{long_map}
+use Rattle.decision_diagram.proofs.Joined.{fits_both}
+use Rattle.domains.proofs.Ranks.{length-fits}
+use Rattle.decision_diagram.proofs.Along.{index_append}
+use Rattle.outcome_table.proofs.Lists.{map_map}
 
 -- all points of a machine are codes of its variables and results
 pub points_fit : ResultsFit → (m : Machine) → list_all (fits (sizes_of m)) (points m) ≡ true
@@ -69,11 +72,11 @@ module _ (m : Machine) (t : Table) (tabled : IsTableOf m t) where
       → slice_index (get_or t.codes v []) i ≡ slice_index (at_point (points m) i) v
   var_at i v low v_low =
       let b = lists_long in
-      let long = fits_long m.vars (get_or (all_codes m.vars) i []) (fits_list i low) in
+      let long = length-fits m.vars (get_or (all_codes m.vars) i []) (fits_list i low) in
       ap (λ (xs : List ℕ). slice_index xs i) (tabled.codes.each v v_low)
       ∙ at_map (λ codes. slice_index codes v) (all_codes m.vars) i [] 0 (omega arith)
       ∙ sym (ap (λ (p : List ℕ). slice_index p v) (point_is i low)
-      ∙ index_first (get_or (all_codes m.vars) i [])
+      ∙ index_append (get_or (all_codes m.vars) i [])
       (result_codes m (get_or (all_codes m.vars) i [])) v (omega arith))
 
   pub column_long : (v : ℕ) → v < length m.vars → length (get_or t.codes v []) ≡ length (points m)
@@ -90,7 +93,7 @@ module _ (m : Machine) (t : Table) (tabled : IsTableOf m t) where
     outcome_long i low =
         let a = numbers_long in
         ap (λ (xs : List ℕ). length xs) (outcome_at i low)
-        ∙ fits_long m.results (result_codes m (get_or (all_codes m.vars) i []))
+        ∙ length-fits m.results (result_codes m (get_or (all_codes m.vars) i []))
         (law m (get_or (all_codes m.vars) i []) (fits_list i (omega arith)))
 
     pub code_below : (i item : ℕ) → i < length (points m) → item < length (sizes_of m)
@@ -106,7 +109,7 @@ module _ (m : Machine) (t : Table) (tabled : IsTableOf m t) where
   result_at i item low high =
       let n = numbers_long in
       let s : List ℕ = get_or (all_codes m.vars) i [] in
-      let long = fits_long m.vars s (fits_list i low) in
+      let long = length-fits m.vars s (fits_list i low) in
       let sum : length s + (item - length m.vars) ≡ item = omega arith in
       ap (λ (xs : List ℕ). slice_index xs (item - length m.vars)) (outcome_at i (omega arith))
       ∙ sym (index_second s (result_codes m s) (item - length m.vars))

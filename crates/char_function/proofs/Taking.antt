@@ -1,12 +1,13 @@
 -- Lists of which some codes are fixed, and what stands before a place of an order.
-use Rattle.std.proofs.Common.{◌≡◌, ⊎_elim, ℕ, zero, suc, ◌<◌, Bool, true, false, cond, ◌||◌, eqb, List, [], ◌∷◌, ◌++◌, length, take, get_or, slice_index, slice_set, refl, ap, sym, ◌∙◌, arith, lt-ltb, ltb}
-use Rattle.std.proofs.lemmas.Bool.{and_from, cases_Bool, cases_lt, eqb-true, eq-eqb, true≢false}
+use Rattle.std.proofs.Common.{◌≡◌, ⊎_elim, ℕ, zero, suc, ◌<◌, Bool, true, false, cond, ◌||◌, eqb, List, [], ◌∷◌, ◌++◌, length, take, get_or, slice_index, slice_set, refl, ap, sym, ◌∙◌, arith}
+use Rattle.std.proofs.lemmas.Bool.{cases_Bool, cases_lt, eqb-true, eq-eqb, true≢false}
 use Rattle.std.proofs.lemmas.List.{ext_get_or, get_or-map, length-map, get_or_append_left}
 use Rattle.polis_base.specs.Lists.{upto}
 use Rattle.domains.specs.Tables.{fits}
 use Rattle.decision_diagram.specs.Sets.{stands, taking}
-use Rattle.char_function.proofs.Fitting.{fits_long, fits_at}
-use Rattle.char_function.proofs.Supporting.{long_upto}
+use Rattle.decision_diagram.proofs.Fitting.{fits_at}
+use Rattle.domains.proofs.Ranks.{length-fits}
+use Rattle.decision_diagram.proofs.Along.{long_upto, fits_from}
 
 pub at_upto : (n k : ℕ) → k < n → get_or (upto n) k 0 ≡ k
 at_upto zero k low = absurd (omega arith)
@@ -22,16 +23,6 @@ at_upto (suc n) k low =
     last : (xs : List ℕ) (x : ℕ) → get_or (xs ++ x ∷ []) (length xs) 0 ≡ x
     last [] x = refl
     last (y ∷ xs) x = last xs x
-
-pub fits_from : (sizes codes : List ℕ) → length codes ≡ length sizes
-    → ((w : ℕ) → w < length sizes → slice_index codes w < slice_index sizes w)
-    → fits sizes codes ≡ true
-fits_from [] [] long each = refl
-fits_from [] (code ∷ codes) long each = absurd (omega arith)
-fits_from (size ∷ sizes) [] long each = absurd (omega arith)
-fits_from (size ∷ sizes) (code ∷ codes) long each =
-    and_from (ltb code size) (fits sizes codes) (lt-ltb code size (each 0 (omega arith)))
-    (fits_from sizes codes (omega arith) (λ w low. each (suc w) (omega arith)))
 
 pub set_else : (xs : List ℕ) (v w code : ℕ) → (w ≡ v → ⊥)
     → slice_index (slice_set xs v code) w ≡ slice_index xs w
@@ -57,8 +48,8 @@ taking_at fixed a b w low =
 pub taking_fits : (sizes : List ℕ) (fixed : ℕ → Bool) (a b : List ℕ) → fits sizes a ≡ true
     → fits sizes b ≡ true → fits sizes (taking fixed a b) ≡ true
 taking_fits sizes fixed a b ha hb =
-    let la = fits_long sizes a ha in
-    let lb = fits_long sizes b hb in
+    let la = length-fits sizes a ha in
+    let lb = length-fits sizes b hb in
     fits_from sizes (taking fixed a b) (taking_long fixed a b ∙ lb) (λ w low.
     let e = taking_at fixed a b w (omega arith) in
     let one = fits_at sizes a ha w low in
@@ -94,7 +85,7 @@ or_on : (a b : Bool) → b ≡ true → (a || b) ≡ true
 or_on true b h = refl
 or_on false b h = h
 
-or_first : (a b : Bool) → a ≡ true → (a || b) ≡ true
+pub or_first : (a b : Bool) → a ≡ true → (a || b) ≡ true
 or_first true b h = refl
 or_first false b h = absurd (true≢false (sym h))
 

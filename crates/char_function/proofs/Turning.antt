@@ -12,13 +12,16 @@ use Rattle.domains.specs.Orders.{IsPermutation, place}
 use Rattle.decision_diagram.specs.Sets.{stands}
 use Rattle.transition_table.specs.Orders.{Allowed, sizes_of}
 use Rattle.transition_table.specs.Computed.{supports, support_of, all_supports}
-use Rattle.char_function.specs.Orders.{reach, reach_at, results_after, interleaved, first_order, stands_after, AreOfMachine}
+use Rattle.char_function.specs.Orders.{reach, reach_at, results_after, interleaved, first_order, AreOfMachine}
+use Rattle.char_function.specs.inner.Orders.{stands_after}
 use Rattle.transition_table.specs.Laws.{SupportByTest}
-use Rattle.char_function.proofs.AllCodes.{all_append, all_flat, all_map, upto_all}
+use Rattle.decision_diagram.proofs.AllCodes.{all_flat, all_map, all_append, upto_all}
 use Rattle.char_function.proofs.Small.{few_items}
-use Rattle.char_function.proofs.Places.{at_place, place_below}
-use Rattle.char_function.proofs.Supporting.{all_weaken, below_upto, filter_append, filter_all, long_upto, support_at, are_supports}
-use Rattle.char_function.proofs.Walking.{long_map, flat_more}
+use Rattle.char_function.proofs.Supporting.{all_weaken, below_upto, filter_append, filter_all, support_at, are_supports}
+use Rattle.char_function.proofs.Walking.{flat_more}
+use Rattle.domains.proofs.AllCodes.{long_map}
+use Rattle.domains.proofs.Places.{at_place, place_below}
+use Rattle.decision_diagram.proofs.Along.{long_upto}
 
 -- ---- reach
 pub reach_over : (support : List ℕ) (v : ℕ) → stands support v ≡ true → v + 1 ≤ reach support

@@ -11,12 +11,15 @@ use Rattle.domains.specs.Names.{is_same}
 use Rattle.domains.specs.Tables.{fits, are_sizes, product, rank, RanksReach}
 use Rattle.domains.specs.AllCodes.{each_after, all_codes}
 use Rattle.transition_table.specs.Computed.{moves, turned}
-use Rattle.char_function.specs.Columns.{part, varies}
-use Rattle.char_function.proofs.AllCodes.{lists_fit, none_lists, none_upto, some_item, upto_all}
-use Rattle.char_function.proofs.Fitting.{size_some}
-use Rattle.char_function.proofs.Lists.{read, read_within}
+use Rattle.char_function.specs.inner.Columns.{part, varies}
+use Rattle.decision_diagram.proofs.AllCodes.{none_lists, none_upto, lists_fit, upto_all}
+use Rattle.transition_table.proofs.Supporting.{some_item}
+use Rattle.decision_diagram.proofs.Fitting.{size_some}
+use Rattle.decision_diagram.proofs.Lists.{read, read_within}
 use Rattle.char_function.proofs.Pointing.{same_self}
-use Rattle.char_function.proofs.Walking.{long_map, all_long, at_rank, get_map}
+use Rattle.char_function.proofs.Walking.{at_rank, get_map}
+use Rattle.domains.proofs.AllCodes.{long_map}
+use Rattle.outcome_table.proofs.Columns.{all_long}
 
 -- ---- some number below another
 pub any_append : {X : Type 0} (p : X → Bool) (xs ys : List X)
@@ -39,13 +42,6 @@ any_found p (suc n) k low on =
     or_right (list_any p (upto n)) (p n || false) (or_left (p n) false (ap p same ∙ on)))
     (cases_lt k n)
 
-pub any_never : (p : ℕ → Bool) (n : ℕ) → ((k : ℕ) → k < n → p k ≡ false)
-    → list_any p (upto n) ≡ false
-any_never p zero off = refl
-any_never p (suc n) off = any_append p (upto n) (n ∷ [])
-    ∙ ap (λ (b : Bool). b || (p n || false)) (any_never p n (λ k low. off k (omega arith)))
-    ∙ ap (λ (b : Bool). b || false) (off n (omega arith))
-
 pub any_same : (p q : ℕ → Bool) (n : ℕ) → ((k : ℕ) → k < n → p k ≡ q k)
     → list_any p (upto n) ≡ list_any q (upto n)
 any_same p q zero same = refl
@@ -67,21 +63,6 @@ any_map p f [] = refl
 any_map p f (x ∷ xs) = ap (λ (b : Bool). p (f x) || b) (any_map p f xs)
 
 -- ---- parts
-map_flat : {X Y Z : Type 0} (g : Y → Z) (f : X → List Y) (xs : List X)
-    → map g (flat_map f xs) ≡ flat_map (λ x. map g (f x)) xs
-map_flat g f [] = refl
-map_flat {Z = Z} g f (x ∷ xs) = map_both g (f x) (flat_map f xs)
-    ∙ ap (λ (zs : List Z). map g (f x) ++ zs) (map_flat g f xs)
-  where
-    map_both : {Y Z : Type 0} (g : Y → Z) (xs ys : List Y) → map g (xs ++ ys) ≡ map g xs ++ map g ys
-    map_both g [] ys = refl
-    map_both {Z = Z} g (x ∷ xs) ys = ap (λ (zs : List Z). g x ∷ zs) (map_both g xs ys)
-
-pub map_map : {X Y Z : Type 0} (g : Y → Z) (f : X → Y) (xs : List X)
-    → map g (map f xs) ≡ map (λ x. g (f x)) xs
-map_map g f [] = refl
-map_map {Z = Z} g f (x ∷ xs) = ap (λ (zs : List Z). g (f x) ∷ zs) (map_map g f xs)
-
 -- the values over the first variable and those results_after it
 values : (List ℕ → ℕ) → List ℕ → List ℕ
 values g sizes = map g (all_codes sizes)

@@ -1,13 +1,11 @@
 -- All lists of codes by their numbers.
-use Rattle.std.proofs.Common.{◌≡◌, ⊎_elim, ℕ, zero, suc, ◌+◌, ◌*◌, ◌<◌, true, List, [], ◌∷◌, ◌++◌, map, flat_map, length, slice_get, Some, refl, ap, sym, ◌∙◌, arith, ltb, length-append}
+use Rattle.std.proofs.Common.{◌≡◌, ⊎_elim, ℕ, zero, suc, ◌+◌, ◌*◌, ◌<◌, true, List, ◌∷◌, ◌++◌, map, flat_map, length, slice_get, Some, refl, ap, sym, ◌∙◌, arith, ltb, length-append, []}
 use Rattle.std.proofs.lemmas.Bool.{and_parts, ltb-true, cases_lt, false≢true}
 use Rattle.polis_base.specs.Lists.{upto}
 use Rattle.domains.specs.Tables.{fits, product, rank}
 use Rattle.domains.specs.AllCodes.{each_after, all_codes}
-
-pub long_map : {X Y : Type 0} (f : X → Y) (xs : List X) → length (map f xs) ≡ length xs
-long_map f [] = refl
-long_map f (x ∷ xs) = ap suc (long_map f xs)
+use Rattle.domains.proofs.AllCodes.{long_map}
+use Rattle.outcome_table.proofs.Columns.{all_long}
 
 pub flat_more : {X Y : Type 0} (f : X → List Y) (xs : List X) (x : X)
     → flat_map f (xs ++ x ∷ []) ≡ flat_map f xs ++ f x
@@ -33,12 +31,6 @@ flat_long {Y = Y} f w (suc n) each =
     let r = flat_long f w n each in
     let k = each n in
     omega arith
-
-pub all_long : (sizes : List ℕ) → length (all_codes sizes) ≡ product sizes
-all_long [] = refl
-all_long (size ∷ sizes) =
-    flat_long (each_after (all_codes sizes)) (product sizes) size
-    (λ k. long_map (λ codes. k ∷ codes) (all_codes sizes) ∙ all_long sizes)
 
 get_front : {X : Type 0} (xs ys : List X) (i : ℕ) (x : X) → slice_get xs i ≡ Some x
     → slice_get (xs ++ ys) i ≡ Some x

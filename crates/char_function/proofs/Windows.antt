@@ -7,10 +7,11 @@ use Rattle.std.proofs.lemmas.Nat.{div-mul-add}
 use Rattle.polis_base.specs.Lists.{upto}
 use Rattle.domains.specs.Names.{is_same}
 use Rattle.domains.specs.Tables.{are_sizes, product}
-use Rattle.char_function.specs.Columns.{part, varies}
-use Rattle.char_function.proofs.Blocks.{split, times_le}
-use Rattle.char_function.proofs.Fitting.{size_some}
+use Rattle.char_function.specs.inner.Columns.{part, varies}
+use Rattle.char_function.proofs.Blocks.{times_le}
+use Rattle.decision_diagram.proofs.Fitting.{size_some}
 use Rattle.char_function.proofs.Varying.{any_append, any_same}
+use Rattle.outcome_table.proofs.Columns.{product_split}
 
 -- two neighbours in this block differ
 abbrev pub steps : List ℕ → ℕ → ℕ → ℕ → Bool
@@ -45,7 +46,7 @@ window_from xs n a c k d h is =
     ∙ ap (λ (i : ℕ). take k (drop i xs)) (sym is)
 
 -- ---- some number below a product
-or_false : (a : Bool) → (a || false) ≡ a
+pub or_false : (a : Bool) → (a || false) ≡ a
 or_false true = refl
 or_false false = refl
 
@@ -133,7 +134,7 @@ varies_flat (size ∷ sizes) (suc v) column block stride are low long apart wide
     w_is = share (length column) size (product sizes) long one
 
     whole : product (take v sizes) * block ≡ w
-    whole = ap (λ (k : ℕ). product (take v sizes) * k) wide ∙ split sizes v ∙ sym w_is
+    whole = ap (λ (k : ℕ). product (take v sizes) * k) wide ∙ product_split sizes v ∙ sym w_is
 
     room : (code : ℕ) → code < size → code * w + w ≤ length column
     room code code_low =
@@ -192,7 +193,7 @@ blocks_of vars v size stride n are low sized apart long most =
     ∙ sym (ap product (drop_more vars v 0 low)) in
     let some_left = some_lists vars v are in
     let whole : product (take v vars) * (size * stride) ≡ product vars =
-    ap (λ (k : ℕ). product (take v vars) * k) block ∙ split vars v in
+    ap (λ (k : ℕ). product (take v vars) * k) block ∙ product_split vars v in
     let wide = times_le 1 size stride (omega arith) in
     let e : n ≡ product (take v vars) * (size * stride) + 0 = omega arith in
     let count : n / (size * stride) ≡ product (take v vars) =

@@ -1,11 +1,6 @@
-pub mod Columns
-pub mod Groups
-pub mod Known
 pub mod Laws
-pub mod Left
 pub mod Orders
-pub mod Points
 pub mod Roots
-pub mod Rising
 pub mod Sizes
 pub mod Supported
+pub mod inner

@@ -1,8 +1,6 @@
 -- Orders of variables and results, by the supports of the results.
-use Rattle.std.specs.Prelude.{◌≡◌, ℕ, ◌+◌, ◌==◌, Bool, List, [], ◌∷◌, ◌++◌, map, length, filter, flat_map, get_or, max, nat_lt}
-use Rattle.std.specs.List.{list_all}
+use Rattle.std.specs.Prelude.{◌≡◌, ℕ, ◌+◌, ◌==◌, List, ◌∷◌, ◌++◌, map, length, filter, flat_map, get_or, max, []}
 use Rattle.polis_base.specs.Lists.{upto}
-use Rattle.domains.specs.Orders.{place}
 use Rattle.transition_table.specs.declared.machine.Machine.{Machine}
 use Rattle.transition_table.specs.Computed.{all_supports}
 use Rattle.transition_table.specs.Orders.{sizes_of}
@@ -33,11 +31,6 @@ interleaved n supports = results_after n supports 0
 
 abbrev pub first_order : Machine → List ℕ
 first_order m = interleaved (length m.vars) (all_supports m)
-
--- result y of n + y stands after all of its support
-abbrev pub stands_after : ℕ → List (List ℕ) → List ℕ → ℕ → Bool
-stands_after n supports order y =
-    list_all (λ v. nat_lt (place order v) (place order (n + y))) (get_or supports y [])
 
 -- the supports are those of a machine, and the order is of its variables and results
 abbrev pub AreOfMachine : List (List ℕ) → List ℕ → Type 0

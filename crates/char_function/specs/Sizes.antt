@@ -1,15 +1,15 @@
 -- The size of a machine's diagram under an order.
-use Rattle.std.specs.Prelude.{◌≡◌, ◌↔◌, ℕ, Bool, true, List, IsTrue}
-use Rattle.domains.specs.Tables.{fits}
+use Rattle.std.specs.Prelude.{◌≡◌, ℕ, Bool, List}
 use Rattle.transition_table.specs.declared.machine.Machine.{Machine}
 use Rattle.transition_table.specs.Computed.{char}
 use Rattle.transition_table.specs.Orders.{Char, sizes_of}
+use Rattle.decision_diagram.specs.Exact.{IsTrueWhere}
 use Rattle.decision_diagram.specs.Sizes.{size_along}
 
 -- on codes that fit, the function is true exactly where they are a snapshot and the codes of its
 -- outcome
 abbrev pub Decides : (List ℕ → Bool) → Machine → Type 0
-Decides f m = (codes : List ℕ) → IsTrue (fits (sizes_of m) codes) → (f codes ≡ true) ↔ Char m codes
+Decides f m = IsTrueWhere (sizes_of m) f (Char m)
 
 -- The sum over the places of the order of the number of different functions that arise from the
 -- characteristic function by fixing the variables and results before the place, and that depend on

@@ -11,7 +11,7 @@ use std::alloc::Global;
 use transition_table::Machine;
 
 // The code of a result in an outcome, 0 where it has none.
-fn code_of(outcome: &Codes, y: u64) -> u8
+fn code_in_outcome(outcome: &Codes, y: u64) -> u8
     ensures { result ≡ slice_index outcome.now y }
 {
     if y < outcome.len() {
@@ -27,7 +27,7 @@ fn codes_of(alloc: Global, table: &Table, y: u64) -> Result<Codes, NoMemory>
 {
     let mut codes = Codes::new(alloc);
     for k in 0..table.outcomes.len() {
-        codes.push(code_of(table.outcomes.get(k), y))?;
+        codes.push(code_in_outcome(table.outcomes.get(k), y))?;
     }
     Ok(codes)
 }

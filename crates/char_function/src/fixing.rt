@@ -9,8 +9,8 @@ ghost use Rattle.decision_diagram.specs.Diagrams.{IsNode, Keeps, Means, level_of
 ghost use Rattle.transition_table.specs.Computed.{char};
 ghost use Rattle.transition_table.specs.Orders.{sizes_of};
 ghost use Rattle.outcome_table.specs.Outcomes.{IsTableOf};
-ghost use Rattle.char_function.specs.Left.{AreLeft, AreStrides, IsFirst, IsFixing, IsOrdered, left_from};
-ghost use Rattle.char_function.specs.Points.{points};
+ghost use Rattle.char_function.specs.inner.Left.{AreLeft, AreStrides, IsFirstOf, IsFixing, IsOrdered, IsStoreOf, left_from};
+ghost use Rattle.char_function.specs.inner.Points.{points};
 
 use crate::group::code_at;
 use crate::known::{Known, after_variables};
@@ -19,7 +19,7 @@ use crate::rising::is_rising;
 use decision_diagram::{NodeId, Order, Store};
 use domains::VarTable;
 use outcome_table::{Table, lists_from};
-use polis_base::{List, NoMemory, Places};
+use polis_base::{List, NoMemory};
 use std::alloc::Global;
 use transition_table::Machine;
 
@@ -34,7 +34,7 @@ pub(crate) struct Fixing<'a> {
     pub(crate) order: &'a Order,
     pub(crate) sizes: &'a VarTable,
     /// For each variable how far apart two snapshots are whose codes of it follow each other.
-    pub(crate) strides: &'a Places,
+    pub(crate) strides: &'a List<u64>,
     /// The place after the order's last variable.
     pub(crate) start: u64,
 }
@@ -125,10 +125,8 @@ pub(crate) fn make_outcome(
 ) -> Result<NodeId, NoMemory>
     requires fixing { IsFixing fixing.now.machine.now fixing.now.table.now fixing.now.order.now
         fixing.now.sizes.now fixing.now.strides.now fixing.now.start }
-    requires order { store.old.order ≡ fixing.now.order.now }
-    requires sizes { store.old.sizes ≡ fixing.now.sizes.now }
-    requires known { AreLeft fixing.now.machine.now fixing.now.table.now store.old fixing.now.start
-        known.old }
+    requires store { IsStoreOf fixing.now.machine.now fixing.now.table.now fixing.now.order.now
+        fixing.now.sizes.now fixing.now.start store.old known.old }
     requires snapshot { i < length (points fixing.now.machine.now) }
     ensures kept { Keeps store.old store.new }
     ensures value { IfOk result (λ n. Means store.new n
@@ -153,10 +151,8 @@ fn outcome_node(
 ) -> Result<NodeId, NoMemory>
     requires fixing { IsFixing fixing.now.machine.now fixing.now.table.now fixing.now.order.now
         fixing.now.sizes.now fixing.now.strides.now fixing.now.start }
-    requires order { store.old.order ≡ fixing.now.order.now }
-    requires sizes { store.old.sizes ≡ fixing.now.sizes.now }
-    requires known { AreLeft fixing.now.machine.now fixing.now.table.now store.old fixing.now.start
-        known.old }
+    requires store { IsStoreOf fixing.now.machine.now fixing.now.table.now fixing.now.order.now
+        fixing.now.sizes.now fixing.now.start store.old known.old }
     requires snapshot { i < length (points fixing.now.machine.now) }
     ensures kept { Keeps store.old store.new }
     ensures value { IfOk result (λ n. Means store.new n
@@ -183,12 +179,9 @@ fn fixed_node(
     requires place { place ≤ fixing.now.start }
     requires fixing { IsFixing fixing.now.machine.now fixing.now.table.now fixing.now.order.now
         fixing.now.sizes.now fixing.now.strides.now fixing.now.start }
-    requires order { store.old.order ≡ fixing.now.order.now }
-    requires sizes { store.old.sizes ≡ fixing.now.sizes.now }
-    requires known { AreLeft fixing.now.machine.now fixing.now.table.now store.old fixing.now.start
-        known.old }
-    requires snapshot { i < length (points fixing.now.machine.now) }
-    requires first { IsFirst fixing.now.machine.now fixing.now.order.now place i }
+    requires store { IsStoreOf fixing.now.machine.now fixing.now.table.now fixing.now.order.now
+        fixing.now.sizes.now fixing.now.start store.old known.old }
+    requires first { IsFirstOf fixing.now.machine.now fixing.now.order.now place i }
     ensures kept { Keeps store.old store.new }
     ensures value { IfOk result (λ n. Means store.new n
         (left_from fixing.now.machine.now fixing.now.order.now place i)) }
@@ -224,7 +217,7 @@ fn fixed_node(
 }
 
 // How far apart two snapshots are whose codes of a variable follow each other, for each variable.
-fn strides_of(alloc: Global, m: &Machine) -> Result<Places, NoMemory>
+fn strides_of(alloc: Global, m: &Machine) -> Result<List<u64>, NoMemory>
     ensures { IfOk result (AreStrides m.now.vars) }
 {
     let vars = u64::from(m.var_count());

@@ -2,11 +2,11 @@
 ghost use Rattle.std.specs.Prelude.{◌≡◌, ◌<◌, ℕ, length, slice_index, get_or, [], IfOk, IsTrue};
 ghost use Rattle.transition_table.specs.Orders.{sizes_of};
 ghost use Rattle.outcome_table.specs.Outcomes.{IsTableOf};
-ghost use Rattle.char_function.specs.Points.{points, at_point};
-ghost use Rattle.char_function.specs.Groups.{with_code, is_group};
+ghost use Rattle.char_function.specs.inner.Points.{points, at_point};
+ghost use Rattle.char_function.specs.inner.Groups.{with_code, is_group};
 
 use outcome_table::Table;
-use polis_base::{NoMemory, Places};
+use polis_base::{List, NoMemory};
 use std::alloc::Global;
 use transition_table::Machine;
 
@@ -29,13 +29,13 @@ pub(crate) fn code_at(m: &Machine, table: &Table, item: u32, i: u64) -> u8
 }
 
 // So many groups of no snapshots.
-fn no_parts(alloc: Global, size: u8) -> Result<Vec<Places>, NoMemory>
+fn no_parts(alloc: Global, size: u8) -> Result<Vec<List<u64>>, NoMemory>
     ensures long { IfOk result (λ parts. length parts.items ≡ size) }
     ensures none { IfOk result (λ parts. (code : ℕ) → get_or parts.items code [] ≡ []) }
 {
     let mut parts = Vec::new(alloc);
     for _ in 0..size {
-        parts.push(Places::new(alloc))?;
+        parts.push(List::new(alloc))?;
     }
     Ok(parts)
 }
@@ -48,7 +48,7 @@ pub(crate) fn parts_of(
     item: u32,
     size: u8,
     group: &[u64],
-) -> Result<Vec<Places>, NoMemory>
+) -> Result<Vec<List<u64>>, NoMemory>
     requires table { IsTableOf m.now table.now }
     requires item { item < length (sizes_of m.now) }
     requires size { size ≡ slice_index (sizes_of m.now) item }

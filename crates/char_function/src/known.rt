@@ -2,9 +2,9 @@
 ghost use Rattle.std.specs.Prelude.{◌≡◌, ◌<◌, ◌≤◌, length, IfOk, IfSome, IsTrue};
 ghost use Rattle.decision_diagram.specs.Diagrams.{Diagrams, Means, level_of};
 ghost use Rattle.outcome_table.specs.Outcomes.{IsTableOf};
-ghost use Rattle.char_function.specs.Points.{points};
-ghost use Rattle.char_function.specs.Groups.{some_agrees, is_group};
-ghost use Rattle.char_function.specs.Known.{OnlyResults, AreKnown};
+ghost use Rattle.char_function.specs.inner.Points.{points};
+ghost use Rattle.char_function.specs.inner.Groups.{some_agrees, is_group};
+ghost use Rattle.char_function.specs.inner.Known.{OnlyResults, AreKnown};
 
 use decision_diagram::{NodeId, Order, Store};
 use outcome_table::Table;

@@ -6,8 +6,8 @@
 // each other in the level after it.
 ghost use Rattle.std.specs.Prelude.{◌≡◌, ◌+◌, ◌*◌, ◌<◌, ◌≤◌, length, slice_index, IfOk, OnOk};
 ghost use Rattle.decision_diagram.specs.Diagrams.{Keeps, Means};
-ghost use Rattle.char_function.specs.Left.{AreLeft, IsFixing, left_from};
-ghost use Rattle.char_function.specs.Rising.{AreLevel, IsRising};
+ghost use Rattle.char_function.specs.inner.Left.{AreLeft, IsFixing, left_from};
+ghost use Rattle.char_function.specs.inner.Rising.{AreLevel, IsRising};
 
 use crate::fixing::{Fixing, known_outcome, make_outcome, result_node};
 use crate::group::code_at;

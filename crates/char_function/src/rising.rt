@@ -1,6 +1,6 @@
 // Orders in which the variables stand by rising numbers.
 ghost use Rattle.std.specs.Prelude.{◌≡◌, true};
-ghost use Rattle.char_function.specs.Rising.{IsRising};
+ghost use Rattle.char_function.specs.inner.Rising.{IsRising};
 
 use decision_diagram::Order;
 

@@ -1,17 +1,16 @@
 // The diagram of a machine's characteristic function.
-ghost use Rattle.std.specs.Prelude.{◌≡◌, ◌↔◌, ◌≤◌, ℕ, true, List, length, IfOk, IsTrue};
-ghost use Rattle.domains.specs.Tables.{fits};
+ghost use Rattle.std.specs.Prelude.{◌≡◌, ◌≤◌, ℕ, length, IfOk, IsTrue};
 ghost use Rattle.polis_base.specs.Lists.{upto};
 ghost use Rattle.transition_table.specs.Transitions.{IsDeterministic};
 ghost use Rattle.transition_table.specs.Computed.{all_supports, char};
-ghost use Rattle.transition_table.specs.Orders.{Char, sizes_of};
+ghost use Rattle.transition_table.specs.Orders.{sizes_of};
 ghost use Rattle.decision_diagram.specs.Diagrams.{IsNode, Keeps, Means, level_of, value_of};
 ghost use Rattle.decision_diagram.specs.Reached.{CountsReached};
 ghost use Rattle.outcome_table.specs.Outcomes.{IsTableOf};
-ghost use Rattle.char_function.specs.Sizes.{IsSize};
-ghost use Rattle.char_function.specs.Points.{points};
-ghost use Rattle.char_function.specs.Groups.{some_agrees, is_group};
-ghost use Rattle.char_function.specs.Known.{OnlyResults, AreKnown};
+ghost use Rattle.char_function.specs.Sizes.{Decides, IsSize};
+ghost use Rattle.char_function.specs.inner.Points.{points};
+ghost use Rattle.char_function.specs.inner.Groups.{some_agrees, is_group};
+ghost use Rattle.char_function.specs.inner.Known.{AreKnown, IsMaking};
 ghost use Rattle.char_function.specs.Roots.{IsDiagramOf};
 
 use crate::allowed::is_allowed;
@@ -23,7 +22,7 @@ use crate::support_lists::Supports;
 use decision_diagram::{NodeId, Order, Root, Store};
 use domains::VarTable;
 use outcome_table::{Table, table_of};
-use polis_base::{List, NoMemory, Places};
+use polis_base::{List, NoMemory};
 use std::alloc::Global;
 use transition_table::Machine;
 
@@ -49,12 +48,8 @@ fn build(
     group: &[u64],
 ) -> Result<NodeId, NoMemory>
     requires place { place ≤ length store.old.order }
-    requires order { making.now.order.now ≡ store.old.order }
-    requires sizes { making.now.sizes.now ≡ store.old.sizes }
-    requires all_sizes { store.old.sizes ≡ sizes_of making.now.machine.now }
-    requires table { IsTableOf making.now.machine.now making.now.table.now }
-    requires start { OnlyResults (length making.now.machine.now.vars) store.old.order
-        making.now.start }
+    requires making { IsMaking making.now.machine.now making.now.table.now making.now.order.now
+        making.now.sizes.now making.now.start store.old }
     requires known { AreKnown store.old (length making.now.machine.now.vars) making.now.start
         making.now.table.now.outcomes known.old }
     requires group { IsTrue (is_group (points making.now.machine.now) group.now) }
@@ -109,7 +104,7 @@ fn all_sizes(alloc: Global, m: &Machine) -> Result<VarTable, NoMemory>
 }
 
 // The numbers below a bound.
-fn numbers_below(alloc: Global, bound: u64) -> Result<Places, NoMemory>
+fn numbers_below(alloc: Global, bound: u64) -> Result<List<u64>, NoMemory>
     ensures { IfOk result (λ list. list ≡ upto bound) }
 {
     let mut list = List::new(alloc);
@@ -220,8 +215,7 @@ pub fn characteristic(alloc: Global, m: &Machine, order: &Order) -> Result<Root,
     ensures sizes { IfOk result (λ root. root.store.sizes ≡ sizes_of m.now) }
     ensures order { IfOk result (λ root. root.store.order ≡ order.now) }
     ensures node { IfOk result (λ root. IsNode root.store root.node) }
-    ensures char { IfOk result (λ root. (codes : List ℕ) → IsTrue (fits (sizes_of m.now) codes)
-        → (value_of root.store root.node codes ≡ true) ↔ Char m.now codes) }
+    ensures char { IfOk result (λ root. Decides (value_of root.store root.node) m.now) }
     ensures size { IfOk result (λ root. (count : ℕ) → CountsReached root.store root.node count
         → IsSize m.now order.now count) }
 {

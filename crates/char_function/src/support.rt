@@ -1,12 +1,13 @@
 // What the results of a machine depend on.
 ghost use Rattle.std.specs.Prelude.{◌≡◌, ◌<◌, ◌≤◌, length, filter, IfOk};
+ghost use Rattle.polis_base.specs.declared.limits.TheConstants.{SNAPSHOTS_MAX};
 ghost use Rattle.polis_base.specs.Lists.{upto};
 ghost use Rattle.domains.specs.Names.{is_same};
 ghost use Rattle.domains.specs.Tables.{product};
 ghost use Rattle.transition_table.specs.Transitions.{IsDeterministic};
 ghost use Rattle.transition_table.specs.Computed.{all_supports};
 ghost use Rattle.outcome_table.specs.Outcomes.{IsTableOf};
-ghost use Rattle.char_function.specs.Columns.{varies};
+ghost use Rattle.char_function.specs.inner.Columns.{varies};
 ghost use Rattle.char_function.specs.Supported.{AreSupports};
 
 use crate::column::result_column;
@@ -30,7 +31,7 @@ fn are_same(one: &[u8], other: &[u8]) -> bool
 fn changes(column: &[u8], vars: &VarTable, v: u64) -> bool
     requires var { v < length vars.now }
     requires column { length column.now ≡ product vars.now }
-    requires few { product vars.now ≤ 65536 }
+    requires few { product vars.now ≤ SNAPSHOTS_MAX }
     ensures { result ≡ varies vars.now v column.now }
 {
     let _ = vars.len();
@@ -52,7 +53,7 @@ fn changes(column: &[u8], vars: &VarTable, v: u64) -> bool
 fn support(alloc: Global, column: &[u8], vars: &VarTable) -> Result<Numbers, NoMemory>
     requires vars { length vars.now ≤ 24 }
     requires column { length column.now ≡ product vars.now }
-    requires few { product vars.now ≤ 65536 }
+    requires few { product vars.now ≤ SNAPSHOTS_MAX }
     ensures { IfOk result (λ list. list
         ≡ filter (λ v. varies vars.now v column.now) (upto (length vars.now))) }
 {

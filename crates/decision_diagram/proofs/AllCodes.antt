@@ -99,7 +99,7 @@ none_all p (x ∷ xs) h =
     let parts = or_parts (p x) (list_any p xs) h in
     and_from (not (p x)) (list_all (λ x. not (p x)) xs) (ap not parts.0) (none_all p xs parts.1)
 
-not_true : (b : Bool) → not b ≡ true → b ≡ false
+pub not_true : (b : Bool) → not b ≡ true → b ≡ false
 not_true true h = absurd (false≢true h)
 not_true false h = refl
 

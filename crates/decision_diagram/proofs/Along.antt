@@ -1,5 +1,5 @@
 -- Reading codes that stand in the order's order.
-use Rattle.std.proofs.Common.{◌≡◌, ⊎_elim, ℕ, zero, suc, ◌<◌, Bool, true, List, [], ◌∷◌, ◌++◌, map, length, slice_index, refl, ap, sym, ◌∙◌, arith, eqb, ltb}
+use Rattle.std.proofs.Common.{◌≡◌, ⊎_elim, ℕ, zero, suc, ◌<◌, Bool, true, List, ◌∷◌, ◌++◌, map, length, slice_index, refl, ap, sym, ◌∙◌, arith, eqb, ltb, []}
 use Rattle.std.proofs.lemmas.Bool.{and_from, lt-ltb, cases_lt}
 use Rattle.std.proofs.lemmas.Grind.{same_number_lists}
 use Rattle.std.proofs.lemmas.List.{length_push}
@@ -8,8 +8,10 @@ use Rattle.domains.specs.Tables.{fits}
 use Rattle.domains.specs.Orders.{IsPermutation, place}
 use Rattle.decision_diagram.specs.Diagrams.{Diagrams, Node, inner_at, step, follow, AreReduced, Means}
 use Rattle.decision_diagram.specs.Sizes.{by_variable}
-use Rattle.decision_diagram.proofs.Fitting.{fits_long, fits_at}
-use Rattle.decision_diagram.proofs.Places.{place_below, place_of_item, at_place}
+use Rattle.decision_diagram.proofs.Fitting.{fits_at}
+use Rattle.domains.proofs.Places.{place_of_item, place_below, at_place}
+use Rattle.domains.proofs.AllCodes.{long_map}
+use Rattle.domains.proofs.Ranks.{length-fits}
 
 -- where one comes to from n by the codes of the variables, one code for each
 abbrev pub along : List Node → List ℕ → List ℕ → ℕ → ℕ
@@ -39,15 +41,11 @@ index_map f [] j low = absurd (omega arith)
 index_map f (x ∷ xs) zero low = refl
 index_map f (x ∷ xs) (suc j) low = index_map f xs j (omega arith)
 
-pub long_map : {X Y : Type 0} (f : X → Y) (xs : List X) → length (map f xs) ≡ length xs
-long_map f [] = refl
-long_map f (x ∷ xs) = ap suc (long_map f xs)
-
 pub long_upto : (n : ℕ) → length (upto n) ≡ n
 long_upto zero = refl
 long_upto (suc n) = let e = long_upto n in let f = length_push (upto n) n in omega arith
 
-index_append : (xs ys : List ℕ) (j : ℕ) → j < length xs
+pub index_append : (xs ys : List ℕ) (j : ℕ) → j < length xs
     → slice_index (xs ++ ys) j ≡ slice_index xs j
 index_append [] ys j low = absurd (omega arith)
 index_append (x ∷ xs) ys zero low = refl
@@ -129,7 +127,7 @@ pub along_value : (s : Diagrams) → AreReduced s → (root : ℕ) (f : List ℕ
     → (codes : List ℕ) → fits (map (slice_index s.sizes) s.order) codes ≡ true
     → f (by_variable s.order codes) ≡ eqb (along s.nodes s.order codes root) 1
 along_value s ok root f means codes fit =
-    let long = fits_long (map (slice_index s.sizes) s.order) codes fit in
+    let long = length-fits (map (slice_index s.sizes) s.order) codes fit in
     let l = long_map (slice_index s.sizes) s.order in
     sym (means.value (by_variable s.order codes)
     (by_variable_fits s.sizes s.order codes ok.order ok.lengths fit))

@@ -16,14 +16,15 @@ use Rattle.decision_diagram.proofs.AllCodes.{lists_fit, none_lists}
 use Rattle.decision_diagram.proofs.Along.{along, follow_along, chosen_fits, item_at}
 use Rattle.decision_diagram.proofs.Distinct.{differing_count, count_none, count_either, count_last, count_append}
 use Rattle.decision_diagram.proofs.Joined.{reaches_child}
-use Rattle.decision_diagram.proofs.Fitting.{fits_long, fits_set, fits_zeros}
+use Rattle.decision_diagram.proofs.Fitting.{fits_set}
 use Rattle.decision_diagram.proofs.Prefixes.{led_codes}
 use Rattle.decision_diagram.proofs.Nodes.{cases_inner, inner_low, none_low}
 use Rattle.decision_diagram.proofs.Joined.{drop_prefix}
 use Rattle.decision_diagram.proofs.Paths.{lead_root, lead_kid}
-use Rattle.decision_diagram.proofs.Places.{place_of_item}
+use Rattle.domains.proofs.Places.{place_of_item}
 use Rattle.decision_diagram.proofs.Truths.{reads, sizes_at, nodes_after, ordered_value, root_after, level_at, every_filter, every_map}
 use Rattle.decision_diagram.proofs.Values.{level_some, level_below, item_at_level}
+use Rattle.domains.proofs.Ranks.{length-fits, fits-zeros}
 
 -- ---- each node that is reached is led to by some codes
 pub lead_further : (s : Diagrams) → AreReduced s → (root k : ℕ) (node : Node) (c : ℕ)
@@ -34,7 +35,7 @@ lead_further s ok root k node c is low a fit at =
     let good = ok.nodes k node is in
     let var : node.var < length s.sizes = good.var in
     let kids : length node.kids ≡ slice_index s.sizes node.var = good.kids in
-    let long = fits_long s.sizes a fit in
+    let long = length-fits s.sizes a fit in
     let i = level_of s k in
     let below : i < length s.order = level_below s ok k node is in
     let own_level : i ≡ place s.order node.var = level_some s k node is in
@@ -56,7 +57,7 @@ pub lead_codes : (s : Diagrams) → AreReduced s → (root : ℕ) (steps n : ℕ
 lead_codes s ok root zero n same =
     let zeros : List ℕ = replicate (length s.sizes) 0 in (
       zeros,
-      fits_zeros s.sizes ok.sizes,
+      fits-zeros s.sizes ok.sizes,
       subst (λ (m : ℕ). LeadTo s root zeros m) same (lead_root s ok root zeros),
     )
 lead_codes s ok root (suc steps) n walk =
@@ -118,7 +119,7 @@ one_variable : (o : Option Node) (v w : ℕ) → reads o v ≡ true → reads o 
 one_variable None v w on too = absurd (true≢false (sym on))
 one_variable (Some node) v w on too = sym (eqb-true node.var v on) ∙ eqb-true node.var w too
 
-iff_same : (a b : Bool) → (a ≡ true → b ≡ true) → (b ≡ true → a ≡ true) → a ≡ b
+pub iff_same : (a b : Bool) → (a ≡ true → b ≡ true) → (b ≡ true → a ≡ true) → a ≡ b
 iff_same true b f g = sym (f refl)
 iff_same false true f g = g refl
 iff_same false false f g = refl

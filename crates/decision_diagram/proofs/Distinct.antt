@@ -16,7 +16,7 @@ differing [] = 0
 differing (x ∷ xs) = cond (list_any (eqb x) xs) 0 1 + differing xs
 
 -- ---- lists of truth values
-truth_self : (b : Bool) → same_truth b b ≡ true
+pub truth_self : (b : Bool) → same_truth b b ≡ true
 truth_self true = refl
 truth_self false = refl
 
@@ -24,7 +24,7 @@ pub truths_self : (xs : List Bool) → same_truths xs xs ≡ true
 truths_self [] = refl
 truths_self (x ∷ xs) = and_from (same_truth x x) (same_truths xs xs) (truth_self x) (truths_self xs)
 
-truth_same : (a b : Bool) → same_truth a b ≡ true → a ≡ b
+pub truth_same : (a b : Bool) → same_truth a b ≡ true → a ≡ b
 truth_same true b h = sym h
 truth_same false true h = absurd (true≢false (sym h))
 truth_same false false h = refl
@@ -145,7 +145,7 @@ count_one x (suc n) low =
     omega arith)
     (cases_lt x n)
 
-eqb_turned : (a b : ℕ) → eqb a b ≡ eqb b a
+pub eqb_turned : (a b : ℕ) → eqb a b ≡ eqb b a
 eqb_turned a b =
     ⊎_elim (λ same. eq-eqb a b same ∙ sym (eq-eqb b a (sym same)))
     (λ other. ne_eqb a b other ∙ sym (ne_eqb b a (λ e. other (sym e)))) (cases_eq a b)

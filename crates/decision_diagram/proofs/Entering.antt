@@ -4,7 +4,8 @@ use Rattle.std.specs.Cmp.Lexicographic.{bytes_decides}
 use Rattle.std.specs.Str.{bytes_eq}
 use Rattle.domains.specs.Orders.{place}
 use Rattle.domains.specs.Tables.{fits}
-use Rattle.decision_diagram.specs.Diagrams.{Diagrams, Node, inner_at, AreReduced, IsNew, IsNode, HasNode, Keeps, Means, choice, level_of}
+use Rattle.decision_diagram.specs.Diagrams.{Diagrams, Node, inner_at, AreReduced, IsNode, Keeps, Means, choice, level_of}
+use Rattle.decision_diagram.specs.inner.Diagrams.{IsNew, HasNode}
 use Rattle.decision_diagram.specs.Keys.{Key, IsKey, AreKeys, node_of, nodes_of}
 use Rattle.decision_diagram.proofs.Fitting.{fits_at}
 use Rattle.decision_diagram.proofs.Growth.{keeps_same, keeps_node, reduced_more}

@@ -2,7 +2,8 @@
 use Rattle.std.proofs.Common.{◌≡◌, ◌⊎◌, inl, inr, ⊎_elim, ℕ, ◌+◌, eqb, [], ◌∷◌, ◌++◌, length, slice_index, Some, refl, sym, ap, ◌∙◌, subst, arith}
 use Rattle.std.proofs.lemmas.Bool.{cases_lt}
 use Rattle.std.proofs.lemmas.List.{length_push}
-use Rattle.decision_diagram.specs.Diagrams.{Diagrams, Node, inner_at, shape_in, kids_in, level_in, level_of, IsNode, IsReducedNode, AreReduced, Keeps, IsNew}
+use Rattle.decision_diagram.specs.Diagrams.{Diagrams, Node, inner_at, shape_in, kids_in, level_in, level_of, IsNode, IsReducedNode, AreReduced, Keeps}
+use Rattle.decision_diagram.specs.inner.Diagrams.{IsNew}
 use Rattle.decision_diagram.proofs.Nodes.{inner_prefix, inner_last, inner_within}
 use Rattle.decision_diagram.proofs.Values.{follow_prefix}
 

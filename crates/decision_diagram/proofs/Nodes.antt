@@ -3,23 +3,23 @@ use Rattle.std.proofs.Common.{◌≡◌, ◌≢◌, ◌⊎◌, inl, inr, ⊎_eli
 use Rattle.std.proofs.lemmas.Bool.{cases_lt, lt-ltb, le-ltb, eq-eqb, ne_eqb, cond-true, cond-false}
 use Rattle.decision_diagram.specs.Diagrams.{Node, inner_at, step}
 
-get_prefix : (nodes more : List Node) (k : ℕ) → k < length nodes
+pub get_prefix : (nodes more : List Node) (k : ℕ) → k < length nodes
     → slice_get (nodes ++ more) k ≡ slice_get nodes k
 get_prefix [] more k h = absurd (omega arith)
 get_prefix (x ∷ xs) more zero h = refl
 get_prefix (x ∷ xs) more (suc k) h = get_prefix xs more k (omega arith)
 
-get_last : (nodes : List Node) (node : Node)
+pub get_last : (nodes : List Node) (node : Node)
     → slice_get (nodes ++ node ∷ []) (length nodes) ≡ Some node
 get_last [] node = refl
 get_last (x ∷ xs) node = get_last xs node
 
-get_past : (nodes : List Node) (k : ℕ) → length nodes ≤ k → slice_get nodes k ≡ None
+pub get_past : (nodes : List Node) (k : ℕ) → length nodes ≤ k → slice_get nodes k ≡ None
 get_past [] k h = refl
 get_past (x ∷ xs) zero h = absurd (omega arith)
 get_past (x ∷ xs) (suc k) h = get_past xs k (omega arith)
 
-low : (nodes : List Node) (n : ℕ) → n < 2 → inner_at nodes n ≡ None
+pub low : (nodes : List Node) (n : ℕ) → n < 2 → inner_at nodes n ≡ None
 low nodes n h = cond-true (ltb n 2) None (slice_get nodes (n - 2)) (lt-ltb n 2 h)
 
 -- the other numbers are those of inner nodes
@@ -65,7 +65,7 @@ inner_within nodes n node is =
     (cases_lt n (length nodes + 2)))
     (cases_lt n 2)
 
-cases_Option : (o : Option Node) → (o ≡ None) ⊎ ((node : Node) × (o ≡ Some node))
+pub cases_Option : (o : Option Node) → (o ≡ None) ⊎ ((node : Node) × (o ≡ Some node))
 cases_Option None = inl refl
 cases_Option (Some node) = inr (node, refl)
 
@@ -73,7 +73,7 @@ pub cases_inner : (nodes : List Node) (n : ℕ)
     → (inner_at nodes n ≡ None) ⊎ ((node : Node) × (inner_at nodes n ≡ Some node))
 cases_inner nodes n = cases_Option (inner_at nodes n)
 
-some_there : (nodes : List Node) (k : ℕ) → k < length nodes
+pub some_there : (nodes : List Node) (k : ℕ) → k < length nodes
     → (node : Node) × (slice_get nodes k ≡ Some node)
 some_there [] k h = absurd (omega arith)
 some_there (x ∷ xs) zero h = (x, refl)

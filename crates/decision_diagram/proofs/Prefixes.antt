@@ -6,13 +6,14 @@ use Rattle.domains.specs.Tables.{fits}
 use Rattle.domains.specs.Orders.{place}
 use Rattle.decision_diagram.specs.Diagrams.{Diagrams, Node, inner_at, step, follow, level_of, IsNode, value_of, AreReduced}
 use Rattle.decision_diagram.specs.Leading.{led, TrueSomewhere, Decided}
-use Rattle.decision_diagram.proofs.Fitting.{fits_long, fits_at, fits_set, fits_zeros}
+use Rattle.decision_diagram.proofs.Fitting.{fits_at, fits_set}
 use Rattle.decision_diagram.proofs.Nodes.{none_low, cases_inner, inner_within}
-use Rattle.decision_diagram.proofs.Places.{place_of_item}
+use Rattle.domains.proofs.Places.{place_of_item}
 use Rattle.decision_diagram.proofs.Values.{level_some, level_below, skip, value_none, value_inner, follow_codes}
+use Rattle.domains.proofs.Ranks.{length-fits, fits-zeros}
 
 -- ---- a node that isn't False is true somewhere
-some_or_all : (kids : List ℕ) (z : ℕ)
+pub some_or_all : (kids : List ℕ) (z : ℕ)
     → ((k : ℕ) × (k < length kids) × (slice_index kids k ≢ z))
     ⊎ ((k : ℕ) → k < length kids → slice_index kids k ≡ z)
 some_or_all [] z = inr (λ k low. absurd (omega arith))
@@ -68,7 +69,7 @@ true_inner s ok n node is earlier =
     let inside : n < length s.nodes + 2 = within.1 in
     let deep = earlier (slice_index node.kids c) before (omega arith) kid.2 in
     let codes = deep.0 in
-    let long = fits_long s.sizes codes deep.1 in
+    let long = length-fits s.sizes codes deep.1 in
     let set : List ℕ = slice_set codes node.var c in
     let own : slice_index set node.var ≡ c = get_or-set_same codes node.var c 0 (omega arith) in
     let later : place s.order node.var < level_of s (slice_index node.kids c) =
@@ -95,7 +96,7 @@ true_below s ok (suc bound) n less in_n some =
     let low = none_low s.nodes n in_n none in
     let e : n ≡ 1 = ⊎_elim (λ z. absurd (some z)) (λ nz. omega arith) (cases_eq n 0) in (
       replicate (length s.sizes) 0,
-      fits_zeros s.sizes ok.sizes,
+      fits-zeros s.sizes ok.sizes,
       value_none s n (replicate (length s.sizes) 0) none ∙ eq-eqb n 1 e,
     ))
     (λ inner. true_inner s ok n inner.0 inner.1
@@ -107,16 +108,16 @@ pub true_somewhere : (s : Diagrams) → AreReduced s → (n : ℕ) → IsNode s 
 true_somewhere s ok n in_n some = true_below s ok (suc n) n (omega arith) in_n some
 
 -- ---- codes that agree with others on a prefix
-put_all : List ℕ → List ℕ → List ℕ → List ℕ
+pub put_all : List ℕ → List ℕ → List ℕ → List ℕ
 put_all [] a b = b
 put_all (v ∷ vs) a b = slice_set (put_all vs a b) v (slice_index a v)
 
-put_long : (vs a b : List ℕ) → length (put_all vs a b) ≡ length b
+pub put_long : (vs a b : List ℕ) → length (put_all vs a b) ≡ length b
 unfolding put_all
 put_long [] a b = refl
 put_long (v ∷ vs) a b = length-set (put_all vs a b) v (slice_index a v) ∙ put_long vs a b
 
-put_out : (vs a b : List ℕ) (v : ℕ) → ((j : ℕ) → j < length vs → slice_index vs j ≢ v)
+pub put_out : (vs a b : List ℕ) (v : ℕ) → ((j : ℕ) → j < length vs → slice_index vs j ≢ v)
     → slice_index (put_all vs a b) v ≡ slice_index b v
 unfolding put_all
 put_out [] a b v out = refl
@@ -124,7 +125,7 @@ put_out (w ∷ vs) a b v out =
     get_or-set_other (put_all vs a b) w v (slice_index a w) 0
     (λ same. out 0 (omega arith) (sym same)) ∙ put_out vs a b v (λ j low. out (suc j) (omega arith))
 
-put_in : (vs a b : List ℕ) (j : ℕ) → j < length vs → slice_index vs j < length b
+pub put_in : (vs a b : List ℕ) (j : ℕ) → j < length vs → slice_index vs j < length b
     → slice_index (put_all vs a b) (slice_index vs j) ≡ slice_index a (slice_index vs j)
 unfolding put_all
 put_in [] a b j low inside = absurd (omega arith)
@@ -140,7 +141,7 @@ put_in (w ∷ vs) a b (suc j) low inside =
     ∙ put_in vs a b j (omega arith) inside)
     (cases_eq (slice_index vs j) w)
 
-put_fits : (sizes vs a b : List ℕ) → ((j : ℕ) → j < length vs → slice_index vs j < length sizes)
+pub put_fits : (sizes vs a b : List ℕ) → ((j : ℕ) → j < length vs → slice_index vs j < length sizes)
     → fits sizes a ≡ true → fits sizes b ≡ true → fits sizes (put_all vs a b) ≡ true
 unfolding put_all
 put_fits sizes [] a b inside fit_a fit_b = fit_b
@@ -150,7 +151,7 @@ put_fits sizes (v ∷ vs) a b inside fit_a fit_b =
     (fits_at sizes a fit_a v (inside 0 (omega arith)))
 
 -- ---- reading a prefix
-follow_append : (nodes : List Node) (xs ys codes : List ℕ) (n : ℕ)
+pub follow_append : (nodes : List Node) (xs ys codes : List ℕ) (n : ℕ)
     → follow nodes (xs ++ ys) codes n ≡ follow nodes ys codes (follow nodes xs codes n)
 follow_append nodes [] ys codes n = refl
 follow_append nodes (x ∷ xs) ys codes n =
@@ -178,7 +179,7 @@ led_codes s i n one other h same =
 pub mixed : Diagrams → ℕ → ℕ → ℕ → List ℕ → List ℕ → List ℕ
 mixed s i w c a b = put_all (take i s.order) a (slice_set b w c)
 
-prefix_item : (s : Diagrams) (i j : ℕ) → j < i
+pub prefix_item : (s : Diagrams) (i j : ℕ) → j < i
     → slice_index (take i s.order) j ≡ slice_index s.order j
 prefix_item s i j low = get_or-take i s.order j 0 low
 
@@ -201,7 +202,7 @@ pub mixed_prefix : (s : Diagrams) → AreReduced s → (i w c : ℕ) (a b : List
 unfolding mixed
 mixed_prefix s ok i w c a b h fit_b j low =
     let lengths : length s.order ≡ length s.sizes = ok.lengths in
-    let long = fits_long s.sizes b fit_b in
+    let long = length-fits s.sizes b fit_b in
     let long_too = length-set b w c in
     let e = prefix_item s i j low in
     let below = ok.order.below j (omega arith) in
@@ -212,7 +213,7 @@ pub mixed_own : (s : Diagrams) → AreReduced s → (i w c : ℕ) (a b : List �
     → w < length s.sizes → fits s.sizes b ≡ true → slice_index (mixed s i w c a b) w ≡ c
 unfolding mixed
 mixed_own s ok i w c a b h low fit_b =
-    let long = fits_long s.sizes b fit_b in
+    let long = length-fits s.sizes b fit_b in
     put_out (take i s.order) a (slice_set b w c) w (λ j less same.
     let inside : (j < i) × (j < length s.order) =
     (omega (arith, length-take i s.order), omega (arith, length-take i s.order)) in

@@ -11,17 +11,19 @@ use Rattle.domains.specs.AllCodes.{all_codes}
 use Rattle.decision_diagram.specs.Truths.{same_truth, same_truths, different}
 use Rattle.decision_diagram.specs.Sizes.{by_variable, truths, turns, depends, level}
 use Rattle.decision_diagram.proofs.AllCodes.{lists_all, lists_fit, none_upto}
-use Rattle.decision_diagram.proofs.Along.{along, follow_along, along_append, along_value, chosen_fits, item_at, long_map}
+use Rattle.decision_diagram.proofs.Along.{along, follow_along, along_append, along_value, chosen_fits, item_at}
+use Rattle.domains.proofs.AllCodes.{long_map}
 use Rattle.decision_diagram.proofs.Canonical.{canonical_from, child_level}
 use Rattle.decision_diagram.proofs.Joined.{fits_both}
 use Rattle.decision_diagram.proofs.Distinct.{Every, differing, different_map, same_maps, truth_equal, truths_self}
-use Rattle.decision_diagram.proofs.Fitting.{fits_long, size_some}
+use Rattle.decision_diagram.proofs.Fitting.{size_some}
 use Rattle.decision_diagram.proofs.Nodes.{cases_inner, step_here}
 use Rattle.decision_diagram.proofs.Joined.{drop_prefix}
 use Rattle.decision_diagram.proofs.Values.{step_within}
+use Rattle.domains.proofs.Ranks.{length-fits}
 
 -- ---- lists
-map_on : {X Y : Type 0} (p : X → Bool) (g h : X → Y) (xs : List X) → list_all p xs ≡ true
+pub map_on : {X Y : Type 0} (p : X → Bool) (g h : X → Y) (xs : List X) → list_all p xs ≡ true
     → ((x : X) → p x ≡ true → g x ≡ h x) → map g xs ≡ map h xs
 map_on p g h [] all same = refl
 map_on {Y = Y} p g h (x ∷ xs) all same =
@@ -215,7 +217,7 @@ module _ (s : Diagrams) (ok : AreReduced s) (root : ℕ) (in_root : IsNode s roo
       (fits_both (sizes_at s before) (sizes_at s vars) prefix codes fit fit_codes) in
       let whole : fits (sizes_at s s.order) (prefix ++ codes) ≡ true = rw split both in
       let long : length prefix ≡ length before =
-      fits_long (sizes_at s before) prefix fit ∙ long_map (slice_index s.sizes) before in
+      length-fits (sizes_at s before) prefix fit ∙ long_map (slice_index s.sizes) before in
       along_value s ok root f means (prefix ++ codes) whole
       ∙ ap (λ (o : List ℕ). eqb (along s.nodes o (prefix ++ codes) root) 1) split
       ∙ ap (λ (m : ℕ). eqb m 1) (along_append s.nodes before vars prefix codes root long))
@@ -236,7 +238,7 @@ module _ (s : Diagrams) (ok : AreReduced s) (root : ℕ) (in_root : IsNode s roo
       (fits_both (sizes_at s before) (slice_index s.sizes v ∷ []) prefix (code ∷ []) fit
       last) in
       let long : length prefix ≡ length before =
-      fits_long (sizes_at s before) prefix fit ∙ long_map (slice_index s.sizes) before in
+      length-fits (sizes_at s before) prefix fit ∙ long_map (slice_index s.sizes) before in
       truths_at (before ++ v ∷ []) vs (prefix ++ code ∷ []) split_too fit_too
       ∙ ap (values s vs) (along_append s.nodes before (v ∷ []) prefix (code ∷ []) root long)
 

@@ -4,7 +4,7 @@ use Rattle.std.proofs.lemmas.Bool.{cases_lt, cases_eq}
 use Rattle.std.proofs.lemmas.List.{get_or_past, drop_more}
 use Rattle.domains.specs.Orders.{place}
 use Rattle.decision_diagram.specs.Diagrams.{Diagrams, Node, inner_at, step, follow, level_in, level_of, value_of, AreReduced}
-use Rattle.decision_diagram.proofs.Places.{place_below, place_of_item, at_place}
+use Rattle.domains.proofs.Places.{place_of_item, place_below, at_place}
 use Rattle.decision_diagram.proofs.Nodes.{inner_prefix, inner_within, cases_inner, step_none, step_here, step_other}
 
 -- ---- levels

@@ -1,5 +1,5 @@
 -- Decision diagrams over variables of several values.
-use Rattle.std.specs.Prelude.{◌≡◌, ℕ, ◌+◌, ◌-◌, ◌<◌, ◌==◌, Bool, cond, nat_lt, List, [], ◌∷◌, length, Option, Some, None, slice_get, slice_index, IsTrue}
+use Rattle.std.specs.Prelude.{◌≡◌, ℕ, ◌+◌, ◌-◌, ◌<◌, ◌==◌, Bool, cond, nat_lt, List, ◌∷◌, length, Option, Some, None, slice_get, slice_index, IsTrue, []}
 use Rattle.domains.specs.Tables.{fits, are_sizes}
 use Rattle.domains.specs.Orders.{IsPermutation, place}
 use Rattle.decision_diagram.specs.declared.node.Shape.{Shape}
@@ -105,23 +105,6 @@ pub record Means (s : Diagrams) (n : ℕ) (f : List ℕ → Bool) : Type 0 where
 -- the value of the child at the code of the variable
 abbrev pub choice : Diagrams → ℕ → List ℕ → List ℕ → Bool
 choice s var kids codes = value_of s (slice_index kids (slice_index codes var)) codes
-
--- the node may be made: it would be reduced, and there is none with its variable and children yet
-pub record IsNew (s : Diagrams) (node : Node) : Type 0 where
-  pub var : node.var < length s.sizes
-  pub kids : length node.kids ≡ slice_index s.sizes node.var
-  pub nodes : (code : ℕ) → code < length node.kids → IsNode s (slice_index node.kids code)
-  pub later : (code : ℕ) → code < length node.kids
-      → place s.order node.var < level_of s (slice_index node.kids code)
-  pub varied : (kid : ℕ) → ((code : ℕ) → code < length node.kids → slice_index node.kids code ≡ kid)
-      → ⊥
-  pub fresh : (n : ℕ) (other : Node) → inner_at s.nodes n ≡ Some other → other.var ≡ node.var
-      → other.kids ≡ node.kids → ⊥
-
--- n is the inner node with this variable and these children
-abbrev pub HasNode : Diagrams → ℕ → ℕ → List ℕ → Type 0
-HasNode s n var kids =
-    (node : Node) × (inner_at s.nodes n ≡ Some node) × (node.var ≡ var) × (node.kids ≡ kids)
 
 -- two nodes with the same value on all codes that fit the table are the same node
 abbrev pub IsCanonical : Diagrams → Type 0

@@ -1,13 +1,16 @@
 pub mod Constants
 pub mod Diagrams
+pub mod Exact
 pub mod Keys
 pub mod Laws
 pub mod Leading
 pub mod Operations
 pub mod Orders
 pub mod Reached
+pub mod Samples
 pub mod Sets
 pub mod Sizes
 pub mod Stores
 pub mod Truths
 pub mod Worked
+pub mod inner

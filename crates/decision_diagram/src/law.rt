@@ -1,6 +1,5 @@
 // Laws of the definitions.
 ghost use Rattle.decision_diagram.specs.Laws.{CountIsSize, SizeBySets, SomewhereTrue, ReachedLed, OneChild};
-ghost use Rattle.decision_diagram.specs.Worked.{KnownSizes};
 
 /// What follows from the definitions.
 pub fn laws()
@@ -9,9 +8,4 @@ pub fn laws()
     ensures somewhere_true { SomewhereTrue }
     ensures reached_led { ReachedLed }
     ensures one_child { OneChild }
-{}
-
-/// Sizes that were worked out by hand are what the definition gives.
-pub fn worked_sizes()
-    ensures { KnownSizes }
 {}

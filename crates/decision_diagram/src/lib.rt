@@ -9,8 +9,10 @@ mod noted;
 mod operation;
 mod order;
 mod store;
+mod worked;
 
-pub use law::{laws, worked_sizes};
+pub use law::laws;
 pub use node::{NodeId, Shape};
 pub use order::Order;
 pub use store::{Root, Store};
+pub use worked::worked_sizes;

@@ -3,7 +3,7 @@ ghost use Rattle.std.specs.Prelude.{◌≡◌, ◌<◌, length, slice_get, repli
 ghost use Rattle.domains.specs.Orders.{IsPermutation, place};
 ghost use Rattle.decision_diagram.specs.Orders.{ArePlaces};
 
-use polis_base::{Duplicate, List, NoMemory, Numbers, Places};
+use polis_base::{Duplicate, List, NoMemory, Numbers};
 use std::alloc::Global;
 use std::marker::Model;
 
@@ -12,7 +12,7 @@ use std::marker::Model;
 #[derive(Drop)]
 pub struct Order {
     vars: Numbers,
-    places: Places,
+    places: List<u64>,
 }
 
 impl Model for Order {
@@ -28,13 +28,13 @@ impl Model for Order {
 }
 
 // The place of each number, where the list is a permutation.
-fn places_of(alloc: Global, list: &[u32]) -> Result<Option<Places>, NoMemory>
+fn places_of(alloc: Global, list: &[u32]) -> Result<Option<List<u64>>, NoMemory>
     ensures permutation { IfOk result (λ made. IfSome made (λ places. IsPermutation list.now)) }
     ensures places { IfOk result (λ made. IfSome made (λ places. ArePlaces list.now places)) }
     ensures none { IfOk result (λ made. IfNone made (¬ IsPermutation list.now)) }
 {
     let len = list.len() as u64;
-    let mut places = Places::filled(alloc, len, len)?;
+    let mut places = List::filled(alloc, len, len)?;
     for (i, var) in list.iter().enumerate() {
         let var = u64::from(*var);
         if var >= len || *places.get(var) < len {

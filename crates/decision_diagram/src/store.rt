@@ -6,7 +6,8 @@ ghost use Rattle.decision_diagram.specs.Constants.{constant_node};
 ghost use Rattle.decision_diagram.specs.Operations.{IsResult, AreResults};
 ghost use Rattle.decision_diagram.specs.Keys.{IsKey};
 ghost use Rattle.domains.specs.Orders.{place};
-ghost use Rattle.decision_diagram.specs.Diagrams.{IsNode, inner_at, value_of, shape_of, kids_of, level_of, choice, Keeps, Means, HasNode, AreReduced, IsCanonical};
+ghost use Rattle.decision_diagram.specs.Diagrams.{IsNode, inner_at, value_of, shape_of, kids_of, level_of, choice, Keeps, Means, AreReduced, IsCanonical};
+ghost use Rattle.decision_diagram.specs.inner.Diagrams.{HasNode};
 
 use crate::node::{Node, NodeId, Shape};
 use crate::noted::{Noted, slot_of};
@@ -19,8 +20,8 @@ use polis_base::{Duplicate, NoMemory};
 use std::alloc::Global;
 use std::marker::Model;
 
-// The keys of the inner nodes, in the order in which they were made.
-type Keys = IndexSet<Vec<u64>>;
+// The unique table: the keys of the inner nodes, in the order in which they were made.
+type UniqueTable = IndexSet<Vec<u64>>;
 
 /// Diagrams over the variables of one table, read in one order. Equal functions are one node.
 #[derive(Drop)]
@@ -28,7 +29,7 @@ pub struct Store {
     alloc: Global,
     vars: VarTable,
     order: Order,
-    nodes: Keys,
+    nodes: UniqueTable,
     noted: Noted,
     conjunctions: Index,
     disjunctions: Index,

@@ -1,23 +1,13 @@
 -- Lists in which no item stands twice.
-use Rattle.std.proofs.Common.{◌≡◌, ⊎_elim, ℕ, zero, suc, ◌+◌, ◌-◌, ◌<◌, ◌≤◌, Bool, true, false, not, ◌==◌, List, [], ◌∷◌, ◌++◌, map, length, slice_get, Some, refl, ap, sym, ◌∙◌, arith}
-use Rattle.std.specs.List.{list_all, list_any}
-use Rattle.std.proofs.lemmas.Bool.{and_parts, and_from, or_right, eq-eqb, cases_lt, not-true}
+use Rattle.std.proofs.Common.{◌≡◌, ⊎_elim, ℕ, zero, suc, ◌-◌, ◌<◌, ◌≤◌, true, false, not, ◌==◌, List, [], ◌∷◌, ◌++◌, map, length, slice_get, Some, refl, ap, sym, ◌∙◌, arith}
+use Rattle.std.specs.List.{list_any}
+use Rattle.std.proofs.lemmas.Bool.{and_parts, and_from, eq-eqb, cases_lt, not-true}
 use Rattle.domains.specs.Names.{is_same, are_distinct}
 use Rattle.transition_table.specs.NetworkFacts.{has, are_different}
+use Rattle.task_code.proofs.Labelling.{front, behind}
+use Rattle.order_sift.proofs.Differing.{any_item}
 
 -- ---- items of lists
-pub in_first : {X : Type 0} (xs ys : List X) (i : ℕ) → i < length xs
-    → slice_get (xs ++ ys) i ≡ slice_get xs i
-in_first [] ys i low = absurd (omega arith)
-in_first (x ∷ xs) ys zero low = refl
-in_first (x ∷ xs) ys (suc i) low = in_first xs ys i (omega arith)
-
-pub in_second : {X : Type 0} (xs ys : List X) (i j : ℕ) → i ≡ length xs + j
-    → slice_get (xs ++ ys) i ≡ slice_get ys j
-in_second [] ys i j e = let f : i ≡ j = omega arith in ap (slice_get ys) f
-in_second (x ∷ xs) ys zero j e = absurd (omega arith)
-in_second (x ∷ xs) ys (suc i) j e = in_second xs ys i j (omega arith)
-
 pub at_place : {X : Type 0} (xs : List X) (i : ℕ) → i < length xs
     → (x : X) × (slice_get xs i ≡ Some x)
 at_place [] i low = absurd (omega arith)
@@ -29,23 +19,6 @@ pub mapped : {X Y : Type 0} (f : X → Y) (xs : List X) (i : ℕ) (y : Y)
 mapped f [] i y e = cc
 mapped f (x ∷ xs) zero y e = let h : f x ≡ y = cc in (x, refl, h)
 mapped f (x ∷ xs) (suc i) y e = mapped f xs i y e
-
-pub all_at : {X : Type 0} (p : X → Bool) (xs : List X) (i : ℕ) (x : X) → list_all p xs ≡ true
-    → slice_get xs i ≡ Some x → p x ≡ true
-all_at p [] i x all e = cc
-all_at p (y ∷ ys) zero x all e =
-    let h : y ≡ x = cc in
-    ap p (sym h) ∙ (and_parts (p y) (list_all p ys) all).0
-all_at p (y ∷ ys) (suc i) x all e = all_at p ys i x (and_parts (p y) (list_all p ys) all).1 e
-
-any_at : {X : Type 0} (p : X → Bool) (xs : List X) (i : ℕ) (x : X) → slice_get xs i ≡ Some x
-    → p x ≡ true → list_any p xs ≡ true
-any_at p [] i x e h = cc
-any_at p (y ∷ ys) zero x e h =
-    let f : y ≡ x = cc in
-    let g : p y ≡ true = ap p f ∙ h in
-    rw g refl
-any_at p (y ∷ ys) (suc i) x e h = or_right (p y) (list_any p ys) (any_at p ys i x e h)
 
 -- ---- no item twice
 abbrev pub Apart : {X : Type 0} → List X → Type 0
@@ -65,11 +38,11 @@ apart_both {X = X} xs ys ax ay none i j x ei ej =
     n = length xs
 
     at_first : (k : ℕ) → k < length xs → slice_get (xs ++ ys) k ≡ Some x → slice_get xs k ≡ Some x
-    at_first k low e = sym (in_first xs ys k low) ∙ e
+    at_first k low e = sym (front xs ys k low) ∙ e
 
     at_second : (k : ℕ) → length xs ≤ k → slice_get (xs ++ ys) k ≡ Some x
         → slice_get ys (k - length xs) ≡ Some x
-    at_second k high e = sym (in_second xs ys k (k - length xs) (omega arith)) ∙ e
+    at_second k high e = sym (behind xs ys k (k - length xs) (omega arith)) ∙ e
 
     first : i < length xs → j < length xs → i ≡ j
     first li lj = ax i j x (at_first i li ei) (at_first j lj ej)
@@ -100,7 +73,7 @@ has_not : (names : List (List ℕ)) (name : List ℕ) → not (list_any (is_same
     → (j : ℕ) → slice_get names j ≡ Some name → ⊥
 has_not names name differs j e =
     let h : list_any (is_same name) names ≡ true =
-    any_at (is_same name) names j name e (same_self name) in
+    any_item (is_same name) names j name e (same_self name) in
     let g : true ≡ false = sym h ∙ not-true (list_any (is_same name) names) differs in
     cc
   where
@@ -129,7 +102,7 @@ distinct_apart (name ∷ names) h (suc i) (suc j) x ei ej =
 lists_not : (numbers : List ℕ) (n : ℕ) → not (has numbers n) ≡ true → (j : ℕ)
     → slice_get numbers j ≡ Some n → ⊥
 lists_not numbers n differs j e =
-    let h : has numbers n ≡ true = any_at (λ (k : ℕ). k == n) numbers j n e (eq-eqb n n refl) in
+    let h : has numbers n ≡ true = any_item (λ (k : ℕ). k == n) numbers j n e (eq-eqb n n refl) in
     let g : true ≡ false = sym h ∙ not-true (has numbers n) differs in
     cc
 

@@ -11,9 +11,10 @@ use Rattle.task_machine.specs.Running.{CodeFits}
 use Rattle.task_machine.specs.Tasks.{AreTasks}
 use Rattle.machine_compiler.specs.declared.compiled.Compiled.{Compiled}
 use Rattle.machine_compiler.specs.declared.tallies.Tally.{Tally}
-use Rattle.machine_compiler.specs.Parts.{part_of_compiled, parts_of, codes_in, Right, AreRight}
-use Rattle.machine_compiler.specs.Tallies.{AreTallies}
-use Rattle.machine_compiler.proofs.Apart.{in_first, in_second, mapped}
+use Rattle.machine_compiler.specs.Parts.{part_of_compiled, parts_of, codes_in, IsRightPart, AreRightParts}
+use Rattle.machine_compiler.specs.inner.Tallies.{AreTallies}
+use Rattle.machine_compiler.proofs.Apart.{mapped}
+use Rattle.task_code.proofs.Labelling.{front, behind}
 
 -- what holds of each machine and the item at its place
 abbrev pub Paired : {X : Type 0} → (Machine → X → Type 0) → List Machine → List X → Type 0
@@ -40,7 +41,7 @@ more_paired {X = X} P ms xs new k m x so_far long e at_m holds j n y at_n at_y =
     ⊎_elim (before there) (last there) (cases_lt j (length xs))
   where
     before : slice_get (xs ++ x ∷ []) j ≡ Some y → j < length xs → P n y
-    before there low = so_far j n y at_n (sym (in_first xs (x ∷ []) j low) ∙ there)
+    before there low = so_far j n y at_n (sym (front xs (x ∷ []) j low) ∙ there)
 
     only : (i : ℕ) → slice_get (x ∷ []) i ≡ Some y → (i ≡ 0) × (x ≡ y)
     only zero f = let g : x ≡ y = cc in (refl, g)
@@ -48,7 +49,7 @@ more_paired {X = X} P ms xs new k m x so_far long e at_m holds j n y at_n at_y =
 
     last : slice_get (xs ++ x ∷ []) j ≡ Some y → length xs ≤ j → P n y
     last there high =
-        let one = only (j - length xs) (sym (in_second xs (x ∷ []) j (j - length xs) (omega arith))
+        let one = only (j - length xs) (sym (behind xs (x ∷ []) j (j - length xs) (omega arith))
         ∙ there) in
         let at : j ≡ k = let z : j - length xs ≡ 0 = one.0 in omega arith in
         let whose : m ≡ n = let g : Some m ≡ Some n =
@@ -65,23 +66,23 @@ length_push {X = X} xs new x k long e = ap length e ∙ one_longer xs ∙ ap (λ
 
 -- ---- parts
 abbrev pub RightSoFar : List Machine → List Compiled → Type 0
-RightSoFar ms cs = Paired (λ m c. Right m (part_of_compiled c)) ms cs
+RightSoFar ms cs = Paired (λ m c. IsRightPart m (part_of_compiled c)) ms cs
 
 long_parts : (cs : List Compiled) → length (parts_of cs) ≡ length cs
 long_parts [] = refl
 long_parts (c ∷ cs) = ap suc (long_parts cs)
 
 pub all_right : (net : Network) (cs : List Compiled) → RightSoFar net.machines cs
-    → length cs ≡ length net.machines → AreRight net (parts_of cs)
+    → length cs ≡ length net.machines → AreRightParts net (parts_of cs)
 all_right net cs so_far long =
     record {
       long = long_parts cs ∙ long;
       each = λ k m q at_m at_q. let r = mapped part_of_compiled cs k q at_q in
-          subst (Right m) r.2 (so_far k m r.0 at_m r.1);
+          subst (IsRightPart m) r.2 (so_far k m r.0 at_m r.1);
     }
 
 -- the codes of right parts are what a reactor takes
-pub right_tasks : (net : Network) (qs : List Part) → AreRight net qs → AreTasks net (codes_in qs)
+pub right_tasks : (net : Network) (qs : List Part) → AreRightParts net qs → AreTasks net (codes_in qs)
 right_tasks net qs right =
     record {
       long = long_codes qs ∙ right.long;

@@ -1,12 +1,12 @@
-mod Apart
-mod Collecting
-mod Cutting
-mod Labelled
-mod Parting
-mod Reading
-mod Samples
-mod Sharing
-mod Tallying
-mod Texting
-mod Wording
-mod Writing
+pub mod Apart
+pub mod Collecting
+pub mod Cutting
+pub mod Labelled
+pub mod Parting
+pub mod Reading
+pub mod Samples
+pub mod Sharing
+pub mod Tallying
+pub mod Texting
+pub mod Wording
+pub mod Writing

@@ -19,7 +19,7 @@ use Rattle.sgraph.specs.Walks.{FitsMachine}
 use Rattle.task_code.specs.declared.instr.Instr.{Instr}
 use Rattle.task_code.specs.Codes.{laid_out, start}
 use Rattle.task_code.specs.Listings.{Part, line, numbers, labels, label, vertex_words, instr_words, numbered_lines, part_text, parts_text}
-use Rattle.machine_compiler.specs.Parts.{Right, AssignsBytes}
+use Rattle.machine_compiler.specs.Parts.{IsRightPart, AssignsBytes}
 use Rattle.machine_compiler.specs.Laws.{ListingDeterminesParts}
 use Rattle.machine_compiler.proofs.Cutting.{lacks, line_cut, fits_word, numbers_break, numbers_lack, same_numbers}
 use Rattle.machine_compiler.proofs.Labelled.{Each, first, same_label}
@@ -236,7 +236,7 @@ joined_lacks words (x ∷ xs) h =
         (both_lack 10 (codes ", ") (words y) refl (g 0 y refl)) (others ys (λ i z e. g (suc i) z e))
 
 module _ (net : Network) (m : Machine) (names : Names net m) where
-  same_order : (p q : Part) (x y : List ℕ) → Right m p → Right m q
+  same_order : (p q : Part) (x y : List ℕ) → IsRightPart m p → IsRightPart m q
       → line (order_line net m p.order) ++ x ≡ line (order_line net m q.order) ++ y
       → (p.order ≡ q.order) × (x ≡ y)
   same_order p q x y rp rq e =
@@ -269,7 +269,7 @@ module _ (net : Network) (m : Machine) (names : Names net m) where
       long_sizes : length (sizes_of m) ≡ length m.vars + length m.results
       long_sizes = long_both m.vars m.results
 
-  pub same_part : (p q : Part) (t u : List ℕ) → Right m p → Right m q
+  pub same_part : (p q : Part) (t u : List ℕ) → IsRightPart m p → IsRightPart m q
       → part_text net m p ++ t ≡ part_text net m q ++ u → (p ≡ q) × (t ≡ u)
   same_part p q t u rp rq e =
       let head = line (codes "machine " ++ m.name) in
@@ -341,9 +341,9 @@ same_parts : (net : Network) (ms : List Machine) (ps qs : List Part) (t : List �
     → length ps ≡ length ms
     → length qs ≡ length ms
     → ((k : ℕ) (m : Machine) (q : Part) → slice_get ms k ≡ Some m → slice_get ps k ≡ Some q
-    → Right m q)
+    → IsRightPart m q)
     → ((k : ℕ) (m : Machine) (q : Part) → slice_get ms k ≡ Some m → slice_get qs k ≡ Some q
-    → Right m q)
+    → IsRightPart m q)
     → parts_text net ms ps ++ t ≡ parts_text net ms qs ++ t
     → ps ≡ qs
 same_parts net [] [] [] t names lp lq rp rq e = refl

@@ -3,8 +3,8 @@ use Rattle.std.proofs.Common.{◌≡◌, ℕ, zero, suc, ◌^◌, ◌<◌, ◌�
 use Rattle.transition_table.specs.declared.machine.Machine.{Machine}
 use Rattle.transition_table.specs.declared.network.Network.{Network}
 use Rattle.transition_table.specs.Laws.{OneRow}
-use Rattle.transition_table.specs.SampleLamp.{lamp, lamp_machine}
-use Rattle.transition_table.specs.SampleJoin.{join_machine}
+use Rattle.transition_table.specs.samples.Lamp.{lamp, lamp_machine}
+use Rattle.transition_table.specs.samples.Join.{join_machine}
 use Rattle.transition_table.specs.Transitions.{AreDeterministic, IsDeterministic, IsOutcome}
 use Rattle.journals.specs.declared.entry.Entry.{Entry}
 use Rattle.journals.specs.Journals.{IsJournal}

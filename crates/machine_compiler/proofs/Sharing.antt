@@ -4,9 +4,9 @@ use Rattle.std.proofs.Common.{◌≡◌, ℕ, zero, suc, ◌+◌, ◌<◌, ◌�
 use Rattle.transition_table.specs.declared.machine.Machine.{Machine}
 use Rattle.transition_table.specs.declared.network.Network.{Network}
 use Rattle.machine_compiler.specs.declared.compiled.Compiled.{Compiled}
-use Rattle.machine_compiler.specs.declared.shares.Numbered.{Numbered}
-use Rattle.machine_compiler.specs.Parts.{Right, part_of_compiled}
-use Rattle.machine_compiler.specs.Shares.{IsRightAt, AreRightEach, StandsAt, HasPlaces}
+use Rattle.machine_compiler.specs.declared.shares.CompiledAt.{CompiledAt}
+use Rattle.machine_compiler.specs.Parts.{IsRightPart, part_of_compiled}
+use Rattle.machine_compiler.specs.inner.Shares.{IsRightAt, AreRightEach, StandsAt, HasPlaces}
 
 -- what holds of each item of a list, and of one more
 each_more : {X : Type 0} (P : X → Type 0) (xs : List X) (x : X)
@@ -20,14 +20,14 @@ each_more P (z ∷ xs) x all holds (suc i) y at =
     each_more P xs x (λ j w there. all (suc j) w there) holds i y at
 
 -- a share with one more
-pub share_more : (net : Network) (share new : List Numbered) (one : Numbered)
+pub share_more : (net : Network) (share new : List CompiledAt) (one : CompiledAt)
     → AreRightEach net share
     → new ≡ share ++ one ∷ []
     → IsRightAt net one.number one.compiled
     → AreRightEach net new
 share_more net share new one right more holds i other at =
-    each_more (λ (x : Numbered). IsRightAt net x.number x.compiled) share one right holds i other
-    (ap (λ (l : List Numbered). slice_get l i) (sym more) ∙ at)
+    each_more (λ (x : CompiledAt). IsRightAt net x.number x.compiled) share one right holds i other
+    (ap (λ (l : List CompiledAt). slice_get l i) (sym more) ∙ at)
 
 -- one place more, with nothing there
 pub places_more : (places new : List (Option Compiled))
@@ -91,14 +91,14 @@ placed net places new k compiled has set right = record {
 -- what is right for one machine of this number is right for the machine of this number
 pub right_at : (net : Network) (k : ℕ) (m : Machine) (compiled : Compiled)
     → slice_get net.machines k ≡ Some m
-    → Right m (part_of_compiled compiled)
+    → IsRightPart m (part_of_compiled compiled)
     → IsRightAt net k compiled
 right_at net k m compiled at right n at_n =
     let one : Some m ≡ Some n = sym at ∙ at_n in
     let same : m ≡ n = cc in
-    subst (λ (x : Machine). Right x (part_of_compiled compiled)) same right
+    subst (λ (x : Machine). IsRightPart x (part_of_compiled compiled)) same right
 
-pub share_next : (net : Network) (left : List Numbered) (one : Numbered) (rest : List Numbered)
+pub share_next : (net : Network) (left : List CompiledAt) (one : CompiledAt) (rest : List CompiledAt)
     → left ≡ one ∷ rest
     → AreRightEach net left
     → IsRightAt net one.number one.compiled × AreRightEach net rest

@@ -22,9 +22,9 @@ use Rattle.task_code.specs.Codes.{StepsOf}
 use Rattle.task_code.specs.Listings.{Part}
 use Rattle.machine_compiler.specs.declared.tallies.Tally.{Tally}
 use Rattle.machine_compiler.specs.declared.compiled.Compiled.{Compiled}
-use Rattle.machine_compiler.specs.Parts.{part_of_compiled, parts_of, Right, AreRight}
+use Rattle.machine_compiler.specs.Parts.{part_of_compiled, parts_of, IsRightPart, AreRightParts}
 use Rattle.machine_compiler.specs.Lines.{read_by, reactions_of, steps_on}
-use Rattle.machine_compiler.specs.Tallies.{IsTally, AreTallies, AreFew}
+use Rattle.machine_compiler.specs.inner.Tallies.{IsTally, AreTallies, AreFew}
 use Rattle.machine_compiler.proofs.Apart.{at_place}
 
 -- ---- the reactions of one more entry
@@ -222,7 +222,7 @@ snapshot_of net k m j s o at same fit = go (slice_get net.machines j) refl fit
 -- the snapshots of the machine's reactions are snapshots of it
 pub few_reactions : (net : Network) (k : ℕ) (m : Machine) (q : Part) (journal : List Entry)
     → slice_get net.machines k ≡ Some m
-    → Right m q
+    → IsRightPart m q
     → IsJournal net journal
     → (length (reactions_of k journal) ≤ length journal)
     × (steps_on q.code (reactions_of k journal) ≤ 75 * length journal)
@@ -239,7 +239,7 @@ few_reactions net k m q (Rea j s o ∷ entries) at right journal =
 
 -- so the tallies leave room
 pub tallies_few : (net : Network) (parts : List Part) (seen : List Entry) (ts : List Tally)
-    → AreRight net parts
+    → AreRightParts net parts
     → IsJournal net seen
     → length seen < 2 ^ 32
     → AreTallies net parts seen ts
@@ -290,13 +290,13 @@ pub record Here (net : Network) (cs : List Compiled) (ts : List Tally) (k : ℕ)
   pub at_part : slice_get (parts_of cs) k ≡ Some (part_of_compiled c)
   pub at_tally : slice_get ts k ≡ Some before
   pub low : k < length ts
-  pub right : Right machine (part_of_compiled c)
+  pub right : IsRightPart machine (part_of_compiled c)
   pub snapshot : IsTrue (fits machine.vars s.codes)
   pub widths : HasWidths machine before.outcome
 
 pub here : (net : Network) (cs : List Compiled) (ts : List Tally) (entry : Entry) (k j : ℕ)
     (s : Snapshot) (o : Outcome) (c : Compiled) (before : Tally)
-    → AreRight net (parts_of cs)
+    → AreRightParts net (parts_of cs)
     → FitsNetwork net entry
     → entry ≡ Rea k s o
     → slice_get cs j ≡ Some c

@@ -4,7 +4,7 @@ use Rattle.std.proofs.lemmas.List.{append-nil}
 use Rattle.transition_table.specs.declared.machine.Machine.{Machine}
 use Rattle.transition_table.specs.declared.network.Network.{Network}
 use Rattle.task_code.specs.Listings.{Part, line, part_text, parts_text}
-use Rattle.machine_compiler.specs.Parts.{Right}
+use Rattle.machine_compiler.specs.Parts.{IsRightPart}
 use Rattle.machine_compiler.specs.Lines.{lengths, lengths_lines}
 use Rattle.machine_compiler.specs.Texts.{AreTexts}
 use Rattle.machine_compiler.specs.declared.texts.Texts.{Texts}
@@ -15,7 +15,7 @@ use Rattle.machine_compiler.proofs.Writing.{listing_pairs, length_pairs, one_mor
 pub record WrittenSoFar (net : Network) (k : ℕ) (text sizes : List ℕ) : Type 0 where
   pub parts : List Part
   pub long : length parts ≡ k
-  pub right : Paired Right net.machines parts
+  pub right : Paired IsRightPart net.machines parts
   pub listing : text ≡ line (codes "polis listing 1") ++ parts_text net net.machines parts
   pub lengths : sizes ≡ lengths_lines net.machines parts
 
@@ -25,7 +25,7 @@ nothing_written net text sizes begun none =
     record {
       parts = [];
       long = refl;
-      right = none_paired Right net.machines [] refl;
+      right = none_paired IsRightPart net.machines [] refl;
       listing = begun ∙ sym (append-nil (line (codes "polis listing 1")))
           ∙ ap (λ (xs : List ℕ). line (codes "polis listing 1") ++ xs)
           (sym ((listing_pairs net).no_part 0 net.machines));
@@ -36,7 +36,7 @@ pub one_written : (net : Network) (k : ℕ) (text sizes text' sizes' : List ℕ)
     (q : Part)
     → WrittenSoFar net k text sizes
     → slice_get net.machines k ≡ Some m
-    → Right m q
+    → IsRightPart m q
     → text' ≡ text ++ part_text net m q
     → sizes' ≡ sizes ++ line (lengths m q)
     → WrittenSoFar net (k + 1) text' sizes'
@@ -48,7 +48,7 @@ one_written net k text sizes text' sizes' m q so_far at right longer wider =
     record {
       parts = qs ++ q ∷ [];
       long = length_push qs (qs ++ q ∷ []) q k so_far.long refl;
-      right = more_paired Right net.machines qs (qs ++ q ∷ []) k m q so_far.right so_far.long refl
+      right = more_paired IsRightPart net.machines qs (qs ++ q ∷ []) k m q so_far.right so_far.long refl
           at right;
       listing = longer ∙ ap (λ (xs : List ℕ). xs ++ part_text net m q) so_far.listing
           ∙ append_assoc head (parts_text net net.machines qs) (part_text net m q)

@@ -1,24 +1,28 @@
 -- The words for a machine's variables and results tell them apart.
-use Rattle.std.proofs.Common.{◌≡◌, ℕ, zero, suc, ◌+◌, ◌<◌, true, false, not, ◌&&◌, ◌==◌, List, [], ◌∷◌, ◌++◌, map, length, take, drop, slice_get, Option, Some, None, refl, ap, sym, subst, ◌∙◌, append_assoc, arith, leb, ltb, codes}
+use Rattle.std.proofs.Common.{◌≡◌, ℕ, zero, suc, ◌+◌, ◌<◌, true, false, not, ◌&&◌, ◌==◌, List, [], ◌∷◌, ◌++◌, map, length, slice_get, Option, Some, None, refl, ap, sym, subst, ◌∙◌, append_assoc, arith, ltb, codes}
 use Rattle.std.specs.Prelude.{option_map, unwrap_or}
 use Rattle.std.specs.List.{list_all}
-use Rattle.std.specs.Cmp.Lexicographic.{pointwise}
-use Rattle.std.proofs.lemmas.Bool.{and_parts, and_from, eqb-true, ltb-true}
+use Rattle.std.proofs.lemmas.Bool.{and_parts, and_from, ltb-true}
 use Rattle.std.proofs.lemmas.List.Folds.{list_all-append}
 use Rattle.std.proofs.lemmas.Option.{slice_get-map}
 use Rattle.polis_base.specs.Names.{is_name}
 use Rattle.domains.specs.Names.{are_distinct}
-use Rattle.domains.specs.Tables.{are_sizes}
 use Rattle.transition_table.specs.declared.decl.EventDecl.{EventDecl}
 use Rattle.transition_table.specs.declared.decl.StateDecl.{StateDecl}
 use Rattle.transition_table.specs.declared.machine.Machine.{Machine}
 use Rattle.transition_table.specs.declared.network.Network.{Network}
-use Rattle.transition_table.specs.NetworkFacts.{are_different, is_numbered, lists_once}
+use Rattle.transition_table.specs.NetworkFacts.{are_different}
+use Rattle.transition_table.specs.inner.NetworkFacts.{is_numbered, lists_once}
 use Rattle.journal_text.specs.Holding.{names_hold, has_name_token, state_has_name, machine_holds, values_hold}
+use Rattle.task_code.proofs.Labelling.{ins, sts, tos, outs}
 use Rattle.task_code.specs.Listings.{event_name, labels, label}
-use Rattle.machine_compiler.proofs.Apart.{Apart, at_place, all_at, apart_mapped, distinct_apart, different_apart}
+use Rattle.machine_compiler.proofs.Apart.{Apart, at_place, apart_mapped, distinct_apart, different_apart}
 use Rattle.machine_compiler.proofs.Cutting.{lacks}
 use Rattle.machine_compiler.proofs.Labelled.{IsLabel, Each, each_both, each_mapped, Five, five_apart, first, name_lacks}
+use Rattle.journals.proofs.Ways.{passes_of_all}
+use Rattle.domains.proofs.AllCodes.{long_map}
+use Rattle.transition_table.proofs.Ranges.{vars_length}
+use Rattle.outcome_table.proofs.Rows.{results_long}
 
 -- what the types of a network keep of the words for a machine
 pub record Names (net : Network) (m : Machine) : Type 0 where
@@ -37,18 +41,18 @@ names_of net k m hold is =
     let outputs = list_all (λ e. ltb e (length net.events)) m.outputs in
     let states = list_all (λ (state : StateDecl). ltb state.domain (length net.domains)) m.states in
     let numbered = and_parts (inputs && outputs) states
-    (all_at (is_numbered net.domains net.events) net.machines k m net.numbered is) in
+    (passes_of_all (is_numbered net.domains net.events) net.machines k m net.numbered is) in
     let ports = and_parts inputs outputs numbered.0 in
     let names = map (λ (state : StateDecl). state.name) m.states in
     let once = and_parts (are_different m.inputs && are_different m.outputs) (are_distinct names)
-    (all_at lists_once net.machines k m net.once is) in
+    (passes_of_all lists_once net.machines k m net.once is) in
     let ports_once = and_parts (are_different m.inputs) (are_different m.outputs) once.0 in
     let events = list_all has_name_token net.events in
     let machines = list_all machine_holds net.machines in
     let holds = and_parts events machines
     (and_parts (events && machines) (list_all values_hold net.domains) hold).0 in
     let machine = and_parts (is_name m.name) (list_all state_has_name m.states)
-    (all_at machine_holds net.machines k m holds.1 is) in
+    (passes_of_all machine_holds net.machines k m holds.1 is) in
     record {
       inputs_numbered = ports.0;
       outputs_numbered = ports.1;
@@ -108,7 +112,7 @@ named net m e names low =
       is = r.1;
       words = ap (λ (o : Option EventDecl). unwrap_or
           (option_map (λ (event : EventDecl). event.name) o) []) r.1;
-      token = all_at has_name_token net.events e r.0 names.event_names r.1;
+      token = passes_of_all has_name_token net.events e r.0 names.event_names r.1;
     }
 
 same_event : (net : Network) (e f : ℕ) → Named net e → Named net f
@@ -122,35 +126,23 @@ same_event net e f a b same =
 
 -- ---- the words
 module _ (net : Network) (m : Machine) (names : Names net m) where
-  abbrev ins : List (List ℕ)
-  ins = map (λ e. codes "in " ++ event_name net e) m.inputs
-
-  abbrev sts : List (List ℕ)
-  sts = map (λ state. codes "st " ++ state.name) m.states
-
-  abbrev tos : List (List ℕ)
-  tos = map (λ state. codes "to " ++ state.name) m.states
-
-  abbrev outs : List (List ℕ)
-  outs = map (λ e. codes "out " ++ event_name net e) m.outputs
-
-  grouped : labels net m ≡ ins ++ (sts ++ ((codes "go" ∷ []) ++ (tos ++ outs)))
-  grouped = append_assoc (ins ++ sts) (codes "go" ∷ tos) outs
-      ∙ append_assoc ins sts ((codes "go" ∷ tos) ++ outs)
+  grouped : labels net m ≡ ins net m ++ (sts net m ++ ((codes "go" ∷ []) ++ (tos net m ++ outs net m)))
+  grouped = append_assoc (ins net m ++ sts net m) (codes "go" ∷ tos net m) (outs net m)
+      ∙ append_assoc (ins net m) (sts net m) ((codes "go" ∷ tos net m) ++ outs net m)
 
   input_named : (i e : ℕ) → slice_get m.inputs i ≡ Some e → Named net e
   input_named i e is =
       named net m e names
-      (all_at (λ e. ltb e (length net.events)) m.inputs i e names.inputs_numbered is)
+      (passes_of_all (λ e. ltb e (length net.events)) m.inputs i e names.inputs_numbered is)
 
   output_named : (i e : ℕ) → slice_get m.outputs i ≡ Some e → Named net e
   output_named i e is =
       named net m e names
-      (all_at (λ e. ltb e (length net.events)) m.outputs i e names.outputs_numbered is)
+      (passes_of_all (λ e. ltb e (length net.events)) m.outputs i e names.outputs_numbered is)
 
   state_named : (i : ℕ) (state : StateDecl) → slice_get m.states i ≡ Some state
       → is_name state.name ≡ true
-  state_named i state is = all_at state_has_name m.states i state names.state_names is
+  state_named i state is = passes_of_all state_has_name m.states i state names.state_names is
 
   states_apart : (i j : ℕ) (x : List ℕ)
       → slice_get (map (λ (state : StateDecl). state.name) m.states) i ≡ Some x
@@ -181,7 +173,7 @@ module _ (net : Network) (m : Machine) (names : Names net m) where
           states_apart i j t.name (name_at i s ai ∙ ap (λ (n : List ℕ). Some n) same)
           (name_at j t bj)
 
-  five : Five ins sts (codes "go" ∷ []) tos outs
+  five : Five (ins net m) (sts net m) (codes "go" ∷ []) (tos net m) (outs net m)
   five =
       record {
         ins_begin = each_mapped (λ w. first w ≡ 105) (λ e. codes "in " ++ event_name net e) m.inputs
@@ -222,24 +214,24 @@ module _ (net : Network) (m : Machine) (names : Names net m) where
 
   labels_apart : Apart (labels net m)
   labels_apart = subst (λ (ws : List (List ℕ)). Apart ws) (sym grouped)
-      (five_apart ins sts (codes "go" ∷ []) tos outs five)
+      (five_apart (ins net m) (sts net m) (codes "go" ∷ []) (tos net m) (outs net m) five)
 
   labels_are : Each IsLabel (labels net m)
   labels_are =
       subst (λ (ws : List (List ℕ)). Each IsLabel ws) (sym grouped)
-      (each_both IsLabel ins (sts ++ ((codes "go" ∷ []) ++ (tos ++ outs)))
+      (each_both IsLabel (ins net m) (sts net m ++ ((codes "go" ∷ []) ++ (tos net m ++ outs net m)))
       (each_mapped IsLabel (λ e. codes "in " ++ event_name net e) m.inputs
       (λ i e is. let n = input_named i e is in
       subst (λ w. IsLabel (codes "in " ++ w)) (sym n.words)
       (kind_label (codes "in") n.event.name refl refl refl refl n.token)))
-      (each_both IsLabel sts ((codes "go" ∷ []) ++ (tos ++ outs))
+      (each_both IsLabel (sts net m) ((codes "go" ∷ []) ++ (tos net m ++ outs net m))
       (each_mapped IsLabel (λ (state : StateDecl). codes "st " ++ state.name) m.states
       (λ i state is. kind_label (codes "st") state.name refl refl refl refl
       (state_named i state is)))
-      (each_both IsLabel (codes "go" ∷ []) (tos ++ outs)
+      (each_both IsLabel (codes "go" ∷ []) (tos net m ++ outs net m)
       (each_mapped IsLabel (λ (w : List ℕ). codes "go") ([] ∷ [])
       (λ i w is. go_label))
-      (each_both IsLabel tos outs
+      (each_both IsLabel (tos net m) (outs net m)
       (each_mapped IsLabel (λ (state : StateDecl). codes "to " ++ state.name)
       m.states (λ i state is. kind_label (codes "to") state.name refl refl
       refl refl (state_named i state is)))
@@ -265,34 +257,9 @@ module _ (net : Network) (m : Machine) (names : Names net m) where
       (label_at j lj)
 
 -- ---- how many there are
-long_mapped : {X Y : Type 0} (f : X → Y) (xs : List X) → length (map f xs) ≡ length xs
-long_mapped f [] = refl
-long_mapped f (x ∷ xs) = ap suc (long_mapped f xs)
-
 long_both : {X : Type 0} (xs ys : List X) → length (xs ++ ys) ≡ length xs + length ys
 long_both [] ys = omega arith
 long_both (x ∷ xs) ys = let r = long_both xs ys in omega arith
-
-long_vars : (m : Machine) → length m.vars ≡ length m.inputs + length m.states
-long_vars m =
-    let sizes = are_sizes m.vars in
-    let lengths = length m.vars == length m.inputs + length m.states in
-    let inputs = list_all (leb 2) (take (length m.inputs) m.vars) in
-    let states = pointwise (λ state size. ltb state.init size) m.states
-    (drop (length m.inputs) m.vars) in
-    eqb-true (length m.vars) (length m.inputs + length m.states)
-    (and_parts sizes lengths
-    (and_parts (sizes && lengths) inputs
-    (and_parts ((sizes && lengths) && inputs) states m.sized_vars).0).0).1
-
-long_results : (m : Machine) → length m.results ≡ 1 + length m.states + length m.outputs
-long_results m =
-    let lengths = length m.results == 1 + length m.states + length m.outputs in
-    let states = pointwise ◌==◌ (2 ∷ map (λ size. 1 + size) (drop (length m.inputs) m.vars))
-    (take (1 + length m.states) m.results) in
-    let outputs = list_all (leb 2) (drop (1 + length m.states) m.results) in
-    eqb-true (length m.results) (1 + length m.states + length m.outputs)
-    (and_parts lengths states (and_parts (lengths && states) outputs m.sized_results).0).0
 
 -- a word for each variable and each result
 pub long_labels : (net : Network) (m : Machine)
@@ -303,15 +270,15 @@ long_labels net m =
     let tos = map (λ (state : StateDecl). codes "to " ++ state.name) m.states in
     let outs = map (λ e. codes "out " ++ event_name net e) m.outputs in
     let a : length ins ≡ length m.inputs =
-    long_mapped (λ e. codes "in " ++ event_name net e) m.inputs in
+    long_map (λ e. codes "in " ++ event_name net e) m.inputs in
     let b : length sts ≡ length m.states =
-    long_mapped (λ (state : StateDecl). codes "st " ++ state.name) m.states in
+    long_map (λ (state : StateDecl). codes "st " ++ state.name) m.states in
     let c : length tos ≡ length m.states =
-    long_mapped (λ (state : StateDecl). codes "to " ++ state.name) m.states in
+    long_map (λ (state : StateDecl). codes "to " ++ state.name) m.states in
     let d : length outs ≡ length m.outputs =
-    long_mapped (λ e. codes "out " ++ event_name net e) m.outputs in
-    let v = long_vars m in
-    let r = long_results m in
+    long_map (λ e. codes "out " ++ event_name net e) m.outputs in
+    let v = vars_length m in
+    let r = results_long m in
     let e : length (labels net m) ≡ length ((ins ++ sts) ++ (codes "go" ∷ tos)) + length outs =
     long_both ((ins ++ sts) ++ (codes "go" ∷ tos)) outs in
     let f : length ((ins ++ sts) ++ (codes "go" ∷ tos))

@@ -1,5 +1,5 @@
 -- Parts and lines, written one after another.
-use Rattle.std.proofs.Common.{◌≡◌, ⊎_elim, ◌⊎◌, inl, inr, ℕ, zero, suc, ◌+◌, ◌<◌, ◌≤◌, List, [], ◌∷◌, ◌++◌, length, drop, min, slice_get, Option, Some, None, refl, ap, sym, subst, ◌∙◌, arith, append_assoc}
+use Rattle.std.proofs.Common.{◌≡◌, ⊎_elim, ◌⊎◌, inl, inr, ℕ, zero, suc, ◌+◌, ◌<◌, ◌≤◌, List, ◌∷◌, ◌++◌, length, drop, min, slice_get, Option, Some, None, refl, ap, sym, subst, ◌∙◌, arith, append_assoc, []}
 use Rattle.std.specs.Prelude.{IsSomeAnd}
 use Rattle.std.proofs.lemmas.Bool.{cases_lt}
 use Rattle.std.proofs.lemmas.List.{append-nil}
@@ -12,12 +12,7 @@ use Rattle.task_code.specs.Listings.{Part, line, part_text, parts_text}
 use Rattle.machine_compiler.specs.declared.compiled.Compiled.{Compiled}
 use Rattle.machine_compiler.specs.Parts.{part_of_compiled, parts_of, codes_in}
 use Rattle.machine_compiler.specs.Lines.{lengths, lengths_lines, tries, tries_lines, reactions_of}
-
-drop_one : {X : Type 0} (xs : List X) (k : ℕ) (x : X) → slice_get xs k ≡ Some x
-    → drop k xs ≡ x ∷ drop (suc k) xs
-drop_one [] k x e = cc
-drop_one {X = X} (y ∷ ys) zero x e = let f : y ≡ x = cc in ap (λ (z : X). z ∷ ys) f
-drop_one (y ∷ ys) (suc k) x e = drop_one ys k x e
+use Rattle.task_code.proofs.Printing.{drop_one}
 
 drop_all : {X : Type 0} (xs : List X) (k : ℕ) → length xs ≤ k → drop k xs ≡ []
 drop_all [] zero high = refl

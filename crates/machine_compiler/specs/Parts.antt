@@ -43,7 +43,7 @@ AssignsBytes g =
 -- variable twice on a path, is reduced and numbered. It assigns no code 0. The code is the graph's
 -- layout, is of the machine, gives the transition on each snapshot in at most 75 instructions, and
 -- tests no variable twice on a path.
-pub record Right (m : Machine) (q : Part) : Type 0 where
+pub record IsRightPart (m : Machine) (q : Part) : Type 0 where
   pub sifted : IsSifted m q.order q.first q.count
   pub is_graph : IsGraph q.graph
   pub few : length q.graph < 2 ^ 63
@@ -57,10 +57,10 @@ pub record Right (m : Machine) (q : Part) : Type 0 where
   pub steps : (s : List ℕ) → IsTrue (fits m.vars s) → StepsOf q.code s ≤ 75
 
 -- one right part for each machine, in order
-pub record AreRight (net : Network) (parts : List Part) : Type 0 where
+pub record AreRightParts (net : Network) (parts : List Part) : Type 0 where
   pub long : length parts ≡ length net.machines
   pub each :
       (k : ℕ) (m : Machine) (q : Part)
       → slice_get net.machines k ≡ Some m
       → slice_get parts k ≡ Some q
-      → Right m q
+      → IsRightPart m q

@@ -2,7 +2,7 @@
 ghost use Rattle.std.specs.Prelude.{◌≡◌, IfOk};
 ghost use Rattle.transition_table.specs.declared.network.Network.{Network};
 ghost use Rattle.task_machine.specs.Tasks.{AreTasks};
-ghost use Rattle.machine_compiler.specs.Parts.{AreRight, codes_in, parts_of};
+ghost use Rattle.machine_compiler.specs.Parts.{AreRightParts, codes_in, parts_of};
 
 use order_sift::Sifted;
 use polis_base::{Duplicate, List, NoMemory};
@@ -27,7 +27,7 @@ pub type CompiledList = List<Compiled>;
 /// Copies of the codes, in order.
 pub fn codes_of(alloc: Global, compiled: &CompiledList) -> Result<CodeList, NoMemory>
     ensures codes { IfOk result (λ codes. codes ≡ codes_in (parts_of compiled.now)) }
-    ensures tasks { (net : Network) → AreRight net (parts_of compiled.now)
+    ensures tasks { (net : Network) → AreRightParts net (parts_of compiled.now)
         → IfOk result (λ codes. AreTasks net codes) }
 {
     let mut codes = CodeList::new(alloc);

@@ -7,7 +7,7 @@ ghost use Rattle.sgraph.specs.Facts.{IsGraph};
 ghost use Rattle.sgraph.specs.Reactions.{IsGraphOf};
 ghost use Rattle.sgraph_opt.specs.Smaller.{NoDefaults};
 ghost use Rattle.char_function.specs.Roots.{IsDiagramOf};
-ghost use Rattle.machine_compiler.specs.Parts.{AreRight, AssignsBytes, Right, part_of_compiled, parts_of};
+ghost use Rattle.machine_compiler.specs.Parts.{AreRightParts, AssignsBytes, IsRightPart, part_of_compiled, parts_of};
 
 use crate::compiled::{Compiled, CompiledList};
 use decision_diagram::{Order, Root};
@@ -57,7 +57,7 @@ fn keep_graph(g: &Graph)
 /// graph, the graph is made smaller, and that one is laid out as code.
 pub fn compile_machine(alloc: Global, m: &Machine) -> Result<Compiled, NoMemory>
     requires { IsDeterministic m.now }
-    ensures { IfOk result (λ compiled. Right m.now (part_of_compiled compiled)) }
+    ensures { IfOk result (λ compiled. IsRightPart m.now (part_of_compiled compiled)) }
 {
     let SiftedDiagram { sifted, root } = sift_diagram(alloc, m)?;
     let graph = small_graph(alloc, m, root, &sifted.order)?;
@@ -74,7 +74,7 @@ pub fn compile_machine(alloc: Global, m: &Machine) -> Result<Compiled, NoMemory>
 /// All machines of a network, compiled in the order of their numbers.
 pub fn compile_network(alloc: Global, net: &Network) -> Result<CompiledList, NoMemory>
     requires { AreDeterministic net.now }
-    ensures { IfOk result (λ compiled. AreRight net.now (parts_of compiled)) }
+    ensures { IfOk result (λ compiled. AreRightParts net.now (parts_of compiled)) }
 {
     let mut compiled = CompiledList::new(alloc);
     for k in 0..net.machines.len() {

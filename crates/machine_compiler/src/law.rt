@@ -1,7 +1,7 @@
 // A law of the listing.
 ghost use Rattle.machine_compiler.specs.Laws.{ListingDeterminesParts};
 
-/// Right parts of one network with the same listing are the same parts.
+/// IsRightPart parts of one network with the same listing are the same parts.
 pub fn laws()
     ensures { ListingDeterminesParts }
 {}

@@ -2,7 +2,7 @@
 ghost use Rattle.std.specs.Prelude.{◌≡◌, ◌<◌, ◌^◌, ◌++◌, length, IfOk, OnOk};
 ghost use Rattle.journals.specs.Journals.{IsJournal};
 ghost use Rattle.task_code.specs.Listings.{line};
-ghost use Rattle.machine_compiler.specs.Parts.{AreRight, parts_of, part_of_compiled};
+ghost use Rattle.machine_compiler.specs.Parts.{AreRightParts, parts_of, part_of_compiled};
 ghost use Rattle.machine_compiler.specs.Lines.{lengths, tally_text, tries_text};
 
 use crate::compiled::{Compiled, CompiledList};
@@ -46,7 +46,7 @@ pub fn print_tries(
     compiled: &CompiledList,
     journal: &Journal,
 ) -> Result<Bytes, NoMemory>
-    requires right { AreRight net.now (parts_of compiled.now) }
+    requires right { AreRightParts net.now (parts_of compiled.now) }
     requires journal { IsJournal net.now journal.now }
     requires few { length journal.now < 2 ^ 32 }
     ensures { IfOk result (λ text. text ≡ tries_text net.now (parts_of compiled.now) journal.now) }

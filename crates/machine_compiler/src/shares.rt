@@ -3,8 +3,8 @@ ghost use Rattle.std.specs.Prelude.{◌<◌, length, IfOk};
 ghost use Rattle.std.specs.List.{All};
 ghost use Rattle.transition_table.specs.declared.network.Network.{Network};
 ghost use Rattle.transition_table.specs.Transitions.{AreDeterministic};
-ghost use Rattle.machine_compiler.specs.Parts.{AreRight, parts_of};
-ghost use Rattle.machine_compiler.specs.Shares.{AreRightEach, HasPlaces, IsRightAt, StandsAt};
+ghost use Rattle.machine_compiler.specs.Parts.{AreRightParts, parts_of};
+ghost use Rattle.machine_compiler.specs.inner.Shares.{AreRightEach, HasPlaces, IsRightAt, StandsAt};
 
 use crate::compiled::{Compiled, CompiledList};
 use crate::compiling::compile_machine;
@@ -17,7 +17,7 @@ use transition_table::Network;
 
 /// A compiled machine, and its number.
 #[derive(Drop)]
-pub(crate) struct Numbered {
+pub(crate) struct CompiledAt {
     pub(crate) number: u64,
     pub(crate) compiled: Compiled,
 }
@@ -36,7 +36,7 @@ fn compile_share<T: Wait>(
     alloc: Global,
     net: &Network,
     next: &Mutex<u64>,
-) -> Result<Vec<Numbered>, NoMemory>
+) -> Result<Vec<CompiledAt>, NoMemory>
     requires { AreDeterministic net.now }
     ensures { IfOk result (λ share. AreRightEach net.now share.items) }
 {
@@ -47,7 +47,7 @@ fn compile_share<T: Wait>(
             return Ok(share);
         }
         let compiled = compile_machine(alloc, net.machines.get(number))?;
-        share.push(Numbered { number, compiled })?;
+        share.push(CompiledAt { number, compiled })?;
     }
     Ok(share)
 }
@@ -64,14 +64,14 @@ fn empty_places(alloc: Global, net: &Network) -> Result<List<Option<Compiled>>, 
 }
 
 // Puts the machines of a share into their places.
-fn place_share(share: Vec<Numbered>, places: &mut List<Option<Compiled>>)
+fn place_share(share: Vec<CompiledAt>, places: &mut List<Option<Compiled>>)
     ensures { (net : Network)
         → AreRightEach net share.items
         → HasPlaces net places.old
         → HasPlaces net places.new }
 {
     for one in share {
-        let Numbered { number, compiled } = one;
+        let CompiledAt { number, compiled } = one;
         if number < places.len() {
             places.set(number, Some(compiled));
         }
@@ -82,7 +82,7 @@ fn place_share(share: Vec<Numbered>, places: &mut List<Option<Compiled>>)
 fn place_all(
     alloc: Global,
     net: &Network,
-    shares: Vec<Result<Vec<Numbered>, NoMemory>>,
+    shares: Vec<Result<Vec<CompiledAt>, NoMemory>>,
 ) -> Result<List<Option<Compiled>>, NoMemory>
     requires { All (λ share. IfOk share (λ made. AreRightEach net.now made.items)) shares.items }
     ensures { IfOk result (λ places. HasPlaces net.now places) }
@@ -123,7 +123,7 @@ fn in_order(
 ) -> Result<CompiledList, NoMemory>
     requires deterministic { AreDeterministic net.now }
     requires places { HasPlaces net.now places }
-    ensures { IfOk result (λ compiled. AreRight net.now (parts_of compiled)) }
+    ensures { IfOk result (λ compiled. AreRightParts net.now (parts_of compiled)) }
 {
     let mut compiled = CompiledList::new(alloc);
     let mut k = 0;
@@ -144,14 +144,14 @@ pub fn compile_network_by<T: Threads + Wait + Sync>(
     workers: u32,
 ) -> Result<CompiledList, NoMemory>
     requires { AreDeterministic net.now }
-    ensures { IfOk result (λ compiled. AreRight net.now (parts_of compiled)) }
+    ensures { IfOk result (λ compiled. AreRightParts net.now (parts_of compiled)) }
 {
     let next = Mutex::new(0);
     let shares = thread::map_indices(
         rt,
         alloc,
         workers as usize,
-        &|_: usize| -> Result<Vec<Numbered>, NoMemory>
+        &|_: usize| -> Result<Vec<CompiledAt>, NoMemory>
             requires { AreDeterministic net.now }
             ensures { IfOk result (λ share. AreRightEach net.entry.now share.items) }
         { compile_share(rt, alloc, net, &next) },

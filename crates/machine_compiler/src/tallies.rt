@@ -6,8 +6,8 @@ ghost use Rattle.journals.specs.Journals.{FitsNetwork, IsJournal};
 ghost use Rattle.task_code.specs.Codes.{StepsOf};
 ghost use Rattle.task_machine.specs.Running.{AreOfOne};
 ghost use Rattle.task_code.specs.Listings.{Part};
-ghost use Rattle.machine_compiler.specs.Parts.{AreRight, parts_of};
-ghost use Rattle.machine_compiler.specs.Tallies.{AreFew, AreTallies};
+ghost use Rattle.machine_compiler.specs.Parts.{AreRightParts, parts_of};
+ghost use Rattle.machine_compiler.specs.inner.Tallies.{AreFew, AreTallies};
 
 use crate::compiled::CompiledList;
 use journals::{Entry, Journal};
@@ -61,7 +61,7 @@ fn no_tallies(alloc: Global, net: &Network) -> Result<Vec<Tally>, NoMemory>
 
 // One more entry.
 fn tally_entry(net: &Network, compiled: &CompiledList, entry: &Entry, tallies: &mut Vec<Tally>)
-    requires right { AreRight net.now (parts_of compiled.now) }
+    requires right { AreRightParts net.now (parts_of compiled.now) }
     requires fits { FitsNetwork net.now entry.now }
     requires few { AreFew tallies.old.items }
     requires tallied { (seen : List Entry)
@@ -91,7 +91,7 @@ pub(crate) fn count_reactions(
     compiled: &CompiledList,
     journal: &Journal,
 ) -> Result<Vec<Tally>, NoMemory>
-    requires right { AreRight net.now (parts_of compiled.now) }
+    requires right { AreRightParts net.now (parts_of compiled.now) }
     requires journal { IsJournal net.now journal.now }
     requires few { length journal.now < 2 ^ 32 }
     ensures { IfOk result

@@ -1,27 +1,19 @@
 -- Small facts on lists and products.
-use Rattle.std.proofs.Common.{◌≡◌, ℕ, zero, suc, ◌*◌, ◌<◌, ◌≤◌, Bool, true, false, ◌||◌, ◌&&◌, eqb, nat_lt, nat_le, List, [], ◌∷◌, ◌++◌, length, drop, slice_index, refl, arith}
+use Rattle.std.proofs.Common.{◌≡◌, ℕ, zero, suc, ◌*◌, ◌<◌, ◌≤◌, true, ◌&&◌, eqb, nat_lt, nat_le, List, ◌∷◌, ◌++◌, length, drop, slice_index, refl, arith, []}
 use Rattle.std.specs.List.{list_all}
-use Rattle.std.specs.Ordering.{ord_max, nat_cmp}
-use Rattle.std.proofs.lemmas.Bool.Decides.{nat_tests}
 use Rattle.std.proofs.lemmas.Bool.{and_parts, and_from, leb-true, lt-ltb, eq-eqb}
 use Rattle.domains.specs.Tables.{are_sizes, product}
 use Rattle.decision_diagram.specs.Sets.{stands}
-
-or_right : (a b : Bool) → b ≡ true → (a || b) ≡ true
-or_right true b h = refl
-or_right false b h = h
-
-or_left : (a b : Bool) → a ≡ true → (a || b) ≡ true
-or_left true b h = refl
-or_left false b h = cc
+use Rattle.char_function.proofs.Taking.{or_first}
+use Rattle.char_function.proofs.Blocks.{or_on}
 
 pub all_below : (xs : List ℕ) (n : ℕ) → ((v : ℕ) → stands xs v ≡ true → v < n)
     → list_all (λ v. nat_lt v n) xs ≡ true
 all_below [] n each = refl
 all_below (x ∷ xs) n each =
     and_from (nat_lt x n) (list_all (λ v. nat_lt v n) xs)
-    (lt-ltb x n (each x (or_left (eqb x x) (stands xs x) (eq-eqb x x refl))))
-    (all_below xs n (λ v on. each v (or_right (eqb x v) (stands xs v) on)))
+    (lt-ltb x n (each x (or_first (eqb x x) (stands xs x) (eq-eqb x x refl))))
+    (all_below xs n (λ v on. each v (or_on (eqb x v) (stands xs v) on)))
 
 pub product_some : (sizes : List ℕ) → are_sizes sizes ≡ true → 1 ≤ product sizes
 product_some [] h = omega arith
@@ -44,13 +36,6 @@ sizes_drop (size ∷ sizes) (suc k) h =
 pub factor_below : (a b p q : ℕ) → a * (b * p) ≡ q → 1 ≤ p → a * b ≤ q
 factor_below a b zero q e one = elim one [ ]
 factor_below a b (suc p) q e one = grind arith
-
--- the greater of two numbers
-pub max_over : (a b : ℕ) → (a ≤ ord_max nat_cmp a b) × (b ≤ ord_max nat_cmp a b)
-max_over a b = (grind (arith, nat_tests), grind (arith, nat_tests))
-
-pub max_within : (a b k : ℕ) → a ≤ k → b ≤ k → ord_max nat_cmp a b ≤ k
-max_within a b k one other = grind (arith, nat_tests)
 
 pub size_some : (sizes : List ℕ) (k : ℕ) → are_sizes sizes ≡ true → k < length sizes
     → 1 ≤ slice_index sizes k

@@ -1,5 +1,5 @@
 -- Counting different numbers one after another.
-use Rattle.std.proofs.Common.{◌≡◌, ◌∙◌, ⊎_elim, ◌+◌, ◌++◌, ◌∷◌, ◌||◌, ℕ, suc, Bool, true, false, cond, [], List, map, length, take, ◌<◌, slice_index, arith, sym, ap, refl, eqb}
+use Rattle.std.proofs.Common.{◌≡◌, ◌∙◌, ⊎_elim, ◌+◌, ◌++◌, ◌∷◌, ◌||◌, ℕ, suc, Bool, true, false, cond, [], List, map, length, take, ◌<◌, slice_index, arith, ap, refl, eqb}
 use Rattle.std.specs.Prelude.{filter}
 use Rattle.std.specs.List.{list_any}
 use Rattle.std.proofs.lemmas.Bool.{cases_eq, eq-eqb, ne_eqb}
@@ -7,15 +7,9 @@ use Rattle.std.proofs.lemmas.List.{map-append, append-nil, take_more}
 use Rattle.std.proofs.lemmas.List.Folds.{list_any-append}
 use Rattle.std.proofs.lemmas.List.Elements.{filter-append}
 use Rattle.polis_base.specs.Lists.{upto}
-use Rattle.order_sift.specs.Classes.{differing}
-
-eqb_swap : (a b : ℕ) → eqb a b ≡ eqb b a
-eqb_swap a b = ⊎_elim (λ e. eq-eqb a b e ∙ sym (eq-eqb b a (sym e)))
-    (λ e. ne_eqb a b e ∙ sym (ne_eqb b a (λ h. e (sym h)))) (cases_eq a b)
-
-or_false : (t : Bool) → (t || false) ≡ t
-or_false true = refl
-or_false false = refl
+use Rattle.order_sift.specs.inner.Classes.{differing}
+use Rattle.decision_diagram.proofs.Distinct.{eqb_turned}
+use Rattle.char_function.proofs.Windows.{or_false}
 
 pub any_more : (n x : ℕ) (xs : List ℕ)
     → list_any (λ k. eqb k n) (xs ++ x ∷ []) ≡ (list_any (λ k. eqb k n) xs || eqb x n)
@@ -64,7 +58,7 @@ differing_more x (z ∷ zs) =
         → list_any (λ y. eqb z y) ys ≡ list_any (λ k. eqb k x) ys
     swapped [] same = refl
     swapped {z = z} {x = x} (y ∷ ys) same =
-        ap (λ b. b || list_any (λ w. eqb z w) ys) (ap (λ n. eqb n y) same ∙ eqb_swap x y)
+        ap (λ b. b || list_any (λ w. eqb z w) ys) (ap (λ n. eqb n y) same ∙ eqb_turned x y)
         ∙ ap (λ b. eqb y x || b) (swapped ys same)
 
 pub marked_more : (classes marks : List ℕ) (i : ℕ) → i < length marks

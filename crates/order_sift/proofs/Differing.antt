@@ -1,32 +1,14 @@
 -- How many different items lists have.
-use Rattle.std.proofs.Common.{◌≡◌, ⊎_elim, ℕ, zero, suc, ◌+◌, ◌<◌, ◌≤◌, Bool, true, false, cond, ◌||◌, eqb, ltb, List, [], ◌∷◌, map, slice_get, Some, refl, ap, sym, ◌∙◌, arith, subst}
+use Rattle.std.proofs.Common.{◌≡◌, ⊎_elim, ℕ, zero, suc, ◌+◌, ◌<◌, ◌≤◌, Bool, true, false, cond, ◌||◌, eqb, ltb, List, ◌∷◌, map, slice_get, Some, refl, ap, sym, ◌∙◌, arith, subst, []}
 use Rattle.std.specs.Prelude.{filter}
 use Rattle.std.specs.List.{list_all, list_any}
 use Rattle.std.proofs.lemmas.Bool.{and_parts, and_from, cases_eq, cases_Bool, or_cases, eq-eqb, ne_eqb, ltb-true, true≢false, false_from_ne_true}
 use Rattle.decision_diagram.specs.Truths.{same_truth, same_truths, different}
-use Rattle.order_sift.specs.Classes.{differing}
-
-truth_self : (b : Bool) → same_truth b b ≡ true
-truth_self true = refl
-truth_self false = refl
-
-truth_same : (a b : Bool) → same_truth a b ≡ true → a ≡ b
-truth_same true b h = sym h
-truth_same false true h = absurd (true≢false (sym h))
-truth_same false false h = refl
-
-truths_self : (xs : List Bool) → same_truths xs xs ≡ true
-truths_self [] = refl
-truths_self (x ∷ xs) = and_from (same_truth x x) (same_truths xs xs) (truth_self x) (truths_self xs)
-
-truths_same : (xs ys : List Bool) → same_truths xs ys ≡ true → xs ≡ ys
-truths_same [] [] h = refl
-truths_same [] (y ∷ ys) h = absurd (true≢false (sym h))
-truths_same (x ∷ xs) [] h = absurd (true≢false (sym h))
-truths_same (x ∷ xs) (y ∷ ys) h =
-    let parts = and_parts (same_truth x y) (same_truths xs ys) h in
-    ap (λ (b : Bool). b ∷ xs) (truth_same x y parts.0)
-    ∙ ap (λ (bs : List Bool). y ∷ bs) (truths_same xs ys parts.1)
+use Rattle.order_sift.specs.inner.Classes.{differing}
+use Rattle.decision_diagram.proofs.Distinct.{truths_self}
+use Rattle.char_function.proofs.Blocks.{or_on}
+use Rattle.char_function.proofs.Taking.{or_first}
+use Rattle.decision_diagram.proofs.Members.{truths_equal}
 
 -- two lists of values that are the same at each item
 pub map_values : {X : Type 0} (f g : X → Bool) (xs : List X) → map f xs ≡ map g xs
@@ -43,9 +25,6 @@ map_values f g xs h =
         and_from (same_truth (f x) (g x)) (list_all (λ x. same_truth (f x) (g x)) xs) parts.0
         (each f g xs parts.1)
 
-pub value_same : (a b : Bool) → same_truth a b ≡ true → a ≡ b
-value_same a b h = truth_same a b h
-
 -- ---- lists of functions
 abbrev pub has : List Bool → List (List Bool) → Bool
 has x ys = list_any (same_truths x) ys
@@ -54,14 +33,6 @@ has x ys = list_any (same_truths x) ys
 abbrev others : List Bool → List (List Bool) → List (List Bool)
 others x [] = []
 others x (y ∷ ys) = cond (same_truths x y) (others x ys) (y ∷ others x ys)
-
-or_on : (a b : Bool) → b ≡ true → (a || b) ≡ true
-or_on true b h = refl
-or_on false b h = h
-
-or_first : (a b : Bool) → a ≡ true → (a || b) ≡ true
-or_first true b h = refl
-or_first false b h = absurd (true≢false (sym h))
 
 or_none : (a b : Bool) → a ≡ false → (a || b) ≡ b
 or_none false b h = refl
@@ -74,11 +45,11 @@ has_others x z [] apart = refl
 has_others x z (y ∷ ys) apart =
     ⊎_elim
     (λ on.
-    let same = truths_same x y on in
+    let same = truths_equal x y on in
     let off : same_truths z y ≡ false =
     false_from_ne_true (same_truths z y)
     (λ h. true≢false
-    (sym (subst (λ (w : List Bool). same_truths x w ≡ true) (sym (truths_same z y h)) on)
+    (sym (subst (λ (w : List Bool). same_truths x w ≡ true) (sym (truths_equal z y h)) on)
     ∙ apart)) in
     ap (λ b. has z (cond b (others x ys) (y ∷ others x ys))) on ∙ has_others x z ys apart
     ∙ sym (or_none (same_truths z y) (has z ys) off))
@@ -103,7 +74,7 @@ one_less x [] on = absurd (true≢false (sym on))
 one_less x (y ∷ ys) on =
     ⊎_elim
     (λ same.
-    let is = truths_same x y same in
+    let is = truths_equal x y same in
     let step : different (others x (y ∷ ys)) ≡ different (others x ys) =
     ap (λ b. different (cond b (others x ys) (y ∷ others x ys))) same in
     ⊎_elim
@@ -189,7 +160,7 @@ by_numbers R g n same (i ∷ is) all =
         (λ e. subst (λ (w : List Bool). same_truths (R i) w ≡ true) (both.0 e) (truths_self (R i))
         ∙ sym (eq-eqb (g i) (g j) e))
         (λ e. false_from_ne_true (same_truths (R i) (R j))
-        (λ h. e (both.1 (truths_same (R i) (R j) h))) ∙ sym (ne_eqb (g i) (g j) e))
+        (λ h. e (both.1 (truths_equal (R i) (R j) h))) ∙ sym (ne_eqb (g i) (g j) e))
         (cases_eq (g i) (g j))
         in
         ap (λ b. b || has (R i) (map R js)) head

@@ -12,14 +12,15 @@ use Rattle.transition_table.specs.Orders.{Allowed, sizes_of}
 use Rattle.transition_table.specs.Transitions.{IsDeterministic}
 use Rattle.decision_diagram.specs.Sets.{stands, set_level, sum_of_levels}
 use Rattle.char_function.specs.Sizes.{Size}
-use Rattle.order_sift.specs.Below.{Below, BelowOrders}
-use Rattle.order_sift.specs.Chains.{levels_from, AreChain, AreSizes}
-use Rattle.order_sift.specs.Classes.{snapshot_at, AreClasses, IsNextItem, fixed_too}
+use Rattle.order_sift.specs.inner.Below.{Below, BelowOrders}
+use Rattle.order_sift.specs.inner.Chains.{levels_from, AreChain, AreSizes}
+use Rattle.order_sift.specs.inner.Classes.{snapshot_at, AreClasses, IsNextItem, fixed_too}
 use Rattle.order_sift.specs.Moves.{moved}
-use Rattle.order_sift.proofs.Codes.{set_at, set_else}
+use Rattle.order_sift.proofs.Codes.{set_at}
+use Rattle.char_function.proofs.Taking.{set_else}
 use Rattle.order_sift.proofs.Leaving.{all_fixed}
 use Rattle.order_sift.proofs.Pointing.{snapshot_fits}
-use Rattle.order_sift.proofs.Prefixes.{at_stands}
+use Rattle.char_function.proofs.Taking.{at_stands}
 use Rattle.order_sift.proofs.Sweeping.{stands_more, front_of, back_of, next_item, classes_more, levels_more, rest_long, rest_low, rest_high, size_is, next_with, next_without, free_without, classes_with, classes_without, classes_before, classes_start, back_step, front_step, back_end, front_start}
 
 at_end : {X : Type 0} (xs : List X) (x d : X) (k : ℕ) → k ≡ length xs

@@ -4,7 +4,7 @@ use Rattle.std.specs.Prelude.{◌↔◌}
 use Rattle.std.proofs.Math.Nat.{mul-le-mul_right}
 use Rattle.std.proofs.lemmas.Bool.{cases_eq, cases_lt}
 use Rattle.std.proofs.lemmas.List.{length-set}
-use Rattle.order_sift.specs.Pairs.{AreBelow, HasRoom, HaveFirsts, key_of}
+use Rattle.order_sift.specs.inner.Pairs.{AreBelow, HasRoom, HaveFirsts, key_of}
 
 below_next : (n a b c d : ℕ) → b < n → a < c → a * n + b ≡ c * n + d → ⊥
 below_next n a b c d low less same =

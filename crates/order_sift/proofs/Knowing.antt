@@ -11,8 +11,8 @@ use Rattle.transition_table.specs.declared.machine.Machine.{Machine}
 use Rattle.transition_table.specs.Computed.{char}
 use Rattle.transition_table.specs.Orders.{Allowed, sizes_of}
 use Rattle.decision_diagram.specs.Sets.{stands, set_level}
-use Rattle.order_sift.specs.Classes.{AreClasses, fixed_too}
-use Rattle.order_sift.specs.Known.{in_set, IsLevel, AreLevels, AreNumbers}
+use Rattle.order_sift.specs.inner.Classes.{AreClasses, fixed_too}
+use Rattle.order_sift.specs.inner.Known.{in_set, IsLevel, AreLevels, AreNumbers}
 use Rattle.order_sift.specs.declared.sets.KnownLevel.{KnownLevel}
 use Rattle.order_sift.specs.declared.sets.KnownNumbers.{KnownNumbers}
 use Rattle.order_sift.proofs.Ranging.{items}

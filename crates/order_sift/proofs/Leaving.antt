@@ -10,11 +10,17 @@ use Rattle.transition_table.specs.Computed.{char, result_code, supports}
 use Rattle.transition_table.specs.Orders.{sizes_of}
 use Rattle.decision_diagram.specs.Sets.{taking, arising}
 use Rattle.decision_diagram.specs.Truths.{same_truth}
-use Rattle.order_sift.specs.Below.{Below}
-use Rattle.order_sift.specs.Classes.{fixed_too, IsNextItem}
-use Rattle.order_sift.proofs.Codes.{fits_long, fits_at, fits_set, taking_same, taking_is, taking_at, taking_fits, cond_same, set_at, set_else, set_long}
-use Rattle.order_sift.proofs.Differing.{map_values, value_same}
+use Rattle.order_sift.specs.inner.Below.{Below}
+use Rattle.order_sift.specs.inner.Classes.{fixed_too, IsNextItem}
+use Rattle.order_sift.proofs.Codes.{cond_same, set_at, set_long}
+use Rattle.char_function.proofs.Taking.{set_else, taking_same, taking_is, taking_at, taking_fits}
+use Rattle.order_sift.proofs.Differing.{map_values}
 use Rattle.order_sift.proofs.Pointing.{point, point_fits, point_var, point_result, point_true, true_point, snapshot_of}
+use Rattle.domains.proofs.Ranks.{length-fits}
+use Rattle.transition_table.proofs.Ranges.{below_size}
+use Rattle.outcome_table.proofs.Rows.{fits_set}
+use Rattle.decision_diagram.proofs.Distinct.{truth_same}
+use Rattle.decision_diagram.proofs.Counting.{iff_same}
 
 -- two functions are the same where their values on all codes that fit are
 map_on : (p : List ℕ → Bool) (g h : List ℕ → Bool) (xs : List (List ℕ)) → list_all p xs ≡ true
@@ -24,11 +30,6 @@ map_on p g h (x ∷ xs) all same =
     let parts = and_parts (p x) (list_all p xs) all in
     ap (λ (y : Bool). y ∷ map g xs) (same x parts.0)
     ∙ ap (λ (ys : List Bool). h x ∷ ys) (map_on p g h xs parts.1 same)
-
-bool_same : (a b : Bool) → (a ≡ true → b ≡ true) → (b ≡ true → a ≡ true) → a ≡ b
-bool_same true b one other = sym (one refl)
-bool_same false true one other = other refl
-bool_same false false one other = refl
 
 module _ (m : Machine) (below : Below) where
   -- the value where these items are fixed as the first list has them
@@ -46,7 +47,7 @@ module _ (m : Machine) (below : Below) where
       → arising (char m) (sizes_of m) one a ≡ arising (char m) (sizes_of m) other c → (b : List ℕ)
       → fits (sizes_of m) b ≡ true → value one a b ≡ value other c b
   same_to one other a c h b fit =
-      value_same (value one a b) (value other c b)
+      truth_same (value one a b) (value other c b)
       (below.lists_all (sizes_of m) (λ x. same_truth (value one a x) (value other c x))
       (map_values (value one a) (value other c) (all_codes (sizes_of m)) h) b fit)
 
@@ -60,7 +61,7 @@ module _ (m : Machine) (below : Below) where
   same_where_fixed fixed a c each =
       same_from fixed fixed a c (λ b fit.
       ap (char m) (taking_same fixed fixed a b c b refl (λ w low.
-      let lb = fits_long (sizes_of m) b fit in
+      let lb = length-fits (sizes_of m) b fit in
       ⊎_elim
       (λ on. ap (λ (n : ℕ). cond (fixed w) n (slice_index b w)) (each w (omega arith) on))
       (λ off. ap (λ t. cond t (slice_index a w) (slice_index b w)) off
@@ -79,8 +80,8 @@ module _ (m : Machine) (below : Below) where
       whole : (s : List ℕ) → fits m.vars s ≡ true → (b : List ℕ) → fits (sizes_of m) b ≡ true
           → value fixed (point m s) b ≡ true
       whole s hs b fit =
-          let lb = fits_long (sizes_of m) b fit in
-          let lp = fits_long (sizes_of m) (point m s) (point_fits m below s hs) in
+          let lb = length-fits (sizes_of m) b fit in
+          let lp = length-fits (sizes_of m) (point m s) (point_fits m below s hs) in
           ap (char m) (taking_is fixed (point m s) b (point m s) (omega arith)
           (λ w low. ap (λ t. cond t (slice_index (point m s) w) (slice_index b w))
           (all w (omega arith)))) ∙ point_true m below s hs
@@ -99,7 +100,7 @@ module _ (m : Machine) (below : Below) where
     fixing s b hs fit =
         let x = length m.vars + y in
         let p = slice_index (point m s) x in
-        let lb = fits_long (sizes_of m) b fit in
+        let lb = length-fits (sizes_of m) b fit in
         let n = items in
         ap (char m) (taking_same (fixed_too fixed x) fixed (point m s) b (point m s)
         (slice_set b x p) (sym (set_long b x p)) (λ w low.
@@ -133,7 +134,7 @@ module _ (m : Machine) (below : Below) where
     decided s b hs fit on =
         let x = length m.vars + y in
         let q = taking fixed (point m s) b in
-        let lb = fits_long (sizes_of m) b fit in
+        let lb = length-fits (sizes_of m) b fit in
         let n = items in
         let fit_q = taking_fits (sizes_of m) fixed (point m s) b (point_fits m below s hs) fit in
         let t = take (length m.vars) q in
@@ -183,7 +184,7 @@ module _ (m : Machine) (below : Below) where
                 fixing s b hs fit
                 ∙ each (slice_set b x p)
                 (fits_set (sizes_of m) b x p fit
-                (fits_at (sizes_of m) (point m s) x fit_s (omega arith)))
+                (below_size (sizes_of m) (point m s) x fit_s (omega arith)))
                 ∙ ap (λ (k : ℕ). value fixed (point m t) (slice_set b x k)) code
                 ∙ sym (fixing t b ht fit)),
           ),
@@ -200,7 +201,7 @@ module _ (m : Machine) (below : Below) where
           ap (value fixed (point m s)) (sym own) ∙ sym (fixing s b hs fit) ∙ each b fit
           ∙ fixing t b ht fit ∙ ap (value fixed (point m t)) other)
           (λ apart.
-          bool_same (value fixed (point m s) b) (value fixed (point m t) b)
+          iff_same (value fixed (point m s) b) (value fixed (point m t) b)
           (λ on. absurd (apart (decided s b hs fit on)))
           (λ on. absurd (apart (decided t b ht fit on ∙ sym code))))
           (cases_eq (slice_index b x) (slice_index (point m s) x))),
@@ -218,8 +219,8 @@ module _ (m : Machine) (below : Below) where
         → code < slice_index m.vars v → value (fixed_too fixed v) (point m (slice_set s v code)) b
         ≡ value fixed (point m s) (slice_set b v code)
     fixing_var s b code hs fit low_code =
-        let lb = fits_long (sizes_of m) b fit in
-        let ls = fits_long m.vars s hs in
+        let lb = length-fits (sizes_of m) b fit in
+        let ls = length-fits m.vars s hs in
         let n : length (sizes_of m) ≡ length m.vars + length m.results =
         length-append m.vars m.results in
         let hc = fits_set m.vars s v code hs low_code in
@@ -307,7 +308,7 @@ module _ (m : Machine) (below : Below) where
         length-append m.vars m.results in
         same_from fixed fixed (point m s) (point m t) (λ b fit.
         let code = slice_index b v in
-        let at = fits_at (sizes_of m) b v fit (omega arith) in
+        let at = below_size (sizes_of m) b v fit (omega arith) in
         let low : code < slice_index m.vars v = omega arith in
         let own : slice_set b v code ≡ b = set_own b v in
         ap (value fixed (point m s)) (sym own)

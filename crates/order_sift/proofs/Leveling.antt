@@ -1,5 +1,5 @@
 -- A level, by numbers for what is left.
-use Rattle.std.proofs.Common.{◌≡◌, ⊎_elim, ℕ, zero, suc, ◌<◌, ◌≤◌, Bool, true, false, cond, not, ltb, List, [], ◌∷◌, ◌&&◌, map, length, take, slice_index, slice_set, slice_get, Some, refl, ap, sym, ◌∙◌, arith, subst}
+use Rattle.std.proofs.Common.{◌≡◌, ⊎_elim, ℕ, zero, suc, ◌<◌, ◌≤◌, Bool, true, false, cond, not, ltb, List, ◌∷◌, ◌&&◌, map, length, take, slice_index, slice_set, refl, ap, sym, ◌∙◌, arith, subst, []}
 use Rattle.std.specs.Prelude.{filter}
 use Rattle.std.specs.List.{list_all}
 use Rattle.std.proofs.lemmas.Bool.{and_parts, and_from, cases_eq, cases_Bool, lt-ltb, ltb-true, true≢false}
@@ -12,23 +12,21 @@ use Rattle.transition_table.specs.Computed.{char}
 use Rattle.transition_table.specs.Orders.{sizes_of}
 use Rattle.decision_diagram.specs.Sets.{taking, arising, turns_at, depends_on, set_level}
 use Rattle.decision_diagram.specs.Truths.{same_truth}
-use Rattle.order_sift.specs.Below.{Below}
-use Rattle.order_sift.specs.Classes.{snapshot_at, point_at, left_at, AreClasses, AreMarks, matters, differing}
-use Rattle.order_sift.specs.Pairs.{AreBelow}
-use Rattle.order_sift.proofs.Codes.{fits_long, fits_at, fits_set, taking_is, taking_at, taking_long, taking_fits, cond_same, set_at, set_else, set_long, some_upto, length_upto}
+use Rattle.order_sift.specs.inner.Below.{Below}
+use Rattle.order_sift.specs.inner.Classes.{snapshot_at, point_at, left_at, AreClasses, AreMarks, matters, differing}
+use Rattle.order_sift.specs.inner.Pairs.{AreBelow}
+use Rattle.order_sift.proofs.Codes.{cond_same, set_at, set_long}
+use Rattle.char_function.proofs.Taking.{set_else, taking_is, taking_at, taking_long, taking_fits}
 use Rattle.order_sift.proofs.Differing.{has, same_items, by_numbers, all_kept, any_kept, some_item, any_item}
 use Rattle.order_sift.proofs.Leaving.{same_where_fixed}
 use Rattle.order_sift.proofs.Pointing.{point, point_fits, point_true, true_point, snapshot_of, snapshot_fits, at_rank, rank_low}
-
-all_get : {X : Type 0} (p : X → Bool) (xs : List X) (i : ℕ) (x : X) → list_all p xs ≡ true
-    → slice_get xs i ≡ Some x → p x ≡ true
-all_get p [] i x all is = cc
-all_get p (y ∷ xs) zero x all is = let e : y ≡ x = some_same is in
-    ap p (sym e) ∙ (and_parts (p y) (list_all p xs) all).0
-  where
-    some_same : Some y ≡ Some x → y ≡ x
-    some_same h = cc
-all_get p (y ∷ xs) (suc i) x all is = all_get p xs i x (and_parts (p y) (list_all p xs) all).1 is
+use Rattle.outcome_table.proofs.Lists.{all_get}
+use Rattle.domains.proofs.Ranks.{length-fits}
+use Rattle.transition_table.proofs.Ranges.{below_size}
+use Rattle.outcome_table.proofs.Rows.{fits_set}
+use Rattle.char_function.proofs.Supporting.{get_upto}
+use Rattle.decision_diagram.proofs.Along.{long_upto}
+use Rattle.decision_diagram.proofs.AllCodes.{not_true}
 
 pub all_upto : (n k : ℕ) → n ≤ k → list_all (λ i. ltb i k) (upto n) ≡ true
 all_upto zero k low = refl
@@ -62,16 +60,12 @@ apart_off true false h off = refl
 apart_off false false h off = absurd (true≢false (sym h))
 apart_off a true h off = absurd (true≢false off)
 
-not_on : (a : Bool) → not a ≡ true → a ≡ false
-not_on false h = refl
-not_on true h = absurd (true≢false (sym h))
-
 module _ (m : Machine) (below : Below) (fixed : ℕ → Bool) (x : ℕ) (lx : x < length (sizes_of m))
     (free : fixed x ≡ false) where
   setting : (a b : List ℕ) (code : ℕ) → fits (sizes_of m) b ≡ true
       → taking fixed a (slice_set b x code) ≡ slice_set (taking fixed a b) x code
   setting a b code fit =
-      let lb = fits_long (sizes_of m) b fit in
+      let lb = length-fits (sizes_of m) b fit in
       let lt = taking_long fixed a b in
       let ls = set_long b x code in
       taking_is fixed a (slice_set b x code) (slice_set (taking fixed a b) x code)
@@ -110,7 +104,7 @@ module _ (m : Machine) (below : Below) (fixed : ℕ → Bool) (x : ℕ) (lx : x 
         low = rank_low m below s hs;
         on = any_item (λ c. not (char m (slice_set (point_at m i) x c)))
             (upto (slice_index (sizes_of m) x)) code code
-            (some_upto (slice_index (sizes_of m) x) code low)
+            (get_upto (slice_index (sizes_of m) x) code low)
             (ap (λ (q : List ℕ). not (char m (slice_set q x code))) is ∙ ap not off);
         same = same ∙ ap (arising (char m) (sizes_of m) fixed) (sym is);
       }
@@ -135,8 +129,8 @@ module _ (m : Machine) (below : Below) (fixed : ℕ → Bool) (x : ℕ) (lx : x 
       two.2) in
       let u = taking fixed a b in
       let hu = taking_fits (sizes_of m) fixed a b ha hb in
-      let lu = fits_long (sizes_of m) u hu in
-      let lb = fits_long (sizes_of m) b hb in
+      let lu = length-fits (sizes_of m) u hu in
+      let lb = length-fits (sizes_of m) b hb in
       let set : taking fixed a (slice_set b x code) ≡ slice_set u x code = setting a b code hb in
       let apart : not (same_truth (char m (slice_set u x code)) (char m u)) ≡ true =
       ap (λ (q : List ℕ). not (same_truth (char m q) (char m u))) (sym set) ∙ two.3 in
@@ -153,7 +147,7 @@ module _ (m : Machine) (below : Below) (fixed : ℕ → Bool) (x : ℕ) (lx : x 
       let hset = fits_set (sizes_of m) u x code hu low in
       found a (slice_set u x code) own hset
       (apart_off (char m (slice_set u x code)) (char m u) apart off)
-      (fits_at (sizes_of m) u x hu lx) (ap (char m) (set_back u x code) ∙ off)
+      (below_size (sizes_of m) u x hu lx) (ap (char m) (set_back u x code) ∙ off)
       (same_where_fixed m below fixed a (slice_set u x code)
       (λ w lw f. fixed_part w lw f ∙ sym
       (set_else u x w code (λ e. true≢false (sym f ∙ ap fixed e ∙ free))))))
@@ -168,7 +162,7 @@ module _ (m : Machine) (below : Below) (fixed : ℕ → Bool) (x : ℕ) (lx : x 
       let size = slice_index (sizes_of m) x in
       let one = some_item (λ c. not (char m (slice_set p x c))) (upto size) on in
       let c = one.1 in
-      let off : char m (slice_set p x c) ≡ false = not_on (char m (slice_set p x c)) one.3 in
+      let off : char m (slice_set p x c) ≡ false = not_true (char m (slice_set p x c)) one.3 in
       let own : taking fixed p p ≡ p =
       taking_is fixed p p p refl (λ w l. cond_same (fixed w) (slice_index p w)) in
       let a : char m (taking fixed p (slice_set p x c)) ≡ false =
@@ -196,7 +190,7 @@ module _ (m : Machine) (below : Below) (fixed : ℕ → Bool) (x : ℕ) (lx : x 
       (all_codes (sizes_of m)) (below.lists_fit (sizes_of m)) (λ a ha on.
       let f = from_depends a ha on in
       any_kept (matters m x) (left_at m fixed) (T a) (upto n) f.number f.number
-      (some_upto n f.number f.low) f.on f.same))
+      (get_upto n f.number f.low) f.on f.same))
       (all_kept (λ i. ltb i n) (matters m x)
       (λ z. has z (map T (filter dep (all_codes (sizes_of m))))) (left_at m fixed) (upto n)
       upto_low (λ i low on.
@@ -211,6 +205,7 @@ module _ (m : Machine) (below : Below) (fixed : ℕ → Bool) (x : ℕ) (lx : x 
       ∙ ap (λ (ks : List ℕ). differing (map (slice_index classes) ks)) (sym signs)
 
 -- ---- the marks are snapshots, and not more than there are
+
 all_at : (p : ℕ → Bool) (xs : List ℕ) (i : ℕ) → i < length xs → list_all p xs ≡ true
     → p (slice_index xs i) ≡ true
 all_at p [] i low all = absurd (omega arith)
@@ -247,6 +242,6 @@ pub marks_few : (m : Machine) (x : ℕ) (marks : List ℕ) → AreMarks m x mark
 marks_few m x marks signs =
     let n = product m.vars in
     let few = filter_few (matters m x) (upto n) in
-    let l = length_upto n in
+    let l = long_upto n in
     let e = ap (λ (xs : List ℕ). length xs) signs in
     omega arith

@@ -1,9 +1,10 @@
 -- Levels of prefixes, and of what comes after them.
-use Rattle.std.proofs.Common.{◌≡◌, ℕ, ◌+◌, Bool, true, false, ◌||◌, eqb, List, [], ◌∷◌, ◌++◌, take, drop, refl, ap, sym, ◌∙◌, arith}
+use Rattle.std.proofs.Common.{◌≡◌, ℕ, ◌+◌, Bool, ◌||◌, List, ◌∷◌, ◌++◌, take, drop, refl, ap, sym, ◌∙◌, arith, []}
 use Rattle.std.proofs.lemmas.List.{append_assoc, append-nil}
 use Rattle.decision_diagram.specs.Laws.{SizeBySets}
 use Rattle.decision_diagram.specs.Sets.{stands, set_level, sum_of_levels}
 use Rattle.order_sift.specs.Laws.{LevelsOfSets, LevelsJoin, LevelsAfter, SizeWithItem}
+use Rattle.char_function.proofs.Supporting.{stands_both}
 
 pub levels_of_sets : LevelsOfSets
 levels_of_sets f sizes one other v same =
@@ -21,15 +22,6 @@ levels_join f sizes before (x ∷ xs) ys =
     ap (λ (prefix : List ℕ). sum_of_levels f sizes prefix ys)
     (append_assoc before (x ∷ []) xs) in
     omega arith
-
-pub stands_both : (xs ys : List ℕ) (v : ℕ) → stands (xs ++ ys) v ≡ (stands xs v || stands ys v)
-stands_both [] ys v = refl
-stands_both (x ∷ xs) ys v = ap (λ (b : Bool). eqb x v || b) (stands_both xs ys v)
-    ∙ assoc (eqb x v) (stands xs v) (stands ys v)
-  where
-    assoc : (a b c : Bool) → (a || (b || c)) ≡ ((a || b) || c)
-    assoc true b c = refl
-    assoc false b c = refl
 
 pub levels_after : LevelsAfter
 levels_after f sizes one other [] same = refl

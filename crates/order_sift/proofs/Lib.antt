@@ -1,19 +1,19 @@
-mod Belows
-mod Codes
-mod Counting
-mod Pointing
-mod Differing
-mod Filling
-mod Leaving
-mod Leveling
-mod Levels
-mod Prefixes
-mod Moving
-mod Preparing
-mod Ranging
-mod Settling
-mod Sizing
-mod Stepping
-mod Sweeping
-mod Keying
-mod Knowing
+pub mod Belows
+pub mod Codes
+pub mod Counting
+pub mod Pointing
+pub mod Differing
+pub mod Filling
+pub mod Leaving
+pub mod Leveling
+pub mod Levels
+pub mod Prefixes
+pub mod Moving
+pub mod Preparing
+pub mod Ranging
+pub mod AtBest
+pub mod Sizing
+pub mod Stepping
+pub mod Sweeping
+pub mod Keying
+pub mod Knowing

@@ -8,9 +8,12 @@ use Rattle.domains.specs.Tables.{fits, rank, product}
 use Rattle.transition_table.specs.declared.machine.Machine.{Machine}
 use Rattle.transition_table.specs.Computed.{char, result_codes, result_code}
 use Rattle.transition_table.specs.Orders.{sizes_of}
-use Rattle.order_sift.specs.Below.{Below}
-use Rattle.order_sift.specs.Classes.{snapshot_at}
-use Rattle.order_sift.proofs.Codes.{same_self, same_is, fits_long, fits_both, fits_take}
+use Rattle.order_sift.specs.inner.Below.{Below}
+use Rattle.order_sift.specs.inner.Classes.{snapshot_at}
+use Rattle.order_sift.proofs.Codes.{same_is}
+use Rattle.char_function.proofs.Pointing.{same_self}
+use Rattle.domains.proofs.Ranks.{length-fits}
+use Rattle.decision_diagram.proofs.Joined.{fits_both, fits_prefix}
 
 -- a snapshot and the codes of its results
 abbrev pub point : Machine → List ℕ → List ℕ
@@ -22,17 +25,17 @@ module _ (m : Machine) (below : Below) where
 
   pub point_var : (s : List ℕ) (w : ℕ) → fits m.vars s ≡ true → w < length m.vars
       → slice_index (point m s) w ≡ slice_index s w
-  point_var s w h low = let l = fits_long m.vars s h in
+  point_var s w h low = let l = length-fits m.vars s h in
       get_or_append_left s (result_codes m s) 0 w (omega arith)
 
   pub point_result : (s : List ℕ) (y : ℕ) → fits m.vars s ≡ true
       → slice_index (point m s) (length m.vars + y) ≡ result_code m y s
-  point_result s y h = ap (λ k. slice_index (point m s) (k + y)) (sym (fits_long m.vars s h))
+  point_result s y h = ap (λ k. slice_index (point m s) (k + y)) (sym (length-fits m.vars s h))
       ∙ get_or-append-add s (result_codes m s) y 0
 
   pub point_true : (s : List ℕ) → fits m.vars s ≡ true → char m (point m s) ≡ true
   point_true s h =
-      let l = fits_long m.vars s h in
+      let l = length-fits m.vars s h in
       let t : take (length m.vars) (point m s) ≡ s =
       ap (λ k. take k (point m s)) (sym l) ∙ take-append_seam s (result_codes m s) in
       let d : drop (length m.vars) (point m s) ≡ result_codes m s =
@@ -50,7 +53,7 @@ module _ (m : Machine) (below : Below) where
 
   pub snapshot_of : (q : List ℕ) → fits (sizes_of m) q ≡ true
       → fits m.vars (take (length m.vars) q) ≡ true
-  snapshot_of q h = fits_take m.vars m.results q h
+  snapshot_of q h = fits_prefix m.vars m.results q h
 
   -- ---- by numbers
   pub snapshot_some : (i : ℕ) → i < product m.vars

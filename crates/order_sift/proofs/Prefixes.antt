@@ -1,23 +1,16 @@
 -- Sets of items that stand before a place.
-use Rattle.std.proofs.Common.{◌≡◌, ⊎_elim, ℕ, zero, suc, ◌+◌, ◌<◌, ◌≤◌, Bool, true, false, ◌||◌, eqb, List, [], ◌∷◌, length, take, slice_index, refl, ap, sym, ◌∙◌, arith}
+use Rattle.std.proofs.Common.{◌≡◌, ℕ, zero, suc, ◌+◌, ◌<◌, ◌≤◌, Bool, true, false, ◌||◌, eqb, List, ◌∷◌, length, take, slice_index, refl, ap, sym, ◌∙◌, arith, []}
 use Rattle.std.specs.List.{insert}
-use Rattle.std.proofs.lemmas.Bool.{cases_Bool, eqb-true, eq-eqb, true≢false, false_from_ne_true}
+use Rattle.std.proofs.lemmas.Bool.{false_from_ne_true}
 use Rattle.domains.specs.Orders.{place, HavePlaces, OnePlace}
 use Rattle.transition_table.specs.declared.machine.Machine.{Machine}
 use Rattle.transition_table.specs.Laws.{SupportByTest}
 use Rattle.transition_table.specs.Orders.{Allowed}
 use Rattle.transition_table.specs.Transitions.{IsDeterministic}
 use Rattle.decision_diagram.specs.Sets.{stands}
-use Rattle.order_sift.specs.Classes.{IsNextItem}
+use Rattle.order_sift.specs.inner.Classes.{IsNextItem}
 use Rattle.order_sift.proofs.Ranging.{items}
-
-or_on : (a b : Bool) → b ≡ true → (a || b) ≡ true
-or_on true b h = refl
-or_on false b h = h
-
-or_first : (a b : Bool) → a ≡ true → (a || b) ≡ true
-or_first true b h = refl
-or_first false b h = absurd (true≢false (sym h))
+use Rattle.char_function.proofs.Taking.{stands_at, at_stands}
 
 swap_or : (a b c : Bool) → (a || (b || c)) ≡ (b || (a || c))
 swap_or true true c = refl
@@ -34,27 +27,6 @@ stands_insert (r ∷ rest) (suc j) zero x w low fits = absurd (omega arith)
 stands_insert (r ∷ rest) (suc j) (suc k) x w low fits =
     ap (λ b. eqb r w || b) (stands_insert rest j k x w (omega arith) (omega arith))
     ∙ swap_or (eqb r w) (eqb x w) (stands (take k rest) w)
-
--- what stands before a place stands at an earlier one
-stands_at : (xs : List ℕ) (b w : ℕ) → stands (take b xs) w ≡ true
-    → (a : ℕ) × (a < b) × (a < length xs) × (slice_index xs a ≡ w)
-stands_at xs zero w h = absurd (true≢false (sym h))
-stands_at [] (suc b) w h = absurd (true≢false (sym h))
-stands_at (x ∷ xs) (suc b) w h =
-    ⊎_elim
-    (λ on. (zero, omega arith, omega arith, eqb-true x w on))
-    (λ off. let r = stands_at xs b w (sym (ap (λ t. t || stands (take b xs) w) off) ∙ h) in
-    let l = r.1 in let m = r.2 in (suc r.0, omega arith, omega arith, r.3))
-    (cases_Bool (eqb x w))
-
-pub at_stands : (xs : List ℕ) (b a w : ℕ) → a < b → a < length xs → slice_index xs a ≡ w
-    → stands (take b xs) w ≡ true
-at_stands xs zero a w low inside is = absurd (omega arith)
-at_stands [] (suc b) a w low inside is = absurd (omega arith)
-at_stands (x ∷ xs) (suc b) zero w low inside is =
-    or_first (eqb x w) (stands (take b xs) w) (eq-eqb x w is)
-at_stands (x ∷ xs) (suc b) (suc a) w low inside is =
-    or_on (eqb x w) (stands (take b xs) w) (at_stands xs b a w (omega arith) (omega arith) is)
 
 -- the item at a place of an allowed order is the next one after those before it
 pub next_of : (m : Machine) (o : List ℕ) (b : ℕ) → HavePlaces → OnePlace → SupportByTest

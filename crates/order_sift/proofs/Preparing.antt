@@ -1,5 +1,5 @@
 -- What a machine's levels are counted from, by its table.
-use Rattle.std.proofs.Common.{◌≡◌, ⊎_elim, ℕ, zero, suc, ◌+◌, ◌-◌, ◌*◌, ◌<◌, ◌≤◌, Bool, true, false, not, ◌&&◌, ◌||◌, ◌==◌, eqb, nat_lt, nat_le, List, [], ◌∷◌, ◌++◌, length, take, drop, get_or, slice_index, slice_set, slice_get, Some, refl, ap, sym, ◌∙◌, arith, subst}
+use Rattle.std.proofs.Common.{◌≡◌, ⊎_elim, ℕ, zero, suc, ◌+◌, ◌-◌, ◌*◌, ◌<◌, ◌≤◌, true, false, not, ◌&&◌, ◌||◌, ◌==◌, eqb, nat_lt, nat_le, List, [], ◌∷◌, ◌++◌, length, take, drop, get_or, slice_index, slice_set, slice_get, Some, refl, ap, sym, ◌∙◌, arith, subst}
 use Rattle.std.specs.Prelude.{◌↔◌}
 use Rattle.std.specs.List.{list_all, list_any}
 use Rattle.std.proofs.lemmas.Bool.{and_parts, cases_eq, cases_lt, eq-eqb, ne_eqb, ltb-true, le-leb, leb-true, false_from_ne_true}
@@ -16,13 +16,18 @@ use Rattle.transition_table.specs.Computed.{char, result_code, result_codes}
 use Rattle.transition_table.specs.Orders.{sizes_of}
 use Rattle.outcome_table.specs.Outcomes.{IsTableOf}
 use Rattle.outcome_table.specs.declared.table.Table.{Table}
-use Rattle.order_sift.specs.Below.{Below}
-use Rattle.order_sift.specs.Classes.{snapshot_at, point_at, matters}
-use Rattle.order_sift.specs.Points.{AreOutcomes, AreVariables}
-use Rattle.order_sift.proofs.Codes.{same_self, same_is, fits_long, fits_at, set_at, some_upto}
+use Rattle.order_sift.specs.inner.Below.{Below}
+use Rattle.order_sift.specs.inner.Classes.{snapshot_at, point_at, matters}
+use Rattle.order_sift.specs.inner.Points.{AreOutcomes, AreVariables}
+use Rattle.order_sift.proofs.Codes.{same_is, set_at}
+use Rattle.char_function.proofs.Pointing.{same_self}
 use Rattle.order_sift.proofs.Differing.{any_item}
 use Rattle.order_sift.proofs.Pointing.{point, snapshot_fits}
 use Rattle.order_sift.proofs.Stepping.{neighbours}
+use Rattle.domains.proofs.Ranks.{length-fits}
+use Rattle.transition_table.proofs.Ranges.{below_size}
+use Rattle.char_function.proofs.Supporting.{get_upto}
+use Rattle.char_function.proofs.Varying.{any_same}
 
 -- ---- lists
 set_first : (xs ys : List ℕ) (v c : ℕ) → v < length xs
@@ -38,15 +43,6 @@ set_second [] ys k y c e = ap (λ (n : ℕ). slice_set ys n c) (let f : k ≡ y 
 set_second (x ∷ xs) ys zero y c e = absurd (omega arith)
 set_second (x ∷ xs) ys (suc k) y c e =
     ap (λ (zs : List ℕ). x ∷ zs) (set_second xs ys k y c (omega arith))
-
-pub any_upto : (p q : ℕ → Bool) (n : ℕ) → ((c : ℕ) → c < n → p c ≡ q c)
-    → list_any p (upto n) ≡ list_any q (upto n)
-any_upto p q zero same = refl
-any_upto p q (suc n) same =
-    list_any-append p (upto n) (n ∷ [])
-    ∙ ap (λ b. b || (p n || false)) (any_upto p q n (λ c low. same c (omega arith)))
-    ∙ ap (λ b. list_any q (upto n) || (b || false)) (same n (omega arith))
-    ∙ sym (list_any-append q (upto n) (n ∷ []))
 
 pub none_upto : (n : ℕ) → list_any (λ (c : ℕ). false) (upto n) ≡ false
 none_upto zero = refl
@@ -127,13 +123,13 @@ module _ (m : Machine) (below : Below) where
   pub codes_long : (i : ℕ) → i < product m.vars
       → length (result_codes m (snapshot_at m i)) ≡ length m.results
   codes_long i low = let hs = snapshot_fits m below i low in
-      fits_long m.results (result_codes m (snapshot_at m i))
+      length-fits m.results (result_codes m (snapshot_at m i))
       (below.results_fit m (snapshot_at m i) hs)
 
   pub code_low : (y i : ℕ) → are_sizes m.results ≡ true → y < length m.results → i < product m.vars
       → result_code m y (snapshot_at m i) < 33
   code_low y i sized ly li =
-      let low = fits_at m.results (result_codes m (snapshot_at m i)) y
+      let low = below_size m.results (result_codes m (snapshot_at m i)) y
       (below.results_fit m (snapshot_at m i) (snapshot_fits m below i li)) ly in
       let few = size_few m.results y sized ly in
       omega arith
@@ -211,7 +207,7 @@ module _ (m : Machine) (below : Below) where
       → char m (slice_set (point m s) v c)
       ≡ is_same (result_codes m (slice_set s v c)) (result_codes m s)
   char_with_var s v c hs low =
-      let l = fits_long m.vars s hs in
+      let l = length-fits m.vars s hs in
       let r = result_codes m s in
       let set = set_first s r v c (omega arith) in
       let long : length (slice_set s v c) ≡ length m.vars = set_long s v c ∙ l in
@@ -235,7 +231,7 @@ module _ (m : Machine) (below : Below) where
       → char m (slice_set (point m s) (length m.vars + y) c)
       ≡ is_same (result_codes m s) (slice_set (result_codes m s) y c)
   char_with_result s y c hs =
-      let l = fits_long m.vars s hs in
+      let l = length-fits m.vars s hs in
       let r = result_codes m s in
       let set = set_second s r (length m.vars + y) y c (ap (λ k. k + y) (sym l)) in
       let t : take (length m.vars) (s ++ slice_set r y c) ≡ s =
@@ -256,7 +252,7 @@ module _ (m : Machine) (below : Below) where
   matters_var outcomes codes v i are lv li code stride is size has =
       let wide : slice_index (sizes_of m) v ≡ slice_index m.vars v =
       get_or_append_left m.vars m.results 0 v lv in
-      any_upto (λ c. not
+      any_same (λ c. not
       (slice_index outcomes (i + c * stride - slice_index codes i * stride) == slice_index
       outcomes i)) (λ c. not (char m (slice_set (point_at m i) v c))) size
       (λ c lc. ap not (each c (omega arith)))
@@ -302,11 +298,11 @@ module _ (m : Machine) (below : Below) where
       let long = codes_long i li in
       let code = slice_index r y in
       let low : code < slice_index m.results y =
-      fits_at m.results r y (below.results_fit m s hs) ly in
+      below_size m.results r y (below.results_fit m s hs) ly in
       let wide : slice_index (sizes_of m) (length m.vars + y) ≡ slice_index m.results y =
       get_or-append-add m.vars m.results y 0 in
       two size code (omega arith)
-      ∙ any_upto (λ c. not (eqb code c))
+      ∙ any_same (λ c. not (eqb code c))
       (λ c. not (char m (slice_set (point_at m i) (length m.vars + y) c))) size
       (λ c lc. ap not (sym (char_with_result s y c hs ∙ same_with r y c (omega arith))))
       ∙ ap (λ (n : ℕ). list_any (λ c. not (char m (slice_set (point_at m i) (length m.vars + y) c)))
@@ -320,9 +316,9 @@ module _ (m : Machine) (below : Below) where
       two (suc (suc n)) zero low =
           le-leb 2 (suc (suc n)) (omega arith)
           ∙ sym (any_item (λ c. not (eqb 0 c)) (upto (suc (suc n))) 1 1
-          (some_upto (suc (suc n)) 1 (omega arith)) refl)
+          (get_upto (suc (suc n)) 1 (omega arith)) refl)
       two (suc (suc n)) (suc code) low =
           le-leb 2 (suc (suc n)) (omega arith)
           ∙ sym (any_item (λ c. not (eqb (suc code) c)) (upto (suc (suc n))) 0 0
-          (some_upto (suc (suc n)) 0 (omega arith))
+          (get_upto (suc (suc n)) 0 (omega arith))
           (ap not (ne_eqb (suc code) 0 (λ e. omega arith))))

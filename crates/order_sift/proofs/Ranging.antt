@@ -7,7 +7,7 @@ use Rattle.transition_table.specs.Orders.{Allowed, Support}
 use Rattle.decision_diagram.specs.Sets.{stands}
 use Rattle.char_function.specs.Supported.{AreSupports}
 use Rattle.order_sift.specs.Moves.{moved}
-use Rattle.order_sift.specs.Turns.{AreAllowedPlaces}
+use Rattle.order_sift.specs.inner.Turns.{AreAllowedPlaces}
 use Rattle.order_sift.proofs.Moving.{shift, shift_here, shift_low, shift_high, shift_rises, length_moved, moved_permutation, moved_place}
 
 pub items : (m : Machine) (order : List ℕ) → Allowed m order

@@ -8,7 +8,7 @@ use Rattle.char_function.specs.Laws.{HasSize, OneSize}
 use Rattle.char_function.specs.Orders.{first_order}
 use Rattle.char_function.specs.Sizes.{IsSize, Size}
 use Rattle.order_sift.specs.Sifting.{IsLeast, IsSifted}
-use Rattle.order_sift.specs.Turns.{NoneSmaller}
+use Rattle.order_sift.specs.inner.Turns.{NoneSmaller}
 
 pub is_size : HasSize → (m : Machine) (order : List ℕ) (count : ℕ) → IsDeterministic m
     → count ≡ Size m order → IsSize m order count

@@ -1,56 +1,18 @@
 -- Numbers for what is left after one more item is fixed, and before.
-use Rattle.std.proofs.Common.{◌≡◌, ℕ, zero, suc, ◌+◌, ◌-◌, ◌*◌, ◌<◌, ◌≤◌, Bool, true, false, ◌&&◌, ltb, nat_le, List, [], ◌∷◌, length, drop, get_or, slice_index, slice_set, ap, sym, ◌∙◌, arith, subst}
-use Rattle.std.proofs.lemmas.Bool.{and_parts, leb-true}
-use Rattle.domains.specs.Tables.{fits, product, rank, are_sizes}
+use Rattle.std.proofs.Common.{◌≡◌, ℕ, ◌+◌, ◌-◌, ◌*◌, ◌<◌, ◌≤◌, Bool, List, [], length, drop, get_or, slice_index, slice_set, ap, sym, ◌∙◌, arith, subst}
+use Rattle.domains.specs.Tables.{product, rank}
 use Rattle.transition_table.specs.declared.machine.Machine.{Machine}
 use Rattle.transition_table.specs.Computed.{char, result_code}
 use Rattle.transition_table.specs.Orders.{sizes_of}
 use Rattle.decision_diagram.specs.Sets.{arising}
-use Rattle.order_sift.specs.Below.{Below}
-use Rattle.order_sift.specs.Classes.{snapshot_at, AreClasses, IsNextItem, fixed_too}
-use Rattle.order_sift.specs.Pairs.{AreBelow}
-use Rattle.order_sift.specs.Points.{AreVariables, are_within}
-use Rattle.order_sift.proofs.Codes.{fits_set}
+use Rattle.order_sift.specs.inner.Below.{Below}
+use Rattle.order_sift.specs.inner.Classes.{snapshot_at, AreClasses, IsNextItem, fixed_too}
+use Rattle.order_sift.specs.inner.Pairs.{AreBelow}
+use Rattle.order_sift.specs.inner.Points.{AreVariables, are_within}
 use Rattle.order_sift.proofs.Leaving.{result_step, var_to, var_from}
 use Rattle.order_sift.proofs.Pointing.{point, point_result, snapshot_fits, snapshot_rank, at_rank, rank_low}
-
--- with another code the rank is as many strides further
-rank_set : (sizes codes : List ℕ) (v code : ℕ) → v < length sizes → fits sizes codes ≡ true
-    → rank sizes (slice_set codes v code) + slice_index codes v * product (drop (v + 1) sizes)
-    ≡ rank sizes codes + code * product (drop (v + 1) sizes)
-rank_set [] codes v code low h = absurd (omega arith)
-rank_set (size ∷ sizes) [] v code low h = absurd (no h)
-  where
-    no : false ≡ true → ⊥
-    no e = cc
-rank_set (size ∷ sizes) (c ∷ codes) zero code low h = omega arith
-rank_set (size ∷ sizes) (c ∷ codes) (suc v) code low h =
-    let parts = and_parts (ltb c size) (fits sizes codes) h in
-    let rest = rank_set sizes codes v code (omega arith) parts.1 in
-    let e : suc v + 1 ≡ suc (v + 1) = omega arith in
-    let d : product (drop (suc v + 1) (size ∷ sizes)) ≡ product (drop (v + 1) sizes) =
-    ap (λ k. product (drop k (size ∷ sizes))) e in
-    let one : slice_index codes v * product (drop (suc v + 1) (size ∷ sizes))
-    ≡ slice_index codes v * product (drop (v + 1) sizes) =
-    ap (λ k. slice_index codes v * k) d in
-    let two : code * product (drop (suc v + 1) (size ∷ sizes))
-    ≡ code * product (drop (v + 1) sizes) = ap (λ k. code * k) d in
-    omega arith
-
-pub drop_below : (sizes : List ℕ) (k : ℕ) → are_sizes sizes ≡ true
-    → product (drop k sizes) ≤ product sizes
-drop_below sizes zero h = omega arith
-drop_below [] (suc k) h = omega arith
-drop_below (size ∷ sizes) (suc k) h =
-    let both = and_parts (nat_le 1 size && nat_le size 33) (are_sizes sizes) h in
-    let one = leb-true 1 size (and_parts (nat_le 1 size) (nat_le size 33) both.0).0 in
-    let rest = drop_below sizes k both.1 in
-    let more = times size (product sizes) one in
-    omega arith
-  where
-    times : (a b : ℕ) → 1 ≤ a → b ≤ a * b
-    times zero b one = elim one [ ]
-    times (suc a) b one = grind arith
+use Rattle.outcome_table.proofs.Rows.{fits_set}
+use Rattle.char_function.proofs.Leaving.{rank_set}
 
 -- the snapshot with another code of a variable
 pub record IsNeighbour (m : Machine) (i v code : ℕ) : Type 0 where

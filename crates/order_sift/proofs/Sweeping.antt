@@ -12,19 +12,17 @@ use Rattle.transition_table.specs.Orders.{Allowed, sizes_of}
 use Rattle.transition_table.specs.Transitions.{IsDeterministic}
 use Rattle.decision_diagram.specs.Sets.{stands, set_level, sum_of_levels}
 use Rattle.char_function.specs.Sizes.{Size}
-use Rattle.order_sift.specs.Below.{BelowOrders}
-use Rattle.order_sift.specs.Chains.{levels_from}
-use Rattle.order_sift.specs.Classes.{AreClasses, IsNextItem, fixed_too}
+use Rattle.order_sift.specs.inner.Below.{BelowOrders}
+use Rattle.order_sift.specs.inner.Chains.{levels_from}
+use Rattle.order_sift.specs.inner.Classes.{AreClasses, IsNextItem, fixed_too}
 use Rattle.order_sift.specs.Moves.{moved}
-use Rattle.order_sift.proofs.Levels.{levels_join, levels_after, size_with_item, stands_both}
+use Rattle.order_sift.proofs.Levels.{levels_join, levels_after, size_with_item}
+use Rattle.char_function.proofs.Supporting.{stands_both}
 use Rattle.order_sift.proofs.Moving.{length_moved, moved_permutation}
 use Rattle.order_sift.proofs.Prefixes.{next_of, stands_insert}
+use Rattle.char_function.proofs.Windows.{or_false}
 
 -- ---- sets
-or_false : (t : Bool) → (t || false) ≡ t
-or_false true = refl
-or_false false = refl
-
 or_swap : (a b : Bool) → (a || b) ≡ (b || a)
 or_swap true true = refl
 or_swap true false = refl

@@ -1,10 +1,4 @@
 pub mod Moves
 pub mod Laws
 pub mod Sifting
-pub mod Turns
-pub mod Below
-pub mod Pairs
-pub mod Known
-pub mod Points
-pub mod Classes
-pub mod Chains
+pub mod inner

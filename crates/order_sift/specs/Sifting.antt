@@ -1,5 +1,6 @@
 -- What sifting gives.
 use Rattle.std.specs.Prelude.{◌≡◌, ℕ, ◌<◌, ◌≤◌, List}
+use Rattle.polis_base.specs.declared.limits.TheConstants.{SIFTED_SNAPSHOTS_MAX}
 use Rattle.domains.specs.Tables.{product}
 use Rattle.transition_table.specs.declared.machine.Machine.{Machine}
 use Rattle.transition_table.specs.Orders.{Allowed}
@@ -20,7 +21,7 @@ pub record IsSifted (m : Machine) (order : List ℕ) (first_count count : ℕ) :
   pub first : IsSize m (first_order m) first_count
   pub counted : IsSize m order count
   pub no_more : count ≤ first_count
-  pub large : 1024 < product m.vars → order ≡ first_order m
-  pub least : product m.vars ≤ 1024 → IsLeast m order count
-  pub stays : product m.vars ≤ 1024 → IsLeast m (first_order m) first_count
+  pub large : SIFTED_SNAPSHOTS_MAX < product m.vars → order ≡ first_order m
+  pub least : product m.vars ≤ SIFTED_SNAPSHOTS_MAX → IsLeast m order count
+  pub stays : product m.vars ≤ SIFTED_SNAPSHOTS_MAX → IsLeast m (first_order m) first_count
       → order ≡ first_order m

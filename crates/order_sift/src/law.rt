@@ -2,7 +2,7 @@
 ghost use Rattle.std.specs.Prelude.{◌+◌, ◌≤◌, length, IsTrue};
 ghost use Rattle.domains.specs.Tables.{are_sizes};
 ghost use Rattle.transition_table.specs.Orders.{sizes_of};
-ghost use Rattle.order_sift.specs.Below.{Below, BelowOrders};
+ghost use Rattle.order_sift.specs.inner.Below.{Below, BelowOrders};
 ghost use Rattle.order_sift.specs.Laws.{LevelsOfSets, LevelsJoin, LevelsAfter, SizeWithItem};
 
 use transition_table::Machine;

@@ -1,14 +1,10 @@
 // The sizes with one item at each of its places.
-ghost use Rattle.std.specs.Prelude.{◌≡◌, ◌+◌, ◌-◌, ◌<◌, ◌≤◌, ℕ, length, slice_index, IfOk};
-ghost use Rattle.domains.specs.Tables.{product};
-ghost use Rattle.transition_table.specs.Orders.{Allowed};
-ghost use Rattle.transition_table.specs.Transitions.{IsDeterministic};
+ghost use Rattle.std.specs.Prelude.{◌≡◌, ◌+◌, ◌<◌, ℕ, length, slice_index, IfOk};
 ghost use Rattle.char_function.specs.Sizes.{Size};
-ghost use Rattle.order_sift.specs.Chains.{IsChain, MayStand, AreSizes};
 ghost use Rattle.order_sift.specs.Moves.{moved};
-ghost use Rattle.order_sift.specs.Known.{AreKnown};
-ghost use Rattle.order_sift.specs.Pairs.{HasRoom};
-ghost use Rattle.order_sift.specs.Points.{IsPrepared};
+ghost use Rattle.order_sift.specs.inner.Chains.{AreSizes};
+ghost use Rattle.order_sift.specs.inner.Known.{AreKnown};
+ghost use Rattle.order_sift.specs.inner.Settings.{HasRoomAndSets, IsMoving, IsRange};
 
 use crate::chain::Chain;
 use crate::law::laws_of_levels;
@@ -16,7 +12,7 @@ use crate::places::PlaceRange;
 use crate::points::Points;
 use crate::sets::{Known, first_items, level_after, numbers_of, with};
 use decision_diagram::Order;
-use polis_base::{NoMemory, Numbers, Places};
+use polis_base::{List, NoMemory, Numbers};
 use std::alloc::Global;
 use transition_table::Machine;
 
@@ -38,18 +34,12 @@ fn fill_before(
     known: &mut Known,
     i: u64,
     first: u64,
-    sizes: &mut Places,
+    sizes: &mut List<u64>,
 ) -> Result<(), NoMemory>
-    requires few { product moving.now.machine.now.vars ≤ 1024 }
-    requires prepared { IsPrepared moving.now.machine.now moving.now.points.now }
-    requires room { HasRoom (product moving.now.machine.now.vars) seen.old }
-    requires known { AreKnown moving.now.machine.now known.old }
-    requires sure { IsDeterministic moving.now.machine.now }
-    requires allowed { Allowed moving.now.machine.now moving.now.order.now }
-    requires chain { IsChain moving.now.machine.now moving.now.order.now moving.now.chain.now }
-    requires i { i < length moving.now.order.now }
-    requires first { first ≤ i }
-    requires places { MayStand moving.now.machine.now moving.now.order.now i first i }
+    requires moving { IsMoving moving.now.machine.now moving.now.points.now moving.now.order.now
+        moving.now.chain.now }
+    requires sets { HasRoomAndSets moving.now.machine.now seen.old known.old }
+    requires range { IsRange moving.now.machine.now moving.now.order.now i first i }
     requires long { i < length sizes.old + first }
     requires own { AreSizes moving.now.machine.now moving.now.order.now i first sizes.old i i }
     ensures known { IfOk result (λ done. AreKnown moving.now.machine.now known.new) }
@@ -92,19 +82,12 @@ fn fill_after(
     known: &mut Known,
     i: u64,
     range: PlaceRange,
-    sizes: &mut Places,
+    sizes: &mut List<u64>,
 ) -> Result<(), NoMemory>
-    requires few { product moving.now.machine.now.vars ≤ 1024 }
-    requires prepared { IsPrepared moving.now.machine.now moving.now.points.now }
-    requires room { HasRoom (product moving.now.machine.now.vars) seen.old }
-    requires known { AreKnown moving.now.machine.now known.old }
-    requires sure { IsDeterministic moving.now.machine.now }
-    requires allowed { Allowed moving.now.machine.now moving.now.order.now }
-    requires chain { IsChain moving.now.machine.now moving.now.order.now moving.now.chain.now }
-    requires first { range.first ≤ i }
-    requires i { i ≤ range.last }
-    requires last { range.last < length moving.now.order.now }
-    requires places { MayStand moving.now.machine.now moving.now.order.now i i range.last }
+    requires moving { IsMoving moving.now.machine.now moving.now.points.now moving.now.order.now
+        moving.now.chain.now }
+    requires sets { HasRoomAndSets moving.now.machine.now seen.old known.old }
+    requires range { IsRange moving.now.machine.now moving.now.order.now i range.first range.last }
     requires long { length sizes.old + range.first ≡ range.last + 1 }
     requires own { AreSizes moving.now.machine.now moving.now.order.now i range.first sizes.old
         range.first i }
@@ -149,19 +132,11 @@ pub(crate) fn sizes_at(
     known: &mut Known,
     i: u64,
     range: PlaceRange,
-) -> Result<Places, NoMemory>
-    requires few { product moving.now.machine.now.vars ≤ 1024 }
-    requires prepared { IsPrepared moving.now.machine.now moving.now.points.now }
-    requires room { HasRoom (product moving.now.machine.now.vars) seen.old }
-    requires known { AreKnown moving.now.machine.now known.old }
-    requires sure { IsDeterministic moving.now.machine.now }
-    requires allowed { Allowed moving.now.machine.now moving.now.order.now }
-    requires chain { IsChain moving.now.machine.now moving.now.order.now moving.now.chain.now }
-    requires first { range.first ≤ i }
-    requires i { i ≤ range.last }
-    requires last { range.last < length moving.now.order.now }
-    requires places { MayStand moving.now.machine.now moving.now.order.now i range.first
-        range.last }
+) -> Result<List<u64>, NoMemory>
+    requires moving { IsMoving moving.now.machine.now moving.now.points.now moving.now.order.now
+        moving.now.chain.now }
+    requires sets { HasRoomAndSets moving.now.machine.now seen.old known.old }
+    requires range { IsRange moving.now.machine.now moving.now.order.now i range.first range.last }
     ensures known { IfOk result (λ sizes. AreKnown moving.now.machine.now known.new) }
     ensures long { IfOk result (λ sizes. length sizes + range.first ≡ range.last + 1) }
     ensures each { IfOk result (λ sizes. (k : ℕ) → k < length sizes
@@ -171,7 +146,7 @@ pub(crate) fn sizes_at(
     laws_of_levels(moving.machine);
     let items = moving.order.len();
     let whole = *moving.chain.backs.get(items);
-    let mut sizes = Places::filled(moving.alloc, range.last + 1 - range.first, whole)?;
+    let mut sizes = List::filled(moving.alloc, range.last + 1 - range.first, whole)?;
     fill_before(moving, seen, known, i, range.first, &mut sizes)?;
     fill_after(moving, seen, known, i, range, &mut sizes)?;
     Ok(sizes)

@@ -1,7 +1,8 @@
 // Numbers for pairs of numbers.
 ghost use Rattle.std.specs.Prelude.{◌≡◌, ◌↔◌, ◌+◌, ◌-◌, ◌*◌, ◌<◌, ◌≤◌, ℕ, length, slice_index, IfOk};
-ghost use Rattle.order_sift.specs.Pairs.{pair_at, AreBelow, HasRoom};
-ghost use Rattle.order_sift.specs.Points.{are_within};
+ghost use Rattle.polis_base.specs.declared.limits.TheConstants.{SIFTED_SNAPSHOTS_MAX};
+ghost use Rattle.order_sift.specs.inner.Pairs.{pair_at, AreBelow, AreNumbersFor, ArePairs, HasRoom};
+ghost use Rattle.order_sift.specs.inner.Points.{are_within};
 
 use polis_base::{NoMemory, Numbers};
 use std::alloc::Global;
@@ -11,7 +12,7 @@ const CODES: usize = 33;
 
 /// Room for the pairs of so many places.
 pub(crate) fn room_for(alloc: Global, places: usize) -> Result<Vec<u16>, NoMemory>
-    requires { places ≤ 1024 }
+    requires { places ≤ SIFTED_SNAPSHOTS_MAX }
     ensures { IfOk result (λ room. HasRoom places room.items) }
 {
     let room = vec![in alloc; 0; places * (places + CODES)]?;
@@ -22,15 +23,10 @@ pub(crate) fn room_for(alloc: Global, places: usize) -> Result<Vec<u16>, NoMemor
 // stands one stride before it and of what stands there. What is seen under a pair that no place so
 // far has is of no account.
 fn first_with(seen: &mut [u16], one: &[u32], other: &[u32], stride: usize, i: usize) -> usize
-    requires room { HasRoom (length one.now) seen.old }
-    requires few { length one.now ≤ 1024 }
-    requires long { length other.now ≡ length one.now }
-    requires one_below { AreBelow (length one.now) one.now }
-    requires other_below { AreBelow (length one.now + 33) other.now }
+    requires pairs { ArePairs one.now other.now seen.old }
     requires early { stride ≤ i }
     requires place { i < length one.now }
-    ensures within { result ≤ i }
-    ensures early { stride ≤ result }
+    ensures range { (stride ≤ result) × (result ≤ i) }
     ensures is { pair_at one.now other.now stride result ≡ pair_at one.now other.now stride i }
     ensures seen { slice_index seen.new (pair_at one.now other.now stride i) ≡ result }
     ensures kept { (k : ℕ) → (k ≡ pair_at one.now other.now stride i → ⊥)
@@ -54,7 +50,7 @@ fn first_with(seen: &mut [u16], one: &[u32], other: &[u32], stride: usize, i: us
 
 /// Two places get the same number exactly where both their numbers are the same. What is seen
 /// before doesn't matter.
-pub(crate) fn joined(
+pub(crate) fn paired(
     alloc: Global,
     seen: &mut [u16],
     one: &[u32],
@@ -62,7 +58,7 @@ pub(crate) fn joined(
 ) -> Result<Numbers, NoMemory>
     requires room { HasRoom (length one.now) seen.old }
     requires long { length other.now ≡ length one.now }
-    requires few { length one.now ≤ 1024 }
+    requires few { length one.now ≤ SIFTED_SNAPSHOTS_MAX }
     requires one_below { AreBelow (length one.now) one.now }
     requires other_below { AreBelow (length one.now + 33) other.now }
     ensures long { IfOk result (λ made. length made ≡ length one.now) }
@@ -92,13 +88,12 @@ pub(crate) fn chained(
     stride: usize,
 ) -> Result<Numbers, NoMemory>
     requires room { HasRoom (length classes.now) seen.old }
-    requires few { length classes.now ≤ 1024 }
+    requires few { length classes.now ≤ SIFTED_SNAPSHOTS_MAX }
     requires long { length codes.now ≡ length classes.now }
     requires stride { 0 < stride }
     requires within { are_within codes.now stride 0 }
     requires below { AreBelow (length classes.now) classes.now }
-    ensures long { IfOk result (λ made. length made ≡ length classes.now) }
-    ensures below { IfOk result (AreBelow (length classes.now)) }
+    ensures numbers { IfOk result (AreNumbersFor (length classes.now)) }
     ensures first { IfOk result (λ made. (i : ℕ) → i < length classes.now
         → slice_index codes.now i ≡ 0 → slice_index made i ≡ slice_index classes.now i) }
     ensures more { IfOk result (λ made. (i j : ℕ) → i < length classes.now

@@ -5,7 +5,7 @@ ghost use Rattle.domains.specs.Orders.{place};
 ghost use Rattle.transition_table.specs.Orders.{Allowed, sizes_of};
 ghost use Rattle.decision_diagram.specs.Sets.{stands};
 ghost use Rattle.char_function.specs.Supported.{AreSupports};
-ghost use Rattle.order_sift.specs.Turns.{AreAllowedPlaces};
+ghost use Rattle.order_sift.specs.inner.Turns.{AreAllowedPlaces};
 
 use char_function::Supports;
 use decision_diagram::Order;

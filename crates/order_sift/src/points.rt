@@ -1,25 +1,24 @@
 // What a machine's levels are counted from.
 ghost use Rattle.std.specs.Prelude.{◌≡◌, ◌↔◌, ◌+◌, ◌-◌, ◌*◌, ◌<◌, ◌≤◌, ◌==◌, ◌||◌, cond, not, ℕ, Bool, true, false, [], length, map, get_or, slice_index, IfOk};
+ghost use Rattle.polis_base.specs.declared.limits.TheConstants.{SIFTED_SNAPSHOTS_MAX};
 ghost use Rattle.std.specs.List.{list_any};
 ghost use Rattle.polis_base.specs.Lists.{upto};
 ghost use Rattle.domains.specs.Tables.{product};
 ghost use Rattle.transition_table.specs.Computed.{char};
 ghost use Rattle.transition_table.specs.Orders.{sizes_of};
 ghost use Rattle.decision_diagram.specs.Sets.{set_level};
-ghost use Rattle.order_sift.specs.Classes.{AreClasses, IsNextItem, fixed_too, differing};
-ghost use Rattle.order_sift.specs.Pairs.{AreBelow, HasRoom};
-ghost use Rattle.order_sift.specs.Points.{IsPrepared};
+ghost use Rattle.order_sift.specs.inner.Classes.{AreClasses, IsNextItem, fixed_too, differing};
+ghost use Rattle.order_sift.specs.inner.Pairs.{AreBelow, AreNumbersFor, HasRoom};
+ghost use Rattle.order_sift.specs.inner.Points.{IsPrepared};
 
 use crate::law::laws_below;
-use crate::pairs::{chained, joined};
+use crate::pairs::{chained, paired};
 use domains::Codes;
 use outcome_table::lists_from;
+use polis_base::limits::SIFTED_SNAPSHOTS_MAX;
 use polis_base::{List, NoMemory, Numbers};
 use std::alloc::Global;
 use transition_table::Machine;
-
-/// The most snapshots that a machine may have for its order to be sifted.
-pub(crate) const SIFTED_SNAPSHOTS: u64 = 1024;
 
 /// A machine on its snapshots, in their order.
 #[derive(Drop)]
@@ -37,17 +36,15 @@ pub(crate) struct Points {
 
 // Gives each snapshot the number of the one that has a variable's last code.
 fn take_last(numbers: &mut Numbers, codes: &[u8], stride: usize, last: u8)
-    requires few { length codes.now ≤ 1024 }
-    requires long { length numbers.old ≡ length codes.now }
+    requires few { length codes.now ≤ SIFTED_SNAPSHOTS_MAX }
     requires some { 0 < stride }
-    requires stride { stride ≤ 1024 }
+    requires stride { stride ≤ SIFTED_SNAPSHOTS_MAX }
     requires most { (i : ℕ) → i < length codes.now → slice_index codes.now i ≤ last }
     requires steps { (i : ℕ) → i < length codes.now → slice_index codes.now i < last
         → (i + stride < length codes.now)
         × (slice_index codes.now (i + stride) ≡ slice_index codes.now i + 1) }
-    requires below { AreBelow (length codes.now) numbers.old }
-    ensures long { length numbers.new ≡ length codes.now }
-    ensures below { AreBelow (length codes.now) numbers.new }
+    requires numbers { AreNumbersFor (length codes.now) numbers.old }
+    ensures numbers { AreNumbersFor (length codes.now) numbers.new }
     ensures each { (i : ℕ) → i < length codes.now → slice_index numbers.new i
         ≡ slice_index numbers.old (i + last * stride - slice_index codes.now i * stride) }
 {
@@ -76,13 +73,13 @@ fn meet(met: &mut [bool], number: u32) -> u64
 
 // How many different numbers the marked snapshots have.
 fn level(classes: &[u32], marks: &[u32]) -> u64
-    requires few { length classes.now ≤ 1024 }
+    requires few { length classes.now ≤ SIFTED_SNAPSHOTS_MAX }
     requires below { AreBelow (length classes.now) classes.now }
     requires marks { AreBelow (length classes.now) marks.now }
     ensures differing { result ≡ differing (map (slice_index classes.now) marks.now) }
     ensures few { result ≤ length marks.now }
 {
-    let mut met = [false; SIFTED_SNAPSHOTS as usize];
+    let mut met = [false; SIFTED_SNAPSHOTS_MAX as usize];
     let mut count = 0;
     for i in 0..marks.len() {
         count += meet(&mut met, classes[marks[i] as usize]);
@@ -99,16 +96,14 @@ fn free_variable(
     classes: &Numbers,
     v: u32,
 ) -> Result<Numbers, NoMemory>
-    requires few { product m.now.vars ≤ 1024 }
+    requires few { product m.now.vars ≤ SIFTED_SNAPSHOTS_MAX }
     requires prepared { IsPrepared m.now points.now }
     requires room { HasRoom (product m.now.vars) seen.old }
-    requires long { length classes.now ≡ product m.now.vars }
-    requires below { AreBelow (product m.now.vars) classes.now }
+    requires numbers { AreNumbersFor (product m.now.vars) classes.now }
     requires var { v < length m.now.vars }
     ensures classes { IfOk result (λ made. (fixed : ℕ → Bool) → IsNextItem m.now fixed v
         → AreClasses m.now (fixed_too fixed v) classes.now → AreClasses m.now fixed made) }
-    ensures long { IfOk result (λ made. length made ≡ product m.now.vars) }
-    ensures below { IfOk result (AreBelow (product m.now.vars)) }
+    ensures numbers { IfOk result (AreNumbersFor (product m.now.vars)) }
 {
     laws_below();
     let _ = m.var_count();
@@ -130,22 +125,20 @@ fn free_result(
     classes: &Numbers,
     y: u32,
 ) -> Result<Numbers, NoMemory>
-    requires few { product m.now.vars ≤ 1024 }
+    requires few { product m.now.vars ≤ SIFTED_SNAPSHOTS_MAX }
     requires prepared { IsPrepared m.now points.now }
     requires room { HasRoom (product m.now.vars) seen.old }
-    requires long { length classes.now ≡ product m.now.vars }
-    requires below { AreBelow (product m.now.vars) classes.now }
+    requires numbers { AreNumbersFor (product m.now.vars) classes.now }
     requires result { y < length m.now.results }
     ensures classes { IfOk result (λ made. (fixed : ℕ → Bool)
         → IsNextItem m.now fixed (length m.now.vars + y)
         → AreClasses m.now (fixed_too fixed (length m.now.vars + y)) classes.now
         → AreClasses m.now fixed made) }
-    ensures long { IfOk result (λ made. length made ≡ product m.now.vars) }
-    ensures below { IfOk result (AreBelow (product m.now.vars)) }
+    ensures numbers { IfOk result (AreNumbersFor (product m.now.vars)) }
 {
     laws_below();
     let codes = points.results.get(u64::from(y));
-    let made = joined(alloc, seen, classes.as_slice(), codes.as_slice())?;
+    let made = paired(alloc, seen, classes.as_slice(), codes.as_slice())?;
     Ok(made)
 }
 
@@ -158,16 +151,14 @@ pub(crate) fn freed(
     classes: &Numbers,
     item: u32,
 ) -> Result<Numbers, NoMemory>
-    requires few { product m.now.vars ≤ 1024 }
+    requires few { product m.now.vars ≤ SIFTED_SNAPSHOTS_MAX }
     requires prepared { IsPrepared m.now points.now }
     requires room { HasRoom (product m.now.vars) seen.old }
-    requires long { length classes.now ≡ product m.now.vars }
-    requires below { AreBelow (product m.now.vars) classes.now }
+    requires numbers { AreNumbersFor (product m.now.vars) classes.now }
     requires item { item < length m.now.vars + length m.now.results }
     ensures classes { IfOk result (λ made. (fixed : ℕ → Bool) → IsNextItem m.now fixed item
         → AreClasses m.now (fixed_too fixed item) classes.now → AreClasses m.now fixed made) }
-    ensures long { IfOk result (λ made. length made ≡ product m.now.vars) }
-    ensures below { IfOk result (AreBelow (product m.now.vars)) }
+    ensures numbers { IfOk result (AreNumbersFor (product m.now.vars)) }
 {
     let vars = m.var_count();
     if item < vars {
@@ -179,14 +170,13 @@ pub(crate) fn freed(
 
 /// The level of an item after those that are fixed, by the numbers for what these leave.
 pub(crate) fn level_of(m: &Machine, points: &Points, classes: &Numbers, item: u32) -> u64
-    requires few { product m.now.vars ≤ 1024 }
+    requires few { product m.now.vars ≤ SIFTED_SNAPSHOTS_MAX }
     requires prepared { IsPrepared m.now points.now }
-    requires long { length classes.now ≡ product m.now.vars }
-    requires below { AreBelow (product m.now.vars) classes.now }
+    requires numbers { AreNumbersFor (product m.now.vars) classes.now }
     requires item { item < length m.now.vars + length m.now.results }
     ensures level { (fixed : ℕ → Bool) → fixed item ≡ false → AreClasses m.now fixed classes.now
         → result ≡ set_level (char m.now) (sizes_of m.now) fixed item }
-    ensures few { result ≤ 1024 }
+    ensures few { result ≤ SIFTED_SNAPSHOTS_MAX }
 {
     laws_below();
     let place = u64::from(item);

@@ -1,16 +1,17 @@
 // Making what a machine's levels are counted from.
 ghost use Rattle.std.specs.Prelude.{◌≡◌, ◌↔◌, ◌+◌, ◌-◌, ◌*◌, ◌<◌, ◌≤◌, ◌==◌, not, ℕ, [], length, get_or, slice_index, IfOk};
+ghost use Rattle.polis_base.specs.declared.limits.TheConstants.{SIFTED_SNAPSHOTS_MAX};
 ghost use Rattle.std.specs.List.{list_any};
 ghost use Rattle.polis_base.specs.Lists.{upto};
 ghost use Rattle.domains.specs.Tables.{product};
 ghost use Rattle.transition_table.specs.Computed.{result_code};
 ghost use Rattle.outcome_table.specs.Outcomes.{AreColumns, IsTableOf};
-ghost use Rattle.order_sift.specs.Classes.{snapshot_at, AreMarks};
-ghost use Rattle.order_sift.specs.Pairs.{AreBelow, HasRoom};
-ghost use Rattle.order_sift.specs.Points.{IsPrepared, AreOutcomes, AreResults, AreVariables, are_within};
+ghost use Rattle.order_sift.specs.inner.Classes.{snapshot_at, AreMarks};
+ghost use Rattle.order_sift.specs.inner.Pairs.{AreBelow, HasRoom};
+ghost use Rattle.order_sift.specs.inner.Points.{IsPrepared, AreOutcomes, AreResults, AreVariables, are_within};
 
 use crate::law::laws_below;
-use crate::pairs::joined;
+use crate::pairs::paired;
 use crate::points::Points;
 use domains::Codes;
 use outcome_table::{Table, lists_from};
@@ -60,7 +61,7 @@ fn outcome_numbers(
     results: &List<Numbers>,
     snapshots: u64,
 ) -> Result<Numbers, NoMemory>
-    requires few { product m.now.vars ≤ 1024 }
+    requires few { product m.now.vars ≤ SIFTED_SNAPSHOTS_MAX }
     requires snapshots { snapshots ≡ product m.now.vars }
     requires room { HasRoom (product m.now.vars) seen.old }
     requires results { AreResults m.now results.now }
@@ -71,7 +72,7 @@ fn outcome_numbers(
     for y in 0..results.len() {
         let before = made.as_slice();
         let after = results.get(y).as_slice();
-        let next = joined(alloc, seen, before, after)?;
+        let next = paired(alloc, seen, before, after)?;
         made = next;
     }
     Ok(made)
@@ -79,8 +80,8 @@ fn outcome_numbers(
 
 // The snapshot that has another code of a variable.
 fn neighbour(i: usize, old: u8, new: u8, stride: usize) -> usize
-    requires stride { stride ≤ 1024 }
-    requires place { i < 1024 }
+    requires stride { stride ≤ SIFTED_SNAPSHOTS_MAX }
+    requires place { i < SIFTED_SNAPSHOTS_MAX }
     requires within { old * stride ≤ i + new * stride }
     ensures { result ≡ i + new * stride - old * stride }
 {
@@ -89,8 +90,8 @@ fn neighbour(i: usize, old: u8, new: u8, stride: usize) -> usize
 
 // Whether the snapshot with some other code of a variable has another outcome.
 fn differs(outcomes: &[u32], codes: &[u8], stride: usize, size: u8, i: usize) -> bool
-    requires few { length outcomes.now ≤ 1024 }
-    requires stride { stride ≤ 1024 }
+    requires few { length outcomes.now ≤ SIFTED_SNAPSHOTS_MAX }
+    requires stride { stride ≤ SIFTED_SNAPSHOTS_MAX }
     requires long { length codes.now ≡ length outcomes.now }
     requires within { (code : ℕ) → code < size → are_within codes.now stride code }
     requires place { i < length outcomes.now }
@@ -115,7 +116,7 @@ fn marks_of_variable(
     outcomes: &Numbers,
     v: u64,
 ) -> Result<Numbers, NoMemory>
-    requires few { product m.now.vars ≤ 1024 }
+    requires few { product m.now.vars ≤ SIFTED_SNAPSHOTS_MAX }
     requires variables { AreVariables m.now codes.now }
     requires outcomes { AreOutcomes m.now outcomes.now }
     requires var { v < length m.now.vars }
@@ -138,7 +139,7 @@ fn marks_of_variable(
 
 // The snapshots on which a result matters: all, if it has two codes.
 fn marks_of_result(alloc: Global, m: &Machine, snapshots: u64, y: u64) -> Result<Numbers, NoMemory>
-    requires few { product m.now.vars ≤ 1024 }
+    requires few { product m.now.vars ≤ SIFTED_SNAPSHOTS_MAX }
     requires snapshots { snapshots ≡ product m.now.vars }
     requires result { y < length m.now.results }
     ensures { IfOk result (AreMarks m.now (length m.now.vars + y)) }
@@ -162,7 +163,7 @@ fn marks_of(
     outcomes: &Numbers,
     item: u64,
 ) -> Result<Numbers, NoMemory>
-    requires few { product m.now.vars ≤ 1024 }
+    requires few { product m.now.vars ≤ SIFTED_SNAPSHOTS_MAX }
     requires variables { AreVariables m.now codes.now }
     requires outcomes { AreOutcomes m.now outcomes.now }
     requires item { item < length m.now.vars + length m.now.results }
@@ -183,7 +184,7 @@ fn all_marks(
     codes: &List<Codes>,
     outcomes: &Numbers,
 ) -> Result<List<Numbers>, NoMemory>
-    requires few { product m.now.vars ≤ 1024 }
+    requires few { product m.now.vars ≤ SIFTED_SNAPSHOTS_MAX }
     requires variables { AreVariables m.now codes.now }
     requires outcomes { AreOutcomes m.now outcomes.now }
     ensures wide { IfOk result (λ marks. length marks ≡ length m.now.vars + length m.now.results) }
@@ -207,7 +208,7 @@ pub(crate) fn prepare(
     seen: &mut [u16],
 ) -> Result<Points, NoMemory>
     requires table { IsTableOf m.now table.now }
-    requires few { product m.now.vars ≤ 1024 }
+    requires few { product m.now.vars ≤ SIFTED_SNAPSHOTS_MAX }
     requires room { HasRoom (product m.now.vars) seen.old }
     ensures { IfOk result (IsPrepared m.now) }
 {

@@ -1,15 +1,16 @@
 // What is known of sets of items while a machine's order is sifted.
 ghost use Rattle.std.specs.Prelude.{◌≡◌, ◌+◌, ◌<◌, ◌≤◌, ℕ, false, Some, length, take, slice_get, slice_index, IfOk};
+ghost use Rattle.polis_base.specs.declared.limits.TheConstants.{SIFTED_SNAPSHOTS_MAX};
 ghost use Rattle.domains.specs.Tables.{product};
 ghost use Rattle.transition_table.specs.Computed.{char};
 ghost use Rattle.transition_table.specs.Orders.{sizes_of};
 ghost use Rattle.decision_diagram.specs.Sets.{stands, set_level};
-ghost use Rattle.order_sift.specs.Classes.{AreClasses, IsNextItem, fixed_too};
-ghost use Rattle.order_sift.specs.Pairs.{HasRoom};
-ghost use Rattle.order_sift.specs.Points.{IsPrepared};
+ghost use Rattle.order_sift.specs.inner.Classes.{AreClasses, IsNextItem, fixed_too};
+ghost use Rattle.order_sift.specs.inner.Pairs.{HasRoom};
+ghost use Rattle.order_sift.specs.inner.Points.{IsPrepared};
 ghost use Rattle.order_sift.specs.declared.sets.KnownLevel.{KnownLevel};
 ghost use Rattle.order_sift.specs.declared.sets.KnownNumbers.{KnownNumbers};
-ghost use Rattle.order_sift.specs.Known.{in_set, AreKnown};
+ghost use Rattle.order_sift.specs.inner.Known.{in_set, AreKnown};
 
 use crate::points::{Points, freed, level_of};
 use decision_diagram::Order;
@@ -117,7 +118,7 @@ pub(crate) fn numbers_of(
     classes: &Numbers,
     item: u32,
 ) -> Result<Numbers, NoMemory>
-    requires few { product m.now.vars ≤ 1024 }
+    requires few { product m.now.vars ≤ SIFTED_SNAPSHOTS_MAX }
     requires prepared { IsPrepared m.now points.now }
     requires room { HasRoom (product m.now.vars) seen.old }
     requires known { AreKnown m.now known.old }
@@ -153,7 +154,7 @@ pub(crate) fn level_after(
     classes: &Numbers,
     item: u32,
 ) -> Result<u64, NoMemory>
-    requires few { product m.now.vars ≤ 1024 }
+    requires few { product m.now.vars ≤ SIFTED_SNAPSHOTS_MAX }
     requires prepared { IsPrepared m.now points.now }
     requires known { AreKnown m.now known.old }
     requires item { item < length m.now.vars + length m.now.results }
@@ -161,7 +162,7 @@ pub(crate) fn level_after(
     requires classes { AreClasses m.now (in_set set) classes.now }
     ensures level { IfOk result (λ level.
         level ≡ set_level (char m.now) (sizes_of m.now) (in_set set) item) }
-    ensures few { IfOk result (λ level. level ≤ 1024) }
+    ensures few { IfOk result (λ level. level ≤ SIFTED_SNAPSHOTS_MAX) }
     ensures known { IfOk result (λ level. AreKnown m.now known.new) }
 {
     let place = place_of_level(&known.levels, set, item);

@@ -1,5 +1,6 @@
 // Sifting.
 ghost use Rattle.std.specs.Prelude.{◌≡◌, ◌+◌, ◌-◌, ◌<◌, ◌≤◌, ℕ, length, slice_index, IfOk};
+ghost use Rattle.polis_base.specs.declared.limits.TheConstants.{SIFTED_SNAPSHOTS_MAX};
 ghost use Rattle.domains.specs.Orders.{place};
 ghost use Rattle.domains.specs.Tables.{product};
 ghost use Rattle.transition_table.specs.Orders.{Allowed};
@@ -8,26 +9,27 @@ ghost use Rattle.outcome_table.specs.Outcomes.{IsTableOf};
 ghost use Rattle.char_function.specs.Orders.{first_order};
 ghost use Rattle.char_function.specs.Roots.{IsDiagramOf};
 ghost use Rattle.char_function.specs.Supported.{AreSupports};
-ghost use Rattle.order_sift.specs.Chains.{IsChain};
 ghost use Rattle.order_sift.specs.Moves.{moved};
-ghost use Rattle.order_sift.specs.Known.{AreKnown};
-ghost use Rattle.order_sift.specs.Pairs.{HasRoom};
-ghost use Rattle.order_sift.specs.Points.{IsPrepared};
+ghost use Rattle.order_sift.specs.inner.Known.{AreKnown};
+ghost use Rattle.order_sift.specs.inner.Pairs.{HasRoom};
+ghost use Rattle.order_sift.specs.inner.Points.{IsPrepared};
 ghost use Rattle.order_sift.specs.Sifting.{IsSifted};
-ghost use Rattle.order_sift.specs.Turns.{AreAllowedPlaces, IsCounted, IsSettled, NoneSmaller, StaysOrFalls};
+ghost use Rattle.order_sift.specs.inner.Settings.{IsAt, IsSifting};
+ghost use Rattle.order_sift.specs.inner.Turns.{IsAtBest, NoneSmaller, StaysOrFalls};
 
 use crate::chain::{Chain, chain_of};
 use crate::law::laws_of_levels;
 use crate::moves::{Moving, sizes_at};
 use crate::pairs::room_for;
 use crate::places::allowed_places;
-use crate::points::{Points, SIFTED_SNAPSHOTS};
+use crate::points::Points;
 use crate::prepare::prepare;
 use crate::sets::{Known, nothing_known};
 use char_function::{Supports, diagram, first_order, supports_in};
 use decision_diagram::{Order, Root};
 use outcome_table::{Table, table_of};
 use polis_base::NoMemory;
+use polis_base::limits::SIFTED_SNAPSHOTS_MAX;
 use std::alloc::Global;
 use transition_table::Machine;
 
@@ -102,31 +104,24 @@ fn place_of_least(numbers: &[u64]) -> usize
 }
 
 // Moves an item to the first allowed place of the least size, if that is smaller.
-fn settle(
+fn sift_item(
     sifting: &Sifting,
     seen: &mut [u16],
     known: &mut Known,
     item: u32,
     at: &mut Counted,
 ) -> Result<(), NoMemory>
-    requires sure { IsDeterministic sifting.now.machine.now }
-    requires supports { AreSupports sifting.now.machine.now sifting.now.supports.now }
-    requires few { product sifting.now.machine.now.vars ≤ 1024 }
-    requires prepared { IsPrepared sifting.now.machine.now sifting.now.points.now }
+    requires sifting { IsSifting sifting.now.machine.now sifting.now.supports.now
+        sifting.now.points.now }
     requires room { HasRoom (product sifting.now.machine.now.vars) seen.old }
-    requires known { AreKnown sifting.now.machine.now known.old }
-    requires counted { IsCounted sifting.now.machine.now at.old.order at.old.count }
-    requires chain { IsChain sifting.now.machine.now at.old.order at.old.chain }
+    requires at { IsAt sifting.now.machine.now known.old at.old.order at.old.count at.old.chain }
     requires item { item < length at.old.order }
-    ensures counted { IfOk result (λ done.
-        IsCounted sifting.now.machine.now at.new.order at.new.count) }
-    ensures known { IfOk result (λ done. AreKnown sifting.now.machine.now known.new) }
-    ensures chain { IfOk result (λ done.
-        IsChain sifting.now.machine.now at.new.order at.new.chain) }
+    ensures at { IfOk result (λ done.
+        IsAt sifting.now.machine.now known.new at.new.order at.new.count at.new.chain) }
     ensures falls { IfOk result (λ done.
         StaysOrFalls sifting.now.machine.now at.old.order at.new.order at.old.count at.new.count) }
-    ensures settled { IfOk result (λ done. at.new.count ≡ at.old.count
-        → IsSettled sifting.now.machine.now at.new.order item) }
+    ensures best { IfOk result (λ done. at.new.count ≡ at.old.count
+        → IsAtBest sifting.now.machine.now at.new.order item) }
 {
     domains::laws_of_orders();
     let i = at.order.place_of(item);
@@ -182,20 +177,13 @@ fn turn(
     first: u32,
     at: &mut Counted,
 ) -> Result<u32, NoMemory>
-    requires sure { IsDeterministic sifting.now.machine.now }
-    requires supports { AreSupports sifting.now.machine.now sifting.now.supports.now }
-    requires few { product sifting.now.machine.now.vars ≤ 1024 }
-    requires prepared { IsPrepared sifting.now.machine.now sifting.now.points.now }
+    requires sifting { IsSifting sifting.now.machine.now sifting.now.supports.now
+        sifting.now.points.now }
     requires room { HasRoom (product sifting.now.machine.now.vars) seen.old }
-    requires known { AreKnown sifting.now.machine.now known.old }
-    requires counted { IsCounted sifting.now.machine.now at.old.order at.old.count }
-    requires chain { IsChain sifting.now.machine.now at.old.order at.old.chain }
+    requires at { IsAt sifting.now.machine.now known.old at.old.order at.old.count at.old.chain }
     requires first { first ≤ length at.old.order }
-    ensures counted { IfOk result (λ next.
-        IsCounted sifting.now.machine.now at.new.order at.new.count) }
-    ensures known { IfOk result (λ next. AreKnown sifting.now.machine.now known.new) }
-    ensures chain { IfOk result (λ next.
-        IsChain sifting.now.machine.now at.new.order at.new.chain) }
+    ensures at { IfOk result (λ next.
+        IsAt sifting.now.machine.now known.new at.new.order at.new.count at.new.chain) }
     ensures falls { IfOk result (λ next.
         StaysOrFalls sifting.now.machine.now at.old.order at.new.order at.old.count at.new.count) }
     ensures least { IfOk result (λ next. at.new.count ≡ at.old.count
@@ -207,7 +195,7 @@ fn turn(
     for k in 0..items {
         let item = item_after(first, k, items);
         let before = at.count;
-        settle(sifting, seen, known, item, at)?;
+        sift_item(sifting, seen, known, item, at)?;
         if at.count != before {
             return Ok(item + 1);
         }
@@ -216,25 +204,18 @@ fn turn(
 }
 
 // Takes turns until nothing falls.
-fn settle_all(
+fn sift_items(
     sifting: &Sifting,
     seen: &mut [u16],
     known: &mut Known,
     at: &mut Counted,
 ) -> Result<(), NoMemory>
-    requires sure { IsDeterministic sifting.now.machine.now }
-    requires supports { AreSupports sifting.now.machine.now sifting.now.supports.now }
-    requires few { product sifting.now.machine.now.vars ≤ 1024 }
-    requires prepared { IsPrepared sifting.now.machine.now sifting.now.points.now }
+    requires sifting { IsSifting sifting.now.machine.now sifting.now.supports.now
+        sifting.now.points.now }
     requires room { HasRoom (product sifting.now.machine.now.vars) seen.old }
-    requires known { AreKnown sifting.now.machine.now known.old }
-    requires counted { IsCounted sifting.now.machine.now at.old.order at.old.count }
-    requires chain { IsChain sifting.now.machine.now at.old.order at.old.chain }
-    ensures counted { IfOk result (λ done.
-        IsCounted sifting.now.machine.now at.new.order at.new.count) }
-    ensures known { IfOk result (λ done. AreKnown sifting.now.machine.now known.new) }
-    ensures chain { IfOk result (λ done.
-        IsChain sifting.now.machine.now at.new.order at.new.chain) }
+    requires at { IsAt sifting.now.machine.now known.old at.old.order at.old.count at.old.chain }
+    ensures at { IfOk result (λ done.
+        IsAt sifting.now.machine.now known.new at.new.order at.new.count at.new.chain) }
     ensures falls { IfOk result (λ done.
         StaysOrFalls sifting.now.machine.now at.old.order at.new.order at.old.count at.new.count) }
     ensures least { IfOk result (λ done. NoneSmaller sifting.now.machine.now at.new.order) }
@@ -271,15 +252,13 @@ fn counted_first(
     order: Order,
 ) -> Result<Counted, NoMemory>
     requires sure { IsDeterministic m.now }
-    requires few { product m.now.vars ≤ 1024 }
+    requires few { product m.now.vars ≤ SIFTED_SNAPSHOTS_MAX }
     requires prepared { IsPrepared m.now points.now }
     requires room { HasRoom (product m.now.vars) seen.old }
     requires known { AreKnown m.now known.old }
     requires allowed { Allowed m.now order }
     ensures order { IfOk result (λ at. at.order ≡ order) }
-    ensures counted { IfOk result (λ at. IsCounted m.now at.order at.count) }
-    ensures known { IfOk result (λ at. AreKnown m.now known.new) }
-    ensures chain { IfOk result (λ at. IsChain m.now at.order at.chain) }
+    ensures at { IfOk result (λ at. IsAt m.now known.new at.order at.count at.chain) }
 {
     laws_of_levels(m);
     let chain = chain_of(alloc, m, points, seen, known, &order)?;
@@ -300,7 +279,7 @@ fn sifted_from(
     order: Order,
 ) -> Result<Sifted, NoMemory>
     requires sure { IsDeterministic m.now }
-    requires few { product m.now.vars ≤ 1024 }
+    requires few { product m.now.vars ≤ SIFTED_SNAPSHOTS_MAX }
     requires table { IsTableOf m.now table.now }
     requires supports { AreSupports m.now supports.now }
     requires first { order ≡ first_order m.now }
@@ -319,7 +298,7 @@ fn sifted_from(
         supports,
         points: &points,
     };
-    settle_all(&sifting, seen, &mut known, &mut at)?;
+    sift_items(&sifting, seen, &mut known, &mut at)?;
     char_function::laws();
     Ok(Sifted {
         order: at.order,
@@ -343,7 +322,7 @@ pub fn sift_diagram(alloc: Global, m: &Machine) -> Result<SiftedDiagram, NoMemor
     let table = table_of(alloc, m)?;
     let supports = supports_in(alloc, m, &table)?;
     let order = first_order(alloc, m, &supports)?;
-    if snapshot_count(m) > SIFTED_SNAPSHOTS {
+    if snapshot_count(m) > SIFTED_SNAPSHOTS_MAX {
         let root = diagram(alloc, m, &table, &supports, &order)?;
         let count = root.store.count(root.node)?;
         let sifted = Sifted {

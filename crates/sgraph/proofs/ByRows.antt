@@ -1,6 +1,5 @@
 -- The value of an exact root, by the function that reads the rows.
-use Rattle.std.proofs.Common.{◌≡◌, ℕ, Bool, true, false, List, refl, sym, subst}
-use Rattle.std.proofs.lemmas.Bool.{true≢false}
+use Rattle.std.proofs.Common.{◌≡◌, ℕ, true, List, subst}
 use Rattle.domains.specs.Tables.{fits}
 use Rattle.transition_table.specs.declared.machine.Machine.{Machine}
 use Rattle.transition_table.specs.Computed.{char}
@@ -9,6 +8,7 @@ use Rattle.transition_table.specs.Orders.{sizes_of, Allowed}
 use Rattle.transition_table.specs.Transitions.{IsDeterministic}
 use Rattle.decision_diagram.specs.Diagrams.{Diagrams, AreReduced, Means, value_of}
 use Rattle.sgraph.specs.Built.{IsDiagram}
+use Rattle.decision_diagram.proofs.Counting.{iff_same}
 
 -- the root's value is the function that reads the rows
 pub record IsDiagramByRows (m : Machine) (s : Diagrams) (root : ℕ) : Type 0 where
@@ -17,11 +17,6 @@ pub record IsDiagramByRows (m : Machine) (s : Diagrams) (root : ℕ) : Type 0 wh
   pub sizes : s.sizes ≡ sizes_of m
   pub allowed : Allowed m s.order
   pub means : Means s root (char m)
-
-same_truth : (a b : Bool) → (a ≡ true → b ≡ true) → (b ≡ true → a ≡ true) → a ≡ b
-same_truth true b there back = sym (there refl)
-same_truth false true there back = absurd (true≢false (sym (back refl)))
-same_truth false false there back = refl
 
 pub by_rows : CharByTest → (m : Machine) (s : Diagrams) (root : ℕ) → IsDiagram m s root
     → IsDiagramByRows m s root
@@ -37,7 +32,7 @@ by_rows test m s root d = record {
         subst (λ (xs : List ℕ). fits xs codes ≡ true) d.sizes fit in
         let own = d.exact codes fit_too in
         let rows = test m codes d.sure fit_too in
-        same_truth (value_of s root codes) (char m codes) (λ on. rows.1 (own.0 on))
+        iff_same (value_of s root codes) (char m codes) (λ on. rows.1 (own.0 on))
         (λ on. own.1 (rows.0 on));
   };
 }

@@ -1,7 +1,6 @@
 -- In an allowed order a result is decided by the variables before it.
-use Rattle.std.proofs.Common.{◌≡◌, ℕ, ◌+◌, ◌<◌, true, List, [], ◌∷◌, ◌++◌, length, take, drop, slice_index, Some, refl, ap, sym, ◌∙◌, arith, ltb, get_or-drop, get_or-take, length-append}
+use Rattle.std.proofs.Common.{◌≡◌, ℕ, ◌+◌, ◌<◌, true, List, length, take, drop, slice_index, Some, ap, sym, ◌∙◌, arith, get_or-drop, get_or-take, length-append}
 use Rattle.std.specs.Cmp.Lexicographic.{same_text}
-use Rattle.std.proofs.lemmas.Bool.{and_parts, and_from, true≢false}
 use Rattle.domains.specs.Tables.{fits}
 use Rattle.transition_table.specs.declared.machine.Machine.{Machine}
 use Rattle.domains.specs.Orders.{place}
@@ -10,26 +9,9 @@ use Rattle.decision_diagram.specs.Leading.{LeadTo, Decided, OneCode}
 use Rattle.transition_table.specs.Computed.{char, result_codes}
 use Rattle.transition_table.specs.Orders.{sizes_of}
 use Rattle.sgraph.proofs.ByRows.{IsDiagramByRows}
-use Rattle.sgraph.proofs.Positions.{place_below, at_place}
+use Rattle.domains.proofs.Places.{place_below, at_place}
 use Rattle.sgraph.proofs.Known.{Below}
-
-pub fits_prefix : (xs ys codes : List ℕ) → fits (xs ++ ys) codes ≡ true
-    → fits xs (take (length xs) codes) ≡ true
-fits_prefix [] ys codes h = refl
-fits_prefix (x ∷ xs) ys [] h = h
-fits_prefix (x ∷ xs) ys (code ∷ codes) h =
-    let parts = and_parts (ltb code x) (fits (xs ++ ys) codes) h in
-    and_from (ltb code x) (fits xs (take (length xs) codes)) parts.0
-    (fits_prefix xs ys codes parts.1)
-
-pub fits_both : (xs ys a b : List ℕ) → fits xs a ≡ true → fits ys b ≡ true
-    → fits (xs ++ ys) (a ++ b) ≡ true
-fits_both [] ys [] b ha hb = hb
-fits_both [] ys (c ∷ a) b ha hb = absurd (true≢false (sym ha))
-fits_both (x ∷ xs) ys [] b ha hb = absurd (true≢false (sym ha))
-fits_both (x ∷ xs) ys (c ∷ a) b ha hb =
-    let parts = and_parts (ltb c x) (fits xs a) ha in
-    and_from (ltb c x) (fits (xs ++ ys) (a ++ b)) parts.0 (fits_both xs ys a b parts.1 hb)
+use Rattle.decision_diagram.proofs.Joined.{fits_prefix}
 
 -- where the characteristic function is true, a result has its code
 pub char_code : (m : Machine) (codes : List ℕ) (y : ℕ) → char m codes ≡ true

@@ -19,21 +19,20 @@ use Rattle.sgraph.specs.Graphs.{kids_of, key_of, are_same, varies, is_reduced, d
 use Rattle.sgraph.specs.Built.{Built}
 use Rattle.sgraph.proofs.ByRows.{IsDiagramByRows}
 use Rattle.sgraph.specs.Walks.{FitsMachine}
-use Rattle.sgraph.proofs.Mapping.{all_map, long_map}
-use Rattle.sgraph.proofs.Decides.{char_code, fits_prefix, fits_both, one_code}
-use Rattle.sgraph.proofs.Evaluated.{reaches_kid, not_low, char_there}
-use Rattle.sgraph.proofs.Fitting.{fits_long, fits_set, fits_zeros}
+use Rattle.decision_diagram.proofs.AllCodes.{all_map}
+use Rattle.domains.proofs.AllCodes.{long_map}
+use Rattle.sgraph.proofs.Decides.{char_code, one_code}
+use Rattle.decision_diagram.proofs.Joined.{fits_prefix, fits_both, reaches_child}
+use Rattle.sgraph.proofs.Evaluated.{not_low, char_there}
+use Rattle.decision_diagram.proofs.Fitting.{fits_set}
 use Rattle.decision_diagram.specs.Leading.{led, OneCode}
 use Rattle.sgraph.proofs.Known.{HasResults}
-use Rattle.sgraph.proofs.Prefixes.{led_codes, led_value, some_kid, mixed, mixed_fits, mixed_prefix, mixed_value}
-use Rattle.sgraph.proofs.Nodes.{none_low, cases_inner, inner_low, inner_within}
-use Rattle.sgraph.proofs.Positions.{place_of_item}
-use Rattle.sgraph.proofs.Values.{level_none, level_some, level_below, value_inner}
-
-prefix_item : (xs ys : List ℕ) (v : ℕ) → v < length xs → slice_index (xs ++ ys) v ≡ slice_index xs v
-prefix_item [] ys v low = absurd (omega arith)
-prefix_item (x ∷ xs) ys zero low = refl
-prefix_item (x ∷ xs) ys (suc v) low = prefix_item xs ys v (omega arith)
+use Rattle.decision_diagram.proofs.Prefixes.{led_codes, led_value, some_kid, mixed, mixed_fits, mixed_prefix, mixed_value}
+use Rattle.decision_diagram.proofs.Nodes.{cases_inner, inner_low, none_low, inner_within}
+use Rattle.domains.proofs.Places.{place_of_item}
+use Rattle.decision_diagram.proofs.Values.{level_none, level_some, level_below, value_inner}
+use Rattle.domains.proofs.Ranks.{length-fits, fits-zeros}
+use Rattle.decision_diagram.proofs.Along.{index_append}
 
 node_of_kid : (s : Diagrams) → AreReduced s → (n : ℕ) (node : Node) (c : ℕ)
     → inner_at s.nodes n ≡ Some node → c < length node.kids → IsNode s (slice_index node.kids c)
@@ -44,6 +43,7 @@ node_of_kid s ok n node c is low =
     omega arith
 
 -- ---- no child of a variable's node is False
+
 module _ (m : Machine) (s : Diagrams) (root : ℕ) (d : IsDiagramByRows m s root) (has : HasResults m) where
   -- another code of a variable leaves the results before it as they are
   turned_agrees : (one : List ℕ) (v c : ℕ) → fits s.sizes one ≡ true → value_of s root one ≡ true
@@ -64,12 +64,12 @@ module _ (m : Machine) (s : Diagrams) (root : ℕ) (d : IsDiagramByRows m s root
       let fit_too : fits (sizes_of m) one ≡ true = rw (← d.sizes) fit in
       let fit_snap : fits m.vars snap ≡ true = fits_prefix m.vars m.results one fit_too in
       let long_snap : length turned ≡ n =
-      fits_long m.vars turned (fits_set m.vars snap fit_snap v c hc) in
+      length-fits m.vars turned (fits_set m.vars snap fit_snap v c hc) in
       let own = place_of_item s.order d.reduced.order j inside in
       let holds_char : char m one ≡ true = sym (d.means.value one fit) ∙ holds in
       ⊎_elim
       (λ var.
-      prefix_item turned (result_codes m turned) u (omega arith)
+      index_append turned (result_codes m turned) u (omega arith)
       ∙ get_or-set_other snap v u c 0 (λ same. let f = ap (place s.order) same in
       absurd (omega arith))
       ∙ get_or-take n one u 0 var)
@@ -107,7 +107,7 @@ module _ (m : Machine) (s : Diagrams) (root : ℕ) (d : IsDiagramByRows m s root
       let var : node.var < length s.sizes = good.var in
       let kids : length node.kids ≡ slice_index s.sizes node.var = good.kids in
       let own_size : slice_index s.sizes node.var ≡ slice_index m.vars node.var =
-      ap (λ (xs : List ℕ). slice_index xs v) d.sizes ∙ prefix_item m.vars m.results v hv in
+      ap (λ (xs : List ℕ). slice_index xs v) d.sizes ∙ index_append m.vars m.results v hv in
       let below : i < length s.order = level_below s ok n node is in
       let own_level : i ≡ place s.order node.var = level_some s n node is in
       let led_there = has.below.led s root n ok there in
@@ -136,7 +136,7 @@ module _ (m : Machine) (s : Diagrams) (root : ℕ) (d : IsDiagramByRows m s root
       (has.fit turned fit_turned)) in
       let true_other : value_of s root other ≡ true =
       d.means.value other fit_other ∙ char_there m turned
-      (fits_long m.vars turned fit_turned) in
+      (length-fits m.vars turned fit_turned) in
       let led_one : led s i other root ≡ n =
       led_codes s i root other a (omega arith)
       (λ j less. turned_agrees one v c fit_one true_one hv hc j (omega arith) (omega arith)
@@ -145,10 +145,10 @@ module _ (m : Machine) (s : Diagrams) (root : ℕ) (d : IsDiagramByRows m s root
       let at_n : value_of s root other ≡ value_of s n other =
       led_value s ok i root other (rw led_one (omega arith))
       ∙ ap (λ (k : ℕ). value_of s k other) led_one in
-      let long_snap = fits_long m.vars snap fit_snap in
-      let long_turned = fits_long m.vars turned fit_turned in
+      let long_snap = length-fits m.vars snap fit_snap in
+      let long_turned = length-fits m.vars turned fit_turned in
       let own : slice_index other v ≡ c =
-      prefix_item turned (result_codes m turned) v (omega arith)
+      index_append turned (result_codes m turned) v (omega arith)
       ∙ get_or-set_same snap v c 0 (omega arith) in
       not_low s (slice_index node.kids c) other
       (sym (at_n ∙ value_inner s ok n node other is (omega arith)
@@ -157,7 +157,7 @@ module _ (m : Machine) (s : Diagrams) (root : ℕ) (d : IsDiagramByRows m s root
   pub root_true : root ≢ 0
   root_true =
       let zeros : List ℕ = replicate (length s.sizes) 0 in
-      let fit_zeros : fits s.sizes zeros ≡ true = fits_zeros s.sizes d.reduced.sizes in
+      let fit_zeros : fits s.sizes zeros ≡ true = fits-zeros s.sizes d.reduced.sizes in
       let snap : List ℕ = take (length m.vars) zeros in
       let fit_snap : fits m.vars snap ≡ true =
       fits_prefix m.vars m.results zeros
@@ -168,7 +168,7 @@ module _ (m : Machine) (s : Diagrams) (root : ℕ) (d : IsDiagramByRows m s root
       (fits_both m.vars m.results snap (result_codes m snap) fit_snap
       (has.fit snap fit_snap)) in
       not_low s root both (d.means.value both fit_both
-      ∙ char_there m snap (fits_long m.vars snap fit_snap))
+      ∙ char_there m snap (length-fits m.vars snap fit_snap))
 
 module _ (m : Machine) (s : Diagrams) (root : ℕ) (d : IsDiagramByRows m s root) where
   pub reached_node : (n : ℕ) → Reaches s root n → IsNode s n
@@ -207,14 +207,14 @@ all_from p (x ∷ xs) h =
     and_from (p x) (list_all p xs) (h 0 (omega arith))
     (all_from p xs (λ k low. h (suc k) (omega arith)))
 
-each_vertex : (p : Vertex → Bool) (g : List Vertex)
+pub each_vertex : (p : Vertex → Bool) (g : List Vertex)
     → ((k : ℕ) (v : Vertex) → slice_get g k ≡ Some v → p v ≡ true) → list_all p g ≡ true
 each_vertex p [] h = refl
 each_vertex p (v ∷ vs) h =
     and_from (p v) (list_all p vs) (h 0 v refl) (each_vertex p vs (λ k w is. h (suc k) w is))
 
 -- ---- vertices as lists of numbers
-same_vertex : (u v : Vertex) → key_of u ≡ key_of v → u ≡ v
+pub same_vertex : (u v : Vertex) → key_of u ≡ key_of v → u ≡ v
 same_vertex (Begin next) (Begin other) e = let f = ap (λ xs. slice_index xs 1) e in ap Begin f
 same_vertex (Begin next) (Test var kids) e =
     absurd (let f = ap (λ xs. slice_index xs 0) e in omega arith)
@@ -245,7 +245,7 @@ same_vertex End (Assign result code next) e =
     absurd (let f = ap (λ xs. slice_index xs 0) e in omega arith)
 same_vertex End End e = refl
 
-found_key : (v : Vertex) (vs : List Vertex) → list_any (is_same (key_of v)) (map key_of vs) ≡ true
+pub found_key : (v : Vertex) (vs : List Vertex) → list_any (is_same (key_of v)) (map key_of vs) ≡ true
     → (j : ℕ) × (slice_get vs j ≡ Some v)
 found_key v [] h = absurd (true≢false (sym h))
 found_key v (w ∷ vs) h =
@@ -254,7 +254,7 @@ found_key v (w ∷ vs) h =
     (λ later. let rest = found_key v vs later in (suc (rest.0), rest.1))
     (or_cases (is_same (key_of v) (key_of w)) (list_any (is_same (key_of v)) (map key_of vs)) h)
 
-distinct_keys : (vs : List Vertex)
+pub distinct_keys : (vs : List Vertex)
     → ((i j : ℕ) (v : Vertex) → slice_get vs i ≡ Some v → slice_get vs j ≡ Some v → i ≡ j)
     → are_distinct (map key_of vs) ≡ true
 distinct_keys [] once = refl
@@ -376,7 +376,7 @@ module _ (m : Machine) (s : Diagrams) (root : ℕ) (g : List Vertex) (number : �
       ∙ all_from (λ k. ltb (depth (length m.vars) s.order (Some v))
       (depth (length m.vars) s.order (slice_get g (number k)))) node.kids (λ c low.
       let kid = slice_index node.kids c in
-      let e = depth_there kid (reaches_kid s root n node c there is low) (some c low) in
+      let e = depth_there kid (reaches_child s root n node c there is low) (some c low) in
       let l = level_some s n node is in
       let later : place s.order node.var < level_of s kid =
       (d.reduced.nodes n node is).later c low in
@@ -385,7 +385,7 @@ module _ (m : Machine) (s : Diagrams) (root : ℕ) (g : List Vertex) (number : �
   deeper n v there (assigns node y c is var low some only e) =
       let own = depth_of n v (assigns node y c is var low some only e) in
       let kid = slice_index node.kids c in
-      let f = depth_there kid (reaches_kid s root n node c there is low) some in
+      let f = depth_there kid (reaches_child s root n node c there is low) some in
       let l = level_some s n node is in
       let later : place s.order node.var < level_of s kid =
       (d.reduced.nodes n node is).later c low in
@@ -466,8 +466,8 @@ module _ (m : Machine) (s : Diagrams) (root : ℕ) (g : List Vertex) (number : �
       d.reduced.unique a b node other ni ni_too same_var
       (same_number_lists node.kids other.kids long (λ k low.
       built.apart (slice_index node.kids k) (slice_index other.kids k)
-      (reaches_kid s root a node k ra ni low)
-      (reaches_kid s root b other k rb ni_too (omega arith)) (some k low)
+      (reaches_child s root a node k ra ni low)
+      (reaches_child s root b other k rb ni_too (omega arith)) (some k low)
       (some_too k (omega arith)) (at.1 k low)))
   one_node a b v ra rb (assigns node y c ni var low some only e)
       (assigns other z f ni_too var_too low_too some_too only_too e_too) =
@@ -482,7 +482,7 @@ module _ (m : Machine) (s : Diagrams) (root : ℕ) (g : List Vertex) (number : �
       let sizes = ap (slice_index s.sizes) same_var in
       let long : length node.kids ≡ length other.kids = omega arith in
       let kid = built.apart (slice_index node.kids c) (slice_index other.kids f)
-      (reaches_kid s root a node c ra ni low) (reaches_kid s root b other f rb ni_too low_too)
+      (reaches_child s root a node c ra ni low) (reaches_child s root b other f rb ni_too low_too)
       some some_too same_kid in
       d.reduced.unique a b node other ni ni_too same_var
       (same_number_lists node.kids other.kids long (λ k inside.
@@ -543,8 +543,8 @@ module _ (m : Machine) (s : Diagrams) (root : ℕ) (g : List Vertex) (number : �
       ap varies e ∙ ap not (false_from_ne_true (are_same (map number node.kids)) (λ on.
       (d.reduced.nodes n node ni).varied (slice_index node.kids 0) (λ c low.
       built.apart (slice_index node.kids c) (slice_index node.kids 0)
-      (reaches_kid s root n node c there ni low)
-      (reaches_kid s root n node 0 there ni (omega arith)) (some c low) (some 0 (omega arith))
+      (reaches_child s root n node c there ni low)
+      (reaches_child s root n node 0 there ni (omega arith)) (some c low) (some 0 (omega arith))
       (all_one node.kids on c low))))
     where
       rest_one : (k : ℕ) (xs : List ℕ) → list_all (λ j. eqb j k) (map number xs) ≡ true → (c : ℕ)
@@ -589,7 +589,7 @@ module _ (m : Machine) (s : Diagrams) (root : ℕ) (g : List Vertex) (number : �
       let long = (d.reduced.nodes n node ni).kids in
       let size : slice_index s.sizes node.var ≡ slice_index m.vars node.var =
       ap (λ (xs : List ℕ). slice_index xs node.var) d.sizes
-      ∙ prefix_item m.vars m.results node.var low in
+      ∙ index_append m.vars m.results node.var low in
       rw same_var (
         low,
         ap (λ (xs : List ℕ). length xs) same_kids ∙ long_map number node.kids ∙ long

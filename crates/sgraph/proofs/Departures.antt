@@ -5,7 +5,7 @@ use Rattle.std.proofs.lemmas.Bool.{cases_eq, cases_Bool, eqb-true, eq-eqb, ne_eq
 use Rattle.transition_table.specs.NetworkFacts.{has}
 use Rattle.domains.specs.Orders.{place}
 use Rattle.sgraph.specs.Graphs.{each, left_after}
-use Rattle.sgraph.proofs.Members.{Every}
+use Rattle.decision_diagram.proofs.Distinct.{Every}
 
 module _ (next : ℕ → List ℕ) where
   -- each stands once, and before what follows on it
@@ -20,7 +20,7 @@ module _ (next : ℕ → List ℕ) where
     pub new : (m : ℕ) → has result m ≡ true → (has left m ≡ true) ⊎ (m ≤ k)
     pub closed : Closed left → Closed result
 
-  record AfterAll (left ks : List ℕ) (bound : ℕ) (result : List ℕ) : Type 0 where
+  pub record AfterAll (left ks : List ℕ) (bound : ℕ) (result : List ℕ) : Type 0 where
     keeps : (m : ℕ) → has left m ≡ true → has result m ≡ true
     here : (i : ℕ) → i < length ks → has result (slice_index ks i) ≡ true
     new : (m : ℕ) → has result m ≡ true → (has left m ≡ true) ⊎ (m < bound)
@@ -38,7 +38,7 @@ module _ (next : ℕ → List ℕ) where
       ap (λ (b : Bool). elim b as (λ c. List ℕ)
       [ true ↦ left | false ↦ k ∷ each (left_after more next) left (next k) ]) h
 
-  all_after : (more : ℕ)
+  pub all_after : (more : ℕ)
       → ((left : List ℕ) (k : ℕ) → k < more → After left k (left_after more next left k))
       → (ks left : List ℕ) (bound : ℕ) → bound ≤ more
       → ((i : ℕ) → i < length ks → slice_index ks i < bound)
@@ -117,7 +117,7 @@ module _ (next : ℕ → List ℕ) where
   has_at (x ∷ xs) (suc i) low =
       or_right (eqb x (slice_index xs i)) (has xs (slice_index xs i)) (has_at xs i (omega arith))
 
-  not_same : (xs : List ℕ) (m n : ℕ) → has xs m ≡ false → has xs n ≡ true → eqb m n ≡ false
+  pub not_same : (xs : List ℕ) (m n : ℕ) → has xs m ≡ false → has xs n ≡ true → eqb m n ≡ false
   not_same xs m n off on = ne_eqb m n (λ e. true≢false (sym on ∙ ap (has xs) (sym e) ∙ off))
 
   pub place_at : (xs : List ℕ) (i : ℕ) → Closed xs → i < length xs → place xs (slice_index xs i) ≡ i
@@ -156,7 +156,8 @@ module _ (next : ℕ → List ℕ) where
       (cases_Bool (eqb x n))
 
 -- ---- enough fuel
-each_same : (f g : List ℕ → ℕ → List ℕ) (ks left : List ℕ)
+
+pub each_same : (f g : List ℕ → ℕ → List ℕ) (ks left : List ℕ)
     → ((l : List ℕ) (i : ℕ) → i < length ks → f l (slice_index ks i) ≡ g l (slice_index ks i))
     → each f left ks ≡ each g left ks
 each_same f g [] left same = refl
@@ -205,11 +206,12 @@ enough_down next falls (suc fuel) (suc more) left k a b =
     (cases_Bool (has left k))
 
 -- ---- other numbers
+
 module _ (next other : ℕ → List ℕ) (number : ℕ → ℕ) (In : ℕ → Type 0) (same : (a b : ℕ) → In a
     → In b → number a ≡ number b → a ≡ b) (follows : (k : ℕ) → In k
     → other (number k) ≡ map number (next k)) (inside : (k i : ℕ) → In k → i < length (next k)
     → In (slice_index (next k) i)) where
-  has_renamed : (left : List ℕ) (k : ℕ) → Every In left → In k
+  pub has_renamed : (left : List ℕ) (k : ℕ) → Every In left → In k
       → has (map number left) (number k) ≡ has left k
   has_renamed [] k all in_k = refl
   has_renamed (m ∷ left) k all in_k =
@@ -221,10 +223,10 @@ module _ (next other : ℕ → List ℕ) (number : ℕ → ℕ) (In : ℕ → Ty
       (cases_eq m k))
       ∙ ap (λ (b : Bool). eqb m k || b) (has_renamed left k all.1 in_k)
 
-  abbrev Renamed : List ℕ → List ℕ → Type 0
+  abbrev pub Renamed : List ℕ → List ℕ → Type 0
   Renamed mine others = (others ≡ map number mine) × Every In mine
 
-  each_renamed : (more : ℕ)
+  pub each_renamed : (more : ℕ)
       → ((left : List ℕ) (k : ℕ) → Every In left → In k
       → Renamed (left_after more next left k) (left_after more other (map number left) (number k)))
       → (ks left : List ℕ) → Every In left → ((i : ℕ) → i < length ks → In (slice_index ks i))
@@ -263,7 +265,8 @@ module _ (next other : ℕ → List ℕ) (number : ℕ → ℕ) (In : ℕ → Ty
       (cases_Bool (has left k))
 
 -- what holds of the first and of what follows holds of all
-each_every : (next : ℕ → List ℕ) (P : ℕ → Type 0) (more : ℕ)
+
+pub each_every : (next : ℕ → List ℕ) (P : ℕ → Type 0) (more : ℕ)
     → ((left : List ℕ) (k : ℕ) → Every P left → P k → Every P (left_after more next left k))
     → (ks left : List ℕ) → Every P left → ((i : ℕ) → i < length ks → P (slice_index ks i))
     → Every P (each (left_after more next) left ks)

@@ -1,8 +1,7 @@
 -- The graph that a diagram becomes gives the transition.
 use Rattle.std.proofs.Common.{◌≡◌, ◌≢◌, ⊎_elim, ℕ, zero, suc, ◌+◌, ◌-◌, ◌<◌, true, List, [], ◌∷◌, ◌++◌, map, length, drop, replicate, slice_get, slice_index, slice_set, Option, Some, None, refl, ap, sym, ◌∙◌, arith, eqb, get_or-set_same, get_or-set_other, get_or-drop, length-set, length-append}
-use Rattle.std.specs.Prelude.{Contains}
 use Rattle.std.proofs.lemmas.Bool.{cases_eq, cases_lt, eq-eqb, true≢false, and_from}
-use Rattle.std.proofs.lemmas.List.{get_or_default, length-replicate}
+use Rattle.std.proofs.lemmas.List.{length-replicate}
 use Rattle.std.proofs.lemmas.Grind.{same_number_lists}
 use Rattle.domains.specs.Names.{is_same}
 use Rattle.domains.specs.Tables.{fits}
@@ -10,7 +9,7 @@ use Rattle.transition_table.specs.declared.machine.Machine.{Machine}
 use Rattle.transition_table.specs.Transitions.{Transition}
 use Rattle.transition_table.specs.Transitions.{reading}
 use Rattle.domains.specs.Orders.{place}
-use Rattle.decision_diagram.specs.Diagrams.{Node, Diagrams, inner_at, IsNode, value_of, kids_of, kids_in as kids_of_node}
+use Rattle.decision_diagram.specs.Diagrams.{Node, Diagrams, inner_at, IsNode, value_of}
 use Rattle.decision_diagram.specs.Reached.{Reaches}
 use Rattle.sgraph.specs.declared.vertex.Vertex.{Vertex}
 use Rattle.sgraph.specs.declared.vertex.Vertex.TheVariants.{Begin, Test, Assign, End}
@@ -19,36 +18,30 @@ use Rattle.sgraph.specs.Trails.{trail}
 use Rattle.sgraph.specs.Graphs.{next_of, walk, assign, assign_all, Eval}
 use Rattle.sgraph.specs.Built.{Built}
 use Rattle.sgraph.proofs.ByRows.{IsDiagramByRows}
-use Rattle.sgraph.proofs.Positions.{place_below, place_of_item}
-use Rattle.sgraph.proofs.Fitting.{fits_long, fits_at, fits_set}
-use Rattle.sgraph.proofs.Nodes.{none_low, cases_inner, inner_low}
-use Rattle.sgraph.proofs.Values.{value_none, value_inner}
+use Rattle.domains.proofs.Places.{place_below, place_of_item}
+use Rattle.decision_diagram.proofs.Fitting.{fits_at, fits_set}
+use Rattle.decision_diagram.proofs.Nodes.{cases_inner, inner_low, none_low}
+use Rattle.decision_diagram.proofs.Values.{value_none, value_inner}
 use Rattle.decision_diagram.specs.Leading.{Decided}
 use Rattle.sgraph.proofs.Known.{HasResults}
-use Rattle.sgraph.proofs.Decides.{decided, fits_both}
+use Rattle.sgraph.proofs.Decides.{decided}
+use Rattle.decision_diagram.proofs.Joined.{fits_both, reaches_child}
 use Rattle.sgraph.proofs.Walking.{Onward, trail_at}
-use Rattle.sgraph.proofs.Giving.{codes_back, take_prefix, drop_prefix}
+use Rattle.sgraph.proofs.ResultCodes.{codes_back, take_prefix}
+use Rattle.decision_diagram.proofs.Joined.{drop_prefix}
+use Rattle.domains.proofs.Ranks.{length-fits}
+use Rattle.decision_diagram.proofs.Along.{index_append}
 
 trail_none : {X : Type 0} (next : ℕ → X → Option ℕ) (xs : List X) (base : ℕ)
     → trail next xs base None ≡ []
 trail_none next [] base = refl
 trail_none next (x ∷ xs) base = trail_none next xs (suc base)
 
-got_map : (f : ℕ → ℕ) (xs : List ℕ) (i : ℕ) → i < length xs
+pub got_map : (f : ℕ → ℕ) (xs : List ℕ) (i : ℕ) → i < length xs
     → slice_get (map f xs) i ≡ Some (f (slice_index xs i))
 got_map f [] i low = absurd (omega arith)
 got_map f (x ∷ xs) zero low = refl
 got_map f (x ∷ xs) (suc i) low = got_map f xs i (omega arith)
-
--- a child of a node that is reached is reached
-pub reaches_kid : (s : Diagrams) (root n : ℕ) (node : Node) (c : ℕ) → Reaches s root n
-    → inner_at s.nodes n ≡ Some node → c < length node.kids
-    → Reaches s root (slice_index node.kids c)
-reaches_kid s root n node c there is low =
-    let kid = slice_index node.kids c in
-    let in_kids : Contains node.kids kid = (c, low, get_or_default node.kids c kid 0 low) in
-    let e : kids_of s n ≡ node.kids = ap kids_of_node is in
-    (suc (there.0), (n, there.1, rw e in_kids))
 
 -- False is true nowhere
 pub not_low : (s : Diagrams) (n : ℕ) (codes : List ℕ) → value_of s n codes ≡ true → n ≢ 0
@@ -220,7 +213,7 @@ module _ (m : Machine) (s : Diagrams) (root : ℕ) (g : List Vertex) (number : �
       let var : node.var < length s.sizes = good.var in
       let size = sizes_long in
       let true_kid = sym (kid_value n node is) ∙ holds in
-      let there_kid = reaches_kid s root n node c there is low in
+      let there_kid = reaches_child s root n node c there is low in
       ⊎_elim
       (λ test. through_test n node codes is test there holds
       (walks bound (slice_index node.kids c) codes (omega arith) long (omega arith) true_kid
@@ -240,7 +233,7 @@ module _ (m : Machine) (s : Diagrams) (root : ℕ) (g : List Vertex) (number : �
       → ⊥
   root_reads has y hy holds same =
       let w = length m.vars + y in
-      let long = fits_long s.sizes b fit_b in
+      let long = length-fits s.sizes b fit_b in
       let size = sizes_long in
       let two = has.two y hy in
       let own : slice_index s.sizes w ≡ slice_index m.results y =
@@ -259,7 +252,7 @@ module _ (m : Machine) (s : Diagrams) (root : ℕ) (g : List Vertex) (number : �
       turned : (w code : ℕ) → w ≡ length m.vars + y → code < slice_index s.sizes w
           → slice_index b w ≢ code → ⊥
       turned w code is low other =
-          let long : length b ≡ length s.sizes = fits_long s.sizes b fit_b in
+          let long : length b ≡ length s.sizes = length-fits s.sizes b fit_b in
           let size = sizes_long in
           let set : List ℕ = slice_set b w code in
           let fit = fits_set s.sizes b fit_b w code low in
@@ -283,11 +276,6 @@ module _ (m : Machine) (s : Diagrams) (root : ℕ) (g : List Vertex) (number : �
   settled has holds codes after y hy (kept same below) = absurd (root_reads has y hy holds below)
 
 -- ---- the whole walk
-in_prefix : (xs ys : List ℕ) (v : ℕ) → v < length xs → slice_index (xs ++ ys) v ≡ slice_index xs v
-in_prefix [] ys v low = absurd (omega arith)
-in_prefix (x ∷ xs) ys zero low = refl
-in_prefix (x ∷ xs) ys (suc v) low = in_prefix xs ys v (omega arith)
-
 at_back : (xs ys : List ℕ) (n y : ℕ) → n ≡ length xs
     → slice_index (xs ++ ys) (n + y) ≡ slice_index ys y
 at_back xs ys n y e = sym (get_or-drop n (xs ++ ys) y 0)
@@ -317,13 +305,13 @@ walk_codes m s root g number d built has snap fit =
     let results : List ℕ = result_codes m snap in
     let b : List ℕ = snap ++ results in
     let zeros : List ℕ = replicate (length m.results) 0 in
-    let long_snap : length snap ≡ n = fits_long m.vars snap fit in
+    let long_snap : length snap ≡ n = length-fits m.vars snap fit in
     let long_results : length results ≡ length m.results =
-    fits_long m.results results (has.fit snap fit) in
+    length-fits m.results results (has.fit snap fit) in
     let fit_b : fits s.sizes b ≡ true =
     rw d.sizes (fits_both m.vars m.results snap results fit (has.fit snap fit)) in
     let same_vars : (v : ℕ) → v < n → slice_index b v ≡ slice_index snap v =
-    λ v low. in_prefix snap results v (omega arith) in
+    λ v low. index_append snap results v (omega arith) in
     let holds : value_of s root b ≡ true = d.means.value b fit_b ∙ char_there m snap long_snap in
     let begins : assign_all zeros (walk g snap)
     ≡ after_walk m s root g number d built snap b fit_b same_vars root zeros =

@@ -7,25 +7,15 @@ use Rattle.decision_diagram.specs.declared.node.Shape.TheVariants.{False, True, 
 use Rattle.decision_diagram.specs.Diagrams.{Node, Diagrams, inner_at, shape_in, shape_of, kids_in, kids_of, AreReduced}
 use Rattle.sgraph.specs.Graphs.{each, left_after}
 use Rattle.sgraph.specs.Building.{code_there, next_in, next_nodes}
-use Rattle.sgraph.specs.Marks.{turned, Marks, AreNext}
+use Rattle.sgraph.specs.inner.Marks.{turned, Marks, AreNext}
 use Rattle.sgraph.proofs.Departures.{visit_there, visit_new, enough_down}
+use Rattle.decision_diagram.proofs.Lists.{read_within}
 
 -- ---- lists
 pub got : (xs : List ℕ) (i x : ℕ) → slice_get xs i ≡ Some x → slice_index xs i ≡ x
 got [] i x e = cc
 got (y ∷ ys) zero x e = cc
 got (y ∷ ys) (suc i) x e = got ys i x e
-
-pub below : {X : Type 0} (xs : List X) (i : ℕ) (x : X) → slice_get xs i ≡ Some x → i < length xs
-below [] i x e = cc
-below (y ∷ ys) zero x e = omega arith
-below (y ∷ ys) (suc i) x e = let r = below ys i x e in omega arith
-
-pub index_prefix : (xs ys : List ℕ) (i : ℕ) → i < length xs
-    → slice_index (xs ++ ys) i ≡ slice_index xs i
-index_prefix [] ys i low = absurd (omega arith)
-index_prefix (x ∷ xs) ys zero low = refl
-index_prefix (x ∷ xs) ys (suc i) low = index_prefix xs ys i (omega arith)
 
 pub index_after : (xs ys : List ℕ) (i : ℕ) → length xs ≤ i
     → slice_index (xs ++ ys) i ≡ slice_index ys (i - length xs)
@@ -236,7 +226,7 @@ pub turned_push : (xs : List ℕ) (x : ℕ) → turned (xs ++ x ∷ []) ≡ x �
 turned_push [] x = refl
 turned_push (y ∷ ys) x = ap (λ (zs : List ℕ). zs ++ y ∷ []) (turned_push ys x)
 
-each_push : (visit : List ℕ → ℕ → List ℕ) (left xs : List ℕ) (x : ℕ)
+pub each_push : (visit : List ℕ → ℕ → List ℕ) (left xs : List ℕ) (x : ℕ)
     → each visit left (xs ++ x ∷ []) ≡ visit (each visit left xs) x
 each_push visit left [] x = refl
 each_push visit left (y ∷ ys) x = each_push visit (visit left y) ys x
@@ -255,7 +245,7 @@ left_more s n k ok from end code kid first left new codes low high is so_far one
     let kids = next_nodes s n k in
     let j = code - from in
     let is_kid = kid_at s n k from end code kid codes low high is in
-    let inside = below kids j kid is_kid in
+    let inside = read_within kids j kid is_kid in
     let at = got kids j kid is_kid in
     let less = falls s n ok k j inside in
     let e : code + 1 - from ≡ suc (code - from) = omega arith in
@@ -267,22 +257,22 @@ left_more s n k ok from end code kid first left new codes low high is so_far one
     ∙ ap (each (left_after k next) (turned first)) (sym (take_one kids j inside))
     ∙ ap (λ (i : ℕ). each (left_after k next) (turned first) (take i kids)) (sym e)
 
-same_some : {X : Type 0} (o : Option X) (a b : X) → o ≡ Some a → o ≡ Some b → a ≡ b
+pub same_some : {X : Type 0} (o : Option X) (a b : X) → o ≡ Some a → o ≡ Some b → a ≡ b
 same_some o a b p q = cc
 
-pub marked_is : (s : Diagrams) (marks : List Bool) (left : List ℕ) (k : ℕ) (b : Bool)
-    → Marks s marks left → slice_get marks k ≡ Some b → has (turned left) k ≡ b
-marked_is s marks left k b ok is =
-    same_some (slice_get marks k) (has (turned left) k) b (ok.each k (below marks k b is)) is
+pub marked_is : (count : ℕ) (marks : List Bool) (left : List ℕ) (k : ℕ) (b : Bool)
+    → Marks count marks left → slice_get marks k ≡ Some b → has (turned left) k ≡ b
+marked_is count marks left k b ok is =
+    same_some (slice_get marks k) (has (turned left) k) b (ok.each k (read_within marks k b is)) is
 
-pub left_there : (s : Diagrams) (n k : ℕ) (marks : List Bool) (left : List ℕ) → Marks s marks left
+pub left_there : (s : Diagrams) (n k : ℕ) (marks : List Bool) (left : List ℕ) → Marks (length s.nodes + 2) marks left
     → slice_get marks k ≡ Some true → turned left
     ≡ left_after (suc k) (next_nodes s n) (turned left) k
 left_there s n k marks left ok is =
-    sym (visit_there (next_nodes s n) k (turned left) k (marked_is s marks left k true ok is))
+    sym (visit_there (next_nodes s n) k (turned left) k (marked_is (length s.nodes + 2) marks left k true ok is))
 
 pub left_new : (s : Diagrams) (n k : ℕ) (marks : List Bool) (from end code : ℕ)
-    → (first left new : List ℕ) → Marks s marks first → slice_get marks k ≡ Some false
+    → (first left new : List ℕ) → Marks (length s.nodes + 2) marks first → slice_get marks k ≡ Some false
     → AreNext s n k from end → end ≤ code
     → turned left
     ≡ each (left_after k (next_nodes s n)) (turned first) (take (code - from) (next_nodes s n k))
@@ -299,15 +289,15 @@ left_new s n k marks from end code first left new ok is codes high so_far e =
     ∙ ap (λ (xs : List ℕ). k ∷ xs) (so_far
     ∙ ap (each (left_after k next) (turned first))
     (take_whole (next_nodes s n k) (code - from) (omega arith)))
-    ∙ sym (visit_new next k (turned first) k (marked_is s marks first k false ok is))
+    ∙ sym (visit_new next k (turned first) k (marked_is (length s.nodes + 2) marks first k false ok is))
 
-set_same : (marks : List Bool) (k : ℕ) (b : Bool) → k < length marks
+pub set_same : (marks : List Bool) (k : ℕ) (b : Bool) → k < length marks
     → slice_get (slice_set marks k b) k ≡ Some b
 set_same [] k b low = absurd (omega arith)
 set_same (m ∷ marks) zero b low = refl
 set_same (m ∷ marks) (suc k) b low = set_same marks k b (omega arith)
 
-set_other : (marks : List Bool) (k j : ℕ) (b : Bool) → (k ≡ j → ⊥)
+pub set_other : (marks : List Bool) (k j : ℕ) (b : Bool) → (k ≡ j → ⊥)
     → slice_get (slice_set marks k b) j ≡ slice_get marks j
 set_other [] k j b other = refl
 set_other (m ∷ marks) zero zero b other = absurd (other refl)
@@ -315,15 +305,15 @@ set_other (m ∷ marks) zero (suc j) b other = refl
 set_other (m ∷ marks) (suc k) zero b other = refl
 set_other (m ∷ marks) (suc k) (suc j) b other = set_other marks k j b (λ e. other (ap suc e))
 
-set_long : (marks : List Bool) (k : ℕ) (b : Bool) → length (slice_set marks k b) ≡ length marks
+pub set_long : (marks : List Bool) (k : ℕ) (b : Bool) → length (slice_set marks k b) ≡ length marks
 set_long [] k b = refl
 set_long (m ∷ marks) zero b = refl
 set_long (m ∷ marks) (suc k) b = ap suc (set_long marks k b)
 
-pub one_mark : (s : Diagrams) (k : ℕ) (marks more : List Bool) (left new : List ℕ)
-    → Marks s marks left → k < length marks → more ≡ slice_set marks k true → new ≡ left ++ k ∷ []
-    → Marks s more new
-one_mark s k marks more left new ok low is e =
+pub one_mark : (count k : ℕ) (marks more : List Bool) (left new : List ℕ) → Marks count marks left
+    → k < length marks → more ≡ slice_set marks k true → new ≡ left ++ k ∷ []
+    → Marks count more new
+one_mark count k marks more left new ok low is e =
     let long = set_long marks k true in
     let same : length more ≡ length (slice_set marks k true) =
     ap (λ (xs : List Bool). length xs) is in
@@ -344,18 +334,18 @@ one_mark s k marks more left new ok low is e =
           ∙ ap (λ (xs : List ℕ). Some (has xs j)) (sym (turned_push left k) ∙ ap turned (sym e));
     }
 
-no_mark : (n k : ℕ) → k < n → slice_get (replicate n false) k ≡ Some false
+pub no_mark : (n k : ℕ) → k < n → slice_get (replicate n false) k ≡ Some false
 no_mark zero k low = absurd (omega arith)
 no_mark (suc n) zero low = refl
 no_mark (suc n) (suc k) low = no_mark n k (omega arith)
 
-long_marks : (n : ℕ) → length (replicate n false) ≡ n
+pub long_marks : (n : ℕ) → length (replicate n false) ≡ n
 long_marks zero = refl
 long_marks (suc n) = ap suc (long_marks n)
 
-pub marks_none : (s : Diagrams) (count : ℕ) (marks : List Bool) (left : List ℕ)
-    → count ≡ length s.nodes + 2 → marks ≡ replicate count false → left ≡ [] → Marks s marks left
-marks_none s count marks left is are none =
+pub marks_none : (count : ℕ) (marks : List Bool) (left : List ℕ) → marks ≡ replicate count false
+    → left ≡ [] → Marks count marks left
+marks_none count marks left are none =
     let long : length marks ≡ count = ap (λ (xs : List Bool). length xs) are ∙ long_marks count in
     record {
       long = omega arith;
@@ -369,7 +359,7 @@ pub kid_before : (s : Diagrams) (n k : ℕ) → AreReduced s → (from end code 
     → kid < k
 kid_before s n k ok from end code kid codes low high is =
     let e = kid_at s n k from end code kid codes low high is in
-    let inside = below (next_nodes s n k) (code - from) kid e in
+    let inside = read_within (next_nodes s n k) (code - from) kid e in
     let at = got (next_nodes s n k) (code - from) kid e in
     let less = falls s n ok k (code - from) inside in
     omega arith

@@ -10,42 +10,44 @@ use Rattle.sgraph.specs.declared.vertex.Vertex.{Vertex}
 use Rattle.sgraph.specs.declared.vertex.Vertex.TheVariants.{Begin, Test, Assign, End}
 use Rattle.sgraph.specs.Graphs.{left_after}
 use Rattle.sgraph.specs.Building.{code_there, next_in, next_nodes, nodes_left, number_in, vertex_in, graph_of}
-use Rattle.sgraph.specs.Marks.{turned}
+use Rattle.sgraph.specs.inner.Marks.{turned}
 use Rattle.std.proofs.lemmas.Grind.{same_number_lists}
 use Rattle.sgraph.proofs.Departures.{Closed, visit_after, closed_next}
-use Rattle.sgraph.proofs.Following.{got, below, take_one, take_whole, inner_of, falls, turned_push}
-use Rattle.sgraph.proofs.Mapping.{index_map, long_map}
+use Rattle.sgraph.proofs.Following.{got, take_one, take_whole, inner_of, falls, turned_push}
+use Rattle.decision_diagram.proofs.Along.{index_map}
+use Rattle.domains.proofs.AllCodes.{long_map}
+use Rattle.decision_diagram.proofs.Lists.{read_within}
 
 -- ---- lists
-has_after : (xs ys : List ℕ) (k : ℕ) → has ys k ≡ true → has (xs ++ ys) k ≡ true
+pub has_after : (xs ys : List ℕ) (k : ℕ) → has ys k ≡ true → has (xs ++ ys) k ≡ true
 has_after [] ys k h = h
 has_after (x ∷ xs) ys k h = or_right (eqb x k) (has (xs ++ ys) k) (has_after xs ys k h)
 
-has_prefix : (xs ys : List ℕ) (k : ℕ) → has xs k ≡ true → has (xs ++ ys) k ≡ true
+pub has_prefix : (xs ys : List ℕ) (k : ℕ) → has xs k ≡ true → has (xs ++ ys) k ≡ true
 has_prefix [] ys k h = absurd (true≢false (sym h))
 has_prefix (x ∷ xs) ys k h =
     ⊎_elim (λ own. or_left (eqb x k) (has (xs ++ ys) k) own)
     (λ other. or_right (eqb x k) (has (xs ++ ys) k) (has_prefix xs ys k other))
     (or_cases (eqb x k) (has xs k) h)
 
-has_turned : (xs : List ℕ) (i : ℕ) → i < length xs → has (turned xs) (slice_index xs i) ≡ true
+pub has_turned : (xs : List ℕ) (i : ℕ) → i < length xs → has (turned xs) (slice_index xs i) ≡ true
 has_turned [] i low = absurd (omega arith)
 has_turned (x ∷ xs) zero low =
     has_after (turned xs) (x ∷ []) x (or_left (eqb x x) false (eq-eqb x x refl))
 has_turned (x ∷ xs) (suc i) low =
     has_prefix (turned xs) (x ∷ []) (slice_index xs i) (has_turned xs i (omega arith))
 
-map_push : {X : Type 0} (f : ℕ → X) (xs : List ℕ) (x : ℕ)
+pub map_push : {X : Type 0} (f : ℕ → X) (xs : List ℕ) (x : ℕ)
     → map f (xs ++ x ∷ []) ≡ map f xs ++ f x ∷ []
 map_push f [] x = refl
 map_push f (y ∷ ys) x = ap (λ zs. f y ∷ zs) (map_push f ys x)
 
-drop_one : (xs : List ℕ) (i x : ℕ) → slice_get xs i ≡ Some x → drop i xs ≡ x ∷ drop (suc i) xs
+pub drop_one : (xs : List ℕ) (i x : ℕ) → slice_get xs i ≡ Some x → drop i xs ≡ x ∷ drop (suc i) xs
 drop_one [] i x e = cc
 drop_one (y ∷ ys) zero x e = let f : y ≡ x = cc in ap (λ (n : ℕ). n ∷ ys) f
 drop_one (y ∷ ys) (suc i) x e = drop_one ys i x e
 
-drop_whole : (xs : List ℕ) (i : ℕ) → length xs ≤ i → drop i xs ≡ []
+pub drop_whole : (xs : List ℕ) (i : ℕ) → length xs ≤ i → drop i xs ≡ []
 drop_whole [] zero high = refl
 drop_whole [] (suc i) high = refl
 drop_whole (x ∷ xs) zero high = absurd (omega arith)
@@ -70,32 +72,33 @@ set_long [] k x = refl
 set_long (y ∷ ys) zero x = refl
 set_long (y ∷ ys) (suc k) x = ap suc (set_long ys k x)
 
-long_zeros : (n : ℕ) → length (replicate {A = ℕ} n 0) ≡ n
+pub long_zeros : (n : ℕ) → length (replicate {A = ℕ} n 0) ≡ n
 long_zeros zero = refl
 long_zeros (suc n) = ap suc (long_zeros n)
 
--- the nodes so far have their numbers, where so many follow
-pub record Numbers (count len : ℕ) (left numbers : List ℕ) (i : ℕ) : Type 0 where
+-- the nodes or vertices so far have their numbers from a least one on, where so many follow
+pub record Numbers (count len least : ℕ) (left numbers : List ℕ) (i : ℕ) : Type 0 where
   pub long : length numbers ≡ count
   pub each : (k : ℕ) → has (turned (take i left)) k ≡ true
-      → slice_index numbers k + i ≡ suc (len + place (turned (take i left)) k)
+      → slice_index numbers k + i ≡ least + (len + place (turned (take i left)) k)
 
-pub numbers_start : (count len : ℕ) (left numbers : List ℕ) → numbers ≡ replicate count 0
-    → Numbers count len left numbers 0
-numbers_start count len left numbers is =
+pub numbers_start : (count len least : ℕ) (left numbers : List ℕ) → numbers ≡ replicate count 0
+    → Numbers count len least left numbers 0
+numbers_start count len least left numbers is =
     record {
       long = ap (λ (xs : List ℕ). length xs) is ∙ long_zeros count;
       each = λ k h. absurd (true≢false (sym h));
     }
 
-pub numbers_more : (count len : ℕ) (left numbers more : List ℕ) (i k : ℕ)
-    → Numbers count len left numbers i → slice_get left i ≡ Some k → k < count → i < len
-    → more ≡ slice_set numbers k (len - i) → Numbers count len left more (i + 1)
-numbers_more count len left numbers more i k ok is low within e =
+pub numbers_more : (count len least : ℕ) (left numbers more : List ℕ) (i k x : ℕ)
+    → Numbers count len least left numbers i → slice_get left i ≡ Some k → k < count
+    → x + i + 1 ≡ least + len → more ≡ slice_set numbers k x
+    → Numbers count len least left more (i + 1)
+numbers_more count len least left numbers more i k x ok is low is_x e =
     let own = ok.long in
-    let inside = below left i k is in
-    let long = set_long numbers k (len - i) in
-    let same : length more ≡ length (slice_set numbers k (len - i)) =
+    let inside = read_within left i k is in
+    let long = set_long numbers k x in
+    let same : length more ≡ length (slice_set numbers k x) =
     ap (λ (xs : List ℕ). length xs) e in
     let f : i + 1 ≡ suc i = omega arith in
     let one_more : turned (take (i + 1) left) ≡ k ∷ turned (take i left) =
@@ -110,20 +113,20 @@ numbers_more count len left numbers more i k ok is low within e =
           ap (λ (xs : List ℕ). has xs j) (sym one_more) ∙ h in
           let at : place (turned (take (i + 1) left)) j ≡ place (k ∷ turned (take i left)) j =
           ap (λ (xs : List ℕ). place xs j) one_more in
-          let read : slice_index more j ≡ slice_index (slice_set numbers k (len - i)) j =
+          let read : slice_index more j ≡ slice_index (slice_set numbers k x) j =
           ap (λ (xs : List ℕ). slice_index xs j) e in
           ⊎_elim
           (λ here.
           let h : k ≡ j = here in
-          let set : slice_index (slice_set numbers k (len - i)) j ≡ len - i =
-          ap (slice_index (slice_set numbers k (len - i))) (sym h)
-          ∙ set_here numbers k (len - i) (omega arith) in
+          let set : slice_index (slice_set numbers k x) j ≡ x =
+          ap (slice_index (slice_set numbers k x)) (sym h)
+          ∙ set_here numbers k x (omega arith) in
           let p : place (k ∷ turned (take i left)) j ≡ 0 =
           ap (λ (b : Bool). cond b 0 (place (turned (take i left)) j + 1)) (eq-eqb k j here) in
           omega arith)
           (λ other.
           let off = ne_eqb k j other in
-          let set = set_there numbers k j (len - i) other in
+          let set = set_there numbers k j x other in
           let p : place (k ∷ turned (take i left)) j ≡ place (turned (take i left)) j + 1 =
           ap (λ (b : Bool). cond b 0 (place (turned (take i left)) j + 1)) off in
           let old = ok.each j (sym (ap (λ (b : Bool). b || has (turned (take i left)) j) off)
@@ -132,10 +135,10 @@ numbers_more count len left numbers more i k ok is low within e =
           (cases_eq k j);
     }
 
-pub numbers_end : (count len : ℕ) (left numbers : List ℕ) (i : ℕ) → Numbers count len left numbers i
-    → len ≡ length left → i ≡ len → (k : ℕ) → has (turned left) k ≡ true
-    → slice_index numbers k ≡ number_in (turned left) k
-numbers_end count len left numbers i ok is at k h =
+pub numbers_end : (count len least : ℕ) (left numbers : List ℕ) (i : ℕ)
+    → Numbers count len least left numbers i → len ≡ length left → i ≡ len → (k : ℕ)
+    → has (turned left) k ≡ true → slice_index numbers k ≡ least + place (turned left) k
+numbers_end count len least left numbers i ok is at k h =
     let whole = take_whole left i (omega arith) in
     let e = ok.each k (ap (λ (xs : List ℕ). has (turned xs) k) whole ∙ h) in
     let p : place (turned (take i left)) k ≡ place (turned left) k =
@@ -261,7 +264,7 @@ all_nodes s n root bound ok left is low i inside =
     ⊎_elim (λ none. absurd (true≢false (sym none))) (λ small. omega arith)
     (after.new (slice_index left i) there)
 
-map_numbers : (a b : ℕ → ℕ) (xs : List ℕ)
+pub map_numbers : (a b : ℕ → ℕ) (xs : List ℕ)
     → ((i : ℕ) → i < length xs → a (slice_index xs i) ≡ b (slice_index xs i)) → map a xs ≡ map b xs
 map_numbers a b [] h = refl
 map_numbers a b (x ∷ xs) h = ap (λ (n : ℕ). n ∷ map a xs) (h 0 (omega arith))
@@ -289,7 +292,7 @@ same_vertex n a b (Some node) h =
     go true h = ap (Test node.var) (map_numbers a b node.kids h)
     go false h = ap (Assign (node.var - n) (code_there node.kids)) (h 0 (omega arith))
 
-map_members : (f g : ℕ → Vertex) (all xs : List ℕ) → ((k : ℕ) → has all k ≡ true → f k ≡ g k)
+pub map_members : (f g : ℕ → Vertex) (all xs : List ℕ) → ((k : ℕ) → has all k ≡ true → f k ≡ g k)
     → ((k : ℕ) → has xs k ≡ true → has all k ≡ true) → map f xs ≡ map g xs
 map_members f g all [] h in_all = refl
 map_members f g all (x ∷ xs) h in_all =

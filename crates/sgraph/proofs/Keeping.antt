@@ -26,7 +26,7 @@ above order p (y ∷ ys) h x less =
     (ne_eqb y x (λ same. let e = ap (place order) same in absurd (omega arith)))
     (above order (place order y) ys parts.1 x (omega arith))
 
-rises_tail : (p : ℕ) (ys : List ℕ) → rises (p ∷ ys) ≡ true → rises ys ≡ true
+pub rises_tail : (p : ℕ) (ys : List ℕ) → rises (p ∷ ys) ≡ true → rises ys ≡ true
 rises_tail p [] h = refl
 rises_tail p (y ∷ ys) h = (and_parts (ltb p y) (rises (y ∷ ys)) h).1
 
@@ -129,7 +129,7 @@ one_size (size ∷ sizes) (suc v) h low =
     one_size sizes v (and_parts (nat_le 1 size && nat_le size 33) (are_sizes sizes) h).1
     (omega arith)
 
-long_map : (f : ℕ → ℕ) (xs : List ℕ) → length (map f xs) ≡ length xs
+pub long_map : (f : ℕ → ℕ) (xs : List ℕ) → length (map f xs) ≡ length xs
 long_map f [] = refl
 long_map f (x ∷ xs) = ap suc (long_map f xs)
 
@@ -168,7 +168,7 @@ test_kids s n number ok x var kids e = go (inner_at s.nodes x) refl e
     go None is f = cc
     go (Some node) is f = either node is (ltb node.var n) f
 
-there_is : (vs : List Vertex) (n : ℕ) → n < length vs → (v : Vertex) × (slice_get vs n ≡ Some v)
+pub there_is : (vs : List Vertex) (n : ℕ) → n < length vs → (v : Vertex) × (slice_get vs n ≡ Some v)
 there_is [] n low = absurd (omega arith)
 there_is (v ∷ vs) zero low = (v, refl)
 there_is (v ∷ vs) (suc n) low = there_is vs n (omega arith)

@@ -1,27 +1,20 @@
-mod ByRows
-mod Decides
-mod Deepening
-mod Doing
-mod Edges
-mod Evaluated
-mod Fitting
-mod Following
-mod Giving
-mod Graphing
-mod Keeping
-mod Known
-mod Departures
-mod Lists
-mod Making
-mod Mapping
-mod Members
-mod Nodes
-mod Numbering
-mod Outcomes
-mod Positions
-mod Prefixes
-mod Resulting
-mod Together
-mod Sending
-mod Values
-mod Walking
+pub mod ByRows
+pub mod Decides
+pub mod Deepening
+pub mod EvalSteps
+pub mod Edges
+pub mod Evaluated
+pub mod Following
+pub mod ResultCodes
+pub mod Graphing
+pub mod Keeping
+pub mod Known
+pub mod Departures
+pub mod EdgesMakeGraph
+pub mod Nodes
+pub mod Numbering
+pub mod Outcomes
+pub mod Resulting
+pub mod RightGraphs
+pub mod Sending
+pub mod Walking

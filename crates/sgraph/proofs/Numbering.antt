@@ -15,17 +15,18 @@ use Rattle.sgraph.specs.Graphs.{kids_of, kids_in, kids_at, each, left_after, Num
 use Rattle.sgraph.specs.Building.{code_there, next_in, next_nodes, nodes_left, number_in, vertex_in, graph_of}
 use Rattle.sgraph.specs.Built.{Built}
 use Rattle.sgraph.proofs.ByRows.{IsDiagramByRows}
-use Rattle.sgraph.proofs.Mapping.{index_map, long_map, long_upto, index_upto}
+use Rattle.decision_diagram.proofs.Along.{index_map, long_upto, index_upto}
+use Rattle.domains.proofs.AllCodes.{long_map}
 use Rattle.sgraph.proofs.Known.{HasResults}
 use Rattle.decision_diagram.specs.Leading.{OneCode}
 use Rattle.sgraph.proofs.Decides.{one_code}
 use Rattle.sgraph.proofs.Deepening.{no_false_kid, root_true, reached_node}
-use Rattle.sgraph.proofs.Members.{Every}
-use Rattle.sgraph.proofs.Evaluated.{reaches_kid}
-use Rattle.sgraph.proofs.Prefixes.{some_kid}
+use Rattle.decision_diagram.proofs.Distinct.{Every}
+use Rattle.decision_diagram.proofs.Prefixes.{some_kid}
 use Rattle.sgraph.proofs.Departures.{After, Closed, visit_after, visit_new, in_place, has_at, place_at, closed_next, enough, enough_down, renamed, every_left}
-use Rattle.sgraph.proofs.Nodes.{cases_inner, inner_low, none_low}
-use Rattle.sgraph.proofs.Positions.{at_place}
+use Rattle.decision_diagram.proofs.Nodes.{cases_inner, inner_low, none_low}
+use Rattle.domains.proofs.Places.{at_place}
+use Rattle.decision_diagram.proofs.Joined.{reaches_child}
 
 code_found : (kids : List ℕ) (c : ℕ) → c < length kids → slice_index kids c ≢ 0
     → (code_there kids < length kids) × (slice_index kids (code_there kids) ≢ 0)
@@ -101,7 +102,7 @@ no_begin n number (Some node) next e =
     (number (slice_index node.kids (code_there node.kids))))) off) ∙ e in cc)
     (cases_Bool (ltb node.var n))
 
-every_at : (P : ℕ → Type 0) (xs : List ℕ) (i : ℕ) → Every P xs → i < length xs
+pub every_at : (P : ℕ → Type 0) (xs : List ℕ) (i : ℕ) → Every P xs → i < length xs
     → P (slice_index xs i)
 every_at P [] i all low = absurd (omega arith)
 every_at P (x ∷ xs) zero all low = all.0
@@ -182,7 +183,7 @@ module _ (m : Machine) (s : Diagrams) (root : ℕ) (d : IsDiagramByRows m s root
     where
       go : Follows k i → Reaches s root (slice_index (next k) i) × (slice_index (next k) i ≢ 0)
       go (follows node c is inside e some) =
-          let there = reaches_kid s root k node c met.0 is inside in
+          let there = reaches_child s root k node c met.0 is inside in
           let other : slice_index node.kids c ≢ 0 =
           ⊎_elim (λ test. no_false_kid m s root d good k node met.0 is test c inside) (λ h. h)
           some in

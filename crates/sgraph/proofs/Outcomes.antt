@@ -10,14 +10,14 @@ use Rattle.sgraph.specs.Walks.{outcome_with, width_of}
 abbrev pub mk : Bool → List ℕ → List ℕ → Outcome
 mk fires next outs = record { fires = fires; next = next; outs = outs }
 
-take_zeros : (n more : ℕ) → take n (replicate {A = ℕ} (n + more) 0) ≡ replicate {A = ℕ} n 0
+pub take_zeros : (n more : ℕ) → take n (replicate {A = ℕ} (n + more) 0) ≡ replicate {A = ℕ} n 0
 take_zeros zero more = refl
 take_zeros (suc n) more =
     let e : suc n + more ≡ suc (n + more) = omega arith in
     ap (λ (k : ℕ). take (suc n) (replicate {A = ℕ} k 0)) e
     ∙ ap (λ (xs : List ℕ). 0 ∷ xs) (take_zeros n more)
 
-drop_zeros : (n more : ℕ) → drop n (replicate {A = ℕ} (n + more) 0) ≡ replicate {A = ℕ} more 0
+pub drop_zeros : (n more : ℕ) → drop n (replicate {A = ℕ} (n + more) 0) ≡ replicate {A = ℕ} more 0
 drop_zeros zero more = let e : 0 + more ≡ more = omega arith in
     ap (λ (n : ℕ). replicate {A = ℕ} n 0) e
 drop_zeros (suc n) more =

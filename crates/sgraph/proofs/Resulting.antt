@@ -8,7 +8,7 @@ use Rattle.std.proofs.lemmas.List.{take-append-drop}
 use Rattle.domains.specs.Tables.{are_sizes}
 use Rattle.transition_table.specs.declared.machine.Machine.{Machine}
 use Rattle.sgraph.proofs.Known.{Below, HasResults}
-use Rattle.sgraph.proofs.Mapping.{all_append}
+use Rattle.decision_diagram.proofs.AllCodes.{all_append}
 
 ones : (sizes : List ℕ) → are_sizes sizes ≡ true → list_all (nat_le 1) sizes ≡ true
 ones [] h = refl

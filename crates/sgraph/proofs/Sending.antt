@@ -2,9 +2,11 @@
 use Rattle.std.proofs.Common.{◌≡◌, ⊎_elim, ℕ, ◌+◌, ◌<◌, ◌≤◌, List, [], ◌∷◌, map, length, slice_get, slice_index, slice_set, Some, ap, sym, ◌∙◌, arith}
 use Rattle.std.proofs.lemmas.Bool.{cases_lt}
 use Rattle.std.proofs.lemmas.Grind.{same_number_lists}
-use Rattle.sgraph.proofs.Following.{got, below}
+use Rattle.sgraph.proofs.Following.{got}
 use Rattle.sgraph.proofs.Graphing.{set_here, set_there, set_long}
-use Rattle.sgraph.proofs.Mapping.{index_map, long_map}
+use Rattle.decision_diagram.proofs.Along.{index_map}
+use Rattle.domains.proofs.AllCodes.{long_map}
+use Rattle.decision_diagram.proofs.Lists.{read_within}
 
 -- the first places were sent, and the others are as they were
 pub record Sent (table places list : List ℕ) (j : ℕ) : Type 0 where
@@ -25,7 +27,7 @@ pub sent_low : (table places list : List ℕ) (j place : ℕ) → Sent table pla
     → ((i : ℕ) → i < length places → slice_index places i < length table) → place < length table
 sent_low table places list j place ok is all =
     let same : slice_index places j ≡ place = sym (ok.rest j (omega arith)) ∙ got list j place is in
-    let within = below list j place is in
+    let within = read_within list j place is in
     let long = ok.long in
     let low = all j (omega arith) in
     omega arith
@@ -45,7 +47,7 @@ sent_more table places list more j place to ok is is_to e =
           (λ last.
           let here : j ≡ i = omega arith in
           ap (slice_index (slice_set list j to)) (sym here)
-          ∙ set_here list j to (below list j place is)
+          ∙ set_here list j to (read_within list j place is)
           ∙ sym (got table place to is_to)
           ∙ ap (slice_index table) (own ∙ ap (slice_index places) here))
           (cases_lt i j);

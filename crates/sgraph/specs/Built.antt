@@ -1,8 +1,8 @@
 -- A machine's diagram, and the graph that it becomes.
-use Rattle.std.specs.Prelude.{◌≡◌, ◌≢◌, ◌↔◌, ◌⊎◌, ℕ, ◌+◌, ◌<◌, true, List, map, length, slice_get, slice_index, Some, IsTrue}
-use Rattle.domains.specs.Tables.{fits}
+use Rattle.std.specs.Prelude.{◌≡◌, ◌≢◌, ◌⊎◌, ℕ, ◌+◌, ◌<◌, List, map, length, slice_get, slice_index, Some}
 use Rattle.transition_table.specs.declared.machine.Machine.{Machine}
 use Rattle.decision_diagram.specs.Diagrams.{Node, Diagrams, inner_at, IsNode, value_of, AreReduced}
+use Rattle.decision_diagram.specs.Exact.{IsTrueWhere}
 use Rattle.decision_diagram.specs.Reached.{Reaches}
 use Rattle.sgraph.specs.declared.vertex.Vertex.{Vertex}
 use Rattle.sgraph.specs.declared.vertex.Vertex.TheVariants.{Begin, Test, Assign, End}
@@ -11,10 +11,7 @@ use Rattle.transition_table.specs.Orders.{Char, sizes_of, Allowed}
 
 -- of codes that fit, the node is true exactly of a snapshot and the codes of its outcome
 abbrev pub IsExact : Machine → Diagrams → ℕ → Type 0
-IsExact m s n =
-    (codes : List ℕ)
-    → IsTrue (fits (sizes_of m) codes)
-    → (value_of s n codes ≡ true) ↔ Char m codes
+IsExact m s n = IsTrueWhere (sizes_of m) (value_of s n) (Char m)
 
 -- the root of a reduced diagram that is exact for a deterministic machine, in an allowed order
 pub record IsDiagram (m : Machine) (s : Diagrams) (root : ℕ) : Type 0 where

@@ -159,7 +159,8 @@ left_after (suc more) next left k =
     elim (has left k) as (λ b. List ℕ)
     [ true ↦ left | false ↦ k ∷ each (left_after more next) left (next k) ]
 
--- The walk from the first vertex leaves all vertices, in the reverse of their order.
+-- The vertices stand in the reverse postorder of the depth-first walk from the first one, which
+-- comes to all of them.
 abbrev pub Numbered : List Vertex → Type 0
 Numbered g = left_after (length g) (kids_at g) [] 0 ≡ upto (length g)
 

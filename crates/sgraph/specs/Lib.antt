@@ -4,9 +4,9 @@ pub mod Facts
 pub mod Graphs
 pub mod Kept
 pub mod Laws
-pub mod Marks
 pub mod Reactions
 pub mod SampleGraphs
 pub mod Trails
 pub mod Walks
 pub mod Worked
+pub mod inner

@@ -1,5 +1,5 @@
 -- Diagrams and graphs of small machines.
-use Rattle.std.specs.Prelude.{ℕ, List, [], ◌∷◌}
+use Rattle.std.specs.Prelude.{ℕ, List, ◌∷◌, []}
 use Rattle.decision_diagram.specs.Diagrams.{Node, Diagrams}
 use Rattle.sgraph.specs.declared.vertex.Vertex.{Vertex}
 use Rattle.sgraph.specs.declared.vertex.Vertex.TheVariants.{Begin, Test, Assign, End}
@@ -22,15 +22,6 @@ lamp_diagram = record {
       ∷ inner 1 (6 ∷ 7 ∷ [])
       ∷ inner 0 (7 ∷ 8 ∷ []) ∷ [];
 }
-
--- its first vertices: the tests, and the assignments where it turns on
-abbrev pub lamp_on : List Vertex
-lamp_on =
-    Begin 1
-    ∷ Test 0 (6 ∷ 2 ∷ [])
-    ∷ Test 1 (3 ∷ 6 ∷ [])
-    ∷ Assign 0 1 4
-    ∷ Assign 1 2 5 ∷ []
 
 abbrev pub lamp_graph : List Vertex
 lamp_graph =

@@ -1,5 +1,5 @@
 -- A graph of a machine, and what a walk makes of an outcome.
-use Rattle.std.specs.Prelude.{◌≡◌, ℕ, ◌+◌, ◌<◌, ◌&&◌, ◌==◌, Bool, true, nat_lt, List, length, take, drop, slice_get, slice_index, Some, ⊤}
+use Rattle.std.specs.Prelude.{◌≡◌, ℕ, ◌+◌, ◌<◌, ◌&&◌, ◌==◌, Bool, true, nat_lt, List, length, take, drop, slice_get, slice_index, Some}
 use Rattle.transition_table.specs.declared.machine.Machine.{Machine}
 use Rattle.transition_table.specs.declared.snapshot.Snapshot.{Snapshot}
 use Rattle.transition_table.specs.declared.snapshot.Outcome.{Outcome}
@@ -46,13 +46,3 @@ outcome_with states codes =
 -- `go`, the state variables and the outputs
 abbrev pub width_of : Outcome → ℕ
 width_of o = 1 + length o.next + length o.outs
-
--- the vertex of number k of so many, on the codes of a snapshot, with so many results
-abbrev pub MayWalk : ℕ → List ℕ → ℕ → ℕ → Vertex → Type 0
-MayWalk count s results k (Begin next) = (k < next) × (next < count)
-MayWalk count s results k (Test var kids) =
-    (var < length s) × (slice_index s var < length kids)
-    × (k < slice_index kids (slice_index s var)) × (slice_index kids (slice_index s var) < count)
-MayWalk count s results k (Assign result code next) =
-    (result < results) × (k < next) × (next < count)
-MayWalk count s results k End = ⊤

@@ -1,7 +1,7 @@
 -- What the definitions say of small graphs.
 use Rattle.std.specs.Prelude.{◌≡◌, false, [], ◌∷◌, IsTrue}
-use Rattle.transition_table.specs.SampleJoin.{join_machine}
-use Rattle.transition_table.specs.SampleLamp.{lamp_machine}
+use Rattle.transition_table.specs.samples.Join.{join_machine}
+use Rattle.transition_table.specs.samples.Lamp.{lamp_machine}
 use Rattle.transition_table.specs.Worked.{firing}
 use Rattle.transition_table.specs.Transitions.{blank}
 use Rattle.sgraph.specs.declared.vertex.Vertex.TheVariants.{Begin, Test, Assign, End}

@@ -8,7 +8,7 @@ ghost use Rattle.sgraph.specs.declared.vertex.Vertex.TheVariants.{Begin};
 ghost use Rattle.transition_table.specs.Orders.{sizes_of, Allowed};
 ghost use Rattle.sgraph.specs.Building.{number_in, vertex_in, graph_of};
 ghost use Rattle.sgraph.specs.Built.{IsExact};
-ghost use Rattle.sgraph.specs.Marks.{turned};
+ghost use Rattle.sgraph.specs.inner.Marks.{turned};
 ghost use Rattle.sgraph.specs.Reactions.{IsGraphOf};
 
 use crate::graph::{Graph, VertexList};

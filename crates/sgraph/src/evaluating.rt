@@ -3,7 +3,8 @@ ghost use Rattle.std.specs.Prelude.{◌≡◌, ◌+◌, ◌<◌, ℕ, List, leng
 ghost use Rattle.transition_table.specs.declared.machine.Machine.{Machine};
 ghost use Rattle.transition_table.specs.Transitions.{HasWidths};
 ghost use Rattle.sgraph.specs.Graphs.{next_of, assign, Eval};
-ghost use Rattle.sgraph.specs.Walks.{AreOfOne, MayWalk, outcome_with, width_of};
+ghost use Rattle.sgraph.specs.Walks.{AreOfOne, outcome_with, width_of};
+ghost use Rattle.sgraph.specs.inner.Walks.{MayWalk};
 
 use crate::graph::Graph;
 use crate::vertex::Vertex;

@@ -5,7 +5,7 @@ ghost use Rattle.decision_diagram.specs.declared.node.Shape.TheVariants.{Inner};
 ghost use Rattle.transition_table.specs.Orders.{sizes_of};
 ghost use Rattle.sgraph.specs.Graphs.{left_after};
 ghost use Rattle.sgraph.specs.Building.{code_there, next_nodes};
-ghost use Rattle.sgraph.specs.Marks.{turned, Marks, AreNext};
+ghost use Rattle.sgraph.specs.inner.Marks.{turned, Marks, AreNext};
 
 use decision_diagram::{NodeId, Shape, Store};
 use polis_base::{List, NoMemory};
@@ -78,10 +78,10 @@ fn leave(
 ) -> Result<(), NoMemory>
     requires node { IsNode store.now k }
     requires sizes { store.now.sizes ≡ sizes_of m.now }
-    requires marks { Marks store.now marks.old left.old }
+    requires marks { Marks (length store.now.nodes + 2) marks.old left.old }
     ensures left { OnOk result (turned left.new
         ≡ left_after (suc k) (next_nodes store.now (length m.now.vars)) (turned left.old) k) }
-    ensures marks { OnOk result (Marks store.now marks.new left.new) }
+    ensures marks { OnOk result (Marks (length store.now.nodes + 2) marks.new left.new) }
 {
     store.same_value_same_node();
     if *marks.get(k.number()) {

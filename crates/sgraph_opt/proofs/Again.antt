@@ -1,7 +1,7 @@
 -- Vertices that are numbered again stand in the order of the walk.
-use Rattle.std.proofs.Common.{◌≡◌, inl, inr, ⊎_elim, ℕ, zero, suc, ◌+◌, ◌<◌, ◌≤◌, Bool, true, cond, List, [], ◌∷◌, ◌++◌, map, length, slice_get, slice_index, Option, Some, None, refl, ap, sym, subst, ◌∙◌, arith, eqb}
+use Rattle.std.proofs.Common.{◌≡◌, inl, inr, ⊎_elim, ℕ, zero, suc, ◌+◌, ◌<◌, ◌≤◌, true, List, ◌∷◌, ◌++◌, map, length, slice_get, slice_index, Option, Some, None, refl, ap, sym, subst, ◌∙◌, arith, eqb, []}
 use Rattle.std.specs.Prelude.{unwrap_or}
-use Rattle.std.proofs.lemmas.Bool.{cases_Bool, cases_lt, eqb-true, or_cases, true≢false}
+use Rattle.std.proofs.lemmas.Bool.{cases_lt, eqb-true, or_cases, true≢false}
 use Rattle.std.proofs.lemmas.Grind.{same_number_lists}
 use Rattle.polis_base.specs.Lists.{upto}
 use Rattle.transition_table.specs.NetworkFacts.{has}
@@ -9,12 +9,16 @@ use Rattle.domains.specs.Orders.{place}
 use Rattle.sgraph.specs.declared.vertex.Vertex.{Vertex}
 use Rattle.sgraph.specs.declared.vertex.Vertex.TheVariants.{Begin, Test, Assign, End}
 use Rattle.sgraph.specs.Graphs.{kids_of, kids_in, kids_at, left_after, Numbered}
-use Rattle.sgraph_opt.specs.Representatives.{renamed}
-use Rattle.sgraph_opt.specs.Renumbering.{vertex_at, all_left, numbered_of, Rises}
-use Rattle.sgraph_opt.proofs.Departures.{Closed, visit_new, in_place, has_at, place_at, closed_next, enough, every_left, renamed as renamed_walk}
+use Rattle.sgraph_opt.specs.inner.Representatives.{renamed}
+use Rattle.sgraph_opt.specs.Renumbering.{all_left}
+use Rattle.sgraph_opt.specs.inner.Renumbering.{vertex_at, numbered_of, Rises}
+use Rattle.sgraph.proofs.Departures.{Closed, visit_new, in_place, has_at, place_at, closed_next, enough, every_left, renamed as renamed_walk}
 use Rattle.sgraph_opt.proofs.Rising.{visit_beyond}
-use Rattle.sgraph_opt.proofs.Members.{Every}
-use Rattle.sgraph_opt.specs.Shrinking.{Shrinks}
+use Rattle.decision_diagram.proofs.Distinct.{Every}
+use Rattle.sgraph_opt.specs.inner.Shrinking.{Shrinks}
+use Rattle.sgraph.proofs.Keeping.{long_map}
+use Rattle.domains.proofs.Places.{at_place}
+use Rattle.decision_diagram.proofs.Along.{long_upto, index_map, index_upto}
 
 pub kids_renamed : (f : ℕ → ℕ) (v : Vertex) → kids_of (renamed f v) ≡ map f (kids_of v)
 kids_renamed f (Begin next) = refl
@@ -42,55 +46,13 @@ pub long_vertices : (f : ℕ → Vertex) (xs : List ℕ) → length (map f xs) �
 long_vertices f [] = refl
 long_vertices f (x ∷ xs) = ap suc (long_vertices f xs)
 
-pub long_map : (f : ℕ → ℕ) (xs : List ℕ) → length (map f xs) ≡ length xs
-long_map f [] = refl
-long_map f (x ∷ xs) = ap suc (long_map f xs)
-
-pub index_map : (f : ℕ → ℕ) (xs : List ℕ) (j : ℕ) → j < length xs
-    → slice_index (map f xs) j ≡ f (slice_index xs j)
-index_map f [] j low = absurd (omega arith)
-index_map f (x ∷ xs) zero low = refl
-index_map f (x ∷ xs) (suc j) low = index_map f xs j (omega arith)
-
 long_push : (xs : List ℕ) (x : ℕ) → length (xs ++ x ∷ []) ≡ suc (length xs)
 long_push [] x = refl
 long_push (y ∷ ys) x = ap suc (long_push ys x)
 
-pub long_upto : (n : ℕ) → length (upto n) ≡ n
-long_upto zero = refl
-long_upto (suc n) = long_push (upto n) n ∙ ap suc (long_upto n)
-
-index_append : (xs ys : List ℕ) (j : ℕ) → j < length xs
-    → slice_index (xs ++ ys) j ≡ slice_index xs j
-index_append [] ys j low = absurd (omega arith)
-index_append (x ∷ xs) ys zero low = refl
-index_append (x ∷ xs) ys (suc j) low = index_append xs ys j (omega arith)
-
 index_last : (xs : List ℕ) (x : ℕ) → slice_index (xs ++ x ∷ []) (length xs) ≡ x
 index_last [] x = refl
 index_last (y ∷ ys) x = index_last ys x
-
-pub index_upto : (n j : ℕ) → j < n → slice_index (upto n) j ≡ j
-index_upto zero j low = absurd (omega arith)
-index_upto (suc n) j low =
-    let l = long_upto n in
-    ⊎_elim
-    (λ less. index_append (upto n) (n ∷ []) j (omega arith) ∙ index_upto n j less)
-    (λ more. let e : j ≡ length (upto n) = omega arith in let f : n ≡ j = omega arith in
-    ap (slice_index (upto n ++ n ∷ [])) e ∙ index_last (upto n) n ∙ f)
-    (cases_lt j n)
-
-pub at_place : (xs : List ℕ) (v : ℕ) → place xs v < length xs → slice_index xs (place xs v) ≡ v
-at_place [] v low = absurd (omega arith)
-at_place (x ∷ xs) v low =
-    ⊎_elim
-    (λ own. ap (λ (b : Bool). slice_index (x ∷ xs) (cond b 0 (place xs v + 1))) own
-    ∙ eqb-true x v own)
-    (λ other.
-    let e = ap (λ (b : Bool). cond b 0 (place xs v + 1)) other in
-    let f : cond (eqb x v) 0 (place xs v + 1) ≡ suc (place xs v) = omega arith in
-    ap (slice_index (x ∷ xs)) f ∙ at_place xs v (omega arith))
-    (cases_Bool (eqb x v))
 
 module _ (h : List Vertex) (some : 0 < length h) (rises : Rises h) where
   abbrev next : ℕ → List ℕ
@@ -187,15 +149,10 @@ module _ (h : List Vertex) (some : 0 < length h) (rises : Rises h) where
       ∙ ap upto (sym long)
 
 -- ---- what shrank, numbered again, is still shrunk
+
 pub map_map : (f to : ℕ → ℕ) (xs : List ℕ) → map f (map to xs) ≡ map (λ k. f (to k)) xs
 map_map f to [] = refl
 map_map f to (x ∷ xs) = ap (λ (ns : List ℕ). f (to x) ∷ ns) (map_map f to xs)
-
-pub every_at : (P : ℕ → Type 0) (xs : List ℕ) (i : ℕ) → Every P xs → i < length xs
-    → P (slice_index xs i)
-every_at P [] i all low = absurd (omega arith)
-every_at P (x ∷ xs) zero all low = all.0
-every_at P (x ∷ xs) (suc i) all low = every_at P xs i all.1 (omega arith)
 
 every_has : (P : ℕ → Type 0) (xs : List ℕ) (k : ℕ) → Every P xs → has xs k ≡ true → P k
 every_has P [] k all h = absurd (true≢false (sym h))
@@ -204,11 +161,6 @@ every_has P (x ∷ xs) k all h =
     (λ own. subst P (eqb-true x k own) all.0)
     (λ rest. every_has P xs k all.1 rest)
     (or_cases (eqb x k) (has xs k) h)
-
-pub below : (vs : List Vertex) (n : ℕ) (v : Vertex) → slice_get vs n ≡ Some v → n < length vs
-below [] n v e = cc
-below (w ∷ vs) zero v e = omega arith
-below (w ∷ vs) (suc n) v e = let r = below vs n v e in omega arith
 
 module _ (g h : List Vertex) (to : ℕ → ℕ) (some : 0 < length h) (rises : Rises h)
     (some_g : 0 < length g) (rises_g : Rises g) (shrinks : Shrinks g h to (λ k. true))

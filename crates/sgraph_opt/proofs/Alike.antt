@@ -1,5 +1,5 @@
 -- What is left out or joined changes nothing of what a walk gives.
-use Rattle.std.proofs.Common.{◌≡◌, ⊎_elim, ℕ, zero, suc, ◌+◌, ◌<◌, ◌≤◌, Bool, true, not, List, [], ◌∷◌, map, length, replicate, slice_get, slice_index, slice_set, Option, Some, None, refl, ap, sym, subst, ◌∙◌, arith, eqb, get_or-set_other}
+use Rattle.std.proofs.Common.{◌≡◌, ⊎_elim, ℕ, zero, suc, ◌+◌, ◌<◌, ◌≤◌, Bool, true, not, List, ◌∷◌, map, length, replicate, slice_get, slice_index, slice_set, Option, Some, None, refl, ap, sym, subst, ◌∙◌, arith, eqb, get_or-set_other, []}
 use Rattle.std.specs.Prelude.{Contains}
 use Rattle.std.specs.List.{cons_option}
 use Rattle.std.proofs.lemmas.Bool.{and_parts, cases_lt, eq-eqb, or_left, or_right, true≢false}
@@ -11,27 +11,14 @@ use Rattle.sgraph.specs.declared.vertex.Vertex.TheVariants.{Begin, Test, Assign,
 use Rattle.sgraph.specs.Facts.{IsGraph, assigned_by, assigned}
 use Rattle.sgraph.specs.Graphs.{next_of, walk, assign_all, with_codes, kids_of, kids_in, kids_at, IsPath, Eval}
 use Rattle.sgraph.specs.Trails.{trail}
-use Rattle.sgraph_opt.specs.Shrinking.{Shrinks, HasKids}
+use Rattle.sgraph_opt.specs.inner.Shrinking.{Shrinks, HasKids}
 use Rattle.sgraph_opt.proofs.Lifting.{contains_at}
 use Rattle.sgraph_opt.proofs.Onward.{some_child}
 use Rattle.sgraph_opt.proofs.Standing.{vertex_there}
-use Rattle.sgraph_opt.proofs.Walking.{Onward, trail_at}
-
-set_own : (xs : List ℕ) (k : ℕ) → slice_set xs k (slice_index xs k) ≡ xs
-set_own [] k = refl
-set_own (x ∷ xs) zero = refl
-set_own (x ∷ xs) (suc k) = ap (λ (ys : List ℕ). x ∷ ys) (set_own xs k)
-
-got_some : (xs : List ℕ) (i : ℕ) → i < length xs → slice_get xs i ≡ Some (slice_index xs i)
-got_some [] i low = absurd (omega arith)
-got_some (x ∷ xs) zero low = refl
-got_some (x ∷ xs) (suc i) low = got_some xs i (omega arith)
-
-got_mapped : (f : ℕ → ℕ) (xs : List ℕ) (i : ℕ) → i < length xs
-    → slice_get (map f xs) i ≡ Some (f (slice_index xs i))
-got_mapped f [] i low = absurd (omega arith)
-got_mapped f (x ∷ xs) zero low = refl
-got_mapped f (x ∷ xs) (suc i) low = got_mapped f xs i (omega arith)
+use Rattle.sgraph.proofs.Walking.{Onward, trail_at}
+use Rattle.transition_table.proofs.Supporting.{set_own}
+use Rattle.sgraph.proofs.EvalSteps.{got_some}
+use Rattle.sgraph.proofs.Evaluated.{got_map}
 
 item_mapped : (f : ℕ → ℕ) (xs : List ℕ) (i : ℕ) → i < length xs
     → (slice_index (map f xs) i ≡ f (slice_index xs i)) × (i < length (map f xs))
@@ -110,7 +97,7 @@ module _ (g h : List Vertex) (to : ℕ → ℕ) (some : ℕ → Bool) (s : List 
       let item = item_mapped to kids i low in
       let above_too = up_h (to k) (Test var (map to kids)) i real item.1 in
       let e : slice_index (map to kids) i ≡ to j = item.0 in
-      let theirs = one_kid h (to k) (to j) (Test var (map to kids)) real (got_mapped to kids i low)
+      let theirs = one_kid h (to k) (to j) (Test var (map to kids)) real (got_map to kids i low)
       (omega arith) in
       ap (assign_all codes) mine ∙ rest ∙ sym (ap (assign_all codes) theirs))
       (λ idle. ap (assign_all codes) mine ∙ rest

@@ -4,14 +4,16 @@ use Rattle.std.proofs.lemmas.Bool.{cases_eq, cases_Bool, eqb-true, eq-eqb}
 use Rattle.sgraph.specs.declared.vertex.Vertex.{Vertex}
 use Rattle.sgraph.specs.declared.vertex.Vertex.TheVariants.{Begin, Test, Assign, End}
 use Rattle.sgraph.specs.Facts.{IsGraph}
-use Rattle.sgraph_opt.specs.Representatives.{IsRep, Standing, Dropping, past_default}
-use Rattle.sgraph_opt.proofs.Standing.{got, below, set_here, set_there, set_long, long_zeros}
+use Rattle.sgraph_opt.specs.inner.Representatives.{IsRep, Standing, Dropping, past_default}
+use Rattle.sgraph.proofs.Following.{got}
+use Rattle.sgraph.proofs.Graphing.{set_here, set_there, set_long, long_zeros}
+use Rattle.decision_diagram.proofs.Lists.{read_within}
 
 pub dropping_start : (g : List Vertex) (reps : List ℕ) (i count : ℕ) → reps ≡ replicate count 0
     → count ≡ length g → i ≡ length g → Dropping g reps i
 dropping_start g reps i count is all at = record {
   long = ap (λ (xs : List ℕ). length xs) is ∙ long_zeros count ∙ all;
-  each = λ k v high is_v. absurd (let low = below g k v is_v in omega arith);
+  each = λ k v high is_v. absurd (let low = read_within g k v is_v in omega arith);
 }
 
 -- only what stands for later vertices matters

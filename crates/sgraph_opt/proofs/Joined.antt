@@ -1,5 +1,5 @@
 -- Equal vertices that are joined, by an index of those that stand for themselves.
-use Rattle.std.proofs.Common.{◌≡◌, ◌⊎◌, inl, inr, ⊎_elim, ℕ, zero, suc, ◌+◌, ◌<◌, ◌≤◌, Bool, true, false, not, cond, ◌&&◌, List, map, length, drop, replicate, slice_get, slice_index, slice_set, Option, Some, None, refl, ap, sym, subst, ◌∙◌, arith, eqb}
+use Rattle.std.proofs.Common.{◌≡◌, ◌⊎◌, inl, inr, ⊎_elim, ℕ, zero, suc, ◌+◌, ◌<◌, ◌≤◌, Bool, true, false, not, cond, ◌&&◌, List, map, length, replicate, slice_get, slice_index, slice_set, Option, Some, None, refl, ap, sym, subst, ◌∙◌, arith, eqb}
 use Rattle.std.specs.Cmp.Lexicographic.{bytes_decides}
 use Rattle.std.specs.Str.{bytes_eq}
 use Rattle.std.proofs.lemmas.Bool.{cases_eq, cases_Bool, cond-true, cond-false, and_parts, eqb-true, ne_eqb}
@@ -8,49 +8,20 @@ use Rattle.sgraph.specs.declared.vertex.Vertex.TheVariants.{Begin, Test, Assign,
 use Rattle.sgraph.specs.Facts.{IsGraph}
 use Rattle.sgraph.specs.Graphs.{key_of, varies}
 use Rattle.polis_base.specs.Index.{Keyed, found}
-use Rattle.sgraph_opt.specs.Choices.{Same, Entered, Chosen, is_inner, stays, Has, Sharing, Shared}
-use Rattle.sgraph_opt.specs.Representatives.{renamed, IsTwin, IsRep, Standing}
-use Rattle.sgraph_opt.proofs.Standing.{got, below, set_here, set_there, same_renamed, later_kids, standing_start, standing_more, vertex_there}
-
--- ---- vertices as lists of numbers
-pub same_vertex : (u v : Vertex) → key_of u ≡ key_of v → u ≡ v
-same_vertex (Begin next) (Begin other) e = let f = ap (λ xs. slice_index xs 1) e in ap Begin f
-same_vertex (Begin next) (Test var kids) e =
-    absurd (let f = ap (λ xs. slice_index xs 0) e in omega arith)
-same_vertex (Begin next) (Assign result code other) e =
-    absurd (let f = ap (λ xs. slice_index xs 0) e in omega arith)
-same_vertex (Begin next) End e = absurd (let f = ap (λ xs. slice_index xs 0) e in omega arith)
-same_vertex (Test var kids) (Begin next) e =
-    absurd (let f = ap (λ xs. slice_index xs 0) e in omega arith)
-same_vertex (Test var kids) (Test var' kids') e = let f : var ≡ var' =
-    ap (λ xs. slice_index xs 1) e in let g : kids ≡ kids' = ap (drop 2) e in cc
-same_vertex (Test var kids) (Assign result code other) e =
-    absurd (let f = ap (λ xs. slice_index xs 0) e in omega arith)
-same_vertex (Test var kids) End e = absurd (let f = ap (λ xs. slice_index xs 0) e in omega arith)
-same_vertex (Assign result code next) (Begin other) e =
-    absurd (let f = ap (λ xs. slice_index xs 0) e in omega arith)
-same_vertex (Assign result code next) (Test var kids) e =
-    absurd (let f = ap (λ xs. slice_index xs 0) e in omega arith)
-same_vertex (Assign result code next) (Assign result' code' next') e =
-    let f : result ≡ result' = ap (λ xs. slice_index xs 1) e in
-    let g : code ≡ code' = ap (λ xs. slice_index xs 2) e in
-    let h : next ≡ next' = ap (λ xs. slice_index xs 3) e in
-    cc
-same_vertex (Assign result code next) End e =
-    absurd (let f = ap (λ xs. slice_index xs 0) e in omega arith)
-same_vertex End (Begin other) e = absurd (let f = ap (λ xs. slice_index xs 0) e in omega arith)
-same_vertex End (Test var kids) e = absurd (let f = ap (λ xs. slice_index xs 0) e in omega arith)
-same_vertex End (Assign result code next) e =
-    absurd (let f = ap (λ xs. slice_index xs 0) e in omega arith)
-same_vertex End End e = refl
-
-same_some : {X : Type 0} (o : Option X) (a b : X) → o ≡ Some a → o ≡ Some b → a ≡ b
-same_some o a b p q = cc
+use Rattle.sgraph_opt.specs.inner.Choices.{Same, Entered, Chosen, is_inner, stays, Has, Sharing, Shared}
+use Rattle.sgraph_opt.specs.inner.Representatives.{renamed, IsTwin, IsRep, Standing}
+use Rattle.sgraph_opt.proofs.Standing.{same_renamed, later_kids, standing_start, standing_more, vertex_there}
+use Rattle.sgraph.proofs.Following.{got}
+use Rattle.sgraph.proofs.Graphing.{set_here, set_there}
+use Rattle.sgraph.proofs.Deepening.{same_vertex}
+use Rattle.sgraph.proofs.Following.{same_some}
+use Rattle.decision_diagram.proofs.Lists.{read_within}
 
 not_none : {X : Type 0} (o : Option X) (a : X) → o ≡ None → o ≡ Some a → ⊥
 not_none o a p q = cc
 
 -- ---- one more vertex
+
 module _ (drops : Bool) (g : List Vertex) (ok : IsGraph g) (reps more : List ℕ)
     (old new : Keyed) (i k r : ℕ) (s : Sharing drops g reps old i) (at : i ≡ k + 1)
     (v : Vertex) (is : slice_get g k ≡ Some v) (set : more ≡ slice_set reps k r) where
@@ -58,7 +29,7 @@ module _ (drops : Bool) (g : List Vertex) (ok : IsGraph g) (reps more : List ℕ
   to = slice_index reps
 
   low : k < length g
-  low = below g k v is
+  low = read_within g k v is
 
   apart : (j : ℕ) → k < j → slice_index reps j ≡ slice_index more j
   apart j up = sym (ap (λ (xs : List ℕ). slice_index xs j) set
@@ -261,6 +232,7 @@ module _ (drops : Bool) (g : List Vertex) (ok : IsGraph g) (reps more : List ℕ
   not_itself t e = let up = t.later in omega arith
 
 -- what stands for a vertex from number i on is no earlier
+
 stands_higher : (g : List Vertex) → IsGraph g → (reps : List ℕ) (i : ℕ) → Standing g reps i
     → (k : ℕ) → i ≤ k → k < length g → k ≤ slice_index reps k
 stands_higher g ok reps i s k high low = from (length g) k high (omega arith) low
@@ -373,9 +345,9 @@ pub sharing_start : (drops : Bool) (g : List Vertex) (reps : List ℕ) (index : 
     → ((q : List ℕ) → found index q ≡ None) → Sharing drops g reps index i
 sharing_start drops g reps index i count is all at none = record {
   stands = standing_start g reps i count is all at;
-  stay = λ k v high is_v own. absurd (let low = below g k v is_v in omega arith);
+  stay = λ k v high is_v own. absurd (let low = read_within g k v is_v in omega arith);
   met = λ key r h. absurd (not_none (found index key) r (none key) h);
-  all = λ key r h. absurd (let low = below g r h.vertex h.is in let from = h.from in omega arith);
+  all = λ key r h. absurd (let low = read_within g r h.vertex h.is in let from = h.from in omega arith);
 }
 
 -- ---- all vertices

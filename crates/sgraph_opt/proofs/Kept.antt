@@ -1,13 +1,12 @@
 -- What stands for the vertices, numbered again, is a graph that keeps what the graph does.
-use Rattle.std.proofs.Common.{◌≡◌, ⊎_elim, ℕ, zero, suc, ◌+◌, ◌-◌, ◌<◌, ◌≤◌, true, false, List, [], ◌∷◌, map, length, slice_get, slice_index, get_or, Option, Some, None, refl, ap, sym, subst, ◌∙◌, arith, eqb, ltb}
+use Rattle.std.proofs.Common.{◌≡◌, ⊎_elim, ℕ, ◌+◌, ◌-◌, ◌<◌, ◌≤◌, true, false, List, ◌∷◌, map, length, slice_get, slice_index, get_or, Option, Some, None, refl, ap, sym, subst, ◌∙◌, arith, eqb, []}
 use Rattle.std.specs.Prelude.{unwrap_or, filter_map}
 use Rattle.std.specs.List.{list_any}
-use Rattle.std.proofs.lemmas.Bool.{and_parts, eqb-true, ltb-true, ne_eqb, or_cases, false≢true}
+use Rattle.std.proofs.lemmas.Bool.{eqb-true, ne_eqb, or_cases, false≢true}
 use Rattle.std.proofs.lemmas.List.{get_or_default}
 use Rattle.std.proofs.lemmas.Map.Steps.{length-le_from_distinct_below}
 use Rattle.std.proofs.lemmas.Map.Keys.{IsDistinct-from_apart}
 use Rattle.domains.specs.Orders.{place}
-use Rattle.domains.specs.Tables.{fits}
 use Rattle.transition_table.specs.NetworkFacts.{has, are_different}
 use Rattle.transition_table.specs.declared.machine.Machine.{Machine}
 use Rattle.sgraph.specs.declared.vertex.Vertex.{Vertex}
@@ -15,34 +14,25 @@ use Rattle.sgraph.specs.declared.vertex.Vertex.TheVariants.{Begin, Test, Assign,
 use Rattle.sgraph.specs.Facts.{IsGraph, assigned_by}
 use Rattle.sgraph.specs.Graphs.{kids_of, kids_in, kids_at, IsPath, item_of, tested_by, items, tests, Numbered, rises as rises_of}
 use Rattle.sgraph.specs.Walks.{FitsMachine}
-use Rattle.sgraph_opt.specs.Renumbering.{vertex_at, all_left, numbered_of, replaced, Rises}
-use Rattle.sgraph_opt.specs.Representatives.{renamed, Standing}
-use Rattle.sgraph_opt.specs.Shrinking.{Shrinks}
+use Rattle.sgraph_opt.specs.Renumbering.{all_left}
+use Rattle.sgraph_opt.specs.inner.Renumbering.{vertex_at, numbered_of, replaced, Rises}
+use Rattle.sgraph_opt.specs.inner.Representatives.{renamed, Standing}
+use Rattle.sgraph_opt.specs.inner.Shrinking.{Shrinks}
 use Rattle.sgraph_opt.specs.Smaller.{FitsReached, OrderedReached, OnceReached, Keeps}
-use Rattle.sgraph_opt.proofs.Again.{again, again_rises, closed, first_zero, shrinks_again, every_at, long_vertices, got_map as got_map_vertex, kids_renamed, index_map, long_map}
+use Rattle.sgraph_opt.proofs.Again.{again, again_rises, closed, first_zero, shrinks_again, long_vertices, got_map as got_map_vertex, kids_renamed}
+use Rattle.sgraph.proofs.Numbering.{every_at}
+use Rattle.sgraph.proofs.Keeping.{long_map}
 use Rattle.sgraph_opt.proofs.Alike.{same_outcome}
-use Rattle.sgraph_opt.proofs.Departures.{Closed, every_left, place_at}
+use Rattle.sgraph.proofs.Departures.{Closed, every_left, place_at}
 use Rattle.sgraph_opt.proofs.Lifting.{BeginsWith, lifted, part_different, part_rises}
-use Rattle.sgraph_opt.proofs.Members.{Every}
+use Rattle.decision_diagram.proofs.Distinct.{Every}
 use Rattle.sgraph_opt.proofs.Reaching.{source, had, few}
-use Rattle.sgraph_opt.proofs.Standing.{below, got_map, standing_shrinks, rises, first_stands, some_vertex, own, within}
-
-there_is : (vs : List Vertex) (n : ℕ) → n < length vs → (v : Vertex) × (slice_get vs n ≡ Some v)
-there_is [] n low = absurd (omega arith)
-there_is (v ∷ vs) zero low = (v, refl)
-there_is (v ∷ vs) (suc n) low = there_is vs n (omega arith)
-
-got_one : {X : Type 0} (o : Option X) (a b : X) → o ≡ Some a → o ≡ Some b → a ≡ b
-got_one o a b p q = cc
-
-fits_codes : (sizes codes : List ℕ) (v : ℕ) → fits sizes codes ≡ true → v < length sizes
-    → slice_index codes v < slice_index sizes v
-fits_codes [] codes v h low = absurd (omega arith)
-fits_codes (size ∷ sizes) [] v h low = absurd (false≢true h)
-fits_codes (size ∷ sizes) (c ∷ codes) zero h low =
-    ltb-true c size (and_parts (ltb c size) (fits sizes codes) h).0
-fits_codes (size ∷ sizes) (c ∷ codes) (suc v) h low =
-    fits_codes sizes codes v (and_parts (ltb c size) (fits sizes codes) h).1 (omega arith)
+use Rattle.sgraph_opt.proofs.Standing.{got_map, standing_shrinks, rises, first_stands, some_vertex, own, within}
+use Rattle.sgraph.proofs.Keeping.{there_is}
+use Rattle.decision_diagram.proofs.Lists.{read_within}
+use Rattle.transition_table.proofs.Ranges.{below_size}
+use Rattle.sgraph.proofs.Following.{same_some}
+use Rattle.decision_diagram.proofs.Along.{index_map}
 
 -- what a vertex shows doesn't hang on its children
 same_item : (n : ℕ) (to : ℕ → ℕ) (v : Vertex) → item_of n (Some (renamed to v)) ≡ item_of n (Some v)
@@ -128,7 +118,7 @@ module _ (g : List Vertex) (reps : List ℕ) (ok : IsGraph g) (s : Standing g re
   rising = rises g ok reps s
 
   some_here : 0 < length g
-  some_here = below g 0 (Begin ok.begin.0) ok.begin.1
+  some_here = read_within g 0 (Begin ok.begin.0) ok.begin.1
 
   rising_here : Rises g
   rising_here k i low = go (slice_get g k) refl low
@@ -232,9 +222,9 @@ module _ (g : List Vertex) (reps : List ℕ) (ok : IsGraph g) (s : Standing g re
   pub origin_of : (j : ℕ) (w : Vertex) → slice_get (numbered_of (replaced g reps)) j ≡ Some w
       → (o : Origin j)
       × (w ≡ renamed (place (all_left (replaced g reps))) (renamed (slice_index reps) o.vertex))
-  origin_of j w is = let o = origin j (below (numbered_of (replaced g reps)) j w is) in (
+  origin_of j w is = let o = origin j (read_within (numbered_of (replaced g reps)) j w is) in (
     o,
-    got_one (slice_get (numbered_of (replaced g reps)) j) w
+    same_some (slice_get (numbered_of (replaced g reps)) j) w
         (renamed (place (all_left (replaced g reps))) (renamed (slice_index reps) o.vertex)) is
         o.there,
   )
@@ -370,7 +360,7 @@ module _ (g : List Vertex) (reps : List ℕ) (ok : IsGraph g) (s : Standing g re
     end = λ k e. let v = there_is (numbered_of (replaced g reps)) k (omega arith) in
         v.1 ∙ ap (λ (w : Vertex). Some w) (last_end k v.0 v.1 e);
     only_end = λ k is.
-        let low = below (numbered_of (replaced g reps)) k End is in
+        let low = read_within (numbered_of (replaced g reps)) k End is in
         let last : ℕ = length (numbered_of (replaced g reps)) - 1 in
         let e : last + 1 ≡ length (numbered_of (replaced g reps)) = omega arith in
         let v = there_is (numbered_of (replaced g reps)) last (omega arith) in
@@ -433,12 +423,12 @@ module _ (g : List Vertex) (reps : List ℕ) (ok : IsGraph g) (s : Standing g re
   from_reached j w is =
       let o = source g (numbered_of (replaced g reps))
       (λ k. place (all_left (replaced g reps)) (slice_index reps k)) (has (all_left g)) ok shrinks
-      first is_numbered j (below (numbered_of (replaced g reps)) j w is) in (
+      first is_numbered j (read_within (numbered_of (replaced g reps)) j w is) in (
         o.number,
         o.vertex,
         o.on,
         o.is,
-        got_one (slice_get (numbered_of (replaced g reps)) j) w
+        same_some (slice_get (numbered_of (replaced g reps)) j) w
             (renamed (λ k. place (all_left (replaced g reps)) (slice_index reps k)) o.vertex) is
             o.there,
       )
@@ -466,7 +456,7 @@ module _ (g : List Vertex) (reps : List ℕ) (ok : IsGraph g) (s : Standing g re
         (λ k. place (all_left (replaced g reps)) (slice_index reps k)) (has (all_left g)) snap ok
         is_graph.above shrinks first (λ k var kids on is.
         let there = fit.tests k var kids on is in
-        let low = fits_codes m.vars snap var codes there.0 in
+        let low = below_size m.vars snap var codes there.0 in
         let e = there.1 in
         omega arith) some_here;
     ordered = λ n order goes path walk.

@@ -3,9 +3,12 @@ use Rattle.std.proofs.Common.{◌≡◌, ◌≢◌, ⊎_elim, ℕ, zero, suc, �
 use Rattle.std.proofs.lemmas.Bool.{cases_lt, false_from_ne_true}
 use Rattle.sgraph.specs.declared.vertex.Vertex.TheVariants.{Test}
 use Rattle.sgraph.specs.Graphs.{are_same, varies}
-use Rattle.sgraph_opt.proofs.Again.{index_map, long_map}
+use Rattle.sgraph.proofs.Keeping.{long_map}
 use Rattle.sgraph_opt.proofs.Reducing.{all_eq}
-use Rattle.sgraph_opt.proofs.Standing.{got, below, map_push, take_one}
+use Rattle.sgraph_opt.proofs.Standing.{map_push, take_one}
+use Rattle.sgraph.proofs.Following.{got}
+use Rattle.decision_diagram.proofs.Lists.{read_within}
+use Rattle.decision_diagram.proofs.Along.{index_map}
 
 pub one_more_same : (reps kids : List ℕ) (i x a first : ℕ)
     → ((j : ℕ) → j < i → slice_index reps (slice_index kids j) ≡ first) → slice_get kids i ≡ Some x
@@ -35,7 +38,7 @@ pub differing : (reps kids : List ℕ) (i x a y first : ℕ) → slice_get kids 
 differing reps kids i x a y first is_y is_first is_x is_a other var =
     ap not (false_from_ne_true (are_same (map (slice_index reps) kids)) (λ on.
     other (sym (ap (slice_index reps) (got kids i x is_x) ∙ got reps x a is_a)
-    ∙ same_kids (slice_index reps) kids on i (below kids i x is_x)
+    ∙ same_kids (slice_index reps) kids on i (read_within kids i x is_x)
     ∙ ap (slice_index reps) (got kids 0 y is_y) ∙ got reps y first is_first)))
 
 pub key_more : (reps kids key more : List ℕ) (var i x a : ℕ)

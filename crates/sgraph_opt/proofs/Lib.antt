@@ -1,19 +1,16 @@
-mod Again
-mod Alike
-mod Arranging
-mod Departing
-mod Departures
-mod Dropped
-mod Joined
-mod Kept
-mod Keys
-mod Lifting
-mod Members
+pub mod Again
+pub mod Alike
+pub mod Arranging
+pub mod Departing
+pub mod Dropped
+pub mod Joined
+pub mod Kept
+pub mod Keys
+pub mod Lifting
 pub mod OfMachine
-mod Onward
-mod Reaching
-mod Reducing
-mod Replaced
-mod Rising
-mod Standing
-mod Walking
+pub mod Onward
+pub mod Reaching
+pub mod Reducing
+pub mod Replaced
+pub mod Rising
+pub mod Standing

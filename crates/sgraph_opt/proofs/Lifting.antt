@@ -8,11 +8,12 @@ use Rattle.sgraph.specs.declared.vertex.Vertex.{Vertex}
 use Rattle.sgraph.specs.declared.vertex.Vertex.TheVariants.{Begin, Test, Assign, End}
 use Rattle.sgraph.specs.Facts.{IsGraph}
 use Rattle.sgraph.specs.Graphs.{kids_of, kids_in, kids_at, IsPath, rises}
-use Rattle.sgraph_opt.specs.Representatives.{renamed}
-use Rattle.sgraph_opt.specs.Shrinking.{Shrinks}
+use Rattle.sgraph_opt.specs.inner.Representatives.{renamed}
+use Rattle.sgraph_opt.specs.inner.Shrinking.{Shrinks}
 use Rattle.sgraph_opt.proofs.Again.{kids_renamed}
 use Rattle.sgraph_opt.proofs.Onward.{some_child}
 use Rattle.sgraph_opt.proofs.Standing.{vertex_there}
+use Rattle.sgraph.proofs.Keeping.{rises_tail}
 
 -- ---- parts of lists
 -- the first list arises from the second one by leaving items out
@@ -58,11 +59,6 @@ part_different (x ∷ xs) (y ∷ ys) (inl both) h =
     (part_different xs ys both.1 parts.1)
 part_different (x ∷ xs) (y ∷ ys) (inr p) h =
     part_different (x ∷ xs) ys p (and_parts (not (has ys y)) (are_different ys) h).1
-
--- a part of rising numbers
-rises_tail : (y : ℕ) (ys : List ℕ) → rises (y ∷ ys) ≡ true → rises ys ≡ true
-rises_tail y [] h = refl
-rises_tail y (z ∷ ys) h = (and_parts (ltb y z) (rises (z ∷ ys)) h).1
 
 above : (f : ℕ → ℕ) (b x : ℕ) (xs ys : List ℕ) → Part (x ∷ xs) ys → rises (b ∷ map f ys) ≡ true
     → b < f x

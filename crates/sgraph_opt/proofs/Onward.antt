@@ -2,7 +2,7 @@
 use Rattle.std.proofs.Common.{◌≡◌, ℕ, ◌<◌, Bool, true, List, length, slice_get, slice_index, Some, ap, sym, subst}
 use Rattle.sgraph.specs.declared.vertex.Vertex.{Vertex}
 use Rattle.sgraph.specs.Graphs.{kids_of, kids_in}
-use Rattle.sgraph_opt.specs.Shrinking.{Shrinks}
+use Rattle.sgraph_opt.specs.inner.Shrinking.{Shrinks}
 
 -- a child of one of these is one of them
 pub some_child : (g h : List Vertex) (to : ℕ → ℕ) (some : ℕ → Bool) → Shrinks g h to some

@@ -12,13 +12,17 @@ use Rattle.sgraph.specs.declared.vertex.Vertex.{Vertex}
 use Rattle.sgraph.specs.declared.vertex.Vertex.TheVariants.{Begin, Test, Assign, End}
 use Rattle.sgraph.specs.Facts.{IsGraph}
 use Rattle.sgraph.specs.Graphs.{kids_of, kids_in, kids_at, Numbered}
-use Rattle.sgraph_opt.specs.Representatives.{renamed}
-use Rattle.sgraph_opt.specs.Shrinking.{Shrinks}
-use Rattle.sgraph_opt.proofs.Again.{kids_renamed, index_map, long_map, every_at, index_upto, long_upto}
-use Rattle.sgraph_opt.proofs.Departures.{every_left}
-use Rattle.sgraph_opt.proofs.Members.{Every}
+use Rattle.sgraph_opt.specs.inner.Representatives.{renamed}
+use Rattle.sgraph_opt.specs.inner.Shrinking.{Shrinks}
+use Rattle.sgraph_opt.proofs.Again.{kids_renamed}
+use Rattle.sgraph.proofs.Keeping.{long_map}
+use Rattle.sgraph.proofs.Numbering.{every_at}
+use Rattle.sgraph.proofs.Departures.{every_left}
+use Rattle.decision_diagram.proofs.Distinct.{Every}
 use Rattle.sgraph_opt.proofs.Onward.{some_child}
-use Rattle.sgraph_opt.proofs.Standing.{below, vertex_there}
+use Rattle.sgraph_opt.proofs.Standing.{vertex_there}
+use Rattle.decision_diagram.proofs.Lists.{read_within}
+use Rattle.decision_diagram.proofs.Along.{index_map, index_upto, long_upto}
 
 module _ (g h : List Vertex) (to : ℕ → ℕ) (some : ℕ → Bool) (ok : IsGraph g)
     (shrinks : Shrinks g h to some) (first : to 0 ≡ 0) where
@@ -94,7 +98,7 @@ module _ (g h : List Vertex) (to : ℕ → ℕ) (some : ℕ → Bool) (ok : IsGr
       )
 
   some_here : 0 < length g
-  some_here = below g 0 (Begin ok.begin.0) ok.begin.1
+  some_here = read_within g 0 (Begin ok.begin.0) ok.begin.1
 
   pub source : Numbered h → (j : ℕ) → j < length h → Source j
   source numbered j low =
@@ -109,7 +113,7 @@ module _ (g h : List Vertex) (to : ℕ → ℕ) (some : ℕ → Bool) (ok : IsGr
   pub had : Numbered h → (j : ℕ) → j < length h → Had j
   had numbered j low =
       let s = source numbered j low in
-      (s.number, below g s.number s.vertex s.is, s.on, s.stands)
+      (s.number, read_within g s.number s.vertex s.is, s.on, s.stands)
 
 -- ---- how many they are
 equivalence : IsEquivalence eqb
@@ -150,7 +154,7 @@ mapped to k (x ∷ xs) h =
     (mapped to k xs rest))
     (or_cases (eqb x k) (has xs k) h)
 
--- where each number below n is had by one of a list, the list isn't shorter
+-- where each number read_within n is had by one of a list, the list isn't shorter
 pub few : (n : ℕ) (to : ℕ → ℕ) (xs : List ℕ)
     → ((j : ℕ) → j < n → (k : ℕ) × (has xs k ≡ true) × (to k ≡ j)) → n ≤ length xs
 few n to xs each =

@@ -1,53 +1,28 @@
 -- Where no two vertices that stand for themselves are equal, the smaller graph is reduced.
-use Rattle.std.proofs.Common.{◌≡◌, ⊎_elim, ℕ, zero, suc, ◌<◌, Bool, true, not, List, [], ◌∷◌, map, length, slice_get, slice_index, Some, refl, ap, sym, subst, ◌∙◌, arith, eqb}
-use Rattle.std.specs.List.{list_all, list_any}
-use Rattle.std.specs.Cmp.Lexicographic.{same_text}
-use Rattle.std.proofs.lemmas.Bool.{and_parts, and_from, or_cases, eqb-true, eq-eqb, true≢false, false_from_ne_true}
-use Rattle.domains.specs.Names.{is_same, are_distinct}
+use Rattle.std.proofs.Common.{◌≡◌, ℕ, zero, suc, ◌<◌, Bool, true, not, List, ◌∷◌, map, length, slice_get, slice_index, Some, refl, ap, sym, subst, ◌∙◌, arith, eqb, []}
+use Rattle.std.specs.List.{list_all}
+use Rattle.std.proofs.lemmas.Bool.{and_parts, and_from, eqb-true, eq-eqb, true≢false, false_from_ne_true}
+use Rattle.domains.specs.Names.{are_distinct}
 use Rattle.domains.specs.Orders.{place}
 use Rattle.transition_table.specs.NetworkFacts.{has}
 use Rattle.sgraph.specs.declared.vertex.Vertex.{Vertex}
 use Rattle.sgraph.specs.declared.vertex.Vertex.TheVariants.{Begin, Test, Assign, End}
 use Rattle.sgraph.specs.Facts.{IsGraph}
 use Rattle.sgraph.specs.Graphs.{kids_of, kids_in, kids_at, key_of, are_same, varies, Reduced}
-use Rattle.sgraph_opt.specs.Choices.{stays, Shared}
-use Rattle.sgraph_opt.specs.Renumbering.{vertex_at, all_left, numbered_of, replaced}
-use Rattle.sgraph_opt.specs.Representatives.{renamed, Standing, Dropping}
+use Rattle.sgraph_opt.specs.inner.Choices.{stays, Shared}
+use Rattle.sgraph_opt.specs.Renumbering.{all_left}
+use Rattle.sgraph_opt.specs.inner.Renumbering.{vertex_at, numbered_of, replaced}
+use Rattle.sgraph_opt.specs.inner.Representatives.{renamed, Standing, Dropping}
 use Rattle.sgraph_opt.specs.Smaller.{NoDefaults}
-use Rattle.sgraph_opt.proofs.Again.{closed, long_vertices, index_map, long_map, same as same_number}
-use Rattle.sgraph_opt.proofs.Departures.{closed_next, has_at}
+use Rattle.sgraph_opt.proofs.Again.{closed, long_vertices, same as same_number}
+use Rattle.sgraph.proofs.Keeping.{long_map}
+use Rattle.sgraph.proofs.Departures.{closed_next, has_at}
 use Rattle.sgraph_opt.proofs.Dropped.{not_default}
-use Rattle.sgraph_opt.proofs.Joined.{same_vertex}
 use Rattle.sgraph_opt.proofs.Kept.{Origin, origin_of, was_assign}
-use Rattle.sgraph_opt.proofs.Standing.{below, got_map, some_vertex, rises, within}
-
-found_key : (v : Vertex) (vs : List Vertex) → list_any (is_same (key_of v)) (map key_of vs) ≡ true
-    → (j : ℕ) × (slice_get vs j ≡ Some v)
-found_key v [] h = absurd (true≢false (sym h))
-found_key v (w ∷ vs) h =
-    ⊎_elim
-    (λ here. (0, ap Some (sym (same_vertex v w (same_text (key_of v) (key_of w) (sym here))))))
-    (λ later. let rest = found_key v vs later in (suc (rest.0), rest.1))
-    (or_cases (is_same (key_of v) (key_of w)) (list_any (is_same (key_of v)) (map key_of vs)) h)
-
-distinct_keys : (vs : List Vertex)
-    → ((i j : ℕ) (v : Vertex) → slice_get vs i ≡ Some v → slice_get vs j ≡ Some v → i ≡ j)
-    → are_distinct (map key_of vs) ≡ true
-distinct_keys [] once = refl
-distinct_keys (v ∷ vs) once =
-    and_from (not (list_any (is_same (key_of v)) (map key_of vs))) (are_distinct (map key_of vs))
-    (ap not (false_from_ne_true (list_any (is_same (key_of v)) (map key_of vs)) (λ on.
-    let there = found_key v vs on in
-    let e : 0 ≡ suc (there.0) = once 0 (suc (there.0)) v refl (there.1) in
-    omega arith)))
-    (distinct_keys vs (λ i j w at_i at_j. let e :
-    suc i ≡ suc j = once (suc i) (suc j) w at_i at_j in omega arith))
-
-each_vertex : (p : Vertex → Bool) (g : List Vertex)
-    → ((k : ℕ) (v : Vertex) → slice_get g k ≡ Some v → p v ≡ true) → list_all p g ≡ true
-each_vertex p [] h = refl
-each_vertex p (v ∷ vs) h =
-    and_from (p v) (list_all p vs) (h 0 v refl) (each_vertex p vs (λ k w is. h (suc k) w is))
+use Rattle.sgraph_opt.proofs.Standing.{got_map, some_vertex, rises, within}
+use Rattle.sgraph.proofs.Deepening.{distinct_keys, each_vertex}
+use Rattle.decision_diagram.proofs.Lists.{read_within}
+use Rattle.decision_diagram.proofs.Along.{index_map}
 
 -- ---- numbers that differ where the vertices do
 back_list : (f : ℕ → ℕ) (In : ℕ → Type 0) → ((a b : ℕ) → In a → In b → f a ≡ f b → a ≡ b)
@@ -195,8 +170,8 @@ module _ (g : List Vertex) (reps : List ℕ) (ok : IsGraph g) (s : Standing g re
   once_each drops shared i j v at_i at_j =
       let a = origin_of g reps ok s i v at_i in
       let b = origin_of g reps ok s j v at_j in
-      let low_i = below (numbered_of (replaced g reps)) i v at_i in
-      let low_j = below (numbered_of (replaced g reps)) j v at_j in
+      let low_i = read_within (numbered_of (replaced g reps)) i v at_i in
+      let low_j = read_within (numbered_of (replaced g reps)) j v at_j in
       let same = back_vertex (place (all_left (replaced g reps))) In one_number
       (renamed (slice_index reps) a.0.vertex) (renamed (slice_index reps) b.0.vertex)
       (kids_left i low_i a.0) (kids_left j low_j b.0) (sym a.1 ∙ b.1) in
@@ -208,7 +183,7 @@ module _ (g : List Vertex) (reps : List ℕ) (ok : IsGraph g) (s : Standing g re
       → slice_get (numbered_of (replaced g reps)) j ≡ Some v → varies v ≡ true
   all_vary drops shared j v at_j =
       let a = origin_of g reps ok s j v at_j in
-      let low = below (numbered_of (replaced g reps)) j v at_j in
+      let low = read_within (numbered_of (replaced g reps)) j v at_j in
       ap varies a.1 ∙ varies_back (place (all_left (replaced g reps))) In one_number
       (renamed (slice_index reps) a.0.vertex) (kids_left j low a.0)
       (stays_varies drops (renamed (slice_index reps) a.0.vertex)

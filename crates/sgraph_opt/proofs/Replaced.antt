@@ -5,13 +5,16 @@ use Rattle.sgraph.specs.declared.vertex.Vertex.{Vertex}
 use Rattle.sgraph.specs.declared.vertex.Vertex.TheVariants.{Begin, Test, Assign, End}
 use Rattle.sgraph.specs.Facts.{IsGraph}
 use Rattle.sgraph.specs.Graphs.{kids_of, kids_at, each, left_after}
-use Rattle.sgraph.specs.Marks.{turned}
-use Rattle.sgraph_opt.specs.Representatives.{renamed, Standing}
-use Rattle.sgraph_opt.specs.Renumbering.{replaced, vertex_at}
-use Rattle.sgraph_opt.proofs.Again.{kids_renamed, index_map, map_map}
+use Rattle.sgraph.specs.inner.Marks.{turned}
+use Rattle.sgraph_opt.specs.inner.Representatives.{renamed, Standing}
+use Rattle.sgraph_opt.specs.inner.Renumbering.{replaced, vertex_at}
+use Rattle.sgraph_opt.proofs.Again.{kids_renamed, map_map}
 use Rattle.sgraph_opt.proofs.Arranging.{vertex_is}
-use Rattle.sgraph_opt.proofs.Departing.{got, get_at, kids_here, left_next, kid_inside}
+use Rattle.sgraph_opt.proofs.Departing.{kids_here, left_next, kid_inside}
+use Rattle.sgraph.proofs.Following.{got}
 use Rattle.sgraph_opt.proofs.Standing.{got_map, rises}
+use Rattle.sgraph.proofs.EvalSteps.{got_some}
+use Rattle.decision_diagram.proofs.Along.{index_map}
 
 pub long_replaced : (g : List Vertex) (reps : List ℕ) → length (replaced g reps) ≡ length g
 long_replaced g reps = length-map g (renamed (slice_index reps))
@@ -67,7 +70,7 @@ module _ (g : List Vertex) (reps : List ℕ) (k : ℕ) (v : Vertex) (kids : List
         let at_i = rep_is i rep low is_rep in
         let r = kid_inside (replaced g reps) (rises g ok reps s) k i
         (slice_index (map (slice_index reps) kids) i) (map (slice_index reps) kids) all_kids
-        (get_at (map (slice_index reps) kids) i (low_map i low)) in
+        (got_some (map (slice_index reps) kids) i (low_map i low)) in
         let up = r.0 in
         let inside = r.1 in
         let long = long_replaced g reps in
@@ -75,7 +78,7 @@ module _ (g : List Vertex) (reps : List ℕ) (k : ℕ) (v : Vertex) (kids : List
 
     pub rep_low : (i : ℕ) → i < length kids → slice_index reps (slice_index kids i) < length g
     rep_low i low = (rep_inside i (slice_index reps (slice_index kids i)) low
-        (get_at reps (slice_index kids i) (kid_low i low))).1
+        (got_some reps (slice_index kids i) (kid_low i low))).1
 
 -- what a vertex becomes, once its children have what stands for them and then their new numbers
 pub renamed_twice : (f to : ℕ → ℕ) (v : Vertex)

@@ -3,7 +3,7 @@ use Rattle.std.proofs.Common.{◌≡◌, ◌⊎◌, inl, inr, ⊎_elim, ℕ, zer
 use Rattle.std.proofs.lemmas.Bool.{cases_Bool, eqb-true, eq-eqb, true≢false, false_from_ne_true, or_cases, or_left, or_right}
 use Rattle.transition_table.specs.NetworkFacts.{has}
 use Rattle.sgraph.specs.Graphs.{each, left_after}
-use Rattle.sgraph_opt.proofs.Departures.{Closed, visit_there, visit_new}
+use Rattle.sgraph.proofs.Departures.{Closed, visit_there, visit_new}
 
 module _ (next : ℕ → List ℕ) (total : ℕ) (rises : (k i : ℕ) → i < length (next k)
     → (k < slice_index (next k) i) × (slice_index (next k) i < total)) where

@@ -1,23 +1,16 @@
 -- What stands for vertices, from one on.
-use Rattle.std.proofs.Common.{◌≡◌, inl, inr, ⊎_elim, ℕ, zero, suc, ◌+◌, ◌<◌, ◌≤◌, true, List, [], ◌∷◌, ◌++◌, map, length, take, replicate, slice_get, slice_index, slice_set, Option, Some, None, refl, ap, sym, subst, ◌∙◌, arith}
+use Rattle.std.proofs.Common.{◌≡◌, inl, inr, ⊎_elim, ℕ, zero, suc, ◌+◌, ◌<◌, ◌≤◌, true, List, ◌∷◌, ◌++◌, map, length, take, replicate, slice_get, slice_index, slice_set, Option, Some, None, refl, ap, sym, subst, ◌∙◌, arith, []}
 use Rattle.std.proofs.lemmas.Bool.{cases_eq}
 use Rattle.sgraph.specs.declared.vertex.Vertex.{Vertex}
 use Rattle.sgraph.specs.declared.vertex.Vertex.TheVariants.{Begin, Test, Assign, End}
 use Rattle.sgraph.specs.Graphs.{kids_of, kids_in, kids_at}
-use Rattle.sgraph_opt.specs.Shrinking.{Shrinks}
+use Rattle.sgraph_opt.specs.inner.Shrinking.{Shrinks}
 use Rattle.sgraph.specs.Facts.{IsGraph}
-use Rattle.sgraph_opt.specs.Representatives.{renamed, IsTwin, IsRep, Standing}
-use Rattle.sgraph_opt.specs.Renumbering.{Rises}
-
-pub got : (xs : List ℕ) (i x : ℕ) → slice_get xs i ≡ Some x → slice_index xs i ≡ x
-got [] i x e = cc
-got (y ∷ ys) zero x e = cc
-got (y ∷ ys) (suc i) x e = got ys i x e
-
-pub below : {X : Type 0} (xs : List X) (i : ℕ) (x : X) → slice_get xs i ≡ Some x → i < length xs
-below [] i x e = cc
-below (y ∷ ys) zero x e = omega arith
-below (y ∷ ys) (suc i) x e = let r = below ys i x e in omega arith
+use Rattle.sgraph_opt.specs.inner.Representatives.{renamed, IsTwin, IsRep, Standing}
+use Rattle.sgraph_opt.specs.inner.Renumbering.{Rises}
+use Rattle.sgraph.proofs.Following.{got}
+use Rattle.sgraph.proofs.Graphing.{set_here, set_there, set_long, long_zeros, map_numbers}
+use Rattle.decision_diagram.proofs.Lists.{read_within}
 
 pub map_push : (f : ℕ → ℕ) (xs : List ℕ) (x : ℕ) → map f (xs ++ x ∷ []) ≡ map f xs ++ f x ∷ []
 map_push f [] x = refl
@@ -46,38 +39,12 @@ one_more reps one other i x y a b so_far is_x is_a is_y is_b same =
     ∙ ap (map (slice_index reps)) (sym (take_one other i y is_y))
     ∙ ap (λ (n : ℕ). map (slice_index reps) (take n other)) (sym f)
 
-pub set_here : (xs : List ℕ) (k x : ℕ) → k < length xs → slice_index (slice_set xs k x) k ≡ x
-set_here [] k x low = absurd (omega arith)
-set_here (y ∷ ys) zero x low = refl
-set_here (y ∷ ys) (suc k) x low = set_here ys k x (omega arith)
-
-pub set_there : (xs : List ℕ) (k j x : ℕ) → (k ≡ j → ⊥)
-    → slice_index (slice_set xs k x) j ≡ slice_index xs j
-set_there [] k j x other = refl
-set_there (y ∷ ys) zero zero x other = absurd (other refl)
-set_there (y ∷ ys) zero (suc j) x other = refl
-set_there (y ∷ ys) (suc k) zero x other = refl
-set_there (y ∷ ys) (suc k) (suc j) x other = set_there ys k j x (λ e. other (ap suc e))
-
-pub set_long : (xs : List ℕ) (k x : ℕ) → length (slice_set xs k x) ≡ length xs
-set_long [] k x = refl
-set_long (y ∷ ys) zero x = refl
-set_long (y ∷ ys) (suc k) x = ap suc (set_long ys k x)
-
--- only what stands for later vertices matters
-same_map : (to other : ℕ → ℕ) (xs : List ℕ)
-    → ((i : ℕ) → i < length xs → to (slice_index xs i) ≡ other (slice_index xs i))
-    → map to xs ≡ map other xs
-same_map to other [] h = refl
-same_map to other (x ∷ xs) h = ap (λ (n : ℕ). n ∷ map to xs) (h 0 (omega arith))
-    ∙ ap (λ (ns : List ℕ). other x ∷ ns) (same_map to other xs (λ i low. h (suc i) (omega arith)))
-
 pub same_renamed : (to other : ℕ → ℕ) (v : Vertex)
     → ((i : ℕ) → i < length (kids_of v)
     → to (slice_index (kids_of v) i) ≡ other (slice_index (kids_of v) i))
     → renamed to v ≡ renamed other v
 same_renamed to other (Begin next) h = ap Begin (h 0 (omega arith))
-same_renamed to other (Test var kids) h = ap (Test var) (same_map to other kids h)
+same_renamed to other (Test var kids) h = ap (Test var) (map_numbers to other kids h)
 same_renamed to other (Assign result code next) h = ap (Assign result code) (h 0 (omega arith))
 same_renamed to other End h = refl
 
@@ -129,15 +96,11 @@ module _ (g : List Vertex) (ok : IsGraph g) where
       h
   moved to other k r End is same h = h
 
-pub long_zeros : (n : ℕ) → length (replicate {A = ℕ} n 0) ≡ n
-long_zeros zero = refl
-long_zeros (suc n) = ap suc (long_zeros n)
-
 pub standing_start : (g : List Vertex) (reps : List ℕ) (i count : ℕ) → reps ≡ replicate count 0
     → count ≡ length g → i ≡ length g → Standing g reps i
 standing_start g reps i count is all at = record {
   long = ap (λ (xs : List ℕ). length xs) is ∙ long_zeros count ∙ all;
-  each = λ k v high is_v. absurd (let low = below g k v is_v in omega arith);
+  each = λ k v high is_v. absurd (let low = read_within g k v is_v in omega arith);
 }
 
 pub standing_more : (g : List Vertex) → IsGraph g → (reps more : List ℕ) (i k r : ℕ)
@@ -242,7 +205,7 @@ module _ (g : List Vertex) (ok : IsGraph g) (reps : List ℕ) (s : Standing g re
       let b = kid.1 in
       let e = idle 0 some in
       (omega arith, omega arith))
-      (λ t. let up = t.later in let inside = below g (slice_index reps k) t.other t.is in
+      (λ t. let up = t.later in let inside = read_within g (slice_index reps k) t.other t.is in
       (omega arith, omega arith))
       rest)
       (s.each k (Test var kids) (omega arith) is)
@@ -258,7 +221,7 @@ module _ (g : List Vertex) (ok : IsGraph g) (reps : List ℕ) (s : Standing g re
       let b = kid.1 in
       let e = left.1 in
       (omega arith, omega arith))
-      (λ t. let up = t.later in let inside = below g (slice_index reps k) t.other t.is in
+      (λ t. let up = t.later in let inside = read_within g (slice_index reps k) t.other t.is in
       (omega arith, omega arith))
       rest)
       (s.each k (Assign result code next) (omega arith) is)
@@ -325,7 +288,7 @@ module _ (g : List Vertex) (ok : IsGraph g) (reps : List ℕ) (s : Standing g re
   first_stands = s.each 0 (Begin ok.begin.0) (omega arith) ok.begin.1
 
   pub some_vertex : 0 < length (map (renamed (slice_index reps)) g)
-  some_vertex = let low = below g 0 (Begin ok.begin.0) ok.begin.1 in
+  some_vertex = let low = read_within g 0 (Begin ok.begin.0) ok.begin.1 in
       let long = long_vertices (renamed (slice_index reps)) g in omega arith
 
   -- what stands for a vertex stands for itself

@@ -1,7 +1,7 @@
 // Assignments of the code 0 are left out.
 ghost use Rattle.std.specs.Prelude.{◌≡◌, ◌<◌, ℕ, length, slice_get, slice_index, Some, IfOk};
 ghost use Rattle.sgraph.specs.declared.vertex.Vertex.{Vertex};
-ghost use Rattle.sgraph_opt.specs.Representatives.{past_default, Dropping};
+ghost use Rattle.sgraph_opt.specs.inner.Representatives.{past_default, Dropping};
 ghost use Rattle.sgraph_opt.specs.Smaller.{Keeps, NoDefaults};
 
 use crate::numbering::renumbered;

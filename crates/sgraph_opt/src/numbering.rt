@@ -2,10 +2,10 @@
 ghost use Rattle.std.specs.Prelude.{◌≡◌, ◌<◌, ℕ, true, length, slice_index, map, IfOk, OnOk};
 ghost use Rattle.sgraph.specs.Facts.{IsGraph};
 ghost use Rattle.sgraph.specs.Graphs.{kids_of, kids_at, left_after};
-ghost use Rattle.sgraph.specs.Marks.{turned};
-ghost use Rattle.sgraph_opt.specs.Marks.{MarksOf};
-ghost use Rattle.sgraph_opt.specs.Representatives.{renamed, Standing};
-ghost use Rattle.sgraph_opt.specs.Renumbering.{all_left, vertex_at, numbered_of, replaced};
+ghost use Rattle.sgraph.specs.inner.Marks.{turned, Marks};
+ghost use Rattle.sgraph_opt.specs.inner.Representatives.{renamed, Standing};
+ghost use Rattle.sgraph_opt.specs.Renumbering.{all_left};
+ghost use Rattle.sgraph_opt.specs.inner.Renumbering.{vertex_at, numbered_of, replaced};
 ghost use Rattle.sgraph_opt.specs.Smaller.{Keeps};
 ghost use Rattle.transition_table.specs.NetworkFacts.{has};
 ghost use Rattle.domains.specs.Orders.{place};
@@ -38,11 +38,11 @@ fn leave(
     requires graph { IsGraph g.now }
     requires stands { Standing g.now reps.now 0 }
     requires vertex { k < length g.now }
-    requires marks { MarksOf (length (replaced g.now reps.now)) marks.old left.old }
+    requires marks { Marks (length (replaced g.now reps.now)) marks.old left.old }
     ensures left { OnOk result (turned left.new
         ≡ left_after (length (replaced g.now reps.now)) (kids_at (replaced g.now reps.now))
         (turned left.old) k) }
-    ensures marks { OnOk result (MarksOf (length (replaced g.now reps.now)) marks.new left.new) }
+    ensures marks { OnOk result (Marks (length (replaced g.now reps.now)) marks.new left.new) }
 {
     if *marks.get(k) {
         return Ok(());

@@ -3,8 +3,8 @@ ghost use Rattle.std.specs.Prelude.{◌≡◌, ◌<◌, ℕ, List, map, length, 
 ghost use Rattle.sgraph.specs.declared.vertex.Vertex.{Vertex};
 ghost use Rattle.sgraph.specs.declared.vertex.Vertex.TheVariants.{Test, Assign};
 ghost use Rattle.sgraph.specs.Graphs.{key_of, varies, Reduced};
-ghost use Rattle.sgraph_opt.specs.Choices.{Entered, Chosen, Shared};
-ghost use Rattle.sgraph_opt.specs.Representatives.{Standing};
+ghost use Rattle.sgraph_opt.specs.inner.Choices.{Entered, Chosen, Shared};
+ghost use Rattle.sgraph_opt.specs.inner.Representatives.{Standing};
 ghost use Rattle.sgraph.specs.Reactions.{IsGraphOf};
 ghost use Rattle.transition_table.specs.declared.machine.Machine.{Machine};
 ghost use Rattle.sgraph_opt.specs.Smaller.{Keeps, NoDefaults};

@@ -1,23 +1,22 @@
 -- The words for variables and results.
-use Rattle.std.proofs.Common.{◌≡◌, ℕ, zero, suc, ◌+◌, ◌-◌, ◌<◌, ◌≤◌, ◌&&◌, ◌==◌, List, [], ◌∷◌, ◌++◌, map, length, take, drop, slice_get, Option, Some, None, refl, ap, sym, ◌∙◌, arith, append_assoc, nat_le, ltb, codes}
+use Rattle.std.proofs.Common.{◌≡◌, ℕ, zero, suc, ◌+◌, ◌-◌, ◌<◌, ◌≤◌, List, [], ◌∷◌, ◌++◌, map, length, slice_get, Option, Some, None, refl, ap, sym, ◌∙◌, arith, append_assoc, codes}
 use Rattle.std.specs.Prelude.{unwrap_or}
-use Rattle.std.specs.List.{list_all}
-use Rattle.std.specs.Cmp.Lexicographic.{pointwise}
-use Rattle.std.proofs.lemmas.Bool.{and_parts, eqb-true}
-use Rattle.domains.specs.Tables.{are_sizes}
 use Rattle.transition_table.specs.declared.machine.Machine.{Machine}
 use Rattle.transition_table.specs.declared.network.Network.{Network}
 use Rattle.transition_table.specs.declared.decl.StateDecl.{StateDecl}
 use Rattle.task_code.specs.Listings.{event_name, labels, label}
-use Rattle.task_code.specs.Labels.{result_label}
+use Rattle.task_code.specs.inner.Labels.{result_label}
+use Rattle.domains.proofs.AllCodes.{long_map}
+use Rattle.transition_table.proofs.Ranges.{vars_length}
+use Rattle.decision_diagram.proofs.Lists.{read_within}
 
-front : {X : Type 0} (xs ys : List X) (i : ℕ) → i < length xs
+pub front : {X : Type 0} (xs ys : List X) (i : ℕ) → i < length xs
     → slice_get (xs ++ ys) i ≡ slice_get xs i
 front [] ys i low = absurd (omega arith)
 front (x ∷ xs) ys zero low = refl
 front (x ∷ xs) ys (suc i) low = front xs ys i (omega arith)
 
-behind : {X : Type 0} (xs ys : List X) (i j : ℕ) → i ≡ length xs + j
+pub behind : {X : Type 0} (xs ys : List X) (i j : ℕ) → i ≡ length xs + j
     → slice_get (xs ++ ys) i ≡ slice_get ys j
 behind [] ys i j e = let f : i ≡ j = omega arith in ap (slice_get ys) f
 behind (x ∷ xs) ys zero j e = absurd (omega arith)
@@ -34,38 +33,17 @@ mapped f [] i x e = cc
 mapped f (y ∷ ys) zero x e = let h : y ≡ x = cc in ap (λ z. Some (f z)) h
 mapped f (y ∷ ys) (suc i) x e = mapped f ys i x e
 
-long : {X Y : Type 0} (f : X → Y) (xs : List X) → length (map f xs) ≡ length xs
-long f [] = refl
-long f (x ∷ xs) = ap suc (long f xs)
-
-within : {X : Type 0} (xs : List X) (i : ℕ) (x : X) → slice_get xs i ≡ Some x → i < length xs
-within [] i x e = cc
-within (y ∷ ys) zero x e = omega arith
-within (y ∷ ys) (suc i) x e = let r = within ys i x e in omega arith
-
-long_vars : (m : Machine) → length m.vars ≡ length m.inputs + length m.states
-long_vars m =
-    let sizes = are_sizes m.vars in
-    let lengths = length m.vars == length m.inputs + length m.states in
-    let inputs = list_all (nat_le 2) (take (length m.inputs) m.vars) in
-    let states = pointwise (λ state size. ltb state.init size) m.states
-    (drop (length m.inputs) m.vars) in
-    eqb-true (length m.vars) (length m.inputs + length m.states)
-    (and_parts sizes lengths
-    (and_parts (sizes && lengths) inputs
-    (and_parts ((sizes && lengths) && inputs) states m.sized_vars).0).0).1
-
 module _ (net : Network) (m : Machine) where
-  abbrev ins : List (List ℕ)
+  abbrev pub ins : List (List ℕ)
   ins = map (λ e. codes "in " ++ event_name net e) m.inputs
 
-  abbrev sts : List (List ℕ)
+  abbrev pub sts : List (List ℕ)
   sts = map (λ state. codes "st " ++ state.name) m.states
 
-  abbrev tos : List (List ℕ)
+  abbrev pub tos : List (List ℕ)
   tos = map (λ state. codes "to " ++ state.name) m.states
 
-  abbrev outs : List (List ℕ)
+  abbrev pub outs : List (List ℕ)
   outs = map (λ e. codes "out " ++ event_name net e) m.outputs
 
   abbrev words : List ℕ → Option (List ℕ) → Type 0
@@ -82,8 +60,8 @@ module _ (net : Network) (m : Machine) where
   pub input_words : (i e : ℕ) → slice_get m.inputs i ≡ Some e
       → label net m i ≡ codes "in " ++ event_name net e
   input_words i e is =
-      let low = within m.inputs i e is in
-      let l = long (λ e. codes "in " ++ event_name net e) m.inputs in
+      let low = read_within m.inputs i e is in
+      let l = long_map (λ e. codes "in " ++ event_name net e) m.inputs in
       at_label i
       ∙ ap (λ (o : Option (List ℕ)). unwrap_or o [])
       (front ins (sts ++ ((codes "go" ∷ tos) ++ outs)) i (omega arith)
@@ -92,9 +70,9 @@ module _ (net : Network) (m : Machine) where
   pub state_words : (i k : ℕ) (state : StateDecl) → slice_get m.states k ≡ Some state
       → i ≡ length m.inputs + k → label net m i ≡ codes "st " ++ state.name
   state_words i k state is e =
-      let low = within m.states k state is in
-      let l = long (λ e. codes "in " ++ event_name net e) m.inputs in
-      let n = long (λ (state : StateDecl). codes "st " ++ state.name) m.states in
+      let low = read_within m.states k state is in
+      let l = long_map (λ e. codes "in " ++ event_name net e) m.inputs in
+      let n = long_map (λ (state : StateDecl). codes "st " ++ state.name) m.states in
       at_label i
       ∙ ap (λ (o : Option (List ℕ)). unwrap_or o [])
       (behind ins (sts ++ ((codes "go" ∷ tos) ++ outs)) i k (omega arith)
@@ -104,8 +82,8 @@ module _ (net : Network) (m : Machine) where
   at_result : (y i : ℕ) → i ≡ length m.inputs + length m.states + y
       → label net m i ≡ unwrap_or (slice_get ((codes "go" ∷ tos) ++ outs) y) []
   at_result y i e =
-      let l = long (λ e. codes "in " ++ event_name net e) m.inputs in
-      let n = long (λ (state : StateDecl). codes "st " ++ state.name) m.states in
+      let l = long_map (λ e. codes "in " ++ event_name net e) m.inputs in
+      let n = long_map (λ (state : StateDecl). codes "st " ++ state.name) m.states in
       at_label i
       ∙ ap (λ (o : Option (List ℕ)). unwrap_or o [])
       (behind ins (sts ++ ((codes "go" ∷ tos) ++ outs)) i (length m.states + y) (omega arith)
@@ -113,18 +91,18 @@ module _ (net : Network) (m : Machine) where
 
   pub same_result : (y i : ℕ) → i ≡ length m.inputs + length m.states + y
       → label net m i ≡ result_label net m y
-  same_result y i e = let v = long_vars m in let f : i ≡ length m.vars + y = omega arith in
+  same_result y i e = let v = vars_length m in let f : i ≡ length m.vars + y = omega arith in
       ap (label net m) f
 
   pub go_words : result_label net m 0 ≡ codes "go"
-  go_words = let v = long_vars m in at_result 0 (length m.vars + 0) (omega arith)
+  go_words = let v = vars_length m in at_result 0 (length m.vars + 0) (omega arith)
 
   pub to_words : (y k : ℕ) (state : StateDecl) → slice_get m.states k ≡ Some state → y ≡ 1 + k
       → result_label net m y ≡ codes "to " ++ state.name
   to_words y k state is e =
-      let v = long_vars m in
-      let low = within m.states k state is in
-      let n = long (λ (state : StateDecl). codes "to " ++ state.name) m.states in
+      let v = vars_length m in
+      let low = read_within m.states k state is in
+      let n = long_map (λ (state : StateDecl). codes "to " ++ state.name) m.states in
       let f : y ≡ suc k = omega arith in
       at_result y (length m.vars + y) (omega arith)
       ∙ ap (λ (o : Option (List ℕ)). unwrap_or o [])
@@ -135,8 +113,8 @@ module _ (net : Network) (m : Machine) where
   pub out_words : (y k e : ℕ) → slice_get m.outputs k ≡ Some e → y ≡ 1 + length m.states + k
       → result_label net m y ≡ codes "out " ++ event_name net e
   out_words y k e is at =
-      let v = long_vars m in
-      let n = long (λ (state : StateDecl). codes "to " ++ state.name) m.states in
+      let v = vars_length m in
+      let n = long_map (λ (state : StateDecl). codes "to " ++ state.name) m.states in
       at_result y (length m.vars + y) (omega arith)
       ∙ ap (λ (o : Option (List ℕ)). unwrap_or o [])
       (behind (codes "go" ∷ tos) outs y k (omega arith)
@@ -144,9 +122,9 @@ module _ (net : Network) (m : Machine) where
 
   pub no_words : (y : ℕ) → 1 + length m.states + length m.outputs ≤ y → result_label net m y ≡ []
   no_words y high =
-      let v = long_vars m in
-      let n = long (λ (state : StateDecl). codes "to " ++ state.name) m.states in
-      let l = long (λ e. codes "out " ++ event_name net e) m.outputs in
+      let v = vars_length m in
+      let n = long_map (λ (state : StateDecl). codes "to " ++ state.name) m.states in
+      let l = long_map (λ e. codes "out " ++ event_name net e) m.outputs in
       let k : ℕ = y - (1 + length m.states) in
       at_result y (length m.vars + y) (omega arith)
       ∙ ap (λ (o : Option (List ℕ)). unwrap_or o [])

@@ -1,5 +1,5 @@
 -- Where the instructions of a vertex stand.
-use Rattle.std.proofs.Common.{◌≡◌, ⊎_elim, ℕ, zero, suc, ◌+◌, ◌-◌, ◌<◌, ◌≤◌, Bool, true, false, cond, ◌==◌, List, [], ◌∷◌, ◌++◌, map, length, slice_get, slice_index, Some, refl, ap, sym, ◌∙◌, arith, length-append}
+use Rattle.std.proofs.Common.{◌≡◌, ⊎_elim, ℕ, zero, suc, ◌+◌, ◌-◌, ◌<◌, ◌≤◌, Bool, true, false, cond, ◌==◌, List, [], ◌∷◌, ◌++◌, length, slice_get, slice_index, Some, refl, ap, sym, ◌∙◌, arith, length-append}
 use Rattle.std.proofs.lemmas.Bool.{cases_lt}
 use Rattle.sgraph.specs.declared.vertex.Vertex.{Vertex}
 use Rattle.sgraph.specs.declared.vertex.Vertex.TheVariants.{Begin, Test as Tests, Assign, End}
@@ -7,6 +7,7 @@ use Rattle.task_code.specs.declared.instr.Instr.{Instr}
 use Rattle.task_code.specs.declared.instr.Instr.TheVariants.{Test, Set, Goto}
 use Rattle.sgraph.specs.Graphs.{kids_of}
 use Rattle.task_code.specs.Codes.{width, given_before, start, given_by, laid_out}
+use Rattle.sgraph.proofs.Graphing.{map_numbers}
 
 -- ---- places
 pub long_given : (at : ℕ → ℕ) (k : ℕ) (v : Vertex) → length (given_by at k v) ≡ width k v
@@ -110,6 +111,7 @@ module _ (g : List Vertex) where
 
 -- ---- the whole
 -- an instruction is one of some vertex
+
 pub record Located (at : ℕ → ℕ) (k : ℕ) (vs : List Vertex) (p : ℕ) (i : Instr) : Type 0 where
   pub n : ℕ
   pub v : Vertex
@@ -165,21 +167,13 @@ long_laid at (v ∷ vs) k =
     let c = long_laid at vs (suc k) in
     omega arith
 
--- only the places of children matter
-all_same : (at other : ℕ → ℕ) (xs : List ℕ)
-    → ((j : ℕ) → j < length xs → at (slice_index xs j) ≡ other (slice_index xs j))
-    → map at xs ≡ map other xs
-all_same at other [] h = refl
-all_same at other (x ∷ xs) h = ap (λ (n : ℕ). n ∷ map at xs) (h 0 (omega arith))
-    ∙ ap (λ (ns : List ℕ). other x ∷ ns) (all_same at other xs (λ j low. h (suc j) (omega arith)))
-
 pub same_given : (at other : ℕ → ℕ) (k : ℕ) (v : Vertex)
     → ((j : ℕ) → j < length (kids_of v)
     → at (slice_index (kids_of v) j) ≡ other (slice_index (kids_of v) j))
     → given_by at k v ≡ given_by other k v
 same_given at other k (Begin next) h = refl
 same_given at other k (Tests var kids) h =
-    ap (λ (ts : List ℕ). Test var ts ∷ []) (all_same at other kids h)
+    ap (λ (ts : List ℕ). Test var ts ∷ []) (map_numbers at other kids h)
 same_given at other k (Assign result code next) h =
     ap (λ (t : ℕ). Set result code ∷ cond (next == suc k) [] (Goto t ∷ [])) (h 0 (omega arith))
 same_given at other k End h = refl

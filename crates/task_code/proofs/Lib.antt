@@ -1,10 +1,9 @@
-mod Walking
-mod Laying
-mod Lowering
-mod Placing
-mod Mirrored
-mod Reading
-mod Labelling
-mod Making
-mod Printing
-mod Lamps
+pub mod Laying
+pub mod Lowering
+pub mod LayoutIsCode
+pub mod Mirrored
+pub mod Reading
+pub mod Labelling
+pub mod LabelSteps
+pub mod Printing
+pub mod Lamps

@@ -10,7 +10,7 @@ use Rattle.sgraph.specs.Trails.{trail}
 use Rattle.sgraph.specs.Graphs.{next_of, walk, assign, assign_all, with_codes, GoesOn, Eval}
 use Rattle.task_code.specs.Codes.{goes_to, executed, set_by, set_all, width, given_before, start, laid_out, Lowered, Exec}
 use Rattle.task_code.proofs.Laying.{start_next, start_later, instr_at}
-use Rattle.task_code.proofs.Walking.{Onward, trail_at}
+use Rattle.sgraph.proofs.Walking.{Onward, trail_at}
 
 module _ (g : List Vertex) (s : List ℕ) (on : GoesOn g) where
   abbrev pub code : List Instr

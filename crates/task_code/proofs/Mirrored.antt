@@ -12,7 +12,7 @@ use Rattle.sgraph.specs.Graphs.{kids_of, kids_in, IsPath, tested_by, tests, Goes
 use Rattle.task_code.specs.Codes.{width, given_before, start, given_by}
 use Rattle.task_code.specs.Facts.{goes_on, IsCodePath, tested_at, code_tests, OnceCode}
 use Rattle.task_code.proofs.Laying.{laid, start_next, instr_at}
-use Rattle.task_code.proofs.Placing.{there_is}
+use Rattle.sgraph.proofs.Keeping.{there_is}
 
 module _ (g : List Vertex) (on : GoesOn g) where
   -- a path of the graph that tests what the code's path tests

@@ -1,9 +1,9 @@
 -- One more line.
 use Rattle.std.proofs.Common.{◌≡◌, ℕ, zero, suc, ◌+◌, List, [], ◌∷◌, ◌++◌, drop, slice_get, Some, ap, sym, ◌∙◌, arith, append_assoc, decimal, codes}
 use Rattle.task_code.specs.Listings.{line, numbered_lines}
-use Rattle.task_code.specs.Labels.{others}
+use Rattle.task_code.specs.inner.Labels.{others}
 
-drop_one : {X : Type 0} (xs : List X) (k : ℕ) (x : X) → slice_get xs k ≡ Some x
+pub drop_one : {X : Type 0} (xs : List X) (k : ℕ) (x : X) → slice_get xs k ≡ Some x
     → drop k xs ≡ x ∷ drop (suc k) xs
 drop_one [] k x e = cc
 drop_one {X = X} (y ∷ ys) zero x e = let f : y ≡ x = cc in ap (λ (z : X). z ∷ ys) f

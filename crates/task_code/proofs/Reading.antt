@@ -1,5 +1,5 @@
 -- Reading lists, and one more item.
-use Rattle.std.proofs.Common.{◌≡◌, ℕ, zero, suc, ◌+◌, ◌<◌, ◌≤◌, ⊎_elim, Bool, false, cond, ◌==◌, List, [], ◌∷◌, ◌++◌, map, length, take, drop, slice_get, slice_index, Some, refl, ap, sym, ◌∙◌, arith, append_assoc}
+use Rattle.std.proofs.Common.{◌≡◌, ℕ, zero, suc, ◌+◌, ◌<◌, ◌≤◌, ⊎_elim, Bool, false, cond, ◌==◌, List, ◌∷◌, ◌++◌, map, length, take, drop, slice_get, slice_index, Some, refl, ap, sym, ◌∙◌, arith, append_assoc, []}
 use Rattle.std.proofs.lemmas.Bool.{cases_lt, ne_eqb}
 use Rattle.polis_base.specs.Lists.{upto}
 use Rattle.sgraph.specs.declared.vertex.Vertex.{Vertex}
@@ -8,16 +8,8 @@ use Rattle.task_code.specs.declared.instr.Instr.TheVariants.{Set, Goto}
 use Rattle.sgraph.specs.declared.vertex.Vertex.TheVariants.{Assign}
 use Rattle.task_code.specs.Codes.{width, start, given_by, laid_out}
 use Rattle.task_code.proofs.Laying.{start_next}
-
-pub got : (xs : List ℕ) (i x : ℕ) → slice_get xs i ≡ Some x → slice_index xs i ≡ x
-got [] i x e = cc
-got (y ∷ ys) zero x e = cc
-got (y ∷ ys) (suc i) x e = got ys i x e
-
-pub below : {X : Type 0} (xs : List X) (i : ℕ) (x : X) → slice_get xs i ≡ Some x → i < length xs
-below [] i x e = cc
-below (y ∷ ys) zero x e = omega arith
-below (y ∷ ys) (suc i) x e = let r = below ys i x e in omega arith
+use Rattle.sgraph.proofs.Following.{got}
+use Rattle.decision_diagram.proofs.Along.{index_append}
 
 map_push : (f : ℕ → ℕ) (xs : List ℕ) (x : ℕ) → map f (xs ++ x ∷ []) ≡ map f xs ++ f x ∷ []
 map_push f [] x = refl
@@ -49,13 +41,6 @@ next_start g k next wide v is at w =
     let s = start_next g 0 k v is in
     let e : start g (k + 1) ≡ start g (suc k) = ap (start g) f in
     omega arith
-
--- the place of each vertex
-index_append : (xs ys : List ℕ) (j : ℕ) → j < length xs
-    → slice_index (xs ++ ys) j ≡ slice_index xs j
-index_append [] ys j low = absurd (omega arith)
-index_append (x ∷ xs) ys zero low = refl
-index_append (x ∷ xs) ys (suc j) low = index_append xs ys j (omega arith)
 
 index_last : (xs : List ℕ) (x : ℕ) → slice_index (xs ++ x ∷ []) (length xs) ≡ x
 index_last [] x = refl

@@ -1,6 +1,7 @@
 -- What code keeps.
-use Rattle.std.specs.Prelude.{◌≡◌, ℕ, suc, ◌+◌, ◌<◌, List, [], ◌∷◌, length, slice_get, slice_index, filter_map, Contains, Option, Some, None, IsTrue, ⊤}
+use Rattle.std.specs.Prelude.{◌≡◌, ℕ, suc, ◌+◌, ◌<◌, ◌≤◌, List, [], ◌∷◌, length, slice_get, slice_index, filter_map, Contains, Option, Some, None, IsTrue, ⊤}
 use Rattle.transition_table.specs.NetworkFacts.{are_different}
+use Rattle.task_code.specs.declared.limits.TheConstants.{CODE_MAX}
 use Rattle.task_code.specs.declared.instr.Instr.{Instr}
 use Rattle.task_code.specs.declared.instr.Instr.TheVariants.{Test, Set, Goto, Halt}
 
@@ -14,9 +15,11 @@ FitsAt count k (Set result code) = ⊤
 FitsAt count k (Goto target) = (k < target) × (target < count)
 FitsAt count k Halt = ⊤
 
--- The last instruction is a halt, and each target stands after its instruction and within the code.
+-- There are no more instructions than the limit, the last one is a halt, and each target stands
+-- after its instruction and within the code.
 pub record IsCode (c : List Instr) : Type 0 where
   pub some : 0 < length c
+  pub few : length c ≤ CODE_MAX
   pub last : (k : ℕ) → k + 1 ≡ length c → slice_get c k ≡ Some Halt
   pub each : (k : ℕ) (i : Instr) → slice_get c k ≡ Some i → FitsAt (length c) k i
 

@@ -4,3 +4,4 @@ pub mod Facts
 pub mod Labels
 pub mod SampleCodes
 pub mod Worked
+pub mod inner

@@ -1,6 +1,6 @@
 -- What the definitions say of the lamp's code.
 use Rattle.std.specs.Prelude.{◌≡◌, true, [], ◌∷◌, IsTrue}
-use Rattle.transition_table.specs.SampleLamp.{lamp, lamp_machine}
+use Rattle.transition_table.specs.samples.Lamp.{lamp, lamp_machine}
 use Rattle.transition_table.specs.Transitions.{blank}
 use Rattle.sgraph.specs.Facts.{is_well_made}
 use Rattle.sgraph.specs.Graphs.{edges_rise, Numbered}

@@ -6,8 +6,9 @@ use crate::instr::{Instr, InstrList};
 use polis_base::{Duplicate, List, NoMemory};
 use std::marker::Model;
 
-/// Code by its instructions, numbered from 0. It isn't empty and ends with a halt, each test has a
-/// target, and each target stands after its instruction and within the code.
+/// Code by its instructions, numbered from 0, at most `CODE_MAX` of them. It isn't empty and ends
+/// with a halt, each test has a target, and each target stands after its instruction and within the
+/// code.
 #[derive(Drop)]
 pub struct Code {
     instrs: InstrList,

@@ -8,6 +8,7 @@ ghost use Rattle.task_code.specs.Facts.{OnceCode};
 
 use crate::code::Code;
 use crate::instr::{Instr, InstrList};
+use crate::limits::CODE_MAX;
 use polis_base::{Duplicate, List, NoMemory};
 use sgraph::{Graph, Places, Vertex};
 use std::alloc::Global;
@@ -96,5 +97,8 @@ pub fn lower(alloc: Global, g: &Graph) -> Result<Code, NoMemory>
         push_vertex(g.get(k), k, &places, &mut code)?;
     }
     code.shrink();
+    if code.len() > CODE_MAX {
+        return Err(NoMemory);
+    }
     Ok(Code::of(code))
 }

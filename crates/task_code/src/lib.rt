@@ -4,11 +4,13 @@
 mod code;
 mod instr;
 mod layout;
+mod limits;
 mod listing;
 mod worked;
 
 pub use code::{Code, CodeList};
 pub use instr::{Instr, InstrList};
 pub use layout::lower;
+pub use limits::CODE_MAX;
 pub use listing::push_listing;
 pub use worked::worked_codes;

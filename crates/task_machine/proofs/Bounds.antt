@@ -1,12 +1,10 @@
 -- How many instructions are executed of a graph's layout.
-use Rattle.std.proofs.Common.{◌≡◌, ◌⊎◌, inl, inr, ⊎_elim, ℕ, suc, ◌+◌, ◌<◌, ◌≤◌, Bool, true, false, cond, not, ◌&&◌, ◌||◌, ◌==◌, List, [], ◌∷◌, ◌++◌, length, take, drop, slice_get, slice_index, Option, Some, None, refl, ap, sym, subst, ◌∙◌, arith, eqb, ltb, nat_le}
+use Rattle.std.proofs.Common.{◌≡◌, ◌⊎◌, inl, inr, ⊎_elim, ℕ, suc, ◌+◌, ◌<◌, ◌≤◌, Bool, true, false, cond, not, ◌||◌, ◌==◌, List, [], ◌∷◌, ◌++◌, length, slice_get, slice_index, Option, Some, None, refl, ap, sym, subst, ◌∙◌, arith, eqb, nat_le}
 use Rattle.std.specs.Prelude.{Contains}
-use Rattle.std.specs.List.{cons_option, list_any, list_all, IsDistinct, AllByRecursion}
-use Rattle.std.specs.Cmp.Lexicographic.{pointwise}
+use Rattle.std.specs.List.{cons_option, list_any, IsDistinct, AllByRecursion}
 use Rattle.std.proofs.lemmas.Bool.{and_parts, eqb-true, eq-eqb, ne_eqb, leb-true, or_cases, true≢false}
 use Rattle.std.proofs.lemmas.List.{get_or_default}
 use Rattle.std.proofs.lemmas.Map.Steps.{length-le_from_distinct_below}
-use Rattle.domains.specs.Tables.{are_sizes, product}
 use Rattle.transition_table.specs.declared.machine.Machine.{Machine}
 use Rattle.transition_table.specs.NetworkFacts.{has, are_different}
 use Rattle.sgraph.specs.declared.vertex.Vertex.{Vertex}
@@ -18,7 +16,9 @@ use Rattle.sgraph.specs.Walks.{FitsMachine}
 use Rattle.task_code.specs.declared.instr.Instr.{Instr}
 use Rattle.task_code.specs.declared.instr.Instr.TheVariants.{Set, Goto}
 use Rattle.task_code.specs.Codes.{start, given_by, laid_out, StepsOf}
-use Rattle.task_machine.proofs.Outcomes.{long_results}
+use Rattle.polis_base.proofs.Names.{left_true, right_true}
+use Rattle.transition_table.proofs.Ranges.{vars_length}
+use Rattle.sgraph.proofs.Outcomes.{long_results}
 use Rattle.task_machine.proofs.Layouts.{Rest, rest_first, rest_next, rest_all, got, given_on, executed_is}
 
 -- ---- numbers that differ and are below n are at most n
@@ -254,25 +254,11 @@ module _ (g : List Vertex) (s : List ℕ) where
 -- a machine has at most 24 variables and 25 results
 pub few_items : (m : Machine) → length m.vars + (length m.results + length m.results) ≤ 74
 few_items m =
-    let sizes = are_sizes m.vars in
-    let lengths = length m.vars == length m.inputs + length m.states in
-    let inputs = list_all (nat_le 2) (take (length m.inputs) m.vars) in
-    let states = pointwise (λ state size. ltb state.init size) m.states
-    (drop (length m.inputs) m.vars) in
-    let vars = eqb-true (length m.vars) (length m.inputs + length m.states)
-    (and_parts sizes lengths
-    (and_parts (sizes && lengths) inputs
-    (and_parts ((sizes && lengths) && inputs) states m.sized_vars).0).0).1 in
-    let a = nat_le (length m.inputs) 16 in
-    let b = nat_le (length m.outputs) 16 in
-    let c = nat_le (length m.states) 8 in
-    let d = nat_le (length m.rows) 512 in
-    let e = nat_le (product m.vars) 65536 in
-    let three = (and_parts ((a && b) && c) d (and_parts (((a && b) && c) && d) e m.small).0).0 in
-    let two = and_parts (a && b) c three in
-    let one = and_parts a b two.0 in
-    let few_inputs = leb-true (length m.inputs) 16 one.0 in
-    let few_outputs = leb-true (length m.outputs) 16 one.1 in
-    let few_states = leb-true (length m.states) 8 two.1 in
+    let ports = left_true _ (nat_le (length m.rows) 512) (left_true _ _ m.small) in
+    let both = left_true _ (nat_le (length m.states) 8) ports in
+    let inputs = leb-true (length m.inputs) 16 (left_true _ _ both) in
+    let outputs = leb-true (length m.outputs) 16 (right_true (nat_le (length m.inputs) 16) _ both) in
+    let states = leb-true (length m.states) 8 (right_true _ _ ports) in
+    let vars = vars_length m in
     let results = long_results m in
     omega arith

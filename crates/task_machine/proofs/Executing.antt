@@ -1,21 +1,17 @@
 -- Running code, one instruction after another.
-use Rattle.std.proofs.Common.{◌≡◌, ◌⊎◌, inl, inr, ⊎_elim, ℕ, zero, suc, ◌+◌, ◌<◌, ◌≤◌, List, [], ◌∷◌, length, slice_get, slice_index, Option, Some, None, refl, ap, sym, ◌∙◌, arith, length-set}
+use Rattle.std.proofs.Common.{◌≡◌, ◌⊎◌, inl, inr, ⊎_elim, ℕ, suc, ◌+◌, ◌<◌, ◌≤◌, List, ◌∷◌, length, slice_get, slice_index, Option, Some, None, refl, ap, sym, ◌∙◌, arith, length-set, []}
 use Rattle.task_code.specs.declared.instr.Instr.{Instr}
 use Rattle.task_code.specs.declared.instr.Instr.TheVariants.{Test, Set, Goto, Halt}
 use Rattle.sgraph.specs.Trails.{trail}
 use Rattle.task_code.specs.Codes.{goes_to, set_by, set_all, executed}
-use Rattle.task_machine.specs.Running.{MayRun}
-use Rattle.task_machine.proofs.Walking.{Onward, trail_at}
+use Rattle.task_machine.specs.inner.Running.{MayRun}
+use Rattle.sgraph.proofs.Walking.{Onward, trail_at}
+use Rattle.sgraph.proofs.EvalSteps.{got_some, no_next}
 
 -- each instruction may be run, and there is one
 pub record IsRunnable (c : List Instr) (s : List ℕ) (results : ℕ) : Type 0 where
   pub some : 0 < length c
   pub each : (k : ℕ) (i : Instr) → slice_get c k ≡ Some i → MayRun (length c) s results k i
-
-got_some : (xs : List ℕ) (i : ℕ) → i < length xs → slice_get xs i ≡ Some (slice_index xs i)
-got_some [] i low = absurd (omega arith)
-got_some (x ∷ xs) zero low = refl
-got_some (x ∷ xs) (suc i) low = got_some xs i (omega arith)
 
 none : (next : ℕ → Instr → Option ℕ) (xs : List Instr) (base : ℕ) → trail next xs base None ≡ []
 none next [] base = refl
@@ -57,9 +53,6 @@ going_start c s codes may =
 
 same_next : (a b : Option ℕ) (x y : ℕ) → a ≡ Some x → a ≡ Some y → x ≡ y
 same_next a b x y e f = cc
-
-no_next : (a : Option ℕ) (x : ℕ) → a ≡ None → a ≡ Some x → ⊥
-no_next a x e f = cc
 
 pub going_on : (c : List Instr) (s first codes : List ℕ) (at steps next : ℕ) (i : Instr)
     → IsRunnable c s (length first) → Going c s first codes at steps → slice_get c at ≡ Some i

@@ -1,5 +1,5 @@
 -- The layout of a graph of a machine fits the machine.
-use Rattle.std.proofs.Common.{◌≡◌, ◌⊎◌, inl, inr, ⊎_elim, ℕ, zero, suc, ◌+◌, ◌<◌, Bool, true, false, cond, ◌==◌, List, [], ◌∷◌, ◌++◌, map, length, slice_get, slice_index, Some, None, refl, ap, sym, ◌∙◌, arith}
+use Rattle.std.proofs.Common.{◌≡◌, ◌⊎◌, inl, inr, ⊎_elim, ℕ, zero, suc, ◌+◌, ◌<◌, Bool, true, false, cond, ◌==◌, List, ◌∷◌, ◌++◌, map, length, slice_get, slice_index, Some, None, refl, ap, sym, ◌∙◌, arith, []}
 use Rattle.transition_table.specs.declared.machine.Machine.{Machine}
 use Rattle.sgraph.specs.declared.vertex.Vertex.{Vertex}
 use Rattle.sgraph.specs.declared.vertex.Vertex.TheVariants.{Begin, Test as Tests, Assign, End}
@@ -8,6 +8,7 @@ use Rattle.task_code.specs.declared.instr.Instr.{Instr}
 use Rattle.task_code.specs.declared.instr.Instr.TheVariants.{Test, Set, Goto, Halt}
 use Rattle.task_code.specs.Codes.{given_by, laid_out}
 use Rattle.task_machine.specs.Running.{CodeFits}
+use Rattle.sgraph.proofs.Keeping.{long_map}
 
 -- an instruction is one of some vertex
 record OfVertex (at : ℕ → ℕ) (k : ℕ) (vs : List Vertex) (i : Instr) : Type 0 where
@@ -51,10 +52,6 @@ of_vertex at (v ∷ vs) k p i is =
       gives = ap (λ (j : ℕ). slice_get (given_by at j rest.v) rest.off) (sym e) ∙ rest.gives;
     })
     (split (given_by at k v) (laid_out at (suc k) vs) p i is)
-
-long_map : (f : ℕ → ℕ) (xs : List ℕ) → length (map f xs) ≡ length xs
-long_map f [] = refl
-long_map f (x ∷ xs) = ap suc (long_map f xs)
 
 module _ (m : Machine) (g : List Vertex) (fit : FitsMachine m g) (at : ℕ → ℕ) where
   one_test : (n k off var : ℕ) (targets : List ℕ) (v : Vertex) → slice_get g n ≡ Some v

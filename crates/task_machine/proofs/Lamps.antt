@@ -2,7 +2,7 @@
 use Rattle.std.proofs.Common.{◌≡◌, inl, inr, ℕ, zero, suc, true, false, ◌&&◌, List, [], ◌∷◌, refl, sym, subst, arith, ltb}
 use Rattle.std.proofs.lemmas.Bool.{and_parts, ltb-true, false≢true}
 use Rattle.domains.specs.Tables.{fits}
-use Rattle.transition_table.specs.SampleLamp.{lamp_machine}
+use Rattle.transition_table.specs.samples.Lamp.{lamp_machine}
 use Rattle.transition_table.specs.Transitions.{Transition, reading, is_enabled}
 use Rattle.sgraph.specs.declared.vertex.Vertex.{Vertex}
 use Rattle.sgraph.specs.Facts.{IsGraph}

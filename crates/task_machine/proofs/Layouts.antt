@@ -1,5 +1,5 @@
 -- What is executed of a graph's layout is what the vertices of the walk give.
-use Rattle.std.proofs.Common.{◌≡◌, ◌⊎◌, inl, inr, ⊎_elim, ℕ, zero, suc, ◌+◌, ◌-◌, ◌<◌, ◌≤◌, Bool, true, false, cond, ◌==◌, List, [], ◌∷◌, ◌++◌, map, length, slice_get, slice_index, Option, Some, None, refl, ap, sym, subst, ◌∙◌, arith}
+use Rattle.std.proofs.Common.{◌≡◌, ◌⊎◌, inl, inr, ⊎_elim, ℕ, zero, suc, ◌+◌, ◌-◌, ◌<◌, ◌≤◌, Bool, true, false, cond, ◌==◌, List, ◌∷◌, ◌++◌, map, length, slice_get, slice_index, Option, Some, None, refl, ap, sym, subst, ◌∙◌, arith, []}
 use Rattle.std.specs.Prelude.{⊤}
 use Rattle.std.proofs.lemmas.Bool.{cases_eq, eq-eqb, ne_eqb}
 use Rattle.sgraph.specs.declared.vertex.Vertex.{Vertex}
@@ -9,42 +9,8 @@ use Rattle.sgraph.specs.Graphs.{next_of, walk, assign, assign_all, GoesOn}
 use Rattle.task_code.specs.declared.instr.Instr.{Instr}
 use Rattle.task_code.specs.declared.instr.Instr.TheVariants.{Test, Set, Goto, Halt}
 use Rattle.task_code.specs.Codes.{goes_to, executed, set_all, width, given_before, start, given_by, laid_out}
-
--- ---- places
-pub start_next : (vs : List Vertex) (k n : ℕ) (v : Vertex) → slice_get vs n ≡ Some v
-    → given_before k vs (suc n) ≡ given_before k vs n + width (k + n) v
-start_next [] k n v is = cc
-start_next (x ∷ xs) k zero v is =
-    let same : x ≡ v = cc in
-    let e : k + 0 ≡ k = omega arith in
-    let w : width k x ≡ width (k + 0) v = ap (width k) same ∙ ap (λ (j : ℕ). width j v) (sym e) in
-    let none : given_before (suc k) xs 0 ≡ 0 = refl in
-    omega arith
-start_next (x ∷ xs) k (suc n) v is =
-    let e : suc k + n ≡ k + suc n = omega arith in
-    let rest = start_next xs (suc k) n v is in
-    let w : width (suc k + n) v ≡ width (k + suc n) v = ap (λ (j : ℕ). width j v) e in
-    omega arith
-
-start_rises : (vs : List Vertex) (k n more : ℕ) → given_before k vs n ≤ given_before k vs (n + more)
-start_rises vs k zero more = omega arith
-start_rises [] k (suc n) more = let e : suc n + more ≡ suc (n + more) = omega arith in
-    rw e (omega arith)
-start_rises (x ∷ xs) k (suc n) more =
-    let e : suc n + more ≡ suc (n + more) = omega arith in
-    let rest = start_rises xs (suc k) n more in
-    rw e (omega arith)
-
-long_given : (at : ℕ → ℕ) (k : ℕ) (v : Vertex) → length (given_by at k v) ≡ width k v
-long_given at k (Begin next) = refl
-long_given at k (Tests var kids) = refl
-long_given at k (Assign result code next) = go (next == suc k)
-  where
-    go : (b : Bool) → length (Set result code ∷ cond b [] (Goto (at next) ∷ []))
-        ≡ cond {A = ℕ} b 1 2
-    go true = refl
-    go false = refl
-long_given at k End = refl
+use Rattle.task_code.proofs.Laying.{start_next, long_given, start_rises}
+use Rattle.sgraph.proofs.Walking.{passed}
 
 -- ---- trails
 -- the place is none before this one
@@ -73,17 +39,12 @@ sooner : (a b : ℕ) (o : Option ℕ) → a ≤ b → From b o → From a o
 sooner a b None less from = tt
 sooner a b (Some j) less from = omega arith
 
-pass_one : {X : Type 0} (next : ℕ → X → Option ℕ) (x : X) (xs : List X) (b : ℕ) (o : Option ℕ)
-    → is_at b o ≡ false → trail next (x ∷ xs) b o ≡ trail next xs (suc b) o
-pass_one next x xs b o off =
-    ap (λ (here : Bool). kept here x (trail next xs (suc b) (cond here (next b x) o))) off
-
 pass_all : {X : Type 0} (next : ℕ → X → Option ℕ) (xs ys : List X) (b n : ℕ) (o : Option ℕ)
     → n ≡ b + length xs → From n o → trail next (xs ++ ys) b o ≡ trail next ys n o
 pass_all next [] ys b n o e from = let f : b ≡ n = omega arith in
     ap (λ (m : ℕ). trail next ys m o) f
 pass_all next (x ∷ xs) ys b n o e from =
-    pass_one next x (xs ++ ys) b o (not_yet b o (sooner (suc b) n o (omega arith) from))
+    passed next x (xs ++ ys) b o (not_yet b o (sooner (suc b) n o (omega arith) from))
     ∙ pass_all next xs ys (suc b) n o (omega arith) from
 
 pub got : (xs : List ℕ) (i : ℕ) → (slice_get xs i ≡ None)

@@ -1,10 +1,8 @@
-mod Walking
-mod Executing
-mod Outcomes
-mod Doing
-mod Reacting
-mod Layouts
-mod Bounds
-mod Fits
-mod Joined
-mod Lamps
+pub mod Executing
+pub mod ExecSteps
+pub mod Reacting
+pub mod Layouts
+pub mod Bounds
+pub mod Fits
+pub mod LoweredLaws
+pub mod Lamps

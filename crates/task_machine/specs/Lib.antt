@@ -1,3 +1,4 @@
 pub mod Laws
 pub mod Running
 pub mod Tasks
+pub mod inner

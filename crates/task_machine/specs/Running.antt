@@ -1,11 +1,11 @@
 -- Code that may be run.
-use Rattle.std.specs.Prelude.{◌≡◌, ℕ, ◌+◌, ◌<◌, List, length, slice_get, slice_index, Some, ⊤}
+use Rattle.std.specs.Prelude.{◌≡◌, ℕ, ◌<◌, List, length, slice_get, slice_index, Some}
 use Rattle.transition_table.specs.declared.machine.Machine.{Machine}
 use Rattle.transition_table.specs.declared.snapshot.Snapshot.{Snapshot}
 use Rattle.transition_table.specs.declared.snapshot.Outcome.{Outcome}
 use Rattle.transition_table.specs.Transitions.{IsSnapshot, HasWidths}
 use Rattle.task_code.specs.declared.instr.Instr.{Instr}
-use Rattle.task_code.specs.declared.instr.Instr.TheVariants.{Test, Set, Goto, Halt}
+use Rattle.task_code.specs.declared.instr.Instr.TheVariants.{Test, Set}
 
 -- the code's tests have one target for each code of a variable of the machine, and its results are
 -- the machine's
@@ -25,13 +25,3 @@ pub record AreOfOne (c : List Instr) (s : Snapshot) (o : Outcome) : Type 0 where
   pub code : CodeFits machine c
   pub snapshot : IsSnapshot machine s
   pub widths : HasWidths machine o
-
--- the instruction at place k of so many, on the codes of a snapshot, with so many results
-abbrev pub MayRun : ℕ → List ℕ → ℕ → ℕ → Instr → Type 0
-MayRun count s results k (Test var targets) =
-    (var < length s) × (slice_index s var < length targets)
-    × (k < slice_index targets (slice_index s var))
-    × (slice_index targets (slice_index s var) < count)
-MayRun count s results k (Set result code) = (result < results) × (k + 1 < count)
-MayRun count s results k (Goto target) = (k < target) × (target < count)
-MayRun count s results k Halt = ⊤

@@ -4,7 +4,8 @@ ghost use Rattle.transition_table.specs.declared.machine.Machine.{Machine};
 ghost use Rattle.transition_table.specs.Transitions.{HasWidths};
 ghost use Rattle.sgraph.specs.Walks.{outcome_with, width_of};
 ghost use Rattle.task_code.specs.Codes.{goes_to, set_by, StepsOf, Exec};
-ghost use Rattle.task_machine.specs.Running.{AreOfOne, MayRun};
+ghost use Rattle.task_machine.specs.Running.{AreOfOne};
+ghost use Rattle.task_machine.specs.inner.Running.{MayRun};
 
 use domains::Codes;
 use sgraph::set_result;

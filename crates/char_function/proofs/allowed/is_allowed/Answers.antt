@@ -3,8 +3,8 @@ use Rattle.std.specs.List.{list_all}
 use Rattle.std.proofs.lemmas.Bool.{cases_lt, true≢false}
 use Rattle.domains.specs.Orders.{place}
 use Rattle.transition_table.specs.Computed.{all_supports}
-use Rattle.char_function.specs.Orders.{stands_after}
-use Rattle.char_function.proofs.Lists.{read}
+use Rattle.char_function.specs.inner.Orders.{stands_after}
+use Rattle.decision_diagram.proofs.Lists.{read}
 use Rattle.char_function.proofs.Turning.{of_machine, vars_long, allowed_from, allowed_after}
 use Rattle.char_function.proofs.allowed.is_allowed.Goals as goal
 

@@ -1,6 +1,6 @@
 use Rattle.std.proofs.Common.{◌∙◌, ◌++◌, ◌∷◌, ◌<◌, [], ℕ, List, map, take, length, get_or, slice_index, sym, ap, arith}
 use Rattle.std.proofs.lemmas.List.{take_more, take_all, map-append}
-use Rattle.char_function.proofs.Lists.{read}
+use Rattle.decision_diagram.proofs.Lists.{read}
 use Rattle.char_function.proofs.column.codes_of.Goals as goal
 
 pub loop-k-preserved : goal.loop-k-preserved
@@ -11,9 +11,9 @@ loop-k-preserved c =
     let low : k < length all = let a = c.loop-k-test.true in let b = c.len-k-end.ensures in
     omega arith in
     c.in_ok-push.ensures.ok
-    ∙ ap (λ (xs : List ℕ). xs ++ c.code_of.result ∷ []) c.loop-k.invariant
+    ∙ ap (λ (xs : List ℕ). xs ++ c.code_in_outcome.result ∷ []) c.loop-k.invariant
     ∙ ap (λ (x : ℕ). map (λ (outcome : List ℕ). slice_index outcome y) (take k all) ++ x ∷ [])
-    (c.code_of.ensures ∙ ap (λ (outcome : List ℕ). slice_index outcome y)
+    (c.code_in_outcome.ensures ∙ ap (λ (outcome : List ℕ). slice_index outcome y)
     (sym (read all k c.get.result.now [] c.get.ensures)))
     ∙ sym (map-append (λ (outcome : List ℕ). slice_index outcome y) (take k all)
     (get_or all k [] ∷ []))

@@ -4,11 +4,11 @@ use Rattle.domains.specs.Orders.{place}
 use Rattle.domains.specs.Tables.{product}
 use Rattle.decision_diagram.specs.Diagrams.{Means, level_of}
 use Rattle.transition_table.specs.Orders.{sizes_of}
-use Rattle.char_function.specs.Left.{IsFirst, left_from}
+use Rattle.char_function.specs.inner.Left.{IsFirst, left_from}
 use Rattle.char_function.proofs.FixedKids.{AreFixedKids, fixed_more, left_kept, next_of, node_left, points_few, result_left, step_of, vars_size}
 use Rattle.char_function.proofs.Leaving.{first_more}
-use Rattle.char_function.proofs.Lists.{read}
-use Rattle.char_function.proofs.Making.{keeps_trans}
+use Rattle.decision_diagram.proofs.Lists.{read}
+use Rattle.decision_diagram.proofs.Growth.{keeps_trans}
 use Rattle.char_function.proofs.fixing.+fixed_node.Goals as goal
 
 pub fixed_node-requires : goal.fixed_node-requires
@@ -24,7 +24,7 @@ fixed_node-requires t c =
     let within = f.within in
     let p_low : p < length order = omega arith in
     let step = step_of m order c.args.fixing.now.sizes.now c.args.store.now.sizes p item
-    c.from.result size f.ordered f.all_sizes c.requires.sizes
+    c.from.result size f.ordered f.all_sizes c.requires.store.sizes
     c.same_value_same_node.ensures.reduced.sizes p_low c.get-item.ensures c.from.ensures
     c.get-size.ensures in
     let more : suc p ≡ p + 1 = omega arith in
@@ -35,18 +35,12 @@ fixed_node-requires t c =
         (
           f,
           (
-            c.requires.order,
-            (
-              c.requires.sizes,
-              (
-                c.requires.known,
-                (
-                  c.requires.snapshot,
-                  subst (λ (k : ℕ). IsFirst m order k c.args.i) more
-                      (first_more m order f.ordered p c.args.i p_low c.requires.first),
-                ),
-              ),
-            ),
+            c.requires.store,
+            record {
+              snapshot = c.requires.first.snapshot;
+              first = subst (λ (k : ℕ). IsFirst m order k c.args.i) more
+                  (first_more m order f.ordered p c.args.i p_low c.requires.first.first);
+            },
           ),
         ),
       ),
@@ -65,12 +59,12 @@ result_node-requires-clause-size t c =
     let within = f.within in
     let p_low : p < length order = omega arith in
     let step = step_of m order c.args.fixing.now.sizes.now c.args.store.now.sizes p item
-    c.from.result size f.ordered f.all_sizes c.requires.sizes
+    c.from.result size f.ordered f.all_sizes c.requires.store.sizes
     c.same_value_same_node.ensures.reduced.sizes p_low c.get-item.ensures c.from.ensures
     c.get-size.ensures in
     step.sized
     ∙ ap (λ (xs : List ℕ). slice_index xs item)
-    (sym (c.fixed_node.ensures.kept.sizes ∙ c.requires.sizes ∙ f.all_sizes))
+    (sym (c.fixed_node.ensures.kept.sizes ∙ c.requires.store.sizes ∙ f.all_sizes))
 
 pub result_node-requires-clause-few : goal.result_node-requires-clause-few
 result_node-requires-clause-few t c =
@@ -85,7 +79,7 @@ result_node-requires-clause-few t c =
     let within = f.within in
     let p_low : p < length order = omega arith in
     let step = step_of m order c.args.fixing.now.sizes.now c.args.store.now.sizes p item
-    c.from.result size f.ordered f.all_sizes c.requires.sizes
+    c.from.result size f.ordered f.all_sizes c.requires.store.sizes
     c.same_value_same_node.ensures.reduced.sizes p_low c.get-item.ensures c.from.ensures
     c.get-size.ensures in
     step.few
@@ -103,7 +97,7 @@ result_node-requires-clause-code t c =
     let within = f.within in
     let p_low : p < length order = omega arith in
     let step = step_of m order c.args.fixing.now.sizes.now c.args.store.now.sizes p item
-    c.from.result size f.ordered f.all_sizes c.requires.sizes
+    c.from.result size f.ordered f.all_sizes c.requires.store.sizes
     c.same_value_same_node.ensures.reduced.sizes p_low c.get-item.ensures c.from.ensures
     c.get-size.ensures in
     let sized = step.sized in
@@ -123,12 +117,12 @@ result_node-requires-clause-later t c =
     let within = f.within in
     let p_low : p < length order = omega arith in
     let step = step_of m order c.args.fixing.now.sizes.now c.args.store.now.sizes p item
-    c.from.result size f.ordered f.all_sizes c.requires.sizes
+    c.from.result size f.ordered f.all_sizes c.requires.store.sizes
     c.same_value_same_node.ensures.reduced.sizes p_low c.get-item.ensures c.from.ensures
     c.get-size.ensures in
     let placed = step.at.placed in
     let e : place c.fixed_node.new.store.order item ≡ place order item =
-    ap (λ (xs : List ℕ). place xs item) (c.fixed_node.ensures.kept.order ∙ c.requires.order) in
+    ap (λ (xs : List ℕ). place xs item) (c.fixed_node.ensures.kept.order ∙ c.requires.store.order) in
     let level = c.in_ok-kid.ensures.level in
     omega arith
 
@@ -155,16 +149,16 @@ returns-then-from-len-clause-value t c =
     let within = f.within in
     let p_low : p < length order = omega arith in
     let step = step_of m order c.args.fixing.now.sizes.now c.args.store.now.sizes p item
-    c.from.result size f.ordered f.all_sizes c.requires.sizes
+    c.from.result size f.ordered f.all_sizes c.requires.store.sizes
     c.same_value_same_node.ensures.reduced.sizes p_low c.get-item.ensures c.from.ensures
     c.get-size.ensures in
     let high : length m.vars ≤ item = let a = c.if-from-len.true in let b = c.from-2.ensures in
     let d = c.len.ensures.len in omega arith in
     result_left c.laws_of_computing.ensures.results_fit c.laws_of_computing.ensures.same_on_support m
     order f.ordered c.fixed_node.new.store c.result_node.new.store p item c.code_at-code.result
-    c.args.i c.in_ok-kid.kid c.in_ok-node-2.node step.at high c.requires.snapshot
+    c.args.i c.in_ok-kid.kid c.in_ok-node-2.node step.at high c.requires.first.snapshot
     c.code_at-code.ensures.code
-    (c.fixed_node.ensures.kept.sizes ∙ c.requires.sizes ∙ f.all_sizes)
+    (c.fixed_node.ensures.kept.sizes ∙ c.requires.store.sizes ∙ f.all_sizes)
     c.result_node.ensures.kept.sizes c.in_ok-kid.ensures.value c.in_ok-node-2.ensures.value
 
 pub returns-then-from-len-clause-level : goal.returns-then-from-len-clause-level
@@ -180,12 +174,12 @@ returns-then-from-len-clause-level t c =
     let within = f.within in
     let p_low : p < length order = omega arith in
     let step = step_of m order c.args.fixing.now.sizes.now c.args.store.now.sizes p item
-    c.from.result size f.ordered f.all_sizes c.requires.sizes
+    c.from.result size f.ordered f.all_sizes c.requires.store.sizes
     c.same_value_same_node.ensures.reduced.sizes p_low c.get-item.ensures c.from.ensures
     c.get-size.ensures in
     let placed = step.at.placed in
     let e : place c.fixed_node.new.store.order item ≡ place order item =
-    ap (λ (xs : List ℕ). place xs item) (c.fixed_node.ensures.kept.order ∙ c.requires.order) in
+    ap (λ (xs : List ℕ). place xs item) (c.fixed_node.ensures.kept.order ∙ c.requires.store.order) in
     let level = c.in_ok-node-2.ensures.level in
     omega arith
 
@@ -208,7 +202,7 @@ overflow_mul-first t c =
     let within = f.within in
     let p_low : p < length order = omega arith in
     let step = step_of m order c.args.fixing.now.sizes.now c.args.store.now.sizes p item
-    c.from.result size f.ordered f.all_sizes c.requires.sizes
+    c.from.result size f.ordered f.all_sizes c.requires.store.sizes
     c.same_value_same_node.ensures.reduced.sizes p_low c.get-item.ensures c.from.ensures
     c.get-size.ensures in
     let inside : item < length m.vars = let a = c.if-from-len.false in let b = c.from-2.ensures in
@@ -223,7 +217,7 @@ overflow_mul-first t c =
     let test = c.loop-code-test.true in
     let code_low : code < size = omega arith in
     let next = next_of c.laws_of_all_codes.ensures.stands_once m order f.ordered p item size
-    c.args.i code stride step inside c.requires.snapshot code_low c.requires.first stride_is in
+    c.args.i code stride step inside c.requires.first.snapshot code_low c.requires.first.first stride_is in
     let low = next.low in
     let few = points_few m in
     omega arith
@@ -241,7 +235,7 @@ overflow_add-first t c =
     let within = f.within in
     let p_low : p < length order = omega arith in
     let step = step_of m order c.args.fixing.now.sizes.now c.args.store.now.sizes p item
-    c.from.result size f.ordered f.all_sizes c.requires.sizes
+    c.from.result size f.ordered f.all_sizes c.requires.store.sizes
     c.same_value_same_node.ensures.reduced.sizes p_low c.get-item.ensures c.from.ensures
     c.get-size.ensures in
     let inside : item < length m.vars = let a = c.if-from-len.false in let b = c.from-2.ensures in
@@ -256,7 +250,7 @@ overflow_add-first t c =
     let test = c.loop-code-test.true in
     let code_low : code < size = omega arith in
     let next = next_of c.laws_of_all_codes.ensures.stands_once m order f.ordered p item size
-    c.args.i code stride step inside c.requires.snapshot code_low c.requires.first stride_is in
+    c.args.i code stride step inside c.requires.first.snapshot code_low c.requires.first.first stride_is in
     let low = next.low in
     let few = points_few m in
     omega arith
@@ -274,7 +268,7 @@ fixed_node-requires-in-loop-code t c =
     let within = f.within in
     let p_low : p < length order = omega arith in
     let step = step_of m order c.args.fixing.now.sizes.now c.args.store.now.sizes p item
-    c.from.result size f.ordered f.all_sizes c.requires.sizes
+    c.from.result size f.ordered f.all_sizes c.requires.store.sizes
     c.same_value_same_node.ensures.reduced.sizes p_low c.get-item.ensures c.from.ensures
     c.get-size.ensures in
     let inside : item < length m.vars = let a = c.if-from-len.false in let b = c.from-2.ensures in
@@ -289,7 +283,7 @@ fixed_node-requires-in-loop-code t c =
     let test = c.loop-code-test.true in
     let code_low : code < size = omega arith in
     let next = next_of c.laws_of_all_codes.ensures.stands_once m order f.ordered p item size
-    c.args.i code stride step inside c.requires.snapshot code_low c.requires.first stride_is in
+    c.args.i code stride step inside c.requires.first.snapshot code_low c.requires.first.first stride_is in
     let more : suc p ≡ p + 1 = omega arith in
     let kept = c.loop-code.invariant.kept in
     let d = c.decreases in (
@@ -299,17 +293,16 @@ fixed_node-requires-in-loop-code t c =
         (
           f,
           (
-            kept.order ∙ c.requires.order,
-            (
-              kept.sizes ∙ c.requires.sizes,
-              (
-                c.loop-code.invariant.known,
-                (
-                  next.low,
-                  subst (λ (k : ℕ). IsFirst m order k (c.args.i + code * stride)) more next.first,
-                ),
-              ),
-            ),
+            record {
+              order = kept.order ∙ c.requires.store.order;
+              sizes = kept.sizes ∙ c.requires.store.sizes;
+              known = c.loop-code.invariant.known;
+            },
+            record {
+              snapshot = next.low;
+              first = subst (λ (k : ℕ). IsFirst m order k (c.args.i + code * stride)) more
+                  next.first;
+            },
           ),
         ),
       ),
@@ -333,7 +326,7 @@ listed t c =
     let within = f.within in
     let p_low : p < length order = omega arith in
     let step = step_of m order c.args.fixing.now.sizes.now c.args.store.now.sizes p item
-    c.from.result size f.ordered f.all_sizes c.requires.sizes
+    c.from.result size f.ordered f.all_sizes c.requires.store.sizes
     c.same_value_same_node.ensures.reduced.sizes p_low c.get-item.ensures c.from.ensures
     c.get-size.ensures in
     let inside : item < length m.vars = let a = c.if-from-len.false in let b = c.from-2.ensures in
@@ -348,7 +341,7 @@ listed t c =
     let test = c.loop-code-test.true in
     let code_low : code < size = omega arith in
     let next = next_of c.laws_of_all_codes.ensures.stands_once m order f.ordered p item size
-    c.args.i code stride step inside c.requires.snapshot code_low c.requires.first stride_is in
+    c.args.i code stride step inside c.requires.first.snapshot code_low c.requires.first.first stride_is in
     let two = c.from-in-loop-code-2.ensures in
     let few = step.few in
     let long = c.loop-code.invariant.kids.long in
@@ -367,7 +360,7 @@ bounds-kids-from t c =
     let within = f.within in
     let p_low : p < length order = omega arith in
     let step = step_of m order c.args.fixing.now.sizes.now c.args.store.now.sizes p item
-    c.from.result size f.ordered f.all_sizes c.requires.sizes
+    c.from.result size f.ordered f.all_sizes c.requires.store.sizes
     c.same_value_same_node.ensures.reduced.sizes p_low c.get-item.ensures c.from.ensures
     c.get-size.ensures in
     let inside : item < length m.vars = let a = c.if-from-len.false in let b = c.from-2.ensures in
@@ -382,7 +375,7 @@ bounds-kids-from t c =
     let test = c.loop-code-test.true in
     let code_low : code < size = omega arith in
     let next = next_of c.laws_of_all_codes.ensures.stands_once m order f.ordered p item size
-    c.args.i code stride step inside c.requires.snapshot code_low c.requires.first stride_is in
+    c.args.i code stride step inside c.requires.first.snapshot code_low c.requires.first.first stride_is in
     let two = c.from-in-loop-code-2.ensures in
     let few = step.few in
     omega arith
@@ -400,7 +393,7 @@ loop-code-preserved t c =
     let within = f.within in
     let p_low : p < length order = omega arith in
     let step = step_of m order c.args.fixing.now.sizes.now c.args.store.now.sizes p item
-    c.from.result size f.ordered f.all_sizes c.requires.sizes
+    c.from.result size f.ordered f.all_sizes c.requires.store.sizes
     c.same_value_same_node.ensures.reduced.sizes p_low c.get-item.ensures c.from.ensures
     c.get-size.ensures in
     let inside : item < length m.vars = let a = c.if-from-len.false in let b = c.from-2.ensures in
@@ -415,7 +408,7 @@ loop-code-preserved t c =
     let test = c.loop-code-test.true in
     let code_low : code < size = omega arith in
     let next = next_of c.laws_of_all_codes.ensures.stands_once m order f.ordered p item size
-    c.args.i code stride step inside c.requires.snapshot code_low c.requires.first stride_is in
+    c.args.i code stride step inside c.requires.first.snapshot code_low c.requires.first.first stride_is in
     let s = c.loop-code.store in
     let new = c.fixed_node-in-loop-code.new.store in
     let kept = c.loop-code.invariant.kept in
@@ -448,7 +441,7 @@ shared_whole_as_front-node t c =
     let within = f.within in
     let p_low : p < length order = omega arith in
     let step = step_of m order c.args.fixing.now.sizes.now c.args.store.now.sizes p item
-    c.from.result size f.ordered f.all_sizes c.requires.sizes
+    c.from.result size f.ordered f.all_sizes c.requires.store.sizes
     c.same_value_same_node.ensures.reduced.sizes p_low c.get-item.ensures c.from.ensures
     c.get-size.ensures in
     let inside : item < length m.vars = let a = c.if-from-len.false in let b = c.from-2.ensures in
@@ -478,7 +471,7 @@ node-requires-clause-kids t c =
     let within = f.within in
     let p_low : p < length order = omega arith in
     let step = step_of m order c.args.fixing.now.sizes.now c.args.store.now.sizes p item
-    c.from.result size f.ordered f.all_sizes c.requires.sizes
+    c.from.result size f.ordered f.all_sizes c.requires.store.sizes
     c.same_value_same_node.ensures.reduced.sizes p_low c.get-item.ensures c.from.ensures
     c.get-size.ensures in
     let inside : item < length m.vars = let a = c.if-from-len.false in let b = c.from-2.ensures in
@@ -496,7 +489,7 @@ node-requires-clause-kids t c =
     let long = part.kids.long in
     let d = length-take c.from-4.result c.loop-code.kids in
     let e : slice_index c.loop-code.store.sizes item ≡ slice_index (sizes_of m) item =
-    ap (λ (xs : List ℕ). slice_index xs item) (part.kept.sizes ∙ c.requires.sizes ∙ f.all_sizes) in
+    ap (λ (xs : List ℕ). slice_index xs item) (part.kept.sizes ∙ c.requires.store.sizes ∙ f.all_sizes) in
     let sized = step.sized in
     omega arith
 
@@ -513,7 +506,7 @@ node-requires-clause-later t c code low =
     let within = f.within in
     let p_low : p < length order = omega arith in
     let step = step_of m order c.args.fixing.now.sizes.now c.args.store.now.sizes p item
-    c.from.result size f.ordered f.all_sizes c.requires.sizes
+    c.from.result size f.ordered f.all_sizes c.requires.store.sizes
     c.same_value_same_node.ensures.reduced.sizes p_low c.get-item.ensures c.from.ensures
     c.get-size.ensures in
     let inside : item < length m.vars = let a = c.if-from-len.false in let b = c.from-2.ensures in
@@ -531,7 +524,7 @@ node-requires-clause-later t c code low =
     let shown : code < length (take c.from-4.result c.loop-code.kids) = low in
     let placed = step.at.placed in
     let e : place c.loop-code.store.order item ≡ place order item =
-    ap (λ (xs : List ℕ). place xs item) (part.kept.order ∙ c.requires.order) in
+    ap (λ (xs : List ℕ). place xs item) (part.kept.order ∙ c.requires.store.order) in
     let code_low : code < c.loop-code.code = omega arith in
     let level = part.kids.levels code code_low in
     let g : level_of c.loop-code.store
@@ -564,7 +557,7 @@ returns-clause-value t c =
     let within = f.within in
     let p_low : p < length order = omega arith in
     let step = step_of m order c.args.fixing.now.sizes.now c.args.store.now.sizes p item
-    c.from.result size f.ordered f.all_sizes c.requires.sizes
+    c.from.result size f.ordered f.all_sizes c.requires.store.sizes
     c.same_value_same_node.ensures.reduced.sizes p_low c.get-item.ensures c.from.ensures
     c.get-size.ensures in
     let inside : item < length m.vars = let a = c.if-from-len.false in let b = c.from-2.ensures in
@@ -582,10 +575,10 @@ returns-clause-value t c =
     let sized : c.loop-code.code ≡ slice_index m.vars item = done ∙ vars_sized in
     node_left c.laws_of_computing.ensures.same_on_support m order f.ordered c.loop-code.store
     c.node.new.self p item c.args.i stride c.in_ok-node-3.node c.loop-code.kids
-    (take c.from-4.result c.loop-code.kids) step.at inside c.requires.snapshot
+    (take c.from-4.result c.loop-code.kids) step.at inside c.requires.first.snapshot
     (λ k low. next_of c.laws_of_all_codes.ensures.stands_once m order f.ordered p item size c.args.i
-    k stride step inside c.requires.snapshot (omega arith) c.requires.first stride_is)
-    (part.kept.sizes ∙ c.requires.sizes ∙ f.all_sizes) c.node.ensures.kept.sizes
+    k stride step inside c.requires.first.snapshot (omega arith) c.requires.first.first stride_is)
+    (part.kept.sizes ∙ c.requires.store.sizes ∙ f.all_sizes) c.node.ensures.kept.sizes
     (subst (λ (k : ℕ). AreFixedKids m order c.loop-code.store p c.args.i stride c.loop-code.kids k)
     sized part.kids)
     (ap (λ (k : ℕ). take k c.loop-code.kids) (four ∙ vars_sized)) c.in_ok-node-3.ensures.value
@@ -603,7 +596,7 @@ returns-clause-level t c =
     let within = f.within in
     let p_low : p < length order = omega arith in
     let step = step_of m order c.args.fixing.now.sizes.now c.args.store.now.sizes p item
-    c.from.result size f.ordered f.all_sizes c.requires.sizes
+    c.from.result size f.ordered f.all_sizes c.requires.store.sizes
     c.same_value_same_node.ensures.reduced.sizes p_low c.get-item.ensures c.from.ensures
     c.get-size.ensures in
     let inside : item < length m.vars = let a = c.if-from-len.false in let b = c.from-2.ensures in
@@ -619,7 +612,7 @@ returns-clause-level t c =
     let four : c.from-4.result ≡ size = c.from-4.ensures in
     let placed = step.at.placed in
     let e : place c.loop-code.store.order item ≡ place order item =
-    ap (λ (xs : List ℕ). place xs item) (part.kept.order ∙ c.requires.order) in
+    ap (λ (xs : List ℕ). place xs item) (part.kept.order ∙ c.requires.store.order) in
     let level = c.in_ok-node-3.ensures.level in
     omega arith
 

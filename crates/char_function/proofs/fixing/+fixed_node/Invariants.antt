@@ -1,6 +1,6 @@
 use Rattle.std.proofs.Common.{◌-◌}
 use Rattle.decision_diagram.specs.Diagrams.{Keeps}
-use Rattle.char_function.specs.Left.{AreLeft}
+use Rattle.char_function.specs.inner.Left.{AreLeft}
 use Rattle.char_function.proofs.FixedKids.{AreFixedKids}
 use Rattle.char_function.proofs.fixing.+fixed_node.Given as goal
 

@@ -1,5 +1,5 @@
 use Rattle.std.proofs.Common.{◌∙◌, ℕ, None, replicate, ap, subst}
-use Rattle.char_function.specs.Rising.{IsRising}
+use Rattle.char_function.specs.inner.Rising.{IsRising}
 use Rattle.char_function.proofs.FixedKids.{first_of_all, left_none, root_left}
 use Rattle.char_function.proofs.fixing.fixed_root.Goals as goal
 
@@ -39,19 +39,21 @@ fixed_node-requires-clause-fixing c = record {
   within = c.after_variables-start.ensures.within;
 }
 
-pub fixed_node-requires-clause-known : goal.fixed_node-requires-clause-known
-fixed_node-requires-clause-known c =
+pub fixed_node-requires-clause-store : goal.fixed_node-requires-clause-store
+fixed_node-requires-clause-store c =
     let t = c.args.table.now in
-    left_none c.args.m.now t c.args.store.now c.after_variables-start.result c.in_ok-known.known
-    (c.in_ok-known.ensures ∙ ap (λ (n : ℕ). replicate n None) c.len.ensures)
-
-pub fixed_node-requires-clause-snapshot : goal.fixed_node-requires-clause-snapshot
-fixed_node-requires-clause-snapshot c =
-    (first_of_all c.args.m.now c.args.order.now c.var_count.ensures.sizes).0
+    record {
+      order = c.requires.order;
+      sizes = c.requires.sizes;
+      known = left_none c.args.m.now t c.args.store.now c.after_variables-start.result
+          c.in_ok-known.known
+          (c.in_ok-known.ensures ∙ ap (λ (n : ℕ). replicate n None) c.len.ensures);
+    }
 
 pub fixed_node-requires-clause-first : goal.fixed_node-requires-clause-first
 fixed_node-requires-clause-first c =
-    (first_of_all c.args.m.now c.args.order.now c.var_count.ensures.sizes).1
+    let first = first_of_all c.args.m.now c.args.order.now c.var_count.ensures.sizes in
+    record { snapshot = first.0; first = first.1 }
 
 pub returns-clause-value : goal.returns-clause-value
 returns-clause-value c =

@@ -1,10 +1,10 @@
 use Rattle.std.proofs.Common.{◌∙◌, ◌<◌, ◌==◌, ℕ, slice_index, ap, sym, subst, arith}
 use Rattle.domains.specs.Orders.{place}
 use Rattle.decision_diagram.specs.Diagrams.{IsNode, level_of, value_of}
-use Rattle.char_function.proofs.Fitting.{fits_at}
+use Rattle.decision_diagram.proofs.Fitting.{fits_at}
 use Rattle.char_function.proofs.FixedKids.{kid_here, kid_or, kid_value, one_kid}
-use Rattle.char_function.proofs.Places.{place_below}
 use Rattle.char_function.proofs.fixing.result_node.Goals as goal
+use Rattle.domains.proofs.Places.{place_below}
 
 pub node-requires-clause-nodes : goal.node-requires-clause-nodes
 node-requires-clause-nodes c code low =

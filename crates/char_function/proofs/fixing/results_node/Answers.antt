@@ -2,11 +2,11 @@ use Rattle.std.proofs.Common.{◌≡◌, ◌∙◌, ◌+◌, ◌-◌, ◌≤◌,
 use Rattle.domains.specs.Orders.{place}
 use Rattle.decision_diagram.specs.Diagrams.{Means}
 use Rattle.transition_table.specs.Orders.{sizes_of}
-use Rattle.char_function.specs.Left.{left_from}
-use Rattle.char_function.proofs.Fitting.{size_few}
-use Rattle.char_function.proofs.FixedKids.{item_of, keeps_self, result_left, true_left}
-use Rattle.char_function.proofs.Lists.{read}
-use Rattle.char_function.proofs.Making.{keeps_trans}
+use Rattle.char_function.specs.inner.Left.{left_from}
+use Rattle.decision_diagram.proofs.Fitting.{size_few}
+use Rattle.char_function.proofs.FixedKids.{item_of, result_left, true_left}
+use Rattle.decision_diagram.proofs.Lists.{read}
+use Rattle.decision_diagram.proofs.Growth.{keeps_trans, keeps_same}
 use Rattle.char_function.proofs.fixing.results_node.Goals as goal
 
 pub loop-place-init : goal.loop-place-init
@@ -18,7 +18,7 @@ loop-place-init c =
     let same = ap (λ (xs : List ℕ). length xs) c.requires.order in
     let level = c.constant-node.ensures.level in
     record {
-      kept = keeps_self c.args.store.now;
+      kept = keeps_same c.args.store.now;
       within = omega arith;
       above = omega arith;
       means = true_left c.laws_of_computing.ensures.results_fit c.args.fixing.now.machine.now order

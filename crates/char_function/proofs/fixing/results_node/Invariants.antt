@@ -1,6 +1,6 @@
 use Rattle.std.proofs.Common.{◌≤◌, length}
 use Rattle.decision_diagram.specs.Diagrams.{Keeps, Means, level_of}
-use Rattle.char_function.specs.Left.{left_from}
+use Rattle.char_function.specs.inner.Left.{left_from}
 use Rattle.char_function.proofs.fixing.results_node.Given as goal
 
 abbrev pub decreases-loop-place : goal.decreases-loop-place

@@ -1,7 +1,7 @@
 use Rattle.std.proofs.Common.{◌∙◌, get_or, refl, arith}
 use Rattle.std.proofs.lemmas.List.{length-set}
-use Rattle.char_function.specs.Points.{points}
-use Rattle.char_function.proofs.Making.{parts_more}
+use Rattle.char_function.specs.inner.Points.{points}
+use Rattle.char_function.proofs.GroupNodes.{parts_more}
 use Rattle.char_function.proofs.group.parts_of.Goals as goal
 
 pub loop-i-preserved : goal.loop-i-preserved

@@ -1,6 +1,6 @@
 use Rattle.std.proofs.Common.{◌≡◌, ◌<◌, ℕ, [], length, take, get_or}
-use Rattle.char_function.specs.Groups.{with_code}
-use Rattle.char_function.specs.Points.{points}
+use Rattle.char_function.specs.inner.Groups.{with_code}
+use Rattle.char_function.specs.inner.Points.{points}
 use Rattle.char_function.proofs.group.parts_of.Given as goal
 
 abbrev pub invariant-loop-i : goal.invariant-loop-i

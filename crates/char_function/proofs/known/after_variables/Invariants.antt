@@ -1,4 +1,4 @@
-use Rattle.char_function.specs.Known.{OnlyResults}
+use Rattle.char_function.specs.inner.Known.{OnlyResults}
 use Rattle.std.proofs.Common.{length}
 use Rattle.char_function.proofs.known.after_variables.Given as goal
 

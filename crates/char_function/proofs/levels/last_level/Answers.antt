@@ -1,13 +1,12 @@
 use Rattle.std.proofs.Common.{◌≡◌, ◌∙◌, ◌+◌, ℕ, List, sym, subst, arith}
 use Rattle.char_function.proofs.Blocks.{AreFirstLeft, first_next, first_none, last_done}
-use Rattle.char_function.proofs.FixedKids.{keeps_self}
-use Rattle.char_function.proofs.Making.{keeps_trans}
+use Rattle.decision_diagram.proofs.Growth.{keeps_trans, keeps_same}
 use Rattle.char_function.proofs.Tabled.{numbers_long}
 use Rattle.char_function.proofs.levels.last_level.Goals as goal
 
 pub loop-i-init : goal.loop-i-init
 loop-i-init c = record {
-  kept = keeps_self c.args.store.now;
+  kept = keeps_same c.args.store.now;
   known = c.requires.known;
   made = subst (λ (xs : List ℕ). AreFirstLeft c.args.fixing.now.machine.now
       c.args.fixing.now.order.now c.args.store.now c.args.fixing.now.start xs 0)
@@ -29,14 +28,12 @@ known_outcome-requires-clause-snapshot c =
     let d = c.len-count.ensures in
     omega arith
 
-pub make_outcome-requires-clause-order : goal.make_outcome-requires-clause-order
-make_outcome-requires-clause-order c = c.loop-i.invariant.kept.order ∙ c.requires.order
-
-pub make_outcome-requires-clause-sizes : goal.make_outcome-requires-clause-sizes
-make_outcome-requires-clause-sizes c = c.loop-i.invariant.kept.sizes ∙ c.requires.sizes
-
-pub make_outcome-requires-clause-known : goal.make_outcome-requires-clause-known
-make_outcome-requires-clause-known c = c.loop-i.invariant.known
+pub make_outcome-requires-clause-store : goal.make_outcome-requires-clause-store
+make_outcome-requires-clause-store c = record {
+  order = c.loop-i.invariant.kept.order ∙ c.requires.order;
+  sizes = c.loop-i.invariant.kept.sizes ∙ c.requires.sizes;
+  known = c.loop-i.invariant.known;
+}
 
 pub make_outcome-requires-clause-snapshot : goal.make_outcome-requires-clause-snapshot
 make_outcome-requires-clause-snapshot c =
@@ -71,7 +68,7 @@ loop-i-preserved-in-Some c =
       made = subst (λ (xs : List ℕ). AreFirstLeft m order s start xs (c.loop-i.i + 1))
           (sym c.in_ok-push.ensures.items)
           (first_next m order s s start c.loop-i.nodes.items c.loop-i.i c.in-Some.node
-          c.loop-i.invariant.made (keeps_self s) (omega arith) c.in-Some.ensures.value
+          c.loop-i.invariant.made (keeps_same s) (omega arith) c.in-Some.ensures.value
           c.in-Some.ensures.level);
     }
 

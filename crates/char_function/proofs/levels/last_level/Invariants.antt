@@ -1,5 +1,5 @@
 use Rattle.decision_diagram.specs.Diagrams.{Keeps}
-use Rattle.char_function.specs.Left.{AreLeft}
+use Rattle.char_function.specs.inner.Left.{AreLeft}
 use Rattle.char_function.proofs.Blocks.{AreFirstLeft}
 use Rattle.char_function.proofs.levels.last_level.Given as goal
 

@@ -2,10 +2,10 @@ use Rattle.std.proofs.Common.{◌≡◌, ◌∙◌, ◌+◌, ◌*◌, ◌<◌, �
 use Rattle.std.proofs.lemmas.List.{get_or_default}
 use Rattle.domains.specs.Orders.{place}
 use Rattle.decision_diagram.specs.Diagrams.{IsNode, Means, level_of}
-use Rattle.char_function.specs.Left.{left_from}
+use Rattle.char_function.specs.inner.Left.{left_from}
 use Rattle.char_function.proofs.Blocks.{AreHalf, half_more, half_none, result_done}
-use Rattle.char_function.proofs.FixedKids.{keeps_self, points_few, result_left, step_of}
-use Rattle.char_function.proofs.Making.{keeps_trans}
+use Rattle.char_function.proofs.FixedKids.{points_few, result_left, step_of}
+use Rattle.decision_diagram.proofs.Growth.{keeps_trans, keeps_same}
 use Rattle.char_function.proofs.levels.result_level.Goals as goal
 
 pub loop-j-init : goal.loop-j-init
@@ -13,7 +13,7 @@ loop-j-init c =
     let m = c.args.fixing.now.machine.now in
     let order = c.args.fixing.now.order.now in
     record {
-      kept = keeps_self c.args.store.now;
+      kept = keeps_same c.args.store.now;
       half = half_none m order c.args.store.now c.args.place c.args.block c.args.block 1
           c.args.nodes.now.items (length c.args.nodes.now.items) c.requires.level (omega arith);
     }

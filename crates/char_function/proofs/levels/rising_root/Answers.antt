@@ -1,11 +1,11 @@
 use Rattle.std.proofs.Common.{◌≡◌, ◌∙◌, ◌+◌, ◌-◌, ◌*◌, ℕ, slice_index, ap, sym, subst, arith}
 use Rattle.std.proofs.lemmas.List.{get_or_default}
 use Rattle.decision_diagram.specs.Diagrams.{Means}
-use Rattle.char_function.specs.Left.{left_from}
-use Rattle.char_function.specs.Rising.{AreLevel}
+use Rattle.char_function.specs.inner.Left.{left_from}
+use Rattle.char_function.specs.inner.Rising.{AreLevel}
 use Rattle.char_function.proofs.Blocks.{block_few, root_of_level}
-use Rattle.char_function.proofs.Lists.{read}
-use Rattle.char_function.proofs.Making.{keeps_trans}
+use Rattle.decision_diagram.proofs.Lists.{read}
+use Rattle.decision_diagram.proofs.Growth.{keeps_trans}
 use Rattle.char_function.proofs.levels.rising_root.Goals as goal
 
 pub loop-place-init : goal.loop-place-init

@@ -1,6 +1,6 @@
 use Rattle.std.proofs.Common.{◌≤◌, length}
 use Rattle.decision_diagram.specs.Diagrams.{Keeps}
-use Rattle.char_function.specs.Rising.{AreLevel}
+use Rattle.char_function.specs.inner.Rising.{AreLevel}
 use Rattle.char_function.proofs.levels.rising_root.Given as goal
 
 abbrev pub decreases-loop-place : goal.decreases-loop-place

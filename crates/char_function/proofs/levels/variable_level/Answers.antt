@@ -1,10 +1,9 @@
 use Rattle.std.proofs.Common.{◌≡◌, ◌∙◌, ◌*◌, ◌/◌, ℕ, List, length, take, slice_index, ap, sym, subst, arith}
 use Rattle.domains.specs.Orders.{place}
 use Rattle.domains.specs.Tables.{product}
-use Rattle.char_function.specs.Rising.{AreLevel}
+use Rattle.char_function.specs.inner.Rising.{AreLevel}
 use Rattle.char_function.proofs.Blocks.{AreHalf, block_kids, block_left, block_step, half_more, half_none, variable_done}
-use Rattle.char_function.proofs.FixedKids.{keeps_self}
-use Rattle.char_function.proofs.Making.{keeps_trans}
+use Rattle.decision_diagram.proofs.Growth.{keeps_trans, keeps_same}
 use Rattle.char_function.proofs.levels.variable_level.Goals as goal
 
 pub nonzero_div-count : goal.nonzero_div-count
@@ -41,7 +40,7 @@ loop-j-init c =
     let long : length c.args.nodes.now.items ≡ c.len.result / size * size =
     b.whole ∙ ap (λ (k : ℕ). k / size * size) (sym (c.len.ensures ∙ c.args.nodes.now.ok.0)) in
     record {
-      kept = keeps_self s0;
+      kept = keeps_same s0;
       half = half_none m order s0 p (size * stride) stride size c.args.nodes.now.items
           (c.len.result / size) c.requires.level long;
     }

@@ -1,12 +1,13 @@
 use Rattle.std.proofs.Common.{◌≡◌, ◌∙◌, ◌+◌, ℕ, List, length, slice_index, sym, ap, subst, arith}
 use Rattle.domains.specs.Orders.{place}
 use Rattle.decision_diagram.specs.Diagrams.{Means, level_of}
-use Rattle.char_function.specs.Groups.{some_agrees, with_code}
-use Rattle.char_function.specs.Known.{OnlyResults, AreKnown}
-use Rattle.char_function.specs.Points.{points}
+use Rattle.char_function.specs.inner.Groups.{some_agrees, with_code}
+use Rattle.char_function.specs.inner.Known.{OnlyResults, AreKnown}
+use Rattle.char_function.specs.inner.Points.{points}
 use Rattle.char_function.proofs.Knowing.{known_kept}
-use Rattle.char_function.proofs.Lists.{read}
-use Rattle.char_function.proofs.Making.{AreKids, at_var, keeps_trans, end_agrees, kids_more, node_means, part_is, part_group}
+use Rattle.decision_diagram.proofs.Lists.{read}
+use Rattle.char_function.proofs.GroupNodes.{AreKids, at_var, end_agrees, kids_more, node_means, part_is, part_group}
+use Rattle.decision_diagram.proofs.Growth.{keeps_trans}
 use Rattle.char_function.proofs.root.+build.Goals as goal
 use Rattle.char_function.proofs.root.+build.Goals.{then-place-start-2, else-place-start-2}
 
@@ -16,7 +17,7 @@ returns-then-place-len-clause-value t c =
     let points = points c.args.making.now.machine.now in
     let end : c.args.place ≡ length s.order =
     c.if-place-len.true ∙ c.len.ensures.len
-    ∙ ap (λ (xs : List ℕ). length xs) c.requires.order in
+    ∙ ap (λ (xs : List ℕ). length xs) c.requires.making.order in
     record {
       node = c.constant-then-place-len.ensures.node;
       value = λ codes fit. c.constant-then-place-len.ensures.value codes
@@ -27,20 +28,20 @@ returns-then-place-len-clause-value t c =
 pub get-size-requires : goal.get-size-requires
 get-size-requires t c =
     let at = at_var c.args.store.now c.args.making.now.order.now c.args.place c.get-item.result.now
-    c.len.result c.same_value_same_node.ensures.reduced c.requires.order c.requires.place
+    c.len.result c.same_value_same_node.ensures.reduced c.requires.making.order c.requires.place
     c.if-place-len.false c.len.ensures.len c.get-item.ensures in
     let inside = at.inside in
-    let same = ap (λ (xs : List ℕ). length xs) c.requires.sizes in
+    let same = ap (λ (xs : List ℕ). length xs) c.requires.making.sizes in
     let e = c.from.ensures in
     omega arith
 
 pub parts_of-requires-clause-item : goal.parts_of-requires-clause-item
 parts_of-requires-clause-item t c =
     let at = at_var c.args.store.now c.args.making.now.order.now c.args.place c.get-item.result.now
-    c.len.result c.same_value_same_node.ensures.reduced c.requires.order c.requires.place
+    c.len.result c.same_value_same_node.ensures.reduced c.requires.making.order c.requires.place
     c.if-place-len.false c.len.ensures.len c.get-item.ensures in
     let inside = at.inside in
-    let same = ap (λ (xs : List ℕ). length xs) c.requires.all_sizes in
+    let same = ap (λ (xs : List ℕ). length xs) c.requires.making.all_sizes in
     omega arith
 
 pub parts_of-requires-clause-size : goal.parts_of-requires-clause-size
@@ -48,7 +49,7 @@ parts_of-requires-clause-size t c =
     sym (read c.args.making.now.sizes.now c.from.result c.get-size.result.now 0 c.get-size.ensures)
     ∙ ap (slice_index c.args.making.now.sizes.now) c.from.ensures
     ∙ ap (λ (xs : List ℕ). slice_index xs c.get-item.result.now)
-    (c.requires.sizes ∙ c.requires.all_sizes)
+    (c.requires.making.sizes ∙ c.requires.making.all_sizes)
 
 pub build-requires : goal.build-requires
 build-requires t c =
@@ -64,7 +65,7 @@ build-requires t c =
     c.in_ok-parts.ensures.long c.in_ok-parts.ensures.parts c.loop-part-test.true
     c.part-item.is in
     let at = at_var c.args.store.now c.args.making.now.order.now c.args.place item c.len.result
-    c.same_value_same_node.ensures.reduced c.requires.order c.requires.place
+    c.same_value_same_node.ensures.reduced c.requires.making.order c.requires.place
     c.if-place-len.false c.len.ensures.len c.get-item.ensures in
     let low = at.low in
     let kept = c.loop-part.invariant.kept in
@@ -74,25 +75,19 @@ build-requires t c =
       (
         omega arith,
         (
-          c.requires.order ∙ sym kept.order,
+          record {
+            order = c.requires.making.order ∙ sym kept.order;
+            sizes = c.requires.making.sizes ∙ sym kept.sizes;
+            all_sizes = kept.sizes ∙ c.requires.making.all_sizes;
+            table = c.requires.making.table;
+            start = subst (λ (order : List ℕ). OnlyResults (length m.vars) order
+                c.args.making.now.start)
+                (sym kept.order) c.requires.making.start;
+          },
           (
-            c.requires.sizes ∙ sym kept.sizes,
-            (
-              kept.sizes ∙ c.requires.all_sizes,
-              (
-                c.requires.table,
-                (
-                  subst (λ (order : List ℕ). OnlyResults (length m.vars) order
-                      c.args.making.now.start)
-                      (sym kept.order) c.requires.start,
-                  (
-                    c.loop-part.invariant.known,
-                    part_group points item group i c.as_slice.result.now
-                        c.requires.group (c.as_slice.ensures ∙ is),
-                  ),
-                ),
-              ),
-            ),
+            c.loop-part.invariant.known,
+            part_group points item group i c.as_slice.result.now
+                c.requires.group (c.as_slice.ensures ∙ is),
           ),
         ),
       ),
@@ -143,7 +138,7 @@ loop-part-preserved t c =
 pub node-requires-clause-var : goal.node-requires-clause-var
 node-requires-clause-var t c =
     let at = at_var c.args.store.now c.args.making.now.order.now c.args.place c.get-item.result.now
-    c.len.result c.same_value_same_node.ensures.reduced c.requires.order c.requires.place
+    c.len.result c.same_value_same_node.ensures.reduced c.requires.making.order c.requires.place
     c.if-place-len.false c.len.ensures.len c.get-item.ensures in
     let inside = at.inside in
     let same = ap (λ (xs : List ℕ). length xs) c.loop-part.invariant.kept.sizes in
@@ -162,7 +157,7 @@ node-requires-clause-kids t c =
     let f : slice_index c.loop-part.store.sizes item
     ≡ slice_index c.args.making.now.sizes.now c.from.result =
     ap (λ (xs : List ℕ). slice_index xs item)
-    (c.loop-part.invariant.kept.sizes ∙ sym c.requires.sizes)
+    (c.loop-part.invariant.kept.sizes ∙ sym c.requires.making.sizes)
     ∙ ap (slice_index c.args.making.now.sizes.now) (sym c.from.ensures) in
     let done = c.loop-part-test.false in
     let most = c.loop-part.auto.part-index-end in
@@ -187,7 +182,7 @@ node-requires-clause-later t c code low =
     let s = c.loop-part.store in
     let kids = c.loop-part.kids.items in
     let at = at_var c.args.store.now c.args.making.now.order.now c.args.place item c.len.result
-    c.same_value_same_node.ensures.reduced c.requires.order c.requires.place
+    c.same_value_same_node.ensures.reduced c.requires.making.order c.requires.place
     c.if-place-len.false c.len.ensures.len c.get-item.ensures in
     let here : place s.order item ≡ c.args.place =
     ap (λ (xs : List ℕ). place xs item) c.loop-part.invariant.kept.order ∙ at.place in
@@ -217,7 +212,7 @@ keep_node-requires-clause-value t c =
     let s = c.loop-part.store in
     let points = points c.args.making.now.machine.now in
     let at = at_var old c.args.making.now.order.now c.args.place item c.len.result
-    c.same_value_same_node.ensures.reduced c.requires.order c.requires.place
+    c.same_value_same_node.ensures.reduced c.requires.making.order c.requires.place
     c.if-place-len.false c.len.ensures.len c.get-item.ensures in
     let kids : AreKids points old s c.args.place item c.args.group.now c.deref.result.now
     c.loop-part.part-index =
@@ -226,7 +221,7 @@ keep_node-requires-clause-value t c =
     let e : slice_index c.args.making.now.sizes.now c.from.result ≡ c.get-size.result.now =
     read c.args.making.now.sizes.now c.from.result c.get-size.result.now 0 c.get-size.ensures in
     let f : slice_index old.sizes item ≡ slice_index c.args.making.now.sizes.now c.from.result =
-    ap (λ (xs : List ℕ). slice_index xs item) (sym c.requires.sizes)
+    ap (λ (xs : List ℕ). slice_index xs item) (sym c.requires.making.sizes)
     ∙ ap (slice_index c.args.making.now.sizes.now) (sym c.from.ensures) in
     let size : c.loop-part.part-index ≡ slice_index old.sizes item =
     let done = c.loop-part-test.false in
@@ -248,7 +243,7 @@ keep_node-requires-clause-level t c =
     let item = c.get-item.result.now in
     let s = c.loop-part.store in
     let at = at_var c.args.store.now c.args.making.now.order.now c.args.place item c.len.result
-    c.same_value_same_node.ensures.reduced c.requires.order c.requires.place
+    c.same_value_same_node.ensures.reduced c.requires.making.order c.requires.place
     c.if-place-len.false c.len.ensures.len c.get-item.ensures in
     let here : place s.order item ≡ c.args.place =
     ap (λ (xs : List ℕ). place xs item) c.loop-part.invariant.kept.order ∙ at.place in
@@ -264,7 +259,7 @@ returns-clause-value t c =
     let s = c.loop-part.store in
     let points = points c.args.making.now.machine.now in
     let at = at_var old c.args.making.now.order.now c.args.place item c.len.result
-    c.same_value_same_node.ensures.reduced c.requires.order c.requires.place
+    c.same_value_same_node.ensures.reduced c.requires.making.order c.requires.place
     c.if-place-len.false c.len.ensures.len c.get-item.ensures in
     let kids : AreKids points old s c.args.place item c.args.group.now c.deref.result.now
     c.loop-part.part-index =
@@ -273,7 +268,7 @@ returns-clause-value t c =
     let e : slice_index c.args.making.now.sizes.now c.from.result ≡ c.get-size.result.now =
     read c.args.making.now.sizes.now c.from.result c.get-size.result.now 0 c.get-size.ensures in
     let f : slice_index old.sizes item ≡ slice_index c.args.making.now.sizes.now c.from.result =
-    ap (λ (xs : List ℕ). slice_index xs item) (sym c.requires.sizes)
+    ap (λ (xs : List ℕ). slice_index xs item) (sym c.requires.making.sizes)
     ∙ ap (slice_index c.args.making.now.sizes.now) (sym c.from.ensures) in
     let size : c.loop-part.part-index ≡ slice_index old.sizes item =
     let done = c.loop-part-test.false in
@@ -290,7 +285,7 @@ returns-clause-level t c =
     let item = c.get-item.result.now in
     let s = c.loop-part.store in
     let at = at_var c.args.store.now c.args.making.now.order.now c.args.place item c.len.result
-    c.same_value_same_node.ensures.reduced c.requires.order c.requires.place
+    c.same_value_same_node.ensures.reduced c.requires.making.order c.requires.place
     c.if-place-len.false c.len.ensures.len c.get-item.ensures in
     let here : place s.order item ≡ c.args.place =
     ap (λ (xs : List ℕ). place xs item) c.loop-part.invariant.kept.order ∙ at.place in

@@ -1,8 +1,8 @@
 use Rattle.std.proofs.Common.{◌-◌, length}
 use Rattle.decision_diagram.specs.Diagrams.{Keeps}
-use Rattle.char_function.specs.Known.{AreKnown}
-use Rattle.char_function.specs.Points.{points}
-use Rattle.char_function.proofs.Making.{AreKids}
+use Rattle.char_function.specs.inner.Known.{AreKnown}
+use Rattle.char_function.specs.inner.Points.{points}
+use Rattle.char_function.proofs.GroupNodes.{AreKids}
 use Rattle.char_function.proofs.root.+build.Given as goal
 
 abbrev pub decreases-build : goal.decreases-build

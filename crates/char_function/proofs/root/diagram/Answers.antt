@@ -1,6 +1,6 @@
 use Rattle.std.proofs.Common.{◌≡◌, ◌∙◌}
 use Rattle.transition_table.specs.Orders.{sizes_of}
-use Rattle.char_function.proofs.Making.{means_char, means_size}
+use Rattle.char_function.proofs.GroupNodes.{means_char, means_size}
 use Rattle.char_function.proofs.root.diagram.Goals as goal
 
 pub returns : goal.returns

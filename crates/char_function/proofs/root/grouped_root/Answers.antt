@@ -1,9 +1,9 @@
 use Rattle.std.proofs.Common.{◌≡◌, ◌∙◌, ℕ, List, length, ap}
 use Rattle.polis_base.specs.Lists.{upto}
 use Rattle.transition_table.specs.Orders.{sizes_of}
-use Rattle.char_function.specs.Groups.{is_group}
-use Rattle.char_function.specs.Points.{points}
-use Rattle.char_function.proofs.Making.{all_group, root_means}
+use Rattle.char_function.specs.inner.Groups.{is_group}
+use Rattle.char_function.specs.inner.Points.{points}
+use Rattle.char_function.proofs.GroupNodes.{all_group, root_means}
 use Rattle.char_function.proofs.Tabled.{numbers_long}
 use Rattle.char_function.proofs.root.grouped_root.Goals as goal
 

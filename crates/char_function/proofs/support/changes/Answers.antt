@@ -2,15 +2,16 @@ use Rattle.std.proofs.Common.{⊎_elim, ◌≡◌, ◌∙◌, ◌+◌, ◌-◌, 
 use Rattle.std.proofs.lemmas.Bool.{cases_lt}
 use Rattle.domains.specs.Tables.{product}
 use Rattle.char_function.proofs.Blocks.{times_le}
-use Rattle.char_function.proofs.Lists.{read}
-use Rattle.char_function.proofs.Strides.{drop_below}
-use Rattle.char_function.proofs.Varying.{any_found, any_never}
+use Rattle.decision_diagram.proofs.Lists.{read}
+use Rattle.char_function.proofs.Varying.{any_found}
 use Rattle.char_function.proofs.Windows.{blocks_of, moved, steps, varies_flat}
 use Rattle.char_function.proofs.support.changes.Goals as goal
+use Rattle.outcome_table.proofs.Columns.{product_after}
+use Rattle.decision_diagram.proofs.Truths.{never_upto}
 
 pub lists_from-stride-requires-clause-few : goal.lists_from-stride-requires-clause-few
 lists_from-stride-requires-clause-few c =
-    let below = drop_below c.args.vars.now (c.args.v + 1) c.len-stride.ensures.sizes in
+    let below = product_after c.args.vars.now (c.args.v + 1) c.len-stride.ensures.sizes in
     let few = c.requires.few in
     omega arith
 
@@ -25,7 +26,7 @@ overflow_mul-block c =
     c.from.ensures ∙ sym (read vars v c.get.result.now 0 c.get.ensures) in
     let b = blocks_of vars v size stride (length column) c.len-stride.ensures.sizes c.requires.var sized
     c.lists_from-stride.ensures c.requires.column c.requires.few in
-    let below = drop_below vars v c.len-stride.ensures.sizes in
+    let below = product_after vars v c.len-stride.ensures.sizes in
     let few = c.requires.few in
     let block = b.block in
     omega arith
@@ -149,5 +150,5 @@ returns c =
     c.requires.column c.lists_from-stride.ensures b.block b.within in
     let count = b.count_is in
     let test = c.loop-j-test.false in
-    sym (flat ∙ any_never (steps column (size * stride) stride) (product (take v vars))
+    sym (flat ∙ never_upto (steps column (size * stride) stride) (product (take v vars))
     (λ k low. c.loop-j.invariant k (omega arith)))

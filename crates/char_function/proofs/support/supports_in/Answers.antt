@@ -3,12 +3,13 @@ use Rattle.std.specs.Prelude.{filter}
 use Rattle.polis_base.specs.Lists.{upto}
 use Rattle.domains.specs.AllCodes.{all_codes}
 use Rattle.transition_table.specs.Computed.{all_supports, result_code, support_of}
-use Rattle.char_function.specs.Columns.{varies}
+use Rattle.char_function.specs.inner.Columns.{varies}
 use Rattle.char_function.specs.Supported.{AreSupports}
-use Rattle.char_function.proofs.Small.{few_snapshots}
 use Rattle.char_function.proofs.Supporting.{column_support, supports_more, are_supports}
-use Rattle.char_function.proofs.Walking.{all_long, long_map}
+use Rattle.domains.proofs.AllCodes.{long_map}
 use Rattle.char_function.proofs.support.supports_in.Goals as goal
+use Rattle.outcome_table.proofs.Rows.{few_snapshots}
+use Rattle.outcome_table.proofs.Columns.{all_long}
 
 pub support-requires-clause-column : goal.support-requires-clause-column
 support-requires-clause-column c =

@@ -1,5 +1,5 @@
 use Rattle.std.proofs.Common.{◌≡◌, ◌∙◌, length, arith}
-use Rattle.machine_compiler.specs.Parts.{Right, part_of_compiled}
+use Rattle.machine_compiler.specs.Parts.{IsRightPart, part_of_compiled}
 use Rattle.machine_compiler.proofs.Collecting.{more_paired, length_push, all_right}
 use Rattle.machine_compiler.proofs.compiling.compile_network.Goals as goal
 
@@ -7,7 +7,7 @@ pub loop-k-preserved : goal.loop-k-preserved
 loop-k-preserved c =
     let ms = c.args.net.now.machines in
     record {
-      right = more_paired (λ m x. Right m (part_of_compiled x)) ms c.loop-k.compiled c.push.new.self
+      right = more_paired (λ m x. IsRightPart m (part_of_compiled x)) ms c.loop-k.compiled c.push.new.self
           c.loop-k.k c.get.result.now c.in_ok-part.part c.loop-k.invariant.right
           c.loop-k.invariant.long c.in_ok-push.ensures.ok c.get.ensures c.in_ok-part.ensures;
       long = length_push c.loop-k.compiled c.push.new.self c.in_ok-part.part c.loop-k.k

@@ -1,4 +1,4 @@
-use Rattle.machine_compiler.specs.Shares.{AreRightEach}
+use Rattle.machine_compiler.specs.inner.Shares.{AreRightEach}
 use Rattle.machine_compiler.proofs.shares.compile_share.Given as goal
 
 abbrev pub invariant-loop : goal.invariant-loop

@@ -1,6 +1,6 @@
 use Rattle.std.proofs.Common.{rules, arith, ◌≡◌, ◌<◌, ◌∙◌, List, Option, length, drop, ap, sym}
 use Rattle.machine_compiler.specs.declared.compiled.Compiled.{Compiled}
-use Rattle.machine_compiler.specs.Parts.{Right, part_of_compiled}
+use Rattle.machine_compiler.specs.Parts.{IsRightPart, part_of_compiled}
 use Rattle.machine_compiler.proofs.Apart.{at_place}
 use Rattle.machine_compiler.proofs.Collecting.{none_paired, more_paired, length_push, all_right}
 use Rattle.machine_compiler.proofs.Sharing.{drop_next, drop_none}
@@ -11,7 +11,7 @@ loop-place-init c = record {
   left = c.into_iter-place-iterator.ensures.into_iter_gives.0 ∙ c.into_vec-place-items.ensures;
   within = omega arith;
   count = search rules;
-  right = none_paired (λ m x. Right m (part_of_compiled x)) c.args.net.now.machines
+  right = none_paired (λ m x. IsRightPart m (part_of_compiled x)) c.args.net.now.machines
       c.new-compiled.result c.new-compiled.ensures;
   long = ap (λ (l : List Compiled). length l) c.new-compiled.ensures;
 }
@@ -51,7 +51,7 @@ loop-place-preserved c =
       left = sym next.2;
       within = let here = next.1 in omega (arith, here);
       count = search rules;
-      right = more_paired (λ m x. Right m (part_of_compiled x)) ms c.loop-place.compiled
+      right = more_paired (λ m x. IsRightPart m (part_of_compiled x)) ms c.loop-place.compiled
           c.push.new.self c.loop-place.k at.0 c.in_ok-part.part c.loop-place.invariant.right
           c.loop-place.invariant.long c.in_ok-push.ensures.ok at.1
           (c.in_ok-part.ensures at.0 at.1);

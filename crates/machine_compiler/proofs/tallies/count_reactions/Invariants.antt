@@ -1,6 +1,6 @@
 use Rattle.std.proofs.Common.{take}
 use Rattle.machine_compiler.specs.Parts.{parts_of}
-use Rattle.machine_compiler.specs.Tallies.{AreTallies}
+use Rattle.machine_compiler.specs.inner.Tallies.{AreTallies}
 use Rattle.machine_compiler.proofs.tallies.count_reactions.Given as goal
 
 abbrev pub invariant-loop-i : goal.invariant-loop-i

@@ -1,7 +1,7 @@
 use Rattle.std.proofs.Common.{◌++◌, ◌∷◌, [], slice_set, refl, subst, sym}
 use Rattle.journals.specs.declared.entry.Entry.{Entry}
 use Rattle.machine_compiler.specs.Parts.{part_of_compiled, parts_of}
-use Rattle.machine_compiler.specs.Tallies.{AreTallies}
+use Rattle.machine_compiler.specs.inner.Tallies.{AreTallies}
 use Rattle.machine_compiler.proofs.Tallying.{here, set_written, tallied_dep, tallied_rea}
 use Rattle.machine_compiler.proofs.tallies.tally_entry.Goals as goal
 

@@ -1,9 +1,9 @@
 use Rattle.std.proofs.Common.{◌≡◌, ◌∙◌, ◌+◌, ◌-◌, ◌<◌, [], ◌∷◌, ◌++◌, ℕ, List, length, take, slice_index, arith, refl, sym, ap, subst}
 use Rattle.std.proofs.lemmas.Option.{get_or_from_slice_get}
-use Rattle.order_sift.specs.Chains.{AreChain}
+use Rattle.order_sift.specs.inner.Chains.{AreChain}
 use Rattle.decision_diagram.specs.Sets.{stands}
-use Rattle.order_sift.specs.Classes.{AreClasses, fixed_too}
-use Rattle.order_sift.specs.Known.{in_set}
+use Rattle.order_sift.specs.inner.Classes.{AreClasses, fixed_too}
+use Rattle.order_sift.specs.inner.Known.{in_set}
 use Rattle.order_sift.proofs.Filling.{chain_start, chain_next, chain_more}
 use Rattle.domains.specs.Tables.{product}
 use Rattle.order_sift.proofs.Keying.{room_kept}

@@ -1,7 +1,7 @@
-use Rattle.order_sift.specs.Chains.{AreChain}
+use Rattle.order_sift.specs.inner.Chains.{AreChain}
 use Rattle.domains.specs.Tables.{product}
-use Rattle.order_sift.specs.Known.{AreKnown}
-use Rattle.order_sift.specs.Pairs.{HasRoom}
+use Rattle.order_sift.specs.inner.Known.{AreKnown}
+use Rattle.order_sift.specs.inner.Pairs.{HasRoom}
 use Rattle.order_sift.proofs.chain.chain_of.Given as goal
 
 abbrev pub invariant-loop-t : goal.invariant-loop-t

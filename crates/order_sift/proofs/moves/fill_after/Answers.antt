@@ -4,9 +4,9 @@ use Rattle.std.proofs.lemmas.Option.{get_or_from_slice_get}
 use Rattle.transition_table.specs.Computed.{char}
 use Rattle.transition_table.specs.Orders.{sizes_of}
 use Rattle.decision_diagram.specs.Sets.{stands, set_level}
-use Rattle.order_sift.specs.Chains.{AreSizes}
-use Rattle.order_sift.specs.Classes.{AreClasses, fixed_too}
-use Rattle.order_sift.specs.Known.{in_set}
+use Rattle.order_sift.specs.inner.Chains.{AreSizes}
+use Rattle.order_sift.specs.inner.Classes.{AreClasses, fixed_too}
+use Rattle.order_sift.specs.inner.Known.{in_set}
 use Rattle.order_sift.proofs.Codes.{set_long}
 use Rattle.order_sift.proofs.Filling.{sizes_set, front_low, after_free, after_more, after_next, steps_after, start_without}
 use Rattle.domains.specs.Tables.{product}
@@ -26,7 +26,7 @@ loop-j-init c =
     let i = c.args.i in
     let l = c.len-items.ensures.len in
     let first = c.args.range.first in
-    let li : i < length o = let a = c.requires.i in let b = c.requires.last in omega arith in
+    let li : i < length o = let a = c.requires.range.i in let b = c.requires.range.last in omega arith in
     let e : i ≡ i + 1 - 1 = omega arith in
     let whole_is = ap (slice_index chain.backs) (sym l)
     ∙ get_or_from_slice_get chain.backs c.len-items.result c.get-whole.result.now 0
@@ -34,22 +34,22 @@ loop-j-init c =
     let after_is = ap (λ (n : ℕ). slice_index chain.backs (n - i)) (sym l)
     ∙ get_or_from_slice_get chain.backs (c.len-items.result - i) c.get-after.result.now 0
     c.get-after.ensures in
-    let fronts = front_low m o laws c.requires.sure c.requires.allowed chain.classes chain.backs
-    c.requires.chain i li sized i (let h : i ≤ i = omega arith in h) in
+    let fronts = front_low m o laws c.requires.moving.sure c.requires.moving.allowed chain.classes chain.backs
+    c.requires.moving.chain i li sized i (let h : i ≤ i = omega arith in h) in
     let fronts_is = fronts.1 in
     let front : c.get-whole.result.now - c.get-after.result.now ≡ front_of m o i i = omega arith in
     let whole_few =
-    c.requires.chain.few (length o) (let h : length o ≤ length o = omega arith in h) in
+    c.requires.moving.chain.few (length o) (let h : length o ≤ length o = omega arith in h) in
     let got : get_or chain.classes (length o - i) [] ≡ c.in_ok-without_item.without_item =
     ap (λ (n : ℕ). get_or chain.classes (n - i) []) (sym l)
     ∙ get_or_from_slice_get chain.classes (c.len-items.result - i) c.get-start.result.now []
     c.get-start.ensures ∙ sym c.as_slice.ensures ∙ sym c.in_ok-without_item.ensures in
     let start = subst (AreClasses m (stands (take i (remove o i)))) got
-    (start_without m o laws c.requires.sure c.requires.allowed chain.classes chain.backs
-    c.requires.chain i li sized) in
+    (start_without m o laws c.requires.moving.sure c.requires.moving.allowed chain.classes chain.backs
+    c.requires.moving.chain i li sized) in
     record {
-      room = c.requires.room;
-      known = c.requires.known;
+      room = c.requires.sets.room;
+      known = c.requires.sets.known;
       set = λ w. c.first_items-set.ensures w
           ∙ ap (λ (xs : List ℕ). stands xs w)
           (sym (take_low o i i (let h : i ≤ i = omega arith in h)))
@@ -74,9 +74,9 @@ loop-j-preserved c =
     let i = c.args.i in
     let l = c.len-items.ensures.len in
     let first = c.args.range.first in
-    let low_i = c.requires.first in
-    let last = c.requires.last in
-    let li : i < length o = let a = c.requires.i in omega arith in
+    let low_i = c.requires.range.first in
+    let last = c.requires.range.last in
+    let li : i < length o = let a = c.requires.range.i in omega arith in
     let j = c.loop-j.j in
     let test = c.loop-j-test.true in
     let inv = c.loop-j.invariant in
@@ -97,8 +97,8 @@ loop-j-preserved c =
     let bare = stands (take j (remove o i)) in
     let same : (w : ℕ) → in_set c.with-more.result w ≡ bare w =
     λ w. c.with-more.ensures w ∙ ap (λ b. b || next == w) (inv.set w)
-    ∙ after_more m o laws c.requires.sure c.requires.allowed chain.classes chain.backs
-    c.requires.chain i li sized j next w high lj next_is in
+    ∙ after_more m o laws c.requires.moving.sure c.requires.moving.allowed chain.classes chain.backs
+    c.requires.moving.chain i li sized j next w high lj next_is in
     let made = same_classes m (in_set c.with-more.result) bare freer same
     c.in_ok-freer.ensures.numbers in
     let level = same_level m (in_set c.loop-j.set) (stands (take (j - 1) (remove o i))) next here
@@ -106,8 +106,8 @@ loop-j-preserved c =
     let own_level = subst (λ (x : ℕ). own ≡ set_level (char m) (sizes_of m) bare x) (sym item_is)
     (same_level m (in_set c.with-more.result) bare c.get-item.result.now own same
     c.in_ok-own.ensures.level) in
-    let step = steps_after m o laws c.requires.sure c.requires.allowed chain.classes chain.backs
-    c.requires.chain i li sized j next here old_front own c.get-back.result.now
+    let step = steps_after m o laws c.requires.moving.sure c.requires.moving.allowed chain.classes chain.backs
+    c.requires.moving.chain i li sized j next here old_front own c.get-back.result.now
     freer high lj next_is inv.front level made own_level back in
     let e : j ≡ j + 1 - 1 = omega arith in
     let set = c.set.ensures in
@@ -135,40 +135,40 @@ loop-j-preserved c =
 pub level_after-requires-clause-item : goal.level_after-requires-clause-item
 level_after-requires-clause-item c =
     let o = c.args.moving.now.order.now in
-    let n = items c.args.moving.now.machine.now o c.requires.allowed in
+    let n = items c.args.moving.now.machine.now o c.requires.moving.allowed in
     let l = c.len-items.ensures.len in
     let is = get_or_from_slice_get o (c.loop-j.j) c.get-next.result.now 0 c.get-next.ensures in
-    let b = c.requires.allowed.permutation.below (c.loop-j.j) (let a = c.loop-j-test.true in
-    let b = c.requires.last in omega arith) in
+    let b = c.requires.moving.allowed.permutation.below (c.loop-j.j) (let a = c.loop-j-test.true in
+    let b = c.requires.range.last in omega arith) in
     omega arith
 
 pub numbers_of-requires-clause-item : goal.numbers_of-requires-clause-item
 numbers_of-requires-clause-item c =
     let o = c.args.moving.now.order.now in
-    let n = items c.args.moving.now.machine.now o c.requires.allowed in
+    let n = items c.args.moving.now.machine.now o c.requires.moving.allowed in
     let l = c.len-items.ensures.len in
     let is = get_or_from_slice_get o (c.args.i) c.get-item.result.now 0 c.get-item.ensures in
-    let b = c.requires.allowed.permutation.below (c.args.i) (let a = c.requires.i in
-    let b = c.requires.last in omega arith) in
+    let b = c.requires.moving.allowed.permutation.below (c.args.i) (let a = c.requires.range.i in
+    let b = c.requires.range.last in omega arith) in
     omega arith
 
 pub level_after-requires-in-loop-j-clause-item : goal.level_after-requires-in-loop-j-clause-item
 level_after-requires-in-loop-j-clause-item c =
     let o = c.args.moving.now.order.now in
-    let n = items c.args.moving.now.machine.now o c.requires.allowed in
+    let n = items c.args.moving.now.machine.now o c.requires.moving.allowed in
     let l = c.len-items.ensures.len in
     let is = get_or_from_slice_get o (c.args.i) c.get-item.result.now 0 c.get-item.ensures in
-    let b = c.requires.allowed.permutation.below (c.args.i) (let a = c.requires.i in
-    let b = c.requires.last in omega arith) in
+    let b = c.requires.moving.allowed.permutation.below (c.args.i) (let a = c.requires.range.i in
+    let b = c.requires.range.last in omega arith) in
     omega arith
 
 pub first_items-set-requires-clause-count : goal.first_items-set-requires-clause-count
 first_items-set-requires-clause-count c =
-    let a = c.requires.i in let b = c.requires.last in omega arith
+    let a = c.requires.range.i in let b = c.requires.range.last in omega arith
 
 pub first_items-set-requires-clause-small : goal.first_items-set-requires-clause-small
 first_items-set-requires-clause-small c =
-    small_items c.args.moving.now.machine.now c.args.moving.now.order.now c.requires.allowed
+    small_items c.args.moving.now.machine.now c.args.moving.now.order.now c.requires.moving.allowed
     c.laws_of_levels.ensures.few
 
 pub with-more-requires : goal.with-more-requires
@@ -176,8 +176,8 @@ with-more-requires c =
     let m = c.args.moving.now.machine.now in
     let o = c.args.moving.now.order.now in
     let is = get_or_from_slice_get o c.loop-j.j c.get-next.result.now 0 c.get-next.ensures in
-    let low = small_items m o c.requires.allowed c.laws_of_levels.ensures.few c.loop-j.j
-    (let a = c.loop-j-test.true in let b = c.requires.last in omega arith) in
+    let low = small_items m o c.requires.moving.allowed c.laws_of_levels.ensures.few c.loop-j.j
+    (let a = c.loop-j-test.true in let b = c.requires.range.last in omega arith) in
     omega arith
 
 pub level_after-requires-clause-free : goal.level_after-requires-clause-free
@@ -189,19 +189,19 @@ level_after-requires-clause-free c =
     let sized = c.laws_of_levels.ensures.sizes in
     let i = c.args.i in
     let j = c.loop-j.j in
-    let li : i < length o = let a = c.requires.i in let b = c.requires.last in omega arith in
+    let li : i < length o = let a = c.requires.range.i in let b = c.requires.range.last in omega arith in
     let test = c.loop-j-test.true in
-    let last = c.requires.last in
+    let last = c.requires.range.last in
     let later = c.loop-j.invariant.later in
     let high : i < j = omega arith in
     let lj : j < length o = omega arith in
     let next = c.get-next.result.now in
     let next_is = get_or_from_slice_get o j next 0 c.get-next.ensures in
-    let low = c.requires.first in
-    let may = c.requires.places (j - 1) (omega arith) (omega arith) in
+    let low = c.requires.range.first in
+    let may = c.requires.range.places (j - 1) (omega arith) (omega arith) in
     c.loop-j.invariant.set next
-    ∙ after_free m o laws c.requires.sure c.requires.allowed chain.classes chain.backs
-    c.requires.chain i li sized j next high lj may next_is
+    ∙ after_free m o laws c.requires.moving.sure c.requires.moving.allowed chain.classes chain.backs
+    c.requires.moving.chain i li sized j next high lj may next_is
 
 pub level_after-requires-clause-classes : goal.level_after-requires-clause-classes
 level_after-requires-clause-classes c =
@@ -221,9 +221,9 @@ numbers_of-requires-clause-next c =
     let sized = c.laws_of_levels.ensures.sizes in
     let i = c.args.i in
     let j = c.loop-j.j in
-    let li : i < length o = let a = c.requires.i in let b = c.requires.last in omega arith in
+    let li : i < length o = let a = c.requires.range.i in let b = c.requires.range.last in omega arith in
     let test = c.loop-j-test.true in
-    let last = c.requires.last in
+    let last = c.requires.range.last in
     let later = c.loop-j.invariant.later in
     let high : i < j = omega arith in
     let lj : j < length o = omega arith in
@@ -232,15 +232,15 @@ numbers_of-requires-clause-next c =
     let item = c.get-item.result.now in
     let item_is = get_or_from_slice_get o i item 0 c.get-item.ensures in
     let l = c.len-items.ensures.len in
-    let low = c.requires.first in
-    let may = c.requires.places j (omega arith) (omega arith) in
+    let low = c.requires.range.first in
+    let may = c.requires.range.places j (omega arith) (omega arith) in
     let bare = stands (take j (remove o i)) in
     let same : (w : ℕ) → in_set c.with-more.result w ≡ bare w =
     λ w. c.with-more.ensures w ∙ ap (λ b. b || next == w) (c.loop-j.invariant.set w)
-    ∙ after_more m o laws c.requires.sure c.requires.allowed chain.classes chain.backs
-    c.requires.chain i li sized j next w high lj next_is in
-    let follows = after_next m o laws c.requires.sure c.requires.allowed chain.classes chain.backs
-    c.requires.chain i li sized j high lj may in
+    ∙ after_more m o laws c.requires.moving.sure c.requires.moving.allowed chain.classes chain.backs
+    c.requires.moving.chain i li sized j next w high lj next_is in
+    let follows = after_next m o laws c.requires.moving.sure c.requires.moving.allowed chain.classes chain.backs
+    c.requires.moving.chain i li sized j high lj may in
     same_next m bare (in_set c.with-more.result) (slice_index o i) item (λ w. sym (same w)) item_is
     follows.next
 
@@ -253,9 +253,9 @@ numbers_of-requires-clause-classes c =
     let sized = c.laws_of_levels.ensures.sizes in
     let i = c.args.i in
     let j = c.loop-j.j in
-    let li : i < length o = let a = c.requires.i in let b = c.requires.last in omega arith in
+    let li : i < length o = let a = c.requires.range.i in let b = c.requires.range.last in omega arith in
     let test = c.loop-j-test.true in
-    let last = c.requires.last in
+    let last = c.requires.range.last in
     let later = c.loop-j.invariant.later in
     let high : i < j = omega arith in
     let lj : j < length o = omega arith in
@@ -264,15 +264,15 @@ numbers_of-requires-clause-classes c =
     let item = c.get-item.result.now in
     let item_is = get_or_from_slice_get o i item 0 c.get-item.ensures in
     let l = c.len-items.ensures.len in
-    let low = c.requires.first in
-    let may = c.requires.places j (omega arith) (omega arith) in
+    let low = c.requires.range.first in
+    let may = c.requires.range.places j (omega arith) (omega arith) in
     let bare = stands (take j (remove o i)) in
     let same : (w : ℕ) → in_set c.with-more.result w ≡ bare w =
     λ w. c.with-more.ensures w ∙ ap (λ b. b || next == w) (c.loop-j.invariant.set w)
-    ∙ after_more m o laws c.requires.sure c.requires.allowed chain.classes chain.backs
-    c.requires.chain i li sized j next w high lj next_is in
-    let follows = after_next m o laws c.requires.sure c.requires.allowed chain.classes chain.backs
-    c.requires.chain i li sized j high lj may in
+    ∙ after_more m o laws c.requires.moving.sure c.requires.moving.allowed chain.classes chain.backs
+    c.requires.moving.chain i li sized j next w high lj next_is in
+    let follows = after_next m o laws c.requires.moving.sure c.requires.moving.allowed chain.classes chain.backs
+    c.requires.moving.chain i li sized j high lj may in
     let got = ap (λ (n : ℕ). get_or chain.classes (n - 1 - j) []) (sym l)
     ∙ get_or_from_slice_get chain.classes (c.len-items.result - 1 - j)
     c.get-with_item.result.now [] c.get-with_item.ensures in
@@ -290,9 +290,9 @@ level_after-requires-in-loop-j-clause-free c =
     let sized = c.laws_of_levels.ensures.sizes in
     let i = c.args.i in
     let j = c.loop-j.j in
-    let li : i < length o = let a = c.requires.i in let b = c.requires.last in omega arith in
+    let li : i < length o = let a = c.requires.range.i in let b = c.requires.range.last in omega arith in
     let test = c.loop-j-test.true in
-    let last = c.requires.last in
+    let last = c.requires.range.last in
     let later = c.loop-j.invariant.later in
     let high : i < j = omega arith in
     let lj : j < length o = omega arith in
@@ -301,15 +301,15 @@ level_after-requires-in-loop-j-clause-free c =
     let item = c.get-item.result.now in
     let item_is = get_or_from_slice_get o i item 0 c.get-item.ensures in
     let l = c.len-items.ensures.len in
-    let low = c.requires.first in
-    let may = c.requires.places j (omega arith) (omega arith) in
+    let low = c.requires.range.first in
+    let may = c.requires.range.places j (omega arith) (omega arith) in
     let bare = stands (take j (remove o i)) in
     let same : (w : ℕ) → in_set c.with-more.result w ≡ bare w =
     λ w. c.with-more.ensures w ∙ ap (λ b. b || next == w) (c.loop-j.invariant.set w)
-    ∙ after_more m o laws c.requires.sure c.requires.allowed chain.classes chain.backs
-    c.requires.chain i li sized j next w high lj next_is in
-    let follows = after_next m o laws c.requires.sure c.requires.allowed chain.classes chain.backs
-    c.requires.chain i li sized j high lj may in
+    ∙ after_more m o laws c.requires.moving.sure c.requires.moving.allowed chain.classes chain.backs
+    c.requires.moving.chain i li sized j next w high lj next_is in
+    let follows = after_next m o laws c.requires.moving.sure c.requires.moving.allowed chain.classes chain.backs
+    c.requires.moving.chain i li sized j high lj may in
     same item ∙ ap bare (sym item_is) ∙ follows.next.free
 
 pub overflow_sub-front : goal.overflow_sub-front
@@ -321,37 +321,37 @@ overflow_sub-front c =
     let sized = c.laws_of_levels.ensures.sizes in
     let i = c.args.i in
     let l = c.len-items.ensures.len in
-    let li : i < length o = let a = c.requires.i in let b = c.requires.last in omega arith in
+    let li : i < length o = let a = c.requires.range.i in let b = c.requires.range.last in omega arith in
     let whole_is = ap (slice_index chain.backs) (sym l)
     ∙ get_or_from_slice_get chain.backs c.len-items.result c.get-whole.result.now 0
     c.get-whole.ensures in
     let after_is = ap (λ (n : ℕ). slice_index chain.backs (n - i)) (sym l)
     ∙ get_or_from_slice_get chain.backs (c.len-items.result - i) c.get-after.result.now 0
     c.get-after.ensures in
-    let fronts = front_low m o laws c.requires.sure c.requires.allowed chain.classes chain.backs
-    c.requires.chain i li sized i (let h : i ≤ i = omega arith in h) in
+    let fronts = front_low m o laws c.requires.moving.sure c.requires.moving.allowed chain.classes chain.backs
+    c.requires.moving.chain i li sized i (let h : i ≤ i = omega arith in h) in
     let low = fronts.0 in
     omega arith
 
 pub overflow_add-front : goal.overflow_add-front
 overflow_add-front c =
-    let n = items c.args.moving.now.machine.now c.args.moving.now.order.now c.requires.allowed in
+    let n = items c.args.moving.now.machine.now c.args.moving.now.order.now c.requires.moving.allowed in
     let items_few = c.laws_of_levels.ensures.few in
     let few = c.loop-j.invariant.few in
     let here = c.in_ok-here.ensures.few in
     let test = c.loop-j-test.true in
-    let last = c.requires.last in
+    let last = c.requires.range.last in
     omega arith
 
 pub overflow_add-size : goal.overflow_add-size
 overflow_add-size c =
-    let n = items c.args.moving.now.machine.now c.args.moving.now.order.now c.requires.allowed in
+    let n = items c.args.moving.now.machine.now c.args.moving.now.order.now c.requires.moving.allowed in
     let items_few = c.laws_of_levels.ensures.few in
     let few = c.loop-j.invariant.few in
     let here = c.in_ok-here.ensures.few in
     let own = c.in_ok-own.ensures.few in
     let test = c.loop-j-test.true in
-    let last = c.requires.last in
+    let last = c.requires.range.last in
     omega arith
 
 pub overflow_add-size-in-loop-j : goal.overflow_add-size-in-loop-j
@@ -364,17 +364,17 @@ overflow_add-size-in-loop-j c =
     let i = c.args.i in
     let l = c.len-items.ensures.len in
     let j = c.loop-j.j in
-    let n = items m o c.requires.allowed in
+    let n = items m o c.requires.moving.allowed in
     let items_few = c.laws_of_levels.ensures.few in
     let few = c.loop-j.invariant.few in
     let here = c.in_ok-here.ensures.few in
     let own = c.in_ok-own.ensures.few in
     let test = c.loop-j-test.true in
-    let last = c.requires.last in
+    let last = c.requires.range.last in
     let back = ap (λ (n : ℕ). slice_index chain.backs (n - 1 - j)) (sym l)
     ∙ get_or_from_slice_get chain.backs (c.len-items.result - 1 - j) c.get-back.result.now 0
     c.get-back.ensures in
-    let back_few = c.requires.chain.few (length o - 1 - j) (omega arith) in
+    let back_few = c.requires.moving.chain.few (length o - 1 - j) (omega arith) in
     omega arith
 
 pub set-requires : goal.set-requires
@@ -383,7 +383,7 @@ set-requires c =
     let later = c.loop-j.invariant.later in
     let long = c.loop-j.invariant.long in
     let room = c.requires.long in
-    let first = c.requires.first in
+    let first = c.requires.range.first in
     omega arith
 
 pub returns-clause-each : goal.returns-clause-each
@@ -393,6 +393,6 @@ returns-clause-each c =
     let last = c.args.range.last in
     let j = c.loop-j.j in
     let e : j - 1 ≡ last = let a = c.loop-j-test.false in let b = c.loop-j.auto.j-end in
-    let d = c.loop-j.invariant.later in let h = c.requires.i in omega arith in
+    let d = c.loop-j.invariant.later in let h = c.requires.range.i in omega arith in
     subst (λ (n : ℕ). AreSizes c.args.moving.now.machine.now c.args.moving.now.order.now i first
     c.loop-j.sizes first n) e c.loop-j.invariant.sizes

@@ -1,12 +1,12 @@
 use Rattle.std.proofs.Common.{◌≡◌, ◌+◌, ◌-◌, ◌*◌, ◌≤◌, ℕ, length, take}
 use Rattle.std.specs.List.{remove}
 use Rattle.decision_diagram.specs.Sets.{stands}
-use Rattle.order_sift.specs.Chains.{AreSizes}
-use Rattle.order_sift.specs.Classes.{AreClasses}
+use Rattle.order_sift.specs.inner.Chains.{AreSizes}
+use Rattle.order_sift.specs.inner.Classes.{AreClasses}
 use Rattle.order_sift.proofs.Sweeping.{front_of}
 use Rattle.domains.specs.Tables.{product}
-use Rattle.order_sift.specs.Known.{in_set, AreKnown}
-use Rattle.order_sift.specs.Pairs.{HasRoom}
+use Rattle.order_sift.specs.inner.Known.{in_set, AreKnown}
+use Rattle.order_sift.specs.inner.Pairs.{HasRoom}
 use Rattle.order_sift.proofs.moves.fill_after.Given as goal
 
 abbrev pub invariant-loop-j : goal.invariant-loop-j

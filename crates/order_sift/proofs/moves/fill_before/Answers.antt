@@ -4,9 +4,9 @@ use Rattle.std.proofs.lemmas.Option.{get_or_from_slice_get}
 use Rattle.transition_table.specs.Computed.{char}
 use Rattle.transition_table.specs.Orders.{sizes_of}
 use Rattle.decision_diagram.specs.Sets.{stands, set_level}
-use Rattle.order_sift.specs.Chains.{AreSizes}
-use Rattle.order_sift.specs.Classes.{AreClasses}
-use Rattle.order_sift.specs.Known.{in_set}
+use Rattle.order_sift.specs.inner.Chains.{AreSizes}
+use Rattle.order_sift.specs.inner.Classes.{AreClasses}
+use Rattle.order_sift.specs.inner.Known.{in_set}
 use Rattle.order_sift.proofs.Codes.{set_long}
 use Rattle.order_sift.proofs.Filling.{sizes_set, front_low, before_next, own_free, own_classes, steps_before, start_with, back_high}
 use Rattle.domains.specs.Tables.{product}
@@ -26,15 +26,15 @@ loop-t-init c =
     let i = c.args.i in
     let l = c.len-items.ensures.len in
     let first = c.args.first in
-    let li = c.requires.i in
+    let li = c.requires.range.last in
     let e : i ≡ i - 0 = omega arith in
     let back : c.get-back.result.now ≡ back_of m o i i =
     sym (ap (λ (n : ℕ). slice_index chain.backs (n - 1 - i)) (sym l)
     ∙ get_or_from_slice_get chain.backs (c.len-items.result - 1 - i) c.get-back.result.now 0
     c.get-back.ensures)
-    ∙ back_high m o laws c.requires.sure c.requires.allowed chain.classes chain.backs
-    c.requires.chain i li sized i (let h : i ≤ i = omega arith in h) li in
-    let few = c.requires.chain.few (length o - 1 - i) (omega arith) in
+    ∙ back_high m o laws c.requires.moving.sure c.requires.moving.allowed chain.classes chain.backs
+    c.requires.moving.chain i li sized i (let h : i ≤ i = omega arith in h) li in
+    let few = c.requires.moving.chain.few (length o - 1 - i) (omega arith) in
     let few_is = ap (λ (n : ℕ). slice_index chain.backs (n - 1 - i)) (sym l)
     ∙ get_or_from_slice_get chain.backs (c.len-items.result - 1 - i) c.get-back.result.now 0
     c.get-back.ensures in
@@ -43,11 +43,11 @@ loop-t-init c =
     ∙ get_or_from_slice_get chain.classes (c.len-items.result - 1 - i) c.get-start.result.now []
     c.get-start.ensures ∙ sym c.as_slice.ensures ∙ sym c.in_ok-with_item.ensures in
     let start = subst (AreClasses m (stands (take i (remove o i) ++ slice_index o i ∷ []))) got
-    (start_with m o laws c.requires.sure c.requires.allowed chain.classes chain.backs
-    c.requires.chain i li sized) in
+    (start_with m o laws c.requires.moving.sure c.requires.moving.allowed chain.classes chain.backs
+    c.requires.moving.chain i li sized) in
     record {
-      room = c.requires.room;
-      known = c.requires.known;
+      room = c.requires.sets.room;
+      known = c.requires.sets.known;
       long = refl;
       back = back ∙ ap (back_of m o i) e;
       few = omega arith;
@@ -67,7 +67,7 @@ loop-t-preserved c =
     let i = c.args.i in
     let l = c.len-items.ensures.len in
     let first = c.args.first in
-    let li = c.requires.i in
+    let li = c.requires.range.last in
     let t = c.loop-t.t in
     let test = c.loop-t-test.true in
     let j = i - 1 - t in
@@ -107,11 +107,11 @@ loop-t-preserved c =
     let own_level = subst (λ (x : ℕ). own ≡ set_level (char m) (sizes_of m) bare x) (sym item_is)
     (same_level m (in_set c.first_items-before.result) bare c.get-item.result.now own same
     c.in_ok-own.ensures.level) in
-    let fronts = front_low m o laws c.requires.sure c.requires.allowed chain.classes chain.backs
-    c.requires.chain i li sized j (omega arith) in
+    let fronts = front_low m o laws c.requires.moving.sure c.requires.moving.allowed chain.classes chain.backs
+    c.requires.moving.chain i li sized j (omega arith) in
     let fronts_is = fronts.1 in
-    let step = steps_before m o laws c.requires.sure c.requires.allowed chain.classes chain.backs
-    c.requires.chain i li sized j next here old_back own front
+    let step = steps_before m o laws c.requires.moving.sure c.requires.moving.allowed chain.classes chain.backs
+    c.requires.moving.chain i li sized j next here old_back own front
     c.in_ok-freer.freer low next_is (inv.back ∙ ap (back_of m o i) e_old) made level own_level
     (omega arith) in
     let set = c.set.ensures in
@@ -138,41 +138,41 @@ loop-t-preserved c =
 pub numbers_of-requires-clause-item : goal.numbers_of-requires-clause-item
 numbers_of-requires-clause-item c =
     let o = c.args.moving.now.order.now in
-    let n = items c.args.moving.now.machine.now o c.requires.allowed in
+    let n = items c.args.moving.now.machine.now o c.requires.moving.allowed in
     let l = c.len-items.ensures.len in
     let is = get_or_from_slice_get o (c.args.i - 1 - c.loop-t.t) c.get-next.result.now 0
     c.get-next.ensures in
-    let b = c.requires.allowed.permutation.below (c.args.i - 1 - c.loop-t.t)
-    (let a = c.loop-t-test.true in let b = c.requires.i in omega arith) in
+    let b = c.requires.moving.allowed.permutation.below (c.args.i - 1 - c.loop-t.t)
+    (let a = c.loop-t-test.true in let b = c.requires.range.last in omega arith) in
     omega arith
 
 pub level_after-requires-clause-item : goal.level_after-requires-clause-item
 level_after-requires-clause-item c =
     let o = c.args.moving.now.order.now in
-    let n = items c.args.moving.now.machine.now o c.requires.allowed in
+    let n = items c.args.moving.now.machine.now o c.requires.moving.allowed in
     let l = c.len-items.ensures.len in
     let is = get_or_from_slice_get o (c.args.i - 1 - c.loop-t.t) c.get-next.result.now 0
     c.get-next.ensures in
-    let b = c.requires.allowed.permutation.below (c.args.i - 1 - c.loop-t.t)
-    (let a = c.loop-t-test.true in let b = c.requires.i in omega arith) in
+    let b = c.requires.moving.allowed.permutation.below (c.args.i - 1 - c.loop-t.t)
+    (let a = c.loop-t-test.true in let b = c.requires.range.last in omega arith) in
     omega arith
 
 pub level_after-requires-in-loop-t-clause-item : goal.level_after-requires-in-loop-t-clause-item
 level_after-requires-in-loop-t-clause-item c =
     let o = c.args.moving.now.order.now in
-    let n = items c.args.moving.now.machine.now o c.requires.allowed in
+    let n = items c.args.moving.now.machine.now o c.requires.moving.allowed in
     let l = c.len-items.ensures.len in
     let is = get_or_from_slice_get o (c.args.i) c.get-item.result.now 0 c.get-item.ensures in
-    let b = c.requires.allowed.permutation.below (c.args.i) (c.requires.i) in
+    let b = c.requires.moving.allowed.permutation.below (c.args.i) (c.requires.range.last) in
     omega arith
 
 pub first_items-before-requires-clause-count : goal.first_items-before-requires-clause-count
 first_items-before-requires-clause-count c =
-    let li = c.requires.i in let a = c.loop-t-test.true in omega arith
+    let li = c.requires.range.last in let a = c.loop-t-test.true in omega arith
 
 pub first_items-before-requires-clause-small : goal.first_items-before-requires-clause-small
 first_items-before-requires-clause-small c =
-    small_items c.args.moving.now.machine.now c.args.moving.now.order.now c.requires.allowed
+    small_items c.args.moving.now.machine.now c.args.moving.now.order.now c.requires.moving.allowed
     c.laws_of_levels.ensures.few
 
 pub with-set-requires : goal.with-set-requires
@@ -180,8 +180,8 @@ with-set-requires c =
     let m = c.args.moving.now.machine.now in
     let o = c.args.moving.now.order.now in
     let is = get_or_from_slice_get o c.args.i c.get-item.result.now 0 c.get-item.ensures in
-    let low = small_items m o c.requires.allowed c.laws_of_levels.ensures.few c.args.i
-    c.requires.i in
+    let low = small_items m o c.requires.moving.allowed c.laws_of_levels.ensures.few c.args.i
+    c.requires.range.last in
     omega arith
 
 pub numbers_of-requires-clause-next : goal.numbers_of-requires-clause-next
@@ -195,7 +195,7 @@ numbers_of-requires-clause-next c =
     let j = i - 1 - t in
     let e_old : i - t ≡ j + 1 = omega arith in
     let low : j < i = omega arith in
-    let may = c.requires.places j (omega arith) (omega arith) in
+    let may = c.requires.range.places j (omega arith) (omega arith) in
     let next = c.get-next.result.now in
     let next_is = get_or_from_slice_get o j next 0 c.get-next.ensures in
     let item_is = get_or_from_slice_get o i c.get-item.result.now 0 c.get-item.ensures in
@@ -209,8 +209,8 @@ numbers_of-requires-clause-next c =
     set_with o c.first_items-before.result c.with-set.result c.get-item.result.now i j item_is same
     c.with-set.ensures in
     same_next m with_it (in_set c.with-set.result) next next (λ w. sym (same_with w)) refl
-    (before_next m o c.laws_of_levels.ensures.laws c.requires.sure c.requires.allowed chain.classes
-    chain.backs c.requires.chain i c.requires.i c.laws_of_levels.ensures.sizes j next
+    (before_next m o c.laws_of_levels.ensures.laws c.requires.moving.sure c.requires.moving.allowed chain.classes
+    chain.backs c.requires.moving.chain i c.requires.range.last c.laws_of_levels.ensures.sizes j next
     c.loop-t.with_item low may next_is old_are).next
 
 pub numbers_of-requires-clause-classes : goal.numbers_of-requires-clause-classes
@@ -224,7 +224,7 @@ numbers_of-requires-clause-classes c =
     let j = i - 1 - t in
     let e_old : i - t ≡ j + 1 = omega arith in
     let low : j < i = omega arith in
-    let may = c.requires.places j (omega arith) (omega arith) in
+    let may = c.requires.range.places j (omega arith) (omega arith) in
     let next = c.get-next.result.now in
     let next_is = get_or_from_slice_get o j next 0 c.get-next.ensures in
     let item_is = get_or_from_slice_get o i c.get-item.result.now 0 c.get-item.ensures in
@@ -239,8 +239,8 @@ numbers_of-requires-clause-classes c =
     c.with-set.ensures in
     same_too m with_it (in_set c.with-set.result) next c.loop-t.with_item
     (λ w. sym (same_with w))
-    (before_next m o c.laws_of_levels.ensures.laws c.requires.sure c.requires.allowed chain.classes
-    chain.backs c.requires.chain i c.requires.i c.laws_of_levels.ensures.sizes j next
+    (before_next m o c.laws_of_levels.ensures.laws c.requires.moving.sure c.requires.moving.allowed chain.classes
+    chain.backs c.requires.moving.chain i c.requires.range.last c.laws_of_levels.ensures.sizes j next
     c.loop-t.with_item low may next_is old_are).too
 
 pub level_after-requires-clause-free : goal.level_after-requires-clause-free
@@ -254,7 +254,7 @@ level_after-requires-clause-free c =
     let j = i - 1 - t in
     let e_old : i - t ≡ j + 1 = omega arith in
     let low : j < i = omega arith in
-    let may = c.requires.places j (omega arith) (omega arith) in
+    let may = c.requires.range.places j (omega arith) (omega arith) in
     let next = c.get-next.result.now in
     let next_is = get_or_from_slice_get o j next 0 c.get-next.ensures in
     let item_is = get_or_from_slice_get o i c.get-item.result.now 0 c.get-item.ensures in
@@ -267,8 +267,8 @@ level_after-requires-clause-free c =
     let same_with : (w : ℕ) → in_set c.with-set.result w ≡ with_it w =
     set_with o c.first_items-before.result c.with-set.result c.get-item.result.now i j item_is same
     c.with-set.ensures in
-    let next_one = before_next m o c.laws_of_levels.ensures.laws c.requires.sure c.requires.allowed
-    chain.classes chain.backs c.requires.chain i c.requires.i c.laws_of_levels.ensures.sizes j next
+    let next_one = before_next m o c.laws_of_levels.ensures.laws c.requires.moving.sure c.requires.moving.allowed
+    chain.classes chain.backs c.requires.moving.chain i c.requires.range.last c.laws_of_levels.ensures.sizes j next
     c.loop-t.with_item low may next_is old_are in
     same_with next ∙ next_one.next.free
 
@@ -279,18 +279,18 @@ level_after-requires-in-loop-t-clause-free c =
     let chain = c.args.moving.now.chain.now in
     let laws = c.laws_of_levels.ensures.laws in
     let i = c.args.i in
-    let li = c.requires.i in
+    let li = c.requires.range.last in
     let test = c.loop-t-test.true in
     let j = i - 1 - c.loop-t.t in
-    let may = c.requires.places j (omega arith) (omega arith) in
+    let may = c.requires.range.places j (omega arith) (omega arith) in
     let item = c.get-item.result.now in
     let item_is = get_or_from_slice_get o i item 0 c.get-item.ensures in
     let same = set_before o c.first_items-before.result i j c.first_items-before.ensures
     (omega arith) in
-    let long = rest_long m o laws c.requires.sure c.requires.allowed i li in
+    let long = rest_long m o laws c.requires.moving.sure c.requires.moving.allowed i li in
     same item ∙ ap (stands (take j (remove o i))) (sym item_is)
-    ∙ own_free m o laws c.requires.sure c.requires.allowed chain.classes chain.backs
-    c.requires.chain i li c.laws_of_levels.ensures.sizes j (omega arith) may
+    ∙ own_free m o laws c.requires.moving.sure c.requires.moving.allowed chain.classes chain.backs
+    c.requires.moving.chain i li c.laws_of_levels.ensures.sizes j (omega arith) may
 
 pub level_after-requires-in-loop-t-clause-classes : goal.level_after-requires-in-loop-t-clause-classes
 level_after-requires-in-loop-t-clause-classes c =
@@ -309,8 +309,8 @@ level_after-requires-in-loop-t-clause-classes c =
     same_classes m (stands (take j (remove o i))) (in_set c.first_items-before.result)
     c.get-without_item.result.now (λ w. sym (same w))
     (subst (AreClasses m (stands (take j (remove o i)))) got
-    (own_classes m o laws c.requires.sure c.requires.allowed chain.classes chain.backs
-    c.requires.chain i c.requires.i c.laws_of_levels.ensures.sizes j (omega arith)))
+    (own_classes m o laws c.requires.moving.sure c.requires.moving.allowed chain.classes chain.backs
+    c.requires.moving.chain i c.requires.range.last c.laws_of_levels.ensures.sizes j (omega arith)))
 
 pub overflow_sub-size : goal.overflow_sub-size
 overflow_sub-size c =
@@ -322,26 +322,26 @@ overflow_sub-size c =
     let i = c.args.i in
     let l = c.len-items.ensures.len in
     let j = i - 1 - c.loop-t.t in
-    let li = c.requires.i in
+    let li = c.requires.range.last in
     let whole_is = ap (slice_index chain.backs) (sym l)
     ∙ get_or_from_slice_get chain.backs c.len-items.result c.get-whole.result.now 0
     c.get-whole.ensures in
     let after_is = ap (λ (n : ℕ). slice_index chain.backs (n - j)) (sym l)
     ∙ get_or_from_slice_get chain.backs (c.len-items.result - j) c.get-after.result.now 0
     c.get-after.ensures in
-    let fronts = front_low m o laws c.requires.sure c.requires.allowed chain.classes chain.backs
-    c.requires.chain i li sized j (omega arith) in
+    let fronts = front_low m o laws c.requires.moving.sure c.requires.moving.allowed chain.classes chain.backs
+    c.requires.moving.chain i li sized j (omega arith) in
     let low = fronts.0 in
     omega arith
 
 pub overflow_add-back : goal.overflow_add-back
 overflow_add-back c =
-    let n = items c.args.moving.now.machine.now c.args.moving.now.order.now c.requires.allowed in
+    let n = items c.args.moving.now.machine.now c.args.moving.now.order.now c.requires.moving.allowed in
     let items_few = c.laws_of_levels.ensures.few in
     let few = c.loop-t.invariant.few in
     let here = c.in_ok-here.ensures.few in
     let test = c.loop-t-test.true in
-    let li = c.requires.i in
+    let li = c.requires.range.last in
     omega arith
 
 pub overflow_add-size : goal.overflow_add-size
@@ -353,13 +353,13 @@ overflow_add-size c =
     let sized = c.laws_of_levels.ensures.sizes in
     let i = c.args.i in
     let l = c.len-items.ensures.len in
-    let n = items m o c.requires.allowed in
+    let n = items m o c.requires.moving.allowed in
     let items_few = c.laws_of_levels.ensures.few in
     let whole_is = ap (slice_index chain.backs) (sym l)
     ∙ get_or_from_slice_get chain.backs c.len-items.result c.get-whole.result.now 0
     c.get-whole.ensures in
     let whole_few =
-    c.requires.chain.few (length o) (let h : length o ≤ length o = omega arith in h) in
+    c.requires.moving.chain.few (length o) (let h : length o ≤ length o = omega arith in h) in
     let own = c.in_ok-own.ensures.few in
     omega arith
 
@@ -372,18 +372,18 @@ overflow_add-size-in-loop-t c =
     let sized = c.laws_of_levels.ensures.sizes in
     let i = c.args.i in
     let l = c.len-items.ensures.len in
-    let n = items m o c.requires.allowed in
+    let n = items m o c.requires.moving.allowed in
     let items_few = c.laws_of_levels.ensures.few in
     let whole_is = ap (slice_index chain.backs) (sym l)
     ∙ get_or_from_slice_get chain.backs c.len-items.result c.get-whole.result.now 0
     c.get-whole.ensures in
     let whole_few =
-    c.requires.chain.few (length o) (let h : length o ≤ length o = omega arith in h) in
+    c.requires.moving.chain.few (length o) (let h : length o ≤ length o = omega arith in h) in
     let own = c.in_ok-own.ensures.few in
     let few = c.loop-t.invariant.few in
     let here = c.in_ok-here.ensures.few in
     let test = c.loop-t-test.true in
-    let li = c.requires.i in
+    let li = c.requires.range.last in
     omega arith
 
 pub set-requires : goal.set-requires
@@ -399,6 +399,6 @@ returns-clause-each c =
     let i = c.args.i in
     let t = c.loop-t.t in
     let e : i - t ≡ first = let a = c.loop-t-test.false in let b = c.loop-t.auto.t-end in
-    let d = c.requires.first in omega arith in
+    let d = c.requires.range.first in omega arith in
     subst (λ (n : ℕ). AreSizes c.args.moving.now.machine.now c.args.moving.now.order.now i first
     c.loop-t.sizes n i) e c.loop-t.invariant.sizes

@@ -1,22 +1,30 @@
-use Rattle.std.proofs.Common.{◌≡◌, ◌∙◌, ◌+◌, ◌-◌, ◌<◌, ℕ, List, length, slice_index, arith, sym, ap}
+use Rattle.std.proofs.Common.{◌≡◌, ◌∙◌, ◌+◌, ◌-◌, ◌<◌, ◌≤◌, ℕ, List, length, slice_index, arith, sym, ap}
 use Rattle.std.proofs.lemmas.Option.{get_or_from_slice_get}
 use Rattle.std.proofs.lemmas.List.{length-replicate}
+use Rattle.domains.specs.Tables.{product}
 use Rattle.char_function.specs.Sizes.{Size}
 use Rattle.order_sift.specs.Moves.{moved}
+use Rattle.order_sift.proofs.Keying.{room_kept}
 use Rattle.order_sift.proofs.Filling.{filled_at, size_own}
 use Rattle.order_sift.proofs.moves.sizes_at.Goals as goal
 
-pub fill_before-requires-clause-places : goal.fill_before-requires-clause-places
-fill_before-requires-clause-places c j a b =
-    c.requires.places j a (let d = c.requires.i in omega arith)
+pub fill_before-requires-clause-range : goal.fill_before-requires-clause-range
+fill_before-requires-clause-range c =
+    let range = c.requires.range in
+    record {
+      first = range.first;
+      i = let own : c.args.i ≤ c.args.i = omega arith in own;
+      last = let a = range.i in let b = range.last in omega arith;
+      places = λ j a b. range.places j a (let d = range.i in omega arith);
+    }
 
 pub fill_before-requires-clause-long : goal.fill_before-requires-clause-long
 fill_before-requires-clause-long c =
     let range = c.args.range in
     let long = ap (λ (xs : List ℕ). length xs) c.in_ok-sizes.ensures
     ∙ length-replicate (range.last + 1 - range.first) c.get-whole.result.now in
-    let a = c.requires.first in
-    let b = c.requires.i in
+    let a = c.requires.range.first in
+    let b = c.requires.range.i in
     omega arith
 
 pub fill_before-requires-clause-own : goal.fill_before-requires-clause-own
@@ -30,9 +38,9 @@ fill_before-requires-clause-own c j a b =
     let l = c.len-items.ensures.len in
     let range = c.args.range in
     let e : j ≡ i = omega arith in
-    let h = c.requires.first in
-    let k = c.requires.i in
-    let li : i < length o = let d = c.requires.last in omega arith in
+    let h = c.requires.range.first in
+    let k = c.requires.range.i in
+    let li : i < length o = let d = c.requires.range.last in omega arith in
     let whole_is = ap (slice_index chain.backs) (sym l)
     ∙ get_or_from_slice_get chain.backs c.len-items.result c.get-whole.result.now 0
     c.get-whole.ensures in
@@ -40,13 +48,17 @@ fill_before-requires-clause-own c j a b =
     ∙ filled_at c.get-whole.result.now (range.last + 1 - range.first) (j - range.first)
     (omega arith)
     ∙ sym whole_is
-    ∙ size_own m o laws c.requires.sure c.requires.allowed chain.classes chain.backs
-    c.requires.chain i li sized
+    ∙ size_own m o laws c.requires.moving.sure c.requires.moving.allowed chain.classes chain.backs
+    c.requires.moving.chain i li sized
     ∙ ap (λ (n : ℕ). Size m (moved o i n)) (sym e)
 
-pub fill_after-requires-clause-places : goal.fill_after-requires-clause-places
-fill_after-requires-clause-places c j a b =
-    c.requires.places j (let d = c.requires.first in omega arith) b
+pub fill_after-requires-clause-sets : goal.fill_after-requires-clause-sets
+fill_after-requires-clause-sets c =
+    record {
+      room = room_kept (product c.args.moving.now.machine.now.vars) _ _ c.fill_before.auto.seen
+          c.requires.sets.room;
+      known = c.in_ok-fill_before.ensures.known;
+    }
 
 pub fill_after-requires-clause-long : goal.fill_after-requires-clause-long
 fill_after-requires-clause-long c =
@@ -54,8 +66,8 @@ fill_after-requires-clause-long c =
     let kept = c.in_ok-fill_before.ensures.long in
     let long = ap (λ (xs : List ℕ). length xs) c.in_ok-sizes.ensures
     ∙ length-replicate (range.last + 1 - range.first) c.get-whole.result.now in
-    let a = c.requires.first in
-    let b = c.requires.i in
+    let a = c.requires.range.first in
+    let b = c.requires.range.i in
     omega arith
 
 pub returns-clause-long : goal.returns-clause-long
@@ -65,8 +77,8 @@ returns-clause-long c =
     let kept_after = c.in_ok-fill_after.ensures.long in
     let long = ap (λ (xs : List ℕ). length xs) c.in_ok-sizes.ensures
     ∙ length-replicate (range.last + 1 - range.first) c.get-whole.result.now in
-    let a = c.requires.first in
-    let b = c.requires.i in
+    let a = c.requires.range.first in
+    let b = c.requires.range.i in
     omega arith
 
 pub returns-clause-each : goal.returns-clause-each
@@ -76,8 +88,8 @@ returns-clause-each c k low =
     let kept_after = c.in_ok-fill_after.ensures.long in
     let long = ap (λ (xs : List ℕ). length xs) c.in_ok-sizes.ensures
     ∙ length-replicate (range.last + 1 - range.first) c.get-whole.result.now in
-    let a = c.requires.first in
-    let b = c.requires.i in
+    let a = c.requires.range.first in
+    let b = c.requires.range.i in
     let e : k ≡ range.first + k - range.first = omega arith in
     ap (slice_index c.fill_after.new.sizes) e
     ∙ c.in_ok-fill_after.ensures.each (range.first + k) (omega arith) (omega arith)

@@ -1,7 +1,7 @@
 use Rattle.std.proofs.Common.{◌≡◌, ◌∙◌, ⊎_elim, ◌+◌, ◌-◌, ◌*◌, ◌<◌, ◌≤◌, ℕ, zero, suc, List, length, slice_index, slice_set, get_or-set_other, arith, sym, ap, subst}
 use Rattle.std.proofs.lemmas.Bool.{cases_lt}
 use Rattle.std.proofs.lemmas.List.{length-set}
-use Rattle.order_sift.specs.Pairs.{AreBelow, HaveFirsts, key_of, pair_at}
+use Rattle.order_sift.specs.inner.Pairs.{AreBelow, HasRoom, HaveFirsts, key_of, pair_at}
 use Rattle.order_sift.proofs.Keying.{below_set, first_more, room_kept, same_first, same_parts}
 use Rattle.order_sift.proofs.pairs.chained.Goals as goal
 use Rattle.order_sift.proofs.pairs.chained.Goals.{then-codes-i-gt0, else-codes-i-gt0}
@@ -19,6 +19,24 @@ pair_kept made classes stride i x p some early low =
     (length-set made i x)
     ∙ ap (λ (k : ℕ). key_of (length made) k (slice_index classes p))
     (get_or-set_other made i (p - stride) x 0 (λ e. omega arith))
+
+pub first_with-first-requires-clause-pairs : goal.first_with-first-requires-clause-pairs
+first_with-first-requires-clause-pairs c =
+    let classes = c.args.classes.now in
+    let made = c.loop-i.made in
+    let inv = c.loop-i.invariant in
+    let shown = c.as_slice.ensures in
+    let long : length c.as_slice.result.now ≡ length classes =
+    ap (λ (xs : List ℕ). length xs) shown ∙ inv.long in
+    let few = c.requires.few in
+    record {
+      room = subst (λ (k : ℕ). HasRoom k c.loop-i.seen) (sym long) inv.room;
+      few = omega arith;
+      long = sym long;
+      one_below = subst (λ (xs : List ℕ). AreBelow (length xs) xs) (sym shown)
+          (subst (λ (k : ℕ). AreBelow k made) (sym inv.long) inv.below);
+      other_below = λ k lk. let b = c.requires.below k lk in omega arith;
+    }
 
 pub first_with-first-requires-clause-early : goal.first_with-first-requires-clause-early
 first_with-first-requires-clause-early c =
@@ -46,7 +64,7 @@ loop-i-preserved c =
           let x = call.result in
           let shown = w.as_slice.ensures in
           let made_is : now.made ≡ slice_set old i x = w.made-is ∙ w.set.ensures in
-          let within = subst (λ (xs : List ℕ). x ≤ i) shown call.ensures.within in
+          let within = subst (λ (xs : List ℕ). x ≤ i) shown call.ensures.range.1 in
           let low : x < n = omega arith in
           let some = w.if-codes-i-gt0.true in
           let stride_some = c.requires.stride in
@@ -55,7 +73,7 @@ loop-i-preserved c =
           (c.requires.within i (omega arith)).0 in
           let firsts = first_more (pair_at old classes stride)
           (pair_at (slice_set old i x) classes stride) c.loop-i.seen call.new.seen old stride i x
-          paired (omega arith) within call.ensures.early
+          paired (omega arith) within call.ensures.range.0
           (subst (λ (xs : List ℕ). pair_at xs classes stride x ≡ pair_at xs classes stride i) shown
           call.ensures.is)
           (subst (λ (xs : List ℕ). slice_index call.new.seen (pair_at xs classes stride i) ≡ x)
@@ -118,6 +136,11 @@ loop-i-preserved c =
                 (cases_lt p i)));
           }
     ]
+
+pub returns-clause-numbers : goal.returns-clause-numbers
+returns-clause-numbers c =
+    let inv = c.loop-i.invariant in
+    record { long = inv.long; below = inv.below }
 
 pub returns-clause-more : goal.returns-clause-more
 returns-clause-more c i j li lj some other_some =

@@ -1,5 +1,5 @@
 use Rattle.std.proofs.Common.{◌≡◌, ◌<◌, ◌≤◌, ℕ, length, slice_index}
-use Rattle.order_sift.specs.Pairs.{AreBelow, HasRoom, HaveFirsts, pair_at}
+use Rattle.order_sift.specs.inner.Pairs.{AreBelow, HasRoom, HaveFirsts, pair_at}
 use Rattle.order_sift.proofs.pairs.chained.Given as goal
 
 abbrev pub invariant-loop-i : goal.invariant-loop-i

@@ -8,10 +8,10 @@ bounds-seen-key-2 c =
     let one = c.args.one.now in
     let other = c.args.other.now in
     let place = c.requires.place in
-    let long = c.requires.long in
+    let long = c.requires.pairs.long in
     key_low (length one) (slice_index other c.args.i) (slice_index one (c.args.i - c.args.stride))
-    (length c.args.seen.now) (c.requires.one_below (c.args.i - c.args.stride) (omega arith))
-    (c.requires.other_below c.args.i (omega arith)) c.requires.room
+    (length c.args.seen.now) (c.requires.pairs.one_below (c.args.i - c.args.stride) (omega arith))
+    (c.requires.pairs.other_below c.args.i (omega arith)) c.requires.pairs.room
 
 pub returns-clause-again : goal.returns-clause-again
 returns-clause-again c p is low early same =
@@ -23,8 +23,8 @@ returns-clause-again c p is low early same =
     let e : c.from-first.result ≡ p = c.from-first.ensures ∙ is in
     let parts = key_parts (length one) (slice_index other p) (slice_index one (p - stride))
     (slice_index other i) (slice_index one (i - stride))
-    (c.requires.one_below (p - stride) (omega arith))
-    (c.requires.one_below (i - stride) (omega arith)) same in
+    (c.requires.pairs.one_below (p - stride) (omega arith))
+    (c.requires.pairs.one_below (i - stride) (omega arith)) same in
     elim c.if-first-i.branch [
       | then-first-i+then-first-stride+else-one-first w ↦
           elim w.else-one-first.branch [

@@ -3,7 +3,7 @@ use Rattle.std.proofs.lemmas.Bool.{or_cases, eqb-true, eq-eqb}
 use Rattle.std.proofs.lemmas.List.Folds.{list_any_more, list_any_at}
 use Rattle.domains.specs.Orders.{place}
 use Rattle.decision_diagram.specs.Sets.{stands}
-use Rattle.order_sift.proofs.Belows.{max_over, max_within}
+use Rattle.outcome_table.proofs.Ends.{max_over, max_within}
 use Rattle.order_sift.proofs.places.place_after.Goals as goal
 
 pub loop-v-preserved : goal.loop-v-preserved

@@ -3,8 +3,8 @@ use Rattle.std.specs.Prelude.{◌↔◌}
 use Rattle.std.proofs.lemmas.Option.{get_or_from_slice_get}
 use Rattle.domains.specs.Tables.{product}
 use Rattle.transition_table.specs.Computed.{result_code}
-use Rattle.order_sift.specs.Classes.{snapshot_at}
-use Rattle.order_sift.specs.Pairs.{AreBelow}
+use Rattle.order_sift.specs.inner.Classes.{snapshot_at}
+use Rattle.order_sift.specs.inner.Pairs.{AreBelow}
 use Rattle.order_sift.proofs.Stepping.{result_freed}
 use Rattle.order_sift.proofs.points.free_result.Goals as goal
 
@@ -25,7 +25,7 @@ returns-clause-classes c =
     → slice_index xs i ≡ result_code m y (snapshot_at m i)) (sym codes)
     (λ i li. are.code y i ly li) in
     let long : length c.as_slice.result.now ≡ product m.vars =
-    ap (λ (xs : List ℕ). length xs) classes ∙ c.requires.long in
+    ap (λ (xs : List ℕ). length xs) classes ∙ c.requires.numbers.long in
     let whole = subst (λ (n : ℕ). (i j : ℕ) → i < n → j < n
     → (slice_index c.in_ok-made.made i ≡ slice_index c.in_ok-made.made j)
     ↔ ((slice_index c.as_slice.result.now i ≡ slice_index c.as_slice.result.now j)
@@ -39,3 +39,12 @@ returns-clause-classes c =
     result_freed m c.laws_below.ensures y c.args.classes.now c.as_slice-2.result.now
     c.in_ok-made.made ly code (c.in_ok-made.ensures.long ∙ long)
     (subst (λ (n : ℕ). AreBelow n c.in_ok-made.made) long c.in_ok-made.ensures.below) same
+
+pub returns-clause-numbers : goal.returns-clause-numbers
+returns-clause-numbers c =
+    let long : length c.as_slice.result.now ≡ product c.args.m.now.vars =
+    ap (λ (xs : List ℕ). length xs) c.as_slice.ensures ∙ c.requires.numbers.long in
+    record {
+      long = c.in_ok-made.ensures.long ∙ long;
+      below = subst (λ (n : ℕ). AreBelow n c.in_ok-made.made) long c.in_ok-made.ensures.below;
+    }

@@ -4,20 +4,22 @@ use Rattle.std.proofs.lemmas.Bool.{cases_lt}
 use Rattle.std.proofs.lemmas.Option.{get_or_from_slice_get}
 use Rattle.domains.specs.Tables.{product}
 use Rattle.transition_table.specs.declared.machine.Machine.{Machine}
-use Rattle.order_sift.specs.Below.{Below}
+use Rattle.order_sift.specs.inner.Below.{Below}
 use Rattle.order_sift.specs.declared.points.Points.{Points}
-use Rattle.order_sift.specs.Classes.{snapshot_at}
-use Rattle.order_sift.specs.Pairs.{AreBelow, HasRoom}
-use Rattle.order_sift.specs.Points.{IsPrepared}
+use Rattle.order_sift.specs.inner.Classes.{snapshot_at}
+use Rattle.order_sift.specs.inner.Pairs.{AreBelow, HasRoom}
+use Rattle.order_sift.specs.inner.Points.{IsPrepared}
 use Rattle.order_sift.proofs.Belows.{product_some, size_some, sizes_drop}
-use Rattle.order_sift.proofs.Codes.{fits_at, fits_long}
 use Rattle.order_sift.proofs.Pointing.{snapshot_fits}
-use Rattle.order_sift.proofs.Stepping.{variable_freed, neighbours, drop_below, within_of}
+use Rattle.order_sift.proofs.Stepping.{variable_freed, neighbours, within_of}
 use Rattle.order_sift.proofs.points.free_variable.Goals as goal
+use Rattle.transition_table.proofs.Ranges.{below_size}
+use Rattle.domains.proofs.Ranks.{length-fits}
+use Rattle.outcome_table.proofs.Columns.{product_after}
 
 pub lists_from-stride-requires-clause-few : goal.lists_from-stride-requires-clause-few
 lists_from-stride-requires-clause-few c =
-    let d = drop_below c.args.m.now.vars (c.from-3.result + 1) c.var_count.ensures.sizes in
+    let d = product_after c.args.m.now.vars (c.from-3.result + 1) c.var_count.ensures.sizes in
     let few = c.requires.few in
     omega arith
 
@@ -45,7 +47,7 @@ at_code : (m : Machine) (below : Below) (v stride : ℕ) (codes : List ℕ) → 
     × (slice_index codes (i + c * stride - slice_index codes i * stride) ≡ c)
 at_code m below v stride codes lv code is i c li lc =
     let n = neighbours m below i v c li lv lc in
-    let l = fits_long m.vars (snapshot_at m i) (snapshot_fits m below i li) in
+    let l = length-fits m.vars (snapshot_at m i) (snapshot_fits m below i li) in
     let e : i + c * stride - slice_index codes i * stride
     ≡ i + c * product (drop (v + 1) m.vars) - slice_index (snapshot_at m i) v * product
     (drop (v + 1) m.vars) =
@@ -136,12 +138,12 @@ module _ (n size stride : ℕ) (classes codes chain : List ℕ)
 
 pub chained-requires-clause-room : goal.chained-requires-clause-room
 chained-requires-clause-room c =
-    let long = ap (λ (xs : List ℕ). length xs) c.as_slice-fixed.ensures ∙ c.requires.long in
+    let long = ap (λ (xs : List ℕ). length xs) c.as_slice-fixed.ensures ∙ c.requires.numbers.long in
     subst (λ (k : ℕ). HasRoom k c.args.seen.now) (sym long) c.requires.room
 
 pub chained-requires-clause-few : goal.chained-requires-clause-few
 chained-requires-clause-few c =
-    let long = ap (λ (xs : List ℕ). length xs) c.as_slice-fixed.ensures ∙ c.requires.long in
+    let long = ap (λ (xs : List ℕ). length xs) c.as_slice-fixed.ensures ∙ c.requires.numbers.long in
     let few = c.requires.few in
     omega arith
 
@@ -150,7 +152,7 @@ chained-requires-clause-long c =
     let column = column_of c.args.points.now.codes c.args.v c.from-2.result c.get.result.now
     c.as_slice-codes.result.now c.from-2.ensures c.get.ensures c.as_slice-codes.ensures in
     ap (λ (xs : List ℕ). length xs) (sym column)
-    ∙ c.requires.prepared.variables.long c.args.v c.requires.var ∙ sym c.requires.long
+    ∙ c.requires.prepared.variables.long c.args.v c.requires.var ∙ sym c.requires.numbers.long
     ∙ ap (λ (xs : List ℕ). length xs) (sym c.as_slice-fixed.ensures)
 
 pub chained-requires-clause-stride : goal.chained-requires-clause-stride
@@ -175,10 +177,10 @@ chained-requires-clause-within c =
 
 pub chained-requires-clause-below : goal.chained-requires-clause-below
 chained-requires-clause-below c =
-    let long = ap (λ (xs : List ℕ). length xs) c.as_slice-fixed.ensures ∙ c.requires.long in
+    let long = ap (λ (xs : List ℕ). length xs) c.as_slice-fixed.ensures ∙ c.requires.numbers.long in
     subst (λ (k : ℕ). AreBelow k c.as_slice-fixed.result.now) (sym long)
     (subst (λ (xs : List ℕ). AreBelow (product c.args.m.now.vars) xs)
-    (sym c.as_slice-fixed.ensures) c.requires.below)
+    (sym c.as_slice-fixed.ensures) c.requires.numbers.below)
 
 pub overflow_sub-size : goal.overflow_sub-size
 overflow_sub-size c =
@@ -209,23 +211,18 @@ take_last-requires-clause-few c =
     let few = c.requires.few in
     omega arith
 
-pub take_last-requires-clause-long : goal.take_last-requires-clause-long
-take_last-requires-clause-long c =
+pub take_last-requires-clause-numbers : goal.take_last-requires-clause-numbers
+take_last-requires-clause-numbers c =
     let column = column_of c.args.points.now.codes c.args.v c.from-2.result c.get.result.now
     c.as_slice-codes.result.now c.from-2.ensures c.get.ensures c.as_slice-codes.ensures in
-    c.in_ok-numbers.ensures.long
-    ∙ ap (λ (xs : List ℕ). length xs) c.as_slice-fixed.ensures ∙ c.requires.long
-    ∙ sym (column_long c.args.m.now c.args.points.now c.args.v c.as_slice-codes.result.now
-    c.requires.prepared c.requires.var column)
-
-pub take_last-requires-clause-below : goal.take_last-requires-clause-below
-take_last-requires-clause-below c =
-    let column = column_of c.args.points.now.codes c.args.v c.from-2.result c.get.result.now
-    c.as_slice-codes.result.now c.from-2.ensures c.get.ensures c.as_slice-codes.ensures in
-    let long = ap (λ (xs : List ℕ). length xs) c.as_slice-fixed.ensures ∙ c.requires.long in
-    subst (λ (k : ℕ). AreBelow k c.in_ok-numbers.numbers) (long ∙ sym (column_long c.args.m.now
-    c.args.points.now c.args.v c.as_slice-codes.result.now c.requires.prepared c.requires.var
-    column)) c.in_ok-numbers.ensures.below
+    let long = ap (λ (xs : List ℕ). length xs) c.as_slice-fixed.ensures ∙ c.requires.numbers.long in
+    let codes_long = column_long c.args.m.now c.args.points.now c.args.v
+    c.as_slice-codes.result.now c.requires.prepared c.requires.var column in
+    record {
+      long = c.in_ok-numbers.ensures.numbers.long ∙ long ∙ sym codes_long;
+      below = subst (λ (k : ℕ). AreBelow k c.in_ok-numbers.numbers) (long ∙ sym codes_long)
+          c.in_ok-numbers.ensures.numbers.below;
+    }
 
 pub take_last-requires-clause-some : goal.take_last-requires-clause-some
 take_last-requires-clause-some c =
@@ -239,7 +236,7 @@ take_last-requires-clause-some c =
 pub take_last-requires-clause-stride : goal.take_last-requires-clause-stride
 take_last-requires-clause-stride c =
     let vars = c.args.m.now.vars in
-    let low = drop_below vars (c.args.v + 1) c.var_count.ensures.sizes in
+    let low = product_after vars (c.args.v + 1) c.var_count.ensures.sizes in
     let is = stride_is vars c.args.v c.from-3.result c.lists_from-stride.result c.from-3.ensures
     c.lists_from-stride.ensures in
     let few = c.requires.few in
@@ -257,7 +254,7 @@ take_last-requires-clause-most c i li =
     let inside : i < product m.vars = omega arith in
     let code = column_code m c.args.points.now v c.as_slice-codes.result.now c.requires.prepared lv
     column i inside in
-    let low = fits_at m.vars (snapshot_at m i) v (snapshot_fits m c.laws_below.ensures i inside)
+    let low = below_size m.vars (snapshot_at m i) v (snapshot_fits m c.laws_below.ensures i inside)
     lv in
     let size = size_of m.vars v c.from.result c.get-size.result.now c.from.ensures
     c.get-size.ensures in
@@ -313,8 +310,8 @@ returns-clause-classes c =
     let is = stride_is m.vars v c.from-3.result stride c.from-3.ensures
     c.lists_from-stride.ensures in
     let long : length fixed ≡ n = ap (λ (xs : List ℕ). length xs) c.as_slice-fixed.ensures
-    ∙ c.requires.long in
-    let chain_long : length chain ≡ n = c.in_ok-numbers.ensures.long ∙ long in
+    ∙ c.requires.numbers.long in
+    let chain_long : length chain ≡ n = c.in_ok-numbers.ensures.numbers.long ∙ long in
     let first = subst (λ (k : ℕ). (i : ℕ) → i < k → slice_index codes i ≡ 0
     → slice_index chain i ≡ slice_index fixed i) long c.in_ok-numbers.ensures.first in
     let pairs = subst (λ (k : ℕ). (i j : ℕ) → i < k → j < k → 0 < slice_index codes i
@@ -335,21 +332,17 @@ returns-clause-classes c =
     ≡ slice_index xs (j + k * stride - slice_index codes j * stride))) c.as_slice-fixed.ensures
     told in
     variable_freed m c.laws_below.ensures v c.args.classes.now codes made stride lv code is
-    (c.take_last.ensures.long ∙ codes_long)
-    (subst (λ (k : ℕ). AreBelow k made) codes_long c.take_last.ensures.below) same
+    (c.take_last.ensures.numbers.long ∙ codes_long)
+    (subst (λ (k : ℕ). AreBelow k made) codes_long c.take_last.ensures.numbers.below) same
 
-pub returns-clause-long : goal.returns-clause-long
-returns-clause-long c =
-    c.take_last.ensures.long
-    ∙ column_long c.args.m.now c.args.points.now c.args.v c.as_slice-codes.result.now
-    c.requires.prepared c.requires.var (column_of c.args.points.now.codes c.args.v c.from-2.result
-    c.get.result.now c.as_slice-codes.result.now c.from-2.ensures c.get.ensures
-    c.as_slice-codes.ensures)
-
-pub returns-clause-below : goal.returns-clause-below
-returns-clause-below c =
-    subst (λ (k : ℕ). AreBelow k c.take_last.new.numbers)
-    (column_long c.args.m.now c.args.points.now c.args.v c.as_slice-codes.result.now
-    c.requires.prepared c.requires.var (column_of c.args.points.now.codes c.args.v c.from-2.result
-    c.get.result.now c.as_slice-codes.result.now c.from-2.ensures c.get.ensures
-    c.as_slice-codes.ensures)) c.take_last.ensures.below
+pub returns-clause-numbers : goal.returns-clause-numbers
+returns-clause-numbers c =
+    let column = column_of c.args.points.now.codes c.args.v c.from-2.result c.get.result.now
+    c.as_slice-codes.result.now c.from-2.ensures c.get.ensures c.as_slice-codes.ensures in
+    let long = column_long c.args.m.now c.args.points.now c.args.v c.as_slice-codes.result.now
+    c.requires.prepared c.requires.var column in
+    record {
+      long = c.take_last.ensures.numbers.long ∙ long;
+      below = subst (λ (k : ℕ). AreBelow k c.take_last.new.numbers) long
+          c.take_last.ensures.numbers.below;
+    }

@@ -1,5 +1,5 @@
 use Rattle.std.proofs.Common.{◌≡◌, ◌+◌, ◌-◌, ℕ, Bool, length, arith, subst}
-use Rattle.order_sift.specs.Classes.{AreClasses, IsNextItem, fixed_too}
+use Rattle.order_sift.specs.inner.Classes.{AreClasses, IsNextItem, fixed_too}
 use Rattle.order_sift.proofs.points.freed.Goals as goal
 
 pub returns-clause-classes : goal.returns-clause-classes

@@ -1,7 +1,7 @@
 use Rattle.std.proofs.Common.{◌≡◌, ◌∙◌, ◌+◌, ◌<◌, ◌||◌, ℕ, zero, suc, refl, replicate, false, cond, length, map, take, get_or, slice_index, arith, sym, ap, eqb}
 use Rattle.std.specs.List.{list_any}
 use Rattle.std.proofs.lemmas.List.{length-replicate}
-use Rattle.order_sift.specs.Classes.{differing}
+use Rattle.order_sift.specs.inner.Classes.{differing}
 use Rattle.order_sift.proofs.Counting.{marked_more, differing_more, any_more}
 use Rattle.order_sift.proofs.points.level.Goals as goal
 

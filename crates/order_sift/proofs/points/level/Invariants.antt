@@ -1,6 +1,6 @@
 use Rattle.std.proofs.Common.{◌≡◌, ◌<◌, ◌≤◌, ◌==◌, ℕ, false, length, get_or, map, take, slice_index}
 use Rattle.std.specs.List.{list_any}
-use Rattle.order_sift.specs.Classes.{differing}
+use Rattle.order_sift.specs.inner.Classes.{differing}
 use Rattle.order_sift.proofs.points.level.Given as goal
 
 abbrev pub invariant-loop-i : goal.invariant-loop-i

@@ -3,9 +3,9 @@ use Rattle.std.proofs.lemmas.Option.{get_or_from_slice_get}
 use Rattle.transition_table.specs.declared.machine.Machine.{Machine}
 use Rattle.transition_table.specs.Orders.{sizes_of}
 use Rattle.order_sift.specs.declared.points.Points.{Points}
-use Rattle.order_sift.specs.Classes.{AreClasses, AreMarks}
-use Rattle.order_sift.specs.Pairs.{AreBelow}
-use Rattle.order_sift.specs.Points.{IsPrepared}
+use Rattle.order_sift.specs.inner.Classes.{AreClasses, AreMarks}
+use Rattle.order_sift.specs.inner.Pairs.{AreBelow}
+use Rattle.order_sift.specs.inner.Points.{IsPrepared}
 use Rattle.order_sift.proofs.Leveling.{level_by_marks, marks_few, marks_low}
 use Rattle.order_sift.proofs.points.level_of.Goals as goal
 
@@ -19,14 +19,14 @@ read m points item from got shown prepared low at there is =
 
 pub level-requires-clause-few : goal.level-requires-clause-few
 level-requires-clause-few c =
-    let long = ap (λ (xs : List ℕ). length xs) c.as_slice.ensures ∙ c.requires.long in
+    let long = ap (λ (xs : List ℕ). length xs) c.as_slice.ensures ∙ c.requires.numbers.long in
     let few = c.requires.few in
     omega arith
 
 pub level-requires-clause-marks : goal.level-requires-clause-marks
 level-requires-clause-marks c =
     let m = c.args.m.now in
-    let long = ap (λ (xs : List ℕ). length xs) c.as_slice.ensures ∙ c.requires.long in
+    let long = ap (λ (xs : List ℕ). length xs) c.as_slice.ensures ∙ c.requires.numbers.long in
     subst (λ (n : ℕ). AreBelow n c.as_slice-2.result.now) (sym long)
     (marks_low m c.args.item c.as_slice-2.result.now (read m c.args.points.now c.args.item
     c.from-place.result c.get-marks.result.now c.as_slice-2.result.now c.requires.prepared

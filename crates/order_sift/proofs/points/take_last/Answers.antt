@@ -1,8 +1,8 @@
-use Rattle.std.proofs.Common.{◌≡◌, ◌∙◌, ⊎_elim, ◌+◌, ◌-◌, ◌*◌, ◌<◌, ℕ, List, length, slice_index, slice_set, get_or-set_other, get_or-set_same, arith, sym, ap, subst}
+use Rattle.std.proofs.Common.{◌≡◌, ◌∙◌, ⊎_elim, ◌+◌, ◌-◌, ◌*◌, ◌<◌, ℕ, List, length, slice_index, slice_set, get_or-set_other, get_or-set_same, arith, refl, sym, ap, subst}
 use Rattle.std.proofs.lemmas.Bool.{cases_lt}
 use Rattle.std.proofs.lemmas.List.{length-set}
 use Rattle.std.proofs.lemmas.Option.{get_or_from_slice_get}
-use Rattle.order_sift.specs.Pairs.{AreBelow}
+use Rattle.order_sift.specs.inner.Pairs.{AreBelow}
 use Rattle.order_sift.proofs.Keying.{below_set}
 use Rattle.order_sift.proofs.points.take_last.Goals as goal
 use Rattle.order_sift.proofs.points.take_last.Goals.{then-codes-i, else-codes-i}
@@ -93,3 +93,18 @@ loop-t-preserved c =
                 (cases_lt i p);
           }
     ]
+
+pub loop-t-init : goal.loop-t-init
+loop-t-init c =
+    let numbers = c.requires.numbers in
+    record {
+      long = numbers.long;
+      below = numbers.below;
+      kept = λ p lp. refl;
+      each = λ p lp high. absurd (omega arith);
+    }
+
+pub returns-clause-numbers : goal.returns-clause-numbers
+returns-clause-numbers c =
+    let inv = c.loop-t.invariant in
+    record { long = inv.long; below = inv.below }

@@ -1,5 +1,5 @@
 use Rattle.std.proofs.Common.{◌≡◌, ◌+◌, ◌-◌, ◌*◌, ◌<◌, ◌≤◌, ℕ, length, slice_index}
-use Rattle.order_sift.specs.Pairs.{AreBelow}
+use Rattle.order_sift.specs.inner.Pairs.{AreBelow}
 use Rattle.order_sift.proofs.points.take_last.Given as goal
 
 abbrev pub invariant-loop-t : goal.invariant-loop-t

@@ -1,5 +1,5 @@
 use Rattle.std.proofs.Common.{◌≡◌, ◌<◌, ℕ, [], length, get_or}
-use Rattle.order_sift.specs.Classes.{AreMarks}
+use Rattle.order_sift.specs.inner.Classes.{AreMarks}
 use Rattle.order_sift.proofs.prepare.all_marks.Given as goal
 
 abbrev pub invariant-loop-item : goal.invariant-loop-item

@@ -1,7 +1,7 @@
 use Rattle.std.proofs.Common.{◌≡◌, ◌<◌, ℕ, length, slice_index}
 use Rattle.transition_table.specs.Computed.{result_code}
-use Rattle.order_sift.specs.Classes.{snapshot_at}
-use Rattle.order_sift.specs.Pairs.{AreBelow}
+use Rattle.order_sift.specs.inner.Classes.{snapshot_at}
+use Rattle.order_sift.specs.inner.Pairs.{AreBelow}
 use Rattle.order_sift.proofs.prepare.codes_of_result.Given as goal
 
 abbrev pub invariant-loop-i : goal.invariant-loop-i

@@ -1,8 +1,8 @@
 use Rattle.std.proofs.Common.{◌≡◌, ◌<◌, ℕ, [], length, get_or, slice_index}
 use Rattle.domains.specs.Tables.{product}
 use Rattle.transition_table.specs.Computed.{result_code}
-use Rattle.order_sift.specs.Classes.{snapshot_at}
-use Rattle.order_sift.specs.Pairs.{AreBelow}
+use Rattle.order_sift.specs.inner.Classes.{snapshot_at}
+use Rattle.order_sift.specs.inner.Pairs.{AreBelow}
 use Rattle.order_sift.proofs.prepare.codes_of_results.Given as goal
 
 abbrev pub invariant-loop-y : goal.invariant-loop-y

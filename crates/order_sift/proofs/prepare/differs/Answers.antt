@@ -1,9 +1,9 @@
 use Rattle.std.proofs.Common.{◌≡◌, ◌∙◌, ◌+◌, ◌-◌, ◌*◌, ◌==◌, not, slice_index, sym, ap}
 use Rattle.std.proofs.lemmas.Bool.{ne_eqb}
 use Rattle.polis_base.specs.Lists.{upto}
-use Rattle.order_sift.proofs.Codes.{some_upto}
 use Rattle.order_sift.proofs.Differing.{any_item}
 use Rattle.order_sift.proofs.prepare.differs.Goals as goal
+use Rattle.char_function.proofs.Supporting.{get_upto}
 
 pub returns-then-outcomes-neighbour : goal.returns-then-outcomes-neighbour
 returns-then-outcomes-neighbour c =
@@ -17,6 +17,6 @@ returns-then-outcomes-neighbour c =
     ap (slice_index outcomes) c.neighbour.ensures in
     sym (any_item (λ k.
     not (slice_index outcomes (i + k * stride - own * stride) == slice_index outcomes i))
-    (upto c.args.size) code code (some_upto c.args.size code c.loop-code-test.true)
+    (upto c.args.size) code code (get_upto c.args.size code c.loop-code-test.true)
     (ap not (ne_eqb (slice_index outcomes (i + code * stride - own * stride))
     (slice_index outcomes i) (λ e. c.if-outcomes-neighbour.true (at ∙ e)))))

@@ -1,5 +1,5 @@
 use Rattle.std.proofs.Common.{◌≡◌, ◌+◌, ◌-◌, ℕ, length, arith, subst}
-use Rattle.order_sift.specs.Classes.{AreMarks}
+use Rattle.order_sift.specs.inner.Classes.{AreMarks}
 use Rattle.order_sift.proofs.prepare.marks_of.Goals as goal
 
 pub returns : goal.returns

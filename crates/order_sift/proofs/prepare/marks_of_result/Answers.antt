@@ -2,7 +2,7 @@ use Rattle.std.proofs.Common.{◌≡◌, ◌∙◌, ◌+◌, ◌<◌, ◌++◌, 
 use Rattle.std.proofs.lemmas.Bool.{le-leb, lt-leb}
 use Rattle.std.proofs.lemmas.Option.{get_or_from_slice_get}
 use Rattle.domains.specs.Tables.{product}
-use Rattle.order_sift.specs.Classes.{matters}
+use Rattle.order_sift.specs.inner.Classes.{matters}
 use Rattle.order_sift.proofs.Counting.{passes_more, passes_not}
 use Rattle.order_sift.proofs.Preparing.{matters_result}
 use Rattle.order_sift.proofs.prepare.marks_of_result.Goals as goal

@@ -1,17 +1,18 @@
 use Rattle.std.proofs.Common.{◌≡◌, ◌∙◌, ◌+◌, ◌<◌, ◌++◌, ◌∷◌, [], ℕ, true, List, length, get_or, slice_index, arith, sym, ap, subst}
 use Rattle.std.proofs.lemmas.Option.{get_or_from_slice_get}
 use Rattle.domains.specs.Tables.{product}
-use Rattle.order_sift.specs.Classes.{snapshot_at, matters}
-use Rattle.order_sift.specs.Points.{AreOutcomes}
+use Rattle.order_sift.specs.inner.Classes.{snapshot_at, matters}
+use Rattle.order_sift.specs.inner.Points.{AreOutcomes}
 use Rattle.order_sift.proofs.Counting.{passes_more, passes_not}
 use Rattle.order_sift.proofs.Preparing.{matters_var}
-use Rattle.order_sift.proofs.Stepping.{drop_below, within_of}
+use Rattle.order_sift.proofs.Stepping.{within_of}
 use Rattle.order_sift.proofs.prepare.marks_of_variable.Goals as goal
 use Rattle.order_sift.proofs.prepare.marks_of_variable.Goals.{then-differs+in_ok-push, else-differs}
+use Rattle.outcome_table.proofs.Columns.{product_after}
 
 pub lists_from-stride-requires-clause-few : goal.lists_from-stride-requires-clause-few
 lists_from-stride-requires-clause-few c =
-    let d = drop_below c.args.m.now.vars (c.args.v + 1) c.var_count.ensures.sizes in
+    let d = product_after c.args.m.now.vars (c.args.v + 1) c.var_count.ensures.sizes in
     let few = c.requires.few in
     omega arith
 
@@ -23,7 +24,7 @@ differs-requires-clause-few c =
 
 pub differs-requires-clause-stride : goal.differs-requires-clause-stride
 differs-requires-clause-stride c =
-    let d = drop_below c.args.m.now.vars (c.args.v + 1) c.var_count.ensures.sizes in
+    let d = product_after c.args.m.now.vars (c.args.v + 1) c.var_count.ensures.sizes in
     let is = c.lists_from-stride.ensures in
     let few = c.requires.few in
     omega arith

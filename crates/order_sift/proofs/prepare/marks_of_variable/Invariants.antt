@@ -1,7 +1,7 @@
 use Rattle.std.proofs.Common.{◌≡◌}
 use Rattle.std.specs.Prelude.{filter}
 use Rattle.polis_base.specs.Lists.{upto}
-use Rattle.order_sift.specs.Classes.{matters}
+use Rattle.order_sift.specs.inner.Classes.{matters}
 use Rattle.order_sift.proofs.prepare.marks_of_variable.Given as goal
 
 abbrev pub invariant-loop-i : goal.invariant-loop-i

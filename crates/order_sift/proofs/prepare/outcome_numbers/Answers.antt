@@ -3,8 +3,8 @@ use Rattle.std.specs.Prelude.{◌↔◌}
 use Rattle.std.proofs.lemmas.Option.{get_or_from_slice_get}
 use Rattle.domains.specs.Tables.{product}
 use Rattle.transition_table.specs.Computed.{result_code}
-use Rattle.order_sift.specs.Classes.{snapshot_at}
-use Rattle.order_sift.specs.Pairs.{AreBelow}
+use Rattle.order_sift.specs.inner.Classes.{snapshot_at}
+use Rattle.order_sift.specs.inner.Pairs.{AreBelow}
 use Rattle.order_sift.proofs.Keying.{room_kept}
 use Rattle.order_sift.proofs.Preparing.{tell_result, same_outcomes}
 use Rattle.order_sift.proofs.prepare.outcome_numbers.Goals as goal
@@ -39,7 +39,7 @@ loop-y-preserved c =
     × (slice_index c.as_slice-after.result.now i ≡ slice_index c.as_slice-after.result.now j)))
     c.as_slice-before.ensures whole in
     record {
-      room = room_kept n _ _ c.joined.auto.seen inv.room;
+      room = room_kept n _ _ c.paired.auto.seen inv.room;
       long = c.in_ok-next.ensures.long ∙ wide;
       below = subst (λ (k : ℕ). AreBelow k next) wide c.in_ok-next.ensures.below;
       same = tell_result n y c.loop-y.made next c.as_slice-after.result.now

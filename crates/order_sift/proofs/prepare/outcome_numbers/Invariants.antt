@@ -2,8 +2,8 @@ use Rattle.std.proofs.Common.{◌≡◌, ◌<◌, ℕ, length, slice_index}
 use Rattle.std.specs.Prelude.{◌↔◌}
 use Rattle.domains.specs.Tables.{product}
 use Rattle.transition_table.specs.Computed.{result_code}
-use Rattle.order_sift.specs.Classes.{snapshot_at}
-use Rattle.order_sift.specs.Pairs.{AreBelow, HasRoom}
+use Rattle.order_sift.specs.inner.Classes.{snapshot_at}
+use Rattle.order_sift.specs.inner.Pairs.{AreBelow, HasRoom}
 use Rattle.order_sift.proofs.prepare.outcome_numbers.Given as goal
 
 abbrev pub invariant-loop-y : goal.invariant-loop-y

@@ -1,5 +1,5 @@
 use Rattle.std.proofs.Common.{◌∙◌, sym, subst}
-use Rattle.order_sift.specs.Points.{AreVariables}
+use Rattle.order_sift.specs.inner.Points.{AreVariables}
 use Rattle.order_sift.proofs.Preparing.{numbers_long, variables_of}
 use Rattle.order_sift.proofs.prepare.prepare.Goals as goal
 

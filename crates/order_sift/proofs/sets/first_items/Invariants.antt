@@ -1,6 +1,6 @@
 use Rattle.std.proofs.Common.{◌≡◌, ℕ, take}
 use Rattle.decision_diagram.specs.Sets.{stands}
-use Rattle.order_sift.specs.Known.{in_set}
+use Rattle.order_sift.specs.inner.Known.{in_set}
 use Rattle.order_sift.proofs.sets.first_items.Given as goal
 
 abbrev pub invariant-loop-k : goal.invariant-loop-k

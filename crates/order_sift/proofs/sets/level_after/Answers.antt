@@ -1,6 +1,11 @@
 use Rattle.order_sift.proofs.Knowing.{levels_more}
-use Rattle.order_sift.specs.Known.{in_set}
+use Rattle.order_sift.specs.inner.Known.{in_set}
 use Rattle.order_sift.proofs.sets.level_after.Goals as goal
+
+pub level_of-level-requires-clause-numbers : goal.level_of-level-requires-clause-numbers
+level_of-level-requires-clause-numbers c =
+    let classes = c.requires.classes in
+    record { long = classes.long; below = classes.below }
 
 pub returns-then-place-len-clause-few : goal.returns-then-place-len-clause-few
 returns-then-place-len-clause-few c =

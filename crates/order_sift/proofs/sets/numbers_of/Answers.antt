@@ -1,8 +1,13 @@
 use Rattle.std.proofs.Common.{◌∙◌, List, ℕ, sym, subst}
-use Rattle.order_sift.specs.Classes.{AreClasses}
-use Rattle.order_sift.specs.Known.{in_set}
+use Rattle.order_sift.specs.inner.Classes.{AreClasses}
+use Rattle.order_sift.specs.inner.Known.{in_set}
 use Rattle.order_sift.proofs.Knowing.{numbers_more}
 use Rattle.order_sift.proofs.sets.numbers_of.Goals as goal
+
+pub freed-requires-clause-numbers : goal.freed-requires-clause-numbers
+freed-requires-clause-numbers c =
+    let classes = c.requires.classes in
+    record { long = classes.long; below = classes.below }
 
 pub returns-then-place-ge-KEPT-clause-numbers : goal.returns-then-place-ge-KEPT-clause-numbers
 returns-then-place-ge-KEPT-clause-numbers c =

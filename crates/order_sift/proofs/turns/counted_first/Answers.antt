@@ -12,8 +12,8 @@ get-count-requires c =
     let b = c.in_ok-chain.ensures.chain.long_backs in
     omega arith
 
-pub returns-clause-counted : goal.returns-clause-counted
-returns-clause-counted c =
+pub returns-clause-at : goal.returns-clause-at
+returns-clause-at c =
     let m = c.args.m.now in
     let o = c.args.order in
     let chain = c.in_ok-chain.chain in
@@ -25,4 +25,8 @@ returns-clause-counted c =
     c.in_ok-chain.ensures.chain
     ∙ laws.size_by_sets (char m) (sizes_of m) o c.requires.allowed.permutation
     c.requires.allowed.long c.laws_of_levels.ensures.sizes in
-    record { allowed = c.requires.allowed; counted = count }
+    record {
+      known = c.in_ok-chain.ensures.known;
+      counted = record { allowed = c.requires.allowed; counted = count };
+      chain = c.in_ok-chain.ensures.chain;
+    }

@@ -2,7 +2,7 @@ use Rattle.std.proofs.Common.{◌≡◌, ◌∷◌, map, slice_index, drop, leng
 use Rattle.decision_diagram.specs.Diagrams.{inner_at}
 use Rattle.sgraph.specs.declared.vertex.Vertex.TheVariants.{Begin}
 use Rattle.sgraph.specs.Building.{vertex_in}
-use Rattle.sgraph.specs.Marks.{turned}
+use Rattle.sgraph.specs.inner.Marks.{turned}
 use Rattle.sgraph.proofs.building.vertices_of.Given as goal
 
 abbrev pub invariant-loop-i : goal.invariant-loop-i

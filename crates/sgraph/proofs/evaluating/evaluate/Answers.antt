@@ -1,6 +1,7 @@
 use Rattle.std.proofs.Common.{◌≡◌, arith, subst, ℕ, sym}
-use Rattle.sgraph.specs.Walks.{MayWalk, width_of}
-use Rattle.sgraph.proofs.Doing.{may_walk, doing_start, doing_on, doing_ends}
+use Rattle.sgraph.specs.Walks.{width_of}
+use Rattle.sgraph.specs.inner.Walks.{MayWalk}
+use Rattle.sgraph.proofs.EvalSteps.{may_walk, doing_start, doing_on, doing_ends}
 use Rattle.sgraph.proofs.evaluating.evaluate.Goals as goal
 
 pub loop-next-init : goal.loop-next-init

@@ -1,7 +1,7 @@
 use Rattle.sgraph.proofs.Edges.{edges_order, edges_once}
 use Rattle.sgraph.proofs.Known.{Below}
-use Rattle.sgraph.proofs.Making.{edges_make_graph, fits_by_test}
-use Rattle.sgraph.proofs.Together.{built_is_right, graph_is_built, graph_is_right, numbered_goes_on}
+use Rattle.sgraph.proofs.EdgesMakeGraph.{edges_make_graph, fits_by_test}
+use Rattle.sgraph.proofs.RightGraphs.{built_is_right, graph_is_built, graph_is_right, numbered_goes_on}
 use Rattle.sgraph.proofs.law.laws.Goals as goal
 
 pub returns : goal.returns

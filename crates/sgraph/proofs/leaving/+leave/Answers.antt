@@ -1,4 +1,4 @@
-use Rattle.std.proofs.Common.{◌≡◌, ◌≤◌, ℕ, subst, length, slice_get, Some, true, false, arith, Bool}
+use Rattle.std.proofs.Common.{◌≡◌, ◌+◌, ◌≤◌, ℕ, subst, length, slice_get, Some, true, false, arith, Bool}
 use Rattle.sgraph.proofs.Following.{left_there, left_more, left_new, one_mark}
 use Rattle.sgraph.proofs.leaving.+leave.Goals as goal
 use Rattle.sgraph.proofs.leaving.+leave.Goals.{then-not-get+in_ok-leave, else-not-get}
@@ -53,6 +53,6 @@ pub returns-clause-marks : goal.returns-clause-marks
 returns-clause-marks t c =
     let node = c.requires.node in
     let long = c.loop-code.invariant.marks.long in
-    one_mark c.args.store.now c.args.k c.loop-code.marks c.set.new.self c.loop-code.left
+    one_mark (length c.args.store.now.nodes + 2) c.args.k c.loop-code.marks c.set.new.self c.loop-code.left
     c.push.new.self c.loop-code.invariant.marks (omega arith)
     (rw (← c.number-2.ensures) c.set.ensures) c.in_ok-push.ensures.ok

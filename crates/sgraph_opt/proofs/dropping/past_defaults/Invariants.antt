@@ -1,4 +1,4 @@
-use Rattle.sgraph_opt.specs.Representatives.{Dropping}
+use Rattle.sgraph_opt.specs.inner.Representatives.{Dropping}
 use Rattle.sgraph_opt.proofs.dropping.past_defaults.Given as goal
 
 -- the vertices from this one on have what stands for them

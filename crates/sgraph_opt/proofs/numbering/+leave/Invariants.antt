@@ -1,8 +1,7 @@
 use Rattle.std.proofs.Common.{◌≡◌, ◌-◌, take, length}
 use Rattle.sgraph.specs.Graphs.{each, left_after, kids_at}
-use Rattle.sgraph.specs.Marks.{turned}
-use Rattle.sgraph_opt.specs.Marks.{MarksOf}
-use Rattle.sgraph_opt.specs.Renumbering.{replaced}
+use Rattle.sgraph.specs.inner.Marks.{turned, Marks}
+use Rattle.sgraph_opt.specs.inner.Renumbering.{replaced}
 use Rattle.sgraph_opt.proofs.numbering.+leave.Given as goal
 
 -- what stands for those that follow stands after
@@ -15,5 +14,5 @@ invariant-loop-kid l = record {
   left : turned l.left
       ≡ each (left_after (length (replaced l.g l.reps)) (kids_at (replaced l.g l.reps)))
       (turned l.fn.left) (take l.kid-index (kids_at (replaced l.g l.reps) l.k));
-  marks : MarksOf (length (replaced l.g l.reps)) l.marks l.left;
+  marks : Marks (length (replaced l.g l.reps)) l.marks l.left;
 }

@@ -1,9 +1,9 @@
 use Rattle.std.proofs.Common.{◌≡◌, ◌+◌, ◌-◌, ◌∙◌, ap, drop, map, refl, slice_index, ℕ, arith}
 use Rattle.sgraph.specs.declared.vertex.Vertex.{Vertex}
 use Rattle.sgraph.specs.Graphs.{kids_of}
-use Rattle.sgraph.specs.Marks.{turned}
-use Rattle.sgraph_opt.specs.Representatives.{renamed}
-use Rattle.sgraph_opt.specs.Renumbering.{replaced, vertex_at}
+use Rattle.sgraph.specs.inner.Marks.{turned}
+use Rattle.sgraph_opt.specs.inner.Representatives.{renamed}
+use Rattle.sgraph_opt.specs.inner.Renumbering.{replaced, vertex_at}
 use Rattle.sgraph_opt.proofs.Arranging.{one_vertex}
 use Rattle.sgraph_opt.proofs.Replaced.{vertex_again, kid_low, rep_low}
 use Rattle.sgraph_opt.proofs.numbering.arrange.Goals as goal

@@ -1,6 +1,6 @@
 use Rattle.std.proofs.Common.{◌∙◌, subst, sym, arith}
 use Rattle.sgraph.specs.Facts.{IsGraph}
-use Rattle.sgraph_opt.specs.Renumbering.{replaced}
+use Rattle.sgraph_opt.specs.inner.Renumbering.{replaced}
 use Rattle.sgraph_opt.specs.Smaller.{Keeps}
 use Rattle.sgraph_opt.proofs.Arranging.{all_inside, is_numbered_of}
 use Rattle.sgraph_opt.proofs.Kept.{is_graph, keeps}

@@ -1,4 +1,4 @@
-use Rattle.sgraph_opt.specs.Choices.{Sharing}
+use Rattle.sgraph_opt.specs.inner.Choices.{Sharing}
 use Rattle.sgraph_opt.proofs.sharing.all_shared.Given as goal
 
 -- the vertices from this one on have what stands for them, and the index has those that stand for

@@ -1,10 +1,11 @@
-use Rattle.std.proofs.Common.{◌≡◌, ◌∙◌, slice_index, arith, sym, refl, subst}
+use Rattle.std.proofs.Common.{◌≡◌, ◌∙◌, length, slice_index, arith, sym, refl, subst, ap}
 use Rattle.task_code.specs.Codes.{start, given_by}
 use Rattle.sgraph.specs.Graphs.{kids_of}
 use Rattle.task_code.specs.Facts.{IsCode, OnceCode}
 use Rattle.task_code.proofs.Laying.{laid, same_given}
 use Rattle.task_code.proofs.Reading.{long_starts, start_at, one_vertex, all_vertices}
-use Rattle.task_code.proofs.Placing.{goes_on_from, is_code}
+use Rattle.sgraph.proofs.RightGraphs.{numbered_goes_on}
+use Rattle.task_code.proofs.LayoutIsCode.{is_code}
 use Rattle.task_code.proofs.Mirrored.{once_code}
 use Rattle.task_code.proofs.Lowering.{lowered_same}
 use Rattle.task_code.proofs.layout.lower.Goals as goal
@@ -39,7 +40,10 @@ of-requires c =
     let e : c.shrink.new.self ≡ laid g = c.shrink.ensures
     ∙ all_vertices (start g) g c.loop-k.code (laid g) c.loop-k.k c.loop-k.invariant
     (omega arith) in
-    subst IsCode (sym e) (is_code g c.len-k-end.ensures.graph)
+    let few = c.if-len-gt-CODE_MAX.false in
+    let count = c.len.ensures in
+    let long : length c.shrink.new.self ≡ length (laid g) = ap length e in
+    subst IsCode (sym e) (is_code g c.len-k-end.ensures.graph (omega arith))
 
 pub returns-clause-lowered : goal.returns-clause-lowered
 returns-clause-lowered c =
@@ -58,7 +62,7 @@ returns-clause-same c = λ m s.
     let e : c.of.result ≡ laid g = c.of.ensures ∙ c.shrink.ensures
     ∙ all_vertices (start g) g c.loop-k.code (laid g) c.loop-k.k c.loop-k.invariant
     (omega arith) in
-    lowered_same m g c.of.result s (goes_on_from g c.len-k-end.ensures.graph c.requires) e
+    lowered_same m g c.of.result s (numbered_goes_on g c.len-k-end.ensures.graph c.requires) e
 
 pub returns-clause-once : goal.returns-clause-once
 returns-clause-once c = λ once.
@@ -68,4 +72,4 @@ returns-clause-once c = λ once.
     let e : c.of.result ≡ laid g = c.of.ensures ∙ c.shrink.ensures
     ∙ all_vertices (start g) g c.loop-k.code (laid g) c.loop-k.k c.loop-k.invariant
     (omega arith) in
-    subst OnceCode (sym e) (once_code g (goes_on_from g c.len-k-end.ensures.graph c.requires) once)
+    subst OnceCode (sym e) (once_code g (numbered_goes_on g c.len-k-end.ensures.graph c.requires) once)

@@ -1,4 +1,4 @@
-use Rattle.task_code.proofs.Making.{made_more}
+use Rattle.task_code.proofs.LabelSteps.{made_more}
 use Rattle.task_code.proofs.listing.labels_of.Goals as goal
 
 pub loop-item-preserved : goal.loop-item-preserved

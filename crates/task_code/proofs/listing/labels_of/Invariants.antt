@@ -1,4 +1,4 @@
-use Rattle.task_code.proofs.Making.{Made}
+use Rattle.task_code.proofs.LabelSteps.{Made}
 use Rattle.task_code.proofs.listing.labels_of.Given as goal
 
 -- the first variables have their words

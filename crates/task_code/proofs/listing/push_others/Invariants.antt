@@ -1,6 +1,6 @@
 use Rattle.std.proofs.Common.{◌≡◌, ◌++◌, drop}
 use Rattle.task_code.specs.Listings.{label}
-use Rattle.task_code.specs.Labels.{others}
+use Rattle.task_code.specs.inner.Labels.{others}
 use Rattle.task_code.proofs.listing.push_others.Given as goal
 
 -- what is written, with what is left, is the whole

@@ -1,4 +1,4 @@
-use Rattle.task_machine.proofs.Joined.{lowered_fits, lowered_computes, few_steps}
+use Rattle.task_machine.proofs.LoweredLaws.{lowered_fits, lowered_computes, few_steps}
 use Rattle.task_machine.proofs.law.laws.Goals as goal
 
 pub returns-clause-lowered_fits : goal.returns-clause-lowered_fits

@@ -1,6 +1,6 @@
 use Rattle.std.proofs.Common.{length, refl}
 use Rattle.sgraph.specs.Walks.{width_of}
-use Rattle.task_machine.proofs.Outcomes.{zeros}
+use Rattle.sgraph.proofs.Outcomes.{zeros}
 use Rattle.task_machine.proofs.running.make_blank.Goals as goal
 
 pub returns-clause-blank : goal.returns-clause-blank

@@ -1,7 +1,7 @@
 use Rattle.std.proofs.Common.{◌≡◌, ◌∙◌, arith, subst, ℕ, sym}
-use Rattle.task_machine.specs.Running.{MayRun}
+use Rattle.task_machine.specs.inner.Running.{MayRun}
 use Rattle.sgraph.specs.Walks.{width_of}
-use Rattle.task_machine.proofs.Doing.{runnable, doing_start, doing_on, doing_ends, as_exec}
+use Rattle.task_machine.proofs.ExecSteps.{runnable, doing_start, doing_on, doing_ends, as_exec}
 use Rattle.task_machine.proofs.running.run.Goals as goal
 
 pub loop-next-init : goal.loop-next-init

@@ -1,7 +1,7 @@
 use Rattle.std.proofs.Common.{◌∙◌, sym, length, ◌<◌, ◌≡◌, subst, ℕ, List, slice_index, slice_get, Some}
 use Rattle.decision_diagram.proofs.Lists.{read}
-use Rattle.decision_diagram.proofs.Places.{place_below}
 use Rattle.decision_diagram.proofs.order.Order.place_of.Goals as goal
+use Rattle.domains.proofs.Places.{place_below}
 
 pub returns-clause-within : goal.returns-clause-within
 returns-clause-within c =

@@ -1,7 +1,8 @@
 use Rattle.std.proofs.Common.{◌≡◌, ◌≤◌, ◌+◌, ℕ, List, sym, ap, subst}
 use Rattle.domains.specs.Orders.{place}
 use Rattle.decision_diagram.specs.declared.operation.Operation.TheVariants.{And, Or}
-use Rattle.decision_diagram.specs.Diagrams.{Diagrams, AreReduced, HasNode, Keeps, Means, choice, level_of}
+use Rattle.decision_diagram.specs.Diagrams.{Diagrams, AreReduced, Keeps, Means, choice, level_of}
+use Rattle.decision_diagram.specs.inner.Diagrams.{HasNode}
 use Rattle.decision_diagram.specs.Keys.{Key, AreKeys, nodes_of}
 use Rattle.decision_diagram.specs.Stores.{diagrams}
 use Rattle.decision_diagram.proofs.Entering.{IsGrown, grown, grown_same, entered, entered_means, entered_level, with_keys}

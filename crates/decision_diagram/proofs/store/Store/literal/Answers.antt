@@ -5,9 +5,9 @@ use Rattle.decision_diagram.specs.Constants.{constant_node}
 use Rattle.decision_diagram.specs.Diagrams.{Diagrams, AreReduced, level_of, choice}
 use Rattle.decision_diagram.proofs.Fitting.{size_few}
 use Rattle.decision_diagram.proofs.Lists.{read}
-use Rattle.decision_diagram.proofs.Places.{place_below}
 use Rattle.decision_diagram.proofs.Meanings.{level_constant, means_as, literal_choice}
 use Rattle.decision_diagram.proofs.store.Store.literal.Goals as goal
+use Rattle.domains.proofs.Places.{place_below}
 
 -- what was read is the size of the variable
 size_read : (s : Diagrams) (sizes : List ℕ) (var at size : ℕ) → sizes ≡ s.sizes → at ≡ var

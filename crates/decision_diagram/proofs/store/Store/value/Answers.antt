@@ -1,14 +1,15 @@
 use Rattle.std.proofs.Common.{◌≡◌, ◌∙◌, ℕ, slice_index, sym, subst, refl, arith}
 use Rattle.decision_diagram.specs.declared.node.Shape.TheVariants.{Inner}
 use Rattle.decision_diagram.specs.Diagrams.{shape_of}
-use Rattle.decision_diagram.proofs.Fitting.{fits_long, fits_at}
+use Rattle.decision_diagram.proofs.Fitting.{fits_at}
 use Rattle.decision_diagram.proofs.Lists.{read}
 use Rattle.decision_diagram.proofs.Meanings.{level_at_most}
 use Rattle.decision_diagram.proofs.store.Store.value.Goals as goal
+use Rattle.domains.proofs.Ranks.{length-fits}
 
 pub get-requires : goal.get-requires
 get-requires c =
-    let long = fits_long c.args.self.now.sizes c.args.codes.now c.requires.codes in
+    let long = length-fits c.args.self.now.sizes c.args.codes.now c.requires.codes in
     let below = c.in-Inner.ensures.var c.in-Inner.var refl in
     omega arith
 

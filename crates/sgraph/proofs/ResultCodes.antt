@@ -1,0 +1,30 @@
+-- An outcome by the codes of its results, and back.
+use Rattle.std.proofs.Common.{◌≡◌, ℕ, zero, suc, ◌+◌, Bool, true, false, cond, ◌==◌, List, ◌∷◌, ◌++◌, take, drop, length, refl, ap, sym, ◌∙◌, arith, []}
+use Rattle.transition_table.specs.declared.machine.Machine.{Machine}
+use Rattle.transition_table.specs.declared.snapshot.Outcome.{Outcome}
+use Rattle.transition_table.specs.Orders.{codes_of}
+use Rattle.sgraph.specs.Graphs.{with_codes}
+use Rattle.decision_diagram.proofs.Joined.{drop_prefix}
+
+pub take_prefix : {X : Type 0} (xs ys : List X) (n : ℕ) → n ≡ length xs → take n (xs ++ ys) ≡ xs
+take_prefix [] ys zero e = refl
+take_prefix [] ys (suc n) e = absurd (omega arith)
+take_prefix (x ∷ xs) ys zero e = absurd (omega arith)
+take_prefix {X = X} (x ∷ xs) ys (suc n) e =
+    ap (λ (zs : List X). x ∷ zs) (take_prefix xs ys n (omega arith))
+
+fires_back : (b : Bool) → (cond b 1 0 == 1) ≡ b
+fires_back true = refl
+fires_back false = refl
+
+pub codes_back : (m : Machine) (o : Outcome) → length o.next ≡ length m.states
+    → with_codes m (codes_of o) ≡ o
+codes_back m o e =
+    let n : 1 + length m.states ≡ suc (length m.states) = omega arith in
+    let p : (cond o.fires 1 0 == 1) ≡ o.fires = fires_back o.fires in
+    let q : take (length m.states) (o.next ++ o.outs) ≡ o.next =
+    take_prefix o.next o.outs (length m.states) (sym e) in
+    let r : drop (1 + length m.states) (codes_of o) ≡ o.outs =
+    ap (λ (k : ℕ). drop k (codes_of o)) n
+    ∙ drop_prefix o.next o.outs (length m.states) (sym e) in
+    λ i. record { fires = p i; next = q i; outs = r i }

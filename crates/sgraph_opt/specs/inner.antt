@@ -1,0 +1,4 @@
+pub mod Choices
+pub mod Renumbering
+pub mod Representatives
+pub mod Shrinking

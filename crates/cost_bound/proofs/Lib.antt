@@ -1,0 +1,10 @@
+pub mod TailCosts
+pub mod WeightedSums
+pub mod UntestedVariables
+pub mod SnapshotsOfScores
+pub mod FirstScore
+pub mod CoversBound
+pub mod ScoreSteps
+pub mod Weights
+pub mod LabelSteps
+pub mod BoundsByTests

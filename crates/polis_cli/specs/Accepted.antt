@@ -1,13 +1,11 @@
 -- The texts that are accepted, and the conflicts of those that are not.
-use Rattle.std.specs.Prelude.{◌≡◌, ◌<◌, ℕ, List, slice_get, Some, ⊤}
+use Rattle.std.specs.Prelude.{◌≡◌, ◌<◌, ℕ, List, slice_get, Some}
 use Rattle.transition_table.specs.declared.machine.Machine.{Machine}
 use Rattle.transition_table.specs.declared.network.Network.{Network}
 use Rattle.transition_table.specs.declared.snapshot.Snapshot.{Snapshot}
 use Rattle.transition_table.specs.Transitions.{IsDeterministic, AreDeterministic}
 use Rattle.net_rules.specs.NetOf.{NetOf}
 use Rattle.determinism.specs.Conflicts.{IsLeastConflict}
-use Rattle.polis_words.specs.declared.cause.Cause.{Cause}
-use Rattle.polis_words.specs.declared.cause.Cause.TheVariants.{Conflict, NoMemory as Wanting}
 use Rattle.polis_words.specs.Texts.{conflict_text}
 
 -- the bytes are a text of the network, and each of its machines is deterministic
@@ -34,15 +32,3 @@ pub record IsFirstConflict (net : Network) (printed : List ℕ) : Type 0 where
   pub there : slice_get net.machines place ≡ Some machine
   pub before : AreBefore net place
   pub conflict : IsConflictIn net machine printed
-
--- why a machine of the network isn't said to be deterministic
-abbrev pub IsMachineFault : Network → Machine → Cause → Type 0
-IsMachineFault net machine (Conflict printed) = IsConflictIn net machine printed
-IsMachineFault net machine Wanting = ⊤
-IsMachineFault net machine other = ⊥
-
--- why the machines of the network aren't said to be deterministic
-abbrev pub IsConflictFault : Network → Cause → Type 0
-IsConflictFault net (Conflict printed) = IsFirstConflict net printed
-IsConflictFault net Wanting = ⊤
-IsConflictFault net other = ⊥

@@ -1,23 +1,20 @@
 -- What files hold, and why one isn't read or isn't accepted.
 use Rattle.std.specs.Prelude.{◌≡◌, ◌⊎◌, ℕ, ◌<◌, ◌≤◌, List, length, Some, None, Ok, Err, ⊤}
+use Rattle.polis_base.specs.declared.limits.TheConstants.{TEXT_MAX}
 use Rattle.polis_base.specs.Host.{Files, bytes_at}
 use Rattle.polis_base.specs.Tokens.{tokens_of}
 use Rattle.net_reader.specs.declared.raw.RawNet.{RawNet}
 use Rattle.net_reader.specs.Sentences.{HasNet, BreaksAt}
-use Rattle.net_judge.specs.Judged.{Breaks}
+use Rattle.rule_judge.specs.Judged.{Breaks}
 use Rattle.net_rules.specs.NetOf.{NetOf}
 use Rattle.transition_table.specs.declared.network.Network.{Network}
 use Rattle.journals.specs.declared.entry.TraceItem.{TraceItem}
 use Rattle.trace_text.specs.declared.fault.TraceFault.TheVariants.{Line as FaultyLine}
 use Rattle.trace_text.specs.Traces.{trace_of}
 use Rattle.polis_words.specs.declared.cause.Cause.{Cause}
-use Rattle.polis_words.specs.declared.cause.Cause.TheVariants.{ReadFault as Unread, Absent, TooLong, Lex, Syntax, Rule, Conflict, TraceLine, NoMemory as Wanting}
+use Rattle.polis_words.specs.declared.cause.Cause.TheVariants.{ReadFault as Unread, Absent, TooLong, Lex, Syntax, Rule, Conflict, TraceLine}
 use Rattle.polis_words.specs.Lines.{lex_error}
 use Rattle.polis_cli.specs.Accepted.{Accepted, IsFirstConflict}
-
--- the most bytes of a network text and of a trace text
-abbrev pub text_max : ℕ
-text_max = 4194304
 
 -- a text of at most so many bytes is held under the name
 pub record HoldsText (files : Files) (max : ℕ) (name text : List ℕ) : Type 0 where
@@ -27,24 +24,23 @@ pub record HoldsText (files : Files) (max : ℕ) (name text : List ℕ) : Type 0
 -- a network text is held under the name, within its limit, and accepted
 pub record HoldsNet (files : Files) (name : List ℕ) (net : Network) : Type 0 where
   pub text : List ℕ
-  pub holds : HoldsText files text_max name text
+  pub holds : HoldsText files TEXT_MAX name text
   pub accepted : Accepted text net
 
 -- a trace text of the network is held under the name, within its limit, and read
 pub record HoldsTrace (files : Files) (name : List ℕ) (net : Network) (trace : List TraceItem) :
     Type 0 where
   pub text : List ℕ
-  pub holds : HoldsText files text_max name text
+  pub holds : HoldsText files TEXT_MAX name text
   pub read : trace_of net text ≡ Ok trace
 
--- Why a file isn't loaded: the load failed, nothing is held under the name, more than so many bytes
--- are, or memory ran out.
+-- Why a file isn't loaded: the load failed, nothing is held under the name, or more than so many
+-- bytes are.
 abbrev pub LoadFails : Files → ℕ → List ℕ → Cause → Type 0
 LoadFails files max name Unread = ⊤
 LoadFails files max name Absent = bytes_at files name ≡ None
 LoadFails files max name TooLong =
     (text : List ℕ) × (bytes_at files name ≡ Some text) × (max < length text)
-LoadFails files max name Wanting = ⊤
 LoadFails files max name other = ⊥
 
 -- What a network text says where this is why it isn't accepted: its tokens don't read, they are no
@@ -58,24 +54,22 @@ IsNetFault text (Rule rule place) =
 IsNetFault text (Conflict printed) =
     (net : Network) × NetOf text net
     × ((other : Network) → NetOf text other → IsFirstConflict other printed)
-IsNetFault text Wanting = ⊤
 IsNetFault text other = ⊥
 
 -- what a trace text of the network says where this is why it isn't read: a line is at fault
 abbrev pub IsTraceFault : Network → List ℕ → Cause → Type 0
 IsTraceFault net text (TraceLine line kind) = trace_of net text ≡ Err (FaultyLine line kind)
-IsTraceFault net text Wanting = ⊤
 IsTraceFault net text other = ⊥
 
 -- why the network text of this name isn't loaded or isn't accepted
 abbrev pub NetFails : Files → List ℕ → Cause → Type 0
-NetFails files name cause = LoadFails files text_max name cause
-    ⊎ ((text : List ℕ) × HoldsText files text_max name text × IsNetFault text cause)
+NetFails files name cause = LoadFails files TEXT_MAX name cause
+    ⊎ ((text : List ℕ) × HoldsText files TEXT_MAX name text × IsNetFault text cause)
 
 -- why the trace text of this name isn't loaded or isn't read as one of the network
 abbrev pub TraceFails : Files → Network → List ℕ → Cause → Type 0
-TraceFails files net name cause = LoadFails files text_max name cause
-    ⊎ ((text : List ℕ) × HoldsText files text_max name text × IsTraceFault net text cause)
+TraceFails files net name cause = LoadFails files TEXT_MAX name cause
+    ⊎ ((text : List ℕ) × HoldsText files TEXT_MAX name text × IsTraceFault net text cause)
 
 -- Why one of a network text and a trace text of it fails. The network text comes first: the trace
 -- is loaded only where it is accepted.

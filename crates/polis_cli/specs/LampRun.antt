@@ -1,8 +1,9 @@
 -- A call on the lamp and one press: its words, and the files before and after it.
 use Rattle.std.specs.Prelude.{ℕ, List, [], ◌∷◌, ◌++◌, codes}
 use Rattle.std.specs.FinMap.{empty, insert}
+use Rattle.polis_base.specs.declared.limits.TheConstants.{ENTRIES_MAX}
 use Rattle.polis_base.specs.Host.{Files}
-use Rattle.polis_words.specs.Run.{RunWords, entry_max}
+use Rattle.polis_words.specs.Run.{RunWords}
 use Rattle.journal_text.specs.Texts.{line}
 use Rattle.net_reader.specs.Samples.{lamp_text}
 use Rattle.journals.specs.Samples.{lamp, lamp_run}
@@ -19,7 +20,7 @@ lamp_asked = record {
   trace = codes "trc";
   stem = codes "o";
   workers = 1;
-  limit = entry_max;
+  limit = ENTRIES_MAX;
 }
 
 abbrev pub files_before : Files

@@ -3,14 +3,13 @@ use Rattle.std.specs.Prelude.{◌≡◌, ◌≢◌, ◌⊎◌, ℕ, false, List,
 use Rattle.polis_base.specs.Host.{Files, Changes, Rose, WhereTold}
 use Rattle.polis_base.specs.declared.host.Host.{Ghosts}
 use Rattle.polis_words.specs.declared.requests.Request.{Request}
-use Rattle.polis_words.specs.declared.requests.Request.TheVariants.{Demo}
 use Rattle.polis_words.specs.declared.status.Status.{Status}
-use Rattle.polis_words.specs.declared.status.Status.TheVariants.{Done, Usage, ReadFault, Refused, WriteFault, NoMemory, Illegal}
-use Rattle.polis_words.specs.Demo.{DemoWords}
+use Rattle.polis_words.specs.declared.status.Status.TheVariants.{Usage, ReadFault, Refused, WriteFault, NoMemory}
 use Rattle.polis_words.specs.Requests.{Asks, AsksNothing}
-use Rattle.polis_cli.specs.Commands.{Accepts, IsIllegal, ends_with}
-use Rattle.polis_cli.specs.Writing.{is_end}
-use Rattle.polis_cli.specs.Top.{MadeAndWritten, Stands, LeavesUnwritten, ShowsLine, is_refusal}
+use Rattle.polis_cli.specs.Meanings.{Meaning, MayEnd, is_finding}
+use Rattle.polis_cli.specs.Commands.{meaning}
+use Rattle.polis_cli.specs.Ends.{is_end}
+use Rattle.polis_cli.specs.Top.{MadeAndWritten, SavesSome, LeavesUnwritten, ShowsLine, is_refusal}
 
 -- what a host tells at a moment, and its counts of faults
 pub record Outside : Type 0 where
@@ -40,19 +39,14 @@ pub record Ended (status : Status) (words : List (List ℕ)) (old new : Outside)
   pub load_faults : new.load_faults ≡ old.load_faults
   pub write_faults : new.write_faults ≡ old.write_faults
 
--- P of the request that the command line asks for and the files, where they are told
-abbrev pub OfRequest : List (List ℕ) → Outside → (Request → Files → Type 0) → Type 0
+-- P of what the command line asks for and of the files, where they are told
+abbrev pub OfRequest : List (List ℕ) → Outside → (Meaning → Files → Type 0) → Type 0
 OfRequest words old P = WhereTold old.files (λ before. (request : Request) → Asks words request
-    → P request before)
+    → P (meaning request) before)
 
 -- a failed load and running out of memory, by which a call may end in place of another status
 abbrev pub IsCut : Status → Type 0
 IsCut status = (status ≡ ReadFault) ⊎ (status ≡ NoMemory)
-
--- a status of a failure, with which each request may end
-abbrev pub IsFailure : Status → Type 0
-IsFailure status =
-    (status ≡ ReadFault) ⊎ (status ≡ Refused) ⊎ (status ≡ WriteFault) ⊎ (status ≡ NoMemory)
 
 -- The status of a call, and when it comes.
 pub record Answers (status : Status) (words : List (List ℕ)) (old new : Outside) : Type 0 where
@@ -66,35 +60,31 @@ pub record Answers (status : Status) (words : List (List ℕ)) (old new : Outsid
   pub write_fault : status ≡ WriteFault → WriteFailed old new
   -- Refused exactly where a file isn't held, is too long or isn't accepted, but for a failed load
   -- and running out of memory.
-  pub refused_only : status ≡ Refused
-      → OfRequest words old (λ request before. ¬ Accepts request before)
-  pub refused_there : OfRequest words old (λ request before. ¬ Accepts request before
+  pub refused_only : status ≡ Refused → OfRequest words old (λ m before. ¬ m.accepts before)
+  pub refused_there : OfRequest words old (λ m before. ¬ m.accepts before
       → (status ≡ Refused) ⊎ IsCut status)
-  -- Illegal exactly where the request judges a journal that isn't legal or has stamps that aren't
-  -- rising, but for a failed load and running out of memory.
-  pub illegal_only : status ≡ Illegal
-      → OfRequest words old (λ request before. IsIllegal request before)
-  pub illegal_there : OfRequest words old (λ request before. IsIllegal request before
-      → (status ≡ Illegal) ⊎ IsCut status)
-  -- Where its files are accepted a request is done, but for a fault and running out of memory.
-  pub done_there : OfRequest words old (λ request before. Accepts request before
-      → IsTrue (ends_with request status) ⊎ (status ≡ WriteFault) ⊎ IsCut status)
-  -- A demo reads no file: it is done, but for a fault of writing and running out of memory.
-  pub demo : (demo : DemoWords) → Asks words (Demo demo)
-      → (status ≡ Done) ⊎ (status ≡ WriteFault) ⊎ (status ≡ NoMemory)
-  -- Whatever the host tells, the status is one with which what is asked for ends where its files
-  -- are accepted, or that of a failure.
-  pub ends : (request : Request) → Asks words request
-      → IsTrue (ends_with request status) ⊎ IsFailure status
+  -- Illegal, as each status of a finding, exactly where that is found of the files, but for a
+  -- failed load and running out of memory.
+  pub found_only : IsTrue (is_finding status)
+      → OfRequest words old (λ m before. m.finds status before)
+  pub found_there : (finding : Status) → OfRequest words old (λ m before. m.finds finding before
+      → (status ≡ finding) ⊎ IsCut status)
+  -- Where its files are accepted a request ends with one of its statuses, but for a fault and
+  -- running out of memory.
+  pub done_there : OfRequest words old (λ m before. m.accepts before
+      → IsTrue (m.ends status) ⊎ (status ≡ WriteFault) ⊎ IsCut status)
+  -- Whatever the host tells, the status is one of those, or that of a failure: one that reads no
+  -- file fails by a fault of writing or by running out of memory alone.
+  pub ends : (request : Request) → Asks words request → MayEnd (meaning request) status
 
 -- What a call leaves and shows.
 pub record Leaves (status : Status) (words : List (List ℕ)) (old new : Outside) : Type 0 where
-  -- A refusal leaves the files as they were. Where memory ran out some saves of a product may
-  -- stand, from the first on.
+  -- A refusal leaves the files as they were. Where memory ran out some saves of a product may be
+  -- held, from the first on.
   pub kept : IsTrue (is_refusal status) → new.files ≡ old.files
-  pub stands : status ≡ NoMemory → Changes old.files new.files (Stands words)
-  -- Where writing failed, what was saved before stands, and the line of what failed was shown, or a
-  -- prefix of it.
+  pub some : status ≡ NoMemory → Changes old.files new.files (SavesSome words)
+  -- Where writing failed, what was saved before is held, and the line of what failed was shown, or
+  -- a prefix of it.
   pub unwritten : status ≡ WriteFault → LeavesUnwritten words (WriteFailed old new) old.files
       new.files old.shown new.shown
   -- Any other status shows its line, or a prefix of it.

@@ -6,9 +6,10 @@ use Rattle.polis_words.specs.declared.cause.Cause.{Cause}
 use Rattle.polis_words.specs.declared.status.Status.{Status}
 use Rattle.polis_words.specs.declared.status.Status.TheVariants.{Usage, ReadFault, Refused, NoMemory, Illegal, Differ}
 use Rattle.polis_words.specs.Requests.{Asks}
-use Rattle.polis_words.specs.Lines.{status_of, failure_line}
+use Rattle.polis_words.specs.Lines.{cause_status, cause_line}
 use Rattle.polis_cli.specs.declared.product.Product.{Product}
-use Rattle.polis_cli.specs.Commands.{Makes, Fails}
+use Rattle.polis_cli.specs.Commands.{meaning}
+use Rattle.polis_cli.specs.Ends.{end_status}
 use Rattle.polis_cli.specs.Saves.{IsOther, AreHeld, MadeSome}
 use Rattle.polis_cli.specs.Shown.{ShowsPrefix}
 use Rattle.polis_cli.specs.Writing.{FailsToWrite}
@@ -20,20 +21,20 @@ pub record MadeAndWritten (status : Status) (words : List (List ℕ)) (before no
   pub request : Request
   pub asked : Asks words request
   pub product : Product
-  pub made : Makes request before product
-  pub ends : status ≡ product.status
+  pub made : (meaning request).makes before product
+  pub ends : status ≡ end_status product.end
   pub saved : AreHeld now product.saves
   pub other_names : (name : List ℕ) → IsOther name product.saves
       → bytes_at now name ≡ bytes_at before name
   pub shown : Changes shown_before shown_now (λ old new. new ≡ old ++ product.shown)
 
--- What stands where memory ran out: the files as they were, or some of the saves of one product,
+-- What is held where memory ran out: the files as they were, or some of the saves of one product,
 -- from the first on in order.
-abbrev pub Stands : List (List ℕ) → Files → Files → Type 0
-Stands words before now =
+abbrev pub SavesSome : List (List ℕ) → Files → Files → Type 0
+SavesSome words before now =
     (now ≡ before)
-    ⊎ ((request : Request) × (product : Product) × Asks words request × Makes request before product
-    × MadeSome product.saves before now)
+    ⊎ ((request : Request) × (product : Product) × Asks words request
+    × (meaning request).makes before product × MadeSome product.saves before now)
 
 -- One product was made of what the files held, and writing it failed.
 pub record LeavesUnwritten (words : List (List ℕ)) (rose : Type 0) (before now : Option Files)
@@ -41,7 +42,7 @@ pub record LeavesUnwritten (words : List (List ℕ)) (rose : Type 0) (before now
   pub request : Request
   pub asked : Asks words request
   pub product : Product
-  pub made : WhereTold before (λ files. Makes request files product)
+  pub made : WhereTold before (λ files. (meaning request).makes files product)
   pub fails : FailsToWrite product rose before now shown_before shown_now
 
 -- the status is one of those that leave the files as they were
@@ -53,17 +54,17 @@ is_refusal Illegal = true
 is_refusal Differ = true
 is_refusal other = false
 
--- the line is that of a file that isn't read or isn't accepted, or whose journal isn't legal, with
--- this status, and the files say so
+-- the line is that of a file that isn't read or isn't accepted, or of which something is found,
+-- with this status, and the files say so
 pub record HasCause (status : Status) (words : List (List ℕ)) (before : Option Files)
     (line : List ℕ) : Type 0 where
   pub request : Request
   pub asked : Asks words request
   pub name : List ℕ
   pub cause : Cause
-  pub status_is : status_of cause ≡ status
-  pub line_is : line ≡ failure_line name cause
-  pub fails : WhereTold before (λ files. Fails request files name cause)
+  pub status_is : cause_status cause ≡ status
+  pub line_is : line ≡ cause_line name cause
+  pub fails : WhereTold before (λ files. (meaning request).fails files name cause)
 
 -- the line is that of the status, and says why
 abbrev pub IsLineOf : Status → List (List ℕ) → Option Files → List ℕ → Type 0
@@ -71,6 +72,7 @@ IsLineOf Usage words before line = line ≡ codes "usage"
 IsLineOf ReadFault words before line = HasCause ReadFault words before line
 IsLineOf Refused words before line = HasCause Refused words before line
 IsLineOf Illegal words before line = HasCause Illegal words before line
+IsLineOf Differ words before line = HasCause Differ words before line
 IsLineOf NoMemory words before line = line ≡ codes "no memory"
 IsLineOf other words before line = ⊥
 

@@ -1,27 +1,57 @@
 // The network of a text that is accepted.
-ghost use Rattle.std.specs.Prelude.{◌≡◌, IfOk, IfErr, OnOk, IsTrue, ◌≢◌};
+ghost use Rattle.std.specs.Prelude.{◌≡◌, IfOk, IfErr, OnOk, IsTrue};
 ghost use Rattle.transition_table.specs.NetworkFacts.{has_vars};
 ghost use Rattle.transition_table.specs.Transitions.{IsDeterministic, AreDeterministic};
 ghost use Rattle.transition_table.specs.declared.network.Network.{Network};
 ghost use Rattle.net_rules.specs.NetOf.{NetOf};
-ghost use Rattle.polis_words.specs.declared.status.Status.{Status};
-ghost use Rattle.polis_words.specs.Lines.{status_of};
-ghost use Rattle.polis_cli.specs.Accepted.{Accepted, IsMachineFault, IsConflictFault};
+ghost use Rattle.polis_words.specs.Lines.{cause_status};
+ghost use Rattle.polis_cli.specs.Accepted.{Accepted};
 ghost use Rattle.polis_cli.specs.Inputs.{IsNetFault};
+ghost use Rattle.polis_cli.specs.inner.Accepted.{IfCause, IsMachineFault, IsConflictFault, lex_fault};
 
 use determinism::{CheckFault, check};
 use net_reader::{NetFault, read_network};
 use net_rules::{ResolveFault, resolve};
-use polis_base::NoMemory;
-use polis_words::{Cause, print_conflict};
+use polis_base::{LexError, NoMemory};
+use polis_words::{Cause, LexKind, Status, print_conflict};
 use std::alloc::Global;
 use transition_table::{Machine, Network};
 
+/// Why a text isn't accepted.
+#[derive(Drop)]
+pub enum TextFault {
+    /// What is wrong with it.
+    Cause(Cause),
+    /// Memory ran out.
+    NoMemory,
+}
+
+// Why a text whose tokens don't read isn't accepted.
+fn of_lex(error: LexError) -> TextFault
+    ensures { result ≡ lex_fault error }
+{
+    match error {
+        LexError::BadByte(place) => TextFault::Cause(Cause::Lex {
+            kind: LexKind::Byte,
+            place,
+        }),
+        LexError::NameTooLong(place) => TextFault::Cause(Cause::Lex {
+            kind: LexKind::Name,
+            place,
+        }),
+        LexError::NumberTooLarge(place) => TextFault::Cause(Cause::Lex {
+            kind: LexKind::Number,
+            place,
+        }),
+        LexError::NoMemory => TextFault::NoMemory,
+    }
+}
+
 // Whether a machine is deterministic.
-fn check_machine(alloc: Global, net: &Network, machine: &Machine) -> Result<(), Cause>
+fn check_machine(alloc: Global, net: &Network, machine: &Machine) -> Result<(), TextFault>
     requires { IsTrue (has_vars net.now.domains net.now.events machine.now) }
     ensures ok { OnOk result (IsDeterministic machine.now) }
-    ensures failed { IfErr result (λ cause. IsMachineFault net.now machine.now cause) }
+    ensures failed { IfErr result (λ fault. IfCause fault (IsMachineFault net.now machine.now)) }
 {
     match check(alloc, machine) {
         Ok(()) => Ok(()),
@@ -32,59 +62,62 @@ fn check_machine(alloc: Global, net: &Network, machine: &Machine) -> Result<(), 
                 snapshot,
             },
         ) => match print_conflict(alloc, net, machine, row_a, row_b, &snapshot) {
-            Ok(text) => Err(Cause::Conflict { text }),
-            Err(NoMemory) => Err(Cause::NoMemory),
+            Ok(text) => Err(TextFault::Cause(Cause::Conflict { text })),
+            Err(NoMemory) => Err(TextFault::NoMemory),
         },
-        Err(CheckFault::NoMemory) => Err(Cause::NoMemory),
+        Err(CheckFault::NoMemory) => Err(TextFault::NoMemory),
     }
 }
 
 // Whether each machine is deterministic.
-fn check_machines(alloc: Global, net: &Network) -> Result<(), Cause>
+fn check_machines(alloc: Global, net: &Network) -> Result<(), TextFault>
     ensures ok { OnOk result (AreDeterministic net.now) }
-    ensures failed { IfErr result (λ cause. IsConflictFault net.now cause) }
+    ensures failed { IfErr result (λ fault. IfCause fault (IsConflictFault net.now)) }
 {
     for machine in net.machines.as_slice() {
         match check_machine(alloc, net, machine) {
             Ok(()) => {}
-            Err(cause) => return Err(cause),
+            Err(fault) => return Err(fault),
         }
     }
     Ok(())
 }
 
 // The network that a text declares.
-fn declared_in(alloc: Global, text: &[u8]) -> Result<Network, Cause>
+fn declared_in(alloc: Global, text: &[u8]) -> Result<Network, TextFault>
     ensures ok { IfOk result (λ net. NetOf text.now net) }
     ensures one { IfOk result (λ net. (other : Network) → NetOf text.now other → other ≡ net) }
-    ensures failed { IfErr result (λ cause. IsNetFault text.now cause) }
+    ensures failed { IfErr result (λ fault. IfCause fault (IsNetFault text.now)) }
 {
     let raw = match read_network(alloc, text) {
         Ok(raw) => raw,
-        Err(NetFault::Lex(error)) => return Err(Cause::of_lex(error)),
-        Err(NetFault::Syntax(place)) => return Err(Cause::Syntax { place }),
-        Err(NetFault::NoMemory) => return Err(Cause::NoMemory),
+        Err(NetFault::Lex(error)) => return Err(of_lex(error)),
+        Err(NetFault::Syntax(place)) => return Err(TextFault::Cause(Cause::Syntax { place })),
+        Err(NetFault::NoMemory) => return Err(TextFault::NoMemory),
     };
     match resolve(alloc, &raw) {
         Ok(net) => Ok(net),
-        Err(ResolveFault::Rule { rule, place }) => Err(Cause::Rule { rule, place }),
-        Err(ResolveFault::NoMemory) => Err(Cause::NoMemory),
+        Err(ResolveFault::Rule { rule, place }) => {
+            Err(TextFault::Cause(Cause::Rule { rule, place }))
+        }
+        Err(ResolveFault::NoMemory) => Err(TextFault::NoMemory),
     }
 }
 
 /// The network of a text, each machine of which is deterministic.
-pub fn network_in(alloc: Global, text: &[u8]) -> Result<Network, Cause>
+pub fn network_in(alloc: Global, text: &[u8]) -> Result<Network, TextFault>
     ensures ok { IfOk result (λ net. Accepted text.now net) }
     ensures one { IfOk result (λ net. (other : Network) → NetOf text.now other → other ≡ net) }
-    ensures failed { IfErr result (λ cause. IsNetFault text.now cause) }
-    ensures unjudged { IfErr result (λ cause. status_of cause ≢ Status.Illegal) }
+    ensures failed { IfErr result (λ fault. IfCause fault (IsNetFault text.now)) }
+    ensures refused { IfErr result (λ fault. IfCause fault
+        (λ cause. cause_status cause ≡ Status.Refused)) }
 {
     let net = match declared_in(alloc, text) {
         Ok(net) => net,
-        Err(cause) => return Err(cause),
+        Err(fault) => return Err(fault),
     };
     match check_machines(alloc, &net) {
         Ok(()) => Ok(net),
-        Err(cause) => Err(cause),
+        Err(fault) => Err(fault),
     }
 }

@@ -1,13 +1,12 @@
 // The network and the trace that a run or a replay is of.
-ghost use Rattle.std.specs.Prelude.{◌≡◌, IfOk, IfErr, ◌≢◌};
+ghost use Rattle.std.specs.Prelude.{◌≡◌, IfOk, IfErr};
 ghost use Rattle.polis_base.specs.Host.{WhereTold};
 ghost use Rattle.journals.specs.Journals.{IsTrace};
 ghost use Rattle.transition_table.specs.Transitions.{AreDeterministic};
 ghost use Rattle.transition_table.specs.declared.network.Network.{Network};
-ghost use Rattle.polis_words.specs.declared.status.Status.{Status};
-ghost use Rattle.polis_words.specs.Lines.{status_of};
 ghost use Rattle.polis_cli.specs.Inputs.{HoldsNet, HoldsTrace, InputsFail};
-ghost use Rattle.polis_cli.specs.Left.{LeftByLoads, fails_unread};
+ghost use Rattle.polis_cli.specs.inner.Left.{LeftByLoads, fails_unread};
+ghost use Rattle.polis_cli.specs.inner.Made.{FilesFail};
 
 use crate::load::{load_net, load_trace};
 use net_core::Trace;
@@ -41,23 +40,16 @@ pub fn load_inputs<'a, H: Host>(
     ensures fits { IfOk result (λ inputs. IsTrace inputs.net inputs.trace
         × AreDeterministic inputs.net) }
     ensures failed { IfErr result (λ failure.
-        WhereTold (H.files host.old) (λ files.
-        InputsFail files net_name.now trace_name.now failure.name.now failure.cause)) }
-    ensures unjudged { IfErr result (λ failure. status_of failure.cause ≢ Status.Illegal) }
+        FilesFail (H.files host.old) (λ files. InputsFail files net_name.now trace_name.now)
+        failure) }
     ensures left { LeftByLoads ⟦<H as Host>⟧ (fails_unread result) host.old host.new }
 {
     let net = match load_net(alloc, host, net_name) {
         Ok(net) => net,
-        Err(cause) => return Err(Failure {
-            name: net_name,
-            cause,
-        }),
+        Err(failure) => return Err(failure),
     };
     match load_trace(alloc, host, &net, trace_name) {
         Ok(trace) => Ok(Inputs { net, trace }),
-        Err(cause) => Err(Failure {
-            name: trace_name,
-            cause,
-        }),
+        Err(failure) => Err(failure),
     }
 }

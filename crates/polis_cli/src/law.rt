@@ -1,12 +1,14 @@
-// What the texts that a run saves determine.
-ghost use Rattle.polis_cli.specs.Runs.{SavesDetermineRun};
+// What follows from what a call promises.
+ghost use Rattle.polis_cli.specs.Headline.{RunsGiveHeadline};
+ghost use Rattle.polis_cli.specs.Run.{AloneIsScheduled, SavesDetermineRun};
 
-/// The texts that a run saves determine its journal, with its stamps and whether it is complete,
-/// and its compiled machines.
+/// A run that ends with Done or Limit gives the headline, what one worker runs is the scheduler's
+/// journal, and the texts that a run saves determine its journal, with its stamps and whether it is
+/// complete, and its compiled machines.
 pub fn laws()
-    ensures { SavesDetermineRun }
+    ensures headline { RunsGiveHeadline }
+    ensures alone { AloneIsScheduled }
+    ensures determined { SavesDetermineRun }
 {
     journal_text::laws();
-    net_core::stamp_laws();
-    machine_compiler::laws();
 }

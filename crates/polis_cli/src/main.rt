@@ -2,6 +2,7 @@
 #![tactic(auto)]
 
 mod accept;
+mod bound;
 mod check;
 mod compile;
 mod demo;
@@ -11,6 +12,7 @@ mod load;
 mod migrate;
 mod product;
 mod ran;
+mod ranges;
 mod react;
 mod replay;
 mod run;
@@ -51,6 +53,11 @@ polis migrate NET TRACE JOURNAL STEM
 polis demo SEED
     runs a network of 24 to 48 machines on a trace of 2000 events, both drawn from the
     number SEED, below 2^64, and shows a summary; it reads and saves no file
+polis bound NET [T S G H]
+    compiles the machines of the network text NET, and shows for each machine the most
+    and the least that a reaction costs, each with the first snapshot that takes it; T,
+    S, G and H are what a test, a set, a jump and a halt cost, from 0 to 1000000 each,
+    and 1 each where none is given
 polis --help
     shows these forms
 polis --version

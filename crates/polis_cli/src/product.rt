@@ -68,14 +68,37 @@ impl Saving {
     }
 }
 
+/// How a call ends that made and wrote what was asked for.
+#[derive(Clone, Copy, Debug, PartialEq, Eq)]
+pub enum End {
+    /// All of it; the journal of a run is complete.
+    Done,
+    /// The journal of a run ended at its limit of entries.
+    Limit,
+}
+
+impl End {
+    ghost use Rattle.polis_cli.specs.Ends.{end_status};
+
+    /// The status of a call that ends so.
+    pub fn status(self) -> Status
+        ensures { result ≡ end_status self }
+    {
+        match self {
+            End::Done => Status::Done,
+            End::Limit => Status::Limit,
+        }
+    }
+}
+
 /// What a call makes before it saves anything: the texts that are saved, in order, then the text
-/// that is shown, and the status with which the call then ends.
+/// that is shown, and how the call then ends.
 #[derive(Drop)]
 pub struct Product {
     /// The texts to be saved.
     pub saves: List<Saving>,
     /// What is shown after all saves.
     pub shown: Bytes,
-    /// Done or Limit.
-    pub status: Status,
+    /// How the call then ends.
+    pub end: End,
 }

@@ -1,10 +1,12 @@
 // Running a network on a trace: the journal, and how much of it workers gathered.
 ghost use Rattle.std.specs.Prelude.{◌≡◌, ◌≤◌, length, IfOk};
+ghost use Rattle.polis_base.specs.declared.limits.TheConstants.{ENTRIES_MAX};
 ghost use Rattle.journals.specs.Journals.{IsTrace};
-ghost use Rattle.polis_cli.specs.Runs.{CarriesOn, IsRan};
+ghost use Rattle.polis_cli.specs.Run.{IsRan};
+ghost use Rattle.polis_cli.specs.inner.Run.{CarriesOn};
 
 use event_buffer::Gate;
-use net_core::{Config, Journal, Trace, laws};
+use net_core::{Config, Journal, Trace};
 use polis_base::NoMemory;
 use scheduler_gen::{complete_on, plan};
 use std::alloc::Global;
@@ -61,7 +63,6 @@ pub fn run_alone<R: Reactor>(
     requires { IsTrace (R.meaning r.now) trace.now }
     ensures { IfOk result (λ ran. IsRan 1 limit (R.meaning r.now) trace.now ran) }
 {
-    laws();
     let config = Config::start(alloc, r.network(), trace)?;
     let nothing = GatheredOn { config, merged: 0 };
     match carry_on(alloc, r, nothing, limit) {
@@ -82,11 +83,10 @@ pub fn run_by<T: Threads + Wait + Sync, R: Reactor + Sync, G: Gate + Sync>(
 ) -> Result<Ran, NoMemory>
     requires several { 2 ≤ workers }
     requires few { workers ≤ 8 }
-    requires limit { (1 ≤ limit) × (limit ≤ 60000) }
+    requires limit { (1 ≤ limit) × (limit ≤ ENTRIES_MAX) }
     requires trace { IsTrace (R.meaning r.now) trace.now }
     ensures { IfOk result (λ ran. IsRan workers limit (R.meaning r.now) trace.now ran) }
 {
-    laws();
     let gathered = gather_on(rt, alloc, r, trace, workers, limit, gate)?;
     match carry_on(alloc, r, gathered, limit) {
         Ok(ran) => Ok(ran),

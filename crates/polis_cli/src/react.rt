@@ -1,7 +1,7 @@
 // Reacting by compiled code.
 ghost use Rattle.std.specs.Prelude.{◌≡◌, IfOk};
 ghost use Rattle.transition_table.specs.Transitions.{AreDeterministic};
-ghost use Rattle.machine_compiler.specs.Parts.{AreRight, parts_of};
+ghost use Rattle.machine_compiler.specs.Parts.{AreRightParts, parts_of};
 
 use machine_compiler::{CompiledList, codes_of};
 use polis_base::NoMemory;
@@ -16,7 +16,7 @@ pub fn reactor_of<'a>(
     compiled: &CompiledList,
 ) -> Result<TaskReactor<'a>, NoMemory>
     requires deterministic { AreDeterministic net.now }
-    requires right { AreRight net.now (parts_of compiled.now) }
+    requires right { AreRightParts net.now (parts_of compiled.now) }
     ensures { IfOk result (λ reactor. ⟦<TaskReactor<'a> as Reactor>⟧.meaning reactor ≡ net.now) }
 {
     let codes = codes_of(alloc, compiled)?;

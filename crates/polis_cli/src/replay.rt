@@ -1,24 +1,26 @@
 // The command `replay`: whether a journal is legal.
-ghost use Rattle.std.specs.Prelude.{◌≤◌, length, IfOk, IfErr, IfSome, IsTrue};
+ghost use Rattle.std.specs.Prelude.{◌≤◌, length, IfOk, IfErr, IfSome};
+ghost use Rattle.polis_base.specs.declared.limits.TheConstants.{ENTRIES_MAX};
 ghost use Rattle.polis_base.specs.Host.{WhereTold};
 ghost use Rattle.journals.specs.Journals.{IsTrace, IsJournal};
 ghost use Rattle.journals.specs.Legality.{Legal};
 ghost use Rattle.journal_text.specs.Texts.{AreStamps};
 ghost use Rattle.transition_table.specs.Transitions.{AreDeterministic};
-ghost use Rattle.polis_cli.specs.Writing.{IsWell};
-ghost use Rattle.polis_cli.specs.Replays.{IsJudged, IsFound, MakesReplay, FailsReplay, ends_judged};
-ghost use Rattle.polis_cli.specs.Left.{LeftByLoads, fails_unread};
+ghost use Rattle.polis_cli.specs.Replay.{IsJudged, FailsReplay, replay_meaning};
+ghost use Rattle.polis_cli.specs.inner.Left.{LeftByLoads, fails_unread};
+ghost use Rattle.polis_cli.specs.inner.Made.{IsMade, JudgingFails};
+ghost use Rattle.polis_cli.specs.inner.Replay.{IsFound};
 
 use crate::inputs::{Inputs, load_inputs};
 use crate::load::load_journal;
-use crate::product::Product;
+use crate::product::{End, Product};
 use crate::react::reactor_of;
 use journal_replay::{Verdict, replay, replay_stamped};
 use journal_text::ReadJournal;
 use machine_compiler::compile_network;
 use net_core::Trace;
 use polis_base::{Host, List, NoMemory};
-use polis_words::{Cause, Failure, Replay, Status, print_legal};
+use polis_words::{Cause, Failure, Replay, print_legal};
 use std::alloc::Global;
 use transition_table::Reactor;
 
@@ -83,10 +85,8 @@ pub fn judge_journal<'a, H: Host>(
         judged.complete)) }
     ensures legal { IfOk result (λ judged.
         Legal judged.inputs.net judged.inputs.trace judged.read.journal) }
-    ensures few { IfOk result (λ judged. length judged.read.journal ≤ 60000) }
-    ensures failed { IfErr result (λ failure.
-        WhereTold (H.files host.old) (λ files.
-        FailsReplay asked.now files failure.name.now failure.cause)) }
+    ensures few { IfOk result (λ judged. length judged.read.journal ≤ ENTRIES_MAX) }
+    ensures failed { IfErr result (JudgingFails (H.files host.old) (FailsReplay asked.now)) }
     ensures left { LeftByLoads ⟦<H as Host>⟧ (fails_unread result) host.old host.new }
 {
     let inputs = match load_inputs(alloc, host, asked.net(), asked.trace()) {
@@ -96,7 +96,7 @@ pub fn judge_journal<'a, H: Host>(
     let name = asked.journal();
     let read = match load_journal(alloc, host, &inputs.net, name) {
         Ok(read) => read,
-        Err(cause) => return Err(Failure { name, cause }),
+        Err(failure) => return Err(failure),
     };
     match find(alloc, &inputs, &read) {
         Ok(Verdict::Legal { complete }) => Ok(Judged {
@@ -104,14 +104,11 @@ pub fn judge_journal<'a, H: Host>(
             read,
             complete,
         }),
-        Ok(Verdict::Illegal { entry }) => Err(Failure {
+        Ok(Verdict::Illegal { entry }) => Err(Failure::File {
             name,
             cause: Cause::Illegal { entry },
         }),
-        Err(NoMemory) => Err(Failure {
-            name,
-            cause: Cause::NoMemory,
-        }),
+        Err(NoMemory) => Err(Failure::NoMemory),
     }
 }
 
@@ -121,25 +118,19 @@ pub fn make_replay<'a, H: Host>(
     host: &mut H,
     asked: &'a Replay<'_>,
 ) -> Result<Product, Failure<'a>>
-    ensures made { IfOk result (λ product.
-        WhereTold (H.files host.old) (λ files. MakesReplay asked.now files product)) }
-    ensures well { IfOk result (λ product. IsWell product) }
-    ensures ends { IfOk result (λ product. IsTrue (ends_judged product.status)) }
-    ensures failed { IfErr result (λ failure.
-        WhereTold (H.files host.old) (λ files.
-        FailsReplay asked.now files failure.name.now failure.cause)) }
+    ensures made { IsMade (replay_meaning asked.now) (H.files host.old) result }
     ensures left { LeftByLoads ⟦<H as Host>⟧ (fails_unread result) host.old host.new }
 {
-    let judged = judge_journal(alloc, host, asked)?;
+    let judged = match judge_journal(alloc, host, asked) {
+        Ok(judged) => judged,
+        Err(failure) => return Err(failure),
+    };
     match print_legal(alloc, judged.read.journal.len(), judged.complete) {
         Ok(shown) => Ok(Product {
             saves: List::new(alloc),
             shown,
-            status: Status::Done,
+            end: End::Done,
         }),
-        Err(NoMemory) => Err(Failure {
-            name: asked.net(),
-            cause: Cause::NoMemory,
-        }),
+        Err(NoMemory) => Err(Failure::NoMemory),
     }
 }

@@ -1,37 +1,30 @@
 // The command `run`: a network on a trace, and the texts of that run.
-ghost use Rattle.std.specs.Prelude.{◌≡◌, ◌<◌, ◌∷◌, ◌++◌, [], codes, IfOk, IfErr, ◌≢◌, IsTrue};
-ghost use Rattle.polis_base.specs.Host.{WhereTold};
+ghost use Rattle.std.specs.Prelude.{◌≡◌, ◌<◌, ◌∷◌, ◌++◌, [], codes, IfOk};
 ghost use Rattle.journals.specs.Journals.{IsTrace};
 ghost use Rattle.transition_table.specs.Transitions.{AreDeterministic};
-ghost use Rattle.polis_words.specs.declared.status.Status.{Status};
-ghost use Rattle.polis_words.specs.Lines.{status_of};
-ghost use Rattle.polis_cli.specs.Writing.{IsWell};
-ghost use Rattle.polis_cli.specs.Runs.{IsRan, AreOtherTexts, IsRunProduct, MakesRun, FailsRun, ends_run, end_status, journal_of};
-ghost use Rattle.polis_cli.specs.Left.{LeftByLoads, fails_unread};
+ghost use Rattle.polis_cli.specs.Run.{IsRan, journal_of, end_of, run_meaning};
+ghost use Rattle.polis_cli.specs.inner.Left.{LeftByLoads, fails_unread};
+ghost use Rattle.polis_cli.specs.inner.Made.{IsMade};
+ghost use Rattle.polis_cli.specs.inner.Run.{AreOtherTexts, IsRunProduct};
 
 use crate::inputs::{Inputs, load_inputs};
-use crate::product::{Product, Saving};
+use crate::product::{End, Product, Saving};
 use crate::ran::{Ran, run_alone, run_by};
 use crate::react::reactor_of;
 use crate::stamp::stamped_text;
 use crate::texts::{OtherTexts, other_texts, texts_by};
 use event_buffer::Gate;
-use journal_text::keep_names;
 use machine_compiler::{compile_network, compile_network_by};
 use polis_base::{Bytes, Host, List, NoMemory};
-use polis_words::{Cause, Failure, Run, Status};
+use polis_words::{Failure, Run};
 use std::alloc::Global;
 use std::sync::Wait;
 use std::thread::Threads;
 
-fn status_at_end(complete: bool) -> Status
-    ensures { result ≡ end_status complete }
+fn end_at(complete: bool) -> End
+    ensures { result ≡ end_of complete }
 {
-    if complete {
-        Status::Done
-    } else {
-        Status::Limit
-    }
+    if complete { End::Done } else { End::Limit }
 }
 
 // The saves of a run, in their order.
@@ -72,7 +65,6 @@ fn product_of(
     ensures { IfOk result (λ product.
         IsRunProduct asked.now inputs.now.net inputs.now.trace product) }
 {
-    keep_names(&inputs.net);
     let OtherTexts {
         outputs,
         listing,
@@ -82,7 +74,7 @@ fn product_of(
     Ok(Product {
         saves,
         shown,
-        status: status_at_end(ran.complete),
+        end: end_at(ran.complete),
     })
 }
 
@@ -132,14 +124,7 @@ pub fn make_run<'a, H: Host>(
     run: &'a Run<'_>,
 ) -> Result<Product, Failure<'a>>
     requires { run.now.workers ≡ 1 }
-    ensures made { IfOk result (λ product.
-        WhereTold (H.files host.old) (λ files. MakesRun run.now files product)) }
-    ensures well { IfOk result (λ product. IsWell product) }
-    ensures ends { IfOk result (λ product. IsTrue (ends_run product.status)) }
-    ensures failed { IfErr result (λ failure.
-        WhereTold (H.files host.old) (λ files.
-        FailsRun run.now files failure.name.now failure.cause)) }
-    ensures unjudged { IfErr result (λ failure. status_of failure.cause ≢ Status.Illegal) }
+    ensures made { IsMade (run_meaning run.now) (H.files host.old) result }
     ensures left { LeftByLoads ⟦<H as Host>⟧ (fails_unread result) host.old host.new }
 {
     let inputs = match load_inputs(alloc, host, run.net(), run.trace()) {
@@ -148,14 +133,11 @@ pub fn make_run<'a, H: Host>(
     };
     match product_alone(alloc, run, &inputs) {
         Ok(product) => Ok(product),
-        Err(NoMemory) => Err(Failure {
-            name: run.net(),
-            cause: Cause::NoMemory,
-        }),
+        Err(NoMemory) => Err(Failure::NoMemory),
     }
 }
 
-/// What a run makes of the files, by as many workers as it asks for.
+/// What a run by several workers makes of the files.
 pub fn make_run_by<'a, T: Threads + Wait + Sync, H: Host, G: Gate + Sync>(
     rt: &T,
     alloc: Global,
@@ -163,28 +145,16 @@ pub fn make_run_by<'a, T: Threads + Wait + Sync, H: Host, G: Gate + Sync>(
     run: &'a Run<'_>,
     gate: &G,
 ) -> Result<Product, Failure<'a>>
-    ensures made { IfOk result (λ product.
-        WhereTold (H.files host.old) (λ files. MakesRun run.now files product)) }
-    ensures well { IfOk result (λ product. IsWell product) }
-    ensures ends { IfOk result (λ product. IsTrue (ends_run product.status)) }
-    ensures failed { IfErr result (λ failure.
-        WhereTold (H.files host.old) (λ files.
-        FailsRun run.now files failure.name.now failure.cause)) }
-    ensures unjudged { IfErr result (λ failure. status_of failure.cause ≢ Status.Illegal) }
+    requires { 1 < run.now.workers }
+    ensures made { IsMade (run_meaning run.now) (H.files host.old) result }
     ensures left { LeftByLoads ⟦<H as Host>⟧ (fails_unread result) host.old host.new }
 {
-    if run.workers() == 1 {
-        return make_run(alloc, host, run);
-    }
     let inputs = match load_inputs(alloc, host, run.net(), run.trace()) {
         Ok(inputs) => inputs,
         Err(failure) => return Err(failure),
     };
     match product_by(rt, alloc, run, &inputs, gate) {
         Ok(product) => Ok(product),
-        Err(NoMemory) => Err(Failure {
-            name: run.net(),
-            cause: Cause::NoMemory,
-        }),
+        Err(NoMemory) => Err(Failure::NoMemory),
     }
 }

@@ -1,7 +1,7 @@
 // Showing the one line of a call that wrote nothing.
-ghost use Rattle.std.specs.Prelude.{◌≡◌, List, ℕ};
-ghost use Rattle.polis_cli.specs.Shown.{FailsWith, no_memory_line};
-ghost use Rattle.polis_cli.specs.Left.{LeftByLine};
+ghost use Rattle.std.specs.Prelude.{◌≡◌};
+ghost use Rattle.polis_cli.specs.inner.Left.{LeftByLine, ShowsFailure};
+ghost use Rattle.polis_cli.specs.inner.Shown.{no_memory_line};
 
 use polis_base::{Host, NoMemory};
 use polis_words::{Failure, Status, line_of};
@@ -25,13 +25,12 @@ pub fn no_memory<H: Host>(host: &mut H) -> Status
 
 /// Shows the line of a failure, and gives its status.
 pub fn fail<H: Host>(alloc: Global, host: &mut H, failure: &Failure<'_>) -> Status
-    ensures { (line : List ℕ) × FailsWith failure.now.name.now failure.now.cause result line
-        × LeftByLine ⟦<H as Host>⟧ line host.old host.new }
+    ensures { ShowsFailure ⟦<H as Host>⟧ failure.now result host.old host.new }
 {
     match line_of(alloc, failure) {
         Ok(line) => {
             show_line(host, line.as_slice());
-            failure.cause.status()
+            failure.status()
         }
         Err(NoMemory) => no_memory(host),
     }

@@ -1,5 +1,6 @@
 // Journals with their least stamps.
 ghost use Rattle.std.specs.Prelude.{◌≡◌, ◌≤◌, length, IfOk};
+ghost use Rattle.polis_base.specs.declared.limits.TheConstants.{ENTRIES_MAX};
 ghost use Rattle.journals.specs.Legality.{Legal};
 ghost use Rattle.journals.specs.Stamps.{least};
 ghost use Rattle.journal_text.specs.Texts.{stamped_journal_text};
@@ -18,7 +19,7 @@ pub fn stamped_text(
     complete: bool,
 ) -> Result<Bytes, NoMemory>
     requires legal { Legal inputs.now.net inputs.now.trace journal.now }
-    requires few { length journal.now ≤ 60000 }
+    requires few { length journal.now ≤ ENTRIES_MAX }
     ensures { IfOk result (λ text. text
         ≡ stamped_journal_text inputs.now.net journal.now (least inputs.now.net journal.now)
         complete) }

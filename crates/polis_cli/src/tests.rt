@@ -1,15 +1,7 @@
 // What no clause says: that a product is made where there is memory, and the texts of whole calls.
-use crate::top::polis;
-use event_buffer::OpenGate;
-use polis_base::{Bytes, MemoryHost, NoMemory, Words};
-use polis_words::Status;
-use std::alloc::Global;
-use std::process::Abort;
-use std::sync::Wait;
-use std::test::Fail;
-use std::thread::Threads;
-
+mod bounds;
 mod calls;
+mod cases;
 mod cells;
 mod counts;
 mod demos;
@@ -18,6 +10,7 @@ mod failing;
 mod faults;
 mod gates;
 mod hostile;
+mod inputs;
 mod journal_faults;
 mod listings;
 mod networks;
@@ -30,235 +23,21 @@ mod system;
 mod traces;
 mod workers;
 
+use crate::tests::cases::{
+    CHECK, COMPILE, Case, PRESS, PRESSED, REFUSED, RUN, Repeated, UNREAD, UNWRITTEN, call, host_of,
+    is_held, read_only, text_of, try_case, try_cases,
+};
+use crate::tests::faults::try_check;
 use crate::tests::listings::LAMP_LISTING;
 use crate::tests::networks::LAMP;
-
-const RUN: &[&str] = &["run", "net", "trc", "o"];
-
-const BY_TWO: &[&str] = &["run", "net", "trc", "o", "--workers", "2"];
-
-const CHECK: &[&str] = &["check", "net"];
-
-const COMPILE: &[&str] = &["compile", "net", "o"];
-
-const REPLAY: &[&str] = &["replay", "net", "trc", "jnl"];
-
-const MIGRATE: &[&str] = &["migrate", "net", "trc", "jnl", "o"];
-
-const PRESSED: &str = "polis journal 2
-@1 dep env lamp_ctl press
-@2 fire lamp_ctl : press ; s=off -> s=on ; light
-end 2 complete
-";
-
-const PRESSED_SHOWN: &str = "entries 2 complete
-lost 0
-gathered 0 adopted 0
-machine lamp_ctl vertices 7 code 6 tries 1 steps 6
-";
-
-// A call: its command line, the files before it, the calls of the host that fail, one that is torn
-// after some bytes, and what is wanted after it.
-#[derive(Clone, Copy)]
-struct Case<'a> {
-    words: &'a [&'a str],
-    net: Option<&'a [u8]>,
-    trace: Option<&'a str>,
-    read_journal: Option<&'a str>,
-    fails: &'a [u64],
-    torn: Option<(u64, u64)>,
-    status: Status,
-    shown: &'a str,
-    outputs: Option<&'a str>,
-    journal: Option<&'a str>,
-    listing: Option<&'a str>,
-    load_faults: u64,
-    write_faults: u64,
-}
-
-// The lamp on one press.
-const PRESS: Case<'static> = Case {
-    words: RUN,
-    net: Some(LAMP),
-    trace: Some("press\n"),
-    read_journal: None,
-    fails: &[],
-    torn: None,
-    status: Status::Done,
-    shown: PRESSED_SHOWN,
-    outputs: Some("light\n"),
-    journal: Some(PRESSED),
-    listing: Some(LAMP_LISTING),
-    load_faults: 0,
-    write_faults: 0,
-};
-
-// The lamp on one press, in a call that is refused: it shows a line and saves nothing.
-const REFUSED: Case<'static> = Case {
-    status: Status::Refused,
-    shown: "",
-    outputs: None,
-    journal: None,
-    listing: None,
-    ..PRESS
-};
-
-// The lamp on one press, in a call that is refused with a line.
-fn refused<'a>(words: &'a [&'a str], shown: &'a str) -> Case<'a> {
-    Case {
-        words,
-        shown,
-        ..REFUSED
-    }
-}
-
-// A call that shows a line and is done, and saves nothing or a listing.
-const DONE: Case<'static> = Case {
-    status: Status::Done,
-    ..REFUSED
-};
-
-// Words that ask for nothing.
-const USAGE: Case<'static> = Case {
-    status: Status::Usage,
-    shown: "usage\n",
-    ..REFUSED
-};
-
-// The lamp on one press, where a load fails.
-const UNREAD: Case<'static> = Case {
-    status: Status::ReadFault,
-    load_faults: 1,
-    ..REFUSED
-};
-
-// The lamp on one press, where a save or a show fails.
-const UNWRITTEN: Case<'static> = Case {
-    status: Status::WriteFault,
-    write_faults: 1,
-    ..REFUSED
-};
-
-// A text, which has a part so many times between its begin and its end.
-#[derive(Clone, Copy)]
-struct Repeated<'a> {
-    begin: &'a str,
-    part: &'a str,
-    count: u64,
-    end: &'a str,
-}
-
-fn text_of(alloc: Global, repeated: &Repeated<'_>) -> Result<String, NoMemory> {
-    let mut text = String::from_str(alloc, repeated.begin)?;
-    for _ in 0..repeated.count {
-        text.push_str(repeated.part)?;
-    }
-    text.push_str(repeated.end)?;
-    Ok(text)
-}
-
-// A line of two parts.
-fn line_of(alloc: Global, first: &str, last: &str) -> Result<String, NoMemory> {
-    let mut line = String::from_str(alloc, first)?;
-    line.push_str(last)?;
-    line.push_str("\n")?;
-    Ok(line)
-}
-
-fn make_words(alloc: Global, words: &[&str]) -> Result<Words, NoMemory> {
-    let mut made = Words::new(alloc);
-    for word in words {
-        made.push(word)?;
-    }
-    Ok(made)
-}
-
-fn make_host(alloc: Global, case: &Case<'_>) -> Result<MemoryHost, NoMemory> {
-    let mut host = MemoryHost::new(alloc);
-    if let Some(net) = case.net {
-        host.put("net", net)?;
-    }
-    if let Some(trace) = case.trace {
-        host.put("trc", trace.as_bytes())?;
-    }
-    if let Some(journal) = case.read_journal {
-        host.put("jnl", journal.as_bytes())?;
-    }
-    for call in case.fails {
-        host.fail(*call)?;
-    }
-    if let Some((call, keep)) = case.torn {
-        host.tear(call, keep)?;
-    }
-    Ok(host)
-}
-
-fn holds(host: &MemoryHost, name: &str, wanted: Option<&[u8]>) -> bool {
-    match (host.file(name), wanted) {
-        (Some(held), Some(text)) => held == text,
-        (None, None) => true,
-        _ => false,
-    }
-}
-
-fn is_held(host: &MemoryHost, name: &str, wanted: Option<&str>) -> bool {
-    match wanted {
-        Some(text) => holds(host, name, Some(text.as_bytes())),
-        None => holds(host, name, None),
-    }
-}
-
-fn try_case<T: Abort + Threads + Wait + Sync>(
-    rt: &T,
-    alloc: Global,
-    case: &Case<'_>,
-    number: usize,
-) -> Result<(), Fail> {
-    let words = make_words(alloc, case.words)?;
-    let mut host = make_host(alloc, case)?;
-    let status = polis(rt, alloc, &words, &mut host, &OpenGate);
-    assert!(rt; status == case.status, "the status of case {number}");
-    assert!(rt;
-        host.shown() == case.shown.as_bytes(),
-        "what case {number} shows"
-    );
-    assert!(rt;
-        is_held(&host, "o.out", case.outputs),
-        "the outputs of case {number}"
-    );
-    assert!(rt;
-        is_held(&host, "o.jnl", case.journal),
-        "the journal of case {number}"
-    );
-    assert!(rt;
-        is_held(&host, "o.lst", case.listing),
-        "the listing of case {number}"
-    );
-    assert!(rt;
-        holds(&host, "net", case.net) && is_held(&host, "trc", case.trace),
-        "the network and the trace of case {number}"
-    );
-    assert!(rt;
-        is_held(&host, "jnl", case.read_journal),
-        "the journal that case {number} reads"
-    );
-    assert!(rt;
-        host.load_faults() == case.load_faults && host.write_faults() == case.write_faults,
-        "the faults of case {number}"
-    );
-    Ok(())
-}
-
-fn try_cases<T: Abort + Threads + Wait + Sync>(
-    rt: &T,
-    alloc: Global,
-    cases: &[Case<'_>],
-) -> Result<(), Fail> {
-    for (number, case) in cases.iter().enumerate() {
-        try_case(rt, alloc, case, number)?;
-    }
-    Ok(())
-}
+use event_buffer::OpenGate;
+use polis_base::NoMemory;
+use polis_words::Status;
+use sample_networks::texts::PRESS_TRACE;
+use std::alloc::Global;
+use std::sync::Wait;
+use std::test::Fail;
+use std::thread::Threads;
 
 // Command lines that ask for nothing.
 const NO_REQUESTS: &[&[&str]] = &[
@@ -292,20 +71,23 @@ const NO_REQUESTS: &[&[&str]] = &[
 #[test]
 fn answers_usage(rt: HostRuntime) -> Result<(), Fail> {
     for (number, words) in NO_REQUESTS.iter().enumerate() {
-        try_case(&rt, rt.alloc(), &Case { words, ..USAGE }, number)?;
+        let case = read_only(words, LAMP, PRESS_TRACE, Status::Usage, "usage\n");
+        try_case(&rt, rt.alloc(), &case, number)?;
     }
     Ok(())
 }
 
 // A byte that begins no token.
-const NO_TOKEN: &[u8] = b"network %";
+const NO_TOKEN: &str = "network %";
 
 // Calls over a lamp and one press in which a call of the host fails.
 const FAULTS: &[Case<'_>] = &[
     Case {
         words: &["run", "net", "trc"],
         fails: &[1],
-        ..USAGE
+        status: Status::Usage,
+        shown: "usage\n",
+        ..REFUSED
     },
     Case {
         fails: &[0],
@@ -394,6 +176,7 @@ fn tells_of_faults(rt: HostRuntime) -> Result<(), Fail> {
     try_cases(&rt, rt.alloc(), FAULTS)
 }
 
+// Calls that name a file that isn't there.
 const ABSENT: &[Case<'_>] = &[
     Case {
         net: None,
@@ -424,33 +207,35 @@ fn refuses_absent_files(rt: HostRuntime) -> Result<(), Fail> {
     try_cases(&rt, rt.alloc(), ABSENT)
 }
 
-// A call on the lamp and one press, its network text padded to so many bytes.
-fn call_padded<T: Threads + Wait + Sync>(
+// The lamp's text, of 216 bytes, padded to as many bytes as a network may have, and to one more.
+const AS_LONG: &Repeated<'_> = &Repeated {
+    begin: LAMP,
+    part: "\n",
+    count: 4_194_304 - 216,
+    end: "",
+};
+
+const TOO_LONG: &Repeated<'_> = &Repeated {
+    begin: LAMP,
+    part: "\n",
+    count: 4_194_305 - 216,
+    end: "",
+};
+
+// Whether a run on the text and one press is done, and gives the journal of the lamp.
+fn runs<T: Threads + Wait + Sync>(
     rt: &T,
     alloc: Global,
-    words: &[&str],
-    len: usize,
-) -> Result<(Status, MemoryHost), NoMemory> {
-    let mut text = Bytes::new(alloc);
-    text.push(LAMP)?;
-    for _ in LAMP.len()..len {
-        text.push(b"\n")?;
-    }
-    let mut host = MemoryHost::new(alloc);
-    host.put("net", text.as_slice())?;
-    host.put("trc", b"press\n")?;
-    let words = make_words(alloc, words)?;
-    let status = polis(rt, alloc, &words, &mut host, &OpenGate);
-    Ok((status, host))
+    repeated: &Repeated<'_>,
+) -> Result<bool, NoMemory> {
+    let text = text_of(alloc, repeated)?;
+    let mut host = host_of(alloc, text.as_str(), PRESS_TRACE)?;
+    let status = call(rt, alloc, RUN, &mut host, &OpenGate)?;
+    Ok(status == Status::Done && is_held(&host, "o.jnl", Some(PRESSED)))
 }
 
 #[test]
 fn refuses_long_files(rt: HostRuntime) -> Result<(), Fail> {
-    let (status, host) = call_padded(&rt, rt.alloc(), RUN, 4_194_304)?;
-    assert!(rt; status == Status::Done);
-    assert!(rt; is_held(&host, "o.jnl", Some(PRESSED)));
-    let (status, host) = call_padded(&rt, rt.alloc(), CHECK, 4_194_305)?;
-    assert!(rt; status == Status::Refused);
-    assert!(rt; host.shown() == b"refused net long\n".as_slice());
-    Ok(())
+    assert!(rt; runs(&rt, rt.alloc(), AS_LONG)?);
+    try_check(&rt, rt.alloc(), TOO_LONG, "refused net long\n", 1)
 }

@@ -1,10 +1,11 @@
 // The texts of a run.
 ghost use Rattle.std.specs.Prelude.{◌≡◌, ◌≤◌, length, IfOk};
+ghost use Rattle.polis_base.specs.declared.limits.TheConstants.{ENTRIES_MAX};
 ghost use Rattle.journals.specs.Journals.{IsJournal};
 ghost use Rattle.journals.specs.Legality.{Legal};
-ghost use Rattle.machine_compiler.specs.Parts.{AreRight, parts_of};
-ghost use Rattle.polis_words.specs.Run.{entry_max};
-ghost use Rattle.polis_cli.specs.Runs.{AreOtherTexts, journal_of, run_text};
+ghost use Rattle.machine_compiler.specs.Parts.{AreRightParts, parts_of};
+ghost use Rattle.polis_cli.specs.Run.{journal_of, run_text};
+ghost use Rattle.polis_cli.specs.inner.Run.{AreOtherTexts};
 
 use crate::inputs::Inputs;
 use crate::ran::Ran;
@@ -34,9 +35,9 @@ pub fn shown_text(
     compiled: &CompiledList,
     ran: &Ran,
 ) -> Result<Bytes, NoMemory>
-    requires right { AreRight inputs.now.net (parts_of compiled.now) }
+    requires right { AreRightParts inputs.now.net (parts_of compiled.now) }
     requires journal { IsJournal inputs.now.net ran.now.journal }
-    requires few { length ran.now.journal ≤ entry_max }
+    requires few { length ran.now.journal ≤ ENTRIES_MAX }
     ensures { IfOk result (λ text. text ≡
         run_text inputs.now.net (parts_of compiled.now) ran.now) }
 {
@@ -61,9 +62,9 @@ pub fn other_texts(
     compiled: &CompiledList,
     ran: &Ran,
 ) -> Result<OtherTexts, NoMemory>
-    requires right { AreRight inputs.now.net (parts_of compiled.now) }
+    requires right { AreRightParts inputs.now.net (parts_of compiled.now) }
     requires legal { Legal inputs.now.net inputs.now.trace ran.now.journal }
-    requires few { length ran.now.journal ≤ entry_max }
+    requires few { length ran.now.journal ≤ ENTRIES_MAX }
     ensures { IfOk result (λ texts. AreOtherTexts inputs.now.net ran.now texts) }
 {
     let outputs = print_outputs(alloc, &inputs.net, &ran.journal)?;
@@ -85,24 +86,24 @@ pub fn texts_by<T: Threads + Sync>(
     compiled: &CompiledList,
     ran: &Ran,
 ) -> (Result<Bytes, NoMemory>, Result<OtherTexts, NoMemory>)
-    requires right { AreRight inputs.now.net (parts_of compiled.now) }
+    requires right { AreRightParts inputs.now.net (parts_of compiled.now) }
     requires legal { Legal inputs.now.net inputs.now.trace ran.now.journal }
-    requires few { length ran.now.journal ≤ entry_max }
+    requires few { length ran.now.journal ≤ ENTRIES_MAX }
     ensures journal { IfOk result.0 (λ text. text ≡ journal_of inputs.now.net ran.now) }
     ensures others { IfOk result.1 (λ texts. AreOtherTexts inputs.now.net ran.now texts) }
 {
     let (others, journal) = join(
         rt,
         || -> Result<OtherTexts, NoMemory>
-            requires { AreRight inputs.now.net (parts_of compiled.now)
+            requires { AreRightParts inputs.now.net (parts_of compiled.now)
                 × Legal inputs.now.net inputs.now.trace ran.now.journal
-                × (length ran.now.journal ≤ entry_max) }
+                × (length ran.now.journal ≤ ENTRIES_MAX) }
             ensures { IfOk result (λ texts.
                 AreOtherTexts inputs.entry.now.net ran.entry.now texts) }
         { other_texts(alloc, inputs, compiled, ran) },
         || -> Result<Bytes, NoMemory>
             requires { Legal inputs.now.net inputs.now.trace ran.now.journal
-                × (length ran.now.journal ≤ entry_max) }
+                × (length ran.now.journal ≤ ENTRIES_MAX) }
             ensures { IfOk result (λ text.
                 text ≡ journal_of inputs.entry.now.net ran.entry.now) }
         { stamped_text(alloc, inputs, &ran.journal, ran.complete) },

@@ -5,7 +5,7 @@ ghost use Rattle.journals.specs.Stamps.{least};
 ghost use Rattle.trace_text.specs.Traces.{trace_of};
 ghost use Rattle.task_code.specs.Listings.{Part, ListingText};
 ghost use Rattle.task_code.specs.SampleCodes.{small_part, small_listing};
-ghost use Rattle.machine_compiler.specs.Parts.{AreRight};
+ghost use Rattle.machine_compiler.specs.Parts.{AreRightParts};
 ghost use Rattle.machine_compiler.specs.Lines.{lengths_text, tries_text};
 ghost use Rattle.polis_cli.specs.Samples.{press_text, lamp_journal, lamp_summary, lamp_line, lamp_lengths};
 ghost use Rattle.polis_cli.specs.LampRun.{lamp_words, files_before, files_after, lamp_shown};
@@ -18,7 +18,7 @@ use polis_words::Status;
 /// What the top call promises of what it writes holds of the lamp on one press, whatever right
 /// parts its machine was compiled to, so that the promise can be met.
 pub fn worked_run()
-    ensures { (parts : List Part) → AreRight lamp parts
+    ensures { (parts : List Part) → AreRightParts lamp parts
         → MadeAndWritten Status.Done lamp_words files_before (files_after parts) (Some [])
         (Some (lamp_shown parts)) }
 {

@@ -2,10 +2,11 @@
 ghost use Rattle.std.specs.Prelude.{◌≡◌, ◌⊎◌, Err, OnOk, IfErr, IsTrue};
 ghost use Rattle.polis_base.specs.Host.{Rose, Changes};
 ghost use Rattle.polis_cli.specs.Saves.{files_after};
-ghost use Rattle.polis_cli.specs.Writing.{is_end, SavesText, ShowsLineOf, StopsSaving, ShowsText};
-ghost use Rattle.polis_cli.specs.Left.{LeftByWriting};
+ghost use Rattle.polis_cli.specs.Ends.{end_status, is_end};
+ghost use Rattle.polis_cli.specs.inner.Left.{LeftByWriting};
+ghost use Rattle.polis_cli.specs.inner.Writing.{SavesText, ShowsLineOf, StopsSaving, ShowsText};
 
-use crate::product::{Product, Saving};
+use crate::product::{End, Product, Saving};
 use crate::show::{no_memory, show_line};
 use polis_base::{Host, Save};
 use polis_words::Status;
@@ -58,11 +59,12 @@ fn save_all<H: Host>(host: &mut H, saves: &[Saving]) -> Result<(), Status>
 }
 
 // Shows a text after all saves, and gives the status with which the call then ends.
-fn show_text<H: Host>(host: &mut H, text: &[u8], end: Status) -> Status
-    requires { IsTrue (is_end end) }
+fn show_text<H: Host>(host: &mut H, text: &[u8], end: End) -> Status
     ensures shown { Changes (H.shown host.old) (H.shown host.new)
-        (ShowsText result text.now end (Rose (H.write_faults host.old) (H.write_faults host.new))) }
-    ensures others { (result ≡ end) ⊎ (result ≡ Status.WriteFault) ⊎ (result ≡ Status.NoMemory) }
+        (ShowsText result text.now (end_status end)
+        (Rose (H.write_faults host.old) (H.write_faults host.new))) }
+    ensures others { (result ≡ end_status end) ⊎ (result ≡ Status.WriteFault)
+        ⊎ (result ≡ Status.NoMemory) }
     ensures fault { result ≡ Status.WriteFault
         → Rose (H.write_faults host.old) (H.write_faults host.new) }
     ensures end_faults { IsTrue (is_end result)
@@ -71,7 +73,7 @@ fn show_text<H: Host>(host: &mut H, text: &[u8], end: Status) -> Status
     ensures load_faults { H.load_faults host.new ≡ H.load_faults host.old }
 {
     match host.show(text) {
-        Save::Written => end,
+        Save::Written => end.status(),
         Save::Failed => Status::WriteFault,
         Save::NoMemory => no_memory(host),
     }
@@ -80,11 +82,10 @@ fn show_text<H: Host>(host: &mut H, text: &[u8], end: Status) -> Status
 /// Saves the texts of a product in order, and then shows its text. The first of these that fails
 /// ends the call.
 pub fn write_product<H: Host>(host: &mut H, product: &Product) -> Status
-    requires { IsTrue (is_end product.now.status) }
     ensures { LeftByWriting ⟦<H as Host>⟧ result product.now host.old host.new }
 {
     match save_all(host, product.saves.as_slice()) {
-        Ok(()) => show_text(host, product.shown.as_slice(), product.status),
+        Ok(()) => show_text(host, product.shown.as_slice(), product.end),
         Err(status) => status,
     }
 }

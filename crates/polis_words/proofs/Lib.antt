@@ -1,4 +1,4 @@
-pub mod Asked
-pub mod RunAsked
+pub mod Asks
+pub mod AsksRun
+pub mod AsksBound
 pub mod Snapshots
-pub mod TextLemmas

@@ -6,7 +6,7 @@ use Rattle.std.proofs.Math.Seq.{drop-cons}
 use Rattle.std.proofs.Math.Nat.{mul-pos, le-mul_of_pos_right}
 use Rattle.domains.specs.Tables.{are_sizes, product}
 use Rattle.transition_table.specs.declared.machine.Machine.{Machine}
-use Rattle.polis_words.proofs.TextLemmas.{left_true, right_true}
+use Rattle.polis_base.proofs.Names.{left_true, right_true}
 
 -- what was counted times the product of the sizes that are left is the product of all
 abbrev pub Counted : List ℕ → ℕ → ℕ → Type 0

@@ -5,6 +5,8 @@ pub mod Compile
 pub mod Replay
 pub mod Migrate
 pub mod Demo
+pub mod Bound
 pub mod Requests
 pub mod Lines
 pub mod Texts
+pub mod inner

@@ -2,7 +2,7 @@
 -- they show.
 use Rattle.std.specs.Prelude.{ℕ, List, [], ◌∷◌, ◌++◌, codes, decimal}
 use Rattle.polis_base.specs.declared.token.LexError.{LexError}
-use Rattle.polis_base.specs.declared.token.LexError.TheVariants.{BadByte, NameTooLong, NumberTooLarge, NoMemory as WantingTokens}
+use Rattle.polis_base.specs.declared.token.LexError.TheVariants.{BadByte, NameTooLong, NumberTooLarge}
 use Rattle.trace_text.specs.declared.fault.TraceKind.{TraceKind}
 use Rattle.trace_text.specs.declared.fault.TraceKind.TheVariants.{Shape, Event, Value, Many}
 use Rattle.journal_text.specs.declared.fault.JournalKind.{JournalKind}
@@ -10,35 +10,35 @@ use Rattle.journal_text.specs.declared.fault.JournalKind.TheVariants.{Header, Af
 use Rattle.polis_words.specs.declared.cause.LexKind.{LexKind}
 use Rattle.polis_words.specs.declared.cause.LexKind.TheVariants.{Byte, Name, Number}
 use Rattle.polis_words.specs.declared.cause.Cause.{Cause}
-use Rattle.polis_words.specs.declared.cause.Cause.TheVariants.{ReadFault as Unread, Absent, TooLong, Lex, Syntax, Rule, Conflict, TraceLine, JournalLine, Illegal as Unlawful, NoMemory as Wanting}
+use Rattle.polis_words.specs.declared.cause.Cause.TheVariants.{ReadFault as Unread, Absent, TooLong, Lex, Syntax, Rule, Conflict, TraceLine, JournalLine, Illegal as Unlawful}
+use Rattle.polis_words.specs.declared.cause.Failure.{Failure}
+use Rattle.polis_words.specs.declared.cause.Failure.TheVariants as failures
 use Rattle.polis_words.specs.declared.status.Status.{Status}
 use Rattle.polis_words.specs.declared.status.Status.TheVariants.{ReadFault, Refused, NoMemory, Illegal}
 
--- the status with which the call ends
-abbrev pub status_of : Cause → Status
-status_of Unread = ReadFault
-status_of Absent = Refused
-status_of TooLong = Refused
-status_of (Lex kind place) = Refused
-status_of (Syntax place) = Refused
-status_of (Rule rule place) = Refused
-status_of (Conflict text) = Refused
-status_of (TraceLine line kind) = Refused
-status_of (JournalLine line kind) = Refused
-status_of (Unlawful entry) = Illegal
-status_of Wanting = NoMemory
+-- the status of a call that ends for this cause
+abbrev pub cause_status : Cause → Status
+cause_status Unread = ReadFault
+cause_status Absent = Refused
+cause_status TooLong = Refused
+cause_status (Lex kind place) = Refused
+cause_status (Syntax place) = Refused
+cause_status (Rule rule place) = Refused
+cause_status (Conflict text) = Refused
+cause_status (TraceLine line kind) = Refused
+cause_status (JournalLine line kind) = Refused
+cause_status (Unlawful entry) = Illegal
+
+-- the status of a call that fails so
+abbrev pub status_of : Failure → Status
+status_of failures.NoMemory = NoMemory
+status_of (failures.File name cause) = cause_status cause
 
 -- the error of a text whose first token that doesn't read is of this kind, at this place
 abbrev pub lex_error : LexKind → ℕ → LexError
 lex_error Byte place = BadByte place
 lex_error Name place = NameTooLong place
 lex_error Number place = NumberTooLarge place
-
-abbrev pub lex_cause : LexError → Cause
-lex_cause (BadByte place) = Lex Byte place
-lex_cause (NameTooLong place) = Lex Name place
-lex_cause (NumberTooLarge place) = Lex Number place
-lex_cause WantingTokens = Wanting
 
 abbrev pub trace_word : TraceKind → List ℕ
 trace_word Shape = codes "shape"
@@ -68,22 +68,26 @@ refused name why = codes "refused " ++ name ++ codes " " ++ why
 
 -- the line of a file that isn't read or isn't accepted, or whose journal isn't legal, without its
 -- end
-abbrev pub failure_line : List ℕ → Cause → List ℕ
-failure_line name Unread = codes "read fault " ++ name
-failure_line name Absent = refused name (codes "absent")
-failure_line name TooLong = refused name (codes "long")
-failure_line name (Lex kind place) =
+abbrev pub cause_line : List ℕ → Cause → List ℕ
+cause_line name Unread = codes "read fault " ++ name
+cause_line name Absent = refused name (codes "absent")
+cause_line name TooLong = refused name (codes "long")
+cause_line name (Lex kind place) =
     refused name (codes "lex " ++ lex_word kind ++ codes " " ++ decimal place)
-failure_line name (Syntax place) = refused name (codes "syntax " ++ decimal place)
-failure_line name (Rule rule place) =
+cause_line name (Syntax place) = refused name (codes "syntax " ++ decimal place)
+cause_line name (Rule rule place) =
     refused name (codes "rule " ++ decimal rule ++ codes " " ++ decimal place)
-failure_line name (Conflict text) = refused name (codes "conflict " ++ text)
-failure_line name (TraceLine line kind) =
+cause_line name (Conflict text) = refused name (codes "conflict " ++ text)
+cause_line name (TraceLine line kind) =
     refused name (codes "line " ++ decimal line ++ codes " " ++ trace_word kind)
-failure_line name (JournalLine line kind) =
+cause_line name (JournalLine line kind) =
     refused name (codes "line " ++ decimal line ++ codes " " ++ journal_word kind)
-failure_line name (Unlawful entry) = codes "illegal " ++ decimal entry
-failure_line name Wanting = codes "no memory"
+cause_line name (Unlawful entry) = codes "illegal " ++ decimal entry
+
+-- the line of a failure, without its end
+abbrev pub failure_line : Failure → List ℕ
+failure_line failures.NoMemory = codes "no memory"
+failure_line (failures.File name cause) = cause_line name.now cause
 
 -- the line of a save that fails, with its end
 abbrev pub write_fault_line : List ℕ → List ℕ

@@ -1,13 +1,14 @@
 -- What a command line asks for.
 use Rattle.std.specs.Prelude.{ℕ, List}
 use Rattle.polis_words.specs.declared.requests.Request.{Request}
-use Rattle.polis_words.specs.declared.requests.Request.TheVariants.{Run, Check, Compile, Replay, Migrate, Demo}
+use Rattle.polis_words.specs.declared.requests.Request.TheVariants.{Run, Check, Compile, Replay, Migrate, Demo, Bound}
 use Rattle.polis_words.specs.Run.{AsksRun}
 use Rattle.polis_words.specs.Check.{AsksCheck}
 use Rattle.polis_words.specs.Compile.{AsksCompile}
 use Rattle.polis_words.specs.Replay.{AsksReplay}
 use Rattle.polis_words.specs.Migrate.{AsksMigrate}
 use Rattle.polis_words.specs.Demo.{AsksDemo}
+use Rattle.polis_words.specs.Bound.{AsksBound}
 
 -- the command line has the form of this request
 abbrev pub Asks : List (List ℕ) → Request → Type 0
@@ -17,6 +18,7 @@ Asks words (Compile compile) = AsksCompile words compile
 Asks words (Replay replay) = AsksReplay words replay
 Asks words (Migrate migrate) = AsksMigrate words migrate
 Asks words (Demo demo) = AsksDemo words demo
+Asks words (Bound bound) = AsksBound words bound
 
 -- the command line has no request's form
 abbrev pub AsksNothing : List (List ℕ) → Type 0

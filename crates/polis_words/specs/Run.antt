@@ -1,5 +1,6 @@
 -- The command line `run NET TRACE STEM`, with its options.
-use Rattle.std.specs.Prelude.{◌≡◌, ◌⊎◌, ℕ, ◌+◌, ◌≤◌, ◌<◌, Some, slice_get, List, [], ◌∷◌, ◌++◌, codes, decimal}
+use Rattle.std.specs.Prelude.{◌≡◌, ◌⊎◌, ℕ, ◌≤◌, ◌<◌, List, [], ◌∷◌, ◌++◌, codes, decimal}
+use Rattle.polis_base.specs.declared.limits.TheConstants.{ENTRIES_MAX, WORKERS_MAX}
 use Rattle.polis_words.specs.FileWords.{IsFileWord}
 
 -- what a run is asked for: the names of its files, how many workers run it, and the most entries
@@ -10,22 +11,6 @@ pub record RunWords : Type 0 where
   pub stem : List ℕ
   pub workers : ℕ
   pub limit : ℕ
-
--- the most workers of any run
-abbrev pub worker_max : ℕ
-worker_max = 8
-
--- the most entries of any journal
-abbrev pub entry_max : ℕ
-entry_max = 60000
-
--- the flag stands at this place, and after it the number in decimal, which is from 1 to `most`
-pub record IsNumberAt (words : List (List ℕ)) (place : ℕ) (flag : List ℕ) (most n : ℕ)
-    : Type 0 where
-  pub flag_at : slice_get words place ≡ Some flag
-  pub number_at : slice_get words (place + 1) ≡ Some (decimal n)
-  pub some : 1 ≤ n
-  pub few : n ≤ most
 
 -- `run NET TRACE STEM` with these options after it
 abbrev pub run_form : RunWords → List (List ℕ) → List (List ℕ)
@@ -39,11 +24,11 @@ IsOption flag most default words n =
 
 -- `--workers W`, where W is a number from 1 to 8; without it there is one worker
 abbrev pub AsksWorkers : List (List ℕ) → ℕ → Type 0
-AsksWorkers words workers = IsOption (codes "--workers") worker_max 1 words workers
+AsksWorkers words workers = IsOption (codes "--workers") WORKERS_MAX 1 words workers
 
 -- `--limit N`, where N is a number from 1 to 60,000; without it the limit is 60,000
 abbrev pub AsksLimit : List (List ℕ) → ℕ → Type 0
-AsksLimit words limit = IsOption (codes "--limit") entry_max entry_max words limit
+AsksLimit words limit = IsOption (codes "--limit") ENTRIES_MAX ENTRIES_MAX words limit
 
 -- the options ask for so many workers and this limit; each option stands at most once, in either
 -- order

@@ -3,7 +3,7 @@ ghost use Rattle.std.specs.Prelude.{◌≡◌};
 
 use crate::status::Status;
 use journal_text::JournalKind;
-use polis_base::{Bytes, LexError};
+use polis_base::{Bytes, NoMemory};
 use trace_text::TraceKind;
 
 /// What is wrong with the first token of a text that doesn't read.
@@ -43,56 +43,60 @@ pub enum Cause {
     /// A journal isn't legal up to an entry, or its stamps aren't rising up to there: the first
     /// such entry.
     Illegal { entry: u64 },
-    /// Out of memory.
-    NoMemory,
 }
 
-/// A file that isn't read or isn't accepted, or whose journal isn't legal, by the name that the
-/// command line gives it, and why.
+/// Why a call makes nothing.
 #[derive(Drop)]
-pub struct Failure<'a> {
-    /// The file's name.
-    pub name: &'a str,
-    /// Why.
-    pub cause: Cause,
+pub enum Failure<'a> {
+    /// Memory ran out.
+    NoMemory,
+    /// A file isn't read or isn't accepted, or its journal isn't legal.
+    File {
+        /// The file's name, as the command line gives it.
+        name: &'a str,
+        /// Why.
+        cause: Cause,
+    },
 }
 
 impl Cause {
-    ghost use Rattle.polis_words.specs.Lines.{status_of, lex_cause};
+    ghost use Rattle.polis_words.specs.Lines.{cause_status};
 
-    /// Why a text whose tokens don't read isn't accepted.
-    pub fn of_lex(error: LexError) -> Cause
-        ensures { result ≡ lex_cause error }
-    {
-        match error {
-            LexError::BadByte(place) => Cause::Lex {
-                kind: LexKind::Byte,
-                place,
-            },
-            LexError::NameTooLong(place) => Cause::Lex {
-                kind: LexKind::Name,
-                place,
-            },
-            LexError::NumberTooLarge(place) => Cause::Lex {
-                kind: LexKind::Number,
-                place,
-            },
-            LexError::NoMemory => Cause::NoMemory,
-        }
-    }
-
-    /// The status with which the call ends.
+    /// The status of a call that ends for this cause.
     pub fn status(&self) -> Status
-        ensures { result ≡ status_of self.now }
+        ensures { result ≡ cause_status self.now }
     {
         match self {
             Cause::ReadFault => Status::ReadFault,
-            Cause::NoMemory => Status::NoMemory,
             Cause::Absent | Cause::TooLong => Status::Refused,
             Cause::Lex { .. } | Cause::Syntax { .. } | Cause::Rule { .. } => Status::Refused,
             Cause::Conflict { .. } => Status::Refused,
             Cause::TraceLine { .. } | Cause::JournalLine { .. } => Status::Refused,
             Cause::Illegal { .. } => Status::Illegal,
+        }
+    }
+}
+
+impl<'a> From<NoMemory> for Failure<'a> {
+    ghost use Rattle.polis_words.specs.declared.cause.Failure.{Failure};
+
+    ghost from_gives = { λ _ failure. failure ≡ Failure.NoMemory };
+
+    fn from(_: NoMemory) -> Failure<'a> {
+        Failure::NoMemory
+    }
+}
+
+impl<'a> Failure<'a> {
+    ghost use Rattle.polis_words.specs.Lines.{status_of};
+
+    /// The status of a call that fails so.
+    pub fn status(&self) -> Status
+        ensures { result ≡ status_of self.now }
+    {
+        match self {
+            Failure::NoMemory => Status::NoMemory,
+            Failure::File { cause, .. } => cause.status(),
         }
     }
 }

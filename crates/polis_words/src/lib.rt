@@ -10,5 +10,8 @@ mod status;
 pub use cause::{Cause, Failure, LexKind};
 pub use lines::{fault_line, line_of};
 pub use print::{print_accepted, print_conflict, print_legal, print_migrated, print_summary};
-pub use requests::{Check, Compile, Demo, Migrate, Replay, Request, Run, judge, needs_workers};
+pub use requests::{
+    Bound, Check, Compile, Demo, GivenCosts, Migrate, Replay, Request, Run, needs_workers,
+    request_of, several_of,
+};
 pub use status::Status;

@@ -1,6 +1,6 @@
 // The one line of a call that made no product, and that of a save that fails.
 ghost use Rattle.std.specs.Prelude.{◌≡◌, ◌++◌, decimal, [], ◌∷◌, codes, IfOk, OnOk};
-ghost use Rattle.polis_words.specs.Lines.{failure_line, trace_word, journal_word, lex_word, refused, write_fault_line};
+ghost use Rattle.polis_words.specs.Lines.{cause_line, failure_line, trace_word, journal_word, lex_word, refused, write_fault_line};
 
 use crate::cause::{Cause, Failure, LexKind};
 use journal_text::JournalKind;
@@ -103,8 +103,8 @@ fn push_refused(name: &str, into: &mut Bytes) -> Result<(), NoMemory>
 }
 
 // Appends the line of a file that isn't accepted, or whose journal isn't legal, without its end.
-fn push_refusal(name: &str, cause: &Cause, into: &mut Bytes) -> Result<(), NoMemory>
-    ensures { OnOk result (into.new ≡ into.old ++ failure_line name.now cause.now) }
+fn push_cause(name: &str, cause: &Cause, into: &mut Bytes) -> Result<(), NoMemory>
+    ensures { OnOk result (into.new ≡ into.old ++ cause_line name.now cause.now) }
 {
     match cause {
         Cause::ReadFault => {
@@ -112,7 +112,6 @@ fn push_refusal(name: &str, cause: &Cause, into: &mut Bytes) -> Result<(), NoMem
             return into.push(name.as_bytes());
         }
         Cause::Illegal { entry } => return push_numbered(b"illegal", *entry, into),
-        Cause::NoMemory => return into.push(b"no memory"),
         _ => {}
     }
     push_refused(name, into)?;
@@ -129,14 +128,22 @@ fn push_refusal(name: &str, cause: &Cause, into: &mut Bytes) -> Result<(), NoMem
     }
 }
 
-/// The line of a file that isn't read or isn't accepted, or whose journal isn't legal, with its
-/// end.
+// Appends the line of a failure, without its end.
+fn push_failure(failure: &Failure<'_>, into: &mut Bytes) -> Result<(), NoMemory>
+    ensures { OnOk result (into.new ≡ into.old ++ failure_line failure.now) }
+{
+    match failure {
+        Failure::NoMemory => into.push(b"no memory"),
+        Failure::File { name, cause } => push_cause(name, cause, into),
+    }
+}
+
+/// The line of a failure, with its end.
 pub fn line_of(alloc: Global, failure: &Failure<'_>) -> Result<Bytes, NoMemory>
-    ensures { IfOk result (λ line. line
-        ≡ failure_line failure.now.name.now failure.now.cause ++ 10 ∷ []) }
+    ensures { IfOk result (λ line. line ≡ failure_line failure.now ++ 10 ∷ []) }
 {
     let mut line = Bytes::new(alloc);
-    push_refusal(failure.name, &failure.cause, &mut line)?;
+    push_failure(failure, &mut line)?;
     line.push(b"\n")?;
     Ok(line)
 }

@@ -3,27 +3,35 @@ ghost use Rattle.std.specs.Prelude.{◌≡◌, IfSome, IfNone};
 ghost use Rattle.polis_words.specs.declared.requests.Request.{Request};
 ghost use Rattle.polis_words.specs.Requests.{Asks, AsksNothing};
 
-mod checking;
-mod compiling;
-mod demoing;
+mod bound;
+mod check;
+mod command;
+mod compile;
+mod costs;
+mod demo;
 mod file_word;
-mod migrating;
-mod replaying;
-mod running;
+mod migrate;
+mod replay;
+mod run;
+mod workers;
 
-pub use checking::Check;
-use checking::check_of;
-pub use compiling::Compile;
-use compiling::compile_of;
-pub use demoing::Demo;
-use demoing::demo_of;
-pub use migrating::Migrate;
-use migrating::migrate_of;
+pub use bound::Bound;
+use bound::bound_of;
+pub use check::Check;
+use check::check_of;
+pub use compile::Compile;
+use compile::compile_of;
+pub use costs::GivenCosts;
+pub use demo::Demo;
+use demo::demo_of;
+pub use migrate::Migrate;
+use migrate::migrate_of;
 use polis_base::Words;
-pub use replaying::Replay;
-use replaying::replay_of;
-use running::run_of;
-pub use running::{Run, needs_workers};
+pub use replay::Replay;
+use replay::replay_of;
+pub use run::Run;
+use run::run_of;
+pub use workers::{needs_workers, several_of};
 
 /// What a command line asks for, one variant for each command.
 #[derive(Drop)]
@@ -40,37 +48,28 @@ pub enum Request<'a> {
     Migrate(Migrate<'a>),
     /// To run what is generated from a seed.
     Demo(Demo),
+    /// To bound what the reactions of a network's machines cost.
+    Bound(Bound<'a>),
 }
 
-/// What the command line asks for, if it asks for anything.
-pub fn judge(words: &Words) -> Option<Request<'_>>
+/// What the command line asks for, if it asks for anything: its first word names the command.
+pub fn request_of(words: &Words) -> Option<Request<'_>>
     ensures asks { IfSome result (λ request. Asks words.now request) }
     ensures one { IfSome result (λ request. (other : Request) → Asks words.now other
         → other ≡ request) }
     ensures nothing { IfNone result (AsksNothing words.now) }
 {
-    match run_of(words) {
-        Some(run) => return Some(Request::Run(run)),
-        None => {}
+    if words.len() == 0 {
+        return None;
     }
-    match check_of(words) {
-        Some(check) => return Some(Request::Check(check)),
-        None => {}
-    }
-    match compile_of(words) {
-        Some(compile) => return Some(Request::Compile(compile)),
-        None => {}
-    }
-    match replay_of(words) {
-        Some(replay) => return Some(Request::Replay(replay)),
-        None => {}
-    }
-    match migrate_of(words) {
-        Some(migrate) => return Some(Request::Migrate(migrate)),
-        None => {}
-    }
-    match demo_of(words) {
-        Some(demo) => Some(Request::Demo(demo)),
-        None => None,
+    match words.get(0) {
+        "run" => Some(Request::Run(run_of(words)?)),
+        "check" => Some(Request::Check(check_of(words)?)),
+        "compile" => Some(Request::Compile(compile_of(words)?)),
+        "replay" => Some(Request::Replay(replay_of(words)?)),
+        "migrate" => Some(Request::Migrate(migrate_of(words)?)),
+        "demo" => Some(Request::Demo(demo_of(words)?)),
+        "bound" => Some(Request::Bound(bound_of(words)?)),
+        _ => None,
     }
 }

@@ -5,7 +5,7 @@
 pub enum Status {
     /// What was asked for was made and written; the journal of a run is complete.
     Done = 0,
-    /// The words are of no form.
+    /// The command line is invalid.
     Usage = 1,
     /// A file couldn't be loaded.
     ReadFault = 2,

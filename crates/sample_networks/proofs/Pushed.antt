@@ -27,12 +27,6 @@ pub one_made : {X : Type 0} (old new : List X) (a x : X) → old ≡ [] → new 
 one_made {X = X} old new a x none is item =
     one_pushed old new a x is item ∙ ap (λ (l : List X). l ++ x ∷ []) none
 
-pub two_made : {X : Type 0} (old one new : List X) (a b x y : X) → old ≡ [] → one ≡ old ++ a ∷ []
-    → new ≡ one ++ b ∷ [] → a ≡ x → b ≡ y → new ≡ x ∷ y ∷ []
-two_made {X = X} old one new a b x y none first second item other =
-    two_pushed old one new a b x y first second item other
-    ∙ ap (λ (l : List X). l ++ x ∷ y ∷ []) none
-
 pub three_made : {X : Type 0} (old one more new : List X) (a b c x y z : X) → old ≡ []
     → one ≡ old ++ a ∷ [] → more ≡ one ++ b ∷ [] → new ≡ more ++ c ∷ [] → a ≡ x → b ≡ y → c ≡ z
     → new ≡ x ∷ y ∷ z ∷ []

@@ -1,5 +1,5 @@
 -- Lists of rows with the same conditions and actions are the same.
-use Rattle.std.proofs.Common.{◌≡◌, [], ◌∷◌, ◌++◌, List, map, IsTrue, refl}
+use Rattle.std.proofs.Common.{◌≡◌, [], ◌∷◌, List, map, IsTrue, refl}
 use mathlib.Core.HLevel.{is_prop→PathP}
 use mathlib.Core.Bool.{Bool-set}
 use Rattle.transition_table.specs.declared.row.Row.{Row}
@@ -26,12 +26,4 @@ same_rows (x ∷ xs) (y ∷ ys) p q =
     let other_acts : map (λ (r : Row). r.acts) xs ≡ map (λ (r : Row). r.acts) ys = cc in
     let first : x ≡ y = same_row x y conds acts in
     let others : xs ≡ ys = same_rows xs ys other_conds other_acts in
-    cc
-
--- the same after a prefix
-pub same_after : (prefix made xs ys : List Row) → made ≡ prefix ++ xs
-    → map (λ (r : Row). r.conds) xs ≡ map (λ (r : Row). r.conds) ys
-    → map (λ (r : Row). r.acts) xs ≡ map (λ (r : Row). r.acts) ys → made ≡ prefix ++ ys
-same_after prefix made xs ys is p q =
-    let same : xs ≡ ys = same_rows xs ys p q in
     cc

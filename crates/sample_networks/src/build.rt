@@ -1,17 +1,13 @@
 // Parts of networks.
-ghost use Rattle.std.specs.Prelude.{◌≡◌, ◌≤◌, ◌<◌, ◌-◌, [], ◌∷◌, IfOk, IsTrue};
+ghost use Rattle.std.specs.Prelude.{◌≡◌, [], ◌∷◌, IfOk, IsTrue};
 ghost use Rattle.std.specs.List.{list_all};
 ghost use Rattle.polis_base.specs.Names.{is_name};
-ghost use Rattle.domains.specs.Names.{AreValues};
 ghost use Rattle.domains.specs.Tables.{are_sizes};
-ghost use Rattle.domains.specs.declared.domain.Domain.TheVariants.{Names as NamesOf, Range as RangeOf};
-ghost use Rattle.domains.specs.declared.domain.Span.{Span as SpanOf};
-ghost use Rattle.sample_networks.specs.Ranges.{zero_to_three as three, zero_to_seven as seven, zero_to_ten as ten};
 ghost use Rattle.transition_table.specs.MachineFacts.{are_vars, are_results, is_row, is_small};
 ghost use Rattle.transition_table.specs.RowFacts.{are_actions};
-ghost use Rattle.transition_table.specs.Samples.{has_codes, gives as gives_code, copies as copies_input, adds as adds_step, pure_event as the_pure_event, valued_event as the_valued_event, state_of};
+ghost use Rattle.transition_table.specs.samples.Parts.{has_codes, gives as gives_code, pure_event as the_pure_event, state_of};
 
-use domains::{Domain, NameList, Span, VarTable};
+use domains::VarTable;
 use polis_base::{List, Name, NoMemory};
 use std::alloc::Global;
 use transition_table::{
@@ -31,45 +27,6 @@ pub fn sizes(alloc: Global, sizes: &[u8]) -> Result<VarTable, NoMemory>
         table.push(*size)?;
     }
     Ok(table)
-}
-
-/// A domain of these names.
-pub fn named(alloc: Global, names: &[Name]) -> Result<Domain, NoMemory>
-    requires { AreValues names.now }
-    ensures { IfOk result (λ d. d ≡ NamesOf names.now) }
-{
-    Ok(Domain::Names(NameList::of(List::from_slice(alloc, names)?)))
-}
-
-/// A domain of the numbers from the first to the last.
-pub fn range(first: u32, last: u32) -> Domain
-    requires ordered { first ≤ last }
-    requires few { last - first < 32 }
-    ensures { (span : SpanOf) → first ≡ span.first → last ≡ span.last → result ≡ RangeOf span }
-{
-    domains::laws();
-    Domain::Range(Span { first, last })
-}
-
-/// The numbers 0 to 3.
-pub fn zero_to_three() -> Domain
-    ensures { result ≡ three }
-{
-    range(0, 3)
-}
-
-/// The numbers 0 to 7.
-pub fn zero_to_seven() -> Domain
-    ensures { result ≡ seven }
-{
-    range(0, 7)
-}
-
-/// The numbers 0 to 10.
-pub fn zero_to_ten() -> Domain
-    ensures { result ≡ ten }
-{
-    range(0, 10)
 }
 
 /// An event without a value.
@@ -92,28 +49,6 @@ pub fn pure_event(
     })
 }
 
-/// An event with a value of a domain.
-pub fn valued_event(
-    alloc: Global,
-    text: &[u8],
-    domain: u32,
-    sender: Party,
-    to_env: bool,
-    receivers: &[u32],
-) -> Result<EventDecl, NoMemory>
-    requires { IsTrue (is_name text.now) }
-    ensures { IfOk result (λ event. event
-        ≡ the_valued_event text.now domain sender to_env receivers.now) }
-{
-    Ok(EventDecl {
-        name: Name::of_token(text),
-        domain: Some(domain),
-        sender,
-        to_env,
-        receivers: List::from_slice(alloc, receivers)?,
-    })
-}
-
 /// A condition that allows these codes of a variable, by bits.
 pub const fn on(var: u32, codes: u64) -> Cond
     ensures { result ≡ has_codes var codes }
@@ -128,26 +63,6 @@ pub const fn gives(place: u32, code: u8) -> Act
     Act {
         result: place,
         source: Source::Code(code),
-    }
-}
-
-/// An action that gives a result the code of an input.
-pub const fn copies(place: u32, var: u32) -> Act
-    ensures { result ≡ copies_input place var }
-{
-    Act {
-        result: place,
-        source: Source::Input(var),
-    }
-}
-
-/// An action that sets a result's state variable so much further.
-pub const fn adds(place: u32, step: u8) -> Act
-    ensures { result ≡ adds_step place step }
-{
-    Act {
-        result: place,
-        source: Source::Add(step),
     }
 }
 

@@ -1,28 +1,18 @@
 // Two events of the environment together give a third to it.
 ghost use Rattle.std.specs.Prelude.{◌≡◌, IfOk};
-ghost use Rattle.transition_table.specs.SampleJoin.{join_machine as the_machine, join as the_network};
+ghost use Rattle.transition_table.specs.samples.Join.{join_machine as the_machine, join as the_network};
+ghost use Rattle.transition_table.specs.Transitions.{AreDeterministic};
 
 use crate::build::{ENV, gives, machine, on, pure_event, row};
 use polis_base::{Name, NoMemory};
 use std::alloc::Global;
 use transition_table::{
-    DomainList, EventList, Machine, MachineList, Network, Party, RowList, StateList, laws_of_data,
+    DomainList, EventList, Machine, MachineList, Network, Party, RowList, StateList, laws,
+    laws_of_data,
 };
 
-/// Its text.
-pub const TEXT: &[u8] = b"network join version 1
-event a from env
-event b from env
-event c to env
-machine m priority 0 {
-  input a, b
-  output c
-  when a, b do emit c
-}
-";
-
-/// Fires where both inputs are present.
-pub fn join_machine(alloc: Global) -> Result<Machine, NoMemory>
+// Fires where both inputs are present.
+fn join_machine(alloc: Global) -> Result<Machine, NoMemory>
     ensures { IfOk result (λ m. m ≡ the_machine) }
 {
     let mut rows = RowList::new(alloc);
@@ -40,8 +30,8 @@ pub fn join_machine(alloc: Global) -> Result<Machine, NoMemory>
     Ok(made)
 }
 
-/// The network of that machine.
-pub fn network(alloc: Global) -> Result<Network, NoMemory>
+// The network of that machine.
+fn network(alloc: Global) -> Result<Network, NoMemory>
     ensures { IfOk result (λ net. net ≡ the_network) }
 {
     let mut events = EventList::new(alloc);
@@ -57,5 +47,15 @@ pub fn network(alloc: Global) -> Result<Network, NoMemory>
         machines,
     };
     laws_of_data();
+    Ok(net)
+}
+
+/// The network of the join.
+pub fn deterministic_network(alloc: Global) -> Result<Network, NoMemory>
+    ensures is { IfOk result (λ net. net ≡ the_network) }
+    ensures deterministic { IfOk result (λ net. AreDeterministic net) }
+{
+    laws();
+    let net = network(alloc)?;
     Ok(net)
 }

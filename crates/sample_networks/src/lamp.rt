@@ -1,29 +1,15 @@
 // A lamp that a press turns on.
 ghost use Rattle.std.specs.Prelude.{◌≡◌, IfOk};
-ghost use Rattle.transition_table.specs.SampleLamp.{lamp_machine as the_machine, lamp as the_network};
+ghost use Rattle.transition_table.specs.samples.Lamp.{lamp_machine as the_machine};
+ghost use Rattle.transition_table.specs.Transitions.{IsDeterministic};
 
-use crate::build::{ENV, gives, machine, named, on, pure_event, row, state};
-use polis_base::{Name, NoMemory};
+use crate::build::{gives, machine, on, row, state};
+use polis_base::NoMemory;
 use std::alloc::Global;
-use transition_table::{
-    DomainList, EventList, Machine, MachineList, Network, Party, RowList, laws_of_data,
-};
+use transition_table::{Machine, RowList, laws, laws_of_data};
 
-/// Its text.
-pub const TEXT: &[u8] = b"network lamp version 1
-domain bit = { off, on }
-event press from env
-event light to env
-machine lamp_ctl priority 1 {
-  input press
-  output light
-  state s : bit = off
-  when press, s = off do s := on, emit light
-}
-";
-
-/// Turns on at the first press.
-pub fn lamp_machine(alloc: Global) -> Result<Machine, NoMemory>
+// Turns on at the first press.
+fn lamp_machine(alloc: Global) -> Result<Machine, NoMemory>
     ensures { IfOk result (λ m. m ≡ the_machine) }
 {
     let mut rows = RowList::new(alloc);
@@ -42,23 +28,12 @@ pub fn lamp_machine(alloc: Global) -> Result<Machine, NoMemory>
     Ok(made)
 }
 
-/// The network of that machine.
-pub fn network(alloc: Global) -> Result<Network, NoMemory>
-    ensures { IfOk result (λ net. net ≡ the_network) }
+/// The lamp's machine.
+pub fn deterministic_machine(alloc: Global) -> Result<Machine, NoMemory>
+    ensures is { IfOk result (λ m. m ≡ the_machine) }
+    ensures deterministic { IfOk result (λ m. IsDeterministic m) }
 {
-    let mut domains = DomainList::new(alloc);
-    domains.push(named(alloc, &[Name::of_token(b"off"), Name::of_token(b"on")])?)?;
-    let mut events = EventList::new(alloc);
-    events.push(pure_event(alloc, b"press", ENV, false, &[0])?)?;
-    events.push(pure_event(alloc, b"light", Party::Machine(0), true, &[])?)?;
-    let mut machines = MachineList::new(alloc);
-    machines.push(lamp_machine(alloc)?)?;
-    let net = Network {
-        name: Name::of_token(b"lamp"),
-        domains,
-        events,
-        machines,
-    };
-    laws_of_data();
-    Ok(net)
+    laws();
+    let m = lamp_machine(alloc)?;
+    Ok(m)
 }

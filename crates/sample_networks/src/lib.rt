@@ -1,14 +1,7 @@
-// Sample networks: each as a text, and as a value that is proved to be the one that the definitions
-// have.
+// The texts of examples/, and two values that are proved to be those of the definitions.
 #![tactic(auto)]
 
-pub mod belt;
-pub mod build;
-pub mod clash;
-pub mod echo;
+mod build;
 pub mod join;
 pub mod lamp;
-pub mod looping;
-pub mod pong;
-pub mod two;
-pub mod value;
+pub mod texts;

@@ -1,6 +1,7 @@
 // Calls that no command makes, each once on a small network, against texts written by hand.
 ghost use Rattle.std.specs.Prelude.{◌≡◌, ◌≢◌, ◌++◌, [], ◌∷◌, IfOk, OnOk, IsTrue};
 ghost use Rattle.domains.specs.Tables.{fits};
+ghost use Rattle.transition_table.specs.samples.Join.{join as the_join};
 ghost use Rattle.transition_table.specs.Transitions.{AreDeterministic};
 ghost use Rattle.transition_table.specs.declared.decl.Party.TheVariants.{Env};
 ghost use Rattle.journals.specs.declared.entry.Entry.TheVariants.{Dep};
@@ -10,20 +11,20 @@ ghost use Rattle.net_core.specs.declared.answer.Admit.{Admit};
 
 use crate::inputs::Inputs;
 use crate::stamp::stamped_text;
-use crate::tests::counts::inputs_of;
+use crate::tests::inputs::{inputs_of, reactor_of, stepped, traced};
 use crate::tests::networks::TWO;
 use domains::{Codes, VarTable, first_codes, next_codes};
 use journal_replay::adopt;
 use journal_text::read_journal;
-use net_core::{Admit, Config, Entry, Journal};
+use net_core::{Admit, Config, Entry, Journal, Trace};
 use polis_base::{Bytes, NoMemory};
-use sample_networks::join;
+use sample_networks::join::deterministic_network;
+use sample_networks::texts::{JOIN_TRACE, TWO_TRACE};
 use scheduler_gen::{Finished, complete, plan};
 use std::alloc::Global;
 use std::test::Fail;
-use trace_text::read_trace;
-use transition_table::{Party, TableReactor};
-use worker_core::{Core, CoreStep, core_alone, core_run, merge};
+use transition_table::{Network, Party, TableReactor};
+use worker_core::{Core, CoreStep, core_alone, merge};
 
 // Both machines get the event, and then react in the order of their numbers.
 const BY_NUMBER: &[u8] = b"polis journal 2
@@ -70,14 +71,6 @@ const TRIES: &[(CoreStep, bool)] = &[
     (SECOND, true),
 ];
 
-// The reactor of the network's rows.
-fn reactor_of(inputs: &Inputs) -> TableReactor<'_>
-    requires { AreDeterministic inputs.now.net }
-    ensures { result.net.now ≡ inputs.now.net }
-{
-    TableReactor::new(&inputs.net)
-}
-
 // The text of a journal with its least stamps.
 fn text_of(
     alloc: Global,
@@ -100,18 +93,44 @@ fn merged(alloc: Global, inputs: &Inputs) -> Result<Journal, NoMemory>
     ensures { IfOk result (λ journal. Legal inputs.now.net inputs.now.trace journal) }
 {
     let r = reactor_of(inputs);
-    let core = core_run(alloc, &r, &inputs.trace, STEPS)?;
+    let core = stepped(alloc, &r, &inputs.trace, STEPS)?;
     let journal = merge(alloc, core.logs())?;
     Ok(journal)
 }
 
+// Its text.
+fn merged_text(alloc: Global, inputs: &Inputs) -> Result<Bytes, NoMemory>
+    requires fits { IsTrace inputs.now.net inputs.now.trace }
+    requires deterministic { AreDeterministic inputs.now.net }
+{
+    let journal = merged(alloc, inputs)?;
+    text_of(alloc, inputs, &journal, true)
+}
+
+fn merged_of_two(alloc: Global) -> Result<Bytes, NoMemory> {
+    let inputs = inputs_of(alloc, TWO, TWO_TRACE)?;
+    merged_text(alloc, &inputs)
+}
+
 #[test]
 fn merges_the_logs_of_four_steps(rt: HostRuntime) -> Result<(), Fail> {
-    let inputs = inputs_of(rt.alloc(), TWO, b"x\n")?;
-    let journal = merged(rt.alloc(), &inputs)?;
-    let text = text_of(rt.alloc(), &inputs, &journal, true)?;
+    let text = merged_of_two(rt.alloc())?;
     assert_eq!(rt; text.as_slice(), BY_NUMBER);
     Ok(())
+}
+
+// Whether this step is taken or not, as is said with it.
+fn is_as_said(
+    core: &mut Core<'_>,
+    r: &TableReactor<'_>,
+    step: CoreStep,
+    taken: bool,
+) -> Result<bool, NoMemory>
+    requires { r.now.net.now ≡ core.old.net }
+    ensures { OnOk result (core.new.net ≡ core.old.net) }
+{
+    let was = core.step(r, step)?;
+    Ok(was == taken)
 }
 
 // Whether each of these steps is taken or not, as is said with it.
@@ -123,28 +142,61 @@ fn takes(
     requires { r.now.net.now ≡ core.old.net }
 {
     for (step, taken) in tries {
-        if core.step(r, *step)? != *taken {
+        if !is_as_said(core, r, *step, *taken)? {
             return Ok(false);
         }
     }
     Ok(true)
 }
 
+fn takes_all(alloc: Global, inputs: &Inputs) -> Result<bool, NoMemory>
+    requires fits { IsTrace inputs.now.net inputs.now.trace }
+    requires deterministic { AreDeterministic inputs.now.net }
+{
+    let r = reactor_of(inputs);
+    let mut core = Core::start(alloc, &inputs.net, &inputs.trace)?;
+    takes(&mut core, &r, TRIES)
+}
+
+fn two_takes_all(alloc: Global) -> Result<bool, NoMemory> {
+    let inputs = inputs_of(alloc, TWO, TWO_TRACE)?;
+    takes_all(alloc, &inputs)
+}
+
 #[test]
 fn takes_the_steps_that_can_be_taken(rt: HostRuntime) -> Result<(), Fail> {
-    let inputs = inputs_of(rt.alloc(), TWO, b"x\n")?;
-    let r = reactor_of(&inputs);
-    let mut core = Core::start(rt.alloc(), &inputs.net, &inputs.trace)?;
-    assert!(rt; takes(&mut core, &r, TRIES)?);
+    assert!(rt; two_takes_all(rt.alloc())?);
     Ok(())
+}
+
+// The journal of steps until none is left.
+fn ended(alloc: Global, inputs: &Inputs) -> Result<Journal, NoMemory>
+    requires fits { IsTrace inputs.now.net inputs.now.trace }
+    requires deterministic { AreDeterministic inputs.now.net }
+    ensures { IfOk result (λ journal. Legal inputs.now.net inputs.now.trace journal) }
+{
+    let r = reactor_of(inputs);
+    let journal = core_alone(alloc, &r, &inputs.trace, 60_000)?;
+    Ok(journal)
+}
+
+// Its text.
+fn ended_text(alloc: Global, inputs: &Inputs) -> Result<Bytes, NoMemory>
+    requires fits { IsTrace inputs.now.net inputs.now.trace }
+    requires deterministic { AreDeterministic inputs.now.net }
+{
+    let journal = ended(alloc, inputs)?;
+    text_of(alloc, inputs, &journal, true)
+}
+
+fn ended_of_two(alloc: Global) -> Result<Bytes, NoMemory> {
+    let inputs = inputs_of(alloc, TWO, TWO_TRACE)?;
+    ended_text(alloc, &inputs)
 }
 
 #[test]
 fn steps_until_none_is_left(rt: HostRuntime) -> Result<(), Fail> {
-    let inputs = inputs_of(rt.alloc(), TWO, b"x\n")?;
-    let r = reactor_of(&inputs);
-    let journal = core_alone(rt.alloc(), &r, &inputs.trace, 60_000)?;
-    let text = text_of(rt.alloc(), &inputs, &journal, true)?;
+    let text = ended_of_two(rt.alloc())?;
     assert_eq!(rt; text.as_slice(), BY_NUMBER);
     Ok(())
 }
@@ -215,11 +267,12 @@ fn read(alloc: Global, inputs: &Inputs) -> Result<Journal, NoMemory>
     }
 }
 
-// The first entries of that journal, so many, where all are taken.
-fn begun(alloc: Global, inputs: &Inputs, count: u64) -> Result<Journal, NoMemory>
+// A configuration after the first entries of that journal, so many, where all are taken.
+fn after<'a>(alloc: Global, inputs: &'a Inputs, count: u64) -> Result<Config<'a>, NoMemory>
     requires fits { IsTrace inputs.now.net inputs.now.trace }
     requires deterministic { AreDeterministic inputs.now.net }
-    ensures { IfOk result (λ journal. Legal inputs.now.net inputs.now.trace journal) }
+    ensures network { IfOk result (λ config. config.net ≡ inputs.now.net) }
+    ensures trace { IfOk result (λ config. config.trace ≡ inputs.now.trace) }
 {
     let r = reactor_of(inputs);
     let journal = read(alloc, inputs)?;
@@ -227,7 +280,27 @@ fn begun(alloc: Global, inputs: &Inputs, count: u64) -> Result<Journal, NoMemory
     if !are_taken(&mut config, &r, &journal, count)? {
         return Err(NoMemory);
     }
+    Ok(config)
+}
+
+// These entries.
+fn begun(alloc: Global, inputs: &Inputs, count: u64) -> Result<Journal, NoMemory>
+    requires fits { IsTrace inputs.now.net inputs.now.trace }
+    requires deterministic { AreDeterministic inputs.now.net }
+    ensures { IfOk result (λ journal. Legal inputs.now.net inputs.now.trace journal) }
+{
+    let config = after(alloc, inputs, count)?;
     Ok(config.into_journal())
+}
+
+// Whether the first entry of that journal is taken.
+fn takes_first(alloc: Global, inputs: &Inputs, config: &mut Config<'_>) -> Result<bool, NoMemory>
+    requires network { config.old.net ≡ inputs.now.net }
+    requires deterministic { AreDeterministic inputs.now.net }
+{
+    let r = reactor_of(inputs);
+    let journal = read(alloc, inputs)?;
+    is_taken(config, &r, &journal, 0)
 }
 
 // Whether all four entries are taken and are complete, and the first one isn't taken again.
@@ -235,24 +308,40 @@ fn ends_after_four(alloc: Global, inputs: &Inputs) -> Result<bool, NoMemory>
     requires fits { IsTrace inputs.now.net inputs.now.trace }
     requires deterministic { AreDeterministic inputs.now.net }
 {
-    let r = reactor_of(inputs);
-    let journal = read(alloc, inputs)?;
-    let mut config = Config::start(alloc, &inputs.net, &inputs.trace)?;
-    if !are_taken(&mut config, &r, &journal, 4)? {
-        return Ok(false);
-    }
-    let again = is_taken(&mut config, &r, &journal, 0)?;
+    let mut config = after(alloc, inputs, 4)?;
+    let again = takes_first(alloc, inputs, &mut config)?;
     Ok(!again && config.is_complete())
+}
+
+fn two_ends_after_four(alloc: Global) -> Result<bool, NoMemory> {
+    let inputs = inputs_of(alloc, TWO, TWO_TRACE)?;
+    ends_after_four(alloc, &inputs)
+}
+
+// The text of all four entries.
+fn begun_text(alloc: Global, inputs: &Inputs) -> Result<Bytes, NoMemory>
+    requires fits { IsTrace inputs.now.net inputs.now.trace }
+    requires deterministic { AreDeterministic inputs.now.net }
+{
+    let journal = begun(alloc, inputs, 4)?;
+    text_of(alloc, inputs, &journal, true)
+}
+
+fn begun_of_two(alloc: Global) -> Result<Bytes, NoMemory> {
+    let inputs = inputs_of(alloc, TWO, TWO_TRACE)?;
+    begun_text(alloc, &inputs)
 }
 
 #[test]
 fn takes_the_entries_of_a_legal_journal(rt: HostRuntime) -> Result<(), Fail> {
-    let inputs = inputs_of(rt.alloc(), TWO, b"x\n")?;
-    assert!(rt; ends_after_four(rt.alloc(), &inputs)?);
-    let journal = begun(rt.alloc(), &inputs, 4)?;
-    let text = text_of(rt.alloc(), &inputs, &journal, true)?;
+    assert!(rt; two_ends_after_four(rt.alloc())?);
+    let text = begun_of_two(rt.alloc())?;
     assert_eq!(rt; text.as_slice(), BY_NUMBER);
     Ok(())
+}
+
+fn has_two_and_is_open(config: &Config<'_>) -> bool {
+    config.len() == 2 && !config.is_complete()
 }
 
 // The same journal, where it has two entries and isn't complete.
@@ -262,10 +351,21 @@ fn resumed(alloc: Global, inputs: &Inputs, journal: Journal) -> Result<Journal, 
     ensures { IfOk result (λ journal. Legal inputs.now.net inputs.now.trace journal) }
 {
     let config = Config::resume(alloc, &inputs.net, &inputs.trace, journal)?;
-    if config.len() != 2 || config.is_complete() {
+    if !has_two_and_is_open(&config) {
         return Err(NoMemory);
     }
     Ok(config.into_journal())
+}
+
+// The first two entries, resumed.
+fn resumed_after_two(alloc: Global, inputs: &Inputs) -> Result<Journal, NoMemory>
+    requires fits { IsTrace inputs.now.net inputs.now.trace }
+    requires deterministic { AreDeterministic inputs.now.net }
+    ensures { IfOk result (λ journal. Legal inputs.now.net inputs.now.trace journal) }
+{
+    let first = begun(alloc, inputs, 2)?;
+    let from = resumed(alloc, inputs, first)?;
+    Ok(from)
 }
 
 // The journal carried on by the picks.
@@ -284,13 +384,25 @@ fn finished(alloc: Global, inputs: &Inputs, from: Journal) -> Result<Finished, N
     Ok(made)
 }
 
+// Its text.
+fn finished_text(alloc: Global, inputs: &Inputs, from: Journal) -> Result<Bytes, NoMemory>
+    requires fits { IsTrace inputs.now.net inputs.now.trace }
+    requires deterministic { AreDeterministic inputs.now.net }
+    requires legal { Legal inputs.now.net inputs.now.trace from }
+{
+    let made = finished(alloc, inputs, from)?;
+    text_of(alloc, inputs, &made.journal, made.complete)
+}
+
+fn carried_on_of_two(alloc: Global) -> Result<Bytes, NoMemory> {
+    let inputs = inputs_of(alloc, TWO, TWO_TRACE)?;
+    let from = resumed_after_two(alloc, &inputs)?;
+    finished_text(alloc, &inputs, from)
+}
+
 #[test]
 fn carries_a_legal_journal_on(rt: HostRuntime) -> Result<(), Fail> {
-    let inputs = inputs_of(rt.alloc(), TWO, b"x\n")?;
-    let first = begun(rt.alloc(), &inputs, 2)?;
-    let from = resumed(rt.alloc(), &inputs, first)?;
-    let made = finished(rt.alloc(), &inputs, from)?;
-    let text = text_of(rt.alloc(), &inputs, &made.journal, made.complete)?;
+    let text = carried_on_of_two(rt.alloc())?;
     assert_eq!(rt; text.as_slice(), BY_PRIORITY);
     Ok(())
 }
@@ -319,23 +431,36 @@ fn landings(alloc: Global) -> Result<Journal, NoMemory>
     Ok(journal)
 }
 
-// How many of these landings are adopted where the environment sends what lands.
-fn count_adopted(alloc: Global, limit: u64) -> Result<u64, NoMemory> {
-    let net = join::network(alloc)?;
-    let trace = match read_trace(alloc, &net, b"a\na\nb\n") {
-        Ok(trace) => trace,
-        Err(_) => return Err(NoMemory),
-    };
+// How many of these landings are adopted.
+fn count_adopted(alloc: Global, net: &Network, trace: &Trace, limit: u64) -> Result<u64, NoMemory>
+    requires network { net.now ≡ the_join }
+    requires fits { IsTrace net.now trace.now }
+{
     let journal = landings(alloc)?;
-    let adopted = adopt(alloc, &net, &trace, journal, limit)?;
+    let adopted = adopt(alloc, net, trace, journal, limit)?;
     Ok(adopted.len())
+}
+
+// The same where the environment sends what lands.
+fn adopted_of_join(alloc: Global, limit: u64) -> Result<u64, NoMemory> {
+    let net = deterministic_network(alloc)?;
+    let trace = traced(alloc, &net, JOIN_TRACE)?;
+    count_adopted(alloc, &net, &trace, limit)
 }
 
 #[test]
 fn adopts_landings_up_to_the_limit(rt: HostRuntime) -> Result<(), Fail> {
-    assert_eq!(rt; count_adopted(rt.alloc(), 2)?, 2);
-    assert_eq!(rt; count_adopted(rt.alloc(), 60_000)?, 3);
+    assert_eq!(rt; adopted_of_join(rt.alloc(), 2)?, 2);
+    assert_eq!(rt; adopted_of_join(rt.alloc(), 60_000)?, 3);
     Ok(())
+}
+
+// Goes on to the next list of codes, and answers whether there is one.
+fn goes_on(codes: &mut Codes, vars: &VarTable) -> bool
+    requires { IsTrue (fits vars.now codes.old) }
+    ensures { IsTrue (fits vars.now codes.new) }
+{
+    next_codes(codes, vars)
 }
 
 // How many lists of codes follow these.
@@ -343,20 +468,30 @@ fn count_next(vars: &VarTable, codes: &mut Codes) -> Result<u64, NoMemory>
     requires { IsTrue (fits vars.now codes.old) }
 {
     for count in 0..60_000 {
-        if !next_codes(codes, vars) {
+        if !goes_on(codes, vars) {
             return Ok(count);
         }
     }
     Err(NoMemory)
 }
 
-#[test]
-fn eleven_lists_of_codes_follow_the_first(rt: HostRuntime) -> Result<(), Fail> {
-    let mut vars = VarTable::new(rt.alloc());
+// How many follow the first one.
+fn count_after_first(alloc: Global, vars: &VarTable) -> Result<u64, NoMemory> {
+    let mut codes = first_codes(alloc, vars)?;
+    count_next(vars, &mut codes)
+}
+
+fn three_sizes(alloc: Global) -> Result<VarTable, NoMemory> {
+    let mut vars = VarTable::new(alloc);
     vars.push(2)?;
     vars.push(2)?;
     vars.push(3)?;
-    let mut codes = first_codes(rt.alloc(), &vars)?;
-    assert_eq!(rt; count_next(&vars, &mut codes)?, 11);
+    Ok(vars)
+}
+
+#[test]
+fn eleven_lists_of_codes_follow_the_first(rt: HostRuntime) -> Result<(), Fail> {
+    let vars = three_sizes(rt.alloc())?;
+    assert_eq!(rt; count_after_first(rt.alloc(), &vars)?, 11);
     Ok(())
 }

@@ -1,18 +1,19 @@
 // That runs react by the reactor that they are handed: one that counts its calls.
-ghost use Rattle.std.specs.Prelude.{IfOk};
 ghost use Rattle.journals.specs.Journals.{IsTrace};
 ghost use Rattle.transition_table.specs.Transitions.{AreDeterministic, HasWidths, IsSnapshot, OfMachine, Transition};
 
-use crate::accept::network_in;
 use crate::inputs::Inputs;
 use crate::ran::run_alone;
 use crate::tests::gates::{Meeting, Outside};
+use crate::tests::inputs::inputs_of;
 use crate::tests::networks::{EVEN, LOOP};
 use polis_base::NoMemory;
+use sample_networks::texts::{LOOP_TRACE, TWO_TRACE};
 use std::alloc::Global;
+use std::sync::Wait;
 use std::sync::atomic::{AtomicU64, Ordering};
 use std::test::Fail;
-use trace_text::read_trace;
+use std::thread::Threads;
 use transition_table::{Network, Outcome, Reactor, Snapshot, TableReactor};
 use worker_run::gather;
 
@@ -44,21 +45,6 @@ impl<'a> Reactor for Counting<'a> {
     ghost deterministic = { λ r. r.inner.deterministic };
 }
 
-// A network and a trace of it that are accepted.
-pub fn inputs_of(alloc: Global, net: &[u8], trace: &[u8]) -> Result<Inputs, Fail>
-    ensures fits { IfOk result (λ inputs. IsTrace inputs.net inputs.trace) }
-    ensures deterministic { IfOk result (λ inputs. AreDeterministic inputs.net) }
-{
-    let net = match network_in(alloc, net) {
-        Ok(net) => net,
-        Err(_) => return Err(NoMemory.into()),
-    };
-    match read_trace(alloc, &net, trace) {
-        Ok(trace) => Ok(Inputs { net, trace }),
-        Err(_) => Err(NoMemory.into()),
-    }
-}
-
 // The reactor of the network's rows, which has made no reaction yet.
 fn make_counting(inputs: &Inputs) -> Counting<'_>
     requires fits { IsTrace inputs.now.net inputs.now.trace }
@@ -71,24 +57,61 @@ fn make_counting(inputs: &Inputs) -> Counting<'_>
     }
 }
 
+// How many entries two workers gather, and how often they call the reactor.
+fn gathered<T: Threads + Wait + Sync>(
+    rt: &T,
+    alloc: Global,
+    inputs: &Inputs,
+    gate: &Outside,
+) -> Result<(u64, u64), NoMemory>
+    requires fits { IsTrace inputs.now.net inputs.now.trace }
+    requires deterministic { AreDeterministic inputs.now.net }
+{
+    let r = make_counting(inputs);
+    let gathered = gather(rt, alloc, &r, &inputs.trace, 2, 60_000, gate)?;
+    Ok((gathered.journal.len(), r.count()))
+}
+
+// The same of a network and a trace that both machines read.
+fn gathered_of_even<T: Threads + Wait + Sync>(
+    rt: &T,
+    alloc: Global,
+    gate: &Outside,
+) -> Result<(u64, u64), NoMemory> {
+    let inputs = inputs_of(alloc, EVEN, TWO_TRACE)?;
+    gathered(rt, alloc, &inputs, gate)
+}
+
 #[test]
 fn workers_react_twice_in_a_run_of_two_reactions(rt: HostRuntime) -> Result<(), Fail> {
-    let inputs = inputs_of(rt.alloc(), EVEN, b"x\n")?;
-    let r = make_counting(&inputs);
     let gate = Outside(Meeting::new());
-    let gathered = gather(&rt, rt.alloc(), &r, &inputs.trace, 2, 60_000, &gate)?;
+    let (entries, calls) = gathered_of_even(&rt, rt.alloc(), &gate)?;
     assert!(rt; gate.0.was_met());
-    assert_eq!(rt; gathered.journal.len(), 4);
-    assert_eq!(rt; r.count(), 2);
+    assert_eq!(rt; entries, 4);
+    assert_eq!(rt; calls, 2);
     Ok(())
+}
+
+// How many entries the scheduler's run has, and how often it calls the reactor.
+fn scheduled(alloc: Global, inputs: &Inputs) -> Result<(u64, u64), NoMemory>
+    requires fits { IsTrace inputs.now.net inputs.now.trace }
+    requires deterministic { AreDeterministic inputs.now.net }
+{
+    let r = make_counting(inputs);
+    let ran = run_alone(alloc, &r, &inputs.trace, 60_000)?;
+    Ok((ran.journal.len(), r.count()))
+}
+
+// The same of the machine that reads what it emits.
+fn scheduled_of_loop(alloc: Global) -> Result<(u64, u64), NoMemory> {
+    let inputs = inputs_of(alloc, LOOP, LOOP_TRACE)?;
+    scheduled(alloc, &inputs)
 }
 
 #[test]
 fn the_scheduler_reacts_thrice_in_a_run_of_three_reactions(rt: HostRuntime) -> Result<(), Fail> {
-    let inputs = inputs_of(rt.alloc(), LOOP, b"go\n")?;
-    let r = make_counting(&inputs);
-    let ran = run_alone(rt.alloc(), &r, &inputs.trace, 60_000)?;
-    assert_eq!(rt; ran.journal.len(), 6);
-    assert!(rt; r.count() >= 3);
+    let (entries, calls) = scheduled_of_loop(rt.alloc())?;
+    assert_eq!(rt; entries, 6);
+    assert!(rt; calls >= 3);
     Ok(())
 }

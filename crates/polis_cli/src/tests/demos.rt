@@ -1,18 +1,23 @@
 // Demos, over a host that holds no file, and the texts of one, reckoned outside by a script of the
 // definition.
-use crate::tests::make_words;
-use crate::top::polis;
+use crate::tests::cases::call;
 use event_buffer::OpenGate;
 use net_gen::{Generated, generate};
-use polis_base::{Bytes, MemoryHost};
+use polis_base::{Bytes, MemoryHost, NoMemory};
 use polis_words::Status;
 use std::alloc::Global;
-use std::process::Abort;
 use std::sync::Wait;
 use std::test::Fail;
 use std::thread::Threads;
 
-const SEEDS: &[&str] = &["0", "1", "7", "18446744073709551615"];
+const SEVEN: &[&str] = &["demo", "7"];
+
+const DEMOS: &[&[&str]] = &[
+    &["demo", "0"],
+    &["demo", "1"],
+    SEVEN,
+    &["demo", "18446744073709551615"],
+];
 
 // Whether the first line of a text ends with `complete`.
 fn ends_complete(text: &[u8]) -> bool {
@@ -22,33 +27,39 @@ fn ends_complete(text: &[u8]) -> bool {
     }
 }
 
-// What is left after a demo.
-fn after_demo<T: Abort + Threads + Wait + Sync>(
+// Whether a demo over a host without files is done, and what it shows is complete. Puts that at the
+// end.
+fn is_done<T: Threads + Wait + Sync>(
     rt: &T,
     alloc: Global,
-    seed: &str,
-) -> Result<MemoryHost, Fail> {
+    words: &[&str],
+    shown: &mut Bytes,
+) -> Result<bool, NoMemory> {
     let mut host = MemoryHost::new(alloc);
-    let words = make_words(alloc, &["demo", seed])?;
-    let status = polis(rt, alloc, &words, &mut host, &OpenGate);
-    assert!(rt; status == Status::Done, "the status of seed {seed}");
-    assert!(rt; ends_complete(host.shown()), "what is shown of seed {seed}");
-    Ok(host)
+    let status = call(rt, alloc, words, &mut host, &OpenGate)?;
+    shown.push(host.shown())?;
+    Ok(status == Status::Done && ends_complete(host.shown()))
 }
 
 #[test]
 fn demos_are_complete(rt: HostRuntime) -> Result<(), Fail> {
-    for seed in SEEDS {
-        after_demo(&rt, rt.alloc(), seed)?;
+    let mut shown = Bytes::new(rt.alloc());
+    for (number, words) in DEMOS.iter().enumerate() {
+        assert!(rt;
+            is_done(&rt, rt.alloc(), words, &mut shown)?,
+            "demo {number}"
+        );
     }
     Ok(())
 }
 
 #[test]
 fn a_demo_is_the_same_again(rt: HostRuntime) -> Result<(), Fail> {
-    let once = after_demo(&rt, rt.alloc(), "7")?;
-    let again = after_demo(&rt, rt.alloc(), "7")?;
-    assert!(rt; once.shown() == again.shown());
+    let mut once = Bytes::new(rt.alloc());
+    assert!(rt; is_done(&rt, rt.alloc(), SEVEN, &mut once)?);
+    let mut again = Bytes::new(rt.alloc());
+    assert!(rt; is_done(&rt, rt.alloc(), SEVEN, &mut again)?);
+    assert!(rt; once.as_slice() == again.as_slice());
     Ok(())
 }
 
@@ -78,11 +89,14 @@ fn begins_as_said(made: &Generated) -> bool {
         && has_at(&made.trace, 0, FIRST_TICKS)
 }
 
-#[test]
-fn the_first_lines(rt: HostRuntime) {
-    let said = match generate(rt.alloc(), 7) {
+fn draws_as_said(alloc: Global) -> bool {
+    match generate(alloc, 7) {
         Ok(made) => begins_as_said(&made),
         Err(_) => false,
-    };
-    assert!(rt; said);
+    }
+}
+
+#[test]
+fn the_first_lines(rt: HostRuntime) {
+    assert!(rt; draws_as_said(rt.alloc()));
 }

@@ -4,7 +4,7 @@
 ghost use Rattle.std.specs.Prelude.{◌≡◌, IfOk, OnOk, IsTrue};
 ghost use Rattle.domains.specs.Tables.{fits};
 ghost use Rattle.transition_table.specs.Orders.{Allowed, sizes_of};
-ghost use Rattle.transition_table.specs.SampleLamp.{lamp_machine as the_lamp};
+ghost use Rattle.transition_table.specs.samples.Lamp.{lamp_machine as the_lamp};
 ghost use Rattle.transition_table.specs.Transitions.{IsDeterministic};
 ghost use Rattle.decision_diagram.specs.Diagrams.{IsNode};
 ghost use Rattle.sgraph.specs.Walks.{FitsMachine};
@@ -13,14 +13,14 @@ use crate::compile_machine;
 use char_function::{Supports, characteristic, supports};
 use decision_diagram::{NodeId, Order, Root, Store};
 use domains::Codes;
-use order_sift::sift;
+use order_sift::{Sifted, sift};
 use polis_base::NoMemory;
-use sample_networks::lamp::lamp_machine;
+use sample_networks::lamp::deterministic_machine;
 use sgraph::{Graph, build, evaluate};
 use sgraph_opt::{drop_defaults, share};
 use std::alloc::Global;
 use std::test::Fail;
-use transition_table::{Machine, Outcome, Snapshot, laws};
+use transition_table::{Machine, Outcome, Snapshot};
 
 // Variables and results, each with the set of its codes. The lamp goes on where it is pressed
 // while it is off.
@@ -29,13 +29,9 @@ const FIRES: &[(u32, u64)] = &[(0, 2), (1, 1), (2, 2), (3, 4), (4, 2)];
 // No result has a code but 0.
 const BLANK: &[(u32, u64)] = &[(2, 1), (3, 1), (4, 1)];
 
-fn lamp(alloc: Global) -> Result<Machine, NoMemory>
-    ensures is { IfOk result (λ m. m ≡ the_lamp) }
-    ensures deterministic { IfOk result (λ m. IsDeterministic m) }
-{
-    laws();
-    let m = lamp_machine(alloc)?;
-    Ok(m)
+fn lamp_supports(alloc: Global) -> Result<Supports, NoMemory> {
+    let m = deterministic_machine(alloc)?;
+    supports(alloc, &m)
 }
 
 // Whether each result depends on these variables.
@@ -48,12 +44,17 @@ fn all_depend_on(s: &Supports, vars: &[u32]) -> bool {
     true
 }
 
+// How many results the lamp has, and whether each depends on both variables.
+fn depending(alloc: Global) -> Result<(u64, bool), NoMemory> {
+    let s = lamp_supports(alloc)?;
+    Ok((s.len(), all_depend_on(&s, &[0, 1])))
+}
+
 #[test]
 fn results_depend_on_both_variables(rt: HostRuntime) -> Result<(), Fail> {
-    let m = lamp(rt.alloc())?;
-    let s = supports(rt.alloc(), &m)?;
-    assert_eq!(rt; s.len(), 3);
-    assert!(rt; all_depend_on(&s, &[0, 1]));
+    let (results, all_depend) = depending(rt.alloc())?;
+    assert_eq!(rt; results, 3);
+    assert!(rt; all_depend);
     Ok(())
 }
 
@@ -69,25 +70,63 @@ fn are_same(one: &Order, other: &Order) -> bool {
     true
 }
 
+// What sifting makes of a machine: an order in which each result stands after what it depends on.
+fn sifted(alloc: Global, m: &Machine) -> Result<Sifted, NoMemory>
+    requires { IsDeterministic m.now }
+    ensures { IfOk result (λ sifted. Allowed m.now sifted.order) }
+{
+    let sifted = sift(alloc, m)?;
+    Ok(sifted)
+}
+
+fn sifted_lamp(alloc: Global) -> Result<Sifted, NoMemory> {
+    let m = deterministic_machine(alloc)?;
+    sifted(alloc, &m)
+}
+
+// The order and the sizes of the compiled machine.
+fn compiled(alloc: Global, m: &Machine) -> Result<Sifted, NoMemory>
+    requires { IsDeterministic m.now }
+{
+    let compiled = compile_machine(alloc, m)?;
+    Ok(compiled.sifted)
+}
+
+fn compiled_lamp(alloc: Global) -> Result<Sifted, NoMemory> {
+    let m = deterministic_machine(alloc)?;
+    compiled(alloc, &m)
+}
+
+fn are_alike(one: &Sifted, other: &Sifted) -> bool {
+    are_same(&one.order, &other.order)
+        && one.first_count == other.first_count
+        && one.count == other.count
+}
+
+fn is_compiled(alloc: Global, sifted: &Sifted) -> Result<bool, NoMemory> {
+    let compiled = compiled_lamp(alloc)?;
+    Ok(are_alike(sifted, &compiled))
+}
+
+fn sifts_as_compiled(alloc: Global) -> Result<bool, NoMemory> {
+    let sifted = sifted_lamp(alloc)?;
+    is_compiled(alloc, &sifted)
+}
+
 #[test]
 fn sifting_gives_the_order_of_the_compiled_machine(rt: HostRuntime) -> Result<(), Fail> {
-    let m = lamp(rt.alloc())?;
-    let sifted = sift(rt.alloc(), &m)?;
-    let compiled = compile_machine(rt.alloc(), &m)?;
-    assert!(rt; are_same(&sifted.order, &compiled.sifted.order));
-    assert_eq!(rt; sifted.first_count, compiled.sifted.first_count);
-    assert_eq!(rt; sifted.count, compiled.sifted.count);
+    assert!(rt; sifts_as_compiled(rt.alloc())?);
     Ok(())
 }
 
-// The diagram under the sifted order, and that order's size.
-fn lamp_root(alloc: Global) -> Result<(Root, u64), NoMemory>
-    ensures { IfOk result (λ made. made.0.store.sizes ≡ sizes_of the_lamp) }
+// The diagram of a machine under an order.
+fn root_under(alloc: Global, m: &Machine, order: &Order) -> Result<Root, NoMemory>
+    requires sure { IsDeterministic m.now }
+    requires allowed { Allowed m.now order.now }
+    ensures { IfOk result (λ root. root.store.sizes ≡ sizes_of m.now) }
 {
-    let m = lamp(alloc)?;
-    let sifted = sift(alloc, &m)?;
-    let root = characteristic(alloc, &m, &sifted.order)?;
-    Ok((root, sifted.count))
+    let root = characteristic(alloc, m, order)?;
+    Ok(root)
 }
 
 // The node that is true where an item's code is in a set.
@@ -185,13 +224,79 @@ fn size_of(root: &Root) -> Result<u64, NoMemory> {
     Err(NoMemory)
 }
 
+// The root's values where the lamp is pressed while it is off and goes on, with the light and
+// without it.
+fn values_of(alloc: Global, root: &Root) -> Result<(bool, bool), NoMemory>
+    requires { root.now.store.sizes ≡ sizes_of the_lamp }
+{
+    let lit = value_on(alloc, root, &[1, 0, 1, 2, 1])?;
+    let dark = value_on(alloc, root, &[1, 0, 1, 2, 0])?;
+    Ok((lit, dark))
+}
+
+// Whether the formula's node is the root.
+fn is_formula(root: &mut Root) -> Result<bool, NoMemory>
+    requires { root.old.store.sizes ≡ sizes_of the_lamp }
+{
+    let node = reacts(&mut root.store)?;
+    Ok(node == root.node)
+}
+
+// What is seen of the lamp's diagram.
+#[derive(Clone, Copy)]
+struct Seen {
+    // the size under the sifted order, as the sifting says and as is counted
+    sifted: u64,
+    counted: u64,
+    lit: bool,
+    dark: bool,
+    is_formula: bool,
+}
+
+fn see_root(alloc: Global, root: &mut Root, sifted: u64) -> Result<Seen, NoMemory>
+    requires { root.old.store.sizes ≡ sizes_of the_lamp }
+{
+    let counted = size_of(root)?;
+    let (lit, dark) = values_of(alloc, root)?;
+    let is_formula = is_formula(root)?;
+    Ok(Seen {
+        sifted,
+        counted,
+        lit,
+        dark,
+        is_formula,
+    })
+}
+
+fn see_under(alloc: Global, m: &Machine, sifted: &Sifted) -> Result<Seen, NoMemory>
+    requires machine { m.now ≡ the_lamp }
+    requires sure { IsDeterministic m.now }
+    requires allowed { Allowed m.now sifted.now.order }
+{
+    let mut root = root_under(alloc, m, &sifted.order)?;
+    see_root(alloc, &mut root, sifted.count)
+}
+
+fn see_machine(alloc: Global, m: &Machine) -> Result<Seen, NoMemory>
+    requires machine { m.now ≡ the_lamp }
+    requires sure { IsDeterministic m.now }
+{
+    let sifted = sifted(alloc, m)?;
+    see_under(alloc, m, &sifted)
+}
+
+fn see_lamp(alloc: Global) -> Result<Seen, NoMemory> {
+    let m = deterministic_machine(alloc)?;
+    see_machine(alloc, &m)
+}
+
 #[test]
 fn the_diagram_is_the_one_of_the_formula(rt: HostRuntime) -> Result<(), Fail> {
-    let (mut root, count) = lamp_root(rt.alloc())?;
-    assert_eq!(rt; size_of(&root)?, count);
-    assert!(rt; value_on(rt.alloc(), &root, &[1, 0, 1, 2, 1])?);
-    assert!(rt; !value_on(rt.alloc(), &root, &[1, 0, 1, 2, 0])?);
-    assert_eq!(rt; reacts(&mut root.store)?, root.node);
+    let seen = see_lamp(rt.alloc())?;
+    assert_eq!(rt; seen.counted, seen.sifted);
+    assert!(rt; seen.lit);
+    assert!(rt; !seen.dark);
+    assert!(rt; seen.is_formula);
     Ok(())
 }
 
@@ -216,6 +321,26 @@ fn made_small(alloc: Global, m: &Machine, graph: &Graph) -> Result<Graph, NoMemo
     Ok(small)
 }
 
+// The graph under the sifted order.
+fn sifted_graph(alloc: Global, m: &Machine) -> Result<Graph, NoMemory>
+    requires { IsDeterministic m.now }
+    ensures { IfOk result (λ g. FitsMachine m.now g) }
+{
+    let sifted = sifted(alloc, m)?;
+    let graph = graph_under(alloc, m, &sifted.order)?;
+    Ok(graph)
+}
+
+// The small graph under the sifted order.
+fn small_graph(alloc: Global, m: &Machine) -> Result<Graph, NoMemory>
+    requires { IsDeterministic m.now }
+    ensures { IfOk result (λ g. FitsMachine m.now g) }
+{
+    let graph = sifted_graph(alloc, m)?;
+    let small = made_small(alloc, m, &graph)?;
+    Ok(small)
+}
+
 // What the graph makes of a press while the lamp is off.
 fn pressed(alloc: Global, m: &Machine, g: &Graph) -> Result<Outcome, NoMemory>
     requires machine { m.now ≡ the_lamp }
@@ -229,16 +354,40 @@ fn pressed(alloc: Global, m: &Machine, g: &Graph) -> Result<Outcome, NoMemory>
     Ok(outcome)
 }
 
+// Whether the machine fires, its state goes to `on`, and it emits `light`.
+fn is_lit(outcome: &Outcome) -> bool {
+    outcome.fires
+        && outcome.next.as_slice() == [2].as_slice()
+        && outcome.outs.as_slice() == [1].as_slice()
+}
+
+// How long the graph is, and whether that press turns the lamp on.
+fn press_graph(alloc: Global, m: &Machine, g: &Graph) -> Result<(u64, bool), NoMemory>
+    requires machine { m.now ≡ the_lamp }
+    requires graph { FitsMachine m.now g.now }
+{
+    let outcome = pressed(alloc, m, g)?;
+    Ok((g.len(), is_lit(&outcome)))
+}
+
+// The same of the small graph.
+fn press_machine(alloc: Global, m: &Machine) -> Result<(u64, bool), NoMemory>
+    requires machine { m.now ≡ the_lamp }
+    requires sure { IsDeterministic m.now }
+{
+    let small = small_graph(alloc, m)?;
+    press_graph(alloc, m, &small)
+}
+
+fn press_lamp(alloc: Global) -> Result<(u64, bool), NoMemory> {
+    let m = deterministic_machine(alloc)?;
+    press_machine(alloc, &m)
+}
+
 #[test]
 fn graphs_are_made_small_step_by_step(rt: HostRuntime) -> Result<(), Fail> {
-    let m = lamp(rt.alloc())?;
-    let sifted = sift(rt.alloc(), &m)?;
-    let graph = graph_under(rt.alloc(), &m, &sifted.order)?;
-    let small = made_small(rt.alloc(), &m, &graph)?;
-    assert_eq!(rt; small.len(), 7);
-    let outcome = pressed(rt.alloc(), &m, &small)?;
-    assert!(rt; outcome.fires);
-    assert_eq!(rt; outcome.next.as_slice(), [2].as_slice());
-    assert_eq!(rt; outcome.outs.as_slice(), [1].as_slice());
+    let (vertices, is_lit) = press_lamp(rt.alloc())?;
+    assert_eq!(rt; vertices, 7);
+    assert!(rt; is_lit);
     Ok(())
 }

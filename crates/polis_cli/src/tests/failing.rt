@@ -1,6 +1,7 @@
 // Calls of the host that fail, in a run by two workers, in a demo, and where a file is refused.
+use crate::tests::NO_TOKEN;
+use crate::tests::cases::{BY_TWO, Case, PRESSED, REFUSED, UNREAD, UNWRITTEN, try_cases};
 use crate::tests::listings::LAMP_LISTING;
-use crate::tests::{BY_TWO, Case, NO_TOKEN, PRESSED, REFUSED, UNREAD, UNWRITTEN, try_cases};
 use std::test::Fail;
 
 // The lamp on one press by two workers.

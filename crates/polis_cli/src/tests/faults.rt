@@ -1,342 +1,137 @@
-// Network texts that `check` refuses, and what it names. The places were counted by hand.
-use crate::tests::{CHECK, Case, DONE, Repeated, line_of, refused, text_of, try_case};
+// Network texts that `check` refuses, and what it shows. The places were counted by hand.
+use crate::tests::cases::{CHECK, Repeated, read_only, text_of, try_case};
+use polis_words::Status;
+use sample_networks::texts::PRESS_TRACE;
 use std::alloc::Global;
 use std::process::Abort;
 use std::sync::Wait;
 use std::test::Fail;
 use std::thread::Threads;
 
+// A table has a line for each network text: the text in brackets, and what is shown.
+
 // Texts whose tokens don't read; in the last one a fault of syntax stands before the token.
-const TOKENS: &[(&str, &str)] = &[
-    ("network %", "lex byte 8"),
-    ("network abcdefghijklmnopqrstuvwxy", "lex name 8"),
-    ("network t version 4294967296", "lex number 18"),
-    ("network network .", "lex byte 16"),
-];
+const TOKENS: &str = "[network %] refused net lex byte 8
+[network abcdefghijklmnopqrstuvwxy] refused net lex name 8
+[network t version 4294967296] refused net lex number 18
+[network network .] refused net lex byte 16
+";
 
 // Texts that are no sentence.
-const SENTENCES: &[(&str, &str)] = &[
-    ("", "syntax 0"),
-    ("domain", "syntax 0"),
-    ("network ", "syntax 8"),
-    ("network version", "syntax 8"),
-    ("network n ", "syntax 10"),
-    ("network n 1", "syntax 10"),
-    ("network n version ", "syntax 18"),
-    ("network n version x", "syntax 18"),
-    ("network n version 1 ", "syntax 20"),
-    ("network n version 1 input", "syntax 20"),
-    ("network n version 1 ,", "syntax 20"),
-    ("network n version 1 domain =", "syntax 27"),
-    ("network n version 1 domain d {", "syntax 29"),
-    ("network n version 1 domain d = a", "syntax 31"),
-    ("network n version 1 domain d = { }", "syntax 33"),
-    ("network n version 1 domain d = { a b }", "syntax 35"),
-    ("network n version 1 domain d = { a, }", "syntax 36"),
-    ("network n version 1 domain d = { a, 1", "syntax 36"),
-    ("network n version 1 domain d = 0 7", "syntax 33"),
-    ("network n version 1 domain d = 0 .. a", "syntax 36"),
-    ("network n version 1 domain d = 0 .. 7 ,", "syntax 38"),
-    ("network n version 1 event from", "syntax 26"),
-    ("network n version 1 event e : env", "syntax 30"),
-    ("network n version 1 event e to to", "syntax 31"),
-    ("network n version 1 event e from to", "syntax 33"),
-    ("network n version 1 event e to machine", "syntax 31"),
-    ("network n version 1 event e from env : d", "syntax 37"),
-    ("network n version 1 event e domain d = 0 .. 1", "syntax 28"),
-    ("network n version 1 machine priority", "syntax 28"),
-    ("network n version 1 machine m {", "syntax 30"),
-    ("network n version 1 machine m priority x", "syntax 39"),
-    (
-        "network n version 1 machine m priority 0 input",
-        "syntax 41",
-    ),
-    ("network n version 1 machine m priority 0 { }", "syntax 43"),
-    (
-        "network n version 1 machine m priority 0 { output b",
-        "syntax 43",
-    ),
-    (
-        "network n version 1 machine m priority 0 { input }",
-        "syntax 49",
-    ),
-    (
-        "network n version 1 machine m priority 0 { input a b",
-        "syntax 51",
-    ),
-    (
-        "network n version 1 machine m priority 0 { input a output }",
-        "syntax 58",
-    ),
-    (
-        "network n version 1 machine m priority 0 { input a input b",
-        "syntax 51",
-    ),
-    (
-        "network n version 1 machine m priority 0 { input a state s = 0",
-        "syntax 59",
-    ),
-    (
-        "network n version 1 machine m priority 0 { input a state s : d := 0",
-        "syntax 63",
-    ),
-    (
-        "network n version 1 machine m priority 0 { input a state s : d = }",
-        "syntax 65",
-    ),
-    (
-        "network n version 1 machine m priority 0 { input a when do",
-        "syntax 56",
-    ),
-    (
-        "network n version 1 machine m priority 0 { input a when absent absent",
-        "syntax 63",
-    ),
-    (
-        "network n version 1 machine m priority 0 { input a when a = {",
-        "syntax 60",
-    ),
-    (
-        "network n version 1 machine m priority 0 { input a when a in b",
-        "syntax 61",
-    ),
-    (
-        "network n version 1 machine m priority 0 { input a when a in { }",
-        "syntax 63",
-    ),
-    (
-        "network n version 1 machine m priority 0 { input a when a b do",
-        "syntax 58",
-    ),
-    (
-        "network n version 1 machine m priority 0 { input a when a do }",
-        "syntax 61",
-    ),
-    (
-        "network n version 1 machine m priority 0 { input a when a do emit nothing",
-        "syntax 66",
-    ),
-    (
-        "network n version 1 machine m priority 0 { input a when a do emit a := 1",
-        "syntax 68",
-    ),
-    (
-        "network n version 1 machine m priority 0 { input a when a do s = 1",
-        "syntax 63",
-    ),
-    (
-        "network n version 1 machine m priority 0 { input a when a do s := value a",
-        "syntax 66",
-    ),
-    (
-        "network n version 1 machine m priority 0 { input a when a do s := a + 1",
-        "syntax 68",
-    ),
-    (
-        "network n version 1 machine m priority 0 { input a when a do nothing , emit a",
-        "syntax 69",
-    ),
-    (
-        "network n version 1 machine m priority 0 { input a when a do nothing state s : d = 0",
-        "syntax 69",
-    ),
-    (
-        "network n version 1 machine m priority 0 { input a } event e",
-        "syntax 53",
-    ),
-    (
-        "network n version 1 machine m priority 0 { input a } }",
-        "syntax 53",
-    ),
-    (
-        "network n version 1 machine m priority 0 { input a when a do emit a = value a",
-        "syntax 70",
-    ),
-    (
-        "network n version 3 machine m priority 0 { input a when a do s := value a",
-        "syntax 66",
-    ),
-    (
-        "network n version 3 machine m priority 0 { input a when a do s := a + 1",
-        "syntax 68",
-    ),
-    (
-        "network n version 2 machine m priority 0 { input a when a do s := value 1",
-        "syntax 72",
-    ),
-    (
-        "network n version 2 machine m priority 0 { input a when a do s := value a + 1",
-        "syntax 74",
-    ),
-    (
-        "network n version 2 machine m priority 0 { input a when a do s := a + a",
-        "syntax 70",
-    ),
-    (
-        "network n version 2 machine m priority 0 { input a when a do s := 1 + 1",
-        "syntax 68",
-    ),
-    (
-        "network n version 2 machine m priority 0 { input a when a do emit a = value",
-        "syntax 75",
-    ),
-    (
-        "network n version 2 machine m priority 0 { input a when a do emit a = a + 1",
-        "syntax 72",
-    ),
-    (
-        "network n version 2 machine m priority 0 { input a when a do emit a value a",
-        "syntax 68",
-    ),
-    (
-        "network n version 2 machine m priority 0 { input a when a do settle",
-        "syntax 61",
-    ),
-    (
-        "network n version 2 machine m priority 0 { input a when a = value a",
-        "syntax 60",
-    ),
-    (
-        "network n version 2 machine m priority 0 { input a state s : d = value",
-        "syntax 65",
-    ),
-];
+const SENTENCES: &str = "[] refused net syntax 0
+[domain] refused net syntax 0
+[network ] refused net syntax 8
+[network version] refused net syntax 8
+[network n ] refused net syntax 10
+[network n 1] refused net syntax 10
+[network n version ] refused net syntax 18
+[network n version x] refused net syntax 18
+[network n version 1 ] refused net syntax 20
+[network n version 1 input] refused net syntax 20
+[network n version 1 ,] refused net syntax 20
+[network n version 1 domain =] refused net syntax 27
+[network n version 1 domain d {] refused net syntax 29
+[network n version 1 domain d = a] refused net syntax 31
+[network n version 1 domain d = { }] refused net syntax 33
+[network n version 1 domain d = { a b }] refused net syntax 35
+[network n version 1 domain d = { a, }] refused net syntax 36
+[network n version 1 domain d = { a, 1] refused net syntax 36
+[network n version 1 domain d = 0 7] refused net syntax 33
+[network n version 1 domain d = 0 .. a] refused net syntax 36
+[network n version 1 domain d = 0 .. 7 ,] refused net syntax 38
+[network n version 1 event from] refused net syntax 26
+[network n version 1 event e : env] refused net syntax 30
+[network n version 1 event e to to] refused net syntax 31
+[network n version 1 event e from to] refused net syntax 33
+[network n version 1 event e to machine] refused net syntax 31
+[network n version 1 event e from env : d] refused net syntax 37
+[network n version 1 event e domain d = 0 .. 1] refused net syntax 28
+[network n version 1 machine priority] refused net syntax 28
+[network n version 1 machine m {] refused net syntax 30
+[network n version 1 machine m priority x] refused net syntax 39
+[network n version 1 machine m priority 0 input] refused net syntax 41
+[network n version 1 machine m priority 0 { }] refused net syntax 43
+[network n version 1 machine m priority 0 { output b] refused net syntax 43
+[network n version 1 machine m priority 0 { input }] refused net syntax 49
+[network n version 1 machine m priority 0 { input a b] refused net syntax 51
+[network n version 1 machine m priority 0 { input a output }] refused net syntax 58
+[network n version 1 machine m priority 0 { input a input b] refused net syntax 51
+[network n version 1 machine m priority 0 { input a state s = 0] refused net syntax 59
+[network n version 1 machine m priority 0 { input a state s : d := 0] refused net syntax 63
+[network n version 1 machine m priority 0 { input a state s : d = }] refused net syntax 65
+[network n version 1 machine m priority 0 { input a when do] refused net syntax 56
+[network n version 1 machine m priority 0 { input a when absent absent] refused net syntax 63
+[network n version 1 machine m priority 0 { input a when a = {] refused net syntax 60
+[network n version 1 machine m priority 0 { input a when a in b] refused net syntax 61
+[network n version 1 machine m priority 0 { input a when a in { }] refused net syntax 63
+[network n version 1 machine m priority 0 { input a when a b do] refused net syntax 58
+[network n version 1 machine m priority 0 { input a when a do }] refused net syntax 61
+[network n version 1 machine m priority 0 { input a when a do emit nothing] refused net syntax 66
+[network n version 1 machine m priority 0 { input a when a do emit a := 1] refused net syntax 68
+[network n version 1 machine m priority 0 { input a when a do s = 1] refused net syntax 63
+[network n version 1 machine m priority 0 { input a when a do s := value a] refused net syntax 66
+[network n version 1 machine m priority 0 { input a when a do s := a + 1] refused net syntax 68
+[network n version 1 machine m priority 0 { input a when a do nothing , emit a] refused net syntax 69
+[network n version 1 machine m priority 0 { input a when a do nothing state s : d = 0] refused net syntax 69
+[network n version 1 machine m priority 0 { input a } event e] refused net syntax 53
+[network n version 1 machine m priority 0 { input a } }] refused net syntax 53
+[network n version 1 machine m priority 0 { input a when a do emit a = value a] refused net syntax 70
+[network n version 3 machine m priority 0 { input a when a do s := value a] refused net syntax 66
+[network n version 3 machine m priority 0 { input a when a do s := a + 1] refused net syntax 68
+[network n version 2 machine m priority 0 { input a when a do s := value 1] refused net syntax 72
+[network n version 2 machine m priority 0 { input a when a do s := value a + 1] refused net syntax 74
+[network n version 2 machine m priority 0 { input a when a do s := a + a] refused net syntax 70
+[network n version 2 machine m priority 0 { input a when a do s := 1 + 1] refused net syntax 68
+[network n version 2 machine m priority 0 { input a when a do emit a = value] refused net syntax 75
+[network n version 2 machine m priority 0 { input a when a do emit a = a + 1] refused net syntax 72
+[network n version 2 machine m priority 0 { input a when a do emit a value a] refused net syntax 68
+[network n version 2 machine m priority 0 { input a when a do settle] refused net syntax 61
+[network n version 2 machine m priority 0 { input a when a = value a] refused net syntax 60
+[network n version 2 machine m priority 0 { input a state s : d = value] refused net syntax 65
+";
 
-// Sentences that break a rule and none before it.
-const RULES: &[(&str, &str)] = &[
-    (
-        "network t version 3 event g from env machine m priority 0 { input g }",
-        "rule 1 18",
-    ),
-    (
-        "network t version 1 event g from env event h from env event g machine m priority 0 { input g, h }",
-        "rule 3 60",
-    ),
-    (
-        "network t version 1 domain d = { a, b, a } event g from env machine m priority 0 { input g }",
-        "rule 4 39",
-    ),
-    (
-        "network t version 1 domain d = 7 .. 3 event g from env machine m priority 0 { input g }",
-        "rule 4 36",
-    ),
-    (
-        "network t version 1 domain d = 0 .. 4294967295 event g from env machine m priority 0 { input g }",
-        "rule 5 27",
-    ),
-    (
-        "network t version 1 event g from env machine m priority 0 { input g, z state s : d = 0 }",
-        "rule 6 81",
-    ),
-    (
-        "network t version 1 event g from env machine m priority 0 { input z }",
-        "rule 7 66",
-    ),
-    (
-        "network t version 1 event g from env machine m priority 0 { input g, g }",
-        "rule 8 69",
-    ),
-    (
-        "network t version 1 domain d = 0 .. 0 event g from env machine m priority 256 { input g state s0 : d = 0 state s1 : d = 0 state s2 : d = 0 state s3 : d = 0 state s4 : d = 0 state s5 : d = 0 state s6 : d = 0 state s7 : d = 0 state s8 : d = 0 }",
-        "rule 9 63",
-    ),
-    (
-        "network t version 1 event g from env machine m priority 256 { input g }",
-        "rule 10 56",
-    ),
-    (
-        "network t version 1 event g from env machine m priority 0 { input g output g }",
-        "rule 11 75",
-    ),
-    (
-        "network t version 1 event g from env event p to env machine a priority 0 { input g output p } machine b priority 0 { input g output p }",
-        "rule 11 132",
-    ),
-    (
-        "network t version 1 event g from env event p machine m priority 0 { input g, p }",
-        "rule 12 43",
-    ),
-    (
-        "network t version 1 event g from env event p machine m priority 0 { input g output p }",
-        "rule 13 43",
-    ),
-    (
-        "network t version 1 domain d = 1 .. 2 event g from env machine m priority 0 { input g state s : d = 0 }",
-        "rule 14 100",
-    ),
-    (
-        "network t version 1 domain d = { x, y } event v : d from env event g from env event p : d to env machine m priority 0 { input v, g output p state s : d = x when p do nothing }",
-        "rule 15 161",
-    ),
-    (
-        "network t version 1 domain d = { x, y } event v : d from env event g from env event p : d to env machine m priority 0 { input v, g output p state s : d = x when g, absent s do nothing }",
-        "rule 16 171",
-    ),
-    (
-        "network t version 1 domain d = { x, y } event v : d from env event g from env event p : d to env machine m priority 0 { input v, g output p state s : d = x when v in { x, z } do nothing }",
-        "rule 17 171",
-    ),
-    (
-        "network t version 1 domain d = { x, y } event v : d from env event g from env event p : d to env machine m priority 0 { input v, g output p state s : d = x when g do s := x, emit p = y, s := y }",
-        "rule 18 186",
-    ),
-    (
-        "network t version 1 domain d = { x, y } event v : d from env event g from env event p : d to env machine m priority 0 { input v, g output p state s : d = x when g do emit p }",
-        "rule 19 171",
-    ),
-    (
-        "network t version 1 domain d = { x, y } event v : d from env event g from env event p : d to env machine m priority 0 { input v, g output p state s : d = x when g do s := z }",
-        "rule 19 171",
-    ),
-    // 2 * 23 * 19 * 3 * 5 * 5 are 65,550 snapshots.
-    (
-        "network t version 1 domain a = 0 .. 21 domain b = 0 .. 17 domain c = 0 .. 2 domain d = 0 .. 4 event p from env event q : a from env event r : b from env machine m priority 0 { input p, q, r state s : c = 0 state t : d = 0 state u : d = 0 }",
-        "rule 20 161",
-    ),
-    (
-        "network t version 2 domain e = 0 .. 3 domain d = { x, y } event v : d from env event g from env event p : d to env machine m priority 0 { input v, g output p state s : d = x when g do emit p = value g }",
-        "rule 21 199",
-    ),
-    (
-        "network t version 2 domain e = 0 .. 3 domain d = { x, y } event v : d from env event g from env event p : d to env machine m priority 0 { input v, g output p state s : d = x when g, absent v do emit p = value v }",
-        "rule 22 209",
-    ),
-    (
-        "network t version 2 domain d = 0 .. 1 event v : d from env event w : d to env machine m priority 0 { input v output w when absent v do emit w = value v }",
-        "rule 22 150",
-    ),
-    (
-        "network t version 2 domain e = 0 .. 3 domain d = { x, y } event v : d from env event g from env event p : d to env machine m priority 0 { input v, g output p state s : d = x state r : e = 0 when v = x do r := value v }",
-        "rule 23 215",
-    ),
-    (
-        "network t version 2 domain e = 0 .. 3 domain d = { x, y } event v : d from env event g from env event p : d to env machine m priority 0 { input v, g output p state s : d = x state r : d = x when g do s := r + 1 }",
-        "rule 24 205",
-    ),
-    (
-        "network t version 2 domain e = 0 .. 3 domain d = { x, y } event v : d from env event g from env event p : d to env machine m priority 0 { input v, g output p state s : d = x when g do s := s + 2 }",
-        "rule 25 193",
-    ),
-];
+// Sentences that break a rule and none before it. In that of rule 20, 2 * 23 * 19 * 3 * 5 * 5 are
+// 65,550 snapshots.
+const RULES: &str =
+    "[network t version 3 event g from env machine m priority 0 { input g }] refused net rule 1 18
+[network t version 1 event g from env event h from env event g machine m priority 0 { input g, h }] refused net rule 3 60
+[network t version 1 domain d = { a, b, a } event g from env machine m priority 0 { input g }] refused net rule 4 39
+[network t version 1 domain d = 7 .. 3 event g from env machine m priority 0 { input g }] refused net rule 4 36
+[network t version 1 domain d = 0 .. 4294967295 event g from env machine m priority 0 { input g }] refused net rule 5 27
+[network t version 1 event g from env machine m priority 0 { input g, z state s : d = 0 }] refused net rule 6 81
+[network t version 1 event g from env machine m priority 0 { input z }] refused net rule 7 66
+[network t version 1 event g from env machine m priority 0 { input g, g }] refused net rule 8 69
+[network t version 1 domain d = 0 .. 0 event g from env machine m priority 256 { input g state s0 : d = 0 state s1 : d = 0 state s2 : d = 0 state s3 : d = 0 state s4 : d = 0 state s5 : d = 0 state s6 : d = 0 state s7 : d = 0 state s8 : d = 0 }] refused net rule 9 63
+[network t version 1 event g from env machine m priority 256 { input g }] refused net rule 10 56
+[network t version 1 event g from env machine m priority 0 { input g output g }] refused net rule 11 75
+[network t version 1 event g from env event p to env machine a priority 0 { input g output p } machine b priority 0 { input g output p }] refused net rule 11 132
+[network t version 1 event g from env event p machine m priority 0 { input g, p }] refused net rule 12 43
+[network t version 1 event g from env event p machine m priority 0 { input g output p }] refused net rule 13 43
+[network t version 1 domain d = 1 .. 2 event g from env machine m priority 0 { input g state s : d = 0 }] refused net rule 14 100
+[network t version 1 domain d = { x, y } event v : d from env event g from env event p : d to env machine m priority 0 { input v, g output p state s : d = x when p do nothing }] refused net rule 15 161
+[network t version 1 domain d = { x, y } event v : d from env event g from env event p : d to env machine m priority 0 { input v, g output p state s : d = x when g, absent s do nothing }] refused net rule 16 171
+[network t version 1 domain d = { x, y } event v : d from env event g from env event p : d to env machine m priority 0 { input v, g output p state s : d = x when v in { x, z } do nothing }] refused net rule 17 171
+[network t version 1 domain d = { x, y } event v : d from env event g from env event p : d to env machine m priority 0 { input v, g output p state s : d = x when g do s := x, emit p = y, s := y }] refused net rule 18 186
+[network t version 1 domain d = { x, y } event v : d from env event g from env event p : d to env machine m priority 0 { input v, g output p state s : d = x when g do emit p }] refused net rule 19 171
+[network t version 1 domain d = { x, y } event v : d from env event g from env event p : d to env machine m priority 0 { input v, g output p state s : d = x when g do s := z }] refused net rule 19 171
+[network t version 1 domain a = 0 .. 21 domain b = 0 .. 17 domain c = 0 .. 2 domain d = 0 .. 4 event p from env event q : a from env event r : b from env machine m priority 0 { input p, q, r state s : c = 0 state t : d = 0 state u : d = 0 }] refused net rule 20 161
+[network t version 2 domain e = 0 .. 3 domain d = { x, y } event v : d from env event g from env event p : d to env machine m priority 0 { input v, g output p state s : d = x when g do emit p = value g }] refused net rule 21 199
+[network t version 2 domain e = 0 .. 3 domain d = { x, y } event v : d from env event g from env event p : d to env machine m priority 0 { input v, g output p state s : d = x when g, absent v do emit p = value v }] refused net rule 22 209
+[network t version 2 domain d = 0 .. 1 event v : d from env event w : d to env machine m priority 0 { input v output w when absent v do emit w = value v }] refused net rule 22 150
+[network t version 2 domain e = 0 .. 3 domain d = { x, y } event v : d from env event g from env event p : d to env machine m priority 0 { input v, g output p state s : d = x state r : e = 0 when v = x do r := value v }] refused net rule 23 215
+[network t version 2 domain e = 0 .. 3 domain d = { x, y } event v : d from env event g from env event p : d to env machine m priority 0 { input v, g output p state s : d = x state r : d = x when g do s := r + 1 }] refused net rule 24 205
+[network t version 2 domain e = 0 .. 3 domain d = { x, y } event v : d from env event g from env event p : d to env machine m priority 0 { input v, g output p state s : d = x when g do s := s + 2 }] refused net rule 25 193
+";
 
 // Texts with two rows that conflict: the least pair of rows is named, and then the least snapshot.
-const CONFLICTS: &[(&str, &str)] = &[
-    // The first row conflicts with the third where v is 1, and the third with the fourth.
-    (
-        "network t version 1 domain d = 0 .. 2 event v : d from env event w : d from env event c to env machine m priority 0 { input v, w output c when v in { 0, 1 } do emit c when absent v do nothing when v in { 1, 2 }, w in { 0, 2 } do nothing when w = 2, v do emit c }",
-        "conflict m 0 2 v=1 w=0 ; -",
-    ),
-    // The first two rows conflict where v is 1, the second and the third already where it is 0.
-    (
-        "network t version 1 domain d = 0 .. 1 event v : d from env event c to env machine m priority 0 { input v output c when v = 1 do emit c when v do nothing when v = 0 do emit c }",
-        "conflict m 0 1 v=1 ; -",
-    ),
-    // 0 + 3 is 3, and 1 + 3 isn't.
-    (
-        "network t version 2 domain d = 0 .. 7 event a from env machine m priority 0 { input a state s : d = 0 when a do s := s + 3 when a do s := 3 }",
-        "conflict m 0 1 a ; s=1",
-    ),
-];
+// In the first one the first row conflicts with the third where v is 1, and the third with the
+// fourth. In the second one the first two rows conflict where v is 1, the second and the third
+// already where it is 0. In the last one 0 + 3 is 3, and 1 + 3 isn't.
+const CONFLICTS: &str =
+    "[network t version 1 domain d = 0 .. 2 event v : d from env event w : d from env event c to env machine m priority 0 { input v, w output c when v in { 0, 1 } do emit c when absent v do nothing when v in { 1, 2 }, w in { 0, 2 } do nothing when w = 2, v do emit c }] refused net conflict m 0 2 v=1 w=0 ; -
+[network t version 1 domain d = 0 .. 1 event v : d from env event c to env machine m priority 0 { input v output c when v = 1 do emit c when v do nothing when v = 0 do emit c }] refused net conflict m 0 1 v=1 ; -
+[network t version 2 domain d = 0 .. 7 event a from env machine m priority 0 { input a state s : d = 0 when a do s := s + 3 when a do s := 3 }] refused net conflict m 0 1 a ; s=1
+";
 
 // Two inputs and two rows that exclude each other, that give the same, of which one is never
 // enabled.
@@ -345,6 +140,8 @@ const ACCEPTED: &[&str] = &[
     "network t version 1 event a from env event b from env event c to env machine m priority 0 { input a, b output c when a do emit c when b do emit c }",
     "network t version 1 event a from env event b from env event c to env machine m priority 0 { input a, b output c when a do emit c when a, absent a do nothing }",
 ];
+
+const AGREEING: &str = "accepted machines 1 events 3\nmachine m snapshots 4 rows 2\n";
 
 const ONE_MACHINE: &str = " machine m priority 0 { input g }";
 
@@ -360,7 +157,7 @@ const REPEATED: &[(Repeated<'_>, &str)] = &[
             count: 64,
             end: ONE_EVENT,
         },
-        "rule 3 45",
+        "refused net rule 3 45\n",
     ),
     (
         Repeated {
@@ -369,7 +166,7 @@ const REPEATED: &[(Repeated<'_>, &str)] = &[
             count: 65,
             end: ONE_EVENT,
         },
-        "rule 2 1179",
+        "refused net rule 2 1179\n",
     ),
     (
         Repeated {
@@ -378,7 +175,7 @@ const REPEATED: &[(Repeated<'_>, &str)] = &[
             count: 256,
             end: ONE_MACHINE,
         },
-        "rule 3 34",
+        "refused net rule 3 34\n",
     ),
     (
         Repeated {
@@ -387,7 +184,7 @@ const REPEATED: &[(Repeated<'_>, &str)] = &[
             count: 257,
             end: ONE_MACHINE,
         },
-        "rule 2 2074",
+        "refused net rule 2 2074\n",
     ),
     (
         Repeated {
@@ -396,7 +193,7 @@ const REPEATED: &[(Repeated<'_>, &str)] = &[
             count: 64,
             end: "",
         },
-        "rule 3 78",
+        "refused net rule 3 78\n",
     ),
     (
         Repeated {
@@ -405,7 +202,7 @@ const REPEATED: &[(Repeated<'_>, &str)] = &[
             count: 65,
             end: "",
         },
-        "rule 2 2157",
+        "refused net rule 2 2157\n",
     ),
     (
         Repeated {
@@ -414,50 +211,74 @@ const REPEATED: &[(Repeated<'_>, &str)] = &[
             count: 513,
             end: " }",
         },
-        "rule 9 45",
+        "refused net rule 9 45\n",
     ),
 ];
 
-fn try_fault<T: Abort + Threads + Wait + Sync>(
-    rt: &T,
-    alloc: Global,
-    (net, fault): (&[u8], &str),
-    number: usize,
-) -> Result<(), Fail> {
-    let shown = line_of(alloc, "refused net ", fault)?;
-    let case = Case {
-        net: Some(net),
-        ..refused(CHECK, shown.as_str())
-    };
-    try_case(rt, alloc, &case, number)
+// A network text in brackets, and what stands after it.
+fn parts_of(line: &str) -> Option<(&str, &str)> {
+    match line.strip_prefix("[") {
+        Some(rest) => rest.split_once("] "),
+        None => None,
+    }
 }
 
-fn try_faults<T: Abort + Threads + Wait + Sync>(
+// A check of a line's text.
+fn try_line<T: Abort + Threads + Wait + Sync>(
     rt: &T,
     alloc: Global,
-    faults: &[(&str, &str)],
+    line: &str,
+    number: usize,
 ) -> Result<(), Fail> {
-    for (number, (net, fault)) in faults.iter().enumerate() {
-        try_fault(rt, alloc, (net.as_bytes(), fault), number)?;
+    match parts_of(line) {
+        Some((net, shown)) => {
+            let case = read_only(CHECK, net, PRESS_TRACE, Status::Refused, shown);
+            try_case(rt, alloc, &case, number)
+        }
+        None => {
+            assert!(rt; false, "line {number} has no text");
+            Ok(())
+        }
+    }
+}
+
+fn try_lines<T: Abort + Threads + Wait + Sync>(
+    rt: &T,
+    alloc: Global,
+    table: &str,
+) -> Result<(), Fail> {
+    for (number, line) in table.split_inclusive("\n").enumerate() {
+        try_line(rt, alloc, line, number)?;
     }
     Ok(())
 }
 
 #[test]
 fn names_the_place_of_each_fault(rt: HostRuntime) -> Result<(), Fail> {
-    let alloc = rt.alloc();
-    try_faults(&rt, alloc, TOKENS)?;
-    try_faults(&rt, alloc, SENTENCES)?;
-    try_faults(&rt, alloc, RULES)?;
-    try_faults(&rt, alloc, CONFLICTS)
+    try_lines(&rt, rt.alloc(), TOKENS)?;
+    try_lines(&rt, rt.alloc(), SENTENCES)?;
+    try_lines(&rt, rt.alloc(), RULES)?;
+    try_lines(&rt, rt.alloc(), CONFLICTS)
+}
+
+/// A check of a text that is refused.
+pub fn try_check<'a, T: Abort + Threads + Wait + Sync>(
+    rt: &T,
+    alloc: Global,
+    repeated: &Repeated<'a>,
+    shown: &'a str,
+    number: usize,
+) -> Result<(), Fail> {
+    let text = text_of(alloc, repeated)?;
+    let net = text.as_str();
+    let case = read_only(CHECK, net, PRESS_TRACE, Status::Refused, shown);
+    try_case(rt, alloc, &case, number)
 }
 
 #[test]
 fn names_the_first_declaration_beyond(rt: HostRuntime) -> Result<(), Fail> {
-    let alloc = rt.alloc();
-    for (number, (repeated, fault)) in REPEATED.iter().enumerate() {
-        let text = text_of(alloc, repeated)?;
-        try_fault(&rt, alloc, (text.as_bytes(), fault), number)?;
+    for (number, (repeated, shown)) in REPEATED.iter().enumerate() {
+        try_check(&rt, rt.alloc(), repeated, shown, number)?;
     }
     Ok(())
 }
@@ -465,12 +286,7 @@ fn names_the_first_declaration_beyond(rt: HostRuntime) -> Result<(), Fail> {
 #[test]
 fn accepts_rows_that_agree(rt: HostRuntime) -> Result<(), Fail> {
     for (number, net) in ACCEPTED.iter().enumerate() {
-        let case = Case {
-            words: CHECK,
-            net: Some(net.as_bytes()),
-            shown: "accepted machines 1 events 3\nmachine m snapshots 4 rows 2\n",
-            ..DONE
-        };
+        let case = read_only(CHECK, net, PRESS_TRACE, Status::Done, AGREEING);
         try_case(&rt, rt.alloc(), &case, number)?;
     }
     Ok(())

@@ -1,12 +1,10 @@
 // Texts that are cut off, or longer than they look: each is refused by one line, and nothing is
 // saved.
+use crate::tests::cases::{RUN, Repeated, are_saved, call, read_only, text_of, try_case};
+use crate::tests::faults::try_check;
 use crate::tests::networks::LAMP;
-use crate::tests::{
-    CHECK, Case, PRESS, REFUSED, RUN, Repeated, is_held, make_host, make_words, text_of, try_case,
-};
-use crate::top::polis;
 use event_buffer::OpenGate;
-use polis_base::MemoryHost;
+use polis_base::{MemoryHost, NoMemory};
 use polis_words::Status;
 use std::alloc::Global;
 use std::process::Abort;
@@ -23,39 +21,40 @@ fn is_one_line(shown: &[u8]) -> bool {
         && shown.iter().filter(|byte| **byte == b'\n').count() == 1
 }
 
-fn saves_nothing(host: &MemoryHost) -> bool {
-    is_held(host, "o.out", None) && is_held(host, "o.jnl", None) && is_held(host, "o.lst", None)
+fn is_refused(status: Status, host: &MemoryHost) -> bool {
+    status == Status::Refused && is_one_line(host.shown()) && are_saved(host, None, None, None)
 }
 
-// A run of the first bytes of the lamp's text.
-fn try_beginning<T: Abort + Threads + Wait + Sync>(
+// The first bytes of the lamp's text, and one press.
+fn begun(alloc: Global, len: usize) -> Result<MemoryHost, NoMemory> {
+    let text = LAMP.as_bytes();
+    let mut host = MemoryHost::new(alloc);
+    host.put("net", &text[..len.min(text.len())])?;
+    host.put("trc", b"press\n")?;
+    Ok(host)
+}
+
+// Whether a run of the first bytes of the lamp's text is refused.
+fn refuses_beginning<T: Threads + Wait + Sync>(
     rt: &T,
     alloc: Global,
     len: usize,
-) -> Result<(), Fail> {
-    let case = Case {
-        net: Some(&LAMP[..len.min(LAMP.len())]),
-        ..PRESS
-    };
-    let words = make_words(alloc, RUN)?;
-    let mut host = make_host(alloc, &case)?;
-    let status = polis(rt, alloc, &words, &mut host, &OpenGate);
-    assert!(rt; status == Status::Refused, "the status of {len} bytes");
-    assert!(rt; is_one_line(host.shown()), "what {len} bytes show");
-    assert!(rt; saves_nothing(&host), "what {len} bytes save");
-    Ok(())
+) -> Result<bool, NoMemory> {
+    let mut host = begun(alloc, len)?;
+    let status = call(rt, alloc, RUN, &mut host, &OpenGate)?;
+    Ok(is_refused(status, &host))
 }
 
 #[test]
 fn refuses_each_beginning_of_a_network(rt: HostRuntime) -> Result<(), Fail> {
     for len in 0..=BEFORE_LAST {
-        try_beginning(&rt, rt.alloc(), len)?;
+        assert!(rt; refuses_beginning(&rt, rt.alloc(), len)?, "{len} bytes");
     }
     Ok(())
 }
 
 // As many bytes as a text may have.
-const BRACES: Repeated<'static> = Repeated {
+const BRACES: &Repeated<'_> = &Repeated {
     begin: "",
     part: "{{{{{{{{{{{{{{{{{{{{{{{{{{{{{{{{{{{{{{{{{{{{{{{{{{{{{{{{{{{{{{{{",
     count: 65_536,
@@ -64,30 +63,29 @@ const BRACES: Repeated<'static> = Repeated {
 
 #[test]
 fn refuses_a_text_of_braces(rt: HostRuntime) -> Result<(), Fail> {
-    let text = text_of(rt.alloc(), &BRACES)?;
-    let case = Case {
-        words: CHECK,
-        net: Some(text.as_bytes()),
-        shown: "refused net syntax 0\n",
-        ..REFUSED
-    };
-    try_case(&rt, rt.alloc(), &case, 0)
+    try_check(&rt, rt.alloc(), BRACES, "refused net syntax 0\n", 0)
 }
 
-const PRESSES: Repeated<'static> = Repeated {
+const PRESSES: &Repeated<'_> = &Repeated {
     begin: "",
     part: "press\n",
     count: 10_001,
     end: "",
 };
 
+// A run on a trace that is refused.
+fn try_trace<'a, T: Abort + Threads + Wait + Sync>(
+    rt: &T,
+    alloc: Global,
+    repeated: &Repeated<'a>,
+    shown: &'a str,
+) -> Result<(), Fail> {
+    let text = text_of(alloc, repeated)?;
+    let case = read_only(RUN, LAMP, text.as_str(), Status::Refused, shown);
+    try_case(rt, alloc, &case, 0)
+}
+
 #[test]
 fn refuses_one_item_too_many(rt: HostRuntime) -> Result<(), Fail> {
-    let text = text_of(rt.alloc(), &PRESSES)?;
-    let case = Case {
-        trace: Some(text.as_str()),
-        shown: "refused trc line 10001 many\n",
-        ..REFUSED
-    };
-    try_case(&rt, rt.alloc(), &case, 0)
+    try_trace(&rt, rt.alloc(), PRESSES, "refused trc line 10001 many\n")
 }

@@ -1,11 +1,15 @@
 // Journal texts that `replay` refuses, and journals that `migrate` prints as they are read.
+use crate::tests::cases::{Case, DONE, MIGRATE, Repeated, replay, text_of, try_case, try_cases};
 use crate::tests::networks::{ECHO, JOIN, LAMP, VALUE};
-use crate::tests::{Case, DONE, MIGRATE, REPLAY, Repeated, line_of, refused, text_of, try_case};
 use polis_words::Status;
+use std::alloc::Global;
+use std::process::Abort;
+use std::sync::Wait;
 use std::test::Fail;
+use std::thread::Threads;
 
 // Events with the values of greatest words.
-const GREATEST: &[u8] = b"network t version 1
+const GREATEST: &str = "network t version 1
 domain d = 4294967264 .. 4294967295
 event v : d from env
 machine m priority 0 {
@@ -15,176 +19,227 @@ machine m priority 0 {
 
 // Journals at fault: those of the join, whose machine reads the pure events a and b and sends c,
 // and then those of the lamp and of machines that read a value.
-const FAULTS: &[(&[u8], &str, &str)] = &[
-    (JOIN, "polis journal 1", "line 1 header"),
-    (JOIN, "polis journal 1\ndep env m a\n", "line 3 end"),
-    (JOIN, "polis journal 1\nend 0 limit\nx", "line 3 after"),
-    (JOIN, "polis journal 1\nend 0 limit", "line 2 shape"),
-    (JOIN, "polis journal 1\ndep env  m a\n", "line 2 shape"),
-    (JOIN, "polis journal 1\ndep env m a \n", "line 2 shape"),
-    (JOIN, "polis journal 1\n@1 dep env m a\n", "line 2 shape"),
+const FAULTS: &[(&str, &str, &str)] = &[
+    (JOIN, "polis journal 1", "refused jnl line 1 header\n"),
+    (
+        JOIN,
+        "polis journal 1\ndep env m a\n",
+        "refused jnl line 3 end\n",
+    ),
+    (
+        JOIN,
+        "polis journal 1\nend 0 limit\nx",
+        "refused jnl line 3 after\n",
+    ),
+    (
+        JOIN,
+        "polis journal 1\nend 0 limit",
+        "refused jnl line 2 shape\n",
+    ),
+    (
+        JOIN,
+        "polis journal 1\ndep env  m a\n",
+        "refused jnl line 2 shape\n",
+    ),
+    (
+        JOIN,
+        "polis journal 1\ndep env m a \n",
+        "refused jnl line 2 shape\n",
+    ),
+    (
+        JOIN,
+        "polis journal 1\n@1 dep env m a\n",
+        "refused jnl line 2 shape\n",
+    ),
     (
         JOIN,
         "polis journal 1\nfire m : a - ; - -> - ; c\n",
-        "line 2 shape",
+        "refused jnl line 2 shape\n",
     ),
-    (JOIN, "polis journal 1\nend 00 limit\n", "line 2 shape"),
-    (JOIN, "polis journal 1\ndep env=1 m a\n", "line 2 name"),
+    (
+        JOIN,
+        "polis journal 1\nend 00 limit\n",
+        "refused jnl line 2 shape\n",
+    ),
+    (
+        JOIN,
+        "polis journal 1\ndep env=1 m a\n",
+        "refused jnl line 2 name\n",
+    ),
     (
         JOIN,
         "polis journal 1\nfire m : a ; - -> - ; c c\n",
-        "line 2 name",
+        "refused jnl line 2 name\n",
     ),
     (
         JOIN,
         "polis journal 1\ndep env m zz\ndep env\n",
-        "line 2 name",
+        "refused jnl line 2 name\n",
     ),
     (
         JOIN,
         "polis journal 1\ndep env m a\nend 2 limit\nx",
-        "line 3 count",
+        "refused jnl line 3 count\n",
     ),
-    (JOIN, "polis journal 2\ndep env m a\n", "line 2 shape"),
-    (JOIN, "polis journal 2\n@01 dep env m a\n", "line 2 shape"),
-    (JOIN, "polis journal 2\n@0 dep env m zz\n", "line 2 stamp"),
+    (
+        JOIN,
+        "polis journal 2\ndep env m a\n",
+        "refused jnl line 2 shape\n",
+    ),
+    (
+        JOIN,
+        "polis journal 2\n@01 dep env m a\n",
+        "refused jnl line 2 shape\n",
+    ),
+    (
+        JOIN,
+        "polis journal 2\n@0 dep env m zz\n",
+        "refused jnl line 2 stamp\n",
+    ),
     (
         JOIN,
         "polis journal 2\n@1099511627777 dep env m a\n",
-        "line 2 stamp",
+        "refused jnl line 2 stamp\n",
     ),
     (
         JOIN,
         "polis journal 2\n@1 dep env m a\n@2 dep env m a=1\n",
-        "line 3 value",
+        "refused jnl line 3 value\n",
     ),
     (
         JOIN,
         "polis journal 2\n@1 dep env m a\nend 0 limit\n",
-        "line 3 count",
+        "refused jnl line 3 count\n",
     ),
     (
         LAMP,
         "polis journal 1\nidle lamp_ctl : press ; -\nend 1 limit\n",
-        "line 2 name",
+        "refused jnl line 2 name\n",
     ),
     (
         LAMP,
         "polis journal 1\nidle lamp_ctl : press=1 ; zz\nend 1 limit\n",
-        "line 2 value",
+        "refused jnl line 2 value\n",
     ),
     (
         LAMP,
         "polis journal 1\nidle lamp_ctl : press ; s=on s=on\nend 1 limit\n",
-        "line 2 name",
+        "refused jnl line 2 name\n",
     ),
     (
         LAMP,
         "polis journal 1\nfire lamp_ctl : press ; s=off -> s ; zz\nend 1 limit\n",
-        "line 2 value",
+        "refused jnl line 2 value\n",
     ),
     (
         VALUE,
         "polis journal 1\ndep env m v\nend 1 limit\n",
-        "line 2 value",
+        "refused jnl line 2 value\n",
     ),
     (
         VALUE,
         "polis journal 1\ndep env m v=8\nend 1 limit\n",
-        "line 2 value",
+        "refused jnl line 2 value\n",
     ),
     (
         VALUE,
         "polis journal 1\ndep env hit v=8\nend 1 limit\n",
-        "line 2 name",
+        "refused jnl line 2 name\n",
     ),
     (
         GREATEST,
         "polis journal 1\ndep env m v=4294967296\nend 1 limit\n",
-        "line 2 value",
+        "refused jnl line 2 value\n",
     ),
 ];
 
 #[test]
 fn names_the_first_line_at_fault(rt: HostRuntime) -> Result<(), Fail> {
-    for (number, (net, journal, fault)) in FAULTS.iter().enumerate() {
-        let shown = line_of(rt.alloc(), "refused jnl ", fault)?;
-        let case = Case {
-            net: Some(net),
-            trace: Some(""),
-            read_journal: Some(journal),
-            ..refused(REPLAY, shown.as_str())
-        };
+    for (number, (net, journal, shown)) in FAULTS.iter().enumerate() {
+        let case = replay(net, "", journal, Status::Refused, shown);
         try_case(&rt, rt.alloc(), &case, number)?;
     }
     Ok(())
 }
 
-// A network, a trace, and a journal of its run with the least stamps.
-const PRINTED: &[(&[u8], &str, &str, &str)] = &[
-    (
-        LAMP,
-        "",
-        "polis journal 2\nend 0 complete\n",
-        "migrated 0\n",
-    ),
-    (
-        LAMP,
-        "press\n",
-        "polis journal 2
+const NO_ENTRY: &str = "polis journal 2\nend 0 complete\n";
+
+const ONE_PRESS: &str = "polis journal 2
 @1 dep env lamp_ctl press
 @2 fire lamp_ctl : press ; s=off -> s=on ; light
 end 2 complete
-",
-        "migrated 2\n",
-    ),
-    (
-        VALUE,
-        "v 3\nv 5\n",
-        "polis journal 2
+";
+
+const TWO_VALUES: &str = "polis journal 2
 @1 dep env m v=3
 @2 dep env m v=5
 @3 fire m : v=5 ; - -> - ; hit
 end 3 complete
-",
-        "migrated 3\n",
-    ),
-    (
-        ECHO,
-        "v 5\n",
-        "polis journal 2
+";
+
+const ONE_VALUE: &str = "polis journal 2
 @1 dep env m v=5
 @2 fire m : v=5 ; s=6 -> s=1 ; w=5
 end 2 complete
-",
-        "migrated 2\n",
-    ),
-    (
-        GREATEST,
-        "v 4294967295\n",
-        "polis journal 2
+";
+
+const GREATEST_VALUE: &str = "polis journal 2
 @1 dep env m v=4294967295
 end 1 limit
-",
-        "migrated 1\n",
-    ),
+";
+
+// Migrations of the journals of runs with the least stamps.
+const PRINTED: &[Case<'_>] = &[
+    Case {
+        words: MIGRATE,
+        net: Some(LAMP),
+        trace: Some(""),
+        read_journal: Some(NO_ENTRY),
+        journal: Some(NO_ENTRY),
+        shown: "migrated 0\n",
+        ..DONE
+    },
+    Case {
+        words: MIGRATE,
+        net: Some(LAMP),
+        trace: Some("press\n"),
+        read_journal: Some(ONE_PRESS),
+        journal: Some(ONE_PRESS),
+        shown: "migrated 2\n",
+        ..DONE
+    },
+    Case {
+        words: MIGRATE,
+        net: Some(VALUE),
+        trace: Some("v 3\nv 5\n"),
+        read_journal: Some(TWO_VALUES),
+        journal: Some(TWO_VALUES),
+        shown: "migrated 3\n",
+        ..DONE
+    },
+    Case {
+        words: MIGRATE,
+        net: Some(ECHO),
+        trace: Some("v 5\n"),
+        read_journal: Some(ONE_VALUE),
+        journal: Some(ONE_VALUE),
+        shown: "migrated 2\n",
+        ..DONE
+    },
+    Case {
+        words: MIGRATE,
+        net: Some(GREATEST),
+        trace: Some("v 4294967295\n"),
+        read_journal: Some(GREATEST_VALUE),
+        journal: Some(GREATEST_VALUE),
+        shown: "migrated 1\n",
+        ..DONE
+    },
 ];
 
 #[test]
 fn prints_journals_back(rt: HostRuntime) -> Result<(), Fail> {
-    for (number, (net, trace, journal, shown)) in PRINTED.iter().enumerate() {
-        let case = Case {
-            words: MIGRATE,
-            net: Some(net),
-            trace: Some(trace),
-            read_journal: Some(journal),
-            journal: Some(journal),
-            shown,
-            ..DONE
-        };
-        try_case(&rt, rt.alloc(), &case, number)?;
-    }
-    Ok(())
+    try_cases(&rt, rt.alloc(), PRINTED)
 }
 
 // Stamps up to the greatest, and the least ones.
@@ -204,7 +259,7 @@ const LEAST: &str = "polis journal 2
 end 4 complete
 ";
 
-const GREATEST_STAMP: Case<'static> = Case {
+const GREATEST_STAMP: &Case<'_> = &Case {
     words: MIGRATE,
     net: Some(JOIN),
     trace: Some("a\nsettle\nb\n"),
@@ -216,7 +271,7 @@ const GREATEST_STAMP: Case<'static> = Case {
 
 #[test]
 fn reads_the_greatest_stamp(rt: HostRuntime) -> Result<(), Fail> {
-    try_case(&rt, rt.alloc(), &GREATEST_STAMP, 0)
+    try_case(&rt, rt.alloc(), GREATEST_STAMP, 0)
 }
 
 // 60,000 deliveries to the join, where the environment sends one, and what stands after them.
@@ -243,22 +298,23 @@ const MANY: &[(Repeated<'_>, Status, &str)] = &[
     ),
 ];
 
-fn judged<'a>(journal: &'a str, status: Status, shown: &'a str) -> Case<'a> {
-    Case {
-        net: Some(JOIN),
-        trace: Some("a\n"),
-        read_journal: Some(journal),
-        status,
-        ..refused(REPLAY, shown)
-    }
+// A replay on the join.
+fn try_replay<'a, T: Abort + Threads + Wait + Sync>(
+    rt: &T,
+    alloc: Global,
+    many: &Repeated<'a>,
+    (status, shown): (Status, &'a str),
+    number: usize,
+) -> Result<(), Fail> {
+    let text = text_of(alloc, many)?;
+    let case = replay(JOIN, "a\n", text.as_str(), status, shown);
+    try_case(rt, alloc, &case, number)
 }
 
 #[test]
 fn takes_sixty_thousand_entries(rt: HostRuntime) -> Result<(), Fail> {
     for (number, (many, status, shown)) in MANY.iter().enumerate() {
-        let text = text_of(rt.alloc(), many)?;
-        let case = judged(text.as_str(), *status, shown);
-        try_case(&rt, rt.alloc(), &case, number)?;
+        try_replay(&rt, rt.alloc(), many, (*status, shown), number)?;
     }
     Ok(())
 }

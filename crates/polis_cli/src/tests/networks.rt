@@ -1,26 +1,8 @@
-// The texts of small networks: those of sample_networks, and some that differ from them.
-use sample_networks::{belt, clash, echo, join, lamp, looping, pong, two, value};
-
-pub const BELT: &[u8] = belt::TEXT;
-
-pub const CLASH: &[u8] = clash::TEXT;
-
-pub const ECHO: &[u8] = echo::TEXT;
-
-pub const JOIN: &[u8] = join::TEXT;
-
-pub const LAMP: &[u8] = lamp::TEXT;
-
-pub const LOOP: &[u8] = looping::TEXT;
-
-pub const PONG: &[u8] = pong::TEXT;
-
-pub const TWO: &[u8] = two::TEXT;
-
-pub const VALUE: &[u8] = value::TEXT;
+// The texts of small networks: those of examples/, and some that differ from them.
+pub use sample_networks::texts::{BELT, CLASH, ECHO, JOIN, LAMP, LOOP, PONG, TWO, VALUE};
 
 // The lamp in version 2.
-pub const LAMP_2: &[u8] = b"network lamp version 2
+pub const LAMP_2: &str = "network lamp version 2
 domain bit = { off, on }
 event press from env
 event light to env
@@ -33,7 +15,7 @@ machine lamp_ctl priority 1 {
 ";
 
 // Both machines have one priority.
-pub const EVEN: &[u8] = b"network two version 1
+pub const EVEN: &str = "network two version 1
 event x from env
 event ya to env
 event yb to env
@@ -50,7 +32,7 @@ machine b priority 1 {
 ";
 
 // Two rows overlap where v is 1, and give the same there.
-pub const ECHO_ROWS: &[u8] = b"network echo version 2
+pub const ECHO_ROWS: &str = "network echo version 2
 domain d = 0 .. 7
 event v : d from env
 event w : d to env
@@ -63,7 +45,7 @@ machine m priority 0 {
 ";
 
 // Two rows overlap where v is 1, and differ there.
-pub const ECHO_CLASH: &[u8] = b"network echo version 2
+pub const ECHO_CLASH: &str = "network echo version 2
 domain d = 0 .. 7
 event v : d from env
 event w : d to env
@@ -76,7 +58,7 @@ machine m priority 0 {
 ";
 
 // 16 events without values make 65,536 snapshots.
-pub const WIDE: &[u8] = b"network t version 1
+pub const WIDE: &str = "network t version 1
 event e0 from env
 event e1 from env
 event e2 from env
@@ -99,5 +81,5 @@ machine m priority 0 {
 ";
 
 // The text ends where a condition's rest is wanted.
-pub const OPEN_ROW: &[u8] =
-    b"network t version 1 event g from env machine a priority 0 { input g when g do";
+pub const OPEN_ROW: &str =
+    "network t version 1 event g from env machine a priority 0 { input g when g do";

@@ -3,11 +3,11 @@
 // A size is the sum over the places of the order. At each place, fix what stands before it in every
 // possible way: of the different functions that are left, those count that change with what
 // stands at the place. So a result counts where it has one code, and a variable of one code never.
-use crate::tests::{COMPILE, Case, DONE, try_case};
+use crate::tests::cases::{COMPILE, Case, DONE, try_cases};
 use std::test::Fail;
 
 // No row: each result has one code, so 1 + 1, and nothing depends on the input.
-const IDLE: &[u8] = b"network t version 1
+const IDLE: &str = "network t version 1
 event a from env
 event c to env
 machine m priority 0 {
@@ -29,7 +29,7 @@ end
 ";
 
 // The state variable has one value: 1 + 2 + 2 + 2 + 0, since the input decides each result.
-const ONE_VALUE: &[u8] = b"network t version 1
+const ONE_VALUE: &str = "network t version 1
 domain u = { only }
 event a from env
 event c to env
@@ -64,7 +64,7 @@ end
 // Where v and b are present, the output gets v's value. In the first order v, b, go, w the size is
 // 1 + 2 + 3 + 3: two values of v let b decide, and three outcomes are left. In the order b, v, w,
 // go it is 1 + 1 + 3 + 2, and no single move makes that smaller.
-const COPIER: &[u8] = b"network t version 2
+const COPIER: &str = "network t version 2
 domain d = 0 .. 1
 event v : d from env
 event b from env
@@ -101,7 +101,7 @@ end
 
 // The same with nine more inputs, on which nothing depends: 3,072 snapshots, so that the first
 // order stays.
-const WIDE_COPIER: &[u8] = b"network t version 2
+const WIDE_COPIER: &str = "network t version 2
 domain d = 0 .. 1
 event v : d from env
 event b from env
@@ -151,7 +151,7 @@ end
 
 // 16 inputs, which fire together: 65,536 snapshots. Each of them decides where those before it are
 // present, and then each result has one of two codes: 16 + 2 + 2.
-const ALL: &[u8] = b"network t version 1
+const ALL: &str = "network t version 1
 event e0 from env
 event e1 from env
 event e2 from env
@@ -224,34 +224,45 @@ code 19
 end
 ";
 
-// A network, its listing, and the line that is shown.
-const COMPILED: &[(&[u8], &str, &str)] = &[
-    (IDLE, IDLE_LISTING, "machine m vertices 2 code 1\n"),
-    (
-        ONE_VALUE,
-        ONE_VALUE_LISTING,
-        "machine m vertices 6 code 5\n",
-    ),
-    (COPIER, COPIER_LISTING, "machine m vertices 7 code 7\n"),
-    (
-        WIDE_COPIER,
-        WIDE_COPIER_LISTING,
-        "machine m vertices 9 code 9\n",
-    ),
-    (ALL, ALL_LISTING, "machine m vertices 20 code 19\n"),
+const COMPILED: &[Case<'_>] = &[
+    Case {
+        words: COMPILE,
+        net: Some(IDLE),
+        listing: Some(IDLE_LISTING),
+        shown: "machine m vertices 2 code 1\n",
+        ..DONE
+    },
+    Case {
+        words: COMPILE,
+        net: Some(ONE_VALUE),
+        listing: Some(ONE_VALUE_LISTING),
+        shown: "machine m vertices 6 code 5\n",
+        ..DONE
+    },
+    Case {
+        words: COMPILE,
+        net: Some(COPIER),
+        listing: Some(COPIER_LISTING),
+        shown: "machine m vertices 7 code 7\n",
+        ..DONE
+    },
+    Case {
+        words: COMPILE,
+        net: Some(WIDE_COPIER),
+        listing: Some(WIDE_COPIER_LISTING),
+        shown: "machine m vertices 9 code 9\n",
+        ..DONE
+    },
+    Case {
+        words: COMPILE,
+        net: Some(ALL),
+        listing: Some(ALL_LISTING),
+        shown: "machine m vertices 20 code 19\n",
+        ..DONE
+    },
 ];
 
 #[test]
 fn orders_and_sizes_are_those_worked_out(rt: HostRuntime) -> Result<(), Fail> {
-    for (number, (net, listing, shown)) in COMPILED.iter().enumerate() {
-        let case = Case {
-            words: COMPILE,
-            net: Some(net),
-            listing: Some(listing),
-            shown,
-            ..DONE
-        };
-        try_case(&rt, rt.alloc(), &case, number)?;
-    }
-    Ok(())
+    try_cases(&rt, rt.alloc(), COMPILED)
 }

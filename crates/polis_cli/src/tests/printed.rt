@@ -1,10 +1,11 @@
 // Networks in the printed layout, printed as they were read.
 use crate::tests::networks::{BELT, CLASH, ECHO, JOIN, LAMP, LOOP, PONG, TWO, VALUE};
 use net_reader::{print_network, read_network};
+use polis_base::{Bytes, NoMemory};
 use std::alloc::Global;
 
 // A sentence of no version that is accepted, with each form of version 1.
-const THIRD: &[u8] = b"network n version 3
+const THIRD: &str = "network n version 3
 domain d = { a }
 domain r = 0 .. 4294967295
 event e : d from env
@@ -26,7 +27,7 @@ machine sink priority 0 {
 ";
 
 // Each form of version 2.
-const SECOND: &[u8] = b"network n version 2
+const SECOND: &str = "network n version 2
 domain d = { a }
 event e : d from env
 event f : d to env
@@ -40,18 +41,28 @@ machine m priority 4294967295 {
 }
 ";
 
-fn comes_back(alloc: Global, text: &[u8]) -> bool {
-    let Ok(net) = read_network(alloc, text) else {
-        return false;
-    };
-    matches!(print_network(alloc, &net), Ok(printed) if printed.as_slice() == text)
+fn printed(alloc: Global, text: &str) -> Result<Bytes, NoMemory> {
+    match read_network(alloc, text.as_bytes()) {
+        Ok(net) => print_network(alloc, &net),
+        Err(_) => Err(NoMemory),
+    }
 }
+
+fn comes_back(alloc: Global, text: &str) -> bool {
+    match printed(alloc, text) {
+        Ok(printed) => printed.as_slice() == text.as_bytes(),
+        Err(_) => false,
+    }
+}
+
+// All but the last two are those of examples/.
+const TEXTS: &[&str] = &[
+    LAMP, BELT, JOIN, VALUE, TWO, LOOP, PONG, CLASH, ECHO, THIRD, SECOND,
+];
 
 #[test]
 fn networks_print_as_they_were_read(rt: HostRuntime) {
-    for text in [
-        LAMP, BELT, JOIN, VALUE, TWO, LOOP, PONG, CLASH, ECHO, THIRD, SECOND,
-    ] {
-        assert!(rt; comes_back(rt.alloc(), text));
+    for (number, text) in TEXTS.iter().enumerate() {
+        assert!(rt; comes_back(rt.alloc(), text), "text {number}");
     }
 }

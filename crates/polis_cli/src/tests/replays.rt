@@ -1,6 +1,6 @@
 // Whole calls that judge journals, over files in memory, as tables.
+use crate::tests::cases::{Case, DONE, MIGRATE, REPLAY, UNREAD, UNWRITTEN, try_cases};
 use crate::tests::networks::{JOIN, TWO};
-use crate::tests::{Case, DONE, MIGRATE, REPLAY, UNREAD, UNWRITTEN, try_cases};
 use polis_words::Status;
 use std::test::Fail;
 

@@ -1,4 +1,5 @@
 // Whole calls over files in memory, as a table.
+use crate::tests::cases::{CHECK, COMPILE, Case, DONE, PRESS, REFUSED, try_cases};
 use crate::tests::listings::{
     BELT_LISTING, ECHO_LISTING, JOIN_LISTING, LAMP_LISTING, LOOP_LISTING, PONG_LISTING,
     TWO_LISTING, VALUE_LISTING,
@@ -7,8 +8,10 @@ use crate::tests::networks::{
     BELT, CLASH, ECHO, ECHO_CLASH, ECHO_ROWS, EVEN, JOIN, LAMP, LAMP_2, LOOP, OPEN_ROW, PONG, TWO,
     VALUE, WIDE,
 };
-use crate::tests::{CHECK, COMPILE, Case, DONE, PRESS, REFUSED, try_cases};
 use polis_words::Status;
+use sample_networks::texts::{
+    BELT_TRACE, CLASH_TRACE, ECHO_TRACE, JOIN_TRACE, LOOP_TRACE, PONG_TRACE, TWO_TRACE, VALUE_TRACE,
+};
 use std::test::Fail;
 
 const BELT_JOURNAL: &str = "polis journal 2
@@ -45,11 +48,6 @@ const BELT_JOURNAL: &str = "polis journal 2
 end 30 complete
 ";
 
-const BELT_TRACE: &str = "key_on\nsettle
-tick\nsettle\ntick\nsettle\ntick\nsettle\ntick\nsettle\ntick\nsettle\ntick\nsettle
-tick\nsettle\ntick\nsettle\ntick\nsettle\ntick\nsettle\ntick\nsettle
-";
-
 const PONG_JOURNAL: &str = "polis journal 2
 @1 dep env a go
 @2 fire a : go ; - -> - ; p
@@ -65,7 +63,7 @@ end 10 limit
 ";
 
 // A text in which a fault of syntax stands before a byte that begins no token.
-const TWICE_BEGUN: &[u8] = b"network t network %";
+const TWICE_BEGUN: &str = "network t network %";
 
 // Runs of the lamp and of other single machines.
 const RUNS: &[Case<'_>] = &[
@@ -91,7 +89,7 @@ const RUNS: &[Case<'_>] = &[
     },
     Case {
         net: Some(JOIN),
-        trace: Some("a\na\nb\n"),
+        trace: Some(JOIN_TRACE),
         shown: "entries 4 complete\nlost 1\ngathered 0 adopted 0\nmachine m vertices 6 code 5 tries 1 steps 5\n",
         outputs: Some("c\n"),
         journal: Some(
@@ -113,7 +111,7 @@ const RUNS: &[Case<'_>] = &[
     },
     Case {
         net: Some(VALUE),
-        trace: Some("v 3\nv 5\n"),
+        trace: Some(VALUE_TRACE),
         shown: "entries 3 complete\nlost 1\ngathered 0 adopted 0\nmachine m vertices 5 code 4 tries 1 steps 4\n",
         outputs: Some("hit\n"),
         journal: Some(
@@ -133,6 +131,17 @@ const RUNS: &[Case<'_>] = &[
         listing: Some(ECHO_LISTING),
         ..PRESS
     },
+    Case {
+        net: Some(ECHO),
+        trace: Some(ECHO_TRACE),
+        shown: "entries 4 complete\nlost 0\ngathered 0 adopted 0\nmachine m vertices 21 code 34 tries 2 steps 16\n",
+        outputs: Some("w=5\nw=2\n"),
+        journal: Some(
+            "polis journal 2\n@1 dep env m v=5\n@2 fire m : v=5 ; s=6 -> s=1 ; w=5\n@3 dep env m v=2\n@4 fire m : v=2 ; s=1 -> s=4 ; w=2\nend 4 complete\n",
+        ),
+        listing: Some(ECHO_LISTING),
+        ..PRESS
+    },
 ];
 
 #[test]
@@ -144,7 +153,7 @@ fn runs_single_machines(rt: HostRuntime) -> Result<(), Fail> {
 const RUNS_OF_SEVERAL: &[Case<'_>] = &[
     Case {
         net: Some(TWO),
-        trace: Some("x\n"),
+        trace: Some(TWO_TRACE),
         shown: "entries 4 complete\nlost 0\ngathered 0 adopted 0\nmachine a vertices 5 code 4 tries 1 steps 4\nmachine b vertices 5 code 4 tries 1 steps 4\n",
         outputs: Some("yb\nya\n"),
         journal: Some(
@@ -155,7 +164,7 @@ const RUNS_OF_SEVERAL: &[Case<'_>] = &[
     },
     Case {
         net: Some(EVEN),
-        trace: Some("x\n"),
+        trace: Some(TWO_TRACE),
         shown: "entries 4 complete\nlost 0\ngathered 0 adopted 0\nmachine a vertices 5 code 4 tries 1 steps 4\nmachine b vertices 5 code 4 tries 1 steps 4\n",
         outputs: Some("ya\nyb\n"),
         journal: Some(
@@ -166,7 +175,7 @@ const RUNS_OF_SEVERAL: &[Case<'_>] = &[
     },
     Case {
         net: Some(LOOP),
-        trace: Some("go\n"),
+        trace: Some(LOOP_TRACE),
         shown: "entries 6 complete\nlost 0\ngathered 0 adopted 0\nmachine m vertices 12 code 13 tries 3 steps 20\n",
         outputs: Some(""),
         journal: Some(
@@ -208,7 +217,7 @@ const LIMITED: &[Case<'_>] = &[
     Case {
         words: &["run", "net", "trc", "o", "--limit", "10"],
         net: Some(PONG),
-        trace: Some("go\n"),
+        trace: Some(PONG_TRACE),
         status: Status::Limit,
         shown: "entries 10 limit\nlost 0\ngathered 0 adopted 0\nmachine a vertices 6 code 5 tries 3 steps 14\nmachine b vertices 5 code 4 tries 2 steps 8\n",
         outputs: Some(""),
@@ -299,6 +308,12 @@ const CHECKED: &[Case<'_>] = &[
     Case {
         net: Some(CLASH),
         trace: Some("a\n"),
+        shown: "refused net conflict m 0 2 a b ; -\n",
+        ..REFUSED
+    },
+    Case {
+        net: Some(CLASH),
+        trace: Some(CLASH_TRACE),
         shown: "refused net conflict m 0 2 a b ; -\n",
         ..REFUSED
     },

@@ -3,15 +3,15 @@ ghost use Rattle.journals.specs.Journals.{IsTrace};
 ghost use Rattle.transition_table.specs.Transitions.{AreDeterministic};
 
 use crate::inputs::Inputs;
-use crate::tests::counts::inputs_of;
+use crate::tests::inputs::{inputs_of, reactor_of, stepped};
+use journals::Log;
 use polis_base::{Bytes, NoMemory};
 use std::alloc::Global;
 use std::test::Fail;
-use transition_table::TableReactor;
-use worker_core::{CoreStep, LogList, core_run};
+use worker_core::{CoreStep, LogList};
 
 // Two machines that play to each other, and one that looks on.
-const WATCHED: &[u8] = b"network pong version 1
+const WATCHED: &str = "network pong version 1
 event go from env
 event p
 event q
@@ -44,35 +44,42 @@ const STEPS: &[CoreStep] = &[
     CoreStep::Land { machine: 0 },
 ];
 
-// The reactor of the network's rows.
-fn reactor_of(inputs: &Inputs) -> TableReactor<'_>
-    requires fits { IsTrace inputs.now.net inputs.now.trace }
-    requires deterministic { AreDeterministic inputs.now.net }
-    ensures fits { IsTrace result.net.now inputs.now.trace }
-{
-    TableReactor::new(&inputs.net)
+fn push_stamps(log: &Log, text: &mut Bytes) -> Result<(), NoMemory> {
+    for x in log.as_slice() {
+        text.push(b"@")?;
+        text.push_decimal(x.stamp)?;
+    }
+    text.push(b"\n")
 }
 
 // The stamps of each log, a line each.
 fn stamps_of(alloc: Global, logs: &LogList) -> Result<Bytes, NoMemory> {
     let mut text = Bytes::new(alloc);
     for log in logs.as_slice() {
-        for x in log.as_slice() {
-            text.push(b"@")?;
-            text.push_decimal(x.stamp)?;
-        }
-        text.push(b"\n")?;
+        push_stamps(log, &mut text)?;
     }
     Ok(text)
+}
+
+// The stamps after the steps.
+fn stamps_after(alloc: Global, inputs: &Inputs) -> Result<Bytes, NoMemory>
+    requires fits { IsTrace inputs.now.net inputs.now.trace }
+    requires deterministic { AreDeterministic inputs.now.net }
+{
+    let r = reactor_of(inputs);
+    let core = stepped(alloc, &r, &inputs.trace, STEPS)?;
+    stamps_of(alloc, core.logs())
+}
+
+fn watched_stamps(alloc: Global) -> Result<Bytes, NoMemory> {
+    let inputs = inputs_of(alloc, WATCHED, "go\ngo\n")?;
+    stamps_after(alloc, &inputs)
 }
 
 // In the log of b, whose first entry it is, a's delivery has the stamp 3, above that of a's firing.
 #[test]
 fn stamps_a_landing_above_its_firing(rt: HostRuntime) -> Result<(), Fail> {
-    let inputs = inputs_of(rt.alloc(), WATCHED, b"go\ngo\n")?;
-    let r = reactor_of(&inputs);
-    let core = core_run(rt.alloc(), &r, &inputs.trace, STEPS)?;
-    let stamps = stamps_of(rt.alloc(), core.logs())?;
+    let stamps = watched_stamps(rt.alloc())?;
     assert_eq!(rt; stamps.as_slice(), b"@1@2@3\n@3\n@1@2@3@4\n".as_slice());
     Ok(())
 }

@@ -1,30 +1,51 @@
 // A host over the system's files.
+ghost use Rattle.std.specs.Prelude.{◌≡◌, []};
+
 use polis_base::{Bytes, Host, Load, Save, StdHost};
+use std::alloc::Global;
 use std::fs;
 use std::test::Fail;
+
+const NAME: &str = "polis_cli.saved";
+
+const TEXT: &[u8] = b"a saved text";
+
+fn saves(host: &mut StdHost) -> bool {
+    host.save(NAME, TEXT) == Save::Written
+}
+
+fn shows(host: &mut StdHost) -> bool {
+    host.show(b"") == Save::Written
+}
+
+// What a load of at most so many bytes answers.
+fn load(host: &mut StdHost, name: &str, max: u64, into: &mut Bytes) -> Load
+    requires { into.old ≡ [] }
+{
+    host.load(name, max, into)
+}
+
+fn answers(alloc: Global, host: &mut StdHost, name: &str, max: u64, wanted: Load) -> bool {
+    let mut into = Bytes::new(alloc);
+    load(host, name, max, &mut into) == wanted
+}
+
+fn loads_all(alloc: Global, host: &mut StdHost) -> bool {
+    let mut into = Bytes::new(alloc);
+    load(host, NAME, 12, &mut into) == Load::Read && into.as_slice() == TEXT
+}
 
 #[test]
 fn goes_over_the_systems_files(rt: HostRuntime) -> Result<(), Fail> {
     let mut host = StdHost::new(&rt, rt.alloc());
-    assert_eq!(rt;
-        host.save("polis_cli.saved", b"a saved text"),
-        Save::Written
-    );
-    let saved = fs::read(&rt, "polis_cli.saved")?;
-    assert_eq!(rt; saved.as_slice(), b"a saved text".as_slice());
-    let mut into = Bytes::new(rt.alloc());
-    assert_eq!(rt; host.load("polis_cli.saved", 12, &mut into), Load::Read);
-    assert_eq!(rt; into.as_slice(), b"a saved text".as_slice());
-    let mut longer = Bytes::new(rt.alloc());
-    assert_eq!(rt;
-        host.load("polis_cli.saved", 11, &mut longer),
-        Load::TooLong
-    );
-    fs::remove_file(&rt, "polis_cli.saved")?;
-    let mut absent = Bytes::new(rt.alloc());
-    assert_eq!(rt; host.load("polis_cli.saved", 12, &mut absent), Load::Absent);
-    let mut folder = Bytes::new(rt.alloc());
-    assert_eq!(rt; host.load(".", 12, &mut folder), Load::Failed);
-    assert_eq!(rt; host.show(b""), Save::Written);
+    assert!(rt; saves(&mut host));
+    let saved = fs::read(&rt, NAME)?;
+    assert!(rt; saved.as_slice() == TEXT);
+    assert!(rt; loads_all(rt.alloc(), &mut host));
+    assert!(rt; answers(rt.alloc(), &mut host, NAME, 11, Load::TooLong));
+    fs::remove_file(&rt, NAME)?;
+    assert!(rt; answers(rt.alloc(), &mut host, NAME, 12, Load::Absent));
+    assert!(rt; answers(rt.alloc(), &mut host, ".", 12, Load::Failed));
+    assert!(rt; shows(&mut host));
     Ok(())
 }

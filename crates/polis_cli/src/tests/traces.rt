@@ -1,35 +1,34 @@
 // Traces that a run reads, and traces that it refuses.
+use crate::tests::cases::{
+    Case, PRESS, RUN, Repeated, read_only, replay, text_of, try_case, try_cases,
+};
 use crate::tests::listings::VALUE_LISTING;
 use crate::tests::networks::{LAMP, VALUE};
-use crate::tests::{
-    Case, PRESS, REPLAY, RUN, Repeated, line_of, refused, text_of, try_case, try_cases,
-};
 use polis_words::Status;
+use std::alloc::Global;
+use std::process::Abort;
+use std::sync::Wait;
 use std::test::Fail;
+use std::thread::Threads;
 
 // Traces at fault: the lamp reads the pure event `press`, and the other network an event with the
 // values 0 to 7.
-const FAULTS: &[(&[u8], &str, &str)] = &[
-    (LAMP, "settle press\n", "line 1 shape"),
-    (LAMP, "# a\n\nfoo 1 2\n", "line 3 shape"),
-    (LAMP, "press\nfoo\n", "line 2 event"),
-    (LAMP, "light\n", "line 1 event"),
-    (LAMP, "press 1\nfoo\n", "line 1 value"),
-    (LAMP, "press 1\n", "line 1 value"),
-    (VALUE, "v\n", "line 1 value"),
-    (VALUE, "v 8\n", "line 1 value"),
-    (VALUE, "v 07\n", "line 1 value"),
+const FAULTS: &[(&str, &str, &str)] = &[
+    (LAMP, "settle press\n", "refused trc line 1 shape\n"),
+    (LAMP, "# a\n\nfoo 1 2\n", "refused trc line 3 shape\n"),
+    (LAMP, "press\nfoo\n", "refused trc line 2 event\n"),
+    (LAMP, "light\n", "refused trc line 1 event\n"),
+    (LAMP, "press 1\nfoo\n", "refused trc line 1 value\n"),
+    (LAMP, "press 1\n", "refused trc line 1 value\n"),
+    (VALUE, "v\n", "refused trc line 1 value\n"),
+    (VALUE, "v 8\n", "refused trc line 1 value\n"),
+    (VALUE, "v 07\n", "refused trc line 1 value\n"),
 ];
 
 #[test]
 fn refuses_traces(rt: HostRuntime) -> Result<(), Fail> {
-    for (number, (net, trace, fault)) in FAULTS.iter().enumerate() {
-        let shown = line_of(rt.alloc(), "refused trc ", fault)?;
-        let case = Case {
-            net: Some(net),
-            trace: Some(trace),
-            ..refused(RUN, shown.as_str())
-        };
+    for (number, (net, trace, shown)) in FAULTS.iter().enumerate() {
+        let case = read_only(RUN, net, trace, Status::Refused, shown);
         try_case(&rt, rt.alloc(), &case, number)?;
     }
     Ok(())
@@ -108,22 +107,25 @@ const MANY: &[(Repeated<'_>, Status, &str)] = &[
     ),
 ];
 
+const NO_ENTRY: &str = "polis journal 1\nend 0 limit\n";
+
 // A replay of no entry on a trace.
-fn replayed<'a>(trace: &'a str, status: Status, shown: &'a str) -> Case<'a> {
-    Case {
-        trace: Some(trace),
-        read_journal: Some("polis journal 1\nend 0 limit\n"),
-        status,
-        ..refused(REPLAY, shown)
-    }
+fn try_replay<'a, T: Abort + Threads + Wait + Sync>(
+    rt: &T,
+    alloc: Global,
+    many: &Repeated<'a>,
+    (status, shown): (Status, &'a str),
+    number: usize,
+) -> Result<(), Fail> {
+    let text = text_of(alloc, many)?;
+    let case = replay(LAMP, text.as_str(), NO_ENTRY, status, shown);
+    try_case(rt, alloc, &case, number)
 }
 
 #[test]
 fn takes_ten_thousand_items(rt: HostRuntime) -> Result<(), Fail> {
     for (number, (many, status, shown)) in MANY.iter().enumerate() {
-        let text = text_of(rt.alloc(), many)?;
-        let case = replayed(text.as_str(), *status, shown);
-        try_case(&rt, rt.alloc(), &case, number)?;
+        try_replay(&rt, rt.alloc(), many, (*status, shown), number)?;
     }
     Ok(())
 }

@@ -1,12 +1,14 @@
 // Whole calls with several workers, over files in memory.
+use crate::tests::cases::{
+    BY_TWO, COMPILE, Case, PRESS, RUN, call, first_wrong, host_of, is_held, make_host, try_case,
+};
 use crate::tests::gates::{Inside, Meeting, Outside};
 use crate::tests::listings::{BELT_LISTING, LOOP_LISTING, TWO_LISTING};
 use crate::tests::networks::{BELT, EVEN, LOOP};
-use crate::tests::{BY_TWO, COMPILE, Case, PRESS, RUN, is_held, make_host, make_words, try_case};
-use crate::top::polis;
 use event_buffer::{Gate, OpenGate};
-use polis_base::MemoryHost;
+use polis_base::{MemoryHost, NoMemory};
 use polis_words::Status;
+use sample_networks::texts::{LOOP_TRACE, TWO_TRACE};
 use std::alloc::Global;
 use std::process::Abort;
 use std::sync::Wait;
@@ -17,7 +19,16 @@ const BY_FOUR: &[&str] = &["run", "net", "trc", "o", "--workers", "4"];
 
 const JUDGE: &[&str] = &["replay", "net", "trc", "o.jnl"];
 
-const COUNTS: &[&str] = &["2", "3", "4", "5", "6", "7", "8"];
+// Runs by 2 to 8 workers.
+const BY_SEVERAL: &[&[&str]] = &[
+    BY_TWO,
+    &["run", "net", "trc", "o", "--workers", "3"],
+    BY_FOUR,
+    &["run", "net", "trc", "o", "--workers", "5"],
+    &["run", "net", "trc", "o", "--workers", "6"],
+    &["run", "net", "trc", "o", "--workers", "7"],
+    &["run", "net", "trc", "o", "--workers", "8"],
+];
 
 const EVEN_JOURNAL: &str = "polis journal 2
 @1 dep env a x
@@ -35,10 +46,10 @@ machine b vertices 5 code 4 tries 1 steps 4
 ";
 
 // A machine that reads what it emits, run by two workers.
-const LOOP_BY_TWO: Case<'static> = Case {
+const LOOP_BY_TWO: &Case<'_> = &Case {
     words: BY_TWO,
     net: Some(LOOP),
-    trace: Some("go\n"),
+    trace: Some(LOOP_TRACE),
     shown: "entries 6 complete
 lost 0
 gathered 6 adopted 6
@@ -60,109 +71,117 @@ end 6 complete
     ..PRESS
 };
 
-// Two machines of one priority that read one event, run by two workers, and what they leave.
-fn run_even<T: Abort + Threads + Wait + Sync, G: Gate + Sync>(
+// Two machines of one priority that read one event, run by two workers.
+const EVEN_BY_TWO: &Case<'_> = &Case {
+    words: BY_TWO,
+    net: Some(EVEN),
+    trace: Some(TWO_TRACE),
+    shown: EVEN_SHOWN,
+    outputs: Some("ya\nyb\n"),
+    journal: Some(EVEN_JOURNAL),
+    listing: Some(TWO_LISTING),
+    ..PRESS
+};
+
+// Has the journal judged that a run has left, and answers whether it is found legal, with this at
+// the end of what is shown.
+fn is_legal<T: Threads + Wait + Sync>(
     rt: &T,
     alloc: Global,
+    host: &mut MemoryHost,
+    end: &str,
+) -> Result<bool, NoMemory> {
+    let status = call(rt, alloc, JUDGE, host, &OpenGate)?;
+    Ok(status == Status::Done && host.shown().ends_with(end.as_bytes()))
+}
+
+// A case whose call calls a gate, and whose journal of four entries is judged.
+fn try_at<T: Abort + Threads + Wait + Sync, G: Gate + Sync>(
+    rt: &T,
+    alloc: Global,
+    case: &Case<'_>,
     gate: &G,
-) -> Result<MemoryHost, Fail> {
-    let case = Case {
-        net: Some(EVEN),
-        trace: Some("x\n"),
-        ..PRESS
-    };
-    let mut host = make_host(alloc, &case)?;
-    let words = make_words(alloc, BY_TWO)?;
-    let status = polis(rt, alloc, &words, &mut host, gate);
-    assert!(rt; status == Status::Done);
-    assert!(rt; host.shown() == EVEN_SHOWN.as_bytes());
-    assert!(rt; is_held(&host, "o.out", Some("ya\nyb\n")));
-    assert!(rt; is_held(&host, "o.jnl", Some(EVEN_JOURNAL)));
-    assert!(rt; is_held(&host, "o.lst", Some(TWO_LISTING)));
-    Ok(host)
+) -> Result<(), Fail> {
+    let mut host = make_host(alloc, case)?;
+    let status = call(rt, alloc, case.words, &mut host, gate)?;
+    let wrong = first_wrong(case, status, &host);
+    assert!(rt; wrong.is_empty(), "{wrong}");
+    assert!(rt; is_legal(rt, alloc, &mut host, "legal 4 complete\n")?);
+    Ok(())
 }
 
 #[test]
 fn reacts_side_by_side(rt: HostRuntime) -> Result<(), Fail> {
     let gate = Outside(Meeting::new());
-    let mut host = run_even(&rt, rt.alloc(), &gate)?;
+    try_at(&rt, rt.alloc(), EVEN_BY_TWO, &gate)?;
     assert!(rt; gate.0.was_met());
-    let words = make_words(rt.alloc(), JUDGE)?;
-    let status = polis(&rt, rt.alloc(), &words, &mut host, &OpenGate);
-    assert!(rt; status == Status::Done);
-    assert!(rt; host.shown().ends_with(b"legal 4 complete\n"));
     Ok(())
 }
 
 #[test]
 fn holds_cells_side_by_side(rt: HostRuntime) -> Result<(), Fail> {
     let gate = Inside(Meeting::new());
-    let _ = run_even(&rt, rt.alloc(), &gate)?;
+    try_at(&rt, rt.alloc(), EVEN_BY_TWO, &gate)?;
     assert!(rt; gate.0.was_met());
     Ok(())
 }
 
 #[test]
 fn delivers_what_a_machine_sends_itself(rt: HostRuntime) -> Result<(), Fail> {
-    try_case(&rt, rt.alloc(), &LOOP_BY_TWO, 0)
+    try_case(&rt, rt.alloc(), LOOP_BY_TWO, 0)
 }
 
-// Runs a network by so many workers, and has the journal judged.
-fn judge_run<'a, T: Abort + Threads + Wait + Sync>(
+const BELT_BRIEFLY: &str = "key_on\nsettle\ntick\nsettle\ntick\n";
+
+// Whether a run is done and its journal is legal and complete.
+fn runs_legally<T: Threads + Wait + Sync>(
     rt: &T,
     alloc: Global,
-    (net, trace): (&'a [u8], &'a str),
-    workers: &str,
+    words: &[&str],
+    net: &str,
+    trace: &str,
+) -> Result<bool, NoMemory> {
+    let mut host = host_of(alloc, net, trace)?;
+    let status = call(rt, alloc, words, &mut host, &OpenGate)?;
+    Ok(status == Status::Done && is_legal(rt, alloc, &mut host, " complete\n")?)
+}
+
+fn try_runs<T: Abort + Threads + Wait + Sync>(
+    rt: &T,
+    alloc: Global,
+    net: &str,
+    trace: &str,
 ) -> Result<(), Fail> {
-    let case = Case {
-        net: Some(net),
-        trace: Some(trace),
-        ..PRESS
-    };
-    let mut host = make_host(alloc, &case)?;
-    let words = make_words(alloc, &["run", "net", "trc", "o", "--workers", workers])?;
-    let status = polis(rt, alloc, &words, &mut host, &OpenGate);
-    assert!(rt; status == Status::Done);
-    let words = make_words(alloc, JUDGE)?;
-    let status = polis(rt, alloc, &words, &mut host, &OpenGate);
-    assert!(rt; status == Status::Done);
-    assert!(rt; host.shown().ends_with(b" complete\n"));
+    for (number, words) in BY_SEVERAL.iter().enumerate() {
+        assert!(rt; runs_legally(rt, alloc, words, net, trace)?, "run {number}");
+    }
     Ok(())
 }
 
 #[test]
 fn journals_of_workers_are_legal(rt: HostRuntime) -> Result<(), Fail> {
-    let alloc = rt.alloc();
-    for workers in COUNTS {
-        judge_run(&rt, alloc, (LOOP, "go\n"), workers)?;
-        judge_run(
-            &rt,
-            alloc,
-            (BELT, "key_on\nsettle\ntick\nsettle\ntick\n"),
-            workers,
-        )?;
-    }
-    Ok(())
+    try_runs(&rt, rt.alloc(), LOOP, LOOP_TRACE)?;
+    try_runs(&rt, rt.alloc(), BELT, BELT_BRIEFLY)
 }
-
-// The belt, where the key is turned on.
-const KEY_ON: Case<'static> = Case {
-    net: Some(BELT),
-    trace: Some("key_on\n"),
-    ..PRESS
-};
 
 // Calls that list the compiled machines.
 const LISTING: &[&[&str]] = &[COMPILE, RUN, BY_FOUR];
 
+// Whether a call on the belt, where the key is turned on, is done and saves its listing.
+fn lists_the_belt<T: Threads + Wait + Sync>(
+    rt: &T,
+    alloc: Global,
+    words: &[&str],
+) -> Result<bool, NoMemory> {
+    let mut host = host_of(alloc, BELT, "key_on\n")?;
+    let status = call(rt, alloc, words, &mut host, &OpenGate)?;
+    Ok(status == Status::Done && is_held(&host, "o.lst", Some(BELT_LISTING)))
+}
+
 #[test]
 fn lists_the_same_machines_by_each_call(rt: HostRuntime) -> Result<(), Fail> {
-    for words in LISTING {
-        let mut host = make_host(rt.alloc(), &KEY_ON)?;
-        let words = make_words(rt.alloc(), words)?;
-        let status = polis(&rt, rt.alloc(), &words, &mut host, &OpenGate);
-        assert!(rt; status == Status::Done);
-        assert!(rt; is_held(&host, "o.lst", Some(BELT_LISTING)));
+    for (number, words) in LISTING.iter().enumerate() {
+        assert!(rt; lists_the_belt(&rt, rt.alloc(), words)?, "call {number}");
     }
     Ok(())
 }

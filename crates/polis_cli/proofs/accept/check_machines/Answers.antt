@@ -1,6 +1,7 @@
 use Rattle.std.proofs.Common.{length, refl, arith}
 use Rattle.std.proofs.lemmas.Option.{slice_get_read}
-use Rattle.polis_cli.proofs.Reading.{before_next, all_before, first_fault}
+use Rattle.polis_cli.proofs.Holds.{before_next, all_before}
+use Rattle.polis_cli.proofs.IsNetFault.{fault_from, first_fault}
 use Rattle.polis_cli.proofs.accept.check_machines.Goals as goal
 
 pub returns-in-Err-clause-failed : goal.returns-in-Err-clause-failed
@@ -10,8 +11,9 @@ returns-in-Err-clause-failed c =
     let there = slice_get_read machines (length machines) index c.machine-item.result refl
     (rw c.as_slice-machine-items.ensures at c.loop-machine-test.true)
     (rw c.as_slice-machine-items.ensures at c.machine-item.is) in
-    first_fault c.args.net.now index c.machine-item.result c.in-Err.cause there
-    c.loop-machine.invariant c.in-Err.ensures.failed
+    fault_from c.in-Err.fault _ _
+    (λ cause. first_fault c.args.net.now index c.machine-item.result cause there
+    c.loop-machine.invariant) c.in-Err.ensures.failed
 
 pub loop-machine-preserved : goal.loop-machine-preserved
 loop-machine-preserved c =

@@ -1,6 +1,6 @@
 use Rattle.std.proofs.Common.{subst, sym}
 use Rattle.net_reader.specs.declared.raw.RawNet.{RawNet}
-use Rattle.net_judge.specs.Judged.{Breaks}
+use Rattle.rule_judge.specs.Judged.{Breaks}
 use Rattle.net_rules.specs.NetOf.{IsNetOf}
 use Rattle.net_rules.specs.Resolved.{IsFaultOf}
 use Rattle.net_rules.specs.declared.resolving.ResolveFault.{ResolveFault}

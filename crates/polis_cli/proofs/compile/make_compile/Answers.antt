@@ -1,19 +1,20 @@
-use Rattle.std.proofs.Common.{ap}
-use Rattle.polis_cli.specs.Commands.{ends_done}
-use Rattle.polis_cli.proofs.Compiling.{makes_compile, compile_well}
+use Rattle.std.proofs.Common.{refl}
+use Rattle.polis_cli.specs.Compile.{compile_meaning}
+use Rattle.polis_cli.specs.Inputs.{FailsNet}
+use Rattle.polis_cli.proofs.CompileMeaning.{compile_made}
+use Rattle.polis_cli.proofs.IsMade.{net_alone, files_failure}
 use Rattle.polis_cli.proofs.compile.make_compile.Goals as goal
 
-pub returns-in-Ok-compile_product-clause-made : goal.returns-in-Ok-compile_product-clause-made
-returns-in-Ok-compile_product-clause-made g c =
-    makes_compile (g.H.Host.files c.args.host.now) c.args.asked.now c.in-Ok.net
-    c.in-Ok-compile_product.product
-    (rw c.net-name.ensures at c.in-Ok.ensures.held) c.in-Ok-compile_product.ensures
+pub returns-in-Ok-product_of-clause-made : goal.returns-in-Ok-product_of-clause-made
+returns-in-Ok-product_of-clause-made g c =
+    compile_made (g.H.Host.files c.args.host.now) c.args.asked.now c.in-Ok.net
+    c.in-Ok-product_of.product
+    (rw c.net.ensures at c.in-Ok.ensures.held) c.in-Ok-product_of.ensures
 
-pub returns-in-Ok-compile_product-clause-well : goal.returns-in-Ok-compile_product-clause-well
-returns-in-Ok-compile_product-clause-well g c =
-    compile_well c.args.asked.now c.in-Ok.net c.in-Ok-compile_product.product
-    c.in-Ok-compile_product.ensures
-
-pub returns-in-Ok-compile_product-clause-ends : goal.returns-in-Ok-compile_product-clause-ends
-returns-in-Ok-compile_product-clause-ends g c =
-    ap ends_done c.in-Ok-compile_product.ensures.status
+pub returns-in-Err-clause-made : goal.returns-in-Err-clause-made
+returns-in-Err-clause-made g c =
+    let asked = c.args.asked.now in
+    files_failure (compile_meaning asked) (g.H.Host.files c.args.host.now) (FailsNet asked.net)
+    c.in-Err.failure refl (λ files name cause h. h)
+    (net_alone asked.net (g.H.Host.files c.args.host.now) c.in-Err.failure
+    (rw c.net.ensures at c.in-Err.ensures.failed))

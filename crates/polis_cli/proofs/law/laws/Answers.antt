@@ -1,6 +1,13 @@
-use Rattle.polis_cli.proofs.Determined.{one_run}
+use Rattle.polis_cli.proofs.Headline.{runs_give_headline}
+use Rattle.polis_cli.proofs.IsRan.{alone_is_scheduled}
+use Rattle.polis_cli.proofs.SavesDetermineRun.{one_run}
 use Rattle.polis_cli.proofs.law.laws.Goals as goal
 
-pub returns : goal.returns
-returns c = one_run c.laws.ensures.one_stamped_journal c.stamp_laws.ensures.least_rises
-    c.laws-2.ensures
+pub returns-clause-headline : goal.returns-clause-headline
+returns-clause-headline c = runs_give_headline
+
+pub returns-clause-alone : goal.returns-clause-alone
+returns-clause-alone c = alone_is_scheduled
+
+pub returns-clause-determined : goal.returns-clause-determined
+returns-clause-determined c = one_run c.laws.ensures.one_stamped_journal

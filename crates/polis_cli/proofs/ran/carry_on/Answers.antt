@@ -14,5 +14,4 @@ returns g c =
       within = finished.within;
       stops = rw net at finished.ends;
       ends = rw net at finished.complete;
-      schedule = rw net at finished.schedule;
     }

@@ -1,5 +1,5 @@
 use Rattle.std.proofs.Common.{arith}
-use Rattle.polis_cli.proofs.Ranning.{ran_by}
+use Rattle.polis_cli.proofs.IsRan.{ran_by}
 use Rattle.polis_cli.proofs.ran.run_by.Goals as goal
 
 pub carry_on-requires-clause-few : goal.carry_on-requires-clause-few
@@ -13,6 +13,6 @@ pub returns-in-Ok : goal.returns-in-Ok
 returns-in-Ok g c =
     ran_by (g.R.Reactor.meaning c.args.r.now) c.args.trace.now c.args.workers c.args.limit
     c.in_ok-gathered.gathered.merged c.in_ok-gathered.gathered.config.journal c.in-Ok.ran
-    c.laws.ensures.stops c.requires.several c.in_ok-gathered.ensures.legal
+    c.requires.several c.in_ok-gathered.ensures.legal
     c.in_ok-gathered.ensures.most c.in_ok-gathered.ensures.enough
     (rw c.in_ok-gathered.ensures.trace at c.in-Ok.ensures)

@@ -1,26 +1,19 @@
-use Rattle.polis_cli.proofs.Running.{makes_run, run_well, run_ends, run_wants}
+use Rattle.std.proofs.Common.{refl}
+use Rattle.polis_cli.specs.Inputs.{InputsFail}
+use Rattle.polis_cli.specs.Run.{run_meaning}
+use Rattle.polis_cli.proofs.IsMade.{files_failure}
+use Rattle.polis_cli.proofs.RunMeaning.{run_made}
 use Rattle.polis_cli.proofs.run.make_run.Goals as goal
 
 pub returns-in-Ok-product_alone-clause-made : goal.returns-in-Ok-product_alone-clause-made
 returns-in-Ok-product_alone-clause-made g c =
-    makes_run (g.H.Host.files c.args.host.now) c.args.run.now c.in-Ok.inputs.net
+    run_made (g.H.Host.files c.args.host.now) c.args.run.now c.in-Ok.inputs.net
     c.in-Ok.inputs.trace c.in-Ok-product_alone.product
     (rw (c.net.ensures, c.trace.ensures) at c.in-Ok.ensures.held) c.in-Ok-product_alone.ensures
 
-pub returns-in-Ok-product_alone-clause-well : goal.returns-in-Ok-product_alone-clause-well
-returns-in-Ok-product_alone-clause-well g c =
-    run_well c.args.run.now c.in-Ok.inputs.net c.in-Ok.inputs.trace c.in-Ok-product_alone.product
-    c.in-Ok-product_alone.ensures
-
-pub returns-in-Ok-product_alone-clause-ends : goal.returns-in-Ok-product_alone-clause-ends
-returns-in-Ok-product_alone-clause-ends g c =
-    run_ends c.args.run.now c.in-Ok.inputs.net c.in-Ok.inputs.trace c.in-Ok-product_alone.product
-    c.in-Ok-product_alone.ensures
-
-pub returns-in-Err-clause-failed : goal.returns-in-Err-clause-failed
-returns-in-Err-clause-failed g c = rw (c.net.ensures, c.trace.ensures) at c.in-Err.ensures.failed
-
-pub returns-clause-failed : goal.returns-clause-failed
-returns-clause-failed g c =
-    run_wants (g.H.Host.files c.args.host.now) c.args.run.now c.net-in-Err-product_alone.result.now
-    c.net-in-Err-product_alone.ensures
+pub returns-in-Err-clause-made : goal.returns-in-Err-clause-made
+returns-in-Err-clause-made g c =
+    let run = c.args.run.now in
+    files_failure (run_meaning run) (g.H.Host.files c.args.host.now)
+    (λ files. InputsFail files run.net run.trace) c.in-Err.failure refl (λ files name cause h. h)
+    (rw (c.net.ensures, c.trace.ensures) at c.in-Err.ensures.failed)

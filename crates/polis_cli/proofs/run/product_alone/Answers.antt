@@ -1,5 +1,5 @@
 use Rattle.std.proofs.Common.{arith, sym, subst}
-use Rattle.polis_cli.specs.Runs.{IsRan}
+use Rattle.polis_cli.specs.Run.{IsRan}
 use Rattle.polis_cli.proofs.run.product_alone.Goals as goal
 
 pub stamped_text-requires-clause-few : goal.stamped_text-requires-clause-few

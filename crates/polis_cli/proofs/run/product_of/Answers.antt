@@ -1,4 +1,4 @@
-use Rattle.polis_cli.proofs.Running.{ends_at, saves_are}
+use Rattle.polis_cli.proofs.RunMeaning.{run_is}
 use Rattle.polis_cli.proofs.run.product_of.Goals as goal
 
 pub returns : goal.returns
@@ -9,15 +9,11 @@ returns c =
     let others = c.requires.others in
     record {
       ran = ran;
-      parts = others.parts;
-      named = c.keep_names.ensures;
-      right = others.right;
       is_ran = c.requires.ran;
-      ends = ends_at run.workers run.limit net c.args.inputs.now.trace ran c.status_at_end.result
-          c.requires.ran c.status_at_end.ensures;
-      saves = saves_are run net ran.journal ran.complete others.parts c.stem.result.now
-          c.args.others.outputs c.args.journal c.args.others.listing
-          c.in_ok-saves.saves
-          c.in_ok-saves.ensures c.stem.ensures others.outputs c.requires.journal others.listing;
-      shown = others.shown;
+      parts = others.parts;
+      right = others.right;
+      made = run_is run net ran others.parts c.stem.result.now c.args.others.outputs
+          c.args.journal c.args.others.listing c.args.others.shown c.in_ok-saves.saves
+          c.end_at.result c.in_ok-saves.ensures c.stem.ensures others.outputs c.requires.journal
+          others.listing others.shown c.end_at.ensures;
     }

@@ -1,4 +1,4 @@
-use Rattle.polis_cli.proofs.Saving.{three_saves}
+use Rattle.polis_cli.proofs.Saves.{three_saves}
 use Rattle.polis_cli.proofs.run.saves_of.Goals as goal
 
 pub returns : goal.returns

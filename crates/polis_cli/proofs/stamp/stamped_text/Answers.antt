@@ -1,4 +1,4 @@
-use Rattle.polis_cli.proofs.Judging.{rising_stamps}
+use Rattle.polis_cli.proofs.IsJudged.{rising_stamps}
 use Rattle.polis_cli.proofs.stamp.stamped_text.Goals as goal
 
 pub print_journal-requires-clause-stamps : goal.print_journal-requires-clause-stamps

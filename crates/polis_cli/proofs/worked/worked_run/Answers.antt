@@ -1,5 +1,5 @@
 use Rattle.net_reader.specs.Samples.{lamp as lamp_declared}
-use Rattle.polis_cli.proofs.LampRow.{lamp_row}
+use Rattle.polis_cli.proofs.LampRun.{lamp_row}
 use Rattle.polis_cli.proofs.worked.worked_run.Goals as goal
 
 pub returns : goal.returns

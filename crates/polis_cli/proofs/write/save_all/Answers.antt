@@ -1,7 +1,7 @@
 use Rattle.std.proofs.Common.{length, refl}
 use Rattle.std.proofs.lemmas.Option.{slice_get_read}
 use Rattle.polis_base.specs.Host.{Rose}
-use Rattle.polis_cli.proofs.Saving.{stops_at}
+use Rattle.polis_cli.proofs.Saves.{stops_at}
 use Rattle.polis_cli.proofs.write.save_all.Goals as goal
 
 pub returns-in-Err-clause-stops : goal.returns-in-Err-clause-stops

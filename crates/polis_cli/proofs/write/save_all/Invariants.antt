@@ -1,4 +1,4 @@
-use Rattle.polis_cli.proofs.Saving.{SavedSoFar}
+use Rattle.polis_cli.proofs.Saves.{SavedSoFar}
 use Rattle.polis_cli.proofs.write.save_all.Given as goal
 
 -- the saves so far are made

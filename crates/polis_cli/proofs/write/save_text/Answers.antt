@@ -1,6 +1,6 @@
 use Rattle.std.proofs.Common.{arith}
 use Rattle.polis_base.specs.Host.{Rose}
-use Rattle.polis_cli.proofs.Saving.{save_line}
+use Rattle.polis_cli.proofs.Saves.{save_line}
 use Rattle.polis_cli.proofs.write.save_text.Goals as goal
 
 pub returns-in-Failed-clause-shown : goal.returns-in-Failed-clause-shown

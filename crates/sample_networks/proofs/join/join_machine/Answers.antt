@@ -1,5 +1,5 @@
 use Rattle.std.proofs.Common.{rules, ◌∙◌}
-use Rattle.transition_table.specs.SampleJoin.{join_machine as the_machine}
+use Rattle.transition_table.specs.samples.Join.{join_machine as the_machine}
 use Rattle.sample_networks.proofs.SameRows.{same_rows}
 use Rattle.sample_networks.proofs.join.join_machine.Goals as goal
 

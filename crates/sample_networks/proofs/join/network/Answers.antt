@@ -1,4 +1,4 @@
-use Rattle.transition_table.specs.SampleJoin.{join as the_network}
+use Rattle.transition_table.specs.samples.Join.{join as the_network}
 use Rattle.sample_networks.proofs.Pushed.{one_made, three_made}
 use Rattle.sample_networks.proofs.join.network.Goals as goal
 

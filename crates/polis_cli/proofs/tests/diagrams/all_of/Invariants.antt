@@ -1,6 +1,6 @@
 use Rattle.std.proofs.Common.{◌≡◌}
 use Rattle.transition_table.specs.Orders.{sizes_of}
-use Rattle.transition_table.specs.SampleLamp.{lamp_machine}
+use Rattle.transition_table.specs.samples.Lamp.{lamp_machine}
 use Rattle.polis_cli.proofs.tests.diagrams.all_of.Given as goal
 
 abbrev pub invariant-loop-item : goal.invariant-loop-item

@@ -1,0 +1,138 @@
+-- What the command that is asked for made, and why it made nothing.
+use Rattle.std.proofs.Common.{◌≡◌, ◌⊎◌, inl, inr, ℕ, true, List, [], Option, refl, sym, subst, IsTrue}
+use Rattle.polis_base.specs.Host.{Files, WhereTold}
+use Rattle.polis_words.specs.declared.cause.Cause.{Cause}
+use Rattle.polis_words.specs.declared.cause.Cause.TheVariants.{ReadFault as Unread, Absent, TooLong, Lex, Syntax, Rule, Conflict, TraceLine, JournalLine, Illegal as Unlawful}
+use Rattle.polis_words.specs.declared.cause.Failure.{Failure}
+use Rattle.polis_words.specs.declared.cause.Failure.TheVariants as failures
+use Rattle.polis_words.specs.declared.status.Status.{Status}
+use Rattle.polis_words.specs.declared.status.Status.TheVariants.{ReadFault, Refused, NoMemory, Illegal}
+use Rattle.polis_words.specs.Lines.{cause_status, status_of}
+use Rattle.polis_cli.specs.declared.product.End.TheVariants as ends
+use Rattle.polis_cli.specs.declared.product.Product.{Product}
+use Rattle.polis_cli.specs.Ends.{end_status}
+use Rattle.polis_cli.specs.Inputs.{NetFails, FailsNet}
+use Rattle.polis_cli.specs.Meanings.{Meaning, MayEnd, is_finding, is_failure}
+use Rattle.polis_cli.specs.Saves.{Save, AreApart}
+use Rattle.polis_cli.specs.inner.Lawful.{IsLawful}
+use Rattle.polis_cli.specs.inner.Made.{FailsAs, IsMadeProduct, IsMadeFailure, FileFails, FilesFail, JudgingFails}
+use Rattle.polis_cli.proofs.WhereTold.{told_from, told_always}
+
+-- ---- products
+-- a product that is known is made
+pub product_made : (m : Meaning) (o : Option Files) (product known : Product) → product ≡ known
+    → AreApart known.saves → IsTrue (m.ends (end_status known.end))
+    → WhereTold o (λ files. m.makes files product) → IsMadeProduct m o product
+product_made m o product known is apart ends makes = record {
+  makes = makes;
+  apart = subst (λ (p : Product). AreApart p.saves) (sym is) apart;
+  ends = subst (λ (p : Product). IsTrue (m.ends (end_status p.end))) (sym is) ends;
+}
+
+-- a product that saves nothing, by its parts
+pub product_is : (saves : List Save) (shown known : List ℕ) → saves ≡ [] → shown ≡ known
+    → ◌≡◌ {A = Product} (record { saves = saves; shown = shown; end = ends.Done })
+    (record { saves = []; shown = known; end = ends.Done })
+product_is saves shown known n s = λ i. record { saves = n i; shown = s i; end = ends.Done }
+
+-- ---- failures
+-- the file fails, and that for another reason
+pub file_fails : (name : List ℕ) (o : Option Files) (P Q : Files → Cause → Type 0)
+    (failure : Failure) → ((files : Files) (cause : Cause) → P files cause → Q files cause)
+    → FileFails name o P failure → FileFails name o Q failure
+file_fails name o P Q failures.NoMemory f h = tt
+file_fails name o P Q (failures.File file cause) f h = (
+  h.0,
+  told_from o (λ files. P files cause) (λ files. Q files cause) (λ files. f files cause) h.1,
+  h.2,
+)
+
+-- the one file of a command fails
+pub net_alone : (name : List ℕ) (o : Option Files) (failure : Failure)
+    → FileFails name o (λ files. NetFails files name) failure → FilesFail o (FailsNet name) failure
+net_alone name o failures.NoMemory h = tt
+net_alone name o (failures.File file cause) h = (
+  told_from o (λ files. NetFails files name cause) (λ files. FailsNet name files file.now cause)
+      (λ files k. (h.0, k)) h.1,
+  h.2,
+)
+
+may_fail : (m : Meaning) (status : Status) → m.reads ≡ true → IsTrue (is_failure true status)
+    → MayEnd m status
+may_fail m status reads h = inr (subst (λ b. IsTrue (is_failure b status)) (sym reads) h)
+
+-- why a command that reads files makes nothing
+pub files_failure : (m : Meaning) (o : Option Files) (P : Files → List ℕ → Cause → Type 0)
+    (failure : Failure) → m.reads ≡ true
+    → ((files : Files) (name : List ℕ) (cause : Cause) → P files name cause
+    → m.fails files name cause)
+    → FilesFail o P failure → IsMadeFailure m o failure
+files_failure m o P failures.NoMemory reads f h = tt
+files_failure m o P (failures.File name cause) reads f h = (
+  told_from o (λ files. P files name.now cause) (λ files. m.fails files name.now cause)
+      (λ files. f files name.now cause) h.0,
+  may_fail m (cause_status cause) reads h.1,
+)
+
+-- and why one that judges a journal does
+pub judging_failure : (m : Meaning) (o : Option Files) (P : Files → List ℕ → Cause → Type 0)
+    (failure : Failure) → m.reads ≡ true → IsTrue (m.ends Illegal)
+    → ((files : Files) (name : List ℕ) (cause : Cause) → P files name cause
+    → m.fails files name cause)
+    → JudgingFails o P failure → IsMadeFailure m o failure
+judging_failure m o P failures.NoMemory reads ends f h = tt
+judging_failure m o P (failures.File name cause) reads ends f h = (
+  told_from o (λ files. P files name.now cause) (λ files. m.fails files name.now cause)
+      (λ files. f files name.now cause) h.0,
+  by_case h.1,
+)
+  where
+    by_case : IsTrue (is_failure true (cause_status cause)) ⊎ (cause_status cause ≡ Illegal)
+        → MayEnd m (cause_status cause)
+    by_case (inl e) = may_fail m (cause_status cause) reads e
+    by_case (inr e) = inl (subst (λ (s : Status). IsTrue (m.ends s)) (sym e) ends)
+
+-- what a failure is of the files, and with which statuses it ends the command
+pub fails_as : (m : Meaning) (o : Option Files) (failure : Failure) → IsMadeFailure m o failure
+    → WhereTold o (λ files. FailsAs m files failure)
+fails_as m o failures.NoMemory h = told_always o (λ files. FailsAs m files failures.NoMemory)
+    (λ files. tt)
+fails_as m o (failures.File name cause) h = h.0
+
+pub failure_ends : (m : Meaning) (o : Option Files) (failure : Failure)
+    → IsMadeFailure m o failure → MayEnd m (status_of failure)
+failure_ends m o failures.NoMemory h = inr refl
+failure_ends m o (failures.File name cause) h = h.1
+
+-- ---- what a failure says of the files
+-- the statuses of failures
+pub cases_of : (failure : Failure) → (status_of failure ≡ Refused) ⊎ (status_of failure ≡ ReadFault)
+    ⊎ (status_of failure ≡ NoMemory) ⊎ IsTrue (is_finding (status_of failure))
+cases_of failures.NoMemory = inr (inr (inl refl))
+cases_of (failures.File name cause) = of_cause cause
+  where
+    of_cause : (cause : Cause) → (cause_status cause ≡ Refused) ⊎ (cause_status cause ≡ ReadFault)
+        ⊎ (cause_status cause ≡ NoMemory) ⊎ IsTrue (is_finding (cause_status cause))
+    of_cause Unread = inr (inl refl)
+    of_cause (Unlawful entry) = inr (inr (inr refl))
+    of_cause Absent = inl refl
+    of_cause TooLong = inl refl
+    of_cause (Lex kind place) = inl refl
+    of_cause (Syntax place) = inl refl
+    of_cause (Rule rule place) = inl refl
+    of_cause (Conflict printed) = inl refl
+    of_cause (TraceLine line kind) = inl refl
+    of_cause (JournalLine line kind) = inl refl
+
+-- files that are refused aren't accepted
+pub refuses : (m : Meaning) → IsLawful m → (files : Files) (failure : Failure)
+    → status_of failure ≡ Refused → FailsAs m files failure → ¬ m.accepts files
+refuses m law files failures.NoMemory s h = cc
+refuses m law files (failures.File name cause) s h = law.refused files name.now cause h s
+
+-- what was found is found of them
+pub finds_it : (m : Meaning) → IsLawful m → (files : Files) (failure : Failure)
+    → IsTrue (is_finding (status_of failure)) → FailsAs m files failure
+    → m.finds (status_of failure) files
+finds_it m law files failures.NoMemory s h = cc
+finds_it m law files (failures.File name cause) s h = law.found files name.now cause h s

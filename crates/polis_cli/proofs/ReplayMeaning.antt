@@ -1,0 +1,126 @@
+-- What `replay` and `migrate` mean.
+use Rattle.std.proofs.Common.{◌≡◌, inl, inr, ℕ, Bool, List, refl, sym, ap, subst, ◌∙◌, IsTrue, Option}
+use Rattle.polis_base.specs.Host.{Files, WhereTold}
+use Rattle.transition_table.specs.declared.network.Network.{Network}
+use Rattle.journals.specs.declared.entry.Entry.{Entry}
+use Rattle.journals.specs.declared.entry.TraceItem.{TraceItem}
+use Rattle.polis_words.specs.declared.cause.Cause.{Cause}
+use Rattle.polis_words.specs.declared.cause.Cause.TheVariants.{Illegal as Unlawful}
+use Rattle.polis_words.specs.declared.status.Status.{Status}
+use Rattle.polis_words.specs.declared.status.Status.TheVariants.{Refused, Illegal}
+use Rattle.polis_words.specs.Lines.{cause_status}
+use Rattle.polis_words.specs.Replay.{ReplayWords}
+use Rattle.polis_cli.specs.declared.product.Product.{Product}
+use Rattle.polis_cli.specs.Meanings.{is_finding, finds_illegal, ends_judged}
+use Rattle.polis_cli.specs.Replay.{IsJudged, AcceptsReplay, FailsReplay, IsIllegalReplay, replay_product, replay_meaning}
+use Rattle.polis_cli.specs.inner.Lawful.{IsLawful}
+use Rattle.polis_cli.specs.inner.Made.{IsMadeProduct}
+use Rattle.polis_cli.proofs.WhereTold.{told_from}
+use Rattle.polis_cli.proofs.InputsFail.{inputs_refused, inputs_unfound}
+use Rattle.polis_cli.proofs.JournalFails.{journal_refused, held_unlawful, faulty_journal}
+use Rattle.polis_cli.proofs.IsMade.{product_made}
+
+-- where a file fails the files aren't all accepted, or the journal isn't legal and rising
+pub replay_refused : (files : Files) (replay : ReplayWords) (name : List ℕ) (cause : Cause)
+    → cause_status cause ≡ Refused → FailsReplay replay files name cause
+    → ¬ AcceptsReplay replay files
+replay_refused files replay name cause s (inl h) = λ all.
+    let holds = all.4 in
+    inputs_refused files replay.net replay.trace name cause all.0 all.1 s h holds.holds_net
+    holds.holds_trace
+replay_refused files replay name cause s (inr h) = λ all.
+    let holds = all.4 in
+    journal_refused files all.0 all.1 replay.journal cause all.2 all.3 s
+    (h.5 all.0 all.1 holds.holds_net holds.holds_trace) holds.holds_journal
+
+pub replay_found : (files : Files) (replay : ReplayWords) (name : List ℕ) (cause : Cause)
+    → cause_status cause ≡ Illegal → FailsReplay replay files name cause
+    → IsIllegalReplay replay files
+replay_found files replay name cause s (inl h) =
+    absurd (inputs_unfound files replay.net replay.trace name cause (ap is_finding s) h)
+replay_found files replay name cause s (inr h) =
+    let read = faulty_journal files h.1 h.2 replay.journal cause s (h.5 h.1 h.2 h.3 h.4) in
+    record {
+      accepted = (
+        h.1,
+        h.2,
+        read.0,
+        read.1,
+        record { holds_net = h.3; holds_trace = h.4; holds_journal = read.2 },
+      );
+      unlawful = λ net trace journal stamps holds.
+          held_unlawful files net trace replay.journal cause journal stamps s
+          (h.5 net trace holds.holds_net holds.holds_trace) holds.holds_journal;
+    }
+
+-- only an illegal journal is found, and only by its cause
+pub finding_is : (cause : Cause) → IsTrue (is_finding (cause_status cause))
+    → cause_status cause ≡ Illegal
+finding_is (Unlawful entry) f = refl
+finding_is other f = cc
+
+pub illegal_is : (P : Files → Type 0) (files : Files) (status : Status)
+    → finds_illegal P status files → (status ≡ Illegal) × P files
+illegal_is P files Illegal h = (refl, h)
+illegal_is P files other h = absurd h
+
+pub found_illegal : (files : Files) (replay : ReplayWords) (name : List ℕ) (cause : Cause)
+    → FailsReplay replay files name cause → IsTrue (is_finding (cause_status cause))
+    → finds_illegal (IsIllegalReplay replay) (cause_status cause) files
+found_illegal files replay name cause h f =
+    let e = finding_is cause f in
+    subst (λ (s : Status). finds_illegal (IsIllegalReplay replay) s files) (sym e)
+    (replay_found files replay name cause e h)
+
+-- a journal that is judged to be legal isn't found to be illegal
+pub judged_legal : (files : Files) (replay : ReplayWords) (net : Network)
+    (trace : List TraceItem) (journal : List Entry) (complete : Bool) (status : Status)
+    → IsJudged replay files net trace journal complete
+    → ¬ finds_illegal (IsIllegalReplay replay) status files
+judged_legal files replay net trace journal complete status judged found =
+    (illegal_is (IsIllegalReplay replay) files status found).1.unlawful net trace journal
+    judged.stamps judged.holds judged.lawful
+
+pub found_accepts : (files : Files) (replay : ReplayWords) (status : Status)
+    → finds_illegal (IsIllegalReplay replay) status files → AcceptsReplay replay files
+found_accepts files replay status found =
+    (illegal_is (IsIllegalReplay replay) files status found).1.accepted
+
+pub found_ends : (P : Files → Type 0) (files : Files) (status : Status)
+    → finds_illegal P status files → IsTrue (ends_judged status)
+found_ends P files status found = ap ends_judged (illegal_is P files status found).0
+
+pub found_once : (P : Files → Type 0) (files : Files) (s t : Status) → finds_illegal P s files
+    → finds_illegal P t files → s ≡ t
+found_once P files s t h k = (illegal_is P files s h).0 ∙ sym (illegal_is P files t k).0
+
+pub replay_lawful : (replay : ReplayWords) → IsLawful (replay_meaning replay)
+replay_lawful replay = record {
+  made_accepts = λ files product m.
+      (m.net, m.trace, m.journal, m.judged.stamps, m.judged.holds);
+  made_finds = λ files product status m.
+      judged_legal files replay m.net m.trace m.journal m.complete status m.judged;
+  refused = λ files name cause h s. replay_refused files replay name cause s h;
+  found = λ files name cause h f. found_illegal files replay name cause h f;
+  found_accepts = λ files status. found_accepts files replay status;
+  found_ends = found_ends (IsIllegalReplay replay);
+  found_once = found_once (IsIllegalReplay replay);
+}
+
+-- the product of a replay
+pub replay_made : (o : Option Files) (replay : ReplayWords) (net : Network)
+    (trace : List TraceItem) (journal : List Entry) (complete : Bool) (product : Product)
+    → WhereTold o (λ files. IsJudged replay files net trace journal complete)
+    → product ≡ replay_product journal complete
+    → IsMadeProduct (replay_meaning replay) o product
+replay_made o replay net trace journal complete product judged made =
+    product_made (replay_meaning replay) o product (replay_product journal complete) made tt refl
+    (told_from o (λ files. IsJudged replay files net trace journal complete) _
+    (λ files h. record {
+      net = net;
+      trace = trace;
+      journal = journal;
+      complete = complete;
+      judged = h;
+      made = made;
+    }) judged)

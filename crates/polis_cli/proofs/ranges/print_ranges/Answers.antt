@@ -1,0 +1,35 @@
+use Rattle.std.proofs.Common.{◌≡◌, arith, length}
+use Rattle.journals.proofs.Ways.{passes_of_all}
+use Rattle.machine_compiler.specs.Parts.{part_of_compiled}
+use Rattle.transition_table.specs.NetworkFacts.{has_vars}
+use Rattle.polis_cli.proofs.RangeLines.{shown_none, shown_more, shown_all}
+use Rattle.polis_cli.proofs.ranges.print_ranges.Goals as goal
+
+pub loop-k-init : goal.loop-k-init
+loop-k-init c =
+    shown_none c.args.costs.now c.args.net.now c.new-text.result c.new-text.ensures
+
+pub push_range-requires-clause-sized : goal.push_range-requires-clause-sized
+push_range-requires-clause-sized c =
+    let net = c.args.net.now in
+    passes_of_all (has_vars net.domains net.events) net.machines c.loop-k.k
+    c.get-machine.result.now net.sized_vars c.get-machine.ensures
+
+pub loop-k-preserved : goal.loop-k-preserved
+loop-k-preserved c =
+    shown_more c.args.costs.now c.args.net.now c.loop-k.k c.loop-k.text c.push_range.new.into
+    c.get-machine.result.now c.in_ok-range.range c.loop-k.invariant c.get-machine.ensures
+    (record {
+      part = part_of_compiled c.in_ok-compiled.compiled;
+      right = c.in_ok-compiled.ensures;
+      most = c.in_ok-range.ensures.most;
+      least = c.in_ok-range.ensures.least;
+    })
+    c.in_ok-push_range.ensures
+
+pub returns : goal.returns
+returns c =
+    let all : c.loop-k.k ≡ length c.args.net.now.machines =
+    let a = c.loop-k-test.false in let b = c.loop-k.auto.k-end in let d = c.len-k-end.ensures in
+    omega arith in
+    shown_all c.args.costs.now c.args.net.now c.loop-k.k c.loop-k.text c.loop-k.invariant all

@@ -1,0 +1,20 @@
+use Rattle.std.proofs.Common.{subst, sym}
+use Rattle.polis_words.specs.declared.requests.Request.{Request}
+use Rattle.polis_cli.specs.Commands.{meaning}
+use Rattle.polis_cli.specs.inner.Made.{IsMade}
+use Rattle.polis_cli.proofs.top.make.Goals as goal
+
+pub returns-in-Replay-clause-made : goal.returns-in-Replay-clause-made
+returns-in-Replay-clause-made g c =
+    subst (λ (r : Request). IsMade (meaning r) (g.H.Host.files c.args.host.now)
+    c.make_replay.result) (sym c.in-Replay.is) c.make_replay.ensures.made
+
+pub returns-in-Migrate-clause-made : goal.returns-in-Migrate-clause-made
+returns-in-Migrate-clause-made g c =
+    subst (λ (r : Request). IsMade (meaning r) (g.H.Host.files c.args.host.now)
+    c.make_migrate.result) (sym c.in-Migrate.is) c.make_migrate.ensures.made
+
+pub returns-in-Demo-clause-made : goal.returns-in-Demo-clause-made
+returns-in-Demo-clause-made g c =
+    subst (λ (r : Request). IsMade (meaning r) (g.H.Host.files c.args.host.now) c.make_demo.result)
+    (sym c.in-Demo.is) (c.make_demo.ensures.made (g.H.Host.files c.args.host.now))

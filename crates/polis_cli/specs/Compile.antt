@@ -1,0 +1,41 @@
+-- What `compile` makes.
+use Rattle.std.specs.Prelude.{◌≡◌, true, List, [], ◌∷◌}
+use Rattle.polis_base.specs.Host.{Files}
+use Rattle.transition_table.specs.declared.network.Network.{Network}
+use Rattle.task_code.specs.Listings.{Part, ListingText}
+use Rattle.machine_compiler.specs.Parts.{AreRightParts}
+use Rattle.machine_compiler.specs.Lines.{lengths_text}
+use Rattle.polis_words.specs.Compile.{CompileWords, compiled_name}
+use Rattle.polis_cli.specs.declared.product.End.TheVariants as ends
+use Rattle.polis_cli.specs.declared.product.Product.{Product}
+use Rattle.polis_cli.specs.Inputs.{HoldsNet, AcceptsNet, FailsNet}
+use Rattle.polis_cli.specs.Meanings.{Meaning, finds_nothing, ends_done}
+
+-- the product saves the listing of the compiled machines, and shows how long their graphs and their
+-- code are
+abbrev pub compile_product : CompileWords → Network → List Part → Product
+compile_product compile net parts = record {
+  saves = record { name = compiled_name compile; text = ListingText net parts } ∷ [];
+  shown = lengths_text net parts;
+  end = ends.Done;
+}
+
+-- the file holds a network that is accepted, each of its machines was compiled rightly, and the
+-- product is that of its compilation
+pub record MakesCompile (compile : CompileWords) (files : Files) (product : Product) : Type 0 where
+  pub net : Network
+  pub holds_net : HoldsNet files compile.net net
+  pub parts : List Part
+  pub right : AreRightParts net parts
+  pub made : product ≡ compile_product compile net parts
+
+abbrev pub compile_meaning : CompileWords → Meaning
+compile_meaning compile = record {
+  makes = MakesCompile compile;
+  accepts = AcceptsNet compile.net;
+  finds = finds_nothing;
+  fails = FailsNet compile.net;
+  ends = ends_done;
+  reads = true;
+  workers = 1;
+}

@@ -1,0 +1,51 @@
+-- What `demo` makes.
+use Rattle.std.specs.Prelude.{◌≡◌, ℕ, true, false, List, [], Ok, ⊤}
+use Rattle.polis_base.specs.declared.limits.TheConstants.{ENTRIES_MAX}
+use Rattle.transition_table.specs.declared.network.Network.{Network}
+use Rattle.journals.specs.declared.entry.TraceItem.{TraceItem}
+use Rattle.trace_text.specs.Traces.{trace_of}
+use Rattle.task_code.specs.Listings.{Part}
+use Rattle.machine_compiler.specs.Parts.{AreRightParts}
+use Rattle.net_reader.specs.Layout.{network_text}
+use Rattle.net_gen.specs.Networks.{network}
+use Rattle.net_gen.specs.inner.Traces.{trace_text}
+use Rattle.polis_words.specs.Demo.{DemoWords}
+use Rattle.polis_cli.specs.declared.product.End.TheVariants as ends
+use Rattle.polis_cli.specs.declared.product.Product.{Product}
+use Rattle.polis_cli.specs.declared.ran.Ran.{Ran}
+use Rattle.polis_cli.specs.Accepted.{Accepted}
+use Rattle.polis_cli.specs.Meanings.{Meaning, finds_nothing, ends_done}
+use Rattle.polis_cli.specs.Run.{IsRan, run_text}
+
+-- the network and the trace that are drawn from a seed, by their texts
+pub record IsDrawn (seed : ℕ) (net : Network) (trace : List TraceItem) : Type 0 where
+  pub accepted : Accepted (network_text (network seed)) net
+  pub read : trace_of net (trace_text seed) ≡ Ok trace
+
+-- the product saves nothing, and shows the run
+abbrev pub demo_product : Network → Ran → List Part → Product
+demo_product net ran parts = record { saves = []; shown = run_text net parts ran; end = ends.Done }
+
+-- What is drawn was run by one worker to its end, each machine was compiled rightly, and the
+-- product is that of the run.
+pub record MakesDemo (demo : DemoWords) (product : Product) : Type 0 where
+  pub net : Network
+  pub trace : List TraceItem
+  pub drawn : IsDrawn demo.seed net trace
+  pub ran : Ran
+  pub is_ran : IsRan 1 ENTRIES_MAX net trace ran
+  pub complete : ran.complete ≡ true
+  pub parts : List Part
+  pub right : AreRightParts net parts
+  pub made : product ≡ demo_product net ran parts
+
+abbrev pub demo_meaning : DemoWords → Meaning
+demo_meaning demo = record {
+  makes = λ files. MakesDemo demo;
+  accepts = λ files. ⊤;
+  finds = finds_nothing;
+  fails = λ files name cause. ⊥;
+  ends = ends_done;
+  reads = false;
+  workers = 1;
+}

@@ -1,0 +1,64 @@
+-- What a call promises of a command.
+use Rattle.std.specs.Prelude.{ℕ, Bool, true, false, List, IsTrue, ◌⊎◌}
+use Rattle.polis_base.specs.Host.{Files}
+use Rattle.polis_words.specs.declared.cause.Cause.{Cause}
+use Rattle.polis_words.specs.declared.status.Status.{Status}
+use Rattle.polis_words.specs.declared.status.Status.TheVariants.{Done, ReadFault, Refused, WriteFault, NoMemory, Illegal, Differ}
+use Rattle.polis_cli.specs.declared.product.Product.{Product}
+
+-- A command with what it is asked for: all that the promise of a call says of it.
+pub record Meaning : Type 1 where
+  -- The product is one that it makes of the files.
+  pub makes : Files → Product → Type 0
+  -- The files that it reads are held, within their limits, and accepted.
+  pub accepts : Files → Type 0
+  -- They are accepted, and what is found of them ends it with this status in place of a product.
+  pub finds : Status → Files → Type 0
+  -- The file of this name isn't read or isn't accepted, or something is found of it, all files
+  -- before it being accepted, and this is why.
+  pub fails : Files → List ℕ → Cause → Type 0
+  -- Where its files are accepted it ends with this status, but for faults and running out of
+  -- memory.
+  pub ends : Status → Bool
+  -- It reads files.
+  pub reads : Bool
+  -- So many workers make its product.
+  pub workers : ℕ
+
+-- the status says what was found of files that are accepted
+abbrev pub is_finding : Status → Bool
+is_finding Illegal = true
+is_finding Differ = true
+is_finding other = false
+
+-- nothing is found that ends a command in place of a product
+abbrev pub finds_nothing : Status → Files → Type 0
+finds_nothing status files = ⊥
+
+-- a journal is found that isn't legal, where this holds of the files
+abbrev pub finds_illegal : (Files → Type 0) → Status → Files → Type 0
+finds_illegal P Illegal files = P files
+finds_illegal P other files = ⊥
+
+-- the one status of a command that only shows or saves what it made
+abbrev pub ends_done : Status → Bool
+ends_done Done = true
+ends_done other = false
+
+-- the statuses of a command that judges a journal
+abbrev pub ends_judged : Status → Bool
+ends_judged Done = true
+ends_judged Illegal = true
+ends_judged other = false
+
+-- a status of a failure of a command that reads files, or of one that reads none
+abbrev pub is_failure : Bool → Status → Bool
+is_failure reads WriteFault = true
+is_failure reads NoMemory = true
+is_failure reads ReadFault = reads
+is_failure reads Refused = reads
+is_failure reads other = false
+
+-- the command may end with this status, whatever the files hold
+abbrev pub MayEnd : Meaning → Status → Type 0
+MayEnd m status = IsTrue (m.ends status) ⊎ IsTrue (is_failure m.reads status)

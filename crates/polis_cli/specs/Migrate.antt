@@ -1,0 +1,45 @@
+-- What `migrate` makes of a journal.
+use Rattle.std.specs.Prelude.{◌≡◌, Bool, true, List, [], ◌∷◌, length}
+use Rattle.polis_base.specs.Host.{Files}
+use Rattle.transition_table.specs.declared.network.Network.{Network}
+use Rattle.journals.specs.declared.entry.Entry.{Entry}
+use Rattle.journals.specs.declared.entry.TraceItem.{TraceItem}
+use Rattle.journals.specs.Stamps.{least}
+use Rattle.journal_text.specs.Texts.{stamped_journal_text}
+use Rattle.polis_words.specs.Migrate.{MigrateWords, migrated_name}
+use Rattle.polis_words.specs.Texts.{migrated_text}
+use Rattle.polis_cli.specs.declared.product.End.TheVariants as ends
+use Rattle.polis_cli.specs.declared.product.Product.{Product}
+use Rattle.polis_cli.specs.Meanings.{Meaning, finds_illegal, ends_judged}
+use Rattle.polis_cli.specs.Replay.{IsJudged, AcceptsReplay, IsIllegalReplay, FailsReplay}
+
+-- the product saves the journal with its least stamps, and shows how long it is
+abbrev pub migrate_product : MigrateWords → Network → List Entry → Bool → Product
+migrate_product migrate net journal complete = record {
+  saves = record {
+    name = migrated_name migrate;
+    text = stamped_journal_text net journal (least net journal) complete;
+  } ∷ [];
+  shown = migrated_text (length journal);
+  end = ends.Done;
+}
+
+-- the files hold a legal journal, and the product is that of its migration
+pub record MakesMigrate (migrate : MigrateWords) (files : Files) (product : Product) : Type 0 where
+  pub net : Network
+  pub trace : List TraceItem
+  pub journal : List Entry
+  pub complete : Bool
+  pub judged : IsJudged migrate.replay files net trace journal complete
+  pub made : product ≡ migrate_product migrate net journal complete
+
+abbrev pub migrate_meaning : MigrateWords → Meaning
+migrate_meaning migrate = record {
+  makes = MakesMigrate migrate;
+  accepts = AcceptsReplay migrate.replay;
+  finds = finds_illegal (IsIllegalReplay migrate.replay);
+  fails = FailsReplay migrate.replay;
+  ends = ends_judged;
+  reads = true;
+  workers = 1;
+}

@@ -1,0 +1,11 @@
+pub mod Accepted
+pub mod Shown
+pub mod Writing
+pub mod Left
+pub mod Made
+pub mod Lawful
+pub mod Run
+pub mod Compile
+pub mod Replay
+pub mod Demo
+pub mod Bound

@@ -1,0 +1,34 @@
+-- Why a text isn't accepted, step by step.
+use Rattle.std.specs.Prelude.{⊤}
+use Rattle.polis_base.specs.declared.token.LexError.{LexError}
+use Rattle.polis_base.specs.declared.token.LexError.TheVariants as lexes
+use Rattle.transition_table.specs.declared.machine.Machine.{Machine}
+use Rattle.transition_table.specs.declared.network.Network.{Network}
+use Rattle.polis_words.specs.declared.cause.LexKind.TheVariants as kinds
+use Rattle.polis_words.specs.declared.cause.Cause.{Cause}
+use Rattle.polis_words.specs.declared.cause.Cause.TheVariants.{Lex, Conflict}
+use Rattle.polis_cli.specs.declared.accept.TextFault.{TextFault}
+use Rattle.polis_cli.specs.declared.accept.TextFault.TheVariants as faults
+use Rattle.polis_cli.specs.Accepted.{IsConflictIn, IsFirstConflict}
+
+-- P of what is wrong with a text, unless memory ran out
+abbrev pub IfCause : TextFault → (Cause → Type 0) → Type 0
+IfCause (faults.Cause cause) P = P cause
+IfCause faults.NoMemory P = ⊤
+
+-- why a text whose tokens don't read isn't accepted
+abbrev pub lex_fault : LexError → TextFault
+lex_fault (lexes.BadByte place) = faults.Cause (Lex kinds.Byte place)
+lex_fault (lexes.NameTooLong place) = faults.Cause (Lex kinds.Name place)
+lex_fault (lexes.NumberTooLarge place) = faults.Cause (Lex kinds.Number place)
+lex_fault lexes.NoMemory = faults.NoMemory
+
+-- why a machine of the network isn't said to be deterministic
+abbrev pub IsMachineFault : Network → Machine → Cause → Type 0
+IsMachineFault net machine (Conflict printed) = IsConflictIn net machine printed
+IsMachineFault net machine other = ⊥
+
+-- why the machines of the network aren't said to be deterministic
+abbrev pub IsConflictFault : Network → Cause → Type 0
+IsConflictFault net (Conflict printed) = IsFirstConflict net printed
+IsConflictFault net other = ⊥

@@ -1,0 +1,55 @@
+-- What making a product gives, whatever the command.
+use Rattle.std.specs.Prelude.{◌≡◌, ◌⊎◌, ℕ, true, List, Option, Result, Ok, Err, IsTrue, ⊤}
+use Rattle.polis_base.specs.Host.{Files, WhereTold}
+use Rattle.polis_words.specs.declared.cause.Cause.{Cause}
+use Rattle.polis_words.specs.declared.cause.Failure.{Failure}
+use Rattle.polis_words.specs.declared.cause.Failure.TheVariants as failures
+use Rattle.polis_words.specs.declared.status.Status.TheVariants.{Illegal}
+use Rattle.polis_words.specs.Lines.{cause_status}
+use Rattle.polis_cli.specs.declared.product.Product.{Product}
+use Rattle.polis_cli.specs.Ends.{end_status}
+use Rattle.polis_cli.specs.Saves.{AreApart}
+use Rattle.polis_cli.specs.Meanings.{Meaning, MayEnd, is_failure}
+
+-- P of the name of the file that failed and of why, unless memory ran out
+abbrev pub IfFile : Failure → (List ℕ → Cause → Type 0) → Type 0
+IfFile failures.NoMemory P = ⊤
+IfFile (failures.File name cause) P = P name.now cause
+
+-- the command fails so of these files
+abbrev pub FailsAs : Meaning → Files → Failure → Type 0
+FailsAs m files failure = IfFile failure (m.fails files)
+
+-- the product is one that the command makes of the files, where they are told; no two of its texts
+-- have one name, and it ends the command with one of its statuses
+pub record IsMadeProduct (m : Meaning) (told : Option Files) (product : Product) : Type 0 where
+  pub makes : WhereTold told (λ files. m.makes files product)
+  pub apart : AreApart product.saves
+  pub ends : IsTrue (m.ends (end_status product.end))
+
+-- the failure is one of the command, of the files where they are told
+abbrev pub IsMadeFailure : Meaning → Option Files → Failure → Type 0
+IsMadeFailure m told failure = IfFile failure (λ name cause.
+    WhereTold told (λ files. m.fails files name cause) × MayEnd m (cause_status cause))
+
+-- what the command makes of the files, or why it makes nothing
+abbrev pub IsMade : Meaning → Option Files → Result Product Failure → Type 0
+IsMade m told (Ok product) = IsMadeProduct m told product
+IsMade m told (Err failure) = IsMadeFailure m told failure
+
+-- the file of this name fails, by what is told, and nothing was found of files that are accepted
+abbrev pub FileFails : List ℕ → Option Files → (Files → Cause → Type 0) → Failure → Type 0
+FileFails name told P failure = IfFile failure (λ file cause. (file ≡ name)
+    × WhereTold told (λ files. P files cause) × IsTrue (is_failure true (cause_status cause)))
+
+-- one of several files fails so
+abbrev pub FilesFail : Option Files → (Files → List ℕ → Cause → Type 0) → Failure → Type 0
+FilesFail told P failure = IfFile failure (λ name cause.
+    WhereTold told (λ files. P files name cause)
+    × IsTrue (is_failure true (cause_status cause)))
+
+-- one of them fails, or the journal isn't legal
+abbrev pub JudgingFails : Option Files → (Files → List ℕ → Cause → Type 0) → Failure → Type 0
+JudgingFails told P failure = IfFile failure (λ name cause.
+    WhereTold told (λ files. P files name cause)
+    × (IsTrue (is_failure true (cause_status cause)) ⊎ (cause_status cause ≡ Illegal)))

@@ -1,0 +1,65 @@
+// The lines of the greatest and the least cost of each machine.
+ghost use Rattle.std.specs.Prelude.{◌≡◌, ◌++◌, IfOk, OnOk, IsTrue};
+ghost use Rattle.transition_table.specs.NetworkFacts.{has_vars};
+ghost use Rattle.transition_table.specs.Transitions.{AreDeterministic, IsSnapshot};
+ghost use Rattle.polis_cli.specs.Ranges.{bound_words, range_line};
+ghost use Rattle.polis_cli.specs.inner.Bound.{ShowsRanges};
+
+use cost_bound::{Bound, Costs, Range, range};
+use journal_text::push_snapshot;
+use machine_compiler::compile_machine;
+use polis_base::{Bytes, NoMemory};
+use std::alloc::Global;
+use transition_table::{Machine, Network};
+
+// Appends a cost and the snapshot that takes it.
+fn push_bound(
+    net: &Network,
+    machine: &Machine,
+    bound: &Bound,
+    into: &mut Bytes,
+) -> Result<(), NoMemory>
+    requires sized { IsTrue (has_vars net.now.domains net.now.events machine.now) }
+    requires snapshot { IsSnapshot machine.now bound.now.snapshot }
+    ensures { OnOk result (into.new ≡ into.old ++ bound_words net.now machine.now bound.now) }
+{
+    into.push_decimal(bound.steps)?;
+    into.push(b" at ")?;
+    push_snapshot(net, machine, &bound.snapshot, into)
+}
+
+// Appends the line of a machine: `machine M worst A at I ; X best B at I ; X`.
+fn push_range(
+    net: &Network,
+    machine: &Machine,
+    range: &Range,
+    into: &mut Bytes,
+) -> Result<(), NoMemory>
+    requires sized { IsTrue (has_vars net.now.domains net.now.events machine.now) }
+    requires most { IsSnapshot machine.now range.now.most.snapshot }
+    requires least { IsSnapshot machine.now range.now.least.snapshot }
+    ensures { OnOk result (into.new ≡ into.old ++ range_line net.now machine.now range.now) }
+{
+    into.push(b"machine ")?;
+    into.push(machine.name.bytes())?;
+    into.push(b" worst ")?;
+    push_bound(net, machine, &range.most, into)?;
+    into.push(b" best ")?;
+    push_bound(net, machine, &range.least, into)?;
+    into.push(b"\n")
+}
+
+/// Compiles each machine, bounds its code and writes the line, and keeps nothing else of it.
+pub fn print_ranges(alloc: Global, costs: &Costs, net: &Network) -> Result<Bytes, NoMemory>
+    requires { AreDeterministic net.now }
+    ensures { IfOk result (ShowsRanges costs.now net.now) }
+{
+    let mut text = Bytes::new(alloc);
+    for k in 0..net.machines.len() {
+        let machine = net.machines.get(k);
+        let compiled = compile_machine(alloc, machine)?;
+        let range = range(alloc, &compiled.code, machine, costs)?;
+        push_range(net, machine, &range, &mut text)?;
+    }
+    Ok(text)
+}

@@ -1,0 +1,14 @@
+use Rattle.std.proofs.Common.{codes}
+use Rattle.polis_words.proofs.Asks.{five_words}
+use Rattle.polis_words.proofs.requests.migrate.migrate_of.Goals as goal
+
+pub returns-in-Some-clause-asks : goal.returns-in-Some-clause-asks
+returns-in-Some-clause-asks c =
+    let found = c.in-Some.ensures in
+    record {
+      form = five_words c.args.words.now (codes "migrate") c.in-Some.replay.net
+          c.in-Some.replay.trace c.in-Some.replay.journal c.get-stem.result.now
+          (cc) c.requires found.net found.trace found.journal c.get-stem.ensures;
+      files = found.files;
+      stem = c.is_file_word.ensures.0 (cc);
+    }

@@ -1,0 +1,3 @@
+pub mod Run
+pub mod Bound
+pub mod Commands

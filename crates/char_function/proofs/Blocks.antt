@@ -16,13 +16,13 @@ use Rattle.char_function.specs.inner.Known.{OnlyResults}
 use Rattle.char_function.specs.inner.Left.{IsFirst, IsOrdered, left_from}
 use Rattle.char_function.specs.inner.Points.{point, points}
 use Rattle.char_function.specs.inner.Rising.{AreLevel, IsLeft, IsRising}
-use Rattle.decision_diagram.proofs.Fitting.{size_some}
+use Rattle.decision_diagram.proofs.Fits.{size_some}
 use Rattle.char_function.proofs.FixedKids.{IsStep, kids_left, next_of, step_of, vars_size}
-use Rattle.char_function.proofs.Leaving.{before_place, snapshot, snapshot_fits, sizes_long, var_of}
-use Rattle.decision_diagram.proofs.Lists.{read_some, read_within}
+use Rattle.char_function.proofs.LeftFrom.{before_place, snapshot, snapshot_fits, sizes_long, var_of}
+use Rattle.decision_diagram.proofs.ListItems.{read_some, read_within}
 use Rattle.char_function.proofs.GroupNodes.{means_kept}
-use Rattle.char_function.proofs.Taking.{stands_more}
-use Rattle.char_function.proofs.Walking.{at_rank}
+use Rattle.char_function.proofs.FixedCodes.{stands_more}
+use Rattle.char_function.proofs.CodesByRank.{at_rank}
 use Rattle.domains.proofs.AllCodes.{long_map}
 use Rattle.domains.proofs.Places.{at_place, place_below}
 use Rattle.outcome_table.proofs.Rows.{few_snapshots}

@@ -17,16 +17,16 @@ use Rattle.transition_table.specs.Transitions.{IsDeterministic}
 use Rattle.char_function.specs.inner.Known.{OnlyResults}
 use Rattle.char_function.specs.inner.Left.{AreLeft, IsFirst, IsOrdered, left_from}
 use Rattle.char_function.specs.inner.Points.{at_point, point, points}
-use Rattle.decision_diagram.proofs.Fitting.{fits_at, size_few}
-use Rattle.char_function.proofs.Leaving.{IsNext, next_first, left_end, left_outcome, left_start, var_of, result_step, snapshot, var_step, sizes_long}
-use Rattle.decision_diagram.proofs.Lists.{read, read_within}
+use Rattle.decision_diagram.proofs.Fits.{fits_at, size_few}
+use Rattle.char_function.proofs.LeftFrom.{IsNext, next_first, left_end, left_outcome, left_start, var_of, result_step, snapshot, var_step, sizes_long}
+use Rattle.decision_diagram.proofs.ListItems.{read, read_within}
 use Rattle.char_function.proofs.GroupNodes.{means_kept}
 use Rattle.domains.proofs.Places.{place_of_item}
-use Rattle.char_function.proofs.Walking.{at_rank}
+use Rattle.char_function.proofs.CodesByRank.{at_rank}
 use Rattle.domains.proofs.AllCodes.{long_map}
-use Rattle.char_function.proofs.Tabled.{numbers_long, number_low, outcome_at}
+use Rattle.char_function.proofs.IsTableOf.{numbers_long, number_low, outcome_at}
 use Rattle.domains.proofs.Ranks.{length-fits, fits-zeros}
-use Rattle.decision_diagram.proofs.Along.{index_append}
+use Rattle.decision_diagram.proofs.ByVariable.{index_append}
 use Rattle.outcome_table.proofs.Rows.{few_snapshots}
 use Rattle.outcome_table.proofs.Columns.{all_long}
 

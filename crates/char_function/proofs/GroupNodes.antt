@@ -7,6 +7,7 @@ use Rattle.std.proofs.lemmas.Bool.{and_parts, and_from, cases_eq, cases_lt, eq-e
 use Rattle.std.proofs.lemmas.Grind.{same_number_lists}
 use Rattle.std.proofs.lemmas.List.{append-nil, get_or_default, get_or-set_same, get_or-set_other, drop_more, take_more, take-append-drop}
 use Rattle.polis_base.specs.Lists.{upto}
+use Rattle.polis_base.proofs.Lists.{some_item}
 use Rattle.domains.specs.Tables.{fits, rank}
 use Rattle.transition_table.specs.declared.machine.Machine.{Machine}
 use Rattle.transition_table.specs.Laws.{ResultsFit, CharByTest}
@@ -23,19 +24,18 @@ use Rattle.transition_table.specs.Computed.{char, result_codes}
 use Rattle.char_function.specs.inner.Points.{at_point, point, points}
 use Rattle.char_function.specs.inner.Groups.{agrees, some_agrees, with_code, is_group}
 use Rattle.decision_diagram.proofs.AllCodes.{all_map, lists_fit}
-use Rattle.transition_table.proofs.Supporting.{some_item}
-use Rattle.decision_diagram.proofs.Fitting.{fits_at}
-use Rattle.decision_diagram.proofs.Lists.{read, read_within, read_some}
+use Rattle.transition_table.proofs.SupportByTest.{char_there}
+use Rattle.decision_diagram.proofs.Fits.{fits_at}
+use Rattle.decision_diagram.proofs.ListItems.{read, read_within, read_some}
 use Rattle.domains.proofs.Places.{place_of_item, at_place, place_below}
-use Rattle.char_function.proofs.Pointing.{char_there}
-use Rattle.char_function.proofs.Supporting.{all_weaken, below_upto, filter_append, filter_all}
-use Rattle.char_function.proofs.Varying.{any_found}
-use Rattle.char_function.proofs.Tabled.{points_fit}
-use Rattle.char_function.proofs.Walking.{get_map, at_rank}
+use Rattle.char_function.proofs.AreSupports.{all_weaken, below_upto, filter_append, filter_all}
+use Rattle.char_function.proofs.Varies.{any_found}
+use Rattle.char_function.proofs.IsTableOf.{points_fit}
+use Rattle.char_function.proofs.CodesByRank.{get_map, at_rank}
 use Rattle.domains.proofs.Ranks.{length-fits}
-use Rattle.decision_diagram.proofs.Joined.{fits_prefix}
-use Rattle.outcome_table.proofs.Lists.{all_get}
-use Rattle.decision_diagram.proofs.Counting.{iff_same}
+use Rattle.decision_diagram.proofs.AppendedLists.{fits_prefix}
+use Rattle.outcome_table.proofs.ListMaps.{all_get}
+use Rattle.decision_diagram.proofs.CountIsSize.{iff_same}
 
 -- The children so far: one for each code, true where one of the points with that code agrees on
 -- what is results_after.

@@ -2,7 +2,7 @@
 use Rattle.std.proofs.Common.{◌≡◌, ⊎_elim, ℕ, suc, ◌+◌, ◌<◌, ◌≤◌, Bool, true, false, ◌||◌, eqb, nat_lt, List, length, take, slice_index, refl, ap, sym, ◌∙◌, arith}
 use Rattle.std.proofs.lemmas.Bool.{cases_eq, cases_lt, eq-eqb, le-ltb, lt-ltb, ne_eqb}
 use Rattle.decision_diagram.specs.Sets.{stands}
-use Rattle.char_function.proofs.Taking.{stands_more}
+use Rattle.char_function.proofs.FixedCodes.{stands_more}
 
 -- the variables of the first places stand by their numbers, and are those below the next
 pub record RisesTo (vars : ℕ) (order : List ℕ) (place next : ℕ) : Type 0 where

@@ -9,7 +9,7 @@ ghost use Rattle.decision_diagram.specs.Diagrams.{IsNode, Keeps, Means, level_of
 ghost use Rattle.transition_table.specs.Computed.{char};
 ghost use Rattle.transition_table.specs.Orders.{sizes_of};
 ghost use Rattle.outcome_table.specs.Outcomes.{IsTableOf};
-ghost use Rattle.char_function.specs.inner.Left.{AreLeft, AreStrides, IsFirstOf, IsFixing, IsOrdered, IsStoreOf, left_from};
+ghost use Rattle.char_function.specs.inner.Left.{AreLeft, AreStrides, IsFirstOf, IsFixing, IsOrdered, IsOver, IsStoreOf, left_from};
 ghost use Rattle.char_function.specs.inner.Points.{points};
 
 use crate::group::code_at;
@@ -54,7 +54,6 @@ pub(crate) fn result_node(
     code: u8,
     kid: NodeId,
 ) -> Result<NodeId, NoMemory>
-    requires item { item < length store.old.sizes }
     requires size { size ≡ slice_index store.old.sizes item }
     requires few { size ≤ 33 }
     requires code { code < size }
@@ -78,8 +77,7 @@ pub(crate) fn result_node(
 fn results_node(fixing: &Fixing, store: &mut Store, i: u64) -> Result<NodeId, NoMemory>
     requires fixing { IsFixing fixing.now.machine.now fixing.now.table.now fixing.now.order.now
         fixing.now.sizes.now fixing.now.strides.now fixing.now.start }
-    requires order { store.old.order ≡ fixing.now.order.now }
-    requires sizes { store.old.sizes ≡ fixing.now.sizes.now }
+    requires store { IsOver fixing.now.order.now fixing.now.sizes.now store.old }
     requires snapshot { i < length (points fixing.now.machine.now) }
     ensures kept { Keeps store.old store.new }
     ensures value { IfOk result (λ n. Means store.new n
@@ -241,8 +239,7 @@ pub(crate) fn fixed_root(
     requires table { IsTableOf m.now table.now }
     requires ordered { IsOrdered m.now order.now }
     requires all_sizes { sizes.now ≡ sizes_of m.now }
-    requires order { store.old.order ≡ order.now }
-    requires sizes { store.old.sizes ≡ sizes.now }
+    requires store { IsOver order.now sizes.now store.old }
     ensures kept { Keeps store.old store.new }
     ensures value { IfOk result (λ n. Means store.new n (char m.now)) }
 {

@@ -6,7 +6,7 @@
 // each other in the level after it.
 ghost use Rattle.std.specs.Prelude.{◌≡◌, ◌+◌, ◌*◌, ◌<◌, ◌≤◌, length, slice_index, IfOk, OnOk};
 ghost use Rattle.decision_diagram.specs.Diagrams.{Keeps, Means};
-ghost use Rattle.char_function.specs.inner.Left.{AreLeft, IsFixing, left_from};
+ghost use Rattle.char_function.specs.inner.Left.{AreLeft, IsFixing, IsOver, left_from};
 ghost use Rattle.char_function.specs.inner.Rising.{AreLevel, IsRising};
 
 use crate::fixing::{Fixing, known_outcome, make_outcome, result_node};
@@ -25,8 +25,7 @@ fn last_level(
 ) -> Result<Vec<NodeId>, NoMemory>
     requires fixing { IsFixing fixing.now.machine.now fixing.now.table.now fixing.now.order.now
         fixing.now.sizes.now fixing.now.strides.now fixing.now.start }
-    requires order { store.old.order ≡ fixing.now.order.now }
-    requires sizes { store.old.sizes ≡ fixing.now.sizes.now }
+    requires store { IsOver fixing.now.order.now fixing.now.sizes.now store.old }
     requires known { AreLeft fixing.now.machine.now fixing.now.table.now store.old fixing.now.start
         known.old }
     ensures kept { Keeps store.old store.new }
@@ -56,8 +55,7 @@ fn variable_level(
 ) -> Result<(), NoMemory>
     requires fixing { IsFixing fixing.now.machine.now fixing.now.table.now fixing.now.order.now
         fixing.now.sizes.now fixing.now.strides.now fixing.now.start }
-    requires order { store.old.order ≡ fixing.now.order.now }
-    requires sizes { store.old.sizes ≡ fixing.now.sizes.now }
+    requires store { IsOver fixing.now.order.now fixing.now.sizes.now store.old }
     requires rising { IsRising (length fixing.now.machine.now.vars) fixing.now.order.now }
     requires place { place < length fixing.now.order.now }
     requires item { slice_index fixing.now.order.now place < length fixing.now.machine.now.vars }
@@ -93,8 +91,7 @@ fn result_level(
 ) -> Result<(), NoMemory>
     requires fixing { IsFixing fixing.now.machine.now fixing.now.table.now fixing.now.order.now
         fixing.now.sizes.now fixing.now.strides.now fixing.now.start }
-    requires order { store.old.order ≡ fixing.now.order.now }
-    requires sizes { store.old.sizes ≡ fixing.now.sizes.now }
+    requires store { IsOver fixing.now.order.now fixing.now.sizes.now store.old }
     requires place { place < length fixing.now.order.now }
     requires item { length fixing.now.machine.now.vars ≤ slice_index fixing.now.order.now place }
     requires level { AreLevel fixing.now.machine.now fixing.now.order.now store.old (place + 1)
@@ -124,8 +121,7 @@ pub(crate) fn rising_root(
 ) -> Result<NodeId, NoMemory>
     requires fixing { IsFixing fixing.now.machine.now fixing.now.table.now fixing.now.order.now
         fixing.now.sizes.now fixing.now.strides.now fixing.now.start }
-    requires order { store.old.order ≡ fixing.now.order.now }
-    requires sizes { store.old.sizes ≡ fixing.now.sizes.now }
+    requires store { IsOver fixing.now.order.now fixing.now.sizes.now store.old }
     requires rising { IsRising (length fixing.now.machine.now.vars) fixing.now.order.now }
     requires known { AreLeft fixing.now.machine.now fixing.now.table.now store.old fixing.now.start
         known.old }

@@ -11,6 +11,7 @@ ghost use Rattle.char_function.specs.Sizes.{Decides, IsSize};
 ghost use Rattle.char_function.specs.inner.Points.{points};
 ghost use Rattle.char_function.specs.inner.Groups.{some_agrees, is_group};
 ghost use Rattle.char_function.specs.inner.Known.{AreKnown, IsMaking};
+ghost use Rattle.char_function.specs.inner.Left.{IsOver};
 ghost use Rattle.char_function.specs.Roots.{IsDiagramOf};
 
 use crate::allowed::is_allowed;
@@ -126,8 +127,7 @@ fn grouped_root(
     requires table { IsTableOf m.now table.now }
     requires long { length order.now ≡ length (sizes_of m.now) }
     requires all_sizes { sizes.now ≡ sizes_of m.now }
-    requires order { store.old.order ≡ order.now }
-    requires sizes { store.old.sizes ≡ sizes.now }
+    requires store { IsOver order.now sizes.now store.old }
     ensures kept { Keeps store.old store.new }
     ensures value { IfOk result (λ n. Means store.new n (char m.now)) }
 {
@@ -163,8 +163,7 @@ fn root_of(
     requires supports { s.now ≡ all_supports m.now }
     requires long { length order.now ≡ length (sizes_of m.now) }
     requires all_sizes { sizes.now ≡ sizes_of m.now }
-    requires order { store.old.order ≡ order.now }
-    requires sizes { store.old.sizes ≡ sizes.now }
+    requires store { IsOver order.now sizes.now store.old }
     ensures kept { Keeps store.old store.new }
     ensures value { IfOk result (λ n. Means store.new n (char m.now)) }
 {

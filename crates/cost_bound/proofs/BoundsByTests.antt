@@ -35,9 +35,9 @@ first_by_test : ListsAll → (m : Machine) (f : List ℕ → ℕ) (b : Bound)
     → fits m.vars b.snapshot.codes ≡ true → f b.snapshot.codes ≡ b.steps
     → list_all (is_later m f b) (all_codes m.vars) ≡ true → IsFirst m f b
 first_by_test all m f b fs taken test = record {
-  snapshot = fs;
-  taken = taken;
-  first = λ s within e. leb-true (rank m.vars b.snapshot.codes) (rank m.vars s)
+  fit = fs;
+  holds = taken;
+  least = λ s within e. leb-true (rank m.vars b.snapshot.codes) (rank m.vars s)
       (later (f s) b.steps (nat_le (rank m.vars b.snapshot.codes) (rank m.vars s))
       (all m.vars (is_later m f b) test s within) e);
 }
@@ -74,9 +74,9 @@ lamp_bounds all = record {
       (bound_at 14 (1 ∷ 0 ∷ [])) refl refl refl refl;
   cheap = best_by_test all lamp_machine (CostOf tests_and_sets small_code)
       (bound_at 3 (0 ∷ 0 ∷ [])) refl refl refl refl;
-  later = λ best. let h : 1 ≤ 0 = best.first.first (0 ∷ 0 ∷ []) refl refl in
+  later = λ best. let h : 1 ≤ 0 = best.first.least (0 ∷ 0 ∷ []) refl refl in
       absurd (omega arith);
-  all_added = λ worst. let h : ◌≡◌ {A = ℕ} 6 7 = worst.first.taken in absurd (omega arith);
+  all_added = λ worst. let h : ◌≡◌ {A = ℕ} 6 7 = worst.first.holds in absurd (omega arith);
 }
 
 pub join_bounds : ListsAll → Join

@@ -23,7 +23,7 @@ use Rattle.cost_bound.specs.Laws.{OnesAreSteps, CoversBound}
 use Rattle.cost_bound.specs.inner.Scores.{nothing, score_of, IsScore, AreScores, MayGoOn}
 use Rattle.cost_bound.proofs.FirstScore.{taking}
 use Rattle.cost_bound.proofs.TailCosts.{tail_cost, tail_none, tail_at, tail_to, instr_at, may_go_on, goes_later}
-use Rattle.sgraph.proofs.Walking.{Onward}
+use Rattle.sgraph.proofs.Trails.{Onward}
 
 -- ---- the greatest of some numbers
 pub greatest_at : (f : ℕ → ℕ) (xs : List ℕ) (k : ℕ) → k < length xs

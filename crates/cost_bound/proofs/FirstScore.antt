@@ -34,9 +34,9 @@ pub worst_same : (m : Machine) (f g : List ℕ → ℕ) (b : Bound) → ((s : Li
     → IsWorst m f b → IsWorst m g b
 worst_same m f g b same worst = record {
   first = record {
-    snapshot = worst.first.snapshot;
-    taken = sym (same b.snapshot.codes) ∙ worst.first.taken;
-    first = λ s fs e. worst.first.first s fs (same s ∙ e);
+    fit = worst.first.fit;
+    holds = sym (same b.snapshot.codes) ∙ worst.first.holds;
+    least = λ s fs e. worst.first.least s fs (same s ∙ e);
   };
   most = λ s fs. let e = same s in let le = worst.most s fs in omega arith;
 }
@@ -102,9 +102,9 @@ module _ (aim : Aim) (costs : Costs) (c : List Instr) (m : Machine) (ok : IsCode
       (taken_by_none (weights_of m.vars) scores are s within) in
       made aim m (CostOf costs c) b
       record {
-        snapshot = fs;
-        taken = ap (CostOf costs c) same ∙ t.2 ∙ sym steps;
-        first = λ s within e. first_of_equal aim b.steps (rank m.vars b.snapshot.codes)
+        fit = fs;
+        holds = ap (CostOf costs c) same ∙ t.2 ∙ sym steps;
+        least = λ s within e. first_of_equal aim b.steps (rank m.vars b.snapshot.codes)
             (CostOf costs c s) (rank m.vars s) (least s within) e;
       }
       least

@@ -13,7 +13,7 @@ use Rattle.task_code.specs.Facts.{IsCode, goes_on}
 use Rattle.cost_bound.specs.inner.Scores.{MayGoOn}
 use Rattle.cost_bound.specs.declared.costs.Costs.{Costs}
 use Rattle.cost_bound.specs.Costs.{cost_of}
-use Rattle.sgraph.proofs.Walking.{Onward, trail_at}
+use Rattle.sgraph.proofs.Trails.{Onward, trail_at}
 
 -- what is executed costs from a place on
 abbrev pub tail_cost : Costs → List Instr → List ℕ → Option ℕ → ℕ

@@ -1,41 +1,11 @@
 -- All lists of codes.
-use Rattle.std.proofs.Common.{◌≡◌, ⊎_elim, ℕ, zero, suc, ◌<◌, Bool, true, false, not, ◌&&◌, List, [], ◌∷◌, ◌++◌, map, flat_map, refl, ap, sym, ◌∙◌, arith, ltb}
+use Rattle.std.proofs.Common.{◌≡◌, ℕ, Bool, true, false, not, ◌&&◌, List, [], ◌∷◌, ◌++◌, map, flat_map, refl, ap, sym, ◌∙◌, ltb}
 use Rattle.std.specs.List.{list_all, list_any}
-use Rattle.std.proofs.lemmas.Bool.{and_parts, and_from, ltb-true, lt-ltb, cases_lt, or_parts, false≢true}
+use Rattle.std.proofs.lemmas.Bool.{and_parts, and_from, ltb-true, lt-ltb, false≢true}
 use Rattle.polis_base.specs.Lists.{upto}
+use Rattle.polis_base.proofs.Lists.{all_upto, upto_all, none_all}
 use Rattle.domains.specs.Tables.{fits}
 use Rattle.domains.specs.AllCodes.{each_after, all_codes}
-
-pub all_parts : {X : Type 0} (p : X → Bool) (xs ys : List X) → list_all p (xs ++ ys) ≡ true
-    → (list_all p xs ≡ true) × (list_all p ys ≡ true)
-all_parts p [] ys h = (refl, h)
-all_parts p (x ∷ xs) ys h =
-    let parts = and_parts (p x) (list_all p (xs ++ ys)) h in
-    let rest = all_parts p xs ys parts.1 in
-    (and_from (p x) (list_all p xs) parts.0 rest.0, rest.1)
-
-pub all_append : {X : Type 0} (p : X → Bool) (xs ys : List X) → list_all p xs ≡ true
-    → list_all p ys ≡ true → list_all p (xs ++ ys) ≡ true
-all_append p [] ys prefix back = back
-all_append p (x ∷ xs) ys prefix back =
-    let parts = and_parts (p x) (list_all p xs) prefix in
-    and_from (p x) (list_all p (xs ++ ys)) parts.0 (all_append p xs ys parts.1 back)
-
--- what holds below n
-pub all_upto : (p : ℕ → Bool) (n : ℕ) → list_all p (upto n) ≡ true → (k : ℕ) → k < n → p k ≡ true
-all_upto p zero h k low = absurd (omega arith)
-all_upto p (suc n) h k low =
-    let parts = all_parts p (upto n) (n ∷ []) h in
-    ⊎_elim
-    (λ less. all_upto p n parts.0 k less)
-    (λ more. let e : k ≡ n = omega arith in ap p e ∙ (and_parts (p n) true parts.1).0)
-    (cases_lt k n)
-
-pub upto_all : (p : ℕ → Bool) (n : ℕ) → ((k : ℕ) → k < n → p k ≡ true) → list_all p (upto n) ≡ true
-upto_all p zero h = refl
-upto_all p (suc n) h =
-    all_append p (upto n) (n ∷ []) (upto_all p n (λ k low. h k (omega arith)))
-    (and_from (p n) true (h n (omega arith)) refl)
 
 -- a map
 pub all_map : {X Y : Type 0} (p : Y → Bool) (f : X → Y) (xs : List X)
@@ -91,14 +61,6 @@ lists_fit (size ∷ sizes) =
         (list_all (λ rest. fits (size ∷ sizes) (k ∷ rest)) lists)
         (and_from (ltb k size) (fits sizes rest) low parts.0) (weaken k low lists parts.1)
 
--- what is never so
-pub none_all : {X : Type 0} (p : X → Bool) (xs : List X) → list_any p xs ≡ false
-    → list_all (λ x. not (p x)) xs ≡ true
-none_all p [] h = refl
-none_all p (x ∷ xs) h =
-    let parts = or_parts (p x) (list_any p xs) h in
-    and_from (not (p x)) (list_all (λ x. not (p x)) xs) (ap not parts.0) (none_all p xs parts.1)
-
 pub not_true : (b : Bool) → not b ≡ true → b ≡ false
 not_true true h = absurd (false≢true h)
 not_true false h = refl
@@ -107,6 +69,3 @@ pub none_lists : (sizes : List ℕ) (p : List ℕ → Bool) → list_any p (all_
     → (codes : List ℕ) → fits sizes codes ≡ true → p codes ≡ false
 none_lists sizes p h codes fit =
     not_true (p codes) (lists_all sizes (λ x. not (p x)) (none_all p (all_codes sizes) h) codes fit)
-
-pub none_upto : (p : ℕ → Bool) (n : ℕ) → list_any p (upto n) ≡ false → (k : ℕ) → k < n → p k ≡ false
-none_upto p n h k low = not_true (p k) (all_upto (λ x. not (p x)) n (none_all p (upto n) h) k low)

@@ -6,7 +6,7 @@ use Rattle.std.proofs.lemmas.Grind.{same_number_lists}
 use Rattle.domains.specs.Tables.{fits}
 use Rattle.domains.specs.Orders.{place}
 use Rattle.decision_diagram.specs.Diagrams.{Diagrams, Node, inner_at, step, follow, level_of, IsNode, value_of, AreReduced}
-use Rattle.decision_diagram.proofs.Fitting.{fits_set, size_some}
+use Rattle.decision_diagram.proofs.Fits.{fits_set, size_some}
 use Rattle.decision_diagram.proofs.Nodes.{none_low, cases_inner, step_here}
 use Rattle.decision_diagram.proofs.Values.{level_none, level_some, level_below, item_at_level, follow_none, follow_one, follow_codes, step_before, step_within}
 use Rattle.domains.proofs.Ranks.{length-fits, fits-zeros}

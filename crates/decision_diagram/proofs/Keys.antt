@@ -10,7 +10,7 @@ use Rattle.std.proofs.lemmas.Option.{slice_get-map}
 use Rattle.indexmap.specs.IndexSet.{insert_key}
 use Rattle.decision_diagram.specs.Diagrams.{Diagrams, Node, inner_at, IsNode}
 use Rattle.decision_diagram.specs.Keys.{Key, IsKey, AreKeys, node_of, nodes_of}
-use Rattle.decision_diagram.proofs.Lists.{read_some}
+use Rattle.decision_diagram.proofs.ListItems.{read_some}
 use Rattle.decision_diagram.proofs.Nodes.{inner_high, inner_within}
 
 -- whether a key has these numbers

@@ -8,7 +8,7 @@ use Rattle.decision_diagram.specs.Constants.{constant_node}
 use Rattle.domains.specs.Orders.{place}
 use Rattle.decision_diagram.specs.Diagrams.{Diagrams, Node, inner_at, shape_in, shape_of, level_in, level_of, IsNode, value_of, AreReduced, Means, choice}
 use Rattle.decision_diagram.specs.inner.Diagrams.{IsNew}
-use Rattle.decision_diagram.proofs.Fitting.{fits_at, size_some}
+use Rattle.decision_diagram.proofs.Fits.{fits_at, size_some}
 use Rattle.decision_diagram.proofs.Nodes.{inner_low, inner_within, cases_inner}
 use Rattle.decision_diagram.proofs.Values.{level_none, level_some, item_at_level, value_none, value_inner}
 use Rattle.domains.proofs.Places.{place_below, at_place}

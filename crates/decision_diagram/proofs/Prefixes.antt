@@ -6,7 +6,7 @@ use Rattle.domains.specs.Tables.{fits}
 use Rattle.domains.specs.Orders.{place}
 use Rattle.decision_diagram.specs.Diagrams.{Diagrams, Node, inner_at, step, follow, level_of, IsNode, value_of, AreReduced}
 use Rattle.decision_diagram.specs.Leading.{led, TrueSomewhere, Decided}
-use Rattle.decision_diagram.proofs.Fitting.{fits_at, fits_set}
+use Rattle.decision_diagram.proofs.Fits.{fits_at, fits_set}
 use Rattle.decision_diagram.proofs.Nodes.{none_low, cases_inner, inner_within}
 use Rattle.domains.proofs.Places.{place_of_item}
 use Rattle.decision_diagram.proofs.Values.{level_some, level_below, skip, value_none, value_inner, follow_codes}

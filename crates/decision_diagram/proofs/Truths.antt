@@ -5,20 +5,20 @@ use Rattle.std.specs.List.{list_all, list_any}
 use Rattle.std.proofs.lemmas.Bool.{and_parts, and_from, cases_Bool, eqb-true, true≢false, true_from_ne_false, lt-ltb, ltb-true, or_from}
 use Rattle.std.proofs.lemmas.List.{append_assoc, map-append}
 use Rattle.polis_base.specs.Lists.{upto}
+use Rattle.polis_base.proofs.Lists.{drop_prefix, none_upto}
 use Rattle.domains.specs.Tables.{fits}
 use Rattle.decision_diagram.specs.Diagrams.{Diagrams, Node, inner_at, step, follow, level_of, IsNode, AreReduced, Means}
 use Rattle.domains.specs.AllCodes.{all_codes}
 use Rattle.decision_diagram.specs.Truths.{same_truth, same_truths, different}
 use Rattle.decision_diagram.specs.Sizes.{by_variable, truths, turns, depends, level}
-use Rattle.decision_diagram.proofs.AllCodes.{lists_all, lists_fit, none_upto}
-use Rattle.decision_diagram.proofs.Along.{along, follow_along, along_append, along_value, chosen_fits, item_at}
+use Rattle.decision_diagram.proofs.AllCodes.{lists_all, lists_fit}
+use Rattle.decision_diagram.proofs.ByVariable.{along, follow_along, along_append, along_value, chosen_fits, item_at}
 use Rattle.domains.proofs.AllCodes.{long_map}
 use Rattle.decision_diagram.proofs.Canonical.{canonical_from, child_level}
-use Rattle.decision_diagram.proofs.Joined.{fits_both}
+use Rattle.decision_diagram.proofs.AppendedLists.{fits_both}
 use Rattle.decision_diagram.proofs.Distinct.{Every, differing, different_map, same_maps, truth_equal, truths_self}
-use Rattle.decision_diagram.proofs.Fitting.{size_some}
+use Rattle.decision_diagram.proofs.Fits.{size_some}
 use Rattle.decision_diagram.proofs.Nodes.{cases_inner, step_here}
-use Rattle.decision_diagram.proofs.Joined.{drop_prefix}
 use Rattle.decision_diagram.proofs.Values.{step_within}
 use Rattle.domains.proofs.Ranks.{length-fits}
 

@@ -1,8 +1,9 @@
-pub mod Apart
+pub mod Says
 pub mod Befores
 pub mod Bests
 pub mod Clash
 pub mod Overlaps
-pub mod Picks
+pub mod LeastCodes
+pub mod IsLeastConflict
 pub mod Results
-pub mod Saying
+pub mod AreSayers

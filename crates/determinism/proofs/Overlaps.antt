@@ -13,7 +13,7 @@ use Rattle.transition_table.specs.Transitions.{allows, holds}
 use Rattle.determinism.specs.inner.Boxes.{AreMasks, IsBox, EnableBoth}
 use Rattle.transition_table.specs.inner.Masks.{allows_code, row_allows}
 use Rattle.transition_table.proofs.Bits.{alike}
-use Rattle.transition_table.proofs.Ones.{size_at, machine_sizes}
+use Rattle.transition_table.proofs.CodeSets.{size_at, machine_sizes}
 
 both : (a b : Bool) → a ≡ true → b ≡ true → (a && b) ≡ true
 both true b h k = k

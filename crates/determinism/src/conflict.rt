@@ -21,16 +21,6 @@ use polis_base::{List, NoMemory};
 use std::alloc::Global;
 use transition_table::{Machine, Snapshot, laws};
 
-// Writes the same codes.
-fn copy_codes(from: &Codes, into: &mut Codes)
-    requires { length into.old ≡ length from.now }
-    ensures { into.new ≡ from.now }
-{
-    for k in 0..from.len() {
-        into.set(k, *from.get(k));
-    }
-}
-
 // Of the first two codes that differ the smaller is that of the first list, or none differ.
 fn stands_before(codes: &Codes, others: &Codes) -> bool
     requires { length codes.now ≡ length others.now }
@@ -66,7 +56,7 @@ fn improve(pair: &Pair<'_>, y: u32, s: &mut Snapshot, found: bool, best: &mut Sn
     if found && stands_before(&best.codes, &s.codes) {
         return true;
     }
-    copy_codes(&s.codes, &mut best.codes);
+    best.codes.copy_from(&s.codes);
     true
 }
 

@@ -8,7 +8,7 @@ ghost use Rattle.transition_table.specs.MachineFacts.{names_result};
 ghost use Rattle.transition_table.specs.Sources.{code_of};
 ghost use Rattle.transition_table.specs.Transitions.{IsSnapshot, code_given};
 ghost use Rattle.determinism.specs.inner.Boxes.{IsIn, AreLeast, SameBut};
-ghost use Rattle.determinism.specs.inner.Pairs.{Agree, Differ, HangsOn, NeverDiffer, IsLeastAt};
+ghost use Rattle.determinism.specs.inner.Pairs.{Agree, Differ, HangsOn, NeverDiffer, IsLeastAt, IsLeastWith};
 
 use crate::overlap::write_least;
 use crate::pair::Pair;
@@ -145,11 +145,7 @@ fn try_first(pair: &Pair<'_>, y: u32, u: u64, v: u64, code: u8, s: &mut Snapshot
     requires inside { IsIn pair.now.sets.now s.old.codes }
     ensures inside { IsIn pair.now.sets.now s.new.codes }
     ensures same { SameBut u v s.new.codes s.old.codes }
-    ensures code { IsTrue result → slice_index s.new.codes u ≡ code }
-    ensures differ { IsTrue result → Differ pair.now y s.new.codes }
-    ensures least { IsTrue result → (t : List ℕ) → IsIn pair.now.sets.now t
-        → slice_index t u ≡ code → Differ pair.now y t
-        → slice_index s.new.codes v ≤ slice_index t v }
+    ensures some { IsTrue result → IsLeastWith pair.now y u v code s.new.codes }
     ensures none { IsFalse result → (t : List ℕ) → IsIn pair.now.sets.now t
         → slice_index t u ≡ code → ¬ Differ pair.now y t }
 {

@@ -1,5 +1,5 @@
 // The codes that rows allow, as one set for each row and variable, made once.
-ghost use Rattle.std.specs.Prelude.{◌≡◌, ◌<◌, ◌≤◌, ◌&&◌, ◌==◌, ℕ, nat_lt, length, slice_index, IfOk};
+ghost use Rattle.std.specs.Prelude.{◌≡◌, ◌<◌, ◌&&◌, ◌==◌, ℕ, length, slice_index, IfOk};
 ghost use Rattle.std.specs.List.{list_all};
 ghost use Rattle.std.specs.Int.{bit_at};
 ghost use Rattle.determinism.specs.inner.Boxes.{AreWhole, AreMasks, IsTable};
@@ -7,7 +7,7 @@ ghost use Rattle.transition_table.specs.inner.Masks.{allows_code};
 
 use polis_base::{List, NoMemory};
 use std::alloc::Global;
-use transition_table::{Cond, Machine, Row};
+use transition_table::{Cond, Machine, Row, all_codes};
 
 /// A set of codes for each variable, one bit each.
 pub(crate) type CodeSets = List<u64>;
@@ -30,14 +30,6 @@ fn narrow(conds: &[Cond], masks: &mut CodeSets)
             masks.set(var, left);
         }
     }
-}
-
-// All codes of a variable of this size, one bit each.
-fn all_codes(size: u8) -> u64
-    requires { size ≤ 33 }
-    ensures { (code : ℕ) → (bit_at result code == 1) ≡ nat_lt code size }
-{
-    (1 << size) - 1
 }
 
 // All codes of each variable.

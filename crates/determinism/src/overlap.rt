@@ -1,7 +1,7 @@
 // The snapshots that enable two rows.
-ghost use Rattle.std.specs.Prelude.{◌≡◌, ◌<◌, ◌≤◌, ◌&&◌, ◌==◌, ℕ, false, List, length, slice_get, slice_index, Some, IsTrue, IsFalse};
+ghost use Rattle.std.specs.Prelude.{◌≡◌, ◌<◌, ◌≤◌, ◌&&◌, ◌==◌, ℕ, false, List, length, slice_index, IsTrue, IsFalse};
 ghost use Rattle.std.specs.Int.{bit_at};
-ghost use Rattle.determinism.specs.inner.Boxes.{AreMasks, IsBox, AreSome, AreLeast, EnableBoth};
+ghost use Rattle.determinism.specs.inner.Boxes.{AreMasks, AreRowsOf, IsBox, AreSome, AreLeast, EnableBoth};
 
 use crate::masks::CodeSets;
 use domains::Codes;
@@ -41,8 +41,7 @@ pub(crate) fn overlap(
     of_second: &CodeSets,
     sets: &mut CodeSets,
 ) -> bool
-    requires first { (r : ℕ) × (slice_get machine.now.rows r ≡ Some first.now) }
-    requires second { (r : ℕ) × (slice_get machine.now.rows r ≡ Some second.now) }
+    requires rows { AreRowsOf machine.now first.now second.now }
     requires of_first { AreMasks machine.now.vars first.now of_first.now }
     requires of_second { AreMasks machine.now.vars second.now of_second.now }
     requires long { length sets.old ≡ length machine.now.vars }

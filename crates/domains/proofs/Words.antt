@@ -1,23 +1,19 @@
 -- Words of different values differ.
 use Rattle.std.proofs.Common.{◌≡◌, ℕ, zero, suc, ◌+◌, ◌<◌, Bool, true, false, not, ◌||◌, List, [], ◌∷◌, length, slice_get, Option, Some, None, IfNone, arith, unwrap_or, sym, ap, refl, ◌∙◌}
-use Rattle.std.specs.Cmp.Derive.{both_true}
 use Rattle.std.specs.List.{list_any}
-use Rattle.std.proofs.lemmas.Bool.{eq-eqb, and_parts, not-true}
+use Rattle.std.proofs.lemmas.Bool.{and_parts, not-true}
 use Rattle.std.proofs.lemmas.Fmt.{decimal_injective}
 use Rattle.std.proofs.lemmas.Option.{slice_get_within, slice_get-get_or, unwrap_or-slice_get}
 use Rattle.domains.specs.Names.{AreValues, is_same, are_distinct}
 use Rattle.domains.specs.Domains.{word_of, WordsDiffer}
 use Rattle.domains.specs.declared.domain.Domain.TheVariants.{Names, Range}
-
-is_same_self : (name : List ℕ) → is_same name name ≡ true
-is_same_self [] = refl
-is_same_self (c ∷ cs) = both_true (eq-eqb c c refl) (is_same_self cs)
+use Rattle.domains.proofs.Names.{same_self}
 
 -- a name that stands at a place is among the names
 among_at : (names : List (List ℕ)) (k : ℕ) (name : List ℕ) → k < length names
     → name ≡ unwrap_or (slice_get names k) [] → list_any (is_same name) names ≡ true
 among_at [] k name below at = absurd (omega arith)
-among_at (first ∷ names) zero name below at = rw (at, is_same_self first) refl
+among_at (first ∷ names) zero name below at = rw (at, same_self first) refl
 among_at (first ∷ names) (suc k) name below at =
     rw (among_at names k name (omega arith) at) (or_true (is_same name first))
   where

@@ -1,6 +1,7 @@
 // Laws of the definitions.
 ghost use Rattle.domains.specs.AllCodes.{CountsAll, StandsAtRank, StandsOnce, ListsFit, ListsAll};
 ghost use Rattle.domains.specs.Domains.{WordsDiffer, SameSpan};
+ghost use Rattle.domains.specs.Least.{OrdersAgree};
 ghost use Rattle.domains.specs.Orders.{HavePlaces, OnePlace};
 ghost use Rattle.domains.specs.Tables.{RanksBelow, RanksDiffer, RanksReach};
 
@@ -27,4 +28,10 @@ pub fn laws_of_all_codes()
 pub fn laws_of_orders()
     ensures have_places { HavePlaces }
     ensures one_place { OnePlace }
+{}
+
+/// That lists which fit stand in the order of their numbers, so that the least by its number is the
+/// least by its codes.
+pub fn laws_of_least()
+    ensures { OrdersAgree }
 {}

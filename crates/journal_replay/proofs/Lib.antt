@@ -1,2 +1,2 @@
-pub mod Judged
-pub mod Sampled
+pub mod LegalAndRises
+pub mod SampleNetworks

@@ -6,7 +6,7 @@ use Rattle.std.proofs.lemmas.Bool.{ltb-true, lt-ltb}
 use Rattle.std.proofs.lemmas.Bool.Decides.{nat_tests}
 use Rattle.std.proofs.lemmas.Fmt.{digits_decimal}
 use Rattle.journal_text.specs.Forms.{decimal_of}
-use Rattle.journal_text.proofs.Shapes.{some_same}
+use Rattle.journal_text.proofs.FormWords.{some_same}
 use Rattle.polis_base.specs.Digits.{is_digit, is_plain, number_of}
 use Rattle.polis_base.proofs.Digits.{own, text_of_number, number_of_decimal, plain_decimal}
 

@@ -20,7 +20,7 @@ use Rattle.journal_text.specs.inner.Lines.{at_line}
 use Rattle.journal_text.specs.declared.fault.JournalKind.{JournalKind}
 use Rattle.journal_text.specs.declared.fault.JournalKind.TheVariants.{Header, After}
 use Rattle.journal_text.proofs.Pieces.{some_piece}
-use Rattle.journal_text.proofs.OnlyTexts.{line_only, read_is_printed, stamped_read_is_printed}
+use Rattle.journal_text.proofs.ReadIsPrinted.{line_only, read_is_printed, stamped_read_is_printed}
 
 -- the lines before the rest are read, and gave these entries with these stamps
 pub record IsRead (net : Network) (stamped : Bool) (text : Text) (stamps : List ℕ)

@@ -17,7 +17,7 @@ use Rattle.transition_table.specs.declared.snapshot.Snapshot.{Snapshot}
 use Rattle.transition_table.specs.declared.snapshot.Outcome.{Outcome}
 use Rattle.polis_base.proofs.Names.{left_true, right_true}
 use Rattle.journal_text.specs.inner.Texts.{event_size, state_size, set_size, are_event_codes, are_values, are_settings}
-use Rattle.journals.proofs.Ways.{passes_of_all}
+use Rattle.journals.proofs.DeliveriesOfWay.{passes_of_all}
 
 -- codes that fit two lists of sizes, one after the other
 long_enough : (xs ys codes : List ℕ) → fits (xs ++ ys) codes ≡ true → length xs ≤ length codes

@@ -9,7 +9,7 @@ use Rattle.journal_text.specs.Items.{machine_named, map_read, both_read, snapsho
 use Rattle.journal_text.specs.Steps.{are_events, are_states}
 use Rattle.journal_text.specs.inner.Steps.{whole}
 use Rattle.journal_text.specs.declared.fault.JournalKind.{JournalKind}
-use Rattle.journals.proofs.Ways.{passes_of_all}
+use Rattle.journals.proofs.DeliveriesOfWay.{passes_of_all}
 
 numbered : (net : Network) (m : ℕ) (machine : Machine) → slice_get net.machines m ≡ Some machine
     → is_numbered net.domains net.events machine ≡ true

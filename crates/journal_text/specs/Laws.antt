@@ -82,3 +82,15 @@ StampedPrefixFaults =
     (c : ℕ) (rest : Text) → Prints net journal → AreStamps journal stamps
     → stamped_journal_text net journal stamps complete ≡ prefix ++ c ∷ rest
     → read_of net prefix ≡ Err (prefix_fault (lines_of prefix))
+
+-- Printing and reading.
+pub record TextLaws : Type 0 where
+  pub reads_back : ReadsBack
+  pub stamped_reads_back : StampedReadsBack
+  pub read_is_printed : ReadIsPrinted
+  pub stamped_read_is_printed : StampedReadIsPrinted
+  pub one_journal : OneJournal
+  pub one_stamped_journal : OneStampedJournal
+  pub one_version : OneVersion
+  pub prefix_faults : PrefixFaults
+  pub stamped_prefix_faults : StampedPrefixFaults

@@ -1,9 +1,9 @@
 -- Journal texts, and alterations of them.
 use Rattle.std.specs.Prelude.{ℕ, List, ◌∷◌, [], ◌++◌, codes}
+use Rattle.polis_base.specs.Lines.{line}
 use Rattle.journals.specs.declared.entry.Entry.{Entry}
 use Rattle.journals.specs.declared.entry.Entry.TheVariants.{Dep}
 use Rattle.transition_table.specs.declared.decl.Party.TheVariants.{Env}
-use Rattle.journal_text.specs.Texts.{line}
 
 abbrev pub head_1 : List ℕ
 head_1 = line (codes "polis journal 1")

@@ -2,6 +2,7 @@
 use Rattle.std.specs.Prelude.{◌≡◌, IsTrue, nat_le, ◌&&◌, ℕ, zero, suc, ◌-◌, Bool, cond, List, ◌∷◌, ◌++◌, map, flat_map, length, take, drop, slice_get, option_map, unwrap_or, codes, decimal, []}
 use Rattle.std.specs.List.{list_all, zip}
 use Rattle.std.specs.Option.{option_map_or}
+use Rattle.polis_base.specs.Lines.{line}
 use Rattle.domains.specs.Domains.{word_of}
 use Rattle.transition_table.specs.declared.decl.Party.{Party}
 use Rattle.transition_table.specs.declared.decl.Party.TheVariants.{Env, Machine as Sender}
@@ -15,10 +16,6 @@ use Rattle.journals.specs.declared.entry.Entry.TheVariants.{Dep, Rea}
 use Rattle.journals.specs.Journals.{emitted}
 use Rattle.journals.specs.Logs.{max_stamp}
 use Rattle.journals.specs.Outputs.{outputs}
-
--- a text with its LF
-abbrev pub line : List ℕ → List ℕ
-line text = text ++ 10 ∷ []
 
 -- between two items
 abbrev pub space : List ℕ

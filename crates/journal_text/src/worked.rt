@@ -1,8 +1,9 @@
 // The worked texts: what the definition says of small journal texts.
 ghost use Rattle.std.specs.Prelude.{◌≡◌, ◌++◌, ◌∷◌, [], true, false, Ok, Err, Some, None, codes};
+ghost use Rattle.polis_base.specs.Lines.{line};
 ghost use Rattle.journals.specs.Samples.{lamp, lamp_run, join, value};
 ghost use Rattle.journals.specs.Runs.{join_overwritten_run};
-ghost use Rattle.journal_text.specs.Texts.{line, journal_text, stamped_journal_text};
+ghost use Rattle.journal_text.specs.Texts.{journal_text, stamped_journal_text};
 ghost use Rattle.journal_text.specs.Reading.{read_of};
 ghost use Rattle.journal_text.specs.Samples.{head_1, head_2, join_with, join_entries, join_stamped, one_delivery};
 ghost use Rattle.journal_text.specs.declared.fault.JournalFault.{JournalFault};

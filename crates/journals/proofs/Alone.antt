@@ -17,7 +17,7 @@ use Rattle.journals.specs.Laws.{AloneBySteps, AloneFits, LogIsAlone, PrefixesAre
 use Rattle.journals.specs.Reactions.{MayReactIfReaction}
 use Rattle.journals.specs.Logs.{entries, max_stamp, of_machine, rises, stamps as stamps_of}
 use Rattle.journals.specs.Moved.{machine_of}
-use Rattle.journals.proofs.Beside.{woken_by_own, snap_by_own}
+use Rattle.journals.proofs.OwnEntries.{woken_by_own, snap_by_own}
 
 reacts_at : (net : Network) (before prefix : List Entry) (entry : Entry) (rest : List Entry)
     → ReactsAfter net before (prefix ++ entry ∷ rest)

@@ -17,7 +17,7 @@ use Rattle.journals.specs.Laws.{PrefixesAreLegal, GoesOnBySteps}
 use Rattle.journals.specs.Legality.{Legal}
 use Rattle.journals.specs.Stamps.{once_each, origin, stamps_sent}
 use Rattle.journals.specs.StampLaws.{OriginIsBefore}
-use Rattle.journals.proofs.Sent.{delivered_own}
+use Rattle.journals.proofs.DeliveredBeginsSent.{delivered_own}
 use Rattle.journals.proofs.StampSteps.{prefix_step, length_prefix, entries_with_stamps, take_with_stamps, as_many_sent}
 
 get_left : {X : Type 0} (xs ys : List X) (n : ℕ) (x : X) → slice_get xs n ≡ Some x

@@ -9,7 +9,7 @@ use Rattle.journals.specs.Legality.{Legal}
 use Rattle.journals.specs.Samples.{lamp, press, lamp_run, join, value, two, loop}
 use Rattle.journals.specs.Runs.{join_overwritten_trace, join_overwritten_run, join_settled_trace, join_settled_run, value_overwritten_trace, value_overwritten_run, two_by_priority_trace, two_by_priority_run, two_by_number_trace, two_by_number_run, two_settled_trace, two_settled_run, loop_three_trace, loop_three_run, lamp_idle_trace, lamp_idle_run, pong_trace, pong_run, late_trace, late_run, idling}
 use Rattle.journals.specs.Worked.{IsRun}
-use Rattle.journals.proofs.Bounded.{complete_by_cases}
+use Rattle.journals.proofs.EachBelow.{complete_by_cases}
 
 -- ---- snapshots that enable nothing
 

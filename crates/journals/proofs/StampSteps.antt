@@ -17,7 +17,7 @@ use Rattle.journals.specs.Legality.{Legal, MayFollow}
 use Rattle.journals.specs.Logs.{entries, max_stamp, stamped, with_stamps}
 use Rattle.journals.specs.StampLaws.{AsManyStampsSent, LeastBySteps, RisingBySteps, RisingAreAsMany, StandsAbove}
 use Rattle.journals.specs.Stamps.{greatest, once_each, stamps_sent, stamps_below, is_above, rises_after, least_stamp, least_after}
-use Rattle.journals.proofs.Stamping.{all_below, above_greatest}
+use Rattle.journals.proofs.LeastStamps.{all_below, above_greatest}
 
 -- ---- prefixes of a legal journal
 

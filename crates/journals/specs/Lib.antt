@@ -14,3 +14,4 @@ pub mod StampLaws
 pub mod Stamps
 pub mod Worked
 pub mod inner
+pub mod AllLaws

@@ -1,13 +1,14 @@
 -- Lines that say how large the parts of a network are, and how long its reactions take.
 use Rattle.std.specs.Prelude.{ℕ, suc, ◌==◌, List, [], ◌∷◌, ◌++◌, map, filter_map, sum, length, codes, decimal, Option, None}
 use Rattle.std.specs.Bool.{then_some}
+use Rattle.polis_base.specs.Lines.{line}
 use Rattle.transition_table.specs.declared.machine.Machine.{Machine}
 use Rattle.transition_table.specs.declared.network.Network.{Network}
 use Rattle.journals.specs.declared.entry.Entry.{Entry}
 use Rattle.journals.specs.declared.entry.Entry.TheVariants.{Dep, Rea}
 use Rattle.task_code.specs.declared.instr.Instr.{Instr}
 use Rattle.task_code.specs.Codes.{StepsOf}
-use Rattle.task_code.specs.Listings.{Part, line}
+use Rattle.task_code.specs.Listings.{Part}
 
 -- what the machine of this number reads, where the entry is a reaction of it
 abbrev pub read_by : ℕ → Entry → Option (List ℕ)
@@ -49,6 +50,18 @@ tries_lines journal k (m ∷ ms) [] = []
 tries_lines journal k (m ∷ ms) (q ∷ qs) =
     line (lengths m q ++ tries q.code (reactions_of k journal)) ++ tries_lines journal (suc k) ms qs
 
+-- `machine M code C`
+abbrev pub code_length : Machine → List Instr → List ℕ
+code_length m code = codes "machine " ++ m.name ++ codes " code " ++ decimal (length code)
+
+-- the machines from number k on and their codes, side by side, with the machines' reactions
+abbrev pub code_tries_lines : List Entry → ℕ → List Machine → List (List Instr) → List ℕ
+code_tries_lines journal k [] all = []
+code_tries_lines journal k (m ∷ ms) [] = []
+code_tries_lines journal k (m ∷ ms) (code ∷ all) =
+    line (code_length m code ++ tries code (reactions_of k journal))
+    ++ code_tries_lines journal (suc k) ms all
+
 -- a line for each machine: `machine M vertices V code C`
 abbrev pub lengths_text : Network → List Part → List ℕ
 lengths_text net parts = lengths_lines net.machines parts
@@ -56,3 +69,7 @@ lengths_text net parts = lengths_lines net.machines parts
 -- a line for each machine: `machine M vertices V code C tries T steps S`
 abbrev pub tries_text : Network → List Part → List Entry → List ℕ
 tries_text net parts journal = tries_lines journal 0 net.machines parts
+
+-- a line for each machine: `machine M code C tries T steps S`
+abbrev pub code_tries_text : Network → List (List Instr) → List Entry → List ℕ
+code_tries_text net all journal = code_tries_lines journal 0 net.machines all

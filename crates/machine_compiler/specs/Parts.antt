@@ -11,7 +11,7 @@ use Rattle.sgraph.specs.Reactions.{IsGraphOf}
 use Rattle.sgraph_opt.specs.Smaller.{NoDefaults}
 use Rattle.task_code.specs.declared.instr.Instr.{Instr}
 use Rattle.task_code.specs.Codes.{Lowered, Computes, StepsOf}
-use Rattle.task_code.specs.Facts.{OnceCode}
+use Rattle.task_code.specs.Facts.{IsCode, OnceCode}
 use Rattle.task_code.specs.Listings.{Part}
 use Rattle.task_machine.specs.Running.{CodeFits}
 use Rattle.machine_compiler.specs.declared.compiled.Compiled.{Compiled}
@@ -51,6 +51,7 @@ pub record IsRightPart (m : Machine) (q : Part) : Type 0 where
   pub of_machine : IsGraphOf m q.order q.graph
   pub no_defaults : NoDefaults q.graph
   pub lowered : Lowered q.graph q.code
+  pub is_code : IsCode q.code
   pub code_fits : CodeFits m q.code
   pub computes : Computes q.code m
   pub once_code : OnceCode q.code

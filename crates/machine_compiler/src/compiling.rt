@@ -63,6 +63,7 @@ pub fn compile_machine(alloc: Global, m: &Machine) -> Result<Compiled, NoMemory>
     let graph = small_graph(alloc, m, root, &sifted.order)?;
     let code = lower(alloc, &graph)?;
     keep_graph(&graph);
+    let _ = code.len();
     task_machine::laws();
     Ok(Compiled {
         sifted,

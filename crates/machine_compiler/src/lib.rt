@@ -14,7 +14,7 @@ mod texts;
 pub use compiled::{Compiled, CompiledList, codes_of};
 pub use compiling::{compile_machine, compile_network};
 pub use law::laws;
-pub use lines::print_tries;
+pub use lines::{print_code_tries, print_tries};
 pub use listing::print_listing;
 pub use shares::compile_network_by;
 pub use texts::{Texts, compile_texts};

@@ -1,16 +1,19 @@
 // Lines that say how large the compiled machines are.
-ghost use Rattle.std.specs.Prelude.{◌≡◌, ◌<◌, ◌^◌, ◌++◌, length, IfOk, OnOk};
+ghost use Rattle.std.specs.Prelude.{◌≡◌, ◌≤◌, ◌++◌, length, IfOk, OnOk};
+ghost use Rattle.polis_base.specs.declared.limits.TheConstants.{ENTRIES_MAX};
+ghost use Rattle.polis_base.specs.Lines.{line};
 ghost use Rattle.journals.specs.Journals.{IsJournal};
-ghost use Rattle.task_code.specs.Listings.{line};
-ghost use Rattle.machine_compiler.specs.Parts.{AreRightParts, parts_of, part_of_compiled};
-ghost use Rattle.machine_compiler.specs.Lines.{lengths, tally_text, tries_text};
+ghost use Rattle.machine_compiler.specs.Parts.{codes_in, parts_of, part_of_compiled};
+ghost use Rattle.machine_compiler.specs.Lines.{code_length, code_tries_text, lengths, tally_text, tries_text};
 
 use crate::compiled::{Compiled, CompiledList};
 use crate::tallies::{Tally, count_reactions};
 use journals::Journal;
 use polis_base::{Bytes, NoMemory};
 use std::alloc::Global;
-use transition_table::{Machine, Network};
+use task_code::Code;
+use task_machine::TaskReactor;
+use transition_table::{Machine, Reactor};
 
 // How many vertices and instructions a machine has.
 pub(crate) fn push_lengths(
@@ -38,25 +41,61 @@ fn push_tally(tally: &Tally, out: &mut Bytes) -> Result<(), NoMemory>
     out.push_decimal(tally.steps)
 }
 
+// How many instructions the code of a machine has.
+fn push_code_length(machine: &Machine, code: &Code, out: &mut Bytes) -> Result<(), NoMemory>
+    ensures { OnOk result (out.new ≡ out.old ++ code_length machine.now code.now) }
+{
+    out.push(b"machine ")?;
+    out.push(machine.name.bytes())?;
+    out.push(b" code ")?;
+    out.push_decimal(code.len())
+}
+
 /// A line for each machine: how many vertices and how many instructions it has, how often it reacts
-/// in a journal, and how many instructions these reactions execute.
+/// in a journal, and how many instructions these reactions execute. The reactor has the code of the
+/// compiled machines.
 pub fn print_tries(
     alloc: Global,
-    net: &Network,
+    r: &TaskReactor<'_>,
     compiled: &CompiledList,
     journal: &Journal,
 ) -> Result<Bytes, NoMemory>
-    requires right { AreRightParts net.now (parts_of compiled.now) }
-    requires journal { IsJournal net.now journal.now }
-    requires few { length journal.now < 2 ^ 32 }
-    ensures { IfOk result (λ text. text ≡ tries_text net.now (parts_of compiled.now) journal.now) }
+    requires same { r.now.codes ≡ codes_in (parts_of compiled.now) }
+    requires journal { IsJournal r.now.net.now journal.now }
+    requires few { length journal.now ≤ ENTRIES_MAX }
+    ensures { IfOk result (λ text. text
+        ≡ tries_text r.now.net.now (parts_of compiled.now) journal.now) }
 {
-    let tallies = count_reactions(alloc, net, compiled, journal)?;
+    let net = r.network();
+    let tallies = count_reactions(alloc, r, journal)?;
     let mut text = Bytes::new(alloc);
     for k in 0..net.machines.len() {
         let machine = net.machines.get(k);
         let part = compiled.get(k);
         push_lengths(machine, part, &mut text)?;
+        push_tally(&tallies[k as usize], &mut text)?;
+        text.push(b"\n")?;
+    }
+    Ok(text)
+}
+
+/// A line for each machine: how many instructions its code has, how often it reacts in a journal,
+/// and how many instructions these reactions execute.
+pub fn print_code_tries(
+    alloc: Global,
+    r: &TaskReactor<'_>,
+    journal: &Journal,
+) -> Result<Bytes, NoMemory>
+    requires journal { IsJournal r.now.net.now journal.now }
+    requires few { length journal.now ≤ ENTRIES_MAX }
+    ensures { IfOk result (λ text. text
+        ≡ code_tries_text r.now.net.now r.now.codes journal.now) }
+{
+    let net = r.network();
+    let tallies = count_reactions(alloc, r, journal)?;
+    let mut text = Bytes::new(alloc);
+    for k in 0..net.machines.len() {
+        push_code_length(net.machines.get(k), r.code(k as u32), &mut text)?;
         push_tally(&tallies[k as usize], &mut text)?;
         text.push(b"\n")?;
     }

@@ -7,20 +7,8 @@ use Rattle.std.proofs.lemmas.List.Elements.{filter-append}
 use Rattle.std.proofs.lemmas.List.Folds.{find-append}
 use Rattle.std.proofs.lemmas.Bool.{eq-eqb, ne_eqb, cases_eq, both_ways}
 use Rattle.polis_base.specs.Lists.{upto, head_of}
+use Rattle.polis_base.proofs.Lists.{one_more, same_below}
 use Rattle.journals.specs.Schedules.{without_first}
-
-one_more : (p : ℕ → Bool) (n : ℕ) → filter p (upto (suc n))
-    ≡ filter p (upto n) ++ cond (p n) (n ∷ []) []
-one_more p n = filter-append p (upto n) (n ∷ [])
-
-pub same_below : (p q : ℕ → Bool) (n : ℕ) → ((k : ℕ) → k < n → p k ≡ q k)
-    → filter p (upto n) ≡ filter q (upto n)
-same_below p q zero h = refl
-same_below p q (suc n) h =
-    one_more p n
-    ∙ ap (λ l. l ++ cond (p n) (n ∷ []) []) (same_below p q n (λ k b. h k (omega arith)))
-    ∙ ap (λ b. filter q (upto n) ++ cond b (n ∷ []) []) (h n (omega arith))
-    ∙ sym (one_more q n)
 
 -- all of a or more fail
 pub none_past : (p : ℕ → Bool) (a n : ℕ) → a ≤ n → ((k : ℕ) → a ≤ k → p k ≡ false)

@@ -2,7 +2,7 @@
 use Rattle.std.specs.Prelude.{◌≡◌, ℕ, ◌+◌, Bool, true, false, not, List, drop, slice_get, Some}
 use Rattle.std.specs.List.{prefix_len}
 use Rattle.std.proofs.Common.{refl, ap, ◌∙◌}
-use Rattle.journals.proofs.Emitting.{drop_at_item}
+use Rattle.journals.proofs.Emitted.{drop_at_item}
 
 -- ---- the first that passes, from a place on
 

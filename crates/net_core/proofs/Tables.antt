@@ -21,9 +21,9 @@ use Rattle.net_core.specs.inner.Tables.{AreBefore}
 use Rattle.journals.specs.Moved.{moments_of}
 use Rattle.journals.specs.Schedules.{is_way, left_by, firing_deliveries, owed_by_machines, deliveries_of, receivers_of, machine_deliveries, unmade, keep_unless, same_way}
 use Rattle.journals.specs.Laws.{MovesOwed}
-use Rattle.net_core.proofs.Emitting.{without_none}
-use Rattle.journals.proofs.Moved.{get_or-table}
-use Rattle.journals.proofs.Owing.{no_env_way}
+use Rattle.net_core.proofs.OwedByEmissions.{without_none}
+use Rattle.journals.proofs.MomentsAfter.{get_or-table}
+use Rattle.journals.proofs.OwedAfter.{no_env_way}
 
 -- ---- the owed deliveries of machines
 

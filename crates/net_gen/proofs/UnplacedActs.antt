@@ -26,9 +26,9 @@ use Rattle.net_names.specs.Values.{no_value}
 use Rattle.rule_judge.specs.declared.verdict.Broken.{Broken}
 use Rattle.rule_judge.specs.Judged.{Rule, broken_at, first_broken, rules, broken}
 use Rattle.rule_judge.specs.Rules.{in_conds, unknown, suits, unsuited, wrong_values, emitted, set_names, not_once, wrong_value, wrong_emission, wrong_act, in_acts, source_of, target_domain, wrong_input, is_valued, no_input, shows, not_shown, same_domain, other_domain, wrong_sum, other_name, not_below, too_much, rule_15, rule_16, rule_17, rule_18, rule_19, rule_20, rule_21, rule_22, rule_23, rule_24, rule_25}
-use Rattle.net_gen.proofs.Placing.{empty, append_alone, unless_alone, flat_alone, shape_of_alone, event_domain_alone}
-use Rattle.net_gen.proofs.Looked.{flat_words, is_name_alone, state_words_alone, var_words_alone, state_domain_alone, var_domain_alone, is_typed_alone, shape_at_alone, count_at_alone, var_sizes_alone, no_value_alone, cond_word_alone}
-use Rattle.net_gen.proofs.Unplaced.{Alone, lacks_alone, names_are_alone, once_alone, each_alone, alone_1, alone_2, alone_3, alone_4, alone_5, alone_6, alone_7, alone_8, alone_9, alone_10, alone_11, alone_12, alone_13, alone_14}
+use Rattle.net_gen.proofs.WithoutPlaces.{empty, append_alone, unless_alone, flat_alone, shape_of_alone, event_domain_alone}
+use Rattle.net_gen.proofs.UnplacedScopes.{flat_words, is_name_alone, state_words_alone, var_words_alone, state_domain_alone, var_domain_alone, is_typed_alone, shape_at_alone, count_at_alone, var_sizes_alone, no_value_alone, cond_word_alone}
+use Rattle.net_gen.proofs.UnplacedDeclarations.{Alone, lacks_alone, names_are_alone, once_alone, each_alone, alone_1, alone_2, alone_3, alone_4, alone_5, alone_6, alone_7, alone_8, alone_9, alone_10, alone_11, alone_12, alone_13, alone_14}
 
 -- ---- conditions
 

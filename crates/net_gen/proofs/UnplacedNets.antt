@@ -31,9 +31,9 @@ use Rattle.net_names.specs.Numbers.{names_of, is_among, number_in, number}
 use Rattle.net_names.specs.Values.{value_in}
 use Rattle.net_names.specs.Scopes.{domain_words, event_words, state_words, is_to_env, shape_at, event_domain, state_domain, var_domain, event_codes, state_codes, cond_word, var_words}
 use Rattle.net_rules.specs.Networks.{value_number, IsDomainOf, machines_with, party_of, event_of, state_of, first_code, value_code, allows, bits_where, cond_of, source_in, emission_source, act_of, IsRowOf, IsMachineOf, IsNetworkOf}
-use Rattle.net_gen.proofs.Placing.{names_alone, event_domain_alone, value_in_alone}
-use Rattle.net_gen.proofs.Looked.{map_alone, domain_words_alone, event_words_alone, state_words_alone, var_words_alone, state_domain_alone, var_domain_alone, shape_at_alone, count_at_alone, event_codes_alone, var_sizes_alone, cond_word_alone}
-use Rattle.net_gen.proofs.Unplaced.{names_are_alone}
+use Rattle.net_gen.proofs.WithoutPlaces.{names_alone, event_domain_alone, value_in_alone}
+use Rattle.net_gen.proofs.UnplacedScopes.{map_alone, domain_words_alone, event_words_alone, state_words_alone, var_words_alone, state_domain_alone, var_domain_alone, shape_at_alone, count_at_alone, event_codes_alone, var_sizes_alone, cond_word_alone}
+use Rattle.net_gen.proofs.UnplacedDeclarations.{names_are_alone}
 
 -- ---- numbers of names and of values
 

@@ -1,5 +1,5 @@
-pub mod Answering
-pub mod Found
-pub mod Named
-pub mod Standing
+pub mod IfOk
+pub mod NumberIn
+pub mod NameNumbers
+pub mod IsVar
 pub mod Zips

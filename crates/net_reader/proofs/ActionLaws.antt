@@ -16,7 +16,7 @@ use Rattle.net_reader.specs.declared.raw.RawSource.TheVariants as sources
 use Rattle.net_reader.specs.declared.raw.RawAct.{RawAct}
 use Rattle.net_reader.specs.declared.raw.RawAct.TheVariants as acts
 use Rattle.net_reader.proofs.Laws.{Laws, none, Bind, bind_laws}
-use Rattle.net_reader.proofs.Forms.{Just, Or, same_laws, wider_laws, begins_none, pure_laws, either_laws}
+use Rattle.net_reader.proofs.Combinators.{Just, Or, same_laws, wider_laws, begins_none, pure_laws, either_laws}
 use Rattle.net_reader.proofs.Tokens.{apart, within, only_laws, word_laws, num_laws, value_laws, word_is_value, value_is_word, optional_there, optional_back, listed_goes, listed_laws}
 
 -- what an action takes a value from

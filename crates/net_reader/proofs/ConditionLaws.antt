@@ -11,7 +11,7 @@ use Rattle.net_reader.specs.declared.raw.RawValue.{RawValue}
 use Rattle.net_reader.specs.declared.raw.RawCond.{RawCond}
 use Rattle.net_reader.specs.declared.raw.RawCond.TheVariants as conds
 use Rattle.net_reader.proofs.Laws.{Laws, none, Bind, bind_laws}
-use Rattle.net_reader.proofs.Forms.{Just, Or, same_laws, pure_laws, either_laws}
+use Rattle.net_reader.proofs.Combinators.{Just, Or, same_laws, pure_laws, either_laws}
 use Rattle.net_reader.proofs.Tokens.{apart, within, only_laws, word_laws, value_laws, listed_laws}
 
 abbrev pub Is_absent : RawCond → Part

@@ -16,7 +16,7 @@ use Rattle.net_reader.specs.declared.raw.RawEnv.TheVariants as envs
 use Rattle.net_reader.specs.declared.raw.RawEvent.{RawEvent}
 use Rattle.net_reader.specs.declared.raw.RawState.{RawState}
 use Rattle.net_reader.proofs.Laws.{Laws, none, bind_laws}
-use Rattle.net_reader.proofs.Forms.{Just, Or, same_laws, pure_laws, either_laws}
+use Rattle.net_reader.proofs.Combinators.{Just, Or, same_laws, pure_laws, either_laws}
 use Rattle.net_reader.proofs.Tokens.{apart, within, only_laws, word_laws, num_laws, value_laws, optional_there, optional_back, listed_laws}
 
 abbrev pub Is_names : RawShape → Part

@@ -1,7 +1,6 @@
 -- A sentence that goes on to another one.
 use Rattle.std.proofs.Common.{◌≡◌, ◌⊎◌, inl, inr, ℕ, Bool, true, false, List, [], ◌∷◌, ◌++◌, Ok, refl, sym, ◌∙◌, ap, subst, append_assoc, append-nil}
 use Rattle.polis_base.specs.declared.token.Keyword.TheVariants.{KwNetwork, KwVersion, KwDomain, KwEvent, KwMachine}
-use Rattle.polis_base.specs.declared.token.Kind.TheVariants.{Number, Name, Sign}
 use Rattle.polis_base.specs.declared.token.Kind.TheVariants as kinds
 use Rattle.net_reader.specs.Lexemes.{Lexeme}
 use Rattle.net_reader.specs.Grammar.{Part, Each, OneAnd, IsMachine, IsDomain, IsEvent, IsNet}
@@ -11,7 +10,7 @@ use Rattle.net_reader.specs.declared.raw.RawEvent.{RawEvent}
 use Rattle.net_reader.specs.declared.raw.RawMachine.{RawMachine}
 use Rattle.net_reader.specs.declared.raw.RawNet.{RawNet}
 use Rattle.net_reader.proofs.Laws.{Laws, Apart, none, joined, follows}
-use Rattle.net_reader.proofs.Forms.{many_laws}
+use Rattle.net_reader.proofs.Combinators.{many_laws}
 use Rattle.net_reader.proofs.Tokens.{apart, within, only_laws, word_laws, num_laws}
 use Rattle.net_reader.proofs.DeclarationLaws.{domain_laws, event_laws, event_goes}
 use Rattle.net_reader.proofs.MachineLaws.{machine_laws}

@@ -14,7 +14,7 @@ use Rattle.net_reader.specs.declared.raw.RawNet.{RawNet}
 use Rattle.net_reader.specs.declared.network.NetFault.{NetFault}
 use Rattle.net_reader.specs.declared.network.NetFault.TheVariants as faults
 use Rattle.net_reader.proofs.NetworkLaws.{net_laws, net_goes}
-use Rattle.net_reader.proofs.Whole.{net_sentence, syntax_there_clause}
+use Rattle.net_reader.proofs.Sentences.{net_sentence, syntax_there_clause}
 
 -- the last token is a right brace
 abbrev pub Ends : List Lexeme → Type 0

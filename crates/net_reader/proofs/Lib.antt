@@ -1,4 +1,4 @@
-pub mod Forms
+pub mod Combinators
 pub mod Laws
 pub mod Loops
 pub mod DeclarationLaws
@@ -6,13 +6,13 @@ pub mod ConditionLaws
 pub mod ActionLaws
 pub mod MachineLaws
 pub mod NetworkLaws
-pub mod Shrinking
-pub mod Steps
+pub mod Shrinks
+pub mod NextToken
 pub mod Tokens
-pub mod Whole
-pub mod Lexing
-pub mod Printing
-pub mod Regrouping
+pub mod Sentences
+pub mod Lexemes
+pub mod PrintedWords
+pub mod AppendAssociative
 pub mod PrintedTokens
 pub mod PrintedDeclarations
 pub mod PrintedRows
@@ -20,8 +20,8 @@ pub mod PrintedMachines
 pub mod PrintedNetworks
 pub mod LastToken
 pub mod Marks
-pub mod Stopping
+pub mod Outcomes
 pub mod Cuts
 pub mod FirstMachines
 pub mod CutTexts
-pub mod Computed
+pub mod WorkedTexts

@@ -7,9 +7,9 @@ use Rattle.net_reader.specs.declared.reader.Stop.TheVariants as stops
 use Rattle.polis_base.specs.declared.token.Kind.TheVariants as kinds
 use Rattle.polis_base.specs.declared.token.Sign.TheVariants.{Comma}
 use Rattle.net_reader.proofs.Laws.{bind_ok}
-use Rattle.net_reader.proofs.Steps.{only_yes}
+use Rattle.net_reader.proofs.NextToken.{only_yes}
 use Rattle.net_reader.proofs.Tokens.{only_laws}
-use Rattle.net_reader.proofs.Forms.{many_none, many_some, many_err, shrinks}
+use Rattle.net_reader.proofs.Combinators.{many_none, many_some, many_err, shrinks}
 
 -- what a part added, by what the list is after it
 abbrev pub HasAdded : {A : Type 0} → List A → List A → Answer A → List Lexeme → Type 0

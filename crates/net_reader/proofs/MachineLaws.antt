@@ -11,7 +11,7 @@ use Rattle.net_reader.specs.declared.raw.Num.{Num}
 use Rattle.net_reader.specs.declared.raw.RawRow.{RawRow}
 use Rattle.net_reader.specs.declared.raw.RawMachine.{RawMachine}
 use Rattle.net_reader.proofs.Laws.{Laws, none, bind_laws}
-use Rattle.net_reader.proofs.Forms.{Just, Or, same_laws, pure_laws, either_laws, many_laws}
+use Rattle.net_reader.proofs.Combinators.{Just, Or, same_laws, pure_laws, either_laws, many_laws}
 use Rattle.net_reader.proofs.Tokens.{apart, within, only_laws, word_laws, num_laws, listed_goes, listed_laws}
 use Rattle.net_reader.proofs.DeclarationLaws.{state_laws}
 use Rattle.net_reader.proofs.ConditionLaws.{cond_laws}

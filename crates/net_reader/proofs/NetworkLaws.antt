@@ -7,7 +7,7 @@ use Rattle.net_reader.specs.Grammar.{OneAnd, IsMachine, IsNet}
 use Rattle.net_reader.specs.Reading.{is, net_at}
 use Rattle.net_reader.specs.declared.raw.RawNet.{RawNet}
 use Rattle.net_reader.proofs.Laws.{Laws, none, bind_laws}
-use Rattle.net_reader.proofs.Forms.{same_laws, pure_laws, many_laws}
+use Rattle.net_reader.proofs.Combinators.{same_laws, pure_laws, many_laws}
 use Rattle.net_reader.proofs.Tokens.{apart, within, only_laws, word_laws, num_laws, one_goes, some_laws}
 use Rattle.net_reader.proofs.DeclarationLaws.{domain_laws, event_laws}
 use Rattle.net_reader.proofs.MachineLaws.{machine_laws}

@@ -15,10 +15,10 @@ use Rattle.net_reader.specs.declared.raw.RawEnv.{RawEnv}
 use Rattle.net_reader.specs.declared.raw.RawEnv.TheVariants as envs
 use Rattle.net_reader.specs.declared.raw.RawEvent.{RawEvent}
 use Rattle.net_reader.specs.declared.raw.RawState.{RawState}
-use Rattle.net_reader.proofs.Lexing.{Made, conv, seq, trail, retext, any}
-use Rattle.net_reader.proofs.Printing.{Like, ends, word_made, number_made, value_made}
+use Rattle.net_reader.proofs.Lexemes.{Made, conv, seq, trail, retext, any}
+use Rattle.net_reader.proofs.PrintedWords.{Like, ends, word_made, number_made, value_made}
 use Rattle.polis_base.proofs.Names.{left_true, right_true}
-use Rattle.net_reader.proofs.Regrouping.{as3, as5, as7}
+use Rattle.net_reader.proofs.AppendAssociative.{as3, as5, as7}
 use Rattle.net_reader.proofs.PrintedTokens.{domain_key, event_key, from_key, to_key, env_key, state_key, equal_sign, colon_sign, open_sign, close_sign, dots_sign, weak, blank_made, words_made}
 
 shape_made : (s : RawShape) (ts : List Lexeme) → shape_formed s ≡ true → IsShape s ts

@@ -10,10 +10,10 @@ use Rattle.net_reader.specs.Layout.{word_text, listed_text, state_text, row_text
 use Rattle.net_reader.specs.Places.{word_alone, state_alone, row_alone, machine_alone}
 use Rattle.net_reader.specs.declared.raw.Word.{Word}
 use Rattle.net_reader.specs.declared.raw.RawMachine.{RawMachine}
-use Rattle.net_reader.proofs.Lexing.{Made, conv, seq, trail, retext, any}
-use Rattle.net_reader.proofs.Printing.{Like, word_made, number_made, each_made}
+use Rattle.net_reader.proofs.Lexemes.{Made, conv, seq, trail, retext, any}
+use Rattle.net_reader.proofs.PrintedWords.{Like, word_made, number_made, each_made}
 use Rattle.polis_base.proofs.Names.{left_true, right_true}
-use Rattle.net_reader.proofs.Regrouping.{as3, as4, as5, as6}
+use Rattle.net_reader.proofs.AppendAssociative.{as3, as4, as5, as6}
 use Rattle.net_reader.proofs.PrintedTokens.{machine_key, priority_key, input_key, output_key, body_sign, end_sign, blank_made, words_made}
 use Rattle.net_reader.proofs.PrintedDeclarations.{state_made}
 use Rattle.net_reader.proofs.PrintedRows.{row_made}

@@ -12,10 +12,10 @@ use Rattle.net_reader.specs.Places.{Declares, num_alone, domain_alone, event_alo
 use Rattle.net_reader.specs.declared.raw.Num.{Num}
 use Rattle.net_reader.specs.declared.raw.RawMachine.{RawMachine}
 use Rattle.net_reader.specs.declared.raw.RawNet.{RawNet}
-use Rattle.net_reader.proofs.Lexing.{Made, conv, seq, trail, retext, moved, any, nothing_left}
-use Rattle.net_reader.proofs.Printing.{Like, word_made, number_made, each_made}
+use Rattle.net_reader.proofs.Lexemes.{Made, conv, seq, trail, retext, moved, any, nothing_left}
+use Rattle.net_reader.proofs.PrintedWords.{Like, word_made, number_made, each_made}
 use Rattle.polis_base.proofs.Names.{left_true, right_true}
-use Rattle.net_reader.proofs.Regrouping.{as3, as7}
+use Rattle.net_reader.proofs.AppendAssociative.{as3, as7}
 use Rattle.net_reader.proofs.PrintedTokens.{network_key, version_key}
 use Rattle.net_reader.proofs.PrintedDeclarations.{domain_made, event_made}
 use Rattle.net_reader.proofs.PrintedMachines.{machine_made}

@@ -18,10 +18,10 @@ use Rattle.net_reader.specs.declared.raw.RawSource.TheVariants as sources
 use Rattle.net_reader.specs.declared.raw.RawAct.{RawAct}
 use Rattle.net_reader.specs.declared.raw.RawAct.TheVariants as acts
 use Rattle.net_reader.specs.declared.raw.RawRow.{RawRow}
-use Rattle.net_reader.proofs.Lexing.{Made, conv, seq, trail, retext, any}
-use Rattle.net_reader.proofs.Printing.{Like, ends, word_made, number_made, value_made, listed_made}
+use Rattle.net_reader.proofs.Lexemes.{Made, conv, seq, trail, retext, any}
+use Rattle.net_reader.proofs.PrintedWords.{Like, ends, word_made, number_made, value_made, listed_made}
 use Rattle.polis_base.proofs.Names.{left_true, right_true}
-use Rattle.net_reader.proofs.Regrouping.{as3, as4, as5}
+use Rattle.net_reader.proofs.AppendAssociative.{as3, as4, as5}
 use Rattle.net_reader.proofs.PrintedTokens.{when_key, do_key, emit_key, absent_key, in_key, nothing_key, value_key, plus_sign, equal_sign, assign_sign, open_sign, close_sign, weak, blank_made, values_made}
 
 cond_made : (c : RawCond) (ts : List Lexeme) → cond_formed c ≡ true → IsCond c ts

@@ -12,8 +12,8 @@ use Rattle.net_reader.specs.Layout.{word_text, value_text, listed_text}
 use Rattle.net_reader.specs.Places.{word_alone, value_alone}
 use Rattle.net_reader.specs.declared.raw.Word.{Word}
 use Rattle.net_reader.specs.declared.raw.RawValue.{RawValue}
-use Rattle.net_reader.proofs.Lexing.{Made, lit, moved, any}
-use Rattle.net_reader.proofs.Printing.{Like, ends, word_made, value_made, listed_made}
+use Rattle.net_reader.proofs.Lexemes.{Made, lit, moved, any}
+use Rattle.net_reader.proofs.PrintedWords.{Like, ends, word_made, value_made, listed_made}
 
 -- keywords and signs with their blanks
 pub network_key : Made any (Key KwNetwork) (codes "network ")

@@ -14,7 +14,7 @@ use Rattle.net_reader.specs.declared.raw.Num.{Num}
 use Rattle.net_reader.specs.declared.raw.RawValue.{RawValue}
 use Rattle.net_reader.specs.declared.raw.RawValue.TheVariants as values
 use Rattle.net_reader.proofs.Laws.{Laws, none, Apart, Within, Bind, bind, bind_laws}
-use Rattle.net_reader.proofs.Forms.{Just, Or, same_laws, one_laws, pure_laws, many_laws}
+use Rattle.net_reader.proofs.Combinators.{Just, Or, same_laws, one_laws, pure_laws, many_laws}
 
 -- sets of kinds
 

@@ -16,6 +16,11 @@ pub record HasNet (text : List ℕ) (net : RawNet) : Type 0 where
   pub read : tokens_of text ≡ Ok tokens
   pub sentence : IsNet net (lexemes text tokens)
 
+-- and no others
+pub record HasOnly (text : List ℕ) (net : RawNet) : Type 0 where
+  pub has : HasNet text net
+  pub only : (other : RawNet) → HasNet text other → other ≡ net
+
 -- the tokens before aren't all of a sentence, or begin none with the next one
 abbrev pub Stops : List Lexeme → List Lexeme → Type 0
 Stops before [] = (net : RawNet) → IsNet net before → ⊥

@@ -5,7 +5,7 @@ ghost use Rattle.polis_base.specs.declared.token.LexError.{LexError};
 ghost use Rattle.net_reader.specs.declared.raw.RawNet.{RawNet};
 ghost use Rattle.net_reader.specs.declared.network.NetFault.{NetFault};
 ghost use Rattle.net_reader.specs.Reading.{whole_at};
-ghost use Rattle.net_reader.specs.Sentences.{HasNet, BreaksAt, LacksLast, OrNoMemory};
+ghost use Rattle.net_reader.specs.Sentences.{HasNet, HasOnly, BreaksAt, LacksLast, OrNoMemory};
 ghost use Rattle.net_reader.specs.Lexemes.{lexemes};
 ghost use Rattle.net_reader.specs.inner.Outcomes.{outcome};
 
@@ -66,8 +66,7 @@ fn read(alloc: Global, text: &[u8]) -> Result<RawNet, NetFault>
 /// The declarations of a network text of either version. A token that doesn't read is the answer
 /// also where a syntax fault stands before it.
 pub fn read_network(alloc: Global, text: &[u8]) -> Result<RawNet, NetFault>
-    ensures ok { IfOk result (λ net. HasNet text.now net) }
-    ensures one { IfOk result (λ net. (other : RawNet) → HasNet text.now other → other ≡ net) }
+    ensures ok { IfOk result (λ net. HasOnly text.now net) }
     ensures ok_there { (net : RawNet) → HasNet text.now net → OrNoMemory result (Ok net) }
     ensures lex { (fault : LexError) → result ≡ Err (NetFault.Lex fault)
         → tokens_of text.now ≡ Err fault }

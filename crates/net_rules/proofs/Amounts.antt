@@ -13,8 +13,8 @@ use Rattle.net_names.specs.Numbers.{is_name_of, missing}
 use Rattle.net_names.specs.Scopes.{domain_words, state_domain, count_at}
 use Rattle.rule_judge.specs.Rules.{source_of}
 use Rattle.net_rules.specs.inner.Sound.{IsSound, IsSoundMachine, IsSoundAct, amount_of}
-use Rattle.net_rules.proofs.Kept.{holds}
-use Rattle.net_rules.proofs.Acts.{first-known, rest-known}
+use Rattle.net_rules.proofs.HasReceivers.{holds}
+use Rattle.net_rules.proofs.AreActions.{first-known, rest-known}
 use Rattle.net_rules.proofs.Counts.{lt-from, state-few}
 
 module _ (net : RawNet) (sound : IsSound net) where

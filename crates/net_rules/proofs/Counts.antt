@@ -14,9 +14,9 @@ use Rattle.net_names.specs.Numbers.{names_of, is_among, is_name_of, missing}
 use Rattle.net_names.specs.Values.{count_of}
 use Rattle.net_names.specs.Scopes.{domain_words, shape_of, event_domain, count_at, event_codes}
 use Rattle.net_rules.specs.inner.Sound.{has_count, Each, IsSound}
-use Rattle.net_rules.proofs.Facts.{and-first, and-second}
-use Rattle.net_names.proofs.Standing.{some-is}
-use Rattle.net_rules.proofs.Kept.{first-nil, rest-nil, holds}
+use Rattle.net_rules.proofs.NumbersOfNames.{and-first, and-second}
+use Rattle.net_names.proofs.IsVar.{some-is}
+use Rattle.net_rules.proofs.HasReceivers.{first-nil, rest-nil, holds}
 
 pub le-from : (a b : ℕ) → nat_le a b ≡ true → a ≤ b
 le-from a b h = grind (arith, h)

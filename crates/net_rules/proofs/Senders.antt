@@ -13,8 +13,8 @@ use Rattle.net_names.specs.Numbers.{names_of, is_among, is_name_of}
 use Rattle.net_rules.specs.Networks.{party_of, machines_with}
 use Rattle.net_names.specs.Scopes.{all_outputs, is_from_env}
 use Rattle.rule_judge.specs.Rules.{rule_11, events_where}
-use Rattle.net_rules.proofs.Facts.{and-first, and-second, not-false}
-use Rattle.net_rules.proofs.Kept.{fresh, or-first, or-second}
+use Rattle.net_rules.proofs.NumbersOfNames.{and-first, and-second, not-false}
+use Rattle.net_rules.proofs.HasReceivers.{fresh, or-first, or-second}
 
 any-append : (p : List ℕ → Bool) (xs ys : List (List ℕ))
     → list_any p (xs ++ ys) ≡ (list_any p xs || list_any p ys)

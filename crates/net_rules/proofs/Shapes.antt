@@ -12,7 +12,7 @@ use Rattle.net_names.specs.Numbers.{names_of, no_name}
 use Rattle.net_names.specs.Values.{count_of}
 use Rattle.rule_judge.specs.Rules.{disorder}
 use Rattle.net_rules.specs.Networks.{IsDomainOf}
-use Rattle.net_rules.proofs.Kept.{fresh}
+use Rattle.net_rules.proofs.HasReceivers.{fresh}
 
 values-of : (words : List Word) → disorder (shapes.Names words) ≡ [] → 1 ≤ length words
     → length words ≤ 32 → AreValues (names_of words)

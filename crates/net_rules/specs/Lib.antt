@@ -1,5 +1,6 @@
 pub mod Given
 pub mod NetOf
+pub mod Whole
 pub mod Networks
 pub mod Resolved
 pub mod Sentence

@@ -4,7 +4,7 @@ use Rattle.std.proofs.lemmas.List.{append_assoc, append-nil}
 use Rattle.decision_diagram.specs.Laws.{SizeBySets}
 use Rattle.decision_diagram.specs.Sets.{stands, set_level, sum_of_levels}
 use Rattle.order_sift.specs.Laws.{LevelsOfSets, LevelsJoin, LevelsAfter, SizeWithItem}
-use Rattle.char_function.proofs.Supporting.{stands_both}
+use Rattle.char_function.proofs.AreSupports.{stands_both}
 
 pub levels_of_sets : LevelsOfSets
 levels_of_sets f sizes one other v same =

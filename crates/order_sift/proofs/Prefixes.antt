@@ -9,8 +9,8 @@ use Rattle.transition_table.specs.Orders.{Allowed}
 use Rattle.transition_table.specs.Transitions.{IsDeterministic}
 use Rattle.decision_diagram.specs.Sets.{stands}
 use Rattle.order_sift.specs.inner.Classes.{IsNextItem}
-use Rattle.order_sift.proofs.Ranging.{items}
-use Rattle.char_function.proofs.Taking.{stands_at, at_stands}
+use Rattle.order_sift.proofs.AllowedPlaces.{items}
+use Rattle.char_function.proofs.FixedCodes.{stands_at, at_stands}
 
 swap_or : (a b c : Bool) → (a || (b || c)) ≡ (b || (a || c))
 swap_or true true c = refl

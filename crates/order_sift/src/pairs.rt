@@ -2,7 +2,7 @@
 ghost use Rattle.std.specs.Prelude.{◌≡◌, ◌↔◌, ◌+◌, ◌-◌, ◌*◌, ◌<◌, ◌≤◌, ℕ, length, slice_index, IfOk};
 ghost use Rattle.polis_base.specs.declared.limits.TheConstants.{SIFTED_SNAPSHOTS_MAX};
 ghost use Rattle.order_sift.specs.inner.Pairs.{pair_at, AreBelow, AreNumbersFor, ArePairs, HasRoom};
-ghost use Rattle.order_sift.specs.inner.Points.{are_within};
+ghost use Rattle.order_sift.specs.inner.Points.{AreCodesFor};
 
 use polis_base::{NoMemory, Numbers};
 use std::alloc::Global;
@@ -89,9 +89,8 @@ pub(crate) fn chained(
 ) -> Result<Numbers, NoMemory>
     requires room { HasRoom (length classes.now) seen.old }
     requires few { length classes.now ≤ SIFTED_SNAPSHOTS_MAX }
-    requires long { length codes.now ≡ length classes.now }
+    requires codes { AreCodesFor (length classes.now) codes.now stride }
     requires stride { 0 < stride }
-    requires within { are_within codes.now stride 0 }
     requires below { AreBelow (length classes.now) classes.now }
     ensures numbers { IfOk result (AreNumbersFor (length classes.now)) }
     ensures first { IfOk result (λ made. (i : ℕ) → i < length classes.now

@@ -7,7 +7,7 @@ ghost use Rattle.transition_table.specs.Orders.{sizes_of};
 ghost use Rattle.decision_diagram.specs.Sets.{stands, set_level};
 ghost use Rattle.order_sift.specs.inner.Classes.{AreClasses, IsNextItem, fixed_too};
 ghost use Rattle.order_sift.specs.inner.Pairs.{HasRoom};
-ghost use Rattle.order_sift.specs.inner.Points.{IsPrepared};
+ghost use Rattle.order_sift.specs.inner.Points.{AreFewPoints};
 ghost use Rattle.order_sift.specs.declared.sets.KnownLevel.{KnownLevel};
 ghost use Rattle.order_sift.specs.declared.sets.KnownNumbers.{KnownNumbers};
 ghost use Rattle.order_sift.specs.inner.Known.{in_set, AreKnown};
@@ -118,8 +118,7 @@ pub(crate) fn numbers_of(
     classes: &Numbers,
     item: u32,
 ) -> Result<Numbers, NoMemory>
-    requires few { product m.now.vars ≤ SIFTED_SNAPSHOTS_MAX }
-    requires prepared { IsPrepared m.now points.now }
+    requires points { AreFewPoints m.now points.now }
     requires room { HasRoom (product m.now.vars) seen.old }
     requires known { AreKnown m.now known.old }
     requires item { item < length m.now.vars + length m.now.results }
@@ -154,8 +153,7 @@ pub(crate) fn level_after(
     classes: &Numbers,
     item: u32,
 ) -> Result<u64, NoMemory>
-    requires few { product m.now.vars ≤ SIFTED_SNAPSHOTS_MAX }
-    requires prepared { IsPrepared m.now points.now }
+    requires points { AreFewPoints m.now points.now }
     requires known { AreKnown m.now known.old }
     requires item { item < length m.now.vars + length m.now.results }
     requires free { in_set set item ≡ false }

@@ -9,8 +9,8 @@ use Rattle.outcome_table.specs.Outcomes.{column}
 use Rattle.std.proofs.Math.Nat.{mul-div_cancel, mul-le-mul_right, mul_assoc, suc-mul}
 use Rattle.std.proofs.lemmas.List.{append-nil, append_assoc}
 use Rattle.domains.specs.Tables.{are_sizes}
-use Rattle.transition_table.proofs.Ones.{size_at}
-use Rattle.outcome_table.proofs.Lists.{map_flat, flat_same, flat_upto}
+use Rattle.transition_table.proofs.CodeSets.{size_at}
+use Rattle.outcome_table.proofs.ListMaps.{map_flat, flat_same, flat_upto}
 use Rattle.domains.proofs.AllCodes.{long_map}
 
 -- so many lists of one length

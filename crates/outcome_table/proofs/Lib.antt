@@ -1,11 +1,11 @@
 pub mod Columns
-pub mod Counting
+pub mod NumberedOutcomes
 pub mod Ends
-pub mod Known
-pub mod Lists
-pub mod Narrowing
+pub mod AreKnown
+pub mod ListMaps
+pub mod RowsLeft
 pub mod RowSets
 pub mod Rows
 pub mod Settled
-pub mod Starting
+pub mod BeginWithRows
 pub mod Tails

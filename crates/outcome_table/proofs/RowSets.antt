@@ -4,32 +4,12 @@ use Rattle.std.specs.Prelude.{filter}
 use Rattle.std.specs.Int.{bit_at, trailing_zeros, w64}
 use Rattle.std.proofs.lemmas.Bool.{cases_eq, cases_lt, lt-ltb}
 use Rattle.std.proofs.lemmas.List.{append-nil, get_or_append_left, get_or_push, get_or-set_same, get_or-set_other}
-use Rattle.std.proofs.lemmas.List.Elements.{filter-append}
 use Rattle.std.proofs.lemmas.Nat.Bits.{bit_at-trailing_zeros, bit_at-zero, bit_at_set_same, bit_at_set_other}
 use Rattle.polis_base.specs.Lists.{upto}
+use Rattle.polis_base.proofs.Lists.{one_more, same_below, none_below}
 use Rattle.outcome_table.specs.inner.RowSets.{IsBoth, has_row, rows_in}
 use Rattle.transition_table.proofs.Bits.{both_bits}
-use Rattle.outcome_table.proofs.Narrowing.{not_below}
-
-one_more : (p : ℕ → Bool) (n : ℕ) → filter p (upto (suc n))
-    ≡ filter p (upto n) ++ cond (p n) (n ∷ []) []
-one_more p n = filter-append p (upto n) (n ∷ [])
-
-pub same_below : (p q : ℕ → Bool) (n : ℕ) → ((k : ℕ) → k < n → p k ≡ q k)
-    → filter p (upto n) ≡ filter q (upto n)
-same_below p q zero h = refl
-same_below p q (suc n) h =
-    one_more p n
-    ∙ ap (λ l. l ++ cond (p n) (n ∷ []) []) (same_below p q n (λ k b. h k (omega arith)))
-    ∙ ap (λ b. filter q (upto n) ++ cond b (n ∷ []) []) (h n (omega arith))
-    ∙ sym (one_more q n)
-
-none_below : (p : ℕ → Bool) (n : ℕ) → ((k : ℕ) → k < n → p k ≡ false) → filter p (upto n) ≡ []
-none_below p zero h = refl
-none_below p (suc n) h =
-    one_more p n
-    ∙ ap (λ l. l ++ cond (p n) (n ∷ []) []) (none_below p n (λ k b. h k (omega arith)))
-    ∙ ap (λ b. cond b (n ∷ []) []) (h n (omega arith))
+use Rattle.outcome_table.proofs.RowsLeft.{not_below}
 
 first_more : (xs ys : List ℕ) (x : ℕ) → slice_get xs 0 ≡ Some x → slice_get (xs ++ ys) 0 ≡ Some x
 first_more [] ys x h = cc

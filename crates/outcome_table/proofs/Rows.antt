@@ -12,7 +12,7 @@ use Rattle.transition_table.specs.Transitions.{code_given, codes_given}
 use Rattle.transition_table.specs.declared.machine.Machine.{Machine}
 use Rattle.transition_table.specs.declared.row.Act.{Act}
 use Rattle.transition_table.specs.declared.row.Row.{Row}
-use Rattle.outcome_table.proofs.Lists.{all_get}
+use Rattle.outcome_table.proofs.ListMaps.{all_get}
 use Rattle.domains.proofs.AllCodes.{long_map}
 
 pub row_fits : (m : Machine) (r : ℕ) (row : Row) → slice_get m.rows r ≡ Some row

@@ -18,7 +18,7 @@ use Rattle.transition_table.specs.declared.row.Source.{Source}
 use Rattle.transition_table.specs.declared.row.Source.TheVariants.{Code, Input, Add}
 use Rattle.outcome_table.specs.inner.Needs.{AreEnds, asks_before, is_before, is_settled, takes_before}
 use Rattle.outcome_table.specs.inner.Numbering.{may_hold, may_be_enabled, rows_left}
-use Rattle.outcome_table.proofs.Starting.{same_outcome}
+use Rattle.outcome_table.proofs.BeginWithRows.{same_outcome}
 
 same_code : (fixed rest : List ℕ) (v : ℕ) → v < length fixed
     → slice_index (fixed ++ rest) v ≡ slice_index fixed v

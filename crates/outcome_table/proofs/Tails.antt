@@ -16,8 +16,8 @@ use Rattle.outcome_table.specs.inner.Numbering.{Adds, BeginWithRows, may_be_enab
 use Rattle.outcome_table.specs.inner.RowSets.{IsBoth, IsSetOf, has_row}
 use Rattle.outcome_table.specs.inner.Tails.{AddsBoth, EachNarrows, Narrows, number_under}
 use Rattle.outcome_table.specs.declared.number.Numbered.{Numbered}
-use Rattle.outcome_table.proofs.Counting.{adds_many, adds_on, same_before}
-use Rattle.outcome_table.proofs.Narrowing.{and_true, filter_places, narrowed, places_same}
+use Rattle.outcome_table.proofs.NumberedOutcomes.{adds_many, adds_on, same_before}
+use Rattle.outcome_table.proofs.RowsLeft.{and_true, filter_places, narrowed, places_same}
 use Rattle.outcome_table.proofs.RowSets.{filter_twice}
 use Rattle.outcome_table.proofs.Settled.{first_left, none_left}
 use Rattle.domains.proofs.AllCodes.{long_map}

@@ -4,6 +4,7 @@ use Rattle.std.specs.List.{list_all}
 use Rattle.domains.specs.AllCodes.{all_codes}
 use Rattle.transition_table.specs.declared.machine.Machine.{Machine}
 use Rattle.transition_table.specs.Computed.{result_codes}
+use Rattle.outcome_table.specs.declared.table.Results.{Results}
 use Rattle.outcome_table.specs.declared.table.Table.{Table}
 
 -- the codes of one variable
@@ -22,6 +23,11 @@ named outcomes numbers = map (λ k. get_or outcomes k []) numbers
 -- each number is that of an outcome
 abbrev pub are_named : List (List ℕ) → List ℕ → Type 0
 are_named outcomes numbers = IsTrue (list_all (λ k. nat_lt k (length outcomes)) numbers)
+
+-- for each of the machine's snapshots the codes of its results
+pub record AreResultsOf (m : Machine) (r : Results) : Type 0 where
+  pub results : named r.outcomes r.numbers ≡ map (result_codes m) (all_codes m.vars)
+  pub within : are_named r.outcomes r.numbers
 
 -- the snapshots of the machine by their variables, and for each of them the codes of its results
 pub record IsTableOf (m : Machine) (t : Table) : Type 0 where

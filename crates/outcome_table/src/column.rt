@@ -103,7 +103,7 @@ fn column_of(alloc: Global, vars: &VarTable, v: u64) -> Result<Vec<u8>, NoMemory
 }
 
 /// For each variable its codes on all lists of codes, in their order.
-pub(crate) fn columns_of(alloc: Global, vars: &VarTable) -> Result<List<Codes>, NoMemory>
+pub fn columns_of(alloc: Global, vars: &VarTable) -> Result<List<Codes>, NoMemory>
     requires { product vars.now < 2 ^ 63 }
     ensures { IfOk result (AreColumns vars.now) }
 {

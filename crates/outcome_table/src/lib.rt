@@ -3,6 +3,7 @@
 
 mod column;
 mod mask;
+mod narrowing;
 mod need;
 mod number;
 mod outcomes;
@@ -11,5 +12,5 @@ mod row_set;
 mod table;
 mod tail;
 
-pub use column::lists_from;
-pub use table::{Table, table_of};
+pub use column::{columns_of, lists_from};
+pub use table::{Results, Table, results_of, table_of};

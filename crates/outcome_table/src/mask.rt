@@ -1,5 +1,5 @@
 // The codes that rows allow, and the rows that allow a code, as sets that are made once.
-ghost use Rattle.std.specs.Prelude.{◌≡◌, ◌<◌, ◌≤◌, ◌&&◌, ◌==◌, ℕ, nat_lt, length, IfOk, IsTrue};
+ghost use Rattle.std.specs.Prelude.{◌≡◌, ◌<◌, ◌&&◌, ◌==◌, ℕ, length, IfOk, IsTrue};
 ghost use Rattle.std.specs.List.{list_all};
 ghost use Rattle.std.specs.Int.{bit_at};
 ghost use Rattle.transition_table.specs.inner.Masks.{allows_code, IsMask};
@@ -9,7 +9,7 @@ ghost use Rattle.outcome_table.specs.inner.RowSets.{AreAllowed, AreSets};
 use crate::row_set::{RowSet, rows_with};
 use polis_base::{List, NoMemory};
 use std::alloc::Global;
-use transition_table::{Cond, Machine, Row};
+use transition_table::{Cond, Machine, Row, all_codes};
 
 /// A set of codes for each row, one bit each.
 pub(crate) type CodeSets = List<u64>;
@@ -26,14 +26,6 @@ fn allowed(conds: &[Cond], var: u32, codes: u64) -> u64
         }
     }
     left
-}
-
-// All codes of a variable of this size, one bit each.
-fn all_codes(size: u8) -> u64
-    requires { size ≤ 33 }
-    ensures { (code : ℕ) → (bit_at result code == 1) ≡ nat_lt code size }
-{
-    (1 << size) - 1
 }
 
 // The codes of a variable that a row allows.

@@ -3,20 +3,21 @@ ghost use Rattle.std.specs.Prelude.{◌≡◌, ◌<◌, ◌≤◌, map, length, 
 ghost use Rattle.std.specs.List.{list_all};
 ghost use Rattle.domains.specs.AllCodes.{all_codes};
 ghost use Rattle.transition_table.specs.Transitions.{IsSnapshot};
-ghost use Rattle.outcome_table.specs.inner.Needs.{AreEnds, end_left};
+ghost use Rattle.outcome_table.specs.inner.Needs.{end_left};
 ghost use Rattle.outcome_table.specs.inner.Numbering.{Adds, AreCounts, AreRowOutcomes, BeginWithRows, IsNumberAfter, is_fixed, lists_after, rows_left};
 ghost use Rattle.outcome_table.specs.Outcomes.{named, are_named};
-ghost use Rattle.outcome_table.specs.inner.RowSets.{AreAllowed, rows_in};
-ghost use Rattle.outcome_table.specs.inner.Tails.{AreTails, number_under};
+ghost use Rattle.outcome_table.specs.inner.RowSets.{rows_in};
+ghost use Rattle.outcome_table.specs.inner.Tails.{number_under};
 ghost use Rattle.transition_table.specs.Computed.{result_codes};
 
 use crate::column::lists_from;
 use crate::mask::allowed_table;
+use crate::narrowing::Narrowing;
 use crate::need::ends_of;
 use crate::outcomes::Outcomes;
 use crate::row::{are_codes, blank_codes, row_codes};
 use crate::row_set::{RowSet, both, first_of_both, first_rows};
-use crate::tail::{Tails, tails_of};
+use crate::tail::tails_of;
 use domains::{Codes, first_codes};
 use polis_base::{List, NoMemory};
 use std::alloc::Global;
@@ -31,26 +32,9 @@ pub(crate) struct Numbered {
     pub(crate) outcomes: Outcomes,
 }
 
-// What stays while rows are narrowed.
-#[derive(Clone, Copy)]
-struct Narrowing<'a> {
-    machine: &'a Machine,
-    // for each variable and code the rows that allow the code
-    allowed: &'a List<List<RowSet>>,
-    // for each row whether its outcome is the same on all snapshots
-    fixed: &'a List<bool>,
-    // for each row how many variables from the first on it needs
-    ends: &'a List<u64>,
-    // for each variable how many lists of codes there are of those from it on
-    counts: &'a List<u64>,
-    // the rows that allow the codes of the last variables
-    tails: &'a Tails,
-}
-
 // How many variables a row needs, none where there is no row.
 fn end_left(narrowing: &Narrowing, first: Option<u64>) -> u64
-    requires ends { AreEnds narrowing.now.machine.now narrowing.now.ends.now }
-    requires first { IfSome first (λ r. r < length narrowing.now.ends.now) }
+    requires { IfSome first (λ r. r < length narrowing.now.ends.now) }
     ensures end { result ≡ end_left narrowing.now.ends.now first }
     ensures within { result ≤ length narrowing.now.machine.now.vars }
 {
@@ -75,7 +59,6 @@ fn number_after(
     requires first { first
         ≡ slice_get (rows_left narrowing.now.machine.now (take at s.now.codes)) 0 }
     requires begins { BeginWithRows narrowing.now.machine.now narrowing.now.fixed.now outcomes.old }
-    requires ends { AreEnds narrowing.now.machine.now narrowing.now.ends.now }
     requires end { end_left narrowing.now.ends.now first ≤ at }
     ensures kept { IfOk result (λ k. take (length outcomes.old) outcomes.new ≡ outcomes.old) }
     ensures number { IfOk result
@@ -124,9 +107,7 @@ fn number_all(
     requires begins { BeginWithRows narrowing.now.machine.now narrowing.now.fixed.now
         made.old.outcomes }
     requires within { are_named made.old.outcomes made.old.numbers.items }
-    requires ends { AreEnds narrowing.now.machine.now narrowing.now.ends.now }
     requires end { end_left narrowing.now.ends.now first ≤ at }
-    requires counts { AreCounts narrowing.now.machine.now.vars narrowing.now.counts.now }
     ensures { IfOk result (λ done.
         Adds narrowing.now.machine.now made.old made.new
         (lists_after (take at s.now.codes) (drop at narrowing.now.machine.now.vars))) }
@@ -163,9 +144,6 @@ fn number_tails(
     requires begins { BeginWithRows narrowing.now.machine.now narrowing.now.fixed.now
         made.old.outcomes }
     requires within { are_named made.old.outcomes made.old.numbers.items }
-    requires ends { AreEnds narrowing.now.machine.now narrowing.now.ends.now }
-    requires tails { AreTails narrowing.now.machine.now narrowing.now.fixed.now
-        narrowing.now.tails.now }
     ensures { IfOk result (λ done.
         Adds narrowing.now.machine.now made.old made.new
         (lists_after (take narrowing.now.tails.now.from s.now.codes)
@@ -192,14 +170,9 @@ fn number_rest(
     requires at { at < length narrowing.now.machine.now.vars }
     requires snapshot { IsSnapshot narrowing.now.machine.now s.old }
     requires rows { rows_in rows.now ≡ rows_left narrowing.now.machine.now (take at s.old.codes) }
-    requires allowed { AreAllowed narrowing.now.machine.now narrowing.now.allowed.now }
     requires begins { BeginWithRows narrowing.now.machine.now narrowing.now.fixed.now
         made.old.outcomes }
     requires within { are_named made.old.outcomes made.old.numbers.items }
-    requires ends { AreEnds narrowing.now.machine.now narrowing.now.ends.now }
-    requires counts { AreCounts narrowing.now.machine.now.vars narrowing.now.counts.now }
-    requires tails { AreTails narrowing.now.machine.now narrowing.now.fixed.now
-        narrowing.now.tails.now }
     ensures adds { IfOk result (λ done.
         Adds narrowing.now.machine.now made.old made.new
         (lists_after (take at s.old.codes) (drop at narrowing.now.machine.now.vars))) }
@@ -233,14 +206,9 @@ fn number_every(
 ) -> Result<(), NoMemory>
     requires snapshot { IsSnapshot narrowing.now.machine.now s.old }
     requires rows { rows_in rows.now ≡ rows_left narrowing.now.machine.now [] }
-    requires allowed { AreAllowed narrowing.now.machine.now narrowing.now.allowed.now }
     requires begins { BeginWithRows narrowing.now.machine.now narrowing.now.fixed.now
         made.old.outcomes }
     requires within { are_named made.old.outcomes made.old.numbers.items }
-    requires ends { AreEnds narrowing.now.machine.now narrowing.now.ends.now }
-    requires counts { AreCounts narrowing.now.machine.now.vars narrowing.now.counts.now }
-    requires tails { AreTails narrowing.now.machine.now narrowing.now.fixed.now
-        narrowing.now.tails.now }
     ensures { IfOk result (λ done. Adds narrowing.now.machine.now made.old made.new
         (lists_after [] narrowing.now.machine.now.vars)) }
 {

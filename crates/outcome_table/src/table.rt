@@ -1,6 +1,6 @@
 // The table of a machine's outcomes.
 ghost use Rattle.std.specs.Prelude.{IfOk};
-ghost use Rattle.outcome_table.specs.Outcomes.{IsTableOf};
+ghost use Rattle.outcome_table.specs.Outcomes.{AreResultsOf, IsTableOf};
 
 use crate::column::columns_of;
 use crate::number::numbers_of;
@@ -22,16 +22,36 @@ pub struct Table {
     pub outcomes: List<Codes>,
 }
 
-/// The table of a machine: its rows are narrowed variable by variable, as far as the first row that
-/// is left needs, so that no row is tried on each snapshot.
+/// The same without the snapshots' codes.
+#[derive(Drop)]
+pub struct Results {
+    /// For each snapshot the number of its outcome.
+    pub numbers: List<u64>,
+    /// For each number of an outcome the codes of the results.
+    pub outcomes: List<Codes>,
+}
+
+/// The results of a machine: its rows are narrowed variable by variable, as far as the first row
+/// that is left needs, so that no row is tried on each snapshot.
+pub fn results_of(alloc: Global, m: &Machine) -> Result<Results, NoMemory>
+    ensures { IfOk result (AreResultsOf m.now) }
+{
+    let numbered = numbers_of(alloc, m)?;
+    Ok(Results {
+        numbers: List::of(numbered.numbers),
+        outcomes: numbered.outcomes.into_list(),
+    })
+}
+
+/// The table of a machine, which is its results and the codes of its snapshots.
 pub fn table_of(alloc: Global, m: &Machine) -> Result<Table, NoMemory>
     ensures { IfOk result (IsTableOf m.now) }
 {
     let codes = columns_of(alloc, &m.vars)?;
-    let numbered = numbers_of(alloc, m)?;
+    let results = results_of(alloc, m)?;
     Ok(Table {
         codes,
-        numbers: List::of(numbered.numbers),
-        outcomes: numbered.outcomes.into_list(),
+        numbers: results.numbers,
+        outcomes: results.outcomes,
     })
 }

@@ -6,7 +6,7 @@ use Rattle.polis_base.specs.declared.token.LexError.{LexError}
 use Rattle.polis_base.specs.declared.lex.Scan.{Scan}
 use Rattle.polis_base.specs.declared.lex.Scan.TheVariants.{Skipped, Read, Faulty}
 use Rattle.polis_base.specs.Tokens.{scan, bytes_in, mark, marked, marked_from, marked_after}
-use Rattle.polis_base.proofs.Reading.{drop_first}
+use Rattle.polis_base.proofs.TokensFrom.{drop_first}
 
 -- the first bytes are passed over
 passed : (at n : ℕ) (bytes : List ℕ)

@@ -2,6 +2,7 @@ pub mod Digits
 pub mod Faults
 pub mod Host
 pub mod Index
+pub mod Lines
 pub mod Lists
 pub mod Memory
 pub mod NameFields

@@ -1,8 +1,8 @@
-pub mod Capped
-pub mod Least
-pub mod Moved
-pub mod Ordering
-pub mod Parts
+pub mod CappedProducts
+pub mod LeastPlace
+pub mod AreLocals
+pub mod IsBefore
+pub mod FoundInParts
 pub mod Plain
-pub mod Repeating
+pub mod RepeatedSorted
 pub mod Repeats

@@ -9,7 +9,7 @@ use Rattle.domains.specs.Names.{is_same}
 use Rattle.net_reader.specs.declared.raw.Word.{Word}
 use Rattle.net_names.specs.Numbers.{missing, repeated, is_name_of}
 use Rattle.net_names.specs.Places.{unless, sooner, least_place}
-use Rattle.rule_judge.proofs.Least.{sooner-least, sooner-missing, item-first}
+use Rattle.rule_judge.proofs.LeastPlace.{sooner-least, sooner-missing, item-first}
 
 or-false : (b : Bool) → (b || false) ≡ b
 or-false true = refl

@@ -1,18 +1,7 @@
 -- Lists of rows with the same conditions and actions are the same.
-use Rattle.std.proofs.Common.{◌≡◌, [], ◌∷◌, List, map, IsTrue, refl}
-use mathlib.Core.HLevel.{is_prop→PathP}
-use mathlib.Core.Bool.{Bool-set}
+use Rattle.std.proofs.Common.{◌≡◌, [], ◌∷◌, List, map, refl}
 use Rattle.transition_table.specs.declared.row.Row.{Row}
-use Rattle.transition_table.specs.RowFacts.{are_actions}
-
-same_row : (a b : Row) → a.conds ≡ b.conds → a.acts ≡ b.acts → a ≡ b
-same_row a b p q =
-    λ i. record {
-      conds = p i;
-      acts = q i;
-      actions = is_prop→PathP (λ j. IsTrue (are_actions (q j))) (λ j. Bool-set _ _) a.actions
-          b.actions i;
-    }
+use Rattle.transition_table.proofs.SameData.{same_row}
 
 pub same_rows : (xs ys : List Row) → map (λ (r : Row). r.conds) xs ≡ map (λ (r : Row). r.conds) ys
     → map (λ (r : Row). r.acts) xs ≡ map (λ (r : Row). r.acts) ys → xs ≡ ys

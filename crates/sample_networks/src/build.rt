@@ -6,6 +6,7 @@ ghost use Rattle.domains.specs.Tables.{are_sizes};
 ghost use Rattle.transition_table.specs.MachineFacts.{are_vars, are_results, is_row, is_small};
 ghost use Rattle.transition_table.specs.RowFacts.{are_actions};
 ghost use Rattle.transition_table.specs.samples.Parts.{has_codes, gives as gives_code, pure_event as the_pure_event, state_of};
+ghost use Rattle.sample_networks.specs.inner.Built.{IsBuilt};
 
 use domains::VarTable;
 use polis_base::{List, Name, NoMemory};
@@ -111,14 +112,8 @@ pub fn machine(
         tables.1.now) }
     requires rows { IsTrue (list_all (is_row events.0.now tables.0.now tables.1.now) rows) }
     requires small { IsTrue (is_small events.0.now events.1.now states tables.0.now rows) }
-    ensures name { IfOk result (λ m. m.name ≡ text.now) }
-    ensures priority { IfOk result (λ m. m.priority ≡ priority) }
-    ensures inputs { IfOk result (λ m. m.inputs ≡ events.entry.0.now) }
-    ensures outputs { IfOk result (λ m. m.outputs ≡ events.entry.1.now) }
-    ensures states { IfOk result (λ m. m.states ≡ states) }
-    ensures vars { IfOk result (λ m. m.vars ≡ tables.entry.0.now) }
-    ensures results { IfOk result (λ m. m.results ≡ tables.entry.1.now) }
-    ensures rows { IfOk result (λ m. m.rows ≡ rows) }
+    ensures { IfOk result (λ m. IsBuilt m text.now priority events.entry.0.now events.entry.1.now
+        states tables.entry.0.now tables.entry.1.now rows) }
 {
     Ok(Machine {
         name: Name::of_token(text),

@@ -1,4 +1,4 @@
-pub mod Ordered
-pub mod Single
-pub mod Steps
-pub mod Woken
+pub mod IsPlanOf
+pub mod HasOneRow
+pub mod RunSteps
+pub mod FirstOfPlan

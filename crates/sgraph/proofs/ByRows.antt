@@ -8,7 +8,7 @@ use Rattle.transition_table.specs.Orders.{sizes_of, Allowed}
 use Rattle.transition_table.specs.Transitions.{IsDeterministic}
 use Rattle.decision_diagram.specs.Diagrams.{Diagrams, AreReduced, Means, value_of}
 use Rattle.sgraph.specs.Built.{IsDiagram}
-use Rattle.decision_diagram.proofs.Counting.{iff_same}
+use Rattle.decision_diagram.proofs.CountIsSize.{iff_same}
 
 -- the root's value is the function that reads the rows
 pub record IsDiagramByRows (m : Machine) (s : Diagrams) (root : ℕ) : Type 0 where

@@ -9,7 +9,7 @@ use Rattle.sgraph.specs.Graphs.{kids_of}
 use Rattle.sgraph.specs.Laws.{EdgesMakeGraph, FitsByTest}
 use Rattle.sgraph.specs.Walks.{fits_one}
 use Rattle.sgraph.proofs.Edges.{edges_order, got_all}
-use Rattle.sgraph.proofs.Keeping.{once_assigned}
+use Rattle.sgraph.proofs.IsGraph.{once_assigned}
 
 well_at : (count k i : ℕ) (vs : List Vertex) (v : Vertex) → stand_well count k vs ≡ true
     → slice_get vs i ≡ Some v → stands_well count (k + i) v ≡ true
@@ -131,7 +131,7 @@ edges_make_graph n order g rises ok =
 pub fits_by_test : FitsByTest
 fits_by_test m g h = record {
   tests = λ k var kids is.
-      let one = got_all (fits_one m.vars (length m.results)) g k (Test var kids) h is in
+      let one = got_all (fits_one m.vars m.results) g k (Test var kids) h is in
       let parts = and_parts (ltb var (length m.vars)) (eqb (length kids) (slice_index m.vars var))
       one in (
         ltb-true var (length m.vars) parts.0,
@@ -139,5 +139,10 @@ fits_by_test m g h = record {
       );
   assigns = λ k result code next is.
       ltb-true result (length m.results)
-      (got_all (fits_one m.vars (length m.results)) g k (Assign result code next) h is);
+      (and_parts (ltb result (length m.results)) (ltb code (slice_index m.results result))
+      (got_all (fits_one m.vars m.results) g k (Assign result code next) h is)).0;
+  codes = λ k result code next is.
+      ltb-true code (slice_index m.results result)
+      (and_parts (ltb result (length m.results)) (ltb code (slice_index m.results result))
+      (got_all (fits_one m.vars m.results) g k (Assign result code next) h is)).1;
 }

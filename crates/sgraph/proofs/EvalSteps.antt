@@ -11,7 +11,7 @@ use Rattle.sgraph.specs.Graphs.{next_of, walk, assign, assign_all, Eval}
 use Rattle.sgraph.specs.Facts.{IsGraph}
 use Rattle.sgraph.specs.Walks.{AreOfOne, outcome_with, width_of}
 use Rattle.sgraph.specs.inner.Walks.{MayWalk}
-use Rattle.sgraph.proofs.Walking.{Onward, trail_at}
+use Rattle.sgraph.proofs.Trails.{Onward, trail_at}
 use Rattle.sgraph.proofs.Outcomes.{mk, zeros, drop_more, long_results}
 use Rattle.domains.proofs.Ranks.{length-fits}
 use Rattle.transition_table.proofs.Ranges.{below_size}

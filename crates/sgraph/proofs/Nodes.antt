@@ -1,7 +1,7 @@
 -- Inner nodes by their numbers, and what reading a variable does.
 use Rattle.std.proofs.Common.{◌≡◌, ℕ, ◌+◌, ◌-◌, ◌<◌, ◌≤◌, List, length, get_or, slice_get, Some, sym, ap, ◌∙◌, arith}
 use Rattle.decision_diagram.specs.Diagrams.{Node, inner_at}
-use Rattle.decision_diagram.proofs.Lists.{read_some}
+use Rattle.decision_diagram.proofs.ListItems.{read_some}
 use Rattle.decision_diagram.proofs.Nodes.{inner_high}
 
 -- what stands at an inner node's place

@@ -1,17 +1,10 @@
 -- An outcome by the codes of its results, and back.
-use Rattle.std.proofs.Common.{◌≡◌, ℕ, zero, suc, ◌+◌, Bool, true, false, cond, ◌==◌, List, ◌∷◌, ◌++◌, take, drop, length, refl, ap, sym, ◌∙◌, arith, []}
+use Rattle.std.proofs.Common.{◌≡◌, ℕ, suc, ◌+◌, Bool, true, false, cond, ◌==◌, ◌++◌, take, drop, length, refl, ap, sym, ◌∙◌, arith}
 use Rattle.transition_table.specs.declared.machine.Machine.{Machine}
 use Rattle.transition_table.specs.declared.snapshot.Outcome.{Outcome}
 use Rattle.transition_table.specs.Orders.{codes_of}
 use Rattle.sgraph.specs.Graphs.{with_codes}
-use Rattle.decision_diagram.proofs.Joined.{drop_prefix}
-
-pub take_prefix : {X : Type 0} (xs ys : List X) (n : ℕ) → n ≡ length xs → take n (xs ++ ys) ≡ xs
-take_prefix [] ys zero e = refl
-take_prefix [] ys (suc n) e = absurd (omega arith)
-take_prefix (x ∷ xs) ys zero e = absurd (omega arith)
-take_prefix {X = X} (x ∷ xs) ys (suc n) e =
-    ap (λ (zs : List X). x ∷ zs) (take_prefix xs ys n (omega arith))
+use Rattle.polis_base.proofs.Lists.{take_prefix, drop_prefix}
 
 fires_back : (b : Bool) → (cond b 1 0 == 1) ≡ b
 fires_back true = refl

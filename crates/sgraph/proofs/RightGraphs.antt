@@ -7,14 +7,14 @@ use Rattle.sgraph.specs.Building.{graph_of, nodes_left, number_in}
 use Rattle.sgraph.specs.Graphs.{kids_in, kids_at, each, left_after}
 use Rattle.sgraph.specs.Laws.{BuiltIsRight, GraphIsBuilt, GraphIsRight, NumberedGoesOn}
 use Rattle.sgraph.proofs.ByRows.{by_rows}
-use Rattle.sgraph.proofs.Deepening.{built_rises, built_reduced, built_fits}
+use Rattle.sgraph.proofs.BuiltReduced.{built_rises, built_reduced, built_fits}
 use Rattle.sgraph.proofs.Edges.{edges_order, edges_once}
-use Rattle.sgraph.proofs.Evaluated.{built_evaluates}
-use Rattle.sgraph.proofs.Keeping.{is_graph}
-use Rattle.sgraph.proofs.Known.{Below}
-use Rattle.decision_diagram.proofs.Along.{index_upto}
-use Rattle.sgraph.proofs.Numbering.{built, goes_on, numbered}
-use Rattle.sgraph.proofs.Resulting.{has_results}
+use Rattle.sgraph.proofs.BuiltEvaluates.{built_evaluates}
+use Rattle.sgraph.proofs.IsGraph.{is_graph}
+use Rattle.sgraph.proofs.Below.{Below}
+use Rattle.decision_diagram.proofs.ByVariable.{index_upto}
+use Rattle.sgraph.proofs.NumberedGraph.{built, goes_on, numbered}
+use Rattle.sgraph.proofs.HasResults.{has_results}
 
 pub built_is_right : Below → BuiltIsRight
 built_is_right below m s root g number exact made =

@@ -73,5 +73,5 @@ NumberedGoesOn = (g : List Vertex) → IsGraph g → Numbered g → GoesOn g
 abbrev pub FitsByTest : Type 0
 FitsByTest =
     (m : Machine) (g : List Vertex)
-    → IsTrue (list_all (fits_one m.vars (length m.results)) g)
+    → IsTrue (list_all (fits_one m.vars m.results) g)
     → FitsMachine m g

@@ -7,8 +7,8 @@ use Rattle.transition_table.specs.Transitions.{IsSnapshot, blank as blank_of}
 use Rattle.sgraph.specs.declared.vertex.Vertex.{Vertex}
 use Rattle.sgraph.specs.declared.vertex.Vertex.TheVariants.{Begin, Test, Assign, End}
 
--- the graph's tests have one child for each code of a variable of the machine, and its results are
--- the machine's
+-- the graph's tests have one child for each code of a variable of the machine, its results are the
+-- machine's, and each gets one of its codes
 pub record FitsMachine (m : Machine) (g : List Vertex) : Type 0 where
   pub tests :
       (k var : ℕ) (kids : List ℕ)
@@ -18,13 +18,18 @@ pub record FitsMachine (m : Machine) (g : List Vertex) : Type 0 where
       (k result code next : ℕ)
       → slice_get g k ≡ Some (Assign result code next)
       → result < length m.results
+  pub codes :
+      (k result code next : ℕ)
+      → slice_get g k ≡ Some (Assign result code next)
+      → code < slice_index m.results result
 
--- a vertex that a graph of a machine with these variables and so many results may have
-abbrev pub fits_one : List ℕ → ℕ → Vertex → Bool
+-- a vertex that a graph of a machine with these variables and results may have
+abbrev pub fits_one : List ℕ → List ℕ → Vertex → Bool
 fits_one vars results (Begin next) = true
 fits_one vars results (Test var kids) =
     nat_lt var (length vars) && length kids == slice_index vars var
-fits_one vars results (Assign result code next) = nat_lt result results
+fits_one vars results (Assign result code next) =
+    nat_lt result (length results) && nat_lt code (slice_index results result)
 fits_one vars results End = true
 
 -- a graph and a snapshot fit one machine, and the outcome is its blank one

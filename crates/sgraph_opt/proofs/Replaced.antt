@@ -8,13 +8,13 @@ use Rattle.sgraph.specs.Graphs.{kids_of, kids_at, each, left_after}
 use Rattle.sgraph.specs.inner.Marks.{turned}
 use Rattle.sgraph_opt.specs.inner.Representatives.{renamed, Standing}
 use Rattle.sgraph_opt.specs.inner.Renumbering.{replaced, vertex_at}
-use Rattle.sgraph_opt.proofs.Again.{kids_renamed, map_map}
-use Rattle.sgraph_opt.proofs.Arranging.{vertex_is}
-use Rattle.sgraph_opt.proofs.Departing.{kids_here, left_next, kid_inside}
-use Rattle.sgraph.proofs.Following.{got}
+use Rattle.sgraph_opt.proofs.NumberedOf.{kids_renamed, map_map}
+use Rattle.sgraph_opt.proofs.VerticesLeft.{vertex_is}
+use Rattle.sgraph_opt.proofs.LeftAfter.{kids_here, left_next, kid_inside}
+use Rattle.sgraph.proofs.NextNodes.{got}
 use Rattle.sgraph_opt.proofs.Standing.{got_map, rises}
 use Rattle.sgraph.proofs.EvalSteps.{got_some}
-use Rattle.decision_diagram.proofs.Along.{index_map}
+use Rattle.decision_diagram.proofs.ByVariable.{index_map}
 
 pub long_replaced : (g : List Vertex) (reps : List ℕ) → length (replaced g reps) ≡ length g
 long_replaced g reps = length-map g (renamed (slice_index reps))

@@ -8,9 +8,9 @@ use Rattle.sgraph_opt.specs.inner.Shrinking.{Shrinks}
 use Rattle.sgraph.specs.Facts.{IsGraph}
 use Rattle.sgraph_opt.specs.inner.Representatives.{renamed, IsTwin, IsRep, Standing}
 use Rattle.sgraph_opt.specs.inner.Renumbering.{Rises}
-use Rattle.sgraph.proofs.Following.{got}
-use Rattle.sgraph.proofs.Graphing.{set_here, set_there, set_long, long_zeros, map_numbers}
-use Rattle.decision_diagram.proofs.Lists.{read_within}
+use Rattle.sgraph.proofs.NextNodes.{got}
+use Rattle.sgraph.proofs.GraphOf.{set_here, set_there, set_long, long_zeros, map_numbers}
+use Rattle.decision_diagram.proofs.ListItems.{read_within}
 
 pub map_push : (f : ℕ → ℕ) (xs : List ℕ) (x : ℕ) → map f (xs ++ x ∷ []) ≡ map f xs ++ f x ∷ []
 map_push f [] x = refl

@@ -15,7 +15,7 @@ abbrev pub Reached : List Vertex → ℕ → Type 0
 Reached g k = IsTrue (has (all_left g) k)
 
 -- the vertices that are reached may be a machine's: each test has one child for each code of a
--- variable of it, each assignment a result of it
+-- variable of it, each assignment a result of it and one of its codes
 pub record FitsReached (m : Machine) (g : List Vertex) : Type 0 where
   pub tests :
       (k var : ℕ) (kids : List ℕ)
@@ -27,6 +27,11 @@ pub record FitsReached (m : Machine) (g : List Vertex) : Type 0 where
       → Reached g k
       → slice_get g k ≡ Some (Assign result code next)
       → result < length m.results
+  pub codes :
+      (k result code next : ℕ)
+      → Reached g k
+      → slice_get g k ≡ Some (Assign result code next)
+      → code < slice_index m.results result
 
 -- along each path of them the variables and results come in the order's order
 abbrev pub OrderedReached : ℕ → List ℕ → List Vertex → Type 0

@@ -8,8 +8,8 @@ use Rattle.task_code.specs.declared.instr.Instr.TheVariants.{Test, Set, Goto, Ha
 use Rattle.task_code.specs.Codes.{width, given_before, start, given_by}
 use Rattle.sgraph.specs.Facts.{IsGraph}
 use Rattle.task_code.specs.Facts.{FitsAt, IsCode}
-use Rattle.task_code.proofs.Laying.{laid, located, long_laid, start_next, start_rises, start_later, instr_at}
-use Rattle.sgraph.proofs.Keeping.{there_is}
+use Rattle.task_code.proofs.LaidOut.{laid, located, long_laid, start_next, start_rises, start_later, instr_at}
+use Rattle.sgraph.proofs.IsGraph.{there_is}
 
 -- ---- its layout
 

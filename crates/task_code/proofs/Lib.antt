@@ -1,9 +1,9 @@
-pub mod Laying
-pub mod Lowering
+pub mod LaidOut
+pub mod Lowered
 pub mod LayoutIsCode
-pub mod Mirrored
-pub mod Reading
-pub mod Labelling
+pub mod CodePaths
+pub mod Starts
+pub mod Labels
 pub mod LabelSteps
-pub mod Printing
+pub mod NumberedLines
 pub mod Lamps

@@ -1,6 +1,7 @@
 -- Listings of compiled machines.
 use Rattle.std.specs.Prelude.{ℕ, suc, ◌+◌, List, [], ◌∷◌, ◌++◌, map, length, flat_map, slice_get, option_map, unwrap_or, codes, decimal}
 use Rattle.std.specs.List.{join_by}
+use Rattle.polis_base.specs.Lines.{line}
 use Rattle.transition_table.specs.declared.machine.Machine.{Machine}
 use Rattle.transition_table.specs.declared.network.Network.{Network}
 use Rattle.sgraph.specs.declared.vertex.Vertex.{Vertex}
@@ -16,9 +17,6 @@ pub record Part : Type 0 where
   pub count : ℕ
   pub graph : List Vertex
   pub code : List Instr
-
-abbrev pub line : List ℕ → List ℕ
-line text = text ++ 10 ∷ []
 
 -- numbers in decimal, each after a space
 abbrev pub numbers : List ℕ → List ℕ

@@ -1,10 +1,11 @@
 -- The lamp's graphs and their code, and its listing.
 use Rattle.std.specs.Prelude.{ℕ, List, [], ◌∷◌, ◌++◌, codes}
+use Rattle.polis_base.specs.Lines.{line}
 use Rattle.sgraph.specs.declared.vertex.Vertex.{Vertex}
 use Rattle.sgraph.specs.declared.vertex.Vertex.TheVariants.{Begin, Test as Tests, Assign, End}
 use Rattle.task_code.specs.declared.instr.Instr.{Instr}
 use Rattle.task_code.specs.declared.instr.Instr.TheVariants.{Test, Set, Goto, Halt}
-use Rattle.task_code.specs.Listings.{Part, line}
+use Rattle.task_code.specs.Listings.{Part}
 
 -- press, s, go, s, light
 abbrev pub lamp_order : List ℕ

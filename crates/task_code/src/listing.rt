@@ -1,8 +1,9 @@
 // A machine's part of the listing.
 ghost use Rattle.std.specs.Prelude.{◌≡◌, ◌+◌, ◌<◌, ◌++◌, ◌∷◌, drop, length, decimal, codes, IfOk, OnOk, OnErr};
 ghost use Rattle.std.specs.List.{join_by};
+ghost use Rattle.polis_base.specs.Lines.{line};
 ghost use Rattle.transition_table.specs.Transitions.{OfMachine};
-ghost use Rattle.task_code.specs.Listings.{line, numbers, event_name, label, vertex_words, instr_words, numbered_lines, part_text};
+ghost use Rattle.task_code.specs.Listings.{numbers, event_name, label, vertex_words, instr_words, numbered_lines, part_text};
 ghost use Rattle.task_code.specs.Labels.{part_of};
 ghost use Rattle.task_code.specs.inner.Labels.{AreLabels, result_label, others, head_text, diagram_text, count_text};
 

@@ -11,9 +11,9 @@ use Rattle.task_machine.specs.Running.{AreOfOne}
 use Rattle.task_machine.specs.inner.Running.{MayRun}
 use Rattle.task_code.specs.Facts.{FitsAt, IsCode}
 use Rattle.sgraph.specs.Walks.{outcome_with, width_of}
-use Rattle.task_machine.proofs.Executing.{IsRunnable, Going, going_start, going_on, going_ends}
+use Rattle.task_machine.proofs.Executed.{IsRunnable, Going, going_start, going_on, going_ends}
 use Rattle.sgraph.proofs.Outcomes.{mk, drop_more, long_results}
-use Rattle.sgraph.proofs.Graphing.{long_zeros}
+use Rattle.sgraph.proofs.GraphOf.{long_zeros}
 use Rattle.domains.proofs.Ranks.{length-fits}
 use Rattle.transition_table.proofs.Ranges.{below_size}
 

@@ -9,8 +9,8 @@ use Rattle.sgraph.specs.Graphs.{next_of, walk, assign, assign_all, GoesOn}
 use Rattle.task_code.specs.declared.instr.Instr.{Instr}
 use Rattle.task_code.specs.declared.instr.Instr.TheVariants.{Test, Set, Goto, Halt}
 use Rattle.task_code.specs.Codes.{goes_to, executed, set_all, width, given_before, start, given_by, laid_out}
-use Rattle.task_code.proofs.Laying.{start_next, long_given, start_rises}
-use Rattle.sgraph.proofs.Walking.{passed}
+use Rattle.task_code.proofs.LaidOut.{start_next, long_given, start_rises}
+use Rattle.sgraph.proofs.Trails.{passed}
 
 -- ---- trails
 -- the place is none before this one

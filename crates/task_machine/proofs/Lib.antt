@@ -1,8 +1,8 @@
-pub mod Executing
+pub mod Executed
 pub mod ExecSteps
-pub mod Reacting
+pub mod GiveOutcomes
 pub mod Layouts
-pub mod Bounds
-pub mod Fits
+pub mod StepBounds
+pub mod CodeFits
 pub mod LoweredLaws
 pub mod Lamps

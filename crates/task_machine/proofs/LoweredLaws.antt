@@ -1,15 +1,16 @@
 -- The laws, put together.
 use Rattle.std.proofs.Common.{◌≤◌, List, length, replicate, sym, subst, arith, ap}
 use Rattle.transition_table.specs.Transitions.{Transition, reading}
+use Rattle.transition_table.proofs.FewItems.{few_items}
 use Rattle.sgraph.specs.Laws.{NumberedGoesOn}
 use Rattle.sgraph.specs.Graphs.{with_codes}
 use Rattle.task_code.specs.declared.instr.Instr.{Instr}
 use Rattle.task_code.specs.Codes.{start, Exec, StepsOf}
 use Rattle.task_machine.specs.Running.{CodeFits}
 use Rattle.task_machine.specs.Laws.{LoweredFits, LoweredComputes, FewSteps}
-use Rattle.task_machine.proofs.Fits.{layout_fits}
+use Rattle.task_machine.proofs.CodeFits.{layout_fits}
 use Rattle.task_machine.proofs.Layouts.{same_codes}
-use Rattle.task_machine.proofs.Bounds.{steps_by_items, few_items}
+use Rattle.task_machine.proofs.StepBounds.{steps_by_items}
 
 pub lowered_fits : LoweredFits
 lowered_fits m g c is fit = subst (CodeFits m) (sym is) (layout_fits m g fit (start g))

@@ -7,8 +7,8 @@ use Rattle.transition_table.specs.Transitions.{IsSnapshot, HasWidths}
 use Rattle.task_code.specs.declared.instr.Instr.{Instr}
 use Rattle.task_code.specs.declared.instr.Instr.TheVariants.{Test, Set}
 
--- the code's tests have one target for each code of a variable of the machine, and its results are
--- the machine's
+-- the code's tests have one target for each code of a variable of the machine, its results are the
+-- machine's, and each gets one of its codes
 pub record CodeFits (m : Machine) (c : List Instr) : Type 0 where
   pub tests :
       (k var : ℕ) (targets : List ℕ)
@@ -18,6 +18,10 @@ pub record CodeFits (m : Machine) (c : List Instr) : Type 0 where
       (k result code : ℕ)
       → slice_get c k ≡ Some (Set result code)
       → result < length m.results
+  pub codes :
+      (k result code : ℕ)
+      → slice_get c k ≡ Some (Set result code)
+      → code < slice_index m.results result
 
 -- code, a snapshot and an outcome fit one machine
 pub record AreOfOne (c : List Instr) (s : Snapshot) (o : Outcome) : Type 0 where

@@ -1,6 +1,8 @@
 // A reactor that runs code.
 ghost use Rattle.std.specs.Prelude.{◌≡◌, ◌<◌, length, slice_get, Some};
 ghost use Rattle.transition_table.specs.Transitions.{AreDeterministic};
+ghost use Rattle.transition_table.specs.declared.machine.Machine.{Machine};
+ghost use Rattle.task_machine.specs.Running.{CodeFits};
 ghost use Rattle.task_machine.specs.Tasks.{AreTasks, GiveOutcomes};
 
 use crate::running::run;
@@ -32,7 +34,9 @@ impl<'a> TaskReactor<'a> {
     /// The code of a machine.
     pub fn code(&self, m: u32) -> &Code
         requires { m < length self.now.net.now.machines }
-        ensures { slice_get self.now.codes m ≡ Some result.now }
+        ensures is { slice_get self.now.codes m ≡ Some result.now }
+        ensures fits { (machine : Machine) → slice_get self.now.net.now.machines m ≡ Some machine
+            → CodeFits machine result.now }
     {
         self.codes.get(u64::from(m))
     }

@@ -1,5 +1,5 @@
 // Running code.
-ghost use Rattle.std.specs.Prelude.{◌≡◌, ℕ, List, length, replicate};
+ghost use Rattle.std.specs.Prelude.{◌≡◌, ◌≤◌, ℕ, List, length, replicate};
 ghost use Rattle.transition_table.specs.declared.machine.Machine.{Machine};
 ghost use Rattle.transition_table.specs.Transitions.{HasWidths};
 ghost use Rattle.sgraph.specs.Walks.{outcome_with, width_of};
@@ -62,6 +62,7 @@ pub fn run(code: &Code, s: &Snapshot, o: &mut Outcome) -> u64
     ensures outcome { (m : Machine) → HasWidths m o.old → o.new ≡ Exec m code.now s.now.codes }
     ensures widths { (m : Machine) → HasWidths m o.old → HasWidths m o.new }
     ensures steps { result ≡ StepsOf code.now s.now.codes }
+    ensures few { result ≤ length code.now }
 {
     make_blank(o);
     let count = code.len();

@@ -1,5 +1,5 @@
-pub mod Cuts
-pub mod Finds
+pub mod Pieces
+pub mod IsSentEvent
 pub mod Items
 pub mod Lines
-pub mod Numbering
+pub mod EventNumbers

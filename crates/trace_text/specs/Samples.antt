@@ -1,6 +1,6 @@
 -- Trace texts. LF is byte 10, CR is byte 13, tab is byte 9.
 use Rattle.std.specs.Prelude.{ℕ, List, [], ◌∷◌, ◌++◌, codes}
-use Rattle.journal_text.specs.Texts.{line}
+use Rattle.polis_base.specs.Lines.{line}
 
 -- a tab before a word and a CR after it, a comment, an empty line, a line of spaces and a comment,
 -- `settle`, and a last line without its LF

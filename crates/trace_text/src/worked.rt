@@ -1,12 +1,12 @@
 // The worked texts: what the definition says of small trace texts.
 ghost use Rattle.std.specs.Prelude.{◌≡◌, [], ◌∷◌, ◌++◌, Ok, Err, codes};
+ghost use Rattle.polis_base.specs.Lines.{line};
 ghost use Rattle.journals.specs.Samples.{lamp, value};
 ghost use Rattle.journals.specs.declared.entry.TraceItem.{TraceItem};
 ghost use Rattle.trace_text.specs.Traces.{trace_of};
 ghost use Rattle.trace_text.specs.Samples.{mixed};
 ghost use Rattle.trace_text.specs.declared.fault.TraceFault.{TraceFault};
 ghost use Rattle.trace_text.specs.declared.fault.TraceKind.{TraceKind};
-ghost use Rattle.journal_text.specs.Texts.{line};
 
 /// The definition reads the worked texts: a lamp has the pure event `press` from the environment
 /// and `light` to it, and in the other network `v` from the environment has the values 0 to 7.

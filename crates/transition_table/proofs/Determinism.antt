@@ -12,7 +12,7 @@ use Rattle.transition_table.specs.declared.machine.Machine.{Machine}
 use Rattle.transition_table.specs.declared.snapshot.Snapshot.{Snapshot}
 use Rattle.transition_table.specs.declared.snapshot.Outcome.{Outcome}
 use Rattle.transition_table.proofs.Ranges.{acts_of, row_there, is_present}
-use Rattle.transition_table.proofs.Given.{outcome_fits, length-codes_given}
+use Rattle.transition_table.proofs.CodesGiven.{outcome_fits, length-codes_given}
 use Rattle.transition_table.proofs.Rows.{past_rows, blank_of}
 
 pub one_row : OneRow

@@ -117,3 +117,15 @@ pub record AreSameNetworks (a b : Network) : Type 0 where
 
 abbrev pub SameNetwork : Type 0
 SameNetwork = (a b : Network) → AreSameNetworks a b → a ≡ b
+
+-- What follows from the definitions.
+pub record TransitionLaws : Type 0 where
+  pub one_row : OneRow
+  pub no_conflicts : NoConflicts
+  pub some_outcome : SomeOutcome
+  pub have_widths : HaveWidths
+  pub codes_fit : CodesFit
+  pub idle_is_blank : IdleIsBlank
+  pub one_outcome : OneOutcome
+  pub transition_fits : TransitionFits
+  pub inputs_are_present : InputsArePresent

@@ -1,17 +1,9 @@
 // Laws of the definitions.
-ghost use Rattle.transition_table.specs.Laws.{OneRow, NoConflicts, SomeOutcome, HaveWidths, CodesFit, IdleIsBlank, OneOutcome, TransitionFits, InputsArePresent, OutcomeByRows, OnlyByRows, ResultsFit, CharByTest, SupportByTest, SameOnSupport, SameRow, SameMachine, SameNetwork};
+ghost use Rattle.transition_table.specs.Laws.{OutcomeByRows, OnlyByRows, ResultsFit, CharByTest, SupportByTest, SameOnSupport, SameRow, SameMachine, SameNetwork, TransitionLaws};
 
 /// What follows from the definitions.
 pub fn laws()
-    ensures one_row { OneRow }
-    ensures no_conflicts { NoConflicts }
-    ensures some_outcome { SomeOutcome }
-    ensures have_widths { HaveWidths }
-    ensures codes_fit { CodesFit }
-    ensures idle_is_blank { IdleIsBlank }
-    ensures one_outcome { OneOutcome }
-    ensures transition_fits { TransitionFits }
-    ensures inputs_are_present { InputsArePresent }
+    ensures { TransitionLaws }
 {}
 
 /// That what is computed from the rows is what the relations say.

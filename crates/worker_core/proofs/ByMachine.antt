@@ -14,8 +14,8 @@ use Rattle.worker_core.specs.declared.state.Hand.{Hand}
 use Rattle.worker_core.specs.ByMachine.{ReactsAlone, LandsAlone, FreesAlone, ReactsByMachine, LandsByMachine, FreesByMachine}
 use Rattle.worker_core.specs.Cores.{CoreState, log_of, hand_of, may_react, reacting, reacted, hand_after, may_land, landing, with_entry, landed, land, freed, free}
 use Rattle.worker_core.specs.Facts.{IsCore}
-use Rattle.worker_core.proofs.Gaining.{due_inside}
-use Rattle.worker_core.proofs.Stepping.{woken_inside, hand_inside, some_when}
+use Rattle.worker_core.proofs.StepGains.{due_inside}
+use Rattle.worker_core.proofs.IsCore.{woken_inside, hand_inside, some_when}
 
 reacts_alone : (net : Network) (trace : List TraceItem) (state : CoreState) (m : ℕ)
     → IsCore net trace state → may_react m (log_of state m) (hand_of state m) ≡ true

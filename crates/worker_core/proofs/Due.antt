@@ -19,7 +19,7 @@ use Rattle.journals.specs.Laws.{may_arrive}
 use Rattle.journals.specs.Schedules.{receivers_of, deliveries_of, firing_deliveries, trace_deliveries}
 use Rattle.worker_core.specs.Facts.{is_due}
 use Rattle.worker_core.specs.inner.Known.{Known}
-use Rattle.journals.proofs.Sent.{same_party_self}
+use Rattle.journals.proofs.DeliveredBeginsSent.{same_party_self}
 
 abbrev is_from : Party → Owed → Bool
 is_from s d = same_party d.from s

@@ -25,9 +25,9 @@ use Rattle.worker_core.specs.Merges.{put, by_stamp, merged, merged_stamps}
 use Rattle.journals.specs.StampLaws.{not_falling}
 use Rattle.journals.specs.Stamps.{least}
 use Rattle.worker_core.specs.inner.Known.{Known}
-use Rattle.worker_core.proofs.Sorting.{all_more, all_of_filter, not_above, Ordered, is_ordered, ordered_after, kept_by_order, one_of_all, rises_unbounded}
-use Rattle.journals.proofs.Sent.{begins_further, delivered_more, sent_more}
-use Rattle.journals.proofs.Ways.{filter_of_map}
+use Rattle.worker_core.proofs.ByStamp.{all_more, all_of_filter, not_above, Ordered, is_ordered, ordered_after, kept_by_order, one_of_all, rises_unbounded}
+use Rattle.journals.proofs.DeliveredBeginsSent.{begins_further, delivered_more, sent_more}
+use Rattle.journals.proofs.DeliveriesOfWay.{filter_of_map}
 
 abbrev pub at_machine : ℕ → Stamped → Bool
 at_machine m x = machine_of x.entry == m

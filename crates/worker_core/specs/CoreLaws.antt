@@ -13,6 +13,7 @@ use Rattle.journals.specs.Logs.{max_stamp, entries}
 use Rattle.worker_core.specs.Facts.{IsCore, count_entries, log_of_party, on_way, held_by}
 use Rattle.worker_core.specs.Merges.{merged, merged_stamps}
 use Rattle.journals.specs.Stamps.{least}
+use Rattle.worker_core.specs.ByMachine.{ReactsByMachine, LandsByMachine, FreesByMachine}
 
 -- the start is a core
 abbrev pub StartIsCore : Type 0
@@ -63,3 +64,15 @@ abbrev pub EachRunIsWell : Type 0
 EachRunIsWell =
     (net : Network) (trace : List TraceItem) (steps : List CoreStep) → IsTrace net trace
     → RunsWell net trace (run_steps net (at_start net trace) steps)
+
+-- What follows from the definitions.
+pub record CoreLaws : Type 0 where
+  pub start : StartIsCore
+  pub steps : StepsKeepCores
+  pub reacts : ReactsByMachine
+  pub lands : LandsByMachine
+  pub frees : FreesByMachine
+  pub stopped : StoppedIsComplete
+  pub has_all : MergedHasAll
+  pub well : CoresRunWell
+  pub runs : EachRunIsWell

@@ -1,6 +1,5 @@
 // Laws of the core.
-ghost use Rattle.worker_core.specs.CoreLaws.{StartIsCore, StepsKeepCores, StoppedIsComplete, MergedHasAll, CoresRunWell, EachRunIsWell};
-ghost use Rattle.worker_core.specs.ByMachine.{ReactsByMachine, LandsByMachine, FreesByMachine};
+ghost use Rattle.worker_core.specs.CoreLaws.{CoreLaws};
 ghost use Rattle.worker_core.specs.inner.Known.{Known};
 
 use journals::{laws, sending_laws, stamp_laws};
@@ -16,15 +15,7 @@ fn known()
 
 /// What follows from the definitions.
 pub fn core_laws()
-    ensures start { StartIsCore }
-    ensures steps { StepsKeepCores }
-    ensures reacts { ReactsByMachine }
-    ensures lands { LandsByMachine }
-    ensures frees { FreesByMachine }
-    ensures stopped { StoppedIsComplete }
-    ensures has_all { MergedHasAll }
-    ensures well { CoresRunWell }
-    ensures runs { EachRunIsWell }
+    ensures { CoreLaws }
 {
     known();
 }

@@ -1,6 +1,6 @@
-pub mod Adopting
-pub mod Counting
-pub mod Locking
-pub mod Logging
-pub mod Parting
-pub mod Passing
+pub mod IsAdopted
+pub mod Counts
+pub mod UnderLock
+pub mod OneLogMore
+pub mod MergedAlone
+pub mod PassedDeliveries

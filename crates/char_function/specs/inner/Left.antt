@@ -62,7 +62,12 @@ pub record AreLeft (m : Machine) (t : Table) (s : Diagrams) (start : ℕ) (known
   pub levels : (i n : ℕ) → i < length (points m)
       → get_or known (slice_index t.numbers i) None ≡ Some n → start ≤ level_of s n
 
--- the store is over these items and sizes, and what is known is of its nodes
+-- the store is over these items and sizes
+pub record IsOver (items wide : List ℕ) (s : Diagrams) : Type 0 where
+  pub order : s.order ≡ items
+  pub sizes : s.sizes ≡ wide
+
+-- and what is known is of its nodes
 pub record IsStoreOf (m : Machine) (t : Table) (items wide : List ℕ) (start : ℕ) (s : Diagrams)
     (nodes : List (Option ℕ)) : Type 0 where
   pub order : s.order ≡ items

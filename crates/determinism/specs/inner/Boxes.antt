@@ -35,6 +35,11 @@ pub record IsIn (sets codes : List ℕ) : Type 0 where
 abbrev pub IsRowOf : Machine → Row → Type 0
 IsRowOf m row = IsTrue (is_row m.inputs m.vars m.results row)
 
+-- two of its rows
+pub record AreRowsOf (m : Machine) (first second : Row) : Type 0 where
+  pub of_first : (r : ℕ) × (slice_get m.rows r ≡ Some first)
+  pub of_second : (r : ℕ) × (slice_get m.rows r ≡ Some second)
+
 -- the codes are of a snapshot that enables both rows
 pub record EnableBoth (m : Machine) (first second : Row) (codes : List ℕ) : Type 0 where
   pub snapshot : IsTrue (fits m.vars codes)

@@ -29,6 +29,13 @@ pub record HangsOn (pair : Pair) (y u v : ℕ) : Type 0 where
   pub of_first : Reads pair pair.first.now y u v
   pub of_second : Reads pair pair.second.now y u v
 
+-- the result differs, with this code of u and of the codes of v the least with which it does
+pub record IsLeastWith (pair : Pair) (y u v code : ℕ) (codes : List ℕ) : Type 0 where
+  pub at : slice_index codes u ≡ code
+  pub differ : Differ pair y codes
+  pub least : (t : List ℕ) → IsIn pair.sets.now t → slice_index t u ≡ code → Differ pair y t
+      → slice_index codes v ≤ slice_index t v
+
 -- the result differs nowhere
 abbrev pub NeverDiffer : Pair → ℕ → Type 0
 NeverDiffer pair y = (t : List ℕ) → IsIn pair.sets.now t → ¬ Differ pair y t

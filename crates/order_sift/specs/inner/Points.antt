@@ -1,5 +1,6 @@
 -- What levels are counted from.
 use Rattle.std.specs.Prelude.{◌≡◌, ◌↔◌, ℕ, ◌+◌, ◌*◌, ◌<◌, ◌≤◌, List, [], length, get_or, slice_index}
+use Rattle.polis_base.specs.declared.limits.TheConstants.{SIFTED_SNAPSHOTS_MAX}
 use Rattle.domains.specs.Tables.{product}
 use Rattle.transition_table.specs.declared.machine.Machine.{Machine}
 use Rattle.transition_table.specs.Computed.{result_code, result_codes}
@@ -12,6 +13,11 @@ abbrev pub are_within : List ℕ → ℕ → ℕ → Type 0
 are_within codes stride code = (i : ℕ) → i < length codes
     → (slice_index codes i * stride ≤ i + code * stride)
     × (i + code * stride < length codes + slice_index codes i * stride)
+
+-- codes of a variable for so many places, for each of which there is one that has the first code
+pub record AreCodesFor (n : ℕ) (codes : List ℕ) (stride : ℕ) : Type 0 where
+  pub long : length codes ≡ n
+  pub within : are_within codes stride 0
 
 -- the variables' codes
 pub record AreVariables (m : Machine) (codes : List (List ℕ)) : Type 0 where
@@ -42,3 +48,8 @@ pub record IsPrepared (m : Machine) (points : Points) : Type 0 where
   pub wide : length points.marks ≡ length m.vars + length m.results
   pub marks : (x : ℕ) → x < length m.vars + length m.results
       → AreMarks m x (get_or points.marks x [])
+
+-- of a machine of few snapshots
+pub record AreFewPoints (m : Machine) (points : Points) : Type 0 where
+  pub few : product m.vars ≤ SIFTED_SNAPSHOTS_MAX
+  pub prepared : IsPrepared m points

@@ -1,9 +1,10 @@
 -- Pieces of a listing's part.
 use Rattle.std.specs.Prelude.{◌≡◌, ℕ, ◌+◌, List, ◌∷◌, ◌++◌, length, slice_get, Some, flat_map, codes, []}
 use Rattle.std.specs.List.{join_by}
+use Rattle.polis_base.specs.Lines.{line}
 use Rattle.transition_table.specs.declared.machine.Machine.{Machine}
 use Rattle.transition_table.specs.declared.network.Network.{Network}
-use Rattle.task_code.specs.Listings.{line, numbers, label}
+use Rattle.task_code.specs.Listings.{numbers, label}
 
 -- the words for a result
 abbrev pub result_label : Network → Machine → ℕ → List ℕ

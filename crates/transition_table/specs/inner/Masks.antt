@@ -1,5 +1,5 @@
 -- The codes of each variable that a row allows, as sets of bits.
-use Rattle.std.specs.Prelude.{◌≡◌, ℕ, Bool, not, ◌&&◌, ◌||◌, ◌==◌, nat_lt, List, length, slice_get, slice_index, Some}
+use Rattle.std.specs.Prelude.{◌≡◌, ℕ, Bool, not, ◌&&◌, ◌||◌, ◌==◌, nat_lt, List, slice_index}
 use Rattle.std.specs.List.{list_all}
 use Rattle.std.specs.Int.{bit_at}
 use Rattle.transition_table.specs.declared.row.Cond.{Cond}

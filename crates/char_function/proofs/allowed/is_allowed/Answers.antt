@@ -4,8 +4,8 @@ use Rattle.std.proofs.lemmas.Bool.{cases_lt, true≢false}
 use Rattle.domains.specs.Orders.{place}
 use Rattle.transition_table.specs.Computed.{all_supports}
 use Rattle.char_function.specs.inner.Orders.{stands_after}
-use Rattle.decision_diagram.proofs.Lists.{read}
-use Rattle.char_function.proofs.Turning.{of_machine, vars_long, allowed_from, allowed_after}
+use Rattle.decision_diagram.proofs.ListItems.{read}
+use Rattle.char_function.proofs.FirstOrder.{of_machine, vars_long, allowed_from, allowed_after}
 use Rattle.char_function.proofs.allowed.is_allowed.Goals as goal
 
 pub overflow_sub-vars : goal.overflow_sub-vars

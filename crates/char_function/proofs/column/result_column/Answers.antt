@@ -1,8 +1,8 @@
 use Rattle.std.proofs.Common.{◌≡◌, ◌∙◌, ◌++◌, ◌∷◌, ◌<◌, [], ℕ, List, map, take, length, get_or, slice_index, slice_set, sym, ap, arith}
 use Rattle.std.proofs.lemmas.List.{take_more, take_more_set, take_all, map-append, length-set}
-use Rattle.char_function.proofs.Lists.{at_map}
-use Rattle.decision_diagram.proofs.Lists.{read}
-use Rattle.char_function.proofs.Tabled.{number_low, result_column}
+use Rattle.char_function.proofs.ListItems.{at_map}
+use Rattle.decision_diagram.proofs.ListItems.{read}
+use Rattle.char_function.proofs.IsTableOf.{number_low, result_column}
 use Rattle.char_function.proofs.column.result_column.Goals as goal
 
 pub loop-i-preserved : goal.loop-i-preserved

@@ -3,7 +3,7 @@ use Rattle.std.specs.Prelude.{IfNone, IfSome}
 use Rattle.domains.specs.Orders.{IsPermutation}
 use Rattle.transition_table.specs.Orders.{Allowed}
 use Rattle.char_function.specs.Orders.{interleaved, first_order}
-use Rattle.char_function.proofs.Turning.{first_permutation, first_allowed, supports_long}
+use Rattle.char_function.proofs.FirstOrder.{first_permutation, first_allowed, supports_long}
 use Rattle.char_function.proofs.first.first_order.Goals as goal
 
 pub interleaved-requires : goal.interleaved-requires

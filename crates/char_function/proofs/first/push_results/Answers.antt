@@ -2,7 +2,7 @@ use Rattle.std.proofs.Common.{◌≡◌, ◌∙◌, ◌+◌, ◌++◌, ◌∷◌
 use Rattle.std.proofs.lemmas.Bool.{eq-eqb, ne_eqb}
 use Rattle.char_function.specs.Orders.{reach, reach_at}
 use Rattle.char_function.proofs.MoreResults.{behind_on, behind_off}
-use Rattle.decision_diagram.proofs.Lists.{read}
+use Rattle.decision_diagram.proofs.ListItems.{read}
 use Rattle.char_function.proofs.first.push_results.Goals as goal
 use Rattle.char_function.proofs.first.push_results.Goals.{then-reach-k+in_ok-push, else-reach-k}
 

@@ -6,8 +6,8 @@ use Rattle.decision_diagram.specs.Diagrams.{Means, level_of}
 use Rattle.transition_table.specs.Orders.{sizes_of}
 use Rattle.char_function.specs.inner.Left.{IsFirst, left_from}
 use Rattle.char_function.proofs.FixedKids.{AreFixedKids, fixed_more, left_kept, next_of, node_left, points_few, result_left, step_of, vars_size}
-use Rattle.char_function.proofs.Leaving.{first_more}
-use Rattle.decision_diagram.proofs.Lists.{read}
+use Rattle.char_function.proofs.LeftFrom.{first_more}
+use Rattle.decision_diagram.proofs.ListItems.{read}
 use Rattle.decision_diagram.proofs.Growth.{keeps_trans}
 use Rattle.char_function.proofs.fixing.+fixed_node.Goals as goal
 

@@ -43,8 +43,8 @@ pub fixed_node-requires-clause-store : goal.fixed_node-requires-clause-store
 fixed_node-requires-clause-store c =
     let t = c.args.table.now in
     record {
-      order = c.requires.order;
-      sizes = c.requires.sizes;
+      order = c.requires.store.order;
+      sizes = c.requires.store.sizes;
       known = left_none c.args.m.now t c.args.store.now c.after_variables-start.result
           c.in_ok-known.known
           (c.in_ok-known.ensures ∙ ap (λ (n : ℕ). replicate n None) c.len.ensures);

@@ -1,9 +1,9 @@
 use Rattle.std.proofs.Common.{◌≡◌, ◌∙◌, ◌≤◌, ℕ, List, None, get_or, slice_index, ap, subst, arith}
 use Rattle.decision_diagram.specs.Diagrams.{Means, level_of}
 use Rattle.char_function.specs.inner.Left.{left_from}
-use Rattle.char_function.proofs.Knowing.{some_known}
-use Rattle.decision_diagram.proofs.Lists.{read}
-use Rattle.char_function.proofs.Tabled.{numbers_long, number_low}
+use Rattle.char_function.proofs.AreKnown.{some_known}
+use Rattle.decision_diagram.proofs.ListItems.{read}
+use Rattle.char_function.proofs.IsTableOf.{numbers_long, number_low}
 use Rattle.char_function.proofs.fixing.known_outcome.Goals as goal
 
 pub get-requires-2 : goal.get-requires-2

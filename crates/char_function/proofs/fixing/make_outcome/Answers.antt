@@ -3,8 +3,8 @@ use Rattle.decision_diagram.specs.Diagrams.{Means}
 use Rattle.char_function.specs.inner.Known.{OnlyResults}
 use Rattle.char_function.specs.inner.Left.{AreLeft, IsOrdered, left_from}
 use Rattle.char_function.proofs.FixedKids.{left_kept, left_more}
-use Rattle.decision_diagram.proofs.Lists.{read}
-use Rattle.char_function.proofs.Tabled.{numbers_long, number_low}
+use Rattle.decision_diagram.proofs.ListItems.{read}
+use Rattle.char_function.proofs.IsTableOf.{numbers_long, number_low}
 use Rattle.char_function.proofs.fixing.make_outcome.Goals as goal
 
 pub set-requires : goal.set-requires

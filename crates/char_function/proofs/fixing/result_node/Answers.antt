@@ -1,10 +1,22 @@
-use Rattle.std.proofs.Common.{◌∙◌, ◌<◌, ◌==◌, ℕ, slice_index, ap, sym, subst, arith}
+use Rattle.std.proofs.Common.{◌≡◌, ◌∙◌, ◌<◌, ◌==◌, ℕ, List, length, slice_index, ap, sym, subst, arith}
 use Rattle.domains.specs.Orders.{place}
 use Rattle.decision_diagram.specs.Diagrams.{IsNode, level_of, value_of}
-use Rattle.decision_diagram.proofs.Fitting.{fits_at}
+use Rattle.decision_diagram.proofs.Fits.{fits_at}
 use Rattle.char_function.proofs.FixedKids.{kid_here, kid_or, kid_value, one_kid}
+use Rattle.char_function.proofs.ListItems.{below_within}
 use Rattle.char_function.proofs.fixing.result_node.Goals as goal
 use Rattle.domains.proofs.Places.{place_below}
+
+-- an item with a code is there
+item_there : (sizes : List ℕ) (item size code : ℕ) → size ≡ slice_index sizes item → code < size
+    → item < length sizes
+item_there sizes item size code sized below =
+    below_within sizes item code (subst (λ (k : ℕ). code < k) sized below)
+
+pub node-requires-clause-var : goal.node-requires-clause-var
+node-requires-clause-var c =
+    item_there c.args.store.now.sizes c.args.item c.args.size c.args.code c.requires.size
+    c.requires.code
 
 pub node-requires-clause-nodes : goal.node-requires-clause-nodes
 node-requires-clause-nodes c code low =
@@ -26,7 +38,8 @@ node-requires-clause-later c code low =
     c.requires.code low in
     let reduced = c.same_value_same_node.ensures.reduced in
     let lengths = reduced.lengths in
-    let item = c.requires.item in
+    let item = item_there s.sizes c.args.item c.args.size c.args.code c.requires.size
+    c.requires.code in
     let within = place_below s.order reduced.order c.args.item (omega arith) in
     let last : place s.order c.args.item < level_of s f = let e = c.constant-none.ensures.level in
     omega arith in
@@ -41,7 +54,9 @@ returns-clause-value c = record {
       let s = c.args.store.now in
       let f = c.constant-none.result in
       let kept = c.in_ok-node.ensures.kept in
-      let below = fits_at s.sizes codes (rw kept.sizes at fit) c.args.item c.requires.item in
+      let there = item_there s.sizes c.args.item c.args.size c.args.code c.requires.size
+      c.requires.code in
+      let below = fits_at s.sizes codes (rw kept.sizes at fit) c.args.item there in
       let code = slice_index codes c.args.item in
       let long = c.same_kids-kids.ensures in
       let k = kid_here c.same_kids-kids.result f c.args.kid c.args.size c.args.code c.from-2.result

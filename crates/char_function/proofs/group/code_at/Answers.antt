@@ -1,7 +1,7 @@
 use Rattle.std.proofs.Common.{◌≡◌, ◌∙◌, ◌-◌, [], ℕ, List, length, get_or, slice_index, sym, ap, arith, length-append}
 use Rattle.char_function.specs.inner.Points.{at_point, points}
-use Rattle.decision_diagram.proofs.Lists.{read}
-use Rattle.char_function.proofs.Tabled.{numbers_long, number_low, outcome_long, var_at, result_at, code_below}
+use Rattle.decision_diagram.proofs.ListItems.{read}
+use Rattle.char_function.proofs.IsTableOf.{numbers_long, number_low, outcome_long, var_at, result_at, code_below}
 use Rattle.char_function.proofs.group.code_at.Goals as goal
 
 pub get-requires-else-item-vars-2 : goal.get-requires-else-item-vars-2

@@ -1,6 +1,6 @@
 use Rattle.std.proofs.Common.{◌≡◌, ◌∙◌, ⊎_elim, ◌-◌, slice_index, ap, arith}
 use Rattle.std.proofs.lemmas.Bool.{cases_lt}
-use Rattle.decision_diagram.proofs.Lists.{read}
+use Rattle.decision_diagram.proofs.ListItems.{read}
 use Rattle.char_function.proofs.known.after_variables.Goals as goal
 
 pub loop-place-init : goal.loop-place-init

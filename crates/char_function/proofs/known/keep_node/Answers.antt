@@ -1,9 +1,9 @@
 use Rattle.std.proofs.Common.{◌≡◌, ◌∙◌, ℕ, Some, length, slice_index, slice_set, sym, ap, subst, arith}
 use Rattle.char_function.specs.inner.Known.{AreKnown}
 use Rattle.char_function.specs.inner.Points.{points}
-use Rattle.decision_diagram.proofs.Lists.{read}
-use Rattle.char_function.proofs.Knowing.{one_low, group_outcome, known_more}
-use Rattle.char_function.proofs.Tabled.{numbers_long, number_low}
+use Rattle.decision_diagram.proofs.ListItems.{read}
+use Rattle.char_function.proofs.AreKnown.{one_low, group_outcome, known_more}
+use Rattle.char_function.proofs.IsTableOf.{numbers_long, number_low}
 use Rattle.char_function.proofs.known.keep_node.Goals as goal
 
 pub set-requires : goal.set-requires

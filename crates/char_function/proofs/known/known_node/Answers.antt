@@ -2,9 +2,9 @@ use Rattle.std.proofs.Common.{◌≡◌, ◌∙◌, ◌≤◌, ℕ, None, length
 use Rattle.decision_diagram.specs.Diagrams.{Means, level_of}
 use Rattle.char_function.specs.inner.Groups.{some_agrees}
 use Rattle.char_function.specs.inner.Points.{points}
-use Rattle.decision_diagram.proofs.Lists.{read}
-use Rattle.char_function.proofs.Knowing.{one_low, group_outcome, some_known}
-use Rattle.char_function.proofs.Tabled.{numbers_long, number_low}
+use Rattle.decision_diagram.proofs.ListItems.{read}
+use Rattle.char_function.proofs.AreKnown.{one_low, group_outcome, some_known}
+use Rattle.char_function.proofs.IsTableOf.{numbers_long, number_low}
 use Rattle.char_function.proofs.known.known_node.Goals as goal
 
 pub get-requires-2 : goal.get-requires-2

@@ -1,4 +1,4 @@
-use Rattle.char_function.proofs.Sized.{char_decides, has_size, one_size}
+use Rattle.char_function.proofs.SizeAlong.{char_decides, has_size, one_size}
 use Rattle.char_function.proofs.law.laws.Goals as goal
 
 pub returns : goal.returns

@@ -1,7 +1,7 @@
 use Rattle.std.proofs.Common.{◌≡◌, ◌∙◌, ◌+◌, ℕ, List, sym, subst, arith}
 use Rattle.char_function.proofs.Blocks.{AreFirstLeft, first_next, first_none, last_done}
 use Rattle.decision_diagram.proofs.Growth.{keeps_trans, keeps_same}
-use Rattle.char_function.proofs.Tabled.{numbers_long}
+use Rattle.char_function.proofs.IsTableOf.{numbers_long}
 use Rattle.char_function.proofs.levels.last_level.Goals as goal
 
 pub loop-i-init : goal.loop-i-init
@@ -15,7 +15,7 @@ loop-i-init c = record {
 }
 
 pub known_outcome-requires-clause-order : goal.known_outcome-requires-clause-order
-known_outcome-requires-clause-order c = c.loop-i.invariant.kept.order ∙ c.requires.order
+known_outcome-requires-clause-order c = c.loop-i.invariant.kept.order ∙ c.requires.store.order
 
 pub known_outcome-requires-clause-known : goal.known_outcome-requires-clause-known
 known_outcome-requires-clause-known c = c.loop-i.invariant.known
@@ -30,8 +30,8 @@ known_outcome-requires-clause-snapshot c =
 
 pub make_outcome-requires-clause-store : goal.make_outcome-requires-clause-store
 make_outcome-requires-clause-store c = record {
-  order = c.loop-i.invariant.kept.order ∙ c.requires.order;
-  sizes = c.loop-i.invariant.kept.sizes ∙ c.requires.sizes;
+  order = c.loop-i.invariant.kept.order ∙ c.requires.store.order;
+  sizes = c.loop-i.invariant.kept.sizes ∙ c.requires.store.sizes;
   known = c.loop-i.invariant.known;
 }
 

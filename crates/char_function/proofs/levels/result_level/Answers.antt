@@ -28,7 +28,7 @@ overflow_mul-j c =
     let size = c.get-size.result.now in
     let s0 = c.args.store.now in
     let step = step_of m order c.args.fixing.now.sizes.now s0.sizes p item c.from.result size
-    f.ordered f.all_sizes c.requires.sizes c.same_value_same_node.ensures.reduced.sizes
+    f.ordered f.all_sizes c.requires.store.sizes c.same_value_same_node.ensures.reduced.sizes
     c.requires.place c.get-item.ensures c.from.ensures c.get-size.ensures in
     let s = c.loop-j.store in
     let part = c.loop-j.invariant in
@@ -50,31 +50,9 @@ code_at-code-requires-clause-item c =
     let size = c.get-size.result.now in
     let s0 = c.args.store.now in
     let step = step_of m order c.args.fixing.now.sizes.now s0.sizes p item c.from.result size
-    f.ordered f.all_sizes c.requires.sizes c.same_value_same_node.ensures.reduced.sizes
+    f.ordered f.all_sizes c.requires.store.sizes c.same_value_same_node.ensures.reduced.sizes
     c.requires.place c.get-item.ensures c.from.ensures c.get-size.ensures in
     step.at.inside
-
-pub result_node-requires-clause-item : goal.result_node-requires-clause-item
-result_node-requires-clause-item c =
-    let m = c.args.fixing.now.machine.now in
-    let order = c.args.fixing.now.order.now in
-    let f = c.requires.fixing in
-    let p = c.args.place in
-    let item = c.get-item.result.now in
-    let size = c.get-size.result.now in
-    let s0 = c.args.store.now in
-    let step = step_of m order c.args.fixing.now.sizes.now s0.sizes p item c.from.result size
-    f.ordered f.all_sizes c.requires.sizes c.same_value_same_node.ensures.reduced.sizes
-    c.requires.place c.get-item.ensures c.from.ensures c.get-size.ensures in
-    let s = c.loop-j.store in
-    let part = c.loop-j.invariant in
-    let j = c.loop-j.j in
-    let low : j < length c.args.nodes.now.items = let a = c.loop-j-test.true in
-    let b = c.len-j-end.ensures in let d = c.args.nodes.now.ok.0 in omega arith in
-    let left = part.half.rest j (omega arith) (omega arith) in
-    let inside = step.at.inside in
-    let e = ap (λ (xs : List ℕ). length xs) (part.kept.sizes ∙ c.requires.sizes ∙ f.all_sizes) in
-    omega arith
 
 pub result_node-requires-clause-size : goal.result_node-requires-clause-size
 result_node-requires-clause-size c =
@@ -86,7 +64,7 @@ result_node-requires-clause-size c =
     let size = c.get-size.result.now in
     let s0 = c.args.store.now in
     let step = step_of m order c.args.fixing.now.sizes.now s0.sizes p item c.from.result size
-    f.ordered f.all_sizes c.requires.sizes c.same_value_same_node.ensures.reduced.sizes
+    f.ordered f.all_sizes c.requires.store.sizes c.same_value_same_node.ensures.reduced.sizes
     c.requires.place c.get-item.ensures c.from.ensures c.get-size.ensures in
     let s = c.loop-j.store in
     let part = c.loop-j.invariant in
@@ -96,7 +74,7 @@ result_node-requires-clause-size c =
     let left = part.half.rest j (omega arith) (omega arith) in
     step.sized
     ∙ ap (λ (xs : List ℕ). slice_index xs item)
-    (sym (part.kept.sizes ∙ c.requires.sizes ∙ f.all_sizes))
+    (sym (part.kept.sizes ∙ c.requires.store.sizes ∙ f.all_sizes))
 
 pub result_node-requires-clause-few : goal.result_node-requires-clause-few
 result_node-requires-clause-few c =
@@ -108,7 +86,7 @@ result_node-requires-clause-few c =
     let size = c.get-size.result.now in
     let s0 = c.args.store.now in
     let step = step_of m order c.args.fixing.now.sizes.now s0.sizes p item c.from.result size
-    f.ordered f.all_sizes c.requires.sizes c.same_value_same_node.ensures.reduced.sizes
+    f.ordered f.all_sizes c.requires.store.sizes c.same_value_same_node.ensures.reduced.sizes
     c.requires.place c.get-item.ensures c.from.ensures c.get-size.ensures in
     step.few
 
@@ -122,7 +100,7 @@ result_node-requires-clause-code c =
     let size = c.get-size.result.now in
     let s0 = c.args.store.now in
     let step = step_of m order c.args.fixing.now.sizes.now s0.sizes p item c.from.result size
-    f.ordered f.all_sizes c.requires.sizes c.same_value_same_node.ensures.reduced.sizes
+    f.ordered f.all_sizes c.requires.store.sizes c.same_value_same_node.ensures.reduced.sizes
     c.requires.place c.get-item.ensures c.from.ensures c.get-size.ensures in
     let sized = step.sized in
     let below = c.code_at-code.ensures.below in
@@ -138,7 +116,7 @@ result_node-requires-clause-kid c =
     let size = c.get-size.result.now in
     let s0 = c.args.store.now in
     let step = step_of m order c.args.fixing.now.sizes.now s0.sizes p item c.from.result size
-    f.ordered f.all_sizes c.requires.sizes c.same_value_same_node.ensures.reduced.sizes
+    f.ordered f.all_sizes c.requires.store.sizes c.same_value_same_node.ensures.reduced.sizes
     c.requires.place c.get-item.ensures c.from.ensures c.get-size.ensures in
     let s = c.loop-j.store in
     let part = c.loop-j.invariant in
@@ -161,7 +139,7 @@ result_node-requires-clause-later c =
     let size = c.get-size.result.now in
     let s0 = c.args.store.now in
     let step = step_of m order c.args.fixing.now.sizes.now s0.sizes p item c.from.result size
-    f.ordered f.all_sizes c.requires.sizes c.same_value_same_node.ensures.reduced.sizes
+    f.ordered f.all_sizes c.requires.store.sizes c.same_value_same_node.ensures.reduced.sizes
     c.requires.place c.get-item.ensures c.from.ensures c.get-size.ensures in
     let s = c.loop-j.store in
     let part = c.loop-j.invariant in
@@ -176,7 +154,7 @@ result_node-requires-clause-later c =
     let g = ap (level_of s) kid in
     let placed = step.at.placed in
     let e : place s.order item ≡ place order item =
-    ap (λ (xs : List ℕ). place xs item) (part.kept.order ∙ c.requires.order) in
+    ap (λ (xs : List ℕ). place xs item) (part.kept.order ∙ c.requires.store.order) in
     omega arith
 
 pub returns-in_err-node-clause-kept : goal.returns-in_err-node-clause-kept
@@ -194,7 +172,7 @@ loop-j-preserved c =
     let size = c.get-size.result.now in
     let s0 = c.args.store.now in
     let step = step_of m order c.args.fixing.now.sizes.now s0.sizes p item c.from.result size
-    f.ordered f.all_sizes c.requires.sizes c.same_value_same_node.ensures.reduced.sizes
+    f.ordered f.all_sizes c.requires.store.sizes c.same_value_same_node.ensures.reduced.sizes
     c.requires.place c.get-item.ensures c.from.ensures c.get-size.ensures in
     let s = c.loop-j.store in
     let part = c.loop-j.invariant in
@@ -209,7 +187,7 @@ loop-j-preserved c =
     let n = c.in_ok-node.node in
     let placed = step.at.placed in
     let e : place s.order item ≡ place order item =
-    ap (λ (xs : List ℕ). place xs item) (part.kept.order ∙ c.requires.order) in
+    ap (λ (xs : List ℕ). place xs item) (part.kept.order ∙ c.requires.store.order) in
     let level = c.in_ok-node.ensures.level in
     let at = step.at.is in
     let result = c.requires.item in
@@ -223,7 +201,8 @@ loop-j-preserved c =
                 c.laws_of_computing.ensures.same_on_support m order f.ordered s new p item
                 c.code_at-code.result (j * c.args.block) c.index.result.now n step.at (omega arith)
                 left.low c.code_at-code.ensures.code
-                (part.kept.sizes ∙ c.requires.sizes ∙ f.all_sizes) c.result_node.ensures.kept.sizes
+                (part.kept.sizes ∙ c.requires.store.sizes ∙ f.all_sizes)
+                c.result_node.ensures.kept.sizes
                 (subst (λ (k : ℕ). Means s k (left_from m order (p + 1) (j * c.args.block))) kid
                 left.means) c.in_ok-node.ensures.value;
             level = omega arith;

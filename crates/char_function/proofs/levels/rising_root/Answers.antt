@@ -4,7 +4,7 @@ use Rattle.decision_diagram.specs.Diagrams.{Means}
 use Rattle.char_function.specs.inner.Left.{left_from}
 use Rattle.char_function.specs.inner.Rising.{AreLevel}
 use Rattle.char_function.proofs.Blocks.{block_few, root_of_level}
-use Rattle.decision_diagram.proofs.Lists.{read}
+use Rattle.decision_diagram.proofs.ListItems.{read}
 use Rattle.decision_diagram.proofs.Growth.{keeps_trans}
 use Rattle.char_function.proofs.levels.rising_root.Goals as goal
 
@@ -26,13 +26,11 @@ get-requires c =
     let p : ℕ = c.loop-place.place - 1 in
     omega arith
 
-pub variable_level-requires-clause-order : goal.variable_level-requires-clause-order
-variable_level-requires-clause-order c =
-    c.loop-place.invariant.kept.order ∙ c.requires.order
-
-pub variable_level-requires-clause-sizes : goal.variable_level-requires-clause-sizes
-variable_level-requires-clause-sizes c =
-    c.loop-place.invariant.kept.sizes ∙ c.requires.sizes
+pub variable_level-requires-clause-store : goal.variable_level-requires-clause-store
+variable_level-requires-clause-store c = record {
+  order = c.loop-place.invariant.kept.order ∙ c.requires.store.order;
+  sizes = c.loop-place.invariant.kept.sizes ∙ c.requires.store.sizes;
+}
 
 pub variable_level-requires-clause-place : goal.variable_level-requires-clause-place
 variable_level-requires-clause-place c =
@@ -78,13 +76,11 @@ returns-in_err-variable_level-clause-kept c =
     keeps_trans c.args.store.now c.loop-place.store c.variable_level.new.store
     c.loop-place.invariant.kept c.variable_level.ensures.kept
 
-pub result_level-requires-clause-order : goal.result_level-requires-clause-order
-result_level-requires-clause-order c =
-    c.loop-place.invariant.kept.order ∙ c.requires.order
-
-pub result_level-requires-clause-sizes : goal.result_level-requires-clause-sizes
-result_level-requires-clause-sizes c =
-    c.loop-place.invariant.kept.sizes ∙ c.requires.sizes
+pub result_level-requires-clause-store : goal.result_level-requires-clause-store
+result_level-requires-clause-store c = record {
+  order = c.loop-place.invariant.kept.order ∙ c.requires.store.order;
+  sizes = c.loop-place.invariant.kept.sizes ∙ c.requires.store.sizes;
+}
 
 pub result_level-requires-clause-place : goal.result_level-requires-clause-place
 result_level-requires-clause-place c =

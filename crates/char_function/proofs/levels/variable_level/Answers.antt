@@ -17,7 +17,7 @@ nonzero_div-count c =
     let size = c.from-size.result in
     let s0 = c.args.store.now in
     let b = block_step m order c.args.fixing.now.sizes.now s0.sizes s0 p item c.from.result
-    c.get.result.now size stride c.args.nodes.now.items f.ordered f.all_sizes c.requires.sizes
+    c.get.result.now size stride c.args.nodes.now.items f.ordered f.all_sizes c.requires.store.sizes
     c.same_value_same_node.ensures.reduced.sizes c.requires.rising c.requires.place c.requires.item
     c.get-item.ensures c.from.ensures c.get.ensures c.from-size.ensures c.requires.level in
     let one = b.one in
@@ -34,7 +34,7 @@ loop-j-init c =
     let size = c.from-size.result in
     let s0 = c.args.store.now in
     let b = block_step m order c.args.fixing.now.sizes.now s0.sizes s0 p item c.from.result
-    c.get.result.now size stride c.args.nodes.now.items f.ordered f.all_sizes c.requires.sizes
+    c.get.result.now size stride c.args.nodes.now.items f.ordered f.all_sizes c.requires.store.sizes
     c.same_value_same_node.ensures.reduced.sizes c.requires.rising c.requires.place c.requires.item
     c.get-item.ensures c.from.ensures c.get.ensures c.from-size.ensures c.requires.level in
     let long : length c.args.nodes.now.items ≡ c.len.result / size * size =
@@ -56,7 +56,7 @@ node-requires-clause-var c =
     let size = c.from-size.result in
     let s0 = c.args.store.now in
     let b = block_step m order c.args.fixing.now.sizes.now s0.sizes s0 p item c.from.result
-    c.get.result.now size stride c.args.nodes.now.items f.ordered f.all_sizes c.requires.sizes
+    c.get.result.now size stride c.args.nodes.now.items f.ordered f.all_sizes c.requires.store.sizes
     c.same_value_same_node.ensures.reduced.sizes c.requires.rising c.requires.place c.requires.item
     c.get-item.ensures c.from.ensures c.get.ensures c.from-size.ensures c.requires.level in
     let s = c.loop-j.store in
@@ -64,7 +64,8 @@ node-requires-clause-var c =
     let j = c.loop-j.j in
     let low = c.loop-j-test.true in
     let inside = b.step.at.inside in
-    let e = ap (λ (xs : List ℕ). length xs) (part.kept.sizes ∙ c.requires.sizes ∙ f.all_sizes) in
+    let e = ap (λ (xs : List ℕ). length xs)
+    (part.kept.sizes ∙ c.requires.store.sizes ∙ f.all_sizes) in
     omega arith
 
 pub node-requires-clause-kids : goal.node-requires-clause-kids
@@ -78,7 +79,7 @@ node-requires-clause-kids c =
     let size = c.from-size.result in
     let s0 = c.args.store.now in
     let b = block_step m order c.args.fixing.now.sizes.now s0.sizes s0 p item c.from.result
-    c.get.result.now size stride c.args.nodes.now.items f.ordered f.all_sizes c.requires.sizes
+    c.get.result.now size stride c.args.nodes.now.items f.ordered f.all_sizes c.requires.store.sizes
     c.same_value_same_node.ensures.reduced.sizes c.requires.rising c.requires.place c.requires.item
     c.get-item.ensures c.from.ensures c.get.ensures c.from-size.ensures c.requires.level in
     let s = c.loop-j.store in
@@ -89,7 +90,7 @@ node-requires-clause-kids c =
     c.deref.result.now j (c.len.result / size) part.half c.deref.ensures.value low in
     kids.long ∙ b.step.sized
     ∙ ap (λ (xs : List ℕ). slice_index xs item)
-    (sym (part.kept.sizes ∙ c.requires.sizes ∙ f.all_sizes))
+    (sym (part.kept.sizes ∙ c.requires.store.sizes ∙ f.all_sizes))
 
 pub node-requires-clause-nodes : goal.node-requires-clause-nodes
 node-requires-clause-nodes c code code_low =
@@ -102,7 +103,7 @@ node-requires-clause-nodes c code code_low =
     let size = c.from-size.result in
     let s0 = c.args.store.now in
     let b = block_step m order c.args.fixing.now.sizes.now s0.sizes s0 p item c.from.result
-    c.get.result.now size stride c.args.nodes.now.items f.ordered f.all_sizes c.requires.sizes
+    c.get.result.now size stride c.args.nodes.now.items f.ordered f.all_sizes c.requires.store.sizes
     c.same_value_same_node.ensures.reduced.sizes c.requires.rising c.requires.place c.requires.item
     c.get-item.ensures c.from.ensures c.get.ensures c.from-size.ensures c.requires.level in
     let s = c.loop-j.store in
@@ -125,7 +126,7 @@ node-requires-clause-later c code code_low =
     let size = c.from-size.result in
     let s0 = c.args.store.now in
     let b = block_step m order c.args.fixing.now.sizes.now s0.sizes s0 p item c.from.result
-    c.get.result.now size stride c.args.nodes.now.items f.ordered f.all_sizes c.requires.sizes
+    c.get.result.now size stride c.args.nodes.now.items f.ordered f.all_sizes c.requires.store.sizes
     c.same_value_same_node.ensures.reduced.sizes c.requires.rising c.requires.place c.requires.item
     c.get-item.ensures c.from.ensures c.get.ensures c.from-size.ensures c.requires.level in
     let s = c.loop-j.store in
@@ -138,7 +139,7 @@ node-requires-clause-later c code code_low =
     let level = (kids.each code (omega arith)).level in
     let placed = b.step.at.placed in
     let e : place s.order item ≡ place order item =
-    ap (λ (xs : List ℕ). place xs item) (part.kept.order ∙ c.requires.order) in
+    ap (λ (xs : List ℕ). place xs item) (part.kept.order ∙ c.requires.store.order) in
     omega arith
 
 pub returns-in_err-node-clause-kept : goal.returns-in_err-node-clause-kept
@@ -157,7 +158,7 @@ loop-j-preserved c =
     let size = c.from-size.result in
     let s0 = c.args.store.now in
     let b = block_step m order c.args.fixing.now.sizes.now s0.sizes s0 p item c.from.result
-    c.get.result.now size stride c.args.nodes.now.items f.ordered f.all_sizes c.requires.sizes
+    c.get.result.now size stride c.args.nodes.now.items f.ordered f.all_sizes c.requires.store.sizes
     c.same_value_same_node.ensures.reduced.sizes c.requires.rising c.requires.place c.requires.item
     c.get-item.ensures c.from.ensures c.get.ensures c.from-size.ensures c.requires.level in
     let s = c.loop-j.store in
@@ -170,7 +171,7 @@ loop-j-preserved c =
     let new = c.node.new.self in
     let placed = b.step.at.placed in
     let e : place s.order item ≡ place order item =
-    ap (λ (xs : List ℕ). place xs item) (part.kept.order ∙ c.requires.order) in
+    ap (λ (xs : List ℕ). place xs item) (part.kept.order ∙ c.requires.store.order) in
     let level = c.in_ok-node.ensures.level in
     record {
       kept = keeps_trans s0 s new part.kept c.node.ensures.kept;
@@ -179,7 +180,7 @@ loop-j-preserved c =
           (block_left c.laws_of_all_codes.ensures.stands_once
           c.laws_of_computing.ensures.same_on_support m order f.ordered s new p item size j stride n
           c.loop-j.nodes.items _ b.step b.inside b.one b.apart b.so_far
-          (part.kept.sizes ∙ c.requires.sizes ∙ f.all_sizes) c.node.ensures.kept.sizes kids
+          (part.kept.sizes ∙ c.requires.store.sizes ∙ f.all_sizes) c.node.ensures.kept.sizes kids
           c.in_ok-node.ensures.value (omega arith));
     }
 
@@ -198,7 +199,7 @@ returns-clause-level c =
     let size = c.from-size.result in
     let s0 = c.args.store.now in
     let b = block_step m order c.args.fixing.now.sizes.now s0.sizes s0 p item c.from.result
-    c.get.result.now size stride c.args.nodes.now.items f.ordered f.all_sizes c.requires.sizes
+    c.get.result.now size stride c.args.nodes.now.items f.ordered f.all_sizes c.requires.store.sizes
     c.same_value_same_node.ensures.reduced.sizes c.requires.rising c.requires.place c.requires.item
     c.get-item.ensures c.from.ensures c.get.ensures c.from-size.ensures c.requires.level in
     let part = c.loop-j.invariant in

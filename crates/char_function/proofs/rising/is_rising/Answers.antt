@@ -1,6 +1,6 @@
 use Rattle.std.proofs.Common.{◌+◌, ◌<◌, length, subst, sym, arith}
 use Rattle.char_function.proofs.Rises.{RisesTo, rises_result, rises_var}
-use Rattle.decision_diagram.proofs.Lists.{read}
+use Rattle.decision_diagram.proofs.ListItems.{read}
 use Rattle.char_function.proofs.rising.is_rising.Goals.{then-item-vars+else-item-next, else-item-vars}
 use Rattle.char_function.proofs.rising.is_rising.Goals as goal
 

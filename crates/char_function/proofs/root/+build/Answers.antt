@@ -4,8 +4,8 @@ use Rattle.decision_diagram.specs.Diagrams.{Means, level_of}
 use Rattle.char_function.specs.inner.Groups.{some_agrees, with_code}
 use Rattle.char_function.specs.inner.Known.{OnlyResults, AreKnown}
 use Rattle.char_function.specs.inner.Points.{points}
-use Rattle.char_function.proofs.Knowing.{known_kept}
-use Rattle.decision_diagram.proofs.Lists.{read}
+use Rattle.char_function.proofs.AreKnown.{known_kept}
+use Rattle.decision_diagram.proofs.ListItems.{read}
 use Rattle.char_function.proofs.GroupNodes.{AreKids, at_var, end_agrees, kids_more, node_means, part_is, part_group}
 use Rattle.decision_diagram.proofs.Growth.{keeps_trans}
 use Rattle.char_function.proofs.root.+build.Goals as goal

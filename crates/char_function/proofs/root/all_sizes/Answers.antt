@@ -1,7 +1,7 @@
 use Rattle.std.proofs.Common.{◌∙◌, ◌++◌, ◌∷◌, [], ℕ, List, take, sym, ap, arith}
 use Rattle.std.proofs.lemmas.List.{take_more, append_assoc}
-use Rattle.decision_diagram.proofs.Fitting.{size_some, size_few}
-use Rattle.decision_diagram.proofs.Lists.{read}
+use Rattle.decision_diagram.proofs.Fits.{size_some, size_few}
+use Rattle.decision_diagram.proofs.ListItems.{read}
 use Rattle.char_function.proofs.root.all_sizes.Goals as goal
 
 pub push-requires-clause-some : goal.push-requires-clause-some

@@ -2,9 +2,9 @@ use Rattle.std.proofs.Common.{⊎_elim, ◌≡◌, ◌∙◌, ◌+◌, ◌-◌, 
 use Rattle.std.proofs.lemmas.Bool.{cases_lt}
 use Rattle.domains.specs.Tables.{product}
 use Rattle.char_function.proofs.Blocks.{times_le}
-use Rattle.decision_diagram.proofs.Lists.{read}
-use Rattle.char_function.proofs.Varying.{any_found}
-use Rattle.char_function.proofs.Windows.{blocks_of, moved, steps, varies_flat}
+use Rattle.decision_diagram.proofs.ListItems.{read}
+use Rattle.char_function.proofs.Varies.{any_found}
+use Rattle.char_function.proofs.ColumnBlocks.{blocks_of, moved, steps, varies_flat}
 use Rattle.char_function.proofs.support.changes.Goals as goal
 use Rattle.outcome_table.proofs.Columns.{product_after}
 use Rattle.decision_diagram.proofs.Truths.{never_upto}

@@ -1,5 +1,5 @@
 use Rattle.std.proofs.Common.{◌≡◌, ◌<◌, ℕ, false}
-use Rattle.char_function.proofs.Windows.{steps}
+use Rattle.char_function.proofs.ColumnBlocks.{steps}
 use Rattle.char_function.proofs.support.changes.Given as goal
 
 -- in the blocks before this one no neighbours differ

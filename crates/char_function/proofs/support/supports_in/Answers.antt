@@ -5,7 +5,7 @@ use Rattle.domains.specs.AllCodes.{all_codes}
 use Rattle.transition_table.specs.Computed.{all_supports, result_code, support_of}
 use Rattle.char_function.specs.inner.Columns.{varies}
 use Rattle.char_function.specs.Supported.{AreSupports}
-use Rattle.char_function.proofs.Supporting.{column_support, supports_more, are_supports}
+use Rattle.char_function.proofs.AreSupports.{column_support, supports_more, are_supports}
 use Rattle.domains.proofs.AllCodes.{long_map}
 use Rattle.char_function.proofs.support.supports_in.Goals as goal
 use Rattle.outcome_table.proofs.Rows.{few_snapshots}

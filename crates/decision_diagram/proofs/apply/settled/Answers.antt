@@ -1,6 +1,6 @@
 use Rattle.std.proofs.Common.{◌∙◌, sym}
 use Rattle.std.proofs.lemmas.Bool.{eqb-true}
-use Rattle.decision_diagram.proofs.Operating.{settled_left, settled_right, settled_other, settled_one, settled_same}
+use Rattle.decision_diagram.proofs.OperationResults.{settled_left, settled_right, settled_other, settled_one, settled_same}
 use Rattle.decision_diagram.proofs.apply.settled.Goals as goal
 use Rattle.decision_diagram.proofs.apply.settled.Goals.{then-eq, else-eq, then-eq-3, else-eq-3}
 

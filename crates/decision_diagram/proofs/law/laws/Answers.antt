@@ -1,5 +1,5 @@
-use Rattle.decision_diagram.proofs.Sizing.{count_is_size, somewhere_true, reached_led, one_child}
-use Rattle.decision_diagram.proofs.Fixing.{size_by_levels}
+use Rattle.decision_diagram.proofs.DiagramLaws.{count_is_size, somewhere_true, reached_led, one_child}
+use Rattle.decision_diagram.proofs.SizeByLevels.{size_by_levels}
 use Rattle.decision_diagram.proofs.law.laws.Goals as goal
 
 pub returns : goal.returns

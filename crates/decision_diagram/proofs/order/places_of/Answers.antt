@@ -1,5 +1,5 @@
 use Rattle.std.proofs.Common.{sym, arith, length, ◌<◌, ◌≤◌, ◌≡◌, subst, ℕ, List, slice_index}
-use Rattle.decision_diagram.proofs.Lists.{read}
+use Rattle.decision_diagram.proofs.ListItems.{read}
 use Rattle.decision_diagram.proofs.Places.{AreMarked, marked_none, marked_more, marked_all, too_high, again}
 use Rattle.decision_diagram.proofs.order.places_of.Goals as goal
 use Rattle.decision_diagram.proofs.order.places_of.Goals.{then-var-len-via-then-var-len, then-var-len-via-else-var-len+then-get-len}

@@ -2,7 +2,7 @@ use Rattle.std.proofs.Common.{◌+◌, ◌≤◌, length, arith, subst, inl, inr
 use Rattle.std.proofs.lemmas.Bool.{cases_lt}
 use Rattle.std.proofs.lemmas.Bool.Decides.{eqb_tells}
 use Rattle.transition_table.specs.Transitions.{Conflict}
-use Rattle.determinism.proofs.Apart.{none_between}
+use Rattle.determinism.proofs.Says.{none_between}
 use Rattle.determinism.proofs.Overlaps.{enabled_there}
 use Rattle.determinism.proofs.conflict.conflicting.Goals as goal
 

@@ -14,7 +14,7 @@ returns-then-stands_before-clause-best c =
 
 pub returns-clause-best : goal.returns-clause-best
 returns-clause-best c =
-    rw c.copy_codes.ensures
+    rw c.copy_from.ensures
     (best_moves c.args.pair.now c.args.y c.args.found c.args.best.now.codes
     c.least_difference.new.s.codes c.requires.number c.requires.best
     (c.least_difference.ensures.some c.if-not-least_difference.false)

@@ -1,23 +1,23 @@
 use Rattle.std.proofs.Common.{slice_index, arith, sym, ◌∙◌, inl, inr}
 use Rattle.std.proofs.lemmas.Bool.{cases_order}
 use Rattle.std.proofs.lemmas.Bool.Decides.{eqb_tells}
-use Rattle.determinism.proofs.Picks.{pair_before}
+use Rattle.determinism.proofs.LeastCodes.{pair_before}
 use Rattle.determinism.proofs.difference.first_pair.Goals as goal
 
 pub returns-then-try_first-clause-some : goal.returns-then-try_first-clause-some
 returns-then-try_first-clause-some c = λ h. record {
   inside = c.try_first.ensures.inside;
-  differ = c.try_first.ensures.differ c.if-try_first.true;
+  differ = (c.try_first.ensures.some c.if-try_first.true).differ;
   least = λ t there differ.
-      let at = c.try_first.ensures.code c.if-try_first.true in
+      let found = c.try_first.ensures.some c.if-try_first.true in
+      let at = found.at in
       pair_before c.args.pair.now.sets.now c.args.s.now.codes c.try_first.new.s.codes t c.args.u c.args.v
       c.requires.apart c.requires.reads.there c.requires.inside c.try_first.ensures.inside
       (λ k not_u not_v. c.try_first.ensures.same k not_u not_v
       ∙ c.loop-code.invariant.same k not_u not_v)
       there
       (elim (cases_order (slice_index t c.args.u) c.loop-code.code) [
-        | inl here ↦ inr
-            (at ∙ sym here, c.try_first.ensures.least c.if-try_first.true t there here differ)
+        | inl here ↦ inr (at ∙ sym here, found.least t there here differ)
         | inr other ↦ elim other [
           | inl below ↦ absurd (c.loop-code.invariant.none t there below differ)
           | inr above ↦ inl (omega arith)

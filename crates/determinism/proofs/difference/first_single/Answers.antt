@@ -1,5 +1,5 @@
 use Rattle.std.proofs.Common.{refl}
-use Rattle.determinism.proofs.Picks.{single_before}
+use Rattle.determinism.proofs.LeastCodes.{single_before}
 use Rattle.determinism.proofs.difference.first_single.Goals as goal
 
 pub returns-clause-some : goal.returns-clause-some

@@ -2,7 +2,7 @@ use Rattle.std.proofs.Common.{slice_set, arith, sym, ap, ◌∙◌}
 use Rattle.std.specs.Int.{bit_at}
 use Rattle.std.proofs.lemmas.Bool.{eqb-true}
 use Rattle.std.proofs.lemmas.Option.{get_or_from_slice_get}
-use Rattle.determinism.proofs.Picks.{in_set, set_agrees, same_there}
+use Rattle.determinism.proofs.LeastCodes.{in_set, set_agrees, same_there}
 use Rattle.determinism.proofs.difference.try_code.Goals as goal
 
 pub returns-clause-inside : goal.returns-clause-inside

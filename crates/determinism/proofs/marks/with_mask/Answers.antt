@@ -1,6 +1,6 @@
 use Rattle.std.proofs.Common.{ℕ, List, inl, inr}
 use Rattle.determinism.specs.inner.Marks.{Enables}
-use Rattle.determinism.proofs.Apart.{says_first, says_other, denies_first, denies_other, only_first, never_first}
+use Rattle.determinism.proofs.Says.{says_first, says_other, denies_first, denies_other, only_first, never_first}
 use Rattle.determinism.proofs.marks.with_mask.Goals as goal
 
 -- the first code alone

@@ -2,7 +2,7 @@ use Rattle.std.proofs.Common.{◌≡◌, ℕ, List, length, slice_get, Some, ari
 use Rattle.std.proofs.lemmas.List.{length_push}
 use Rattle.transition_table.specs.declared.row.Row.{Row}
 use Rattle.determinism.specs.inner.Boxes.{AreMasks}
-use Rattle.determinism.proofs.Picks.{last_or_before}
+use Rattle.determinism.proofs.LeastCodes.{last_or_before}
 use Rattle.determinism.proofs.masks.table_of.Goals as goal
 
 pub loop-r-preserved : goal.loop-r-preserved

@@ -1,5 +1,5 @@
 use Rattle.std.proofs.Common.{◌<◌, length}
-use Rattle.transition_table.proofs.Ones.{size_of_var}
+use Rattle.transition_table.proofs.CodeSets.{size_of_var}
 use Rattle.determinism.proofs.masks.whole.Goals as goal
 
 pub all_codes-requires : goal.all_codes-requires

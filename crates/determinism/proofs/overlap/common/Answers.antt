@@ -2,7 +2,7 @@ use Rattle.std.proofs.Common.{◌≡◌, ◌<◌, ◌&&◌, ◌==◌, length, sl
 use Rattle.std.specs.Int.{bit_at}
 use Rattle.std.proofs.lemmas.List.{length-set}
 use Rattle.transition_table.proofs.Bits.{bits_at, no_bits}
-use Rattle.determinism.proofs.Picks.{written}
+use Rattle.determinism.proofs.LeastCodes.{written}
 use Rattle.determinism.proofs.overlap.common.Goals as goal
 
 pub returns-then-both-eq0-clause-none : goal.returns-then-both-eq0-clause-none

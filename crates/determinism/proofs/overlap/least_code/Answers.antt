@@ -1,4 +1,4 @@
-use Rattle.transition_table.proofs.Ones.{lowest_bit}
+use Rattle.transition_table.proofs.CodeSets.{lowest_bit}
 use Rattle.determinism.proofs.overlap.least_code.Goals as goal
 
 pub returns-clause-there : goal.returns-clause-there

@@ -5,9 +5,10 @@ use Rattle.determinism.proofs.overlap.overlap.Goals as goal
 pub returns-clause-area : goal.returns-clause-area
 returns-clause-area c = λ h.
     let m = c.args.machine.now in
+    let rows = c.requires.rows in
     box_is m c.args.first.now c.args.second.now c.args.of_first.now c.args.of_second.now
-    c.common.new.sets (row_of m c.requires.first.0 c.args.first.now c.requires.first.1)
-    (row_of m c.requires.second.0 c.args.second.now c.requires.second.1)
+    c.common.new.sets (row_of m rows.of_first.0 c.args.first.now rows.of_first.1)
+    (row_of m rows.of_second.0 c.args.second.now rows.of_second.1)
     c.requires.of_first c.requires.of_second (c.common.ensures.long ∙ c.requires.long)
     (c.common.ensures.both h)
 

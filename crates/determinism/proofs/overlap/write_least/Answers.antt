@@ -2,7 +2,7 @@ use Rattle.std.proofs.Common.{◌≡◌, ◌<◌, ◌≤◌, length, slice_index
 use Rattle.std.specs.Int.{bit_at}
 use Rattle.std.proofs.lemmas.List.{length-set}
 use Rattle.std.proofs.lemmas.Option.{get_or_from_slice_get}
-use Rattle.determinism.proofs.Picks.{written}
+use Rattle.determinism.proofs.LeastCodes.{written}
 use Rattle.determinism.proofs.overlap.write_least.Goals as goal
 
 pub loop-k-preserved : goal.loop-k-preserved

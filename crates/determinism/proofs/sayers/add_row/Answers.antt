@@ -3,7 +3,7 @@ use Rattle.std.specs.Int.{bit_at}
 use Rattle.std.proofs.lemmas.List.{length-set}
 use Rattle.std.proofs.lemmas.Option.{get_or_from_slice_get}
 use Rattle.determinism.specs.inner.Sayers.{HasAdded}
-use Rattle.determinism.proofs.Saying.{added, more_added}
+use Rattle.determinism.proofs.AreSayers.{added, more_added}
 use Rattle.determinism.proofs.sayers.add_row.Goals as goal
 
 pub loop-left-init : goal.loop-left-init

@@ -1,4 +1,4 @@
-use Rattle.determinism.proofs.Saying.{of_either}
+use Rattle.determinism.proofs.AreSayers.{of_either}
 use Rattle.determinism.proofs.sayers.joined.Goals as goal
 
 pub returns : goal.returns

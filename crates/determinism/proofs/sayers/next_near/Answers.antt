@@ -1,6 +1,6 @@
 use Rattle.std.proofs.Common.{◌+◌, ◌%◌, arith, inl, inr}
 use Rattle.std.proofs.lemmas.Bool.{cases_lt}
-use Rattle.determinism.proofs.Saying.{far_rows}
+use Rattle.determinism.proofs.AreSayers.{far_rows}
 use Rattle.determinism.proofs.sayers.next_near.Goals as goal
 
 -- so many more rows of the block are far

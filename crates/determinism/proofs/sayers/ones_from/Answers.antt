@@ -1,5 +1,5 @@
 use Rattle.std.proofs.Common.{◌<◌, ℕ, subst}
-use Rattle.determinism.proofs.Saying.{ones_above, all_above}
+use Rattle.determinism.proofs.AreSayers.{ones_above, all_above}
 use Rattle.determinism.proofs.sayers.ones_from.Goals as goal
 
 pub returns-then-above-clause-there : goal.returns-then-above-clause-there

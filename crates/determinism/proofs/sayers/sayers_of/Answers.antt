@@ -1,4 +1,4 @@
-use Rattle.determinism.proofs.Saying.{none_said, next_row}
+use Rattle.determinism.proofs.AreSayers.{none_said, next_row}
 use Rattle.determinism.proofs.sayers.sayers_of.Goals as goal
 
 pub loop-row-init : goal.loop-row-init

@@ -1,6 +1,6 @@
 use Rattle.std.proofs.Common.{◌-◌, arith}
 use Rattle.std.proofs.lemmas.Nat.{and_le_r}
-use Rattle.determinism.proofs.Saying.{of_both}
+use Rattle.determinism.proofs.AreSayers.{of_both}
 use Rattle.determinism.proofs.sayers.without_lowest.Goals as goal
 
 pub returns-clause-fewer : goal.returns-clause-fewer

@@ -3,8 +3,8 @@ use Rattle.transition_table.specs.declared.snapshot.Snapshot.{Snapshot}
 use Rattle.journals.specs.declared.stamped.Stamped.{Stamped}
 use Rattle.journals.specs.Journals.{snap}
 use Rattle.journals.specs.Logs.{entries}
-use Rattle.event_buffer.proofs.Listing.{take_next}
-use Rattle.event_buffer.proofs.Logging.{own_machine, item_of_legal}
+use Rattle.event_buffer.proofs.Lists.{take_next}
+use Rattle.event_buffer.proofs.LegalLogs.{own_machine, item_of_legal}
 use Rattle.journals.proofs.StampSteps.{entries_more}
 use Rattle.event_buffer.proofs.cell.catch_up.Goals as goal
 

@@ -1,7 +1,7 @@
 use Rattle.std.proofs.Common.{◌∙◌, arith}
 use Rattle.journals.specs.Journals.{is_trace_item}
-use Rattle.event_buffer.proofs.Feeding.{none_from, past}
-use Rattle.journals.proofs.Ways.{passes_of_all}
+use Rattle.event_buffer.proofs.LeftAt.{none_from, past}
+use Rattle.journals.proofs.DeliveriesOfWay.{passes_of_all}
 use Rattle.event_buffer.proofs.feed.next_item.Goals as goal
 
 pub count_of-requires : goal.count_of-requires

@@ -1,4 +1,4 @@
-use Rattle.event_buffer.proofs.Stepping.{freezing_is_react, given_is_in_hand, landing_is_land, freeing_is_free, feeding_is_feed}
+use Rattle.event_buffer.proofs.CellSteps.{freezing_is_react, given_is_in_hand, landing_is_land, freeing_is_free, feeding_is_feed}
 use Rattle.event_buffer.proofs.law.cell_laws.Goals as goal
 
 pub returns-clause-freezes : goal.returns-clause-freezes

@@ -1,6 +1,6 @@
 use Rattle.std.proofs.Common.{arith, add-one}
-use Rattle.event_buffer.proofs.Writing.{receivers_next}
-use Rattle.journals.proofs.Emitting.{output_is_event}
+use Rattle.event_buffer.proofs.WrittenDeliveries.{receivers_next}
+use Rattle.journals.proofs.Emitted.{output_is_event}
 use Rattle.event_buffer.proofs.room.make_room.Goals as goal
 
 pub add_room-requires : goal.add_room-requires

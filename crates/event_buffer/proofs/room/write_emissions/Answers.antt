@@ -8,9 +8,9 @@ use Rattle.journals.specs.Journals.{outputs_of}
 use Rattle.journals.specs.Schedules.{deliveries_of}
 use Rattle.event_buffer.specs.declared.arrival.Arrival.{Arrival}
 use Rattle.event_buffer.specs.Arrivals.{arrival_of}
-use Rattle.event_buffer.proofs.Writing.{given_by, few_deliveries, room_for, written_on}
+use Rattle.event_buffer.proofs.WrittenDeliveries.{given_by, few_deliveries, room_for, written_on}
 use Rattle.event_buffer.proofs.room.write_emissions.Goals.{then-code-gt0, else-code-gt0}
-use Rattle.journals.proofs.Emitting.{output_is_event, emitted_one, emitted_none, outputs_of_machine}
+use Rattle.journals.proofs.Emitted.{output_is_event, emitted_one, emitted_none, outputs_of_machine}
 use Rattle.event_buffer.proofs.room.write_emissions.Goals as goal
 
 pub write_event-count-requires-clause-event : goal.write_event-count-requires-clause-event

@@ -2,7 +2,7 @@ use Rattle.std.proofs.Common.{◌≡◌, ◌≤◌, ◌++◌, length, map, take,
 use Rattle.transition_table.specs.declared.decl.Party.TheVariants.{Machine as Sender}
 use Rattle.journals.specs.Journals.{outputs_of}
 use Rattle.event_buffer.specs.Arrivals.{arrival_of}
-use Rattle.event_buffer.proofs.Writing.{given_by}
+use Rattle.event_buffer.proofs.WrittenDeliveries.{given_by}
 use Rattle.event_buffer.proofs.room.write_emissions.Given as goal
 
 -- those of the outputs from this one on are left

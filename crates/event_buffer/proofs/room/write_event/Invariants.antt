@@ -1,6 +1,6 @@
 use Rattle.std.proofs.Common.{◌≡◌, ◌+◌, ◌++◌, length, map, take}
 use Rattle.transition_table.specs.declared.decl.Party.TheVariants.{Machine as Sender}
-use Rattle.event_buffer.proofs.Writing.{an_arrival}
+use Rattle.event_buffer.proofs.WrittenDeliveries.{an_arrival}
 use Rattle.event_buffer.proofs.room.write_event.Given as goal
 
 -- those for the receivers before this one are written

@@ -1,6 +1,6 @@
 use Rattle.std.proofs.Common.{ℕ, Option, Some, subst}
 use Rattle.journals.specs.Stamps.{IsFirstNotRising}
-use Rattle.journal_replay.proofs.Judged.{stamps_refused}
+use Rattle.journal_replay.proofs.LegalAndRises.{stamps_refused}
 use Rattle.journal_replay.proofs.judge.first_wrong.Goals as goal
 
 pub returns-in-Some : goal.returns-in-Some

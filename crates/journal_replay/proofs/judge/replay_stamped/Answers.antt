@@ -2,7 +2,7 @@ use Rattle.std.proofs.Common.{ℕ, Option, Some, sym, subst, arith}
 use Rattle.std.proofs.lemmas.List.{take_all}
 use Rattle.transition_table.specs.declared.network.Network.{Network}
 use Rattle.journals.specs.Stamps.{IsFirstNotRising}
-use Rattle.journal_replay.proofs.Judged.{stamps_refused}
+use Rattle.journal_replay.proofs.LegalAndRises.{stamps_refused}
 use Rattle.journal_replay.proofs.judge.replay_stamped.Goals as goal
 
 pub returns-in-Some : goal.returns-in-Some

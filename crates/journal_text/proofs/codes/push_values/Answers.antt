@@ -2,7 +2,7 @@ use Rattle.std.proofs.Common.{◌≡◌, ◌∙◌, ap, sym, Err}
 use Rattle.journal_text.specs.Items.{as_state}
 use Rattle.journal_text.specs.Cursors.{items_in}
 use Rattle.std.proofs.Common.{map}
-use Rattle.journal_text.proofs.Taking.{all_left_over, no_things}
+use Rattle.journal_text.proofs.ReadItems.{all_left_over, no_things}
 use Rattle.journal_text.specs.declared.fault.JournalKind.TheVariants.{Name}
 use Rattle.journal_text.proofs.codes.push_values.Goals as goal
 

@@ -1,7 +1,7 @@
 use Rattle.std.proofs.Common.{map, drop, option_copied}
 use Rattle.journal_text.specs.Items.{as_state}
 use Rattle.journal_text.specs.Cursors.{left, items_in}
-use Rattle.journal_text.proofs.Taking.{TakenAll}
+use Rattle.journal_text.proofs.ReadItems.{TakenAll}
 use Rattle.journal_text.proofs.codes.push_values.Given as goal
 
 -- the items of the state variables before this one are read

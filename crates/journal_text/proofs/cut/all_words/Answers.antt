@@ -1,5 +1,5 @@
 use Rattle.std.proofs.Common.{◌∙◌, sym}
-use Rattle.journal_text.proofs.Walking.{one_more}
+use Rattle.journal_text.proofs.CutAt.{one_more}
 use Rattle.journal_text.proofs.cut.all_words.Goals as goal
 
 pub returns-in-None : goal.returns-in-None

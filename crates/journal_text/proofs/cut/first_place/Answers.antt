@@ -1,7 +1,7 @@
 use Rattle.std.proofs.Common.{◌≡◌, ◌-◌, ◌∙◌, ap, arith, length, drop, subst, sym, Some, None, length-drop}
 use Rattle.std.proofs.lemmas.List.{get_or-drop}
 use Rattle.memchr.specs.Find.{IsFirstByte, Nowhere, Passes, is_byte}
-use Rattle.journal_text.proofs.Cutting.{from_place, nowhere_on}
+use Rattle.journal_text.proofs.FirstMark.{from_place, nowhere_on}
 use Rattle.journal_text.proofs.cut.first_place.Goals as goal
 
 pub returns-in-Some : goal.returns-in-Some

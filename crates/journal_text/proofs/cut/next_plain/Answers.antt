@@ -1,7 +1,7 @@
 use Rattle.std.proofs.Common.{◌≡◌, ◌<◌, ◌==◌, ◌∙◌, sym, arith, length, false, get_or}
-use Rattle.journal_text.proofs.Basics.{differ_false}
+use Rattle.journal_text.proofs.IsSame.{differ_false}
 use Rattle.std.proofs.lemmas.Bool.{eqb-true}
-use Rattle.journal_text.proofs.Plain.{plain_len, plain_whole, plain_end, plain_prefix, plain_at, bad_word}
+use Rattle.journal_text.proofs.WordBytes.{plain_len, plain_whole, plain_end, plain_prefix, plain_at, bad_word}
 use Rattle.journal_text.proofs.cut.next_plain.Goals as goal
 
 pub returns-then-end-text-clause-some : goal.returns-then-end-text-clause-some

@@ -1,6 +1,6 @@
 use Rattle.std.proofs.Common.{arith, length}
-use Rattle.journal_text.proofs.Cutting.{none_before, whole_lacks}
-use Rattle.journal_text.proofs.Skipping.{skipped_to}
+use Rattle.journal_text.proofs.FirstMark.{none_before, whole_lacks}
+use Rattle.journal_text.proofs.SkippedTo.{skipped_to}
 use Rattle.journal_text.proofs.cut.next_with.Goals as goal
 
 pub returns-in_default-clause-none : goal.returns-in_default-clause-none

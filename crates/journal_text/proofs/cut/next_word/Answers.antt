@@ -1,5 +1,5 @@
 use Rattle.std.proofs.Common.{◌∙◌, sym}
-use Rattle.journal_text.proofs.Walking.{not_all}
+use Rattle.journal_text.proofs.CutAt.{not_all}
 use Rattle.journal_text.proofs.cut.next_word.Goals as goal
 
 pub returns-else-is_plain_word-clause-none : goal.returns-else-is_plain_word-clause-none

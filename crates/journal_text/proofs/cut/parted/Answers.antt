@@ -1,7 +1,7 @@
 use Rattle.std.proofs.Common.{◌∙◌, ap, arith, length, subst}
 use Rattle.std.proofs.lemmas.Bool.{eqb-true}
 use Rattle.memchr.specs.Find.{IsFirstByte, is_byte}
-use Rattle.journal_text.proofs.Cutting.{none_before, prefix_lacks, whole_lacks, cut_slice}
+use Rattle.journal_text.proofs.FirstMark.{none_before, prefix_lacks, whole_lacks, cut_slice}
 use Rattle.journal_text.proofs.Pieces.{pieces_at, pieces_end}
 use Rattle.journal_text.specs.Forms.{pieces}
 use Rattle.journal_text.proofs.cut.parted.Goals as goal

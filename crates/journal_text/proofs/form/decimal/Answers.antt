@@ -1,5 +1,5 @@
 use Rattle.std.proofs.Common.{arith}
-use Rattle.journal_text.proofs.Threes.{decimal_some, decimal_none}
+use Rattle.journal_text.proofs.ThreePieces.{decimal_some, decimal_none}
 use Rattle.journal_text.proofs.form.decimal.Goals as goal
 
 pub returns-in-Some : goal.returns-in-Some

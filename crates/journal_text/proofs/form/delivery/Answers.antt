@@ -1,6 +1,6 @@
 use Rattle.std.proofs.Common.{None, refl}
 use Rattle.journal_text.specs.Forms.{dep_form}
-use Rattle.journal_text.proofs.Threes.{four_pieces}
+use Rattle.journal_text.proofs.ThreePieces.{four_pieces}
 use Rattle.journal_text.proofs.form.delivery.Goals as goal
 
 pub returns-in-Some-after-3-clause-none : goal.returns-in-Some-after-3-clause-none

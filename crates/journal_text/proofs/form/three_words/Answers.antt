@@ -1,6 +1,6 @@
 use Rattle.std.proofs.Common.{None, refl}
 use Rattle.journal_text.specs.inner.Cursors.{three_of}
-use Rattle.journal_text.proofs.Threes.{four_pieces}
+use Rattle.journal_text.proofs.ThreePieces.{four_pieces}
 use Rattle.journal_text.proofs.form.three_words.Goals as goal
 
 pub returns-in-Some-after-2-clause-none : goal.returns-in-Some-after-2-clause-none

@@ -1,5 +1,5 @@
 use Rattle.transition_table.specs.declared.decl.EventDecl.{EventDecl}
-use Rattle.journal_text.proofs.Numbering.{one_more_noted}
+use Rattle.journal_text.proofs.NameNumbers.{one_more_noted}
 use Rattle.journal_text.proofs.index.number_events.Goals as goal
 
 pub loop-e-preserved : goal.loop-e-preserved

@@ -1,5 +1,5 @@
 use Rattle.transition_table.specs.declared.machine.Machine.{Machine}
-use Rattle.journal_text.proofs.Numbering.{one_more_noted}
+use Rattle.journal_text.proofs.NameNumbers.{one_more_noted}
 use Rattle.journal_text.proofs.index.number_machines.Goals as goal
 
 pub loop-m-preserved : goal.loop-m-preserved

@@ -1,5 +1,5 @@
 use Rattle.polis_base.specs.Names.{is_name}
-use Rattle.journal_text.proofs.Keeping.{holds_next}
+use Rattle.journal_text.proofs.ListAll.{holds_next}
 use Rattle.journal_text.proofs.kept.keep_tokens.Goals as goal
 
 pub loop-i-preserved : goal.loop-i-preserved

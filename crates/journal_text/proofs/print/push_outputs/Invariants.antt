@@ -3,7 +3,7 @@ use Rattle.std.specs.Iterator.Adapters.{zip_first, zip_second}
 use Rattle.std.specs.Slice.Iter.{iter_rest}
 use Rattle.journal_text.specs.inner.Texts.{output_lines}
 use Rattle.journals.specs.Journals.{emitted}
-use Rattle.journal_text.proofs.TextLemmas.{OutputsLeft}
+use Rattle.journal_text.proofs.WrittenItems.{OutputsLeft}
 use Rattle.journal_text.proofs.print.push_outputs.Given as goal
 
 -- the lines so far are written

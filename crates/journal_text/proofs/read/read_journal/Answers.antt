@@ -1,4 +1,4 @@
-use Rattle.journal_text.proofs.Answering.{is_printed, was_read, was_refused}
+use Rattle.journal_text.proofs.GivesOrRefuses.{is_printed, was_read, was_refused}
 use Rattle.journal_text.proofs.read.read_journal.Goals as goal
 
 pub returns-clause-printed : goal.returns-clause-printed

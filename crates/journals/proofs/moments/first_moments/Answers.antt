@@ -1,6 +1,6 @@
 use Rattle.std.proofs.Common.{[], ◌∷◌, ◌++◌, List, ap, ◌∙◌}
 use Rattle.transition_table.specs.declared.snapshot.Snapshot.{Snapshot}
-use Rattle.journals.proofs.Moved.{first_snap, moments_more}
+use Rattle.journals.proofs.MomentsAfter.{first_snap, moments_more}
 use Rattle.journals.proofs.moments.first_moments.Goals as goal
 
 pub loop-m-preserved : goal.loop-m-preserved

@@ -2,7 +2,7 @@ use Rattle.std.proofs.Common.{◌≡◌, ◌<◌, ℕ, map, length, slice_index,
 use Rattle.std.proofs.lemmas.List.{same_lists, get_or_default}
 use Rattle.polis_base.specs.Lists.{upto}
 use Rattle.journals.specs.Moved.{code_after}
-use Rattle.journals.proofs.Moved.{length-table, get_or-table}
+use Rattle.journals.proofs.MomentsAfter.{length-table, get_or-table}
 use Rattle.journals.proofs.moments.move_on.Goals as goal
 
 pub returns : goal.returns

@@ -1,7 +1,7 @@
 use Rattle.std.proofs.Common.{◌≡◌, ℕ, List, [], ◌∷◌, ◌++◌, slice_index, ap, sym, ◌∙◌}
 use Rattle.std.proofs.lemmas.Option.{get_or_from_slice_get}
 use Rattle.journals.specs.Moved.{code_after}
-use Rattle.journals.proofs.Moved.{upto_more}
+use Rattle.journals.proofs.MomentsAfter.{upto_more}
 use Rattle.journals.proofs.moments.next_moment.Goals as goal
 
 pub loop-k-preserved : goal.loop-k-preserved

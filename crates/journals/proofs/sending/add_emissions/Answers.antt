@@ -4,7 +4,7 @@ use Rattle.transition_table.specs.declared.decl.Party.TheVariants.{Machine as Se
 use Rattle.journals.specs.declared.entry.Owed.{Owed}
 use Rattle.journals.specs.Journals.{outputs_of, emitted}
 use Rattle.journals.specs.Schedules.{deliveries_of}
-use Rattle.journals.proofs.Emitting.{output_is_event, outputs_of_machine, emitted_none, emitted_one}
+use Rattle.journals.proofs.Emitted.{output_is_event, outputs_of_machine, emitted_none, emitted_one}
 use Rattle.journals.proofs.sending.add_emissions.Goals.{then-code-gt0+in_ok-add_deliveries, else-code-gt0}
 use Rattle.journals.proofs.sending.add_emissions.Goals as goal
 

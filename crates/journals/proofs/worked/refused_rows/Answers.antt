@@ -1,4 +1,4 @@
-use Rattle.journals.proofs.Refused.{doubled as doubled_lem, event_of_another as event_of_another_lem, other_value as other_value_lem, before_delivery as before_delivery_lem, second_reaction as second_reaction_lem, stale_snapshot as stale_snapshot_lem, idle_outcome as idle_outcome_lem, dropped_emission as dropped_emission_lem}
+use Rattle.journals.proofs.RefusedEntries.{doubled as doubled_lem, event_of_another as event_of_another_lem, other_value as other_value_lem, before_delivery as before_delivery_lem, second_reaction as second_reaction_lem, stale_snapshot as stale_snapshot_lem, idle_outcome as idle_outcome_lem, dropped_emission as dropped_emission_lem}
 use Rattle.journals.proofs.worked.refused_rows.Goals as goal
 
 pub returns-clause-doubled : goal.returns-clause-doubled

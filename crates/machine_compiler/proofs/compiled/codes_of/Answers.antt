@@ -2,8 +2,8 @@ use Rattle.std.proofs.Common.{◌≡◌, ◌∙◌, ◌++◌, ◌∷◌, [], Lis
 use Rattle.task_code.specs.declared.instr.Instr.{Instr}
 use Rattle.task_machine.specs.Tasks.{AreTasks}
 use Rattle.machine_compiler.specs.Parts.{codes_in, parts_of}
-use Rattle.machine_compiler.proofs.Collecting.{right_tasks}
-use Rattle.machine_compiler.proofs.Writing.{more_codes, all_codes_in}
+use Rattle.machine_compiler.proofs.RightParts.{right_tasks}
+use Rattle.machine_compiler.proofs.Pairwise.{more_codes, all_codes_in}
 use Rattle.machine_compiler.proofs.compiled.codes_of.Goals as goal
 
 pub loop-k-preserved : goal.loop-k-preserved

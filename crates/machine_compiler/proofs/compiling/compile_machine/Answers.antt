@@ -16,6 +16,7 @@ returns c =
       of_machine = of_machine;
       no_defaults = c.in_ok-graph.ensures.defaults;
       lowered = lowered;
+      is_code = c.len.ensures.code;
       code_fits = c.laws.ensures.lowered_fits m g code lowered of_machine.fits_machine;
       computes = c.laws.ensures.lowered_computes m g code kept.graph of_machine.numbered lowered
           of_machine.evaluates;

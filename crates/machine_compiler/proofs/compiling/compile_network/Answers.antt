@@ -1,6 +1,6 @@
 use Rattle.std.proofs.Common.{◌≡◌, ◌∙◌, length, arith}
 use Rattle.machine_compiler.specs.Parts.{IsRightPart, part_of_compiled}
-use Rattle.machine_compiler.proofs.Collecting.{more_paired, length_push, all_right}
+use Rattle.machine_compiler.proofs.RightParts.{more_paired, length_push, all_right}
 use Rattle.machine_compiler.proofs.compiling.compile_network.Goals as goal
 
 pub loop-k-preserved : goal.loop-k-preserved

@@ -1,5 +1,5 @@
 use Rattle.std.proofs.Common.{◌≡◌, length}
-use Rattle.machine_compiler.proofs.Collecting.{RightSoFar}
+use Rattle.machine_compiler.proofs.RightParts.{RightSoFar}
 use Rattle.machine_compiler.proofs.compiling.compile_network.Given as goal
 
 abbrev pub invariant-loop-k : goal.invariant-loop-k

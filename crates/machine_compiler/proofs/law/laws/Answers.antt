@@ -1,4 +1,4 @@
-use Rattle.machine_compiler.proofs.Parting.{listing_determines}
+use Rattle.machine_compiler.proofs.ListingDeterminesParts.{listing_determines}
 use Rattle.machine_compiler.proofs.law.laws.Goals as goal
 
 pub returns : goal.returns

@@ -1,22 +1,25 @@
 use Rattle.std.proofs.Common.{◌≡◌, ◌∙◌, ◌++◌, [], ◌∷◌, ℕ, length, ap}
-use Rattle.task_code.specs.Listings.{line}
+use Rattle.polis_base.specs.Lines.{line}
 use Rattle.machine_compiler.specs.Parts.{part_of_compiled, parts_of}
 use Rattle.machine_compiler.specs.Lines.{lengths, tally_text, tries, tries_lines, reactions_of}
-use Rattle.machine_compiler.proofs.Tallying.{tally_at}
-use Rattle.machine_compiler.proofs.Writing.{tries_pairs, more_pairs, three_texts}
+use Rattle.machine_compiler.proofs.AreTallies.{code_at, tally_at}
+use Rattle.machine_compiler.proofs.Pairwise.{tries_pairs, more_pairs, three_texts}
 use Rattle.machine_compiler.proofs.lines.print_tries.Goals as goal
 
 pub loop-k-preserved : goal.loop-k-preserved
 loop-k-preserved c =
-    let net = c.args.net.now in
+    let r = c.args.r.now in
+    let net = r.net.now in
     let cs = c.args.compiled.now in
     let journal = c.args.journal.now in
     let k = c.loop-k.k in
     let m = c.get-machine.result.now in
     let part = c.get-part.result.now in
     let t = c.index.result.now in
-    let is = tally_at net cs journal c.in_ok-tallies.tallies.items k m part t
-    c.in_ok-tallies.ensures c.get-machine.ensures c.get-part.ensures c.index.ensures in
+    let code = code_at r.codes cs k part c.requires.same c.get-part.ensures in
+    let there = rw c.network-net.ensures at c.get-machine.ensures in
+    let is = tally_at net r.codes journal c.in_ok-tallies.tallies.items k m part.code t
+    c.in_ok-tallies.ensures there code c.index.ensures in
     let head = lengths m (part_of_compiled part) in
     let written : c.push.new.self ≡ c.loop-k.text
     ++ line (head ++ tries part.code (reactions_of k journal)) =
@@ -30,4 +33,4 @@ loop-k-preserved c =
     more_pairs (λ k m q. line (lengths m q ++ tries q.code (reactions_of k journal)))
     (tries_lines journal) (tries_pairs journal) net.machines cs k m part c.loop-k.text
     c.push.new.self (tries_lines journal 0 net.machines (parts_of cs)) c.loop-k.invariant
-    c.get-machine.ensures c.get-part.ensures written
+    there c.get-part.ensures written

@@ -1,8 +1,9 @@
 use Rattle.std.proofs.Common.{◌≡◌, ◌∙◌, ◌++◌, ◌<◌, codes, length, List, ℕ, ap, arith}
-use Rattle.task_code.specs.Listings.{line, part_text, parts_text}
+use Rattle.polis_base.specs.Lines.{line}
+use Rattle.task_code.specs.Listings.{part_text, parts_text}
 use Rattle.machine_compiler.specs.Parts.{part_of_compiled, parts_of}
-use Rattle.machine_compiler.proofs.Apart.{at_place}
-use Rattle.machine_compiler.proofs.Writing.{listing_pairs, more_pairs, all_pairs, of_machine}
+use Rattle.machine_compiler.proofs.DistinctItems.{at_place}
+use Rattle.machine_compiler.proofs.Pairwise.{listing_pairs, more_pairs, all_pairs, of_machine}
 use Rattle.machine_compiler.proofs.listing.print_listing.Goals as goal
 
 pub loop-k-preserved : goal.loop-k-preserved

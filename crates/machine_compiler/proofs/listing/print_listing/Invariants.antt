@@ -1,5 +1,6 @@
 use Rattle.std.proofs.Common.{◌≡◌, ◌++◌, codes, drop}
-use Rattle.task_code.specs.Listings.{line, parts_text}
+use Rattle.polis_base.specs.Lines.{line}
+use Rattle.task_code.specs.Listings.{parts_text}
 use Rattle.machine_compiler.specs.Parts.{parts_of}
 use Rattle.machine_compiler.proofs.listing.print_listing.Given as goal
 

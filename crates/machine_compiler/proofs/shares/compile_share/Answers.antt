@@ -1,4 +1,4 @@
-use Rattle.machine_compiler.proofs.Sharing.{share_more, right_at}
+use Rattle.machine_compiler.proofs.HasPlaces.{share_more, right_at}
 use Rattle.machine_compiler.proofs.shares.compile_share.Goals as goal
 
 pub compile_machine-requires : goal.compile_machine-requires

@@ -1,6 +1,6 @@
 use Rattle.std.proofs.Common.{◌≡◌, ◌∙◌, length, arith}
-use Rattle.machine_compiler.proofs.Collecting.{length_push}
-use Rattle.machine_compiler.proofs.Sharing.{places_more, nothing_placed}
+use Rattle.machine_compiler.proofs.RightParts.{length_push}
+use Rattle.machine_compiler.proofs.HasPlaces.{places_more, nothing_placed}
 use Rattle.machine_compiler.proofs.shares.empty_places.Goals as goal
 
 pub loop-preserved : goal.loop-preserved

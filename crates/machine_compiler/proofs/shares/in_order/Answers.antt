@@ -1,9 +1,9 @@
 use Rattle.std.proofs.Common.{rules, arith, ◌≡◌, ◌<◌, ◌∙◌, List, Option, length, drop, ap, sym}
 use Rattle.machine_compiler.specs.declared.compiled.Compiled.{Compiled}
 use Rattle.machine_compiler.specs.Parts.{IsRightPart, part_of_compiled}
-use Rattle.machine_compiler.proofs.Apart.{at_place}
-use Rattle.machine_compiler.proofs.Collecting.{none_paired, more_paired, length_push, all_right}
-use Rattle.machine_compiler.proofs.Sharing.{drop_next, drop_none}
+use Rattle.machine_compiler.proofs.DistinctItems.{at_place}
+use Rattle.machine_compiler.proofs.RightParts.{none_paired, more_paired, length_push, all_right}
+use Rattle.machine_compiler.proofs.HasPlaces.{drop_next, drop_none}
 use Rattle.machine_compiler.proofs.shares.in_order.Goals as goal
 
 pub loop-place-init : goal.loop-place-init

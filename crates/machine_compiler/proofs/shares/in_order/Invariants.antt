@@ -1,6 +1,6 @@
 use Rattle.std.proofs.Common.{◌≡◌, ◌≤◌, drop, length}
 use Rattle.std.specs.Vec.Iter.{into_iter_items, into_iter_len}
-use Rattle.machine_compiler.proofs.Collecting.{RightSoFar}
+use Rattle.machine_compiler.proofs.RightParts.{RightSoFar}
 use Rattle.machine_compiler.proofs.shares.in_order.Given as goal
 
 -- the places from this one on are left, and each machine before it has its right part

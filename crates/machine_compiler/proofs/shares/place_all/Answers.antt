@@ -1,7 +1,7 @@
 use Rattle.std.proofs.Common.{sym, subst, IfOk}
 use Rattle.std.specs.List.{All}
 use Rattle.machine_compiler.specs.inner.Shares.{AreRightEach}
-use Rattle.machine_compiler.proofs.Sharing.{all_next}
+use Rattle.machine_compiler.proofs.HasPlaces.{all_next}
 use Rattle.machine_compiler.proofs.shares.place_all.Goals as goal
 
 pub loop-share-init : goal.loop-share-init

@@ -1,6 +1,6 @@
 use Rattle.std.proofs.Common.{sym, subst}
 use Rattle.machine_compiler.specs.inner.Shares.{AreRightEach}
-use Rattle.machine_compiler.proofs.Sharing.{share_next, placed}
+use Rattle.machine_compiler.proofs.HasPlaces.{share_next, placed}
 use Rattle.machine_compiler.proofs.shares.place_share.Goals as goal
 
 pub loop-one-init : goal.loop-one-init

@@ -1,6 +1,6 @@
 use Rattle.std.proofs.Common.{◌≡◌, ◌∙◌, length, refl, arith}
 use Rattle.machine_compiler.specs.declared.tallies.Tally.{Tally}
-use Rattle.machine_compiler.proofs.Collecting.{IsNoTally, more_paired, length_push, no_reactions}
+use Rattle.machine_compiler.proofs.RightParts.{IsNoTally, more_paired, length_push, no_reactions}
 use Rattle.machine_compiler.proofs.tallies.no_tallies.Goals as goal
 
 pub loop-k-preserved : goal.loop-k-preserved

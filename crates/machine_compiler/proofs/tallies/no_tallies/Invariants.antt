@@ -1,5 +1,5 @@
 use Rattle.std.proofs.Common.{◌≡◌, length}
-use Rattle.machine_compiler.proofs.Collecting.{Paired, IsNoTally}
+use Rattle.machine_compiler.proofs.RightParts.{Paired, IsNoTally}
 use Rattle.machine_compiler.proofs.tallies.no_tallies.Given as goal
 
 abbrev pub invariant-loop-k : goal.invariant-loop-k

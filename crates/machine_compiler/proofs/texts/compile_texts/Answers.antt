@@ -2,8 +2,8 @@ use Rattle.std.proofs.Common.{◌≡◌, ◌∙◌, ◌++◌, ◌∷◌, [], Lis
 use Rattle.task_code.specs.Listings.{part_text}
 use Rattle.machine_compiler.specs.Parts.{part_of_compiled}
 use Rattle.machine_compiler.specs.Lines.{lengths}
-use Rattle.machine_compiler.proofs.Texting.{nothing_written, one_written, all_written}
-use Rattle.machine_compiler.proofs.Writing.{of_machine, two_texts}
+use Rattle.machine_compiler.proofs.AreTexts.{nothing_written, one_written, all_written}
+use Rattle.machine_compiler.proofs.Pairwise.{of_machine, two_texts}
 use Rattle.machine_compiler.proofs.texts.compile_texts.Goals as goal
 
 pub loop-k-init : goal.loop-k-init

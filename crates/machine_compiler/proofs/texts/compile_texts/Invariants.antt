@@ -1,4 +1,4 @@
-use Rattle.machine_compiler.proofs.Texting.{WrittenSoFar}
+use Rattle.machine_compiler.proofs.AreTexts.{WrittenSoFar}
 use Rattle.machine_compiler.proofs.texts.compile_texts.Given as goal
 
 abbrev pub invariant-loop-k : goal.invariant-loop-k

@@ -1,8 +1,8 @@
 use Rattle.std.proofs.Common.{ℕ, ◌<◌, ◌≤◌, List, length, get_or, slice_get, sym, ap, ◌∙◌, arith}
 use Rattle.std.proofs.lemmas.Option.{slice_get-get_or}
 use Rattle.journals.specs.Journals.{outputs_of, reads}
-use Rattle.net_core.proofs.Walking.{counted_one, counted_none, counted_past}
-use Rattle.journals.proofs.Emitting.{outputs_of_machine}
+use Rattle.net_core.proofs.LeftOfFirings.{counted_one, counted_none, counted_past}
+use Rattle.journals.proofs.Emitted.{outputs_of_machine}
 use Rattle.net_core.proofs.clocks.count_outputs.Goals.{then-get-gt0+then-reads_event, else-get-gt0, else-get-gt0-via-then-get-gt0+else-reads_event, else-get-gt0-via-else-get-gt0}
 use Rattle.net_core.proofs.clocks.count_outputs.Goals as goal
 

@@ -1,7 +1,7 @@
 use Rattle.std.proofs.Common.{refl, ◌≡◌, ◌≤◌, ℕ, List, take, length, flat_map, drop, Some, slice_get, sym, ap, subst, ◌∙◌, arith}
 use Rattle.net_core.specs.inner.Clocks.{left}
 use Rattle.journals.specs.Stamps.{greatest, once_each}
-use Rattle.net_core.proofs.Walking.{left_further, given_further, left_here}
+use Rattle.net_core.proofs.LeftOfFirings.{left_further, given_further, left_here}
 use Rattle.net_core.proofs.clocks.first_owed.Goals as goal
 use Rattle.journals.specs.declared.stamped.Stamped.{Stamped}
 use Rattle.journals.specs.Logs.{stamped}

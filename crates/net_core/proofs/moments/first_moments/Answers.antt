@@ -2,7 +2,7 @@ use Rattle.std.proofs.Common.{List, [], ◌∷◌, ◌++◌, map, ap, sym, ◌�
 use Rattle.polis_base.specs.Lists.{upto}
 use Rattle.transition_table.specs.declared.snapshot.Snapshot.{Snapshot}
 use Rattle.journals.specs.Journals.{snap}
-use Rattle.journals.proofs.Moved.{upto_more}
+use Rattle.journals.proofs.MomentsAfter.{upto_more}
 use Rattle.net_core.proofs.moments.first_moments.Goals as goal
 
 pub loop-m-preserved : goal.loop-m-preserved

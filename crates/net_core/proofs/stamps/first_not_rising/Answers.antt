@@ -5,7 +5,7 @@ use Rattle.journals.specs.declared.stamped.Stamped.{Stamped}
 use Rattle.journals.specs.Logs.{with_stamps}
 use Rattle.journals.specs.Stamps.{greatest, stamps_below, Rising}
 use Rattle.net_core.specs.inner.Clocks.{AreClocks}
-use Rattle.net_core.proofs.Stamping.{is_next}
+use Rattle.net_core.proofs.IsBacked.{is_next}
 use Rattle.journals.proofs.StampSteps.{length_prefix, prefix_more}
 use Rattle.net_core.proofs.stamps.first_not_rising.Goals as goal
 

@@ -4,7 +4,7 @@ use Rattle.journals.specs.declared.stamped.Stamped.{Stamped}
 use Rattle.journals.specs.Logs.{with_stamps}
 use Rattle.journals.specs.Stamps.{greatest, stamps_below, least_stamp, least}
 use Rattle.net_core.specs.inner.Clocks.{AreClocks}
-use Rattle.net_core.proofs.Stamping.{is_next, least_below}
+use Rattle.net_core.proofs.IsBacked.{is_next, least_below}
 use Rattle.journals.proofs.StampSteps.{length_prefix, prefix_more}
 use Rattle.net_core.proofs.stamps.least_stamps.Goals as goal
 

@@ -1,4 +1,4 @@
-use Rattle.net_gen.proofs.Dwindle.{dwindling_ends, dwindling_completes}
+use Rattle.net_gen.proofs.DwindlingEnds.{dwindling_ends, dwindling_completes}
 use Rattle.net_gen.proofs.law.dwindling_laws.Goals as goal
 
 pub returns-clause-ends : goal.returns-clause-ends

@@ -1,8 +1,8 @@
 use Rattle.std.specs.Prelude.{◌*◌}
 use Rattle.net_gen.specs.Draws.{after}
 use Rattle.net_gen.specs.Networks.{count}
-use Rattle.net_gen.proofs.Enabling.{deterministic}
-use Rattle.net_gen.proofs.Machining.{seeds_have_machines}
+use Rattle.net_gen.proofs.EnabledRows.{deterministic}
+use Rattle.net_gen.proofs.IsDemoMachine.{seeds_have_machines}
 use Rattle.net_gen.proofs.law.machine_laws.Goals as goal
 
 pub returns-clause-machines : goal.returns-clause-machines

@@ -5,10 +5,10 @@ use Rattle.net_gen.specs.Dwindling.{arrivals}
 use Rattle.net_gen.specs.Ended.{demo_load, demo_held, SeedsDwindle}
 use Rattle.net_gen.specs.Items.{trace_items}
 use Rattle.net_gen.specs.Networks.{count}
-use Rattle.net_gen.proofs.Arriving.{seed_fits, seed_arrives}
-use Rattle.net_gen.proofs.Ending.{ring_dwindles}
-use Rattle.net_gen.proofs.Eventing.{seeds_have_events}
-use Rattle.net_gen.proofs.Machining.{seeds_have_machines}
+use Rattle.net_gen.proofs.Arrivals.{seed_fits, seed_arrives}
+use Rattle.net_gen.proofs.RingDwindles.{ring_dwindles}
+use Rattle.net_gen.proofs.HasDemoEvents.{seeds_have_events}
+use Rattle.net_gen.proofs.IsDemoMachine.{seeds_have_machines}
 use Rattle.net_gen.proofs.law.run_laws.Goals as goal
 
 dwindle : SeedsDwindle

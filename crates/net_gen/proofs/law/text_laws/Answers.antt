@@ -1,4 +1,4 @@
-use Rattle.net_gen.proofs.Texting.{rules_ignore_places, networks_ignore_places, texts_keep_rules, texts_have_network}
+use Rattle.net_gen.proofs.TextsKeepRules.{rules_ignore_places, networks_ignore_places, texts_keep_rules, texts_have_network}
 use Rattle.net_gen.proofs.law.text_laws.Goals as goal
 
 pub returns-clause-rules : goal.returns-clause-rules

@@ -1,6 +1,6 @@
-use Rattle.net_gen.proofs.Arriving.{seed_fits, seed_arrives}
-use Rattle.net_gen.proofs.Eventing.{seeds_have_events}
-use Rattle.net_gen.proofs.Tracing.{seed_read}
+use Rattle.net_gen.proofs.Arrivals.{seed_fits, seed_arrives}
+use Rattle.net_gen.proofs.HasDemoEvents.{seeds_have_events}
+use Rattle.net_gen.proofs.TraceReadsBack.{seed_read}
 use Rattle.net_gen.proofs.law.trace_laws.Goals as goal
 
 pub returns-clause-events : goal.returns-clause-events

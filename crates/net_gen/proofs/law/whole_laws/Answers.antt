@@ -8,7 +8,7 @@ use Rattle.net_gen.specs.Draws.{after}
 use Rattle.net_gen.specs.Items.{trace_items}
 use Rattle.net_gen.specs.Networks.{count, network}
 use Rattle.net_gen.specs.Whole.{SeedsHaveNetwork}
-use Rattle.net_gen.proofs.Obeying.{seeds_keep}
+use Rattle.net_gen.proofs.SeedsKeepRules.{seeds_keep}
 use Rattle.net_gen.proofs.Sentence.{sentence}
 use Rattle.net_gen.proofs.law.whole_laws.Goals as goal
 

@@ -3,7 +3,7 @@ use Rattle.polis_base.specs.Lists.{upto}
 use Rattle.net_reader.specs.declared.raw.RawMachine.{RawMachine}
 use Rattle.net_gen.specs.Draws.{after}
 use Rattle.net_gen.specs.Networks.{machine, machine_at, machines}
-use Rattle.net_gen.proofs.Drawn.{after_none, after_more, map_more}
+use Rattle.net_gen.proofs.DrawsAfter.{after_none, after_more, map_more}
 use Rattle.net_gen.proofs.network.machines.Goals as goal
 
 pub loop-i-init : goal.loop-i-init

@@ -4,7 +4,7 @@ use Rattle.polis_base.specs.Lists.{upto}
 use Rattle.net_reader.specs.declared.raw.RawRow.{RawRow}
 use Rattle.net_gen.specs.Draws.{next, after, draw}
 use Rattle.net_gen.specs.Networks.{value_row, value_row_at, value_rows}
-use Rattle.net_gen.proofs.Drawn.{after_none, after_one, map_more}
+use Rattle.net_gen.proofs.DrawsAfter.{after_none, after_one, map_more}
 use Rattle.net_gen.proofs.rows.push_value_rows.Goals as goal
 
 pub loop-k-init : goal.loop-k-init

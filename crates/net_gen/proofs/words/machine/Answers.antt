@@ -1,4 +1,4 @@
-use Rattle.net_gen.proofs.Numbered.{machine_name}
+use Rattle.net_gen.proofs.NumberedNames.{machine_name}
 use Rattle.net_gen.proofs.words.machine.Goals as goal
 
 pub named-requires-clause-name : goal.named-requires-clause-name

@@ -1,7 +1,7 @@
 use Rattle.std.proofs.Common.{◌≡◌, true, List, ℕ, ◌∷◌, subst, sym, ap, ◌∙◌}
 use Rattle.polis_base.specs.Names.{is_name}
 use Rattle.net_gen.specs.Networks.{word}
-use Rattle.net_gen.proofs.Numbered.{one_digit, two_digits}
+use Rattle.net_gen.proofs.NumberedNames.{one_digit, two_digits}
 use Rattle.net_gen.proofs.words.named.Goals.{then-i-lt10, else-i-lt10}
 use Rattle.net_gen.proofs.words.named.Goals as goal
 

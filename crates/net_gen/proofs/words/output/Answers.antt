@@ -1,4 +1,4 @@
-use Rattle.net_gen.proofs.Numbered.{output_name}
+use Rattle.net_gen.proofs.NumberedNames.{output_name}
 use Rattle.net_gen.proofs.words.output.Goals as goal
 
 pub named-requires-clause-name : goal.named-requires-clause-name

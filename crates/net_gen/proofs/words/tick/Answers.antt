@@ -1,4 +1,4 @@
-use Rattle.net_gen.proofs.Numbered.{tick_name}
+use Rattle.net_gen.proofs.NumberedNames.{tick_name}
 use Rattle.net_gen.proofs.words.tick.Goals as goal
 
 pub named-requires-clause-name : goal.named-requires-clause-name

@@ -1,4 +1,4 @@
-use Rattle.net_gen.proofs.Numbered.{valued_name}
+use Rattle.net_gen.proofs.NumberedNames.{valued_name}
 use Rattle.net_gen.proofs.words.valued.Goals as goal
 
 pub named-requires-clause-name : goal.named-requires-clause-name

@@ -1,4 +1,3 @@
-use Rattle.std.proofs.Common.{ap}
 use Rattle.net_names.specs.Locals.{IsLocal}
 use Rattle.net_names.proofs.Zips.{zip-step}
 use Rattle.net_names.proofs.locals.locals_each.Goals as goal

@@ -1,6 +1,6 @@
 use Rattle.std.proofs.lemmas.List.Concat.{flat_map_single}
 use Rattle.net_reader.specs.declared.raw.RawState.{RawState}
-use Rattle.net_names.proofs.Answering.{IfOk-same}
+use Rattle.net_names.proofs.IfOk.{IfOk-same}
 use Rattle.net_names.proofs.names.state_words.Goals as goal
 
 pub returns : goal.returns

@@ -1,6 +1,6 @@
 use Rattle.std.proofs.Common.{◌∙◌, ap}
 use Rattle.net_names.specs.Numbers.{names_of, number_in}
-use Rattle.net_names.proofs.Named.{has-names}
+use Rattle.net_names.proofs.NameNumbers.{has-names}
 use Rattle.net_names.proofs.table.number_all.Goals as goal
 
 pub returns-clause-names : goal.returns-clause-names

@@ -1,4 +1,4 @@
-use Rattle.net_names.proofs.Named.{number-step}
+use Rattle.net_names.proofs.NameNumbers.{number-step}
 use Rattle.net_names.proofs.table.number_each.Goals as goal
 
 pub loop-number-preserved : goal.loop-number-preserved

@@ -1,5 +1,5 @@
 use Rattle.std.proofs.Common.{◌∙◌, sym}
-use Rattle.net_names.proofs.Found.{number-all, number-here, number-later, number-none}
+use Rattle.net_names.proofs.NumberIn.{number-all, number-here, number-later, number-none}
 use Rattle.net_names.proofs.values.number_of.Goals as goal
 
 pub loop-number-init : goal.loop-number-init

@@ -1,5 +1,5 @@
 use Rattle.net_names.specs.Scopes.{var_words}
-use Rattle.net_names.proofs.Standing.{var-at, var-below}
+use Rattle.net_names.proofs.IsVar.{var-at, var-below}
 use Rattle.net_names.proofs.vars.var_numbered.Goals as goal
 
 pub get-requires : goal.get-requires

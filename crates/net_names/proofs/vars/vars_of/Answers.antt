@@ -1,6 +1,6 @@
-use Rattle.std.proofs.Common.{◌∙◌, IfOk}
+use Rattle.std.proofs.Common.{◌∙◌}
 use Rattle.net_names.specs.Vars.{AreVars}
-use Rattle.net_names.proofs.Answering.{IfOk-moved}
+use Rattle.net_names.proofs.IfOk.{IfOk-moved}
 use Rattle.net_names.proofs.vars.vars_of.Goals as goal
 
 pub returns : goal.returns

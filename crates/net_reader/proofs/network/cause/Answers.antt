@@ -1,6 +1,6 @@
 use Rattle.std.proofs.Common.{◌≡◌, Some, ◌∙◌, ap}
 use Rattle.polis_base.specs.declared.token.LexError.TheVariants.{NoMemory}
-use Rattle.net_reader.proofs.Stopping.{fault_left, settled_lex, settled_syntax}
+use Rattle.net_reader.proofs.Outcomes.{fault_left, settled_lex, settled_syntax}
 use Rattle.net_reader.proofs.network.cause.Goals as goal
 
 pub returns-in-Some-clause-settled : goal.returns-in-Some-clause-settled

@@ -1,6 +1,6 @@
 use Rattle.std.proofs.Common.{Err, ap, sym, subst, ◌∙◌, inr}
 use Rattle.net_reader.specs.Reading.{Gives, whole_at}
-use Rattle.net_reader.proofs.Stopping.{settled_ok}
+use Rattle.net_reader.proofs.Outcomes.{settled_ok}
 use Rattle.net_reader.proofs.network.judge.Goals as goal
 
 pub cause-requires : goal.cause-requires

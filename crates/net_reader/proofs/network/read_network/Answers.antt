@@ -1,12 +1,9 @@
-use Rattle.net_reader.proofs.Whole.{ok_clause, one_clause, ok_there_clause, syntax_clause, syntax_there_clause}
+use Rattle.net_reader.proofs.Sentences.{ok_clause, ok_there_clause, syntax_clause, syntax_there_clause}
 use Rattle.net_reader.proofs.LastToken.{last_missing_clause}
 use Rattle.net_reader.proofs.network.read_network.Goals as goal
 
 pub returns-clause-ok : goal.returns-clause-ok
 returns-clause-ok c = ok_clause c.args.text.now c.read.result c.read.ensures.settled
-
-pub returns-clause-one : goal.returns-clause-one
-returns-clause-one c = one_clause c.args.text.now c.read.result c.read.ensures.settled
 
 pub returns-clause-ok_there : goal.returns-clause-ok_there
 returns-clause-ok_there c = ok_there_clause c.args.text.now c.read.result c.read.ensures.settled

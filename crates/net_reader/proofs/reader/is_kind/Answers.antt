@@ -1,4 +1,4 @@
-use Rattle.net_reader.proofs.Steps.{tested}
+use Rattle.net_reader.proofs.NextToken.{tested}
 use Rattle.net_reader.proofs.reader.is_kind.Goals as goal
 
 pub returns : goal.returns

@@ -1,4 +1,4 @@
-use Rattle.net_reader.proofs.Shrinking.{act_shrinks}
+use Rattle.net_reader.proofs.Shrinks.{act_shrinks}
 use Rattle.net_reader.proofs.rules.acts.Goals as goal
 
 pub listed-requires : goal.listed-requires

@@ -1,4 +1,4 @@
-use Rattle.net_reader.proofs.Shrinking.{row_shrinks, state_shrinks, word_shrinks}
+use Rattle.net_reader.proofs.Shrinks.{row_shrinks, state_shrinks, word_shrinks}
 use Rattle.net_reader.proofs.rules.body.Goals as goal
 
 pub listed-requires : goal.listed-requires

@@ -1,4 +1,4 @@
-use Rattle.net_reader.proofs.Shrinking.{domain_shrinks, event_shrinks, machine_shrinks}
+use Rattle.net_reader.proofs.Shrinks.{domain_shrinks, event_shrinks, machine_shrinks}
 use Rattle.net_reader.proofs.rules.net.Goals as goal
 
 pub many-requires-clause-shrinks : goal.many-requires-clause-shrinks

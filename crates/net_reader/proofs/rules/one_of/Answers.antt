@@ -1,4 +1,4 @@
-use Rattle.net_reader.proofs.Shrinking.{value_shrinks}
+use Rattle.net_reader.proofs.Shrinks.{value_shrinks}
 use Rattle.net_reader.proofs.rules.one_of.Goals as goal
 
 pub listed-requires : goal.listed-requires

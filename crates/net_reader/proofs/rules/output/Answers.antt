@@ -1,4 +1,4 @@
-use Rattle.net_reader.proofs.Shrinking.{word_shrinks}
+use Rattle.net_reader.proofs.Shrinks.{word_shrinks}
 use Rattle.net_reader.proofs.rules.output.Goals as goal
 
 pub listed-requires : goal.listed-requires

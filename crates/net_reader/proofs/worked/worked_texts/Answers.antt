@@ -1,4 +1,4 @@
-use Rattle.net_reader.proofs.Computed.{lamp_declares, lamp_lacks_last, lamp_cut, echo_declares, input_declares, input_in_1, input_in_3, given_in_3, sum_in_1, sum_emitted}
+use Rattle.net_reader.proofs.WorkedTexts.{lamp_declares, lamp_lacks_last, lamp_cut, echo_declares, input_declares, input_in_1, input_in_3, given_in_3, sum_in_1, sum_emitted}
 use Rattle.net_reader.proofs.worked.worked_texts.Goals as goal
 
 pub returns-clause-lamp : goal.returns-clause-lamp

@@ -1,4 +1,4 @@
-use Rattle.net_rules.proofs.Sets.{cut}
+use Rattle.net_rules.proofs.BitsWhere.{cut}
 use Rattle.net_rules.proofs.codes.below.Goals as goal
 
 pub returns : goal.returns

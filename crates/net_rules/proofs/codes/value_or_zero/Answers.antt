@@ -1,5 +1,5 @@
 use Rattle.std.proofs.Common.{◌∙◌, sym, arith}
-use Rattle.net_rules.proofs.Found.{value-below}
+use Rattle.net_rules.proofs.ValueIn.{value-below}
 use Rattle.net_rules.proofs.codes.value_or_zero.Goals as goal
 
 pub returns-in-Some-clause-small : goal.returns-in-Some-clause-small

@@ -1,4 +1,4 @@
-use Rattle.net_rules.proofs.Sets.{set-bit}
+use Rattle.net_rules.proofs.BitsWhere.{set-bit}
 use Rattle.net_rules.proofs.codes.with_code.Goals as goal
 
 pub returns : goal.returns

@@ -5,9 +5,9 @@ use Rattle.net_reader.specs.declared.raw.Word.{Word}
 use Rattle.net_names.specs.Scopes.{event_words}
 use Rattle.net_rules.specs.Networks.{state_of}
 use Rattle.net_names.specs.Numbers.{number}
-use Rattle.net_rules.proofs.Bits.{declared-each}
-use Rattle.net_rules.proofs.Moved.{rows-moved, kept-moved, each-moved, small-kept}
-use Rattle.net_rules.proofs.Fitting.{vars-fit, results-fit, rows-fit}
+use Rattle.net_rules.proofs.AllowedCodes.{declared-each}
+use Rattle.net_rules.proofs.IsSoundMachine.{rows-moved, kept-moved, each-moved, small-kept}
+use Rattle.net_rules.proofs.MachineFacts.{vars-fit, results-fit, rows-fit}
 use Rattle.net_rules.proofs.machine_list.machine_of.Goals as goal
 
 pub var_sizes-requires-clause-declared : goal.var_sizes-requires-clause-declared

@@ -10,9 +10,9 @@ use Rattle.net_reader.specs.declared.raw.RawNet.{RawNet}
 use Rattle.net_rules.specs.Networks.{event_of, IsDomainOf, IsMachineOf}
 use Rattle.net_rules.specs.inner.Sound.{Each, IsSoundMachine, has_count}
 use Rattle.net_rules.proofs.Counts.{each-all, count-in}
-use Rattle.net_rules.proofs.Kept.{receivers-kept}
+use Rattle.net_rules.proofs.HasReceivers.{receivers-kept}
 use Rattle.net_rules.proofs.Zips.{zip-long}
-use Rattle.net_rules.proofs.Numbering.{domain-count, event-count, machine-count, event-names-kept, machine-names-kept, event-domains-kept, all-keep, all-senders}
+use Rattle.net_rules.proofs.NetworkFacts.{domain-count, event-count, machine-count, event-names-kept, machine-names-kept, event-domains-kept, all-keep, all-senders}
 use Rattle.net_rules.proofs.resolving.network_of.Goals as goal
 
 pub domains_of-requires-clause-some : goal.domains_of-requires-clause-some

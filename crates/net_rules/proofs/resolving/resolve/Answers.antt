@@ -1,7 +1,7 @@
 use Rattle.std.proofs.Common.{◌∙◌, sym}
-use Rattle.net_rules.proofs.Judging.{sound}
+use Rattle.net_rules.proofs.IsSound.{sound}
 use Rattle.net_rules.proofs.Sentences.{sentences-have-values}
-use Rattle.net_rules.proofs.One.{one_network}
+use Rattle.net_rules.proofs.OneNetwork.{one_network}
 use Rattle.net_rules.proofs.resolving.resolve.Goals as goal
 
 pub network_of-requires : goal.network_of-requires

@@ -1,6 +1,6 @@
 use Rattle.std.proofs.Common.{◌∙◌, ap, sym}
 use Rattle.net_rules.specs.Networks.{allows}
-use Rattle.net_rules.proofs.Bits.{only-zero, all-but-zero}
+use Rattle.net_rules.proofs.AllowedCodes.{only-zero, all-but-zero}
 use Rattle.net_rules.proofs.row_list.allowed.Goals as goal
 
 pub returns-in-Present : goal.returns-in-Present

@@ -5,9 +5,9 @@ use Rattle.net_names.specs.Scopes.{cond_word, state_words, var_sizes}
 use Rattle.net_rules.specs.Networks.{allows, bits_where}
 use Rattle.net_names.specs.Numbers.{names_of, number_in}
 use Rattle.net_names.specs.Vars.{IsVar}
-use Rattle.net_rules.proofs.Acts.{in-range, has-it}
-use Rattle.net_rules.proofs.Bits.{vars-count, size-few}
-use Rattle.net_rules.proofs.Fitting.{sizes-fit, vars-short}
+use Rattle.net_rules.proofs.AreActions.{in-range, has-it}
+use Rattle.net_rules.proofs.AllowedCodes.{vars-count, size-few}
+use Rattle.net_rules.proofs.MachineFacts.{sizes-fit, vars-short}
 use Rattle.net_rules.proofs.row_list.cond_of.Goals as goal
 
 pub get-requires : goal.get-requires

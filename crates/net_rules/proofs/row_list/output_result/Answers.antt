@@ -1,6 +1,6 @@
 use Rattle.std.proofs.Common.{arith}
-use Rattle.net_rules.proofs.Bits.{number-most}
-use Rattle.net_rules.proofs.Fitting.{few-outputs, few-states}
+use Rattle.net_rules.proofs.AllowedCodes.{number-most}
+use Rattle.net_rules.proofs.MachineFacts.{few-outputs, few-states}
 use Rattle.net_rules.proofs.row_list.output_result.Goals as goal
 
 pub overflow_add-result-2 : goal.overflow_add-result-2

@@ -5,9 +5,9 @@ use Rattle.net_names.specs.Numbers.{is_name_of}
 use Rattle.net_names.specs.Scopes.{state_words, cond_word}
 use Rattle.net_rules.specs.Networks.{act_of}
 use Rattle.transition_table.specs.RowFacts.{are_actions}
-use Rattle.net_rules.proofs.Acts.{actions-kept}
+use Rattle.net_rules.proofs.AreActions.{actions-kept}
 use Rattle.net_rules.proofs.Amounts.{amount-small}
-use Rattle.net_rules.proofs.Kept.{holds}
+use Rattle.net_rules.proofs.HasReceivers.{holds}
 use Rattle.net_rules.proofs.Counts.{each-nil}
 use Rattle.net_rules.proofs.row_list.row_of.Goals as goal
 

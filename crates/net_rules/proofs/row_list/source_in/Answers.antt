@@ -2,8 +2,8 @@ use Rattle.std.proofs.Common.{◌++◌, arith}
 use Rattle.std.proofs.lemmas.List.{length-append, length-map}
 use Rattle.net_reader.specs.declared.raw.RawState.{RawState}
 use Rattle.net_names.specs.Scopes.{state_words}
-use Rattle.net_rules.proofs.Bits.{number-most}
-use Rattle.net_rules.proofs.Fitting.{few-inputs, few-states}
+use Rattle.net_rules.proofs.AllowedCodes.{number-most}
+use Rattle.net_rules.proofs.MachineFacts.{few-inputs, few-states}
 use Rattle.net_rules.proofs.row_list.source_in.Goals as goal
 
 pub overflow_cast-result-in-Input : goal.overflow_cast-result-in-Input

@@ -1,6 +1,6 @@
 use Rattle.std.proofs.Common.{arith}
-use Rattle.net_rules.proofs.Bits.{states-most}
-use Rattle.net_rules.proofs.Fitting.{few-states}
+use Rattle.net_rules.proofs.AllowedCodes.{states-most}
+use Rattle.net_rules.proofs.MachineFacts.{few-states}
 use Rattle.net_rules.proofs.row_list.state_result.Goals as goal
 
 pub overflow_add-result : goal.overflow_add-result

@@ -1,4 +1,4 @@
-use Rattle.net_rules.proofs.One.{one_network}
+use Rattle.net_rules.proofs.OneNetwork.{one_network}
 use Rattle.net_rules.proofs.Sentences.{sentences-have-values}
 use Rattle.net_rules.proofs.worked.laws.Goals as goal
 

@@ -1,4 +1,4 @@
-use Rattle.net_rules.proofs.Made.{some-network}
+use Rattle.net_rules.proofs.SomeNetwork.{some-network}
 use Rattle.net_rules.proofs.worked.network_laws.Goals as goal
 
 pub returns : goal.returns

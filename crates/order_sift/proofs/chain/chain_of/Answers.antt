@@ -4,12 +4,12 @@ use Rattle.order_sift.specs.inner.Chains.{AreChain}
 use Rattle.decision_diagram.specs.Sets.{stands}
 use Rattle.order_sift.specs.inner.Classes.{AreClasses, fixed_too}
 use Rattle.order_sift.specs.inner.Known.{in_set}
-use Rattle.order_sift.proofs.Filling.{chain_start, chain_next, chain_more}
+use Rattle.order_sift.proofs.ChainSteps.{chain_start, chain_next, chain_more}
 use Rattle.domains.specs.Tables.{product}
-use Rattle.order_sift.proofs.Keying.{room_kept}
-use Rattle.order_sift.proofs.Knowing.{same_level, same_too, small_items}
-use Rattle.order_sift.proofs.Ranging.{items}
-use Rattle.order_sift.proofs.Sweeping.{same_classes, same_next}
+use Rattle.order_sift.proofs.PairKeys.{room_kept}
+use Rattle.order_sift.proofs.ItemSets.{same_level, same_too, small_items}
+use Rattle.order_sift.proofs.AllowedPlaces.{items}
+use Rattle.order_sift.proofs.MovedLevels.{same_classes, same_next}
 use Rattle.order_sift.proofs.chain.chain_of.Goals as goal
 
 pub loop-t-init : goal.loop-t-init

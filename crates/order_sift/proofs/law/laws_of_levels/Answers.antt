@@ -1,4 +1,4 @@
-use Rattle.order_sift.proofs.Belows.{sizes_both}
+use Rattle.order_sift.proofs.AreSizes.{sizes_both}
 use Rattle.order_sift.proofs.law.laws_of_levels.Goals as goal
 
 pub returns-clause-sizes : goal.returns-clause-sizes

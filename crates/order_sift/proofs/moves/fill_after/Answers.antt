@@ -7,13 +7,13 @@ use Rattle.decision_diagram.specs.Sets.{stands, set_level}
 use Rattle.order_sift.specs.inner.Chains.{AreSizes}
 use Rattle.order_sift.specs.inner.Classes.{AreClasses, fixed_too}
 use Rattle.order_sift.specs.inner.Known.{in_set}
-use Rattle.order_sift.proofs.Codes.{set_long}
-use Rattle.order_sift.proofs.Filling.{sizes_set, front_low, after_free, after_more, after_next, steps_after, start_without}
+use Rattle.order_sift.proofs.ListUpdates.{set_long}
+use Rattle.order_sift.proofs.ChainSteps.{sizes_set, front_low, after_free, after_more, after_next, steps_after, start_without}
 use Rattle.domains.specs.Tables.{product}
-use Rattle.order_sift.proofs.Keying.{room_kept}
-use Rattle.order_sift.proofs.Knowing.{same_level, same_too, small_items}
-use Rattle.order_sift.proofs.Ranging.{items}
-use Rattle.order_sift.proofs.Sweeping.{front_of, same_classes, same_next, take_low}
+use Rattle.order_sift.proofs.PairKeys.{room_kept}
+use Rattle.order_sift.proofs.ItemSets.{same_level, same_too, small_items}
+use Rattle.order_sift.proofs.AllowedPlaces.{items}
+use Rattle.order_sift.proofs.MovedLevels.{front_of, same_classes, same_next, take_low}
 use Rattle.order_sift.proofs.moves.fill_after.Goals as goal
 
 pub loop-j-init : goal.loop-j-init

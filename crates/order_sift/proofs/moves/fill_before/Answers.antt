@@ -7,13 +7,13 @@ use Rattle.decision_diagram.specs.Sets.{stands, set_level}
 use Rattle.order_sift.specs.inner.Chains.{AreSizes}
 use Rattle.order_sift.specs.inner.Classes.{AreClasses}
 use Rattle.order_sift.specs.inner.Known.{in_set}
-use Rattle.order_sift.proofs.Codes.{set_long}
-use Rattle.order_sift.proofs.Filling.{sizes_set, front_low, before_next, own_free, own_classes, steps_before, start_with, back_high}
+use Rattle.order_sift.proofs.ListUpdates.{set_long}
+use Rattle.order_sift.proofs.ChainSteps.{sizes_set, front_low, before_next, own_free, own_classes, steps_before, start_with, back_high}
 use Rattle.domains.specs.Tables.{product}
-use Rattle.order_sift.proofs.Keying.{room_kept}
-use Rattle.order_sift.proofs.Knowing.{set_before, set_with, same_level, same_too, small_items}
-use Rattle.order_sift.proofs.Ranging.{items}
-use Rattle.order_sift.proofs.Sweeping.{back_of, same_classes, same_next, rest_long}
+use Rattle.order_sift.proofs.PairKeys.{room_kept}
+use Rattle.order_sift.proofs.ItemSets.{set_before, set_with, same_level, same_too, small_items}
+use Rattle.order_sift.proofs.AllowedPlaces.{items}
+use Rattle.order_sift.proofs.MovedLevels.{back_of, same_classes, same_next, rest_long}
 use Rattle.order_sift.proofs.moves.fill_before.Goals as goal
 
 pub loop-t-init : goal.loop-t-init

@@ -3,7 +3,7 @@ use Rattle.std.specs.List.{remove}
 use Rattle.decision_diagram.specs.Sets.{stands}
 use Rattle.order_sift.specs.inner.Chains.{AreSizes}
 use Rattle.order_sift.specs.inner.Classes.{AreClasses}
-use Rattle.order_sift.proofs.Sweeping.{back_of}
+use Rattle.order_sift.proofs.MovedLevels.{back_of}
 use Rattle.domains.specs.Tables.{product}
 use Rattle.order_sift.specs.inner.Known.{AreKnown}
 use Rattle.order_sift.specs.inner.Pairs.{HasRoom}

@@ -4,8 +4,8 @@ use Rattle.std.proofs.lemmas.List.{length-replicate}
 use Rattle.domains.specs.Tables.{product}
 use Rattle.char_function.specs.Sizes.{Size}
 use Rattle.order_sift.specs.Moves.{moved}
-use Rattle.order_sift.proofs.Keying.{room_kept}
-use Rattle.order_sift.proofs.Filling.{filled_at, size_own}
+use Rattle.order_sift.proofs.PairKeys.{room_kept}
+use Rattle.order_sift.proofs.ChainSteps.{filled_at, size_own}
 use Rattle.order_sift.proofs.moves.sizes_at.Goals as goal
 
 pub fill_before-requires-clause-range : goal.fill_before-requires-clause-range

@@ -2,7 +2,7 @@ use Rattle.std.proofs.Common.{◌≡◌, ◌∙◌, ⊎_elim, ◌+◌, ◌-◌, 
 use Rattle.std.proofs.lemmas.Bool.{cases_lt}
 use Rattle.std.proofs.lemmas.List.{length-set}
 use Rattle.order_sift.specs.inner.Pairs.{AreBelow, HasRoom, HaveFirsts, key_of, pair_at}
-use Rattle.order_sift.proofs.Keying.{below_set, first_more, room_kept, same_first, same_parts}
+use Rattle.order_sift.proofs.PairKeys.{below_set, first_more, room_kept, same_first, same_parts}
 use Rattle.order_sift.proofs.pairs.chained.Goals as goal
 use Rattle.order_sift.proofs.pairs.chained.Goals.{then-codes-i-gt0, else-codes-i-gt0}
 
@@ -40,10 +40,10 @@ first_with-first-requires-clause-pairs c =
 
 pub first_with-first-requires-clause-early : goal.first_with-first-requires-clause-early
 first_with-first-requires-clause-early c =
-    let codes_long = c.requires.long in
+    let codes_long = c.requires.codes.long in
     let li = c.loop-i-test.true in
     stride_low (slice_index c.args.codes.now c.loop-i.i) c.args.stride c.loop-i.i
-    c.if-codes-i-gt0.true (c.requires.within c.loop-i.i (omega arith)).0
+    c.if-codes-i-gt0.true (c.requires.codes.within c.loop-i.i (omega arith)).0
 
 pub loop-i-preserved : goal.loop-i-preserved
 loop-i-preserved c =
@@ -68,9 +68,9 @@ loop-i-preserved c =
           let low : x < n = omega arith in
           let some = w.if-codes-i-gt0.true in
           let stride_some = c.requires.stride in
-          let codes_long = c.requires.long in
+          let codes_long = c.requires.codes.long in
           let early = stride_low (slice_index codes i) stride i some
-          (c.requires.within i (omega arith)).0 in
+          (c.requires.codes.within i (omega arith)).0 in
           let firsts = first_more (pair_at old classes stride)
           (pair_at (slice_set old i x) classes stride) c.loop-i.seen call.new.seen old stride i x
           paired (omega arith) within call.ensures.range.0

@@ -1,5 +1,5 @@
 use Rattle.std.proofs.Common.{◌≡◌, ◌∙◌, ◌-◌, ℕ, length, slice_index, arith, ap}
-use Rattle.order_sift.proofs.Keying.{key_low, key_parts}
+use Rattle.order_sift.proofs.PairKeys.{key_low, key_parts}
 use Rattle.order_sift.proofs.pairs.first_with.Goals as goal
 use Rattle.order_sift.proofs.pairs.first_with.Goals.{then-first-i+then-first-stride+else-one-first, else-one-first-via-then-one-first+else-other-first, else-one-first-via-else-one-first, else-first-i, else-first-i-via-then-first-i+else-first-stride, else-first-i-via-else-first-i}
 

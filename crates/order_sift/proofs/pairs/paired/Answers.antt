@@ -1,7 +1,7 @@
 use Rattle.std.proofs.Common.{◌≡◌, ◌∙◌, ◌+◌, ◌-◌, ◌<◌, ◌≤◌, ℕ, List, length, slice_index, arith, refl, sym, ap, subst}
 use Rattle.std.proofs.lemmas.List.{length-set}
 use Rattle.order_sift.specs.inner.Pairs.{HaveFirsts, key_of, pair_at}
-use Rattle.order_sift.proofs.Keying.{first_more, room_kept, same_first, same_parts}
+use Rattle.order_sift.proofs.PairKeys.{first_more, room_kept, same_first, same_parts}
 use Rattle.order_sift.proofs.pairs.paired.Goals as goal
 
 -- no stride before a place stands the place

@@ -3,8 +3,8 @@ use Rattle.std.proofs.lemmas.Option.{get_or_from_slice_get}
 use Rattle.domains.specs.Orders.{place}
 use Rattle.decision_diagram.specs.Sets.{stands}
 use Rattle.order_sift.specs.inner.Turns.{AreAllowedPlaces}
-use Rattle.order_sift.proofs.Belows.{all_below}
-use Rattle.order_sift.proofs.Ranging.{items, var_within, var_places, result_places, result_first}
+use Rattle.order_sift.proofs.AreSizes.{all_below}
+use Rattle.order_sift.proofs.AllowedPlaces.{items, var_within, var_places, result_places, result_first}
 use Rattle.order_sift.proofs.places.allowed_places.Goals as goal
 
 pub overflow_sub-result : goal.overflow_sub-result

@@ -5,7 +5,7 @@ use Rattle.domains.specs.Tables.{product}
 use Rattle.transition_table.specs.Computed.{result_code}
 use Rattle.order_sift.specs.inner.Classes.{snapshot_at}
 use Rattle.order_sift.specs.inner.Pairs.{AreBelow}
-use Rattle.order_sift.proofs.Stepping.{result_freed}
+use Rattle.order_sift.proofs.AreClasses.{result_freed}
 use Rattle.order_sift.proofs.points.free_result.Goals as goal
 
 pub returns-clause-classes : goal.returns-clause-classes

@@ -9,9 +9,9 @@ use Rattle.order_sift.specs.declared.points.Points.{Points}
 use Rattle.order_sift.specs.inner.Classes.{snapshot_at}
 use Rattle.order_sift.specs.inner.Pairs.{AreBelow, HasRoom}
 use Rattle.order_sift.specs.inner.Points.{IsPrepared}
-use Rattle.order_sift.proofs.Belows.{product_some, size_some, sizes_drop}
-use Rattle.order_sift.proofs.Pointing.{snapshot_fits}
-use Rattle.order_sift.proofs.Stepping.{variable_freed, neighbours, within_of}
+use Rattle.order_sift.proofs.AreSizes.{product_some, size_some, sizes_drop}
+use Rattle.order_sift.proofs.TruePoints.{snapshot_fits}
+use Rattle.order_sift.proofs.AreClasses.{variable_freed, neighbours, within_of}
 use Rattle.order_sift.proofs.points.free_variable.Goals as goal
 use Rattle.transition_table.proofs.Ranges.{below_size}
 use Rattle.domains.proofs.Ranks.{length-fits}
@@ -147,13 +147,22 @@ chained-requires-clause-few c =
     let few = c.requires.few in
     omega arith
 
-pub chained-requires-clause-long : goal.chained-requires-clause-long
-chained-requires-clause-long c =
+pub chained-requires-clause-codes : goal.chained-requires-clause-codes
+chained-requires-clause-codes c =
+    let m = c.args.m.now in
+    let prepared = c.requires.prepared in
+    let some = size_some m.vars c.args.v c.var_count.ensures.sizes c.requires.var in
     let column = column_of c.args.points.now.codes c.args.v c.from-2.result c.get.result.now
     c.as_slice-codes.result.now c.from-2.ensures c.get.ensures c.as_slice-codes.ensures in
-    ap (λ (xs : List ℕ). length xs) (sym column)
-    ∙ c.requires.prepared.variables.long c.args.v c.requires.var ∙ sym c.requires.numbers.long
-    ∙ ap (λ (xs : List ℕ). length xs) (sym c.as_slice-fixed.ensures)
+    record {
+      long = ap (λ (xs : List ℕ). length xs) (sym column)
+          ∙ prepared.variables.long c.args.v c.requires.var ∙ sym c.requires.numbers.long
+          ∙ ap (λ (xs : List ℕ). length xs) (sym c.as_slice-fixed.ensures);
+      within = within_of m c.laws_below.ensures c.args.points.now.codes prepared.variables c.args.v
+          0 c.lists_from-stride.result c.as_slice-codes.result.now c.requires.var (omega arith)
+          (stride_is m.vars c.args.v c.from-3.result c.lists_from-stride.result c.from-3.ensures
+          c.lists_from-stride.ensures) column;
+    }
 
 pub chained-requires-clause-stride : goal.chained-requires-clause-stride
 chained-requires-clause-stride c =
@@ -163,17 +172,6 @@ chained-requires-clause-stride c =
     let is = stride_is vars c.args.v c.from-3.result c.lists_from-stride.result c.from-3.ensures
     c.lists_from-stride.ensures in
     omega arith
-
-pub chained-requires-clause-within : goal.chained-requires-clause-within
-chained-requires-clause-within c =
-    let m = c.args.m.now in
-    let some = size_some m.vars c.args.v c.var_count.ensures.sizes c.requires.var in
-    within_of m c.laws_below.ensures c.args.points.now.codes c.requires.prepared.variables c.args.v 0
-    c.lists_from-stride.result c.as_slice-codes.result.now c.requires.var (omega arith)
-    (stride_is m.vars c.args.v c.from-3.result c.lists_from-stride.result c.from-3.ensures
-    c.lists_from-stride.ensures)
-    (column_of c.args.points.now.codes c.args.v c.from-2.result c.get.result.now
-    c.as_slice-codes.result.now c.from-2.ensures c.get.ensures c.as_slice-codes.ensures)
 
 pub chained-requires-clause-below : goal.chained-requires-clause-below
 chained-requires-clause-below c =

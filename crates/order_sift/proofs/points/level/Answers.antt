@@ -2,7 +2,7 @@ use Rattle.std.proofs.Common.{◌≡◌, ◌∙◌, ◌+◌, ◌<◌, ◌||◌, 
 use Rattle.std.specs.List.{list_any}
 use Rattle.std.proofs.lemmas.List.{length-replicate}
 use Rattle.order_sift.specs.inner.Classes.{differing}
-use Rattle.order_sift.proofs.Counting.{marked_more, differing_more, any_more}
+use Rattle.order_sift.proofs.DifferingNumbers.{marked_more, differing_more, any_more}
 use Rattle.order_sift.proofs.points.level.Goals as goal
 
 none_met : (n k : ℕ) → get_or (replicate n false) k false ≡ false

@@ -6,7 +6,7 @@ use Rattle.order_sift.specs.declared.points.Points.{Points}
 use Rattle.order_sift.specs.inner.Classes.{AreClasses, AreMarks}
 use Rattle.order_sift.specs.inner.Pairs.{AreBelow}
 use Rattle.order_sift.specs.inner.Points.{IsPrepared}
-use Rattle.order_sift.proofs.Leveling.{level_by_marks, marks_few, marks_low}
+use Rattle.order_sift.proofs.LevelByMarks.{level_by_marks, marks_few, marks_low}
 use Rattle.order_sift.proofs.points.level_of.Goals as goal
 
 -- the marks that were read

@@ -3,7 +3,7 @@ use Rattle.std.proofs.lemmas.Bool.{cases_lt}
 use Rattle.std.proofs.lemmas.List.{length-set}
 use Rattle.std.proofs.lemmas.Option.{get_or_from_slice_get}
 use Rattle.order_sift.specs.inner.Pairs.{AreBelow}
-use Rattle.order_sift.proofs.Keying.{below_set}
+use Rattle.order_sift.proofs.PairKeys.{below_set}
 use Rattle.order_sift.proofs.points.take_last.Goals as goal
 use Rattle.order_sift.proofs.points.take_last.Goals.{then-codes-i, else-codes-i}
 

@@ -3,7 +3,7 @@ use Rattle.std.proofs.lemmas.Option.{get_or_from_slice_get}
 use Rattle.domains.specs.Tables.{product}
 use Rattle.transition_table.specs.Computed.{result_code}
 use Rattle.order_sift.specs.inner.Classes.{snapshot_at}
-use Rattle.order_sift.proofs.Preparing.{pushed, code_low, codes_long, numbers_long, number_low, outcome_read}
+use Rattle.order_sift.proofs.TableOutcomes.{pushed, code_low, codes_long, numbers_long, number_low, outcome_read}
 use Rattle.order_sift.proofs.prepare.codes_of_result.Goals as goal
 
 pub get-outcome-requires : goal.get-outcome-requires

@@ -1,9 +1,9 @@
 use Rattle.std.proofs.Common.{◌≡◌, ◌∙◌, ◌+◌, ◌-◌, ◌*◌, ◌==◌, not, slice_index, sym, ap}
 use Rattle.std.proofs.lemmas.Bool.{ne_eqb}
 use Rattle.polis_base.specs.Lists.{upto}
-use Rattle.order_sift.proofs.Differing.{any_item}
+use Rattle.order_sift.proofs.Different.{any_item}
 use Rattle.order_sift.proofs.prepare.differs.Goals as goal
-use Rattle.char_function.proofs.Supporting.{get_upto}
+use Rattle.char_function.proofs.AreSupports.{get_upto}
 
 pub returns-then-outcomes-neighbour : goal.returns-then-outcomes-neighbour
 returns-then-outcomes-neighbour c =

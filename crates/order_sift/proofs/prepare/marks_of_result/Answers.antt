@@ -3,8 +3,8 @@ use Rattle.std.proofs.lemmas.Bool.{le-leb, lt-leb}
 use Rattle.std.proofs.lemmas.Option.{get_or_from_slice_get}
 use Rattle.domains.specs.Tables.{product}
 use Rattle.order_sift.specs.inner.Classes.{matters}
-use Rattle.order_sift.proofs.Counting.{passes_more, passes_not}
-use Rattle.order_sift.proofs.Preparing.{matters_result}
+use Rattle.order_sift.proofs.DifferingNumbers.{passes_more, passes_not}
+use Rattle.order_sift.proofs.TableOutcomes.{matters_result}
 use Rattle.order_sift.proofs.prepare.marks_of_result.Goals as goal
 use Rattle.order_sift.proofs.prepare.marks_of_result.Goals.{then-size-ge2+in_ok-push, else-size-ge2}
 

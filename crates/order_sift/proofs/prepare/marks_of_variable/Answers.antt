@@ -3,9 +3,9 @@ use Rattle.std.proofs.lemmas.Option.{get_or_from_slice_get}
 use Rattle.domains.specs.Tables.{product}
 use Rattle.order_sift.specs.inner.Classes.{snapshot_at, matters}
 use Rattle.order_sift.specs.inner.Points.{AreOutcomes}
-use Rattle.order_sift.proofs.Counting.{passes_more, passes_not}
-use Rattle.order_sift.proofs.Preparing.{matters_var}
-use Rattle.order_sift.proofs.Stepping.{within_of}
+use Rattle.order_sift.proofs.DifferingNumbers.{passes_more, passes_not}
+use Rattle.order_sift.proofs.TableOutcomes.{matters_var}
+use Rattle.order_sift.proofs.AreClasses.{within_of}
 use Rattle.order_sift.proofs.prepare.marks_of_variable.Goals as goal
 use Rattle.order_sift.proofs.prepare.marks_of_variable.Goals.{then-differs+in_ok-push, else-differs}
 use Rattle.outcome_table.proofs.Columns.{product_after}

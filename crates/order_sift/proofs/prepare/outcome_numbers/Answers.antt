@@ -5,8 +5,8 @@ use Rattle.domains.specs.Tables.{product}
 use Rattle.transition_table.specs.Computed.{result_code}
 use Rattle.order_sift.specs.inner.Classes.{snapshot_at}
 use Rattle.order_sift.specs.inner.Pairs.{AreBelow}
-use Rattle.order_sift.proofs.Keying.{room_kept}
-use Rattle.order_sift.proofs.Preparing.{tell_result, same_outcomes}
+use Rattle.order_sift.proofs.PairKeys.{room_kept}
+use Rattle.order_sift.proofs.TableOutcomes.{tell_result, same_outcomes}
 use Rattle.order_sift.proofs.prepare.outcome_numbers.Goals as goal
 
 pub loop-y-preserved : goal.loop-y-preserved

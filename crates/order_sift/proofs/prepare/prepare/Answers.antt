@@ -1,6 +1,6 @@
 use Rattle.std.proofs.Common.{◌∙◌, sym, subst}
 use Rattle.order_sift.specs.inner.Points.{AreVariables}
-use Rattle.order_sift.proofs.Preparing.{numbers_long, variables_of}
+use Rattle.order_sift.proofs.TableOutcomes.{numbers_long, variables_of}
 use Rattle.order_sift.proofs.prepare.prepare.Goals as goal
 
 pub outcome_numbers-requires-clause-snapshots : goal.outcome_numbers-requires-clause-snapshots

@@ -2,8 +2,8 @@ use Rattle.std.proofs.Common.{◌≡◌, ◌∙◌, ◌<◌, ◌||◌, ◌==◌,
 use Rattle.std.proofs.lemmas.List.{take_more}
 use Rattle.std.proofs.lemmas.Option.{get_or_from_slice_get}
 use Rattle.decision_diagram.specs.Sets.{stands}
-use Rattle.order_sift.proofs.Knowing.{in_none}
-use Rattle.order_sift.proofs.Sweeping.{stands_more}
+use Rattle.order_sift.proofs.ItemSets.{in_none}
+use Rattle.order_sift.proofs.MovedLevels.{stands_more}
 use Rattle.order_sift.proofs.sets.first_items.Goals as goal
 
 pub loop-k-init : goal.loop-k-init

@@ -1,4 +1,4 @@
-use Rattle.order_sift.proofs.Knowing.{levels_more}
+use Rattle.order_sift.proofs.ItemSets.{levels_more}
 use Rattle.order_sift.specs.inner.Known.{in_set}
 use Rattle.order_sift.proofs.sets.level_after.Goals as goal
 

@@ -1,7 +1,7 @@
 use Rattle.std.proofs.Common.{◌∙◌, List, ℕ, sym, subst}
 use Rattle.order_sift.specs.inner.Classes.{AreClasses}
 use Rattle.order_sift.specs.inner.Known.{in_set}
-use Rattle.order_sift.proofs.Knowing.{numbers_more}
+use Rattle.order_sift.proofs.ItemSets.{numbers_more}
 use Rattle.order_sift.proofs.sets.numbers_of.Goals as goal
 
 pub freed-requires-clause-numbers : goal.freed-requires-clause-numbers

@@ -1,4 +1,4 @@
-use Rattle.order_sift.proofs.Knowing.{one_more}
+use Rattle.order_sift.proofs.ItemSets.{one_more}
 use Rattle.order_sift.proofs.sets.with.Goals as goal
 
 pub returns : goal.returns

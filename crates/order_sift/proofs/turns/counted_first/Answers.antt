@@ -3,7 +3,7 @@ use Rattle.std.proofs.lemmas.Option.{get_or_from_slice_get}
 use Rattle.transition_table.specs.Computed.{char}
 use Rattle.transition_table.specs.Orders.{sizes_of}
 use Rattle.char_function.specs.Sizes.{Size}
-use Rattle.order_sift.proofs.Filling.{chain_whole}
+use Rattle.order_sift.proofs.ChainSteps.{chain_whole}
 use Rattle.order_sift.proofs.turns.counted_first.Goals as goal
 
 pub get-count-requires : goal.get-count-requires

@@ -4,7 +4,7 @@ use Rattle.std.proofs.lemmas.List.{take_more, take_all, get_or_default}
 use Rattle.std.proofs.lemmas.Option.{get_or_from_slice_get}
 use Rattle.domains.specs.Orders.{IsPermutation}
 use Rattle.order_sift.specs.Moves.{moved}
-use Rattle.order_sift.proofs.Moving.{moved_permutation}
+use Rattle.order_sift.proofs.MovedPlaces.{moved_permutation}
 use Rattle.order_sift.proofs.turns.moved.Goals as goal
 
 pub loop-k-preserved : goal.loop-k-preserved

@@ -1,6 +1,6 @@
 use Rattle.std.proofs.Common.{◌<◌, arith}
 use Rattle.domains.specs.Tables.{product}
-use Rattle.order_sift.proofs.Sizing.{large_sifted}
+use Rattle.order_sift.proofs.IsSize.{large_sifted}
 use Rattle.order_sift.proofs.turns.sift_diagram.Goals as goal
 
 pub returns-then-snapshot_count-gt-SIFTED_SNAPSHOTS_MAX-clause-sifted :

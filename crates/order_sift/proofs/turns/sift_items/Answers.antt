@@ -1,5 +1,5 @@
 use Rattle.domains.specs.Tables.{product}
-use Rattle.order_sift.proofs.Keying.{room_kept}
+use Rattle.order_sift.proofs.PairKeys.{room_kept}
 use Rattle.order_sift.proofs.AtBest.{falls_then}
 use Rattle.order_sift.proofs.turns.sift_items.Goals as goal
 

@@ -1,7 +1,7 @@
 use Rattle.std.proofs.Common.{◌≡◌, ◌∙◌, ⊎_elim, ap, sym, subst, arith}
 use Rattle.char_function.specs.Orders.{first_order}
 use Rattle.char_function.specs.Sizes.{Size}
-use Rattle.order_sift.proofs.Sizing.{is_size, is_least, none_smaller}
+use Rattle.order_sift.proofs.IsSize.{is_size, is_least, none_smaller}
 use Rattle.order_sift.specs.inner.Turns.{NoneSmaller}
 use Rattle.order_sift.proofs.turns.sifted_from.Goals as goal
 

@@ -2,7 +2,7 @@ use Rattle.std.proofs.Common.{◌≡◌, ◌∙◌, ◌+◌, ◌*◌, ◌^◌, �
 use Rattle.std.proofs.Math.Seq.{drop-cons}
 use Rattle.std.proofs.lemmas.Option.{get_or_from_slice_get}
 use Rattle.domains.specs.Tables.{product, are_sizes}
-use Rattle.order_sift.proofs.Belows.{factor_below, product_some, sizes_drop}
+use Rattle.order_sift.proofs.AreSizes.{factor_below, product_some, sizes_drop}
 use Rattle.order_sift.proofs.turns.snapshot_count.Goals as goal
 
 here : (sizes : List ℕ) (v : ℕ) → v < length sizes

@@ -2,8 +2,8 @@ use Rattle.std.proofs.Common.{◌≡◌, ◌∙◌, ⊎_elim, ◌+◌, ◌≤◌
 use Rattle.std.proofs.lemmas.Bool.{cases_lt}
 use Rattle.order_sift.specs.inner.Turns.{IsAtBest, StaysOrFalls}
 use Rattle.domains.specs.Tables.{product}
-use Rattle.order_sift.proofs.Keying.{room_kept}
-use Rattle.order_sift.proofs.Ranging.{items}
+use Rattle.order_sift.proofs.PairKeys.{room_kept}
+use Rattle.order_sift.proofs.AllowedPlaces.{items}
 use Rattle.order_sift.proofs.AtBest.{same_order, least_from_best}
 use Rattle.order_sift.proofs.turns.turn.Goals as goal
 

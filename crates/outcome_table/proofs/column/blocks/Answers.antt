@@ -1,6 +1,6 @@
 use Rattle.std.proofs.Common.{◌≡◌, ◌∙◌, ◌+◌, ◌++◌, ℕ, List, suc, flat_map, replicate, vec_len, arith, ap, sym}
 use Rattle.polis_base.specs.Lists.{upto}
-use Rattle.outcome_table.proofs.Lists.{flat_upto, resized}
+use Rattle.outcome_table.proofs.ListMaps.{flat_upto, resized}
 use Rattle.outcome_table.proofs.column.blocks.Goals as goal
 
 pub loop-code-preserved : goal.loop-code-preserved

@@ -1,6 +1,6 @@
 use Rattle.std.proofs.Common.{◌≡◌, ◌∙◌, ◌+◌, ◌++◌, ℕ, List, suc, flat_map, arith, ap, sym}
 use Rattle.polis_base.specs.Lists.{upto}
-use Rattle.outcome_table.proofs.Lists.{flat_upto}
+use Rattle.outcome_table.proofs.ListMaps.{flat_upto}
 use Rattle.outcome_table.proofs.column.repeated.Goals as goal
 
 pub loop-preserved : goal.loop-preserved

@@ -2,7 +2,7 @@ use Rattle.std.proofs.Common.{◌&&◌, nat_lt, sym, ap, ◌∙◌}
 use Rattle.std.specs.List.{list_all}
 use Rattle.std.proofs.lemmas.Option.{get_or_from_slice_get}
 use Rattle.transition_table.specs.inner.Masks.{allows_code}
-use Rattle.transition_table.proofs.Ones.{size_of_var}
+use Rattle.transition_table.proofs.CodeSets.{size_of_var}
 use Rattle.outcome_table.proofs.mask.mask_of.Goals as goal
 
 pub all_codes-requires : goal.all_codes-requires

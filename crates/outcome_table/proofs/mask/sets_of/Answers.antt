@@ -2,7 +2,7 @@ use Rattle.std.proofs.Common.{◌∙◌, [], ℕ, List, get_or, length, arith, a
 use Rattle.std.proofs.lemmas.List.{length_push}
 use Rattle.std.proofs.lemmas.Option.{get_or_from_slice_get, slice_get_within}
 use Rattle.outcome_table.specs.inner.RowSets.{IsSetOf}
-use Rattle.transition_table.proofs.Ones.{size_of_var}
+use Rattle.transition_table.proofs.CodeSets.{size_of_var}
 use Rattle.outcome_table.proofs.RowSets.{pushed}
 use Rattle.outcome_table.proofs.mask.sets_of.Goals as goal
 

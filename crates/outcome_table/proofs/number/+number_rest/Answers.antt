@@ -9,11 +9,11 @@ use Rattle.transition_table.specs.declared.machine.Machine.{Machine}
 use Rattle.outcome_table.specs.inner.Numbering.{Adds, lists_after, rows_left}
 use Rattle.outcome_table.specs.inner.RowSets.{AreAllowed, AreSets, IsSetOf, has_row, rows_in}
 use Rattle.outcome_table.specs.declared.number.Numbered.{Numbered}
-use Rattle.outcome_table.proofs.Counting.{adds_on, begins_kept, lists_split, take_less}
-use Rattle.outcome_table.proofs.Lists.{flat_upto}
-use Rattle.outcome_table.proofs.Narrowing.{first_below, narrowed}
+use Rattle.outcome_table.proofs.NumberedOutcomes.{adds_on, begins_kept, lists_split, take_less}
+use Rattle.outcome_table.proofs.ListMaps.{flat_upto}
+use Rattle.outcome_table.proofs.RowsLeft.{first_below, narrowed}
 use Rattle.outcome_table.proofs.Rows.{fits_long, fits_set}
-use Rattle.transition_table.proofs.Ones.{machine_sizes, size_at}
+use Rattle.transition_table.proofs.CodeSets.{machine_sizes, size_at}
 use Rattle.outcome_table.proofs.number.+number_rest.Goals as goal
 
 -- what stands at one turn of the loop
@@ -103,13 +103,13 @@ get-allowed-requires t c =
     let of_var : AreSets m at sets =
     subst (AreSets m at)
     (get_or_from_slice_get c.args.narrowing.now.allowed.now at sets [] c.get-sets.ensures)
-    (c.requires.allowed.each at c.requires.at) in
+    (c.args.narrowing.now.are_allowed.each at c.requires.at) in
     let long = of_var.long in
     let below = u.below in
     rw c.from.ensures (omega arith)
 
-pub end_left-requires-clause-first : goal.end_left-requires-clause-first
-end_left-requires-clause-first t c =
+pub end_left-requires : goal.end_left-requires
+end_left-requires t c =
     let m = c.args.narrowing.now.machine.now in
     let s = c.args.s.now.codes in
     let at = c.args.at in
@@ -120,13 +120,13 @@ end_left-requires-clause-first t c =
     c.loop-code.invariant.kept c.get-code-end.ensures c.loop-code-test.true in
     let next = left_next m c.args.narrowing.now.allowed.now c.get-sets.result.now
     c.get-allowed.result.now s c.loop-code.s.codes c.set.new.self (rows_in c.args.rows.now) at code
-    c.get-code-end.result.now u c.requires.allowed c.get-sets.ensures
+    c.get-code-end.result.now u c.args.narrowing.now.are_allowed c.get-sets.ensures
     (rw c.from.ensures at c.get-allowed.ensures) c.requires.rows c.set.ensures in
     let first : c.first_of_both-first.result
     ≡ slice_get (rows_left m (take (at + 1) c.set.new.self)) 0 =
     c.first_of_both-first.ensures ∙ ap (λ (xs : List ℕ). slice_get xs 0) next in
     first_below m (take (at + 1) c.set.new.self) c.first_of_both-first.result
-    (length c.args.narrowing.now.ends.now) first c.requires.ends.long
+    (length c.args.narrowing.now.ends.now) first c.args.narrowing.now.are_ends.long
 
 pub number_all-requires-clause-snapshot : goal.number_all-requires-clause-snapshot
 number_all-requires-clause-snapshot t c =
@@ -148,7 +148,7 @@ number_all-requires-clause-first t c =
     c.loop-code.invariant.kept c.get-code-end.ensures c.loop-code-test.true in
     let next = left_next m c.args.narrowing.now.allowed.now c.get-sets.result.now
     c.get-allowed.result.now s c.loop-code.s.codes c.set.new.self (rows_in c.args.rows.now) at code
-    c.get-code-end.result.now u c.requires.allowed c.get-sets.ensures
+    c.get-code-end.result.now u c.args.narrowing.now.are_allowed c.get-sets.ensures
     (rw c.from.ensures at c.get-allowed.ensures) c.requires.rows c.set.ensures in
     let first : c.first_of_both-first.result
     ≡ slice_get (rows_left m (take (at + 1) c.set.new.self)) 0 =
@@ -192,7 +192,7 @@ number_rest-requires t c =
     c.loop-code.invariant.kept c.get-code-end.ensures c.loop-code-test.true in
     let next = left_next m c.args.narrowing.now.allowed.now c.get-sets.result.now
     c.get-allowed.result.now s c.loop-code.s.codes c.set.new.self (rows_in c.args.rows.now) at code
-    c.get-code-end.result.now u c.requires.allowed c.get-sets.ensures
+    c.get-code-end.result.now u c.args.narrowing.now.are_allowed c.get-sets.ensures
     (rw c.from.ensures at c.get-allowed.ensures) c.requires.rows c.set.ensures in
     let left : rows_in c.both.result ≡ rows_left m (take (at + 1) c.set.new.self) =
     c.both.ensures.rows ∙ next in
@@ -207,12 +207,9 @@ number_rest-requires t c =
           (
             left,
             (
-              c.requires.allowed,
-              (
-                begins_kept m c.args.narrowing.now.fixed.now c.args.made.now.outcomes
-                    c.loop-code.made.outcomes c.requires.begins c.loop-code.invariant.adds.kept,
-                (c.loop-code.invariant.adds.within, (c.requires.ends, (c.requires.counts, c.requires.tails))),
-              ),
+              begins_kept m c.args.narrowing.now.fixed.now c.args.made.now.outcomes
+                  c.loop-code.made.outcomes c.requires.begins c.loop-code.invariant.adds.kept,
+              c.loop-code.invariant.adds.within,
             ),
           ),
         ),

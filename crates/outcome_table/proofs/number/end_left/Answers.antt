@@ -8,6 +8,7 @@ pub returns-in-Some : goal.returns-in-Some
 returns-in-Some c =
     let ends = c.args.narrowing.now.ends.now in
     let is = get_or_from_slice_get ends c.in-Some.r c.get.result.now 0 c.get.ensures in
-    let most = end_within c.args.narrowing.now.machine.now ends c.in-Some.r c.requires.ends
+    let most = end_within c.args.narrowing.now.machine.now ends c.in-Some.r
+    c.args.narrowing.now.are_ends
     (slice_get_within ends c.in-Some.r c.get.result.now c.get.ensures) in
     record { end = sym is ∙ sym (ap (end_left ends) c.in-Some.is); within = omega arith }

@@ -54,7 +54,7 @@ get-requires c =
     let m = c.args.narrowing.now.machine.now in
     let h = head m c.args.s.now.codes c.args.narrowing.now.ends.now c.args.at c.in-Some.r c.args.first
     (fits_long m.vars c.args.s.now.codes c.requires.snapshot) c.requires.at c.requires.first
-    c.requires.ends c.requires.end c.in-Some.is in
+    c.args.narrowing.now.are_ends c.requires.end c.in-Some.is in
     let inside = h.inside in
     let long = c.requires.begins.long in
     omega arith
@@ -74,7 +74,7 @@ returns-then-get c =
     let r : ℕ = c.in-Some.r in
     let h = head m c.args.s.now.codes c.args.narrowing.now.ends.now c.args.at c.in-Some.r c.args.first
     (fits_long m.vars c.args.s.now.codes c.requires.snapshot) c.requires.at c.requires.first
-    c.requires.ends c.requires.end c.in-Some.is in
+    c.args.narrowing.now.are_ends c.requires.end c.in-Some.is in
     let inside = h.inside in
     let some = c.requires.begins.some in
     let on : slice_get c.args.narrowing.now.fixed.now r ≡ Some true =
@@ -109,7 +109,7 @@ returns c =
     let r : ℕ = c.in-Some.r in
     let h = head m s c.args.narrowing.now.ends.now c.args.at c.in-Some.r c.args.first
     (fits_long m.vars s c.requires.snapshot) c.requires.at c.requires.first
-    c.requires.ends c.requires.end c.in-Some.is in
+    c.args.narrowing.now.are_ends c.requires.end c.in-Some.is in
     let there = h.at in
     let same : c.get-row.result.now ≡ h.first.row = let a = there in let b = c.get-row.ensures in
     cc in

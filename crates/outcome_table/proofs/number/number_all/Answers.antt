@@ -2,14 +2,14 @@ use Rattle.std.proofs.Common.{◌≡◌, ◌∙◌, take, drop, get_or, [], arit
 use Rattle.std.proofs.lemmas.Option.{get_or_from_slice_get}
 use Rattle.domains.specs.Tables.{product}
 use Rattle.outcome_table.proofs.Columns.{product_after}
-use Rattle.outcome_table.proofs.Counting.{adds_many, same_after}
-use Rattle.transition_table.proofs.Ones.{machine_sizes}
+use Rattle.outcome_table.proofs.NumberedOutcomes.{adds_many, same_after}
+use Rattle.transition_table.proofs.CodeSets.{machine_sizes}
 use Rattle.outcome_table.proofs.Rows.{few_snapshots}
 use Rattle.outcome_table.proofs.number.number_all.Goals as goal
 
 pub get-times-requires : goal.get-times-requires
 get-times-requires c =
-    let long = c.requires.counts.long in
+    let long = c.args.narrowing.now.are_counts.long in
     let low = c.requires.at in
     omega arith
 
@@ -20,7 +20,7 @@ push_times-requires c =
     let many : times ≡ product (drop c.args.at m.vars) =
     sym (get_or_from_slice_get c.args.narrowing.now.counts.now c.args.at times 0
     c.get-times.ensures)
-    ∙ c.requires.counts.each c.args.at c.requires.at in
+    ∙ c.args.narrowing.now.are_counts.each c.args.at c.requires.at in
     let most = product_after m.vars c.args.at (machine_sizes m) in
     let few = few_snapshots m in
     omega arith
@@ -34,7 +34,7 @@ returns c =
     let many : times ≡ product sizes =
     sym (get_or_from_slice_get c.args.narrowing.now.counts.now c.args.at times 0
     c.get-times.ensures)
-    ∙ c.requires.counts.each c.args.at c.requires.at in
+    ∙ c.args.narrowing.now.are_counts.each c.args.at c.requires.at in
     let after = c.in_ok-number.ensures.number in
     adds_many m c.args.made.now _ c.in_ok-number.number times _ c.requires.within
     c.in_ok-number.ensures.kept c.in_ok-push_times.ensures after.low

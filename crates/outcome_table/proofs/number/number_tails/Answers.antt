@@ -3,8 +3,8 @@ use Rattle.std.proofs.lemmas.List.{take_all}
 use Rattle.domains.specs.AllCodes.{all_codes}
 use Rattle.outcome_table.specs.inner.Numbering.{Adds, rows_left}
 use Rattle.outcome_table.specs.inner.RowSets.{rows_in}
-use Rattle.outcome_table.proofs.Counting.{begins_kept}
-use Rattle.outcome_table.proofs.Narrowing.{first_below}
+use Rattle.outcome_table.proofs.NumberedOutcomes.{begins_kept}
+use Rattle.outcome_table.proofs.RowsLeft.{first_below}
 use Rattle.outcome_table.proofs.Rows.{few_rows, fits_long}
 use Rattle.outcome_table.proofs.Tails.{IsNumber, adds_one, below_most, left_for, number_is}
 use Rattle.outcome_table.proofs.number.number_tails.Goals as goal
@@ -17,7 +17,8 @@ number_under-requires c =
     let lists : List (List ℕ) = all_codes (drop tails.from m.vars) in
     let j : ℕ = c.loop-j.j in
     let one = left_for m s (rows_in c.args.rows.now) c.get.result.now lists tails.sets tails.from j
-    c.requires.from (fits_long m.vars s c.requires.snapshot) (c.requires.tails.sets c.requires.from)
+    c.requires.from (fits_long m.vars s c.requires.snapshot)
+    (c.args.narrowing.now.are_tails.sets c.requires.from)
     c.requires.rows c.get.ensures in
     let full : List ℕ = take tails.from s ++ get_or lists j [] in
     let first : c.first_of_both-first.result ≡ slice_get (rows_left m full) 0 =
@@ -36,7 +37,7 @@ loop-j-preserved c =
     let lists : List (List ℕ) = all_codes (drop tails.from m.vars) in
     let j : ℕ = c.loop-j.j in
     let outcomes : List (List ℕ) = c.loop-j.made.outcomes in
-    let each = c.requires.tails.sets c.requires.from in
+    let each = c.args.narrowing.now.are_tails.sets c.requires.from in
     let one = left_for m s (rows_in c.args.rows.now) c.get.result.now lists tails.sets tails.from j
     c.requires.from (fits_long m.vars s c.requires.snapshot) each c.requires.rows c.get.ensures in
     let full : List ℕ = take tails.from s ++ get_or lists j [] in
@@ -46,8 +47,9 @@ loop-j-preserved c =
     c.loop-j.invariant.kept in
     let own : IsNumber m outcomes full c.number_under.result =
     subst (IsNumber m outcomes full) (sym c.number_under.ensures)
-    (number_is m plain ends outcomes full c.first_of_both-first.result begins c.requires.ends
-    (c.requires.tails.plain c.requires.from) one.long first) in
+    (number_is m plain ends outcomes full c.first_of_both-first.result begins
+    c.args.narrowing.now.are_ends (c.args.narrowing.now.are_tails.plain c.requires.from) one.long
+    first) in
     let long = each.long in
     let count = c.len-j-end.ensures in
     let more = c.loop-j-test.true in
@@ -60,7 +62,7 @@ returns c =
     let tails = c.args.narrowing.now.tails.now in
     let s = c.args.s.now.codes in
     let lists : List (List ℕ) = all_codes (drop tails.from m.vars) in
-    let each = c.requires.tails.sets c.requires.from in
+    let each = c.args.narrowing.now.are_tails.sets c.requires.from in
     let long = each.long in
     let count = c.len-j-end.ensures in
     let over = c.loop-j-test.false in

@@ -3,9 +3,9 @@ use Rattle.transition_table.specs.Computed.{result_codes}
 use Rattle.outcome_table.specs.inner.Numbering.{lists_after}
 use Rattle.outcome_table.specs.Outcomes.{named}
 use Rattle.outcome_table.specs.inner.RowSets.{rows_in}
-use Rattle.outcome_table.proofs.Counting.{lists_all}
+use Rattle.outcome_table.proofs.NumberedOutcomes.{lists_all}
 use Rattle.outcome_table.proofs.Rows.{few_rows}
-use Rattle.outcome_table.proofs.Starting.{all_rows, begin}
+use Rattle.outcome_table.proofs.BeginWithRows.{all_rows, begin}
 use Rattle.outcome_table.proofs.number.numbers_of.Goals as goal
 
 pub first_rows-rows-requires : goal.first_rows-rows-requires

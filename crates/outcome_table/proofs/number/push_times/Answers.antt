@@ -1,5 +1,5 @@
 use Rattle.std.proofs.Common.{◌+◌, vec_len, arith}
-use Rattle.outcome_table.proofs.Lists.{resized}
+use Rattle.outcome_table.proofs.ListMaps.{resized}
 use Rattle.outcome_table.proofs.number.push_times.Goals as goal
 
 pub returns : goal.returns

@@ -1,8 +1,9 @@
 use Rattle.std.proofs.Common.{◌≡◌, ◌≢◌, ◌∙◌, ◌*◌, ◌+◌, length, nat_lt, arith, ap, sym, inl, inr}
 use Rattle.std.proofs.lemmas.Bool.{cases_eq, lt-ltb}
+use Rattle.polis_base.proofs.Lists.{same_below}
 use Rattle.outcome_table.specs.inner.RowSets.{has_row}
-use Rattle.outcome_table.proofs.Narrowing.{not_below}
-use Rattle.outcome_table.proofs.RowSets.{below_all, below_next, no_rows, same_below}
+use Rattle.outcome_table.proofs.RowsLeft.{not_below}
+use Rattle.outcome_table.proofs.RowSets.{below_all, below_next, no_rows}
 use Rattle.outcome_table.proofs.row_set.first_rows.Goals as goal
 
 pub loop-r-init : goal.loop-r-init

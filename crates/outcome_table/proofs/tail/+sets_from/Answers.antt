@@ -5,7 +5,7 @@ use Rattle.domains.specs.AllCodes.{all_codes, each_after}
 use Rattle.transition_table.specs.declared.machine.Machine.{Machine}
 use Rattle.outcome_table.specs.inner.RowSets.{AreAllowed, AreSets, IsSetOf}
 use Rattle.outcome_table.specs.inner.Tails.{EachNarrows}
-use Rattle.outcome_table.proofs.Lists.{flat_upto}
+use Rattle.outcome_table.proofs.ListMaps.{flat_upto}
 use Rattle.outcome_table.proofs.Tails.{each_more, each_none, lists_here}
 use Rattle.outcome_table.proofs.tail.+sets_from.Goals as goal
 

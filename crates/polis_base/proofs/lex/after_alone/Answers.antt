@@ -1,6 +1,6 @@
 use Rattle.std.proofs.Common.{sym, ◌∙◌, arith}
 use Rattle.polis_base.proofs.Scans.{alone_here}
-use Rattle.polis_base.proofs.Reading.{fault_on}
+use Rattle.polis_base.proofs.TokensFrom.{fault_on}
 use Rattle.polis_base.proofs.lex.after_alone.Goals as goal
 
 pub loop-at-preserved : goal.loop-at-preserved

@@ -1,6 +1,6 @@
 use Rattle.std.proofs.Common.{sym, ◌∙◌, ap, drop}
 use Rattle.std.specs.Result.{result_err}
-use Rattle.polis_base.proofs.Reading.{fault_on, stopped, faulty_on, none_on}
+use Rattle.polis_base.proofs.TokensFrom.{fault_on, stopped, faulty_on, none_on}
 use Rattle.polis_base.proofs.Scans.{never_memory}
 use Rattle.polis_base.proofs.lex.fault_after.Goals as goal
 

@@ -2,7 +2,7 @@ use Rattle.std.proofs.Common.{◌+◌, ◌-◌, ◌≤◌, length, sym, ◌∙�
 use Rattle.std.specs.Result.{is_ok}
 use Rattle.std.proofs.lemmas.Bool.{false≢true}
 use Rattle.polis_base.proofs.Scans.{blank_here}
-use Rattle.polis_base.proofs.Reading.{skipped_on, read_on, faulty_on, none_on, same_ok}
+use Rattle.polis_base.proofs.TokensFrom.{skipped_on, read_on, faulty_on, none_on, same_ok}
 use Rattle.polis_base.proofs.Marks.{skipped_marked, read_marked, faulty_marked, none_marked}
 use Rattle.polis_base.proofs.Spans.{token_here}
 use Rattle.polis_base.proofs.lex.next_token.Goals as goal

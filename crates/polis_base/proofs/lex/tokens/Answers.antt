@@ -2,7 +2,7 @@ use Rattle.std.proofs.Common.{◌≡◌, true, Ok, Err, sym, ◌∙◌}
 use Rattle.std.specs.Prelude.{Result, OnOk}
 use Rattle.std.specs.Result.{is_ok}
 use Rattle.std.proofs.lemmas.Bool.{false≢true}
-use Rattle.polis_base.proofs.Reading.{all_read, skipped_more, read_more}
+use Rattle.polis_base.proofs.TokensFrom.{all_read, skipped_more, read_more}
 use Rattle.polis_base.proofs.Spans.{tokens_lie, tokens_in_order}
 use Rattle.polis_base.proofs.lex.tokens.Goals as goal
 

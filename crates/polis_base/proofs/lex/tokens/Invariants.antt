@@ -1,6 +1,6 @@
 use Rattle.std.proofs.Common.{◌≡◌, ◌≤◌, ◌-◌, length, drop}
 use Rattle.polis_base.specs.Tokens.{tokens_from, tokens_of}
-use Rattle.polis_base.proofs.Reading.{after}
+use Rattle.polis_base.proofs.TokensFrom.{after}
 use Rattle.polis_base.proofs.lex.tokens.Given as goal
 
 -- the tokens so far and those of the rest are the text's

@@ -2,7 +2,7 @@ use Rattle.std.proofs.Common.{◌∙◌, flat_map, None, ap}
 use Rattle.net_reader.specs.declared.raw.RawRow.{RawRow}
 use Rattle.net_names.specs.Places.{sooner, least_place}
 use Rattle.net_names.specs.declared.local.Local.{Local}
-use Rattle.rule_judge.proofs.Moved.{of-locals}
+use Rattle.rule_judge.proofs.AreLocals.{of-locals}
 use Rattle.rule_judge.proofs.act_rules.broken_by_acts.Goals as goal
 
 pub returns : goal.returns

@@ -1,4 +1,4 @@
-use Rattle.rule_judge.proofs.Least.{found-more}
+use Rattle.rule_judge.proofs.LeastPlace.{found-more}
 use Rattle.rule_judge.proofs.act_rules.in_acts.Goals as goal
 
 pub loop-act-preserved : goal.loop-act-preserved

@@ -1,7 +1,7 @@
 use Rattle.std.proofs.Common.{flat_map}
 use Rattle.net_reader.specs.declared.raw.RawRow.{RawRow}
 use Rattle.net_names.specs.declared.local.Local.{Local}
-use Rattle.rule_judge.proofs.Least.{found-more}
+use Rattle.rule_judge.proofs.LeastPlace.{found-more}
 use Rattle.rule_judge.proofs.act_rules.in_machines.Goals as goal
 
 pub loop-local-preserved : goal.loop-local-preserved

@@ -1,6 +1,6 @@
 use Rattle.std.proofs.Common.{flat_map}
 use Rattle.net_reader.specs.declared.raw.RawRow.{RawRow}
-use Rattle.rule_judge.proofs.Least.{found-more}
+use Rattle.rule_judge.proofs.LeastPlace.{found-more}
 use Rattle.rule_judge.proofs.act_rules.in_rows.Goals as goal
 
 pub loop-row-preserved : goal.loop-row-preserved

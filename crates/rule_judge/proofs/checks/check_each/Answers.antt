@@ -1,4 +1,4 @@
-use Rattle.rule_judge.proofs.Least.{found-more}
+use Rattle.rule_judge.proofs.LeastPlace.{found-more}
 use Rattle.rule_judge.proofs.checks.check_each.Goals as goal
 
 pub loop-item-preserved : goal.loop-item-preserved

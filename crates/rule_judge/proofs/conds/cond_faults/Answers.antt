@@ -3,8 +3,8 @@ use Rattle.net_reader.specs.declared.raw.RawRow.{RawRow}
 use Rattle.net_names.specs.declared.local.Local.{Local}
 use Rattle.net_names.specs.Places.{sooner, least_place}
 use Rattle.rule_judge.specs.Rules.{unknown, unsuited, wrong_values}
-use Rattle.rule_judge.proofs.Moved.{of-locals}
-use Rattle.net_names.proofs.Answering.{IfOk-moved}
+use Rattle.rule_judge.proofs.AreLocals.{of-locals}
+use Rattle.net_names.proofs.IfOk.{IfOk-moved}
 use Rattle.rule_judge.proofs.conds.cond_faults.Goals as goal
 
 pub returns-clause-unknown : goal.returns-clause-unknown

@@ -2,7 +2,7 @@ use Rattle.std.proofs.Common.{◌≡◌, ◌∙◌, ap}
 use Rattle.net_names.specs.Places.{sooner, least_place}
 use Rattle.rule_judge.specs.declared.conds.CondFaults.{CondFaults}
 use Rattle.rule_judge.specs.Rules.{unknown, unsuited, wrong_values}
-use Rattle.rule_judge.proofs.Least.{found-more, found-none}
+use Rattle.rule_judge.proofs.LeastPlace.{found-more, found-none}
 use Rattle.rule_judge.proofs.conds.in_conds.Goals as goal
 use Rattle.rule_judge.proofs.conds.in_conds.Goals.{then-not-is_kept, else-not-is_kept}
 

@@ -2,7 +2,7 @@ use Rattle.std.proofs.Common.{flat_map}
 use Rattle.net_reader.specs.declared.raw.RawRow.{RawRow}
 use Rattle.net_names.specs.declared.local.Local.{Local}
 use Rattle.rule_judge.specs.Rules.{unknown, unsuited, wrong_values}
-use Rattle.rule_judge.proofs.Least.{found-more}
+use Rattle.rule_judge.proofs.LeastPlace.{found-more}
 use Rattle.rule_judge.proofs.conds.in_machines.Goals as goal
 
 pub loop-local-preserved : goal.loop-local-preserved

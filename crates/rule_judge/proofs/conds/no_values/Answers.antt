@@ -1,6 +1,6 @@
 use Rattle.std.proofs.Common.{option_copied}
 use Rattle.net_names.specs.Values.{no_value}
-use Rattle.rule_judge.proofs.Least.{found-more}
+use Rattle.rule_judge.proofs.LeastPlace.{found-more}
 use Rattle.rule_judge.proofs.conds.no_values.Goals as goal
 
 pub loop-value-preserved : goal.loop-value-preserved

@@ -5,7 +5,7 @@ use Rattle.net_reader.specs.declared.raw.RawNet.{RawNet}
 use Rattle.net_names.specs.Places.{least_place}
 use Rattle.net_names.specs.Values.{no_value}
 use Rattle.net_names.specs.Scopes.{shape_of}
-use Rattle.net_names.proofs.Answering.{IfOk-same}
+use Rattle.net_names.proofs.IfOk.{IfOk-same}
 use Rattle.rule_judge.proofs.initials.rule_14.Goals as goal
 
 pub returns : goal.returns

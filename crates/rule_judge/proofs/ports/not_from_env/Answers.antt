@@ -1,7 +1,7 @@
 use Rattle.std.proofs.Common.{not}
 use Rattle.net_names.specs.Scopes.{is_from_env}
-use Rattle.net_names.proofs.Answering.{IfOk-same}
-use Rattle.rule_judge.proofs.Parts.{where-words}
+use Rattle.net_names.proofs.IfOk.{IfOk-same}
+use Rattle.rule_judge.proofs.FoundInParts.{where-words}
 use Rattle.rule_judge.proofs.ports.not_from_env.Goals as goal
 
 pub returns : goal.returns

@@ -1,6 +1,6 @@
 use Rattle.net_names.specs.Places.{least_place}
 use Rattle.net_names.specs.Numbers.{repeated, is_name_of}
-use Rattle.net_names.proofs.Answering.{IfOk-same}
+use Rattle.net_names.proofs.IfOk.{IfOk-same}
 use Rattle.rule_judge.proofs.ports.rule_11.Goals as goal
 
 pub returns : goal.returns

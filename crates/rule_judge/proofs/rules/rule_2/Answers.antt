@@ -2,7 +2,7 @@ use Rattle.std.proofs.Common.{◌∙◌, ap}
 use Rattle.net_names.specs.Places.{sooner, least_place}
 use Rattle.rule_judge.specs.Rules.{beyond}
 use Rattle.net_names.specs.Scopes.{domain_words, event_words, machine_words}
-use Rattle.rule_judge.proofs.Parts.{three-plain}
+use Rattle.rule_judge.proofs.FoundInParts.{three-plain}
 use Rattle.rule_judge.proofs.rules.rule_2.Goals as goal
 
 pub returns : goal.returns

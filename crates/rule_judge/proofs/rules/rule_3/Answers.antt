@@ -2,8 +2,8 @@ use Rattle.std.proofs.Common.{◌∙◌, ap}
 use Rattle.net_names.specs.Places.{sooner, least_place}
 use Rattle.net_names.specs.Numbers.{repeated, no_name}
 use Rattle.net_names.specs.Scopes.{domain_words, event_words, machine_words}
-use Rattle.rule_judge.proofs.Least.{three}
-use Rattle.net_names.proofs.Answering.{IfOk-same}
+use Rattle.rule_judge.proofs.LeastPlace.{three}
+use Rattle.net_names.proofs.IfOk.{IfOk-same}
 use Rattle.rule_judge.proofs.rules.rule_3.Goals as goal
 
 pub returns : goal.returns

@@ -4,7 +4,7 @@ use Rattle.net_names.specs.Places.{least_place}
 use Rattle.net_names.specs.Numbers.{missing, is_name_of}
 use Rattle.net_names.specs.Tables.{has}
 use Rattle.net_names.specs.Scopes.{event_words}
-use Rattle.net_names.proofs.Answering.{IfOk-same}
+use Rattle.net_names.proofs.IfOk.{IfOk-same}
 use Rattle.rule_judge.proofs.rules.rule_7.Goals as goal
 
 pub returns : goal.returns

@@ -4,7 +4,7 @@ use Rattle.net_reader.specs.declared.raw.RawMachine.{RawMachine}
 use Rattle.net_reader.specs.declared.raw.RawNet.{RawNet}
 use Rattle.net_names.specs.Places.{unless, least_place}
 use Rattle.net_names.specs.Scopes.{var_sizes}
-use Rattle.net_names.proofs.Answering.{IfOk-same}
+use Rattle.net_names.proofs.IfOk.{IfOk-same}
 use Rattle.rule_judge.proofs.snapshots.rule_20.Goals as goal
 
 pub returns : goal.returns

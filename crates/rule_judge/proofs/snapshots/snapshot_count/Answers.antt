@@ -1,7 +1,7 @@
 use Rattle.std.proofs.Common.{◌∙◌, ◌*◌, ap, min, map}
 use Rattle.domains.specs.Tables.{product}
 use Rattle.net_names.specs.Scopes.{event_codes, state_codes}
-use Rattle.rule_judge.proofs.Capped.{product-capped}
+use Rattle.rule_judge.proofs.CappedProducts.{product-capped}
 use Rattle.rule_judge.proofs.snapshots.snapshot_count.Goals as goal
 
 pub returns : goal.returns

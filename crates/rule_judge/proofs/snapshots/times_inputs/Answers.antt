@@ -1,5 +1,5 @@
 use Rattle.net_names.specs.Scopes.{event_codes}
-use Rattle.rule_judge.proofs.Capped.{times-step, capped-small}
+use Rattle.rule_judge.proofs.CappedProducts.{times-step, capped-small}
 use Rattle.rule_judge.proofs.snapshots.times_inputs.Goals as goal
 
 pub loop-input-preserved : goal.loop-input-preserved

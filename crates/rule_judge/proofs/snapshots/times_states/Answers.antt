@@ -1,5 +1,5 @@
 use Rattle.net_names.specs.Scopes.{state_codes}
-use Rattle.rule_judge.proofs.Capped.{times-step, capped-small}
+use Rattle.rule_judge.proofs.CappedProducts.{times-step, capped-small}
 use Rattle.rule_judge.proofs.snapshots.times_states.Goals as goal
 
 pub loop-state-preserved : goal.loop-state-preserved

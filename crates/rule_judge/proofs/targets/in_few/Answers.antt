@@ -3,7 +3,7 @@ use Rattle.net_names.specs.Places.{sooner, least_place}
 use Rattle.net_names.specs.Numbers.{missing, repeated, no_name}
 use Rattle.net_names.specs.Scopes.{state_words}
 use Rattle.rule_judge.specs.Rules.{emitted, set_names, not_once}
-use Rattle.rule_judge.proofs.Least.{sooner-least}
+use Rattle.rule_judge.proofs.LeastPlace.{sooner-least}
 use Rattle.rule_judge.proofs.targets.in_few.Goals as goal
 
 pub returns : goal.returns

@@ -3,8 +3,8 @@ use Rattle.net_names.specs.Places.{sooner, least_place}
 use Rattle.net_names.specs.Numbers.{missing, repeated, no_name}
 use Rattle.net_names.specs.Scopes.{state_words}
 use Rattle.rule_judge.specs.Rules.{emitted, set_names, not_once}
-use Rattle.rule_judge.proofs.Least.{sooner-least}
-use Rattle.net_names.proofs.Answering.{IfOk-same}
+use Rattle.rule_judge.proofs.LeastPlace.{sooner-least}
+use Rattle.net_names.proofs.IfOk.{IfOk-same}
 use Rattle.rule_judge.proofs.targets.in_many.Goals as goal
 
 pub returns : goal.returns

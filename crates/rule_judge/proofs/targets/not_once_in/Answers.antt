@@ -2,7 +2,7 @@ use Rattle.std.proofs.Common.{◌∙◌, flat_map, ap}
 use Rattle.net_names.specs.Places.{sooner, least_place}
 use Rattle.net_names.specs.Numbers.{missing, repeated, no_name}
 use Rattle.net_names.specs.Tables.{has}
-use Rattle.rule_judge.proofs.Least.{sooner-least}
+use Rattle.rule_judge.proofs.LeastPlace.{sooner-least}
 use Rattle.rule_judge.proofs.targets.not_once_in.Goals as goal
 
 pub returns : goal.returns

@@ -3,8 +3,8 @@ use Rattle.net_reader.specs.declared.raw.RawRow.{RawRow}
 use Rattle.net_names.specs.Places.{least_place}
 use Rattle.net_names.specs.Scopes.{state_words}
 use Rattle.rule_judge.specs.Rules.{emitted, set_names, not_once}
-use Rattle.net_names.proofs.Answering.{IfOk-same}
-use Rattle.rule_judge.proofs.Moved.{of-locals}
+use Rattle.net_names.proofs.IfOk.{IfOk-same}
+use Rattle.rule_judge.proofs.AreLocals.{of-locals}
 use Rattle.rule_judge.proofs.targets.rule_18.Goals as goal
 
 pub returns : goal.returns

@@ -1,6 +1,6 @@
 use Rattle.std.proofs.Common.{◌∙◌, ap, sym}
 use Rattle.net_names.specs.Places.{sooner, least_place}
-use Rattle.rule_judge.proofs.Parts.{beyond-some}
+use Rattle.rule_judge.proofs.FoundInParts.{beyond-some}
 use Rattle.rule_judge.proofs.words.beyond.Goals as goal
 
 pub returns-then-most-len : goal.returns-then-most-len

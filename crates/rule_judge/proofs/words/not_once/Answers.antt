@@ -2,8 +2,8 @@ use Rattle.std.proofs.Common.{◌∙◌, ap}
 use Rattle.net_names.specs.Places.{sooner, least_place}
 use Rattle.net_names.specs.Numbers.{missing, repeated, no_name}
 use Rattle.net_names.specs.Tables.{has}
-use Rattle.rule_judge.proofs.Least.{sooner-least}
-use Rattle.net_names.proofs.Answering.{IfOk-same}
+use Rattle.rule_judge.proofs.LeastPlace.{sooner-least}
+use Rattle.net_names.proofs.IfOk.{IfOk-same}
 use Rattle.rule_judge.proofs.words.not_once.Goals as goal
 
 pub returns : goal.returns

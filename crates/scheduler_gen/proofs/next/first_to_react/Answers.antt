@@ -2,7 +2,7 @@ use Rattle.std.proofs.Common.{◌≡◌, sym, ◌∙◌, arith, add-one, None}
 use Rattle.std.specs.List.{find}
 use Rattle.std.proofs.lemmas.List.{take_all}
 use Rattle.journals.specs.Journals.{is_woken}
-use Rattle.scheduler_gen.proofs.Woken.{at_is_in, find_at, find_past, first_of_plan}
+use Rattle.scheduler_gen.proofs.FirstOfPlan.{at_is_in, find_at, find_past, first_of_plan}
 use Rattle.scheduler_gen.proofs.next.first_to_react.Goals as goal
 
 pub woken-requires : goal.woken-requires

@@ -1,5 +1,5 @@
 use Rattle.std.proofs.Common.{refl}
-use Rattle.scheduler_gen.proofs.Steps.{finished_at}
+use Rattle.scheduler_gen.proofs.RunSteps.{finished_at}
 use Rattle.scheduler_gen.proofs.run.complete_on.Goals as goal
 
 pub returns : goal.returns

@@ -1,5 +1,5 @@
 use Rattle.std.proofs.Common.{◌≡◌, true, false, Ok, ap, arith}
-use Rattle.scheduler_gen.proofs.Steps.{goes_further, longer_by_one, stops_here}
+use Rattle.scheduler_gen.proofs.RunSteps.{goes_further, longer_by_one, stops_here}
 use Rattle.scheduler_gen.proofs.run.run.Goals as goal
 
 pub returns-then-not-branch-clause-ends : goal.returns-then-not-branch-clause-ends

@@ -1,5 +1,5 @@
 use Rattle.std.proofs.Common.{◌+◌, length, arith}
-use Rattle.sgraph.proofs.Graphing.{all_nodes, is_graph_of}
+use Rattle.sgraph.proofs.GraphOf.{all_nodes, is_graph_of}
 use Rattle.sgraph.proofs.building.graph_vertices.Goals as goal
 
 pub numbers_of-requires : goal.numbers_of-requires

@@ -1,6 +1,6 @@
 use Rattle.std.proofs.Common.{◌≡◌, ◌∙◌, sym, arith, slice_index}
 use Rattle.decision_diagram.specs.Diagrams.{kids_of}
-use Rattle.sgraph.proofs.Sending.{two_items}
+use Rattle.sgraph.proofs.SentPlaces.{two_items}
 use Rattle.sgraph.proofs.building.kid_places.Goals as goal
 
 pub returns-then-item_size-eq2 : goal.returns-then-item_size-eq2

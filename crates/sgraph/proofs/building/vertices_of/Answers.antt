@@ -4,7 +4,7 @@ use Rattle.sgraph.specs.declared.vertex.Vertex.{Vertex}
 use Rattle.sgraph.specs.declared.vertex.Vertex.TheVariants.{Begin}
 use Rattle.sgraph.specs.Building.{vertex_in}
 use Rattle.sgraph.specs.inner.Marks.{turned}
-use Rattle.sgraph.proofs.Graphing.{one_vertex}
+use Rattle.sgraph.proofs.GraphOf.{one_vertex}
 use Rattle.sgraph.proofs.building.vertices_of.Goals as goal
 
 pub loop-i-preserved : goal.loop-i-preserved

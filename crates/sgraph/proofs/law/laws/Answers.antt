@@ -1,5 +1,5 @@
 use Rattle.sgraph.proofs.Edges.{edges_order, edges_once}
-use Rattle.sgraph.proofs.Known.{Below}
+use Rattle.sgraph.proofs.Below.{Below}
 use Rattle.sgraph.proofs.EdgesMakeGraph.{edges_make_graph, fits_by_test}
 use Rattle.sgraph.proofs.RightGraphs.{built_is_right, graph_is_built, graph_is_right, numbered_goes_on}
 use Rattle.sgraph.proofs.law.laws.Goals as goal

@@ -1,5 +1,5 @@
 use Rattle.std.proofs.Common.{◌≡◌, ◌+◌, ◌≤◌, ℕ, subst, length, slice_get, Some, true, false, arith, Bool}
-use Rattle.sgraph.proofs.Following.{left_there, left_more, left_new, one_mark}
+use Rattle.sgraph.proofs.NextNodes.{left_there, left_more, left_new, one_mark}
 use Rattle.sgraph.proofs.leaving.+leave.Goals as goal
 use Rattle.sgraph.proofs.leaving.+leave.Goals.{then-not-get+in_ok-leave, else-not-get}
 

@@ -1,6 +1,6 @@
 use Rattle.std.proofs.Common.{◌≡◌, ◌∙◌, sym, arith, slice_index}
 use Rattle.decision_diagram.specs.Diagrams.{kids_of}
-use Rattle.sgraph.proofs.Following.{code_is}
+use Rattle.sgraph.proofs.NextNodes.{code_is}
 use Rattle.sgraph.proofs.leaving.first_code.Goals as goal
 
 pub returns-then-number-ne0-clause-code : goal.returns-then-number-ne0-clause-code

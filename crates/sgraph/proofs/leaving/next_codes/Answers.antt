@@ -1,5 +1,5 @@
 use Rattle.std.proofs.Common.{◌≡◌, ◌∙◌, refl, sym, arith, length, slice_index}
-use Rattle.sgraph.proofs.Following.{all_codes}
+use Rattle.sgraph.proofs.NextNodes.{all_codes}
 use Rattle.sgraph.proofs.leaving.next_codes.Goals as goal
 
 pub overflow_add-result : goal.overflow_add-result

@@ -1,4 +1,4 @@
-use Rattle.sgraph.proofs.Sending.{Sent}
+use Rattle.sgraph.proofs.SentPlaces.{Sent}
 use Rattle.sgraph.proofs.places.sent.Given as goal
 
 abbrev pub invariant-loop-j : goal.invariant-loop-j

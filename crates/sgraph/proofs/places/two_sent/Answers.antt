@@ -1,6 +1,6 @@
 use Rattle.std.proofs.Common.{rules, ◌≡◌, ◌∷◌, [], slice_index, length, refl, sym}
-use Rattle.sgraph.proofs.Following.{got}
-use Rattle.sgraph.proofs.Sending.{two_items}
+use Rattle.sgraph.proofs.NextNodes.{got}
+use Rattle.sgraph.proofs.SentPlaces.{two_items}
 use Rattle.sgraph.proofs.places.two_sent.Goals as goal
 
 pub returns : goal.returns

@@ -1,7 +1,7 @@
 use Rattle.std.proofs.Common.{subst, sym}
 use Rattle.sgraph_opt.specs.Smaller.{NoDefaults}
-use Rattle.sgraph_opt.proofs.Dropped.{dropping_stands}
-use Rattle.sgraph_opt.proofs.Reducing.{are_without}
+use Rattle.sgraph_opt.proofs.DroppedDefaults.{dropping_stands}
+use Rattle.sgraph_opt.proofs.Reduced.{are_without}
 use Rattle.sgraph_opt.proofs.dropping.drop_defaults.Goals as goal
 
 pub renumbered-requires : goal.renumbered-requires

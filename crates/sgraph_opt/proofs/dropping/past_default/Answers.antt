@@ -1,7 +1,7 @@
 use Rattle.std.proofs.Common.{◌<◌, ◌∙◌, ap, arith, length, Some}
 use Rattle.sgraph.specs.declared.vertex.Vertex.{Vertex}
 use Rattle.sgraph.specs.declared.vertex.Vertex.TheVariants.{Assign}
-use Rattle.sgraph_opt.proofs.Dropped.{left_out}
+use Rattle.sgraph_opt.proofs.DroppedDefaults.{left_out}
 use Rattle.sgraph_opt.proofs.dropping.past_default.Goals as goal
 
 pub get-requires : goal.get-requires

@@ -1,6 +1,6 @@
 use Rattle.std.proofs.Common.{◌≡◌, ◌-◌, arith, subst}
 use Rattle.sgraph_opt.specs.inner.Representatives.{Dropping}
-use Rattle.sgraph_opt.proofs.Dropped.{dropping_start, dropping_more}
+use Rattle.sgraph_opt.proofs.DroppedDefaults.{dropping_start, dropping_more}
 use Rattle.sgraph_opt.proofs.dropping.past_defaults.Goals as goal
 
 pub loop-k-init : goal.loop-k-init

@@ -2,8 +2,8 @@ use Rattle.std.proofs.Common.{◌≡◌, ◌<◌, subst, ap, map, length, slice_
 use Rattle.std.proofs.lemmas.List.{length-map}
 use Rattle.sgraph.specs.Graphs.{kids_at}
 use Rattle.sgraph_opt.specs.inner.Renumbering.{replaced}
-use Rattle.sgraph.proofs.Following.{one_mark}
-use Rattle.sgraph_opt.proofs.Departing.{left_there, left_new}
+use Rattle.sgraph.proofs.NextNodes.{one_mark}
+use Rattle.sgraph_opt.proofs.LeftAfter.{left_there, left_new}
 use Rattle.sgraph_opt.proofs.Replaced.{long_replaced, all_kids, next_left, rep_inside}
 use Rattle.sgraph_opt.proofs.Standing.{rises}
 use Rattle.sgraph_opt.proofs.numbering.+leave.Goals as goal

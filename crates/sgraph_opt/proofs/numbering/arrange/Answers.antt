@@ -4,7 +4,7 @@ use Rattle.sgraph.specs.Graphs.{kids_of}
 use Rattle.sgraph.specs.inner.Marks.{turned}
 use Rattle.sgraph_opt.specs.inner.Representatives.{renamed}
 use Rattle.sgraph_opt.specs.inner.Renumbering.{replaced, vertex_at}
-use Rattle.sgraph_opt.proofs.Arranging.{one_vertex}
+use Rattle.sgraph_opt.proofs.VerticesLeft.{one_vertex}
 use Rattle.sgraph_opt.proofs.Replaced.{vertex_again, kid_low, rep_low}
 use Rattle.sgraph_opt.proofs.numbering.arrange.Goals as goal
 

@@ -1,7 +1,7 @@
 use Rattle.std.proofs.Common.{◌<◌, ◌-◌, subst, ℕ, arith}
-use Rattle.decision_diagram.proofs.Lists.{read_within}
-use Rattle.sgraph.proofs.Following.{got}
-use Rattle.sgraph.proofs.Graphing.{numbers_end, numbers_more, numbers_start}
+use Rattle.decision_diagram.proofs.ListItems.{read_within}
+use Rattle.sgraph.proofs.NextNodes.{got}
+use Rattle.sgraph.proofs.GraphOf.{numbers_end, numbers_more, numbers_start}
 use Rattle.sgraph_opt.proofs.numbering.numbers_of.Goals as goal
 
 pub loop-i-init : goal.loop-i-init

@@ -2,8 +2,8 @@ use Rattle.std.proofs.Common.{◌∙◌, subst, sym, arith}
 use Rattle.sgraph.specs.Facts.{IsGraph}
 use Rattle.sgraph_opt.specs.inner.Renumbering.{replaced}
 use Rattle.sgraph_opt.specs.Smaller.{Keeps}
-use Rattle.sgraph_opt.proofs.Arranging.{all_inside, is_numbered_of}
-use Rattle.sgraph_opt.proofs.Kept.{is_graph, keeps}
+use Rattle.sgraph_opt.proofs.VerticesLeft.{all_inside, is_numbered_of}
+use Rattle.sgraph_opt.proofs.Keeps.{is_graph, keeps}
 use Rattle.sgraph_opt.proofs.Replaced.{long_replaced}
 use Rattle.sgraph_opt.proofs.Standing.{some_vertex, rises}
 use Rattle.sgraph_opt.proofs.numbering.renumbered.Goals as goal

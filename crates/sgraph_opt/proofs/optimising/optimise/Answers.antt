@@ -1,8 +1,8 @@
 use Rattle.std.proofs.Common.{subst, sym, true}
 use Rattle.sgraph.specs.Graphs.{Reduced}
 use Rattle.sgraph_opt.specs.Smaller.{NoDefaults}
-use Rattle.sgraph_opt.proofs.OfMachine.{of_machine}
-use Rattle.sgraph_opt.proofs.Reducing.{is_reduced_graph, drop_without}
+use Rattle.sgraph_opt.proofs.IsGraphOf.{of_machine}
+use Rattle.sgraph_opt.proofs.Reduced.{is_reduced_graph, drop_without}
 use Rattle.sgraph_opt.proofs.optimising.optimise.Goals as goal
 
 pub returns-clause-reduced : goal.returns-clause-reduced

@@ -1,6 +1,6 @@
 use Rattle.std.proofs.Common.{◌≡◌, ◌-◌, arith, subst}
 use Rattle.sgraph_opt.specs.inner.Choices.{Sharing}
-use Rattle.sgraph_opt.proofs.Joined.{sharing_start, sharing_more, sharing_shared}
+use Rattle.sgraph_opt.proofs.Shared.{sharing_start, sharing_more, sharing_shared}
 use Rattle.sgraph_opt.proofs.sharing.all_shared.Goals as goal
 
 pub loop-k-init : goal.loop-k-init

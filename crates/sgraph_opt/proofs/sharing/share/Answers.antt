@@ -1,8 +1,8 @@
 use Rattle.std.proofs.Common.{false, subst, sym}
 use Rattle.sgraph.specs.Graphs.{Reduced}
 use Rattle.sgraph_opt.specs.Smaller.{NoDefaults}
-use Rattle.sgraph_opt.proofs.OfMachine.{of_machine}
-use Rattle.sgraph_opt.proofs.Reducing.{is_reduced_graph, stay_without}
+use Rattle.sgraph_opt.proofs.IsGraphOf.{of_machine}
+use Rattle.sgraph_opt.proofs.Reduced.{is_reduced_graph, stay_without}
 use Rattle.sgraph_opt.proofs.sharing.share.Goals as goal
 
 pub returns-clause-reduced : goal.returns-clause-reduced

@@ -1,7 +1,7 @@
 use Rattle.std.proofs.Common.{◌≡◌, ◌<◌, ◌∙◌, ap, arith, length, not, ◌&&◌, eqb, true, Some}
 use Rattle.sgraph.specs.declared.vertex.Vertex.{Vertex}
 use Rattle.sgraph.specs.declared.vertex.Vertex.TheVariants.{Test, Assign}
-use Rattle.sgraph_opt.proofs.Joined.{chosen_test, chosen_assign, stays_other, stays_all}
+use Rattle.sgraph_opt.proofs.Shared.{chosen_test, chosen_assign, stays_other, stays_all}
 use Rattle.sgraph_opt.proofs.sharing.shared.Goals as goal
 use Rattle.sgraph_opt.proofs.sharing.shared.Goals.{else-drops-via-then-drops+else-code-eq0, else-drops-via-else-drops}
 

@@ -2,12 +2,12 @@ use Rattle.std.proofs.Common.{◌≡◌, ◌∙◌, length, slice_index, arith, 
 use Rattle.task_code.specs.Codes.{start, given_by}
 use Rattle.sgraph.specs.Graphs.{kids_of}
 use Rattle.task_code.specs.Facts.{IsCode, OnceCode}
-use Rattle.task_code.proofs.Laying.{laid, same_given}
-use Rattle.task_code.proofs.Reading.{long_starts, start_at, one_vertex, all_vertices}
+use Rattle.task_code.proofs.LaidOut.{laid, same_given}
+use Rattle.task_code.proofs.Starts.{long_starts, start_at, one_vertex, all_vertices}
 use Rattle.sgraph.proofs.RightGraphs.{numbered_goes_on}
 use Rattle.task_code.proofs.LayoutIsCode.{is_code}
-use Rattle.task_code.proofs.Mirrored.{once_code}
-use Rattle.task_code.proofs.Lowering.{lowered_same}
+use Rattle.task_code.proofs.CodePaths.{once_code}
+use Rattle.task_code.proofs.Lowered.{lowered_same}
 use Rattle.task_code.proofs.layout.lower.Goals as goal
 
 pub loop-k-init : goal.loop-k-init

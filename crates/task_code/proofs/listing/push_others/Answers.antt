@@ -1,7 +1,7 @@
 use Rattle.std.proofs.Common.{◌++◌, drop}
 use Rattle.task_code.specs.Listings.{label}
 use Rattle.task_code.specs.inner.Labels.{others}
-use Rattle.task_code.proofs.Printing.{more_others}
+use Rattle.task_code.proofs.NumberedLines.{more_others}
 use Rattle.task_code.proofs.listing.push_others.Goals as goal
 
 pub loop-k-preserved : goal.loop-k-preserved

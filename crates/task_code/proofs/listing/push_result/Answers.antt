@@ -1,7 +1,7 @@
 use Rattle.std.proofs.Common.{◌≡◌, arith, codes}
 use Rattle.task_code.specs.Listings.{event_name}
 use Rattle.task_code.specs.inner.Labels.{result_label}
-use Rattle.task_code.proofs.Labelling.{go_words, to_words, out_words, no_words, two_texts, no_text}
+use Rattle.task_code.proofs.Labels.{go_words, to_words, out_words, no_words, two_texts, no_text}
 use Rattle.task_code.proofs.listing.push_result.Goals as goal
 
 pub returns-then-y-eq0 : goal.returns-then-y-eq0

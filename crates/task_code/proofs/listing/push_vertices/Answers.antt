@@ -1,6 +1,6 @@
 use Rattle.task_code.specs.Listings.{vertex_words, numbered_lines}
 use Rattle.std.proofs.Common.{◌++◌}
-use Rattle.task_code.proofs.Printing.{more_lines}
+use Rattle.task_code.proofs.NumberedLines.{more_lines}
 use Rattle.task_code.proofs.listing.push_vertices.Goals as goal
 
 pub loop-k-preserved : goal.loop-k-preserved

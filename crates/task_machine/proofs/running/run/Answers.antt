@@ -74,3 +74,9 @@ returns-clause-steps c =
     (runnable c.args.code.now c.args.s.now c.args.o.now c.len-count.ensures.code c.requires)
     c.loop-next.invariant c.get.ensures c.in_default.ensures.leads c.in_default.ensures.set in
     ends.1
+
+pub returns-clause-few : goal.returns-clause-few
+returns-clause-few c =
+    let few = c.loop-next.invariant.going.few in
+    let low = c.loop-next.invariant.going.low in
+    omega (arith, few, low)

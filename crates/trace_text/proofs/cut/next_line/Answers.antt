@@ -1,6 +1,6 @@
 use Rattle.std.proofs.Common.{◌≡◌, ℕ, List, ◌∷◌, ◌++◌, Option, IfSome, IfNone, Bor, ap, subst, ◌∙◌, arith, length}
 use Rattle.trace_text.specs.Pieces.{trace_lines}
-use Rattle.trace_text.proofs.Cuts.{line_cut, line_uncut}
+use Rattle.trace_text.proofs.Pieces.{line_cut, line_uncut}
 use Rattle.trace_text.proofs.cut.next_line.Goals as goal
 
 pub returns-in-Some-clause-line : goal.returns-in-Some-clause-line

@@ -1,6 +1,6 @@
 use Rattle.std.proofs.Common.{sym, ◌∙◌, arith}
 use Rattle.trace_text.specs.Pieces.{ends_word}
-use Rattle.trace_text.proofs.Cuts.{pieces_cut, pieces_uncut}
+use Rattle.trace_text.proofs.Pieces.{pieces_cut, pieces_uncut}
 use Rattle.trace_text.proofs.cut.next_run.Goals as goal
 
 pub returns-then-ends_a_word-clause-run : goal.returns-then-ends_a_word-clause-run

@@ -1,5 +1,5 @@
 use Rattle.trace_text.specs.Pieces.{ends_word}
-use Rattle.trace_text.proofs.Cuts.{NoneBefore}
+use Rattle.trace_text.proofs.Pieces.{NoneBefore}
 use Rattle.trace_text.proofs.cut.next_run.Given as goal
 
 -- no byte before this one passes

@@ -1,4 +1,4 @@
-use Rattle.trace_text.proofs.Cuts.{comment_cut}
+use Rattle.trace_text.proofs.Pieces.{comment_cut}
 use Rattle.trace_text.proofs.cut.text_of.Goals as goal
 
 pub returns : goal.returns

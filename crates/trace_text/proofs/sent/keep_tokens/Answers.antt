@@ -1,5 +1,5 @@
 use Rattle.trace_text.specs.Traces.{is_sent_event}
-use Rattle.trace_text.proofs.Finds.{find_next}
+use Rattle.trace_text.proofs.IsSentEvent.{find_next}
 use Rattle.trace_text.proofs.Items.{not_sent}
 use Rattle.trace_text.proofs.sent.keep_tokens.Goals as goal
 

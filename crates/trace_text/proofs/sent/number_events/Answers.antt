@@ -1,5 +1,5 @@
 use Rattle.std.proofs.Common.{sym, ◌∙◌}
-use Rattle.trace_text.proofs.Numbering.{one_noted, none_noted}
+use Rattle.trace_text.proofs.EventNumbers.{one_noted, none_noted}
 use Rattle.trace_text.proofs.sent.number_events.Goals as goal
 use Rattle.trace_text.proofs.sent.number_events.Goals.{then-is_from_env+in_ok-note, else-is_from_env}
 

@@ -1,4 +1,4 @@
-use Rattle.trace_text.proofs.Numbering.{HasEvents}
+use Rattle.trace_text.proofs.EventNumbers.{HasEvents}
 use Rattle.trace_text.proofs.sent.number_events.Given as goal
 
 abbrev pub invariant-loop-e : goal.invariant-loop-e

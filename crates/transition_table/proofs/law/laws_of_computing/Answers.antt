@@ -1,5 +1,5 @@
 use Rattle.transition_table.proofs.Computed.{outcome_by_rows, only_by_rows, results_fit}
-use Rattle.transition_table.proofs.Supporting.{char_by_test, support_by_test, same_on_support}
+use Rattle.transition_table.proofs.SupportByTest.{char_by_test, support_by_test, same_on_support}
 use Rattle.transition_table.proofs.law.laws_of_computing.Goals as goal
 
 pub returns : goal.returns

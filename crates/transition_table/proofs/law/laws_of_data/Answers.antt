@@ -1,4 +1,4 @@
-use Rattle.transition_table.proofs.Same.{same_row, same_machine, same_network}
+use Rattle.transition_table.proofs.SameData.{same_row, same_machine, same_network}
 use Rattle.transition_table.proofs.law.laws_of_data.Goals as goal
 
 pub returns : goal.returns

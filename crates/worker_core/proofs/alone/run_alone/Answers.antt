@@ -1,6 +1,6 @@
 use Rattle.std.proofs.Common.{subst, arith}
 use Rattle.worker_core.specs.inner.Turns.{Took}
-use Rattle.worker_core.proofs.Lasting.{turn_gains, alone_first, at_most}
+use Rattle.worker_core.proofs.WholeRuns.{turn_gains, alone_first, at_most}
 use Rattle.worker_core.proofs.alone.run_alone.Goals as goal
 
 pub loop-init : goal.loop-init

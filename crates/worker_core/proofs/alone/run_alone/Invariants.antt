@@ -1,5 +1,5 @@
 use Rattle.std.proofs.Common.{◌≤◌}
-use Rattle.worker_core.proofs.Lasting.{IsAlone}
+use Rattle.worker_core.proofs.WholeRuns.{IsAlone}
 use Rattle.worker_core.proofs.alone.run_alone.Given as goal
 
 abbrev pub invariant-loop : goal.invariant-loop

@@ -1,7 +1,7 @@
 use Rattle.std.proofs.Common.{subst}
 use Rattle.journals.specs.declared.stamped.CoreStep.TheVariants.{Feed}
 use Rattle.worker_core.specs.inner.Turns.{Took}
-use Rattle.worker_core.proofs.Turning.{not_taken, turn_stops}
+use Rattle.worker_core.proofs.IsStill.{not_taken, turn_stops}
 use Rattle.worker_core.proofs.alone.turn.Goals as goal
 
 pub returns-clause-stopped : goal.returns-clause-stopped

@@ -1,6 +1,6 @@
 use Rattle.std.proofs.Common.{subst, ◌∙◌}
 use Rattle.worker_core.specs.inner.Turns.{Took}
-use Rattle.worker_core.proofs.Turning.{turn_still}
+use Rattle.worker_core.proofs.IsStill.{turn_still}
 use Rattle.worker_core.proofs.alone.turn_among.Goals as goal
 
 pub loop-m-preserved : goal.loop-m-preserved

@@ -1,7 +1,7 @@
 use Rattle.std.proofs.Common.{ap, ◌∙◌, flat_map, false, arith}
 use Rattle.std.proofs.lemmas.List.{take_all}
 use Rattle.journals.specs.Schedules.{item_deliveries}
-use Rattle.worker_core.proofs.Giving.{items_give}
+use Rattle.worker_core.proofs.AtStart.{items_give}
 use Rattle.worker_core.proofs.feeding.given_by_trace.Goals as goal
 
 pub returns : goal.returns

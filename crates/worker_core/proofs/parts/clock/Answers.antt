@@ -1,5 +1,5 @@
 use Rattle.std.proofs.Common.{◌-◌, arith}
-use Rattle.worker_core.proofs.Beside.{last_at}
+use Rattle.worker_core.proofs.OwnMoments.{last_at}
 use Rattle.worker_core.proofs.parts.clock.Goals as goal
 
 pub returns : goal.returns

@@ -1,6 +1,6 @@
 use Rattle.std.proofs.Common.{◌-◌, false, ◌∙◌, arith}
 use Rattle.journals.specs.Moved.{is_dep}
-use Rattle.worker_core.proofs.Beside.{last_at}
+use Rattle.worker_core.proofs.OwnMoments.{last_at}
 use Rattle.worker_core.proofs.parts.is_delivered.Goals as goal
 
 pub returns : goal.returns

@@ -1,4 +1,4 @@
-use Rattle.worker_core.proofs.Giving.{start_state, first_parts_are}
+use Rattle.worker_core.proofs.AtStart.{start_state, first_parts_are}
 use Rattle.worker_core.proofs.running.first_parts.Goals as goal
 
 pub returns-clause-state : goal.returns-clause-state

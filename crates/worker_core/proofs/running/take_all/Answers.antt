@@ -1,4 +1,4 @@
-use Rattle.worker_core.proofs.Giving.{run_more}
+use Rattle.worker_core.proofs.AtStart.{run_more}
 use Rattle.worker_core.proofs.running.take_all.Goals as goal
 
 pub loop-step-preserved : goal.loop-step-preserved

@@ -1,7 +1,7 @@
 use Rattle.std.proofs.Common.{[], get_or, subst, sym}
 use Rattle.journals.specs.Alone.{IsAlone}
-use Rattle.worker_core.proofs.Sorting.{rises_then_rise}
-use Rattle.worker_run.proofs.Parting.{merged_alone}
+use Rattle.worker_core.proofs.ByStamp.{rises_then_rise}
+use Rattle.worker_run.proofs.MergedAlone.{merged_alone}
 use Rattle.worker_run.proofs.gathering.adopt_merge.Goals as goal
 
 pub merge_logs-requires : goal.merge_logs-requires

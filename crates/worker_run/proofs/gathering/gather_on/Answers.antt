@@ -1,6 +1,6 @@
 use Rattle.std.proofs.Common.{◌∙◌}
 use Rattle.worker_core.specs.Merges.{merged}
-use Rattle.worker_run.proofs.Adopting.{adopted_most}
+use Rattle.worker_run.proofs.IsAdopted.{adopted_most}
 use Rattle.worker_run.proofs.gathering.gather_on.Goals as goal
 
 pub or_alone-requires-clause-found : goal.or_alone-requires-clause-found

@@ -2,7 +2,7 @@ use Rattle.std.proofs.Common.{rules, arith, ap, subst, List, length}
 use Rattle.std.proofs.lemmas.List.{length_push}
 use Rattle.journals.specs.Alone.{LegalAlone}
 use Rattle.journals.specs.declared.stamped.Stamped.{Stamped}
-use Rattle.worker_run.proofs.Logging.{one_more}
+use Rattle.worker_run.proofs.OneLogMore.{one_more}
 use Rattle.worker_run.proofs.logs.logs_of.Goals as goal
 
 pub loop-cell-preserved : goal.loop-cell-preserved

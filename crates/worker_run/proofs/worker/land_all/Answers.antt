@@ -1,7 +1,7 @@
 use Rattle.std.proofs.Common.{arith, subst, sym, length, ◌-◌, IsTrue}
 use Rattle.event_buffer.specs.Arrivals.{OutgoingState, are_arrivals}
-use Rattle.worker_run.proofs.Counting.{one_landed, counts_same}
-use Rattle.worker_run.proofs.Passing.{passed_more, some_left, rest_arrive}
+use Rattle.worker_run.proofs.Counts.{one_landed, counts_same}
+use Rattle.worker_run.proofs.PassedDeliveries.{passed_more, some_left, rest_arrive}
 use Rattle.worker_run.proofs.worker.land_all.Goals as goal
 
 pub loop-a-preserved : goal.loop-a-preserved

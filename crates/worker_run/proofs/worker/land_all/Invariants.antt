@@ -1,7 +1,7 @@
 use Rattle.std.proofs.Common.{◌-◌, IsTrue, length}
 use Rattle.event_buffer.specs.Arrivals.{are_arrivals}
 use Rattle.worker_run.specs.inner.Turns.{Counts}
-use Rattle.worker_run.proofs.Passing.{Passed}
+use Rattle.worker_run.proofs.PassedDeliveries.{Passed}
 use Rattle.worker_run.proofs.worker.land_all.Given as goal
 
 -- what is left may arrive, and what was passed is counted

@@ -1,5 +1,5 @@
 use Rattle.std.proofs.Common.{◌∙◌, sym, length, ◌<◌, ◌≡◌, subst, ℕ, List, slice_index, slice_get, Some}
-use Rattle.decision_diagram.proofs.Lists.{read}
+use Rattle.decision_diagram.proofs.ListItems.{read}
 use Rattle.decision_diagram.proofs.order.Order.place_of.Goals as goal
 use Rattle.domains.proofs.Places.{place_below}
 

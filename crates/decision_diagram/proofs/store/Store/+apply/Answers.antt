@@ -5,7 +5,7 @@ use Rattle.decision_diagram.specs.Operations.{combine}
 use Rattle.decision_diagram.specs.Diagrams.{Diagrams, value_of, level_of, Keeps}
 use Rattle.decision_diagram.proofs.Growth.{keeps_trans}
 use Rattle.decision_diagram.proofs.Meanings.{level_at_most}
-use Rattle.decision_diagram.proofs.Operating.{AreParts, parts_keeps, parts_more, parts_mean_one, result_made, result_means}
+use Rattle.decision_diagram.proofs.OperationResults.{AreParts, parts_keeps, parts_more, parts_mean_one, result_made, result_means}
 use Rattle.decision_diagram.proofs.store.Store.+apply.Goals as goal
 
 -- the two cofactors are read later than the earlier of the two nodes

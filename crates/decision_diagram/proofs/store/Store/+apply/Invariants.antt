@@ -1,6 +1,6 @@
 use Rattle.std.proofs.Common.{◌-◌, min, length}
 use Rattle.decision_diagram.specs.Diagrams.{level_of, Keeps}
-use Rattle.decision_diagram.proofs.Operating.{AreParts}
+use Rattle.decision_diagram.proofs.OperationResults.{AreParts}
 use Rattle.decision_diagram.proofs.store.Store.+apply.Given as goal
 
 -- the nodes that are read are ever later in the order

@@ -1,8 +1,8 @@
 use Rattle.std.proofs.Common.{◌≡◌, ◌∙◌, ◌+◌, ◌-◌, ◌<◌, ◌≤◌, ◌||◌, ℕ, nat_eq, Bool, true, List, length, count_by, sym, ap, subst, refl, arith}
 use Rattle.std.specs.List.{list_any}
 use Rattle.decision_diagram.specs.Reached.{marked}
-use Rattle.decision_diagram.proofs.Marking.{AreMarked, marked_kids, mark_read, whole_part, counts_reached}
-use Rattle.decision_diagram.proofs.Sizing.{count_is_size}
+use Rattle.decision_diagram.proofs.ReachedMarks.{AreMarked, marked_kids, mark_read, whole_part, counts_reached}
+use Rattle.decision_diagram.proofs.DiagramLaws.{count_is_size}
 use Rattle.decision_diagram.proofs.store.Store.count.Goals as goal
 
 pub loop-i-preserved-then-index : goal.loop-i-preserved-then-index

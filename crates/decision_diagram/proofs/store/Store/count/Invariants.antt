@@ -1,4 +1,4 @@
-use Rattle.decision_diagram.proofs.Marking.{AreMarked}
+use Rattle.decision_diagram.proofs.ReachedMarks.{AreMarked}
 use Rattle.decision_diagram.proofs.store.Store.count.Given as goal
 
 -- the nodes from number i + 2 on have marked their children

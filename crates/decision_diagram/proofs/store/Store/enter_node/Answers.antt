@@ -5,10 +5,10 @@ use Rattle.decision_diagram.specs.Diagrams.{Diagrams, AreReduced, Keeps, Means, 
 use Rattle.decision_diagram.specs.inner.Diagrams.{HasNode}
 use Rattle.decision_diagram.specs.Keys.{Key, AreKeys, nodes_of}
 use Rattle.decision_diagram.specs.Stores.{diagrams}
-use Rattle.decision_diagram.proofs.Entering.{IsGrown, grown, grown_same, entered, entered_means, entered_level, with_keys}
+use Rattle.decision_diagram.proofs.EnteredKeys.{IsGrown, grown, grown_same, entered, entered_means, entered_level, with_keys}
 use Rattle.decision_diagram.proofs.Keys.{with_key}
 use Rattle.decision_diagram.proofs.Meanings.{new_node}
-use Rattle.decision_diagram.proofs.Operating.{results_keep}
+use Rattle.decision_diagram.proofs.OperationResults.{results_keep}
 use Rattle.decision_diagram.proofs.store.Store.enter_node.Goals as goal
 
 pub invariant_of-self : goal.invariant_of-self

@@ -3,8 +3,8 @@ use Rattle.std.specs.Int.{bit_at}
 use Rattle.domains.specs.Tables.{fits}
 use Rattle.decision_diagram.specs.Constants.{constant_node}
 use Rattle.decision_diagram.specs.Diagrams.{Diagrams, AreReduced, level_of, choice}
-use Rattle.decision_diagram.proofs.Fitting.{size_few}
-use Rattle.decision_diagram.proofs.Lists.{read}
+use Rattle.decision_diagram.proofs.Fits.{size_few}
+use Rattle.decision_diagram.proofs.ListItems.{read}
 use Rattle.decision_diagram.proofs.Meanings.{level_constant, means_as, literal_choice}
 use Rattle.decision_diagram.proofs.store.Store.literal.Goals as goal
 use Rattle.domains.proofs.Places.{place_below}

@@ -1,7 +1,7 @@
 use Rattle.std.proofs.Common.{◌≡◌, ◌∙◌, ℕ, Some, sym, subst}
 use Rattle.polis_base.specs.Index.{found}
 use Rattle.decision_diagram.specs.Operations.{IsResult}
-use Rattle.decision_diagram.proofs.Operating.{results_found}
+use Rattle.decision_diagram.proofs.OperationResults.{results_found}
 use Rattle.decision_diagram.proofs.store.Store.recall.Goals as goal
 
 pub returns : goal.returns

@@ -6,7 +6,7 @@ use Rattle.decision_diagram.specs.Diagrams.{Diagrams}
 use Rattle.polis_base.specs.Index.{Keyed, found}
 use Rattle.decision_diagram.specs.Operations.{IsResult, AreResults}
 use Rattle.decision_diagram.specs.Stores.{diagrams}
-use Rattle.decision_diagram.proofs.Operating.{results_after}
+use Rattle.decision_diagram.proofs.OperationResults.{results_after}
 use Rattle.decision_diagram.proofs.store.Store.remember.Goals as goal
 
 -- a key that is the same as a pair

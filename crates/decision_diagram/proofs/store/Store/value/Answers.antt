@@ -1,8 +1,8 @@
 use Rattle.std.proofs.Common.{◌≡◌, ◌∙◌, ℕ, slice_index, sym, subst, refl, arith}
 use Rattle.decision_diagram.specs.declared.node.Shape.TheVariants.{Inner}
 use Rattle.decision_diagram.specs.Diagrams.{shape_of}
-use Rattle.decision_diagram.proofs.Fitting.{fits_at}
-use Rattle.decision_diagram.proofs.Lists.{read}
+use Rattle.decision_diagram.proofs.Fits.{fits_at}
+use Rattle.decision_diagram.proofs.ListItems.{read}
 use Rattle.decision_diagram.proofs.Meanings.{level_at_most}
 use Rattle.decision_diagram.proofs.store.Store.value.Goals as goal
 use Rattle.domains.proofs.Ranks.{length-fits}

@@ -1,7 +1,7 @@
 use Rattle.std.proofs.Common.{◌+◌, refl, ap, ◌∙◌, arith}
 use Rattle.journals.specs.Logs.{clock}
 use Rattle.event_buffer.specs.Cells.{CellState}
-use Rattle.event_buffer.proofs.Freezing.{ready_cell, moment_fits, frozen_kept, frozen_view}
+use Rattle.event_buffer.proofs.FreezingKeepsCell.{ready_cell, moment_fits, frozen_kept, frozen_view}
 use Rattle.event_buffer.proofs.cell.Cell.freeze.Goals as goal
 
 pub prepare-requires-clause-snapshot : goal.prepare-requires-clause-snapshot

@@ -3,8 +3,8 @@ use Rattle.transition_table.specs.Transitions.{OfMachine, IsSnapshot}
 use Rattle.transition_table.specs.declared.network.Network.{Network}
 use Rattle.journals.specs.Alone.{LegalAlone}
 use Rattle.event_buffer.specs.Cells.{CellState}
-use Rattle.event_buffer.proofs.Freezing.{pending_fits}
-use Rattle.event_buffer.proofs.Settling.{some_pending, settled_log, written_is}
+use Rattle.event_buffer.proofs.FreezingKeepsCell.{pending_fits}
+use Rattle.event_buffer.proofs.SettlingKeepsCell.{some_pending, settled_log, written_is}
 use Rattle.event_buffer.proofs.cell.Cell.into_log.Goals as goal
 
 pub react-requires-clause-snapshot : goal.react-requires-clause-snapshot

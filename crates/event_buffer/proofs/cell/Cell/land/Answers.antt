@@ -5,7 +5,7 @@ use Rattle.worker_core.specs.Cores.{delivering}
 use Rattle.event_buffer.specs.declared.pending.Pending.{Pending}
 use Rattle.event_buffer.specs.Arrivals.{owed_of}
 use Rattle.event_buffer.specs.Cells.{filled}
-use Rattle.event_buffer.proofs.Landing.{may_land_in, landed_frozen, landed_thawed, landed_view, landed_firing, moved_view}
+use Rattle.event_buffer.proofs.LandingKeepsCell.{may_land_in, landed_frozen, landed_thawed, landed_view, landed_firing, moved_view}
 use Rattle.event_buffer.proofs.cell.Cell.land.Goals as goal
 
 pub catch_up-requires-clause-legal : goal.catch_up-requires-clause-legal

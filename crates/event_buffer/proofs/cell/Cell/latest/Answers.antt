@@ -1,6 +1,6 @@
 use Rattle.std.proofs.Common.{arith}
 use Rattle.event_buffer.specs.Cells.{filled}
-use Rattle.event_buffer.proofs.Logging.{clock_small}
+use Rattle.event_buffer.proofs.LegalLogs.{clock_small}
 use Rattle.event_buffer.proofs.cell.Cell.latest.Goals as goal
 
 pub returns-clause-small : goal.returns-clause-small

@@ -7,8 +7,8 @@ use Rattle.journals.specs.Schedules.{firing_deliveries}
 use Rattle.event_buffer.specs.declared.arrival.Arrival.{Arrival}
 use Rattle.event_buffer.specs.Arrivals.{OutgoingState, are_arrivals, arrival_of}
 use Rattle.event_buffer.specs.Reacting.{FrozenState}
-use Rattle.event_buffer.proofs.Firing.{all_arrive, fires_where_sent}
-use Rattle.event_buffer.proofs.Tabling.{written_fits}
+use Rattle.event_buffer.proofs.LastReaction.{all_arrive, fires_where_sent}
+use Rattle.event_buffer.proofs.OutcomeIn.{written_fits}
 use Rattle.journals.proofs.StampSteps.{length_prefix}
 use Rattle.event_buffer.proofs.cell.Cell.settle.Goals as goal
 

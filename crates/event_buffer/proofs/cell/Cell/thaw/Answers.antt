@@ -3,8 +3,8 @@ use Rattle.transition_table.specs.Transitions.{AreDeterministic}
 use Rattle.journals.specs.Alone.{LegalAlone}
 use Rattle.event_buffer.specs.declared.pending.Pending.{Pending}
 use Rattle.event_buffer.specs.Cells.{CellState, IsCell}
-use Rattle.event_buffer.proofs.Settling.{fires_in, some_pending, settling_is, settled_kept, settled_log, settled_firing, thawed_view}
-use Rattle.event_buffer.proofs.Tabling.{one_written}
+use Rattle.event_buffer.proofs.SettlingKeepsCell.{fires_in, some_pending, settling_is, settled_kept, settled_log, settled_firing, thawed_view}
+use Rattle.event_buffer.proofs.OutcomeIn.{one_written}
 use Rattle.event_buffer.proofs.cell.Cell.thaw.Goals as goal
 
 pub catch_up-requires-clause-legal : goal.catch_up-requires-clause-legal

@@ -2,8 +2,8 @@ use Rattle.std.proofs.Common.{◌≤◌, ◌+◌, List, length, drop, sym, ap, �
 use Rattle.journals.specs.declared.entry.Owed.{Owed}
 use Rattle.journals.specs.Journals.{is_trace_item}
 use Rattle.event_buffer.specs.Feeds.{FeedState}
-use Rattle.event_buffer.proofs.Feeding.{is_next, one_more, one_item_more, none_left}
-use Rattle.journals.proofs.Ways.{passes_of_all}
+use Rattle.event_buffer.proofs.LeftAt.{is_next, one_more, one_item_more, none_left}
+use Rattle.journals.proofs.DeliveriesOfWay.{passes_of_all}
 use Rattle.journals.specs.Schedules.{item_deliveries}
 use Rattle.event_buffer.proofs.feed.Feed.advance.Goals as goal
 

@@ -1,5 +1,5 @@
 use Rattle.std.proofs.Common.{false, sym, ◌∙◌}
-use Rattle.event_buffer.proofs.Feeding.{given_by_trace, left_whole}
+use Rattle.event_buffer.proofs.LeftAt.{given_by_trace, left_whole}
 use Rattle.event_buffer.proofs.feed.Feed.new.Goals as goal
 
 pub returns : goal.returns

@@ -4,8 +4,8 @@ use Rattle.journals.specs.declared.entry.Owed.{Owed}
 use Rattle.journals.specs.Journals.{is_trace_item}
 use Rattle.event_buffer.specs.Arrivals.{is_arrival, arrival_of}
 use Rattle.event_buffer.specs.Feeds.{FeedState}
-use Rattle.event_buffer.proofs.Feeding.{is_next, first_left, none_left, arrives}
-use Rattle.journals.proofs.Ways.{passes_of_all}
+use Rattle.event_buffer.proofs.LeftAt.{is_next, first_left, none_left, arrives}
+use Rattle.journals.proofs.DeliveriesOfWay.{passes_of_all}
 use Rattle.event_buffer.proofs.feed.Feed.peek.Goals as goal
 
 pub arrival_at-requires : goal.arrival_at-requires

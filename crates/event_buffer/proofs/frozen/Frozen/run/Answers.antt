@@ -2,7 +2,7 @@ use Rattle.std.proofs.Common.{sym, subst, ap, ◌∙◌}
 use Rattle.transition_table.specs.Transitions.{OfMachine, Transition}
 use Rattle.transition_table.specs.declared.network.Network.{Network}
 use Rattle.event_buffer.specs.Reacting.{FrozenState}
-use Rattle.event_buffer.proofs.Tabling.{written_widths}
+use Rattle.event_buffer.proofs.OutcomeIn.{written_widths}
 use Rattle.event_buffer.proofs.frozen.Frozen.run.Goals as goal
 
 pub invariant_of-self : goal.invariant_of-self

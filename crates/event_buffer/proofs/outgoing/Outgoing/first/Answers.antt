@@ -1,7 +1,7 @@
 use Rattle.std.proofs.Common.{sym, ap, ◌∙◌}
 use Rattle.polis_base.specs.Lists.{head_of}
 use Rattle.event_buffer.specs.Arrivals.{OutgoingState}
-use Rattle.event_buffer.proofs.Listing.{head_of_left, not_empty}
+use Rattle.event_buffer.proofs.Lists.{head_of_left, not_empty}
 use Rattle.event_buffer.proofs.outgoing.Outgoing.first.Goals as goal
 
 pub returns-then-self-clause-some : goal.returns-then-self-clause-some

@@ -1,7 +1,7 @@
 use Rattle.std.proofs.Common.{◌∙◌, length, sym, ap, arith}
 use Rattle.net_names.specs.Tables.{number_at}
 use Rattle.transition_table.specs.declared.decl.EventDecl.{EventDecl}
-use Rattle.journal_text.proofs.Numbering.{first_below, no_such_event}
+use Rattle.journal_text.proofs.NameNumbers.{first_below, no_such_event}
 use Rattle.journal_text.proofs.index.Index.event.Goals as goal
 
 pub returns-in_err-name-clause-event : goal.returns-in_err-name-clause-event

@@ -1,7 +1,7 @@
 use Rattle.std.proofs.Common.{◌∙◌, length, sym, ap, arith}
 use Rattle.net_names.specs.Tables.{number_at}
 use Rattle.transition_table.specs.declared.machine.Machine.{Machine}
-use Rattle.journal_text.proofs.Numbering.{first_below, no_such_machine}
+use Rattle.journal_text.proofs.NameNumbers.{first_below, no_such_machine}
 use Rattle.journal_text.proofs.index.Index.machine.Goals as goal
 
 pub returns-in_err-name-clause-machine : goal.returns-in_err-name-clause-machine

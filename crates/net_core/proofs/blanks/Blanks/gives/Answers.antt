@@ -4,7 +4,7 @@ use Rattle.transition_table.specs.declared.network.Network.{Network}
 use Rattle.transition_table.specs.declared.snapshot.Outcome.{Outcome}
 use Rattle.journals.specs.Journals.{FitsNetwork}
 use Rattle.journals.specs.declared.entry.Entry.TheVariants.{Rea}
-use Rattle.net_core.proofs.Judging.{outcomes_agree}
+use Rattle.net_core.proofs.MayFollow.{outcomes_agree}
 use Rattle.net_core.proofs.Prefixes.{wide_after}
 use Rattle.net_core.proofs.blanks.Blanks.gives.Goals as goal
 

@@ -1,10 +1,10 @@
 use Rattle.std.proofs.Common.{◌≡◌, ℕ, max, length, slice_get, Some, sym, ap, subst, ◌∙◌, arith}
 use Rattle.journals.specs.Moved.{machine_of}
 use Rattle.journals.specs.Stamps.{greatest, stamps_at, origin}
-use Rattle.net_core.proofs.Keeping.{clock_at}
-use Rattle.journals.proofs.Moved.{length-table}
-use Rattle.journals.proofs.Advancing.{machine_within}
-use Rattle.journals.proofs.Stamping.{greatest_both}
+use Rattle.net_core.proofs.ClocksAfter.{clock_at}
+use Rattle.journals.proofs.MomentsAfter.{length-table}
+use Rattle.journals.proofs.CursorsAfter.{machine_within}
+use Rattle.journals.proofs.LeastStamps.{greatest_both}
 use Rattle.net_core.proofs.clocks.Clocks.below.Goals as goal
 
 pub get-clock-requires : goal.get-clock-requires

@@ -4,8 +4,8 @@ use Rattle.journals.specs.Journals.{IsJournal}
 use Rattle.net_core.specs.inner.Clocks.{firings_of, left, cursor_at, IsCursor}
 use Rattle.net_core.specs.declared.clocks.Cursor.{Cursor}
 use Rattle.journals.specs.Stamps.{greatest, once_each}
-use Rattle.net_core.proofs.Keeping.{firings_fit, cursors_with, columns_kept}
-use Rattle.journals.proofs.Moved.{length-table, get_or-table}
+use Rattle.net_core.proofs.ClocksAfter.{firings_fit, cursors_with, columns_kept}
+use Rattle.journals.proofs.MomentsAfter.{length-table, get_or-table}
 use Rattle.net_core.proofs.clocks.Clocks.owed.Goals as goal
 use Rattle.journals.specs.declared.stamped.Stamped.{Stamped}
 use Rattle.journals.specs.Logs.{entries}

@@ -1,9 +1,9 @@
 use Rattle.std.proofs.Common.{ℕ, length, ap, ◌∙◌, arith}
 use Rattle.net_core.specs.inner.Clocks.{firings_of, clocks_after}
 use Rattle.journals.specs.Stamps.{greatest, stamps_at}
-use Rattle.net_core.proofs.Keeping.{all_taken}
-use Rattle.journals.proofs.Moved.{length-table}
-use Rattle.journals.proofs.Advancing.{machine_within}
+use Rattle.net_core.proofs.ClocksAfter.{all_taken}
+use Rattle.journals.proofs.MomentsAfter.{length-table}
+use Rattle.journals.proofs.CursorsAfter.{machine_within}
 use Rattle.net_core.proofs.clocks.Clocks.take.Goals as goal
 
 pub raise-requires : goal.raise-requires

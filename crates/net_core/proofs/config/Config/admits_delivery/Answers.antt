@@ -1,4 +1,4 @@
-use Rattle.net_core.proofs.Judging.{not_owed}
+use Rattle.net_core.proofs.MayFollow.{not_owed}
 use Rattle.net_core.proofs.config.Config.admits_delivery.Goals as goal
 
 pub returns-else-may_land : goal.returns-else-may_land

@@ -2,7 +2,7 @@ use Rattle.std.proofs.Common.{◌≡◌, ◌∙◌, subst, sym}
 use Rattle.std.proofs.lemmas.Bool.{both_ways}
 use Rattle.transition_table.specs.Transitions.{AreDeterministic, OfMachine, Transition}
 use Rattle.transition_table.specs.declared.network.Network.{Network}
-use Rattle.net_core.proofs.Judging.{outcomes_agree}
+use Rattle.net_core.proofs.MayFollow.{outcomes_agree}
 use Rattle.net_core.proofs.config.Config.admits_reaction.Goals as goal
 
 pub returns-in-Ok : goal.returns-in-Ok

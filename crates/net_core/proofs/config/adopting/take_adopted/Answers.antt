@@ -1,7 +1,7 @@
 use Rattle.std.proofs.Common.{◌<◌, List, length, take, sym, subst, arith}
 use Rattle.journals.specs.declared.entry.Entry.{Entry}
 use Rattle.net_core.specs.Tables.{AreTables}
-use Rattle.net_core.proofs.Adopting.{adopted_at, entry_reacts}
+use Rattle.net_core.proofs.IsAdopted.{adopted_at, entry_reacts}
 use Rattle.net_core.proofs.Prefixes.{follows_if_legal}
 use Rattle.net_core.proofs.Tables.{not_following}
 use Rattle.journals.proofs.StampSteps.{prefix_more}

@@ -1,7 +1,7 @@
 use Rattle.std.proofs.Common.{◌≡◌, ℕ, List, [], ◌∷◌, ◌++◌, ap, sym, ◌∙◌, zero-add, arith}
 use Rattle.journals.specs.Cursors.{is_read, nth_place}
-use Rattle.net_core.proofs.Marking.{prefix_marked}
-use Rattle.journals.proofs.Moved.{upto_more}
+use Rattle.net_core.proofs.Marks.{prefix_marked}
+use Rattle.journals.proofs.MomentsAfter.{upto_more}
 use Rattle.journals.proofs.Cursors.{nth_place_first}
 use Rattle.net_core.proofs.config.cursors.first_cursors.Goals as goal
 

@@ -5,8 +5,8 @@ use Rattle.journals.specs.Journals.{outputs_of, emitted}
 use Rattle.journals.specs.Schedules.{deliveries_of}
 use Rattle.net_core.specs.Emissions.{IsMore}
 use Rattle.net_core.proofs.Outputs.{given_and_rest}
-use Rattle.journals.proofs.Emitting.{outputs_of_machine, output_is_event}
-use Rattle.net_core.proofs.Queueing.{more_and_more}
+use Rattle.journals.proofs.Emitted.{outputs_of_machine, output_is_event}
+use Rattle.net_core.proofs.IsQueue.{more_and_more}
 use Rattle.net_core.specs.inner.Emissions.{given_to}
 use Rattle.net_core.proofs.config.emissions.emit_all.Goals as goal
 

@@ -2,7 +2,7 @@ use Rattle.std.proofs.Common.{◌≡◌, ℕ, List, [], ◌∷◌, ◌++◌, len
 use Rattle.std.proofs.lemmas.List.{get_or_default}
 use Rattle.net_core.specs.declared.config.emissions.Emission.{Emission}
 use Rattle.net_core.specs.Emissions.{nth, no_emission, waiting, IsMore}
-use Rattle.net_core.proofs.Queueing.{linked_more}
+use Rattle.net_core.proofs.IsQueue.{linked_more}
 use Rattle.net_core.proofs.config.emissions.link.Goals as goal
 
 pub returns-clause-more : goal.returns-clause-more

@@ -1,5 +1,5 @@
 use Rattle.std.proofs.Common.{◌-◌, length}
-use Rattle.net_core.proofs.Queueing.{IsPassed}
+use Rattle.net_core.proofs.IsQueue.{IsPassed}
 use Rattle.net_core.proofs.config.emissions.place_from.Given as goal
 
 -- the emissions of the sender before this one aren't waited for

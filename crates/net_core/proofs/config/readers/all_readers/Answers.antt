@@ -2,7 +2,7 @@ use Rattle.std.proofs.Common.{◌≡◌, ◌+◌, ◌<◌, ℕ, List, get_or, le
 use Rattle.std.proofs.lemmas.List.{length_push}
 use Rattle.journals.specs.Schedules.{receivers_of}
 use Rattle.net_core.specs.Readers.{members}
-use Rattle.net_core.proofs.Reading.{readers_more}
+use Rattle.net_core.proofs.ReceiversOf.{readers_more}
 use Rattle.net_core.proofs.config.readers.all_readers.Goals as goal
 
 pub loop-event-preserved : goal.loop-event-preserved

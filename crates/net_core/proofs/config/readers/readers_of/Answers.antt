@@ -2,7 +2,7 @@ use Rattle.std.proofs.Common.{◌&&◌, ◌==◌, ap, sym, ◌∙◌, arith}
 use Rattle.std.proofs.lemmas.Bool.{le-ltb}
 use Rattle.std.proofs.lemmas.Nat.Bits.{bit_at-zero}
 use Rattle.journals.specs.Journals.{reads}
-use Rattle.net_core.proofs.Reading.{marked}
+use Rattle.net_core.proofs.ReceiversOf.{marked}
 use Rattle.net_core.proofs.config.readers.readers_of.Goals as goal
 
 pub loop-m-init : goal.loop-m-init

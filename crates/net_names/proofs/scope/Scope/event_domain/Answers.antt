@@ -1,7 +1,7 @@
 use Rattle.std.proofs.Common.{◌∙◌, ap, sym}
 use Rattle.std.specs.Option.{option_and_then}
 use Rattle.net_reader.specs.declared.raw.RawEvent.{RawEvent}
-use Rattle.net_names.proofs.Found.{number-within, found-at, found-nowhere}
+use Rattle.net_names.proofs.NumberIn.{number-within, found-at, found-nowhere}
 use Rattle.net_names.proofs.scope.Scope.event_domain.Goals as goal
 
 pub get-requires : goal.get-requires

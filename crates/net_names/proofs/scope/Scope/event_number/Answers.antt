@@ -1,6 +1,6 @@
 use Rattle.std.proofs.Common.{◌∙◌, sym, arith}
 use Rattle.net_reader.specs.declared.raw.RawEvent.{RawEvent}
-use Rattle.net_names.proofs.Found.{number-within}
+use Rattle.net_names.proofs.NumberIn.{number-within}
 use Rattle.net_names.proofs.scope.Scope.event_number.Goals as goal
 
 pub overflow_cast-result : goal.overflow_cast-result

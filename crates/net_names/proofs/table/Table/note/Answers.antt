@@ -2,7 +2,7 @@ use Rattle.std.proofs.Common.{◌∙◌, sym, ap}
 use Rattle.indexmap.specs.IndexMap.{insert_entry}
 use Rattle.domains.specs.Names.{is_same}
 use Rattle.net_names.specs.Tables.{has, number_at}
-use Rattle.net_names.proofs.Named.{insert-noted, number-noted, has-noted}
+use Rattle.net_names.proofs.NameNumbers.{insert-noted, number-noted, has-noted}
 use Rattle.net_names.proofs.table.Table.note.Goals as goal
 
 pub returns-clause-noted : goal.returns-clause-noted

@@ -1,5 +1,5 @@
 use Rattle.net_reader.specs.Pieces.{seen}
-use Rattle.net_reader.proofs.Steps.{end_yes, end_no}
+use Rattle.net_reader.proofs.NextToken.{end_yes, end_no}
 use Rattle.net_reader.proofs.reader.Reader.end.Goals as goal
 
 pub returns-in-Some : goal.returns-in-Some

@@ -1,6 +1,6 @@
 use Rattle.std.proofs.Common.{◌≡◌, true, false}
 use Rattle.net_reader.specs.Reading.{begins, is}
-use Rattle.net_reader.proofs.Steps.{only_no, only_yes, begins_long}
+use Rattle.net_reader.proofs.NextToken.{only_no, only_yes, begins_long}
 use Rattle.net_reader.proofs.reader.Reader.expect.Goals as goal
 
 pub skip-requires : goal.skip-requires

@@ -1,6 +1,6 @@
 use Rattle.net_reader.specs.Lexemes.{word_of}
 use Rattle.net_reader.specs.Pieces.{seen}
-use Rattle.net_reader.proofs.Steps.{head_next, no_next}
+use Rattle.net_reader.proofs.NextToken.{head_next, no_next}
 use Rattle.std.proofs.Common.{◌∙◌}
 use Rattle.net_reader.proofs.reader.Reader.next_name.Goals as goal
 

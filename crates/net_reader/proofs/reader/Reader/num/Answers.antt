@@ -1,6 +1,6 @@
 use Rattle.net_reader.specs.Lexemes.{num_of}
 use Rattle.net_reader.specs.Reading.{num_at}
-use Rattle.net_reader.proofs.Steps.{next_none, next_some, next_long}
+use Rattle.net_reader.proofs.NextToken.{next_none, next_some, next_long}
 use Rattle.std.proofs.Common.{sym}
 use Rattle.net_reader.proofs.reader.Reader.num.Goals as goal
 

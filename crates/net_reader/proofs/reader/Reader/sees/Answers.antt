@@ -3,7 +3,7 @@ use Rattle.polis_base.specs.Lists.{head_of}
 use Rattle.net_reader.specs.Lexemes.{lexeme, lexemes}
 use Rattle.net_reader.specs.Pieces.{left}
 use Rattle.net_reader.specs.Reading.{is}
-use Rattle.net_reader.proofs.Steps.{head_begins, no_begins}
+use Rattle.net_reader.proofs.NextToken.{head_begins, no_begins}
 use Rattle.net_reader.proofs.reader.Reader.sees.Goals as goal
 
 pub returns-in-Some : goal.returns-in-Some

@@ -1,7 +1,7 @@
 use Rattle.std.proofs.Common.{◌+◌, drop, ap, sym, ◌∙◌}
 use Rattle.net_reader.specs.Lexemes.{lexemes}
 use Rattle.net_reader.specs.Pieces.{left}
-use Rattle.net_reader.proofs.Steps.{left_after, stands_after}
+use Rattle.net_reader.proofs.NextToken.{left_after, stands_after}
 use Rattle.net_reader.proofs.reader.Reader.skip.Goals as goal
 
 pub invariant_of-self : goal.invariant_of-self

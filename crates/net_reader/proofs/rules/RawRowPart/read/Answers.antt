@@ -1,4 +1,4 @@
-use Rattle.net_reader.proofs.Shrinking.{cond_shrinks}
+use Rattle.net_reader.proofs.Shrinks.{cond_shrinks}
 use Rattle.net_reader.proofs.rules.RawRowPart.read.Goals as goal
 
 pub listed-requires : goal.listed-requires

@@ -1,6 +1,6 @@
 use Rattle.std.proofs.Common.{◌≡◌, ◌∙◌, ◌<◌, [], ℕ, List, length, get_or, sym, subst}
 use Rattle.outcome_table.specs.Known.{AreKnown}
-use Rattle.outcome_table.proofs.Known.{known_before, known_last}
+use Rattle.outcome_table.proofs.AreKnown.{known_before, known_last}
 use Rattle.outcome_table.proofs.outcomes.Outcomes.add.Goals as goal
 
 pub returns-in-Some-clause-low : goal.returns-in-Some-clause-low

@@ -2,8 +2,8 @@ use Rattle.std.proofs.Common.{◌++◌}
 use Rattle.net_names.specs.Places.{sooner, least_place}
 use Rattle.net_names.specs.Numbers.{repeated, no_name, is_name_of}
 use Rattle.net_names.specs.Scopes.{state_words}
-use Rattle.net_names.proofs.Answering.{IfOk-same}
-use Rattle.rule_judge.proofs.Parts.{three-found}
+use Rattle.net_names.proofs.IfOk.{IfOk-same}
+use Rattle.rule_judge.proofs.FoundInParts.{three-found}
 use Rattle.rule_judge.proofs.ports.OnceCheckRawMachine.check.Goals as goal
 
 pub returns : goal.returns

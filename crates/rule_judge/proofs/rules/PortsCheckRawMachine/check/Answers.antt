@@ -2,7 +2,7 @@ use Rattle.std.proofs.Common.{◌∙◌, ap}
 use Rattle.net_names.specs.Places.{sooner, least_place}
 use Rattle.net_names.specs.Numbers.{missing}
 use Rattle.net_names.specs.Tables.{has}
-use Rattle.rule_judge.proofs.Least.{sooner-missing}
+use Rattle.rule_judge.proofs.LeastPlace.{sooner-missing}
 use Rattle.rule_judge.proofs.rules.PortsCheckRawMachine.check.Goals as goal
 
 pub returns : goal.returns

@@ -1,4 +1,4 @@
-use Rattle.task_machine.proofs.Reacting.{give_outcomes}
+use Rattle.task_machine.proofs.GiveOutcomes.{give_outcomes}
 use Rattle.task_machine.proofs.reactor.TaskReactor.new.Goals as goal
 
 pub invariant_of-result : goal.invariant_of-result

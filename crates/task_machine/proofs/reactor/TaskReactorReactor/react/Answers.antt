@@ -1,4 +1,4 @@
-use Rattle.task_machine.proofs.Reacting.{of_one, reacted}
+use Rattle.task_machine.proofs.GiveOutcomes.{of_one, reacted}
 use Rattle.task_machine.proofs.reactor.TaskReactorReactor.react.Goals as goal
 
 pub run-requires : goal.run-requires

@@ -1,8 +1,8 @@
 use Rattle.std.proofs.Common.{◌<◌, [], length, get_or, ap, sym, ◌∙◌, arith}
 use Rattle.journals.specs.Logs.{entries}
 use Rattle.worker_core.specs.Parts.{own_moments}
-use Rattle.worker_core.proofs.Beside.{length_own, own_moment, moments_added}
-use Rattle.journals.proofs.Moved.{moment_width}
+use Rattle.worker_core.proofs.OwnMoments.{length_own, own_moment, moments_added}
+use Rattle.journals.proofs.MomentsAfter.{moment_width}
 use Rattle.worker_core.proofs.parts.Parts.append.Goals as goal
 
 pub get-requires-2 : goal.get-requires-2

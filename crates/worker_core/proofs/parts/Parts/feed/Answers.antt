@@ -1,6 +1,6 @@
 use Rattle.std.proofs.Common.{sym, ◌∙◌}
 use Rattle.worker_core.specs.Parts.{state_of}
-use Rattle.worker_core.proofs.Making.{rest_within}
+use Rattle.worker_core.proofs.AreParts.{rest_within}
 use Rattle.worker_core.proofs.parts.Parts.feed.Goals as goal
 
 pub deliver-requires-clause-machine : goal.deliver-requires-clause-machine

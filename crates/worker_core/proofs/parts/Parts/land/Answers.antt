@@ -1,6 +1,6 @@
 use Rattle.std.proofs.Common.{sym, ◌∙◌}
 use Rattle.worker_core.specs.Parts.{state_of}
-use Rattle.worker_core.proofs.Making.{held_within}
+use Rattle.worker_core.proofs.AreParts.{held_within}
 use Rattle.worker_core.proofs.parts.Parts.land.Goals as goal
 
 pub deliver-requires-clause-machine : goal.deliver-requires-clause-machine

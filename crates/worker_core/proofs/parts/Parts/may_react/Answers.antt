@@ -1,6 +1,6 @@
 use Rattle.std.proofs.Common.{◌∙◌}
 use Rattle.worker_core.specs.Parts.{state_of}
-use Rattle.worker_core.proofs.Making.{may_react_is}
+use Rattle.worker_core.proofs.AreParts.{may_react_is}
 use Rattle.worker_core.proofs.parts.Parts.may_react.Goals as goal
 
 pub returns : goal.returns

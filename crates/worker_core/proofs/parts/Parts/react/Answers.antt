@@ -2,7 +2,7 @@ use Rattle.std.proofs.Common.{[], get_or, ap, sym, subst}
 use Rattle.journals.specs.Journals.{FitsNetwork}
 use Rattle.journals.specs.Logs.{entries}
 use Rattle.journals.specs.Moved.{machine_of}
-use Rattle.worker_core.proofs.Making.{suits}
+use Rattle.worker_core.proofs.AreParts.{suits}
 use Rattle.worker_core.proofs.parts.Parts.react.Goals as goal
 
 pub deliveries-requires : goal.deliveries-requires

@@ -4,7 +4,7 @@ use Rattle.transition_table.specs.declared.network.Network.{Network}
 use Rattle.transition_table.specs.declared.snapshot.Snapshot.{Snapshot}
 use Rattle.journals.specs.Journals.{snap}
 use Rattle.journals.specs.Logs.{entries}
-use Rattle.worker_core.proofs.Beside.{length_own, own_moment, reaction_made}
+use Rattle.worker_core.proofs.OwnMoments.{length_own, own_moment, reaction_made}
 use Rattle.worker_core.proofs.parts.Parts.reaction.Goals as goal
 
 pub get-requires : goal.get-requires

@@ -2,7 +2,7 @@ use Rattle.std.proofs.Common.{[], get_or, subst}
 use Rattle.worker_core.specs.CoreLaws.{RunsWell}
 use Rattle.worker_core.specs.Parts.{state_of}
 use Rattle.worker_core.specs.Running.{CoreMoment}
-use Rattle.worker_core.proofs.Sorting.{rises_then_rise}
+use Rattle.worker_core.proofs.ByStamp.{rises_then_rise}
 use Rattle.worker_core.proofs.running.Core.logs.Goals as goal
 
 pub returns-clause-well : goal.returns-clause-well

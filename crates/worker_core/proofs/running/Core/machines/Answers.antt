@@ -2,7 +2,7 @@ use Rattle.std.proofs.Common.{subst, arith}
 use Rattle.worker_core.specs.Parts.{state_of}
 use Rattle.worker_core.specs.Running.{CoreMoment}
 use Rattle.worker_core.specs.inner.Turns.{IsStill}
-use Rattle.worker_core.proofs.Turning.{still_past}
+use Rattle.worker_core.proofs.IsStill.{still_past}
 use Rattle.worker_core.proofs.running.Core.machines.Goals as goal
 
 pub returns-clause-others : goal.returns-clause-others

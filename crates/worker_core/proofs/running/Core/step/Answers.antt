@@ -1,4 +1,4 @@
-use Rattle.worker_core.proofs.Making.{parts_after}
+use Rattle.worker_core.proofs.AreParts.{parts_after}
 use Rattle.worker_core.proofs.running.Core.step.Goals as goal
 
 pub invariant_of-self : goal.invariant_of-self

@@ -1,6 +1,6 @@
 use Rattle.std.proofs.Common.{sym, ap, ◌∙◌}
 use Rattle.polis_base.specs.Lists.{head_of}
-use Rattle.worker_core.proofs.Passing.{head_of_drop}
+use Rattle.worker_core.proofs.HeadOfDrop.{head_of_drop}
 use Rattle.worker_core.proofs.state.Queue.first.Goals as goal
 
 pub returns-then-self-len : goal.returns-then-self-len

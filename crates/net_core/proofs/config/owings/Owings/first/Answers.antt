@@ -4,7 +4,7 @@ use Rattle.polis_base.specs.Lists.{head_of}
 use Rattle.net_core.specs.declared.config.emissions.Emission.{Emission}
 use Rattle.net_core.specs.Emissions.{no_emission, owed_to}
 use Rattle.net_core.specs.Readers.{members}
-use Rattle.net_core.proofs.Emitting.{first_is}
+use Rattle.net_core.proofs.OwedByEmissions.{first_is}
 use Rattle.net_core.proofs.config.owings.Owings.first.Goals as goal
 
 pub returns-then-self-len : goal.returns-then-self-len

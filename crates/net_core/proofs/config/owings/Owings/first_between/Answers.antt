@@ -5,8 +5,8 @@ use Rattle.transition_table.specs.declared.decl.Party.TheVariants.{Machine as Se
 use Rattle.journals.specs.Schedules.{is_way}
 use Rattle.net_core.specs.declared.config.emissions.Emission.{Emission}
 use Rattle.net_core.specs.Emissions.{no_emission, owed_to, all_waiting}
-use Rattle.net_core.proofs.Emitting.{all_absent, find_at_place}
-use Rattle.net_core.proofs.Queueing.{none_passed, waits_past, start_is}
+use Rattle.net_core.proofs.OwedByEmissions.{all_absent, find_at_place}
+use Rattle.net_core.proofs.IsQueue.{none_passed, waits_past, start_is}
 use Rattle.net_core.proofs.Bitsets.{find_none}
 use Rattle.net_core.proofs.config.owings.Owings.first_between.Goals as goal
 

@@ -1,5 +1,5 @@
 use Rattle.std.proofs.Common.{arith}
-use Rattle.net_core.proofs.Starting.{first_queue}
+use Rattle.net_core.proofs.FirstQueue.{first_queue}
 use Rattle.net_core.proofs.config.owings.Owings.new.Goals as goal
 
 pub invariant_of-result : goal.invariant_of-result

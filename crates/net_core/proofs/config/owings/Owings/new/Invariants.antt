@@ -1,6 +1,6 @@
 use Rattle.std.proofs.Common.{◌≡◌, ◌/◌, map}
 use Rattle.polis_base.specs.Lists.{upto}
-use Rattle.net_core.proofs.Starting.{sentinel}
+use Rattle.net_core.proofs.FirstQueue.{sentinel}
 use Rattle.net_core.proofs.config.owings.Owings.new.Given as goal
 
 abbrev pub invariant-loop-from : goal.invariant-loop-from

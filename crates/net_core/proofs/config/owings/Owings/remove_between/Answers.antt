@@ -5,8 +5,8 @@ use Rattle.transition_table.specs.declared.decl.Party.TheVariants.{Machine as Se
 use Rattle.journals.specs.Schedules.{is_way, without_first}
 use Rattle.net_core.specs.declared.config.emissions.Emission.{Emission}
 use Rattle.net_core.specs.Emissions.{no_emission, all_waiting, IsQueue}
-use Rattle.net_core.proofs.Emitting.{all_absent, without_none, pass_struck}
-use Rattle.net_core.proofs.Queueing.{none_passed, waits_past, start_is, struck_view, struck_queue}
+use Rattle.net_core.proofs.OwedByEmissions.{all_absent, without_none, pass_struck}
+use Rattle.net_core.proofs.IsQueue.{none_passed, waits_past, start_is, struck_view, struck_queue}
 use Rattle.net_core.proofs.config.owings.Owings.remove_between.Goals as goal
 
 pub invariant_of-self : goal.invariant_of-self

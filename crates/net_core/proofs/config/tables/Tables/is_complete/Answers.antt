@@ -5,7 +5,7 @@ use Rattle.polis_base.specs.Lists.{head_of}
 use Rattle.net_core.specs.declared.answer.NextEnv.{NextEnv}
 use Rattle.journals.specs.declared.entry.Owed.{Owed}
 use Rattle.journals.specs.Journals.{is_woken}
-use Rattle.net_core.proofs.Completing.{complete_says}
+use Rattle.net_core.proofs.Complete.{complete_says}
 use Rattle.net_core.proofs.Wakings.{word_is_zero, zero_wakes_none}
 use Rattle.net_core.proofs.config.tables.Tables.is_complete.Goals as goal
 

@@ -1,7 +1,7 @@
 use Rattle.std.proofs.Common.{length, ap, ◌∙◌, arith}
 use Rattle.journals.specs.Cursors.{cursor}
-use Rattle.net_core.proofs.Judging.{env_lands, machine_lands, machine_owes_none}
-use Rattle.journals.proofs.Moved.{length-table}
+use Rattle.net_core.proofs.MayFollow.{env_lands, machine_lands, machine_owes_none}
+use Rattle.journals.proofs.MomentsAfter.{length-table}
 use Rattle.net_core.proofs.Tables.{table_item}
 use Rattle.net_core.proofs.config.tables.Tables.may_land.Goals as goal
 

@@ -5,9 +5,9 @@ use Rattle.transition_table.specs.declared.network.Network.{Network}
 use Rattle.transition_table.specs.declared.snapshot.Snapshot.{Snapshot}
 use Rattle.journals.specs.declared.entry.Entry.TheVariants.{Rea}
 use Rattle.journals.specs.Journals.{snap}
-use Rattle.journals.proofs.Moved.{length-table}
+use Rattle.journals.proofs.MomentsAfter.{length-table}
 use Rattle.net_core.proofs.Tables.{moment_of}
-use Rattle.journals.proofs.Advancing.{machine_within}
+use Rattle.journals.proofs.CursorsAfter.{machine_within}
 use Rattle.net_core.proofs.config.tables.Tables.may_react.Goals as goal
 
 pub index-requires : goal.index-requires

@@ -5,8 +5,8 @@ use Rattle.transition_table.specs.declared.decl.Party.TheVariants.{Env}
 use Rattle.journals.specs.declared.entry.Owed.{Owed}
 use Rattle.journals.specs.declared.entry.TraceItem.TheVariants.{Event, Settle}
 use Rattle.journals.specs.Cursors.{cursor, settled_at}
-use Rattle.net_core.proofs.Environment.{first_at_least, none_left, no_machines_read, settled_says}
-use Rattle.journals.proofs.Moved.{length-table}
+use Rattle.net_core.proofs.OwedByEnv.{first_at_least, none_left, no_machines_read, settled_says}
+use Rattle.journals.proofs.MomentsAfter.{length-table}
 use Rattle.net_core.proofs.Tables.{table_item}
 use Rattle.net_core.proofs.config.tables.Tables.next_env.Goals as goal
 

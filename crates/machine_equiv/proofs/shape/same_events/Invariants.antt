@@ -1,0 +1,5 @@
+use Rattle.machine_equiv.specs.inner.Agreeing.{AgreeBelow, IsSameEvent}
+use Rattle.machine_equiv.proofs.shape.same_events.Given as goal
+
+abbrev pub invariant-loop-e : goal.invariant-loop-e
+invariant-loop-e l = AgreeBelow (IsSameEvent l.a l.b) l.a.events l.b.events l.e

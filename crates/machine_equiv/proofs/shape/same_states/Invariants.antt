@@ -1,0 +1,5 @@
+use Rattle.machine_equiv.specs.inner.Agreeing.{AgreeBelow, IsSameState}
+use Rattle.machine_equiv.proofs.shape.same_states.Given as goal
+
+abbrev pub invariant-loop-k : goal.invariant-loop-k
+invariant-loop-k l = AgreeBelow (IsSameState l.a l.b) l.xs l.ys l.k

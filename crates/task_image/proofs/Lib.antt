@@ -1,0 +1,16 @@
+pub mod Prefixes
+pub mod IsReader
+pub mod FieldReaders
+pub mod InstrAt
+pub mod MachinesAt
+pub mod IsImage
+pub mod BreaksAt
+pub mod EachAt
+pub mod Joined
+pub mod CodeAt
+pub mod Pieces
+pub mod Writes
+pub mod IsWalk
+pub mod Verifies
+pub mod Lamps
+pub mod ImageLaws

@@ -1,0 +1,9 @@
+pub mod Images
+pub mod Fields
+pub mod Decoding
+pub mod Encoding
+pub mod Verifying
+pub mod Laws
+pub mod Worked
+pub mod samples
+pub mod inner

@@ -25,9 +25,9 @@ use Rattle.net_names.specs.Values.{count_of}
 use Rattle.rule_judge.specs.Rules.{disorder}
 use Rattle.net_rules.specs.Networks.{event_of, state_of, IsDomainOf, IsMachineOf}
 use Rattle.net_rules.specs.inner.Sound.{Each as AtEach, has_count}
-use Rattle.net_rules.proofs.Facts.{and-first, and-second}
-use Rattle.net_rules.proofs.Judging.{sound}
-use Rattle.net_rules.proofs.Kept.{fresh}
+use Rattle.net_rules.proofs.NumbersOfNames.{and-first, and-second}
+use Rattle.net_rules.proofs.IsSound.{sound}
+use Rattle.net_rules.proofs.HasReceivers.{fresh}
 use Rattle.net_rules.proofs.Sentences.{sentences-have-values}
 use Rattle.journal_text.specs.Holding.{names_hold, has_name_token, state_has_name, machine_holds, values_hold}
 use Rattle.polis_cli.specs.Accepted.{Accepted}

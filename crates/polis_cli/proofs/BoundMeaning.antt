@@ -1,5 +1,5 @@
 -- What `bound` means.
-use Rattle.std.proofs.Common.{◌≡◌, ℕ, List, [], Option, refl}
+use Rattle.std.proofs.Common.{inl, ◌≡◌, ℕ, List, [], Option, refl}
 use Rattle.polis_base.specs.Host.{Files, WhereTold}
 use Rattle.transition_table.specs.declared.network.Network.{Network}
 use Rattle.cost_bound.specs.declared.costs.Costs.{Costs}
@@ -20,10 +20,12 @@ pub bound_lawful : (bound : BoundWords) → IsLawful (bound_meaning bound)
 bound_lawful bound = record {
   made_accepts = λ files product m. (m.net, m.holds_net);
   made_finds = λ files product status m found. found;
-  refused = λ files name cause h s all. net_refused files bound.net cause all.0 s h.1 all.1;
+  refused = λ files name cause h s. inl (λ all. net_refused files bound.net cause all.0 s h.1 all.1);
   found = λ files name cause h f. absurd (net_unfound files bound.net cause f h.1);
   found_accepts = λ files status h. absurd h;
   found_ends = λ files status h. absurd h;
+  refuse_finds = λ files status h. absurd h;
+  refuse_ends = λ files h. absurd h;
   found_once = λ files s t h k. absurd h;
 }
 

@@ -1,5 +1,5 @@
 -- What `check` means.
-use Rattle.std.proofs.Common.{◌≡◌, refl, Option}
+use Rattle.std.proofs.Common.{inl, ◌≡◌, refl, Option}
 use Rattle.polis_base.specs.Host.{Files, WhereTold}
 use Rattle.transition_table.specs.declared.network.Network.{Network}
 use Rattle.polis_words.specs.Check.{CheckWords}
@@ -16,10 +16,12 @@ pub check_lawful : (check : CheckWords) → IsLawful (check_meaning check)
 check_lawful check = record {
   made_accepts = λ files product m. (m.net, m.holds_net);
   made_finds = λ files product status m found. found;
-  refused = λ files name cause h s all. net_refused files check.net cause all.0 s h.1 all.1;
+  refused = λ files name cause h s. inl (λ all. net_refused files check.net cause all.0 s h.1 all.1);
   found = λ files name cause h f. absurd (net_unfound files check.net cause f h.1);
   found_accepts = λ files status h. absurd h;
   found_ends = λ files status h. absurd h;
+  refuse_finds = λ files status h. absurd h;
+  refuse_ends = λ files h. absurd h;
   found_once = λ files s t h k. absurd h;
 }
 

@@ -1,5 +1,5 @@
 -- What `compile` means.
-use Rattle.std.proofs.Common.{◌≡◌, ℕ, List, [], ◌∷◌, ◌++◌, Option, refl, ◌∙◌, codes}
+use Rattle.std.proofs.Common.{inl, ◌≡◌, ℕ, List, [], ◌∷◌, ◌++◌, Option, refl, ◌∙◌, codes}
 use Rattle.polis_base.specs.Host.{Files, WhereTold}
 use Rattle.transition_table.specs.declared.network.Network.{Network}
 use Rattle.task_code.specs.Listings.{Part, ListingText}
@@ -21,10 +21,12 @@ pub compile_lawful : (compile : CompileWords) → IsLawful (compile_meaning comp
 compile_lawful compile = record {
   made_accepts = λ files product m. (m.net, m.holds_net);
   made_finds = λ files product status m found. found;
-  refused = λ files name cause h s all. net_refused files compile.net cause all.0 s h.1 all.1;
+  refused = λ files name cause h s. inl (λ all. net_refused files compile.net cause all.0 s h.1 all.1);
   found = λ files name cause h f. absurd (net_unfound files compile.net cause f h.1);
   found_accepts = λ files status h. absurd h;
   found_ends = λ files status h. absurd h;
+  refuse_finds = λ files status h. absurd h;
+  refuse_ends = λ files h. absurd h;
   found_once = λ files s t h k. absurd h;
 }
 

@@ -1,5 +1,5 @@
 -- What `demo` means.
-use Rattle.std.proofs.Common.{Option, refl}
+use Rattle.std.proofs.Common.{inl, Option, refl}
 use Rattle.polis_base.specs.Host.{Files}
 use Rattle.polis_words.specs.Demo.{DemoWords}
 use Rattle.polis_cli.specs.declared.product.Product.{Product}
@@ -13,10 +13,12 @@ pub demo_lawful : (demo : DemoWords) → IsLawful (demo_meaning demo)
 demo_lawful demo = record {
   made_accepts = λ files product m. tt;
   made_finds = λ files product status m found. found;
-  refused = λ files name cause h s all. h;
+  refused = λ files name cause h s. inl (λ all. h);
   found = λ files name cause h f. absurd h;
   found_accepts = λ files status h. absurd h;
   found_ends = λ files status h. absurd h;
+  refuse_finds = λ files status h. absurd h;
+  refuse_ends = λ files h. absurd h;
   found_once = λ files s t h k. absurd h;
 }
 

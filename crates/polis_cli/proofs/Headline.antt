@@ -1,5 +1,5 @@
 -- What a run gives that ended with Done or Limit.
-use Rattle.std.proofs.Common.{◌≡◌, ℕ, Bool, true, false, List, ◌++◌, refl, sym, ◌∙◌, ap, subst}
+use Rattle.std.proofs.Common.{◌≡◌, inl, inr, ℕ, Bool, true, false, List, ◌++◌, Option, Some, None, refl, sym, ◌∙◌, ap, subst}
 use Rattle.polis_base.specs.Host.{Files, bytes_at, Changes}
 use Rattle.transition_table.specs.declared.network.Network.{Network}
 use Rattle.journals.specs.declared.entry.TraceItem.{TraceItem}
@@ -11,9 +11,9 @@ use Rattle.polis_cli.specs.declared.product.Product.{Product}
 use Rattle.polis_cli.specs.declared.ran.Ran.{Ran}
 use Rattle.polis_cli.specs.Commands.{meaning}
 use Rattle.polis_cli.specs.Ends.{end_status}
-use Rattle.polis_cli.specs.Headline.{Headline, RunsGiveHeadline, IsHeld, Ends, CountsNoFault}
+use Rattle.polis_cli.specs.Headline.{Headline, RunsGiveHeadline, IsHeld, IsSaved, SavesListing, Ends, CountsNoFault}
 use Rattle.polis_cli.specs.Promise.{Outside}
-use Rattle.polis_cli.specs.Run.{IsRan, MakesRun, end_of, run_product, run_text}
+use Rattle.polis_cli.specs.Run.{IsRan, MakesRun, AreTasks, Tasks, Compiled, Given, end_of, run_product, run_text}
 use Rattle.polis_cli.specs.Saves.{AreHeld, IsOther}
 use Rattle.polis_cli.specs.Top.{MadeAndWritten}
 use Rattle.polis_cli.proofs.WhereTold.{changes_some, changes_from}
@@ -39,6 +39,28 @@ Gives run status before now old new =
     × IsHeld before run.trace trace_text
     × Headline run text trace_text status before now old new
 
+-- the listing is held where one is saved
+listing_held : (run : RunWords) (now : Files) (net : Network) (ran : Ran) (tasks : Tasks)
+    → AreHeld now (run_product run net ran tasks).saves → SavesListing run now net tasks
+listing_held run now net ran (Compiled parts) held = held.1.1.0
+listing_held run now net ran (Given code) held = tt
+
+-- a name that a run doesn't save under is none of its saves
+other_name : (run : RunWords) (name : List ℕ) (before : Files) (net : Network) (ran : Ran)
+    (tasks : Tasks) → AreTasks run.image before net tasks → ¬ IsSaved run name
+    → IsOther name (run_product run net ran tasks).saves
+other_name run name before net ran (Given code) are none =
+    (λ e. none (inl e), (λ e. none (inr (inl e)), tt))
+other_name run name before net ran (Compiled parts) are none = (
+  λ e. none (inl e),
+  (λ e. none (inr (inl e)), (λ e. none (inr (inr (no_image run.image are, e))), tt)),
+)
+  where
+    no_image : (named : Option (List ℕ)) → AreTasks named before net (Compiled parts)
+        → named ≡ None
+    no_image None h = refl
+    no_image (Some image) h = absurd h
+
 -- a product of a run that was written
 written : (run : RunWords) (status : Status) (before now : Files) (old new : Outside)
     (product : Product) → MakesRun run before product → status ≡ end_status product.end
@@ -47,7 +69,7 @@ written : (run : RunWords) (status : Status) (before now : Files) (old new : Out
     → Changes old.shown new.shown (λ was is. is ≡ was ++ product.shown)
     → CountsNoFault old new → Gives run status before now old new
 written run status before now old new product m ends saved others shown faults =
-    let made : product ≡ run_product run m.net m.ran m.parts = m.made in
+    let made : product ≡ run_product run m.net m.ran m.tasks = m.made in
     let held = subst (λ (p : Product). AreHeld now p.saves) made saved in
     let text = ap (λ (p : Product). p.shown) made in (
       m.holds_net.text,
@@ -58,23 +80,23 @@ written run status before now old new product m ends saved others shown faults =
         net = m.net;
         trace = m.trace;
         ran = m.ran;
-        parts = m.parts;
+        tasks = m.tasks;
         accepted = (m.holds_net.accepted, m.holds_trace.read);
         legal = (held.1.0, m.is_ran.legal, m.is_ran.within);
         ends = ends_at status run.workers run.limit m.net m.trace m.ran m.is_ran
             (ends ∙ ap (λ (p : Product). end_status p.end) made);
         outputs = held.0;
-        listing = (held.1.1.0, m.right);
+        tasks_are = (m.are_tasks, listing_held run now m.net m.ran m.tasks held);
         begins = (
           m.is_ran.begins,
           changes_from old.shown new.shown (λ was is. is ≡ was ++ product.shown)
-              (λ was is. is ≡ was ++ run_text m.net m.parts m.ran)
+              (λ was is. is ≡ was ++ run_text m.net m.tasks m.ran)
               (λ was is h. h ∙ ap (λ (t : List ℕ). was ++ t) text) shown,
         );
         others = (
-          λ name no_out no_journal no_listing.
+          λ name none.
               others name (subst (λ (p : Product). IsOther name p.saves) (sym made)
-              (no_out, (no_journal, (no_listing, tt)))),
+              (other_name run name before m.net m.ran m.tasks m.are_tasks none)),
           faults,
         );
       },

@@ -2,7 +2,7 @@
 use Rattle.std.proofs.Common.{◌≡◌, ◌⊎◌, inl, inr, ℕ, true, List, [], Option, refl, sym, subst, IsTrue}
 use Rattle.polis_base.specs.Host.{Files, WhereTold}
 use Rattle.polis_words.specs.declared.cause.Cause.{Cause}
-use Rattle.polis_words.specs.declared.cause.Cause.TheVariants.{ReadFault as Unread, Absent, TooLong, Lex, Syntax, Rule, Conflict, TraceLine, JournalLine, Illegal as Unlawful}
+use Rattle.polis_words.specs.declared.cause.Cause.TheVariants.{ReadFault as Unread, Absent, TooLong, Lex, Syntax, Rule, Conflict, TraceLine, JournalLine, Illegal as Unlawful, ImageByte, ImageShape, ImageWrong, ImageLong, OtherShape, Differ as TablesDiffer}
 use Rattle.polis_words.specs.declared.cause.Failure.{Failure}
 use Rattle.polis_words.specs.declared.cause.Failure.TheVariants as failures
 use Rattle.polis_words.specs.declared.status.Status.{Status}
@@ -123,10 +123,17 @@ cases_of (failures.File name cause) = of_cause cause
     of_cause (Conflict printed) = inl refl
     of_cause (TraceLine line kind) = inl refl
     of_cause (JournalLine line kind) = inl refl
+    of_cause (ImageByte place) = inl refl
+    of_cause (ImageShape machine) = inl refl
+    of_cause (ImageWrong text) = inl refl
+    of_cause ImageLong = inl refl
+    of_cause OtherShape = inl refl
+    of_cause (TablesDiffer text) = inr (inr (inr refl))
 
--- files that are refused aren't accepted
+-- files that are refused aren't accepted, or may be refused all the same
 pub refuses : (m : Meaning) → IsLawful m → (files : Files) (failure : Failure)
-    → status_of failure ≡ Refused → FailsAs m files failure → ¬ m.accepts files
+    → status_of failure ≡ Refused → FailsAs m files failure
+    → (¬ m.accepts files) ⊎ m.may_refuse files
 refuses m law files failures.NoMemory s h = cc
 refuses m law files (failures.File name cause) s h = law.refused files name.now cause h s
 

@@ -9,8 +9,8 @@ use Rattle.polis_words.specs.declared.cause.Cause.{Cause}
 use Rattle.polis_words.specs.declared.cause.Cause.TheVariants.{Lex, Syntax, Rule, Conflict}
 use Rattle.polis_words.specs.declared.status.Status.TheVariants.{Refused}
 use Rattle.polis_words.specs.Lines.{cause_status}
-use Rattle.polis_cli.specs.declared.accept.TextFault.{TextFault}
-use Rattle.polis_cli.specs.declared.accept.TextFault.TheVariants as faults
+use Rattle.polis_cli.specs.declared.accept.FileFault.{FileFault}
+use Rattle.polis_cli.specs.declared.accept.FileFault.TheVariants as faults
 use Rattle.polis_cli.specs.Accepted.{AreBefore, IsFirstConflict}
 use Rattle.polis_cli.specs.Inputs.{HoldsText, IsNetFault, NetFails}
 use Rattle.polis_cli.specs.Meanings.{is_failure}
@@ -18,7 +18,7 @@ use Rattle.polis_cli.specs.inner.Accepted.{IfCause, IsMachineFault, IsConflictFa
 use Rattle.polis_cli.proofs.WhereTold.{told_from}
 
 -- a fault for another reason
-pub fault_from : (fault : TextFault) (P Q : Cause → Type 0) → ((cause : Cause) → P cause → Q cause)
+pub fault_from : (fault : FileFault) (P Q : Cause → Type 0) → ((cause : Cause) → P cause → Q cause)
     → IfCause fault P → IfCause fault Q
 fault_from (faults.Cause cause) P Q f h = f cause h
 fault_from faults.NoMemory P Q f h = tt

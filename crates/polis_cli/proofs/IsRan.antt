@@ -10,7 +10,7 @@ use Rattle.journals.specs.declared.entry.TraceItem.{TraceItem}
 use Rattle.journals.specs.declared.entry.Pick.{Pick}
 use Rattle.journals.specs.declared.entry.Pick.TheVariants.{Stop}
 use Rattle.journals.specs.Legality.{Legal, Complete}
-use Rattle.journals.proofs.Stopping.{stops_where_complete}
+use Rattle.journals.proofs.StopsWhereComplete.{stops_where_complete}
 use Rattle.journals.specs.Schedules.{Follows, FollowsAfter, IsPicked, pick}
 use Rattle.worker_run.specs.Gathered.{IsEnough}
 use Rattle.polis_cli.specs.declared.ran.Ran.{Ran}

@@ -9,7 +9,7 @@ use Rattle.journals.specs.declared.entry.Entry.{Entry}
 use Rattle.journals.specs.declared.entry.TraceItem.{TraceItem}
 use Rattle.journals.specs.Legality.{Legal}
 use Rattle.journals.proofs.Legal.{prefixes_are_legal}
-use Rattle.journals.proofs.Stamping.{prefixes_rise}
+use Rattle.journals.proofs.LeastStamps.{prefixes_rise}
 use Rattle.journal_text.specs.declared.fault.JournalFault.{JournalFault}
 use Rattle.journal_text.specs.Reading.{ReadText, read_of}
 use Rattle.polis_words.specs.declared.cause.Cause.{Cause}

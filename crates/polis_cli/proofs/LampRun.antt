@@ -1,8 +1,9 @@
 -- What a call promises holds of the lamp on one press.
-use Rattle.std.proofs.Common.{◌≡◌, ◌≤◌, zero, suc, length, true, List, [], ◌∷◌, Some, refl, ◌∙◌, subst, inl, lit≤, codes, arith}
+use Rattle.std.proofs.Common.{◌≡◌, ◌≤◌, zero, suc, length, true, List, [], ◌∷◌, Some, refl, ◌∙◌, subst, lit≤, codes, arith}
 use Rattle.std.specs.Fmt.{digits}
 use Rattle.std.specs.FinMap.{empty, insert, get-insert}
 use Rattle.std.proofs.lemmas.Cmp.{nat_list_cmp_total}
+use Rattle.polis_base.specs.Lines.{line}
 use Rattle.polis_base.specs.Host.{Files}
 use Rattle.polis_base.specs.inner.Held.{held_elsewhere}
 use Rattle.transition_table.specs.declared.machine.Machine.{Machine}
@@ -15,14 +16,14 @@ use Rattle.polis_words.specs.declared.status.Status.TheVariants.{Done}
 use Rattle.polis_words.specs.declared.requests.Request.TheVariants.{Run}
 use Rattle.polis_cli.specs.declared.product.Product.{Product}
 use Rattle.polis_cli.specs.declared.ran.Ran.{Ran}
-use Rattle.journal_text.specs.Texts.{line}
 use Rattle.net_reader.specs.Samples.{lamp_text}
 use Rattle.task_code.specs.Listings.{Part, ListingText}
 use Rattle.machine_compiler.specs.Parts.{AreRightParts}
 use Rattle.polis_cli.specs.Samples.{press_text, lamp_journal}
 use Rattle.polis_cli.specs.Saves.{AreHeld}
 use Rattle.polis_cli.specs.LampRun.{lamp_words, lamp_asked, files_before, files_after, lamp_shown}
-use Rattle.polis_cli.specs.Run.{MakesRun, run_product}
+use Rattle.polis_words.specs.RunOptions.{unsaid}
+use Rattle.polis_cli.specs.Run.{MakesRun, Compiled, run_product}
 use Rattle.polis_cli.specs.Top.{MadeAndWritten}
 use Rattle.net_rules.specs.NetOf.{NetOf}
 
@@ -35,7 +36,7 @@ abbrev lamp_ran : Ran
 lamp_ran = record { journal = lamp_run; complete = true; gathered = 0; adopted = 0 }
 
 abbrev lamp_product : List Part → Product
-lamp_product parts = run_product lamp_asked lamp lamp_ran parts
+lamp_product parts = run_product lamp_asked lamp lamp_ran (Compiled parts)
 
 lamp_made : NetOf lamp_text lamp → OneRow → IsRun lamp press lamp_run ((1, 1) ∷ []) 0
     → (parts : List Part) → AreRightParts lamp parts
@@ -78,8 +79,8 @@ lamp_made net one run parts right = record {
     ends = (λ whole. run.complete, λ whole. refl);
     limited = λ none. cc;
   };
-  parts = parts;
-  right = right;
+  tasks = Compiled parts;
+  are_tasks = right;
   made = refl;
 }
 
@@ -121,13 +122,11 @@ lamp_row net one run parts right = record {
     net = (lit≤ tt, lit≤ tt);
     trace = (lit≤ tt, lit≤ tt);
     stem = (lit≤ tt, lit≤ tt);
-    asks = record {
-      of_workers = [];
-      of_limit = [];
-      asks_workers = inl (refl, refl);
-      asks_limit = inl (refl, refl);
-      order = inl refl;
-    };
+    said = unsaid;
+    asks = record { options = []; words_are = refl; say = refl };
+    workers = refl;
+    limit = refl;
+    image = refl;
   };
   product = lamp_product parts;
   made = lamp_made net one run parts right;

@@ -1,9 +1,10 @@
 -- What each command means is lawful.
-use Rattle.std.proofs.Common.{◌≡◌, inl, inr, ◌≤◌, ◌<◌, ℕ, List, refl, arith}
-use Rattle.polis_words.specs.Run.{AsksWorkers, NeedsWorkers}
+use Rattle.std.proofs.Common.{◌≡◌, ◌<◌, ℕ, List, refl, arith}
+use Rattle.polis_words.specs.Run.{NeedsWorkers}
 use Rattle.polis_words.specs.declared.requests.Request.{Request}
-use Rattle.polis_words.specs.declared.requests.Request.TheVariants.{Run, Check, Compile, Replay, Migrate, Demo, Bound}
+use Rattle.polis_words.specs.declared.requests.Request.TheVariants.{Run, Check, Compile, Replay, Migrate, Demo, Bound, Image, Equiv}
 use Rattle.polis_words.specs.Requests.{Asks}
+use Rattle.polis_words.proofs.AskOptions.{asked_within}
 use Rattle.polis_cli.specs.Commands.{meaning}
 use Rattle.polis_cli.specs.inner.Lawful.{IsLawful}
 use Rattle.polis_cli.proofs.RunMeaning.{run_lawful}
@@ -13,6 +14,8 @@ use Rattle.polis_cli.proofs.ReplayMeaning.{replay_lawful}
 use Rattle.polis_cli.proofs.MigrateMeaning.{migrate_lawful}
 use Rattle.polis_cli.proofs.DemoMeaning.{demo_lawful}
 use Rattle.polis_cli.proofs.BoundMeaning.{bound_lawful}
+use Rattle.polis_cli.proofs.ImageMeaning.{image_lawful}
+use Rattle.polis_cli.proofs.EquivMeaning.{equiv_lawful}
 
 pub lawful : (request : Request) → IsLawful (meaning request)
 lawful (Run run) = run_lawful run
@@ -22,17 +25,16 @@ lawful (Replay replay) = replay_lawful replay
 lawful (Migrate migrate) = migrate_lawful migrate
 lawful (Demo demo) = demo_lawful demo
 lawful (Bound bound) = bound_lawful bound
-
--- options ask for a worker at least
-some_worker : (words : List (List ℕ)) (workers : ℕ) → AsksWorkers words workers → 1 ≤ workers
-some_worker words workers (inl (none, one)) = omega (arith, one)
-some_worker words workers (inr (given, some, few)) = some
+lawful (Image image) = image_lawful image
+lawful (Equiv equiv) = equiv_lawful equiv
 
 -- what is asked for needs one worker, where the command line needs no more
 pub one_worker : (words : List (List ℕ)) (request : Request) → Asks words request
     → (¬ NeedsWorkers words) → (meaning request).workers ≡ 1
 one_worker words (Run run) asks few =
-    let some = some_worker asks.asks.of_workers run.workers asks.asks.asks_workers in
+    let is = asks.workers in
+    let within = asked_within asks.options asks.said asks.asks in
+    let some = within.0.0 in
     let none : ¬ (1 < run.workers) = λ more. few (run, asks, more) in
-    omega (arith, some, none)
+    omega (arith, is, some, none)
 one_worker words other asks few = refl

@@ -1,5 +1,5 @@
 -- What `migrate` means.
-use Rattle.std.proofs.Common.{◌≡◌, Bool, List, [], ◌∷◌, ◌++◌, refl, ◌∙◌, Option, ℕ, codes}
+use Rattle.std.proofs.Common.{inl, ◌≡◌, Bool, List, [], ◌∷◌, ◌++◌, refl, ◌∙◌, Option, ℕ, codes}
 use Rattle.polis_base.specs.Host.{Files, WhereTold}
 use Rattle.transition_table.specs.declared.network.Network.{Network}
 use Rattle.journals.specs.declared.entry.Entry.{Entry}
@@ -25,10 +25,12 @@ migrate_lawful migrate = record {
       (m.net, m.trace, m.journal, m.judged.stamps, m.judged.holds);
   made_finds = λ files product status m.
       judged_legal files migrate.replay m.net m.trace m.journal m.complete status m.judged;
-  refused = λ files name cause h s. replay_refused files migrate.replay name cause s h;
+  refused = λ files name cause h s. inl (replay_refused files migrate.replay name cause s h);
   found = λ files name cause h f. found_illegal files migrate.replay name cause h f;
   found_accepts = λ files status. found_accepts files migrate.replay status;
   found_ends = found_ends (IsIllegalReplay migrate.replay);
+  refuse_finds = λ files status h. absurd h;
+  refuse_ends = λ files h. absurd h;
   found_once = found_once (IsIllegalReplay migrate.replay);
 }
 

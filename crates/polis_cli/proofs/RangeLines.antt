@@ -5,7 +5,7 @@ use Rattle.transition_table.specs.declared.machine.Machine.{Machine}
 use Rattle.transition_table.specs.declared.network.Network.{Network}
 use Rattle.cost_bound.specs.declared.bound.Range.{Range}
 use Rattle.cost_bound.specs.declared.costs.Costs.{Costs}
-use Rattle.machine_compiler.proofs.Collecting.{Paired, none_paired, more_paired, length_push}
+use Rattle.machine_compiler.proofs.RightParts.{Paired, none_paired, more_paired, length_push}
 use Rattle.polis_cli.specs.Bound.{IsRange}
 use Rattle.polis_cli.specs.Ranges.{range_line, range_lines}
 use Rattle.polis_cli.specs.inner.Bound.{ShowsRanges}

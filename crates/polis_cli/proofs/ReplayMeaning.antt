@@ -5,12 +5,13 @@ use Rattle.transition_table.specs.declared.network.Network.{Network}
 use Rattle.journals.specs.declared.entry.Entry.{Entry}
 use Rattle.journals.specs.declared.entry.TraceItem.{TraceItem}
 use Rattle.polis_words.specs.declared.cause.Cause.{Cause}
-use Rattle.polis_words.specs.declared.cause.Cause.TheVariants.{Illegal as Unlawful}
+use Rattle.polis_words.specs.declared.cause.Cause.TheVariants.{Illegal as Unlawful, Differ as TablesDiffer}
 use Rattle.polis_words.specs.declared.status.Status.{Status}
 use Rattle.polis_words.specs.declared.status.Status.TheVariants.{Refused, Illegal}
 use Rattle.polis_words.specs.Lines.{cause_status}
 use Rattle.polis_words.specs.Replay.{ReplayWords}
 use Rattle.polis_cli.specs.declared.product.Product.{Product}
+use Rattle.polis_cli.specs.JournalFiles.{JournalFails}
 use Rattle.polis_cli.specs.Meanings.{is_finding, finds_illegal, ends_judged}
 use Rattle.polis_cli.specs.Replay.{IsJudged, AcceptsReplay, FailsReplay, IsIllegalReplay, replay_product, replay_meaning}
 use Rattle.polis_cli.specs.inner.Lawful.{IsLawful}
@@ -54,10 +55,23 @@ replay_found files replay name cause s (inr h) =
     }
 
 -- only an illegal journal is found, and only by its cause
-pub finding_is : (cause : Cause) → IsTrue (is_finding (cause_status cause))
+other_unfound : (files : Files) (replay : ReplayWords) (name text : List ℕ)
+    → ¬ FailsReplay replay files name (TablesDiffer text)
+other_unfound files replay name text (inl h) =
+    inputs_unfound files replay.net replay.trace name (TablesDiffer text) refl h
+other_unfound files replay name text (inr h) = by_case (h.5 h.1 h.2 h.3 h.4)
+  where
+    by_case : ¬ JournalFails files h.1 h.2 replay.journal (TablesDiffer text)
+    by_case (inl unloaded) = unloaded
+    by_case (inr faulty) = faulty.2
+
+finding_is : (files : Files) (replay : ReplayWords) (name : List ℕ) (cause : Cause)
+    → FailsReplay replay files name cause → IsTrue (is_finding (cause_status cause))
     → cause_status cause ≡ Illegal
-finding_is (Unlawful entry) f = refl
-finding_is other f = cc
+finding_is files replay name (Unlawful entry) h f = refl
+finding_is files replay name (TablesDiffer text) h f =
+    absurd (other_unfound files replay name text h)
+finding_is files replay name other h f = cc
 
 pub illegal_is : (P : Files → Type 0) (files : Files) (status : Status)
     → finds_illegal P status files → (status ≡ Illegal) × P files
@@ -68,7 +82,7 @@ pub found_illegal : (files : Files) (replay : ReplayWords) (name : List ℕ) (ca
     → FailsReplay replay files name cause → IsTrue (is_finding (cause_status cause))
     → finds_illegal (IsIllegalReplay replay) (cause_status cause) files
 found_illegal files replay name cause h f =
-    let e = finding_is cause f in
+    let e = finding_is files replay name cause h f in
     subst (λ (s : Status). finds_illegal (IsIllegalReplay replay) s files) (sym e)
     (replay_found files replay name cause e h)
 
@@ -100,10 +114,12 @@ replay_lawful replay = record {
       (m.net, m.trace, m.journal, m.judged.stamps, m.judged.holds);
   made_finds = λ files product status m.
       judged_legal files replay m.net m.trace m.journal m.complete status m.judged;
-  refused = λ files name cause h s. replay_refused files replay name cause s h;
+  refused = λ files name cause h s. inl (replay_refused files replay name cause s h);
   found = λ files name cause h f. found_illegal files replay name cause h f;
   found_accepts = λ files status. found_accepts files replay status;
   found_ends = found_ends (IsIllegalReplay replay);
+  refuse_finds = λ files status h. absurd h;
+  refuse_ends = λ files h. absurd h;
   found_once = found_once (IsIllegalReplay replay);
 }
 

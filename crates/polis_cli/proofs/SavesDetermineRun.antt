@@ -1,18 +1,18 @@
 -- The texts that a run saves determine its journal and its compiled machines.
-use Rattle.std.proofs.Common.{◌≡◌, ◌≤◌, ℕ, List, [], ◌∷◌, sym, ap, subst, ◌∙◌, arith}
+use Rattle.std.proofs.Common.{◌≡◌, ◌≤◌, ℕ, List, [], ◌∷◌, Option, Some, None, IsTrue, sym, ap, subst, ◌∙◌, arith}
 use Rattle.polis_base.specs.declared.limits.TheConstants.{ENTRIES_MAX}
 use Rattle.transition_table.specs.declared.network.Network.{Network}
 use Rattle.journals.specs.Stamps.{least}
-use Rattle.journals.proofs.Stamping.{least_is_rising}
+use Rattle.journals.proofs.LeastStamps.{least_is_rising}
 use Rattle.journal_text.specs.Texts.{AreStamps}
 use Rattle.journal_text.specs.Laws.{OneStampedJournal, Prints}
-use Rattle.task_code.specs.Listings.{ListingText}
-use Rattle.machine_compiler.specs.Parts.{AreRightParts}
-use Rattle.machine_compiler.proofs.Parting.{listing_determines}
+use Rattle.journal_text.specs.Holding.{names_hold}
+use Rattle.machine_compiler.proofs.ListingDeterminesParts.{listing_determines}
 use Rattle.polis_base.specs.Host.{Files}
 use Rattle.polis_words.specs.Run.{RunWords}
 use Rattle.polis_cli.specs.declared.product.Product.{Product}
-use Rattle.polis_cli.specs.Run.{MakesRun, SavesDetermineRun, journal_of}
+use Rattle.polis_cli.specs.declared.ran.Ran.{Ran}
+use Rattle.polis_cli.specs.Run.{MakesRun, SavesDetermineRun, AreTasks, Tasks, Compiled, Given, journal_of, run_product}
 use Rattle.polis_cli.specs.Saves.{Save}
 use Rattle.polis_cli.proofs.Accepted.{names_hold_accepted}
 use Rattle.polis_cli.proofs.IsJudged.{rising_stamps}
@@ -26,6 +26,19 @@ second_text (save ∷ next ∷ saves) = next.text
 third_text : List Save → List ℕ
 third_text [] = []
 third_text (save ∷ saves) = second_text saves
+
+-- the tasks of a run that names no image, by its listing
+same_tasks : (named : Option (List ℕ)) (before now : Files) (net : Network) (run : RunWords)
+    (one other : Ran) (s t : Tasks) → named ≡ None → IsTrue (names_hold net)
+    → AreTasks named before net s → AreTasks named now net t
+    → third_text (run_product run net one s).saves ≡ third_text (run_product run net other t).saves
+    → s ≡ t
+unfolding second_text third_text
+same_tasks None before now net run one other (Compiled p) (Compiled q) none hold a b e =
+    ap Compiled (listing_determines net p q hold a b e)
+same_tasks None before now net run one other (Compiled p) (Given c) none hold a b e = absurd b
+same_tasks None before now net run one other (Given c) t none hold a b e = absurd a
+same_tasks (Some name) before now net run one other s t none hold a b e = cc
 
 prints : (run : RunWords) (files : Files) (p : Product) (a : MakesRun run files p)
     → run.limit ≤ ENTRIES_MAX → Prints a.net a.ran.journal
@@ -48,18 +61,19 @@ one_run one = λ run before now p q a b net few same.
     ∙ ap (λ (r : Product). r.saves) b.made in
     let texts : journal_of a.net a.ran ≡ journal_of a.net b.ran =
     ap second_text saves ∙ ap (λ (n : Network). journal_of n b.ran) (sym net) in
-    let listings : ListingText a.net a.parts ≡ ListingText a.net b.parts =
-    ap third_text saves ∙ ap (λ (n : Network). ListingText n b.parts) (sym net) in
+    let listings = ap third_text saves
+    ∙ ap (λ (n : Network). third_text (run_product run n b.ran b.tasks).saves) (sym net) in
     let printed = subst (λ (n : Network). Prints n b.ran.journal) (sym net)
     (prints run now q b few) in
     let stamped = subst (λ (n : Network). AreStamps b.ran.journal (least n b.ran.journal)) (sym net)
     (has_stamps run now q b few) in
-    let right = subst (λ (n : Network). AreRightParts n b.parts) (sym net) b.right in
+    let tasks = subst (λ (n : Network). AreTasks run.image now n b.tasks) (sym net) b.are_tasks in
     let found = one a.net a.ran.journal b.ran.journal (least a.net a.ran.journal)
     (least a.net b.ran.journal) a.ran.complete b.ran.complete (prints run before p a few) printed
     (has_stamps run before p a few) stamped texts in (
       found.0,
       found.2,
-      listing_determines a.net a.parts b.parts
-          (names_hold_accepted a.holds_net.text a.net a.holds_net.accepted) a.right right listings,
+      λ none. same_tasks run.image before now a.net run a.ran b.ran a.tasks b.tasks none
+          (names_hold_accepted a.holds_net.text a.net a.holds_net.accepted) a.are_tasks tasks
+          listings,
     )

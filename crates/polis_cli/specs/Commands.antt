@@ -1,6 +1,6 @@
 -- What each command means.
 use Rattle.polis_words.specs.declared.requests.Request.{Request}
-use Rattle.polis_words.specs.declared.requests.Request.TheVariants.{Run, Check, Compile, Replay, Migrate, Demo, Bound}
+use Rattle.polis_words.specs.declared.requests.Request.TheVariants.{Run, Check, Compile, Replay, Migrate, Demo, Bound, Image, Equiv}
 use Rattle.polis_cli.specs.Meanings.{Meaning}
 use Rattle.polis_cli.specs.Run.{run_meaning}
 use Rattle.polis_cli.specs.Check.{check_meaning}
@@ -9,6 +9,8 @@ use Rattle.polis_cli.specs.Replay.{replay_meaning}
 use Rattle.polis_cli.specs.Migrate.{migrate_meaning}
 use Rattle.polis_cli.specs.Demo.{demo_meaning}
 use Rattle.polis_cli.specs.Bound.{bound_meaning}
+use Rattle.polis_cli.specs.Image.{image_meaning}
+use Rattle.polis_cli.specs.Equiv.{equiv_meaning}
 
 abbrev pub meaning : Request → Meaning
 meaning (Run run) = run_meaning run
@@ -18,3 +20,5 @@ meaning (Replay replay) = replay_meaning replay
 meaning (Migrate migrate) = migrate_meaning migrate
 meaning (Demo demo) = demo_meaning demo
 meaning (Bound bound) = bound_meaning bound
+meaning (Image image) = image_meaning image
+meaning (Equiv equiv) = equiv_meaning equiv

@@ -9,7 +9,7 @@ use Rattle.polis_words.specs.Compile.{CompileWords, compiled_name}
 use Rattle.polis_cli.specs.declared.product.End.TheVariants as ends
 use Rattle.polis_cli.specs.declared.product.Product.{Product}
 use Rattle.polis_cli.specs.Inputs.{HoldsNet, AcceptsNet, FailsNet}
-use Rattle.polis_cli.specs.Meanings.{Meaning, finds_nothing, ends_done}
+use Rattle.polis_cli.specs.Meanings.{Meaning, never_refused, finds_nothing, ends_done}
 
 -- the product saves the listing of the compiled machines, and shows how long their graphs and their
 -- code are
@@ -35,6 +35,7 @@ compile_meaning compile = record {
   accepts = AcceptsNet compile.net;
   finds = finds_nothing;
   fails = FailsNet compile.net;
+  may_refuse = never_refused;
   ends = ends_done;
   reads = true;
   workers = 1;

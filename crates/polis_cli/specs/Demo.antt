@@ -14,8 +14,8 @@ use Rattle.polis_cli.specs.declared.product.End.TheVariants as ends
 use Rattle.polis_cli.specs.declared.product.Product.{Product}
 use Rattle.polis_cli.specs.declared.ran.Ran.{Ran}
 use Rattle.polis_cli.specs.Accepted.{Accepted}
-use Rattle.polis_cli.specs.Meanings.{Meaning, finds_nothing, ends_done}
-use Rattle.polis_cli.specs.Run.{IsRan, run_text}
+use Rattle.polis_cli.specs.Meanings.{Meaning, never_refused, finds_nothing, ends_done}
+use Rattle.polis_cli.specs.Run.{IsRan, Compiled, run_text}
 
 -- the network and the trace that are drawn from a seed, by their texts
 pub record IsDrawn (seed : ℕ) (net : Network) (trace : List TraceItem) : Type 0 where
@@ -24,7 +24,8 @@ pub record IsDrawn (seed : ℕ) (net : Network) (trace : List TraceItem) : Type 
 
 -- the product saves nothing, and shows the run
 abbrev pub demo_product : Network → Ran → List Part → Product
-demo_product net ran parts = record { saves = []; shown = run_text net parts ran; end = ends.Done }
+demo_product net ran parts =
+    record { saves = []; shown = run_text net (Compiled parts) ran; end = ends.Done }
 
 -- What is drawn was run by one worker to its end, each machine was compiled rightly, and the
 -- product is that of the run.
@@ -45,6 +46,7 @@ demo_meaning demo = record {
   accepts = λ files. ⊤;
   finds = finds_nothing;
   fails = λ files name cause. ⊥;
+  may_refuse = never_refused;
   ends = ends_done;
   reads = false;
   workers = 1;

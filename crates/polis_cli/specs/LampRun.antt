@@ -1,10 +1,10 @@
 -- A call on the lamp and one press: its words, and the files before and after it.
-use Rattle.std.specs.Prelude.{ℕ, List, [], ◌∷◌, ◌++◌, codes}
+use Rattle.std.specs.Prelude.{ℕ, List, [], ◌∷◌, ◌++◌, None, codes}
 use Rattle.std.specs.FinMap.{empty, insert}
+use Rattle.polis_base.specs.Lines.{line}
 use Rattle.polis_base.specs.declared.limits.TheConstants.{ENTRIES_MAX}
 use Rattle.polis_base.specs.Host.{Files}
 use Rattle.polis_words.specs.Run.{RunWords}
-use Rattle.journal_text.specs.Texts.{line}
 use Rattle.net_reader.specs.Samples.{lamp_text}
 use Rattle.journals.specs.Samples.{lamp, lamp_run}
 use Rattle.task_code.specs.Listings.{Part, ListingText}
@@ -21,6 +21,7 @@ lamp_asked = record {
   stem = codes "o";
   workers = 1;
   limit = ENTRIES_MAX;
+  image = None;
 }
 
 abbrev pub files_before : Files

@@ -17,6 +17,8 @@ pub record Meaning : Type 1 where
   -- The file of this name isn't read or isn't accepted, or something is found of it, all files
   -- before it being accepted, and this is why.
   pub fails : Files → List ℕ → Cause → Type 0
+  -- They are accepted, and yet it may be refused, as what it would save may be too long.
+  pub may_refuse : Files → Type 0
   -- Where its files are accepted it ends with this status, but for faults and running out of
   -- memory.
   pub ends : Status → Bool
@@ -40,6 +42,15 @@ abbrev pub finds_illegal : (Files → Type 0) → Status → Files → Type 0
 finds_illegal P Illegal files = P files
 finds_illegal P other files = ⊥
 
+-- tables are found that differ, where this holds of the files
+abbrev pub finds_differing : (Files → Type 0) → Status → Files → Type 0
+finds_differing P Differ files = P files
+finds_differing P other files = ⊥
+
+-- no command whose files are accepted is refused
+abbrev pub never_refused : Files → Type 0
+never_refused files = ⊥
+
 -- the one status of a command that only shows or saves what it made
 abbrev pub ends_done : Status → Bool
 ends_done Done = true
@@ -50,6 +61,18 @@ abbrev pub ends_judged : Status → Bool
 ends_judged Done = true
 ends_judged Illegal = true
 ends_judged other = false
+
+-- the statuses of a command that compares
+abbrev pub ends_compared : Status → Bool
+ends_compared Done = true
+ends_compared Differ = true
+ends_compared other = false
+
+-- the statuses of a command that may be refused though its files are accepted
+abbrev pub ends_done_or_refused : Status → Bool
+ends_done_or_refused Done = true
+ends_done_or_refused Refused = true
+ends_done_or_refused other = false
 
 -- a status of a failure of a command that reads files, or of one that reads none
 abbrev pub is_failure : Bool → Status → Bool

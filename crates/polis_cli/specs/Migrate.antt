@@ -10,7 +10,7 @@ use Rattle.polis_words.specs.Migrate.{MigrateWords, migrated_name}
 use Rattle.polis_words.specs.Texts.{migrated_text}
 use Rattle.polis_cli.specs.declared.product.End.TheVariants as ends
 use Rattle.polis_cli.specs.declared.product.Product.{Product}
-use Rattle.polis_cli.specs.Meanings.{Meaning, finds_illegal, ends_judged}
+use Rattle.polis_cli.specs.Meanings.{Meaning, never_refused, finds_illegal, ends_judged}
 use Rattle.polis_cli.specs.Replay.{IsJudged, AcceptsReplay, IsIllegalReplay, FailsReplay}
 
 -- the product saves the journal with its least stamps, and shows how long it is
@@ -39,6 +39,7 @@ migrate_meaning migrate = record {
   accepts = AcceptsReplay migrate.replay;
   finds = finds_illegal (IsIllegalReplay migrate.replay);
   fails = FailsReplay migrate.replay;
+  may_refuse = never_refused;
   ends = ends_judged;
   reads = true;
   workers = 1;

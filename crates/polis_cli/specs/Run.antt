@@ -1,5 +1,5 @@
 -- What `run` makes.
-use Rattle.std.specs.Prelude.{◌≡◌, ◌⊎◌, ◌↔◌, ℕ, ◌≤◌, ◌<◌, ◌/◌, Bool, true, false, List, [], ◌∷◌, ◌++◌, length, IsTrue}
+use Rattle.std.specs.Prelude.{◌≡◌, ◌⊎◌, ◌↔◌, ℕ, ◌≤◌, ◌<◌, ◌/◌, Bool, true, false, List, [], ◌∷◌, ◌++◌, length, Option, Some, None, IsTrue, ⊤}
 use Rattle.polis_base.specs.declared.limits.TheConstants.{ENTRIES_MAX}
 use Rattle.polis_base.specs.Host.{Files}
 use Rattle.transition_table.specs.declared.network.Network.{Network}
@@ -8,9 +8,13 @@ use Rattle.journals.specs.Legality.{Legal, Complete}
 use Rattle.journals.specs.Schedules.{IsSchedule, Follows}
 use Rattle.journals.specs.Stamps.{least}
 use Rattle.journal_text.specs.Texts.{stamped_journal_text, output_text}
+use Rattle.task_code.specs.declared.instr.Instr.{Instr}
 use Rattle.task_code.specs.Listings.{Part, ListingText}
 use Rattle.machine_compiler.specs.Parts.{AreRightParts}
-use Rattle.machine_compiler.specs.Lines.{tries_text}
+use Rattle.machine_compiler.specs.Lines.{tries_text, code_tries_text}
+use Rattle.task_image.specs.declared.image.ImageMachine.{ImageMachine}
+use Rattle.task_image.specs.Images.{codes_of}
+use Rattle.polis_words.specs.declared.cause.Cause.{Cause}
 use Rattle.polis_words.specs.declared.status.Status.{Status}
 use Rattle.polis_words.specs.declared.status.Status.TheVariants.{Done, Limit}
 use Rattle.polis_words.specs.Run.{RunWords, out_name, journal_name, listing_name}
@@ -19,8 +23,10 @@ use Rattle.polis_cli.specs.declared.product.End.{End}
 use Rattle.polis_cli.specs.declared.product.End.TheVariants as ends
 use Rattle.polis_cli.specs.declared.product.Product.{Product}
 use Rattle.polis_cli.specs.declared.ran.Ran.{Ran}
+use Rattle.polis_cli.specs.ImageFiles.{HoldsImage, ImageFails}
+use Rattle.polis_cli.specs.Saves.{Save}
 use Rattle.polis_cli.specs.Inputs.{HoldsNet, HoldsTrace, InputsFail}
-use Rattle.polis_cli.specs.Meanings.{Meaning, finds_nothing}
+use Rattle.polis_cli.specs.Meanings.{Meaning, finds_nothing, never_refused}
 
 -- Where the scheduler began. One worker gathers nothing. Of several workers so many entries were
 -- gathered, of which the first were adopted: at least the share of one worker in the limit, or all
@@ -54,31 +60,58 @@ AloneIsScheduled = (limit : ℕ) (net : Network) (trace : List TraceItem) (ran :
 abbrev pub journal_of : Network → Ran → List ℕ
 journal_of net ran = stamped_journal_text net ran.journal (least net ran.journal) ran.complete
 
--- what is shown of a run: its summary, and for each machine how often it was tried and how many
--- instructions its code takes for that
-abbrev pub run_text : Network → List Part → Ran → List ℕ
-run_text net parts ran =
-    summary_text net ran.journal ran.complete ran.gathered ran.adopted
-    ++ tries_text net parts ran.journal
+-- the code that a run executes: that of machines which were compiled, or that of an image
+pub data Tasks : Type 0 where
+  Compiled : List Part → Tasks
+  Given : List (List Instr) → Tasks
+
+-- Where the run names no image the machines were compiled rightly. Else the file of that name holds
+-- an image of this code, which gives each machine's transition.
+abbrev pub AreTasks : Option (List ℕ) → Files → Network → Tasks → Type 0
+AreTasks None files net (Compiled parts) = AreRightParts net parts
+AreTasks None files net (Given code) = ⊥
+AreTasks (Some name) files net (Compiled parts) = ⊥
+AreTasks (Some name) files net (Given code) =
+    (image : List ImageMachine) × HoldsImage files name net image × (code ≡ codes_of image)
+
+-- for each machine how long its code is, how often it was tried, and how many instructions that
+-- took; of one that was compiled also how many vertices its graph has
+abbrev pub tasks_text : Network → Tasks → Ran → List ℕ
+tasks_text net (Compiled parts) ran = tries_text net parts ran.journal
+tasks_text net (Given code) ran = code_tries_text net code ran.journal
+
+-- the listing of machines that were compiled; an image has none
+abbrev pub listing_of : Network → Tasks → Option (List ℕ)
+listing_of net (Compiled parts) = Some (ListingText net parts)
+listing_of net (Given code) = None
+
+-- what is shown of a run: its summary, and a line for each machine
+abbrev pub run_text : Network → Tasks → Ran → List ℕ
+run_text net tasks ran =
+    summary_text net ran.journal ran.complete ran.gathered ran.adopted ++ tasks_text net tasks ran
 
 -- how a call ends with a journal that is complete, or with one that isn't
 abbrev pub end_of : Bool → End
 end_of true = ends.Done
 end_of false = ends.Limit
 
--- the product saves the outputs, the journal and the listing of the compiled machines, and shows
--- the run
-abbrev pub run_product : RunWords → Network → Ran → List Part → Product
-run_product run net ran parts = record {
+-- the listing, where there is one
+abbrev pub listing_saves : RunWords → Option (List ℕ) → List Save
+listing_saves run None = []
+listing_saves run (Some listing) = record { name = listing_name run; text = listing } ∷ []
+
+-- the product saves the outputs, the journal, and the listing where there is one, and shows the run
+abbrev pub run_product : RunWords → Network → Ran → Tasks → Product
+run_product run net ran tasks = record {
   saves = record { name = out_name run; text = output_text net ran.journal }
       ∷ record { name = journal_name run; text = journal_of net ran }
-      ∷ record { name = listing_name run; text = ListingText net parts } ∷ [];
-  shown = run_text net parts ran;
+      ∷ listing_saves run (listing_of net tasks);
+  shown = run_text net tasks ran;
   end = end_of ran.complete;
 }
 
--- The files hold a network and a trace that are accepted, this was run of them, each machine was
--- compiled rightly, and the product is that of the run.
+-- The files hold a network and a trace that are accepted, and the image where the run names one;
+-- this was run of them, by these tasks, and the product is that of the run.
 pub record MakesRun (run : RunWords) (files : Files) (product : Product) : Type 0 where
   pub net : Network
   pub trace : List TraceItem
@@ -86,14 +119,39 @@ pub record MakesRun (run : RunWords) (files : Files) (product : Product) : Type 
   pub holds_trace : HoldsTrace files run.trace net trace
   pub ran : Ran
   pub is_ran : IsRan run.workers run.limit net trace ran
-  pub parts : List Part
-  pub right : AreRightParts net parts
-  pub made : product ≡ run_product run net ran parts
+  pub tasks : Tasks
+  pub are_tasks : AreTasks run.image files net tasks
+  pub made : product ≡ run_product run net ran tasks
 
--- both files are held, within their limits, and accepted
-abbrev pub AcceptsRun : RunWords → Files → Type 0
-AcceptsRun run files = (net : Network) × HoldsNet files run.net net
-    × ((trace : List TraceItem) × HoldsTrace files run.trace net trace)
+-- the image is held, within its limit, and accepted, where one is named
+abbrev pub AcceptsImage : Option (List ℕ) → Files → Network → Type 0
+AcceptsImage None files net = ⊤
+AcceptsImage (Some name) files net =
+    (image : List ImageMachine) × HoldsImage files name net image
+
+-- each file is held, within its limit, and accepted
+pub record AcceptsRun (run : RunWords) (files : Files) : Type 0 where
+  pub net : Network
+  pub trace : List TraceItem
+  pub holds_net : HoldsNet files run.net net
+  pub holds_trace : HoldsTrace files run.trace net trace
+  pub image : AcceptsImage run.image files net
+
+-- the image is named so and fails, the network and the trace being accepted
+pub record ImageOfRunFails (run : RunWords) (files : Files) (name : List ℕ) (cause : Cause) :
+    Type 0 where
+  pub named : run.image ≡ Some name
+  pub net : Network
+  pub trace : List TraceItem
+  pub holds_net : HoldsNet files run.net net
+  pub holds_trace : HoldsTrace files run.trace net trace
+  pub fails : (other : Network) → HoldsNet files run.net other
+      → ImageFails files other name cause
+
+-- Why a file of a run fails: the network or the trace does, or both are accepted and the image does.
+abbrev pub FailsRun : RunWords → Files → List ℕ → Cause → Type 0
+FailsRun run files name cause =
+    InputsFail files run.net run.trace name cause ⊎ ImageOfRunFails run files name cause
 
 -- the statuses of a run whose files are accepted
 abbrev pub ends_run : Status → Bool
@@ -106,16 +164,18 @@ run_meaning run = record {
   makes = MakesRun run;
   accepts = AcceptsRun run;
   finds = finds_nothing;
-  fails = λ files. InputsFail files run.net run.trace;
+  fails = FailsRun run;
+  may_refuse = never_refused;
   ends = ends_run;
   reads = true;
   workers = run.workers;
 }
 
 -- Two products of runs of one network that save the same texts are of one journal, with the same
--- last word, and of the same compiled machines.
+-- last word, and, where they name no image, of the same compiled machines.
 abbrev pub SavesDetermineRun : Type 0
 SavesDetermineRun =
     (run : RunWords) (before now : Files) (p q : Product) (a : MakesRun run before p)
     (b : MakesRun run now q) → a.net ≡ b.net → run.limit ≤ ENTRIES_MAX → p.saves ≡ q.saves
-    → (a.ran.journal ≡ b.ran.journal) × (a.ran.complete ≡ b.ran.complete) × (a.parts ≡ b.parts)
+    → (a.ran.journal ≡ b.ran.journal) × (a.ran.complete ≡ b.ran.complete)
+    × (run.image ≡ None → a.tasks ≡ b.tasks)

@@ -1,6 +1,6 @@
 -- Texts of a run of the lamp on one press, as bytes.
 use Rattle.std.specs.Prelude.{ℕ, List, ◌++◌, codes}
-use Rattle.journal_text.specs.Texts.{line}
+use Rattle.polis_base.specs.Lines.{line}
 
 abbrev pub press_text : List ℕ
 press_text = line (codes "press")

@@ -9,3 +9,5 @@ pub mod Compile
 pub mod Replay
 pub mod Demo
 pub mod Bound
+pub mod Image
+pub mod Equiv

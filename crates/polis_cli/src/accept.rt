@@ -4,6 +4,7 @@ ghost use Rattle.transition_table.specs.NetworkFacts.{has_vars};
 ghost use Rattle.transition_table.specs.Transitions.{IsDeterministic, AreDeterministic};
 ghost use Rattle.transition_table.specs.declared.network.Network.{Network};
 ghost use Rattle.net_rules.specs.NetOf.{NetOf};
+ghost use Rattle.net_rules.specs.Whole.{HasMachines};
 ghost use Rattle.polis_words.specs.Lines.{cause_status};
 ghost use Rattle.polis_cli.specs.Accepted.{Accepted};
 ghost use Rattle.polis_cli.specs.Inputs.{IsNetFault};
@@ -17,9 +18,9 @@ use polis_words::{Cause, LexKind, Status, print_conflict};
 use std::alloc::Global;
 use transition_table::{Machine, Network};
 
-/// Why a text isn't accepted.
+/// Why a file isn't accepted.
 #[derive(Drop)]
-pub enum TextFault {
+pub enum FileFault {
     /// What is wrong with it.
     Cause(Cause),
     /// Memory ran out.
@@ -27,28 +28,28 @@ pub enum TextFault {
 }
 
 // Why a text whose tokens don't read isn't accepted.
-fn of_lex(error: LexError) -> TextFault
+fn of_lex(error: LexError) -> FileFault
     ensures { result ≡ lex_fault error }
 {
     match error {
-        LexError::BadByte(place) => TextFault::Cause(Cause::Lex {
+        LexError::BadByte(place) => FileFault::Cause(Cause::Lex {
             kind: LexKind::Byte,
             place,
         }),
-        LexError::NameTooLong(place) => TextFault::Cause(Cause::Lex {
+        LexError::NameTooLong(place) => FileFault::Cause(Cause::Lex {
             kind: LexKind::Name,
             place,
         }),
-        LexError::NumberTooLarge(place) => TextFault::Cause(Cause::Lex {
+        LexError::NumberTooLarge(place) => FileFault::Cause(Cause::Lex {
             kind: LexKind::Number,
             place,
         }),
-        LexError::NoMemory => TextFault::NoMemory,
+        LexError::NoMemory => FileFault::NoMemory,
     }
 }
 
 // Whether a machine is deterministic.
-fn check_machine(alloc: Global, net: &Network, machine: &Machine) -> Result<(), TextFault>
+fn check_machine(alloc: Global, net: &Network, machine: &Machine) -> Result<(), FileFault>
     requires { IsTrue (has_vars net.now.domains net.now.events machine.now) }
     ensures ok { OnOk result (IsDeterministic machine.now) }
     ensures failed { IfErr result (λ fault. IfCause fault (IsMachineFault net.now machine.now)) }
@@ -62,15 +63,15 @@ fn check_machine(alloc: Global, net: &Network, machine: &Machine) -> Result<(), 
                 snapshot,
             },
         ) => match print_conflict(alloc, net, machine, row_a, row_b, &snapshot) {
-            Ok(text) => Err(TextFault::Cause(Cause::Conflict { text })),
-            Err(NoMemory) => Err(TextFault::NoMemory),
+            Ok(text) => Err(FileFault::Cause(Cause::Conflict { text })),
+            Err(NoMemory) => Err(FileFault::NoMemory),
         },
-        Err(CheckFault::NoMemory) => Err(TextFault::NoMemory),
+        Err(CheckFault::NoMemory) => Err(FileFault::NoMemory),
     }
 }
 
 // Whether each machine is deterministic.
-fn check_machines(alloc: Global, net: &Network) -> Result<(), TextFault>
+fn check_machines(alloc: Global, net: &Network) -> Result<(), FileFault>
     ensures ok { OnOk result (AreDeterministic net.now) }
     ensures failed { IfErr result (λ fault. IfCause fault (IsConflictFault net.now)) }
 {
@@ -84,7 +85,7 @@ fn check_machines(alloc: Global, net: &Network) -> Result<(), TextFault>
 }
 
 // The network that a text declares.
-fn declared_in(alloc: Global, text: &[u8]) -> Result<Network, TextFault>
+fn declared_in(alloc: Global, text: &[u8]) -> Result<Network, FileFault>
     ensures ok { IfOk result (λ net. NetOf text.now net) }
     ensures one { IfOk result (λ net. (other : Network) → NetOf text.now other → other ≡ net) }
     ensures failed { IfErr result (λ fault. IfCause fault (IsNetFault text.now)) }
@@ -92,22 +93,23 @@ fn declared_in(alloc: Global, text: &[u8]) -> Result<Network, TextFault>
     let raw = match read_network(alloc, text) {
         Ok(raw) => raw,
         Err(NetFault::Lex(error)) => return Err(of_lex(error)),
-        Err(NetFault::Syntax(place)) => return Err(TextFault::Cause(Cause::Syntax { place })),
-        Err(NetFault::NoMemory) => return Err(TextFault::NoMemory),
+        Err(NetFault::Syntax(place)) => return Err(FileFault::Cause(Cause::Syntax { place })),
+        Err(NetFault::NoMemory) => return Err(FileFault::NoMemory),
     };
     match resolve(alloc, &raw) {
         Ok(net) => Ok(net),
         Err(ResolveFault::Rule { rule, place }) => {
-            Err(TextFault::Cause(Cause::Rule { rule, place }))
+            Err(FileFault::Cause(Cause::Rule { rule, place }))
         }
-        Err(ResolveFault::NoMemory) => Err(TextFault::NoMemory),
+        Err(ResolveFault::NoMemory) => Err(FileFault::NoMemory),
     }
 }
 
 /// The network of a text, each machine of which is deterministic.
-pub fn network_in(alloc: Global, text: &[u8]) -> Result<Network, TextFault>
+pub fn network_in(alloc: Global, text: &[u8]) -> Result<Network, FileFault>
     ensures ok { IfOk result (λ net. Accepted text.now net) }
     ensures one { IfOk result (λ net. (other : Network) → NetOf text.now other → other ≡ net) }
+    ensures whole { IfOk result HasMachines }
     ensures failed { IfErr result (λ fault. IfCause fault (IsNetFault text.now)) }
     ensures refused { IfErr result (λ fault. IfCause fault
         (λ cause. cause_status cause ≡ Status.Refused)) }

@@ -11,11 +11,11 @@ ghost use Rattle.polis_cli.specs.inner.Demo.{RunsWhole};
 ghost use Rattle.polis_cli.specs.inner.Left.{fails_unread};
 ghost use Rattle.polis_cli.specs.inner.Made.{IsMade};
 
-use crate::accept::{TextFault, network_in};
+use crate::accept::{FileFault, network_in};
 use crate::inputs::Inputs;
 use crate::product::{End, Product};
 use crate::ran::run_alone;
-use crate::react::reactor_of;
+use crate::tasks::Tasks;
 use crate::texts::shown_text;
 use machine_compiler::compile_network;
 use net_gen::{Generated, generate};
@@ -36,8 +36,8 @@ fn read_drawn(alloc: Global, seed: u64, texts: &Generated) -> Result<Inputs, NoM
 {
     let net = match network_in(alloc, texts.net.as_slice()) {
         Ok(net) => net,
-        Err(TextFault::Cause(_)) => unreachable!(),
-        Err(TextFault::NoMemory) => return Err(NoMemory),
+        Err(FileFault::Cause(_)) => unreachable!(),
+        Err(FileFault::NoMemory) => return Err(NoMemory),
     };
     match read_trace(alloc, &net, texts.trace.as_slice()) {
         Ok(trace) => Ok(Inputs { net, trace }),
@@ -54,9 +54,9 @@ fn product_of(alloc: Global, asked: &Demo, inputs: &Inputs) -> Result<Product, N
     ensures { IfOk result (λ product. MakesDemo asked.now product) }
 {
     let compiled = compile_network(alloc, &inputs.net)?;
-    let reactor = reactor_of(alloc, &inputs.net, &compiled)?;
-    let ran = run_alone(alloc, &reactor, &inputs.trace, ENTRIES_MAX)?;
-    let shown = shown_text(alloc, inputs, &compiled, &ran)?;
+    let tasks = Tasks::of_compiled(alloc, &inputs.net, compiled)?;
+    let ran = run_alone(alloc, &tasks.reactor, &inputs.trace, ENTRIES_MAX)?;
+    let shown = shown_text(alloc, inputs, &tasks, &ran)?;
     Ok(Product {
         saves: List::new(alloc),
         shown,

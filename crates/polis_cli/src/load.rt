@@ -6,19 +6,25 @@ ghost use Rattle.journals.specs.Journals.{IsTrace, IsJournal};
 ghost use Rattle.journals.specs.declared.entry.TraceItem.{TraceItem};
 ghost use Rattle.journal_text.specs.Texts.{AreStamps};
 ghost use Rattle.transition_table.specs.Transitions.{AreDeterministic};
+ghost use Rattle.net_rules.specs.Whole.{HasMachines};
+ghost use Rattle.task_machine.specs.Tasks.{AreTasks};
+ghost use Rattle.task_image.specs.Images.{codes_of};
 ghost use Rattle.transition_table.specs.declared.network.Network.{Network};
+ghost use Rattle.polis_cli.specs.ImageFiles.{HoldsImage, ImageFails};
 ghost use Rattle.polis_cli.specs.Inputs.{HoldsText, HoldsNet, HoldsTrace, LoadFails, NetFails, TraceFails};
 ghost use Rattle.polis_cli.specs.JournalFiles.{HoldsJournal, JournalFails};
 ghost use Rattle.polis_cli.specs.inner.Left.{LeftByLoads, fails_unread};
 ghost use Rattle.polis_cli.specs.inner.Made.{FileFails};
 
-use crate::accept::{TextFault, network_in};
+use crate::accept::{FileFault, network_in};
+use crate::image_file::image_in;
 use journal_text::{JournalFault, ReadJournal, read_journal};
 use net_core::Trace;
 use polis_base::limits::{LONG_FILE_MAX, TEXT_MAX};
 use polis_base::{Bytes, Host, Load};
 use polis_words::{Cause, Failure};
 use std::alloc::Global;
+use task_image::Image;
 use trace_text::{TraceFault, read_trace};
 use transition_table::Network;
 
@@ -58,6 +64,7 @@ pub fn load_net<'a, H: Host>(
         (λ net. WhereTold (H.files host.old) (λ files. (other : Network)
         → HoldsNet files name.now other → other ≡ net)) }
     ensures deterministic { IfOk result (λ net. AreDeterministic net) }
+    ensures whole { IfOk result HasMachines }
     ensures failed { IfErr result (λ failure.
         FileFails name.now (H.files host.old) (λ files. NetFails files name.now) failure) }
     ensures left { LeftByLoads ⟦<H as Host>⟧ (fails_unread result) host.old host.new }
@@ -68,8 +75,8 @@ pub fn load_net<'a, H: Host>(
     };
     match network_in(alloc, text.as_slice()) {
         Ok(net) => Ok(net),
-        Err(TextFault::Cause(cause)) => Err(Failure::File { name, cause }),
-        Err(TextFault::NoMemory) => Err(Failure::NoMemory),
+        Err(FileFault::Cause(cause)) => Err(Failure::File { name, cause }),
+        Err(FileFault::NoMemory) => Err(Failure::NoMemory),
     }
 }
 
@@ -131,5 +138,32 @@ pub fn load_journal<'a, H: Host>(
             cause: Cause::JournalLine { line, kind },
         }),
         Err(JournalFault::NoMemory) => Err(Failure::NoMemory),
+    }
+}
+
+/// Loads and decodes an image, and checks it against a network.
+pub fn load_image<'a, H: Host>(
+    alloc: Global,
+    host: &mut H,
+    net: &Network,
+    name: &'a str,
+) -> Result<Image, Failure<'a>>
+    requires { AreDeterministic net.now }
+    ensures held { IfOk result (λ image.
+        WhereTold (H.files host.old) (λ files. HoldsImage files name.now net.now image)) }
+    ensures tasks { IfOk result (λ image. AreTasks net.now (codes_of image)) }
+    ensures failed { IfErr result (λ failure.
+        FileFails name.now (H.files host.old) (λ files. ImageFails files net.now name.now)
+        failure) }
+    ensures left { LeftByLoads ⟦<H as Host>⟧ (fails_unread result) host.old host.new }
+{
+    let bytes = match load_text(alloc, host, name, LONG_FILE_MAX) {
+        Ok(bytes) => bytes,
+        Err(failure) => return Err(failure),
+    };
+    match image_in(alloc, net, bytes.as_slice()) {
+        Ok(image) => Ok(image),
+        Err(FileFault::Cause(cause)) => Err(Failure::File { name, cause }),
+        Err(FileFault::NoMemory) => Err(Failure::NoMemory),
     }
 }

@@ -6,6 +6,9 @@ mod bound;
 mod check;
 mod compile;
 mod demo;
+mod equiv;
+mod image;
+mod image_file;
 mod inputs;
 mod law;
 mod load;
@@ -13,11 +16,11 @@ mod migrate;
 mod product;
 mod ran;
 mod ranges;
-mod react;
 mod replay;
 mod run;
 mod show;
 mod stamp;
+mod tasks;
 #[cfg(test)]
 mod tests;
 mod texts;
@@ -34,12 +37,13 @@ use std::io::ErrorKind;
 use std::process::ExitCode;
 use std::{env, io};
 
-const HELP: &[u8] = b"polis run NET TRACE STEM [--workers W] [--limit N]
+const HELP: &[u8] = b"polis run NET TRACE STEM [--workers W] [--limit N] [--image IMAGE]
     runs the network text NET on the trace text TRACE, saves the output events as
     STEM.out, the journal as STEM.jnl and the listing of the compiled machines as
     STEM.lst, and shows a summary; W is how many workers run it, from 1 to 8, and 1
     without the option; N is the most entries of the journal, from 1 to 60000, and
-    60000 without the option
+    60000 without the option; with --image it runs the code that the file IMAGE has,
+    after a check against the tables of NET, and saves no listing
 polis check NET
     says whether the network text NET is accepted, and shows how large it is
 polis compile NET STEM
@@ -58,6 +62,13 @@ polis bound NET [T S G H]
     and the least that a reaction costs, each with the first snapshot that takes it; T,
     S, G and H are what a test, a set, a jump and a halt cost, from 0 to 1000000 each,
     and 1 each where none is given
+polis image NET STEM
+    compiles the machines of the network text NET, saves their code as the image
+    STEM.img, and shows how many bytes that has
+polis equiv NET NET2
+    says whether the network texts NET and NET2, which differ in rows and priorities
+    alone, have the same tables, and so the same runs; else it shows the first machine
+    and the first snapshot on which they differ
 polis --help
     shows these forms
 polis --version

@@ -1,6 +1,6 @@
 // Running a network on a trace: the journal, and how much of it workers gathered.
 ghost use Rattle.std.specs.Prelude.{◌≡◌, ◌≤◌, length, IfOk};
-ghost use Rattle.polis_base.specs.declared.limits.TheConstants.{ENTRIES_MAX};
+ghost use Rattle.polis_base.specs.declared.limits.TheConstants.{ENTRIES_MAX, WORKERS_MAX};
 ghost use Rattle.journals.specs.Journals.{IsTrace};
 ghost use Rattle.polis_cli.specs.Run.{IsRan};
 ghost use Rattle.polis_cli.specs.inner.Run.{CarriesOn};
@@ -82,7 +82,7 @@ pub fn run_by<T: Threads + Wait + Sync, R: Reactor + Sync, G: Gate + Sync>(
     gate: &G,
 ) -> Result<Ran, NoMemory>
     requires several { 2 ≤ workers }
-    requires few { workers ≤ 8 }
+    requires few { workers ≤ WORKERS_MAX }
     requires limit { (1 ≤ limit) × (limit ≤ ENTRIES_MAX) }
     requires trace { IsTrace (R.meaning r.now) trace.now }
     ensures { IfOk result (λ ran. IsRan workers limit (R.meaning r.now) trace.now ran) }

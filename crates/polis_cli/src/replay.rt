@@ -14,7 +14,7 @@ ghost use Rattle.polis_cli.specs.inner.Replay.{IsFound};
 use crate::inputs::{Inputs, load_inputs};
 use crate::load::load_journal;
 use crate::product::{End, Product};
-use crate::react::reactor_of;
+use crate::tasks::Tasks;
 use journal_replay::{Verdict, replay, replay_stamped};
 use journal_text::ReadJournal;
 use machine_compiler::compile_network;
@@ -66,8 +66,8 @@ fn find(alloc: Global, inputs: &Inputs, read: &ReadJournal) -> Result<Verdict, N
 {
     let net = &inputs.net;
     let compiled = compile_network(alloc, net)?;
-    let reactor = reactor_of(alloc, net, &compiled)?;
-    match find_by(alloc, &reactor, &inputs.trace, read) {
+    let tasks = Tasks::of_compiled(alloc, net, compiled)?;
+    match find_by(alloc, &tasks.reactor, &inputs.trace, read) {
         Ok(verdict) => Ok(verdict),
         Err(NoMemory) => Err(NoMemory),
     }

@@ -1,19 +1,19 @@
 // The command `run`: a network on a trace, and the texts of that run.
-ghost use Rattle.std.specs.Prelude.{◌≡◌, ◌<◌, ◌∷◌, ◌++◌, [], codes, IfOk};
+ghost use Rattle.std.specs.Prelude.{◌≡◌, ◌<◌, ◌∷◌, ◌++◌, codes, IfOk, OnOk};
 ghost use Rattle.journals.specs.Journals.{IsTrace};
-ghost use Rattle.transition_table.specs.Transitions.{AreDeterministic};
 ghost use Rattle.polis_cli.specs.Run.{IsRan, journal_of, end_of, run_meaning};
 ghost use Rattle.polis_cli.specs.inner.Left.{LeftByLoads, fails_unread};
 ghost use Rattle.polis_cli.specs.inner.Made.{IsMade};
-ghost use Rattle.polis_cli.specs.inner.Run.{AreOtherTexts, IsRunProduct};
+ghost use Rattle.polis_cli.specs.inner.Run.{AreOtherTexts, AreTasksOf, IsLoaded, IsProductOf, IsRunProduct, listed_under, tasks_in};
 
-use crate::inputs::{Inputs, load_inputs};
+use crate::inputs::{Inputs, RunInputs, load_run};
 use crate::product::{End, Product, Saving};
 use crate::ran::{Ran, run_alone, run_by};
-use crate::react::reactor_of;
 use crate::stamp::stamped_text;
+use crate::tasks::Tasks;
 use crate::texts::{OtherTexts, other_texts, texts_by};
 use event_buffer::Gate;
+use journal_text::print_outputs;
 use machine_compiler::{compile_network, compile_network_by};
 use polis_base::{Bytes, Host, List, NoMemory};
 use polis_words::{Failure, Run};
@@ -27,26 +27,44 @@ fn end_at(complete: bool) -> End
     if complete { End::Done } else { End::Limit }
 }
 
+// Appends the save of a listing, where there is one.
+fn push_listing(
+    alloc: Global,
+    stem: &str,
+    listing: Option<Bytes>,
+    saves: &mut List<Saving>,
+) -> Result<(), NoMemory>
+    ensures { OnOk result (saves.new ≡ saves.old ++ listed_under stem.now listing) }
+{
+    match listing {
+        Some(listing) => {
+            let saving = Saving::new(alloc, stem, ".lst", listing)?;
+            saves.push(saving)?;
+            Ok(())
+        }
+        None => Ok(()),
+    }
+}
+
 // The saves of a run, in their order.
 fn saves_of(
     alloc: Global,
     stem: &str,
     outputs: Bytes,
     journal: Bytes,
-    listing: Bytes,
+    listing: Option<Bytes>,
 ) -> Result<List<Saving>, NoMemory>
     ensures { IfOk result (λ saves. saves
         ≡ record { name = stem.now ++ codes ".out"; text = outputs }
         ∷ record { name = stem.now ++ codes ".jnl"; text = journal }
-        ∷ record { name = stem.now ++ codes ".lst"; text = listing } ∷ []) }
+        ∷ listed_under stem.now listing) }
 {
     let first = Saving::new(alloc, stem, ".out", outputs)?;
     let second = Saving::new(alloc, stem, ".jnl", journal)?;
-    let third = Saving::new(alloc, stem, ".lst", listing)?;
     let mut saves = List::new(alloc);
     saves.push(first)?;
     saves.push(second)?;
-    saves.push(third)?;
+    push_listing(alloc, stem, listing, &mut saves)?;
     Ok(saves)
 }
 
@@ -55,16 +73,19 @@ fn product_of(
     alloc: Global,
     asked: &Run<'_>,
     inputs: &Inputs,
+    tasks: &Tasks<'_>,
     ran: &Ran,
     journal: Bytes,
     others: OtherTexts,
 ) -> Result<Product, NoMemory>
     requires ran { IsRan asked.now.workers asked.now.limit inputs.now.net inputs.now.trace ran.now }
     requires journal { journal ≡ journal_of inputs.now.net ran.now }
-    requires others { AreOtherTexts inputs.now.net ran.now others }
-    ensures { IfOk result (λ product.
-        IsRunProduct asked.now inputs.now.net inputs.now.trace product) }
+    requires others { AreOtherTexts inputs.now.net (tasks_in tasks.now) ran.now others }
+    ensures { IfOk result (IsRunProduct asked.now inputs.now.net inputs.now.trace
+        (tasks_in tasks.now)) }
 {
+    let _ = tasks;
+    let _ = inputs;
     let OtherTexts {
         outputs,
         listing,
@@ -79,42 +100,93 @@ fn product_of(
 }
 
 // Runs the network on the trace on this thread, and makes the texts of the run.
-fn product_alone(alloc: Global, asked: &Run<'_>, inputs: &Inputs) -> Result<Product, NoMemory>
+fn product_alone(
+    alloc: Global,
+    asked: &Run<'_>,
+    inputs: &Inputs,
+    tasks: &Tasks<'_>,
+) -> Result<Product, NoMemory>
     requires one { asked.now.workers ≡ 1 }
     requires trace { IsTrace inputs.now.net inputs.now.trace }
-    requires deterministic { AreDeterministic inputs.now.net }
-    ensures { IfOk result (λ product.
-        IsRunProduct asked.now inputs.now.net inputs.now.trace product) }
+    requires tasks { AreTasksOf inputs.now.net tasks.now }
+    ensures { IfOk result (IsRunProduct asked.now inputs.now.net inputs.now.trace
+        (tasks_in tasks.now)) }
 {
-    let compiled = compile_network(alloc, &inputs.net)?;
-    let reactor = reactor_of(alloc, &inputs.net, &compiled)?;
-    let ran = run_alone(alloc, &reactor, &inputs.trace, asked.limit())?;
-    let others = other_texts(alloc, inputs, &compiled, &ran)?;
+    let ran = run_alone(alloc, &tasks.reactor, &inputs.trace, asked.limit())?;
+    let outputs = print_outputs(alloc, &inputs.net, &ran.journal)?;
+    let others = other_texts(alloc, inputs, tasks, &ran, outputs)?;
     let journal = stamped_text(alloc, inputs, &ran.journal, ran.complete)?;
-    product_of(alloc, asked, inputs, &ran, journal, others)
+    product_of(alloc, asked, inputs, tasks, &ran, journal, others)
 }
 
-// Compiles the network and runs it on the trace by so many workers, and makes the texts of the run.
+// Runs the network on the trace by so many workers, and makes the texts of the run.
 fn product_by<T: Threads + Wait + Sync, G: Gate + Sync>(
     rt: &T,
     alloc: Global,
     asked: &Run<'_>,
     inputs: &Inputs,
+    tasks: &Tasks<'_>,
     gate: &G,
 ) -> Result<Product, NoMemory>
     requires several { 1 < asked.now.workers }
     requires trace { IsTrace inputs.now.net inputs.now.trace }
-    requires deterministic { AreDeterministic inputs.now.net }
-    ensures { IfOk result (λ product.
-        IsRunProduct asked.now inputs.now.net inputs.now.trace product) }
+    requires tasks { AreTasksOf inputs.now.net tasks.now }
+    ensures { IfOk result (IsRunProduct asked.now inputs.now.net inputs.now.trace
+        (tasks_in tasks.now)) }
 {
     let workers = asked.workers();
     let limit = asked.limit();
-    let compiled = compile_network_by(rt, alloc, &inputs.net, workers)?;
-    let reactor = reactor_of(alloc, &inputs.net, &compiled)?;
-    let ran = run_by(rt, alloc, &reactor, &inputs.trace, workers, limit, gate)?;
-    let (journal, others) = texts_by(rt, alloc, inputs, &compiled, &ran);
-    product_of(alloc, asked, inputs, &ran, journal?, others?)
+    let ran = run_by(
+        rt,
+        alloc,
+        &tasks.reactor,
+        &inputs.trace,
+        workers,
+        limit,
+        gate,
+    )?;
+    let (journal, outputs) = texts_by(rt, alloc, inputs, &ran);
+    let others = other_texts(alloc, inputs, tasks, &ran, outputs?)?;
+    product_of(alloc, asked, inputs, tasks, &ran, journal?, others)
+}
+
+// Compiles the network where no image was loaded, and runs it by one worker.
+fn run_loaded(alloc: Global, asked: &Run<'_>, loaded: RunInputs) -> Result<Product, NoMemory>
+    requires one { asked.now.workers ≡ 1 }
+    requires fits { IsLoaded loaded }
+    ensures { IfOk result (IsProductOf asked.now loaded) }
+{
+    let RunInputs { inputs, image } = loaded;
+    let net = &inputs.net;
+    let tasks = match image {
+        Some(image) => Tasks::of_image(net, image),
+        None => Tasks::of_compiled(alloc, net, compile_network(alloc, net)?)?,
+    };
+    product_alone(alloc, asked, &inputs, &tasks)
+}
+
+// Compiles the network by so many workers where no image was loaded, and runs it by them.
+fn run_loaded_by<T: Threads + Wait + Sync, G: Gate + Sync>(
+    rt: &T,
+    alloc: Global,
+    asked: &Run<'_>,
+    loaded: RunInputs,
+    gate: &G,
+) -> Result<Product, NoMemory>
+    requires several { 1 < asked.now.workers }
+    requires fits { IsLoaded loaded }
+    ensures { IfOk result (IsProductOf asked.now loaded) }
+{
+    let RunInputs { inputs, image } = loaded;
+    let net = &inputs.net;
+    let tasks = match image {
+        Some(image) => Tasks::of_image(net, image),
+        None => {
+            let compiled = compile_network_by(rt, alloc, net, asked.workers())?;
+            Tasks::of_compiled(alloc, net, compiled)?
+        }
+    };
+    product_by(rt, alloc, asked, &inputs, &tasks, gate)
 }
 
 /// What a run by one worker makes of the files.
@@ -127,11 +199,11 @@ pub fn make_run<'a, H: Host>(
     ensures made { IsMade (run_meaning run.now) (H.files host.old) result }
     ensures left { LeftByLoads ⟦<H as Host>⟧ (fails_unread result) host.old host.new }
 {
-    let inputs = match load_inputs(alloc, host, run.net(), run.trace()) {
-        Ok(inputs) => inputs,
+    let loaded = match load_run(alloc, host, run) {
+        Ok(loaded) => loaded,
         Err(failure) => return Err(failure),
     };
-    match product_alone(alloc, run, &inputs) {
+    match run_loaded(alloc, run, loaded) {
         Ok(product) => Ok(product),
         Err(NoMemory) => Err(Failure::NoMemory),
     }
@@ -149,11 +221,11 @@ pub fn make_run_by<'a, T: Threads + Wait + Sync, H: Host, G: Gate + Sync>(
     ensures made { IsMade (run_meaning run.now) (H.files host.old) result }
     ensures left { LeftByLoads ⟦<H as Host>⟧ (fails_unread result) host.old host.new }
 {
-    let inputs = match load_inputs(alloc, host, run.net(), run.trace()) {
-        Ok(inputs) => inputs,
+    let loaded = match load_run(alloc, host, run) {
+        Ok(loaded) => loaded,
         Err(failure) => return Err(failure),
     };
-    match product_by(rt, alloc, run, &inputs, gate) {
+    match run_loaded_by(rt, alloc, run, loaded, gate) {
         Ok(product) => Ok(product),
         Err(NoMemory) => Err(Failure::NoMemory),
     }

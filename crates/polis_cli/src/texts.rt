@@ -3,15 +3,16 @@ ghost use Rattle.std.specs.Prelude.{◌≡◌, ◌≤◌, length, IfOk};
 ghost use Rattle.polis_base.specs.declared.limits.TheConstants.{ENTRIES_MAX};
 ghost use Rattle.journals.specs.Journals.{IsJournal};
 ghost use Rattle.journals.specs.Legality.{Legal};
-ghost use Rattle.machine_compiler.specs.Parts.{AreRightParts, parts_of};
-ghost use Rattle.polis_cli.specs.Run.{journal_of, run_text};
-ghost use Rattle.polis_cli.specs.inner.Run.{AreOtherTexts};
+ghost use Rattle.journal_text.specs.Texts.{output_text};
+ghost use Rattle.polis_cli.specs.Run.{journal_of, listing_of, run_text, tasks_text};
+ghost use Rattle.polis_cli.specs.inner.Run.{AreOtherTexts, AreTasksOf, tasks_in};
 
 use crate::inputs::Inputs;
 use crate::ran::Ran;
 use crate::stamp::stamped_text;
+use crate::tasks::Tasks;
 use journal_text::print_outputs;
-use machine_compiler::{CompiledList, print_listing, print_tries};
+use machine_compiler::{print_code_tries, print_listing, print_tries};
 use polis_base::{Bytes, NoMemory};
 use polis_words::print_summary;
 use std::alloc::Global;
@@ -22,24 +23,43 @@ use std::thread::{Threads, join};
 pub struct OtherTexts {
     /// The events that the environment gets, in order.
     pub outputs: Bytes,
-    /// The listing of the compiled machines.
-    pub listing: Bytes,
+    /// The listing of the compiled machines; an image has none.
+    pub listing: Option<Bytes>,
     /// What is shown: the summary of the run, and a line for each machine.
     pub shown: Bytes,
+}
+
+// A line for each machine.
+fn tasks_lines(
+    alloc: Global,
+    inputs: &Inputs,
+    tasks: &Tasks<'_>,
+    ran: &Ran,
+) -> Result<Bytes, NoMemory>
+    requires tasks { AreTasksOf inputs.now.net tasks.now }
+    requires journal { IsJournal inputs.now.net ran.now.journal }
+    requires few { length ran.now.journal ≤ ENTRIES_MAX }
+    ensures { IfOk result (λ text. text ≡
+        tasks_text inputs.now.net (tasks_in tasks.now) ran.now) }
+{
+    match &tasks.compiled {
+        Some(compiled) => print_tries(alloc, &tasks.reactor, compiled, &ran.journal),
+        None => print_code_tries(alloc, &tasks.reactor, &ran.journal),
+    }
 }
 
 /// What is shown of a run: its summary, and a line for each machine.
 pub fn shown_text(
     alloc: Global,
     inputs: &Inputs,
-    compiled: &CompiledList,
+    tasks: &Tasks<'_>,
     ran: &Ran,
 ) -> Result<Bytes, NoMemory>
-    requires right { AreRightParts inputs.now.net (parts_of compiled.now) }
+    requires tasks { AreTasksOf inputs.now.net tasks.now }
     requires journal { IsJournal inputs.now.net ran.now.journal }
     requires few { length ran.now.journal ≤ ENTRIES_MAX }
     ensures { IfOk result (λ text. text ≡
-        run_text inputs.now.net (parts_of compiled.now) ran.now) }
+        run_text inputs.now.net (tasks_in tasks.now) ran.now) }
 {
     let net = &inputs.net;
     let mut text = print_summary(
@@ -50,26 +70,43 @@ pub fn shown_text(
         ran.gathered,
         ran.adopted,
     )?;
-    let lines = print_tries(alloc, net, compiled, &ran.journal)?;
+    let lines = tasks_lines(alloc, inputs, tasks, ran)?;
     text.push(lines.as_slice())?;
     Ok(text)
 }
 
-/// The texts of a run other than its journal.
+// The listing of the machines that were compiled, if any were.
+fn listing_text(
+    alloc: Global,
+    inputs: &Inputs,
+    tasks: &Tasks<'_>,
+) -> Result<Option<Bytes>, NoMemory>
+    requires { AreTasksOf inputs.now.net tasks.now }
+    ensures { IfOk result (λ listing. listing ≡ listing_of inputs.now.net (tasks_in tasks.now)) }
+{
+    match &tasks.compiled {
+        Some(compiled) => Ok(Some(print_listing(alloc, &inputs.net, compiled)?)),
+        None => Ok(None),
+    }
+}
+
+/// The texts of a run other than its journal, with the outputs that were made.
 pub fn other_texts(
     alloc: Global,
     inputs: &Inputs,
-    compiled: &CompiledList,
+    tasks: &Tasks<'_>,
     ran: &Ran,
+    outputs: Bytes,
 ) -> Result<OtherTexts, NoMemory>
-    requires right { AreRightParts inputs.now.net (parts_of compiled.now) }
-    requires legal { Legal inputs.now.net inputs.now.trace ran.now.journal }
+    requires outputs { outputs ≡ output_text inputs.now.net ran.now.journal }
+    requires tasks { AreTasksOf inputs.now.net tasks.now }
+    requires journal { IsJournal inputs.now.net ran.now.journal }
     requires few { length ran.now.journal ≤ ENTRIES_MAX }
-    ensures { IfOk result (λ texts. AreOtherTexts inputs.now.net ran.now texts) }
+    ensures { IfOk result (λ texts.
+        AreOtherTexts inputs.now.net (tasks_in tasks.now) ran.now texts) }
 {
-    let outputs = print_outputs(alloc, &inputs.net, &ran.journal)?;
-    let listing = print_listing(alloc, &inputs.net, compiled)?;
-    let shown = shown_text(alloc, inputs, compiled, ran)?;
+    let listing = listing_text(alloc, inputs, tasks)?;
+    let shown = shown_text(alloc, inputs, tasks, ran)?;
     Ok(OtherTexts {
         outputs,
         listing,
@@ -77,30 +114,27 @@ pub fn other_texts(
     })
 }
 
-/// The text of the journal, and the other texts, which are made in another thread where one can be
-/// had.
+/// The text of the journal, and that of the outputs, which is made in another thread where one can
+/// be had.
 pub fn texts_by<T: Threads + Sync>(
     rt: &T,
     alloc: Global,
     inputs: &Inputs,
-    compiled: &CompiledList,
     ran: &Ran,
-) -> (Result<Bytes, NoMemory>, Result<OtherTexts, NoMemory>)
-    requires right { AreRightParts inputs.now.net (parts_of compiled.now) }
+) -> (Result<Bytes, NoMemory>, Result<Bytes, NoMemory>)
     requires legal { Legal inputs.now.net inputs.now.trace ran.now.journal }
     requires few { length ran.now.journal ≤ ENTRIES_MAX }
     ensures journal { IfOk result.0 (λ text. text ≡ journal_of inputs.now.net ran.now) }
-    ensures others { IfOk result.1 (λ texts. AreOtherTexts inputs.now.net ran.now texts) }
+    ensures outputs { IfOk result.1 (λ text.
+        text ≡ output_text inputs.now.net ran.now.journal) }
 {
-    let (others, journal) = join(
+    let (outputs, journal) = join(
         rt,
-        || -> Result<OtherTexts, NoMemory>
-            requires { AreRightParts inputs.now.net (parts_of compiled.now)
-                × Legal inputs.now.net inputs.now.trace ran.now.journal
-                × (length ran.now.journal ≤ ENTRIES_MAX) }
-            ensures { IfOk result (λ texts.
-                AreOtherTexts inputs.entry.now.net ran.entry.now texts) }
-        { other_texts(alloc, inputs, compiled, ran) },
+        || -> Result<Bytes, NoMemory>
+            requires { IsJournal inputs.now.net ran.now.journal }
+            ensures { IfOk result (λ text.
+                text ≡ output_text inputs.entry.now.net ran.entry.now.journal) }
+        { print_outputs(alloc, &inputs.net, &ran.journal) },
         || -> Result<Bytes, NoMemory>
             requires { Legal inputs.now.net inputs.now.trace ran.now.journal
                 × (length ran.now.journal ≤ ENTRIES_MAX) }
@@ -108,5 +142,5 @@ pub fn texts_by<T: Threads + Sync>(
                 text ≡ journal_of inputs.entry.now.net ran.entry.now) }
         { stamped_text(alloc, inputs, &ran.journal, ran.complete) },
     );
-    (journal, others)
+    (journal, outputs)
 }

@@ -10,6 +10,8 @@ use crate::bound::make_bound;
 use crate::check::make_check;
 use crate::compile::make_compile;
 use crate::demo::make_demo;
+use crate::equiv::make_equiv;
+use crate::image::make_image;
 use crate::migrate::make_migrate;
 use crate::product::Product;
 use crate::replay::make_replay;
@@ -41,6 +43,8 @@ fn make<'a, H: Host>(
         Request::Migrate(migrate) => make_migrate(alloc, host, migrate),
         Request::Demo(demo) => make_demo(alloc, demo),
         Request::Bound(bound) => make_bound(alloc, host, bound),
+        Request::Image(image) => make_image(alloc, host, image),
+        Request::Equiv(equiv) => make_equiv(alloc, host, equiv),
     }
 }
 

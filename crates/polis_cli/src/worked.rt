@@ -1,5 +1,6 @@
 // What the definitions say of a whole call on the lamp, and of its texts.
 ghost use Rattle.std.specs.Prelude.{◌≡◌, true, List, [], ◌∷◌, codes, Some, Ok};
+ghost use Rattle.polis_base.specs.Lines.{line};
 ghost use Rattle.journals.specs.Samples.{lamp, press, lamp_run};
 ghost use Rattle.journals.specs.Stamps.{least};
 ghost use Rattle.trace_text.specs.Traces.{trace_of};
@@ -10,7 +11,7 @@ ghost use Rattle.machine_compiler.specs.Lines.{lengths_text, tries_text};
 ghost use Rattle.polis_cli.specs.Samples.{press_text, lamp_journal, lamp_summary, lamp_line, lamp_lengths};
 ghost use Rattle.polis_cli.specs.LampRun.{lamp_words, files_before, files_after, lamp_shown};
 ghost use Rattle.polis_words.specs.Texts.{summary_text};
-ghost use Rattle.journal_text.specs.Texts.{stamped_journal_text, output_text, line};
+ghost use Rattle.journal_text.specs.Texts.{stamped_journal_text, output_text};
 ghost use Rattle.polis_cli.specs.Top.{MadeAndWritten};
 
 use polis_words::Status;

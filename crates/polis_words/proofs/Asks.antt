@@ -130,5 +130,6 @@ pub first_is : (words : List (List ℕ)) (word command : List ℕ) (test : Bool)
     → IsCommand words word → test ≡ bytes_eq word command → IsTrue test ↔ IsCommand words command
 first_is words word command test first is = (
   λ same. first ∙ ap Some ((bytes_eq-Decides word command).0 (sym is ∙ same)),
-  λ other. is ∙ (bytes_eq-Decides word command).1 (sym (same_word words 0 word command first other)),
+  λ other. is
+      ∙ (bytes_eq-Decides word command).1 (sym (same_word words 0 word command first other)),
 )

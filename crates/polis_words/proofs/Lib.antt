@@ -1,4 +1,5 @@
 pub mod Asks
+pub mod AskOptions
 pub mod AsksRun
 pub mod AsksBound
 pub mod Snapshots

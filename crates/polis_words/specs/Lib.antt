@@ -1,4 +1,5 @@
 pub mod FileWords
+pub mod RunOptions
 pub mod Run
 pub mod Check
 pub mod Compile
@@ -6,6 +7,8 @@ pub mod Replay
 pub mod Migrate
 pub mod Demo
 pub mod Bound
+pub mod Image
+pub mod Equiv
 pub mod Requests
 pub mod Lines
 pub mod Texts

@@ -10,11 +10,11 @@ use Rattle.journal_text.specs.declared.fault.JournalKind.TheVariants.{Header, Af
 use Rattle.polis_words.specs.declared.cause.LexKind.{LexKind}
 use Rattle.polis_words.specs.declared.cause.LexKind.TheVariants.{Byte, Name, Number}
 use Rattle.polis_words.specs.declared.cause.Cause.{Cause}
-use Rattle.polis_words.specs.declared.cause.Cause.TheVariants.{ReadFault as Unread, Absent, TooLong, Lex, Syntax, Rule, Conflict, TraceLine, JournalLine, Illegal as Unlawful}
+use Rattle.polis_words.specs.declared.cause.Cause.TheVariants.{ReadFault as Unread, Absent, TooLong, Lex, Syntax, Rule, Conflict, TraceLine, JournalLine, Illegal as Unlawful, ImageByte, ImageShape, ImageWrong, ImageLong, OtherShape, Differ as TablesDiffer}
 use Rattle.polis_words.specs.declared.cause.Failure.{Failure}
 use Rattle.polis_words.specs.declared.cause.Failure.TheVariants as failures
 use Rattle.polis_words.specs.declared.status.Status.{Status}
-use Rattle.polis_words.specs.declared.status.Status.TheVariants.{ReadFault, Refused, NoMemory, Illegal}
+use Rattle.polis_words.specs.declared.status.Status.TheVariants.{ReadFault, Refused, NoMemory, Illegal, Differ}
 
 -- the status of a call that ends for this cause
 abbrev pub cause_status : Cause → Status
@@ -28,6 +28,12 @@ cause_status (Conflict text) = Refused
 cause_status (TraceLine line kind) = Refused
 cause_status (JournalLine line kind) = Refused
 cause_status (Unlawful entry) = Illegal
+cause_status (ImageByte place) = Refused
+cause_status (ImageShape machine) = Refused
+cause_status (ImageWrong text) = Refused
+cause_status ImageLong = Refused
+cause_status OtherShape = Refused
+cause_status (TablesDiffer text) = Differ
 
 -- the status of a call that fails so
 abbrev pub status_of : Failure → Status
@@ -66,8 +72,7 @@ lex_word Number = codes "number"
 abbrev pub refused : List ℕ → List ℕ → List ℕ
 refused name why = codes "refused " ++ name ++ codes " " ++ why
 
--- the line of a file that isn't read or isn't accepted, or whose journal isn't legal, without its
--- end
+-- the line of a file that isn't read or isn't accepted, or of what was found of it, without its end
 abbrev pub cause_line : List ℕ → Cause → List ℕ
 cause_line name Unread = codes "read fault " ++ name
 cause_line name Absent = refused name (codes "absent")
@@ -83,6 +88,12 @@ cause_line name (TraceLine line kind) =
 cause_line name (JournalLine line kind) =
     refused name (codes "line " ++ decimal line ++ codes " " ++ journal_word kind)
 cause_line name (Unlawful entry) = codes "illegal " ++ decimal entry
+cause_line name (ImageByte place) = refused name (codes "image byte " ++ decimal place)
+cause_line name (ImageShape machine) = refused name (codes "image shape " ++ decimal machine)
+cause_line name (ImageWrong text) = refused name (codes "image wrong " ++ text)
+cause_line name ImageLong = refused name (codes "image long")
+cause_line name OtherShape = refused name (codes "shape")
+cause_line name (TablesDiffer text) = codes "differ " ++ text
 
 -- the line of a failure, without its end
 abbrev pub failure_line : Failure → List ℕ

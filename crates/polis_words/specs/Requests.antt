@@ -1,7 +1,7 @@
 -- What a command line asks for.
 use Rattle.std.specs.Prelude.{ℕ, List}
 use Rattle.polis_words.specs.declared.requests.Request.{Request}
-use Rattle.polis_words.specs.declared.requests.Request.TheVariants.{Run, Check, Compile, Replay, Migrate, Demo, Bound}
+use Rattle.polis_words.specs.declared.requests.Request.TheVariants.{Run, Check, Compile, Replay, Migrate, Demo, Bound, Image, Equiv}
 use Rattle.polis_words.specs.Run.{AsksRun}
 use Rattle.polis_words.specs.Check.{AsksCheck}
 use Rattle.polis_words.specs.Compile.{AsksCompile}
@@ -9,6 +9,8 @@ use Rattle.polis_words.specs.Replay.{AsksReplay}
 use Rattle.polis_words.specs.Migrate.{AsksMigrate}
 use Rattle.polis_words.specs.Demo.{AsksDemo}
 use Rattle.polis_words.specs.Bound.{AsksBound}
+use Rattle.polis_words.specs.Image.{AsksImage}
+use Rattle.polis_words.specs.Equiv.{AsksEquiv}
 
 -- the command line has the form of this request
 abbrev pub Asks : List (List ℕ) → Request → Type 0
@@ -19,6 +21,8 @@ Asks words (Replay replay) = AsksReplay words replay
 Asks words (Migrate migrate) = AsksMigrate words migrate
 Asks words (Demo demo) = AsksDemo words demo
 Asks words (Bound bound) = AsksBound words bound
+Asks words (Image image) = AsksImage words image
+Asks words (Equiv equiv) = AsksEquiv words equiv
 
 -- the command line has no request's form
 abbrev pub AsksNothing : List (List ℕ) → Type 0

@@ -1,12 +1,13 @@
 -- The texts that calls show of runs, of accepted networks and of legal journals.
 use Rattle.std.specs.Prelude.{ℕ, Bool, cond, List, ◌++◌, flat_map, length, codes, decimal}
+use Rattle.polis_base.specs.Lines.{line}
 use Rattle.domains.specs.Tables.{product}
 use Rattle.transition_table.specs.declared.machine.Machine.{Machine}
 use Rattle.transition_table.specs.declared.network.Network.{Network}
 use Rattle.transition_table.specs.declared.snapshot.Snapshot.{Snapshot}
 use Rattle.journals.specs.declared.entry.Entry.{Entry}
 use Rattle.journals.specs.Outputs.{lost}
-use Rattle.journal_text.specs.Texts.{line, count_text, snapshot_text}
+use Rattle.journal_text.specs.Texts.{count_text, snapshot_text}
 
 -- how many entries there are, how many deliveries were lost, and how long the gathered and the
 -- adopted journal are
@@ -15,6 +16,11 @@ summary_text net journal complete gathered adopted =
     line (codes "entries " ++ count_text journal complete)
     ++ line (codes "lost " ++ decimal (lost net journal))
     ++ line (codes "gathered " ++ decimal gathered ++ codes " adopted " ++ decimal adopted)
+
+-- `M I ; X`: the machine, and a snapshot of it
+abbrev pub machine_snapshot_text : Network → Machine → Snapshot → List ℕ
+machine_snapshot_text net machine s =
+    machine.name ++ codes " " ++ snapshot_text net machine s.codes
 
 -- `M A B I ; X`: the machine, its two rows, and the snapshot on which they conflict
 abbrev pub conflict_text : Network → Machine → ℕ → ℕ → Snapshot → List ℕ
@@ -46,3 +52,11 @@ legal_text entries complete =
 -- what `migrate` shows of a legal journal of so many entries
 abbrev pub migrated_text : ℕ → List ℕ
 migrated_text entries = line (codes "migrated " ++ decimal entries)
+
+-- what `image` shows of an image of so many bytes
+abbrev pub image_text : ℕ → List ℕ
+image_text bytes = line (codes "image " ++ decimal bytes ++ codes " bytes")
+
+-- what `equiv` shows of networks of so many machines each
+abbrev pub same_text : ℕ → List ℕ
+same_text machines = line (codes "same " ++ decimal machines)

@@ -17,8 +17,8 @@ pub enum LexKind {
     Number,
 }
 
-/// Why a file isn't read or isn't accepted, or the journal in it isn't legal. A place is a byte's
-/// number in a text.
+/// Why a file isn't read or isn't accepted, or what was found of it. A place is a byte's number
+/// in the file.
 #[derive(Drop)]
 pub enum Cause {
     /// The host's load failed.
@@ -43,6 +43,22 @@ pub enum Cause {
     /// A journal isn't legal up to an entry, or its stamps aren't rising up to there: the first
     /// such entry.
     Illegal { entry: u64 },
+    /// A field of an image isn't whole or isn't allowed, or bytes follow the image: the place of
+    /// the first such field, or of the image's end.
+    ImageByte { place: u64 },
+    /// An image's machine of this number, or that of the network, isn't there, or the two have
+    /// another name or other sizes: the least such number.
+    ImageShape { machine: u32 },
+    /// The code of an image's machine is wrong on a snapshot: the first such machine's name and its
+    /// least such snapshot, as they are printed.
+    ImageWrong { text: Bytes },
+    /// The image of a network is longer than a file may be.
+    ImageLong,
+    /// A second network hasn't the shape of the first.
+    OtherShape,
+    /// The tables of two networks differ: the first machine's name and its least snapshot on which
+    /// they do, as they are printed.
+    Differ { text: Bytes },
 }
 
 /// Why a call makes nothing.
@@ -72,7 +88,11 @@ impl Cause {
             Cause::Lex { .. } | Cause::Syntax { .. } | Cause::Rule { .. } => Status::Refused,
             Cause::Conflict { .. } => Status::Refused,
             Cause::TraceLine { .. } | Cause::JournalLine { .. } => Status::Refused,
+            Cause::ImageByte { .. } | Cause::ImageShape { .. } => Status::Refused,
+            Cause::ImageWrong { .. } | Cause::ImageLong => Status::Refused,
+            Cause::OtherShape => Status::Refused,
             Cause::Illegal { .. } => Status::Illegal,
+            Cause::Differ { .. } => Status::Differ,
         }
     }
 }

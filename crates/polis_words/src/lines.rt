@@ -85,12 +85,13 @@ fn push_rule(rule: u8, place: u64, into: &mut Bytes) -> Result<(), NoMemory>
     into.push_decimal(place)
 }
 
-// Appends the printed conflict.
-fn push_conflict(text: &[u8], into: &mut Bytes) -> Result<(), NoMemory>
-    ensures { OnOk result (into.new ≡ into.old ++ codes "conflict " ++ text.now) }
+// Appends a word and a text that was printed.
+fn push_printed(word: &[u8], text: &Bytes, into: &mut Bytes) -> Result<(), NoMemory>
+    ensures { OnOk result (into.new ≡ into.old ++ word.now ++ codes " " ++ text.now) }
 {
-    into.push(b"conflict ")?;
-    into.push(text)
+    into.push(word)?;
+    into.push(b" ")?;
+    into.push(text.as_slice())
 }
 
 // Appends what stands before the cause in the line of a file that is refused.
@@ -102,7 +103,8 @@ fn push_refused(name: &str, into: &mut Bytes) -> Result<(), NoMemory>
     into.push(b" ")
 }
 
-// Appends the line of a file that isn't accepted, or whose journal isn't legal, without its end.
+// Appends the line of a file that isn't read or isn't accepted, or of what was found of it, without
+// its end.
 fn push_cause(name: &str, cause: &Cause, into: &mut Bytes) -> Result<(), NoMemory>
     ensures { OnOk result (into.new ≡ into.old ++ cause_line name.now cause.now) }
 {
@@ -112,6 +114,7 @@ fn push_cause(name: &str, cause: &Cause, into: &mut Bytes) -> Result<(), NoMemor
             return into.push(name.as_bytes());
         }
         Cause::Illegal { entry } => return push_numbered(b"illegal", *entry, into),
+        Cause::Differ { text } => return push_printed(b"differ", text, into),
         _ => {}
     }
     push_refused(name, into)?;
@@ -121,9 +124,14 @@ fn push_cause(name: &str, cause: &Cause, into: &mut Bytes) -> Result<(), NoMemor
         Cause::Lex { kind, place } => push_lex(*kind, *place, into),
         Cause::Syntax { place } => push_numbered(b"syntax", *place, into),
         Cause::Rule { rule, place } => push_rule(*rule, *place, into),
-        Cause::Conflict { text } => push_conflict(text.as_slice(), into),
+        Cause::Conflict { text } => push_printed(b"conflict", text, into),
         Cause::TraceLine { line, kind } => push_line(*line, trace_kind(*kind), into),
         Cause::JournalLine { line, kind } => push_line(*line, journal_kind(*kind), into),
+        Cause::ImageByte { place } => push_numbered(b"image byte", *place, into),
+        Cause::ImageShape { machine } => push_numbered(b"image shape", *machine as u64, into),
+        Cause::ImageWrong { text } => push_printed(b"image wrong", text, into),
+        Cause::ImageLong => into.push(b"image long"),
+        Cause::OtherShape => into.push(b"shape"),
         _ => Ok(()),
     }
 }

@@ -9,8 +9,11 @@ mod command;
 mod compile;
 mod costs;
 mod demo;
+mod equiv;
 mod file_word;
+mod image;
 mod migrate;
+mod options;
 mod replay;
 mod run;
 mod workers;
@@ -24,6 +27,10 @@ use compile::compile_of;
 pub use costs::GivenCosts;
 pub use demo::Demo;
 use demo::demo_of;
+pub use equiv::Equiv;
+use equiv::equiv_of;
+pub use image::Image;
+use image::image_of;
 pub use migrate::Migrate;
 use migrate::migrate_of;
 use polis_base::Words;
@@ -50,6 +57,10 @@ pub enum Request<'a> {
     Demo(Demo),
     /// To bound what the reactions of a network's machines cost.
     Bound(Bound<'a>),
+    /// To save the code of a network's machines as an image.
+    Image(Image<'a>),
+    /// To say whether two networks have the same tables.
+    Equiv(Equiv<'a>),
 }
 
 /// What the command line asks for, if it asks for anything: its first word names the command.
@@ -70,6 +81,8 @@ pub fn request_of(words: &Words) -> Option<Request<'_>>
         "migrate" => Some(Request::Migrate(migrate_of(words)?)),
         "demo" => Some(Request::Demo(demo_of(words)?)),
         "bound" => Some(Request::Bound(bound_of(words)?)),
+        "image" => Some(Request::Image(image_of(words)?)),
+        "equiv" => Some(Request::Equiv(equiv_of(words)?)),
         _ => None,
     }
 }

@@ -7,17 +7,17 @@ use Rattle.transition_table.specs.declared.network.Network.{Network}
 use Rattle.polis_words.specs.declared.cause.LexKind.TheVariants as kinds
 use Rattle.polis_words.specs.declared.cause.Cause.{Cause}
 use Rattle.polis_words.specs.declared.cause.Cause.TheVariants.{Lex, Conflict}
-use Rattle.polis_cli.specs.declared.accept.TextFault.{TextFault}
-use Rattle.polis_cli.specs.declared.accept.TextFault.TheVariants as faults
+use Rattle.polis_cli.specs.declared.accept.FileFault.{FileFault}
+use Rattle.polis_cli.specs.declared.accept.FileFault.TheVariants as faults
 use Rattle.polis_cli.specs.Accepted.{IsConflictIn, IsFirstConflict}
 
 -- P of what is wrong with a text, unless memory ran out
-abbrev pub IfCause : TextFault → (Cause → Type 0) → Type 0
+abbrev pub IfCause : FileFault → (Cause → Type 0) → Type 0
 IfCause (faults.Cause cause) P = P cause
 IfCause faults.NoMemory P = ⊤
 
 -- why a text whose tokens don't read isn't accepted
-abbrev pub lex_fault : LexError → TextFault
+abbrev pub lex_fault : LexError → FileFault
 lex_fault (lexes.BadByte place) = faults.Cause (Lex kinds.Byte place)
 lex_fault (lexes.NameTooLong place) = faults.Cause (Lex kinds.Name place)
 lex_fault (lexes.NumberTooLarge place) = faults.Cause (Lex kinds.Number place)

@@ -1,10 +1,31 @@
 -- The options of a run, by their places.
-use Rattle.std.specs.Prelude.{◌≡◌, ℕ, ◌+◌, ◌≤◌, Some, slice_get, List, decimal}
+use Rattle.std.specs.Prelude.{◌≡◌, ℕ, ◌+◌, List, ◌++◌, Some, slice_get, drop, flat_map}
+use Rattle.polis_words.specs.RunOptions.{RunOption, Workers, Limit, Image, IsOption, Said, Says, SayAll, unsaid, flag_of, value_of, option_words}
+use Rattle.polis_words.specs.declared.requests.options.Given.{Given}
+use Rattle.polis_words.specs.declared.requests.options.Given.TheVariants as given
 
--- the flag stands at this place, and after it the number in decimal, which is from 1 to `most`
-pub record IsNumberAt (words : List (List ℕ)) (place : ℕ) (flag : List ℕ) (most n : ℕ)
-    : Type 0 where
-  pub flag_at : slice_get words place ≡ Some flag
-  pub number_at : slice_get words (place + 1) ≡ Some (decimal n)
-  pub some : 1 ≤ n
-  pub few : n ≤ most
+-- the flag and the word after it are the option's
+pub record IsOptionOf (flag value : List ℕ) (o : RunOption) : Type 0 where
+  pub option : IsOption o
+  pub flag_is : flag ≡ flag_of o
+  pub value_is : value ≡ value_of o
+
+-- the option at this place says what none before it said
+pub record SaysAt (words : List (List ℕ)) (place : ℕ) (old new : Said) : Type 0 where
+  pub option : RunOption
+  pub is_option : IsOption option
+  pub flag : slice_get words place ≡ Some (flag_of option)
+  pub value : slice_get words (place + 1) ≡ Some (value_of option)
+  pub says : Says old option new
+
+-- what was read of an option
+abbrev pub option_of : Given → RunOption
+option_of (given.Workers n) = Workers n
+option_of (given.Limit n) = Limit n
+option_of (given.Image name) = Image name.now
+
+-- the words from the fifth up to this place are options that say this
+pub record AreSaid (words : List (List ℕ)) (place : ℕ) (said : Said) : Type 0 where
+  pub options : List RunOption
+  pub words_are : drop 4 words ≡ flat_map option_words options ++ drop place words
+  pub say : SayAll unsaid options said

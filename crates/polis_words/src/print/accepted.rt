@@ -3,7 +3,7 @@ ghost use Rattle.std.specs.Prelude.{◌≡◌, ◌++◌, flat_map, IfOk, OnOk, I
 ghost use Rattle.domains.specs.Tables.{product};
 ghost use Rattle.transition_table.specs.NetworkFacts.{has_vars};
 ghost use Rattle.transition_table.specs.Transitions.{IsSnapshot};
-ghost use Rattle.polis_words.specs.Texts.{accepted_text, machine_line, conflict_text};
+ghost use Rattle.polis_words.specs.Texts.{accepted_text, machine_line, conflict_text, machine_snapshot_text};
 
 use journal_text::push_snapshot;
 use polis_base::{Bytes, NoMemory};
@@ -55,6 +55,25 @@ pub fn print_accepted(alloc: Global, net: &Network) -> Result<Bytes, NoMemory>
     text.push_decimal(net.events.len())?;
     text.push(b"\n")?;
     push_machine_lines(net, &mut text)?;
+    Ok(text)
+}
+
+/// `M I ; X`: a machine, and a snapshot of it.
+pub fn print_machine_snapshot(
+    alloc: Global,
+    net: &Network,
+    machine: &Machine,
+    snapshot: &Snapshot,
+) -> Result<Bytes, NoMemory>
+    requires sized { IsTrue (has_vars net.now.domains net.now.events machine.now) }
+    requires snapshot { IsSnapshot machine.now snapshot.now }
+    ensures { IfOk result (λ text. text
+        ≡ machine_snapshot_text net.now machine.now snapshot.now) }
+{
+    let mut text = Bytes::new(alloc);
+    text.push(machine.name.bytes())?;
+    text.push(b" ")?;
+    push_snapshot(net, machine, snapshot, &mut text)?;
     Ok(text)
 }
 

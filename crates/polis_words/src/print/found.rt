@@ -1,6 +1,6 @@
-// What is shown of a legal journal.
+// What is shown of legal journals, of images and of networks that are the same.
 ghost use Rattle.std.specs.Prelude.{◌≡◌, IfOk};
-ghost use Rattle.polis_words.specs.Texts.{legal_text, migrated_text};
+ghost use Rattle.polis_words.specs.Texts.{legal_text, migrated_text, image_text, same_text};
 
 use polis_base::{Bytes, NoMemory};
 use std::alloc::Global;
@@ -23,6 +23,28 @@ pub fn print_migrated(alloc: Global, entries: u64) -> Result<Bytes, NoMemory>
     let mut text = Bytes::new(alloc);
     text.push(b"migrated ")?;
     text.push_decimal(entries)?;
+    text.push(b"\n")?;
+    Ok(text)
+}
+
+/// What `image` shows of an image of so many bytes.
+pub fn print_image(alloc: Global, bytes: u64) -> Result<Bytes, NoMemory>
+    ensures { IfOk result (λ text. text ≡ image_text bytes) }
+{
+    let mut text = Bytes::new(alloc);
+    text.push(b"image ")?;
+    text.push_decimal(bytes)?;
+    text.push(b" bytes\n")?;
+    Ok(text)
+}
+
+/// What `equiv` shows of networks of so many machines each.
+pub fn print_same(alloc: Global, machines: u64) -> Result<Bytes, NoMemory>
+    ensures { IfOk result (λ text. text ≡ same_text machines) }
+{
+    let mut text = Bytes::new(alloc);
+    text.push(b"same ")?;
+    text.push_decimal(machines)?;
     text.push(b"\n")?;
     Ok(text)
 }

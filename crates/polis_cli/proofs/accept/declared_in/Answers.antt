@@ -9,7 +9,7 @@ use Rattle.polis_cli.proofs.accept.declared_in.Goals as goal
 pub returns-in-Ok-resolve-clause-one : goal.returns-in-Ok-resolve-clause-one
 returns-in-Ok-resolve-clause-one c = λ other is.
     c.in-Ok-resolve.ensures.only other
-    (subst (λ (raw : RawNet). IsNetOf raw other) (c.in-Ok.ensures.one is.0 is.1) is.2)
+    (subst (λ (raw : RawNet). IsNetOf raw other) (c.in-Ok.ensures.ok.only is.0 is.1) is.2)
 
 pub returns-in-Err-Rule-clause-failed : goal.returns-in-Err-Rule-clause-failed
 returns-in-Err-Rule-clause-failed c =
@@ -17,7 +17,7 @@ returns-in-Err-Rule-clause-failed c =
     subst (λ (fault : ResolveFault). IsFaultOf c.in-Ok.raw fault) c.in-Err-Rule.field-0-is
     c.in-Err-Rule.ensures.fault in (
       c.in-Ok.raw,
-      c.in-Ok.ensures.ok,
+      c.in-Ok.ensures.ok.has,
       λ other has. subst (λ (raw : RawNet). Breaks raw c.in-Err-Rule.rule c.in-Err-Rule.place)
-          (sym (c.in-Ok.ensures.one other has)) broken,
+          (sym (c.in-Ok.ensures.ok.only other has)) broken,
     )

@@ -1,3 +1,4 @@
+use Rattle.net_rules.proofs.HasMachines.{has_machines}
 use Rattle.polis_cli.proofs.IsNetFault.{fault_from, conflict_fault, fault_refuses}
 use Rattle.polis_cli.proofs.accept.network_in.Goals as goal
 
@@ -17,3 +18,7 @@ returns-in-Err-check_machines-clause-refused c =
     (λ cause h. fault_refuses c.args.text.now cause
     (conflict_fault c.args.text.now c.in-Ok.net cause c.in-Ok.ensures.ok c.in-Ok.ensures.one h))
     c.in-Err-check_machines.ensures.failed
+
+pub returns-in-Ok-check_machines-clause-whole : goal.returns-in-Ok-check_machines-clause-whole
+returns-in-Ok-check_machines-clause-whole c =
+    has_machines c.args.text.now c.in-Ok.net c.in-Ok.ensures.ok

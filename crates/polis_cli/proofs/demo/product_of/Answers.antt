@@ -1,12 +1,20 @@
+use Rattle.std.proofs.Common.{subst, sym}
+use Rattle.journals.specs.Journals.{IsTrace}
 use Rattle.machine_compiler.specs.Parts.{parts_of}
+use Rattle.transition_table.specs.declared.network.Network.{Network}
 use Rattle.polis_cli.proofs.IsMade.{product_is}
 use Rattle.polis_cli.proofs.demo.product_of.Goals as goal
+
+pub run_alone-requires : goal.run_alone-requires
+run_alone-requires c =
+    subst (λ (n : Network). IsTrace n c.args.inputs.now.trace)
+    (sym c.in_ok-tasks.ensures.of_network.meaning) c.requires.trace
 
 pub returns : goal.returns
 returns c =
     let net = c.args.inputs.now.net in
     let ran = c.in_ok-ran.ran in
-    let is_ran = rw c.in_ok-reactor.ensures at c.in_ok-ran.ensures in
+    let is_ran = rw c.in_ok-tasks.ensures.of_network.meaning at c.in_ok-ran.ensures in
     record {
       net = net;
       trace = c.args.inputs.now.trace;
@@ -16,5 +24,6 @@ returns c =
       right = c.in_ok-compiled.ensures;
       is_ran = is_ran;
       complete = c.requires.whole ran is_ran;
-      made = product_is c.new.result c.in_ok-shown.shown _ c.new.ensures c.in_ok-shown.ensures;
+      made = product_is c.new.result c.in_ok-shown.shown _ c.new.ensures
+          (rw c.in_ok-tasks.ensures.tasks at c.in_ok-shown.ensures);
     }

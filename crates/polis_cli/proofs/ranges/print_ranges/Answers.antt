@@ -1,5 +1,5 @@
 use Rattle.std.proofs.Common.{◌≡◌, arith, length}
-use Rattle.journals.proofs.Ways.{passes_of_all}
+use Rattle.journals.proofs.DeliveriesOfWay.{passes_of_all}
 use Rattle.machine_compiler.specs.Parts.{part_of_compiled}
 use Rattle.transition_table.specs.NetworkFacts.{has_vars}
 use Rattle.polis_cli.proofs.RangeLines.{shown_none, shown_more, shown_all}

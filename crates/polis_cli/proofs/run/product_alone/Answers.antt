@@ -18,4 +18,4 @@ pub product_of-requires-clause-ran : goal.product_of-requires-clause-ran
 product_of-requires-clause-ran c =
     subst (λ n. IsRan n c.args.asked.now.limit c.args.inputs.now.net c.args.inputs.now.trace
     c.in_ok-ran.ran) (sym c.requires.one)
-    (rw (c.in_ok-reactor.ensures, c.limit.ensures.is) at c.in_ok-ran.ensures)
+    (rw (c.requires.tasks.meaning, c.limit.ensures.is) at c.in_ok-ran.ensures)

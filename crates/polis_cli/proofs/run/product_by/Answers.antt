@@ -9,11 +9,17 @@ run_by-requires-clause-several g c =
 
 pub product_of-requires-clause-ran : goal.product_of-requires-clause-ran
 product_of-requires-clause-ran g c =
-    rw (c.in_ok-reactor.ensures, c.workers-workers.ensures.is, c.limit-limit.ensures.is) at
+    rw (c.requires.tasks.meaning, c.workers-workers.ensures.is, c.limit-limit.ensures.is) at
     c.in_ok-ran.ensures
 
 pub texts_by-journal-requires-clause-few : goal.texts_by-journal-requires-clause-few
 texts_by-journal-requires-clause-few g c =
+    let within = c.in_ok-ran.ensures.within in
+    let few = c.limit-limit.ensures.few in
+    omega (arith, within, few)
+
+pub other_texts-requires-clause-few : goal.other_texts-requires-clause-few
+other_texts-requires-clause-few g c =
     let within = c.in_ok-ran.ensures.within in
     let few = c.limit-limit.ensures.few in
     omega (arith, within, few)

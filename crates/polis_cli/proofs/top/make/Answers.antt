@@ -18,3 +18,8 @@ pub returns-in-Demo-clause-made : goal.returns-in-Demo-clause-made
 returns-in-Demo-clause-made g c =
     subst (λ (r : Request). IsMade (meaning r) (g.H.Host.files c.args.host.now) c.make_demo.result)
     (sym c.in-Demo.is) (c.make_demo.ensures.made (g.H.Host.files c.args.host.now))
+
+pub returns-in-Equiv-clause-made : goal.returns-in-Equiv-clause-made
+returns-in-Equiv-clause-made g c =
+    subst (λ (r : Request). IsMade (meaning r) (g.H.Host.files c.args.host.now)
+    c.make_equiv.result) (sym c.in-Equiv.is) c.make_equiv.ensures.made

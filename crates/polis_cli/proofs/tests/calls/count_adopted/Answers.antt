@@ -3,7 +3,7 @@ use Rattle.transition_table.specs.samples.Join.{join}
 use Rattle.transition_table.specs.declared.network.Network.{Network}
 use Rattle.journals.specs.Alone.{IsAlone}
 use Rattle.journals.specs.declared.entry.Entry.{Entry}
-use Rattle.journal_replay.proofs.Sampled.{landings_alone}
+use Rattle.journal_replay.proofs.SampleNetworks.{landings_alone}
 use Rattle.polis_cli.proofs.tests.calls.count_adopted.Goals as goal
 
 pub adopt-requires-clause-alone : goal.adopt-requires-clause-alone

@@ -1,4 +1,4 @@
-use Rattle.polis_cli.proofs.Calls.{fits_at}
+use Rattle.net_core.proofs.Losses.{fits_at}
 use Rattle.polis_cli.proofs.tests.calls.is_taken.Goals as goal
 
 pub offer-requires-clause-fits : goal.offer-requires-clause-fits

@@ -1,4 +1,4 @@
-use Rattle.sgraph_opt.proofs.OfMachine.{all_fit}
+use Rattle.sgraph_opt.proofs.IsGraphOf.{all_fit}
 use Rattle.polis_cli.proofs.tests.diagrams.made_small.Goals as goal
 
 pub returns : goal.returns

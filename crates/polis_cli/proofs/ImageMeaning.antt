@@ -1,0 +1,145 @@
+-- What `image` means.
+use Rattle.std.proofs.Common.{◌≡◌, ◌⊎◌, inl, inr, ℕ, true, zero, suc, List, [], ◌∷◌, ◌++◌, length, slice_get, Option, Some, refl, ap, sym, subst, ◌∙◌, IsTrue, codes}
+use Rattle.std.proofs.lemmas.List.{length-map}
+use Rattle.polis_base.specs.Host.{Files, WhereTold}
+use Rattle.transition_table.specs.declared.network.Network.{Network}
+use Rattle.net_rules.specs.Whole.{HasMachines}
+use Rattle.task_code.specs.declared.instr.Instr.{Instr}
+use Rattle.task_code.specs.Listings.{Part}
+use Rattle.machine_compiler.specs.Parts.{AreRightParts, codes_in}
+use Rattle.task_image.specs.Images.{AreStorable, IsCodeOf}
+use Rattle.polis_words.specs.declared.cause.Cause.{Cause}
+use Rattle.polis_words.specs.declared.cause.Cause.TheVariants.{ImageLong}
+use Rattle.polis_words.specs.declared.cause.Failure.{Failure}
+use Rattle.polis_words.specs.declared.cause.Failure.TheVariants as failures
+use Rattle.polis_words.specs.declared.status.Status.TheVariants.{Refused}
+use Rattle.polis_words.specs.Image.{ImageWords}
+use Rattle.polis_words.specs.Lines.{cause_status}
+use Rattle.polis_words.specs.Texts.{image_text}
+use Rattle.polis_cli.specs.declared.product.End.TheVariants as ends
+use Rattle.polis_cli.specs.declared.product.Product.{Product}
+use Rattle.polis_cli.specs.Image.{MayBeTooLong, FailsImage, image_product, image_meaning}
+use Rattle.polis_cli.specs.Inputs.{HoldsNet, NetFails, AcceptsNet}
+use Rattle.polis_cli.specs.Meanings.{is_finding, is_failure}
+use Rattle.polis_cli.specs.Saves.{Save}
+use Rattle.polis_cli.specs.inner.Image.{IsImageProduct, IsLongImage}
+use Rattle.polis_cli.specs.inner.Lawful.{IsLawful}
+use Rattle.polis_cli.specs.inner.Made.{IsMadeProduct, IsMadeFailure, FileFails}
+use Rattle.polis_cli.proofs.WhereTold.{told_from}
+use Rattle.polis_cli.proofs.InputsFail.{net_refused, net_unfound}
+use Rattle.polis_cli.proofs.IsMade.{product_made}
+use Rattle.polis_cli.proofs.Saves.{one_save}
+
+image_refused : (image : ImageWords) (files : Files) (name : List ℕ) (cause : Cause)
+    → FailsImage image files name cause → cause_status cause ≡ Refused
+    → (¬ AcceptsNet image.net files) ⊎ MayBeTooLong image files
+image_refused image files name cause (same, inl h) s =
+    inl (λ all. net_refused files image.net cause all.0 s h all.1)
+image_refused image files name cause (same, inr h) s = inr h.1
+
+image_unfound : (image : ImageWords) (files : Files) (name : List ℕ) (cause : Cause)
+    → IsTrue (is_finding (cause_status cause)) → ¬ FailsImage image files name cause
+image_unfound image files name cause f (same, inl h) = net_unfound files image.net cause f h
+image_unfound image files name cause f (same, inr h) =
+    let e = ap (λ (c : Cause). is_finding (cause_status c)) h.0 in
+    let k = sym f ∙ e in cc
+
+pub image_lawful : (image : ImageWords) → IsLawful (image_meaning image)
+image_lawful image = record {
+  made_accepts = λ files product m. (m.net, m.holds_net);
+  made_finds = λ files product status m found. found;
+  refused = λ files name cause h s. image_refused image files name cause h s;
+  found = λ files name cause h f. absurd (image_unfound image files name cause f h);
+  found_accepts = λ files status h. absurd h;
+  found_ends = λ files status h. absurd h;
+  refuse_finds = λ files status may found. found;
+  refuse_ends = λ files may. refl;
+  found_once = λ files s t h k. absurd h;
+}
+
+-- the product of an image
+pub image_made : (o : Option Files) (image : ImageWords) (net : Network) (product : Product)
+    → WhereTold o (λ files. HoldsNet files image.net net) → IsImageProduct image net product
+    → IsMadeProduct (image_meaning image) o product
+image_made o image net product held p =
+    product_made (image_meaning image) o product (image_product image p.bytes) p.made
+    (tt, tt) refl
+    (told_from o (λ files. HoldsNet files image.net net) _
+    (λ files h. record {
+      net = net;
+      holds_net = h;
+      parts = p.parts;
+      right = p.right;
+      bytes = p.bytes;
+      are_bytes = p.are_bytes;
+      within = p.within;
+      made = p.made;
+    }) held)
+
+-- the parts of an image's product
+pub image_is : (image : ImageWords) (none all : List Save) (saving : Save)
+    (stem bytes shown : List ℕ) → none ≡ [] → all ≡ none ++ saving ∷ []
+    → saving ≡ record { name = stem ++ codes ".img"; text = bytes } → stem ≡ image.stem
+    → shown ≡ image_text (length bytes)
+    → ◌≡◌ {A = Product} (record { saves = all; shown = shown; end = ends.Done })
+    (image_product image bytes)
+image_is image none all saving stem bytes shown n e s st sh =
+    let saves = one_save none all saving (record { name = stem ++ codes ".img"; text = bytes }) n e s
+    ∙ (λ i. record { name = st i ++ codes ".img"; text = bytes } ∷ []) in
+    λ i. record { saves = saves i; shown = sh i; end = ends.Done }
+
+-- the network isn't loaded, or isn't accepted
+pub net_fails : (o : Option Files) (image : ImageWords) (failure : Failure)
+    → FileFails image.net o (λ files. NetFails files image.net) failure
+    → IsMadeFailure (image_meaning image) o failure
+net_fails o image failures.NoMemory h = tt
+net_fails o image (failures.File name cause) h = (
+  told_from o (λ files. NetFails files image.net cause) _ (λ files k. (h.0, inl k)) h.1,
+  inr h.2,
+)
+
+-- the image is too long
+pub too_long : (o : Option Files) (image : ImageWords) (net : Network) (name : List ℕ)
+    (cause : Cause) → name ≡ image.net → WhereTold o (λ files. HoldsNet files image.net net)
+    → IsLongImage net cause
+    → WhereTold o (λ files. FailsImage image files name cause)
+    × (IsTrue ((image_meaning image).ends (cause_status cause))
+    ⊎ IsTrue (is_failure true (cause_status cause)))
+too_long o image net name ImageLong same held (parts, right, long) = (
+  told_from o (λ files. HoldsNet files image.net net) _
+      (λ files h. (
+        same,
+        inr (
+          refl,
+          record { net = net; holds_net = h; parts = parts; right = right; long = long },
+        ),
+      )) held,
+  inl refl,
+)
+too_long o image net name other same held h = absurd h
+
+-- ---- the image of right parts
+-- the part whose code stands at a place
+part_at : (parts : List Part) (k : ℕ) (c : List Instr) → slice_get (codes_in parts) k ≡ Some c
+    → (q : Part) × (slice_get parts k ≡ Some q) × (q.code ≡ c)
+part_at [] k c at = cc
+part_at (q ∷ qs) zero c at = let same : q.code ≡ c = cc in (q, refl, same)
+part_at (q ∷ qs) (suc k) c at = part_at qs k c at
+
+-- the code of right parts can be stored, where there is a machine and each has an input
+pub storable : (net : Network) (parts : List Part) → HasMachines net → AreRightParts net parts
+    → AreStorable net (codes_in parts)
+storable net parts has right = record {
+  some = has.some;
+  long = length-map parts (λ q. q.code) ∙ right.long;
+  inputs = has.inputs;
+  codes = λ k m c at_m at_c.
+      let q = part_at parts k c at_c in
+      let is = right.each k m q.0 at_m q.1 in
+      subst (IsCodeOf m.vars m.results) q.2 (record {
+        code = is.is_code;
+        tests = is.code_fits.tests;
+        sets = λ j result code at.
+            (is.code_fits.sets j result code at, is.code_fits.codes j result code at);
+      });
+}

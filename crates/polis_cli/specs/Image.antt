@@ -1,0 +1,70 @@
+-- What `image` makes.
+use Rattle.std.specs.Prelude.{◌≡◌, ◌⊎◌, ℕ, ◌<◌, ◌≤◌, true, List, [], ◌∷◌, length}
+use Rattle.polis_base.specs.declared.limits.TheConstants.{LONG_FILE_MAX}
+use Rattle.polis_base.specs.Host.{Files}
+use Rattle.transition_table.specs.declared.network.Network.{Network}
+use Rattle.task_code.specs.Listings.{Part}
+use Rattle.machine_compiler.specs.Parts.{AreRightParts, codes_in}
+use Rattle.task_image.specs.declared.image.ImageMachine.{ImageMachine}
+use Rattle.task_image.specs.Decoding.{AreBytesOf}
+use Rattle.task_image.specs.Fields.{ImageBytes}
+use Rattle.task_image.specs.Images.{image_of}
+use Rattle.polis_words.specs.declared.cause.Cause.{Cause}
+use Rattle.polis_words.specs.declared.cause.Cause.TheVariants.{ImageLong}
+use Rattle.polis_words.specs.Image.{ImageWords, image_name}
+use Rattle.polis_words.specs.Texts.{image_text}
+use Rattle.polis_cli.specs.declared.product.End.TheVariants as ends
+use Rattle.polis_cli.specs.declared.product.Product.{Product}
+use Rattle.polis_cli.specs.Inputs.{HoldsNet, AcceptsNet, NetFails}
+use Rattle.polis_cli.specs.Meanings.{Meaning, finds_nothing, ends_done_or_refused}
+
+-- the image of a network's machines: the name and sizes of each, with the code that it was compiled
+-- to
+abbrev pub image_of_parts : Network → List Part → List ImageMachine
+image_of_parts net parts = image_of net.machines (codes_in parts)
+
+-- the product saves the bytes, and shows how many these are
+abbrev pub image_product : ImageWords → List ℕ → Product
+image_product image bytes = record {
+  saves = record { name = image_name image; text = bytes } ∷ [];
+  shown = image_text (length bytes);
+  end = ends.Done;
+}
+
+-- The file holds a network that is accepted, each of its machines was compiled rightly, these are
+-- the bytes of their image, no more than a file may have, and the product is that of these.
+pub record MakesImage (image : ImageWords) (files : Files) (product : Product) : Type 0 where
+  pub net : Network
+  pub holds_net : HoldsNet files image.net net
+  pub parts : List Part
+  pub right : AreRightParts net parts
+  pub bytes : List ℕ
+  pub are_bytes : AreBytesOf (image_of_parts net parts) bytes
+  pub within : length bytes ≤ LONG_FILE_MAX
+  pub made : product ≡ image_product image bytes
+
+-- The file holds a network that is accepted, and the image of some right parts of it is longer than
+-- a file may be. Right parts aren't unique, so this is a fact of those that were made.
+pub record MayBeTooLong (image : ImageWords) (files : Files) : Type 0 where
+  pub net : Network
+  pub holds_net : HoldsNet files image.net net
+  pub parts : List Part
+  pub right : AreRightParts net parts
+  pub long : LONG_FILE_MAX < length (ImageBytes (image_of_parts net parts))
+
+-- why the file of an image fails: the network does, or its image is too long
+abbrev pub FailsImage : ImageWords → Files → List ℕ → Cause → Type 0
+FailsImage image files name cause = (name ≡ image.net)
+    × (NetFails files image.net cause ⊎ ((cause ≡ ImageLong) × MayBeTooLong image files))
+
+abbrev pub image_meaning : ImageWords → Meaning
+image_meaning image = record {
+  makes = MakesImage image;
+  accepts = AcceptsNet image.net;
+  finds = finds_nothing;
+  fails = FailsImage image;
+  may_refuse = MayBeTooLong image;
+  ends = ends_done_or_refused;
+  reads = true;
+  workers = 1;
+}

@@ -1,0 +1,89 @@
+// The command `image`: the code of a network's machines as the bytes of an image.
+ghost use Rattle.std.specs.Prelude.{◌≡◌, IfOk, IfErr};
+ghost use Rattle.transition_table.specs.Transitions.{AreDeterministic};
+ghost use Rattle.net_rules.specs.Whole.{HasMachines};
+ghost use Rattle.polis_cli.specs.Image.{image_meaning, image_product};
+ghost use Rattle.polis_cli.specs.inner.Accepted.{IfCause};
+ghost use Rattle.polis_cli.specs.inner.Image.{IsImageProduct, IsLongImage, IsNetImage};
+ghost use Rattle.polis_cli.specs.inner.Left.{LeftByLoads, fails_unread};
+ghost use Rattle.polis_cli.specs.inner.Made.{IsMade};
+
+use crate::accept::FileFault;
+use crate::load::load_net;
+use crate::product::{End, Product, Saving};
+use machine_compiler::{codes_of, compile_network};
+use polis_base::{Bytes, Host, List, NoMemory};
+use polis_words::{Cause, Failure, Image as Asked, print_image};
+use std::alloc::Global;
+use task_image::{EncodeError, Image, encode};
+use transition_table::Network;
+
+// The image of a network's machines, each compiled.
+fn image_of_net(alloc: Global, net: &Network) -> Result<Image, NoMemory>
+    requires deterministic { AreDeterministic net.now }
+    requires whole { HasMachines net.now }
+    ensures { IfOk result (IsNetImage net.now) }
+{
+    let compiled = compile_network(alloc, net)?;
+    let codes = codes_of(alloc, &compiled)?;
+    let image = Image::of(alloc, net, codes)?;
+    Ok(image)
+}
+
+// The product that saves the bytes of an image.
+fn product_of(alloc: Global, asked: &Asked<'_>, bytes: Bytes) -> Result<Product, NoMemory>
+    ensures { IfOk result (λ product. product ≡ image_product asked.now bytes) }
+{
+    let shown = print_image(alloc, bytes.as_slice().len() as u64)?;
+    let saving = Saving::new(alloc, asked.stem(), ".img", bytes)?;
+    let mut saves = List::new(alloc);
+    saves.push(saving)?;
+    Ok(Product {
+        saves,
+        shown,
+        end: End::Done,
+    })
+}
+
+// The product of the image of a network, or why there is none.
+fn product_of_net(alloc: Global, asked: &Asked<'_>, net: &Network) -> Result<Product, FileFault>
+    requires deterministic { AreDeterministic net.now }
+    requires whole { HasMachines net.now }
+    ensures made { IfOk result (IsImageProduct asked.now net.now) }
+    ensures failed { IfErr result (λ fault. IfCause fault (IsLongImage net.now)) }
+{
+    let image = match image_of_net(alloc, net) {
+        Ok(image) => image,
+        Err(NoMemory) => return Err(FileFault::NoMemory),
+    };
+    let bytes = match encode(alloc, &image) {
+        Ok(bytes) => bytes,
+        Err(EncodeError::TooLong) => return Err(FileFault::Cause(Cause::ImageLong)),
+        Err(EncodeError::NoMemory) => return Err(FileFault::NoMemory),
+    };
+    match product_of(alloc, asked, bytes) {
+        Ok(product) => Ok(product),
+        Err(NoMemory) => Err(FileFault::NoMemory),
+    }
+}
+
+/// What storing a network's code makes of the file.
+pub fn make_image<'a, H: Host>(
+    alloc: Global,
+    host: &mut H,
+    asked: &'a Asked<'_>,
+) -> Result<Product, Failure<'a>>
+    ensures made { IsMade (image_meaning asked.now) (H.files host.old) result }
+    ensures left { LeftByLoads ⟦<H as Host>⟧ (fails_unread result) host.old host.new }
+{
+    let name = asked.net();
+    let net = match load_net(alloc, host, name) {
+        Ok(net) => net,
+        Err(failure) => return Err(failure),
+    };
+    match product_of_net(alloc, asked, &net) {
+        Ok(product) => Ok(product),
+        Err(FileFault::Cause(cause)) => Err(Failure::File { name, cause }),
+        Err(FileFault::NoMemory) => Err(Failure::NoMemory),
+    }
+}

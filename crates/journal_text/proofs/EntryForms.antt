@@ -14,7 +14,8 @@ use Rattle.transition_table.specs.declared.snapshot.Outcome.{Outcome}
 use Rattle.journals.specs.declared.entry.Entry.{Entry}
 use Rattle.journals.specs.declared.entry.Entry.TheVariants.{Dep, Rea}
 use Rattle.journals.specs.Journals.{FitsNetwork, inputs_of, outputs_of, states_of}
-use Rattle.journal_text.specs.Texts.{spaced, event_item, event_items, state_items, set_items, machine_name, party_name, snapshot_text, result_text, entry_text}
+use Rattle.transition_table.specs.NetworkNames.{machine_name}
+use Rattle.journal_text.specs.Texts.{spaced, event_item, event_items, state_items, set_items, party_name, snapshot_text, result_text, entry_text}
 use Rattle.journal_text.specs.Forms.{Text, Texts, EntryForm, DepForm, FireForm, IdleForm, colon, semicolon, arrow}
 use Rattle.journal_text.specs.Holding.{values_hold, machine_holds, names_hold}
 use Rattle.journal_text.proofs.Pieces.{joined_by, joined_both, words_in, spaced_joined}

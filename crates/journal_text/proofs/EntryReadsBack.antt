@@ -25,10 +25,11 @@ use Rattle.transition_table.specs.declared.snapshot.Outcome.{Outcome}
 use Rattle.journals.specs.declared.entry.Entry.{Entry}
 use Rattle.journals.specs.declared.entry.Entry.TheVariants.{Dep, Rea}
 use Rattle.journals.specs.Journals.{FitsNetwork, is_party}
-use Rattle.journal_text.specs.Texts.{value_part, event_item, event_items, state_item, state_items, set_items, machine_name, party_name}
+use Rattle.transition_table.specs.NetworkNames.{event_name, joined, machine_name}
+use Rattle.journal_text.specs.Texts.{value_part, event_item, event_items, state_item, state_items, set_items, party_name}
 use Rattle.journal_text.specs.inner.Texts.{event_size, state_size, set_size}
 use Rattle.journal_text.specs.Forms.{Text, FireForm, IdleForm, is_word, is_word_byte}
-use Rattle.journal_text.specs.Items.{Named, event_name, as_event, as_state, joined, machine_named, event_named, party_named, name_part, some_codes, all_values, snapshot_read, result_read, fired, idled, entry_read}
+use Rattle.journal_text.specs.Items.{Named, as_event, as_state, machine_named, event_named, party_named, name_part, some_codes, all_values, snapshot_read, result_read, fired, idled, entry_read}
 use Rattle.journal_text.specs.Holding.{machine_holds}
 use Rattle.journal_text.proofs.IsSame.{and_true, texts_differ, all_pass}
 use Rattle.journal_text.proofs.FormWords.{good_lists, good_form, some_same}

@@ -14,7 +14,8 @@ use Rattle.journal_text.specs.declared.fault.JournalKind.{JournalKind}
 use Rattle.journal_text.specs.declared.fault.JournalKind.TheVariants.{Name}
 use Rattle.journal_text.specs.Texts.{value_part}
 use Rattle.journal_text.specs.Forms.{Text, Texts}
-use Rattle.journal_text.specs.Items.{Named, is_equals, name_part, value_part_of, has_name, word_code, item_code, joined, value_named, with_code, some_codes, all_values}
+use Rattle.transition_table.specs.NetworkNames.{joined}
+use Rattle.journal_text.specs.Items.{Named, is_equals, name_part, value_part_of, has_name, word_code, item_code, value_named, with_code, some_codes, all_values}
 use Rattle.journal_text.specs.Holding.{values_hold}
 use Rattle.journal_text.proofs.IsSame.{and_true, same_texts, is_same_self}
 use Rattle.journal_text.proofs.FormWords.{some_same}

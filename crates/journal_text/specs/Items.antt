@@ -1,10 +1,11 @@
 -- What the words of an entry's line name: items, codes and entries.
-use Rattle.std.specs.Prelude.{ℕ, ◌+◌, ◌-◌, cond, Bool, true, false, ◌==◌, List, [], ◌∷◌, ◌++◌, map, length, slice_get, Option, Some, None, option_map, unwrap_or, Result, Ok, Err, replicate, codes}
+use Rattle.std.specs.Prelude.{ℕ, ◌+◌, ◌-◌, cond, Bool, true, false, ◌==◌, List, [], ◌∷◌, ◌++◌, map, length, slice_get, Option, Some, None, option_map, Result, Ok, Err, replicate, codes}
 use Rattle.std.specs.List.{find}
 use Rattle.polis_base.specs.Lists.{upto}
 use Rattle.domains.specs.Names.{is_same}
 use Rattle.domains.specs.Domains.{size_of, word_of}
 use Rattle.domains.specs.declared.domain.Domain.{Domain}
+use Rattle.transition_table.specs.NetworkNames.{event_domain, event_name, joined, machine_name}
 use Rattle.transition_table.specs.declared.decl.Party.{Party}
 use Rattle.transition_table.specs.declared.decl.Party.TheVariants.{Env, Machine as Sender}
 use Rattle.transition_table.specs.declared.decl.StateDecl.{StateDecl}
@@ -12,7 +13,6 @@ use Rattle.transition_table.specs.declared.network.Network.{Network}
 use Rattle.journals.specs.declared.entry.Entry.{Entry}
 use Rattle.journals.specs.declared.entry.Entry.TheVariants.{Dep, Rea}
 use Rattle.journals.specs.Journals.{inputs_of, outputs_of, states_of}
-use Rattle.journal_text.specs.Texts.{machine_name}
 use Rattle.journal_text.specs.Forms.{Text, Texts, EntryForm, DepForm, FireForm, IdleForm}
 use Rattle.journal_text.specs.declared.fault.JournalKind.{JournalKind}
 use Rattle.journal_text.specs.declared.fault.JournalKind.TheVariants.{Name, Value}
@@ -31,10 +31,6 @@ abbrev pub value_part_of : Text → Option Text
 value_part_of [] = None
 value_part_of (c ∷ rest) = cond (is_equals c) (Some rest) (value_part_of rest)
 
--- an event's name, and nothing where there is no such event
-abbrev pub event_name : Network → ℕ → Text
-event_name net e = unwrap_or (option_map (λ event. event.name) (slice_get net.events e)) []
-
 -- the number of the machine, and of the event, of this name
 abbrev pub machine_named : Network → Text → Option ℕ
 machine_named net word = find (λ m. is_same (machine_name net m) word) (upto (length net.machines))
@@ -48,10 +44,6 @@ party_named net word =
     cond (is_same word (codes "env")) (Some Env)
     (option_map (λ m. Sender m) (machine_named net word))
 
-abbrev pub joined : {A : Type 0} → Option (Option A) → Option A
-joined None = None
-joined (Some found) = found
-
 -- the value of a domain that has this word
 abbrev pub value_named : Text → Domain → Option ℕ
 value_named word domain = find (λ v. is_same (word_of domain v) word) (upto (size_of domain))
@@ -60,9 +52,6 @@ value_named word domain = find (λ v. is_same (word_of domain v) word) (upto (si
 -- where it has one
 abbrev pub Named : Type 0
 Named = Text × Option ℕ
-
-abbrev pub event_domain : Network → ℕ → Option ℕ
-event_domain net e = joined (option_map (λ event. event.domain) (slice_get net.events e))
 
 abbrev pub as_event : Network → ℕ → Named
 as_event net e = (event_name net e, event_domain net e)

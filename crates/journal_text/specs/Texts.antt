@@ -4,6 +4,7 @@ use Rattle.std.specs.List.{list_all, zip}
 use Rattle.std.specs.Option.{option_map_or}
 use Rattle.polis_base.specs.Lines.{line}
 use Rattle.domains.specs.Domains.{word_of}
+use Rattle.transition_table.specs.NetworkNames.{machine_name}
 use Rattle.transition_table.specs.declared.decl.Party.{Party}
 use Rattle.transition_table.specs.declared.decl.Party.TheVariants.{Env, Machine as Sender}
 use Rattle.transition_table.specs.declared.decl.StateDecl.{StateDecl}
@@ -60,10 +61,6 @@ set_items net (variable ∷ variables) (suc v ∷ codes) =
     state_item net variable v ∷ set_items net variables codes
 set_items net [] codes = []
 set_items net (variable ∷ variables) [] = []
-
--- a machine's name, and nothing where there is no such machine
-abbrev pub machine_name : Network → ℕ → List ℕ
-machine_name net m = unwrap_or (option_map (λ machine. machine.name) (slice_get net.machines m)) []
 
 abbrev pub party_name : Network → Party → List ℕ
 party_name net Env = codes "env"

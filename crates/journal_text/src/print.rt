@@ -5,7 +5,8 @@ ghost use Rattle.transition_table.specs.NetworkFacts.{values_of, has_vars};
 ghost use Rattle.transition_table.specs.inner.NetworkFacts.{has_outputs};
 ghost use Rattle.transition_table.specs.Transitions.{IsSnapshot, IsOutcome};
 ghost use Rattle.journals.specs.Journals.{IsJournal, FitsNetwork, is_event_code, is_party, emitted, emissions};
-ghost use Rattle.journal_text.specs.Texts.{stamped_journal_text, stamped_line, stamp_text, AreStamps, output_text, count_text, entry_line, delivery_text, reaction_text, snapshot_text, result_text, event_item, event_items, state_item, state_items, set_items, spaced, value_part, machine_name, party_name};
+ghost use Rattle.transition_table.specs.NetworkNames.{machine_name};
+ghost use Rattle.journal_text.specs.Texts.{stamped_journal_text, stamped_line, stamp_text, AreStamps, output_text, count_text, entry_line, delivery_text, reaction_text, snapshot_text, result_text, event_item, event_items, state_item, state_items, set_items, spaced, value_part, party_name};
 ghost use Rattle.journal_text.specs.inner.Texts.{lead, end_mark, are_event_codes, are_values, are_settings, state_size, output_lines};
 
 use journals::{Entry, Journal, Stamps};

@@ -8,6 +8,7 @@ use Rattle.std.proofs.lemmas.List.{length-append}
 use Rattle.std.proofs.lemmas.List.Folds.{find-append, list_all-append}
 use Rattle.polis_base.specs.Lists.{upto}
 use Rattle.domains.specs.Names.{is_same}
+use Rattle.transition_table.specs.NetworkNames.{joined, event_domain}
 use Rattle.transition_table.specs.declared.decl.EventDecl.{EventDecl}
 use Rattle.transition_table.specs.declared.network.Network.{Network}
 use Rattle.journals.specs.declared.entry.TraceItem.TheVariants.{Settle}
@@ -23,7 +24,7 @@ use Rattle.net_gen.proofs.DeclarationRules.{draw_below}
 use Rattle.net_gen.proofs.Lines.{is_free, text_of, are_lines, lines_back, one_word, IsItem, all_read, zip_flat, all_flat, text_flat}
 use Rattle.net_gen.proofs.RingNames.{same_self, other_number}
 use Rattle.net_gen.proofs.NumberedNames.{each_below, one_digit, two_digits}
-use Rattle.journal_text.specs.Items.{joined, word_code, event_domain}
+use Rattle.journal_text.specs.Items.{word_code}
 
 -- ---- the lines
 

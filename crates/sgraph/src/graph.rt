@@ -29,6 +29,9 @@ impl Model for Graph {
     ghost invariant = { λ g. IsGraph g.vertices };
 }
 
+/// A graph for each machine of a network, in order.
+pub type GraphList = List<Graph>;
+
 impl Graph {
     /// These vertices as a graph.
     pub fn of(items: VertexList) -> Self

@@ -12,7 +12,7 @@ mod worked;
 
 pub use building::build;
 pub use evaluating::{evaluate, set_result};
-pub use graph::{Graph, VertexList};
+pub use graph::{Graph, GraphList, VertexList};
 pub use law::laws;
 pub use places::Places;
 pub use vertex::Vertex;

@@ -4,7 +4,8 @@ use Rattle.std.specs.Prelude.{unwrap_or}
 use Rattle.transition_table.specs.declared.machine.Machine.{Machine}
 use Rattle.transition_table.specs.declared.network.Network.{Network}
 use Rattle.transition_table.specs.declared.decl.StateDecl.{StateDecl}
-use Rattle.task_code.specs.Listings.{event_name, labels, label}
+use Rattle.transition_table.specs.NetworkNames.{event_name}
+use Rattle.task_code.specs.Listings.{labels, label}
 use Rattle.task_code.specs.inner.Labels.{result_label}
 use Rattle.domains.proofs.AllCodes.{long_map}
 use Rattle.transition_table.proofs.Ranges.{vars_length}

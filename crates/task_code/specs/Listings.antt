@@ -1,7 +1,8 @@
 -- Listings of compiled machines.
-use Rattle.std.specs.Prelude.{ℕ, suc, ◌+◌, List, [], ◌∷◌, ◌++◌, map, length, flat_map, slice_get, option_map, unwrap_or, codes, decimal}
+use Rattle.std.specs.Prelude.{ℕ, suc, ◌+◌, List, [], ◌∷◌, ◌++◌, map, length, flat_map, slice_get, unwrap_or, codes, decimal}
 use Rattle.std.specs.List.{join_by}
 use Rattle.polis_base.specs.Lines.{line}
+use Rattle.transition_table.specs.NetworkNames.{event_name}
 use Rattle.transition_table.specs.declared.machine.Machine.{Machine}
 use Rattle.transition_table.specs.declared.network.Network.{Network}
 use Rattle.sgraph.specs.declared.vertex.Vertex.{Vertex}
@@ -21,9 +22,6 @@ pub record Part : Type 0 where
 -- numbers in decimal, each after a space
 abbrev pub numbers : List ℕ → List ℕ
 numbers ns = flat_map (λ n. 32 ∷ decimal n) ns
-
-abbrev pub event_name : Network → ℕ → List ℕ
-event_name net e = unwrap_or (option_map (λ event. event.name) (slice_get net.events e)) []
 
 -- the words for the variables and then for the results
 abbrev pub labels : Network → Machine → List (List ℕ)

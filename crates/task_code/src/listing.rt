@@ -3,7 +3,8 @@ ghost use Rattle.std.specs.Prelude.{◌≡◌, ◌+◌, ◌<◌, ◌++◌, ◌�
 ghost use Rattle.std.specs.List.{join_by};
 ghost use Rattle.polis_base.specs.Lines.{line};
 ghost use Rattle.transition_table.specs.Transitions.{OfMachine};
-ghost use Rattle.task_code.specs.Listings.{numbers, event_name, label, vertex_words, instr_words, numbered_lines, part_text};
+ghost use Rattle.transition_table.specs.NetworkNames.{event_name};
+ghost use Rattle.task_code.specs.Listings.{numbers, label, vertex_words, instr_words, numbered_lines, part_text};
 ghost use Rattle.task_code.specs.Labels.{part_of};
 ghost use Rattle.task_code.specs.inner.Labels.{AreLabels, result_label, others, head_text, diagram_text, count_text};
 

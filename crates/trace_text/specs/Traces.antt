@@ -3,6 +3,7 @@ use Rattle.std.specs.Prelude.{ℕ, cond, Bool, false, ◌&&◌, nat_lt, List, []
 use Rattle.std.specs.List.{find, enumerate_from}
 use Rattle.polis_base.specs.Lists.{upto}
 use Rattle.domains.specs.Names.{is_same}
+use Rattle.transition_table.specs.NetworkNames.{event_domain}
 use Rattle.transition_table.specs.declared.decl.Party.TheVariants.{Env}
 use Rattle.transition_table.specs.declared.decl.EventDecl.{EventDecl}
 use Rattle.transition_table.specs.declared.network.Network.{Network}
@@ -14,7 +15,7 @@ use Rattle.trace_text.specs.declared.fault.TraceKind.{TraceKind}
 use Rattle.trace_text.specs.declared.fault.TraceKind.TheVariants.{Shape, Event, Value, Many}
 use Rattle.trace_text.specs.declared.fault.TraceFault.{TraceFault}
 use Rattle.trace_text.specs.declared.fault.TraceFault.TheVariants.{Line}
-use Rattle.journal_text.specs.Items.{word_code, event_domain}
+use Rattle.journal_text.specs.Items.{word_code}
 
 -- the environment sends an event of this name
 abbrev pub is_sent : List ℕ → EventDecl → Bool

@@ -1,5 +1,6 @@
 use Rattle.std.proofs.Common.{◌≡◌, arith, codes}
-use Rattle.task_code.specs.Listings.{event_name, label}
+use Rattle.transition_table.specs.NetworkNames.{event_name}
+use Rattle.task_code.specs.Listings.{label}
 use Rattle.task_code.proofs.Labels.{input_words, state_words, two_texts}
 use Rattle.task_code.proofs.listing.push_label.Goals as goal
 

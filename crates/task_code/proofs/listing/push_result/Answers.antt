@@ -1,5 +1,5 @@
 use Rattle.std.proofs.Common.{◌≡◌, arith, codes}
-use Rattle.task_code.specs.Listings.{event_name}
+use Rattle.transition_table.specs.NetworkNames.{event_name}
 use Rattle.task_code.specs.inner.Labels.{result_label}
 use Rattle.task_code.proofs.Labels.{go_words, to_words, out_words, no_words, two_texts, no_text}
 use Rattle.task_code.proofs.listing.push_result.Goals as goal

@@ -58,8 +58,8 @@ fn first_stamps(alloc: Global, s: &Stamps, count: u64) -> Result<Stamps, NoMemor
     Ok(first)
 }
 
-// The first entries, so many.
-fn first_entries(alloc: Global, j: &Journal, count: u64) -> Result<Journal, NoMemory>
+/// The first entries, so many.
+pub(crate) fn first_entries(alloc: Global, j: &Journal, count: u64) -> Result<Journal, NoMemory>
     requires { count ≤ length j.now }
     ensures { IfOk result (λ first. first ≡ take count j.now) }
 {

@@ -15,7 +15,8 @@ use Rattle.transition_table.specs.NetworkFacts.{are_different}
 use Rattle.transition_table.specs.inner.NetworkFacts.{is_numbered, lists_once}
 use Rattle.journal_text.specs.Holding.{names_hold, has_name_token, state_has_name, machine_holds, values_hold}
 use Rattle.task_code.proofs.Labels.{ins, sts, tos, outs}
-use Rattle.task_code.specs.Listings.{event_name, labels, label}
+use Rattle.transition_table.specs.NetworkNames.{event_name}
+use Rattle.task_code.specs.Listings.{labels, label}
 use Rattle.machine_compiler.proofs.DistinctItems.{Apart, at_place, apart_mapped, distinct_apart, different_apart}
 use Rattle.machine_compiler.proofs.CutAtByte.{lacks}
 use Rattle.machine_compiler.proofs.IsLabel.{IsLabel, Each, each_both, each_mapped, Five, five_apart, first, name_lacks}

@@ -8,5 +8,7 @@ pub mod Samples
 pub mod HasPlaces
 pub mod AreTallies
 pub mod AreTexts
+pub mod AreGraphs
+pub mod PartsSoFar
 pub mod DistinctLabels
 pub mod Pairwise

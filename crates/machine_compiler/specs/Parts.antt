@@ -33,6 +33,10 @@ parts_of compiled = map part_of_compiled compiled
 abbrev pub codes_in : List Part → List (List Instr)
 codes_in parts = map (λ q. q.code) parts
 
+-- the graphs of parts
+abbrev pub graphs_in : List Part → List (List Vertex)
+graphs_in parts = map (λ q. q.graph) parts
+
 -- the codes that are assigned are bytes
 abbrev pub AssignsBytes : List Vertex → Type 0
 AssignsBytes g =

@@ -4,6 +4,7 @@
 
 mod compiled;
 mod compiling;
+mod kept;
 mod law;
 mod lines;
 mod listing;
@@ -13,6 +14,7 @@ mod texts;
 
 pub use compiled::{Compiled, CompiledList, codes_of};
 pub use compiling::{compile_machine, compile_network};
+pub use kept::{Graphs, compile_codes, compile_graphs};
 pub use law::laws;
 pub use lines::{print_code_tries, print_tries};
 pub use listing::print_listing;

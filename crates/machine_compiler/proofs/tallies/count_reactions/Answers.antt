@@ -1,7 +1,7 @@
 use Rattle.std.proofs.Common.{take, List, subst, sym}
 use Rattle.journals.specs.declared.entry.Entry.{Entry}
 use Rattle.machine_compiler.specs.inner.Tallies.{AreTallies}
-use Rattle.machine_compiler.proofs.AreTallies.{journal_at, journal_first, first_more, tallies_few, few_first}
+use Rattle.machine_compiler.proofs.AreTallies.{journal_at, first_more, tallies_few, few_first}
 use Rattle.machine_compiler.proofs.tallies.count_reactions.Goals as goal
 
 pub loop-i-init : goal.loop-i-init

@@ -1,0 +1,5 @@
+pub mod Accounts
+pub mod AccountLines
+pub mod Laws
+pub mod Samples
+pub mod inner

@@ -1,0 +1,5 @@
+pub mod Numbered
+pub mod NetworkText
+pub mod WordsFrom
+pub mod IsNext
+pub mod SampleDrawings

@@ -1,0 +1,43 @@
+-- One more text of a row.
+use Rattle.std.proofs.Common.{◌≡◌, ℕ, suc, ◌+◌, List, ◌∷◌, ◌++◌, drop, slice_get, Some, ap, sym, ◌∙◌, arith, append_assoc}
+use Rattle.std.proofs.Math.Seq.{drop-cons}
+use Rattle.std.proofs.lemmas.Option.{get_or_from_slice_get, slice_get_within}
+use Rattle.transition_table.specs.declared.machine.Machine.{Machine}
+use Rattle.transition_table.specs.declared.network.Network.{Network}
+use Rattle.sgraph.specs.declared.vertex.Vertex.{Vertex}
+use Rattle.graph_drawing.specs.Words.{numbered}
+use Rattle.graph_drawing.specs.Drawings.{graph_text, graphs_text}
+
+pub drop_one : {X : Type 0} (xs : List X) (k : ℕ) (x : X) → slice_get xs k ≡ Some x
+    → drop k xs ≡ x ∷ drop (suc k) xs
+drop_one {X = X} xs k x e =
+    drop-cons xs k x (slice_get_within xs k x e)
+    ∙ ap (λ (y : X). y ∷ drop (suc k) xs) (get_or_from_slice_get xs k x x e)
+
+pub more_numbered : {X : Type 0} (text : ℕ → X → List ℕ) (xs : List X) (k : ℕ) (x : X)
+    (out new whole : List ℕ) → out ++ numbered text k (drop k xs) ≡ whole
+    → slice_get xs k ≡ Some x → new ≡ out ++ text k x
+    → new ++ numbered text (k + 1) (drop (k + 1) xs) ≡ whole
+more_numbered {X = X} text xs k x out new whole is is_x e =
+    let f : k + 1 ≡ suc k = omega arith in
+    ap (λ (n : ℕ). new ++ numbered text n (drop n xs)) f
+    ∙ ap (λ (ys : List ℕ). ys ++ numbered text (suc k) (drop (suc k) xs)) e
+    ∙ append_assoc out (text k x) (numbered text (suc k) (drop (suc k) xs))
+    ∙ ap (λ (ys : List X). out ++ numbered text k ys) (sym (drop_one xs k x is_x))
+    ∙ is
+
+pub more_graphs : (net : Network) (ms : List Machine) (gs : List (List Vertex)) (k : ℕ)
+    (m : Machine) (g : List Vertex) (out new whole : List ℕ)
+    → out ++ graphs_text net (drop k ms) (drop k gs) ≡ whole
+    → slice_get ms k ≡ Some m → slice_get gs k ≡ Some g → new ≡ out ++ graph_text net m g
+    → new ++ graphs_text net (drop (k + 1) ms) (drop (k + 1) gs) ≡ whole
+more_graphs net ms gs k m g out new whole is is_m is_g e =
+    let f : k + 1 ≡ suc k = omega arith in
+    ap (λ (n : ℕ). new ++ graphs_text net (drop n ms) (drop n gs)) f
+    ∙ ap (λ (ys : List ℕ). ys ++ graphs_text net (drop (suc k) ms) (drop (suc k) gs)) e
+    ∙ append_assoc out (graph_text net m g) (graphs_text net (drop (suc k) ms) (drop (suc k) gs))
+    ∙ ap (λ (xs : List Machine). out ++ graphs_text net xs (g ∷ drop (suc k) gs))
+    (sym (drop_one ms k m is_m))
+    ∙ ap (λ (xs : List (List Vertex)). out ++ graphs_text net (drop k ms) xs)
+    (sym (drop_one gs k g is_g))
+    ∙ is

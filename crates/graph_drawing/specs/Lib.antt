@@ -1,0 +1,5 @@
+pub mod Words
+pub mod Drawings
+pub mod Worked
+pub mod samples
+pub mod inner

@@ -1,0 +1,11 @@
+pub mod TextChains
+pub mod MachineSignals
+pub mod Played
+pub mod ChangeSteps
+pub mod CodesEmitted
+pub mod Changed
+pub mod EntryChanges
+pub mod HasCode
+pub mod IsWritable
+pub mod MomentSteps
+pub mod HeadText

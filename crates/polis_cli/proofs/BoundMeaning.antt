@@ -1,33 +1,25 @@
 -- What `bound` means.
-use Rattle.std.proofs.Common.{inl, ◌≡◌, ℕ, List, [], Option, refl}
+use Rattle.std.proofs.Common.{◌≡◌, ℕ, List, [], Option, refl}
 use Rattle.polis_base.specs.Host.{Files, WhereTold}
 use Rattle.transition_table.specs.declared.network.Network.{Network}
 use Rattle.cost_bound.specs.declared.costs.Costs.{Costs}
 use Rattle.polis_words.specs.Bound.{BoundWords}
 use Rattle.polis_cli.specs.declared.product.End.TheVariants as ends
-use Rattle.polis_cli.specs.Bound.{AreCosts, bound_product, bound_meaning}
+use Rattle.polis_cli.specs.Bound.{MakesBound, AreCosts, bound_product, bound_meaning}
 use Rattle.polis_cli.specs.Inputs.{HoldsNet}
 use Rattle.polis_cli.specs.Ranges.{ranges_text}
 use Rattle.polis_cli.specs.Saves.{Save}
 use Rattle.polis_cli.specs.inner.Bound.{ShowsRanges}
+use Rattle.polis_cli.specs.Meanings.{explains_nothing}
 use Rattle.polis_cli.specs.inner.Lawful.{IsLawful}
 use Rattle.polis_cli.specs.inner.Made.{IsMadeProduct}
 use Rattle.polis_cli.proofs.WhereTold.{told_from}
-use Rattle.polis_cli.proofs.InputsFail.{net_refused, net_unfound}
+use Rattle.polis_cli.proofs.NetMeaning.{net_lawful}
 use Rattle.polis_cli.proofs.IsMade.{product_made, product_is}
 
 pub bound_lawful : (bound : BoundWords) → IsLawful (bound_meaning bound)
-bound_lawful bound = record {
-  made_accepts = λ files product m. (m.net, m.holds_net);
-  made_finds = λ files product status m found. found;
-  refused = λ files name cause h s. inl (λ all. net_refused files bound.net cause all.0 s h.1 all.1);
-  found = λ files name cause h f. absurd (net_unfound files bound.net cause f h.1);
-  found_accepts = λ files status h. absurd h;
-  found_ends = λ files status h. absurd h;
-  refuse_finds = λ files status h. absurd h;
-  refuse_ends = λ files h. absurd h;
-  found_once = λ files s t h k. absurd h;
-}
+bound_lawful bound =
+    net_lawful bound.net (MakesBound bound) explains_nothing (λ files product m. (m.net, m.holds_net))
 
 -- the product of the ranges of a network's machines
 pub bound_made : (o : Option Files) (bound : BoundWords) (net : Network) (costs : Costs)

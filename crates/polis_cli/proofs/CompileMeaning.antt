@@ -1,37 +1,29 @@
 -- What `compile` means.
-use Rattle.std.proofs.Common.{inl, ◌≡◌, ℕ, List, [], ◌∷◌, ◌++◌, Option, refl, ◌∙◌, codes}
+use Rattle.std.proofs.Common.{◌≡◌, ℕ, List, [], ◌∷◌, ◌++◌, Option, refl, ◌∙◌, codes}
 use Rattle.polis_base.specs.Host.{Files, WhereTold}
 use Rattle.transition_table.specs.declared.network.Network.{Network}
 use Rattle.task_code.specs.Listings.{Part, ListingText}
-use Rattle.polis_words.specs.Compile.{CompileWords}
+use Rattle.polis_words.specs.NetStem.{NetStemWords}
 use Rattle.polis_cli.specs.declared.product.End.TheVariants as ends
 use Rattle.polis_cli.specs.declared.product.Product.{Product}
-use Rattle.polis_cli.specs.Compile.{compile_product, compile_meaning}
+use Rattle.polis_cli.specs.Compile.{MakesCompile, compile_product, compile_meaning}
 use Rattle.polis_cli.specs.Inputs.{HoldsNet}
 use Rattle.polis_cli.specs.Saves.{Save}
 use Rattle.polis_cli.specs.inner.Compile.{IsCompileProduct}
+use Rattle.polis_cli.specs.Meanings.{explains_nothing}
 use Rattle.polis_cli.specs.inner.Lawful.{IsLawful}
 use Rattle.polis_cli.specs.inner.Made.{IsMadeProduct}
 use Rattle.polis_cli.proofs.WhereTold.{told_from}
-use Rattle.polis_cli.proofs.InputsFail.{net_refused, net_unfound}
+use Rattle.polis_cli.proofs.NetMeaning.{net_lawful}
 use Rattle.polis_cli.proofs.IsMade.{product_made}
 use Rattle.polis_cli.proofs.Saves.{one_save}
 
-pub compile_lawful : (compile : CompileWords) → IsLawful (compile_meaning compile)
-compile_lawful compile = record {
-  made_accepts = λ files product m. (m.net, m.holds_net);
-  made_finds = λ files product status m found. found;
-  refused = λ files name cause h s. inl (λ all. net_refused files compile.net cause all.0 s h.1 all.1);
-  found = λ files name cause h f. absurd (net_unfound files compile.net cause f h.1);
-  found_accepts = λ files status h. absurd h;
-  found_ends = λ files status h. absurd h;
-  refuse_finds = λ files status h. absurd h;
-  refuse_ends = λ files h. absurd h;
-  found_once = λ files s t h k. absurd h;
-}
+pub compile_lawful : (compile : NetStemWords) → IsLawful (compile_meaning compile)
+compile_lawful compile =
+    net_lawful compile.net (MakesCompile compile) explains_nothing (λ files product m. (m.net, m.holds_net))
 
 -- the product of a compilation
-pub compile_made : (o : Option Files) (compile : CompileWords) (net : Network) (product : Product)
+pub compile_made : (o : Option Files) (compile : NetStemWords) (net : Network) (product : Product)
     → WhereTold o (λ files. HoldsNet files compile.net net)
     → IsCompileProduct compile net product → IsMadeProduct (compile_meaning compile) o product
 compile_made o compile net product held (parts, right, made) =
@@ -42,7 +34,7 @@ compile_made o compile net product held (parts, right, made) =
     held)
 
 -- the parts of a compilation's product
-pub compile_is : (compile : CompileWords) (net : Network) (parts : List Part) (none all : List Save)
+pub compile_is : (compile : NetStemWords) (net : Network) (parts : List Part) (none all : List Save)
     (saving : Save) (stem text shown : List ℕ) → none ≡ [] → all ≡ none ++ saving ∷ []
     → saving ≡ record { name = stem ++ codes ".lst"; text = text } → stem ≡ compile.stem
     → text ≡ ListingText net parts → shown ≡ (compile_product compile net parts).shown

@@ -1,5 +1,5 @@
 -- What `equiv` means.
-use Rattle.std.proofs.Common.{◌≡◌, ◌⊎◌, inl, inr, ℕ, true, List, Option, Some, None, refl, ap, sym, subst, ◌∙◌, IsTrue}
+use Rattle.std.proofs.Common.{◌≡◌, ◌⊎◌, inl, inr, ℕ, true, List, [], Option, Some, None, refl, ap, sym, subst, ◌∙◌, IsTrue}
 use Rattle.polis_base.specs.Host.{Files, WhereTold}
 use Rattle.transition_table.specs.declared.network.Network.{Network}
 use Rattle.machine_equiv.specs.Comparing.{SameTables}
@@ -22,7 +22,7 @@ use Rattle.polis_cli.specs.inner.Lawful.{IsLawful}
 use Rattle.polis_cli.specs.inner.Made.{IsMadeProduct, IsMadeFailure, FileFails}
 use Rattle.polis_cli.proofs.WhereTold.{told_from, told_both}
 use Rattle.polis_cli.proofs.InputsFail.{net_refused, net_unfound}
-use Rattle.polis_cli.proofs.IsMade.{product_made}
+use Rattle.polis_cli.proofs.IsMade.{product_made, none_told}
 
 -- ---- where a file fails
 -- networks that are found not to be of one shape aren't
@@ -157,9 +157,10 @@ pub first_fails : (o : Option Files) (equiv : EquivWords) (failure : Failure)
     → FileFails equiv.net o (λ files. NetFails files equiv.net) failure
     → IsMadeFailure (equiv_meaning equiv) o failure
 first_fails o equiv failures.NoMemory h = tt
-first_fails o equiv (failures.File name cause) h = (
+first_fails o equiv (failures.File name cause more) (h, none) = (
   told_from o (λ files. NetFails files equiv.net cause) _ (λ files k. inl (h.0, k)) h.1,
   inr h.2,
+  none_told (equiv_meaning equiv) o name.now cause more (λ told name cause. refl) none,
 )
 
 -- the first network is the one that its file holds
@@ -188,12 +189,13 @@ pub second_fails : (o : Option Files) (equiv : EquivWords) (net : Network) (fail
     → FileFails equiv.other o (λ files. NetFails files equiv.other) failure
     → IsMadeFailure (equiv_meaning equiv) o failure
 second_fails o equiv net failures.NoMemory held one h = tt
-second_fails o equiv net (failures.File name cause) held one h = (
+second_fails o equiv net (failures.File name cause more) held one (h, none) = (
   other_told o equiv net name.now cause h.0
       (told_both o (λ files. HoldsNet files equiv.net net) (λ files. (other : Network)
       → HoldsNet files equiv.net other → other ≡ net) _ (λ files a b. (a, b)) held one)
       (told_from o (λ files. NetFails files equiv.other cause) _ (λ files k. inl k) h.1),
   inr h.2,
+  none_told (equiv_meaning equiv) o name.now cause more (λ told name cause. refl) none,
 )
 
 -- the statuses of what two networks are found to be
@@ -205,16 +207,17 @@ fault_ends net other cause h = absurd h
 
 -- the second one isn't the same as the first
 pub pair_fails : (o : Option Files) (equiv : EquivWords) (net other : Network) (name : List ℕ)
-    (cause : Cause) → name ≡ equiv.other
+    (cause : Cause) (more : List ℕ) → name ≡ equiv.other
     → WhereTold o (λ files. HoldsNet files equiv.net net)
     → WhereTold o (λ files. (another : Network) → HoldsNet files equiv.net another → another ≡ net)
     → WhereTold o (λ files. HoldsNet files equiv.other other)
     → WhereTold o (λ files. (another : Network) → HoldsNet files equiv.other another
     → another ≡ other)
-    → IsEquivFault net other cause
+    → IsEquivFault net other cause → more ≡ []
     → WhereTold o (λ files. FailsEquiv equiv files name cause)
     × MayEnd (equiv_meaning equiv) (cause_status cause)
-pair_fails o equiv net other name cause same held one held_other one_other fault = (
+    × (equiv_meaning equiv).explains o name cause more
+pair_fails o equiv net other name cause more same held one held_other one_other fault none = (
   other_told o equiv net name cause same
       (told_both o (λ files. HoldsNet files equiv.net net) (λ files. (another : Network)
       → HoldsNet files equiv.net another → another ≡ net) _ (λ files a b. (a, b)) held one)
@@ -227,4 +230,5 @@ pair_fails o equiv net other name cause same held one held_other one_other fault
             subst (λ (n : Network). IsEquivFault net n cause) (sym (k another there)) fault,
       )) held_other one_other),
   fault_ends net other cause fault,
+  none_told (equiv_meaning equiv) o name cause more (λ told name cause. refl) none,
 )

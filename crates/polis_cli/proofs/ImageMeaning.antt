@@ -13,7 +13,7 @@ use Rattle.polis_words.specs.declared.cause.Cause.TheVariants.{ImageLong}
 use Rattle.polis_words.specs.declared.cause.Failure.{Failure}
 use Rattle.polis_words.specs.declared.cause.Failure.TheVariants as failures
 use Rattle.polis_words.specs.declared.status.Status.TheVariants.{Refused}
-use Rattle.polis_words.specs.Image.{ImageWords}
+use Rattle.polis_words.specs.NetStem.{NetStemWords}
 use Rattle.polis_words.specs.Lines.{cause_status}
 use Rattle.polis_words.specs.Texts.{image_text}
 use Rattle.polis_cli.specs.declared.product.End.TheVariants as ends
@@ -27,24 +27,24 @@ use Rattle.polis_cli.specs.inner.Lawful.{IsLawful}
 use Rattle.polis_cli.specs.inner.Made.{IsMadeProduct, IsMadeFailure, FileFails}
 use Rattle.polis_cli.proofs.WhereTold.{told_from}
 use Rattle.polis_cli.proofs.InputsFail.{net_refused, net_unfound}
-use Rattle.polis_cli.proofs.IsMade.{product_made}
+use Rattle.polis_cli.proofs.IsMade.{product_made, none_told}
 use Rattle.polis_cli.proofs.Saves.{one_save}
 
-image_refused : (image : ImageWords) (files : Files) (name : List ℕ) (cause : Cause)
+image_refused : (image : NetStemWords) (files : Files) (name : List ℕ) (cause : Cause)
     → FailsImage image files name cause → cause_status cause ≡ Refused
     → (¬ AcceptsNet image.net files) ⊎ MayBeTooLong image files
 image_refused image files name cause (same, inl h) s =
     inl (λ all. net_refused files image.net cause all.0 s h all.1)
 image_refused image files name cause (same, inr h) s = inr h.1
 
-image_unfound : (image : ImageWords) (files : Files) (name : List ℕ) (cause : Cause)
+image_unfound : (image : NetStemWords) (files : Files) (name : List ℕ) (cause : Cause)
     → IsTrue (is_finding (cause_status cause)) → ¬ FailsImage image files name cause
 image_unfound image files name cause f (same, inl h) = net_unfound files image.net cause f h
 image_unfound image files name cause f (same, inr h) =
     let e = ap (λ (c : Cause). is_finding (cause_status c)) h.0 in
     let k = sym f ∙ e in cc
 
-pub image_lawful : (image : ImageWords) → IsLawful (image_meaning image)
+pub image_lawful : (image : NetStemWords) → IsLawful (image_meaning image)
 image_lawful image = record {
   made_accepts = λ files product m. (m.net, m.holds_net);
   made_finds = λ files product status m found. found;
@@ -58,7 +58,7 @@ image_lawful image = record {
 }
 
 -- the product of an image
-pub image_made : (o : Option Files) (image : ImageWords) (net : Network) (product : Product)
+pub image_made : (o : Option Files) (image : NetStemWords) (net : Network) (product : Product)
     → WhereTold o (λ files. HoldsNet files image.net net) → IsImageProduct image net product
     → IsMadeProduct (image_meaning image) o product
 image_made o image net product held p =
@@ -77,7 +77,7 @@ image_made o image net product held p =
     }) held)
 
 -- the parts of an image's product
-pub image_is : (image : ImageWords) (none all : List Save) (saving : Save)
+pub image_is : (image : NetStemWords) (none all : List Save) (saving : Save)
     (stem bytes shown : List ℕ) → none ≡ [] → all ≡ none ++ saving ∷ []
     → saving ≡ record { name = stem ++ codes ".img"; text = bytes } → stem ≡ image.stem
     → shown ≡ image_text (length bytes)
@@ -89,23 +89,25 @@ image_is image none all saving stem bytes shown n e s st sh =
     λ i. record { saves = saves i; shown = sh i; end = ends.Done }
 
 -- the network isn't loaded, or isn't accepted
-pub net_fails : (o : Option Files) (image : ImageWords) (failure : Failure)
+pub net_fails : (o : Option Files) (image : NetStemWords) (failure : Failure)
     → FileFails image.net o (λ files. NetFails files image.net) failure
     → IsMadeFailure (image_meaning image) o failure
 net_fails o image failures.NoMemory h = tt
-net_fails o image (failures.File name cause) h = (
+net_fails o image (failures.File name cause more) (h, none) = (
   told_from o (λ files. NetFails files image.net cause) _ (λ files k. (h.0, inl k)) h.1,
   inr h.2,
+  none_told (image_meaning image) o name.now cause more (λ told name cause. refl) none,
 )
 
 -- the image is too long
-pub too_long : (o : Option Files) (image : ImageWords) (net : Network) (name : List ℕ)
-    (cause : Cause) → name ≡ image.net → WhereTold o (λ files. HoldsNet files image.net net)
-    → IsLongImage net cause
+pub too_long : (o : Option Files) (image : NetStemWords) (net : Network) (name : List ℕ)
+    (cause : Cause) (more : List ℕ) → name ≡ image.net
+    → WhereTold o (λ files. HoldsNet files image.net net) → IsLongImage net cause → more ≡ []
     → WhereTold o (λ files. FailsImage image files name cause)
     × (IsTrue ((image_meaning image).ends (cause_status cause))
     ⊎ IsTrue (is_failure true (cause_status cause)))
-too_long o image net name ImageLong same held (parts, right, long) = (
+    × (image_meaning image).explains o name cause more
+too_long o image net name ImageLong more same held (parts, right, long) none = (
   told_from o (λ files. HoldsNet files image.net net) _
       (λ files h. (
         same,
@@ -115,8 +117,9 @@ too_long o image net name ImageLong same held (parts, right, long) = (
         ),
       )) held,
   inl refl,
+  none_told (image_meaning image) o name ImageLong more (λ told name cause. refl) none,
 )
-too_long o image net name other same held h = absurd h
+too_long o image net name other more same held h none = absurd h
 
 -- ---- the image of right parts
 -- the part whose code stands at a place

@@ -53,12 +53,11 @@ text_refused text net (Lex kind place) s h a =
 text_refused text net (Syntax place) s h a = no_break text a.0.0 place a.0.1 h
 text_refused text net (Rule rule place) s h a = let none = a.0.2.0 in
     let some = h.2 a.0.0 a.0.1 in cc
-text_refused text net (Conflict printed) s h a =
+text_refused text net (Conflict rows) s h a =
     let first = h.2 net a.0 in
     let found = first.conflict.conflict.conflict in
-    found.differ (a.1 first.place first.machine first.there first.conflict.row_a
-    first.conflict.row_b first.conflict.snapshot found.order found.snapshot found.first
-    found.second)
+    found.differ (a.1 rows.machine first.machine first.there rows.row_a rows.row_b
+    first.conflict.read found.order found.snapshot found.first found.second)
 text_refused text net other s h a = absurd h
 
 -- a network text that fails isn't accepted
@@ -113,7 +112,7 @@ text_unfound : (text : List ℕ) (cause : Cause) → IsTrue (is_finding (cause_s
 text_unfound text (Lex kind place) s h = cc
 text_unfound text (Syntax place) s h = cc
 text_unfound text (Rule rule place) s h = cc
-text_unfound text (Conflict printed) s h = cc
+text_unfound text (Conflict rows) s h = cc
 text_unfound text other s h = absurd h
 
 pub net_unfound : (files : Files) (name : List ℕ) (cause : Cause)
@@ -145,13 +144,13 @@ pub net_failed : (o : Option Files) (net_name trace_name : List ℕ) (failure : 
     → FileFails net_name o (λ files. NetFails files net_name) failure
     → FilesFail o (λ files. InputsFail files net_name trace_name) failure
 net_failed o net_name trace_name failures.NoMemory h = tt
-net_failed o net_name trace_name (failures.File name cause) h = (
-  told_from o (λ files. NetFails files net_name cause) _ (λ files k. inl (h.0, k)) h.1,
-  h.2,
+net_failed o net_name trace_name (failures.File name cause more) (h, none) = (
+  (told_from o (λ files. NetFails files net_name cause) _ (λ files k. inl (h.0, k)) h.1, h.2),
+  none,
 )
 
 -- the trace fails, the network being accepted
-trace_fails : (o : Option Files) (net_name trace_name name : List ℕ) (net : Network)
+pub trace_fails : (o : Option Files) (net_name trace_name name : List ℕ) (net : Network)
     (cause : Cause) → name ≡ trace_name
     → WhereTold o (λ files. HoldsNet files net_name net)
     → WhereTold o (λ files. (other : Network) → HoldsNet files net_name other → other ≡ net)
@@ -177,5 +176,5 @@ pub trace_failed : (o : Option Files) (net_name trace_name : List ℕ) (net : Ne
     → FileFails trace_name o (λ files. TraceFails files net trace_name) failure
     → FilesFail o (λ files. InputsFail files net_name trace_name) failure
 trace_failed o net_name trace_name net failures.NoMemory held one h = tt
-trace_failed o net_name trace_name net (failures.File name cause) held one h =
-    (trace_fails o net_name trace_name name.now net cause h.0 held one h.1, h.2)
+trace_failed o net_name trace_name net (failures.File name cause more) held one (h, none) =
+    ((trace_fails o net_name trace_name name.now net cause h.0 held one h.1, h.2), none)

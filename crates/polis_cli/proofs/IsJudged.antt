@@ -143,10 +143,13 @@ pub inputs_failed : (o : Option Files) (replay : ReplayWords) (failure : Failure
     → FilesFail o (λ files. InputsFail files replay.net replay.trace) failure
     → JudgingFails o (FailsReplay replay) failure
 inputs_failed o replay failures.NoMemory h = tt
-inputs_failed o replay (failures.File name cause) h = (
-  told_from o (λ files. InputsFail files replay.net replay.trace name.now cause) _
-      (λ files k. inl k) h.0,
-  inl h.1,
+inputs_failed o replay (failures.File name cause more) (h, none) = (
+  (
+    told_from o (λ files. InputsFail files replay.net replay.trace name.now cause) _
+        (λ files k. inl k) h.0,
+    inl h.1,
+  ),
+  none,
 )
 
 -- a journal that fails
@@ -157,5 +160,5 @@ pub journal_failed : (o : Option Files) (replay : ReplayWords) (net : Network)
     → JournalFails files net items replay.journal cause) failure
     → JudgingFails o (FailsReplay replay) failure
 journal_failed o replay net trace failures.NoMemory held one h = tt
-journal_failed o replay net trace (failures.File name cause) held one h =
-    (journal_fails o replay net trace name.now cause h.0 held one h.1, inl h.2)
+journal_failed o replay net trace (failures.File name cause more) held one (h, none) =
+    ((journal_fails o replay net trace name.now cause h.0 held one h.1, inl h.2), none)

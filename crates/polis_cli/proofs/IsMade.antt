@@ -41,75 +41,95 @@ pub file_fails : (name : List ℕ) (o : Option Files) (P Q : Files → Cause →
     (failure : Failure) → ((files : Files) (cause : Cause) → P files cause → Q files cause)
     → FileFails name o P failure → FileFails name o Q failure
 file_fails name o P Q failures.NoMemory f h = tt
-file_fails name o P Q (failures.File file cause) f h = (
-  h.0,
-  told_from o (λ files. P files cause) (λ files. Q files cause) (λ files. f files cause) h.1,
-  h.2,
+file_fails name o P Q (failures.File file cause more) f (h, none) = (
+  (
+    h.0,
+    told_from o (λ files. P files cause) (λ files. Q files cause) (λ files. f files cause) h.1,
+    h.2,
+  ),
+  none,
 )
 
 -- the one file of a command fails
 pub net_alone : (name : List ℕ) (o : Option Files) (failure : Failure)
     → FileFails name o (λ files. NetFails files name) failure → FilesFail o (FailsNet name) failure
 net_alone name o failures.NoMemory h = tt
-net_alone name o (failures.File file cause) h = (
-  told_from o (λ files. NetFails files name cause) (λ files. FailsNet name files file.now cause)
-      (λ files k. (h.0, k)) h.1,
-  h.2,
+net_alone name o (failures.File file cause more) (h, none) = (
+  (
+    told_from o (λ files. NetFails files name cause) (λ files. FailsNet name files file.now cause)
+        (λ files k. (h.0, k)) h.1,
+    h.2,
+  ),
+  none,
 )
 
-may_fail : (m : Meaning) (status : Status) → m.reads ≡ true → IsTrue (is_failure true status)
+pub may_fail : (m : Meaning) (status : Status) → m.reads ≡ true → IsTrue (is_failure true status)
     → MayEnd m status
 may_fail m status reads h = inr (subst (λ b. IsTrue (is_failure b status)) (sym reads) h)
 
+pub may_judge : (m : Meaning) (status : Status) → m.reads ≡ true → IsTrue (m.ends Illegal)
+    → IsTrue (is_failure true status) ⊎ (status ≡ Illegal) → MayEnd m status
+may_judge m status reads ends (inl e) = may_fail m status reads e
+may_judge m status reads ends (inr e) =
+    inl (subst (λ (s : Status). IsTrue (m.ends s)) (sym e) ends)
+
+-- the command explains nothing
+abbrev pub ExplainsNothing : Meaning → Type 0
+ExplainsNothing m = (told : Option Files) (name : List ℕ) (cause : Cause)
+    → m.explains told name cause []
+
+-- what is shown of a cause that nothing explains
+pub none_told : (m : Meaning) (o : Option Files) (name : List ℕ) (cause : Cause) (more : List ℕ)
+    → ExplainsNothing m → more ≡ [] → m.explains o name cause more
+none_told m o name cause more plain none =
+    subst (λ (t : List ℕ). m.explains o name cause t) (sym none) (plain o name cause)
+
 -- why a command that reads files makes nothing
 pub files_failure : (m : Meaning) (o : Option Files) (P : Files → List ℕ → Cause → Type 0)
-    (failure : Failure) → m.reads ≡ true
+    (failure : Failure) → m.reads ≡ true → ExplainsNothing m
     → ((files : Files) (name : List ℕ) (cause : Cause) → P files name cause
     → m.fails files name cause)
     → FilesFail o P failure → IsMadeFailure m o failure
-files_failure m o P failures.NoMemory reads f h = tt
-files_failure m o P (failures.File name cause) reads f h = (
+files_failure m o P failures.NoMemory reads plain f h = tt
+files_failure m o P (failures.File name cause more) reads plain f (h, none) = (
   told_from o (λ files. P files name.now cause) (λ files. m.fails files name.now cause)
       (λ files. f files name.now cause) h.0,
   may_fail m (cause_status cause) reads h.1,
+  none_told m o name.now cause more plain none,
 )
 
 -- and why one that judges a journal does
 pub judging_failure : (m : Meaning) (o : Option Files) (P : Files → List ℕ → Cause → Type 0)
-    (failure : Failure) → m.reads ≡ true → IsTrue (m.ends Illegal)
+    (failure : Failure) → m.reads ≡ true → IsTrue (m.ends Illegal) → ExplainsNothing m
     → ((files : Files) (name : List ℕ) (cause : Cause) → P files name cause
     → m.fails files name cause)
     → JudgingFails o P failure → IsMadeFailure m o failure
-judging_failure m o P failures.NoMemory reads ends f h = tt
-judging_failure m o P (failures.File name cause) reads ends f h = (
+judging_failure m o P failures.NoMemory reads ends plain f h = tt
+judging_failure m o P (failures.File name cause more) reads ends plain f (h, none) = (
   told_from o (λ files. P files name.now cause) (λ files. m.fails files name.now cause)
       (λ files. f files name.now cause) h.0,
-  by_case h.1,
+  may_judge m (cause_status cause) reads ends h.1,
+  none_told m o name.now cause more plain none,
 )
-  where
-    by_case : IsTrue (is_failure true (cause_status cause)) ⊎ (cause_status cause ≡ Illegal)
-        → MayEnd m (cause_status cause)
-    by_case (inl e) = may_fail m (cause_status cause) reads e
-    by_case (inr e) = inl (subst (λ (s : Status). IsTrue (m.ends s)) (sym e) ends)
 
 -- what a failure is of the files, and with which statuses it ends the command
 pub fails_as : (m : Meaning) (o : Option Files) (failure : Failure) → IsMadeFailure m o failure
     → WhereTold o (λ files. FailsAs m files failure)
 fails_as m o failures.NoMemory h = told_always o (λ files. FailsAs m files failures.NoMemory)
     (λ files. tt)
-fails_as m o (failures.File name cause) h = h.0
+fails_as m o (failures.File name cause more) h = h.0
 
 pub failure_ends : (m : Meaning) (o : Option Files) (failure : Failure)
     → IsMadeFailure m o failure → MayEnd m (status_of failure)
 failure_ends m o failures.NoMemory h = inr refl
-failure_ends m o (failures.File name cause) h = h.1
+failure_ends m o (failures.File name cause more) h = h.1
 
 -- ---- what a failure says of the files
 -- the statuses of failures
 pub cases_of : (failure : Failure) → (status_of failure ≡ Refused) ⊎ (status_of failure ≡ ReadFault)
     ⊎ (status_of failure ≡ NoMemory) ⊎ IsTrue (is_finding (status_of failure))
 cases_of failures.NoMemory = inr (inr (inl refl))
-cases_of (failures.File name cause) = of_cause cause
+cases_of (failures.File name cause more) = of_cause cause
   where
     of_cause : (cause : Cause) → (cause_status cause ≡ Refused) ⊎ (cause_status cause ≡ ReadFault)
         ⊎ (cause_status cause ≡ NoMemory) ⊎ IsTrue (is_finding (cause_status cause))
@@ -120,7 +140,7 @@ cases_of (failures.File name cause) = of_cause cause
     of_cause (Lex kind place) = inl refl
     of_cause (Syntax place) = inl refl
     of_cause (Rule rule place) = inl refl
-    of_cause (Conflict printed) = inl refl
+    of_cause (Conflict rows) = inl refl
     of_cause (TraceLine line kind) = inl refl
     of_cause (JournalLine line kind) = inl refl
     of_cause (ImageByte place) = inl refl
@@ -135,11 +155,11 @@ pub refuses : (m : Meaning) → IsLawful m → (files : Files) (failure : Failur
     → status_of failure ≡ Refused → FailsAs m files failure
     → (¬ m.accepts files) ⊎ m.may_refuse files
 refuses m law files failures.NoMemory s h = cc
-refuses m law files (failures.File name cause) s h = law.refused files name.now cause h s
+refuses m law files (failures.File name cause more) s h = law.refused files name.now cause h s
 
 -- what was found is found of them
 pub finds_it : (m : Meaning) → IsLawful m → (files : Files) (failure : Failure)
     → IsTrue (is_finding (status_of failure)) → FailsAs m files failure
     → m.finds (status_of failure) files
 finds_it m law files failures.NoMemory s h = cc
-finds_it m law files (failures.File name cause) s h = law.found files name.now cause h s
+finds_it m law files (failures.File name cause more) s h = law.found files name.now cause h s

@@ -26,19 +26,23 @@ fault_from faults.NoMemory P Q f h = tt
 -- the first machine with a conflict
 pub first_fault : (net : Network) (place : ℕ) (machine : Machine) (cause : Cause)
     → slice_get net.machines place ≡ Some machine → AreBefore net place
-    → IsMachineFault net machine cause → IsConflictFault net cause
-first_fault net place machine (Conflict printed) there before h =
-    record { place = place; machine = machine; there = there; before = before; conflict = h }
+    → IsMachineFault net place machine cause → IsConflictFault net cause
+first_fault net place machine (Conflict rows) there before (here, h) = record {
+  machine = machine;
+  there = rw here there;
+  before = rw here before;
+  conflict = h;
+}
 first_fault net place machine other there before h = absurd h
 
 -- a conflict of the one network of a text
 pub conflict_fault : (text : List ℕ) (net : Network) (cause : Cause) → NetOf text net
     → ((other : Network) → NetOf text other → other ≡ net) → IsConflictFault net cause
     → IsNetFault text cause
-conflict_fault text net (Conflict printed) has one fault = (
+conflict_fault text net (Conflict rows) has one fault = (
   net,
   has,
-  λ other is. subst (λ (n : Network). IsFirstConflict n printed)
+  λ other is. subst (λ (n : Network). IsFirstConflict n rows)
       (sym (one other is)) fault,
 )
 conflict_fault text net other has one fault = absurd fault
@@ -49,7 +53,7 @@ pub fault_refuses : (text : List ℕ) (cause : Cause) → IsNetFault text cause
 fault_refuses text (Lex kind place) fault = refl
 fault_refuses text (Syntax place) fault = refl
 fault_refuses text (Rule rule place) fault = refl
-fault_refuses text (Conflict printed) fault = refl
+fault_refuses text (Conflict rows) fault = refl
 fault_refuses text other fault = absurd fault
 
 -- a network text is held under the name, and has a fault

@@ -2,7 +2,8 @@
 use Rattle.std.proofs.Common.{◌≡◌, ◌<◌, ℕ, List, refl, arith}
 use Rattle.polis_words.specs.Run.{NeedsWorkers}
 use Rattle.polis_words.specs.declared.requests.Request.{Request}
-use Rattle.polis_words.specs.declared.requests.Request.TheVariants.{Run, Check, Compile, Replay, Migrate, Demo, Bound, Image, Equiv}
+use Rattle.polis_words.specs.declared.requests.Request.TheVariants.{Run, Check, Compile, Replay, Migrate, Demo, Bound, Image, Equiv, Losses, Wave, Draw, Explain}
+use Rattle.polis_words.specs.declared.requests.explain.Explain.TheVariants as explains
 use Rattle.polis_words.specs.Requests.{Asks}
 use Rattle.polis_words.proofs.AskOptions.{asked_within}
 use Rattle.polis_cli.specs.Commands.{meaning}
@@ -16,6 +17,10 @@ use Rattle.polis_cli.proofs.DemoMeaning.{demo_lawful}
 use Rattle.polis_cli.proofs.BoundMeaning.{bound_lawful}
 use Rattle.polis_cli.proofs.ImageMeaning.{image_lawful}
 use Rattle.polis_cli.proofs.EquivMeaning.{equiv_lawful}
+use Rattle.polis_cli.proofs.LossesMeaning.{losses_lawful}
+use Rattle.polis_cli.proofs.WaveMeaning.{wave_lawful}
+use Rattle.polis_cli.proofs.DrawMeaning.{draw_lawful}
+use Rattle.polis_cli.proofs.ExplainMeaning.{explain_lawful}
 
 pub lawful : (request : Request) → IsLawful (meaning request)
 lawful (Run run) = run_lawful run
@@ -27,6 +32,10 @@ lawful (Demo demo) = demo_lawful demo
 lawful (Bound bound) = bound_lawful bound
 lawful (Image image) = image_lawful image
 lawful (Equiv equiv) = equiv_lawful equiv
+lawful (Losses losses) = losses_lawful losses
+lawful (Wave wave) = wave_lawful wave
+lawful (Draw draw) = draw_lawful draw
+lawful (Explain explain) = explain_lawful explain
 
 -- what is asked for needs one worker, where the command line needs no more
 pub one_worker : (words : List (List ℕ)) (request : Request) → Asks words request
@@ -37,4 +46,7 @@ one_worker words (Run run) asks few =
     let some = within.0.0 in
     let none : ¬ (1 < run.workers) = λ more. few (run, asks, more) in
     omega (arith, is, some, none)
+one_worker words (Explain (explains.Net check)) asks few = refl
+one_worker words (Explain (explains.Trace named)) asks few = refl
+one_worker words (Explain (explains.Journal replay)) asks few = refl
 one_worker words other asks few = refl

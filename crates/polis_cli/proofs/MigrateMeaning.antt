@@ -1,41 +1,31 @@
 -- What `migrate` means.
-use Rattle.std.proofs.Common.{inl, ◌≡◌, Bool, List, [], ◌∷◌, ◌++◌, refl, ◌∙◌, Option, ℕ, codes}
+use Rattle.std.proofs.Common.{◌≡◌, Bool, List, [], ◌∷◌, ◌++◌, refl, ◌∙◌, Option, ℕ, codes}
 use Rattle.polis_base.specs.Host.{Files, WhereTold}
 use Rattle.transition_table.specs.declared.network.Network.{Network}
 use Rattle.journals.specs.declared.entry.Entry.{Entry}
 use Rattle.journals.specs.declared.entry.TraceItem.{TraceItem}
 use Rattle.journals.specs.Stamps.{least}
 use Rattle.journal_text.specs.Texts.{stamped_journal_text}
-use Rattle.polis_words.specs.Migrate.{MigrateWords}
+use Rattle.polis_words.specs.ReplayStem.{ReplayStemWords}
 use Rattle.polis_cli.specs.declared.product.End.TheVariants as ends
 use Rattle.polis_cli.specs.declared.product.Product.{Product}
-use Rattle.polis_cli.specs.Replay.{IsJudged, IsIllegalReplay}
-use Rattle.polis_cli.specs.Migrate.{migrate_product, migrate_meaning}
+use Rattle.polis_cli.specs.Replay.{IsJudged}
+use Rattle.polis_cli.specs.Migrate.{MakesMigrate, migrate_product, migrate_meaning}
 use Rattle.polis_cli.specs.Saves.{Save}
+use Rattle.polis_cli.specs.Meanings.{explains_nothing}
 use Rattle.polis_cli.specs.inner.Lawful.{IsLawful}
 use Rattle.polis_cli.specs.inner.Made.{IsMadeProduct}
 use Rattle.polis_cli.proofs.WhereTold.{told_from}
 use Rattle.polis_cli.proofs.Saves.{one_save}
 use Rattle.polis_cli.proofs.IsMade.{product_made}
-use Rattle.polis_cli.proofs.ReplayMeaning.{replay_refused, found_illegal, judged_legal, found_accepts, found_ends, found_once}
+use Rattle.polis_cli.proofs.ReplayMeaning.{judging_lawful}
 
-pub migrate_lawful : (migrate : MigrateWords) → IsLawful (migrate_meaning migrate)
-migrate_lawful migrate = record {
-  made_accepts = λ files product m.
-      (m.net, m.trace, m.journal, m.judged.stamps, m.judged.holds);
-  made_finds = λ files product status m.
-      judged_legal files migrate.replay m.net m.trace m.journal m.complete status m.judged;
-  refused = λ files name cause h s. inl (replay_refused files migrate.replay name cause s h);
-  found = λ files name cause h f. found_illegal files migrate.replay name cause h f;
-  found_accepts = λ files status. found_accepts files migrate.replay status;
-  found_ends = found_ends (IsIllegalReplay migrate.replay);
-  refuse_finds = λ files status h. absurd h;
-  refuse_ends = λ files h. absurd h;
-  found_once = found_once (IsIllegalReplay migrate.replay);
-}
+pub migrate_lawful : (migrate : ReplayStemWords) → IsLawful (migrate_meaning migrate)
+migrate_lawful migrate = judging_lawful migrate.replay (MakesMigrate migrate) explains_nothing
+    (λ files product m. (m.net, m.trace, m.journal, m.complete, m.judged))
 
 -- the product of a migration
-pub migrate_made : (o : Option Files) (migrate : MigrateWords) (net : Network)
+pub migrate_made : (o : Option Files) (migrate : ReplayStemWords) (net : Network)
     (trace : List TraceItem) (journal : List Entry) (complete : Bool) (product : Product)
     → WhereTold o (λ files. IsJudged migrate.replay files net trace journal complete)
     → product ≡ migrate_product migrate net journal complete
@@ -54,7 +44,7 @@ migrate_made o migrate net trace journal complete product judged made =
     }) judged)
 
 -- the parts of a migration's product
-pub migrate_is : (migrate : MigrateWords) (net : Network) (journal : List Entry) (complete : Bool)
+pub migrate_is : (migrate : ReplayStemWords) (net : Network) (journal : List Entry) (complete : Bool)
     (none all : List Save) (saving : Save) (stem text shown : List ℕ) → none ≡ []
     → all ≡ none ++ saving ∷ []
     → saving ≡ record { name = stem ++ codes ".jnl"; text = text } → stem ≡ migrate.stem

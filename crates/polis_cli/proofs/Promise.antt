@@ -1,6 +1,7 @@
 -- What each call of the program promises, from what its parts give.
-use Rattle.std.proofs.Common.{◌≡◌, ◌≢◌, ◌⊎◌, inl, inr, IsTrue, ℕ, Bool, false, true, List, ◌∷◌, [], ◌++◌, Option, Ok, Err, refl, sym, ap, subst, ◌∙◌, codes}
+use Rattle.std.proofs.Common.{◌≡◌, ◌≢◌, ◌⊎◌, inl, inr, IsTrue, ℕ, Bool, false, true, List, ◌++◌, Option, Ok, Err, refl, sym, ap, subst, ◌∙◌, codes}
 use Rattle.std.specs.Prelude.{Result}
+use Rattle.polis_base.specs.Lines.{line}
 use Rattle.polis_base.specs.Host.{Files, bytes_at, CountsFault, Rose, WhereTold, Changes}
 use Rattle.polis_base.specs.declared.host.Host.{Ghosts}
 use Rattle.polis_words.specs.declared.cause.Cause.{Cause}
@@ -11,7 +12,7 @@ use Rattle.polis_words.specs.declared.requests.Request.{Request}
 use Rattle.polis_words.specs.declared.status.Status.{Status}
 use Rattle.polis_words.specs.declared.status.Status.TheVariants.{Usage, ReadFault, Refused, WriteFault, NoMemory, Illegal, Differ}
 use Rattle.polis_words.specs.Requests.{Asks, AsksNothing}
-use Rattle.polis_words.specs.Lines.{cause_status, status_of, cause_line, failure_line}
+use Rattle.polis_words.specs.Lines.{cause_status, status_of, cause_line, failure_text}
 use Rattle.polis_cli.specs.declared.product.End.{End}
 use Rattle.polis_cli.specs.declared.product.End.TheVariants as ends
 use Rattle.polis_cli.specs.declared.product.Product.{Product}
@@ -20,9 +21,9 @@ use Rattle.polis_cli.specs.Ends.{end_status, is_end}
 use Rattle.polis_cli.specs.Meanings.{Meaning, MayEnd, is_finding}
 use Rattle.polis_cli.specs.Saves.{AreHeld, MadeSome, files_after}
 use Rattle.polis_cli.specs.Shown.{ShowsPrefix}
-use Rattle.polis_cli.specs.Top.{MadeAndWritten, SavesSome, LeavesUnwritten, HasCause, IsLineOf, ShowsLine, is_refusal}
+use Rattle.polis_cli.specs.Top.{MadeAndWritten, SavesSome, LeavesUnwritten, HasCause, IsTextOf, ShowsText, is_refusal}
 use Rattle.polis_cli.specs.Promise.{told, WriteFailed, IsCut, Answers, Leaves}
-use Rattle.polis_cli.specs.inner.Left.{LeftByLoads, LeftByLine, LeftByWriting, LeftByEnding, ShowsFailure, fails_unread, is_read_fault, is_unread}
+use Rattle.polis_cli.specs.inner.Left.{LeftByLoads, LeftByText, LeftByWriting, LeftByEnding, ShowsFailure, fails_unread, is_read_fault, is_unread}
 use Rattle.polis_cli.specs.inner.Made.{FailsAs, IsMade, IsMadeProduct, IsMadeFailure}
 use Rattle.polis_cli.specs.inner.Shown.{FailsWith, no_memory_line}
 use Rattle.polis_cli.specs.inner.Writing.{Writes}
@@ -254,7 +255,7 @@ module _ (o : Option Files) (words : List (List ℕ)) (request : Request) (failu
 -- only a failed load is a read fault
 unread_is : (failure : Failure) → status_of failure ≡ ReadFault → is_unread failure ≡ true
 unread_is failures.NoMemory e = cc
-unread_is (failures.File name cause) e = of_cause cause e
+unread_is (failures.File name cause more) e = of_cause cause e
   where
     of_cause : (cause : Cause) → cause_status cause ≡ ReadFault → is_read_fault cause ≡ true
     of_cause Unread e = refl
@@ -262,7 +263,7 @@ unread_is (failures.File name cause) e = of_cause cause e
 
 unread_status : (failure : Failure) → is_unread failure ≡ true → status_of failure ≡ ReadFault
 unread_status failures.NoMemory e = cc
-unread_status (failures.File name cause) e = of_cause cause e
+unread_status (failures.File name cause more) e = of_cause cause e
   where
     of_cause : (cause : Cause) → is_read_fault cause ≡ true → cause_status cause ≡ ReadFault
     of_cause Unread e = refl
@@ -322,59 +323,60 @@ failed_answers host a b c words request failure status asks one made left (text,
     other_cause no_fault no_want (inl is) e = no_fault (is ∙ unread_status failure e)
     other_cause no_fault no_want (inr wanting) e = no_want wanting
 
--- a line with a cause is one of its status
-caused : (status : Status) (o : Option Files) (words : List (List ℕ)) (line : List ℕ)
-    → is_other status ≡ true → status ≢ NoMemory → HasCause status words o line
-    → IsLineOf status words o line
+-- a text with a cause is one of its status
+caused : (status : Status) (o : Option Files) (words : List (List ℕ)) (text : List ℕ)
+    → is_other status ≡ true → status ≢ NoMemory → HasCause status words o text
+    → IsTextOf status words o text
 unfolding is_other
-caused ReadFault o words line e n h = h
-caused Refused o words line e n h = h
-caused Illegal o words line e n h = h
-caused Differ o words line e n h = h
-caused NoMemory o words line e n h = absurd (n refl)
-caused other o words line e n h = cc
+caused ReadFault o words text e n h = h
+caused Refused o words text e n h = h
+caused Illegal o words text e n h = h
+caused Differ o words text e n h = h
+caused NoMemory o words text e n h = absurd (n refl)
+caused other o words text e n h = cc
 
 cause_wants : (cause : Cause) → cause_status cause ≢ NoMemory
 cause_wants Unread e = cc
 cause_wants other e = cc
 
-line_is : (o : Option Files) (words : List (List ℕ)) (request : Request) (failure : Failure)
+text_is : (o : Option Files) (words : List (List ℕ)) (request : Request) (failure : Failure)
     → Asks words request → IsMadeFailure (meaning request) o failure
-    → IsLineOf (status_of failure) words o (failure_line failure)
-line_is o words request failures.NoMemory asks made = refl
-line_is o words request (failures.File name cause) asks made =
-    caused (cause_status cause) o words (cause_line name.now cause)
-    (failure_other (failures.File name cause)) (cause_wants cause)
+    → IsTextOf (status_of failure) words o (failure_text failure)
+text_is o words request failures.NoMemory asks made = refl
+text_is o words request (failures.File name cause more) asks made =
+    caused (cause_status cause) o words (line (cause_line name.now cause) ++ more)
+    (failure_other (failures.File name cause more)) (cause_wants cause)
     (record {
       request = request;
       asked = asks;
       name = name.now;
       cause = cause;
+      more = more;
       status_is = refl;
-      line_is = refl;
+      text_is = refl;
       fails = made.0;
+      explains = made.2;
     })
 
--- the line of what failed is shown
-failing_line : (o : Option Files) (words : List (List ℕ)) (request : Request) (failure : Failure)
+-- the text of what failed is shown
+failing_text : (o : Option Files) (words : List (List ℕ)) (request : Request) (failure : Failure)
     (status : Status) (text : List ℕ) (rose : Type 0) (a b : Option (List ℕ))
     → Asks words request → IsMadeFailure (meaning request) o failure
     → FailsWith failure status text → Changes a b (ShowsPrefix text rose)
-    → Changes a b (ShowsLine status words o rose)
-failing_line o words request failure status text rose a b asks made (inl (s, l)) shown =
+    → Changes a b (ShowsText status words o rose)
+failing_text o words request failure status text rose a b asks made (inl (s, l)) shown =
     changes_from a b (ShowsPrefix text rose) _
     (λ old new prefix. (
-      failure_line failure,
-      subst (λ (t : Status). IsLineOf t words o (failure_line failure)) (sym s)
-          (line_is o words request failure asks made),
+      failure_text failure,
+      subst (λ (t : Status). IsTextOf t words o (failure_text failure)) (sym s)
+          (text_is o words request failure asks made),
       subst (λ (t : List ℕ). ShowsPrefix t rose old new) l prefix,
     )) shown
-failing_line o words request failure status text rose a b asks made (inr (s, l)) shown =
+failing_text o words request failure status text rose a b asks made (inr (s, l)) shown =
     changes_from a b (ShowsPrefix text rose) _
     (λ old new prefix. (
-      codes "no memory",
-      subst (λ (t : Status). IsLineOf t words o (codes "no memory")) (sym s)
-          refl,
+      no_memory_line,
+      subst (λ (t : Status). IsTextOf t words o no_memory_line) (sym s) refl,
       subst (λ (t : List ℕ). ShowsPrefix t rose old new) l prefix,
     )) shown
 
@@ -391,7 +393,7 @@ failed_leaves host a b c words request failure status asks made left (text, with
       kept = λ refusal. same;
       some = λ wanting. changes_same (host.files a) (host.files c) _ same (λ files. inl refl);
       unwritten = λ e. absurd (no_failure status WriteFault other refl e);
-      line = λ none no_fault. failing_line (host.files a) words request failure status text
+      text = λ none no_fault. failing_text (host.files a) words request failure status text
           (WriteFailed (told host a) (told host c)) (host.shown a) (host.shown c) asks made with
           (rw (left.shown, left.write_faults) at shown.shown);
     }
@@ -525,18 +527,17 @@ module _ (a b : Option Files) (s t : Option (List ℕ)) (words : List (List ℕ)
 
   -- what is shown where memory ran out
   pub wanting_shown : (o : Option Files) → is_end status ≡ false → status ≢ WriteFault
-      → Changes s t (ShowsLine status words o rose)
+      → Changes s t (ShowsText status words o rose)
   wanting_shown o none no_fault = by_case writes
     where
-      by_case : Writes status product rose a b s t → Changes s t (ShowsLine status words o rose)
+      by_case : Writes status product rose a b s t → Changes s t (ShowsText status words o rose)
       by_case (inl (e, all)) = let h = sym none ∙ ap is_end e ∙ end_ends product.end in cc
       by_case (inr (inl (e, fails))) = absurd (no_fault e)
       by_case (inr (inr (e, out))) =
-          changes_from s t (ShowsPrefix no_memory_line rose) (ShowsLine status words o rose)
+          changes_from s t (ShowsPrefix no_memory_line rose) (ShowsText status words o rose)
           (λ old new prefix. (
-            codes "no memory",
-            subst (λ (u : Status). IsLineOf u words o (codes "no memory")) (sym e)
-                refl,
+            no_memory_line,
+            subst (λ (u : Status). IsTextOf u words o no_memory_line) (sym e) refl,
             prefix,
           )) out.shown
 
@@ -630,7 +631,7 @@ written_leaves host a b c words request product status asks made left writing =
           made writes asks;
       unwritten = unwritten old.files new.files old.shown new.shown words request product status
           rose made writes asks;
-      line = wanting_shown old.files new.files old.shown new.shown words request product status
+      text = wanting_shown old.files new.files old.shown new.shown words request product status
           rose made writes old.files;
     }
 
@@ -664,7 +665,7 @@ nothing_asked o words P nothing =
     (λ files request asks. absurd (nothing request asks))
 
 pub usage_answers : {S : Type 0} (host : Ghosts S) (a b : S) (words : List (List ℕ))
-    → AsksNothing words → LeftByLine host (codes "usage" ++ 10 ∷ []) a b
+    → AsksNothing words → LeftByText host (line (codes "usage")) a b
     → Answers Usage words (told host a) (told host b)
 usage_answers host a b words nothing shown = record {
   ended = λ e. cc;
@@ -686,12 +687,12 @@ usage_answers host a b words nothing shown = record {
 }
 
 pub usage_leaves : {S : Type 0} (host : Ghosts S) (a b : S) (words : List (List ℕ))
-    → LeftByLine host (codes "usage" ++ 10 ∷ []) a b
+    → LeftByText host (line (codes "usage")) a b
     → Leaves Usage words (told host a) (told host b)
 usage_leaves host a b words shown = record {
   kept = λ e. shown.files;
   some = λ e. cc;
   unwritten = λ e. cc;
-  line = λ none no_fault. changes_from (host.shown a) (host.shown b) _ _
-      (λ before now prefix. (codes "usage", refl, prefix)) shown.shown;
+  text = λ none no_fault. changes_from (host.shown a) (host.shown b) _ _
+      (λ before now prefix. (line (codes "usage"), refl, prefix)) shown.shown;
 }

@@ -12,8 +12,8 @@ use Rattle.polis_words.specs.Lines.{cause_status}
 use Rattle.polis_words.specs.Replay.{ReplayWords}
 use Rattle.polis_cli.specs.declared.product.Product.{Product}
 use Rattle.polis_cli.specs.JournalFiles.{JournalFails}
-use Rattle.polis_cli.specs.Meanings.{is_finding, finds_illegal, ends_judged}
-use Rattle.polis_cli.specs.Replay.{IsJudged, AcceptsReplay, FailsReplay, IsIllegalReplay, replay_product, replay_meaning}
+use Rattle.polis_cli.specs.Meanings.{Meaning, explains_nothing, is_finding, finds_illegal, ends_judged}
+use Rattle.polis_cli.specs.Replay.{IsJudged, MakesReplay, AcceptsReplay, FailsReplay, IsIllegalReplay, replay_product, replay_meaning}
 use Rattle.polis_cli.specs.inner.Lawful.{IsLawful}
 use Rattle.polis_cli.specs.inner.Made.{IsMadeProduct}
 use Rattle.polis_cli.proofs.WhereTold.{told_from}
@@ -22,7 +22,7 @@ use Rattle.polis_cli.proofs.JournalFails.{journal_refused, held_unlawful, faulty
 use Rattle.polis_cli.proofs.IsMade.{product_made}
 
 -- where a file fails the files aren't all accepted, or the journal isn't legal and rising
-pub replay_refused : (files : Files) (replay : ReplayWords) (name : List ℕ) (cause : Cause)
+replay_refused : (files : Files) (replay : ReplayWords) (name : List ℕ) (cause : Cause)
     → cause_status cause ≡ Refused → FailsReplay replay files name cause
     → ¬ AcceptsReplay replay files
 replay_refused files replay name cause s (inl h) = λ all.
@@ -34,7 +34,7 @@ replay_refused files replay name cause s (inr h) = λ all.
     journal_refused files all.0 all.1 replay.journal cause all.2 all.3 s
     (h.5 all.0 all.1 holds.holds_net holds.holds_trace) holds.holds_journal
 
-pub replay_found : (files : Files) (replay : ReplayWords) (name : List ℕ) (cause : Cause)
+replay_found : (files : Files) (replay : ReplayWords) (name : List ℕ) (cause : Cause)
     → cause_status cause ≡ Illegal → FailsReplay replay files name cause
     → IsIllegalReplay replay files
 replay_found files replay name cause s (inl h) =
@@ -78,7 +78,7 @@ pub illegal_is : (P : Files → Type 0) (files : Files) (status : Status)
 illegal_is P files Illegal h = (refl, h)
 illegal_is P files other h = absurd h
 
-pub found_illegal : (files : Files) (replay : ReplayWords) (name : List ℕ) (cause : Cause)
+found_illegal : (files : Files) (replay : ReplayWords) (name : List ℕ) (cause : Cause)
     → FailsReplay replay files name cause → IsTrue (is_finding (cause_status cause))
     → finds_illegal (IsIllegalReplay replay) (cause_status cause) files
 found_illegal files replay name cause h f =
@@ -87,7 +87,7 @@ found_illegal files replay name cause h f =
     (replay_found files replay name cause e h)
 
 -- a journal that is judged to be legal isn't found to be illegal
-pub judged_legal : (files : Files) (replay : ReplayWords) (net : Network)
+judged_legal : (files : Files) (replay : ReplayWords) (net : Network)
     (trace : List TraceItem) (journal : List Entry) (complete : Bool) (status : Status)
     → IsJudged replay files net trace journal complete
     → ¬ finds_illegal (IsIllegalReplay replay) status files
@@ -95,25 +95,40 @@ judged_legal files replay net trace journal complete status judged found =
     (illegal_is (IsIllegalReplay replay) files status found).1.unlawful net trace journal
     judged.stamps judged.holds judged.lawful
 
-pub found_accepts : (files : Files) (replay : ReplayWords) (status : Status)
+found_accepts : (files : Files) (replay : ReplayWords) (status : Status)
     → finds_illegal (IsIllegalReplay replay) status files → AcceptsReplay replay files
 found_accepts files replay status found =
     (illegal_is (IsIllegalReplay replay) files status found).1.accepted
 
-pub found_ends : (P : Files → Type 0) (files : Files) (status : Status)
+found_ends : (P : Files → Type 0) (files : Files) (status : Status)
     → finds_illegal P status files → IsTrue (ends_judged status)
 found_ends P files status found = ap ends_judged (illegal_is P files status found).0
 
-pub found_once : (P : Files → Type 0) (files : Files) (s t : Status) → finds_illegal P s files
+found_once : (P : Files → Type 0) (files : Files) (s t : Status) → finds_illegal P s files
     → finds_illegal P t files → s ≡ t
 found_once P files s t h k = (illegal_is P files s h).0 ∙ sym (illegal_is P files t k).0
 
-pub replay_lawful : (replay : ReplayWords) → IsLawful (replay_meaning replay)
-replay_lawful replay = record {
+-- the files hold a legal journal
+abbrev pub HoldsJudged : ReplayWords → Files → Type 0
+HoldsJudged replay files = (net : Network) × (trace : List TraceItem) × (journal : List Entry)
+    × (complete : Bool) × IsJudged replay files net trace journal complete
+
+-- a command that judges a journal as `replay` does, by what it makes and what it explains
+abbrev pub judging_meaning : ReplayWords → (Files → Product → Type 0)
+    → (Option Files → List ℕ → Cause → List ℕ → Type 0) → Meaning
+judging_meaning replay makes explains =
+    record (replay_meaning replay) { makes = makes; explains = explains }
+
+pub judging_lawful : (replay : ReplayWords) (makes : Files → Product → Type 0)
+    (explains : Option Files → List ℕ → Cause → List ℕ → Type 0)
+    → ((files : Files) (product : Product) → makes files product → HoldsJudged replay files)
+    → IsLawful (judging_meaning replay makes explains)
+judging_lawful replay makes explains held = record {
   made_accepts = λ files product m.
-      (m.net, m.trace, m.journal, m.judged.stamps, m.judged.holds);
+      let h = held files product m in (h.0, h.1, h.2, h.4.stamps, h.4.holds);
   made_finds = λ files product status m.
-      judged_legal files replay m.net m.trace m.journal m.complete status m.judged;
+      let h = held files product m in
+      judged_legal files replay h.0 h.1 h.2 h.3 status h.4;
   refused = λ files name cause h s. inl (replay_refused files replay name cause s h);
   found = λ files name cause h f. found_illegal files replay name cause h f;
   found_accepts = λ files status. found_accepts files replay status;
@@ -122,6 +137,10 @@ replay_lawful replay = record {
   refuse_ends = λ files h. absurd h;
   found_once = found_once (IsIllegalReplay replay);
 }
+
+pub replay_lawful : (replay : ReplayWords) → IsLawful (replay_meaning replay)
+replay_lawful replay = judging_lawful replay (MakesReplay replay) explains_nothing
+    (λ files product m. (m.net, m.trace, m.journal, m.complete, m.judged))
 
 -- the product of a replay
 pub replay_made : (o : Option Files) (replay : ReplayWords) (net : Network)

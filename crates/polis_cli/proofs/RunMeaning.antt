@@ -22,7 +22,7 @@ use Rattle.polis_cli.specs.Meanings.{is_finding}
 use Rattle.polis_cli.specs.Run.{AcceptsRun, AcceptsImage, AreTasks, Tasks, Compiled, Given, FailsRun, ends_run, end_of, journal_of, listing_of, listing_saves, run_product, run_text, run_meaning}
 use Rattle.polis_cli.specs.Saves.{Save, AreApart}
 use Rattle.polis_cli.specs.inner.Lawful.{IsLawful}
-use Rattle.polis_cli.specs.inner.Made.{IsMadeProduct, FilesFail}
+use Rattle.polis_cli.specs.inner.Made.{IsMadeProduct, FileFails, FilesFail}
 use Rattle.polis_cli.specs.inner.Run.{AreTasksBy, FailsImageOf, HoldsImageOf, HoldsRun, IsProductOf, listed_under}
 use Rattle.polis_cli.proofs.ImageFails.{image_refused, image_unfound}
 use Rattle.polis_cli.proofs.InputsFail.{inputs_refused, inputs_unfound}
@@ -183,10 +183,29 @@ pub inputs_fail : (o : Option Files) (run : RunWords) (failure : Failure)
     → FilesFail o (λ files. InputsFail files run.net run.trace) failure
     → FilesFail o (FailsRun run) failure
 inputs_fail o run failures.NoMemory h = tt
-inputs_fail o run (failures.File name cause) h = (
-  told_from o (λ files. InputsFail files run.net run.trace name.now cause)
-      (λ files. FailsRun run files name.now cause) (λ files k. inl k) h.0,
-  h.1,
+inputs_fail o run (failures.File name cause more) (h, none) = (
+  (
+    told_from o (λ files. InputsFail files run.net run.trace name.now cause)
+        (λ files. FailsRun run files name.now cause) (λ files k. inl k) h.0,
+    h.1,
+  ),
+  none,
+)
+
+-- the image that is named fails
+pub named_fails : (o : Option Files) (named : Option (List ℕ)) (net : Network) (image : List ℕ)
+    (failure : Failure) → named ≡ Some image
+    → FileFails image o (λ files. ImageFails files net image) failure
+    → FilesFail o (FailsImageOf named net) failure
+named_fails o named net image failures.NoMemory is h = tt
+named_fails o named net image (failures.File name cause more) is (h, none) = (
+  (
+    told_from o (λ files. ImageFails files net image cause) _
+        (λ files k.
+        subst (λ (file : List ℕ). FailsImageOf named net files file cause) (sym h.0) (is, k)) h.1,
+    h.2,
+  ),
+  none,
 )
 
 -- the image fails, the network and the trace being accepted
@@ -222,5 +241,5 @@ pub image_fails : (o : Option Files) (run : RunWords) (net : Network) (trace : L
     → FilesFail o (FailsImageOf run.image net) failure
     → FilesFail o (FailsRun run) failure
 image_fails o run net trace failures.NoMemory held one h = tt
-image_fails o run net trace (failures.File name cause) held one h =
-    (image_told o run net trace name.now cause held one h.0, h.1)
+image_fails o run net trace (failures.File name cause more) held one (h, none) =
+    ((image_told o run net trace name.now cause held one h.0, h.1), none)

@@ -6,29 +6,28 @@ use Rattle.transition_table.specs.declared.snapshot.Snapshot.{Snapshot}
 use Rattle.transition_table.specs.Transitions.{IsDeterministic, AreDeterministic}
 use Rattle.net_rules.specs.NetOf.{NetOf}
 use Rattle.determinism.specs.Conflicts.{IsLeastConflict}
-use Rattle.polis_words.specs.Texts.{conflict_text}
+use Rattle.journal_text.specs.Texts.{snapshot_text}
+use Rattle.polis_words.specs.declared.cause.Conflict.{Conflict}
 
 -- the bytes are a text of the network, and each of its machines is deterministic
 abbrev pub Accepted : List ℕ → Network → Type 0
 Accepted text net = NetOf text net × AreDeterministic net
 
--- rows of the machine conflict, and this is printed of its least conflict
-pub record IsConflictIn (net : Network) (machine : Machine) (printed : List ℕ) : Type 0 where
-  pub row_a : ℕ
-  pub row_b : ℕ
-  pub snapshot : Snapshot
-  pub conflict : IsLeastConflict machine row_a row_b snapshot
-  pub printed_is : printed ≡ conflict_text net machine row_a row_b snapshot
+-- these rows of the machine conflict, and are its least conflict
+pub record IsConflictIn (net : Network) (machine : Machine) (rows : Conflict) : Type 0 where
+  pub name_is : rows.name ≡ machine.name
+  pub read : Snapshot
+  pub conflict : IsLeastConflict machine rows.row_a rows.row_b read
+  pub printed_is : rows.snapshot ≡ snapshot_text net machine read.codes
 
 -- each machine before the place is deterministic
 abbrev pub AreBefore : Network → ℕ → Type 0
 AreBefore net place = (k : ℕ) (machine : Machine) → k < place
     → slice_get net.machines k ≡ Some machine → IsDeterministic machine
 
--- this is printed of the first machine that isn't deterministic
-pub record IsFirstConflict (net : Network) (printed : List ℕ) : Type 0 where
-  pub place : ℕ
+-- these rows are those of the first machine that isn't deterministic
+pub record IsFirstConflict (net : Network) (rows : Conflict) : Type 0 where
   pub machine : Machine
-  pub there : slice_get net.machines place ≡ Some machine
-  pub before : AreBefore net place
-  pub conflict : IsConflictIn net machine printed
+  pub there : slice_get net.machines rows.machine ≡ Some machine
+  pub before : AreBefore net rows.machine
+  pub conflict : IsConflictIn net machine rows

@@ -14,7 +14,7 @@ use Rattle.polis_words.specs.Bound.{BoundWords}
 use Rattle.polis_cli.specs.declared.product.End.TheVariants as ends
 use Rattle.polis_cli.specs.declared.product.Product.{Product}
 use Rattle.polis_cli.specs.Inputs.{HoldsNet, AcceptsNet, FailsNet}
-use Rattle.polis_cli.specs.Meanings.{Meaning, never_refused, finds_nothing, ends_done}
+use Rattle.polis_cli.specs.Meanings.{Meaning, explains_nothing, never_refused, finds_nothing, ends_done}
 use Rattle.polis_cli.specs.Ranges.{ranges_text}
 
 -- the greatest and the least cost of code that the machine was rightly compiled to
@@ -61,6 +61,7 @@ bound_meaning bound = record {
   accepts = AcceptsNet bound.net;
   finds = finds_nothing;
   fails = FailsNet bound.net;
+  explains = explains_nothing;
   may_refuse = never_refused;
   ends = ends_done;
   reads = true;

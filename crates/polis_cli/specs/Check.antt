@@ -7,7 +7,7 @@ use Rattle.polis_words.specs.Texts.{accepted_text}
 use Rattle.polis_cli.specs.declared.product.End.TheVariants as ends
 use Rattle.polis_cli.specs.declared.product.Product.{Product}
 use Rattle.polis_cli.specs.Inputs.{HoldsNet, AcceptsNet, FailsNet}
-use Rattle.polis_cli.specs.Meanings.{Meaning, never_refused, finds_nothing, ends_done}
+use Rattle.polis_cli.specs.Meanings.{Meaning, explains_nothing, never_refused, finds_nothing, ends_done}
 
 -- the product saves nothing, and shows how large the network is
 abbrev pub check_product : Network → Product
@@ -25,6 +25,7 @@ check_meaning check = record {
   accepts = AcceptsNet check.net;
   finds = finds_nothing;
   fails = FailsNet check.net;
+  explains = explains_nothing;
   may_refuse = never_refused;
   ends = ends_done;
   reads = true;

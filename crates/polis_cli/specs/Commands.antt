@@ -1,6 +1,6 @@
 -- What each command means.
 use Rattle.polis_words.specs.declared.requests.Request.{Request}
-use Rattle.polis_words.specs.declared.requests.Request.TheVariants.{Run, Check, Compile, Replay, Migrate, Demo, Bound, Image, Equiv}
+use Rattle.polis_words.specs.declared.requests.Request.TheVariants.{Run, Check, Compile, Replay, Migrate, Demo, Bound, Image, Equiv, Losses, Wave, Draw, Explain}
 use Rattle.polis_cli.specs.Meanings.{Meaning}
 use Rattle.polis_cli.specs.Run.{run_meaning}
 use Rattle.polis_cli.specs.Check.{check_meaning}
@@ -11,6 +11,10 @@ use Rattle.polis_cli.specs.Demo.{demo_meaning}
 use Rattle.polis_cli.specs.Bound.{bound_meaning}
 use Rattle.polis_cli.specs.Image.{image_meaning}
 use Rattle.polis_cli.specs.Equiv.{equiv_meaning}
+use Rattle.polis_cli.specs.Losses.{losses_meaning}
+use Rattle.polis_cli.specs.Wave.{wave_meaning}
+use Rattle.polis_cli.specs.Draw.{draw_meaning}
+use Rattle.polis_cli.specs.Explain.{explain_meaning}
 
 abbrev pub meaning : Request → Meaning
 meaning (Run run) = run_meaning run
@@ -22,3 +26,7 @@ meaning (Demo demo) = demo_meaning demo
 meaning (Bound bound) = bound_meaning bound
 meaning (Image image) = image_meaning image
 meaning (Equiv equiv) = equiv_meaning equiv
+meaning (Losses losses) = losses_meaning losses
+meaning (Wave wave) = wave_meaning wave
+meaning (Draw draw) = draw_meaning draw
+meaning (Explain explain) = explain_meaning explain

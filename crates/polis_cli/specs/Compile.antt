@@ -5,15 +5,16 @@ use Rattle.transition_table.specs.declared.network.Network.{Network}
 use Rattle.task_code.specs.Listings.{Part, ListingText}
 use Rattle.machine_compiler.specs.Parts.{AreRightParts}
 use Rattle.machine_compiler.specs.Lines.{lengths_text}
-use Rattle.polis_words.specs.Compile.{CompileWords, compiled_name}
+use Rattle.polis_words.specs.NetStem.{NetStemWords}
+use Rattle.polis_words.specs.Compile.{compiled_name}
 use Rattle.polis_cli.specs.declared.product.End.TheVariants as ends
 use Rattle.polis_cli.specs.declared.product.Product.{Product}
 use Rattle.polis_cli.specs.Inputs.{HoldsNet, AcceptsNet, FailsNet}
-use Rattle.polis_cli.specs.Meanings.{Meaning, never_refused, finds_nothing, ends_done}
+use Rattle.polis_cli.specs.Meanings.{Meaning, explains_nothing, never_refused, finds_nothing, ends_done}
 
 -- the product saves the listing of the compiled machines, and shows how long their graphs and their
 -- code are
-abbrev pub compile_product : CompileWords → Network → List Part → Product
+abbrev pub compile_product : NetStemWords → Network → List Part → Product
 compile_product compile net parts = record {
   saves = record { name = compiled_name compile; text = ListingText net parts } ∷ [];
   shown = lengths_text net parts;
@@ -22,19 +23,20 @@ compile_product compile net parts = record {
 
 -- the file holds a network that is accepted, each of its machines was compiled rightly, and the
 -- product is that of its compilation
-pub record MakesCompile (compile : CompileWords) (files : Files) (product : Product) : Type 0 where
+pub record MakesCompile (compile : NetStemWords) (files : Files) (product : Product) : Type 0 where
   pub net : Network
   pub holds_net : HoldsNet files compile.net net
   pub parts : List Part
   pub right : AreRightParts net parts
   pub made : product ≡ compile_product compile net parts
 
-abbrev pub compile_meaning : CompileWords → Meaning
+abbrev pub compile_meaning : NetStemWords → Meaning
 compile_meaning compile = record {
   makes = MakesCompile compile;
   accepts = AcceptsNet compile.net;
   finds = finds_nothing;
   fails = FailsNet compile.net;
+  explains = explains_nothing;
   may_refuse = never_refused;
   ends = ends_done;
   reads = true;

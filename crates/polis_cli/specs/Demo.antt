@@ -14,7 +14,7 @@ use Rattle.polis_cli.specs.declared.product.End.TheVariants as ends
 use Rattle.polis_cli.specs.declared.product.Product.{Product}
 use Rattle.polis_cli.specs.declared.ran.Ran.{Ran}
 use Rattle.polis_cli.specs.Accepted.{Accepted}
-use Rattle.polis_cli.specs.Meanings.{Meaning, never_refused, finds_nothing, ends_done}
+use Rattle.polis_cli.specs.Meanings.{Meaning, explains_nothing, never_refused, finds_nothing, ends_done}
 use Rattle.polis_cli.specs.Run.{IsRan, Compiled, run_text}
 
 -- the network and the trace that are drawn from a seed, by their texts
@@ -46,6 +46,7 @@ demo_meaning demo = record {
   accepts = λ files. ⊤;
   finds = finds_nothing;
   fails = λ files name cause. ⊥;
+  explains = explains_nothing;
   may_refuse = never_refused;
   ends = ends_done;
   reads = false;

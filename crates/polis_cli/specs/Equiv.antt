@@ -14,7 +14,7 @@ use Rattle.polis_words.specs.Texts.{machine_snapshot_text, same_text}
 use Rattle.polis_cli.specs.declared.product.End.TheVariants as ends
 use Rattle.polis_cli.specs.declared.product.Product.{Product}
 use Rattle.polis_cli.specs.Inputs.{HoldsNet, NetFails, FailsNet}
-use Rattle.polis_cli.specs.Meanings.{Meaning, finds_differing, never_refused, ends_compared}
+use Rattle.polis_cli.specs.Meanings.{Meaning, explains_nothing, finds_differing, never_refused, ends_compared}
 
 -- the files hold two networks of one shape
 pub record HoldsEquiv (equiv : EquivWords) (files : Files) (net other : Network) : Type 0 where
@@ -84,6 +84,7 @@ equiv_meaning equiv = record {
   accepts = AcceptsEquiv equiv;
   finds = finds_differing (AreDiffering equiv);
   fails = FailsEquiv equiv;
+  explains = explains_nothing;
   may_refuse = never_refused;
   ends = ends_compared;
   reads = true;

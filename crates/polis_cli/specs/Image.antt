@@ -11,12 +11,13 @@ use Rattle.task_image.specs.Fields.{ImageBytes}
 use Rattle.task_image.specs.Images.{image_of}
 use Rattle.polis_words.specs.declared.cause.Cause.{Cause}
 use Rattle.polis_words.specs.declared.cause.Cause.TheVariants.{ImageLong}
-use Rattle.polis_words.specs.Image.{ImageWords, image_name}
+use Rattle.polis_words.specs.NetStem.{NetStemWords}
+use Rattle.polis_words.specs.Image.{image_name}
 use Rattle.polis_words.specs.Texts.{image_text}
 use Rattle.polis_cli.specs.declared.product.End.TheVariants as ends
 use Rattle.polis_cli.specs.declared.product.Product.{Product}
 use Rattle.polis_cli.specs.Inputs.{HoldsNet, AcceptsNet, NetFails}
-use Rattle.polis_cli.specs.Meanings.{Meaning, finds_nothing, ends_done_or_refused}
+use Rattle.polis_cli.specs.Meanings.{Meaning, explains_nothing, finds_nothing, ends_done_or_refused}
 
 -- the image of a network's machines: the name and sizes of each, with the code that it was compiled
 -- to
@@ -24,7 +25,7 @@ abbrev pub image_of_parts : Network → List Part → List ImageMachine
 image_of_parts net parts = image_of net.machines (codes_in parts)
 
 -- the product saves the bytes, and shows how many these are
-abbrev pub image_product : ImageWords → List ℕ → Product
+abbrev pub image_product : NetStemWords → List ℕ → Product
 image_product image bytes = record {
   saves = record { name = image_name image; text = bytes } ∷ [];
   shown = image_text (length bytes);
@@ -33,7 +34,7 @@ image_product image bytes = record {
 
 -- The file holds a network that is accepted, each of its machines was compiled rightly, these are
 -- the bytes of their image, no more than a file may have, and the product is that of these.
-pub record MakesImage (image : ImageWords) (files : Files) (product : Product) : Type 0 where
+pub record MakesImage (image : NetStemWords) (files : Files) (product : Product) : Type 0 where
   pub net : Network
   pub holds_net : HoldsNet files image.net net
   pub parts : List Part
@@ -45,7 +46,7 @@ pub record MakesImage (image : ImageWords) (files : Files) (product : Product) :
 
 -- The file holds a network that is accepted, and the image of some right parts of it is longer than
 -- a file may be. Right parts aren't unique, so this is a fact of those that were made.
-pub record MayBeTooLong (image : ImageWords) (files : Files) : Type 0 where
+pub record MayBeTooLong (image : NetStemWords) (files : Files) : Type 0 where
   pub net : Network
   pub holds_net : HoldsNet files image.net net
   pub parts : List Part
@@ -53,16 +54,17 @@ pub record MayBeTooLong (image : ImageWords) (files : Files) : Type 0 where
   pub long : LONG_FILE_MAX < length (ImageBytes (image_of_parts net parts))
 
 -- why the file of an image fails: the network does, or its image is too long
-abbrev pub FailsImage : ImageWords → Files → List ℕ → Cause → Type 0
+abbrev pub FailsImage : NetStemWords → Files → List ℕ → Cause → Type 0
 FailsImage image files name cause = (name ≡ image.net)
     × (NetFails files image.net cause ⊎ ((cause ≡ ImageLong) × MayBeTooLong image files))
 
-abbrev pub image_meaning : ImageWords → Meaning
+abbrev pub image_meaning : NetStemWords → Meaning
 image_meaning image = record {
   makes = MakesImage image;
   accepts = AcceptsNet image.net;
   finds = finds_nothing;
   fails = FailsImage image;
+  explains = explains_nothing;
   may_refuse = MayBeTooLong image;
   ends = ends_done_or_refused;
   reads = true;

@@ -51,9 +51,9 @@ IsNetFault text (Syntax place) = BreaksAt text place
 IsNetFault text (Rule rule place) =
     (raw : RawNet) × HasNet text raw
     × ((other : RawNet) → HasNet text other → Breaks other rule place)
-IsNetFault text (Conflict printed) =
+IsNetFault text (Conflict rows) =
     (net : Network) × NetOf text net
-    × ((other : Network) → NetOf text other → IsFirstConflict other printed)
+    × ((other : Network) → NetOf text other → IsFirstConflict other rows)
 IsNetFault text other = ⊥
 
 -- what a trace text of the network says where this is why it isn't read: a line is at fault

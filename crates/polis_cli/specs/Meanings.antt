@@ -1,6 +1,6 @@
 -- What a call promises of a command.
-use Rattle.std.specs.Prelude.{ℕ, Bool, true, false, List, IsTrue, ◌⊎◌}
-use Rattle.polis_base.specs.Host.{Files}
+use Rattle.std.specs.Prelude.{◌≡◌, [], ℕ, Bool, true, false, List, Option, IsTrue, ◌⊎◌}
+use Rattle.polis_base.specs.Host.{Files, WhereTold}
 use Rattle.polis_words.specs.declared.cause.Cause.{Cause}
 use Rattle.polis_words.specs.declared.status.Status.{Status}
 use Rattle.polis_words.specs.declared.status.Status.TheVariants.{Done, ReadFault, Refused, WriteFault, NoMemory, Illegal, Differ}
@@ -17,6 +17,9 @@ pub record Meaning : Type 1 where
   -- The file of this name isn't read or isn't accepted, or something is found of it, all files
   -- before it being accepted, and this is why.
   pub fails : Files → List ℕ → Cause → Type 0
+  -- Where the file of this name fails so, this is shown after the line of the cause, by what is told
+  -- of the files.
+  pub explains : Option Files → List ℕ → Cause → List ℕ → Type 0
   -- They are accepted, and yet it may be refused, as what it would save may be too long.
   pub may_refuse : Files → Type 0
   -- Where its files are accepted it ends with this status, but for faults and running out of
@@ -46,6 +49,15 @@ finds_illegal P other files = ⊥
 abbrev pub finds_differing : (Files → Type 0) → Status → Files → Type 0
 finds_differing P Differ files = P files
 finds_differing P other files = ⊥
+
+-- nothing is shown after the line of a cause
+abbrev pub explains_nothing : Option Files → List ℕ → Cause → List ℕ → Type 0
+explains_nothing told name cause more = more ≡ []
+
+-- what the files say is shown after it, where they are told
+abbrev pub explains_by : (Files → List ℕ → Cause → List ℕ → Type 0) → Option Files → List ℕ
+    → Cause → List ℕ → Type 0
+explains_by E told name cause more = WhereTold told (λ files. E files name cause more)
 
 -- no command whose files are accepted is refused
 abbrev pub never_refused : Files → Type 0

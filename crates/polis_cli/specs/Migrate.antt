@@ -6,15 +6,16 @@ use Rattle.journals.specs.declared.entry.Entry.{Entry}
 use Rattle.journals.specs.declared.entry.TraceItem.{TraceItem}
 use Rattle.journals.specs.Stamps.{least}
 use Rattle.journal_text.specs.Texts.{stamped_journal_text}
-use Rattle.polis_words.specs.Migrate.{MigrateWords, migrated_name}
+use Rattle.polis_words.specs.ReplayStem.{ReplayStemWords}
+use Rattle.polis_words.specs.Migrate.{migrated_name}
 use Rattle.polis_words.specs.Texts.{migrated_text}
 use Rattle.polis_cli.specs.declared.product.End.TheVariants as ends
 use Rattle.polis_cli.specs.declared.product.Product.{Product}
-use Rattle.polis_cli.specs.Meanings.{Meaning, never_refused, finds_illegal, ends_judged}
+use Rattle.polis_cli.specs.Meanings.{Meaning, explains_nothing, never_refused, finds_illegal, ends_judged}
 use Rattle.polis_cli.specs.Replay.{IsJudged, AcceptsReplay, IsIllegalReplay, FailsReplay}
 
 -- the product saves the journal with its least stamps, and shows how long it is
-abbrev pub migrate_product : MigrateWords → Network → List Entry → Bool → Product
+abbrev pub migrate_product : ReplayStemWords → Network → List Entry → Bool → Product
 migrate_product migrate net journal complete = record {
   saves = record {
     name = migrated_name migrate;
@@ -25,7 +26,7 @@ migrate_product migrate net journal complete = record {
 }
 
 -- the files hold a legal journal, and the product is that of its migration
-pub record MakesMigrate (migrate : MigrateWords) (files : Files) (product : Product) : Type 0 where
+pub record MakesMigrate (migrate : ReplayStemWords) (files : Files) (product : Product) : Type 0 where
   pub net : Network
   pub trace : List TraceItem
   pub journal : List Entry
@@ -33,12 +34,13 @@ pub record MakesMigrate (migrate : MigrateWords) (files : Files) (product : Prod
   pub judged : IsJudged migrate.replay files net trace journal complete
   pub made : product ≡ migrate_product migrate net journal complete
 
-abbrev pub migrate_meaning : MigrateWords → Meaning
+abbrev pub migrate_meaning : ReplayStemWords → Meaning
 migrate_meaning migrate = record {
   makes = MakesMigrate migrate;
   accepts = AcceptsReplay migrate.replay;
   finds = finds_illegal (IsIllegalReplay migrate.replay);
   fails = FailsReplay migrate.replay;
+  explains = explains_nothing;
   may_refuse = never_refused;
   ends = ends_judged;
   reads = true;

@@ -9,7 +9,7 @@ use Rattle.polis_words.specs.Requests.{Asks, AsksNothing}
 use Rattle.polis_cli.specs.Meanings.{Meaning, MayEnd, is_finding}
 use Rattle.polis_cli.specs.Commands.{meaning}
 use Rattle.polis_cli.specs.Ends.{is_end}
-use Rattle.polis_cli.specs.Top.{MadeAndWritten, SavesSome, LeavesUnwritten, ShowsLine, is_refusal}
+use Rattle.polis_cli.specs.Top.{MadeAndWritten, SavesSome, LeavesUnwritten, ShowsText, is_refusal}
 
 -- what a host tells at a moment, and its counts of faults
 pub record Outside : Type 0 where
@@ -88,6 +88,6 @@ pub record Leaves (status : Status) (words : List (List ℕ)) (old new : Outside
   -- a prefix of it.
   pub unwritten : status ≡ WriteFault → LeavesUnwritten words (WriteFailed old new) old.files
       new.files old.shown new.shown
-  -- Any other status shows its line, or a prefix of it.
-  pub line : is_end status ≡ false → status ≢ WriteFault
-      → Changes old.shown new.shown (ShowsLine status words old.files (WriteFailed old new))
+  -- Any other status shows its text, or a prefix of it.
+  pub text : is_end status ≡ false → status ≢ WriteFault
+      → Changes old.shown new.shown (ShowsText status words old.files (WriteFailed old new))

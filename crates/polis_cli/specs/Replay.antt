@@ -12,7 +12,7 @@ use Rattle.polis_cli.specs.declared.product.End.TheVariants as ends
 use Rattle.polis_cli.specs.declared.product.Product.{Product}
 use Rattle.polis_cli.specs.Inputs.{HoldsNet, HoldsTrace, InputsFail}
 use Rattle.polis_cli.specs.JournalFiles.{HoldsJournal, JournalFails, LegalAndRising}
-use Rattle.polis_cli.specs.Meanings.{Meaning, never_refused, finds_illegal, ends_judged}
+use Rattle.polis_cli.specs.Meanings.{Meaning, explains_nothing, never_refused, finds_illegal, ends_judged}
 
 -- what the three files hold
 pub record HoldsReplay (replay : ReplayWords) (files : Files) (net : Network)
@@ -74,6 +74,7 @@ replay_meaning replay = record {
   accepts = AcceptsReplay replay;
   finds = finds_illegal (IsIllegalReplay replay);
   fails = FailsReplay replay;
+  explains = explains_nothing;
   may_refuse = never_refused;
   ends = ends_judged;
   reads = true;

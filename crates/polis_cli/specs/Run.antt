@@ -26,7 +26,7 @@ use Rattle.polis_cli.specs.declared.ran.Ran.{Ran}
 use Rattle.polis_cli.specs.ImageFiles.{HoldsImage, ImageFails}
 use Rattle.polis_cli.specs.Saves.{Save}
 use Rattle.polis_cli.specs.Inputs.{HoldsNet, HoldsTrace, InputsFail}
-use Rattle.polis_cli.specs.Meanings.{Meaning, finds_nothing, never_refused}
+use Rattle.polis_cli.specs.Meanings.{Meaning, explains_nothing, finds_nothing, never_refused}
 
 -- Where the scheduler began. One worker gathers nothing. Of several workers so many entries were
 -- gathered, of which the first were adopted: at least the share of one worker in the limit, or all
@@ -165,6 +165,7 @@ run_meaning run = record {
   accepts = AcceptsRun run;
   finds = finds_nothing;
   fails = FailsRun run;
+  explains = explains_nothing;
   may_refuse = never_refused;
   ends = ends_run;
   reads = true;

@@ -1,5 +1,6 @@
 -- What a call of the program promises.
-use Rattle.std.specs.Prelude.{◌≡◌, ◌⊎◌, ℕ, Bool, true, false, List, [], ◌∷◌, ◌++◌, Option, codes}
+use Rattle.std.specs.Prelude.{◌≡◌, ◌⊎◌, ℕ, Bool, true, false, List, ◌++◌, Option, codes}
+use Rattle.polis_base.specs.Lines.{line}
 use Rattle.polis_base.specs.Host.{Files, bytes_at, Changes, WhereTold}
 use Rattle.polis_words.specs.declared.requests.Request.{Request}
 use Rattle.polis_words.specs.declared.cause.Cause.{Cause}
@@ -54,29 +55,31 @@ is_refusal Illegal = true
 is_refusal Differ = true
 is_refusal other = false
 
--- the line is that of a file that isn't read or isn't accepted, or of which something is found,
--- with this status, and the files say so
+-- The text is the line of a file that isn't read or isn't accepted, or of which something is found,
+-- with this status, and the files say so; after it comes what the command explains.
 pub record HasCause (status : Status) (words : List (List ℕ)) (before : Option Files)
-    (line : List ℕ) : Type 0 where
+    (text : List ℕ) : Type 0 where
   pub request : Request
   pub asked : Asks words request
   pub name : List ℕ
   pub cause : Cause
+  pub more : List ℕ
   pub status_is : cause_status cause ≡ status
-  pub line_is : line ≡ cause_line name cause
+  pub text_is : text ≡ line (cause_line name cause) ++ more
   pub fails : WhereTold before (λ files. (meaning request).fails files name cause)
+  pub explains : (meaning request).explains before name cause more
 
--- the line is that of the status, and says why
-abbrev pub IsLineOf : Status → List (List ℕ) → Option Files → List ℕ → Type 0
-IsLineOf Usage words before line = line ≡ codes "usage"
-IsLineOf ReadFault words before line = HasCause ReadFault words before line
-IsLineOf Refused words before line = HasCause Refused words before line
-IsLineOf Illegal words before line = HasCause Illegal words before line
-IsLineOf Differ words before line = HasCause Differ words before line
-IsLineOf NoMemory words before line = line ≡ codes "no memory"
-IsLineOf other words before line = ⊥
+-- the text is that of the status, and says why
+abbrev pub IsTextOf : Status → List (List ℕ) → Option Files → List ℕ → Type 0
+IsTextOf Usage words before text = text ≡ line (codes "usage")
+IsTextOf ReadFault words before text = HasCause ReadFault words before text
+IsTextOf Refused words before text = HasCause Refused words before text
+IsTextOf Illegal words before text = HasCause Illegal words before text
+IsTextOf Differ words before text = HasCause Differ words before text
+IsTextOf NoMemory words before text = text ≡ line (codes "no memory")
+IsTextOf other words before text = ⊥
 
--- the line of the status was shown, or a prefix of it
-abbrev pub ShowsLine : Status → List (List ℕ) → Option Files → Type 0 → List ℕ → List ℕ → Type 0
-ShowsLine status words before rose old new =
-    (line : List ℕ) × IsLineOf status words before line × ShowsPrefix (line ++ 10 ∷ []) rose old new
+-- the text of the status was shown, or a prefix of it
+abbrev pub ShowsText : Status → List (List ℕ) → Option Files → Type 0 → List ℕ → List ℕ → Type 0
+ShowsText status words before rose old new =
+    (text : List ℕ) × IsTextOf status words before text × ShowsPrefix text rose old new

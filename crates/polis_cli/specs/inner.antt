@@ -11,3 +11,5 @@ pub mod Demo
 pub mod Bound
 pub mod Image
 pub mod Equiv
+pub mod Explain
+pub mod Draw

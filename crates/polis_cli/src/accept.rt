@@ -6,7 +6,8 @@ ghost use Rattle.transition_table.specs.declared.network.Network.{Network};
 ghost use Rattle.net_rules.specs.NetOf.{NetOf};
 ghost use Rattle.net_rules.specs.Whole.{HasMachines};
 ghost use Rattle.polis_words.specs.Lines.{cause_status};
-ghost use Rattle.polis_cli.specs.Accepted.{Accepted};
+ghost use Rattle.determinism.specs.Conflicts.{IsLeastConflict};
+ghost use Rattle.polis_cli.specs.Accepted.{Accepted, IsConflictIn};
 ghost use Rattle.polis_cli.specs.Inputs.{IsNetFault};
 ghost use Rattle.polis_cli.specs.inner.Accepted.{IfCause, IsMachineFault, IsConflictFault, lex_fault};
 
@@ -14,9 +15,9 @@ use determinism::{CheckFault, check};
 use net_reader::{NetFault, read_network};
 use net_rules::{ResolveFault, resolve};
 use polis_base::{LexError, NoMemory};
-use polis_words::{Cause, LexKind, Status, print_conflict};
+use polis_words::{Cause, Conflict, LexKind, Status, print_snapshot};
 use std::alloc::Global;
-use transition_table::{Machine, Network};
+use transition_table::{Machine, Network, Snapshot};
 
 /// Why a file isn't accepted.
 #[derive(Drop)]
@@ -48,11 +49,36 @@ fn of_lex(error: LexError) -> FileFault
     }
 }
 
-// Whether a machine is deterministic.
-fn check_machine(alloc: Global, net: &Network, machine: &Machine) -> Result<(), FileFault>
+// Rows of a machine, the m-th, that conflict on a snapshot.
+fn conflict_of(
+    alloc: Global,
+    net: &Network,
+    m: u32,
+    machine: &Machine,
+    row_a: u32,
+    row_b: u32,
+    snapshot: &Snapshot,
+) -> Result<Conflict, NoMemory>
+    requires sized { IsTrue (has_vars net.now.domains net.now.events machine.now) }
+    requires conflict { IsLeastConflict machine.now row_a row_b snapshot.now }
+    ensures { IfOk result
+        (λ rows. (rows.machine ≡ m) × IsConflictIn net.now machine.now rows) }
+{
+    let snapshot = print_snapshot(alloc, net, machine, snapshot)?;
+    Ok(Conflict {
+        machine: m,
+        name: machine.name,
+        row_a,
+        row_b,
+        snapshot,
+    })
+}
+
+// Whether a machine, the m-th, is deterministic.
+fn check_machine(alloc: Global, net: &Network, m: u32, machine: &Machine) -> Result<(), FileFault>
     requires { IsTrue (has_vars net.now.domains net.now.events machine.now) }
     ensures ok { OnOk result (IsDeterministic machine.now) }
-    ensures failed { IfErr result (λ fault. IfCause fault (IsMachineFault net.now machine.now)) }
+    ensures failed { IfErr result (λ fault. IfCause fault (IsMachineFault net.now m machine.now)) }
 {
     match check(alloc, machine) {
         Ok(()) => Ok(()),
@@ -62,8 +88,8 @@ fn check_machine(alloc: Global, net: &Network, machine: &Machine) -> Result<(), 
                 row_b,
                 snapshot,
             },
-        ) => match print_conflict(alloc, net, machine, row_a, row_b, &snapshot) {
-            Ok(text) => Err(FileFault::Cause(Cause::Conflict { text })),
+        ) => match conflict_of(alloc, net, m, machine, row_a, row_b, &snapshot) {
+            Ok(rows) => Err(FileFault::Cause(Cause::Conflict(rows))),
             Err(NoMemory) => Err(FileFault::NoMemory),
         },
         Err(CheckFault::NoMemory) => Err(FileFault::NoMemory),
@@ -75,8 +101,8 @@ fn check_machines(alloc: Global, net: &Network) -> Result<(), FileFault>
     ensures ok { OnOk result (AreDeterministic net.now) }
     ensures failed { IfErr result (λ fault. IfCause fault (IsConflictFault net.now)) }
 {
-    for machine in net.machines.as_slice() {
-        match check_machine(alloc, net, machine) {
+    for m in 0..net.machines.len() {
+        match check_machine(alloc, net, m as u32, net.machines.get(m)) {
             Ok(()) => {}
             Err(fault) => return Err(fault),
         }

@@ -10,12 +10,12 @@ use crate::load::load_net;
 use crate::product::{End, Product, Saving};
 use machine_compiler::{Texts, compile_texts};
 use polis_base::{Host, List, NoMemory};
-use polis_words::{Compile, Failure};
+use polis_words::{Failure, NetStem};
 use std::alloc::Global;
 use transition_table::Network;
 
 // Compiles each machine, and makes the texts of what was compiled.
-fn product_of(alloc: Global, asked: &Compile<'_>, net: &Network) -> Result<Product, NoMemory>
+fn product_of(alloc: Global, asked: &NetStem<'_>, net: &Network) -> Result<Product, NoMemory>
     requires { AreDeterministic net.now }
     ensures { IfOk result (λ product. IsCompileProduct asked.now net.now product) }
 {
@@ -34,7 +34,7 @@ fn product_of(alloc: Global, asked: &Compile<'_>, net: &Network) -> Result<Produ
 pub fn make_compile<'a, H: Host>(
     alloc: Global,
     host: &mut H,
-    asked: &'a Compile<'_>,
+    asked: &'a NetStem<'_>,
 ) -> Result<Product, Failure<'a>>
     ensures made { IsMade (compile_meaning asked.now) (H.files host.old) result }
     ensures left { LeftByLoads ⟦<H as Host>⟧ (fails_unread result) host.old host.new }

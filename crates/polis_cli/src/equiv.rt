@@ -82,7 +82,11 @@ pub fn make_equiv<'a, H: Host>(
     };
     match compared(alloc, &net, &other) {
         Ok(product) => Ok(product),
-        Err(FileFault::Cause(cause)) => Err(Failure::File { name, cause }),
+        Err(FileFault::Cause(cause)) => Err(Failure::File {
+            name,
+            cause,
+            explanation: Bytes::new(alloc),
+        }),
         Err(FileFault::NoMemory) => Err(Failure::NoMemory),
     }
 }

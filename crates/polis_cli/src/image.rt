@@ -11,9 +11,9 @@ ghost use Rattle.polis_cli.specs.inner.Made.{IsMade};
 use crate::accept::FileFault;
 use crate::load::load_net;
 use crate::product::{End, Product, Saving};
-use machine_compiler::{codes_of, compile_network};
+use machine_compiler::compile_codes;
 use polis_base::{Bytes, Host, List, NoMemory};
-use polis_words::{Cause, Failure, Image as Asked, print_image};
+use polis_words::{Cause, Failure, NetStem, print_image};
 use std::alloc::Global;
 use task_image::{EncodeError, Image, encode};
 use transition_table::Network;
@@ -24,14 +24,13 @@ fn image_of_net(alloc: Global, net: &Network) -> Result<Image, NoMemory>
     requires whole { HasMachines net.now }
     ensures { IfOk result (IsNetImage net.now) }
 {
-    let compiled = compile_network(alloc, net)?;
-    let codes = codes_of(alloc, &compiled)?;
+    let codes = compile_codes(alloc, net)?;
     let image = Image::of(alloc, net, codes)?;
     Ok(image)
 }
 
 // The product that saves the bytes of an image.
-fn product_of(alloc: Global, asked: &Asked<'_>, bytes: Bytes) -> Result<Product, NoMemory>
+fn product_of(alloc: Global, asked: &NetStem<'_>, bytes: Bytes) -> Result<Product, NoMemory>
     ensures { IfOk result (λ product. product ≡ image_product asked.now bytes) }
 {
     let shown = print_image(alloc, bytes.as_slice().len() as u64)?;
@@ -46,7 +45,7 @@ fn product_of(alloc: Global, asked: &Asked<'_>, bytes: Bytes) -> Result<Product,
 }
 
 // The product of the image of a network, or why there is none.
-fn product_of_net(alloc: Global, asked: &Asked<'_>, net: &Network) -> Result<Product, FileFault>
+fn product_of_net(alloc: Global, asked: &NetStem<'_>, net: &Network) -> Result<Product, FileFault>
     requires deterministic { AreDeterministic net.now }
     requires whole { HasMachines net.now }
     ensures made { IfOk result (IsImageProduct asked.now net.now) }
@@ -71,7 +70,7 @@ fn product_of_net(alloc: Global, asked: &Asked<'_>, net: &Network) -> Result<Pro
 pub fn make_image<'a, H: Host>(
     alloc: Global,
     host: &mut H,
-    asked: &'a Asked<'_>,
+    asked: &'a NetStem<'_>,
 ) -> Result<Product, Failure<'a>>
     ensures made { IsMade (image_meaning asked.now) (H.files host.old) result }
     ensures left { LeftByLoads ⟦<H as Host>⟧ (fails_unread result) host.old host.new }
@@ -83,7 +82,11 @@ pub fn make_image<'a, H: Host>(
     };
     match product_of_net(alloc, asked, &net) {
         Ok(product) => Ok(product),
-        Err(FileFault::Cause(cause)) => Err(Failure::File { name, cause }),
+        Err(FileFault::Cause(cause)) => Err(Failure::File {
+            name,
+            cause,
+            explanation: Bytes::new(alloc),
+        }),
         Err(FileFault::NoMemory) => Err(Failure::NoMemory),
     }
 }

@@ -49,7 +49,11 @@ fn load_text<'a, H: Host>(
         Load::Failed => Cause::ReadFault,
         Load::NoMemory => return Err(Failure::NoMemory),
     };
-    Err(Failure::File { name, cause })
+    Err(Failure::File {
+        name,
+        cause,
+        explanation: Bytes::new(alloc),
+    })
 }
 
 /// Loads and reads a network text.
@@ -75,7 +79,11 @@ pub fn load_net<'a, H: Host>(
     };
     match network_in(alloc, text.as_slice()) {
         Ok(net) => Ok(net),
-        Err(FileFault::Cause(cause)) => Err(Failure::File { name, cause }),
+        Err(FileFault::Cause(cause)) => Err(Failure::File {
+            name,
+            cause,
+            explanation: Bytes::new(alloc),
+        }),
         Err(FileFault::NoMemory) => Err(Failure::NoMemory),
     }
 }
@@ -104,6 +112,7 @@ pub fn load_trace<'a, H: Host>(
         Err(TraceFault::Line { line, kind }) => Err(Failure::File {
             name,
             cause: Cause::TraceLine { line, kind },
+            explanation: Bytes::new(alloc),
         }),
         Err(TraceFault::NoMemory) => Err(Failure::NoMemory),
     }
@@ -136,6 +145,7 @@ pub fn load_journal<'a, H: Host>(
         Err(JournalFault::Line { line, kind }) => Err(Failure::File {
             name,
             cause: Cause::JournalLine { line, kind },
+            explanation: Bytes::new(alloc),
         }),
         Err(JournalFault::NoMemory) => Err(Failure::NoMemory),
     }
@@ -163,7 +173,11 @@ pub fn load_image<'a, H: Host>(
     };
     match image_in(alloc, net, bytes.as_slice()) {
         Ok(image) => Ok(image),
-        Err(FileFault::Cause(cause)) => Err(Failure::File { name, cause }),
+        Err(FileFault::Cause(cause)) => Err(Failure::File {
+            name,
+            cause,
+            explanation: Bytes::new(alloc),
+        }),
         Err(FileFault::NoMemory) => Err(Failure::NoMemory),
     }
 }

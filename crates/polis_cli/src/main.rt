@@ -6,12 +6,17 @@ mod bound;
 mod check;
 mod compile;
 mod demo;
+mod draw;
 mod equiv;
+mod explain;
+mod explained;
+mod explanation;
 mod image;
 mod image_file;
 mod inputs;
 mod law;
 mod load;
+mod losses;
 mod migrate;
 mod product;
 mod ran;
@@ -25,6 +30,7 @@ mod tasks;
 mod tests;
 mod texts;
 mod top;
+mod wave;
 mod worked;
 mod write;
 
@@ -69,6 +75,19 @@ polis equiv NET NET2
     says whether the network texts NET and NET2, which differ in rows and priorities
     alone, have the same tables, and so the same runs; else it shows the first machine
     and the first snapshot on which they differ
+polis losses NET TRACE JOURNAL
+    judges JOURNAL as replay does, and shows for each input of each machine how many
+    deliveries came, were read and were lost, whether one is left, and which entry
+    overwrote first
+polis wave NET TRACE JOURNAL STEM
+    judges JOURNAL as replay does, and saves the run along its entries as STEM.vcd, for
+    wave viewers
+polis draw NET STEM
+    compiles the machines of the network text NET, saves pictures of the network and of
+    the machines' graphs as STEM.dot, for Graphviz, and shows what compile shows
+polis explain NET [TRACE [JOURNAL]]
+    judges these files as check and replay do, and where one is refused, or JOURNAL isn't
+    legal, also shows where and why
 polis --help
     shows these forms
 polis --version

@@ -10,11 +10,11 @@ use crate::product::{End, Product, Saving};
 use crate::replay::{Judged, judge_journal};
 use crate::stamp::stamped_text;
 use polis_base::{Host, List, NoMemory};
-use polis_words::{Failure, Migrate, print_migrated};
+use polis_words::{Failure, ReplayStem, print_migrated};
 use std::alloc::Global;
 
 // The journal's text with its least stamps, and what is shown.
-fn product_of(alloc: Global, asked: &Migrate<'_>, judged: &Judged) -> Result<Product, NoMemory>
+fn product_of(alloc: Global, asked: &ReplayStem<'_>, judged: &Judged) -> Result<Product, NoMemory>
     requires legal { Legal judged.now.inputs.net judged.now.inputs.trace judged.now.read.journal }
     requires few { length judged.now.read.journal ≤ ENTRIES_MAX }
     ensures { IfOk result
@@ -37,7 +37,7 @@ fn product_of(alloc: Global, asked: &Migrate<'_>, judged: &Judged) -> Result<Pro
 pub fn make_migrate<'a, H: Host>(
     alloc: Global,
     host: &mut H,
-    asked: &'a Migrate<'_>,
+    asked: &'a ReplayStem<'_>,
 ) -> Result<Product, Failure<'a>>
     ensures made { IsMade (migrate_meaning asked.now) (H.files host.old) result }
     ensures left { LeftByLoads ⟦<H as Host>⟧ (fails_unread result) host.old host.new }

@@ -19,7 +19,7 @@ use journal_replay::{Verdict, replay, replay_stamped};
 use journal_text::ReadJournal;
 use machine_compiler::compile_network;
 use net_core::Trace;
-use polis_base::{Host, List, NoMemory};
+use polis_base::{Bytes, Host, List, NoMemory};
 use polis_words::{Cause, Failure, Replay, print_legal};
 use std::alloc::Global;
 use transition_table::Reactor;
@@ -54,8 +54,8 @@ fn find_by<R: Reactor>(
     }
 }
 
-// What is found of a journal that was read, each reaction being made again by compiled code.
-fn find(alloc: Global, inputs: &Inputs, read: &ReadJournal) -> Result<Verdict, NoMemory>
+/// What is found of a journal that was read, each reaction being made again by compiled code.
+pub fn find(alloc: Global, inputs: &Inputs, read: &ReadJournal) -> Result<Verdict, NoMemory>
     requires trace { IsTrace inputs.now.net inputs.now.trace }
     requires deterministic { AreDeterministic inputs.now.net }
     requires fits { IsJournal inputs.now.net read.now.journal }
@@ -107,6 +107,7 @@ pub fn judge_journal<'a, H: Host>(
         Ok(Verdict::Illegal { entry }) => Err(Failure::File {
             name,
             cause: Cause::Illegal { entry },
+            explanation: Bytes::new(alloc),
         }),
         Err(NoMemory) => Err(Failure::NoMemory),
     }

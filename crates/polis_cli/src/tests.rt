@@ -7,6 +7,8 @@ mod comparisons;
 mod counts;
 mod demos;
 mod diagrams;
+mod explained_texts;
+mod explanations;
 mod failing;
 mod faults;
 mod gates;
@@ -19,6 +21,7 @@ mod networks;
 mod orders;
 mod printed;
 mod replays;
+mod reports;
 mod rows;
 mod steps;
 mod system;
@@ -27,7 +30,7 @@ mod workers;
 
 use crate::tests::cases::{
     CHECK, COMPILE, Case, PRESS, PRESSED, REFUSED, RUN, Repeated, UNREAD, UNWRITTEN, call, host_of,
-    is_held, read_only, text_of, try_case, try_cases,
+    is_held, read_only, text_of, tried, try_cases, try_lines,
 };
 use crate::tests::faults::try_check;
 use crate::tests::listings::LAMP_LISTING;
@@ -41,41 +44,37 @@ use std::sync::Wait;
 use std::test::Fail;
 use std::thread::Threads;
 
-// Command lines that ask for nothing.
-const NO_REQUESTS: &[&[&str]] = &[
-    &[],
-    &["run", "net", "trc"],
-    &["run", "net", "trc", "o", "--workers", "0"],
-    &["run", "net", "trc", "o", "--workers", "9"],
-    &["run", "net", "trc", "o", "--workers", "1", "--workers", "2"],
-    &["demo"],
-    &["demo", "007"],
-    &["demo", "18446744073709551616"],
-    &["run", "net", "trc", "o", "--limit", "0"],
-    &["run", "net", "trc", "o", "--limit", "60001"],
-    &["run", "net", "trc", "o", "--limit", "05"],
-    &["run", "net", "trc", "o", "--limit"],
-    &["run", "net", "trc", "o", "--limit", "5", "--limit", "5"],
-    &["run", "net", "", "o"],
-    &["check"],
-    &["check", ""],
-    &["check", "net", "trc"],
-    &["compile", "net"],
-    &["compile", "net", ""],
-    &["compile", "net", "o", "--limit", "5"],
-    &["replay", "net", "trc"],
-    &["replay", "net", "", "jnl"],
-    &["replay", "net", "trc", "jnl", "o"],
-    &["migrate", "net", "trc", "jnl"],
-    &["migrate", "net", "trc", "jnl", ""],
-];
+// Command lines that ask for nothing. In some of them an empty word stands.
+const NO_REQUESTS: &str = "run net trc
+run net trc o --workers 0
+run net trc o --workers 9
+run net trc o --workers 1 --workers 2
+demo
+demo 007
+demo 18446744073709551616
+run net trc o --limit 0
+run net trc o --limit 60001
+run net trc o --limit 05
+run net trc o --limit
+run net trc o --limit 5 --limit 5
+run net  o
+check
+check 
+check net trc
+compile net
+compile net 
+compile net o --limit 5
+replay net trc
+replay net  jnl
+replay net trc jnl o
+migrate net trc jnl
+migrate net trc jnl ";
 
 #[test]
 fn answers_usage(rt: HostRuntime) -> Result<(), Fail> {
-    for (number, words) in NO_REQUESTS.iter().enumerate() {
-        let case = read_only(words, LAMP, PRESS_TRACE, Status::Usage, "usage\n");
-        try_case(&rt, rt.alloc(), &case, number)?;
-    }
+    let case = read_only(&[], LAMP, PRESS_TRACE, Status::Usage, "usage\n");
+    tried(&rt, rt.alloc(), &case, 0)?;
+    try_lines(&rt, rt.alloc(), NO_REQUESTS, &case)?;
     Ok(())
 }
 
@@ -224,20 +223,26 @@ const TOO_LONG: &Repeated<'_> = &Repeated {
     end: "",
 };
 
-// Whether a run on the text and one press is done, and gives the journal of the lamp.
+// Whether a run on a network and one press is done, and gives the journal of the lamp.
+fn runs_net<T: Threads + Wait + Sync>(rt: &T, alloc: Global, net: &str) -> Result<bool, NoMemory> {
+    let mut host = host_of(alloc, net, PRESS_TRACE)?;
+    let status = call(rt, alloc, RUN, &mut host, &OpenGate)?;
+    Ok(status == Status::Done && is_held(&host, "o.jnl", Some(PRESSED)))
+}
+
+// The same of such a text.
 fn runs<T: Threads + Wait + Sync>(
     rt: &T,
     alloc: Global,
     repeated: &Repeated<'_>,
 ) -> Result<bool, NoMemory> {
     let text = text_of(alloc, repeated)?;
-    let mut host = host_of(alloc, text.as_str(), PRESS_TRACE)?;
-    let status = call(rt, alloc, RUN, &mut host, &OpenGate)?;
-    Ok(status == Status::Done && is_held(&host, "o.jnl", Some(PRESSED)))
+    runs_net(rt, alloc, text.as_str())
 }
 
 #[test]
 fn refuses_long_files(rt: HostRuntime) -> Result<(), Fail> {
     assert!(rt; runs(&rt, rt.alloc(), AS_LONG)?);
-    try_check(&rt, rt.alloc(), TOO_LONG, "refused net long\n", 1)
+    try_check(&rt, rt.alloc(), TOO_LONG, "refused net long\n", 1)?;
+    Ok(())
 }

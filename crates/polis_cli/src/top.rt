@@ -10,13 +10,17 @@ use crate::bound::make_bound;
 use crate::check::make_check;
 use crate::compile::make_compile;
 use crate::demo::make_demo;
+use crate::draw::make_draw;
 use crate::equiv::make_equiv;
+use crate::explain::make_explain;
 use crate::image::make_image;
+use crate::losses::make_losses;
 use crate::migrate::make_migrate;
 use crate::product::Product;
 use crate::replay::make_replay;
 use crate::run::{make_run, make_run_by};
-use crate::show::{fail, show_line};
+use crate::show::{fail, show_lines};
+use crate::wave::make_wave;
 use crate::write::write_product;
 use event_buffer::Gate;
 use polis_base::{Host, Words};
@@ -45,6 +49,10 @@ fn make<'a, H: Host>(
         Request::Bound(bound) => make_bound(alloc, host, bound),
         Request::Image(image) => make_image(alloc, host, image),
         Request::Equiv(equiv) => make_equiv(alloc, host, equiv),
+        Request::Losses(losses) => make_losses(alloc, host, losses),
+        Request::Wave(wave) => make_wave(alloc, host, wave),
+        Request::Draw(draw) => make_draw(alloc, host, draw),
+        Request::Explain(explain) => make_explain(alloc, host, explain),
     }
 }
 
@@ -73,7 +81,7 @@ pub fn serial<H: Host>(alloc: Global, words: &Words, host: &mut H) -> Status
             end(alloc, host, &made)
         }
         None => {
-            show_line(host, b"usage\n");
+            show_lines(host, b"usage\n");
             Status::Usage
         }
     }

@@ -7,7 +7,7 @@ ghost use Rattle.polis_cli.specs.inner.Left.{LeftByWriting};
 ghost use Rattle.polis_cli.specs.inner.Writing.{SavesText, ShowsLineOf, StopsSaving, ShowsText};
 
 use crate::product::{End, Product, Saving};
-use crate::show::{no_memory, show_line};
+use crate::show::{no_memory, show_lines};
 use polis_base::{Host, Save};
 use polis_words::Status;
 
@@ -29,7 +29,7 @@ fn save_text<H: Host>(host: &mut H, saving: &Saving) -> Result<(), Status>
     match host.save(saving.name(), saving.text()) {
         Save::Written => Ok(()),
         Save::Failed => {
-            show_line(host, saving.line());
+            show_lines(host, saving.line());
             Err(Status::WriteFault)
         }
         Save::NoMemory => Err(no_memory(host)),

@@ -1,6 +1,6 @@
 -- What the options of a run say.
 use Rattle.std.proofs.lemmas.List.{length-drop, drop_all, append-nil}
-use Rattle.std.proofs.Common.{◌≡◌, ◌≢◌, ◌+◌, ◌*◌, ◌%◌, ◌≤◌, ◌<◌, ◌^◌, ℕ, get_or, List, [], ◌∷◌, ◌++◌, length, drop, slice_get, flat_map, Some, None, IfNone, refl, sym, ap, subst, ◌∙◌, arith, codes, decimal}
+use Rattle.std.proofs.Common.{◌≡◌, ◌≢◌, ◌+◌, ◌*◌, ◌%◌, ◌≤◌, ◌<◌, ◌^◌, ℕ, get_or, List, [], ◌∷◌, ◌++◌, length, drop, slice_get, flat_map, Some, None, IfNone, refl, sym, ap, subst, ◌∙◌, arith, decimal}
 use Rattle.std.specs.Prelude.{Option, unwrap_or}
 use Rattle.std.proofs.lemmas.Fmt.{decimal_injective}
 use Rattle.polis_base.specs.declared.limits.TheConstants.{ENTRIES_MAX, WORKERS_MAX}

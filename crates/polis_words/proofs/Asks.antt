@@ -3,8 +3,6 @@ use Rattle.std.proofs.Common.{◌≡◌, ◌↔◌, ℕ, Bool, false, IsTrue, su
 use Rattle.std.specs.Str.{bytes_eq}
 use Rattle.std.proofs.lemmas.Fmt.{decimal_injective}
 use Rattle.std.proofs.lemmas.Slice.Eq.{bytes_eq-Decides}
-use Rattle.polis_words.specs.Replay.{ReplayWords, AsksReplay}
-use Rattle.polis_words.specs.Migrate.{MigrateWords, AsksMigrate}
 use Rattle.polis_words.specs.Demo.{DemoWords, AsksDemo}
 use Rattle.polis_words.specs.inner.Commands.{IsCommand}
 
@@ -51,61 +49,10 @@ five_words (w ∷ x ∷ y ∷ z ∷ v ∷ []) a b c d e n p q r s t = cc
 five_words (w ∷ x ∷ y ∷ z ∷ v ∷ u ∷ more) a b c d e n p q r s t = let few : suc (length more) ≡ 0 =
     omega arith in absurd (omega arith)
 
--- the words of a replay name its files
-pub replay_at : (words : List (List ℕ)) (replay : ReplayWords) → AsksReplay words replay
-    → (slice_get words 1 ≡ Some replay.net) × (slice_get words 2 ≡ Some replay.trace)
-    × (slice_get words 3 ≡ Some replay.journal)
-replay_at words replay asks = (
-  ap (λ (w : List (List ℕ)). slice_get w 1) asks.form,
-  ap (λ (w : List (List ℕ)). slice_get w 2) asks.form,
-  ap (λ (w : List (List ℕ)). slice_get w 3) asks.form,
-)
-
 -- one word stands at a place
 same_word : (words : List (List ℕ)) (k : ℕ) (a b : List ℕ) → slice_get words k ≡ Some a
     → slice_get words k ≡ Some b → b ≡ a
 same_word words k a b p q = cc
-
--- the names at their places are one replay's
-pub one_files : (words : List (List ℕ)) (replay other : ReplayWords)
-    → slice_get words 1 ≡ Some replay.net → slice_get words 2 ≡ Some replay.trace
-    → slice_get words 3 ≡ Some replay.journal
-    → slice_get words 1 ≡ Some other.net → slice_get words 2 ≡ Some other.trace
-    → slice_get words 3 ≡ Some other.journal → other ≡ replay
-one_files words replay other a b c d e f =
-    let net = same_word words 1 replay.net other.net a d in
-    let trace = same_word words 2 replay.trace other.trace b e in
-    let journal = same_word words 3 replay.journal other.journal c f in
-    λ i. record { net = net i; trace = trace i; journal = journal i }
-
-pub one_replay : (words : List (List ℕ)) (replay other : ReplayWords)
-    → slice_get words 1 ≡ Some replay.net → slice_get words 2 ≡ Some replay.trace
-    → slice_get words 3 ≡ Some replay.journal → AsksReplay words other → other ≡ replay
-one_replay words replay other a b c asks = let at = replay_at words other asks in
-    one_files words replay other a b c at.0 at.1 at.2
-
--- the words of a migration name its files
-pub migrate_at : (words : List (List ℕ)) (migrate : MigrateWords) → AsksMigrate words migrate
-    → (slice_get words 1 ≡ Some migrate.replay.net)
-    × (slice_get words 2 ≡ Some migrate.replay.trace)
-    × (slice_get words 3 ≡ Some migrate.replay.journal)
-migrate_at words migrate asks = (
-  ap (λ (w : List (List ℕ)). slice_get w 1) asks.form,
-  ap (λ (w : List (List ℕ)). slice_get w 2) asks.form,
-  ap (λ (w : List (List ℕ)). slice_get w 3) asks.form,
-)
-
-pub one_migrate : (words : List (List ℕ)) (replay : ReplayWords) (stem : List ℕ)
-    (other : MigrateWords)
-    → slice_get words 1 ≡ Some replay.net → slice_get words 2 ≡ Some replay.trace
-    → slice_get words 3 ≡ Some replay.journal → slice_get words 4 ≡ Some stem
-    → AsksMigrate words other → other ≡ record { replay = replay; stem = stem }
-one_migrate words replay stem other a b c d asks =
-    let at = migrate_at words other asks in
-    let files = one_files words replay other.replay a b c at.0 at.1 at.2 in
-    let same = same_word words 4 stem other.stem d
-    (ap (λ (w : List (List ℕ)). slice_get w 4) asks.form) in
-    λ i. record { replay = files i; stem = same i }
 
 -- the number at its place is one demo's
 same_text : (a b : List ℕ) (at : Option (List ℕ)) → at ≡ Some a → at ≡ Some b → a ≡ b

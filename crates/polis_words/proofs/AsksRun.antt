@@ -5,7 +5,8 @@ use Rattle.polis_base.specs.declared.limits.TheConstants.{ENTRIES_MAX}
 use Rattle.polis_words.specs.Run.{RunWords, AsksRun, NeedsWorkers, run_form}
 use Rattle.polis_words.specs.RunOptions.{Said, AskOptions}
 use Rattle.polis_words.specs.declared.requests.Request.{Request}
-use Rattle.polis_words.specs.declared.requests.Request.TheVariants.{Run}
+use Rattle.polis_words.specs.declared.requests.Request.TheVariants.{Run, Explain}
+use Rattle.polis_words.specs.declared.requests.explain.Explain.TheVariants as explains
 use Rattle.polis_words.specs.Requests.{Asks}
 use Rattle.polis_words.specs.inner.Commands.{IsCommand}
 use Rattle.polis_words.proofs.AskOptions.{one_asked_for}
@@ -93,6 +94,12 @@ pub run_alone : (words : List (List ℕ)) (run : RunWords) → AsksRun words run
     → (other : Request) → Asks words other → other ≡ Run run
 unfolding letters
 run_alone words run asks (Run other) again = ap Run (one_asked words run other asks again)
+run_alone words run asks (Explain (explains.Net check)) again =
+    absurd (omega (arith, ap letters asks.form, ap letters again.0))
+run_alone words run asks (Explain (explains.Trace named)) again =
+    absurd (omega (arith, ap letters asks.form, ap letters again.0))
+run_alone words run asks (Explain (explains.Journal replay)) again =
+    absurd (omega (arith, ap letters asks.form, ap letters again.0))
 run_alone words run asks other again =
     let here = ap letters asks.form in
     let there = ap letters again.form in

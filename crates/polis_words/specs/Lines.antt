@@ -1,12 +1,14 @@
 -- Why calls end before their work is done, the statuses with which they end, and the lines that
 -- they show.
-use Rattle.std.specs.Prelude.{ℕ, List, [], ◌∷◌, ◌++◌, codes, decimal}
+use Rattle.std.specs.Prelude.{ℕ, List, ◌++◌, codes, decimal}
+use Rattle.polis_base.specs.Lines.{line}
 use Rattle.polis_base.specs.declared.token.LexError.{LexError}
 use Rattle.polis_base.specs.declared.token.LexError.TheVariants.{BadByte, NameTooLong, NumberTooLarge}
 use Rattle.trace_text.specs.declared.fault.TraceKind.{TraceKind}
 use Rattle.trace_text.specs.declared.fault.TraceKind.TheVariants.{Shape, Event, Value, Many}
 use Rattle.journal_text.specs.declared.fault.JournalKind.{JournalKind}
 use Rattle.journal_text.specs.declared.fault.JournalKind.TheVariants.{Header, After, End, Shape as LineShape, Many as ManyEntries, Stamp, Name as ItemName, Value as ItemValue, Count}
+use Rattle.polis_words.specs.declared.cause.Conflict.{Conflict as ConflictingRows}
 use Rattle.polis_words.specs.declared.cause.LexKind.{LexKind}
 use Rattle.polis_words.specs.declared.cause.LexKind.TheVariants.{Byte, Name, Number}
 use Rattle.polis_words.specs.declared.cause.Cause.{Cause}
@@ -24,7 +26,7 @@ cause_status TooLong = Refused
 cause_status (Lex kind place) = Refused
 cause_status (Syntax place) = Refused
 cause_status (Rule rule place) = Refused
-cause_status (Conflict text) = Refused
+cause_status (Conflict rows) = Refused
 cause_status (TraceLine line kind) = Refused
 cause_status (JournalLine line kind) = Refused
 cause_status (Unlawful entry) = Illegal
@@ -38,7 +40,7 @@ cause_status (TablesDiffer text) = Differ
 -- the status of a call that fails so
 abbrev pub status_of : Failure → Status
 status_of failures.NoMemory = NoMemory
-status_of (failures.File name cause) = cause_status cause
+status_of (failures.File name cause more) = cause_status cause
 
 -- the error of a text whose first token that doesn't read is of this kind, at this place
 abbrev pub lex_error : LexKind → ℕ → LexError
@@ -72,6 +74,11 @@ lex_word Number = codes "number"
 abbrev pub refused : List ℕ → List ℕ → List ℕ
 refused name why = codes "refused " ++ name ++ codes " " ++ why
 
+-- `M A B I ; X`: the machine, its two rows, and the snapshot on which they conflict
+abbrev pub conflict_text : ConflictingRows → List ℕ
+conflict_text c = c.name ++ codes " " ++ decimal c.row_a ++ codes " " ++ decimal c.row_b
+    ++ codes " " ++ c.snapshot
+
 -- the line of a file that isn't read or isn't accepted, or of what was found of it, without its end
 abbrev pub cause_line : List ℕ → Cause → List ℕ
 cause_line name Unread = codes "read fault " ++ name
@@ -82,7 +89,7 @@ cause_line name (Lex kind place) =
 cause_line name (Syntax place) = refused name (codes "syntax " ++ decimal place)
 cause_line name (Rule rule place) =
     refused name (codes "rule " ++ decimal rule ++ codes " " ++ decimal place)
-cause_line name (Conflict text) = refused name (codes "conflict " ++ text)
+cause_line name (Conflict rows) = refused name (codes "conflict " ++ conflict_text rows)
 cause_line name (TraceLine line kind) =
     refused name (codes "line " ++ decimal line ++ codes " " ++ trace_word kind)
 cause_line name (JournalLine line kind) =
@@ -95,11 +102,11 @@ cause_line name ImageLong = refused name (codes "image long")
 cause_line name OtherShape = refused name (codes "shape")
 cause_line name (TablesDiffer text) = codes "differ " ++ text
 
--- the line of a failure, without its end
-abbrev pub failure_line : Failure → List ℕ
-failure_line failures.NoMemory = codes "no memory"
-failure_line (failures.File name cause) = cause_line name.now cause
+-- the text of a failure: its line, and then what explains it
+abbrev pub failure_text : Failure → List ℕ
+failure_text failures.NoMemory = line (codes "no memory")
+failure_text (failures.File name cause more) = line (cause_line name.now cause) ++ more
 
 -- the line of a save that fails, with its end
 abbrev pub write_fault_line : List ℕ → List ℕ
-write_fault_line name = codes "write fault " ++ name ++ 10 ∷ []
+write_fault_line name = line (codes "write fault " ++ name)

@@ -22,11 +22,6 @@ abbrev pub machine_snapshot_text : Network → Machine → Snapshot → List ℕ
 machine_snapshot_text net machine s =
     machine.name ++ codes " " ++ snapshot_text net machine s.codes
 
--- `M A B I ; X`: the machine, its two rows, and the snapshot on which they conflict
-abbrev pub conflict_text : Network → Machine → ℕ → ℕ → Snapshot → List ℕ
-conflict_text net machine a b s = machine.name ++ codes " " ++ decimal a ++ codes " " ++ decimal b
-    ++ codes " " ++ snapshot_text net machine s.codes
-
 -- a machine's name, how many snapshots it has, and how many rows
 abbrev pub machine_line : Machine → List ℕ
 machine_line machine =
@@ -60,3 +55,11 @@ image_text bytes = line (codes "image " ++ decimal bytes ++ codes " bytes")
 -- what `equiv` shows of networks of so many machines each
 abbrev pub same_text : ℕ → List ℕ
 same_text machines = line (codes "same " ++ decimal machines)
+
+-- what `wave` shows of a legal journal of so many entries
+abbrev pub waved_text : ℕ → List ℕ
+waved_text entries = line (codes "wave " ++ decimal entries)
+
+-- what `explain` shows of a trace of so many items
+abbrev pub items_text : ℕ → List ℕ
+items_text items = line (codes "accepted items " ++ decimal items)

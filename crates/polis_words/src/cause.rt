@@ -3,7 +3,7 @@ ghost use Rattle.std.specs.Prelude.{◌≡◌};
 
 use crate::status::Status;
 use journal_text::JournalKind;
-use polis_base::{Bytes, NoMemory};
+use polis_base::{Bytes, Name, NoMemory};
 use trace_text::TraceKind;
 
 /// What is wrong with the first token of a text that doesn't read.
@@ -15,6 +15,22 @@ pub enum LexKind {
     Name,
     /// A number above 4,294,967,295.
     Number,
+}
+
+/// Two rows of a machine that conflict: the first such machine, and the least such rows and snapshot
+/// of it.
+#[derive(Drop)]
+pub struct Conflict {
+    /// The number of the machine.
+    pub machine: u32,
+    /// Its name.
+    pub name: Name,
+    /// The number of the one row.
+    pub row_a: u32,
+    /// The number of the other row.
+    pub row_b: u32,
+    /// The snapshot on which both are enabled, as it is printed.
+    pub snapshot: Bytes,
 }
 
 /// Why a file isn't read or isn't accepted, or what was found of it. A place is a byte's number
@@ -34,8 +50,8 @@ pub enum Cause {
     Syntax { place: u64 },
     /// The first rule that a network text breaks, by its number, and the least place where it does.
     Rule { rule: u8, place: u64 },
-    /// Rows of a machine conflict: its name, the two rows, and the snapshot, as they are printed.
-    Conflict { text: Bytes },
+    /// Rows of a machine conflict.
+    Conflict(Conflict),
     /// A line of a trace doesn't read.
     TraceLine { line: u64, kind: TraceKind },
     /// A line of a journal doesn't read.
@@ -72,6 +88,9 @@ pub enum Failure<'a> {
         name: &'a str,
         /// Why.
         cause: Cause,
+        /// What is shown after the line of the cause: of `explain` where the fault is and what is
+        /// wrong, and of other commands nothing.
+        explanation: Bytes,
     },
 }
 
@@ -86,7 +105,7 @@ impl Cause {
             Cause::ReadFault => Status::ReadFault,
             Cause::Absent | Cause::TooLong => Status::Refused,
             Cause::Lex { .. } | Cause::Syntax { .. } | Cause::Rule { .. } => Status::Refused,
-            Cause::Conflict { .. } => Status::Refused,
+            Cause::Conflict(_) => Status::Refused,
             Cause::TraceLine { .. } | Cause::JournalLine { .. } => Status::Refused,
             Cause::ImageByte { .. } | Cause::ImageShape { .. } => Status::Refused,
             Cause::ImageWrong { .. } | Cause::ImageLong => Status::Refused,

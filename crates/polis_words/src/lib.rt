@@ -5,16 +5,21 @@ mod cause;
 mod lines;
 mod print;
 mod requests;
+mod sentences;
 mod status;
 
-pub use cause::{Cause, Failure, LexKind};
-pub use lines::{fault_line, line_of};
+pub use cause::{Cause, Conflict, Failure, LexKind};
+pub use lines::{failure_text, fault_line};
 pub use print::{
-    print_accepted, print_conflict, print_image, print_legal, print_machine_snapshot,
-    print_migrated, print_same, print_summary,
+    print_accepted, print_image, print_items, print_legal, print_machine_snapshot, print_migrated,
+    print_same, print_snapshot, print_summary, print_waved,
 };
 pub use requests::{
-    Bound, Check, Compile, Demo, Equiv, GivenCosts, Image, Migrate, Replay, Request, Run,
-    needs_workers, request_of, several_of,
+    Bound, Check, Demo, Equiv, Explain, GivenCosts, NetStem, NetTrace, Replay, ReplayStem, Request,
+    Run, needs_workers, request_of, several_of,
+};
+pub use sentences::{
+    ABSENT, end_sentence, first_row_sentence, journal_sentence, lex_sentence, long_sentence,
+    place_sentence, rule_sentence, second_row_sentence, trace_sentence, why_sentence,
 };
 pub use status::Status;

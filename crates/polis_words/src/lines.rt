@@ -1,8 +1,8 @@
-// The one line of a call that made no product, and that of a save that fails.
-ghost use Rattle.std.specs.Prelude.{◌≡◌, ◌++◌, decimal, [], ◌∷◌, codes, IfOk, OnOk};
-ghost use Rattle.polis_words.specs.Lines.{cause_line, failure_line, trace_word, journal_word, lex_word, refused, write_fault_line};
+// The text of a call that made no product, and the line of a save that fails.
+ghost use Rattle.std.specs.Prelude.{◌≡◌, ◌++◌, decimal, codes, IfOk, OnOk};
+ghost use Rattle.polis_words.specs.Lines.{cause_line, conflict_text, failure_text, trace_word, journal_word, lex_word, refused, write_fault_line};
 
-use crate::cause::{Cause, Failure, LexKind};
+use crate::cause::{Cause, Conflict, Failure, LexKind};
 use journal_text::JournalKind;
 use polis_base::{Bytes, NoMemory};
 use std::alloc::Global;
@@ -94,6 +94,20 @@ fn push_printed(word: &[u8], text: &Bytes, into: &mut Bytes) -> Result<(), NoMem
     into.push(text.as_slice())
 }
 
+// Appends the machine, the rows and the snapshot of a conflict.
+fn push_conflict(rows: &Conflict, into: &mut Bytes) -> Result<(), NoMemory>
+    ensures { OnOk result (into.new ≡ into.old ++ codes "conflict " ++ conflict_text rows.now) }
+{
+    into.push(b"conflict ")?;
+    into.push(rows.name.bytes())?;
+    into.push(b" ")?;
+    into.push_decimal(rows.row_a as u64)?;
+    into.push(b" ")?;
+    into.push_decimal(rows.row_b as u64)?;
+    into.push(b" ")?;
+    into.push(rows.snapshot.as_slice())
+}
+
 // Appends what stands before the cause in the line of a file that is refused.
 fn push_refused(name: &str, into: &mut Bytes) -> Result<(), NoMemory>
     ensures { OnOk result (into.new ≡ into.old ++ codes "refused " ++ name.now ++ codes " ") }
@@ -124,7 +138,7 @@ fn push_cause(name: &str, cause: &Cause, into: &mut Bytes) -> Result<(), NoMemor
         Cause::Lex { kind, place } => push_lex(*kind, *place, into),
         Cause::Syntax { place } => push_numbered(b"syntax", *place, into),
         Cause::Rule { rule, place } => push_rule(*rule, *place, into),
-        Cause::Conflict { text } => push_printed(b"conflict", text, into),
+        Cause::Conflict(rows) => push_conflict(rows, into),
         Cause::TraceLine { line, kind } => push_line(*line, trace_kind(*kind), into),
         Cause::JournalLine { line, kind } => push_line(*line, journal_kind(*kind), into),
         Cause::ImageByte { place } => push_numbered(b"image byte", *place, into),
@@ -136,24 +150,31 @@ fn push_cause(name: &str, cause: &Cause, into: &mut Bytes) -> Result<(), NoMemor
     }
 }
 
-// Appends the line of a failure, without its end.
+// Appends the text of a failure.
 fn push_failure(failure: &Failure<'_>, into: &mut Bytes) -> Result<(), NoMemory>
-    ensures { OnOk result (into.new ≡ into.old ++ failure_line failure.now) }
+    ensures { OnOk result (into.new ≡ into.old ++ failure_text failure.now) }
 {
     match failure {
-        Failure::NoMemory => into.push(b"no memory"),
-        Failure::File { name, cause } => push_cause(name, cause, into),
+        Failure::NoMemory => into.push(b"no memory\n"),
+        Failure::File {
+            name,
+            cause,
+            explanation,
+        } => {
+            push_cause(name, cause, into)?;
+            into.push(b"\n")?;
+            into.push(explanation.as_slice())
+        }
     }
 }
 
-/// The line of a failure, with its end.
-pub fn line_of(alloc: Global, failure: &Failure<'_>) -> Result<Bytes, NoMemory>
-    ensures { IfOk result (λ line. line ≡ failure_line failure.now ++ 10 ∷ []) }
+/// The text of a failure: its line with its end, and what explains it.
+pub fn failure_text(alloc: Global, failure: &Failure<'_>) -> Result<Bytes, NoMemory>
+    ensures { IfOk result (λ text. text ≡ failure_text failure.now) }
 {
-    let mut line = Bytes::new(alloc);
-    push_failure(failure, &mut line)?;
-    line.push(b"\n")?;
-    Ok(line)
+    let mut text = Bytes::new(alloc);
+    push_failure(failure, &mut text)?;
+    Ok(text)
 }
 
 /// The line of a save that fails, with its end.

@@ -6,8 +6,8 @@ ghost use Rattle.polis_words.specs.Texts.{summary_text};
 mod accepted;
 mod found;
 
-pub use accepted::{print_accepted, print_conflict, print_machine_snapshot};
-pub use found::{print_image, print_legal, print_migrated, print_same};
+pub use accepted::{print_accepted, print_machine_snapshot, print_snapshot};
+pub use found::{print_image, print_items, print_legal, print_migrated, print_same, print_waved};
 use journal_text::push_count;
 use net_core::{Journal, lost};
 use polis_base::{Bytes, NoMemory};

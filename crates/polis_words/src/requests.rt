@@ -9,35 +9,47 @@ mod command;
 mod compile;
 mod costs;
 mod demo;
+mod draw;
 mod equiv;
+mod explain;
 mod file_word;
 mod image;
+mod losses;
 mod migrate;
+mod net_stem;
+mod net_trace;
 mod options;
 mod replay;
+mod replay_stem;
 mod run;
+mod wave;
 mod workers;
 
 pub use bound::Bound;
 use bound::bound_of;
 pub use check::Check;
 use check::check_of;
-pub use compile::Compile;
 use compile::compile_of;
 pub use costs::GivenCosts;
 pub use demo::Demo;
 use demo::demo_of;
+use draw::draw_of;
 pub use equiv::Equiv;
 use equiv::equiv_of;
-pub use image::Image;
+pub use explain::Explain;
+use explain::explain_of;
 use image::image_of;
-pub use migrate::Migrate;
+use losses::losses_of;
 use migrate::migrate_of;
+pub use net_stem::NetStem;
+pub use net_trace::NetTrace;
 use polis_base::Words;
 pub use replay::Replay;
 use replay::replay_of;
+pub use replay_stem::ReplayStem;
 pub use run::Run;
 use run::run_of;
+use wave::wave_of;
 pub use workers::{needs_workers, several_of};
 
 /// What a command line asks for, one variant for each command.
@@ -48,19 +60,27 @@ pub enum Request<'a> {
     /// To say whether a network is accepted.
     Check(Check<'a>),
     /// To compile the machines of a network.
-    Compile(Compile<'a>),
+    Compile(NetStem<'a>),
     /// To say whether a journal is legal.
     Replay(Replay<'a>),
     /// To save a legal journal with its least stamps.
-    Migrate(Migrate<'a>),
+    Migrate(ReplayStem<'a>),
     /// To run what is generated from a seed.
     Demo(Demo),
     /// To bound what the reactions of a network's machines cost.
     Bound(Bound<'a>),
     /// To save the code of a network's machines as an image.
-    Image(Image<'a>),
+    Image(NetStem<'a>),
     /// To say whether two networks have the same tables.
     Equiv(Equiv<'a>),
+    /// To say what became of the deliveries of a legal journal.
+    Losses(Replay<'a>),
+    /// To save a legal journal as a wave.
+    Wave(ReplayStem<'a>),
+    /// To save pictures of a network and of its machines' graphs.
+    Draw(NetStem<'a>),
+    /// To judge files and say where and why one is refused.
+    Explain(Explain<'a>),
 }
 
 /// What the command line asks for, if it asks for anything: its first word names the command.
@@ -83,6 +103,10 @@ pub fn request_of(words: &Words) -> Option<Request<'_>>
         "bound" => Some(Request::Bound(bound_of(words)?)),
         "image" => Some(Request::Image(image_of(words)?)),
         "equiv" => Some(Request::Equiv(equiv_of(words)?)),
+        "losses" => Some(Request::Losses(losses_of(words)?)),
+        "wave" => Some(Request::Wave(wave_of(words)?)),
+        "draw" => Some(Request::Draw(draw_of(words)?)),
+        "explain" => Some(Request::Explain(explain_of(words)?)),
         _ => None,
     }
 }

@@ -1,5 +1,5 @@
 -- Why a text isn't accepted, step by step.
-use Rattle.std.specs.Prelude.{⊤}
+use Rattle.std.specs.Prelude.{◌≡◌, ℕ, ⊤}
 use Rattle.polis_base.specs.declared.token.LexError.{LexError}
 use Rattle.polis_base.specs.declared.token.LexError.TheVariants as lexes
 use Rattle.transition_table.specs.declared.machine.Machine.{Machine}
@@ -23,12 +23,13 @@ lex_fault (lexes.NameTooLong place) = faults.Cause (Lex kinds.Name place)
 lex_fault (lexes.NumberTooLarge place) = faults.Cause (Lex kinds.Number place)
 lex_fault lexes.NoMemory = faults.NoMemory
 
--- why a machine of the network isn't said to be deterministic
-abbrev pub IsMachineFault : Network → Machine → Cause → Type 0
-IsMachineFault net machine (Conflict printed) = IsConflictIn net machine printed
-IsMachineFault net machine other = ⊥
+-- why the k-th machine of the network isn't said to be deterministic
+abbrev pub IsMachineFault : Network → ℕ → Machine → Cause → Type 0
+IsMachineFault net k machine (Conflict rows) =
+    (rows.machine ≡ k) × IsConflictIn net machine rows
+IsMachineFault net k machine other = ⊥
 
 -- why the machines of the network aren't said to be deterministic
 abbrev pub IsConflictFault : Network → Cause → Type 0
-IsConflictFault net (Conflict printed) = IsFirstConflict net printed
+IsConflictFault net (Conflict rows) = IsFirstConflict net rows
 IsConflictFault net other = ⊥

@@ -12,7 +12,7 @@ use Rattle.task_image.specs.Images.{IsImage}
 use Rattle.task_image.specs.Verifying.{Verifies}
 use Rattle.polis_words.specs.declared.cause.Cause.{Cause}
 use Rattle.polis_words.specs.declared.cause.Cause.TheVariants.{ImageShape, ImageWrong, ImageLong}
-use Rattle.polis_words.specs.Image.{ImageWords}
+use Rattle.polis_words.specs.NetStem.{NetStemWords}
 use Rattle.polis_cli.specs.declared.product.Product.{Product}
 use Rattle.polis_cli.specs.Image.{image_of_parts, image_product}
 use Rattle.polis_cli.specs.ImageFiles.{IsWrongText}
@@ -30,7 +30,7 @@ IsMisfit net image (ImageWrong printed) = IsWrongText net image printed
 IsMisfit net image other = ⊥
 
 -- the product is that of the bytes of an image of the network
-pub record IsImageProduct (asked : ImageWords) (net : Network) (product : Product) : Type 0 where
+pub record IsImageProduct (asked : NetStemWords) (net : Network) (product : Product) : Type 0 where
   pub parts : List Part
   pub right : AreRightParts net parts
   pub bytes : List ℕ

@@ -22,7 +22,7 @@ is_read_fault other = false
 -- the failure is a failed load
 abbrev pub is_unread : Failure → Bool
 is_unread failures.NoMemory = false
-is_unread (failures.File name cause) = is_read_fault cause
+is_unread (failures.File name cause more) = is_read_fault cause
 
 -- the answer is a failed load
 abbrev pub fails_unread : {X : Type 0} → Result X Failure → Bool
@@ -37,11 +37,11 @@ pub record LeftByLoads {S : Type 0} (host : Ghosts S) (failed : Bool) (old new :
   pub load_faults : CountsFault failed (host.load_faults old) (host.load_faults new)
   pub write_faults : host.write_faults new ≡ host.write_faults old
 
--- Only the line was shown, or a prefix of it where the count of write faults rose, or nothing.
-pub record LeftByLine {S : Type 0} (host : Ghosts S) (line : List ℕ) (old new : S) : Type 0 where
+-- Only the text was shown, or a prefix of it where the count of write faults rose, or nothing.
+pub record LeftByText {S : Type 0} (host : Ghosts S) (text : List ℕ) (old new : S) : Type 0 where
   pub files : host.files new ≡ host.files old
   pub shown : Changes (host.shown old) (host.shown new)
-      (ShowsPrefix line (Rose (host.write_faults old) (host.write_faults new)))
+      (ShowsPrefix text (Rose (host.write_faults old) (host.write_faults new)))
   pub load_faults : host.load_faults new ≡ host.load_faults old
   pub write_faults : host.write_faults old ≤ host.write_faults new
 
@@ -55,10 +55,10 @@ pub record LeftByWriting {S : Type 0} (host : Ghosts S) (status : Status) (produ
   pub end_faults : IsTrue (is_end status) → host.write_faults new ≡ host.write_faults old
   pub load_faults : host.load_faults new ≡ host.load_faults old
 
--- The line of the failure was shown, or that memory ran out.
+-- The text of the failure was shown, or that memory ran out.
 abbrev pub ShowsFailure : {S : Type 0} → Ghosts S → Failure → Status → S → S → Type 0
 ShowsFailure host failure status old new =
-    (line : List ℕ) × FailsWith failure status line × LeftByLine host line old new
+    (text : List ℕ) × FailsWith failure status text × LeftByText host text old new
 
 -- What was made was written, or why nothing was made was shown.
 abbrev pub LeftByEnding : {S : Type 0} → Ghosts S → Result Product Failure → Status → S → S → Type 0

@@ -1,5 +1,5 @@
 -- What making a product gives, whatever the command.
-use Rattle.std.specs.Prelude.{◌≡◌, ◌⊎◌, ℕ, true, List, Option, Result, Ok, Err, IsTrue, ⊤}
+use Rattle.std.specs.Prelude.{◌≡◌, ◌⊎◌, ℕ, true, List, [], Option, Result, Ok, Err, IsTrue, ⊤}
 use Rattle.polis_base.specs.Host.{Files, WhereTold}
 use Rattle.polis_words.specs.declared.cause.Cause.{Cause}
 use Rattle.polis_words.specs.declared.cause.Failure.{Failure}
@@ -11,14 +11,19 @@ use Rattle.polis_cli.specs.Ends.{end_status}
 use Rattle.polis_cli.specs.Saves.{AreApart}
 use Rattle.polis_cli.specs.Meanings.{Meaning, MayEnd, is_failure}
 
--- P of the name of the file that failed and of why, unless memory ran out
+-- P of the name of the file that failed, of why, and of what explains it, unless memory ran out
+abbrev pub IfExplained : Failure → (List ℕ → Cause → List ℕ → Type 0) → Type 0
+IfExplained failures.NoMemory P = ⊤
+IfExplained (failures.File name cause more) P = P name.now cause more
+
+-- P of the name and of why, and nothing explains it
 abbrev pub IfFile : Failure → (List ℕ → Cause → Type 0) → Type 0
 IfFile failures.NoMemory P = ⊤
-IfFile (failures.File name cause) P = P name.now cause
+IfFile (failures.File name cause more) P = P name.now cause × (more ≡ [])
 
 -- the command fails so of these files
 abbrev pub FailsAs : Meaning → Files → Failure → Type 0
-FailsAs m files failure = IfFile failure (m.fails files)
+FailsAs m files failure = IfExplained failure (λ name cause more. m.fails files name cause)
 
 -- the product is one that the command makes of the files, where they are told; no two of its texts
 -- have one name, and it ends the command with one of its statuses
@@ -27,10 +32,11 @@ pub record IsMadeProduct (m : Meaning) (told : Option Files) (product : Product)
   pub apart : AreApart product.saves
   pub ends : IsTrue (m.ends (end_status product.end))
 
--- the failure is one of the command, of the files where they are told
+-- the failure is one of the command, of the files where they are told, and so is what explains it
 abbrev pub IsMadeFailure : Meaning → Option Files → Failure → Type 0
-IsMadeFailure m told failure = IfFile failure (λ name cause.
-    WhereTold told (λ files. m.fails files name cause) × MayEnd m (cause_status cause))
+IsMadeFailure m told failure = IfExplained failure (λ name cause more.
+    WhereTold told (λ files. m.fails files name cause) × MayEnd m (cause_status cause)
+    × m.explains told name cause more)
 
 -- what the command makes of the files, or why it makes nothing
 abbrev pub IsMade : Meaning → Option Files → Result Product Failure → Type 0

@@ -1,6 +1,8 @@
 // Whole calls that bound what reactions cost, over files in memory, as a table. The costs were found
 // by running the listed code on each snapshot, and of a lamp, a join and a belt by hand. Then the
 // calls that no command makes, on the lamp's machine.
+ghost use Rattle.std.specs.Prelude.{◌≡◌, length, IfOk};
+ghost use Rattle.cost_bound.specs.Certificates.{AreSmall};
 ghost use Rattle.task_code.specs.Facts.{OnceCode};
 ghost use Rattle.task_machine.specs.Running.{CodeFits};
 ghost use Rattle.transition_table.specs.Transitions.{IsDeterministic};
@@ -8,7 +10,7 @@ ghost use Rattle.transition_table.specs.Transitions.{IsDeterministic};
 use crate::compile_machine;
 use crate::tests::cases::{Case, DONE, REFUSED, UNREAD, UNWRITTEN, try_cases};
 use crate::tests::networks::{BELT, CLASH, ECHO, JOIN, LOOP, PONG};
-use cost_bound::{Costs, LABELLED_MAX, audit, labels, worst};
+use cost_bound::{Costs, LABELLED_MAX, Labels, audit, labels, worst};
 use polis_base::NoMemory;
 use polis_words::Status;
 use sample_networks::lamp::deterministic_machine;
@@ -167,6 +169,14 @@ fn refuses_to_bound(rt: HostRuntime) -> Result<(), Fail> {
     try_cases(&rt, rt.alloc(), UNBOUNDED)
 }
 
+// Whether labels are these, and cover code.
+fn are_cover(code: &Code, costs: &Costs, labels: &Labels, wanted: &[u64]) -> bool
+    requires long { length labels.now ≡ length code.now }
+    requires small { AreSmall labels.now }
+{
+    labels.as_slice() == wanted && audit(code, costs, labels)
+}
+
 // Whether the least labels of code are these, and cover it.
 fn are_labels(alloc: Global, code: &Code, wanted: &[u64]) -> Result<bool, NoMemory> {
     if code.len() > LABELLED_MAX {
@@ -174,7 +184,7 @@ fn are_labels(alloc: Global, code: &Code, wanted: &[u64]) -> Result<bool, NoMemo
     }
     let costs = Costs::ones();
     let labels = labels(alloc, code, &costs)?;
-    Ok(labels.as_slice() == wanted && audit(code, &costs, &labels))
+    Ok(are_cover(code, &costs, &labels, wanted))
 }
 
 // Whether code takes so many steps at most.
@@ -186,13 +196,24 @@ fn is_worst(alloc: Global, code: &Code, m: &Machine, steps: u64) -> Result<bool,
     Ok(bound.steps == steps)
 }
 
+// The code of a machine.
+fn code_of(alloc: Global, m: &Machine) -> Result<Code, NoMemory>
+    requires { IsDeterministic m.now }
+    ensures fits { IfOk result (λ code. CodeFits m.now code) }
+    ensures once { IfOk result (λ code. OnceCode code) }
+{
+    let compiled = compile_machine(alloc, m)?;
+    Ok(compiled.code)
+}
+
 // Whether a machine's code takes so many steps at most and has these labels.
 fn certifies(alloc: Global, m: &Machine, steps: u64, wanted: &[u64]) -> Result<bool, NoMemory>
     requires { IsDeterministic m.now }
 {
-    let compiled = compile_machine(alloc, m)?;
-    let worst = is_worst(alloc, &compiled.code, m, steps)?;
-    Ok(worst && are_labels(alloc, &compiled.code, wanted)?)
+    let code = code_of(alloc, m)?;
+    let is_worst = is_worst(alloc, &code, m, steps)?;
+    let are_labels = are_labels(alloc, &code, wanted)?;
+    Ok(is_worst && are_labels)
 }
 
 fn certifies_lamp(alloc: Global) -> Result<bool, NoMemory> {

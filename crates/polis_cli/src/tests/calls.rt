@@ -115,7 +115,7 @@ fn merged_of_two(alloc: Global) -> Result<Bytes, NoMemory> {
 #[test]
 fn merges_the_logs_of_four_steps(rt: HostRuntime) -> Result<(), Fail> {
     let text = merged_of_two(rt.alloc())?;
-    assert_eq!(rt; text.as_slice(), BY_NUMBER);
+    assert!(rt; text.as_slice() == BY_NUMBER);
     Ok(())
 }
 
@@ -197,7 +197,7 @@ fn ended_of_two(alloc: Global) -> Result<Bytes, NoMemory> {
 #[test]
 fn steps_until_none_is_left(rt: HostRuntime) -> Result<(), Fail> {
     let text = ended_of_two(rt.alloc())?;
-    assert_eq!(rt; text.as_slice(), BY_NUMBER);
+    assert!(rt; text.as_slice() == BY_NUMBER);
     Ok(())
 }
 
@@ -267,63 +267,65 @@ fn read(alloc: Global, inputs: &Inputs) -> Result<Journal, NoMemory>
     }
 }
 
-// A configuration after the first entries of that journal, so many, where all are taken.
-fn after<'a>(alloc: Global, inputs: &'a Inputs, count: u64) -> Result<Config<'a>, NoMemory>
-    requires fits { IsTrace inputs.now.net inputs.now.trace }
-    requires deterministic { AreDeterministic inputs.now.net }
-    ensures network { IfOk result (λ config. config.net ≡ inputs.now.net) }
-    ensures trace { IfOk result (λ config. config.trace ≡ inputs.now.trace) }
+// Offers the first entries of a journal, so many, which are to be taken, and then the first one
+// again. Answers whether they are complete and that one isn't taken.
+fn are_whole(
+    config: &mut Config<'_>,
+    r: &TableReactor<'_>,
+    journal: &Journal,
+    count: u64,
+) -> Result<bool, NoMemory>
+    requires network { r.now.net.now ≡ config.old.net }
+    requires fits { IsJournal config.old.net journal.now }
+    ensures network { OnOk result (config.new.net ≡ config.old.net) }
+    ensures trace { OnOk result (config.new.trace ≡ config.old.trace) }
 {
-    let r = reactor_of(inputs);
-    let journal = read(alloc, inputs)?;
-    let mut config = Config::start(alloc, &inputs.net, &inputs.trace)?;
-    if !are_taken(&mut config, &r, &journal, count)? {
+    if !are_taken(config, r, journal, count)? {
         return Err(NoMemory);
     }
-    Ok(config)
+    let is_complete = config.is_complete();
+    let again = is_taken(config, r, journal, 0)?;
+    Ok(is_complete && !again)
 }
 
-// These entries.
-fn begun(alloc: Global, inputs: &Inputs, count: u64) -> Result<Journal, NoMemory>
+// The journal after these entries of a journal, and whether they are whole.
+fn offered(
+    alloc: Global,
+    inputs: &Inputs,
+    journal: &Journal,
+    count: u64,
+) -> Result<(Journal, bool), NoMemory>
     requires fits { IsTrace inputs.now.net inputs.now.trace }
     requires deterministic { AreDeterministic inputs.now.net }
-    ensures { IfOk result (λ journal. Legal inputs.now.net inputs.now.trace journal) }
-{
-    let config = after(alloc, inputs, count)?;
-    Ok(config.into_journal())
-}
-
-// Whether the first entry of that journal is taken.
-fn takes_first(alloc: Global, inputs: &Inputs, config: &mut Config<'_>) -> Result<bool, NoMemory>
-    requires network { config.old.net ≡ inputs.now.net }
-    requires deterministic { AreDeterministic inputs.now.net }
+    requires journal { IsJournal inputs.now.net journal.now }
+    ensures { IfOk result (λ p. Legal inputs.now.net inputs.now.trace p.0) }
 {
     let r = reactor_of(inputs);
-    let journal = read(alloc, inputs)?;
-    is_taken(config, &r, &journal, 0)
+    let mut config = Config::start(alloc, &inputs.net, &inputs.trace)?;
+    let are_whole = are_whole(&mut config, &r, journal, count)?;
+    Ok((config.into_journal(), are_whole))
 }
 
-// Whether all four entries are taken and are complete, and the first one isn't taken again.
-fn ends_after_four(alloc: Global, inputs: &Inputs) -> Result<bool, NoMemory>
+// The same of the journal without stamps.
+fn begun(alloc: Global, inputs: &Inputs, count: u64) -> Result<(Journal, bool), NoMemory>
     requires fits { IsTrace inputs.now.net inputs.now.trace }
     requires deterministic { AreDeterministic inputs.now.net }
+    ensures { IfOk result (λ p. Legal inputs.now.net inputs.now.trace p.0) }
 {
-    let mut config = after(alloc, inputs, 4)?;
-    let again = takes_first(alloc, inputs, &mut config)?;
-    Ok(!again && config.is_complete())
+    let journal = read(alloc, inputs)?;
+    let begun = offered(alloc, inputs, &journal, count)?;
+    Ok(begun)
 }
 
-fn two_ends_after_four(alloc: Global) -> Result<bool, NoMemory> {
-    let inputs = inputs_of(alloc, TWO, TWO_TRACE)?;
-    ends_after_four(alloc, &inputs)
-}
-
-// The text of all four entries.
+// The text of all four entries, where they are whole.
 fn begun_text(alloc: Global, inputs: &Inputs) -> Result<Bytes, NoMemory>
     requires fits { IsTrace inputs.now.net inputs.now.trace }
     requires deterministic { AreDeterministic inputs.now.net }
 {
-    let journal = begun(alloc, inputs, 4)?;
+    let (journal, are_whole) = begun(alloc, inputs, 4)?;
+    if !are_whole {
+        return Err(NoMemory);
+    }
     text_of(alloc, inputs, &journal, true)
 }
 
@@ -334,9 +336,8 @@ fn begun_of_two(alloc: Global) -> Result<Bytes, NoMemory> {
 
 #[test]
 fn takes_the_entries_of_a_legal_journal(rt: HostRuntime) -> Result<(), Fail> {
-    assert!(rt; two_ends_after_four(rt.alloc())?);
     let text = begun_of_two(rt.alloc())?;
-    assert_eq!(rt; text.as_slice(), BY_NUMBER);
+    assert!(rt; text.as_slice() == BY_NUMBER);
     Ok(())
 }
 
@@ -363,7 +364,7 @@ fn resumed_after_two(alloc: Global, inputs: &Inputs) -> Result<Journal, NoMemory
     requires deterministic { AreDeterministic inputs.now.net }
     ensures { IfOk result (λ journal. Legal inputs.now.net inputs.now.trace journal) }
 {
-    let first = begun(alloc, inputs, 2)?;
+    let (first, _) = begun(alloc, inputs, 2)?;
     let from = resumed(alloc, inputs, first)?;
     Ok(from)
 }
@@ -403,7 +404,7 @@ fn carried_on_of_two(alloc: Global) -> Result<Bytes, NoMemory> {
 #[test]
 fn carries_a_legal_journal_on(rt: HostRuntime) -> Result<(), Fail> {
     let text = carried_on_of_two(rt.alloc())?;
-    assert_eq!(rt; text.as_slice(), BY_PRIORITY);
+    assert!(rt; text.as_slice() == BY_PRIORITY);
     Ok(())
 }
 
@@ -450,8 +451,9 @@ fn adopted_of_join(alloc: Global, limit: u64) -> Result<u64, NoMemory> {
 
 #[test]
 fn adopts_landings_up_to_the_limit(rt: HostRuntime) -> Result<(), Fail> {
-    assert_eq!(rt; adopted_of_join(rt.alloc(), 2)?, 2);
-    assert_eq!(rt; adopted_of_join(rt.alloc(), 60_000)?, 3);
+    let two = adopted_of_join(rt.alloc(), 2)?;
+    let all = adopted_of_join(rt.alloc(), 60_000)?;
+    assert!(rt; two == 2 && all == 3);
     Ok(())
 }
 
@@ -489,9 +491,14 @@ fn three_sizes(alloc: Global) -> Result<VarTable, NoMemory> {
     Ok(vars)
 }
 
+fn count_of_three(alloc: Global) -> Result<u64, NoMemory> {
+    let vars = three_sizes(alloc)?;
+    count_after_first(alloc, &vars)
+}
+
 #[test]
 fn eleven_lists_of_codes_follow_the_first(rt: HostRuntime) -> Result<(), Fail> {
-    let vars = three_sizes(rt.alloc())?;
-    assert_eq!(rt; count_after_first(rt.alloc(), &vars)?, 11);
+    let count = count_of_three(rt.alloc())?;
+    assert!(rt; count == 11);
     Ok(())
 }

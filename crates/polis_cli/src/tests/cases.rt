@@ -5,7 +5,7 @@ use crate::tests::listings::LAMP_LISTING;
 use crate::tests::networks::LAMP;
 use crate::top::polis;
 use event_buffer::{Gate, OpenGate};
-use polis_base::{MemoryHost, NoMemory, Words};
+use polis_base::{Bytes, MemoryHost, NoMemory, Words};
 use polis_words::Status;
 use sample_networks::texts::PRESS_TRACE;
 use std::alloc::Global;
@@ -161,9 +161,32 @@ pub fn text_of(alloc: Global, repeated: &Repeated<'_>) -> Result<String, NoMemor
     Ok(text)
 }
 
+/// What stands before a mark in a text and after it.
+pub fn cut<'a>(text: &'a str, mark: &str) -> Option<(&'a str, &'a str)> {
+    text.split_once(mark)
+}
+
+/// Three texts, one after the other.
+pub fn joined(alloc: Global, first: &[u8], second: &[u8], third: &[u8]) -> Result<Bytes, NoMemory> {
+    let mut text = Bytes::new(alloc);
+    text.push(first)?;
+    text.push(second)?;
+    text.push(third)?;
+    Ok(text)
+}
+
 fn make_words(alloc: Global, words: &[&str]) -> Result<Words, NoMemory> {
     let mut made = Words::new(alloc);
     for word in words {
+        made.push(word)?;
+    }
+    Ok(made)
+}
+
+// The words of a line. Between two blanks an empty word stands.
+fn words_in(alloc: Global, line: &str) -> Result<Words, NoMemory> {
+    let mut made = Words::new(alloc);
+    for word in line.split(" ") {
         made.push(word)?;
     }
     Ok(made)
@@ -187,6 +210,14 @@ fn fail(host: &mut MemoryHost, calls: &[u64]) -> Result<(), NoMemory> {
         host.fail(*call)?;
     }
     Ok(())
+}
+
+// Has one of the host's calls fail, if it is told any.
+fn fail_at(host: &mut MemoryHost, call: Option<u64>) -> Result<(), NoMemory> {
+    match call {
+        Some(call) => host.fail(call),
+        None => Ok(()),
+    }
 }
 
 fn tear(host: &mut MemoryHost, torn: Option<(u64, u64)>) -> Result<(), NoMemory> {
@@ -213,7 +244,27 @@ pub fn host_of(alloc: Global, net: &str, trace: &str) -> Result<MemoryHost, NoMe
     Ok(host)
 }
 
-/// The one place where tests call `polis`.
+/// A host that holds these files, each a name and its bytes.
+pub fn host_with(alloc: Global, files: &[(&str, &[u8])]) -> Result<MemoryHost, NoMemory> {
+    let mut host = MemoryHost::new(alloc);
+    for (name, bytes) in files {
+        host.put(name, bytes)?;
+    }
+    Ok(host)
+}
+
+// The one place where tests call `polis`.
+fn call_words<T: Threads + Wait + Sync, G: Gate + Sync>(
+    rt: &T,
+    alloc: Global,
+    words: &Words,
+    host: &mut MemoryHost,
+    gate: &G,
+) -> Status {
+    polis(rt, alloc, words, host, gate)
+}
+
+/// What a call answers.
 pub fn call<T: Threads + Wait + Sync, G: Gate + Sync>(
     rt: &T,
     alloc: Global,
@@ -222,7 +273,31 @@ pub fn call<T: Threads + Wait + Sync, G: Gate + Sync>(
     gate: &G,
 ) -> Result<Status, NoMemory> {
     let words = make_words(alloc, words)?;
-    Ok(polis(rt, alloc, &words, host, gate))
+    Ok(call_words(rt, alloc, &words, host, gate))
+}
+
+/// What a call answers whose words stand in a line, with a blank between each two.
+pub fn call_line<T: Threads + Wait + Sync>(
+    rt: &T,
+    alloc: Global,
+    line: &str,
+    host: &mut MemoryHost,
+) -> Result<Status, NoMemory> {
+    let words = words_in(alloc, line)?;
+    Ok(call_words(rt, alloc, &words, host, &OpenGate))
+}
+
+/// Whether such a call, in which a call of the host may fail, answers this status and shows this.
+pub fn ends<T: Threads + Wait + Sync>(
+    rt: &T,
+    alloc: Global,
+    host: &mut MemoryHost,
+    (line, fails): (&str, Option<u64>),
+    (wanted, shown): (Status, &str),
+) -> Result<bool, NoMemory> {
+    fail_at(host, fails)?;
+    let status = call_line(rt, alloc, line, host)?;
+    Ok(status == wanted && host.shown() == shown.as_bytes())
 }
 
 /// Whether a name holds the wanted text, or nothing where none is wanted.
@@ -277,16 +352,84 @@ pub fn first_wrong(case: &Case<'_>, status: Status, host: &MemoryHost) -> &'stat
     ""
 }
 
+/// Fails the test where a case isn't right.
+pub fn expect<T: Abort>(rt: &T, is_right: bool, number: usize) {
+    assert!(rt; is_right, "case {number}");
+}
+
+/// Fails the test where something of a case is wrong.
+pub fn expect_none<T: Abort>(rt: &T, wrong: &str, number: usize) {
+    assert!(rt; wrong.is_empty(), "case {number}: {wrong}");
+}
+
+// What is wrong after a case's call, or nothing.
+fn wrong_in<T: Threads + Wait + Sync>(
+    rt: &T,
+    alloc: Global,
+    case: &Case<'_>,
+) -> Result<&'static str, NoMemory> {
+    let mut host = make_host(alloc, case)?;
+    let status = call(rt, alloc, case.words, &mut host, &OpenGate)?;
+    Ok(first_wrong(case, status, &host))
+}
+
+/// Tries a case. A caller in a loop has less to prove where no `Fail` can come.
+pub fn tried<T: Abort + Threads + Wait + Sync>(
+    rt: &T,
+    alloc: Global,
+    case: &Case<'_>,
+    number: usize,
+) -> Result<(), NoMemory> {
+    let wrong = wrong_in(rt, alloc, case)?;
+    expect_none(rt, wrong, number);
+    Ok(())
+}
+
+/// Tries a call over a network and a trace that is refused and shows this.
+pub fn tried_refusal<'a, T: Abort + Threads + Wait + Sync>(
+    rt: &T,
+    alloc: Global,
+    (words, net, trace): (&'static [&'static str], &'a str, &'a str),
+    shown: &'a str,
+    number: usize,
+) -> Result<(), NoMemory> {
+    let case = read_only(words, net, trace, Status::Refused, shown);
+    tried(rt, alloc, &case, number)
+}
+
 pub fn try_case<T: Abort + Threads + Wait + Sync>(
     rt: &T,
     alloc: Global,
     case: &Case<'_>,
     number: usize,
 ) -> Result<(), Fail> {
+    tried(rt, alloc, case, number)?;
+    Ok(())
+}
+
+// What is wrong after the call of a line in place of the case's, or nothing.
+fn wrong_in_line<T: Threads + Wait + Sync>(
+    rt: &T,
+    alloc: Global,
+    line: &str,
+    case: &Case<'_>,
+) -> Result<&'static str, NoMemory> {
     let mut host = make_host(alloc, case)?;
-    let status = call(rt, alloc, case.words, &mut host, &OpenGate)?;
-    let wrong = first_wrong(case, status, &host);
-    assert!(rt; wrong.is_empty(), "case {number}: {wrong}");
+    let status = call_line(rt, alloc, line, &mut host)?;
+    Ok(first_wrong(case, status, &host))
+}
+
+/// Tries a case with the words of each of these lines in place of its own.
+pub fn try_lines<T: Abort + Threads + Wait + Sync>(
+    rt: &T,
+    alloc: Global,
+    lines: &str,
+    case: &Case<'_>,
+) -> Result<(), NoMemory> {
+    for (number, line) in lines.split("\n").enumerate() {
+        let wrong = wrong_in_line(rt, alloc, line, case)?;
+        expect_none(rt, wrong, number);
+    }
     Ok(())
 }
 
@@ -296,7 +439,7 @@ pub fn try_cases<T: Abort + Threads + Wait + Sync>(
     cases: &[Case<'_>],
 ) -> Result<(), Fail> {
     for (number, case) in cases.iter().enumerate() {
-        try_case(rt, alloc, case, number)?;
+        tried(rt, alloc, case, number)?;
     }
     Ok(())
 }

@@ -1,7 +1,6 @@
-// Whole calls that compare two networks, over files in memory, as tables.
-use crate::tests::cases::call;
+// Whole calls that compare two networks, over files in memory.
+use crate::tests::cases::{call_line, cut, ends, expect, host_with, joined};
 use crate::tests::networks::{BELT, CLASH, ECHO, JOIN, LAMP, TWO, VALUE};
-use event_buffer::OpenGate;
 use polis_base::{MemoryHost, NoMemory};
 use polis_words::Status;
 use std::alloc::Global;
@@ -10,308 +9,226 @@ use std::sync::Wait;
 use std::test::Fail;
 use std::thread::Threads;
 
-// A network, and the text that it is compared with: the same with one part in place of another.
-struct Pair {
-    net: &'static str,
-    part: &'static str,
-    other: &'static str,
-    status: Status,
-    shown: &'static str,
-}
+// A network is compared with its text in which one part stands in place of another. The changes of
+// a network are one text, with an empty line between each two: the part, what stands in its place,
+// and the line that is shown.
 
-const SAME: Pair = Pair {
-    net: VALUE,
-    part: "v = 5",
-    other: "v = 5",
-    status: Status::Done,
-    shown: "same 1\n",
-};
+const OF_VALUE: &str = "v = 5 => v = 5 => same 1
 
-const DIFFER: Pair = Pair {
-    status: Status::Differ,
-    ..SAME
-};
+v = 5 => v in { 5 } => same 1
 
-const REFUSED: Pair = Pair {
-    status: Status::Refused,
-    shown: "refused two shape\n",
-    ..SAME
-};
+network val => network other => same 1
 
-const PAIRS: &[Pair] = &[
-    SAME,
-    Pair {
-        other: "v in { 5 }",
-        ..SAME
-    },
-    Pair {
-        part: "network val",
-        other: "network other",
-        ..SAME
-    },
-    Pair {
-        part: "priority 0",
-        other: "priority 7",
-        ..SAME
-    },
-    Pair {
-        part: "when v = 5 do emit hit",
-        other: "when v = 5 do emit hit when v = 5 do emit hit",
-        ..SAME
-    },
-    Pair {
-        other: "v = 6",
-        shown: "differ m v=5 ; -\n",
-        ..DIFFER
-    },
-    Pair {
-        part: "when v = 5 do emit hit",
-        other: "",
-        shown: "differ m v=5 ; -\n",
-        ..DIFFER
-    },
-    Pair {
-        part: "0 .. 7",
-        other: "0 .. 8",
-        ..REFUSED
-    },
-    Pair {
-        part: VALUE,
-        other: JOIN,
-        ..REFUSED
-    },
-    Pair {
-        part: VALUE,
-        other: CLASH,
-        shown: "refused two conflict m 0 2 a b ; -\n",
-        ..REFUSED
-    },
-    Pair {
-        part: "network",
-        other: "network network",
-        shown: "refused two syntax 8\n",
-        ..REFUSED
-    },
-    Pair {
-        net: CLASH,
-        part: CLASH,
-        other: VALUE,
-        shown: "refused net conflict m 0 2 a b ; -\n",
-        ..REFUSED
-    },
-    Pair {
-        net: TWO,
-        part: "priority 2",
-        other: "priority 1",
-        shown: "same 2\n",
-        ..SAME
-    },
-    Pair {
-        net: LAMP,
-        part: "s : bit = off",
-        other: "s : bit = on",
-        ..REFUSED
-    },
-    Pair {
-        net: LAMP,
-        part: "{ off, on }",
-        other: "{ on, off }",
-        ..REFUSED
-    },
-    Pair {
-        net: LAMP,
-        part: "press, s = off do",
-        other: "press do",
-        shown: "differ lamp_ctl press ; s=on\n",
-        ..DIFFER
-    },
-    Pair {
-        net: LAMP,
-        part: "event press from env\nevent light to env",
-        other: "event light to env\nevent press from env",
-        ..REFUSED
-    },
-    Pair {
-        net: ECHO,
-        part: "when v do s := s + 3, emit w = value v",
-        other: "when v, s = 0 do s := 3, emit w = value v
+priority 0 => priority 7 => same 1
+
+when v = 5 do emit hit => when v = 5 do emit hit when v = 5 do emit hit => same 1
+
+v = 5 => v = 6 => differ m v=5 ; -
+
+when v = 5 do emit hit =>  => differ m v=5 ; -
+
+0 .. 7 => 0 .. 8 => refused two shape
+
+network => network network => refused two syntax 8";
+
+const OF_TWO: &str = "priority 2 => priority 1 => same 2";
+
+const OF_LAMP: &str = "s : bit = off => s : bit = on => refused two shape
+
+{ off, on } => { on, off } => refused two shape
+
+press, s = off do => press do => differ lamp_ctl press ; s=on
+
+event press from env
+event light to env => event light to env
+event press from env => refused two shape";
+
+const OF_ECHO: &str =
+    "when v do s := s + 3, emit w = value v => when v, s = 0 do s := 3, emit w = value v
   when v, s = 1 do s := 4, emit w = value v
   when v, s = 2 do s := 5, emit w = value v
   when v, s = 3 do s := 6, emit w = value v
   when v, s = 4 do s := 7, emit w = value v
   when v, s = 5 do s := 0, emit w = value v
   when v, s = 6 do s := 1, emit w = value v
-  when v, s = 7 do s := 2, emit w = value v",
-        ..SAME
-    },
-    Pair {
-        net: BELT,
-        part: "when key_off, s = off do nothing
-  when key_off, s = wait do s := off",
-        other: "when key_off, s = wait do s := off
-  when key_off, s = off do nothing",
-        shown: "same 2\n",
-        ..SAME
-    },
-    Pair {
-        net: BELT,
-        part: "when belt_on, s = wait do s := off",
-        other: "when belt_on, key_on, s = wait do s := off
-  when belt_on, absent key_on, s = wait do s := off",
-        shown: "same 2\n",
-        ..SAME
-    },
-    Pair {
-        net: BELT,
-        part: "n = 4 do n := 5",
-        other: "n = 4 do n := 6",
-        shown: "differ timer tick ; n=4\n",
-        ..DIFFER
-    },
-];
+  when v, s = 7 do s := 2, emit w = value v => same 1";
 
-// The text with one part in place of the first one that is given.
-fn with_part(alloc: Global, pair: &Pair) -> Result<String, NoMemory> {
-    let mut text = String::new(alloc);
-    match pair.net.split_once(pair.part) {
-        Some((before, after)) => {
-            text.push_str(before)?;
-            text.push_str(pair.other)?;
-            text.push_str(after)?;
-        }
-        None => {}
-    }
-    Ok(text)
+const OF_BELT: &str = "when key_off, s = off do nothing
+  when key_off, s = wait do s := off => when key_off, s = wait do s := off
+  when key_off, s = off do nothing => same 2
+
+when belt_on, s = wait do s := off => when belt_on, key_on, s = wait do s := off
+  when belt_on, absent key_on, s = wait do s := off => same 2
+
+n = 4 do n := 5 => n = 4 do n := 6 => differ timer tick ; n=4";
+
+const EQUIV: &str = "equiv net two";
+
+// A host that holds two networks.
+fn host_of(alloc: Global, net: &str, two: &[u8]) -> Result<MemoryHost, NoMemory> {
+    host_with(alloc, &[("net", net.as_bytes()), ("two", two)])
 }
 
-// A host that holds a network and another one.
-fn host_of(alloc: Global, net: &str, two: Option<&str>) -> Result<MemoryHost, NoMemory> {
-    let mut host = MemoryHost::new(alloc);
-    host.put("net", net.as_bytes())?;
-    match two {
-        Some(two) => host.put("two", two.as_bytes())?,
-        None => {}
+// What a line that is shown answers.
+fn status_of(line: &str) -> Status {
+    if line.starts_with("same ") {
+        Status::Done
+    } else if line.starts_with("differ ") {
+        Status::Differ
+    } else {
+        Status::Refused
     }
-    Ok(host)
 }
 
-fn try_pair<T: Abort + Threads + Wait + Sync>(
+// Whether the call answers and shows what the line says.
+fn is_so(status: Status, shown: &[u8], line: &str) -> bool {
+    status == status_of(line) && shown.strip_suffix(b"\n") == Some(line.as_bytes())
+}
+
+// Whether a comparison of two networks shows this line.
+fn compares<T: Threads + Wait + Sync>(
     rt: &T,
     alloc: Global,
-    pair: &Pair,
-    number: usize,
-) -> Result<(), Fail> {
-    let two = with_part(alloc, pair)?;
-    let mut host = host_of(alloc, pair.net, Some(two.as_str()))?;
-    let status = call(rt, alloc, &["equiv", "net", "two"], &mut host, &OpenGate)?;
-    let ends = status == pair.status && host.shown() == pair.shown.as_bytes();
-    assert!(rt; ends, "pair {number}");
+    net: &str,
+    two: &[u8],
+    line: &str,
+) -> Result<bool, NoMemory> {
+    let mut host = host_of(alloc, net, two)?;
+    let status = call_line(rt, alloc, EQUIV, &mut host)?;
+    Ok(is_so(status, host.shown(), line))
+}
+
+fn parts_of(change: &str) -> Option<(&str, &str, &str)> {
+    match cut(change, " => ") {
+        Some((part, rest)) => match cut(rest, " => ") {
+            Some((other, line)) => Some((part, other, line)),
+            None => None,
+        },
+        None => None,
+    }
+}
+
+// Whether a comparison of a network with its text, where one part stands in place of another, shows
+// this line.
+fn compares_parts<T: Threads + Wait + Sync>(
+    rt: &T,
+    alloc: Global,
+    net: &str,
+    (part, other): (&str, &str),
+    line: &str,
+) -> Result<bool, NoMemory> {
+    match cut(net, part) {
+        Some((before, after)) => {
+            let two = joined(alloc, before.as_bytes(), other.as_bytes(), after.as_bytes())?;
+            compares(rt, alloc, net, two.as_slice(), line)
+        }
+        None => Ok(false),
+    }
+}
+
+// Whether a change is as it says.
+fn is_change<T: Threads + Wait + Sync>(
+    rt: &T,
+    alloc: Global,
+    net: &str,
+    change: &str,
+) -> Result<bool, NoMemory> {
+    match parts_of(change) {
+        Some((part, other, line)) => compares_parts(rt, alloc, net, (part, other), line),
+        None => Ok(false),
+    }
+}
+
+fn try_changes<T: Abort + Threads + Wait + Sync>(
+    rt: &T,
+    alloc: Global,
+    net: &str,
+    changes: &str,
+) -> Result<(), NoMemory> {
+    for (number, change) in changes.split("\n\n").enumerate() {
+        let is_right = is_change(rt, alloc, net, change)?;
+        expect(rt, is_right, number);
+    }
     Ok(())
 }
 
 #[test]
-fn compares_networks(rt: HostRuntime) -> Result<(), Fail> {
-    for (number, pair) in PAIRS.iter().enumerate() {
-        try_pair(&rt, rt.alloc(), pair, number)?;
-    }
+fn compares_a_network_with_its_changes(rt: HostRuntime) -> Result<(), Fail> {
+    try_changes(&rt, rt.alloc(), VALUE, OF_VALUE)?;
+    try_changes(&rt, rt.alloc(), TWO, OF_TWO)?;
+    try_changes(&rt, rt.alloc(), LAMP, OF_LAMP)?;
+    try_changes(&rt, rt.alloc(), ECHO, OF_ECHO)?;
+    try_changes(&rt, rt.alloc(), BELT, OF_BELT)?;
     Ok(())
 }
 
-// A call over one network or over two, one of whose calls of the host may fail.
-struct Call {
-    words: &'static [&'static str],
-    two: Option<&'static str>,
-    fails: Option<u64>,
-    status: Status,
-    shown: &'static str,
+// Whether another network, and one that isn't accepted, are refused.
+fn refuses_others<T: Threads + Wait + Sync>(rt: &T, alloc: Global) -> Result<bool, NoMemory> {
+    let join = compares(rt, alloc, VALUE, JOIN.as_bytes(), "refused two shape")?;
+    let clash = "refused two conflict m 0 2 a b ; -";
+    let second = compares(rt, alloc, VALUE, CLASH.as_bytes(), clash)?;
+    let clash = "refused net conflict m 0 2 a b ; -";
+    let first = compares(rt, alloc, CLASH, VALUE.as_bytes(), clash)?;
+    Ok(join && second && first)
 }
 
-const EQUIV: Call = Call {
-    words: &["equiv", "net", "two"],
-    two: Some(VALUE),
-    fails: None,
-    status: Status::Done,
-    shown: "same 1\n",
-};
+#[test]
+fn refuses_other_networks(rt: HostRuntime) -> Result<(), Fail> {
+    assert!(rt; refuses_others(&rt, rt.alloc())?);
+    Ok(())
+}
 
-const CALLS: &[Call] = &[
-    EQUIV,
-    Call {
-        words: &["equiv", "net", "net"],
-        ..EQUIV
-    },
-    Call {
-        words: &["equiv", "net"],
-        status: Status::Usage,
-        shown: "usage\n",
-        ..EQUIV
-    },
-    Call {
-        words: &["equiv", "net", "two", "three"],
-        status: Status::Usage,
-        shown: "usage\n",
-        ..EQUIV
-    },
-    Call {
-        words: &["equiv", "net", ""],
-        status: Status::Usage,
-        shown: "usage\n",
-        ..EQUIV
-    },
-    Call {
-        two: None,
-        status: Status::Refused,
-        shown: "refused two absent\n",
-        ..EQUIV
-    },
-    Call {
-        fails: Some(0),
-        status: Status::ReadFault,
-        shown: "read fault net\n",
-        ..EQUIV
-    },
-    Call {
-        fails: Some(1),
-        status: Status::ReadFault,
-        shown: "read fault two\n",
-        ..EQUIV
-    },
-    Call {
-        fails: Some(2),
-        status: Status::WriteFault,
-        shown: "",
-        ..EQUIV
-    },
-    Call {
-        two: Some(JOIN),
-        fails: Some(2),
-        status: Status::Refused,
-        shown: "",
-        ..EQUIV
-    },
+// Command lines over a network that stands in two files, the call of the host that fails, if one
+// does, and how the call ends.
+const CALLS: &[(&str, Option<u64>, Status, &str)] = &[
+    (EQUIV, None, Status::Done, "same 1\n"),
+    ("equiv net net", None, Status::Done, "same 1\n"),
+    ("equiv net", None, Status::Usage, "usage\n"),
+    ("equiv net two three", None, Status::Usage, "usage\n"),
+    ("equiv net ", None, Status::Usage, "usage\n"),
+    (
+        "equiv net none",
+        None,
+        Status::Refused,
+        "refused none absent\n",
+    ),
+    (EQUIV, Some(0), Status::ReadFault, "read fault net\n"),
+    (EQUIV, Some(1), Status::ReadFault, "read fault two\n"),
+    (EQUIV, Some(2), Status::WriteFault, ""),
 ];
 
-fn try_call<T: Abort + Threads + Wait + Sync>(
+// Whether a call over such a network and another one ends so.
+fn ends_over<T: Threads + Wait + Sync>(
     rt: &T,
     alloc: Global,
-    wanted: &Call,
-    number: usize,
-) -> Result<(), Fail> {
-    let mut host = host_of(alloc, VALUE, wanted.two)?;
-    match wanted.fails {
-        Some(fails) => host.fail(fails)?,
-        None => {}
-    }
-    let status = call(rt, alloc, wanted.words, &mut host, &OpenGate)?;
-    let ends = status == wanted.status && host.shown() == wanted.shown.as_bytes();
-    assert!(rt; ends, "call {number}");
-    Ok(())
+    two: &str,
+    call: (&str, Option<u64>),
+    wanted: (Status, &str),
+) -> Result<bool, NoMemory> {
+    let mut host = host_of(alloc, VALUE, two.as_bytes())?;
+    ends(rt, alloc, &mut host, call, wanted)
 }
 
 #[test]
 fn ends_comparisons(rt: HostRuntime) -> Result<(), Fail> {
-    for (number, wanted) in CALLS.iter().enumerate() {
-        try_call(&rt, rt.alloc(), wanted, number)?;
+    for (number, (line, fails, status, shown)) in CALLS.iter().enumerate() {
+        let is_right = ends_over(&rt, rt.alloc(), VALUE, (line, *fails), (*status, shown))?;
+        expect(&rt, is_right, number);
     }
+    Ok(())
+}
+
+// What is refused stays refused where the show fails.
+#[test]
+fn refuses_where_the_show_fails(rt: HostRuntime) -> Result<(), Fail> {
+    assert!(rt;
+        ends_over(
+            &rt,
+            rt.alloc(),
+            JOIN,
+            (EQUIV, Some(2)),
+            (Status::Refused, "")
+        )?
+    );
     Ok(())
 }

@@ -1,6 +1,6 @@
 // Demos, over a host that holds no file, and the texts of one, reckoned outside by a script of the
 // definition.
-use crate::tests::cases::call;
+use crate::tests::cases::{call, expect};
 use event_buffer::OpenGate;
 use net_gen::{Generated, generate};
 use polis_base::{Bytes, MemoryHost, NoMemory};
@@ -45,20 +45,29 @@ fn is_done<T: Threads + Wait + Sync>(
 fn demos_are_complete(rt: HostRuntime) -> Result<(), Fail> {
     let mut shown = Bytes::new(rt.alloc());
     for (number, words) in DEMOS.iter().enumerate() {
-        assert!(rt;
-            is_done(&rt, rt.alloc(), words, &mut shown)?,
-            "demo {number}"
-        );
+        let is_done = is_done(&rt, rt.alloc(), words, &mut shown)?;
+        expect(&rt, is_done, number);
     }
     Ok(())
 }
 
+// What a demo shows, where it is done and complete.
+fn shown_by<T: Threads + Wait + Sync>(
+    rt: &T,
+    alloc: Global,
+    words: &[&str],
+) -> Result<Bytes, NoMemory> {
+    let mut shown = Bytes::new(alloc);
+    if is_done(rt, alloc, words, &mut shown)? {
+        return Ok(shown);
+    }
+    Err(NoMemory)
+}
+
 #[test]
 fn a_demo_is_the_same_again(rt: HostRuntime) -> Result<(), Fail> {
-    let mut once = Bytes::new(rt.alloc());
-    assert!(rt; is_done(&rt, rt.alloc(), SEVEN, &mut once)?);
-    let mut again = Bytes::new(rt.alloc());
-    assert!(rt; is_done(&rt, rt.alloc(), SEVEN, &mut again)?);
+    let once = shown_by(&rt, rt.alloc(), SEVEN)?;
+    let again = shown_by(&rt, rt.alloc(), SEVEN)?;
     assert!(rt; once.as_slice() == again.as_slice());
     Ok(())
 }

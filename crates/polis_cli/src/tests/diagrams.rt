@@ -53,7 +53,7 @@ fn depending(alloc: Global) -> Result<(u64, bool), NoMemory> {
 #[test]
 fn results_depend_on_both_variables(rt: HostRuntime) -> Result<(), Fail> {
     let (results, all_depend) = depending(rt.alloc())?;
-    assert_eq!(rt; results, 3);
+    assert!(rt; results == 3);
     assert!(rt; all_depend);
     Ok(())
 }
@@ -293,7 +293,7 @@ fn see_lamp(alloc: Global) -> Result<Seen, NoMemory> {
 #[test]
 fn the_diagram_is_the_one_of_the_formula(rt: HostRuntime) -> Result<(), Fail> {
     let seen = see_lamp(rt.alloc())?;
-    assert_eq!(rt; seen.counted, seen.sifted);
+    assert!(rt; seen.counted == seen.sifted);
     assert!(rt; seen.lit);
     assert!(rt; !seen.dark);
     assert!(rt; seen.is_formula);
@@ -387,7 +387,7 @@ fn press_lamp(alloc: Global) -> Result<(u64, bool), NoMemory> {
 #[test]
 fn graphs_are_made_small_step_by_step(rt: HostRuntime) -> Result<(), Fail> {
     let (vertices, is_lit) = press_lamp(rt.alloc())?;
-    assert_eq!(rt; vertices, 7);
+    assert!(rt; vertices == 7);
     assert!(rt; is_lit);
     Ok(())
 }

@@ -1,5 +1,8 @@
 // Network texts that `check` refuses, and what it shows. The places were counted by hand.
-use crate::tests::cases::{CHECK, Repeated, read_only, text_of, try_case};
+use crate::tests::cases::{
+    CHECK, Repeated, cut, expect_none, read_only, text_of, tried, tried_refusal,
+};
+use polis_base::NoMemory;
 use polis_words::Status;
 use sample_networks::texts::PRESS_TRACE;
 use std::alloc::Global;
@@ -218,7 +221,7 @@ const REPEATED: &[(Repeated<'_>, &str)] = &[
 // A network text in brackets, and what stands after it.
 fn parts_of(line: &str) -> Option<(&str, &str)> {
     match line.strip_prefix("[") {
-        Some(rest) => rest.split_once("] "),
+        Some(rest) => cut(rest, "] "),
         None => None,
     }
 }
@@ -229,14 +232,11 @@ fn try_line<T: Abort + Threads + Wait + Sync>(
     alloc: Global,
     line: &str,
     number: usize,
-) -> Result<(), Fail> {
+) -> Result<(), NoMemory> {
     match parts_of(line) {
-        Some((net, shown)) => {
-            let case = read_only(CHECK, net, PRESS_TRACE, Status::Refused, shown);
-            try_case(rt, alloc, &case, number)
-        }
+        Some((net, shown)) => tried_refusal(rt, alloc, (CHECK, net, PRESS_TRACE), shown, number),
         None => {
-            assert!(rt; false, "line {number} has no text");
+            expect_none(rt, "no text", number);
             Ok(())
         }
     }
@@ -246,7 +246,7 @@ fn try_lines<T: Abort + Threads + Wait + Sync>(
     rt: &T,
     alloc: Global,
     table: &str,
-) -> Result<(), Fail> {
+) -> Result<(), NoMemory> {
     for (number, line) in table.split_inclusive("\n").enumerate() {
         try_line(rt, alloc, line, number)?;
     }
@@ -258,7 +258,8 @@ fn names_the_place_of_each_fault(rt: HostRuntime) -> Result<(), Fail> {
     try_lines(&rt, rt.alloc(), TOKENS)?;
     try_lines(&rt, rt.alloc(), SENTENCES)?;
     try_lines(&rt, rt.alloc(), RULES)?;
-    try_lines(&rt, rt.alloc(), CONFLICTS)
+    try_lines(&rt, rt.alloc(), CONFLICTS)?;
+    Ok(())
 }
 
 /// A check of a text that is refused.
@@ -268,11 +269,15 @@ pub fn try_check<'a, T: Abort + Threads + Wait + Sync>(
     repeated: &Repeated<'a>,
     shown: &'a str,
     number: usize,
-) -> Result<(), Fail> {
+) -> Result<(), NoMemory> {
     let text = text_of(alloc, repeated)?;
-    let net = text.as_str();
-    let case = read_only(CHECK, net, PRESS_TRACE, Status::Refused, shown);
-    try_case(rt, alloc, &case, number)
+    tried_refusal(
+        rt,
+        alloc,
+        (CHECK, text.as_str(), PRESS_TRACE),
+        shown,
+        number,
+    )
 }
 
 #[test]
@@ -287,7 +292,7 @@ fn names_the_first_declaration_beyond(rt: HostRuntime) -> Result<(), Fail> {
 fn accepts_rows_that_agree(rt: HostRuntime) -> Result<(), Fail> {
     for (number, net) in ACCEPTED.iter().enumerate() {
         let case = read_only(CHECK, net, PRESS_TRACE, Status::Done, AGREEING);
-        try_case(&rt, rt.alloc(), &case, number)?;
+        tried(&rt, rt.alloc(), &case, number)?;
     }
     Ok(())
 }

@@ -1,6 +1,6 @@
 // Texts that are cut off, or longer than they look: each is refused by one line, and nothing is
 // saved.
-use crate::tests::cases::{RUN, Repeated, are_saved, call, read_only, text_of, try_case};
+use crate::tests::cases::{RUN, Repeated, are_saved, call, expect, text_of, tried_refusal};
 use crate::tests::faults::try_check;
 use crate::tests::networks::LAMP;
 use event_buffer::OpenGate;
@@ -48,7 +48,8 @@ fn refuses_beginning<T: Threads + Wait + Sync>(
 #[test]
 fn refuses_each_beginning_of_a_network(rt: HostRuntime) -> Result<(), Fail> {
     for len in 0..=BEFORE_LAST {
-        assert!(rt; refuses_beginning(&rt, rt.alloc(), len)?, "{len} bytes");
+        let is_refused = refuses_beginning(&rt, rt.alloc(), len)?;
+        expect(&rt, is_refused, len);
     }
     Ok(())
 }
@@ -63,7 +64,8 @@ const BRACES: &Repeated<'_> = &Repeated {
 
 #[test]
 fn refuses_a_text_of_braces(rt: HostRuntime) -> Result<(), Fail> {
-    try_check(&rt, rt.alloc(), BRACES, "refused net syntax 0\n", 0)
+    try_check(&rt, rt.alloc(), BRACES, "refused net syntax 0\n", 0)?;
+    Ok(())
 }
 
 const PRESSES: &Repeated<'_> = &Repeated {
@@ -79,13 +81,13 @@ fn try_trace<'a, T: Abort + Threads + Wait + Sync>(
     alloc: Global,
     repeated: &Repeated<'a>,
     shown: &'a str,
-) -> Result<(), Fail> {
+) -> Result<(), NoMemory> {
     let text = text_of(alloc, repeated)?;
-    let case = read_only(RUN, LAMP, text.as_str(), Status::Refused, shown);
-    try_case(rt, alloc, &case, 0)
+    tried_refusal(rt, alloc, (RUN, LAMP, text.as_str()), shown, 0)
 }
 
 #[test]
 fn refuses_one_item_too_many(rt: HostRuntime) -> Result<(), Fail> {
-    try_trace(&rt, rt.alloc(), PRESSES, "refused trc line 10001 many\n")
+    try_trace(&rt, rt.alloc(), PRESSES, "refused trc line 10001 many\n")?;
+    Ok(())
 }

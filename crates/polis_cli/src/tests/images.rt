@@ -1,25 +1,23 @@
-// Whole calls that store code as an image, and that run an image, over files in memory, as tables.
-use crate::tests::cases::{PRESSED, call, is_held};
+// Whole calls that store code as an image, and that run an image, over files in memory.
+use crate::tests::cases::{PRESSED, call_line, ends, expect, host_with, is_held, joined};
 use crate::tests::networks::{JOIN, LAMP};
-use event_buffer::OpenGate;
-use polis_base::{MemoryHost, NoMemory};
+use polis_base::{Bytes, MemoryHost, NoMemory};
 use polis_words::Status;
 use sample_networks::texts::PRESS_TRACE;
 use std::alloc::Global;
-use std::process::Abort;
 use std::sync::Wait;
 use std::test::Fail;
 use std::thread::Threads;
 
-// The image of the lamp: the magic, version 1, one machine, its name, the sizes of two variables and
-// of three results, six instructions: two tests, three sets, a halt.
+// The image of the lamp: the magic, version 1, one machine, its name, the sizes of two variables
+// and of three results, six instructions: two tests, three sets, a halt.
 const LAMP_IMAGE: &[u8] = b"PIMG\x01\x01\x08lamp_ctl\x02\x02\x02\x03\x02\x03\x02\
     \x00\x00\x00\x06\
     \x01\x00\x00\x00\x00\x05\x00\x00\x00\x01\
     \x01\x01\x00\x00\x00\x02\x00\x00\x00\x05\
     \x02\x00\x01\x02\x01\x02\x02\x02\x01\x00";
 
-const IMAGE_RUN: &[&str] = &["run", "net", "trc", "p", "--image", "o.img"];
+const IMAGE_RUN: &str = "run net trc p --image o.img";
 
 const IMAGE_SHOWN: &str = "entries 2 complete
 lost 0
@@ -29,192 +27,101 @@ machine lamp_ctl code 6 tries 1 steps 6
 
 // A host that holds a network, a trace, and an image.
 fn host_of(alloc: Global, net: &str, trace: &str, image: &[u8]) -> Result<MemoryHost, NoMemory> {
-    let mut host = MemoryHost::new(alloc);
-    host.put("net", net.as_bytes())?;
-    host.put("trc", trace.as_bytes())?;
-    host.put("o.img", image)?;
-    Ok(host)
+    host_with(
+        alloc,
+        &[
+            ("net", net.as_bytes()),
+            ("trc", trace.as_bytes()),
+            ("o.img", image),
+        ],
+    )
 }
 
-// The bytes of an image from the first on, so many of them, with others in place of some.
-struct Changed {
-    length: usize,
-    place: usize,
-    bytes: &'static [u8],
-    net: &'static str,
-    trace: &'static str,
-    shown: &'static str,
+// The image up to a place, other bytes there, and what stands after as many of its own.
+fn changed(alloc: Global, place: usize, part: &[u8]) -> Result<Bytes, NoMemory> {
+    let (head, rest) = LAMP_IMAGE.split_at(place.min(LAMP_IMAGE.len()));
+    let tail = &rest[part.len().min(rest.len())..];
+    joined(alloc, head, part, tail)
 }
 
-const BAD: Changed = Changed {
-    length: 56,
-    place: 0,
-    bytes: &[],
-    net: LAMP,
-    trace: PRESS_TRACE,
-    shown: "",
-};
-
-const CHANGES: &[Changed] = &[
-    Changed {
-        length: 55,
-        shown: "refused o.img image byte 55\n",
-        ..BAD
-    },
-    Changed {
-        place: 51,
-        bytes: b"\x01",
-        shown: "refused o.img image wrong lamp_ctl press ; s=off\n",
-        ..BAD
-    },
-    Changed {
-        place: 28,
-        bytes: b"\x00\x00\x00\x00",
-        shown: "refused o.img image byte 28\n",
-        ..BAD
-    },
-    Changed {
-        net: JOIN,
-        trace: "",
-        shown: "refused o.img image shape 0\n",
-        ..BAD
-    },
-    Changed {
-        length: 0,
-        shown: "refused o.img image byte 0\n",
-        ..BAD
-    },
-    Changed {
-        place: 4,
-        bytes: b"\x02",
-        shown: "refused o.img image byte 4\n",
-        ..BAD
-    },
-    Changed {
-        place: 5,
-        bytes: b"\x00",
-        shown: "refused o.img image byte 5\n",
-        ..BAD
-    },
-    Changed {
-        place: 5,
-        bytes: b"\x02",
-        shown: "refused o.img image byte 56\n",
-        ..BAD
-    },
-    Changed {
-        place: 6,
-        bytes: b"\x19",
-        shown: "refused o.img image byte 6\n",
-        ..BAD
-    },
-    Changed {
-        place: 7,
-        bytes: b"1",
-        shown: "refused o.img image byte 7\n",
-        ..BAD
-    },
-    Changed {
-        place: 7,
-        bytes: b"k",
-        shown: "refused o.img image shape 0\n",
-        ..BAD
-    },
-    Changed {
-        place: 16,
-        bytes: b"\x22",
-        shown: "refused o.img image byte 16\n",
-        ..BAD
-    },
-    Changed {
-        place: 22,
-        bytes: b"\x00\x00\x00\x00",
-        shown: "refused o.img image byte 22\n",
-        ..BAD
-    },
-    // 4,294,967,295 instructions are promised, and six are there.
-    Changed {
-        place: 22,
-        bytes: b"\xff\xff\xff\xff",
-        shown: "refused o.img image byte 56\n",
-        ..BAD
-    },
-    Changed {
-        place: 31,
-        bytes: b"\x06",
-        shown: "refused o.img image byte 28\n",
-        ..BAD
-    },
-    Changed {
-        place: 48,
-        bytes: b"\x02",
-        shown: "refused o.img image byte 48\n",
-        ..BAD
-    },
-    Changed {
-        place: 51,
-        bytes: b"\x03",
-        shown: "refused o.img image byte 51\n",
-        ..BAD
-    },
-    Changed {
-        place: 55,
-        bytes: b"\x03",
-        shown: "refused o.img image byte 55\n",
-        ..BAD
-    },
-];
-
-fn bytes_of(alloc: Global, change: &Changed) -> Result<Vec<u8>, NoMemory> {
-    let mut bytes = Vec::new(alloc);
-    for (place, byte) in LAMP_IMAGE.iter().enumerate() {
-        if place < change.length {
-            let is_changed = change.place <= place && place - change.place < change.bytes.len();
-            bytes.push(if is_changed {
-                change.bytes[place - change.place]
-            } else {
-                *byte
-            })?;
-        }
-    }
-    Ok(bytes)
-}
-
-fn try_change<T: Abort + Threads + Wait + Sync>(
+// Whether a run by an image, over a network and a trace, is refused and shows this.
+fn refuses<T: Threads + Wait + Sync>(
     rt: &T,
     alloc: Global,
-    change: &Changed,
-    number: usize,
-) -> Result<(), Fail> {
-    let bytes = bytes_of(alloc, change)?;
-    let mut host = host_of(alloc, change.net, change.trace, &bytes)?;
-    let status = call(rt, alloc, IMAGE_RUN, &mut host, &OpenGate)?;
-    let ends = status == Status::Refused && host.shown() == change.shown.as_bytes();
-    assert!(rt; ends, "change {number}");
-    Ok(())
+    (net, trace): (&str, &str),
+    image: &[u8],
+    shown: &str,
+) -> Result<bool, NoMemory> {
+    let mut host = host_of(alloc, net, trace, image)?;
+    let wanted = (Status::Refused, shown);
+    ends(rt, alloc, &mut host, (IMAGE_RUN, None), wanted)
 }
 
+// Whether a run of the lamp is, by its image with this change.
+fn refuses_change<T: Threads + Wait + Sync>(
+    rt: &T,
+    alloc: Global,
+    place: usize,
+    part: &[u8],
+    shown: &str,
+) -> Result<bool, NoMemory> {
+    let image = changed(alloc, place, part)?;
+    refuses(rt, alloc, (LAMP, PRESS_TRACE), image.as_slice(), shown)
+}
+
+// Places, the bytes that are put there in place of others, and what is shown. One promises
+// 4,294,967,295 instructions where six are there, and the last one is longer than the image.
+const CHANGES: &[(usize, &[u8], &str)] = &[
+    (
+        51,
+        b"\x01",
+        "refused o.img image wrong lamp_ctl press ; s=off\n",
+    ),
+    (28, b"\x00\x00\x00\x00", "refused o.img image byte 28\n"),
+    (4, b"\x02", "refused o.img image byte 4\n"),
+    (5, b"\x00", "refused o.img image byte 5\n"),
+    (5, b"\x02", "refused o.img image byte 56\n"),
+    (6, b"\x19", "refused o.img image byte 6\n"),
+    (7, b"1", "refused o.img image byte 7\n"),
+    (7, b"k", "refused o.img image shape 0\n"),
+    (16, b"\x22", "refused o.img image byte 16\n"),
+    (22, b"\x00\x00\x00\x00", "refused o.img image byte 22\n"),
+    (22, b"\xff\xff\xff\xff", "refused o.img image byte 56\n"),
+    (31, b"\x06", "refused o.img image byte 28\n"),
+    (48, b"\x02", "refused o.img image byte 48\n"),
+    (51, b"\x03", "refused o.img image byte 51\n"),
+    (55, b"\x03", "refused o.img image byte 55\n"),
+    (56, b"\x07", "refused o.img image byte 56\n"),
+];
+
 #[test]
-fn refuses_images(rt: HostRuntime) -> Result<(), Fail> {
-    for (number, change) in CHANGES.iter().enumerate() {
-        try_change(&rt, rt.alloc(), change, number)?;
+fn refuses_changed_images(rt: HostRuntime) -> Result<(), Fail> {
+    for (number, (place, part, shown)) in CHANGES.iter().enumerate() {
+        let is_right = refuses_change(&rt, rt.alloc(), *place, part, shown)?;
+        expect(&rt, is_right, number);
     }
     Ok(())
 }
 
-// A byte more than the image.
+// Whether the image of another network is refused, and what is no whole image.
+fn refuses_others<T: Threads + Wait + Sync>(rt: &T, alloc: Global) -> Result<bool, NoMemory> {
+    let of_join = refuses(
+        rt,
+        alloc,
+        (JOIN, ""),
+        LAMP_IMAGE,
+        "refused o.img image shape 0\n",
+    )?;
+    let of_lamp = (LAMP, PRESS_TRACE);
+    let shorter = &LAMP_IMAGE[..55];
+    let is_short = refuses(rt, alloc, of_lamp, shorter, "refused o.img image byte 55\n")?;
+    let is_empty = refuses(rt, alloc, of_lamp, b"", "refused o.img image byte 0\n")?;
+    Ok(of_join && is_short && is_empty)
+}
+
 #[test]
-fn refuses_longer_images(rt: HostRuntime) -> Result<(), Fail> {
-    let alloc = rt.alloc();
-    let mut bytes = Vec::new(alloc);
-    for byte in LAMP_IMAGE {
-        bytes.push(*byte)?;
-    }
-    bytes.push(7)?;
-    let mut host = host_of(alloc, LAMP, PRESS_TRACE, &bytes)?;
-    let status = call(&rt, alloc, IMAGE_RUN, &mut host, &OpenGate)?;
-    assert!(rt; status == Status::Refused);
-    assert!(rt; host.shown() == b"refused o.img image byte 56\n".as_slice());
+fn refuses_other_images(rt: HostRuntime) -> Result<(), Fail> {
+    assert!(rt; refuses_others(&rt, rt.alloc())?);
     Ok(())
 }
 
@@ -227,28 +134,34 @@ fn is_right(host: &MemoryHost, status: Status) -> bool {
     }
 }
 
-fn try_bytes<T: Abort + Threads + Wait + Sync>(
+// Whether a run by an image is so.
+fn runs_right<T: Threads + Wait + Sync>(
     rt: &T,
     alloc: Global,
-    bytes: &[u8],
-    number: usize,
-) -> Result<(), Fail> {
-    let mut host = host_of(alloc, LAMP, PRESS_TRACE, bytes)?;
-    let status = call(rt, alloc, IMAGE_RUN, &mut host, &OpenGate)?;
-    assert!(rt; is_right(&host, status), "byte {number}");
-    Ok(())
+    image: &[u8],
+) -> Result<bool, NoMemory> {
+    let mut host = host_of(alloc, LAMP, PRESS_TRACE, image)?;
+    let status = call_line(rt, alloc, IMAGE_RUN, &mut host)?;
+    Ok(is_right(&host, status))
+}
+
+// Whether a run is, by the lamp's image with this change.
+fn runs_change_right<T: Threads + Wait + Sync>(
+    rt: &T,
+    alloc: Global,
+    place: usize,
+    byte: u8,
+) -> Result<bool, NoMemory> {
+    let image = changed(alloc, place, &[byte])?;
+    runs_right(rt, alloc, image.as_slice())
 }
 
 // Each byte in turn is another one.
 #[test]
 fn never_runs_wrong_images(rt: HostRuntime) -> Result<(), Fail> {
-    let alloc = rt.alloc();
-    for number in 0..LAMP_IMAGE.len() {
-        let mut bytes = Vec::new(alloc);
-        for (place, byte) in LAMP_IMAGE.iter().enumerate() {
-            bytes.push(if place == number { byte ^ 1 } else { *byte })?;
-        }
-        try_bytes(&rt, alloc, &bytes, number)?;
+    for (number, byte) in LAMP_IMAGE.iter().enumerate() {
+        let is_right = runs_change_right(&rt, rt.alloc(), number, byte ^ 1)?;
+        expect(&rt, is_right, number);
     }
     Ok(())
 }
@@ -257,170 +170,135 @@ fn never_runs_wrong_images(rt: HostRuntime) -> Result<(), Fail> {
 #[test]
 fn never_runs_cut_images(rt: HostRuntime) -> Result<(), Fail> {
     for number in 0..LAMP_IMAGE.len() {
-        try_bytes(&rt, rt.alloc(), &LAMP_IMAGE[..number], number)?;
+        let is_right = runs_right(&rt, rt.alloc(), &LAMP_IMAGE[..number])?;
+        expect(&rt, is_right, number);
     }
     Ok(())
 }
 
-// A call over a lamp, one press and its image, one of whose calls of the host may fail.
-struct Call {
-    words: &'static [&'static str],
-    fails: Option<u64>,
-    status: Status,
-    shown: &'static str,
-    journal: Option<&'static str>,
-}
-
-const RUN_IMAGE: Call = Call {
-    words: IMAGE_RUN,
-    fails: None,
-    status: Status::Done,
-    shown: IMAGE_SHOWN,
-    journal: Some(PRESSED),
-};
-
-const NOTHING: Call = Call {
-    status: Status::Usage,
-    shown: "usage\n",
-    journal: None,
-    ..RUN_IMAGE
-};
-
-const CALLS: &[Call] = &[
-    RUN_IMAGE,
-    Call {
-        words: &[
-            "run",
-            "net",
-            "trc",
-            "p",
-            "--limit",
-            "9",
-            "--image",
-            "o.img",
-            "--workers",
-            "1",
-        ],
-        ..RUN_IMAGE
-    },
-    Call {
-        words: &["run", "net", "trc", "p", "--image", "o.img", "--limit", "2"],
-        ..RUN_IMAGE
-    },
-    Call {
-        words: &["run", "net", "trc", "p", "--image"],
-        ..NOTHING
-    },
-    Call {
-        words: &["run", "net", "trc", "p", "--image", ""],
-        ..NOTHING
-    },
-    Call {
-        words: &[
-            "run", "net", "trc", "p", "--image", "o.img", "--image", "o.img",
-        ],
-        ..NOTHING
-    },
-    Call {
-        words: &["run", "net", "trc", "p", "--images", "o.img"],
-        ..NOTHING
-    },
-    Call {
-        words: &["image", "net"],
-        ..NOTHING
-    },
-    Call {
-        words: &["image", "net", ""],
-        ..NOTHING
-    },
-    Call {
-        words: &["image", "net", "p", "--limit", "5"],
-        ..NOTHING
-    },
-    Call {
-        words: &["image", "net", "p"],
-        fails: Some(1),
-        status: Status::WriteFault,
-        shown: "write fault p.img\n",
-        ..NOTHING
-    },
-    Call {
-        words: &["image", "none", "p"],
-        status: Status::Refused,
-        shown: "refused none absent\n",
-        ..NOTHING
-    },
-    Call {
-        words: &["run", "net", "trc", "p", "--image", "none"],
-        status: Status::Refused,
-        shown: "refused none absent\n",
-        ..NOTHING
-    },
-    Call {
-        fails: Some(2),
-        status: Status::ReadFault,
-        shown: "read fault o.img\n",
-        ..NOTHING
-    },
+// Command lines that run the lamp on one press by its image.
+const RUNS: &[&str] = &[
+    IMAGE_RUN,
+    "run net trc p --limit 9 --image o.img --workers 1",
+    "run net trc p --image o.img --limit 2",
 ];
 
-fn try_call<T: Abort + Threads + Wait + Sync>(
+// What a run of the lamp saves is held, and no listing.
+fn saves_run(host: &MemoryHost) -> bool {
+    is_held(host, "p.jnl", Some(PRESSED))
+        && is_held(host, "p.out", Some("light\n"))
+        && is_held(host, "p.lst", None)
+}
+
+// Whether a run is done, shows this and saves that.
+fn runs<T: Threads + Wait + Sync>(
     rt: &T,
     alloc: Global,
-    wanted: &Call,
-    number: usize,
-) -> Result<(), Fail> {
+    line: &str,
+    shown: &str,
+) -> Result<bool, NoMemory> {
     let mut host = host_of(alloc, LAMP, PRESS_TRACE, LAMP_IMAGE)?;
-    match wanted.fails {
-        Some(fails) => host.fail(fails)?,
-        None => {}
-    }
-    let status = call(rt, alloc, wanted.words, &mut host, &OpenGate)?;
-    let ends = status == wanted.status && host.shown() == wanted.shown.as_bytes();
-    assert!(rt; ends, "call {number}");
-    let saves = is_held(&host, "p.jnl", wanted.journal) && is_held(&host, "p.lst", None);
-    assert!(rt; saves, "saves of call {number}");
-    Ok(())
+    let is_done = ends(rt, alloc, &mut host, (line, None), (Status::Done, shown))?;
+    Ok(is_done && saves_run(&host))
 }
 
 #[test]
 fn runs_images(rt: HostRuntime) -> Result<(), Fail> {
-    for (number, wanted) in CALLS.iter().enumerate() {
-        try_call(&rt, rt.alloc(), wanted, number)?;
+    for (number, line) in RUNS.iter().enumerate() {
+        let is_right = runs(&rt, rt.alloc(), line, IMAGE_SHOWN)?;
+        expect(&rt, is_right, number);
     }
     Ok(())
 }
 
 // By two workers the journal has its least stamps, too.
+const BY_TWO: &str = "run net trc p --workers 2 --image o.img";
+
+const BY_TWO_SHOWN: &str = "entries 2 complete
+lost 0
+gathered 2 adopted 2
+machine lamp_ctl code 6 tries 1 steps 6
+";
+
 #[test]
 fn runs_images_by_workers(rt: HostRuntime) -> Result<(), Fail> {
-    let alloc = rt.alloc();
-    let words = &[
-        "run",
-        "net",
-        "trc",
-        "p",
-        "--workers",
-        "2",
-        "--image",
-        "o.img",
-    ];
+    assert!(rt; runs(&rt, rt.alloc(), BY_TWO, BY_TWO_SHOWN)?);
+    Ok(())
+}
+
+// Command lines that ask for nothing.
+const NO_REQUESTS: &[&str] = &[
+    "run net trc p --image",
+    "run net trc p --image ",
+    "run net trc p --image o.img --image o.img",
+    "run net trc p --images o.img",
+    "image net",
+    "image net ",
+    "image net p --limit 5",
+];
+
+// Calls that fail, each with the call of the host that fails in it, if one does.
+const FAILING: &[(&str, Option<u64>, Status, &str)] = &[
+    (
+        "image net p",
+        Some(1),
+        Status::WriteFault,
+        "write fault p.img\n",
+    ),
+    (
+        "image none p",
+        None,
+        Status::Refused,
+        "refused none absent\n",
+    ),
+    (
+        "run net trc p --image none",
+        None,
+        Status::Refused,
+        "refused none absent\n",
+    ),
+    (IMAGE_RUN, Some(2), Status::ReadFault, "read fault o.img\n"),
+];
+
+// Whether a call ends so, and saves neither a journal nor a listing.
+fn saves_nothing<T: Threads + Wait + Sync>(
+    rt: &T,
+    alloc: Global,
+    call: (&str, Option<u64>),
+    wanted: (Status, &str),
+) -> Result<bool, NoMemory> {
     let mut host = host_of(alloc, LAMP, PRESS_TRACE, LAMP_IMAGE)?;
-    let status = call(&rt, alloc, words, &mut host, &OpenGate)?;
-    assert!(rt; status == Status::Done);
-    assert!(rt; is_held(&host, "p.jnl", Some(PRESSED)));
-    assert!(rt; is_held(&host, "p.out", Some("light\n")));
-    assert!(rt; is_held(&host, "p.lst", None));
+    let ends = ends(rt, alloc, &mut host, call, wanted)?;
+    Ok(ends && is_held(&host, "p.jnl", None) && is_held(&host, "p.lst", None))
+}
+
+#[test]
+fn answers_usage(rt: HostRuntime) -> Result<(), Fail> {
+    for (number, line) in NO_REQUESTS.iter().enumerate() {
+        let is_right = saves_nothing(&rt, rt.alloc(), (line, None), (Status::Usage, "usage\n"))?;
+        expect(&rt, is_right, number);
+    }
     Ok(())
 }
 
 #[test]
-fn stores_the_lamp(rt: HostRuntime) -> Result<(), Fail> {
-    let alloc = rt.alloc();
+fn tells_of_faults(rt: HostRuntime) -> Result<(), Fail> {
+    for (number, (line, fails, status, shown)) in FAILING.iter().enumerate() {
+        let is_right = saves_nothing(&rt, rt.alloc(), (line, *fails), (*status, shown))?;
+        expect(&rt, is_right, number);
+    }
+    Ok(())
+}
+
+fn stores<T: Threads + Wait + Sync>(rt: &T, alloc: Global) -> Result<bool, NoMemory> {
     let mut host = host_of(alloc, LAMP, PRESS_TRACE, b"")?;
-    let status = call(&rt, alloc, &["image", "net", "o"], &mut host, &OpenGate)?;
-    assert!(rt; status == Status::Done);
-    assert!(rt; host.shown() == b"image 56 bytes\n".as_slice());
-    assert!(rt; host.file("o.img") == Some(LAMP_IMAGE));
+    let wanted = (Status::Done, "image 56 bytes\n");
+    let is_done = ends(rt, alloc, &mut host, ("image net o", None), wanted)?;
+    Ok(is_done && host.file("o.img") == Some(LAMP_IMAGE))
+}
+
+#[test]
+fn stores_the_lamp(rt: HostRuntime) -> Result<(), Fail> {
+    assert!(rt; stores(&rt, rt.alloc())?);
     Ok(())
 }

@@ -1,6 +1,9 @@
 // Journal texts that `replay` refuses, and journals that `migrate` prints as they are read.
-use crate::tests::cases::{Case, DONE, MIGRATE, Repeated, replay, text_of, try_case, try_cases};
+use crate::tests::cases::{
+    Case, DONE, MIGRATE, Repeated, replay, text_of, tried, try_case, try_cases,
+};
 use crate::tests::networks::{ECHO, JOIN, LAMP, VALUE};
+use polis_base::NoMemory;
 use polis_words::Status;
 use std::alloc::Global;
 use std::process::Abort;
@@ -157,7 +160,7 @@ const FAULTS: &[(&str, &str, &str)] = &[
 fn names_the_first_line_at_fault(rt: HostRuntime) -> Result<(), Fail> {
     for (number, (net, journal, shown)) in FAULTS.iter().enumerate() {
         let case = replay(net, "", journal, Status::Refused, shown);
-        try_case(&rt, rt.alloc(), &case, number)?;
+        tried(&rt, rt.alloc(), &case, number)?;
     }
     Ok(())
 }
@@ -305,10 +308,10 @@ fn try_replay<'a, T: Abort + Threads + Wait + Sync>(
     many: &Repeated<'a>,
     (status, shown): (Status, &'a str),
     number: usize,
-) -> Result<(), Fail> {
+) -> Result<(), NoMemory> {
     let text = text_of(alloc, many)?;
     let case = replay(JOIN, "a\n", text.as_str(), status, shown);
-    try_case(rt, alloc, &case, number)
+    tried(rt, alloc, &case, number)
 }
 
 #[test]

@@ -1,4 +1,5 @@
 // Networks in the printed layout, printed as they were read.
+use crate::tests::cases::expect;
 use crate::tests::networks::{BELT, CLASH, ECHO, JOIN, LAMP, LOOP, PONG, TWO, VALUE};
 use net_reader::{print_network, read_network};
 use polis_base::{Bytes, NoMemory};
@@ -63,6 +64,6 @@ const TEXTS: &[&str] = &[
 #[test]
 fn networks_print_as_they_were_read(rt: HostRuntime) {
     for (number, text) in TEXTS.iter().enumerate() {
-        assert!(rt; comes_back(rt.alloc(), text), "text {number}");
+        expect(&rt, comes_back(rt.alloc(), text), number);
     }
 }

@@ -1,8 +1,15 @@
 // Whole calls that judge journals, over files in memory, as tables.
-use crate::tests::cases::{Case, DONE, MIGRATE, REPLAY, UNREAD, UNWRITTEN, try_cases};
+use crate::tests::cases::{
+    Case, DONE, MIGRATE, REPLAY, UNREAD, UNWRITTEN, cut, replay, tried, try_cases,
+};
 use crate::tests::networks::{JOIN, TWO};
+use polis_base::NoMemory;
 use polis_words::Status;
+use std::alloc::Global;
+use std::process::Abort;
+use std::sync::Wait;
 use std::test::Fail;
+use std::thread::Threads;
 
 // The journal of a join's run on the trace `a`, `a`, `b`, in both versions.
 const JOINED: &str = "polis journal 1
@@ -32,36 +39,88 @@ const JUDGED: Case<'static> = Case {
     ..DONE
 };
 
-const LEGAL: &[Case<'_>] = &[
-    Case {
-        read_journal: Some(JOINED),
-        shown: "legal 4 complete\n",
-        ..JUDGED
-    },
-    Case {
-        read_journal: Some(
-            "polis journal 1\ndep env m a\ndep env m a\ndep env m b\nfire m : a b ; - -> - ; c\nend 4 limit\n",
-        ),
-        shown: "legal 4 complete\n",
-        ..JUDGED
-    },
-    Case {
-        read_journal: Some("polis journal 1\ndep env m a\nend 1 limit\n"),
-        shown: "legal 1 open\n",
-        ..JUDGED
-    },
-    Case {
-        read_journal: Some(
-            "polis journal 1\ndep env m a\ndep env m a\ndep env m b\nend 3 complete\n",
-        ),
-        shown: "legal 3 open\n",
-        ..JUDGED
-    },
-];
+// A table has two dashes between a journal and what its replay shows, and two equals signs between
+// each two journals, on a line each.
+
+// What a replay answers that shows this.
+fn status_of(shown: &str) -> Status {
+    if shown.starts_with("legal ") {
+        Status::Done
+    } else if shown.starts_with("illegal ") {
+        Status::Illegal
+    } else {
+        Status::Refused
+    }
+}
+
+fn try_journal<'a, T: Abort + Threads + Wait + Sync>(
+    rt: &T,
+    alloc: Global,
+    (net, trace): (&'a str, &'a str),
+    text: &'a str,
+    number: usize,
+) -> Result<(), NoMemory> {
+    let (journal, shown) = match cut(text, "--\n") {
+        Some(parts) => parts,
+        None => (text, ""),
+    };
+    let case = replay(net, trace, journal, status_of(shown), shown);
+    tried(rt, alloc, &case, number)
+}
+
+// Replays of the journals of a table on a network and a trace.
+fn try_journals<'a, T: Abort + Threads + Wait + Sync>(
+    rt: &T,
+    alloc: Global,
+    given: (&'a str, &'a str),
+    table: &'a str,
+) -> Result<(), NoMemory> {
+    for (number, text) in table.split("==\n").enumerate() {
+        try_journal(rt, alloc, given, text, number)?;
+    }
+    Ok(())
+}
+
+// A join, and its trace.
+const OF_JOIN: (&str, &str) = (JOIN, "a\na\nb\n");
+
+const LEGAL: &str = "polis journal 1
+dep env m a
+dep env m a
+dep env m b
+fire m : a b ; - -> - ; c
+end 4 complete
+--
+legal 4 complete
+==
+polis journal 1
+dep env m a
+dep env m a
+dep env m b
+fire m : a b ; - -> - ; c
+end 4 limit
+--
+legal 4 complete
+==
+polis journal 1
+dep env m a
+end 1 limit
+--
+legal 1 open
+==
+polis journal 1
+dep env m a
+dep env m a
+dep env m b
+end 3 complete
+--
+legal 3 open
+";
 
 #[test]
 fn judges_journals(rt: HostRuntime) -> Result<(), Fail> {
-    try_cases(&rt, rt.alloc(), LEGAL)
+    try_journals(&rt, rt.alloc(), OF_JOIN, LEGAL)?;
+    Ok(())
 }
 
 const ILLEGAL: Case<'static> = Case {
@@ -71,82 +130,101 @@ const ILLEGAL: Case<'static> = Case {
 
 // Journals that aren't legal: an entry twice, too early, left out or out of order, a reaction with
 // another outcome or snapshot, one without a delivery, and a delivery that nobody sent.
-const WRONG: &[Case<'_>] = &[
-    Case {
-        read_journal: Some(
-            "polis journal 1\ndep env m a\ndep env m a\ndep env m a\ndep env m b\nfire m : a b ; - -> - ; c\nend 5 complete\n",
-        ),
-        shown: "illegal 2\n",
-        ..ILLEGAL
-    },
-    Case {
-        read_journal: Some(
-            "polis journal 1\ndep env m a\ndep env m a\nfire m : a b ; - -> - ; c\ndep env m b\nend 4 complete\n",
-        ),
-        shown: "illegal 2\n",
-        ..ILLEGAL
-    },
-    Case {
-        read_journal: Some(
-            "polis journal 1\ndep env m a\ndep env m b\nfire m : a b ; - -> - ; c\nend 3 complete\n",
-        ),
-        shown: "illegal 1\n",
-        ..ILLEGAL
-    },
-    Case {
-        read_journal: Some(
-            "polis journal 1\ndep env m a\ndep env m a\nfire m : a b ; - -> - ; c\nend 3 complete\n",
-        ),
-        shown: "illegal 2\n",
-        ..ILLEGAL
-    },
-    Case {
-        read_journal: Some(
-            "polis journal 1\ndep env m a\ndep env m b\ndep env m a\nfire m : a b ; - -> - ; c\nend 4 complete\n",
-        ),
-        shown: "illegal 1\n",
-        ..ILLEGAL
-    },
-    Case {
-        read_journal: Some(
-            "polis journal 1\ndep env m a\ndep env m a\ndep env m b\nfire m : a b ; - -> - ; -\nend 4 complete\n",
-        ),
-        shown: "illegal 3\n",
-        ..ILLEGAL
-    },
-    Case {
-        read_journal: Some(
-            "polis journal 1\ndep env m a\ndep env m a\ndep env m b\nidle m : a b ; -\nend 4 complete\n",
-        ),
-        shown: "illegal 3\n",
-        ..ILLEGAL
-    },
-    Case {
-        read_journal: Some(
-            "polis journal 1\ndep env m a\ndep env m a\ndep env m b\nfire m : a ; - -> - ; c\nend 4 complete\n",
-        ),
-        shown: "illegal 3\n",
-        ..ILLEGAL
-    },
-    Case {
-        read_journal: Some(
-            "polis journal 1\ndep env m a\ndep env m a\ndep env m b\nfire m : a b ; - -> - ; c\nfire m : a b ; - -> - ; c\nend 5 complete\n",
-        ),
-        shown: "illegal 4\n",
-        ..ILLEGAL
-    },
-    Case {
-        read_journal: Some(
-            "polis journal 1\ndep m m a\ndep env m a\ndep env m b\nfire m : a b ; - -> - ; c\nend 4 complete\n",
-        ),
-        shown: "illegal 0\n",
-        ..ILLEGAL
-    },
-];
+const WRONG: &str = "polis journal 1
+dep env m a
+dep env m a
+dep env m a
+dep env m b
+fire m : a b ; - -> - ; c
+end 5 complete
+--
+illegal 2
+==
+polis journal 1
+dep env m a
+dep env m a
+fire m : a b ; - -> - ; c
+dep env m b
+end 4 complete
+--
+illegal 2
+==
+polis journal 1
+dep env m a
+dep env m b
+fire m : a b ; - -> - ; c
+end 3 complete
+--
+illegal 1
+==
+polis journal 1
+dep env m a
+dep env m a
+fire m : a b ; - -> - ; c
+end 3 complete
+--
+illegal 2
+==
+polis journal 1
+dep env m a
+dep env m b
+dep env m a
+fire m : a b ; - -> - ; c
+end 4 complete
+--
+illegal 1
+==
+polis journal 1
+dep env m a
+dep env m a
+dep env m b
+fire m : a b ; - -> - ; -
+end 4 complete
+--
+illegal 3
+==
+polis journal 1
+dep env m a
+dep env m a
+dep env m b
+idle m : a b ; -
+end 4 complete
+--
+illegal 3
+==
+polis journal 1
+dep env m a
+dep env m a
+dep env m b
+fire m : a ; - -> - ; c
+end 4 complete
+--
+illegal 3
+==
+polis journal 1
+dep env m a
+dep env m a
+dep env m b
+fire m : a b ; - -> - ; c
+fire m : a b ; - -> - ; c
+end 5 complete
+--
+illegal 4
+==
+polis journal 1
+dep m m a
+dep env m a
+dep env m b
+fire m : a b ; - -> - ; c
+end 4 complete
+--
+illegal 0
+";
 
 #[test]
 fn finds_the_first_illegal_entry(rt: HostRuntime) -> Result<(), Fail> {
-    try_cases(&rt, rt.alloc(), WRONG)
+    try_journals(&rt, rt.alloc(), OF_JOIN, WRONG)?;
+    Ok(())
 }
 
 const UNREADABLE: Case<'static> = Case {
@@ -154,62 +232,77 @@ const UNREADABLE: Case<'static> = Case {
     ..JUDGED
 };
 
-// Journals that don't read, and files that aren't there.
-const NO_JOURNALS: &[Case<'_>] = &[
-    Case {
-        read_journal: Some(
-            "polis journal 1\ndep env m a\ndep env m a\ndep env m b\nfire m : a b ; - -> - ; c\n",
-        ),
-        shown: "refused jnl line 6 end\n",
-        ..UNREADABLE
-    },
-    Case {
-        read_journal: Some(
-            "polis journal 1\ndep env m a\ndep env m a\ndep env m b\nfire m : a b ; - -> - ; c\nend 5 complete\n",
-        ),
-        shown: "refused jnl line 6 count\n",
-        ..UNREADABLE
-    },
-    Case {
-        read_journal: Some(
-            "polis journal 1\ndep env m a\ndep env m a\ndep env m b\nfire m : a b ; - -> - ; c\nend 04 complete\n",
-        ),
-        shown: "refused jnl line 6 shape\n",
-        ..UNREADABLE
-    },
-    Case {
-        read_journal: Some(
-            "polis journal 1\ndep env m a\ndep env m a\ndep env m b\nfire m : a b ; - -> - ; c\nend 4 complete\nx\n",
-        ),
-        shown: "refused jnl line 7 after\n",
-        ..UNREADABLE
-    },
-    Case {
-        read_journal: Some(
-            "polis journal 1\ndep env m zz\ndep env m a\ndep env m b\nfire m : a b ; - -> - ; c\nend 4 complete\n",
-        ),
-        shown: "refused jnl line 2 name\n",
-        ..UNREADABLE
-    },
-    Case {
-        read_journal: Some(
-            "polis journal 1\ndep env m a=1\ndep env m a\ndep env m b\nfire m : a b ; - -> - ; c\nend 4 complete\n",
-        ),
-        shown: "refused jnl line 2 value\n",
-        ..UNREADABLE
-    },
-    Case {
-        read_journal: Some(
-            "polis journal 1\ndep env m a\ndep env m a\ndep env m b\nfire m : b a ; - -> - ; c\nend 4 complete\n",
-        ),
-        shown: "refused jnl line 5 name\n",
-        ..UNREADABLE
-    },
-    Case {
-        read_journal: Some("polis journal 3\n"),
-        shown: "refused jnl line 1 header\n",
-        ..UNREADABLE
-    },
+// Journals that don't read.
+const NO_JOURNALS: &str = "polis journal 1
+dep env m a
+dep env m a
+dep env m b
+fire m : a b ; - -> - ; c
+--
+refused jnl line 6 end
+==
+polis journal 1
+dep env m a
+dep env m a
+dep env m b
+fire m : a b ; - -> - ; c
+end 5 complete
+--
+refused jnl line 6 count
+==
+polis journal 1
+dep env m a
+dep env m a
+dep env m b
+fire m : a b ; - -> - ; c
+end 04 complete
+--
+refused jnl line 6 shape
+==
+polis journal 1
+dep env m a
+dep env m a
+dep env m b
+fire m : a b ; - -> - ; c
+end 4 complete
+x
+--
+refused jnl line 7 after
+==
+polis journal 1
+dep env m zz
+dep env m a
+dep env m b
+fire m : a b ; - -> - ; c
+end 4 complete
+--
+refused jnl line 2 name
+==
+polis journal 1
+dep env m a=1
+dep env m a
+dep env m b
+fire m : a b ; - -> - ; c
+end 4 complete
+--
+refused jnl line 2 value
+==
+polis journal 1
+dep env m a
+dep env m a
+dep env m b
+fire m : b a ; - -> - ; c
+end 4 complete
+--
+refused jnl line 5 name
+==
+polis journal 3
+--
+refused jnl line 1 header
+";
+
+// Calls in which a file isn't there.
+const ABSENT: &[Case<'_>] = &[
     Case {
         shown: "refused jnl absent\n",
         ..UNREADABLE
@@ -225,62 +318,64 @@ const NO_JOURNALS: &[Case<'_>] = &[
 
 #[test]
 fn refuses_what_is_no_journal(rt: HostRuntime) -> Result<(), Fail> {
-    try_cases(&rt, rt.alloc(), NO_JOURNALS)
+    try_journals(&rt, rt.alloc(), OF_JOIN, NO_JOURNALS)?;
+    try_cases(&rt, rt.alloc(), ABSENT)
 }
 
-// A replay on two machines that read one event.
-const OF_TWO: Case<'static> = Case {
-    words: REPLAY,
-    net: Some(TWO),
-    trace: Some("x\n"),
-    ..DONE
-};
+// A network of two machines that read one event, and a trace.
+const OF_TWO: (&str, &str) = (TWO, "x\n");
 
 // Stamps that rise and stamps that don't, and what is no stamp.
-const STAMPED: &[Case<'_>] = &[
-    Case {
-        read_journal: Some(
-            "polis journal 2\n@1 dep env a x\n@1 dep env b x\n@2 fire b : x ; - -> - ; yb\n@2 fire a : x ; - -> - ; ya\nend 4 complete\n",
-        ),
-        shown: "legal 4 complete\n",
-        ..OF_TWO
-    },
-    Case {
-        read_journal: Some(
-            "polis journal 2\n@1 dep env a x\n@1 dep env b x\n@2 fire b : x ; - -> - ; yb\n@9 fire a : x ; - -> - ; ya\nend 4 complete\n",
-        ),
-        shown: "legal 4 complete\n",
-        ..OF_TWO
-    },
-    Case {
-        status: Status::Illegal,
-        read_journal: Some(
-            "polis journal 2\n@1 dep env a x\n@1 dep env b x\n@2 fire b : x ; - -> - ; yb\n@1 fire a : x ; - -> - ; ya\nend 4 complete\n",
-        ),
-        shown: "illegal 3\n",
-        ..OF_TWO
-    },
-    Case {
-        status: Status::Refused,
-        read_journal: Some(
-            "polis journal 2\n@0 dep env a x\n@1 dep env b x\n@2 fire b : x ; - -> - ; yb\n@2 fire a : x ; - -> - ; ya\nend 4 complete\n",
-        ),
-        shown: "refused jnl line 2 stamp\n",
-        ..OF_TWO
-    },
-    Case {
-        status: Status::Refused,
-        read_journal: Some(
-            "polis journal 2\n@01 dep env a x\n@1 dep env b x\n@2 fire b : x ; - -> - ; yb\n@2 fire a : x ; - -> - ; ya\nend 4 complete\n",
-        ),
-        shown: "refused jnl line 2 shape\n",
-        ..OF_TWO
-    },
-];
+const STAMPED: &str = "polis journal 2
+@1 dep env a x
+@1 dep env b x
+@2 fire b : x ; - -> - ; yb
+@2 fire a : x ; - -> - ; ya
+end 4 complete
+--
+legal 4 complete
+==
+polis journal 2
+@1 dep env a x
+@1 dep env b x
+@2 fire b : x ; - -> - ; yb
+@9 fire a : x ; - -> - ; ya
+end 4 complete
+--
+legal 4 complete
+==
+polis journal 2
+@1 dep env a x
+@1 dep env b x
+@2 fire b : x ; - -> - ; yb
+@1 fire a : x ; - -> - ; ya
+end 4 complete
+--
+illegal 3
+==
+polis journal 2
+@0 dep env a x
+@1 dep env b x
+@2 fire b : x ; - -> - ; yb
+@2 fire a : x ; - -> - ; ya
+end 4 complete
+--
+refused jnl line 2 stamp
+==
+polis journal 2
+@01 dep env a x
+@1 dep env b x
+@2 fire b : x ; - -> - ; yb
+@2 fire a : x ; - -> - ; ya
+end 4 complete
+--
+refused jnl line 2 shape
+";
 
 #[test]
 fn judges_stamps(rt: HostRuntime) -> Result<(), Fail> {
-    try_cases(&rt, rt.alloc(), STAMPED)
+    try_journals(&rt, rt.alloc(), OF_TWO, STAMPED)?;
+    Ok(())
 }
 
 const MIGRATED: &[Case<'_>] = &[

@@ -1,5 +1,7 @@
 // Whole calls over files in memory, as a table.
-use crate::tests::cases::{CHECK, COMPILE, Case, DONE, PRESS, REFUSED, try_cases};
+use crate::tests::cases::{
+    CHECK, COMPILE, Case, DONE, REFUSED, RUN, cut, read_only, tried, try_cases,
+};
 use crate::tests::listings::{
     BELT_LISTING, ECHO_LISTING, JOIN_LISTING, LAMP_LISTING, LOOP_LISTING, PONG_LISTING,
     TWO_LISTING, VALUE_LISTING,
@@ -8,13 +10,195 @@ use crate::tests::networks::{
     BELT, CLASH, ECHO, ECHO_CLASH, ECHO_ROWS, EVEN, JOIN, LAMP, LAMP_2, LOOP, OPEN_ROW, PONG, TWO,
     VALUE, WIDE,
 };
+use polis_base::NoMemory;
 use polis_words::Status;
 use sample_networks::texts::{
-    BELT_TRACE, CLASH_TRACE, ECHO_TRACE, JOIN_TRACE, LOOP_TRACE, PONG_TRACE, TWO_TRACE, VALUE_TRACE,
+    BELT_TRACE, CLASH_TRACE, ECHO_TRACE, JOIN_TRACE, LOOP_TRACE, PONG_TRACE, PRESS_TRACE,
+    TWO_TRACE, VALUE_TRACE,
 };
+use std::alloc::Global;
+use std::process::Abort;
+use std::sync::Wait;
 use std::test::Fail;
+use std::thread::Threads;
 
-const BELT_JOURNAL: &str = "polis journal 2
+// A text in which a fault of syntax stands before a byte that begins no token.
+const TWICE_BEGUN: &str = "network t network %";
+
+// A run is a text of three parts, with a line of two dashes between each two: what is shown, what
+// is emitted to the environment, and the journal.
+
+const PRESSED_ONCE: &str = "entries 2 complete
+lost 0
+gathered 0 adopted 0
+machine lamp_ctl vertices 7 code 6 tries 1 steps 6
+--
+light
+--
+polis journal 2
+@1 dep env lamp_ctl press
+@2 fire lamp_ctl : press ; s=off -> s=on ; light
+end 2 complete
+";
+
+const NEVER_PRESSED: &str = "entries 0 complete
+lost 0
+gathered 0 adopted 0
+machine lamp_ctl vertices 7 code 6 tries 0 steps 0
+--
+--
+polis journal 2
+end 0 complete
+";
+
+const PRESSED_TWICE: &str = "entries 4 complete
+lost 0
+gathered 0 adopted 0
+machine lamp_ctl vertices 7 code 6 tries 2 steps 9
+--
+light
+--
+polis journal 2
+@1 dep env lamp_ctl press
+@2 fire lamp_ctl : press ; s=off -> s=on ; light
+@3 dep env lamp_ctl press
+@4 idle lamp_ctl : press ; s=on
+end 4 complete
+";
+
+const JOINED: &str = "entries 4 complete
+lost 1
+gathered 0 adopted 0
+machine m vertices 6 code 5 tries 1 steps 5
+--
+c
+--
+polis journal 2
+@1 dep env m a
+@2 dep env m a
+@3 dep env m b
+@4 fire m : a b ; - -> - ; c
+end 4 complete
+";
+
+const JOINED_APART: &str = "entries 4 complete
+lost 0
+gathered 0 adopted 0
+machine m vertices 6 code 5 tries 2 steps 8
+--
+c
+--
+polis journal 2
+@1 dep env m a
+@2 idle m : a ; -
+@3 dep env m b
+@4 fire m : a b ; - -> - ; c
+end 4 complete
+";
+
+const WAITED: &str = "entries 3 complete
+lost 1
+gathered 0 adopted 0
+machine m vertices 5 code 4 tries 1 steps 4
+--
+hit
+--
+polis journal 2
+@1 dep env m v=3
+@2 dep env m v=5
+@3 fire m : v=5 ; - -> - ; hit
+end 3 complete
+";
+
+const PASSED_ON: &str = "entries 2 complete
+lost 0
+gathered 0 adopted 0
+machine m vertices 21 code 34 tries 1 steps 8
+--
+w=5
+--
+polis journal 2
+@1 dep env m v=5
+@2 fire m : v=5 ; s=6 -> s=1 ; w=5
+end 2 complete
+";
+
+const PASSED_ON_TWICE: &str = "entries 4 complete
+lost 0
+gathered 0 adopted 0
+machine m vertices 21 code 34 tries 2 steps 16
+--
+w=5
+w=2
+--
+polis journal 2
+@1 dep env m v=5
+@2 fire m : v=5 ; s=6 -> s=1 ; w=5
+@3 dep env m v=2
+@4 fire m : v=2 ; s=1 -> s=4 ; w=2
+end 4 complete
+";
+
+const BY_PRIORITY: &str = "entries 4 complete
+lost 0
+gathered 0 adopted 0
+machine a vertices 5 code 4 tries 1 steps 4
+machine b vertices 5 code 4 tries 1 steps 4
+--
+yb
+ya
+--
+polis journal 2
+@1 dep env a x
+@1 dep env b x
+@2 fire b : x ; - -> - ; yb
+@2 fire a : x ; - -> - ; ya
+end 4 complete
+";
+
+const BY_NUMBER: &str = "entries 4 complete
+lost 0
+gathered 0 adopted 0
+machine a vertices 5 code 4 tries 1 steps 4
+machine b vertices 5 code 4 tries 1 steps 4
+--
+ya
+yb
+--
+polis journal 2
+@1 dep env a x
+@1 dep env b x
+@2 fire a : x ; - -> - ; ya
+@2 fire b : x ; - -> - ; yb
+end 4 complete
+";
+
+const LOOPED: &str = "entries 6 complete
+lost 0
+gathered 0 adopted 0
+machine m vertices 12 code 13 tries 3 steps 20
+--
+--
+polis journal 2
+@1 dep env m go
+@2 fire m : go ; c=0 -> c=1 ; x
+@3 dep m m x
+@4 fire m : x ; c=1 -> c=2 ; x
+@5 dep m m x
+@6 fire m : x ; c=2 -> c=3 ; -
+end 6 complete
+";
+
+const BELTED: &str = "entries 30 complete
+lost 0
+gathered 0 adopted 0
+machine belt vertices 22 code 25 tries 3 steps 26
+machine timer vertices 20 code 29 tries 12 steps 81
+--
+alarm_on
+alarm_off
+--
+polis journal 2
 @1 dep env belt key_on
 @2 fire belt : key_on ; s=off -> s=wait ; start
 @3 dep belt timer start
@@ -48,7 +232,25 @@ const BELT_JOURNAL: &str = "polis journal 2
 end 30 complete
 ";
 
-const PONG_JOURNAL: &str = "polis journal 2
+const PRESSED_ONLY: &str = "entries 1 limit
+lost 0
+gathered 0 adopted 0
+machine lamp_ctl vertices 7 code 6 tries 0 steps 0
+--
+--
+polis journal 2
+@1 dep env lamp_ctl press
+end 1 limit
+";
+
+const PLAYED: &str = "entries 10 limit
+lost 0
+gathered 0 adopted 0
+machine a vertices 6 code 5 tries 3 steps 14
+machine b vertices 5 code 4 tries 2 steps 8
+--
+--
+polis journal 2
 @1 dep env a go
 @2 fire a : go ; - -> - ; p
 @3 dep a b p
@@ -62,174 +264,182 @@ const PONG_JOURNAL: &str = "polis journal 2
 end 10 limit
 ";
 
-// A text in which a fault of syntax stands before a byte that begins no token.
-const TWICE_BEGUN: &str = "network t network %";
+// What a run is to give that saves a listing, too.
+fn run_of<'a>(
+    (words, net, trace): (&'static [&'static str], &'a str, &'a str),
+    listing: &'a str,
+    (shown, outputs, journal): (&'a str, &'a str, &'a str),
+) -> Case<'a> {
+    let status = if journal.ends_with(" limit\n") {
+        Status::Limit
+    } else {
+        Status::Done
+    };
+    Case {
+        outputs: Some(outputs),
+        journal: Some(journal),
+        listing: Some(listing),
+        ..read_only(words, net, trace, status, shown)
+    }
+}
 
-// Runs of the lamp and of other single machines.
-const RUNS: &[Case<'_>] = &[
-    PRESS,
-    Case {
-        trace: Some(""),
-        shown: "entries 0 complete\nlost 0\ngathered 0 adopted 0\nmachine lamp_ctl vertices 7 code 6 tries 0 steps 0\n",
-        outputs: Some(""),
-        journal: Some("polis journal 2\nend 0 complete\n"),
-        ..PRESS
-    },
-    Case {
-        trace: Some("press\nsettle\npress\n"),
-        shown: "entries 4 complete\nlost 0\ngathered 0 adopted 0\nmachine lamp_ctl vertices 7 code 6 tries 2 steps 9\n",
-        journal: Some(
-            "polis journal 2\n@1 dep env lamp_ctl press\n@2 fire lamp_ctl : press ; s=off -> s=on ; light\n@3 dep env lamp_ctl press\n@4 idle lamp_ctl : press ; s=on\nend 4 complete\n",
-        ),
-        ..PRESS
-    },
-    Case {
-        net: Some(LAMP_2),
-        ..PRESS
-    },
-    Case {
-        net: Some(JOIN),
-        trace: Some(JOIN_TRACE),
-        shown: "entries 4 complete\nlost 1\ngathered 0 adopted 0\nmachine m vertices 6 code 5 tries 1 steps 5\n",
-        outputs: Some("c\n"),
-        journal: Some(
-            "polis journal 2\n@1 dep env m a\n@2 dep env m a\n@3 dep env m b\n@4 fire m : a b ; - -> - ; c\nend 4 complete\n",
-        ),
-        listing: Some(JOIN_LISTING),
-        ..PRESS
-    },
-    Case {
-        net: Some(JOIN),
-        trace: Some("a\nsettle\nb\n"),
-        shown: "entries 4 complete\nlost 0\ngathered 0 adopted 0\nmachine m vertices 6 code 5 tries 2 steps 8\n",
-        outputs: Some("c\n"),
-        journal: Some(
-            "polis journal 2\n@1 dep env m a\n@2 idle m : a ; -\n@3 dep env m b\n@4 fire m : a b ; - -> - ; c\nend 4 complete\n",
-        ),
-        listing: Some(JOIN_LISTING),
-        ..PRESS
-    },
-    Case {
-        net: Some(VALUE),
-        trace: Some(VALUE_TRACE),
-        shown: "entries 3 complete\nlost 1\ngathered 0 adopted 0\nmachine m vertices 5 code 4 tries 1 steps 4\n",
-        outputs: Some("hit\n"),
-        journal: Some(
-            "polis journal 2\n@1 dep env m v=3\n@2 dep env m v=5\n@3 fire m : v=5 ; - -> - ; hit\nend 3 complete\n",
-        ),
-        listing: Some(VALUE_LISTING),
-        ..PRESS
-    },
-    Case {
-        net: Some(ECHO),
-        trace: Some("v 5\n"),
-        shown: "entries 2 complete\nlost 0\ngathered 0 adopted 0\nmachine m vertices 21 code 34 tries 1 steps 8\n",
-        outputs: Some("w=5\n"),
-        journal: Some(
-            "polis journal 2\n@1 dep env m v=5\n@2 fire m : v=5 ; s=6 -> s=1 ; w=5\nend 2 complete\n",
-        ),
-        listing: Some(ECHO_LISTING),
-        ..PRESS
-    },
-    Case {
-        net: Some(ECHO),
-        trace: Some(ECHO_TRACE),
-        shown: "entries 4 complete\nlost 0\ngathered 0 adopted 0\nmachine m vertices 21 code 34 tries 2 steps 16\n",
-        outputs: Some("w=5\nw=2\n"),
-        journal: Some(
-            "polis journal 2\n@1 dep env m v=5\n@2 fire m : v=5 ; s=6 -> s=1 ; w=5\n@3 dep env m v=2\n@4 fire m : v=2 ; s=1 -> s=4 ; w=2\nend 4 complete\n",
-        ),
-        listing: Some(ECHO_LISTING),
-        ..PRESS
-    },
-];
+fn parts_of(run: &str) -> (&str, &str, &str) {
+    match cut(run, "--\n") {
+        Some((shown, rest)) => match cut(rest, "--\n") {
+            Some((outputs, journal)) => (shown, outputs, journal),
+            None => (shown, rest, ""),
+        },
+        None => (run, "", ""),
+    }
+}
+
+fn try_run<'a, T: Abort + Threads + Wait + Sync>(
+    rt: &T,
+    alloc: Global,
+    given: (&'static [&'static str], &'a str, &'a str),
+    listing: &'a str,
+    run: &'a str,
+    number: usize,
+) -> Result<(), NoMemory> {
+    let case = run_of(given, listing, parts_of(run));
+    tried(rt, alloc, &case, number)
+}
 
 #[test]
-fn runs_single_machines(rt: HostRuntime) -> Result<(), Fail> {
-    try_cases(&rt, rt.alloc(), RUNS)
+fn runs_a_lamp(rt: HostRuntime) -> Result<(), Fail> {
+    let alloc = rt.alloc();
+    try_run(
+        &rt,
+        alloc,
+        (RUN, LAMP, PRESS_TRACE),
+        LAMP_LISTING,
+        PRESSED_ONCE,
+        0,
+    )?;
+    try_run(&rt, alloc, (RUN, LAMP, ""), LAMP_LISTING, NEVER_PRESSED, 1)?;
+    try_run(
+        &rt,
+        alloc,
+        (RUN, LAMP, "press\nsettle\npress\n"),
+        LAMP_LISTING,
+        PRESSED_TWICE,
+        2,
+    )?;
+    try_run(
+        &rt,
+        alloc,
+        (RUN, LAMP_2, PRESS_TRACE),
+        LAMP_LISTING,
+        PRESSED_ONCE,
+        3,
+    )?;
+    Ok(())
+}
+
+#[test]
+fn runs_a_join_and_a_machine_that_waits(rt: HostRuntime) -> Result<(), Fail> {
+    let alloc = rt.alloc();
+    try_run(&rt, alloc, (RUN, JOIN, JOIN_TRACE), JOIN_LISTING, JOINED, 0)?;
+    try_run(
+        &rt,
+        alloc,
+        (RUN, JOIN, "a\nsettle\nb\n"),
+        JOIN_LISTING,
+        JOINED_APART,
+        1,
+    )?;
+    try_run(
+        &rt,
+        alloc,
+        (RUN, VALUE, VALUE_TRACE),
+        VALUE_LISTING,
+        WAITED,
+        2,
+    )?;
+    Ok(())
+}
+
+#[test]
+fn runs_a_machine_that_passes_values_on(rt: HostRuntime) -> Result<(), Fail> {
+    let alloc = rt.alloc();
+    try_run(&rt, alloc, (RUN, ECHO, "v 5\n"), ECHO_LISTING, PASSED_ON, 0)?;
+    try_run(
+        &rt,
+        alloc,
+        (RUN, ECHO, ECHO_TRACE),
+        ECHO_LISTING,
+        PASSED_ON_TWICE,
+        1,
+    )?;
+    Ok(())
 }
 
 // Runs of machines that send, to another one or to themselves, or stand side by side.
-const RUNS_OF_SEVERAL: &[Case<'_>] = &[
-    Case {
-        net: Some(TWO),
-        trace: Some(TWO_TRACE),
-        shown: "entries 4 complete\nlost 0\ngathered 0 adopted 0\nmachine a vertices 5 code 4 tries 1 steps 4\nmachine b vertices 5 code 4 tries 1 steps 4\n",
-        outputs: Some("yb\nya\n"),
-        journal: Some(
-            "polis journal 2\n@1 dep env a x\n@1 dep env b x\n@2 fire b : x ; - -> - ; yb\n@2 fire a : x ; - -> - ; ya\nend 4 complete\n",
-        ),
-        listing: Some(TWO_LISTING),
-        ..PRESS
-    },
-    Case {
-        net: Some(EVEN),
-        trace: Some(TWO_TRACE),
-        shown: "entries 4 complete\nlost 0\ngathered 0 adopted 0\nmachine a vertices 5 code 4 tries 1 steps 4\nmachine b vertices 5 code 4 tries 1 steps 4\n",
-        outputs: Some("ya\nyb\n"),
-        journal: Some(
-            "polis journal 2\n@1 dep env a x\n@1 dep env b x\n@2 fire a : x ; - -> - ; ya\n@2 fire b : x ; - -> - ; yb\nend 4 complete\n",
-        ),
-        listing: Some(TWO_LISTING),
-        ..PRESS
-    },
-    Case {
-        net: Some(LOOP),
-        trace: Some(LOOP_TRACE),
-        shown: "entries 6 complete\nlost 0\ngathered 0 adopted 0\nmachine m vertices 12 code 13 tries 3 steps 20\n",
-        outputs: Some(""),
-        journal: Some(
-            "polis journal 2\n@1 dep env m go\n@2 fire m : go ; c=0 -> c=1 ; x\n@3 dep m m x\n@4 fire m : x ; c=1 -> c=2 ; x\n@5 dep m m x\n@6 fire m : x ; c=2 -> c=3 ; -\nend 6 complete\n",
-        ),
-        listing: Some(LOOP_LISTING),
-        ..PRESS
-    },
-    Case {
-        net: Some(BELT),
-        trace: Some(BELT_TRACE),
-        shown: "entries 30 complete\nlost 0\ngathered 0 adopted 0\nmachine belt vertices 22 code 25 tries 3 steps 26\nmachine timer vertices 20 code 29 tries 12 steps 81\n",
-        outputs: Some("alarm_on\nalarm_off\n"),
-        journal: Some(BELT_JOURNAL),
-        listing: Some(BELT_LISTING),
-        ..PRESS
-    },
-];
+#[test]
+fn runs_machines_that_stand_side_by_side(rt: HostRuntime) -> Result<(), Fail> {
+    let alloc = rt.alloc();
+    try_run(
+        &rt,
+        alloc,
+        (RUN, TWO, TWO_TRACE),
+        TWO_LISTING,
+        BY_PRIORITY,
+        0,
+    )?;
+    try_run(
+        &rt,
+        alloc,
+        (RUN, EVEN, TWO_TRACE),
+        TWO_LISTING,
+        BY_NUMBER,
+        1,
+    )?;
+    Ok(())
+}
 
 #[test]
-fn runs_machines_that_send_or_stand_side_by_side(rt: HostRuntime) -> Result<(), Fail> {
-    try_cases(&rt, rt.alloc(), RUNS_OF_SEVERAL)
+fn runs_machines_that_send(rt: HostRuntime) -> Result<(), Fail> {
+    let alloc = rt.alloc();
+    try_run(&rt, alloc, (RUN, LOOP, LOOP_TRACE), LOOP_LISTING, LOOPED, 0)?;
+    try_run(&rt, alloc, (RUN, BELT, BELT_TRACE), BELT_LISTING, BELTED, 1)?;
+    Ok(())
 }
 
 // Runs within a limit of entries: of as many as the run has, of fewer, and of a run without end.
-const LIMITED: &[Case<'_>] = &[
-    Case {
-        words: &["run", "net", "trc", "o", "--limit", "2"],
-        ..PRESS
-    },
-    Case {
-        words: &["run", "net", "trc", "o", "--limit", "1"],
-        status: Status::Limit,
-        shown: "entries 1 limit\nlost 0\ngathered 0 adopted 0\nmachine lamp_ctl vertices 7 code 6 tries 0 steps 0\n",
-        outputs: Some(""),
-        journal: Some("polis journal 2\n@1 dep env lamp_ctl press\nend 1 limit\n"),
-        ..PRESS
-    },
-    Case {
-        words: &["run", "net", "trc", "o", "--limit", "10"],
-        net: Some(PONG),
-        trace: Some(PONG_TRACE),
-        status: Status::Limit,
-        shown: "entries 10 limit\nlost 0\ngathered 0 adopted 0\nmachine a vertices 6 code 5 tries 3 steps 14\nmachine b vertices 5 code 4 tries 2 steps 8\n",
-        outputs: Some(""),
-        journal: Some(PONG_JOURNAL),
-        listing: Some(PONG_LISTING),
-        ..PRESS
-    },
-];
+const TO_TWO: &[&str] = &["run", "net", "trc", "o", "--limit", "2"];
+
+const TO_ONE: &[&str] = &["run", "net", "trc", "o", "--limit", "1"];
+
+const TO_TEN: &[&str] = &["run", "net", "trc", "o", "--limit", "10"];
 
 #[test]
 fn ends_at_the_limit(rt: HostRuntime) -> Result<(), Fail> {
-    try_cases(&rt, rt.alloc(), LIMITED)
+    let alloc = rt.alloc();
+    try_run(
+        &rt,
+        alloc,
+        (TO_TWO, LAMP, PRESS_TRACE),
+        LAMP_LISTING,
+        PRESSED_ONCE,
+        0,
+    )?;
+    try_run(
+        &rt,
+        alloc,
+        (TO_ONE, LAMP, PRESS_TRACE),
+        LAMP_LISTING,
+        PRESSED_ONLY,
+        1,
+    )?;
+    try_run(
+        &rt,
+        alloc,
+        (TO_TEN, PONG, PONG_TRACE),
+        PONG_LISTING,
+        PLAYED,
+        2,
+    )?;
+    Ok(())
 }
 
 // Compilations. A run saves the same listings.

@@ -35,17 +35,25 @@ fn loads_all(alloc: Global, host: &mut StdHost) -> bool {
     load(host, NAME, 12, &mut into) == Load::Read && into.as_slice() == TEXT
 }
 
+// The file of twelve bytes is loaded within that limit, and not within a smaller one.
+fn loads_up_to_twelve(alloc: Global, host: &mut StdHost) -> bool {
+    loads_all(alloc, host) && answers(alloc, host, NAME, 11, Load::TooLong)
+}
+
+// No file has this name, and a folder is no file.
+fn loads_nothing(alloc: Global, host: &mut StdHost) -> bool {
+    answers(alloc, host, NAME, 12, Load::Absent) && answers(alloc, host, ".", 12, Load::Failed)
+}
+
 #[test]
 fn goes_over_the_systems_files(rt: HostRuntime) -> Result<(), Fail> {
     let mut host = StdHost::new(&rt, rt.alloc());
     assert!(rt; saves(&mut host));
     let saved = fs::read(&rt, NAME)?;
     assert!(rt; saved.as_slice() == TEXT);
-    assert!(rt; loads_all(rt.alloc(), &mut host));
-    assert!(rt; answers(rt.alloc(), &mut host, NAME, 11, Load::TooLong));
+    assert!(rt; loads_up_to_twelve(rt.alloc(), &mut host));
     fs::remove_file(&rt, NAME)?;
-    assert!(rt; answers(rt.alloc(), &mut host, NAME, 12, Load::Absent));
-    assert!(rt; answers(rt.alloc(), &mut host, ".", 12, Load::Failed));
+    assert!(rt; loads_nothing(rt.alloc(), &mut host));
     assert!(rt; shows(&mut host));
     Ok(())
 }

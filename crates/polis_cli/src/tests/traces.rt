@@ -1,9 +1,10 @@
 // Traces that a run reads, and traces that it refuses.
 use crate::tests::cases::{
-    Case, PRESS, RUN, Repeated, read_only, replay, text_of, try_case, try_cases,
+    Case, PRESS, RUN, Repeated, replay, text_of, tried, tried_refusal, try_cases,
 };
 use crate::tests::listings::VALUE_LISTING;
 use crate::tests::networks::{LAMP, VALUE};
+use polis_base::NoMemory;
 use polis_words::Status;
 use std::alloc::Global;
 use std::process::Abort;
@@ -28,8 +29,7 @@ const FAULTS: &[(&str, &str, &str)] = &[
 #[test]
 fn refuses_traces(rt: HostRuntime) -> Result<(), Fail> {
     for (number, (net, trace, shown)) in FAULTS.iter().enumerate() {
-        let case = read_only(RUN, net, trace, Status::Refused, shown);
-        try_case(&rt, rt.alloc(), &case, number)?;
+        tried_refusal(&rt, rt.alloc(), (RUN, net, trace), shown, number)?;
     }
     Ok(())
 }
@@ -83,7 +83,8 @@ fn reads_traces(rt: HostRuntime) -> Result<(), Fail> {
     try_cases(&rt, rt.alloc(), READ)
 }
 
-// 5,000 times an event and a settle item, with empty lines between them, and what stands after them.
+// 5,000 times an event and a settle item, with empty lines between them, and what stands after
+// them.
 const MANY: &[(Repeated<'_>, Status, &str)] = &[
     (
         Repeated {
@@ -116,10 +117,10 @@ fn try_replay<'a, T: Abort + Threads + Wait + Sync>(
     many: &Repeated<'a>,
     (status, shown): (Status, &'a str),
     number: usize,
-) -> Result<(), Fail> {
+) -> Result<(), NoMemory> {
     let text = text_of(alloc, many)?;
     let case = replay(LAMP, text.as_str(), NO_ENTRY, status, shown);
-    try_case(rt, alloc, &case, number)
+    tried(rt, alloc, &case, number)
 }
 
 #[test]

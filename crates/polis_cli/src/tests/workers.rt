@@ -1,6 +1,7 @@
 // Whole calls with several workers, over files in memory.
 use crate::tests::cases::{
-    BY_TWO, COMPILE, Case, PRESS, RUN, call, first_wrong, host_of, is_held, make_host, try_case,
+    BY_TWO, COMPILE, Case, PRESS, RUN, call, expect, expect_none, first_wrong, host_of, is_held,
+    make_host, try_case,
 };
 use crate::tests::gates::{Inside, Meeting, Outside};
 use crate::tests::listings::{BELT_LISTING, LOOP_LISTING, TWO_LISTING};
@@ -101,12 +102,13 @@ fn try_at<T: Abort + Threads + Wait + Sync, G: Gate + Sync>(
     alloc: Global,
     case: &Case<'_>,
     gate: &G,
-) -> Result<(), Fail> {
+) -> Result<(), NoMemory> {
     let mut host = make_host(alloc, case)?;
     let status = call(rt, alloc, case.words, &mut host, gate)?;
     let wrong = first_wrong(case, status, &host);
-    assert!(rt; wrong.is_empty(), "{wrong}");
-    assert!(rt; is_legal(rt, alloc, &mut host, "legal 4 complete\n")?);
+    expect_none(rt, wrong, 0);
+    let is_legal = is_legal(rt, alloc, &mut host, "legal 4 complete\n")?;
+    expect(rt, is_legal, 0);
     Ok(())
 }
 
@@ -143,7 +145,8 @@ fn runs_legally<T: Threads + Wait + Sync>(
 ) -> Result<bool, NoMemory> {
     let mut host = host_of(alloc, net, trace)?;
     let status = call(rt, alloc, words, &mut host, &OpenGate)?;
-    Ok(status == Status::Done && is_legal(rt, alloc, &mut host, " complete\n")?)
+    let is_legal = is_legal(rt, alloc, &mut host, " complete\n")?;
+    Ok(status == Status::Done && is_legal)
 }
 
 fn try_runs<T: Abort + Threads + Wait + Sync>(
@@ -151,9 +154,10 @@ fn try_runs<T: Abort + Threads + Wait + Sync>(
     alloc: Global,
     net: &str,
     trace: &str,
-) -> Result<(), Fail> {
+) -> Result<(), NoMemory> {
     for (number, words) in BY_SEVERAL.iter().enumerate() {
-        assert!(rt; runs_legally(rt, alloc, words, net, trace)?, "run {number}");
+        let is_legal = runs_legally(rt, alloc, words, net, trace)?;
+        expect(rt, is_legal, number);
     }
     Ok(())
 }
@@ -161,7 +165,8 @@ fn try_runs<T: Abort + Threads + Wait + Sync>(
 #[test]
 fn journals_of_workers_are_legal(rt: HostRuntime) -> Result<(), Fail> {
     try_runs(&rt, rt.alloc(), LOOP, LOOP_TRACE)?;
-    try_runs(&rt, rt.alloc(), BELT, BELT_BRIEFLY)
+    try_runs(&rt, rt.alloc(), BELT, BELT_BRIEFLY)?;
+    Ok(())
 }
 
 // Calls that list the compiled machines.
@@ -181,7 +186,8 @@ fn lists_the_belt<T: Threads + Wait + Sync>(
 #[test]
 fn lists_the_same_machines_by_each_call(rt: HostRuntime) -> Result<(), Fail> {
     for (number, words) in LISTING.iter().enumerate() {
-        assert!(rt; lists_the_belt(&rt, rt.alloc(), words)?, "call {number}");
+        let lists = lists_the_belt(&rt, rt.alloc(), words)?;
+        expect(&rt, lists, number);
     }
     Ok(())
 }

@@ -3,7 +3,8 @@ ghost use Rattle.std.specs.Prelude.{◌≡◌, ◌++◌, flat_map, IfOk, OnOk, I
 ghost use Rattle.domains.specs.Tables.{product};
 ghost use Rattle.transition_table.specs.NetworkFacts.{has_vars};
 ghost use Rattle.transition_table.specs.Transitions.{IsSnapshot};
-ghost use Rattle.polis_words.specs.Texts.{accepted_text, machine_line, conflict_text, machine_snapshot_text};
+ghost use Rattle.journal_text.specs.Texts.{snapshot_text};
+ghost use Rattle.polis_words.specs.Texts.{accepted_text, machine_line, machine_snapshot_text};
 
 use journal_text::push_snapshot;
 use polis_base::{Bytes, NoMemory};
@@ -77,27 +78,18 @@ pub fn print_machine_snapshot(
     Ok(text)
 }
 
-/// `M A B I ; X`: a machine, two of its rows, and the snapshot on which they conflict.
-pub fn print_conflict(
+/// `I ; X`: a snapshot of a machine.
+pub fn print_snapshot(
     alloc: Global,
     net: &Network,
     machine: &Machine,
-    row_a: u32,
-    row_b: u32,
     snapshot: &Snapshot,
 ) -> Result<Bytes, NoMemory>
     requires sized { IsTrue (has_vars net.now.domains net.now.events machine.now) }
     requires snapshot { IsSnapshot machine.now snapshot.now }
-    ensures { IfOk result (λ text. text
-        ≡ conflict_text net.now machine.now row_a row_b snapshot.now) }
+    ensures { IfOk result (λ text. text ≡ snapshot_text net.now machine.now snapshot.now.codes) }
 {
     let mut text = Bytes::new(alloc);
-    text.push(machine.name.bytes())?;
-    text.push(b" ")?;
-    text.push_decimal(row_a as u64)?;
-    text.push(b" ")?;
-    text.push_decimal(row_b as u64)?;
-    text.push(b" ")?;
     push_snapshot(net, machine, snapshot, &mut text)?;
     Ok(text)
 }

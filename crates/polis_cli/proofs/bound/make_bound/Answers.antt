@@ -17,6 +17,6 @@ pub returns-in-Err-clause-made : goal.returns-in-Err-clause-made
 returns-in-Err-clause-made g c =
     let asked = c.args.asked.now in
     files_failure (bound_meaning asked) (g.H.Host.files c.args.host.now) (FailsNet asked.net)
-    c.in-Err.failure refl (λ files name cause h. h)
+    c.in-Err.failure refl (λ told name cause. refl) (λ files name cause h. h)
     (net_alone asked.net (g.H.Host.files c.args.host.now) c.in-Err.failure
     (rw c.net.ensures at c.in-Err.ensures.failed))

@@ -16,6 +16,6 @@ pub returns-in-Err-clause-made : goal.returns-in-Err-clause-made
 returns-in-Err-clause-made g c =
     let check = c.args.check.now in
     files_failure (check_meaning check) (g.H.Host.files c.args.host.now) (FailsNet check.net)
-    c.in-Err.failure refl (λ files name cause h. h)
+    c.in-Err.failure refl (λ told name cause. refl) (λ files name cause h. h)
     (net_alone check.net (g.H.Host.files c.args.host.now) c.in-Err.failure
     (rw c.net.ensures at c.in-Err.ensures.failed))

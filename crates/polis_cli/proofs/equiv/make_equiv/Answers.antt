@@ -23,8 +23,9 @@ returns-in-Err-load_net-clause-made g c =
 pub returns-in-Err-Cause-clause-made : goal.returns-in-Err-Cause-clause-made
 returns-in-Err-Cause-clause-made g c =
     pair_fails (g.H.Host.files c.args.host.now) c.args.asked.now c.in-Ok.net
-    c.in-Ok-load_net.other c.other-name.result.now c.in-Err-Cause.cause c.other-name.ensures
+    c.in-Ok-load_net.other c.other-name.result.now c.in-Err-Cause.cause c.new.result
+    c.other-name.ensures
     (rw c.net.ensures at c.in-Ok.ensures.held) (rw c.net.ensures at c.in-Ok.ensures.one)
     (rw (c.in-Ok.ensures.left.files, c.other-name.ensures) at c.in-Ok-load_net.ensures.held)
     (rw (c.in-Ok.ensures.left.files, c.other-name.ensures) at c.in-Ok-load_net.ensures.one)
-    (rw c.in-Err-Cause.field-0-is at c.in-Err-Cause.ensures.failed)
+    (rw c.in-Err-Cause.field-0-is at c.in-Err-Cause.ensures.failed) c.new.ensures

@@ -1,17 +1,17 @@
-use Rattle.machine_compiler.specs.Parts.{parts_of}
 use Rattle.polis_cli.proofs.ImageMeaning.{storable}
 use Rattle.polis_cli.proofs.image.image_of_net.Goals as goal
 
 pub of-requires : goal.of-requires
 of-requires c =
-    rw c.in_ok-codes.ensures.codes
-    (storable c.args.net.now (parts_of c.in_ok-compiled.compiled) c.requires.whole
-    c.in_ok-compiled.ensures)
+    let made = c.in_ok-codes.ensures in
+    rw made.codes_are (storable c.args.net.now made.parts c.requires.whole made.right)
 
 pub returns : goal.returns
-returns c = record {
-  parts = parts_of c.in_ok-compiled.compiled;
-  right = c.in_ok-compiled.ensures;
-  image_is = rw c.in_ok-codes.ensures.codes at c.in_ok-image.ensures.image;
-  is_image = c.in_ok-image.ensures.is_image;
-}
+returns c =
+    let made = c.in_ok-codes.ensures in
+    record {
+      parts = made.parts;
+      right = made.right;
+      image_is = rw made.codes_are at c.in_ok-image.ensures.image;
+      is_image = c.in_ok-image.ensures.is_image;
+    }

@@ -15,5 +15,6 @@ returns-in-Err-clause-made g c =
 pub returns-in-Err-Cause-clause-made : goal.returns-in-Err-Cause-clause-made
 returns-in-Err-Cause-clause-made g c =
     too_long (g.H.Host.files c.args.host.now) c.args.asked.now c.in-Ok.net c.net-name.result.now
-    c.in-Err-Cause.cause c.net-name.ensures (rw c.net-name.ensures at c.in-Ok.ensures.held)
-    (rw c.in-Err-Cause.field-0-is at c.in-Err-Cause.ensures.failed)
+    c.in-Err-Cause.cause c.new.result c.net-name.ensures
+    (rw c.net-name.ensures at c.in-Ok.ensures.held)
+    (rw c.in-Err-Cause.field-0-is at c.in-Err-Cause.ensures.failed) c.new.ensures

@@ -20,7 +20,9 @@ returns-in-Err-clause-failed g c =
     c.in-Err.ensures.failed
 
 pub returns-in-Err-Cause-clause-failed : goal.returns-in-Err-Cause-clause-failed
-returns-in-Err-Cause-clause-failed g c =
-    image_faulty (g.H.Host.files c.args.host.now) c.args.net.now c.args.name.now c.in-Ok.bytes
-    c.in-Err-Cause.cause c.in-Ok.ensures.held
-    (rw (c.in-Err-Cause.field-0-is, c.as_slice.ensures) at c.in-Err-Cause.ensures.failed)
+returns-in-Err-Cause-clause-failed g c = (
+  image_faulty (g.H.Host.files c.args.host.now) c.args.net.now c.args.name.now c.in-Ok.bytes
+      c.in-Err-Cause.cause c.in-Ok.ensures.held
+      (rw (c.in-Err-Cause.field-0-is, c.as_slice.ensures) at c.in-Err-Cause.ensures.failed),
+  c.new.ensures,
+)

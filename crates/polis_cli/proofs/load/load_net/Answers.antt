@@ -24,8 +24,10 @@ returns-in-Err-clause-failed g c =
     c.in-Err.ensures.failed
 
 pub returns-in-Err-Cause-clause-failed : goal.returns-in-Err-Cause-clause-failed
-returns-in-Err-Cause-clause-failed g c =
-    net_faulty (g.H.Host.files c.args.host.now) c.args.name.now c.in-Ok.text
-    c.in-Err-Cause.cause c.in-Ok.ensures.held
-    (rw (c.in-Err-Cause.field-0-is, c.as_slice.ensures) at c.in-Err-Cause.ensures.failed)
-    (rw c.in-Err-Cause.field-0-is at c.in-Err-Cause.ensures.refused)
+returns-in-Err-Cause-clause-failed g c = (
+  net_faulty (g.H.Host.files c.args.host.now) c.args.name.now c.in-Ok.text
+      c.in-Err-Cause.cause c.in-Ok.ensures.held
+      (rw (c.in-Err-Cause.field-0-is, c.as_slice.ensures) at c.in-Err-Cause.ensures.failed)
+      (rw c.in-Err-Cause.field-0-is at c.in-Err-Cause.ensures.refused),
+  c.new.ensures,
+)

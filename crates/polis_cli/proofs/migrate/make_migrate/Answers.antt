@@ -16,5 +16,5 @@ pub returns-in-Err-clause-made : goal.returns-in-Err-clause-made
 returns-in-Err-clause-made g c =
     let asked = c.args.asked.now in
     judging_failure (migrate_meaning asked) (g.H.Host.files c.args.host.now)
-    (FailsReplay asked.replay) c.in-Err.failure refl refl (λ files name cause h. h)
+    (FailsReplay asked.replay) c.in-Err.failure refl refl (λ told name cause. refl) (λ files name cause h. h)
     (rw c.replay.ensures at c.in-Err.ensures.failed)

@@ -28,13 +28,16 @@ returns-in-Ok-Legal-clause-judged g c =
 pub returns-in-Ok-Illegal-clause-failed : goal.returns-in-Ok-Illegal-clause-failed
 returns-in-Ok-Illegal-clause-failed g c =
     let read = c.in-Ok-load_journal.read in (
-      illegal_fails (g.H.Host.files c.args.host.now) c.args.asked.now c.in-Ok.inputs.net
-          c.in-Ok.inputs.trace read.journal read.stamps c.journal-name.result.now
-          c.in-Ok-Illegal.entry c.journal-name.ensures
-          (rw (c.net.ensures, c.trace.ensures) at c.in-Ok.ensures.held)
-          (rw c.net.ensures at c.in-Ok.ensures.one)
-          (rw (c.in-Ok.ensures.left.files, c.journal-name.ensures) at
-          c.in-Ok-load_journal.ensures.held)
-          (rw c.in-Ok-Illegal.field-0-is at c.in-Ok-Illegal.ensures),
-      inr refl,
+      (
+        illegal_fails (g.H.Host.files c.args.host.now) c.args.asked.now c.in-Ok.inputs.net
+            c.in-Ok.inputs.trace read.journal read.stamps c.journal-name.result.now
+            c.in-Ok-Illegal.entry c.journal-name.ensures
+            (rw (c.net.ensures, c.trace.ensures) at c.in-Ok.ensures.held)
+            (rw c.net.ensures at c.in-Ok.ensures.one)
+            (rw (c.in-Ok.ensures.left.files, c.journal-name.ensures) at
+            c.in-Ok-load_journal.ensures.held)
+            (rw c.in-Ok-Illegal.field-0-is at c.in-Ok-Illegal.ensures),
+        inr refl,
+      ),
+      c.new.ensures,
     )

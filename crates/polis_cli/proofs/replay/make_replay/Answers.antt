@@ -16,4 +16,4 @@ pub returns-in-Err-clause-made : goal.returns-in-Err-clause-made
 returns-in-Err-clause-made g c =
     let asked = c.args.asked.now in
     judging_failure (replay_meaning asked) (g.H.Host.files c.args.host.now) (FailsReplay asked)
-    c.in-Err.failure refl refl (λ files name cause h. h) c.in-Err.ensures.failed
+    c.in-Err.failure refl refl (λ told name cause. refl) (λ files name cause h. h) c.in-Err.ensures.failed

@@ -13,4 +13,4 @@ pub returns-in-Err-clause-made : goal.returns-in-Err-clause-made
 returns-in-Err-clause-made g c =
     let run = c.args.run.now in
     files_failure (run_meaning run) (g.H.Host.files c.args.host.now) (FailsRun run)
-    c.in-Err.failure refl (λ files name cause h. h) c.in-Err.ensures.failed
+    c.in-Err.failure refl (λ told name cause. refl) (λ files name cause h. h) c.in-Err.ensures.failed

@@ -23,3 +23,13 @@ pub returns-in-Equiv-clause-made : goal.returns-in-Equiv-clause-made
 returns-in-Equiv-clause-made g c =
     subst (λ (r : Request). IsMade (meaning r) (g.H.Host.files c.args.host.now)
     c.make_equiv.result) (sym c.in-Equiv.is) c.make_equiv.ensures.made
+
+pub returns-in-Losses-clause-made : goal.returns-in-Losses-clause-made
+returns-in-Losses-clause-made g c =
+    subst (λ (r : Request). IsMade (meaning r) (g.H.Host.files c.args.host.now)
+    c.make_losses.result) (sym c.in-Losses.is) c.make_losses.ensures.made
+
+pub returns-in-Wave-clause-made : goal.returns-in-Wave-clause-made
+returns-in-Wave-clause-made g c =
+    subst (λ (r : Request). IsMade (meaning r) (g.H.Host.files c.args.host.now)
+    c.make_wave.result) (sym c.in-Wave.is) c.make_wave.ensures.made

@@ -20,8 +20,8 @@ returns-in-Some-clause-leaves g c =
 
 pub returns-in-None-clause-answers : goal.returns-in-None-clause-answers
 returns-in-None-clause-answers g c =
-    usage_answers g.H.Host _ _ c.args.words.now c.in-None.ensures.nothing c.show_line.ensures
+    usage_answers g.H.Host _ _ c.args.words.now c.in-None.ensures.nothing c.show_lines.ensures
 
 pub returns-in-None-clause-leaves : goal.returns-in-None-clause-leaves
 returns-in-None-clause-leaves g c =
-    usage_leaves g.H.Host _ _ c.args.words.now c.show_line.ensures
+    usage_leaves g.H.Host _ _ c.args.words.now c.show_lines.ensures

@@ -2,10 +2,11 @@ use Rattle.std.proofs.Common.{codes}
 use Rattle.polis_words.proofs.Asks.{two_words}
 use Rattle.polis_words.proofs.requests.check.check_of.Goals as goal
 
-pub returns-then-is_file_word-clause-asks : goal.returns-then-is_file_word-clause-asks
-returns-then-is_file_word-clause-asks c =
+pub returns-in-Some-clause-asks : goal.returns-in-Some-clause-asks
+returns-in-Some-clause-asks c =
+    let found = c.in-Some.ensures in
     record {
-      form = two_words c.args.words.now (codes "check") c.get-net.result.now (cc)
-          c.requires c.get-net.ensures;
-      net = c.is_file_word.ensures.0 (cc);
+      form = two_words c.args.words.now (codes "check") c.in-Some.check.net (cc) c.requires
+          found.net;
+      net = found.file;
     }

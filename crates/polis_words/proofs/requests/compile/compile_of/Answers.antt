@@ -2,12 +2,11 @@ use Rattle.std.proofs.Common.{codes}
 use Rattle.polis_words.proofs.Asks.{three_words}
 use Rattle.polis_words.proofs.requests.compile.compile_of.Goals as goal
 
-pub returns-then-is_file_word-2-clause-asks : goal.returns-then-is_file_word-2-clause-asks
-returns-then-is_file_word-2-clause-asks c =
+pub returns-in-Some-clause-asks : goal.returns-in-Some-clause-asks
+returns-in-Some-clause-asks c =
+    let found = c.in-Some.ensures in
     record {
-      form = three_words c.args.words.now (codes "compile") c.get-net.result.now
-          c.get-stem.result.now (cc) c.requires c.get-net.ensures
-          c.get-stem.ensures;
-      net = c.is_file_word.ensures.0 (cc);
-      stem = c.is_file_word-then-is_file_word.ensures.0 (cc);
+      form = three_words c.args.words.now (codes "compile") c.in-Some.compile.net
+          c.in-Some.compile.stem (cc) c.requires found.net found.stem;
+      files = found.files;
     }

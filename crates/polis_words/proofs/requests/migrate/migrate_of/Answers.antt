@@ -6,9 +6,8 @@ pub returns-in-Some-clause-asks : goal.returns-in-Some-clause-asks
 returns-in-Some-clause-asks c =
     let found = c.in-Some.ensures in
     record {
-      form = five_words c.args.words.now (codes "migrate") c.in-Some.replay.net
-          c.in-Some.replay.trace c.in-Some.replay.journal c.get-stem.result.now
-          (cc) c.requires found.net found.trace found.journal c.get-stem.ensures;
+      form = five_words c.args.words.now (codes "migrate") c.in-Some.migrate.replay.net
+          c.in-Some.migrate.replay.trace c.in-Some.migrate.replay.journal c.in-Some.migrate.stem
+          (cc) c.requires found.net found.trace found.journal found.stem;
       files = found.files;
-      stem = c.is_file_word.ensures.0 (cc);
     }

@@ -1,4 +1,4 @@
-use Rattle.std.proofs.Common.{◌≡◌, ◌+◌, ◌*◌, ◌<◌, ℕ, length, arith, subst}
+use Rattle.std.proofs.Common.{◌≡◌, ◌+◌, ◌*◌, ℕ, arith, subst}
 use Rattle.polis_words.specs.inner.Run.{AreSaid}
 use Rattle.polis_words.proofs.AskOptions.{no_more, no_odd, said_next}
 use Rattle.polis_words.proofs.requests.options.options_of.Goals as goal

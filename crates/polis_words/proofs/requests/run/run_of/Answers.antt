@@ -1,4 +1,4 @@
-use Rattle.std.proofs.Common.{◌≡◌, ◌∙◌, ap, arith, codes, sym}
+use Rattle.std.proofs.Common.{◌∙◌, ap, arith, codes, sym}
 use Rattle.std.specs.Prelude.{unwrap_or}
 use Rattle.std.proofs.Common.{drop}
 use Rattle.polis_base.specs.declared.limits.TheConstants.{ENTRIES_MAX}

@@ -1,0 +1,48 @@
+-- What `draw` means.
+use Rattle.std.proofs.Common.{◌≡◌, ℕ, List, [], ◌∷◌, ◌++◌, Option, refl, ◌∙◌, codes}
+use Rattle.polis_base.specs.Host.{Files, WhereTold}
+use Rattle.transition_table.specs.declared.network.Network.{Network}
+use Rattle.task_code.specs.Listings.{Part}
+use Rattle.graph_drawing.specs.Drawings.{DrawingText}
+use Rattle.machine_compiler.specs.Parts.{graphs_in}
+use Rattle.polis_words.specs.NetStem.{NetStemWords}
+use Rattle.polis_cli.specs.declared.product.End.TheVariants as ends
+use Rattle.polis_cli.specs.declared.product.Product.{Product}
+use Rattle.polis_cli.specs.Draw.{MakesDraw, draw_product, draw_meaning}
+use Rattle.polis_cli.specs.Inputs.{HoldsNet}
+use Rattle.polis_cli.specs.Saves.{Save}
+use Rattle.polis_cli.specs.inner.Draw.{IsDrawProduct}
+use Rattle.polis_cli.specs.Meanings.{explains_nothing}
+use Rattle.polis_cli.specs.inner.Lawful.{IsLawful}
+use Rattle.polis_cli.specs.inner.Made.{IsMadeProduct}
+use Rattle.polis_cli.proofs.WhereTold.{told_from}
+use Rattle.polis_cli.proofs.NetMeaning.{net_lawful}
+use Rattle.polis_cli.proofs.IsMade.{product_made}
+use Rattle.polis_cli.proofs.Saves.{one_save}
+
+pub draw_lawful : (draw : NetStemWords) → IsLawful (draw_meaning draw)
+draw_lawful draw =
+    net_lawful draw.net (MakesDraw draw) explains_nothing (λ files product m. (m.net, m.holds_net))
+
+-- the product of a drawing
+pub draw_made : (o : Option Files) (draw : NetStemWords) (net : Network) (product : Product)
+    → WhereTold o (λ files. HoldsNet files draw.net net)
+    → IsDrawProduct draw net product → IsMadeProduct (draw_meaning draw) o product
+draw_made o draw net product held (parts, right, made) =
+    product_made (draw_meaning draw) o product (draw_product draw net parts) made
+    (tt, tt) refl
+    (told_from o (λ files. HoldsNet files draw.net net) _
+    (λ files h. record { net = net; holds_net = h; parts = parts; right = right; made = made })
+    held)
+
+-- the parts of a drawing's product
+pub draw_is : (draw : NetStemWords) (net : Network) (parts : List Part) (none all : List Save)
+    (saving : Save) (stem text shown : List ℕ) → none ≡ [] → all ≡ none ++ saving ∷ []
+    → saving ≡ record { name = stem ++ codes ".dot"; text = text } → stem ≡ draw.stem
+    → text ≡ DrawingText net (graphs_in parts) → shown ≡ (draw_product draw net parts).shown
+    → ◌≡◌ {A = Product} (record { saves = all; shown = shown; end = ends.Done })
+    (draw_product draw net parts)
+draw_is draw net parts none all saving stem text shown n e s st te sh =
+    let saves = one_save none all saving (record { name = stem ++ codes ".dot"; text = text }) n e s
+    ∙ (λ i. record { name = st i ++ codes ".dot"; text = te i } ∷ []) in
+    λ i. record { saves = saves i; shown = sh i; end = ends.Done }

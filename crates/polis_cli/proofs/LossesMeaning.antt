@@ -1,0 +1,38 @@
+-- What `losses` means.
+use Rattle.std.proofs.Common.{◌≡◌, Bool, List, refl, Option}
+use Rattle.polis_base.specs.Host.{Files, WhereTold}
+use Rattle.transition_table.specs.declared.network.Network.{Network}
+use Rattle.journals.specs.declared.entry.Entry.{Entry}
+use Rattle.journals.specs.declared.entry.TraceItem.{TraceItem}
+use Rattle.polis_words.specs.Replay.{ReplayWords}
+use Rattle.polis_cli.specs.declared.product.Product.{Product}
+use Rattle.polis_cli.specs.Losses.{MakesLosses, losses_product, losses_meaning}
+use Rattle.polis_cli.specs.Replay.{IsJudged}
+use Rattle.polis_cli.specs.Meanings.{explains_nothing}
+use Rattle.polis_cli.specs.inner.Lawful.{IsLawful}
+use Rattle.polis_cli.specs.inner.Made.{IsMadeProduct}
+use Rattle.polis_cli.proofs.IsMade.{product_made}
+use Rattle.polis_cli.proofs.ReplayMeaning.{judging_lawful}
+use Rattle.polis_cli.proofs.WhereTold.{told_from}
+
+pub losses_lawful : (losses : ReplayWords) → IsLawful (losses_meaning losses)
+losses_lawful losses = judging_lawful losses (MakesLosses losses) explains_nothing
+    (λ files product m. (m.net, m.trace, m.journal, m.complete, m.judged))
+
+-- the product of a journal's losses
+pub losses_made : (o : Option Files) (losses : ReplayWords) (net : Network)
+    (trace : List TraceItem) (journal : List Entry) (complete : Bool) (product : Product)
+    → WhereTold o (λ files. IsJudged losses files net trace journal complete)
+    → product ≡ losses_product net journal
+    → IsMadeProduct (losses_meaning losses) o product
+losses_made o losses net trace journal complete product judged made =
+    product_made (losses_meaning losses) o product (losses_product net journal) made tt refl
+    (told_from o (λ files. IsJudged losses files net trace journal complete) _
+    (λ files h. record {
+      net = net;
+      trace = trace;
+      journal = journal;
+      complete = complete;
+      judged = h;
+      made = made;
+    }) judged)

@@ -1,0 +1,57 @@
+-- What `wave` means.
+use Rattle.std.proofs.Common.{◌≡◌, Bool, List, [], ◌∷◌, ◌++◌, refl, ◌∙◌, Option, ℕ, codes}
+use Rattle.polis_base.specs.Host.{Files, WhereTold}
+use Rattle.transition_table.specs.declared.network.Network.{Network}
+use Rattle.journals.specs.declared.entry.Entry.{Entry}
+use Rattle.journals.specs.declared.entry.TraceItem.{TraceItem}
+use Rattle.wave_text.specs.Waves.{wave_text}
+use Rattle.polis_words.specs.ReplayStem.{ReplayStemWords}
+use Rattle.polis_cli.specs.declared.product.End.TheVariants as ends
+use Rattle.polis_cli.specs.declared.product.Product.{Product}
+use Rattle.polis_cli.specs.Replay.{IsJudged}
+use Rattle.polis_cli.specs.Wave.{MakesWave, wave_product, wave_meaning}
+use Rattle.polis_cli.specs.Saves.{Save}
+use Rattle.polis_cli.specs.Meanings.{explains_nothing}
+use Rattle.polis_cli.specs.inner.Lawful.{IsLawful}
+use Rattle.polis_cli.specs.inner.Made.{IsMadeProduct}
+use Rattle.polis_cli.proofs.WhereTold.{told_from}
+use Rattle.polis_cli.proofs.Saves.{one_save}
+use Rattle.polis_cli.proofs.IsMade.{product_made}
+use Rattle.polis_cli.proofs.ReplayMeaning.{judging_lawful}
+
+pub wave_lawful : (wave : ReplayStemWords) → IsLawful (wave_meaning wave)
+wave_lawful wave = judging_lawful wave.replay (MakesWave wave) explains_nothing
+    (λ files product m. (m.net, m.trace, m.journal, m.complete, m.judged))
+
+-- the product of a wave
+pub wave_made : (o : Option Files) (wave : ReplayStemWords) (net : Network)
+    (trace : List TraceItem) (journal : List Entry) (complete : Bool) (product : Product)
+    → WhereTold o (λ files. IsJudged wave.replay files net trace journal complete)
+    → product ≡ wave_product wave net journal
+    → IsMadeProduct (wave_meaning wave) o product
+wave_made o wave net trace journal complete product judged made =
+    product_made (wave_meaning wave) o product (wave_product wave net journal)
+    made (tt, tt) refl
+    (told_from o (λ files. IsJudged wave.replay files net trace journal complete) _
+    (λ files h. record {
+      net = net;
+      trace = trace;
+      journal = journal;
+      complete = complete;
+      judged = h;
+      made = made;
+    }) judged)
+
+-- the parts of a wave's product
+pub wave_is : (wave : ReplayStemWords) (net : Network) (journal : List Entry)
+    (none all : List Save) (saving : Save) (stem text shown : List ℕ) → none ≡ []
+    → all ≡ none ++ saving ∷ []
+    → saving ≡ record { name = stem ++ codes ".vcd"; text = text } → stem ≡ wave.stem
+    → text ≡ wave_text net journal
+    → shown ≡ (wave_product wave net journal).shown
+    → ◌≡◌ {A = Product} (record { saves = all; shown = shown; end = ends.Done })
+    (wave_product wave net journal)
+wave_is wave net journal none all saving stem text shown n e s st te sh =
+    let saves = one_save none all saving (record { name = stem ++ codes ".vcd"; text = text }) n e s
+    ∙ (λ i. record { name = st i ++ codes ".vcd"; text = te i } ∷ []) in
+    λ i. record { saves = saves i; shown = sh i; end = ends.Done }

@@ -1,0 +1,20 @@
+use Rattle.std.proofs.Common.{refl}
+use Rattle.polis_cli.specs.Draw.{draw_meaning}
+use Rattle.polis_cli.specs.Inputs.{FailsNet}
+use Rattle.polis_cli.proofs.DrawMeaning.{draw_made}
+use Rattle.polis_cli.proofs.IsMade.{net_alone, files_failure}
+use Rattle.polis_cli.proofs.draw.make_draw.Goals as goal
+
+pub returns-in-Ok-product_of-clause-made : goal.returns-in-Ok-product_of-clause-made
+returns-in-Ok-product_of-clause-made g c =
+    draw_made (g.H.Host.files c.args.host.now) c.args.asked.now c.in-Ok.net
+    c.in-Ok-product_of.product
+    (rw c.net.ensures at c.in-Ok.ensures.held) c.in-Ok-product_of.ensures
+
+pub returns-in-Err-clause-made : goal.returns-in-Err-clause-made
+returns-in-Err-clause-made g c =
+    let asked = c.args.asked.now in
+    files_failure (draw_meaning asked) (g.H.Host.files c.args.host.now) (FailsNet asked.net)
+    c.in-Err.failure refl (λ told name cause. refl) (λ files name cause h. h)
+    (net_alone asked.net (g.H.Host.files c.args.host.now) c.in-Err.failure
+    (rw c.net.ensures at c.in-Err.ensures.failed))

@@ -1,0 +1,20 @@
+use Rattle.std.proofs.Common.{refl}
+use Rattle.polis_cli.specs.Replay.{FailsReplay}
+use Rattle.polis_cli.specs.Wave.{wave_meaning}
+use Rattle.polis_cli.proofs.IsMade.{judging_failure}
+use Rattle.polis_cli.proofs.WaveMeaning.{wave_made}
+use Rattle.polis_cli.proofs.wave.make_wave.Goals as goal
+
+pub returns-in-Ok-product_of-clause-made : goal.returns-in-Ok-product_of-clause-made
+returns-in-Ok-product_of-clause-made g c =
+    let judged = c.in-Ok.judged in
+    wave_made (g.H.Host.files c.args.host.now) c.args.asked.now judged.inputs.net
+    judged.inputs.trace judged.read.journal judged.complete c.in-Ok-product_of.product
+    (rw c.replay.ensures at c.in-Ok.ensures.judged) c.in-Ok-product_of.ensures
+
+pub returns-in-Err-clause-made : goal.returns-in-Err-clause-made
+returns-in-Err-clause-made g c =
+    let asked = c.args.asked.now in
+    judging_failure (wave_meaning asked) (g.H.Host.files c.args.host.now)
+    (FailsReplay asked.replay) c.in-Err.failure refl refl (λ told name cause. refl)
+    (λ files name cause h. h) (rw c.replay.ensures at c.in-Err.ensures.failed)

@@ -1,0 +1,53 @@
+// The command `draw`: a network and the graphs of its machines as pictures.
+ghost use Rattle.std.specs.Prelude.{IfOk};
+ghost use Rattle.transition_table.specs.Transitions.{AreDeterministic};
+ghost use Rattle.polis_cli.specs.Draw.{draw_meaning};
+ghost use Rattle.polis_cli.specs.inner.Draw.{IsDrawProduct};
+ghost use Rattle.polis_cli.specs.inner.Left.{LeftByLoads, fails_unread};
+ghost use Rattle.polis_cli.specs.inner.Made.{IsMade};
+
+use crate::load::load_net;
+use crate::product::{End, Product, Saving};
+use graph_drawing::push_drawing;
+use machine_compiler::{Graphs, compile_graphs};
+use polis_base::{Bytes, Host, List, NoMemory};
+use polis_words::{Failure, NetStem};
+use std::alloc::Global;
+use transition_table::Network;
+
+// Compiles each machine, and makes the text of the pictures.
+fn product_of(alloc: Global, asked: &NetStem<'_>, net: &Network) -> Result<Product, NoMemory>
+    requires { AreDeterministic net.now }
+    ensures { IfOk result (λ product. IsDrawProduct asked.now net.now product) }
+{
+    let Graphs { graphs, lengths } = compile_graphs(alloc, net)?;
+    let mut text = Bytes::new(alloc);
+    push_drawing(net, &graphs, &mut text)?;
+    let saving = Saving::new(alloc, asked.stem(), ".dot", text)?;
+    let mut saves = List::new(alloc);
+    saves.push(saving)?;
+    Ok(Product {
+        saves,
+        shown: lengths,
+        end: End::Done,
+    })
+}
+
+/// What drawing a network makes of the file.
+pub fn make_draw<'a, H: Host>(
+    alloc: Global,
+    host: &mut H,
+    asked: &'a NetStem<'_>,
+) -> Result<Product, Failure<'a>>
+    ensures made { IsMade (draw_meaning asked.now) (H.files host.old) result }
+    ensures left { LeftByLoads ⟦<H as Host>⟧ (fails_unread result) host.old host.new }
+{
+    let net = match load_net(alloc, host, asked.net()) {
+        Ok(net) => net,
+        Err(failure) => return Err(failure),
+    };
+    match product_of(alloc, asked, &net) {
+        Ok(product) => Ok(product),
+        Err(NoMemory) => Err(Failure::NoMemory),
+    }
+}

@@ -1,0 +1,51 @@
+// The command `losses`: what became of the deliveries of a legal journal.
+ghost use Rattle.std.specs.Prelude.{◌≡◌, IfOk};
+ghost use Rattle.journals.specs.Journals.{IsJournal};
+ghost use Rattle.event_accounts.specs.AccountLines.{accounts_text};
+ghost use Rattle.event_accounts.specs.Accounts.{accounts_of};
+ghost use Rattle.polis_cli.specs.Losses.{losses_meaning};
+ghost use Rattle.polis_cli.specs.inner.Left.{LeftByLoads, fails_unread};
+ghost use Rattle.polis_cli.specs.inner.Made.{IsMade};
+
+use crate::product::{End, Product};
+use crate::replay::judge_journal;
+use event_accounts::{accounts, push_accounts};
+use net_core::Journal;
+use polis_base::{Bytes, Host, List, NoMemory};
+use polis_words::{Failure, Replay};
+use std::alloc::Global;
+use transition_table::Network;
+
+// A line for each buffer.
+fn print_accounts(alloc: Global, net: &Network, j: &Journal) -> Result<Bytes, NoMemory>
+    requires { IsJournal net.now j.now }
+    ensures { IfOk result (λ text. text ≡ accounts_text net.now (accounts_of net.now j.now)) }
+{
+    let list = accounts(alloc, net, j)?;
+    let mut text = Bytes::new(alloc);
+    push_accounts(net, &list, &mut text)?;
+    Ok(text)
+}
+
+/// What saying the losses of a journal makes of the files.
+pub fn make_losses<'a, H: Host>(
+    alloc: Global,
+    host: &mut H,
+    asked: &'a Replay<'_>,
+) -> Result<Product, Failure<'a>>
+    ensures made { IsMade (losses_meaning asked.now) (H.files host.old) result }
+    ensures left { LeftByLoads ⟦<H as Host>⟧ (fails_unread result) host.old host.new }
+{
+    let judged = match judge_journal(alloc, host, asked) {
+        Ok(judged) => judged,
+        Err(failure) => return Err(failure),
+    };
+    match print_accounts(alloc, &judged.inputs.net, &judged.read.journal) {
+        Ok(shown) => Ok(Product {
+            saves: List::new(alloc),
+            shown,
+            end: End::Done,
+        }),
+        Err(NoMemory) => Err(Failure::NoMemory),
+    }
+}

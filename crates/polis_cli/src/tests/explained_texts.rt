@@ -1,4 +1,5 @@
-// What `explain` shows, with a text for each sentence. The places were counted by hand.
+// What `explain` shows, with a text for each sentence. A script wrote the blocks by the rules of
+// explanations, from the texts and the byte places of their faults, and never ran the program.
 
 /// Calls, with a line `====` between them. A call has a network text, and a trace and a journal
 /// where it names them, and what is shown, with a line `--` between them. A network that other tests

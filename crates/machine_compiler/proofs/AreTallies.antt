@@ -1,10 +1,10 @@
 -- Reactions, counted one after another.
-use Rattle.std.proofs.Common.{◌≡◌, ⊎_elim, ℕ, zero, suc, ◌+◌, ◌*◌, ◌<◌, ◌≤◌, Bool, true, false, ◌==◌, List, [], ◌∷◌, ◌++◌, length, take, get_or, slice_get, Option, Some, None, refl, ap, sym, subst, ◌∙◌, arith, IsTrue}
-use Rattle.std.specs.Prelude.{filter_map, slice_set, option_map, IsSomeAnd}
+use Rattle.std.proofs.Common.{◌≡◌, ⊎_elim, ℕ, zero, suc, ◌+◌, ◌*◌, ◌^◌, ◌<◌, ◌≤◌, Bool, true, false, ◌==◌, List, [], ◌∷◌, ◌++◌, length, take, drop, get_or, slice_get, Option, Some, None, refl, ap, sym, subst, ◌∙◌, arith, IsTrue}
+use Rattle.std.specs.Prelude.{filter_map, sum_by, slice_set, option_map, IsSomeAnd}
 use Rattle.std.specs.Bool.{then_some}
 use Rattle.std.proofs.lemmas.Bool.{eq-eqb, ne_eqb, cases_eq}
-use Rattle.std.proofs.lemmas.List.{append-nil}
-use Rattle.std.proofs.lemmas.List.Sums.{sum-map, sum_by-cons}
+use Rattle.std.proofs.lemmas.List.{append-nil, take-append-drop}
+use Rattle.std.proofs.lemmas.List.Sums.{sum-map, sum_by-append, sum_by-cons}
 use Rattle.std.proofs.lemmas.List.Elements.{filter_map-append}
 use Rattle.std.proofs.lemmas.Option.{slice_get_within, slice_get-map, slice_get_read}
 use Rattle.polis_base.specs.declared.limits.TheConstants.{ENTRIES_MAX}
@@ -25,7 +25,7 @@ use Rattle.task_code.specs.Listings.{Part}
 use Rattle.machine_compiler.specs.declared.compiled.Compiled.{Compiled}
 use Rattle.machine_compiler.specs.declared.tallies.Tally.{Tally}
 use Rattle.machine_compiler.specs.Parts.{part_of_compiled, parts_of, codes_in}
-use Rattle.machine_compiler.specs.Lines.{read_by, reactions_of, steps_on}
+use Rattle.machine_compiler.specs.Lines.{CountsFit, read_by, reactions_of, steps_on}
 use Rattle.machine_compiler.specs.inner.Tallies.{IsTally, AreTallies, AreFew}
 use Rattle.machine_compiler.proofs.DistinctItems.{at_place}
 
@@ -52,7 +52,7 @@ one_reaction k seen entry s e =
         → filter_map f (x ∷ []) ≡ s ∷ []
     one_some f x e = rw e refl
 
-steps_cons : (code : List Instr) (s : List ℕ) (xs : List (List ℕ))
+pub steps_cons : (code : List Instr) (s : List ℕ) (xs : List (List ℕ))
     → steps_on code (s ∷ xs) ≡ StepsOf code s + steps_on code xs
 steps_cons code s xs = sum-map (StepsOf code) (s ∷ xs) ∙ sum_by-cons (StepsOf code) s xs
     ∙ ap (λ (n : ℕ). StepsOf code s + n) (sym (sum-map (StepsOf code) xs))
@@ -225,22 +225,66 @@ snapshot_of net k m j s o at same fit = go (slice_get net.machines j) refl fit
         sym e ∙ ap (slice_get net.machines) (sym same) ∙ at in cc in
         subst (λ (x : Machine). IsTrue (fits x.vars s.codes)) is h.0
 
--- so the tallies leave room
-pub tallies_few : (net : Network) (all : List (List Instr)) (seen : List Entry) (ts : List Tally)
+-- code executes no more on the first reactions than on all
+steps_first : (code : List Instr) (k : ℕ) (journal : List Entry) (i : ℕ)
+    → steps_on code (reactions_of k (take i journal)) ≤ steps_on code (reactions_of k journal)
+steps_first code k journal i =
+    let first = reactions_of k (take i journal) in
+    let rest = reactions_of k (drop i journal) in
+    let whole : reactions_of k journal ≡ first ++ rest =
+    ap (reactions_of k) (sym (take-append-drop i journal))
+    ∙ filter_map-append (read_by k) (take i journal) (drop i journal) in
+    let both : steps_on code (reactions_of k journal)
+    ≡ sum_by (StepsOf code) first + sum_by (StepsOf code) rest =
+    ap (steps_on code) whole ∙ sum-map (StepsOf code) (first ++ rest)
+    ∙ sum_by-append (StepsOf code) first rest in
+    let one : steps_on code first ≡ sum_by (StepsOf code) first = sum-map (StepsOf code) first in
+    omega (arith, both, one)
+
+first_few : (i : ℕ) (journal : List Entry) → length (take i journal) ≤ i
+first_few zero [] = omega arith
+first_few zero (x ∷ xs) = omega arith
+first_few (suc i) [] = omega arith
+first_few (suc i) (x ∷ xs) = let h = first_few i xs in omega arith
+
+-- so the tallies of the first entries leave room
+pub tallies_few : (net : Network) (all : List (List Instr)) (journal : List Entry) (i : ℕ)
+    (ts : List Tally)
     → length all ≡ length net.machines
-    → length seen ≤ ENTRIES_MAX
-    → AreTallies net all seen ts
+    → CountsFit all journal
+    → i < length journal
+    → i + 1 < 2 ^ 64
+    → AreTallies net all (take i journal) ts
     → AreFew ts
-tallies_few net all seen ts many few a k t at_t =
+tallies_few net all journal i ts many room within long a k t at_t =
     let low : k < length net.machines = let l = slice_get_within ts k t at_t in let e = a.long in
     omega arith in
     let m = at_place net.machines k low in
     let c = at_place all k (omega (arith, low, many)) in
     let is = a.each k m.0 c.0 t m.1 c.1 at_t in
     let tries = is.tries in
-    let steps = is.few in
-    let one = few_reactions k seen in
-    (omega arith, omega arith)
+    let one = few_reactions k (take i journal) in
+    let first = first_few i journal in
+    (omega arith, ⊎_elim (short is.few is.tries) (counted c.0 c.1 is.steps) room)
+  where
+    short : t.steps ≤ CODE_MAX * t.tries
+        → t.tries ≡ length (reactions_of k (take i journal))
+        → length journal ≤ ENTRIES_MAX
+        → t.steps < 2 ^ 62
+    short few tries entries =
+        let one = few_reactions k (take i journal) in
+        let first = first_few i journal in
+        omega (arith, few, tries, entries, one, first, within)
+
+    counted : (code : List Instr) → slice_get all k ≡ Some code
+        → t.steps ≡ steps_on code (reactions_of k (take i journal))
+        → ((j : ℕ) (d : List Instr) → slice_get all j ≡ Some d
+        → steps_on d (reactions_of j journal) < 2 ^ 62)
+        → t.steps < 2 ^ 62
+    counted code at_code steps each =
+        let most = each k code at_code in
+        let grow = steps_first code k journal i in
+        omega (arith, steps, most, grow)
 
 -- ---- a journal from its first entries
 pub journal_first : (net : Network) (journal : List Entry) (k : ℕ) → IsJournal net journal
@@ -316,16 +360,6 @@ here net all ts entry k s o c before fit is at_c value tallied =
       snapshot = snapshot_of net k m.0 k s o m.1 refl fits_here;
       widths = (tallied.1.each k m.0 c before m.1 at_c tally).widths;
     }
-
-pub few_first : (journal : List Entry) (k : ℕ) → length journal ≤ ENTRIES_MAX
-    → length (take k journal) ≤ ENTRIES_MAX
-few_first journal k few = let h = shorter journal k in omega arith
-  where
-    shorter : (xs : List Entry) (k : ℕ) → length (take k xs) ≤ length xs
-    shorter [] zero = omega arith
-    shorter [] (suc k) = omega arith
-    shorter (x ∷ xs) zero = omega arith
-    shorter (x ∷ xs) (suc k) = let h = shorter xs k in omega arith
 
 -- the tally at a machine
 pub tally_at : (net : Network) (all : List (List Instr)) (journal : List Entry) (ts : List Tally)

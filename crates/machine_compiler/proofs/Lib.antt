@@ -7,6 +7,7 @@ pub mod SameLines
 pub mod Samples
 pub mod HasPlaces
 pub mod AreTallies
+pub mod CountsFit
 pub mod AreTexts
 pub mod AreGraphs
 pub mod PartsSoFar

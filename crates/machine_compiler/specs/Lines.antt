@@ -1,6 +1,7 @@
 -- Lines that say how large the parts of a network are, and how long its reactions take.
-use Rattle.std.specs.Prelude.{ℕ, suc, ◌==◌, List, [], ◌∷◌, ◌++◌, map, filter_map, sum, length, codes, decimal, Option, None}
+use Rattle.std.specs.Prelude.{◌≡◌, ℕ, suc, ◌==◌, ◌<◌, ◌≤◌, ◌^◌, ◌⊎◌, List, [], ◌∷◌, ◌++◌, map, filter_map, sum, length, slice_get, codes, decimal, Option, Some, None}
 use Rattle.std.specs.Bool.{then_some}
+use Rattle.polis_base.specs.declared.limits.TheConstants.{ENTRIES_MAX}
 use Rattle.polis_base.specs.Lines.{line}
 use Rattle.transition_table.specs.declared.machine.Machine.{Machine}
 use Rattle.transition_table.specs.declared.network.Network.{Network}
@@ -22,6 +23,14 @@ reactions_of m journal = filter_map (read_by m) journal
 -- how many instructions the code executes on these snapshots
 abbrev pub steps_on : List Instr → List (List ℕ) → ℕ
 steps_on code snapshots = sum (map (StepsOf code) snapshots)
+
+-- No count of instructions grows too large to be kept: the journal has at most 60,000 entries, or the
+-- reactions of each machine in it execute fewer than 2 ^ 62.
+abbrev pub CountsFit : List (List Instr) → List Entry → Type 0
+CountsFit all journal =
+    (length journal ≤ ENTRIES_MAX)
+    ⊎ ((k : ℕ) (code : List Instr) → slice_get all k ≡ Some code
+    → steps_on code (reactions_of k journal) < 2 ^ 62)
 
 -- `machine M vertices V code C`
 abbrev pub lengths : Machine → Part → List ℕ

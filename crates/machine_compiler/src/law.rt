@@ -1,7 +1,8 @@
-// A law of the listing.
-ghost use Rattle.machine_compiler.specs.Laws.{ListingDeterminesParts};
+// Laws of parts.
+ghost use Rattle.machine_compiler.specs.Laws.{PartLaws};
 
-/// IsRightPart parts of one network with the same listing are the same parts.
+/// Right parts of one network with the same listing are the same parts, and the counts of their
+/// instructions fit in each journal of fewer than 2^32 entries.
 pub fn laws()
-    ensures { ListingDeterminesParts }
+    ensures { PartLaws }
 {}

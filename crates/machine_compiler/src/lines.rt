@@ -1,10 +1,9 @@
 // Lines that say how large the compiled machines are.
-ghost use Rattle.std.specs.Prelude.{◌≡◌, ◌≤◌, ◌++◌, length, IfOk, OnOk};
-ghost use Rattle.polis_base.specs.declared.limits.TheConstants.{ENTRIES_MAX};
+ghost use Rattle.std.specs.Prelude.{◌≡◌, ◌++◌, IfOk, OnOk};
 ghost use Rattle.polis_base.specs.Lines.{line};
 ghost use Rattle.journals.specs.Journals.{IsJournal};
 ghost use Rattle.machine_compiler.specs.Parts.{codes_in, parts_of, part_of_compiled};
-ghost use Rattle.machine_compiler.specs.Lines.{code_length, code_tries_text, lengths, tally_text, tries_text};
+ghost use Rattle.machine_compiler.specs.Lines.{CountsFit, code_length, code_tries_text, lengths, tally_text, tries_text};
 
 use crate::compiled::{Compiled, CompiledList};
 use crate::tallies::{Tally, count_reactions};
@@ -62,7 +61,7 @@ pub fn print_tries(
 ) -> Result<Bytes, NoMemory>
     requires same { r.now.codes ≡ codes_in (parts_of compiled.now) }
     requires journal { IsJournal r.now.net.now journal.now }
-    requires few { length journal.now ≤ ENTRIES_MAX }
+    requires counts { CountsFit r.now.codes journal.now }
     ensures { IfOk result (λ text. text
         ≡ tries_text r.now.net.now (parts_of compiled.now) journal.now) }
 {
@@ -87,7 +86,7 @@ pub fn print_code_tries(
     journal: &Journal,
 ) -> Result<Bytes, NoMemory>
     requires journal { IsJournal r.now.net.now journal.now }
-    requires few { length journal.now ≤ ENTRIES_MAX }
+    requires counts { CountsFit r.now.codes journal.now }
     ensures { IfOk result (λ text. text
         ≡ code_tries_text r.now.net.now r.now.codes journal.now) }
 {

@@ -1,6 +1,5 @@
 // The reactions of machines, counted.
 ghost use Rattle.std.specs.Prelude.{◌≡◌, ◌+◌, ◌<◌, ◌≤◌, ◌^◌, ◌++◌, ◌∷◌, [], List, length, IfOk};
-ghost use Rattle.polis_base.specs.declared.limits.TheConstants.{ENTRIES_MAX};
 ghost use Rattle.transition_table.specs.declared.machine.Machine.{Machine};
 ghost use Rattle.transition_table.specs.Transitions.{HasWidths};
 ghost use Rattle.journals.specs.Journals.{FitsNetwork, IsJournal};
@@ -8,6 +7,7 @@ ghost use Rattle.task_code.specs.Codes.{StepsOf};
 ghost use Rattle.task_code.specs.declared.instr.Instr.{Instr};
 ghost use Rattle.task_code.specs.declared.limits.TheConstants.{CODE_MAX};
 ghost use Rattle.task_machine.specs.Running.{AreOfOne};
+ghost use Rattle.machine_compiler.specs.Lines.{CountsFit};
 ghost use Rattle.machine_compiler.specs.inner.Tallies.{AreFew, AreTallies};
 
 use journals::{Entry, Journal};
@@ -31,7 +31,7 @@ pub(crate) struct Tally {
 // One more reaction, to a snapshot.
 fn react(code: &Code, s: &Snapshot, to: &mut Tally)
     requires fits { AreOfOne code.now s.now to.old.outcome }
-    requires few_tries { to.old.tries < 2 ^ 40 }
+    requires few_tries { to.old.tries + 1 < 2 ^ 64 }
     requires few_steps { to.old.steps < 2 ^ 62 }
     ensures widths { (m : Machine) → HasWidths m to.old.outcome → HasWidths m to.new.outcome }
     ensures tries { to.new.tries ≡ to.old.tries + 1 }
@@ -88,7 +88,7 @@ pub(crate) fn count_reactions(
     journal: &Journal,
 ) -> Result<Vec<Tally>, NoMemory>
     requires journal { IsJournal r.now.net.now journal.now }
-    requires few { length journal.now ≤ ENTRIES_MAX }
+    requires counts { CountsFit r.now.codes journal.now }
     ensures { IfOk result
         (λ tallies. AreTallies r.now.net.now r.now.codes journal.now tallies.items) }
 {

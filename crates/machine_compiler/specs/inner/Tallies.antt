@@ -1,5 +1,5 @@
 -- The reactions of machines, counted.
-use Rattle.std.specs.Prelude.{◌≡◌, ℕ, ◌*◌, ◌^◌, ◌<◌, ◌≤◌, List, length, slice_get, Some}
+use Rattle.std.specs.Prelude.{◌≡◌, ℕ, ◌+◌, ◌*◌, ◌^◌, ◌<◌, ◌≤◌, List, length, slice_get, Some}
 use Rattle.transition_table.specs.declared.machine.Machine.{Machine}
 use Rattle.transition_table.specs.declared.network.Network.{Network}
 use Rattle.transition_table.specs.Transitions.{HasWidths}
@@ -31,4 +31,5 @@ pub record AreTallies (net : Network) (all : List (List Instr)) (journal : List 
 -- the numbers leave room for one more reaction
 abbrev pub AreFew : List Tally → Type 0
 AreFew tallies =
-    (k : ℕ) (t : Tally) → slice_get tallies k ≡ Some t → (t.tries < 2 ^ 40) × (t.steps < 2 ^ 62)
+    (k : ℕ) (t : Tally) → slice_get tallies k ≡ Some t
+    → (t.tries + 1 < 2 ^ 64) × (t.steps < 2 ^ 62)

@@ -1,7 +1,8 @@
-use Rattle.std.proofs.Common.{take, List, subst, sym}
+use Rattle.std.proofs.Common.{take, List, subst, sym, arith}
+use Rattle.std.proofs.lemmas.Option.{slice_get_within}
 use Rattle.journals.specs.declared.entry.Entry.{Entry}
 use Rattle.machine_compiler.specs.inner.Tallies.{AreTallies}
-use Rattle.machine_compiler.proofs.AreTallies.{journal_at, first_more, tallies_few, few_first}
+use Rattle.machine_compiler.proofs.AreTallies.{journal_at, first_more, tallies_few}
 use Rattle.machine_compiler.proofs.tallies.count_reactions.Goals as goal
 
 pub loop-i-init : goal.loop-i-init
@@ -16,8 +17,10 @@ pub tally_entry-requires-clause-few : goal.tally_entry-requires-clause-few
 tally_entry-requires-clause-few c =
     let r = c.args.r.now in
     let i = c.loop-i.i in
-    tallies_few r.net.now r.codes (take i c.args.journal.now) c.loop-i.tallies.items
-    r.tasks.long (few_first c.args.journal.now i c.requires.few) c.loop-i.invariant
+    let next = c.loop-i-test.true in
+    tallies_few r.net.now r.codes c.args.journal.now i c.loop-i.tallies.items r.tasks.long
+    c.requires.counts (slice_get_within c.args.journal.now i c.get.result.now c.get.ensures)
+    (omega (arith, next)) c.loop-i.invariant
 
 pub loop-i-preserved : goal.loop-i-preserved
 loop-i-preserved c =

@@ -7,7 +7,7 @@ use Rattle.transition_table.specs.Transitions.{IsDeterministic}
 use Rattle.char_function.specs.Laws.{HasSize, OneSize}
 use Rattle.char_function.specs.Orders.{first_order}
 use Rattle.char_function.specs.Sizes.{IsSize, Size}
-use Rattle.order_sift.specs.Sifting.{IsLeast, IsSifted}
+use Rattle.order_sift.specs.Sifting.{IsLeastByMoves, IsSifted}
 use Rattle.order_sift.specs.inner.Turns.{NoneSmaller}
 
 pub is_size : HasSize → (m : Machine) (order : List ℕ) (count : ℕ) → IsDeterministic m
@@ -15,7 +15,7 @@ pub is_size : HasSize → (m : Machine) (order : List ℕ) (count : ℕ) → IsD
 is_size has m order count sure counted = subst (IsSize m order) (sym counted) (has m order sure)
 
 pub is_least : HasSize → OneSize → (m : Machine) (order : List ℕ) (count : ℕ) → IsDeterministic m
-    → count ≡ Size m order → NoneSmaller m order → IsLeast m order count
+    → count ≡ Size m order → NoneSmaller m order → IsLeastByMoves m order count
 is_least has one m order count sure counted none other size move allowed is =
     let same : size ≡ Size m other =
     one m other size (Size m other) allowed.permutation allowed.long is (has m other sure) in
@@ -23,7 +23,7 @@ is_least has one m order count sure counted none other size move allowed is =
     omega arith
 
 pub none_smaller : HasSize → (m : Machine) (order : List ℕ) (count : ℕ) → IsDeterministic m
-    → count ≡ Size m order → IsLeast m order count → NoneSmaller m order
+    → count ≡ Size m order → IsLeastByMoves m order count → NoneSmaller m order
 none_smaller has m order count sure counted least other move allowed =
     let low : count ≤ Size m other = least other (Size m other) move allowed (has m other sure) in
     omega arith

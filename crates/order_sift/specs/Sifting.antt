@@ -9,8 +9,8 @@ use Rattle.char_function.specs.Orders.{first_order}
 use Rattle.order_sift.specs.Moves.{IsMove}
 
 -- no allowed order that arises by one move has a size below the count
-abbrev pub IsLeast : Machine → List ℕ → ℕ → Type 0
-IsLeast m order count = (other : List ℕ) (size : ℕ) → IsMove order other → Allowed m other
+abbrev pub IsLeastByMoves : Machine → List ℕ → ℕ → Type 0
+IsLeastByMoves m order count = (other : List ℕ) (size : ℕ) → IsMove order other → Allowed m other
     → IsSize m other size → count ≤ size
 
 -- The order, the size under the first order, and that under this one. With more than 1,024
@@ -22,6 +22,6 @@ pub record IsSifted (m : Machine) (order : List ℕ) (first_count count : ℕ) :
   pub counted : IsSize m order count
   pub no_more : count ≤ first_count
   pub large : SIFTED_SNAPSHOTS_MAX < product m.vars → order ≡ first_order m
-  pub least : product m.vars ≤ SIFTED_SNAPSHOTS_MAX → IsLeast m order count
-  pub stays : product m.vars ≤ SIFTED_SNAPSHOTS_MAX → IsLeast m (first_order m) first_count
+  pub least : product m.vars ≤ SIFTED_SNAPSHOTS_MAX → IsLeastByMoves m order count
+  pub stays : product m.vars ≤ SIFTED_SNAPSHOTS_MAX → IsLeastByMoves m (first_order m) first_count
       → order ≡ first_order m

@@ -17,7 +17,7 @@ use Rattle.journals.specs.Journals.{inputs_of, buffered, snap, state, states_of}
 use Rattle.journals.specs.Moved.{machine_of}
 use Rattle.event_accounts.specs.Accounts.{is_delivery_of, overwrites_at}
 use Rattle.wave_text.specs.inner.Changing.{becomes, code_changes, happens, loss_changes}
-use Rattle.wave_text.specs.Signals.{change_at, code_of, happens_at, snapshot_signals, loss_signals, same_code, machine_signals, first_number}
+use Rattle.wave_text.specs.Signals.{change_at, signal_code, happens_at, snapshot_signals, loss_signals, same_code, machine_signals, first_number}
 use Rattle.wave_text.specs.declared.signal.Change.{Change}
 use Rattle.wave_text.specs.declared.signal.Signal.{Signal}
 use Rattle.wave_text.specs.declared.signal.Signal.TheVariants.{Input, State, Loss}
@@ -52,7 +52,7 @@ changed_both net journal p n xs ys =
 
 -- the signal stays as it is
 pub record Stays (net : Network) (journal : List Entry) (p : ℕ) (signal : Signal) : Type 0 where
-  pub same : code_of net (take (p + 1) journal) signal ≡ code_of net (take p journal) signal
+  pub same : signal_code net (take (p + 1) journal) signal ≡ signal_code net (take p journal) signal
   pub still : happens_at net journal p signal ≡ false
 
 same_as_itself : (o : Option ℕ) → same_code o o ≡ true
@@ -62,14 +62,14 @@ same_as_itself (Some a) = eq-eqb a a refl
 unchanged : (net : Network) (journal : List Entry) (p k : ℕ) (signal : Signal)
     → Stays net journal p signal → change_at net journal p (k, signal) ≡ None
 unchanged net journal p k signal stays =
-    let before = code_of net (take p journal) signal in
+    let before = signal_code net (take p journal) signal in
     let made : Option Change = Some (record { signal = k; code = None }) in
     ap (λ (b : Bool). cond b made
-    (cond (same_code before (code_of net (take (p + 1) journal) signal)) None
-    (Some (record { signal = k; code = code_of net (take (p + 1) journal) signal })))) stays.still
+    (cond (same_code before (signal_code net (take (p + 1) journal) signal)) None
+    (Some (record { signal = k; code = signal_code net (take (p + 1) journal) signal })))) stays.still
     ∙ ap (λ (b : Bool). cond b None
     (let c : Option Change = Some
-    (record { signal = k; code = code_of net (take (p + 1) journal) signal }) in c))
+    (record { signal = k; code = signal_code net (take (p + 1) journal) signal }) in c))
     (ap (same_code before) stays.same ∙ same_as_itself before)
 
 pub none_changed : (net : Network) (journal : List Entry) (p n : ℕ) (c : ℕ → Signal)

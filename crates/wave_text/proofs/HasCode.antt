@@ -25,7 +25,7 @@ use Rattle.transition_table.proofs.Ranges.{below_size, vars_length}
 use Rattle.event_accounts.proofs.InputsOf.{inputs_of_machine, input_within, code_of_place}
 use Rattle.event_accounts.specs.Accounts.{buffer_at}
 use Rattle.wave_text.specs.inner.Changing.{codes_emitted}
-use Rattle.wave_text.specs.Signals.{code_of, emission_signals, has_values, snapshot_signals, last_emitted, loss_signals, out_events, signals, machine_signals, value_signals}
+use Rattle.wave_text.specs.Signals.{signal_code, emission_signals, has_values, snapshot_signals, last_emitted, loss_signals, out_events, signals, machine_signals, value_signals}
 use Rattle.wave_text.specs.inner.Writable.{has_code, is_signal, state_codes}
 use Rattle.wave_text.specs.declared.signal.Signal.{Signal}
 use Rattle.wave_text.specs.declared.signal.Signal.TheVariants.{Input, State, Loss, Emission, Value}
@@ -254,7 +254,7 @@ signals_good net = record {
 }
 
 pub codes_good : (net : Network) (journal : List Entry) → IsJournal net journal
-    → OfAll net (λ s. has_code net s (code_of net journal s))
+    → OfAll net (λ s. has_code net s (signal_code net journal s))
 codes_good net journal h = record {
   inputs = λ m i e machine there at. lt-ltb _ _ (input_fits net journal m i e machine h there at);
   states = λ m x machine there below. lt-ltb _ _ (state_fits net journal m x machine h there below);
@@ -265,12 +265,12 @@ codes_good net journal h = record {
 
 pub signals_fit : (net : Network) (journal : List Entry) → IsJournal net journal
     → (k : ℕ) (s : Signal) → slice_get (signals net) k ≡ Some s
-    → (is_signal net s ≡ true) × (has_code net s (code_of net journal s) ≡ true)
+    → (is_signal net s ≡ true) × (has_code net s (signal_code net journal s) ≡ true)
 signals_fit net journal h k s at = (
   passes_of_all (is_signal net) (signals net) k s
       (all_signals_hold net (is_signal net) (signals_good net)) at,
-  passes_of_all (λ s. has_code net s (code_of net journal s)) (signals net) k s
-      (all_signals_hold net (λ s. has_code net s (code_of net journal s))
+  passes_of_all (λ s. has_code net s (signal_code net journal s)) (signals net) k s
+      (all_signals_hold net (λ s. has_code net s (signal_code net journal s))
       (codes_good net journal h)) at,
 )
 

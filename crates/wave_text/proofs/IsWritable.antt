@@ -7,7 +7,7 @@ use Rattle.std.proofs.lemmas.Bool.{and_parts, and_from, false≢true}
 use Rattle.std.proofs.lemmas.Option.{slice_get_within}
 use Rattle.transition_table.specs.declared.network.Network.{Network}
 use Rattle.journals.specs.declared.entry.Entry.{Entry}
-use Rattle.wave_text.specs.Signals.{change_at, changes_at, code_of, happens_at, same_code, signals}
+use Rattle.wave_text.specs.Signals.{change_at, changes_at, signal_code, happens_at, same_code, signals}
 use Rattle.wave_text.specs.inner.Writable.{has_code, is_signal, is_writable}
 use Rattle.wave_text.specs.declared.signal.Change.{Change}
 use Rattle.wave_text.specs.declared.signal.Signal.{Signal}
@@ -80,13 +80,13 @@ writable_change net journal p k s before after happens rest at good fits others 
 changes_writable : (net : Network) (journal : List Entry) (p n : ℕ) (list : List Signal)
     → ((k : ℕ) (s : Signal) → slice_get list k ≡ Some s → slice_get (signals net) (n + k) ≡ Some s)
     → ((k : ℕ) (s : Signal) → slice_get list k ≡ Some s
-    → (is_signal net s ≡ true) × (has_code net s (code_of net (take (p + 1) journal) s) ≡ true))
+    → (is_signal net s ≡ true) × (has_code net s (signal_code net (take (p + 1) journal) s) ≡ true))
     → list_all (is_writable net) (filter_map (change_at net journal p) (enumerate_from n list))
     ≡ true
 changes_writable net journal p n [] at fits = refl
 changes_writable net journal p n (s ∷ list) at fits =
-    writable_change net journal p n s (code_of net (take p journal) s)
-    (code_of net (take (p + 1) journal) s) (happens_at net journal p s)
+    writable_change net journal p n s (signal_code net (take p journal) s)
+    (signal_code net (take (p + 1) journal) s) (happens_at net journal p s)
     (filter_map (change_at net journal p) (enumerate_from (n + 1) list))
     (subst (λ (k : ℕ). slice_get (signals net) k ≡ Some s) (let h : n + 0 ≡ n = omega arith in h)
     (at 0 s refl))
@@ -99,7 +99,7 @@ changes_writable net journal p n (s ∷ list) at fits =
 -- where each signal has the code that it has after the entries up to p, all changes can be written
 pub all_writable : (net : Network) (journal : List Entry) (p : ℕ)
     → ((k : ℕ) (s : Signal) → slice_get (signals net) k ≡ Some s
-    → (is_signal net s ≡ true) × (has_code net s (code_of net (take (p + 1) journal) s) ≡ true))
+    → (is_signal net s ≡ true) × (has_code net s (signal_code net (take (p + 1) journal) s) ≡ true))
     → list_all (is_writable net) (changes_at net journal p) ≡ true
 all_writable net journal p fits =
     changes_writable net journal p 0 (signals net)

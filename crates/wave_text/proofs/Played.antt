@@ -9,7 +9,7 @@ use Rattle.polis_base.specs.Lists.{upto}
 use Rattle.transition_table.specs.declared.network.Network.{Network}
 use Rattle.journals.specs.declared.entry.Entry.{Entry}
 use Rattle.journals.specs.Journals.{inputs_of, buffered, snap, state, states_of}
-use Rattle.wave_text.specs.Signals.{change_at, changes_at, code_of, codes_of, emission_signals, happens_at, snapshot_signals, loss_signals, played, same_code, signals, machine_signals, value_signals}
+use Rattle.wave_text.specs.Signals.{change_at, changes_at, signal_code, signal_codes, emission_signals, happens_at, snapshot_signals, loss_signals, played, same_code, signals, machine_signals, value_signals}
 use Rattle.wave_text.specs.Laws.{ChangesGiveCodes, ChangesGiveSnapshots}
 use Rattle.event_accounts.proofs.OneItemMore.{split_at, flat_map_push}
 use Rattle.journals.proofs.DeliveriesOfWay.{map_of_map}
@@ -22,7 +22,7 @@ use Rattle.wave_text.specs.declared.signal.Signal.TheVariants.{Input, State, Los
 -- what happens changes no code
 happens_alone : (net : Network) (journal : List Entry) (p : ℕ) (signal : Signal)
     → happens_at net journal p signal ≡ true
-    → code_of net (take p journal) signal ≡ code_of net (take (p + 1) journal) signal
+    → signal_code net (take p journal) signal ≡ signal_code net (take (p + 1) journal) signal
 happens_alone net journal p (Input m e) h = absurd (false≢true h)
 happens_alone net journal p (State m x) h = absurd (false≢true h)
 happens_alone net journal p (Loss m e) h = refl
@@ -31,8 +31,8 @@ happens_alone net journal p (Value e) h = absurd (false≢true h)
 
 -- a signal that has no code after an entry had none before it
 no_code : (net : Network) (journal : List Entry) (p : ℕ) (signal : Signal)
-    → code_of net (take (p + 1) journal) signal ≡ None
-    → code_of net (take p journal) signal ≡ None
+    → signal_code net (take (p + 1) journal) signal ≡ None
+    → signal_code net (take p journal) signal ≡ None
 no_code net journal p (Input m e) h = cc
 no_code net journal p (State m x) h = cc
 no_code net journal p (Loss m e) h = refl
@@ -70,13 +70,13 @@ put_one done rest n false (Some a) (Some b) changes is same none =
 
 played_over : (net : Network) (journal : List Entry) (p n : ℕ) (list : List Signal)
     (done : List (Option ℕ)) → length done ≡ n
-    → played (done ++ map (code_of net (take p journal)) list)
+    → played (done ++ map (signal_code net (take p journal)) list)
     (filter_map (change_at net journal p) (enumerate_from n list))
-    ≡ done ++ map (code_of net (take (p + 1) journal)) list
+    ≡ done ++ map (signal_code net (take (p + 1) journal)) list
 played_over net journal p n [] done is = refl
 played_over net journal p n (signal ∷ list) done is =
-    let before = code_of net (take p journal) in
-    let after = code_of net (take (p + 1) journal) in
+    let before = signal_code net (take p journal) in
+    let after = signal_code net (take (p + 1) journal) in
     let changes = filter_map (change_at net journal p) (enumerate_from (n + 1) list) in
     put_one done (map before list) n (happens_at net journal p signal) (before signal)
     (after signal) changes is (happens_alone net journal p signal) (no_code net journal p signal)
@@ -87,8 +87,8 @@ played_over net journal p n (signal ∷ list) done is =
     ∙ append_assoc done (after signal ∷ []) (map after list)
 
 played_once : (net : Network) (journal : List Entry) (p : ℕ)
-    → played (codes_of net (take p journal)) (changes_at net journal p)
-    ≡ codes_of net (take (p + 1) journal)
+    → played (signal_codes net (take p journal)) (changes_at net journal p)
+    ≡ signal_codes net (take (p + 1) journal)
 played_once net journal p = played_over net journal p 0 (signals net) [] refl
 
 played_both : (codes : List (Option ℕ)) (xs ys : List Change)
@@ -100,27 +100,27 @@ played_both codes (x ∷ xs) ys =
 pub played_back : ChangesGiveCodes
 played_back net journal zero = refl
 played_back net journal (suc p) =
-    ap (played (codes_of net [])) (flat_map_push (changes_at net journal) (upto p) p)
-    ∙ played_both (codes_of net []) (flat_map (changes_at net journal) (upto p))
+    ap (played (signal_codes net [])) (flat_map_push (changes_at net journal) (upto p) p)
+    ∙ played_both (signal_codes net []) (flat_map (changes_at net journal) (upto p))
     (changes_at net journal p)
     ∙ ap (λ (codes : List (Option ℕ)). played codes (changes_at net journal p))
     (played_back net journal p)
     ∙ played_once net journal p
-    ∙ ap (λ (n : ℕ). codes_of net (take n journal)) (add-one p)
+    ∙ ap (λ (n : ℕ). signal_codes net (take n journal)) (add-one p)
 
 -- ---- snapshots
 
 snapshot_codes : (net : Network) (journal : List Entry) (m : ℕ)
-    → map (code_of net journal) (snapshot_signals net m) ≡ map Some (snap net journal m).codes
+    → map (signal_code net journal) (snapshot_signals net m) ≡ map Some (snap net journal m).codes
 snapshot_codes net journal m =
     let inputs = inputs_of net m in
     let variables = upto (length (states_of net m)) in
-    map-append (code_of net journal) (map (Input m) inputs) (map (State m) variables)
-    ∙ ap (λ (l : List (Option ℕ)). l ++ map (code_of net journal) (map (State m) variables))
-    (map_of_map (code_of net journal) (Input m) inputs
+    map-append (signal_code net journal) (map (Input m) inputs) (map (State m) variables)
+    ∙ ap (λ (l : List (Option ℕ)). l ++ map (signal_code net journal) (map (State m) variables))
+    (map_of_map (signal_code net journal) (Input m) inputs
     ∙ sym (map_of_map Some (buffered journal m) inputs))
     ∙ ap (λ (l : List (Option ℕ)). map Some (map (buffered journal m) inputs) ++ l)
-    (map_of_map (code_of net journal) (State m) variables
+    (map_of_map (signal_code net journal) (State m) variables
     ∙ sym (map_of_map Some (state net journal m) variables))
     ∙ sym (map-append Some (map (buffered journal m) inputs) (map (state net journal m) variables))
 
@@ -145,7 +145,7 @@ signals_split net m below =
 pub played_snapshots : ChangesGiveSnapshots
 played_snapshots net journal p m below =
     let now = take p journal in
-    let c = code_of net now in
+    let c = signal_code net now in
     let front = flat_map (machine_signals net) (upto m) in
     let kept = snapshot_signals net m in
     let split = signals_split net m below in

@@ -64,16 +64,16 @@ last_emitted net journal e =
     (filter_map (λ (x, code). then_some (x == e) code) (flat_map (emissions net) journal))
 
 -- the code of a signal after these entries; a loss and an emission have none
-abbrev pub code_of : Network → List Entry → Signal → Option ℕ
-code_of net journal (Input m e) = Some (buffered journal m e)
-code_of net journal (State m x) = Some (state net journal m x)
-code_of net journal (Loss m e) = None
-code_of net journal (Emission e) = None
-code_of net journal (Value e) = Some (last_emitted net journal e)
+abbrev pub signal_code : Network → List Entry → Signal → Option ℕ
+signal_code net journal (Input m e) = Some (buffered journal m e)
+signal_code net journal (State m x) = Some (state net journal m x)
+signal_code net journal (Loss m e) = None
+signal_code net journal (Emission e) = None
+signal_code net journal (Value e) = Some (last_emitted net journal e)
 
 -- the codes of all signals
-abbrev pub codes_of : Network → List Entry → List (Option ℕ)
-codes_of net journal = map (code_of net journal) (signals net)
+abbrev pub signal_codes : Network → List Entry → List (Option ℕ)
+signal_codes net journal = map (signal_code net journal) (signals net)
 
 -- ---- how they change
 
@@ -101,8 +101,8 @@ same_code (Some a) None = false
 -- before it
 abbrev pub change_at : Network → List Entry → ℕ → ℕ × Signal → Option Change
 change_at net journal p (k, signal) =
-    let before = code_of net (take p journal) signal in
-    let after = code_of net (take (p + 1) journal) signal in
+    let before = signal_code net (take p journal) signal in
+    let after = signal_code net (take (p + 1) journal) signal in
     cond (happens_at net journal p signal) (Some (record { signal = k; code = None }))
     (cond (same_code before after) None (Some (record { signal = k; code = after })))
 

@@ -7,7 +7,7 @@ use Rattle.polis_base.specs.Lists.{upto}
 use Rattle.transition_table.specs.NetworkNames.{machine_name}
 use Rattle.transition_table.specs.declared.network.Network.{Network}
 use Rattle.journals.specs.declared.entry.Entry.{Entry}
-use Rattle.wave_text.specs.Signals.{changes_at, code_of, emission_signals, first_number, loss_signals, signals, snapshot_signals, value_signals}
+use Rattle.wave_text.specs.Signals.{changes_at, signal_code, emission_signals, first_number, loss_signals, signals, snapshot_signals, value_signals}
 use Rattle.wave_text.specs.Words.{code_word, domain_of, kind_of, name_of}
 use Rattle.wave_text.specs.declared.signal.Change.{Change}
 use Rattle.wave_text.specs.declared.signal.Signal.{Signal}
@@ -88,7 +88,7 @@ signal_line net k signal code = line (written net signal code ++ decimal k)
 -- the code of a signal at the start, if it has one
 abbrev pub start_line : Network → ℕ × Signal → List ℕ
 start_line net (k, signal) =
-    option_map_or (λ code. signal_line net k signal (Some code)) (code_of net [] signal) []
+    option_map_or (λ code. signal_line net k signal (Some code)) (signal_code net [] signal) []
 
 -- the codes at the start
 abbrev pub start_text : Network → List ℕ

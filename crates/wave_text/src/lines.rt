@@ -3,7 +3,7 @@ ghost use Rattle.std.specs.Prelude.{◌≡◌, ◌<◌, ◌+◌, ◌++◌, ◌&&
 ghost use Rattle.std.specs.List.{enumerate_from, list_all};
 ghost use Rattle.transition_table.specs.NetworkFacts.{values_of};
 ghost use Rattle.journals.specs.Journals.{states_of};
-ghost use Rattle.wave_text.specs.Signals.{code_of, signals};
+ghost use Rattle.wave_text.specs.Signals.{signal_code, signals};
 ghost use Rattle.transition_table.specs.NetworkNames.{event_domain};
 ghost use Rattle.wave_text.specs.Waves.{change_line, start_text, start_line, moment_lines, signal_line, written, written_code};
 ghost use Rattle.wave_text.specs.Words.{event_word, value_word};
@@ -180,7 +180,7 @@ pub(crate) fn push_moment(
 // The code of a signal at the start, if it has one.
 fn start_code(net: &Network, signal: &Signal) -> Option<u8>
     requires { IsTrue (is_signal net.now signal.now) }
-    ensures { result ≡ code_of net.now [] signal.now }
+    ensures { result ≡ signal_code net.now [] signal.now }
 {
     match signal {
         Signal::Input { .. } => Some(0),
@@ -197,7 +197,7 @@ fn start_code(net: &Network, signal: &Signal) -> Option<u8>
 // Appends the line of a signal at the start, if it has a code.
 fn push_start_line(net: &Network, k: u64, signal: &Signal, into: &mut Bytes) -> Result<(), NoMemory>
     requires signal { IsTrue (is_signal net.now signal.now) }
-    requires code { IsTrue (has_code net.now signal.now (code_of net.now [] signal.now)) }
+    requires code { IsTrue (has_code net.now signal.now (signal_code net.now [] signal.now)) }
     ensures { OnOk result (into.new ≡ into.old ++ start_line net.now (k, signal.now)) }
 {
     match start_code(net, signal) {
@@ -210,7 +210,7 @@ fn push_start_line(net: &Network, k: u64, signal: &Signal, into: &mut Bytes) -> 
 // Appends the lines of signals at the start.
 fn push_start_lines(net: &Network, list: &SignalList, into: &mut Bytes) -> Result<(), NoMemory>
     requires signals { IsTrue (list_all (is_signal net.now) list.now) }
-    requires codes { IsTrue (list_all (λ s. has_code net.now s (code_of net.now [] s)) list.now) }
+    requires codes { IsTrue (list_all (λ s. has_code net.now s (signal_code net.now [] s)) list.now) }
     ensures { OnOk result (into.new ≡ into.old
         ++ flat_map (start_line net.now) (enumerate_from 0 list.now)) }
 {

@@ -2,7 +2,7 @@ use Rattle.wave_text.proofs.TextChains.{four_parts}
 use Rattle.polis_base.specs.Lines.{line}
 use Rattle.std.specs.Prelude.{codes}
 use Rattle.std.specs.List.{enumerate_from, flat_map, list_all}
-use Rattle.wave_text.specs.Signals.{signals, code_of}
+use Rattle.wave_text.specs.Signals.{signals, signal_code}
 use Rattle.wave_text.specs.Waves.{start_line}
 use Rattle.std.proofs.Common.{◌≡◌, List, [], true, subst, sym}
 use Rattle.wave_text.specs.inner.Writable.{has_code, is_signal}
@@ -19,9 +19,9 @@ push_start_lines-requires-clause-signals c =
 pub push_start_lines-requires-clause-codes : goal.push_start_lines-requires-clause-codes
 push_start_lines-requires-clause-codes c =
     let net = c.args.net.now in
-    subst (λ (l : List Signal). list_all (λ s. has_code net s (code_of net [] s)) l ≡ true)
+    subst (λ (l : List Signal). list_all (λ s. has_code net s (signal_code net [] s)) l ≡ true)
     (sym c.requires)
-    (all_signals_hold net (λ s. has_code net s (code_of net [] s))
+    (all_signals_hold net (λ s. has_code net s (signal_code net [] s))
     (codes_good net [] tt))
 
 pub returns : goal.returns

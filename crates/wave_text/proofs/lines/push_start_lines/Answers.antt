@@ -1,7 +1,7 @@
 use Rattle.std.proofs.Common.{◌≡◌, ◌+◌, ◌++◌, List, [], drop, true, subst, arith}
 use Rattle.std.specs.List.{enumerate_from, flat_map}
 use Rattle.std.proofs.lemmas.Option.{get_or_from_slice_get}
-use Rattle.wave_text.specs.Signals.{code_of}
+use Rattle.wave_text.specs.Signals.{signal_code}
 use Rattle.wave_text.specs.Waves.{start_line}
 use Rattle.wave_text.specs.inner.Writable.{has_code, is_signal}
 use Rattle.wave_text.specs.declared.signal.Signal.{Signal}
@@ -24,9 +24,9 @@ push_start_line-requires-clause-code c =
     let list : List Signal = c.args.list.now in
     let s : Signal = c.get.result.now in
     let net = c.args.net.now in
-    subst (λ (x : Signal). has_code net x (code_of net [] x) ≡ true)
+    subst (λ (x : Signal). has_code net x (signal_code net [] x) ≡ true)
     (get_or_from_slice_get list c.loop-k.k s s c.get.ensures)
-    (all_at (λ x. has_code net x (code_of net [] x)) list c.loop-k.k s c.requires.codes
+    (all_at (λ x. has_code net x (signal_code net [] x)) list c.loop-k.k s c.requires.codes
     (let end = c.len-k-end.ensures in omega arith))
 
 pub loop-k-preserved : goal.loop-k-preserved

@@ -64,12 +64,22 @@ fn product_of(alloc: Global, asked: &Demo, inputs: &Inputs) -> Result<Product, N
     })
 }
 
+// What is drawn from a seed.
+fn drawn(alloc: Global, seed: u64) -> Result<Inputs, NoMemory>
+    ensures drawn { IfOk result (λ inputs. IsDrawn seed inputs.net inputs.trace) }
+    ensures fits { IfOk result (λ inputs. IsTrace inputs.net inputs.trace) }
+    ensures whole { IfOk result (λ inputs. RunsWhole inputs.net inputs.trace) }
+{
+    let texts = generate(alloc, seed)?;
+    let inputs = read_drawn(alloc, seed, &texts)?;
+    Ok(inputs)
+}
+
 // The product of what is drawn from the seed.
 fn product_of_seed(alloc: Global, asked: &Demo) -> Result<Product, NoMemory>
     ensures { IfOk result (λ product. MakesDemo asked.now product) }
 {
-    let texts = generate(alloc, asked.seed())?;
-    let inputs = read_drawn(alloc, asked.seed(), &texts)?;
+    let inputs = drawn(alloc, asked.seed())?;
     let product = product_of(alloc, asked, &inputs)?;
     Ok(product)
 }

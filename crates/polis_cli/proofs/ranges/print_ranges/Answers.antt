@@ -1,6 +1,5 @@
 use Rattle.std.proofs.Common.{◌≡◌, arith, length}
 use Rattle.journals.proofs.DeliveriesOfWay.{passes_of_all}
-use Rattle.machine_compiler.specs.Parts.{part_of_compiled}
 use Rattle.transition_table.specs.NetworkFacts.{has_vars}
 use Rattle.polis_cli.proofs.RangeLines.{shown_none, shown_more, shown_all}
 use Rattle.polis_cli.proofs.ranges.print_ranges.Goals as goal
@@ -19,13 +18,7 @@ pub loop-k-preserved : goal.loop-k-preserved
 loop-k-preserved c =
     shown_more c.args.costs.now c.args.net.now c.loop-k.k c.loop-k.text c.push_range.new.into
     c.get-machine.result.now c.in_ok-range.range c.loop-k.invariant c.get-machine.ensures
-    (record {
-      part = part_of_compiled c.in_ok-compiled.compiled;
-      right = c.in_ok-compiled.ensures;
-      most = c.in_ok-range.ensures.most;
-      least = c.in_ok-range.ensures.least;
-    })
-    c.in_ok-push_range.ensures
+    c.in_ok-range.ensures c.in_ok-push_range.ensures
 
 pub returns : goal.returns
 returns c =

@@ -17,7 +17,7 @@ use Rattle.polis_words.specs.Lines.{cause_status, lex_error}
 use Rattle.polis_cli.specs.Accepted.{Accepted}
 use Rattle.polis_cli.specs.Inputs.{HoldsText, HoldsNet, HoldsTrace, LoadFails, IsNetFault, IsTraceFault, NetFails, TraceFails, InputsFail}
 use Rattle.polis_cli.specs.Meanings.{is_finding}
-use Rattle.polis_cli.specs.inner.Made.{FileFails, FilesFail}
+use Rattle.polis_cli.specs.inner.Made.{FileExplained, FilesExplained}
 use Rattle.polis_cli.proofs.Holds.{no_break, one_text}
 use Rattle.polis_cli.proofs.WhereTold.{told_from, told_both}
 
@@ -140,13 +140,14 @@ inputs_unfound files net_name trace_name name cause s (inr h) =
 
 -- ---- loads that fail
 -- the network fails
-pub net_failed : (o : Option Files) (net_name trace_name : List ℕ) (failure : Failure)
-    → FileFails net_name o (λ files. NetFails files net_name) failure
-    → FilesFail o (λ files. InputsFail files net_name trace_name) failure
-net_failed o net_name trace_name failures.NoMemory h = tt
-net_failed o net_name trace_name (failures.File name cause more) (h, none) = (
+pub net_failed : (o : Option Files) (net_name trace_name : List ℕ)
+    (E : Option Files → List ℕ → Cause → List ℕ → Type 0) (failure : Failure)
+    → FileExplained net_name o (λ files. NetFails files net_name) E failure
+    → FilesExplained o (λ files. InputsFail files net_name trace_name) E failure
+net_failed o net_name trace_name E failures.NoMemory h = tt
+net_failed o net_name trace_name E (failures.File name cause more) (h, explains) = (
   (told_from o (λ files. NetFails files net_name cause) _ (λ files k. inl (h.0, k)) h.1, h.2),
-  none,
+  explains,
 )
 
 -- the trace fails, the network being accepted
@@ -171,10 +172,11 @@ trace_fails o net_name trace_name name net cause same held one fails =
     → HoldsNet files net_name other → other ≡ net) _ (λ files a b. (a, b)) held one) fails
 
 pub trace_failed : (o : Option Files) (net_name trace_name : List ℕ) (net : Network)
-    (failure : Failure) → WhereTold o (λ files. HoldsNet files net_name net)
+    (E : Option Files → List ℕ → Cause → List ℕ → Type 0) (failure : Failure)
+    → WhereTold o (λ files. HoldsNet files net_name net)
     → WhereTold o (λ files. (other : Network) → HoldsNet files net_name other → other ≡ net)
-    → FileFails trace_name o (λ files. TraceFails files net trace_name) failure
-    → FilesFail o (λ files. InputsFail files net_name trace_name) failure
-trace_failed o net_name trace_name net failures.NoMemory held one h = tt
-trace_failed o net_name trace_name net (failures.File name cause more) held one (h, none) =
-    ((trace_fails o net_name trace_name name.now net cause h.0 held one h.1, h.2), none)
+    → FileExplained trace_name o (λ files. TraceFails files net trace_name) E failure
+    → FilesExplained o (λ files. InputsFail files net_name trace_name) E failure
+trace_failed o net_name trace_name net E failures.NoMemory held one h = tt
+trace_failed o net_name trace_name net E (failures.File name cause more) held one (h, explains) =
+    ((trace_fails o net_name trace_name name.now net cause h.0 held one h.1, h.2), explains)

@@ -12,10 +12,10 @@ use Rattle.polis_cli.specs.declared.product.End.TheVariants as ends
 use Rattle.polis_cli.specs.declared.product.Product.{Product}
 use Rattle.polis_cli.specs.Ends.{end_status}
 use Rattle.polis_cli.specs.Inputs.{NetFails, FailsNet}
-use Rattle.polis_cli.specs.Meanings.{Meaning, MayEnd, is_finding, is_failure}
+use Rattle.polis_cli.specs.Meanings.{Meaning, MayEnd, explains_nothing, is_finding, is_failure}
 use Rattle.polis_cli.specs.Saves.{Save, AreApart}
 use Rattle.polis_cli.specs.inner.Lawful.{IsLawful}
-use Rattle.polis_cli.specs.inner.Made.{FailsAs, IsMadeProduct, IsMadeFailure, FileFails, FilesFail, JudgingFails}
+use Rattle.polis_cli.specs.inner.Made.{FailsAs, IsMadeProduct, IsMadeFailure, FileExplained, FilesExplained, FileFails, FilesFail, JudgingFails}
 use Rattle.polis_cli.proofs.WhereTold.{told_from, told_always}
 
 -- ---- products
@@ -38,30 +38,37 @@ product_is saves shown known n s = λ i. record { saves = n i; shown = s i; end 
 -- ---- failures
 -- the file fails, and that for another reason
 pub file_fails : (name : List ℕ) (o : Option Files) (P Q : Files → Cause → Type 0)
-    (failure : Failure) → ((files : Files) (cause : Cause) → P files cause → Q files cause)
-    → FileFails name o P failure → FileFails name o Q failure
-file_fails name o P Q failures.NoMemory f h = tt
-file_fails name o P Q (failures.File file cause more) f (h, none) = (
+    (E : Option Files → List ℕ → Cause → List ℕ → Type 0) (failure : Failure)
+    → ((files : Files) (cause : Cause) → P files cause → Q files cause)
+    → FileExplained name o P E failure → FileExplained name o Q E failure
+file_fails name o P Q E failures.NoMemory f h = tt
+file_fails name o P Q E (failures.File file cause more) f (h, explains) = (
   (
     h.0,
     told_from o (λ files. P files cause) (λ files. Q files cause) (λ files. f files cause) h.1,
     h.2,
   ),
-  none,
+  explains,
 )
 
 -- the one file of a command fails
-pub net_alone : (name : List ℕ) (o : Option Files) (failure : Failure)
-    → FileFails name o (λ files. NetFails files name) failure → FilesFail o (FailsNet name) failure
-net_alone name o failures.NoMemory h = tt
-net_alone name o (failures.File file cause more) (h, none) = (
+pub net_explained : (name : List ℕ) (o : Option Files)
+    (E : Option Files → List ℕ → Cause → List ℕ → Type 0) (failure : Failure)
+    → FileExplained name o (λ files. NetFails files name) E failure
+    → FilesExplained o (FailsNet name) E failure
+net_explained name o E failures.NoMemory h = tt
+net_explained name o E (failures.File file cause more) (h, explains) = (
   (
     told_from o (λ files. NetFails files name cause) (λ files. FailsNet name files file.now cause)
         (λ files k. (h.0, k)) h.1,
     h.2,
   ),
-  none,
+  explains,
 )
+
+pub net_alone : (name : List ℕ) (o : Option Files) (failure : Failure)
+    → FileFails name o (λ files. NetFails files name) failure → FilesFail o (FailsNet name) failure
+net_alone name o failure h = net_explained name o explains_nothing failure h
 
 pub may_fail : (m : Meaning) (status : Status) → m.reads ≡ true → IsTrue (is_failure true status)
     → MayEnd m status

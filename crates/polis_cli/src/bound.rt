@@ -4,7 +4,7 @@ ghost use Rattle.polis_cli.specs.Bound.{AreCosts, bound_meaning};
 ghost use Rattle.polis_cli.specs.inner.Left.{LeftByLoads, fails_unread};
 ghost use Rattle.polis_cli.specs.inner.Made.{IsMade};
 
-use crate::load::load_net;
+use crate::load::{Detail, load_net};
 use crate::product::{End, Product};
 use crate::ranges::print_ranges;
 use cost_bound::Costs;
@@ -34,7 +34,7 @@ pub fn make_bound<'a, H: Host>(
     ensures made { IsMade (bound_meaning asked.now) (H.files host.old) result }
     ensures left { LeftByLoads ⟦<H as Host>⟧ (fails_unread result) host.old host.new }
 {
-    let net = match load_net(alloc, host, asked.net()) {
+    let net = match load_net(alloc, host, asked.net(), Detail::Cause) {
         Ok(net) => net,
         Err(failure) => return Err(failure),
     };

@@ -3,7 +3,7 @@ ghost use Rattle.polis_cli.specs.Check.{check_meaning};
 ghost use Rattle.polis_cli.specs.inner.Left.{LeftByLoads, fails_unread};
 ghost use Rattle.polis_cli.specs.inner.Made.{IsMade};
 
-use crate::load::load_net;
+use crate::load::{Detail, load_net};
 use crate::product::{End, Product};
 use polis_base::{Host, List, NoMemory};
 use polis_words::{Check, Failure, print_accepted};
@@ -18,7 +18,7 @@ pub fn make_check<'a, H: Host>(
     ensures made { IsMade (check_meaning check.now) (H.files host.old) result }
     ensures left { LeftByLoads ⟦<H as Host>⟧ (fails_unread result) host.old host.new }
 {
-    let net = match load_net(alloc, host, check.net()) {
+    let net = match load_net(alloc, host, check.net(), Detail::Cause) {
         Ok(net) => net,
         Err(failure) => return Err(failure),
     };

@@ -6,7 +6,7 @@ ghost use Rattle.polis_cli.specs.inner.Compile.{IsCompileProduct};
 ghost use Rattle.polis_cli.specs.inner.Left.{LeftByLoads, fails_unread};
 ghost use Rattle.polis_cli.specs.inner.Made.{IsMade};
 
-use crate::load::load_net;
+use crate::load::{Detail, load_net};
 use crate::product::{End, Product, Saving};
 use machine_compiler::{Texts, compile_texts};
 use polis_base::{Host, List, NoMemory};
@@ -39,7 +39,7 @@ pub fn make_compile<'a, H: Host>(
     ensures made { IsMade (compile_meaning asked.now) (H.files host.old) result }
     ensures left { LeftByLoads ⟦<H as Host>⟧ (fails_unread result) host.old host.new }
 {
-    let net = match load_net(alloc, host, asked.net()) {
+    let net = match load_net(alloc, host, asked.net(), Detail::Cause) {
         Ok(net) => net,
         Err(failure) => return Err(failure),
     };

@@ -6,7 +6,7 @@ ghost use Rattle.polis_cli.specs.inner.Draw.{IsDrawProduct};
 ghost use Rattle.polis_cli.specs.inner.Left.{LeftByLoads, fails_unread};
 ghost use Rattle.polis_cli.specs.inner.Made.{IsMade};
 
-use crate::load::load_net;
+use crate::load::{Detail, load_net};
 use crate::product::{End, Product, Saving};
 use graph_drawing::push_drawing;
 use machine_compiler::{Graphs, compile_graphs};
@@ -42,7 +42,7 @@ pub fn make_draw<'a, H: Host>(
     ensures made { IsMade (draw_meaning asked.now) (H.files host.old) result }
     ensures left { LeftByLoads ⟦<H as Host>⟧ (fails_unread result) host.old host.new }
 {
-    let net = match load_net(alloc, host, asked.net()) {
+    let net = match load_net(alloc, host, asked.net(), Detail::Cause) {
         Ok(net) => net,
         Err(failure) => return Err(failure),
     };

@@ -9,7 +9,7 @@ ghost use Rattle.polis_cli.specs.inner.Left.{LeftByLoads, fails_unread};
 ghost use Rattle.polis_cli.specs.inner.Made.{IsMade};
 
 use crate::accept::FileFault;
-use crate::load::load_net;
+use crate::load::{Detail, load_net};
 use crate::product::{End, Product};
 use machine_equiv::{Differing, compare_nets, same_shape};
 use polis_base::{Bytes, Host, List, NoMemory};
@@ -71,12 +71,12 @@ pub fn make_equiv<'a, H: Host>(
     ensures made { IsMade (equiv_meaning asked.now) (H.files host.old) result }
     ensures left { LeftByLoads ⟦<H as Host>⟧ (fails_unread result) host.old host.new }
 {
-    let net = match load_net(alloc, host, asked.net()) {
+    let net = match load_net(alloc, host, asked.net(), Detail::Cause) {
         Ok(net) => net,
         Err(failure) => return Err(failure),
     };
     let name = asked.other();
-    let other = match load_net(alloc, host, name) {
+    let other = match load_net(alloc, host, name, Detail::Cause) {
         Ok(other) => other,
         Err(failure) => return Err(failure),
     };

@@ -8,14 +8,15 @@ ghost use Rattle.journal_replay.specs.Reasons.{IsReason};
 ghost use Rattle.polis_cli.specs.Explain.{explain_journal_meaning, explain_meaning, explain_net_meaning, explain_trace_meaning};
 ghost use Rattle.polis_cli.specs.Explanations.{ExplainsReplay};
 ghost use Rattle.polis_cli.specs.JournalFiles.{IsFirstIllegal};
+ghost use Rattle.polis_cli.specs.Meanings.{explains_by};
 ghost use Rattle.polis_cli.specs.Replay.{FailsReplay, IsJudged};
-ghost use Rattle.polis_cli.specs.inner.Explain.{IsEntryExplained, JudgingExplained};
+ghost use Rattle.polis_cli.specs.inner.Explain.{IsEntryExplained};
 ghost use Rattle.polis_cli.specs.inner.Left.{LeftByLoads, fails_unread};
-ghost use Rattle.polis_cli.specs.inner.Made.{IsMade};
+ghost use Rattle.polis_cli.specs.inner.Made.{IsMade, JudgingExplained};
 
-use crate::explained::{JournalFile, explained_inputs, explained_journal, explained_net};
 use crate::explanation::explain_entry;
-use crate::inputs::Inputs;
+use crate::inputs::{Inputs, load_inputs};
+use crate::load::{Detail, JournalFile, load_journal_file, load_net};
 use crate::product::{End, Product};
 use crate::replay::{Judged, find};
 use crate::tasks::Tasks;
@@ -85,16 +86,16 @@ fn judge_explained<'a, H: Host>(
         WhereTold (H.files host.old) (λ files.
         IsJudged asked.now files judged.inputs.net judged.inputs.trace judged.read.journal
         judged.complete)) }
-    ensures failed { IfErr result
-        (JudgingExplained (H.files host.old) (FailsReplay asked.now) (ExplainsReplay asked.now)) }
+    ensures failed { IfErr result (JudgingExplained (H.files host.old) (FailsReplay asked.now)
+        (explains_by (ExplainsReplay asked.now))) }
     ensures left { LeftByLoads ⟦<H as Host>⟧ (fails_unread result) host.old host.new }
 {
-    let inputs = match explained_inputs(alloc, host, asked.net(), asked.trace()) {
+    let inputs = match load_inputs(alloc, host, asked.net(), asked.trace(), Detail::Explained) {
         Ok(inputs) => inputs,
         Err(failure) => return Err(failure),
     };
     let name = asked.journal();
-    let file = match explained_journal(alloc, host, &inputs.net, name) {
+    let file = match load_journal_file(alloc, host, &inputs.net, name, Detail::Explained) {
         Ok(file) => file,
         Err(failure) => return Err(failure),
     };
@@ -127,7 +128,7 @@ fn make_explain_net<'a, H: Host>(
     ensures made { IsMade (explain_net_meaning check.now) (H.files host.old) result }
     ensures left { LeftByLoads ⟦<H as Host>⟧ (fails_unread result) host.old host.new }
 {
-    let net = match explained_net(alloc, host, check.net()) {
+    let net = match load_net(alloc, host, check.net(), Detail::Explained) {
         Ok(net) => net,
         Err(failure) => return Err(failure),
     };
@@ -150,7 +151,7 @@ fn make_explain_trace<'a, H: Host>(
     ensures made { IsMade (explain_trace_meaning asked.now) (H.files host.old) result }
     ensures left { LeftByLoads ⟦<H as Host>⟧ (fails_unread result) host.old host.new }
 {
-    let inputs = match explained_inputs(alloc, host, asked.net(), asked.trace()) {
+    let inputs = match load_inputs(alloc, host, asked.net(), asked.trace(), Detail::Explained) {
         Ok(inputs) => inputs,
         Err(failure) => return Err(failure),
     };

@@ -9,7 +9,7 @@ ghost use Rattle.polis_cli.specs.inner.Left.{LeftByLoads, fails_unread};
 ghost use Rattle.polis_cli.specs.inner.Made.{IsMade};
 
 use crate::accept::FileFault;
-use crate::load::load_net;
+use crate::load::{Detail, load_net};
 use crate::product::{End, Product, Saving};
 use machine_compiler::compile_codes;
 use polis_base::{Bytes, Host, List, NoMemory};
@@ -76,7 +76,7 @@ pub fn make_image<'a, H: Host>(
     ensures left { LeftByLoads ⟦<H as Host>⟧ (fails_unread result) host.old host.new }
 {
     let name = asked.net();
-    let net = match load_net(alloc, host, name) {
+    let net = match load_net(alloc, host, name, Detail::Cause) {
         Ok(net) => net,
         Err(failure) => return Err(failure),
     };

@@ -1,5 +1,6 @@
 // The network and the trace that a run or a replay is of.
 ghost use Rattle.std.specs.Prelude.{◌≡◌, IfOk, IfErr, IfSome};
+ghost use Rattle.polis_base.specs.declared.limits.TheConstants.{TEXT_MAX};
 ghost use Rattle.polis_base.specs.Host.{WhereTold};
 ghost use Rattle.journals.specs.Journals.{IsTrace};
 ghost use Rattle.transition_table.specs.Transitions.{AreDeterministic};
@@ -8,11 +9,12 @@ ghost use Rattle.polis_cli.specs.Inputs.{HoldsNet, HoldsTrace, InputsFail};
 ghost use Rattle.task_machine.specs.Tasks.{AreTasks};
 ghost use Rattle.task_image.specs.Images.{codes_of};
 ghost use Rattle.polis_cli.specs.Run.{FailsRun};
+ghost use Rattle.polis_cli.specs.inner.Explain.{explains_in};
 ghost use Rattle.polis_cli.specs.inner.Left.{LeftByLoads, fails_unread};
-ghost use Rattle.polis_cli.specs.inner.Made.{FilesFail};
+ghost use Rattle.polis_cli.specs.inner.Made.{FilesExplained, FilesFail};
 ghost use Rattle.polis_cli.specs.inner.Run.{HoldsImageOf, FailsImageOf, HoldsRun, IsLoaded};
 
-use crate::load::{load_image, load_net, load_trace};
+use crate::load::{Detail, load_image, load_net, load_trace};
 use net_core::Trace;
 use polis_base::Host;
 use polis_words::{Failure, Run};
@@ -35,6 +37,7 @@ pub fn load_inputs<'a, H: Host>(
     host: &mut H,
     net_name: &'a str,
     trace_name: &'a str,
+    detail: Detail,
 ) -> Result<Inputs, Failure<'a>>
     ensures held { IfOk result (λ inputs.
         WhereTold (H.files host.old) (λ files. HoldsNet files net_name.now inputs.net
@@ -45,15 +48,15 @@ pub fn load_inputs<'a, H: Host>(
     ensures fits { IfOk result (λ inputs. IsTrace inputs.net inputs.trace
         × AreDeterministic inputs.net) }
     ensures failed { IfErr result (λ failure.
-        FilesFail (H.files host.old) (λ files. InputsFail files net_name.now trace_name.now)
-        failure) }
+        FilesExplained (H.files host.old) (λ files. InputsFail files net_name.now trace_name.now)
+        (explains_in detail TEXT_MAX) failure) }
     ensures left { LeftByLoads ⟦<H as Host>⟧ (fails_unread result) host.old host.new }
 {
-    let net = match load_net(alloc, host, net_name) {
+    let net = match load_net(alloc, host, net_name, detail) {
         Ok(net) => net,
         Err(failure) => return Err(failure),
     };
-    match load_trace(alloc, host, &net, trace_name) {
+    match load_trace(alloc, host, &net, trace_name, detail) {
         Ok(trace) => Ok(Inputs { net, trace }),
         Err(failure) => Err(failure),
     }
@@ -104,7 +107,7 @@ pub fn load_run<'a, H: Host>(
     ensures failed { IfErr result (FilesFail (H.files host.old) (FailsRun run.now)) }
     ensures left { LeftByLoads ⟦<H as Host>⟧ (fails_unread result) host.old host.new }
 {
-    let inputs = match load_inputs(alloc, host, run.net(), run.trace()) {
+    let inputs = match load_inputs(alloc, host, run.net(), run.trace(), Detail::Cause) {
         Ok(inputs) => inputs,
         Err(failure) => return Err(failure),
     };

@@ -9,7 +9,6 @@ mod demo;
 mod draw;
 mod equiv;
 mod explain;
-mod explained;
 mod explanation;
 mod image;
 mod image_file;

@@ -12,7 +12,7 @@ ghost use Rattle.polis_cli.specs.inner.Made.{IsMade, JudgingFails};
 ghost use Rattle.polis_cli.specs.inner.Replay.{IsFound};
 
 use crate::inputs::{Inputs, load_inputs};
-use crate::load::load_journal;
+use crate::load::{Detail, load_journal};
 use crate::product::{End, Product};
 use crate::tasks::Tasks;
 use journal_replay::{Verdict, replay, replay_stamped};
@@ -89,7 +89,7 @@ pub fn judge_journal<'a, H: Host>(
     ensures failed { IfErr result (JudgingFails (H.files host.old) (FailsReplay asked.now)) }
     ensures left { LeftByLoads ⟦<H as Host>⟧ (fails_unread result) host.old host.new }
 {
-    let inputs = match load_inputs(alloc, host, asked.net(), asked.trace()) {
+    let inputs = match load_inputs(alloc, host, asked.net(), asked.trace(), Detail::Cause) {
         Ok(inputs) => inputs,
         Err(failure) => return Err(failure),
     };

@@ -1,5 +1,5 @@
 -- What making a product gives, whatever the command.
-use Rattle.std.specs.Prelude.{◌≡◌, ◌⊎◌, ℕ, true, List, [], Option, Result, Ok, Err, IsTrue, ⊤}
+use Rattle.std.specs.Prelude.{◌≡◌, ◌⊎◌, ℕ, true, List, Option, Result, Ok, Err, IsTrue, ⊤}
 use Rattle.polis_base.specs.Host.{Files, WhereTold}
 use Rattle.polis_words.specs.declared.cause.Cause.{Cause}
 use Rattle.polis_words.specs.declared.cause.Failure.{Failure}
@@ -9,17 +9,12 @@ use Rattle.polis_words.specs.Lines.{cause_status}
 use Rattle.polis_cli.specs.declared.product.Product.{Product}
 use Rattle.polis_cli.specs.Ends.{end_status}
 use Rattle.polis_cli.specs.Saves.{AreApart}
-use Rattle.polis_cli.specs.Meanings.{Meaning, MayEnd, is_failure}
+use Rattle.polis_cli.specs.Meanings.{Meaning, MayEnd, explains_nothing, is_failure}
 
 -- P of the name of the file that failed, of why, and of what explains it, unless memory ran out
 abbrev pub IfExplained : Failure → (List ℕ → Cause → List ℕ → Type 0) → Type 0
 IfExplained failures.NoMemory P = ⊤
 IfExplained (failures.File name cause more) P = P name.now cause more
-
--- P of the name and of why, and nothing explains it
-abbrev pub IfFile : Failure → (List ℕ → Cause → Type 0) → Type 0
-IfFile failures.NoMemory P = ⊤
-IfFile (failures.File name cause more) P = P name.now cause × (more ≡ [])
 
 -- the command fails so of these files
 abbrev pub FailsAs : Meaning → Files → Failure → Type 0
@@ -43,19 +38,36 @@ abbrev pub IsMade : Meaning → Option Files → Result Product Failure → Type
 IsMade m told (Ok product) = IsMadeProduct m told product
 IsMade m told (Err failure) = IsMadeFailure m told failure
 
--- the file of this name fails, by what is told, and nothing was found of files that are accepted
-abbrev pub FileFails : List ℕ → Option Files → (Files → Cause → Type 0) → Failure → Type 0
-FileFails name told P failure = IfFile failure (λ file cause. (file ≡ name)
+-- the file of this name fails, by what is told, nothing was found of files that are accepted, and E
+-- is what is said of what explains it
+abbrev pub FileExplained : List ℕ → Option Files → (Files → Cause → Type 0)
+    → (Option Files → List ℕ → Cause → List ℕ → Type 0) → Failure → Type 0
+FileExplained name told P E failure = IfExplained failure (λ file cause more. ((file ≡ name)
     × WhereTold told (λ files. P files cause) × IsTrue (is_failure true (cause_status cause)))
+    × E told file cause more)
 
 -- one of several files fails so
-abbrev pub FilesFail : Option Files → (Files → List ℕ → Cause → Type 0) → Failure → Type 0
-FilesFail told P failure = IfFile failure (λ name cause.
-    WhereTold told (λ files. P files name cause)
+abbrev pub FilesExplained : Option Files → (Files → List ℕ → Cause → Type 0)
+    → (Option Files → List ℕ → Cause → List ℕ → Type 0) → Failure → Type 0
+FilesExplained told P E failure = IfExplained failure (λ name cause more.
+    (WhereTold told (λ files. P files name cause)
     × IsTrue (is_failure true (cause_status cause)))
+    × E told name cause more)
 
 -- one of them fails, or the journal isn't legal
-abbrev pub JudgingFails : Option Files → (Files → List ℕ → Cause → Type 0) → Failure → Type 0
-JudgingFails told P failure = IfFile failure (λ name cause.
-    WhereTold told (λ files. P files name cause)
+abbrev pub JudgingExplained : Option Files → (Files → List ℕ → Cause → Type 0)
+    → (Option Files → List ℕ → Cause → List ℕ → Type 0) → Failure → Type 0
+JudgingExplained told P E failure = IfExplained failure (λ name cause more.
+    (WhereTold told (λ files. P files name cause)
     × (IsTrue (is_failure true (cause_status cause)) ⊎ (cause_status cause ≡ Illegal)))
+    × E told name cause more)
+
+-- the same three, where nothing explains it
+abbrev pub FileFails : List ℕ → Option Files → (Files → Cause → Type 0) → Failure → Type 0
+FileFails name told P failure = FileExplained name told P explains_nothing failure
+
+abbrev pub FilesFail : Option Files → (Files → List ℕ → Cause → Type 0) → Failure → Type 0
+FilesFail told P failure = FilesExplained told P explains_nothing failure
+
+abbrev pub JudgingFails : Option Files → (Files → List ℕ → Cause → Type 0) → Failure → Type 0
+JudgingFails told P failure = JudgingExplained told P explains_nothing failure

@@ -9,18 +9,19 @@ returns-in-Err-clause-failed g c =
     inputs_explained (g.H.Host.files c.args.host.now) c.args.asked.now c.in-Err.failure
     (rw (c.net.ensures, c.trace.ensures) at c.in-Err.ensures.failed)
 
-pub returns-in-Err-explained_journal-clause-failed : goal.returns-in-Err-explained_journal-clause-failed
-returns-in-Err-explained_journal-clause-failed g c =
+pub returns-in-Err-load_journal_file-clause-failed :
+    goal.returns-in-Err-load_journal_file-clause-failed
+returns-in-Err-load_journal_file-clause-failed g c =
     journal_explained (g.H.Host.files c.args.host.now) c.args.asked.now c.in-Ok.inputs.net
-    c.in-Ok.inputs.trace c.in-Err-explained_journal.failure
+    c.in-Ok.inputs.trace c.in-Err-load_journal_file.failure
     (rw (c.net.ensures, c.trace.ensures) at c.in-Ok.ensures.held)
     (rw c.net.ensures at c.in-Ok.ensures.one)
     (rw (c.in-Ok.ensures.left.files, c.journal-name.ensures) at
-    c.in-Err-explained_journal.ensures.failed)
+    c.in-Err-load_journal_file.ensures.failed)
 
 pub returns-in-Ok-Legal-clause-judged : goal.returns-in-Ok-Legal-clause-judged
 returns-in-Ok-Legal-clause-judged g c =
-    let file = c.in-Ok-explained_journal.file in
+    let file = c.in-Ok-load_journal_file.file in
     let o = g.H.Host.files c.args.host.now in
     judged_is o c.args.asked.now c.in-Ok.inputs.net c.in-Ok.inputs.trace file.read.journal
     file.read.stamps c.in-Ok-Legal.complete
@@ -28,8 +29,8 @@ returns-in-Ok-Legal-clause-judged g c =
     (journal_held o c.in-Ok.inputs.net c.args.asked.now.journal file.text file.read.journal
     file.read.stamps file.read.says_complete
     (rw (c.in-Ok.ensures.left.files, c.journal-name.ensures) at
-    c.in-Ok-explained_journal.ensures.held)
-    c.in-Ok-explained_journal.ensures.read)
+    c.in-Ok-load_journal_file.ensures.held)
+    c.in-Ok-load_journal_file.ensures.read)
     (rw c.in-Ok-Legal.field-0-is at c.in-Ok-Legal.ensures)
 
 pub returns-in-Ok-explain_illegal-clause-failed : goal.returns-in-Ok-explain_illegal-clause-failed
@@ -38,20 +39,22 @@ returns-in-Ok-explain_illegal-clause-failed g c =
     let asked = c.args.asked.now in
     let net = c.in-Ok.inputs.net in
     let trace = c.in-Ok.inputs.trace in
-    let file = c.in-Ok-explained_journal.file in
+    let file = c.in-Ok-load_journal_file.file in
     let read = file.read in
     let held = rw (c.net.ensures, c.trace.ensures) at c.in-Ok.ensures.held in
     let holds = rw (c.in-Ok.ensures.left.files, c.journal-name.ensures) at
-    c.in-Ok-explained_journal.ensures.held in (
-      illegal_fails o asked net trace read.journal read.stamps c.journal-name.result.now
-          c.in-Ok-Illegal.entry c.journal-name.ensures held
-          (rw c.net.ensures at c.in-Ok.ensures.one)
-          (journal_held o net asked.journal file.text read.journal read.stamps read.says_complete
-          holds c.in-Ok-explained_journal.ensures.read)
-          (rw c.in-Ok-Illegal.field-0-is at c.in-Ok-Illegal.ensures),
-      inr refl,
+    c.in-Ok-load_journal_file.ensures.held in (
+      (
+        illegal_fails o asked net trace read.journal read.stamps c.journal-name.result.now
+            c.in-Ok-Illegal.entry c.journal-name.ensures held
+            (rw c.net.ensures at c.in-Ok.ensures.one)
+            (journal_held o net asked.journal file.text read.journal read.stamps
+            read.says_complete holds c.in-Ok-load_journal_file.ensures.read)
+            (rw c.in-Ok-Illegal.field-0-is at c.in-Ok-Illegal.ensures),
+        inr refl,
+      ),
       illegal_explained o asked net trace c.journal-name.result.now file.text
           c.in-Ok-explain_illegal.explanation read.journal read.stamps read.says_complete
           c.in-Ok-Illegal.entry c.journal-name.ensures held holds
-          c.in-Ok-explained_journal.ensures.read c.in-Ok-explain_illegal.ensures,
+          c.in-Ok-load_journal_file.ensures.read c.in-Ok-explain_illegal.ensures,
     )

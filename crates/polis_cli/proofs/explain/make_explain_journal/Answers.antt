@@ -1,6 +1,5 @@
 use Rattle.std.proofs.Common.{refl}
 use Rattle.polis_cli.specs.Explain.{explain_journal_meaning}
-use Rattle.polis_cli.specs.Explanations.{ExplainsReplay}
 use Rattle.polis_cli.proofs.ExplainMeaning.{journal_made}
 use Rattle.polis_cli.proofs.IsExplained.{judging_explained}
 use Rattle.polis_cli.proofs.IsMade.{product_is}
@@ -16,7 +15,5 @@ returns-in-Ok-print_legal-clause-made g c =
 
 pub returns-in-Err-clause-made : goal.returns-in-Err-clause-made
 returns-in-Err-clause-made g c =
-    let asked = c.args.asked.now in
-    judging_explained (explain_journal_meaning asked) (g.H.Host.files c.args.host.now)
-    (ExplainsReplay asked) c.in-Err.failure refl refl (λ told name cause more h. h)
-    c.in-Err.ensures.failed
+    judging_explained (explain_journal_meaning c.args.asked.now) (g.H.Host.files c.args.host.now)
+    c.in-Err.failure refl refl c.in-Err.ensures.failed

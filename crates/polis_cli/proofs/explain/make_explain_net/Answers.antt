@@ -2,9 +2,10 @@ use Rattle.std.proofs.Common.{refl}
 use Rattle.polis_base.specs.declared.limits.TheConstants.{TEXT_MAX}
 use Rattle.polis_cli.specs.Explain.{explain_net_meaning}
 use Rattle.polis_cli.specs.Explanations.{ExplainsFile}
+use Rattle.polis_cli.specs.Meanings.{explains_by}
 use Rattle.polis_cli.proofs.ExplainMeaning.{net_made}
-use Rattle.polis_cli.proofs.IsExplained.{net_explained, files_explained}
-use Rattle.polis_cli.proofs.IsMade.{product_is}
+use Rattle.polis_cli.proofs.IsExplained.{files_explained}
+use Rattle.polis_cli.proofs.IsMade.{net_explained, product_is}
 use Rattle.polis_cli.proofs.explain.make_explain_net.Goals as goal
 
 pub returns-in-Ok-print_accepted-clause-made : goal.returns-in-Ok-print_accepted-clause-made
@@ -18,7 +19,6 @@ pub returns-in-Err-clause-made : goal.returns-in-Err-clause-made
 returns-in-Err-clause-made g c =
     let check = c.args.check.now in
     let o = g.H.Host.files c.args.host.now in
-    files_explained (explain_net_meaning check) o (ExplainsFile TEXT_MAX) c.in-Err.failure refl
-    (λ told name cause more h. h)
-    (net_explained check.net o (ExplainsFile TEXT_MAX) c.in-Err.failure
+    files_explained (explain_net_meaning check) o c.in-Err.failure refl
+    (net_explained check.net o (explains_by (ExplainsFile TEXT_MAX)) c.in-Err.failure
     (rw c.net.ensures at c.in-Err.ensures.failed))

@@ -1,7 +1,5 @@
 use Rattle.std.proofs.Common.{refl}
-use Rattle.polis_base.specs.declared.limits.TheConstants.{TEXT_MAX}
 use Rattle.polis_cli.specs.Explain.{explain_trace_meaning}
-use Rattle.polis_cli.specs.Explanations.{ExplainsFile}
 use Rattle.polis_cli.proofs.ExplainMeaning.{items_made}
 use Rattle.polis_cli.proofs.IsExplained.{files_explained}
 use Rattle.polis_cli.proofs.IsMade.{product_is}
@@ -17,4 +15,4 @@ returns-in-Ok-print_items-clause-made g c =
 pub returns-in-Err-clause-made : goal.returns-in-Err-clause-made
 returns-in-Err-clause-made g c =
     files_explained (explain_trace_meaning c.args.asked.now) (g.H.Host.files c.args.host.now)
-    (ExplainsFile TEXT_MAX) c.in-Err.failure refl (λ told name cause more h. h) (rw (c.net.ensures, c.trace.ensures) at c.in-Err.ensures.failed)
+    c.in-Err.failure refl (rw (c.net.ensures, c.trace.ensures) at c.in-Err.ensures.failed)

@@ -2,6 +2,7 @@ use Rattle.std.proofs.Common.{inl}
 use Rattle.polis_base.specs.declared.limits.TheConstants.{LONG_FILE_MAX}
 use Rattle.polis_cli.specs.ImageFiles.{ImageFails}
 use Rattle.polis_cli.specs.Inputs.{LoadFails}
+use Rattle.polis_cli.specs.Meanings.{explains_nothing}
 use Rattle.polis_cli.proofs.ImageFails.{image_faulty, image_held}
 use Rattle.polis_cli.proofs.IsMade.{file_fails}
 use Rattle.polis_cli.proofs.load.load_image.Goals as goal
@@ -16,8 +17,8 @@ pub returns-in-Err-clause-failed : goal.returns-in-Err-clause-failed
 returns-in-Err-clause-failed g c =
     let name = c.args.name.now in
     file_fails name (g.H.Host.files c.args.host.now) (λ files. LoadFails files LONG_FILE_MAX name)
-    (λ files. ImageFails files c.args.net.now name) c.in-Err.failure (λ files cause h. inl h)
-    c.in-Err.ensures.failed
+    (λ files. ImageFails files c.args.net.now name) explains_nothing c.in-Err.failure
+    (λ files cause h. inl h) c.in-Err.ensures.failed
 
 pub returns-in-Err-Cause-clause-failed : goal.returns-in-Err-Cause-clause-failed
 returns-in-Err-Cause-clause-failed g c = (

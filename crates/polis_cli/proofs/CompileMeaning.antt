@@ -16,7 +16,6 @@ use Rattle.polis_cli.specs.inner.Made.{IsMadeProduct}
 use Rattle.polis_cli.proofs.WhereTold.{told_from}
 use Rattle.polis_cli.proofs.NetMeaning.{net_lawful}
 use Rattle.polis_cli.proofs.IsMade.{product_made}
-use Rattle.polis_cli.proofs.Saves.{one_save}
 
 pub compile_lawful : (compile : NetStemWords) → IsLawful (compile_meaning compile)
 compile_lawful compile =
@@ -32,15 +31,3 @@ compile_made o compile net product held (parts, right, made) =
     (told_from o (λ files. HoldsNet files compile.net net) _
     (λ files h. record { net = net; holds_net = h; parts = parts; right = right; made = made })
     held)
-
--- the parts of a compilation's product
-pub compile_is : (compile : NetStemWords) (net : Network) (parts : List Part) (none all : List Save)
-    (saving : Save) (stem text shown : List ℕ) → none ≡ [] → all ≡ none ++ saving ∷ []
-    → saving ≡ record { name = stem ++ codes ".lst"; text = text } → stem ≡ compile.stem
-    → text ≡ ListingText net parts → shown ≡ (compile_product compile net parts).shown
-    → ◌≡◌ {A = Product} (record { saves = all; shown = shown; end = ends.Done })
-    (compile_product compile net parts)
-compile_is compile net parts none all saving stem text shown n e s st te sh =
-    let saves = one_save none all saving (record { name = stem ++ codes ".lst"; text = text }) n e s
-    ∙ (λ i. record { name = st i ++ codes ".lst"; text = te i } ∷ []) in
-    λ i. record { saves = saves i; shown = sh i; end = ends.Done }

@@ -18,7 +18,6 @@ use Rattle.polis_cli.specs.inner.Made.{IsMadeProduct}
 use Rattle.polis_cli.proofs.WhereTold.{told_from}
 use Rattle.polis_cli.proofs.NetMeaning.{net_lawful}
 use Rattle.polis_cli.proofs.IsMade.{product_made}
-use Rattle.polis_cli.proofs.Saves.{one_save}
 
 pub draw_lawful : (draw : NetStemWords) → IsLawful (draw_meaning draw)
 draw_lawful draw =
@@ -34,15 +33,3 @@ draw_made o draw net product held (parts, right, made) =
     (told_from o (λ files. HoldsNet files draw.net net) _
     (λ files h. record { net = net; holds_net = h; parts = parts; right = right; made = made })
     held)
-
--- the parts of a drawing's product
-pub draw_is : (draw : NetStemWords) (net : Network) (parts : List Part) (none all : List Save)
-    (saving : Save) (stem text shown : List ℕ) → none ≡ [] → all ≡ none ++ saving ∷ []
-    → saving ≡ record { name = stem ++ codes ".dot"; text = text } → stem ≡ draw.stem
-    → text ≡ DrawingText net (graphs_in parts) → shown ≡ (draw_product draw net parts).shown
-    → ◌≡◌ {A = Product} (record { saves = all; shown = shown; end = ends.Done })
-    (draw_product draw net parts)
-draw_is draw net parts none all saving stem text shown n e s st te sh =
-    let saves = one_save none all saving (record { name = stem ++ codes ".dot"; text = text }) n e s
-    ∙ (λ i. record { name = st i ++ codes ".dot"; text = te i } ∷ []) in
-    λ i. record { saves = saves i; shown = sh i; end = ends.Done }

@@ -28,7 +28,6 @@ use Rattle.polis_cli.specs.inner.Made.{IsMadeProduct, IsMadeFailure, FileFails}
 use Rattle.polis_cli.proofs.WhereTold.{told_from}
 use Rattle.polis_cli.proofs.InputsFail.{net_refused, net_unfound}
 use Rattle.polis_cli.proofs.IsMade.{product_made, none_told}
-use Rattle.polis_cli.proofs.Saves.{one_save}
 
 image_refused : (image : NetStemWords) (files : Files) (name : List ℕ) (cause : Cause)
     → FailsImage image files name cause → cause_status cause ≡ Refused
@@ -75,18 +74,6 @@ image_made o image net product held p =
       within = p.within;
       made = p.made;
     }) held)
-
--- the parts of an image's product
-pub image_is : (image : NetStemWords) (none all : List Save) (saving : Save)
-    (stem bytes shown : List ℕ) → none ≡ [] → all ≡ none ++ saving ∷ []
-    → saving ≡ record { name = stem ++ codes ".img"; text = bytes } → stem ≡ image.stem
-    → shown ≡ image_text (length bytes)
-    → ◌≡◌ {A = Product} (record { saves = all; shown = shown; end = ends.Done })
-    (image_product image bytes)
-image_is image none all saving stem bytes shown n e s st sh =
-    let saves = one_save none all saving (record { name = stem ++ codes ".img"; text = bytes }) n e s
-    ∙ (λ i. record { name = st i ++ codes ".img"; text = bytes } ∷ []) in
-    λ i. record { saves = saves i; shown = sh i; end = ends.Done }
 
 -- the network isn't loaded, or isn't accepted
 pub net_fails : (o : Option Files) (image : NetStemWords) (failure : Failure)

@@ -16,7 +16,6 @@ use Rattle.polis_cli.specs.Meanings.{explains_nothing}
 use Rattle.polis_cli.specs.inner.Lawful.{IsLawful}
 use Rattle.polis_cli.specs.inner.Made.{IsMadeProduct}
 use Rattle.polis_cli.proofs.WhereTold.{told_from}
-use Rattle.polis_cli.proofs.Saves.{one_save}
 use Rattle.polis_cli.proofs.IsMade.{product_made}
 use Rattle.polis_cli.proofs.ReplayMeaning.{judging_lawful}
 
@@ -42,17 +41,3 @@ migrate_made o migrate net trace journal complete product judged made =
       judged = h;
       made = made;
     }) judged)
-
--- the parts of a migration's product
-pub migrate_is : (migrate : ReplayStemWords) (net : Network) (journal : List Entry) (complete : Bool)
-    (none all : List Save) (saving : Save) (stem text shown : List ℕ) → none ≡ []
-    → all ≡ none ++ saving ∷ []
-    → saving ≡ record { name = stem ++ codes ".jnl"; text = text } → stem ≡ migrate.stem
-    → text ≡ stamped_journal_text net journal (least net journal) complete
-    → shown ≡ (migrate_product migrate net journal complete).shown
-    → ◌≡◌ {A = Product} (record { saves = all; shown = shown; end = ends.Done })
-    (migrate_product migrate net journal complete)
-migrate_is migrate net journal complete none all saving stem text shown n e s st te sh =
-    let saves = one_save none all saving (record { name = stem ++ codes ".jnl"; text = text }) n e s
-    ∙ (λ i. record { name = st i ++ codes ".jnl"; text = te i } ∷ []) in
-    λ i. record { saves = saves i; shown = sh i; end = ends.Done }

@@ -5,6 +5,8 @@ use Rattle.polis_base.specs.Host.{Files, bytes_at, Changes}
 use Rattle.polis_base.specs.inner.Held.{held_there, held_elsewhere}
 use Rattle.polis_words.specs.declared.status.Status.{Status}
 use Rattle.polis_words.specs.declared.status.Status.TheVariants.{WriteFault, NoMemory}
+use Rattle.polis_cli.specs.declared.product.Product.{Product}
+use Rattle.polis_cli.specs.Products.{saves_one}
 use Rattle.polis_cli.specs.Saves.{Save, files_after, MadeSome, IsOther, AreApart, AreHeld}
 use Rattle.polis_cli.specs.Shown.{ShowsPrefix}
 use Rattle.polis_cli.specs.inner.Shown.{no_memory_line}
@@ -161,3 +163,10 @@ three_saves none one two all a b c x y z n e f g s t u =
     g ∙ ap (λ (l : List Save). l ++ c ∷ [])
     (f ∙ ap (λ (l : List Save). l ++ b ∷ []) (e ∙ ap (λ (l : List Save). l ++ a ∷ []) n))
     ∙ (λ i. s i ∷ t i ∷ u i ∷ [])
+
+-- the parts of a product that saves one text
+pub one_made : (ending stem stem_is text text_is shown shown_is : List ℕ) (product : Product)
+    → product ≡ saves_one (stem ++ ending) text shown → stem ≡ stem_is → text ≡ text_is
+    → shown ≡ shown_is → product ≡ saves_one (stem_is ++ ending) text_is shown_is
+one_made ending stem stem_is text text_is shown shown_is product p st te sh =
+    p ∙ (λ i. saves_one (st i ++ ending) (te i) (sh i))

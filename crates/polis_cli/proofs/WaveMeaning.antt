@@ -15,7 +15,6 @@ use Rattle.polis_cli.specs.Meanings.{explains_nothing}
 use Rattle.polis_cli.specs.inner.Lawful.{IsLawful}
 use Rattle.polis_cli.specs.inner.Made.{IsMadeProduct}
 use Rattle.polis_cli.proofs.WhereTold.{told_from}
-use Rattle.polis_cli.proofs.Saves.{one_save}
 use Rattle.polis_cli.proofs.IsMade.{product_made}
 use Rattle.polis_cli.proofs.ReplayMeaning.{judging_lawful}
 
@@ -41,17 +40,3 @@ wave_made o wave net trace journal complete product judged made =
       judged = h;
       made = made;
     }) judged)
-
--- the parts of a wave's product
-pub wave_is : (wave : ReplayStemWords) (net : Network) (journal : List Entry)
-    (none all : List Save) (saving : Save) (stem text shown : List ℕ) → none ≡ []
-    → all ≡ none ++ saving ∷ []
-    → saving ≡ record { name = stem ++ codes ".vcd"; text = text } → stem ≡ wave.stem
-    → text ≡ wave_text net journal
-    → shown ≡ (wave_product wave net journal).shown
-    → ◌≡◌ {A = Product} (record { saves = all; shown = shown; end = ends.Done })
-    (wave_product wave net journal)
-wave_is wave net journal none all saving stem text shown n e s st te sh =
-    let saves = one_save none all saving (record { name = stem ++ codes ".vcd"; text = text }) n e s
-    ∙ (λ i. record { name = st i ++ codes ".vcd"; text = te i } ∷ []) in
-    λ i. record { saves = saves i; shown = sh i; end = ends.Done }

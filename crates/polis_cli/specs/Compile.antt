@@ -1,5 +1,5 @@
 -- What `compile` makes.
-use Rattle.std.specs.Prelude.{◌≡◌, true, List, [], ◌∷◌}
+use Rattle.std.specs.Prelude.{◌≡◌, true, List}
 use Rattle.polis_base.specs.Host.{Files}
 use Rattle.transition_table.specs.declared.network.Network.{Network}
 use Rattle.task_code.specs.Listings.{Part, ListingText}
@@ -7,19 +7,16 @@ use Rattle.machine_compiler.specs.Parts.{AreRightParts}
 use Rattle.machine_compiler.specs.Lines.{lengths_text}
 use Rattle.polis_words.specs.NetStem.{NetStemWords}
 use Rattle.polis_words.specs.Compile.{compiled_name}
-use Rattle.polis_cli.specs.declared.product.End.TheVariants as ends
 use Rattle.polis_cli.specs.declared.product.Product.{Product}
 use Rattle.polis_cli.specs.Inputs.{HoldsNet, AcceptsNet, FailsNet}
+use Rattle.polis_cli.specs.Products.{saves_one}
 use Rattle.polis_cli.specs.Meanings.{Meaning, explains_nothing, never_refused, finds_nothing, ends_done}
 
 -- the product saves the listing of the compiled machines, and shows how long their graphs and their
 -- code are
 abbrev pub compile_product : NetStemWords → Network → List Part → Product
-compile_product compile net parts = record {
-  saves = record { name = compiled_name compile; text = ListingText net parts } ∷ [];
-  shown = lengths_text net parts;
-  end = ends.Done;
-}
+compile_product compile net parts =
+    saves_one (compiled_name compile) (ListingText net parts) (lengths_text net parts)
 
 -- the file holds a network that is accepted, each of its machines was compiled rightly, and the
 -- product is that of its compilation

@@ -1,5 +1,5 @@
 -- What `draw` makes.
-use Rattle.std.specs.Prelude.{◌≡◌, List, [], ◌∷◌}
+use Rattle.std.specs.Prelude.{◌≡◌, List}
 use Rattle.polis_base.specs.Host.{Files}
 use Rattle.transition_table.specs.declared.network.Network.{Network}
 use Rattle.task_code.specs.Listings.{Part}
@@ -8,20 +8,17 @@ use Rattle.machine_compiler.specs.Parts.{AreRightParts, graphs_in}
 use Rattle.machine_compiler.specs.Lines.{lengths_text}
 use Rattle.polis_words.specs.NetStem.{NetStemWords}
 use Rattle.polis_words.specs.Draw.{drawing_name}
-use Rattle.polis_cli.specs.declared.product.End.TheVariants as ends
 use Rattle.polis_cli.specs.declared.product.Product.{Product}
 use Rattle.polis_cli.specs.Compile.{compile_meaning}
 use Rattle.polis_cli.specs.Inputs.{HoldsNet}
+use Rattle.polis_cli.specs.Products.{saves_one}
 use Rattle.polis_cli.specs.Meanings.{Meaning}
 
 -- the product saves the drawing of the network and of the graphs of the compiled machines, and
 -- shows how long these and their code are
 abbrev pub draw_product : NetStemWords → Network → List Part → Product
-draw_product draw net parts = record {
-  saves = record { name = drawing_name draw; text = DrawingText net (graphs_in parts) } ∷ [];
-  shown = lengths_text net parts;
-  end = ends.Done;
-}
+draw_product draw net parts =
+    saves_one (drawing_name draw) (DrawingText net (graphs_in parts)) (lengths_text net parts)
 
 -- the file holds a network that is accepted, each of its machines was compiled rightly, and the
 -- product is that of its drawing

@@ -1,5 +1,5 @@
 -- What `image` makes.
-use Rattle.std.specs.Prelude.{◌≡◌, ◌⊎◌, ℕ, ◌<◌, ◌≤◌, true, List, [], ◌∷◌, length}
+use Rattle.std.specs.Prelude.{◌≡◌, ◌⊎◌, ℕ, ◌<◌, ◌≤◌, true, List, length}
 use Rattle.polis_base.specs.declared.limits.TheConstants.{LONG_FILE_MAX}
 use Rattle.polis_base.specs.Host.{Files}
 use Rattle.transition_table.specs.declared.network.Network.{Network}
@@ -14,9 +14,9 @@ use Rattle.polis_words.specs.declared.cause.Cause.TheVariants.{ImageLong}
 use Rattle.polis_words.specs.NetStem.{NetStemWords}
 use Rattle.polis_words.specs.Image.{image_name}
 use Rattle.polis_words.specs.Texts.{image_text}
-use Rattle.polis_cli.specs.declared.product.End.TheVariants as ends
 use Rattle.polis_cli.specs.declared.product.Product.{Product}
 use Rattle.polis_cli.specs.Inputs.{HoldsNet, AcceptsNet, NetFails}
+use Rattle.polis_cli.specs.Products.{saves_one}
 use Rattle.polis_cli.specs.Meanings.{Meaning, explains_nothing, finds_nothing, ends_done_or_refused}
 
 -- the image of a network's machines: the name and sizes of each, with the code that it was compiled
@@ -26,11 +26,8 @@ image_of_parts net parts = image_of net.machines (codes_in parts)
 
 -- the product saves the bytes, and shows how many these are
 abbrev pub image_product : NetStemWords → List ℕ → Product
-image_product image bytes = record {
-  saves = record { name = image_name image; text = bytes } ∷ [];
-  shown = image_text (length bytes);
-  end = ends.Done;
-}
+image_product image bytes =
+    saves_one (image_name image) bytes (image_text (length bytes))
 
 -- The file holds a network that is accepted, each of its machines was compiled rightly, these are
 -- the bytes of their image, no more than a file may have, and the product is that of these.

@@ -1,5 +1,5 @@
 -- What `migrate` makes of a journal.
-use Rattle.std.specs.Prelude.{◌≡◌, Bool, true, List, [], ◌∷◌, length}
+use Rattle.std.specs.Prelude.{◌≡◌, Bool, true, List, length}
 use Rattle.polis_base.specs.Host.{Files}
 use Rattle.transition_table.specs.declared.network.Network.{Network}
 use Rattle.journals.specs.declared.entry.Entry.{Entry}
@@ -9,21 +9,16 @@ use Rattle.journal_text.specs.Texts.{stamped_journal_text}
 use Rattle.polis_words.specs.ReplayStem.{ReplayStemWords}
 use Rattle.polis_words.specs.Migrate.{migrated_name}
 use Rattle.polis_words.specs.Texts.{migrated_text}
-use Rattle.polis_cli.specs.declared.product.End.TheVariants as ends
 use Rattle.polis_cli.specs.declared.product.Product.{Product}
+use Rattle.polis_cli.specs.Products.{saves_one}
 use Rattle.polis_cli.specs.Meanings.{Meaning, explains_nothing, never_refused, finds_illegal, ends_judged}
 use Rattle.polis_cli.specs.Replay.{IsJudged, AcceptsReplay, IsIllegalReplay, FailsReplay}
 
 -- the product saves the journal with its least stamps, and shows how long it is
 abbrev pub migrate_product : ReplayStemWords → Network → List Entry → Bool → Product
-migrate_product migrate net journal complete = record {
-  saves = record {
-    name = migrated_name migrate;
-    text = stamped_journal_text net journal (least net journal) complete;
-  } ∷ [];
-  shown = migrated_text (length journal);
-  end = ends.Done;
-}
+migrate_product migrate net journal complete = saves_one (migrated_name migrate)
+    (stamped_journal_text net journal (least net journal) complete)
+    (migrated_text (length journal))
 
 -- the files hold a legal journal, and the product is that of its migration
 pub record MakesMigrate (migrate : ReplayStemWords) (files : Files) (product : Product) : Type 0 where

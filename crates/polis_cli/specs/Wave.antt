@@ -1,5 +1,5 @@
 -- What `wave` makes of a journal.
-use Rattle.std.specs.Prelude.{◌≡◌, Bool, List, [], ◌∷◌, length}
+use Rattle.std.specs.Prelude.{◌≡◌, Bool, List, length}
 use Rattle.polis_base.specs.Host.{Files}
 use Rattle.transition_table.specs.declared.network.Network.{Network}
 use Rattle.journals.specs.declared.entry.Entry.{Entry}
@@ -8,18 +8,15 @@ use Rattle.wave_text.specs.Waves.{wave_text}
 use Rattle.polis_words.specs.ReplayStem.{ReplayStemWords}
 use Rattle.polis_words.specs.Texts.{waved_text}
 use Rattle.polis_words.specs.Wave.{wave_name}
-use Rattle.polis_cli.specs.declared.product.End.TheVariants as ends
 use Rattle.polis_cli.specs.declared.product.Product.{Product}
+use Rattle.polis_cli.specs.Products.{saves_one}
 use Rattle.polis_cli.specs.Meanings.{Meaning}
 use Rattle.polis_cli.specs.Replay.{IsJudged, replay_meaning}
 
 -- the product saves the wave of the journal, and shows how long the journal is
 abbrev pub wave_product : ReplayStemWords → Network → List Entry → Product
-wave_product wave net journal = record {
-  saves = record { name = wave_name wave; text = wave_text net journal } ∷ [];
-  shown = waved_text (length journal);
-  end = ends.Done;
-}
+wave_product wave net journal =
+    saves_one (wave_name wave) (wave_text net journal) (waved_text (length journal))
 
 -- the files hold a legal journal, and the product is that of its wave
 pub record MakesWave (wave : ReplayStemWords) (files : Files) (product : Product) : Type 0 where

@@ -7,9 +7,9 @@ ghost use Rattle.polis_cli.specs.inner.Left.{LeftByLoads, fails_unread};
 ghost use Rattle.polis_cli.specs.inner.Made.{IsMade};
 
 use crate::load::{Detail, load_net};
-use crate::product::{End, Product, Saving};
+use crate::product::Product;
 use machine_compiler::{Texts, compile_texts};
-use polis_base::{Host, List, NoMemory};
+use polis_base::{Host, NoMemory};
 use polis_words::{Failure, NetStem};
 use std::alloc::Global;
 use transition_table::Network;
@@ -20,14 +20,8 @@ fn product_of(alloc: Global, asked: &NetStem<'_>, net: &Network) -> Result<Produ
     ensures { IfOk result (λ product. IsCompileProduct asked.now net.now product) }
 {
     let Texts { listing, lengths } = compile_texts(alloc, net)?;
-    let saving = Saving::new(alloc, asked.stem(), ".lst", listing)?;
-    let mut saves = List::new(alloc);
-    saves.push(saving)?;
-    Ok(Product {
-        saves,
-        shown: lengths,
-        end: End::Done,
-    })
+    let product = Product::saving_one(alloc, asked.stem(), ".lst", listing, lengths)?;
+    Ok(product)
 }
 
 /// What a compilation makes of the file.

@@ -7,10 +7,10 @@ ghost use Rattle.polis_cli.specs.inner.Left.{LeftByLoads, fails_unread};
 ghost use Rattle.polis_cli.specs.inner.Made.{IsMade};
 
 use crate::load::{Detail, load_net};
-use crate::product::{End, Product, Saving};
+use crate::product::Product;
 use graph_drawing::push_drawing;
 use machine_compiler::{Graphs, compile_graphs};
-use polis_base::{Bytes, Host, List, NoMemory};
+use polis_base::{Bytes, Host, NoMemory};
 use polis_words::{Failure, NetStem};
 use std::alloc::Global;
 use transition_table::Network;
@@ -23,14 +23,8 @@ fn product_of(alloc: Global, asked: &NetStem<'_>, net: &Network) -> Result<Produ
     let Graphs { graphs, lengths } = compile_graphs(alloc, net)?;
     let mut text = Bytes::new(alloc);
     push_drawing(net, &graphs, &mut text)?;
-    let saving = Saving::new(alloc, asked.stem(), ".dot", text)?;
-    let mut saves = List::new(alloc);
-    saves.push(saving)?;
-    Ok(Product {
-        saves,
-        shown: lengths,
-        end: End::Done,
-    })
+    let product = Product::saving_one(alloc, asked.stem(), ".dot", text, lengths)?;
+    Ok(product)
 }
 
 /// What drawing a network makes of the file.

@@ -10,9 +10,9 @@ ghost use Rattle.polis_cli.specs.inner.Made.{IsMade};
 
 use crate::accept::FileFault;
 use crate::load::{Detail, load_net};
-use crate::product::{End, Product, Saving};
+use crate::product::Product;
 use machine_compiler::compile_codes;
-use polis_base::{Bytes, Host, List, NoMemory};
+use polis_base::{Bytes, Host, NoMemory};
 use polis_words::{Cause, Failure, NetStem, print_image};
 use std::alloc::Global;
 use task_image::{EncodeError, Image, encode};
@@ -34,14 +34,8 @@ fn product_of(alloc: Global, asked: &NetStem<'_>, bytes: Bytes) -> Result<Produc
     ensures { IfOk result (λ product. product ≡ image_product asked.now bytes) }
 {
     let shown = print_image(alloc, bytes.as_slice().len() as u64)?;
-    let saving = Saving::new(alloc, asked.stem(), ".img", bytes)?;
-    let mut saves = List::new(alloc);
-    saves.push(saving)?;
-    Ok(Product {
-        saves,
-        shown,
-        end: End::Done,
-    })
+    let product = Product::saving_one(alloc, asked.stem(), ".img", bytes, shown)?;
+    Ok(product)
 }
 
 // The product of the image of a network, or why there is none.

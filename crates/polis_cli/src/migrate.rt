@@ -6,10 +6,10 @@ ghost use Rattle.polis_cli.specs.Migrate.{migrate_product, migrate_meaning};
 ghost use Rattle.polis_cli.specs.inner.Left.{LeftByLoads, fails_unread};
 ghost use Rattle.polis_cli.specs.inner.Made.{IsMade};
 
-use crate::product::{End, Product, Saving};
+use crate::product::Product;
 use crate::replay::{Judged, judge_journal};
 use crate::stamp::stamped_text;
-use polis_base::{Host, List, NoMemory};
+use polis_base::{Host, NoMemory};
 use polis_words::{Failure, ReplayStem, print_migrated};
 use std::alloc::Global;
 
@@ -23,14 +23,8 @@ fn product_of(alloc: Global, asked: &ReplayStem<'_>, judged: &Judged) -> Result<
 {
     let text = stamped_text(alloc, &judged.inputs, &judged.read.journal, judged.complete)?;
     let shown = print_migrated(alloc, judged.read.journal.len())?;
-    let saving = Saving::new(alloc, asked.stem(), ".jnl", text)?;
-    let mut saves = List::new(alloc);
-    saves.push(saving)?;
-    Ok(Product {
-        saves,
-        shown,
-        end: End::Done,
-    })
+    let product = Product::saving_one(alloc, asked.stem(), ".jnl", text, shown)?;
+    Ok(product)
 }
 
 /// What a migration makes of the files.

@@ -102,3 +102,28 @@ pub struct Product {
     /// How the call then ends.
     pub end: End,
 }
+
+impl Product {
+    ghost use Rattle.polis_cli.specs.Products.{saves_one};
+
+    /// What saves one text, under a stem with an ending, and shows another.
+    pub fn saving_one(
+        alloc: Global,
+        stem: &str,
+        ending: &str,
+        text: Bytes,
+        shown: Bytes,
+    ) -> Result<Product, NoMemory>
+        ensures { IfOk result
+            (λ product. product ≡ saves_one (stem.now ++ ending.now) text shown) }
+    {
+        let saving = Saving::new(alloc, stem, ending, text)?;
+        let mut saves = List::new(alloc);
+        saves.push(saving)?;
+        Ok(Product {
+            saves,
+            shown,
+            end: End::Done,
+        })
+    }
+}

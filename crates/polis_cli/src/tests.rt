@@ -2,7 +2,6 @@
 mod bounds;
 mod calls;
 mod cases;
-mod cells;
 mod comparisons;
 mod counts;
 mod demos;
@@ -23,7 +22,6 @@ mod printed;
 mod replays;
 mod reports;
 mod rows;
-mod steps;
 mod system;
 mod traces;
 mod workers;
@@ -32,7 +30,6 @@ use crate::tests::cases::{
     CHECK, COMPILE, Case, PRESS, PRESSED, REFUSED, RUN, Repeated, UNREAD, UNWRITTEN, call, host_of,
     is_held, read_only, text_of, tried, try_cases, try_lines,
 };
-use crate::tests::faults::try_check;
 use crate::tests::listings::LAMP_LISTING;
 use crate::tests::networks::LAMP;
 use event_buffer::OpenGate;
@@ -172,11 +169,6 @@ const FAULTS: &[Case<'_>] = &[
     },
 ];
 
-#[test]
-fn tells_of_faults(rt: HostRuntime) -> Result<(), Fail> {
-    try_cases(&rt, rt.alloc(), FAULTS)
-}
-
 // Calls that name a file that isn't there.
 const ABSENT: &[Case<'_>] = &[
     Case {
@@ -201,25 +193,25 @@ const ABSENT: &[Case<'_>] = &[
         shown: "refused net absent\n",
         ..REFUSED
     },
+    Case {
+        words: &["explain", "net"],
+        net: None,
+        shown: "refused net absent\nnet: no file has this name\n",
+        ..REFUSED
+    },
 ];
 
 #[test]
-fn refuses_absent_files(rt: HostRuntime) -> Result<(), Fail> {
+fn tells_of_faults_and_absent_files(rt: HostRuntime) -> Result<(), Fail> {
+    try_cases(&rt, rt.alloc(), FAULTS)?;
     try_cases(&rt, rt.alloc(), ABSENT)
 }
 
-// The lamp's text, of 216 bytes, padded to as many bytes as a network may have, and to one more.
+// The lamp's text, of 216 bytes, padded to as many bytes as a network may have.
 const AS_LONG: &Repeated<'_> = &Repeated {
     begin: LAMP,
     part: "\n",
     count: 4_194_304 - 216,
-    end: "",
-};
-
-const TOO_LONG: &Repeated<'_> = &Repeated {
-    begin: LAMP,
-    part: "\n",
-    count: 4_194_305 - 216,
     end: "",
 };
 
@@ -241,8 +233,7 @@ fn runs<T: Threads + Wait + Sync>(
 }
 
 #[test]
-fn refuses_long_files(rt: HostRuntime) -> Result<(), Fail> {
+fn takes_a_long_file(rt: HostRuntime) -> Result<(), Fail> {
     assert!(rt; runs(&rt, rt.alloc(), AS_LONG)?);
-    try_check(&rt, rt.alloc(), TOO_LONG, "refused net long\n", 1)?;
     Ok(())
 }

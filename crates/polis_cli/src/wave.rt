@@ -5,9 +5,9 @@ ghost use Rattle.polis_cli.specs.Wave.{wave_meaning, wave_product};
 ghost use Rattle.polis_cli.specs.inner.Left.{LeftByLoads, fails_unread};
 ghost use Rattle.polis_cli.specs.inner.Made.{IsMade};
 
-use crate::product::{End, Product, Saving};
+use crate::product::Product;
 use crate::replay::{Judged, judge_journal};
-use polis_base::{Bytes, Host, List, NoMemory};
+use polis_base::{Bytes, Host, NoMemory};
 use polis_words::{Failure, ReplayStem, print_waved};
 use std::alloc::Global;
 use wave_text::push_wave;
@@ -22,14 +22,8 @@ fn product_of(alloc: Global, asked: &ReplayStem<'_>, judged: &Judged) -> Result<
     let mut text = Bytes::new(alloc);
     push_wave(alloc, &judged.inputs.net, &judged.read.journal, &mut text)?;
     let shown = print_waved(alloc, judged.read.journal.len())?;
-    let saving = Saving::new(alloc, asked.stem(), ".vcd", text)?;
-    let mut saves = List::new(alloc);
-    saves.push(saving)?;
-    Ok(Product {
-        saves,
-        shown,
-        end: End::Done,
-    })
+    let product = Product::saving_one(alloc, asked.stem(), ".vcd", text, shown)?;
+    Ok(product)
 }
 
 /// What saving a journal as a wave makes of the files.

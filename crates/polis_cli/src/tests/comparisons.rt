@@ -178,23 +178,25 @@ fn refuses_other_networks(rt: HostRuntime) -> Result<(), Fail> {
     Ok(())
 }
 
-// Command lines over a network that stands in two files, the call of the host that fails, if one
-// does, and how the call ends.
-const CALLS: &[(&str, Option<u64>, Status, &str)] = &[
-    (EQUIV, None, Status::Done, "same 1\n"),
-    ("equiv net net", None, Status::Done, "same 1\n"),
-    ("equiv net", None, Status::Usage, "usage\n"),
-    ("equiv net two three", None, Status::Usage, "usage\n"),
-    ("equiv net ", None, Status::Usage, "usage\n"),
+// A second network, command lines over both, the call of the host that fails, if one does, and how
+// the call ends. What is refused stays refused where the show fails.
+const CALLS: &[(&str, &str, Option<u64>, Status, &str)] = &[
+    (VALUE, EQUIV, None, Status::Done, "same 1\n"),
+    (VALUE, "equiv net net", None, Status::Done, "same 1\n"),
+    (VALUE, "equiv net", None, Status::Usage, "usage\n"),
+    (VALUE, "equiv net two three", None, Status::Usage, "usage\n"),
+    (VALUE, "equiv net ", None, Status::Usage, "usage\n"),
     (
+        VALUE,
         "equiv net none",
         None,
         Status::Refused,
         "refused none absent\n",
     ),
-    (EQUIV, Some(0), Status::ReadFault, "read fault net\n"),
-    (EQUIV, Some(1), Status::ReadFault, "read fault two\n"),
-    (EQUIV, Some(2), Status::WriteFault, ""),
+    (VALUE, EQUIV, Some(0), Status::ReadFault, "read fault net\n"),
+    (VALUE, EQUIV, Some(1), Status::ReadFault, "read fault two\n"),
+    (VALUE, EQUIV, Some(2), Status::WriteFault, ""),
+    (JOIN, EQUIV, Some(2), Status::Refused, ""),
 ];
 
 // Whether a call over such a network and another one ends so.
@@ -211,24 +213,9 @@ fn ends_over<T: Threads + Wait + Sync>(
 
 #[test]
 fn ends_comparisons(rt: HostRuntime) -> Result<(), Fail> {
-    for (number, (line, fails, status, shown)) in CALLS.iter().enumerate() {
-        let is_right = ends_over(&rt, rt.alloc(), VALUE, (line, *fails), (*status, shown))?;
+    for (number, (two, line, fails, status, shown)) in CALLS.iter().enumerate() {
+        let is_right = ends_over(&rt, rt.alloc(), two, (line, *fails), (*status, shown))?;
         expect(&rt, is_right, number);
     }
-    Ok(())
-}
-
-// What is refused stays refused where the show fails.
-#[test]
-fn refuses_where_the_show_fails(rt: HostRuntime) -> Result<(), Fail> {
-    assert!(rt;
-        ends_over(
-            &rt,
-            rt.alloc(),
-            JOIN,
-            (EQUIV, Some(2)),
-            (Status::Refused, "")
-        )?
-    );
     Ok(())
 }

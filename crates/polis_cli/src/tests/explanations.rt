@@ -202,27 +202,3 @@ fn explains_faults_of_long_texts(rt: HostRuntime) -> Result<(), Fail> {
     }
     Ok(())
 }
-
-const ABSENT: &Case<'_> = &Case {
-    words: NET,
-    net: None,
-    trace: None,
-    read_journal: None,
-    fails: &[],
-    torn: None,
-    status: Status::Refused,
-    shown: "refused net absent
-net: no file has this name
-",
-    outputs: None,
-    journal: None,
-    listing: None,
-    load_faults: 0,
-    write_faults: 0,
-};
-
-#[test]
-fn explains_that_a_file_is_missing(rt: HostRuntime) -> Result<(), Fail> {
-    tried(&rt, rt.alloc(), ABSENT, 0)?;
-    Ok(())
-}

@@ -63,11 +63,6 @@ const BY_TWO_FAULTS: &[Case<'_>] = &[
     },
 ];
 
-#[test]
-fn tells_of_faults_of_two_workers(rt: HostRuntime) -> Result<(), Fail> {
-    try_cases(&rt, rt.alloc(), BY_TWO_FAULTS)
-}
-
 // Shows and saves of which only some bytes are taken: what was torn shows, or holds, these. Then a
 // demo whose show fails, and a refusal after which no further call is made.
 const TORN: &[Case<'_>] = &[
@@ -112,6 +107,7 @@ const TORN: &[Case<'_>] = &[
 ];
 
 #[test]
-fn shows_a_part_of_what_is_torn(rt: HostRuntime) -> Result<(), Fail> {
+fn tells_of_calls_that_fail(rt: HostRuntime) -> Result<(), Fail> {
+    try_cases(&rt, rt.alloc(), BY_TWO_FAULTS)?;
     try_cases(&rt, rt.alloc(), TORN)
 }

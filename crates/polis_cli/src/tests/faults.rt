@@ -2,6 +2,7 @@
 use crate::tests::cases::{
     CHECK, Repeated, cut, expect_none, read_only, text_of, tried, tried_refusal,
 };
+use crate::tests::networks::LAMP;
 use polis_base::NoMemory;
 use polis_words::Status;
 use sample_networks::texts::PRESS_TRACE;
@@ -151,7 +152,8 @@ const ONE_MACHINE: &str = " machine m priority 0 { input g }";
 const ONE_EVENT: &str = " event g from env machine m priority 0 { input g }";
 
 // As many declarations as there may be, of which the second has the first one's name, and one more.
-// Up to the parts there are 19, 19 and 36 bytes, and the parts have 18, 8 and 33.
+// Up to the parts there are 19, 19 and 36 bytes, and the parts have 18, 8 and 33. Then as many braces
+// as a text may have bytes, and the lamp's text of 216 bytes, padded to one byte more.
 const REPEATED: &[(Repeated<'_>, &str)] = &[
     (
         Repeated {
@@ -216,6 +218,24 @@ const REPEATED: &[(Repeated<'_>, &str)] = &[
         },
         "refused net rule 9 45\n",
     ),
+    (
+        Repeated {
+            begin: "",
+            part: "{{{{{{{{{{{{{{{{{{{{{{{{{{{{{{{{{{{{{{{{{{{{{{{{{{{{{{{{{{{{{{{{",
+            count: 65_536,
+            end: "",
+        },
+        "refused net syntax 0\n",
+    ),
+    (
+        Repeated {
+            begin: LAMP,
+            part: "\n",
+            count: 4_194_305 - 216,
+            end: "",
+        },
+        "refused net long\n",
+    ),
 ];
 
 // A network text in brackets, and what stands after it.
@@ -262,8 +282,8 @@ fn names_the_place_of_each_fault(rt: HostRuntime) -> Result<(), Fail> {
     Ok(())
 }
 
-/// A check of a text that is refused.
-pub fn try_check<'a, T: Abort + Threads + Wait + Sync>(
+// A check of a text that is refused.
+fn try_check<'a, T: Abort + Threads + Wait + Sync>(
     rt: &T,
     alloc: Global,
     repeated: &Repeated<'a>,
@@ -281,7 +301,7 @@ pub fn try_check<'a, T: Abort + Threads + Wait + Sync>(
 }
 
 #[test]
-fn names_the_first_declaration_beyond(rt: HostRuntime) -> Result<(), Fail> {
+fn refuses_what_is_beyond_a_limit(rt: HostRuntime) -> Result<(), Fail> {
     for (number, (repeated, shown)) in REPEATED.iter().enumerate() {
         try_check(&rt, rt.alloc(), repeated, shown, number)?;
     }

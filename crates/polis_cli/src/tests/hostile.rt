@@ -1,13 +1,10 @@
-// Texts that are cut off, or longer than they look: each is refused by one line, and nothing is
-// saved.
-use crate::tests::cases::{RUN, Repeated, are_saved, call, expect, text_of, tried_refusal};
-use crate::tests::faults::try_check;
+// Texts that are cut off: each is refused by one line, and nothing is saved.
+use crate::tests::cases::{RUN, are_saved, call, expect};
 use crate::tests::networks::LAMP;
 use event_buffer::OpenGate;
 use polis_base::{MemoryHost, NoMemory};
 use polis_words::Status;
 use std::alloc::Global;
-use std::process::Abort;
 use std::sync::Wait;
 use std::test::Fail;
 use std::thread::Threads;
@@ -51,43 +48,5 @@ fn refuses_each_beginning_of_a_network(rt: HostRuntime) -> Result<(), Fail> {
         let is_refused = refuses_beginning(&rt, rt.alloc(), len)?;
         expect(&rt, is_refused, len);
     }
-    Ok(())
-}
-
-// As many bytes as a text may have.
-const BRACES: &Repeated<'_> = &Repeated {
-    begin: "",
-    part: "{{{{{{{{{{{{{{{{{{{{{{{{{{{{{{{{{{{{{{{{{{{{{{{{{{{{{{{{{{{{{{{{",
-    count: 65_536,
-    end: "",
-};
-
-#[test]
-fn refuses_a_text_of_braces(rt: HostRuntime) -> Result<(), Fail> {
-    try_check(&rt, rt.alloc(), BRACES, "refused net syntax 0\n", 0)?;
-    Ok(())
-}
-
-const PRESSES: &Repeated<'_> = &Repeated {
-    begin: "",
-    part: "press\n",
-    count: 10_001,
-    end: "",
-};
-
-// A run on a trace that is refused.
-fn try_trace<'a, T: Abort + Threads + Wait + Sync>(
-    rt: &T,
-    alloc: Global,
-    repeated: &Repeated<'a>,
-    shown: &'a str,
-) -> Result<(), NoMemory> {
-    let text = text_of(alloc, repeated)?;
-    tried_refusal(rt, alloc, (RUN, LAMP, text.as_str()), shown, 0)
-}
-
-#[test]
-fn refuses_one_item_too_many(rt: HostRuntime) -> Result<(), Fail> {
-    try_trace(&rt, rt.alloc(), PRESSES, "refused trc line 10001 many\n")?;
     Ok(())
 }

@@ -176,11 +176,22 @@ fn never_runs_cut_images(rt: HostRuntime) -> Result<(), Fail> {
     Ok(())
 }
 
-// Command lines that run the lamp on one press by its image.
-const RUNS: &[&str] = &[
-    IMAGE_RUN,
-    "run net trc p --limit 9 --image o.img --workers 1",
-    "run net trc p --image o.img --limit 2",
+const BY_TWO_SHOWN: &str = "entries 2 complete
+lost 0
+gathered 2 adopted 2
+machine lamp_ctl code 6 tries 1 steps 6
+";
+
+// Command lines that run the lamp on one press by its image, and what is shown. By two workers the
+// journal has its least stamps, too.
+const RUNS: &[(&str, &str)] = &[
+    (IMAGE_RUN, IMAGE_SHOWN),
+    (
+        "run net trc p --limit 9 --image o.img --workers 1",
+        IMAGE_SHOWN,
+    ),
+    ("run net trc p --image o.img --limit 2", IMAGE_SHOWN),
+    ("run net trc p --workers 2 --image o.img", BY_TWO_SHOWN),
 ];
 
 // What a run of the lamp saves is held, and no listing.
@@ -204,41 +215,32 @@ fn runs<T: Threads + Wait + Sync>(
 
 #[test]
 fn runs_images(rt: HostRuntime) -> Result<(), Fail> {
-    for (number, line) in RUNS.iter().enumerate() {
-        let is_right = runs(&rt, rt.alloc(), line, IMAGE_SHOWN)?;
+    for (number, (line, shown)) in RUNS.iter().enumerate() {
+        let is_right = runs(&rt, rt.alloc(), line, shown)?;
         expect(&rt, is_right, number);
     }
     Ok(())
 }
 
-// By two workers the journal has its least stamps, too.
-const BY_TWO: &str = "run net trc p --workers 2 --image o.img";
-
-const BY_TWO_SHOWN: &str = "entries 2 complete
-lost 0
-gathered 2 adopted 2
-machine lamp_ctl code 6 tries 1 steps 6
-";
-
-#[test]
-fn runs_images_by_workers(rt: HostRuntime) -> Result<(), Fail> {
-    assert!(rt; runs(&rt, rt.alloc(), BY_TWO, BY_TWO_SHOWN)?);
-    Ok(())
-}
-
-// Command lines that ask for nothing.
-const NO_REQUESTS: &[&str] = &[
-    "run net trc p --image",
-    "run net trc p --image ",
-    "run net trc p --image o.img --image o.img",
-    "run net trc p --images o.img",
-    "image net",
-    "image net ",
-    "image net p --limit 5",
-];
-
 // Calls that fail, each with the call of the host that fails in it, if one does.
 const FAILING: &[(&str, Option<u64>, Status, &str)] = &[
+    ("run net trc p --image", None, Status::Usage, "usage\n"),
+    ("run net trc p --image ", None, Status::Usage, "usage\n"),
+    (
+        "run net trc p --image o.img --image o.img",
+        None,
+        Status::Usage,
+        "usage\n",
+    ),
+    (
+        "run net trc p --images o.img",
+        None,
+        Status::Usage,
+        "usage\n",
+    ),
+    ("image net", None, Status::Usage, "usage\n"),
+    ("image net ", None, Status::Usage, "usage\n"),
+    ("image net p --limit 5", None, Status::Usage, "usage\n"),
     (
         "image net p",
         Some(1),
@@ -270,15 +272,6 @@ fn saves_nothing<T: Threads + Wait + Sync>(
     let mut host = host_of(alloc, LAMP, PRESS_TRACE, LAMP_IMAGE)?;
     let ends = ends(rt, alloc, &mut host, call, wanted)?;
     Ok(ends && is_held(&host, "p.jnl", None) && is_held(&host, "p.lst", None))
-}
-
-#[test]
-fn answers_usage(rt: HostRuntime) -> Result<(), Fail> {
-    for (number, line) in NO_REQUESTS.iter().enumerate() {
-        let is_right = saves_nothing(&rt, rt.alloc(), (line, None), (Status::Usage, "usage\n"))?;
-        expect(&rt, is_right, number);
-    }
-    Ok(())
 }
 
 #[test]

@@ -1,7 +1,5 @@
 // Journal texts that `replay` refuses, and journals that `migrate` prints as they are read.
-use crate::tests::cases::{
-    Case, DONE, MIGRATE, Repeated, replay, text_of, tried, try_case, try_cases,
-};
+use crate::tests::cases::{Case, DONE, MIGRATE, Repeated, replay, text_of, tried, try_cases};
 use crate::tests::networks::{ECHO, JOIN, LAMP, VALUE};
 use polis_base::NoMemory;
 use polis_words::Status;
@@ -191,7 +189,25 @@ const GREATEST_VALUE: &str = "polis journal 2
 end 1 limit
 ";
 
-// Migrations of the journals of runs with the least stamps.
+// Stamps up to the greatest, and the least ones.
+const HIGH: &str = "polis journal 2
+@1 dep env m a
+@2 idle m : a ; -
+@5 dep env m b
+@1099511627776 fire m : a b ; - -> - ; c
+end 4 limit
+";
+
+const LEAST: &str = "polis journal 2
+@1 dep env m a
+@2 idle m : a ; -
+@3 dep env m b
+@4 fire m : a b ; - -> - ; c
+end 4 complete
+";
+
+// Migrations: of the journals of runs, which have the least stamps, and of one with stamps up to the
+// greatest.
 const PRINTED: &[Case<'_>] = &[
     Case {
         words: MIGRATE,
@@ -238,43 +254,20 @@ const PRINTED: &[Case<'_>] = &[
         shown: "migrated 1\n",
         ..DONE
     },
+    Case {
+        words: MIGRATE,
+        net: Some(JOIN),
+        trace: Some("a\nsettle\nb\n"),
+        read_journal: Some(HIGH),
+        journal: Some(LEAST),
+        shown: "migrated 4\n",
+        ..DONE
+    },
 ];
 
 #[test]
 fn prints_journals_back(rt: HostRuntime) -> Result<(), Fail> {
     try_cases(&rt, rt.alloc(), PRINTED)
-}
-
-// Stamps up to the greatest, and the least ones.
-const HIGH: &str = "polis journal 2
-@1 dep env m a
-@2 idle m : a ; -
-@5 dep env m b
-@1099511627776 fire m : a b ; - -> - ; c
-end 4 limit
-";
-
-const LEAST: &str = "polis journal 2
-@1 dep env m a
-@2 idle m : a ; -
-@3 dep env m b
-@4 fire m : a b ; - -> - ; c
-end 4 complete
-";
-
-const GREATEST_STAMP: &Case<'_> = &Case {
-    words: MIGRATE,
-    net: Some(JOIN),
-    trace: Some("a\nsettle\nb\n"),
-    read_journal: Some(HIGH),
-    journal: Some(LEAST),
-    shown: "migrated 4\n",
-    ..DONE
-};
-
-#[test]
-fn reads_the_greatest_stamp(rt: HostRuntime) -> Result<(), Fail> {
-    try_case(&rt, rt.alloc(), GREATEST_STAMP, 0)
 }
 
 // 60,000 deliveries to the join, where the environment sends one, and what stands after them.

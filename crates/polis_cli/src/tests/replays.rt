@@ -117,12 +117,6 @@ end 3 complete
 legal 3 open
 ";
 
-#[test]
-fn judges_journals(rt: HostRuntime) -> Result<(), Fail> {
-    try_journals(&rt, rt.alloc(), OF_JOIN, LEGAL)?;
-    Ok(())
-}
-
 const ILLEGAL: Case<'static> = Case {
     status: Status::Illegal,
     ..JUDGED
@@ -221,12 +215,6 @@ end 4 complete
 illegal 0
 ";
 
-#[test]
-fn finds_the_first_illegal_entry(rt: HostRuntime) -> Result<(), Fail> {
-    try_journals(&rt, rt.alloc(), OF_JOIN, WRONG)?;
-    Ok(())
-}
-
 const UNREADABLE: Case<'static> = Case {
     status: Status::Refused,
     ..JUDGED
@@ -316,12 +304,6 @@ const ABSENT: &[Case<'_>] = &[
     },
 ];
 
-#[test]
-fn refuses_what_is_no_journal(rt: HostRuntime) -> Result<(), Fail> {
-    try_journals(&rt, rt.alloc(), OF_JOIN, NO_JOURNALS)?;
-    try_cases(&rt, rt.alloc(), ABSENT)
-}
-
 // A network of two machines that read one event, and a trace.
 const OF_TWO: (&str, &str) = (TWO, "x\n");
 
@@ -373,7 +355,10 @@ refused jnl line 2 shape
 ";
 
 #[test]
-fn judges_stamps(rt: HostRuntime) -> Result<(), Fail> {
+fn judges_journals(rt: HostRuntime) -> Result<(), Fail> {
+    try_journals(&rt, rt.alloc(), OF_JOIN, LEGAL)?;
+    try_journals(&rt, rt.alloc(), OF_JOIN, WRONG)?;
+    try_journals(&rt, rt.alloc(), OF_JOIN, NO_JOURNALS)?;
     try_journals(&rt, rt.alloc(), OF_TWO, STAMPED)?;
     Ok(())
 }
@@ -400,11 +385,6 @@ const MIGRATED: &[Case<'_>] = &[
         ..ILLEGAL
     },
 ];
-
-#[test]
-fn migrates_journals(rt: HostRuntime) -> Result<(), Fail> {
-    try_cases(&rt, rt.alloc(), MIGRATED)
-}
 
 // Calls on a join in which a call of the host fails.
 const FAULTS: &[Case<'_>] = &[
@@ -466,6 +446,8 @@ const FAULTS: &[Case<'_>] = &[
 ];
 
 #[test]
-fn tells_of_faults_over_journals(rt: HostRuntime) -> Result<(), Fail> {
+fn migrates_journals_and_tells_of_faults(rt: HostRuntime) -> Result<(), Fail> {
+    try_cases(&rt, rt.alloc(), MIGRATED)?;
+    try_cases(&rt, rt.alloc(), ABSENT)?;
     try_cases(&rt, rt.alloc(), FAULTS)
 }

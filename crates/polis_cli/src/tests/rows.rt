@@ -1,6 +1,6 @@
 // Whole calls over files in memory, as a table.
 use crate::tests::cases::{
-    CHECK, COMPILE, Case, DONE, REFUSED, RUN, cut, read_only, tried, try_cases,
+    BY_TWO, CHECK, COMPILE, Case, DONE, REFUSED, RUN, cut, read_only, tried, try_cases,
 };
 use crate::tests::listings::{
     BELT_LISTING, ECHO_LISTING, JOIN_LISTING, LAMP_LISTING, LOOP_LISTING, PONG_LISTING,
@@ -189,6 +189,23 @@ polis journal 2
 end 6 complete
 ";
 
+// The same by two workers.
+const LOOPED_BY_TWO: &str = "entries 6 complete
+lost 0
+gathered 6 adopted 6
+machine m vertices 12 code 13 tries 3 steps 20
+--
+--
+polis journal 2
+@1 dep env m go
+@2 fire m : go ; c=0 -> c=1 ; x
+@3 dep m m x
+@4 fire m : x ; c=1 -> c=2 ; x
+@5 dep m m x
+@6 fire m : x ; c=2 -> c=3 ; -
+end 6 complete
+";
+
 const BELTED: &str = "entries 30 complete
 lost 0
 gathered 0 adopted 0
@@ -264,12 +281,8 @@ polis journal 2
 end 10 limit
 ";
 
-// What a run is to give that saves a listing, too.
-fn run_of<'a>(
-    (words, net, trace): (&'static [&'static str], &'a str, &'a str),
-    listing: &'a str,
-    (shown, outputs, journal): (&'a str, &'a str, &'a str),
-) -> Case<'a> {
+// A run that shows, emits and writes this.
+fn case_of<'a>(run: &Run<'a>, (shown, outputs, journal): (&'a str, &'a str, &'a str)) -> Case<'a> {
     let status = if journal.ends_with(" limit\n") {
         Status::Limit
     } else {
@@ -278,8 +291,8 @@ fn run_of<'a>(
     Case {
         outputs: Some(outputs),
         journal: Some(journal),
-        listing: Some(listing),
-        ..read_only(words, net, trace, status, shown)
+        listing: Some(run.listing),
+        ..read_only(run.words, run.net, run.trace, status, shown)
     }
 }
 
@@ -293,152 +306,149 @@ fn parts_of(run: &str) -> (&str, &str, &str) {
     }
 }
 
-fn try_run<'a, T: Abort + Threads + Wait + Sync>(
-    rt: &T,
-    alloc: Global,
-    given: (&'static [&'static str], &'a str, &'a str),
-    listing: &'a str,
-    run: &'a str,
-    number: usize,
-) -> Result<(), NoMemory> {
-    let case = run_of(given, listing, parts_of(run));
-    tried(rt, alloc, &case, number)
-}
-
-#[test]
-fn runs_a_lamp(rt: HostRuntime) -> Result<(), Fail> {
-    let alloc = rt.alloc();
-    try_run(
-        &rt,
-        alloc,
-        (RUN, LAMP, PRESS_TRACE),
-        LAMP_LISTING,
-        PRESSED_ONCE,
-        0,
-    )?;
-    try_run(&rt, alloc, (RUN, LAMP, ""), LAMP_LISTING, NEVER_PRESSED, 1)?;
-    try_run(
-        &rt,
-        alloc,
-        (RUN, LAMP, "press\nsettle\npress\n"),
-        LAMP_LISTING,
-        PRESSED_TWICE,
-        2,
-    )?;
-    try_run(
-        &rt,
-        alloc,
-        (RUN, LAMP_2, PRESS_TRACE),
-        LAMP_LISTING,
-        PRESSED_ONCE,
-        3,
-    )?;
-    Ok(())
-}
-
-#[test]
-fn runs_a_join_and_a_machine_that_waits(rt: HostRuntime) -> Result<(), Fail> {
-    let alloc = rt.alloc();
-    try_run(&rt, alloc, (RUN, JOIN, JOIN_TRACE), JOIN_LISTING, JOINED, 0)?;
-    try_run(
-        &rt,
-        alloc,
-        (RUN, JOIN, "a\nsettle\nb\n"),
-        JOIN_LISTING,
-        JOINED_APART,
-        1,
-    )?;
-    try_run(
-        &rt,
-        alloc,
-        (RUN, VALUE, VALUE_TRACE),
-        VALUE_LISTING,
-        WAITED,
-        2,
-    )?;
-    Ok(())
-}
-
-#[test]
-fn runs_a_machine_that_passes_values_on(rt: HostRuntime) -> Result<(), Fail> {
-    let alloc = rt.alloc();
-    try_run(&rt, alloc, (RUN, ECHO, "v 5\n"), ECHO_LISTING, PASSED_ON, 0)?;
-    try_run(
-        &rt,
-        alloc,
-        (RUN, ECHO, ECHO_TRACE),
-        ECHO_LISTING,
-        PASSED_ON_TWICE,
-        1,
-    )?;
-    Ok(())
-}
-
-// Runs of machines that send, to another one or to themselves, or stand side by side.
-#[test]
-fn runs_machines_that_stand_side_by_side(rt: HostRuntime) -> Result<(), Fail> {
-    let alloc = rt.alloc();
-    try_run(
-        &rt,
-        alloc,
-        (RUN, TWO, TWO_TRACE),
-        TWO_LISTING,
-        BY_PRIORITY,
-        0,
-    )?;
-    try_run(
-        &rt,
-        alloc,
-        (RUN, EVEN, TWO_TRACE),
-        TWO_LISTING,
-        BY_NUMBER,
-        1,
-    )?;
-    Ok(())
-}
-
-#[test]
-fn runs_machines_that_send(rt: HostRuntime) -> Result<(), Fail> {
-    let alloc = rt.alloc();
-    try_run(&rt, alloc, (RUN, LOOP, LOOP_TRACE), LOOP_LISTING, LOOPED, 0)?;
-    try_run(&rt, alloc, (RUN, BELT, BELT_TRACE), BELT_LISTING, BELTED, 1)?;
-    Ok(())
-}
-
-// Runs within a limit of entries: of as many as the run has, of fewer, and of a run without end.
+// Within a limit of entries: of as many as the run has, of fewer, and of a run without end.
 const TO_TWO: &[&str] = &["run", "net", "trc", "o", "--limit", "2"];
 
 const TO_ONE: &[&str] = &["run", "net", "trc", "o", "--limit", "1"];
 
 const TO_TEN: &[&str] = &["run", "net", "trc", "o", "--limit", "10"];
 
+// The command line of a run, its files, the listing that it saves, and the run.
+#[derive(Clone, Copy)]
+struct Run<'a> {
+    words: &'static [&'static str],
+    net: &'a str,
+    trace: &'a str,
+    listing: &'a str,
+    run: &'a str,
+}
+
+const ON_LAMP: Run<'static> = Run {
+    words: RUN,
+    net: LAMP,
+    trace: PRESS_TRACE,
+    listing: LAMP_LISTING,
+    run: PRESSED_ONCE,
+};
+
+const ON_JOIN: Run<'static> = Run {
+    words: RUN,
+    net: JOIN,
+    trace: JOIN_TRACE,
+    listing: JOIN_LISTING,
+    run: JOINED,
+};
+
+const ON_ECHO: Run<'static> = Run {
+    words: RUN,
+    net: ECHO,
+    trace: ECHO_TRACE,
+    listing: ECHO_LISTING,
+    run: PASSED_ON_TWICE,
+};
+
+const ON_TWO: Run<'static> = Run {
+    words: RUN,
+    net: TWO,
+    trace: TWO_TRACE,
+    listing: TWO_LISTING,
+    run: BY_PRIORITY,
+};
+
+const ON_LOOP: Run<'static> = Run {
+    words: RUN,
+    net: LOOP,
+    trace: LOOP_TRACE,
+    listing: LOOP_LISTING,
+    run: LOOPED,
+};
+
+const RUNS: &[Run<'_>] = &[
+    ON_LAMP,
+    Run {
+        trace: "",
+        run: NEVER_PRESSED,
+        ..ON_LAMP
+    },
+    Run {
+        trace: "press\nsettle\npress\n",
+        run: PRESSED_TWICE,
+        ..ON_LAMP
+    },
+    Run {
+        net: LAMP_2,
+        ..ON_LAMP
+    },
+    Run {
+        words: TO_TWO,
+        ..ON_LAMP
+    },
+    Run {
+        words: TO_ONE,
+        run: PRESSED_ONLY,
+        ..ON_LAMP
+    },
+    ON_JOIN,
+    Run {
+        trace: "a\nsettle\nb\n",
+        run: JOINED_APART,
+        ..ON_JOIN
+    },
+    Run {
+        words: RUN,
+        net: VALUE,
+        trace: VALUE_TRACE,
+        listing: VALUE_LISTING,
+        run: WAITED,
+    },
+    Run {
+        trace: "v 5\n",
+        run: PASSED_ON,
+        ..ON_ECHO
+    },
+    ON_ECHO,
+    ON_TWO,
+    Run {
+        net: EVEN,
+        run: BY_NUMBER,
+        ..ON_TWO
+    },
+    ON_LOOP,
+    Run {
+        words: BY_TWO,
+        run: LOOPED_BY_TWO,
+        ..ON_LOOP
+    },
+    Run {
+        words: RUN,
+        net: BELT,
+        trace: BELT_TRACE,
+        listing: BELT_LISTING,
+        run: BELTED,
+    },
+    Run {
+        words: TO_TEN,
+        net: PONG,
+        trace: PONG_TRACE,
+        listing: PONG_LISTING,
+        run: PLAYED,
+    },
+];
+
+fn try_run<T: Abort + Threads + Wait + Sync>(
+    rt: &T,
+    alloc: Global,
+    run: &Run<'_>,
+    number: usize,
+) -> Result<(), NoMemory> {
+    tried(rt, alloc, &case_of(run, parts_of(run.run)), number)
+}
+
 #[test]
-fn ends_at_the_limit(rt: HostRuntime) -> Result<(), Fail> {
-    let alloc = rt.alloc();
-    try_run(
-        &rt,
-        alloc,
-        (TO_TWO, LAMP, PRESS_TRACE),
-        LAMP_LISTING,
-        PRESSED_ONCE,
-        0,
-    )?;
-    try_run(
-        &rt,
-        alloc,
-        (TO_ONE, LAMP, PRESS_TRACE),
-        LAMP_LISTING,
-        PRESSED_ONLY,
-        1,
-    )?;
-    try_run(
-        &rt,
-        alloc,
-        (TO_TEN, PONG, PONG_TRACE),
-        PONG_LISTING,
-        PLAYED,
-        2,
-    )?;
+fn runs_networks(rt: HostRuntime) -> Result<(), Fail> {
+    for (number, run) in RUNS.iter().enumerate() {
+        try_run(&rt, rt.alloc(), run, number)?;
+    }
     Ok(())
 }
 
@@ -477,11 +487,6 @@ const COMPILED: &[Case<'_>] = &[
         ..REFUSED
     },
 ];
-
-#[test]
-fn compiles_networks(rt: HostRuntime) -> Result<(), Fail> {
-    try_cases(&rt, rt.alloc(), COMPILED)
-}
 
 // Networks that are accepted, and networks that aren't.
 const CHECKED: &[Case<'_>] = &[
@@ -541,6 +546,7 @@ const CHECKED: &[Case<'_>] = &[
 ];
 
 #[test]
-fn checks_networks(rt: HostRuntime) -> Result<(), Fail> {
+fn compiles_and_checks_networks(rt: HostRuntime) -> Result<(), Fail> {
+    try_cases(&rt, rt.alloc(), COMPILED)?;
     try_cases(&rt, rt.alloc(), CHECKED)
 }

@@ -1,10 +1,9 @@
 // Whole calls with several workers, over files in memory.
 use crate::tests::cases::{
-    BY_TWO, COMPILE, Case, PRESS, RUN, call, expect, expect_none, first_wrong, host_of, is_held,
-    make_host, try_case,
+    BY_TWO, Case, PRESS, call, expect, expect_none, first_wrong, host_of, make_host,
 };
 use crate::tests::gates::{Inside, Meeting, Outside};
-use crate::tests::listings::{BELT_LISTING, LOOP_LISTING, TWO_LISTING};
+use crate::tests::listings::TWO_LISTING;
 use crate::tests::networks::{BELT, EVEN, LOOP};
 use event_buffer::{Gate, OpenGate};
 use polis_base::{MemoryHost, NoMemory};
@@ -45,32 +44,6 @@ gathered 4 adopted 4
 machine a vertices 5 code 4 tries 1 steps 4
 machine b vertices 5 code 4 tries 1 steps 4
 ";
-
-// A machine that reads what it emits, run by two workers.
-const LOOP_BY_TWO: &Case<'_> = &Case {
-    words: BY_TWO,
-    net: Some(LOOP),
-    trace: Some(LOOP_TRACE),
-    shown: "entries 6 complete
-lost 0
-gathered 6 adopted 6
-machine m vertices 12 code 13 tries 3 steps 20
-",
-    outputs: Some(""),
-    journal: Some(
-        "polis journal 2
-@1 dep env m go
-@2 fire m : go ; c=0 -> c=1 ; x
-@3 dep m m x
-@4 fire m : x ; c=1 -> c=2 ; x
-@5 dep m m x
-@6 fire m : x ; c=2 -> c=3 ; -
-end 6 complete
-",
-    ),
-    listing: Some(LOOP_LISTING),
-    ..PRESS
-};
 
 // Two machines of one priority that read one event, run by two workers.
 const EVEN_BY_TWO: &Case<'_> = &Case {
@@ -128,11 +101,6 @@ fn holds_cells_side_by_side(rt: HostRuntime) -> Result<(), Fail> {
     Ok(())
 }
 
-#[test]
-fn delivers_what_a_machine_sends_itself(rt: HostRuntime) -> Result<(), Fail> {
-    try_case(&rt, rt.alloc(), LOOP_BY_TWO, 0)
-}
-
 const BELT_BRIEFLY: &str = "key_on\nsettle\ntick\nsettle\ntick\n";
 
 // Whether a run is done and its journal is legal and complete.
@@ -166,28 +134,5 @@ fn try_runs<T: Abort + Threads + Wait + Sync>(
 fn journals_of_workers_are_legal(rt: HostRuntime) -> Result<(), Fail> {
     try_runs(&rt, rt.alloc(), LOOP, LOOP_TRACE)?;
     try_runs(&rt, rt.alloc(), BELT, BELT_BRIEFLY)?;
-    Ok(())
-}
-
-// Calls that list the compiled machines.
-const LISTING: &[&[&str]] = &[COMPILE, RUN, BY_FOUR];
-
-// Whether a call on the belt, where the key is turned on, is done and saves its listing.
-fn lists_the_belt<T: Threads + Wait + Sync>(
-    rt: &T,
-    alloc: Global,
-    words: &[&str],
-) -> Result<bool, NoMemory> {
-    let mut host = host_of(alloc, BELT, "key_on\n")?;
-    let status = call(rt, alloc, words, &mut host, &OpenGate)?;
-    Ok(status == Status::Done && is_held(&host, "o.lst", Some(BELT_LISTING)))
-}
-
-#[test]
-fn lists_the_same_machines_by_each_call(rt: HostRuntime) -> Result<(), Fail> {
-    for (number, words) in LISTING.iter().enumerate() {
-        let lists = lists_the_belt(&rt, rt.alloc(), words)?;
-        expect(&rt, lists, number);
-    }
     Ok(())
 }

@@ -1,4 +1,5 @@
-use Rattle.polis_cli.proofs.CompileMeaning.{compile_is}
+use Rattle.std.proofs.Common.{codes}
+use Rattle.polis_cli.proofs.Saves.{one_made}
 use Rattle.polis_cli.proofs.compile.product_of.Goals as goal
 
 pub returns : goal.returns
@@ -6,8 +7,7 @@ returns c =
     let texts = c.in_ok-listing.ensures in (
       texts.parts,
       texts.right,
-      compile_is c.args.asked.now c.args.net.now texts.parts c.new-saves.result c.push.new.self
-          c.in_ok-saving.saving c.stem.result.now c.in_ok-listing.field-0.listing
-          c.in_ok-listing.field-0.lengths c.new-saves.ensures c.in_ok-push.ensures.ok
-          c.in_ok-saving.ensures c.stem.ensures texts.listing texts.lengths,
+      one_made (codes ".lst") c.stem.result.now _ c.in_ok-listing.field-0.listing _
+          c.in_ok-listing.field-0.lengths _ c.in_ok-product.product c.in_ok-product.ensures
+          c.stem.ensures texts.listing texts.lengths,
     )

@@ -1,4 +1,5 @@
-use Rattle.polis_cli.proofs.DrawMeaning.{draw_is}
+use Rattle.std.proofs.Common.{codes}
+use Rattle.polis_cli.proofs.Saves.{one_made}
 use Rattle.polis_cli.proofs.draw.product_of.Goals as goal
 
 pub returns : goal.returns
@@ -6,9 +7,8 @@ returns c =
     let made = c.in_ok-graphs.ensures in (
       made.parts,
       made.right,
-      draw_is c.args.asked.now c.args.net.now made.parts c.new-saves.result c.push.new.self
-          c.in_ok-saving.saving c.stem.result.now c.push_drawing.new.into
-          c.in_ok-graphs.field-0.lengths c.new-saves.ensures c.in_ok-push.ensures.ok
-          c.in_ok-saving.ensures c.stem.ensures
-          (rw (c.new-text.ensures, made.graphs_are) at c.in_ok-push_drawing.ensures) made.lengths_are,
+      one_made (codes ".dot") c.stem.result.now _ c.push_drawing.new.into _
+          c.in_ok-graphs.field-0.lengths _ c.in_ok-product.product c.in_ok-product.ensures
+          c.stem.ensures (rw (c.new-text.ensures, made.graphs_are) at c.in_ok-push_drawing.ensures)
+          made.lengths_are,
     )

@@ -1,7 +1,0 @@
-use Rattle.std.proofs.Common.{IsTrue}
-use Rattle.domains.specs.Tables.{fits}
-use Rattle.polis_cli.proofs.tests.calls.count_next.Given as goal
-
--- the codes fit
-abbrev pub invariant-loop-count : goal.invariant-loop-count
-invariant-loop-count l = IsTrue (fits l.vars l.codes)

@@ -397,16 +397,6 @@ pub fn tried_refusal<'a, T: Abort + Threads + Wait + Sync>(
     tried(rt, alloc, &case, number)
 }
 
-pub fn try_case<T: Abort + Threads + Wait + Sync>(
-    rt: &T,
-    alloc: Global,
-    case: &Case<'_>,
-    number: usize,
-) -> Result<(), Fail> {
-    tried(rt, alloc, case, number)?;
-    Ok(())
-}
-
 // What is wrong after the call of a line in place of the case's, or nothing.
 fn wrong_in_line<T: Threads + Wait + Sync>(
     rt: &T,
@@ -433,6 +423,7 @@ pub fn try_lines<T: Abort + Threads + Wait + Sync>(
     Ok(())
 }
 
+/// Tries these cases.
 pub fn try_cases<T: Abort + Threads + Wait + Sync>(
     rt: &T,
     alloc: Global,

@@ -281,21 +281,6 @@ polis journal 2
 end 10 limit
 ";
 
-// A run that shows, emits and writes this.
-fn case_of<'a>(run: &Run<'a>, (shown, outputs, journal): (&'a str, &'a str, &'a str)) -> Case<'a> {
-    let status = if journal.ends_with(" limit\n") {
-        Status::Limit
-    } else {
-        Status::Done
-    };
-    Case {
-        outputs: Some(outputs),
-        journal: Some(journal),
-        listing: Some(run.listing),
-        ..read_only(run.words, run.net, run.trace, status, shown)
-    }
-}
-
 fn parts_of(run: &str) -> (&str, &str, &str) {
     match cut(run, "--\n") {
         Some((shown, rest)) => match cut(rest, "--\n") {
@@ -303,6 +288,25 @@ fn parts_of(run: &str) -> (&str, &str, &str) {
             None => (shown, rest, ""),
         },
         None => (run, "", ""),
+    }
+}
+
+fn status_of(journal: &str) -> Status {
+    if journal.ends_with(" limit\n") {
+        Status::Limit
+    } else {
+        Status::Done
+    }
+}
+
+// The call of a run, and what is wanted after it.
+fn case_of<'a>(run: &Run<'a>) -> Case<'a> {
+    let (shown, outputs, journal) = parts_of(run.run);
+    Case {
+        outputs: Some(outputs),
+        journal: Some(journal),
+        listing: Some(run.listing),
+        ..read_only(run.words, run.net, run.trace, status_of(journal), shown)
     }
 }
 
@@ -441,7 +445,8 @@ fn try_run<T: Abort + Threads + Wait + Sync>(
     run: &Run<'_>,
     number: usize,
 ) -> Result<(), NoMemory> {
-    tried(rt, alloc, &case_of(run, parts_of(run.run)), number)
+    let case = case_of(run);
+    tried(rt, alloc, &case, number)
 }
 
 #[test]

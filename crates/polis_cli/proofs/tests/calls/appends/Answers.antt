@@ -8,6 +8,6 @@ use Rattle.polis_cli.proofs.tests.calls.appends.Goals as goal
 pub append-requires-clause-fits : goal.append-requires-clause-fits
 append-requires-clause-fits c =
     let same : c.in_ok-config.config.net ≡ join =
-        (λ i. (c.in_ok-config.ensures i).net) ∙ c.requires.network in
+    (λ i. (c.in_ok-config.ensures i).net) ∙ c.requires.network in
     subst (λ (net : Network). FitsNetwork net c.landing.result) (sym same)
     (subst (λ (entry : Entry). FitsNetwork join entry) (sym c.landing.ensures) refl)

@@ -19,8 +19,8 @@ use sample_networks::texts::{JOIN_TRACE, TWO_TRACE};
 use scheduler_gen::{Finished, complete, plan};
 use std::alloc::Global;
 use std::test::Fail;
-use transition_table::{Network, Party};
-use worker_core::{CoreStep, merge};
+use transition_table::{Network, Party, TableReactor};
+use worker_core::{CoreStep, core_alone, merge};
 
 // Both machines get the event, and then react in the order of their numbers.
 const BY_NUMBER: &[u8] = b"polis journal 2
@@ -99,6 +99,38 @@ fn merges_the_logs_of_four_steps(rt: HostRuntime) -> Result<(), Fail> {
     Ok(())
 }
 
+// The journal of steps until none is left.
+fn ended(alloc: Global, inputs: &Inputs) -> Result<Journal, NoMemory>
+    requires fits { IsTrace inputs.now.net inputs.now.trace }
+    requires deterministic { AreDeterministic inputs.now.net }
+    ensures { IfOk result (λ journal. Legal inputs.now.net inputs.now.trace journal) }
+{
+    let r = reactor_of(inputs);
+    let journal = core_alone(alloc, &r, &inputs.trace, 60_000)?;
+    Ok(journal)
+}
+
+// Its text.
+fn ended_text(alloc: Global, inputs: &Inputs) -> Result<Bytes, NoMemory>
+    requires fits { IsTrace inputs.now.net inputs.now.trace }
+    requires deterministic { AreDeterministic inputs.now.net }
+{
+    let journal = ended(alloc, inputs)?;
+    text_of(alloc, inputs, &journal, true)
+}
+
+fn ended_of_two(alloc: Global) -> Result<Bytes, NoMemory> {
+    let inputs = inputs_of(alloc, TWO, TWO_TRACE)?;
+    ended_text(alloc, &inputs)
+}
+
+#[test]
+fn steps_until_none_is_left(rt: HostRuntime) -> Result<(), Fail> {
+    let text = ended_of_two(rt.alloc())?;
+    assert!(rt; text.as_slice() == BY_NUMBER);
+    Ok(())
+}
+
 // The journal carried on by the picks.
 fn finished(alloc: Global, inputs: &Inputs, from: Journal) -> Result<Finished, NoMemory>
     requires fits { IsTrace inputs.now.net inputs.now.trace }
@@ -163,15 +195,34 @@ fn appends(alloc: Global, net: &Network, trace: &Trace) -> Result<bool, NoMemory
     }
 }
 
-fn join_appends(alloc: Global) -> Result<bool, NoMemory> {
+// Whether the same landing is admitted.
+fn admits(alloc: Global, net: &Network, trace: &Trace) -> Result<bool, NoMemory>
+    requires network { net.now ≡ the_join }
+    requires deterministic { AreDeterministic net.now }
+    requires fits { IsTrace net.now trace.now }
+{
+    let r = TableReactor::new(net);
+    let mut config = Config::start(alloc, net, trace)?;
+    match config.admit(&r, &landing(0)) {
+        Admit::Yes => Ok(true),
+        Admit::No(_) => Ok(false),
+        Admit::NoMemory => Err(NoMemory),
+    }
+}
+
+// Whether the join's first landing is appended, and admitted.
+fn join_takes(alloc: Global) -> Result<(bool, bool), NoMemory> {
     let net = deterministic_network(alloc)?;
     let trace = traced(alloc, &net, JOIN_TRACE)?;
-    appends(alloc, &net, &trace)
+    let appends = appends(alloc, &net, &trace)?;
+    let admits = admits(alloc, &net, &trace)?;
+    Ok((appends, admits))
 }
 
 #[test]
-fn appends_a_landing(rt: HostRuntime) -> Result<(), Fail> {
-    assert!(rt; join_appends(rt.alloc())?);
+fn takes_a_landing(rt: HostRuntime) -> Result<(), Fail> {
+    let (appends, admits) = join_takes(rt.alloc())?;
+    assert!(rt; appends && admits);
     Ok(())
 }
 

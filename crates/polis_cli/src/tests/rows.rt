@@ -1,6 +1,6 @@
 // Whole calls over files in memory, as a table.
 use crate::tests::cases::{
-    BY_TWO, CHECK, COMPILE, Case, DONE, REFUSED, RUN, cut, read_only, tried, try_cases,
+    CHECK, COMPILE, Case, DONE, REFUSED, RUN, cut, read_only, tried, try_cases,
 };
 use crate::tests::listings::{
     BELT_LISTING, ECHO_LISTING, JOIN_LISTING, LAMP_LISTING, LOOP_LISTING, PONG_LISTING,
@@ -189,23 +189,6 @@ polis journal 2
 end 6 complete
 ";
 
-// The same by two workers.
-const LOOPED_BY_TWO: &str = "entries 6 complete
-lost 0
-gathered 6 adopted 6
-machine m vertices 12 code 13 tries 3 steps 20
---
---
-polis journal 2
-@1 dep env m go
-@2 fire m : go ; c=0 -> c=1 ; x
-@3 dep m m x
-@4 fire m : x ; c=1 -> c=2 ; x
-@5 dep m m x
-@6 fire m : x ; c=2 -> c=3 ; -
-end 6 complete
-";
-
 const BELTED: &str = "entries 30 complete
 lost 0
 gathered 0 adopted 0
@@ -359,14 +342,6 @@ const ON_TWO: Run<'static> = Run {
     run: BY_PRIORITY,
 };
 
-const ON_LOOP: Run<'static> = Run {
-    words: RUN,
-    net: LOOP,
-    trace: LOOP_TRACE,
-    listing: LOOP_LISTING,
-    run: LOOPED,
-};
-
 const RUNS: &[Run<'_>] = &[
     ON_LAMP,
     Run {
@@ -417,11 +392,12 @@ const RUNS: &[Run<'_>] = &[
         run: BY_NUMBER,
         ..ON_TWO
     },
-    ON_LOOP,
     Run {
-        words: BY_TWO,
-        run: LOOPED_BY_TWO,
-        ..ON_LOOP
+        words: RUN,
+        net: LOOP,
+        trace: LOOP_TRACE,
+        listing: LOOP_LISTING,
+        run: LOOPED,
     },
     Run {
         words: RUN,

@@ -1,13 +1,8 @@
-use Rattle.std.proofs.Common.{◌≡◌, ◌∙◌, refl, sym, subst}
-use Rattle.transition_table.specs.declared.network.Network.{Network}
-use Rattle.transition_table.specs.samples.Join.{join}
-use Rattle.journals.specs.declared.entry.Entry.{Entry}
-use Rattle.journals.specs.Journals.{FitsNetwork}
+use Rattle.std.proofs.Common.{◌∙◌}
+use Rattle.polis_cli.proofs.Landings.{landing_fits}
 use Rattle.polis_cli.proofs.tests.calls.appends.Goals as goal
 
 pub append-requires-clause-fits : goal.append-requires-clause-fits
 append-requires-clause-fits c =
-    let same : c.in_ok-config.config.net ≡ join =
-    (λ i. (c.in_ok-config.ensures i).net) ∙ c.requires.network in
-    subst (λ (net : Network). FitsNetwork net c.landing.result) (sym same)
-    (subst (λ (entry : Entry). FitsNetwork join entry) (sym c.landing.ensures) refl)
+    landing_fits c.in_ok-config.config.net c.landing.result
+    ((λ i. (c.in_ok-config.ensures i).net) ∙ c.requires.network) c.landing.ensures

@@ -1,5 +1,5 @@
 -- Nodes of what is left where the items before a place of an order are fixed.
-use Rattle.std.proofs.Common.{◌≡◌, ⊎_elim, ℕ, zero, suc, ◌+◌, ◌-◌, ◌*◌, ◌<◌, ◌≤◌, ◌&&◌, ◌==◌, Bool, true, false, cond, List, [], ◌∷◌, length, take, drop, get_or, replicate, slice_get, slice_index, slice_set, Option, None, Some, refl, ap, sym, subst, ◌∙◌, arith}
+use Rattle.std.proofs.Common.{◌≡◌, ⊎_elim, ℕ, zero, suc, ◌+◌, ◌-◌, ◌*◌, ◌<◌, ◌≤◌, ◌&&◌, ◌==◌, Bool, true, false, cond, List, ◌∷◌, length, take, drop, get_or, replicate, slice_get, slice_index, slice_set, Option, None, Some, refl, ap, sym, subst, ◌∙◌, arith, []}
 use Rattle.std.specs.Prelude.{IsTrue}
 use Rattle.std.proofs.lemmas.Bool.{cases_eq, cases_lt, eq-eqb, ne_eqb}
 use Rattle.std.proofs.lemmas.List.{get_or-set_same, get_or-set_other, get_or-take, get_or-replicate, length-replicate, length-set, length-take}
@@ -159,14 +159,6 @@ pub record AreFixedKids (m : Machine) (order : List ℕ) (s : Diagrams) (p i str
   pub means : (c : ℕ) → c < code
       → Means s (slice_index kids c) (left_from m order (p + 1) (i + c * stride))
   pub levels : (c : ℕ) → c < code → p + 1 ≤ level_of s (slice_index kids c)
-
-pub fixed_none : (m : Machine) (order : List ℕ) (s : Diagrams) (p i stride : ℕ) (kids : List ℕ)
-    → length kids ≡ 33 → AreFixedKids m order s p i stride kids 0
-fixed_none m order s p i stride kids long = record {
-  long = long;
-  means = λ c low. absurd (omega arith);
-  levels = λ c low. absurd (omega arith);
-}
 
 pub fixed_more : (m : Machine) (order : List ℕ) (s new : Diagrams) (p i stride : ℕ)
     (kids : List ℕ) (code n : ℕ) → AreFixedKids m order s p i stride kids code → Keeps s new

@@ -80,15 +80,6 @@ means_kept s new n f kept means = record {
   value = λ codes fit. kept.values n codes means.node ∙ means.value codes (rw kept.sizes at fit);
 }
 
-pub kids_none : (points : List (List ℕ)) (s : Diagrams) (place var : ℕ) (group : List ℕ)
-    → AreKids points s s place var group [] 0
-kids_none points s place var group =
-    record {
-      long = refl;
-      means = λ c low. absurd (omega arith);
-      levels = λ c low. absurd (omega arith);
-    }
-
 kid_front : (xs : List ℕ) (n i : ℕ) → i < length xs
     → slice_index (xs ++ n ∷ []) i ≡ slice_index xs i
 kid_front [] n i low = absurd (omega arith)
@@ -191,11 +182,6 @@ node_means points old s new place var size group kids n low is inside sized one 
 pub no_group : (group : List ℕ) → length group ≡ 0 → group ≡ []
 no_group [] e = refl
 no_group (x ∷ xs) e = absurd (omega arith)
-
-pub none_agrees : (points : List (List ℕ)) (order : List ℕ) (place : ℕ) (group codes : List ℕ)
-    → length group ≡ 0 → some_agrees points order place group codes ≡ false
-none_agrees points order place group codes e =
-    ap (λ (g : List ℕ). some_agrees points order place g codes) (no_group group e)
 
 pub end_agrees : (points : List (List ℕ)) (order : List ℕ) (place : ℕ) (group codes : List ℕ)
     → length group ≢ 0 → place ≡ length order → some_agrees points order place group codes ≡ true

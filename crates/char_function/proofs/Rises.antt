@@ -10,12 +10,6 @@ pub record RisesTo (vars : ℕ) (order : List ℕ) (place next : ℕ) : Type 0 w
       → stands (take p order) v ≡ nat_lt v (slice_index order p)
   pub so_far : (v : ℕ) → v < vars → stands (take place order) v ≡ nat_lt v next
 
-pub rises_none : (vars : ℕ) (order : List ℕ) → RisesTo vars order 0 0
-rises_none vars order = record {
-  each = λ p v p_low is v_low. absurd (omega arith);
-  so_far = λ v v_low. sym (le-ltb v 0 (omega arith));
-}
-
 each_more : (vars : ℕ) (order : List ℕ) (place next : ℕ) → RisesTo vars order place next
     → (slice_index order place < vars → slice_index order place ≡ next) → (p v : ℕ)
     → p < place + 1 → slice_index order p < vars → v < vars

@@ -176,6 +176,30 @@ fn root_of(
     Ok(node)
 }
 
+// The diagram of a machine's characteristic function, given the sizes of what it reads.
+fn diagram_over(
+    alloc: Global,
+    m: &Machine,
+    table: &Table,
+    s: &Supports,
+    order: &Order,
+    sizes: &VarTable,
+) -> Result<Root, NoMemory>
+    requires sure { IsDeterministic m.now }
+    requires table { IsTableOf m.now table.now }
+    requires supports { s.now ≡ all_supports m.now }
+    requires order { length order.now ≡ length (sizes_of m.now) }
+    requires all_sizes { sizes.now ≡ sizes_of m.now }
+    ensures { IfOk result (λ root. IsDiagramOf m.now order.now root.store root.node) }
+{
+    transition_table::laws_of_computing();
+    decision_diagram::laws();
+    let mut store = Store::new(alloc, sizes, order)?;
+    let node = root_of(alloc, m, table, s, order, sizes, &mut store)?;
+    store.same_value_same_node();
+    Ok(Root { store, node })
+}
+
 /// The diagram of a machine's characteristic function, over the machine's variables and then its
 /// results, read in an order, from a table of the outcomes and the supports. Where each result
 /// stands after its support this takes at most one step for each way to fix the variables before a
@@ -193,13 +217,9 @@ pub fn diagram(
     requires order { length order.now ≡ length (sizes_of m.now) }
     ensures { IfOk result (λ root. IsDiagramOf m.now order.now root.store root.node) }
 {
-    transition_table::laws_of_computing();
-    decision_diagram::laws();
     let sizes = all_sizes(alloc, m)?;
-    let mut store = Store::new(alloc, &sizes, order)?;
-    let node = root_of(alloc, m, table, s, order, &sizes, &mut store)?;
-    store.same_value_same_node();
-    Ok(Root { store, node })
+    let root = diagram_over(alloc, m, table, s, order, &sizes)?;
+    Ok(root)
 }
 
 /// The node that is true for exactly the pairs of a snapshot and the codes of the machine's result

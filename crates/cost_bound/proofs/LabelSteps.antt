@@ -27,14 +27,6 @@ pub record Labelled (costs : Costs) (c : List Instr) (l : List ℕ) (at : ℕ) :
       → slice_index l i ≡ needed costs l i x
   pub small : (p : ℕ) → at ≤ p → p < length c → slice_index l p ≤ 1000000 * (length c - p)
 
-pub labelled_start : (costs : Costs) (c : List Instr) (l : List ℕ) (at : ℕ)
-    → length l ≡ length c → length c ≤ at → Labelled costs c l at
-labelled_start costs c l at long high = record {
-  long = long;
-  each = λ i x late is. let low = slice_get_within c i x is in absurd (omega arith);
-  small = λ p late low. absurd (omega arith);
-}
-
 pub labelled_whole : (costs : Costs) (c : List Instr) (l : List ℕ) (at : ℕ)
     → Labelled costs c l at → at ≤ 0 → AreNeeded costs c l
 labelled_whole costs c l at labelled none i x is = labelled.each i x (omega arith) is

@@ -12,7 +12,7 @@ use Rattle.cost_bound.specs.declared.aim.Aim.TheVariants.{Most, Least}
 use Rattle.cost_bound.specs.declared.costs.Costs.{Costs}
 use Rattle.cost_bound.specs.declared.score.Score.{Score}
 use Rattle.cost_bound.specs.Costs.{cost_of}
-use Rattle.cost_bound.specs.inner.Scores.{AtLeast, nothing, score_of, IsAhead, IsBestOf, IsScore, AreScores, IsSmall, Weigh, MayGoOn}
+use Rattle.cost_bound.specs.inner.Scores.{AtLeast, nothing, score_of, IsAhead, IsBestOf, IsScore, IsSmall, Weigh, MayGoOn}
 use Rattle.cost_bound.proofs.TailCosts.{may_go_on}
 use Rattle.std.proofs.lemmas.Option.{slice_get_within}
 
@@ -25,23 +25,6 @@ pub record Scored (aim : Aim) (costs : Costs) (ws : List ℕ) (c : List Instr) (
       → slice_get c i ≡ Some x
       → IsScore aim costs ws scores i x (score_of scores i)
   pub small : (p : ℕ) → at ≤ p → p < length c → IsSmall (length c - p) (score_of scores p)
-
-pub scored_start : (aim : Aim) (costs : Costs) (ws : List ℕ) (c : List Instr)
-    (scores : List Score) (at : ℕ) → length scores ≡ length c → length c ≤ at
-    → Scored aim costs ws c scores at
-scored_start aim costs ws c scores at long high = record {
-  long = long;
-  each = λ i x late is. let low = slice_get_within c i x is in absurd (omega arith);
-  small = λ p late low. absurd (omega arith);
-}
-
-pub scored_whole : (aim : Aim) (costs : Costs) (ws : List ℕ) (c : List Instr)
-    (scores : List Score) (at : ℕ) → Scored aim costs ws c scores at → at ≤ 0
-    → AreScores aim costs ws c scores
-scored_whole aim costs ws c scores at scored none = record {
-  long = scored.long;
-  each = λ i x is. scored.each i x (omega arith) is;
-}
 
 -- ---- what is ahead hangs on later places alone
 module _ (aim : Aim) (ws : List ℕ) (a b : List Score) (count i : ℕ)

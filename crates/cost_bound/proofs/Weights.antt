@@ -17,14 +17,6 @@ pub record Weighed (sizes weights : List ℕ) (weight v : ℕ) : Type 0 where
   pub weight_is : weight ≡ product (drop v sizes)
   pub made : drop v weights ≡ weights_of (drop v sizes)
 
-pub weighed_start : (sizes weights : List ℕ) (v : ℕ) → length weights ≡ length sizes
-    → v ≡ length sizes → Weighed sizes weights 1 v
-weighed_start sizes weights v long e = record {
-  long = long;
-  weight_is = sym (ap product (drop_all v sizes (omega arith)));
-  made = drop_all v weights (omega arith) ∙ sym (ap weights_of (drop_all v sizes (omega arith)));
-}
-
 pub weighed_more : (sizes a b : List ℕ) (weight v : ℕ) → v < length sizes
     → Weighed sizes a weight (v + 1) → b ≡ slice_set a v weight
     → Weighed sizes b (weight * slice_index sizes v) v
@@ -92,10 +84,6 @@ pub record Numbered (sizes : List ℕ) (number : ℕ) (codes : List ℕ) (left v
       → fits (drop v sizes) rest ≡ true
       → rank (drop v sizes) rest ≡ left
       → (fits sizes (codes ++ rest) ≡ true) × (rank sizes (codes ++ rest) ≡ number)
-
-pub numbered_start : (sizes : List ℕ) (number : ℕ) → number < product sizes
-    → Numbered sizes number [] number 0
-numbered_start sizes number low = record { below = low; ends = λ rest fs is. (fs, is) }
 
 quotient_below : (n size w : ℕ) → 0 < w → n < size * w → n / w < size
 quotient_below n size w some low =

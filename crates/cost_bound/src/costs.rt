@@ -5,7 +5,7 @@ ghost use Rattle.polis_base.specs.declared.limits.TheConstants.{COST_MAX};
 use task_code::Instr;
 
 /// What the instructions of each kind cost, each at most 1,000,000.
-#[derive(Clone, Copy, Debug)]
+#[derive(Clone, Copy)]
 pub struct Costs {
     /// The cost of a test.
     pub test: u32,

@@ -1,5 +1,5 @@
 -- Conjunction and disjunction of values.
-use Rattle.std.proofs.Common.{◌≡◌, ◌⊎◌, ⊎_elim, ℕ, ◌+◌, ◌<◌, ◌≤◌, Bool, true, false, not, cond, List, [], ◌∷◌, ◌++◌, min, length, slice_index, Some, None, Result, Ok, Err, OnOk, OnErr, IsTrue, refl, sym, ap, ◌∙◌, subst, arith}
+use Rattle.std.proofs.Common.{◌≡◌, ◌⊎◌, ⊎_elim, ℕ, ◌+◌, ◌<◌, ◌≤◌, Bool, true, false, not, cond, List, ◌∷◌, ◌++◌, min, length, slice_index, Some, Result, Ok, Err, OnOk, OnErr, IsTrue, refl, sym, ap, ◌∙◌, subst, arith, []}
 use Rattle.std.specs.Cmp.Lexicographic.{bytes_decides}
 use Rattle.std.specs.Str.{bytes_eq}
 use Rattle.std.proofs.lemmas.Bool.{cases_lt, cases_Bool, cond-true, cond-false}
@@ -96,16 +96,6 @@ pub record AreParts (old new : Diagrams) (op : Operation) (a b var : ℕ) (kids 
   pub values : (code : ℕ) → code < n → (codes : List ℕ) → IsTrue (fits old.sizes codes)
       → slice_index codes var ≡ code → value_of new (slice_index kids code) codes
       ≡ combine op (value_of old a codes) (value_of old b codes)
-
-pub parts_none : (old new : Diagrams) (op : Operation) (a b var : ℕ)
-    → AreParts old new op a b var [] 0
-parts_none old new op a b var =
-    record {
-      long = refl;
-      nodes = λ code h. absurd (omega arith);
-      later = λ code h. absurd (omega arith);
-      values = λ code h codes fit at. absurd (omega arith);
-    }
 
 pub parts_keeps : (old new newer : Diagrams) (op : Operation) (a b var : ℕ) (kids : List ℕ) (n : ℕ)
     → Keeps new newer → AreParts old new op a b var kids n → AreParts old newer op a b var kids n
@@ -211,11 +201,6 @@ pub results_keep : (old new : Diagrams) (op : Operation) (index : Keyed)
 results_keep old new op index keeps results =
     λ a b n is. result_keeps old new op a b n keeps (results a b n is)
 
-pub results_none : (s : Diagrams) (op : Operation) (index : Keyed)
-    → ((q : List ℕ) → found index q ≡ None) → AreResults s op index
-results_none s op index none = λ a b n is.
-    absurd (let e : None ≡ Some n = sym (none (a ∷ b ∷ [])) ∙ is in cc)
-
 -- a result under the key of its two nodes, in one order or the other
 pub results_more : (s : Diagrams) (op : Operation) (old new : Keyed)
     (key : List ℕ) (a b n : ℕ) → AreResults s op old → IsResult s op a b n
@@ -297,11 +282,3 @@ result_means old new op a b n keeps left right result = record {
       ∙ ap (λ (x : Bool). combine op x (value_of new b codes)) (keeps.values a codes left)
       ∙ ap (combine op (value_of old a codes)) (keeps.values b codes right);
 }
-
-pub result_level : (old new : Diagrams) (op : Operation) (a b n : ℕ) → Keeps old new → IsNode old a
-    → IsNode old b → IsResult new op a b n → min (level_of old a) (level_of old b) ≤ level_of new n
-result_level old new op a b n keeps left right result =
-    let l = result.level in
-    let e = keeps_level old new keeps a left in
-    let f = keeps_level old new keeps b right in
-    omega arith

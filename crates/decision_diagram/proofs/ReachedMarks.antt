@@ -1,8 +1,8 @@
 -- Marking the inner nodes that are reached from a node, from the last number down.
-use Rattle.std.proofs.Common.{◌≡◌, ⊎_elim, ℕ, zero, suc, ◌+◌, ◌-◌, ◌<◌, ◌≤◌, Bool, true, false, ◌||◌, eqb, List, [], ◌∷◌, ◌++◌, length, take, drop, replicate, get_or, slice_index, Some, count_by, refl, sym, ap, ◌∙◌, subst, arith}
+use Rattle.std.proofs.Common.{◌≡◌, ⊎_elim, ℕ, zero, suc, ◌+◌, ◌-◌, ◌<◌, ◌≤◌, Bool, true, false, ◌||◌, eqb, List, ◌∷◌, ◌++◌, length, take, drop, get_or, slice_index, Some, count_by, sym, ap, ◌∙◌, subst, arith, []}
 use Rattle.std.specs.List.{list_any, Contains}
 use Rattle.std.proofs.lemmas.Bool.{cases_lt, cases_eq, or_cases, or_left, or_right, eqb-true, eq-eqb, false≢true}
-use Rattle.std.proofs.lemmas.List.{append-nil, get_or-replicate, get_or_default, get_or_past, take_all, drop_all}
+use Rattle.std.proofs.lemmas.List.{append-nil, get_or_default, get_or_past, take_all, drop_all}
 use Rattle.decision_diagram.specs.Diagrams.{Diagrams, Node, inner_at, kids_in, kids_of, IsNode}
 use Rattle.decision_diagram.specs.Reached.{Walk, Reaches, marked, CountsReached}
 use Rattle.decision_diagram.proofs.Nodes.{cases_inner, inner_within}
@@ -24,9 +24,6 @@ contains_any (x ∷ xs) m (suc k) h is =
     or_right (eqb m x) (list_any (eqb m) xs) (contains_any xs m k (omega arith) is)
 
 -- ---- walks
-pub reaches_self : (s : Diagrams) (n : ℕ) → Reaches s n n
-reaches_self s n = (0, refl)
-
 pub reaches_kid : (s : Diagrams) (n k m : ℕ) → Reaches s n k → Contains (kids_of s k) m
     → Reaches s n m
 reaches_kid s n k m reach has = (suc reach.0, (k, reach.1, has))
@@ -58,61 +55,6 @@ marked_within marks m h =
     ⊎_elim (λ inside. inside) (λ past.
     absurd (false≢true (sym (get_or_past marks (m - 2) false past) ∙ h)))
     (cases_lt (m - 2) (length marks))
-
-marked_none : (count m : ℕ) → marked (replicate count false) m ≡ false
-marked_none count m =
-    ⊎_elim (λ h. get_or-replicate count (m - 2) false false h) (λ past. get_past count (m - 2) past)
-    (cases_lt (m - 2) count)
-  where
-    get_past : (count k : ℕ) → count ≤ k → get_or (replicate count false) k false ≡ false
-    get_past zero k h = refl
-    get_past (suc count) zero h = absurd (omega arith)
-    get_past (suc count) (suc k) h = get_past count k (omega arith)
-
--- at the start the node alone is marked
-pub marked_root : (s : Diagrams) (n : ℕ) (old new : List Bool) → IsNode s n
-    → old ≡ replicate (length s.nodes) false → length new ≡ length s.nodes
-    → ((m : ℕ) → 2 ≤ m → m < length old + 2
-    → marked new m ≡ (marked old m || list_any (eqb m) (n ∷ []))) → length old ≡ length s.nodes
-    → AreMarked s n new (length s.nodes)
-marked_root s n old new node old_is long after old_long =
-    let none : (m : ℕ) → marked old m ≡ false =
-    λ m. subst (λ (xs : List Bool). marked xs m ≡ false) (sym old_is)
-    (marked_none (length s.nodes) m) in
-    record {
-      long = long;
-      within = omega arith;
-      sound = λ m large within h.
-          ⊎_elim
-          (λ before. absurd (false≢true (sym (none m) ∙ before)))
-          (λ now. let w = any_contains (n ∷ []) m now in
-          let k : w.0 ≡ 0 = let inside = w.1 in omega arith in
-          let same : n ≡ m = subst (λ (j : ℕ). get_or (n ∷ []) j m ≡ m) k w.2 in
-          subst (Reaches s n) same (reaches_self s n))
-          (or_cases (marked old m) (list_any (eqb m) (n ∷ []))
-          (sym (after m large (omega arith)) ∙ h));
-      root = λ large. after n large (omega arith)
-          ∙ or_right (marked old n) (list_any (eqb n) (n ∷ []))
-          (contains_any (n ∷ []) n 0 (omega arith) refl);
-      closed = λ k m from within h has large. absurd (omega arith);
-    }
-
--- a node that isn't marked has nothing to mark
-pub marked_skip : (s : Diagrams) (n : ℕ) (marks : List Bool) (i j : ℕ) → AreMarked s n marks i
-    → i ≡ j + 1 → marked marks (j + 2) ≡ false → AreMarked s n marks j
-marked_skip s n marks i j ok next off =
-    let w = ok.within in
-    record {
-      long = ok.long;
-      within = omega arith;
-      sound = ok.sound;
-      root = ok.root;
-      closed = λ k m from within h has large.
-          ⊎_elim
-          (λ here. absurd (false≢true (sym off ∙ subst (λ (x : ℕ). marked marks x ≡ true) here h)))
-          (λ other. ok.closed k m (omega arith) within h has large)
-          (cases_eq k (j + 2));
-    }
 
 -- a marked node marks its children, which have smaller numbers
 pub marked_kids : (s : Diagrams) (n : ℕ) (old new : List Bool) (i j : ℕ) (node : Node)

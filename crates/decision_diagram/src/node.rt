@@ -4,7 +4,7 @@ use std::marker::Model;
 
 /// A node of a store, by its number: 0 is the node that is false, 1 is the one that is true, and
 /// the inner nodes follow in the order in which they were made.
-#[derive(Clone, Copy, Debug, PartialEq, Eq)]
+#[derive(Clone, Copy, PartialEq, Eq)]
 pub struct NodeId {
     number: u64,
 }
@@ -98,7 +98,7 @@ impl<'a> Node<'a> {
 }
 
 /// What kind of node a node is.
-#[derive(Clone, Copy, Debug, PartialEq, Eq)]
+#[derive(Clone, Copy)]
 pub enum Shape {
     /// It is false on all codes.
     False,

@@ -5,7 +5,7 @@ ghost use Rattle.decision_diagram.specs.Constants.{constant_node};
 use crate::node::NodeId;
 
 /// What is done with two values.
-#[derive(Clone, Copy, Debug, PartialEq, Eq)]
+#[derive(Clone, Copy)]
 pub(crate) enum Operation {
     And,
     Or,
@@ -18,13 +18,13 @@ impl Operation {
     pub(crate) fn absorbing(self) -> NodeId
         ensures { result ≡ constant_node (combine self true false) }
     {
-        NodeId::constant(self == Operation::Or)
+        NodeId::constant(matches!(self, Operation::Or))
     }
 
     // The node that leaves the other one's value as it is.
     pub(crate) fn neutral(self) -> NodeId
         ensures { result ≡ constant_node (not (combine self true false)) }
     {
-        NodeId::constant(self == Operation::And)
+        NodeId::constant(matches!(self, Operation::And))
     }
 }

@@ -134,15 +134,28 @@ impl Store {
     {
         let agree = vars.len() == order.len();
         prove!(agree);
-        Ok(Store {
+        let vars = vars.copy()?;
+        let order = order.copy()?;
+        let noted = Noted::new(alloc)?;
+        Ok(Store::without_nodes(alloc, vars, order, noted))
+    }
+
+    // The store without inner nodes.
+    fn without_nodes(alloc: Global, vars: VarTable, order: Order, noted: Noted) -> Store
+        requires { length order ≡ length vars }
+        ensures sizes { result.sizes ≡ vars }
+        ensures order { result.order ≡ order }
+        ensures nodes { result.nodes ≡ [] }
+    {
+        Store {
             alloc,
-            vars: vars.copy()?,
-            order: order.copy()?,
+            vars,
+            order,
             nodes: IndexSet::new(alloc),
-            noted: Noted::new(alloc)?,
+            noted,
             conjunctions: empty_index(alloc),
             disjunctions: empty_index(alloc),
-        })
+        }
     }
 
     // The node with a variable and children, where it is noted.
@@ -308,7 +321,7 @@ impl Store {
         while let Shape::Inner { var } = self.shape(at) {
             at = self.child(at, *codes.get(u64::from(var)));
         }
-        self.shape(at) == Shape::True
+        matches!(self.shape(at), Shape::True)
     }
 
     /// Two nodes with the same value on all codes that fit the table are the same node, and the

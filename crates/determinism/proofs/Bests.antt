@@ -8,7 +8,7 @@ use Rattle.transition_table.specs.declared.machine.Machine.{Machine}
 use Rattle.transition_table.specs.declared.snapshot.Snapshot.{Snapshot}
 use Rattle.transition_table.specs.Transitions.{allows, code_given, Conflict}
 use Rattle.determinism.specs.inner.Boxes.{IsIn, EnableBoth, Before}
-use Rattle.determinism.specs.inner.Pairs.{Differ, NeverDiffer, results_end, IsLeastAt, IsBest}
+use Rattle.determinism.specs.inner.Pairs.{Differ, results_end, IsLeastAt, IsBest}
 use Rattle.determinism.specs.inner.Conflicts.{IsLeastOf}
 use Rattle.determinism.specs.declared.pair.Pair.{Pair}
 use Rattle.determinism.proofs.Befores.{before_trans, up_to}
@@ -16,34 +16,6 @@ use Rattle.determinism.proofs.Results.{same_result, same_codes}
 
 never : true ≡ false → ⊥
 never h = cc
-
-pub best_at_first : (pair : Pair) (best : List ℕ) → IsBest pair 1 false best
-best_at_first pair best = record {
-  none = λ f k from below. absurd (omega arith);
-  inside = λ f. absurd (never (sym f));
-  differ = λ f. absurd (never (sym f));
-  least = λ f. absurd (never (sym f));
-}
-
--- the result nowhere differs
-pub best_kept : (pair : Pair) (y : ℕ) (found : Bool) (best : List ℕ) → IsBest pair y found best
-    → NeverDiffer pair y → IsBest pair (y + 1) found best
-best_kept pair y found best h none = record {
-  none = λ f k from below t inside differ.
-      elim (cases_lt k y) [
-        | inl before ↦ h.none f k from before t inside differ
-        | inr over ↦ let here : k ≡ y = omega arith in
-            none t inside (subst (λ j. Differ pair j t) here differ)
-      ];
-  inside = h.inside;
-  differ = λ f. let d = h.differ f in (d.0, d.1, (let below = d.2 in omega arith), d.3);
-  least = λ f k t from below inside differ.
-      elim (cases_lt k y) [
-        | inl before ↦ h.least f k t from before inside differ
-        | inr over ↦ let here : k ≡ y = omega arith in
-            absurd (none t inside (subst (λ j. Differ pair j t) here differ))
-      ];
-}
 
 -- the result differs first after the best so far
 pub best_stays : (pair : Pair) (y : ℕ) (best codes : List ℕ) → IsBest pair y true best
@@ -137,12 +109,6 @@ best_none {pair} a b found best h at_a at_b none t c =
     let on = enables pair.machine.now a b pair.first.now pair.second.now t at_a at_b c in
     let d = differs pair a b t at_a at_b c in
     h.none none d.0 d.1 d.2 t.codes (pair.area.whole t.codes on) d.3
-
-pub none_conflict : (m : Machine) (a b : ℕ) (first second : Row) → slice_get m.rows a ≡ Some first
-    → slice_get m.rows b ≡ Some second → ((codes : List ℕ) → EnableBoth m first second codes → ⊥)
-    → (t : Snapshot) → Conflict m a b t → ⊥
-none_conflict m a b first second at_a at_b none t c =
-    none t.codes (enables m a b first second t at_a at_b c)
 
 pub best_conflict : {pair : Pair} (a b : ℕ) (found : Bool) (best : Snapshot)
     → IsBest pair (results_end pair) found best.codes → a < b

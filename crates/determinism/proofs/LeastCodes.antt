@@ -1,7 +1,8 @@
 -- The least codes at which a result differs.
-use Rattle.std.proofs.Common.{◌≡◌, ◌≢◌, ◌⊎◌, ◌<◌, ◌≤◌, ◌+◌, ℕ, zero, suc, List, [], ◌∷◌, ◌++◌, length, slice_get, slice_index, slice_set, Some, arith, refl, sym, ◌∙◌, ap, subst, inl, inr}
+use Rattle.std.proofs.Common.{◌≡◌, ◌≢◌, ◌==◌, false, ◌⊎◌, ◌<◌, ◌≤◌, ◌+◌, ℕ, zero, suc, List, ◌∷◌, ◌++◌, length, slice_get, slice_index, slice_set, Some, arith, refl, sym, ◌∙◌, ap, subst, inl, inr, []}
 use Rattle.std.specs.Int.{bit_at}
 use Rattle.std.proofs.lemmas.List.{length-set, get_or-set_same, get_or-set_other, nil_from_length}
+use Rattle.std.proofs.lemmas.Bool.{eq-eqb, false≢true}
 use Rattle.std.proofs.lemmas.Bool.Decides.{eqb_tells}
 use Rattle.determinism.specs.inner.Boxes.{IsIn, AreLeast, SameBut, Before}
 use Rattle.determinism.specs.inner.Pairs.{Agree, Differ, HangsOn}
@@ -24,6 +25,13 @@ in_set sets codes v code h below set = record {
             ∙ h.each k within
       ];
 }
+
+-- a code that a set doesn't have
+pub not_there : (sets t : List ℕ) (v code : ℕ) → IsIn sets t → v < length sets
+    → slice_index t v ≡ code → (bit_at (slice_index sets v) code == 1) ≡ false → ⊥
+not_there sets t v code h below at fails =
+    false≢true (sym fails ∙ eq-eqb (bit_at (slice_index sets v) code) 1
+    (subst (λ c. bit_at (slice_index sets v) c ≡ 1) at (h.each v below)))
 
 -- codes that agree where the rows read
 pub same_there : (pair : Pair) (y u v : ℕ) (t codes : List ℕ) → HangsOn pair y u v
@@ -48,11 +56,15 @@ set_agrees codes t u v code below at_u at_v =
       | inr apart ↦ (at_u apart.1 ∙ sym (get_or-set_other codes v u code 0 apart.1), own)
     ]
 
--- a code that a set doesn't have
-pub not_there : (sets t : List ℕ) (v code : ℕ) → IsIn sets t → v < length sets
-    → slice_index t v ≡ code → bit_at (slice_index sets v) code ≢ 1 → ⊥
-not_there sets t v code h below at fails =
-    fails (subst (λ c. bit_at (slice_index sets v) c ≡ 1) at (h.each v below))
+-- where there is no variable there is one list
+pub only_one : (sets codes t : List ℕ) → length sets ≡ 0 → IsIn sets codes → IsIn sets t → codes ≡ t
+only_one sets codes t none inside there =
+    nil_from_length codes (inside.long ∙ none) ∙ sym (nil_from_length t (there.long ∙ none))
+
+pub only_before : (sets codes t : List ℕ) → length sets ≡ 0 → IsIn sets codes → IsIn sets t
+    → Before codes t
+only_before sets codes t none inside there =
+    subst (λ xs. Before xs t) (sym (nil_from_length codes (inside.long ∙ none))) tt
 
 -- the least of two codes, all others being least
 pub pair_before : (sets base codes t : List ℕ) (u v : ℕ) → u < v → v < length sets
@@ -97,16 +109,6 @@ single_before sets base codes t v least inside same there up =
           let low = least.least k (slice_index t k) (omega arith) (there.each k (omega arith)) in
           omega arith
     ])
-
--- where there is no variable there is one list
-pub only_one : (sets codes t : List ℕ) → length sets ≡ 0 → IsIn sets codes → IsIn sets t → codes ≡ t
-only_one sets codes t none inside there =
-    nil_from_length codes (inside.long ∙ none) ∙ sym (nil_from_length t (there.long ∙ none))
-
-pub only_before : (sets codes t : List ℕ) → length sets ≡ 0 → IsIn sets codes → IsIn sets t
-    → Before codes t
-only_before sets codes t none inside there =
-    subst (λ xs. Before xs t) (sym (nil_from_length codes (inside.long ∙ none))) tt
 
 -- what holds of the items before a place holds up to the place where it is written
 pub written : (xs : List ℕ) (k x : ℕ) (P : ℕ → ℕ → Type 0) → k < length xs

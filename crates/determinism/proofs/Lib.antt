@@ -4,6 +4,5 @@ pub mod Bests
 pub mod Clash
 pub mod Overlaps
 pub mod LeastCodes
-pub mod IsLeastConflict
 pub mod Results
 pub mod AreSayers

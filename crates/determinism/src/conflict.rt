@@ -145,16 +145,20 @@ fn conflicting(
     None
 }
 
-/// Whether no two rows of a machine are enabled on one snapshot with results that differ, and
-/// otherwise the least such conflict: by the first row, then by the second, then by the snapshot,
-/// compared as a list of codes. Rows with equal results may overlap.
-pub fn check(alloc: Global, m: &Machine) -> Result<(), CheckFault>
+// The least conflict of a machine, where it has one.
+fn check_rows(
+    alloc: Global,
+    m: &Machine,
+    table: &SetTable,
+    marks: &List<Marks>,
+    sayers: &Sayers,
+) -> Result<(), CheckFault>
+    requires table { IsTable m.now.vars m.now.rows table.now }
+    requires marks { AreMarked m.now marks.now }
+    requires sayers { AreSayers marks.now sayers.now }
     ensures { Answers m.now result }
 {
     laws();
-    let table = table_of(alloc, m)?;
-    let marks = marks_table(alloc, m, &table)?;
-    let sayers = sayers_of(alloc, &marks)?;
     let mut sets = CodeSets::filled(alloc, m.vars.len(), 0)?;
     let mut s = Snapshot {
         codes: first_codes(alloc, &m.vars)?,
@@ -163,7 +167,7 @@ pub fn check(alloc: Global, m: &Machine) -> Result<(), CheckFault>
         codes: first_codes(alloc, &m.vars)?,
     };
     for a in 0..m.row_count() {
-        if let Some(b) = conflicting(m, a, &table, &marks, &sayers, &mut sets, &mut s, &mut best) {
+        if let Some(b) = conflicting(m, a, table, marks, sayers, &mut sets, &mut s, &mut best) {
             return Err(CheckFault::Conflict {
                 row_a: a,
                 row_b: b,
@@ -171,5 +175,18 @@ pub fn check(alloc: Global, m: &Machine) -> Result<(), CheckFault>
             });
         }
     }
+    Ok(())
+}
+
+/// Whether no two rows of a machine are enabled on one snapshot with results that differ, and
+/// otherwise the least such conflict: by the first row, then by the second, then by the snapshot,
+/// compared as a list of codes. Rows with equal results may overlap.
+pub fn check(alloc: Global, m: &Machine) -> Result<(), CheckFault>
+    ensures { Answers m.now result }
+{
+    let table = table_of(alloc, m)?;
+    let marks = marks_table(alloc, m, &table)?;
+    let sayers = sayers_of(alloc, &marks)?;
+    check_rows(alloc, m, &table, &marks, &sayers)?;
     Ok(())
 }

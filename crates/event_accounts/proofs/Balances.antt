@@ -22,7 +22,7 @@ use Rattle.event_accounts.proofs.InputsOf.{IsBuffer, code_of_place}
 use Rattle.event_accounts.proofs.AccountAfter.{BringsCode, account_away, account_more}
 use Rattle.event_accounts.proofs.OneItemMore.{by_end, flat_map_push, slice_get_end}
 use Rattle.journals.proofs.Alone.{fitting_prefix}
-use Rattle.net_core.proofs.Losses.{fits_at}
+use Rattle.journals.proofs.EntriesAt.{fits_at}
 use Rattle.polis_base.proofs.Lists.{all_append}
 use Rattle.std.proofs.lemmas.List.Folds.{list_all-map}
 

@@ -1,7 +1,7 @@
 -- The last firing and the last reaction of a log, and what a firing gives.
 use Rattle.std.specs.Prelude.{◌≡◌, ℕ, ◌<◌, ◌≤◌, Bool, true, false, cond, ◌==◌, nat_le, List, [], ◌∷◌, ◌++◌, map, filter, flat_map, length, is_some, Option, Some, None}
 use Rattle.std.specs.List.{list_all}
-use Rattle.std.proofs.Common.{refl, sym, ap, ◌∙◌, arith}
+use Rattle.std.proofs.Common.{refl, ap, ◌∙◌, arith}
 use Rattle.std.proofs.lemmas.List.{append-nil, map-append}
 use Rattle.std.proofs.lemmas.List.Elements.{filter-append}
 use Rattle.std.proofs.lemmas.Bool.{eq-eqb, le-leb, and_parts, and_from, false≢true}
@@ -22,7 +22,7 @@ use Rattle.journals.specs.Reactions.{outcome_in}
 use Rattle.journals.specs.Schedules.{deliveries_of, firing_deliveries}
 use Rattle.event_buffer.specs.declared.pending.Pending.{Pending}
 use Rattle.event_buffer.specs.Arrivals.{is_arrival, are_arrivals, arrival_of}
-use Rattle.event_buffer.specs.Cells.{firing_stamp, reaction_in, last_reaction, decided, IsLast}
+use Rattle.event_buffer.specs.Cells.{firing_stamp, reaction_in, decided, IsLast}
 use Rattle.event_buffer.proofs.LegalLogs.{clock_more}
 use Rattle.journals.proofs.MomentsAfter.{last_of_push}
 
@@ -100,12 +100,6 @@ last_stays net m (Some (stamp, s)) log x dep h = (
       ∙ h.0,
   λ fires. same_firing m log x dep ∙ h.1 fires,
 )
-
-pub last_of_frozen :
-    (net : Network) (m : ℕ) (frozen : Option (ℕ × Snapshot)) (log : List Stamped)
-    → IsLast net m frozen log → is_some frozen ≡ true → frozen ≡ last_reaction log
-last_of_frozen net m None log h some = absurd (false≢true some)
-last_of_frozen net m (Some (stamp, s)) log h some = sym h.0
 
 -- ---- what it gives
 

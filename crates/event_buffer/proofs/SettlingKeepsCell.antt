@@ -16,7 +16,6 @@ use Rattle.journals.specs.Logs.{clock, entries, stamped}
 use Rattle.journals.specs.Reactions.{outcome_in}
 use Rattle.event_buffer.specs.declared.pending.Pending.{Pending}
 use Rattle.event_buffer.specs.Cells.{CellState, firing_stamp, decided, filled, frozen_of, shown, IsCell}
-use Rattle.event_buffer.specs.Reacting.{FrozenState}
 use Rattle.event_buffer.proofs.OutcomeIn.{one_written}
 
 -- what is written is the pending reaction with its outcome
@@ -112,16 +111,6 @@ settling_is net m moment woken time busy pending log p c machine stamp snapshot 
           (same ∙ sym (ap (λ (s : CellState). s.machine) view)) parts.0 parts.1,
       parts.0,
     )
-
-pub outcome_seen :
-    (f g : FrozenState) (net : Network)
-    → f ≡ g
-    → g.net ≡ net
-    → f.outcome ≡ outcome_in net f.machine f.snapshot
-    → g.outcome ≡ outcome_in g.net g.machine g.snapshot
-outcome_seen f g net view same is =
-    subst (λ (s : FrozenState). s.outcome ≡ outcome_in g.net s.machine s.snapshot) view
-    (is ∙ ap (λ (n : Network). outcome_in n f.machine f.snapshot) (sym same))
 
 -- the log in which the pending reaction is written is the one that contracts see
 pub settled_log :

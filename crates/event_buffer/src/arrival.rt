@@ -2,7 +2,7 @@
 use transition_table::Party;
 
 /// A delivery under way, with the stamp of its firing, or 0 for one of the environment.
-#[derive(Clone, Copy, Debug, PartialEq, Eq)]
+#[derive(Clone, Copy)]
 pub struct Arrival {
     /// Who sent the event.
     pub from: Party,

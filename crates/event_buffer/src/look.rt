@@ -1,7 +1,7 @@
 // How a cell looks, and why it can't take an entry.
 
 /// How a cell looks.
-#[derive(Clone, Copy, Debug, PartialEq, Eq)]
+#[derive(Clone, Copy)]
 pub enum Look {
     /// Its machine may react.
     Ready,
@@ -12,7 +12,7 @@ pub enum Look {
 }
 
 /// Why a cell can't take an entry.
-#[derive(Clone, Copy, Debug, PartialEq, Eq)]
+#[derive(Clone, Copy)]
 pub enum CellError {
     /// The entry's stamp would be above the greatest.
     ClockFull,

@@ -11,7 +11,7 @@ use std::alloc::Global;
 use transition_table::{Network, Reactor};
 
 /// What is found of a journal.
-#[derive(Clone, Copy, Debug, PartialEq, Eq)]
+#[derive(Clone, Copy)]
 pub enum Verdict {
     /// It is legal.
     Legal {

@@ -2,13 +2,15 @@
 use Rattle.std.proofs.Common.{◌≡◌, ◌≢◌, ◌+◌, ◌-◌, length-drop, ℕ, suc, Bool, true, false, not, ◌&&◌, ◌||◌, ◌==◌, cond, [], ◌∷◌, ◌++◌, ◌⊎◌, inl, inr, length, take, drop, Option, Some, None, is_some, refl, ap, ◌∙◌, arith, sym, subst}
 use Rattle.std.specs.Prelude.{unwrap_or}
 use Rattle.std.specs.List.{list_all}
-use Rattle.std.proofs.lemmas.Bool.{not_from_false, not-true, eq-eqb, and_parts, false≢true}
+use Rattle.std.proofs.lemmas.Bool.{not_from_false, not-true, eq-eqb, and_parts, false≢true, and_from}
 use Rattle.std.proofs.lemmas.List.{take_all, take_at, drop_at, append_assoc, length-append}
 use Rattle.domains.specs.Names.{is_same}
-use Rattle.journal_text.specs.Forms.{Text, Texts, pieces, with_byte, words_of, is_word, list_of, dash, before, after}
-use Rattle.journal_text.specs.Cursors.{lacks, items_in, CutAt, NoCut}
-use Rattle.journal_text.proofs.IsSame.{and_true, same_texts, texts_same, is_same_self, all_in_both}
-use Rattle.journal_text.proofs.Pieces.{pieces_at, pieces_end, some_piece, joined_by, joined_pieces}
+use Rattle.journal_text.specs.Forms.{Text, Texts, words_of, is_word, list_of, dash, before, after}
+use Rattle.polis_base.specs.Pieces.{pieces, with_byte, lacks}
+use Rattle.journal_text.specs.Cursors.{items_in, CutAt, NoCut}
+use Rattle.polis_base.proofs.AllPass.{all_in_both}
+use Rattle.domains.proofs.Names.{same_texts, texts_same, same_self}
+use Rattle.polis_base.proofs.TextPieces.{pieces_at, pieces_end, some_piece, joined_by, joined_pieces}
 use Rattle.journal_text.proofs.FormWords.{avoids, before_at, after_at, words_of_list}
 
 pub to_the_end : (bytes : Text) (n : ℕ) → take (length bytes - n) (drop n bytes) ≡ drop n bytes
@@ -102,7 +104,7 @@ pub no_cut_at_start : (sign words : Text) (at : ℕ) (tail word rest : Text) →
 no_cut_at_start sign words at tail word rest start is whole lack same =
     let all : words ≡ word ++ 32 ∷ rest = ap (λ n. drop n words) (sym start) ∙ sym is ∙ whole in
     subst (NoCut sign) (sym (ap words_of all ∙ pieces_at 32 word rest lack))
-    (inr (inl (rw same (rw (is_same_self sign) refl))))
+    (inr (inl (rw same (rw (same_self sign) refl))))
 
 -- the sign after a prefix
 pub cut_found : (sign words : Text) (at : ℕ) (tail word rest : Text) → Passed sign words at → at ≢ 0
@@ -151,7 +153,7 @@ pub passed_more : (sign words : Text) (at : ℕ) (tail word rest : Text) → Pas
 passed_more sign words at tail word rest (inl start) is whole lack other =
     let all : words ≡ word ++ 32 ∷ rest = ap (λ n. drop n words) (sym start) ∙ sym is ∙ whole in
     all_past sign words word word rest all
-    (rw (pieces_end 32 word lack) (and_true _ _ (not_from_false _ other) refl))
+    (rw (pieces_end 32 word lack) (and_from _ _ (not_from_false _ other) refl))
 passed_more sign words at tail word rest (inr passed) is whole lack other =
     let back : drop at words ≡ word ++ 32 ∷ rest = sym is ∙ whole in
     let all : words ≡ (passed.0 ++ 32 ∷ word) ++ 32 ∷ rest =
@@ -161,7 +163,7 @@ passed_more sign words at tail word rest (inr passed) is whole lack other =
     ap (avoids sign) (pieces_both 32 passed.0 word
     ∙ ap (λ ws. words_of passed.0 ++ ws) (pieces_end 32 word lack))
     ∙ all_in_both (λ w. not (is_same w sign)) (words_of passed.0) (word ∷ []) passed.3
-    (and_true _ _ (not_from_false _ other) refl) in
+    (and_from _ _ (not_from_false _ other) refl) in
     all_past sign words (passed.0 ++ 32 ∷ word) word rest all free
 
 pub not_all : (ws : Texts) (w : Text) (more : Texts) → ws ≡ w ∷ more → is_word w ≡ false

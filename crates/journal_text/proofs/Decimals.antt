@@ -10,15 +10,6 @@ use Rattle.journal_text.proofs.FormWords.{some_same}
 use Rattle.polis_base.specs.Digits.{is_digit, is_plain, number_of}
 use Rattle.polis_base.proofs.Digits.{own, text_of_number, number_of_decimal, plain_decimal}
 
-prefix_free : (c : ℕ) (cs : List ℕ) → (c ≡ 48 → length (c ∷ cs) ≡ 1)
-    → (not (c == 48) || length cs == 0) ≡ true
-prefix_free c cs zero_alone = grind (arith, nat_tests)
-
-plain_from : (cs : List ℕ) → 0 < length cs → list_all is_digit cs ≡ true
-    → (get_or cs 0 0 ≡ 48 → length cs ≡ 1) → is_plain cs ≡ true
-plain_from [] some digits zero_alone = absurd (omega arith)
-plain_from (c ∷ cs) some digits zero_alone = rw digits (prefix_free c cs zero_alone)
-
 pub digits_of : (n : ℕ) → n < 2 ^ 64 → list_all is_digit (decimal n) ≡ true
 digits_of n fits = digits_decimal own n fits
 

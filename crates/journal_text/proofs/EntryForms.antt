@@ -18,7 +18,8 @@ use Rattle.transition_table.specs.NetworkNames.{machine_name}
 use Rattle.journal_text.specs.Texts.{spaced, event_item, event_items, state_items, set_items, party_name, snapshot_text, result_text, entry_text}
 use Rattle.journal_text.specs.Forms.{Text, Texts, EntryForm, DepForm, FireForm, IdleForm, colon, semicolon, arrow}
 use Rattle.journal_text.specs.Holding.{values_hold, machine_holds, names_hold}
-use Rattle.journal_text.proofs.Pieces.{joined_by, joined_both, words_in, spaced_joined}
+use Rattle.journal_text.proofs.Pieces.{words_in, spaced_joined}
+use Rattle.polis_base.proofs.TextPieces.{joined_by, joined_both}
 use Rattle.journal_text.proofs.FormWords.{lists_words, form_words}
 use Rattle.journal_text.proofs.ItemCodes.{DomainsHold}
 use Rattle.journals.proofs.DeliveriesOfWay.{passes_of_all}

@@ -2,7 +2,7 @@
 use Rattle.std.proofs.Common.{◌≡◌, ◌<◌, ℕ, zero, suc, Bool, true, false, ◌&&◌, nat_lt, nat_le, cond, List, [], ◌∷◌, ◌++◌, map, length, take, drop, Option, Some, None, Result, Ok, Err, refl, sym, ◌∙◌, ap, arith, slice_get, subst, replicate}
 use Rattle.std.specs.Prelude.{codes, option_map}
 use Rattle.std.specs.List.{list_all}
-use Rattle.std.proofs.lemmas.Bool.{and_parts, lt-ltb, le-leb, false≢true}
+use Rattle.std.proofs.lemmas.Bool.{and_parts, lt-ltb, le-leb, false≢true, and_from}
 use Rattle.std.proofs.lemmas.List.{length-map, take_at, drop_at}
 use Rattle.domains.specs.Names.{is_same}
 use Rattle.domains.specs.Tables.{fits}
@@ -23,7 +23,7 @@ use Rattle.journal_text.specs.Texts.{event_item, event_items, state_items, set_i
 use Rattle.journal_text.specs.inner.Texts.{event_size, state_size, set_size}
 use Rattle.journal_text.specs.Forms.{Text, Texts, EntryForm, DepForm, FireForm, IdleForm}
 use Rattle.journal_text.specs.Items.{as_event, as_state, machine_named, event_named, party_named, name_part, item_code, event_code, some_codes, all_values, snapshot_read, result_read, both_read, map_read, fired, idled, delivery_read, firing_read, idle_read, entry_read}
-use Rattle.journal_text.proofs.IsSame.{and_true, same_texts, is_same_self}
+use Rattle.domains.proofs.Names.{same_texts, same_self}
 use Rattle.journal_text.proofs.FormWords.{some_same}
 use Rattle.journal_text.proofs.FoundByName.{has_found_name}
 use Rattle.journal_text.proofs.ItemCodes.{items_are, values_are, item_of_code}
@@ -94,7 +94,7 @@ delivery_only net from to event entry h =
         let found = has_found_name (λ (event : EventDecl). event.name) net.events
         (name_part event) e d in
         let item = item_of_code net (as_event net e) event code
-        (rw found.1 (is_same_self (name_part event))) i in
+        (rw found.1 (same_self (name_part event))) i in
         let sized = event_sized net e (lt-ltb _ _ found.0) in
         let few : suc item.0 < event_size net e = rw (← sized) item.3 in
         let text : event_item net (e, code) ≡ event =
@@ -105,8 +105,8 @@ delivery_only net from to event entry h =
         le-leb _ _ (omega arith) in
         subst (λ x. (DepForm from to event ≡ form_of net x) × FitsNetwork net x) is (
           rw (sender.0, machine.1, text) refl,
-          and_true _ _ (and_true _ _ sender.1 (lt-ltb _ _ machine.0))
-              (and_true _ _ (and_true _ _ (lt-ltb _ _ found.0) some) most),
+          and_from _ _ (and_from _ _ sender.1 (lt-ltb _ _ machine.0))
+              (and_from _ _ (and_from _ _ (lt-ltb _ _ found.0) some) most),
         )
 
     go : (p : Option Party) (m e : Option ℕ) → party_named net from ≡ p → machine_named net to ≡ m
@@ -210,7 +210,7 @@ result_is net m machine a b next outs at h =
 zeros_fit : {X : Type 0} (size : X → ℕ) (xs : List X) → ((x : X) → nat_lt 0 (size x) ≡ true)
     → fits (map size xs) (replicate (length xs) 0) ≡ true
 zeros_fit size [] h = refl
-zeros_fit size (x ∷ xs) h = and_true _ _ (h x) (zeros_fit size xs h)
+zeros_fit size (x ∷ xs) h = and_from _ _ (h x) (zeros_fit size xs h)
 
 zeros_length : (n : ℕ) → length {A = ℕ} (replicate n 0) ≡ n
 zeros_length zero = refl

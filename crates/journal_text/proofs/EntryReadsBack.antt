@@ -3,7 +3,7 @@ use Rattle.std.proofs.Common.{◌≡◌, ◌<◌, ◌≤◌, ◌+◌, ◌-◌, �
 use Rattle.std.specs.Prelude.{codes, option_map, unwrap_or}
 use Rattle.std.specs.List.{list_all, list_any}
 use Rattle.std.specs.Option.{option_map_or}
-use Rattle.std.proofs.lemmas.Bool.{and_parts, ltb-true, lt-ltb, leb-true, not-true, not_from_false, false≢true, eq-eqb}
+use Rattle.std.proofs.lemmas.Bool.{and_parts, ltb-true, lt-ltb, leb-true, not-true, not_from_false, false≢true, eq-eqb, and_from}
 use Rattle.std.proofs.lemmas.Option.{slice_get_within}
 use Rattle.std.proofs.lemmas.List.{append-nil, take-append-drop}
 use Rattle.polis_base.specs.Names.{is_name}
@@ -31,7 +31,8 @@ use Rattle.journal_text.specs.inner.Texts.{event_size, state_size, set_size}
 use Rattle.journal_text.specs.Forms.{Text, FireForm, IdleForm, is_word, is_word_byte}
 use Rattle.journal_text.specs.Items.{Named, as_event, as_state, machine_named, event_named, party_named, name_part, some_codes, all_values, snapshot_read, result_read, fired, idled, entry_read}
 use Rattle.journal_text.specs.Holding.{machine_holds}
-use Rattle.journal_text.proofs.IsSame.{and_true, texts_differ, all_pass}
+use Rattle.polis_base.proofs.AllPass.{all_pass}
+use Rattle.domains.proofs.Names.{texts_differ}
 use Rattle.journal_text.proofs.FormWords.{good_lists, good_form, some_same}
 use Rattle.journal_text.proofs.FoundByName.{found_by_name, neither_0, neither_1}
 use Rattle.journal_text.proofs.ItemCodes.{named_size, item_text, named_items, DomainsHold, value_word, item_is, item_has_code, codes_read, values_read, names_lack, names_of, lacks_equals, after_equals, name_of_item}
@@ -139,7 +140,7 @@ events_named net (e ∷ events) hold h =
     let t = event_there net e parts.0 in
     let name = passes_of_all (λ (event : EventDecl). is_name event.name) net.events e t.0
     hold.events t.1 in
-    and_true _ _ (rw t.1 name) (events_named net events hold parts.1)
+    and_from _ _ (rw t.1 name) (events_named net events hold parts.1)
 
 pub states_named : (variables : List StateDecl)
     → list_all (λ (variable : StateDecl). is_name variable.name) variables ≡ true
@@ -147,7 +148,7 @@ pub states_named : (variables : List StateDecl)
 states_named [] h = refl
 states_named (variable ∷ variables) h =
     let parts = and_parts (is_name variable.name) _ h in
-    and_true _ _ parts.0 (states_named variables parts.1)
+    and_from _ _ parts.0 (states_named variables parts.1)
 
 -- two events differ in their names
 events_differ : (net : Network) (j k : ℕ) → nat_lt j (length net.events) ≡ true
@@ -168,7 +169,7 @@ events_distinct net [] differ all = refl
 events_distinct net (e ∷ events) differ all =
     let d = and_parts (not (has events e)) _ differ in
     let a = and_parts (nat_lt e (length net.events)) _ all in
-    and_true _ _ (not_from_false _ (apart e events (not-true _ d.0) a.0 a.1))
+    and_from _ _ (not_from_false _ (apart e events (not-true _ d.0) a.0 a.1))
     (events_distinct net events d.1 a.1)
   where
     apart : (e : ℕ) (events : List ℕ) → has events e ≡ false → nat_lt e (length net.events) ≡ true
@@ -345,7 +346,7 @@ items_good net (thing ∷ things) (zero ∷ codes) hold names fit =
 items_good net (thing ∷ things) (suc v ∷ codes) hold names fit =
     let n = and_parts (is_name thing.0) _ names in
     let f = and_parts (nat_lt (suc v) (named_size net thing)) _ fit in
-    and_true _ _ (item_good net thing v hold n.0 (ltb-true _ _ f.0))
+    and_from _ _ (item_good net thing v hold n.0 (ltb-true _ _ f.0))
     (items_good net things codes hold n.1 f.1)
 
 fits_more : (net : Network) (things : List Named) (values : List ℕ)
@@ -357,7 +358,7 @@ fits_more net (thing ∷ things) [] h = cc
 fits_more net (thing ∷ things) (v ∷ values) h =
     let f = and_parts (nat_lt v (values_of net.domains thing.1)) _ h in
     let below = ltb-true _ _ f.0 in
-    and_true _ _ (lt-ltb _ _ (omega arith)) (fits_more net things values f.1)
+    and_from _ _ (lt-ltb _ _ (omega arith)) (fits_more net things values f.1)
 
 name_word : (name : Text) → is_name name ≡ true → is_word name ≡ true
 name_word name h = rw (sym (append-nil name)) (item_word name None h refl)
@@ -397,7 +398,7 @@ seen_good net m machine s hold facts at is =
     facts.inputs (inputs_fit net machine s facts.vars is) in
     let states = states_good net machine.states (drop (length machine.inputs) s.codes) hold
     facts.states (states_fit net machine s facts.vars is) in
-    rw at (and_true _ _ events states)
+    rw at (and_from _ _ events states)
 
 given_good : (net : Network) (m : ℕ) (machine : Machine) (o : Outcome) → Holds net
     → MachineHolds net machine → slice_get net.machines m ≡ Some machine → IsOutcome machine o
@@ -407,7 +408,7 @@ given_good net m machine o hold facts at is =
     (settings_fit net machine o facts.vars facts.outs is) in
     let events = events_good net machine.outputs o.outs hold facts.outputs
     (outputs_fit net machine o facts.vars facts.outs is) in
-    rw at (and_true _ _ sets events)
+    rw at (and_from _ _ sets events)
 
 -- the parts of a delivery that fits
 pub record DepFits (net : Network) (from : Party) (to event code : ℕ) : Type 0 where
@@ -457,7 +458,7 @@ form_good net (Dep from to event zero) hold fit = let f = dep_fits net from to e
     absurd (omega (arith, f.some))
 form_good net (Dep from to event (suc v)) hold fit =
     let f = dep_fits net from to event (suc v) fit in
-    and_true _ _ (and_true _ _ (party_good net from hold f.sender)
+    and_from _ _ (and_from _ _ (party_good net from hold f.sender)
     (name_word (machine_name net to) (machine_is_named net to hold f.receiver)))
     (rw (event_item_is net event v)
     (item_good net (as_event net event) v hold.domains
@@ -475,8 +476,8 @@ form_good net (Rea m s o) hold fit =
         → good_form (cond b
         (FireForm (machine_name net m) (seen_of net m s.codes) (given_of net m o))
         (IdleForm (machine_name net m) (seen_of net m s.codes))) ≡ true
-    go true name seen given = and_true _ _ name (and_true _ _ seen given)
-    go false name seen given = and_true _ _ name seen
+    go true name seen given = and_from _ _ name (and_from _ _ seen given)
+    go false name seen given = and_from _ _ name seen
 
 -- 6. What is read of an entry's form is the entry.
 pub entry_back : WordsDiffer → (net : Network) (entry : Entry) → Holds net → FitsNetwork net entry

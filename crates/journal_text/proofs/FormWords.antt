@@ -3,11 +3,12 @@ use Rattle.std.proofs.Common.{◌≡◌, Bool, true, false, not, ◌&&◌, cond,
 use Rattle.std.specs.Prelude.{codes, option_map}
 use Rattle.std.specs.List.{list_all}
 use Rattle.std.specs.Option.{option_and_then}
-use Rattle.std.proofs.lemmas.Bool.{and_parts, not-true, not_from_false, false≢true}
+use Rattle.std.proofs.lemmas.Bool.{and_parts, not-true, not_from_false, false≢true, and_from}
 use Rattle.std.proofs.lemmas.Option.{option_and_then_some}
 use Rattle.domains.specs.Names.{is_same}
 use Rattle.journal_text.specs.Forms.{Text, Texts, EntryForm, DepForm, FireForm, IdleForm, dash, colon, semicolon, arrow, is_word, list_of, before, after, both, two_lists, four_lists, dep_form, reaction_form, fire_form, idle_form, entry_form}
-use Rattle.journal_text.proofs.IsSame.{and_true, same_texts, is_same_self, texts_differ, all_pass, all_in_both}
+use Rattle.polis_base.proofs.AllPass.{all_pass, all_in_both}
+use Rattle.domains.proofs.Names.{same_texts, same_self, texts_differ}
 use Rattle.journal_text.proofs.Pieces.{words_in}
 
 abbrev pub lists_words : Texts × Texts → Texts
@@ -54,7 +55,7 @@ words_of_list (w ∷ []) items h = one (is_same w dash) (is_word w) refl refl h
         rw (none, is) (refl, refl)
     one false true p q e =
         let some : items ≡ w ∷ [] = cc in
-        rw some (refl, and_true _ _ q refl)
+        rw some (refl, and_from _ _ q refl)
     one false false p q e = cc
 words_of_list (w ∷ next ∷ ws) items h = more (list_all is_word (w ∷ next ∷ ws)) refl h
   where
@@ -72,14 +73,14 @@ avoids sign words = list_all (λ w. not (is_same w sign)) words
 
 pub before_at : (sign : Text) (ws rest : Texts) → avoids sign ws ≡ true
     → before sign (ws ++ sign ∷ rest) ≡ ws
-before_at sign [] rest h = rw (is_same_self sign) refl
+before_at sign [] rest h = rw (same_self sign) refl
 before_at sign (w ∷ ws) rest h =
     let parts = and_parts (not (is_same w sign)) _ h in
     rw (not-true _ parts.0, before_at sign ws rest parts.1) refl
 
 pub after_at : (sign : Text) (ws rest : Texts) → avoids sign ws ≡ true
     → after sign (ws ++ sign ∷ rest) ≡ Some rest
-after_at sign [] rest h = rw (is_same_self sign) refl
+after_at sign [] rest h = rw (same_self sign) refl
 after_at sign (w ∷ ws) rest h =
     let parts = and_parts (not (is_same w sign)) _ h in
     rw (not-true _ parts.0, after_at sign ws rest parts.1) refl
@@ -142,7 +143,7 @@ two_lists_are ws a b h =
     option_and_then_some list_of (after semicolon ws) b parts.1 (λ rest there is.
     let back = words_of_list rest b is in
     let cut = cut_at semicolon ws rest there in
-    (cut ∙ rw (prefix.0, back.0) refl, and_true _ _ prefix.1 back.1))
+    (cut ∙ rw (prefix.0, back.0) refl, and_from _ _ prefix.1 back.1))
 
 lists_avoid : (a b : Texts) → list_all is_word a ≡ true → list_all is_word b ≡ true
     → avoids arrow (lists_words (a, b)) ≡ true
@@ -173,7 +174,7 @@ four_lists_are ws (a, b) (c, d) h =
     option_and_then_some two_lists (after arrow ws) (c, d) parts.1 (λ rest there is.
     let back = two_lists_are rest c d is in
     let cut = cut_at arrow ws rest there in
-    (cut ∙ rw (prefix.0, back.0) refl, and_true _ _ prefix.1 back.1))
+    (cut ∙ rw (prefix.0, back.0) refl, and_from _ _ prefix.1 back.1))
 
 -- the words of a form have that form
 pub form_of_words : (form : EntryForm) → good_form form ≡ true
@@ -244,7 +245,7 @@ words_of_fire machine rest form good h = go (four_lists rest) refl h
         let f = four_lists_are rest seen given p in (
           ap (λ ws. codes "fire" ∷ machine ∷ colon ∷ ws) f.0
               ∙ ap form_words is,
-          ap good_form (sym is) ∙ and_true _ _ good f.1,
+          ap good_form (sym is) ∙ and_from _ _ good f.1,
         )
 
 words_of_idle : (machine : Text) (rest : Texts) (form : EntryForm) → is_word machine ≡ true
@@ -261,7 +262,7 @@ words_of_idle machine rest form good h = go (two_lists rest) refl h
         let f = two_lists_are rest a b p in (
           ap (λ ws. codes "idle" ∷ machine ∷ colon ∷ ws) f.0
               ∙ ap form_words is,
-          ap good_form (sym is) ∙ and_true _ _ good f.1,
+          ap good_form (sym is) ∙ and_from _ _ good f.1,
         )
 
 -- words of a form are the words of that form

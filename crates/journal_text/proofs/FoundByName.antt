@@ -6,68 +6,14 @@ use Rattle.std.specs.Option.{option_or}
 use Rattle.std.proofs.lemmas.List.Folds.{find-append}
 use Rattle.std.proofs.lemmas.Bool.{and_parts, ltb-true, ltb-false, leb-true, not-true}
 use Rattle.polis_base.specs.Lists.{upto}
+use Rattle.polis_base.proofs.Found.{find_only, find_is}
 use Rattle.domains.specs.Names.{is_same, are_distinct}
 use Rattle.domains.specs.Domains.{size_of, word_of, IsDomain, WordsDiffer}
 use Rattle.domains.specs.declared.domain.Domain.{Domain}
 use Rattle.domains.specs.declared.domain.Domain.TheVariants.{Names, Range}
-use Rattle.journal_text.specs.Items.{value_named}
+use Rattle.journals.specs.ValueWords.{value_named}
 use Rattle.journal_text.specs.Holding.{values_hold}
-use Rattle.journal_text.proofs.IsSame.{same_texts, is_same_self, texts_differ}
-
--- the first number that passes
-pub find_here : (test : ℕ → Bool) (n k : ℕ) → k < n → find test (upto k) ≡ None → test k ≡ true
-    → find test (upto n) ≡ Some k
-find_here test zero k below before here = absurd (omega arith)
-find_here test (suc n) k below before here =
-    elim (nat_lt k n) as (λ b. nat_lt k n ≡ b → find test (upto (suc n)) ≡ Some k) [
-      | true ↦ λ e. rw (
-        find-append test (upto n) (n ∷ []),
-        find_here test n k (ltb-true k n e) before here,
-      ) refl
-      | false ↦ λ e. let above : n ≤ k = ltb-false k n e in
-          let same : k ≡ n = omega arith in
-          let none : find test (upto n) ≡ None = rw (← same) before in
-          let passes : test n ≡ true = rw (← same) here in
-          rw (find-append test (upto n) (n ∷ []), none, passes, same) refl
-    ] refl
-
--- no number passes
-pub find_none : (test : ℕ → Bool) (n : ℕ) → ((k : ℕ) → k < n → test k ≡ false)
-    → find test (upto n) ≡ None
-find_none test zero none = refl
-find_none test (suc n) none =
-    rw (
-      find-append test (upto n) (n ∷ []),
-      find_none test n (λ k below. none k (omega arith)),
-      none n (omega arith),
-    ) refl
-
--- the only number that passes
-pub find_only : (test : ℕ → Bool) (n k : ℕ) → k < n → test k ≡ true
-    → ((j : ℕ) → j < k → test j ≡ false) → find test (upto n) ≡ Some k
-find_only test n k below here none = find_here test n k below (find_none test k none) here
-
--- a number that is found passes
-pub find_is : (test : ℕ → Bool) (n k : ℕ) → find test (upto n) ≡ Some k → (k < n) × (test k ≡ true)
-find_is test zero k h = cc
-find_is test (suc n) k h =
-    go (find test (upto n)) (test n) refl refl (sym (find-append test (upto n) (n ∷ [])) ∙ h)
-    (λ e. find_is test n k e)
-  where
-    go : (o : Option ℕ) (b : Bool) → find test (upto n) ≡ o → test n ≡ b
-        → option_or (find test (upto n)) (find test (n ∷ [])) ≡ Some k
-        → (find test (upto n) ≡ Some k → (k < n) × (test k ≡ true)) → (k < suc n) × (test k ≡ true)
-    go (Some j) b p q e more =
-        let f = rw p at e in
-        let r = more (p ∙ f) in
-        (omega (arith, r.0), r.1)
-    go None true p q e more =
-        let f = rw (p, q) at e in
-        let same : n ≡ k = cc in
-        (rw same (omega arith), rw (← same) q)
-    go None false p q e more =
-        let f = rw (p, q) at e in
-        cc
+use Rattle.domains.proofs.Names.{same_texts, same_self, texts_differ}
 
 -- the text of the thing at a place
 abbrev pub text_at : {X : Type 0} → (X → List ℕ) → List X → ℕ → List ℕ
@@ -108,7 +54,7 @@ pub found_by_name : {X : Type 0} (f : X → List ℕ) (xs : List X) (k : ℕ)
     → find (λ j. is_same (text_at f xs j) (text_at f xs k)) (upto (length xs)) ≡ Some k
 found_by_name f xs k distinct below =
     find_only (λ j. is_same (text_at f xs j) (text_at f xs k)) (length xs) k below
-    (is_same_self (text_at f xs k)) (λ j before. names_differ f xs j k distinct before below)
+    (same_self (text_at f xs k)) (λ j before. names_differ f xs j k distinct before below)
 
 -- what is found has the name
 pub has_found_name : {X : Type 0} (f : X → List ℕ) (xs : List X) (word : List ℕ) (k : ℕ)
@@ -133,7 +79,7 @@ pub value_found : WordsDiffer → (d : Domain) (v : ℕ) → values_hold d ≡ t
     → value_named (word_of d v) d ≡ Some v
 value_found differ d v holds below =
     find_only (λ u. is_same (word_of d u) (word_of d v)) (size_of d) v below
-    (is_same_self (word_of d v))
+    (same_self (word_of d v))
     (λ u before. texts_differ (word_of d u) (word_of d v) (λ same.
     let e = differ d u v (is_domain d holds) (omega arith) below same in
     omega arith))

@@ -3,7 +3,7 @@ use Rattle.std.proofs.Common.{◌≡◌, ◌<◌, ◌+◌, ◌^◌, ℕ, zero, s
 use Rattle.std.specs.Prelude.{unwrap_or}
 use Rattle.std.specs.List.{list_all}
 use Rattle.std.specs.Fmt.{decimal}
-use Rattle.std.proofs.lemmas.Bool.{and_parts, ltb-true, not_from_false, false≢true, eqb-true}
+use Rattle.std.proofs.lemmas.Bool.{and_parts, ltb-true, not_from_false, false≢true, eqb-true, and_from}
 use Rattle.polis_base.specs.Digits.{is_digit}
 use Rattle.polis_base.specs.Names.{is_name, begins_name, continues_name}
 use Rattle.domains.specs.Names.{are_distinct}
@@ -13,8 +13,8 @@ use Rattle.domains.specs.declared.domain.Domain.TheVariants.{Names, Range}
 use Rattle.journal_text.specs.Forms.{Text, Texts, is_word, is_word_byte}
 use Rattle.journal_text.specs.Items.{is_equals}
 use Rattle.journal_text.specs.Holding.{values_hold}
-use Rattle.journal_text.proofs.IsSame.{and_true, all_pass, all_in_both, differ_false}
-use Rattle.journal_text.proofs.Pieces.{lacks}
+use Rattle.polis_base.proofs.AllPass.{all_pass, all_in_both, differ_false}
+use Rattle.polis_base.specs.Pieces.{lacks}
 use Rattle.journal_text.proofs.ItemCodes.{lacks_equals, after_equals}
 use Rattle.journal_text.proofs.Decimals.{digits_of}
 use Rattle.polis_base.proofs.Scans.{begins_continues}
@@ -60,7 +60,7 @@ name_continues (c ∷ cs) h =
     && (begins_name c && list_all continues_name cs)) _ h in
     let word = and_parts (nat_le (length (c ∷ cs)) 24) _ parts.0 in
     let bytes = and_parts (begins_name c) _ word.1 in
-    and_true _ _ (begins_continues c bytes.0) bytes.1
+    and_from _ _ (begins_continues c bytes.0) bytes.1
 
 name_begins : (c : ℕ) (cs : Text) → is_name (c ∷ cs) ≡ true → begins_name c ≡ true
 name_begins c cs h =

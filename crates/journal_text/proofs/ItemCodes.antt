@@ -3,7 +3,7 @@ use Rattle.std.proofs.Common.{◌≡◌, ◌<◌, ◌+◌, ◌-◌, ℕ, zero, s
 use Rattle.std.specs.Prelude.{option_map, unwrap_or, codes, ⊤}
 use Rattle.std.specs.List.{list_all, list_any}
 use Rattle.std.specs.Option.{option_map_or}
-use Rattle.std.proofs.lemmas.Bool.{and_parts, ltb-true, lt-ltb, not-true, eqb-true}
+use Rattle.std.proofs.lemmas.Bool.{and_parts, ltb-true, lt-ltb, not-true, eqb-true, and_from}
 use Rattle.domains.specs.Names.{is_same, are_distinct}
 use Rattle.domains.specs.Domains.{size_of, word_of, WordsDiffer}
 use Rattle.domains.specs.Tables.{fits}
@@ -15,9 +15,10 @@ use Rattle.journal_text.specs.declared.fault.JournalKind.TheVariants.{Name}
 use Rattle.journal_text.specs.Texts.{value_part}
 use Rattle.journal_text.specs.Forms.{Text, Texts}
 use Rattle.transition_table.specs.NetworkNames.{joined}
-use Rattle.journal_text.specs.Items.{Named, is_equals, name_part, value_part_of, has_name, word_code, item_code, value_named, with_code, some_codes, all_values}
+use Rattle.journal_text.specs.Items.{Named, is_equals, name_part, value_part_of, has_name, item_code, with_code, some_codes, all_values}
+use Rattle.journals.specs.ValueWords.{word_code, value_named}
 use Rattle.journal_text.specs.Holding.{values_hold}
-use Rattle.journal_text.proofs.IsSame.{and_true, same_texts, is_same_self}
+use Rattle.domains.proofs.Names.{same_texts, same_self}
 use Rattle.journal_text.proofs.FormWords.{some_same}
 use Rattle.journal_text.proofs.FoundByName.{value_found, value_has, neither_0, neither_1}
 
@@ -91,7 +92,7 @@ item_is net (name, Some d) v = refl
 pub item_has_name : (net : Network) (named : Named) (v : ℕ) → lacks_equals named.0 ≡ true
     → has_name named (item_text net named v) ≡ true
 item_has_name net named v h =
-    rw (item_is net named v, name_of_item named.0 (value_word net named v) h) (is_same_self named.0)
+    rw (item_is net named v, name_of_item named.0 (value_word net named v) h) (same_self named.0)
 
 pub item_has_code : WordsDiffer → (net : Network) (named : Named) (v : ℕ) → DomainsHold net
     → lacks_equals named.0 ≡ true → suc v < named_size net named
@@ -257,7 +258,7 @@ items_are net (thing ∷ things) [] codes h =
     let is : codes ≡ 0 ∷ u.1 = u.4 ∙ ap (λ c. c ∷ u.1) zero_first in
     subst (λ cs. ([] ≡ named_items net (thing ∷ things) cs)
     × (fits (map (named_size net) (thing ∷ things)) cs ≡ true)) (sym is)
-    (r.0, and_true _ _ (lt-ltb _ _ (omega arith)) r.1)
+    (r.0, and_from _ _ (lt-ltb _ _ (omega arith)) r.1)
 items_are net (thing ∷ things) (item ∷ items) codes h =
     go (has_name thing item) refl h (λ xs cs e. items_are net things xs cs e)
   where
@@ -276,7 +277,7 @@ items_are net (thing ∷ things) (item ∷ items) codes h =
         subst (λ cs. (item ∷ items ≡ named_items net (thing ∷ things) cs)
         × (fits (map (named_size net) (thing ∷ things)) cs ≡ true)) (sym is) (
           ap (λ x. x ∷ items) i.2 ∙ ap (λ xs. item_text net thing i.0 ∷ xs) r.0,
-          and_true _ _ (lt-ltb _ _ i.3) r.1,
+          and_from _ _ (lt-ltb _ _ i.3) r.1,
         )
     go false p e more =
         let u = under_code (Some 0) (some_codes net things (item ∷ items)) codes e in
@@ -285,7 +286,7 @@ items_are net (thing ∷ things) (item ∷ items) codes h =
         let is : codes ≡ 0 ∷ u.1 = u.4 ∙ ap (λ c. c ∷ u.1) zero_first in
         subst (λ cs. (item ∷ items ≡ named_items net (thing ∷ things) cs)
         × (fits (map (named_size net) (thing ∷ things)) cs ≡ true)) (sym is)
-        (r.0, and_true _ _ (lt-ltb _ _ (omega arith)) r.1)
+        (r.0, and_from _ _ (lt-ltb _ _ (omega arith)) r.1)
 
 -- items that give values are the items of these values, which fit
 pub values_are : (net : Network) (things : List Named) (items : Texts) (values : List ℕ)
@@ -326,6 +327,6 @@ values_are net (thing ∷ things) (item ∷ items) values h =
         × (fits (map (λ (named : Named). values_of net.domains named.1) (thing ∷ things)) vs
         ≡ true)) (sym is) (
           ap (λ x. x ∷ items) i.2 ∙ ap (λ xs. item_text net thing i.0 ∷ xs) r.0,
-          and_true _ _ (lt-ltb _ _ (omega (arith, i.3))) r.1,
+          and_from _ _ (lt-ltb _ _ (omega (arith, i.3))) r.1,
         )
     go false p e more = cc

@@ -4,10 +4,11 @@ use Rattle.domains.specs.Names.{is_same}
 use Rattle.domains.specs.Domains.{size_of, word_of, IsDomain, WordsDiffer}
 use Rattle.domains.specs.declared.domain.Domain.{Domain}
 use Rattle.journal_text.specs.Forms.{Text}
-use Rattle.journal_text.specs.Items.{name_part, value_part_of, value_named}
-use Rattle.journal_text.specs.Cursors.{lacks}
-use Rattle.journal_text.proofs.IsSame.{texts_same, texts_differ}
-use Rattle.journal_text.proofs.FoundByName.{find_none, find_only}
+use Rattle.journal_text.specs.Items.{name_part, value_part_of}
+use Rattle.journals.specs.ValueWords.{value_named}
+use Rattle.polis_base.specs.Pieces.{lacks}
+use Rattle.domains.proofs.Names.{texts_same, texts_differ}
+use Rattle.polis_base.proofs.Found.{find_none, find_only}
 use Rattle.journal_text.proofs.ItemCodes.{name_of_item, value_of_item}
 use Rattle.std.proofs.lemmas.List.{append-nil}
 
@@ -27,17 +28,3 @@ split_value item name None some none free =
     sym (value_of_item name None free) ∙ ap value_part_of (append-nil name ∙ sym none)
 split_value item name (Some r) some none free =
     sym (value_of_item name (Some r.now) free) ∙ ap value_part_of (sym some)
-
--- what a search for a value with the word gives
-pub value_answer : WordsDiffer → (d : Domain) (word : Text) (found : Option ℕ) → IsDomain d
-    → IfSome found (λ v. (v < size_of d) × (word_of d v ≡ word))
-    → IfNone found ((v : ℕ) → v < size_of d → word_of d v ≢ word) → found ≡ value_named word d
-value_answer differ d word None domain some none =
-    sym (find_none (λ u. is_same (word_of d u) word) (size_of d)
-    (λ v below. texts_differ (word_of d v) word (none v below)))
-value_answer differ d word (Some v) domain some none =
-    sym (find_only (λ u. is_same (word_of d u) word) (size_of d) v some.0
-    (texts_same (word_of d v) word some.1)
-    (λ u before. texts_differ (word_of d u) word
-    (λ same. let e = differ d u v domain (omega arith) some.0 (same ∙ sym some.1) in
-    omega arith)))

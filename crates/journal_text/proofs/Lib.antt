@@ -1,6 +1,5 @@
 pub mod WrittenItems
 pub mod MachineCodes
-pub mod IsSame
 pub mod Pieces
 pub mod FormWords
 pub mod FoundByName
@@ -13,7 +12,6 @@ pub mod LinesSay
 pub mod ReadsBack
 pub mod EntryIsPrinted
 pub mod ReadIsPrinted
-pub mod FirstMark
 pub mod WordBytes
 pub mod CutAt
 pub mod SkippedTo

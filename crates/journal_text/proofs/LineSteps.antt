@@ -9,7 +9,8 @@ use Rattle.transition_table.specs.declared.network.Network.{Network}
 use Rattle.journals.specs.declared.entry.Entry.{Entry}
 use Rattle.journals.specs.Journals.{IsJournal}
 use Rattle.journal_text.specs.Texts.{AreStamps}
-use Rattle.journal_text.specs.Forms.{Text, Texts, with_byte, lines_of}
+use Rattle.journal_text.specs.Forms.{Text, Texts, lines_of}
+use Rattle.polis_base.specs.Pieces.{with_byte}
 use Rattle.journal_text.specs.Reading.{Timeline, Said, More, Last, Bad, line_says, went_on, ended, unended, lines_say, version_of, ReadText, read_as, body_says, text_says, read_of}
 use Rattle.journal_text.specs.declared.fault.JournalFault.{JournalFault}
 use Rattle.journal_text.specs.declared.fault.JournalFault.TheVariants.{Line, NoMemory}
@@ -19,7 +20,7 @@ use Rattle.journal_text.specs.declared.read.ReadJournal.{ReadJournal}
 use Rattle.journal_text.specs.inner.Lines.{at_line}
 use Rattle.journal_text.specs.declared.fault.JournalKind.{JournalKind}
 use Rattle.journal_text.specs.declared.fault.JournalKind.TheVariants.{Header, After}
-use Rattle.journal_text.proofs.Pieces.{some_piece}
+use Rattle.polis_base.proofs.TextPieces.{some_piece}
 use Rattle.journal_text.proofs.ReadIsPrinted.{line_only, read_is_printed, stamped_read_is_printed}
 
 -- the lines before the rest are read, and gave these entries with these stamps
@@ -29,12 +30,6 @@ pub record IsRead (net : Network) (stamped : Bool) (text : Text) (stamps : List 
   pub few : length journal ≤ 60000
   pub says : lines_say stamped net 2 [] (lines_of text)
       ≡ lines_say stamped net (length journal + 2) (zip stamps journal) (lines_of rest)
-
-pub nothing_read : (net : Network) (stamped : Bool) (text : Text) (stamps : List ℕ)
-    (journal : List Entry) → stamps ≡ [] → journal ≡ []
-    → IsRead net stamped text stamps journal text
-nothing_read net stamped text stamps journal none empty =
-    rw (none, empty) (record { same = refl; few = omega arith; says = refl })
 
 zip_length : (stamps : List ℕ) (journal : List Entry) → length stamps ≡ length journal
     → length (zip stamps journal) ≡ length journal
@@ -125,16 +120,6 @@ line_stopped net stamped text stamps journal rest first after (Kind kind) fault 
 line_stopped net stamped text stamps journal rest first after OutOfMemory fault read cut says is
     other = absurd (other (sym is))
 
--- no LF is left
-pub no_more_lines : (net : Network) (stamped : Bool) (text : Text) (stamps : List ℕ)
-    (journal : List Entry) (rest first : Text)
-    → IsRead net stamped text stamps journal rest → lines_of rest ≡ first ∷ []
-    → body_says net (Some stamped) (lines_of text)
-    ≡ read_as stamped (unended (length journal + 2) first)
-no_more_lines net stamped text stamps journal rest first read cut =
-    ap (read_as stamped)
-    (read.says ∙ ap (lines_say stamped net (length journal + 2) (zip stamps journal)) cut)
-
 -- the last line
 pub last_said : (net : Network) (stamped : Bool) (text : Text) (stamps : List ℕ)
     (journal : List Entry) (rest first after : Text) (complete : Bool)
@@ -186,10 +171,6 @@ by_first net text first rest cut =
     let s = some_piece 10 rest in
     ap (text_says net) (cut ∙ ap (λ ls. first ∷ ls) s.2)
     ∙ ap (body_says net (version_of first)) (sym s.2)
-
-pub no_first : (net : Network) (text first : Text) → lines_of text ≡ first ∷ []
-    → read_of net text ≡ Err (Line 1 Header)
-no_first net text first cut = ap (text_says net) cut
 
 -- what is read is a journal of the network, not too long, with one stamp an entry where there are
 -- stamps

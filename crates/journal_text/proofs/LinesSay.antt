@@ -3,7 +3,7 @@ use Rattle.std.proofs.Common.{◌≡◌, ◌<◌, ◌≤◌, ◌+◌, ◌^◌, �
 use Rattle.std.specs.Prelude.{codes, flat_map, ⊤}
 use Rattle.std.specs.List.{list_all}
 use Rattle.std.specs.Fmt.{decimal}
-use Rattle.std.proofs.lemmas.Bool.{and_parts, lt-ltb, leb-true, eqb-true, eq-eqb}
+use Rattle.std.proofs.lemmas.Bool.{and_parts, lt-ltb, leb-true, eqb-true, eq-eqb, and_from}
 use Rattle.std.proofs.lemmas.List.{append-nil, append_assoc, length-append}
 use Rattle.polis_base.specs.Lines.{line}
 use Rattle.polis_base.specs.Digits.{is_digit}
@@ -14,10 +14,12 @@ use Rattle.journals.specs.declared.entry.Entry.{Entry}
 use Rattle.journals.specs.Journals.{FitsNetwork}
 use Rattle.journal_text.specs.Texts.{entry_text, stamp_text, last_text, ending, is_stamp}
 use Rattle.journals.specs.Logs.{max_stamp}
-use Rattle.journal_text.specs.Forms.{Text, Texts, EntryForm, DepForm, FireForm, IdleForm, pieces, lines_of, words_of, is_word, is_word_byte, colon, arrow, last_form}
+use Rattle.journal_text.specs.Forms.{Text, Texts, EntryForm, DepForm, FireForm, IdleForm, lines_of, words_of, is_word, is_word_byte, colon, arrow, last_form}
+use Rattle.polis_base.specs.Pieces.{pieces, lacks}
 use Rattle.journal_text.specs.Reading.{Timeline, More, Last, line_says, entry_says, went_on, lines_say, words_say}
-use Rattle.journal_text.proofs.IsSame.{and_true, all_pass, all_in_both}
-use Rattle.journal_text.proofs.Pieces.{lacks, pieces_at, joined_by, pieces_of_joined, words_in}
+use Rattle.polis_base.proofs.AllPass.{all_pass, all_in_both}
+use Rattle.journal_text.proofs.Pieces.{words_in}
+use Rattle.polis_base.proofs.TextPieces.{pieces_at, joined_by, pieces_of_joined}
 use Rattle.journal_text.proofs.FormWords.{form_words, lists_words, good_lists, good_form, form_of_words}
 use Rattle.journal_text.proofs.Decimals.{decimal_read, digits_of}
 use Rattle.journal_text.proofs.IsWord.{word_lacks_space, word_lacks_lf, digit_byte}
@@ -254,7 +256,7 @@ pub entries_lack_lf : (stamped : Bool) (net : Network) (entries : Timeline) → 
     → AllFit stamped net entries → list_all (lacks 10) (map (line_text stamped net) entries) ≡ true
 entries_lack_lf stamped net [] hold fit = refl
 entries_lack_lf stamped net ((stamp, entry) ∷ rest) hold fit =
-    and_true _ _ (line_lacks_lf stamped net stamp entry hold fit.1 fit.0)
+    and_from _ _ (line_lacks_lf stamped net stamp entry hold fit.1 fit.0)
     (entries_lack_lf stamped net rest hold fit.2)
 
 abbrev some_lines : Texts → Bool

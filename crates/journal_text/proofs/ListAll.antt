@@ -1,9 +1,8 @@
 -- What holds of each item holds of the list.
 use Rattle.std.proofs.Common.{◌≡◌, ◌+◌, ◌≤◌, ℕ, zero, suc, Bool, true, List, [], ◌∷◌, length, take, Some, slice_get, refl, arith, subst, sym}
 use Rattle.std.specs.List.{list_all}
-use Rattle.std.proofs.lemmas.Bool.{and_parts}
+use Rattle.std.proofs.lemmas.Bool.{and_from, and_parts}
 use Rattle.std.proofs.lemmas.List.{take_all}
-use Rattle.journal_text.proofs.IsSame.{and_true}
 use Rattle.journal_text.proofs.FormWords.{some_same}
 
 -- one item more
@@ -17,12 +16,7 @@ holds_next {X = X} test xs i x all at is =
     go : (ys : List X) (j : ℕ) → list_all test (take j ys) ≡ true → slice_get ys j ≡ Some x
         → list_all test (take (suc j) ys) ≡ true
     go [] j h at = cc
-    go (y ∷ ys) zero h at = and_true _ _ (subst (λ z. test z ≡ true) (sym (some_same at)) is) refl
+    go (y ∷ ys) zero h at = and_from _ _ (subst (λ z. test z ≡ true) (sym (some_same at)) is) refl
     go (y ∷ ys) (suc j) h at =
         let parts = and_parts (test y) _ h in
-        and_true _ _ parts.0 (go ys j parts.1 at)
-
--- all items
-pub holds_all : {X : Type 0} (test : X → Bool) (xs : List X) (i : ℕ)
-    → list_all test (take i xs) ≡ true → length xs ≤ i → list_all test xs ≡ true
-holds_all test xs i all over = subst (λ ys. list_all test ys ≡ true) (take_all i xs over) all
+        and_from _ _ parts.0 (go ys j parts.1 at)

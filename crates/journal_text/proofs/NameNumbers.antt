@@ -16,9 +16,10 @@ use Rattle.transition_table.specs.declared.network.Network.{Network}
 use Rattle.journal_text.specs.Forms.{Text}
 use Rattle.journal_text.specs.Items.{machine_named, event_named}
 use Rattle.journal_text.specs.Holding.{names_hold, machine_holds, state_has_name}
-use Rattle.journal_text.proofs.IsSame.{all_pass}
+use Rattle.polis_base.proofs.AllPass.{all_pass}
 use Rattle.journal_text.proofs.EntryForms.{holds_of}
-use Rattle.journal_text.proofs.FoundByName.{text_at, find_is, has_found_name}
+use Rattle.journal_text.proofs.FoundByName.{text_at, has_found_name}
+use Rattle.polis_base.proofs.Found.{find_is}
 
 module _ {X : Type 0} (f : X → Text) (xs : List X) where
   -- the first of so many things with this name

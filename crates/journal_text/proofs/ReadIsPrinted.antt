@@ -3,7 +3,7 @@ use Rattle.std.proofs.Common.{◌≡◌, ◌<◌, ◌≤◌, ◌+◌, ℕ, Bool,
 use Rattle.std.specs.Prelude.{codes, flat_map}
 use Rattle.std.specs.List.{list_all, zip}
 use Rattle.std.specs.Fmt.{decimal}
-use Rattle.std.proofs.lemmas.Bool.{eq-eqb, eqb-true, ltb-true}
+use Rattle.std.proofs.lemmas.Bool.{eq-eqb, eqb-true, ltb-true, and_from}
 use Rattle.std.proofs.lemmas.List.{append-nil, append_assoc, length-append, length-map}
 use Rattle.polis_base.specs.Lines.{line}
 use Rattle.domains.specs.Names.{is_same}
@@ -18,8 +18,8 @@ use Rattle.journal_text.specs.Forms.{Text, Texts, EntryForm, DepForm, FireForm, 
 use Rattle.journal_text.specs.Items.{entry_read}
 use Rattle.journal_text.specs.Reading.{Timeline, Said, More, Last, Bad, said_entry, entry_says, words_say, line_says, went_on, ended, lines_say, version_of, as_read, read_as, body_says, text_says, read_of, ReadText}
 use Rattle.journal_text.specs.Laws.{ReadIsPrinted, StampedReadIsPrinted}
-use Rattle.journal_text.proofs.IsSame.{and_true, same_texts}
-use Rattle.journal_text.proofs.Pieces.{joined_by, joined_pieces}
+use Rattle.domains.proofs.Names.{same_texts}
+use Rattle.polis_base.proofs.TextPieces.{joined_by, joined_pieces}
 use Rattle.journal_text.proofs.FormWords.{form_words, some_same, both_are, words_of_form}
 use Rattle.journal_text.proofs.Decimals.{decimal_is}
 use Rattle.journal_text.proofs.EntryForms.{form_of, entry_joined}
@@ -393,7 +393,7 @@ journal_fits stamped net ((stamp, entry) ∷ rest) fit = (fit.1, journal_fits st
 stamps_fit : (net : Network) (entries : Timeline) → AllFit true net entries
     → list_all is_stamp (map (λ (p : ℕ × Entry). p.0) entries) ≡ true
 stamps_fit net [] fit = refl
-stamps_fit net ((stamp, entry) ∷ rest) fit = and_true _ _ fit.0 (stamps_fit net rest fit.2)
+stamps_fit net ((stamp, entry) ∷ rest) fit = and_from _ _ fit.0 (stamps_fit net rest fit.2)
 
 last_is : (journal : List Entry) (n : ℕ) (complete : Bool) → n ≡ length journal
     → last_line n complete ≡ last_text journal complete

@@ -2,7 +2,7 @@
 use Rattle.std.proofs.Common.{◌≡◌, ◌<◌, ◌≤◌, ◌+◌, ◌^◌, ℕ, suc, Bool, true, false, ◌==◌, cond, List, [], ◌∷◌, ◌++◌, map, length, Some, None, Ok, Err, refl, sym, ◌∙◌, ap, arith, subst}
 use Rattle.std.specs.Prelude.{codes, flat_map, unwrap_or}
 use Rattle.std.specs.List.{list_all, zip}
-use Rattle.std.proofs.lemmas.Bool.{and_parts, eqb-true}
+use Rattle.std.proofs.lemmas.Bool.{and_parts, eqb-true, and_from}
 use Rattle.std.proofs.lemmas.List.{append-nil, append_assoc, length-append, length-map}
 use Rattle.std.proofs.lemmas.Slice.Zip.{firsts-zip, seconds-zip}
 use Rattle.polis_base.specs.Lines.{line}
@@ -14,11 +14,12 @@ use Rattle.journals.specs.Journals.{IsJournal}
 use Rattle.journal_text.specs.declared.fault.JournalFault.TheVariants.{Line}
 use Rattle.journal_text.specs.declared.fault.JournalKind.TheVariants.{Shape, End}
 use Rattle.journal_text.specs.Texts.{entry_line, stamp_text, entry_text, stamped_line, last_text, is_stamp, journal_text, stamped_journal_text}
-use Rattle.journal_text.specs.Forms.{Text, Texts, pieces, lines_of, is_nonempty}
+use Rattle.journal_text.specs.Forms.{Text, Texts, lines_of}
+use Rattle.polis_base.specs.Pieces.{pieces, is_nonempty, lacks}
 use Rattle.journal_text.specs.Reading.{Timeline, ReadText, version_of, as_read, body_says, text_says, read_of}
 use Rattle.journal_text.specs.Laws.{ReadsBack, StampedReadsBack, OneJournal, OneStampedJournal, OneVersion, PrefixFaults, StampedPrefixFaults, prefix_fault}
-use Rattle.journal_text.proofs.IsSame.{and_true, all_in_both, differ_false}
-use Rattle.journal_text.proofs.Pieces.{lacks, joined_by, joined_pieces, some_piece}
+use Rattle.polis_base.proofs.AllPass.{all_in_both, differ_false}
+use Rattle.polis_base.proofs.TextPieces.{joined_by, joined_pieces, some_piece}
 use Rattle.journal_text.proofs.EntryForms.{Holds, holds_of}
 use Rattle.journal_text.proofs.EntryIsPrinted.{ok_same}
 use Rattle.journal_text.proofs.LinesSay.{line_text, AllFit, lines_from, entries_lack_lf, last_lacks_lf, last_is_said, entries_passed}
@@ -44,10 +45,10 @@ printed_lack : (stamped : Bool) (net : Network) (entries : Timeline) (journal : 
     (complete : Bool) → Holds net → AllFit stamped net entries → length journal < 2 ^ 64
     → list_all (lacks 10) (printed_lines stamped net entries (last_text journal complete)) ≡ true
 printed_lack stamped net entries journal complete hold fit small =
-    and_true _ _ (head_lacks stamped)
+    and_from _ _ (head_lacks stamped)
     (all_in_both (lacks 10) (map (line_text stamped net) entries)
     (last_text journal complete ∷ []) (entries_lack_lf stamped net entries hold fit)
-    (and_true _ _ (last_lacks_lf journal complete small) refl))
+    (and_from _ _ (last_lacks_lf journal complete small) refl))
 
 body_from : (net : Network) (first : Text) (xs : Texts) (t : Text) (ts : Texts)
     → text_says net (first ∷ (xs ++ t ∷ ts)) ≡ body_says net (version_of first) (xs ++ t ∷ ts)

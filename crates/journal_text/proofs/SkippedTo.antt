@@ -1,15 +1,16 @@
 -- Words that are skipped, since they lack a byte of the sign.
 use Rattle.std.proofs.Common.{◌≡◌, ◌+◌, ◌-◌, ◌<◌, ◌≤◌, ℕ, suc, Bool, true, false, not, ◌==◌, [], ◌∷◌, ◌++◌, inl, inr, length, take, drop, get_or, refl, ap, ◌∙◌, arith, sym, subst}
 use Rattle.std.specs.List.{list_all}
-use Rattle.std.proofs.lemmas.Bool.{and_parts, eqb-true, not-true}
+use Rattle.std.proofs.lemmas.Bool.{and_parts, eqb-true, not-true, and_from}
 use Rattle.std.proofs.lemmas.List.{append_assoc, append-nil, get_or-take, length-append, length-take-le}
 use Rattle.domains.specs.Names.{is_same}
-use Rattle.journal_text.specs.Forms.{Text, Texts, with_byte, words_of, after}
-use Rattle.journal_text.specs.Cursors.{lacks, NoCut}
+use Rattle.journal_text.specs.Forms.{Text, Texts, words_of, after}
+use Rattle.polis_base.specs.Pieces.{with_byte, lacks}
+use Rattle.journal_text.specs.Cursors.{NoCut}
 use Rattle.journal_text.specs.inner.Cursors.{SkippedTo}
-use Rattle.journal_text.proofs.IsSame.{and_true, all_pass, all_in_both}
-use Rattle.journal_text.proofs.FirstMark.{NoneBefore, cut_here, prefix_lacks}
-use Rattle.journal_text.proofs.Pieces.{some_piece}
+use Rattle.polis_base.proofs.AllPass.{all_pass, all_in_both}
+use Rattle.polis_base.proofs.FirstMark.{NoneBefore, cut_here, prefix_lacks}
+use Rattle.polis_base.proofs.TextPieces.{some_piece}
 use Rattle.journal_text.proofs.FormWords.{avoids}
 use Rattle.journal_text.proofs.CutAt.{Passed, pieces_both, after_past, all_past}
 
@@ -31,7 +32,7 @@ pieces_lack mark (c ∷ text) h =
     go true other w ws lack = lack
     go false other w ws lack =
         let halves = and_parts (lacks mark w) _ lack in
-        and_true _ _ (and_true _ _ other halves.0) halves.1
+        and_from _ _ (and_from _ _ other halves.0) halves.1
 
 -- a word without the first byte of the sign isn't the sign
 other_word : (mark : ℕ) (sign w : Text) → 0 < length sign → get_or sign 0 0 ≡ mark

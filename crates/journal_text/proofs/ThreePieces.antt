@@ -1,8 +1,9 @@
 -- Words of which there are just three, and decimal words.
 use Rattle.std.proofs.Common.{◌≡◌, ◌≢◌, ℕ, ◌<◌, ◌^◌, ◌∷◌, Option, Some, None, refl, sym, ◌∙◌, ap}
 use Rattle.std.specs.Prelude.{decimal}
-use Rattle.journal_text.specs.Forms.{Text, Texts, pieces, decimal_of}
-use Rattle.journal_text.proofs.Pieces.{some_piece}
+use Rattle.journal_text.specs.Forms.{Text, Texts, decimal_of}
+use Rattle.polis_base.specs.Pieces.{pieces}
+use Rattle.polis_base.proofs.TextPieces.{some_piece}
 use Rattle.journal_text.proofs.Decimals.{decimal_read, decimal_is}
 
 -- what is made of four pieces or more

@@ -2,10 +2,11 @@
 use Rattle.std.proofs.Common.{◌≡◌, ◌<◌, ◌+◌, ◌-◌, ℕ, suc, Bool, true, false, not, ◌&&◌, ◌==◌, cond, [], ◌∷◌, length, take, drop, get_or, refl, ap, ◌∙◌, sym, arith}
 use Rattle.std.specs.List.{list_all, prefix_len}
 use Rattle.std.proofs.lemmas.List.{take_all}
-use Rattle.journal_text.specs.Forms.{Text, Texts, with_byte, words_of, is_word, is_word_byte, is_sign, is_nonempty}
-use Rattle.journal_text.proofs.IsSame.{and_true}
-use Rattle.journal_text.proofs.Pieces.{pieces_at, pieces_end, some_piece}
-use Rattle.journal_text.proofs.FirstMark.{cut_slice}
+use Rattle.journal_text.specs.Forms.{Text, Texts, words_of, is_word, is_word_byte, is_sign}
+use Rattle.polis_base.specs.Pieces.{with_byte, is_nonempty}
+use Rattle.std.proofs.lemmas.Bool.{and_from}
+use Rattle.polis_base.proofs.TextPieces.{pieces_at, pieces_end, some_piece}
+use Rattle.polis_base.proofs.FirstMark.{cut_slice}
 use Rattle.journal_text.proofs.IsWord.{byte_differs, word_lacks_space}
 
 -- how many bytes that words have a text begins with
@@ -20,7 +21,7 @@ plain_prefix (c ∷ text) = by (is_word_byte c) refl (plain_prefix text)
         → list_all is_word_byte (take (plain_len text) text) ≡ true
         → list_all is_word_byte (take (cond b (1 + plain_len text) 0) (c ∷ text)) ≡ true
     by true h rest = let next : 1 + plain_len text ≡ suc (plain_len text) = omega arith in
-        rw next (and_true _ _ h rest)
+        rw next (and_from _ _ h rest)
     by false h rest = refl
 
 -- the whole text is a piece
@@ -76,8 +77,3 @@ no_word ((c ∷ w) ∷ ws) bad = ap (λ b. (b && not (is_sign (c ∷ w))) && lis
 pub bad_word : (text : Text) → plain_len text < length text
     → (get_or text (plain_len text) 0 == 32) ≡ false → list_all is_word (words_of text) ≡ false
 bad_word text below other = no_word (words_of text) (bad_first text below other)
-
-pub plain_word : (w : Text) → list_all is_word_byte w ≡ true
-    → is_word w ≡ (is_nonempty w && not (is_sign w))
-plain_word [] all = refl
-plain_word (c ∷ w) all = ap (λ b. b && not (is_sign (c ∷ w))) all

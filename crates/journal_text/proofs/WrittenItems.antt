@@ -124,14 +124,3 @@ outputs_written net whole into events codes left e =
     let t = left.text in
     let u = rw (both.0) at t in
     sym (append-nil into) ∙ u
-
--- the outputs of an entry, and of those after it
-pub outputs_after : (net : Network) (entry : Entry) (entries : List Entry)
-    → output_text net (entry ∷ entries)
-    ≡ output_lines net (emissions net entry) ++ output_text net entries
-outputs_after net entry entries =
-    ap (flat_map (event_line net))
-    (filter-append (λ p. goes_out net p.0) (emissions net entry)
-    (flat_map (emissions net) entries))
-    ∙ flat_map-append (event_line net) (filter (λ p. goes_out net p.0) (emissions net entry))
-    (filter (λ p. goes_out net p.0) (flat_map (emissions net) entries))

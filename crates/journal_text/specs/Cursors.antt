@@ -1,16 +1,8 @@
 -- What is left of a text that is walked piece by piece.
 use Rattle.std.specs.Prelude.{◌≡◌, ◌⊎◌, ℕ, Bool, true, not, ◌==◌, Option, Some, None, unwrap_or, is_some, []}
 use Rattle.std.specs.List.{list_all}
-use Rattle.journal_text.specs.Forms.{Text, Texts, pieces, words_of, list_of, before, after}
-
--- no byte of the text is the mark
-abbrev pub lacks : ℕ → Text → Bool
-lacks mark text = list_all (λ c. not (c == mark)) text
-
--- the pieces of what is left, none at the end
-abbrev pub left : ℕ → Option Text → Texts
-left mark None = []
-left mark (Some text) = pieces mark text
+use Rattle.journal_text.specs.Forms.{Text, Texts, words_of, list_of, before, after}
+use Rattle.polis_base.specs.Pieces.{pieces}
 
 -- the words are those before the first such sign, the sign, and those after it
 abbrev pub CutAt : Text → Texts → Texts → Texts → Type 0

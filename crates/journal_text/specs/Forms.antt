@@ -4,6 +4,7 @@ use Rattle.std.specs.Prelude.{ℕ, ◌^◌, Bool, true, false, cond, not, ◌&&�
 use Rattle.std.specs.List.{list_all}
 use Rattle.std.specs.Option.{option_and_then}
 use Rattle.polis_base.specs.Digits.{is_plain, number_of}
+use Rattle.polis_base.specs.Pieces.{pieces, is_nonempty}
 use Rattle.domains.specs.Names.{is_same}
 
 -- a text, and a list of texts
@@ -13,19 +14,6 @@ Text = List ℕ
 abbrev pub Texts : Type 0
 Texts = List (List ℕ)
 
--- a byte before pieces: a mark ends an empty piece, and any other is the first byte of the first
--- piece
-abbrev pub with_byte : Bool → ℕ → Texts → Texts
-with_byte true c pieces = [] ∷ pieces
-with_byte false c [] = (c ∷ []) ∷ []
-with_byte false c (piece ∷ pieces) = (c ∷ piece) ∷ pieces
-
--- what stands before the first mark, between each two, and after the last: one piece more than
--- there are marks
-abbrev pub pieces : ℕ → Text → Texts
-pieces mark [] = [] ∷ []
-pieces mark (c ∷ rest) = with_byte (c == mark) c (pieces mark rest)
-
 -- what ends with LF, line by line, and last what stands after the last LF
 abbrev pub lines_of : Text → Texts
 lines_of = pieces 10
@@ -33,10 +21,6 @@ lines_of = pieces 10
 -- what stands between single spaces
 abbrev pub words_of : Text → Texts
 words_of = pieces 32
-
-abbrev pub is_nonempty : Text → Bool
-is_nonempty [] = false
-is_nonempty (c ∷ rest) = true
 
 -- none of space, tab, CR and LF
 abbrev pub is_word_byte : ℕ → Bool

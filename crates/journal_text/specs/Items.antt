@@ -12,6 +12,7 @@ use Rattle.transition_table.specs.declared.decl.StateDecl.{StateDecl}
 use Rattle.transition_table.specs.declared.network.Network.{Network}
 use Rattle.journals.specs.declared.entry.Entry.{Entry}
 use Rattle.journals.specs.declared.entry.Entry.TheVariants.{Dep, Rea}
+use Rattle.journals.specs.ValueWords.{word_code}
 use Rattle.journals.specs.Journals.{inputs_of, outputs_of, states_of}
 use Rattle.journal_text.specs.Forms.{Text, Texts, EntryForm, DepForm, FireForm, IdleForm}
 use Rattle.journal_text.specs.declared.fault.JournalKind.{JournalKind}
@@ -44,10 +45,6 @@ party_named net word =
     cond (is_same word (codes "env")) (Some Env)
     (option_map (λ m. Sender m) (machine_named net word))
 
--- the value of a domain that has this word
-abbrev pub value_named : Text → Domain → Option ℕ
-value_named word domain = find (λ v. is_same (word_of domain v) word) (upto (size_of domain))
-
 -- what an item can name: an event or a state variable by its name, with the number of its domain,
 -- where it has one
 abbrev pub Named : Type 0
@@ -62,15 +59,6 @@ as_state variable = (variable.name, Some variable.domain)
 -- the item has this name
 abbrev pub has_name : Named → Text → Bool
 has_name named item = is_same named.0 (name_part item)
-
--- the code of what has no domain, which is 1 and has no value, or of the value v of the domain,
--- which is 1 + v
-abbrev pub word_code : Network → Option ℕ → Option Text → Option ℕ
-word_code net None None = Some 1
-word_code net None (Some word) = None
-word_code net (Some d) None = None
-word_code net (Some d) (Some word) =
-    option_map (λ v. 1 + v) (joined (option_map (value_named word) (slice_get net.domains d)))
 
 -- the code that an item gives what it names
 abbrev pub item_code : Network → Named → Text → Option ℕ

@@ -7,7 +7,8 @@ use Rattle.transition_table.specs.declared.network.Network.{Network}
 use Rattle.journals.specs.declared.entry.Entry.{Entry}
 use Rattle.journals.specs.Journals.{IsJournal}
 use Rattle.journal_text.specs.Texts.{journal_text, stamped_journal_text, AreStamps}
-use Rattle.journal_text.specs.Forms.{Text, Texts, lines_of, is_nonempty}
+use Rattle.journal_text.specs.Forms.{Text, Texts, lines_of}
+use Rattle.polis_base.specs.Pieces.{is_nonempty}
 use Rattle.journal_text.specs.Reading.{read_of}
 use Rattle.journal_text.specs.Holding.{names_hold}
 use Rattle.journal_text.specs.declared.fault.JournalKind.TheVariants.{Header, Shape, End}

@@ -5,7 +5,8 @@ use Rattle.domains.specs.Names.{is_same}
 use Rattle.transition_table.specs.declared.network.Network.{Network}
 use Rattle.journals.specs.declared.entry.Entry.{Entry}
 use Rattle.journal_text.specs.Texts.{is_stamp}
-use Rattle.journal_text.specs.Forms.{Text, Texts, EntryForm, lines_of, words_of, is_nonempty, last_form, stamped_form}
+use Rattle.journal_text.specs.Forms.{Text, Texts, EntryForm, lines_of, words_of, last_form, stamped_form}
+use Rattle.polis_base.specs.Pieces.{is_nonempty}
 use Rattle.journal_text.specs.Items.{entry_read}
 use Rattle.journal_text.specs.declared.fault.JournalKind.{JournalKind}
 use Rattle.journal_text.specs.declared.fault.JournalKind.TheVariants.{Header, Shape, Many, Count, After, End, Stamp}

@@ -14,8 +14,7 @@ use crate::fault::JournalKind;
 use crate::form::Form;
 use crate::index::Index;
 use crate::item::{party_of_name, split};
-use crate::value::code_of_word;
-use journals::Entry;
+use journals::{Entry, code_of_word};
 use std::alloc::Global;
 use transition_table::{Network, Outcome, Snapshot};
 

@@ -2,7 +2,7 @@
 use thiserror::Error;
 
 /// The first of these that applies to a line.
-#[derive(Clone, Copy, Debug, PartialEq, Eq)]
+#[derive(Clone, Copy, Debug)]
 pub enum JournalKind {
     /// The first line is neither version's, with its LF.
     Header,
@@ -25,7 +25,7 @@ pub enum JournalKind {
 }
 
 /// Why a journal text wasn't read. Lines are numbered from 1.
-#[derive(Clone, Copy, Debug, PartialEq, Eq, Error)]
+#[derive(Clone, Copy, Debug, Error)]
 pub enum JournalFault {
     /// The first line at fault, with the first kind that applies to it.
     #[error("Line")]

@@ -6,8 +6,8 @@ ghost use Rattle.journal_text.specs.inner.Cursors.{three_of};
 ghost use Rattle.journal_text.specs.Lines.{as_form, HasLists};
 ghost use Rattle.journal_text.specs.inner.Lines.{NoReaction, fire_words, idle_words};
 
-use crate::cut::{cut_at, is_a_list, is_a_word, next_piece, next_word};
-use polis_base::read_decimal;
+use crate::cut::{cut_at, is_a_list, is_a_word, next_word};
+use polis_base::{next_piece, read_decimal};
 
 /// The form of an entry's line, with its words and lists.
 #[derive(Clone, Copy)]

@@ -2,13 +2,13 @@
 ghost use Rattle.std.specs.Prelude.{◌≡◌, ◌<◌, ◌∷◌, List, length, option_copied, Some, Err, IfOk, IfErr, IfSome, IfNone, IsTrue};
 ghost use Rattle.journals.specs.Journals.{is_party};
 ghost use Rattle.journal_text.specs.Items.{name_part, value_part_of, party_named, as_state};
-ghost use Rattle.journal_text.specs.Cursors.{left};
+ghost use Rattle.polis_base.specs.Pieces.{left};
 ghost use Rattle.journal_text.specs.Steps.{Steps, Stops, GivesValue, StopsValues};
 
-use crate::cut::next_piece;
 use crate::fault::JournalKind;
 use crate::index::Index;
-use crate::value::code_of_word;
+use journals::code_of_word;
+use polis_base::next_piece;
 use transition_table::{Network, Party, StateDecl};
 
 /// The name of an item, up to its first `=`, and what stands after that.

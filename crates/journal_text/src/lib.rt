@@ -14,14 +14,11 @@ mod law;
 mod line;
 mod print;
 mod read;
-mod value;
 mod worked;
 
-pub use cut::next_piece;
 pub use fault::{JournalFault, JournalKind};
 pub use kept::keep_names;
 pub use law::laws;
 pub use print::{print_journal, print_outputs, push_count, push_snapshot};
 pub use read::{ReadJournal, read_journal};
-pub use value::code_of_word;
 pub use worked::worked_texts;

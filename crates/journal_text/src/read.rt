@@ -12,13 +12,13 @@ ghost use Rattle.journal_text.specs.Answered.{text_of, IsPrintable, Gives, Refus
 ghost use Rattle.journal_text.specs.declared.fault.JournalFault.{JournalFault};
 
 use crate::codes::Stop;
-use crate::cut::next_line;
 use crate::fault::{JournalFault, JournalKind};
 use crate::index::Index;
 use crate::kept::keep_names;
 use crate::law::laws;
 use crate::line::{Content, read_line};
 use journals::{Entry, Journal, Stamps};
+use polis_base::next_line;
 use std::alloc::Global;
 use transition_table::Network;
 

@@ -25,3 +25,5 @@ pub mod StampSteps
 pub mod Origins
 pub mod AllLeast
 pub mod OriginPlaces
+pub mod EntriesAt
+pub mod ValueWords

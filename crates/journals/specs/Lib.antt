@@ -12,6 +12,7 @@ pub mod Samples
 pub mod Schedules
 pub mod StampLaws
 pub mod Stamps
+pub mod ValueWords
 pub mod Worked
 pub mod inner
 pub mod AllLaws

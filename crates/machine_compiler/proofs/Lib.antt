@@ -4,7 +4,6 @@ pub mod CutAtByte
 pub mod IsLabel
 pub mod ListingDeterminesParts
 pub mod SameLines
-pub mod Samples
 pub mod HasPlaces
 pub mod AreTallies
 pub mod CountsFit

@@ -19,7 +19,18 @@ use std::alloc::Global;
 use task_code::lower;
 use transition_table::{Machine, Network};
 
-// The machine's diagram under the order as a graph, and that graph made smaller.
+// The machine's diagram under the order as a graph. The diagram is dropped.
+fn graph_of(alloc: Global, m: &Machine, root: Root, order: &Order) -> Result<Graph, NoMemory>
+    requires sure { IsDeterministic m.now }
+    requires allowed { Allowed m.now order.now }
+    requires diagram { IsDiagramOf m.now order.now root.store root.node }
+    ensures { IfOk result (λ g. IsGraphOf m.now order.now g) }
+{
+    let graph = build(alloc, m, &root, order)?;
+    Ok(graph)
+}
+
+// The same, and that graph made smaller.
 fn small_graph(alloc: Global, m: &Machine, root: Root, order: &Order) -> Result<Graph, NoMemory>
     requires sure { IsDeterministic m.now }
     requires allowed { Allowed m.now order.now }
@@ -27,8 +38,7 @@ fn small_graph(alloc: Global, m: &Machine, root: Root, order: &Order) -> Result<
     ensures of_machine { IfOk result (λ g. IsGraphOf m.now order.now g) }
     ensures defaults { IfOk result (λ g. NoDefaults g) }
 {
-    let graph = build(alloc, m, &root, order)?;
-    drop(root);
+    let graph = graph_of(alloc, m, root, order)?;
     let small = optimise(alloc, &graph)?;
     Ok(small)
 }

@@ -5,7 +5,7 @@ ghost use Rattle.machine_compiler.specs.Kept.{AreCodes, AreGraphs};
 
 use crate::compiled::Compiled;
 use crate::compiling::compile_machine;
-use crate::lines::push_lengths;
+use crate::lines::push_lengths_line;
 use polis_base::{Bytes, NoMemory};
 use sgraph::GraphList;
 use std::alloc::Global;
@@ -46,8 +46,7 @@ pub fn compile_graphs(alloc: Global, net: &Network) -> Result<Graphs, NoMemory>
     for k in 0..net.machines.len() {
         let machine = net.machines.get(k);
         let part = compile_machine(alloc, machine)?;
-        push_lengths(machine, &part, &mut lengths)?;
-        lengths.push(b"\n")?;
+        push_lengths_line(machine, &part, &mut lengths)?;
         let Compiled { graph, .. } = part;
         graphs.push(graph)?;
     }

@@ -30,6 +30,20 @@ pub(crate) fn push_lengths(
     out.push_decimal(part.code.len())
 }
 
+// The same, as a line.
+pub(crate) fn push_lengths_line(
+    machine: &Machine,
+    part: &Compiled,
+    out: &mut Bytes,
+) -> Result<(), NoMemory>
+    ensures { OnOk result (out.new
+        ≡ out.old ++ line (lengths machine.now (part_of_compiled part.now))) }
+{
+    push_lengths(machine, part, out)?;
+    out.push(b"\n")?;
+    Ok(())
+}
+
 // How often a machine reacts, and how many instructions that executes.
 fn push_tally(tally: &Tally, out: &mut Bytes) -> Result<(), NoMemory>
     ensures { OnOk result (out.new ≡ out.old ++ tally_text tally.now.tries tally.now.steps) }

@@ -1,14 +1,19 @@
 // The texts of a network's compiled machines.
-ghost use Rattle.std.specs.Prelude.{IfOk};
+ghost use Rattle.std.specs.Prelude.{◌≡◌, ◌++◌, IfOk, OnOk, Some, slice_get};
+ghost use Rattle.polis_base.specs.Lines.{line};
 ghost use Rattle.transition_table.specs.Transitions.{AreDeterministic};
+ghost use Rattle.task_code.specs.Listings.{part_text};
+ghost use Rattle.machine_compiler.specs.Lines.{lengths};
+ghost use Rattle.machine_compiler.specs.Parts.{part_of_compiled};
 ghost use Rattle.machine_compiler.specs.Texts.{AreTexts};
 
+use crate::compiled::Compiled;
 use crate::compiling::compile_machine;
-use crate::lines::push_lengths;
+use crate::lines::push_lengths_line;
 use crate::listing::push_part;
 use polis_base::{Bytes, NoMemory};
 use std::alloc::Global;
-use transition_table::Network;
+use transition_table::{Machine, Network};
 
 /// What is written of a network's compiled machines.
 #[derive(Drop)]
@@ -17,6 +22,27 @@ pub struct Texts {
     pub listing: Bytes,
     /// A line for each machine: how many vertices and how many instructions it has.
     pub lengths: Bytes,
+}
+
+// Adds what is written of a compiled machine to the listing and to the lines of lengths.
+fn write_part(
+    alloc: Global,
+    net: &Network,
+    k: u32,
+    machine: &Machine,
+    part: &Compiled,
+    listing: &mut Bytes,
+    lines: &mut Bytes,
+) -> Result<(), NoMemory>
+    requires { slice_get net.now.machines k ≡ Some machine.now }
+    ensures listing { OnOk result (listing.new
+        ≡ listing.old ++ part_text net.now machine.now (part_of_compiled part.now)) }
+    ensures lines { OnOk result (lines.new
+        ≡ lines.old ++ line (lengths machine.now (part_of_compiled part.now))) }
+{
+    push_part(alloc, net, k, part, listing)?;
+    push_lengths_line(machine, part, lines)?;
+    Ok(())
 }
 
 /// The texts of a network's compiled machines. Each machine is compiled and written before the
@@ -31,9 +57,15 @@ pub fn compile_texts(alloc: Global, net: &Network) -> Result<Texts, NoMemory>
     for k in 0..net.machines.len() {
         let machine = net.machines.get(k);
         let part = compile_machine(alloc, machine)?;
-        push_part(alloc, net, k as u32, &part, &mut listing)?;
-        push_lengths(machine, &part, &mut lengths)?;
-        lengths.push(b"\n")?;
+        write_part(
+            alloc,
+            net,
+            k as u32,
+            machine,
+            &part,
+            &mut listing,
+            &mut lengths,
+        )?;
     }
     listing.push(b"end\n")?;
     Ok(Texts { listing, lengths })

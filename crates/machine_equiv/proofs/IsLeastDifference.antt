@@ -1,5 +1,5 @@
 -- The least snapshot on which two machines differ, by the tables of their outcomes.
-use Rattle.std.proofs.Common.{◌≡◌, ⊎_elim, ℕ, List, [], length, get_or, slice_get, Some, sym, ap, ◌∙◌, subst, arith}
+use Rattle.std.proofs.Common.{◌≡◌, ⊎_elim, ℕ, List, [], length, get_or, slice_get, Option, None, Some, sym, ap, ◌∙◌, subst, arith}
 use Rattle.std.proofs.lemmas.Bool.{cases_lt}
 use Rattle.std.proofs.lemmas.List.{length-map, get_or-map}
 use Rattle.std.proofs.lemmas.Option.{get_or_from_slice_get, slice_get_within}
@@ -14,7 +14,7 @@ use Rattle.outcome_table.specs.declared.table.Results.{Results}
 use Rattle.domains.proofs.AllCodes.{stands_at_rank, stands_once}
 use Rattle.machine_equiv.specs.Comparing.{SameTable, IsLeastDifference}
 use Rattle.machine_equiv.specs.Shapes.{SameForm}
-use Rattle.machine_equiv.specs.inner.FirstOthers.{IsFirstOther}
+use Rattle.machine_equiv.specs.inner.FirstOthers.{IsFirstOther, IsFirstOtherIn, IsPlaceOfDifference}
 use Rattle.machine_equiv.proofs.DifferOn.{codes_differ, differ_on, same_on}
 use Rattle.machine_equiv.proofs.AreEqualOnes.{long_named}
 
@@ -75,3 +75,13 @@ module _ (a b : Machine) (form : SameForm a b) (a_sure : IsDeterministic a)
             (λ more. more)
             (cases_lt (rank a.vars other) (rank a.vars s.codes));
       }
+
+  pub place_is : (found : Option ℕ)
+      → IsFirstOtherIn (named t.outcomes t.numbers) (named u.outcomes u.numbers) found
+      → IsPlaceOfDifference a b found
+  place_is None same = same_table same
+  place_is (Some i) first =
+      let low = first.low in
+      let long = long_named t.outcomes t.numbers in
+      let many = numbers_long a t a_tabled in
+      (omega arith, (λ s is. least_difference i s first is))

@@ -4,7 +4,7 @@ ghost use Rattle.domains.specs.AllCodes.{all_codes};
 ghost use Rattle.outcome_table.specs.Outcomes.{AreColumns, are_named, named};
 ghost use Rattle.transition_table.specs.Transitions.{IsDeterministic};
 ghost use Rattle.machine_equiv.specs.Shapes.{SameForm};
-ghost use Rattle.machine_equiv.specs.inner.FirstOthers.{IsDifference, IsFirstOtherIn};
+ghost use Rattle.machine_equiv.specs.inner.FirstOthers.{IsDifference, IsFirstOtherIn, IsPlaceOfDifference};
 
 use crate::rows::same_rows;
 use domains::{Codes, VarTable};
@@ -62,6 +62,29 @@ fn snapshot_at(
     Ok(Snapshot { codes })
 }
 
+// The snapshot of a machine at a place.
+fn snapshot_of(alloc: Global, m: &Machine, i: u64) -> Result<Snapshot, NoMemory>
+    requires { i < length (all_codes m.now.vars) }
+    ensures { IfOk result (λ s. slice_get (all_codes m.now.vars) i ≡ Some s.codes) }
+{
+    let columns = columns_of(alloc, &m.vars)?;
+    let s = snapshot_at(alloc, &m.vars, &columns, i)?;
+    Ok(s)
+}
+
+// The place of the least snapshot on which two machines of one form differ.
+fn place_of_difference(alloc: Global, a: &Machine, b: &Machine) -> Result<Option<u64>, NoMemory>
+    requires form { SameForm a.now b.now }
+    requires deterministic { IsDeterministic a.now }
+    requires other { IsDeterministic b.now }
+    ensures { IfOk result (IsPlaceOfDifference a.now b.now) }
+{
+    let results = results_of(alloc, a)?;
+    let others = results_of(alloc, b)?;
+    let found = first_other(alloc, &results, &others)?;
+    Ok(found)
+}
+
 /// The least snapshot on which the transitions of two machines of one form differ. None where they
 /// differ on none. Where the rows are written the same, no outcome is looked at.
 pub(crate) fn difference(
@@ -77,12 +100,9 @@ pub(crate) fn difference(
     if same_rows(&a.rows, &b.rows) {
         return Ok(None);
     }
-    let results = results_of(alloc, a)?;
-    let others = results_of(alloc, b)?;
-    match first_other(alloc, &results, &others)? {
+    match place_of_difference(alloc, a, b)? {
         Some(i) => {
-            let columns = columns_of(alloc, &a.vars)?;
-            let s = snapshot_at(alloc, &a.vars, &columns, i)?;
+            let s = snapshot_of(alloc, a, i)?;
             Ok(Some(s))
         }
         None => Ok(None),

@@ -6,7 +6,7 @@ use Rattle.std.proofs.lemmas.List.Concat.{flat_map-append}
 use Rattle.std.proofs.lemmas.List.Elements.{filter_map-append, filter-append}
 use Rattle.std.proofs.lemmas.Bool.{eq-eqb, ne_eqb, eqb-true, cases_eq, ltb-true, and_parts}
 use Rattle.std.proofs.lemmas.Option.{get_or_from_slice_get}
-use Rattle.std.proofs.Math.Nat.{le-max_left, le-max_right, max-le, max-zero}
+use Rattle.std.proofs.Math.Nat.{max-zero}
 use Rattle.polis_base.specs.Lists.{upto}
 use Rattle.transition_table.specs.declared.decl.Party.{Party}
 use Rattle.transition_table.specs.declared.decl.Party.TheVariants.{Env, Machine as Sender}
@@ -48,14 +48,6 @@ firings_fit net s (x ∷ done) h = cases (is_firing_of s x.entry) h.0 (firings_f
     cases false f g = g
 
 -- ---- clocks
-
-greatest_left : (xs ys : List ℕ) → greatest xs ≤ greatest (xs ++ ys)
-greatest_left [] ys = omega arith
-greatest_left (x ∷ xs) ys =
-    let rest = greatest_left xs ys in
-    let first = le-max_left x (greatest (xs ++ ys)) in
-    let more = le-max_right x (greatest (xs ++ ys)) in
-    max-le first (let h : greatest xs ≤ max x (greatest (xs ++ ys)) = omega arith in h)
 
 pub clock_at : (net : Network) (done : List Stamped) (clocks : List ℕ) (m v : ℕ)
     → m < length net.machines → clocks

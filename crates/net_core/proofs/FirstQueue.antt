@@ -1,17 +1,25 @@
 -- The queue before anything is sent.
-use Rattle.std.specs.Prelude.{◌≡◌, ℕ, ◌+◌, ◌*◌, ◌/◌, ◌<◌, List, [], map, length, drop, get_or}
+use Rattle.std.specs.Prelude.{◌≡◌, ℕ, suc, ◌+◌, ◌*◌, ◌/◌, ◌<◌, List, [], ◌∷◌, ◌++◌, map, length, get_or}
 use Rattle.std.proofs.Common.{sym, ap, ◌∙◌, subst, inl, inr, arith}
-use Rattle.std.proofs.lemmas.List.{get_or_past, drop_all}
+use Rattle.std.proofs.lemmas.List.{get_or_past, map-append}
 use Rattle.std.proofs.lemmas.Bool.{cases_lt}
 use Rattle.polis_base.specs.Lists.{upto}
 use Rattle.net_core.specs.declared.config.emissions.Emission.{Emission}
-use Rattle.net_core.specs.Emissions.{nth, no_emission, no_place, all_waiting, IsQueue}
+use Rattle.net_core.specs.Emissions.{nth, no_emission, no_place, IsQueue}
 use Rattle.journals.proofs.MomentsAfter.{length-table, get_or-table}
 use Rattle.net_core.proofs.IsQueue.{waits_struck}
 
 -- the record with which a sender's chain begins
 abbrev pub sentinel : ℕ → Emission
 sentinel s = record { from = s; event = 0; code = 0; left = 0; next = no_place }
+
+-- a table with one entry more
+pub table_more : {X : Type 0} (f : ℕ → X) (n : ℕ) (old new : List X) → old ≡ map f (upto n)
+    → new ≡ old ++ f n ∷ [] → new ≡ map f (upto (n + 1))
+table_more f n old new are pushed =
+    let next : suc n ≡ n + 1 = omega arith in
+    pushed ∙ ap (λ l. l ++ f n ∷ []) are ∙ sym (map-append f (upto n) (n ∷ []))
+    ∙ ap (λ k. map f (upto k)) next
 
 pub first_queue : (records : List Emission) (cursors last : List ℕ) (n k : ℕ) → n ≡ 64 → k ≡ 4096
     → records ≡ map sentinel (upto n) → last ≡ map (λ s. s) (upto n)
@@ -66,8 +74,3 @@ first_queue records cursors last n k is_n is_k are lasts starts =
           (omega arith, ap (λ i. (nth records i).from) place ∙ from s below);
       passed = λ s m i below narrow under. waits_struck s m (nth records i) (struck i);
     }
-
-pub first_owes_none : (records : List Emission) (n : ℕ) → n ≡ 64 → records ≡ map sentinel (upto n)
-    → all_waiting (drop 64 records) ≡ []
-first_owes_none records n is are = let size = ap length are ∙ length-table sentinel n in
-    ap all_waiting (drop_all 64 records (omega arith))

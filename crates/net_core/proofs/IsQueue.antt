@@ -2,14 +2,14 @@
 use Rattle.std.specs.Prelude.{◌≡◌, ◌≢◌, ℕ, ◌+◌, ◌*◌, ◌<◌, ◌≤◌, Bool, true, false, ◌&&◌, ◌==◌, List, [], ◌∷◌, ◌++◌, length, drop, get_or, set}
 use Rattle.std.specs.Int.{bit_at}
 use Rattle.std.proofs.Common.{refl, sym, ap, ◌∙◌, inl, inr, arith, append_assoc}
-use Rattle.std.proofs.lemmas.List.{length-set, get_or_default, get_or-set_same, get_or-set_other, append-nil}
+use Rattle.std.proofs.lemmas.List.{length-set, get_or_default, get_or-set_same, get_or-set_other}
 use Rattle.std.proofs.lemmas.Bool.{false≢true, cases_eq, cases_lt, and_parts, eqb-true}
 use Rattle.std.proofs.lemmas.Nat.Bits.{bit_at-zero}
 use Rattle.journals.specs.declared.entry.Owed.{Owed}
 use Rattle.transition_table.specs.declared.decl.Party.TheVariants.{Machine as Sender}
 use Rattle.journals.specs.Schedules.{is_way, without_first}
 use Rattle.net_core.specs.declared.config.emissions.Emission.{Emission}
-use Rattle.net_core.specs.Emissions.{waits, no_emission, nth, waiting, all_waiting, no_place, IsChained, IsChain, IsQueue, IsMore}
+use Rattle.net_core.specs.Emissions.{waits, no_emission, nth, waiting, all_waiting, no_place, IsChain, IsQueue, IsMore}
 use Rattle.net_core.proofs.Chains.{at_set, chain_same, chain_more, IsLinked, linked}
 use Rattle.net_core.proofs.OwedByEmissions.{strike_at_place, way_taken, set_same, new_more}
 
@@ -37,14 +37,6 @@ waits_same s m r q from left = ap (λ n. n == s && bit_at r.left m == 1) from
 waits_from : (s m : ℕ) (r : Emission) → waits s m r ≡ true → r.from ≡ s
 waits_from s m r h = eqb-true r.from s (and_parts (r.from == s) (bit_at r.left m == 1) h).0
 
--- another sender's emission isn't waited for
-pub waits_not : (s m : ℕ) (r : Emission) → r.from ≢ s → waits s m r ≡ false
-waits_not s m r other = cases (waits s m r) refl
-  where
-    cases : (b : Bool) → waits s m r ≡ b → b ≡ false
-    cases true h = absurd (other (waits_from s m r h))
-    cases false h = refl
-
 pub waits_struck : (s m : ℕ) (r : Emission) → r.left ≡ 0 → waits s m r ≡ false
 waits_struck s m r none = ap (λ n. r.from == s && bit_at n m == 1) none
     ∙ ap (λ n. r.from == s && n == 1) (bit_at-zero m) ∙ and_false (r.from == s)
@@ -57,32 +49,6 @@ pub record IsPassed (records : List Emission) (s m start place : ℕ) : Type 0 w
   pub own : place < length records → (nth records place).from ≡ s
   pub none : (i : ℕ) → start ≤ i → i < place → i < length records
       → waits s m (nth records i) ≡ false
-
-pub passed_more : (records : List Emission) (s m start place : ℕ) (r : Emission) → IsChained records
-    → IsPassed records s m start place → place < length records → r ≡ nth records place
-    → (bit_at r.left m == 1) ≡ false → IsPassed records s m start r.next
-passed_more records s m start place r chained passed within is bit =
-    let own = passed.own within in
-    let step : r.next ≡ (nth records place).next = ap (λ (x : Emission). x.next) is in
-    let further = chained.further place within in
-    let low = passed.from_start in
-    record {
-      from_start = omega arith;
-      own = λ inside. ap (λ k. (nth records k).from) step ∙ chained.same place within (omega arith)
-          ∙ own;
-      none = λ i past below inside. elim (cases_lt i place) [
-        | inl before ↦ passed.none i past before inside
-        | inr other ↦ elim (cases_eq i place) [
-          | inl here ↦ ap (λ k. waits s m (nth records k)) here ∙ ap (waits s m) (sym is)
-              ∙ ap (λ b. r.from == s && b) bit ∙ and_false (r.from == s)
-          | inr away ↦
-              let apart : i ≢ place = away in
-              waits_not s m (nth records i) (λ e.
-              chained.none_between place i within (omega arith) (omega arith) inside
-              (e ∙ sym own))
-        ]
-      ];
-    }
 
 -- ---- one receiver less
 
@@ -208,16 +174,6 @@ struck_queue records front ahead cursors last place s to rest new queue from wit
     }
 
 -- ---- one emission more
-
-pub none_more : (records : List Emission) (last : List ℕ) → IsChain records last
-    → IsMore records last records last []
-none_more records last chain =
-    record {
-      chain = chain;
-      grown = omega arith;
-      queue = λ front cursors queue. queue;
-      view = λ front within. sym (append-nil (all_waiting (drop front records)));
-    }
 
 pub more_and_more : (a : List Emission) (last_a : List ℕ) (b : List Emission) (last_b : List ℕ)
     (c : List Emission) (last_c : List ℕ) (xs ys : List Owed) → IsMore a last_a b last_b xs

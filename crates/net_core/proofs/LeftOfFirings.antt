@@ -1,7 +1,7 @@
 -- What is left of what a machine has sent, firing by firing.
 use Rattle.std.specs.Prelude.{◌≡◌, ℕ, zero, suc, ◌+◌, ◌-◌, ◌<◌, ◌≤◌, Bool, true, false, List, ◌∷◌, ◌++◌, filter, flat_map, length, take, drop, replicate, slice_get, Some, []}
 use Rattle.std.proofs.Common.{refl, sym, ap, ◌∙◌, arith, length-append}
-use Rattle.std.proofs.lemmas.List.{drop_all, length-replicate}
+use Rattle.std.proofs.lemmas.List.{length-replicate}
 use Rattle.std.proofs.Math.Nat.{max-zero}
 use Rattle.std.proofs.Math.Seq.{drop-append-add}
 use Rattle.transition_table.specs.declared.network.Network.{Network}
@@ -94,11 +94,3 @@ left_here net m firings f taken count x at is some =
     (length (filter (λ e. reads net m e.0) (emissions net x.entry))) x.stamp rest (omega arith))
     ∙ max-zero x.stamp
     )
-
-pub left_at_end : (net : Network) (m : ℕ) (firings : List Stamped) (f taken : ℕ)
-    → length firings ≤ f
-    → 0 ≡ greatest (take 1 (left net m firings (record { firing = f; taken = taken })))
-left_at_end net m firings f taken past =
-    sym (ap (λ l. greatest (take 1 (drop taken (flat_map (once_each net m) l))))
-    (drop_all f firings past) ∙ ap (λ l. greatest (take 1 l))
-    (drop_all {X = ℕ} taken [] (omega arith)))

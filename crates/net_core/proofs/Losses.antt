@@ -16,25 +16,10 @@ use Rattle.transition_table.specs.declared.snapshot.Snapshot.{Snapshot}
 use Rattle.journals.specs.declared.entry.Entry.{Entry}
 use Rattle.journals.specs.declared.entry.Entry.TheVariants.{Dep, Rea}
 use Rattle.journals.specs.Journals.{FitsNetwork, IsJournal, inputs_of, states_of, buffered, state, snap}
+use Rattle.journals.proofs.EntriesAt.{prefix_more}
 use Rattle.net_core.specs.inner.Losses.{Overwrites}
 use Rattle.journals.specs.Moved.{machine_of, SuitsMachine}
 use Rattle.journals.specs.Outputs.{overwrites, lost_after}
-
-pub fits_at : (net : Network) (journal : List Entry) (i : ℕ) (entry : Entry) → IsJournal net journal
-    → slice_get journal i ≡ Some entry → FitsNetwork net entry
-fits_at net [] i entry h at = cc
-fits_at net (x ∷ journal) zero entry h at = let same : x ≡ entry = cc in
-    subst (FitsNetwork net) same h.0
-fits_at net (x ∷ journal) (suc i) entry h at = fits_at net journal i entry h.1 at
-
-pub suits_machine : (net : Network) (machine : Machine) (entry : Entry) → FitsNetwork net entry
-    → slice_get net.machines (machine_of entry) ≡ Some machine → SuitsMachine machine entry
-suits_machine net machine (Dep s m e c) h at = tt
-suits_machine net machine (Rea m s o) h at =
-    let of : IsSnapshot machine s × IsOutcome machine o =
-    subst (λ (found : Option Machine). IsSomeAnd found
-    (λ machine. IsSnapshot machine s × IsOutcome machine o)) at h in
-    of.1.widths
 
 -- ---- what is present
 
@@ -109,11 +94,6 @@ overwrites_is net journal machine before (Dep s m e c) b at is h =
     ∙ ap (λ (l : List ℕ). has l e && not (buffered journal m e == 0)) (sym inputs)
 
 -- ---- one entry more
-
-pub prefix_more : (journal : List Entry) (i : ℕ) (entry : Entry) → slice_get journal i ≡ Some entry
-    → take (i + 1) journal ≡ take i journal ++ entry ∷ []
-prefix_more journal i entry at = take_more journal i entry (slice_get_within journal i entry at)
-    ∙ ap (λ x. take i journal ++ x ∷ []) (get_or_from_slice_get journal i entry entry at)
 
 pub losses_more : (net : Network) (journal : List Entry) (i : ℕ) (entry : Entry)
     → slice_get journal i ≡ Some entry

@@ -93,6 +93,12 @@ not_owed net trace journal entry from to e c b is says fails =
 
 -- ---- outcomes
 
+pub snapshot_fits : (found : Option Machine) (s : Snapshot) (o : Outcome)
+    → IsSomeAnd found (λ machine. IsSnapshot machine s × IsOutcome machine o)
+    → IsSomeAnd found (λ machine. IsSnapshot machine s)
+snapshot_fits None s o h = h
+snapshot_fits (Some machine) s o h = h.0
+
 pub outcomes_agree : OneOutcome → (net : Network) (m : ℕ) (s : Snapshot) (o p q : Outcome)
     → AreDeterministic net → OfMachine net m (λ machine. IsSnapshot machine s × IsOutcome machine q)
     → OfMachine net m (λ machine. Transition machine s o)

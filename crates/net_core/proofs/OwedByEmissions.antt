@@ -1,5 +1,5 @@
 -- The deliveries that emissions still owe.
-use Rattle.std.specs.Prelude.{◌≡◌, ◌≢◌, ℕ, zero, suc, ◌+◌, ◌<◌, ◌≤◌, Bool, true, false, cond, ◌&&◌, ◌==◌, List, ◌∷◌, ◌++◌, map, filter, length, drop, set, Some, find, option_map, []}
+use Rattle.std.specs.Prelude.{◌≡◌, ◌≢◌, ℕ, zero, suc, ◌<◌, ◌≤◌, Bool, true, false, cond, ◌&&◌, ◌==◌, List, ◌∷◌, ◌++◌, map, filter, length, drop, set, Some, find, option_map, []}
 use Rattle.std.specs.Int.{bit_at}
 use Rattle.std.specs.Option.{option_or}
 use Rattle.std.proofs.Common.{refl, sym, ap, ◌∙◌, arith}
@@ -76,17 +76,6 @@ without_in t (x ∷ xs) ys d h = cases (t x) h (without_in t xs ys d)
     cases true h rest = refl
     cases false h rest = ap (λ l. x ∷ l) (rest h)
 
-pub length_without : {X : Type 0} (t : X → Bool) (xs : List X) (d : X) → find t xs ≡ Some d
-    → length (without_first t xs) + 1 ≡ length xs
-length_without t [] d h = cc
-length_without t (x ∷ xs) d h = cases (t x) h (length_without t xs d)
-  where
-    cases : (b : Bool) → cond b (Some x) (find t xs) ≡ Some d
-        → (find t xs ≡ Some d → length (without_first t xs) + 1 ≡ length xs)
-        → length (cond b xs (x ∷ without_first t xs)) + 1 ≡ suc (length xs)
-    cases true h rest = omega arith
-    cases false h rest = let more = rest h in omega arith
-
 -- ---- one emission
 
 pub struck_waits : (s m : ℕ) → waits s m no_emission ≡ false
@@ -102,11 +91,6 @@ none_waiting r none =
     ∙ ap (map (owed_to r))
     (none_past (λ m. bit_at 0 m == 1) 0 64 (omega arith)
     (λ k past. ap (λ b. b == 1) (bit_at-zero k)))
-
--- the deliveries of an emission from s to m
-way_of : (s m : ℕ) (r : Emission) (k : ℕ)
-    → is_way (Sender s) m (owed_to r k) ≡ (r.from == s && k == m)
-way_of s m r k = refl
 
 pub way_absent : (s m : ℕ) (r : Emission) → waits s m r ≡ false
     → filter (is_way (Sender s) m) (waiting r) ≡ []

@@ -1,8 +1,7 @@
 -- What is kept beside a journal, one entry more.
-use Rattle.std.specs.Prelude.{◌≡◌, ◌↔◌, ℕ, ◌+◌, ◌<◌, Bool, true, false, cond, nat_lt, List, [], ◌∷◌, ◌++◌, map, filter, flat_map, count_by, length, slice_get, Some}
+use Rattle.std.specs.Prelude.{◌≡◌, ◌↔◌, ℕ, ◌<◌, Bool, true, false, cond, nat_lt, List, [], ◌∷◌, ◌++◌, map, filter, count_by, length, slice_get, Some}
 use Rattle.std.proofs.Common.{refl, sym, ap, ◌∙◌, get_or}
 use Rattle.std.proofs.lemmas.List.{append-nil}
-use Rattle.std.proofs.lemmas.List.Elements.{filter-append}
 use Rattle.std.proofs.lemmas.Bool.{both_ways}
 use Rattle.std.proofs.lemmas.Option.{get_or_from_slice_get}
 use Rattle.polis_base.specs.Lists.{upto}
@@ -13,42 +12,19 @@ use Rattle.journals.specs.declared.entry.Entry.{Entry}
 use Rattle.journals.specs.declared.entry.Entry.TheVariants.{Dep, Rea}
 use Rattle.journals.specs.declared.entry.Owed.{Owed}
 use Rattle.journals.specs.declared.entry.TraceItem.{TraceItem}
-use Rattle.journals.specs.Journals.{snap, emissions, delivered}
+use Rattle.journals.specs.Journals.{snap, delivered}
 use Rattle.net_core.specs.inner.Landed.{landed}
 use Rattle.journals.specs.Legality.{Legal, MayFollow}
 use Rattle.net_core.specs.Tables.{AreTables}
 use Rattle.net_core.specs.inner.Tables.{AreBefore}
 use Rattle.journals.specs.Moved.{moments_of}
-use Rattle.journals.specs.Schedules.{is_way, left_by, firing_deliveries, owed_by_machines, deliveries_of, receivers_of, machine_deliveries, unmade, keep_unless, same_way}
+use Rattle.journals.specs.Schedules.{is_way, left_by, firing_deliveries, owed_by_machines, machine_deliveries, unmade, keep_unless, same_way}
 use Rattle.journals.specs.Laws.{MovesOwed}
 use Rattle.net_core.proofs.OwedByEmissions.{without_none}
 use Rattle.journals.proofs.MomentsAfter.{get_or-table}
 use Rattle.journals.proofs.OwedAfter.{no_env_way}
 
 -- ---- the owed deliveries of machines
-
--- none of the deliveries of machines is of the environment
-none_to_all : (m e c s : ℕ) (receivers : List ℕ)
-    → filter (is_way Env m)
-    (map (λ k. let made : Owed = record { from = Sender s; to = k; event = e; code = c } in
-    made) receivers) ≡ []
-none_to_all m e c s [] = refl
-none_to_all m e c s (k ∷ receivers) = none_to_all m e c s receivers
-
-none_of_emissions : (net : Network) (m s : ℕ) (ps : List (ℕ × ℕ))
-    → filter (is_way Env m) (flat_map (deliveries_of net (Sender s)) ps) ≡ []
-none_of_emissions net m s [] = refl
-none_of_emissions net m s ((e, c) ∷ ps) =
-    filter-append (is_way Env m) (deliveries_of net (Sender s) (e, c))
-    (flat_map (deliveries_of net (Sender s)) ps)
-    ∙ ap (λ l. l ++ filter (is_way Env m) (flat_map (deliveries_of net (Sender s)) ps))
-    (none_to_all m e c s (receivers_of net e))
-    ∙ none_of_emissions net m s ps
-
-none_of_firing : (net : Network) (m : ℕ) (entry : Entry)
-    → filter (is_way Env m) (firing_deliveries net entry) ≡ []
-none_of_firing net m (Dep s k e c) = refl
-none_of_firing net m (Rea k s o) = none_of_emissions net m k (emissions net (Rea k s o))
 
 none_unmade : (p : Owed → Bool) (journal : List Entry) (passed xs : List Owed) → filter p xs ≡ []
     → filter p (unmade (λ d. d) journal passed xs) ≡ []
@@ -86,23 +62,6 @@ owed_after net trace journal entry old new moves legal is takes =
         (no_env_way net m journal)))
     same (Dep (Sender s) m e c) = refl
     same (Rea m s o) = refl
-
--- ---- the snapshots
-
-pub moment_at : (net : Network) (journal : List Entry) (moments : List Snapshot) (m : ℕ)
-    (s : Snapshot) → moments ≡ moments_of net journal → m < length net.machines
-    → slice_get moments m ≡ Some s → s ≡ snap net journal m
-moment_at net journal moments m s are below at =
-    sym (get_or_from_slice_get moments m s s at) ∙ ap (λ (l : List Snapshot). get_or l m s) are
-    ∙ get_or-table (snap net journal) (length net.machines) m s below
-
--- the same of an item by its place
-pub moment_of : (net : Network) (journal : List Entry) (moments : List Snapshot) (m : ℕ)
-    (s : Snapshot) → moments ≡ moments_of net journal → m < length net.machines
-    → s ≡ get_or moments m s → s ≡ snap net journal m
-moment_of net journal moments m s are below at =
-    at ∙ ap (λ (l : List Snapshot). get_or l m s) are
-    ∙ get_or-table (snap net journal) (length net.machines) m s below
 
 -- ---- tables
 

@@ -3,7 +3,7 @@ use journals::Owed;
 
 /// The first delivery that the environment owes. It is ready where no `settle` item stands between
 /// the event item before its item, or the start of the trace, and its item.
-#[derive(Clone, Copy, Debug, PartialEq, Eq)]
+#[derive(Clone, Copy)]
 pub struct NextEnv {
     /// The delivery.
     pub owed: Owed,
@@ -12,7 +12,7 @@ pub struct NextEnv {
 }
 
 /// Why an entry can't follow. The first that applies in this order is answered.
-#[derive(Clone, Copy, Debug, PartialEq, Eq)]
+#[derive(Clone, Copy)]
 pub enum Why {
     /// A delivery isn't the next of what its sender has sent to its receiver.
     NotOwed,
@@ -25,7 +25,7 @@ pub enum Why {
 }
 
 /// Whether an entry was taken.
-#[derive(Clone, Copy, Debug, PartialEq, Eq)]
+#[derive(Clone, Copy)]
 pub enum Admit {
     /// It may follow, and was taken.
     Yes,

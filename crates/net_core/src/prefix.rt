@@ -14,7 +14,7 @@ use std::alloc::Global;
 use transition_table::{Network, Reactor};
 
 /// The legal entries that a journal begins with.
-#[derive(Clone, Copy, Debug, PartialEq, Eq)]
+#[derive(Clone, Copy)]
 pub struct Prefix {
     /// How many there are. The entry of this number, if there is one, can't follow them.
     pub count: u64,

@@ -11,7 +11,7 @@ use Rattle.transition_table.specs.declared.network.Network.{Network}
 use Rattle.journals.specs.declared.entry.TraceItem.{TraceItem}
 use Rattle.trace_text.specs.Pieces.{runs, ends_line, ends_word, begins_comment, trace_lines, without_comment, trace_words}
 use Rattle.trace_text.specs.Traces.{added, with_line, item_of_line, item_of_words}
-use Rattle.journal_text.specs.Forms.{with_byte, is_nonempty}
+use Rattle.polis_base.specs.Pieces.{with_byte, is_nonempty}
 
 -- no byte passes
 abbrev pub is_free : (ℕ → Bool) → List ℕ → Bool

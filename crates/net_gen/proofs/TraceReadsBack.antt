@@ -24,7 +24,7 @@ use Rattle.net_gen.proofs.DeclarationRules.{draw_below}
 use Rattle.net_gen.proofs.Lines.{is_free, text_of, are_lines, lines_back, one_word, IsItem, all_read, zip_flat, all_flat, text_flat}
 use Rattle.net_gen.proofs.RingNames.{same_self, other_number}
 use Rattle.net_gen.proofs.NumberedNames.{each_below, one_digit, two_digits}
-use Rattle.journal_text.specs.Items.{word_code}
+use Rattle.journals.specs.ValueWords.{word_code}
 
 -- ---- the lines
 

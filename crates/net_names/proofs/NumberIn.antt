@@ -1,11 +1,9 @@
 -- What has a name, by the name's number.
-use Rattle.std.proofs.Common.{◌≡◌, ◌∙◌, ℕ, suc, ◌+◌, ◌-◌, ◌<◌, ◌≤◌, drop, get_or, Bool, true, false, cond, List, [], ◌∷◌, length, map, find, slice_get, Option, Some, None, is_some, true≢false, refl, ap, sym, arith}
+use Rattle.std.proofs.Common.{◌≡◌, ◌∙◌, ℕ, suc, ◌+◌, ◌<◌, ◌≤◌, drop, get_or, Bool, true, false, cond, List, [], ◌∷◌, length, map, find, slice_get, Option, Some, None, is_some, true≢false, refl, ap, sym, arith}
 use Rattle.std.specs.Option.{option_map, option_and_then}
 use Rattle.std.proofs.lemmas.List.{length-map, drop_more, nil_from_length, length-drop}
 use Rattle.domains.specs.Names.{is_same}
 use Rattle.net_reader.specs.declared.raw.Word.{Word}
-use Rattle.net_reader.specs.declared.raw.RawValue.TheVariants as values
-use Rattle.net_reader.specs.declared.raw.RawShape.TheVariants as shapes
 use Rattle.net_names.specs.Numbers.{names_of, number_in}
 
 -- a number is that of a name of the list

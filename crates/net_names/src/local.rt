@@ -50,6 +50,30 @@ pub struct Local<'s, 'a> {
     pub ghost var_numbers: { (name : List ℕ) → number_at vars name ≡ number_in (names_of (machine.now.inputs ++ state_words machine.now)) name },
 }
 
+// The number of each state variable by its name.
+fn number_states(alloc: Global, machine: &RawMachine) -> Result<Table, NoMemory>
+    ensures numbers { IfOk result (λ table. (name : List ℕ)
+        → number_at table name ≡ number_in (names_of (state_words machine.now)) name) }
+    ensures names { IfOk result (λ table. has table ≡ is_name_of (state_words machine.now)) }
+{
+    let words = state_words(alloc, machine)?;
+    let table = number_all(alloc, &words)?;
+    Ok(table)
+}
+
+// The number of each variable by its name: the inputs, then the state variables.
+fn number_vars(alloc: Global, machine: &RawMachine) -> Result<Table, NoMemory>
+    ensures numbers { IfOk result (λ table. (name : List ℕ)
+        → number_at table name
+        ≡ number_in (names_of (machine.now.inputs ++ state_words machine.now)) name) }
+    ensures names { IfOk result (λ table. has table
+        ≡ is_name_of (machine.now.inputs ++ state_words machine.now)) }
+{
+    let words = var_words(alloc, machine)?;
+    let table = number_all(alloc, &words)?;
+    Ok(table)
+}
+
 impl<'s, 'a> Local<'s, 'a> {
     pub fn new(
         alloc: Global,
@@ -61,10 +85,8 @@ impl<'s, 'a> Local<'s, 'a> {
     {
         let inputs = number_all(alloc, &machine.inputs)?;
         let outputs = number_all(alloc, &machine.outputs)?;
-        let states = state_words(alloc, machine)?;
-        let states = number_all(alloc, &states)?;
-        let vars = var_words(alloc, machine)?;
-        let vars = number_all(alloc, &vars)?;
+        let states = number_states(alloc, machine)?;
+        let vars = number_vars(alloc, machine)?;
         Ok(Local {
             scope,
             machine,

@@ -23,14 +23,32 @@ pub struct Scope<'a> {
     pub ghost event_numbers: { (name : List ℕ) → number_at events name ≡ number_in (names_of (event_words raw.now)) name },
 }
 
+// The number of each domain by its name.
+fn number_domains(alloc: Global, raw: &RawNet) -> Result<Table, NoMemory>
+    ensures { IfOk result (λ table. (name : List ℕ)
+        → number_at table name ≡ number_in (names_of (domain_words raw.now)) name) }
+{
+    let words = domain_words(alloc, raw)?;
+    let table = number_all(alloc, &words)?;
+    Ok(table)
+}
+
+// The number of each event by its name.
+fn number_events(alloc: Global, raw: &RawNet) -> Result<Table, NoMemory>
+    ensures { IfOk result (λ table. (name : List ℕ)
+        → number_at table name ≡ number_in (names_of (event_words raw.now)) name) }
+{
+    let words = event_words(alloc, raw)?;
+    let table = number_all(alloc, &words)?;
+    Ok(table)
+}
+
 impl<'a> Scope<'a> {
     pub fn new(alloc: Global, raw: &'a RawNet) -> Result<Scope<'a>, NoMemory>
         ensures { IfOk result (λ scope. scope.raw.now ≡ raw.now) }
     {
-        let domains = domain_words(alloc, raw)?;
-        let domains = number_all(alloc, &domains)?;
-        let events = event_words(alloc, raw)?;
-        let events = number_all(alloc, &events)?;
+        let domains = number_domains(alloc, raw)?;
+        let events = number_events(alloc, raw)?;
         Ok(Scope {
             raw,
             domains,

@@ -59,10 +59,6 @@ stops_list test p made ls rest stops.Fault all t g e =
     sym e ∙ ap (with_before made) (many_err test p ls rest t g)
 stops_list test p made ls rest stops.NoMemory all t g e = tt
 
-pub none_before : {A : Type 0} (r : Answer (List A)) → with_before [] r ≡ r
-none_before (Ok y) = refl
-none_before (Err e) = refl
-
 -- after a comma less is left too
 pub comma_shrinks : {A : Type 0} (p : Rule A) → Shrinks p → Shrinks (after_comma p)
 unfolding after_comma

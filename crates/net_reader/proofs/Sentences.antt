@@ -179,15 +179,6 @@ net_outcome text net h =
     ap (outcome_of text) h.read
     ∙ ap (judged (length text)) (whole_sentence (lexemes text h.tokens) net h.sentence)
 
-pub lex_outcome : (text : List ℕ) (r : Result (List Token) LexError) (fault : LexError)
-    → outcome_of text r ≡ Err (faults.Lex fault) → r ≡ Err fault
-lex_outcome text (Ok tokens) fault e = absurd (no_lex (whole_at (lexemes text tokens)) e)
-  where
-    no_lex : (a : Answer RawNet) → judged (length text) a ≡ Err (faults.Lex fault) → ⊥
-    no_lex (Ok x) h = absurd cc
-    no_lex (Err rest) h = absurd cc
-lex_outcome text (Err found) fault e = let same : found ≡ fault = cc in ap Err same
-
 breaks_judged : (text : List ℕ) (tokens : List Token) (r : Answer RawNet) (place : ℕ)
     → tokens_of text ≡ Ok tokens → whole_at (lexemes text tokens) ≡ r
     → judged (length text) r ≡ Err (faults.Syntax place) → BreaksAt text place

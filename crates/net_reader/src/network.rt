@@ -17,7 +17,7 @@ use std::alloc::Global;
 use thiserror::Error;
 
 /// Why a text is no network. The message is the variant's name.
-#[derive(Clone, Copy, Debug, PartialEq, Eq, Error)]
+#[derive(Clone, Copy, Debug, Error)]
 pub enum NetFault {
     /// The first token that doesn't read. It is never running out of memory.
     #[error("Lex")]

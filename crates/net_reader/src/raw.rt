@@ -4,7 +4,7 @@ ghost use Rattle.std.specs.Prelude.{◌≡◌};
 use polis_base::{Duplicate, List, Name, NoMemory};
 
 /// A name.
-#[derive(Clone, Copy, Debug)]
+#[derive(Clone, Copy)]
 pub struct Word {
     /// The bytes of the name.
     pub name: Name,
@@ -19,7 +19,7 @@ impl Duplicate for Word {
 }
 
 /// A number.
-#[derive(Clone, Copy, Debug)]
+#[derive(Clone, Copy)]
 pub struct Num {
     /// The number that the digits are.
     pub number: u32,
@@ -28,7 +28,7 @@ pub struct Num {
 }
 
 /// A value as it is written.
-#[derive(Clone, Copy, Debug)]
+#[derive(Clone, Copy)]
 pub enum RawValue {
     /// A value by its name.
     Name(Word),
@@ -96,7 +96,7 @@ impl Duplicate for RawDomain {
 pub type RawDomainList = List<RawDomain>;
 
 /// Whether an event comes from the environment, goes to it, or goes between machines alone.
-#[derive(Clone, Copy, Debug, PartialEq, Eq)]
+#[derive(Clone, Copy)]
 pub enum RawEnv {
     /// Neither is written.
     Between,
@@ -107,7 +107,7 @@ pub enum RawEnv {
 }
 
 /// An event. One without a domain is pure.
-#[derive(Clone, Copy, Debug)]
+#[derive(Clone, Copy)]
 pub struct RawEvent {
     /// The name of the event.
     pub name: Word,
@@ -127,7 +127,7 @@ impl Duplicate for RawEvent {
 pub type RawEventList = List<RawEvent>;
 
 /// A state variable.
-#[derive(Clone, Copy, Debug)]
+#[derive(Clone, Copy)]
 pub struct RawState {
     /// The name of the variable.
     pub name: Word,
@@ -191,7 +191,7 @@ impl Duplicate for RawCond {
 pub type RawCondList = List<RawCond>;
 
 /// Where an action takes a value from.
-#[derive(Clone, Copy, Debug)]
+#[derive(Clone, Copy)]
 pub enum RawSource {
     /// The value itself.
     Value(RawValue),
@@ -214,7 +214,7 @@ impl Duplicate for RawSource {
 }
 
 /// An action: an event is emitted, with a value where it has a domain, or a variable is set.
-#[derive(Clone, Copy, Debug)]
+#[derive(Clone, Copy)]
 pub enum RawAct {
     /// `emit name`, or `emit name = source`.
     Emit {

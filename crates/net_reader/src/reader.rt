@@ -21,7 +21,7 @@ use std::marker::Model;
 const ROOM_MAX: u64 = 64;
 
 // Why reading stopped.
-#[derive(Clone, Copy, Debug)]
+#[derive(Clone, Copy)]
 pub(crate) enum Stop {
     // The next token doesn't fit, or there is none.
     Fault,

@@ -3,18 +3,19 @@ ghost use Rattle.std.specs.Prelude.{◌≡◌, ◌≤◌, length, map, IfOk};
 ghost use Rattle.polis_base.specs.declared.limits.TheConstants.{DOMAINS_MAX, EVENTS_MAX};
 ghost use Rattle.std.specs.List.{AllZip};
 ghost use Rattle.net_reader.specs.declared.raw.Word.{Word as Declared};
-ghost use Rattle.net_names.specs.Scopes.{event_words};
-ghost use Rattle.net_rules.specs.Networks.{state_of, IsMachineOf};
+ghost use Rattle.net_names.specs.Scopes.{event_words, var_sizes};
+ghost use Rattle.net_rules.specs.Networks.{state_of, IsRowOf, IsMachineOf};
 ghost use Rattle.net_names.specs.Numbers.{number};
 ghost use Rattle.net_rules.specs.inner.Sound.{Each, IsSound, IsSoundMachine};
 
 use crate::row_list::{rows_of, value_number};
-use crate::sizes::{results_of, var_sizes};
+use crate::sizes::{Sizes, sizes_of};
+use domains::VarTable;
 use net_names::{Local, Scope, vars_of};
 use net_reader::{RawMachine, RawState, Word};
 use polis_base::{NoMemory, Numbers};
 use std::alloc::Global;
-use transition_table::{Machine, MachineList, StateDecl, StateList};
+use transition_table::{Machine, MachineList, RowList, StateDecl, StateList};
 
 // The numbers of events.
 fn event_numbers(alloc: Global, scope: &Scope, words: &[Word]) -> Result<Numbers, NoMemory>
@@ -54,6 +55,63 @@ fn states_of(alloc: Global, scope: &Scope, states: &[RawState]) -> Result<StateL
     Ok(made)
 }
 
+// The numbers of the events that a machine reads and emits.
+#[derive(Drop)]
+struct Ports {
+    inputs: Numbers,
+    outputs: Numbers,
+}
+
+fn ports_of(alloc: Global, scope: &Scope, machine: &RawMachine) -> Result<Ports, NoMemory>
+    requires { length scope.now.raw.now.events ≤ EVENTS_MAX }
+    ensures inputs { IfOk result (λ ports. ports.inputs
+        ≡ map (λ (w : Declared). number (event_words scope.now.raw.now) w.name)
+        machine.now.inputs) }
+    ensures outputs { IfOk result (λ ports. ports.outputs
+        ≡ map (λ (w : Declared). number (event_words scope.now.raw.now) w.name)
+        machine.now.outputs) }
+{
+    let inputs = event_numbers(alloc, scope, machine.inputs.as_slice())?;
+    let outputs = event_numbers(alloc, scope, machine.outputs.as_slice())?;
+    Ok(Ports { inputs, outputs })
+}
+
+// The rows of a machine whose names are numbered, and whose variables have these sizes.
+fn local_rows<'s, 'a>(
+    alloc: Global,
+    local: &Local<'s, 'a>,
+    vars: &VarTable,
+) -> Result<RowList, NoMemory>
+    requires sound { IsSound local.now.scope.now.raw.now }
+    requires vars { vars.now ≡ var_sizes local.now.scope.now.raw.now local.now.machine.now }
+    requires kept { IsSoundMachine local.now.scope.now.raw.now local.now.machine.now }
+    ensures { IfOk result (λ made. AllZip
+        (IsRowOf local.now.scope.now.raw.now local.now.machine.now)
+        local.now.machine.now.rows made) }
+{
+    let known = vars_of(alloc, local)?;
+    let rows = rows_of(alloc, local, &known, vars, local.machine.rows.as_slice())?;
+    Ok(rows)
+}
+
+// The rows of a machine whose variables have these sizes.
+fn machine_rows<'s, 'a>(
+    alloc: Global,
+    scope: &'s Scope<'a>,
+    machine: &'a RawMachine,
+    vars: &VarTable,
+) -> Result<RowList, NoMemory>
+    requires sound { IsSound scope.now.raw.now }
+    requires vars { vars.now ≡ var_sizes scope.now.raw.now machine.now }
+    requires kept { IsSoundMachine scope.now.raw.now machine.now }
+    ensures { IfOk result (λ made. AllZip (IsRowOf scope.now.raw.now machine.now)
+        machine.now.rows made) }
+{
+    let local = Local::new(alloc, scope, machine)?;
+    let rows = local_rows(alloc, &local, vars)?;
+    Ok(rows)
+}
+
 // A machine that keeps the rules.
 fn machine_of<'s, 'a>(
     alloc: Global,
@@ -66,14 +124,10 @@ fn machine_of<'s, 'a>(
     requires machine { IsSoundMachine scope.now.raw.now machine.now }
     ensures { IfOk result (λ made. IsMachineOf scope.now.raw.now machine.now made) }
 {
-    let local = Local::new(alloc, scope, machine)?;
-    let inputs = event_numbers(alloc, scope, machine.inputs.as_slice())?;
-    let outputs = event_numbers(alloc, scope, machine.outputs.as_slice())?;
+    let Ports { inputs, outputs } = ports_of(alloc, scope, machine)?;
     let states = states_of(alloc, scope, machine.states.as_slice())?;
-    let vars = var_sizes(alloc, scope, machine)?;
-    let known = vars_of(alloc, &local)?;
-    let results = results_of(alloc, scope, machine)?;
-    let rows = rows_of(alloc, &local, &known, &vars, machine.rows.as_slice())?;
+    let Sizes { vars, results } = sizes_of(alloc, scope, machine)?;
+    let rows = machine_rows(alloc, scope, machine, &vars)?;
     Ok(Machine {
         name: machine.name.name,
         priority: machine.priority.number as u8,

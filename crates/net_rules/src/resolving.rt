@@ -20,7 +20,7 @@ use thiserror::Error;
 use transition_table::Network;
 
 /// Why declarations give no network.
-#[derive(Clone, Copy, Debug, PartialEq, Eq, Error)]
+#[derive(Clone, Copy, Debug, Error)]
 pub enum ResolveFault {
     /// The first rule that is broken, and the least place where it is.
     #[error("Rule")]
@@ -35,21 +35,30 @@ pub enum ResolveFault {
     NoMemory,
 }
 
+// The network of declarations that keep the rules, whose names are numbered.
+fn scope_network<'s, 'a>(alloc: Global, scope: &'s Scope<'a>) -> Result<Network, NoMemory>
+    requires { IsSound scope.now.raw.now }
+    ensures { IfOk result (λ net. IsNetworkOf scope.now.raw.now net) }
+{
+    let domains = domains_of(alloc, scope.raw.domains.as_slice())?;
+    let events = events_of(alloc, scope)?;
+    let machines = machines_of(alloc, scope, scope.raw.machines.as_slice())?;
+    Ok(Network {
+        name: scope.raw.name.name,
+        domains,
+        events,
+        machines,
+    })
+}
+
 // The network of declarations that keep the rules.
 fn network_of(alloc: Global, raw: &RawNet) -> Result<Network, NoMemory>
     requires { IsSound raw.now }
     ensures { IfOk result (λ net. IsNetworkOf raw.now net) }
 {
     let scope = Scope::new(alloc, raw)?;
-    let domains = domains_of(alloc, raw.domains.as_slice())?;
-    let events = events_of(alloc, &scope)?;
-    let machines = machines_of(alloc, &scope, raw.machines.as_slice())?;
-    Ok(Network {
-        name: raw.name.name,
-        domains,
-        events,
-        machines,
-    })
+    let net = scope_network(alloc, &scope)?;
+    Ok(net)
 }
 
 /// The network that declarations give, or the first rule that they break.

@@ -73,11 +73,7 @@ fn setter_sizes(scope: &Scope, states: &[RawState], into: &mut VarTable) -> Resu
 }
 
 // The sizes of a machine's variables.
-pub(crate) fn var_sizes(
-    alloc: Global,
-    scope: &Scope,
-    machine: &RawMachine,
-) -> Result<VarTable, NoMemory>
+fn var_sizes(alloc: Global, scope: &Scope, machine: &RawMachine) -> Result<VarTable, NoMemory>
     requires sound { IsSound scope.now.raw.now }
     requires declared { Each (λ (s : Declared). is_name_of (domain_words scope.now.raw.now)
         s.domain.name ≡ true)
@@ -91,11 +87,7 @@ pub(crate) fn var_sizes(
 }
 
 // The sizes of a machine's results.
-pub(crate) fn results_of(
-    alloc: Global,
-    scope: &Scope,
-    machine: &RawMachine,
-) -> Result<VarTable, NoMemory>
+fn results_of(alloc: Global, scope: &Scope, machine: &RawMachine) -> Result<VarTable, NoMemory>
     requires sound { IsSound scope.now.raw.now }
     requires declared { Each (λ (s : Declared). is_name_of (domain_words scope.now.raw.now)
         s.domain.name ≡ true)
@@ -109,4 +101,30 @@ pub(crate) fn results_of(
     setter_sizes(scope, machine.states.as_slice(), &mut results)?;
     event_sizes(scope, machine.outputs.as_slice(), &mut results)?;
     Ok(results)
+}
+
+// The sizes of a machine's variables, and those of its results.
+#[derive(Drop)]
+pub(crate) struct Sizes {
+    pub(crate) vars: VarTable,
+    pub(crate) results: VarTable,
+}
+
+pub(crate) fn sizes_of(
+    alloc: Global,
+    scope: &Scope,
+    machine: &RawMachine,
+) -> Result<Sizes, NoMemory>
+    requires sound { IsSound scope.now.raw.now }
+    requires declared { Each (λ (s : Declared). is_name_of (domain_words scope.now.raw.now)
+        s.domain.name ≡ true)
+        machine.now.states }
+    ensures vars { IfOk result (λ sizes. sizes.vars ≡ var_sizes scope.now.raw.now machine.now) }
+    ensures results { IfOk result (λ sizes. sizes.results
+        ≡ 2 ∷ map (λ s. 1 + state_codes scope.now.raw.now s) machine.now.states
+        ++ map (event_codes scope.now.raw.now) machine.now.outputs) }
+{
+    let vars = var_sizes(alloc, scope, machine)?;
+    let results = results_of(alloc, scope, machine)?;
+    Ok(Sizes { vars, results })
 }

@@ -4,10 +4,11 @@ ghost use Rattle.polis_base.specs.declared.limits.TheConstants.{SIFTED_SNAPSHOTS
 ghost use Rattle.domains.specs.Tables.{product};
 ghost use Rattle.transition_table.specs.Orders.{Allowed};
 ghost use Rattle.transition_table.specs.Transitions.{IsDeterministic};
-ghost use Rattle.order_sift.specs.inner.Chains.{IsChain};
+ghost use Rattle.order_sift.specs.inner.Chains.{AreChain, IsChain};
 ghost use Rattle.order_sift.specs.inner.Known.{AreKnown};
 ghost use Rattle.order_sift.specs.inner.Pairs.{HasRoom};
-ghost use Rattle.order_sift.specs.inner.Points.{IsPrepared};
+ghost use Rattle.order_sift.specs.inner.Points.{AreFewPoints, IsPrepared};
+ghost use Rattle.order_sift.specs.inner.Settings.{HasRoomAndSets};
 
 use crate::law::{laws_below, laws_of_levels};
 use crate::points::Points;
@@ -24,6 +25,57 @@ pub(crate) struct Chain {
     pub(crate) classes: List<Numbers>,
     /// At each place t the sum of the levels of the order's last t items.
     pub(crate) backs: List<u64>,
+}
+
+// The chain of none of an order's items.
+fn empty_chain(alloc: Global, m: &Machine, snapshots: u64, order: &Order) -> Result<Chain, NoMemory>
+    requires snapshots { snapshots ≡ product m.now.vars }
+    requires sure { IsDeterministic m.now }
+    requires allowed { Allowed m.now order.now }
+    ensures { IfOk result (λ chain. AreChain m.now order.now 0 chain.classes chain.backs) }
+{
+    laws_below();
+    laws_of_levels(m);
+    let whole = Numbers::filled(alloc, snapshots, 0)?;
+    let mut classes = List::new(alloc);
+    classes.push(whole)?;
+    let mut backs = List::new(alloc);
+    backs.push(0)?;
+    Ok(Chain { classes, backs })
+}
+
+// One more of the order's last items, of which the chain has so many.
+fn extend(
+    m: &Machine,
+    points: &Points,
+    seen: &mut [u16],
+    known: &mut Known,
+    order: &Order,
+    t: u64,
+    chain: &mut Chain,
+) -> Result<(), NoMemory>
+    requires points { AreFewPoints m.now points.now }
+    requires sets { HasRoomAndSets m.now seen.old known.old }
+    requires sure { IsDeterministic m.now }
+    requires allowed { Allowed m.now order.now }
+    requires t { t < length order.now }
+    requires chain { AreChain m.now order.now t chain.old.classes chain.old.backs }
+    ensures chain { IfOk result (λ done.
+        AreChain m.now order.now (t + 1) chain.new.classes chain.new.backs) }
+    ensures known { IfOk result (λ done. AreKnown m.now known.new) }
+{
+    laws_of_levels(m);
+    let items = order.len();
+    let item = *order.get(items - 1 - t);
+    let old = chain.classes.get(t);
+    let set = first_items(order, items - 1 - t);
+    let made = numbers_of(m, points, seen, known, set, old, item)?;
+    let here = level_after(m, points, known, set, &made, item)?;
+    let last = *chain.backs.get(t);
+    chain.classes.push(made)?;
+    let back = here + last;
+    chain.backs.push(back)?;
+    Ok(())
 }
 
 /// The chain of an order, from its end on.
@@ -44,24 +96,9 @@ pub(crate) fn chain_of(
     ensures chain { IfOk result (IsChain m.now order.now) }
     ensures known { IfOk result (λ chain. AreKnown m.now known.new) }
 {
-    laws_below();
-    laws_of_levels(m);
-    let items = order.len();
-    let whole = Numbers::filled(alloc, points.snapshots, 0)?;
-    let mut classes = List::new(alloc);
-    let mut backs = List::new(alloc);
-    classes.push(whole)?;
-    backs.push(0)?;
-    for t in 0..items {
-        let item = *order.get(items - 1 - t);
-        let old = classes.get(t);
-        let set = first_items(order, items - 1 - t);
-        let made = numbers_of(m, points, seen, known, set, old, item)?;
-        let here = level_after(m, points, known, set, &made, item)?;
-        let last = *backs.get(t);
-        classes.push(made)?;
-        let back = here + last;
-        backs.push(back)?;
+    let mut chain = empty_chain(alloc, m, points.snapshots, order)?;
+    for t in 0..order.len() {
+        extend(m, points, seen, known, order, t, &mut chain)?;
     }
-    Ok(Chain { classes, backs })
+    Ok(chain)
 }

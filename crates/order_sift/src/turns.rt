@@ -3,7 +3,7 @@ ghost use Rattle.std.specs.Prelude.{◌≡◌, ◌+◌, ◌-◌, ◌<◌, ◌≤
 ghost use Rattle.polis_base.specs.declared.limits.TheConstants.{SIFTED_SNAPSHOTS_MAX};
 ghost use Rattle.domains.specs.Orders.{place};
 ghost use Rattle.domains.specs.Tables.{product};
-ghost use Rattle.transition_table.specs.Orders.{Allowed};
+ghost use Rattle.transition_table.specs.Computed.{all_supports};
 ghost use Rattle.transition_table.specs.Transitions.{IsDeterministic};
 ghost use Rattle.outcome_table.specs.Outcomes.{IsTableOf};
 ghost use Rattle.char_function.specs.Orders.{first_order};
@@ -14,8 +14,8 @@ ghost use Rattle.order_sift.specs.inner.Known.{AreKnown};
 ghost use Rattle.order_sift.specs.inner.Pairs.{HasRoom};
 ghost use Rattle.order_sift.specs.inner.Points.{IsPrepared};
 ghost use Rattle.order_sift.specs.Sifting.{IsSifted};
-ghost use Rattle.order_sift.specs.inner.Settings.{IsAt, IsSifting};
-ghost use Rattle.order_sift.specs.inner.Turns.{IsAtBest, NoneSmaller, StaysOrFalls};
+ghost use Rattle.order_sift.specs.inner.Settings.{HasRoomAndSets, IsAt, IsSifting};
+ghost use Rattle.order_sift.specs.inner.Turns.{IsAtBest, IsCounted, NoneSmaller, StaysOrFalls};
 
 use crate::chain::{Chain, chain_of};
 use crate::law::laws_of_levels;
@@ -103,6 +103,42 @@ fn place_of_least(numbers: &[u64]) -> usize
     best
 }
 
+// Moves the item at one place to another, where the order has this size.
+fn move_to(
+    sifting: &Sifting,
+    seen: &mut [u16],
+    known: &mut Known,
+    i: u64,
+    j: u64,
+    count: u64,
+    at: &mut Counted,
+) -> Result<(), NoMemory>
+    requires sifting { IsSifting sifting.now.machine.now sifting.now.supports.now
+        sifting.now.points.now }
+    requires sets { HasRoomAndSets sifting.now.machine.now seen.old known.old }
+    requires i { i < length at.old.order }
+    requires j { j < length at.old.order }
+    requires counted { IsCounted sifting.now.machine.now (moved at.old.order i j) count }
+    ensures order { IfOk result (λ done. at.new.order ≡ moved at.old.order i j) }
+    ensures count { IfOk result (λ done. at.new.count ≡ count) }
+    ensures at { IfOk result (λ done.
+        IsAt sifting.now.machine.now known.new at.new.order at.new.count at.new.chain) }
+{
+    let order = moved(sifting.alloc, &at.order, i, j)?;
+    let chain = chain_of(
+        sifting.alloc,
+        sifting.machine,
+        sifting.points,
+        seen,
+        known,
+        &order,
+    )?;
+    at.order = order;
+    at.chain = chain;
+    at.count = count;
+    Ok(())
+}
+
 // Moves an item to the first allowed place of the least size, if that is smaller.
 fn sift_item(
     sifting: &Sifting,
@@ -139,18 +175,8 @@ fn sift_item(
     if count >= at.count {
         return Ok(());
     }
-    let order = moved(sifting.alloc, &at.order, i, range.first + best as u64)?;
-    let chain = chain_of(
-        sifting.alloc,
-        sifting.machine,
-        sifting.points,
-        seen,
-        known,
-        &order,
-    )?;
-    at.order = order;
-    at.chain = chain;
-    at.count = count;
+    let j = range.first + best as u64;
+    move_to(sifting, seen, known, i, j, count, at)?;
     Ok(())
 }
 
@@ -242,31 +268,49 @@ fn snapshot_count(m: &Machine) -> u64
     count
 }
 
-// The first order of a machine of few snapshots, with its size.
+// The first order of a machine of few snapshots, with its size and what it leaves.
 fn counted_first(
-    alloc: Global,
-    m: &Machine,
-    points: &Points,
+    sifting: &Sifting,
     seen: &mut [u16],
     known: &mut Known,
-    order: Order,
 ) -> Result<Counted, NoMemory>
-    requires sure { IsDeterministic m.now }
-    requires few { product m.now.vars ≤ SIFTED_SNAPSHOTS_MAX }
-    requires prepared { IsPrepared m.now points.now }
-    requires room { HasRoom (product m.now.vars) seen.old }
-    requires known { AreKnown m.now known.old }
-    requires allowed { Allowed m.now order }
-    ensures order { IfOk result (λ at. at.order ≡ order) }
-    ensures at { IfOk result (λ at. IsAt m.now known.new at.order at.count at.chain) }
+    requires sifting { IsSifting sifting.now.machine.now sifting.now.supports.now
+        sifting.now.points.now }
+    requires room { HasRoom (product sifting.now.machine.now.vars) seen.old }
+    requires known { AreKnown sifting.now.machine.now known.old }
+    ensures order { IfOk result (λ at. at.order ≡ first_order sifting.now.machine.now) }
+    ensures at { IfOk result (λ at.
+        IsAt sifting.now.machine.now known.new at.order at.count at.chain) }
 {
-    laws_of_levels(m);
-    let chain = chain_of(alloc, m, points, seen, known, &order)?;
+    let (alloc, machine) = (sifting.alloc, sifting.machine);
+    laws_of_levels(machine);
+    let order = first_order(alloc, machine, sifting.supports)?;
+    let chain = chain_of(alloc, machine, sifting.points, seen, known, &order)?;
     let count = *chain.backs.get(order.len());
     Ok(Counted {
         order,
         chain,
         count,
+    })
+}
+
+// Sifts the first order.
+fn sifted_with(sifting: &Sifting, seen: &mut [u16]) -> Result<Sifted, NoMemory>
+    requires sifting { IsSifting sifting.now.machine.now sifting.now.supports.now
+        sifting.now.points.now }
+    requires room { HasRoom (product sifting.now.machine.now.vars) seen.old }
+    ensures { IfOk result (λ sifted. IsSifted sifting.now.machine.now sifted.order
+        sifted.first_count sifted.count) }
+{
+    let mut known = nothing_known(sifting.alloc, sifting.machine);
+    let mut at = counted_first(sifting, seen, &mut known)?;
+    let first_count = at.count;
+    sift_items(sifting, seen, &mut known, &mut at)?;
+    char_function::laws();
+    Ok(Sifted {
+        order: at.order,
+        first_count,
+        count: at.count,
     })
 }
 
@@ -276,35 +320,75 @@ fn sifted_from(
     m: &Machine,
     table: &Table,
     supports: &Supports,
-    order: Order,
 ) -> Result<Sifted, NoMemory>
     requires sure { IsDeterministic m.now }
     requires few { product m.now.vars ≤ SIFTED_SNAPSHOTS_MAX }
     requires table { IsTableOf m.now table.now }
+    requires lists { supports.now ≡ all_supports m.now }
     requires supports { AreSupports m.now supports.now }
-    requires first { order ≡ first_order m.now }
-    requires allowed { Allowed m.now order }
     ensures { IfOk result (λ sifted. IsSifted m.now sifted.order sifted.first_count sifted.count) }
 {
     let mut room = room_for(alloc, snapshot_count(m) as usize)?;
     let seen = room.as_mut_slice();
     let points = prepare(alloc, m, table, seen)?;
-    let mut known = nothing_known(alloc, m);
-    let mut at = counted_first(alloc, m, &points, seen, &mut known, order)?;
-    let first_count = at.count;
     let sifting = Sifting {
         alloc,
         machine: m,
         supports,
         points: &points,
     };
-    sift_items(&sifting, seen, &mut known, &mut at)?;
-    char_function::laws();
-    Ok(Sifted {
-        order: at.order,
-        first_count,
-        count: at.count,
-    })
+    let sifted = sifted_with(&sifting, seen)?;
+    Ok(sifted)
+}
+
+// The sifted order of a machine of few snapshots, with the machine's diagram under it.
+fn small_diagram(
+    alloc: Global,
+    m: &Machine,
+    table: &Table,
+    supports: &Supports,
+) -> Result<SiftedDiagram, NoMemory>
+    requires sure { IsDeterministic m.now }
+    requires few { product m.now.vars ≤ SIFTED_SNAPSHOTS_MAX }
+    requires table { IsTableOf m.now table.now }
+    requires lists { supports.now ≡ all_supports m.now }
+    requires supports { AreSupports m.now supports.now }
+    ensures sifted { IfOk result (λ made. IsSifted m.now made.sifted.order made.sifted.first_count
+        made.sifted.count) }
+    ensures diagram { IfOk result (λ made. IsDiagramOf m.now made.sifted.order made.root.store
+        made.root.node) }
+{
+    let sifted = sifted_from(alloc, m, table, supports)?;
+    let root = diagram(alloc, m, table, supports, &sifted.order)?;
+    Ok(SiftedDiagram { sifted, root })
+}
+
+// The first order of a machine of many snapshots, with the machine's diagram under it.
+fn large_diagram(
+    alloc: Global,
+    m: &Machine,
+    table: &Table,
+    supports: &Supports,
+) -> Result<SiftedDiagram, NoMemory>
+    requires sure { IsDeterministic m.now }
+    requires many { SIFTED_SNAPSHOTS_MAX < product m.now.vars }
+    requires table { IsTableOf m.now table.now }
+    requires lists { supports.now ≡ all_supports m.now }
+    requires supports { AreSupports m.now supports.now }
+    ensures sifted { IfOk result (λ made. IsSifted m.now made.sifted.order made.sifted.first_count
+        made.sifted.count) }
+    ensures diagram { IfOk result (λ made. IsDiagramOf m.now made.sifted.order made.root.store
+        made.root.node) }
+{
+    let order = first_order(alloc, m, supports)?;
+    let root = diagram(alloc, m, table, supports, &order)?;
+    let count = root.store.count(root.node)?;
+    let sifted = Sifted {
+        order,
+        first_count: count,
+        count,
+    };
+    Ok(SiftedDiagram { sifted, root })
 }
 
 /// An order for a machine, with the machine's diagram under it. Item by item, each variable and
@@ -321,20 +405,12 @@ pub fn sift_diagram(alloc: Global, m: &Machine) -> Result<SiftedDiagram, NoMemor
 {
     let table = table_of(alloc, m)?;
     let supports = supports_in(alloc, m, &table)?;
-    let order = first_order(alloc, m, &supports)?;
     if snapshot_count(m) > SIFTED_SNAPSHOTS_MAX {
-        let root = diagram(alloc, m, &table, &supports, &order)?;
-        let count = root.store.count(root.node)?;
-        let sifted = Sifted {
-            order,
-            first_count: count,
-            count,
-        };
-        return Ok(SiftedDiagram { sifted, root });
+        let large = large_diagram(alloc, m, &table, &supports)?;
+        return Ok(large);
     }
-    let sifted = sifted_from(alloc, m, &table, &supports, order)?;
-    let root = diagram(alloc, m, &table, &supports, &sifted.order)?;
-    Ok(SiftedDiagram { sifted, root })
+    let small = small_diagram(alloc, m, &table, &supports)?;
+    Ok(small)
 }
 
 /// The same, without the diagram.

@@ -86,13 +86,6 @@ pub product_here : (vars : List ℕ) (i size : ℕ) → i < length vars → slic
 product_here vars i size low is = ap product (here vars i low)
     ∙ ap (λ (n : ℕ). n * product (drop (i + 1) vars)) is
 
-pub product_end : (vars : List ℕ) (i : ℕ) → i ≡ length vars → product (drop i vars) ≡ 1
-product_end vars i end = ap (λ (k : ℕ). product (drop k vars)) end ∙ ap product (past vars)
-  where
-    past : (xs : List ℕ) → drop (length xs) xs ≡ []
-    past [] = refl
-    past (x ∷ xs) = past xs
-
 -- there are no more lists of the later variables
 pub product_later : (vars : List ℕ) (i : ℕ) → are_sizes vars ≡ true → i < length vars
     → product (drop (i + 1) vars) ≤ product (drop i vars)

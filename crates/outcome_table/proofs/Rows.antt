@@ -7,7 +7,7 @@ use Rattle.std.proofs.lemmas.List.{map-append, replicate-append-replicate, lengt
 use Rattle.std.proofs.Math.Seq.{set-append_seam}
 use Rattle.polis_base.specs.Lists.{upto}
 use Rattle.domains.specs.Tables.{fits, product}
-use Rattle.transition_table.specs.MachineFacts.{is_row, names_codes, names_result, has_present}
+use Rattle.transition_table.specs.MachineFacts.{is_row}
 use Rattle.transition_table.specs.Transitions.{code_given, codes_given}
 use Rattle.transition_table.specs.declared.machine.Machine.{Machine}
 use Rattle.transition_table.specs.declared.row.Act.{Act}
@@ -18,22 +18,6 @@ use Rattle.domains.proofs.AllCodes.{long_map}
 pub row_fits : (m : Machine) (r : ℕ) (row : Row) → slice_get m.rows r ≡ Some row
     → is_row m.inputs m.vars m.results row ≡ true
 row_fits m r row at = all_get (is_row m.inputs m.vars m.results) m.rows r row m.fitting_rows at
-
-pub row_names : (m : Machine) (row : Row) → is_row m.inputs m.vars m.results row ≡ true
-    → list_all (names_codes m.vars) row.conds ≡ true
-row_names m row h =
-    let a = list_all (names_codes m.vars) row.conds in
-    let b = list_all (names_result m.inputs m.vars m.results) row.acts in
-    let c = list_all (λ act. has_present row.conds act.source) row.acts in
-    (and_parts a b (and_parts (a && b) c h).0).0
-
-pub row_acts : (m : Machine) (row : Row) → is_row m.inputs m.vars m.results row ≡ true
-    → list_all (names_result m.inputs m.vars m.results) row.acts ≡ true
-row_acts m row h =
-    let a = list_all (names_codes m.vars) row.conds in
-    let b = list_all (names_result m.inputs m.vars m.results) row.acts in
-    let c = list_all (λ act. has_present row.conds act.source) row.acts in
-    (and_parts a b (and_parts (a && b) c h).0).1
 
 -- a machine has 1 + states + outputs results
 pub results_long : (m : Machine) → length m.results ≡ 1 + length m.states + length m.outputs

@@ -6,7 +6,7 @@ ghost use Rattle.transition_table.specs.Transitions.{IsSnapshot};
 ghost use Rattle.outcome_table.specs.inner.Needs.{end_left};
 ghost use Rattle.outcome_table.specs.inner.Numbering.{Adds, AreCounts, AreRowOutcomes, BeginWithRows, IsNumberAfter, is_fixed, lists_after, rows_left};
 ghost use Rattle.outcome_table.specs.Outcomes.{named, are_named};
-ghost use Rattle.outcome_table.specs.inner.RowSets.{rows_in};
+ghost use Rattle.outcome_table.specs.inner.RowSets.{AreAllowed, rows_in};
 ghost use Rattle.outcome_table.specs.inner.Tails.{number_under};
 ghost use Rattle.transition_table.specs.Computed.{result_codes};
 
@@ -257,33 +257,66 @@ fn counts_of(alloc: Global, m: &Machine) -> Result<List<u64>, NoMemory>
     Ok(counts)
 }
 
+// Numbers the outcomes of all snapshots by what rows are narrowed by.
+fn numbers_by(alloc: Global, narrowing: &Narrowing) -> Result<Numbered, NoMemory>
+    requires fixed { narrowing.now.fixed.now
+        ≡ map (λ row. list_all is_fixed row.acts) narrowing.now.machine.now.rows }
+    ensures results { IfOk result (λ made. named made.outcomes made.numbers.items
+        ≡ map (result_codes narrowing.now.machine.now) (all_codes narrowing.now.machine.now.vars)) }
+    ensures within { IfOk result (λ made. are_named made.outcomes made.numbers.items) }
+{
+    let m = narrowing.machine;
+    let mut s = Snapshot {
+        codes: first_codes(alloc, &m.vars)?,
+    };
+    let mut made = Numbered {
+        numbers: Vec::with_capacity(alloc, *narrowing.counts.get(0) as usize)?,
+        outcomes: Outcomes::of(alloc, row_outcomes(alloc, m, &s)?),
+    };
+    let rows = first_rows(m.rows.len());
+    number_every(narrowing, &rows, &mut s, &mut made)?;
+    Ok(made)
+}
+
+// The same, given the rows that allow each code, the rows with one outcome, and how many lists of
+// codes there are.
+fn numbers_with(
+    alloc: Global,
+    m: &Machine,
+    allowed: &List<List<RowSet>>,
+    fixed: &List<bool>,
+    counts: &List<u64>,
+) -> Result<Numbered, NoMemory>
+    requires allowed { AreAllowed m.now allowed.now }
+    requires fixed { fixed.now ≡ map (λ row. list_all is_fixed row.acts) m.now.rows }
+    requires counts { AreCounts m.now.vars counts.now }
+    ensures results { IfOk result (λ made. named made.outcomes made.numbers.items
+        ≡ map (result_codes m.now) (all_codes m.now.vars)) }
+    ensures within { IfOk result (λ made. are_named made.outcomes made.numbers.items) }
+{
+    let ends = ends_of(alloc, m)?;
+    let tails = tails_of(alloc, m, allowed, fixed, counts)?;
+    let narrowing = Narrowing {
+        machine: m,
+        allowed,
+        fixed,
+        ends: &ends,
+        counts,
+        tails: &tails,
+    };
+    let made = numbers_by(alloc, &narrowing)?;
+    Ok(made)
+}
+
 /// Numbers the outcomes of all snapshots, in their order.
 pub(crate) fn numbers_of(alloc: Global, m: &Machine) -> Result<Numbered, NoMemory>
     ensures results { IfOk result (λ made. named made.outcomes made.numbers.items
         ≡ map (result_codes m.now) (all_codes m.now.vars)) }
     ensures within { IfOk result (λ made. are_named made.outcomes made.numbers.items) }
 {
-    let mut s = Snapshot {
-        codes: first_codes(alloc, &m.vars)?,
-    };
     let allowed = allowed_table(alloc, m)?;
     let fixed = fixed_rows(alloc, m)?;
-    let ends = ends_of(alloc, m)?;
     let counts = counts_of(alloc, m)?;
-    let tails = tails_of(alloc, m, &allowed, &fixed, &counts)?;
-    let mut made = Numbered {
-        numbers: Vec::with_capacity(alloc, *counts.get(0) as usize)?,
-        outcomes: Outcomes::of(alloc, row_outcomes(alloc, m, &s)?),
-    };
-    let rows = first_rows(m.rows.len());
-    let narrowing = Narrowing {
-        machine: m,
-        allowed: &allowed,
-        fixed: &fixed,
-        ends: &ends,
-        counts: &counts,
-        tails: &tails,
-    };
-    number_every(&narrowing, &rows, &mut s, &mut made)?;
+    let made = numbers_with(alloc, m, &allowed, &fixed, &counts)?;
     Ok(made)
 }

@@ -1,7 +1,7 @@
 -- Bytes that a reader has left and that a writer holds, over several reads and writes.
-use Rattle.std.proofs.Common.{◌≡◌, ℕ, ◌+◌, ◌<◌, ◌≤◌, List, [], ◌++◌, length, take, Option, Some, None, IfSome, refl, sym, ◌∙◌, ap, subst, arith, rules}
+use Rattle.std.proofs.Common.{◌≡◌, ℕ, ◌+◌, ◌≤◌, List, [], ◌++◌, length, take, Option, Some, None, refl, sym, ◌∙◌, ap, subst, arith, rules}
 use Rattle.std.proofs.lemmas.List.{append_assoc, length-append, append-nil, take_at}
-use Rattle.std.specs.Io.KnownBytes.{Consumes, IsAtEnd, Appends, Keeps}
+use Rattle.std.specs.Io.KnownBytes.{Consumes, Appends, Keeps}
 
 pub consumed_more : (a b c : Option (List ℕ)) (xs ys : List ℕ) → Consumes a b xs → Consumes b c ys
     → Consumes a c (xs ++ ys)
@@ -10,20 +10,6 @@ consumed_more (Some rs) None c xs ys first second = absurd first
 consumed_more (Some rs) (Some bs) None xs ys first second = absurd second
 consumed_more (Some rs) (Some bs) (Some cs) xs ys first second =
     first ∙ ap (λ zs. xs ++ zs) second ∙ sym (append_assoc xs ys cs)
-
-pub consumed_all : (a b : Option (List ℕ)) (xs : List ℕ) → Consumes a b xs → IsAtEnd b
-    → IfSome a (λ all. xs ≡ all)
-consumed_all None b xs consumed end = search rules
-consumed_all (Some rs) None xs consumed end = absurd consumed
-consumed_all (Some rs) (Some bs) xs consumed end =
-    sym (consumed ∙ ap (λ zs. xs ++ zs) end ∙ append-nil xs)
-
-pub consumed_over : (a b : Option (List ℕ)) (xs : List ℕ) (max : ℕ) → Consumes a b xs
-    → max < length xs → IfSome a (λ all. max < length all)
-consumed_over None b xs max consumed over = search rules
-consumed_over (Some rs) None xs max consumed over = absurd consumed
-consumed_over (Some rs) (Some bs) xs max consumed over =
-    omega (arith, ap length consumed, length-append xs bs)
 
 pub consumed_within : (a b c : Option (List ℕ)) (xs ys : List ℕ) (n : ℕ) → Consumes a b xs
     → Consumes b c ys → length xs + length ys ≤ n

@@ -77,13 +77,6 @@ read_more made at n kind text is within more =
     ∙ after_with made (record { kind = kind; at = at; len = n })
     (tokens_from (at + n) 0 (drop (at + n) text))
 
--- a token that doesn't read
-pub faulty_here : (made : List Token) (at : ℕ) (error : LexError) (text : List ℕ)
-    → scan at (drop at text) ≡ Faulty error → at < length text
-    → after made (tokens_from at 0 (drop at text)) ≡ Err error
-faulty_here made at error text is within =
-    ap (after made) (from_place at text (Faulty error) is within (omega arith))
-
 -- the end of the text
 pub all_read : (made : List Token) (at : ℕ) (text : List ℕ) → length text ≤ at
     → after made (tokens_from at 0 (drop at text)) ≡ Ok made

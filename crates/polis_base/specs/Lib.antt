@@ -7,6 +7,7 @@ pub mod Lists
 pub mod Memory
 pub mod NameFields
 pub mod Names
+pub mod Pieces
 pub mod Saves
 pub mod Spans
 pub mod TokenSamples

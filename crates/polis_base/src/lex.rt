@@ -18,7 +18,7 @@ use crate::token::{Keyword, Kind, LexError, Sign, Token, Tokens};
 use std::alloc::Global;
 
 // What the bytes at a place begin with.
-#[derive(Clone, Copy, Debug)]
+#[derive(Clone, Copy)]
 pub(crate) enum Scan {
     // So many bytes that are no token.
     Skipped(u64),

@@ -13,6 +13,7 @@ pub mod limits;
 mod list;
 mod memory;
 mod name;
+mod pieces;
 mod std_host;
 mod token;
 mod words;
@@ -25,13 +26,14 @@ pub use lex::{fault_after, next_token, tokens};
 pub use list::{Duplicate, List, Numbers};
 pub use memory::MemoryHost;
 pub use name::Name;
+pub use pieces::{first_place, next_line, next_piece};
 pub use std_host::StdHost;
 pub use token::{Keyword, Kind, LexError, Sign, Token, Tokens};
 pub use words::Words;
 pub use worked::worked_tokens;
 
 /// Out of memory. It is the one free answer, and is merged with no other.
-#[derive(Clone, Copy, Debug, PartialEq, Eq)]
+#[derive(Clone, Copy, Debug)]
 pub struct NoMemory;
 
 impl From<std::alloc::AllocError> for NoMemory {

@@ -6,7 +6,7 @@ use std::marker::Model;
 use thiserror::Error;
 
 /// A word that is no name.
-#[derive(Clone, Copy, Debug, PartialEq, Eq)]
+#[derive(Clone, Copy, PartialEq, Eq)]
 pub enum Keyword {
     /// `network`.
     KwNetwork,
@@ -51,7 +51,7 @@ pub enum Keyword {
 }
 
 /// A token of one or two bytes that are no letters or digits.
-#[derive(Clone, Copy, Debug, PartialEq, Eq)]
+#[derive(Clone, Copy, PartialEq, Eq)]
 pub enum Sign {
     /// `=`.
     Equal,
@@ -72,7 +72,7 @@ pub enum Sign {
 }
 
 /// What a token is. The bytes of a name are the token's slice of the text.
-#[derive(Clone, Copy, Debug, PartialEq, Eq)]
+#[derive(Clone, Copy, PartialEq, Eq)]
 pub enum Kind {
     /// A keyword.
     Keyword(Keyword),
@@ -85,7 +85,7 @@ pub enum Kind {
 }
 
 /// A token with the place of its first byte in the text and its number of bytes.
-#[derive(Clone, Copy, Debug, PartialEq, Eq)]
+#[derive(Clone, Copy)]
 pub struct Token {
     /// What it is.
     pub kind: Kind,
@@ -97,7 +97,7 @@ pub struct Token {
 
 /// Why a text has no tokens, with the place of the first byte of the first token that doesn't read.
 /// The message is the variant's name.
-#[derive(Clone, Copy, Debug, PartialEq, Eq, Error)]
+#[derive(Clone, Copy, Debug, Error)]
 pub enum LexError {
     /// No token begins with this byte.
     #[error("BadByte")]

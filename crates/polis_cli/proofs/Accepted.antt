@@ -30,7 +30,7 @@ use Rattle.net_rules.proofs.IsSound.{sound}
 use Rattle.net_rules.proofs.HasReceivers.{fresh}
 use Rattle.net_rules.proofs.Sentences.{sentences-have-values}
 use Rattle.journal_text.specs.Holding.{names_hold, has_name_token, state_has_name, machine_holds, values_hold}
-use Rattle.polis_cli.specs.Accepted.{Accepted}
+use Rattle.input_files.specs.Accepted.{Accepted}
 use Rattle.polis_cli.proofs.Tokens.{AreGood, kind_small, tokens_good}
 
 -- ---- what a part of good tokens says

@@ -4,16 +4,16 @@ use Rattle.polis_base.specs.Host.{Files, WhereTold}
 use Rattle.transition_table.specs.declared.network.Network.{Network}
 use Rattle.cost_bound.specs.declared.costs.Costs.{Costs}
 use Rattle.polis_words.specs.Bound.{BoundWords}
-use Rattle.polis_cli.specs.declared.product.End.TheVariants as ends
+use Rattle.output_files.specs.declared.product.End.TheVariants as ends
 use Rattle.polis_cli.specs.Bound.{MakesBound, AreCosts, bound_product, bound_meaning}
-use Rattle.polis_cli.specs.Inputs.{HoldsNet}
+use Rattle.input_files.specs.Inputs.{HoldsNet}
 use Rattle.polis_cli.specs.Ranges.{ranges_text}
-use Rattle.polis_cli.specs.Saves.{Save}
+use Rattle.output_files.specs.Saves.{Save}
 use Rattle.polis_cli.specs.inner.Bound.{ShowsRanges}
-use Rattle.polis_cli.specs.Meanings.{explains_nothing}
+use Rattle.input_files.specs.Failures.{explains_nothing}
 use Rattle.polis_cli.specs.inner.Lawful.{IsLawful}
 use Rattle.polis_cli.specs.inner.Made.{IsMadeProduct}
-use Rattle.polis_cli.proofs.WhereTold.{told_from}
+use Rattle.polis_base.proofs.WhereTold.{told_from}
 use Rattle.polis_cli.proofs.NetMeaning.{net_lawful}
 use Rattle.polis_cli.proofs.IsMade.{product_made, product_is}
 

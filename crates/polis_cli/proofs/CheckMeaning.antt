@@ -3,13 +3,13 @@ use Rattle.std.proofs.Common.{◌≡◌, refl, Option}
 use Rattle.polis_base.specs.Host.{Files, WhereTold}
 use Rattle.transition_table.specs.declared.network.Network.{Network}
 use Rattle.polis_words.specs.Check.{CheckWords}
-use Rattle.polis_cli.specs.declared.product.Product.{Product}
+use Rattle.output_files.specs.declared.product.Product.{Product}
 use Rattle.polis_cli.specs.Check.{MakesCheck, check_product, check_meaning}
-use Rattle.polis_cli.specs.Inputs.{HoldsNet}
-use Rattle.polis_cli.specs.Meanings.{explains_nothing}
+use Rattle.input_files.specs.Inputs.{HoldsNet}
+use Rattle.input_files.specs.Failures.{explains_nothing}
 use Rattle.polis_cli.specs.inner.Lawful.{IsLawful}
 use Rattle.polis_cli.specs.inner.Made.{IsMadeProduct}
-use Rattle.polis_cli.proofs.WhereTold.{told_from}
+use Rattle.polis_base.proofs.WhereTold.{told_from}
 use Rattle.polis_cli.proofs.NetMeaning.{net_lawful}
 use Rattle.polis_cli.proofs.IsMade.{product_made}
 

@@ -2,12 +2,12 @@
 use Rattle.std.proofs.Common.{inl, Option, refl}
 use Rattle.polis_base.specs.Host.{Files}
 use Rattle.polis_words.specs.Demo.{DemoWords}
-use Rattle.polis_cli.specs.declared.product.Product.{Product}
+use Rattle.output_files.specs.declared.product.Product.{Product}
 use Rattle.polis_cli.specs.Demo.{MakesDemo, demo_product, demo_meaning}
 use Rattle.polis_cli.specs.inner.Lawful.{IsLawful}
 use Rattle.polis_cli.specs.inner.Made.{IsMadeProduct}
 use Rattle.polis_cli.proofs.IsMade.{product_made}
-use Rattle.polis_cli.proofs.WhereTold.{told_always}
+use Rattle.polis_base.proofs.WhereTold.{told_always}
 
 pub demo_lawful : (demo : DemoWords) → IsLawful (demo_meaning demo)
 demo_lawful demo = record {

@@ -6,16 +6,16 @@ use Rattle.task_code.specs.Listings.{Part}
 use Rattle.graph_drawing.specs.Drawings.{DrawingText}
 use Rattle.machine_compiler.specs.Parts.{graphs_in}
 use Rattle.polis_words.specs.NetStem.{NetStemWords}
-use Rattle.polis_cli.specs.declared.product.End.TheVariants as ends
-use Rattle.polis_cli.specs.declared.product.Product.{Product}
+use Rattle.output_files.specs.declared.product.End.TheVariants as ends
+use Rattle.output_files.specs.declared.product.Product.{Product}
 use Rattle.polis_cli.specs.Draw.{MakesDraw, draw_product, draw_meaning}
-use Rattle.polis_cli.specs.Inputs.{HoldsNet}
-use Rattle.polis_cli.specs.Saves.{Save}
+use Rattle.input_files.specs.Inputs.{HoldsNet}
+use Rattle.output_files.specs.Saves.{Save}
 use Rattle.polis_cli.specs.inner.Draw.{IsDrawProduct}
-use Rattle.polis_cli.specs.Meanings.{explains_nothing}
+use Rattle.input_files.specs.Failures.{explains_nothing}
 use Rattle.polis_cli.specs.inner.Lawful.{IsLawful}
 use Rattle.polis_cli.specs.inner.Made.{IsMadeProduct}
-use Rattle.polis_cli.proofs.WhereTold.{told_from}
+use Rattle.polis_base.proofs.WhereTold.{told_from}
 use Rattle.polis_cli.proofs.NetMeaning.{net_lawful}
 use Rattle.polis_cli.proofs.IsMade.{product_made}
 

@@ -13,15 +13,16 @@ use Rattle.polis_words.specs.declared.status.Status.{Status}
 use Rattle.polis_words.specs.declared.status.Status.TheVariants.{Refused, Differ}
 use Rattle.polis_words.specs.Equiv.{EquivWords}
 use Rattle.polis_words.specs.Lines.{cause_status}
-use Rattle.polis_cli.specs.declared.product.Product.{Product}
+use Rattle.output_files.specs.declared.product.Product.{Product}
 use Rattle.polis_cli.specs.Equiv.{HoldsEquiv, AcceptsEquiv, AreDiffering, IsEquivFault, OtherFails, FailsEquiv, IsDifferText, equiv_product, equiv_meaning}
-use Rattle.polis_cli.specs.Inputs.{HoldsNet, NetFails}
-use Rattle.polis_cli.specs.Meanings.{MayEnd, is_finding, is_failure, finds_differing, ends_compared}
+use Rattle.input_files.specs.Inputs.{HoldsNet, NetFails}
+use Rattle.polis_cli.specs.Meanings.{MayEnd, finds_differing, ends_compared}
+use Rattle.input_files.specs.Failures.{is_finding, is_failure, FileFails}
 use Rattle.polis_cli.specs.inner.Equiv.{IsSameProduct}
 use Rattle.polis_cli.specs.inner.Lawful.{IsLawful}
-use Rattle.polis_cli.specs.inner.Made.{IsMadeProduct, IsMadeFailure, FileFails}
-use Rattle.polis_cli.proofs.WhereTold.{told_from, told_both}
-use Rattle.polis_cli.proofs.InputsFail.{net_refused, net_unfound}
+use Rattle.polis_cli.specs.inner.Made.{IsMadeProduct, IsMadeFailure}
+use Rattle.polis_base.proofs.WhereTold.{told_from, told_both}
+use Rattle.input_files.proofs.InputsFail.{net_refused, net_unfound}
 use Rattle.polis_cli.proofs.IsMade.{product_made, none_told}
 
 -- ---- where a file fails

@@ -10,20 +10,20 @@ use Rattle.polis_words.specs.NetTrace.{NetTraceWords}
 use Rattle.polis_words.specs.Replay.{ReplayWords}
 use Rattle.polis_words.specs.declared.requests.explain.Explain.{Explain}
 use Rattle.polis_words.specs.declared.requests.explain.Explain.TheVariants.{Net, Trace, Journal}
-use Rattle.polis_cli.specs.declared.product.Product.{Product}
+use Rattle.output_files.specs.declared.product.Product.{Product}
 use Rattle.polis_cli.specs.Check.{MakesCheck, check_product}
 use Rattle.polis_cli.specs.Explain.{items_product, explain_meaning, explain_net_meaning, explain_trace_meaning, explain_journal_meaning}
-use Rattle.polis_cli.specs.Explanations.{ExplainsFile, ExplainsReplay}
-use Rattle.polis_cli.specs.Inputs.{HoldsNet, HoldsTrace}
-use Rattle.polis_cli.specs.Meanings.{explains_by}
+use Rattle.input_files.specs.Explanations.{ExplainsFile, ExplainsReplay}
+use Rattle.input_files.specs.Inputs.{HoldsNet, HoldsTrace}
+use Rattle.input_files.specs.Failures.{explains_by}
 use Rattle.polis_cli.specs.Replay.{MakesReplay, IsJudged, replay_product}
 use Rattle.polis_cli.specs.inner.Lawful.{IsLawful}
 use Rattle.polis_cli.specs.inner.Made.{IsMadeProduct}
-use Rattle.polis_cli.proofs.InputsFail.{inputs_refused, inputs_unfound}
+use Rattle.input_files.proofs.InputsFail.{inputs_refused, inputs_unfound}
 use Rattle.polis_cli.proofs.IsMade.{product_made}
 use Rattle.polis_cli.proofs.NetMeaning.{net_lawful}
 use Rattle.polis_cli.proofs.ReplayMeaning.{judging_lawful}
-use Rattle.polis_cli.proofs.WhereTold.{told_from}
+use Rattle.polis_base.proofs.WhereTold.{told_from}
 
 trace_lawful : (asked : NetTraceWords) → IsLawful (explain_trace_meaning asked)
 trace_lawful asked = record {

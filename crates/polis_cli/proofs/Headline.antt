@@ -7,16 +7,16 @@ use Rattle.polis_words.specs.declared.requests.Request.{Request}
 use Rattle.polis_words.specs.declared.status.Status.{Status}
 use Rattle.polis_words.specs.Run.{RunWords, AsksRun}
 use Rattle.polis_words.proofs.AsksRun.{run_alone}
-use Rattle.polis_cli.specs.declared.product.Product.{Product}
+use Rattle.output_files.specs.declared.product.Product.{Product}
 use Rattle.polis_cli.specs.declared.ran.Ran.{Ran}
 use Rattle.polis_cli.specs.Commands.{meaning}
-use Rattle.polis_cli.specs.Ends.{end_status}
+use Rattle.output_files.specs.Ends.{end_status}
 use Rattle.polis_cli.specs.Headline.{Headline, RunsGiveHeadline, IsHeld, IsSaved, SavesListing, Ends, CountsNoFault}
 use Rattle.polis_cli.specs.Promise.{Outside}
 use Rattle.polis_cli.specs.Run.{IsRan, MakesRun, AreTasks, Tasks, Compiled, Given, end_of, run_product, run_text}
-use Rattle.polis_cli.specs.Saves.{AreHeld, IsOther}
+use Rattle.output_files.specs.Saves.{AreHeld, IsOther}
 use Rattle.polis_cli.specs.Top.{MadeAndWritten}
-use Rattle.polis_cli.proofs.WhereTold.{changes_some, changes_from}
+use Rattle.polis_base.proofs.WhereTold.{changes_some, changes_from}
 
 -- how a run ends
 ends_at : (status : Status) (workers limit : ℕ) (net : Network) (trace : List TraceItem) (ran : Ran)

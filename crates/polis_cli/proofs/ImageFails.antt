@@ -17,12 +17,12 @@ use Rattle.polis_words.specs.declared.cause.Cause.TheVariants.{ImageByte, ImageS
 use Rattle.polis_words.specs.declared.status.Status.TheVariants.{Refused}
 use Rattle.polis_words.specs.Lines.{cause_status}
 use Rattle.polis_cli.specs.ImageFiles.{HoldsImage, IsImageFault, ImageFails}
-use Rattle.polis_cli.specs.Inputs.{HoldsText}
-use Rattle.polis_cli.specs.Meanings.{is_finding, is_failure}
+use Rattle.input_files.specs.Inputs.{HoldsText}
+use Rattle.input_files.specs.Failures.{is_finding, is_failure}
 use Rattle.polis_cli.specs.inner.Image.{IsFittingImage}
-use Rattle.polis_cli.proofs.Holds.{one_text}
-use Rattle.polis_cli.proofs.InputsFail.{load_refused, load_unfound}
-use Rattle.polis_cli.proofs.WhereTold.{told_from}
+use Rattle.input_files.proofs.Holds.{one_text}
+use Rattle.input_files.proofs.InputsFail.{load_refused, load_unfound}
+use Rattle.polis_base.proofs.WhereTold.{told_from}
 
 -- ---- an image that fits
 no_shape : (a : Option ImageMachine) (m : Option Machine) → FitsAt a m → ¬ IsShapeAt a m

@@ -16,17 +16,17 @@ use Rattle.polis_words.specs.declared.status.Status.TheVariants.{Refused}
 use Rattle.polis_words.specs.NetStem.{NetStemWords}
 use Rattle.polis_words.specs.Lines.{cause_status}
 use Rattle.polis_words.specs.Texts.{image_text}
-use Rattle.polis_cli.specs.declared.product.End.TheVariants as ends
-use Rattle.polis_cli.specs.declared.product.Product.{Product}
+use Rattle.output_files.specs.declared.product.End.TheVariants as ends
+use Rattle.output_files.specs.declared.product.Product.{Product}
 use Rattle.polis_cli.specs.Image.{MayBeTooLong, FailsImage, image_product, image_meaning}
-use Rattle.polis_cli.specs.Inputs.{HoldsNet, NetFails, AcceptsNet}
-use Rattle.polis_cli.specs.Meanings.{is_finding, is_failure}
-use Rattle.polis_cli.specs.Saves.{Save}
+use Rattle.input_files.specs.Inputs.{HoldsNet, NetFails, AcceptsNet}
+use Rattle.input_files.specs.Failures.{is_finding, is_failure, FileFails}
+use Rattle.output_files.specs.Saves.{Save}
 use Rattle.polis_cli.specs.inner.Image.{IsImageProduct, IsLongImage}
 use Rattle.polis_cli.specs.inner.Lawful.{IsLawful}
-use Rattle.polis_cli.specs.inner.Made.{IsMadeProduct, IsMadeFailure, FileFails}
-use Rattle.polis_cli.proofs.WhereTold.{told_from}
-use Rattle.polis_cli.proofs.InputsFail.{net_refused, net_unfound}
+use Rattle.polis_cli.specs.inner.Made.{IsMadeProduct, IsMadeFailure}
+use Rattle.polis_base.proofs.WhereTold.{told_from}
+use Rattle.input_files.proofs.InputsFail.{net_refused, net_unfound}
 use Rattle.polis_cli.proofs.IsMade.{product_made, none_told}
 
 image_refused : (image : NetStemWords) (files : Files) (name : List ℕ) (cause : Cause)

@@ -13,16 +13,17 @@ use Rattle.polis_words.specs.declared.cause.Failure.TheVariants as failures
 use Rattle.polis_words.specs.declared.status.Status.TheVariants.{Illegal}
 use Rattle.polis_words.specs.Lines.{cause_status}
 use Rattle.polis_words.specs.Replay.{ReplayWords}
-use Rattle.polis_cli.specs.Explanations.{ExplainsFile, ExplainsJournal, ExplainsReplay}
-use Rattle.polis_cli.specs.Inputs.{HoldsText, HoldsNet, InputsFail}
-use Rattle.polis_cli.specs.JournalFiles.{JournalFails}
-use Rattle.polis_cli.specs.Meanings.{Meaning, explains_by, is_failure}
+use Rattle.input_files.specs.Explanations.{ExplainsFile, ExplainsJournal, ExplainsReplay}
+use Rattle.input_files.specs.Inputs.{HoldsText, HoldsNet, InputsFail}
+use Rattle.input_files.specs.JournalFiles.{JournalFails}
+use Rattle.polis_cli.specs.Meanings.{Meaning}
+use Rattle.input_files.specs.Failures.{explains_by, is_failure, FileExplained, FilesExplained}
 use Rattle.polis_cli.specs.Replay.{FailsReplay}
 use Rattle.polis_cli.specs.inner.Explain.{IsEntryExplained}
-use Rattle.polis_cli.specs.inner.Made.{FileExplained, FilesExplained, JudgingExplained, IsMadeFailure}
+use Rattle.polis_cli.specs.inner.Made.{JudgingExplained, IsMadeFailure}
 use Rattle.polis_cli.proofs.IsJudged.{HoldsBoth, journal_fails}
 use Rattle.polis_cli.proofs.IsMade.{may_fail, may_judge}
-use Rattle.polis_cli.proofs.WhereTold.{told_from, told_both}
+use Rattle.polis_base.proofs.WhereTold.{told_from, told_both}
 
 -- where the network or the trace fails so does the replay
 pub inputs_explained : (o : Option Files) (replay : ReplayWords) (failure : Failure)

@@ -17,13 +17,14 @@ use Rattle.polis_words.specs.declared.cause.Cause.TheVariants.{Illegal as Unlawf
 use Rattle.polis_words.specs.declared.cause.Failure.{Failure}
 use Rattle.polis_words.specs.declared.cause.Failure.TheVariants as failures
 use Rattle.polis_words.specs.Replay.{ReplayWords}
-use Rattle.polis_cli.specs.Inputs.{HoldsNet, HoldsTrace, InputsFail}
-use Rattle.polis_cli.specs.JournalFiles.{HoldsJournal, JournalFails, LegalAndRising, IsFirstIllegal}
+use Rattle.input_files.specs.Inputs.{HoldsNet, HoldsTrace, InputsFail}
+use Rattle.input_files.specs.JournalFiles.{HoldsJournal, JournalFails, LegalAndRising, IsFirstIllegal}
 use Rattle.polis_cli.specs.Replay.{IsJudged, FailsReplay}
 use Rattle.polis_cli.specs.inner.Replay.{IsFound}
-use Rattle.polis_cli.specs.inner.Made.{FileFails, FilesFail, JudgingFails}
-use Rattle.polis_cli.proofs.WhereTold.{told_from, told_both}
-use Rattle.polis_cli.proofs.Holds.{one_text}
+use Rattle.polis_cli.specs.inner.Made.{JudgingFails}
+use Rattle.input_files.specs.Failures.{FileFails, FilesFail}
+use Rattle.polis_base.proofs.WhereTold.{told_from, told_both}
+use Rattle.input_files.proofs.Holds.{one_text}
 use Rattle.polis_base.proofs.Names.{left_true, right_true}
 
 -- rising stamps are stamps, one for each entry
@@ -43,12 +44,6 @@ stamps_rise net before (entry ∷ journal) (t ∷ ts) h =
 pub rising_stamps : (net : Network) (journal : List Entry) (ts : List ℕ) → Rising net journal ts
     → AreStamps journal ts
 rising_stamps net journal ts rising = stamps_rise net [] journal ts rising
-
--- a journal that is legal and rising is legal
-pub lawful_legal : (net : Network) (trace : List TraceItem) (journal : List Entry)
-    (stamps : Option (List ℕ)) → LegalAndRising net trace journal stamps → Legal net trace journal
-lawful_legal net trace journal None h = h
-lawful_legal net trace journal (Some stamps) h = h.0
 
 -- what a network and a trace are held under
 abbrev pub HoldsBoth : ReplayWords → Network → List TraceItem → Files → Type 0

@@ -8,15 +8,16 @@ use Rattle.polis_words.specs.declared.cause.Failure.TheVariants as failures
 use Rattle.polis_words.specs.declared.status.Status.{Status}
 use Rattle.polis_words.specs.declared.status.Status.TheVariants.{ReadFault, Refused, NoMemory, Illegal}
 use Rattle.polis_words.specs.Lines.{cause_status, status_of}
-use Rattle.polis_cli.specs.declared.product.End.TheVariants as ends
-use Rattle.polis_cli.specs.declared.product.Product.{Product}
-use Rattle.polis_cli.specs.Ends.{end_status}
-use Rattle.polis_cli.specs.Inputs.{NetFails, FailsNet}
-use Rattle.polis_cli.specs.Meanings.{Meaning, MayEnd, explains_nothing, is_finding, is_failure}
-use Rattle.polis_cli.specs.Saves.{Save, AreApart}
+use Rattle.output_files.specs.declared.product.End.TheVariants as ends
+use Rattle.output_files.specs.declared.product.Product.{Product}
+use Rattle.output_files.specs.Ends.{end_status}
+use Rattle.input_files.specs.Inputs.{NetFails, FailsNet}
+use Rattle.polis_cli.specs.Meanings.{Meaning, MayEnd}
+use Rattle.input_files.specs.Failures.{explains_nothing, is_finding, is_failure, FileExplained, FilesExplained, FileFails, FilesFail}
+use Rattle.output_files.specs.Saves.{Save, AreApart}
 use Rattle.polis_cli.specs.inner.Lawful.{IsLawful}
-use Rattle.polis_cli.specs.inner.Made.{FailsAs, IsMadeProduct, IsMadeFailure, FileExplained, FilesExplained, FileFails, FilesFail, JudgingFails}
-use Rattle.polis_cli.proofs.WhereTold.{told_from, told_always}
+use Rattle.polis_cli.specs.inner.Made.{FailsAs, IsMadeProduct, IsMadeFailure, JudgingFails}
+use Rattle.polis_base.proofs.WhereTold.{told_from, told_always}
 
 -- ---- products
 -- a product that is known is made
@@ -36,40 +37,6 @@ pub product_is : (saves : List Save) (shown known : List ℕ) → saves ≡ [] �
 product_is saves shown known n s = λ i. record { saves = n i; shown = s i; end = ends.Done }
 
 -- ---- failures
--- the file fails, and that for another reason
-pub file_fails : (name : List ℕ) (o : Option Files) (P Q : Files → Cause → Type 0)
-    (E : Option Files → List ℕ → Cause → List ℕ → Type 0) (failure : Failure)
-    → ((files : Files) (cause : Cause) → P files cause → Q files cause)
-    → FileExplained name o P E failure → FileExplained name o Q E failure
-file_fails name o P Q E failures.NoMemory f h = tt
-file_fails name o P Q E (failures.File file cause more) f (h, explains) = (
-  (
-    h.0,
-    told_from o (λ files. P files cause) (λ files. Q files cause) (λ files. f files cause) h.1,
-    h.2,
-  ),
-  explains,
-)
-
--- the one file of a command fails
-pub net_explained : (name : List ℕ) (o : Option Files)
-    (E : Option Files → List ℕ → Cause → List ℕ → Type 0) (failure : Failure)
-    → FileExplained name o (λ files. NetFails files name) E failure
-    → FilesExplained o (FailsNet name) E failure
-net_explained name o E failures.NoMemory h = tt
-net_explained name o E (failures.File file cause more) (h, explains) = (
-  (
-    told_from o (λ files. NetFails files name cause) (λ files. FailsNet name files file.now cause)
-        (λ files k. (h.0, k)) h.1,
-    h.2,
-  ),
-  explains,
-)
-
-pub net_alone : (name : List ℕ) (o : Option Files) (failure : Failure)
-    → FileFails name o (λ files. NetFails files name) failure → FilesFail o (FailsNet name) failure
-net_alone name o failure h = net_explained name o explains_nothing failure h
-
 pub may_fail : (m : Meaning) (status : Status) → m.reads ≡ true → IsTrue (is_failure true status)
     → MayEnd m status
 may_fail m status reads h = inr (subst (λ b. IsTrue (is_failure b status)) (sym reads) h)

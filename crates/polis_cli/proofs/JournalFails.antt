@@ -16,10 +16,10 @@ use Rattle.polis_words.specs.declared.cause.Cause.{Cause}
 use Rattle.polis_words.specs.declared.cause.Cause.TheVariants.{JournalLine, Illegal as Unlawful}
 use Rattle.polis_words.specs.declared.status.Status.TheVariants.{Refused, Illegal}
 use Rattle.polis_words.specs.Lines.{cause_status}
-use Rattle.polis_cli.specs.JournalFiles.{HoldsJournal, IsJournalFault, JournalFails, LegalAndRising, IsFirstIllegal}
-use Rattle.polis_cli.specs.Meanings.{is_finding}
-use Rattle.polis_cli.proofs.Holds.{one_text}
-use Rattle.polis_cli.proofs.InputsFail.{load_refused, load_unfound}
+use Rattle.input_files.specs.JournalFiles.{HoldsJournal, IsJournalFault, JournalFails, LegalAndRising, IsFirstIllegal}
+use Rattle.input_files.specs.Failures.{is_finding}
+use Rattle.input_files.proofs.Holds.{one_text}
+use Rattle.input_files.proofs.InputsFail.{load_refused, load_unfound}
 
 abbrev ReadsJournal : Network → List ℕ → List Entry → Option (List ℕ) → Bool → Type 0
 ReadsJournal net text journal stamps word = read_of net text ≡ Ok (journal, stamps, word)

@@ -14,13 +14,13 @@ use Rattle.journals.specs.inner.Samples.{lamp_ctl}
 use Rattle.journals.specs.Worked.{IsRun}
 use Rattle.polis_words.specs.declared.status.Status.TheVariants.{Done}
 use Rattle.polis_words.specs.declared.requests.Request.TheVariants.{Run}
-use Rattle.polis_cli.specs.declared.product.Product.{Product}
+use Rattle.output_files.specs.declared.product.Product.{Product}
 use Rattle.polis_cli.specs.declared.ran.Ran.{Ran}
 use Rattle.net_reader.specs.Samples.{lamp_text}
 use Rattle.task_code.specs.Listings.{Part, ListingText}
 use Rattle.machine_compiler.specs.Parts.{AreRightParts}
 use Rattle.polis_cli.specs.Samples.{press_text, lamp_journal}
-use Rattle.polis_cli.specs.Saves.{AreHeld}
+use Rattle.output_files.specs.Saves.{AreHeld}
 use Rattle.polis_cli.specs.LampRun.{lamp_words, lamp_asked, files_before, files_after, lamp_shown}
 use Rattle.polis_words.specs.RunOptions.{unsaid}
 use Rattle.polis_cli.specs.Run.{MakesRun, Compiled, run_product}

@@ -5,15 +5,15 @@ use Rattle.transition_table.specs.declared.network.Network.{Network}
 use Rattle.journals.specs.declared.entry.Entry.{Entry}
 use Rattle.journals.specs.declared.entry.TraceItem.{TraceItem}
 use Rattle.polis_words.specs.Replay.{ReplayWords}
-use Rattle.polis_cli.specs.declared.product.Product.{Product}
+use Rattle.output_files.specs.declared.product.Product.{Product}
 use Rattle.polis_cli.specs.Losses.{MakesLosses, losses_product, losses_meaning}
 use Rattle.polis_cli.specs.Replay.{IsJudged}
-use Rattle.polis_cli.specs.Meanings.{explains_nothing}
+use Rattle.input_files.specs.Failures.{explains_nothing}
 use Rattle.polis_cli.specs.inner.Lawful.{IsLawful}
 use Rattle.polis_cli.specs.inner.Made.{IsMadeProduct}
 use Rattle.polis_cli.proofs.IsMade.{product_made}
 use Rattle.polis_cli.proofs.ReplayMeaning.{judging_lawful}
-use Rattle.polis_cli.proofs.WhereTold.{told_from}
+use Rattle.polis_base.proofs.WhereTold.{told_from}
 
 pub losses_lawful : (losses : ReplayWords) → IsLawful (losses_meaning losses)
 losses_lawful losses = judging_lawful losses (MakesLosses losses) explains_nothing

@@ -7,15 +7,15 @@ use Rattle.journals.specs.declared.entry.TraceItem.{TraceItem}
 use Rattle.journals.specs.Stamps.{least}
 use Rattle.journal_text.specs.Texts.{stamped_journal_text}
 use Rattle.polis_words.specs.ReplayStem.{ReplayStemWords}
-use Rattle.polis_cli.specs.declared.product.End.TheVariants as ends
-use Rattle.polis_cli.specs.declared.product.Product.{Product}
+use Rattle.output_files.specs.declared.product.End.TheVariants as ends
+use Rattle.output_files.specs.declared.product.Product.{Product}
 use Rattle.polis_cli.specs.Replay.{IsJudged}
 use Rattle.polis_cli.specs.Migrate.{MakesMigrate, migrate_product, migrate_meaning}
-use Rattle.polis_cli.specs.Saves.{Save}
-use Rattle.polis_cli.specs.Meanings.{explains_nothing}
+use Rattle.output_files.specs.Saves.{Save}
+use Rattle.input_files.specs.Failures.{explains_nothing}
 use Rattle.polis_cli.specs.inner.Lawful.{IsLawful}
 use Rattle.polis_cli.specs.inner.Made.{IsMadeProduct}
-use Rattle.polis_cli.proofs.WhereTold.{told_from}
+use Rattle.polis_base.proofs.WhereTold.{told_from}
 use Rattle.polis_cli.proofs.IsMade.{product_made}
 use Rattle.polis_cli.proofs.ReplayMeaning.{judging_lawful}
 

@@ -2,11 +2,11 @@
 use Rattle.std.proofs.Common.{inl, true, List, Option, ℕ}
 use Rattle.polis_base.specs.Host.{Files}
 use Rattle.polis_words.specs.declared.cause.Cause.{Cause}
-use Rattle.polis_cli.specs.declared.product.Product.{Product}
-use Rattle.polis_cli.specs.Inputs.{AcceptsNet, FailsNet}
+use Rattle.output_files.specs.declared.product.Product.{Product}
+use Rattle.input_files.specs.Inputs.{AcceptsNet, FailsNet}
 use Rattle.polis_cli.specs.Meanings.{Meaning, never_refused, finds_nothing, ends_done}
 use Rattle.polis_cli.specs.inner.Lawful.{IsLawful}
-use Rattle.polis_cli.proofs.InputsFail.{net_refused, net_unfound}
+use Rattle.input_files.proofs.InputsFail.{net_refused, net_unfound}
 
 -- such a command, by what it makes and what it explains
 abbrev pub net_meaning : List ℕ → (Files → Product → Type 0)

@@ -13,24 +13,25 @@ use Rattle.polis_words.specs.declared.status.Status.{Status}
 use Rattle.polis_words.specs.declared.status.Status.TheVariants.{Usage, ReadFault, Refused, WriteFault, NoMemory, Illegal, Differ}
 use Rattle.polis_words.specs.Requests.{Asks, AsksNothing}
 use Rattle.polis_words.specs.Lines.{cause_status, status_of, cause_line, failure_text}
-use Rattle.polis_cli.specs.declared.product.End.{End}
-use Rattle.polis_cli.specs.declared.product.End.TheVariants as ends
-use Rattle.polis_cli.specs.declared.product.Product.{Product}
+use Rattle.output_files.specs.declared.product.End.{End}
+use Rattle.output_files.specs.declared.product.End.TheVariants as ends
+use Rattle.output_files.specs.declared.product.Product.{Product}
 use Rattle.polis_cli.specs.Commands.{meaning}
-use Rattle.polis_cli.specs.Ends.{end_status, is_end}
-use Rattle.polis_cli.specs.Meanings.{Meaning, MayEnd, is_finding}
-use Rattle.polis_cli.specs.Saves.{AreHeld, MadeSome, files_after}
-use Rattle.polis_cli.specs.Shown.{ShowsPrefix}
+use Rattle.output_files.specs.Ends.{end_status, is_end}
+use Rattle.polis_cli.specs.Meanings.{Meaning, MayEnd}
+use Rattle.input_files.specs.Failures.{is_finding}
+use Rattle.output_files.specs.Saves.{AreHeld, MadeSome, files_after}
+use Rattle.output_files.specs.Shown.{ShowsPrefix}
 use Rattle.polis_cli.specs.Top.{MadeAndWritten, SavesSome, LeavesUnwritten, HasCause, IsTextOf, ShowsText, is_refusal}
 use Rattle.polis_cli.specs.Promise.{told, WriteFailed, IsCut, Answers, Leaves}
-use Rattle.polis_cli.specs.inner.Left.{LeftByLoads, LeftByText, LeftByWriting, LeftByEnding, ShowsFailure, fails_unread, is_read_fault, is_unread}
+use Rattle.polis_cli.specs.inner.Left.{LeftByEnding}
+use Rattle.output_files.specs.Written.{LeftByText, LeftByWriting, ShowsFailure, Writes, FailsWith, no_memory_line}
+use Rattle.input_files.specs.Loads.{LeftByLoads, fails_unread, is_read_fault, is_unread}
 use Rattle.polis_cli.specs.inner.Made.{FailsAs, IsMade, IsMadeProduct, IsMadeFailure}
-use Rattle.polis_cli.specs.inner.Shown.{FailsWith, no_memory_line}
-use Rattle.polis_cli.specs.inner.Writing.{Writes}
 use Rattle.polis_cli.proofs.IsMade.{fails_as, failure_ends, cases_of, refuses, finds_it}
 use Rattle.polis_cli.proofs.Meaning.{lawful}
-use Rattle.polis_cli.proofs.Saves.{held_other, all_held}
-use Rattle.polis_cli.proofs.WhereTold.{told_from, told_always, changes_from, changes_where, changes_same}
+use Rattle.output_files.proofs.Saves.{held_other, all_held}
+use Rattle.polis_base.proofs.WhereTold.{told_from, told_always, changes_from, changes_where, changes_same}
 
 -- the request is the one that the command line asks for
 abbrev pub IsOne : List (List ℕ) → Request → Type 0

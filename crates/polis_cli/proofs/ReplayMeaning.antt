@@ -10,14 +10,15 @@ use Rattle.polis_words.specs.declared.status.Status.{Status}
 use Rattle.polis_words.specs.declared.status.Status.TheVariants.{Refused, Illegal}
 use Rattle.polis_words.specs.Lines.{cause_status}
 use Rattle.polis_words.specs.Replay.{ReplayWords}
-use Rattle.polis_cli.specs.declared.product.Product.{Product}
-use Rattle.polis_cli.specs.JournalFiles.{JournalFails}
-use Rattle.polis_cli.specs.Meanings.{Meaning, explains_nothing, is_finding, finds_illegal, ends_judged}
+use Rattle.output_files.specs.declared.product.Product.{Product}
+use Rattle.input_files.specs.JournalFiles.{JournalFails}
+use Rattle.polis_cli.specs.Meanings.{Meaning, finds_illegal, ends_judged}
+use Rattle.input_files.specs.Failures.{explains_nothing, is_finding}
 use Rattle.polis_cli.specs.Replay.{IsJudged, MakesReplay, AcceptsReplay, FailsReplay, IsIllegalReplay, replay_product, replay_meaning}
 use Rattle.polis_cli.specs.inner.Lawful.{IsLawful}
 use Rattle.polis_cli.specs.inner.Made.{IsMadeProduct}
-use Rattle.polis_cli.proofs.WhereTold.{told_from}
-use Rattle.polis_cli.proofs.InputsFail.{inputs_refused, inputs_unfound}
+use Rattle.polis_base.proofs.WhereTold.{told_from}
+use Rattle.input_files.proofs.InputsFail.{inputs_refused, inputs_unfound}
 use Rattle.polis_cli.proofs.JournalFails.{journal_refused, held_unlawful, faulty_journal}
 use Rattle.polis_cli.proofs.IsMade.{product_made}
 

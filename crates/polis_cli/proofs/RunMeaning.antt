@@ -11,23 +11,23 @@ use Rattle.polis_words.specs.declared.cause.Failure.TheVariants as failures
 use Rattle.polis_words.specs.declared.status.Status.TheVariants.{Refused}
 use Rattle.polis_words.specs.Lines.{cause_status}
 use Rattle.polis_words.specs.Run.{RunWords}
-use Rattle.polis_cli.specs.declared.product.End.{End}
-use Rattle.polis_cli.specs.declared.inputs.RunInputs.{RunInputs}
-use Rattle.polis_cli.specs.declared.product.Product.{Product}
+use Rattle.output_files.specs.declared.product.End.{End}
+use Rattle.polis_cli.specs.declared.run_inputs.RunInputs.{RunInputs}
+use Rattle.output_files.specs.declared.product.Product.{Product}
 use Rattle.polis_cli.specs.declared.ran.Ran.{Ran}
-use Rattle.polis_cli.specs.Ends.{end_status}
+use Rattle.output_files.specs.Ends.{end_status}
 use Rattle.polis_cli.specs.ImageFiles.{HoldsImage, ImageFails}
-use Rattle.polis_cli.specs.Inputs.{HoldsNet, HoldsTrace, InputsFail}
-use Rattle.polis_cli.specs.Meanings.{is_finding}
+use Rattle.input_files.specs.Inputs.{HoldsNet, HoldsTrace, InputsFail}
+use Rattle.input_files.specs.Failures.{is_finding, FileFails, FilesFail}
 use Rattle.polis_cli.specs.Run.{AcceptsRun, AcceptsImage, AreTasks, Tasks, Compiled, Given, FailsRun, ends_run, end_of, journal_of, listing_of, listing_saves, run_product, run_text, run_meaning}
-use Rattle.polis_cli.specs.Saves.{Save, AreApart}
+use Rattle.output_files.specs.Saves.{Save, AreApart}
 use Rattle.polis_cli.specs.inner.Lawful.{IsLawful}
-use Rattle.polis_cli.specs.inner.Made.{IsMadeProduct, FileFails, FilesFail}
+use Rattle.polis_cli.specs.inner.Made.{IsMadeProduct}
 use Rattle.polis_cli.specs.inner.Run.{AreTasksBy, FailsImageOf, HoldsImageOf, HoldsRun, IsProductOf, listed_under}
 use Rattle.polis_cli.proofs.ImageFails.{image_refused, image_unfound}
-use Rattle.polis_cli.proofs.InputsFail.{inputs_refused, inputs_unfound}
+use Rattle.input_files.proofs.InputsFail.{inputs_refused, inputs_unfound}
 use Rattle.polis_cli.proofs.IsMade.{product_made}
-use Rattle.polis_cli.proofs.WhereTold.{told_from, told_both}
+use Rattle.polis_base.proofs.WhereTold.{told_from, told_both}
 
 -- the image of a run's tasks is accepted
 accepts_image : (named : Option (List ℕ)) (files : Files) (net : Network) (tasks : Tasks)

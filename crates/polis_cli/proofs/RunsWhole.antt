@@ -14,11 +14,11 @@ use Rattle.net_rules.specs.NetOf.{NetOf}
 use Rattle.net_gen.specs.Whole.{AreWhole}
 use Rattle.polis_words.specs.declared.cause.Cause.{Cause}
 use Rattle.polis_cli.specs.declared.ran.Ran.{Ran}
-use Rattle.polis_cli.specs.Accepted.{Accepted}
+use Rattle.input_files.specs.Accepted.{Accepted}
 use Rattle.polis_cli.specs.inner.Demo.{RunsWhole}
-use Rattle.polis_cli.specs.Inputs.{IsNetFault}
-use Rattle.polis_cli.proofs.InputsFail.{text_refused}
-use Rattle.polis_cli.proofs.IsNetFault.{fault_refuses}
+use Rattle.input_files.specs.Inputs.{IsNetFault}
+use Rattle.input_files.proofs.InputsFail.{text_refused}
+use Rattle.input_files.proofs.IsNetFault.{fault_refuses}
 use Rattle.polis_cli.proofs.IsRan.{alone_is_scheduled}
 
 -- a text that is accepted has no fault

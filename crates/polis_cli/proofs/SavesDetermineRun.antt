@@ -10,10 +10,10 @@ use Rattle.journal_text.specs.Holding.{names_hold}
 use Rattle.machine_compiler.proofs.ListingDeterminesParts.{listing_determines}
 use Rattle.polis_base.specs.Host.{Files}
 use Rattle.polis_words.specs.Run.{RunWords}
-use Rattle.polis_cli.specs.declared.product.Product.{Product}
+use Rattle.output_files.specs.declared.product.Product.{Product}
 use Rattle.polis_cli.specs.declared.ran.Ran.{Ran}
 use Rattle.polis_cli.specs.Run.{MakesRun, SavesDetermineRun, AreTasks, Tasks, Compiled, Given, journal_of, run_product}
-use Rattle.polis_cli.specs.Saves.{Save}
+use Rattle.output_files.specs.Saves.{Save}
 use Rattle.polis_cli.proofs.Accepted.{names_hold_accepted}
 use Rattle.polis_cli.proofs.IsJudged.{rising_stamps}
 

@@ -11,10 +11,11 @@ use Rattle.cost_bound.specs.Costs.{CostOf}
 use Rattle.machine_compiler.specs.Parts.{IsRightPart}
 use Rattle.polis_words.specs.declared.requests.costs.GivenCosts.{GivenCosts}
 use Rattle.polis_words.specs.Bound.{BoundWords}
-use Rattle.polis_cli.specs.declared.product.End.TheVariants as ends
-use Rattle.polis_cli.specs.declared.product.Product.{Product}
-use Rattle.polis_cli.specs.Inputs.{HoldsNet, AcceptsNet, FailsNet}
-use Rattle.polis_cli.specs.Meanings.{Meaning, explains_nothing, never_refused, finds_nothing, ends_done}
+use Rattle.output_files.specs.declared.product.End.TheVariants as ends
+use Rattle.output_files.specs.declared.product.Product.{Product}
+use Rattle.input_files.specs.Inputs.{HoldsNet, AcceptsNet, FailsNet}
+use Rattle.polis_cli.specs.Meanings.{Meaning, never_refused, finds_nothing, ends_done}
+use Rattle.input_files.specs.Failures.{explains_nothing}
 use Rattle.polis_cli.specs.Ranges.{ranges_text}
 
 -- the greatest and the least cost of code that the machine was rightly compiled to

@@ -7,10 +7,11 @@ use Rattle.machine_compiler.specs.Parts.{AreRightParts}
 use Rattle.machine_compiler.specs.Lines.{lengths_text}
 use Rattle.polis_words.specs.NetStem.{NetStemWords}
 use Rattle.polis_words.specs.Compile.{compiled_name}
-use Rattle.polis_cli.specs.declared.product.Product.{Product}
-use Rattle.polis_cli.specs.Inputs.{HoldsNet, AcceptsNet, FailsNet}
-use Rattle.polis_cli.specs.Products.{saves_one}
-use Rattle.polis_cli.specs.Meanings.{Meaning, explains_nothing, never_refused, finds_nothing, ends_done}
+use Rattle.output_files.specs.declared.product.Product.{Product}
+use Rattle.input_files.specs.Inputs.{HoldsNet, AcceptsNet, FailsNet}
+use Rattle.output_files.specs.Products.{saves_one}
+use Rattle.polis_cli.specs.Meanings.{Meaning, never_refused, finds_nothing, ends_done}
+use Rattle.input_files.specs.Failures.{explains_nothing}
 
 -- the product saves the listing of the compiled machines, and shows how long their graphs and their
 -- code are

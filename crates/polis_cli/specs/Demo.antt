@@ -10,11 +10,12 @@ use Rattle.net_reader.specs.Layout.{network_text}
 use Rattle.net_gen.specs.Networks.{network}
 use Rattle.net_gen.specs.inner.Traces.{trace_text}
 use Rattle.polis_words.specs.Demo.{DemoWords}
-use Rattle.polis_cli.specs.declared.product.End.TheVariants as ends
-use Rattle.polis_cli.specs.declared.product.Product.{Product}
+use Rattle.output_files.specs.declared.product.End.TheVariants as ends
+use Rattle.output_files.specs.declared.product.Product.{Product}
 use Rattle.polis_cli.specs.declared.ran.Ran.{Ran}
-use Rattle.polis_cli.specs.Accepted.{Accepted}
-use Rattle.polis_cli.specs.Meanings.{Meaning, explains_nothing, never_refused, finds_nothing, ends_done}
+use Rattle.input_files.specs.Accepted.{Accepted}
+use Rattle.polis_cli.specs.Meanings.{Meaning, never_refused, finds_nothing, ends_done}
+use Rattle.input_files.specs.Failures.{explains_nothing}
 use Rattle.polis_cli.specs.Run.{IsRan, Compiled, run_text}
 
 -- the network and the trace that are drawn from a seed, by their texts

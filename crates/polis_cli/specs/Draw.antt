@@ -8,10 +8,10 @@ use Rattle.machine_compiler.specs.Parts.{AreRightParts, graphs_in}
 use Rattle.machine_compiler.specs.Lines.{lengths_text}
 use Rattle.polis_words.specs.NetStem.{NetStemWords}
 use Rattle.polis_words.specs.Draw.{drawing_name}
-use Rattle.polis_cli.specs.declared.product.Product.{Product}
+use Rattle.output_files.specs.declared.product.Product.{Product}
 use Rattle.polis_cli.specs.Compile.{compile_meaning}
-use Rattle.polis_cli.specs.Inputs.{HoldsNet}
-use Rattle.polis_cli.specs.Products.{saves_one}
+use Rattle.input_files.specs.Inputs.{HoldsNet}
+use Rattle.output_files.specs.Products.{saves_one}
 use Rattle.polis_cli.specs.Meanings.{Meaning}
 
 -- the product saves the drawing of the network and of the graphs of the compiled machines, and

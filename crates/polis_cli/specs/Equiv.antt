@@ -11,10 +11,11 @@ use Rattle.polis_words.specs.declared.cause.Cause.{Cause}
 use Rattle.polis_words.specs.declared.cause.Cause.TheVariants.{OtherShape, Differ as TablesDiffer}
 use Rattle.polis_words.specs.Equiv.{EquivWords}
 use Rattle.polis_words.specs.Texts.{machine_snapshot_text, same_text}
-use Rattle.polis_cli.specs.declared.product.End.TheVariants as ends
-use Rattle.polis_cli.specs.declared.product.Product.{Product}
-use Rattle.polis_cli.specs.Inputs.{HoldsNet, NetFails, FailsNet}
-use Rattle.polis_cli.specs.Meanings.{Meaning, explains_nothing, finds_differing, never_refused, ends_compared}
+use Rattle.output_files.specs.declared.product.End.TheVariants as ends
+use Rattle.output_files.specs.declared.product.Product.{Product}
+use Rattle.input_files.specs.Inputs.{HoldsNet, NetFails, FailsNet}
+use Rattle.polis_cli.specs.Meanings.{Meaning, finds_differing, never_refused, ends_compared}
+use Rattle.input_files.specs.Failures.{explains_nothing}
 
 -- the files hold two networks of one shape
 pub record HoldsEquiv (equiv : EquivWords) (files : Files) (net other : Network) : Type 0 where

@@ -10,12 +10,13 @@ use Rattle.polis_words.specs.Replay.{ReplayWords}
 use Rattle.polis_words.specs.Texts.{items_text}
 use Rattle.polis_words.specs.declared.requests.explain.Explain.{Explain}
 use Rattle.polis_words.specs.declared.requests.explain.Explain.TheVariants.{Net, Trace, Journal}
-use Rattle.polis_cli.specs.declared.product.End.TheVariants as ends
-use Rattle.polis_cli.specs.declared.product.Product.{Product}
+use Rattle.output_files.specs.declared.product.End.TheVariants as ends
+use Rattle.output_files.specs.declared.product.Product.{Product}
 use Rattle.polis_cli.specs.Check.{check_meaning}
-use Rattle.polis_cli.specs.Explanations.{ExplainsFile, ExplainsReplay}
-use Rattle.polis_cli.specs.Inputs.{HoldsNet, HoldsTrace, InputsFail}
-use Rattle.polis_cli.specs.Meanings.{Meaning, explains_by, never_refused, finds_nothing, ends_done}
+use Rattle.input_files.specs.Explanations.{ExplainsFile, ExplainsReplay}
+use Rattle.input_files.specs.Inputs.{HoldsNet, HoldsTrace, InputsFail}
+use Rattle.polis_cli.specs.Meanings.{Meaning, never_refused, finds_nothing, ends_done}
+use Rattle.input_files.specs.Failures.{explains_by}
 use Rattle.polis_cli.specs.Replay.{replay_meaning}
 
 -- the product saves nothing, and shows how many items the trace has

@@ -11,8 +11,8 @@ use Rattle.polis_words.specs.declared.status.Status.{Status}
 use Rattle.polis_words.specs.declared.status.Status.TheVariants.{Done, Limit}
 use Rattle.polis_words.specs.Run.{RunWords, AsksRun, out_name, journal_name, listing_name}
 use Rattle.polis_cli.specs.declared.ran.Ran.{Ran}
-use Rattle.polis_cli.specs.Accepted.{Accepted}
-use Rattle.polis_cli.specs.Ends.{is_end}
+use Rattle.input_files.specs.Accepted.{Accepted}
+use Rattle.output_files.specs.Ends.{is_end}
 use Rattle.polis_cli.specs.Run.{BeginsAt, Tasks, Compiled, Given, AreTasks, journal_of, run_text}
 use Rattle.polis_cli.specs.Promise.{Outside, Answers}
 

@@ -14,10 +14,11 @@ use Rattle.polis_words.specs.declared.cause.Cause.TheVariants.{ImageLong}
 use Rattle.polis_words.specs.NetStem.{NetStemWords}
 use Rattle.polis_words.specs.Image.{image_name}
 use Rattle.polis_words.specs.Texts.{image_text}
-use Rattle.polis_cli.specs.declared.product.Product.{Product}
-use Rattle.polis_cli.specs.Inputs.{HoldsNet, AcceptsNet, NetFails}
-use Rattle.polis_cli.specs.Products.{saves_one}
-use Rattle.polis_cli.specs.Meanings.{Meaning, explains_nothing, finds_nothing, ends_done_or_refused}
+use Rattle.output_files.specs.declared.product.Product.{Product}
+use Rattle.input_files.specs.Inputs.{HoldsNet, AcceptsNet, NetFails}
+use Rattle.output_files.specs.Products.{saves_one}
+use Rattle.polis_cli.specs.Meanings.{Meaning, finds_nothing, ends_done_or_refused}
+use Rattle.input_files.specs.Failures.{explains_nothing}
 
 -- the image of a network's machines: the name and sizes of each, with the code that it was compiled
 -- to

@@ -12,7 +12,7 @@ use Rattle.task_image.specs.Verifying.{Verifies}
 use Rattle.polis_words.specs.declared.cause.Cause.{Cause}
 use Rattle.polis_words.specs.declared.cause.Cause.TheVariants.{ImageByte, ImageShape, ImageWrong}
 use Rattle.polis_words.specs.Texts.{machine_snapshot_text}
-use Rattle.polis_cli.specs.Inputs.{HoldsText, LoadFails}
+use Rattle.input_files.specs.Inputs.{HoldsText, LoadFails}
 
 -- the bytes of an image are held under the name, within their limit, and each of its codes gives
 -- the transition of the network's machine of its number

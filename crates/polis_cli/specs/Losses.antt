@@ -7,8 +7,8 @@ use Rattle.journals.specs.declared.entry.TraceItem.{TraceItem}
 use Rattle.event_accounts.specs.Accounts.{accounts_of}
 use Rattle.event_accounts.specs.AccountLines.{accounts_text}
 use Rattle.polis_words.specs.Replay.{ReplayWords}
-use Rattle.polis_cli.specs.declared.product.End.TheVariants as ends
-use Rattle.polis_cli.specs.declared.product.Product.{Product}
+use Rattle.output_files.specs.declared.product.End.TheVariants as ends
+use Rattle.output_files.specs.declared.product.Product.{Product}
 use Rattle.polis_cli.specs.Meanings.{Meaning}
 use Rattle.polis_cli.specs.Replay.{IsJudged, replay_meaning}
 

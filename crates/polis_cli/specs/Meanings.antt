@@ -4,7 +4,8 @@ use Rattle.polis_base.specs.Host.{Files, WhereTold}
 use Rattle.polis_words.specs.declared.cause.Cause.{Cause}
 use Rattle.polis_words.specs.declared.status.Status.{Status}
 use Rattle.polis_words.specs.declared.status.Status.TheVariants.{Done, ReadFault, Refused, WriteFault, NoMemory, Illegal, Differ}
-use Rattle.polis_cli.specs.declared.product.Product.{Product}
+use Rattle.output_files.specs.declared.product.Product.{Product}
+use Rattle.input_files.specs.Failures.{is_failure}
 
 -- A command with what it is asked for: all that the promise of a call says of it.
 pub record Meaning : Type 1 where
@@ -30,12 +31,6 @@ pub record Meaning : Type 1 where
   -- So many workers make its product.
   pub workers : ℕ
 
--- the status says what was found of files that are accepted
-abbrev pub is_finding : Status → Bool
-is_finding Illegal = true
-is_finding Differ = true
-is_finding other = false
-
 -- nothing is found that ends a command in place of a product
 abbrev pub finds_nothing : Status → Files → Type 0
 finds_nothing status files = ⊥
@@ -49,15 +44,6 @@ finds_illegal P other files = ⊥
 abbrev pub finds_differing : (Files → Type 0) → Status → Files → Type 0
 finds_differing P Differ files = P files
 finds_differing P other files = ⊥
-
--- nothing is shown after the line of a cause
-abbrev pub explains_nothing : Option Files → List ℕ → Cause → List ℕ → Type 0
-explains_nothing told name cause more = more ≡ []
-
--- what the files say is shown after it, where they are told
-abbrev pub explains_by : (Files → List ℕ → Cause → List ℕ → Type 0) → Option Files → List ℕ
-    → Cause → List ℕ → Type 0
-explains_by E told name cause more = WhereTold told (λ files. E files name cause more)
 
 -- no command whose files are accepted is refused
 abbrev pub never_refused : Files → Type 0
@@ -85,14 +71,6 @@ abbrev pub ends_done_or_refused : Status → Bool
 ends_done_or_refused Done = true
 ends_done_or_refused Refused = true
 ends_done_or_refused other = false
-
--- a status of a failure of a command that reads files, or of one that reads none
-abbrev pub is_failure : Bool → Status → Bool
-is_failure reads WriteFault = true
-is_failure reads NoMemory = true
-is_failure reads ReadFault = reads
-is_failure reads Refused = reads
-is_failure reads other = false
 
 -- the command may end with this status, whatever the files hold
 abbrev pub MayEnd : Meaning → Status → Type 0

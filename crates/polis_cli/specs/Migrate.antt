@@ -9,9 +9,10 @@ use Rattle.journal_text.specs.Texts.{stamped_journal_text}
 use Rattle.polis_words.specs.ReplayStem.{ReplayStemWords}
 use Rattle.polis_words.specs.Migrate.{migrated_name}
 use Rattle.polis_words.specs.Texts.{migrated_text}
-use Rattle.polis_cli.specs.declared.product.Product.{Product}
-use Rattle.polis_cli.specs.Products.{saves_one}
-use Rattle.polis_cli.specs.Meanings.{Meaning, explains_nothing, never_refused, finds_illegal, ends_judged}
+use Rattle.output_files.specs.declared.product.Product.{Product}
+use Rattle.output_files.specs.Products.{saves_one}
+use Rattle.polis_cli.specs.Meanings.{Meaning, never_refused, finds_illegal, ends_judged}
+use Rattle.input_files.specs.Failures.{explains_nothing}
 use Rattle.polis_cli.specs.Replay.{IsJudged, AcceptsReplay, IsIllegalReplay, FailsReplay}
 
 -- the product saves the journal with its least stamps, and shows how long it is

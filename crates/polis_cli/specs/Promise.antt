@@ -6,9 +6,10 @@ use Rattle.polis_words.specs.declared.requests.Request.{Request}
 use Rattle.polis_words.specs.declared.status.Status.{Status}
 use Rattle.polis_words.specs.declared.status.Status.TheVariants.{Usage, ReadFault, Refused, WriteFault, NoMemory}
 use Rattle.polis_words.specs.Requests.{Asks, AsksNothing}
-use Rattle.polis_cli.specs.Meanings.{Meaning, MayEnd, is_finding}
+use Rattle.polis_cli.specs.Meanings.{Meaning, MayEnd}
+use Rattle.input_files.specs.Failures.{is_finding}
 use Rattle.polis_cli.specs.Commands.{meaning}
-use Rattle.polis_cli.specs.Ends.{is_end}
+use Rattle.output_files.specs.Ends.{is_end}
 use Rattle.polis_cli.specs.Top.{MadeAndWritten, SavesSome, LeavesUnwritten, ShowsText, is_refusal}
 
 -- what a host tells at a moment, and its counts of faults

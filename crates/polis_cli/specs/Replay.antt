@@ -8,11 +8,12 @@ use Rattle.journals.specs.Legality.{Complete}
 use Rattle.polis_words.specs.declared.cause.Cause.{Cause}
 use Rattle.polis_words.specs.Replay.{ReplayWords}
 use Rattle.polis_words.specs.Texts.{legal_text}
-use Rattle.polis_cli.specs.declared.product.End.TheVariants as ends
-use Rattle.polis_cli.specs.declared.product.Product.{Product}
-use Rattle.polis_cli.specs.Inputs.{HoldsNet, HoldsTrace, InputsFail}
-use Rattle.polis_cli.specs.JournalFiles.{HoldsJournal, JournalFails, LegalAndRising}
-use Rattle.polis_cli.specs.Meanings.{Meaning, explains_nothing, never_refused, finds_illegal, ends_judged}
+use Rattle.output_files.specs.declared.product.End.TheVariants as ends
+use Rattle.output_files.specs.declared.product.Product.{Product}
+use Rattle.input_files.specs.Inputs.{HoldsNet, HoldsTrace, InputsFail}
+use Rattle.input_files.specs.JournalFiles.{HoldsJournal, JournalFails, LegalAndRising}
+use Rattle.polis_cli.specs.Meanings.{Meaning, never_refused, finds_illegal, ends_judged}
+use Rattle.input_files.specs.Failures.{explains_nothing}
 
 -- what the three files hold
 pub record HoldsReplay (replay : ReplayWords) (files : Files) (net : Network)

@@ -19,14 +19,15 @@ use Rattle.polis_words.specs.declared.status.Status.{Status}
 use Rattle.polis_words.specs.declared.status.Status.TheVariants.{Done, Limit}
 use Rattle.polis_words.specs.Run.{RunWords, out_name, journal_name, listing_name}
 use Rattle.polis_words.specs.Texts.{summary_text}
-use Rattle.polis_cli.specs.declared.product.End.{End}
-use Rattle.polis_cli.specs.declared.product.End.TheVariants as ends
-use Rattle.polis_cli.specs.declared.product.Product.{Product}
+use Rattle.output_files.specs.declared.product.End.{End}
+use Rattle.output_files.specs.declared.product.End.TheVariants as ends
+use Rattle.output_files.specs.declared.product.Product.{Product}
 use Rattle.polis_cli.specs.declared.ran.Ran.{Ran}
 use Rattle.polis_cli.specs.ImageFiles.{HoldsImage, ImageFails}
-use Rattle.polis_cli.specs.Saves.{Save}
-use Rattle.polis_cli.specs.Inputs.{HoldsNet, HoldsTrace, InputsFail}
-use Rattle.polis_cli.specs.Meanings.{Meaning, explains_nothing, finds_nothing, never_refused}
+use Rattle.output_files.specs.Saves.{Save}
+use Rattle.input_files.specs.Inputs.{HoldsNet, HoldsTrace, InputsFail}
+use Rattle.polis_cli.specs.Meanings.{Meaning, finds_nothing, never_refused}
+use Rattle.input_files.specs.Failures.{explains_nothing}
 
 -- Where the scheduler began. One worker gathers nothing. Of several workers so many entries were
 -- gathered, of which the first were adopted: at least the share of one worker in the limit, or all

@@ -8,12 +8,12 @@ use Rattle.polis_words.specs.declared.status.Status.{Status}
 use Rattle.polis_words.specs.declared.status.Status.TheVariants.{Usage, ReadFault, Refused, NoMemory, Illegal, Differ}
 use Rattle.polis_words.specs.Requests.{Asks}
 use Rattle.polis_words.specs.Lines.{cause_status, cause_line}
-use Rattle.polis_cli.specs.declared.product.Product.{Product}
+use Rattle.output_files.specs.declared.product.Product.{Product}
 use Rattle.polis_cli.specs.Commands.{meaning}
-use Rattle.polis_cli.specs.Ends.{end_status}
-use Rattle.polis_cli.specs.Saves.{IsOther, AreHeld, MadeSome}
-use Rattle.polis_cli.specs.Shown.{ShowsPrefix}
-use Rattle.polis_cli.specs.Writing.{FailsToWrite}
+use Rattle.output_files.specs.Ends.{end_status}
+use Rattle.output_files.specs.Saves.{IsOther, AreHeld, MadeSome}
+use Rattle.output_files.specs.Shown.{ShowsPrefix}
+use Rattle.output_files.specs.Writing.{FailsToWrite}
 
 -- A product was made of the files and written: each of its texts is held under its name, every
 -- other name holds what it held, and its text was shown.

@@ -8,8 +8,8 @@ use Rattle.wave_text.specs.Waves.{wave_text}
 use Rattle.polis_words.specs.ReplayStem.{ReplayStemWords}
 use Rattle.polis_words.specs.Texts.{waved_text}
 use Rattle.polis_words.specs.Wave.{wave_name}
-use Rattle.polis_cli.specs.declared.product.Product.{Product}
-use Rattle.polis_cli.specs.Products.{saves_one}
+use Rattle.output_files.specs.declared.product.Product.{Product}
+use Rattle.output_files.specs.Products.{saves_one}
 use Rattle.polis_cli.specs.Meanings.{Meaning}
 use Rattle.polis_cli.specs.Replay.{IsJudged, replay_meaning}
 

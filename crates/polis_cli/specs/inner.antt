@@ -1,6 +1,3 @@
-pub mod Accepted
-pub mod Shown
-pub mod Writing
 pub mod Left
 pub mod Made
 pub mod Lawful

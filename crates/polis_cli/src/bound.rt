@@ -1,13 +1,13 @@
 // The command `bound`: what the reactions of a network's machines cost at most and at least.
 ghost use Rattle.polis_words.specs.Bound.{AreFew};
 ghost use Rattle.polis_cli.specs.Bound.{AreCosts, bound_meaning};
-ghost use Rattle.polis_cli.specs.inner.Left.{LeftByLoads, fails_unread};
+ghost use Rattle.input_files.specs.Loads.{LeftByLoads, fails_unread};
 ghost use Rattle.polis_cli.specs.inner.Made.{IsMade};
 
-use crate::load::{Detail, load_net};
-use crate::product::{End, Product};
 use crate::ranges::print_ranges;
 use cost_bound::Costs;
+use input_files::{Detail, load_net};
+use output_files::{End, Product};
 use polis_base::{Host, List, NoMemory};
 use polis_words::{Bound, Failure, GivenCosts};
 use std::alloc::Global;

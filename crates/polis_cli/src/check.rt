@@ -1,10 +1,10 @@
 // The command `check`: whether a network is accepted.
 ghost use Rattle.polis_cli.specs.Check.{check_meaning};
-ghost use Rattle.polis_cli.specs.inner.Left.{LeftByLoads, fails_unread};
+ghost use Rattle.input_files.specs.Loads.{LeftByLoads, fails_unread};
 ghost use Rattle.polis_cli.specs.inner.Made.{IsMade};
 
-use crate::load::{Detail, load_net};
-use crate::product::{End, Product};
+use input_files::{Detail, load_net};
+use output_files::{End, Product};
 use polis_base::{Host, List, NoMemory};
 use polis_words::{Check, Failure, print_accepted};
 use std::alloc::Global;

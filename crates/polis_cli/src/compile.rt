@@ -3,12 +3,12 @@ ghost use Rattle.std.specs.Prelude.{IfOk};
 ghost use Rattle.transition_table.specs.Transitions.{AreDeterministic};
 ghost use Rattle.polis_cli.specs.Compile.{compile_meaning};
 ghost use Rattle.polis_cli.specs.inner.Compile.{IsCompileProduct};
-ghost use Rattle.polis_cli.specs.inner.Left.{LeftByLoads, fails_unread};
+ghost use Rattle.input_files.specs.Loads.{LeftByLoads, fails_unread};
 ghost use Rattle.polis_cli.specs.inner.Made.{IsMade};
 
-use crate::load::{Detail, load_net};
-use crate::product::Product;
+use input_files::{Detail, load_net};
 use machine_compiler::{Texts, compile_texts};
+use output_files::Product;
 use polis_base::{Host, NoMemory};
 use polis_words::{Failure, NetStem};
 use std::alloc::Global;

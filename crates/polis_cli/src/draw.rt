@@ -3,13 +3,13 @@ ghost use Rattle.std.specs.Prelude.{IfOk};
 ghost use Rattle.transition_table.specs.Transitions.{AreDeterministic};
 ghost use Rattle.polis_cli.specs.Draw.{draw_meaning};
 ghost use Rattle.polis_cli.specs.inner.Draw.{IsDrawProduct};
-ghost use Rattle.polis_cli.specs.inner.Left.{LeftByLoads, fails_unread};
+ghost use Rattle.input_files.specs.Loads.{LeftByLoads, fails_unread};
 ghost use Rattle.polis_cli.specs.inner.Made.{IsMade};
 
-use crate::load::{Detail, load_net};
-use crate::product::Product;
 use graph_drawing::push_drawing;
+use input_files::{Detail, load_net};
 use machine_compiler::{Graphs, compile_graphs};
+use output_files::Product;
 use polis_base::{Bytes, Host, NoMemory};
 use polis_words::{Failure, NetStem};
 use std::alloc::Global;

@@ -6,24 +6,24 @@ ghost use Rattle.transition_table.specs.Transitions.{AreDeterministic};
 ghost use Rattle.journals.specs.Journals.{IsJournal, IsTrace};
 ghost use Rattle.journal_replay.specs.Reasons.{IsReason};
 ghost use Rattle.polis_cli.specs.Explain.{explain_journal_meaning, explain_meaning, explain_net_meaning, explain_trace_meaning};
-ghost use Rattle.polis_cli.specs.Explanations.{ExplainsReplay};
-ghost use Rattle.polis_cli.specs.JournalFiles.{IsFirstIllegal};
-ghost use Rattle.polis_cli.specs.Meanings.{explains_by};
+ghost use Rattle.input_files.specs.Explanations.{ExplainsReplay};
+ghost use Rattle.input_files.specs.JournalFiles.{IsFirstIllegal};
+ghost use Rattle.input_files.specs.Failures.{explains_by};
 ghost use Rattle.polis_cli.specs.Replay.{FailsReplay, IsJudged};
 ghost use Rattle.polis_cli.specs.inner.Explain.{IsEntryExplained};
-ghost use Rattle.polis_cli.specs.inner.Left.{LeftByLoads, fails_unread};
+ghost use Rattle.input_files.specs.Loads.{LeftByLoads, fails_unread};
 ghost use Rattle.polis_cli.specs.inner.Made.{IsMade, JudgingExplained};
 
-use crate::explanation::explain_entry;
-use crate::inputs::{Inputs, load_inputs};
-use crate::load::{Detail, JournalFile, load_journal_file, load_net};
-use crate::product::{End, Product};
 use crate::replay::{Judged, find};
 use crate::tasks::Tasks;
+use input_files::{
+    Detail, Inputs, JournalFile, explain_entry, load_inputs, load_journal_file, load_net,
+};
 use journal_replay::{Verdict, why_not};
 use journal_text::ReadJournal;
 use machine_compiler::compile_network;
 use net_core::Why;
+use output_files::{End, Product};
 use polis_base::{Bytes, Host, List, NoMemory};
 use polis_words::{
     Cause, Check, Explain, Failure, NetTrace, Replay, print_accepted, print_items, print_legal,

@@ -6,13 +6,17 @@ ghost use Rattle.task_image.specs.Images.{codes_of};
 ghost use Rattle.task_image.specs.Verifying.{Verifies};
 ghost use Rattle.task_image.specs.declared.finding.Verify.{Verify};
 ghost use Rattle.polis_words.specs.Lines.{cause_status};
-ghost use Rattle.polis_cli.specs.ImageFiles.{IsImageFault, IsWrongText};
-ghost use Rattle.polis_cli.specs.inner.Accepted.{IfCause};
+ghost use Rattle.polis_base.specs.Host.{WhereTold};
+ghost use Rattle.polis_cli.specs.ImageFiles.{HoldsImage, ImageFails, IsImageFault, IsWrongText};
+ghost use Rattle.input_files.specs.Failures.{FileFails};
+ghost use Rattle.input_files.specs.Loads.{LeftByLoads, fails_unread};
+ghost use Rattle.input_files.specs.Faults.{IfCause};
 ghost use Rattle.polis_cli.specs.inner.Image.{IsFittingImage, IsMisfit};
 
-use crate::accept::FileFault;
-use polis_base::{Bytes, NoMemory};
-use polis_words::{Cause, Status, print_machine_snapshot};
+use input_files::{Detail, FileFault, load_text};
+use polis_base::limits::LONG_FILE_MAX;
+use polis_base::{Bytes, Host, NoMemory};
+use polis_words::{Cause, Failure, Status, print_machine_snapshot};
 use std::alloc::Global;
 use task_image::{Image, ImageFault, Verify, decode, verify};
 use transition_table::{Network, Snapshot};
@@ -53,9 +57,9 @@ fn fault_of(alloc: Global, image: &Image, net: &Network, found: Verify) -> Optio
     }
 }
 
-/// The image of a file's bytes, each code of which gives the transition of the network's machine of
-/// its number.
-pub fn image_in(alloc: Global, net: &Network, bytes: &[u8]) -> Result<Image, FileFault>
+// The image of a file's bytes, each code of which gives the transition of the network's machine of
+// its number.
+fn image_in(alloc: Global, net: &Network, bytes: &[u8]) -> Result<Image, FileFault>
     requires { AreDeterministic net.now }
     ensures fits { IfOk result (IsFittingImage net.now bytes.now) }
     ensures tasks { IfOk result (λ image. AreTasks net.now (codes_of image)) }
@@ -76,5 +80,36 @@ pub fn image_in(alloc: Global, net: &Network, bytes: &[u8]) -> Result<Image, Fil
             Some(fault) => Err(fault),
         },
         Err(NoMemory) => Err(FileFault::NoMemory),
+    }
+}
+
+/// Loads and decodes an image, and checks it against a network.
+pub fn load_image<'a, H: Host>(
+    alloc: Global,
+    host: &mut H,
+    net: &Network,
+    name: &'a str,
+) -> Result<Image, Failure<'a>>
+    requires { AreDeterministic net.now }
+    ensures held { IfOk result (λ image.
+        WhereTold (H.files host.old) (λ files. HoldsImage files name.now net.now image)) }
+    ensures tasks { IfOk result (λ image. AreTasks net.now (codes_of image)) }
+    ensures failed { IfErr result (λ failure.
+        FileFails name.now (H.files host.old) (λ files. ImageFails files net.now name.now)
+        failure) }
+    ensures left { LeftByLoads ⟦<H as Host>⟧ (fails_unread result) host.old host.new }
+{
+    let bytes = match load_text(alloc, host, name, LONG_FILE_MAX, Detail::Cause) {
+        Ok(bytes) => bytes,
+        Err(failure) => return Err(failure),
+    };
+    match image_in(alloc, net, bytes.as_slice()) {
+        Ok(image) => Ok(image),
+        Err(FileFault::Cause(cause)) => Err(Failure::File {
+            name,
+            cause,
+            explanation: Bytes::new(alloc),
+        }),
+        Err(FileFault::NoMemory) => Err(Failure::NoMemory),
     }
 }

@@ -4,13 +4,13 @@ ghost use Rattle.journals.specs.Journals.{IsJournal};
 ghost use Rattle.event_accounts.specs.AccountLines.{accounts_text};
 ghost use Rattle.event_accounts.specs.Accounts.{accounts_of};
 ghost use Rattle.polis_cli.specs.Losses.{losses_meaning};
-ghost use Rattle.polis_cli.specs.inner.Left.{LeftByLoads, fails_unread};
+ghost use Rattle.input_files.specs.Loads.{LeftByLoads, fails_unread};
 ghost use Rattle.polis_cli.specs.inner.Made.{IsMade};
 
-use crate::product::{End, Product};
 use crate::replay::judge_journal;
 use event_accounts::{accounts, push_accounts};
 use net_core::Journal;
+use output_files::{End, Product};
 use polis_base::{Bytes, Host, List, NoMemory};
 use polis_words::{Failure, Replay};
 use std::alloc::Global;

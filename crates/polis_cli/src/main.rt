@@ -1,7 +1,6 @@
 // The program: its command line, its files and its one call that does the work.
 #![tactic(auto)]
 
-mod accept;
 mod bound;
 mod check;
 mod compile;
@@ -9,20 +8,16 @@ mod demo;
 mod draw;
 mod equiv;
 mod explain;
-mod explanation;
 mod image;
 mod image_file;
-mod inputs;
 mod law;
-mod load;
 mod losses;
 mod migrate;
-mod product;
 mod ran;
 mod ranges;
 mod replay;
 mod run;
-mod show;
+mod run_inputs;
 mod stamp;
 mod tasks;
 #[cfg(test)]
@@ -31,7 +26,6 @@ mod texts;
 mod top;
 mod wave;
 mod worked;
-mod write;
 
 use crate::top::polis;
 use event_buffer::OpenGate;

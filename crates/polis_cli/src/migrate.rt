@@ -3,12 +3,12 @@ ghost use Rattle.std.specs.Prelude.{◌≡◌, ◌≤◌, length, IfOk};
 ghost use Rattle.polis_base.specs.declared.limits.TheConstants.{ENTRIES_MAX};
 ghost use Rattle.journals.specs.Legality.{Legal};
 ghost use Rattle.polis_cli.specs.Migrate.{migrate_product, migrate_meaning};
-ghost use Rattle.polis_cli.specs.inner.Left.{LeftByLoads, fails_unread};
+ghost use Rattle.input_files.specs.Loads.{LeftByLoads, fails_unread};
 ghost use Rattle.polis_cli.specs.inner.Made.{IsMade};
 
-use crate::product::Product;
 use crate::replay::{Judged, judge_journal};
 use crate::stamp::stamped_text;
+use output_files::Product;
 use polis_base::{Host, NoMemory};
 use polis_words::{Failure, ReplayStem, print_migrated};
 use std::alloc::Global;

@@ -2,19 +2,20 @@
 ghost use Rattle.std.specs.Prelude.{◌≡◌, ◌<◌, ◌∷◌, ◌++◌, codes, IfOk, OnOk};
 ghost use Rattle.journals.specs.Journals.{IsTrace};
 ghost use Rattle.polis_cli.specs.Run.{IsRan, journal_of, end_of, run_meaning};
-ghost use Rattle.polis_cli.specs.inner.Left.{LeftByLoads, fails_unread};
+ghost use Rattle.input_files.specs.Loads.{LeftByLoads, fails_unread};
 ghost use Rattle.polis_cli.specs.inner.Made.{IsMade};
 ghost use Rattle.polis_cli.specs.inner.Run.{AreOtherTexts, AreTasksOf, IsLoaded, IsProductOf, IsRunProduct, listed_under, tasks_in};
 
-use crate::inputs::{Inputs, RunInputs, load_run};
-use crate::product::{End, Product, Saving};
 use crate::ran::{Ran, run_alone, run_by};
+use crate::run_inputs::{RunInputs, load_run};
 use crate::stamp::stamped_text;
 use crate::tasks::Tasks;
 use crate::texts::{OtherTexts, other_texts, texts_by};
 use event_buffer::Gate;
+use input_files::Inputs;
 use journal_text::print_outputs;
 use machine_compiler::{compile_network, compile_network_by};
+use output_files::{End, Product, Saving};
 use polis_base::{Bytes, Host, List, NoMemory};
 use polis_words::{Failure, Run};
 use std::alloc::Global;

@@ -5,7 +5,7 @@ ghost use Rattle.journals.specs.Legality.{Legal};
 ghost use Rattle.journals.specs.Stamps.{least};
 ghost use Rattle.journal_text.specs.Texts.{stamped_journal_text};
 
-use crate::inputs::Inputs;
+use input_files::Inputs;
 use journal_text::print_journal;
 use net_core::{Journal, least_stamps};
 use polis_base::{Bytes, NoMemory};

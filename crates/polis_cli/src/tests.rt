@@ -1,12 +1,10 @@
 // What no clause says: that a product is made where there is memory, and the texts of whole calls.
 mod bounds;
 mod calls;
-mod cases;
 mod comparisons;
 mod counts;
 mod demos;
 mod diagrams;
-mod explained_texts;
 mod explanations;
 mod failing;
 mod faults;
@@ -15,225 +13,161 @@ mod hostile;
 mod images;
 mod inputs;
 mod journal_faults;
+mod labels;
+mod limits;
 mod listings;
-mod networks;
+mod long_texts;
+mod many;
 mod orders;
 mod printed;
 mod replays;
 mod reports;
 mod rows;
+mod runner;
+mod samples;
+mod side_by_side;
 mod system;
 mod traces;
+mod usage;
 mod workers;
 
-use crate::tests::cases::{
-    CHECK, COMPILE, Case, PRESS, PRESSED, REFUSED, RUN, Repeated, UNREAD, UNWRITTEN, call, host_of,
-    is_held, read_only, text_of, tried, try_cases, try_lines,
-};
-use crate::tests::listings::LAMP_LISTING;
-use crate::tests::networks::LAMP;
+use crate::tests::bounds::BOUNDS;
+use crate::tests::comparisons::COMPARISONS;
+use crate::tests::explanations::EXPLANATIONS;
+use crate::tests::failing::FAILING;
+use crate::tests::faults::FAULTS;
+use crate::tests::gates::{Inside, Meeting, Outside};
+use crate::tests::images::IMAGES;
+use crate::tests::journal_faults::JOURNAL_FAULTS;
+use crate::tests::limits::LIMITS;
+use crate::tests::long_texts::LONG_TEXTS;
+use crate::tests::many::MANY;
+use crate::tests::orders::ORDERS;
+use crate::tests::replays::REPLAYS;
+use crate::tests::reports::REPORTS;
+use crate::tests::rows::ROWS;
+use crate::tests::runner::try_cases;
+use crate::tests::side_by_side::SIDE_BY_SIDE;
+use crate::tests::traces::TRACES;
+use crate::tests::usage::USAGE;
+use crate::tests::workers::WORKERS;
 use event_buffer::OpenGate;
-use polis_base::NoMemory;
-use polis_words::Status;
-use sample_networks::texts::PRESS_TRACE;
-use std::alloc::Global;
-use std::sync::Wait;
 use std::test::Fail;
-use std::thread::Threads;
-
-// Command lines that ask for nothing. In some of them an empty word stands.
-const NO_REQUESTS: &str = "run net trc
-run net trc o --workers 0
-run net trc o --workers 9
-run net trc o --workers 1 --workers 2
-demo
-demo 007
-demo 18446744073709551616
-run net trc o --limit 0
-run net trc o --limit 60001
-run net trc o --limit 05
-run net trc o --limit
-run net trc o --limit 5 --limit 5
-run net  o
-check
-check 
-check net trc
-compile net
-compile net 
-compile net o --limit 5
-replay net trc
-replay net  jnl
-replay net trc jnl o
-migrate net trc jnl
-migrate net trc jnl ";
 
 #[test]
 fn answers_usage(rt: HostRuntime) -> Result<(), Fail> {
-    let case = read_only(&[], LAMP, PRESS_TRACE, Status::Usage, "usage\n");
-    tried(&rt, rt.alloc(), &case, 0)?;
-    try_lines(&rt, rt.alloc(), NO_REQUESTS, &case)?;
+    try_cases(&rt, rt.alloc(), USAGE, &OpenGate)?;
     Ok(())
 }
 
-// A byte that begins no token.
-const NO_TOKEN: &str = "network %";
-
-// Calls over a lamp and one press in which a call of the host fails.
-const FAULTS: &[Case<'_>] = &[
-    Case {
-        words: &["run", "net", "trc"],
-        fails: &[1],
-        status: Status::Usage,
-        shown: "usage\n",
-        ..REFUSED
-    },
-    Case {
-        fails: &[0],
-        shown: "read fault net\n",
-        ..UNREAD
-    },
-    Case {
-        fails: &[1],
-        shown: "read fault trc\n",
-        ..UNREAD
-    },
-    Case {
-        fails: &[2],
-        shown: "write fault o.out\n",
-        ..UNWRITTEN
-    },
-    Case {
-        fails: &[3],
-        shown: "write fault o.jnl\n",
-        outputs: Some("light\n"),
-        ..UNWRITTEN
-    },
-    Case {
-        fails: &[4],
-        shown: "write fault o.lst\n",
-        outputs: Some("light\n"),
-        journal: Some(PRESSED),
-        ..UNWRITTEN
-    },
-    Case {
-        fails: &[5],
-        outputs: Some("light\n"),
-        journal: Some(PRESSED),
-        listing: Some(LAMP_LISTING),
-        ..UNWRITTEN
-    },
-    Case {
-        fails: &[2, 3],
-        write_faults: 2,
-        ..UNWRITTEN
-    },
-    Case {
-        torn: Some((3, 10)),
-        shown: "write fault o.jnl\n",
-        outputs: Some("light\n"),
-        journal: Some("polis jour"),
-        ..UNWRITTEN
-    },
-    Case {
-        fails: &[6],
-        ..PRESS
-    },
-    Case {
-        net: Some(NO_TOKEN),
-        fails: &[1],
-        write_faults: 1,
-        ..REFUSED
-    },
-    Case {
-        words: CHECK,
-        fails: &[1],
-        ..UNWRITTEN
-    },
-    Case {
-        words: COMPILE,
-        fails: &[0],
-        shown: "read fault net\n",
-        ..UNREAD
-    },
-    Case {
-        words: COMPILE,
-        fails: &[1],
-        shown: "write fault o.lst\n",
-        ..UNWRITTEN
-    },
-    Case {
-        words: COMPILE,
-        fails: &[2],
-        listing: Some(LAMP_LISTING),
-        ..UNWRITTEN
-    },
-];
-
-// Calls that name a file that isn't there.
-const ABSENT: &[Case<'_>] = &[
-    Case {
-        net: None,
-        shown: "refused net absent\n",
-        ..REFUSED
-    },
-    Case {
-        trace: None,
-        shown: "refused trc absent\n",
-        ..REFUSED
-    },
-    Case {
-        words: CHECK,
-        net: None,
-        shown: "refused net absent\n",
-        ..REFUSED
-    },
-    Case {
-        words: COMPILE,
-        net: None,
-        shown: "refused net absent\n",
-        ..REFUSED
-    },
-    Case {
-        words: &["explain", "net"],
-        net: None,
-        shown: "refused net absent\nnet: no file has this name\n",
-        ..REFUSED
-    },
-];
-
 #[test]
 fn tells_of_faults_and_absent_files(rt: HostRuntime) -> Result<(), Fail> {
-    try_cases(&rt, rt.alloc(), FAULTS)?;
-    try_cases(&rt, rt.alloc(), ABSENT)
-}
-
-// The lamp's text, of 216 bytes, padded to as many bytes as a network may have.
-const AS_LONG: &Repeated<'_> = &Repeated {
-    begin: LAMP,
-    part: "\n",
-    count: 4_194_304 - 216,
-    end: "",
-};
-
-// Whether a run on a network and one press is done, and gives the journal of the lamp.
-fn runs_net<T: Threads + Wait + Sync>(rt: &T, alloc: Global, net: &str) -> Result<bool, NoMemory> {
-    let mut host = host_of(alloc, net, PRESS_TRACE)?;
-    let status = call(rt, alloc, RUN, &mut host, &OpenGate)?;
-    Ok(status == Status::Done && is_held(&host, "o.jnl", Some(PRESSED)))
-}
-
-// The same of such a text.
-fn runs<T: Threads + Wait + Sync>(
-    rt: &T,
-    alloc: Global,
-    repeated: &Repeated<'_>,
-) -> Result<bool, NoMemory> {
-    let text = text_of(alloc, repeated)?;
-    runs_net(rt, alloc, text.as_str())
+    try_cases(&rt, rt.alloc(), FAILING, &OpenGate)?;
+    Ok(())
 }
 
 #[test]
-fn takes_a_long_file(rt: HostRuntime) -> Result<(), Fail> {
-    assert!(rt; runs(&rt, rt.alloc(), AS_LONG)?);
+fn runs_compiles_and_checks_networks(rt: HostRuntime) -> Result<(), Fail> {
+    try_cases(&rt, rt.alloc(), ROWS, &OpenGate)?;
+    Ok(())
+}
+
+#[test]
+fn compares_networks(rt: HostRuntime) -> Result<(), Fail> {
+    try_cases(&rt, rt.alloc(), COMPARISONS, &OpenGate)?;
+    Ok(())
+}
+
+#[test]
+fn reports_on_journals(rt: HostRuntime) -> Result<(), Fail> {
+    try_cases(&rt, rt.alloc(), REPORTS, &OpenGate)?;
+    Ok(())
+}
+
+#[test]
+fn reads_journals(rt: HostRuntime) -> Result<(), Fail> {
+    try_cases(&rt, rt.alloc(), JOURNAL_FAULTS, &OpenGate)?;
+    Ok(())
+}
+
+#[test]
+fn reads_traces(rt: HostRuntime) -> Result<(), Fail> {
+    try_cases(&rt, rt.alloc(), TRACES, &OpenGate)?;
+    Ok(())
+}
+
+#[test]
+fn explains_each_fault(rt: HostRuntime) -> Result<(), Fail> {
+    try_cases(&rt, rt.alloc(), EXPLANATIONS, &OpenGate)?;
+    Ok(())
+}
+
+#[test]
+fn runs_by_several_workers(rt: HostRuntime) -> Result<(), Fail> {
+    try_cases(&rt, rt.alloc(), WORKERS, &OpenGate)?;
+    Ok(())
+}
+
+#[test]
+fn bounds_costs(rt: HostRuntime) -> Result<(), Fail> {
+    try_cases(&rt, rt.alloc(), BOUNDS, &OpenGate)?;
+    Ok(())
+}
+
+#[test]
+fn names_the_place_of_each_fault(rt: HostRuntime) -> Result<(), Fail> {
+    try_cases(&rt, rt.alloc(), FAULTS, &OpenGate)?;
+    Ok(())
+}
+
+#[test]
+fn stores_and_runs_images(rt: HostRuntime) -> Result<(), Fail> {
+    try_cases(&rt, rt.alloc(), IMAGES, &OpenGate)?;
+    Ok(())
+}
+
+#[test]
+fn orders_and_sizes_are_those_worked_out(rt: HostRuntime) -> Result<(), Fail> {
+    try_cases(&rt, rt.alloc(), ORDERS, &OpenGate)?;
+    Ok(())
+}
+
+#[test]
+fn judges_and_migrates_journals(rt: HostRuntime) -> Result<(), Fail> {
+    try_cases(&rt, rt.alloc(), REPLAYS, &OpenGate)?;
+    Ok(())
+}
+
+#[test]
+fn takes_no_more_than_the_limits(rt: HostRuntime) -> Result<(), Fail> {
+    try_cases(&rt, rt.alloc(), LIMITS, &OpenGate)?;
+    Ok(())
+}
+
+#[test]
+fn takes_sixty_thousand_entries_and_ten_thousand_items(rt: HostRuntime) -> Result<(), Fail> {
+    try_cases(&rt, rt.alloc(), MANY, &OpenGate)?;
+    Ok(())
+}
+
+#[test]
+fn explains_faults_of_long_texts(rt: HostRuntime) -> Result<(), Fail> {
+    try_cases(&rt, rt.alloc(), LONG_TEXTS, &OpenGate)?;
+    Ok(())
+}
+
+#[test]
+fn reacts_side_by_side(rt: HostRuntime) -> Result<(), Fail> {
+    let gate = Outside(Meeting::new());
+    try_cases(&rt, rt.alloc(), SIDE_BY_SIDE, &gate)?;
+    assert!(rt; gate.0.was_met());
+    Ok(())
+}
+
+#[test]
+fn holds_cells_side_by_side(rt: HostRuntime) -> Result<(), Fail> {
+    let gate = Inside(Meeting::new());
+    try_cases(&rt, rt.alloc(), SIDE_BY_SIDE, &gate)?;
+    assert!(rt; gate.0.was_met());
     Ok(())
 }

@@ -7,10 +7,10 @@ ghost use Rattle.journal_text.specs.Texts.{output_text};
 ghost use Rattle.polis_cli.specs.Run.{journal_of, listing_of, run_text, tasks_text};
 ghost use Rattle.polis_cli.specs.inner.Run.{AreOtherTexts, AreTasksOf, tasks_in};
 
-use crate::inputs::Inputs;
 use crate::ran::Ran;
 use crate::stamp::stamped_text;
 use crate::tasks::Tasks;
+use input_files::Inputs;
 use journal_text::print_outputs;
 use machine_compiler::{print_code_tries, print_listing, print_tries};
 use polis_base::{Bytes, NoMemory};

@@ -2,11 +2,11 @@
 ghost use Rattle.std.specs.Prelude.{◌≡◌, IfOk};
 ghost use Rattle.journals.specs.Legality.{Legal};
 ghost use Rattle.polis_cli.specs.Wave.{wave_meaning, wave_product};
-ghost use Rattle.polis_cli.specs.inner.Left.{LeftByLoads, fails_unread};
+ghost use Rattle.input_files.specs.Loads.{LeftByLoads, fails_unread};
 ghost use Rattle.polis_cli.specs.inner.Made.{IsMade};
 
-use crate::product::Product;
 use crate::replay::{Judged, judge_journal};
+use output_files::Product;
 use polis_base::{Bytes, Host, NoMemory};
 use polis_words::{Failure, ReplayStem, print_waved};
 use std::alloc::Global;

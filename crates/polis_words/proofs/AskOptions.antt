@@ -1,5 +1,5 @@
 -- What the options of a run say.
-use Rattle.std.proofs.lemmas.List.{length-drop, drop_all, append-nil}
+use Rattle.std.proofs.lemmas.List.{length-drop, append-nil}
 use Rattle.std.proofs.Common.{◌≡◌, ◌≢◌, ◌+◌, ◌*◌, ◌%◌, ◌≤◌, ◌<◌, ◌^◌, ℕ, get_or, List, [], ◌∷◌, ◌++◌, length, drop, slice_get, flat_map, Some, None, IfNone, refl, sym, ap, subst, ◌∙◌, arith, decimal}
 use Rattle.std.specs.Prelude.{Option, unwrap_or}
 use Rattle.std.proofs.lemmas.Fmt.{decimal_injective}
@@ -101,10 +101,6 @@ two_at words place a b p q =
     (drop_at_item words (place + 1) b q
     ∙ ap (λ (k : ℕ). b ∷ drop k words) next)
 
--- nothing is said at first
-pub said_first : (words : List (List ℕ)) (said : Said) → said ≡ unsaid → AreSaid words 4 said
-said_first words said is = record { options = []; words_are = refl; say = is }
-
 pub said_next : (words : List (List ℕ)) (place : ℕ) (old new : Said) → AreSaid words place old
     → SaysAt words place old new → AreSaid words (place + 2) new
 said_next words place old new a s =
@@ -117,19 +113,6 @@ said_next words place old new a s =
           (two_at words place (flag_of s.option) (value_of s.option) s.flag s.value)
           ∙ sym more.1;
       say = more.0;
-    }
-
--- where there is no word more, the words are the options
-pub said_all : (words : List (List ℕ)) (place : ℕ) (said : Said) → AreSaid words place said
-    → length words ≤ place → AskOptions (drop 4 words) said
-said_all words place said a past =
-    let none = drop_all place words past in
-    record {
-      options = a.options;
-      words_are = a.words_are
-          ∙ ap (λ (ws : List (List ℕ)). flat_map option_words a.options ++ ws) none
-          ∙ append-nil (flat_map option_words a.options);
-      say = a.say;
     }
 
 -- where what stands at a place says nothing new, the words are no options

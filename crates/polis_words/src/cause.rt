@@ -7,7 +7,7 @@ use polis_base::{Bytes, Name, NoMemory};
 use trace_text::TraceKind;
 
 /// What is wrong with the first token of a text that doesn't read.
-#[derive(Clone, Copy, Debug, PartialEq, Eq)]
+#[derive(Clone, Copy)]
 pub enum LexKind {
     /// No token begins with the byte.
     Byte,

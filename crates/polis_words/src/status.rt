@@ -1,7 +1,7 @@
 // How a call of the program ends.
 
 /// The answer of a call. Its number is the status with which the program ends.
-#[derive(Clone, Copy, Debug, PartialEq, Eq)]
+#[derive(Clone, Copy)]
 pub enum Status {
     /// What was asked for was made and written; the journal of a run is complete.
     Done = 0,

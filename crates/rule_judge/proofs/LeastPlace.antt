@@ -1,5 +1,5 @@
 -- Least places of parts, and of the whole.
-use Rattle.std.proofs.Common.{◌≡◌, ◌∙◌, ℕ, ◌+◌, ◌<◌, min, Result, IfOk, Bool, true, false, cond, not, ◌||◌, List, ◌∷◌, ◌++◌, length, flat_map, drop, get_or, Option, Some, None, refl, ap, sym, arith, []}
+use Rattle.std.proofs.Common.{◌≡◌, ◌∙◌, ℕ, ◌+◌, ◌<◌, min, Result, IfOk, Bool, not, ◌||◌, List, ◌∷◌, ◌++◌, length, flat_map, drop, get_or, Option, Some, None, refl, ap, sym, arith, []}
 use Rattle.std.proofs.lemmas.List.{drop_more}
 use Rattle.std.proofs.lemmas.Grind.{flat_map-append}
 use Rattle.polis_base.specs.declared.NoMemory.{NoMemory}
@@ -36,12 +36,6 @@ pub sooner-least : (found : Option ℕ) (ps qs : List ℕ)
     → sooner (sooner found (least_place ps)) (least_place qs) ≡ sooner found (least_place (ps ++ qs))
 sooner-least found ps qs = sooner-assoc found (least_place ps) (least_place qs)
     ∙ ap (sooner found) (sym (least-append ps qs))
-
--- the place, unless the test holds
-pub sooner-unless : (found : Option ℕ) (place : ℕ) (test : Bool)
-    → sooner found (least_place (unless test place)) ≡ cond test found (sooner found (Some place))
-sooner-unless found place true = sooner-None found
-sooner-unless found place false = refl
 
 pub item-first : {X : Type 0} (xs : List X) (i : ℕ) (x : X) → i < length xs → x ≡ get_or xs i x
     → drop i xs ≡ x ∷ drop (i + 1) xs

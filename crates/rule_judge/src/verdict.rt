@@ -2,6 +2,7 @@
 ghost use Rattle.std.specs.Prelude.{◌≡◌, IfOk};
 ghost use Rattle.net_names.specs.Locals.{AreLocals};
 ghost use Rattle.rule_judge.specs.Judged.{broken, first_broken, act_rules, machine_rules};
+ghost use Rattle.rule_judge.specs.inner.Parts.{row_rules, cond_rules, port_rules};
 
 use crate::actions::{all_plain, rule_19, rule_21, rule_22, rule_23, rule_24, rule_25};
 use crate::conds::cond_faults;
@@ -16,7 +17,7 @@ use polis_base::{List, NoMemory};
 use std::alloc::Global;
 
 /// A rule that is broken, and the place that is shown.
-#[derive(Clone, Copy, Debug, PartialEq, Eq)]
+#[derive(Clone, Copy)]
 pub struct Broken {
     /// The number of the rule.
     pub rule: u8,
@@ -50,16 +51,34 @@ fn judge_acts(raw: &RawNet, locals: &List<Local>) -> Option<Broken>
     None
 }
 
-// The first of the rules on the rows of machines that is broken.
-fn judge_machines(alloc: Global, raw: &RawNet) -> Result<Option<Broken>, NoMemory>
-    ensures { IfOk result (λ place. place ≡ first_broken (machine_rules raw.now)) }
+// The first of these rules on the targets, values and number of rows, and of those on actions, that
+// is broken.
+fn judge_rows(alloc: Global, raw: &RawNet, locals: &List<Local>) -> Result<Option<Broken>, NoMemory>
+    requires { AreLocals raw.now raw.now.machines locals.now }
+    ensures { IfOk result (λ place. place ≡ first_broken (row_rules raw.now)) }
 {
-    let scope = Scope::new(alloc, raw)?;
-    let locals = locals_of(alloc, &scope)?;
-    if let Some(place) = rule_14(alloc, raw)? {
-        return Ok(Some(Broken { rule: 14, place }));
+    if let Some(place) = rule_18(alloc, raw, locals)? {
+        return Ok(Some(Broken { rule: 18, place }));
     }
-    let conds = cond_faults(alloc, raw, &locals)?;
+    if let Some(place) = rule_19(raw, locals) {
+        return Ok(Some(Broken { rule: 19, place }));
+    }
+    if let Some(place) = rule_20(alloc, raw)? {
+        return Ok(Some(Broken { rule: 20, place }));
+    }
+    Ok(judge_acts(raw, locals))
+}
+
+// The first of these rules on conditions, and of those on rows, that is broken.
+fn judge_conds(
+    alloc: Global,
+    raw: &RawNet,
+    locals: &List<Local>,
+) -> Result<Option<Broken>, NoMemory>
+    requires { AreLocals raw.now raw.now.machines locals.now }
+    ensures { IfOk result (λ place. place ≡ first_broken (cond_rules raw.now)) }
+{
+    let conds = cond_faults(alloc, raw, locals)?;
     if let Some(place) = conds.unknown {
         return Ok(Some(Broken { rule: 15, place }));
     }
@@ -69,16 +88,49 @@ fn judge_machines(alloc: Global, raw: &RawNet) -> Result<Option<Broken>, NoMemor
     if let Some(place) = conds.valueless {
         return Ok(Some(Broken { rule: 17, place }));
     }
-    if let Some(place) = rule_18(alloc, raw, &locals)? {
-        return Ok(Some(Broken { rule: 18, place }));
+    judge_rows(alloc, raw, locals)
+}
+
+// The first of the rules on conditions and rows that is broken. The names are numbered first.
+fn judge_numbered(alloc: Global, raw: &RawNet) -> Result<Option<Broken>, NoMemory>
+    ensures { IfOk result (λ place. place ≡ first_broken (cond_rules raw.now)) }
+{
+    let scope = Scope::new(alloc, raw)?;
+    let locals = locals_of(alloc, &scope)?;
+    judge_conds(alloc, raw, &locals)
+}
+
+// The first of the rules on the values and rows of machines that is broken.
+fn judge_machines(alloc: Global, raw: &RawNet) -> Result<Option<Broken>, NoMemory>
+    ensures { IfOk result (λ place. place ≡ first_broken (machine_rules raw.now)) }
+{
+    if let Some(place) = rule_14(alloc, raw)? {
+        return Ok(Some(Broken { rule: 14, place }));
     }
-    if let Some(place) = rule_19(raw, &locals) {
-        return Ok(Some(Broken { rule: 19, place }));
+    judge_numbered(alloc, raw)
+}
+
+// The first of the rules on the sizes, priorities and ports of machines, and of those on their values
+// and rows, that is broken.
+fn judge_ports(alloc: Global, raw: &RawNet) -> Result<Option<Broken>, NoMemory>
+    ensures { IfOk result (λ place. place ≡ first_broken (port_rules raw.now)) }
+{
+    if let Some(place) = rule_9(raw)? {
+        return Ok(Some(Broken { rule: 9, place }));
     }
-    if let Some(place) = rule_20(alloc, raw)? {
-        return Ok(Some(Broken { rule: 20, place }));
+    if let Some(place) = rule_10(raw)? {
+        return Ok(Some(Broken { rule: 10, place }));
     }
-    Ok(judge_acts(raw, &locals))
+    if let Some(place) = rule_11(alloc, raw)? {
+        return Ok(Some(Broken { rule: 11, place }));
+    }
+    if let Some(place) = rule_12(alloc, raw)? {
+        return Ok(Some(Broken { rule: 12, place }));
+    }
+    if let Some(place) = rule_13(alloc, raw)? {
+        return Ok(Some(Broken { rule: 13, place }));
+    }
+    judge_machines(alloc, raw)
 }
 
 /// The first of the rules that is broken, with the least place where it is.
@@ -109,20 +161,5 @@ pub fn judge(alloc: Global, raw: &RawNet) -> Result<Option<Broken>, NoMemory>
     if let Some(place) = rule_8(alloc, raw)? {
         return Ok(Some(Broken { rule: 8, place }));
     }
-    if let Some(place) = rule_9(raw)? {
-        return Ok(Some(Broken { rule: 9, place }));
-    }
-    if let Some(place) = rule_10(raw)? {
-        return Ok(Some(Broken { rule: 10, place }));
-    }
-    if let Some(place) = rule_11(alloc, raw)? {
-        return Ok(Some(Broken { rule: 11, place }));
-    }
-    if let Some(place) = rule_12(alloc, raw)? {
-        return Ok(Some(Broken { rule: 12, place }));
-    }
-    if let Some(place) = rule_13(alloc, raw)? {
-        return Ok(Some(Broken { rule: 13, place }));
-    }
-    judge_machines(alloc, raw)
+    judge_ports(alloc, raw)
 }

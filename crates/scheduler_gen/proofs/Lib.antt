@@ -1,4 +1,3 @@
 pub mod IsPlanOf
-pub mod HasOneRow
 pub mod RunSteps
 pub mod FirstOfPlan

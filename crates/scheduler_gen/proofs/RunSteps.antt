@@ -1,19 +1,11 @@
 -- Runs with one more entry.
-use Rattle.std.proofs.Common.{◌≡◌, ◌<◌, ◌≤◌, ◌+◌, ◌-◌, ◌⊎◌, ℕ, true, false, ◌==◌, ◌&&◌, nat_lt, nat_le, List, [], ◌∷◌, ◌++◌, length, take, drop, slice_get, Option, Some, None, refl, sym, ap, subst, ◌∙◌, inl, inr, arith, append_assoc, length-append, ◌↔◌, IsTrue, Bool}
-use Rattle.std.specs.Prelude.{IsSomeAnd}
-use Rattle.std.proofs.lemmas.Bool.{and_parts, eqb-true, ltb-true, ltb-false}
-use Rattle.std.specs.List.{list_all}
-use Rattle.std.specs.Cmp.Lexicographic.{pointwise}
-use Rattle.std.proofs.lemmas.List.{append-nil, length-replicate}
-use Rattle.domains.specs.Tables.{are_sizes}
-use Rattle.transition_table.specs.Transitions.{OfMachine, HasWidths, blank}
-use Rattle.transition_table.specs.declared.machine.Machine.{Machine}
+use Rattle.std.proofs.Common.{◌≡◌, ◌<◌, ◌≤◌, ◌+◌, ◌-◌, ◌⊎◌, ℕ, true, false, nat_lt, List, [], ◌∷◌, ◌++◌, length, refl, sym, ap, subst, ◌∙◌, inl, inr, arith, append_assoc, length-append, ◌↔◌, IsTrue, Bool}
+use Rattle.std.proofs.lemmas.Bool.{ltb-true, ltb-false}
+use Rattle.std.proofs.lemmas.List.{append-nil}
 use Rattle.transition_table.specs.declared.network.Network.{Network}
-use Rattle.transition_table.specs.declared.snapshot.Outcome.{Outcome}
 use Rattle.journals.specs.declared.entry.Entry.{Entry}
 use Rattle.journals.specs.declared.entry.TraceItem.{TraceItem}
 use Rattle.journals.specs.declared.entry.Pick.TheVariants.{Stop}
-use Rattle.journals.specs.Journals.{inputs_of, states_of}
 use Rattle.journals.specs.Laws.{FollowsBySteps, FollowsAtEnd}
 use Rattle.net_core.specs.Moments.{Moment}
 use Rattle.journals.specs.Schedules.{pick, IsPicked, Follows, IsSchedule}
@@ -64,41 +56,6 @@ pub longer_by_one : (mid new : Moment) → IsNext mid new
     → length new.journal ≡ length mid.journal + 1
 longer_by_one mid new next = ap (λ (m : Moment). length m.journal) next.1
     ∙ length-append mid.journal (next.0 ∷ [])
-
--- a machine has one variable for each input and each state variable
-pub count_of_vars : (net : Network) (m : ℕ) (machine : Machine)
-    → slice_get net.machines m ≡ Some machine
-    → length machine.vars ≡ length (inputs_of net m) + length (states_of net m)
-count_of_vars net m machine at =
-    let all = and_parts (are_sizes machine.vars
-    && length machine.vars == length machine.inputs + length machine.states
-    && list_all (nat_le 2) (take (length machine.inputs) machine.vars))
-    (pointwise (λ state size. nat_lt state.init size) machine.states
-    (drop (length machine.inputs) machine.vars)) machine.sized_vars in
-    let prefix = and_parts (are_sizes machine.vars
-    && length machine.vars == length machine.inputs + length machine.states)
-    (list_all (nat_le 2) (take (length machine.inputs) machine.vars)) all.0 in
-    let same = eqb-true (length machine.vars) (length machine.inputs + length machine.states)
-    (and_parts (are_sizes machine.vars)
-    (length machine.vars == length machine.inputs + length machine.states) prefix.0).1 in
-    rw at same
-
-pub blank_widths : (net : Network) (m : ℕ) (o : Outcome)
-    → OfMachine net m (λ machine. o ≡ blank machine)
-    → OfMachine net m (λ machine. HasWidths machine o)
-blank_widths net m o h = of (slice_get net.machines m) h
-  where
-    of : (found : Option Machine) → IsSomeAnd found (λ machine. o ≡ blank machine)
-        → IsSomeAnd found (λ machine. HasWidths machine o)
-    of None none = none
-    of (Some machine) same =
-        record {
-          next = ap (λ (o : Outcome). length o.next) same
-              ∙ length-replicate (length machine.states) 0;
-          outs =
-              ap (λ (o : Outcome). length o.outs) same
-              ∙ length-replicate (length machine.outputs) 0;
-        }
 
 -- nothing is picked after what was reached
 pub stops_here : (old mid new : Moment) (n count : ℕ) → GoesOn old mid n → new ≡ mid

@@ -1,3 +1,2 @@
 pub mod Picks
 pub mod Runs
-pub mod Single

@@ -1,21 +1,17 @@
 -- The vertices of the nodes that were left are the graph.
-use Rattle.std.proofs.Common.{◌≡◌, ⊎_elim, ℕ, zero, suc, ◌+◌, ◌-◌, ◌<◌, ◌≤◌, Bool, true, false, cond, ◌||◌, List, [], ◌∷◌, ◌++◌, map, length, take, drop, replicate, slice_get, slice_index, slice_set, Option, Some, None, refl, ap, sym, ◌∙◌, arith, eqb, ltb}
-use Rattle.std.proofs.lemmas.Bool.{cases_eq, cases_lt, eq-eqb, ne_eqb, lt-ltb, le-ltb, true≢false, or_left, or_right, or_cases}
+use Rattle.std.proofs.Common.{◌≡◌, ⊎_elim, ℕ, zero, suc, ◌+◌, ◌-◌, ◌<◌, ◌≤◌, Bool, true, false, cond, ◌||◌, List, ◌∷◌, ◌++◌, map, length, take, drop, replicate, slice_get, slice_index, slice_set, Option, Some, None, refl, ap, sym, ◌∙◌, arith, eqb, ltb, []}
+use Rattle.std.proofs.lemmas.Bool.{cases_eq, eq-eqb, ne_eqb, true≢false, or_left, or_right, or_cases}
 use Rattle.transition_table.specs.declared.machine.Machine.{Machine}
 use Rattle.transition_table.specs.NetworkFacts.{has}
-use Rattle.decision_diagram.specs.declared.node.Shape.TheVariants.{Inner}
 use Rattle.domains.specs.Orders.{place}
-use Rattle.decision_diagram.specs.Diagrams.{Node, Diagrams, inner_at, shape_of, kids_in, kids_of, AreReduced}
+use Rattle.decision_diagram.specs.Diagrams.{Node, Diagrams, inner_at, AreReduced}
 use Rattle.sgraph.specs.declared.vertex.Vertex.{Vertex}
-use Rattle.sgraph.specs.declared.vertex.Vertex.TheVariants.{Begin, Test, Assign, End}
+use Rattle.sgraph.specs.declared.vertex.Vertex.TheVariants.{Begin, Test, Assign}
 use Rattle.sgraph.specs.Graphs.{left_after}
 use Rattle.sgraph.specs.Building.{code_there, next_in, next_nodes, nodes_left, number_in, vertex_in, graph_of}
 use Rattle.sgraph.specs.inner.Marks.{turned}
-use Rattle.std.proofs.lemmas.Grind.{same_number_lists}
 use Rattle.sgraph.proofs.LeftAfter.{Closed, visit_after, closed_next}
-use Rattle.sgraph.proofs.NextNodes.{got, take_one, take_whole, inner_of, falls, turned_push}
-use Rattle.decision_diagram.proofs.ByVariable.{index_map}
-use Rattle.domains.proofs.AllCodes.{long_map}
+use Rattle.sgraph.proofs.NextNodes.{got, take_one, take_whole, falls, turned_push}
 use Rattle.decision_diagram.proofs.ListItems.{read_within}
 
 -- ---- lists
@@ -151,88 +147,7 @@ pub record KidNumbers (numbers kids list : List ℕ) (size code : ℕ) : Type 0 
   pub long : length list ≡ size
   pub each : (j : ℕ) → j < code → slice_index list j ≡ slice_index numbers (slice_index kids j)
 
-pub kids_start : (numbers kids list : List ℕ) (size : ℕ) → list ≡ replicate size 0
-    → KidNumbers numbers kids list size 0
-kids_start numbers kids list size is =
-    record {
-      long = ap (λ (xs : List ℕ). length xs) is ∙ long_zeros size;
-      each = λ j low. absurd (omega arith);
-    }
-
-pub kids_more : (numbers kids list more : List ℕ) (size code kid number : ℕ)
-    → KidNumbers numbers kids list size code → code < size → kid ≡ slice_index kids code
-    → slice_get numbers kid ≡ Some number → more ≡ slice_set list code number
-    → KidNumbers numbers kids more size (code + 1)
-kids_more numbers kids list more size code kid number ok low is_kid is_number e =
-    let own = ok.long in
-    record {
-      long = ap (λ (xs : List ℕ). length xs) e ∙ set_long list code number ∙ ok.long;
-      each = λ j less.
-          ap (λ (xs : List ℕ). slice_index xs j) e
-          ∙ ⊎_elim
-          (λ before.
-          set_there list code j number (λ same. absurd (omega arith)) ∙ ok.each j before)
-          (λ last.
-          let here : code ≡ j = omega arith in
-          ap (slice_index (slice_set list code number)) (sym here)
-          ∙ set_here list code number (omega arith)
-          ∙ sym (got numbers kid number is_number)
-          ∙ ap (slice_index numbers) (is_kid ∙ ap (slice_index kids) here))
-          (cases_lt j code);
-    }
-
-pub kids_end : (numbers kids list : List ℕ) (size code : ℕ) → KidNumbers numbers kids list size code
-    → length kids ≡ size → size ≤ code → list ≡ map (slice_index numbers) kids
-kids_end numbers kids list size code ok long high =
-    let own = ok.long in
-    let all = long_map (slice_index numbers) kids in
-    same_number_lists list (map (slice_index numbers) kids) (omega arith) (λ j low.
-    ok.each j (omega arith) ∙ sym (index_map (slice_index numbers) kids j (omega arith)))
-
 -- ---- vertices
-pub test_is : (s : Diagrams) (n k var : ℕ) (numbers list : List ℕ) → shape_of s k ≡ Inner var
-    → var < n → list ≡ map (slice_index numbers) (kids_of s k)
-    → Test var list ≡ vertex_in n (slice_index numbers) (inner_at s.nodes k)
-test_is s n k var numbers list shape low e =
-    let node = inner_of s k var shape in
-    let v : node.0.var ≡ var = node.2 in
-    let same : kids_of s k ≡ node.0.kids = ap kids_in node.1 in
-    ap (Test var) (e ∙ ap (map (slice_index numbers)) same)
-    ∙ ap (λ (x : ℕ). Test x (map (slice_index numbers) node.0.kids)) (sym v)
-    ∙ sym (ap (λ (b : Bool). cond b (Test node.0.var (map (slice_index numbers) node.0.kids))
-    (Assign (node.0.var - n) (code_there node.0.kids)
-    (slice_index numbers (slice_index node.0.kids (code_there node.0.kids)))))
-    (lt-ltb node.0.var n (omega arith)))
-    ∙ ap (vertex_in n (slice_index numbers)) (sym node.1)
-
-pub assign_is : (s : Diagrams) (n k var code kid next y : ℕ) (numbers : List ℕ)
-    → shape_of s k ≡ Inner var → n ≤ var → code ≡ code_there (kids_of s k)
-    → kid ≡ slice_index (kids_of s k) code → slice_get numbers kid ≡ Some next → y ≡ var - n
-    → Assign y code next ≡ vertex_in n (slice_index numbers) (inner_at s.nodes k)
-assign_is s n k var code kid next y numbers shape high is is_kid is_next is_y =
-    let node = inner_of s k var shape in
-    let v : node.0.var ≡ var = node.2 in
-    let same : kids_of s k ≡ node.0.kids = ap kids_in node.1 in
-    let c : code ≡ code_there node.0.kids = is ∙ ap code_there same in
-    let to : next ≡ slice_index numbers (slice_index node.0.kids (code_there node.0.kids)) =
-    sym (got numbers kid next is_next)
-    ∙ ap (slice_index numbers) (is_kid ∙ ap (λ (xs : List ℕ). slice_index xs code) same
-    ∙ ap (slice_index node.0.kids) c)
-    in
-    let z : y ≡ node.0.var - n = is_y ∙ ap (λ (x : ℕ). x - n) (sym v) in
-    ap (λ (x : ℕ). Assign x code next) z
-    ∙ ap (λ (x : ℕ). Assign (node.0.var - n) x next) c
-    ∙ ap (Assign (node.0.var - n) (code_there node.0.kids)) to
-    ∙ sym (ap (λ (b : Bool). cond b (Test node.0.var (map (slice_index numbers) node.0.kids))
-    (Assign (node.0.var - n) (code_there node.0.kids)
-    (slice_index numbers (slice_index node.0.kids (code_there node.0.kids)))))
-    (le-ltb node.0.var n (omega arith)))
-    ∙ ap (vertex_in n (slice_index numbers)) (sym node.1)
-
-pub end_is : (s : Diagrams) (n k : ℕ) (numbers : List ℕ) → inner_at s.nodes k ≡ None
-    → End ≡ vertex_in n (slice_index numbers) (inner_at s.nodes k)
-end_is s n k numbers e = ap (vertex_in n (slice_index numbers)) (sym e)
-
 pub one_vertex : (f : ℕ → Vertex) (left : List ℕ) (vertices more : List Vertex) (i k : ℕ)
     (v : Vertex) → vertices ≡ Begin 1 ∷ map f (turned (drop (i + 1) left))
     → slice_get left i ≡ Some k → v ≡ f k → more ≡ vertices ++ v ∷ []
@@ -245,13 +160,6 @@ one_vertex f left vertices more i k v is is_k is_v e =
     ∙ ap (λ (w : Vertex). Begin 1 ∷ (map f (turned (drop (suc i) left)) ++ w ∷ [])) is_v
     ∙ ap (λ (vs : List Vertex). Begin 1 ∷ vs) (sym (map_push f (turned (drop (suc i) left)) k))
     ∙ ap (λ (xs : List ℕ). Begin 1 ∷ map f (turned xs)) (sym (drop_one left i k is_k))
-
-pub no_vertices : (f : ℕ → Vertex) (left : List ℕ) (vertices none : List Vertex) (i : ℕ)
-    → i ≡ length left → none ≡ [] → vertices ≡ none ++ Begin 1 ∷ []
-    → vertices ≡ Begin 1 ∷ map f (turned (drop i left))
-no_vertices f left vertices none i at is e =
-    e ∙ ap (λ (vs : List Vertex). vs ++ Begin 1 ∷ []) is
-    ∙ ap (λ (xs : List ℕ). Begin 1 ∷ map f (turned xs)) (sym (drop_whole left i (omega arith)))
 
 -- ---- the whole
 pub all_nodes : (s : Diagrams) (n root bound : ℕ) → AreReduced s → (left : List ℕ)

@@ -11,7 +11,6 @@ pub mod IsGraph
 pub mod Below
 pub mod LeftAfter
 pub mod EdgesMakeGraph
-pub mod Nodes
 pub mod NumberedGraph
 pub mod Outcomes
 pub mod HasResults

@@ -1,6 +1,6 @@
 -- What follows on a node.
-use Rattle.std.proofs.Common.{◌≡◌, ◌≢◌, ⊎_elim, ℕ, zero, suc, ◌+◌, ◌-◌, ◌<◌, ◌≤◌, Bool, true, false, cond, ◌||◌, ◌==◌, List, [], ◌∷◌, ◌++◌, length, take, drop, replicate, slice_get, slice_index, slice_set, Option, Some, None, refl, ap, sym, subst, ◌∙◌, arith, eqb, ltb}
-use Rattle.std.proofs.lemmas.Bool.{cases_eq, cases_lt, cases_Bool, eq-eqb, ne_eqb, lt-ltb, le-ltb}
+use Rattle.std.proofs.Common.{◌≡◌, ◌≢◌, ⊎_elim, ℕ, zero, suc, ◌+◌, ◌-◌, ◌<◌, ◌≤◌, Bool, true, false, cond, ◌||◌, ◌==◌, List, ◌∷◌, ◌++◌, length, take, drop, replicate, slice_get, slice_index, slice_set, Option, Some, None, refl, ap, sym, subst, ◌∙◌, arith, eqb, ltb, []}
+use Rattle.std.proofs.lemmas.Bool.{cases_eq, cases_lt, cases_Bool, eq-eqb, ne_eqb, lt-ltb}
 use Rattle.transition_table.specs.NetworkFacts.{has}
 use Rattle.decision_diagram.specs.declared.node.Shape.{Shape}
 use Rattle.decision_diagram.specs.declared.node.Shape.TheVariants.{False, True, Inner}
@@ -94,15 +94,6 @@ outer_in : (n : ℕ) (o : Option Node) (shape : Shape) → shape_in n o ≡ shap
 outer_in n None shape e other = refl
 outer_in n (Some node) shape e other = absurd (other node.var (sym e))
 
-pub false_of : (s : Diagrams) (k : ℕ) → shape_of s k ≡ False → inner_at s.nodes k ≡ None
-false_of s k e = outer_in k (inner_at s.nodes k) False e (λ var f. cc)
-
-pub true_of : (s : Diagrams) (k : ℕ) → shape_of s k ≡ True → inner_at s.nodes k ≡ None
-true_of s k e = outer_in k (inner_at s.nodes k) True e (λ var f. cc)
-
-pub none_next : (s : Diagrams) (n k : ℕ) → inner_at s.nodes k ≡ None → next_nodes s n k ≡ []
-none_next s n k e = ap (next_in n) e
-
 pub test_next : (s : Diagrams) (n k var : ℕ) → shape_of s k ≡ Inner var → var < n
     → next_nodes s n k ≡ kids_of s k
 test_next s n k var e low =
@@ -113,20 +104,7 @@ test_next s n k var e low =
     (lt-ltb node.0.var n (omega arith))
     ∙ sym (ap kids_in node.1)
 
-pub result_next : (s : Diagrams) (n k var : ℕ) → shape_of s k ≡ Inner var → n ≤ var
-    → next_nodes s n k ≡ slice_index (kids_of s k) (code_there (kids_of s k)) ∷ []
-result_next s n k var e high =
-    let node = inner_of s k var e in
-    let v : node.0.var ≡ var = node.2 in
-    ap (next_in n) node.1
-    ∙ ap (λ (b : Bool). cond b node.0.kids (slice_index node.0.kids (code_there node.0.kids) ∷ []))
-    (le-ltb node.0.var n (omega arith))
-    ∙ sym (ap (λ (o : Option Node). slice_index (kids_in o) (code_there (kids_in o)) ∷ []) node.1)
-
 -- ---- the codes of what follows
-pub no_codes : (s : Diagrams) (n k : ℕ) → inner_at s.nodes k ≡ None → AreNext s n k 0 0
-no_codes s n k e = record { up = omega arith; within = omega arith; next = none_next s n k e }
-
 pub all_codes : (s : Diagrams) (n k var size : ℕ) → shape_of s k ≡ Inner var → var < n
     → length (kids_of s k) ≡ size → AreNext s n k 0 size
 all_codes s n k var size shape low long =
@@ -134,20 +112,6 @@ all_codes s n k var size shape low long =
       up = omega arith;
       within = omega arith;
       next = test_next s n k var shape low ∙ sym (take_whole (kids_of s k) (size - 0) (omega arith));
-    }
-
-pub one_code : (s : Diagrams) (n k var code : ℕ) → shape_of s k ≡ Inner var → n ≤ var
-    → code ≡ code_there (kids_of s k) → code < length (kids_of s k)
-    → AreNext s n k code (code + 1)
-one_code s n k var code shape high is low =
-    let one : 1 ≡ code + 1 - code = omega arith in
-    record {
-      up = omega arith;
-      within = omega arith;
-      next = result_next s n k var shape high
-          ∙ ap (λ (c : ℕ). slice_index (kids_of s k) c ∷ []) (sym is)
-          ∙ sym (one_item (kids_of s k) code low)
-          ∙ ap (λ (c : ℕ). take c (drop code (kids_of s k))) one;
     }
 
 kid_at : (s : Diagrams) (n k from end code kid : ℕ) → AreNext s n k from end → from ≤ code
@@ -169,17 +133,6 @@ code_is (kid ∷ kids) zero low zeros some =
 code_is (kid ∷ kids) (suc c) low zeros some =
     ap (λ (b : Bool). cond b (suc (code_there kids)) 0) (eq-eqb kid 0 (zeros 0 (omega arith)))
     ∙ ap suc (code_is kids c (omega arith) (λ j less. zeros (suc j) (omega arith)) some)
-
--- not all children are False
-pub not_all : (s : Diagrams) (k var : ℕ) → AreReduced s → shape_of s k ≡ Inner var
-    → ((j : ℕ) → j < length (kids_of s k) → slice_index (kids_of s k) j ≡ 0) → ⊥
-not_all s k var ok e zeros =
-    let node = inner_of s k var e in
-    let same : kids_of s k ≡ node.0.kids = ap kids_in node.1 in
-    (ok.nodes k node.0 node.1).varied 0
-    (λ j low. ap (λ (xs : List ℕ). slice_index xs j) (sym same)
-    ∙ zeros j (let l : length (kids_of s k)
-    ≡ length node.0.kids = ap (λ (xs : List ℕ). length xs) same in omega arith))
 
 -- what follows was made before
 inner_high : (s : Diagrams) (k : ℕ) (node : Node) → inner_at s.nodes k ≡ Some node → 2 ≤ k
@@ -342,24 +295,3 @@ no_mark (suc n) (suc k) low = no_mark n k (omega arith)
 pub long_marks : (n : ℕ) → length (replicate n false) ≡ n
 long_marks zero = refl
 long_marks (suc n) = ap suc (long_marks n)
-
-pub marks_none : (count : ℕ) (marks : List Bool) (left : List ℕ) → marks ≡ replicate count false
-    → left ≡ [] → Marks count marks left
-marks_none count marks left are none =
-    let long : length marks ≡ count = ap (λ (xs : List Bool). length xs) are ∙ long_marks count in
-    record {
-      long = omega arith;
-      each = λ k low. ap (λ (xs : List Bool). slice_get xs k) are ∙ no_mark count k (omega arith)
-          ∙ ap (λ (xs : List ℕ). Some (has (turned xs) k)) (sym none);
-    }
-
--- a node that follows was made before, so it is one
-pub kid_before : (s : Diagrams) (n k : ℕ) → AreReduced s → (from end code kid : ℕ)
-    → AreNext s n k from end → from ≤ code → code < end → kid ≡ slice_index (kids_of s k) code
-    → kid < k
-kid_before s n k ok from end code kid codes low high is =
-    let e = kid_at s n k from end code kid codes low high is in
-    let inside = read_within (next_nodes s n k) (code - from) kid e in
-    let at = got (next_nodes s n k) (code - from) kid e in
-    let less = falls s n ok k (code - from) inside in
-    omega arith

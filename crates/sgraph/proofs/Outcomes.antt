@@ -1,5 +1,5 @@
 -- An outcome by the codes of its results.
-use Rattle.std.proofs.Common.{◌≡◌, ℕ, zero, suc, ◌+◌, ◌<◌, Bool, false, ◌&&◌, ◌==◌, List, [], ◌∷◌, map, length, take, drop, replicate, slice_set, refl, ap, sym, ◌∙◌, arith, nat_le}
+use Rattle.std.proofs.Common.{◌≡◌, ℕ, zero, suc, ◌+◌, ◌<◌, Bool, false, ◌&&◌, ◌==◌, List, ◌∷◌, map, length, take, drop, replicate, slice_set, refl, ap, sym, ◌∙◌, arith, nat_le, []}
 use Rattle.std.specs.List.{list_all}
 use Rattle.std.specs.Cmp.Lexicographic.{pointwise}
 use Rattle.std.proofs.lemmas.Bool.{and_parts, eqb-true}
@@ -76,14 +76,6 @@ drop_more n [] = none n ∙ sym (none (1 + n))
     none (suc k) = refl
 drop_more n (x ∷ xs) = let e : 1 + n ≡ suc n = omega arith in
     ap (λ (k : ℕ). drop k (x ∷ xs)) (sym e)
-
--- where it is `go`
-pub gave_go : (o : Outcome) (code : ℕ) (codes : List ℕ) → length codes ≡ width_of o
-    → o ≡ outcome_with (length o.next) codes
-    → mk (code == 1) o.next o.outs ≡ outcome_with (length o.next) (slice_set codes 0 code)
-gave_go o code codes long is =
-    ap (λ (p : Outcome). mk (code == 1) p.next p.outs) is
-    ∙ sym (set_go (length o.next) code codes (omega arith))
 
 -- where it is a state variable's
 pub gave_next : (o : Outcome) (y k code : ℕ) (next : List ℕ) (codes : List ℕ)

@@ -8,7 +8,6 @@ use Rattle.sgraph_opt.specs.inner.Shrinking.{Shrinks}
 use Rattle.sgraph.specs.Facts.{IsGraph}
 use Rattle.sgraph_opt.specs.inner.Representatives.{renamed, IsTwin, IsRep, Standing}
 use Rattle.sgraph_opt.specs.inner.Renumbering.{Rises}
-use Rattle.sgraph.proofs.NextNodes.{got}
 use Rattle.sgraph.proofs.GraphOf.{set_here, set_there, set_long, long_zeros, map_numbers}
 use Rattle.decision_diagram.proofs.ListItems.{read_within}
 
@@ -21,23 +20,6 @@ pub take_one : (xs : List ℕ) (i x : ℕ) → slice_get xs i ≡ Some x
 take_one [] i x e = cc
 take_one (y ∷ ys) zero x e = let f : y ≡ x = cc in ap (λ (n : ℕ). n ∷ []) f
 take_one (y ∷ ys) (suc i) x e = ap (λ (zs : List ℕ). y ∷ zs) (take_one ys i x e)
-
-pub one_more : (reps one other : List ℕ) (i x y a b : ℕ)
-    → map (slice_index reps) (take i one) ≡ map (slice_index reps) (take i other)
-    → slice_get one i ≡ Some x → slice_get reps x ≡ Some a → slice_get other i ≡ Some y
-    → slice_get reps y ≡ Some b → a ≡ b
-    → map (slice_index reps) (take (i + 1) one) ≡ map (slice_index reps) (take (i + 1) other)
-one_more reps one other i x y a b so_far is_x is_a is_y is_b same =
-    let f : i + 1 ≡ suc i = omega arith in
-    ap (λ (n : ℕ). map (slice_index reps) (take n one)) f
-    ∙ ap (map (slice_index reps)) (take_one one i x is_x)
-    ∙ map_push (slice_index reps) (take i one) x
-    ∙ ap (λ (xs : List ℕ). xs ++ slice_index reps x ∷ []) so_far
-    ∙ ap (λ (n : ℕ). map (slice_index reps) (take i other) ++ n ∷ [])
-    (got reps x a is_a ∙ same ∙ sym (got reps y b is_b))
-    ∙ sym (map_push (slice_index reps) (take i other) y)
-    ∙ ap (map (slice_index reps)) (sym (take_one other i y is_y))
-    ∙ ap (λ (n : ℕ). map (slice_index reps) (take n other)) (sym f)
 
 pub same_renamed : (to other : ℕ → ℕ) (v : Vertex)
     → ((i : ℕ) → i < length (kids_of v)

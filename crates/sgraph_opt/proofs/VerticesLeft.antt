@@ -15,7 +15,7 @@ use Rattle.sgraph.proofs.LeftAfter.{Closed, closed_next, every_left}
 use Rattle.sgraph_opt.proofs.NumberedOf.{map_map}
 use Rattle.sgraph.proofs.IsGraph.{long_map}
 use Rattle.sgraph_opt.proofs.LeftBeyond.{visit_beyond}
-use Rattle.sgraph.proofs.GraphOf.{map_push, drop_one, drop_whole, map_numbers, map_members}
+use Rattle.sgraph.proofs.GraphOf.{map_push, drop_one, map_numbers, map_members}
 use Rattle.decision_diagram.proofs.ByVariable.{index_map}
 
 -- ---- children
@@ -50,11 +50,6 @@ one_vertex f left vertices more i k v is is_k is_v e =
     ∙ ap (λ (w : Vertex). map f (turned (drop (suc i) left)) ++ w ∷ []) is_v
     ∙ sym (map_push f (turned (drop (suc i) left)) k)
     ∙ ap (λ (xs : List ℕ). map f (turned xs)) (sym (drop_one left i k is_k))
-
-pub no_vertices : (f : ℕ → Vertex) (left : List ℕ) (vertices : List Vertex) (i : ℕ)
-    → i ≡ length left → vertices ≡ [] → vertices ≡ map f (turned (drop i left))
-no_vertices f left vertices i at e =
-    e ∙ ap (λ (xs : List ℕ). map f (turned xs)) (sym (drop_whole left i (omega arith)))
 
 every_front : (P : ℕ → Type 0) (xs ys : List ℕ) → Every P (xs ++ ys) → Every P xs × Every P ys
 every_front P [] ys all = (tt, all)

@@ -1,5 +1,5 @@
 -- Words for items that are made one after another.
-use Rattle.std.proofs.Common.{◌≡◌, ◌⊎◌, inl, inr, ⊎_elim, ℕ, zero, suc, ◌+◌, List, [], ◌∷◌, ◌++◌, length, slice_get, Some, refl, ap, sym, subst, ◌∙◌, arith, length-append}
+use Rattle.std.proofs.Common.{◌≡◌, ◌⊎◌, inl, inr, ⊎_elim, ℕ, zero, suc, ◌+◌, List, ◌∷◌, ◌++◌, length, slice_get, Some, refl, ap, sym, subst, ◌∙◌, arith, length-append, []}
 use Rattle.transition_table.specs.declared.machine.Machine.{Machine}
 use Rattle.transition_table.specs.declared.network.Network.{Network}
 use Rattle.task_code.specs.Listings.{label}
@@ -18,14 +18,6 @@ get_push (z ∷ zs) x y (suc k) h =
 pub record Made (net : Network) (m : Machine) (texts : List (List ℕ)) (count : ℕ) : Type 0 where
   pub long : length texts ≡ count
   pub each : AreLabels net m texts
-
-pub made_none : (net : Network) (m : Machine) (texts : List (List ℕ)) → texts ≡ []
-    → Made net m texts 0
-made_none net m texts none =
-    record {
-      long = ap (λ (xs : List (List ℕ)). length xs) none;
-      each = λ k text h. cc;
-    }
 
 pub made_more : (net : Network) (m : Machine) (texts more : List (List ℕ)) (none text : List ℕ)
     (count : ℕ) → Made net m texts count → none ≡ [] → text ≡ none ++ label net m count

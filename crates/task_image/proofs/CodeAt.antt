@@ -43,7 +43,7 @@ test_fails vars count k bytes var rest size NoMemory first there fails = tt
 test_fails vars count k bytes var rest size (Bad left) first there fails =
     test_given vars count k bytes var rest size (Err left) first there fails
 
-whole : (bytes : List ℕ) (width : ℕ) (r1 name r2 vars r3 results r4 : List ℕ) (c : List Instr)
+pub whole : (bytes : List ℕ) (width : ℕ) (r1 name r2 vars r3 results r4 : List ℕ) (c : List Instr)
     (after : List ℕ)
     → byte_at (within 1 24) bytes ≡ Ok (width, r1)
     → bytes_at width is_name r1 ≡ Ok (name, r2)
@@ -56,8 +56,50 @@ unfolding machine_at
 whole bytes width r1 name r2 vars r3 results r4 c after e1 e2 e3 e4 e5 = rw (e1, e2, e3, e4, e5)
     refl
 
+-- ---- where a field fails, the machine does
+
+pub fails_at_width : (bytes : List ℕ) (e : Stop)
+    → Fails e (byte_at (within 1 24) bytes) → Fails e (machine_at bytes)
+unfolding machine_at
+fails_at_width bytes NoMemory h = tt
+fails_at_width bytes (Bad left) h = rw h refl
+
+pub fails_at_name : (bytes : List ℕ) (width : ℕ) (r1 : List ℕ) (e : Stop)
+    → byte_at (within 1 24) bytes ≡ Ok (width, r1)
+    → Fails e (bytes_at width is_name r1) → Fails e (machine_at bytes)
+unfolding machine_at
+fails_at_name bytes width r1 NoMemory e1 h = tt
+fails_at_name bytes width r1 (Bad left) e1 h = rw (e1, h) refl
+
+pub fails_at_vars : (bytes : List ℕ) (width : ℕ) (r1 : List ℕ) (name r2 : List ℕ) (e : Stop)
+    → byte_at (within 1 24) bytes ≡ Ok (width, r1)
+    → bytes_at width is_name r1 ≡ Ok (name, r2)
+    → Fails e (sizes_at 24 r2) → Fails e (machine_at bytes)
+unfolding machine_at
+fails_at_vars bytes width r1 name r2 NoMemory e1 e2 h = tt
+fails_at_vars bytes width r1 name r2 (Bad left) e1 e2 h = rw (e1, e2, h) refl
+
+pub fails_at_results : (bytes : List ℕ) (width : ℕ) (r1 : List ℕ) (name r2 : List ℕ) (vars r3 : List ℕ) (e : Stop)
+    → byte_at (within 1 24) bytes ≡ Ok (width, r1)
+    → bytes_at width is_name r1 ≡ Ok (name, r2)
+    → sizes_at 24 r2 ≡ Ok (vars, r3)
+    → Fails e (sizes_at 25 r3) → Fails e (machine_at bytes)
+unfolding machine_at
+fails_at_results bytes width r1 name r2 vars r3 NoMemory e1 e2 e3 h = tt
+fails_at_results bytes width r1 name r2 vars r3 (Bad left) e1 e2 e3 h = rw (e1, e2, e3, h) refl
+
+pub fails_at_code : (bytes : List ℕ) (width : ℕ) (r1 : List ℕ) (name r2 : List ℕ) (vars r3 : List ℕ) (results r4 : List ℕ) (e : Stop)
+    → byte_at (within 1 24) bytes ≡ Ok (width, r1)
+    → bytes_at width is_name r1 ≡ Ok (name, r2)
+    → sizes_at 24 r2 ≡ Ok (vars, r3)
+    → sizes_at 25 r3 ≡ Ok (results, r4)
+    → Fails e (code_at vars results r4) → Fails e (machine_at bytes)
+unfolding machine_at
+fails_at_code bytes width r1 name r2 vars r3 results r4 NoMemory e1 e2 e3 e4 h = tt
+fails_at_code bytes width r1 name r2 vars r3 results r4 (Bad left) e1 e2 e3 e4 h = rw (e1, e2, e3, e4, h) refl
+
 -- so many of the bytes after the first n are all of them
-rest_whole : (bytes : List ℕ) (n : ℕ) → take (length bytes - n) (drop n bytes) ≡ drop n bytes
+pub rest_whole : (bytes : List ℕ) (n : ℕ) → take (length bytes - n) (drop n bytes) ≡ drop n bytes
 rest_whole bytes n =
     let long = length-drop n bytes in
     take_all (drop n bytes) (length bytes - n) (omega (arith, long))

@@ -52,15 +52,6 @@ joined_same (x ∷ a) b (y ∷ w) le =
     by true p q r e = e
     by false p q r e = refl
 
-pub too_short : (a b w : List ℕ) → length w < length a → is_same (a ++ b) w ≡ false
-too_short [] b w lt = absurd (omega (arith, lt))
-too_short (x ∷ a) b [] lt = refl
-too_short (x ∷ a) b (y ∷ w) lt = by (eqb x y) _ (too_short a b w (omega (arith, lt)))
-  where
-    by : (t p : Bool) → p ≡ false → (t && p) ≡ false
-    by true p e = e
-    by false p e = refl
-
 -- ---- outcomes by their codes
 fires_same : (a b : Bool) → ◌≡◌ {A = ℕ} (cond a 1 0) (cond b 1 0) → a ≡ b
 fires_same true true e = refl

@@ -14,7 +14,7 @@ use Rattle.task_image.specs.inner.Heads.{head_of, machine_of, joined, kept_head,
 use Rattle.task_image.specs.Images.{codes_of, kept, image_of, IsCodeOf, IsImage, IsImageMachine, AreStorable}
 use Rattle.domains.specs.Tables.{are_sizes}
 use Rattle.task_image.proofs.FieldReaders.{and_left, and_right}
-use Rattle.task_image.proofs.Prefixes.{none_some, some_is, take_next, take_all}
+use Rattle.task_image.proofs.Prefixes.{none_some, some_is, take_next}
 
 pub joined_length : (hs : List Head) (cs : List (List Instr)) → length hs ≡ length cs
     → length (joined hs cs) ≡ length cs
@@ -71,10 +71,6 @@ pub joined_of : (ms : List Machine) (heads : List Head) (cs codes : List (List I
 joined_of ms heads cs codes are same =
     ap (λ (hs : List Head). joined hs cs) are.are ∙ joined_kept ms cs
     ∙ ap (λ (ds : List (List Instr)). image_of ms ds) same
-
-pub kept_long : (ms : List Machine) → length (map kept_head ms) ≡ length ms
-kept_long [] = refl
-kept_long (m ∷ ms) = ap suc (kept_long ms)
 
 image_long : (ms : List Machine) (cs : List (List Instr)) → length cs ≡ length ms
     → length (image_of ms cs) ≡ length ms
@@ -142,10 +138,6 @@ image_is net codes heads s are few =
           (machine_is p.0 p.1 h (some_vars p.0 (s.inputs k p.0 p.2)) (s.codes k p.0 p.1 p.2 p.3));
     }
 
--- one more head
-pub heads_none : (ms : List Machine) → AreHeads (take 0 ms) []
-heads_none ms = record { are = refl; each = λ k h e. absurd (none_some h e) }
-
 last_of : {X : Type 0} (p : X → Type 0) (xs : List X) (x : X)
     → ((k : ℕ) (y : X) → slice_get xs k ≡ Some y → p y) → p x
     → (k : ℕ) (y : X) → slice_get (xs ++ x ∷ []) k ≡ Some y → p y
@@ -167,8 +159,3 @@ heads_next ms k heads m h are there is ok =
           ∙ ap (map kept_head) (sym (take_next ms k m there));
       each = last_of IsHead heads h are.each ok;
     })
-
-pub heads_done : (ms : List Machine) (k : ℕ) (heads : List Head) → length ms ≤ k
-    → AreHeads (take k ms) heads → AreHeads ms heads
-heads_done ms k heads le are =
-    subst (λ (ns : List Machine). AreHeads ns heads) (take_all ms k le) are

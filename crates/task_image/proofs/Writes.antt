@@ -85,10 +85,6 @@ pub put_done : {X : Type 0} (f : X → List ℕ) (base : List ℕ) (xs : List X)
 put_done {X} f base xs n out le put =
     (put.is ∙ ap (λ (ys : List X). base ++ flat_map f ys) (take_all xs n le), put.within)
 
-pub put_none : {X : Type 0} (f : X → List ℕ) (base : List ℕ) (xs : List X)
-    → length base ≤ LONG_FILE_MAX → ArePut f base xs 0 base
-put_none f base xs le = record { is = sym (append-nil base); within = le }
-
 -- ---- sizes, code, machines
 singles : (xs : List ℕ) → flat_map (λ x. x ∷ []) xs ≡ xs
 singles [] = refl

@@ -6,7 +6,8 @@ ghost use Rattle.task_code.specs.Codes.{Computes};
 ghost use Rattle.task_image.specs.inner.Heads.{machine_of};
 ghost use Rattle.task_image.specs.Images.{IsImage, codes_of as codes_in};
 ghost use Rattle.task_image.specs.Verifying.{AreAlike, IsFirstWrong, FitsAt, FoundAt, Verifies};
-ghost use Rattle.task_image.specs.inner.Walks.{AreLaws};
+ghost use Rattle.outcome_table.specs.Outcomes.{AreResultsOf};
+ghost use Rattle.task_image.specs.inner.Walks.{AreLaws, IsWalk};
 ghost use Rattle.task_machine.specs.Running.{CodeFits};
 ghost use Rattle.task_machine.specs.Tasks.{AreTasks};
 ghost use Rattle.transition_table.specs.Orders.{codes_of};
@@ -15,7 +16,7 @@ ghost use Rattle.transition_table.specs.Transitions.{IsDeterministic, AreDetermi
 use crate::finding::Verify;
 use crate::image::{Head, Image};
 use domains::{Codes, VarTable, first_codes, next_codes};
-use outcome_table::results_of;
+use outcome_table::{Results, results_of};
 use polis_base::NoMemory;
 use std::alloc::Global;
 use task_code::Code;
@@ -90,8 +91,31 @@ fn laws_of_walks()
     domains::laws();
 }
 
-// The least snapshot on which code doesn't give a machine's transition, if there is one. The
-// outcome of each snapshot is known beforehand, so that no row is read.
+// Walks through the snapshots from the first one on, and stops at one on which code doesn't give
+// the machine's transition. The outcome of each snapshot is known beforehand, so that no row is
+// read.
+fn is_wrong(code: &Code, m: &Machine, table: &Results, s: &mut Snapshot, o: &mut Outcome) -> bool
+    requires deterministic { IsDeterministic m.now }
+    requires fits { CodeFits m.now code.now }
+    requires table { AreResultsOf m.now table.now }
+    requires start { IsWalk m.now code.now s.old o.old 0 }
+    ensures wrong { IsTrue result → IsFirstWrong m.now code.now s.new }
+    ensures right { IsFalse result → Computes code.now m.now }
+{
+    laws_of_walks();
+    for i in 0..table.numbers.len() {
+        let number = *table.numbers.get(i);
+        let codes = table.outcomes.get(number);
+        run(code, s, o);
+        if !has_codes(o, codes) {
+            return true;
+        }
+        next_codes(&mut s.codes, &m.vars);
+    }
+    false
+}
+
+// The least snapshot on which code doesn't give a machine's transition, if there is one.
 fn first_wrong(alloc: Global, code: &Code, m: &Machine) -> Result<Option<Snapshot>, NoMemory>
     requires deterministic { IsDeterministic m.now }
     requires fits { CodeFits m.now code.now }
@@ -103,17 +127,11 @@ fn first_wrong(alloc: Global, code: &Code, m: &Machine) -> Result<Option<Snapsho
         codes: first_codes(alloc, &m.vars)?,
     };
     let mut o = m.blank(alloc)?;
-    laws_of_walks();
-    for i in 0..table.numbers.len() {
-        let number = *table.numbers.get(i);
-        let codes = table.outcomes.get(number);
-        run(code, &s, &mut o);
-        if !has_codes(&o, codes) {
-            return Ok(Some(s));
-        }
-        next_codes(&mut s.codes, &m.vars);
+    if is_wrong(code, m, &table, &mut s, &mut o) {
+        Ok(Some(s))
+    } else {
+        Ok(None)
     }
-    Ok(None)
 }
 
 // What is found of the machines of one number, of which there is one at least, where they don't

@@ -5,4 +5,3 @@ pub mod Layouts
 pub mod StepBounds
 pub mod CodeFits
 pub mod LoweredLaws
-pub mod Lamps

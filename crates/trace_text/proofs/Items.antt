@@ -12,7 +12,7 @@ use Rattle.journals.specs.declared.entry.TraceItem.TheVariants.{Event}
 use Rattle.journals.specs.Journals.{is_trace_item, same_party}
 use Rattle.trace_text.specs.Traces.{is_sent, is_sent_event}
 use Rattle.trace_text.proofs.IsSentEvent.{sent_event}
-use Rattle.journal_text.proofs.IsSame.{same_texts}
+use Rattle.domains.proofs.Names.{same_texts}
 
 -- an event of the network with one of its codes is an item where the environment sends it
 pub item_fits : (net : Network) (word : List ℕ) (e code : ℕ) (event : EventDecl)

@@ -4,7 +4,7 @@ use Rattle.std.proofs.lemmas.List.{take_all}
 use Rattle.trace_text.specs.Pieces.{runs, ends_word, trace_words, begins_comment, trace_lines, without_comment}
 use Rattle.std.proofs.lemmas.Bool.{and_parts, not-true}
 use Rattle.std.proofs.lemmas.List.Sums.{take_while-cons}
-use Rattle.journal_text.specs.Cursors.{lacks}
+use Rattle.polis_base.specs.Pieces.{lacks}
 
 -- none of the first k bytes passes
 abbrev pub NoneBefore : (ℕ → Bool) → List ℕ → ℕ → Type 0
@@ -46,17 +46,6 @@ pub pieces_uncut : (test : ℕ → Bool) (bytes : List ℕ) (k : ℕ) → 0 < le
     → NoneBefore test bytes k → runs test bytes ≡ bytes ∷ []
 pieces_uncut test bytes k some all before =
     pieces_whole test bytes some (λ j h. before j (omega arith))
-
--- an empty piece is no word, and another is one
-pub words_skip : (line word rest : List ℕ) → runs ends_word line ≡ word ∷ runs ends_word rest
-    → length word ≡ 0 → trace_words line ≡ trace_words rest
-words_skip line [] rest e h = rw e refl
-words_skip line (c ∷ word) rest e h = absurd (omega arith)
-
-pub words_take : (line word rest : List ℕ) → runs ends_word line ≡ word ∷ runs ends_word rest
-    → 0 < length word → trace_words line ≡ word ∷ trace_words rest
-words_take line [] rest e h = absurd (omega arith)
-words_take line (c ∷ word) rest e h = rw e refl
 
 -- ---- at the first mark
 

@@ -1,7 +1,7 @@
 -- Lines and words of a text.
 use Rattle.std.specs.Prelude.{ℕ, Bool, not, ◌||◌, ◌==◌, List, [], ◌∷◌, filter}
 use Rattle.std.specs.List.{take_while}
-use Rattle.journal_text.specs.Forms.{with_byte, is_nonempty}
+use Rattle.polis_base.specs.Pieces.{with_byte, is_nonempty}
 
 -- the pieces that the bytes which pass end; a last piece may lack its end, and no bytes have no
 -- piece

@@ -15,7 +15,7 @@ use Rattle.trace_text.specs.declared.fault.TraceKind.{TraceKind}
 use Rattle.trace_text.specs.declared.fault.TraceKind.TheVariants.{Shape, Event, Value, Many}
 use Rattle.trace_text.specs.declared.fault.TraceFault.{TraceFault}
 use Rattle.trace_text.specs.declared.fault.TraceFault.TheVariants.{Line}
-use Rattle.journal_text.specs.Items.{word_code}
+use Rattle.journals.specs.ValueWords.{word_code}
 
 -- the environment sends an event of this name
 abbrev pub is_sent : List ℕ → EventDecl → Bool

@@ -2,7 +2,7 @@
 ghost use Rattle.std.specs.Prelude.{◌≡◌, ◌<◌, ℕ, [], ◌∷◌, length, IfNone, IfSome};
 ghost use Rattle.trace_text.specs.Pieces.{ends_word, trace_lines, trace_words, without_comment, runs};
 
-use journal_text::next_piece;
+use polis_base::next_piece;
 
 fn ends_a_word(byte: u8) -> bool
     ensures { result ≡ ends_word byte }

@@ -5,8 +5,7 @@ ghost use Rattle.trace_text.specs.Traces.{env_event, sent_item, is_settle, item_
 use crate::cut::{next_word, text_of};
 use crate::fault::TraceKind;
 use crate::sent::Sent;
-use journal_text::code_of_word;
-use net_core::TraceItem;
+use journals::{TraceItem, code_of_word};
 
 // The item of an event of this name with the word after it.
 fn item_of_event(

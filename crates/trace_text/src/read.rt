@@ -9,7 +9,7 @@ use crate::cut::next_line;
 use crate::fault::{TraceFault, TraceKind};
 use crate::item::read_line;
 use crate::sent::Sent;
-use net_core::Trace;
+use journals::Trace;
 use std::alloc::Global;
 use transition_table::Network;
 

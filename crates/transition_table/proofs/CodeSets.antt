@@ -51,15 +51,6 @@ machine_sizes m =
     (and_parts (are_sizes m.vars && length m.vars == length m.inputs + length m.states
     && list_all (nat_le 2) (take (length m.inputs) m.vars)) _ m.sized_vars).0).0).0
 
-pub vars_length : (m : Machine) → length m.vars ≡ length m.inputs + length m.states
-vars_length m =
-    eqb-true (length m.vars) (length m.inputs + length m.states)
-    (and_parts (are_sizes m.vars) (length m.vars == length m.inputs + length m.states)
-    (and_parts (are_sizes m.vars && length m.vars == length m.inputs + length m.states)
-    (list_all (nat_le 2) (take (length m.inputs) m.vars))
-    (and_parts (are_sizes m.vars && length m.vars == length m.inputs + length m.states
-    && list_all (nat_le 2) (take (length m.inputs) m.vars)) _ m.sized_vars).0).0).1
-
 pub size_of_var : (m : Machine) (k size : ℕ) → slice_get m.vars k ≡ Some size → k < length m.vars
     → size ≤ 33
 size_of_var m k size at below =

@@ -23,7 +23,7 @@ use Rattle.wave_text.specs.declared.signal.Signal.{Signal}
 use Rattle.wave_text.specs.declared.signal.Signal.TheVariants.{Input, State, Loss}
 use Rattle.event_accounts.proofs.OneItemMore.{flat_map_push}
 use Rattle.journals.proofs.MomentsAfter.{place_dep, place_rea, state_dep, state_rea}
-use Rattle.net_core.proofs.Losses.{prefix_more}
+use Rattle.journals.proofs.EntriesAt.{prefix_more}
 
 -- ---- numbered lists
 

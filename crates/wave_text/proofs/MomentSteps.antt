@@ -25,17 +25,11 @@ use Rattle.wave_text.proofs.EntryChanges.{changes_are, filter_below, last_more, 
 use Rattle.wave_text.proofs.MachineSignals.{loss_signals_many, snapshot_signals_many, states_of_machine}
 use Rattle.event_accounts.proofs.InputsOf.{inputs_of_machine}
 use Rattle.event_accounts.proofs.OneItemMore.{flat_map_push}
-use Rattle.net_core.proofs.Losses.{prefix_more}
+use Rattle.journals.proofs.EntriesAt.{prefix_more}
 use Rattle.wave_text.proofs.Played.{signals_split}
 use Rattle.wave_text.proofs.CodesEmitted.{last_both}
 
 -- ---- the tables
-
-pub first_values : (net : Network) → AreValues net [] (replicate (length net.events) 0)
-first_values net = record {
-  many = length-replicate (length net.events) 0;
-  each = λ e below. get_or-replicate (length net.events) e 0 0 below;
-}
 
 value_after_is : (net : Network) (journal : List Entry) (x : Entry) (machine : Machine) (e : ℕ)
     → slice_get net.machines (machine_of x) ≡ Some machine

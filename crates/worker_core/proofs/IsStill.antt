@@ -1,5 +1,5 @@
 -- One step of a core that is left to itself.
-use Rattle.std.specs.Prelude.{◌≡◌, ℕ, ◌+◌, ◌<◌, ◌≤◌, Bool, true, false, is_some, unwrap_or, List, length, Option, Some, None}
+use Rattle.std.specs.Prelude.{◌≡◌, ℕ, ◌+◌, ◌<◌, ◌≤◌, Bool, false, is_some, unwrap_or, List, length, Option, Some, None}
 use Rattle.std.proofs.Common.{refl, sym, ap, ◌∙◌, subst, inl, inr, arith}
 use Rattle.std.proofs.lemmas.List.{get_or_past}
 use Rattle.std.proofs.lemmas.Bool.{false≢true, cases_lt}
@@ -10,25 +10,9 @@ use Rattle.journals.specs.declared.stamped.CoreStep.TheVariants.{React, Land, Fr
 use Rattle.worker_core.specs.Cores.{CoreState, hand_of, land, free, take_step}
 use Rattle.worker_core.specs.Facts.{IsCore}
 use Rattle.worker_core.specs.Running.{CoreMoment}
-use Rattle.worker_core.specs.inner.Turns.{Took, IsStill}
+use Rattle.worker_core.specs.inner.Turns.{IsStill}
 use Rattle.worker_core.proofs.AreParts.{may_react_inside}
 use Rattle.worker_core.proofs.IsCore.{some_when}
-
--- what `step` says where it was taken, and where it wasn't
-by_option : (old new : CoreMoment) (o : Option CoreState) (taken : Bool) → taken ≡ is_some o
-    → new ≡ record old { state = unwrap_or o old.state } → taken ≡ true
-    → (o ≡ Some new.state) × (new ≡ record old { state = new.state })
-by_option old new None taken says is done = absurd (false≢true (sym says ∙ done))
-by_option old new (Some next) taken says is done =
-    let same : new.state ≡ next = ap (λ (v : CoreMoment). v.state) is in
-    (ap Some (sym same), is ∙ ap (λ s. record old { state = s }) (sym same))
-
-pub was_taken : (old new : CoreMoment) (step : CoreStep) (taken : Bool)
-    → taken ≡ is_some (take_step old.net old.state step)
-    → new ≡ record old { state = unwrap_or (take_step old.net old.state step) old.state }
-    → taken ≡ true → Took old new (Some step)
-was_taken old new step taken says is done =
-    by_option old new (take_step old.net old.state step) taken says is done
 
 none_by : (old new : CoreMoment) (o : Option CoreState) (taken : Bool) → taken ≡ is_some o
     → new ≡ record old { state = unwrap_or o old.state } → taken ≡ false → (o ≡ None) × (new ≡ old)

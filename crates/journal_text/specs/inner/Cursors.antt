@@ -1,7 +1,7 @@
 -- What is left of a text that is walked piece by piece.
 use Rattle.std.specs.Prelude.{◌≡◌, ◌⊎◌, ℕ, ◌+◌, true, ◌∷◌, ◌++◌, length, drop, Option, Some, None, []}
 use Rattle.journal_text.specs.Forms.{Text, Texts}
-use Rattle.journal_text.specs.Cursors.{lacks}
+use Rattle.polis_base.specs.Pieces.{lacks}
 
 -- The place is the start of a word, and what stands before it lacks the mark.
 abbrev pub SkippedTo : ℕ → Text → ℕ → Type 0

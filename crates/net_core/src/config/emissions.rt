@@ -19,7 +19,7 @@ pub(crate) const NO_PLACE: u32 = u32::MAX;
 
 /// An event with its code that a machine has sent, and the receivers that wait for it: the m-th bit
 /// is set where the m-th machine does.
-#[derive(Clone, Copy, Debug)]
+#[derive(Clone, Copy)]
 pub(crate) struct Emission {
     pub(crate) from: u32,
     pub(crate) event: u32,

@@ -1,11 +1,6 @@
 -- What is declared with names that are names, and numbers of 32 bits.
 use Rattle.std.specs.Prelude.{Bool, ◌&&◌}
 use Rattle.std.specs.List.{list_all}
-use Rattle.net_reader.specs.declared.raw.RawValue.TheVariants as values
-use Rattle.net_reader.specs.declared.raw.RawShape.TheVariants as shapes
-use Rattle.net_reader.specs.declared.raw.RawCond.TheVariants as conds
-use Rattle.net_reader.specs.declared.raw.RawSource.TheVariants as sources
-use Rattle.net_reader.specs.declared.raw.RawAct.TheVariants as acts
 use Rattle.net_reader.specs.declared.raw.RawNet.{RawNet}
 use Rattle.net_reader.specs.Formed.{word_formed, num_formed, domain_formed, event_formed, machine_formed}
 

@@ -1,8 +1,9 @@
 -- What stays while a machine's order is sifted, and where it stands.
-use Rattle.std.specs.Prelude.{ℕ, ◌<◌, ◌≤◌, List, length}
+use Rattle.std.specs.Prelude.{◌≡◌, ℕ, ◌<◌, ◌≤◌, List, length}
 use Rattle.polis_base.specs.declared.limits.TheConstants.{SIFTED_SNAPSHOTS_MAX}
 use Rattle.domains.specs.Tables.{product}
 use Rattle.transition_table.specs.declared.machine.Machine.{Machine}
+use Rattle.transition_table.specs.Computed.{all_supports}
 use Rattle.transition_table.specs.Orders.{Allowed}
 use Rattle.transition_table.specs.Transitions.{IsDeterministic}
 use Rattle.char_function.specs.Supported.{AreSupports}
@@ -18,6 +19,7 @@ use Rattle.order_sift.specs.inner.Turns.{IsCounted}
 -- a deterministic machine of few snapshots with its supports, and what levels are counted from
 pub record IsSifting (m : Machine) (variables : List (List ℕ)) (points : Points) : Type 0 where
   pub sure : IsDeterministic m
+  pub lists : variables ≡ all_supports m
   pub supports : AreSupports m variables
   pub few : product m.vars ≤ SIFTED_SNAPSHOTS_MAX
   pub prepared : IsPrepared m points

@@ -4,7 +4,7 @@ use Rattle.transition_table.specs.declared.network.Network.{Network}
 use Rattle.task_code.specs.Listings.{Part}
 use Rattle.machine_compiler.specs.Parts.{AreRightParts}
 use Rattle.polis_words.specs.NetStem.{NetStemWords}
-use Rattle.polis_cli.specs.declared.product.Product.{Product}
+use Rattle.output_files.specs.declared.product.Product.{Product}
 use Rattle.polis_cli.specs.Compile.{compile_product}
 
 -- it is of right parts of the network's machines

@@ -4,7 +4,7 @@ use Rattle.transition_table.specs.declared.network.Network.{Network}
 use Rattle.machine_equiv.specs.Comparing.{SameTables}
 use Rattle.machine_equiv.specs.Runs.{HaveSameRuns}
 use Rattle.machine_equiv.specs.Shapes.{SameShape}
-use Rattle.polis_cli.specs.declared.product.Product.{Product}
+use Rattle.output_files.specs.declared.product.Product.{Product}
 use Rattle.polis_cli.specs.Equiv.{equiv_product}
 
 -- the networks are of one shape, no tables of them differ, and the product says so

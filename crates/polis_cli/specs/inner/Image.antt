@@ -13,7 +13,7 @@ use Rattle.task_image.specs.Verifying.{Verifies}
 use Rattle.polis_words.specs.declared.cause.Cause.{Cause}
 use Rattle.polis_words.specs.declared.cause.Cause.TheVariants.{ImageShape, ImageWrong, ImageLong}
 use Rattle.polis_words.specs.NetStem.{NetStemWords}
-use Rattle.polis_cli.specs.declared.product.Product.{Product}
+use Rattle.output_files.specs.declared.product.Product.{Product}
 use Rattle.polis_cli.specs.Image.{image_of_parts, image_product}
 use Rattle.polis_cli.specs.ImageFiles.{IsWrongText}
 

@@ -5,8 +5,9 @@ use Rattle.polis_words.specs.declared.cause.Cause.{Cause}
 use Rattle.polis_words.specs.declared.status.Status.{Status}
 use Rattle.polis_words.specs.declared.status.Status.TheVariants.{Refused}
 use Rattle.polis_words.specs.Lines.{cause_status}
-use Rattle.polis_cli.specs.declared.product.Product.{Product}
-use Rattle.polis_cli.specs.Meanings.{Meaning, is_finding}
+use Rattle.output_files.specs.declared.product.Product.{Product}
+use Rattle.polis_cli.specs.Meanings.{Meaning}
+use Rattle.input_files.specs.Failures.{is_finding}
 
 -- A product is made of files that are accepted, and of which nothing else is found. Where a file
 -- fails they aren't accepted, or that is found of them which the cause says, or the command may be

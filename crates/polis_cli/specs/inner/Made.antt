@@ -6,15 +6,11 @@ use Rattle.polis_words.specs.declared.cause.Failure.{Failure}
 use Rattle.polis_words.specs.declared.cause.Failure.TheVariants as failures
 use Rattle.polis_words.specs.declared.status.Status.TheVariants.{Illegal}
 use Rattle.polis_words.specs.Lines.{cause_status}
-use Rattle.polis_cli.specs.declared.product.Product.{Product}
-use Rattle.polis_cli.specs.Ends.{end_status}
-use Rattle.polis_cli.specs.Saves.{AreApart}
-use Rattle.polis_cli.specs.Meanings.{Meaning, MayEnd, explains_nothing, is_failure}
-
--- P of the name of the file that failed, of why, and of what explains it, unless memory ran out
-abbrev pub IfExplained : Failure → (List ℕ → Cause → List ℕ → Type 0) → Type 0
-IfExplained failures.NoMemory P = ⊤
-IfExplained (failures.File name cause more) P = P name.now cause more
+use Rattle.output_files.specs.declared.product.Product.{Product}
+use Rattle.output_files.specs.Ends.{end_status}
+use Rattle.output_files.specs.Saves.{AreApart}
+use Rattle.polis_cli.specs.Meanings.{Meaning, MayEnd}
+use Rattle.input_files.specs.Failures.{explains_nothing, is_failure, IfExplained}
 
 -- the command fails so of these files
 abbrev pub FailsAs : Meaning → Files → Failure → Type 0
@@ -38,22 +34,6 @@ abbrev pub IsMade : Meaning → Option Files → Result Product Failure → Type
 IsMade m told (Ok product) = IsMadeProduct m told product
 IsMade m told (Err failure) = IsMadeFailure m told failure
 
--- the file of this name fails, by what is told, nothing was found of files that are accepted, and E
--- is what is said of what explains it
-abbrev pub FileExplained : List ℕ → Option Files → (Files → Cause → Type 0)
-    → (Option Files → List ℕ → Cause → List ℕ → Type 0) → Failure → Type 0
-FileExplained name told P E failure = IfExplained failure (λ file cause more. ((file ≡ name)
-    × WhereTold told (λ files. P files cause) × IsTrue (is_failure true (cause_status cause)))
-    × E told file cause more)
-
--- one of several files fails so
-abbrev pub FilesExplained : Option Files → (Files → List ℕ → Cause → Type 0)
-    → (Option Files → List ℕ → Cause → List ℕ → Type 0) → Failure → Type 0
-FilesExplained told P E failure = IfExplained failure (λ name cause more.
-    (WhereTold told (λ files. P files name cause)
-    × IsTrue (is_failure true (cause_status cause)))
-    × E told name cause more)
-
 -- one of them fails, or the journal isn't legal
 abbrev pub JudgingExplained : Option Files → (Files → List ℕ → Cause → Type 0)
     → (Option Files → List ℕ → Cause → List ℕ → Type 0) → Failure → Type 0
@@ -62,12 +42,6 @@ JudgingExplained told P E failure = IfExplained failure (λ name cause more.
     × (IsTrue (is_failure true (cause_status cause)) ⊎ (cause_status cause ≡ Illegal)))
     × E told name cause more)
 
--- the same three, where nothing explains it
-abbrev pub FileFails : List ℕ → Option Files → (Files → Cause → Type 0) → Failure → Type 0
-FileFails name told P failure = FileExplained name told P explains_nothing failure
-
-abbrev pub FilesFail : Option Files → (Files → List ℕ → Cause → Type 0) → Failure → Type 0
-FilesFail told P failure = FilesExplained told P explains_nothing failure
-
+-- the same, where nothing explains it
 abbrev pub JudgingFails : Option Files → (Files → List ℕ → Cause → Type 0) → Failure → Type 0
 JudgingFails told P failure = JudgingExplained told P explains_nothing failure

@@ -6,7 +6,7 @@ use Rattle.journals.specs.declared.entry.TraceItem.{TraceItem}
 use Rattle.journals.specs.Legality.{Complete}
 use Rattle.journal_replay.specs.declared.judge.Verdict.{Verdict}
 use Rattle.journal_replay.specs.declared.judge.Verdict.TheVariants.{Legal as IsLegal, Illegal as IsIllegal}
-use Rattle.polis_cli.specs.JournalFiles.{LegalAndRising, IsFirstIllegal}
+use Rattle.input_files.specs.JournalFiles.{LegalAndRising, IsFirstIllegal}
 
 -- it is legal and rising, and complete or not; or the first entry up to which it isn't
 abbrev pub IsFound : Network → List TraceItem → List Entry → Option (List ℕ) → Verdict → Type 0

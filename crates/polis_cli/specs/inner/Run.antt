@@ -19,14 +19,14 @@ use Rattle.task_image.specs.declared.image.ImageMachine.{ImageMachine}
 use Rattle.task_image.specs.Images.{codes_of}
 use Rattle.polis_words.specs.declared.cause.Cause.{Cause}
 use Rattle.polis_words.specs.Run.{RunWords}
-use Rattle.polis_cli.specs.declared.product.Product.{Product}
+use Rattle.output_files.specs.declared.product.Product.{Product}
 use Rattle.polis_cli.specs.declared.ran.Ran.{Ran}
 use Rattle.polis_cli.specs.declared.texts.OtherTexts.{OtherTexts}
-use Rattle.polis_cli.specs.declared.inputs.RunInputs.{RunInputs}
+use Rattle.polis_cli.specs.declared.run_inputs.RunInputs.{RunInputs}
 use Rattle.polis_cli.specs.declared.tasks.Tasks.{Tasks as RunTasks}
 use Rattle.polis_cli.specs.ImageFiles.{HoldsImage, ImageFails}
-use Rattle.polis_cli.specs.Inputs.{HoldsNet, HoldsTrace}
-use Rattle.polis_cli.specs.Saves.{Save}
+use Rattle.input_files.specs.Inputs.{HoldsNet, HoldsTrace}
+use Rattle.output_files.specs.Saves.{Save}
 use Rattle.polis_cli.specs.Run.{IsRan, Tasks, Compiled, Given, listing_of, run_text, run_product}
 
 -- a journal that goes on from another one by what the scheduler picks, to its end or to the limit

@@ -7,15 +7,14 @@ ghost use Rattle.journals.specs.declared.entry.Entry.TheVariants.{Dep};
 ghost use Rattle.journals.specs.Journals.{IsTrace};
 ghost use Rattle.journals.specs.Legality.{Legal};
 
-use crate::inputs::Inputs;
 use crate::stamp::stamped_text;
 use crate::tests::inputs::{inputs_of, reactor_of, stepped, traced};
-use crate::tests::networks::TWO;
+use input_files::Inputs;
 use journal_replay::adopt;
 use net_core::{Admit, Config, Entry, Journal, Trace};
 use polis_base::{Bytes, NoMemory};
 use sample_networks::join::deterministic_network;
-use sample_networks::texts::{JOIN_TRACE, TWO_TRACE};
+use sample_networks::texts::{JOIN_TRACE, TWO, TWO_TRACE};
 use scheduler_gen::{Finished, complete, plan};
 use std::alloc::Global;
 use std::test::Fail;

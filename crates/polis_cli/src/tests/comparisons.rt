@@ -1,221 +1,154 @@
-// Whole calls that compare two networks, over files in memory.
-use crate::tests::cases::{call_line, cut, ends, expect, host_with, joined};
-use crate::tests::networks::{BELT, CLASH, ECHO, JOIN, LAMP, TWO, VALUE};
-use polis_base::{MemoryHost, NoMemory};
-use polis_words::Status;
-use std::alloc::Global;
-use std::process::Abort;
-use std::sync::Wait;
-use std::test::Fail;
-use std::thread::Threads;
-
-// A network is compared with its text in which one part stands in place of another. The changes of
-// a network are one text, with an empty line between each two: the part, what stands in its place,
-// and the line that is shown.
-
-const OF_VALUE: &str = "v = 5 => v = 5 => same 1
-
-v = 5 => v in { 5 } => same 1
-
-network val => network other => same 1
-
-priority 0 => priority 7 => same 1
-
-when v = 5 do emit hit => when v = 5 do emit hit when v = 5 do emit hit => same 1
-
-v = 5 => v = 6 => differ m v=5 ; -
-
-when v = 5 do emit hit =>  => differ m v=5 ; -
-
-0 .. 7 => 0 .. 8 => refused two shape
-
-network => network network => refused two syntax 8";
-
-const OF_TWO: &str = "priority 2 => priority 1 => same 2";
-
-const OF_LAMP: &str = "s : bit = off => s : bit = on => refused two shape
-
-{ off, on } => { on, off } => refused two shape
-
-press, s = off do => press do => differ lamp_ctl press ; s=on
-
-event press from env
+/// Comparisons of two networks. Most compare a network with its text, in which one part stands in
+/// place of another.
+pub const COMPARISONS: &str = r#"
+:: given
+:: file net @value.net
+:: call equiv net two
+:: case the same text
+:: change two @value.net v = 5 => v = 5
+:: shows Done same 1
+:: case a set of one value
+:: change two @value.net v = 5 => v in { 5 }
+:: shows Done same 1
+:: case another name of the network
+:: change two @value.net network val => network other
+:: shows Done same 1
+:: case another priority
+:: change two @value.net priority 0 => priority 7
+:: shows Done same 1
+:: case a row twice
+:: change two @value.net when v = 5 do emit hit => when v = 5 do emit hit when v = 5 do emit hit
+:: shows Done same 1
+:: case another value
+:: change two @value.net v = 5 => v = 6
+:: shows Differ differ m v=5 ; -
+:: case a row that does nothing
+:: change two @value.net when v = 5 do emit hit =>
+:: shows Differ differ m v=5 ; -
+:: case one more value of the domain
+:: change two @value.net 0 .. 7 => 0 .. 8
+:: shows Refused refused two shape
+:: case no sentence
+:: change two @value.net network => network network
+:: shows Refused refused two syntax 8
+:: given
+:: case another priority of the first machine
+:: file net @two.net
+:: change two @two.net priority 2 => priority 1
+:: call equiv net two
+:: shows Done same 2
+:: given
+:: file net @lamp.net
+:: call equiv net two
+:: case another initial value
+:: change two @lamp.net s : bit = off => s : bit = on
+:: shows Refused refused two shape
+:: case another order of values
+:: change two @lamp.net { off, on } => { on, off }
+:: shows Refused refused two shape
+:: case a condition less
+:: change two @lamp.net press, s = off do => press do
+:: shows Differ differ lamp_ctl press ; s=on
+:: case another order of events
+:: change two @lamp.net event press from env
 event light to env => event light to env
-event press from env => refused two shape";
-
-const OF_ECHO: &str =
-    "when v do s := s + 3, emit w = value v => when v, s = 0 do s := 3, emit w = value v
+event press from env
+:: shows Refused refused two shape
+:: given
+:: case a sum as eight rows
+:: file net @echo.net
+:: change two @echo.net when v do s := s + 3, emit w = value v => \
+when v, s = 0 do s := 3, emit w = value v
   when v, s = 1 do s := 4, emit w = value v
   when v, s = 2 do s := 5, emit w = value v
   when v, s = 3 do s := 6, emit w = value v
   when v, s = 4 do s := 7, emit w = value v
   when v, s = 5 do s := 0, emit w = value v
   when v, s = 6 do s := 1, emit w = value v
-  when v, s = 7 do s := 2, emit w = value v => same 1";
-
-const OF_BELT: &str = "when key_off, s = off do nothing
+  when v, s = 7 do s := 2, emit w = value v
+:: call equiv net two
+:: shows Done same 1
+:: given
+:: file net @belt.net
+:: call equiv net two
+:: case another order of rows
+:: change two @belt.net when key_off, s = off do nothing
   when key_off, s = wait do s := off => when key_off, s = wait do s := off
-  when key_off, s = off do nothing => same 2
-
-when belt_on, s = wait do s := off => when belt_on, key_on, s = wait do s := off
-  when belt_on, absent key_on, s = wait do s := off => same 2
-
-n = 4 do n := 5 => n = 4 do n := 6 => differ timer tick ; n=4";
-
-const EQUIV: &str = "equiv net two";
-
-// A host that holds two networks.
-fn host_of(alloc: Global, net: &str, two: &[u8]) -> Result<MemoryHost, NoMemory> {
-    host_with(alloc, &[("net", net.as_bytes()), ("two", two)])
-}
-
-// What a line that is shown answers.
-fn status_of(line: &str) -> Status {
-    if line.starts_with("same ") {
-        Status::Done
-    } else if line.starts_with("differ ") {
-        Status::Differ
-    } else {
-        Status::Refused
-    }
-}
-
-// Whether the call answers and shows what the line says.
-fn is_so(status: Status, shown: &[u8], line: &str) -> bool {
-    status == status_of(line) && shown.strip_suffix(b"\n") == Some(line.as_bytes())
-}
-
-// Whether a comparison of two networks shows this line.
-fn compares<T: Threads + Wait + Sync>(
-    rt: &T,
-    alloc: Global,
-    net: &str,
-    two: &[u8],
-    line: &str,
-) -> Result<bool, NoMemory> {
-    let mut host = host_of(alloc, net, two)?;
-    let status = call_line(rt, alloc, EQUIV, &mut host)?;
-    Ok(is_so(status, host.shown(), line))
-}
-
-fn parts_of(change: &str) -> Option<(&str, &str, &str)> {
-    match cut(change, " => ") {
-        Some((part, rest)) => match cut(rest, " => ") {
-            Some((other, line)) => Some((part, other, line)),
-            None => None,
-        },
-        None => None,
-    }
-}
-
-// Whether a comparison of a network with its text, where one part stands in place of another, shows
-// this line.
-fn compares_parts<T: Threads + Wait + Sync>(
-    rt: &T,
-    alloc: Global,
-    net: &str,
-    (part, other): (&str, &str),
-    line: &str,
-) -> Result<bool, NoMemory> {
-    match cut(net, part) {
-        Some((before, after)) => {
-            let two = joined(alloc, before.as_bytes(), other.as_bytes(), after.as_bytes())?;
-            compares(rt, alloc, net, two.as_slice(), line)
-        }
-        None => Ok(false),
-    }
-}
-
-// Whether a change is as it says.
-fn is_change<T: Threads + Wait + Sync>(
-    rt: &T,
-    alloc: Global,
-    net: &str,
-    change: &str,
-) -> Result<bool, NoMemory> {
-    match parts_of(change) {
-        Some((part, other, line)) => compares_parts(rt, alloc, net, (part, other), line),
-        None => Ok(false),
-    }
-}
-
-fn try_changes<T: Abort + Threads + Wait + Sync>(
-    rt: &T,
-    alloc: Global,
-    net: &str,
-    changes: &str,
-) -> Result<(), NoMemory> {
-    for (number, change) in changes.split("\n\n").enumerate() {
-        let is_right = is_change(rt, alloc, net, change)?;
-        expect(rt, is_right, number);
-    }
-    Ok(())
-}
-
-#[test]
-fn compares_a_network_with_its_changes(rt: HostRuntime) -> Result<(), Fail> {
-    try_changes(&rt, rt.alloc(), VALUE, OF_VALUE)?;
-    try_changes(&rt, rt.alloc(), TWO, OF_TWO)?;
-    try_changes(&rt, rt.alloc(), LAMP, OF_LAMP)?;
-    try_changes(&rt, rt.alloc(), ECHO, OF_ECHO)?;
-    try_changes(&rt, rt.alloc(), BELT, OF_BELT)?;
-    Ok(())
-}
-
-// Whether another network, and one that isn't accepted, are refused.
-fn refuses_others<T: Threads + Wait + Sync>(rt: &T, alloc: Global) -> Result<bool, NoMemory> {
-    let join = compares(rt, alloc, VALUE, JOIN.as_bytes(), "refused two shape")?;
-    let clash = "refused two conflict m 0 2 a b ; -";
-    let second = compares(rt, alloc, VALUE, CLASH.as_bytes(), clash)?;
-    let clash = "refused net conflict m 0 2 a b ; -";
-    let first = compares(rt, alloc, CLASH, VALUE.as_bytes(), clash)?;
-    Ok(join && second && first)
-}
-
-#[test]
-fn refuses_other_networks(rt: HostRuntime) -> Result<(), Fail> {
-    assert!(rt; refuses_others(&rt, rt.alloc())?);
-    Ok(())
-}
-
-// A second network, command lines over both, the call of the host that fails, if one does, and how
-// the call ends. What is refused stays refused where the show fails.
-const CALLS: &[(&str, &str, Option<u64>, Status, &str)] = &[
-    (VALUE, EQUIV, None, Status::Done, "same 1\n"),
-    (VALUE, "equiv net net", None, Status::Done, "same 1\n"),
-    (VALUE, "equiv net", None, Status::Usage, "usage\n"),
-    (VALUE, "equiv net two three", None, Status::Usage, "usage\n"),
-    (VALUE, "equiv net ", None, Status::Usage, "usage\n"),
-    (
-        VALUE,
-        "equiv net none",
-        None,
-        Status::Refused,
-        "refused none absent\n",
-    ),
-    (VALUE, EQUIV, Some(0), Status::ReadFault, "read fault net\n"),
-    (VALUE, EQUIV, Some(1), Status::ReadFault, "read fault two\n"),
-    (VALUE, EQUIV, Some(2), Status::WriteFault, ""),
-    (JOIN, EQUIV, Some(2), Status::Refused, ""),
-];
-
-// Whether a call over such a network and another one ends so.
-fn ends_over<T: Threads + Wait + Sync>(
-    rt: &T,
-    alloc: Global,
-    two: &str,
-    call: (&str, Option<u64>),
-    wanted: (Status, &str),
-) -> Result<bool, NoMemory> {
-    let mut host = host_of(alloc, VALUE, two.as_bytes())?;
-    ends(rt, alloc, &mut host, call, wanted)
-}
-
-#[test]
-fn ends_comparisons(rt: HostRuntime) -> Result<(), Fail> {
-    for (number, (two, line, fails, status, shown)) in CALLS.iter().enumerate() {
-        let is_right = ends_over(&rt, rt.alloc(), two, (line, *fails), (*status, shown))?;
-        expect(&rt, is_right, number);
-    }
-    Ok(())
-}
+  when key_off, s = off do nothing
+:: shows Done same 2
+:: case a row as two that tell a case apart
+:: change two @belt.net when belt_on, s = wait do s := off => \
+when belt_on, key_on, s = wait do s := off
+  when belt_on, absent key_on, s = wait do s := off
+:: shows Done same 2
+:: case another step of the timer
+:: change two @belt.net n = 4 do n := 5 => n = 4 do n := 6
+:: shows Differ differ timer tick ; n=4
+:: given
+:: note Another network, and one that isn't accepted.
+:: call equiv net two
+:: case another network
+:: file net @value.net
+:: file two @join.net
+:: shows Refused refused two shape
+:: case a conflict in the second
+:: file net @value.net
+:: file two @clash.net
+:: shows Refused refused two conflict m 0 2 a b ; -
+:: case a conflict in the first
+:: file net @clash.net
+:: file two @value.net
+:: shows Refused refused net conflict m 0 2 a b ; -
+:: given
+:: note Command lines over two networks, and calls of the host that fail. What is refused stays
+refused where the show fails.
+:: file net @value.net
+:: case two files of one text
+:: file two @value.net
+:: call equiv net two
+:: shows Done same 1
+:: case one file twice
+:: file two @value.net
+:: call equiv net net
+:: shows Done same 1
+:: case one file alone
+:: file two @value.net
+:: call equiv net
+:: shows Usage usage
+:: case three files
+:: file two @value.net
+:: call equiv net two three
+:: shows Usage usage
+:: case an empty name
+:: file two @value.net
+:: call equiv net ""
+:: shows Usage usage
+:: case a file that isn't there
+:: file two @value.net
+:: call equiv net none
+:: shows Refused refused none absent
+:: case the first file fails
+:: file two @value.net
+:: fail 0
+:: call equiv net two
+:: shows ReadFault read fault net
+:: faults 1 0
+:: case the second file fails
+:: file two @value.net
+:: fail 1
+:: call equiv net two
+:: shows ReadFault read fault two
+:: faults 1 0
+:: case the line of two that are the same fails
+:: file two @value.net
+:: fail 2
+:: call equiv net two
+:: shows WriteFault
+:: faults 0 1
+:: case the line of a refusal fails
+:: file two @join.net
+:: fail 2
+:: call equiv net two
+:: shows Refused
+:: faults 0 1
+"#;

@@ -2,13 +2,13 @@
 ghost use Rattle.journals.specs.Journals.{IsTrace};
 ghost use Rattle.transition_table.specs.Transitions.{AreDeterministic, HasWidths, IsSnapshot, OfMachine, Transition};
 
-use crate::inputs::Inputs;
 use crate::ran::run_alone;
 use crate::tests::gates::{Meeting, Outside};
 use crate::tests::inputs::inputs_of;
-use crate::tests::networks::{EVEN, LOOP};
+use crate::tests::runner::shared;
+use input_files::Inputs;
 use polis_base::NoMemory;
-use sample_networks::texts::{LOOP_TRACE, TWO_TRACE};
+use sample_networks::texts::{LOOP, LOOP_TRACE, TWO_TRACE};
 use std::alloc::Global;
 use std::sync::Wait;
 use std::sync::atomic::{AtomicU64, Ordering};
@@ -78,7 +78,7 @@ fn gathered_of_even<T: Threads + Wait + Sync>(
     alloc: Global,
     gate: &Outside,
 ) -> Result<(u64, u64), NoMemory> {
-    let inputs = inputs_of(alloc, EVEN, TWO_TRACE)?;
+    let inputs = inputs_of(alloc, shared(alloc, "even.net")?, TWO_TRACE)?;
     gathered(rt, alloc, &inputs, gate)
 }
 

@@ -1,21 +1,15 @@
 // Demos, over a host that holds no file, and the texts of one, reckoned outside by a script of the
 // definition.
-use crate::tests::cases::{call, expect};
+use crate::tests::runner::{call, expect_none};
 use event_buffer::OpenGate;
 use net_gen::{Generated, generate};
 use polis_base::{Bytes, MemoryHost, NoMemory};
 use polis_words::Status;
 use std::alloc::Global;
+use std::process::Abort;
 use std::sync::Wait;
 use std::test::Fail;
 use std::thread::Threads;
-
-const DEMOS: &[&[&str]] = &[
-    &["demo", "0"],
-    &["demo", "1"],
-    &["demo", "7"],
-    &["demo", "18446744073709551615"],
-];
 
 // Whether the first line of a text ends with `complete`.
 fn ends_complete(text: &[u8]) -> bool {
@@ -25,25 +19,58 @@ fn ends_complete(text: &[u8]) -> bool {
     }
 }
 
-// Whether a demo over a host without files is done, and what it shows is complete.
-fn is_done<T: Threads + Wait + Sync>(
+// A host without files after a demo, and how the demo ended.
+fn shown_by<T: Threads + Wait + Sync>(
     rt: &T,
     alloc: Global,
-    words: &[&str],
-) -> Result<bool, NoMemory> {
+    line: &str,
+) -> Result<(MemoryHost, Status), NoMemory> {
     let mut host = MemoryHost::new(alloc);
-    let status = call(rt, alloc, words, &mut host, &OpenGate)?;
+    let status = call(rt, alloc, line, &mut host, &OpenGate)?;
+    Ok((host, status))
+}
+
+// Whether a demo is done, and what it shows is complete.
+fn is_done<T: Threads + Wait + Sync>(rt: &T, alloc: Global, line: &str) -> Result<bool, NoMemory> {
+    let (host, status) = shown_by(rt, alloc, line)?;
     Ok(status == Status::Done && ends_complete(host.shown()))
+}
+
+// Whether two demos of one seed show the same.
+fn shows_the_same<T: Threads + Wait + Sync>(
+    rt: &T,
+    alloc: Global,
+    line: &str,
+) -> Result<bool, NoMemory> {
+    let (first, _) = shown_by(rt, alloc, line)?;
+    let (second, _) = shown_by(rt, alloc, line)?;
+    Ok(first.shown() == second.shown())
+}
+
+fn try_demos<T: Abort + Threads + Wait + Sync>(rt: &T, alloc: Global) -> Result<(), NoMemory> {
+    for line in DEMOS.split("\n") {
+        let is_done = is_done(rt, alloc, line)?;
+        expect_none(rt, line, if is_done { "" } else { "shown text" });
+    }
+    Ok(())
 }
 
 #[test]
 fn demos_are_complete(rt: HostRuntime) -> Result<(), Fail> {
-    for (number, words) in DEMOS.iter().enumerate() {
-        let is_done = is_done(&rt, rt.alloc(), words)?;
-        expect(&rt, is_done, number);
-    }
+    try_demos(&rt, rt.alloc())?;
     Ok(())
 }
+
+#[test]
+fn a_demo_shows_the_same_again(rt: HostRuntime) -> Result<(), Fail> {
+    assert!(rt; shows_the_same(&rt, rt.alloc(), "demo 7")?);
+    Ok(())
+}
+
+const DEMOS: &str = "demo 0
+demo 1
+demo 7
+demo 18446744073709551615";
 
 const FIRST_LINES: &str =
     "network demo version 1\ndomain d = 0 .. 7\nevent t0 from env\nevent e0 : d\nevent o0 to env\nevent t1 from env\n";

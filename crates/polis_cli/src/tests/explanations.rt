@@ -1,204 +1,573 @@
-// What `explain` shows of small texts, and of long ones.
-use crate::tests::cases::{Case, Repeated, cut, expect, read_only, text_of, tried};
-use crate::tests::explained_texts::CALLS;
-use crate::tests::networks::{CLASH, JOIN, LAMP, VALUE};
-use polis_base::NoMemory;
-use polis_words::Status;
-use std::alloc::Global;
-use std::process::Abort;
-use std::sync::Wait;
-use std::test::Fail;
-use std::thread::Threads;
-
-const NET: &[&str] = &["explain", "net"];
-
-const TRACE: &[&str] = &["explain", "net", "trc"];
-
-const JOURNAL: &[&str] = &["explain", "net", "trc", "jnl"];
-
-// The network that a part names, or the part.
-fn net_of(part: &str) -> &str {
-    if part == "LAMP\n" {
-        return LAMP;
-    }
-    if part == "JOIN\n" {
-        return JOIN;
-    }
-    if part == "CLASH\n" {
-        return CLASH;
-    }
-    if part == "VALUE\n" {
-        return VALUE;
-    }
-    part
-}
-
-// A text as it stands in its file.
-fn file_of(part: &str) -> &str {
-    match part.strip_suffix("~\n") {
-        Some(text) => text,
-        None => part,
-    }
-}
-
-fn status_of(shown: &str) -> Status {
-    if shown.starts_with("refused") {
-        return Status::Refused;
-    }
-    if shown.starts_with("illegal") {
-        return Status::Illegal;
-    }
-    Status::Done
-}
-
-// The call of one file.
-fn call_of_net<'a>(net: &'a str, shown: &'a str) -> Case<'a> {
-    Case {
-        trace: None,
-        ..read_only(NET, net, "", status_of(shown), shown)
-    }
-}
-
-// The call of two files.
-fn call_of_trace<'a>(net: &'a str, trace: &'a str, shown: &'a str) -> Case<'a> {
-    read_only(TRACE, net, trace, status_of(shown), shown)
-}
-
-// The call of three files.
-fn call_of_journal<'a>(net: &'a str, trace: &'a str, journal: &'a str, shown: &'a str) -> Case<'a> {
-    Case {
-        read_journal: Some(journal),
-        ..read_only(JOURNAL, net, trace, status_of(shown), shown)
-    }
-}
-
-// The call of a network text and the parts after it.
-fn call_of<'a>(net: &'a str, rest: &'a str) -> Case<'a> {
-    let Some((second, rest)) = cut(rest, "--\n") else {
-        return call_of_net(net, rest)
-    };
-    match cut(rest, "--\n") {
-        Some((third, shown)) => call_of_journal(net, second, file_of(third), shown),
-        None => call_of_trace(net, second, rest),
-    }
-}
-
-fn try_call<T: Abort + Threads + Wait + Sync>(
-    rt: &T,
-    alloc: Global,
-    call: &str,
-    number: usize,
-) -> Result<(), NoMemory> {
-    let (net, rest) = cut(call, "--\n").unwrap_or((call, ""));
-    expect(rt, !rest.is_empty(), number);
-    tried(rt, alloc, &call_of(net_of(net), rest), number)
-}
-
-#[test]
-fn explains_each_fault(rt: HostRuntime) -> Result<(), Fail> {
-    for (number, call) in CALLS.split("====\n").enumerate() {
-        try_call(&rt, rt.alloc(), call, number)?;
-    }
-    Ok(())
-}
-
-// Long texts of each of the three files, and what is shown: a fault in column 4,000,000, and one
-// text more than each limit allows.
-const LONG: &[(&[&str], Repeated<'_>, &str)] = &[
-    (
-        NET,
-        Repeated {
-            begin: "network",
-            part: "        ",
-            count: 499_999,
-            end: "%\n",
-        },
-        "refused net lex byte 3999999
-net:1:4000000: no token begins with this byte
-                                                                               %
+/// What `explain` shows, with a text for each sentence. A script wrote the texts and what is shown
+/// by the rules of explanations, from the texts and the byte places of their faults, and never ran
+/// the program.
+pub const EXPLANATIONS: &str = r#"
+:: given
+:: case no token begins with this byte (net:1:1)
+:: file net %
+:: call explain net
+:: shows Refused
+refused net lex byte 0
+net:1:1: no token begins with this byte
+%
+^
+:: case a name has at most 24 bytes
+:: file net network abcdefghijklmnopqrstuvwxy
+:: call explain net
+:: shows Refused
+refused net lex name 8
+net:1:9: a name has at most 24 bytes
+network abcdefghijklmnopqrstuvwxy
+        ^
+:: case a number is at most 4294967295
+:: file net network t version 4294967296
+:: call explain net
+:: shows Refused
+refused net lex number 18
+net:1:19: a number is at most 4294967295
+network t version 4294967296
+                  ^
+:: case no token begins with this byte (net:1:80)
+:: file net network                                                                        %
+:: call explain net
+:: shows Refused
+refused net lex byte 79
+net:1:80: no token begins with this byte
+network                                                                        %
                                                                                ^
-",
-    ),
-    (
-        NET,
-        Repeated {
-            begin: "",
-            part: "    ",
-            count: 1_048_576,
-            end: "\n",
-        },
-        "refused net long
-net: the file is longer than 4194304 bytes
-",
-    ),
-    (
-        NET,
-        Repeated {
-            begin: "network t version 1 event g from env",
-            part: " machine m priority 0 { input g }",
-            count: 65,
-            end: "",
-        },
-        "refused net rule 2 2157
-net:1:2158: a network has at most 64 domains, 256 events and 64 machines
- } machine m priority 0 { input g } machine m priority 0 { input g } machine m p
-                                                                             ^
-",
-    ),
-    (
-        TRACE,
-        Repeated {
-            begin: "",
-            part: "press\n\nsettle\n",
-            count: 5_000,
-            end: "# press\nsettle",
-        },
-        "refused trc line 15002 many
-trc:15002: a trace has at most 10000 items
-settle
-",
-    ),
-    (
-        JOURNAL,
-        Repeated {
-            begin: "polis journal 1\n",
-            part: "dep env m a\n",
-            count: 60_000,
-            end: "dep env m zz\n",
-        },
-        "refused jnl line 60002 many
-jnl:60002: a journal has at most 60000 entries
+:: case no token begins with this byte (net:1:81)
+:: file net network                                                                         %
+:: call explain net
+:: shows Refused
+refused net lex byte 80
+net:1:81: no token begins with this byte
+%
+^
+:: case no token begins with this byte (net:1:9)
+:: file net network\x09é # \x7f
+:: call explain net
+:: shows Refused
+refused net lex byte 8
+net:1:9: no token begins with this byte
+network ?? # ?
+        ^
+:: case no token begins with this byte (net:2:9)
+:: file net
+network t
+version %\x0d
+:: call explain net
+:: shows Refused
+refused net lex byte 18
+net:2:9: no token begins with this byte
+version %\x20
+        ^
+:: case the text is empty (net:1:1)
+:: file net
+:: call explain net
+:: shows Refused
+refused net syntax 0
+net:1:1: the text is empty
+
+^
+:: case the text is empty (net:2:1)
+:: file net # nothing
+:: call explain net
+:: shows Refused
+refused net syntax 10
+net:2:1: the text is empty
+
+^
+:: case no text begins with this
+:: file net domain
+:: call explain net
+:: shows Refused
+refused net syntax 0
+net:1:1: no text begins with this
+domain
+^
+:: case the text ends too early, after version
+:: file net network t version
+:: call explain net
+:: shows Refused
+refused net syntax 18
+net:2:1: the text ends too early, after version
+
+^
+:: case this can't stand after 1
+:: file net network t version 1 ,
+:: call explain net
+:: shows Refused
+refused net syntax 20
+net:1:21: this can't stand after 1
+network t version 1 ,
+                    ^
+:: case this can't stand after {
+:: file net
+network t version 1
+machine m priority 0 { }
+:: call explain net
+:: shows Refused
+refused net syntax 43
+net:2:24: this can't stand after {
+machine m priority 0 { }
+                       ^
+:: case the machine has no such input or state variable (net:9:8)
+:: file net
+network lamp version 1
+domain bit = { off, on }
+event press from env
+event light to env
+machine lamp_ctl priority 1 {
+  input press
+  output light
+  state s : bit = off
+  when pres, s = off do s := on, emit light
+}
+:: call explain net
+:: shows Refused
+refused net rule 15 176
+net:9:8: the machine has no such input or state variable
+  when pres, s = off do s := on, emit light
+       ^
+:: case the text ends too early, after light
+:: file net
+network lamp version 1
+domain bit = { off, on }
+event press from env
+event light to env
+machine lamp_ctl priority 1 {
+  input press
+  output light
+  state s : bit = off
+  when press, s = off do s := on, emit light
+
+:: call explain net
+:: shows Refused
+refused net syntax 215
+net:11:1: the text ends too early, after light
+
+^
+:: case the version is 1 or 2
+:: file net network t version 3 event g from env machine m priority 0 { input g }
+:: call explain net
+:: shows Refused
+refused net rule 1 18
+net:1:19: the version is 1 or 2
+network t version 3 event g from env machine m priority 0 { input g }
+                  ^
+:: case an earlier declaration of this kind has this name
+:: file net network t version 1 event g from env event h from env event g machine m priority 0 { \
+input g, h }
+:: call explain net
+:: shows Refused
+refused net rule 3 60
+net:1:61: an earlier declaration of this kind has this name
+network t version 1 event g from env event h from env event g machine m priority
+                                                            ^
+:: case the names of a domain differ, and a range doesn't go down
+:: file net network t version 1 domain d = 7 .. 3 event g from env machine m priority 0 { input g }
+:: call explain net
+:: shows Refused
+refused net rule 4 36
+net:1:37: the names of a domain differ, and a range doesn't go down
+network t version 1 domain d = 7 .. 3 event g from env machine m priority 0 { in
+                                    ^
+:: case a domain has at most 32 values
+:: file net network t version 1 domain d = 0 .. 4294967295 event g from env machine m priority 0 \
+{ input g }
+:: call explain net
+:: shows Refused
+refused net rule 5 27
+net:1:28: a domain has at most 32 values
+network t version 1 domain d = 0 .. 4294967295 event g from env machine m priori
+                           ^
+:: case no domain has this name
+:: file net network t version 1 event g from env machine m priority 0 { input g, z state s : d = 0 }
+:: call explain net
+:: shows Refused
+refused net rule 6 81
+net:1:82: no domain has this name
+ d = 0 }
+ ^
+:: case no event has this name
+:: file net network t version 1 event g from env machine m priority 0 { input z }
+:: call explain net
+:: shows Refused
+refused net rule 7 66
+net:1:67: no event has this name
+network t version 1 event g from env machine m priority 0 { input z }
+                                                                  ^
+:: case an earlier input, output or state variable of the machine has this name
+:: file net network t version 1 event g from env machine m priority 0 { input g, g }
+:: call explain net
+:: shows Refused
+refused net rule 8 69
+net:1:70: an earlier input, output or state variable of the machine has this name
+network t version 1 event g from env machine m priority 0 { input g, g }
+                                                                     ^
+:: case a machine has at most 16 inputs, 16 outputs, 8 state variables and 512 rows
+:: file net network t version 1 domain d = 0 .. 0 event g from env machine m priority 256 { input \
+g state s0 : d = 0 state s1 : d = 0 state s2 : d = 0 state s3 : d = 0 state s4 : d = 0 state s5 : \
+d = 0 state s6 : d = 0 state s7 : d = 0 state s8 : d = 0 }
+:: call explain net
+:: shows Refused
+refused net rule 9 63
+net:1:64: a machine has at most 16 inputs, 16 outputs, 8 state variables and 512 rows
+network t version 1 domain d = 0 .. 0 event g from env machine m priority 256 {\x20
+                                                               ^
+:: case a priority is at most 255
+:: file net network t version 1 event g from env machine m priority 256 { input g }
+:: call explain net
+:: shows Refused
+refused net rule 10 56
+net:1:57: a priority is at most 255
+network t version 1 event g from env machine m priority 256 { input g }
+                                                        ^
+:: case an event has one sender, a machine or the environment
+:: file net network t version 1 event g from env machine m priority 0 { input g output g }
+:: call explain net
+:: shows Refused
+refused net rule 11 75
+net:1:76: an event has one sender, a machine or the environment
+network t version 1 event g from env machine m priority 0 { input g output g }
+                                                                           ^
+:: case no machine sends this event, and it isn't from env
+:: file net network t version 1 event g from env event p machine m priority 0 { input g, p }
+:: call explain net
+:: shows Refused
+refused net rule 12 43
+net:1:44: no machine sends this event, and it isn't from env
+network t version 1 event g from env event p machine m priority 0 { input g, p }
+                                           ^
+:: case no machine reads this event, and it isn't to env
+:: file net network t version 1 event g from env event p machine m priority 0 { input g output p }
+:: call explain net
+:: shows Refused
+refused net rule 13 43
+net:1:44: no machine reads this event, and it isn't to env
+network t version 1 event g from env event p machine m priority 0 { input g outp
+                                           ^
+:: case this is no value of the variable's domain
+:: file net network t version 1 domain d = 1 .. 2 event g from env machine m priority 0 { input g \
+state s : d = 0 }
+:: call explain net
+:: shows Refused
+refused net rule 14 100
+net:1:101: this is no value of the variable's domain
+put g state s : d = 0 }
+                    ^
+:: case the machine has no such input or state variable (net:1:162)
+:: file net network t version 1 domain d = { x, y } event v : d from env event g from env event p \
+: d to env machine m priority 0 { input v, g output p state s : d = x when p do nothing }
+:: call explain net
+:: shows Refused
+refused net rule 15 161
+net:1:162: the machine has no such input or state variable
+ p do nothing }
+ ^
+:: case a state variable stands before = or in, an event without a domain doesn't
+:: file net network t version 1 domain d = { x, y } event v : d from env event g from env event p \
+: d to env machine m priority 0 { input v, g output p state s : d = x when g, absent s do nothing \
+}
+:: call explain net
+:: shows Refused
+refused net rule 16 171
+net:1:172: a state variable stands before = or in, an event without a domain doesn't
+ g, absent s do nothing }
+           ^
+:: case this is no value of the domain
+:: file net network t version 1 domain d = { x, y } event v : d from env event g from env event p \
+: d to env machine m priority 0 { input v, g output p state s : d = x when v in { x, z } do \
+nothing }
+:: call explain net
+:: shows Refused
+refused net rule 17 171
+net:1:172: this is no value of the domain
+ v in { x, z } do nothing }
+           ^
+:: case emit takes an output of the machine and := a state variable, each at most once in a row
+:: file net network t version 1 domain d = { x, y } event v : d from env event g from env event p \
+: d to env machine m priority 0 { input v, g output p state s : d = x when g do s := x, emit p = \
+y, s := y }
+:: call explain net
+:: shows Refused
+refused net rule 18 186
+net:1:187: emit takes an output of the machine and := a state variable, each at most once in a row
+ g do s := x, emit p = y, s := y }
+                          ^
+:: case the value is missing, not wanted, or not of the domain
+:: file net network t version 1 domain d = { x, y } event v : d from env event g from env event p \
+: d to env machine m priority 0 { input v, g output p state s : d = x when g do emit p }
+:: call explain net
+:: shows Refused
+refused net rule 19 171
+net:1:172: the value is missing, not wanted, or not of the domain
+ g do emit p }
+           ^
+:: case a machine has at most 65536 snapshots
+:: file net network t version 1 domain a = 0 .. 21 domain b = 0 .. 17 domain c = 0 .. 2 domain d \
+= 0 .. 4 event p from env event q : a from env event r : b from env machine m priority 0 { input \
+p, q, r state s : c = 0 state t : d = 0 state u : d = 0 }
+:: call explain net
+:: shows Refused
+refused net rule 20 161
+net:1:162: a machine has at most 65536 snapshots
+ m priority 0 { input p, q, r state s : c = 0 state t : d = 0 state u : d = 0 }
+ ^
+:: case only an input with a domain stands after value
+:: file net network t version 2 domain e = 0 .. 3 domain d = { x, y } event v : d from env event \
+g from env event p : d to env machine m priority 0 { input v, g output p state s : d = x when g \
+do emit p = value g }
+:: call explain net
+:: shows Refused
+refused net rule 21 199
+net:1:200: only an input with a domain stands after value
+ate s : d = x when g do emit p = value g }
+                                       ^
+:: case the row's conditions don't say that this input is present
+:: file net network t version 2 domain d = 0 .. 1 event v : d from env event w : d to env machine \
+m priority 0 { input v output w when absent v do emit w = value v }
+:: call explain net
+:: shows Refused
+refused net rule 22 150
+net:1:151: the row's conditions don't say that this input is present
+chine m priority 0 { input v output w when absent v do emit w = value v }
+                                                                      ^
+:: case this input has another domain
+:: file net network t version 2 domain e = 0 .. 3 domain d = { x, y } event v : d from env event \
+g from env event p : d to env machine m priority 0 { input v, g output p state s : d = x state r \
+: e = 0 when v = x do r := value v }
+:: call explain net
+:: shows Refused
+refused net rule 23 215
+net:1:216: this input has another domain
+ate s : d = x state r : e = 0 when v = x do r := value v }
+                                                       ^
+:: case a sum adds to the variable that it sets
+:: file net network t version 2 domain e = 0 .. 3 domain d = { x, y } event v : d from env event \
+g from env event p : d to env machine m priority 0 { input v, g output p state s : d = x state r \
+: d = x when g do s := r + 1 }
+:: call explain net
+:: shows Refused
+refused net rule 24 205
+net:1:206: a sum adds to the variable that it sets
+ate s : d = x state r : d = x when g do s := r + 1 }
+                                             ^
+:: case what is added is below the domain's size
+:: file net network t version 2 domain e = 0 .. 3 domain d = { x, y } event v : d from env event \
+g from env event p : d to env machine m priority 0 { input v, g output p state s : d = x when g \
+do s := s + 2 }
+:: call explain net
+:: shows Refused
+refused net rule 25 193
+net:1:194: what is added is below the domain's size
+ate s : d = x when g do s := s + 2 }
+                                 ^
+:: case row 0 of machine m is enabled on a b ; -
+:: file net @clash.net
+:: call explain net
+:: shows Refused
+refused net conflict m 0 2 a b ; -
+net:8:8: row 0 of machine m is enabled on a b ; -
+  when a do emit c
+       ^
+net:10:8: row 2 is too, with another result
+  when a, b do nothing
+       ^
+:: case a line has an event, an event and its value, or settle
+:: file net @lamp.net
+:: file trc settle press
+:: call explain net trc
+:: shows Refused
+refused trc line 1 shape
+trc:1: a line has an event, an event and its value, or settle
+settle press
+:: case this is no event from the environment
+:: file net @lamp.net
+:: file trc
+press
+\x09foo\x0d
+:: call explain net trc
+:: shows Refused
+refused trc line 2 event
+trc:2: this is no event from the environment
+ foo\x20
+:: case the value is missing, not wanted, or not of the event's domain
+:: file net @lamp.net
+:: file trc press 1
+:: call explain net trc
+:: shows Refused
+refused trc line 1 value
+trc:1: the value is missing, not wanted, or not of the event's domain
+press 1
+:: case line 1 is polis journal 1 or polis journal 2, with its line end
+:: file net @join.net
+:: file trc
+:: file jnl polis journal 1\
+:: call explain net trc jnl
+:: shows Refused
+refused jnl line 1 header
+jnl:1: line 1 is polis journal 1 or polis journal 2, with its line end
+polis journal 1
+:: case nothing stands after the last line
+:: file net @join.net
+:: file trc
+:: file jnl
+polis journal 1
+end 0 limit
+x\
+:: call explain net trc jnl
+:: shows Refused
+refused jnl line 3 after
+jnl:3: nothing stands after the last line
+x
+:: case the last line, end K complete or end K limit, is missing
+:: file net @join.net
+:: file trc
+:: file jnl
+polis journal 1
+dep env m a
+:: call explain net trc jnl
+:: shows Refused
+refused jnl line 3 end
+jnl:3: the last line, end K complete or end K limit, is missing
+:: case this is no line of a journal, or its line end is missing
+:: file net @join.net
+:: file trc
+:: file jnl
+polis journal 1
+dep env\x09m a
+:: call explain net trc jnl
+:: shows Refused
+refused jnl line 2 shape
+jnl:2: this is no line of a journal, or its line end is missing
+dep env?m a
+:: case a stamp is from 1 to 1099511627776
+:: file net @join.net
+:: file trc
+:: file jnl
+polis journal 2
+@0 dep env m a
+:: call explain net trc jnl
+:: shows Refused
+refused jnl line 2 stamp
+jnl:2: a stamp is from 1 to 1099511627776
+@0 dep env m a
+:: case a name is missing, not known here, or not in its place
+:: file net @join.net
+:: file trc
+:: file jnl
+polis journal 1
 dep env m zz
-",
-    ),
-];
-
-// The call in which the last file that is named has this text.
-fn long_call<'a>(words: &[&str], text: &'a str, shown: &'a str) -> Case<'a> {
-    if words.len() == 2 {
-        return call_of_net(text, shown);
-    }
-    if words.len() == 3 {
-        return call_of_trace(LAMP, text, shown);
-    }
-    call_of_journal(JOIN, "a\n", text, shown)
-}
-
-fn try_long<T: Abort + Threads + Wait + Sync>(
-    rt: &T,
-    alloc: Global,
-    words: &[&str],
-    (repeated, shown): (&Repeated<'_>, &str),
-    number: usize,
-) -> Result<(), NoMemory> {
-    let text = text_of(alloc, repeated)?;
-    tried(rt, alloc, &long_call(words, text.as_str(), shown), number)
-}
-
-#[test]
-fn explains_faults_of_long_texts(rt: HostRuntime) -> Result<(), Fail> {
-    for (number, (words, repeated, shown)) in LONG.iter().enumerate() {
-        try_long(&rt, rt.alloc(), words, (repeated, shown), number)?;
-    }
-    Ok(())
-}
+end 1 limit
+:: call explain net trc jnl
+:: shows Refused
+refused jnl line 2 name
+jnl:2: a name is missing, not known here, or not in its place
+dep env m zz
+:: case a value is missing, not wanted, or not of its domain
+:: file net @value.net
+:: file trc
+:: file jnl
+polis journal 1
+dep env m v=8
+end 1 limit
+:: call explain net trc jnl
+:: shows Refused
+refused jnl line 2 value
+jnl:2: a value is missing, not wanted, or not of its domain
+dep env m v=8
+:: case this isn't the number of entries
+:: file net @join.net
+:: file trc
+:: file jnl
+polis journal 2
+@1 dep env m a
+end 0 limit
+:: call explain net trc jnl
+:: shows Refused
+refused jnl line 3 count
+jnl:3: this isn't the number of entries
+end 0 limit
+:: case its sender doesn't owe its receiver this delivery next
+:: file net @lamp.net
+:: file trc press
+:: file jnl
+polis journal 2
+@1 dep env lamp_ctl press
+@2 dep env lamp_ctl press
+end 2 limit
+:: call explain net trc jnl
+:: shows Illegal
+illegal 1
+jnl:3: its sender doesn't owe its receiver this delivery next
+@2 dep env lamp_ctl press
+:: case nothing came to this machine since its last reaction
+:: file net @lamp.net
+:: file trc press
+:: file jnl
+polis journal 2
+@1 idle lamp_ctl : - ; s=off
+end 1 limit
+:: call explain net trc jnl
+:: shows Illegal
+illegal 0
+jnl:2: nothing came to this machine since its last reaction
+@1 idle lamp_ctl : - ; s=off
+:: case this isn't what the machine reads here
+:: file net @lamp.net
+:: file trc press
+:: file jnl
+polis journal 2
+@1 dep env lamp_ctl press
+@2 idle lamp_ctl : press ; s=on
+end 2 limit
+:: call explain net trc jnl
+:: shows Illegal
+illegal 1
+jnl:3: this isn't what the machine reads here
+@2 idle lamp_ctl : press ; s=on
+:: case this isn't what the machine's table gives
+:: file net @lamp.net
+:: file trc press
+:: file jnl
+polis journal 2
+@1 dep env lamp_ctl press
+@2 fire lamp_ctl : press ; s=off -> s=on ; -
+end 2 limit
+:: call explain net trc jnl
+:: shows Illegal
+illegal 1
+jnl:3: this isn't what the machine's table gives
+@2 fire lamp_ctl : press ; s=off -> s=on ; -
+:: case the stamp isn't above those that it comes after
+:: file net @lamp.net
+:: file trc press
+:: file jnl
+polis journal 2
+@2 dep env lamp_ctl press
+@2 fire lamp_ctl : press ; s=off -> s=on ; light
+end 2 complete
+:: call explain net trc jnl
+:: shows Illegal
+illegal 1
+jnl:3: the stamp isn't above those that it comes after
+@2 fire lamp_ctl : press ; s=off -> s=on ; light
+:: case accepted machines 1 events 2
+:: file net @lamp.net
+:: call explain net
+:: shows Done
+accepted machines 1 events 2
+machine lamp_ctl snapshots 4 rows 1
+:: case accepted items 1
+:: file net @lamp.net
+:: file trc press
+:: call explain net trc
+:: shows Done accepted items 1
+:: case legal 2 complete
+:: file net @lamp.net
+:: file trc press
+:: file jnl @pressed.jnl
+:: call explain net trc jnl
+:: shows Done legal 2 complete
+"#;

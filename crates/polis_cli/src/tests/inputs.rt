@@ -4,8 +4,7 @@ ghost use Rattle.std.specs.Prelude.{◌≡◌, IfOk};
 ghost use Rattle.journals.specs.Journals.{IsTrace};
 ghost use Rattle.transition_table.specs.Transitions.{AreDeterministic};
 
-use crate::accept::network_in;
-use crate::inputs::Inputs;
+use input_files::{Inputs, network_in};
 use net_core::Trace;
 use polis_base::NoMemory;
 use std::alloc::Global;

@@ -1,7 +1,10 @@
-// Listings of the compiled networks of the tests, worked out from the rules of the texts.
-
-/// The listing of the lamp.
-pub const LAMP_LISTING: &str = "polis listing 1
+/// Texts that several cases name: listings of compiled networks, worked out from the rules of the
+/// texts, the image of the lamp (the magic, version 1, one machine, its name, the sizes of two
+/// variables and of three results, six instructions: two tests, three sets, a halt), two networks,
+/// and what runs save and show.
+pub const SHARED: &str = r#"
+:: text lamp.lst
+polis listing 1
 machine lamp_ctl
 order in press, st s, go, to s, out light
 diagram 8 8
@@ -21,10 +24,8 @@ code 6
 4 set out light 1
 5 halt
 end
-";
-
-/// The listing of a join of two events.
-pub const JOIN_LISTING: &str = "polis listing 1
+:: text join.lst
+polis listing 1
 machine m
 order in a, in b, go, out c
 diagram 6 6
@@ -42,10 +43,8 @@ code 5
 3 set out c 1
 4 halt
 end
-";
-
-/// The listing of a machine that waits for a value.
-pub const VALUE_LISTING: &str = "polis listing 1
+:: text value.lst
+polis listing 1
 machine m
 order in v, go, out hit
 diagram 5 5
@@ -61,10 +60,8 @@ code 4
 2 set out hit 1
 3 halt
 end
-";
-
-/// The listing of two machines that read one event.
-pub const TWO_LISTING: &str = "polis listing 1
+:: text two.lst
+polis listing 1
 machine a
 order in x, go, out ya
 diagram 5 5
@@ -94,10 +91,8 @@ code 4
 2 set out yb 1
 3 halt
 end
-";
-
-/// The listing of a machine that reads what it emits.
-pub const LOOP_LISTING: &str = "polis listing 1
+:: text loop.lst
+polis listing 1
 machine m
 order in x, st c, in go, to c, go, out x
 diagram 16 13
@@ -129,10 +124,8 @@ code 13
 11 set out x 1
 12 halt
 end
-";
-
-/// The listing of two machines that go on for ever.
-pub const PONG_LISTING: &str = "polis listing 1
+:: text pong.lst
+polis listing 1
 machine a
 order in go, in q, go, out p
 diagram 6 6
@@ -164,12 +157,11 @@ code 4
 2 set out q 1
 3 halt
 end
-";
-
-/// The listing of the seat belt controller and its timer.
-pub const BELT_LISTING: &str = "polis listing 1
+:: text belt.lst
+polis listing 1
 machine belt
-order in key_off, in belt_on, st s, in end10, in end5, in key_on, go, to s, out start, out alarm_on, out alarm_off
+order in key_off, in belt_on, st s, in end10, in end5, in key_on, go, to s, out start, out \
+alarm_on, out alarm_off
 diagram 41 28
 vertices 22
 0 begin 1
@@ -275,10 +267,8 @@ code 29
 27 set to n 2
 28 halt
 end
-";
-
-/// The listing of a machine that passes a value on.
-pub const ECHO_LISTING: &str = "polis listing 1
+:: text echo.lst
+polis listing 1
 machine m
 order in v, out w, go, st s, to s
 diagram 29 22
@@ -340,4 +330,87 @@ code 34
 32 set to s 4
 33 halt
 end
-";
+:: text lamp.img
+PIMG\x01\x01\x08lamp_ctl\x02\x02\x02\x03\x02\x03\x02\
+\x00\x00\x00\x06\
+\x01\x00\x00\x00\x00\x05\x00\x00\x00\x01\
+\x01\x01\x00\x00\x00\x02\x00\x00\x00\x05\
+\x02\x00\x01\x02\x01\x02\x02\x02\x01\x00\
+:: text even.net
+network two version 1
+event x from env
+event ya to env
+event yb to env
+machine a priority 1 {
+  input x
+  output ya
+  when x do emit ya
+}
+machine b priority 1 {
+  input x
+  output yb
+  when x do emit yb
+}
+:: text open_row.net
+network t version 1 event g from env machine a priority 0 { input g when g do\
+:: text pressed.jnl
+polis journal 2
+@1 dep env lamp_ctl press
+@2 fire lamp_ctl : press ; s=off -> s=on ; light
+end 2 complete
+:: text pressed.shown
+entries 2 complete
+lost 0
+gathered 0 adopted 0
+machine lamp_ctl vertices 7 code 6 tries 1 steps 6
+:: text joined.jnl
+polis journal 2
+@1 dep env m a
+@2 dep env m a
+@3 dep env m b
+@4 fire m : a b ; - -> - ; c
+end 4 complete
+:: text joined_1.jnl
+polis journal 1
+dep env m a
+dep env m a
+dep env m b
+fire m : a b ; - -> - ; c
+end 4 complete
+:: text looped.jnl
+polis journal 2
+@1 dep env m go
+@2 fire m : go ; c=0 -> c=1 ; x
+@3 dep m m x
+@4 fire m : x ; c=1 -> c=2 ; x
+@5 dep m m x
+@6 fire m : x ; c=2 -> c=3 ; -
+end 6 complete
+:: text played.jnl
+polis journal 2
+@1 dep env a go
+@2 fire a : go ; - -> - ; p
+@3 dep a b p
+@4 fire b : p ; - -> - ; q
+@5 dep b a q
+@6 fire a : q ; - -> - ; p
+@7 dep a b p
+@8 fire b : p ; - -> - ; q
+@9 dep b a q
+@10 fire a : q ; - -> - ; p
+end 10 limit
+:: text even.jnl
+polis journal 2
+@1 dep env a x
+@1 dep env b x
+@2 fire a : x ; - -> - ; ya
+@2 fire b : x ; - -> - ; yb
+end 4 complete
+:: text even.shown
+entries 4 complete
+lost 0
+gathered 4 adopted 4
+machine a vertices 5 code 4 tries 1 steps 4
+machine b vertices 5 code 4 tries 1 steps 4
+:: text end
+"#;

@@ -1,22 +1,26 @@
-// Orders of variables and results with the sizes of diagrams, worked out by hand.
-//
-// A size is the sum over the places of the order. At each place, fix what stands before it in every
-// possible way: of the different functions that are left, those count that change with what
-// stands at the place. So a result counts where it has one code, and a variable of one code never.
-use crate::tests::cases::{COMPILE, Case, DONE, try_cases};
-use std::test::Fail;
-
-// No row: each result has one code, so 1 + 1, and nothing depends on the input.
-const IDLE: &str = "network t version 1
+/// Orders of variables and results with the sizes of diagrams.
+pub const ORDERS: &str = r#"
+:: given
+:: note Orders of variables and results with the sizes of diagrams, worked out by hand.
+:: note A size is the sum over the places of the order. At each place, fix what stands before it
+in every possible way: of the different functions that are left, those count that change
+with what stands at the place. So a result counts where it has one code, and a variable of
+one code never.
+:: file trc press
+:: call compile net o
+:: case no row
+:: note No row: each result has one code, so 1 + 1, and nothing depends on the input.
+:: file net
+network t version 1
 event a from env
 event c to env
 machine m priority 0 {
   input a
   output c
 }
-";
-
-const IDLE_LISTING: &str = "polis listing 1
+:: shows Done machine m vertices 2 code 1
+:: holds o.lst
+polis listing 1
 machine m
 order go, out c, in a
 diagram 2 2
@@ -26,10 +30,10 @@ vertices 2
 code 1
 0 halt
 end
-";
-
-// The state variable has one value: 1 + 2 + 2 + 2 + 0, since the input decides each result.
-const ONE_VALUE: &str = "network t version 1
+:: case a state variable of one value
+:: note The state variable has one value: 1 + 2 + 2 + 2 + 0, since the input decides each result.
+:: file net
+network t version 1
 domain u = { only }
 event a from env
 event c to env
@@ -39,9 +43,9 @@ machine m priority 0 {
   state s : u = only
   when a do s := only, emit c
 }
-";
-
-const ONE_VALUE_LISTING: &str = "polis listing 1
+:: shows Done machine m vertices 6 code 5
+:: holds o.lst
+polis listing 1
 machine m
 order in a, go, to s, out c, st s
 diagram 7 7
@@ -59,12 +63,12 @@ code 5
 3 set out c 1
 4 halt
 end
-";
-
-// Where v and b are present, the output gets v's value. In the first order v, b, go, w the size is
-// 1 + 2 + 3 + 3: two values of v let b decide, and three outcomes are left. In the order b, v, w,
-// go it is 1 + 1 + 3 + 2, and no single move makes that smaller.
-const COPIER: &str = "network t version 2
+:: case a copy where two are present
+:: note Where v and b are present, the output gets v's value. In the first order v, b, go, w the
+size is 1 + 2 + 3 + 3: two values of v let b decide, and three outcomes are left. In the
+order b, v, w, go it is 1 + 1 + 3 + 2, and no single move makes that smaller.
+:: file net
+network t version 2
 domain d = 0 .. 1
 event v : d from env
 event b from env
@@ -74,9 +78,9 @@ machine m priority 0 {
   output w
   when v, b do emit w = value v
 }
-";
-
-const COPIER_LISTING: &str = "polis listing 1
+:: shows Done machine m vertices 7 code 7
+:: holds o.lst
+polis listing 1
 machine m
 order in b, in v, out w, go
 diagram 9 7
@@ -97,11 +101,11 @@ code 7
 5 set go 1
 6 halt
 end
-";
-
-// The same with nine more inputs, on which nothing depends: 3,072 snapshots, so that the first
-// order stays.
-const WIDE_COPIER: &str = "network t version 2
+:: case a copy with nine more inputs
+:: note The same with nine more inputs, on which nothing depends: 3,072 snapshots, so that the
+first order stays.
+:: file net
+network t version 2
 domain d = 0 .. 1
 event v : d from env
 event b from env
@@ -120,9 +124,9 @@ machine m priority 0 {
   output w
   when v, b do emit w = value v
 }
-";
-
-const WIDE_COPIER_LISTING: &str = "polis listing 1
+:: shows Done machine m vertices 9 code 9
+:: holds o.lst
+polis listing 1
 machine m
 order in v, in b, go, out w, in e0, in e1, in e2, in e3, in e4, in e5, in e6, in e7, in e8
 diagram 9 9
@@ -147,11 +151,11 @@ code 9
 7 set out w 1
 8 halt
 end
-";
-
-// 16 inputs, which fire together: 65,536 snapshots. Each of them decides where those before it are
-// present, and then each result has one of two codes: 16 + 2 + 2.
-const ALL: &str = "network t version 1
+:: case 16 inputs together
+:: note 16 inputs, which fire together: 65,536 snapshots. Each of them decides where those before
+it are present, and then each result has one of two codes: 16 + 2 + 2.
+:: file net
+network t version 1
 event e0 from env
 event e1 from env
 event e2 from env
@@ -174,11 +178,12 @@ machine m priority 0 {
   output c
   when e0, e1, e2, e3, e4, e5, e6, e7, e8, e9, e10, e11, e12, e13, e14, e15 do emit c
 }
-";
-
-const ALL_LISTING: &str = "polis listing 1
+:: shows Done machine m vertices 20 code 19
+:: holds o.lst
+polis listing 1
 machine m
-order in e0, in e1, in e2, in e3, in e4, in e5, in e6, in e7, in e8, in e9, in e10, in e11, in e12, in e13, in e14, in e15, go, out c
+order in e0, in e1, in e2, in e3, in e4, in e5, in e6, in e7, in e8, in e9, in e10, in e11, in \
+e12, in e13, in e14, in e15, go, out c
 diagram 20 20
 vertices 20
 0 begin 1
@@ -222,47 +227,4 @@ code 19
 17 set out c 1
 18 halt
 end
-";
-
-const COMPILED: &[Case<'_>] = &[
-    Case {
-        words: COMPILE,
-        net: Some(IDLE),
-        listing: Some(IDLE_LISTING),
-        shown: "machine m vertices 2 code 1\n",
-        ..DONE
-    },
-    Case {
-        words: COMPILE,
-        net: Some(ONE_VALUE),
-        listing: Some(ONE_VALUE_LISTING),
-        shown: "machine m vertices 6 code 5\n",
-        ..DONE
-    },
-    Case {
-        words: COMPILE,
-        net: Some(COPIER),
-        listing: Some(COPIER_LISTING),
-        shown: "machine m vertices 7 code 7\n",
-        ..DONE
-    },
-    Case {
-        words: COMPILE,
-        net: Some(WIDE_COPIER),
-        listing: Some(WIDE_COPIER_LISTING),
-        shown: "machine m vertices 9 code 9\n",
-        ..DONE
-    },
-    Case {
-        words: COMPILE,
-        net: Some(ALL),
-        listing: Some(ALL_LISTING),
-        shown: "machine m vertices 20 code 19\n",
-        ..DONE
-    },
-];
-
-#[test]
-fn orders_and_sizes_are_those_worked_out(rt: HostRuntime) -> Result<(), Fail> {
-    try_cases(&rt, rt.alloc(), COMPILED)
-}
+"#;

@@ -1,8 +1,8 @@
 // Networks in the printed layout, printed as they were read.
-use crate::tests::cases::expect;
-use crate::tests::networks::{BELT, CLASH, ECHO, JOIN, LAMP, LOOP, PONG, TWO, VALUE};
+use crate::tests::runner::expect_none;
 use net_reader::{print_network, read_network};
 use polis_base::{Bytes, NoMemory};
+use sample_networks::texts::{BELT, CLASH, ECHO, JOIN, LAMP, LOOP, PONG, TWO, VALUE};
 use std::alloc::Global;
 
 // A sentence of no version that is accepted, with each form of version 1.
@@ -63,7 +63,8 @@ const TEXTS: &[&str] = &[
 
 #[test]
 fn networks_print_as_they_were_read(rt: HostRuntime) {
-    for (number, text) in TEXTS.iter().enumerate() {
-        expect(&rt, comes_back(rt.alloc(), text), number);
+    for text in TEXTS {
+        let comes_back = comes_back(rt.alloc(), text);
+        expect_none(&rt, text, if comes_back { "" } else { "printed text" });
     }
 }

@@ -1,200 +1,116 @@
-// Whole calls that judge journals, over files in memory, as tables.
-use crate::tests::cases::{
-    Case, DONE, MIGRATE, REPLAY, UNREAD, UNWRITTEN, cut, replay, tried, try_cases,
-};
-use crate::tests::networks::{JOIN, TWO};
-use polis_base::NoMemory;
-use polis_words::Status;
-use std::alloc::Global;
-use std::process::Abort;
-use std::sync::Wait;
-use std::test::Fail;
-use std::thread::Threads;
-
-// The journal of a join's run on the trace `a`, `a`, `b`, in both versions.
-const JOINED: &str = "polis journal 1
-dep env m a
-dep env m a
-dep env m b
-fire m : a b ; - -> - ; c
-end 4 complete
-";
-
-const JOINED_2: &str = "polis journal 2
-@1 dep env m a
-@2 dep env m a
-@3 dep env m b
-@4 fire m : a b ; - -> - ; c
-end 4 complete
-";
-
-// What isn't legal at its first entry.
-const UNSENT: &str = "polis journal 1\ndep env m b\nend 1 limit\n";
-
-// A replay on a join and the trace `a`, `a`, `b`.
-const JUDGED: Case<'static> = Case {
-    words: REPLAY,
-    net: Some(JOIN),
-    trace: Some("a\na\nb\n"),
-    ..DONE
-};
-
-// A table has two dashes between a journal and what its replay shows, and two equals signs between
-// each two journals, on a line each.
-
-// What a replay answers that shows this.
-fn status_of(shown: &str) -> Status {
-    if shown.starts_with("legal ") {
-        Status::Done
-    } else if shown.starts_with("illegal ") {
-        Status::Illegal
-    } else {
-        Status::Refused
-    }
-}
-
-fn try_journal<'a, T: Abort + Threads + Wait + Sync>(
-    rt: &T,
-    alloc: Global,
-    (net, trace): (&'a str, &'a str),
-    text: &'a str,
-    number: usize,
-) -> Result<(), NoMemory> {
-    let (journal, shown) = match cut(text, "--\n") {
-        Some(parts) => parts,
-        None => (text, ""),
-    };
-    let case = replay(net, trace, journal, status_of(shown), shown);
-    tried(rt, alloc, &case, number)
-}
-
-// Replays of the journals of a table on a network and a trace.
-fn try_journals<'a, T: Abort + Threads + Wait + Sync>(
-    rt: &T,
-    alloc: Global,
-    given: (&'a str, &'a str),
-    table: &'a str,
-) -> Result<(), NoMemory> {
-    for (number, text) in table.split("==\n").enumerate() {
-        try_journal(rt, alloc, given, text, number)?;
-    }
-    Ok(())
-}
-
-// A join, and its trace.
-const OF_JOIN: (&str, &str) = (JOIN, "a\na\nb\n");
-
-const LEGAL: &str = "polis journal 1
-dep env m a
-dep env m a
-dep env m b
-fire m : a b ; - -> - ; c
-end 4 complete
---
-legal 4 complete
-==
+/// Calls that judge journals.
+pub const REPLAYS: &str = r#"
+:: given
+:: note Journals that are legal.
+:: file net @join.net
+:: file trc @join.trc
+:: call replay net trc jnl
+:: case a run to its end
+:: file jnl @joined_1.jnl
+:: shows Done legal 4 complete
+:: case a run to its end that says limit
+:: file jnl
 polis journal 1
 dep env m a
 dep env m a
 dep env m b
 fire m : a b ; - -> - ; c
 end 4 limit
---
-legal 4 complete
-==
+:: shows Done legal 4 complete
+:: case one entry
+:: file jnl
 polis journal 1
 dep env m a
 end 1 limit
---
-legal 1 open
-==
+:: shows Done legal 1 open
+:: case a run that is open and says complete
+:: file jnl
 polis journal 1
 dep env m a
 dep env m a
 dep env m b
 end 3 complete
---
-legal 3 open
-";
-
-const ILLEGAL: Case<'static> = Case {
-    status: Status::Illegal,
-    ..JUDGED
-};
-
-// Journals that aren't legal: an entry twice, too early, left out or out of order, a reaction with
-// another outcome or snapshot, one without a delivery, and a delivery that nobody sent.
-const WRONG: &str = "polis journal 1
+:: shows Done legal 3 open
+:: given
+:: note Journals that aren't legal: an entry twice, too early, left out or out of order, a
+reaction with another outcome or snapshot, one without a delivery, and a delivery that
+nobody sent.
+:: file net @join.net
+:: file trc @join.trc
+:: call replay net trc jnl
+:: case an entry twice
+:: file jnl
+polis journal 1
 dep env m a
 dep env m a
 dep env m a
 dep env m b
 fire m : a b ; - -> - ; c
 end 5 complete
---
-illegal 2
-==
+:: shows Illegal illegal 2
+:: case a reaction too early
+:: file jnl
 polis journal 1
 dep env m a
 dep env m a
 fire m : a b ; - -> - ; c
 dep env m b
 end 4 complete
---
-illegal 2
-==
+:: shows Illegal illegal 2
+:: case an entry left out
+:: file jnl
 polis journal 1
 dep env m a
 dep env m b
 fire m : a b ; - -> - ; c
 end 3 complete
---
-illegal 1
-==
+:: shows Illegal illegal 1
+:: case a reaction before its second event
+:: file jnl
 polis journal 1
 dep env m a
 dep env m a
 fire m : a b ; - -> - ; c
 end 3 complete
---
-illegal 2
-==
+:: shows Illegal illegal 2
+:: case an entry out of order
+:: file jnl
 polis journal 1
 dep env m a
 dep env m b
 dep env m a
 fire m : a b ; - -> - ; c
 end 4 complete
---
-illegal 1
-==
+:: shows Illegal illegal 1
+:: case a reaction that emits nothing
+:: file jnl
 polis journal 1
 dep env m a
 dep env m a
 dep env m b
 fire m : a b ; - -> - ; -
 end 4 complete
---
-illegal 3
-==
+:: shows Illegal illegal 3
+:: case a reaction that does nothing
+:: file jnl
 polis journal 1
 dep env m a
 dep env m a
 dep env m b
 idle m : a b ; -
 end 4 complete
---
-illegal 3
-==
+:: shows Illegal illegal 3
+:: case a reaction to one of two events
+:: file jnl
 polis journal 1
 dep env m a
 dep env m a
 dep env m b
 fire m : a ; - -> - ; c
 end 4 complete
---
-illegal 3
-==
+:: shows Illegal illegal 3
+:: case a reaction without a delivery
+:: file jnl
 polis journal 1
 dep env m a
 dep env m a
@@ -202,51 +118,49 @@ dep env m b
 fire m : a b ; - -> - ; c
 fire m : a b ; - -> - ; c
 end 5 complete
---
-illegal 4
-==
+:: shows Illegal illegal 4
+:: case a delivery that nobody sent
+:: file jnl
 polis journal 1
 dep m m a
 dep env m a
 dep env m b
 fire m : a b ; - -> - ; c
 end 4 complete
---
-illegal 0
-";
-
-const UNREADABLE: Case<'static> = Case {
-    status: Status::Refused,
-    ..JUDGED
-};
-
-// Journals that don't read.
-const NO_JOURNALS: &str = "polis journal 1
+:: shows Illegal illegal 0
+:: given
+:: note Journals that don't read.
+:: file net @join.net
+:: file trc @join.trc
+:: call replay net trc jnl
+:: case no last line
+:: file jnl
+polis journal 1
 dep env m a
 dep env m a
 dep env m b
 fire m : a b ; - -> - ; c
---
-refused jnl line 6 end
-==
+:: shows Refused refused jnl line 6 end
+:: case a wrong number of entries
+:: file jnl
 polis journal 1
 dep env m a
 dep env m a
 dep env m b
 fire m : a b ; - -> - ; c
 end 5 complete
---
-refused jnl line 6 count
-==
+:: shows Refused refused jnl line 6 count
+:: case a number with a zero before it
+:: file jnl
 polis journal 1
 dep env m a
 dep env m a
 dep env m b
 fire m : a b ; - -> - ; c
 end 04 complete
---
-refused jnl line 6 shape
-==
+:: shows Refused refused jnl line 6 shape
+:: case a line after the last one
+:: file jnl
 polis journal 1
 dep env m a
 dep env m a
@@ -254,200 +168,183 @@ dep env m b
 fire m : a b ; - -> - ; c
 end 4 complete
 x
---
-refused jnl line 7 after
-==
+:: shows Refused refused jnl line 7 after
+:: case an unknown event
+:: file jnl
 polis journal 1
 dep env m zz
 dep env m a
 dep env m b
 fire m : a b ; - -> - ; c
 end 4 complete
---
-refused jnl line 2 name
-==
+:: shows Refused refused jnl line 2 name
+:: case a value that the event has not
+:: file jnl
 polis journal 1
 dep env m a=1
 dep env m a
 dep env m b
 fire m : a b ; - -> - ; c
 end 4 complete
---
-refused jnl line 2 value
-==
+:: shows Refused refused jnl line 2 value
+:: case events out of order
+:: file jnl
 polis journal 1
 dep env m a
 dep env m a
 dep env m b
 fire m : b a ; - -> - ; c
 end 4 complete
---
-refused jnl line 5 name
-==
-polis journal 3
---
-refused jnl line 1 header
-";
-
-// Calls in which a file isn't there.
-const ABSENT: &[Case<'_>] = &[
-    Case {
-        shown: "refused jnl absent\n",
-        ..UNREADABLE
-    },
-    Case {
-        words: MIGRATE,
-        trace: None,
-        read_journal: Some(JOINED),
-        shown: "refused trc absent\n",
-        ..UNREADABLE
-    },
-];
-
-// A network of two machines that read one event, and a trace.
-const OF_TWO: (&str, &str) = (TWO, "x\n");
-
-// Stamps that rise and stamps that don't, and what is no stamp.
-const STAMPED: &str = "polis journal 2
+:: shows Refused refused jnl line 5 name
+:: case an unknown version
+:: file jnl polis journal 3
+:: shows Refused refused jnl line 1 header
+:: given
+:: note Stamps that rise and stamps that don't, and what is no stamp.
+:: file net @two.net
+:: file trc x
+:: call replay net trc jnl
+:: case stamps that rise
+:: file jnl
+polis journal 2
 @1 dep env a x
 @1 dep env b x
 @2 fire b : x ; - -> - ; yb
 @2 fire a : x ; - -> - ; ya
 end 4 complete
---
-legal 4 complete
-==
+:: shows Done legal 4 complete
+:: case a stamp that leaps
+:: file jnl
 polis journal 2
 @1 dep env a x
 @1 dep env b x
 @2 fire b : x ; - -> - ; yb
 @9 fire a : x ; - -> - ; ya
 end 4 complete
---
-legal 4 complete
-==
+:: shows Done legal 4 complete
+:: case a stamp that falls
+:: file jnl
 polis journal 2
 @1 dep env a x
 @1 dep env b x
 @2 fire b : x ; - -> - ; yb
 @1 fire a : x ; - -> - ; ya
 end 4 complete
---
-illegal 3
-==
+:: shows Illegal illegal 3
+:: case a stamp of zero
+:: file jnl
 polis journal 2
 @0 dep env a x
 @1 dep env b x
 @2 fire b : x ; - -> - ; yb
 @2 fire a : x ; - -> - ; ya
 end 4 complete
---
-refused jnl line 2 stamp
-==
+:: shows Refused refused jnl line 2 stamp
+:: case a stamp with a zero before it
+:: file jnl
 polis journal 2
 @01 dep env a x
 @1 dep env b x
 @2 fire b : x ; - -> - ; yb
 @2 fire a : x ; - -> - ; ya
 end 4 complete
---
-refused jnl line 2 shape
-";
-
-#[test]
-fn judges_journals(rt: HostRuntime) -> Result<(), Fail> {
-    try_journals(&rt, rt.alloc(), OF_JOIN, LEGAL)?;
-    try_journals(&rt, rt.alloc(), OF_JOIN, WRONG)?;
-    try_journals(&rt, rt.alloc(), OF_JOIN, NO_JOURNALS)?;
-    try_journals(&rt, rt.alloc(), OF_TWO, STAMPED)?;
-    Ok(())
-}
-
-const MIGRATED: &[Case<'_>] = &[
-    Case {
-        words: MIGRATE,
-        read_journal: Some(JOINED),
-        shown: "migrated 4\n",
-        journal: Some(JOINED_2),
-        ..JUDGED
-    },
-    Case {
-        words: MIGRATE,
-        read_journal: Some("polis journal 2\n@7 dep env m a\nend 1 complete\n"),
-        shown: "migrated 1\n",
-        journal: Some("polis journal 2\n@1 dep env m a\nend 1 limit\n"),
-        ..JUDGED
-    },
-    Case {
-        words: MIGRATE,
-        read_journal: Some(UNSENT),
-        shown: "illegal 0\n",
-        ..ILLEGAL
-    },
-];
-
-// Calls on a join in which a call of the host fails.
-const FAULTS: &[Case<'_>] = &[
-    Case {
-        words: REPLAY,
-        read_journal: Some(JOINED),
-        fails: &[0],
-        shown: "read fault net\n",
-        ..UNREAD
-    },
-    Case {
-        words: REPLAY,
-        read_journal: Some(JOINED),
-        fails: &[1],
-        shown: "read fault trc\n",
-        ..UNREAD
-    },
-    Case {
-        read_journal: Some(JOINED),
-        fails: &[2],
-        status: Status::ReadFault,
-        load_faults: 1,
-        shown: "read fault jnl\n",
-        ..JUDGED
-    },
-    Case {
-        read_journal: Some(JOINED),
-        fails: &[3],
-        status: Status::WriteFault,
-        write_faults: 1,
-        shown: "",
-        ..JUDGED
-    },
-    Case {
-        read_journal: Some(UNSENT),
-        fails: &[3],
-        write_faults: 1,
-        shown: "",
-        ..ILLEGAL
-    },
-    Case {
-        words: MIGRATE,
-        net: Some(JOIN),
-        trace: Some("a\na\nb\n"),
-        read_journal: Some(JOINED),
-        fails: &[3],
-        shown: "write fault o.jnl\n",
-        ..UNWRITTEN
-    },
-    Case {
-        words: MIGRATE,
-        net: Some(JOIN),
-        trace: Some("a\na\nb\n"),
-        read_journal: Some(JOINED),
-        journal: Some(JOINED_2),
-        fails: &[4],
-        ..UNWRITTEN
-    },
-];
-
-#[test]
-fn migrates_journals_and_tells_of_faults(rt: HostRuntime) -> Result<(), Fail> {
-    try_cases(&rt, rt.alloc(), MIGRATED)?;
-    try_cases(&rt, rt.alloc(), ABSENT)?;
-    try_cases(&rt, rt.alloc(), FAULTS)
-}
+:: shows Refused refused jnl line 2 shape
+:: given
+:: note Migrations.
+:: file net @join.net
+:: file trc @join.trc
+:: call migrate net trc jnl o
+:: case a journal of the first version
+:: file jnl @joined_1.jnl
+:: shows Done migrated 4
+:: holds o.jnl @joined.jnl
+:: case a journal that says complete and is open
+:: file jnl
+polis journal 2
+@7 dep env m a
+end 1 complete
+:: shows Done migrated 1
+:: holds o.jnl
+polis journal 2
+@1 dep env m a
+end 1 limit
+:: case a journal that is not legal
+:: file jnl
+polis journal 1
+dep env m b
+end 1 limit
+:: shows Illegal illegal 0
+:: given
+:: note Calls in which a file isn't there.
+:: file net @join.net
+:: case no journal
+:: file trc @join.trc
+:: call replay net trc jnl
+:: shows Refused refused jnl absent
+:: case no trace
+:: file jnl @joined_1.jnl
+:: call migrate net trc jnl o
+:: shows Refused refused trc absent
+:: given
+:: note Calls on a join in which a call of the host fails.
+:: case the network fails
+:: file net @lamp.net
+:: file trc press
+:: file jnl @joined_1.jnl
+:: fail 0
+:: call replay net trc jnl
+:: shows ReadFault read fault net
+:: faults 1 0
+:: case the trace fails
+:: file net @lamp.net
+:: file trc press
+:: file jnl @joined_1.jnl
+:: fail 1
+:: call replay net trc jnl
+:: shows ReadFault read fault trc
+:: faults 1 0
+:: case the journal fails
+:: file net @join.net
+:: file trc @join.trc
+:: file jnl @joined_1.jnl
+:: fail 2
+:: call replay net trc jnl
+:: shows ReadFault read fault jnl
+:: faults 1 0
+:: case the line of a legal journal fails
+:: file net @join.net
+:: file trc @join.trc
+:: file jnl @joined_1.jnl
+:: fail 3
+:: call replay net trc jnl
+:: shows WriteFault
+:: faults 0 1
+:: case the line of an illegal journal fails
+:: file net @join.net
+:: file trc @join.trc
+:: file jnl
+polis journal 1
+dep env m b
+end 1 limit
+:: fail 3
+:: call replay net trc jnl
+:: shows Illegal
+:: faults 0 1
+:: case the journal that is saved fails
+:: file net @join.net
+:: file trc @join.trc
+:: file jnl @joined_1.jnl
+:: fail 3
+:: call migrate net trc jnl o
+:: shows WriteFault write fault o.jnl
+:: faults 0 1
+:: case the line of a migration fails
+:: file net @join.net
+:: file trc @join.trc
+:: file jnl @joined_1.jnl
+:: fail 4
+:: call migrate net trc jnl o
+:: shows WriteFault
+:: holds o.jnl @joined.jnl
+:: faults 0 1
+"#;

@@ -1,7 +1,6 @@
 -- Actions that take no value from a variable, on which the rules on sources say nothing.
 use Rattle.std.specs.Prelude.{Bool}
 use Rattle.std.specs.List.{list_all}
-use Rattle.net_reader.specs.declared.raw.RawSource.TheVariants as sources
 use Rattle.net_reader.specs.declared.raw.RawRow.{RawRow}
 use Rattle.net_reader.specs.declared.raw.RawMachine.{RawMachine}
 use Rattle.net_reader.specs.declared.raw.RawNet.{RawNet}

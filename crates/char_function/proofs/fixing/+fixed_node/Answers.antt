@@ -5,11 +5,62 @@ use Rattle.domains.specs.Tables.{product}
 use Rattle.decision_diagram.specs.Diagrams.{Means, level_of}
 use Rattle.transition_table.specs.Orders.{sizes_of}
 use Rattle.char_function.specs.inner.Left.{IsFirst, left_from}
-use Rattle.char_function.proofs.FixedKids.{AreFixedKids, fixed_more, left_kept, next_of, node_left, points_few, result_left, step_of, vars_size}
-use Rattle.char_function.proofs.LeftFrom.{first_more}
+use Rattle.char_function.proofs.FixedKids.{AreFixedKids, IsStep, fixed_more, left_kept, next_of, node_left, points_few, result_left, step_of, vars_size}
+use Rattle.char_function.proofs.LeftFrom.{IsNext, first_more}
 use Rattle.decision_diagram.proofs.ListItems.{read}
 use Rattle.decision_diagram.proofs.Growth.{keeps_trans}
+use Rattle.char_function.proofs.fixing.+fixed_node.Goals.{After-from-2, After-from-in-loop-code, After-same_kids-kids}
 use Rattle.char_function.proofs.fixing.+fixed_node.Goals as goal
+
+-- the item at the place, and its size
+step_at : (t : ℕ) (c : After-from-2 t)
+    → IsStep c.args.fixing.now.machine.now c.args.fixing.now.order.now c.args.place
+    c.get-item.result.now c.get-size.result.now
+step_at t c =
+    let f = c.requires.fixing in
+    let most = c.requires.place in
+    let other = c.if-place-fixing.false in
+    let within = f.within in
+    let low : c.args.place < length c.args.fixing.now.order.now = omega arith in
+    step_of c.args.fixing.now.machine.now c.args.fixing.now.order.now c.args.fixing.now.sizes.now
+    c.args.store.now.sizes c.args.place c.get-item.result.now c.from.result c.get-size.result.now
+    f.ordered f.all_sizes c.requires.store.sizes c.same_value_same_node.ensures.reduced.sizes low
+    c.get-item.ensures c.from.ensures c.get-size.ensures
+
+-- how far apart the snapshots with its codes stand
+record Apart (vars : List ℕ) (item stride : ℕ) : Type 0 where
+  inside : item < length vars
+  is : stride ≡ product (drop (item + 1) vars)
+
+apart_at : (t : ℕ) (c : After-same_kids-kids t)
+    → Apart c.args.fixing.now.machine.now.vars c.get-item.result.now c.get-stride.result.now
+apart_at t c =
+    let item = c.get-item.result.now in
+    let strides = c.args.fixing.now.strides.now in
+    let inside : item < length c.args.fixing.now.machine.now.vars = let a = c.if-from-len.false in
+    let b = c.from-2.ensures in let d = c.len.ensures.len in omega arith in
+    record {
+      inside = inside;
+      is = sym (read strides c.from-3.result c.get-stride.result.now 0 c.get-stride.ensures)
+          ∙ ap (slice_index strides) c.from-3.ensures
+          ∙ c.requires.fixing.apart.each item inside;
+    }
+
+-- the first snapshot with one code
+next_at : (t : ℕ) (c : After-from-in-loop-code t)
+    → IsNext c.args.fixing.now.machine.now c.args.fixing.now.order.now
+    c.requires.fixing.ordered c.args.place c.get-item.result.now c.args.i
+    c.from-in-loop-code.result
+    (c.args.i + c.from-in-loop-code.result * c.get-stride.result.now)
+next_at t c =
+    let apart = apart_at t (goal.at.overflow_mul-first t c).After-same_kids-kids in
+    let is_code = c.from-in-loop-code.ensures in
+    let test = c.loop-code-test.true in
+    next_of c.laws_of_all_codes.ensures.stands_once c.args.fixing.now.machine.now
+    c.args.fixing.now.order.now c.requires.fixing.ordered c.args.place c.get-item.result.now
+    c.get-size.result.now c.args.i c.from-in-loop-code.result c.get-stride.result.now
+    (step_at t (goal.at.overflow_mul-first t c).After-from-2) apart.inside
+    c.requires.first.snapshot (omega arith) c.requires.first.first apart.is
 
 pub fixed_node-requires : goal.fixed_node-requires
 fixed_node-requires t c =
@@ -17,16 +68,8 @@ fixed_node-requires t c =
     let order = c.args.fixing.now.order.now in
     let f = c.requires.fixing in
     let p = c.args.place in
-    let item = c.get-item.result.now in
-    let size = c.get-size.result.now in
-    let most = c.requires.place in
-    let other = c.if-place-fixing.false in
-    let within = f.within in
-    let p_low : p < length order = omega arith in
-    let step = step_of m order c.args.fixing.now.sizes.now c.args.store.now.sizes p item
-    c.from.result size f.ordered f.all_sizes c.requires.store.sizes
-    c.same_value_same_node.ensures.reduced.sizes p_low c.get-item.ensures c.from.ensures
-    c.get-size.ensures in
+    let step = step_at t (goal.at.fixed_node-requires t c).After-from-2 in
+    let p_low = step.at.low in
     let more : suc p ≡ p + 1 = omega arith in
     let d = c.decreases in (
       omega arith,
@@ -48,78 +91,30 @@ fixed_node-requires t c =
 
 pub result_node-requires-clause-size : goal.result_node-requires-clause-size
 result_node-requires-clause-size t c =
-    let m = c.args.fixing.now.machine.now in
-    let order = c.args.fixing.now.order.now in
     let f = c.requires.fixing in
-    let p = c.args.place in
     let item = c.get-item.result.now in
-    let size = c.get-size.result.now in
-    let most = c.requires.place in
-    let other = c.if-place-fixing.false in
-    let within = f.within in
-    let p_low : p < length order = omega arith in
-    let step = step_of m order c.args.fixing.now.sizes.now c.args.store.now.sizes p item
-    c.from.result size f.ordered f.all_sizes c.requires.store.sizes
-    c.same_value_same_node.ensures.reduced.sizes p_low c.get-item.ensures c.from.ensures
-    c.get-size.ensures in
+    let step = step_at t (goal.at.result_node-requires-clause-size t c).After-from-2 in
     step.sized
     ∙ ap (λ (xs : List ℕ). slice_index xs item)
     (sym (c.fixed_node.ensures.kept.sizes ∙ c.requires.store.sizes ∙ f.all_sizes))
 
 pub result_node-requires-clause-few : goal.result_node-requires-clause-few
 result_node-requires-clause-few t c =
-    let m = c.args.fixing.now.machine.now in
-    let order = c.args.fixing.now.order.now in
-    let f = c.requires.fixing in
-    let p = c.args.place in
-    let item = c.get-item.result.now in
-    let size = c.get-size.result.now in
-    let most = c.requires.place in
-    let other = c.if-place-fixing.false in
-    let within = f.within in
-    let p_low : p < length order = omega arith in
-    let step = step_of m order c.args.fixing.now.sizes.now c.args.store.now.sizes p item
-    c.from.result size f.ordered f.all_sizes c.requires.store.sizes
-    c.same_value_same_node.ensures.reduced.sizes p_low c.get-item.ensures c.from.ensures
-    c.get-size.ensures in
+    let step = step_at t (goal.at.result_node-requires-clause-few t c).After-from-2 in
     step.few
 
 pub result_node-requires-clause-code : goal.result_node-requires-clause-code
 result_node-requires-clause-code t c =
-    let m = c.args.fixing.now.machine.now in
-    let order = c.args.fixing.now.order.now in
-    let f = c.requires.fixing in
-    let p = c.args.place in
-    let item = c.get-item.result.now in
-    let size = c.get-size.result.now in
-    let most = c.requires.place in
-    let other = c.if-place-fixing.false in
-    let within = f.within in
-    let p_low : p < length order = omega arith in
-    let step = step_of m order c.args.fixing.now.sizes.now c.args.store.now.sizes p item
-    c.from.result size f.ordered f.all_sizes c.requires.store.sizes
-    c.same_value_same_node.ensures.reduced.sizes p_low c.get-item.ensures c.from.ensures
-    c.get-size.ensures in
+    let step = step_at t (goal.at.result_node-requires-clause-code t c).After-from-2 in
     let sized = step.sized in
     let below = c.code_at-code.ensures.below in
     omega arith
 
 pub result_node-requires-clause-later : goal.result_node-requires-clause-later
 result_node-requires-clause-later t c =
-    let m = c.args.fixing.now.machine.now in
     let order = c.args.fixing.now.order.now in
-    let f = c.requires.fixing in
-    let p = c.args.place in
     let item = c.get-item.result.now in
-    let size = c.get-size.result.now in
-    let most = c.requires.place in
-    let other = c.if-place-fixing.false in
-    let within = f.within in
-    let p_low : p < length order = omega arith in
-    let step = step_of m order c.args.fixing.now.sizes.now c.args.store.now.sizes p item
-    c.from.result size f.ordered f.all_sizes c.requires.store.sizes
-    c.same_value_same_node.ensures.reduced.sizes p_low c.get-item.ensures c.from.ensures
-    c.get-size.ensures in
+    let step = step_at t (goal.at.result_node-requires-clause-later t c).After-from-2 in
     let placed = step.at.placed in
     let e : place c.fixed_node.new.store.order item ≡ place order item =
     ap (λ (xs : List ℕ). place xs item) (c.fixed_node.ensures.kept.order ∙ c.requires.store.order) in
@@ -143,15 +138,7 @@ returns-then-from-len-clause-value t c =
     let f = c.requires.fixing in
     let p = c.args.place in
     let item = c.get-item.result.now in
-    let size = c.get-size.result.now in
-    let most = c.requires.place in
-    let other = c.if-place-fixing.false in
-    let within = f.within in
-    let p_low : p < length order = omega arith in
-    let step = step_of m order c.args.fixing.now.sizes.now c.args.store.now.sizes p item
-    c.from.result size f.ordered f.all_sizes c.requires.store.sizes
-    c.same_value_same_node.ensures.reduced.sizes p_low c.get-item.ensures c.from.ensures
-    c.get-size.ensures in
+    let step = step_at t (goal.at.returns-then-from-len-clause-value t c).After-from-2 in
     let high : length m.vars ≤ item = let a = c.if-from-len.true in let b = c.from-2.ensures in
     let d = c.len.ensures.len in omega arith in
     result_left c.laws_of_computing.ensures.results_fit c.laws_of_computing.ensures.same_on_support m
@@ -163,20 +150,9 @@ returns-then-from-len-clause-value t c =
 
 pub returns-then-from-len-clause-level : goal.returns-then-from-len-clause-level
 returns-then-from-len-clause-level t c =
-    let m = c.args.fixing.now.machine.now in
     let order = c.args.fixing.now.order.now in
-    let f = c.requires.fixing in
-    let p = c.args.place in
     let item = c.get-item.result.now in
-    let size = c.get-size.result.now in
-    let most = c.requires.place in
-    let other = c.if-place-fixing.false in
-    let within = f.within in
-    let p_low : p < length order = omega arith in
-    let step = step_of m order c.args.fixing.now.sizes.now c.args.store.now.sizes p item
-    c.from.result size f.ordered f.all_sizes c.requires.store.sizes
-    c.same_value_same_node.ensures.reduced.sizes p_low c.get-item.ensures c.from.ensures
-    c.get-size.ensures in
+    let step = step_at t (goal.at.returns-then-from-len-clause-level t c).After-from-2 in
     let placed = step.at.placed in
     let e : place c.fixed_node.new.store.order item ≡ place order item =
     ap (λ (xs : List ℕ). place xs item) (c.fixed_node.ensures.kept.order ∙ c.requires.store.order) in
@@ -192,32 +168,8 @@ returns-then-from-len-clause-known t c =
 pub overflow_mul-first : goal.overflow_mul-first
 overflow_mul-first t c =
     let m = c.args.fixing.now.machine.now in
-    let order = c.args.fixing.now.order.now in
-    let f = c.requires.fixing in
-    let p = c.args.place in
-    let item = c.get-item.result.now in
-    let size = c.get-size.result.now in
-    let most = c.requires.place in
-    let other = c.if-place-fixing.false in
-    let within = f.within in
-    let p_low : p < length order = omega arith in
-    let step = step_of m order c.args.fixing.now.sizes.now c.args.store.now.sizes p item
-    c.from.result size f.ordered f.all_sizes c.requires.store.sizes
-    c.same_value_same_node.ensures.reduced.sizes p_low c.get-item.ensures c.from.ensures
-    c.get-size.ensures in
-    let inside : item < length m.vars = let a = c.if-from-len.false in let b = c.from-2.ensures in
-    let d = c.len.ensures.len in omega arith in
-    let stride = c.get-stride.result.now in
-    let stride_is : stride ≡ product (drop (item + 1) m.vars) =
-    sym (read c.args.fixing.now.strides.now c.from-3.result stride 0 c.get-stride.ensures)
-    ∙ ap (slice_index c.args.fixing.now.strides.now) c.from-3.ensures
-    ∙ f.apart.each item inside in
-    let code = c.from-in-loop-code.result in
-    let is_code : code ≡ c.loop-code.code = c.from-in-loop-code.ensures in
     let test = c.loop-code-test.true in
-    let code_low : code < size = omega arith in
-    let next = next_of c.laws_of_all_codes.ensures.stands_once m order f.ordered p item size
-    c.args.i code stride step inside c.requires.first.snapshot code_low c.requires.first.first stride_is in
+    let next = next_at t (goal.at.overflow_mul-first t c).After-from-in-loop-code in
     let low = next.low in
     let few = points_few m in
     omega arith
@@ -225,32 +177,8 @@ overflow_mul-first t c =
 pub overflow_add-first : goal.overflow_add-first
 overflow_add-first t c =
     let m = c.args.fixing.now.machine.now in
-    let order = c.args.fixing.now.order.now in
-    let f = c.requires.fixing in
-    let p = c.args.place in
-    let item = c.get-item.result.now in
-    let size = c.get-size.result.now in
-    let most = c.requires.place in
-    let other = c.if-place-fixing.false in
-    let within = f.within in
-    let p_low : p < length order = omega arith in
-    let step = step_of m order c.args.fixing.now.sizes.now c.args.store.now.sizes p item
-    c.from.result size f.ordered f.all_sizes c.requires.store.sizes
-    c.same_value_same_node.ensures.reduced.sizes p_low c.get-item.ensures c.from.ensures
-    c.get-size.ensures in
-    let inside : item < length m.vars = let a = c.if-from-len.false in let b = c.from-2.ensures in
-    let d = c.len.ensures.len in omega arith in
-    let stride = c.get-stride.result.now in
-    let stride_is : stride ≡ product (drop (item + 1) m.vars) =
-    sym (read c.args.fixing.now.strides.now c.from-3.result stride 0 c.get-stride.ensures)
-    ∙ ap (slice_index c.args.fixing.now.strides.now) c.from-3.ensures
-    ∙ f.apart.each item inside in
-    let code = c.from-in-loop-code.result in
-    let is_code : code ≡ c.loop-code.code = c.from-in-loop-code.ensures in
     let test = c.loop-code-test.true in
-    let code_low : code < size = omega arith in
-    let next = next_of c.laws_of_all_codes.ensures.stands_once m order f.ordered p item size
-    c.args.i code stride step inside c.requires.first.snapshot code_low c.requires.first.first stride_is in
+    let next = next_at t (goal.at.overflow_add-first t c).After-from-in-loop-code in
     let low = next.low in
     let few = points_few m in
     omega arith
@@ -261,29 +189,10 @@ fixed_node-requires-in-loop-code t c =
     let order = c.args.fixing.now.order.now in
     let f = c.requires.fixing in
     let p = c.args.place in
-    let item = c.get-item.result.now in
-    let size = c.get-size.result.now in
-    let most = c.requires.place in
-    let other = c.if-place-fixing.false in
-    let within = f.within in
-    let p_low : p < length order = omega arith in
-    let step = step_of m order c.args.fixing.now.sizes.now c.args.store.now.sizes p item
-    c.from.result size f.ordered f.all_sizes c.requires.store.sizes
-    c.same_value_same_node.ensures.reduced.sizes p_low c.get-item.ensures c.from.ensures
-    c.get-size.ensures in
-    let inside : item < length m.vars = let a = c.if-from-len.false in let b = c.from-2.ensures in
-    let d = c.len.ensures.len in omega arith in
     let stride = c.get-stride.result.now in
-    let stride_is : stride ≡ product (drop (item + 1) m.vars) =
-    sym (read c.args.fixing.now.strides.now c.from-3.result stride 0 c.get-stride.ensures)
-    ∙ ap (slice_index c.args.fixing.now.strides.now) c.from-3.ensures
-    ∙ f.apart.each item inside in
     let code = c.from-in-loop-code.result in
-    let is_code : code ≡ c.loop-code.code = c.from-in-loop-code.ensures in
     let test = c.loop-code-test.true in
-    let code_low : code < size = omega arith in
-    let next = next_of c.laws_of_all_codes.ensures.stands_once m order f.ordered p item size
-    c.args.i code stride step inside c.requires.first.snapshot code_low c.requires.first.first stride_is in
+    let next = next_at t (goal.at.fixed_node-requires-in-loop-code t c).After-from-in-loop-code in
     let more : suc p ≡ p + 1 = omega arith in
     let kept = c.loop-code.invariant.kept in
     let d = c.decreases in (
@@ -315,33 +224,8 @@ returns-in_err-kid-2-clause-kept t c =
 
 pub listed : goal.listed
 listed t c =
-    let m = c.args.fixing.now.machine.now in
-    let order = c.args.fixing.now.order.now in
-    let f = c.requires.fixing in
-    let p = c.args.place in
-    let item = c.get-item.result.now in
-    let size = c.get-size.result.now in
-    let most = c.requires.place in
-    let other = c.if-place-fixing.false in
-    let within = f.within in
-    let p_low : p < length order = omega arith in
-    let step = step_of m order c.args.fixing.now.sizes.now c.args.store.now.sizes p item
-    c.from.result size f.ordered f.all_sizes c.requires.store.sizes
-    c.same_value_same_node.ensures.reduced.sizes p_low c.get-item.ensures c.from.ensures
-    c.get-size.ensures in
-    let inside : item < length m.vars = let a = c.if-from-len.false in let b = c.from-2.ensures in
-    let d = c.len.ensures.len in omega arith in
-    let stride = c.get-stride.result.now in
-    let stride_is : stride ≡ product (drop (item + 1) m.vars) =
-    sym (read c.args.fixing.now.strides.now c.from-3.result stride 0 c.get-stride.ensures)
-    ∙ ap (slice_index c.args.fixing.now.strides.now) c.from-3.ensures
-    ∙ f.apart.each item inside in
-    let code = c.from-in-loop-code.result in
-    let is_code : code ≡ c.loop-code.code = c.from-in-loop-code.ensures in
+    let step = step_at t (goal.at.listed t c).After-from-2 in
     let test = c.loop-code-test.true in
-    let code_low : code < size = omega arith in
-    let next = next_of c.laws_of_all_codes.ensures.stands_once m order f.ordered p item size
-    c.args.i code stride step inside c.requires.first.snapshot code_low c.requires.first.first stride_is in
     let two = c.from-in-loop-code-2.ensures in
     let few = step.few in
     let long = c.loop-code.invariant.kids.long in
@@ -349,33 +233,8 @@ listed t c =
 
 pub bounds-kids-from : goal.bounds-kids-from
 bounds-kids-from t c =
-    let m = c.args.fixing.now.machine.now in
-    let order = c.args.fixing.now.order.now in
-    let f = c.requires.fixing in
-    let p = c.args.place in
-    let item = c.get-item.result.now in
-    let size = c.get-size.result.now in
-    let most = c.requires.place in
-    let other = c.if-place-fixing.false in
-    let within = f.within in
-    let p_low : p < length order = omega arith in
-    let step = step_of m order c.args.fixing.now.sizes.now c.args.store.now.sizes p item
-    c.from.result size f.ordered f.all_sizes c.requires.store.sizes
-    c.same_value_same_node.ensures.reduced.sizes p_low c.get-item.ensures c.from.ensures
-    c.get-size.ensures in
-    let inside : item < length m.vars = let a = c.if-from-len.false in let b = c.from-2.ensures in
-    let d = c.len.ensures.len in omega arith in
-    let stride = c.get-stride.result.now in
-    let stride_is : stride ≡ product (drop (item + 1) m.vars) =
-    sym (read c.args.fixing.now.strides.now c.from-3.result stride 0 c.get-stride.ensures)
-    ∙ ap (slice_index c.args.fixing.now.strides.now) c.from-3.ensures
-    ∙ f.apart.each item inside in
-    let code = c.from-in-loop-code.result in
-    let is_code : code ≡ c.loop-code.code = c.from-in-loop-code.ensures in
+    let step = step_at t (goal.at.bounds-kids-from t c).After-from-2 in
     let test = c.loop-code-test.true in
-    let code_low : code < size = omega arith in
-    let next = next_of c.laws_of_all_codes.ensures.stands_once m order f.ordered p item size
-    c.args.i code stride step inside c.requires.first.snapshot code_low c.requires.first.first stride_is in
     let two = c.from-in-loop-code-2.ensures in
     let few = step.few in
     omega arith
@@ -384,31 +243,12 @@ pub loop-code-preserved : goal.loop-code-preserved
 loop-code-preserved t c =
     let m = c.args.fixing.now.machine.now in
     let order = c.args.fixing.now.order.now in
-    let f = c.requires.fixing in
     let p = c.args.place in
-    let item = c.get-item.result.now in
-    let size = c.get-size.result.now in
-    let most = c.requires.place in
-    let other = c.if-place-fixing.false in
-    let within = f.within in
-    let p_low : p < length order = omega arith in
-    let step = step_of m order c.args.fixing.now.sizes.now c.args.store.now.sizes p item
-    c.from.result size f.ordered f.all_sizes c.requires.store.sizes
-    c.same_value_same_node.ensures.reduced.sizes p_low c.get-item.ensures c.from.ensures
-    c.get-size.ensures in
-    let inside : item < length m.vars = let a = c.if-from-len.false in let b = c.from-2.ensures in
-    let d = c.len.ensures.len in omega arith in
+    let step = step_at t (goal.at.loop-code-preserved t c).After-from-2 in
     let stride = c.get-stride.result.now in
-    let stride_is : stride ≡ product (drop (item + 1) m.vars) =
-    sym (read c.args.fixing.now.strides.now c.from-3.result stride 0 c.get-stride.ensures)
-    ∙ ap (slice_index c.args.fixing.now.strides.now) c.from-3.ensures
-    ∙ f.apart.each item inside in
     let code = c.from-in-loop-code.result in
     let is_code : code ≡ c.loop-code.code = c.from-in-loop-code.ensures in
     let test = c.loop-code-test.true in
-    let code_low : code < size = omega arith in
-    let next = next_of c.laws_of_all_codes.ensures.stands_once m order f.ordered p item size
-    c.args.i code stride step inside c.requires.first.snapshot code_low c.requires.first.first stride_is in
     let s = c.loop-code.store in
     let new = c.fixed_node-in-loop-code.new.store in
     let kept = c.loop-code.invariant.kept in
@@ -430,27 +270,8 @@ loop-code-preserved t c =
 
 pub shared_whole_as_front-node : goal.shared_whole_as_front-node
 shared_whole_as_front-node t c =
-    let m = c.args.fixing.now.machine.now in
-    let order = c.args.fixing.now.order.now in
-    let f = c.requires.fixing in
-    let p = c.args.place in
-    let item = c.get-item.result.now in
     let size = c.get-size.result.now in
-    let most = c.requires.place in
-    let other = c.if-place-fixing.false in
-    let within = f.within in
-    let p_low : p < length order = omega arith in
-    let step = step_of m order c.args.fixing.now.sizes.now c.args.store.now.sizes p item
-    c.from.result size f.ordered f.all_sizes c.requires.store.sizes
-    c.same_value_same_node.ensures.reduced.sizes p_low c.get-item.ensures c.from.ensures
-    c.get-size.ensures in
-    let inside : item < length m.vars = let a = c.if-from-len.false in let b = c.from-2.ensures in
-    let d = c.len.ensures.len in omega arith in
-    let stride = c.get-stride.result.now in
-    let stride_is : stride ≡ product (drop (item + 1) m.vars) =
-    sym (read c.args.fixing.now.strides.now c.from-3.result stride 0 c.get-stride.ensures)
-    ∙ ap (slice_index c.args.fixing.now.strides.now) c.from-3.ensures
-    ∙ f.apart.each item inside in
+    let step = step_at t (goal.at.shared_whole_as_front-node t c).After-from-2 in
     let done : c.loop-code.code ≡ size = let a = c.loop-code-test.false in
     let b = c.loop-code.auto.code-end in omega arith in
     let part = c.loop-code.invariant in
@@ -461,26 +282,10 @@ shared_whole_as_front-node t c =
 pub node-requires-clause-kids : goal.node-requires-clause-kids
 node-requires-clause-kids t c =
     let m = c.args.fixing.now.machine.now in
-    let order = c.args.fixing.now.order.now in
     let f = c.requires.fixing in
-    let p = c.args.place in
     let item = c.get-item.result.now in
     let size = c.get-size.result.now in
-    let most = c.requires.place in
-    let other = c.if-place-fixing.false in
-    let within = f.within in
-    let p_low : p < length order = omega arith in
-    let step = step_of m order c.args.fixing.now.sizes.now c.args.store.now.sizes p item
-    c.from.result size f.ordered f.all_sizes c.requires.store.sizes
-    c.same_value_same_node.ensures.reduced.sizes p_low c.get-item.ensures c.from.ensures
-    c.get-size.ensures in
-    let inside : item < length m.vars = let a = c.if-from-len.false in let b = c.from-2.ensures in
-    let d = c.len.ensures.len in omega arith in
-    let stride = c.get-stride.result.now in
-    let stride_is : stride ≡ product (drop (item + 1) m.vars) =
-    sym (read c.args.fixing.now.strides.now c.from-3.result stride 0 c.get-stride.ensures)
-    ∙ ap (slice_index c.args.fixing.now.strides.now) c.from-3.ensures
-    ∙ f.apart.each item inside in
+    let step = step_at t (goal.at.node-requires-clause-kids t c).After-from-2 in
     let done : c.loop-code.code ≡ size = let a = c.loop-code-test.false in
     let b = c.loop-code.auto.code-end in omega arith in
     let part = c.loop-code.invariant in
@@ -495,27 +300,10 @@ node-requires-clause-kids t c =
 
 pub node-requires-clause-later : goal.node-requires-clause-later
 node-requires-clause-later t c code low =
-    let m = c.args.fixing.now.machine.now in
     let order = c.args.fixing.now.order.now in
-    let f = c.requires.fixing in
-    let p = c.args.place in
     let item = c.get-item.result.now in
     let size = c.get-size.result.now in
-    let most = c.requires.place in
-    let other = c.if-place-fixing.false in
-    let within = f.within in
-    let p_low : p < length order = omega arith in
-    let step = step_of m order c.args.fixing.now.sizes.now c.args.store.now.sizes p item
-    c.from.result size f.ordered f.all_sizes c.requires.store.sizes
-    c.same_value_same_node.ensures.reduced.sizes p_low c.get-item.ensures c.from.ensures
-    c.get-size.ensures in
-    let inside : item < length m.vars = let a = c.if-from-len.false in let b = c.from-2.ensures in
-    let d = c.len.ensures.len in omega arith in
-    let stride = c.get-stride.result.now in
-    let stride_is : stride ≡ product (drop (item + 1) m.vars) =
-    sym (read c.args.fixing.now.strides.now c.from-3.result stride 0 c.get-stride.ensures)
-    ∙ ap (slice_index c.args.fixing.now.strides.now) c.from-3.ensures
-    ∙ f.apart.each item inside in
+    let step = step_at t (goal.at.node-requires-clause-later t c).After-from-2 in
     let done : c.loop-code.code ≡ size = let a = c.loop-code-test.false in
     let b = c.loop-code.auto.code-end in omega arith in
     let part = c.loop-code.invariant in
@@ -552,21 +340,10 @@ returns-clause-value t c =
     let p = c.args.place in
     let item = c.get-item.result.now in
     let size = c.get-size.result.now in
-    let most = c.requires.place in
-    let other = c.if-place-fixing.false in
-    let within = f.within in
-    let p_low : p < length order = omega arith in
-    let step = step_of m order c.args.fixing.now.sizes.now c.args.store.now.sizes p item
-    c.from.result size f.ordered f.all_sizes c.requires.store.sizes
-    c.same_value_same_node.ensures.reduced.sizes p_low c.get-item.ensures c.from.ensures
-    c.get-size.ensures in
-    let inside : item < length m.vars = let a = c.if-from-len.false in let b = c.from-2.ensures in
-    let d = c.len.ensures.len in omega arith in
+    let step = step_at t (goal.at.returns-clause-value t c).After-from-2 in
     let stride = c.get-stride.result.now in
-    let stride_is : stride ≡ product (drop (item + 1) m.vars) =
-    sym (read c.args.fixing.now.strides.now c.from-3.result stride 0 c.get-stride.ensures)
-    ∙ ap (slice_index c.args.fixing.now.strides.now) c.from-3.ensures
-    ∙ f.apart.each item inside in
+    let inside = (apart_at t (goal.at.returns-clause-value t c).After-same_kids-kids).inside in
+    let stride_is = (apart_at t (goal.at.returns-clause-value t c).After-same_kids-kids).is in
     let done : c.loop-code.code ≡ size = let a = c.loop-code-test.false in
     let b = c.loop-code.auto.code-end in omega arith in
     let part = c.loop-code.invariant in
@@ -585,27 +362,10 @@ returns-clause-value t c =
 
 pub returns-clause-level : goal.returns-clause-level
 returns-clause-level t c =
-    let m = c.args.fixing.now.machine.now in
     let order = c.args.fixing.now.order.now in
-    let f = c.requires.fixing in
-    let p = c.args.place in
     let item = c.get-item.result.now in
     let size = c.get-size.result.now in
-    let most = c.requires.place in
-    let other = c.if-place-fixing.false in
-    let within = f.within in
-    let p_low : p < length order = omega arith in
-    let step = step_of m order c.args.fixing.now.sizes.now c.args.store.now.sizes p item
-    c.from.result size f.ordered f.all_sizes c.requires.store.sizes
-    c.same_value_same_node.ensures.reduced.sizes p_low c.get-item.ensures c.from.ensures
-    c.get-size.ensures in
-    let inside : item < length m.vars = let a = c.if-from-len.false in let b = c.from-2.ensures in
-    let d = c.len.ensures.len in omega arith in
-    let stride = c.get-stride.result.now in
-    let stride_is : stride ≡ product (drop (item + 1) m.vars) =
-    sym (read c.args.fixing.now.strides.now c.from-3.result stride 0 c.get-stride.ensures)
-    ∙ ap (slice_index c.args.fixing.now.strides.now) c.from-3.ensures
-    ∙ f.apart.each item inside in
+    let step = step_at t (goal.at.returns-clause-level t c).After-from-2 in
     let done : c.loop-code.code ≡ size = let a = c.loop-code-test.false in
     let b = c.loop-code.auto.code-end in omega arith in
     let part = c.loop-code.invariant in

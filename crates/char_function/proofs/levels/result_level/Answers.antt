@@ -1,12 +1,43 @@
 use Rattle.std.proofs.Common.{◌≡◌, ◌∙◌, ◌+◌, ◌*◌, ◌<◌, ℕ, List, length, slice_index, ap, sym, subst, arith}
 use Rattle.std.proofs.lemmas.List.{get_or_default}
 use Rattle.domains.specs.Orders.{place}
-use Rattle.decision_diagram.specs.Diagrams.{IsNode, Means, level_of}
+use Rattle.transition_table.specs.declared.machine.Machine.{Machine}
+use Rattle.decision_diagram.specs.Diagrams.{Diagrams, IsNode, Means, level_of}
 use Rattle.char_function.specs.inner.Left.{left_from}
+use Rattle.char_function.specs.inner.Rising.{IsLeft}
 use Rattle.char_function.proofs.Blocks.{AreHalf, half_more, half_none, result_done}
-use Rattle.char_function.proofs.FixedKids.{points_few, result_left, step_of}
+use Rattle.char_function.proofs.FixedKids.{IsStep, points_few, result_left, step_of}
 use Rattle.decision_diagram.proofs.Growth.{keeps_trans, keeps_same}
+use Rattle.char_function.proofs.levels.result_level.Goals.{After-get-size, In-loop-j}
 use Rattle.char_function.proofs.levels.result_level.Goals as goal
+
+-- the level's result
+step_here : (c : After-get-size)
+    → IsStep c.args.fixing.now.machine.now c.args.fixing.now.order.now c.args.place
+    c.get-item.result.now c.get-size.result.now
+step_here c =
+    let f = c.requires.fixing in
+    step_of c.args.fixing.now.machine.now c.args.fixing.now.order.now c.args.fixing.now.sizes.now
+    c.args.store.now.sizes c.args.place c.get-item.result.now c.from.result c.get-size.result.now
+    f.ordered f.all_sizes c.requires.store.sizes c.same_value_same_node.ensures.reduced.sizes
+    c.requires.place c.get-item.ensures c.from.ensures c.get-size.ensures
+
+-- a node that is still of the level after it
+record Left (m : Machine) (order : List ℕ) (s : Diagrams) (p block : ℕ) (before nodes : List ℕ)
+    (j : ℕ) : Type 0 where
+  low : j < length before
+  left : IsLeft m order s (p + 1) (j * block) (slice_index nodes j)
+
+left_here : (c : In-loop-j)
+    → Left c.args.fixing.now.machine.now c.args.fixing.now.order.now c.loop-j.store c.args.place
+    c.args.block c.args.nodes.now.items c.loop-j.nodes.items c.loop-j.j
+left_here c =
+    let low : c.loop-j.j < length c.args.nodes.now.items = let a = c.loop-j-test.true in
+    let b = c.len-j-end.ensures in let d = c.args.nodes.now.ok.0 in omega arith in
+    record {
+      low = low;
+      left = c.loop-j.invariant.half.rest c.loop-j.j (omega arith) (omega arith);
+    }
 
 pub loop-j-init : goal.loop-j-init
 loop-j-init c =
@@ -21,109 +52,45 @@ loop-j-init c =
 pub overflow_mul-j : goal.overflow_mul-j
 overflow_mul-j c =
     let m = c.args.fixing.now.machine.now in
-    let order = c.args.fixing.now.order.now in
-    let f = c.requires.fixing in
-    let p = c.args.place in
-    let item = c.get-item.result.now in
-    let size = c.get-size.result.now in
-    let s0 = c.args.store.now in
-    let step = step_of m order c.args.fixing.now.sizes.now s0.sizes p item c.from.result size
-    f.ordered f.all_sizes c.requires.store.sizes c.same_value_same_node.ensures.reduced.sizes
-    c.requires.place c.get-item.ensures c.from.ensures c.get-size.ensures in
-    let s = c.loop-j.store in
-    let part = c.loop-j.invariant in
-    let j = c.loop-j.j in
-    let low : j < length c.args.nodes.now.items = let a = c.loop-j-test.true in
-    let b = c.len-j-end.ensures in let d = c.args.nodes.now.ok.0 in omega arith in
-    let left = part.half.rest j (omega arith) (omega arith) in
+    let left = (left_here (goal.at.overflow_mul-j c).In-loop-j).left in
     let few = points_few m in
     let inside = left.low in
     omega arith
 
 pub code_at-code-requires-clause-item : goal.code_at-code-requires-clause-item
 code_at-code-requires-clause-item c =
-    let m = c.args.fixing.now.machine.now in
-    let order = c.args.fixing.now.order.now in
-    let f = c.requires.fixing in
-    let p = c.args.place in
-    let item = c.get-item.result.now in
-    let size = c.get-size.result.now in
-    let s0 = c.args.store.now in
-    let step = step_of m order c.args.fixing.now.sizes.now s0.sizes p item c.from.result size
-    f.ordered f.all_sizes c.requires.store.sizes c.same_value_same_node.ensures.reduced.sizes
-    c.requires.place c.get-item.ensures c.from.ensures c.get-size.ensures in
+    let step = step_here (goal.at.code_at-code-requires-clause-item c).After-get-size in
     step.at.inside
 
 pub result_node-requires-clause-size : goal.result_node-requires-clause-size
 result_node-requires-clause-size c =
-    let m = c.args.fixing.now.machine.now in
-    let order = c.args.fixing.now.order.now in
     let f = c.requires.fixing in
-    let p = c.args.place in
     let item = c.get-item.result.now in
-    let size = c.get-size.result.now in
-    let s0 = c.args.store.now in
-    let step = step_of m order c.args.fixing.now.sizes.now s0.sizes p item c.from.result size
-    f.ordered f.all_sizes c.requires.store.sizes c.same_value_same_node.ensures.reduced.sizes
-    c.requires.place c.get-item.ensures c.from.ensures c.get-size.ensures in
-    let s = c.loop-j.store in
+    let step = step_here (goal.at.result_node-requires-clause-size c).After-get-size in
     let part = c.loop-j.invariant in
-    let j = c.loop-j.j in
-    let low : j < length c.args.nodes.now.items = let a = c.loop-j-test.true in
-    let b = c.len-j-end.ensures in let d = c.args.nodes.now.ok.0 in omega arith in
-    let left = part.half.rest j (omega arith) (omega arith) in
     step.sized
     ∙ ap (λ (xs : List ℕ). slice_index xs item)
     (sym (part.kept.sizes ∙ c.requires.store.sizes ∙ f.all_sizes))
 
 pub result_node-requires-clause-few : goal.result_node-requires-clause-few
 result_node-requires-clause-few c =
-    let m = c.args.fixing.now.machine.now in
-    let order = c.args.fixing.now.order.now in
-    let f = c.requires.fixing in
-    let p = c.args.place in
-    let item = c.get-item.result.now in
-    let size = c.get-size.result.now in
-    let s0 = c.args.store.now in
-    let step = step_of m order c.args.fixing.now.sizes.now s0.sizes p item c.from.result size
-    f.ordered f.all_sizes c.requires.store.sizes c.same_value_same_node.ensures.reduced.sizes
-    c.requires.place c.get-item.ensures c.from.ensures c.get-size.ensures in
+    let step = step_here (goal.at.result_node-requires-clause-few c).After-get-size in
     step.few
 
 pub result_node-requires-clause-code : goal.result_node-requires-clause-code
 result_node-requires-clause-code c =
-    let m = c.args.fixing.now.machine.now in
-    let order = c.args.fixing.now.order.now in
-    let f = c.requires.fixing in
-    let p = c.args.place in
-    let item = c.get-item.result.now in
-    let size = c.get-size.result.now in
-    let s0 = c.args.store.now in
-    let step = step_of m order c.args.fixing.now.sizes.now s0.sizes p item c.from.result size
-    f.ordered f.all_sizes c.requires.store.sizes c.same_value_same_node.ensures.reduced.sizes
-    c.requires.place c.get-item.ensures c.from.ensures c.get-size.ensures in
+    let step = step_here (goal.at.result_node-requires-clause-code c).After-get-size in
     let sized = step.sized in
     let below = c.code_at-code.ensures.below in
     omega arith
 
 pub result_node-requires-clause-kid : goal.result_node-requires-clause-kid
 result_node-requires-clause-kid c =
-    let m = c.args.fixing.now.machine.now in
-    let order = c.args.fixing.now.order.now in
-    let f = c.requires.fixing in
-    let p = c.args.place in
-    let item = c.get-item.result.now in
-    let size = c.get-size.result.now in
-    let s0 = c.args.store.now in
-    let step = step_of m order c.args.fixing.now.sizes.now s0.sizes p item c.from.result size
-    f.ordered f.all_sizes c.requires.store.sizes c.same_value_same_node.ensures.reduced.sizes
-    c.requires.place c.get-item.ensures c.from.ensures c.get-size.ensures in
     let s = c.loop-j.store in
     let part = c.loop-j.invariant in
     let j = c.loop-j.j in
-    let low : j < length c.args.nodes.now.items = let a = c.loop-j-test.true in
-    let b = c.len-j-end.ensures in let d = c.args.nodes.now.ok.0 in omega arith in
-    let left = part.half.rest j (omega arith) (omega arith) in
+    let low = (left_here (goal.at.result_node-requires-clause-kid c).In-loop-j).low in
+    let left = (left_here (goal.at.result_node-requires-clause-kid c).In-loop-j).left in
     let wide = part.half.long in
     let kid = sym (c.index.ensures
     ∙ get_or_default c.loop-j.nodes.items j c.index.result.now 0 (omega arith)) in
@@ -131,22 +98,14 @@ result_node-requires-clause-kid c =
 
 pub result_node-requires-clause-later : goal.result_node-requires-clause-later
 result_node-requires-clause-later c =
-    let m = c.args.fixing.now.machine.now in
     let order = c.args.fixing.now.order.now in
-    let f = c.requires.fixing in
-    let p = c.args.place in
     let item = c.get-item.result.now in
-    let size = c.get-size.result.now in
-    let s0 = c.args.store.now in
-    let step = step_of m order c.args.fixing.now.sizes.now s0.sizes p item c.from.result size
-    f.ordered f.all_sizes c.requires.store.sizes c.same_value_same_node.ensures.reduced.sizes
-    c.requires.place c.get-item.ensures c.from.ensures c.get-size.ensures in
+    let step = step_here (goal.at.result_node-requires-clause-later c).After-get-size in
     let s = c.loop-j.store in
     let part = c.loop-j.invariant in
     let j = c.loop-j.j in
-    let low : j < length c.args.nodes.now.items = let a = c.loop-j-test.true in
-    let b = c.len-j-end.ensures in let d = c.args.nodes.now.ok.0 in omega arith in
-    let left = part.half.rest j (omega arith) (omega arith) in
+    let low = (left_here (goal.at.result_node-requires-clause-later c).In-loop-j).low in
+    let left = (left_here (goal.at.result_node-requires-clause-later c).In-loop-j).left in
     let wide = part.half.long in
     let kid = sym (c.index.ensures
     ∙ get_or_default c.loop-j.nodes.items j c.index.result.now 0 (omega arith)) in
@@ -169,17 +128,13 @@ loop-j-preserved c =
     let f = c.requires.fixing in
     let p = c.args.place in
     let item = c.get-item.result.now in
-    let size = c.get-size.result.now in
     let s0 = c.args.store.now in
-    let step = step_of m order c.args.fixing.now.sizes.now s0.sizes p item c.from.result size
-    f.ordered f.all_sizes c.requires.store.sizes c.same_value_same_node.ensures.reduced.sizes
-    c.requires.place c.get-item.ensures c.from.ensures c.get-size.ensures in
+    let step = step_here (goal.at.loop-j-preserved c).After-get-size in
     let s = c.loop-j.store in
     let part = c.loop-j.invariant in
     let j = c.loop-j.j in
-    let low : j < length c.args.nodes.now.items = let a = c.loop-j-test.true in
-    let b = c.len-j-end.ensures in let d = c.args.nodes.now.ok.0 in omega arith in
-    let left = part.half.rest j (omega arith) (omega arith) in
+    let low = (left_here (goal.at.loop-j-preserved c).In-loop-j).low in
+    let left = (left_here (goal.at.loop-j-preserved c).In-loop-j).left in
     let wide = part.half.long in
     let kid = sym (c.index.ensures
     ∙ get_or_default c.loop-j.nodes.items j c.index.result.now 0 (omega arith)) in

@@ -1,25 +1,43 @@
-use Rattle.std.proofs.Common.{◌≡◌, ◌∙◌, ◌*◌, ◌/◌, ℕ, List, length, take, slice_index, ap, sym, subst, arith}
+use Rattle.std.proofs.Common.{◌≡◌, ◌∙◌, ◌+◌, ◌*◌, ◌/◌, ℕ, List, length, take, slice_index, ap, sym, subst, arith}
+use Rattle.std.specs.Prelude.{slice_range}
 use Rattle.domains.specs.Orders.{place}
 use Rattle.domains.specs.Tables.{product}
 use Rattle.char_function.specs.inner.Rising.{AreLevel}
-use Rattle.char_function.proofs.Blocks.{AreHalf, block_kids, block_left, block_step, half_more, half_none, variable_done}
+use Rattle.char_function.proofs.Blocks.{AreBlockKids, AreHalf, IsBlockStep, block_kids, block_left, block_step, half_more, half_none, variable_done}
 use Rattle.decision_diagram.proofs.Growth.{keeps_trans, keeps_same}
+use Rattle.char_function.proofs.levels.variable_level.Goals.{After-deref, After-from-size}
 use Rattle.char_function.proofs.levels.variable_level.Goals as goal
+
+-- the level's variable
+step_here : (c : After-from-size)
+    → IsBlockStep c.args.fixing.now.machine.now c.args.fixing.now.order.now c.args.place
+    c.get-item.result.now c.from-size.result c.args.block c.args.nodes.now.items
+step_here c =
+    let f = c.requires.fixing in
+    let s = c.args.store.now in
+    block_step c.args.fixing.now.machine.now c.args.fixing.now.order.now
+    c.args.fixing.now.sizes.now s.sizes s c.args.place c.get-item.result.now c.from.result
+    c.get.result.now c.from-size.result c.args.block c.args.nodes.now.items f.ordered f.all_sizes
+    c.requires.store.sizes c.same_value_same_node.ensures.reduced.sizes c.requires.rising
+    c.requires.place c.requires.item c.get-item.ensures c.from.ensures c.get.ensures
+    c.from-size.ensures c.requires.level
+
+-- a block's nodes
+kids_here : (c : After-deref)
+    → AreBlockKids c.args.fixing.now.machine.now c.args.fixing.now.order.now c.loop-j.store
+    c.args.place c.args.block c.from-size.result c.loop-j.j c.loop-j.nodes.items
+    (slice_range c.deref.result.now (c.loop-j.j * c.from-size.result)
+    (c.loop-j.j * c.from-size.result + c.from-size.result))
+kids_here c =
+    let size = c.from-size.result in
+    block_kids c.args.fixing.now.machine.now c.args.fixing.now.order.now c.loop-j.store
+    c.args.place (size * c.args.block) c.args.block size c.loop-j.nodes.items c.deref.result.now
+    c.loop-j.j (c.len.result / size) c.loop-j.invariant.half c.deref.ensures.value
+    c.loop-j-test.true
 
 pub nonzero_div-count : goal.nonzero_div-count
 nonzero_div-count c =
-    let m = c.args.fixing.now.machine.now in
-    let order = c.args.fixing.now.order.now in
-    let f = c.requires.fixing in
-    let p = c.args.place in
-    let stride = c.args.block in
-    let item = c.get-item.result.now in
-    let size = c.from-size.result in
-    let s0 = c.args.store.now in
-    let b = block_step m order c.args.fixing.now.sizes.now s0.sizes s0 p item c.from.result
-    c.get.result.now size stride c.args.nodes.now.items f.ordered f.all_sizes c.requires.store.sizes
-    c.same_value_same_node.ensures.reduced.sizes c.requires.rising c.requires.place c.requires.item
-    c.get-item.ensures c.from.ensures c.get.ensures c.from-size.ensures c.requires.level in
+    let b = step_here (goal.at.nonzero_div-count c).After-from-size in
     let one = b.one in
     omega arith
 
@@ -27,16 +45,11 @@ pub loop-j-init : goal.loop-j-init
 loop-j-init c =
     let m = c.args.fixing.now.machine.now in
     let order = c.args.fixing.now.order.now in
-    let f = c.requires.fixing in
     let p = c.args.place in
     let stride = c.args.block in
-    let item = c.get-item.result.now in
     let size = c.from-size.result in
     let s0 = c.args.store.now in
-    let b = block_step m order c.args.fixing.now.sizes.now s0.sizes s0 p item c.from.result
-    c.get.result.now size stride c.args.nodes.now.items f.ordered f.all_sizes c.requires.store.sizes
-    c.same_value_same_node.ensures.reduced.sizes c.requires.rising c.requires.place c.requires.item
-    c.get-item.ensures c.from.ensures c.get.ensures c.from-size.ensures c.requires.level in
+    let b = step_here (goal.at.loop-j-init c).After-from-size in
     let long : length c.args.nodes.now.items ≡ c.len.result / size * size =
     b.whole ∙ ap (λ (k : ℕ). k / size * size) (sym (c.len.ensures ∙ c.args.nodes.now.ok.0)) in
     record {
@@ -47,18 +60,8 @@ loop-j-init c =
 
 pub node-requires-clause-var : goal.node-requires-clause-var
 node-requires-clause-var c =
-    let m = c.args.fixing.now.machine.now in
-    let order = c.args.fixing.now.order.now in
     let f = c.requires.fixing in
-    let p = c.args.place in
-    let stride = c.args.block in
-    let item = c.get-item.result.now in
-    let size = c.from-size.result in
-    let s0 = c.args.store.now in
-    let b = block_step m order c.args.fixing.now.sizes.now s0.sizes s0 p item c.from.result
-    c.get.result.now size stride c.args.nodes.now.items f.ordered f.all_sizes c.requires.store.sizes
-    c.same_value_same_node.ensures.reduced.sizes c.requires.rising c.requires.place c.requires.item
-    c.get-item.ensures c.from.ensures c.get.ensures c.from-size.ensures c.requires.level in
+    let b = step_here (goal.at.node-requires-clause-var c).After-from-size in
     let s = c.loop-j.store in
     let part = c.loop-j.invariant in
     let j = c.loop-j.j in
@@ -70,71 +73,38 @@ node-requires-clause-var c =
 
 pub node-requires-clause-kids : goal.node-requires-clause-kids
 node-requires-clause-kids c =
-    let m = c.args.fixing.now.machine.now in
-    let order = c.args.fixing.now.order.now in
     let f = c.requires.fixing in
-    let p = c.args.place in
-    let stride = c.args.block in
     let item = c.get-item.result.now in
-    let size = c.from-size.result in
-    let s0 = c.args.store.now in
-    let b = block_step m order c.args.fixing.now.sizes.now s0.sizes s0 p item c.from.result
-    c.get.result.now size stride c.args.nodes.now.items f.ordered f.all_sizes c.requires.store.sizes
-    c.same_value_same_node.ensures.reduced.sizes c.requires.rising c.requires.place c.requires.item
-    c.get-item.ensures c.from.ensures c.get.ensures c.from-size.ensures c.requires.level in
+    let b = step_here (goal.at.node-requires-clause-kids c).After-from-size in
     let s = c.loop-j.store in
     let part = c.loop-j.invariant in
     let j = c.loop-j.j in
     let low = c.loop-j-test.true in
-    let kids = block_kids m order s p (size * stride) stride size c.loop-j.nodes.items
-    c.deref.result.now j (c.len.result / size) part.half c.deref.ensures.value low in
+    let kids = kids_here (goal.at.node-requires-clause-kids c).After-deref in
     kids.long ∙ b.step.sized
     ∙ ap (λ (xs : List ℕ). slice_index xs item)
     (sym (part.kept.sizes ∙ c.requires.store.sizes ∙ f.all_sizes))
 
 pub node-requires-clause-nodes : goal.node-requires-clause-nodes
 node-requires-clause-nodes c code code_low =
-    let m = c.args.fixing.now.machine.now in
-    let order = c.args.fixing.now.order.now in
-    let f = c.requires.fixing in
-    let p = c.args.place in
-    let stride = c.args.block in
-    let item = c.get-item.result.now in
-    let size = c.from-size.result in
-    let s0 = c.args.store.now in
-    let b = block_step m order c.args.fixing.now.sizes.now s0.sizes s0 p item c.from.result
-    c.get.result.now size stride c.args.nodes.now.items f.ordered f.all_sizes c.requires.store.sizes
-    c.same_value_same_node.ensures.reduced.sizes c.requires.rising c.requires.place c.requires.item
-    c.get-item.ensures c.from.ensures c.get.ensures c.from-size.ensures c.requires.level in
     let s = c.loop-j.store in
     let part = c.loop-j.invariant in
     let j = c.loop-j.j in
     let low = c.loop-j-test.true in
-    let kids = block_kids m order s p (size * stride) stride size c.loop-j.nodes.items
-    c.deref.result.now j (c.len.result / size) part.half c.deref.ensures.value low in
+    let kids = kids_here (goal.at.node-requires-clause-nodes c).After-deref in
     let long = kids.long in
     (kids.each code (omega arith)).means.node
 
 pub node-requires-clause-later : goal.node-requires-clause-later
 node-requires-clause-later c code code_low =
-    let m = c.args.fixing.now.machine.now in
     let order = c.args.fixing.now.order.now in
-    let f = c.requires.fixing in
-    let p = c.args.place in
-    let stride = c.args.block in
     let item = c.get-item.result.now in
-    let size = c.from-size.result in
-    let s0 = c.args.store.now in
-    let b = block_step m order c.args.fixing.now.sizes.now s0.sizes s0 p item c.from.result
-    c.get.result.now size stride c.args.nodes.now.items f.ordered f.all_sizes c.requires.store.sizes
-    c.same_value_same_node.ensures.reduced.sizes c.requires.rising c.requires.place c.requires.item
-    c.get-item.ensures c.from.ensures c.get.ensures c.from-size.ensures c.requires.level in
+    let b = step_here (goal.at.node-requires-clause-later c).After-from-size in
     let s = c.loop-j.store in
     let part = c.loop-j.invariant in
     let j = c.loop-j.j in
     let low = c.loop-j-test.true in
-    let kids = block_kids m order s p (size * stride) stride size c.loop-j.nodes.items
-    c.deref.result.now j (c.len.result / size) part.half c.deref.ensures.value low in
+    let kids = kids_here (goal.at.node-requires-clause-later c).After-deref in
     let long = kids.long in
     let level = (kids.each code (omega arith)).level in
     let placed = b.step.at.placed in
@@ -157,16 +127,12 @@ loop-j-preserved c =
     let item = c.get-item.result.now in
     let size = c.from-size.result in
     let s0 = c.args.store.now in
-    let b = block_step m order c.args.fixing.now.sizes.now s0.sizes s0 p item c.from.result
-    c.get.result.now size stride c.args.nodes.now.items f.ordered f.all_sizes c.requires.store.sizes
-    c.same_value_same_node.ensures.reduced.sizes c.requires.rising c.requires.place c.requires.item
-    c.get-item.ensures c.from.ensures c.get.ensures c.from-size.ensures c.requires.level in
+    let b = step_here (goal.at.loop-j-preserved c).After-from-size in
     let s = c.loop-j.store in
     let part = c.loop-j.invariant in
     let j = c.loop-j.j in
     let low = c.loop-j-test.true in
-    let kids = block_kids m order s p (size * stride) stride size c.loop-j.nodes.items
-    c.deref.result.now j (c.len.result / size) part.half c.deref.ensures.value low in
+    let kids = kids_here (goal.at.loop-j-preserved c).After-deref in
     let n = c.in_ok-node.node in
     let new = c.node.new.self in
     let placed = b.step.at.placed in
@@ -197,11 +163,7 @@ returns-clause-level c =
     let stride = c.args.block in
     let item = c.get-item.result.now in
     let size = c.from-size.result in
-    let s0 = c.args.store.now in
-    let b = block_step m order c.args.fixing.now.sizes.now s0.sizes s0 p item c.from.result
-    c.get.result.now size stride c.args.nodes.now.items f.ordered f.all_sizes c.requires.store.sizes
-    c.same_value_same_node.ensures.reduced.sizes c.requires.rising c.requires.place c.requires.item
-    c.get-item.ensures c.from.ensures c.get.ensures c.from-size.ensures c.requires.level in
+    let b = step_here (goal.at.returns-clause-level c).After-from-size in
     let part = c.loop-j.invariant in
     let count : ℕ = c.len.result / size in
     let done : c.loop-j.j ≡ count = let a = c.loop-j-test.false in

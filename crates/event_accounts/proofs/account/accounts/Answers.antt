@@ -5,7 +5,7 @@ use Rattle.journals.specs.Moved.{machine_of}
 use Rattle.event_accounts.specs.Accounts.{accounts_of}
 use Rattle.event_accounts.specs.inner.Steps.{AreFew, account_after, rows_of}
 use Rattle.event_accounts.specs.declared.account.Account.{Account}
-use Rattle.net_core.proofs.Losses.{fits_at, prefix_more}
+use Rattle.journals.proofs.EntriesAt.{fits_at, prefix_more}
 use Rattle.journals.proofs.CursorsAfter.{machine_within}
 use Rattle.journals.proofs.MomentsAfter.{length-table}
 use Rattle.event_accounts.proofs.InputsOf.{inputs_of_machine}

@@ -1,5 +1,5 @@
 use Rattle.std.proofs.Common.{◌≡◌, ◌<◌, ◌==◌, ◌∙◌, sym, arith, length, false, get_or}
-use Rattle.journal_text.proofs.IsSame.{differ_false}
+use Rattle.polis_base.proofs.AllPass.{differ_false}
 use Rattle.std.proofs.lemmas.Bool.{eqb-true}
 use Rattle.journal_text.proofs.WordBytes.{plain_len, plain_whole, plain_end, plain_prefix, plain_at, bad_word}
 use Rattle.journal_text.proofs.cut.next_plain.Goals as goal

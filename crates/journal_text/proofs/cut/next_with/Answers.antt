@@ -1,5 +1,5 @@
 use Rattle.std.proofs.Common.{arith, length}
-use Rattle.journal_text.proofs.FirstMark.{none_before, whole_lacks}
+use Rattle.polis_base.proofs.FirstMark.{none_before, whole_lacks}
 use Rattle.journal_text.proofs.SkippedTo.{skipped_to}
 use Rattle.journal_text.proofs.cut.next_with.Goals as goal
 

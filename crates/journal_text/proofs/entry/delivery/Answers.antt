@@ -1,4 +1,4 @@
-use Rattle.journal_text.proofs.ReadItems.{domain_in}
+use Rattle.journals.proofs.ValueWords.{domain_in}
 use Rattle.journal_text.proofs.entry.delivery.Goals as goal
 
 pub code_of_word-requires : goal.code_of_word-requires

@@ -1,8 +1,6 @@
-use Rattle.std.proofs.Common.{◌≡◌, ◌∷◌, [], length, arith}
+use Rattle.std.proofs.Common.{◌≡◌, length, arith}
 use Rattle.machine_compiler.specs.Parts.{part_of_compiled}
-use Rattle.machine_compiler.specs.Lines.{lengths}
 use Rattle.machine_compiler.proofs.AreGraphs.{nothing_kept, one_kept, all_kept}
-use Rattle.machine_compiler.proofs.Pairwise.{two_texts}
 use Rattle.machine_compiler.proofs.kept.compile_graphs.Goals as goal
 
 pub loop-k-init : goal.loop-k-init
@@ -12,13 +10,10 @@ loop-k-init c =
 
 pub loop-k-preserved : goal.loop-k-preserved
 loop-k-preserved c =
-    let m = c.get-machine.result.now in
-    let q = part_of_compiled c.in_ok-part.part in
-    one_kept c.args.net.now c.loop-k.k c.loop-k.graphs c.push-in-loop-k.new.self c.loop-k.lengths
-    c.push.new.self m q c.loop-k.invariant c.get-machine.ensures c.in_ok-part.ensures
-    c.in_ok-push-2.ensures.ok
-    (two_texts c.loop-k.lengths c.push_lengths.new.out c.push.new.self (lengths m q) (10 ∷ [])
-    c.in_ok-push_lengths.ensures c.in_ok-push.ensures.ok)
+    one_kept c.args.net.now c.loop-k.k c.loop-k.graphs c.push.new.self c.loop-k.lengths
+    c.push_lengths_line.new.out c.get-machine.result.now (part_of_compiled c.in_ok-part.part)
+    c.loop-k.invariant c.get-machine.ensures c.in_ok-part.ensures c.in_ok-push.ensures.ok
+    c.in_ok-push_lengths_line.ensures
 
 pub returns : goal.returns
 returns c =

@@ -1,9 +1,6 @@
-use Rattle.std.proofs.Common.{◌≡◌, ◌∙◌, ◌++◌, ◌∷◌, [], List, ℕ, ap, refl, length, arith}
-use Rattle.task_code.specs.Listings.{part_text}
+use Rattle.std.proofs.Common.{◌≡◌, ◌∙◌, ◌++◌, List, ℕ, ap, refl, length, arith}
 use Rattle.machine_compiler.specs.Parts.{part_of_compiled}
-use Rattle.machine_compiler.specs.Lines.{lengths}
 use Rattle.machine_compiler.proofs.AreTexts.{nothing_written, one_written, all_written}
-use Rattle.machine_compiler.proofs.Pairwise.{of_machine, two_texts}
 use Rattle.machine_compiler.proofs.texts.compile_texts.Goals as goal
 
 pub loop-k-init : goal.loop-k-init
@@ -14,19 +11,10 @@ loop-k-init c =
 
 pub loop-k-preserved : goal.loop-k-preserved
 loop-k-preserved c =
-    let net = c.args.net.now in
-    let k = c.loop-k.k in
-    let m = c.get-machine.result.now in
-    let part = c.in_ok-part.part in
-    let written = of_machine net k m (λ machine. c.push_part.new.listing
-    ≡ c.loop-k.listing ++ part_text net machine (part_of_compiled part)) c.get-machine.ensures
-    c.in_ok-push_part.ensures in
-    one_written net k c.loop-k.listing c.loop-k.lengths c.push_part.new.listing
-    c.push-in-loop-k.new.self m (part_of_compiled part) c.loop-k.invariant c.get-machine.ensures
-    c.in_ok-part.ensures written
-    (two_texts c.loop-k.lengths c.push_lengths.new.out c.push-in-loop-k.new.self
-    (lengths m (part_of_compiled part)) (10 ∷ []) c.in_ok-push_lengths.ensures
-    c.in_ok-push-2.ensures.ok)
+    one_written c.args.net.now c.loop-k.k c.loop-k.listing c.loop-k.lengths
+    c.write_part.new.listing c.write_part.new.lines c.get-machine.result.now
+    (part_of_compiled c.in_ok-part.part) c.loop-k.invariant c.get-machine.ensures
+    c.in_ok-part.ensures c.in_ok-write_part.ensures.listing c.in_ok-write_part.ensures.lines
 
 pub returns : goal.returns
 returns c =
@@ -35,4 +23,4 @@ returns c =
     let b = c.loop-k.auto.k-end in let d = c.len-k-end.ensures in omega arith in
     all_written net c.loop-k.k c.loop-k.listing c.loop-k.lengths
     (record { listing = c.push-2.new.self; lengths = c.loop-k.lengths }) c.loop-k.invariant all
-    c.in_ok-push-3.ensures.ok refl
+    c.in_ok-push-2.ensures.ok refl

@@ -3,9 +3,9 @@ use Rattle.transition_table.specs.declared.snapshot.Snapshot.{Snapshot}
 use Rattle.journals.specs.Journals.{snap}
 use Rattle.journals.specs.Moved.{moments_of}
 use Rattle.journals.specs.Outputs.{lost_after, overwrites}
-use Rattle.net_core.proofs.Losses.{fits_at, suits_machine, overwrites_is, prefix_more, losses_more}
+use Rattle.net_core.proofs.Losses.{overwrites_is, losses_more}
+use Rattle.journals.proofs.EntriesAt.{fits_at, suits_machine, prefix_more, moment_of}
 use Rattle.journals.proofs.MomentsAfter.{length-table, moment_width}
-use Rattle.net_core.proofs.Tables.{moment_of}
 use Rattle.net_core.proofs.loss.lost.Goals.{then-overwrites, else-overwrites}
 use Rattle.journals.proofs.CursorsAfter.{machine_within}
 use Rattle.net_core.proofs.loss.lost.Goals as goal

@@ -4,7 +4,7 @@ use Rattle.net_core.specs.Tables.{AreTables}
 use Rattle.net_core.proofs.Prefixes.{follows_if_legal}
 use Rattle.net_core.proofs.Tables.{not_following}
 use Rattle.journals.proofs.StampSteps.{prefix_more}
-use Rattle.net_core.proofs.Losses.{fits_at}
+use Rattle.journals.proofs.EntriesAt.{fits_at}
 use Rattle.net_core.proofs.prefix.take_legal.Goals as goal
 
 pub may_follow-requires-clause-fits : goal.may_follow-requires-clause-fits

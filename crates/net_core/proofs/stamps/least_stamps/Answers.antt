@@ -2,7 +2,8 @@ use Rattle.std.proofs.Common.{◌≡◌, ◌+◌, ◌∷◌, ◌++◌, [], ℕ, 
 use Rattle.journals.specs.declared.entry.Entry.{Entry}
 use Rattle.journals.specs.declared.stamped.Stamped.{Stamped}
 use Rattle.journals.specs.Logs.{with_stamps}
-use Rattle.journals.specs.Stamps.{greatest, stamps_below, least_stamp, least}
+use Rattle.journals.specs.Stamps.{greatest, stamps_below, least_stamp, least, Rising}
+use Rattle.std.proofs.lemmas.List.{take_all}
 use Rattle.net_core.specs.inner.Clocks.{AreClocks}
 use Rattle.net_core.proofs.IsBacked.{is_next, least_below}
 use Rattle.journals.proofs.StampSteps.{length_prefix, prefix_more}
@@ -108,3 +109,25 @@ loop-i-preserved c =
           (c.in_ok-take.ensures.taken done
           (c.below-stamp.ensures.same done c.loop-i.invariant.clocks_are) next.backed next.more);
     }
+
+pub loop-i-init : goal.loop-i-init
+loop-i-init c = record {
+  stamps_are = c.new-stamps.ensures;
+  clocks_are = subst (λ (l : List ℕ). AreClocks c.args.net.now (with_stamps [] l)
+      c.in_ok-clocks.clocks) (sym c.new-stamps.ensures) c.in_ok-clocks.ensures;
+}
+
+pub returns-clause-least : goal.returns-clause-least
+returns-clause-least c =
+    let len = c.len-i-end.ensures in
+    c.loop-i.invariant.stamps_are
+    ∙ ap (least c.args.net.now) (take_all c.loop-i.i c.args.j.now (omega arith))
+
+pub returns-clause-rising : goal.returns-clause-rising
+returns-clause-rising c =
+    let len = c.len-i-end.ensures in
+    let few = c.requires.few in
+    let is = c.loop-i.invariant.stamps_are
+    ∙ ap (least c.args.net.now) (take_all c.loop-i.i c.args.j.now (omega arith)) in
+    subst (Rising c.args.net.now c.args.j.now) (sym is)
+    (c.stamp_laws.ensures.least_rises c.args.net.now c.args.j.now (omega arith))

@@ -8,5 +8,5 @@ abbrev pub invariant-loop-t : goal.invariant-loop-t
 invariant-loop-t l = record {
   room : HasRoom (product l.m.vars) l.seen;
   known : AreKnown l.m l.known;
-  chain : AreChain l.m l.order l.t l.classes l.backs;
+  chain : AreChain l.m l.order l.t l.chain.classes l.chain.backs;
 }

@@ -1,20 +1,92 @@
-use Rattle.std.proofs.Common.{◌≡◌, ◌∙◌, ◌||◌, ◌==◌, ◌+◌, ◌-◌, ◌<◌, ◌≤◌, [], ℕ, List, length, take, get_or, slice_index, arith, sym, ap, subst, refl}
+use Rattle.std.proofs.Common.{◌≡◌, ◌∙◌, ◌+◌, ◌-◌, ◌<◌, ◌≤◌, ◌||◌, ◌==◌, ℕ, List, Some, length, take, get_or, slice_get, slice_index, arith, sym, ap, subst, refl, false, []}
+use Rattle.std.specs.Prelude.{IsTrue}
 use Rattle.std.specs.List.{remove}
 use Rattle.std.proofs.lemmas.Option.{get_or_from_slice_get}
+use Rattle.domains.specs.Tables.{are_sizes, product}
+use Rattle.transition_table.specs.declared.machine.Machine.{Machine}
 use Rattle.transition_table.specs.Computed.{char}
-use Rattle.transition_table.specs.Orders.{sizes_of}
+use Rattle.transition_table.specs.Orders.{Allowed, sizes_of}
+use Rattle.transition_table.specs.Transitions.{IsDeterministic}
 use Rattle.decision_diagram.specs.Sets.{stands, set_level}
-use Rattle.order_sift.specs.inner.Chains.{AreSizes}
+use Rattle.order_sift.specs.declared.chain.Chain.{Chain}
+use Rattle.order_sift.specs.inner.Below.{BelowOrders}
+use Rattle.order_sift.specs.inner.Chains.{AreSizes, IsChain}
 use Rattle.order_sift.specs.inner.Classes.{AreClasses, fixed_too}
 use Rattle.order_sift.specs.inner.Known.{in_set}
+use Rattle.order_sift.specs.inner.Settings.{IsRange}
 use Rattle.order_sift.proofs.ListUpdates.{set_long}
-use Rattle.order_sift.proofs.ChainSteps.{sizes_set, front_low, after_free, after_more, after_next, steps_after, start_without}
-use Rattle.domains.specs.Tables.{product}
+use Rattle.order_sift.proofs.ChainSteps.{Follows, sizes_set, front_low, after_free, after_more, after_next, steps_after, start_without}
 use Rattle.order_sift.proofs.PairKeys.{room_kept}
 use Rattle.order_sift.proofs.ItemSets.{same_level, same_too, small_items}
 use Rattle.order_sift.proofs.AllowedPlaces.{items}
 use Rattle.order_sift.proofs.MovedLevels.{front_of, same_classes, same_next, take_low}
+use Rattle.order_sift.proofs.moves.fill_after.Goals.{After-get-next}
 use Rattle.order_sift.proofs.moves.fill_after.Goals as goal
+
+-- the item at place j is the next after which the item at place i is put
+record Later (m : Machine) (o : List ℕ) (classes : List (List ℕ)) (i j set item next : ℕ) :
+    Type 0 where
+  high : i < j
+  within : j < length o
+  item_is : slice_index o i ≡ item
+  next_is : slice_index o j ≡ next
+  item_low : item < length m.vars + length m.results
+  next_low : next < length m.vars + length m.results
+  free : in_set set next ≡ false
+  same : (more : ℕ) → ((w : ℕ) → in_set more w ≡ fixed_too (in_set set) next w) → (w : ℕ)
+      → in_set more w ≡ stands (take j (remove o i)) w
+  follows : Follows m (stands (take j (remove o i))) (slice_index o i)
+      (get_or classes (length o - 1 - j) [])
+
+later : (m : Machine) (o : List ℕ) (laws : BelowOrders) (sure : IsDeterministic m)
+    (allowed : Allowed m o) (chain : Chain) (is_chain : IsChain m o chain)
+    (sized : IsTrue (are_sizes (sizes_of m))) (i first last j set item next : ℕ)
+    → IsRange m o i first last → i + 1 ≤ j → j < last + 1 → slice_get o i ≡ Some item
+    → slice_get o j ≡ Some next
+    → ((w : ℕ) → in_set set w ≡ stands (take (j - 1) (remove o i)) w)
+    → Later m o chain.classes i j set item next
+later m o laws sure allowed chain is_chain sized i first last j set item next range up turn
+    item_got next_got set_is =
+    let low = range.first in
+    let most = range.last in
+    let own = range.i in
+    let li : i < length o = omega arith in
+    let high : i < j = omega arith in
+    let lj : j < length o = omega arith in
+    let item_is = get_or_from_slice_get o i item 0 item_got in
+    let next_is = get_or_from_slice_get o j next 0 next_got in
+    let many = items m o allowed in
+    let item_at = allowed.permutation.below i li in
+    let next_at = allowed.permutation.below j lj in
+    record {
+      high = high;
+      within = lj;
+      item_is = item_is;
+      next_is = next_is;
+      item_low = omega arith;
+      next_low = omega arith;
+      free = set_is next
+          ∙ after_free m o laws sure allowed chain.classes chain.backs is_chain i li sized j next
+          high lj (range.places (j - 1) (omega arith) (omega arith)) next_is;
+      same = λ more is w. is w ∙ ap (λ b. b || next == w) (set_is w)
+          ∙ after_more m o laws sure allowed chain.classes chain.backs is_chain i li sized j next w
+          high lj next_is;
+      follows = after_next m o laws sure allowed chain.classes chain.backs is_chain i li sized j
+          high lj (range.places j (omega arith) (omega arith));
+    }
+
+here : (c : After-get-next)
+    → Later c.args.moving.now.machine.now c.args.moving.now.order.now
+    c.args.moving.now.chain.now.classes c.args.i c.loop-j.j c.loop-j.set c.get-item.result.now
+    c.get-next.result.now
+here c =
+    let moving = c.requires.moving in
+    later c.args.moving.now.machine.now c.args.moving.now.order.now c.laws_of_levels.ensures.laws
+    moving.sure moving.allowed c.args.moving.now.chain.now moving.chain
+    c.laws_of_levels.ensures.sizes c.args.i c.args.range.first c.args.range.last c.loop-j.j
+    c.loop-j.set c.get-item.result.now c.get-next.result.now c.requires.range
+    c.loop-j.invariant.later c.loop-j-test.true c.get-item.ensures c.get-next.ensures
+    c.loop-j.invariant.set
 
 pub loop-j-init : goal.loop-j-init
 loop-j-init c =
@@ -81,11 +153,10 @@ loop-j-preserved c =
     let test = c.loop-j-test.true in
     let inv = c.loop-j.invariant in
     let later = inv.later in
-    let high : i < j = omega arith in
-    let lj : j < length o = omega arith in
+    let h = here (goal.at.loop-j-preserved c).After-get-next in
+    let high = h.high in
+    let lj = h.within in
     let next = c.get-next.result.now in
-    let next_is = get_or_from_slice_get o j next 0 c.get-next.ensures in
-    let item_is = get_or_from_slice_get o i c.get-item.result.now 0 c.get-item.ensures in
     let back : c.get-back.result.now ≡ slice_index chain.backs (length o - 1 - j) =
     sym (ap (λ (n : ℕ). slice_index chain.backs (n - 1 - j)) (sym l)
     ∙ get_or_from_slice_get chain.backs (c.len-items.result - 1 - j) c.get-back.result.now 0
@@ -96,19 +167,17 @@ loop-j-preserved c =
     let freer = c.in_ok-freer.freer in
     let bare = stands (take j (remove o i)) in
     let same : (w : ℕ) → in_set c.with-more.result w ≡ bare w =
-    λ w. c.with-more.ensures w ∙ ap (λ b. b || next == w) (inv.set w)
-    ∙ after_more m o laws c.requires.moving.sure c.requires.moving.allowed chain.classes chain.backs
-    c.requires.moving.chain i li sized j next w high lj next_is in
+    h.same c.with-more.result c.with-more.ensures in
     let made = same_classes m (in_set c.with-more.result) bare freer same
     c.in_ok-freer.ensures.numbers in
     let level = same_level m (in_set c.loop-j.set) (stands (take (j - 1) (remove o i))) next here
     inv.set c.in_ok-here.ensures.level in
-    let own_level = subst (λ (x : ℕ). own ≡ set_level (char m) (sizes_of m) bare x) (sym item_is)
+    let own_level = subst (λ (x : ℕ). own ≡ set_level (char m) (sizes_of m) bare x) (sym h.item_is)
     (same_level m (in_set c.with-more.result) bare c.get-item.result.now own same
     c.in_ok-own.ensures.level) in
     let step = steps_after m o laws c.requires.moving.sure c.requires.moving.allowed chain.classes chain.backs
     c.requires.moving.chain i li sized j next here old_front own c.get-back.result.now
-    freer high lj next_is inv.front level made own_level back in
+    freer high lj h.next_is inv.front level made own_level back in
     let e : j ≡ j + 1 - 1 = omega arith in
     let set = c.set.ensures in
     let long = inv.long in
@@ -134,33 +203,15 @@ loop-j-preserved c =
 
 pub level_after-requires-clause-item : goal.level_after-requires-clause-item
 level_after-requires-clause-item c =
-    let o = c.args.moving.now.order.now in
-    let n = items c.args.moving.now.machine.now o c.requires.moving.allowed in
-    let l = c.len-items.ensures.len in
-    let is = get_or_from_slice_get o (c.loop-j.j) c.get-next.result.now 0 c.get-next.ensures in
-    let b = c.requires.moving.allowed.permutation.below (c.loop-j.j) (let a = c.loop-j-test.true in
-    let b = c.requires.range.last in omega arith) in
-    omega arith
+    (here (goal.at.level_after-requires-clause-item c).After-get-next).next_low
 
 pub numbers_of-requires-clause-item : goal.numbers_of-requires-clause-item
 numbers_of-requires-clause-item c =
-    let o = c.args.moving.now.order.now in
-    let n = items c.args.moving.now.machine.now o c.requires.moving.allowed in
-    let l = c.len-items.ensures.len in
-    let is = get_or_from_slice_get o (c.args.i) c.get-item.result.now 0 c.get-item.ensures in
-    let b = c.requires.moving.allowed.permutation.below (c.args.i) (let a = c.requires.range.i in
-    let b = c.requires.range.last in omega arith) in
-    omega arith
+    (here (goal.at.numbers_of-requires-clause-item c).After-get-next).item_low
 
 pub level_after-requires-in-loop-j-clause-item : goal.level_after-requires-in-loop-j-clause-item
 level_after-requires-in-loop-j-clause-item c =
-    let o = c.args.moving.now.order.now in
-    let n = items c.args.moving.now.machine.now o c.requires.moving.allowed in
-    let l = c.len-items.ensures.len in
-    let is = get_or_from_slice_get o (c.args.i) c.get-item.result.now 0 c.get-item.ensures in
-    let b = c.requires.moving.allowed.permutation.below (c.args.i) (let a = c.requires.range.i in
-    let b = c.requires.range.last in omega arith) in
-    omega arith
+    (here (goal.at.level_after-requires-in-loop-j-clause-item c).After-get-next).item_low
 
 pub first_items-set-requires-clause-count : goal.first_items-set-requires-clause-count
 first_items-set-requires-clause-count c =
@@ -173,35 +224,13 @@ first_items-set-requires-clause-small c =
 
 pub with-more-requires : goal.with-more-requires
 with-more-requires c =
-    let m = c.args.moving.now.machine.now in
-    let o = c.args.moving.now.order.now in
-    let is = get_or_from_slice_get o c.loop-j.j c.get-next.result.now 0 c.get-next.ensures in
-    let low = small_items m o c.requires.moving.allowed c.laws_of_levels.ensures.few c.loop-j.j
-    (let a = c.loop-j-test.true in let b = c.requires.range.last in omega arith) in
+    let next = (here (goal.at.with-more-requires c).After-get-next).next_low in
+    let few = c.laws_of_levels.ensures.few in
     omega arith
 
 pub level_after-requires-clause-free : goal.level_after-requires-clause-free
 level_after-requires-clause-free c =
-    let m = c.args.moving.now.machine.now in
-    let o = c.args.moving.now.order.now in
-    let chain = c.args.moving.now.chain.now in
-    let laws = c.laws_of_levels.ensures.laws in
-    let sized = c.laws_of_levels.ensures.sizes in
-    let i = c.args.i in
-    let j = c.loop-j.j in
-    let li : i < length o = let a = c.requires.range.i in let b = c.requires.range.last in omega arith in
-    let test = c.loop-j-test.true in
-    let last = c.requires.range.last in
-    let later = c.loop-j.invariant.later in
-    let high : i < j = omega arith in
-    let lj : j < length o = omega arith in
-    let next = c.get-next.result.now in
-    let next_is = get_or_from_slice_get o j next 0 c.get-next.ensures in
-    let low = c.requires.range.first in
-    let may = c.requires.range.places (j - 1) (omega arith) (omega arith) in
-    c.loop-j.invariant.set next
-    ∙ after_free m o laws c.requires.moving.sure c.requires.moving.allowed chain.classes chain.backs
-    c.requires.moving.chain i li sized j next high lj may next_is
+    (here (goal.at.level_after-requires-clause-free c).After-get-next).free
 
 pub level_after-requires-clause-classes : goal.level_after-requires-clause-classes
 level_after-requires-clause-classes c =
@@ -216,101 +245,36 @@ pub numbers_of-requires-clause-next : goal.numbers_of-requires-clause-next
 numbers_of-requires-clause-next c =
     let m = c.args.moving.now.machine.now in
     let o = c.args.moving.now.order.now in
-    let chain = c.args.moving.now.chain.now in
-    let laws = c.laws_of_levels.ensures.laws in
-    let sized = c.laws_of_levels.ensures.sizes in
-    let i = c.args.i in
-    let j = c.loop-j.j in
-    let li : i < length o = let a = c.requires.range.i in let b = c.requires.range.last in omega arith in
-    let test = c.loop-j-test.true in
-    let last = c.requires.range.last in
-    let later = c.loop-j.invariant.later in
-    let high : i < j = omega arith in
-    let lj : j < length o = omega arith in
-    let next = c.get-next.result.now in
-    let next_is = get_or_from_slice_get o j next 0 c.get-next.ensures in
-    let item = c.get-item.result.now in
-    let item_is = get_or_from_slice_get o i item 0 c.get-item.ensures in
-    let l = c.len-items.ensures.len in
-    let low = c.requires.range.first in
-    let may = c.requires.range.places j (omega arith) (omega arith) in
-    let bare = stands (take j (remove o i)) in
-    let same : (w : ℕ) → in_set c.with-more.result w ≡ bare w =
-    λ w. c.with-more.ensures w ∙ ap (λ b. b || next == w) (c.loop-j.invariant.set w)
-    ∙ after_more m o laws c.requires.moving.sure c.requires.moving.allowed chain.classes chain.backs
-    c.requires.moving.chain i li sized j next w high lj next_is in
-    let follows = after_next m o laws c.requires.moving.sure c.requires.moving.allowed chain.classes chain.backs
-    c.requires.moving.chain i li sized j high lj may in
-    same_next m bare (in_set c.with-more.result) (slice_index o i) item (λ w. sym (same w)) item_is
-    follows.next
+    let h = here (goal.at.numbers_of-requires-clause-next c).After-get-next in
+    same_next m (stands (take c.loop-j.j (remove o c.args.i))) (in_set c.with-more.result)
+    (slice_index o c.args.i) c.get-item.result.now
+    (λ w. sym (h.same c.with-more.result c.with-more.ensures w)) h.item_is h.follows.next
 
 pub numbers_of-requires-clause-classes : goal.numbers_of-requires-clause-classes
 numbers_of-requires-clause-classes c =
     let m = c.args.moving.now.machine.now in
     let o = c.args.moving.now.order.now in
     let chain = c.args.moving.now.chain.now in
-    let laws = c.laws_of_levels.ensures.laws in
-    let sized = c.laws_of_levels.ensures.sizes in
     let i = c.args.i in
     let j = c.loop-j.j in
-    let li : i < length o = let a = c.requires.range.i in let b = c.requires.range.last in omega arith in
-    let test = c.loop-j-test.true in
-    let last = c.requires.range.last in
-    let later = c.loop-j.invariant.later in
-    let high : i < j = omega arith in
-    let lj : j < length o = omega arith in
-    let next = c.get-next.result.now in
-    let next_is = get_or_from_slice_get o j next 0 c.get-next.ensures in
     let item = c.get-item.result.now in
-    let item_is = get_or_from_slice_get o i item 0 c.get-item.ensures in
-    let l = c.len-items.ensures.len in
-    let low = c.requires.range.first in
-    let may = c.requires.range.places j (omega arith) (omega arith) in
+    let old = c.get-with_item.result.now in
+    let h = here (goal.at.numbers_of-requires-clause-classes c).After-get-next in
     let bare = stands (take j (remove o i)) in
-    let same : (w : ℕ) → in_set c.with-more.result w ≡ bare w =
-    λ w. c.with-more.ensures w ∙ ap (λ b. b || next == w) (c.loop-j.invariant.set w)
-    ∙ after_more m o laws c.requires.moving.sure c.requires.moving.allowed chain.classes chain.backs
-    c.requires.moving.chain i li sized j next w high lj next_is in
-    let follows = after_next m o laws c.requires.moving.sure c.requires.moving.allowed chain.classes chain.backs
-    c.requires.moving.chain i li sized j high lj may in
-    let got = ap (λ (n : ℕ). get_or chain.classes (n - 1 - j) []) (sym l)
-    ∙ get_or_from_slice_get chain.classes (c.len-items.result - 1 - j)
-    c.get-with_item.result.now [] c.get-with_item.ensures in
-    same_too m bare (in_set c.with-more.result) item c.get-with_item.result.now
-    (λ w. sym (same w))
-    (subst (λ (x : ℕ). AreClasses m (fixed_too bare x) c.get-with_item.result.now) item_is
-    (subst (AreClasses m (fixed_too bare (slice_index o i))) got follows.too))
+    let got = ap (λ (n : ℕ). get_or chain.classes (n - 1 - j) []) (sym c.len-items.ensures.len)
+    ∙ get_or_from_slice_get chain.classes (c.len-items.result - 1 - j) old []
+    c.get-with_item.ensures in
+    same_too m bare (in_set c.with-more.result) item old
+    (λ w. sym (h.same c.with-more.result c.with-more.ensures w))
+    (subst (λ (x : ℕ). AreClasses m (fixed_too bare x) old) h.item_is
+    (subst (AreClasses m (fixed_too bare (slice_index o i))) got h.follows.too))
 
 pub level_after-requires-in-loop-j-clause-free : goal.level_after-requires-in-loop-j-clause-free
 level_after-requires-in-loop-j-clause-free c =
-    let m = c.args.moving.now.machine.now in
     let o = c.args.moving.now.order.now in
-    let chain = c.args.moving.now.chain.now in
-    let laws = c.laws_of_levels.ensures.laws in
-    let sized = c.laws_of_levels.ensures.sizes in
-    let i = c.args.i in
-    let j = c.loop-j.j in
-    let li : i < length o = let a = c.requires.range.i in let b = c.requires.range.last in omega arith in
-    let test = c.loop-j-test.true in
-    let last = c.requires.range.last in
-    let later = c.loop-j.invariant.later in
-    let high : i < j = omega arith in
-    let lj : j < length o = omega arith in
-    let next = c.get-next.result.now in
-    let next_is = get_or_from_slice_get o j next 0 c.get-next.ensures in
-    let item = c.get-item.result.now in
-    let item_is = get_or_from_slice_get o i item 0 c.get-item.ensures in
-    let l = c.len-items.ensures.len in
-    let low = c.requires.range.first in
-    let may = c.requires.range.places j (omega arith) (omega arith) in
-    let bare = stands (take j (remove o i)) in
-    let same : (w : ℕ) → in_set c.with-more.result w ≡ bare w =
-    λ w. c.with-more.ensures w ∙ ap (λ b. b || next == w) (c.loop-j.invariant.set w)
-    ∙ after_more m o laws c.requires.moving.sure c.requires.moving.allowed chain.classes chain.backs
-    c.requires.moving.chain i li sized j next w high lj next_is in
-    let follows = after_next m o laws c.requires.moving.sure c.requires.moving.allowed chain.classes chain.backs
-    c.requires.moving.chain i li sized j high lj may in
-    same item ∙ ap bare (sym item_is) ∙ follows.next.free
+    let h = here (goal.at.level_after-requires-in-loop-j-clause-free c).After-get-next in
+    h.same c.with-more.result c.with-more.ensures c.get-item.result.now
+    ∙ ap (stands (take c.loop-j.j (remove o c.args.i))) (sym h.item_is) ∙ h.follows.next.free
 
 pub overflow_sub-front : goal.overflow_sub-front
 overflow_sub-front c =

@@ -1,20 +1,101 @@
-use Rattle.std.proofs.Common.{◌≡◌, ◌∙◌, ◌+◌, ◌-◌, ◌<◌, ◌≤◌, [], ◌∷◌, ◌++◌, ℕ, List, length, take, get_or, slice_index, arith, sym, ap, subst, refl}
+use Rattle.std.proofs.Common.{◌≡◌, ◌∙◌, ◌+◌, ◌-◌, ◌<◌, ◌≤◌, ◌∷◌, ◌++◌, ℕ, List, Some, length, take, get_or, slice_get, slice_index, arith, sym, ap, subst, refl, false, []}
+use Rattle.std.specs.Prelude.{IsTrue}
 use Rattle.std.specs.List.{remove}
 use Rattle.std.proofs.lemmas.Option.{get_or_from_slice_get}
+use Rattle.domains.specs.Tables.{are_sizes, product}
+use Rattle.transition_table.specs.declared.machine.Machine.{Machine}
 use Rattle.transition_table.specs.Computed.{char}
-use Rattle.transition_table.specs.Orders.{sizes_of}
+use Rattle.transition_table.specs.Orders.{Allowed, sizes_of}
+use Rattle.transition_table.specs.Transitions.{IsDeterministic}
 use Rattle.decision_diagram.specs.Sets.{stands, set_level}
-use Rattle.order_sift.specs.inner.Chains.{AreSizes}
-use Rattle.order_sift.specs.inner.Classes.{AreClasses}
+use Rattle.order_sift.specs.declared.chain.Chain.{Chain}
+use Rattle.order_sift.specs.inner.Below.{BelowOrders}
+use Rattle.order_sift.specs.inner.Chains.{AreSizes, IsChain}
+use Rattle.order_sift.specs.inner.Classes.{AreClasses, IsNextItem, fixed_too}
 use Rattle.order_sift.specs.inner.Known.{in_set}
+use Rattle.order_sift.specs.inner.Settings.{IsRange}
 use Rattle.order_sift.proofs.ListUpdates.{set_long}
 use Rattle.order_sift.proofs.ChainSteps.{sizes_set, front_low, before_next, own_free, own_classes, steps_before, start_with, back_high}
-use Rattle.domains.specs.Tables.{product}
 use Rattle.order_sift.proofs.PairKeys.{room_kept}
 use Rattle.order_sift.proofs.ItemSets.{set_before, set_with, same_level, same_too, small_items}
 use Rattle.order_sift.proofs.AllowedPlaces.{items}
 use Rattle.order_sift.proofs.MovedLevels.{back_of, same_classes, same_next, rest_long}
+use Rattle.order_sift.proofs.moves.fill_before.Goals.{After-with-set}
 use Rattle.order_sift.proofs.moves.fill_before.Goals as goal
+
+-- the item at place j is the next before which the item at place i is put, and the sets of those
+-- before it without that item and with it
+record Earlier (m : Machine) (o : List ℕ) (i j before set item next : ℕ) (old : List ℕ) :
+    Type 0 where
+  low : j < i
+  item_is : slice_index o i ≡ item
+  next_is : slice_index o j ≡ next
+  item_low : item < length m.vars + length m.results
+  next_low : next < length m.vars + length m.results
+  same : (w : ℕ) → in_set before w ≡ stands (take j (remove o i)) w
+  same_with : (w : ℕ) → in_set set w ≡ stands (take j (remove o i) ++ slice_index o i ∷ []) w
+  follows : IsNextItem m (in_set set) next
+  too : AreClasses m (fixed_too (in_set set) next) old
+  free : in_set before item ≡ false
+
+earlier : (m : Machine) (o : List ℕ) (laws : BelowOrders) (sure : IsDeterministic m)
+    (allowed : Allowed m o) (chain : Chain) (is_chain : IsChain m o chain)
+    (sized : IsTrue (are_sizes (sizes_of m))) (i first t before set item next : ℕ) (old : List ℕ)
+    → IsRange m o i first i → t < i - first → slice_get o i ≡ Some item
+    → slice_get o (i - 1 - t) ≡ Some next
+    → ((w : ℕ) → in_set before w ≡ stands (take (i - 1 - t) o) w)
+    → ((w : ℕ) → in_set set w ≡ fixed_too (in_set before) item w)
+    → AreClasses m (stands (take (i - t) (remove o i) ++ slice_index o i ∷ [])) old
+    → Earlier m o i (i - 1 - t) before set item next old
+earlier m o laws sure allowed chain is_chain sized i first t before set item next old range turn
+    item_got next_got before_is set_is old_are =
+    let j = i - 1 - t in
+    let li = range.last in
+    let low : j < i = omega arith in
+    let e_old : i - t ≡ j + 1 = omega arith in
+    let may = range.places j (omega arith) (omega arith) in
+    let item_is = get_or_from_slice_get o i item 0 item_got in
+    let next_is = get_or_from_slice_get o j next 0 next_got in
+    let with_it = stands (take j (remove o i) ++ slice_index o i ∷ []) in
+    let same = set_before o before i j before_is (omega arith) in
+    let same_with : (w : ℕ) → in_set set w ≡ with_it w =
+    set_with o before set item i j item_is same set_is in
+    let long = rest_long m o laws sure allowed i li in
+    let many = items m o allowed in
+    let item_at = allowed.permutation.below i li in
+    let next_at = allowed.permutation.below j (omega arith) in
+    let follows = before_next m o laws sure allowed chain.classes chain.backs is_chain i li sized j
+    next old low may next_is (subst
+    (λ (n : ℕ). AreClasses m (stands (take n (remove o i) ++ slice_index o i ∷ [])) old) e_old
+    old_are) in
+    record {
+      low = low;
+      item_is = item_is;
+      next_is = next_is;
+      item_low = omega arith;
+      next_low = omega arith;
+      same = same;
+      same_with = same_with;
+      follows = same_next m with_it (in_set set) next next (λ w. sym (same_with w)) refl
+          follows.next;
+      too = same_too m with_it (in_set set) next old (λ w. sym (same_with w)) follows.too;
+      free = same item ∙ ap (stands (take j (remove o i))) (sym item_is)
+          ∙ own_free m o laws sure allowed chain.classes chain.backs is_chain i li sized j
+          (omega arith) may;
+    }
+
+here : (c : After-with-set)
+    → Earlier c.args.moving.now.machine.now c.args.moving.now.order.now c.args.i
+    (c.args.i - 1 - c.loop-t.t) c.first_items-before.result c.with-set.result c.get-item.result.now
+    c.get-next.result.now c.loop-t.with_item
+here c =
+    let moving = c.requires.moving in
+    earlier c.args.moving.now.machine.now c.args.moving.now.order.now
+    c.laws_of_levels.ensures.laws moving.sure moving.allowed c.args.moving.now.chain.now
+    moving.chain c.laws_of_levels.ensures.sizes c.args.i c.args.first c.loop-t.t
+    c.first_items-before.result c.with-set.result c.get-item.result.now c.get-next.result.now
+    c.loop-t.with_item c.requires.range c.loop-t-test.true c.get-item.ensures c.get-next.ensures
+    c.first_items-before.ensures c.with-set.ensures c.loop-t.invariant.classes
 
 pub loop-t-init : goal.loop-t-init
 loop-t-init c =
@@ -72,13 +153,12 @@ loop-t-preserved c =
     let test = c.loop-t-test.true in
     let j = i - 1 - t in
     let inv = c.loop-t.invariant in
+    let h = here (goal.at.loop-t-preserved c).After-with-set in
+    let low = h.low in
     let e_old : i - t ≡ j + 1 = omega arith in
     let e_new : j ≡ i - (t + 1) = omega arith in
-    let low : j < i = omega arith in
     let high : first ≤ j = omega arith in
     let next = c.get-next.result.now in
-    let next_is = get_or_from_slice_get o j next 0 c.get-next.ensures in
-    let item_is = get_or_from_slice_get o i c.get-item.result.now 0 c.get-item.ensures in
     let whole_is = ap (slice_index chain.backs) (sym l)
     ∙ get_or_from_slice_get chain.backs c.len-items.result c.get-whole.result.now 0
     c.get-whole.ensures in
@@ -95,24 +175,19 @@ loop-t-preserved c =
     let front = c.get-whole.result.now - c.get-after.result.now in
     let bare = stands (take j (remove o i)) in
     let with_it = stands (take j (remove o i) ++ slice_index o i ∷ []) in
-    let same : (w : ℕ) → in_set c.first_items-before.result w ≡ bare w =
-    set_before o c.first_items-before.result i j c.first_items-before.ensures (omega arith) in
-    let same_with : (w : ℕ) → in_set c.with-set.result w ≡ with_it w =
-    set_with o c.first_items-before.result c.with-set.result c.get-item.result.now i j item_is same
-    c.with-set.ensures in
-    let made = same_classes m (in_set c.with-set.result) with_it c.in_ok-freer.freer same_with
+    let made = same_classes m (in_set c.with-set.result) with_it c.in_ok-freer.freer h.same_with
     c.in_ok-freer.ensures.numbers in
-    let level = same_level m (in_set c.with-set.result) with_it next here same_with
+    let level = same_level m (in_set c.with-set.result) with_it next here h.same_with
     c.in_ok-here.ensures.level in
-    let own_level = subst (λ (x : ℕ). own ≡ set_level (char m) (sizes_of m) bare x) (sym item_is)
-    (same_level m (in_set c.first_items-before.result) bare c.get-item.result.now own same
+    let own_level = subst (λ (x : ℕ). own ≡ set_level (char m) (sizes_of m) bare x) (sym h.item_is)
+    (same_level m (in_set c.first_items-before.result) bare c.get-item.result.now own h.same
     c.in_ok-own.ensures.level) in
     let fronts = front_low m o laws c.requires.moving.sure c.requires.moving.allowed chain.classes chain.backs
     c.requires.moving.chain i li sized j (omega arith) in
     let fronts_is = fronts.1 in
     let step = steps_before m o laws c.requires.moving.sure c.requires.moving.allowed chain.classes chain.backs
     c.requires.moving.chain i li sized j next here old_back own front
-    c.in_ok-freer.freer low next_is (inv.back ∙ ap (back_of m o i) e_old) made level own_level
+    c.in_ok-freer.freer low h.next_is (inv.back ∙ ap (back_of m o i) e_old) made level own_level
     (omega arith) in
     let set = c.set.ensures in
     let long = inv.long in
@@ -137,34 +212,15 @@ loop-t-preserved c =
 
 pub numbers_of-requires-clause-item : goal.numbers_of-requires-clause-item
 numbers_of-requires-clause-item c =
-    let o = c.args.moving.now.order.now in
-    let n = items c.args.moving.now.machine.now o c.requires.moving.allowed in
-    let l = c.len-items.ensures.len in
-    let is = get_or_from_slice_get o (c.args.i - 1 - c.loop-t.t) c.get-next.result.now 0
-    c.get-next.ensures in
-    let b = c.requires.moving.allowed.permutation.below (c.args.i - 1 - c.loop-t.t)
-    (let a = c.loop-t-test.true in let b = c.requires.range.last in omega arith) in
-    omega arith
+    (here (goal.at.numbers_of-requires-clause-item c).After-with-set).next_low
 
 pub level_after-requires-clause-item : goal.level_after-requires-clause-item
 level_after-requires-clause-item c =
-    let o = c.args.moving.now.order.now in
-    let n = items c.args.moving.now.machine.now o c.requires.moving.allowed in
-    let l = c.len-items.ensures.len in
-    let is = get_or_from_slice_get o (c.args.i - 1 - c.loop-t.t) c.get-next.result.now 0
-    c.get-next.ensures in
-    let b = c.requires.moving.allowed.permutation.below (c.args.i - 1 - c.loop-t.t)
-    (let a = c.loop-t-test.true in let b = c.requires.range.last in omega arith) in
-    omega arith
+    (here (goal.at.level_after-requires-clause-item c).After-with-set).next_low
 
 pub level_after-requires-in-loop-t-clause-item : goal.level_after-requires-in-loop-t-clause-item
 level_after-requires-in-loop-t-clause-item c =
-    let o = c.args.moving.now.order.now in
-    let n = items c.args.moving.now.machine.now o c.requires.moving.allowed in
-    let l = c.len-items.ensures.len in
-    let is = get_or_from_slice_get o (c.args.i) c.get-item.result.now 0 c.get-item.ensures in
-    let b = c.requires.moving.allowed.permutation.below (c.args.i) (c.requires.range.last) in
-    omega arith
+    (here (goal.at.level_after-requires-in-loop-t-clause-item c).After-with-set).item_low
 
 pub first_items-before-requires-clause-count : goal.first_items-before-requires-clause-count
 first_items-before-requires-clause-count c =
@@ -186,111 +242,19 @@ with-set-requires c =
 
 pub numbers_of-requires-clause-next : goal.numbers_of-requires-clause-next
 numbers_of-requires-clause-next c =
-    let m = c.args.moving.now.machine.now in
-    let o = c.args.moving.now.order.now in
-    let chain = c.args.moving.now.chain.now in
-    let i = c.args.i in
-    let t = c.loop-t.t in
-    let test = c.loop-t-test.true in
-    let j = i - 1 - t in
-    let e_old : i - t ≡ j + 1 = omega arith in
-    let low : j < i = omega arith in
-    let may = c.requires.range.places j (omega arith) (omega arith) in
-    let next = c.get-next.result.now in
-    let next_is = get_or_from_slice_get o j next 0 c.get-next.ensures in
-    let item_is = get_or_from_slice_get o i c.get-item.result.now 0 c.get-item.ensures in
-    let with_it = stands (take j (remove o i) ++ slice_index o i ∷ []) in
-    let old_are = subst
-    (λ (n : ℕ). AreClasses m (stands (take n (remove o i) ++ slice_index o i ∷ []))
-    c.loop-t.with_item) e_old c.loop-t.invariant.classes in
-    let same = set_before o c.first_items-before.result i j c.first_items-before.ensures
-    (omega arith) in
-    let same_with : (w : ℕ) → in_set c.with-set.result w ≡ with_it w =
-    set_with o c.first_items-before.result c.with-set.result c.get-item.result.now i j item_is same
-    c.with-set.ensures in
-    same_next m with_it (in_set c.with-set.result) next next (λ w. sym (same_with w)) refl
-    (before_next m o c.laws_of_levels.ensures.laws c.requires.moving.sure c.requires.moving.allowed chain.classes
-    chain.backs c.requires.moving.chain i c.requires.range.last c.laws_of_levels.ensures.sizes j next
-    c.loop-t.with_item low may next_is old_are).next
+    (here (goal.at.numbers_of-requires-clause-next c).After-with-set).follows
 
 pub numbers_of-requires-clause-classes : goal.numbers_of-requires-clause-classes
 numbers_of-requires-clause-classes c =
-    let m = c.args.moving.now.machine.now in
-    let o = c.args.moving.now.order.now in
-    let chain = c.args.moving.now.chain.now in
-    let i = c.args.i in
-    let t = c.loop-t.t in
-    let test = c.loop-t-test.true in
-    let j = i - 1 - t in
-    let e_old : i - t ≡ j + 1 = omega arith in
-    let low : j < i = omega arith in
-    let may = c.requires.range.places j (omega arith) (omega arith) in
-    let next = c.get-next.result.now in
-    let next_is = get_or_from_slice_get o j next 0 c.get-next.ensures in
-    let item_is = get_or_from_slice_get o i c.get-item.result.now 0 c.get-item.ensures in
-    let with_it = stands (take j (remove o i) ++ slice_index o i ∷ []) in
-    let old_are = subst
-    (λ (n : ℕ). AreClasses m (stands (take n (remove o i) ++ slice_index o i ∷ []))
-    c.loop-t.with_item) e_old c.loop-t.invariant.classes in
-    let same = set_before o c.first_items-before.result i j c.first_items-before.ensures
-    (omega arith) in
-    let same_with : (w : ℕ) → in_set c.with-set.result w ≡ with_it w =
-    set_with o c.first_items-before.result c.with-set.result c.get-item.result.now i j item_is same
-    c.with-set.ensures in
-    same_too m with_it (in_set c.with-set.result) next c.loop-t.with_item
-    (λ w. sym (same_with w))
-    (before_next m o c.laws_of_levels.ensures.laws c.requires.moving.sure c.requires.moving.allowed chain.classes
-    chain.backs c.requires.moving.chain i c.requires.range.last c.laws_of_levels.ensures.sizes j next
-    c.loop-t.with_item low may next_is old_are).too
+    (here (goal.at.numbers_of-requires-clause-classes c).After-with-set).too
 
 pub level_after-requires-clause-free : goal.level_after-requires-clause-free
 level_after-requires-clause-free c =
-    let m = c.args.moving.now.machine.now in
-    let o = c.args.moving.now.order.now in
-    let chain = c.args.moving.now.chain.now in
-    let i = c.args.i in
-    let t = c.loop-t.t in
-    let test = c.loop-t-test.true in
-    let j = i - 1 - t in
-    let e_old : i - t ≡ j + 1 = omega arith in
-    let low : j < i = omega arith in
-    let may = c.requires.range.places j (omega arith) (omega arith) in
-    let next = c.get-next.result.now in
-    let next_is = get_or_from_slice_get o j next 0 c.get-next.ensures in
-    let item_is = get_or_from_slice_get o i c.get-item.result.now 0 c.get-item.ensures in
-    let with_it = stands (take j (remove o i) ++ slice_index o i ∷ []) in
-    let old_are = subst
-    (λ (n : ℕ). AreClasses m (stands (take n (remove o i) ++ slice_index o i ∷ []))
-    c.loop-t.with_item) e_old c.loop-t.invariant.classes in
-    let same = set_before o c.first_items-before.result i j c.first_items-before.ensures
-    (omega arith) in
-    let same_with : (w : ℕ) → in_set c.with-set.result w ≡ with_it w =
-    set_with o c.first_items-before.result c.with-set.result c.get-item.result.now i j item_is same
-    c.with-set.ensures in
-    let next_one = before_next m o c.laws_of_levels.ensures.laws c.requires.moving.sure c.requires.moving.allowed
-    chain.classes chain.backs c.requires.moving.chain i c.requires.range.last c.laws_of_levels.ensures.sizes j next
-    c.loop-t.with_item low may next_is old_are in
-    same_with next ∙ next_one.next.free
+    (here (goal.at.level_after-requires-clause-free c).After-with-set).follows.free
 
 pub level_after-requires-in-loop-t-clause-free : goal.level_after-requires-in-loop-t-clause-free
 level_after-requires-in-loop-t-clause-free c =
-    let m = c.args.moving.now.machine.now in
-    let o = c.args.moving.now.order.now in
-    let chain = c.args.moving.now.chain.now in
-    let laws = c.laws_of_levels.ensures.laws in
-    let i = c.args.i in
-    let li = c.requires.range.last in
-    let test = c.loop-t-test.true in
-    let j = i - 1 - c.loop-t.t in
-    let may = c.requires.range.places j (omega arith) (omega arith) in
-    let item = c.get-item.result.now in
-    let item_is = get_or_from_slice_get o i item 0 c.get-item.ensures in
-    let same = set_before o c.first_items-before.result i j c.first_items-before.ensures
-    (omega arith) in
-    let long = rest_long m o laws c.requires.moving.sure c.requires.moving.allowed i li in
-    same item ∙ ap (stands (take j (remove o i))) (sym item_is)
-    ∙ own_free m o laws c.requires.moving.sure c.requires.moving.allowed chain.classes chain.backs
-    c.requires.moving.chain i li c.laws_of_levels.ensures.sizes j (omega arith) may
+    (here (goal.at.level_after-requires-in-loop-t-clause-free c).After-with-set).free
 
 pub level_after-requires-in-loop-t-clause-classes : goal.level_after-requires-in-loop-t-clause-classes
 level_after-requires-in-loop-t-clause-classes c =
@@ -304,10 +268,10 @@ level_after-requires-in-loop-t-clause-classes c =
     let got = ap (λ (n : ℕ). get_or chain.classes (n - j) []) (sym l)
     ∙ get_or_from_slice_get chain.classes (c.len-items.result - j) c.get-without_item.result.now
     [] c.get-without_item.ensures in
-    let same = set_before o c.first_items-before.result i j c.first_items-before.ensures
-    (omega arith) in
+    let h = here (goal.at.level_after-requires-in-loop-t-clause-classes c).After-with-set in
+    let low = h.low in
     same_classes m (stands (take j (remove o i))) (in_set c.first_items-before.result)
-    c.get-without_item.result.now (λ w. sym (same w))
+    c.get-without_item.result.now (λ w. sym (h.same w))
     (subst (AreClasses m (stands (take j (remove o i)))) got
     (own_classes m o laws c.requires.moving.sure c.requires.moving.allowed chain.classes chain.backs
     c.requires.moving.chain i c.requires.range.last c.laws_of_levels.ensures.sizes j (omega arith)))

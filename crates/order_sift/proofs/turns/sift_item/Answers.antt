@@ -1,12 +1,15 @@
-use Rattle.std.proofs.Common.{◌≡◌, ◌∙◌, ◌+◌, ◌<◌, ◌≤◌, ℕ, List, length, slice_get, slice_index, Some, arith, sym, ap, subst}
+use Rattle.std.proofs.Common.{◌≡◌, ◌∙◌, ◌+◌, ◌<◌, ◌≤◌, ℕ, List, length, slice_get, slice_index, Some, arith, sym, subst}
 use Rattle.std.proofs.lemmas.Option.{get_or_from_slice_get}
 use Rattle.domains.specs.Orders.{place}
+use Rattle.domains.specs.Tables.{product}
 use Rattle.transition_table.specs.declared.machine.Machine.{Machine}
 use Rattle.transition_table.specs.Orders.{Allowed}
 use Rattle.char_function.specs.Sizes.{Size}
 use Rattle.order_sift.specs.Moves.{moved}
 use Rattle.order_sift.specs.inner.Turns.{AreAllowedPlaces}
 use Rattle.order_sift.proofs.AtBest.{at_best_by, falls_by}
+use Rattle.order_sift.proofs.PairKeys.{room_kept}
+use Rattle.order_sift.proofs.turns.sift_item.Goals.{After-get-count}
 use Rattle.order_sift.proofs.turns.sift_item.Goals as goal
 
 pub returns-then-count-at-clause-best : goal.returns-then-count-at-clause-best
@@ -81,17 +84,34 @@ sizes_at-requires-clause-range c =
           ((c.allowed_places-range.ensures.places j (omega arith)).1 (a, b));
     }
 
-pub chain_of-requires-clause-allowed : goal.chain_of-requires-clause-allowed
-chain_of-requires-clause-allowed c =
-    let m = c.args.sifting.now.machine.now in
+-- the place to which the item moves
+best_here : (c : After-get-count)
+    → Best c.args.sifting.now.machine.now c.args.at.now.order c.place_of-i.result
+    (c.allowed_places-range.result.first + c.place_of_least-best.result) c.get-count.result.now
+best_here c =
     let range = c.allowed_places-range.result in
-    let b = best_place m c.args.at.now.order c.in_ok-sizes.sizes c.as_slice.result.now
-    c.place_of-i.result (place c.args.at.now.order c.args.item) range.first range.last
-    c.place_of_least-best.result c.get-count.result.now c.place_of-i.ensures.place
+    best_place c.args.sifting.now.machine.now c.args.at.now.order c.in_ok-sizes.sizes
+    c.as_slice.result.now c.place_of-i.result (place c.args.at.now.order c.args.item) range.first
+    range.last c.place_of_least-best.result c.get-count.result.now c.place_of-i.ensures.place
     c.allowed_places-range.ensures.places c.allowed_places-range.ensures.within
     c.in_ok-sizes.ensures.long c.in_ok-sizes.ensures.each c.as_slice.ensures
-    c.place_of_least-best.ensures.within c.get-count.ensures in
-    subst (Allowed m) (sym c.in_ok-order.ensures) b.allowed
+    c.place_of_least-best.ensures.within c.get-count.ensures
+
+pub move_to-requires-clause-sets : goal.move_to-requires-clause-sets
+move_to-requires-clause-sets c = record {
+  room = room_kept (product c.args.sifting.now.machine.now.vars) _ _ c.sizes_at.auto.seen
+      c.requires.room;
+  known = c.in_ok-sizes.ensures.known;
+}
+
+pub move_to-requires-clause-j : goal.move_to-requires-clause-j
+move_to-requires-clause-j c =
+    (best_here (goal.at.move_to-requires-clause-j c).After-get-count).within
+
+pub move_to-requires-clause-counted : goal.move_to-requires-clause-counted
+move_to-requires-clause-counted c =
+    let b = best_here (goal.at.move_to-requires-clause-counted c).After-get-count in
+    record { allowed = b.allowed; counted = b.counted }
 
 pub returns-then-count-at-clause-at : goal.returns-then-count-at-clause-at
 returns-then-count-at-clause-at c =
@@ -99,35 +119,23 @@ returns-then-count-at-clause-at c =
     record { known = c.in_ok-sizes.ensures.known; counted = at.counted; chain = at.chain }
 
 pub returns-clause-at : goal.returns-clause-at
-returns-clause-at c =
-    let m = c.args.sifting.now.machine.now in
-    let range = c.allowed_places-range.result in
-    let b = best_place m c.args.at.now.order c.in_ok-sizes.sizes c.as_slice.result.now
-    c.place_of-i.result (place c.args.at.now.order c.args.item) range.first range.last
-    c.place_of_least-best.result c.get-count.result.now c.place_of-i.ensures.place
-    c.allowed_places-range.ensures.places c.allowed_places-range.ensures.within
-    c.in_ok-sizes.ensures.long c.in_ok-sizes.ensures.each c.as_slice.ensures
-    c.place_of_least-best.ensures.within c.get-count.ensures in
-    record {
-      known = c.in_ok-chain.ensures.known;
-      counted = record {
-        allowed = subst (Allowed m) (sym c.in_ok-order.ensures) b.allowed;
-        counted = b.counted ∙ ap (Size m) (sym c.in_ok-order.ensures);
-      };
-      chain = c.in_ok-chain.ensures.chain;
-    }
+returns-clause-at c = c.in_ok-move_to.ensures.at
+
+pub returns-clause-best : goal.returns-clause-best
+returns-clause-best c same =
+    let is = c.in_ok-move_to.ensures.count in
+    let less = c.if-count-at.false in
+    absurd (omega arith)
 
 pub returns-clause-falls : goal.returns-clause-falls
 returns-clause-falls c =
     let m = c.args.sifting.now.machine.now in
-    let range = c.allowed_places-range.result in
-    let b = best_place m c.args.at.now.order c.in_ok-sizes.sizes c.as_slice.result.now
-    c.place_of-i.result (place c.args.at.now.order c.args.item) range.first range.last
-    c.place_of_least-best.result c.get-count.result.now c.place_of-i.ensures.place
-    c.allowed_places-range.ensures.places c.allowed_places-range.ensures.within
-    c.in_ok-sizes.ensures.long c.in_ok-sizes.ensures.each c.as_slice.ensures
-    c.place_of_least-best.ensures.within c.get-count.ensures in
-    falls_by m c.args.at.now.order c.in_ok-order.order c.place_of-i.result
-    (range.first + c.place_of_least-best.result) c.args.at.now.count c.get-count.result.now
-    c.place_of-i.ensures.within b.within b.allowed c.in_ok-order.ensures
-    c.requires.at.counted.counted b.counted c.if-count-at.false
+    let order = c.args.at.now.order in
+    let new = c.move_to.new.at in
+    let made = c.in_ok-move_to.ensures in
+    let b = best_here (goal.at.returns-clause-falls c).After-get-count in
+    falls_by m order new.order c.place_of-i.result
+    (c.allowed_places-range.result.first + c.place_of_least-best.result) c.args.at.now.count
+    new.count c.place_of-i.ensures.within b.within b.allowed made.order
+    c.requires.at.counted.counted (made.count ∙ b.counted) (let is = made.count in
+    let less = c.if-count-at.false in omega arith)

@@ -1,8 +1,9 @@
 use Rattle.std.proofs.Common.{refl}
 use Rattle.polis_cli.specs.Bound.{bound_meaning}
-use Rattle.polis_cli.specs.Inputs.{FailsNet}
+use Rattle.input_files.specs.Inputs.{FailsNet}
 use Rattle.polis_cli.proofs.BoundMeaning.{bound_made}
-use Rattle.polis_cli.proofs.IsMade.{net_alone, files_failure}
+use Rattle.polis_cli.proofs.IsMade.{files_failure}
+use Rattle.input_files.proofs.FileFails.{net_alone}
 use Rattle.polis_cli.proofs.bound.make_bound.Goals as goal
 
 pub returns-in-Ok-print_ranges-clause-made : goal.returns-in-Ok-print_ranges-clause-made

@@ -1,8 +1,9 @@
 use Rattle.std.proofs.Common.{refl}
 use Rattle.polis_cli.specs.Check.{check_meaning}
-use Rattle.polis_cli.specs.Inputs.{FailsNet}
+use Rattle.input_files.specs.Inputs.{FailsNet}
 use Rattle.polis_cli.proofs.CheckMeaning.{check_made}
-use Rattle.polis_cli.proofs.IsMade.{product_is, net_alone, files_failure}
+use Rattle.polis_cli.proofs.IsMade.{product_is, files_failure}
+use Rattle.input_files.proofs.FileFails.{net_alone}
 use Rattle.polis_cli.proofs.check.make_check.Goals as goal
 
 pub returns-in-Ok-print_accepted-clause-made : goal.returns-in-Ok-print_accepted-clause-made

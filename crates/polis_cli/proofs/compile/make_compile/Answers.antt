@@ -1,8 +1,9 @@
 use Rattle.std.proofs.Common.{refl}
 use Rattle.polis_cli.specs.Compile.{compile_meaning}
-use Rattle.polis_cli.specs.Inputs.{FailsNet}
+use Rattle.input_files.specs.Inputs.{FailsNet}
 use Rattle.polis_cli.proofs.CompileMeaning.{compile_made}
-use Rattle.polis_cli.proofs.IsMade.{net_alone, files_failure}
+use Rattle.polis_cli.proofs.IsMade.{files_failure}
+use Rattle.input_files.proofs.FileFails.{net_alone}
 use Rattle.polis_cli.proofs.compile.make_compile.Goals as goal
 
 pub returns-in-Ok-product_of-clause-made : goal.returns-in-Ok-product_of-clause-made

@@ -1,5 +1,5 @@
 use Rattle.std.proofs.Common.{inr, refl}
-use Rattle.polis_cli.proofs.Holds.{journal_held}
+use Rattle.input_files.proofs.Holds.{journal_held}
 use Rattle.polis_cli.proofs.IsExplained.{inputs_explained, journal_explained, illegal_explained}
 use Rattle.polis_cli.proofs.IsJudged.{illegal_fails, judged_is}
 use Rattle.polis_cli.proofs.explain.judge_explained.Goals as goal

@@ -1,11 +1,12 @@
 use Rattle.std.proofs.Common.{refl}
 use Rattle.polis_base.specs.declared.limits.TheConstants.{TEXT_MAX}
 use Rattle.polis_cli.specs.Explain.{explain_net_meaning}
-use Rattle.polis_cli.specs.Explanations.{ExplainsFile}
-use Rattle.polis_cli.specs.Meanings.{explains_by}
+use Rattle.input_files.specs.Explanations.{ExplainsFile}
+use Rattle.input_files.specs.Failures.{explains_by}
 use Rattle.polis_cli.proofs.ExplainMeaning.{net_made}
 use Rattle.polis_cli.proofs.IsExplained.{files_explained}
-use Rattle.polis_cli.proofs.IsMade.{net_explained, product_is}
+use Rattle.polis_cli.proofs.IsMade.{product_is}
+use Rattle.input_files.proofs.FileFails.{net_explained}
 use Rattle.polis_cli.proofs.explain.make_explain_net.Goals as goal
 
 pub returns-in-Ok-print_accepted-clause-made : goal.returns-in-Ok-print_accepted-clause-made

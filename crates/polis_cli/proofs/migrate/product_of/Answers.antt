@@ -1,5 +1,5 @@
 use Rattle.std.proofs.Common.{codes}
-use Rattle.polis_cli.proofs.Saves.{one_made}
+use Rattle.output_files.proofs.Saves.{one_made}
 use Rattle.polis_cli.proofs.migrate.product_of.Goals as goal
 
 pub returns : goal.returns

@@ -1,4 +1,4 @@
-use Rattle.journal_text.proofs.ReadItems.{domain_in}
+use Rattle.journals.proofs.ValueWords.{domain_in}
 use Rattle.trace_text.proofs.Items.{item_fits}
 use Rattle.trace_text.proofs.item.item_of_event.Goals as goal
 

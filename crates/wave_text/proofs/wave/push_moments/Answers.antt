@@ -6,8 +6,7 @@ use Rattle.journals.specs.declared.entry.Entry.{Entry}
 use Rattle.journals.specs.Journals.{snap}
 use Rattle.journals.proofs.CursorsAfter.{machine_within}
 use Rattle.journals.proofs.MomentsAfter.{length-table, moment_width}
-use Rattle.net_core.proofs.Losses.{fits_at, prefix_more, suits_machine}
-use Rattle.net_core.proofs.Tables.{moment_of}
+use Rattle.journals.proofs.EntriesAt.{fits_at, prefix_more, suits_machine, moment_of}
 use Rattle.wave_text.specs.inner.Changing.{AreValues, IsNumbering}
 use Rattle.wave_text.specs.inner.Writable.{is_writable}
 use Rattle.wave_text.specs.declared.signal.Change.{Change}

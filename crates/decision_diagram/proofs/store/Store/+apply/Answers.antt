@@ -68,7 +68,7 @@ loop-code-preserved t c =
     record {
       kept = keeps_trans old s new kept c.apply.ensures.kept;
       parts = subst (λ (kids : List ℕ). AreParts old new op c.args.a c.args.b var kids
-          (c.loop-code.code + 1)) (sym c.in_ok-push.ensures.items) all;
+          (c.loop-code.code + 1)) (sym {A = List ℕ} c.in_ok-push.ensures.items) all;
     }
 
 pub remember-requires : goal.remember-requires

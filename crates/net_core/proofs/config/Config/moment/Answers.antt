@@ -2,7 +2,7 @@ use Rattle.std.proofs.Common.{◌<◌, length, ap, sym, subst, ◌∙◌, arith}
 use Rattle.net_core.specs.Moments.{Moment}
 use Rattle.journals.specs.Journals.{snap}
 use Rattle.journals.proofs.MomentsAfter.{length-table}
-use Rattle.net_core.proofs.Tables.{moment_of}
+use Rattle.journals.proofs.EntriesAt.{moment_of}
 use Rattle.net_core.proofs.config.Config.moment.Goals as goal
 
 pub index-requires : goal.index-requires

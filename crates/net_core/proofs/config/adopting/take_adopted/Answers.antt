@@ -5,7 +5,7 @@ use Rattle.net_core.proofs.IsAdopted.{adopted_at, entry_reacts}
 use Rattle.net_core.proofs.Prefixes.{follows_if_legal}
 use Rattle.net_core.proofs.Tables.{not_following}
 use Rattle.journals.proofs.StampSteps.{prefix_more}
-use Rattle.net_core.proofs.Losses.{fits_at}
+use Rattle.journals.proofs.EntriesAt.{fits_at}
 use Rattle.net_core.proofs.config.adopting.take_adopted.Goals as goal
 
 pub lands-requires-clause-fits : goal.lands-requires-clause-fits

@@ -1,7 +1,7 @@
 use Rattle.std.proofs.Common.{◌∙◌, length, sym, ap, arith}
 use Rattle.net_names.specs.Tables.{number_at}
 use Rattle.trace_text.specs.Traces.{is_sent_event}
-use Rattle.journal_text.proofs.FoundByName.{find_is}
+use Rattle.polis_base.proofs.Found.{find_is}
 use Rattle.trace_text.proofs.sent.Sent.event.Goals as goal
 
 pub returns-clause-below : goal.returns-clause-below

@@ -6,7 +6,7 @@ use Rattle.transition_table.specs.declared.snapshot.Snapshot.{Snapshot}
 use Rattle.journals.specs.declared.entry.Entry.TheVariants.{Rea}
 use Rattle.journals.specs.Journals.{snap}
 use Rattle.journals.proofs.MomentsAfter.{length-table}
-use Rattle.net_core.proofs.Tables.{moment_of}
+use Rattle.journals.proofs.EntriesAt.{moment_of}
 use Rattle.journals.proofs.CursorsAfter.{machine_within}
 use Rattle.net_core.proofs.config.tables.Tables.may_react.Goals as goal
 

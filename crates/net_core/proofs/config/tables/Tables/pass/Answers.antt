@@ -5,10 +5,10 @@ use Rattle.journals.specs.Cursors.{cursors_after, cursor}
 use Rattle.journals.specs.Moved.{moments_of}
 use Rattle.journals.proofs.MomentsAfter.{length-table, moment_width}
 use Rattle.net_core.proofs.Wakings.{woken_after, others_after}
-use Rattle.net_core.proofs.Losses.{suits_machine}
+use Rattle.journals.proofs.EntriesAt.{suits_machine, moment_of}
 use Rattle.net_core.specs.inner.Marks.{marked_after}
 use Rattle.net_core.proofs.Marks.{marked_cursors, lands_in}
-use Rattle.net_core.proofs.Tables.{moment_of, owed_after}
+use Rattle.net_core.proofs.Tables.{owed_after}
 use Rattle.journals.proofs.CursorsAfter.{machine_within}
 use Rattle.net_core.proofs.config.tables.Tables.pass.Goals as goal
 

@@ -1,0 +1,71 @@
+-- Why a network text isn't accepted.
+use Rattle.std.proofs.Common.{◌≡◌, inr, ℕ, true, List, Option, Some, slice_get, IsTrue, refl, ap, subst, sym}
+use Rattle.polis_base.specs.declared.limits.TheConstants.{TEXT_MAX}
+use Rattle.polis_base.specs.Host.{Files, WhereTold}
+use Rattle.transition_table.specs.declared.machine.Machine.{Machine}
+use Rattle.transition_table.specs.declared.network.Network.{Network}
+use Rattle.net_rules.specs.NetOf.{NetOf}
+use Rattle.polis_words.specs.declared.cause.Cause.{Cause}
+use Rattle.polis_words.specs.declared.cause.Cause.TheVariants.{Lex, Syntax, Rule, Conflict}
+use Rattle.polis_words.specs.declared.status.Status.TheVariants.{Refused}
+use Rattle.polis_words.specs.Lines.{cause_status}
+use Rattle.input_files.specs.declared.accept.FileFault.{FileFault}
+use Rattle.input_files.specs.declared.accept.FileFault.TheVariants as faults
+use Rattle.input_files.specs.Accepted.{AreBefore, IsFirstConflict}
+use Rattle.input_files.specs.Inputs.{HoldsText, IsNetFault, NetFails}
+use Rattle.input_files.specs.Failures.{is_failure}
+use Rattle.input_files.specs.inner.Accepted.{IsMachineFault, IsConflictFault}
+use Rattle.input_files.specs.Faults.{IfCause}
+use Rattle.polis_base.proofs.WhereTold.{told_from}
+
+-- a fault for another reason
+pub fault_from : (fault : FileFault) (P Q : Cause → Type 0) → ((cause : Cause) → P cause → Q cause)
+    → IfCause fault P → IfCause fault Q
+fault_from (faults.Cause cause) P Q f h = f cause h
+fault_from faults.NoMemory P Q f h = tt
+
+-- the first machine with a conflict
+pub first_fault : (net : Network) (place : ℕ) (machine : Machine) (cause : Cause)
+    → slice_get net.machines place ≡ Some machine → AreBefore net place
+    → IsMachineFault net place machine cause → IsConflictFault net cause
+first_fault net place machine (Conflict rows) there before (here, h) = record {
+  machine = machine;
+  there = rw here there;
+  before = rw here before;
+  conflict = h;
+}
+first_fault net place machine other there before h = absurd h
+
+-- a conflict of the one network of a text
+pub conflict_fault : (text : List ℕ) (net : Network) (cause : Cause) → NetOf text net
+    → ((other : Network) → NetOf text other → other ≡ net) → IsConflictFault net cause
+    → IsNetFault text cause
+conflict_fault text net (Conflict rows) has one fault = (
+  net,
+  has,
+  λ other is. subst (λ (n : Network). IsFirstConflict n rows)
+      (sym (one other is)) fault,
+)
+conflict_fault text net other has one fault = absurd fault
+
+-- a text with a fault is refused
+pub fault_refuses : (text : List ℕ) (cause : Cause) → IsNetFault text cause
+    → cause_status cause ≡ Refused
+fault_refuses text (Lex kind place) fault = refl
+fault_refuses text (Syntax place) fault = refl
+fault_refuses text (Rule rule place) fault = refl
+fault_refuses text (Conflict rows) fault = refl
+fault_refuses text other fault = absurd fault
+
+-- a network text is held under the name, and has a fault
+pub net_faulty : (o : Option Files) (name text : List ℕ) (cause : Cause)
+    → WhereTold o (λ files. HoldsText files TEXT_MAX name text) → IsNetFault text cause
+    → cause_status cause ≡ Refused
+    → (name ≡ name) × WhereTold o (λ files. NetFails files name cause)
+    × IsTrue (is_failure true (cause_status cause))
+net_faulty o name text cause held fault refused = (
+  refl,
+  told_from o (λ files. HoldsText files TEXT_MAX name text) _
+      (λ files h. inr (text, h, fault)) held,
+  ap (is_failure true) refused,
+)

@@ -1,0 +1,5 @@
+pub mod Holds
+pub mod IsNetFault
+pub mod InputsFail
+pub mod FileFails
+pub mod Refused

@@ -1,0 +1,9 @@
+pub mod Accepted
+pub mod Details
+pub mod Explanations
+pub mod Failures
+pub mod Faults
+pub mod Inputs
+pub mod JournalFiles
+pub mod Loads
+pub mod inner

@@ -1,0 +1,152 @@
+// The network of a text that is accepted.
+ghost use Rattle.std.specs.Prelude.{◌≡◌, IfOk, IfErr, OnOk, IsTrue};
+ghost use Rattle.transition_table.specs.NetworkFacts.{has_vars};
+ghost use Rattle.transition_table.specs.Transitions.{IsDeterministic, AreDeterministic};
+ghost use Rattle.transition_table.specs.declared.network.Network.{Network};
+ghost use Rattle.net_rules.specs.NetOf.{NetOf};
+ghost use Rattle.net_rules.specs.Whole.{HasMachines};
+ghost use Rattle.polis_words.specs.Lines.{cause_status};
+ghost use Rattle.determinism.specs.Conflicts.{IsLeastConflict};
+ghost use Rattle.input_files.specs.Accepted.{Accepted, IsConflictIn};
+ghost use Rattle.input_files.specs.Inputs.{IsNetFault};
+ghost use Rattle.input_files.specs.inner.Accepted.{IsMachineFault, IsConflictFault, lex_fault};
+ghost use Rattle.input_files.specs.Faults.{IfCause};
+
+use determinism::{CheckFault, check};
+use net_reader::{NetFault, read_network};
+use net_rules::{ResolveFault, resolve};
+use polis_base::{LexError, NoMemory};
+use polis_words::{Cause, Conflict, LexKind, Status, print_snapshot};
+use std::alloc::Global;
+use transition_table::{Machine, Network, Snapshot};
+
+/// Why a file isn't accepted.
+#[derive(Drop)]
+pub enum FileFault {
+    /// What is wrong with it.
+    Cause(Cause),
+    /// Memory ran out.
+    NoMemory,
+}
+
+// Why a text whose tokens don't read isn't accepted.
+fn of_lex(error: LexError) -> FileFault
+    ensures { result ≡ lex_fault error }
+{
+    match error {
+        LexError::BadByte(place) => FileFault::Cause(Cause::Lex {
+            kind: LexKind::Byte,
+            place,
+        }),
+        LexError::NameTooLong(place) => FileFault::Cause(Cause::Lex {
+            kind: LexKind::Name,
+            place,
+        }),
+        LexError::NumberTooLarge(place) => FileFault::Cause(Cause::Lex {
+            kind: LexKind::Number,
+            place,
+        }),
+        LexError::NoMemory => FileFault::NoMemory,
+    }
+}
+
+// Rows of a machine, the m-th, that conflict on a snapshot.
+fn conflict_of(
+    alloc: Global,
+    net: &Network,
+    m: u32,
+    machine: &Machine,
+    row_a: u32,
+    row_b: u32,
+    snapshot: &Snapshot,
+) -> Result<Conflict, NoMemory>
+    requires sized { IsTrue (has_vars net.now.domains net.now.events machine.now) }
+    requires conflict { IsLeastConflict machine.now row_a row_b snapshot.now }
+    ensures { IfOk result
+        (λ rows. (rows.machine ≡ m) × IsConflictIn net.now machine.now rows) }
+{
+    let snapshot = print_snapshot(alloc, net, machine, snapshot)?;
+    Ok(Conflict {
+        machine: m,
+        name: machine.name,
+        row_a,
+        row_b,
+        snapshot,
+    })
+}
+
+// Whether a machine, the m-th, is deterministic.
+fn check_machine(alloc: Global, net: &Network, m: u32, machine: &Machine) -> Result<(), FileFault>
+    requires { IsTrue (has_vars net.now.domains net.now.events machine.now) }
+    ensures ok { OnOk result (IsDeterministic machine.now) }
+    ensures failed { IfErr result (λ fault. IfCause fault (IsMachineFault net.now m machine.now)) }
+{
+    match check(alloc, machine) {
+        Ok(()) => Ok(()),
+        Err(
+            CheckFault::Conflict {
+                row_a,
+                row_b,
+                snapshot,
+            },
+        ) => match conflict_of(alloc, net, m, machine, row_a, row_b, &snapshot) {
+            Ok(rows) => Err(FileFault::Cause(Cause::Conflict(rows))),
+            Err(NoMemory) => Err(FileFault::NoMemory),
+        },
+        Err(CheckFault::NoMemory) => Err(FileFault::NoMemory),
+    }
+}
+
+// Whether each machine is deterministic.
+fn check_machines(alloc: Global, net: &Network) -> Result<(), FileFault>
+    ensures ok { OnOk result (AreDeterministic net.now) }
+    ensures failed { IfErr result (λ fault. IfCause fault (IsConflictFault net.now)) }
+{
+    for m in 0..net.machines.len() {
+        match check_machine(alloc, net, m as u32, net.machines.get(m)) {
+            Ok(()) => {}
+            Err(fault) => return Err(fault),
+        }
+    }
+    Ok(())
+}
+
+// The network that a text declares.
+fn declared_in(alloc: Global, text: &[u8]) -> Result<Network, FileFault>
+    ensures ok { IfOk result (λ net. NetOf text.now net) }
+    ensures one { IfOk result (λ net. (other : Network) → NetOf text.now other → other ≡ net) }
+    ensures failed { IfErr result (λ fault. IfCause fault (IsNetFault text.now)) }
+{
+    let raw = match read_network(alloc, text) {
+        Ok(raw) => raw,
+        Err(NetFault::Lex(error)) => return Err(of_lex(error)),
+        Err(NetFault::Syntax(place)) => return Err(FileFault::Cause(Cause::Syntax { place })),
+        Err(NetFault::NoMemory) => return Err(FileFault::NoMemory),
+    };
+    match resolve(alloc, &raw) {
+        Ok(net) => Ok(net),
+        Err(ResolveFault::Rule { rule, place }) => {
+            Err(FileFault::Cause(Cause::Rule { rule, place }))
+        }
+        Err(ResolveFault::NoMemory) => Err(FileFault::NoMemory),
+    }
+}
+
+/// The network of a text, each machine of which is deterministic.
+pub fn network_in(alloc: Global, text: &[u8]) -> Result<Network, FileFault>
+    ensures ok { IfOk result (λ net. Accepted text.now net) }
+    ensures one { IfOk result (λ net. (other : Network) → NetOf text.now other → other ≡ net) }
+    ensures whole { IfOk result HasMachines }
+    ensures failed { IfErr result (λ fault. IfCause fault (IsNetFault text.now)) }
+    ensures refused { IfErr result (λ fault. IfCause fault
+        (λ cause. cause_status cause ≡ Status.Refused)) }
+{
+    let net = match declared_in(alloc, text) {
+        Ok(net) => net,
+        Err(fault) => return Err(fault),
+    };
+    match check_machines(alloc, &net) {
+        Ok(()) => Ok(net),
+        Err(fault) => Err(fault),
+    }
+}

@@ -1,0 +1,12 @@
+-- Products of one shape.
+use Rattle.std.specs.Prelude.{ℕ, List, [], ◌∷◌}
+use Rattle.output_files.specs.declared.product.End.TheVariants as ends
+use Rattle.output_files.specs.declared.product.Product.{Product}
+
+-- one text is saved under a name, another one is shown, and all is done
+abbrev pub saves_one : List ℕ → List ℕ → List ℕ → Product
+saves_one name text shown = record {
+  saves = record { name = name; text = text } ∷ [];
+  shown = shown;
+  end = ends.Done;
+}

@@ -1,0 +1,43 @@
+use Rattle.std.proofs.Common.{take, Ok, ◌∙◌, ap, sym, arith}
+use Rattle.polis_base.specs.Tokens.{scan_word, scan_number, width}
+use Rattle.polis_base.proofs.ScanClasses.{class_scan, other_scan}
+use Rattle.polis_base.proofs.lex.width_of.Goals as goal
+
+pub returns-in-48 : goal.returns-in-48
+returns-in-48 c =
+    ap width (sym ((class_scan c.args.at c.in-Some.first.now c.in-Some.rest.now c.args.bytes.now
+    c.in-Some.ensures.cases.0).blank (sym c.class_of.ensures ∙ c.in-48.is)))
+
+pub returns-in-50 : goal.returns-in-50
+returns-in-50 c =
+    ap Ok c.line_len.ensures
+    ∙ ap width (sym ((class_scan c.args.at c.in-Some.first.now c.in-Some.rest.now c.args.bytes.now
+    c.in-Some.ensures.cases.0).hash (sym c.class_of.ensures ∙ c.in-50.is)))
+
+pub returns-in-54 : goal.returns-in-54
+returns-in-54 c =
+    c.width_of_word.ensures
+    ∙ ap (λ n. width (scan_word c.args.at (take n c.args.bytes.now))) c.word_len.ensures
+    ∙ ap width (sym ((class_scan c.args.at c.in-Some.first.now c.in-Some.rest.now c.args.bytes.now
+    c.in-Some.ensures.cases.0).letter (sym c.class_of.ensures ∙ c.in-54.is)))
+
+pub returns-in-52 : goal.returns-in-52
+returns-in-52 c =
+    ap width (sym ((class_scan c.args.at c.in-Some.first.now c.in-Some.rest.now c.args.bytes.now
+    c.in-Some.ensures.cases.0).zero (sym c.class_of.ensures ∙ c.in-52.is)))
+
+pub returns-in-53 : goal.returns-in-53
+returns-in-53 c =
+    c.width_of_other.ensures ∙ ap width c.scan_number.ensures
+    ∙ ap (λ n. width (scan_number c.args.at (take n c.args.bytes.now))) c.digits_len.ensures
+    ∙ ap width (sym ((class_scan c.args.at c.in-Some.first.now c.in-Some.rest.now c.args.bytes.now
+    c.in-Some.ensures.cases.0).digit (sym c.class_of.ensures ∙ c.in-53.is)))
+
+pub returns-in_default-class_of : goal.returns-in_default-class_of
+returns-in_default-class_of c =
+    let class = c.class_of.ensures in
+    c.width_of_other-in_default-class_of.ensures ∙ ap width (c.scan_sign.ensures
+    ∙ sym (other_scan c.args.at c.in-Some.first.now c.in-Some.rest.now c.args.bytes.now
+    c.in-Some.ensures.cases.0 (λ is. omega (arith, class, is)) (λ is. omega (arith, class, is))
+    (λ is. omega (arith, class, is)) (λ is. omega (arith, class, is))
+    (λ is. omega (arith, class, is))))

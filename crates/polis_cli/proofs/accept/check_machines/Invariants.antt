@@ -1,6 +1,0 @@
-use Rattle.polis_cli.specs.Accepted.{AreBefore}
-use Rattle.polis_cli.proofs.accept.check_machines.Given as goal
-
--- the machines so far are deterministic
-abbrev pub invariant-loop-m : goal.invariant-loop-m
-invariant-loop-m l = AreBefore l.net l.m

@@ -1,0 +1,58 @@
+// The texts of examples/ by their names there.
+use sample_networks::texts;
+
+fn network(name: &str) -> &'static str {
+    if name == "lamp.net" {
+        return texts::LAMP;
+    }
+    if name == "join.net" {
+        return texts::JOIN;
+    }
+    if name == "value.net" {
+        return texts::VALUE;
+    }
+    if name == "echo.net" {
+        return texts::ECHO;
+    }
+    if name == "two.net" {
+        return texts::TWO;
+    }
+    if name == "loop.net" {
+        return texts::LOOP;
+    }
+    if name == "pong.net" {
+        return texts::PONG;
+    }
+    if name == "belt.net" {
+        return texts::BELT;
+    }
+    if name == "clash.net" {
+        return texts::CLASH;
+    }
+    trace(name)
+}
+
+fn trace(name: &str) -> &'static str {
+    if name == "join.trc" {
+        return texts::JOIN_TRACE;
+    }
+    if name == "value.trc" {
+        return texts::VALUE_TRACE;
+    }
+    if name == "echo.trc" {
+        return texts::ECHO_TRACE;
+    }
+    if name == "belt.trc" {
+        return texts::BELT_TRACE;
+    }
+    if name == "clash.trc" {
+        return texts::CLASH_TRACE;
+    }
+    "no such text"
+}
+
+/// The text of a name, without its last line end.
+pub fn sample(name: &str) -> &'static str {
+    let text = network(name);
+    text.strip_suffix("\n").unwrap_or(text)
+}

@@ -1,5 +1,0 @@
-use Rattle.task_image.specs.inner.Walks.{IsWalk}
-use Rattle.task_image.proofs.verifying.first_wrong.Given as goal
-
-abbrev pub invariant-loop-i : goal.invariant-loop-i
-invariant-loop-i l = IsWalk l.m l.code l.s l.o l.i

@@ -1,9 +1,8 @@
 -- Decimal texts and their numbers.
-use Rattle.std.proofs.Common.{◌≡◌, ℕ, ◌^◌, ◌<◌, Bool, true, false, not, ◌&&◌, ◌||◌, ◌==◌, List, ◌∷◌, length, get_or, refl, ◌∙◌, ap, arith, nat_lt, cond, Some, None, []}
+use Rattle.std.proofs.Common.{◌≡◌, ℕ, ◌^◌, ◌<◌, Bool, true, false, ◌&&◌, List, refl, ◌∙◌, ap, nat_lt, cond, Some, None}
 use Rattle.std.specs.List.{list_all}
 use Rattle.std.specs.Fmt.{decimal}
 use Rattle.std.proofs.lemmas.Bool.{ltb-true, lt-ltb}
-use Rattle.std.proofs.lemmas.Bool.Decides.{nat_tests}
 use Rattle.std.proofs.lemmas.Fmt.{digits_decimal}
 use Rattle.journal_text.specs.Forms.{decimal_of}
 use Rattle.journal_text.proofs.FormWords.{some_same}

@@ -1,10 +1,8 @@
 -- Names and values that are found by their words.
-use Rattle.std.proofs.Common.{◌≡◌, ◌<◌, ◌≤◌, ℕ, zero, suc, Bool, true, false, not, ◌&&◌, ◌||◌, nat_lt, nat_le, List, [], ◌∷◌, map, length, Option, Some, None, refl, sym, ◌∙◌, arith, slice_get}
+use Rattle.std.proofs.Common.{◌≡◌, ◌<◌, ℕ, zero, suc, Bool, true, false, not, ◌&&◌, ◌||◌, nat_le, List, [], ◌∷◌, map, length, Some, refl, arith, slice_get}
 use Rattle.std.specs.Prelude.{option_map, unwrap_or}
 use Rattle.std.specs.List.{find, list_any}
-use Rattle.std.specs.Option.{option_or}
-use Rattle.std.proofs.lemmas.List.Folds.{find-append}
-use Rattle.std.proofs.lemmas.Bool.{and_parts, ltb-true, ltb-false, leb-true, not-true}
+use Rattle.std.proofs.lemmas.Bool.{and_parts, ltb-true, leb-true, not-true}
 use Rattle.polis_base.specs.Lists.{upto}
 use Rattle.polis_base.proofs.Found.{find_only, find_is}
 use Rattle.domains.specs.Names.{is_same, are_distinct}

@@ -1,14 +1,8 @@
 -- Names and values that the code finds.
-use Rattle.std.proofs.Common.{◌≡◌, ◌≢◌, ◌<◌, ℕ, true, ◌∷◌, ◌++◌, Option, Some, None, IfSome, IfNone, sym, ◌∙◌, ap, arith, Bor, option_copied}
-use Rattle.domains.specs.Names.{is_same}
-use Rattle.domains.specs.Domains.{size_of, word_of, IsDomain, WordsDiffer}
-use Rattle.domains.specs.declared.domain.Domain.{Domain}
+use Rattle.std.proofs.Common.{◌≡◌, true, ◌∷◌, ◌++◌, Option, Some, None, IfSome, IfNone, sym, ◌∙◌, ap, Bor, option_copied}
 use Rattle.journal_text.specs.Forms.{Text}
 use Rattle.journal_text.specs.Items.{name_part, value_part_of}
-use Rattle.journals.specs.ValueWords.{value_named}
 use Rattle.polis_base.specs.Pieces.{lacks}
-use Rattle.domains.proofs.Names.{texts_same, texts_differ}
-use Rattle.polis_base.proofs.Found.{find_none, find_only}
 use Rattle.journal_text.proofs.ItemCodes.{name_of_item, value_of_item}
 use Rattle.std.proofs.lemmas.List.{append-nil}
 

@@ -11,7 +11,7 @@ use Rattle.journals.specs.Journals.{IsJournal}
 use Rattle.journal_text.specs.Texts.{AreStamps}
 use Rattle.journal_text.specs.Forms.{Text, Texts, lines_of}
 use Rattle.polis_base.specs.Pieces.{with_byte}
-use Rattle.journal_text.specs.Reading.{Timeline, Said, More, Last, Bad, line_says, went_on, ended, unended, lines_say, version_of, ReadText, read_as, body_says, text_says, read_of}
+use Rattle.journal_text.specs.Reading.{Timeline, Said, More, Last, Bad, line_says, went_on, ended, lines_say, version_of, ReadText, read_as, body_says, text_says, read_of}
 use Rattle.journal_text.specs.declared.fault.JournalFault.{JournalFault}
 use Rattle.journal_text.specs.declared.fault.JournalFault.TheVariants.{Line, NoMemory}
 use Rattle.journal_text.specs.declared.codes.Stop.{Stop}
@@ -19,7 +19,7 @@ use Rattle.journal_text.specs.declared.codes.Stop.TheVariants.{Kind, NoMemory as
 use Rattle.journal_text.specs.declared.read.ReadJournal.{ReadJournal}
 use Rattle.journal_text.specs.inner.Lines.{at_line}
 use Rattle.journal_text.specs.declared.fault.JournalKind.{JournalKind}
-use Rattle.journal_text.specs.declared.fault.JournalKind.TheVariants.{Header, After}
+use Rattle.journal_text.specs.declared.fault.JournalKind.TheVariants.{After}
 use Rattle.polis_base.proofs.TextPieces.{some_piece}
 use Rattle.journal_text.proofs.ReadIsPrinted.{line_only, read_is_printed, stamped_read_is_printed}
 

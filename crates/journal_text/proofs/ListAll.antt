@@ -1,8 +1,7 @@
 -- What holds of each item holds of the list.
-use Rattle.std.proofs.Common.{◌≡◌, ◌+◌, ◌≤◌, ℕ, zero, suc, Bool, true, List, [], ◌∷◌, length, take, Some, slice_get, refl, arith, subst, sym}
+use Rattle.std.proofs.Common.{◌≡◌, ◌+◌, ℕ, zero, suc, Bool, true, List, [], ◌∷◌, take, Some, slice_get, refl, arith, subst, sym}
 use Rattle.std.specs.List.{list_all}
 use Rattle.std.proofs.lemmas.Bool.{and_from, and_parts}
-use Rattle.std.proofs.lemmas.List.{take_all}
 use Rattle.journal_text.proofs.FormWords.{some_same}
 
 -- one item more

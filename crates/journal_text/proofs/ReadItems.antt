@@ -1,9 +1,7 @@
 -- A list of items that is read item by item.
-use Rattle.std.proofs.Common.{◌≡◌, ◌<◌, ◌≤◌, ◌+◌, ℕ, zero, suc, true, nat_lt, List, [], ◌∷◌, ◌++◌, map, length, drop, Option, Some, None, is_some, IfSome, Result, Ok, Err, OnOk, get_or, slice_get, refl, sym, ◌∙◌, ap, arith, Bor, option_copied}
-use Rattle.std.specs.Option.{option_map_or}
-use Rattle.std.proofs.lemmas.Bool.{ltb-true, false≢true}
+use Rattle.std.proofs.Common.{◌≡◌, ◌<◌, ◌≤◌, ◌+◌, ℕ, zero, suc, true, List, [], ◌∷◌, ◌++◌, map, length, drop, Option, Some, None, is_some, Result, Ok, Err, OnOk, get_or, slice_get, refl, sym, ◌∙◌, ap, arith, Bor, option_copied}
+use Rattle.std.proofs.lemmas.Bool.{false≢true}
 use Rattle.std.proofs.lemmas.List.{append_assoc, append-nil, get_or_default}
-use Rattle.transition_table.specs.inner.NetworkFacts.{has_domain}
 use Rattle.transition_table.specs.declared.decl.EventDecl.{EventDecl}
 use Rattle.transition_table.specs.declared.network.Network.{Network}
 use Rattle.journal_text.specs.Forms.{Text, Texts}
@@ -14,7 +12,6 @@ use Rattle.journal_text.specs.inner.Steps.{ReadsItems, Takes, Halts}
 use Rattle.journal_text.specs.declared.fault.JournalKind.{JournalKind}
 use Rattle.journal_text.specs.declared.fault.JournalKind.TheVariants.{Name}
 use Rattle.polis_base.proofs.TextPieces.{some_piece}
-use Rattle.journals.proofs.DeliveriesOfWay.{passes_of_all}
 
 -- ---- one thing
 

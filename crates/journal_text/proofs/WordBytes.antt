@@ -3,7 +3,7 @@ use Rattle.std.proofs.Common.{◌≡◌, ◌<◌, ◌+◌, ◌-◌, ℕ, suc, Bo
 use Rattle.std.specs.List.{list_all, prefix_len}
 use Rattle.std.proofs.lemmas.List.{take_all}
 use Rattle.journal_text.specs.Forms.{Text, Texts, words_of, is_word, is_word_byte, is_sign}
-use Rattle.polis_base.specs.Pieces.{with_byte, is_nonempty}
+use Rattle.polis_base.specs.Pieces.{with_byte}
 use Rattle.std.proofs.lemmas.Bool.{and_from}
 use Rattle.polis_base.proofs.TextPieces.{pieces_at, pieces_end, some_piece}
 use Rattle.polis_base.proofs.FirstMark.{cut_slice}

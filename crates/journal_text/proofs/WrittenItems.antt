@@ -1,20 +1,17 @@
 -- Lists of items that are written one after another.
-use Rattle.std.proofs.Common.{◌≡◌, ◌<◌, ℕ, zero, suc, Bool, true, false, nat_lt, nat_le, List, ◌∷◌, ◌++◌, ◌⊎◌, inl, inr, map, length, refl, sym, ap, ◌∙◌, arith, []}
-use Rattle.std.specs.Prelude.{filter, IsTrue, flat_map}
+use Rattle.std.proofs.Common.{◌≡◌, ◌<◌, ℕ, zero, suc, Bool, true, false, nat_lt, nat_le, List, ◌∷◌, ◌++◌, ◌⊎◌, inl, inr, map, length, refl, sym, ◌∙◌, arith, []}
+use Rattle.std.specs.Prelude.{IsTrue, flat_map}
 use Rattle.std.proofs.lemmas.Bool.{ltb-true, lt-ltb, le-leb}
 use Rattle.domains.specs.Tables.{fits}
 use Rattle.transition_table.specs.NetworkFacts.{event_values}
-use Rattle.journals.specs.Journals.{is_event_code, IsJournal, FitsNetwork, emitted, emissions}
+use Rattle.journals.specs.Journals.{is_event_code, IsJournal, FitsNetwork, emitted}
 use Rattle.journals.specs.declared.entry.Entry.{Entry}
 use Rattle.std.specs.List.{zip}
 use Rattle.transition_table.specs.declared.decl.EventDecl.{EventDecl}
 use Rattle.transition_table.specs.declared.network.Network.{Network}
-use Rattle.journal_text.specs.Texts.{spaced, space, event_line, output_text, stamped_line}
+use Rattle.journal_text.specs.Texts.{spaced, space, stamped_line}
 use Rattle.journal_text.specs.inner.Texts.{end_mark, event_size, are_event_codes, output_lines}
 use Rattle.std.proofs.lemmas.List.{append-nil}
-use Rattle.std.proofs.lemmas.List.Elements.{filter-append}
-use Rattle.std.proofs.lemmas.Grind.{flat_map-append}
-use Rattle.journals.specs.Outputs.{goes_out}
 use Rattle.polis_base.proofs.Names.{left_true}
 
 -- what is still to be written of these items, where some were or none was

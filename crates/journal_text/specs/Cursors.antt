@@ -1,8 +1,6 @@
 -- What is left of a text that is walked piece by piece.
-use Rattle.std.specs.Prelude.{◌≡◌, ◌⊎◌, ℕ, Bool, true, not, ◌==◌, Option, Some, None, unwrap_or, is_some, []}
-use Rattle.std.specs.List.{list_all}
+use Rattle.std.specs.Prelude.{◌≡◌, ◌⊎◌, true, Some, None, unwrap_or, is_some, []}
 use Rattle.journal_text.specs.Forms.{Text, Texts, words_of, list_of, before, after}
-use Rattle.polis_base.specs.Pieces.{pieces}
 
 -- the words are those before the first such sign, the sign, and those after it
 abbrev pub CutAt : Text → Texts → Texts → Texts → Type 0

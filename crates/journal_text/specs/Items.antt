@@ -1,11 +1,9 @@
 -- What the words of an entry's line name: items, codes and entries.
-use Rattle.std.specs.Prelude.{ℕ, ◌+◌, ◌-◌, cond, Bool, true, false, ◌==◌, List, [], ◌∷◌, ◌++◌, map, length, slice_get, Option, Some, None, option_map, Result, Ok, Err, replicate, codes}
+use Rattle.std.specs.Prelude.{ℕ, ◌-◌, cond, Bool, true, false, ◌==◌, List, [], ◌∷◌, ◌++◌, map, length, Option, Some, None, option_map, Result, Ok, Err, replicate, codes}
 use Rattle.std.specs.List.{find}
 use Rattle.polis_base.specs.Lists.{upto}
 use Rattle.domains.specs.Names.{is_same}
-use Rattle.domains.specs.Domains.{size_of, word_of}
-use Rattle.domains.specs.declared.domain.Domain.{Domain}
-use Rattle.transition_table.specs.NetworkNames.{event_domain, event_name, joined, machine_name}
+use Rattle.transition_table.specs.NetworkNames.{event_domain, event_name, machine_name}
 use Rattle.transition_table.specs.declared.decl.Party.{Party}
 use Rattle.transition_table.specs.declared.decl.Party.TheVariants.{Env, Machine as Sender}
 use Rattle.transition_table.specs.declared.decl.StateDecl.{StateDecl}

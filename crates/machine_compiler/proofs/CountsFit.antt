@@ -1,11 +1,9 @@
 -- Right parts execute at most 75 instructions a reaction, so that their counts fit.
-use Rattle.std.proofs.Common.{◌≡◌, ℕ, ◌+◌, ◌*◌, ◌^◌, ◌<◌, ◌≤◌, Bool, true, false, ◌==◌, List, [], ◌∷◌, length, slice_get, Some, inr, refl, ap, sym, ◌∙◌, subst, arith}
+use Rattle.std.proofs.Common.{◌≡◌, ℕ, ◌*◌, ◌^◌, ◌<◌, ◌≤◌, Bool, true, false, ◌==◌, List, [], ◌∷◌, length, slice_get, Some, inr, refl, ap, sym, ◌∙◌, arith}
 use Rattle.std.proofs.lemmas.Bool.{eqb-true}
 use Rattle.std.proofs.lemmas.Option.{slice_get_within}
 use Rattle.transition_table.specs.declared.machine.Machine.{Machine}
 use Rattle.transition_table.specs.declared.network.Network.{Network}
-use Rattle.transition_table.specs.declared.snapshot.Snapshot.{Snapshot}
-use Rattle.transition_table.specs.declared.snapshot.Outcome.{Outcome}
 use Rattle.journals.specs.declared.entry.Entry.{Entry}
 use Rattle.journals.specs.declared.entry.Entry.TheVariants.{Dep, Rea}
 use Rattle.journals.specs.Journals.{IsJournal}
@@ -13,7 +11,7 @@ use Rattle.task_code.specs.declared.instr.Instr.{Instr}
 use Rattle.task_code.specs.Listings.{Part}
 use Rattle.machine_compiler.specs.Laws.{RightCountsFit}
 use Rattle.machine_compiler.specs.Lines.{reactions_of, steps_on}
-use Rattle.machine_compiler.specs.Parts.{AreRightParts, IsRightPart, codes_in}
+use Rattle.machine_compiler.specs.Parts.{IsRightPart, codes_in}
 use Rattle.machine_compiler.proofs.AreTallies.{snapshot_of, steps_cons}
 use Rattle.machine_compiler.proofs.DistinctItems.{at_place, mapped}
 

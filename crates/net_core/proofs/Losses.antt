@@ -1,24 +1,23 @@
 -- The losses of a journal, entry by entry.
-use Rattle.std.specs.Prelude.{◌≡◌, ◌⊎◌, ◌≤◌, nat_lt, ℕ, zero, suc, ◌+◌, ◌<◌, Bool, true, false, cond, not, ◌&&◌, ◌||◌, ◌==◌, List, [], ◌∷◌, ◌++◌, map, length, take, drop, slice_get, slice_index, Option, Some, None, option_map, unwrap_or, position, MatchOption, IsSomeAnd}
+use Rattle.std.specs.Prelude.{◌≡◌, ◌⊎◌, ◌≤◌, nat_lt, ℕ, zero, suc, ◌+◌, ◌<◌, Bool, true, false, cond, not, ◌&&◌, ◌||◌, ◌==◌, List, [], ◌∷◌, ◌++◌, map, length, take, drop, slice_get, slice_index, Option, Some, None, option_map, unwrap_or, position, MatchOption}
 use Rattle.std.specs.List.{position_or_len}
 use Rattle.std.proofs.Common.{inl, inr, refl, sym, ap, ◌∙◌, subst, arith, get_or}
 use Rattle.std.proofs.lemmas.Bool.{eqb-true, or_from, or_left, ltb-true, ltb-false}
-use Rattle.std.proofs.lemmas.List.{drop_more, take_more, get_or_append_left, get_or-map, length-map}
+use Rattle.std.proofs.lemmas.List.{drop_more, get_or_append_left, get_or-map, length-map}
 use Rattle.std.proofs.lemmas.List.Sums.{fails_before_first, passes_at_first}
 use Rattle.std.proofs.lemmas.Option.{slice_get_within, get_or_from_slice_get}
 use Rattle.polis_base.specs.Lists.{upto}
 use Rattle.transition_table.specs.NetworkFacts.{has}
-use Rattle.transition_table.specs.Transitions.{IsSnapshot, IsOutcome}
 use Rattle.transition_table.specs.declared.decl.Party.{Party}
 use Rattle.transition_table.specs.declared.machine.Machine.{Machine}
 use Rattle.transition_table.specs.declared.network.Network.{Network}
 use Rattle.transition_table.specs.declared.snapshot.Snapshot.{Snapshot}
 use Rattle.journals.specs.declared.entry.Entry.{Entry}
 use Rattle.journals.specs.declared.entry.Entry.TheVariants.{Dep, Rea}
-use Rattle.journals.specs.Journals.{FitsNetwork, IsJournal, inputs_of, states_of, buffered, state, snap}
+use Rattle.journals.specs.Journals.{inputs_of, states_of, buffered, state, snap}
 use Rattle.journals.proofs.EntriesAt.{prefix_more}
 use Rattle.net_core.specs.inner.Losses.{Overwrites}
-use Rattle.journals.specs.Moved.{machine_of, SuitsMachine}
+use Rattle.journals.specs.Moved.{machine_of}
 use Rattle.journals.specs.Outputs.{overwrites, lost_after}
 
 -- ---- what is present

@@ -12,12 +12,11 @@ use Rattle.journals.specs.declared.entry.Entry.{Entry}
 use Rattle.journals.specs.declared.entry.Entry.TheVariants.{Dep, Rea}
 use Rattle.journals.specs.declared.entry.Owed.{Owed}
 use Rattle.journals.specs.declared.entry.TraceItem.{TraceItem}
-use Rattle.journals.specs.Journals.{snap, delivered}
+use Rattle.journals.specs.Journals.{delivered}
 use Rattle.net_core.specs.inner.Landed.{landed}
 use Rattle.journals.specs.Legality.{Legal, MayFollow}
 use Rattle.net_core.specs.Tables.{AreTables}
 use Rattle.net_core.specs.inner.Tables.{AreBefore}
-use Rattle.journals.specs.Moved.{moments_of}
 use Rattle.journals.specs.Schedules.{is_way, left_by, firing_deliveries, owed_by_machines, machine_deliveries, unmade, keep_unless, same_way}
 use Rattle.journals.specs.Laws.{MovesOwed}
 use Rattle.net_core.proofs.OwedByEmissions.{without_none}

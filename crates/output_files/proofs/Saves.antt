@@ -1,5 +1,5 @@
 -- What is left of saves that are made one after another.
-use Rattle.std.proofs.Common.{◌≡◌, ◌⊎◌, inl, inr, ◌+◌, ℕ, zero, suc, List, [], ◌∷◌, ◌++◌, Option, Some, Ok, Err, take, drop, slice_get, refl, sym, ◌∙◌, ap, subst, arith}
+use Rattle.std.proofs.Common.{◌≡◌, ◌⊎◌, inl, inr, ◌+◌, ℕ, zero, suc, List, [], ◌∷◌, ◌++◌, Option, Some, Err, take, drop, slice_get, refl, ◌∙◌, ap, subst, arith}
 use Rattle.std.specs.FinMap.{insert}
 use Rattle.polis_base.specs.Host.{Files, bytes_at, Changes}
 use Rattle.polis_base.specs.inner.Held.{held_there, held_elsewhere}

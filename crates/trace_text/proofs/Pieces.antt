@@ -1,7 +1,7 @@
 -- The first piece of some bytes, by the first byte that passes.
 use Rattle.std.proofs.Common.{◌≡◌, ◌<◌, ◌≤◌, ◌+◌, ◌-◌, length-drop, ℕ, zero, suc, Bool, true, false, List, [], ◌∷◌, length, take, drop, get_or, refl, ap, ◌∙◌, not, arith, add-one, ◌++◌, ◌==◌, sym, Option, Some, None, IfSome, IfNone, Bor}
 use Rattle.std.proofs.lemmas.List.{take_all}
-use Rattle.trace_text.specs.Pieces.{runs, ends_word, trace_words, begins_comment, trace_lines, without_comment}
+use Rattle.trace_text.specs.Pieces.{runs, begins_comment, trace_lines, without_comment}
 use Rattle.std.proofs.lemmas.Bool.{and_parts, not-true}
 use Rattle.std.proofs.lemmas.List.Sums.{take_while-cons}
 use Rattle.polis_base.specs.Pieces.{lacks}

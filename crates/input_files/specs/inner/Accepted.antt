@@ -1,5 +1,5 @@
 -- Why a text isn't accepted, step by step.
-use Rattle.std.specs.Prelude.{◌≡◌, ℕ, ⊤}
+use Rattle.std.specs.Prelude.{◌≡◌, ℕ}
 use Rattle.polis_base.specs.declared.token.LexError.{LexError}
 use Rattle.polis_base.specs.declared.token.LexError.TheVariants as lexes
 use Rattle.transition_table.specs.declared.machine.Machine.{Machine}

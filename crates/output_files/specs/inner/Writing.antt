@@ -1,15 +1,13 @@
 -- What writing a product leaves, step by step.
 use Rattle.std.specs.Prelude.{◌≡◌, ◌⊎◌, ℕ, List, ◌++◌, take, Option, Result, Ok, Err}
 use Rattle.std.specs.FinMap.{insert}
-use Rattle.polis_base.specs.Host.{Files, Changes}
+use Rattle.polis_base.specs.Host.{Files}
 use Rattle.polis_words.specs.declared.status.Status.{Status}
 use Rattle.polis_words.specs.declared.status.Status.TheVariants.{WriteFault, NoMemory}
 use Rattle.polis_words.specs.Lines.{write_fault_line}
-use Rattle.output_files.specs.declared.product.Product.{Product}
-use Rattle.output_files.specs.Ends.{end_status}
-use Rattle.output_files.specs.Saves.{Save, files_after, MadeSome}
+use Rattle.output_files.specs.Saves.{Save}
 use Rattle.output_files.specs.Shown.{ShowsPrefix}
-use Rattle.output_files.specs.Writing.{FailsAt, FailsToWrite}
+use Rattle.output_files.specs.Writing.{FailsAt}
 use Rattle.output_files.specs.Written.{no_memory_line, RunsOut}
 
 -- what a save leaves: the text under its name, or what was there or a prefix of the text

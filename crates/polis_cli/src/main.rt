@@ -36,54 +36,61 @@ use std::io::ErrorKind;
 use std::process::ExitCode;
 use std::{env, io};
 
-const HELP: &[u8] = b"polis run NET TRACE STEM [--workers W] [--limit N] [--image IMAGE]
+const HELP: &[u8] = b"Runs and code
+  polis run NET TRACE STEM [--workers W] [--limit N] [--image IMAGE]
     runs the network text NET on the trace text TRACE, saves the output events as
     STEM.out, the journal as STEM.jnl and the listing of the compiled machines as
     STEM.lst, and shows a summary; W is how many workers run it, from 1 to 8, and 1
     without the option; N is the most entries of the journal, from 1 to 60000, and
     60000 without the option; with --image it runs the code that the file IMAGE has,
     after a check against the tables of NET, and saves no listing
-polis check NET
-    says whether the network text NET is accepted, and shows how large it is
-polis compile NET STEM
+  polis compile NET STEM
     compiles the machines of the network text NET, saves their listing as STEM.lst,
     and shows how long their graphs and their code are
-polis replay NET TRACE JOURNAL
-    says whether the journal text JOURNAL is a legal run of NET on TRACE, with rising
-    stamps where it has any, and whether it is complete
-polis migrate NET TRACE JOURNAL STEM
-    judges JOURNAL as replay does, and saves it with its least stamps as STEM.jnl
-polis demo SEED
-    runs a network of 24 to 48 machines on a trace of 2000 events, both drawn from the
-    number SEED, below 2^64, and shows a summary; it reads and saves no file
-polis bound NET [T S G H]
-    compiles the machines of the network text NET, and shows for each machine the most
-    and the least that a reaction costs, each with the first snapshot that takes it; T,
-    S, G and H are what a test, a set, a jump and a halt cost, from 0 to 1000000 each,
-    and 1 each where none is given
-polis image NET STEM
+  polis image NET STEM
     compiles the machines of the network text NET, saves their code as the image
     STEM.img, and shows how many bytes that has
-polis equiv NET NET2
+  polis demo SEED
+    runs a network of 24 to 48 machines on a trace of 2000 events, both drawn from the
+    number SEED, below 2^64, and shows a summary; it reads and saves no file
+
+Networks
+  polis check NET
+    says whether the network text NET is accepted, and shows how large it is
+  polis explain NET [TRACE [JOURNAL]]
+    judges these files as check and replay do, and where one is refused, or JOURNAL isn't
+    legal, also shows where and why
+  polis equiv NET NET2
     says whether the network texts NET and NET2, which differ in rows and priorities
     alone, have the same tables, and so the same runs; else it shows the first machine
     and the first snapshot on which they differ
-polis losses NET TRACE JOURNAL
+  polis bound NET [T S G H]
+    compiles the machines of the network text NET, and shows for each machine the most
+    and the least that a reaction costs, each with the first snapshot that takes it; T,
+    S, G and H are what a test, a set, a goto and a halt cost, from 0 to 1000000 each,
+    and 1 each where none is given
+  polis draw NET STEM
+    compiles the machines of the network text NET, saves pictures of the network and of
+    the machines' graphs as STEM.dot, for Graphviz, and shows what compile shows
+
+Journals
+  polis replay NET TRACE JOURNAL
+    says whether the journal text JOURNAL is a legal run of NET on TRACE, with rising
+    stamps where it has any, and whether it is complete
+  polis migrate NET TRACE JOURNAL STEM
+    judges JOURNAL as replay does, and saves it with its least stamps as STEM.jnl
+  polis losses NET TRACE JOURNAL
     judges JOURNAL as replay does, and shows for each input of each machine how many
     deliveries came, were read and were lost, whether one is left, and which entry
     overwrote first
-polis wave NET TRACE JOURNAL STEM
+  polis wave NET TRACE JOURNAL STEM
     judges JOURNAL as replay does, and saves the run along its entries as STEM.vcd, for
     wave viewers
-polis draw NET STEM
-    compiles the machines of the network text NET, saves pictures of the network and of
-    the machines' graphs as STEM.dot, for Graphviz, and shows what compile shows
-polis explain NET [TRACE [JOURNAL]]
-    judges these files as check and replay do, and where one is refused, or JOURNAL isn't
-    legal, also shows where and why
-polis --help
+
+This program
+  polis --help
     shows these forms
-polis --version
+  polis --version
     shows the version
 
 The manual is README.md, and docs/FORMATS.md states each text.

@@ -1,0 +1,32 @@
+# Made by tools/manual from what polis --help shows.
+_polis() {
+    local word=${COMP_WORDS[COMP_CWORD]} kinds="" options="" kind
+    if [ "$COMP_CWORD" -eq 1 ]; then
+        mapfile -t COMPREPLY < <(compgen -W "run compile image demo check explain equiv bound draw replay migrate losses wave --help --version" -- "$word")
+        return
+    fi
+    case ${COMP_WORDS[1]} in
+        run) kinds="net trc stem" options="--workers --limit --image" ;;
+        compile) kinds="net stem" options="" ;;
+        image) kinds="net stem" options="" ;;
+        demo) kinds="" options="" ;;
+        check) kinds="net" options="" ;;
+        explain) kinds="net trc jnl" options="" ;;
+        equiv) kinds="net net" options="" ;;
+        bound) kinds="net" options="" ;;
+        draw) kinds="net stem" options="" ;;
+        replay) kinds="net trc jnl" options="" ;;
+        migrate) kinds="net trc jnl stem" options="" ;;
+        losses) kinds="net trc jnl" options="" ;;
+        wave) kinds="net trc jnl stem" options="" ;;
+    esac
+    read -r -a places <<< "$kinds"
+    kind=${places[COMP_CWORD - 2]:-}
+    [ "${COMP_WORDS[COMP_CWORD - 1]}" != --image ] || kind=img
+    case $kind in
+        "") mapfile -t COMPREPLY < <(compgen -W "$options" -- "$word") ;;
+        stem) mapfile -t COMPREPLY < <(compgen -f -- "$word") ;;
+        *) mapfile -t COMPREPLY < <(compgen -f -X "!*.$kind" -- "$word"; compgen -d -- "$word") ;;
+    esac
+}
+complete -o filenames -F _polis polis ./polis

@@ -1,0 +1,357 @@
+#!/usr/bin/env python3
+"""A second judge of journals, in another language, by the definitions alone.
+
+    tools/judge.py NET TRACE JOURNAL          shows what `polis replay` shows
+    tools/judge.py --fuzz PROGRAM [SEEDS]     compares the two on drawn networks
+
+It reads a network text that `polis check` accepts, a trace text and a journal text that `polis
+replay` reads, and goes by docs/FORMATS.md and docs/LANGUAGE.md: no code and no text of the program
+is used. With --fuzz it draws the networks and traces of `polis demo` for the seeds from 1 to SEEDS
+(10 where none is named), compares the summaries of `demo` and `run`, judges the journals of one
+worker and of four, and then journals in which a line was altered. What differs is shown; the status
+is 1 where anything does, and 0 else.
+"""
+
+import random
+import re
+import subprocess
+import sys
+import tempfile
+from collections import defaultdict, deque
+from pathlib import Path
+
+ENV = "env"
+ALTERED = 12
+SECONDS = 300
+
+
+class Machine:
+    """A machine as the text declares it; a row is its conditions and its actions."""
+
+    def __init__(self, name):
+        self.name, self.inputs, self.outputs, self.states, self.rows = name, [], [], {}, []
+
+
+class Network:
+    """The values of domains, the domain of each event, and the machines."""
+
+    def __init__(self, text):
+        self.tokens = deque(re.findall(r"\w+|:=|\.\.|\S", re.sub(r"#[^\n]*", "", text)))
+        self.domains, self.events, self.from_env, self.machines = {}, {}, set(), {}
+        self.take(4)
+        readers = {"domain": self.domain, "event": self.event, "machine": self.machine}
+        while self.tokens:
+            readers[self.next()]()
+        self.readers = defaultdict(list)
+        for machine in self.machines.values():
+            for event in machine.inputs:
+                self.readers[event].append(machine.name)
+
+    def next(self):
+        return self.tokens.popleft()
+
+    def take(self, count):
+        return [self.next() for _ in range(count)]
+
+    def goes_on(self, token):
+        """Takes the token where it comes next."""
+        there = bool(self.tokens) and self.tokens[0] == token
+        return there and bool(self.next())
+
+    def listed(self):
+        found = [self.next()]
+        while self.goes_on(","):
+            found.append(self.next())
+        return found
+
+    def domain(self):
+        name = self.take(2)[0]
+        if self.goes_on("{"):
+            self.domains[name] = self.listed()
+            self.next()
+        else:
+            first, _, last = self.take(3)
+            self.domains[name] = [str(it) for it in range(int(first), int(last) + 1)]
+
+    def event(self):
+        name = self.next()
+        self.events[name] = self.next() if self.goes_on(":") else None
+        if self.goes_on("from"):
+            self.from_env.add(name)
+            self.next()
+        elif self.goes_on("to"):
+            self.next()
+
+    def machine(self):
+        machine = Machine(self.next())
+        self.machines[machine.name] = machine
+        self.take(3)
+        while not self.goes_on("}"):
+            word = self.next()
+            if word == "input":
+                machine.inputs = self.listed()
+            elif word == "output":
+                machine.outputs = self.listed()
+            elif word == "state":
+                name, _, domain, _, value = self.take(5)
+                machine.states[name] = (domain, value)
+            else:
+                machine.rows.append(self.row())
+
+    def row(self):
+        conditions, actions = [self.condition()], []
+        while self.goes_on(","):
+            conditions.append(self.condition())
+        self.next()
+        if not self.goes_on("nothing"):
+            actions.append(self.action())
+            while self.goes_on(","):
+                actions.append(self.action())
+        return conditions, actions
+
+    def condition(self):
+        """A name with the values that it may have; None stands for absence, no list for any."""
+        if self.goes_on("absent"):
+            return self.next(), [None]
+        name = self.next()
+        if self.goes_on("="):
+            return name, [self.next()]
+        if self.goes_on("in"):
+            self.next()
+            values = self.listed()
+            self.next()
+            return name, values
+        return name, None
+
+    def action(self):
+        """What is set or emitted, and its value: a word, ('value', input) or ('plus', number)."""
+        if self.goes_on("emit"):
+            name = self.next()
+            return "emit", name, self.source() if self.goes_on("=") else ""
+        name = self.next()
+        self.next()
+        return "set", name, self.source()
+
+    def source(self):
+        word = self.next()
+        if word == "value":
+            return "value", self.next()
+        return ("plus", int(self.next())) if self.goes_on("+") else word
+
+
+def trace_of(text):
+    """The events that the environment sends, in order, each with its value."""
+    lines = [re.split(r"[ \t\r]+", line.split("#")[0].strip(" \t\r")) for line in text.split("\n")]
+    return [(words[0], words[1] if len(words) > 1 else "") for words in lines
+            if words[0] not in ("", "settle")]
+
+
+def items(text):
+    """The items of a list, by name; an event without a value has the empty one."""
+    if text == "-":
+        return {}
+    return {it.partition("=")[0]: it.partition("=")[2] for it in text.split(" ")}
+
+
+def entry_of(line):
+    """An entry: its stamp, if any, its kind, and what it says."""
+    stamp = re.match(r"@(\d+) ", line)
+    words = line[stamp.end():] if stamp else line
+    kind, _, rest = words.partition(" ")
+    if kind == "dep":
+        sender, receiver, event = rest.split(" ")
+        name, _, value = event.partition("=")
+        said = sender, receiver, (name, value)
+    elif kind == "fire":
+        said = re.fullmatch(r"(\w+) : (.*) ; (.*) -> (.*) ; (.*)", rest).groups()
+    else:
+        said = re.fullmatch(r"(\w+) : (.*) ; (.*)", rest).groups()
+    return (int(stamp[1]) if stamp else None), kind, said
+
+
+def enables(conditions, seen):
+    return all(name in seen if values is None else seen.get(name) in values
+               for name, values in conditions)
+
+
+class Run:
+    """What is so after some entries: places, states, who is woken, what is owed, and stamps."""
+
+    def __init__(self, net, trace):
+        self.net = net
+        self.places = {name: {} for name in net.machines}
+        self.states = {name: {state: value for state, (_, value) in machine.states.items()}
+                       for name, machine in net.machines.items()}
+        self.woken, self.owed, self.clock = set(), defaultdict(deque), defaultdict(int)
+        for event, value in trace:
+            self.send(ENV, event, value, 0)
+
+    def send(self, sender, event, value, stamp):
+        for receiver in self.net.readers[event]:
+            self.owed[sender, receiver].append(((event, value), stamp))
+
+    def outcome(self, machine):
+        """What the rows give on the snapshot: what is set and what is emitted, or None."""
+        seen = {**self.states[machine.name], **self.places[machine.name]}
+        enabled = [actions for conditions, actions in machine.rows if enables(conditions, seen)]
+        if not enabled:
+            return None
+        given = {"set": {}, "emit": {}}
+        for kind, name, source in enabled[0]:
+            given[kind][name] = self.value(machine, name, source, seen)
+        return given
+
+    def value(self, machine, name, source, seen):
+        if not isinstance(source, tuple):
+            return source
+        if source[0] == "value":
+            return seen[source[1]]
+        words = self.net.domains[machine.states[name][0]]
+        return words[(words.index(seen[name]) + source[1]) % len(words)]
+
+    def follows(self, entry):
+        """Whether the entry may come next; where it may, it has come."""
+        stamp, kind, said = entry
+        return self.lands(stamp, *said) if kind == "dep" else self.reacts(stamp, kind, *said)
+
+    def rises(self, machine, stamp, above):
+        if stamp is None:
+            return True
+        fine = stamp > max(self.clock[machine], above)
+        self.clock[machine] = stamp
+        return fine
+
+    def lands(self, stamp, sender, receiver, event):
+        queue = self.owed[sender, receiver]
+        if not queue or queue[0][0] != event:
+            return False
+        _, fired = queue.popleft()
+        self.places[receiver][event[0]] = event[1]
+        self.woken.add(receiver)
+        return self.rises(receiver, stamp, fired)
+
+    def reacts(self, stamp, kind, name, present, state, set_to="-", emitted="-"):
+        machine = self.net.machines[name]
+        seen = {it: self.places[name][it] for it in machine.inputs if it in self.places[name]}
+        if name not in self.woken or items(present) != seen or items(state) != self.states[name]:
+            return False
+        given = self.outcome(machine)
+        if (kind == "fire") != (given is not None):
+            return False
+        if given is not None and (items(set_to), items(emitted)) != (given["set"], given["emit"]):
+            return False
+        self.woken.discard(name)
+        if given is not None:
+            self.states[name].update(given["set"])
+            self.places[name] = {}
+            for event in machine.outputs:
+                if event in given["emit"]:
+                    self.send(name, event, given["emit"][event], stamp or 0)
+        return self.rises(name, stamp, 0)
+
+    def is_complete(self):
+        return not self.woken and not any(self.owed.values())
+
+
+def verdict(net, trace, journal):
+    """The line that `replay` shows."""
+    run, lines = Run(net, trace), journal.splitlines()[1:-1]
+    for number, line in enumerate(lines):
+        if not run.follows(entry_of(line)):
+            return f"illegal {number}"
+    return f"legal {len(lines)} {'complete' if run.is_complete() else 'open'}"
+
+
+def demo_texts(seed):
+    """The network text and the trace text of a seed, as docs/FORMATS.md has them."""
+    x = seed
+
+    def draw(k):
+        nonlocal x
+        x = (x * 6364136223846793005 + 1442695040888963407) % 2 ** 64
+        return (x >> 33) % k
+
+    n = 24 + draw(25)
+    text = ["network demo version 1", "domain d = 0 .. 7"]
+    text += [line for i in range(n)
+             for line in (f"event t{i} from env", f"event e{i} : d", f"event o{i} to env")]
+    for i in range(n):
+        j = (i + 1) % n
+        text += [f"machine m{i} priority {draw(4)} {{", f"  input t{i}, e{i}",
+                 f"  output e{j}, o{i}", "  state s : d = 0"]
+        for v in range(8):
+            a, b = draw(8), draw(8)
+            text.append(f"  when t{i}, absent e{i}, s = {v} do s := {a}, emit e{j} = {b}")
+        text += [f"  when e{i} = {w} do s := {draw(8)}, emit e{j} = {w - 1}" for w in range(1, 8)]
+        text += [f"  when e{i} = 0 do s := {draw(8)}, emit o{i}", "}"]
+    ticks = [line for k in range(2000)
+             for line in ([f"t{draw(n)}"] + (["settle"] if k % 10 == 9 else []))]
+    return "\n".join(text) + "\n", "\n".join(ticks) + "\n"
+
+
+def altered(journal, rng):
+    """The journal with an entry left out, put twice or exchanged, or with another stamp."""
+    head, *lines, _ = journal.splitlines()
+    k, other = rng.randrange(len(lines)), rng.randrange(len(lines))
+    way = rng.randrange(4)
+    if way == 0:
+        del lines[k]
+    elif way == 1:
+        lines.insert(other, lines[k])
+    elif way == 2:
+        lines[k], lines[other] = lines[other], lines[k]
+    else:
+        lines[k] = re.sub(r"^@\d+", f"@{rng.randrange(1, 200)}", lines[k])
+    return "\n".join([head, *lines, f"end {len(lines)} limit"]) + "\n"
+
+
+def shows(program, words, room):
+    ran = subprocess.run([program, *words], cwd=room, capture_output=True, text=True,
+                         timeout=SECONDS)
+    return ran.stdout + ran.stderr
+
+
+def differing(program, seed, room):
+    """What the two judges say of the journals of a seed, where it isn't the same."""
+    net_text, trace_text = demo_texts(seed)
+    (room / "net").write_text(net_text)
+    (room / "trc").write_text(trace_text)
+    net, trace, rng = Network(net_text), trace_of(trace_text), random.Random(seed)
+    journals, found = [], []
+    for workers in ("1", "4"):
+        shown = shows(program, ["run", "net", "trc", "o", "--workers", workers], room)
+        if workers == "1" and shown != shows(program, ["demo", str(seed)], room):
+            found.append(f"seed {seed}: demo and run show different summaries")
+        journals.append((room / "o.jnl").read_text())
+    journals += [altered(journal, rng) for journal in journals for _ in range(ALTERED)]
+    for number, journal in enumerate(journals):
+        (room / "jnl").write_text(journal)
+        said = shows(program, ["replay", "net", "trc", "jnl"], room).strip()
+        if said != verdict(net, trace, journal):
+            found.append(f"seed {seed}, journal {number}: {said}, and not "
+                         f"{verdict(net, trace, journal)}")
+    return len(journals), found
+
+
+def fuzz(program, seeds):
+    count, found = 0, []
+    with tempfile.TemporaryDirectory() as room:
+        for seed in range(1, seeds + 1):
+            judged, other = differing(program, seed, Path(room))
+            count, found = count + judged, found + other
+    print("\n".join(found + [f"{count} journals judged, {len(found)} differ"]))
+    return 1 if found else 0
+
+
+def main():
+    words = sys.argv[1:]
+    if words[:1] == ["--fuzz"] and len(words) in (2, 3):
+        sys.exit(fuzz(str(Path(words[1]).resolve()), int(words[2]) if len(words) > 2 else 10))
+    if len(words) != 3:
+        sys.exit(__doc__)
+    net, trace, journal = (Path(it).read_text() for it in words)
+    print(verdict(Network(net), trace_of(trace), journal))
+
+
+if __name__ == "__main__":
+    main()

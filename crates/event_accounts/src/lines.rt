@@ -1,5 +1,5 @@
 // The lines of accounts.
-ghost use Rattle.std.specs.Prelude.{◌≡◌, ◌<◌, ◌≤◌, ◌+◌, ◌++◌, ◌^◌, cond, codes, decimal, drop, flat_map, length, OnOk};
+ghost use Rattle.std.specs.Prelude.{◌≡◌, ◌<◌, ◌≤◌, ◌+◌, ◌++◌, ◌^◌, cond, codes, decimal, drop, flat_map, length, OnOk, OnErr};
 ghost use Rattle.std.specs.List.{zip};
 ghost use Rattle.event_accounts.specs.AccountLines.{account_line, accounts_text, buffer_line, place_or_dash};
 ghost use Rattle.event_accounts.specs.Accounts.{buffers, buffers_of};
@@ -88,12 +88,8 @@ fn push_machine(
     Ok(())
 }
 
-/// Appends a line for each account of the buffers of a network.
-pub fn push_accounts(
-    net: &Network,
-    accounts: &AccountList,
-    into: &mut Bytes,
-) -> Result<(), NoMemory>
+// Appends the lines of the machines.
+fn push_machines(net: &Network, accounts: &AccountList, into: &mut Bytes) -> Result<(), NoMemory>
     requires { length accounts.now ≡ length (buffers net.now) }
     ensures { OnOk result (into.new ≡ into.old ++ accounts_text net.now accounts.now) }
 {
@@ -104,4 +100,19 @@ pub fn push_accounts(
         first += net.machines.get(m).inputs.len();
     }
     Ok(())
+}
+
+/// Appends a line for each account of the buffers of a network.
+pub fn push_accounts(
+    net: &Network,
+    accounts: &AccountList,
+    into: &mut Bytes,
+) -> Result<(), NoMemory>
+    requires { length accounts.now ≡ length (buffers net.now) }
+    ensures ok { OnOk result (into.new ≡ into.old ++ accounts_text net.now accounts.now) }
+    ensures err { OnErr result (into.new ≡ into.old) }
+{
+    let mut text = into.beside();
+    push_machines(net, accounts, &mut text)?;
+    into.push(text.as_slice())
 }

@@ -1,8 +1,7 @@
 -- The part of the line on which a place stands, and the whole block.
-use Rattle.std.proofs.Common.{◌≡◌, ⊎_elim, ℕ, zero, suc, ◌+◌, ◌-◌, ◌*◌, ◌/◌, ◌%◌, ◌<◌, ◌≤◌, Bool, true, false, ◌==◌, List, [], ◌∷◌, ◌++◌, map, length, take, drop, get_or, Option, slice_get, unwrap_or, refl, ap, sym, subst, ◌∙◌, arith, length-drop, length-take, append_assoc, min}
+use Rattle.std.proofs.Common.{◌≡◌, ℕ, zero, suc, ◌+◌, ◌-◌, ◌*◌, ◌/◌, ◌%◌, ◌<◌, ◌≤◌, Bool, true, false, ◌==◌, List, [], ◌∷◌, ◌++◌, map, length, take, drop, get_or, Option, slice_get, unwrap_or, refl, ap, sym, ◌∙◌, arith, length-drop, append_assoc, min}
 use Rattle.std.specs.List.{count_by, prefix_len, suffix_len, take_while}
-use Rattle.std.proofs.lemmas.Bool.{cases_lt}
-use Rattle.std.proofs.lemmas.List.{drop-drop, take_all, take_min}
+use Rattle.std.proofs.lemmas.List.{drop-drop, take_min}
 use Rattle.std.proofs.lemmas.List.Sums.{take_while-cons, prefix_len-drop_yes, prefix_len-drop_no}
 use Rattle.std.proofs.lemmas.Nat.{div-add-mod'}
 use Rattle.fault_text.specs.Positions.{is_inner, ends_before, passed, line_of, column_of, lines, numbered}
@@ -127,71 +126,42 @@ shown_of_place text n small =
 
 -- ---- the whole block
 -- the end stands for every place that the text doesn't have
-at_end : (text : List ℕ) (place : ℕ) → length text ≤ place
-    → take (length text) text ≡ take place text
-at_end text place e = take_all (length text) text (omega arith) ∙ sym (take_all place text e)
-
-part_with : (text before : List ℕ) (place n : ℕ) → n ≤ length text → before ≡ take place text
-    → take n text ≡ take place text
-    → shown_part (passed text place) (unwrap_or (numbered (line_of text place) (lines text)) [])
-    ≡ shown_start true (take_while is_inner
-    (drop (length before - passed text place % 80) text))
-part_with text before place n small e same =
-    let l : length (take n text) ≡ n = omega (arith, length-take n text) in
-    let len : n ≡ length before = sym (ap (λ (xs : List ℕ). length xs) (e ∙ sym same) ∙ l) in
-    subst (λ (k : ℕ).
-    shown_part (passed text place) (unwrap_or (numbered (line_of text place) (lines text)) [])
-    ≡ shown_start true (take_while is_inner (drop (k - passed text place % 80) text))) len
-    (subst (λ (xs : List ℕ).
-    shown_part (suffix_len is_inner xs)
-    (unwrap_or (numbered (1 + count_by (λ b. b == 10) xs) (lines text)) [])
-    ≡ shown_start true (take_while is_inner (drop (n - suffix_len is_inner xs % 80) text))) same
-    (shown_of_place text n small))
-
--- the part of the line on which a place stands, where these bytes are before it
-part_shown : (text before : List ℕ) (place : ℕ) → before ≡ take place text
-    → shown_part (passed text place) (unwrap_or (numbered (line_of text place) (lines text)) [])
-    ≡ shown_start true (take_while is_inner
-    (drop (length before - passed text place % 80) text))
-part_shown text before place e =
-    ⊎_elim
-    (λ (h : place < length text). part_with text before place place (omega arith) e refl)
-    (λ (h : length text ≤ place).
-    part_with text before place (length text) (omega arith) e (at_end text place h))
-    (cases_lt place (length text))
+block_within : (file text sentence : List ℕ) (place n : ℕ) → n ≡ min place (length text)
+    → block_text file text n sentence ≡ block_text file text place sentence
+block_within file text sentence place n is =
+    ap (λ (before : List ℕ).
+    head_text file (1 + count_by (λ b. b == 10) before) (1 + suffix_len is_inner before) sentence
+    ++ shown_part (suffix_len is_inner before)
+    (unwrap_or (numbered (1 + count_by (λ b. b == 10) before) (lines text)) [])
+    ++ mark (suffix_len is_inner before % 80))
+    (ap (λ (k : ℕ). take k text) is ∙ take_min place text)
 
 -- what is written is the whole block
-pub block_is : (file text sentence before : List ℕ) (place number column : ℕ)
-    → before ≡ take place text
-    → number ≡ 1 + count_by (λ b. b == 10) before
-    → column ≡ 1 + suffix_len is_inner before
+pub block_is : (file text sentence : List ℕ) (place n number column : ℕ)
+    → n ≡ min place (length text) → number ≡ line_of text n → column ≡ column_of text n
     → (into one two three : List ℕ)
     → one ≡ into ++ head_text file number column sentence
-    → two ≡ one ++ shown_start true (take_while is_inner
-    (drop (length before - (column - 1) % 80) text))
+    → two ≡ one ++ shown_start true (take_while is_inner (drop (n - (column - 1) % 80) text))
     → three ≡ two ++ mark ((column - 1) % 80)
     → three ≡ into ++ block_text file text place sentence
-block_is file text sentence before place number column e l k into one two three first second third =
-    let number_is : number ≡ line_of text place =
-    l ∙ ap (λ (xs : List ℕ). 1 + count_by (λ b. b == 10) xs) e in
-    let column_is : column ≡ column_of text place =
-    k ∙ ap (λ (xs : List ℕ). 1 + suffix_len is_inner xs) e in
-    let passed_is : column - 1 ≡ passed text place = omega arith in
-    let part = shown_part (passed text place)
-    (unwrap_or (numbered (line_of text place) (lines text)) []) in
-    let head = head_text file (line_of text place) (column_of text place) sentence in
+block_is file text sentence place n number column is number_is column_is into one two three first
+    second third =
+    let passed_is : column - 1 ≡ passed text n = omega arith in
+    let part = shown_part (passed text n)
+    (unwrap_or (numbered (line_of text n) (lines text)) []) in
+    let head = head_text file (line_of text n) (column_of text n) sentence in
     third
     ∙ ap (λ (xs : List ℕ). xs ++ mark ((column - 1) % 80))
     (second ∙ ap (λ (xs : List ℕ). xs ++ shown_start true (take_while is_inner
-    (drop (length before - (column - 1) % 80) text))) first)
+    (drop (n - (column - 1) % 80) text))) first)
     ∙ ap (λ (i : ℕ). into ++ head_text file number column sentence
-    ++ shown_start true (take_while is_inner (drop (length before - i % 80) text)) ++ mark (i % 80))
-    passed_is
+    ++ shown_start true (take_while is_inner (drop (n - i % 80) text)) ++ mark (i % 80)) passed_is
     ∙ ap (λ (xs : List ℕ). into ++ head_text file number column sentence ++ xs
-    ++ mark (passed text place % 80)) (sym (part_shown text before place e))
+    ++ mark (passed text n % 80)) (sym (shown_of_place text n (omega arith)))
     ∙ ap (λ (i : ℕ). into ++ head_text file i column sentence ++ part
-    ++ mark (passed text place % 80)) number_is
-    ∙ ap (λ (i : ℕ). into ++ head_text file (line_of text place) i sentence ++ part
-    ++ mark (passed text place % 80)) column_is
-    ∙ ap (λ (xs : List ℕ). xs ++ mark (passed text place % 80)) (append_assoc into head part)
-    ∙ append_assoc into (head ++ part) (mark (passed text place % 80))
+    ++ mark (passed text n % 80)) number_is
+    ∙ ap (λ (i : ℕ). into ++ head_text file (line_of text n) i sentence ++ part
+    ++ mark (passed text n % 80)) column_is
+    ∙ ap (λ (xs : List ℕ). xs ++ mark (passed text n % 80)) (append_assoc into head part)
+    ∙ append_assoc into (head ++ part) (mark (passed text n % 80))
+    ∙ ap (λ (xs : List ℕ). into ++ xs) (block_within file text sentence place n is)

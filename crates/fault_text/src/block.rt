@@ -1,9 +1,9 @@
 // The lines that show a fault.
-ghost use Rattle.std.specs.Prelude.{◌≡◌, ◌++◌, ◌∷◌, ◌||◌, ◌==◌, true, false, [], map, decimal, codes, option_copied, OnOk};
+ghost use Rattle.std.specs.Prelude.{◌≡◌, ◌++◌, ◌∷◌, ◌||◌, ◌==◌, true, false, [], map, decimal, codes, option_copied, OnOk, OnErr};
 ghost use Rattle.fault_text.specs.Blocks.{shown, shown_line, shown_start, mark, head_text, block_text, line_block_text, file_line_text};
 
-use crate::finding::position_after;
-use crate::line::{before, begun_line, first_line};
+use crate::finding::position;
+use crate::line::{begun_line, first_line};
 use crate::place::Position;
 use polis_base::{Bytes, NoMemory};
 
@@ -95,10 +95,8 @@ fn push_head(file: &str, at: Position, sentence: &[u8], into: &mut Bytes) -> Res
     push_sentence(sentence, into)
 }
 
-/// Appends three lines: the file, the line and the column of a place with what is wrong there; the
-/// part of that line in which the column is; and a mark below it. A place that the text doesn't
-/// have is taken for its end. Where memory runs out a part of these may stand there.
-pub fn push_block(
+// The lines of a place, which is the text's end where the text doesn't have it.
+fn push_of_place(
     file: &str,
     text: &[u8],
     place: u64,
@@ -108,13 +106,32 @@ pub fn push_block(
     ensures { OnOk result
         (into.new ≡ into.old ++ block_text file.now text.now place sentence.now) }
 {
-    let before = before(text, place);
-    let at = position_after(before);
+    let place = place.min(text.len() as u64);
+    let at = position(text, place);
     let passed = (at.column - 1) as usize % WIDTH;
     push_head(file, at, sentence, into)?;
-    push_start(first_line(&text[before.len() - passed..]), true, into)?;
+    push_start(first_line(&text[place as usize - passed..]), true, into)?;
     push_mark(passed, into)?;
     Ok(())
+}
+
+/// Appends three lines: the file, the line and the column of a place with what is wrong there; the
+/// part of that line in which the column is; and a mark below it. A place that the text doesn't
+/// have is taken for its end.
+pub fn push_block(
+    file: &str,
+    text: &[u8],
+    place: u64,
+    sentence: &[u8],
+    into: &mut Bytes,
+) -> Result<(), NoMemory>
+    ensures ok { OnOk result
+        (into.new ≡ into.old ++ block_text file.now text.now place sentence.now) }
+    ensures err { OnErr result (into.new ≡ into.old) }
+{
+    let mut block = into.beside();
+    push_of_place(file, text, place, sentence, &mut block)?;
+    into.push(block.as_slice())
 }
 
 // The first part of a line, where there is one.
@@ -147,8 +164,7 @@ fn push_of_line(
 
 /// Appends two lines: the file and a line's number with what is wrong there, and the first part of
 /// that line. The second is left out where the line doesn't begin in the text, as line 0 never
-/// does. Tabs and CRs are blanks, as in a trace. Where memory runs out a part of these may stand
-/// there.
+/// does. Tabs and CRs are blanks, as in a trace.
 pub fn push_line_block(
     file: &str,
     text: &[u8],
@@ -156,10 +172,13 @@ pub fn push_line_block(
     sentence: &[u8],
     into: &mut Bytes,
 ) -> Result<(), NoMemory>
-    ensures { OnOk result
+    ensures ok { OnOk result
         (into.new ≡ into.old ++ line_block_text true file.now text.now line sentence.now) }
+    ensures err { OnErr result (into.new ≡ into.old) }
 {
-    push_of_line(file, text, line, sentence, true, into)
+    let mut block = into.beside();
+    push_of_line(file, text, line, sentence, true, &mut block)?;
+    into.push(block.as_slice())
 }
 
 /// The same for a text in which tabs and CRs are no blanks, as in a journal.
@@ -170,17 +189,29 @@ pub fn push_journal_block(
     sentence: &[u8],
     into: &mut Bytes,
 ) -> Result<(), NoMemory>
-    ensures { OnOk result
+    ensures ok { OnOk result
         (into.new ≡ into.old ++ line_block_text false file.now text.now line sentence.now) }
+    ensures err { OnErr result (into.new ≡ into.old) }
 {
-    push_of_line(file, text, line, sentence, false, into)
+    let mut block = into.beside();
+    push_of_line(file, text, line, sentence, false, &mut block)?;
+    into.push(block.as_slice())
 }
 
-/// Appends one line, what is said of a file without a place in it. Where memory runs out a part of
-/// it may stand there.
-pub fn push_file_line(file: &str, sentence: &[u8], into: &mut Bytes) -> Result<(), NoMemory>
+// The line of a file.
+fn push_of_file(file: &str, sentence: &[u8], into: &mut Bytes) -> Result<(), NoMemory>
     ensures { OnOk result (into.new ≡ into.old ++ file_line_text file.now sentence.now) }
 {
     into.push(file.as_bytes())?;
     push_sentence(sentence, into)
+}
+
+/// Appends one line, what is said of a file without a place in it.
+pub fn push_file_line(file: &str, sentence: &[u8], into: &mut Bytes) -> Result<(), NoMemory>
+    ensures ok { OnOk result (into.new ≡ into.old ++ file_line_text file.now sentence.now) }
+    ensures err { OnErr result (into.new ≡ into.old) }
+{
+    let mut line = into.beside();
+    push_of_file(file, sentence, &mut line)?;
+    into.push(line.as_slice())
 }

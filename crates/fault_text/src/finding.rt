@@ -1,5 +1,5 @@
 // The line and the column of a place.
-ghost use Rattle.std.specs.Prelude.{◌≡◌, ◌+◌, ◌≤◌, ◌==◌, length};
+ghost use Rattle.std.specs.Prelude.{◌≡◌, ◌≤◌, ◌==◌, length};
 ghost use Rattle.std.specs.List.{count_by, suffix_len};
 ghost use Rattle.fault_text.specs.Positions.{is_inner, line_of, column_of};
 
@@ -23,17 +23,6 @@ fn last_line_len(bytes: &[u8]) -> usize
         .count()
 }
 
-// The line and the column of the place after these bytes.
-pub(crate) fn position_after(before: &[u8]) -> Position
-    ensures line { result.line ≡ 1 + count_by (λ b. b == 10) before.now }
-    ensures column { result.column ≡ 1 + suffix_len is_inner before.now }
-{
-    Position {
-        line: 1 + line_ends(before) as u64,
-        column: 1 + last_line_len(before) as u64,
-    }
-}
-
 /// The line and the column of a place. The place after the last byte has them too. It takes no
 /// memory.
 pub fn position(text: &[u8], place: u64) -> Position
@@ -41,5 +30,9 @@ pub fn position(text: &[u8], place: u64) -> Position
     ensures line { result.line ≡ line_of text.now place }
     ensures column { result.column ≡ column_of text.now place }
 {
-    position_after(&text[..place as usize])
+    let before = &text[..place as usize];
+    Position {
+        line: 1 + line_ends(before) as u64,
+        column: 1 + last_line_len(before) as u64,
+    }
 }

@@ -1,5 +1,5 @@
 // The lines of a text.
-ghost use Rattle.std.specs.Prelude.{◌≡◌, [], take, drop, option_copied, IfSome, IfNone};
+ghost use Rattle.std.specs.Prelude.{◌≡◌, [], drop, option_copied, IfSome, IfNone};
 ghost use Rattle.std.specs.List.{prefix_len, take_while};
 ghost use Rattle.fault_text.specs.Positions.{is_inner, begun_lines, numbered};
 
@@ -8,18 +8,6 @@ fn line_len(bytes: &[u8]) -> usize
     ensures { result ≡ prefix_len is_inner bytes.now }
 {
     bytes.iter().take_while(|byte| **byte != b'\n').count()
-}
-
-// The bytes before a place, or all where the text has no such place.
-pub(crate) fn before(text: &[u8], place: u64) -> &[u8]
-    ensures { result.now ≡ take place text.now }
-{
-    let place = place as usize;
-    if place < text.len() {
-        &text[..place]
-    } else {
-        text
-    }
 }
 
 // The first line.

@@ -1,5 +1,5 @@
 // Drawings.
-ghost use Rattle.std.specs.Prelude.{◌≡◌, ◌++◌, length, OnOk};
+ghost use Rattle.std.specs.Prelude.{◌≡◌, ◌++◌, length, OnOk, OnErr};
 ghost use Rattle.graph_drawing.specs.Drawings.{DrawingText, graphs_text};
 
 use crate::graph_text::push_graph;
@@ -20,13 +20,14 @@ fn push_graphs(net: &Network, graphs: &GraphList, into: &mut Bytes) -> Result<()
     Ok(())
 }
 
-/// Appends a drawing of a network and of the graph of each of its machines, in DOT. Where there is
-/// no memory, a part of it may stand there.
+/// Appends a drawing of a network and of the graph of each of its machines, in DOT.
 pub fn push_drawing(net: &Network, graphs: &GraphList, into: &mut Bytes) -> Result<(), NoMemory>
     requires { length graphs.now ≡ length net.now.machines }
-    ensures { OnOk result (into.new ≡ into.old ++ DrawingText net.now graphs.now) }
+    ensures ok { OnOk result (into.new ≡ into.old ++ DrawingText net.now graphs.now) }
+    ensures err { OnErr result (into.new ≡ into.old) }
 {
-    push_network(net, into)?;
-    push_graphs(net, graphs, into)?;
-    Ok(())
+    let mut text = into.beside();
+    push_network(net, &mut text)?;
+    push_graphs(net, graphs, &mut text)?;
+    into.push(text.as_slice())
 }

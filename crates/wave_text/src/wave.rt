@@ -1,5 +1,5 @@
 // A run as a wave.
-ghost use Rattle.std.specs.Prelude.{◌≡◌, ◌<◌, ◌+◌, ◌++◌, ◌^◌, filter, flat_map, length, map, OnOk, IfOk};
+ghost use Rattle.std.specs.Prelude.{◌≡◌, ◌<◌, ◌+◌, ◌++◌, ◌^◌, filter, flat_map, length, map, OnOk, OnErr, IfOk};
 ghost use Rattle.polis_base.specs.Lists.{upto};
 ghost use Rattle.journals.specs.Journals.{IsJournal};
 ghost use Rattle.wave_text.specs.inner.Changing.{AreNumberings, IsNumbering};
@@ -134,14 +134,8 @@ fn counted(list: &SignalList)
     let _count = list.len();
 }
 
-/// Appends the wave of a journal: a value change dump with each buffer, each state variable, each
-/// loss and each emission to the environment along the entries.
-pub fn push_wave(
-    alloc: Global,
-    net: &Network,
-    j: &Journal,
-    into: &mut Bytes,
-) -> Result<(), NoMemory>
+// Appends the head, the codes at the start and the moments.
+fn push_dump(alloc: Global, net: &Network, j: &Journal, into: &mut Bytes) -> Result<(), NoMemory>
     requires { IsJournal net.now j.now }
     ensures { OnOk result (into.new ≡ into.old ++ wave_text net.now j.now) }
 {
@@ -156,4 +150,21 @@ pub fn push_wave(
     let numberings = all_numberings(alloc, net, n, &events, &valued)?;
     push_moments(alloc, net, &numberings, &list, j, into)?;
     Ok(())
+}
+
+/// Appends the wave of a journal: a value change dump with each buffer, each state variable, each
+/// loss and each emission to the environment along the entries.
+pub fn push_wave(
+    alloc: Global,
+    net: &Network,
+    j: &Journal,
+    into: &mut Bytes,
+) -> Result<(), NoMemory>
+    requires { IsJournal net.now j.now }
+    ensures ok { OnOk result (into.new ≡ into.old ++ wave_text net.now j.now) }
+    ensures err { OnErr result (into.new ≡ into.old) }
+{
+    let mut text = into.beside();
+    push_dump(alloc, net, j, &mut text)?;
+    into.push(text.as_slice())
 }

@@ -3,7 +3,7 @@ use Rattle.journals.specs.Journals.{inputs_of}
 use Rattle.event_accounts.proofs.AccountsText.{buffers_next, buffers_within, machines_more}
 use Rattle.event_accounts.proofs.InputsOf.{inputs_of_machine}
 use Rattle.event_accounts.proofs.RowsOf.{buffers_many}
-use Rattle.event_accounts.proofs.lines.push_accounts.Goals as goal
+use Rattle.event_accounts.proofs.lines.push_machines.Goals as goal
 
 pub push_machine-requires-clause-many : goal.push_machine-requires-clause-many
 push_machine-requires-clause-many c =

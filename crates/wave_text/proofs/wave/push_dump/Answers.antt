@@ -8,7 +8,7 @@ use Rattle.std.proofs.lemmas.Bool.{ltb-true}
 use Rattle.wave_text.specs.Signals.{out_events}
 use Rattle.wave_text.proofs.EntryChanges.{out_below}
 use Rattle.wave_text.proofs.IsWritable.{all_at}
-use Rattle.wave_text.proofs.wave.push_wave.Goals as goal
+use Rattle.wave_text.proofs.wave.push_dump.Goals as goal
 
 pub with_values-requires : goal.with_values-requires
 with_values-requires c = λ k d below.

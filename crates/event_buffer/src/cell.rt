@@ -16,9 +16,8 @@ use crate::look::{CellError, Look};
 use crate::outgoing::Outgoing;
 use crate::pending::Pending;
 use crate::room::{make_room, write_firing};
-use journals::{
-    Entry, Log, MAX_STAMP, Stamped, first_moment, laws, move_on, moving_laws, sending_laws,
-};
+use journals::{Entry, Log, Stamped, first_moment, laws, move_on, moving_laws, sending_laws};
+use polis_base::limits::MAX_STAMP;
 use polis_base::{Duplicate, List, NoMemory};
 use std::alloc::Global;
 use std::marker::Model;
@@ -183,8 +182,8 @@ impl<'a> Cell<'a> {
     }
 
     /// Appends its reaction to this moment, whose outcome `settle` writes. All memory is taken
-    /// first, and with it a placeholder for the log entry, a delivery of event 0; then the gate's
-    /// `hold` is called once, and then the reaction is noted.
+    /// first, and with it a placeholder for the log entry, a delivery of event 0; then `hold` of
+    /// the workers' gate is called once, and then the reaction is noted.
     pub fn freeze<G: Gate>(&mut self, g: &G) -> Result<Frozen<'a>, CellError>
         requires { look self.old ≡ Look.Ready }
         ensures reacts { OnOk result (self.new ≡ freezing self.old) }

@@ -36,8 +36,8 @@ impl<'a> Model for Frozen<'a> {
 }
 
 impl<'a> Frozen<'a> {
-    /// Calls the gate's `enter` once, and then writes the transition of its snapshot. It takes no
-    /// memory.
+    /// Calls `enter` of the workers' gate once, and then writes the transition of its snapshot. It
+    /// takes no memory.
     pub fn run<R: Reactor, G: Gate>(&mut self, r: &R, g: &G)
         requires { R.meaning r.now ≡ self.old.net }
         ensures ran { OfMachine self.new.net self.new.machine

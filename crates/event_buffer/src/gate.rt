@@ -1,6 +1,6 @@
 // What a run calls as machines react, so that a test can hold its workers up.
 
-/// Is called as a machine reacts. Neither call promises anything.
+/// The workers' gate, which is called as a machine reacts. Neither call promises anything.
 pub trait Gate {
     /// Is called while no lock is held, before the code of the machine runs.
     fn enter(&self, machine: u32);

@@ -16,7 +16,7 @@ use Rattle.polis_words.specs.declared.status.Status.TheVariants.{Refused}
 use Rattle.polis_words.specs.Lines.{cause_status, lex_error}
 use Rattle.input_files.specs.Accepted.{Accepted}
 use Rattle.input_files.specs.Inputs.{HoldsText, HoldsNet, HoldsTrace, LoadFails, IsNetFault, IsTraceFault, NetFails, TraceFails, InputsFail}
-use Rattle.input_files.specs.Failures.{is_finding, FileExplained, FilesExplained}
+use Rattle.input_files.specs.Failures.{is_finding, FileExplained, FilesExplained, NamesOneOf}
 use Rattle.input_files.proofs.Holds.{no_break, one_text}
 use Rattle.polis_base.proofs.WhereTold.{told_from, told_both}
 
@@ -179,3 +179,16 @@ pub trace_failed : (o : Option Files) (net_name trace_name : List ℕ) (net : Ne
 trace_failed o net_name trace_name net E failures.NoMemory held one h = tt
 trace_failed o net_name trace_name net E (failures.File name cause more) held one (h, explains) =
     ((trace_fails o net_name trace_name name.now net cause h.0 held one h.1, h.2), explains)
+
+-- which of them it is
+pub first_named : (first second : List ℕ) (o : Option Files) (P : Files → Cause → Type 0)
+    (E : Option Files → List ℕ → Cause → List ℕ → Type 0) (failure : Failure)
+    → FileExplained first o P E failure → NamesOneOf first second failure
+first_named first second o P E failures.NoMemory h = tt
+first_named first second o P E (failures.File name cause more) (h, explains) = inl h.0
+
+pub second_named : (first second : List ℕ) (o : Option Files) (P : Files → Cause → Type 0)
+    (E : Option Files → List ℕ → Cause → List ℕ → Type 0) (failure : Failure)
+    → FileExplained second o P E failure → NamesOneOf first second failure
+second_named first second o P E failures.NoMemory h = tt
+second_named first second o P E (failures.File name cause more) (h, explains) = inr h.0

@@ -11,23 +11,21 @@ use Rattle.journal_text.specs.declared.fault.JournalFault.TheVariants.{Line as F
 use Rattle.journal_text.specs.declared.fault.JournalKind.{JournalKind}
 use Rattle.journal_text.specs.Reading.{read_of}
 use Rattle.trace_text.specs.declared.fault.TraceKind.{TraceKind}
-use Rattle.fault_text.specs.Blocks.{file_line_text}
 use Rattle.polis_words.specs.declared.cause.Cause.{Cause}
 use Rattle.polis_words.specs.declared.cause.Cause.TheVariants.{ReadFault as Unread, Absent, TooLong, TraceLine, JournalLine}
 use Rattle.polis_words.specs.declared.cause.Failure.{Failure}
 use Rattle.polis_words.specs.declared.cause.Failure.TheVariants as failures
 use Rattle.polis_words.specs.declared.status.Status.TheVariants.{Refused}
 use Rattle.polis_words.specs.Lines.{cause_status}
-use Rattle.polis_words.specs.Sentences.{absent_sentence, long_sentence}
 use Rattle.input_files.specs.declared.load.Detail.{Detail}
 use Rattle.input_files.specs.declared.load.Detail.TheVariants as details
 use Rattle.input_files.specs.Explanations.{IsExplained, ExplainsFile}
 use Rattle.input_files.specs.Inputs.{HoldsText, IsTraceFault, TraceFails}
 use Rattle.input_files.specs.JournalFiles.{JournalFails}
-use Rattle.input_files.specs.Failures.{explains_by, is_failure, FileExplained}
+use Rattle.input_files.specs.Failures.{is_failure, FileExplained}
 use Rattle.input_files.specs.Details.{IsFailureOf, explains_in}
 use Rattle.input_files.specs.Loads.{LeftByLoads, is_read_fault, is_unread}
-use Rattle.polis_base.proofs.WhereTold.{told_from, told_always}
+use Rattle.polis_base.proofs.WhereTold.{told_from}
 
 -- the file fails, by the failure of it
 pub refused_so : (name : List ℕ) (o : Option Files) (P : Files → Cause → Type 0)
@@ -130,7 +128,7 @@ cause_alone detail max o name cause explanation none d e n = rw (d, e, n) refl
 -- what the files explain, where that is asked for
 pub cause_explained : (detail : Detail) (max : ℕ) (o : Option Files) (name : List ℕ)
     (cause : Cause) (explanation made : Result (List ℕ) NoMemory) → detail ≡ details.Explained
-    → explanation ≡ made → IfOk made (explains_by (ExplainsFile max) o name cause)
+    → explanation ≡ made → IfOk made (ExplainsFile max o name cause)
     → IfOk explanation (explains_in detail max o name cause)
 cause_explained detail max o name cause explanation made d e h = rw (d, e) h
 
@@ -138,39 +136,19 @@ cause_explained detail max o name cause explanation made d e h = rw (d, e) h
 pub unread_explained : (detail : Detail) (max : ℕ) (o : Option Files) (name more : List ℕ)
     → more ≡ [] → explains_in detail max o name Unread more
 unread_explained details.Cause max o name more none = none
-unread_explained details.Explained max o name more none =
-    told_always o (λ files. ExplainsFile max files name Unread more) (λ files. none)
-
--- a file that isn't there or is too long
-pub absent_explained : (o : Option Files) (max : ℕ) (name : List ℕ)
-    (made : Result (List ℕ) NoMemory)
-    → IfOk made (λ more. more ≡ file_line_text name absent_sentence)
-    → IfOk made (explains_by (ExplainsFile max) o name Absent)
-absent_explained o max name (Err ran_out) h = tt
-absent_explained o max name (Ok more) h =
-    told_always o (λ files. ExplainsFile max files name Absent more) (λ files. h)
-
-pub long_explained : (o : Option Files) (max : ℕ) (name : List ℕ)
-    (made : Result (List ℕ) NoMemory)
-    → IfOk made (λ more. more ≡ file_line_text name (long_sentence max))
-    → IfOk made (explains_by (ExplainsFile max) o name TooLong)
-long_explained o max name (Err ran_out) h = tt
-long_explained o max name (Ok more) h =
-    told_always o (λ files. ExplainsFile max files name TooLong more) (λ files. h)
+unread_explained details.Explained max o name more none = none
 
 -- a text is held, and this explains what is wrong with it
 pub text_explained : (o : Option Files) (max : ℕ) (name text : List ℕ) (cause : Cause)
     (made : Result (List ℕ) NoMemory) → WhereTold o (λ files. HoldsText files max name text)
     → IfOk made (λ more. IsExplained name text cause more)
-    → IfOk made (explains_by (ExplainsFile max) o name cause)
+    → IfOk made (ExplainsFile max o name cause)
 text_explained o max name text cause (Err ran_out) held explains = tt
-text_explained o max name text cause (Ok more) held explains =
-    told_from o (λ files. HoldsText files max name text) _
-    (λ files h. of_cause files h cause explains) held
+text_explained o max name text cause (Ok more) held explains = of_cause cause explains
   where
-    of_cause : (files : Files) → HoldsText files max name text → (cause : Cause)
-        → IsExplained name text cause more → ExplainsFile max files name cause more
-    of_cause files h Unread e = absurd e
-    of_cause files h Absent e = absurd e
-    of_cause files h TooLong e = absurd e
-    of_cause files h other e = (text, h, e)
+    of_cause : (cause : Cause) → IsExplained name text cause more
+        → ExplainsFile max o name cause more
+    of_cause Unread e = absurd e
+    of_cause Absent e = absurd e
+    of_cause TooLong e = absurd e
+    of_cause other e = (text, held, e)

@@ -8,13 +8,13 @@ use Rattle.polis_words.specs.declared.cause.Failure.TheVariants as failures
 use Rattle.input_files.specs.declared.load.Detail.{Detail}
 use Rattle.input_files.specs.declared.load.Detail.TheVariants as details
 use Rattle.input_files.specs.Explanations.{ExplainsFile}
-use Rattle.input_files.specs.Failures.{explains_by, explains_nothing}
+use Rattle.input_files.specs.Failures.{explains_nothing}
 
 -- what explains that a file of at most so many bytes is refused, where so much is said of it:
--- nothing, whether or not the files are told, or what they explain
+-- nothing, or what explains the cause
 abbrev pub explains_in : Detail → ℕ → Option Files → List ℕ → Cause → List ℕ → Type 0
 explains_in details.Cause max = explains_nothing
-explains_in details.Explained max = explains_by (ExplainsFile max)
+explains_in details.Explained max = ExplainsFile max
 
 -- the failure is that of the file of this name for this cause, with this explanation; where memory
 -- ran out for that, it says so

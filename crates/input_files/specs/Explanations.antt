@@ -2,7 +2,7 @@
 use Rattle.std.specs.Prelude.{◌≡◌, ◌⊎◌, ℕ, ◌+◌, Bool, true, false, cond, ◌==◌, List, [], ◌++◌, length, slice_get, Option, Ok}
 use Rattle.std.specs.Option.{option_map_or}
 use Rattle.polis_base.specs.declared.limits.TheConstants.{TEXT_MAX, LONG_FILE_MAX}
-use Rattle.polis_base.specs.Host.{Files}
+use Rattle.polis_base.specs.Host.{Files, WhereTold}
 use Rattle.polis_base.specs.Lists.{head_of}
 use Rattle.net_reader.specs.declared.raw.RawCond.{RawCond}
 use Rattle.net_reader.specs.declared.raw.RawCond.TheVariants.{Present, Absent as IsAbsent, Is, OneOf}
@@ -66,22 +66,24 @@ IsExplained name text (JournalLine line kind) more =
     more ≡ line_block_text false name text line (journal_sentence kind)
 IsExplained name text other more = ⊥
 
--- what explains why a file of at most so many bytes isn't loaded, isn't read or isn't accepted; a
--- load that failed is explained by nothing
-abbrev pub ExplainsFile : ℕ → Files → List ℕ → Cause → List ℕ → Type 0
-ExplainsFile max files name Unread more = more ≡ []
-ExplainsFile max files name Absent more = more ≡ file_line_text name absent_sentence
-ExplainsFile max files name TooLong more = more ≡ file_line_text name (long_sentence max)
-ExplainsFile max files name other more =
-    (text : List ℕ) × HoldsText files max name text × IsExplained name text other more
+-- What explains why a file of at most so many bytes isn't loaded, isn't read or isn't accepted; a
+-- load that failed is explained by nothing. What bytes explain is said of a text, which the file
+-- holds where the files are told.
+abbrev pub ExplainsFile : ℕ → Option Files → List ℕ → Cause → List ℕ → Type 0
+ExplainsFile max told name Unread more = more ≡ []
+ExplainsFile max told name Absent more = more ≡ file_line_text name absent_sentence
+ExplainsFile max told name TooLong more = more ≡ file_line_text name (long_sentence max)
+ExplainsFile max told name other more =
+    (text : List ℕ) × WhereTold told (λ files. HoldsText files max name text)
+    × IsExplained name text other more
 
 -- What explains that the k-th entry of a journal is the first up to which it isn't legal: why it
 -- can't follow those before it, or that its stamp doesn't rise. Entry 0 stands on the text's second
 -- line.
-pub record ExplainsIllegal (files : Files) (net : Network) (trace : List TraceItem)
+pub record ExplainsIllegal (told : Option Files) (net : Network) (trace : List TraceItem)
     (name : List ℕ) (k : ℕ) (more : List ℕ) : Type 0 where
   pub text : List ℕ
-  pub holds : HoldsText files LONG_FILE_MAX name text
+  pub holds : WhereTold told (λ files. HoldsText files LONG_FILE_MAX name text)
   pub journal : List Entry
   pub stamps : Option (List ℕ)
   pub word : Bool
@@ -91,17 +93,21 @@ pub record ExplainsIllegal (files : Files) (net : Network) (trace : List TraceIt
   pub more_is : more ≡ line_block_text false name text (k + 2) (why_sentence why)
 
 -- what explains why a journal file isn't loaded, isn't read or isn't legal
-abbrev pub ExplainsJournal : Files → Network → List TraceItem → List ℕ → Cause → List ℕ → Type 0
-ExplainsJournal files net trace name (Unlawful k) more =
-    ExplainsIllegal files net trace name k more
-ExplainsJournal files net trace name other more =
-    ExplainsFile LONG_FILE_MAX files name other more
+abbrev pub ExplainsJournal : Option Files → Network → List TraceItem → List ℕ → Cause → List ℕ
+    → Type 0
+ExplainsJournal told net trace name (Unlawful k) more =
+    ExplainsIllegal told net trace name k more
+ExplainsJournal told net trace name other more =
+    ExplainsFile LONG_FILE_MAX told name other more
 
 -- what explains why a file of a replay fails: the network or the trace, or, where both are
--- accepted, the journal
-abbrev pub ExplainsReplay : ReplayWords → Files → List ℕ → Cause → List ℕ → Type 0
-ExplainsReplay replay files name cause more =
-    (InputsFail files replay.net replay.trace name cause × ExplainsFile TEXT_MAX files name cause more)
-    ⊎ ((net : Network) × (trace : List TraceItem) × HoldsNet files replay.net net
-    × HoldsTrace files replay.trace net trace
-    × ExplainsJournal files net trace replay.journal cause more)
+-- accepted, the journal; the name says which it is, whether or not the files are told
+abbrev pub ExplainsReplay : ReplayWords → Option Files → List ℕ → Cause → List ℕ → Type 0
+ExplainsReplay replay told name cause more =
+    (((name ≡ replay.net) ⊎ (name ≡ replay.trace))
+    × WhereTold told (λ files. InputsFail files replay.net replay.trace name cause)
+    × ExplainsFile TEXT_MAX told name cause more)
+    ⊎ ((name ≡ replay.journal) × (net : Network) × (trace : List TraceItem)
+    × WhereTold told (λ files. HoldsNet files replay.net net
+    × HoldsTrace files replay.trace net trace)
+    × ExplainsJournal told net trace name cause more)

@@ -1,5 +1,5 @@
 -- Which file fails and why, and what explains it.
-use Rattle.std.specs.Prelude.{◌≡◌, ℕ, Bool, true, false, List, [], Option, IsTrue, ⊤}
+use Rattle.std.specs.Prelude.{◌≡◌, ◌⊎◌, ℕ, Bool, true, false, List, [], Option, IsTrue, ⊤}
 use Rattle.polis_base.specs.Host.{Files, WhereTold}
 use Rattle.polis_words.specs.declared.cause.Cause.{Cause}
 use Rattle.polis_words.specs.declared.cause.Failure.{Failure}
@@ -26,15 +26,15 @@ is_failure reads other = false
 abbrev pub explains_nothing : Option Files → List ℕ → Cause → List ℕ → Type 0
 explains_nothing told name cause more = more ≡ []
 
--- what the files say is shown after it, where they are told
-abbrev pub explains_by : (Files → List ℕ → Cause → List ℕ → Type 0) → Option Files → List ℕ
-    → Cause → List ℕ → Type 0
-explains_by E told name cause more = WhereTold told (λ files. E files name cause more)
-
 -- P of the name of the file that failed, of why, and of what explains it, unless memory ran out
 abbrev pub IfExplained : Failure → (List ℕ → Cause → List ℕ → Type 0) → Type 0
 IfExplained failures.NoMemory P = ⊤
 IfExplained (failures.File name cause more) P = P name.now cause more
+
+-- the file that failed has one of these two names
+abbrev pub NamesOneOf : List ℕ → List ℕ → Failure → Type 0
+NamesOneOf first second failure =
+    IfExplained failure (λ name cause more. (name ≡ first) ⊎ (name ≡ second))
 
 -- the file of this name fails, by what is told, nothing was found of files that are accepted, and E
 -- is what is said of what explains it

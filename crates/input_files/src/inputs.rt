@@ -8,7 +8,7 @@ ghost use Rattle.transition_table.specs.declared.network.Network.{Network};
 ghost use Rattle.input_files.specs.Inputs.{HoldsNet, HoldsTrace, InputsFail};
 ghost use Rattle.input_files.specs.Details.{explains_in};
 ghost use Rattle.input_files.specs.Loads.{LeftByLoads, fails_unread};
-ghost use Rattle.input_files.specs.Failures.{FilesExplained};
+ghost use Rattle.input_files.specs.Failures.{FilesExplained, NamesOneOf};
 
 use crate::load::{Detail, load_net, load_trace};
 use journals::Trace;
@@ -45,6 +45,7 @@ pub fn load_inputs<'a, H: Host>(
     ensures failed { IfErr result (λ failure.
         FilesExplained (H.files host.old) (λ files. InputsFail files net_name.now trace_name.now)
         (explains_in detail TEXT_MAX) failure) }
+    ensures named { IfErr result (NamesOneOf net_name.now trace_name.now) }
     ensures left { LeftByLoads ⟦<H as Host>⟧ (fails_unread result) host.old host.new }
 {
     let net = match load_net(alloc, host, net_name, detail) {

@@ -1,6 +1,7 @@
 -- What a journal text says: its journal, its stamps and its last word, or its first line at fault
 -- with its first kind.
 use Rattle.std.specs.Prelude.{ℕ, ◌+◌, cond, Bool, true, false, not, ◌||◌, ◌==◌, nat_lt, List, [], ◌∷◌, ◌++◌, length, map, Option, Some, None, Result, Ok, Err, codes}
+use Rattle.polis_base.specs.declared.limits.TheConstants.{ENTRIES_MAX}
 use Rattle.domains.specs.Names.{is_same}
 use Rattle.transition_table.specs.declared.network.Network.{Network}
 use Rattle.journals.specs.declared.entry.Entry.{Entry}
@@ -32,7 +33,7 @@ said_entry stamp (Ok entry) = More (stamp, entry)
 abbrev pub entry_says : Bool → Network → ℕ → Option (ℕ × EntryForm) → Said
 entry_says stamped net count None = Bad Shape
 entry_says stamped net count (Some (stamp, form)) =
-    cond (not (nat_lt count 60000)) (Bad Many)
+    cond (not (nat_lt count ENTRIES_MAX)) (Bad Many)
     (cond (not (not stamped || is_stamp stamp)) (Bad Stamp)
     (said_entry stamp (entry_read net form)))
 

@@ -64,7 +64,7 @@ fn keep_machines(machines: &[Machine])
 
 /// Walks the names of a network. Its types keep that each is a name token, and that the words of a
 /// domain are distinct; so what is printed of the network reads back.
-pub fn keep_names(net: &Network)
+pub(crate) fn keep_names(net: &Network)
     ensures { IsTrue (names_hold net.now) }
 {
     keep_events(net.events.as_slice());

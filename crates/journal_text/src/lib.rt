@@ -17,7 +17,6 @@ mod read;
 mod worked;
 
 pub use fault::{JournalFault, JournalKind};
-pub use kept::keep_names;
 pub use law::laws;
 pub use print::{print_journal, print_outputs, push_count, push_snapshot};
 pub use read::{ReadJournal, read_journal};

@@ -12,11 +12,9 @@ use crate::entry::entry_of_form;
 use crate::fault::JournalKind;
 use crate::form::{last_line, stamped_line};
 use crate::index::Index;
-use journals::{Entry, MAX_STAMP};
+use journals::Entry;
+use polis_base::limits::{ENTRIES_MAX, MAX_STAMP};
 use std::alloc::Global;
-
-/// The most entries of a journal.
-const MOST_ENTRIES: u64 = 60_000;
 
 /// What a line says that isn't at fault.
 #[derive(Drop)]
@@ -55,7 +53,7 @@ fn read_entry(
     let Some((stamp, form)) = stamped_line(stamped, line) else {
         return Err(Stop::Kind(JournalKind::Shape));
     };
-    if count >= MOST_ENTRIES {
+    if count >= ENTRIES_MAX {
         return Err(Stop::Kind(JournalKind::Many));
     }
     if stamped && !is_a_stamp(stamp) {

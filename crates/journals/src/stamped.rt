@@ -6,9 +6,6 @@ use polis_base::{Duplicate, List, NoMemory};
 use std::alloc::Global;
 use std::marker::Model;
 
-/// No stamp is above this one.
-pub const MAX_STAMP: u64 = 1_099_511_627_776;
-
 /// An entry with its stamp.
 #[derive(Drop)]
 pub struct Stamped {

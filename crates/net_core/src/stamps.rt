@@ -6,8 +6,9 @@ ghost use Rattle.journals.specs.Logs.{max_stamp};
 ghost use Rattle.journals.specs.Stamps.{Rising, least, IsFirstNotRising};
 
 use crate::clocks::first_clocks;
-use journals::{Journal, MAX_STAMP, Stamps, Trace, laws, sending_laws, stamp_laws};
+use journals::{Journal, Stamps, Trace, laws, sending_laws, stamp_laws};
 use polis_base::NoMemory;
+use polis_base::limits::MAX_STAMP;
 use std::alloc::Global;
 use transition_table::Network;
 

@@ -18,7 +18,7 @@ use Rattle.net_gen.specs.Draws.{after, draw}
 use Rattle.net_gen.specs.Events.{HasDemoEvents}
 use Rattle.net_gen.specs.Items.{tick_item, items_at, tick_items, trace_items}
 use Rattle.net_gen.specs.Networks.{count}
-use Rattle.net_gen.specs.inner.Traces.{tick_line, lines_at, ticks, trace_text}
+use Rattle.net_gen.specs.Traces.{tick_line, lines_at, ticks, trace_text}
 use Rattle.net_gen.proofs.DrawsAfter.{flat_snoc}
 use Rattle.net_gen.proofs.DeclarationRules.{draw_below}
 use Rattle.net_gen.proofs.Lines.{is_free, text_of, are_lines, lines_back, one_word, IsItem, all_read, zip_flat, all_flat, text_flat}

@@ -1,5 +1,6 @@
 -- That runs of the network of a seed come to an end.
 use Rattle.std.specs.Prelude.{ℕ, ◌+◌, ◌-◌, ◌%◌, ◌≤◌, ◌==◌, List, length, slice_index, if◌then◌else◌}
+use Rattle.polis_base.specs.declared.limits.TheConstants.{ENTRIES_MAX}
 use Rattle.transition_table.specs.Transitions.{AreDeterministic}
 use Rattle.transition_table.specs.declared.network.Network.{Network}
 use Rattle.journals.specs.declared.entry.Entry.{Entry}
@@ -41,5 +42,5 @@ abbrev pub SeedsComplete : Type 0
 SeedsComplete =
     (seed : ℕ) (net : Network) (journal : List Entry)
     → IsNetworkOf (network seed) net
-    → IsSchedule net (trace_items seed) 60000 journal
+    → IsSchedule net (trace_items seed) ENTRIES_MAX journal
     → Complete net (trace_items seed) journal

@@ -10,7 +10,7 @@ use Rattle.trace_text.specs.Traces.{trace_of}
 use Rattle.net_gen.specs.Draws.{after, draw}
 use Rattle.net_gen.specs.Dwindling.{arrivals}
 use Rattle.net_gen.specs.Networks.{count, network}
-use Rattle.net_gen.specs.inner.Traces.{trace_text}
+use Rattle.net_gen.specs.Traces.{trace_text}
 
 -- the tick of machine i, a pure event, which is the first of the machine's three
 abbrev pub tick_item : ℕ → TraceItem

@@ -7,5 +7,5 @@ pub mod Items
 pub mod Kept
 pub mod Networks
 pub mod Texts
+pub mod Traces
 pub mod Whole
-pub mod inner

@@ -3,7 +3,7 @@ ghost use Rattle.std.specs.Prelude.{◌≡◌, IfOk};
 ghost use Rattle.net_reader.specs.Layout.{network_text};
 ghost use Rattle.net_reader.specs.Places.{Declares};
 ghost use Rattle.net_gen.specs.Networks.{network};
-ghost use Rattle.net_gen.specs.inner.Traces.{trace_text};
+ghost use Rattle.net_gen.specs.Traces.{trace_text};
 ghost use Rattle.net_gen.specs.Whole.{AreWhole};
 
 use crate::draws::Draws;

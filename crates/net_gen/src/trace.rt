@@ -1,6 +1,6 @@
 // The text of a trace of a ring of machines.
 ghost use Rattle.std.specs.Prelude.{◌≡◌, ◌<◌, ◌++◌, IfOk, OnOk};
-ghost use Rattle.net_gen.specs.inner.Traces.{tick_line, settle_line, ticks};
+ghost use Rattle.net_gen.specs.Traces.{tick_line, settle_line, ticks};
 
 use crate::draws::Draws;
 use polis_base::{Bytes, NoMemory};

@@ -22,5 +22,5 @@ pub use names::{
 pub use places::{sooner, unless};
 pub use scope::Scope;
 pub use table::{Table, number_all};
-pub use values::{count_of, count_up_to, has_name, is_same, place_of, times_up_to, value_in};
+pub use values::{count_of, has_name, is_same, place_of, times_up_to, value_in};
 pub use vars::{Var, var_numbered, var_of, vars_of};

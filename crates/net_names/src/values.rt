@@ -73,7 +73,7 @@ pub fn count_of(shape: &RawShape) -> u64
 }
 
 /// So many values, or 65,537 where there are more.
-pub fn count_up_to(shape: &RawShape) -> u64
+pub(crate) fn count_up_to(shape: &RawShape) -> u64
     ensures { result ≡ min 65537 (count_of shape.now) }
 {
     let count = count_of(shape);

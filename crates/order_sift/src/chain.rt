@@ -12,7 +12,7 @@ ghost use Rattle.order_sift.specs.inner.Settings.{HasRoomAndSets};
 
 use crate::law::{laws_below, laws_of_levels};
 use crate::points::Points;
-use crate::sets::{Known, first_items, level_after, numbers_of};
+use crate::sets::{Freed, Known, first_items, freed_after};
 use decision_diagram::Order;
 use polis_base::{List, NoMemory, Numbers};
 use std::alloc::Global;
@@ -69,11 +69,10 @@ fn extend(
     let item = *order.get(items - 1 - t);
     let old = chain.classes.get(t);
     let set = first_items(order, items - 1 - t);
-    let made = numbers_of(m, points, seen, known, set, old, item)?;
-    let here = level_after(m, points, known, set, &made, item)?;
+    let Freed { numbers, level } = freed_after(m, points, seen, known, set, old, item)?;
     let last = *chain.backs.get(t);
-    chain.classes.push(made)?;
-    let back = here + last;
+    chain.classes.push(numbers)?;
+    let back = level + last;
     chain.backs.push(back)?;
     Ok(())
 }

@@ -10,7 +10,7 @@ use crate::chain::Chain;
 use crate::law::laws_of_levels;
 use crate::places::PlaceRange;
 use crate::points::Points;
-use crate::sets::{Known, first_items, level_after, numbers_of, with};
+use crate::sets::{Freed, Known, first_items, freed_after, level_after, with};
 use decision_diagram::Order;
 use polis_base::{List, NoMemory, Numbers};
 use std::alloc::Global;
@@ -61,10 +61,11 @@ fn fill_before(
         let next = *moving.order.get(j);
         let before = first_items(moving.order, j);
         let set = with(before, item);
-        let freer = numbers_of(machine, points, seen, known, set, &with_item, next)?;
-        with_item = freer;
-        let here = level_after(machine, points, known, set, &with_item, next)?;
-        back += here;
+        let Freed { numbers, level } = freed_after(
+            machine, points, seen, known, set, &with_item, next,
+        )?;
+        with_item = numbers;
+        back += level;
         let without_item = moving.chain.classes.get(items - j);
         let own = level_after(machine, points, known, before, without_item, item)?;
         let after = *moving.chain.backs.get(items - j);
@@ -115,11 +116,12 @@ fn fill_after(
         let with_item = moving.chain.classes.get(items - 1 - j);
         let more = with(set, next);
         set = more;
-        let freer = numbers_of(machine, points, seen, known, set, with_item, item)?;
-        without_item = freer;
-        let own = level_after(machine, points, known, set, &without_item, item)?;
+        let Freed { numbers, level } = freed_after(
+            machine, points, seen, known, set, with_item, item,
+        )?;
+        without_item = numbers;
         let back = *moving.chain.backs.get(items - 1 - j);
-        let size = front + own + back;
+        let size = front + level + back;
         sizes.set(j - range.first, size);
     }
     Ok(())

@@ -38,6 +38,14 @@ pub(crate) struct KnownLevel {
     pub(crate) level: u64,
 }
 
+/// Numbers for what is left where the items of a set are fixed, and the level of the item that is
+/// freed next.
+#[derive(Drop)]
+pub(crate) struct Freed {
+    pub(crate) numbers: Numbers,
+    pub(crate) level: u64,
+}
+
 /// What is known of sets.
 #[derive(Drop)]
 pub(crate) struct Known {
@@ -108,8 +116,8 @@ fn place_of_level(levels: &List<KnownLevel>, set: u64, item: u32) -> u64
     levels.len()
 }
 
-/// Numbers for what is left where the items of a set are fixed, from those where one more item is.
-pub(crate) fn numbers_of(
+// Numbers for what is left where the items of a set are fixed, from those where one more item is.
+fn numbers_of(
     m: &Machine,
     points: &Points,
     seen: &mut [u16],
@@ -174,4 +182,31 @@ pub(crate) fn level_after(
         known.levels.push(one)?;
     }
     Ok(level)
+}
+
+/// Both for a set and an item, from the numbers where the item is fixed too.
+pub(crate) fn freed_after(
+    m: &Machine,
+    points: &Points,
+    seen: &mut [u16],
+    known: &mut Known,
+    set: u64,
+    classes: &Numbers,
+    item: u32,
+) -> Result<Freed, NoMemory>
+    requires points { AreFewPoints m.now points.now }
+    requires room { HasRoom (product m.now.vars) seen.old }
+    requires known { AreKnown m.now known.old }
+    requires item { item < length m.now.vars + length m.now.results }
+    requires next { IsNextItem m.now (in_set set) item }
+    requires classes { AreClasses m.now (fixed_too (in_set set) item) classes.now }
+    ensures numbers { IfOk result (λ made. AreClasses m.now (in_set set) made.numbers) }
+    ensures level { IfOk result (λ made.
+        made.level ≡ set_level (char m.now) (sizes_of m.now) (in_set set) item) }
+    ensures few { IfOk result (λ made. made.level ≤ SIFTED_SNAPSHOTS_MAX) }
+    ensures known { IfOk result (λ made. AreKnown m.now known.new) }
+{
+    let numbers = numbers_of(m, points, seen, known, set, classes, item)?;
+    let level = level_after(m, points, known, set, &numbers, item)?;
+    Ok(Freed { numbers, level })
 }

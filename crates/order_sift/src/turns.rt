@@ -139,6 +139,49 @@ fn move_to(
     Ok(())
 }
 
+// A place of an item, and the size with the item there.
+#[derive(Clone, Copy)]
+struct Best {
+    place: u64,
+    count: u64,
+}
+
+// The first allowed place of an item with the least size.
+fn best_place(
+    sifting: &Sifting,
+    seen: &mut [u16],
+    known: &mut Known,
+    item: u32,
+    at: &Counted,
+) -> Result<Best, NoMemory>
+    requires sifting { IsSifting sifting.now.machine.now sifting.now.supports.now
+        sifting.now.points.now }
+    requires room { HasRoom (product sifting.now.machine.now.vars) seen.old }
+    requires at { IsAt sifting.now.machine.now known.old at.now.order at.now.count at.now.chain }
+    requires item { item < length at.now.order }
+    ensures known { IfOk result (λ best. AreKnown sifting.now.machine.now known.new) }
+    ensures within { IfOk result (λ best. best.place < length at.now.order) }
+    ensures counted { IfOk result (λ best. IsCounted sifting.now.machine.now
+        (moved at.now.order (place at.now.order item) best.place) best.count) }
+    ensures least { IfOk result (λ best. at.now.count ≤ best.count
+        → IsAtBest sifting.now.machine.now at.now.order item) }
+{
+    let i = at.order.place_of(item);
+    let range = allowed_places(sifting.machine, sifting.supports, &at.order, item);
+    let moving = Moving {
+        alloc: sifting.alloc,
+        machine: sifting.machine,
+        points: sifting.points,
+        order: &at.order,
+        chain: &at.chain,
+    };
+    let sizes = sizes_at(&moving, seen, known, i, range)?;
+    let best = place_of_least(sizes.as_slice());
+    let count = *sizes.get(best as u64);
+    let place = range.first + best as u64;
+    Ok(Best { place, count })
+}
+
 // Moves an item to the first allowed place of the least size, if that is smaller.
 fn sift_item(
     sifting: &Sifting,
@@ -159,24 +202,12 @@ fn sift_item(
     ensures best { IfOk result (λ done. at.new.count ≡ at.old.count
         → IsAtBest sifting.now.machine.now at.new.order item) }
 {
-    domains::laws_of_orders();
-    let i = at.order.place_of(item);
-    let range = allowed_places(sifting.machine, sifting.supports, &at.order, item);
-    let moving = Moving {
-        alloc: sifting.alloc,
-        machine: sifting.machine,
-        points: sifting.points,
-        order: &at.order,
-        chain: &at.chain,
-    };
-    let sizes = sizes_at(&moving, seen, known, i, range)?;
-    let best = place_of_least(sizes.as_slice());
-    let count = *sizes.get(best as u64);
-    if count >= at.count {
+    let best = best_place(sifting, seen, known, item, at)?;
+    if best.count >= at.count {
         return Ok(());
     }
-    let j = range.first + best as u64;
-    move_to(sifting, seen, known, i, j, count, at)?;
+    let i = at.order.place_of(item);
+    move_to(sifting, seen, known, i, best.place, best.count, at)?;
     Ok(())
 }
 
@@ -294,6 +325,30 @@ fn counted_first(
     })
 }
 
+// Sifts the first order, with what is known of sets.
+fn sifted_knowing(
+    sifting: &Sifting,
+    seen: &mut [u16],
+    known: &mut Known,
+) -> Result<Sifted, NoMemory>
+    requires sifting { IsSifting sifting.now.machine.now sifting.now.supports.now
+        sifting.now.points.now }
+    requires room { HasRoom (product sifting.now.machine.now.vars) seen.old }
+    requires known { AreKnown sifting.now.machine.now known.old }
+    ensures { IfOk result (λ sifted. IsSifted sifting.now.machine.now sifted.order
+        sifted.first_count sifted.count) }
+{
+    let mut at = counted_first(sifting, seen, known)?;
+    let first_count = at.count;
+    sift_items(sifting, seen, known, &mut at)?;
+    char_function::laws();
+    Ok(Sifted {
+        order: at.order,
+        first_count,
+        count: at.count,
+    })
+}
+
 // Sifts the first order.
 fn sifted_with(sifting: &Sifting, seen: &mut [u16]) -> Result<Sifted, NoMemory>
     requires sifting { IsSifting sifting.now.machine.now sifting.now.supports.now
@@ -303,15 +358,7 @@ fn sifted_with(sifting: &Sifting, seen: &mut [u16]) -> Result<Sifted, NoMemory>
         sifted.first_count sifted.count) }
 {
     let mut known = nothing_known(sifting.alloc, sifting.machine);
-    let mut at = counted_first(sifting, seen, &mut known)?;
-    let first_count = at.count;
-    sift_items(sifting, seen, &mut known, &mut at)?;
-    char_function::laws();
-    Ok(Sifted {
-        order: at.order,
-        first_count,
-        count: at.count,
-    })
+    sifted_knowing(sifting, seen, &mut known)
 }
 
 // Sifts the first order of a machine of few snapshots.
@@ -391,6 +438,22 @@ fn large_diagram(
     Ok(SiftedDiagram { sifted, root })
 }
 
+// An order for a machine by its table, with the machine's diagram under it.
+fn diagram_by(alloc: Global, m: &Machine, table: &Table) -> Result<SiftedDiagram, NoMemory>
+    requires sure { IsDeterministic m.now }
+    requires table { IsTableOf m.now table.now }
+    ensures sifted { IfOk result (λ made. IsSifted m.now made.sifted.order made.sifted.first_count
+        made.sifted.count) }
+    ensures diagram { IfOk result (λ made. IsDiagramOf m.now made.sifted.order made.root.store
+        made.root.node) }
+{
+    let supports = supports_in(alloc, m, table)?;
+    if snapshot_count(m) > SIFTED_SNAPSHOTS_MAX {
+        return large_diagram(alloc, m, table, &supports);
+    }
+    small_diagram(alloc, m, table, &supports)
+}
+
 /// An order for a machine, with the machine's diagram under it. Item by item, each variable and
 /// result moves to the first of the allowed places with the least size, if that is smaller, until
 /// in a turn of all items none has moved: then no single move that keeps each result after what it
@@ -404,13 +467,7 @@ pub fn sift_diagram(alloc: Global, m: &Machine) -> Result<SiftedDiagram, NoMemor
         made.root.node) }
 {
     let table = table_of(alloc, m)?;
-    let supports = supports_in(alloc, m, &table)?;
-    if snapshot_count(m) > SIFTED_SNAPSHOTS_MAX {
-        let large = large_diagram(alloc, m, &table, &supports)?;
-        return Ok(large);
-    }
-    let small = small_diagram(alloc, m, &table, &supports)?;
-    Ok(small)
+    diagram_by(alloc, m, &table)
 }
 
 /// The same, without the diagram.

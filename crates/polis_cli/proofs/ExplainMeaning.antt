@@ -15,7 +15,6 @@ use Rattle.polis_cli.specs.Check.{MakesCheck, check_product}
 use Rattle.polis_cli.specs.Explain.{items_product, explain_meaning, explain_net_meaning, explain_trace_meaning, explain_journal_meaning}
 use Rattle.input_files.specs.Explanations.{ExplainsFile, ExplainsReplay}
 use Rattle.input_files.specs.Inputs.{HoldsNet, HoldsTrace}
-use Rattle.input_files.specs.Failures.{explains_by}
 use Rattle.polis_cli.specs.Replay.{MakesReplay, IsJudged, replay_product}
 use Rattle.polis_cli.specs.inner.Lawful.{IsLawful}
 use Rattle.polis_cli.specs.inner.Made.{IsMadeProduct}
@@ -40,12 +39,11 @@ trace_lawful asked = record {
 }
 
 pub explain_lawful : (explain : Explain) → IsLawful (explain_meaning explain)
-explain_lawful (Net check) = net_lawful check.net (MakesCheck check)
-    (explains_by (ExplainsFile TEXT_MAX))
+explain_lawful (Net check) = net_lawful check.net (MakesCheck check) (ExplainsFile TEXT_MAX)
     (λ files product m. (m.net, m.holds_net))
 explain_lawful (Trace asked) = trace_lawful asked
 explain_lawful (Journal replay) =
-    judging_lawful replay (MakesReplay replay) (explains_by (ExplainsReplay replay))
+    judging_lawful replay (MakesReplay replay) (ExplainsReplay replay)
     (λ files product m. (m.net, m.trace, m.journal, m.complete, m.judged))
 
 -- ---- the products

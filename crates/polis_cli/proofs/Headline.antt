@@ -4,9 +4,10 @@ use Rattle.polis_base.specs.Host.{Files, bytes_at, Changes}
 use Rattle.transition_table.specs.declared.network.Network.{Network}
 use Rattle.journals.specs.declared.entry.TraceItem.{TraceItem}
 use Rattle.polis_words.specs.declared.requests.Request.{Request}
+use Rattle.polis_words.specs.declared.requests.Request.TheVariants.{Run}
 use Rattle.polis_words.specs.declared.status.Status.{Status}
 use Rattle.polis_words.specs.Run.{RunWords, AsksRun}
-use Rattle.polis_words.proofs.AsksRun.{run_alone}
+use Rattle.polis_words.proofs.OneRequest.{one_request}
 use Rattle.output_files.specs.declared.product.Product.{Product}
 use Rattle.polis_cli.specs.declared.ran.Ran.{Ran}
 use Rattle.polis_cli.specs.Commands.{meaning}
@@ -82,6 +83,7 @@ written run status before now old new product m ends saved others shown faults =
         ran = m.ran;
         tasks = m.tasks;
         accepted = (m.holds_net.accepted, m.holds_trace.read);
+        texts_within = (m.holds_net.holds.within, m.holds_trace.holds.within);
         legal = (held.1.0, m.is_ran.legal, m.is_ran.within);
         ends = ends_at status run.workers run.limit m.net m.trace m.ran m.is_ran
             (ends ∙ ap (λ (p : Product). end_status p.end) made);
@@ -110,7 +112,7 @@ of_run : (run : RunWords) (words : List (List ℕ)) (status : Status) (before no
 of_run run words status before now old new asks m faults =
     written run status before now old new m.product
     (subst (λ (r : Request). (meaning r).makes before m.product)
-    (run_alone words run asks m.request m.asked) m.made)
+    (one_request words m.request (Run run) m.asked asks) m.made)
     m.ends m.saved m.other_names m.shown faults
 
 pub runs_give_headline : RunsGiveHeadline

@@ -32,7 +32,7 @@ no_shape None m fits shape = fits
 
 no_wrong : (a : Option ImageMachine) (m : Option Machine) (s : Snapshot) → FitsAt a m
     → ¬ IsWrongAt a m s
-no_wrong (Some a) (Some m) s fits wrong = wrong.1.wrong (fits.1 s.codes wrong.1.snapshot)
+no_wrong (Some a) (Some m) s fits wrong = wrong.1.holds (fits.1 s.codes wrong.1.fit)
 no_wrong (Some a) None s fits wrong = fits
 no_wrong None m s fits wrong = fits
 

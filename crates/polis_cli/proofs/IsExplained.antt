@@ -1,5 +1,5 @@
 -- What explains that a command makes nothing, from what explains each load.
-use Rattle.std.proofs.Common.{◌≡◌, inl, inr, ℕ, Bool, true, List, Option, Ok, subst, IsTrue}
+use Rattle.std.proofs.Common.{◌≡◌, inl, inr, ℕ, Bool, true, List, Option, Ok, sym, subst, IsTrue}
 use Rattle.polis_base.specs.declared.limits.TheConstants.{TEXT_MAX, LONG_FILE_MAX}
 use Rattle.polis_base.specs.Host.{Files, WhereTold}
 use Rattle.transition_table.specs.declared.network.Network.{Network}
@@ -17,66 +17,55 @@ use Rattle.input_files.specs.Explanations.{ExplainsFile, ExplainsJournal, Explai
 use Rattle.input_files.specs.Inputs.{HoldsText, HoldsNet, InputsFail}
 use Rattle.input_files.specs.JournalFiles.{JournalFails}
 use Rattle.polis_cli.specs.Meanings.{Meaning}
-use Rattle.input_files.specs.Failures.{explains_by, is_failure, FileExplained, FilesExplained}
+use Rattle.input_files.specs.Failures.{is_failure, FileExplained, FilesExplained, NamesOneOf}
 use Rattle.polis_cli.specs.Replay.{FailsReplay}
 use Rattle.polis_cli.specs.inner.Explain.{IsEntryExplained}
 use Rattle.polis_cli.specs.inner.Made.{JudgingExplained, IsMadeFailure}
 use Rattle.polis_cli.proofs.IsJudged.{HoldsBoth, journal_fails}
 use Rattle.polis_cli.proofs.IsMade.{may_fail, may_judge}
-use Rattle.polis_base.proofs.WhereTold.{told_from, told_both}
+use Rattle.polis_base.proofs.WhereTold.{told_from}
 
 -- where the network or the trace fails so does the replay
 pub inputs_explained : (o : Option Files) (replay : ReplayWords) (failure : Failure)
     → FilesExplained o (λ files. InputsFail files replay.net replay.trace)
-    (explains_by (ExplainsFile TEXT_MAX)) failure
-    → JudgingExplained o (FailsReplay replay) (explains_by (ExplainsReplay replay)) failure
-inputs_explained o replay failures.NoMemory h = tt
-inputs_explained o replay (failures.File name cause more) (h, explains) = (
+    (ExplainsFile TEXT_MAX) failure
+    → NamesOneOf replay.net replay.trace failure
+    → JudgingExplained o (FailsReplay replay) (ExplainsReplay replay) failure
+inputs_explained o replay failures.NoMemory h named = tt
+inputs_explained o replay (failures.File name cause more) (h, explains) named = (
   (
     told_from o (λ files. InputsFail files replay.net replay.trace name.now cause) _
         (λ files k. inl k) h.0,
     inl h.1,
   ),
-  told_both o (λ files. InputsFail files replay.net replay.trace name.now cause)
-      (λ files. ExplainsFile TEXT_MAX files name.now cause more) _
-      (λ files k e. inl (k, e)) h.0 explains,
+  inl (named, h.0, explains),
 )
 
--- what explains that a journal file fails explains it of the replay, the network and the trace
--- being accepted
-journal_explains : (o : Option Files) (replay : ReplayWords) (net : Network)
-    (trace : List TraceItem) (name more : List ℕ) (cause : Cause)
-    → WhereTold o (HoldsBoth replay net trace)
-    → WhereTold o (λ files. ExplainsJournal files net trace replay.journal cause more)
-    → WhereTold o (λ files. ExplainsReplay replay files name cause more)
-journal_explains o replay net trace name more cause held explains =
-    told_both o (HoldsBoth replay net trace)
-    (λ files. ExplainsJournal files net trace replay.journal cause more) _
-    (λ files h e. inr (net, trace, h.0, h.1, e)) held explains
-
 -- a cause of a load or of a line isn't that of an illegal journal
-line_explains : (files : Files) (net : Network) (trace : List TraceItem) (name more : List ℕ)
+line_explains : (o : Option Files) (net : Network) (trace : List TraceItem) (name more : List ℕ)
     (cause : Cause) → IsTrue (is_failure true (cause_status cause))
-    → ExplainsFile LONG_FILE_MAX files name cause more
-    → ExplainsJournal files net trace name cause more
-line_explains files net trace name more (Unlawful k) s h = cc
-line_explains files net trace name more other s h = h
+    → ExplainsFile LONG_FILE_MAX o name cause more
+    → ExplainsJournal o net trace name cause more
+line_explains o net trace name more (Unlawful k) s h = cc
+line_explains o net trace name more other s h = h
 
 pub journal_explained : (o : Option Files) (replay : ReplayWords) (net : Network)
     (trace : List TraceItem) (failure : Failure) → WhereTold o (HoldsBoth replay net trace)
     → WhereTold o (λ files. (other : Network) → HoldsNet files replay.net other → other ≡ net)
     → FileExplained replay.journal o (λ files cause. (items : List TraceItem)
     → JournalFails files net items replay.journal cause)
-    (explains_by (ExplainsFile LONG_FILE_MAX)) failure
-    → JudgingExplained o (FailsReplay replay) (explains_by (ExplainsReplay replay)) failure
+    (ExplainsFile LONG_FILE_MAX) failure
+    → JudgingExplained o (FailsReplay replay) (ExplainsReplay replay) failure
 journal_explained o replay net trace failures.NoMemory held one h = tt
 journal_explained o replay net trace (failures.File name cause more) held one (h, explains) = (
   (journal_fails o replay net trace name.now cause h.0 held one h.1, inl h.2),
-  journal_explains o replay net trace name.now more cause held
-      (told_from o (λ files. ExplainsFile LONG_FILE_MAX files name.now cause more) _
-      (λ files e. line_explains files net trace replay.journal more cause h.2
-      (subst (λ (file : List ℕ). ExplainsFile LONG_FILE_MAX files file cause more) h.0 e))
-      explains),
+  inr (
+    h.0,
+    net,
+    trace,
+    held,
+    line_explains o net trace name.now more cause h.2 explains,
+  ),
 )
 
 -- a journal that isn't legal
@@ -87,22 +76,27 @@ pub illegal_explained : (o : Option Files) (replay : ReplayWords) (net : Network
     → WhereTold o (λ files. HoldsText files LONG_FILE_MAX replay.journal text)
     → read_of net text ≡ Ok (journal, stamps, word)
     → IsEntryExplained net trace name text journal k more
-    → WhereTold o (λ files. ExplainsReplay replay files name (Unlawful k) more)
+    → ExplainsReplay replay o name (Unlawful k) more
 illegal_explained o replay net trace name text more journal stamps word k same held holds read
     (why, reason, is) =
-    journal_explains o replay net trace name more (Unlawful k) held
-    (told_from o (λ files. HoldsText files LONG_FILE_MAX replay.journal text) _
-    (λ files h. record {
-      text = text;
-      holds = h;
-      journal = journal;
-      stamps = stamps;
-      word = word;
-      read = read;
-      why = why;
-      reason = reason;
-      more_is = rw same at is;
-    }) holds)
+    inr (
+      same,
+      net,
+      trace,
+      held,
+      record {
+        text = text;
+        holds = subst (λ (file : List ℕ). WhereTold o (λ files. HoldsText files LONG_FILE_MAX file
+            text)) (sym same) holds;
+        journal = journal;
+        stamps = stamps;
+        word = word;
+        read = read;
+        why = why;
+        reason = reason;
+        more_is = is;
+      },
+    )
 
 -- ---- why a command makes nothing
 pub files_explained : (m : Meaning) (o : Option Files) (failure : Failure) → m.reads ≡ true

@@ -22,7 +22,7 @@ same_machine net k a b s at_a at_b is =
 
 wrong_at : (a : Option ImageMachine) (m : Option Machine) (s : Snapshot) → IsWrongAt a m s
     → (x : Machine) × (m ≡ Some x) × IsSnapshot x s
-wrong_at (Some a) (Some m) s h = (m, refl, h.1.snapshot)
+wrong_at (Some a) (Some m) s h = (m, refl, h.1.fit)
 wrong_at (Some a) None s h = absurd h
 wrong_at None m s h = absurd h
 

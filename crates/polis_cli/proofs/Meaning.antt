@@ -3,11 +3,11 @@ use Rattle.std.proofs.Common.{◌≡◌, ◌<◌, ℕ, List, refl, arith}
 use Rattle.polis_words.specs.Run.{NeedsWorkers}
 use Rattle.polis_words.specs.declared.requests.Request.{Request}
 use Rattle.polis_words.specs.declared.requests.Request.TheVariants.{Run, Check, Compile, Replay, Migrate, Demo, Bound, Image, Equiv, Losses, Wave, Draw, Explain}
-use Rattle.polis_words.specs.declared.requests.explain.Explain.TheVariants as explains
 use Rattle.polis_words.specs.Requests.{Asks}
 use Rattle.polis_words.proofs.AskOptions.{asked_within}
 use Rattle.polis_cli.specs.Commands.{meaning}
 use Rattle.polis_cli.specs.inner.Lawful.{IsLawful}
+use Rattle.polis_cli.specs.inner.Workers.{workers_of}
 use Rattle.polis_cli.proofs.RunMeaning.{run_lawful}
 use Rattle.polis_cli.proofs.CheckMeaning.{check_lawful}
 use Rattle.polis_cli.proofs.CompileMeaning.{compile_lawful}
@@ -39,14 +39,11 @@ lawful (Explain explain) = explain_lawful explain
 
 -- what is asked for needs one worker, where the command line needs no more
 pub one_worker : (words : List (List ℕ)) (request : Request) → Asks words request
-    → (¬ NeedsWorkers words) → (meaning request).workers ≡ 1
+    → (¬ NeedsWorkers words) → workers_of request ≡ 1
 one_worker words (Run run) asks few =
     let is = asks.workers in
     let within = asked_within asks.options asks.said asks.asks in
     let some = within.0.0 in
     let none : ¬ (1 < run.workers) = λ more. few (run, asks, more) in
     omega (arith, is, some, none)
-one_worker words (Explain (explains.Net check)) asks few = refl
-one_worker words (Explain (explains.Trace named)) asks few = refl
-one_worker words (Explain (explains.Journal replay)) asks few = refl
 one_worker words other asks few = refl

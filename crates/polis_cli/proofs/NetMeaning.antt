@@ -20,7 +20,6 @@ net_meaning net makes explains = record {
   may_refuse = never_refused;
   ends = ends_done;
   reads = true;
-  workers = 1;
 }
 
 pub net_lawful : (net : List ℕ) (makes : Files → Product → Type 0)

@@ -66,5 +66,4 @@ bound_meaning bound = record {
   may_refuse = never_refused;
   ends = ends_done;
   reads = true;
-  workers = 1;
 }

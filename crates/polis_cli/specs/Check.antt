@@ -30,5 +30,4 @@ check_meaning check = record {
   may_refuse = never_refused;
   ends = ends_done;
   reads = true;
-  workers = 1;
 }

@@ -38,5 +38,4 @@ compile_meaning compile = record {
   may_refuse = never_refused;
   ends = ends_done;
   reads = true;
-  workers = 1;
 }

@@ -8,7 +8,7 @@ use Rattle.task_code.specs.Listings.{Part}
 use Rattle.machine_compiler.specs.Parts.{AreRightParts}
 use Rattle.net_reader.specs.Layout.{network_text}
 use Rattle.net_gen.specs.Networks.{network}
-use Rattle.net_gen.specs.inner.Traces.{trace_text}
+use Rattle.net_gen.specs.Traces.{trace_text}
 use Rattle.polis_words.specs.Demo.{DemoWords}
 use Rattle.output_files.specs.declared.product.End.TheVariants as ends
 use Rattle.output_files.specs.declared.product.Product.{Product}
@@ -51,5 +51,4 @@ demo_meaning demo = record {
   may_refuse = never_refused;
   ends = ends_done;
   reads = false;
-  workers = 1;
 }

@@ -89,5 +89,4 @@ equiv_meaning equiv = record {
   may_refuse = never_refused;
   ends = ends_compared;
   reads = true;
-  workers = 1;
 }

@@ -16,7 +16,6 @@ use Rattle.polis_cli.specs.Check.{check_meaning}
 use Rattle.input_files.specs.Explanations.{ExplainsFile, ExplainsReplay}
 use Rattle.input_files.specs.Inputs.{HoldsNet, HoldsTrace, InputsFail}
 use Rattle.polis_cli.specs.Meanings.{Meaning, never_refused, finds_nothing, ends_done}
-use Rattle.input_files.specs.Failures.{explains_by}
 use Rattle.polis_cli.specs.Replay.{replay_meaning}
 
 -- the product saves nothing, and shows how many items the trace has
@@ -38,7 +37,7 @@ AcceptsInputs asked files = (net : Network) × (trace : List TraceItem)
 
 -- as `check`, but for what explains that the file fails
 abbrev pub explain_net_meaning : CheckWords → Meaning
-explain_net_meaning check = record (check_meaning check) { explains = explains_by (ExplainsFile TEXT_MAX) }
+explain_net_meaning check = record (check_meaning check) { explains = ExplainsFile TEXT_MAX }
 
 abbrev pub explain_trace_meaning : NetTraceWords → Meaning
 explain_trace_meaning asked = record {
@@ -46,17 +45,16 @@ explain_trace_meaning asked = record {
   accepts = AcceptsInputs asked;
   finds = finds_nothing;
   fails = λ files. InputsFail files asked.net asked.trace;
-  explains = explains_by (ExplainsFile TEXT_MAX);
+  explains = ExplainsFile TEXT_MAX;
   may_refuse = never_refused;
   ends = ends_done;
   reads = true;
-  workers = 1;
 }
 
 -- as `replay`, but for what explains that a file fails
 abbrev pub explain_journal_meaning : ReplayWords → Meaning
 explain_journal_meaning replay =
-    record (replay_meaning replay) { explains = explains_by (ExplainsReplay replay) }
+    record (replay_meaning replay) { explains = ExplainsReplay replay }
 
 abbrev pub explain_meaning : Explain → Meaning
 explain_meaning (Net check) = explain_net_meaning check

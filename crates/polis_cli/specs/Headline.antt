@@ -1,5 +1,6 @@
 -- What a run is that ended with Done or Limit.
 use Rattle.std.specs.Prelude.{◌≡◌, ◌⊎◌, ℕ, ◌≤◌, true, false, List, ◌++◌, length, Some, None, Ok, IsTrue, ⊤}
+use Rattle.polis_base.specs.declared.limits.TheConstants.{TEXT_MAX}
 use Rattle.polis_base.specs.Host.{Files, bytes_at, Changes}
 use Rattle.transition_table.specs.declared.network.Network.{Network}
 use Rattle.journals.specs.declared.entry.TraceItem.{TraceItem}
@@ -48,8 +49,8 @@ abbrev pub CountsNoFault : Outside → Outside → Type 0
 CountsNoFault old new =
     (new.load_faults ≡ old.load_faults) × (new.write_faults ≡ old.write_faults)
 
--- The text is that of a network, and the trace text one of a trace of it. What was run of them, and
--- the tasks by which it was, are such that:
+-- The text is that of a network, and the trace text one of a trace of it, both within their limit
+-- of length. What was run of them, and the tasks by which it was, are such that:
 pub record Headline (run : RunWords) (text trace_text : List ℕ) (status : Status)
     (before now : Files) (old new : Outside) : Type 0 where
   pub net : Network
@@ -57,6 +58,7 @@ pub record Headline (run : RunWords) (text trace_text : List ℕ) (status : Stat
   pub ran : Ran
   pub tasks : Tasks
   pub accepted : Accepted text net × (trace_of net trace_text ≡ Ok trace)
+  pub texts_within : (length text ≤ TEXT_MAX) × (length trace_text ≤ TEXT_MAX)
   -- 1. The journal that is saved, with its least stamps, is legal, and within the limit.
   pub legal : IsHeld now (journal_name run) (journal_of net ran)
       × Legal net trace ran.journal × (length ran.journal ≤ run.limit)

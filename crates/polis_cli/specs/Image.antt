@@ -66,5 +66,4 @@ image_meaning image = record {
   may_refuse = MayBeTooLong image;
   ends = ends_done_or_refused;
   reads = true;
-  workers = 1;
 }

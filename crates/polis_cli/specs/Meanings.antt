@@ -28,8 +28,6 @@ pub record Meaning : Type 1 where
   pub ends : Status → Bool
   -- It reads files.
   pub reads : Bool
-  -- So many workers make its product.
-  pub workers : ℕ
 
 -- nothing is found that ends a command in place of a product
 abbrev pub finds_nothing : Status → Files → Type 0

@@ -40,5 +40,4 @@ migrate_meaning migrate = record {
   may_refuse = never_refused;
   ends = ends_judged;
   reads = true;
-  workers = 1;
 }

@@ -79,5 +79,4 @@ replay_meaning replay = record {
   may_refuse = never_refused;
   ends = ends_judged;
   reads = true;
-  workers = 1;
 }

@@ -170,7 +170,6 @@ run_meaning run = record {
   may_refuse = never_refused;
   ends = ends_run;
   reads = true;
-  workers = run.workers;
 }
 
 -- Two products of runs of one network that save the same texts are of one journal, with the same

@@ -2,6 +2,7 @@ pub mod Left
 pub mod Made
 pub mod Lawful
 pub mod Run
+pub mod Workers
 pub mod Compile
 pub mod Replay
 pub mod Demo

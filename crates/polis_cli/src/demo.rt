@@ -4,7 +4,7 @@ ghost use Rattle.polis_base.specs.Host.{Files};
 ghost use Rattle.journals.specs.Journals.{IsTrace};
 ghost use Rattle.net_reader.specs.Layout.{network_text};
 ghost use Rattle.net_gen.specs.Networks.{network};
-ghost use Rattle.net_gen.specs.inner.Traces.{trace_text};
+ghost use Rattle.net_gen.specs.Traces.{trace_text};
 ghost use Rattle.net_gen.specs.Whole.{AreWhole};
 ghost use Rattle.polis_cli.specs.Demo.{IsDrawn, MakesDemo, demo_meaning};
 ghost use Rattle.polis_cli.specs.inner.Demo.{RunsWhole};

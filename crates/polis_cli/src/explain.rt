@@ -8,7 +8,6 @@ ghost use Rattle.journal_replay.specs.Reasons.{IsReason};
 ghost use Rattle.polis_cli.specs.Explain.{explain_journal_meaning, explain_meaning, explain_net_meaning, explain_trace_meaning};
 ghost use Rattle.input_files.specs.Explanations.{ExplainsReplay};
 ghost use Rattle.input_files.specs.JournalFiles.{IsFirstIllegal};
-ghost use Rattle.input_files.specs.Failures.{explains_by};
 ghost use Rattle.polis_cli.specs.Replay.{FailsReplay, IsJudged};
 ghost use Rattle.polis_cli.specs.inner.Explain.{IsEntryExplained};
 ghost use Rattle.input_files.specs.Loads.{LeftByLoads, fails_unread};
@@ -87,7 +86,7 @@ fn judge_explained<'a, H: Host>(
         IsJudged asked.now files judged.inputs.net judged.inputs.trace judged.read.journal
         judged.complete)) }
     ensures failed { IfErr result (JudgingExplained (H.files host.old) (FailsReplay asked.now)
-        (explains_by (ExplainsReplay asked.now))) }
+        (ExplainsReplay asked.now)) }
     ensures left { LeftByLoads ⟦<H as Host>⟧ (fails_unread result) host.old host.new }
 {
     let inputs = match load_inputs(alloc, host, asked.net(), asked.trace(), Detail::Explained) {

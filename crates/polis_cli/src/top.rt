@@ -6,6 +6,7 @@ ghost use Rattle.polis_cli.specs.Promise.{Answers, Leaves, told};
 ghost use Rattle.polis_cli.specs.inner.Left.{LeftByEnding};
 ghost use Rattle.input_files.specs.Loads.{LeftByLoads, fails_unread};
 ghost use Rattle.polis_cli.specs.inner.Made.{IsMade};
+ghost use Rattle.polis_cli.specs.inner.Workers.{workers_of};
 
 use crate::bound::make_bound;
 use crate::check::make_check;
@@ -34,7 +35,7 @@ fn make<'a, H: Host>(
     host: &mut H,
     request: &'a Request<'_>,
 ) -> Result<Product, Failure<'a>>
-    requires { (meaning request.now).workers ≡ 1 }
+    requires { workers_of request.now ≡ 1 }
     ensures made { IsMade (meaning request.now) (H.files host.old) result }
     ensures left { LeftByLoads ⟦<H as Host>⟧ (fails_unread result) host.old host.new }
 {

@@ -17,7 +17,7 @@ ghost use Rattle.polis_cli.specs.Top.{MadeAndWritten};
 use polis_words::Status;
 
 /// What the top call promises of what it writes holds of the lamp on one press, whatever right
-/// parts its machine was compiled to, so that the promise can be met.
+/// parts its machine was compiled to. No clause exhibits such parts.
 pub fn worked_run()
     ensures { (parts : List Part) → AreRightParts lamp parts
         → MadeAndWritten Status.Done lamp_words files_before (files_after parts) (Some [])

@@ -1,5 +1,5 @@
 -- What command lines ask for.
-use Rattle.std.proofs.Common.{◌≡◌, ◌↔◌, ℕ, Bool, false, IsTrue, suc, ◌<◌, ◌^◌, List, [], ◌∷◌, length, slice_get, Option, Some, sym, ap, ◌∙◌, arith, decimal}
+use Rattle.std.proofs.Common.{◌≡◌, ◌↔◌, ℕ, Bool, false, IsTrue, suc, ◌<◌, ◌^◌, List, [], ◌∷◌, length, get_or, slice_get, Option, Some, sym, ap, ◌∙◌, arith, decimal}
 use Rattle.std.specs.Str.{bytes_eq}
 use Rattle.std.proofs.lemmas.Fmt.{decimal_injective}
 use Rattle.std.proofs.lemmas.Slice.Eq.{bytes_eq-Decides}
@@ -49,8 +49,12 @@ five_words (w ∷ x ∷ y ∷ z ∷ v ∷ []) a b c d e n p q r s t = cc
 five_words (w ∷ x ∷ y ∷ z ∷ v ∷ u ∷ more) a b c d e n p q r s t = let few : suc (length more) ≡ 0 =
     omega arith in absurd (omega arith)
 
+-- what stands at a place of equal lists of words
+pub same_item : (k : ℕ) {a b : List (List ℕ)} → a ≡ b → get_or a k [] ≡ get_or b k []
+same_item k e = ap (λ (w : List (List ℕ)). get_or w k []) e
+
 -- one word stands at a place
-same_word : (words : List (List ℕ)) (k : ℕ) (a b : List ℕ) → slice_get words k ≡ Some a
+pub same_word : (words : List (List ℕ)) (k : ℕ) (a b : List ℕ) → slice_get words k ≡ Some a
     → slice_get words k ≡ Some b → b ≡ a
 same_word words k a b p q = cc
 

@@ -1,5 +1,5 @@
 -- The bounds that command lines ask for.
-use Rattle.std.proofs.Common.{◌≡◌, ⊎_elim, inr, subst, get_or, ℕ, ◌<◌, ◌≤◌, ◌^◌, ◌≢◌, List, [], ◌∷◌, length, drop, slice_get, Option, Some, None, sym, ap, ◌∙◌, arith, codes, decimal}
+use Rattle.std.proofs.Common.{◌≡◌, inl, inr, subst, ℕ, ◌<◌, ◌≤◌, ◌^◌, ◌≢◌, List, [], ◌∷◌, length, drop, slice_get, Option, Some, None, sym, ap, ◌∙◌, arith, codes, decimal}
 use Rattle.std.specs.Prelude.{IfSome, IfNone}
 use Rattle.std.proofs.lemmas.Fmt.{decimal_injective}
 use Rattle.polis_base.specs.declared.limits.TheConstants.{COST_MAX}
@@ -8,6 +8,7 @@ use Rattle.polis_words.specs.Bound.{BoundWords, AsksBound, GiveCosts}
 use Rattle.polis_words.specs.FileWords.{IsFileWord}
 use Rattle.polis_words.specs.inner.Bound.{AreCostsAt}
 use Rattle.polis_words.specs.inner.Commands.{IsCommand}
+use Rattle.polis_words.proofs.Asks.{same_item, same_word}
 
 -- a number that is too great is no cost
 pub no_cost : (answer : Option ℕ) (text : List ℕ) (n : ℕ) → text ≡ decimal n → n < 2 ^ 64
@@ -39,38 +40,36 @@ pub some_four : (answer : Option GivenCosts) (words : List (List ℕ)) → lengt
 some_four None words n at = tt
 some_four (Some costs) words n at = inr (given_four words costs n at, at.few)
 
+-- words give these costs alone
+pub one_costs : (given : List (List ℕ)) (a b : GivenCosts) → GiveCosts given a → GiveCosts given b
+    → a ≡ b
+one_costs given a b (inl x) (inl y) = x.1 ∙ sym y.1
+one_costs given a b (inl x) (inr y) =
+    let long = ap (λ (w : List (List ℕ)). length w) (sym x.0 ∙ y.0) in
+    absurd (omega (arith, long))
+one_costs given a b (inr x) (inl y) =
+    let long = ap (λ (w : List (List ℕ)). length w) (sym x.0 ∙ y.0) in
+    absurd (omega (arith, long))
+one_costs given a b (inr x) (inr y) =
+    let e = sym x.0 ∙ y.0 in
+    let test = decimal_injective a.test b.test (few x.1.test) (few y.1.test) (same_item 0 e) in
+    let set = decimal_injective a.set b.set (few x.1.set) (few y.1.set) (same_item 1 e) in
+    let jump = decimal_injective a.jump b.jump (few x.1.jump) (few y.1.jump) (same_item 2 e) in
+    let halt = decimal_injective a.halt b.halt (few x.1.halt) (few y.1.halt) (same_item 3 e) in
+    λ i. record { test = test i; set = set i; jump = jump i; halt = halt i }
+  where
+    few : {n : ℕ} → n ≤ COST_MAX → n < 2 ^ 64
+    few low = omega arith
+
 pub one_four : (answer : Option GivenCosts) (words : List (List ℕ)) → length words ≡ 6
     → IfSome answer (AreCostsAt words)
     → IfSome answer (λ costs. (other : GivenCosts) → GiveCosts (drop 2 words) other → other ≡ costs)
 one_four None words n at = tt
 one_four (Some costs) words n at = λ other gives.
-    let mine = given_four words costs n at in
-    ⊎_elim
-    (λ none.
-    let short : length (drop 2 words) ≡ 0 = ap (λ (w : List (List ℕ)). length w) none.0 in
-    let long : length (drop 2 words) ≡ 4 = ap (λ (w : List (List ℕ)). length w) mine in
-    absurd (omega arith))
-    (λ these.
-    let e = sym mine ∙ these.0 in
-    let test = decimal_injective other.test costs.test (few these.1.test) (few at.few.test)
-    (sym (item 0 e)) in
-    let set = decimal_injective other.set costs.set (few these.1.set) (few at.few.set)
-    (sym (item 1 e)) in
-    let jump = decimal_injective other.jump costs.jump (few these.1.jump) (few at.few.jump)
-    (sym (item 2 e)) in
-    let halt = decimal_injective other.halt costs.halt (few these.1.halt) (few at.few.halt)
-    (sym (item 3 e)) in
-    λ i. record { test = test i; set = set i; jump = jump i; halt = halt i })
-    gives
-  where
-    few : {n : ℕ} → n ≤ COST_MAX → n < 2 ^ 64
-    few low = omega arith
-
-    item : (k : ℕ) {a b : List (List ℕ)} → a ≡ b → get_or a k [] ≡ get_or b k []
-    item k e = ap (λ (w : List (List ℕ)). get_or w k []) e
+    one_costs (drop 2 words) other costs gives (inr (given_four words costs n at, at.few))
 
 -- the words after the file give the costs of the bounds
-given_costs : (words : List (List ℕ)) (bound : BoundWords) → AsksBound words bound
+pub given_costs : (words : List (List ℕ)) (bound : BoundWords) → AsksBound words bound
     → GiveCosts (drop 2 words) bound.costs
 given_costs words bound asks =
     subst (λ (given : List (List ℕ)). GiveCosts given bound.costs)
@@ -94,17 +93,13 @@ bound_asked words net costs command at file gives = record {
 }
 
 -- and for no others
-same_net : (words : List (List ℕ)) (a b : List ℕ) → slice_get words 1 ≡ Some a
-    → slice_get words 1 ≡ Some b → b ≡ a
-same_net words a b p q = cc
-
 pub one_bound : (words : List (List ℕ)) (net : List ℕ) (costs : GivenCosts)
     → slice_get words 1 ≡ Some net
     → ((other : GivenCosts) → GiveCosts (drop 2 words) other → other ≡ costs)
     → (other : BoundWords) → AsksBound words other
     → other ≡ record { net = net; costs = costs }
 one_bound words net costs at one other asks =
-    let net_is = same_net words net other.net at
+    let net_is = same_word words 1 net other.net at
     (ap (λ (w : List (List ℕ)). slice_get w 1) asks.form) in
     let costs_are = one other.costs (given_costs words other asks) in
     λ i. record { net = net_is i; costs = costs_are i }

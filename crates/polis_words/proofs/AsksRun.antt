@@ -1,13 +1,9 @@
 -- The run that a command line asks for.
-use Rattle.std.proofs.Common.{◌≡◌, ◌↔◌, ◌+◌, get_or, ◌≤◌, ◌<◌, ℕ, Bool, true, false, List, [], ◌∷◌, drop, slice_get, Some, IsTrue, refl, sym, ap, subst, ◌∙◌, arith, codes}
+use Rattle.std.proofs.Common.{◌≡◌, ◌↔◌, ◌≤◌, ◌<◌, ℕ, Bool, true, false, List, [], ◌∷◌, drop, slice_get, Some, IsTrue, refl, sym, ap, subst, ◌∙◌, arith, codes}
 use Rattle.std.specs.Prelude.{unwrap_or}
 use Rattle.polis_base.specs.declared.limits.TheConstants.{ENTRIES_MAX}
 use Rattle.polis_words.specs.Run.{RunWords, AsksRun, NeedsWorkers, run_form}
 use Rattle.polis_words.specs.RunOptions.{Said, AskOptions}
-use Rattle.polis_words.specs.declared.requests.Request.{Request}
-use Rattle.polis_words.specs.declared.requests.Request.TheVariants.{Run, Explain}
-use Rattle.polis_words.specs.declared.requests.explain.Explain.TheVariants as explains
-use Rattle.polis_words.specs.Requests.{Asks}
 use Rattle.polis_words.specs.inner.Commands.{IsCommand}
 use Rattle.polis_words.proofs.AskOptions.{one_asked_for}
 
@@ -83,27 +79,6 @@ one_asked words run other asks again =
       limit = sym asks.limit i;
       image = sym asks.image i;
     })
-
--- the sum of the second and the third letter of the first word, which tells the commands apart
-letters : List (List ℕ) → ℕ
-letters [] = 0
-letters (word ∷ words) = get_or word 1 0 + get_or word 2 0
-
--- and for nothing else than it
-pub run_alone : (words : List (List ℕ)) (run : RunWords) → AsksRun words run
-    → (other : Request) → Asks words other → other ≡ Run run
-unfolding letters
-run_alone words run asks (Run other) again = ap Run (one_asked words run other asks again)
-run_alone words run asks (Explain (explains.Net check)) again =
-    absurd (omega (arith, ap letters asks.form, ap letters again.0))
-run_alone words run asks (Explain (explains.Trace named)) again =
-    absurd (omega (arith, ap letters asks.form, ap letters again.0))
-run_alone words run asks (Explain (explains.Journal replay)) again =
-    absurd (omega (arith, ap letters asks.form, ap letters again.0))
-run_alone words run asks other again =
-    let here = ap letters asks.form in
-    let there = ap letters again.form in
-    absurd (omega (arith, here, there))
 
 -- words need workers where they ask for a run by more than one
 pub needs_more : (words : List (List ℕ)) (run : RunWords) → AsksRun words run → 1 < run.workers

@@ -2,4 +2,5 @@ pub mod Asks
 pub mod AskOptions
 pub mod AsksRun
 pub mod AsksBound
+pub mod OneRequest
 pub mod Snapshots

@@ -2,6 +2,7 @@
 #![tactic(auto)]
 
 mod cause;
+mod law;
 mod lines;
 mod print;
 mod requests;
@@ -9,6 +10,7 @@ mod sentences;
 mod status;
 
 pub use cause::{Cause, Conflict, Failure, LexKind};
+pub use law::laws;
 pub use lines::{failure_text, fault_line};
 pub use print::{
     print_accepted, print_image, print_items, print_legal, print_machine_snapshot, print_migrated,

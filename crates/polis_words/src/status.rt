@@ -19,6 +19,6 @@ pub enum Status {
     NoMemory = 6,
     /// A journal that was read isn't legal, or its stamps aren't rising.
     Illegal = 7,
-    /// Two machines differ. No command answers it yet.
+    /// Two networks were compared, and tables of them differ.
     Differ = 8,
 }

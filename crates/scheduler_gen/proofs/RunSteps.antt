@@ -1,28 +1,17 @@
 -- Runs with one more entry.
 use Rattle.std.proofs.Common.{◌≡◌, ◌<◌, ◌≤◌, ◌+◌, ◌-◌, ◌⊎◌, ℕ, true, false, nat_lt, List, [], ◌∷◌, ◌++◌, length, refl, sym, ap, subst, ◌∙◌, inl, inr, arith, append_assoc, length-append, ◌↔◌, IsTrue, Bool}
 use Rattle.std.proofs.lemmas.Bool.{ltb-true, ltb-false}
-use Rattle.std.proofs.lemmas.List.{append-nil}
 use Rattle.transition_table.specs.declared.network.Network.{Network}
 use Rattle.journals.specs.declared.entry.Entry.{Entry}
 use Rattle.journals.specs.declared.entry.TraceItem.{TraceItem}
 use Rattle.journals.specs.declared.entry.Pick.TheVariants.{Stop}
-use Rattle.journals.specs.Laws.{FollowsBySteps, FollowsAtEnd}
+use Rattle.journals.specs.Laws.{FollowsBySteps}
 use Rattle.net_core.specs.Moments.{Moment}
 use Rattle.journals.specs.Schedules.{pick, IsPicked, Follows, IsSchedule}
 use Rattle.scheduler_gen.specs.inner.Runs.{IsNext, GoesOn, Ends}
 use Rattle.scheduler_gen.specs.Finishing.{IsFinished}
 use Rattle.polis_base.specs.Lists.{Begins}
 use Rattle.journals.specs.Legality.{Legal, Complete}
-
--- nothing is added yet
-pub goes_nowhere : FollowsAtEnd → (old : Moment) → GoesOn old old 0
-goes_nowhere at_end old = record {
-  net = refl;
-  trace = refl;
-  begins = ([], sym (append-nil old.journal));
-  follows = at_end old.net old.trace old.journal;
-  within = omega arith;
-}
 
 pub goes_further : FollowsBySteps → (old mid new : Moment) (n : ℕ) → GoesOn old mid n
     → IsNext mid new → GoesOn old new (n + 1)

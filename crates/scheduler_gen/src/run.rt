@@ -1,6 +1,7 @@
 // Running a network on a trace.
 ghost use Rattle.std.specs.Prelude.{◌≡◌, ◌<◌, ◌≤◌, length, true, false, Ok, IfOk, OnOk};
-ghost use Rattle.journals.specs.Journals.{IsTrace};
+ghost use Rattle.transition_table.specs.Transitions.{OfMachine, IsSnapshot, Transition};
+ghost use Rattle.journals.specs.Journals.{IsTrace, snap};
 ghost use Rattle.journals.specs.Legality.{Legal};
 ghost use Rattle.net_core.specs.Moments.{Moment};
 ghost use Rattle.journals.specs.Schedules.{IsPicked, pick as picked};
@@ -15,7 +16,7 @@ use domains::first_codes;
 use net_core::{Config, Entry, Journal, Pick, Trace, laws};
 use polis_base::NoMemory;
 use std::alloc::Global;
-use transition_table::{Reactor, Snapshot};
+use transition_table::{Outcome, Reactor, Snapshot};
 
 /// A journal, and whether it is complete.
 #[derive(Drop)]
@@ -39,6 +40,34 @@ fn take_picked(config: &mut Config<'_>, entry: Entry) -> Result<(), NoMemory>
     config.take(entry)
 }
 
+// The snapshot of a machine at the journal's end.
+fn snapshot_of(alloc: Global, config: &Config<'_>, m: u32) -> Result<Snapshot, NoMemory>
+    requires { m < length config.now.net.machines }
+    ensures is { IfOk result (λ s. s ≡ snap config.now.net config.now.journal m) }
+    ensures fits { IfOk result (λ s. OfMachine config.now.net m (λ machine. IsSnapshot machine s)) }
+{
+    let net = config.network();
+    let mut snapshot = Snapshot {
+        codes: first_codes(alloc, &net.machines.get(m as u64).vars)?,
+    };
+    config.snapshot(m, &mut snapshot);
+    let _journal = config.journal();
+    laws();
+    Ok(snapshot)
+}
+
+// The outcome of a machine on a snapshot of it.
+fn outcome_of<R: Reactor>(alloc: Global, r: &R, m: u32, s: &Snapshot) -> Result<Outcome, NoMemory>
+    requires machine { m < length (R.meaning r.now).machines }
+    requires snapshot { OfMachine (R.meaning r.now) m (λ machine. IsSnapshot machine s.now) }
+    ensures { IfOk result (λ o.
+        OfMachine (R.meaning r.now) m (λ machine. Transition machine s.now o)) }
+{
+    let mut outcome = r.network().blank(alloc, m)?;
+    r.react(m, s, &mut outcome);
+    Ok(outcome)
+}
+
 // Takes the reaction of a machine to its snapshot.
 fn react<R: Reactor>(alloc: Global, r: &R, config: &mut Config<'_>, m: u32) -> Result<(), NoMemory>
     requires network { R.meaning r.now ≡ config.old.net }
@@ -46,15 +75,8 @@ fn react<R: Reactor>(alloc: Global, r: &R, config: &mut Config<'_>, m: u32) -> R
     requires picked { picked config.old.net config.old.trace config.old.journal ≡ Pick.React m }
     ensures ok { OnOk result (IsNext config.old config.new) }
 {
-    laws();
-    let net = r.network();
-    let _journal = config.journal();
-    let mut snapshot = Snapshot {
-        codes: first_codes(alloc, &net.machines.get(m as u64).vars)?,
-    };
-    config.snapshot(m, &mut snapshot);
-    let mut outcome = net.blank(alloc, m)?;
-    r.react(m, &snapshot, &mut outcome);
+    let snapshot = snapshot_of(alloc, config, m)?;
+    let outcome = outcome_of(alloc, r, m, &snapshot)?;
     let entry = Entry::Rea {
         machine: m,
         snapshot,

@@ -184,11 +184,11 @@ pub walk_stops : (m : Machine) (c : List Instr) (s : Snapshot) (o : Outcome) (i 
 walk_stops m c s o i walk low wrong =
     let at = walk.next low in
     record {
-      snapshot = walk.snapshot;
-      wrong = wrong;
+      fit = walk.snapshot;
+      holds = wrong;
       least = λ t fit not.
-          elim (cases_lt (rank m.vars t.codes) i) [
-            | inl before ↦ absurd (not (walk.right t.codes fit before))
+          elim (cases_lt (rank m.vars t) i) [
+            | inl before ↦ absurd (not (walk.right t fit before))
             | inr from ↦ omega (arith, at, from)
           ];
     }

@@ -10,8 +10,8 @@ use Rattle.transition_table.specs.declared.network.Network.{Network}
 use Rattle.task_code.specs.declared.instr.Instr.{Instr}
 use Rattle.task_image.specs.declared.image.Head.{Head}
 use Rattle.task_image.specs.declared.image.ImageMachine.{ImageMachine}
-use Rattle.task_image.specs.inner.Heads.{head_of, machine_of, joined, kept_head, IsHead, AreHeads}
-use Rattle.task_image.specs.Images.{codes_of, kept, image_of, IsCodeOf, IsImage, IsImageMachine, AreStorable}
+use Rattle.task_image.specs.inner.Heads.{machine_of, joined, kept_head, IsHead, AreHeads}
+use Rattle.task_image.specs.Images.{codes_of, head_of, kept, image_of, IsCodeOf, IsImage, IsImageMachine, AreStorable}
 use Rattle.domains.specs.Tables.{are_sizes}
 use Rattle.task_image.proofs.FieldReaders.{and_left, and_right}
 use Rattle.task_image.proofs.Prefixes.{none_some, some_is, take_next}
@@ -24,14 +24,12 @@ joined_length (h ∷ hs) [] e = absurd (omega (arith, e))
 joined_length (h ∷ hs) (c ∷ cs) e = ap suc (joined_length hs cs (omega (arith, e)))
 
 pub joined_code : (hs : List Head) (cs : List (List Instr)) (k : ℕ) (c : List Instr)
-    → length hs ≡ length cs → k < length cs → c ≡ get_or cs k c
+    → length hs ≡ length cs → slice_get cs k ≡ Some c
     → IsSomeAnd (slice_get (joined hs cs) k) (λ m. m.code ≡ c)
-joined_code [] [] k c e lt is = absurd (omega (arith, lt))
-joined_code [] (d ∷ cs) k c e lt is = absurd (omega (arith, e))
-joined_code (h ∷ hs) [] k c e lt is = absurd (omega (arith, lt))
-joined_code (h ∷ hs) (d ∷ cs) zero c e lt is = sym is
-joined_code (h ∷ hs) (d ∷ cs) (suc k) c e lt is =
-    joined_code hs cs k c (omega (arith, e)) (omega (arith, lt)) is
+joined_code hs [] k c e is = absurd (none_some c is)
+joined_code [] (d ∷ cs) k c e is = absurd (omega (arith, e))
+joined_code (h ∷ hs) (d ∷ cs) zero c e is = some_is d c is
+joined_code (h ∷ hs) (d ∷ cs) (suc k) c e is = joined_code hs cs k c (omega (arith, e)) is
 
 pub joined_head : (hs : List Head) (cs : List (List Instr)) (k : ℕ) (h : Head)
     → length hs ≡ length cs → k < length hs → h ≡ get_or hs k h
@@ -66,11 +64,10 @@ joined_kept [] cs = refl
 joined_kept (m ∷ ms) [] = refl
 joined_kept (m ∷ ms) (c ∷ cs) = ap (λ is. kept m c ∷ is) (joined_kept ms cs)
 
-pub joined_of : (ms : List Machine) (heads : List Head) (cs codes : List (List Instr))
-    → AreHeads ms heads → cs ≡ codes → joined heads cs ≡ image_of ms codes
-joined_of ms heads cs codes are same =
+pub joined_of : (ms : List Machine) (heads : List Head) (cs : List (List Instr))
+    → AreHeads ms heads → joined heads cs ≡ image_of ms cs
+joined_of ms heads cs are =
     ap (λ (hs : List Head). joined hs cs) are.are ∙ joined_kept ms cs
-    ∙ ap (λ (ds : List (List Instr)). image_of ms ds) same
 
 image_long : (ms : List Machine) (cs : List (List Instr)) → length cs ≡ length ms
     → length (image_of ms cs) ≡ length ms

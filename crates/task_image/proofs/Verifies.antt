@@ -12,8 +12,8 @@ use Rattle.transition_table.specs.declared.network.Network.{Network}
 use Rattle.transition_table.specs.declared.snapshot.Snapshot.{Snapshot}
 use Rattle.task_image.specs.declared.image.Head.{Head}
 use Rattle.task_image.specs.declared.image.ImageMachine.{ImageMachine}
-use Rattle.task_image.specs.inner.Heads.{head_of, machine_of}
-use Rattle.task_image.specs.Images.{IsImage, IsImageMachine, codes_of}
+use Rattle.task_image.specs.inner.Heads.{machine_of}
+use Rattle.task_image.specs.Images.{IsImage, IsImageMachine, codes_of, head_of}
 use Rattle.task_image.specs.Verifying.{AreAlike, IsFirstWrong, FitsAt, IsShapeAt, IsWrongAt, FitBefore}
 use Rattle.task_image.proofs.Prefixes.{some_is}
 

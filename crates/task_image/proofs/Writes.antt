@@ -15,8 +15,8 @@ use Rattle.task_image.specs.declared.image.ImageMachine.{ImageMachine}
 use Rattle.task_image.specs.Encoding.{Encodes}
 use Rattle.task_image.specs.Fields.{four_bytes}
 use Rattle.task_image.specs.inner.Pieces.{instr_bytes, counted, code_bytes, machine_bytes, image_bytes}
-use Rattle.task_image.specs.inner.Heads.{head_of, machine_of}
-use Rattle.task_image.specs.Images.{IsImage, IsImageMachine}
+use Rattle.task_image.specs.inner.Heads.{machine_of}
+use Rattle.task_image.specs.Images.{IsImage, IsImageMachine, head_of}
 use Rattle.task_image.specs.inner.Puts.{Writes, Written, HasBytes}
 use Rattle.task_image.proofs.Pieces.{bytes_of_image}
 use Rattle.task_image.proofs.Prefixes.{some_is, take_next, take_all}

@@ -8,6 +8,7 @@ use Rattle.transition_table.specs.declared.network.Network.{Network}
 use Rattle.task_code.specs.declared.instr.Instr.{Instr}
 use Rattle.task_code.specs.declared.instr.Instr.TheVariants.{Test, Set}
 use Rattle.task_code.specs.Facts.{IsCode}
+use Rattle.task_image.specs.declared.image.Head.{Head}
 use Rattle.task_image.specs.declared.image.ImageMachine.{ImageMachine}
 use Rattle.task_image.specs.declared.limits.TheConstants.{VARS_MAX, RESULTS_MAX}
 
@@ -40,6 +41,10 @@ pub record IsImage (i : List ImageMachine) : Type 0 where
   pub some : 1 ≤ length i
   pub few : length i ≤ MACHINES_MAX
   pub each : (k : ℕ) (m : ImageMachine) → slice_get i k ≡ Some m → IsImageMachine m
+
+-- the name and the sizes of a machine
+abbrev pub head_of : ImageMachine → Head
+head_of m = record { name = m.name; vars = m.vars; results = m.results }
 
 -- the code of each machine, in order
 abbrev pub codes_of : List ImageMachine → List (List Instr)

@@ -1,10 +1,10 @@
 -- What a check of an image against a network finds.
-use Rattle.std.specs.Prelude.{◌≡◌, ℕ, ◌<◌, ◌≤◌, List, length, slice_get, Option, Some, None, ⊤}
-use Rattle.domains.specs.Tables.{rank}
+use Rattle.std.specs.Prelude.{◌≡◌, ℕ, ◌<◌, List, length, slice_get, Option, Some, None, ⊤}
+use Rattle.domains.specs.Least.{IsLeast}
 use Rattle.transition_table.specs.declared.machine.Machine.{Machine}
 use Rattle.transition_table.specs.declared.network.Network.{Network}
 use Rattle.transition_table.specs.declared.snapshot.Snapshot.{Snapshot}
-use Rattle.transition_table.specs.Transitions.{Transition, IsSnapshot}
+use Rattle.transition_table.specs.Transitions.{Transition, reading}
 use Rattle.task_code.specs.declared.instr.Instr.{Instr}
 use Rattle.task_code.specs.Codes.{Exec, Computes}
 use Rattle.task_image.specs.declared.image.ImageMachine.{ImageMachine}
@@ -22,11 +22,9 @@ abbrev pub FitsMachine : ImageMachine → Machine → Type 0
 FitsMachine a m = AreAlike a m × Computes a.code m
 
 -- the snapshot is the least one on which the code doesn't give the transition
-pub record IsFirstWrong (m : Machine) (c : List Instr) (s : Snapshot) : Type 0 where
-  pub snapshot : IsSnapshot m s
-  pub wrong : ¬ Transition m s (Exec m c s.codes)
-  pub least : (t : Snapshot) → IsSnapshot m t → ¬ Transition m t (Exec m c t.codes)
-      → rank m.vars s.codes ≤ rank m.vars t.codes
+abbrev pub IsFirstWrong : Machine → List Instr → Snapshot → Type 0
+IsFirstWrong m c s =
+    IsLeast m.vars (λ codes. ¬ Transition m (reading codes) (Exec m c codes)) s.codes
 
 -- what is found of the machines of one number, of which one may be lacking
 abbrev pub FitsAt : Option ImageMachine → Option Machine → Type 0

@@ -1,7 +1,7 @@
 // Images.
 ghost use Rattle.std.specs.Prelude.{◌≡◌, ◌<◌, ◌≤◌, ◌++◌, ◌∷◌, [], length, slice_get, Some, IfOk, OnOk, OnErr, IsSomeAnd};
-ghost use Rattle.task_image.specs.Images.{codes_of};
-ghost use Rattle.task_image.specs.inner.Heads.{head_of as head_in, kept_head, IsHead, AreHeads};
+ghost use Rattle.task_image.specs.Images.{codes_of, head_of as head_in};
+ghost use Rattle.task_image.specs.inner.Heads.{kept_head, IsHead, AreHeads};
 
 use domains::VarTable;
 use polis_base::{Duplicate, List, Name, NoMemory};
@@ -23,12 +23,36 @@ pub struct ImageMachine {
     pub code: Code,
 }
 
-// A machine's name and sizes.
+impl Duplicate for ImageMachine {
+    fn copy(&self) -> Result<ImageMachine, NoMemory> {
+        Ok(ImageMachine {
+            name: self.name,
+            vars: self.vars.copy()?,
+            results: self.results.copy()?,
+            code: self.code.copy()?,
+        })
+    }
+}
+
+/// What is kept of a machine beside its code.
 #[derive(Drop)]
-pub(crate) struct Head {
-    pub(crate) name: Name,
-    pub(crate) vars: VarTable,
-    pub(crate) results: VarTable,
+pub struct Head {
+    /// Its name.
+    pub name: Name,
+    /// How many codes each of its variables has.
+    pub vars: VarTable,
+    /// How many codes each of its results has.
+    pub results: VarTable,
+}
+
+impl Duplicate for Head {
+    fn copy(&self) -> Result<Head, NoMemory> {
+        Ok(Head {
+            name: self.name,
+            vars: self.vars.copy()?,
+            results: self.results.copy()?,
+        })
+    }
 }
 
 /// Machines without their tables, in order. Their codes are kept by themselves, so that they are
@@ -36,7 +60,7 @@ pub(crate) struct Head {
 #[derive(Drop)]
 pub struct Image {
     heads: Vec<Head>,
-    codes: Vec<Code>,
+    codes: CodeList,
 }
 
 impl Model for Image {
@@ -46,9 +70,9 @@ impl Model for Image {
 
     ghost Value = { List ImageMachine };
 
-    ghost view = { λ i. joined i.heads.items i.codes.items };
+    ghost view = { λ i. joined i.heads.items i.codes };
 
-    ghost invariant = { λ i. length i.heads.items ≡ length i.codes.items };
+    ghost invariant = { λ i. length i.heads.items ≡ length i.codes };
 }
 
 // The name and the sizes of a machine.
@@ -89,10 +113,7 @@ impl Image {
         ensures is_image { IfOk result (λ i. IsImage i) }
     {
         let heads = heads_of(alloc, &net.machines)?;
-        Ok(Image {
-            heads,
-            codes: codes.into_vec(),
-        })
+        Ok(Image { heads, codes })
     }
 
     /// No machines.
@@ -101,7 +122,7 @@ impl Image {
     {
         Image {
             heads: Vec::new(alloc),
-            codes: Vec::new(alloc),
+            codes: CodeList::new(alloc),
         }
     }
 
@@ -126,7 +147,7 @@ impl Image {
     pub fn len(&self) -> u64
         ensures { result ≡ length self.now }
     {
-        self.codes.len() as u64
+        self.codes.len()
     }
 
     /// The code of a machine.
@@ -134,11 +155,11 @@ impl Image {
         requires { k < length self.now }
         ensures { IsSomeAnd (slice_get self.now k) (λ m. m.code ≡ result.now) }
     {
-        &self.codes[k as usize]
+        self.codes.get(k)
     }
 
-    // The name and the sizes of a machine.
-    pub(crate) fn head(&self, k: u64) -> &Head
+    /// The name and the sizes of a machine.
+    pub fn head(&self, k: u64) -> &Head
         requires { k < length self.now }
         ensures { IsSomeAnd (slice_get self.now k) (λ m. head_in m ≡ result.now) }
     {
@@ -149,6 +170,19 @@ impl Image {
     pub fn into_codes(self) -> CodeList
         ensures { result ≡ codes_of self }
     {
-        CodeList::of(self.codes)
+        self.codes
+    }
+}
+
+impl Duplicate for Image {
+    fn copy(&self) -> Result<Image, NoMemory> {
+        let mut heads = Vec::with_capacity(*self.heads.allocator(), self.heads.len())?;
+        for head in &self.heads {
+            heads.push(head.copy()?)?;
+        }
+        Ok(Image {
+            heads,
+            codes: self.codes.copy()?,
+        })
     }
 }

@@ -16,7 +16,7 @@ pub use decoding::decode;
 pub use encoding::encode;
 pub use fault::{EncodeError, ImageFault};
 pub use finding::Verify;
-pub use image::{Image, ImageMachine};
+pub use image::{Head, Image, ImageMachine};
 pub use law::laws;
 pub use limits::{RESULTS_MAX, VARS_MAX};
 pub use verifying::verify;

@@ -2,6 +2,7 @@
 use Rattle.std.specs.Prelude.{ℕ, cond, Bool, false, ◌&&◌, nat_lt, List, [], ◌∷◌, ◌++◌, length, fold, slice_get, Option, Some, None, option_map, unwrap_or, Result, Ok, Err, codes, IsTrue, ⊤}
 use Rattle.std.specs.List.{find, enumerate_from}
 use Rattle.polis_base.specs.Lists.{upto}
+use Rattle.polis_base.specs.declared.limits.TheConstants.{TRACE_ITEMS_MAX}
 use Rattle.domains.specs.Names.{is_same}
 use Rattle.transition_table.specs.NetworkNames.{event_domain}
 use Rattle.transition_table.specs.declared.decl.Party.TheVariants.{Env}
@@ -67,7 +68,7 @@ abbrev pub added : List TraceItem → ℕ → Result (Option TraceItem) TraceKin
 added items line (Err kind) = Err (Line line kind)
 added items line (Ok None) = Ok items
 added items line (Ok (Some item)) =
-    cond (nat_lt (length items) 10000) (Ok (items ++ item ∷ [])) (Err (Line line Many))
+    cond (nat_lt (length items) TRACE_ITEMS_MAX) (Ok (items ++ item ∷ [])) (Err (Line line Many))
 
 -- one more line with its number after those that were read; the first fault stays
 abbrev pub with_line : Network → Result (List TraceItem) TraceFault → ℕ × List ℕ

@@ -10,11 +10,9 @@ use crate::fault::{TraceFault, TraceKind};
 use crate::item::read_line;
 use crate::sent::Sent;
 use journals::Trace;
+use polis_base::limits::TRACE_ITEMS_MAX;
 use std::alloc::Global;
 use transition_table::Network;
-
-/// The most items of a trace, those that say `settle` counted.
-const MOST_ITEMS: u64 = 10_000;
 
 // Adds what a line of this number says to the items before it.
 fn add_line(sent: &Sent, trace: &mut Trace, line: u64, text: &[u8]) -> Result<(), TraceFault>
@@ -31,7 +29,7 @@ fn add_line(sent: &Sent, trace: &mut Trace, line: u64, text: &[u8]) -> Result<()
         Err(kind) => Err(TraceFault::Line { line, kind }),
         Ok(None) => Ok(()),
         Ok(Some(item)) => {
-            if trace.len() < MOST_ITEMS {
+            if trace.len() < TRACE_ITEMS_MAX {
                 match trace.push(item) {
                     Ok(()) => Ok(()),
                     Err(_) => Err(TraceFault::NoMemory),

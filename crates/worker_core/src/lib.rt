@@ -12,7 +12,7 @@ mod state;
 mod worked;
 
 pub use alone::core_alone;
-pub use journals::{CoreStep, Log, LogList, MAX_STAMP, Stamped};
+pub use journals::{CoreStep, Log, LogList, Stamped};
 pub use law::core_laws;
 pub use merging::{merge, merge_logs};
 pub use running::{Core, core_run};

@@ -12,9 +12,10 @@ ghost use Rattle.worker_core.specs.inner.Parts.{HasMoments, ends_in_delivery, fi
 
 use crate::state::{Hand, Queue};
 use journals::{
-    CoreStep, Entry, Log, LogList, MAX_STAMP, Moments, Owed, Stamped, Trace, deliveries, laws,
-    moving_laws, next_moment,
+    CoreStep, Entry, Log, LogList, Moments, Owed, Stamped, Trace, deliveries, laws, moving_laws,
+    next_moment,
 };
+use polis_base::limits::MAX_STAMP;
 use polis_base::{Duplicate, NoMemory};
 use std::alloc::Global;
 use transition_table::{Network, Reactor};

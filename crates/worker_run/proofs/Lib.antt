@@ -1,6 +1,5 @@
 pub mod IsAdopted
 pub mod Counts
-pub mod UnderLock
 pub mod OneLogMore
 pub mod MergedAlone
 pub mod PassedDeliveries

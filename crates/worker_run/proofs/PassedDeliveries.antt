@@ -18,15 +18,6 @@ Passed all left =
       arrivals = drop (length all.arrivals - length left.arrivals) all.arrivals;
     })
 
-pub passed_none : (all : OutgoingState) → Passed all all
-passed_none all = (
-  omega arith,
-  ap (λ (k : ℕ). record all { arrivals = drop k all.arrivals }) none,
-)
-  where
-    none : 0 ≡ length all.arrivals - length all.arrivals
-    none = omega arith
-
 drop_one_more : {X : Type 0} (k : ℕ) (xs : List X) → drop 1 (drop k xs) ≡ drop (suc k) xs
 drop_one_more zero xs = refl
 drop_one_more (suc k) [] = refl

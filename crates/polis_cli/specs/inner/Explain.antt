@@ -1,21 +1,12 @@
 -- What explaining gives.
-use Rattle.std.specs.Prelude.{◌≡◌, ℕ, ◌+◌, false, List, Option, Result, Ok, Err, ⊤}
-use Rattle.polis_base.specs.Host.{Files}
-use Rattle.polis_base.specs.declared.NoMemory.{NoMemory}
+use Rattle.std.specs.Prelude.{◌≡◌, ℕ, ◌+◌, false, List, Option}
 use Rattle.transition_table.specs.declared.network.Network.{Network}
 use Rattle.journals.specs.declared.entry.Entry.{Entry}
 use Rattle.journals.specs.declared.entry.TraceItem.{TraceItem}
 use Rattle.net_core.specs.declared.answer.Why.{Why}
 use Rattle.journal_replay.specs.Reasons.{IsReason}
 use Rattle.fault_text.specs.Blocks.{line_block_text}
-use Rattle.polis_words.specs.declared.cause.Cause.{Cause}
-use Rattle.polis_words.specs.declared.cause.Failure.{Failure}
-use Rattle.polis_words.specs.declared.cause.Failure.TheVariants as failures
 use Rattle.polis_words.specs.Sentences.{why_sentence}
-use Rattle.input_files.specs.declared.load.Detail.{Detail}
-use Rattle.input_files.specs.declared.load.Detail.TheVariants as details
-use Rattle.input_files.specs.Explanations.{ExplainsFile}
-use Rattle.input_files.specs.Failures.{explains_by, explains_nothing}
 
 -- this explains that the k-th entry is the first up to which the journal of a text isn't legal
 abbrev pub IsEntryExplained : Network → List TraceItem → List ℕ → List ℕ → List Entry → ℕ

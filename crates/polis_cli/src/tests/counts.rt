@@ -1,13 +1,13 @@
 // That runs react by the reactor that they are handed: one that counts its calls.
+ghost use Rattle.std.specs.Prelude.{IfOk};
 ghost use Rattle.journals.specs.Journals.{IsTrace};
 ghost use Rattle.transition_table.specs.Transitions.{AreDeterministic, HasWidths, IsSnapshot, OfMachine, Transition};
 
 use crate::ran::run_alone;
 use crate::tests::gates::{Meeting, Outside};
-use crate::tests::inputs::inputs_of;
 use crate::tests::runner::shared;
-use input_files::Inputs;
-use polis_base::NoMemory;
+use input_files::{Detail, Inputs, load_inputs};
+use polis_base::{MemoryHost, NoMemory};
 use sample_networks::texts::{LOOP, LOOP_TRACE, TWO_TRACE};
 use std::alloc::Global;
 use std::sync::Wait;
@@ -43,6 +43,20 @@ impl<'a> Reactor for Counting<'a> {
     }
 
     ghost deterministic = { λ r. r.inner.deterministic };
+}
+
+// A network and a trace of it, loaded from a host that holds their texts.
+fn inputs_of(alloc: Global, net: &str, trace: &str) -> Result<Inputs, NoMemory>
+    ensures { IfOk result (λ inputs. IsTrace inputs.net inputs.trace
+        × AreDeterministic inputs.net) }
+{
+    let mut host = MemoryHost::new(alloc);
+    host.put("net", net.as_bytes())?;
+    host.put("trc", trace.as_bytes())?;
+    match load_inputs(alloc, &mut host, "net", "trc", Detail::Cause) {
+        Ok(inputs) => Ok(inputs),
+        Err(_) => Err(NoMemory),
+    }
 }
 
 // The reactor of the network's rows, which has made no reaction yet.

@@ -1,4 +1,5 @@
-// Tries whole calls that stand as cases in texts, over files in memory.
+// Tries whole calls that stand as cases in texts, over files in memory. The texts are in
+// sample_networks, src/cases/.
 //
 // A text has parts, which begin with `:: given`, and a part has cases, which begin with
 // `:: case NAME`. Both have directives, which a line begins with `:: ` each; what is given comes
@@ -19,14 +20,14 @@
 //     :: note TEXT                 nothing
 //
 // A text begins on the directive's line or below it. `@NAME` there stands for a shared text: a
-// section `:: text NAME` of the texts of `listings`, or NAME of examples/. Each line ends with a
-// line feed, but for one with `\` at its end, and `\xHH` is a byte.
-use crate::tests::listings::SHARED;
+// section `:: text NAME` of `listings`, or NAME of examples/. Each line ends with a line feed, but
+// for one with `\` at its end, and `\xHH` is a byte.
 use crate::tests::samples::sample;
 use crate::top::polis;
 use event_buffer::Gate;
 use polis_base::{Bytes, MemoryHost, NoMemory, Words};
 use polis_words::Status;
+use sample_networks::cases::listings::SHARED;
 use std::alloc::Global;
 use std::process::Abort;
 use std::sync::Wait;

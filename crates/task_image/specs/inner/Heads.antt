@@ -8,9 +8,6 @@ use Rattle.task_image.specs.declared.image.Head.{Head}
 use Rattle.task_image.specs.declared.image.ImageMachine.{ImageMachine}
 use Rattle.task_image.specs.declared.limits.TheConstants.{VARS_MAX, RESULTS_MAX}
 
-abbrev pub head_of : ImageMachine → Head
-head_of m = record { name = m.name; vars = m.vars; results = m.results }
-
 abbrev pub machine_of : Head → List Instr → ImageMachine
 machine_of h c = record { name = h.name; vars = h.vars; results = h.results; code = c }
 

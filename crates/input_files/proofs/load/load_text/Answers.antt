@@ -3,7 +3,7 @@ use Rattle.polis_base.specs.declared.host.Load.TheVariants as loads
 use Rattle.polis_words.specs.declared.cause.Cause.TheVariants.{ReadFault, Absent, TooLong}
 use Rattle.input_files.specs.Inputs.{LoadFails}
 use Rattle.input_files.specs.Details.{explains_in}
-use Rattle.input_files.proofs.Refused.{absent_explained, cause_alone, cause_explained, left_loaded, left_refused, left_unread, long_explained, refused_so, unread_explained}
+use Rattle.input_files.proofs.Refused.{cause_alone, cause_explained, left_loaded, left_refused, left_unread, refused_so, unread_explained}
 use Rattle.polis_base.proofs.WhereTold.{told_always}
 use Rattle.input_files.proofs.load.load_text.Goals.{in-Cause, in-Cause-detail, in-Explained, in-Explained-detail}
 use Rattle.input_files.proofs.load.load_text.Goals as goal
@@ -25,8 +25,7 @@ returns-in-Absent-clause-failed g c =
       | in-Explained w ↦
           cause_explained detail max o name Absent explanation w.explain_absent-explanation.result
           w.in-Explained.is w.explanation-is
-          (absent_explained o max name w.explain_absent-explanation.result
-          w.explain_absent-explanation.ensures)
+          w.explain_absent-explanation.ensures
     ])
 
 pub returns-in-Absent-clause-left : goal.returns-in-Absent-clause-left
@@ -52,8 +51,7 @@ returns-in-TooLong-clause-failed g c =
       | in-Explained-detail w ↦
           cause_explained detail max o name TooLong explanation w.explain_long-explanation.result
           w.in-Explained-detail.is w.explanation-is
-          (long_explained o max name w.explain_long-explanation.result
-          w.explain_long-explanation.ensures)
+          w.explain_long-explanation.ensures
     ])
 
 pub returns-in-TooLong-clause-left : goal.returns-in-TooLong-clause-left

@@ -4,7 +4,7 @@ use Rattle.net_reader.specs.Layout.{IsOfSentence, network_text}
 use Rattle.net_reader.specs.Places.{Declares}
 use Rattle.net_gen.specs.Draws.{after, draw}
 use Rattle.net_gen.specs.Networks.{ring, network, count}
-use Rattle.net_gen.specs.inner.Traces.{ticks, trace_text}
+use Rattle.net_gen.specs.Traces.{ticks, trace_text}
 use Rattle.net_gen.specs.Whole.{AreWhole}
 use Rattle.net_gen.proofs.DrawsAfter.{after_first, after_more}
 use Rattle.net_gen.proofs.Sentence.{sentence}

@@ -1,7 +1,7 @@
 use Rattle.std.proofs.Common.{◌≡◌, ℕ, List, ◌++◌, flat_map, sym, ap, ◌∙◌, append_assoc, arith}
 use Rattle.polis_base.specs.Lists.{upto}
 use Rattle.net_gen.specs.Draws.{next, after, draw}
-use Rattle.net_gen.specs.inner.Traces.{tick_line, settle_line, lines_at, ticks}
+use Rattle.net_gen.specs.Traces.{tick_line, settle_line, lines_at, ticks}
 use Rattle.net_gen.proofs.DrawsAfter.{after_none, after_one, flat_more}
 use Rattle.net_gen.proofs.trace.ticks.Goals as goal
 

@@ -1,7 +1,7 @@
 use Rattle.std.specs.Prelude.{◌≡◌, flat_map}
 use Rattle.polis_base.specs.Lists.{upto}
 use Rattle.net_gen.specs.Draws.{after}
-use Rattle.net_gen.specs.inner.Traces.{lines_at}
+use Rattle.net_gen.specs.Traces.{lines_at}
 use Rattle.net_gen.proofs.trace.ticks.Given as goal
 
 abbrev pub invariant-loop-k : goal.invariant-loop-k

@@ -65,25 +65,17 @@ pub first_items-set-requires-clause-small : goal.first_items-set-requires-clause
 first_items-set-requires-clause-small c =
     small_items c.args.m.now c.args.order.now c.requires.allowed c.laws_of_levels.ensures.few
 
-pub numbers_of-requires-clause-next : goal.numbers_of-requires-clause-next
-numbers_of-requires-clause-next c =
-    (here (goal.at.numbers_of-requires-clause-next c).After-first_items-set).next
+pub freed_after-requires-clause-next : goal.freed_after-requires-clause-next
+freed_after-requires-clause-next c =
+    (here (goal.at.freed_after-requires-clause-next c).After-first_items-set).next
 
-pub numbers_of-requires-clause-classes : goal.numbers_of-requires-clause-classes
-numbers_of-requires-clause-classes c =
-    (here (goal.at.numbers_of-requires-clause-classes c).After-first_items-set).too
+pub freed_after-requires-clause-classes : goal.freed_after-requires-clause-classes
+freed_after-requires-clause-classes c =
+    (here (goal.at.freed_after-requires-clause-classes c).After-first_items-set).too
 
-pub numbers_of-requires-clause-item : goal.numbers_of-requires-clause-item
-numbers_of-requires-clause-item c =
-    (here (goal.at.numbers_of-requires-clause-item c).After-first_items-set).below
-
-pub level_after-requires-clause-free : goal.level_after-requires-clause-free
-level_after-requires-clause-free c =
-    (here (goal.at.level_after-requires-clause-free c).After-first_items-set).next.free
-
-pub level_after-requires-clause-item : goal.level_after-requires-clause-item
-level_after-requires-clause-item c =
-    (here (goal.at.level_after-requires-clause-item c).After-first_items-set).below
+pub freed_after-requires-clause-item : goal.freed_after-requires-clause-item
+freed_after-requires-clause-item c =
+    (here (goal.at.freed_after-requires-clause-item c).After-first_items-set).below
 
 pub overflow_add-back : goal.overflow_add-back
 overflow_add-back c =
@@ -94,7 +86,7 @@ overflow_add-back c =
     let last = get_or_from_slice_get c.args.chain.now.backs t c.get-last.result.now 0
     c.get-last.ensures in
     let a = c.requires.chain.few t (omega arith) in
-    let b = c.in_ok-here.ensures.few in
+    let b = c.in_ok-numbers.ensures.few in
     omega arith
 
 pub returns-clause-chain : goal.returns-clause-chain
@@ -106,13 +98,13 @@ returns-clause-chain c =
     let f = here (goal.at.returns-clause-chain c).After-first_items-set in
     let set = in_set c.first_items-set.result in
     let before = stands (take (length o - 1 - t) o) in
-    let made = c.in_ok-made.made in
-    let level = c.in_ok-here.here in
+    let made = c.in_ok-numbers.field-0.numbers in
+    let level = c.in_ok-numbers.field-0.level in
     let last = get_or_from_slice_get old.backs t c.get-last.result.now 0 c.get-last.ensures in
     chain_more m o c.laws_of_levels.ensures.laws c.requires.sure c.requires.allowed t
     c.get-item.result.now old.classes _ old.backs _ made level (level + c.get-last.result.now)
     c.requires.t f.at c.requires.chain
-    (same_classes m set before made f.same c.in_ok-made.ensures.numbers)
-    (same_level m set before c.get-item.result.now level f.same c.in_ok-here.ensures.level)
-    c.in_ok-here.ensures.few (ap (λ (k : ℕ). level + k) (sym last)) c.in_ok-push.ensures.ok
+    (same_classes m set before made f.same c.in_ok-numbers.ensures.numbers)
+    (same_level m set before c.get-item.result.now level f.same c.in_ok-numbers.ensures.level)
+    c.in_ok-numbers.ensures.few (ap (λ (k : ℕ). level + k) (sym last)) c.in_ok-push.ensures.ok
     c.in_ok-push-2.ensures.ok

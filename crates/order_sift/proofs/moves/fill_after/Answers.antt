@@ -161,20 +161,20 @@ loop-j-preserved c =
     sym (ap (λ (n : ℕ). slice_index chain.backs (n - 1 - j)) (sym l)
     ∙ get_or_from_slice_get chain.backs (c.len-items.result - 1 - j) c.get-back.result.now 0
     c.get-back.ensures) in
-    let own = c.in_ok-own.own in
+    let own = c.in_ok-numbers.field-0.level in
     let here = c.in_ok-here.here in
     let old_front = c.loop-j.front in
-    let freer = c.in_ok-freer.freer in
+    let freer = c.in_ok-numbers.field-0.numbers in
     let bare = stands (take j (remove o i)) in
     let same : (w : ℕ) → in_set c.with-more.result w ≡ bare w =
     h.same c.with-more.result c.with-more.ensures in
     let made = same_classes m (in_set c.with-more.result) bare freer same
-    c.in_ok-freer.ensures.numbers in
+    c.in_ok-numbers.ensures.numbers in
     let level = same_level m (in_set c.loop-j.set) (stands (take (j - 1) (remove o i))) next here
     inv.set c.in_ok-here.ensures.level in
     let own_level = subst (λ (x : ℕ). own ≡ set_level (char m) (sizes_of m) bare x) (sym h.item_is)
     (same_level m (in_set c.with-more.result) bare c.get-item.result.now own same
-    c.in_ok-own.ensures.level) in
+    c.in_ok-numbers.ensures.level) in
     let step = steps_after m o laws c.requires.moving.sure c.requires.moving.allowed chain.classes chain.backs
     c.requires.moving.chain i li sized j next here old_front own c.get-back.result.now
     freer high lj h.next_is inv.front level made own_level back in
@@ -189,8 +189,8 @@ loop-j-preserved c =
     (let h : first ≤ first = omega arith in
     h) (omega arith) (omega arith) step.whole_is inv.sizes (λ k a b apart. (a, omega arith)) in
     record {
-      room = room_kept (product m.vars) _ _ c.numbers_of.auto.seen inv.room;
-      known = c.in_ok-own.ensures.known;
+      room = room_kept (product m.vars) _ _ c.freed_after.auto.seen inv.room;
+      known = c.in_ok-numbers.ensures.known;
       set = λ w. same w ∙ ap (λ (n : ℕ). stands (take n (remove o i)) w) e;
       long = ap (λ (xs : List ℕ). length xs) set ∙ set_long c.loop-j.sizes (j - first) value ∙ long;
       later = omega arith;
@@ -201,17 +201,34 @@ loop-j-preserved c =
           (subst (λ (xs : List ℕ). AreSizes m o i first xs first j) (sym set) sizes);
     }
 
+pub level_after-requires-clause-points : goal.level_after-requires-clause-points
+level_after-requires-clause-points c = record {
+  few = c.requires.moving.few;
+  prepared = c.requires.moving.prepared;
+}
+
+pub level_after-requires-clause-known : goal.level_after-requires-clause-known
+level_after-requires-clause-known c = c.loop-j.invariant.known
+
+pub freed_after-requires-clause-points : goal.freed_after-requires-clause-points
+freed_after-requires-clause-points c = record {
+  few = c.requires.moving.few;
+  prepared = c.requires.moving.prepared;
+}
+
+pub freed_after-requires-clause-room : goal.freed_after-requires-clause-room
+freed_after-requires-clause-room c = c.loop-j.invariant.room
+
+pub freed_after-requires-clause-known : goal.freed_after-requires-clause-known
+freed_after-requires-clause-known c = c.in_ok-here.ensures.known
+
 pub level_after-requires-clause-item : goal.level_after-requires-clause-item
 level_after-requires-clause-item c =
     (here (goal.at.level_after-requires-clause-item c).After-get-next).next_low
 
-pub numbers_of-requires-clause-item : goal.numbers_of-requires-clause-item
-numbers_of-requires-clause-item c =
-    (here (goal.at.numbers_of-requires-clause-item c).After-get-next).item_low
-
-pub level_after-requires-in-loop-j-clause-item : goal.level_after-requires-in-loop-j-clause-item
-level_after-requires-in-loop-j-clause-item c =
-    (here (goal.at.level_after-requires-in-loop-j-clause-item c).After-get-next).item_low
+pub freed_after-requires-clause-item : goal.freed_after-requires-clause-item
+freed_after-requires-clause-item c =
+    (here (goal.at.freed_after-requires-clause-item c).After-get-next).item_low
 
 pub first_items-set-requires-clause-count : goal.first_items-set-requires-clause-count
 first_items-set-requires-clause-count c =
@@ -241,17 +258,17 @@ level_after-requires-clause-classes c =
     same_classes m (stands (take (j - 1) (remove o i))) (in_set c.loop-j.set)
     c.loop-j.without_item (λ w. sym (c.loop-j.invariant.set w)) c.loop-j.invariant.classes
 
-pub numbers_of-requires-clause-next : goal.numbers_of-requires-clause-next
-numbers_of-requires-clause-next c =
+pub freed_after-requires-clause-next : goal.freed_after-requires-clause-next
+freed_after-requires-clause-next c =
     let m = c.args.moving.now.machine.now in
     let o = c.args.moving.now.order.now in
-    let h = here (goal.at.numbers_of-requires-clause-next c).After-get-next in
+    let h = here (goal.at.freed_after-requires-clause-next c).After-get-next in
     same_next m (stands (take c.loop-j.j (remove o c.args.i))) (in_set c.with-more.result)
     (slice_index o c.args.i) c.get-item.result.now
     (λ w. sym (h.same c.with-more.result c.with-more.ensures w)) h.item_is h.follows.next
 
-pub numbers_of-requires-clause-classes : goal.numbers_of-requires-clause-classes
-numbers_of-requires-clause-classes c =
+pub freed_after-requires-clause-classes : goal.freed_after-requires-clause-classes
+freed_after-requires-clause-classes c =
     let m = c.args.moving.now.machine.now in
     let o = c.args.moving.now.order.now in
     let chain = c.args.moving.now.chain.now in
@@ -259,7 +276,7 @@ numbers_of-requires-clause-classes c =
     let j = c.loop-j.j in
     let item = c.get-item.result.now in
     let old = c.get-with_item.result.now in
-    let h = here (goal.at.numbers_of-requires-clause-classes c).After-get-next in
+    let h = here (goal.at.freed_after-requires-clause-classes c).After-get-next in
     let bare = stands (take j (remove o i)) in
     let got = ap (λ (n : ℕ). get_or chain.classes (n - 1 - j) []) (sym c.len-items.ensures.len)
     ∙ get_or_from_slice_get chain.classes (c.len-items.result - 1 - j) old []
@@ -268,13 +285,6 @@ numbers_of-requires-clause-classes c =
     (λ w. sym (h.same c.with-more.result c.with-more.ensures w))
     (subst (λ (x : ℕ). AreClasses m (fixed_too bare x) old) h.item_is
     (subst (AreClasses m (fixed_too bare (slice_index o i))) got h.follows.too))
-
-pub level_after-requires-in-loop-j-clause-free : goal.level_after-requires-in-loop-j-clause-free
-level_after-requires-in-loop-j-clause-free c =
-    let o = c.args.moving.now.order.now in
-    let h = here (goal.at.level_after-requires-in-loop-j-clause-free c).After-get-next in
-    h.same c.with-more.result c.with-more.ensures c.get-item.result.now
-    ∙ ap (stands (take c.loop-j.j (remove o c.args.i))) (sym h.item_is) ∙ h.follows.next.free
 
 pub overflow_sub-front : goal.overflow_sub-front
 overflow_sub-front c =
@@ -313,7 +323,7 @@ overflow_add-size c =
     let items_few = c.laws_of_levels.ensures.few in
     let few = c.loop-j.invariant.few in
     let here = c.in_ok-here.ensures.few in
-    let own = c.in_ok-own.ensures.few in
+    let own = c.in_ok-numbers.ensures.few in
     let test = c.loop-j-test.true in
     let last = c.requires.range.last in
     omega arith
@@ -332,7 +342,7 @@ overflow_add-size-in-loop-j c =
     let items_few = c.laws_of_levels.ensures.few in
     let few = c.loop-j.invariant.few in
     let here = c.in_ok-here.ensures.few in
-    let own = c.in_ok-own.ensures.few in
+    let own = c.in_ok-numbers.ensures.few in
     let test = c.loop-j-test.true in
     let last = c.requires.range.last in
     let back = ap (λ (n : ℕ). slice_index chain.backs (n - 1 - j)) (sym l)

@@ -170,15 +170,16 @@ loop-t-preserved c =
     ∙ get_or_from_slice_get chain.classes (c.len-items.result - j) c.get-without_item.result.now
     [] c.get-without_item.ensures) in
     let own = c.in_ok-own.own in
-    let here = c.in_ok-here.here in
+    let here = c.in_ok-numbers.field-0.level in
     let old_back = c.loop-t.back in
     let front = c.get-whole.result.now - c.get-after.result.now in
     let bare = stands (take j (remove o i)) in
     let with_it = stands (take j (remove o i) ++ slice_index o i ∷ []) in
-    let made = same_classes m (in_set c.with-set.result) with_it c.in_ok-freer.freer h.same_with
-    c.in_ok-freer.ensures.numbers in
+    let freer = c.in_ok-numbers.field-0.numbers in
+    let made = same_classes m (in_set c.with-set.result) with_it freer h.same_with
+    c.in_ok-numbers.ensures.numbers in
     let level = same_level m (in_set c.with-set.result) with_it next here h.same_with
-    c.in_ok-here.ensures.level in
+    c.in_ok-numbers.ensures.level in
     let own_level = subst (λ (x : ℕ). own ≡ set_level (char m) (sizes_of m) bare x) (sym h.item_is)
     (same_level m (in_set c.first_items-before.result) bare c.get-item.result.now own h.same
     c.in_ok-own.ensures.level) in
@@ -187,40 +188,56 @@ loop-t-preserved c =
     let fronts_is = fronts.1 in
     let step = steps_before m o laws c.requires.moving.sure c.requires.moving.allowed chain.classes chain.backs
     c.requires.moving.chain i li sized j next here old_back own front
-    c.in_ok-freer.freer low h.next_is (inv.back ∙ ap (back_of m o i) e_old) made level own_level
-    (omega arith) in
+    freer low h.next_is (inv.back ∙ ap (back_of m o i) e_old) made level own_level (omega arith) in
     let set = c.set.ensures in
     let long = inv.long in
     let room = c.requires.long in
     let few = inv.few in
-    let few_here = c.in_ok-here.ensures.few in
+    let few_here = c.in_ok-numbers.ensures.few in
     let value = front + own + (old_back + here) in
     let sizes = sizes_set m o c.loop-t.sizes i first j value (i - t) i j i high high (omega arith)
     step.whole_is inv.sizes (λ k a b apart. (omega arith, b)) in
     record {
-      room = room_kept (product m.vars) _ _ c.numbers_of.auto.seen inv.room;
+      room = room_kept (product m.vars) _ _ c.freed_after.auto.seen inv.room;
       known = c.in_ok-own.ensures.known;
       long = ap (λ (xs : List ℕ). length xs) set ∙ set_long c.loop-t.sizes (j - first) value ∙ long;
       back = step.back_is ∙ ap (back_of m o i) e_new;
       few = omega arith;
       classes = subst
           (λ (n : ℕ). AreClasses m (stands (take n (remove o i) ++ slice_index o i ∷ []))
-          c.in_ok-freer.freer) e_new step.numbers;
+          freer) e_new step.numbers;
       sizes = subst (λ (n : ℕ). AreSizes m o i first c.set.new.self n i) e_new
           (subst (λ (xs : List ℕ). AreSizes m o i first xs j i) (sym set) sizes);
     }
 
-pub numbers_of-requires-clause-item : goal.numbers_of-requires-clause-item
-numbers_of-requires-clause-item c =
-    (here (goal.at.numbers_of-requires-clause-item c).After-with-set).next_low
+pub freed_after-requires-clause-points : goal.freed_after-requires-clause-points
+freed_after-requires-clause-points c = record {
+  few = c.requires.moving.few;
+  prepared = c.requires.moving.prepared;
+}
+
+pub freed_after-requires-clause-room : goal.freed_after-requires-clause-room
+freed_after-requires-clause-room c = c.loop-t.invariant.room
+
+pub freed_after-requires-clause-known : goal.freed_after-requires-clause-known
+freed_after-requires-clause-known c = c.loop-t.invariant.known
+
+pub level_after-requires-clause-points : goal.level_after-requires-clause-points
+level_after-requires-clause-points c = record {
+  few = c.requires.moving.few;
+  prepared = c.requires.moving.prepared;
+}
+
+pub level_after-requires-clause-known : goal.level_after-requires-clause-known
+level_after-requires-clause-known c = c.in_ok-numbers.ensures.known
+
+pub freed_after-requires-clause-item : goal.freed_after-requires-clause-item
+freed_after-requires-clause-item c =
+    (here (goal.at.freed_after-requires-clause-item c).After-with-set).next_low
 
 pub level_after-requires-clause-item : goal.level_after-requires-clause-item
 level_after-requires-clause-item c =
-    (here (goal.at.level_after-requires-clause-item c).After-with-set).next_low
-
-pub level_after-requires-in-loop-t-clause-item : goal.level_after-requires-in-loop-t-clause-item
-level_after-requires-in-loop-t-clause-item c =
-    (here (goal.at.level_after-requires-in-loop-t-clause-item c).After-with-set).item_low
+    (here (goal.at.level_after-requires-clause-item c).After-with-set).item_low
 
 pub first_items-before-requires-clause-count : goal.first_items-before-requires-clause-count
 first_items-before-requires-clause-count c =
@@ -240,24 +257,20 @@ with-set-requires c =
     c.requires.range.last in
     omega arith
 
-pub numbers_of-requires-clause-next : goal.numbers_of-requires-clause-next
-numbers_of-requires-clause-next c =
-    (here (goal.at.numbers_of-requires-clause-next c).After-with-set).follows
+pub freed_after-requires-clause-next : goal.freed_after-requires-clause-next
+freed_after-requires-clause-next c =
+    (here (goal.at.freed_after-requires-clause-next c).After-with-set).follows
 
-pub numbers_of-requires-clause-classes : goal.numbers_of-requires-clause-classes
-numbers_of-requires-clause-classes c =
-    (here (goal.at.numbers_of-requires-clause-classes c).After-with-set).too
+pub freed_after-requires-clause-classes : goal.freed_after-requires-clause-classes
+freed_after-requires-clause-classes c =
+    (here (goal.at.freed_after-requires-clause-classes c).After-with-set).too
 
 pub level_after-requires-clause-free : goal.level_after-requires-clause-free
 level_after-requires-clause-free c =
-    (here (goal.at.level_after-requires-clause-free c).After-with-set).follows.free
+    (here (goal.at.level_after-requires-clause-free c).After-with-set).free
 
-pub level_after-requires-in-loop-t-clause-free : goal.level_after-requires-in-loop-t-clause-free
-level_after-requires-in-loop-t-clause-free c =
-    (here (goal.at.level_after-requires-in-loop-t-clause-free c).After-with-set).free
-
-pub level_after-requires-in-loop-t-clause-classes : goal.level_after-requires-in-loop-t-clause-classes
-level_after-requires-in-loop-t-clause-classes c =
+pub level_after-requires-clause-classes : goal.level_after-requires-clause-classes
+level_after-requires-clause-classes c =
     let m = c.args.moving.now.machine.now in
     let o = c.args.moving.now.order.now in
     let chain = c.args.moving.now.chain.now in
@@ -268,7 +281,7 @@ level_after-requires-in-loop-t-clause-classes c =
     let got = ap (λ (n : ℕ). get_or chain.classes (n - j) []) (sym l)
     ∙ get_or_from_slice_get chain.classes (c.len-items.result - j) c.get-without_item.result.now
     [] c.get-without_item.ensures in
-    let h = here (goal.at.level_after-requires-in-loop-t-clause-classes c).After-with-set in
+    let h = here (goal.at.level_after-requires-clause-classes c).After-with-set in
     let low = h.low in
     same_classes m (stands (take j (remove o i))) (in_set c.first_items-before.result)
     c.get-without_item.result.now (λ w. sym (h.same w))
@@ -303,7 +316,7 @@ overflow_add-back c =
     let n = items c.args.moving.now.machine.now c.args.moving.now.order.now c.requires.moving.allowed in
     let items_few = c.laws_of_levels.ensures.few in
     let few = c.loop-t.invariant.few in
-    let here = c.in_ok-here.ensures.few in
+    let here = c.in_ok-numbers.ensures.few in
     let test = c.loop-t-test.true in
     let li = c.requires.range.last in
     omega arith
@@ -345,7 +358,7 @@ overflow_add-size-in-loop-t c =
     c.requires.moving.chain.few (length o) (let h : length o ≤ length o = omega arith in h) in
     let own = c.in_ok-own.ensures.few in
     let few = c.loop-t.invariant.few in
-    let here = c.in_ok-here.ensures.few in
+    let here = c.in_ok-numbers.ensures.few in
     let test = c.loop-t-test.true in
     let li = c.requires.range.last in
     omega arith

@@ -8,6 +8,7 @@ pub returns-in-Err-clause-failed : goal.returns-in-Err-clause-failed
 returns-in-Err-clause-failed g c =
     inputs_explained (g.H.Host.files c.args.host.now) c.args.asked.now c.in-Err.failure
     (rw (c.net.ensures, c.trace.ensures) at c.in-Err.ensures.failed)
+    (rw (c.net.ensures, c.trace.ensures) at c.in-Err.ensures.named)
 
 pub returns-in-Err-load_journal_file-clause-failed :
     goal.returns-in-Err-load_journal_file-clause-failed

@@ -2,7 +2,6 @@ use Rattle.std.proofs.Common.{refl}
 use Rattle.polis_base.specs.declared.limits.TheConstants.{TEXT_MAX}
 use Rattle.polis_cli.specs.Explain.{explain_net_meaning}
 use Rattle.input_files.specs.Explanations.{ExplainsFile}
-use Rattle.input_files.specs.Failures.{explains_by}
 use Rattle.polis_cli.proofs.ExplainMeaning.{net_made}
 use Rattle.polis_cli.proofs.IsExplained.{files_explained}
 use Rattle.polis_cli.proofs.IsMade.{product_is}
@@ -21,5 +20,5 @@ returns-in-Err-clause-made g c =
     let check = c.args.check.now in
     let o = g.H.Host.files c.args.host.now in
     files_explained (explain_net_meaning check) o c.in-Err.failure refl
-    (net_explained check.net o (explains_by (ExplainsFile TEXT_MAX)) c.in-Err.failure
+    (net_explained check.net o (ExplainsFile TEXT_MAX) c.in-Err.failure
     (rw c.net.ensures at c.in-Err.ensures.failed))

@@ -1,5 +1,7 @@
 use Rattle.std.proofs.Common.{arith}
-use Rattle.polis_words.proofs.AsksRun.{run_alone, few_workers, no_run, other_command}
+use Rattle.polis_words.specs.declared.requests.Request.TheVariants.{Run}
+use Rattle.polis_words.proofs.AsksRun.{few_workers, no_run, other_command}
+use Rattle.polis_words.proofs.OneRequest.{one_request}
 use Rattle.polis_words.proofs.requests.workers.several_of.Goals as goal
 
 pub returns-then-not-is_command-clause-none : goal.returns-then-not-is_command-clause-none
@@ -8,7 +10,8 @@ returns-then-not-is_command-clause-none c =
 
 pub returns-then-workers-gt1-clause-one : goal.returns-then-workers-gt1-clause-one
 returns-then-workers-gt1-clause-one c =
-    run_alone c.args.words.now c.in-Some.run' c.in-Some.ensures.asks
+    λ other again.
+    one_request c.args.words.now other (Run c.in-Some.run') again c.in-Some.ensures.asks
 
 pub returns-else-workers-gt1-clause-none : goal.returns-else-workers-gt1-clause-none
 returns-else-workers-gt1-clause-none c =

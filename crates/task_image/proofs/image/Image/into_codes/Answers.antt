@@ -5,6 +5,5 @@ use Rattle.task_image.proofs.image.Image.into_codes.Goals as goal
 
 pub returns : goal.returns
 returns c =
-    c.of.ensures
-    ∙ joined_codes c.self.inside.heads.items c.self.inside.codes.items c.self.invariant
+    joined_codes c.self.inside.heads.items c.self.inside.codes c.self.invariant
     ∙ ap codes_of c.self.view_is

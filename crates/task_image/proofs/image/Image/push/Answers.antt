@@ -4,6 +4,6 @@ use Rattle.task_image.proofs.image.Image.push.Goals as goal
 
 pub returns-clause-ok : goal.returns-clause-ok
 returns-clause-ok c =
-    rw (c.in-Ok.ensures.items, c.in_ok-push.ensures.items, c.in_ok-reserve.ensures.items)
-    (joined_push c.self.inside.heads.items c.self.inside.codes.items _ c.args.machine.code
+    rw (c.in-Ok.ensures.items, c.in_ok-push.ensures.ok, c.in_ok-reserve.ensures.items)
+    (joined_push c.self.inside.heads.items c.self.inside.codes _ c.args.machine.code
     c.self.invariant ∙ ap (λ ms. ms ++ c.args.machine ∷ []) c.self.view_is)

@@ -1,0 +1,8 @@
+use Rattle.std.proofs.Common.{◌∙◌}
+use Rattle.layer_calls.proofs.Landings.{landing_fits}
+use Rattle.layer_calls.proofs.tests.calls.admits.Goals as goal
+
+pub admit-requires-clause-fits : goal.admit-requires-clause-fits
+admit-requires-clause-fits c =
+    landing_fits c.in_ok-config.config.net c.landing.result
+    ((λ i. (c.in_ok-config.ensures i).net) ∙ c.requires.network) c.landing.ensures

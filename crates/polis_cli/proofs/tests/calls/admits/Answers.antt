@@ -1,8 +1,0 @@
-use Rattle.std.proofs.Common.{◌∙◌}
-use Rattle.polis_cli.proofs.Landings.{landing_fits}
-use Rattle.polis_cli.proofs.tests.calls.admits.Goals as goal
-
-pub admit-requires-clause-fits : goal.admit-requires-clause-fits
-admit-requires-clause-fits c =
-    landing_fits c.in_ok-config.config.net c.landing.result
-    ((λ i. (c.in_ok-config.ensures i).net) ∙ c.requires.network) c.landing.ensures

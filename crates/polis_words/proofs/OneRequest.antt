@@ -1,0 +1,151 @@
+-- A command line asks for one request at most.
+use Rattle.std.proofs.Common.{◌≡◌, get_or, ◌+◌, ℕ, List, [], ◌∷◌, length, slice_get, Some, refl, sym, ap, ◌∙◌, arith, codes}
+use Rattle.polis_words.specs.Bound.{BoundWords, AsksBound}
+use Rattle.polis_words.specs.Check.{CheckWords}
+use Rattle.polis_words.specs.Demo.{DemoWords, AsksDemo}
+use Rattle.polis_words.specs.Equiv.{EquivWords}
+use Rattle.polis_words.specs.Explain.{AsksExplain}
+use Rattle.polis_words.specs.NetStem.{NetStemWords}
+use Rattle.polis_words.specs.NetTrace.{NetTraceWords}
+use Rattle.polis_words.specs.Replay.{ReplayWords}
+use Rattle.polis_words.specs.ReplayStem.{ReplayStemWords}
+use Rattle.polis_words.specs.Requests.{Asks}
+use Rattle.polis_words.specs.declared.requests.Request.{Request}
+use Rattle.polis_words.specs.declared.requests.Request.TheVariants.{Run, Check, Compile, Replay, Migrate, Demo, Bound, Image, Equiv, Losses, Wave, Draw, Explain}
+use Rattle.polis_words.specs.declared.requests.explain.Explain.{Explain as Explained}
+use Rattle.polis_words.specs.declared.requests.explain.Explain.TheVariants as explains
+use Rattle.polis_words.proofs.Asks.{one_demo, same_item, same_word}
+use Rattle.polis_words.proofs.AsksBound.{one_bound, one_costs, given_costs}
+use Rattle.polis_words.proofs.AsksRun.{one_asked}
+
+-- ---- the first word
+command_of : Request → List ℕ
+command_of (Run run) = codes "run"
+command_of (Check check) = codes "check"
+command_of (Compile compile) = codes "compile"
+command_of (Replay replay) = codes "replay"
+command_of (Migrate migrate) = codes "migrate"
+command_of (Demo demo) = codes "demo"
+command_of (Bound bound) = codes "bound"
+command_of (Image image) = codes "image"
+command_of (Equiv equiv) = codes "equiv"
+command_of (Losses losses) = codes "losses"
+command_of (Wave wave) = codes "wave"
+command_of (Draw draw) = codes "draw"
+command_of (Explain explain) = codes "explain"
+
+-- the sum of the second and the third letter of a word, which tells the commands apart
+letters : List ℕ → ℕ
+letters word = get_or word 1 0 + get_or word 2 0
+
+first : (words form : List (List ℕ)) (word : List ℕ) → words ≡ form
+    → slice_get form 0 ≡ Some word → slice_get words 0 ≡ Some word
+first words form word is at = ap (λ (w : List (List ℕ)). slice_get w 0) is ∙ at
+
+begins : (words : List (List ℕ)) (request : Request) → Asks words request
+    → slice_get words 0 ≡ Some (command_of request)
+unfolding command_of
+begins words (Explain (explains.Net check)) asks = first words _ (codes "explain") asks.0 refl
+begins words (Explain (explains.Trace asked)) asks = first words _ (codes "explain") asks.0 refl
+begins words (Explain (explains.Journal replay)) asks = first words _ (codes "explain") asks.0 refl
+begins words other asks = first words _ (command_of other) asks.form refl
+
+-- ---- the words after it
+one_net : (words : List (List ℕ)) (command : List ℕ) (a b : CheckWords)
+    → words ≡ command ∷ a.net ∷ [] → words ≡ command ∷ b.net ∷ [] → a ≡ b
+one_net words command a b p q =
+    let net = same_item 1 (sym p ∙ q) in
+    λ i. record { net = net i }
+
+one_net_stem : (words : List (List ℕ)) (command : List ℕ) (a b : NetStemWords)
+    → words ≡ command ∷ a.net ∷ a.stem ∷ [] → words ≡ command ∷ b.net ∷ b.stem ∷ [] → a ≡ b
+one_net_stem words command a b p q =
+    let net = same_item 1 (sym p ∙ q) in
+    let stem = same_item 2 (sym p ∙ q) in
+    λ i. record { net = net i; stem = stem i }
+
+one_net_trace : (words : List (List ℕ)) (command : List ℕ) (a b : NetTraceWords)
+    → words ≡ command ∷ a.net ∷ a.trace ∷ [] → words ≡ command ∷ b.net ∷ b.trace ∷ [] → a ≡ b
+one_net_trace words command a b p q =
+    let net = same_item 1 (sym p ∙ q) in
+    let trace = same_item 2 (sym p ∙ q) in
+    λ i. record { net = net i; trace = trace i }
+
+one_equiv : (words : List (List ℕ)) (command : List ℕ) (a b : EquivWords)
+    → words ≡ command ∷ a.net ∷ a.other ∷ [] → words ≡ command ∷ b.net ∷ b.other ∷ [] → a ≡ b
+one_equiv words command a b p q =
+    let net = same_item 1 (sym p ∙ q) in
+    let other = same_item 2 (sym p ∙ q) in
+    λ i. record { net = net i; other = other i }
+
+one_replay : (words : List (List ℕ)) (command : List ℕ) (a b : ReplayWords)
+    (rest more : List (List ℕ)) → words ≡ command ∷ a.net ∷ a.trace ∷ a.journal ∷ rest
+    → words ≡ command ∷ b.net ∷ b.trace ∷ b.journal ∷ more → a ≡ b
+one_replay words command a b rest more p q =
+    let net = same_item 1 (sym p ∙ q) in
+    let trace = same_item 2 (sym p ∙ q) in
+    let journal = same_item 3 (sym p ∙ q) in
+    λ i. record { net = net i; trace = trace i; journal = journal i }
+
+one_replay_stem : (words : List (List ℕ)) (command : List ℕ) (a b : ReplayStemWords)
+    → words ≡ command ∷ a.replay.net ∷ a.replay.trace ∷ a.replay.journal ∷ a.stem ∷ []
+    → words ≡ command ∷ b.replay.net ∷ b.replay.trace ∷ b.replay.journal ∷ b.stem ∷ [] → a ≡ b
+one_replay_stem words command a b p q =
+    let replay = one_replay words command a.replay b.replay (a.stem ∷ []) (b.stem ∷ []) p q in
+    let stem = same_item 4 (sym p ∙ q) in
+    λ i. record { replay = replay i; stem = stem i }
+
+one_bounds : (words : List (List ℕ)) (a b : BoundWords) → AsksBound words a → AsksBound words b
+    → a ≡ b
+one_bounds words a b asks again =
+    one_bound words b.net b.costs (ap (λ (w : List (List ℕ)). slice_get w 1) again.form)
+    (λ costs gives. one_costs _ costs b.costs gives (given_costs words b again)) a asks
+
+one_seed : (words : List (List ℕ)) (a b : DemoWords) → AsksDemo words a → AsksDemo words b
+    → a ≡ b
+one_seed words a b asks again =
+    one_demo words b.seed again.seed (ap (λ (w : List (List ℕ)). slice_get w 1) again.form) a asks
+
+-- the number of words tells the three apart
+one_explain : (words : List (List ℕ)) (a b : Explained) → AsksExplain words a
+    → AsksExplain words b → a ≡ b
+one_explain words (explains.Net a) (explains.Net b) asks again =
+    ap explains.Net (one_net words (codes "explain") a b asks.0 again.0)
+one_explain words (explains.Trace a) (explains.Trace b) asks again =
+    ap explains.Trace (one_net_trace words (codes "explain") a b asks.0 again.0)
+one_explain words (explains.Journal a) (explains.Journal b) asks again =
+    ap explains.Journal (one_replay words (codes "explain") a b [] [] asks.0 again.0)
+one_explain words a b asks again =
+    let long = ap (λ (w : List (List ℕ)). length w) (sym asks.0 ∙ again.0) in
+    absurd (omega (arith, long))
+
+-- ---- the requests
+pub one_request : (words : List (List ℕ)) (a b : Request) → Asks words a → Asks words b → a ≡ b
+unfolding letters command_of
+one_request words (Run a) (Run b) asks again = ap Run (one_asked words b a again asks)
+one_request words (Check a) (Check b) asks again =
+    ap Check (one_net words (codes "check") a b asks.form again.form)
+one_request words (Compile a) (Compile b) asks again =
+    ap Compile (one_net_stem words (codes "compile") a b asks.form again.form)
+one_request words (Replay a) (Replay b) asks again =
+    ap Replay (one_replay words (codes "replay") a b [] [] asks.form again.form)
+one_request words (Migrate a) (Migrate b) asks again =
+    ap Migrate (one_replay_stem words (codes "migrate") a b asks.form again.form)
+one_request words (Demo a) (Demo b) asks again = ap Demo (one_seed words a b asks again)
+one_request words (Bound a) (Bound b) asks again = ap Bound (one_bounds words a b asks again)
+one_request words (Image a) (Image b) asks again =
+    ap Image (one_net_stem words (codes "image") a b asks.form again.form)
+one_request words (Equiv a) (Equiv b) asks again =
+    ap Equiv (one_equiv words (codes "equiv") a b asks.form again.form)
+one_request words (Losses a) (Losses b) asks again =
+    ap Losses (one_replay words (codes "losses") a b [] [] asks.form again.form)
+one_request words (Wave a) (Wave b) asks again =
+    ap Wave (one_replay_stem words (codes "wave") a b asks.form again.form)
+one_request words (Draw a) (Draw b) asks again =
+    ap Draw (one_net_stem words (codes "draw") a b asks.form again.form)
+one_request words (Explain a) (Explain b) asks again =
+    ap Explain (one_explain words a b asks again)
+one_request words a b asks again =
+    let same = ap letters (same_word words 0 (command_of b) (command_of a) (begins words b again)
+    (begins words a asks)) in
+    absurd (omega (arith, same))

@@ -1,0 +1,15 @@
+mod Upto
+mod Seen
+mod Tests
+mod Numbers
+mod Looks
+mod Present
+mod Judged
+mod Covered
+mod Pushed
+mod Walked
+mod Changes
+mod Repeats
+mod Written
+mod InNetwork
+mod Named

@@ -1,0 +1,10 @@
+pub mod Coverage
+pub mod CoverageLines
+pub mod DomainUse
+pub mod Laws
+pub mod Lint
+pub mod LintLines
+pub mod Odd
+pub mod Samples
+pub mod Use
+pub mod inner

@@ -13,3 +13,6 @@ mod Repeats
 mod Written
 mod InNetwork
 mod Named
+mod ListCounts
+mod RowBoxes
+mod FlagTables

@@ -38,7 +38,8 @@ least_fits m test =
 all_made : (p : InputLint → Bool) (f : ℕ → InputLint) (ks : List ℕ)
     → ((k : ℕ) → p (f k) ≡ true) → list_all p (map f ks) ≡ true
 all_made p f [] each = refl
-all_made p f (k ∷ ks) each = and_from (p (f k)) (list_all p (map f ks)) (each k) (all_made p f ks each)
+all_made p f (k ∷ ks) each =
+    and_from (p (f k)) (list_all p (map f ks)) (each k) (all_made p f ks each)
 
 pub snapshots_of_lint : (m : Machine) → are_snapshots m (lint_of m) ≡ true
 snapshots_of_lint m =

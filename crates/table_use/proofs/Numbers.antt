@@ -8,7 +8,7 @@ use Rattle.outcome_table.proofs.Columns.{product_after, product_here}
 use Rattle.std.proofs.Math.Nat.{mul_comm}
 use Rattle.std.proofs.lemmas.Option.{get_or_from_slice_get}
 
-here : (xs : List ℕ) (i : ℕ) → i < length xs
+pub here : (xs : List ℕ) (i : ℕ) → i < length xs
     → drop i xs ≡ slice_index xs i ∷ drop (i + 1) xs
 here xs i low = drop-cons xs i 0 low
     ∙ (let e : suc i ≡ i + 1 = omega arith in ap (λ (k : ℕ). slice_index xs i ∷ drop k xs) e)
@@ -22,7 +22,7 @@ rank_here sizes codes i low below =
     ap (λ (xs : List ℕ). rank xs (drop i codes)) (here sizes i low)
     ∙ ap (rank (slice_index sizes i ∷ drop (i + 1) sizes)) (here codes i below)
 
-past : (xs : List ℕ) → drop (length xs) xs ≡ []
+pub past : (xs : List ℕ) → drop (length xs) xs ≡ []
 past [] = refl
 past (x ∷ xs) = past xs
 

@@ -98,7 +98,8 @@ pub passing_more : {X : Type 0} (f : ℕ → List ℕ) (test : X → Bool) (xs :
     → now ++ passing_from f test k xs ≡ all → new ++ passing_from f test (k + 1) xs ≡ all
 passing_more {X} f test xs k x now new all at made was =
     next now new (cond (test x) (flat_map f (k ∷ [])) []) (passing_from f test (k + 1) xs) all made
-    (ap (λ (l : List ℕ). now ++ l) (sym (split (test x) (places_from (k + 1) test (drop (k + 1) xs))))
+    (ap (λ (l : List ℕ). now ++ l)
+    (sym (split (test x) (places_from (k + 1) test (drop (k + 1) xs))))
     ∙ ap (λ (l : List X). now ++ flat_map f (places_from k test l)) (sym (drop_at_item xs k x at))
     ∙ was)
   where

@@ -2,8 +2,8 @@
 -- its snapshots that are seen.
 use Rattle.std.specs.Prelude.{ℕ, ◌+◌, Bool, cond, not, ◌&&◌, ◌||◌, ◌==◌, nat_lt, List, map, filter, count_by, length, slice_index, slice_set, Option, None}
 use Rattle.std.specs.List.{list_any}
-use Rattle.polis_base.specs.Lists.{upto, head_of}
 use Rattle.polis_base.specs.declared.limits.TheConstants.{SIFTED_SNAPSHOTS_MAX}
+use Rattle.polis_base.specs.Lists.{upto, head_of}
 use Rattle.domains.specs.AllCodes.{all_codes}
 use Rattle.domains.specs.Names.{is_same}
 use Rattle.domains.specs.Tables.{product}

@@ -1,6 +1,7 @@
 // What a network's tables are used for: what a journal used of them, and what they leave open.
 #![tactic(auto)]
 
+mod boxes;
 mod change;
 mod cover;
 mod coverage_lines;

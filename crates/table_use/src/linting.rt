@@ -7,7 +7,9 @@ ghost use Rattle.table_use.specs.LintLines.{are_snapshots};
 ghost use Rattle.transition_table.specs.Transitions.{OfMachine};
 ghost use Rattle.table_use.specs.Use.{enables};
 ghost use Rattle.table_use.specs.inner.Asking.{CanAsk, says};
+ghost use Rattle.table_use.specs.inner.Boxes.{all_flags};
 
+use crate::boxes::{Flags, all_flags, reach_of_both};
 use crate::finding::{Found, InputLint, MachineLint, RowLint};
 use crate::walk::{Question, find};
 use outcome_table::{Results, lists_from, results_of};
@@ -32,14 +34,14 @@ fn amount_of(
 }
 
 // On how many snapshots each row is enabled.
-fn reaches(alloc: Global, machine: &Machine, results: &Results) -> Result<List<u64>, NoMemory>
-    requires { AreResultsOf machine.now results.now }
+fn reaches(alloc: Global, machine: &Machine, all: &List<Flags>) -> Result<List<u64>, NoMemory>
+    requires { all.now ≡ all_flags machine.now }
     ensures { IfOk result (λ each. each
         ≡ map (λ r. amount machine.now (enables machine.now r)) (upto (length machine.now.rows))) }
 {
     let mut each = List::new(alloc);
-    for r in 0..machine.rows.len() {
-        each.push(amount_of(alloc, machine, results, Question::Enables(r as u32))?)?;
+    for r in 0..machine.row_count() {
+        each.push(reach_of_both(machine, all, r, r))?;
     }
     Ok(each)
 }
@@ -99,69 +101,67 @@ fn never_emitted(
     Ok(each)
 }
 
-// Whether row r repeats row k.
-fn repeats_row(
-    alloc: Global,
-    machine: &Machine,
-    results: &Results,
-    reach: &List<u64>,
-    r: u32,
-    k: u32,
-) -> Result<bool, NoMemory>
-    requires table { AreResultsOf machine.now results.now }
+// On how many snapshots row r is enabled, and k isn't.
+fn only_of(machine: &Machine, all: &List<Flags>, reach: &List<u64>, r: u32, k: u32) -> u64
+    requires all { all.now ≡ all_flags machine.now }
     requires reach { reach.now
         ≡ map (λ r. amount machine.now (enables machine.now r)) (upto (length machine.now.rows)) }
     requires row { r < length machine.now.rows }
     requires other { k < length machine.now.rows }
-    ensures { IfOk result (λ b. b ≡ is_repeated_by machine.now r k) }
+    ensures { result ≡ amount machine.now (enables_only machine.now r k) }
 {
-    if k == r {
-        return Ok(false);
-    }
-    let only = amount_of(alloc, machine, results, Question::Only(r, k))?;
-    if only != 0 {
-        return Ok(false);
-    }
-    let more = k < r || *reach.get(u64::from(r)) < *reach.get(u64::from(k));
-    Ok(more)
+    *reach.get(u64::from(r)) - reach_of_both(machine, all, r, k)
 }
 
-// The least row that row r repeats.
-fn repeated(
-    alloc: Global,
-    machine: &Machine,
-    results: &Results,
-    reach: &List<u64>,
-    r: u32,
-) -> Result<Option<u32>, NoMemory>
-    requires table { AreResultsOf machine.now results.now }
+// Whether row r repeats row k.
+fn repeats_row(machine: &Machine, all: &List<Flags>, reach: &List<u64>, r: u32, k: u32) -> bool
+    requires all { all.now ≡ all_flags machine.now }
     requires reach { reach.now
         ≡ map (λ r. amount machine.now (enables machine.now r)) (upto (length machine.now.rows)) }
     requires row { r < length machine.now.rows }
-    ensures { IfOk result (λ k. k ≡ repeats machine.now r) }
+    requires other { k < length machine.now.rows }
+    ensures { result ≡ is_repeated_by machine.now r k }
+{
+    if k == r {
+        return false;
+    }
+    let only = only_of(machine, all, reach, r, k);
+    if only != 0 {
+        return false;
+    }
+    k < r || *reach.get(u64::from(r)) < *reach.get(u64::from(k))
+}
+
+// The least row that row r repeats.
+fn repeated(machine: &Machine, all: &List<Flags>, reach: &List<u64>, r: u32) -> Option<u32>
+    requires all { all.now ≡ all_flags machine.now }
+    requires reach { reach.now
+        ≡ map (λ r. amount machine.now (enables machine.now r)) (upto (length machine.now.rows)) }
+    requires row { r < length machine.now.rows }
+    ensures { result ≡ repeats machine.now r }
 {
     if *reach.get(u64::from(r)) == 0 {
-        return Ok(None);
+        return None;
     }
     for k in 0..machine.row_count() {
-        if repeats_row(alloc, machine, results, reach, r, k)? {
-            return Ok(Some(k));
+        if repeats_row(machine, all, reach, r, k) {
+            return Some(k);
         }
     }
-    Ok(None)
+    None
 }
 
 // What is said of each row.
-fn row_lints(alloc: Global, machine: &Machine, results: &Results) -> Result<List<RowLint>, NoMemory>
-    requires { AreResultsOf machine.now results.now }
+fn row_lints(alloc: Global, machine: &Machine) -> Result<List<RowLint>, NoMemory>
     ensures { IfOk result (λ each. each
         ≡ map (row_lint machine.now) (upto (length machine.now.rows))) }
 {
-    let reach = reaches(alloc, machine, results)?;
+    let all = all_flags(alloc, machine)?;
+    let reach = reaches(alloc, machine, &all)?;
     let mut each = List::new(alloc);
     for r in 0..machine.row_count() {
         let never = *reach.get(u64::from(r)) == 0;
-        let repeats = repeated(alloc, machine, results, &reach, r)?;
+        let repeats = repeated(machine, &all, &reach, r);
         each.push(RowLint { never, repeats })?;
     }
     Ok(each)
@@ -177,7 +177,7 @@ fn lint_machine(alloc: Global, machine: &Machine) -> Result<MachineLint, NoMemor
     let seen = amount_of(alloc, machine, &results, Question::Seen)?;
     let fire = amount_of(alloc, machine, &results, Question::Fires)?;
     let jam = find(alloc, machine, &results, Question::Jams)?;
-    let rows = row_lints(alloc, machine, &results)?;
+    let rows = row_lints(alloc, machine)?;
     let inputs = input_lints(alloc, machine, &results)?;
     let states = ignored_states(alloc, machine, &results)?;
     let outputs = never_emitted(alloc, machine, &results)?;

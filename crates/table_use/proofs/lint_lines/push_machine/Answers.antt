@@ -36,16 +36,16 @@ returns c =
     both into c.push_never_rows.new.into c.push_repeating_rows.new.into to_never repeats with_never
     c.in_ok-push_repeating_rows.ensures in
     let with_inputs =
-    both into c.push_repeating_rows.new.into c.push_ignored_inputs.new.into to_repeats inputs with_repeats
-    c.in_ok-push_ignored_inputs.ensures in
+    both into c.push_repeating_rows.new.into c.push_ignored_inputs.new.into to_repeats inputs
+    with_repeats c.in_ok-push_ignored_inputs.ensures in
     let with_states =
-    both into c.push_ignored_inputs.new.into c.push_ignored_states.new.into to_inputs states with_inputs
-    c.in_ok-push_ignored_states.ensures in
+    both into c.push_ignored_inputs.new.into c.push_ignored_states.new.into to_inputs states
+    with_inputs c.in_ok-push_ignored_states.ensures in
     let with_outputs =
-    both into c.push_ignored_states.new.into c.push_never_outputs.new.into to_states outputs with_states
-    c.in_ok-push_never_outputs.ensures in
+    both into c.push_ignored_states.new.into c.push_never_outputs.new.into to_states outputs
+    with_states c.in_ok-push_never_outputs.ensures in
     let with_unused =
-    both into c.push_never_outputs.new.into c.push_unused_inputs.new.into to_outputs unused with_outputs
-    c.in_ok-push_unused_inputs.ensures in
+    both into c.push_never_outputs.new.into c.push_unused_inputs.new.into to_outputs unused
+    with_outputs c.in_ok-push_unused_inputs.ensures in
     both into c.push_unused_inputs.new.into c.push_large.new.into to_unused large with_unused
     c.in_ok-push_large.ensures

@@ -1,5 +1,5 @@
-use Rattle.polis_base.specs.declared.limits.TheConstants.{SIFTED_SNAPSHOTS_MAX}
 use Rattle.std.proofs.Common.{◌≡◌, ◌∙◌, true, nat_lt, ap, sym, subst}
+use Rattle.polis_base.specs.declared.limits.TheConstants.{SIFTED_SNAPSHOTS_MAX}
 use Rattle.table_use.specs.Lint.{lint_of, seen_ones}
 use Rattle.table_use.specs.LintLines.{are_snapshots}
 use Rattle.table_use.specs.declared.finding.MachineLint.{MachineLint}

@@ -1,4 +1,4 @@
-pub mod Locals
+pub mod Machines
 pub mod Numbers
 pub mod Places
 pub mod Scopes

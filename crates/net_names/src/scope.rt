@@ -16,6 +16,7 @@ use std::alloc::Global;
 /// The declarations, with the numbers of the domains and of the events.
 #[derive(Drop)]
 pub struct Scope<'a> {
+    /// The declarations.
     pub raw: &'a RawNet,
     domains: Table,
     events: Table,
@@ -44,6 +45,7 @@ fn number_events(alloc: Global, raw: &RawNet) -> Result<Table, NoMemory>
 }
 
 impl<'a> Scope<'a> {
+    /// The names of these declarations.
     pub fn new(alloc: Global, raw: &'a RawNet) -> Result<Scope<'a>, NoMemory>
         ensures { IfOk result (λ scope. scope.raw.now ≡ raw.now) }
     {

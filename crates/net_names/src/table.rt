@@ -93,6 +93,7 @@ impl Model for Table {
 }
 
 impl Table {
+    /// No name has a number.
     pub fn new(alloc: Global) -> Table
         ensures { result ≡ [] }
     {
@@ -152,6 +153,7 @@ impl Table {
         self.number_by_slot(&name)
     }
 
+    /// Whether a name has a number.
     pub fn has(&self, name: Name) -> bool
         ensures { result ≡ has self.now name }
     {

@@ -1,13 +1,15 @@
 // Values of declared domains, and numbers of snapshots.
-ghost use Rattle.std.specs.Prelude.{◌≡◌, ◌≤◌, ◌*◌, min, Some, None, length};
+ghost use Rattle.std.specs.Prelude.{◌≡◌, ◌≤◌, ◌*◌, min, Some, None, length, option_copied};
 ghost use Rattle.domains.specs.Names.{is_same};
 ghost use Rattle.net_names.specs.Places.{unless, sooner, least_place};
 ghost use Rattle.net_names.specs.Numbers.{names_of, number_in, is_name_of};
-ghost use Rattle.net_names.specs.Values.{value_in, count_of, place_of};
+ghost use Rattle.net_names.specs.Values.{value_in, is_value, no_value, count_of, place_of};
 
+use crate::places::unless;
 use net_reader::{RawShape, RawValue, Word};
 use polis_base::Name;
 
+/// Whether two names are the same.
 pub fn is_same(a: &Name, b: &Name) -> bool
     ensures { result ≡ is_same a.now b.now }
 {
@@ -90,6 +92,7 @@ pub fn times_up_to(a: u64, b: u64) -> u64
     if product < 65537 { product } else { 65537 }
 }
 
+/// Where a value stands in the text.
 pub fn place_of(value: &RawValue) -> u64
     ensures { result ≡ place_of value.now }
 {
@@ -97,4 +100,21 @@ pub fn place_of(value: &RawValue) -> u64
         RawValue::Name(word) => word.at,
         RawValue::Number(n) => n.at,
     }
+}
+
+// Whether it is a value of the domain, where there is one.
+fn is_value(shape: Option<&RawShape>, value: &RawValue) -> bool
+    ensures { result ≡ is_value (option_copied shape.entry) value.now }
+{
+    match shape {
+        Some(shape) => value_in(shape, value).is_some(),
+        None => false,
+    }
+}
+
+/// The least of what was found and of the value's place, where it is no value of the domain.
+pub fn no_value(shape: Option<&RawShape>, value: &RawValue, found: Option<u64>) -> Option<u64>
+    ensures { result ≡ sooner found (least_place (no_value (option_copied shape.entry) value.now)) }
+{
+    unless(is_value(shape, value), place_of(value), found)
 }

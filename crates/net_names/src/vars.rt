@@ -4,7 +4,7 @@ ghost use Rattle.net_names.specs.Numbers.{names_of, number_in};
 ghost use Rattle.net_names.specs.Scopes.{var_words};
 ghost use Rattle.net_names.specs.Vars.{IsVar, AreVars};
 
-use crate::local::Local;
+use crate::machine_names::MachineNames;
 use crate::names::var_words;
 use net_reader::{RawShape, Word};
 use polis_base::{List, Name, NoMemory};
@@ -26,56 +26,59 @@ pub struct Var<'a> {
 }
 
 /// What a name stands for.
-pub fn var_of<'s, 'a>(local: &Local<'s, 'a>, name: Name) -> Var<'a>
-    ensures { IsVar local.now.scope.now.raw.now local.now.machine.now name result }
+pub fn var_of<'s, 'a>(names: &MachineNames<'s, 'a>, name: Name) -> Var<'a>
+    ensures { IsVar names.now.scope.now.raw.now names.now.machine.now name result }
 {
-    let domain = local.var_domain(name);
+    let domain = names.variable_domain(name);
     Var {
-        is_known: local.is_var(name),
-        is_input: local.is_input(name),
-        is_state: local.is_state(name),
+        is_known: names.is_variable(name),
+        is_input: names.is_input(name),
+        is_state: names.is_state(name),
         has_domain: domain.is_some(),
-        shape: local.shape_at(domain),
+        shape: names.shape_at(domain),
     }
 }
 
 // What these words stand for.
 fn vars_each<'s, 'a>(
     alloc: Global,
-    local: &Local<'s, 'a>,
+    names: &MachineNames<'s, 'a>,
     words: &[Word],
 ) -> Result<List<Var<'a>>, NoMemory>
     ensures { IfOk result
-        (λ vars. AreVars local.now.scope.now.raw.now local.now.machine.now words.now vars) }
+        (λ vars. AreVars names.now.scope.now.raw.now names.now.machine.now words.now vars) }
 {
     let mut vars = List::new(alloc);
     for word in words {
-        vars.push(var_of(local, word.name))?;
+        vars.push(var_of(names, word.name))?;
     }
     Ok(vars)
 }
 
 /// What the names of a machine's variables stand for, by number.
-pub fn vars_of<'s, 'a>(alloc: Global, local: &Local<'s, 'a>) -> Result<List<Var<'a>>, NoMemory>
+pub fn vars_of<'s, 'a>(
+    alloc: Global,
+    names: &MachineNames<'s, 'a>,
+) -> Result<List<Var<'a>>, NoMemory>
     ensures { IfOk result
-        (λ vars. AreVars local.now.scope.now.raw.now local.now.machine.now
-        (var_words local.now.machine.now) vars) }
+        (λ vars. AreVars names.now.scope.now.raw.now names.now.machine.now
+        (var_words names.now.machine.now) vars) }
 {
-    let words = var_words(alloc, local.machine)?;
-    vars_each(alloc, local, words.as_slice())
+    let words = var_words(alloc, names.machine)?;
+    vars_each(alloc, names, words.as_slice())
 }
 
 /// What the variable of this name and number stands for.
 pub fn var_numbered<'v, 's, 'a>(
-    local: &Local<'s, 'a>,
+    names: &MachineNames<'s, 'a>,
     vars: &'v List<Var<'a>>,
     name: Name,
     number: u64,
 ) -> &'v Var<'a>
-    requires vars { AreVars local.now.scope.now.raw.now local.now.machine.now
-        (var_words local.now.machine.now) vars.now }
-    requires number { number_in (names_of (var_words local.now.machine.now)) name ≡ Some number }
-    ensures { IsVar local.now.scope.now.raw.now local.now.machine.now name result.now }
+    requires vars { AreVars names.now.scope.now.raw.now names.now.machine.now
+        (var_words names.now.machine.now) vars.now }
+    requires number { number_in (names_of (var_words names.now.machine.now)) name ≡ Some number }
+    ensures { IsVar names.now.scope.now.raw.now names.now.machine.now name result.now }
 {
     vars.get(number)
 }

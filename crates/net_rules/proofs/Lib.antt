@@ -4,8 +4,10 @@ pub mod AllowedCodes
 pub mod Counts
 pub mod NumbersOfNames
 pub mod MachineFacts
+pub mod NamedMachines
 pub mod ValueIn
 pub mod IsSound
+pub mod GivenNetworks
 pub mod HasReceivers
 pub mod SomeNetwork
 pub mod IsSoundMachine

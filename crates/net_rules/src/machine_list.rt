@@ -3,6 +3,7 @@ ghost use Rattle.std.specs.Prelude.{◌≡◌, ◌≤◌, length, map, IfOk};
 ghost use Rattle.polis_base.specs.declared.limits.TheConstants.{DOMAINS_MAX, EVENTS_MAX};
 ghost use Rattle.std.specs.List.{AllZip};
 ghost use Rattle.net_reader.specs.declared.raw.Word.{Word as Declared};
+ghost use Rattle.net_names.specs.declared.machine_names.MachineNames.{MachineNames as Names};
 ghost use Rattle.net_names.specs.Scopes.{event_words, var_sizes};
 ghost use Rattle.net_rules.specs.Networks.{state_of, IsRowOf, IsMachineOf};
 ghost use Rattle.net_names.specs.Numbers.{number};
@@ -11,7 +12,7 @@ ghost use Rattle.net_rules.specs.inner.Sound.{Each, IsSound, IsSoundMachine};
 use crate::row_list::{rows_of, value_number};
 use crate::sizes::{Sizes, sizes_of};
 use domains::VarTable;
-use net_names::{Local, Scope, vars_of};
+use net_names::{MachineNames, Scope, vars_of};
 use net_reader::{RawMachine, RawState, Word};
 use polis_base::{NoMemory, Numbers};
 use std::alloc::Global;
@@ -76,58 +77,36 @@ fn ports_of(alloc: Global, scope: &Scope, machine: &RawMachine) -> Result<Ports,
     Ok(Ports { inputs, outputs })
 }
 
-// The rows of a machine whose names are numbered, and whose variables have these sizes.
-fn local_rows<'s, 'a>(
-    alloc: Global,
-    local: &Local<'s, 'a>,
-    vars: &VarTable,
-) -> Result<RowList, NoMemory>
-    requires sound { IsSound local.now.scope.now.raw.now }
-    requires vars { vars.now ≡ var_sizes local.now.scope.now.raw.now local.now.machine.now }
-    requires kept { IsSoundMachine local.now.scope.now.raw.now local.now.machine.now }
-    ensures { IfOk result (λ made. AllZip
-        (IsRowOf local.now.scope.now.raw.now local.now.machine.now)
-        local.now.machine.now.rows made) }
-{
-    let known = vars_of(alloc, local)?;
-    let rows = rows_of(alloc, local, &known, vars, local.machine.rows.as_slice())?;
-    Ok(rows)
-}
-
 // The rows of a machine whose variables have these sizes.
 fn machine_rows<'s, 'a>(
     alloc: Global,
-    scope: &'s Scope<'a>,
-    machine: &'a RawMachine,
+    names: &MachineNames<'s, 'a>,
     vars: &VarTable,
 ) -> Result<RowList, NoMemory>
-    requires sound { IsSound scope.now.raw.now }
-    requires vars { vars.now ≡ var_sizes scope.now.raw.now machine.now }
-    requires kept { IsSoundMachine scope.now.raw.now machine.now }
-    ensures { IfOk result (λ made. AllZip (IsRowOf scope.now.raw.now machine.now)
-        machine.now.rows made) }
+    requires sound { IsSound names.now.scope.now.raw.now }
+    requires vars { vars.now ≡ var_sizes names.now.scope.now.raw.now names.now.machine.now }
+    requires kept { IsSoundMachine names.now.scope.now.raw.now names.now.machine.now }
+    ensures { IfOk result (λ made. AllZip
+        (IsRowOf names.now.scope.now.raw.now names.now.machine.now)
+        names.now.machine.now.rows made) }
 {
-    let local = Local::new(alloc, scope, machine)?;
-    let rows = local_rows(alloc, &local, vars)?;
+    let known = vars_of(alloc, names)?;
+    let rows = rows_of(alloc, names, &known, vars, names.machine.rows.as_slice())?;
     Ok(rows)
 }
 
 // A machine that keeps the rules.
-fn machine_of<'s, 'a>(
-    alloc: Global,
-    scope: &'s Scope<'a>,
-    machine: &'a RawMachine,
-) -> Result<Machine, NoMemory>
-    requires sound { IsSound scope.now.raw.now }
-    requires domains { length scope.now.raw.now.domains ≤ DOMAINS_MAX }
-    requires events { length scope.now.raw.now.events ≤ EVENTS_MAX }
-    requires machine { IsSoundMachine scope.now.raw.now machine.now }
-    ensures { IfOk result (λ made. IsMachineOf scope.now.raw.now machine.now made) }
+fn machine_of(alloc: Global, names: &MachineNames) -> Result<Machine, NoMemory>
+    requires sound { IsSound names.now.scope.now.raw.now }
+    requires machine { IsSoundMachine names.now.scope.now.raw.now names.now.machine.now }
+    ensures { IfOk result
+        (λ made. IsMachineOf names.now.scope.now.raw.now names.now.machine.now made) }
 {
-    let Ports { inputs, outputs } = ports_of(alloc, scope, machine)?;
-    let states = states_of(alloc, scope, machine.states.as_slice())?;
-    let Sizes { vars, results } = sizes_of(alloc, scope, machine)?;
-    let rows = machine_rows(alloc, scope, machine, &vars)?;
+    let machine = names.machine;
+    let Ports { inputs, outputs } = ports_of(alloc, names.scope, machine)?;
+    let states = states_of(alloc, names.scope, machine.states.as_slice())?;
+    let Sizes { vars, results } = sizes_of(alloc, names.scope, machine)?;
+    let rows = machine_rows(alloc, names, &vars)?;
     Ok(Machine {
         name: machine.name.name,
         priority: machine.priority.number as u8,
@@ -140,21 +119,17 @@ fn machine_of<'s, 'a>(
     })
 }
 
-// The machines of declarations that keep the rules.
-pub(crate) fn machines_of<'s, 'a>(
-    alloc: Global,
-    scope: &'s Scope<'a>,
-    machines: &'a [RawMachine],
-) -> Result<MachineList, NoMemory>
-    requires sound { IsSound scope.now.raw.now }
-    requires domains { length scope.now.raw.now.domains ≤ DOMAINS_MAX }
-    requires events { length scope.now.raw.now.events ≤ EVENTS_MAX }
-    requires machines { Each (IsSoundMachine scope.now.raw.now) machines.now }
-    ensures { IfOk result (λ made. AllZip (IsMachineOf scope.now.raw.now) machines.now made) }
+// The machines that have these names, of declarations that keep the rules.
+pub(crate) fn machines_of(alloc: Global, machines: &[MachineNames]) -> Result<MachineList, NoMemory>
+    requires sound { Each (λ (n : Names). IsSound n.scope.now.raw.now) machines.now }
+    requires machines { Each (λ (n : Names). IsSoundMachine n.scope.now.raw.now n.machine.now)
+        machines.now }
+    ensures { IfOk result (λ made. AllZip
+        (λ (n : Names). IsMachineOf n.scope.now.raw.now n.machine.now) machines.now made) }
 {
     let mut made = MachineList::new(alloc);
-    for machine in machines {
-        let next = machine_of(alloc, scope, machine)?;
+    for names in machines {
+        let next = machine_of(alloc, names)?;
         made.push(next)?;
     }
     Ok(made)

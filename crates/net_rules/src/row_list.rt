@@ -15,7 +15,7 @@ ghost use Rattle.net_rules.specs.inner.Sound.{Each, IsSound, IsSoundMachine, IsS
 
 use crate::codes::{below, value_or_zero, with_code};
 use domains::VarTable;
-use net_names::{Local, Scope, Var, cond_name, cond_word, var_numbered};
+use net_names::{MachineNames, Scope, Var, cond_name, cond_word, var_numbered};
 use net_reader::{RawAct, RawCond, RawRow, RawShape, RawSource, RawValue, Word};
 use polis_base::{List, Name, NoMemory};
 use std::alloc::Global;
@@ -73,21 +73,21 @@ fn first_code(var: &Var) -> u64
 }
 
 // The codes of the values of a variable of this name.
-fn named_codes(local: &Local, name: Name, var: &Var, values: &[RawValue]) -> u64
-    requires sound { IsSound local.now.scope.now.raw.now }
-    requires var { IsVar local.now.scope.now.raw.now local.now.machine.now name var.now }
+fn named_codes(names: &MachineNames, name: Name, var: &Var, values: &[RawValue]) -> u64
+    requires sound { IsSound names.now.scope.now.raw.now }
+    requires var { IsVar names.now.scope.now.raw.now names.now.machine.now name var.now }
     ensures { (c : ℕ) → (bit_at result c == 1)
-        ≡ list_any (λ v. c == value_code local.now.scope.now.raw.now local.now.machine.now name v)
+        ≡ list_any (λ v. c == value_code names.now.scope.now.raw.now names.now.machine.now name v)
         values.now }
 {
     value_codes(var.shape, first_code(var), values)
 }
 
 // The code of a value of a variable of this name.
-fn named_code(local: &Local, name: Name, var: &Var, value: &RawValue) -> u64
-    requires sound { IsSound local.now.scope.now.raw.now }
-    requires var { IsVar local.now.scope.now.raw.now local.now.machine.now name var.now }
-    ensures code { result ≡ value_code local.now.scope.now.raw.now local.now.machine.now name
+fn named_code(names: &MachineNames, name: Name, var: &Var, value: &RawValue) -> u64
+    requires sound { IsSound names.now.scope.now.raw.now }
+    requires var { IsVar names.now.scope.now.raw.now names.now.machine.now name var.now }
+    ensures code { result ≡ value_code names.now.scope.now.raw.now names.now.machine.now name
         value.now }
     ensures small { result ≤ 33 }
 {
@@ -95,160 +95,160 @@ fn named_code(local: &Local, name: Name, var: &Var, value: &RawValue) -> u64
 }
 
 // The codes that a condition on this variable allows.
-fn allowed(local: &Local, var: &Var, cond: &RawCond) -> u64
-    requires sound { IsSound local.now.scope.now.raw.now }
-    requires var { IsVar local.now.scope.now.raw.now local.now.machine.now (cond_word cond.now).name
+fn allowed(names: &MachineNames, var: &Var, cond: &RawCond) -> u64
+    requires sound { IsSound names.now.scope.now.raw.now }
+    requires var { IsVar names.now.scope.now.raw.now names.now.machine.now (cond_word cond.now).name
         var.now }
     ensures { (c : ℕ) → c < 64 → (bit_at result c == 1)
-        ≡ allows local.now.scope.now.raw.now local.now.machine.now cond.now c }
+        ≡ allows names.now.scope.now.raw.now names.now.machine.now cond.now c }
 {
     match cond {
         RawCond::Present(_) => !1,
         RawCond::Absent(_) => 1,
-        RawCond::Is { name, value } => with_code(0, named_code(local, name.name, var, value)),
-        RawCond::OneOf { name, values } => { named_codes(local, name.name, var, values.as_slice()) }
+        RawCond::Is { name, value } => with_code(0, named_code(names, name.name, var, value)),
+        RawCond::OneOf { name, values } => { named_codes(names, name.name, var, values.as_slice()) }
     }
 }
 
 // A condition on the variable of the machine that has this number.
 fn cond_of<'s, 'a>(
-    local: &Local<'s, 'a>,
+    names: &MachineNames<'s, 'a>,
     known: &List<Var<'a>>,
     vars: &VarTable,
     cond: &RawCond,
     var_number: u64,
 ) -> Cond
-    requires sound { IsSound local.now.scope.now.raw.now }
-    requires variables { AreVars local.now.scope.now.raw.now local.now.machine.now
-        (var_words local.now.machine.now) known.now }
-    requires vars { vars.now ≡ var_sizes local.now.scope.now.raw.now local.now.machine.now }
-    requires kept { IsSoundMachine local.now.scope.now.raw.now local.now.machine.now }
-    requires known { is_name_of (local.now.machine.now.inputs ++ state_words local.now.machine.now)
+    requires sound { IsSound names.now.scope.now.raw.now }
+    requires variables { AreVars names.now.scope.now.raw.now names.now.machine.now
+        (var_words names.now.machine.now) known.now }
+    requires vars { vars.now ≡ var_sizes names.now.scope.now.raw.now names.now.machine.now }
+    requires kept { IsSoundMachine names.now.scope.now.raw.now names.now.machine.now }
+    requires known { is_name_of (names.now.machine.now.inputs ++ state_words names.now.machine.now)
         (cond_word cond.now).name ≡ true }
     requires number { var_number
-        ≡ number (local.now.machine.now.inputs ++ state_words local.now.machine.now)
+        ≡ number (names.now.machine.now.inputs ++ state_words names.now.machine.now)
         (cond_word cond.now).name }
-    ensures { result ≡ cond_of local.now.scope.now.raw.now local.now.machine.now cond.now }
+    ensures { result ≡ cond_of names.now.scope.now.raw.now names.now.machine.now cond.now }
 {
-    let var = var_numbered(local, known, cond_word(cond).name, var_number);
+    let var = var_numbered(names, known, cond_word(cond).name, var_number);
     let size = u64::from(*vars.get(var_number));
     Cond {
         var: var_number as u32,
-        codes: below(allowed(local, var, cond), size),
+        codes: below(allowed(names, var, cond), size),
     }
 }
 
 fn conds_of<'s, 'a>(
     alloc: Global,
-    local: &Local<'s, 'a>,
+    names: &MachineNames<'s, 'a>,
     known: &List<Var<'a>>,
     vars: &VarTable,
     conds: &[RawCond],
 ) -> Result<CondList, NoMemory>
-    requires sound { IsSound local.now.scope.now.raw.now }
-    requires variables { AreVars local.now.scope.now.raw.now local.now.machine.now
-        (var_words local.now.machine.now) known.now }
-    requires vars { vars.now ≡ var_sizes local.now.scope.now.raw.now local.now.machine.now }
-    requires kept { IsSoundMachine local.now.scope.now.raw.now local.now.machine.now }
+    requires sound { IsSound names.now.scope.now.raw.now }
+    requires variables { AreVars names.now.scope.now.raw.now names.now.machine.now
+        (var_words names.now.machine.now) known.now }
+    requires vars { vars.now ≡ var_sizes names.now.scope.now.raw.now names.now.machine.now }
+    requires kept { IsSoundMachine names.now.scope.now.raw.now names.now.machine.now }
     requires known { Each
-        (λ (c : Declared). is_name_of (local.now.machine.now.inputs
-        ++ state_words local.now.machine.now) (cond_word c).name ≡ true) conds.now }
+        (λ (c : Declared). is_name_of (names.now.machine.now.inputs
+        ++ state_words names.now.machine.now) (cond_word c).name ≡ true) conds.now }
     ensures { IfOk result (λ made. made
-        ≡ map (cond_of local.now.scope.now.raw.now local.now.machine.now) conds.now) }
+        ≡ map (cond_of names.now.scope.now.raw.now names.now.machine.now) conds.now) }
 {
     let mut made = CondList::with_room(alloc, conds.len() as u64)?;
     let mut first = 0;
     for cond in conds {
-        let number = local.var_number_from(first, cond_name(cond));
+        let number = names.variable_number_from(first, cond_name(cond));
         first = number.saturating_add(1);
-        made.push(cond_of(local, known, vars, cond, number))?;
+        made.push(cond_of(names, known, vars, cond, number))?;
     }
     Ok(made)
 }
 
 // Where an action takes its code from, over the domain of what it gives a value.
-fn source_in(local: &Local, domain: &Option<Word>, source: &RawSource) -> Source
-    requires sound { IsSound local.now.scope.now.raw.now }
-    requires kept { IsSoundMachine local.now.scope.now.raw.now local.now.machine.now }
+fn source_in(names: &MachineNames, domain: &Option<Word>, source: &RawSource) -> Source
+    requires sound { IsSound names.now.scope.now.raw.now }
+    requires kept { IsSoundMachine names.now.scope.now.raw.now names.now.machine.now }
     requires small { amount_of (Some source.now) ≤ 255 }
-    ensures { result ≡ source_in local.now.scope.now.raw.now local.now.machine.now domain.now
+    ensures { result ≡ source_in names.now.scope.now.raw.now names.now.machine.now domain.now
         source.now }
 {
     match source {
         RawSource::Value(value) => {
-            Source::Code((1 + value_number(local.scope, domain, value)) as u8)
+            Source::Code((1 + value_number(names.scope, domain, value)) as u8)
         }
-        RawSource::Input(word) => Source::Input(local.var_number(word.name) as u32),
+        RawSource::Input(word) => Source::Input(names.variable_number(word.name) as u32),
         RawSource::Add { number, .. } => Source::Add(number.number as u8),
     }
 }
 
 // Where an emission of an event takes its code from.
-fn emission_source(local: &Local, event: &Word, source: &Option<RawSource>) -> Source
-    requires sound { IsSound local.now.scope.now.raw.now }
-    requires kept { IsSoundMachine local.now.scope.now.raw.now local.now.machine.now }
+fn emission_source(names: &MachineNames, event: &Word, source: &Option<RawSource>) -> Source
+    requires sound { IsSound names.now.scope.now.raw.now }
+    requires kept { IsSoundMachine names.now.scope.now.raw.now names.now.machine.now }
     requires small { amount_of source.now ≤ 255 }
     ensures { result
-        ≡ emission_source local.now.scope.now.raw.now local.now.machine.now
-        (event_domain local.now.scope.now.raw.now event.now.name) source.now }
+        ≡ emission_source names.now.scope.now.raw.now names.now.machine.now
+        (event_domain names.now.scope.now.raw.now event.now.name) source.now }
 {
     match source {
-        Some(source) => source_in(local, &local.scope.event_domain(event.name), source),
+        Some(source) => source_in(names, &names.scope.event_domain(event.name), source),
         None => Source::Code(1),
     }
 }
 
 // The number of the result of an output.
-fn output_result(local: &Local, name: Name) -> u32
-    requires sound { IsSound local.now.scope.now.raw.now }
-    requires kept { IsSoundMachine local.now.scope.now.raw.now local.now.machine.now }
-    ensures { result ≡ 1 + length local.now.machine.now.states
-        + number local.now.machine.now.outputs name }
+fn output_result(names: &MachineNames, name: Name) -> u32
+    requires sound { IsSound names.now.scope.now.raw.now }
+    requires kept { IsSoundMachine names.now.scope.now.raw.now names.now.machine.now }
+    ensures { result ≡ 1 + length names.now.machine.now.states
+        + number names.now.machine.now.outputs name }
 {
-    (1 + local.machine.states.len() + local.output_number(name)) as u32
+    (1 + names.machine.states.len() + names.output_number(name)) as u32
 }
 
 // The number of the result of a state variable.
-fn state_result(local: &Local, name: Name) -> u32
-    requires sound { IsSound local.now.scope.now.raw.now }
-    requires kept { IsSoundMachine local.now.scope.now.raw.now local.now.machine.now }
-    ensures { result ≡ 1 + number (state_words local.now.machine.now) name }
+fn state_result(names: &MachineNames, name: Name) -> u32
+    requires sound { IsSound names.now.scope.now.raw.now }
+    requires kept { IsSoundMachine names.now.scope.now.raw.now names.now.machine.now }
+    ensures { result ≡ 1 + number (state_words names.now.machine.now) name }
 {
-    (1 + local.state_number(name)) as u32
+    (1 + names.state_number(name)) as u32
 }
 
 // An action of a machine within the limits.
-fn act_of(local: &Local, act: &RawAct) -> Act
-    requires sound { IsSound local.now.scope.now.raw.now }
-    requires kept { IsSoundMachine local.now.scope.now.raw.now local.now.machine.now }
+fn act_of(names: &MachineNames, act: &RawAct) -> Act
+    requires sound { IsSound names.now.scope.now.raw.now }
+    requires kept { IsSoundMachine names.now.scope.now.raw.now names.now.machine.now }
     requires small { amount_of (source_of act.now) ≤ 255 }
-    ensures { result ≡ act_of local.now.scope.now.raw.now local.now.machine.now act.now }
+    ensures { result ≡ act_of names.now.scope.now.raw.now names.now.machine.now act.now }
 {
     match act {
         RawAct::Emit { name, value } => Act {
-            result: output_result(local, name.name),
-            source: emission_source(local, name, value),
+            result: output_result(names, name.name),
+            source: emission_source(names, name, value),
         },
         RawAct::Set { name, value } => {
-            let domain = local.state_domain(name.name);
+            let domain = names.state_domain(name.name);
             Act {
-                result: state_result(local, name.name),
-                source: source_in(local, &domain, value),
+                result: state_result(names, name.name),
+                source: source_in(names, &domain, value),
             }
         }
     }
 }
 
-fn acts_of(alloc: Global, local: &Local, acts: &[RawAct]) -> Result<ActList, NoMemory>
-    requires sound { IsSound local.now.scope.now.raw.now }
-    requires kept { IsSoundMachine local.now.scope.now.raw.now local.now.machine.now }
+fn acts_of(alloc: Global, names: &MachineNames, acts: &[RawAct]) -> Result<ActList, NoMemory>
+    requires sound { IsSound names.now.scope.now.raw.now }
+    requires kept { IsSoundMachine names.now.scope.now.raw.now names.now.machine.now }
     requires small { Each (λ (a : DeclaredAct). amount_of (source_of a) ≤ 255) acts.now }
     ensures { IfOk result (λ made. made
-        ≡ map (act_of local.now.scope.now.raw.now local.now.machine.now) acts.now) }
+        ≡ map (act_of names.now.scope.now.raw.now names.now.machine.now) acts.now) }
 {
     let mut made = ActList::with_room(alloc, acts.len() as u64)?;
     for act in acts {
-        made.push(act_of(local, act))?;
+        made.push(act_of(names, act))?;
     }
     Ok(made)
 }
@@ -256,45 +256,45 @@ fn acts_of(alloc: Global, local: &Local, acts: &[RawAct]) -> Result<ActList, NoM
 // A row that keeps the rules.
 fn row_of<'s, 'a>(
     alloc: Global,
-    local: &Local<'s, 'a>,
+    names: &MachineNames<'s, 'a>,
     known: &List<Var<'a>>,
     vars: &VarTable,
     row: &RawRow,
 ) -> Result<Row, NoMemory>
-    requires sound { IsSound local.now.scope.now.raw.now }
-    requires variables { AreVars local.now.scope.now.raw.now local.now.machine.now
-        (var_words local.now.machine.now) known.now }
-    requires vars { vars.now ≡ var_sizes local.now.scope.now.raw.now local.now.machine.now }
-    requires kept { IsSoundMachine local.now.scope.now.raw.now local.now.machine.now }
-    requires row { IsSoundRow local.now.scope.now.raw.now local.now.machine.now row.now }
+    requires sound { IsSound names.now.scope.now.raw.now }
+    requires variables { AreVars names.now.scope.now.raw.now names.now.machine.now
+        (var_words names.now.machine.now) known.now }
+    requires vars { vars.now ≡ var_sizes names.now.scope.now.raw.now names.now.machine.now }
+    requires kept { IsSoundMachine names.now.scope.now.raw.now names.now.machine.now }
+    requires row { IsSoundRow names.now.scope.now.raw.now names.now.machine.now row.now }
     ensures { IfOk result
-        (λ made. IsRowOf local.now.scope.now.raw.now local.now.machine.now row.now made) }
+        (λ made. IsRowOf names.now.scope.now.raw.now names.now.machine.now row.now made) }
 {
-    let conds = conds_of(alloc, local, known, vars, row.conds.as_slice())?;
-    let acts = acts_of(alloc, local, row.acts.as_slice())?;
+    let conds = conds_of(alloc, names, known, vars, row.conds.as_slice())?;
+    let acts = acts_of(alloc, names, row.acts.as_slice())?;
     Ok(Row { conds, acts })
 }
 
 // The rows of a machine that keeps the rules.
 pub(crate) fn rows_of<'s, 'a>(
     alloc: Global,
-    local: &Local<'s, 'a>,
+    names: &MachineNames<'s, 'a>,
     known: &List<Var<'a>>,
     vars: &VarTable,
     rows: &[RawRow],
 ) -> Result<RowList, NoMemory>
-    requires sound { IsSound local.now.scope.now.raw.now }
-    requires variables { AreVars local.now.scope.now.raw.now local.now.machine.now
-        (var_words local.now.machine.now) known.now }
-    requires vars { vars.now ≡ var_sizes local.now.scope.now.raw.now local.now.machine.now }
-    requires kept { IsSoundMachine local.now.scope.now.raw.now local.now.machine.now }
-    requires rows { Each (IsSoundRow local.now.scope.now.raw.now local.now.machine.now) rows.now }
+    requires sound { IsSound names.now.scope.now.raw.now }
+    requires variables { AreVars names.now.scope.now.raw.now names.now.machine.now
+        (var_words names.now.machine.now) known.now }
+    requires vars { vars.now ≡ var_sizes names.now.scope.now.raw.now names.now.machine.now }
+    requires kept { IsSoundMachine names.now.scope.now.raw.now names.now.machine.now }
+    requires rows { Each (IsSoundRow names.now.scope.now.raw.now names.now.machine.now) rows.now }
     ensures { IfOk result
-        (λ made. AllZip (IsRowOf local.now.scope.now.raw.now local.now.machine.now) rows.now made) }
+        (λ made. AllZip (IsRowOf names.now.scope.now.raw.now names.now.machine.now) rows.now made) }
 {
     let mut made = RowList::with_room(alloc, rows.len() as u64)?;
     for row in rows {
-        let next = row_of(alloc, local, known, vars, row)?;
+        let next = row_of(alloc, names, known, vars, row)?;
         made.push(next)?;
     }
     Ok(made)

@@ -1,19 +1,19 @@
-// Networks that the definitions give for small declarations, and laws over definitions.
-ghost use Rattle.rule_judge.specs.Samples.{lamp, belt, mix, echo};
-ghost use Rattle.net_rules.specs.NetOf.{IsNetOf};
+// Networks that the definitions give for small declarations and texts, and laws over definitions.
+ghost use Rattle.net_reader.specs.Samples.{lamp, echo_text};
+ghost use Rattle.net_rules.specs.NetOf.{IsNetOf, NetOf};
 ghost use Rattle.transition_table.specs.samples.Belt.{belt as belt_network};
 ghost use Rattle.transition_table.specs.samples.Echo.{echo as echo_network};
 ghost use Rattle.transition_table.specs.samples.Lamp.{lamp as lamp_network};
-ghost use Rattle.net_rules.specs.Given.{mix_network};
+ghost use Rattle.net_rules.specs.Given.{belt_text, mix_text, mix_network};
 ghost use Rattle.net_rules.specs.Unique.{OneNetwork, SomeNetwork};
 ghost use Rattle.net_rules.specs.Sentence.{SentencesHaveValues};
 
-/// The network that the definitions give for small declarations.
+/// The networks that the definitions give for small declarations and texts.
 pub fn worked_network()
     ensures lamp { IsNetOf lamp lamp_network }
-    ensures belt { IsNetOf belt belt_network }
-    ensures mix { IsNetOf mix mix_network }
-    ensures echo { IsNetOf echo echo_network }
+    ensures belt { NetOf belt_text belt_network }
+    ensures mix { NetOf mix_text mix_network }
+    ensures echo { NetOf echo_text echo_network }
 {}
 
 /// Laws over definitions.

@@ -1,7 +1,9 @@
 pub mod CappedProducts
+pub mod JudgedTexts
 pub mod LeastPlace
-pub mod AreLocals
+pub mod AreMachineNames
 pub mod IsBefore
+pub mod FirstBroken
 pub mod FoundInParts
 pub mod Plain
 pub mod RepeatedSorted

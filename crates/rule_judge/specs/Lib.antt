@@ -1,5 +1,5 @@
+pub mod Declarations
 pub mod Judged
-pub mod Making
 pub mod Plain
 pub mod Rules
 pub mod Samples

@@ -3,10 +3,10 @@ ghost use Rattle.std.specs.Prelude.{◌≡◌, flat_map};
 ghost use Rattle.net_reader.specs.declared.raw.RawRow.{RawRow as Row};
 ghost use Rattle.net_reader.specs.declared.raw.RawMachine.{RawMachine as Machine};
 ghost use Rattle.net_names.specs.Places.{sooner, least_place};
-ghost use Rattle.net_names.specs.Locals.{AreLocals};
-ghost use Rattle.net_names.specs.declared.local.Local.{Local as MachineNames};
+ghost use Rattle.net_names.specs.Machines.{AreMachineNames};
+ghost use Rattle.net_names.specs.declared.machine_names.MachineNames.{MachineNames as Names};
 
-use net_names::Local;
+use net_names::MachineNames;
 use net_reader::{RawAct, RawNet, RawRow};
 use polis_base::List;
 
@@ -22,77 +22,93 @@ pub(crate) trait ActRule {
     ghost places: { RawNet → RawMachine → RawRow → RawAct → List ℕ };
 
     // The least of these and of what was found.
-    fn check(&self, local: &Local, row: &RawRow, act: &RawAct, found: Option<u64>) -> Option<u64>
+    fn check(
+        &self,
+        names: &MachineNames,
+        row: &RawRow,
+        act: &RawAct,
+        found: Option<u64>,
+    ) -> Option<u64>
         ensures { result
             ≡ sooner found (least_place
-            (places local.now.scope.now.raw.now local.now.machine.now row.now act.now)) };
+            (places names.now.scope.now.raw.now names.now.machine.now row.now act.now)) };
 }
 
 // The least place in these actions of a row, and of what was found.
 fn in_acts<C: ActRule>(
     rule: &C,
-    local: &Local,
+    names: &MachineNames,
     row: &RawRow,
     acts: &[RawAct],
     found: Option<u64>,
 ) -> Option<u64>
     ensures { result
         ≡ sooner found (least_place
-        (flat_map (C.places local.now.scope.now.raw.now local.now.machine.now row.now) acts.now)) }
+        (flat_map (C.places names.now.scope.now.raw.now names.now.machine.now row.now) acts.now)) }
 {
     let mut found = found;
     for act in acts {
-        found = rule.check(local, row, act, found);
+        found = rule.check(names, row, act, found);
     }
     found
 }
 
 // The least place in the actions of a row, and of what was found.
-fn in_row<C: ActRule>(rule: &C, local: &Local, row: &RawRow, found: Option<u64>) -> Option<u64>
+fn in_row<C: ActRule>(
+    rule: &C,
+    names: &MachineNames,
+    row: &RawRow,
+    found: Option<u64>,
+) -> Option<u64>
     ensures { result
         ≡ sooner found (least_place
-        (flat_map (C.places local.now.scope.now.raw.now local.now.machine.now row.now)
+        (flat_map (C.places names.now.scope.now.raw.now names.now.machine.now row.now)
         row.now.acts)) }
 {
-    in_acts(rule, local, row, row.acts.as_slice(), found)
+    in_acts(rule, names, row, row.acts.as_slice(), found)
 }
 
 // The least place in these rows of a machine, and of what was found.
-fn in_rows<C: ActRule>(rule: &C, local: &Local, rows: &[RawRow], found: Option<u64>) -> Option<u64>
+fn in_rows<C: ActRule>(
+    rule: &C,
+    names: &MachineNames,
+    rows: &[RawRow],
+    found: Option<u64>,
+) -> Option<u64>
     ensures { result
         ≡ sooner found (least_place
         (flat_map (λ (row : Row). flat_map
-        (C.places local.now.scope.now.raw.now local.now.machine.now row) row.acts) rows.now)) }
+        (C.places names.now.scope.now.raw.now names.now.machine.now row) row.acts) rows.now)) }
 {
     let mut found = found;
     for row in rows {
-        found = in_row(rule, local, row, found);
+        found = in_row(rule, names, row, found);
     }
     found
 }
 
 // The least place in the rows of a machine, and of what was found.
-fn in_machine<C: ActRule>(rule: &C, local: &Local, found: Option<u64>) -> Option<u64>
+fn in_machine<C: ActRule>(rule: &C, names: &MachineNames, found: Option<u64>) -> Option<u64>
     ensures { result
         ≡ sooner found (least_place
         (flat_map (λ (row : Row). flat_map
-        (C.places local.now.scope.now.raw.now local.now.machine.now row) row.acts)
-        local.now.machine.now.rows)) }
+        (C.places names.now.scope.now.raw.now names.now.machine.now row) row.acts)
+        names.now.machine.now.rows)) }
 {
-    in_rows(rule, local, local.machine.rows.as_slice(), found)
+    in_rows(rule, names, names.machine.rows.as_slice(), found)
 }
 
 // The least place in the rows of these machines, and of what was found.
-fn in_machines<C: ActRule>(rule: &C, locals: &[Local], found: Option<u64>) -> Option<u64>
+fn in_machines<C: ActRule>(rule: &C, machines: &[MachineNames], found: Option<u64>) -> Option<u64>
     ensures { result
         ≡ sooner found (least_place
-        (flat_map (λ (l : MachineNames). flat_map
-        (λ (row : Row). flat_map (C.places l.scope.now.raw.now l.machine.now row) row.acts)
-        l.machine.now.rows) locals.now)) }
+        (flat_map (λ (n : Names). flat_map
+        (λ (row : Row). flat_map (C.places n.scope.now.raw.now n.machine.now row) row.acts)
+        n.machine.now.rows) machines.now)) }
 {
     let mut found = found;
-    for local in locals {
-        found = in_machine(rule, local, found);
+    for names in machines {
+        found = in_machine(rule, names, found);
     }
     found
 }
@@ -101,13 +117,13 @@ fn in_machines<C: ActRule>(rule: &C, locals: &[Local], found: Option<u64>) -> Op
 pub(crate) fn broken_by_acts<C: ActRule>(
     rule: &C,
     raw: &RawNet,
-    locals: &List<Local>,
+    machines: &List<MachineNames>,
 ) -> Option<u64>
-    requires { AreLocals raw.now raw.now.machines locals.now }
+    requires { AreMachineNames raw.now raw.now.machines machines.now }
     ensures { result
         ≡ least_place (flat_map
         (λ (m : Machine). flat_map (λ (row : Row). flat_map (C.places raw.now m row) row.acts)
         m.rows) raw.now.machines) }
 {
-    in_machines(rule, locals.as_slice(), None)
+    in_machines(rule, machines.as_slice(), None)
 }

@@ -4,13 +4,13 @@ ghost use Rattle.std.specs.List.{list_all, list_any};
 ghost use Rattle.net_reader.specs.declared.raw.RawMachine.{RawMachine as Machine};
 ghost use Rattle.net_reader.specs.declared.raw.RawRow.{RawRow as Row};
 ghost use Rattle.net_names.specs.Places.{sooner, least_place};
-ghost use Rattle.net_names.specs.Locals.{AreLocals};
+ghost use Rattle.net_names.specs.Machines.{AreMachineNames};
 ghost use Rattle.rule_judge.specs.Rules.{rule_19, rule_21, rule_22, rule_23, rule_24, rule_25, wrong_value, wrong_emission, source_of, target_domain, is_valued, shows, same_domain, wrong_sum, not_below};
 ghost use Rattle.rule_judge.specs.Plain.{is_plain};
 ghost use Rattle.rule_judge.specs.inner.Plain.{all_plain};
 
 use crate::act_rules::{ActRule, broken_by_acts};
-use net_names::{Local, is_same, no_value, sooner, unless, value_count};
+use net_names::{MachineNames, is_same, no_value, sooner, unless, value_count};
 use net_reader::{RawAct, RawCond, RawMachine, RawNet, RawRow, RawShape, RawSource, Word};
 use polis_base::{List, Name};
 
@@ -28,18 +28,18 @@ fn wrong_value(shape: Option<&RawShape>, source: &RawSource, found: Option<u64>)
 // The least of what was found and of the place of an emission whose source is missing, forbidden or
 // wrong.
 fn wrong_emission(
-    local: &Local,
+    names: &MachineNames,
     name: Word,
     domain: Option<Word>,
     source: Option<RawSource>,
     found: Option<u64>,
 ) -> Option<u64>
     ensures { result
-        ≡ sooner found (least_place (wrong_emission local.now.scope.now.raw.now name domain source)) }
+        ≡ sooner found (least_place (wrong_emission names.now.scope.now.raw.now name domain source)) }
 {
     match domain {
         Some(word) => match source {
-            Some(source) => wrong_value(local.shape_at(Some(word)), &source, found),
+            Some(source) => wrong_value(names.shape_at(Some(word)), &source, found),
             None => sooner(found, name.at),
         },
         None => match source {
@@ -56,25 +56,31 @@ impl ActRule for Values {
 
     ghost places = { wrong_act };
 
-    fn check(&self, local: &Local, _row: &RawRow, act: &RawAct, found: Option<u64>) -> Option<u64> {
+    fn check(
+        &self,
+        names: &MachineNames,
+        _row: &RawRow,
+        act: &RawAct,
+        found: Option<u64>,
+    ) -> Option<u64> {
         match act {
             RawAct::Emit { name, value } => {
-                let domain = local.scope.event_domain(name.name);
-                wrong_emission(local, *name, domain, *value, found)
+                let domain = names.scope.event_domain(name.name);
+                wrong_emission(names, *name, domain, *value, found)
             }
             RawAct::Set { name, value } => {
-                let shape = local.shape_at(local.state_domain(name.name));
+                let shape = names.shape_at(names.state_domain(name.name));
                 wrong_value(shape, value, found)
             }
         }
     }
 }
 
-pub(crate) fn rule_19(raw: &RawNet, locals: &List<Local>) -> Option<u64>
-    requires { AreLocals raw.now raw.now.machines locals.now }
+pub(crate) fn rule_19(raw: &RawNet, machines: &List<MachineNames>) -> Option<u64>
+    requires { AreMachineNames raw.now raw.now.machines machines.now }
     ensures { result ≡ least_place (rule_19 raw.now) }
 {
-    broken_by_acts(&Values, raw, locals)
+    broken_by_acts(&Values, raw, machines)
 }
 
 // Where an action takes its value from, if it gives one.
@@ -139,21 +145,21 @@ pub(crate) fn all_plain(raw: &RawNet) -> bool
 }
 
 // The name of the domain of what an action gives a value.
-fn target_domain(local: &Local, act: &RawAct) -> Option<Word>
-    ensures { result ≡ target_domain local.now.scope.now.raw.now local.now.machine.now act.now }
+fn target_domain(names: &MachineNames, act: &RawAct) -> Option<Word>
+    ensures { result ≡ target_domain names.now.scope.now.raw.now names.now.machine.now act.now }
 {
     match act {
-        RawAct::Emit { name, .. } => local.scope.event_domain(name.name),
-        RawAct::Set { name, .. } => local.state_domain(name.name),
+        RawAct::Emit { name, .. } => names.scope.event_domain(name.name),
+        RawAct::Set { name, .. } => names.state_domain(name.name),
     }
 }
 
 // Whether it is an input of the machine that has a domain.
-fn is_valued(local: &Local, name: Name) -> bool
-    ensures { result ≡ is_valued local.now.scope.now.raw.now local.now.machine.now name }
+fn is_valued(names: &MachineNames, name: Name) -> bool
+    ensures { result ≡ is_valued names.now.scope.now.raw.now names.now.machine.now name }
 {
-    if local.is_input(name) {
-        local.scope.event_domain(name).is_some()
+    if names.is_input(name) {
+        names.scope.event_domain(name).is_some()
     } else {
         false
     }
@@ -166,9 +172,15 @@ impl ActRule for Inputs {
 
     ghost places = { no_input };
 
-    fn check(&self, local: &Local, _row: &RawRow, act: &RawAct, found: Option<u64>) -> Option<u64> {
+    fn check(
+        &self,
+        names: &MachineNames,
+        _row: &RawRow,
+        act: &RawAct,
+        found: Option<u64>,
+    ) -> Option<u64> {
         match source_of(act) {
-            Some(RawSource::Input(word)) => { unless(is_valued(local, word.name), word.at, found) }
+            Some(RawSource::Input(word)) => { unless(is_valued(names, word.name), word.at, found) }
             Some(RawSource::Value(_)) => found,
             Some(RawSource::Add { .. }) => found,
             None => found,
@@ -176,11 +188,11 @@ impl ActRule for Inputs {
     }
 }
 
-pub(crate) fn rule_21(raw: &RawNet, locals: &List<Local>) -> Option<u64>
-    requires { AreLocals raw.now raw.now.machines locals.now }
+pub(crate) fn rule_21(raw: &RawNet, machines: &List<MachineNames>) -> Option<u64>
+    requires { AreMachineNames raw.now raw.now.machines machines.now }
     ensures { result ≡ least_place (rule_21 raw.now) }
 {
-    broken_by_acts(&Inputs, raw, locals)
+    broken_by_acts(&Inputs, raw, machines)
 }
 
 // Whether a condition says that the event is present.
@@ -221,7 +233,13 @@ impl ActRule for Shown {
 
     ghost places = { not_shown };
 
-    fn check(&self, _local: &Local, row: &RawRow, act: &RawAct, found: Option<u64>) -> Option<u64> {
+    fn check(
+        &self,
+        _local: &MachineNames,
+        row: &RawRow,
+        act: &RawAct,
+        found: Option<u64>,
+    ) -> Option<u64> {
         match source_of(act) {
             Some(RawSource::Input(word)) => unless(row_shows(&word.name, row), word.at, found),
             Some(RawSource::Value(_)) => found,
@@ -231,11 +249,11 @@ impl ActRule for Shown {
     }
 }
 
-pub(crate) fn rule_22(raw: &RawNet, locals: &List<Local>) -> Option<u64>
-    requires { AreLocals raw.now raw.now.machines locals.now }
+pub(crate) fn rule_22(raw: &RawNet, machines: &List<MachineNames>) -> Option<u64>
+    requires { AreMachineNames raw.now raw.now.machines machines.now }
     ensures { result ≡ least_place (rule_22 raw.now) }
 {
-    broken_by_acts(&Shown, raw, locals)
+    broken_by_acts(&Shown, raw, machines)
 }
 
 // Whether both are named, and by one name.
@@ -258,12 +276,18 @@ impl ActRule for Domains {
 
     ghost places = { other_domain };
 
-    fn check(&self, local: &Local, _row: &RawRow, act: &RawAct, found: Option<u64>) -> Option<u64> {
+    fn check(
+        &self,
+        names: &MachineNames,
+        _row: &RawRow,
+        act: &RawAct,
+        found: Option<u64>,
+    ) -> Option<u64> {
         match source_of(act) {
             Some(RawSource::Input(word)) => {
-                let domain = local.scope.event_domain(word.name);
+                let domain = names.scope.event_domain(word.name);
                 unless(
-                    same_domain(domain, target_domain(local, act)),
+                    same_domain(domain, target_domain(names, act)),
                     word.at,
                     found,
                 )
@@ -275,11 +299,11 @@ impl ActRule for Domains {
     }
 }
 
-pub(crate) fn rule_23(raw: &RawNet, locals: &List<Local>) -> Option<u64>
-    requires { AreLocals raw.now raw.now.machines locals.now }
+pub(crate) fn rule_23(raw: &RawNet, machines: &List<MachineNames>) -> Option<u64>
+    requires { AreMachineNames raw.now raw.now.machines machines.now }
     ensures { result ≡ least_place (rule_23 raw.now) }
 {
-    broken_by_acts(&Domains, raw, locals)
+    broken_by_acts(&Domains, raw, machines)
 }
 
 struct Sums;
@@ -291,7 +315,7 @@ impl ActRule for Sums {
 
     fn check(
         &self,
-        _local: &Local,
+        _local: &MachineNames,
         _row: &RawRow,
         act: &RawAct,
         found: Option<u64>,
@@ -317,11 +341,11 @@ impl ActRule for Sums {
     }
 }
 
-pub(crate) fn rule_24(raw: &RawNet, locals: &List<Local>) -> Option<u64>
-    requires { AreLocals raw.now raw.now.machines locals.now }
+pub(crate) fn rule_24(raw: &RawNet, machines: &List<MachineNames>) -> Option<u64>
+    requires { AreMachineNames raw.now raw.now.machines machines.now }
     ensures { result ≡ least_place (rule_24 raw.now) }
 {
-    broken_by_acts(&Sums, raw, locals)
+    broken_by_acts(&Sums, raw, machines)
 }
 
 struct Additions;
@@ -331,10 +355,16 @@ impl ActRule for Additions {
 
     ghost places = { too_much };
 
-    fn check(&self, local: &Local, _row: &RawRow, act: &RawAct, found: Option<u64>) -> Option<u64> {
+    fn check(
+        &self,
+        names: &MachineNames,
+        _row: &RawRow,
+        act: &RawAct,
+        found: Option<u64>,
+    ) -> Option<u64> {
         match source_of(act) {
             Some(RawSource::Add { number, .. }) => {
-                let count = value_count(local.scope, target_domain(local, act));
+                let count = value_count(names.scope, target_domain(names, act));
                 unless(u64::from(number.number) < count, number.at, found)
             }
             Some(RawSource::Value(_)) => found,
@@ -344,9 +374,9 @@ impl ActRule for Additions {
     }
 }
 
-pub(crate) fn rule_25(raw: &RawNet, locals: &List<Local>) -> Option<u64>
-    requires { AreLocals raw.now raw.now.machines locals.now }
+pub(crate) fn rule_25(raw: &RawNet, machines: &List<MachineNames>) -> Option<u64>
+    requires { AreMachineNames raw.now raw.now.machines machines.now }
     ensures { result ≡ least_place (rule_25 raw.now) }
 {
-    broken_by_acts(&Additions, raw, locals)
+    broken_by_acts(&Additions, raw, machines)
 }

@@ -5,13 +5,13 @@ ghost use Rattle.net_names.specs.Places.{sooner, least_place};
 ghost use Rattle.net_names.specs.Numbers.{names_of, number_in};
 ghost use Rattle.net_names.specs.Values.{no_value};
 ghost use Rattle.net_names.specs.Scopes.{cond_word, var_words};
-ghost use Rattle.net_names.specs.Locals.{AreLocals};
+ghost use Rattle.net_names.specs.Machines.{AreMachineNames};
 ghost use Rattle.net_names.specs.Vars.{IsVar, AreVars};
-ghost use Rattle.net_names.specs.declared.local.Local.{Local as MachineNames};
+ghost use Rattle.net_names.specs.declared.machine_names.MachineNames.{MachineNames as Names};
 ghost use Rattle.rule_judge.specs.Rules.{unknown, unsuited, wrong_values, rule_15, rule_16, rule_17};
 
 use net_names::{
-    Local, Var, cond_name, cond_word, no_value, unless, var_numbered, var_of, vars_of,
+    MachineNames, Var, cond_name, cond_word, no_value, unless, var_numbered, var_of, vars_of,
 };
 use net_reader::{RawCond, RawNet, RawRow, RawShape, RawValue};
 use polis_base::{List, NoMemory};
@@ -40,21 +40,21 @@ fn no_values(shape: Option<&RawShape>, values: &[RawValue], found: Option<u64>) 
 
 // One more condition, whose name stands for this variable.
 fn judge_cond<'s, 'a>(
-    local: &Local<'s, 'a>,
+    names: &MachineNames<'s, 'a>,
     var: &Var<'a>,
     cond: &RawCond,
     found: CondFaults,
 ) -> CondFaults
-    requires { IsVar local.now.scope.now.raw.now local.now.machine.now (cond_word cond.now).name
+    requires { IsVar names.now.scope.now.raw.now names.now.machine.now (cond_word cond.now).name
         var.now }
-    ensures unknown { result.unknown ≡ sooner found.unknown (least_place (unknown local.now.machine.now
+    ensures unknown { result.unknown ≡ sooner found.unknown (least_place (unknown names.now.machine.now
         cond.now)) }
     ensures unsuited { result.unsuited
         ≡ sooner found.unsuited
-        (least_place (unsuited local.now.scope.now.raw.now local.now.machine.now cond.now)) }
+        (least_place (unsuited names.now.scope.now.raw.now names.now.machine.now cond.now)) }
     ensures valueless { result.valueless
         ≡ sooner found.valueless
-        (least_place (wrong_values local.now.scope.now.raw.now local.now.machine.now cond.now)) }
+        (least_place (wrong_values names.now.scope.now.raw.now names.now.machine.now cond.now)) }
 {
     match cond {
         RawCond::Present(word) => CondFaults {
@@ -82,14 +82,14 @@ fn judge_cond<'s, 'a>(
 
 // Whether a condition asks for the presence or the absence of an input, as breaks no rule. It is
 // tested before the places are looked at, since most conditions are of this kind.
-fn keeps<'s, 'a>(local: &Local<'s, 'a>, var: &Var<'a>, cond: &RawCond) -> bool
-    requires { IsVar local.now.scope.now.raw.now local.now.machine.now (cond_word cond.now).name
+fn keeps<'s, 'a>(names: &MachineNames<'s, 'a>, var: &Var<'a>, cond: &RawCond) -> bool
+    requires { IsVar names.now.scope.now.raw.now names.now.machine.now (cond_word cond.now).name
         var.now }
-    ensures unknown { IsTrue result → unknown local.now.machine.now cond.now ≡ [] }
+    ensures unknown { IsTrue result → unknown names.now.machine.now cond.now ≡ [] }
     ensures unsuited { IsTrue result
-        → unsuited local.now.scope.now.raw.now local.now.machine.now cond.now ≡ [] }
+        → unsuited names.now.scope.now.raw.now names.now.machine.now cond.now ≡ [] }
     ensures valueless { IsTrue result
-        → wrong_values local.now.scope.now.raw.now local.now.machine.now cond.now ≡ [] }
+        → wrong_values names.now.scope.now.raw.now names.now.machine.now cond.now ≡ [] }
 {
     match cond {
         RawCond::Present(_) => var.is_known && var.is_input,
@@ -101,25 +101,25 @@ fn keeps<'s, 'a>(local: &Local<'s, 'a>, var: &Var<'a>, cond: &RawCond) -> bool
 
 // Whether a condition whose name has this number is of that kind.
 fn is_kept<'s, 'a>(
-    local: &Local<'s, 'a>,
+    names: &MachineNames<'s, 'a>,
     vars: &List<Var<'a>>,
     cond: &RawCond,
     number: Option<u64>,
 ) -> bool
-    requires vars { AreVars local.now.scope.now.raw.now local.now.machine.now
-        (var_words local.now.machine.now) vars.now }
+    requires vars { AreVars names.now.scope.now.raw.now names.now.machine.now
+        (var_words names.now.machine.now) vars.now }
     requires number { number
-        ≡ number_in (names_of (var_words local.now.machine.now)) (cond_word cond.now).name }
-    ensures unknown { IsTrue result → unknown local.now.machine.now cond.now ≡ [] }
+        ≡ number_in (names_of (var_words names.now.machine.now)) (cond_word cond.now).name }
+    ensures unknown { IsTrue result → unknown names.now.machine.now cond.now ≡ [] }
     ensures unsuited { IsTrue result
-        → unsuited local.now.scope.now.raw.now local.now.machine.now cond.now ≡ [] }
+        → unsuited names.now.scope.now.raw.now names.now.machine.now cond.now ≡ [] }
     ensures valueless { IsTrue result
-        → wrong_values local.now.scope.now.raw.now local.now.machine.now cond.now ≡ [] }
+        → wrong_values names.now.scope.now.raw.now names.now.machine.now cond.now ≡ [] }
 {
     match number {
         Some(number) => {
-            let var = var_numbered(local, vars, cond_word(cond).name, number);
-            keeps(local, var, cond)
+            let var = var_numbered(names, vars, cond_word(cond).name, number);
+            keeps(names, var, cond)
         }
         None => false,
     }
@@ -127,34 +127,34 @@ fn is_kept<'s, 'a>(
 
 // One more condition, whose name has this number.
 fn in_cond<'s, 'a>(
-    local: &Local<'s, 'a>,
+    names: &MachineNames<'s, 'a>,
     vars: &List<Var<'a>>,
     cond: &RawCond,
     number: Option<u64>,
     found: CondFaults,
 ) -> CondFaults
-    requires vars { AreVars local.now.scope.now.raw.now local.now.machine.now
-        (var_words local.now.machine.now) vars.now }
+    requires vars { AreVars names.now.scope.now.raw.now names.now.machine.now
+        (var_words names.now.machine.now) vars.now }
     requires number { number
-        ≡ number_in (names_of (var_words local.now.machine.now)) (cond_word cond.now).name }
-    ensures unknown { result.unknown ≡ sooner found.unknown (least_place (unknown local.now.machine.now
+        ≡ number_in (names_of (var_words names.now.machine.now)) (cond_word cond.now).name }
+    ensures unknown { result.unknown ≡ sooner found.unknown (least_place (unknown names.now.machine.now
         cond.now)) }
     ensures unsuited { result.unsuited
         ≡ sooner found.unsuited
-        (least_place (unsuited local.now.scope.now.raw.now local.now.machine.now cond.now)) }
+        (least_place (unsuited names.now.scope.now.raw.now names.now.machine.now cond.now)) }
     ensures valueless { result.valueless
         ≡ sooner found.valueless
-        (least_place (wrong_values local.now.scope.now.raw.now local.now.machine.now cond.now)) }
+        (least_place (wrong_values names.now.scope.now.raw.now names.now.machine.now cond.now)) }
 {
     let word = cond_word(cond);
     match number {
         Some(number) => {
-            let var = var_numbered(local, vars, word.name, number);
-            judge_cond(local, var, cond, found)
+            let var = var_numbered(names, vars, word.name, number);
+            judge_cond(names, var, cond, found)
         }
         None => {
-            let var = var_of(local, word.name);
-            judge_cond(local, &var, cond, found)
+            let var = var_of(names, word.name);
+            judge_cond(names, &var, cond, found)
         }
     }
 }
@@ -169,30 +169,30 @@ fn after(number: Option<u64>) -> u64 {
 
 // More conditions of a row.
 fn in_conds<'s, 'a>(
-    local: &Local<'s, 'a>,
+    names: &MachineNames<'s, 'a>,
     vars: &List<Var<'a>>,
     conds: &[RawCond],
     found: CondFaults,
 ) -> CondFaults
-    requires { AreVars local.now.scope.now.raw.now local.now.machine.now
-        (var_words local.now.machine.now) vars.now }
+    requires { AreVars names.now.scope.now.raw.now names.now.machine.now
+        (var_words names.now.machine.now) vars.now }
     ensures unknown { result.unknown ≡ sooner found.unknown
-        (least_place (flat_map (unknown local.now.machine.now) conds.now)) }
+        (least_place (flat_map (unknown names.now.machine.now) conds.now)) }
     ensures unsuited { result.unsuited
         ≡ sooner found.unsuited
-        (least_place (flat_map (unsuited local.now.scope.now.raw.now local.now.machine.now) conds.now)) }
+        (least_place (flat_map (unsuited names.now.scope.now.raw.now names.now.machine.now) conds.now)) }
     ensures valueless { result.valueless
         ≡ sooner found.valueless
-        (least_place (flat_map (wrong_values local.now.scope.now.raw.now local.now.machine.now)
+        (least_place (flat_map (wrong_values names.now.scope.now.raw.now names.now.machine.now)
         conds.now)) }
 {
     let mut found = found;
     let mut first = 0;
     for cond in conds {
-        let number = local.var_from(first, cond_name(cond));
+        let number = names.variable_from(first, cond_name(cond));
         first = after(number);
-        if !is_kept(local, vars, cond, number) {
-            found = in_cond(local, vars, cond, number, found);
+        if !is_kept(names, vars, cond, number) {
+            found = in_cond(names, vars, cond, number, found);
         }
     }
     found
@@ -200,101 +200,109 @@ fn in_conds<'s, 'a>(
 
 // The conditions of one more row.
 fn in_row<'s, 'a>(
-    local: &Local<'s, 'a>,
+    names: &MachineNames<'s, 'a>,
     vars: &List<Var<'a>>,
     row: &RawRow,
     found: CondFaults,
 ) -> CondFaults
-    requires { AreVars local.now.scope.now.raw.now local.now.machine.now
-        (var_words local.now.machine.now) vars.now }
+    requires { AreVars names.now.scope.now.raw.now names.now.machine.now
+        (var_words names.now.machine.now) vars.now }
     ensures unknown { result.unknown ≡ sooner found.unknown
-        (least_place (flat_map (unknown local.now.machine.now) row.now.conds)) }
+        (least_place (flat_map (unknown names.now.machine.now) row.now.conds)) }
     ensures unsuited { result.unsuited
         ≡ sooner found.unsuited
-        (least_place (flat_map (unsuited local.now.scope.now.raw.now local.now.machine.now)
+        (least_place (flat_map (unsuited names.now.scope.now.raw.now names.now.machine.now)
         row.now.conds)) }
     ensures valueless { result.valueless
         ≡ sooner found.valueless
-        (least_place (flat_map (wrong_values local.now.scope.now.raw.now local.now.machine.now)
+        (least_place (flat_map (wrong_values names.now.scope.now.raw.now names.now.machine.now)
         row.now.conds)) }
 {
-    in_conds(local, vars, row.conds.as_slice(), found)
+    in_conds(names, vars, row.conds.as_slice(), found)
 }
 
 // More rows of a machine.
 fn in_rows<'s, 'a>(
-    local: &Local<'s, 'a>,
+    names: &MachineNames<'s, 'a>,
     vars: &List<Var<'a>>,
     rows: &[RawRow],
     found: CondFaults,
 ) -> CondFaults
-    requires { AreVars local.now.scope.now.raw.now local.now.machine.now
-        (var_words local.now.machine.now) vars.now }
+    requires { AreVars names.now.scope.now.raw.now names.now.machine.now
+        (var_words names.now.machine.now) vars.now }
     ensures unknown { result.unknown ≡ sooner found.unknown
-        (least_place (flat_map (λ (row : Row). flat_map (unknown local.now.machine.now) row.conds)
+        (least_place (flat_map (λ (row : Row). flat_map (unknown names.now.machine.now) row.conds)
         rows.now)) }
     ensures unsuited { result.unsuited
         ≡ sooner found.unsuited
         (least_place (flat_map
-        (λ (row : Row). flat_map (unsuited local.now.scope.now.raw.now local.now.machine.now)
+        (λ (row : Row). flat_map (unsuited names.now.scope.now.raw.now names.now.machine.now)
         row.conds) rows.now)) }
     ensures valueless { result.valueless
         ≡ sooner found.valueless
         (least_place (flat_map
-        (λ (row : Row). flat_map (wrong_values local.now.scope.now.raw.now local.now.machine.now)
+        (λ (row : Row). flat_map (wrong_values names.now.scope.now.raw.now names.now.machine.now)
         row.conds) rows.now)) }
 {
     let mut found = found;
     for row in rows {
-        found = in_row(local, vars, row, found);
+        found = in_row(names, vars, row, found);
     }
     found
 }
 
 // The rows of one more machine.
-fn in_machine(alloc: Global, local: &Local, found: CondFaults) -> Result<CondFaults, NoMemory>
+fn in_machine(
+    alloc: Global,
+    names: &MachineNames,
+    found: CondFaults,
+) -> Result<CondFaults, NoMemory>
     ensures unknown { IfOk result (λ next. next.unknown
         ≡ sooner found.unknown
-        (least_place (flat_map (λ (row : Row). flat_map (unknown local.now.machine.now) row.conds)
-        local.now.machine.now.rows))) }
+        (least_place (flat_map (λ (row : Row). flat_map (unknown names.now.machine.now) row.conds)
+        names.now.machine.now.rows))) }
     ensures unsuited { IfOk result (λ next. next.unsuited
         ≡ sooner found.unsuited
         (least_place (flat_map
-        (λ (row : Row). flat_map (unsuited local.now.scope.now.raw.now local.now.machine.now)
-        row.conds) local.now.machine.now.rows))) }
+        (λ (row : Row). flat_map (unsuited names.now.scope.now.raw.now names.now.machine.now)
+        row.conds) names.now.machine.now.rows))) }
     ensures valueless { IfOk result (λ next. next.valueless
         ≡ sooner found.valueless
         (least_place (flat_map
-        (λ (row : Row). flat_map (wrong_values local.now.scope.now.raw.now local.now.machine.now)
-        row.conds) local.now.machine.now.rows))) }
+        (λ (row : Row). flat_map (wrong_values names.now.scope.now.raw.now names.now.machine.now)
+        row.conds) names.now.machine.now.rows))) }
 {
-    let vars = vars_of(alloc, local)?;
-    Ok(in_rows(local, &vars, local.machine.rows.as_slice(), found))
+    let vars = vars_of(alloc, names)?;
+    Ok(in_rows(names, &vars, names.machine.rows.as_slice(), found))
 }
 
 // The rows of more machines.
-fn in_machines(alloc: Global, locals: &[Local], found: CondFaults) -> Result<CondFaults, NoMemory>
+fn in_machines(
+    alloc: Global,
+    machines: &[MachineNames],
+    found: CondFaults,
+) -> Result<CondFaults, NoMemory>
     ensures unknown { IfOk result (λ next. next.unknown
         ≡ sooner found.unknown
         (least_place (flat_map
-        (λ (l : MachineNames). flat_map (λ (row : Row). flat_map (unknown l.machine.now) row.conds)
-        l.machine.now.rows) locals.now))) }
+        (λ (n : Names). flat_map (λ (row : Row). flat_map (unknown n.machine.now) row.conds)
+        n.machine.now.rows) machines.now))) }
     ensures unsuited { IfOk result (λ next. next.unsuited
         ≡ sooner found.unsuited
         (least_place (flat_map
-        (λ (l : MachineNames). flat_map
-        (λ (row : Row). flat_map (unsuited l.scope.now.raw.now l.machine.now) row.conds)
-        l.machine.now.rows) locals.now))) }
+        (λ (n : Names). flat_map
+        (λ (row : Row). flat_map (unsuited n.scope.now.raw.now n.machine.now) row.conds)
+        n.machine.now.rows) machines.now))) }
     ensures valueless { IfOk result (λ next. next.valueless
         ≡ sooner found.valueless
         (least_place (flat_map
-        (λ (l : MachineNames). flat_map
-        (λ (row : Row). flat_map (wrong_values l.scope.now.raw.now l.machine.now) row.conds)
-        l.machine.now.rows) locals.now))) }
+        (λ (n : Names). flat_map
+        (λ (row : Row). flat_map (wrong_values n.scope.now.raw.now n.machine.now) row.conds)
+        n.machine.now.rows) machines.now))) }
 {
     let mut found = found;
-    for local in locals {
-        found = in_machine(alloc, local, found)?;
+    for names in machines {
+        found = in_machine(alloc, names, found)?;
     }
     Ok(found)
 }
@@ -303,9 +311,9 @@ fn in_machines(alloc: Global, locals: &[Local], found: CondFaults) -> Result<Con
 pub(crate) fn cond_faults(
     alloc: Global,
     raw: &RawNet,
-    locals: &List<Local>,
+    machines: &List<MachineNames>,
 ) -> Result<CondFaults, NoMemory>
-    requires { AreLocals raw.now raw.now.machines locals.now }
+    requires { AreMachineNames raw.now raw.now.machines machines.now }
     ensures unknown { IfOk result (λ found. found.unknown ≡ least_place (rule_15 raw.now)) }
     ensures unsuited { IfOk result (λ found. found.unsuited ≡ least_place (rule_16 raw.now)) }
     ensures valueless { IfOk result (λ found. found.valueless ≡ least_place (rule_17 raw.now)) }
@@ -315,5 +323,5 @@ pub(crate) fn cond_faults(
         unsuited: None,
         valueless: None,
     };
-    in_machines(alloc, locals.as_slice(), none)
+    in_machines(alloc, machines.as_slice(), none)
 }

@@ -5,20 +5,19 @@ ghost use Rattle.rule_judge.specs.Rules.{rule_14};
 
 use crate::checks::{Check, check_all};
 use net_names::{Scope, no_value};
-use net_reader::{RawMachine, RawNet, RawState};
+use net_reader::{RawMachine, RawState};
 use polis_base::NoMemory;
-use std::alloc::Global;
 
 #[derive(Drop)]
-struct Initials<'a> {
-    scope: Scope<'a>,
+struct Initials<'s, 'a> {
+    scope: &'s Scope<'a>,
 }
 
-impl<'a> Check<RawState> for Initials<'a> {
+impl<'s, 'a> Check<RawState> for Initials<'s, 'a> {
     ghost use Rattle.net_names.specs.Values.{no_value};
     ghost use Rattle.net_names.specs.Scopes.{shape_of};
 
-    ghost places = { λ i s. no_value (shape_of i.scope.raw.now s.domain.name) s.init };
+    ghost places = { λ i s. no_value (shape_of i.scope.now.raw.now s.domain.name) s.init };
 
     fn check(&self, state: &RawState, found: Option<u64>) -> Result<Option<u64>, NoMemory> {
         Ok(no_value(self.scope.shape_of(state.domain.name), &state.init, found))
@@ -40,12 +39,11 @@ impl<C: Check<RawState>> Check<RawMachine> for InStates<C> {
     }
 }
 
-pub(crate) fn rule_14(alloc: Global, raw: &RawNet) -> Result<Option<u64>, NoMemory>
-    ensures { IfOk result (λ place. place ≡ least_place (rule_14 raw.now)) }
+pub(crate) fn rule_14(scope: &Scope) -> Result<Option<u64>, NoMemory>
+    ensures { IfOk result (λ place. place ≡ least_place (rule_14 scope.now.raw.now)) }
 {
-    let scope = Scope::new(alloc, raw)?;
     let check = InStates {
         check: Initials { scope },
     };
-    check_all(&check, &raw.machines, None)
+    check_all(&check, &scope.raw.machines, None)
 }

@@ -15,5 +15,5 @@ mod verdict;
 mod words;
 mod worked;
 
-pub use verdict::{Broken, judge};
+pub use verdict::{Broken, judge_declarations, judge_machines};
 pub use worked::worked_rules;

@@ -9,10 +9,9 @@ ghost use Rattle.rule_judge.specs.Rules.{rule_20};
 
 use crate::checks::{Check, check_all};
 use net_names::{Scope, count_at, event_codes, times_up_to, unless};
-use net_reader::{RawMachine, RawNet, RawState, Word};
+use net_reader::{RawMachine, RawState, Word};
 use polis_base::NoMemory;
 use polis_base::limits::SNAPSHOTS_MAX;
-use std::alloc::Global;
 
 // A product times the codes of each input.
 fn times_inputs(scope: &Scope, inputs: &[Word], count: u64) -> u64
@@ -49,30 +48,29 @@ fn snapshot_count(scope: &Scope, machine: &RawMachine) -> u64
 }
 
 #[derive(Drop)]
-struct Snapshots<'a> {
-    scope: Scope<'a>,
+struct Snapshots<'s, 'a> {
+    scope: &'s Scope<'a>,
 }
 
-impl<'a> Check<RawMachine> for Snapshots<'a> {
+impl<'s, 'a> Check<RawMachine> for Snapshots<'s, 'a> {
     ghost use Rattle.std.specs.Prelude.{nat_le};
     ghost use Rattle.domains.specs.Tables.{product};
     ghost use Rattle.net_names.specs.Places.{unless};
     ghost use Rattle.net_names.specs.Scopes.{var_sizes};
 
-    ghost places = { λ s m. unless (nat_le (product (var_sizes s.scope.raw.now m)) SNAPSHOTS_MAX) m.name.at };
+    ghost places = { λ s m. unless (nat_le (product (var_sizes s.scope.now.raw.now m)) SNAPSHOTS_MAX) m.name.at };
 
     fn check(&self, machine: &RawMachine, found: Option<u64>) -> Result<Option<u64>, NoMemory> {
         Ok(unless(
-            snapshot_count(&self.scope, machine) <= SNAPSHOTS_MAX,
+            snapshot_count(self.scope, machine) <= SNAPSHOTS_MAX,
             machine.name.at,
             found,
         ))
     }
 }
 
-pub(crate) fn rule_20(alloc: Global, raw: &RawNet) -> Result<Option<u64>, NoMemory>
-    ensures { IfOk result (λ place. place ≡ least_place (rule_20 raw.now)) }
+pub(crate) fn rule_20(scope: &Scope) -> Result<Option<u64>, NoMemory>
+    ensures { IfOk result (λ place. place ≡ least_place (rule_20 scope.now.raw.now)) }
 {
-    let scope = Scope::new(alloc, raw)?;
-    check_all(&Snapshots { scope }, &raw.machines, None)
+    check_all(&Snapshots { scope }, &scope.raw.machines, None)
 }

@@ -4,12 +4,12 @@ ghost use Rattle.net_names.specs.Places.{sooner, least_place};
 ghost use Rattle.net_names.specs.Numbers.{missing, repeated, no_name, is_name_of};
 ghost use Rattle.net_names.specs.Tables.{has};
 ghost use Rattle.net_names.specs.Scopes.{state_words};
-ghost use Rattle.net_names.specs.Locals.{AreLocals};
+ghost use Rattle.net_names.specs.Machines.{AreMachineNames};
 ghost use Rattle.rule_judge.specs.Rules.{rule_18, emitted, set_names, not_once};
 
 use crate::checks::{Check, check_all};
 use crate::words::not_once;
-use net_names::{Gather, Local, Table, gather_all, is_same, unless};
+use net_names::{Gather, MachineNames, Table, gather_all, is_same, unless};
 use net_reader::{RawAct, RawNet, RawRow, Word};
 use polis_base::{List, Name, NoMemory};
 use std::alloc::Global;
@@ -202,38 +202,38 @@ fn not_once_in<T: Target>(
 }
 
 // The least place at fault in few actions, each of which is compared with those before.
-fn in_few(local: &Local, acts: &[RawAct], found: Option<u64>) -> Option<u64>
+fn in_few(names: &MachineNames, acts: &[RawAct], found: Option<u64>) -> Option<u64>
     ensures { result
         ≡ sooner found
-        (least_place (not_once local.now.machine.now.outputs (flat_map emitted acts.now)
-        ++ not_once (state_words local.now.machine.now) (flat_map set_names acts.now))) }
+        (least_place (not_once names.now.machine.now.outputs (flat_map emitted acts.now)
+        ++ not_once (state_words names.now.machine.now) (flat_map set_names acts.now))) }
 {
-    let found = not_once_in(&EmittedName, local.outputs(), acts, found);
-    not_once_in(&SetName, local.states(), acts, found)
+    let found = not_once_in(&EmittedName, names.outputs(), acts, found);
+    not_once_in(&SetName, names.states(), acts, found)
 }
 
 // The least place at fault in the actions of a row, whose names are gathered.
 fn in_many(
     alloc: Global,
-    local: &Local,
+    names: &MachineNames,
     row: &RawRow,
     found: Option<u64>,
 ) -> Result<Option<u64>, NoMemory>
     ensures { IfOk result (λ place. place
         ≡ sooner found
-        (least_place (not_once local.now.machine.now.outputs (flat_map emitted row.now.acts)
-        ++ not_once (state_words local.now.machine.now) (flat_map set_names row.now.acts)))) }
+        (least_place (not_once names.now.machine.now.outputs (flat_map emitted row.now.acts)
+        ++ not_once (state_words names.now.machine.now) (flat_map set_names row.now.acts)))) }
 {
     let emits = emitted(alloc, row)?;
     let sets = set_names(alloc, row)?;
-    let found = not_once(alloc, local.outputs(), &emits, found)?;
-    not_once(alloc, local.states(), &sets, found)
+    let found = not_once(alloc, names.outputs(), &emits, found)?;
+    not_once(alloc, names.states(), &sets, found)
 }
 
 #[derive(Drop)]
 struct Targets<'l, 's, 'a> {
     alloc: Global,
-    local: &'l Local<'s, 'a>,
+    names: &'l MachineNames<'s, 'a>,
 }
 
 impl<'l, 's, 'a> Check<RawRow> for Targets<'l, 's, 'a> {
@@ -241,13 +241,13 @@ impl<'l, 's, 'a> Check<RawRow> for Targets<'l, 's, 'a> {
     ghost use Rattle.net_names.specs.Scopes.{state_words};
     ghost use Rattle.rule_judge.specs.Rules.{emitted, set_names, not_once};
 
-    ghost places = { λ t row. not_once t.local.now.machine.now.outputs (flat_map emitted row.acts) ++ not_once (state_words t.local.now.machine.now) (flat_map set_names row.acts) };
+    ghost places = { λ t row. not_once t.names.now.machine.now.outputs (flat_map emitted row.acts) ++ not_once (state_words t.names.now.machine.now) (flat_map set_names row.acts) };
 
     fn check(&self, row: &RawRow, found: Option<u64>) -> Result<Option<u64>, NoMemory> {
         if row.acts.len() <= FEW_ACTS {
-            return Ok(in_few(self.local, row.acts.as_slice(), found));
+            return Ok(in_few(self.names, row.acts.as_slice(), found));
         }
-        in_many(self.alloc, self.local, row, found)
+        in_many(self.alloc, self.names, row, found)
     }
 }
 
@@ -256,7 +256,7 @@ struct RowTargets {
     alloc: Global,
 }
 
-impl<'s, 'a> Check<Local<'s, 'a>> for RowTargets {
+impl<'s, 'a> Check<MachineNames<'s, 'a>> for RowTargets {
     ghost use Rattle.std.specs.Prelude.{flat_map, ◌++◌};
     ghost use Rattle.net_reader.specs.declared.raw.RawRow.{RawRow};
     ghost use Rattle.net_names.specs.Scopes.{state_words};
@@ -264,22 +264,26 @@ impl<'s, 'a> Check<Local<'s, 'a>> for RowTargets {
 
     ghost places = { λ _ l. flat_map (λ (row : RawRow). not_once l.machine.now.outputs (flat_map emitted row.acts) ++ not_once (state_words l.machine.now) (flat_map set_names row.acts)) l.machine.now.rows };
 
-    fn check(&self, local: &Local<'s, 'a>, found: Option<u64>) -> Result<Option<u64>, NoMemory> {
+    fn check(
+        &self,
+        names: &MachineNames<'s, 'a>,
+        found: Option<u64>,
+    ) -> Result<Option<u64>, NoMemory> {
         let check = Targets {
             alloc: self.alloc,
-            local,
+            names,
         };
-        check_all(&check, &local.machine.rows, found)
+        check_all(&check, &names.machine.rows, found)
     }
 }
 
 pub(crate) fn rule_18<'s, 'a>(
     alloc: Global,
     raw: &RawNet,
-    locals: &List<Local<'s, 'a>>,
+    machines: &List<MachineNames<'s, 'a>>,
 ) -> Result<Option<u64>, NoMemory>
-    requires { AreLocals raw.now raw.now.machines locals.now }
+    requires { AreMachineNames raw.now raw.now.machines machines.now }
     ensures { IfOk result (λ place. place ≡ least_place (rule_18 raw.now)) }
 {
-    check_all(&RowTargets { alloc }, locals, None)
+    check_all(&RowTargets { alloc }, machines, None)
 }

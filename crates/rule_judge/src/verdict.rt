@@ -1,7 +1,8 @@
 // The first rule that is broken.
 ghost use Rattle.std.specs.Prelude.{◌≡◌, IfOk};
-ghost use Rattle.net_names.specs.Locals.{AreLocals};
-ghost use Rattle.rule_judge.specs.Judged.{broken, first_broken, act_rules, machine_rules};
+ghost use Rattle.net_names.specs.Machines.{AreMachineNames};
+ghost use Rattle.rule_judge.specs.Declarations.{declaration_rules};
+ghost use Rattle.rule_judge.specs.Judged.{first_broken, act_rules, machine_rules};
 ghost use Rattle.rule_judge.specs.inner.Parts.{row_rules, cond_rules, port_rules};
 
 use crate::actions::{all_plain, rule_19, rule_21, rule_22, rule_23, rule_24, rule_25};
@@ -11,7 +12,7 @@ use crate::ports::{rule_8, rule_9, rule_11, rule_12, rule_13};
 use crate::rules::{rule_1, rule_2, rule_3, rule_4, rule_5, rule_6, rule_7, rule_10};
 use crate::snapshots::rule_20;
 use crate::targets::rule_18;
-use net_names::{Local, Scope, locals_of};
+use net_names::{MachineNames, Scope};
 use net_reader::RawNet;
 use polis_base::{List, NoMemory};
 use std::alloc::Global;
@@ -26,26 +27,26 @@ pub struct Broken {
 }
 
 // The first of these rules on actions that is broken.
-fn judge_acts(raw: &RawNet, locals: &List<Local>) -> Option<Broken>
-    requires { AreLocals raw.now raw.now.machines locals.now }
+fn judge_acts(raw: &RawNet, machines: &List<MachineNames>) -> Option<Broken>
+    requires { AreMachineNames raw.now raw.now.machines machines.now }
     ensures { result ≡ first_broken (act_rules raw.now) }
 {
     if all_plain(raw) {
         return None;
     }
-    if let Some(place) = rule_21(raw, locals) {
+    if let Some(place) = rule_21(raw, machines) {
         return Some(Broken { rule: 21, place });
     }
-    if let Some(place) = rule_22(raw, locals) {
+    if let Some(place) = rule_22(raw, machines) {
         return Some(Broken { rule: 22, place });
     }
-    if let Some(place) = rule_23(raw, locals) {
+    if let Some(place) = rule_23(raw, machines) {
         return Some(Broken { rule: 23, place });
     }
-    if let Some(place) = rule_24(raw, locals) {
+    if let Some(place) = rule_24(raw, machines) {
         return Some(Broken { rule: 24, place });
     }
-    if let Some(place) = rule_25(raw, locals) {
+    if let Some(place) = rule_25(raw, machines) {
         return Some(Broken { rule: 25, place });
     }
     None
@@ -53,32 +54,36 @@ fn judge_acts(raw: &RawNet, locals: &List<Local>) -> Option<Broken>
 
 // The first of these rules on the targets, values and number of rows, and of those on actions, that
 // is broken.
-fn judge_rows(alloc: Global, raw: &RawNet, locals: &List<Local>) -> Result<Option<Broken>, NoMemory>
-    requires { AreLocals raw.now raw.now.machines locals.now }
-    ensures { IfOk result (λ place. place ≡ first_broken (row_rules raw.now)) }
+fn judge_rows(
+    alloc: Global,
+    scope: &Scope,
+    machines: &List<MachineNames>,
+) -> Result<Option<Broken>, NoMemory>
+    requires { AreMachineNames scope.now.raw.now scope.now.raw.now.machines machines.now }
+    ensures { IfOk result (λ place. place ≡ first_broken (row_rules scope.now.raw.now)) }
 {
-    if let Some(place) = rule_18(alloc, raw, locals)? {
+    if let Some(place) = rule_18(alloc, scope.raw, machines)? {
         return Ok(Some(Broken { rule: 18, place }));
     }
-    if let Some(place) = rule_19(raw, locals) {
+    if let Some(place) = rule_19(scope.raw, machines) {
         return Ok(Some(Broken { rule: 19, place }));
     }
-    if let Some(place) = rule_20(alloc, raw)? {
+    if let Some(place) = rule_20(scope)? {
         return Ok(Some(Broken { rule: 20, place }));
     }
-    Ok(judge_acts(raw, locals))
+    Ok(judge_acts(scope.raw, machines))
 }
 
 // The first of these rules on conditions, and of those on rows, that is broken.
 fn judge_conds(
     alloc: Global,
-    raw: &RawNet,
-    locals: &List<Local>,
+    scope: &Scope,
+    machines: &List<MachineNames>,
 ) -> Result<Option<Broken>, NoMemory>
-    requires { AreLocals raw.now raw.now.machines locals.now }
-    ensures { IfOk result (λ place. place ≡ first_broken (cond_rules raw.now)) }
+    requires { AreMachineNames scope.now.raw.now scope.now.raw.now.machines machines.now }
+    ensures { IfOk result (λ place. place ≡ first_broken (cond_rules scope.now.raw.now)) }
 {
-    let conds = cond_faults(alloc, raw, locals)?;
+    let conds = cond_faults(alloc, scope.raw, machines)?;
     if let Some(place) = conds.unknown {
         return Ok(Some(Broken { rule: 15, place }));
     }
@@ -88,30 +93,26 @@ fn judge_conds(
     if let Some(place) = conds.valueless {
         return Ok(Some(Broken { rule: 17, place }));
     }
-    judge_rows(alloc, raw, locals)
+    judge_rows(alloc, scope, machines)
 }
 
-// The first of the rules on conditions and rows that is broken. The names are numbered first.
-fn judge_numbered(alloc: Global, raw: &RawNet) -> Result<Option<Broken>, NoMemory>
-    ensures { IfOk result (λ place. place ≡ first_broken (cond_rules raw.now)) }
+/// The first of the rules 14 to 25, on the values and rows of machines, that is broken, with the
+/// least place where it is.
+pub fn judge_machines(
+    alloc: Global,
+    scope: &Scope,
+    machines: &List<MachineNames>,
+) -> Result<Option<Broken>, NoMemory>
+    requires { AreMachineNames scope.now.raw.now scope.now.raw.now.machines machines.now }
+    ensures { IfOk result (λ place. place ≡ first_broken (machine_rules scope.now.raw.now)) }
 {
-    let scope = Scope::new(alloc, raw)?;
-    let locals = locals_of(alloc, &scope)?;
-    judge_conds(alloc, raw, &locals)
-}
-
-// The first of the rules on the values and rows of machines that is broken.
-fn judge_machines(alloc: Global, raw: &RawNet) -> Result<Option<Broken>, NoMemory>
-    ensures { IfOk result (λ place. place ≡ first_broken (machine_rules raw.now)) }
-{
-    if let Some(place) = rule_14(alloc, raw)? {
+    if let Some(place) = rule_14(scope)? {
         return Ok(Some(Broken { rule: 14, place }));
     }
-    judge_numbered(alloc, raw)
+    judge_conds(alloc, scope, machines)
 }
 
-// The first of the rules on the sizes, priorities and ports of machines, and of those on their values
-// and rows, that is broken.
+// The first of the rules on the sizes, priorities and ports of machines that is broken.
 fn judge_ports(alloc: Global, raw: &RawNet) -> Result<Option<Broken>, NoMemory>
     ensures { IfOk result (λ place. place ≡ first_broken (port_rules raw.now)) }
 {
@@ -130,12 +131,13 @@ fn judge_ports(alloc: Global, raw: &RawNet) -> Result<Option<Broken>, NoMemory>
     if let Some(place) = rule_13(alloc, raw)? {
         return Ok(Some(Broken { rule: 13, place }));
     }
-    judge_machines(alloc, raw)
+    Ok(None)
 }
 
-/// The first of the rules that is broken, with the least place where it is.
-pub fn judge(alloc: Global, raw: &RawNet) -> Result<Option<Broken>, NoMemory>
-    ensures { IfOk result (λ place. place ≡ broken raw.now) }
+/// The first of the rules 1 to 13, on declarations and ports, that is broken, with the least place
+/// where it is.
+pub fn judge_declarations(alloc: Global, raw: &RawNet) -> Result<Option<Broken>, NoMemory>
+    ensures { IfOk result (λ place. place ≡ first_broken (declaration_rules raw.now)) }
 {
     if let Some(place) = rule_1(raw) {
         return Ok(Some(Broken { rule: 1, place }));

@@ -4,11 +4,11 @@ use Rattle.net_names.proofs.vars.var_numbered.Goals as goal
 
 pub get-requires : goal.get-requires
 get-requires c =
-    var-below c.args.local.now.scope.now.raw.now c.args.local.now.machine.now
-    (var_words c.args.local.now.machine.now) c.args.vars.now c.args.name c.args.number
+    var-below c.args.names.now.scope.now.raw.now c.args.names.now.machine.now
+    (var_words c.args.names.now.machine.now) c.args.vars.now c.args.name c.args.number
     c.requires.vars c.requires.number
 
 pub returns : goal.returns
-returns c = var-at c.args.local.now.scope.now.raw.now c.args.local.now.machine.now
-    (var_words c.args.local.now.machine.now) c.args.vars.now c.args.name c.args.number
+returns c = var-at c.args.names.now.scope.now.raw.now c.args.names.now.machine.now
+    (var_words c.args.names.now.machine.now) c.args.vars.now c.args.name c.args.number
     c.get.result.now c.requires.vars c.requires.number c.get.ensures

@@ -5,7 +5,7 @@ use Rattle.net_names.proofs.vars.vars_each.Goals as goal
 
 pub loop-word-preserved : goal.loop-word-preserved
 loop-word-preserved c =
-    zip-step (λ (w : Word). IsVar c.args.local.now.scope.now.raw.now c.args.local.now.machine.now
+    zip-step (λ (w : Word). IsVar c.args.names.now.scope.now.raw.now c.args.names.now.machine.now
     w.name) c.args.words.now c.loop-word.word-index c.word-item.result c.loop-word.vars
     c.var_of.result c.push.new.self c.loop-word-test.true c.word-item.is c.in_ok-push.ensures.ok
     c.var_of.ensures c.loop-word.invariant

@@ -5,4 +5,4 @@ use Rattle.net_names.proofs.vars.vars_each.Given as goal
 
 abbrev pub invariant-loop-word : goal.invariant-loop-word
 invariant-loop-word l =
-    AreVars l.local.scope.now.raw.now l.local.machine.now (take l.word-index l.words) l.vars
+    AreVars l.names.scope.now.raw.now l.names.machine.now (take l.word-index l.words) l.vars

@@ -5,5 +5,5 @@ use Rattle.net_names.proofs.vars.vars_of.Goals as goal
 
 pub returns : goal.returns
 returns c = IfOk-moved c.vars_each.result
-    (AreVars c.args.local.now.scope.now.raw.now c.args.local.now.machine.now) _ _
+    (AreVars c.args.names.now.scope.now.raw.now c.args.names.now.machine.now) _ _
     (c.as_slice.ensures ∙ c.in_ok-words.ensures) c.vars_each.ensures

@@ -5,16 +5,25 @@ use Rattle.net_rules.specs.Networks.{state_of}
 use Rattle.net_rules.proofs.AllowedCodes.{declared-each}
 use Rattle.net_rules.proofs.IsSoundMachine.{small-kept}
 use Rattle.net_rules.proofs.MachineFacts.{vars-fit, results-fit, rows-fit}
+use Rattle.net_rules.proofs.NetworkFacts.{domain-count, event-count}
 use Rattle.net_rules.proofs.machine_list.machine_of.Goals as goal
+
+pub ports_of-requires : goal.ports_of-requires
+ports_of-requires c = event-count c.args.names.now.scope.now.raw.now c.requires.sound
+
+pub states_of-requires-clause-domains : goal.states_of-requires-clause-domains
+states_of-requires-clause-domains c =
+    domain-count c.args.names.now.scope.now.raw.now c.requires.sound
 
 pub sizes_of-requires-clause-declared : goal.sizes_of-requires-clause-declared
 sizes_of-requires-clause-declared c =
-    declared-each c.args.scope.now.raw.now c.args.machine.now.states c.requires.machine.domains
+    declared-each c.args.names.now.scope.now.raw.now c.args.names.now.machine.now.states
+    c.requires.machine.domains
 
 pub invariant_of-result : goal.invariant_of-result
 invariant_of-result c =
-    let raw = c.args.scope.now.raw.now in
-    let m = c.args.machine.now in
+    let raw = c.args.names.now.scope.now.raw.now in
+    let m = c.args.names.now.machine.now in
     let sound = c.requires.sound in
     let kept = c.requires.machine in
     let made = c.in_ok-rows.rows in
@@ -42,7 +51,7 @@ returns c =
       inputs = c.in_ok-inputs.ensures.inputs;
       outputs = c.in_ok-inputs.ensures.outputs;
       states = c.in_ok-states.ensures
-          ∙ ap (map (state_of c.args.scope.now.raw.now)) c.as_slice.ensures;
+          ∙ ap (map (state_of c.args.names.now.scope.now.raw.now)) c.as_slice.ensures;
       vars = c.in_ok-vars.ensures.vars;
       results = c.in_ok-vars.ensures.results;
       rows = c.in_ok-rows.ensures;

@@ -1,24 +1,18 @@
-use Rattle.std.proofs.Common.{◌∙◌, sym}
-use Rattle.net_names.specs.Scopes.{var_sizes}
-use Rattle.net_rules.proofs.IsSoundMachine.{rows-moved, kept-moved}
+use Rattle.std.proofs.Common.{sym, subst}
+use Rattle.std.specs.List.{AllZip}
+use Rattle.net_rules.specs.Networks.{IsRowOf}
+use Rattle.net_rules.specs.inner.Sound.{Each, IsSoundRow}
 use Rattle.net_rules.proofs.machine_list.machine_rows.Goals as goal
 
-pub local_rows-requires-clause-vars : goal.local_rows-requires-clause-vars
-local_rows-requires-clause-vars c =
-    let local = c.in_ok-local.ensures in
-    c.requires.vars ∙ (λ i. var_sizes (sym local.scope i).raw.now (sym local.machine i))
-
-pub local_rows-requires-clause-kept : goal.local_rows-requires-clause-kept
-local_rows-requires-clause-kept c =
-    let local = c.in_ok-local.ensures in
-    kept-moved c.args.scope.now.raw.now c.in_ok-local.local.scope.now.raw.now c.args.machine.now
-    c.in_ok-local.local.machine.now (λ i. (sym local.scope i).raw.now) (sym local.machine)
-    c.requires.kept
+pub rows_of-requires-clause-rows : goal.rows_of-requires-clause-rows
+rows_of-requires-clause-rows c =
+    let names = c.args.names.now in
+    subst (λ rows. Each (IsSoundRow names.scope.now.raw.now names.machine.now) rows)
+    (sym c.as_slice.ensures) c.requires.kept.rows
 
 pub returns : goal.returns
 returns c =
-    let local = c.in_ok-local.ensures in
-    rows-moved c.in_ok-local.local.scope.now.raw.now c.args.scope.now.raw.now
-    c.in_ok-local.local.machine.now c.args.machine.now c.in_ok-local.local.machine.now.rows
-    c.args.machine.now.rows c.in_ok-rows.rows (λ i. (local.scope i).raw.now) local.machine
-    (λ i. (local.machine i).rows) c.in_ok-rows.ensures
+    let names = c.args.names.now in
+    subst
+    (λ rows. AllZip (IsRowOf names.scope.now.raw.now names.machine.now) rows c.in_ok-rows.rows)
+    c.as_slice.ensures c.in_ok-rows.ensures

@@ -1,14 +1,16 @@
-use Rattle.std.proofs.Common.{◌∙◌, sym}
-use Rattle.net_rules.proofs.IsSound.{sound}
-use Rattle.net_rules.proofs.Sentences.{sentences-have-values}
+use Rattle.std.proofs.Common.{◌∙◌, sym, subst}
+use Rattle.rule_judge.proofs.FirstBroken.{declaration-broken}
+use Rattle.net_rules.specs.Networks.{IsNetworkOf}
 use Rattle.net_rules.proofs.OneNetwork.{one_network}
 use Rattle.net_rules.proofs.resolving.resolve.Goals as goal
 
-pub network_of-requires : goal.network_of-requires
-network_of-requires c =
-    sound c.args.raw.now (sym c.in-Ok-None.ensures ∙ c.in-Ok-None.field-0-is)
-    (sentences-have-values c.args.raw.now c.requires)
+pub returns-in-Some-clause-fault : goal.returns-in-Some-clause-fault
+returns-in-Some-clause-fault c =
+    declaration-broken c.args.raw.now c.in-Some.broken
+    (sym c.in_ok-broken.ensures ∙ c.in-Some.is)
 
-pub returns-in-Ok-clause-only : goal.returns-in-Ok-clause-only
-returns-in-Ok-clause-only c = λ other h.
-    one_network c.args.raw.now other c.in-Ok.net h.1 c.in-Ok.ensures
+pub returns-clause-only : goal.returns-clause-only
+returns-clause-only c = λ other h.
+    one_network c.args.raw.now other c.in_ok-net.net h.1
+    (subst (λ raw. IsNetworkOf raw c.in_ok-net.net) c.in_ok-scope.ensures
+    c.in_ok-net.ensures.net.1)

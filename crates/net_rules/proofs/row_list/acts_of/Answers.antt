@@ -13,7 +13,7 @@ act_of-requires-clause-small c =
 
 pub loop-act-preserved : goal.loop-act-preserved
 loop-act-preserved c =
-    map-step (act_of c.args.local.now.scope.now.raw.now c.args.local.now.machine.now)
+    map-step (act_of c.args.names.now.scope.now.raw.now c.args.names.now.machine.now)
     c.args.acts.now c.loop-act.act-index c.act-item.result c.loop-act.made c.push.new.self
     c.act_of.result c.loop-act-test.true c.act-item.is c.in_ok-push.ensures.ok c.act_of.ensures
     c.loop-act.invariant

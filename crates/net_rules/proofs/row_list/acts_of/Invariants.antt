@@ -5,4 +5,4 @@ use Rattle.net_rules.proofs.row_list.acts_of.Given as goal
 
 abbrev pub invariant-loop-act : goal.invariant-loop-act
 invariant-loop-act l =
-    l.made ≡ map (act_of l.local.scope.now.raw.now l.local.machine.now) (take l.act-index l.acts)
+    l.made ≡ map (act_of l.names.scope.now.raw.now l.names.machine.now) (take l.act-index l.acts)

@@ -12,8 +12,8 @@ use Rattle.net_rules.proofs.row_list.cond_of.Goals as goal
 
 pub get-requires : goal.get-requires
 get-requires c =
-    let raw = c.args.local.now.scope.now.raw.now in
-    let m = c.args.local.now.machine.now in
+    let raw = c.args.names.now.scope.now.raw.now in
+    let m = c.args.names.now.machine.now in
     let is = c.requires.number in
     omega (
       arith,
@@ -26,8 +26,8 @@ get-requires c =
 
 pub overflow_cast-result : goal.overflow_cast-result
 overflow_cast-result c =
-    let raw = c.args.local.now.scope.now.raw.now in
-    let m = c.args.local.now.machine.now in
+    let raw = c.args.names.now.scope.now.raw.now in
+    let m = c.args.names.now.machine.now in
     let is = c.requires.number in
     omega (
       arith,
@@ -40,8 +40,8 @@ overflow_cast-result c =
 
 pub below-requires : goal.below-requires
 below-requires c =
-    let raw = c.args.local.now.scope.now.raw.now in
-    let m = c.args.local.now.machine.now in
+    let raw = c.args.names.now.scope.now.raw.now in
+    let m = c.args.names.now.machine.now in
     omega (
       arith,
       c.from-size.ensures,
@@ -52,8 +52,8 @@ below-requires c =
 
 pub returns : goal.returns
 returns c =
-    let raw = c.args.local.now.scope.now.raw.now in
-    let m = c.args.local.now.machine.now in
+    let raw = c.args.names.now.scope.now.raw.now in
+    let m = c.args.names.now.machine.now in
     let q = c.args.cond.now in
     let is = c.requires.number in
     let few = size-few (var_sizes raw m) c.args.var_number c.get.result.now
@@ -69,13 +69,13 @@ returns c =
 
 pub var_numbered-var-requires-clause-number : goal.var_numbered-var-requires-clause-number
 var_numbered-var-requires-clause-number c =
-    let m = c.args.local.now.machine.now in
+    let m = c.args.names.now.machine.now in
     ap (λ (w : Word). number_in (names_of (m.inputs ++ state_words m)) w.name) c.cond_word.ensures
     ∙ has-it (m.inputs ++ state_words m) (cond_word c.args.cond.now).name c.requires.known
     ∙ ap Some (sym c.requires.number)
 
 pub allowed-requires-clause-var : goal.allowed-requires-clause-var
 allowed-requires-clause-var c =
-    subst (λ (w : Word). IsVar c.args.local.now.scope.now.raw.now c.args.local.now.machine.now
+    subst (λ (w : Word). IsVar c.args.names.now.scope.now.raw.now c.args.names.now.machine.now
     w.name c.var_numbered-var.result.now) c.cond_word.ensures
     c.var_numbered-var.ensures

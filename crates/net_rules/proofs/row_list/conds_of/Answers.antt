@@ -7,12 +7,12 @@ use Rattle.net_rules.proofs.row_list.conds_of.Goals as goal
 
 pub loop-cond-preserved : goal.loop-cond-preserved
 loop-cond-preserved c =
-    map-step (cond_of c.args.local.now.scope.now.raw.now c.args.local.now.machine.now)
+    map-step (cond_of c.args.names.now.scope.now.raw.now c.args.names.now.machine.now)
     c.args.conds.now c.loop-cond.cond-index c.cond-item.result c.loop-cond.made c.push.new.self
     c.cond_of.result c.loop-cond-test.true c.cond-item.is c.in_ok-push.ensures.ok c.cond_of.ensures
     c.loop-cond.invariant
 
 pub cond_of-requires-clause-number : goal.cond_of-requires-clause-number
 cond_of-requires-clause-number c =
-    let m = c.args.local.now.machine.now in
-    c.var_number_from-number.ensures ∙ ap (number (m.inputs ++ state_words m)) c.cond_name.ensures
+    let m = c.args.names.now.machine.now in
+    c.variable_number_from-number.ensures ∙ ap (number (m.inputs ++ state_words m)) c.cond_name.ensures

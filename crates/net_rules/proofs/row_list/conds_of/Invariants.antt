@@ -5,4 +5,4 @@ use Rattle.net_rules.proofs.row_list.conds_of.Given as goal
 
 abbrev pub invariant-loop-cond : goal.invariant-loop-cond
 invariant-loop-cond l =
-    l.made ≡ map (cond_of l.local.scope.now.raw.now l.local.machine.now) (take l.cond-index l.conds)
+    l.made ≡ map (cond_of l.names.scope.now.raw.now l.names.machine.now) (take l.cond-index l.conds)

@@ -13,7 +13,7 @@ use Rattle.net_rules.proofs.row_list.row_of.Goals as goal
 
 pub conds_of-requires-clause-known : goal.conds_of-requires-clause-known
 conds_of-requires-clause-known c = λ i x at.
-    let m = c.args.local.now.machine.now in
+    let m = c.args.names.now.machine.now in
     holds (is_name_of (m.inputs ++ state_words m) (cond_word x).name) (cond_word x).at
     (each-nil (λ (q : RawCond). unless (is_name_of (m.inputs ++ state_words m) (cond_word q).name)
     (cond_word q).at) c.args.row.now.conds c.requires.row.known i x
@@ -21,8 +21,8 @@ conds_of-requires-clause-known c = λ i x at.
 
 pub invariant_of-result : goal.invariant_of-result
 invariant_of-result c =
-    let raw = c.args.local.now.scope.now.raw.now in
-    let m = c.args.local.now.machine.now in
+    let raw = c.args.names.now.scope.now.raw.now in
+    let m = c.args.names.now.machine.now in
     record {
       actions = ap are_actions (c.in_ok-acts.ensures
           ∙ ap (map (act_of raw m)) c.as_slice-2.ensures)
@@ -31,7 +31,7 @@ invariant_of-result c =
 
 pub acts_of-requires-clause-small : goal.acts_of-requires-clause-small
 acts_of-requires-clause-small c = λ i x at.
-    let raw = c.args.local.now.scope.now.raw.now in
-    let m = c.args.local.now.machine.now in
+    let raw = c.args.names.now.scope.now.raw.now in
+    let m = c.args.names.now.machine.now in
     amount-small raw c.requires.sound m c.args.row.now x c.requires.kept
     (c.requires.row.acts i x (ap (λ l. slice_get l i) (sym c.as_slice-2.ensures) ∙ at))

@@ -6,13 +6,13 @@ use Rattle.net_rules.proofs.row_list.rows_of.Goals as goal
 
 pub row_of-requires-clause-row : goal.row_of-requires-clause-row
 row_of-requires-clause-row c =
-    each-item (IsSoundRow c.args.local.now.scope.now.raw.now c.args.local.now.machine.now)
+    each-item (IsSoundRow c.args.names.now.scope.now.raw.now c.args.names.now.machine.now)
     c.args.rows.now c.loop-row.row-index c.row-item.result c.loop-row-test.true c.row-item.is
     c.requires.rows
 
 pub loop-row-preserved : goal.loop-row-preserved
 loop-row-preserved c =
-    zip-step (IsRowOf c.args.local.now.scope.now.raw.now c.args.local.now.machine.now)
+    zip-step (IsRowOf c.args.names.now.scope.now.raw.now c.args.names.now.machine.now)
     c.args.rows.now c.loop-row.row-index c.row-item.result c.loop-row.made c.in_ok-next.next
     c.push.new.self c.loop-row-test.true c.row-item.is c.in_ok-push.ensures.ok c.in_ok-next.ensures
     c.loop-row.invariant

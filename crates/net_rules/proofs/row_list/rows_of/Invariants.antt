@@ -6,4 +6,4 @@ use Rattle.net_rules.proofs.row_list.rows_of.Given as goal
 
 abbrev pub invariant-loop-row : goal.invariant-loop-row
 invariant-loop-row l =
-    AllZip (IsRowOf l.local.scope.now.raw.now l.local.machine.now) (take l.row-index l.rows) l.made
+    AllZip (IsRowOf l.names.scope.now.raw.now l.names.machine.now) (take l.row-index l.rows) l.made

@@ -8,11 +8,11 @@ use Rattle.net_rules.proofs.row_list.source_in.Goals as goal
 
 pub overflow_cast-result-in-Input : goal.overflow_cast-result-in-Input
 overflow_cast-result-in-Input c =
-    let raw = c.args.local.now.scope.now.raw.now in
-    let m = c.args.local.now.machine.now in
+    let raw = c.args.names.now.scope.now.raw.now in
+    let m = c.args.names.now.machine.now in
     omega (
       arith,
-      c.var_number.ensures,
+      c.variable_number.ensures,
       number-most (m.inputs ++ state_words m) c.in-Input.word.name,
       length-append m.inputs (state_words m),
       length-map m.states (λ (s : RawState). s.name),

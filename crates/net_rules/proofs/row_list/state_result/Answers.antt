@@ -5,8 +5,8 @@ use Rattle.net_rules.proofs.row_list.state_result.Goals as goal
 
 pub overflow_add-result : goal.overflow_add-result
 overflow_add-result c =
-    let raw = c.args.local.now.scope.now.raw.now in
-    let m = c.args.local.now.machine.now in
+    let raw = c.args.names.now.scope.now.raw.now in
+    let m = c.args.names.now.machine.now in
     omega (
       arith,
       c.state_number.ensures,
@@ -16,8 +16,8 @@ overflow_add-result c =
 
 pub overflow_cast-result : goal.overflow_cast-result
 overflow_cast-result c =
-    let raw = c.args.local.now.scope.now.raw.now in
-    let m = c.args.local.now.machine.now in
+    let raw = c.args.names.now.scope.now.raw.now in
+    let m = c.args.names.now.machine.now in
     omega (
       arith,
       c.state_number.ensures,

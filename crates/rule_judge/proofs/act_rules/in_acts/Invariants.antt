@@ -6,7 +6,7 @@ use Rattle.rule_judge.proofs.act_rules.in_acts.Given as goal
 abbrev pub invariant-loop-act : goal.invariant-loop-act
 invariant-loop-act g l =
     sooner l.found (least_place
-    (flat_map (g.C.ActRule.places l.local.scope.now.raw.now l.local.machine.now l.row)
+    (flat_map (g.C.ActRule.places l.names.scope.now.raw.now l.names.machine.now l.row)
     (drop l.act-index l.acts))) ≡ sooner l.fn.found
-    (least_place (flat_map (g.C.ActRule.places l.local.scope.now.raw.now l.local.machine.now l.row)
+    (least_place (flat_map (g.C.ActRule.places l.names.scope.now.raw.now l.names.machine.now l.row)
     l.fn.acts))

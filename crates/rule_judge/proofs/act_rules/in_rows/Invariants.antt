@@ -8,8 +8,8 @@ abbrev pub invariant-loop-row : goal.invariant-loop-row
 invariant-loop-row g l =
     sooner l.found (least_place
     (flat_map (λ (row : RawRow). flat_map
-    (g.C.ActRule.places l.local.scope.now.raw.now l.local.machine.now row) row.acts)
+    (g.C.ActRule.places l.names.scope.now.raw.now l.names.machine.now row) row.acts)
     (drop l.row-index l.rows))) ≡ sooner l.fn.found
     (least_place (flat_map
     (λ (row : RawRow). flat_map
-    (g.C.ActRule.places l.local.scope.now.raw.now l.local.machine.now row) row.acts) l.fn.rows))
+    (g.C.ActRule.places l.names.scope.now.raw.now l.names.machine.now row) row.acts) l.fn.rows))

@@ -8,8 +8,8 @@ use Rattle.rule_judge.proofs.conds.in_conds.Goals.{then-not-is_kept, else-not-is
 
 pub loop-cond-preserved : goal.loop-cond-preserved
 loop-cond-preserved c =
-    let net = c.args.local.now.scope.now.raw.now in
-    let m = c.args.local.now.machine.now in
+    let net = c.args.names.now.scope.now.raw.now in
+    let m = c.args.names.now.machine.now in
     let cond = c.cond-item.result in
     let found = c.loop-cond.found in
     let next = c.if-not-is_kept.found in

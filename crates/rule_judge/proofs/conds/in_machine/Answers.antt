@@ -6,8 +6,8 @@ use Rattle.rule_judge.proofs.conds.in_machine.Goals as goal
 
 pub returns-clause-unsuited : goal.returns-clause-unsuited
 returns-clause-unsuited c =
-    let net = c.args.local.now.scope.now.raw.now in
-    let m = c.args.local.now.machine.now in
+    let net = c.args.names.now.scope.now.raw.now in
+    let m = c.args.names.now.machine.now in
     c.in_rows.ensures.unsuited
     ∙ (λ i. sooner c.args.found.unsuited
     (least_place (flat_map (λ (row : RawRow). flat_map (unsuited net m) row.conds)
@@ -15,8 +15,8 @@ returns-clause-unsuited c =
 
 pub returns-clause-valueless : goal.returns-clause-valueless
 returns-clause-valueless c =
-    let net = c.args.local.now.scope.now.raw.now in
-    let m = c.args.local.now.machine.now in
+    let net = c.args.names.now.scope.now.raw.now in
+    let m = c.args.names.now.machine.now in
     c.in_rows.ensures.valueless
     ∙ (λ i. sooner c.args.found.valueless
     (least_place (flat_map (λ (row : RawRow). flat_map (wrong_values net m) row.conds)

@@ -8,8 +8,8 @@ use Rattle.rule_judge.proofs.conds.judge_cond.Goals as goal
 
 pub returns-in-OneOf-clause-valueless : goal.returns-in-OneOf-clause-valueless
 returns-in-OneOf-clause-valueless c =
-    let net = c.args.local.now.scope.now.raw.now in
-    let m = c.args.local.now.machine.now in
+    let net = c.args.names.now.scope.now.raw.now in
+    let m = c.args.names.now.machine.now in
     let shape = c.requires.shape
     ∙ ap (λ (q : RawCond). shape_at net (var_domain net m (cond_word q).name)) c.in-OneOf.is in
     c.no_values.ensures

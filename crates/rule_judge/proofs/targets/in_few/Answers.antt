@@ -8,7 +8,7 @@ use Rattle.rule_judge.proofs.targets.in_few.Goals as goal
 
 pub returns : goal.returns
 returns c =
-    let m = c.args.local.now.machine.now in
+    let m = c.args.names.now.machine.now in
     let emits = flat_map emitted c.args.acts.now in
     let sets = flat_map set_names c.args.acts.now in
     let first : c.not_once_in-found.result ≡ sooner c.args.found (least_place (not_once m.outputs emits)) =

@@ -9,7 +9,7 @@ use Rattle.rule_judge.proofs.targets.in_many.Goals as goal
 
 pub returns : goal.returns
 returns c =
-    let m = c.args.local.now.machine.now in
+    let m = c.args.names.now.machine.now in
     let acts = c.args.row.now.acts in
     let emits = not_once m.outputs (flat_map emitted acts) in
     let sets = not_once (state_words m) (flat_map set_names acts) in

@@ -2,7 +2,7 @@ use Rattle.std.proofs.Common.{◌∙◌, ap, sym}
 use Rattle.std.specs.Option.{option_map}
 use Rattle.net_reader.specs.declared.raw.RawState.{RawState}
 use Rattle.net_names.proofs.NumberIn.{number-within, found-at, found-nowhere}
-use Rattle.net_names.proofs.local.Local.state_domain.Goals as goal
+use Rattle.net_names.proofs.machine_names.MachineNames.state_domain.Goals as goal
 
 pub get-requires : goal.get-requires
 get-requires c =

@@ -1,53 +1,34 @@
 // What the names of a machine stand for.
 ghost use Rattle.std.specs.Prelude.{◌≡◌, ◌∷◌, ◌++◌, ℕ, List, option_copied, IfOk};
-ghost use Rattle.net_names.specs.Places.{sooner, least_place};
 ghost use Rattle.net_names.specs.Numbers.{names_of, number_in, is_name_of, number};
 ghost use Rattle.net_names.specs.Tables.{number_at, has};
-ghost use Rattle.net_names.specs.Values.{no_value, is_value};
 ghost use Rattle.net_names.specs.Scopes.{state_words, state_domain, var_domain, event_domain, shape_at, shape_of};
 
 use crate::names::{state_words, var_words};
-use crate::places::unless;
 use crate::scope::Scope;
 use crate::table::{Table, number_all};
-use crate::values::{place_of, value_in};
-use net_reader::{RawMachine, RawShape, RawValue, Word};
+use net_reader::{RawMachine, RawShape, Word};
 use polis_base::{Name, NoMemory};
 use std::alloc::Global;
 
-// Whether it is a value of the domain, where there is one.
-fn is_value(shape: Option<&RawShape>, value: &RawValue) -> bool
-    ensures { result ≡ is_value (option_copied shape.entry) value.now }
-{
-    match shape {
-        Some(shape) => value_in(shape, value).is_some(),
-        None => false,
-    }
-}
-
-/// The least of what was found and of the value's place, where it is no value of the domain.
-pub fn no_value(shape: Option<&RawShape>, value: &RawValue, found: Option<u64>) -> Option<u64>
-    ensures { result ≡ sooner found (least_place (no_value (option_copied shape.entry) value.now)) }
-{
-    unless(is_value(shape, value), place_of(value), found)
-}
-
 /// A machine of the declarations, with the numbers of its names.
 #[derive(Drop)]
-pub struct Local<'s, 'a> {
+pub struct MachineNames<'s, 'a> {
+    /// The names of the declarations that it is one of.
     pub scope: &'s Scope<'a>,
+    /// The machine.
     pub machine: &'a RawMachine,
     inputs: Table,
     outputs: Table,
     states: Table,
-    vars: Table,
+    variables: Table,
     pub ghost input_names: { has inputs ≡ is_name_of machine.now.inputs },
     pub ghost output_names: { has outputs ≡ is_name_of machine.now.outputs },
     pub ghost state_names: { has states ≡ is_name_of (state_words machine.now) },
     pub ghost output_numbers: { (name : List ℕ) → number_at outputs name ≡ number_in (names_of machine.now.outputs) name },
     pub ghost state_numbers: { (name : List ℕ) → number_at states name ≡ number_in (names_of (state_words machine.now)) name },
-    pub ghost var_names: { has vars ≡ is_name_of (machine.now.inputs ++ state_words machine.now) },
-    pub ghost var_numbers: { (name : List ℕ) → number_at vars name ≡ number_in (names_of (machine.now.inputs ++ state_words machine.now)) name },
+    pub ghost variable_names: { has variables ≡ is_name_of (machine.now.inputs ++ state_words machine.now) },
+    pub ghost variable_numbers: { (name : List ℕ) → number_at variables name ≡ number_in (names_of (machine.now.inputs ++ state_words machine.now)) name },
 }
 
 // The number of each state variable by its name.
@@ -62,7 +43,7 @@ fn number_states(alloc: Global, machine: &RawMachine) -> Result<Table, NoMemory>
 }
 
 // The number of each variable by its name: the inputs, then the state variables.
-fn number_vars(alloc: Global, machine: &RawMachine) -> Result<Table, NoMemory>
+fn number_variables(alloc: Global, machine: &RawMachine) -> Result<Table, NoMemory>
     ensures numbers { IfOk result (λ table. (name : List ℕ)
         → number_at table name
         ≡ number_in (names_of (machine.now.inputs ++ state_words machine.now)) name) }
@@ -74,35 +55,38 @@ fn number_vars(alloc: Global, machine: &RawMachine) -> Result<Table, NoMemory>
     Ok(table)
 }
 
-impl<'s, 'a> Local<'s, 'a> {
+impl<'s, 'a> MachineNames<'s, 'a> {
+    /// The names of a machine of these declarations.
     pub fn new(
         alloc: Global,
         scope: &'s Scope<'a>,
         machine: &'a RawMachine,
-    ) -> Result<Local<'s, 'a>, NoMemory>
-        ensures scope { IfOk result (λ local. local.scope.now ≡ scope.now) }
-        ensures machine { IfOk result (λ local. local.machine.now ≡ machine.now) }
+    ) -> Result<MachineNames<'s, 'a>, NoMemory>
+        ensures scope { IfOk result (λ names. names.scope.now ≡ scope.now) }
+        ensures machine { IfOk result (λ names. names.machine.now ≡ machine.now) }
     {
         let inputs = number_all(alloc, &machine.inputs)?;
         let outputs = number_all(alloc, &machine.outputs)?;
         let states = number_states(alloc, machine)?;
-        let vars = number_vars(alloc, machine)?;
-        Ok(Local {
+        let variables = number_variables(alloc, machine)?;
+        Ok(MachineNames {
             scope,
             machine,
             inputs,
             outputs,
             states,
-            vars,
+            variables,
         })
     }
 
+    /// Whether the name is that of an input.
     pub fn is_input(&self, name: Name) -> bool
         ensures { result ≡ is_name_of self.now.machine.now.inputs name }
     {
         self.inputs.has(name)
     }
 
+    /// Whether the name is that of a state variable.
     pub fn is_state(&self, name: Name) -> bool
         ensures { result ≡ is_name_of (state_words self.now.machine.now) name }
     {
@@ -110,11 +94,11 @@ impl<'s, 'a> Local<'s, 'a> {
     }
 
     /// Whether the name is that of an input or of a state variable.
-    pub fn is_var(&self, name: Name) -> bool
+    pub fn is_variable(&self, name: Name) -> bool
         ensures { result
             ≡ is_name_of (self.now.machine.now.inputs ++ state_words self.now.machine.now) name }
     {
-        self.vars.has(name)
+        self.variables.has(name)
     }
 
     /// The names of the outputs.
@@ -142,7 +126,7 @@ impl<'s, 'a> Local<'s, 'a> {
     }
 
     /// The name of the domain of a state variable, or else of an event.
-    pub fn var_domain(&self, name: Name) -> Option<Word>
+    pub fn variable_domain(&self, name: Name) -> Option<Word>
         ensures { result ≡ var_domain self.now.scope.now.raw.now self.now.machine.now name }
     {
         if self.is_state(name) {
@@ -162,43 +146,34 @@ impl<'s, 'a> Local<'s, 'a> {
         }
     }
 
-    /// The number of a variable by its name, if it is one.
-    pub fn var(&self, name: Name) -> Option<u64>
-        ensures { result
-            ≡ number_in (names_of (self.now.machine.now.inputs
-            ++ state_words self.now.machine.now)) name }
-    {
-        self.vars.number(name)
-    }
-
     /// The number of a variable by its name, if it is one. The variable of this number and the next
     /// two are tried first.
-    pub fn var_from(&self, first: u64, name: &Name) -> Option<u64>
+    pub fn variable_from(&self, first: u64, name: &Name) -> Option<u64>
         ensures { result
             ≡ number_in (names_of (self.now.machine.now.inputs
             ++ state_words self.now.machine.now)) name.now }
     {
-        self.vars.number_from(first, name)
+        self.variables.number_from(first, name)
     }
 
     /// The number of a variable by its name, 0 where it is none.
-    pub fn var_number(&self, name: Name) -> u64
+    pub fn variable_number(&self, name: Name) -> u64
         ensures { result
             ≡ number (self.now.machine.now.inputs ++ state_words self.now.machine.now) name }
     {
-        match self.vars.number(name) {
+        match self.variables.number(name) {
             Some(number) => number,
             None => 0,
         }
     }
 
-    /// The number of a variable by its name, 0 where it is none. The variable of this number and the
-    /// next two are tried first.
-    pub fn var_number_from(&self, first: u64, name: &Name) -> u64
+    /// The number of a variable by its name, 0 where it is none. The variable of this number and
+    /// the next two are tried first.
+    pub fn variable_number_from(&self, first: u64, name: &Name) -> u64
         ensures { result
             ≡ number (self.now.machine.now.inputs ++ state_words self.now.machine.now) name.now }
     {
-        match self.vars.number_from(first, name) {
+        match self.variables.number_from(first, name) {
             Some(number) => number,
             None => 0,
         }

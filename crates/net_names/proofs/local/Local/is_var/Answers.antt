@@ -1,5 +1,0 @@
-use Rattle.std.proofs.Common.{◌∙◌}
-use Rattle.net_names.proofs.local.Local.is_var.Goals as goal
-
-pub returns : goal.returns
-returns c = c.has.ensures ∙ (λ i. c.args.self.now.var_names i c.args.name)

@@ -103,7 +103,7 @@ follows_is_legal fits net trace journal a t h g =
     (following_is_legal fits net trace (take a journal) (drop a journal) t h g)
 
 -- a deterministic network has one entry at most that is picked
-one_picked : OneOutcome → (net : Network) (journal : List Entry) (p : Pick) (x y : Entry)
+pub one_picked : OneOutcome → (net : Network) (journal : List Entry) (p : Pick) (x y : Entry)
     → AreDeterministic net → IsJournal net journal → IsPicked net journal p x
     → IsPicked net journal p y → x ≡ y
 one_picked one net journal (Deliver s m e c) x y d h f g = f ∙ sym g

@@ -27,3 +27,5 @@ pub mod AllLeast
 pub mod OriginPlaces
 pub mod EntriesAt
 pub mod ValueWords
+pub mod Seen
+pub mod Upto

@@ -156,3 +156,8 @@ delivery s m (Rea k o c) = None
 -- what s has delivered to m
 abbrev pub delivered : Party → ℕ → List Entry → List (ℕ × ℕ)
 delivered s m journal = filter_map (delivery s m) journal
+
+-- what s is to deliver to m next, if there is anything
+abbrev pub next_of : Network → List TraceItem → List Entry → Party → ℕ → Option (ℕ × ℕ)
+next_of net trace journal s m =
+    slice_get (sent net trace s m journal) (length (delivered s m journal))

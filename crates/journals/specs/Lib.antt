@@ -10,6 +10,7 @@ pub mod Reactions
 pub mod Runs
 pub mod Samples
 pub mod Schedules
+pub mod Seen
 pub mod StampLaws
 pub mod Stamps
 pub mod ValueWords

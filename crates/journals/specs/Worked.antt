@@ -1,5 +1,5 @@
 -- What the definitions say of a run, of an entry that may not follow a journal, and of stamps.
-use Rattle.std.specs.Prelude.{◌≡◌, ℕ, true, false, List, length, slice_get, Option}
+use Rattle.std.specs.Prelude.{◌≡◌, ℕ, true, false, List, Option}
 use Rattle.transition_table.specs.Transitions.{OfMachine, Transition}
 use Rattle.transition_table.specs.declared.decl.Party.{Party}
 use Rattle.transition_table.specs.declared.network.Network.{Network}
@@ -9,7 +9,7 @@ use Rattle.journals.specs.declared.entry.Entry.{Entry}
 use Rattle.journals.specs.declared.entry.Entry.TheVariants.{Dep, Rea}
 use Rattle.journals.specs.declared.entry.TraceItem.{TraceItem}
 use Rattle.journals.specs.declared.entry.Pick.TheVariants.{Stop}
-use Rattle.journals.specs.Journals.{FitsNetwork, delivered, is_woken, sent, snap}
+use Rattle.journals.specs.Journals.{FitsNetwork, is_woken, next_of, snap}
 use Rattle.journals.specs.Legality.{Legal, Complete, MayFollow}
 use Rattle.journals.specs.Outputs.{outputs, lost}
 use Rattle.journals.specs.Schedules.{Follows, pick}
@@ -31,11 +31,6 @@ pub record IsRefused (net : Network) (trace : List TraceItem) (journal : List En
   pub legal : Legal net trace journal
   pub fits : FitsNetwork net entry
   pub refused : MayFollow net trace journal entry → ⊥
-
--- what s is to deliver to m next, if there is anything
-abbrev pub next_of : Network → List TraceItem → List Entry → Party → ℕ → Option (ℕ × ℕ)
-next_of net trace journal s m =
-    slice_get (sent net trace s m journal) (length (delivered s m journal))
 
 -- this delivery from s to m is refused, since s is to deliver something else to m, or nothing
 pub record IsNotNext (net : Network) (trace : List TraceItem) (journal : List Entry) (s : Party)

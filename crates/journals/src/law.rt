@@ -1,5 +1,6 @@
 // Laws of the definitions.
 ghost use Rattle.journals.specs.AllLaws.{JournalLaws, MovingLaws, SendingLaws, StampingLaws};
+ghost use Rattle.journals.specs.Seen.{ReactionsSee};
 
 /// What follows from the definitions.
 pub fn laws()
@@ -22,4 +23,9 @@ pub fn sending_laws()
 /// What is true of least stamps, of Rising ones, and of origins.
 pub fn stamp_laws()
     ensures { StampingLaws }
+{}
+
+/// Each reaction of a legal journal has an input that is present.
+pub fn seeing_law()
+    ensures { ReactionsSee }
 {}

@@ -11,7 +11,7 @@ mod value;
 mod worked;
 
 pub use entry::{Entry, Journal, Owed, Pick, Trace, TraceItem};
-pub use law::{laws, moving_laws, sending_laws, stamp_laws};
+pub use law::{laws, moving_laws, seeing_law, sending_laws, stamp_laws};
 pub use moments::{Moments, first_moment, first_moments, move_on, next_moment};
 pub use sending::{add_deliveries, deliveries};
 pub use stamped::{CoreStep, Log, LogList, Stamped, Stamps};

@@ -13,12 +13,12 @@ use Rattle.transition_table.specs.declared.network.Network.{Network}
 use Rattle.journals.specs.declared.entry.TraceItem.{TraceItem}
 use Rattle.journals.specs.declared.entry.TraceItem.TheVariants.{Settle}
 use Rattle.journals.specs.Journals.{reads, same_party, is_trace_item, IsTrace, event_of, sent}
-use Rattle.net_gen.specs.Draws.{after, draw}
+use Rattle.polis_base.specs.Draws.{after, draw}
 use Rattle.net_gen.specs.Dwindling.{sum_below, arrivals}
 use Rattle.net_gen.specs.Events.{HasDemoEvents}
 use Rattle.net_gen.specs.Items.{tick_item, settle_items, items_at, tick_items, trace_items}
 use Rattle.net_gen.specs.Networks.{count}
-use Rattle.net_gen.proofs.DrawsAfter.{flat_snoc}
+use Rattle.net_gen.proofs.MoreItems.{flat_snoc}
 use Rattle.net_gen.proofs.DeclarationRules.{draw_below}
 use Rattle.net_gen.proofs.Lines.{all_flat}
 

@@ -13,9 +13,9 @@ use Rattle.net_reader.specs.declared.raw.RawMachine.{RawMachine}
 use Rattle.net_names.specs.Numbers.{is_name_of, no_name, missing, repeated}
 use Rattle.net_names.specs.Scopes.{event_words, machine_words}
 use Rattle.rule_judge.specs.Rules.{beyond, rule_1, rule_2, rule_3, rule_4, rule_5, rule_7, rule_8, rule_9, rule_10, rule_14}
-use Rattle.net_gen.specs.Draws.{after, draw}
+use Rattle.polis_base.specs.Draws.{after, draw}
 use Rattle.net_gen.specs.Networks.{named, tick, valued, output, events_of, machine_at, machines, rows, tick_rows, value_rows, ring}
-use Rattle.net_gen.proofs.DrawsAfter.{flat_snoc}
+use Rattle.net_gen.proofs.MoreItems.{flat_snoc}
 use Rattle.net_gen.proofs.RingNames.{same_self, other_number, declared_at, AllWords, Different, Apart, different_flat, none_repeats}
 
 -- ---- the words, number by number

@@ -14,7 +14,7 @@ use Rattle.transition_table.specs.Transitions.{reading, IsDeterministic, actions
 use Rattle.transition_table.specs.declared.row.Act.{Act}
 use Rattle.transition_table.specs.declared.row.Row.{Row}
 use Rattle.transition_table.specs.declared.machine.Machine.{Machine}
-use Rattle.net_gen.specs.Draws.{after, draw}
+use Rattle.polis_base.specs.Draws.{after, draw}
 use Rattle.net_gen.specs.Demos.{Parts, parts_of, last_parts, tick_parts_at, value_parts_at, rows_parts, IsDemoMachine}
 use Rattle.net_gen.proofs.DeclarationRules.{draw_below}
 

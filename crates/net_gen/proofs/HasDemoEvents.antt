@@ -24,8 +24,8 @@ use Rattle.net_names.specs.Scopes.{event_words}
 use Rattle.net_rules.specs.Networks.{IsNetworkOf, IsMachineOf, IsDomainOf, machines_with, event_of}
 use Rattle.net_gen.specs.Events.{next_machine, machine_before, tick_event, valued_event, output_event, HasDemoEvents}
 use Rattle.net_gen.specs.Networks.{word, event, tick, valued, output, events_of, machine_at, machines, domain, ring, count, network}
-use Rattle.net_gen.specs.Draws.{after}
-use Rattle.net_gen.proofs.DrawsAfter.{flat_snoc}
+use Rattle.polis_base.specs.Draws.{after}
+use Rattle.net_gen.proofs.MoreItems.{flat_snoc}
 use Rattle.net_gen.proofs.RingNames.{same_self, other_number}
 use Rattle.net_gen.proofs.DeclarationRules.{draw_below}
 

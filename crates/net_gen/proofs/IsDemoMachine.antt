@@ -24,7 +24,7 @@ use Rattle.net_reader.specs.declared.raw.RawSource.TheVariants as sources
 use Rattle.net_names.specs.Numbers.{number}
 use Rattle.net_names.specs.Scopes.{cond_word, event_codes, event_domain, var_sizes, var_words}
 use Rattle.net_rules.specs.Networks.{IsNetworkOf, IsMachineOf, IsRowOf, act_of, allows, bits_where, value_code, cond_of, emission_source, value_number}
-use Rattle.net_gen.specs.Draws.{after, draw}
+use Rattle.polis_base.specs.Draws.{after, draw}
 use Rattle.net_gen.specs.Events.{next_machine}
 use Rattle.net_gen.specs.Networks.{word, value, tick, valued, output, is_state, set_state, emit_value, tick_row_at, value_row_at, last_row, rows, tick_rows, value_rows, machine, machine_at, ring, count, network}
 use Rattle.net_gen.specs.Demos.{Parts, parts_of, last_parts, tick_parts_at, value_parts_at, rows_parts, IsDemoMachine, SeedsHaveMachines}

@@ -1,6 +1,6 @@
 pub mod PortRules
 pub mod Arrivals
-pub mod DrawsAfter
+pub mod MoreItems
 pub mod DwindlingEnds
 pub mod EnabledRows
 pub mod RingDwindles

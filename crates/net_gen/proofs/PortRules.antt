@@ -18,9 +18,9 @@ use Rattle.net_names.specs.Places.{unless}
 use Rattle.net_names.specs.Numbers.{is_name_of, missing, repeated}
 use Rattle.net_names.specs.Scopes.{all_outputs, all_inputs, event_domain, is_from_env, is_to_env}
 use Rattle.rule_judge.specs.Rules.{rule_6, rule_11, rule_12, rule_13}
-use Rattle.net_gen.specs.Draws.{after, draw}
+use Rattle.polis_base.specs.Draws.{after, draw}
 use Rattle.net_gen.specs.Networks.{word, event, tick, valued, output, events_of, last_row, tick_row_at, value_row_at, machine_at, machines, rows, tick_rows, value_rows, ring}
-use Rattle.net_gen.proofs.DrawsAfter.{flat_snoc}
+use Rattle.net_gen.proofs.MoreItems.{flat_snoc}
 use Rattle.net_gen.proofs.RingNames.{same_self, other_number, declared_at, none_of_each, different_flat, all_flat, none_repeats}
 use Rattle.net_gen.proofs.DeclarationRules.{none_flat}
 

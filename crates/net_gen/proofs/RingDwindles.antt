@@ -20,7 +20,7 @@ use Rattle.journals.specs.declared.entry.Entry.TheVariants.{Dep, Rea}
 use Rattle.journals.specs.Journals.{emitted, is_event_code, outputs_of, buffered, snap, state, states_of}
 use Rattle.journals.specs.Moved.{codes_after}
 use Rattle.journals.specs.Schedules.{deliveries_of, firing_deliveries, receivers_of}
-use Rattle.net_gen.specs.Draws.{after}
+use Rattle.polis_base.specs.Draws.{after}
 use Rattle.net_gen.specs.Events.{next_machine, HasDemoEvents}
 use Rattle.net_gen.specs.Demos.{IsDemoMachine}
 use Rattle.net_gen.specs.Dwindling.{Dwindles, weight}

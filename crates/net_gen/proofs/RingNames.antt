@@ -12,7 +12,7 @@ use Rattle.domains.specs.Names.{is_same}
 use Rattle.net_reader.specs.declared.raw.Word.{Word}
 use Rattle.net_names.specs.Places.{unless}
 use Rattle.net_names.specs.Numbers.{names_of, is_name_of, repeated}
-use Rattle.net_gen.proofs.DrawsAfter.{flat_snoc}
+use Rattle.net_gen.proofs.MoreItems.{flat_snoc}
 use Rattle.net_gen.proofs.NumberedNames.{decimal_apart}
 
 pub same_self : (xs : List ℕ) → is_same xs xs ≡ true

@@ -12,7 +12,7 @@ use Rattle.net_names.specs.Scopes.{state_words}
 use Rattle.net_names.specs.Values.{is_value}
 use Rattle.rule_judge.specs.Judged.{Rule, broken_at, first_broken, rules, broken}
 use Rattle.rule_judge.specs.Rules.{rule_15, rule_16, rule_17, rule_18, rule_19, rule_20, rule_21, rule_22, rule_23, rule_24, rule_25, unknown, unsuited, wrong_values, not_once, emitted, set_names, wrong_act, no_input, not_shown, other_domain, other_name, too_much}
-use Rattle.net_gen.specs.Draws.{after, draw}
+use Rattle.polis_base.specs.Draws.{after, draw}
 use Rattle.net_gen.specs.Networks.{num, value, machine, ring, count, network}
 use Rattle.net_gen.proofs.RingNames.{same_self}
 use Rattle.net_gen.proofs.DeclarationRules.{each_machine, draw_below, keeps_1, keeps_2, keeps_3, keeps_4, keeps_5, keeps_7, keeps_8, keeps_9, keeps_10, keeps_14}

@@ -10,7 +10,7 @@ use Rattle.net_reader.specs.Grammar.{Part, ◌⨾◌, Only, IsWord, IsNum, IsVal
 use Rattle.net_reader.specs.Layout.{IsOfSentence}
 use Rattle.net_reader.specs.declared.raw.Word.{Word}
 use Rattle.net_reader.specs.declared.raw.RawRow.{RawRow}
-use Rattle.net_gen.specs.Draws.{after}
+use Rattle.polis_base.specs.Draws.{after}
 use Rattle.net_gen.specs.Networks.{num, value, events_of, tick_row, value_row, last_row, tick_row_at, value_row_at, tick_rows, value_rows, rows, machine, machine_at, machines, domain, ring}
 
 -- some tokens are of the part

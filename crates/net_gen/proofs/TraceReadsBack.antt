@@ -14,12 +14,12 @@ use Rattle.transition_table.specs.declared.network.Network.{Network}
 use Rattle.journals.specs.declared.entry.TraceItem.TheVariants.{Settle}
 use Rattle.trace_text.specs.Pieces.{ends_line, ends_word, begins_comment, trace_lines}
 use Rattle.trace_text.specs.Traces.{is_sent, is_sent_event, env_event, coded, sent_item, with_line, trace_of}
-use Rattle.net_gen.specs.Draws.{after, draw}
+use Rattle.polis_base.specs.Draws.{after, draw}
 use Rattle.net_gen.specs.Events.{HasDemoEvents}
 use Rattle.net_gen.specs.Items.{tick_item, items_at, tick_items, trace_items}
 use Rattle.net_gen.specs.Networks.{count}
 use Rattle.net_gen.specs.Traces.{tick_line, lines_at, ticks, trace_text}
-use Rattle.net_gen.proofs.DrawsAfter.{flat_snoc}
+use Rattle.net_gen.proofs.MoreItems.{flat_snoc}
 use Rattle.net_gen.proofs.DeclarationRules.{draw_below}
 use Rattle.net_gen.proofs.Lines.{is_free, text_of, are_lines, lines_back, one_word, IsItem, all_read, zip_flat, all_flat, text_flat}
 use Rattle.net_gen.proofs.RingNames.{same_self, other_number}

@@ -8,7 +8,7 @@ use Rattle.transition_table.specs.declared.row.Row.{Row}
 use Rattle.transition_table.specs.declared.machine.Machine.{Machine}
 use Rattle.transition_table.specs.declared.network.Network.{Network}
 use Rattle.net_rules.specs.Networks.{IsNetworkOf}
-use Rattle.net_gen.specs.Draws.{after, draw}
+use Rattle.polis_base.specs.Draws.{after, draw}
 use Rattle.net_gen.specs.Events.{next_machine}
 use Rattle.net_gen.specs.Networks.{named, count, network}
 

@@ -7,7 +7,7 @@ use Rattle.journals.specs.declared.entry.TraceItem.TheVariants.{Event, Settle}
 use Rattle.journals.specs.Journals.{IsTrace}
 use Rattle.net_rules.specs.Networks.{IsNetworkOf}
 use Rattle.trace_text.specs.Traces.{trace_of}
-use Rattle.net_gen.specs.Draws.{after, draw}
+use Rattle.polis_base.specs.Draws.{after, draw}
 use Rattle.net_gen.specs.Dwindling.{arrivals}
 use Rattle.net_gen.specs.Networks.{count, network}
 use Rattle.net_gen.specs.Traces.{trace_text}

@@ -1,5 +1,4 @@
 pub mod Demos
-pub mod Draws
 pub mod Dwindling
 pub mod Ended
 pub mod Events

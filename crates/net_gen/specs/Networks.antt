@@ -18,7 +18,7 @@ use Rattle.net_reader.specs.declared.raw.RawAct.TheVariants.{Emit, Set}
 use Rattle.net_reader.specs.declared.raw.RawRow.{RawRow}
 use Rattle.net_reader.specs.declared.raw.RawMachine.{RawMachine}
 use Rattle.net_reader.specs.declared.raw.RawNet.{RawNet}
-use Rattle.net_gen.specs.Draws.{after, draw}
+use Rattle.polis_base.specs.Draws.{after, draw}
 
 abbrev pub word : List ℕ → Word
 word name = record { name = name; at = 0 }

@@ -1,7 +1,7 @@
 -- The trace of a seed.
 use Rattle.std.specs.Prelude.{ℕ, ◌+◌, ◌*◌, ◌%◌, ◌==◌, List, [], ◌++◌, flat_map, codes, decimal, if◌then◌else◌}
 use Rattle.polis_base.specs.Lists.{upto}
-use Rattle.net_gen.specs.Draws.{after, draw}
+use Rattle.polis_base.specs.Draws.{after, draw}
 use Rattle.net_gen.specs.Networks.{count}
 
 -- a tick of machine k

@@ -1,7 +1,6 @@
 // A large network and a trace of it, drawn from a seed.
 #![tactic(auto)]
 
-mod draws;
 mod law;
 mod network;
 mod rows;

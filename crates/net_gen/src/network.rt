@@ -1,17 +1,16 @@
 // The declarations of a ring of machines.
 ghost use Rattle.std.specs.Prelude.{◌≡◌, ◌<◌, ◌≤◌, ◌+◌, ◌*◌, ◌%◌, ◌++◌, [], ◌∷◌, IfOk, OnOk, flat_map};
 ghost use Rattle.polis_base.specs.Lists.{upto};
-ghost use Rattle.net_gen.specs.Draws.{after, draw};
+ghost use Rattle.polis_base.specs.Draws.{after, draw};
 ghost use Rattle.net_gen.specs.Networks.{events_of, event, domain, machine, machines, ring};
 
-use crate::draws::Draws;
 use crate::rows::{num, rows, value};
 use crate::words;
 use net_reader::{
     RawDomain, RawDomainList, RawEnv, RawEvent, RawEventList, RawMachine, RawMachineList, RawNet,
     RawShape, RawState, RawStateList, Word, WordList,
 };
-use polis_base::NoMemory;
+use polis_base::{Draws, NoMemory};
 use std::alloc::Global;
 
 fn event(name: Word, domain: Option<Word>, env: RawEnv) -> RawEvent

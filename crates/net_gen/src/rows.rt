@@ -1,14 +1,13 @@
 // The rows of a machine.
 ghost use Rattle.std.specs.Prelude.{◌≡◌, ◌<◌, ◌+◌, ◌++◌, [], ◌∷◌, IfOk, OnOk};
-ghost use Rattle.net_gen.specs.Draws.{next, after, draw};
+ghost use Rattle.polis_base.specs.Draws.{next, after, draw};
 ghost use Rattle.net_gen.specs.Networks.{num, value, valued, is_state, set_state, emit_value, tick_row, value_row, last_row, tick_rows, value_rows, rows};
 
-use crate::draws::Draws;
 use crate::words;
 use net_reader::{
     Num, RawAct, RawActList, RawCond, RawCondList, RawRow, RawRowList, RawSource, RawValue, Word,
 };
-use polis_base::NoMemory;
+use polis_base::{Draws, NoMemory};
 use std::alloc::Global;
 
 // How many values the domain has.

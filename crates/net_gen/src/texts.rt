@@ -6,12 +6,11 @@ ghost use Rattle.net_gen.specs.Networks.{network};
 ghost use Rattle.net_gen.specs.Traces.{trace_text};
 ghost use Rattle.net_gen.specs.Whole.{AreWhole};
 
-use crate::draws::Draws;
 use crate::law::whole_laws;
 use crate::network::ring;
 use crate::trace::ticks;
 use net_reader::print_network;
-use polis_base::{Bytes, NoMemory};
+use polis_base::{Bytes, Draws, NoMemory};
 use std::alloc::Global;
 
 /// A network text and a text of a trace of that network.

@@ -2,8 +2,7 @@
 ghost use Rattle.std.specs.Prelude.{◌≡◌, ◌<◌, ◌++◌, IfOk, OnOk};
 ghost use Rattle.net_gen.specs.Traces.{tick_line, settle_line, ticks};
 
-use crate::draws::Draws;
-use polis_base::{Bytes, NoMemory};
+use polis_base::{Bytes, Draws, NoMemory};
 use std::alloc::Global;
 
 // How many ticks there are.

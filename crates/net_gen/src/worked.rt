@@ -1,6 +1,6 @@
 // What the definitions say of seed 7.
 ghost use Rattle.std.specs.Prelude.{◌≡◌, [], ◌∷◌};
-ghost use Rattle.net_gen.specs.Draws.{after, draw};
+ghost use Rattle.polis_base.specs.Draws.{after, draw};
 ghost use Rattle.journals.specs.declared.entry.TraceItem.TheVariants.{Settle};
 ghost use Rattle.net_gen.specs.Items.{items_at, tick_item};
 ghost use Rattle.net_gen.specs.Networks.{count, tick_row, value_row, tick_rows, value_rows};

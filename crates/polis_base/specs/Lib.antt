@@ -1,4 +1,5 @@
 pub mod Digits
+pub mod Draws
 pub mod Faults
 pub mod Host
 pub mod Index

@@ -5,6 +5,7 @@
 mod bytes;
 mod class;
 mod decimal;
+mod draws;
 mod host;
 pub mod index;
 mod keyword;
@@ -21,6 +22,7 @@ mod worked;
 
 pub use bytes::Bytes;
 pub use decimal::read_decimal;
+pub use draws::Draws;
 pub use host::{Host, Load, Save};
 pub use lex::{fault_after, next_token, tokens};
 pub use list::{Duplicate, List, Numbers};

@@ -1,5 +1,5 @@
 use Rattle.std.specs.Prelude.{◌*◌}
-use Rattle.net_gen.specs.Draws.{after}
+use Rattle.polis_base.specs.Draws.{after}
 use Rattle.net_gen.specs.Networks.{count}
 use Rattle.net_gen.proofs.EnabledRows.{deterministic}
 use Rattle.net_gen.proofs.IsDemoMachine.{seeds_have_machines}

@@ -1,6 +1,6 @@
 use Rattle.std.specs.Prelude.{◌*◌, ◌<◌}
 use Rattle.std.proofs.Common.{arith}
-use Rattle.net_gen.specs.Draws.{after}
+use Rattle.polis_base.specs.Draws.{after}
 use Rattle.net_gen.specs.Dwindling.{arrivals}
 use Rattle.net_gen.specs.Ended.{demo_load, demo_held, SeedsDwindle}
 use Rattle.net_gen.specs.Items.{trace_items}

@@ -4,7 +4,7 @@ use Rattle.net_reader.specs.declared.raw.RawNet.{RawNet}
 use Rattle.net_reader.specs.Layout.{IsOfSentence}
 use Rattle.net_rules.specs.Networks.{IsNetworkOf}
 use Rattle.net_rules.specs.Unique.{SomeNetwork}
-use Rattle.net_gen.specs.Draws.{after}
+use Rattle.polis_base.specs.Draws.{after}
 use Rattle.net_gen.specs.Items.{trace_items}
 use Rattle.net_gen.specs.Networks.{count, network}
 use Rattle.net_gen.specs.Whole.{SeedsHaveNetwork}

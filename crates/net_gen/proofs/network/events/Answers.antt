@@ -1,7 +1,7 @@
 use Rattle.std.proofs.Common.{List, ◌++◌, sym, ap, ◌∙◌}
 use Rattle.net_reader.specs.declared.raw.RawEvent.{RawEvent}
 use Rattle.net_gen.specs.Networks.{events_of}
-use Rattle.net_gen.proofs.DrawsAfter.{flat_more}
+use Rattle.net_gen.proofs.MoreItems.{flat_more}
 use Rattle.net_gen.proofs.network.events.Goals as goal
 
 pub loop-i-preserved : goal.loop-i-preserved

@@ -1,7 +1,7 @@
 use Rattle.std.proofs.Common.{◌≡◌, ℕ, rules, ap, ◌∙◌}
-use Rattle.net_gen.specs.Draws.{after}
+use Rattle.polis_base.specs.Draws.{after}
 use Rattle.net_gen.specs.Networks.{num, rows, machine}
-use Rattle.net_gen.proofs.DrawsAfter.{after_first, after_more}
+use Rattle.polis_base.proofs.DrawsAfter.{after_first, after_more}
 use Rattle.net_gen.proofs.network.machine.Goals as goal
 
 pub returns-clause-machine : goal.returns-clause-machine

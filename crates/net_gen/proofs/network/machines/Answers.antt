@@ -1,9 +1,10 @@
 use Rattle.std.proofs.Common.{◌≡◌, ℕ, ◌+◌, ◌*◌, ◌%◌, List, [], ◌∷◌, ◌++◌, map, sym, ap, ◌∙◌, arith}
 use Rattle.polis_base.specs.Lists.{upto}
 use Rattle.net_reader.specs.declared.raw.RawMachine.{RawMachine}
-use Rattle.net_gen.specs.Draws.{after}
+use Rattle.polis_base.specs.Draws.{after}
 use Rattle.net_gen.specs.Networks.{machine, machine_at, machines}
-use Rattle.net_gen.proofs.DrawsAfter.{after_none, after_more, map_more}
+use Rattle.polis_base.proofs.DrawsAfter.{after_none, after_more}
+use Rattle.net_gen.proofs.MoreItems.{map_more}
 use Rattle.net_gen.proofs.network.machines.Goals as goal
 
 pub loop-i-init : goal.loop-i-init

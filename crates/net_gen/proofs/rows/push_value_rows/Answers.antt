@@ -2,9 +2,10 @@ use Rattle.std.proofs.Common.{◌≡◌, ℕ, ◌+◌, List, [], ◌∷◌, ◌+
 use Rattle.std.proofs.lemmas.List.{append-nil}
 use Rattle.polis_base.specs.Lists.{upto}
 use Rattle.net_reader.specs.declared.raw.RawRow.{RawRow}
-use Rattle.net_gen.specs.Draws.{next, after, draw}
+use Rattle.polis_base.specs.Draws.{next, after, draw}
 use Rattle.net_gen.specs.Networks.{value_row, value_row_at, value_rows}
-use Rattle.net_gen.proofs.DrawsAfter.{after_none, after_one, map_more}
+use Rattle.polis_base.proofs.DrawsAfter.{after_none, after_one}
+use Rattle.net_gen.proofs.MoreItems.{map_more}
 use Rattle.net_gen.proofs.rows.push_value_rows.Goals as goal
 
 pub loop-k-init : goal.loop-k-init

@@ -1,6 +1,6 @@
 use Rattle.std.specs.Prelude.{◌≡◌, ◌++◌, map}
 use Rattle.polis_base.specs.Lists.{upto}
-use Rattle.net_gen.specs.Draws.{after}
+use Rattle.polis_base.specs.Draws.{after}
 use Rattle.net_gen.specs.Networks.{value_row_at}
 use Rattle.net_gen.proofs.rows.push_value_rows.Given as goal
 

@@ -1,8 +1,8 @@
 use Rattle.std.proofs.Common.{◌≡◌, ℕ, List, [], ◌∷◌, ◌++◌, ap, ◌∙◌}
 use Rattle.net_reader.specs.declared.raw.RawRow.{RawRow}
-use Rattle.net_gen.specs.Draws.{next, after, draw}
+use Rattle.polis_base.specs.Draws.{next, after, draw}
 use Rattle.net_gen.specs.Networks.{last_row, tick_rows, value_rows, rows}
-use Rattle.net_gen.proofs.DrawsAfter.{after_more, after_one}
+use Rattle.polis_base.proofs.DrawsAfter.{after_more, after_one}
 use Rattle.net_gen.proofs.rows.rows.Goals as goal
 
 pub returns-clause-rows : goal.returns-clause-rows

@@ -2,11 +2,11 @@ use Rattle.std.proofs.Common.{◌≡◌, ℕ, ◌+◌, ◌*◌, List, subst, sym
 use Rattle.net_reader.specs.declared.raw.RawNet.{RawNet}
 use Rattle.net_reader.specs.Layout.{IsOfSentence, network_text}
 use Rattle.net_reader.specs.Places.{Declares}
-use Rattle.net_gen.specs.Draws.{after, draw}
+use Rattle.polis_base.specs.Draws.{after, draw}
 use Rattle.net_gen.specs.Networks.{ring, network, count}
 use Rattle.net_gen.specs.Traces.{ticks, trace_text}
 use Rattle.net_gen.specs.Whole.{AreWhole}
-use Rattle.net_gen.proofs.DrawsAfter.{after_first, after_more}
+use Rattle.polis_base.proofs.DrawsAfter.{after_first, after_more}
 use Rattle.net_gen.proofs.Sentence.{sentence}
 use Rattle.net_gen.proofs.texts.generate.Goals as goal
 

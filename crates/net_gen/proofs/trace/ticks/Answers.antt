@@ -1,8 +1,9 @@
 use Rattle.std.proofs.Common.{◌≡◌, ℕ, List, ◌++◌, flat_map, sym, ap, ◌∙◌, append_assoc, arith}
 use Rattle.polis_base.specs.Lists.{upto}
-use Rattle.net_gen.specs.Draws.{next, after, draw}
+use Rattle.polis_base.specs.Draws.{next, after, draw}
 use Rattle.net_gen.specs.Traces.{tick_line, settle_line, lines_at, ticks}
-use Rattle.net_gen.proofs.DrawsAfter.{after_none, after_one, flat_more}
+use Rattle.polis_base.proofs.DrawsAfter.{after_none, after_one}
+use Rattle.net_gen.proofs.MoreItems.{flat_more}
 use Rattle.net_gen.proofs.trace.ticks.Goals as goal
 
 pub loop-k-init : goal.loop-k-init

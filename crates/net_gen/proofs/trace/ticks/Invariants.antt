@@ -1,6 +1,6 @@
 use Rattle.std.specs.Prelude.{◌≡◌, flat_map}
 use Rattle.polis_base.specs.Lists.{upto}
-use Rattle.net_gen.specs.Draws.{after}
+use Rattle.polis_base.specs.Draws.{after}
 use Rattle.net_gen.specs.Traces.{lines_at}
 use Rattle.net_gen.proofs.trace.ticks.Given as goal
 

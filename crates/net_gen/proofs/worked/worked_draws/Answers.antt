@@ -1,5 +1,5 @@
 use Rattle.std.proofs.Common.{refl}
-use Rattle.net_gen.specs.Draws.{after}
+use Rattle.polis_base.specs.Draws.{after}
 use Rattle.net_gen.specs.Networks.{tick_rows, value_rows}
 use Rattle.net_gen.proofs.worked.worked_draws.Goals as goal
 

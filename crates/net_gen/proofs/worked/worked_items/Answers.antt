@@ -1,5 +1,5 @@
 use Rattle.std.proofs.Common.{refl}
-use Rattle.net_gen.specs.Draws.{after}
+use Rattle.polis_base.specs.Draws.{after}
 use Rattle.net_gen.proofs.worked.worked_items.Goals as goal
 
 pub returns-clause-first : goal.returns-clause-first

@@ -1,27 +1,8 @@
--- One more draw, and tables that are one item longer.
-use Rattle.std.proofs.Common.{◌≡◌, ℕ, zero, suc, ◌+◌, List, [], ◌∷◌, ◌++◌, map, flat_map, refl, ap, ◌∙◌, add-one, arith}
+-- Tables that are one item longer.
+use Rattle.std.proofs.Common.{◌≡◌, ℕ, suc, ◌+◌, List, [], ◌∷◌, ◌++◌, map, flat_map, ap, ◌∙◌, add-one}
 use Rattle.std.proofs.lemmas.List.{append-nil, map-append}
 use Rattle.std.proofs.lemmas.Grind.{flat_map-append}
 use Rattle.polis_base.specs.Lists.{upto}
-use Rattle.net_gen.specs.Draws.{next, after}
-
-pub after_none : (x : ℕ) → after x 0 ≡ x
-unfolding after
-after_none x = refl
-
-pub after_first : (x : ℕ) → next x ≡ after x 1
-unfolding after
-after_first x = refl
-
-pub after_more : (x a b : ℕ) → after (after x a) b ≡ after x (a + b)
-unfolding after
-after_more x a zero = ap (after x) (let e : a ≡ a + 0 = omega arith in e)
-after_more x a (suc b) =
-    ap next (after_more x a b)
-    ∙ ap (after x) (let e : suc (a + b) ≡ a + suc b = omega arith in e)
-
-pub after_one : (x a : ℕ) → next (after x a) ≡ after x (a + 1)
-after_one x a = after_first (after x a) ∙ after_more x a 1
 
 pub map_more : {X : Type 0} (f : ℕ → X) (n : ℕ)
     → map f (upto (n + 1)) ≡ map f (upto n) ++ f n ∷ []

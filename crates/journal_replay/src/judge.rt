@@ -1,11 +1,10 @@
 // Judging a journal from its first entry on.
 ghost use Rattle.std.specs.Prelude.{◌≡◌, ◌<◌, ◌≤◌, length, take, IfOk};
 ghost use Rattle.journals.specs.Journals.{IsJournal, IsTrace};
-ghost use Rattle.net_core.specs.Prefixes.{IsLegalUpTo};
+ghost use Rattle.net_core.specs.Prefixes.{IsLegalPrefix};
 ghost use Rattle.journal_replay.specs.Verdicts.{IsVerdict, IsStampedVerdict};
-ghost use Rattle.journal_replay.specs.declared.judge.Verdict.TheVariants.{Illegal};
 
-use net_core::{Journal, Stamps, Trace, first_not_rising, laws, legal_prefix};
+use net_core::{Journal, Prefix, Stamps, Trace, Why, first_not_rising, laws, legal_prefix};
 use polis_base::{Duplicate, NoMemory};
 use std::alloc::Global;
 use transition_table::{Network, Reactor};
@@ -20,8 +19,11 @@ pub enum Verdict {
     },
     /// It isn't legal.
     Illegal {
-        /// The number of the first entry that can't follow those before it.
+        /// The number of the first entry that can't follow those before it, or whose stamp doesn't
+        /// rise.
         entry: u64,
+        /// Why it can't follow them, or None where it may and its stamp doesn't rise.
+        why: Option<Why>,
     },
 }
 
@@ -39,7 +41,10 @@ pub fn replay<R: Reactor>(
     let prefix = legal_prefix(alloc, r, trace, j)?;
     let count = prefix.count;
     if count < j.len() {
-        return Ok(Verdict::Illegal { entry: count });
+        return Ok(Verdict::Illegal {
+            entry: count,
+            why: prefix.against,
+        });
     }
     Ok(Verdict::Legal {
         complete: prefix.complete,
@@ -58,8 +63,8 @@ fn first_stamps(alloc: Global, s: &Stamps, count: u64) -> Result<Stamps, NoMemor
     Ok(first)
 }
 
-/// The first entries, so many.
-pub(crate) fn first_entries(alloc: Global, j: &Journal, count: u64) -> Result<Journal, NoMemory>
+// The first entries, so many.
+fn first_entries(alloc: Global, j: &Journal, count: u64) -> Result<Journal, NoMemory>
     requires { count ≤ length j.now }
     ensures { IfOk result (λ first. first ≡ take count j.now) }
 {
@@ -70,28 +75,31 @@ pub(crate) fn first_entries(alloc: Global, j: &Journal, count: u64) -> Result<Jo
     Ok(first)
 }
 
-// The first wrong entry of a journal of which so many entries are legal, and no more: the first of
-// these whose stamp doesn't rise, or else the one after them.
+// What is found of a journal that isn't legal: the first entry of its legal prefix whose stamp
+// doesn't rise, or else the one after it.
 fn first_wrong(
     alloc: Global,
     net: &Network,
     trace: &Trace,
     j: &Journal,
     s: &Stamps,
-    legal: u64,
-) -> Result<u64, NoMemory>
-    requires legal { IsLegalUpTo net.now trace.now j.now legal }
-    requires more { legal < length j.now }
+    legal: Prefix,
+) -> Result<Verdict, NoMemory>
+    requires legal { IsLegalPrefix net.now trace.now j.now legal.count legal.complete
+        legal.against }
+    requires more { legal.count < length j.now }
     requires many { length s.now ≡ length j.now }
-    ensures { IfOk result
-        (λ entry. IsStampedVerdict net.now trace.now j.now s.now (Illegal entry)) }
+    ensures { IfOk result (λ v. IsStampedVerdict net.now trace.now j.now s.now v) }
 {
     laws();
-    let entries = first_entries(alloc, j, legal)?;
-    let stamps = first_stamps(alloc, s, legal)?;
+    let entries = first_entries(alloc, j, legal.count)?;
+    let stamps = first_stamps(alloc, s, legal.count)?;
     match first_not_rising(alloc, net, trace, &entries, &stamps)? {
-        Some(entry) => Ok(entry),
-        None => Ok(legal),
+        Some(entry) => Ok(Verdict::Illegal { entry, why: None }),
+        None => Ok(Verdict::Illegal {
+            entry: legal.count,
+            why: legal.against,
+        }),
     }
 }
 
@@ -111,13 +119,11 @@ pub fn replay_stamped<R: Reactor>(
 {
     laws();
     let prefix = legal_prefix(alloc, r, trace, j)?;
-    let legal = prefix.count;
-    if legal < j.len() {
-        let entry = first_wrong(alloc, r.network(), trace, j, s, legal)?;
-        return Ok(Verdict::Illegal { entry });
+    if prefix.count < j.len() {
+        return first_wrong(alloc, r.network(), trace, j, s, prefix);
     }
     match first_not_rising(alloc, r.network(), trace, j, s)? {
-        Some(entry) => Ok(Verdict::Illegal { entry }),
+        Some(entry) => Ok(Verdict::Illegal { entry, why: None }),
         None => Ok(Verdict::Legal {
             complete: prefix.complete,
         }),

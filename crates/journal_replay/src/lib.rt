@@ -3,8 +3,6 @@
 
 mod adoption;
 mod judge;
-mod reason;
 
 pub use adoption::adopt;
 pub use judge::{Verdict, replay, replay_stamped};
-pub use reason::why_not;

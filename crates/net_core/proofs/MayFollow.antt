@@ -10,13 +10,15 @@ use Rattle.transition_table.specs.declared.network.Network.{Network}
 use Rattle.transition_table.specs.declared.snapshot.Snapshot.{Snapshot}
 use Rattle.transition_table.specs.declared.snapshot.Outcome.{Outcome}
 use Rattle.journals.specs.declared.entry.Entry.{Entry}
-use Rattle.journals.specs.declared.entry.Entry.TheVariants.{Dep}
+use Rattle.journals.specs.declared.entry.Entry.TheVariants.{Dep, Rea}
 use Rattle.journals.specs.declared.entry.Owed.{Owed}
 use Rattle.journals.specs.declared.entry.TraceItem.{TraceItem}
 use Rattle.journals.specs.declared.entry.TraceItem.TheVariants.{Event}
-use Rattle.net_core.specs.declared.answer.Why.TheVariants.{NotOwed}
-use Rattle.net_core.specs.Judging.{IsFirstCause}
-use Rattle.journals.specs.Legality.{Legal, MayFollow}
+use Rattle.net_core.specs.declared.answer.Why.TheVariants.{NotOwed, NotWoken, Snapshot as OldSnapshot, Outcome as OtherOutcome}
+use Rattle.net_core.specs.Judging.{IsCauseAgainst, IsFirstCause}
+use Rattle.net_core.specs.inner.Outcomes.{SaysOutcome}
+use Rattle.journals.specs.Journals.{is_woken, snap}
+use Rattle.journals.specs.Legality.{Legal, MayFollow, MayFollowIfReaction}
 use Rattle.journals.specs.Schedules.{owed_by_machines, is_way, event_code}
 use Rattle.journals.specs.Cursors.{cursor}
 use Rattle.transition_table.specs.Laws.{OneOutcome}
@@ -90,6 +92,45 @@ pub not_owed : (net : Network) (trace : List TraceItem) (journal : List Entry) (
 not_owed net trace journal entry from to e c b is says fails =
     subst (λ (x : Entry). IsFirstCause net trace journal NotOwed x) (sym is)
     (λ h. both_ways b fails (says.1 h))
+
+-- ---- reactions
+
+pub reacts_if_told : (net : Network) (trace : List TraceItem) (journal : List Entry)
+    (entry : Entry) (m : ℕ) (s : Snapshot) (o : Outcome) → entry ≡ Rea m s o
+    → MayFollowIfReaction net trace journal entry → IsCauseAgainst net trace journal entry None
+reacts_if_told net trace journal entry m s o is told =
+    subst (λ (e : Entry). MayFollow net trace journal e) (sym is)
+    (subst (λ (e : Entry). MayFollowIfReaction net trace journal e) is told)
+
+pub not_woken : (net : Network) (trace : List TraceItem) (journal : List Entry) (entry : Entry)
+    (m : ℕ) (s : Snapshot) (o : Outcome) → entry ≡ Rea m s o → is_woken journal m ≡ false
+    → IsCauseAgainst net trace journal entry (Some NotWoken)
+not_woken net trace journal entry m s o is asleep =
+    subst (λ (e : Entry). IsFirstCause net trace journal NotWoken e) (sym is) asleep
+
+pub other_snapshot : (net : Network) (trace : List TraceItem) (journal : List Entry)
+    (entry : Entry) (m : ℕ) (s : Snapshot) (o : Outcome) → entry ≡ Rea m s o
+    → is_woken journal m ≡ true → (s ≡ snap net journal m → ⊥)
+    → IsCauseAgainst net trace journal entry (Some OldSnapshot)
+other_snapshot net trace journal entry m s o is woken other =
+    subst (λ (e : Entry). IsFirstCause net trace journal OldSnapshot e) (sym is) (woken, other)
+
+pub other_outcome : (net : Network) (trace : List TraceItem) (journal : List Entry)
+    (entry : Entry) (m : ℕ) (s : Snapshot) (o : Outcome) (b : Bool) → entry ≡ Rea m s o
+    → is_woken journal m ≡ true → s ≡ snap net journal m → SaysOutcome net entry b → b ≡ false
+    → IsCauseAgainst net trace journal entry (Some OtherOutcome)
+other_outcome net trace journal entry m s o b is woken same says wrong =
+    let told = subst (λ (e : Entry). SaysOutcome net e b) is says in
+    subst (λ (e : Entry). IsFirstCause net trace journal OtherOutcome e) (sym is)
+    (woken, same, (λ h. both_ways b wrong (told.1 h)))
+
+pub reacts : (net : Network) (trace : List TraceItem) (journal : List Entry) (entry : Entry)
+    (m : ℕ) (s : Snapshot) (o : Outcome) (b : Bool) → entry ≡ Rea m s o
+    → is_woken journal m ≡ true → s ≡ snap net journal m → SaysOutcome net entry b → b ≡ true
+    → IsCauseAgainst net trace journal entry None
+reacts net trace journal entry m s o b is woken same says right =
+    let told = subst (λ (e : Entry). SaysOutcome net e b) is says in
+    subst (λ (e : Entry). MayFollow net trace journal e) (sym is) (woken, same, told.0 right)
 
 -- ---- outcomes
 

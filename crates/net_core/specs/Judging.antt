@@ -1,5 +1,5 @@
 -- What the judge of an entry answers.
-use Rattle.std.specs.Prelude.{◌≡◌, ◌≢◌, false, List, IsTrue, ⊤}
+use Rattle.std.specs.Prelude.{◌≡◌, ◌≢◌, false, List, Option, Some, None, IsTrue, ⊤}
 use Rattle.transition_table.specs.Transitions.{OfMachine, Transition}
 use Rattle.transition_table.specs.declared.network.Network.{Network}
 use Rattle.journals.specs.declared.entry.Entry.{Entry}
@@ -27,6 +27,11 @@ IsFirstCause net trace journal NotOwed (Rea m s o) = ⊥
 IsFirstCause net trace journal NotWoken (Dep s m event code) = ⊥
 IsFirstCause net trace journal OldSnapshot (Dep s m event code) = ⊥
 IsFirstCause net trace journal OtherOutcome (Dep s m event code) = ⊥
+
+-- this is the cause against the entry, the first that holds of it, or none where it may follow
+abbrev pub IsCauseAgainst : Network → List TraceItem → List Entry → Entry → Option Why → Type 0
+IsCauseAgainst net trace journal entry None = MayFollow net trace journal entry
+IsCauseAgainst net trace journal entry (Some why) = IsFirstCause net trace journal why entry
 
 -- Yes where the entry may follow, No with the first cause where it may not. No two of these hold
 -- together, unless memory runs out, which is free.

@@ -20,8 +20,8 @@ fn deliver(owed: Owed) -> Pick
     }
 }
 
-// The first machine of the plan that a delivery came to since its last reaction.
-fn first_to_react(plan: &Plan, config: &Config<'_>) -> Option<u32>
+/// The first machine of the plan that a delivery came to since its last reaction.
+pub fn first_to_react(plan: &Plan, config: &Config<'_>) -> Option<u32>
     requires { IsPlanOf config.now.net plan.now }
     ensures first { result ≡ first_woken config.now.net config.now.journal }
     ensures below { IfSome result (λ m. m < length config.now.net.machines) }

@@ -1,38 +1,13 @@
 // How far a journal is legal whose reactions are right.
-ghost use Rattle.std.specs.Prelude.{List, ◌≡◌, ◌↔◌, ℕ, [], take, IfOk, IsTrue};
+ghost use Rattle.std.specs.Prelude.{◌≡◌, ℕ, [], take, IfOk};
 ghost use Rattle.journals.specs.Alone.{IsAlone};
-ghost use Rattle.journals.specs.Journals.{FitsNetwork};
-ghost use Rattle.journals.specs.Legality.{MayFollow, MayFollowIfReaction};
-ghost use Rattle.journals.specs.declared.entry.Entry.{Entry};
 ghost use Rattle.net_core.specs.Prefixes.{IsAdopted};
 ghost use Rattle.net_core.specs.Tables.{AreTables};
 
 use crate::config::tables::Tables;
-use journals::{Entry, Journal, Trace, laws};
+use journals::{Journal, Trace, laws};
 use polis_base::{List, NoMemory};
 use transition_table::Network;
-
-// Whether an entry may follow those before it. A reaction may.
-fn lands(tables: &Tables, net: &Network, trace: &Trace, entry: &Entry) -> bool
-    requires fits { FitsNetwork net.now entry.now }
-    requires current { (journal : List Entry)
-        × AreTables net.now trace.now journal tables.now.readers.items tables.now.moments.items
-        tables.now.woken tables.now.cursors tables.now.owed }
-    ensures { (journal : List Entry) → MayFollowIfReaction net.now trace.now journal entry.now
-        → AreTables net.now trace.now journal tables.now.readers.items tables.now.moments.items
-        tables.now.woken tables.now.cursors tables.now.owed
-        → IsTrue result ↔ MayFollow net.now trace.now journal entry.now }
-{
-    match entry {
-        Entry::Dep {
-            from,
-            to,
-            event,
-            code,
-        } => tables.may_land(net, trace, *from, *to, *event, *code),
-        Entry::Rea { .. } => true,
-    }
-}
 
 // Takes the first entries of a journal, at most so many, as long as they may follow, and answers
 // how many. Each machine's entries are legal by themselves, so only deliveries are judged.
@@ -57,10 +32,10 @@ pub(crate) fn take_adopted(
             return Ok(limit);
         }
         let entry = j.get(i);
-        if !lands(tables, net, trace, entry) {
-            return Ok(i);
+        match tables.against_delivery(net, trace, entry) {
+            Some(_) => return Ok(i),
+            None => tables.take_next(net, trace, entry)?,
         }
-        tables.take_next(net, trace, entry)?;
     }
     Ok(j.len())
 }

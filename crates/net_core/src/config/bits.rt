@@ -4,16 +4,16 @@ ghost use Rattle.std.specs.Int.{bit_at};
 ghost use Rattle.polis_base.specs.Lists.{head_of};
 ghost use Rattle.net_core.specs.Readers.{members};
 
-// The bit is set.
-pub(crate) fn is_set(left: u64, to: u32) -> bool
+/// Whether the machine is a member.
+pub fn is_set(left: u64, to: u32) -> bool
     requires { to < 64 }
     ensures { result ≡ (bit_at left to == 1) }
 {
     (left >> to) & 1 == 1
 }
 
-// The first of them.
-pub(crate) fn lowest(left: u64) -> u32
+/// The member of the least number.
+pub fn lowest(left: u64) -> u32
     requires { 0 < left }
     ensures first { head_of (members left) ≡ Some result }
     ensures within { result < 64 }
@@ -21,8 +21,8 @@ pub(crate) fn lowest(left: u64) -> u32
     left.trailing_zeros()
 }
 
-// One more.
-pub(crate) fn with(left: u64, to: u32) -> u64
+/// The set with the machine.
+pub fn with(left: u64, to: u32) -> u64
     requires { to < 64 }
     ensures same { bit_at result to ≡ 1 }
     ensures others { (k : ℕ) → k ≢ to → bit_at result k ≡ bit_at left k }
@@ -30,8 +30,8 @@ pub(crate) fn with(left: u64, to: u32) -> u64
     left | (1 << to)
 }
 
-// One less.
-pub(crate) fn without(left: u64, to: u32) -> u64
+/// The set without the machine.
+pub fn without(left: u64, to: u32) -> u64
     requires { to < 64 }
     ensures same { bit_at result to ≡ 0 }
     ensures others { (k : ℕ) → k < 64 → k ≢ to → bit_at result k ≡ bit_at left k }
@@ -39,8 +39,8 @@ pub(crate) fn without(left: u64, to: u32) -> u64
     left & !(1 << to)
 }
 
-// With the machine, or without it.
-pub(crate) fn mark(set: u64, m: u32, is: bool) -> u64
+/// The set with the machine where it is to be one, or without it.
+pub fn mark(set: u64, m: u32, is: bool) -> u64
     requires { m < 64 }
     ensures same { (bit_at result m == 1) ≡ is }
     ensures others { (k : ℕ) → k ≢ m → bit_at result k ≡ bit_at set k }

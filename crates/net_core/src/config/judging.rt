@@ -2,21 +2,22 @@
 ghost use Rattle.std.specs.Prelude.{List, ◌≡◌, ◌<◌, length, slice_get, Some, IsTrue, ◌↔◌, ◌&&◌, ◌==◌, ◌||◌, not, option_map};
 ghost use Rattle.polis_base.specs.Lists.{head_of};
 ghost use Rattle.journals.specs.Journals.{FitsNetwork, is_party};
-ghost use Rattle.journals.specs.Legality.{Complete, MayFollow};
+ghost use Rattle.journals.specs.Legality.{Complete, MayFollow, MayFollowIfReaction};
 ghost use Rattle.journals.specs.Schedules.{owed_by_env};
 ghost use Rattle.journals.specs.declared.entry.Entry.{Entry};
-ghost use Rattle.journals.specs.declared.entry.Entry.TheVariants.{Dep, Rea};
+ghost use Rattle.journals.specs.declared.entry.Entry.TheVariants.{Dep};
 ghost use Rattle.journals.specs.declared.entry.TraceItem.TheVariants.{Event};
+ghost use Rattle.net_core.specs.Judging.{IsCauseAgainst};
 ghost use Rattle.net_core.specs.Tables.{AreTables};
+ghost use Rattle.net_core.specs.inner.Outcomes.{SaysOutcome};
 
-use crate::answer::NextEnv;
-use crate::blanks::Blanks;
+use crate::answer::{NextEnv, Why};
 use crate::config::bits::is_set;
 use crate::config::cursors::is_settled;
 use crate::config::tables::Tables;
 use domains::Codes;
-use journals::{Owed, Trace, TraceItem, sending_laws};
-use transition_table::{Network, Outcome, Party, Reactor, Snapshot};
+use journals::{Entry, Owed, Trace, TraceItem, sending_laws};
+use transition_table::{Network, Outcome, Party};
 
 // The item at a place is this event with this code.
 fn is_item(trace: &Trace, place: u64, event: u32, code: u8) -> bool
@@ -109,7 +110,7 @@ impl Tables {
     }
 
     // Whether a delivery is the next of what its sender has sent to its receiver.
-    pub(crate) fn may_land(
+    fn may_land(
         &self,
         net: &Network,
         trace: &Trace,
@@ -138,36 +139,73 @@ impl Tables {
         }
     }
 
-    // Whether a reaction is one of a woken machine to its snapshot, with the outcome that the
-    // reactor gives.
-    pub(crate) fn may_react<R: Reactor>(
+    // The cause against an entry, if there is one. A reaction is one that may follow.
+    pub(crate) fn against_delivery(
         &self,
-        r: &R,
         net: &Network,
         trace: &Trace,
-        m: u32,
-        s: &Snapshot,
-        o: &Outcome,
-        blanks: &mut Blanks<'_>,
-    ) -> bool
-        requires fits { FitsNetwork net.now (Rea m s.now o.now) }
-        requires network { R.meaning r.now ≡ net.now }
-        requires blanks { blanks.old ≡ net.now }
+        entry: &Entry,
+    ) -> Option<Why>
+        requires fits { FitsNetwork net.now entry.now }
         requires current { (journal : List Entry) × AreTables net.now trace.now journal
             self.now.readers.items self.now.moments.items self.now.woken self.now.cursors
             self.now.owed }
-        ensures follows { (journal : List Entry) → AreTables net.now trace.now journal
+        ensures { (journal : List Entry) → MayFollowIfReaction net.now trace.now journal entry.now
+            → AreTables net.now trace.now journal self.now.readers.items self.now.moments.items
+            self.now.woken self.now.cursors self.now.owed
+            → IsCauseAgainst net.now trace.now journal entry.now result }
+    {
+        match entry {
+            Entry::Dep {
+                from,
+                to,
+                event,
+                code,
+            } => {
+                if self.may_land(net, trace, *from, *to, *event, *code) {
+                    None
+                } else {
+                    Some(Why::NotOwed)
+                }
+            }
+            Entry::Rea { .. } => None,
+        }
+    }
+
+    // The cause against an entry, if there is one. Whether the outcome of a reaction is the
+    // machine's is told.
+    pub(crate) fn against(
+        &self,
+        net: &Network,
+        trace: &Trace,
+        entry: &Entry,
+        is_right: bool,
+    ) -> Option<Why>
+        requires fits { FitsNetwork net.now entry.now }
+        requires right { SaysOutcome net.now entry.now is_right }
+        requires current { (journal : List Entry) × AreTables net.now trace.now journal
+            self.now.readers.items self.now.moments.items self.now.woken self.now.cursors
+            self.now.owed }
+        ensures { (journal : List Entry) → AreTables net.now trace.now journal
             self.now.readers.items self.now.moments.items self.now.woken self.now.cursors
             self.now.owed
-            → IsTrue result ↔ MayFollow net.now trace.now journal (Rea m s.now o.now) }
-        ensures same { blanks.new ≡ blanks.old }
+            → IsCauseAgainst net.now trace.now journal entry.now result }
     {
-        if !is_set(self.woken, m) {
-            return false;
+        match entry {
+            Entry::Dep { .. } => self.against_delivery(net, trace, entry),
+            Entry::Rea {
+                machine,
+                snapshot,
+                ..
+            } => {
+                if !is_set(self.woken, *machine) {
+                    return Some(Why::NotWoken);
+                }
+                if !same_codes(&snapshot.codes, &self.moments[*machine as usize].codes) {
+                    return Some(Why::Snapshot);
+                }
+                if is_right { None } else { Some(Why::Outcome) }
+            }
         }
-        if !same_codes(&s.codes, &self.moments[m as usize].codes) {
-            return false;
-        }
-        blanks.gives(r, m, s, o)
     }
 }

@@ -12,6 +12,6 @@ returns-in-Some c =
     let first : IsFirstNotRising net entries stamps (Some p) =
     subst (λ (o : Option ℕ). IsFirstNotRising net entries stamps o) c.in-Some.is
     c.in_ok-entry.ensures in
-    stamps_refused c.laws.ensures.prefixes net c.args.trace.now c.args.j.now c.args.s.now
-    c.args.legal p entries stamps c.requires.legal.within c.requires.legal.legal
-    c.in_ok-entries.ensures c.in_ok-stamps.ensures first
+    stamps_refused c.laws.ensures.prefixes c.laws.ensures.steps net c.args.trace.now c.args.j.now
+    c.args.s.now c.args.legal.count p entries stamps c.requires.legal.up_to.within
+    c.requires.legal.up_to.legal c.in_ok-entries.ensures c.in_ok-stamps.ensures first

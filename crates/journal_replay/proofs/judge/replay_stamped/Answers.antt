@@ -17,6 +17,6 @@ returns-in-Some g c =
     let first : IsFirstNotRising net j s (Some p) =
     subst (λ (n : Network). IsFirstNotRising n j s (Some p)) c.network-2.ensures
     (subst (λ (o : Option ℕ). IsFirstNotRising c.network-2.result.now j s o) c.in-Some.is
-    c.in_ok-entry-2.ensures) in
-    stamps_refused c.laws.ensures.prefixes net c.args.trace.now j s k p j s up.within up.legal
-    (sym (take_all k j (omega arith))) (sym (take_all k s (omega arith))) first
+    c.in_ok-entry.ensures) in
+    stamps_refused c.laws.ensures.prefixes c.laws.ensures.steps net c.args.trace.now j s k p j s
+    up.within up.legal (sym (take_all k j (omega arith))) (sym (take_all k s (omega arith))) first

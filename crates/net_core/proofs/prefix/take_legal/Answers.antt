@@ -1,35 +1,67 @@
-use Rattle.std.proofs.Common.{List, take, sym, subst, ◌∙◌, arith}
+use Rattle.std.proofs.Common.{List, Option, None, take, sym, subst, ◌∙◌, arith}
+use Rattle.transition_table.specs.declared.network.Network.{Network}
 use Rattle.journals.specs.declared.entry.Entry.{Entry}
-use Rattle.net_core.specs.Tables.{AreTables}
-use Rattle.net_core.proofs.Prefixes.{follows_if_legal}
-use Rattle.net_core.proofs.Tables.{not_following}
-use Rattle.journals.proofs.StampSteps.{prefix_more}
+use Rattle.journals.specs.Journals.{FitsNetwork}
 use Rattle.journals.proofs.EntriesAt.{fits_at}
+use Rattle.journals.proofs.StampSteps.{prefix_more}
+use Rattle.net_core.specs.Judging.{IsCauseAgainst}
+use Rattle.net_core.specs.Tables.{AreTables}
+use Rattle.net_core.specs.declared.answer.Why.{Why}
+use Rattle.net_core.specs.inner.Outcomes.{SaysOutcome}
+use Rattle.net_core.proofs.Causes.{caused_may_not_follow}
+use Rattle.net_core.proofs.Prefixes.{follows_if_legal}
 use Rattle.net_core.proofs.prefix.take_legal.Goals as goal
 
-pub may_follow-requires-clause-fits : goal.may_follow-requires-clause-fits
-may_follow-requires-clause-fits g c =
+pub is_right-is_right-requires-clause-fits : goal.is_right-is_right-requires-clause-fits
+is_right-is_right-requires-clause-fits g c =
+    subst (λ (n : Network). FitsNetwork n c.get-entry.result.now) (sym c.loop-i.invariant.blanks_are)
+    (fits_at c.args.net.now c.args.j.now c.loop-i.i c.get-entry.result.now c.requires.fits
+    c.get-entry.ensures)
+
+pub against-requires-clause-fits : goal.against-requires-clause-fits
+against-requires-clause-fits g c =
     fits_at c.args.net.now c.args.j.now c.loop-i.i c.get-entry.result.now c.requires.fits
     c.get-entry.ensures
 
-pub may_follow-requires-clause-current : goal.may_follow-requires-clause-current
-may_follow-requires-clause-current g c =
+pub against-requires-clause-right : goal.against-requires-clause-right
+against-requires-clause-right g c =
+    subst (λ (n : Network). SaysOutcome n c.get-entry.result.now c.is_right-is_right.result)
+    c.loop-i.invariant.blanks_are c.is_right-is_right.ensures.right
+
+pub against-requires-clause-current : goal.against-requires-clause-current
+against-requires-clause-current g c =
     (take c.loop-i.i c.args.j.now, c.loop-i.invariant.current)
 
-pub returns-then-not-may_follow-clause-longest : goal.returns-then-not-may_follow-clause-longest
-returns-then-not-may_follow-clause-longest g c =
+pub returns-in-Some-clause-longest : goal.returns-in-Some-clause-longest
+returns-in-Some-clause-longest g c =
     let net = c.args.net.now in
     let trace = c.args.trace.now in
     let j = c.args.j.now in
+    let entry = c.get-entry.result.now in
+    let prefix = take c.loop-i.i j in
     let current = c.loop-i.invariant.current in
     record {
       within = omega arith;
       legal = current.legal;
-      longest = λ below h. not_following
-          (c.may_follow.ensures.follows (take c.loop-i.i j) current) c.if-not-may_follow.true
-          (follows_if_legal c.laws.ensures.steps net trace j c.loop-i.i c.get-entry.result.now below
+      longest = λ below h. caused_may_not_follow net trace prefix c.in-Some.why entry
+          (subst (λ (o : Option Why). IsCauseAgainst net trace prefix entry o) c.in-Some.is
+          (c.against.ensures prefix current))
+          (follows_if_legal c.laws.ensures.steps net trace j c.loop-i.i entry below
           c.get-entry.ensures h);
     }
+
+pub returns-in-Some-clause-reason : goal.returns-in-Some-clause-reason
+returns-in-Some-clause-reason g c = λ below. (
+  c.get-entry.result.now,
+  c.get-entry.ensures,
+  subst
+      (λ (o : Option Why). IsCauseAgainst c.args.net.now c.args.trace.now
+      (take c.loop-i.i c.args.j.now) c.get-entry.result.now o) c.in-Some.is
+      (c.against.ensures (take c.loop-i.i c.args.j.now) c.loop-i.invariant.current),
+)
+
+pub returns-in-Some-clause-no_reason : goal.returns-in-Some-clause-no_reason
+returns-in-Some-clause-no_reason g c = λ same. absurd (omega arith)
 
 pub take_next-requires-clause-fits : goal.take_next-requires-clause-fits
 take_next-requires-clause-fits g c =
@@ -38,9 +70,14 @@ take_next-requires-clause-fits g c =
 
 pub take_next-requires-clause-current : goal.take_next-requires-clause-current
 take_next-requires-clause-current g c =
-    let current = c.loop-i.invariant.current in
     let prefix = take c.loop-i.i c.args.j.now in
-    (prefix, (c.may_follow.ensures.follows prefix current).0 c.if-not-may_follow.false, current)
+    let current = c.loop-i.invariant.current in (
+      prefix,
+      subst
+          (λ (o : Option Why). IsCauseAgainst c.args.net.now c.args.trace.now prefix
+          c.get-entry.result.now o) c.in-None.is (c.against.ensures prefix current),
+      current,
+    )
 
 pub loop-i-preserved : goal.loop-i-preserved
 loop-i-preserved g c =
@@ -48,12 +85,13 @@ loop-i-preserved g c =
     let prefix = take c.loop-i.i c.args.j.now in
     let more = prefix_more c.args.j.now c.loop-i.i c.get-entry.result.now (omega arith)
     c.get-entry.ensures in
+    let follows = subst
+    (λ (o : Option Why). IsCauseAgainst c.args.net.now c.args.trace.now prefix
+    c.get-entry.result.now o) c.in-None.is (c.against.ensures prefix current) in
     let tables = c.take_next.new.self in
     record {
       current = subst (λ (l : List Entry). AreTables c.args.net.now c.args.trace.now l
           tables.readers.items tables.moments.items tables.woken tables.cursors tables.owed)
-          (sym more)
-          (c.in_ok-take_next.ensures prefix
-          ((c.may_follow.ensures.follows prefix current).0 c.if-not-may_follow.false) current);
-      blanks_are = c.may_follow.ensures.same ∙ c.loop-i.invariant.blanks_are;
+          (sym more) (c.in_ok-take_next-in-None.ensures prefix follows current);
+      blanks_are = c.is_right-is_right.ensures.same ∙ c.loop-i.invariant.blanks_are;
     }

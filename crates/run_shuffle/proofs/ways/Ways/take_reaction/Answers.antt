@@ -1,0 +1,51 @@
+use Rattle.std.proofs.Common.{ℕ, List, [], cond, slice_get, refl, ap, subst, ◌∙◌, arith}
+use Rattle.std.specs.Int.{bit_at}
+use Rattle.transition_table.specs.Transitions.{IsOutcome, IsSnapshot}
+use Rattle.transition_table.specs.declared.network.Network.{Network}
+use Rattle.journals.specs.Journals.{emitted, outputs_of}
+use Rattle.journals.specs.declared.entry.Entry.TheVariants.{Rea}
+use Rattle.run_shuffle.specs.declared.ways.Ways.{Ways}
+use Rattle.run_shuffle.proofs.EntriesOfMoves.{machine_below}
+use Rattle.run_shuffle.proofs.WaysAfter.{IsRow, reaction_taken, read_row, row_set, taken}
+use Rattle.run_shuffle.proofs.ways.Ways.take_reaction.Goals as goal
+
+pub returns-clause-ways : goal.returns-clause-ways
+returns-clause-ways c =
+    let now = c.args.config.now in
+    let ways = c.args.self.now in
+    let k = c.args.machine in
+    let x = c.args.snapshot in
+    let o = c.args.outcome in
+    let row = c.with_outcome-owes.result in
+    let owed = c.get-owed.result.now in
+    let below =
+    machine_below now.net k (λ machine. IsSnapshot machine x × IsOutcome machine o)
+    (slice_get now.net.machines k) refl c.requires.fits in
+    let sent : Network → List (ℕ × ℕ) =
+    λ (net : Network). cond o.fires (emitted (outputs_of net k) o.outs) [] in
+    let made : IsRow now.net (sent now.net) owed row =
+    subst (λ (net : Network). IsRow net (sent net) owed row) c.network.ensures
+    (record {
+      machines = c.with_outcome-owes.ensures.machines;
+      others = c.with_outcome-owes.ensures.others;
+    }) in
+    row_set c.take.new.self (taken now (Rea k x o)) ways c.set_receivers.new.self k row
+    c.without-self.result c.in_ok-take.ensures.ok c.set_receivers.ensures.sends
+    c.set_receivers.ensures.owed c.set_receivers.ensures.same (λ sum all.
+    reaction_taken c.moving_laws.ensures.moves_owed c.moving_laws.ensures.moves_waking
+    c.sending_laws.ensures.trace_gives now ways k x o row c.without-self.result sum
+    c.journal-journal.ensures.legal c.requires.ways below
+    (read_row now.net (sent now.net) ways.sends k owed row c.get-owed.ensures made)
+    c.without-self.ensures.same (λ m within other.
+    c.without-self.ensures.others m within other
+    ∙ ap (λ (w : Ways). bit_at w.woken m) c.set_receivers.ensures.same) all)
+
+pub without-self-requires : goal.without-self-requires
+without-self-requires c =
+    let now = c.args.config.now in
+    let below =
+    machine_below now.net c.args.machine
+    (λ machine. IsSnapshot machine c.args.snapshot × IsOutcome machine c.args.outcome)
+    (slice_get now.net.machines c.args.machine) refl c.requires.fits in
+    let few = now.net.few_machines in
+    omega (arith, below, few)

@@ -7,7 +7,7 @@ use Rattle.journals.proofs.MomentsAfter.{get_or-table, length-table, length-upto
 use Rattle.transition_table.specs.declared.machine.Machine.{Machine}
 use Rattle.table_use.specs.inner.Boxes.{all_flags, allowed, both_allow, flags_of, passing, passing_idle}
 use Rattle.table_use.proofs.Covered.{table_at}
-use Rattle.table_use.proofs.Numbers.{here, past}
+use Rattle.table_use.proofs.Numbers.{here}
 
 same_item : {X : Type 0} (x y : X) → Some x ≡ Some y → x ≡ y
 same_item x y h = cc
@@ -32,14 +32,20 @@ row_long m r row is =
     ap (λ (l : List (List Bool)). length l) is
     ∙ length-table (λ var. map (allowed m r var) (upto (slice_index m.vars var))) (length m.vars)
 
+pub own_at : (m : Machine) (r var : ℕ) (row : List (List Bool)) (flags : List Bool)
+    → row ≡ flags_of m r → var < length m.vars → slice_get row var ≡ Some flags
+    → flags ≡ map (allowed m r var) (upto (slice_index m.vars var))
+own_at m r var row flags is less there =
+    same_item flags (map (allowed m r var) (upto (slice_index m.vars var)))
+    (sym there ∙ ap (λ (l : List (List Bool)). slice_get l var) is
+    ∙ table_at (λ v. map (allowed m r v) (upto (slice_index m.vars v))) (length m.vars) var less)
+
 pub one_at : (m : Machine) (all : List (List (List Bool))) (r var : ℕ) (row : List (List Bool))
     (flags : List Bool) → all ≡ all_flags m → r < length m.rows → var < length m.vars
     → slice_get all r ≡ Some row → slice_get row var ≡ Some flags
     → flags ≡ map (allowed m r var) (upto (slice_index m.vars var))
 one_at m all r var row flags is low less at there =
-    same_item flags (map (allowed m r var) (upto (slice_index m.vars var)))
-    (sym there ∙ ap (λ (l : List (List Bool)). slice_get l var) (flags_at m all r row is low at)
-    ∙ table_at (λ v. map (allowed m r v) (upto (slice_index m.vars v))) (length m.vars) var less)
+    own_at m r var row flags (flags_at m all r row is low at) less there
 
 pub row_flags_long : (m : Machine) (r var : ℕ) (flags : List Bool)
     → flags ≡ map (allowed m r var) (upto (slice_index m.vars var))
@@ -100,11 +106,6 @@ pub passing_here : (test : ℕ → ℕ → Bool) (sizes : List ℕ) (i : ℕ) �
     → passing test i (drop i sizes)
     ≡ count_by (test i) (upto (slice_index sizes i)) * passing test (i + 1) (drop (i + 1) sizes)
 passing_here test sizes i low = ap (passing test i) (here sizes i low)
-
-pub passing_past : (test : ℕ → ℕ → Bool) (sizes : List ℕ) (i : ℕ) → i ≡ length sizes
-    → passing test i (drop i sizes) ≡ 1
-passing_past test sizes i end =
-    ap (λ (k : ℕ). passing test i (drop k sizes)) end ∙ ap (passing test i) (past sizes)
 
 pub passing_few : (test : ℕ → ℕ → Bool) (n : ℕ) (sizes : List ℕ)
     → passing test n sizes ≤ product sizes

@@ -1,5 +1,4 @@
-mod Upto
-mod Seen
+mod Bools
 mod Tests
 mod Numbers
 mod Looks
@@ -8,7 +7,6 @@ mod Judged
 mod Covered
 mod Pushed
 mod Walked
-mod Changes
 mod Repeats
 mod Written
 mod InNetwork
@@ -16,3 +14,12 @@ mod Named
 mod ListCounts
 mod RowBoxes
 mod FlagTables
+mod Sets
+mod Taken
+mod Remembered
+mod ByNumber
+mod EqualOutcomes
+mod Emitted
+mod Turning
+mod SeenOnes
+mod Marked

@@ -9,9 +9,10 @@ use Rattle.domains.specs.AllCodes.{all_codes, each_after}
 use Rattle.domains.specs.Tables.{are_sizes}
 use Rattle.outcome_table.proofs.ListMaps.{flat_upto}
 use Rattle.transition_table.specs.declared.machine.Machine.{Machine}
-use Rattle.table_use.specs.Use.{is_present, is_seen}
+use Rattle.journals.specs.Seen.{is_present, is_seen}
 use Rattle.table_use.specs.inner.Boxes.{passes, passing, passing_idle}
-use Rattle.table_use.proofs.Upto.{any_found, found_below}
+use Rattle.journals.proofs.Upto.{any_found, found_below}
+use Rattle.table_use.proofs.Bools.{and_last}
 
 -- ---- counts
 
@@ -84,10 +85,6 @@ abbrev pub begins_idle : ℕ → List ℕ → Bool
 begins_idle zero s = true
 begins_idle (suc k) [] = true
 begins_idle (suc k) (code ∷ s) = eqb code 0 && begins_idle k s
-
-pub and_last : (a : Bool) → (a && true) ≡ a
-and_last true = refl
-and_last false = refl
 
 swapped : (a b c : Bool) → ((a && b) && c) ≡ (a && (b && c))
 swapped true b c = refl

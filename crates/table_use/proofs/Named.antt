@@ -9,7 +9,8 @@ use Rattle.domains.proofs.AllCodes.{lists_fit}
 use Rattle.transition_table.specs.declared.machine.Machine.{Machine}
 use Rattle.table_use.specs.Lint.{found, input_lint, lint_of, seen_ones}
 use Rattle.table_use.specs.LintLines.{are_snapshots, is_snapshot}
-use Rattle.table_use.specs.Use.{is_jammed, is_seen, is_unused}
+use Rattle.journals.specs.Seen.{is_seen}
+use Rattle.table_use.specs.Use.{is_jammed, is_unused}
 use Rattle.table_use.specs.declared.finding.InputLint.{InputLint}
 
 all_left : (p q : List ℕ → Bool) (xs : List (List ℕ)) → list_all p xs ≡ true

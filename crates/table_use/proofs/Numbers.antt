@@ -36,7 +36,7 @@ rank_end sizes codes i end =
     ap (λ (k : ℕ). rank (drop k sizes) (drop i codes)) end
     ∙ ap (λ (xs : List ℕ). rank xs (drop i codes)) (past sizes)
 
-fits_drop : (sizes codes : List ℕ) (i : ℕ) → fits sizes codes ≡ true
+pub fits_drop : (sizes codes : List ℕ) (i : ℕ) → fits sizes codes ≡ true
     → fits (drop i sizes) (drop i codes) ≡ true
 fits_drop sizes codes zero h = h
 fits_drop [] [] (suc i) h = refl

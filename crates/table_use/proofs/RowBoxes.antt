@@ -2,7 +2,7 @@
 use Rattle.std.proofs.Common.{◌≡◌, ℕ, zero, suc, ◌+◌, ◌<◌, Bool, true, false, cond, not, ◌&&◌, ◌||◌, eqb, nat_lt, List, [], ◌∷◌, length, count_by, slice_get, slice_index, Option, Some, refl, sym, ap, ◌∙◌, arith}
 use Rattle.std.specs.List.{filter, list_all}
 use Rattle.std.specs.Int.{bit_at}
-use Rattle.std.proofs.lemmas.Bool.{and_from, and_parts, eq-eqb, eqb-true, lt-ltb, ltb-true}
+use Rattle.std.proofs.lemmas.Bool.{and_from, and_parts, and_right, eq-eqb, eqb-true, lt-ltb, ltb-true, ne_eqb}
 use Rattle.std.proofs.lemmas.List.Sums.{sum_by-cons}
 use Rattle.polis_base.proofs.AllPass.{all_pass}
 use Rattle.domains.specs.AllCodes.{all_codes}
@@ -18,13 +18,15 @@ use Rattle.transition_table.specs.declared.row.Row.{Row}
 use Rattle.transition_table.proofs.Ranges.{below_size, row_there}
 use Rattle.transition_table.proofs.Rows.{machine_sizes}
 use Rattle.table_use.specs.Lint.{amount, enables_only, seen_ones}
-use Rattle.table_use.specs.Use.{enables, is_seen}
+use Rattle.journals.specs.Seen.{is_seen}
+use Rattle.table_use.specs.Use.{enables}
 use Rattle.table_use.specs.inner.Boxes.{allowed, allowed_by, both_allow, passes, passing, passing_idle}
-use Rattle.table_use.proofs.ListCounts.{and_last, begins_idle, count_same, idle_counts, passing_counts, unseen_idle, seen_and_idle}
+use Rattle.table_use.proofs.ListCounts.{begins_idle, count_same, idle_counts, passing_counts, unseen_idle, seen_and_idle}
+use Rattle.table_use.proofs.Bools.{and_last, same_bool}
 
 -- ---- a test of each code
 
-each_passes : (test : ℕ → ℕ → Bool) (n : ℕ) (s : List ℕ)
+pub each_passes : (test : ℕ → ℕ → Bool) (n : ℕ) (s : List ℕ)
     → ((v : ℕ) → v < length s → test (n + v) (slice_index s v) ≡ true) → passes test n s ≡ true
 each_passes test n [] each = refl
 each_passes test n (code ∷ s) each =
@@ -34,7 +36,7 @@ each_passes test n (code ∷ s) each =
     (let e : n + 1 + v ≡ n + suc v = omega arith in ap (λ (k : ℕ). test k (slice_index s v)) e)
     ∙ each (suc v) (omega arith)))
 
-passes_each : (test : ℕ → ℕ → Bool) (n : ℕ) (s : List ℕ) (v : ℕ) → passes test n s ≡ true
+pub passes_each : (test : ℕ → ℕ → Bool) (n : ℕ) (s : List ℕ) (v : ℕ) → passes test n s ≡ true
     → v < length s → test (n + v) (slice_index s v) ≡ true
 passes_each test n [] v h low = absurd (omega arith)
 passes_each test n (code ∷ s) zero h low =
@@ -95,11 +97,6 @@ all_allow vars s (d ∷ conds) named each =
     (and_parts (allows_code v (slice_index s v) d)
     (list_all (allows_code v (slice_index s v)) conds) (each v less)).1))
 
-same_bool : (a b : Bool) → (a ≡ true → b ≡ true) → (b ≡ true → a ≡ true) → a ≡ b
-same_bool true b to from = sym (to refl)
-same_bool false true to from = from refl
-same_bool false false to from = refl
-
 row_inside : (vars s : List ℕ) (row : Row) → list_all (names_codes vars) row.conds ≡ true
     → fits vars s ≡ true → list_all (allows s) row.conds ≡ passes (row_allows vars row) 0 s
 row_inside vars s row named fit =
@@ -123,7 +120,7 @@ row_inside vars s row named fit =
     (ap (λ (k : ℕ). row_allows vars row k (slice_index s v)) e
     ∙ passes_each (row_allows vars row) 0 s v inside (omega arith))).1))
 
-enables_inside : (m : Machine) (r : ℕ) (row : Row) (s : List ℕ) → slice_get m.rows r ≡ Some row
+pub enables_inside : (m : Machine) (r : ℕ) (row : Row) (s : List ℕ) → slice_get m.rows r ≡ Some row
     → fits m.vars s ≡ true → enables m r s ≡ passes (allowed m r) 0 s
 enables_inside m r row s at fit =
     let here = row_there m.inputs m.vars m.results m.rows r row m.fitting_rows at in
@@ -133,7 +130,7 @@ enables_inside m r row s at fit =
     ∙ row_inside m.vars s row named fit
     ∙ ap (λ (o : Option Row). passes (allowed_by m.vars o) 0 s) (sym at)
 
-row_stands : (rows : List Row) (r : ℕ) → r < length rows
+pub row_stands : (rows : List Row) (r : ℕ) → r < length rows
     → (row : Row) × (slice_get rows r ≡ Some row)
 row_stands [] r low = absurd (omega arith)
 row_stands (row ∷ rows) zero low = (row, refl)
@@ -152,11 +149,7 @@ count_fits sizes p q (x ∷ xs) all same =
     ∙ ap (λ (n : ℕ). cond (q x) 1 0 + n) (count_fits sizes p q xs parts.1 same)
     ∙ sym (sum_by-cons (λ s. cond (q s) 1 0) x xs)
 
-and_none : (a : Bool) → (a && false) ≡ false
-and_none true = refl
-and_none false = refl
-
-count_filter : (p q : List ℕ → Bool) (xs : List (List ℕ))
+pub count_filter : (p q : List ℕ → Bool) (xs : List (List ℕ))
     → count_by p (filter q xs) ≡ count_by (λ s. p s && q s) xs
 count_filter p q [] = refl
 count_filter p q (x ∷ xs) =
@@ -172,7 +165,7 @@ count_filter p q (x ∷ xs) =
         ∙ ap (λ (b : Bool). cond b 1 0 + count_by p (filter q xs)) (sym (and_last (p x)))
     kept false =
         (let e : count_by p (filter q xs) ≡ 0 + count_by p (filter q xs) = omega arith in e)
-        ∙ ap (λ (b : Bool). cond b 1 0 + count_by p (filter q xs)) (sym (and_none (p x)))
+        ∙ ap (λ (b : Bool). cond b 1 0 + count_by p (filter q xs)) (sym (and_right (p x) false refl))
 
 pub both_rows : (m : Machine) (r k : ℕ) → r < length m.rows → k < length m.rows
     → amount m (λ s. enables m r s && enables m k s)
@@ -244,3 +237,21 @@ pub only_and_both : (m : Machine) (r k : ℕ)
     → amount m (enables_only m r k) + amount m (λ s. enables m r s && enables m k s)
     ≡ amount m (enables m r)
 only_and_both m r k = apart_in (enables m r) (enables m k) (seen_ones m)
+
+and_swapped : (a b : Bool) → (a && b) ≡ (b && a)
+and_swapped true true = refl
+and_swapped true false = refl
+and_swapped false true = refl
+and_swapped false false = refl
+
+-- a row that is enabled on more isn't enabled only where the other is
+pub only_where_more : (m : Machine) (r k : ℕ) → amount m (enables m k) < amount m (enables m r)
+    → eqb (amount m (enables_only m r k)) 0 ≡ false
+only_where_more m r k less =
+    let one = only_and_both m r k in
+    let two = only_and_both m k r in
+    let same : amount m (λ s. enables m r s && enables m k s)
+    ≡ amount m (λ s. enables m k s && enables m r s) =
+    count_same (λ s. enables m r s && enables m k s) (λ s. enables m k s && enables m r s)
+    (seen_ones m) (λ s. and_swapped (enables m r s) (enables m k s)) in
+    ne_eqb (amount m (enables_only m r k)) 0 (λ none. absurd (omega arith))

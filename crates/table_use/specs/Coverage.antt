@@ -9,7 +9,8 @@ use Rattle.outcome_table.specs.declared.table.Results.{Results}
 use Rattle.journals.specs.declared.entry.Entry.{Entry}
 use Rattle.journals.specs.declared.entry.Entry.TheVariants.{Dep, Rea}
 use Rattle.journals.specs.Journals.{is_firing_of}
-use Rattle.table_use.specs.Use.{enables, is_present, is_jammed, is_unused}
+use Rattle.journals.specs.Seen.{is_present}
+use Rattle.table_use.specs.Use.{enables, is_jammed, is_unused}
 use Rattle.table_use.specs.declared.used.MachineUse.{MachineUse}
 use Rattle.table_use.specs.declared.used.InputUse.{InputUse}
 use Rattle.table_use.specs.declared.tally.Tally.{Tally}

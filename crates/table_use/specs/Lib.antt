@@ -1,9 +1,11 @@
 pub mod Coverage
 pub mod CoverageLines
 pub mod DomainUse
+pub mod Keys
 pub mod Laws
 pub mod Lint
 pub mod LintLines
+pub mod Memos
 pub mod Odd
 pub mod Samples
 pub mod Use

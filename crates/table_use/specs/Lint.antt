@@ -10,7 +10,8 @@ use Rattle.domains.specs.Tables.{product}
 use Rattle.transition_table.specs.Computed.{result_codes}
 use Rattle.transition_table.specs.Transitions.{reading, result}
 use Rattle.transition_table.specs.declared.machine.Machine.{Machine}
-use Rattle.table_use.specs.Use.{without, is_present, is_seen, enables, can_fire, is_unused, is_jammed}
+use Rattle.journals.specs.Seen.{is_present, is_seen}
+use Rattle.table_use.specs.Use.{without, enables, can_fire, is_unused, is_jammed}
 use Rattle.table_use.specs.declared.finding.MachineLint.{MachineLint}
 use Rattle.table_use.specs.declared.finding.RowLint.{RowLint}
 use Rattle.table_use.specs.declared.finding.InputLint.{InputLint}

@@ -1,4 +1,7 @@
-pub mod Asking
 pub mod Boxes
+pub mod Emitting
+pub mod Firsts
 pub mod Lines
+pub mod Marks
 pub mod Steps
+pub mod Walking

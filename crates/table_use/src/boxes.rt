@@ -135,7 +135,11 @@ fn passing_from(machine: &Machine, all: &List<Flags>, r: u32, k: u32, from: u64)
     if from == machine.vars.len() {
         return 1;
     }
-    codes_of_both(machine, all, r, k, from) * passing_from(machine, all, r, k, from + 1)
+    let count = codes_of_both(machine, all, r, k, from);
+    if count == 0 {
+        return 0;
+    }
+    count * passing_from(machine, all, r, k, from + 1)
 }
 
 // How many of them have each input from one on absent.

@@ -1,29 +1,27 @@
 // What journals use of tables.
 ghost use Rattle.std.specs.Prelude.{◌≡◌, ◌<◌, ◌+◌, ◌^◌, ℕ, true, [], length, slice_get, Some, IfOk, IsTrue, OnOk};
 ghost use Rattle.std.specs.List.{All};
-ghost use Rattle.domains.specs.Tables.{fits};
 ghost use Rattle.journals.specs.Journals.{IsJournal};
-ghost use Rattle.outcome_table.specs.Outcomes.{AreResultsOf};
 ghost use Rattle.transition_table.specs.Transitions.{IsSnapshot};
 ghost use Rattle.table_use.specs.Coverage.{AreTablesOf, coverages};
+ghost use Rattle.table_use.specs.Memos.{AreMemos, IsMet, enabled_rows, unused_inputs};
 ghost use Rattle.table_use.specs.Use.{enables};
 ghost use Rattle.table_use.specs.inner.Steps.{AreFew, InputIsFew, IsFew, IsUseAfter, input_after, tally_after};
 ghost use Rattle.table_use.specs.declared.tally.Tally.{Tally};
 ghost use Rattle.table_use.specs.declared.used.InputUse.{InputUse};
 
-use crate::judge::{jammed, unused};
+use crate::memo::{Memo, Met, meet, nothing_met};
 use crate::tally::Tally;
 use crate::used::{CoverageList, InputUse, MachineUse};
-use domains::Codes;
 use journals::{Entry, Journal};
 use outcome_table::{Results, results_of};
 use polis_base::{List, NoMemory};
 use std::alloc::Global;
 use transition_table::{Machine, Network, Snapshot};
 
-// A firing, whose snapshot enables some rows.
-fn count_rows(machine: &Machine, p: u64, s: &Snapshot, rows: &mut List<Tally>)
-    requires snapshot { IsSnapshot machine.now s.now }
+// A firing, whose snapshot enables these rows.
+fn count_rows(machine: &Machine, p: u64, s: &Snapshot, enabled: &[u32], rows: &mut List<Tally>)
+    requires enabled { enabled.now ≡ enabled_rows machine.now s.now.codes }
     requires room { p + 1 < 2 ^ 64 }
     requires many { length rows.old ≡ length machine.now.rows }
     requires few { All (IsFew p) rows.old }
@@ -31,9 +29,10 @@ fn count_rows(machine: &Machine, p: u64, s: &Snapshot, rows: &mut List<Tally>)
     ensures each { (r : ℕ) (t : Tally) → slice_get rows.old r ≡ Some t
         → slice_get rows.new r ≡ Some (tally_after p (enables machine.now r s.now.codes) t) }
 {
-    for r in 0..machine.rows.len() {
+    for row in enabled {
+        let r = u64::from(*row);
         let mut tally = *rows.get(r);
-        tally.count(p, machine.row_holds(r as u32, s));
+        tally.count(p, true);
         rows.set(r, tally);
     }
 }
@@ -41,27 +40,24 @@ fn count_rows(machine: &Machine, p: u64, s: &Snapshot, rows: &mut List<Tally>)
 // A firing, whose snapshot may have this input present.
 fn next_input(
     machine: &Machine,
-    results: &Results,
     p: u64,
     s: &Snapshot,
+    unused: &List<bool>,
     i: u64,
-    other: &mut Codes,
     before: &InputUse,
 ) -> InputUse
-    requires table { AreResultsOf machine.now results.now }
     requires snapshot { IsSnapshot machine.now s.now }
+    requires unused { unused.now ≡ unused_inputs machine.now s.now.codes }
     requires room { p + 1 < 2 ^ 64 }
-    requires long { length other.old ≡ length machine.now.vars }
     requires input { i < length machine.now.inputs }
     requires few { InputIsFew p before.now }
-    ensures is { result ≡ input_after machine.now p s.now.codes true i before.now }
-    ensures long { length other.new ≡ length machine.now.vars }
+    ensures { result ≡ input_after machine.now p s.now.codes true i before.now }
 {
     let _ = machine.var_count();
     let mut input = *before;
     let present = *s.codes.get(i) != 0;
     input.read.count(p, present);
-    let unused = unused(machine, results, &s.codes, i, other);
+    let unused = *unused.get(i);
     input.unused.count(p, unused);
     input
 }
@@ -69,16 +65,14 @@ fn next_input(
 // A firing, whose snapshot has some inputs present.
 fn count_inputs(
     machine: &Machine,
-    results: &Results,
     p: u64,
     s: &Snapshot,
-    other: &mut Codes,
+    unused: &List<bool>,
     inputs: &mut List<InputUse>,
 )
-    requires table { AreResultsOf machine.now results.now }
     requires snapshot { IsSnapshot machine.now s.now }
+    requires unused { unused.now ≡ unused_inputs machine.now s.now.codes }
     requires room { p + 1 < 2 ^ 64 }
-    requires long { length other.old ≡ length machine.now.vars }
     requires many { length inputs.old ≡ length machine.now.inputs }
     requires few { All (InputIsFew p) inputs.old }
     ensures many { length inputs.new ≡ length inputs.old }
@@ -86,37 +80,33 @@ fn count_inputs(
         → slice_get inputs.new i ≡ Some (input_after machine.now p s.now.codes true i t) }
 {
     for i in 0..machine.inputs.len() {
-        let after = next_input(machine, results, p, s, i, other, inputs.get(i));
+        let after = next_input(machine, p, s, unused, i, inputs.get(i));
         inputs.set(i, after);
     }
 }
 
-// A reaction, which fires or doesn't.
+// A reaction, which fires or doesn't, on a snapshot of which this is so.
 fn count_reaction(
-    alloc: Global,
     machine: &Machine,
-    results: &Results,
     p: u64,
     s: &Snapshot,
     fires: bool,
+    met: &Met,
     used: &mut MachineUse,
-) -> Result<(), NoMemory>
-    requires table { AreResultsOf machine.now results.now }
+)
     requires snapshot { IsSnapshot machine.now s.now }
+    requires met { IsMet machine.now s.now.codes met.now }
     requires room { p + 1 < 2 ^ 64 }
     requires few { AreFew machine.now p used.old }
-    ensures { OnOk result (IsUseAfter machine.now p s.now.codes fires used.old used.new) }
+    ensures { IsUseAfter machine.now p s.now.codes fires used.old used.new }
 {
-    let mut other = Codes::filled(alloc, machine.vars.len(), 0)?;
     used.fired.count(p, fires);
     used.idle.count(p, !fires);
-    used.jammed
-        .count(p, jammed(machine, results, &s.codes, &mut other));
+    used.jammed.count(p, met.jammed);
     if fires {
-        count_rows(machine, p, s, &mut used.rows);
-        count_inputs(machine, results, p, s, &mut other, &mut used.inputs);
+        count_rows(machine, p, s, met.rows.as_slice(), &mut used.rows);
+        count_inputs(machine, p, s, &met.unused, &mut used.inputs);
     }
-    Ok(())
 }
 
 /// What each machine does on its snapshots, by number.
@@ -155,6 +145,55 @@ fn first_uses(alloc: Global, net: &Network) -> Result<Vec<MachineUse>, NoMemory>
     Ok(used)
 }
 
+/// What is known of the snapshots that each machine met, by number.
+pub type Memos = Vec<Memo>;
+
+/// What is known before any journal, for whoever covers many journals of one network.
+pub fn memos_of(alloc: Global, net: &Network, tables: &Tables) -> Result<Memos, NoMemory>
+    requires { AreTablesOf net.now tables.now }
+    ensures { IfOk result (λ memos. AreMemos net.now tables.now memos.items) }
+{
+    let mut memos = Vec::new(alloc);
+    for m in 0..net.machines.len() {
+        memos.push(nothing_met(alloc, net.machines.get(m), tables.get(m))?)?;
+    }
+    Ok(memos)
+}
+
+/// What a journal used of each machine's table, by the tables of the network and by what is known of
+/// snapshots, to which the journal's are added.
+pub fn coverage_with(
+    alloc: Global,
+    net: &Network,
+    tables: &Tables,
+    memos: &mut Memos,
+    j: &Journal,
+) -> Result<CoverageList, NoMemory>
+    requires tables { AreTablesOf net.now tables.now }
+    requires memos { AreMemos net.now tables.now memos.old.items }
+    requires fits { IsJournal net.now j.now }
+    ensures is { IfOk result (λ used. used ≡ coverages net.now j.now) }
+    ensures memos { IfOk result (λ used. AreMemos net.now tables.now memos.new.items) }
+{
+    let mut used = first_uses(alloc, net)?;
+    for p in 0..j.len() {
+        if let Entry::Rea {
+            machine,
+            snapshot,
+            outcome,
+        } = j.get(p)
+        {
+            let m = *machine as usize;
+            let table = net.machines.get(m as u64);
+            let memo = &mut memos[m];
+            let k = meet(alloc, table, tables.get(m as u64), snapshot, memo)?;
+            let met = memo.known.get(k);
+            count_reaction(table, p, snapshot, outcome.fires, met, &mut used[m]);
+        }
+    }
+    Ok(CoverageList::of(used))
+}
+
 /// What a journal used of each machine's table, by the tables of the network.
 pub fn coverage_by(
     alloc: Global,
@@ -166,27 +205,9 @@ pub fn coverage_by(
     requires fits { IsJournal net.now j.now }
     ensures { IfOk result (λ used. used ≡ coverages net.now j.now) }
 {
-    let mut used = first_uses(alloc, net)?;
-    for p in 0..j.len() {
-        if let Entry::Rea {
-            machine,
-            snapshot,
-            outcome,
-        } = j.get(p)
-        {
-            let m = *machine;
-            count_reaction(
-                alloc,
-                net.machines.get(m as u64),
-                tables.get(m as u64),
-                p,
-                snapshot,
-                outcome.fires,
-                &mut used[m as usize],
-            )?;
-        }
-    }
-    Ok(CoverageList::of(used))
+    let mut memos = memos_of(alloc, net, tables)?;
+    let used = coverage_with(alloc, net, tables, &mut memos, j)?;
+    Ok(used)
 }
 
 /// What a journal used of each machine's table.

@@ -3,7 +3,8 @@ ghost use Rattle.std.specs.Prelude.{◌≡◌, ◌∷◌, ◌++◌, [], true, fa
 ghost use Rattle.polis_base.specs.Lines.{line};
 ghost use Rattle.transition_table.specs.samples.Join.{join, join_machine};
 ghost use Rattle.journals.specs.Runs.{join_overwritten_run};
-ghost use Rattle.table_use.specs.Use.{alone, can_fire, is_jammed, is_seen, is_unused, without};
+ghost use Rattle.journals.specs.Seen.{is_seen};
+ghost use Rattle.table_use.specs.Use.{alone, can_fire, is_jammed, is_unused, without};
 ghost use Rattle.table_use.specs.Coverage.{coverages};
 ghost use Rattle.table_use.specs.CoverageLines.{coverage_text};
 ghost use Rattle.table_use.specs.DomainUse.{unused_domain_line, unused_domains};

@@ -3,7 +3,8 @@ use Rattle.std.specs.Prelude.{◌≡◌, ℕ, ◌+◌, ◌≤◌, Bool, cond, no
 use Rattle.std.specs.List.{All}
 use Rattle.std.specs.Option.{option_or}
 use Rattle.transition_table.specs.declared.machine.Machine.{Machine}
-use Rattle.table_use.specs.Use.{enables, is_jammed, is_present, is_unused}
+use Rattle.journals.specs.Seen.{is_present}
+use Rattle.table_use.specs.Use.{enables, is_jammed, is_unused}
 use Rattle.table_use.specs.declared.tally.Tally.{Tally}
 use Rattle.table_use.specs.declared.used.InputUse.{InputUse}
 use Rattle.table_use.specs.declared.used.MachineUse.{MachineUse}

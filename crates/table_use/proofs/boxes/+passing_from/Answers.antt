@@ -1,4 +1,4 @@
-use Rattle.std.proofs.Common.{◌≡◌, ◌*◌, ◌<◌, ℕ, length, drop, count_by, slice_index, sym, ap, ◌∙◌, arith}
+use Rattle.std.proofs.Common.{◌≡◌, ◌*◌, ◌<◌, ℕ, length, drop, count_by, slice_index, ◌+◌, sym, ap, ◌∙◌, arith, zero-mul}
 use Rattle.polis_base.specs.Lists.{upto}
 use Rattle.outcome_table.proofs.Columns.{product_after}
 use Rattle.outcome_table.proofs.Rows.{few_snapshots}
@@ -21,9 +21,9 @@ overflow_mul-result t c =
     let test = both_allow m c.args.r c.args.k in
     let low : from < length m.vars = let a = c.requires.from in
     let b = c.if-from-len.false in let l = c.len.ensures.len in omega arith in
-    let same : c.codes_of_both.result * c.passing_from.result
+    let same : c.codes_of_both-count.result * c.passing_from.result
     ≡ passing test from (drop from m.vars) =
-    ap (λ (n : ℕ). n * c.passing_from.result) c.codes_of_both.ensures
+    ap (λ (n : ℕ). n * c.passing_from.result) c.codes_of_both-count.ensures
     ∙ ap (λ (n : ℕ). count_by (test from) (upto (slice_index m.vars from)) * n)
     c.passing_from.ensures
     ∙ sym (passing_here test m.vars from low) in
@@ -39,7 +39,20 @@ returns t c =
     let test = both_allow m c.args.r c.args.k in
     let low : from < length m.vars = let a = c.requires.from in
     let b = c.if-from-len.false in let l = c.len.ensures.len in omega arith in
-    ap (λ (n : ℕ). n * c.passing_from.result) c.codes_of_both.ensures
+    ap (λ (n : ℕ). n * c.passing_from.result) c.codes_of_both-count.ensures
     ∙ ap (λ (n : ℕ). count_by (test from) (upto (slice_index m.vars from)) * n)
     c.passing_from.ensures
     ∙ sym (passing_here test m.vars from low)
+
+pub returns-then-count-eq0 : goal.returns-then-count-eq0
+returns-then-count-eq0 t c =
+    let m = c.args.machine.now in
+    let from = c.args.from in
+    let test = both_allow m c.args.r c.args.k in
+    let low : from < length m.vars = let a = c.requires.from in
+    let b = c.if-from-len.false in let l = c.len.ensures.len in omega arith in
+    let none : count_by (test from) (upto (slice_index m.vars from)) ≡ 0 =
+    sym c.codes_of_both-count.ensures ∙ c.if-count-eq0.true in
+    sym (passing_here test m.vars from low
+    ∙ ap (λ (n : ℕ). n * passing test (from + 1) (drop (from + 1) m.vars)) none
+    ∙ zero-mul (passing test (from + 1) (drop (from + 1) m.vars)))

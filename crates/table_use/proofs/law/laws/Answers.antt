@@ -1,10 +1,8 @@
-use Rattle.table_use.proofs.Seen.{reactions_see}
 use Rattle.table_use.proofs.Tests.{jammed_by_test, jammed_is_seen, unused_by_test}
 use Rattle.table_use.proofs.law.laws.Goals as goal
 
 pub returns : goal.returns
 returns c = record {
-  see = reactions_see;
   jammed_by_test = jammed_by_test;
   unused_by_test = unused_by_test;
   jammed_is_seen = jammed_is_seen;

@@ -1,39 +1,49 @@
 use Rattle.std.proofs.Common.{◌≡◌, ◌∙◌, true, nat_lt, ap, sym, subst}
 use Rattle.polis_base.specs.declared.limits.TheConstants.{SIFTED_SNAPSHOTS_MAX}
-use Rattle.table_use.specs.Lint.{lint_of, seen_ones}
+use Rattle.table_use.specs.Lint.{lint_of}
 use Rattle.table_use.specs.LintLines.{are_snapshots}
 use Rattle.table_use.specs.declared.finding.MachineLint.{MachineLint}
 use Rattle.table_use.proofs.Named.{snapshots_of_lint}
-use Rattle.table_use.proofs.Walked.{all_count}
+use Rattle.table_use.proofs.Turning.{ignored_states}
+use Rattle.table_use.proofs.linting.lint_machine.Goals.{After-lists_from}
 use Rattle.table_use.proofs.linting.lint_machine.Goals as goal
 
-pub returns : goal.returns
-returns c =
+-- what was made
+abbrev made : After-lists_from → MachineLint
+made c = record {
+  seen = c.seen_count.result;
+  fire = c.in_ok-fire.field-0.fire;
+  jam = c.in_ok-fire.field-0.jam;
+  rows = c.in_ok-rows.field-0.rows;
+  inputs = c.of.result;
+  states = c.in_ok-fire.field-0.states;
+  outputs = c.in_ok-rows.field-0.outputs;
+  large = nat_lt SIFTED_SNAPSHOTS_MAX c.lists_from.result;
+}
+
+is : (c : After-lists_from) → made c ≡ lint_of c.args.machine.now
+is c =
     let m = c.args.machine.now in
-    let seen = c.in_ok-seen.ensures ∙ all_count (seen_ones m) in
-    let large = ap (nat_lt SIFTED_SNAPSHOTS_MAX) c.lists_from-large.ensures in
-    let made : MachineLint = record {
-      seen = c.in_ok-seen.seen;
-      fire = c.in_ok-fire.fire;
-      jam = c.in_ok-jam.jam;
-      rows = c.in_ok-rows.rows;
-      inputs = c.in_ok-inputs.inputs;
-      states = c.in_ok-states.states;
-      outputs = c.in_ok-outputs.outputs;
-      large = nat_lt SIFTED_SNAPSHOTS_MAX c.lists_from-large.result;
-    } in
-    let is : made ≡ lint_of m = λ i. record {
-      seen = seen i;
-      fire = c.in_ok-fire.ensures i;
-      jam = c.in_ok-jam.ensures i;
-      rows = c.in_ok-rows.ensures i;
-      inputs = c.in_ok-inputs.ensures i;
-      states = c.in_ok-states.ensures i;
-      outputs = c.in_ok-outputs.ensures i;
+    let walked = c.in_ok-fire.ensures in
+    let large = ap (nat_lt SIFTED_SNAPSHOTS_MAX) c.lists_from.ensures in
+    let inputs = c.of.ensures ∙ walked.inputs in
+    let states = walked.states ∙ ignored_states m in
+    λ i. record {
+      seen = c.seen_count.ensures i;
+      fire = walked.fire i;
+      jam = walked.jam i;
+      rows = c.in_ok-rows.ensures.rows i;
+      inputs = inputs i;
+      states = states i;
+      outputs = c.in_ok-rows.ensures.outputs i;
       large = large i;
-    } in
-    record {
-      is = is;
-      snapshots = subst (λ (x : MachineLint). are_snapshots m x ≡ true) (sym is)
-          (snapshots_of_lint m);
     }
+
+pub returns-clause-is : goal.returns-clause-is
+returns-clause-is c = is (goal.at.returns-clause-is c).After-lists_from
+
+pub returns-clause-snapshots : goal.returns-clause-snapshots
+returns-clause-snapshots c =
+    let m = c.args.machine.now in
+    subst (λ (x : MachineLint). are_snapshots m x ≡ true)
+    (sym (is (goal.at.returns-clause-snapshots c).After-lists_from)) (snapshots_of_lint m)

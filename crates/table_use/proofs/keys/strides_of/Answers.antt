@@ -1,0 +1,9 @@
+use Rattle.std.proofs.Common.{◌+◌, arith}
+use Rattle.outcome_table.proofs.Columns.{product_after}
+use Rattle.table_use.proofs.keys.strides_of.Goals as goal
+
+pub lists_from-requires-clause-few : goal.lists_from-requires-clause-few
+lists_from-requires-clause-few c =
+    let most = product_after c.args.vars.now (c.loop-v.v + 1) c.len-v-end.ensures.sizes in
+    let few = c.requires in
+    omega arith

@@ -1,0 +1,9 @@
+use Rattle.std.proofs.Common.{arith}
+use Rattle.outcome_table.proofs.Columns.{product_after}
+use Rattle.table_use.proofs.lookup.idle_count.Goals as goal
+
+pub lists_from-requires-clause-few : goal.lists_from-requires-clause-few
+lists_from-requires-clause-few c =
+    let most = product_after c.args.machine.now.vars c.len.result c.var_count.ensures.sizes in
+    let few = c.var_count.ensures.snapshots in
+    omega arith

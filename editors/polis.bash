@@ -2,11 +2,12 @@
 _polis() {
     local word=${COMP_WORDS[COMP_CWORD]} kinds="" options="" kind
     if [ "$COMP_CWORD" -eq 1 ]; then
-        mapfile -t COMPREPLY < <(compgen -W "run compile image demo check explain equiv bound draw replay migrate losses wave --help --version" -- "$word")
+        mapfile -t COMPREPLY < <(compgen -W "run shuffle compile image demo check explain equiv bound lint draw replay migrate losses cover wave --help --version" -- "$word")
         return
     fi
     case ${COMP_WORDS[1]} in
         run) kinds="net trc stem" options="--workers --limit --image" ;;
+        shuffle) kinds="net trc stem" options="--order --limit" ;;
         compile) kinds="net stem" options="" ;;
         image) kinds="net stem" options="" ;;
         demo) kinds="" options="" ;;
@@ -14,10 +15,12 @@ _polis() {
         explain) kinds="net trc jnl" options="" ;;
         equiv) kinds="net net" options="" ;;
         bound) kinds="net" options="" ;;
+        lint) kinds="net" options="" ;;
         draw) kinds="net stem" options="" ;;
         replay) kinds="net trc jnl" options="" ;;
         migrate) kinds="net trc jnl stem" options="" ;;
         losses) kinds="net trc jnl" options="" ;;
+        cover) kinds="net trc jnl" options="" ;;
         wave) kinds="net trc jnl stem" options="" ;;
     esac
     read -r -a places <<< "$kinds"

@@ -4,7 +4,7 @@ use Rattle.polis_base.specs.Host.{Files}
 use Rattle.polis_words.specs.declared.cause.Cause.{Cause}
 use Rattle.polis_words.specs.declared.cause.Failure.{Failure}
 use Rattle.polis_words.specs.declared.cause.Failure.TheVariants as failures
-use Rattle.input_files.specs.Inputs.{NetFails, FailsNet}
+use Rattle.input_files.specs.Inputs.{NetFails, OnlyNetFails}
 use Rattle.input_files.specs.Failures.{explains_nothing, FileExplained, FilesExplained, FileFails, FilesFail}
 use Rattle.polis_base.proofs.WhereTold.{told_from}
 
@@ -27,11 +27,11 @@ file_fails name o P Q E (failures.File file cause more) f (h, explains) = (
 pub net_explained : (name : List ℕ) (o : Option Files)
     (E : Option Files → List ℕ → Cause → List ℕ → Type 0) (failure : Failure)
     → FileExplained name o (λ files. NetFails files name) E failure
-    → FilesExplained o (FailsNet name) E failure
+    → FilesExplained o (OnlyNetFails name) E failure
 net_explained name o E failures.NoMemory h = tt
 net_explained name o E (failures.File file cause more) (h, explains) = (
   (
-    told_from o (λ files. NetFails files name cause) (λ files. FailsNet name files file.now cause)
+    told_from o (λ files. NetFails files name cause) (λ files. OnlyNetFails name files file.now cause)
         (λ files k. (h.0, k)) h.1,
     h.2,
   ),
@@ -39,5 +39,5 @@ net_explained name o E (failures.File file cause more) (h, explains) = (
 )
 
 pub net_alone : (name : List ℕ) (o : Option Files) (failure : Failure)
-    → FileFails name o (λ files. NetFails files name) failure → FilesFail o (FailsNet name) failure
+    → FileFails name o (λ files. NetFails files name) failure → FilesFail o (OnlyNetFails name) failure
 net_alone name o failure h = net_explained name o explains_nothing failure h

@@ -16,8 +16,8 @@ use Rattle.net_reader.specs.Sentences.{HasNet, BreaksAt, Stops}
 use Rattle.net_rules.specs.NetOf.{NetOf}
 use Rattle.journals.specs.declared.entry.Entry.{Entry}
 use Rattle.journal_text.specs.Reading.{read_of}
-use Rattle.input_files.specs.Accepted.{Accepted, AreBefore}
-use Rattle.input_files.specs.Inputs.{HoldsText, HoldsNet}
+use Rattle.input_files.specs.Accepted.{AreBefore, Declares}
+use Rattle.input_files.specs.Inputs.{HoldsText, HoldsNet, HoldsDeclared}
 use Rattle.input_files.specs.JournalFiles.{HoldsJournal}
 use Rattle.polis_base.proofs.WhereTold.{told_from}
 
@@ -71,12 +71,28 @@ all_before net place before whole = λ k machine at.
     before k machine below at
 
 -- a network text is held under the name, and accepted
-pub net_held : (o : Option Files) (name text : List ℕ) (net : Network)
-    → WhereTold o (λ files. HoldsText files TEXT_MAX name text) → Accepted text net
-    → WhereTold o (λ files. HoldsNet files name net)
-net_held o name text net held accepted =
+pub declared_held : (o : Option Files) (name text : List ℕ) (raw : RawNet) (net : Network)
+    → WhereTold o (λ files. HoldsText files TEXT_MAX name text) → Declares text raw net
+    → WhereTold o (λ files. HoldsDeclared files name raw net)
+declared_held o name text raw net held declares =
     told_from o (λ files. HoldsText files TEXT_MAX name text) _
-    (λ files h. record { text = text; holds = h; accepted = accepted }) held
+    (λ files h. record { text = text; holds = h; declares = declares }) held
+
+-- what is declared aside
+pub declared_net : (files : Files) (name : List ℕ) (raw : RawNet) (net : Network)
+    → HoldsDeclared files name raw net → HoldsNet files name net
+declared_net files name raw net h = record {
+  text = h.text;
+  holds = h.holds;
+  accepted = ((raw, h.declares.has, h.declares.is_net), h.declares.deterministic);
+}
+
+pub net_held : (o : Option Files) (name : List ℕ) (raw : RawNet) (net : Network)
+    → WhereTold o (λ files. HoldsDeclared files name raw net)
+    → WhereTold o (λ files. HoldsNet files name net)
+net_held o name raw net held =
+    told_from o (λ files. HoldsDeclared files name raw net) (λ files. HoldsNet files name net)
+    (λ files h. declared_net files name raw net h) held
 
 -- a journal text of the network is held under the name, and read
 pub journal_held : (o : Option Files) (net : Network) (name text : List ℕ) (journal : List Entry)

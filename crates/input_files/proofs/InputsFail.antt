@@ -53,7 +53,7 @@ text_refused text net (Syntax place) s h a = no_break text a.0.0 place a.0.1 h
 text_refused text net (Rule rule place) s h a = let none = a.0.2.0 in
     let some = h.2 a.0.0 a.0.1 in cc
 text_refused text net (Conflict rows) s h a =
-    let first = h.2 net a.0 in
+    let first = h.5 net a.0 in
     let found = first.conflict.conflict.conflict in
     found.differ (a.1 rows.machine first.machine first.there rows.row_a rows.row_b
     first.conflict.read found.order found.snapshot found.first found.second)

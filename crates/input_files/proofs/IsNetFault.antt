@@ -2,6 +2,8 @@
 use Rattle.std.proofs.Common.{◌≡◌, inr, ℕ, true, List, Option, Some, slice_get, IsTrue, refl, ap, subst, sym}
 use Rattle.polis_base.specs.declared.limits.TheConstants.{TEXT_MAX}
 use Rattle.polis_base.specs.Host.{Files, WhereTold}
+use Rattle.net_reader.specs.Sentences.{HasNet}
+use Rattle.net_reader.specs.declared.raw.RawNet.{RawNet}
 use Rattle.transition_table.specs.declared.machine.Machine.{Machine}
 use Rattle.transition_table.specs.declared.network.Network.{Network}
 use Rattle.net_rules.specs.NetOf.{NetOf}
@@ -25,28 +27,33 @@ fault_from (faults.Cause cause) P Q f h = f cause h
 fault_from faults.NoMemory P Q f h = tt
 
 -- the first machine with a conflict
-pub first_fault : (net : Network) (place : ℕ) (machine : Machine) (cause : Cause)
+pub first_fault : (raw : RawNet) (net : Network) (place : ℕ) (machine : Machine) (cause : Cause)
     → slice_get net.machines place ≡ Some machine → AreBefore net place
-    → IsMachineFault net place machine cause → IsConflictFault net cause
-first_fault net place machine (Conflict rows) there before (here, h) = record {
-  machine = machine;
-  there = rw here there;
-  before = rw here before;
-  conflict = h;
-}
-first_fault net place machine other there before h = absurd h
+    → IsMachineFault raw net place machine cause → IsConflictFault raw net cause
+first_fault raw net place machine (Conflict rows) there before h = (
+  h.1,
+  record {
+    machine = machine;
+    there = rw h.0 there;
+    before = rw h.0 before;
+    conflict = h.2;
+  },
+)
+first_fault raw net place machine other there before h = absurd h
 
 -- a conflict of the one network of a text
-pub conflict_fault : (text : List ℕ) (net : Network) (cause : Cause) → NetOf text net
-    → ((other : Network) → NetOf text other → other ≡ net) → IsConflictFault net cause
-    → IsNetFault text cause
-conflict_fault text net (Conflict rows) has one fault = (
+pub conflict_fault : (text : List ℕ) (raw : RawNet) (net : Network) (cause : Cause)
+    → HasNet text raw → NetOf text net → ((other : Network) → NetOf text other → other ≡ net)
+    → IsConflictFault raw net cause → IsNetFault text cause
+conflict_fault text raw net (Conflict rows) reads has one fault = (
+  raw,
+  reads,
+  fault.0,
   net,
   has,
-  λ other is. subst (λ (n : Network). IsFirstConflict n rows)
-      (sym (one other is)) fault,
+  λ other is. subst (λ (n : Network). IsFirstConflict n rows) (sym (one other is)) fault.1,
 )
-conflict_fault text net other has one fault = absurd fault
+conflict_fault text raw net other reads has one fault = absurd fault
 
 -- a text with a fault is refused
 pub fault_refuses : (text : List ℕ) (cause : Cause) → IsNetFault text cause

@@ -4,7 +4,9 @@ use Rattle.transition_table.specs.declared.machine.Machine.{Machine}
 use Rattle.transition_table.specs.declared.network.Network.{Network}
 use Rattle.transition_table.specs.declared.snapshot.Snapshot.{Snapshot}
 use Rattle.transition_table.specs.Transitions.{IsDeterministic, AreDeterministic}
-use Rattle.net_rules.specs.NetOf.{NetOf}
+use Rattle.net_reader.specs.declared.raw.RawNet.{RawNet}
+use Rattle.net_reader.specs.Sentences.{HasNet}
+use Rattle.net_rules.specs.NetOf.{IsNetOf, NetOf}
 use Rattle.determinism.specs.Conflicts.{IsLeastConflict}
 use Rattle.journal_text.specs.Texts.{snapshot_text}
 use Rattle.polis_words.specs.declared.cause.Conflict.{Conflict}
@@ -12,6 +14,12 @@ use Rattle.polis_words.specs.declared.cause.Conflict.{Conflict}
 -- the bytes are a text of the network, and each of its machines is deterministic
 abbrev pub Accepted : List ℕ → Network → Type 0
 Accepted text net = NetOf text net × AreDeterministic net
+
+-- the bytes are accepted as a text of the network, and these are its declarations
+pub record Declares (text : List ℕ) (raw : RawNet) (net : Network) : Type 0 where
+  pub has : HasNet text raw
+  pub is_net : IsNetOf raw net
+  pub deterministic : AreDeterministic net
 
 -- these rows of the machine conflict, and are its least conflict
 pub record IsConflictIn (net : Network) (machine : Machine) (rows : Conflict) : Type 0 where

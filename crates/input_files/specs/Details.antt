@@ -7,7 +7,8 @@ use Rattle.polis_words.specs.declared.cause.Failure.{Failure}
 use Rattle.polis_words.specs.declared.cause.Failure.TheVariants as failures
 use Rattle.input_files.specs.declared.load.Detail.{Detail}
 use Rattle.input_files.specs.declared.load.Detail.TheVariants as details
-use Rattle.input_files.specs.Explanations.{ExplainsFile}
+use Rattle.polis_words.specs.Replay.{ReplayWords}
+use Rattle.input_files.specs.Explanations.{ExplainsFile, ExplainsReplay}
 use Rattle.input_files.specs.Failures.{explains_nothing}
 
 -- what explains that a file of at most so many bytes is refused, where so much is said of it:
@@ -15,6 +16,12 @@ use Rattle.input_files.specs.Failures.{explains_nothing}
 abbrev pub explains_in : Detail → ℕ → Option Files → List ℕ → Cause → List ℕ → Type 0
 explains_in details.Cause max = explains_nothing
 explains_in details.Explained max = ExplainsFile max
+
+-- the same of the three files of a replay
+abbrev pub explains_replay : Detail → ReplayWords → Option Files → List ℕ → Cause → List ℕ
+    → Type 0
+explains_replay details.Cause replay = explains_nothing
+explains_replay details.Explained replay = ExplainsReplay replay
 
 -- the failure is that of the file of this name for this cause, with this explanation; where memory
 -- ran out for that, it says so

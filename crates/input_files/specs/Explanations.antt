@@ -1,19 +1,13 @@
 -- What explains that a file is refused, or that its journal isn't legal.
-use Rattle.std.specs.Prelude.{◌≡◌, ◌⊎◌, ℕ, ◌+◌, Bool, true, false, cond, ◌==◌, List, [], ◌++◌, length, slice_get, Option, Ok}
-use Rattle.std.specs.Option.{option_map_or}
+use Rattle.std.specs.Prelude.{◌≡◌, ◌⊎◌, ℕ, ◌+◌, Bool, true, false, cond, ◌==◌, List, [], ◌++◌, length, Option, Ok}
 use Rattle.polis_base.specs.declared.limits.TheConstants.{TEXT_MAX, LONG_FILE_MAX}
 use Rattle.polis_base.specs.Host.{Files, WhereTold}
-use Rattle.polis_base.specs.Lists.{head_of}
-use Rattle.net_reader.specs.declared.raw.RawCond.{RawCond}
-use Rattle.net_reader.specs.declared.raw.RawCond.TheVariants.{Present, Absent as IsAbsent, Is, OneOf}
-use Rattle.net_reader.specs.declared.raw.RawNet.{RawNet}
-use Rattle.net_reader.specs.Sentences.{HasNet}
 use Rattle.transition_table.specs.declared.network.Network.{Network}
 use Rattle.journals.specs.declared.entry.Entry.{Entry}
 use Rattle.journals.specs.declared.entry.TraceItem.{TraceItem}
 use Rattle.journal_text.specs.Reading.{read_of}
 use Rattle.net_core.specs.declared.answer.Why.{Why}
-use Rattle.journal_replay.specs.Reasons.{IsReason}
+use Rattle.net_core.specs.Prefixes.{IsReason}
 use Rattle.fault_text.specs.Blocks.{block_text, line_block_text, file_line_text}
 use Rattle.fault_text.specs.TokensBefore.{token_before}
 use Rattle.polis_words.specs.declared.cause.Cause.{Cause}
@@ -23,20 +17,6 @@ use Rattle.polis_words.specs.Replay.{ReplayWords}
 use Rattle.polis_words.specs.Sentences.{absent_sentence, long_sentence, lex_sentence, end_sentence, place_sentence, rule_sentence, trace_sentence, journal_sentence, why_sentence, first_row_sentence, second_row_sentence}
 use Rattle.input_files.specs.Inputs.{HoldsText, HoldsNet, HoldsTrace, InputsFail}
 
--- the place of the name in a condition
-abbrev pub condition_place : RawCond → ℕ
-condition_place (Present name) = name.at
-condition_place (IsAbsent name) = name.at
-condition_place (Is name value) = name.at
-condition_place (OneOf name values) = name.at
-
--- the place of the name in the first condition of a row of a machine, by their numbers
-abbrev pub row_place : RawNet → ℕ → ℕ → ℕ
-row_place raw machine row =
-    let rows = option_map_or (λ machine. machine.rows) (slice_get raw.machines machine) [] in
-    let conditions = option_map_or (λ row. row.conds) (slice_get rows row) [] in
-    option_map_or condition_place (head_of conditions) 0
-
 -- what is said of the place where a text stops being one of a network: whether it ends there, and
 -- what stands before
 abbrev pub syntax_sentence : List ℕ → ℕ → List ℕ
@@ -45,10 +25,10 @@ syntax_sentence text place =
     (place_sentence (token_before text place))
 
 -- a block for each of two rows that conflict
-abbrev pub conflict_blocks : List ℕ → List ℕ → RawNet → ConflictingRows → List ℕ
-conflict_blocks name text raw rows =
-    block_text name text (row_place raw rows.machine rows.row_a) (first_row_sentence rows)
-    ++ block_text name text (row_place raw rows.machine rows.row_b) (second_row_sentence rows)
+abbrev pub conflict_blocks : List ℕ → List ℕ → ConflictingRows → List ℕ
+conflict_blocks name text rows =
+    block_text name text rows.place_a (first_row_sentence rows)
+    ++ block_text name text rows.place_b (second_row_sentence rows)
 
 -- what explains why the text of a file isn't read or isn't accepted
 abbrev pub IsExplained : List ℕ → List ℕ → Cause → List ℕ → Type 0
@@ -59,7 +39,7 @@ IsExplained name text (Syntax place) more =
 IsExplained name text (Rule rule place) more =
     more ≡ block_text name text place (rule_sentence rule)
 IsExplained name text (Conflict rows) more =
-    (raw : RawNet) × HasNet text raw × (more ≡ conflict_blocks name text raw rows)
+    more ≡ conflict_blocks name text rows
 IsExplained name text (TraceLine line kind) more =
     more ≡ line_block_text true name text line (trace_sentence kind)
 IsExplained name text (JournalLine line kind) more =

@@ -14,7 +14,8 @@ use Rattle.trace_text.specs.Traces.{trace_of}
 use Rattle.polis_words.specs.declared.cause.Cause.{Cause}
 use Rattle.polis_words.specs.declared.cause.Cause.TheVariants.{ReadFault as Unread, Absent, TooLong, Lex, Syntax, Rule, Conflict, TraceLine}
 use Rattle.polis_words.specs.Lines.{lex_error}
-use Rattle.input_files.specs.Accepted.{Accepted, IsFirstConflict}
+use Rattle.input_files.specs.Accepted.{Accepted, Declares, IsFirstConflict}
+use Rattle.input_files.specs.Places.{StandThere}
 
 -- a text of at most so many bytes is held under the name
 pub record HoldsText (files : Files) (max : ℕ) (name text : List ℕ) : Type 0 where
@@ -26,6 +27,13 @@ pub record HoldsNet (files : Files) (name : List ℕ) (net : Network) : Type 0 w
   pub text : List ℕ
   pub holds : HoldsText files TEXT_MAX name text
   pub accepted : Accepted text net
+
+-- the same, and these are its declarations
+pub record HoldsDeclared (files : Files) (name : List ℕ) (raw : RawNet) (net : Network) :
+    Type 0 where
+  pub text : List ℕ
+  pub holds : HoldsText files TEXT_MAX name text
+  pub declares : Declares text raw net
 
 -- a trace text of the network is held under the name, within its limit, and read
 pub record HoldsTrace (files : Files) (name : List ℕ) (net : Network) (trace : List TraceItem) :
@@ -52,7 +60,7 @@ IsNetFault text (Rule rule place) =
     (raw : RawNet) × HasNet text raw
     × ((other : RawNet) → HasNet text other → Breaks other rule place)
 IsNetFault text (Conflict rows) =
-    (net : Network) × NetOf text net
+    (raw : RawNet) × HasNet text raw × StandThere raw rows × (net : Network) × NetOf text net
     × ((other : Network) → NetOf text other → IsFirstConflict other rows)
 IsNetFault text other = ⊥
 
@@ -84,6 +92,11 @@ InputsFail files net_name trace_name name cause =
 abbrev pub AcceptsNet : List ℕ → Files → Type 0
 AcceptsNet net_name files = (net : Network) × HoldsNet files net_name net
 
+-- the network text and the trace text of these names are held, within their limit, and accepted
+abbrev pub AcceptsInputs : List ℕ → List ℕ → Files → Type 0
+AcceptsInputs net_name trace_name files = (net : Network) × (trace : List TraceItem)
+    × HoldsNet files net_name net × HoldsTrace files trace_name net trace
+
 -- why the file fails where a request has one, a network text of this name
-abbrev pub FailsNet : List ℕ → Files → List ℕ → Cause → Type 0
-FailsNet net_name files name cause = (name ≡ net_name) × NetFails files net_name cause
+abbrev pub OnlyNetFails : List ℕ → Files → List ℕ → Cause → Type 0
+OnlyNetFails net_name files name cause = (name ≡ net_name) × NetFails files net_name cause

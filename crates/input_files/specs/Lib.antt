@@ -6,4 +6,5 @@ pub mod Faults
 pub mod Inputs
 pub mod JournalFiles
 pub mod Loads
+pub mod Places
 pub mod inner

@@ -2,17 +2,14 @@
 ghost use Rattle.std.specs.Prelude.{◌≡◌, ◌++◌, true, false, IfOk, OnOk};
 ghost use Rattle.std.specs.Result.{is_ok};
 ghost use Rattle.polis_base.specs.Tokens.{tokens_of};
-ghost use Rattle.net_reader.specs.Sentences.{HasNet};
-ghost use Rattle.net_reader.specs.declared.raw.RawNet.{RawNet};
 ghost use Rattle.fault_text.specs.Blocks.{block_text, file_line_text, line_block_text};
 ghost use Rattle.polis_words.specs.Sentences.{absent_sentence, long_sentence, journal_sentence, trace_sentence, why_sentence};
-ghost use Rattle.input_files.specs.Explanations.{IsExplained, condition_place, conflict_blocks, row_place, syntax_sentence};
+ghost use Rattle.input_files.specs.Explanations.{IsExplained, conflict_blocks, syntax_sentence};
 ghost use Rattle.input_files.specs.Inputs.{IsNetFault};
 
 use fault_text::{push_block, push_file_line, push_journal_block, push_line_block, token_before};
 use journal_text::JournalKind;
 use net_core::Why;
-use net_reader::{NetFault, RawCond, RawNet, read_network};
 use polis_base::{Bytes, NoMemory};
 use polis_words::{
     ABSENT, Cause, Conflict, end_sentence, first_row_sentence, journal_sentence, lex_sentence,
@@ -39,36 +36,6 @@ pub fn explain_long(alloc: Global, name: &str, max: u64) -> Result<Bytes, NoMemo
     let sentence = long_sentence(alloc, max)?;
     push_file_line(name, sentence.as_slice(), &mut more)?;
     Ok(more)
-}
-
-// The place of the name in a condition.
-fn condition_place(condition: &RawCond) -> u64
-    ensures { result ≡ condition_place condition.now }
-{
-    match condition {
-        RawCond::Present(name) => name.at,
-        RawCond::Absent(name) => name.at,
-        RawCond::Is { name, .. } => name.at,
-        RawCond::OneOf { name, .. } => name.at,
-    }
-}
-
-// The place of the name in the first condition of a row of a machine.
-fn row_place(raw: &RawNet, machine: u32, row: u32) -> u64
-    ensures { result ≡ row_place raw.now machine row }
-{
-    if u64::from(machine) >= raw.machines.len() {
-        return 0;
-    }
-    let rows = &raw.machines.get(u64::from(machine)).rows;
-    if u64::from(row) >= rows.len() {
-        return 0;
-    }
-    let conditions = &rows.get(u64::from(row)).conds;
-    if conditions.len() == 0 {
-        return 0;
-    }
-    condition_place(conditions.get(0))
 }
 
 // What is said of the place where a text stops being one of a network.
@@ -101,19 +68,6 @@ fn push_syntax(
     push_block(name, text, place, sentence.as_slice(), into)
 }
 
-// The declarations of a text that was read before.
-fn declared_again(alloc: Global, text: &[u8]) -> Result<RawNet, NoMemory>
-    requires { (raw : RawNet) × HasNet text.now raw }
-    ensures { IfOk result (HasNet text.now) }
-{
-    match read_network(alloc, text) {
-        Ok(raw) => Ok(raw),
-        Err(NetFault::NoMemory) => Err(NoMemory),
-        Err(NetFault::Lex(_)) => unreachable!(),
-        Err(NetFault::Syntax(_)) => unreachable!(),
-    }
-}
-
 // Appends the blocks of two rows that conflict.
 fn push_conflict(
     alloc: Global,
@@ -122,17 +76,12 @@ fn push_conflict(
     rows: &Conflict,
     into: &mut Bytes,
 ) -> Result<(), NoMemory>
-    requires { (raw : RawNet) × HasNet text.now raw }
-    ensures { OnOk result ((raw : RawNet) × HasNet text.now raw
-        × (into.new ≡ into.old ++ conflict_blocks name.now text.now raw rows.now)) }
+    ensures { OnOk result (into.new ≡ into.old ++ conflict_blocks name.now text.now rows.now) }
 {
-    let raw = declared_again(alloc, text)?;
     let first = first_row_sentence(alloc, rows)?;
     let second = second_row_sentence(alloc, rows)?;
-    let place = row_place(&raw, rows.machine, rows.row_a);
-    push_block(name, text, place, first.as_slice(), into)?;
-    let place = row_place(&raw, rows.machine, rows.row_b);
-    push_block(name, text, place, second.as_slice(), into)?;
+    push_block(name, text, rows.place_a, first.as_slice(), into)?;
+    push_block(name, text, rows.place_b, second.as_slice(), into)?;
     Ok(())
 }
 

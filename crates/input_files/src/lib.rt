@@ -7,9 +7,7 @@ mod explanation;
 mod inputs;
 mod load;
 
-pub use accept::{FileFault, network_in};
+pub use accept::{DeclaredNet, FileFault, declared_network_in, network_in};
 pub use explanation::explain_entry;
 pub use inputs::{Inputs, load_inputs};
-pub use load::{
-    Detail, JournalFile, load_journal, load_journal_file, load_net, load_text, load_trace,
-};
+pub use load::{Detail, JournalFile, load_declared, load_journal, load_net, load_text, load_trace};

@@ -9,13 +9,13 @@ ghost use Rattle.journal_text.specs.Texts.{AreStamps};
 ghost use Rattle.transition_table.specs.Transitions.{AreDeterministic};
 ghost use Rattle.net_rules.specs.Whole.{HasMachines};
 ghost use Rattle.transition_table.specs.declared.network.Network.{Network};
-ghost use Rattle.input_files.specs.Inputs.{HoldsText, HoldsNet, HoldsTrace, LoadFails, NetFails, TraceFails};
-ghost use Rattle.input_files.specs.JournalFiles.{HoldsJournal, JournalFails};
+ghost use Rattle.input_files.specs.Inputs.{HoldsText, HoldsNet, HoldsDeclared, HoldsTrace, LoadFails, NetFails, TraceFails};
+ghost use Rattle.input_files.specs.JournalFiles.{JournalFails};
 ghost use Rattle.input_files.specs.Details.{IsFailureOf, explains_in};
 ghost use Rattle.input_files.specs.Loads.{LeftByLoads, fails_unread};
-ghost use Rattle.input_files.specs.Failures.{FileExplained, FileFails};
+ghost use Rattle.input_files.specs.Failures.{FileExplained};
 
-use crate::accept::{FileFault, network_in};
+use crate::accept::{DeclaredNet, FileFault, declared_network_in};
 use crate::explanation::{
     explain_absent, explain_journal_line, explain_long, explain_net, explain_trace_line,
 };
@@ -97,6 +97,42 @@ pub fn load_text<'a, H: Host>(
     }
 }
 
+/// Loads and reads a network text, and keeps what it declares.
+pub fn load_declared<'a, H: Host>(
+    alloc: Global,
+    host: &mut H,
+    name: &'a str,
+    detail: Detail,
+) -> Result<DeclaredNet, Failure<'a>>
+    ensures held { IfOk result (λ declared. WhereTold (H.files host.old)
+        (λ files. HoldsDeclared files name.now declared.raw declared.net)) }
+    ensures one { IfOk result
+        (λ declared. WhereTold (H.files host.old) (λ files. (other : Network)
+        → HoldsNet files name.now other → other ≡ declared.net)) }
+    ensures deterministic { IfOk result (λ declared. AreDeterministic declared.net) }
+    ensures whole { IfOk result (λ declared. HasMachines declared.net) }
+    ensures failed { IfErr result (λ failure.
+        FileExplained name.now (H.files host.old) (λ files. NetFails files name.now)
+        (explains_in detail TEXT_MAX) failure) }
+    ensures left { LeftByLoads ⟦<H as Host>⟧ (fails_unread result) host.old host.new }
+{
+    let text = match load_text(alloc, host, name, TEXT_MAX, detail) {
+        Ok(text) => text,
+        Err(failure) => return Err(failure),
+    };
+    match declared_network_in(alloc, text.as_slice()) {
+        Ok(declared) => Ok(declared),
+        Err(FileFault::Cause(cause)) => {
+            let explanation = match detail {
+                Detail::Cause => Ok(Bytes::new(alloc)),
+                Detail::Explained => explain_net(alloc, name, text.as_slice(), &cause),
+            };
+            Err(failure_of(name, cause, explanation))
+        }
+        Err(FileFault::NoMemory) => Err(Failure::NoMemory),
+    }
+}
+
 /// Loads and reads a network text.
 pub fn load_net<'a, H: Host>(
     alloc: Global,
@@ -116,20 +152,9 @@ pub fn load_net<'a, H: Host>(
         (explains_in detail TEXT_MAX) failure) }
     ensures left { LeftByLoads ⟦<H as Host>⟧ (fails_unread result) host.old host.new }
 {
-    let text = match load_text(alloc, host, name, TEXT_MAX, detail) {
-        Ok(text) => text,
-        Err(failure) => return Err(failure),
-    };
-    match network_in(alloc, text.as_slice()) {
-        Ok(net) => Ok(net),
-        Err(FileFault::Cause(cause)) => {
-            let explanation = match detail {
-                Detail::Cause => Ok(Bytes::new(alloc)),
-                Detail::Explained => explain_net(alloc, name, text.as_slice(), &cause),
-            };
-            Err(failure_of(name, cause, explanation))
-        }
-        Err(FileFault::NoMemory) => Err(Failure::NoMemory),
+    match load_declared(alloc, host, name, detail) {
+        Ok(DeclaredNet { net, .. }) => Ok(net),
+        Err(failure) => Err(failure),
     }
 }
 
@@ -167,7 +192,7 @@ pub fn load_trace<'a, H: Host>(
 }
 
 /// Loads and reads a journal text of a network, and keeps the text.
-pub fn load_journal_file<'a, H: Host>(
+pub fn load_journal<'a, H: Host>(
     alloc: Global,
     host: &mut H,
     net: &Network,
@@ -201,29 +226,5 @@ pub fn load_journal_file<'a, H: Host>(
             Err(failure_of(name, Cause::JournalLine { line, kind }, explanation))
         }
         Err(JournalFault::NoMemory) => Err(Failure::NoMemory),
-    }
-}
-
-/// Loads and reads a journal text of a network.
-pub fn load_journal<'a, H: Host>(
-    alloc: Global,
-    host: &mut H,
-    net: &Network,
-    name: &'a str,
-) -> Result<ReadJournal, Failure<'a>>
-    ensures held { IfOk result (λ read.
-        WhereTold (H.files host.old) (λ files.
-        HoldsJournal files name.now net.now read.journal read.stamps)) }
-    ensures fits { IfOk result (λ read. IsJournal net.now read.journal) }
-    ensures few { IfOk result (λ read. length read.journal ≤ ENTRIES_MAX) }
-    ensures stamps { IfOk result (λ read. IfSome read.stamps (AreStamps read.journal)) }
-    ensures failed { IfErr result (λ failure.
-        FileFails name.now (H.files host.old) (λ files cause. (trace : List TraceItem)
-        → JournalFails files net.now trace name.now cause) failure) }
-    ensures left { LeftByLoads ⟦<H as Host>⟧ (fails_unread result) host.old host.new }
-{
-    match load_journal_file(alloc, host, net, name, Detail::Cause) {
-        Ok(file) => Ok(file.read),
-        Err(failure) => Err(failure),
     }
 }

@@ -7,6 +7,7 @@ mod diagrams;
 mod labels;
 mod machines;
 mod printed;
+mod tables;
 mod texts;
 
 use domains::Codes;

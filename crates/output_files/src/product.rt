@@ -104,7 +104,18 @@ pub struct Product {
 }
 
 impl Product {
-    ghost use Rattle.output_files.specs.Products.{saves_one};
+    ghost use Rattle.output_files.specs.Products.{saves_one, shows_only};
+
+    /// What saves nothing, and shows a text.
+    pub fn showing(alloc: Global, shown: Bytes) -> Product
+        ensures { result ≡ shows_only shown }
+    {
+        Product {
+            saves: List::new(alloc),
+            shown,
+            end: End::Done,
+        }
+    }
 
     /// What saves one text, under a stem with an ending, and shows another.
     pub fn saving_one(

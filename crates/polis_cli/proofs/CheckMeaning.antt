@@ -6,22 +6,23 @@ use Rattle.polis_words.specs.Check.{CheckWords}
 use Rattle.output_files.specs.declared.product.Product.{Product}
 use Rattle.polis_cli.specs.Check.{MakesCheck, check_product, check_meaning}
 use Rattle.input_files.specs.Inputs.{HoldsNet}
-use Rattle.input_files.specs.Failures.{explains_nothing}
+use Rattle.input_files.specs.declared.load.Detail.{Detail}
 use Rattle.polis_cli.specs.inner.Lawful.{IsLawful}
 use Rattle.polis_cli.specs.inner.Made.{IsMadeProduct}
 use Rattle.polis_base.proofs.WhereTold.{told_from}
 use Rattle.polis_cli.proofs.NetMeaning.{net_lawful}
 use Rattle.polis_cli.proofs.IsMade.{product_made}
 
-pub check_lawful : (check : CheckWords) → IsLawful (check_meaning check)
-check_lawful check =
-    net_lawful check.net (MakesCheck check) explains_nothing (λ files product m. (m.net, m.holds_net))
+pub check_lawful : (detail : Detail) (check : CheckWords) → IsLawful (check_meaning detail check)
+check_lawful detail check =
+    net_lawful detail check.net (MakesCheck check) (λ files product m. (m.net, m.holds_net))
 
 -- the product of a check
-pub check_made : (o : Option Files) (check : CheckWords) (net : Network) (product : Product)
+pub check_made : (detail : Detail) (o : Option Files) (check : CheckWords) (net : Network)
+    (product : Product)
     → WhereTold o (λ files. HoldsNet files check.net net) → product ≡ check_product net
-    → IsMadeProduct (check_meaning check) o product
-check_made o check net product held made =
-    product_made (check_meaning check) o product (check_product net) made tt refl
+    → IsMadeProduct (check_meaning detail check) o product
+check_made detail o check net product held made =
+    product_made (check_meaning detail check) o product (check_product net) made tt refl
     (told_from o (λ files. HoldsNet files check.net net) _
     (λ files h. record { net = net; holds_net = h; made = made }) held)

@@ -1,16 +1,13 @@
 -- What `compile` means.
-use Rattle.std.proofs.Common.{◌≡◌, ℕ, List, [], ◌∷◌, ◌++◌, Option, refl, ◌∙◌, codes}
+use Rattle.std.proofs.Common.{Option, refl}
 use Rattle.polis_base.specs.Host.{Files, WhereTold}
 use Rattle.transition_table.specs.declared.network.Network.{Network}
-use Rattle.task_code.specs.Listings.{Part, ListingText}
 use Rattle.polis_words.specs.NetStem.{NetStemWords}
-use Rattle.output_files.specs.declared.product.End.TheVariants as ends
 use Rattle.output_files.specs.declared.product.Product.{Product}
 use Rattle.polis_cli.specs.Compile.{MakesCompile, compile_product, compile_meaning}
 use Rattle.input_files.specs.Inputs.{HoldsNet}
-use Rattle.output_files.specs.Saves.{Save}
 use Rattle.polis_cli.specs.inner.Compile.{IsCompileProduct}
-use Rattle.input_files.specs.Failures.{explains_nothing}
+use Rattle.input_files.specs.declared.load.Detail.TheVariants as details
 use Rattle.polis_cli.specs.inner.Lawful.{IsLawful}
 use Rattle.polis_cli.specs.inner.Made.{IsMadeProduct}
 use Rattle.polis_base.proofs.WhereTold.{told_from}
@@ -19,7 +16,8 @@ use Rattle.polis_cli.proofs.IsMade.{product_made}
 
 pub compile_lawful : (compile : NetStemWords) → IsLawful (compile_meaning compile)
 compile_lawful compile =
-    net_lawful compile.net (MakesCompile compile) explains_nothing (λ files product m. (m.net, m.holds_net))
+    net_lawful details.Cause compile.net (MakesCompile compile)
+    (λ files product m. (m.net, m.holds_net))
 
 -- the product of a compilation
 pub compile_made : (o : Option Files) (compile : NetStemWords) (net : Network) (product : Product)

@@ -1,18 +1,13 @@
 -- What `draw` means.
-use Rattle.std.proofs.Common.{◌≡◌, ℕ, List, [], ◌∷◌, ◌++◌, Option, refl, ◌∙◌, codes}
+use Rattle.std.proofs.Common.{Option, refl}
 use Rattle.polis_base.specs.Host.{Files, WhereTold}
 use Rattle.transition_table.specs.declared.network.Network.{Network}
-use Rattle.task_code.specs.Listings.{Part}
-use Rattle.graph_drawing.specs.Drawings.{DrawingText}
-use Rattle.machine_compiler.specs.Parts.{graphs_in}
 use Rattle.polis_words.specs.NetStem.{NetStemWords}
-use Rattle.output_files.specs.declared.product.End.TheVariants as ends
 use Rattle.output_files.specs.declared.product.Product.{Product}
 use Rattle.polis_cli.specs.Draw.{MakesDraw, draw_product, draw_meaning}
 use Rattle.input_files.specs.Inputs.{HoldsNet}
-use Rattle.output_files.specs.Saves.{Save}
 use Rattle.polis_cli.specs.inner.Draw.{IsDrawProduct}
-use Rattle.input_files.specs.Failures.{explains_nothing}
+use Rattle.input_files.specs.declared.load.Detail.TheVariants as details
 use Rattle.polis_cli.specs.inner.Lawful.{IsLawful}
 use Rattle.polis_cli.specs.inner.Made.{IsMadeProduct}
 use Rattle.polis_base.proofs.WhereTold.{told_from}
@@ -21,7 +16,8 @@ use Rattle.polis_cli.proofs.IsMade.{product_made}
 
 pub draw_lawful : (draw : NetStemWords) → IsLawful (draw_meaning draw)
 draw_lawful draw =
-    net_lawful draw.net (MakesDraw draw) explains_nothing (λ files product m. (m.net, m.holds_net))
+    net_lawful details.Cause draw.net (MakesDraw draw)
+    (λ files product m. (m.net, m.holds_net))
 
 -- the product of a drawing
 pub draw_made : (o : Option Files) (draw : NetStemWords) (net : Network) (product : Product)

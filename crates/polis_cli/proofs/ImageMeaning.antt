@@ -1,5 +1,5 @@
 -- What `image` means.
-use Rattle.std.proofs.Common.{◌≡◌, ◌⊎◌, inl, inr, ℕ, true, zero, suc, List, [], ◌∷◌, ◌++◌, length, slice_get, Option, Some, refl, ap, sym, subst, ◌∙◌, IsTrue, codes}
+use Rattle.std.proofs.Common.{◌≡◌, ◌⊎◌, inl, inr, ℕ, true, zero, suc, List, [], ◌∷◌, slice_get, Option, Some, refl, ap, sym, subst, ◌∙◌, IsTrue}
 use Rattle.std.proofs.lemmas.List.{length-map}
 use Rattle.polis_base.specs.Host.{Files, WhereTold}
 use Rattle.transition_table.specs.declared.network.Network.{Network}
@@ -15,13 +15,10 @@ use Rattle.polis_words.specs.declared.cause.Failure.TheVariants as failures
 use Rattle.polis_words.specs.declared.status.Status.TheVariants.{Refused}
 use Rattle.polis_words.specs.NetStem.{NetStemWords}
 use Rattle.polis_words.specs.Lines.{cause_status}
-use Rattle.polis_words.specs.Texts.{image_text}
-use Rattle.output_files.specs.declared.product.End.TheVariants as ends
 use Rattle.output_files.specs.declared.product.Product.{Product}
 use Rattle.polis_cli.specs.Image.{MayBeTooLong, FailsImage, image_product, image_meaning}
 use Rattle.input_files.specs.Inputs.{HoldsNet, NetFails, AcceptsNet}
 use Rattle.input_files.specs.Failures.{is_finding, is_failure, FileFails}
-use Rattle.output_files.specs.Saves.{Save}
 use Rattle.polis_cli.specs.inner.Image.{IsImageProduct, IsLongImage}
 use Rattle.polis_cli.specs.inner.Lawful.{IsLawful}
 use Rattle.polis_cli.specs.inner.Made.{IsMadeProduct, IsMadeFailure}

@@ -13,33 +13,43 @@ use Rattle.polis_words.specs.declared.cause.Failure.TheVariants as failures
 use Rattle.polis_words.specs.declared.status.Status.TheVariants.{Illegal}
 use Rattle.polis_words.specs.Lines.{cause_status}
 use Rattle.polis_words.specs.Replay.{ReplayWords}
-use Rattle.input_files.specs.Explanations.{ExplainsFile, ExplainsJournal, ExplainsReplay}
+use Rattle.net_core.specs.Prefixes.{IsReason}
+use Rattle.net_core.specs.declared.answer.Why.{Why}
+use Rattle.input_files.specs.Details.{explains_in, explains_replay}
+use Rattle.input_files.specs.Explanations.{ExplainsFile, ExplainsJournal}
 use Rattle.input_files.specs.Inputs.{HoldsText, HoldsNet, InputsFail}
 use Rattle.input_files.specs.JournalFiles.{JournalFails}
+use Rattle.input_files.specs.declared.load.Detail.{Detail}
+use Rattle.input_files.specs.declared.load.Detail.TheVariants as details
 use Rattle.polis_cli.specs.Meanings.{Meaning}
 use Rattle.input_files.specs.Failures.{is_failure, FileExplained, FilesExplained, NamesOneOf}
 use Rattle.polis_cli.specs.Replay.{FailsReplay}
-use Rattle.polis_cli.specs.inner.Explain.{IsEntryExplained}
+use Rattle.polis_cli.specs.inner.Explain.{entry_explained}
 use Rattle.polis_cli.specs.inner.Made.{JudgingExplained, IsMadeFailure}
 use Rattle.polis_cli.proofs.IsJudged.{HoldsBoth, journal_fails}
 use Rattle.polis_cli.proofs.IsMade.{may_fail, may_judge}
 use Rattle.polis_base.proofs.WhereTold.{told_from}
 
 -- where the network or the trace fails so does the replay
-pub inputs_explained : (o : Option Files) (replay : ReplayWords) (failure : Failure)
-    → FilesExplained o (λ files. InputsFail files replay.net replay.trace)
-    (ExplainsFile TEXT_MAX) failure
+pub inputs_judged : (detail : Detail) (o : Option Files) (replay : ReplayWords)
+    (failure : Failure) → FilesExplained o (λ files. InputsFail files replay.net replay.trace)
+    (explains_in detail TEXT_MAX) failure
     → NamesOneOf replay.net replay.trace failure
-    → JudgingExplained o (FailsReplay replay) (ExplainsReplay replay) failure
-inputs_explained o replay failures.NoMemory h named = tt
-inputs_explained o replay (failures.File name cause more) (h, explains) named = (
+    → JudgingExplained o (FailsReplay replay) (explains_replay detail replay) failure
+inputs_judged detail o replay failures.NoMemory h named = tt
+inputs_judged detail o replay (failures.File name cause more) (h, explains) named = (
   (
     told_from o (λ files. InputsFail files replay.net replay.trace name.now cause) _
         (λ files k. inl k) h.0,
     inl h.1,
   ),
-  inl (named, h.0, explains),
+  so detail explains,
 )
+  where
+    so : (detail : Detail) → explains_in detail TEXT_MAX o name.now cause more
+        → explains_replay detail replay o name.now cause more
+    so details.Cause e = e
+    so details.Explained e = inl (named, h.0, e)
 
 -- a cause of a load or of a line isn't that of an illegal journal
 line_explains : (o : Option Files) (net : Network) (trace : List TraceItem) (name more : List ℕ)
@@ -49,36 +59,40 @@ line_explains : (o : Option Files) (net : Network) (trace : List TraceItem) (nam
 line_explains o net trace name more (Unlawful k) s h = cc
 line_explains o net trace name more other s h = h
 
-pub journal_explained : (o : Option Files) (replay : ReplayWords) (net : Network)
+-- and where the journal fails
+pub journal_judged : (detail : Detail) (o : Option Files) (replay : ReplayWords) (net : Network)
     (trace : List TraceItem) (failure : Failure) → WhereTold o (HoldsBoth replay net trace)
     → WhereTold o (λ files. (other : Network) → HoldsNet files replay.net other → other ≡ net)
     → FileExplained replay.journal o (λ files cause. (items : List TraceItem)
     → JournalFails files net items replay.journal cause)
-    (ExplainsFile LONG_FILE_MAX) failure
-    → JudgingExplained o (FailsReplay replay) (ExplainsReplay replay) failure
-journal_explained o replay net trace failures.NoMemory held one h = tt
-journal_explained o replay net trace (failures.File name cause more) held one (h, explains) = (
+    (explains_in detail LONG_FILE_MAX) failure
+    → JudgingExplained o (FailsReplay replay) (explains_replay detail replay) failure
+journal_judged detail o replay net trace failures.NoMemory held one h = tt
+journal_judged detail o replay net trace (failures.File name cause more) held one (h, explains) = (
   (journal_fails o replay net trace name.now cause h.0 held one h.1, inl h.2),
-  inr (
-    h.0,
-    net,
-    trace,
-    held,
-    line_explains o net trace name.now more cause h.2 explains,
-  ),
+  so detail explains,
 )
+  where
+    so : (detail : Detail) → explains_in detail LONG_FILE_MAX o name.now cause more
+        → explains_replay detail replay o name.now cause more
+    so details.Cause e = e
+    so details.Explained e =
+        inr (h.0, net, trace, held, line_explains o net trace name.now more cause h.2 e)
 
 -- a journal that isn't legal
-pub illegal_explained : (o : Option Files) (replay : ReplayWords) (net : Network)
+pub illegal_judged : (detail : Detail) (o : Option Files) (replay : ReplayWords) (net : Network)
     (trace : List TraceItem) (name text more : List ℕ) (journal : List Entry)
-    (stamps : Option (List ℕ)) (word : Bool) (k : ℕ) → name ≡ replay.journal
+    (stamps : Option (List ℕ)) (word : Bool) (k : ℕ) (why : Option Why) → name ≡ replay.journal
     → WhereTold o (HoldsBoth replay net trace)
     → WhereTold o (λ files. HoldsText files LONG_FILE_MAX replay.journal text)
-    → read_of net text ≡ Ok (journal, stamps, word)
-    → IsEntryExplained net trace name text journal k more
-    → ExplainsReplay replay o name (Unlawful k) more
-illegal_explained o replay net trace name text more journal stamps word k same held holds read
-    (why, reason, is) =
+    → read_of net text ≡ Ok (journal, stamps, word) → IsReason net trace journal k why
+    → more ≡ entry_explained detail name text k why
+    → explains_replay detail replay o name (Unlawful k) more
+illegal_judged details.Cause o replay net trace name text more journal stamps word k why same held
+    holds read reason is =
+    is
+illegal_judged details.Explained o replay net trace name text more journal stamps word k why same
+    held holds read reason is =
     inr (
       same,
       net,

@@ -1,12 +1,11 @@
 -- Journals that are judged.
-use Rattle.std.proofs.Common.{◌≡◌, inl, inr, ℕ, Bool, true, suc, List, ◌∷◌, ◌++◌, length, Option, Some, None, Ok, refl, sym, ap, subst, []}
+use Rattle.std.proofs.Common.{◌≡◌, inr, ℕ, Bool, true, suc, List, ◌∷◌, ◌++◌, length, Option, Ok, refl, sym, ap, subst, []}
 use Rattle.std.specs.List.{list_all}
 use Rattle.polis_base.specs.Host.{Files, bytes_at, WhereTold}
 use Rattle.transition_table.specs.declared.network.Network.{Network}
 use Rattle.journals.specs.declared.entry.Entry.{Entry}
 use Rattle.journals.specs.declared.entry.TraceItem.{TraceItem}
 use Rattle.journals.specs.declared.stamped.Stamped.{Stamped}
-use Rattle.journals.specs.Legality.{Legal}
 use Rattle.journals.specs.Logs.{stamped}
 use Rattle.journals.specs.Stamps.{Rising, rises_after}
 use Rattle.journal_text.specs.Texts.{is_stamp, AreStamps}
@@ -14,16 +13,12 @@ use Rattle.journal_replay.specs.declared.judge.Verdict.TheVariants.{Legal as IsL
 use Rattle.trace_text.specs.Traces.{trace_of}
 use Rattle.polis_words.specs.declared.cause.Cause.{Cause}
 use Rattle.polis_words.specs.declared.cause.Cause.TheVariants.{Illegal as Unlawful}
-use Rattle.polis_words.specs.declared.cause.Failure.{Failure}
-use Rattle.polis_words.specs.declared.cause.Failure.TheVariants as failures
 use Rattle.polis_words.specs.Replay.{ReplayWords}
-use Rattle.input_files.specs.Inputs.{HoldsNet, HoldsTrace, InputsFail}
-use Rattle.input_files.specs.JournalFiles.{HoldsJournal, JournalFails, LegalAndRising, IsFirstIllegal}
+use Rattle.input_files.specs.Inputs.{HoldsNet, HoldsTrace}
+use Rattle.input_files.specs.JournalFiles.{HoldsJournal, JournalFails, IsFirstIllegal}
 use Rattle.polis_cli.specs.Replay.{IsJudged, FailsReplay}
 use Rattle.polis_cli.specs.inner.Replay.{IsFound}
-use Rattle.polis_cli.specs.inner.Made.{JudgingFails}
-use Rattle.input_files.specs.Failures.{FileFails, FilesFail}
-use Rattle.polis_base.proofs.WhereTold.{told_from, told_both}
+use Rattle.polis_base.proofs.WhereTold.{told_both}
 use Rattle.input_files.proofs.Holds.{one_text}
 use Rattle.polis_base.proofs.Names.{left_true, right_true}
 
@@ -132,28 +127,3 @@ illegal_fails o replay net trace journal stamps name k same held one holds fall 
     ))
     (told_both o (HoldsBoth replay net trace) (λ files. (other : Network)
     → HoldsNet files replay.net other → other ≡ net) _ (λ files a b. (a, b)) held one) holds
-
--- a network or a trace that fails
-pub inputs_failed : (o : Option Files) (replay : ReplayWords) (failure : Failure)
-    → FilesFail o (λ files. InputsFail files replay.net replay.trace) failure
-    → JudgingFails o (FailsReplay replay) failure
-inputs_failed o replay failures.NoMemory h = tt
-inputs_failed o replay (failures.File name cause more) (h, none) = (
-  (
-    told_from o (λ files. InputsFail files replay.net replay.trace name.now cause) _
-        (λ files k. inl k) h.0,
-    inl h.1,
-  ),
-  none,
-)
-
--- a journal that fails
-pub journal_failed : (o : Option Files) (replay : ReplayWords) (net : Network)
-    (trace : List TraceItem) (failure : Failure) → WhereTold o (HoldsBoth replay net trace)
-    → WhereTold o (λ files. (other : Network) → HoldsNet files replay.net other → other ≡ net)
-    → FileFails replay.journal o (λ files cause. (items : List TraceItem)
-    → JournalFails files net items replay.journal cause) failure
-    → JudgingFails o (FailsReplay replay) failure
-journal_failed o replay net trace failures.NoMemory held one h = tt
-journal_failed o replay net trace (failures.File name cause more) held one (h, none) =
-    ((journal_fails o replay net trace name.now cause h.0 held one h.1, inl h.2), none)

@@ -1,5 +1,5 @@
 -- What the command that is asked for made, and why it made nothing.
-use Rattle.std.proofs.Common.{◌≡◌, ◌⊎◌, inl, inr, ℕ, true, List, [], Option, refl, sym, subst, IsTrue}
+use Rattle.std.proofs.Common.{◌≡◌, ◌⊎◌, inl, inr, ℕ, true, List, [], Option, refl, sym, ap, subst, ◌∙◌, IsTrue}
 use Rattle.polis_base.specs.Host.{Files, WhereTold}
 use Rattle.polis_words.specs.declared.cause.Cause.{Cause}
 use Rattle.polis_words.specs.declared.cause.Cause.TheVariants.{ReadFault as Unread, Absent, TooLong, Lex, Syntax, Rule, Conflict, TraceLine, JournalLine, Illegal as Unlawful, ImageByte, ImageShape, ImageWrong, ImageLong, OtherShape, Differ as TablesDiffer}
@@ -8,15 +8,15 @@ use Rattle.polis_words.specs.declared.cause.Failure.TheVariants as failures
 use Rattle.polis_words.specs.declared.status.Status.{Status}
 use Rattle.polis_words.specs.declared.status.Status.TheVariants.{ReadFault, Refused, NoMemory, Illegal}
 use Rattle.polis_words.specs.Lines.{cause_status, status_of}
-use Rattle.output_files.specs.declared.product.End.TheVariants as ends
 use Rattle.output_files.specs.declared.product.Product.{Product}
 use Rattle.output_files.specs.Ends.{end_status}
-use Rattle.input_files.specs.Inputs.{NetFails, FailsNet}
+use Rattle.output_files.specs.Products.{shows_only}
+use Rattle.input_files.specs.Inputs.{OnlyNetFails}
 use Rattle.polis_cli.specs.Meanings.{Meaning, MayEnd}
-use Rattle.input_files.specs.Failures.{explains_nothing, is_finding, is_failure, FileExplained, FilesExplained, FileFails, FilesFail}
-use Rattle.output_files.specs.Saves.{Save, AreApart}
+use Rattle.input_files.specs.Failures.{is_finding, is_failure, FilesFail}
+use Rattle.output_files.specs.Saves.{AreApart}
 use Rattle.polis_cli.specs.inner.Lawful.{IsLawful}
-use Rattle.polis_cli.specs.inner.Made.{FailsAs, IsMadeProduct, IsMadeFailure, JudgingFails}
+use Rattle.polis_cli.specs.inner.Made.{FailsAs, IsMadeProduct, IsMadeFailure}
 use Rattle.polis_base.proofs.WhereTold.{told_from, told_always}
 
 -- ---- products
@@ -30,11 +30,10 @@ product_made m o product known is apart ends makes = record {
   ends = subst (λ (p : Product). IsTrue (m.ends (end_status p.end))) (sym is) ends;
 }
 
--- a product that saves nothing, by its parts
-pub product_is : (saves : List Save) (shown known : List ℕ) → saves ≡ [] → shown ≡ known
-    → ◌≡◌ {A = Product} (record { saves = saves; shown = shown; end = ends.Done })
-    (record { saves = []; shown = known; end = ends.Done })
-product_is saves shown known n s = λ i. record { saves = n i; shown = s i; end = ends.Done }
+-- a product that shows a text alone
+pub product_is : (product : Product) (shown known : List ℕ) → product ≡ shows_only shown
+    → shown ≡ known → product ≡ shows_only known
+product_is product shown known is same = is ∙ ap shows_only same
 
 -- ---- failures
 pub may_fail : (m : Meaning) (status : Status) → m.reads ≡ true → IsTrue (is_failure true status)
@@ -69,20 +68,6 @@ files_failure m o P (failures.File name cause more) reads plain f (h, none) = (
   told_from o (λ files. P files name.now cause) (λ files. m.fails files name.now cause)
       (λ files. f files name.now cause) h.0,
   may_fail m (cause_status cause) reads h.1,
-  none_told m o name.now cause more plain none,
-)
-
--- and why one that judges a journal does
-pub judging_failure : (m : Meaning) (o : Option Files) (P : Files → List ℕ → Cause → Type 0)
-    (failure : Failure) → m.reads ≡ true → IsTrue (m.ends Illegal) → ExplainsNothing m
-    → ((files : Files) (name : List ℕ) (cause : Cause) → P files name cause
-    → m.fails files name cause)
-    → JudgingFails o P failure → IsMadeFailure m o failure
-judging_failure m o P failures.NoMemory reads ends plain f h = tt
-judging_failure m o P (failures.File name cause more) reads ends plain f (h, none) = (
-  told_from o (λ files. P files name.now cause) (λ files. m.fails files name.now cause)
-      (λ files. f files name.now cause) h.0,
-  may_judge m (cause_status cause) reads ends h.1,
   none_told m o name.now cause more plain none,
 )
 

@@ -13,7 +13,7 @@ use Rattle.journals.specs.Legality.{Legal, Complete}
 use Rattle.journals.proofs.StopsWhereComplete.{stops_where_complete}
 use Rattle.journals.specs.Schedules.{Follows, FollowsAfter, IsPicked, pick}
 use Rattle.worker_run.specs.Gathered.{IsEnough}
-use Rattle.polis_cli.specs.declared.ran.Ran.{Ran}
+use Rattle.polis_cli.specs.declared.run_result.RunResult.{RunResult}
 use Rattle.polis_cli.specs.Run.{IsRan, AloneIsScheduled}
 use Rattle.polis_cli.specs.inner.Run.{CarriesOn}
 
@@ -34,14 +34,18 @@ begun_within from journal adopted begun (rest, whole) =
     let same = ap (λ (xs : List Entry). length xs) whole in
     omega (arith, begun, sum, same)
 
-pub ran_alone : (net : Network) (trace : List TraceItem) (limit : ℕ) (ran : Ran)
+pub ran_alone : (net : Network) (trace : List TraceItem) (limit : ℕ) (ran : RunResult)
     → CarriesOn net trace limit [] 0 ran → IsRan 1 limit net trace ran
 ran_alone net trace limit ran c =
     let none = c.gathered in
     let begun = c.adopted in
     record {
-      within = c.within;
-      legal = c.legal;
+      is = record {
+        within = c.within;
+        legal = c.legal;
+        ends = c.ends;
+        limited = limited net trace limit ran.journal ran.complete c.legal c.ends c.stops;
+      };
       begins = record {
         gathered_few = omega (arith, none);
         adopted_few = omega (arith, none, begun);
@@ -50,8 +54,6 @@ ran_alone net trace limit ran c =
         enough = λ more. absurd (omega (arith, more));
         follows = subst (Follows net trace ran.journal) (sym begun) c.follows;
       };
-      ends = c.ends;
-      limited = limited net trace limit ran.journal ran.complete c.legal c.ends c.stops;
     }
 
 -- where nothing is picked after a journal, nothing follows it
@@ -75,7 +77,7 @@ not_carried net trace from rest journal whole stop follows =
     append-nil from
 
 pub ran_by : (net : Network) (trace : List TraceItem) (workers limit merged : ℕ) (from : List Entry)
-    (ran : Ran) → 2 ≤ workers
+    (ran : RunResult) → 2 ≤ workers
     → Legal net trace from → (length from ≤ merged) × (merged ≤ limit)
     → IsEnough net trace (limit / workers) from → CarriesOn net trace limit from merged ran
     → IsRan workers limit net trace ran
@@ -83,8 +85,12 @@ ran_by net trace workers limit merged from ran several legal few enough c =
     let gathered = c.gathered in
     let begun = c.adopted in
     record {
-      within = c.within;
-      legal = c.legal;
+      is = record {
+        within = c.within;
+        legal = c.legal;
+        ends = c.ends;
+        limited = limited net trace limit ran.journal ran.complete c.legal c.ends c.stops;
+      };
       begins = record {
         gathered_few = omega (arith, gathered, few.1);
         adopted_few = omega (arith, gathered, begun, few.0);
@@ -93,8 +99,6 @@ ran_by net trace workers limit merged from ran several legal few enough c =
         enough = λ more. share enough;
         follows = subst (Follows net trace ran.journal) (sym begun) c.follows;
       };
-      ends = c.ends;
-      limited = limited net trace limit ran.journal ran.complete c.legal c.ends c.stops;
     }
   where
     share : IsEnough net trace (limit / workers) from → (limit / workers ≤ ran.adopted)
@@ -128,6 +132,6 @@ alone_is_scheduled limit net trace ran r =
     let none : ran.adopted ≡ 0 = omega (arith, few, gathered) in
     record {
       follows = subst (Follows net trace ran.journal) none r.begins.follows;
-      whole = whole_at net trace limit ran.journal ran.complete r.legal
-          (eq-or-lt_of_le r.within) r.ends r.limited;
+      whole = whole_at net trace limit ran.journal ran.complete r.is.legal
+          (eq-or-lt_of_le r.is.within) r.is.ends r.is.limited;
     }

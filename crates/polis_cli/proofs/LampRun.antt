@@ -15,7 +15,7 @@ use Rattle.journals.specs.Worked.{IsRun}
 use Rattle.polis_words.specs.declared.status.Status.TheVariants.{Done}
 use Rattle.polis_words.specs.declared.requests.Request.TheVariants.{Run}
 use Rattle.output_files.specs.declared.product.Product.{Product}
-use Rattle.polis_cli.specs.declared.ran.Ran.{Ran}
+use Rattle.polis_cli.specs.declared.run_result.RunResult.{RunResult}
 use Rattle.net_reader.specs.Samples.{lamp_text}
 use Rattle.task_code.specs.Listings.{Part, ListingText}
 use Rattle.machine_compiler.specs.Parts.{AreRightParts}
@@ -32,7 +32,7 @@ lamp_deterministic one zero m e = let same : lamp_ctl ≡ m = cc in
     one m (subst (λ (n : Machine). length n.rows ≤ 1) same (lit≤ tt))
 lamp_deterministic one (suc k) m e = cc
 
-abbrev lamp_ran : Ran
+abbrev lamp_ran : RunResult
 lamp_ran = record { journal = lamp_run; complete = true; gathered = 0; adopted = 0 }
 
 abbrev lamp_product : List Part → Product
@@ -66,8 +66,12 @@ lamp_made net one run parts right = record {
   };
   ran = lamp_ran;
   is_ran = record {
-    within = lit≤ tt;
-    legal = run.legal;
+    is = record {
+      within = lit≤ tt;
+      legal = run.legal;
+      ends = (λ whole. run.complete, λ whole. refl);
+      limited = λ none. cc;
+    };
     begins = record {
       gathered_few = lit≤ tt;
       adopted_few = lit≤ tt;
@@ -76,8 +80,6 @@ lamp_made net one run parts right = record {
       enough = λ more. absurd (omega (arith, more));
       follows = run.follows;
     };
-    ends = (λ whole. run.complete, λ whole. refl);
-    limited = λ none. cc;
   };
   tasks = Compiled parts;
   are_tasks = right;
@@ -127,6 +129,7 @@ lamp_row net one run parts right = record {
     workers = refl;
     limit = refl;
     image = refl;
+    no_order = refl;
   };
   product = lamp_product parts;
   made = lamp_made net one run parts right;

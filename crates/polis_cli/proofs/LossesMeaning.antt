@@ -8,7 +8,7 @@ use Rattle.polis_words.specs.Replay.{ReplayWords}
 use Rattle.output_files.specs.declared.product.Product.{Product}
 use Rattle.polis_cli.specs.Losses.{MakesLosses, losses_product, losses_meaning}
 use Rattle.polis_cli.specs.Replay.{IsJudged}
-use Rattle.input_files.specs.Failures.{explains_nothing}
+use Rattle.input_files.specs.declared.load.Detail.TheVariants as details
 use Rattle.polis_cli.specs.inner.Lawful.{IsLawful}
 use Rattle.polis_cli.specs.inner.Made.{IsMadeProduct}
 use Rattle.polis_cli.proofs.IsMade.{product_made}
@@ -16,7 +16,7 @@ use Rattle.polis_cli.proofs.ReplayMeaning.{judging_lawful}
 use Rattle.polis_base.proofs.WhereTold.{told_from}
 
 pub losses_lawful : (losses : ReplayWords) → IsLawful (losses_meaning losses)
-losses_lawful losses = judging_lawful losses (MakesLosses losses) explains_nothing
+losses_lawful losses = judging_lawful details.Cause losses (MakesLosses losses)
     (λ files product m. (m.net, m.trace, m.journal, m.complete, m.judged))
 
 -- the product of a journal's losses

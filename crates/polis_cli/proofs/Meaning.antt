@@ -2,9 +2,10 @@
 use Rattle.std.proofs.Common.{◌≡◌, ◌<◌, ℕ, List, refl, arith}
 use Rattle.polis_words.specs.Run.{NeedsWorkers}
 use Rattle.polis_words.specs.declared.requests.Request.{Request}
-use Rattle.polis_words.specs.declared.requests.Request.TheVariants.{Run, Check, Compile, Replay, Migrate, Demo, Bound, Image, Equiv, Losses, Wave, Draw, Explain}
+use Rattle.polis_words.specs.declared.requests.Request.TheVariants.{Run, Check, Compile, Replay, Migrate, Demo, Bound, Image, Equiv, Losses, Wave, Draw, Explain, Cover, Lint, Shuffle}
 use Rattle.polis_words.specs.Requests.{Asks}
 use Rattle.polis_words.proofs.AskOptions.{asked_within}
+use Rattle.input_files.specs.declared.load.Detail.TheVariants as details
 use Rattle.polis_cli.specs.Commands.{meaning}
 use Rattle.polis_cli.specs.inner.Lawful.{IsLawful}
 use Rattle.polis_cli.specs.inner.Workers.{workers_of}
@@ -21,12 +22,15 @@ use Rattle.polis_cli.proofs.LossesMeaning.{losses_lawful}
 use Rattle.polis_cli.proofs.WaveMeaning.{wave_lawful}
 use Rattle.polis_cli.proofs.DrawMeaning.{draw_lawful}
 use Rattle.polis_cli.proofs.ExplainMeaning.{explain_lawful}
+use Rattle.polis_cli.proofs.CoverMeaning.{cover_lawful}
+use Rattle.polis_cli.proofs.LintMeaning.{lint_lawful}
+use Rattle.polis_cli.proofs.ShuffleMeaning.{shuffle_lawful}
 
 pub lawful : (request : Request) → IsLawful (meaning request)
 lawful (Run run) = run_lawful run
-lawful (Check check) = check_lawful check
+lawful (Check check) = check_lawful details.Cause check
 lawful (Compile compile) = compile_lawful compile
-lawful (Replay replay) = replay_lawful replay
+lawful (Replay replay) = replay_lawful details.Cause replay
 lawful (Migrate migrate) = migrate_lawful migrate
 lawful (Demo demo) = demo_lawful demo
 lawful (Bound bound) = bound_lawful bound
@@ -36,6 +40,9 @@ lawful (Losses losses) = losses_lawful losses
 lawful (Wave wave) = wave_lawful wave
 lawful (Draw draw) = draw_lawful draw
 lawful (Explain explain) = explain_lawful explain
+lawful (Cover cover) = cover_lawful cover
+lawful (Lint lint) = lint_lawful lint
+lawful (Shuffle shuffle) = shuffle_lawful shuffle
 
 -- what is asked for needs one worker, where the command line needs no more
 pub one_worker : (words : List (List ℕ)) (request : Request) → Asks words request

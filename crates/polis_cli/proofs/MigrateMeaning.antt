@@ -1,18 +1,14 @@
 -- What `migrate` means.
-use Rattle.std.proofs.Common.{◌≡◌, Bool, List, [], ◌∷◌, ◌++◌, refl, ◌∙◌, Option, ℕ, codes}
+use Rattle.std.proofs.Common.{◌≡◌, Bool, List, refl, Option}
 use Rattle.polis_base.specs.Host.{Files, WhereTold}
 use Rattle.transition_table.specs.declared.network.Network.{Network}
 use Rattle.journals.specs.declared.entry.Entry.{Entry}
 use Rattle.journals.specs.declared.entry.TraceItem.{TraceItem}
-use Rattle.journals.specs.Stamps.{least}
-use Rattle.journal_text.specs.Texts.{stamped_journal_text}
 use Rattle.polis_words.specs.ReplayStem.{ReplayStemWords}
-use Rattle.output_files.specs.declared.product.End.TheVariants as ends
 use Rattle.output_files.specs.declared.product.Product.{Product}
 use Rattle.polis_cli.specs.Replay.{IsJudged}
 use Rattle.polis_cli.specs.Migrate.{MakesMigrate, migrate_product, migrate_meaning}
-use Rattle.output_files.specs.Saves.{Save}
-use Rattle.input_files.specs.Failures.{explains_nothing}
+use Rattle.input_files.specs.declared.load.Detail.TheVariants as details
 use Rattle.polis_cli.specs.inner.Lawful.{IsLawful}
 use Rattle.polis_cli.specs.inner.Made.{IsMadeProduct}
 use Rattle.polis_base.proofs.WhereTold.{told_from}
@@ -20,7 +16,7 @@ use Rattle.polis_cli.proofs.IsMade.{product_made}
 use Rattle.polis_cli.proofs.ReplayMeaning.{judging_lawful}
 
 pub migrate_lawful : (migrate : ReplayStemWords) → IsLawful (migrate_meaning migrate)
-migrate_lawful migrate = judging_lawful migrate.replay (MakesMigrate migrate) explains_nothing
+migrate_lawful migrate = judging_lawful details.Cause migrate.replay (MakesMigrate migrate)
     (λ files product m. (m.net, m.trace, m.journal, m.complete, m.judged))
 
 -- the product of a migration

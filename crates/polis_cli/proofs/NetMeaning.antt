@@ -1,32 +1,17 @@
 -- What commands mean that read a network text alone and always end with Done.
-use Rattle.std.proofs.Common.{inl, true, List, Option, ℕ}
+use Rattle.std.proofs.Common.{inl, List, ℕ}
 use Rattle.polis_base.specs.Host.{Files}
-use Rattle.polis_words.specs.declared.cause.Cause.{Cause}
 use Rattle.output_files.specs.declared.product.Product.{Product}
-use Rattle.input_files.specs.Inputs.{AcceptsNet, FailsNet}
-use Rattle.polis_cli.specs.Meanings.{Meaning, never_refused, finds_nothing, ends_done}
+use Rattle.input_files.specs.Inputs.{AcceptsNet}
+use Rattle.input_files.specs.declared.load.Detail.{Detail}
+use Rattle.polis_cli.specs.Meanings.{net_meaning}
 use Rattle.polis_cli.specs.inner.Lawful.{IsLawful}
 use Rattle.input_files.proofs.InputsFail.{net_refused, net_unfound}
 
--- such a command, by what it makes and what it explains
-abbrev pub net_meaning : List ℕ → (Files → Product → Type 0)
-    → (Option Files → List ℕ → Cause → List ℕ → Type 0) → Meaning
-net_meaning net makes explains = record {
-  makes = makes;
-  accepts = AcceptsNet net;
-  finds = finds_nothing;
-  fails = FailsNet net;
-  explains = explains;
-  may_refuse = never_refused;
-  ends = ends_done;
-  reads = true;
-}
-
-pub net_lawful : (net : List ℕ) (makes : Files → Product → Type 0)
-    (explains : Option Files → List ℕ → Cause → List ℕ → Type 0)
+pub net_lawful : (detail : Detail) (net : List ℕ) (makes : Files → Product → Type 0)
     → ((files : Files) (product : Product) → makes files product → AcceptsNet net files)
-    → IsLawful (net_meaning net makes explains)
-net_lawful net makes explains accepted = record {
+    → IsLawful (net_meaning detail net makes)
+net_lawful detail net makes accepted = record {
   made_accepts = accepted;
   made_finds = λ files product status m found. found;
   refused = λ files name cause h s. inl (λ all. net_refused files net cause all.0 s h.1 all.1);

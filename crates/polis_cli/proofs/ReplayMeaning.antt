@@ -12,9 +12,10 @@ use Rattle.polis_words.specs.Lines.{cause_status}
 use Rattle.polis_words.specs.Replay.{ReplayWords}
 use Rattle.output_files.specs.declared.product.Product.{Product}
 use Rattle.input_files.specs.JournalFiles.{JournalFails}
-use Rattle.polis_cli.specs.Meanings.{Meaning, finds_illegal, ends_judged}
-use Rattle.input_files.specs.Failures.{explains_nothing, is_finding}
-use Rattle.polis_cli.specs.Replay.{IsJudged, MakesReplay, AcceptsReplay, FailsReplay, IsIllegalReplay, replay_product, replay_meaning}
+use Rattle.polis_cli.specs.Meanings.{finds_illegal, ends_judged}
+use Rattle.input_files.specs.Failures.{is_finding}
+use Rattle.input_files.specs.declared.load.Detail.{Detail}
+use Rattle.polis_cli.specs.Replay.{IsJudged, MakesReplay, AcceptsReplay, FailsReplay, IsIllegalReplay, replay_product, judging_meaning, replay_meaning}
 use Rattle.polis_cli.specs.inner.Lawful.{IsLawful}
 use Rattle.polis_cli.specs.inner.Made.{IsMadeProduct}
 use Rattle.polis_base.proofs.WhereTold.{told_from}
@@ -114,17 +115,10 @@ abbrev pub HoldsJudged : ReplayWords → Files → Type 0
 HoldsJudged replay files = (net : Network) × (trace : List TraceItem) × (journal : List Entry)
     × (complete : Bool) × IsJudged replay files net trace journal complete
 
--- a command that judges a journal as `replay` does, by what it makes and what it explains
-abbrev pub judging_meaning : ReplayWords → (Files → Product → Type 0)
-    → (Option Files → List ℕ → Cause → List ℕ → Type 0) → Meaning
-judging_meaning replay makes explains =
-    record (replay_meaning replay) { makes = makes; explains = explains }
-
-pub judging_lawful : (replay : ReplayWords) (makes : Files → Product → Type 0)
-    (explains : Option Files → List ℕ → Cause → List ℕ → Type 0)
+pub judging_lawful : (detail : Detail) (replay : ReplayWords) (makes : Files → Product → Type 0)
     → ((files : Files) (product : Product) → makes files product → HoldsJudged replay files)
-    → IsLawful (judging_meaning replay makes explains)
-judging_lawful replay makes explains held = record {
+    → IsLawful (judging_meaning detail replay makes)
+judging_lawful detail replay makes held = record {
   made_accepts = λ files product m.
       let h = held files product m in (h.0, h.1, h.2, h.4.stamps, h.4.holds);
   made_finds = λ files product status m.
@@ -139,18 +133,19 @@ judging_lawful replay makes explains held = record {
   found_once = found_once (IsIllegalReplay replay);
 }
 
-pub replay_lawful : (replay : ReplayWords) → IsLawful (replay_meaning replay)
-replay_lawful replay = judging_lawful replay (MakesReplay replay) explains_nothing
+pub replay_lawful : (detail : Detail) (replay : ReplayWords)
+    → IsLawful (replay_meaning detail replay)
+replay_lawful detail replay = judging_lawful detail replay (MakesReplay replay)
     (λ files product m. (m.net, m.trace, m.journal, m.complete, m.judged))
 
 -- the product of a replay
-pub replay_made : (o : Option Files) (replay : ReplayWords) (net : Network)
+pub replay_made : (detail : Detail) (o : Option Files) (replay : ReplayWords) (net : Network)
     (trace : List TraceItem) (journal : List Entry) (complete : Bool) (product : Product)
     → WhereTold o (λ files. IsJudged replay files net trace journal complete)
     → product ≡ replay_product journal complete
-    → IsMadeProduct (replay_meaning replay) o product
-replay_made o replay net trace journal complete product judged made =
-    product_made (replay_meaning replay) o product (replay_product journal complete) made tt refl
+    → IsMadeProduct (replay_meaning detail replay) o product
+replay_made detail o replay net trace journal complete product judged made =
+    product_made (replay_meaning detail replay) o product (replay_product journal complete) made tt refl
     (told_from o (λ files. IsJudged replay files net trace journal complete) _
     (λ files h. record {
       net = net;

@@ -14,16 +14,16 @@ use Rattle.polis_words.specs.Run.{RunWords}
 use Rattle.output_files.specs.declared.product.End.{End}
 use Rattle.polis_cli.specs.declared.run_inputs.RunInputs.{RunInputs}
 use Rattle.output_files.specs.declared.product.Product.{Product}
-use Rattle.polis_cli.specs.declared.ran.Ran.{Ran}
+use Rattle.polis_cli.specs.declared.run_result.RunResult.{RunResult}
 use Rattle.output_files.specs.Ends.{end_status}
 use Rattle.polis_cli.specs.ImageFiles.{HoldsImage, ImageFails}
 use Rattle.input_files.specs.Inputs.{HoldsNet, HoldsTrace, InputsFail}
 use Rattle.input_files.specs.Failures.{is_finding, FileFails, FilesFail}
-use Rattle.polis_cli.specs.Run.{AcceptsRun, AcceptsImage, AreTasks, Tasks, Compiled, Given, FailsRun, ends_run, end_of, journal_of, listing_of, listing_saves, run_product, run_text, run_meaning}
+use Rattle.polis_cli.specs.Run.{AcceptsRun, AcceptsImage, RunsTasks, Tasks, Compiled, Given, FailsRun, ends_run, end_of, journal_of, listing_of, listing_saves, run_product, run_text, run_meaning}
 use Rattle.output_files.specs.Saves.{Save, AreApart}
 use Rattle.polis_cli.specs.inner.Lawful.{IsLawful}
 use Rattle.polis_cli.specs.inner.Made.{IsMadeProduct}
-use Rattle.polis_cli.specs.inner.Run.{AreTasksBy, FailsImageOf, HoldsImageOf, HoldsRun, IsProductOf, listed_under}
+use Rattle.polis_cli.specs.inner.Run.{RunsLoaded, FailsImageOf, HoldsImageOf, HoldsRun, IsProductOf, listed_under}
 use Rattle.polis_cli.proofs.ImageFails.{image_refused, image_unfound}
 use Rattle.input_files.proofs.InputsFail.{inputs_refused, inputs_unfound}
 use Rattle.polis_cli.proofs.IsMade.{product_made}
@@ -31,7 +31,7 @@ use Rattle.polis_base.proofs.WhereTold.{told_from, told_both}
 
 -- the image of a run's tasks is accepted
 accepts_image : (named : Option (List ℕ)) (files : Files) (net : Network) (tasks : Tasks)
-    → AreTasks named files net tasks → AcceptsImage named files net
+    → RunsTasks named files net tasks → AcceptsImage named files net
 accepts_image None files net tasks h = tt
 accepts_image (Some name) files net (Compiled parts) h = absurd h
 accepts_image (Some name) files net (Given code) h = (h.0, h.1)
@@ -81,7 +81,7 @@ run_lawful run = record {
 }
 
 -- both ends are a run's
-run_ends : (complete : Bool) → IsTrue (ends_run (end_status (end_of complete)))
+pub run_ends : (complete : Bool) → IsTrue (ends_run (end_status (end_of complete)))
 run_ends true = refl
 run_ends false = refl
 
@@ -91,13 +91,13 @@ same_rest [] a b e = e
 same_rest (x ∷ prefix) a b e = let h : prefix ++ a ≡ prefix ++ b = cc in same_rest prefix a b h
 
 -- two endings that differ in their second byte
-endings_differ : (stem a b : List ℕ) → get_or a 1 0 < get_or b 1 0 → stem ++ a ≡ stem ++ b → ⊥
+pub endings_differ : (stem a b : List ℕ) → get_or a 1 0 < get_or b 1 0 → stem ++ a ≡ stem ++ b → ⊥
 endings_differ stem a b less e =
     let h : get_or a 1 0 ≡ get_or b 1 0 = ap (λ xs. get_or xs 1 0) (same_rest stem a b e) in
     omega (arith, less, h)
 
 -- no two saves of a run have one name
-run_apart : (run : RunWords) (net : Network) (ran : Ran) (tasks : Tasks)
+run_apart : (run : RunWords) (net : Network) (ran : RunResult) (tasks : Tasks)
     → AreApart (run_product run net ran tasks).saves
 run_apart run net ran (Compiled parts) = (
   (
@@ -114,7 +114,7 @@ run_apart run net ran (Given code) = (
 -- the tasks of what was loaded are those of the files
 tasks_are : (named : Option (List ℕ)) (files : Files) (net : Network)
     (image : Option (List ImageMachine)) (tasks : Tasks) → HoldsImageOf named files net image
-    → AreTasksBy image net tasks → AreTasks named files net tasks
+    → RunsLoaded image net tasks → RunsTasks named files net tasks
 tasks_are None files net None (Compiled parts) holds are = are
 tasks_are None files net None (Given code) holds are = are
 tasks_are None files net (Some image) tasks holds are = absurd holds
@@ -151,7 +151,7 @@ listed_is run None = refl
 listed_is run (Some listing) = refl
 
 -- the parts of a run's product
-pub run_is : (run : RunWords) (net : Network) (ran : Ran) (tasks : Tasks)
+pub run_is : (run : RunWords) (net : Network) (ran : RunResult) (tasks : Tasks)
     (stem outputs text shown : List ℕ) (listing : Option (List ℕ)) (saves : List Save) (end : End)
     → saves ≡ record { name = stem ++ codes ".out"; text = outputs }
     ∷ record { name = stem ++ codes ".jnl"; text = text } ∷ listed_under stem listing

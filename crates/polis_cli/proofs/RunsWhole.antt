@@ -13,7 +13,7 @@ use Rattle.trace_text.specs.Traces.{trace_of}
 use Rattle.net_rules.specs.NetOf.{NetOf}
 use Rattle.net_gen.specs.Whole.{AreWhole}
 use Rattle.polis_words.specs.declared.cause.Cause.{Cause}
-use Rattle.polis_cli.specs.declared.ran.Ran.{Ran}
+use Rattle.polis_cli.specs.declared.run_result.RunResult.{RunResult}
 use Rattle.input_files.specs.Accepted.{Accepted}
 use Rattle.polis_cli.specs.inner.Demo.{RunsWhole}
 use Rattle.input_files.specs.Inputs.{IsNetFault}
@@ -65,10 +65,10 @@ pub whole_runs : (text trace : List ℕ) (net : Network) (items : List TraceItem
 whole_runs text trace net items whole one read = λ ran r.
     let same = one_trace (trace_of net trace) whole.trace items (reads text trace net whole one)
     read in
-    r.ends.1 (ends (one_net text trace net whole one) same ran
+    r.is.ends.1 (ends (one_net text trace net whole one) same ran
     (alone_is_scheduled ENTRIES_MAX net items ran r))
   where
-    ends : whole.net ≡ net → whole.trace ≡ items → (ran : Ran)
+    ends : whole.net ≡ net → whole.trace ≡ items → (ran : RunResult)
         → IsSchedule net items ENTRIES_MAX ran.journal → Complete net items ran.journal
     ends of same ran scheduled =
         subst (λ (n : Network). Complete n items ran.journal) of

@@ -11,8 +11,8 @@ use Rattle.machine_compiler.proofs.ListingDeterminesParts.{listing_determines}
 use Rattle.polis_base.specs.Host.{Files}
 use Rattle.polis_words.specs.Run.{RunWords}
 use Rattle.output_files.specs.declared.product.Product.{Product}
-use Rattle.polis_cli.specs.declared.ran.Ran.{Ran}
-use Rattle.polis_cli.specs.Run.{MakesRun, SavesDetermineRun, AreTasks, Tasks, Compiled, Given, journal_of, run_product}
+use Rattle.polis_cli.specs.declared.run_result.RunResult.{RunResult}
+use Rattle.polis_cli.specs.Run.{MakesRun, SavesDetermineRun, RunsTasks, Tasks, Compiled, Given, journal_of, run_product}
 use Rattle.output_files.specs.Saves.{Save}
 use Rattle.polis_cli.proofs.Accepted.{names_hold_accepted}
 use Rattle.polis_cli.proofs.IsJudged.{rising_stamps}
@@ -29,8 +29,8 @@ third_text (save ∷ saves) = second_text saves
 
 -- the tasks of a run that names no image, by its listing
 same_tasks : (named : Option (List ℕ)) (before now : Files) (net : Network) (run : RunWords)
-    (one other : Ran) (s t : Tasks) → named ≡ None → IsTrue (names_hold net)
-    → AreTasks named before net s → AreTasks named now net t
+    (one other : RunResult) (s t : Tasks) → named ≡ None → IsTrue (names_hold net)
+    → RunsTasks named before net s → RunsTasks named now net t
     → third_text (run_product run net one s).saves ≡ third_text (run_product run net other t).saves
     → s ≡ t
 unfolding second_text third_text
@@ -42,15 +42,15 @@ same_tasks (Some name) before now net run one other s t none hold a b e = cc
 
 prints : (run : RunWords) (files : Files) (p : Product) (a : MakesRun run files p)
     → run.limit ≤ ENTRIES_MAX → Prints a.net a.ran.journal
-prints run files p a few = let within = a.is_ran.within in (
+prints run files p a few = let within = a.is_ran.is.within in (
   names_hold_accepted a.holds_net.text a.net a.holds_net.accepted,
-  a.is_ran.legal.0,
+  a.is_ran.is.legal.0,
   omega (arith, within, few),
 )
 
 has_stamps : (run : RunWords) (files : Files) (p : Product) (a : MakesRun run files p)
     → run.limit ≤ ENTRIES_MAX → AreStamps a.ran.journal (least a.net a.ran.journal)
-has_stamps run files p a few = let within = a.is_ran.within in
+has_stamps run files p a few = let within = a.is_ran.is.within in
     rising_stamps a.net a.ran.journal (least a.net a.ran.journal)
     (least_is_rising a.net a.ran.journal (omega (arith, within, few)))
 
@@ -67,7 +67,7 @@ one_run one = λ run before now p q a b net few same.
     (prints run now q b few) in
     let stamped = subst (λ (n : Network). AreStamps b.ran.journal (least n b.ran.journal)) (sym net)
     (has_stamps run now q b few) in
-    let tasks = subst (λ (n : Network). AreTasks run.image now n b.tasks) (sym net) b.are_tasks in
+    let tasks = subst (λ (n : Network). RunsTasks run.image now n b.tasks) (sym net) b.are_tasks in
     let found = one a.net a.ran.journal b.ran.journal (least a.net a.ran.journal)
     (least a.net b.ran.journal) a.ran.complete b.ran.complete (prints run before p a few) printed
     (has_stamps run before p a few) stamped texts in (

@@ -1,5 +1,5 @@
 -- What `bound` makes.
-use Rattle.std.specs.Prelude.{◌≡◌, ℕ, true, List, [], length, slice_get, Some}
+use Rattle.std.specs.Prelude.{◌≡◌, ℕ, true, List, length, slice_get, Some}
 use Rattle.polis_base.specs.Host.{Files}
 use Rattle.transition_table.specs.declared.machine.Machine.{Machine}
 use Rattle.transition_table.specs.declared.network.Network.{Network}
@@ -11,11 +11,11 @@ use Rattle.cost_bound.specs.Costs.{CostOf}
 use Rattle.machine_compiler.specs.Parts.{IsRightPart}
 use Rattle.polis_words.specs.declared.requests.costs.GivenCosts.{GivenCosts}
 use Rattle.polis_words.specs.Bound.{BoundWords}
-use Rattle.output_files.specs.declared.product.End.TheVariants as ends
 use Rattle.output_files.specs.declared.product.Product.{Product}
-use Rattle.input_files.specs.Inputs.{HoldsNet, AcceptsNet, FailsNet}
-use Rattle.polis_cli.specs.Meanings.{Meaning, never_refused, finds_nothing, ends_done}
-use Rattle.input_files.specs.Failures.{explains_nothing}
+use Rattle.output_files.specs.Products.{shows_only}
+use Rattle.input_files.specs.Inputs.{HoldsNet}
+use Rattle.input_files.specs.declared.load.Detail.TheVariants as details
+use Rattle.polis_cli.specs.Meanings.{Meaning, net_meaning}
 use Rattle.polis_cli.specs.Ranges.{ranges_text}
 
 -- the greatest and the least cost of code that the machine was rightly compiled to
@@ -43,7 +43,7 @@ pub record AreCosts (given : GivenCosts) (costs : Costs) : Type 0 where
 
 -- the product saves nothing, and shows a line for each machine
 abbrev pub bound_product : Network → List Range → Product
-bound_product net ranges = record { saves = []; shown = ranges_text net ranges; end = ends.Done }
+bound_product net ranges = shows_only (ranges_text net ranges)
 
 -- the file holds a network that is accepted, these are the ranges of its machines at the costs that
 -- are asked for, and the product is that of these
@@ -57,13 +57,4 @@ pub record MakesBound (bound : BoundWords) (files : Files) (product : Product) :
   pub made : product ≡ bound_product net ranges
 
 abbrev pub bound_meaning : BoundWords → Meaning
-bound_meaning bound = record {
-  makes = MakesBound bound;
-  accepts = AcceptsNet bound.net;
-  finds = finds_nothing;
-  fails = FailsNet bound.net;
-  explains = explains_nothing;
-  may_refuse = never_refused;
-  ends = ends_done;
-  reads = true;
-}
+bound_meaning bound = net_meaning details.Cause bound.net (MakesBound bound)

@@ -1,6 +1,7 @@
 -- What each command means.
 use Rattle.polis_words.specs.declared.requests.Request.{Request}
-use Rattle.polis_words.specs.declared.requests.Request.TheVariants.{Run, Check, Compile, Replay, Migrate, Demo, Bound, Image, Equiv, Losses, Wave, Draw, Explain}
+use Rattle.polis_words.specs.declared.requests.Request.TheVariants.{Run, Check, Compile, Replay, Migrate, Demo, Bound, Image, Equiv, Losses, Wave, Draw, Explain, Cover, Lint, Shuffle}
+use Rattle.input_files.specs.declared.load.Detail.TheVariants as details
 use Rattle.polis_cli.specs.Meanings.{Meaning}
 use Rattle.polis_cli.specs.Run.{run_meaning}
 use Rattle.polis_cli.specs.Check.{check_meaning}
@@ -15,12 +16,15 @@ use Rattle.polis_cli.specs.Losses.{losses_meaning}
 use Rattle.polis_cli.specs.Wave.{wave_meaning}
 use Rattle.polis_cli.specs.Draw.{draw_meaning}
 use Rattle.polis_cli.specs.Explain.{explain_meaning}
+use Rattle.polis_cli.specs.Cover.{cover_meaning}
+use Rattle.polis_cli.specs.Lint.{lint_meaning}
+use Rattle.polis_cli.specs.Shuffle.{shuffle_meaning}
 
 abbrev pub meaning : Request → Meaning
 meaning (Run run) = run_meaning run
-meaning (Check check) = check_meaning check
+meaning (Check check) = check_meaning details.Cause check
 meaning (Compile compile) = compile_meaning compile
-meaning (Replay replay) = replay_meaning replay
+meaning (Replay replay) = replay_meaning details.Cause replay
 meaning (Migrate migrate) = migrate_meaning migrate
 meaning (Demo demo) = demo_meaning demo
 meaning (Bound bound) = bound_meaning bound
@@ -30,3 +34,6 @@ meaning (Losses losses) = losses_meaning losses
 meaning (Wave wave) = wave_meaning wave
 meaning (Draw draw) = draw_meaning draw
 meaning (Explain explain) = explain_meaning explain
+meaning (Cover cover) = cover_meaning cover
+meaning (Lint lint) = lint_meaning lint
+meaning (Shuffle shuffle) = shuffle_meaning shuffle

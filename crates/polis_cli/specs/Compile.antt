@@ -8,10 +8,10 @@ use Rattle.machine_compiler.specs.Lines.{lengths_text}
 use Rattle.polis_words.specs.NetStem.{NetStemWords}
 use Rattle.polis_words.specs.Compile.{compiled_name}
 use Rattle.output_files.specs.declared.product.Product.{Product}
-use Rattle.input_files.specs.Inputs.{HoldsNet, AcceptsNet, FailsNet}
+use Rattle.input_files.specs.Inputs.{HoldsNet}
 use Rattle.output_files.specs.Products.{saves_one}
-use Rattle.polis_cli.specs.Meanings.{Meaning, never_refused, finds_nothing, ends_done}
-use Rattle.input_files.specs.Failures.{explains_nothing}
+use Rattle.input_files.specs.declared.load.Detail.TheVariants as details
+use Rattle.polis_cli.specs.Meanings.{Meaning, net_meaning}
 
 -- the product saves the listing of the compiled machines, and shows how long their graphs and their
 -- code are
@@ -29,13 +29,4 @@ pub record MakesCompile (compile : NetStemWords) (files : Files) (product : Prod
   pub made : product ≡ compile_product compile net parts
 
 abbrev pub compile_meaning : NetStemWords → Meaning
-compile_meaning compile = record {
-  makes = MakesCompile compile;
-  accepts = AcceptsNet compile.net;
-  finds = finds_nothing;
-  fails = FailsNet compile.net;
-  explains = explains_nothing;
-  may_refuse = never_refused;
-  ends = ends_done;
-  reads = true;
-}
+compile_meaning compile = net_meaning details.Cause compile.net (MakesCompile compile)

@@ -1,5 +1,5 @@
 -- What `demo` makes.
-use Rattle.std.specs.Prelude.{◌≡◌, ℕ, true, false, List, [], Ok, ⊤}
+use Rattle.std.specs.Prelude.{◌≡◌, ℕ, true, false, List, Ok, ⊤}
 use Rattle.polis_base.specs.declared.limits.TheConstants.{ENTRIES_MAX}
 use Rattle.transition_table.specs.declared.network.Network.{Network}
 use Rattle.journals.specs.declared.entry.TraceItem.{TraceItem}
@@ -10,9 +10,9 @@ use Rattle.net_reader.specs.Layout.{network_text}
 use Rattle.net_gen.specs.Networks.{network}
 use Rattle.net_gen.specs.Traces.{trace_text}
 use Rattle.polis_words.specs.Demo.{DemoWords}
-use Rattle.output_files.specs.declared.product.End.TheVariants as ends
 use Rattle.output_files.specs.declared.product.Product.{Product}
-use Rattle.polis_cli.specs.declared.ran.Ran.{Ran}
+use Rattle.output_files.specs.Products.{shows_only}
+use Rattle.polis_cli.specs.declared.run_result.RunResult.{RunResult}
 use Rattle.input_files.specs.Accepted.{Accepted}
 use Rattle.polis_cli.specs.Meanings.{Meaning, never_refused, finds_nothing, ends_done}
 use Rattle.input_files.specs.Failures.{explains_nothing}
@@ -24,9 +24,8 @@ pub record IsDrawn (seed : ℕ) (net : Network) (trace : List TraceItem) : Type 
   pub read : trace_of net (trace_text seed) ≡ Ok trace
 
 -- the product saves nothing, and shows the run
-abbrev pub demo_product : Network → Ran → List Part → Product
-demo_product net ran parts =
-    record { saves = []; shown = run_text net (Compiled parts) ran; end = ends.Done }
+abbrev pub demo_product : Network → RunResult → List Part → Product
+demo_product net ran parts = shows_only (run_text net (Compiled parts) ran)
 
 -- What is drawn was run by one worker to its end, each machine was compiled rightly, and the
 -- product is that of the run.
@@ -34,7 +33,7 @@ pub record MakesDemo (demo : DemoWords) (product : Product) : Type 0 where
   pub net : Network
   pub trace : List TraceItem
   pub drawn : IsDrawn demo.seed net trace
-  pub ran : Ran
+  pub ran : RunResult
   pub is_ran : IsRan 1 ENTRIES_MAX net trace ran
   pub complete : ran.complete ≡ true
   pub parts : List Part

@@ -9,10 +9,10 @@ use Rattle.machine_compiler.specs.Lines.{lengths_text}
 use Rattle.polis_words.specs.NetStem.{NetStemWords}
 use Rattle.polis_words.specs.Draw.{drawing_name}
 use Rattle.output_files.specs.declared.product.Product.{Product}
-use Rattle.polis_cli.specs.Compile.{compile_meaning}
 use Rattle.input_files.specs.Inputs.{HoldsNet}
 use Rattle.output_files.specs.Products.{saves_one}
-use Rattle.polis_cli.specs.Meanings.{Meaning}
+use Rattle.input_files.specs.declared.load.Detail.TheVariants as details
+use Rattle.polis_cli.specs.Meanings.{Meaning, net_meaning}
 
 -- the product saves the drawing of the network and of the graphs of the compiled machines, and
 -- shows how long these and their code are
@@ -31,4 +31,4 @@ pub record MakesDraw (draw : NetStemWords) (files : Files) (product : Product) :
 
 -- it reads and judges the network as `compile` does
 abbrev pub draw_meaning : NetStemWords → Meaning
-draw_meaning draw = record (compile_meaning draw) { makes = MakesDraw draw }
+draw_meaning draw = net_meaning details.Cause draw.net (MakesDraw draw)

@@ -1,5 +1,5 @@
 -- What `equiv` makes of two networks.
-use Rattle.std.specs.Prelude.{◌≡◌, ◌⊎◌, ℕ, true, List, [], length, Some, slice_get}
+use Rattle.std.specs.Prelude.{◌≡◌, ◌⊎◌, ℕ, true, List, length, Some, slice_get}
 use Rattle.polis_base.specs.Host.{Files}
 use Rattle.transition_table.specs.declared.machine.Machine.{Machine}
 use Rattle.transition_table.specs.declared.network.Network.{Network}
@@ -11,9 +11,9 @@ use Rattle.polis_words.specs.declared.cause.Cause.{Cause}
 use Rattle.polis_words.specs.declared.cause.Cause.TheVariants.{OtherShape, Differ as TablesDiffer}
 use Rattle.polis_words.specs.Equiv.{EquivWords}
 use Rattle.polis_words.specs.Texts.{machine_snapshot_text, same_text}
-use Rattle.output_files.specs.declared.product.End.TheVariants as ends
 use Rattle.output_files.specs.declared.product.Product.{Product}
-use Rattle.input_files.specs.Inputs.{HoldsNet, NetFails, FailsNet}
+use Rattle.output_files.specs.Products.{shows_only}
+use Rattle.input_files.specs.Inputs.{HoldsNet, NetFails, OnlyNetFails}
 use Rattle.polis_cli.specs.Meanings.{Meaning, finds_differing, never_refused, ends_compared}
 use Rattle.input_files.specs.Failures.{explains_nothing}
 
@@ -25,8 +25,7 @@ pub record HoldsEquiv (equiv : EquivWords) (files : Files) (net other : Network)
 
 -- the product saves nothing, and shows how many machines each network has
 abbrev pub equiv_product : Network → Product
-equiv_product net =
-    record { saves = []; shown = same_text (length net.machines); end = ends.Done }
+equiv_product net = shows_only (same_text (length net.machines))
 
 -- The files hold two networks of one shape, no tables of which differ, so that they have the same
 -- runs; and the product is that of their comparison.
@@ -74,7 +73,7 @@ OtherFails equiv files net cause =
 -- why a file of a comparison fails: the first does, or it is accepted and the second does
 abbrev pub FailsEquiv : EquivWords → Files → List ℕ → Cause → Type 0
 FailsEquiv equiv files name cause =
-    FailsNet equiv.net files name cause
+    OnlyNetFails equiv.net files name cause
     ⊎ ((name ≡ equiv.other) × (net : Network) × HoldsNet files equiv.net net
     × ((another : Network) → HoldsNet files equiv.net another
     → OtherFails equiv files another cause))

@@ -1,11 +1,15 @@
 -- What a call promises of a command.
-use Rattle.std.specs.Prelude.{◌≡◌, [], ℕ, Bool, true, false, List, Option, IsTrue, ◌⊎◌}
-use Rattle.polis_base.specs.Host.{Files, WhereTold}
+use Rattle.std.specs.Prelude.{ℕ, Bool, true, false, List, Option, IsTrue, ◌⊎◌}
+use Rattle.polis_base.specs.declared.limits.TheConstants.{TEXT_MAX}
+use Rattle.polis_base.specs.Host.{Files}
 use Rattle.polis_words.specs.declared.cause.Cause.{Cause}
 use Rattle.polis_words.specs.declared.status.Status.{Status}
-use Rattle.polis_words.specs.declared.status.Status.TheVariants.{Done, ReadFault, Refused, WriteFault, NoMemory, Illegal, Differ}
+use Rattle.polis_words.specs.declared.status.Status.TheVariants.{Done, Refused, Illegal, Differ}
 use Rattle.output_files.specs.declared.product.Product.{Product}
+use Rattle.input_files.specs.Details.{explains_in}
 use Rattle.input_files.specs.Failures.{is_failure}
+use Rattle.input_files.specs.Inputs.{AcceptsInputs, AcceptsNet, InputsFail, OnlyNetFails}
+use Rattle.input_files.specs.declared.load.Detail.{Detail}
 
 -- A command with what it is asked for: all that the promise of a call says of it.
 pub record Meaning : Type 1 where
@@ -73,3 +77,32 @@ ends_done_or_refused other = false
 -- the command may end with this status, whatever the files hold
 abbrev pub MayEnd : Meaning → Status → Type 0
 MayEnd m status = IsTrue (m.ends status) ⊎ IsTrue (is_failure m.reads status)
+
+-- a command that reads a network text alone and always ends with Done, by how much it says of a
+-- file that is refused, and by what it makes
+abbrev pub net_meaning : Detail → List ℕ → (Files → Product → Type 0) → Meaning
+net_meaning detail net makes = record {
+  makes = makes;
+  accepts = AcceptsNet net;
+  finds = finds_nothing;
+  fails = OnlyNetFails net;
+  explains = explains_in detail TEXT_MAX;
+  may_refuse = never_refused;
+  ends = ends_done;
+  reads = true;
+}
+
+-- one that reads a network text and a trace text of it and finds nothing of them, also by the
+-- statuses with which it ends
+abbrev pub inputs_meaning : Detail → List ℕ → List ℕ → (Files → Product → Type 0)
+    → (Status → Bool) → Meaning
+inputs_meaning detail net trace makes ends = record {
+  makes = makes;
+  accepts = AcceptsInputs net trace;
+  finds = finds_nothing;
+  fails = λ files. InputsFail files net trace;
+  explains = explains_in detail TEXT_MAX;
+  may_refuse = never_refused;
+  ends = ends;
+  reads = true;
+}

@@ -11,9 +11,10 @@ use Rattle.polis_words.specs.Migrate.{migrated_name}
 use Rattle.polis_words.specs.Texts.{migrated_text}
 use Rattle.output_files.specs.declared.product.Product.{Product}
 use Rattle.output_files.specs.Products.{saves_one}
-use Rattle.polis_cli.specs.Meanings.{Meaning, never_refused, finds_illegal, ends_judged}
-use Rattle.input_files.specs.Failures.{explains_nothing}
-use Rattle.polis_cli.specs.Replay.{IsJudged, AcceptsReplay, IsIllegalReplay, FailsReplay}
+use Rattle.input_files.specs.declared.load.Detail.TheVariants as details
+use Rattle.input_files.specs.declared.load.Detail.TheVariants as details
+use Rattle.polis_cli.specs.Meanings.{Meaning}
+use Rattle.polis_cli.specs.Replay.{IsJudged, judging_meaning}
 
 -- the product saves the journal with its least stamps, and shows how long it is
 abbrev pub migrate_product : ReplayStemWords → Network → List Entry → Bool → Product
@@ -31,13 +32,4 @@ pub record MakesMigrate (migrate : ReplayStemWords) (files : Files) (product : P
   pub made : product ≡ migrate_product migrate net journal complete
 
 abbrev pub migrate_meaning : ReplayStemWords → Meaning
-migrate_meaning migrate = record {
-  makes = MakesMigrate migrate;
-  accepts = AcceptsReplay migrate.replay;
-  finds = finds_illegal (IsIllegalReplay migrate.replay);
-  fails = FailsReplay migrate.replay;
-  explains = explains_nothing;
-  may_refuse = never_refused;
-  ends = ends_judged;
-  reads = true;
-}
+migrate_meaning migrate = judging_meaning details.Cause migrate.replay (MakesMigrate migrate)

@@ -1,5 +1,5 @@
 -- What `replay` makes of a journal.
-use Rattle.std.specs.Prelude.{◌≡◌, ◌⊎◌, ◌↔◌, ℕ, Bool, true, List, [], length, Option, IsTrue}
+use Rattle.std.specs.Prelude.{◌≡◌, ◌⊎◌, ◌↔◌, ℕ, Bool, true, List, length, Option, IsTrue}
 use Rattle.polis_base.specs.Host.{Files}
 use Rattle.transition_table.specs.declared.network.Network.{Network}
 use Rattle.journals.specs.declared.entry.Entry.{Entry}
@@ -8,12 +8,13 @@ use Rattle.journals.specs.Legality.{Complete}
 use Rattle.polis_words.specs.declared.cause.Cause.{Cause}
 use Rattle.polis_words.specs.Replay.{ReplayWords}
 use Rattle.polis_words.specs.Texts.{legal_text}
-use Rattle.output_files.specs.declared.product.End.TheVariants as ends
 use Rattle.output_files.specs.declared.product.Product.{Product}
+use Rattle.output_files.specs.Products.{shows_only}
 use Rattle.input_files.specs.Inputs.{HoldsNet, HoldsTrace, InputsFail}
 use Rattle.input_files.specs.JournalFiles.{HoldsJournal, JournalFails, LegalAndRising}
 use Rattle.polis_cli.specs.Meanings.{Meaning, never_refused, finds_illegal, ends_judged}
-use Rattle.input_files.specs.Failures.{explains_nothing}
+use Rattle.input_files.specs.Details.{explains_replay}
+use Rattle.input_files.specs.declared.load.Detail.{Detail}
 
 -- what the three files hold
 pub record HoldsReplay (replay : ReplayWords) (files : Files) (net : Network)
@@ -33,8 +34,7 @@ pub record IsJudged (replay : ReplayWords) (files : Files) (net : Network) (trac
 
 -- the product saves nothing, and shows how long the journal is and whether it is complete
 abbrev pub replay_product : List Entry → Bool → Product
-replay_product journal complete =
-    record { saves = []; shown = legal_text (length journal) complete; end = ends.Done }
+replay_product journal complete = shows_only (legal_text (length journal) complete)
 
 -- the files hold a legal journal, and the product is that of its replay
 pub record MakesReplay (replay : ReplayWords) (files : Files) (product : Product) : Type 0 where
@@ -69,14 +69,19 @@ FailsReplay replay files name cause =
     → HoldsTrace files replay.trace other items
     → JournalFails files other items replay.journal cause))
 
-abbrev pub replay_meaning : ReplayWords → Meaning
-replay_meaning replay = record {
-  makes = MakesReplay replay;
+-- a command that judges a journal, by how much it says of a file that is refused or of a journal
+-- that isn't legal, and by what it makes
+abbrev pub judging_meaning : Detail → ReplayWords → (Files → Product → Type 0) → Meaning
+judging_meaning detail replay makes = record {
+  makes = makes;
   accepts = AcceptsReplay replay;
   finds = finds_illegal (IsIllegalReplay replay);
   fails = FailsReplay replay;
-  explains = explains_nothing;
+  explains = explains_replay detail replay;
   may_refuse = never_refused;
   ends = ends_judged;
   reads = true;
 }
+
+abbrev pub replay_meaning : Detail → ReplayWords → Meaning
+replay_meaning detail replay = judging_meaning detail replay (MakesReplay replay)

@@ -3,6 +3,7 @@ use Rattle.std.specs.Prelude.{◌≡◌, ◌⊎◌, ◌↔◌, ℕ, ◌≤◌, �
 use Rattle.polis_base.specs.declared.limits.TheConstants.{ENTRIES_MAX}
 use Rattle.polis_base.specs.Host.{Files}
 use Rattle.transition_table.specs.declared.network.Network.{Network}
+use Rattle.journals.specs.declared.entry.Entry.{Entry}
 use Rattle.journals.specs.declared.entry.TraceItem.{TraceItem}
 use Rattle.journals.specs.Legality.{Legal, Complete}
 use Rattle.journals.specs.Schedules.{IsSchedule, Follows}
@@ -22,7 +23,7 @@ use Rattle.polis_words.specs.Texts.{summary_text}
 use Rattle.output_files.specs.declared.product.End.{End}
 use Rattle.output_files.specs.declared.product.End.TheVariants as ends
 use Rattle.output_files.specs.declared.product.Product.{Product}
-use Rattle.polis_cli.specs.declared.ran.Ran.{Ran}
+use Rattle.polis_cli.specs.declared.run_result.RunResult.{RunResult}
 use Rattle.polis_cli.specs.ImageFiles.{HoldsImage, ImageFails}
 use Rattle.output_files.specs.Saves.{Save}
 use Rattle.input_files.specs.Inputs.{HoldsNet, HoldsTrace, InputsFail}
@@ -32,7 +33,7 @@ use Rattle.input_files.specs.Failures.{explains_nothing}
 -- Where the scheduler began. One worker gathers nothing. Of several workers so many entries were
 -- gathered, of which the first were adopted: at least the share of one worker in the limit, or all
 -- of a complete journal. From there on each entry is what the scheduler picks.
-pub record BeginsAt (workers limit : ℕ) (net : Network) (trace : List TraceItem) (ran : Ran) :
+pub record BeginsAt (workers limit : ℕ) (net : Network) (trace : List TraceItem) (ran : RunResult) :
     Type 0 where
   pub gathered_few : ran.gathered ≤ limit
   pub adopted_few : ran.adopted ≤ ran.gathered
@@ -42,24 +43,33 @@ pub record BeginsAt (workers limit : ℕ) (net : Network) (trace : List TraceIte
       ⊎ ((length ran.journal ≡ ran.adopted) × Complete net trace ran.journal)
   pub follows : Follows net trace ran.journal ran.adopted
 
--- What was run within a limit: a legal journal, where the scheduler began, and whether it is
+-- What is so of each journal that is run within a limit: it is legal, and this is whether it is
 -- complete; where it isn't it has as many entries as the limit.
-pub record IsRan (workers limit : ℕ) (net : Network) (trace : List TraceItem) (ran : Ran) :
+pub record IsWithin (limit : ℕ) (net : Network) (trace : List TraceItem) (journal : List Entry)
+    (complete : Bool) : Type 0 where
+  pub within : length journal ≤ limit
+  pub legal : Legal net trace journal
+  pub ends : IsTrue complete ↔ Complete net trace journal
+  pub limited : complete ≡ false → length journal ≡ limit
+
+-- what was run within a limit, and where the scheduler began
+pub record IsRan (workers limit : ℕ) (net : Network) (trace : List TraceItem) (ran : RunResult) :
     Type 0 where
-  pub within : length ran.journal ≤ limit
-  pub legal : Legal net trace ran.journal
+  pub is : IsWithin limit net trace ran.journal ran.complete
   pub begins : BeginsAt workers limit net trace ran
-  pub ends : IsTrue ran.complete ↔ Complete net trace ran.journal
-  pub limited : ran.complete ≡ false → length ran.journal ≡ limit
 
 -- What one worker runs is the scheduler's journal.
 abbrev pub AloneIsScheduled : Type 0
-AloneIsScheduled = (limit : ℕ) (net : Network) (trace : List TraceItem) (ran : Ran)
+AloneIsScheduled = (limit : ℕ) (net : Network) (trace : List TraceItem) (ran : RunResult)
     → IsRan 1 limit net trace ran → IsSchedule net trace limit ran.journal
 
--- the text of the journal of a run, with its least stamps
-abbrev pub journal_of : Network → Ran → List ℕ
-journal_of net ran = stamped_journal_text net ran.journal (least net ran.journal) ran.complete
+-- the text of a journal with its least stamps, and whether it is complete
+abbrev pub saved_journal : Network → List Entry → Bool → List ℕ
+saved_journal net journal complete =
+    stamped_journal_text net journal (least net journal) complete
+
+abbrev pub journal_of : Network → RunResult → List ℕ
+journal_of net ran = saved_journal net ran.journal ran.complete
 
 -- the code that a run executes: that of machines which were compiled, or that of an image
 pub data Tasks : Type 0 where
@@ -68,16 +78,16 @@ pub data Tasks : Type 0 where
 
 -- Where the run names no image the machines were compiled rightly. Else the file of that name holds
 -- an image of this code, which gives each machine's transition.
-abbrev pub AreTasks : Option (List ℕ) → Files → Network → Tasks → Type 0
-AreTasks None files net (Compiled parts) = AreRightParts net parts
-AreTasks None files net (Given code) = ⊥
-AreTasks (Some name) files net (Compiled parts) = ⊥
-AreTasks (Some name) files net (Given code) =
+abbrev pub RunsTasks : Option (List ℕ) → Files → Network → Tasks → Type 0
+RunsTasks None files net (Compiled parts) = AreRightParts net parts
+RunsTasks None files net (Given code) = ⊥
+RunsTasks (Some name) files net (Compiled parts) = ⊥
+RunsTasks (Some name) files net (Given code) =
     (image : List ImageMachine) × HoldsImage files name net image × (code ≡ codes_of image)
 
 -- for each machine how long its code is, how often it was tried, and how many instructions that
 -- took; of one that was compiled also how many vertices its graph has
-abbrev pub tasks_text : Network → Tasks → Ran → List ℕ
+abbrev pub tasks_text : Network → Tasks → RunResult → List ℕ
 tasks_text net (Compiled parts) ran = tries_text net parts ran.journal
 tasks_text net (Given code) ran = code_tries_text net code ran.journal
 
@@ -87,7 +97,7 @@ listing_of net (Compiled parts) = Some (ListingText net parts)
 listing_of net (Given code) = None
 
 -- what is shown of a run: its summary, and a line for each machine
-abbrev pub run_text : Network → Tasks → Ran → List ℕ
+abbrev pub run_text : Network → Tasks → RunResult → List ℕ
 run_text net tasks ran =
     summary_text net ran.journal ran.complete ran.gathered ran.adopted ++ tasks_text net tasks ran
 
@@ -102,7 +112,7 @@ listing_saves run None = []
 listing_saves run (Some listing) = record { name = listing_name run; text = listing } ∷ []
 
 -- the product saves the outputs, the journal, and the listing where there is one, and shows the run
-abbrev pub run_product : RunWords → Network → Ran → Tasks → Product
+abbrev pub run_product : RunWords → Network → RunResult → Tasks → Product
 run_product run net ran tasks = record {
   saves = record { name = out_name run; text = output_text net ran.journal }
       ∷ record { name = journal_name run; text = journal_of net ran }
@@ -118,10 +128,10 @@ pub record MakesRun (run : RunWords) (files : Files) (product : Product) : Type 
   pub trace : List TraceItem
   pub holds_net : HoldsNet files run.net net
   pub holds_trace : HoldsTrace files run.trace net trace
-  pub ran : Ran
+  pub ran : RunResult
   pub is_ran : IsRan run.workers run.limit net trace ran
   pub tasks : Tasks
-  pub are_tasks : AreTasks run.image files net tasks
+  pub are_tasks : RunsTasks run.image files net tasks
   pub made : product ≡ run_product run net ran tasks
 
 -- the image is held, within its limit, and accepted, where one is named

@@ -10,8 +10,9 @@ use Rattle.polis_words.specs.Texts.{waved_text}
 use Rattle.polis_words.specs.Wave.{wave_name}
 use Rattle.output_files.specs.declared.product.Product.{Product}
 use Rattle.output_files.specs.Products.{saves_one}
+use Rattle.input_files.specs.declared.load.Detail.TheVariants as details
 use Rattle.polis_cli.specs.Meanings.{Meaning}
-use Rattle.polis_cli.specs.Replay.{IsJudged, replay_meaning}
+use Rattle.polis_cli.specs.Replay.{IsJudged, judging_meaning}
 
 -- the product saves the wave of the journal, and shows how long the journal is
 abbrev pub wave_product : ReplayStemWords → Network → List Entry → Product
@@ -29,4 +30,4 @@ pub record MakesWave (wave : ReplayStemWords) (files : Files) (product : Product
 
 -- it judges the journal as `replay` does
 abbrev pub wave_meaning : ReplayStemWords → Meaning
-wave_meaning wave = record (replay_meaning wave.replay) { makes = MakesWave wave }
+wave_meaning wave = judging_meaning details.Cause wave.replay (MakesWave wave)

@@ -3,6 +3,7 @@ pub mod Made
 pub mod Lawful
 pub mod Run
 pub mod Workers
+pub mod Shuffle
 pub mod Compile
 pub mod Replay
 pub mod Demo

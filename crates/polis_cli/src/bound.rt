@@ -7,8 +7,8 @@ ghost use Rattle.polis_cli.specs.inner.Made.{IsMade};
 use crate::ranges::print_ranges;
 use cost_bound::Costs;
 use input_files::{Detail, load_net};
-use output_files::{End, Product};
-use polis_base::{Host, List, NoMemory};
+use output_files::Product;
+use polis_base::{Host, NoMemory};
 use polis_words::{Bound, Failure, GivenCosts};
 use std::alloc::Global;
 
@@ -40,11 +40,7 @@ pub fn make_bound<'a, H: Host>(
     };
     let costs = costs_of(asked.costs());
     match print_ranges(alloc, &costs, &net) {
-        Ok(shown) => Ok(Product {
-            saves: List::new(alloc),
-            shown,
-            end: End::Done,
-        }),
+        Ok(shown) => Ok(Product::showing(alloc, shown)),
         Err(NoMemory) => Err(Failure::NoMemory),
     }
 }

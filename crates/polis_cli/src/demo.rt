@@ -11,15 +11,15 @@ ghost use Rattle.polis_cli.specs.inner.Demo.{RunsWhole};
 ghost use Rattle.input_files.specs.Loads.{fails_unread};
 ghost use Rattle.polis_cli.specs.inner.Made.{IsMade};
 
-use crate::ran::run_alone;
+use crate::run_result::run_alone;
 use crate::tasks::Tasks;
 use crate::texts::shown_text;
 use input_files::{FileFault, Inputs, network_in};
 use machine_compiler::compile_network;
 use net_gen::{Generated, generate};
-use output_files::{End, Product};
+use output_files::Product;
+use polis_base::NoMemory;
 use polis_base::limits::ENTRIES_MAX;
-use polis_base::{List, NoMemory};
 use polis_words::{Demo, Failure};
 use std::alloc::Global;
 use trace_text::{TraceFault, read_trace};
@@ -56,11 +56,7 @@ fn product_of(alloc: Global, asked: &Demo, inputs: &Inputs) -> Result<Product, N
     let tasks = Tasks::of_compiled(alloc, &inputs.net, compiled)?;
     let ran = run_alone(alloc, &tasks.reactor, &inputs.trace, ENTRIES_MAX)?;
     let shown = shown_text(alloc, inputs, &tasks, &ran)?;
-    Ok(Product {
-        saves: List::new(alloc),
-        shown,
-        end: End::Done,
-    })
+    Ok(Product::showing(alloc, shown))
 }
 
 // What is drawn from a seed.

@@ -10,8 +10,8 @@ ghost use Rattle.polis_cli.specs.inner.Made.{IsMade};
 
 use input_files::{Detail, FileFault, load_net};
 use machine_equiv::{Differing, compare_nets, same_shape};
-use output_files::{End, Product};
-use polis_base::{Bytes, Host, List, NoMemory};
+use output_files::Product;
+use polis_base::{Bytes, Host, NoMemory};
 use polis_words::{Cause, Equiv, Failure, print_machine_snapshot, print_same};
 use std::alloc::Global;
 use transition_table::Network;
@@ -52,11 +52,7 @@ fn compared(alloc: Global, net: &Network, other: &Network) -> Result<Product, Fi
         Err(NoMemory) => return Err(FileFault::NoMemory),
     }
     match print_same(alloc, net.machines.len()) {
-        Ok(shown) => Ok(Product {
-            saves: List::new(alloc),
-            shown,
-            end: End::Done,
-        }),
+        Ok(shown) => Ok(Product::showing(alloc, shown)),
         Err(NoMemory) => Err(FileFault::NoMemory),
     }
 }

@@ -9,9 +9,10 @@ ghost use Rattle.polis_cli.specs.inner.Made.{IsMade};
 
 use crate::replay::judge_journal;
 use event_accounts::{accounts, push_accounts};
+use input_files::Detail;
 use net_core::Journal;
-use output_files::{End, Product};
-use polis_base::{Bytes, Host, List, NoMemory};
+use output_files::Product;
+use polis_base::{Bytes, Host, NoMemory};
 use polis_words::{Failure, Replay};
 use std::alloc::Global;
 use transition_table::Network;
@@ -36,16 +37,12 @@ pub fn make_losses<'a, H: Host>(
     ensures made { IsMade (losses_meaning asked.now) (H.files host.old) result }
     ensures left { LeftByLoads ⟦<H as Host>⟧ (fails_unread result) host.old host.new }
 {
-    let judged = match judge_journal(alloc, host, asked) {
+    let judged = match judge_journal(alloc, host, asked, Detail::Cause) {
         Ok(judged) => judged,
         Err(failure) => return Err(failure),
     };
     match print_accounts(alloc, &judged.inputs.net, &judged.read.journal) {
-        Ok(shown) => Ok(Product {
-            saves: List::new(alloc),
-            shown,
-            end: End::Done,
-        }),
+        Ok(shown) => Ok(Product::showing(alloc, shown)),
         Err(NoMemory) => Err(Failure::NoMemory),
     }
 }

@@ -4,6 +4,7 @@
 mod bound;
 mod check;
 mod compile;
+mod cover;
 mod demo;
 mod draw;
 mod equiv;
@@ -11,13 +12,15 @@ mod explain;
 mod image;
 mod image_file;
 mod law;
+mod lint;
 mod losses;
 mod migrate;
-mod ran;
 mod ranges;
 mod replay;
 mod run;
 mod run_inputs;
+mod run_result;
+mod shuffle;
 mod stamp;
 mod tasks;
 #[cfg(test)]
@@ -44,6 +47,14 @@ const HELP: &[u8] = b"Runs and code
     without the option; N is the most entries of the journal, from 1 to 60000, and
     60000 without the option; with --image it runs the code that the file IMAGE has,
     after a check against the tables of NET, and saves no listing
+  polis shuffle NET TRACE STEM SEED [--order ORDER] [--limit N]
+    runs the network text NET on the trace text TRACE, each entry being drawn of those
+    that may come next, from the number SEED, below 2^64; saves the output events as
+    STEM.out and the journal as STEM.jnl, and shows how many entries there are and how
+    many deliveries were lost; with ORDER free all may come that is legal, with settled
+    the environment waits at each settle until the network can do nothing, with scheduled
+    the network also follows its scheduler, and with mixed, and without the option, one
+    of these is drawn too; N is as of run
   polis compile NET STEM
     compiles the machines of the network text NET, saves their listing as STEM.lst,
     and shows how long their graphs and their code are
@@ -69,6 +80,12 @@ Networks
     and the least that a reaction costs, each with the first snapshot that takes it; T,
     S, G and H are what a test, a set, a goto and a halt cost, from 0 to 1000000 each,
     and 1 each where none is given
+  polis lint NET
+    judges NET as check does, and shows for each machine what its table leaves open:
+    snapshots on which events block each other, rows that are never enabled or repeat
+    another one, inputs and state variables that change nothing, outputs that are never
+    emitted, inputs that are used up for nothing, and whether its order of variables is
+    searched; and then the domains that no event and no state variable has
   polis draw NET STEM
     compiles the machines of the network text NET, saves pictures of the network and of
     the machines' graphs as STEM.dot, for Graphviz, and shows what compile shows
@@ -83,6 +100,10 @@ Journals
     judges JOURNAL as replay does, and shows for each input of each machine how many
     deliveries came, were read and were lost, whether one is left, and which entry
     overwrote first
+  polis cover NET TRACE JOURNAL
+    judges JOURNAL as replay does, and shows for each machine how often it fired, did
+    nothing, and did nothing since events blocked each other, which rows were taken and
+    which never, and of each input how often it was read and how often for nothing
   polis wave NET TRACE JOURNAL STEM
     judges JOURNAL as replay does, and saves the run along its entries as STEM.vcd, for
     wave viewers

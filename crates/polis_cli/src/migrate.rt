@@ -8,6 +8,7 @@ ghost use Rattle.polis_cli.specs.inner.Made.{IsMade};
 
 use crate::replay::{Judged, judge_journal};
 use crate::stamp::stamped_text;
+use input_files::Detail;
 use output_files::Product;
 use polis_base::{Host, NoMemory};
 use polis_words::{Failure, ReplayStem, print_migrated};
@@ -36,7 +37,7 @@ pub fn make_migrate<'a, H: Host>(
     ensures made { IsMade (migrate_meaning asked.now) (H.files host.old) result }
     ensures left { LeftByLoads ⟦<H as Host>⟧ (fails_unread result) host.old host.new }
 {
-    let judged = match judge_journal(alloc, host, asked.replay()) {
+    let judged = match judge_journal(alloc, host, asked.replay(), Detail::Cause) {
         Ok(judged) => judged,
         Err(failure) => return Err(failure),
     };

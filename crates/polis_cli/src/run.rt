@@ -4,10 +4,10 @@ ghost use Rattle.journals.specs.Journals.{IsTrace};
 ghost use Rattle.polis_cli.specs.Run.{IsRan, journal_of, end_of, run_meaning};
 ghost use Rattle.input_files.specs.Loads.{LeftByLoads, fails_unread};
 ghost use Rattle.polis_cli.specs.inner.Made.{IsMade};
-ghost use Rattle.polis_cli.specs.inner.Run.{AreOtherTexts, AreTasksOf, IsLoaded, IsProductOf, IsRunProduct, listed_under, tasks_in};
+ghost use Rattle.polis_cli.specs.inner.Run.{AreOtherTexts, TasksFit, IsLoaded, IsProductOf, IsRunProduct, listed_under, executed};
 
-use crate::ran::{Ran, run_alone, run_by};
 use crate::run_inputs::{RunInputs, load_run};
+use crate::run_result::{RunResult, run_alone, run_by};
 use crate::stamp::stamped_text;
 use crate::tasks::Tasks;
 use crate::texts::{OtherTexts, other_texts, texts_by};
@@ -22,7 +22,8 @@ use std::alloc::Global;
 use std::sync::Wait;
 use std::thread::Threads;
 
-fn end_at(complete: bool) -> End
+/// How a call ends with a journal that is complete, or with one that isn't.
+pub fn end_at(complete: bool) -> End
     ensures { result ≡ end_of complete }
 {
     if complete { End::Done } else { End::Limit }
@@ -47,8 +48,8 @@ fn push_listing(
     }
 }
 
-// The saves of a run, in their order.
-fn saves_of(
+/// The saves of a run, in their order.
+pub fn saves_of(
     alloc: Global,
     stem: &str,
     outputs: Bytes,
@@ -75,15 +76,15 @@ fn product_of(
     asked: &Run<'_>,
     inputs: &Inputs,
     tasks: &Tasks<'_>,
-    ran: &Ran,
+    ran: &RunResult,
     journal: Bytes,
     others: OtherTexts,
 ) -> Result<Product, NoMemory>
     requires ran { IsRan asked.now.workers asked.now.limit inputs.now.net inputs.now.trace ran.now }
     requires journal { journal ≡ journal_of inputs.now.net ran.now }
-    requires others { AreOtherTexts inputs.now.net (tasks_in tasks.now) ran.now others }
+    requires others { AreOtherTexts inputs.now.net (executed tasks.now) ran.now others }
     ensures { IfOk result (IsRunProduct asked.now inputs.now.net inputs.now.trace
-        (tasks_in tasks.now)) }
+        (executed tasks.now)) }
 {
     let _ = tasks;
     let _ = inputs;
@@ -109,9 +110,9 @@ fn product_alone(
 ) -> Result<Product, NoMemory>
     requires one { asked.now.workers ≡ 1 }
     requires trace { IsTrace inputs.now.net inputs.now.trace }
-    requires tasks { AreTasksOf inputs.now.net tasks.now }
+    requires tasks { TasksFit inputs.now.net tasks.now }
     ensures { IfOk result (IsRunProduct asked.now inputs.now.net inputs.now.trace
-        (tasks_in tasks.now)) }
+        (executed tasks.now)) }
 {
     let ran = run_alone(alloc, &tasks.reactor, &inputs.trace, asked.limit())?;
     let outputs = print_outputs(alloc, &inputs.net, &ran.journal)?;
@@ -131,9 +132,9 @@ fn product_by<T: Threads + Wait + Sync, G: Gate + Sync>(
 ) -> Result<Product, NoMemory>
     requires several { 1 < asked.now.workers }
     requires trace { IsTrace inputs.now.net inputs.now.trace }
-    requires tasks { AreTasksOf inputs.now.net tasks.now }
+    requires tasks { TasksFit inputs.now.net tasks.now }
     ensures { IfOk result (IsRunProduct asked.now inputs.now.net inputs.now.trace
-        (tasks_in tasks.now)) }
+        (executed tasks.now)) }
 {
     let workers = asked.workers();
     let limit = asked.limit();

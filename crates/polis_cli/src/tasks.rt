@@ -5,7 +5,7 @@ ghost use Rattle.task_machine.specs.Tasks.{AreTasks};
 ghost use Rattle.machine_compiler.specs.Parts.{AreRightParts, parts_of};
 ghost use Rattle.task_image.specs.Images.{codes_of as code_of_image};
 ghost use Rattle.polis_cli.specs.Run.{Compiled, Given};
-ghost use Rattle.polis_cli.specs.inner.Run.{AreTasksOf, tasks_in};
+ghost use Rattle.polis_cli.specs.inner.Run.{TasksFit, executed};
 
 use machine_compiler::{CompiledList, codes_of};
 use polis_base::NoMemory;
@@ -32,8 +32,8 @@ impl<'a> Tasks<'a> {
     ) -> Result<Tasks<'a>, NoMemory>
         requires deterministic { AreDeterministic net.now }
         requires right { AreRightParts net.now (parts_of compiled) }
-        ensures of_network { IfOk result (AreTasksOf net.now) }
-        ensures tasks { IfOk result (λ tasks. tasks_in tasks ≡ Compiled (parts_of compiled)) }
+        ensures of_network { IfOk result (TasksFit net.now) }
+        ensures tasks { IfOk result (λ tasks. executed tasks ≡ Compiled (parts_of compiled)) }
     {
         let codes = codes_of(alloc, &compiled)?;
         Ok(Tasks {
@@ -46,8 +46,8 @@ impl<'a> Tasks<'a> {
     pub fn of_image(net: &'a Network, image: Image) -> Tasks<'a>
         requires deterministic { AreDeterministic net.now }
         requires tasks { AreTasks net.now (code_of_image image) }
-        ensures of_network { AreTasksOf net.now result }
-        ensures tasks { tasks_in result ≡ Given (code_of_image image) }
+        ensures of_network { TasksFit net.now result }
+        ensures tasks { executed result ≡ Given (code_of_image image) }
     {
         Tasks {
             reactor: TaskReactor::new(net, image.into_codes()),

@@ -24,9 +24,11 @@ use sample_networks::cases::orders::ORDERS;
 use sample_networks::cases::replays::REPLAYS;
 use sample_networks::cases::reports::REPORTS;
 use sample_networks::cases::rows::ROWS;
+use sample_networks::cases::shuffles::SHUFFLES;
 use sample_networks::cases::side_by_side::SIDE_BY_SIDE;
 use sample_networks::cases::traces::TRACES;
 use sample_networks::cases::usage::USAGE;
+use sample_networks::cases::uses::USES;
 use sample_networks::cases::workers::WORKERS;
 use std::test::Fail;
 
@@ -49,6 +51,12 @@ fn runs_compiles_and_checks_networks(rt: HostRuntime) -> Result<(), Fail> {
 }
 
 #[test]
+fn runs_as_drawn(rt: HostRuntime) -> Result<(), Fail> {
+    try_cases(&rt, rt.alloc(), SHUFFLES, &OpenGate)?;
+    Ok(())
+}
+
+#[test]
 fn compares_networks(rt: HostRuntime) -> Result<(), Fail> {
     try_cases(&rt, rt.alloc(), COMPARISONS, &OpenGate)?;
     Ok(())
@@ -57,6 +65,12 @@ fn compares_networks(rt: HostRuntime) -> Result<(), Fail> {
 #[test]
 fn reports_on_journals(rt: HostRuntime) -> Result<(), Fail> {
     try_cases(&rt, rt.alloc(), REPORTS, &OpenGate)?;
+    Ok(())
+}
+
+#[test]
+fn says_what_tables_are_used_for(rt: HostRuntime) -> Result<(), Fail> {
+    try_cases(&rt, rt.alloc(), USES, &OpenGate)?;
     Ok(())
 }
 

@@ -5,9 +5,9 @@ ghost use Rattle.journals.specs.Journals.{IsJournal};
 ghost use Rattle.journals.specs.Legality.{Legal};
 ghost use Rattle.journal_text.specs.Texts.{output_text};
 ghost use Rattle.polis_cli.specs.Run.{journal_of, listing_of, run_text, tasks_text};
-ghost use Rattle.polis_cli.specs.inner.Run.{AreOtherTexts, AreTasksOf, tasks_in};
+ghost use Rattle.polis_cli.specs.inner.Run.{AreOtherTexts, TasksFit, executed};
 
-use crate::ran::Ran;
+use crate::run_result::RunResult;
 use crate::stamp::stamped_text;
 use crate::tasks::Tasks;
 use input_files::Inputs;
@@ -34,13 +34,13 @@ fn tasks_lines(
     alloc: Global,
     inputs: &Inputs,
     tasks: &Tasks<'_>,
-    ran: &Ran,
+    ran: &RunResult,
 ) -> Result<Bytes, NoMemory>
-    requires tasks { AreTasksOf inputs.now.net tasks.now }
+    requires tasks { TasksFit inputs.now.net tasks.now }
     requires journal { IsJournal inputs.now.net ran.now.journal }
     requires few { length ran.now.journal ≤ ENTRIES_MAX }
     ensures { IfOk result (λ text. text ≡
-        tasks_text inputs.now.net (tasks_in tasks.now) ran.now) }
+        tasks_text inputs.now.net (executed tasks.now) ran.now) }
 {
     match &tasks.compiled {
         Some(compiled) => print_tries(alloc, &tasks.reactor, compiled, &ran.journal),
@@ -53,13 +53,13 @@ pub fn shown_text(
     alloc: Global,
     inputs: &Inputs,
     tasks: &Tasks<'_>,
-    ran: &Ran,
+    ran: &RunResult,
 ) -> Result<Bytes, NoMemory>
-    requires tasks { AreTasksOf inputs.now.net tasks.now }
+    requires tasks { TasksFit inputs.now.net tasks.now }
     requires journal { IsJournal inputs.now.net ran.now.journal }
     requires few { length ran.now.journal ≤ ENTRIES_MAX }
     ensures { IfOk result (λ text. text ≡
-        run_text inputs.now.net (tasks_in tasks.now) ran.now) }
+        run_text inputs.now.net (executed tasks.now) ran.now) }
 {
     let net = &inputs.net;
     let mut text = print_summary(
@@ -81,8 +81,8 @@ fn listing_text(
     inputs: &Inputs,
     tasks: &Tasks<'_>,
 ) -> Result<Option<Bytes>, NoMemory>
-    requires { AreTasksOf inputs.now.net tasks.now }
-    ensures { IfOk result (λ listing. listing ≡ listing_of inputs.now.net (tasks_in tasks.now)) }
+    requires { TasksFit inputs.now.net tasks.now }
+    ensures { IfOk result (λ listing. listing ≡ listing_of inputs.now.net (executed tasks.now)) }
 {
     match &tasks.compiled {
         Some(compiled) => Ok(Some(print_listing(alloc, &inputs.net, compiled)?)),
@@ -95,15 +95,15 @@ pub fn other_texts(
     alloc: Global,
     inputs: &Inputs,
     tasks: &Tasks<'_>,
-    ran: &Ran,
+    ran: &RunResult,
     outputs: Bytes,
 ) -> Result<OtherTexts, NoMemory>
     requires outputs { outputs ≡ output_text inputs.now.net ran.now.journal }
-    requires tasks { AreTasksOf inputs.now.net tasks.now }
+    requires tasks { TasksFit inputs.now.net tasks.now }
     requires journal { IsJournal inputs.now.net ran.now.journal }
     requires few { length ran.now.journal ≤ ENTRIES_MAX }
     ensures { IfOk result (λ texts.
-        AreOtherTexts inputs.now.net (tasks_in tasks.now) ran.now texts) }
+        AreOtherTexts inputs.now.net (executed tasks.now) ran.now texts) }
 {
     let listing = listing_text(alloc, inputs, tasks)?;
     let shown = shown_text(alloc, inputs, tasks, ran)?;
@@ -120,7 +120,7 @@ pub fn texts_by<T: Threads + Sync>(
     rt: &T,
     alloc: Global,
     inputs: &Inputs,
-    ran: &Ran,
+    ran: &RunResult,
 ) -> (Result<Bytes, NoMemory>, Result<Bytes, NoMemory>)
     requires legal { Legal inputs.now.net inputs.now.trace ran.now.journal }
     requires few { length ran.now.journal ≤ ENTRIES_MAX }

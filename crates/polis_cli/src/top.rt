@@ -11,17 +11,21 @@ ghost use Rattle.polis_cli.specs.inner.Workers.{workers_of};
 use crate::bound::make_bound;
 use crate::check::make_check;
 use crate::compile::make_compile;
+use crate::cover::make_cover;
 use crate::demo::make_demo;
 use crate::draw::make_draw;
 use crate::equiv::make_equiv;
 use crate::explain::make_explain;
 use crate::image::make_image;
+use crate::lint::make_lint;
 use crate::losses::make_losses;
 use crate::migrate::make_migrate;
 use crate::replay::make_replay;
 use crate::run::{make_run, make_run_by};
+use crate::shuffle::make_shuffle;
 use crate::wave::make_wave;
 use event_buffer::Gate;
+use input_files::Detail;
 use output_files::{Product, fail, show_lines, write_product};
 use polis_base::{Host, Words};
 use polis_words::{Failure, Request, Status, request_of, several_of};
@@ -41,9 +45,9 @@ fn make<'a, H: Host>(
 {
     match request {
         Request::Run(run) => make_run(alloc, host, run),
-        Request::Check(check) => make_check(alloc, host, check),
+        Request::Check(check) => make_check(alloc, host, check, Detail::Cause),
         Request::Compile(compile) => make_compile(alloc, host, compile),
-        Request::Replay(replay) => make_replay(alloc, host, replay),
+        Request::Replay(replay) => make_replay(alloc, host, replay, Detail::Cause),
         Request::Migrate(migrate) => make_migrate(alloc, host, migrate),
         Request::Demo(demo) => make_demo(alloc, demo),
         Request::Bound(bound) => make_bound(alloc, host, bound),
@@ -53,6 +57,9 @@ fn make<'a, H: Host>(
         Request::Wave(wave) => make_wave(alloc, host, wave),
         Request::Draw(draw) => make_draw(alloc, host, draw),
         Request::Explain(explain) => make_explain(alloc, host, explain),
+        Request::Cover(cover) => make_cover(alloc, host, cover),
+        Request::Lint(lint) => make_lint(alloc, host, lint),
+        Request::Shuffle(shuffle) => make_shuffle(alloc, host, shuffle),
     }
 }
 

@@ -6,6 +6,7 @@ ghost use Rattle.input_files.specs.Loads.{LeftByLoads, fails_unread};
 ghost use Rattle.polis_cli.specs.inner.Made.{IsMade};
 
 use crate::replay::{Judged, judge_journal};
+use input_files::Detail;
 use output_files::Product;
 use polis_base::{Bytes, Host, NoMemory};
 use polis_words::{Failure, ReplayStem, print_waved};
@@ -35,7 +36,7 @@ pub fn make_wave<'a, H: Host>(
     ensures made { IsMade (wave_meaning asked.now) (H.files host.old) result }
     ensures left { LeftByLoads ⟦<H as Host>⟧ (fails_unread result) host.old host.new }
 {
-    let judged = match judge_journal(alloc, host, asked.replay()) {
+    let judged = match judge_journal(alloc, host, asked.replay(), Detail::Cause) {
         Ok(judged) => judged,
         Err(failure) => return Err(failure),
     };

@@ -1,12 +1,15 @@
 -- What the options of a run say.
 use Rattle.std.proofs.lemmas.List.{length-drop, append-nil}
 use Rattle.std.proofs.Common.{◌≡◌, ◌≢◌, ◌+◌, ◌*◌, ◌%◌, ◌≤◌, ◌<◌, ◌^◌, ℕ, get_or, List, [], ◌∷◌, ◌++◌, length, drop, slice_get, flat_map, Some, None, IfNone, refl, sym, ap, subst, ◌∙◌, arith, decimal}
-use Rattle.std.specs.Prelude.{Option, unwrap_or}
+use Rattle.std.specs.Option.{is_some}
+use Rattle.std.specs.Prelude.{Option, option_map, unwrap_or, true}
 use Rattle.std.proofs.lemmas.Fmt.{decimal_injective}
 use Rattle.polis_base.specs.declared.limits.TheConstants.{ENTRIES_MAX, WORKERS_MAX}
 use Rattle.journals.proofs.Emitted.{drop_at_item}
 use Rattle.net_core.proofs.ReceiversOf.{some_at}
-use Rattle.polis_words.specs.RunOptions.{RunOption, Workers, Limit, Image, IsOption, Said, Says, SayAll, AskOptions, unsaid, flag_of, value_of, option_words}
+use Rattle.polis_words.specs.declared.requests.order.GivenOrder.{GivenOrder}
+use Rattle.polis_words.specs.declared.requests.order.GivenOrder.TheVariants.{Mixed, Free, Settled, Scheduled}
+use Rattle.polis_words.specs.RunOptions.{RunOption, Workers, Limit, Image, Order, IsOption, Said, Says, SayAll, AskOptions, unsaid, flag_of, value_of, option_words, order_word}
 use Rattle.polis_words.specs.inner.Run.{IsOptionOf, SaysAt, AreSaid}
 
 -- ---- numbers
@@ -26,9 +29,18 @@ no_numbers None text n most e below high none =
 no_numbers (Some found) text n most e below high none = tt
 
 -- ---- one option
--- the letter that tells the flags apart
+-- the letter that tells the flags apart, and the orders
 letter : List ℕ → ℕ
 letter flag = get_or flag 2 0
+
+-- a word names one order
+same_order : (o p : GivenOrder) → order_word o ≡ order_word p → o ≡ p
+unfolding letter
+same_order Mixed Mixed e = refl
+same_order Free Free e = refl
+same_order Settled Settled e = refl
+same_order Scheduled Scheduled e = refl
+same_order o p e = let h = ap letter e in absurd (omega (arith, h))
 
 -- a flag and a word after it are one option's
 same_option : (o p : RunOption) → IsOption o → IsOption p → flag_of o ≡ flag_of p
@@ -43,18 +55,15 @@ same_option (Limit n) (Limit m) a b f v =
     let high : m < 2 ^ 64 = omega (arith, b.1) in
     ap Limit (decimal_injective n m low high v)
 same_option (Image x) (Image y) a b f v = ap Image v
-same_option (Workers n) (Limit m) a b f v = let h = ap letter f in absurd (omega (arith, h))
-same_option (Workers n) (Image y) a b f v = let h = ap letter f in absurd (omega (arith, h))
-same_option (Limit n) (Workers m) a b f v = let h = ap letter f in absurd (omega (arith, h))
-same_option (Limit n) (Image y) a b f v = let h = ap letter f in absurd (omega (arith, h))
-same_option (Image x) (Workers m) a b f v = let h = ap letter f in absurd (omega (arith, h))
-same_option (Image x) (Limit m) a b f v = let h = ap letter f in absurd (omega (arith, h))
+same_option (Order o) (Order p) a b f v = ap Order (same_order o p v)
+same_option o p a b f v = let h = ap letter f in absurd (omega (arith, h))
 
 -- an option says one thing
 one_said : (old x y : Said) (o : RunOption) → Says old o x → Says old o y → y ≡ x
 one_said old x y (Workers n) a b = b.1 ∙ sym a.1
 one_said old x y (Limit n) a b = b.1 ∙ sym a.1
 one_said old x y (Image name) a b = b.1 ∙ sym a.1
+one_said old x y (Order order) a b = b.1 ∙ sym a.1
 
 -- ---- options one after the other
 -- all options are those that were read and others after them
@@ -101,9 +110,10 @@ two_at words place a b p q =
     (drop_at_item words (place + 1) b q
     ∙ ap (λ (k : ℕ). b ∷ drop k words) next)
 
-pub said_next : (words : List (List ℕ)) (place : ℕ) (old new : Said) → AreSaid words place old
-    → SaysAt words place old new → AreSaid words (place + 2) new
-said_next words place old new a s =
+pub said_next : (words : List (List ℕ)) (first place : ℕ) (old new : Said)
+    → AreSaid words first place old → SaysAt words place old new
+    → AreSaid words first (place + 2) new
+said_next words first place old new a s =
     let more = one_more a.options s.option (drop (place + 2) words) unsaid old new a.say s.is_option
     s.says in
     record {
@@ -116,10 +126,11 @@ said_next words place old new a s =
     }
 
 -- where what stands at a place says nothing new, the words are no options
-pub no_more : (words : List (List ℕ)) (place : ℕ) (old : Said) → AreSaid words place old
-    → place + 1 < length words → ((new : Said) → ¬ SaysAt words place old new)
-    → (said : Said) → ¬ AskOptions (drop 4 words) said
-no_more words place old a there none said asks =
+pub no_more : (words : List (List ℕ)) (first place : ℕ) (old : Said)
+    → AreSaid words first place old → place + 1 < length words
+    → ((new : Said) → ¬ SaysAt words place old new)
+    → (said : Said) → ¬ AskOptions (drop first words) said
+no_more words first place old a there none said asks =
     let on = goes_on a.options asks.options (drop place words) unsaid old said
     (sym asks.words_are ∙ a.words_are) a.say asks.say in
     by_case on.0 on.1 on.2
@@ -166,12 +177,12 @@ pairs : (options : List RunOption) → length (flat_map option_words options) �
 pairs [] = refl
 pairs (o ∷ options) = let h = pairs options in omega (arith, h)
 
-pub no_odd : (words : List (List ℕ)) → 4 ≤ length words → length words % 2 ≢ 0 → (said : Said)
-    → ¬ AskOptions (drop 4 words) said
-no_odd words enough odd said asks =
-    let long = length-drop 4 words in
+pub no_odd : (words : List (List ℕ)) (first count : ℕ) → first + count ≡ length words
+    → count % 2 ≢ 0 → (said : Said) → ¬ AskOptions (drop first words) said
+no_odd words first count all odd said asks =
+    let long = length-drop first words in
     let many = ap length asks.words_are ∙ pairs asks.options in
-    let even : length words % 2 ≡ 0 = omega (arith, long, many, enough) in
+    let even : count % 2 ≡ 0 = omega (arith, long, many, all) in
     odd even
 
 -- ---- what the words ask for
@@ -187,6 +198,17 @@ one_asked_for words x y a b =
     by_case [] e s = s
     by_case (o ∷ more) e s = cc
 
+-- ---- what was said
+-- what is said isn't unsaid, nor is it where it stands for something else
+pub is_said : {X : Type 0} (o : Option X) → is_some o ≡ true → o ≢ None
+is_said None some none = cc
+is_said (Some x) some none = cc
+
+pub is_said_as : {X Y : Type 0} (f : X → Y) (o : Option X) → is_some o ≡ true
+    → option_map f o ≢ None
+is_said_as f None some none = cc
+is_said_as f (Some x) some none = cc
+
 -- ---- limits
 -- the numbers that are said, or their defaults, are within their limits
 abbrev pub AreWithin : Said → Type 0
@@ -199,6 +221,7 @@ says_within : (old new : Said) (o : RunOption) → IsOption o → Says old o new
 says_within old new (Workers n) is says a = subst AreWithin (sym says.1) (is, a.1)
 says_within old new (Limit n) is says a = subst AreWithin (sym says.1) (a.0, is)
 says_within old new (Image name) is says a = subst AreWithin (sym says.1) a
+says_within old new (Order order) is says a = subst AreWithin (sym says.1) a
 
 all_within : (options : List RunOption) (old new : Said) → SayAll old options new → AreWithin old
     → AreWithin new

@@ -1,5 +1,5 @@
 -- The run that a command line asks for.
-use Rattle.std.proofs.Common.{◌≡◌, ◌↔◌, ◌≤◌, ◌<◌, ℕ, Bool, true, false, List, [], ◌∷◌, drop, slice_get, Some, IsTrue, refl, sym, ap, subst, ◌∙◌, arith, codes}
+use Rattle.std.proofs.Common.{◌≡◌, ◌↔◌, ◌≤◌, ◌<◌, ℕ, Bool, true, false, List, [], ◌∷◌, drop, slice_get, Some, None, IsTrue, refl, sym, ap, subst, ◌∙◌, arith, codes}
 use Rattle.std.specs.Prelude.{unwrap_or}
 use Rattle.polis_base.specs.declared.limits.TheConstants.{ENTRIES_MAX}
 use Rattle.polis_words.specs.Run.{RunWords, AsksRun, NeedsWorkers, run_form}
@@ -22,6 +22,13 @@ pub options_asked : (words : List (List ℕ)) (run : RunWords) (a : AsksRun word
     → AskOptions (drop 4 words) a.said
 options_asked words run a =
     subst (λ (o : List (List ℕ)). AskOptions o a.said) (sym (ap (drop 4) a.form)) a.asks
+
+-- words whose options say an order ask for no run
+pub no_ordered : (words : List (List ℕ)) (said : Said) → AskOptions (drop 4 words) said
+    → ¬ (said.order ≡ None) → (run : RunWords) → ¬ AsksRun words run
+no_ordered words said asks some run a =
+    some (ap (λ (s : Said). s.order)
+    (one_asked_for (drop 4 words) a.said said (options_asked words run a) asks) ∙ a.no_order)
 
 -- the run of these names and options
 abbrev pub run_with : List ℕ → List ℕ → List ℕ → Said → RunWords

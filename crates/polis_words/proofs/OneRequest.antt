@@ -1,5 +1,5 @@
 -- A command line asks for one request at most.
-use Rattle.std.proofs.Common.{◌≡◌, get_or, ◌+◌, ℕ, List, [], ◌∷◌, length, slice_get, Some, refl, sym, ap, ◌∙◌, arith, codes}
+use Rattle.std.proofs.Common.{◌≡◌, get_or, ◌+◌, ◌*◌, ℕ, List, [], ◌∷◌, length, slice_get, Some, refl, sym, ap, ◌∙◌, arith, codes}
 use Rattle.polis_words.specs.Bound.{BoundWords, AsksBound}
 use Rattle.polis_words.specs.Check.{CheckWords}
 use Rattle.polis_words.specs.Demo.{DemoWords, AsksDemo}
@@ -11,12 +11,13 @@ use Rattle.polis_words.specs.Replay.{ReplayWords}
 use Rattle.polis_words.specs.ReplayStem.{ReplayStemWords}
 use Rattle.polis_words.specs.Requests.{Asks}
 use Rattle.polis_words.specs.declared.requests.Request.{Request}
-use Rattle.polis_words.specs.declared.requests.Request.TheVariants.{Run, Check, Compile, Replay, Migrate, Demo, Bound, Image, Equiv, Losses, Wave, Draw, Explain}
+use Rattle.polis_words.specs.declared.requests.Request.TheVariants.{Run, Check, Compile, Replay, Migrate, Demo, Bound, Image, Equiv, Losses, Wave, Draw, Explain, Cover, Lint, Shuffle}
 use Rattle.polis_words.specs.declared.requests.explain.Explain.{Explain as Explained}
 use Rattle.polis_words.specs.declared.requests.explain.Explain.TheVariants as explains
 use Rattle.polis_words.proofs.Asks.{one_demo, same_item, same_word}
 use Rattle.polis_words.proofs.AsksBound.{one_bound, one_costs, given_costs}
 use Rattle.polis_words.proofs.AsksRun.{one_asked}
+use Rattle.polis_words.proofs.AsksShuffle.{one_shuffle}
 
 -- ---- the first word
 command_of : Request → List ℕ
@@ -33,10 +34,13 @@ command_of (Losses losses) = codes "losses"
 command_of (Wave wave) = codes "wave"
 command_of (Draw draw) = codes "draw"
 command_of (Explain explain) = codes "explain"
+command_of (Cover cover) = codes "cover"
+command_of (Lint lint) = codes "lint"
+command_of (Shuffle shuffle) = codes "shuffle"
 
--- the sum of the second and the third letter of a word, which tells the commands apart
+-- the first three letters of a word as one number, which tells the commands apart
 letters : List ℕ → ℕ
-letters word = get_or word 1 0 + get_or word 2 0
+letters word = (get_or word 0 0 * 256 + get_or word 1 0) * 256 + get_or word 2 0
 
 first : (words form : List (List ℕ)) (word : List ℕ) → words ≡ form
     → slice_get form 0 ≡ Some word → slice_get words 0 ≡ Some word
@@ -145,6 +149,12 @@ one_request words (Draw a) (Draw b) asks again =
     ap Draw (one_net_stem words (codes "draw") a b asks.form again.form)
 one_request words (Explain a) (Explain b) asks again =
     ap Explain (one_explain words a b asks again)
+one_request words (Cover a) (Cover b) asks again =
+    ap Cover (one_replay words (codes "cover") a b [] [] asks.form again.form)
+one_request words (Lint a) (Lint b) asks again =
+    ap Lint (one_net words (codes "lint") a b asks.form again.form)
+one_request words (Shuffle a) (Shuffle b) asks again =
+    ap Shuffle (one_shuffle words a b asks again)
 one_request words a b asks again =
     let same = ap letters (same_word words 0 (command_of b) (command_of a) (begins words b again)
     (begins words a asks)) in

@@ -1,6 +1,7 @@
 pub mod FileWords
 pub mod RunOptions
 pub mod Run
+pub mod Shuffle
 pub mod Check
 pub mod NetStem
 pub mod NetTrace
@@ -13,9 +14,11 @@ pub mod Bound
 pub mod Image
 pub mod Equiv
 pub mod Losses
+pub mod Cover
 pub mod Wave
 pub mod Draw
 pub mod Explain
+pub mod Lint
 pub mod Requests
 pub mod Lines
 pub mod Sentences

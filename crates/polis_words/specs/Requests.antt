@@ -1,7 +1,7 @@
 -- What a command line asks for.
 use Rattle.std.specs.Prelude.{ℕ, List}
 use Rattle.polis_words.specs.declared.requests.Request.{Request}
-use Rattle.polis_words.specs.declared.requests.Request.TheVariants.{Run, Check, Compile, Replay, Migrate, Demo, Bound, Image, Equiv, Losses, Wave, Draw, Explain}
+use Rattle.polis_words.specs.declared.requests.Request.TheVariants.{Run, Check, Compile, Replay, Migrate, Demo, Bound, Image, Equiv, Losses, Wave, Draw, Explain, Cover, Lint, Shuffle}
 use Rattle.polis_words.specs.Run.{AsksRun}
 use Rattle.polis_words.specs.Check.{AsksCheck}
 use Rattle.polis_words.specs.Compile.{AsksCompile}
@@ -15,6 +15,9 @@ use Rattle.polis_words.specs.Losses.{AsksLosses}
 use Rattle.polis_words.specs.Wave.{AsksWave}
 use Rattle.polis_words.specs.Draw.{AsksDraw}
 use Rattle.polis_words.specs.Explain.{AsksExplain}
+use Rattle.polis_words.specs.Cover.{AsksCover}
+use Rattle.polis_words.specs.Lint.{AsksLint}
+use Rattle.polis_words.specs.Shuffle.{AsksShuffle}
 
 -- the command line has the form of this request
 abbrev pub Asks : List (List ℕ) → Request → Type 0
@@ -31,6 +34,9 @@ Asks words (Losses losses) = AsksLosses words losses
 Asks words (Wave wave) = AsksWave words wave
 Asks words (Draw draw) = AsksDraw words draw
 Asks words (Explain explain) = AsksExplain words explain
+Asks words (Cover cover) = AsksCover words cover
+Asks words (Lint lint) = AsksLint words lint
+Asks words (Shuffle shuffle) = AsksShuffle words shuffle
 
 -- the command line has no request's form
 abbrev pub AsksNothing : List (List ℕ) → Type 0

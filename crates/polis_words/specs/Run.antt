@@ -1,5 +1,5 @@
 -- The command line `run NET TRACE STEM`, with its options.
-use Rattle.std.specs.Prelude.{◌≡◌, ℕ, ◌<◌, List, ◌∷◌, ◌++◌, Option, unwrap_or, codes}
+use Rattle.std.specs.Prelude.{◌≡◌, ℕ, ◌<◌, List, ◌∷◌, ◌++◌, Option, None, unwrap_or, codes}
 use Rattle.polis_base.specs.declared.limits.TheConstants.{ENTRIES_MAX}
 use Rattle.polis_words.specs.FileWords.{IsFileWord}
 use Rattle.polis_words.specs.RunOptions.{Said, AskOptions}
@@ -18,8 +18,8 @@ pub record RunWords : Type 0 where
 abbrev pub run_form : RunWords → List (List ℕ) → List (List ℕ)
 run_form run options = codes "run" ∷ run.net ∷ run.trace ∷ run.stem ∷ options
 
--- the command line asks for this run: `run NET TRACE STEM`, and options after it; where none says
--- so, there is one worker, and the limit is 60,000
+-- the command line asks for this run: `run NET TRACE STEM`, and options after it, none of which
+-- says an order; where none says so, there is one worker, and the limit is 60,000
 pub record AsksRun (words : List (List ℕ)) (run : RunWords) : Type 0 where
   pub options : List (List ℕ)
   pub form : words ≡ run_form run options
@@ -31,6 +31,7 @@ pub record AsksRun (words : List (List ℕ)) (run : RunWords) : Type 0 where
   pub workers : run.workers ≡ unwrap_or said.workers 1
   pub limit : run.limit ≡ unwrap_or said.limit ENTRIES_MAX
   pub image : run.image ≡ said.image
+  pub no_order : said.order ≡ None
 
 -- the command line asks for a run by more than one worker
 abbrev pub NeedsWorkers : List (List ℕ) → Type 0

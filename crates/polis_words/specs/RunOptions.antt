@@ -1,26 +1,38 @@
--- The options of a run.
-use Rattle.std.specs.Prelude.{◌≡◌, ℕ, ◌≤◌, List, [], ◌∷◌, Option, Some, None, flat_map, codes, decimal}
+-- The options of runs.
+use Rattle.std.specs.Prelude.{◌≡◌, ℕ, ◌≤◌, List, [], ◌∷◌, Option, Some, None, flat_map, codes, decimal, ⊤}
 use Rattle.polis_base.specs.declared.limits.TheConstants.{ENTRIES_MAX, WORKERS_MAX}
+use Rattle.polis_words.specs.declared.requests.order.GivenOrder.{GivenOrder}
+use Rattle.polis_words.specs.declared.requests.order.GivenOrder.TheVariants.{Mixed, Free, Settled, Scheduled}
 use Rattle.polis_words.specs.FileWords.{IsFileWord}
 
--- how many workers run the network, the most entries that its journal may have, or the name of the
--- image whose code it runs
+-- how many workers run the network, the most entries that its journal may have, the name of the
+-- image whose code it runs, or which moves are offered
 pub data RunOption : Type 0 where
   Workers : ℕ → RunOption
   Limit : ℕ → RunOption
   Image : List ℕ → RunOption
+  Order : GivenOrder → RunOption
 
 -- its flag
 abbrev pub flag_of : RunOption → List ℕ
 flag_of (Workers n) = codes "--workers"
 flag_of (Limit n) = codes "--limit"
 flag_of (Image name) = codes "--image"
+flag_of (Order order) = codes "--order"
+
+-- the word of an order
+abbrev pub order_word : GivenOrder → List ℕ
+order_word Mixed = codes "mixed"
+order_word Free = codes "free"
+order_word Settled = codes "settled"
+order_word Scheduled = codes "scheduled"
 
 -- the word after its flag
 abbrev pub value_of : RunOption → List ℕ
 value_of (Workers n) = decimal n
 value_of (Limit n) = decimal n
 value_of (Image name) = name
+value_of (Order order) = order_word order
 
 abbrev pub option_words : RunOption → List (List ℕ)
 option_words o = flag_of o ∷ value_of o ∷ []
@@ -30,32 +42,32 @@ abbrev pub IsOption : RunOption → Type 0
 IsOption (Workers n) = (1 ≤ n) × (n ≤ WORKERS_MAX)
 IsOption (Limit n) = (1 ≤ n) × (n ≤ ENTRIES_MAX)
 IsOption (Image name) = IsFileWord name
+IsOption (Order order) = ⊤
 
--- what options say of each of the three, where one says it
+-- what options say of each of these, where one says it
 pub record Said : Type 0 where
   pub workers : Option ℕ
   pub limit : Option ℕ
   pub image : Option (List ℕ)
+  pub order : Option GivenOrder
 
 -- what no option says
 abbrev pub unsaid : Said
-unsaid = record { workers = None; limit = None; image = None }
+unsaid = record { workers = None; limit = None; image = None; order = None }
 
 -- the option says what none before it said
 abbrev pub Says : Said → RunOption → Said → Type 0
-Says old (Workers n) new = (old.workers ≡ None)
-    × (new ≡ record { workers = Some n; limit = old.limit; image = old.image })
-Says old (Limit n) new = (old.limit ≡ None)
-    × (new ≡ record { workers = old.workers; limit = Some n; image = old.image })
-Says old (Image name) new = (old.image ≡ None)
-    × (new ≡ record { workers = old.workers; limit = old.limit; image = Some name })
+Says old (Workers n) new = (old.workers ≡ None) × (new ≡ record old { workers = Some n })
+Says old (Limit n) new = (old.limit ≡ None) × (new ≡ record old { limit = Some n })
+Says old (Image name) new = (old.image ≡ None) × (new ≡ record old { image = Some name })
+Says old (Order order) new = (old.order ≡ None) × (new ≡ record old { order = Some order })
 
 -- options in order, each of which says what none before it said
 abbrev pub SayAll : Said → List RunOption → Said → Type 0
 SayAll old [] new = new ≡ old
 SayAll old (o ∷ more) new = IsOption o × ((next : Said) × Says old o next × SayAll next more new)
 
--- the words are options that say this: each of the three at most once, in any order
+-- the words are options that say this: each of the four at most once, in any order
 pub record AskOptions (words : List (List ℕ)) (said : Said) : Type 0 where
   pub options : List RunOption
   pub words_are : words ≡ flat_map option_words options

@@ -9,12 +9,16 @@ use Rattle.journals.specs.declared.entry.Entry.{Entry}
 use Rattle.journals.specs.Outputs.{lost}
 use Rattle.journal_text.specs.Texts.{count_text, snapshot_text}
 
--- how many entries there are, how many deliveries were lost, and how long the gathered and the
--- adopted journal are
-abbrev pub summary_text : Network → List Entry → Bool → ℕ → ℕ → List ℕ
-summary_text net journal complete gathered adopted =
+-- how many entries there are, and how many deliveries were lost
+abbrev pub drawn_text : Network → List Entry → Bool → List ℕ
+drawn_text net journal complete =
     line (codes "entries " ++ count_text journal complete)
     ++ line (codes "lost " ++ decimal (lost net journal))
+
+-- the same, and how long the gathered and the adopted journal are
+abbrev pub summary_text : Network → List Entry → Bool → ℕ → ℕ → List ℕ
+summary_text net journal complete gathered adopted =
+    drawn_text net journal complete
     ++ line (codes "gathered " ++ decimal gathered ++ codes " adopted " ++ decimal adopted)
 
 -- `M I ; X`: the machine, and a snapshot of it

@@ -31,6 +31,10 @@ pub struct Conflict {
     pub row_b: u32,
     /// The snapshot on which both are enabled, as it is printed.
     pub snapshot: Bytes,
+    /// The place of the one row: of the name in its first condition.
+    pub place_a: u64,
+    /// The place of the other row.
+    pub place_b: u64,
 }
 
 /// Why a file isn't read or isn't accepted, or what was found of it. A place is a byte's number

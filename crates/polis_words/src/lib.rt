@@ -13,12 +13,12 @@ pub use cause::{Cause, Conflict, Failure, LexKind};
 pub use law::laws;
 pub use lines::{failure_text, fault_line};
 pub use print::{
-    print_accepted, print_image, print_items, print_legal, print_machine_snapshot, print_migrated,
-    print_same, print_snapshot, print_summary, print_waved,
+    print_accepted, print_drawn, print_image, print_items, print_legal, print_machine_snapshot,
+    print_migrated, print_same, print_snapshot, print_summary, print_waved,
 };
 pub use requests::{
-    Bound, Check, Demo, Equiv, Explain, GivenCosts, NetStem, NetTrace, Replay, ReplayStem, Request,
-    Run, needs_workers, request_of, several_of,
+    Bound, Check, Demo, Equiv, Explain, GivenCosts, GivenOrder, NetStem, NetTrace, Replay,
+    ReplayStem, Request, Run, Shuffle, needs_workers, request_of, several_of,
 };
 pub use sentences::{
     ABSENT, end_sentence, first_row_sentence, journal_sentence, lex_sentence, long_sentence,

@@ -4,7 +4,7 @@ ghost use Rattle.polis_base.specs.Lines.{line};
 ghost use Rattle.journals.specs.Journals.{IsJournal};
 ghost use Rattle.journals.specs.Outputs.{lost};
 ghost use Rattle.journal_text.specs.Texts.{count_text};
-ghost use Rattle.polis_words.specs.Texts.{summary_text};
+ghost use Rattle.polis_words.specs.Texts.{drawn_text, summary_text};
 
 mod accepted;
 mod found;
@@ -47,6 +47,21 @@ fn push_lengths(gathered: u64, adopted: u64, into: &mut Bytes) -> Result<(), NoM
     into.push(b" adopted ")?;
     into.push_decimal(adopted)?;
     into.push(b"\n")
+}
+
+/// What `shuffle` shows: the number of entries, and the lost deliveries.
+pub fn print_drawn(
+    alloc: Global,
+    net: &Network,
+    j: &Journal,
+    complete: bool,
+) -> Result<Bytes, NoMemory>
+    requires { IsJournal net.now j.now }
+    ensures { IfOk result (λ text. text ≡ drawn_text net.now j.now complete) }
+{
+    let mut text = Bytes::new(alloc);
+    push_entries(alloc, net, j, complete, &mut text)?;
+    Ok(text)
 }
 
 /// What `run` shows: the number of entries, the lost deliveries, and the lengths of the gathered

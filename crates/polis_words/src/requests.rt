@@ -8,20 +8,24 @@ mod check;
 mod command;
 mod compile;
 mod costs;
+mod cover;
 mod demo;
 mod draw;
 mod equiv;
 mod explain;
 mod file_word;
 mod image;
+mod lint;
 mod losses;
 mod migrate;
 mod net_stem;
 mod net_trace;
 mod options;
+mod order;
 mod replay;
 mod replay_stem;
 mod run;
+mod shuffle;
 mod wave;
 mod workers;
 
@@ -31,6 +35,7 @@ pub use check::Check;
 use check::check_of;
 use compile::compile_of;
 pub use costs::GivenCosts;
+use cover::cover_of;
 pub use demo::Demo;
 use demo::demo_of;
 use draw::draw_of;
@@ -39,16 +44,20 @@ use equiv::equiv_of;
 pub use explain::Explain;
 use explain::explain_of;
 use image::image_of;
+use lint::lint_of;
 use losses::losses_of;
 use migrate::migrate_of;
 pub use net_stem::NetStem;
 pub use net_trace::NetTrace;
+pub use order::GivenOrder;
 use polis_base::Words;
 pub use replay::Replay;
 use replay::replay_of;
 pub use replay_stem::ReplayStem;
 pub use run::Run;
 use run::run_of;
+pub use shuffle::Shuffle;
+use shuffle::shuffle_of;
 use wave::wave_of;
 pub use workers::{needs_workers, several_of};
 
@@ -81,6 +90,12 @@ pub enum Request<'a> {
     Draw(NetStem<'a>),
     /// To judge files and say where and why one is refused.
     Explain(Explain<'a>),
+    /// To say what a legal journal used of its network's tables.
+    Cover(Replay<'a>),
+    /// To say what the tables of a network leave open.
+    Lint(Check<'a>),
+    /// To run a network on a trace by draws.
+    Shuffle(Shuffle<'a>),
 }
 
 /// What the command line asks for, if it asks for anything: its first word names the command.
@@ -107,6 +122,9 @@ pub fn request_of(words: &Words) -> Option<Request<'_>>
         "wave" => Some(Request::Wave(wave_of(words)?)),
         "draw" => Some(Request::Draw(draw_of(words)?)),
         "explain" => Some(Request::Explain(explain_of(words)?)),
+        "cover" => Some(Request::Cover(cover_of(words)?)),
+        "lint" => Some(Request::Lint(lint_of(words)?)),
+        "shuffle" => Some(Request::Shuffle(shuffle_of(words)?)),
         _ => None,
     }
 }

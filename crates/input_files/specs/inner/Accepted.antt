@@ -2,6 +2,7 @@
 use Rattle.std.specs.Prelude.{◌≡◌, ℕ}
 use Rattle.polis_base.specs.declared.token.LexError.{LexError}
 use Rattle.polis_base.specs.declared.token.LexError.TheVariants as lexes
+use Rattle.net_reader.specs.declared.raw.RawNet.{RawNet}
 use Rattle.transition_table.specs.declared.machine.Machine.{Machine}
 use Rattle.transition_table.specs.declared.network.Network.{Network}
 use Rattle.polis_words.specs.declared.cause.LexKind.TheVariants as kinds
@@ -10,6 +11,7 @@ use Rattle.polis_words.specs.declared.cause.Cause.TheVariants.{Lex, Conflict}
 use Rattle.input_files.specs.declared.accept.FileFault.{FileFault}
 use Rattle.input_files.specs.declared.accept.FileFault.TheVariants as faults
 use Rattle.input_files.specs.Accepted.{IsConflictIn, IsFirstConflict}
+use Rattle.input_files.specs.Places.{StandThere}
 
 -- why a text whose tokens don't read isn't accepted
 abbrev pub lex_fault : LexError → FileFault
@@ -19,12 +21,12 @@ lex_fault (lexes.NumberTooLarge place) = faults.Cause (Lex kinds.Number place)
 lex_fault lexes.NoMemory = faults.NoMemory
 
 -- why the k-th machine of the network isn't said to be deterministic
-abbrev pub IsMachineFault : Network → ℕ → Machine → Cause → Type 0
-IsMachineFault net k machine (Conflict rows) =
-    (rows.machine ≡ k) × IsConflictIn net machine rows
-IsMachineFault net k machine other = ⊥
+abbrev pub IsMachineFault : RawNet → Network → ℕ → Machine → Cause → Type 0
+IsMachineFault raw net k machine (Conflict rows) =
+    (rows.machine ≡ k) × StandThere raw rows × IsConflictIn net machine rows
+IsMachineFault raw net k machine other = ⊥
 
 -- why the machines of the network aren't said to be deterministic
-abbrev pub IsConflictFault : Network → Cause → Type 0
-IsConflictFault net (Conflict rows) = IsFirstConflict net rows
-IsConflictFault net other = ⊥
+abbrev pub IsConflictFault : RawNet → Network → Cause → Type 0
+IsConflictFault raw net (Conflict rows) = StandThere raw rows × IsFirstConflict net rows
+IsConflictFault raw net other = ⊥

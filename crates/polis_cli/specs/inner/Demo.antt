@@ -3,9 +3,9 @@ use Rattle.std.specs.Prelude.{◌≡◌, true, List}
 use Rattle.polis_base.specs.declared.limits.TheConstants.{ENTRIES_MAX}
 use Rattle.transition_table.specs.declared.network.Network.{Network}
 use Rattle.journals.specs.declared.entry.TraceItem.{TraceItem}
-use Rattle.polis_cli.specs.declared.ran.Ran.{Ran}
+use Rattle.polis_cli.specs.declared.run_result.RunResult.{RunResult}
 use Rattle.polis_cli.specs.Run.{IsRan}
 
 -- what one worker runs is complete
 abbrev pub RunsWhole : Network → List TraceItem → Type 0
-RunsWhole net trace = (ran : Ran) → IsRan 1 ENTRIES_MAX net trace ran → ran.complete ≡ true
+RunsWhole net trace = (ran : RunResult) → IsRan 1 ENTRIES_MAX net trace ran → ran.complete ≡ true

@@ -1,16 +1,15 @@
 -- What making a product gives, whatever the command.
-use Rattle.std.specs.Prelude.{◌≡◌, ◌⊎◌, ℕ, true, List, Option, Result, Ok, Err, IsTrue, ⊤}
+use Rattle.std.specs.Prelude.{◌≡◌, ◌⊎◌, ℕ, true, List, Option, Result, Ok, Err, IsTrue}
 use Rattle.polis_base.specs.Host.{Files, WhereTold}
 use Rattle.polis_words.specs.declared.cause.Cause.{Cause}
 use Rattle.polis_words.specs.declared.cause.Failure.{Failure}
-use Rattle.polis_words.specs.declared.cause.Failure.TheVariants as failures
 use Rattle.polis_words.specs.declared.status.Status.TheVariants.{Illegal}
 use Rattle.polis_words.specs.Lines.{cause_status}
 use Rattle.output_files.specs.declared.product.Product.{Product}
 use Rattle.output_files.specs.Ends.{end_status}
 use Rattle.output_files.specs.Saves.{AreApart}
 use Rattle.polis_cli.specs.Meanings.{Meaning, MayEnd}
-use Rattle.input_files.specs.Failures.{explains_nothing, is_failure, IfExplained}
+use Rattle.input_files.specs.Failures.{is_failure, IfExplained}
 
 -- the command fails so of these files
 abbrev pub FailsAs : Meaning → Files → Failure → Type 0
@@ -41,7 +40,3 @@ JudgingExplained told P E failure = IfExplained failure (λ name cause more.
     (WhereTold told (λ files. P files name cause)
     × (IsTrue (is_failure true (cause_status cause)) ⊎ (cause_status cause ≡ Illegal)))
     × E told name cause more)
-
--- the same, where nothing explains it
-abbrev pub JudgingFails : Option Files → (Files → List ℕ → Cause → Type 0) → Failure → Type 0
-JudgingFails told P failure = JudgingExplained told P explains_nothing failure

@@ -20,7 +20,7 @@ use Rattle.task_image.specs.Images.{codes_of}
 use Rattle.polis_words.specs.declared.cause.Cause.{Cause}
 use Rattle.polis_words.specs.Run.{RunWords}
 use Rattle.output_files.specs.declared.product.Product.{Product}
-use Rattle.polis_cli.specs.declared.ran.Ran.{Ran}
+use Rattle.polis_cli.specs.declared.run_result.RunResult.{RunResult}
 use Rattle.polis_cli.specs.declared.texts.OtherTexts.{OtherTexts}
 use Rattle.polis_cli.specs.declared.run_inputs.RunInputs.{RunInputs}
 use Rattle.polis_cli.specs.declared.tasks.Tasks.{Tasks as RunTasks}
@@ -31,7 +31,7 @@ use Rattle.polis_cli.specs.Run.{IsRan, Tasks, Compiled, Given, listing_of, run_t
 
 -- a journal that goes on from another one by what the scheduler picks, to its end or to the limit
 pub record CarriesOn (net : Network) (trace : List TraceItem) (limit : ℕ) (start : List Entry)
-    (merged : ℕ) (ran : Ran) : Type 0 where
+    (merged : ℕ) (ran : RunResult) : Type 0 where
   pub gathered : ran.gathered ≡ merged
   pub adopted : ran.adopted ≡ length start
   pub begins : Begins start ran.journal
@@ -42,23 +42,23 @@ pub record CarriesOn (net : Network) (trace : List TraceItem) (limit : ℕ) (sta
   pub ends : IsTrue ran.complete ↔ Complete net trace ran.journal
 
 -- the code that is executed, by what was compiled and by the code of the reactor
-abbrev pub tasks_of : Option (List CompiledMachine) → List (List Instr) → Tasks
-tasks_of None code = Given code
-tasks_of (Some compiled) code = Compiled (parts_of compiled)
+abbrev pub executed_of : Option (List CompiledMachine) → List (List Instr) → Tasks
+executed_of None code = Given code
+executed_of (Some compiled) code = Compiled (parts_of compiled)
 
 -- what these tasks execute
-abbrev pub tasks_in : RunTasks → Tasks
-tasks_in tasks = tasks_of tasks.compiled tasks.reactor.codes
+abbrev pub executed : RunTasks → Tasks
+executed tasks = executed_of tasks.compiled tasks.reactor.codes
 
 -- the tasks are of the network; where its machines were compiled, that was done rightly, and the
 -- code is that of the compiled machines
-pub record AreTasksOf (net : Network) (tasks : RunTasks) : Type 0 where
+pub record TasksFit (net : Network) (tasks : RunTasks) : Type 0 where
   pub meaning : tasks.reactor.net.now ≡ net
   pub right : IfSome tasks.compiled (λ compiled. AreRightParts net (parts_of compiled)
       × (tasks.reactor.codes ≡ codes_in (parts_of compiled)))
 
 -- the other texts of a run: the outputs, the listing where there is one, and what is shown
-pub record AreOtherTexts (net : Network) (tasks : Tasks) (ran : Ran) (texts : OtherTexts) :
+pub record AreOtherTexts (net : Network) (tasks : Tasks) (ran : RunResult) (texts : OtherTexts) :
     Type 0 where
   pub outputs : texts.outputs ≡ output_text net ran.journal
   pub listing : texts.listing ≡ listing_of net tasks
@@ -72,7 +72,7 @@ listed_under stem (Some listing) = record { name = stem ++ codes ".lst"; text = 
 -- the product is that of a run of the network on the trace by these tasks
 pub record IsRunProduct (run : RunWords) (net : Network) (trace : List TraceItem) (tasks : Tasks)
     (product : Product) : Type 0 where
-  pub ran : Ran
+  pub ran : RunResult
   pub is_ran : IsRan run.workers run.limit net trace ran
   pub made : product ≡ run_product run net ran tasks
 
@@ -101,14 +101,14 @@ pub record HoldsRun (run : RunWords) (loaded : RunInputs) (files : Files) : Type
   pub image : HoldsImageOf run.image files loaded.inputs.net loaded.image
 
 -- these are the tasks that a run executes, where the image is this one, or where there is none
-abbrev pub AreTasksBy : Option (List ImageMachine) → Network → Tasks → Type 0
-AreTasksBy None net (Compiled parts) = AreRightParts net parts
-AreTasksBy None net (Given code) = ⊥
-AreTasksBy (Some image) net (Compiled parts) = ⊥
-AreTasksBy (Some image) net (Given code) = code ≡ codes_of image
+abbrev pub RunsLoaded : Option (List ImageMachine) → Network → Tasks → Type 0
+RunsLoaded None net (Compiled parts) = AreRightParts net parts
+RunsLoaded None net (Given code) = ⊥
+RunsLoaded (Some image) net (Compiled parts) = ⊥
+RunsLoaded (Some image) net (Given code) = code ≡ codes_of image
 
 -- the product is that of a run of what was loaded
 pub record IsProductOf (run : RunWords) (loaded : RunInputs) (product : Product) : Type 0 where
   pub tasks : Tasks
-  pub are_tasks : AreTasksBy loaded.image loaded.inputs.net tasks
+  pub are_tasks : RunsLoaded loaded.image loaded.inputs.net tasks
   pub is_product : IsRunProduct run loaded.inputs.net loaded.inputs.trace tasks product

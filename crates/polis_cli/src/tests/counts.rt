@@ -3,7 +3,7 @@ ghost use Rattle.std.specs.Prelude.{IfOk};
 ghost use Rattle.journals.specs.Journals.{IsTrace};
 ghost use Rattle.transition_table.specs.Transitions.{AreDeterministic, HasWidths, IsSnapshot, OfMachine, Transition};
 
-use crate::ran::run_alone;
+use crate::run_result::run_alone;
 use crate::tests::gates::{Meeting, Outside};
 use crate::tests::runner::shared;
 use input_files::{Detail, Inputs, load_inputs};

@@ -1,6 +1,6 @@
--- The options of a run, by their places.
+-- The options of runs, by their places.
 use Rattle.std.specs.Prelude.{◌≡◌, ℕ, ◌+◌, List, ◌++◌, Some, slice_get, drop, flat_map}
-use Rattle.polis_words.specs.RunOptions.{RunOption, Workers, Limit, Image, IsOption, Said, Says, SayAll, unsaid, flag_of, value_of, option_words}
+use Rattle.polis_words.specs.RunOptions.{RunOption, Workers, Limit, Image, Order, IsOption, Said, Says, SayAll, unsaid, flag_of, value_of, option_words}
 use Rattle.polis_words.specs.declared.requests.options.Given.{Given}
 use Rattle.polis_words.specs.declared.requests.options.Given.TheVariants as given
 
@@ -23,9 +23,10 @@ abbrev pub option_of : Given → RunOption
 option_of (given.Workers n) = Workers n
 option_of (given.Limit n) = Limit n
 option_of (given.Image name) = Image name.now
+option_of (given.Order order) = Order order
 
--- the words from the fifth up to this place are options that say this
-pub record AreSaid (words : List (List ℕ)) (place : ℕ) (said : Said) : Type 0 where
+-- the words after the first so many, up to this place, are options that say this
+pub record AreSaid (words : List (List ℕ)) (first place : ℕ) (said : Said) : Type 0 where
   pub options : List RunOption
-  pub words_are : drop 4 words ≡ flat_map option_words options ++ drop place words
+  pub words_are : drop first words ≡ flat_map option_words options ++ drop place words
   pub say : SayAll unsaid options said

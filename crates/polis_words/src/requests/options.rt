@@ -4,6 +4,7 @@ ghost use Rattle.polis_words.specs.RunOptions.{RunOption, Said, Says, AskOptions
 ghost use Rattle.polis_words.specs.inner.Run.{IsOptionOf, SaysAt, option_of};
 
 use crate::requests::file_word::is_file_word;
+use crate::requests::order::{GivenOrder, read_order};
 use polis_base::limits::{ENTRIES_MAX, WORKERS_MAX};
 use polis_base::{Words, read_decimal};
 use std::marker::Model;
@@ -14,9 +15,10 @@ enum Given<'a> {
     Workers(u64),
     Limit(u64),
     Image(&'a str),
+    Order(GivenOrder),
 }
 
-/// What the options of a run say.
+/// What the options of runs say.
 #[derive(Drop)]
 pub struct Options<'a> {
     /// How many workers run the network.
@@ -25,6 +27,8 @@ pub struct Options<'a> {
     pub limit: Option<u64>,
     /// The name of an image.
     pub image: Option<&'a str>,
+    /// Which moves are offered.
+    pub order: Option<GivenOrder>,
 }
 
 impl<'a> Model for Options<'a> {
@@ -37,6 +41,7 @@ impl<'a> Model for Options<'a> {
       workers = o.workers;
       limit = o.limit;
       image = option_map (λ name. name.now) o.image;
+      order = o.order;
     } };
 }
 
@@ -80,6 +85,10 @@ fn option_with<'a>(flag: &str, value: &'a str) -> Option<Given<'a>>
                 None
             }
         }
+        "--order" => match read_order(value) {
+            Some(order) => Some(Given::Order(order)),
+            None => None,
+        },
         _ => None,
     }
 }
@@ -93,6 +102,7 @@ fn say<'a>(old: Options<'a>, option: Given<'a>) -> Option<Options<'a>>
         workers,
         limit,
         image,
+        order,
     } = old;
     match option {
         Given::Workers(n) => match workers {
@@ -100,6 +110,7 @@ fn say<'a>(old: Options<'a>, option: Given<'a>) -> Option<Options<'a>>
                 workers: Some(n),
                 limit,
                 image,
+                order,
             }),
             Some(_) => None,
         },
@@ -108,6 +119,7 @@ fn say<'a>(old: Options<'a>, option: Given<'a>) -> Option<Options<'a>>
                 workers,
                 limit: Some(n),
                 image,
+                order,
             }),
             Some(_) => None,
         },
@@ -116,6 +128,16 @@ fn say<'a>(old: Options<'a>, option: Given<'a>) -> Option<Options<'a>>
                 workers,
                 limit,
                 image: Some(name),
+                order,
+            }),
+            Some(_) => None,
+        },
+        Given::Order(asked) => match order {
+            None => Some(Options {
+                workers,
+                limit,
+                image,
+                order: Some(asked),
             }),
             Some(_) => None,
         },
@@ -135,22 +157,24 @@ fn say_at<'a>(words: &'a Words, place: u64, old: Options<'a>) -> Option<Options<
     }
 }
 
-/// What the options after the first four words say, if these are options.
-pub fn options_of(words: &Words) -> Option<Options<'_>>
-    requires { 4 ≤ length words.now }
-    ensures some { IfSome result (λ said. AskOptions (drop 4 words.now) said) }
-    ensures none { IfNone result ((said : Said) → ¬ AskOptions (drop 4 words.now) said) }
+/// What the options after the first so many words say, if these are options.
+pub fn options_of(words: &Words, first: u64) -> Option<Options<'_>>
+    requires { first ≤ length words.now }
+    ensures some { IfSome result (λ said. AskOptions (drop first words.now) said) }
+    ensures none { IfNone result ((said : Said) → ¬ AskOptions (drop first words.now) said) }
 {
-    if words.len() % 2 != 0 {
+    let count = words.len() - first;
+    if count % 2 != 0 {
         return None;
     }
     let mut options = Options {
         workers: None,
         limit: None,
         image: None,
+        order: None,
     };
-    for k in 2..words.len() / 2 {
-        options = match say_at(words, 2 * k, options) {
+    for k in 0..count / 2 {
+        options = match say_at(words, first + 2 * k, options) {
             Some(options) => options,
             None => return None,
         };

@@ -90,8 +90,8 @@ impl<'a> Run<'a> {
     }
 }
 
-// The number, or the default where there is none.
-fn or_else(n: Option<u64>, default: u64) -> u64
+/// The number, or the default where there is none.
+pub fn or_else(n: Option<u64>, default: u64) -> u64
     ensures { result ≡ unwrap_or n default }
 {
     match n {
@@ -111,10 +111,13 @@ pub fn run_of(words: &Words) -> Option<Run<'_>>
     if words.len() < 4 {
         return None;
     }
-    let options = match options_of(words) {
+    let options = match options_of(words, 4) {
         Some(options) => options,
         None => return None,
     };
+    if options.order.is_some() {
+        return None;
+    }
     let net = words.get(1);
     let trace = words.get(2);
     let stem = words.get(3);

@@ -2,8 +2,8 @@
 
 /// Texts that several cases name: listings of compiled networks, worked out from the rules of the
 /// texts, the image of the lamp (the magic, version 1, one machine, its name, the sizes of two
-/// variables and of three results, six instructions: two tests, three sets, a halt), two networks,
-/// and what runs save and show.
+/// variables and of three results, six instructions: two tests, three sets, a halt), three
+/// networks, and what runs save and show.
 pub const SHARED: &str = r#"
 :: text lamp.lst
 polis listing 1
@@ -355,6 +355,24 @@ machine b priority 1 {
 }
 :: text open_row.net
 network t version 1 event g from env machine a priority 0 { input g when g do\
+:: text odd.net
+network odd version 1
+domain bit = { off, on }
+domain spare = 0 .. 3
+event a from env
+event b from env
+event c from env
+event x to env
+event y to env
+machine m priority 0 {
+  input a, b, c
+  output x, y
+  state k : bit = off
+  when a, absent b do emit x
+  when b, absent a do k := on
+  when a, absent b, absent c do emit x
+  when a, absent a do emit y
+}
 :: text pressed.jnl
 polis journal 2
 @1 dep env lamp_ctl press
@@ -401,6 +419,39 @@ polis journal 2
 @9 dep b a q
 @10 fire a : q ; - -> - ; p
 end 10 limit
+:: text belted.jnl
+polis journal 2
+@1 dep env belt key_on
+@2 fire belt : key_on ; s=off -> s=wait ; start
+@3 dep belt timer start
+@4 fire timer : start ; n=10 -> n=0 ; -
+@5 dep env timer tick
+@6 fire timer : tick ; n=0 -> n=1 ; -
+@7 dep env timer tick
+@8 fire timer : tick ; n=1 -> n=2 ; -
+@9 dep env timer tick
+@10 fire timer : tick ; n=2 -> n=3 ; -
+@11 dep env timer tick
+@12 fire timer : tick ; n=3 -> n=4 ; -
+@13 dep env timer tick
+@14 fire timer : tick ; n=4 -> n=5 ; end5
+@15 dep timer belt end5
+@16 fire belt : end5 ; s=wait -> s=alarm ; alarm_on
+@15 dep env timer tick
+@16 fire timer : tick ; n=5 -> n=6 ; -
+@17 dep env timer tick
+@18 fire timer : tick ; n=6 -> n=7 ; -
+@19 dep env timer tick
+@20 fire timer : tick ; n=7 -> n=8 ; -
+@21 dep env timer tick
+@22 fire timer : tick ; n=8 -> n=9 ; -
+@23 dep env timer tick
+@24 fire timer : tick ; n=9 -> n=10 ; end10
+@25 dep timer belt end10
+@26 fire belt : end10 ; s=alarm -> s=off ; alarm_off
+@25 dep env timer tick
+@26 fire timer : tick ; n=10 -> - ; -
+end 30 complete
 :: text even.jnl
 polis journal 2
 @1 dep env a x

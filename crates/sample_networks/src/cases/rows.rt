@@ -235,39 +235,7 @@ machine timer vertices 20 code 29 tries 12 steps 81
 :: holds o.out
 alarm_on
 alarm_off
-:: holds o.jnl
-polis journal 2
-@1 dep env belt key_on
-@2 fire belt : key_on ; s=off -> s=wait ; start
-@3 dep belt timer start
-@4 fire timer : start ; n=10 -> n=0 ; -
-@5 dep env timer tick
-@6 fire timer : tick ; n=0 -> n=1 ; -
-@7 dep env timer tick
-@8 fire timer : tick ; n=1 -> n=2 ; -
-@9 dep env timer tick
-@10 fire timer : tick ; n=2 -> n=3 ; -
-@11 dep env timer tick
-@12 fire timer : tick ; n=3 -> n=4 ; -
-@13 dep env timer tick
-@14 fire timer : tick ; n=4 -> n=5 ; end5
-@15 dep timer belt end5
-@16 fire belt : end5 ; s=wait -> s=alarm ; alarm_on
-@15 dep env timer tick
-@16 fire timer : tick ; n=5 -> n=6 ; -
-@17 dep env timer tick
-@18 fire timer : tick ; n=6 -> n=7 ; -
-@19 dep env timer tick
-@20 fire timer : tick ; n=7 -> n=8 ; -
-@21 dep env timer tick
-@22 fire timer : tick ; n=8 -> n=9 ; -
-@23 dep env timer tick
-@24 fire timer : tick ; n=9 -> n=10 ; end10
-@25 dep timer belt end10
-@26 fire belt : end10 ; s=alarm -> s=off ; alarm_off
-@25 dep env timer tick
-@26 fire timer : tick ; n=10 -> - ; -
-end 30 complete
+:: holds o.jnl @belted.jnl
 :: holds o.lst @belt.lst
 :: case a run without end, within a limit of ten entries
 :: file net @pong.net

@@ -81,4 +81,22 @@ pub const USAGE: &str = r#"
 :: case migrate net trc jnl 
 :: call migrate net trc jnl ""
 :: shows Usage usage
+:: case cover net trc
+:: call cover net trc
+:: shows Usage usage
+:: case cover net "" jnl
+:: call cover net "" jnl
+:: shows Usage usage
+:: case cover net trc jnl o
+:: call cover net trc jnl o
+:: shows Usage usage
+:: case lint
+:: call lint
+:: shows Usage usage
+:: case lint ""
+:: call lint ""
+:: shows Usage usage
+:: case lint net trc
+:: call lint net trc
+:: shows Usage usage
 "#;

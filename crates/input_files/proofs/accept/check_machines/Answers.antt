@@ -14,7 +14,7 @@ check_machine-requires c =
 pub returns-in-Err-clause-failed : goal.returns-in-Err-clause-failed
 returns-in-Err-clause-failed c =
     fault_from c.in-Err.fault _ _
-    (λ cause. first_fault c.args.net.now c.loop-m.m c.get.result.now cause c.get.ensures
+    (λ cause. first_fault c.args.raw.now c.args.net.now c.loop-m.m c.get.result.now cause c.get.ensures
     c.loop-m.invariant) c.in-Err.ensures.failed
 
 pub loop-m-preserved : goal.loop-m-preserved

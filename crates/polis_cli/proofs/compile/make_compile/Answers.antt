@@ -1,6 +1,6 @@
 use Rattle.std.proofs.Common.{refl}
 use Rattle.polis_cli.specs.Compile.{compile_meaning}
-use Rattle.input_files.specs.Inputs.{FailsNet}
+use Rattle.input_files.specs.Inputs.{OnlyNetFails}
 use Rattle.polis_cli.proofs.CompileMeaning.{compile_made}
 use Rattle.polis_cli.proofs.IsMade.{files_failure}
 use Rattle.input_files.proofs.FileFails.{net_alone}
@@ -15,7 +15,7 @@ returns-in-Ok-product_of-clause-made g c =
 pub returns-in-Err-clause-made : goal.returns-in-Err-clause-made
 returns-in-Err-clause-made g c =
     let asked = c.args.asked.now in
-    files_failure (compile_meaning asked) (g.H.Host.files c.args.host.now) (FailsNet asked.net)
+    files_failure (compile_meaning asked) (g.H.Host.files c.args.host.now) (OnlyNetFails asked.net)
     c.in-Err.failure refl (λ told name cause. refl) (λ files name cause h. h)
     (net_alone asked.net (g.H.Host.files c.args.host.now) c.in-Err.failure
     (rw c.net.ensures at c.in-Err.ensures.failed))

@@ -24,6 +24,6 @@ returns c =
       right = c.in_ok-compiled.ensures;
       is_ran = is_ran;
       complete = c.requires.whole ran is_ran;
-      made = product_is c.new.result c.in_ok-shown.shown _ c.new.ensures
+      made = product_is c.showing.result c.in_ok-shown.shown _ c.showing.ensures
           (rw c.in_ok-tasks.ensures.tasks at c.in_ok-shown.ensures);
     }

@@ -7,4 +7,4 @@ use Rattle.polis_cli.proofs.explain.make_explain.Goals as goal
 pub returns-in-Journal-clause-made : goal.returns-in-Journal-clause-made
 returns-in-Journal-clause-made g c =
     subst (λ (e : Explain). IsMade (explain_meaning e) (g.H.Host.files c.args.host.now)
-    c.make_explain_journal.result) (sym c.in-Journal.is) c.make_explain_journal.ensures.made
+    c.make_replay.result) (sym c.in-Journal.is) c.make_replay.ensures.made

@@ -9,7 +9,7 @@ pub returns-in-Ok-print_items-clause-made : goal.returns-in-Ok-print_items-claus
 returns-in-Ok-print_items-clause-made g c =
     items_made (g.H.Host.files c.args.host.now) c.args.asked.now c.in-Ok.inputs.net
     c.in-Ok.inputs.trace _ (rw (c.net.ensures, c.trace.ensures) at c.in-Ok.ensures.held)
-    (product_is c.new.result c.in-Ok-print_items.shown _ c.new.ensures
+    (product_is c.showing.result c.in-Ok-print_items.shown _ c.showing.ensures
     (rw c.len.ensures at c.in-Ok-print_items.ensures))
 
 pub returns-in-Err-clause-made : goal.returns-in-Err-clause-made

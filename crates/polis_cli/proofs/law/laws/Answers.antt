@@ -1,10 +1,13 @@
-use Rattle.polis_cli.proofs.Headline.{runs_give_headline}
+use Rattle.polis_cli.proofs.Headline.{draws_give_headline, runs_give_headline}
 use Rattle.polis_cli.proofs.IsRan.{alone_is_scheduled}
 use Rattle.polis_cli.proofs.SavesDetermineRun.{one_run}
 use Rattle.polis_cli.proofs.law.laws.Goals as goal
 
 pub returns-clause-headline : goal.returns-clause-headline
 returns-clause-headline c = runs_give_headline
+
+pub returns-clause-drawn : goal.returns-clause-drawn
+returns-clause-drawn c = draws_give_headline
 
 pub returns-clause-alone : goal.returns-clause-alone
 returns-clause-alone c = alone_is_scheduled

@@ -1,7 +1,7 @@
 use Rattle.std.proofs.Common.{refl}
 use Rattle.polis_cli.specs.Losses.{losses_meaning}
-use Rattle.polis_cli.specs.Replay.{FailsReplay}
-use Rattle.polis_cli.proofs.IsMade.{product_is, judging_failure}
+use Rattle.polis_cli.proofs.IsExplained.{judging_explained}
+use Rattle.polis_cli.proofs.IsMade.{product_is}
 use Rattle.polis_cli.proofs.LossesMeaning.{losses_made}
 use Rattle.polis_cli.proofs.losses.make_losses.Goals as goal
 
@@ -10,12 +10,10 @@ returns-in-Ok-print_accounts-clause-made g c =
     let judged = c.in-Ok.judged in
     losses_made (g.H.Host.files c.args.host.now) c.args.asked.now judged.inputs.net
     judged.inputs.trace judged.read.journal judged.complete _ c.in-Ok.ensures.judged
-    (product_is c.new.result c.in-Ok-print_accounts.shown _ c.new.ensures
+    (product_is c.showing.result c.in-Ok-print_accounts.shown _ c.showing.ensures
     c.in-Ok-print_accounts.ensures)
 
 pub returns-in-Err-clause-made : goal.returns-in-Err-clause-made
 returns-in-Err-clause-made g c =
-    let asked = c.args.asked.now in
-    judging_failure (losses_meaning asked) (g.H.Host.files c.args.host.now) (FailsReplay asked)
-    c.in-Err.failure refl refl (λ told name cause. refl) (λ files name cause h. h)
-    c.in-Err.ensures.failed
+    judging_explained (losses_meaning c.args.asked.now) (g.H.Host.files c.args.host.now)
+    c.in-Err.failure refl refl c.in-Err.ensures.failed

@@ -1,7 +1,6 @@
 use Rattle.std.proofs.Common.{refl}
 use Rattle.polis_cli.specs.Migrate.{migrate_meaning}
-use Rattle.polis_cli.specs.Replay.{FailsReplay}
-use Rattle.polis_cli.proofs.IsMade.{judging_failure}
+use Rattle.polis_cli.proofs.IsExplained.{judging_explained}
 use Rattle.polis_cli.proofs.MigrateMeaning.{migrate_made}
 use Rattle.polis_cli.proofs.migrate.make_migrate.Goals as goal
 
@@ -14,7 +13,5 @@ returns-in-Ok-product_of-clause-made g c =
 
 pub returns-in-Err-clause-made : goal.returns-in-Err-clause-made
 returns-in-Err-clause-made g c =
-    let asked = c.args.asked.now in
-    judging_failure (migrate_meaning asked) (g.H.Host.files c.args.host.now)
-    (FailsReplay asked.replay) c.in-Err.failure refl refl (λ told name cause. refl) (λ files name cause h. h)
-    (rw c.replay.ensures at c.in-Err.ensures.failed)
+    judging_explained (migrate_meaning c.args.asked.now) (g.H.Host.files c.args.host.now)
+    c.in-Err.failure refl refl (rw c.replay.ensures at c.in-Err.ensures.failed)

@@ -4,13 +4,13 @@ use Rattle.polis_cli.proofs.run.product_alone.Goals as goal
 
 pub stamped_text-requires-clause-few : goal.stamped_text-requires-clause-few
 stamped_text-requires-clause-few c =
-    let within = c.in_ok-ran.ensures.within in
+    let within = c.in_ok-ran.ensures.is.within in
     let few = c.limit.ensures.few in
     omega (arith, within, few)
 
 pub other_texts-requires-clause-few : goal.other_texts-requires-clause-few
 other_texts-requires-clause-few c =
-    let within = c.in_ok-ran.ensures.within in
+    let within = c.in_ok-ran.ensures.is.within in
     let few = c.limit.ensures.few in
     omega (arith, within, few)
 

@@ -14,12 +14,12 @@ product_of-requires-clause-ran g c =
 
 pub texts_by-journal-requires-clause-few : goal.texts_by-journal-requires-clause-few
 texts_by-journal-requires-clause-few g c =
-    let within = c.in_ok-ran.ensures.within in
+    let within = c.in_ok-ran.ensures.is.within in
     let few = c.limit-limit.ensures.few in
     omega (arith, within, few)
 
 pub other_texts-requires-clause-few : goal.other_texts-requires-clause-few
 other_texts-requires-clause-few g c =
-    let within = c.in_ok-ran.ensures.within in
+    let within = c.in_ok-ran.ensures.is.within in
     let few = c.limit-limit.ensures.few in
     omega (arith, within, few)

@@ -1,4 +1,4 @@
-use Rattle.polis_cli.specs.inner.Run.{tasks_in}
+use Rattle.polis_cli.specs.inner.Run.{executed}
 use Rattle.polis_cli.proofs.RunMeaning.{run_is}
 use Rattle.polis_cli.proofs.run.product_of.Goals as goal
 
@@ -11,7 +11,7 @@ returns c =
     record {
       ran = ran;
       is_ran = c.requires.ran;
-      made = run_is run net ran (tasks_in c.args.tasks.now) c.stem.result.now
+      made = run_is run net ran (executed c.args.tasks.now) c.stem.result.now
           c.args.others.outputs c.args.journal c.args.others.shown c.args.others.listing
           c.in_ok-saves.saves c.end_at.result c.in_ok-saves.ensures c.stem.ensures others.outputs
           c.requires.journal others.listing others.shown c.end_at.ensures;

@@ -33,3 +33,18 @@ pub returns-in-Wave-clause-made : goal.returns-in-Wave-clause-made
 returns-in-Wave-clause-made g c =
     subst (λ (r : Request). IsMade (meaning r) (g.H.Host.files c.args.host.now)
     c.make_wave.result) (sym c.in-Wave.is) c.make_wave.ensures.made
+
+pub returns-in-Cover-clause-made : goal.returns-in-Cover-clause-made
+returns-in-Cover-clause-made g c =
+    subst (λ (r : Request). IsMade (meaning r) (g.H.Host.files c.args.host.now)
+    c.make_cover.result) (sym c.in-Cover.is) c.make_cover.ensures.made
+
+pub returns-in-Lint-clause-made : goal.returns-in-Lint-clause-made
+returns-in-Lint-clause-made g c =
+    subst (λ (r : Request). IsMade (meaning r) (g.H.Host.files c.args.host.now)
+    c.make_lint.result) (sym c.in-Lint.is) c.make_lint.ensures.made
+
+pub returns-in-Shuffle-clause-made : goal.returns-in-Shuffle-clause-made
+returns-in-Shuffle-clause-made g c =
+    subst (λ (r : Request). IsMade (meaning r) (g.H.Host.files c.args.host.now)
+    c.make_shuffle.result) (sym c.in-Shuffle.is) c.make_shuffle.ensures.made

@@ -8,10 +8,11 @@ use Rattle.polis_words.specs.NetStem.{NetStemWords}
 use Rattle.polis_words.specs.Replay.{ReplayWords}
 use Rattle.polis_words.specs.ReplayStem.{ReplayStemWords}
 use Rattle.polis_words.specs.Run.{RunWords}
+use Rattle.polis_words.specs.Shuffle.{ShuffleWords}
 use Rattle.polis_words.specs.declared.requests.explain.Explain.{Explain as Explanation}
 use Rattle.polis_words.specs.declared.requests.explain.Explain.TheVariants as explains
 use Rattle.polis_words.specs.declared.requests.Request.{Request}
-use Rattle.polis_words.specs.declared.requests.Request.TheVariants.{Run, Check, Compile, Replay, Migrate, Demo, Bound, Image, Equiv, Losses, Wave, Draw, Explain}
+use Rattle.polis_words.specs.declared.requests.Request.TheVariants.{Run, Check, Compile, Replay, Migrate, Demo, Bound, Image, Equiv, Losses, Wave, Draw, Explain, Cover, Lint, Shuffle}
 use Rattle.polis_words.specs.Requests.{Asks}
 use Rattle.polis_words.specs.inner.Commands.{IsCommand}
 use Rattle.polis_words.proofs.requests.request_of.Goals as goal
@@ -48,7 +49,10 @@ module _ (words : List (List ℕ)) (P : Request → Type 0) where
       (By (key word == key (codes "wave")) (All {X = ReplayStemWords} Wave)
       (By (key word == key (codes "draw")) (All {X = NetStemWords} Draw)
       (By (key word == key (codes "explain")) (All {X = Explanation} Explain)
-      ⊤))))))))))))
+      (By (key word == key (codes "cover")) (All {X = ReplayWords} Cover)
+      (By (key word == key (codes "lint")) (All {X = CheckWords} Lint)
+      (By (key word == key (codes "shuffle")) (All {X = ShuffleWords} Shuffle)
+      ⊤)))))))))))))))
 
   own : (word other : List ℕ) → IsCommand words word → IsCommand words other → OfCommand word
       → OfCommand other
@@ -87,6 +91,12 @@ module _ (words : List (List ℕ)) (P : Request → Type 0) where
       own word (codes "explain") is (ap head asks.0) each (explains.Trace x) asks
   by_first word is each (Explain (explains.Journal x)) asks =
       own word (codes "explain") is (ap head asks.0) each (explains.Journal x) asks
+  by_first word is each (Cover x) asks =
+      own word (codes "cover") is (ap head asks.form) each x asks
+  by_first word is each (Lint x) asks =
+      own word (codes "lint") is (ap head asks.form) each x asks
+  by_first word is each (Shuffle x) asks =
+      own word (codes "shuffle") is (ap head asks.form) each x asks
 
 if_none : {X : Type 0} (found : Option X) {N : Type 0} → N → IfNone found N
 if_none None none = none
@@ -247,3 +257,39 @@ returns-in_err-explain_of-in-explain-clause-nothing c =
     if_none c.from_residual-in_err-explain_of-in-explain.result
     (by_first c.args.words.now (λ request. ⊥) (codes "explain") (c.get.ensures ∙ ap Some c.in-explain.is)
     c.in_err-explain_of-in-explain.ensures.nothing)
+
+pub returns-in_ok-cover_of-in-cover-clause-one : goal.returns-in_ok-cover_of-in-cover-clause-one
+returns-in_ok-cover_of-in-cover-clause-one c =
+    let found = c.in_ok-cover_of-in-cover in
+    by_first c.args.words.now (λ request. request ≡ Cover found.field-0) (codes "cover")
+    (c.get.ensures ∙ ap Some c.in-cover.is) (λ x asks. ap Cover (found.ensures.one x asks))
+
+pub returns-in_err-cover_of-in-cover-clause-nothing : goal.returns-in_err-cover_of-in-cover-clause-nothing
+returns-in_err-cover_of-in-cover-clause-nothing c =
+    if_none c.from_residual-in_err-cover_of-in-cover.result
+    (by_first c.args.words.now (λ request. ⊥) (codes "cover") (c.get.ensures ∙ ap Some c.in-cover.is)
+    c.in_err-cover_of-in-cover.ensures.nothing)
+
+pub returns-in_ok-lint_of-in-lint-clause-one : goal.returns-in_ok-lint_of-in-lint-clause-one
+returns-in_ok-lint_of-in-lint-clause-one c =
+    let found = c.in_ok-lint_of-in-lint in
+    by_first c.args.words.now (λ request. request ≡ Lint found.field-0) (codes "lint")
+    (c.get.ensures ∙ ap Some c.in-lint.is) (λ x asks. ap Lint (found.ensures.one x asks))
+
+pub returns-in_err-lint_of-in-lint-clause-nothing : goal.returns-in_err-lint_of-in-lint-clause-nothing
+returns-in_err-lint_of-in-lint-clause-nothing c =
+    if_none c.from_residual-in_err-lint_of-in-lint.result
+    (by_first c.args.words.now (λ request. ⊥) (codes "lint") (c.get.ensures ∙ ap Some c.in-lint.is)
+    c.in_err-lint_of-in-lint.ensures.nothing)
+
+pub returns-in_ok-shuffle_of-in-shuffle-clause-one : goal.returns-in_ok-shuffle_of-in-shuffle-clause-one
+returns-in_ok-shuffle_of-in-shuffle-clause-one c =
+    let found = c.in_ok-shuffle_of-in-shuffle in
+    by_first c.args.words.now (λ request. request ≡ Shuffle found.field-0) (codes "shuffle")
+    (c.get.ensures ∙ ap Some c.in-shuffle.is) (λ x asks. ap Shuffle (found.ensures.one x asks))
+
+pub returns-in_err-shuffle_of-in-shuffle-clause-nothing : goal.returns-in_err-shuffle_of-in-shuffle-clause-nothing
+returns-in_err-shuffle_of-in-shuffle-clause-nothing c =
+    if_none c.from_residual-in_err-shuffle_of-in-shuffle.result
+    (by_first c.args.words.now (λ request. ⊥) (codes "shuffle") (c.get.ensures ∙ ap Some c.in-shuffle.is)
+    c.in_err-shuffle_of-in-shuffle.ensures.nothing)

@@ -1,6 +1,8 @@
 // What a journal used of a network's tables, and what these leave open.
 ghost use Rattle.std.specs.Prelude.{IfOk};
 ghost use Rattle.journals.specs.Journals.{IsJournal};
+ghost use Rattle.table_use.specs.Coverage.{AreTablesOf};
+ghost use Rattle.table_use.specs.Memos.{AreMemos};
 
 use crate::inputs::network_of;
 use journal_text::read_journal;
@@ -9,7 +11,10 @@ use polis_base::{Bytes, NoMemory};
 use sample_networks::texts::{JOIN, LAMP};
 use std::alloc::Global;
 use std::test::Fail;
-use table_use::{coverage, lint, push_coverage, push_lint, push_unused_domain, unused_domains};
+use table_use::{
+    Memos, Tables, coverage, coverage_with, lint, memos_of, push_coverage, push_lint,
+    push_unused_domain, tables_of, unused_domains,
+};
 use transition_table::Network;
 
 // A machine that leaves much open.
@@ -99,6 +104,43 @@ fn is_used(alloc: Global, net: &str, journal: &str, wanted: &str) -> Result<bool
     let mut text = Bytes::new(alloc);
     push_coverage(&net, &used, &mut text)?;
     Ok(text.as_slice() == wanted.as_bytes())
+}
+
+// The same by what is known of snapshots.
+fn is_used_with(
+    alloc: Global,
+    net: &Network,
+    tables: &Tables,
+    memos: &mut Memos,
+    journal: &str,
+    wanted: &str,
+) -> Result<bool, NoMemory>
+    requires tables { AreTablesOf net.now tables.now }
+    requires memos { AreMemos net.now tables.now memos.old.items }
+    ensures { IfOk result (λ same. AreMemos net.now tables.now memos.new.items) }
+{
+    let journal = journal_of(alloc, net, journal)?;
+    let used = coverage_with(alloc, net, tables, memos, &journal)?;
+    let mut text = Bytes::new(alloc);
+    push_coverage(net, &used, &mut text)?;
+    Ok(text.as_slice() == wanted.as_bytes())
+}
+
+// Whether they are the same where all snapshots are known that the journal meets.
+fn is_used_twice(alloc: Global, net: &str, journal: &str, wanted: &str) -> Result<bool, NoMemory> {
+    let net = network_of(alloc, net)?;
+    let tables = tables_of(alloc, &net)?;
+    let mut memos = memos_of(alloc, &net, &tables)?;
+    let first = is_used_with(alloc, &net, &tables, &mut memos, journal, wanted)?;
+    let second = is_used_with(alloc, &net, &tables, &mut memos, journal, wanted)?;
+    Ok(first && second)
+}
+
+#[test]
+fn journals_use_known_snapshots(rt: HostRuntime) -> Result<(), Fail> {
+    assert!(rt; is_used_twice(rt.alloc(), ODD, ODD_JOURNAL, ODD_USED)?);
+    assert!(rt; is_used_twice(rt.alloc(), JOIN, JOIN_JOURNAL, JOIN_USED)?);
+    Ok(())
 }
 
 #[test]

@@ -1,5 +1,5 @@
 // The choice of a move.
-ghost use Rattle.std.specs.Prelude.{◌≡◌, ◌<◌, ◌≤◌, ◌+◌, ◌*◌, ◌++◌, length};
+ghost use Rattle.std.specs.Prelude.{◌≡◌, ◌<◌, ◌≤◌, ◌+◌, length};
 ghost use Rattle.std.specs.List.{Contains};
 ghost use Rattle.polis_base.specs.Draws.{next};
 ghost use Rattle.transition_table.specs.declared.decl.Party.TheVariants.{Env};

@@ -1,10 +1,10 @@
 // What each order offers.
-ghost use Rattle.std.specs.Prelude.{◌≡◌, ◌<◌, ◌≤◌, [], ◌∷◌, ◌++◌, ◌==◌, filter, filter_map, length, None, IfOk, OnOk};
+ghost use Rattle.std.specs.Prelude.{◌≡◌, ◌<◌, [], ◌∷◌, ◌++◌, ◌==◌, filter, filter_map, length, None, IfOk, OnOk};
 ghost use Rattle.transition_table.specs.declared.decl.Party.TheVariants.{Env};
 ghost use Rattle.polis_base.specs.Lists.{head_of};
 ghost use Rattle.journals.specs.Schedules.{first_pick, first_woken, owed_by_machines};
 ghost use Rattle.scheduler_gen.specs.Plans.{IsPlanOf};
-ghost use Rattle.run_shuffle.specs.Blocks.{block_to as its_block, current_block as block_now};
+ghost use Rattle.run_shuffle.specs.Blocks.{block_to as its_block};
 ghost use Rattle.run_shuffle.specs.Moves.{network_moves as moves_of_network, next_delivery};
 ghost use Rattle.run_shuffle.specs.Orders.{env_offered, first_move, moves_of_block, network_offered, same_block, scheduled_move};
 

@@ -99,7 +99,8 @@ fn advance<R: Reactor>(
     requires ways { AreWays config.old ways.old }
     requires pace { 0 < rule.pace }
     requires pace_small { rule.pace ≤ 16 }
-    ensures next { result ≡ Ok true → IsNext rule.order rule.pace draws.old.x config.old config.new }
+    ensures next { result ≡ Ok true
+        → IsNext rule.order rule.pace draws.old.x config.old config.new }
     ensures moves { result ≡ Ok true → draws.new.x ≡ next draws.old.x }
     ensures ways { result ≡ Ok true → AreWays config.new ways.new }
     ensures stop { result ≡ Ok false

@@ -21,8 +21,9 @@ use scheduler_gen::{Plan, plan};
 use std::alloc::Global;
 use transition_table::{Outcome, Party, Snapshot};
 
-/// What a run keeps beside its configuration: the order in which the scheduler tries machines, which
-/// deliveries may come next, and which reactions. A set of machines is a word with one bit each.
+/// What a run keeps beside its configuration: the order in which the scheduler tries machines,
+/// which deliveries may come next, and which reactions. A set of machines is a word with one bit
+/// each.
 #[derive(Drop)]
 pub(crate) struct Ways {
     pub(crate) plan: Plan,

@@ -199,6 +199,7 @@ pub emitting_is : (m : Machine) (y r : ℕ) (row : Row) (a b : Bool)
     → not (eqb (amount m (enables m r)) 0) ≡ a → slice_get m.rows r ≡ Some row
     → gives_some row.acts (1 + length m.states + y) ≡ b → is_emitting m y r ≡ (a && b)
 emitting_is m y r row a b reach at gives =
-    ap (λ (z : Bool). z && gives_some (actions (slice_get m.rows r)) (1 + length m.states + y)) reach
+    ap (λ (z : Bool). z && gives_some (actions (slice_get m.rows r)) (1 + length m.states + y))
+    reach
     ∙ ap (λ (z : Bool). a && z)
     (ap (λ (o : Option Row). gives_some (actions o) (1 + length m.states + y)) at ∙ gives)

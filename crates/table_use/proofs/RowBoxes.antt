@@ -165,7 +165,8 @@ count_filter p q (x ∷ xs) =
         ∙ ap (λ (b : Bool). cond b 1 0 + count_by p (filter q xs)) (sym (and_last (p x)))
     kept false =
         (let e : count_by p (filter q xs) ≡ 0 + count_by p (filter q xs) = omega arith in e)
-        ∙ ap (λ (b : Bool). cond b 1 0 + count_by p (filter q xs)) (sym (and_right (p x) false refl))
+        ∙ ap (λ (b : Bool). cond b 1 0 + count_by p (filter q xs))
+        (sym (and_right (p x) false refl))
 
 pub both_rows : (m : Machine) (r k : ℕ) → r < length m.rows → k < length m.rows
     → amount m (λ s. enables m r s && enables m k s)

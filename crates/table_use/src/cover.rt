@@ -160,8 +160,8 @@ pub fn memos_of(alloc: Global, net: &Network, tables: &Tables) -> Result<Memos, 
     Ok(memos)
 }
 
-/// What a journal used of each machine's table, by the tables of the network and by what is known of
-/// snapshots, to which the journal's are added.
+/// What a journal used of each machine's table, by the tables of the network and by what is known
+/// of snapshots, to which the journal's are added.
 pub fn coverage_with(
     alloc: Global,
     net: &Network,

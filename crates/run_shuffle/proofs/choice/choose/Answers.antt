@@ -12,7 +12,8 @@ use Rattle.run_shuffle.proofs.choice.choose.Goals as goal
 pub overflow_mul-rule : goal.overflow_mul-rule
 overflow_mul-rule c =
     let now = c.args.config.now in
-    let few = network_offered_few now.net now.trace now.journal c.args.rule.order now.net.few_machines in
+    let few =
+    network_offered_few now.net now.trace now.journal c.args.rule.order now.net.few_machines in
     let many : c.args.network ≤ 4160 = subst (λ (k : ℕ). k ≤ 4160) (sym c.requires.network) few in
     let product = mul-le c.args.rule.pace c.args.network 16 4160 c.requires.pace_small many in
     omega (arith, product)
@@ -20,7 +21,8 @@ overflow_mul-rule c =
 pub overflow_add-env : goal.overflow_add-env
 overflow_add-env c =
     let now = c.args.config.now in
-    let few = network_offered_few now.net now.trace now.journal c.args.rule.order now.net.few_machines in
+    let few =
+    network_offered_few now.net now.trace now.journal c.args.rule.order now.net.few_machines in
     let many : c.args.network ≤ 4160 = subst (λ (k : ℕ). k ≤ 4160) (sym c.requires.network) few in
     let product = mul-le c.args.rule.pace c.args.network 16 4160 c.requires.pace_small many in
     let own = c.count-env.ensures.few in
@@ -35,8 +37,8 @@ returns-then-r-env-clause-chosen c =
     c.count-env.ensures.members
     ∙ gives_many now.net (next_delivery now.net now.trace now.journal Env) c.args.receivers env
     c.requires.gives in
-    (drawn_by_counts env network c.args.rule.pace c.args.draws.now.x c.draw-r.result c.count-env.result
-    c.args.network c.env_chance.result c.requires.pace own c.requires.network
+    (drawn_by_counts env network c.args.rule.pace c.args.draws.now.x c.draw-r.result
+    c.count-env.result c.args.network c.env_chance.result c.requires.pace own c.requires.network
     c.draw-r.ensures.answer c.draw-r.ensures.below
     (c.env_chance.ensures
     ∙ chosen_of_env env network c.args.rule.pace c.draw-r.result c.count-env.result own
@@ -51,8 +53,8 @@ returns-then-r-env-clause-member c =
     c.count-env.ensures.members
     ∙ gives_many now.net (next_delivery now.net now.trace now.journal Env) c.args.receivers env
     c.requires.gives in
-    (drawn_by_counts env network c.args.rule.pace c.args.draws.now.x c.draw-r.result c.count-env.result
-    c.args.network c.env_chance.result c.requires.pace own c.requires.network
+    (drawn_by_counts env network c.args.rule.pace c.args.draws.now.x c.draw-r.result
+    c.count-env.result c.args.network c.env_chance.result c.requires.pace own c.requires.network
     c.draw-r.ensures.answer c.draw-r.ensures.below
     (c.env_chance.ensures
     ∙ chosen_of_env env network c.args.rule.pace c.draw-r.result c.count-env.result own
@@ -67,8 +69,8 @@ returns-clause-chosen c =
     c.count-env.ensures.members
     ∙ gives_many now.net (next_delivery now.net now.trace now.journal Env) c.args.receivers env
     c.requires.gives in
-    (drawn_by_counts env network c.args.rule.pace c.args.draws.now.x c.draw-r.result c.count-env.result
-    c.args.network c.network_chance.result c.requires.pace own c.requires.network
+    (drawn_by_counts env network c.args.rule.pace c.args.draws.now.x c.draw-r.result
+    c.count-env.result c.args.network c.network_chance.result c.requires.pace own c.requires.network
     c.draw-r.ensures.answer c.draw-r.ensures.below
     (c.network_chance.ensures
     ∙ chosen_of_network env network c.args.rule.pace c.draw-r.result c.count-env.result own
@@ -83,8 +85,8 @@ returns-clause-member c =
     c.count-env.ensures.members
     ∙ gives_many now.net (next_delivery now.net now.trace now.journal Env) c.args.receivers env
     c.requires.gives in
-    (drawn_by_counts env network c.args.rule.pace c.args.draws.now.x c.draw-r.result c.count-env.result
-    c.args.network c.network_chance.result c.requires.pace own c.requires.network
+    (drawn_by_counts env network c.args.rule.pace c.args.draws.now.x c.draw-r.result
+    c.count-env.result c.args.network c.network_chance.result c.requires.pace own c.requires.network
     c.draw-r.ensures.answer c.draw-r.ensures.below
     (c.network_chance.ensures
     ∙ chosen_of_network env network c.args.rule.pace c.draw-r.result c.count-env.result own

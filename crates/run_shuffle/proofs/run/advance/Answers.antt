@@ -10,7 +10,8 @@ le_along a b same few = omega (arith, same, few)
 pub overflow_add-count : goal.overflow_add-count
 overflow_add-count g c =
     let now = c.args.config.now in
-    let few = network_offered_few now.net now.trace now.journal c.args.rule.order now.net.few_machines in
+    let few =
+    network_offered_few now.net now.trace now.journal c.args.rule.order now.net.few_machines in
     let network =
     le_along c.network_chances-network.result
     (length (network_offered c.args.rule.order now.net now.trace now.journal))
@@ -22,12 +23,12 @@ pub entry_of-requires-clause-machine : goal.entry_of-requires-clause-machine
 entry_of-requires-clause-machine g c =
     let now = c.args.config.now in
     (offered_is_sound c.laws.ensures c.sending_laws.ensures now.net now.trace now.journal
-    c.args.rule.order c.choose-pick.result c.trace-trace.ensures.fits c.journal-journal.ensures.legal
-    c.choose-pick.ensures.member).1
+    c.args.rule.order c.choose-pick.result c.trace-trace.ensures.fits
+    c.journal-journal.ensures.legal c.choose-pick.ensures.member).1
 
 pub entry_of-requires-clause-some : goal.entry_of-requires-clause-some
 entry_of-requires-clause-some g c =
     let now = c.args.config.now in
     (offered_is_sound c.laws.ensures c.sending_laws.ensures now.net now.trace now.journal
-    c.args.rule.order c.choose-pick.result c.trace-trace.ensures.fits c.journal-journal.ensures.legal
-    c.choose-pick.ensures.member).0
+    c.args.rule.order c.choose-pick.result c.trace-trace.ensures.fits
+    c.journal-journal.ensures.legal c.choose-pick.ensures.member).0

@@ -114,7 +114,8 @@ loop-p-preserved c =
                 (c.get.ensures ∙ ap (λ (x : Entry). Some x) w.in-Rea.is)));
             memos = subst (AreMemos net tables)
                 (sym (ap (λ (v : Vec Memo Global). v.items) w.memos-is))
-                (one_memo net tables c.loop-p.memos.items k m w.get-in-Rea.result.now w.meet.new.memo
+                (one_memo net tables c.loop-p.memos.items k m w.get-in-Rea.result.now
+                w.meet.new.memo
                 c.loop-p.invariant.memos w.get-table.ensures w.get-in-Rea.ensures
                 w.in_ok-k.ensures.memo);
           }

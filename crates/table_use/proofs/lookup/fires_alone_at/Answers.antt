@@ -28,7 +28,8 @@ returns-then-code-eq0 c =
 pub get-requires-2 : goal.get-requires-2
 get-requires-2 c =
     let lookup = c.args.lookup.now in
-    let long = strides_long lookup.machine.now.vars lookup.keys.now.strides lookup.are_keys.strides in
+    let long = strides_long lookup.machine.now.vars lookup.keys.now.strides
+    lookup.are_keys.strides in
     let parts = c.var_count.ensures.inputs in
     let low = c.requires.input in
     omega arith

@@ -15,7 +15,8 @@ get-requires c =
 pub get-requires-2 : goal.get-requires-2
 get-requires-2 c =
     let lookup = c.args.lookup.now in
-    let long = strides_long lookup.machine.now.vars lookup.keys.now.strides lookup.are_keys.strides in
+    let long = strides_long lookup.machine.now.vars lookup.keys.now.strides
+    lookup.are_keys.strides in
     let low = c.requires.var in
     omega arith
 

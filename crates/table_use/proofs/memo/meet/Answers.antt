@@ -7,8 +7,8 @@ use Rattle.table_use.proofs.memo.meet.Goals as goal
 
 pub get-place-requires : goal.get-place-requires
 get-place-requires c =
-    number_there c.args.machine.now c.args.results.now c.args.memo.now c.args.s.now.codes c.number_of-number.result
-    c.requires.memo c.requires.snapshot c.number_of-number.ensures
+    number_there c.args.machine.now c.args.results.now c.args.memo.now c.args.s.now.codes
+    c.number_of-number.result c.requires.memo c.requires.snapshot c.number_of-number.ensures
 
 pub returns-then-place-gt0-clause-place : goal.returns-then-place-gt0-clause-place
 returns-then-place-gt0-clause-place c =
@@ -20,14 +20,14 @@ returns-then-place-gt0-clause-place c =
 
 pub set-requires : goal.set-requires
 set-requires c =
-    number_there c.args.machine.now c.args.results.now c.args.memo.now c.args.s.now.codes c.number_of-number.result
-    c.requires.memo c.requires.snapshot c.number_of-number.ensures
+    number_there c.args.machine.now c.args.results.now c.args.memo.now c.args.s.now.codes
+    c.number_of-number.result c.requires.memo c.requires.snapshot c.number_of-number.ensures
 
 pub returns-clause-memo : goal.returns-clause-memo
 returns-clause-memo c =
     one_met c.args.machine.now c.args.results.now c.args.memo.now
-    (record { keys = c.args.memo.now.keys; places = c.set.new.self; known = c.push.new.self }) c.args.s.now.codes
-    c.number_of-number.result c.len-count.result c.in_ok-met.met c.requires.memo
+    (record { keys = c.args.memo.now.keys; places = c.set.new.self; known = c.push.new.self })
+    c.args.s.now.codes c.number_of-number.result c.len-count.result c.in_ok-met.met c.requires.memo
     c.requires.snapshot c.number_of-number.ensures c.in_ok-met.ensures c.in_ok-push.ensures.ok
     c.len-count.ensures c.set.ensures refl
 

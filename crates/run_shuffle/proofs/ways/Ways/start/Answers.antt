@@ -9,8 +9,8 @@ use Rattle.run_shuffle.proofs.ways.Ways.start.Goals as goal
 pub returns : goal.returns
 returns c =
     let now = c.args.config.now in
-    first_ways now c.in_ok-plan.plan c.in_ok-sends.sends c.owed_by_env.result c.in_ok-blocks.blocks c.push.new.self
-    c.requires
+    first_ways now c.in_ok-plan.plan c.in_ok-sends.sends c.owed_by_env.result
+    c.in_ok-blocks.blocks c.push.new.self c.requires
     (subst (λ (net : Network). IsPlanOf net c.in_ok-plan.plan) c.network-net.ensures
     c.in_ok-plan.ensures)
     (c.in_ok-sends.ensures

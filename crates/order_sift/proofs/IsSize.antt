@@ -37,6 +37,7 @@ large_sifted m order count many is allowed size = record {
   counted = size;
   no_more = omega arith;
   large = λ more. is;
+  sifts = λ few. absurd (omega arith);
   least = λ few. absurd (omega arith);
   stays = λ few least. is;
 }

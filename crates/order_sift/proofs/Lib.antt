@@ -17,3 +17,5 @@ pub mod AreClasses
 pub mod MovedLevels
 pub mod PairKeys
 pub mod ItemSets
+pub mod SiftRules
+pub mod OneOrder

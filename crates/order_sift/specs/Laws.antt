@@ -1,11 +1,14 @@
--- Laws of moves.
+-- Laws of moves and of sifting.
 use Rattle.std.specs.Prelude.{◌≡◌, ℕ, ◌+◌, Bool, List, ◌++◌, length, IsTrue}
 use Rattle.std.specs.List.{insert}
 use Rattle.domains.specs.Orders.{IsPermutation}
 use Rattle.domains.specs.Tables.{are_sizes}
+use Rattle.transition_table.specs.declared.machine.Machine.{Machine}
 use Rattle.decision_diagram.specs.Sizes.{size_along}
 use Rattle.decision_diagram.specs.Sets.{stands, set_level, sum_of_levels}
 use Rattle.order_sift.specs.Moves.{cost_at}
+use Rattle.order_sift.specs.Sifting.{IsSifted}
+use Rattle.order_sift.specs.Turns.{Sifts}
 
 -- sets with the same items have the same levels
 abbrev pub LevelsOfSets : Type 0
@@ -29,3 +32,14 @@ abbrev pub SizeWithItem : Type 0
 SizeWithItem = (f : List ℕ → Bool) (sizes rest : List ℕ) (x j : ℕ) → IsPermutation (insert rest j x)
     → length (insert rest j x) ≡ length sizes → IsTrue (are_sizes sizes)
     → size_along f sizes (insert rest j x) ≡ cost_at f sizes rest x j
+
+-- from one order, item and number sifting comes to one order
+abbrev pub OneLast : Type 0
+OneLast = (m : Machine) (one other order : List ℕ) (item left : ℕ) → Sifts m one order item left
+    → Sifts m other order item left → one ≡ other
+
+-- a machine has one sifted order, with one first count and one count
+abbrev pub OneSifted : Type 0
+OneSifted = (m : Machine) (one other : List ℕ) (first second count number : ℕ)
+    → IsSifted m one first count → IsSifted m other second number
+    → (one ≡ other) × (first ≡ second) × (count ≡ number)

@@ -1,4 +1,5 @@
 pub mod Moves
 pub mod Laws
+pub mod Turns
 pub mod Sifting
 pub mod inner

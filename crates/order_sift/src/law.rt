@@ -3,16 +3,19 @@ ghost use Rattle.std.specs.Prelude.{◌+◌, ◌≤◌, length, IsTrue};
 ghost use Rattle.domains.specs.Tables.{are_sizes};
 ghost use Rattle.transition_table.specs.Orders.{sizes_of};
 ghost use Rattle.order_sift.specs.inner.Below.{Below, BelowOrders};
-ghost use Rattle.order_sift.specs.Laws.{LevelsOfSets, LevelsJoin, LevelsAfter, SizeWithItem};
+ghost use Rattle.order_sift.specs.Laws.{LevelsOfSets, LevelsJoin, LevelsAfter, SizeWithItem, OneLast, OneSifted};
 
 use transition_table::Machine;
 
-/// What follows from the definitions: what a single move costs, by sets.
+/// What follows from the definitions: what a single move costs, by sets, and that sifting comes to
+/// one order.
 pub fn laws()
     ensures levels_of_sets { LevelsOfSets }
     ensures levels_join { LevelsJoin }
     ensures levels_after { LevelsAfter }
     ensures size_with_item { SizeWithItem }
+    ensures one_last { OneLast }
+    ensures one_sifted { OneSifted }
 {
     decision_diagram::laws();
 }

@@ -1,5 +1,5 @@
 // Sifting.
-ghost use Rattle.std.specs.Prelude.{◌≡◌, ◌+◌, ◌-◌, ◌<◌, ◌≤◌, ℕ, length, slice_index, IfOk};
+ghost use Rattle.std.specs.Prelude.{◌≡◌, ◌≢◌, ◌<◌, ◌≤◌, ℕ, length, slice_index, IfOk};
 ghost use Rattle.polis_base.specs.declared.limits.TheConstants.{SIFTED_SNAPSHOTS_MAX};
 ghost use Rattle.domains.specs.Orders.{place};
 ghost use Rattle.domains.specs.Tables.{product};
@@ -15,7 +15,8 @@ ghost use Rattle.order_sift.specs.inner.Pairs.{HasRoom};
 ghost use Rattle.order_sift.specs.inner.Points.{IsPrepared};
 ghost use Rattle.order_sift.specs.Sifting.{IsSifted};
 ghost use Rattle.order_sift.specs.inner.Settings.{HasRoomAndSets, IsAt, IsSifting};
-ghost use Rattle.order_sift.specs.inner.Turns.{IsAtBest, IsCounted, NoneSmaller, StaysOrFalls};
+ghost use Rattle.order_sift.specs.inner.Turns.{ComesTo, HasMoved, IsCounted};
+ghost use Rattle.order_sift.specs.Turns.{next_item, IsAtBest, IsBetterPlace, Sifts};
 
 use crate::chain::{Chain, chain_of};
 use crate::law::laws_of_levels;
@@ -165,6 +166,8 @@ fn best_place(
         (moved at.now.order (place at.now.order item) best.place) best.count) }
     ensures least { IfOk result (λ best. at.now.count ≤ best.count
         → IsAtBest sifting.now.machine.now at.now.order item) }
+    ensures better { IfOk result (λ best. best.count < at.now.count
+        → IsBetterPlace sifting.now.machine.now at.now.order item best.place) }
 {
     let i = at.order.place_of(item);
     let range = allowed_places(sifting.machine, sifting.supports, &at.order, item);
@@ -197,10 +200,11 @@ fn sift_item(
     requires item { item < length at.old.order }
     ensures at { IfOk result (λ done.
         IsAt sifting.now.machine.now known.new at.new.order at.new.count at.new.chain) }
-    ensures falls { IfOk result (λ done.
-        StaysOrFalls sifting.now.machine.now at.old.order at.new.order at.old.count at.new.count) }
-    ensures best { IfOk result (λ done. at.new.count ≡ at.old.count
-        → IsAtBest sifting.now.machine.now at.new.order item) }
+    ensures falls { IfOk result (λ done. at.new.count ≤ at.old.count) }
+    ensures stays { IfOk result (λ done. at.new.count ≡ at.old.count
+        → (at.new.order ≡ at.old.order) × IsAtBest sifting.now.machine.now at.old.order item) }
+    ensures moves { IfOk result (λ done. at.new.count ≢ at.old.count
+        → HasMoved sifting.now.machine.now item at.old.order at.new.order) }
 {
     let best = best_place(sifting, seen, known, item, at)?;
     if best.count >= at.count {
@@ -211,22 +215,17 @@ fn sift_item(
     Ok(())
 }
 
-// The item so many places after one, where the first follows the last.
-fn item_after(first: u32, k: u32, items: u32) -> u32
-    requires first { first ≤ items }
-    requires k { k < items }
+// The item after one, of so many: the first follows the last.
+fn item_after(item: u32, items: u32) -> u32
+    requires { item < items }
     ensures within { result < items }
-    ensures up { first + k < items → result ≡ first + k }
-    ensures round { items ≤ first + k → result + items ≡ first + k }
+    ensures next { result ≡ next_item items item }
 {
-    if k < items - first {
-        return first + k;
-    }
-    k - (items - first)
+    if item + 1 == items { 0 } else { item + 1 }
 }
 
-// From one item on each in turn moves to its best place, until one has moved: then the item after
-// it is the next to begin with.
+// From one item on each in turn moves to its best place, until one has moved or all stood. The next
+// turn begins with the item after the last of them.
 fn turn(
     sifting: &Sifting,
     seen: &mut [u16],
@@ -238,29 +237,32 @@ fn turn(
         sifting.now.points.now }
     requires room { HasRoom (product sifting.now.machine.now.vars) seen.old }
     requires at { IsAt sifting.now.machine.now known.old at.old.order at.old.count at.old.chain }
-    requires first { first ≤ length at.old.order }
+    requires first { first < length at.old.order }
     ensures at { IfOk result (λ next.
         IsAt sifting.now.machine.now known.new at.new.order at.new.count at.new.chain) }
-    ensures falls { IfOk result (λ next.
-        StaysOrFalls sifting.now.machine.now at.old.order at.new.order at.old.count at.new.count) }
-    ensures least { IfOk result (λ next. at.new.count ≡ at.old.count
-        → NoneSmaller sifting.now.machine.now at.new.order) }
-    ensures next { IfOk result (λ next. next ≤ length at.new.order) }
+    ensures next { IfOk result (λ next. next < length at.new.order) }
+    ensures falls { IfOk result (λ next. at.new.count ≤ at.old.count) }
+    ensures all_stood { IfOk result (λ next. at.new.count ≡ at.old.count
+        → ComesTo sifting.now.machine.now at.old.order first (length at.old.order)
+        at.new.order next 0) }
+    ensures moved { IfOk result (λ next. at.new.count ≢ at.old.count
+        → ComesTo sifting.now.machine.now at.old.order first (length at.old.order)
+        at.new.order next (length at.new.order)) }
 {
-    domains::laws_of_orders();
     let items = sifting.machine.var_count() + sifting.machine.result_count();
-    for k in 0..items {
-        let item = item_after(first, k, items);
+    let mut item = first;
+    for _k in 0..items {
         let before = at.count;
         sift_item(sifting, seen, known, item, at)?;
+        item = item_after(item, items);
         if at.count != before {
-            return Ok(item + 1);
+            return Ok(item);
         }
     }
-    Ok(first)
+    Ok(item)
 }
 
-// Takes turns until nothing falls.
+// Takes turns until in one of them all items stood.
 fn sift_items(
     sifting: &Sifting,
     seen: &mut [u16],
@@ -271,11 +273,11 @@ fn sift_items(
         sifting.now.points.now }
     requires room { HasRoom (product sifting.now.machine.now.vars) seen.old }
     requires at { IsAt sifting.now.machine.now known.old at.old.order at.old.count at.old.chain }
+    requires some { 0 < length at.old.order }
     ensures at { IfOk result (λ done.
         IsAt sifting.now.machine.now known.new at.new.order at.new.count at.new.chain) }
-    ensures falls { IfOk result (λ done.
-        StaysOrFalls sifting.now.machine.now at.old.order at.new.order at.old.count at.new.count) }
-    ensures least { IfOk result (λ done. NoneSmaller sifting.now.machine.now at.new.order) }
+    ensures sifts { IfOk result (λ done.
+        Sifts sifting.now.machine.now at.new.order at.old.order 0 (length at.old.order)) }
 {
     let mut first = 0;
     loop {
@@ -338,10 +340,12 @@ fn sifted_knowing(
     ensures { IfOk result (λ sifted. IsSifted sifting.now.machine.now sifted.order
         sifted.first_count sifted.count) }
 {
+    char_function::laws();
+    domains::laws_of_orders();
+    let _ = sifting.machine.var_count();
     let mut at = counted_first(sifting, seen, known)?;
     let first_count = at.count;
     sift_items(sifting, seen, known, &mut at)?;
-    char_function::laws();
     Ok(Sifted {
         order: at.order,
         first_count,

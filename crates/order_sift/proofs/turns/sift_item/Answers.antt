@@ -1,8 +1,7 @@
-use Rattle.std.proofs.Common.{◌≡◌, ◌∙◌, ◌<◌, ℕ, ap, arith, sym, subst}
+use Rattle.std.proofs.Common.{◌∙◌, ℕ, refl, ap, arith, sym, subst}
 use Rattle.domains.specs.Tables.{product}
 use Rattle.order_sift.specs.Moves.{moved}
 use Rattle.order_sift.specs.inner.Turns.{IsCounted}
-use Rattle.order_sift.proofs.AtBest.{falls_by}
 use Rattle.order_sift.proofs.PairKeys.{room_kept}
 use Rattle.order_sift.proofs.turns.sift_item.Goals.{After-place_of-i}
 use Rattle.order_sift.proofs.turns.sift_item.Goals as goal
@@ -36,27 +35,32 @@ returns-then-best-at-clause-at c =
     let at = c.requires.at in
     record { known = c.in_ok-best.ensures.known; counted = at.counted; chain = at.chain }
 
-pub returns-then-best-at-clause-best : goal.returns-then-best-at-clause-best
-returns-then-best-at-clause-best c same = c.in_ok-best.ensures.least c.if-best-at.true
+pub returns-then-best-at-clause-stays : goal.returns-then-best-at-clause-stays
+returns-then-best-at-clause-stays c same = (refl, c.in_ok-best.ensures.least c.if-best-at.true)
+
+pub returns-then-best-at-clause-moves : goal.returns-then-best-at-clause-moves
+returns-then-best-at-clause-moves c differ = absurd (differ refl)
 
 pub returns-clause-at : goal.returns-clause-at
 returns-clause-at c = c.in_ok-move_to.ensures.at
 
-pub returns-clause-best : goal.returns-clause-best
-returns-clause-best c same =
+pub returns-clause-falls : goal.returns-clause-falls
+returns-clause-falls c =
+    let is = c.in_ok-move_to.ensures.count in
+    let less = c.if-best-at.false in
+    omega arith
+
+pub returns-clause-stays : goal.returns-clause-stays
+returns-clause-stays c same =
     let is = c.in_ok-move_to.ensures.count in
     let less = c.if-best-at.false in
     absurd (omega arith)
 
-pub returns-clause-falls : goal.returns-clause-falls
-returns-clause-falls c =
-    let best = c.in_ok-best.best in
-    let new = c.move_to.new.at in
-    let made = c.in_ok-move_to.ensures in
-    let b = counted (goal.at.returns-clause-falls c).After-place_of-i in
-    let less : new.count < c.args.at.now.count =
-    subst (λ (n : ℕ). n < c.args.at.now.count) (sym made.count) c.if-best-at.false in
-    falls_by c.args.sifting.now.machine.now c.args.at.now.order new.order c.place_of-i.result
-    best.place c.args.at.now.count new.count c.place_of-i.ensures.within
-    c.in_ok-best.ensures.within b.allowed made.order c.requires.at.counted.counted
-    (made.count ∙ b.counted) less
+pub returns-clause-moves : goal.returns-clause-moves
+returns-clause-moves c differ =
+    let order = c.args.at.now.order in
+    let j = c.in_ok-best.best.place in (
+      j,
+      c.in_ok-best.ensures.better c.if-best-at.false,
+      c.in_ok-move_to.ensures.order ∙ ap (λ (i : ℕ). moved order i j) c.place_of-i.ensures.place,
+    )

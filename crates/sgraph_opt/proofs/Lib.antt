@@ -14,3 +14,14 @@ pub mod Reduced
 pub mod Replaced
 pub mod LeftBeyond
 pub mod Standing
+pub mod FirstCodes
+pub mod WalksFrom
+pub mod Depths
+pub mod LaterItems
+pub mod SameCodes
+pub mod Twins
+pub mod Deeper
+pub mod OneForm
+pub mod OneVertex
+pub mod Matched
+pub mod OneGraph

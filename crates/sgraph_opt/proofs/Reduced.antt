@@ -96,7 +96,7 @@ all_eq k (x ∷ xs) h zero low = eqb-true x k (and_parts (eqb x k) (list_all (λ
 all_eq k (x ∷ xs) h (suc i) low =
     all_eq k xs (and_parts (eqb x k) (list_all (λ j. eqb j k) xs) h).1 i (omega arith)
 
-eq_all : (k : ℕ) (xs : List ℕ) → ((i : ℕ) → i < length xs → slice_index xs i ≡ k)
+pub eq_all : (k : ℕ) (xs : List ℕ) → ((i : ℕ) → i < length xs → slice_index xs i ≡ k)
     → list_all (λ j. eqb j k) xs ≡ true
 eq_all k [] h = refl
 eq_all k (x ∷ xs) h =

@@ -10,12 +10,11 @@ use Rattle.sgraph.specs.declared.vertex.Vertex.{Vertex}
 use Rattle.sgraph.specs.declared.vertex.Vertex.TheVariants.{Begin, Test, Assign, End}
 use Rattle.sgraph.specs.Facts.{IsGraph, assigned_by, assigned}
 use Rattle.sgraph.specs.Graphs.{next_of, walk, assign_all, with_codes, kids_of, kids_in, kids_at, IsPath, Eval}
-use Rattle.sgraph.specs.Trails.{trail}
 use Rattle.sgraph_opt.specs.inner.Shrinking.{Shrinks, HasKids}
 use Rattle.sgraph_opt.proofs.ShrunkPaths.{contains_at}
 use Rattle.sgraph_opt.proofs.ShrunkKids.{some_child}
 use Rattle.sgraph_opt.proofs.Standing.{vertex_there}
-use Rattle.sgraph.proofs.Trails.{Onward, trail_at}
+use Rattle.sgraph_opt.proofs.WalksFrom.{walk_from, step_on, step_end}
 use Rattle.transition_table.proofs.SupportByTest.{set_own}
 use Rattle.sgraph.proofs.EvalSteps.{got_some}
 use Rattle.sgraph.proofs.BuiltEvaluates.{got_map}
@@ -40,7 +39,7 @@ module _ (g h : List Vertex) (to : ℕ → ℕ) (some : ℕ → Bool) (s : List 
     (up_h : Above h) (shrinks : Shrinks g h to some) (first : to 0 ≡ 0)
     (kids_there : HasKids g some s) where
   abbrev from : List Vertex → ℕ → List Vertex
-  from graph k = trail (next_of s) graph 0 (Some k)
+  from graph k = walk_from graph s k
 
   -- no result is given twice from here on, and none that is has got a code yet
   abbrev Unset : ℕ → List ℕ → Type 0
@@ -50,16 +49,6 @@ module _ (g h : List Vertex) (to : ℕ → ℕ) (some : ℕ → Bool) (s : List 
   abbrev Alike : ℕ → Type 0
   Alike k = some k ≡ true → (codes : List ℕ) → Unset k codes
       → assign_all codes (from g k) ≡ assign_all codes (from h (to k))
-
-  one : (graph : List Vertex) (k : ℕ) (v : Vertex) → slice_get graph k ≡ Some v
-      → Onward k (next_of s k v) → from graph k ≡ v ∷ trail (next_of s) graph 0 (next_of s k v)
-  one graph k v is onward = trail_at (next_of s) graph 0 k k v is (omega arith) onward
-
-  one_kid : (graph : List Vertex) (k j : ℕ) (v : Vertex) → slice_get graph k ≡ Some v
-      → next_of s k v ≡ Some j → k < j → from graph k ≡ v ∷ from graph j
-  one_kid graph k j v is next up =
-      let onward : Onward k (next_of s k v) = rw next up in
-      one graph k v is onward ∙ ap (λ (o : Option ℕ). v ∷ trail (next_of s) graph 0 o) next
 
   of_begin : (k next : ℕ) → slice_get g k ≡ Some (Begin next)
       → ((j : ℕ) → k < j → j < length g → Alike j) → Alike k
@@ -71,8 +60,8 @@ module _ (g h : List Vertex) (to : ℕ → ℕ) (some : ℕ → Bool) (s : List 
       let above : k < next = ok.above k (Begin next) 0 is (omega arith) in
       let within : next < length g = ok.within k (Begin next) 0 is (omega arith) in
       let above_too : to k < to next = up_h (to k) (Begin (to next)) 0 there (omega arith) in
-      let mine = one_kid g k next (Begin next) is refl above in
-      let theirs = one_kid h (to k) (to next) (Begin (to next)) there refl above_too in
+      let mine = step_on g s k next (Begin next) is refl above in
+      let theirs = step_on h s (to k) (to next) (Begin (to next)) there refl above_too in
       let on_next = some_child g h to some shrinks k 0 (Begin next) is on (omega arith) in
       ap (assign_all codes) mine ∙ later next above within on_next codes
       (subst (λ (vs : List Vertex). (are_different (given vs) ≡ true)
@@ -88,7 +77,7 @@ module _ (g h : List Vertex) (to : ℕ → ℕ) (some : ℕ → Bool) (s : List 
       let on_kid = some_child g h to some shrinks k i (Test var kids) is on low in
       let above = ok.above k (Test var kids) i is low in
       let within = ok.within k (Test var kids) i is low in
-      let mine = one_kid g k j (Test var kids) is (got_some kids i low) above in
+      let mine = step_on g s k j (Test var kids) is (got_some kids i low) above in
       let rest = later j above within on_kid codes
       (subst (λ (vs : List Vertex). (are_different (given vs) ≡ true)
       × ((y : ℕ) → has (given vs) y ≡ true → slice_index codes y ≡ 0)) mine unset) in
@@ -97,7 +86,7 @@ module _ (g h : List Vertex) (to : ℕ → ℕ) (some : ℕ → Bool) (s : List 
       let item = item_mapped to kids i low in
       let above_too = up_h (to k) (Test var (map to kids)) i real item.1 in
       let e : slice_index (map to kids) i ≡ to j = item.0 in
-      let theirs = one_kid h (to k) (to j) (Test var (map to kids)) real (got_map to kids i low)
+      let theirs = step_on h s (to k) (to j) (Test var (map to kids)) real (got_map to kids i low)
       (omega arith) in
       ap (assign_all codes) mine ∙ rest ∙ sym (ap (assign_all codes) theirs))
       (λ idle. ap (assign_all codes) mine ∙ rest
@@ -110,7 +99,7 @@ module _ (g h : List Vertex) (to : ℕ → ℕ) (some : ℕ → Bool) (s : List 
       let on_next = some_child g h to some shrinks k 0 (Assign result c next) is on (omega arith) in
       let above : k < next = ok.above k (Assign result c next) 0 is (omega arith) in
       let within : next < length g = ok.within k (Assign result c next) 0 is (omega arith) in
-      let mine = one_kid g k next (Assign result c next) is refl above in
+      let mine = step_on g s k next (Assign result c next) is refl above in
       let all = subst (λ (vs : List Vertex). (are_different (given vs) ≡ true)
       × ((y : ℕ) → has (given vs) y ≡ true → slice_index codes y ≡ 0)) mine unset in
       let parts = and_parts (not (has (given (from g next)) result))
@@ -131,7 +120,7 @@ module _ (g h : List Vertex) (to : ℕ → ℕ) (some : ℕ → Bool) (s : List 
       up_h (to k) (Assign result c (to next)) 0 real (omega arith) in
       ap (assign_all codes) mine ∙ rest ∙ sym
       (ap (assign_all codes)
-      (one_kid h (to k) (to next) (Assign result c (to next)) real refl above_too)))
+      (step_on h s (to k) (to next) (Assign result c (to next)) real refl above_too)))
       (λ dropped.
       let zero_there : slice_index codes result ≡ 0 =
       all.1 result (or_left (eqb result result) (has (given (from g next)) result)
@@ -142,17 +131,10 @@ module _ (g h : List Vertex) (to : ℕ → ℕ) (some : ℕ → Bool) (s : List 
       ∙ ap (λ (cs : List ℕ). assign_all cs (from h (to k))) same)
       (shrinks.assign k result c next on is)
 
-  none : {X : Type 0} (next : ℕ → X → Option ℕ) (xs : List X) (base : ℕ)
-      → trail next xs base None ≡ []
-  none next [] base = refl
-  none next (x ∷ xs) base = none next xs (suc base)
-
   of_end : (k : ℕ) → slice_get g k ≡ Some End → Alike k
   of_end k is on codes unset =
-      ap (assign_all codes) (one g k End is tt
-      ∙ ap (λ (vs : List Vertex). End ∷ vs) (none (next_of s) g 0))
-      ∙ sym (ap (assign_all codes) (one h (to k) End (shrinks.end k on is) tt
-      ∙ ap (λ (vs : List Vertex). End ∷ vs) (none (next_of s) h 0)))
+      ap (assign_all codes) (step_end g s k is)
+      ∙ sym (ap (assign_all codes) (step_end h s (to k) (shrinks.end k on is)))
 
   of_any : (k : ℕ) → k < length g → ((j : ℕ) → k < j → j < length g → Alike j) → (o : Option Vertex)
       → slice_get g k ≡ o → Alike k
@@ -186,7 +168,7 @@ module _ (g h : List Vertex) (to : ℕ → ℕ) (some : ℕ → Bool) (s : List 
         (here, rest.1),
         ap (λ (o : Option Vertex). cons_option (assigned_by o) (assigned g (kid ∷ rest.0))) is
             ∙ ap (cons_option (assigned_by (Some v))) rest.2
-            ∙ sym (ap given (one_kid g k kid v is next up)),
+            ∙ sym (ap given (step_on g s k kid v is next up)),
       )
 
   walked_any : (k : ℕ) → k < length g → ((j : ℕ) → k < j → j < length g → Walked j)
@@ -203,8 +185,7 @@ module _ (g h : List Vertex) (to : ℕ → ℕ) (some : ℕ → Bool) (s : List 
     [],
     tt,
     ap (λ (o : Option Vertex). cons_option (assigned_by o) []) is
-        ∙ sym (ap given (one g k End is tt
-        ∙ ap (λ (vs : List Vertex). End ∷ vs) (none (next_of s) g 0))),
+        ∙ sym (ap given (step_end g s k is)),
   )
 
   walked : (left k : ℕ) → length g ≤ k + left → k < length g → Walked k

@@ -1,3 +1,4 @@
+pub mod Laws
 pub mod Renumbering
 pub mod Smaller
 pub mod inner

@@ -3,10 +3,12 @@
 #![tactic(auto)]
 
 mod dropping;
+mod law;
 mod numbering;
 mod optimising;
 mod sharing;
 
 pub use dropping::drop_defaults;
+pub use law::laws;
 pub use optimising::optimise;
 pub use sharing::share;

@@ -1,6 +1,10 @@
 -- Why a text isn't accepted.
 use Rattle.std.specs.Prelude.{⊤}
+use Rattle.polis_base.specs.declared.token.LexError.{LexError}
+use Rattle.polis_base.specs.declared.token.LexError.TheVariants as lexes
 use Rattle.polis_words.specs.declared.cause.Cause.{Cause}
+use Rattle.polis_words.specs.declared.cause.Cause.TheVariants.{Lex}
+use Rattle.polis_words.specs.declared.cause.LexKind.TheVariants as kinds
 use Rattle.input_files.specs.declared.accept.FileFault.{FileFault}
 use Rattle.input_files.specs.declared.accept.FileFault.TheVariants as faults
 
@@ -8,3 +12,10 @@ use Rattle.input_files.specs.declared.accept.FileFault.TheVariants as faults
 abbrev pub IfCause : FileFault → (Cause → Type 0) → Type 0
 IfCause (faults.Cause cause) P = P cause
 IfCause faults.NoMemory P = ⊤
+
+-- why a text whose tokens don't read isn't accepted
+abbrev pub lex_fault : LexError → FileFault
+lex_fault (lexes.BadByte place) = faults.Cause (Lex kinds.Byte place)
+lex_fault (lexes.NameTooLong place) = faults.Cause (Lex kinds.Name place)
+lex_fault (lexes.NumberTooLarge place) = faults.Cause (Lex kinds.Number place)
+lex_fault lexes.NoMemory = faults.NoMemory

@@ -11,7 +11,7 @@ ghost use Rattle.determinism.specs.Conflicts.{IsLeastConflict};
 ghost use Rattle.input_files.specs.Accepted.{Accepted, Declares, IsConflictIn};
 ghost use Rattle.input_files.specs.Inputs.{IsNetFault};
 ghost use Rattle.input_files.specs.Places.{StandThere, condition_place, row_place};
-ghost use Rattle.input_files.specs.inner.Accepted.{IsMachineFault, IsConflictFault, lex_fault};
+ghost use Rattle.input_files.specs.inner.Accepted.{IsMachineFault, IsConflictFault};
 ghost use Rattle.input_files.specs.Faults.{IfCause};
 
 use determinism::{CheckFault, check};
@@ -31,6 +31,23 @@ pub enum FileFault {
     NoMemory,
 }
 
+impl From<LexError> for FileFault {
+    ghost use Rattle.input_files.specs.Faults.{lex_fault};
+
+    ghost from_gives = { λ error fault. fault ≡ lex_fault error };
+
+    // Why a text whose tokens don't read isn't accepted.
+    fn from(error: LexError) -> FileFault {
+        let (kind, place) = match error {
+            LexError::BadByte(place) => (LexKind::Byte, place),
+            LexError::NameTooLong(place) => (LexKind::Name, place),
+            LexError::NumberTooLarge(place) => (LexKind::Number, place),
+            LexError::NoMemory => return FileFault::NoMemory,
+        };
+        FileFault::Cause(Cause::Lex { kind, place })
+    }
+}
+
 /// A network with what its text declares, which alone has the names of its domains.
 #[derive(Drop)]
 pub struct DeclaredNet {
@@ -38,27 +55,6 @@ pub struct DeclaredNet {
     pub raw: RawNet,
     /// The network.
     pub net: Network,
-}
-
-// Why a text whose tokens don't read isn't accepted.
-fn of_lex(error: LexError) -> FileFault
-    ensures { result ≡ lex_fault error }
-{
-    match error {
-        LexError::BadByte(place) => FileFault::Cause(Cause::Lex {
-            kind: LexKind::Byte,
-            place,
-        }),
-        LexError::NameTooLong(place) => FileFault::Cause(Cause::Lex {
-            kind: LexKind::Name,
-            place,
-        }),
-        LexError::NumberTooLarge(place) => FileFault::Cause(Cause::Lex {
-            kind: LexKind::Number,
-            place,
-        }),
-        LexError::NoMemory => FileFault::NoMemory,
-    }
 }
 
 // The place of the name in a condition.
@@ -172,7 +168,7 @@ fn declared_in(alloc: Global, text: &[u8]) -> Result<DeclaredNet, FileFault>
 {
     let raw = match read_network(alloc, text) {
         Ok(raw) => raw,
-        Err(NetFault::Lex(error)) => return Err(of_lex(error)),
+        Err(NetFault::Lex(error)) => return Err(FileFault::from(error)),
         Err(NetFault::Syntax(place)) => return Err(FileFault::Cause(Cause::Syntax { place })),
         Err(NetFault::NoMemory) => return Err(FileFault::NoMemory),
     };

@@ -1,14 +1,14 @@
 -- A command line asks for one request at most.
 use Rattle.std.proofs.Common.{◌≡◌, get_or, ◌+◌, ◌*◌, ℕ, List, [], ◌∷◌, length, slice_get, Some, refl, sym, ap, ◌∙◌, arith, codes}
 use Rattle.polis_words.specs.Bound.{BoundWords, AsksBound}
-use Rattle.polis_words.specs.Check.{CheckWords}
+use Rattle.polis_words.specs.Check.{CheckWords, AsksNet}
 use Rattle.polis_words.specs.Demo.{DemoWords, AsksDemo}
-use Rattle.polis_words.specs.Equiv.{EquivWords}
+use Rattle.polis_words.specs.Equiv.{EquivWords, AsksEquiv}
 use Rattle.polis_words.specs.Explain.{AsksExplain}
-use Rattle.polis_words.specs.NetStem.{NetStemWords}
-use Rattle.polis_words.specs.NetTrace.{NetTraceWords}
-use Rattle.polis_words.specs.Replay.{ReplayWords}
-use Rattle.polis_words.specs.ReplayStem.{ReplayStemWords}
+use Rattle.polis_words.specs.NetStem.{NetStemWords, AsksNetStem}
+use Rattle.polis_words.specs.NetTrace.{NetTraceWords, AsksNetTrace}
+use Rattle.polis_words.specs.Replay.{ReplayWords, AsksReplay}
+use Rattle.polis_words.specs.ReplayStem.{ReplayStemWords, AsksReplayStem}
 use Rattle.polis_words.specs.Requests.{Asks}
 use Rattle.polis_words.specs.declared.requests.Request.{Request}
 use Rattle.polis_words.specs.declared.requests.Request.TheVariants.{Run, Check, Compile, Replay, Migrate, Demo, Bound, Image, Equiv, Losses, Wave, Draw, Explain, Cover, Lint, Shuffle}
@@ -49,54 +49,60 @@ first words form word is at = ap (λ (w : List (List ℕ)). slice_get w 0) is �
 begins : (words : List (List ℕ)) (request : Request) → Asks words request
     → slice_get words 0 ≡ Some (command_of request)
 unfolding command_of
-begins words (Explain (explains.Net check)) asks = first words _ (codes "explain") asks.0 refl
-begins words (Explain (explains.Trace asked)) asks = first words _ (codes "explain") asks.0 refl
-begins words (Explain (explains.Journal replay)) asks = first words _ (codes "explain") asks.0 refl
+begins words (Explain (explains.Net check)) asks =
+    first words _ (codes "explain") asks.form refl
+begins words (Explain (explains.Trace asked)) asks =
+    first words _ (codes "explain") asks.form refl
+begins words (Explain (explains.Journal replay)) asks =
+    first words _ (codes "explain") asks.form refl
 begins words other asks = first words _ (command_of other) asks.form refl
 
 -- ---- the words after it
-one_net : (words : List (List ℕ)) (command : List ℕ) (a b : CheckWords)
-    → words ≡ command ∷ a.net ∷ [] → words ≡ command ∷ b.net ∷ [] → a ≡ b
-one_net words command a b p q =
-    let net = same_item 1 (sym p ∙ q) in
+one_net : (word : List ℕ) (words : List (List ℕ)) (a b : CheckWords) → AsksNet word words a
+    → AsksNet word words b → a ≡ b
+one_net word words a b p q =
+    let net = same_item 1 (sym p.form ∙ q.form) in
     λ i. record { net = net i }
 
-one_net_stem : (words : List (List ℕ)) (command : List ℕ) (a b : NetStemWords)
-    → words ≡ command ∷ a.net ∷ a.stem ∷ [] → words ≡ command ∷ b.net ∷ b.stem ∷ [] → a ≡ b
-one_net_stem words command a b p q =
-    let net = same_item 1 (sym p ∙ q) in
-    let stem = same_item 2 (sym p ∙ q) in
+one_net_stem : (word : List ℕ) (words : List (List ℕ)) (a b : NetStemWords)
+    → AsksNetStem word words a → AsksNetStem word words b → a ≡ b
+one_net_stem word words a b p q =
+    let net = same_item 1 (sym p.form ∙ q.form) in
+    let stem = same_item 2 (sym p.form ∙ q.form) in
     λ i. record { net = net i; stem = stem i }
 
-one_net_trace : (words : List (List ℕ)) (command : List ℕ) (a b : NetTraceWords)
-    → words ≡ command ∷ a.net ∷ a.trace ∷ [] → words ≡ command ∷ b.net ∷ b.trace ∷ [] → a ≡ b
-one_net_trace words command a b p q =
-    let net = same_item 1 (sym p ∙ q) in
-    let trace = same_item 2 (sym p ∙ q) in
+one_net_trace : (word : List ℕ) (words : List (List ℕ)) (a b : NetTraceWords)
+    → AsksNetTrace word words a → AsksNetTrace word words b → a ≡ b
+one_net_trace word words a b p q =
+    let net = same_item 1 (sym p.form ∙ q.form) in
+    let trace = same_item 2 (sym p.form ∙ q.form) in
     λ i. record { net = net i; trace = trace i }
 
-one_equiv : (words : List (List ℕ)) (command : List ℕ) (a b : EquivWords)
-    → words ≡ command ∷ a.net ∷ a.other ∷ [] → words ≡ command ∷ b.net ∷ b.other ∷ [] → a ≡ b
-one_equiv words command a b p q =
-    let net = same_item 1 (sym p ∙ q) in
-    let other = same_item 2 (sym p ∙ q) in
+one_equiv : (words : List (List ℕ)) (a b : EquivWords) → AsksEquiv words a → AsksEquiv words b
+    → a ≡ b
+one_equiv words a b p q =
+    let net = same_item 1 (sym p.form ∙ q.form) in
+    let other = same_item 2 (sym p.form ∙ q.form) in
     λ i. record { net = net i; other = other i }
 
-one_replay : (words : List (List ℕ)) (command : List ℕ) (a b : ReplayWords)
-    (rest more : List (List ℕ)) → words ≡ command ∷ a.net ∷ a.trace ∷ a.journal ∷ rest
-    → words ≡ command ∷ b.net ∷ b.trace ∷ b.journal ∷ more → a ≡ b
-one_replay words command a b rest more p q =
+one_files : (words : List (List ℕ)) (word : List ℕ) (a b : ReplayWords)
+    (rest more : List (List ℕ)) → words ≡ word ∷ a.net ∷ a.trace ∷ a.journal ∷ rest
+    → words ≡ word ∷ b.net ∷ b.trace ∷ b.journal ∷ more → a ≡ b
+one_files words word a b rest more p q =
     let net = same_item 1 (sym p ∙ q) in
     let trace = same_item 2 (sym p ∙ q) in
     let journal = same_item 3 (sym p ∙ q) in
     λ i. record { net = net i; trace = trace i; journal = journal i }
 
-one_replay_stem : (words : List (List ℕ)) (command : List ℕ) (a b : ReplayStemWords)
-    → words ≡ command ∷ a.replay.net ∷ a.replay.trace ∷ a.replay.journal ∷ a.stem ∷ []
-    → words ≡ command ∷ b.replay.net ∷ b.replay.trace ∷ b.replay.journal ∷ b.stem ∷ [] → a ≡ b
-one_replay_stem words command a b p q =
-    let replay = one_replay words command a.replay b.replay (a.stem ∷ []) (b.stem ∷ []) p q in
-    let stem = same_item 4 (sym p ∙ q) in
+one_replay : (word : List ℕ) (words : List (List ℕ)) (a b : ReplayWords)
+    → AsksReplay word words a → AsksReplay word words b → a ≡ b
+one_replay word words a b p q = one_files words word a b [] [] p.form q.form
+
+one_replay_stem : (word : List ℕ) (words : List (List ℕ)) (a b : ReplayStemWords)
+    → AsksReplayStem word words a → AsksReplayStem word words b → a ≡ b
+one_replay_stem word words a b p q =
+    let replay = one_files words word a.replay b.replay (a.stem ∷ []) (b.stem ∷ []) p.form q.form in
+    let stem = same_item 4 (sym p.form ∙ q.form) in
     λ i. record { replay = replay i; stem = stem i }
 
 one_bounds : (words : List (List ℕ)) (a b : BoundWords) → AsksBound words a → AsksBound words b
@@ -114,13 +120,13 @@ one_seed words a b asks again =
 one_explain : (words : List (List ℕ)) (a b : Explained) → AsksExplain words a
     → AsksExplain words b → a ≡ b
 one_explain words (explains.Net a) (explains.Net b) asks again =
-    ap explains.Net (one_net words (codes "explain") a b asks.0 again.0)
+    ap explains.Net (one_net (codes "explain") words a b asks again)
 one_explain words (explains.Trace a) (explains.Trace b) asks again =
-    ap explains.Trace (one_net_trace words (codes "explain") a b asks.0 again.0)
+    ap explains.Trace (one_net_trace (codes "explain") words a b asks again)
 one_explain words (explains.Journal a) (explains.Journal b) asks again =
-    ap explains.Journal (one_replay words (codes "explain") a b [] [] asks.0 again.0)
+    ap explains.Journal (one_replay (codes "explain") words a b asks again)
 one_explain words a b asks again =
-    let long = ap (λ (w : List (List ℕ)). length w) (sym asks.0 ∙ again.0) in
+    let long = ap (λ (w : List (List ℕ)). length w) (sym asks.form ∙ again.form) in
     absurd (omega (arith, long))
 
 -- ---- the requests
@@ -128,31 +134,30 @@ pub one_request : (words : List (List ℕ)) (a b : Request) → Asks words a →
 unfolding letters command_of
 one_request words (Run a) (Run b) asks again = ap Run (one_asked words b a again asks)
 one_request words (Check a) (Check b) asks again =
-    ap Check (one_net words (codes "check") a b asks.form again.form)
+    ap Check (one_net (codes "check") words a b asks again)
 one_request words (Compile a) (Compile b) asks again =
-    ap Compile (one_net_stem words (codes "compile") a b asks.form again.form)
+    ap Compile (one_net_stem (codes "compile") words a b asks again)
 one_request words (Replay a) (Replay b) asks again =
-    ap Replay (one_replay words (codes "replay") a b [] [] asks.form again.form)
+    ap Replay (one_replay (codes "replay") words a b asks again)
 one_request words (Migrate a) (Migrate b) asks again =
-    ap Migrate (one_replay_stem words (codes "migrate") a b asks.form again.form)
+    ap Migrate (one_replay_stem (codes "migrate") words a b asks again)
 one_request words (Demo a) (Demo b) asks again = ap Demo (one_seed words a b asks again)
 one_request words (Bound a) (Bound b) asks again = ap Bound (one_bounds words a b asks again)
 one_request words (Image a) (Image b) asks again =
-    ap Image (one_net_stem words (codes "image") a b asks.form again.form)
-one_request words (Equiv a) (Equiv b) asks again =
-    ap Equiv (one_equiv words (codes "equiv") a b asks.form again.form)
+    ap Image (one_net_stem (codes "image") words a b asks again)
+one_request words (Equiv a) (Equiv b) asks again = ap Equiv (one_equiv words a b asks again)
 one_request words (Losses a) (Losses b) asks again =
-    ap Losses (one_replay words (codes "losses") a b [] [] asks.form again.form)
+    ap Losses (one_replay (codes "losses") words a b asks again)
 one_request words (Wave a) (Wave b) asks again =
-    ap Wave (one_replay_stem words (codes "wave") a b asks.form again.form)
+    ap Wave (one_replay_stem (codes "wave") words a b asks again)
 one_request words (Draw a) (Draw b) asks again =
-    ap Draw (one_net_stem words (codes "draw") a b asks.form again.form)
+    ap Draw (one_net_stem (codes "draw") words a b asks again)
 one_request words (Explain a) (Explain b) asks again =
     ap Explain (one_explain words a b asks again)
 one_request words (Cover a) (Cover b) asks again =
-    ap Cover (one_replay words (codes "cover") a b [] [] asks.form again.form)
+    ap Cover (one_replay (codes "cover") words a b asks again)
 one_request words (Lint a) (Lint b) asks again =
-    ap Lint (one_net words (codes "lint") a b asks.form again.form)
+    ap Lint (one_net (codes "lint") words a b asks again)
 one_request words (Shuffle a) (Shuffle b) asks again =
     ap Shuffle (one_shuffle words a b asks again)
 one_request words a b asks again =

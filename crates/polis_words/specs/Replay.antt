@@ -1,8 +1,9 @@
--- The command line `replay NET TRACE JOURNAL`.
-use Rattle.std.specs.Prelude.{◌≡◌, ℕ, List, [], ◌∷◌, codes}
+-- Command lines with the files of a replay, as `replay NET TRACE JOURNAL`, `losses NET TRACE
+-- JOURNAL` and `cover NET TRACE JOURNAL`.
+use Rattle.std.specs.Prelude.{◌≡◌, ℕ, List, [], ◌∷◌}
 use Rattle.polis_words.specs.FileWords.{IsFileWord}
 
--- what a replay is asked for: the names of its files
+-- what they name
 pub record ReplayWords : Type 0 where
   pub net : List ℕ
   pub trace : List ℕ
@@ -14,7 +15,7 @@ pub record AreFileWords (replay : ReplayWords) : Type 0 where
   pub trace : IsFileWord replay.trace
   pub journal : IsFileWord replay.journal
 
--- the command line asks for this replay
-pub record AsksReplay (words : List (List ℕ)) (replay : ReplayWords) : Type 0 where
-  pub form : words ≡ codes "replay" ∷ replay.net ∷ replay.trace ∷ replay.journal ∷ []
-  pub files : AreFileWords replay
+-- the command line with this first word names these
+pub record AsksReplay (word : List ℕ) (words : List (List ℕ)) (asked : ReplayWords) : Type 0 where
+  pub form : words ≡ word ∷ asked.net ∷ asked.trace ∷ asked.journal ∷ []
+  pub files : AreFileWords asked

@@ -6,18 +6,11 @@ ghost use Rattle.polis_words.specs.Requests.{Asks, AsksNothing};
 mod bound;
 mod check;
 mod command;
-mod compile;
 mod costs;
-mod cover;
 mod demo;
-mod draw;
 mod equiv;
 mod explain;
 mod file_word;
-mod image;
-mod lint;
-mod losses;
-mod migrate;
 mod net_stem;
 mod net_trace;
 mod options;
@@ -26,39 +19,32 @@ mod replay;
 mod replay_stem;
 mod run;
 mod shuffle;
-mod wave;
 mod workers;
 
 pub use bound::Bound;
 use bound::bound_of;
 pub use check::Check;
-use check::check_of;
-use compile::compile_of;
+use check::net_of;
 pub use costs::GivenCosts;
-use cover::cover_of;
 pub use demo::Demo;
 use demo::demo_of;
-use draw::draw_of;
 pub use equiv::Equiv;
 use equiv::equiv_of;
 pub use explain::Explain;
 use explain::explain_of;
-use image::image_of;
-use lint::lint_of;
-use losses::losses_of;
-use migrate::migrate_of;
 pub use net_stem::NetStem;
+use net_stem::net_stem_of;
 pub use net_trace::NetTrace;
 pub use order::GivenOrder;
 use polis_base::Words;
 pub use replay::Replay;
 use replay::replay_of;
 pub use replay_stem::ReplayStem;
+use replay_stem::replay_stem_of;
 pub use run::Run;
 use run::run_of;
 pub use shuffle::Shuffle;
 use shuffle::shuffle_of;
-use wave::wave_of;
 pub use workers::{needs_workers, several_of};
 
 /// What a command line asks for, one variant for each command.
@@ -110,20 +96,20 @@ pub fn request_of(words: &Words) -> Option<Request<'_>>
     }
     match words.get(0) {
         "run" => Some(Request::Run(run_of(words)?)),
-        "check" => Some(Request::Check(check_of(words)?)),
-        "compile" => Some(Request::Compile(compile_of(words)?)),
+        "check" => Some(Request::Check(net_of(words)?)),
+        "compile" => Some(Request::Compile(net_stem_of(words)?)),
         "replay" => Some(Request::Replay(replay_of(words)?)),
-        "migrate" => Some(Request::Migrate(migrate_of(words)?)),
+        "migrate" => Some(Request::Migrate(replay_stem_of(words)?)),
         "demo" => Some(Request::Demo(demo_of(words)?)),
         "bound" => Some(Request::Bound(bound_of(words)?)),
-        "image" => Some(Request::Image(image_of(words)?)),
+        "image" => Some(Request::Image(net_stem_of(words)?)),
         "equiv" => Some(Request::Equiv(equiv_of(words)?)),
-        "losses" => Some(Request::Losses(losses_of(words)?)),
-        "wave" => Some(Request::Wave(wave_of(words)?)),
-        "draw" => Some(Request::Draw(draw_of(words)?)),
+        "losses" => Some(Request::Losses(replay_of(words)?)),
+        "wave" => Some(Request::Wave(replay_stem_of(words)?)),
+        "draw" => Some(Request::Draw(net_stem_of(words)?)),
         "explain" => Some(Request::Explain(explain_of(words)?)),
-        "cover" => Some(Request::Cover(cover_of(words)?)),
-        "lint" => Some(Request::Lint(lint_of(words)?)),
+        "cover" => Some(Request::Cover(replay_of(words)?)),
+        "lint" => Some(Request::Lint(net_of(words)?)),
         "shuffle" => Some(Request::Shuffle(shuffle_of(words)?)),
         _ => None,
     }

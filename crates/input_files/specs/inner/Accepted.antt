@@ -1,24 +1,12 @@
 -- Why a text isn't accepted, step by step.
 use Rattle.std.specs.Prelude.{◌≡◌, ℕ}
-use Rattle.polis_base.specs.declared.token.LexError.{LexError}
-use Rattle.polis_base.specs.declared.token.LexError.TheVariants as lexes
 use Rattle.net_reader.specs.declared.raw.RawNet.{RawNet}
 use Rattle.transition_table.specs.declared.machine.Machine.{Machine}
 use Rattle.transition_table.specs.declared.network.Network.{Network}
-use Rattle.polis_words.specs.declared.cause.LexKind.TheVariants as kinds
 use Rattle.polis_words.specs.declared.cause.Cause.{Cause}
-use Rattle.polis_words.specs.declared.cause.Cause.TheVariants.{Lex, Conflict}
-use Rattle.input_files.specs.declared.accept.FileFault.{FileFault}
-use Rattle.input_files.specs.declared.accept.FileFault.TheVariants as faults
+use Rattle.polis_words.specs.declared.cause.Cause.TheVariants.{Conflict}
 use Rattle.input_files.specs.Accepted.{IsConflictIn, IsFirstConflict}
 use Rattle.input_files.specs.Places.{StandThere}
-
--- why a text whose tokens don't read isn't accepted
-abbrev pub lex_fault : LexError → FileFault
-lex_fault (lexes.BadByte place) = faults.Cause (Lex kinds.Byte place)
-lex_fault (lexes.NameTooLong place) = faults.Cause (Lex kinds.Name place)
-lex_fault (lexes.NumberTooLarge place) = faults.Cause (Lex kinds.Number place)
-lex_fault lexes.NoMemory = faults.NoMemory
 
 -- why the k-th machine of the network isn't said to be deterministic
 abbrev pub IsMachineFault : RawNet → Network → ℕ → Machine → Cause → Type 0

@@ -1,7 +1,6 @@
-// The command line `check NET`.
-ghost use Rattle.std.specs.Prelude.{◌≡◌, ◌≤◌, codes, length, slice_get, Some, IfSome, IfNone};
-ghost use Rattle.polis_words.specs.FileWords.{IsFileWord};
-ghost use Rattle.polis_words.specs.Check.{CheckWords, AsksCheck};
+// Command lines with a network text, as `check NET`.
+ghost use Rattle.std.specs.Prelude.{◌≡◌, ℕ, List, IfSome, IfNone};
+ghost use Rattle.polis_words.specs.Check.{CheckWords, AsksNet};
 ghost use Rattle.polis_words.specs.inner.Commands.{IsCommand};
 
 use crate::requests::file_word::is_file_word;
@@ -31,35 +30,21 @@ impl<'a> Check<'a> {
     }
 }
 
-/// The network text that the second word names, if it may be a file's name.
+/// What a command line of this form names, whatever its first word is.
 pub fn net_of(words: &Words) -> Option<Check<'_>>
-    requires { 2 ≤ length words.now }
-    ensures net { IfSome result (λ check. slice_get words.now 1 ≡ Some check.net) }
-    ensures file { IfSome result (λ check. IsFileWord check.net) }
-    ensures none { IfNone result ((check : CheckWords) → slice_get words.now 1 ≡ Some check.net
-        → ¬ IsFileWord check.net) }
+    ensures asks { IfSome result (λ asked. (word : List ℕ) → IsCommand words.now word
+        → AsksNet word words.now asked) }
+    ensures one { IfSome result (λ asked. (word : List ℕ) (other : CheckWords)
+        → AsksNet word words.now other → other ≡ asked) }
+    ensures nothing { IfNone result ((word : List ℕ) (asked : CheckWords)
+        → ¬ AsksNet word words.now asked) }
 {
+    if words.len() != 2 {
+        return None;
+    }
     let net = words.get(1);
     if is_file_word(net) {
         Some(Check { net })
-    } else {
-        None
-    }
-}
-
-/// The check that a command line of this command asks for, if it asks for one.
-pub fn check_of(words: &Words) -> Option<Check<'_>>
-    requires { IsCommand words.now (codes "check") }
-    ensures asks { IfSome result (λ check. AsksCheck words.now check) }
-    ensures one { IfSome result (λ check. (other : CheckWords) → AsksCheck words.now other
-        → other ≡ check) }
-    ensures nothing { IfNone result ((check : CheckWords) → ¬ AsksCheck words.now check) }
-{
-    if words.len() == 2 {
-        match net_of(words) {
-            Some(check) => Some(check),
-            None => None,
-        }
     } else {
         None
     }

@@ -1,6 +1,7 @@
-// The words of command lines with a network text and a trace text.
-ghost use Rattle.std.specs.Prelude.{◌≡◌, ◌≤◌, length, slice_get, Some, IfSome, IfNone};
-ghost use Rattle.polis_words.specs.NetTrace.{NetTraceWords, AreNetAndTrace};
+// Command lines with a network text and a trace text, as `explain NET TRACE`.
+ghost use Rattle.std.specs.Prelude.{◌≡◌, ℕ, List, IfSome, IfNone};
+ghost use Rattle.polis_words.specs.NetTrace.{NetTraceWords, AsksNetTrace};
+ghost use Rattle.polis_words.specs.inner.Commands.{IsCommand};
 
 use crate::requests::file_word::is_file_word;
 use polis_base::Words;
@@ -37,15 +38,18 @@ impl<'a> NetTrace<'a> {
     }
 }
 
-/// What the words after the first one name, if each of these may be a file's name.
+/// What a command line of this form names, whatever its first word is.
 pub fn net_trace_of(words: &Words) -> Option<NetTrace<'_>>
-    requires { 3 ≤ length words.now }
-    ensures net { IfSome result (λ asked. slice_get words.now 1 ≡ Some asked.net) }
-    ensures trace { IfSome result (λ asked. slice_get words.now 2 ≡ Some asked.trace) }
-    ensures files { IfSome result (λ asked. AreNetAndTrace asked) }
-    ensures none { IfNone result ((asked : NetTraceWords) → slice_get words.now 1 ≡ Some asked.net
-        → slice_get words.now 2 ≡ Some asked.trace → ¬ AreNetAndTrace asked) }
+    ensures asks { IfSome result (λ asked. (word : List ℕ) → IsCommand words.now word
+        → AsksNetTrace word words.now asked) }
+    ensures one { IfSome result (λ asked. (word : List ℕ) (other : NetTraceWords)
+        → AsksNetTrace word words.now other → other ≡ asked) }
+    ensures nothing { IfNone result ((word : List ℕ) (asked : NetTraceWords)
+        → ¬ AsksNetTrace word words.now asked) }
 {
+    if words.len() != 3 {
+        return None;
+    }
     let net = words.get(1);
     let trace = words.get(2);
     if is_file_word(net) && is_file_word(trace) {

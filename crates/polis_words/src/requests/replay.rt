@@ -1,5 +1,5 @@
-// The command line `replay NET TRACE JOURNAL`.
-ghost use Rattle.std.specs.Prelude.{◌≡◌, ◌≤◌, codes, length, slice_get, Some, IfSome, IfNone};
+// Command lines with the files of a replay, as `replay NET TRACE JOURNAL`.
+ghost use Rattle.std.specs.Prelude.{◌≡◌, ◌≤◌, ℕ, List, length, slice_get, Some, IfSome, IfNone};
 ghost use Rattle.polis_words.specs.Replay.{ReplayWords, AreFileWords, AsksReplay};
 ghost use Rattle.polis_words.specs.inner.Commands.{IsCommand};
 
@@ -71,20 +71,20 @@ pub fn files_of(words: &Words) -> Option<Replay<'_>>
     }
 }
 
-/// The replay that a command line of this command asks for, if it asks for one.
+/// What a command line of this form names, whatever its first word is.
 pub fn replay_of(words: &Words) -> Option<Replay<'_>>
-    requires { IsCommand words.now (codes "replay") }
-    ensures asks { IfSome result (λ replay. AsksReplay words.now replay) }
-    ensures one { IfSome result (λ replay. (other : ReplayWords) → AsksReplay words.now other
-        → other ≡ replay) }
-    ensures nothing { IfNone result ((replay : ReplayWords) → ¬ AsksReplay words.now replay) }
+    ensures asks { IfSome result (λ asked. (word : List ℕ) → IsCommand words.now word
+        → AsksReplay word words.now asked) }
+    ensures one { IfSome result (λ asked. (word : List ℕ) (other : ReplayWords)
+        → AsksReplay word words.now other → other ≡ asked) }
+    ensures nothing { IfNone result ((word : List ℕ) (asked : ReplayWords)
+        → ¬ AsksReplay word words.now asked) }
 {
-    if words.len() == 4 {
-        match files_of(words) {
-            Some(replay) => Some(replay),
-            None => None,
-        }
-    } else {
-        None
+    if words.len() != 4 {
+        return None;
+    }
+    match files_of(words) {
+        Some(asked) => Some(asked),
+        None => None,
     }
 }

@@ -1,6 +1,7 @@
-// The words of command lines with the files of a replay and a stem.
-ghost use Rattle.std.specs.Prelude.{◌≡◌, ◌≤◌, length, slice_get, Some, IfSome, IfNone};
-ghost use Rattle.polis_words.specs.ReplayStem.{ReplayStemWords, AreFilesAndStem};
+// Command lines with the files of a replay and a stem, as `migrate NET TRACE JOURNAL STEM`.
+ghost use Rattle.std.specs.Prelude.{◌≡◌, ℕ, List, IfSome, IfNone};
+ghost use Rattle.polis_words.specs.ReplayStem.{ReplayStemWords, AsksReplayStem};
+ghost use Rattle.polis_words.specs.inner.Commands.{IsCommand};
 
 use crate::requests::file_word::is_file_word;
 use crate::requests::replay::{Replay, files_of};
@@ -38,20 +39,18 @@ impl<'a> ReplayStem<'a> {
     }
 }
 
-/// What the words after the first one name, if each of these may be a file's name.
+/// What a command line of this form names, whatever its first word is.
 pub fn replay_stem_of(words: &Words) -> Option<ReplayStem<'_>>
-    requires { 5 ≤ length words.now }
-    ensures net { IfSome result (λ asked. slice_get words.now 1 ≡ Some asked.replay.net) }
-    ensures trace { IfSome result (λ asked. slice_get words.now 2 ≡ Some asked.replay.trace) }
-    ensures journal { IfSome result (λ asked. slice_get words.now 3 ≡ Some asked.replay.journal) }
-    ensures stem { IfSome result (λ asked. slice_get words.now 4 ≡ Some asked.stem) }
-    ensures files { IfSome result (λ asked. AreFilesAndStem asked) }
-    ensures none { IfNone result ((asked : ReplayStemWords)
-        → slice_get words.now 1 ≡ Some asked.replay.net
-        → slice_get words.now 2 ≡ Some asked.replay.trace
-        → slice_get words.now 3 ≡ Some asked.replay.journal
-        → slice_get words.now 4 ≡ Some asked.stem → ¬ AreFilesAndStem asked) }
+    ensures asks { IfSome result (λ asked. (word : List ℕ) → IsCommand words.now word
+        → AsksReplayStem word words.now asked) }
+    ensures one { IfSome result (λ asked. (word : List ℕ) (other : ReplayStemWords)
+        → AsksReplayStem word words.now other → other ≡ asked) }
+    ensures nothing { IfNone result ((word : List ℕ) (asked : ReplayStemWords)
+        → ¬ AsksReplayStem word words.now asked) }
 {
+    if words.len() != 5 {
+        return None;
+    }
     let stem = words.get(4);
     if is_file_word(stem) {
         match files_of(words) {

@@ -86,11 +86,11 @@ module _ (words : List (List ℕ)) (P : Request → Type 0) where
   by_first word is each (Draw x) asks =
       own word (codes "draw") is (ap head asks.form) each x asks
   by_first word is each (Explain (explains.Net x)) asks =
-      own word (codes "explain") is (ap head asks.0) each (explains.Net x) asks
+      own word (codes "explain") is (ap head asks.form) each (explains.Net x) asks
   by_first word is each (Explain (explains.Trace x)) asks =
-      own word (codes "explain") is (ap head asks.0) each (explains.Trace x) asks
+      own word (codes "explain") is (ap head asks.form) each (explains.Trace x) asks
   by_first word is each (Explain (explains.Journal x)) asks =
-      own word (codes "explain") is (ap head asks.0) each (explains.Journal x) asks
+      own word (codes "explain") is (ap head asks.form) each (explains.Journal x) asks
   by_first word is each (Cover x) asks =
       own word (codes "cover") is (ap head asks.form) each x asks
   by_first word is each (Lint x) asks =
@@ -114,53 +114,61 @@ returns-in_err-run_of-in-run-clause-nothing c =
     (by_first c.args.words.now (λ request. ⊥) (codes "run") (c.get.ensures ∙ ap Some c.in-run.is)
     c.in_err-run_of-in-run.ensures.nothing)
 
-pub returns-in_ok-check_of-in-check-clause-one : goal.returns-in_ok-check_of-in-check-clause-one
-returns-in_ok-check_of-in-check-clause-one c =
-    let found = c.in_ok-check_of-in-check in
+pub returns-in_ok-net_of-in-check-clause-one : goal.returns-in_ok-net_of-in-check-clause-one
+returns-in_ok-net_of-in-check-clause-one c =
+    let found = c.in_ok-net_of-in-check in
+    let one = found.ensures.one (codes "check") in
     by_first c.args.words.now (λ request. request ≡ Check found.field-0) (codes "check")
-    (c.get.ensures ∙ ap Some c.in-check.is) (λ x asks. ap Check (found.ensures.one x asks))
+    (c.get.ensures ∙ ap Some c.in-check.is) (λ x asks. ap Check (one x asks))
 
-pub returns-in_err-check_of-in-check-clause-nothing : goal.returns-in_err-check_of-in-check-clause-nothing
-returns-in_err-check_of-in-check-clause-nothing c =
-    if_none c.from_residual-in_err-check_of-in-check.result
-    (by_first c.args.words.now (λ request. ⊥) (codes "check") (c.get.ensures ∙ ap Some c.in-check.is)
-    c.in_err-check_of-in-check.ensures.nothing)
+pub returns-in_err-net_of-in-check-clause-nothing : goal.returns-in_err-net_of-in-check-clause-nothing
+returns-in_err-net_of-in-check-clause-nothing c =
+    if_none c.from_residual-in_err-net_of-in-check.result
+    (by_first c.args.words.now (λ request. ⊥) (codes "check")
+    (c.get.ensures ∙ ap Some c.in-check.is)
+    (c.in_err-net_of-in-check.ensures.nothing (codes "check")))
 
-pub returns-in_ok-compile_of-in-compile-clause-one : goal.returns-in_ok-compile_of-in-compile-clause-one
-returns-in_ok-compile_of-in-compile-clause-one c =
-    let found = c.in_ok-compile_of-in-compile in
+pub returns-in_ok-net_stem_of-in-compile-clause-one : goal.returns-in_ok-net_stem_of-in-compile-clause-one
+returns-in_ok-net_stem_of-in-compile-clause-one c =
+    let found = c.in_ok-net_stem_of-in-compile in
+    let one = found.ensures.one (codes "compile") in
     by_first c.args.words.now (λ request. request ≡ Compile found.field-0) (codes "compile")
-    (c.get.ensures ∙ ap Some c.in-compile.is) (λ x asks. ap Compile (found.ensures.one x asks))
+    (c.get.ensures ∙ ap Some c.in-compile.is) (λ x asks. ap Compile (one x asks))
 
-pub returns-in_err-compile_of-in-compile-clause-nothing : goal.returns-in_err-compile_of-in-compile-clause-nothing
-returns-in_err-compile_of-in-compile-clause-nothing c =
-    if_none c.from_residual-in_err-compile_of-in-compile.result
-    (by_first c.args.words.now (λ request. ⊥) (codes "compile") (c.get.ensures ∙ ap Some c.in-compile.is)
-    c.in_err-compile_of-in-compile.ensures.nothing)
+pub returns-in_err-net_stem_of-in-compile-clause-nothing : goal.returns-in_err-net_stem_of-in-compile-clause-nothing
+returns-in_err-net_stem_of-in-compile-clause-nothing c =
+    if_none c.from_residual-in_err-net_stem_of-in-compile.result
+    (by_first c.args.words.now (λ request. ⊥) (codes "compile")
+    (c.get.ensures ∙ ap Some c.in-compile.is)
+    (c.in_err-net_stem_of-in-compile.ensures.nothing (codes "compile")))
 
 pub returns-in_ok-replay_of-in-replay-clause-one : goal.returns-in_ok-replay_of-in-replay-clause-one
 returns-in_ok-replay_of-in-replay-clause-one c =
     let found = c.in_ok-replay_of-in-replay in
+    let one = found.ensures.one (codes "replay") in
     by_first c.args.words.now (λ request. request ≡ Replay found.field-0) (codes "replay")
-    (c.get.ensures ∙ ap Some c.in-replay.is) (λ x asks. ap Replay (found.ensures.one x asks))
+    (c.get.ensures ∙ ap Some c.in-replay.is) (λ x asks. ap Replay (one x asks))
 
 pub returns-in_err-replay_of-in-replay-clause-nothing : goal.returns-in_err-replay_of-in-replay-clause-nothing
 returns-in_err-replay_of-in-replay-clause-nothing c =
     if_none c.from_residual-in_err-replay_of-in-replay.result
-    (by_first c.args.words.now (λ request. ⊥) (codes "replay") (c.get.ensures ∙ ap Some c.in-replay.is)
-    c.in_err-replay_of-in-replay.ensures.nothing)
+    (by_first c.args.words.now (λ request. ⊥) (codes "replay")
+    (c.get.ensures ∙ ap Some c.in-replay.is)
+    (c.in_err-replay_of-in-replay.ensures.nothing (codes "replay")))
 
-pub returns-in_ok-migrate_of-in-migrate-clause-one : goal.returns-in_ok-migrate_of-in-migrate-clause-one
-returns-in_ok-migrate_of-in-migrate-clause-one c =
-    let found = c.in_ok-migrate_of-in-migrate in
+pub returns-in_ok-replay_stem_of-in-migrate-clause-one : goal.returns-in_ok-replay_stem_of-in-migrate-clause-one
+returns-in_ok-replay_stem_of-in-migrate-clause-one c =
+    let found = c.in_ok-replay_stem_of-in-migrate in
+    let one = found.ensures.one (codes "migrate") in
     by_first c.args.words.now (λ request. request ≡ Migrate found.field-0) (codes "migrate")
-    (c.get.ensures ∙ ap Some c.in-migrate.is) (λ x asks. ap Migrate (found.ensures.one x asks))
+    (c.get.ensures ∙ ap Some c.in-migrate.is) (λ x asks. ap Migrate (one x asks))
 
-pub returns-in_err-migrate_of-in-migrate-clause-nothing : goal.returns-in_err-migrate_of-in-migrate-clause-nothing
-returns-in_err-migrate_of-in-migrate-clause-nothing c =
-    if_none c.from_residual-in_err-migrate_of-in-migrate.result
-    (by_first c.args.words.now (λ request. ⊥) (codes "migrate") (c.get.ensures ∙ ap Some c.in-migrate.is)
-    c.in_err-migrate_of-in-migrate.ensures.nothing)
+pub returns-in_err-replay_stem_of-in-migrate-clause-nothing : goal.returns-in_err-replay_stem_of-in-migrate-clause-nothing
+returns-in_err-replay_stem_of-in-migrate-clause-nothing c =
+    if_none c.from_residual-in_err-replay_stem_of-in-migrate.result
+    (by_first c.args.words.now (λ request. ⊥) (codes "migrate")
+    (c.get.ensures ∙ ap Some c.in-migrate.is)
+    (c.in_err-replay_stem_of-in-migrate.ensures.nothing (codes "migrate")))
 
 pub returns-in_ok-demo_of-in-demo-clause-one : goal.returns-in_ok-demo_of-in-demo-clause-one
 returns-in_ok-demo_of-in-demo-clause-one c =
@@ -183,20 +191,23 @@ returns-in_ok-bound_of-in-bound-clause-one c =
 pub returns-in_err-bound_of-in-bound-clause-nothing : goal.returns-in_err-bound_of-in-bound-clause-nothing
 returns-in_err-bound_of-in-bound-clause-nothing c =
     if_none c.from_residual-in_err-bound_of-in-bound.result
-    (by_first c.args.words.now (λ request. ⊥) (codes "bound") (c.get.ensures ∙ ap Some c.in-bound.is)
+    (by_first c.args.words.now (λ request. ⊥) (codes "bound")
+    (c.get.ensures ∙ ap Some c.in-bound.is)
     c.in_err-bound_of-in-bound.ensures.nothing)
 
-pub returns-in_ok-image_of-in-image-clause-one : goal.returns-in_ok-image_of-in-image-clause-one
-returns-in_ok-image_of-in-image-clause-one c =
-    let found = c.in_ok-image_of-in-image in
+pub returns-in_ok-net_stem_of-in-image-clause-one : goal.returns-in_ok-net_stem_of-in-image-clause-one
+returns-in_ok-net_stem_of-in-image-clause-one c =
+    let found = c.in_ok-net_stem_of-in-image in
+    let one = found.ensures.one (codes "image") in
     by_first c.args.words.now (λ request. request ≡ Image found.field-0) (codes "image")
-    (c.get.ensures ∙ ap Some c.in-image.is) (λ x asks. ap Image (found.ensures.one x asks))
+    (c.get.ensures ∙ ap Some c.in-image.is) (λ x asks. ap Image (one x asks))
 
-pub returns-in_err-image_of-in-image-clause-nothing : goal.returns-in_err-image_of-in-image-clause-nothing
-returns-in_err-image_of-in-image-clause-nothing c =
-    if_none c.from_residual-in_err-image_of-in-image.result
-    (by_first c.args.words.now (λ request. ⊥) (codes "image") (c.get.ensures ∙ ap Some c.in-image.is)
-    c.in_err-image_of-in-image.ensures.nothing)
+pub returns-in_err-net_stem_of-in-image-clause-nothing : goal.returns-in_err-net_stem_of-in-image-clause-nothing
+returns-in_err-net_stem_of-in-image-clause-nothing c =
+    if_none c.from_residual-in_err-net_stem_of-in-image.result
+    (by_first c.args.words.now (λ request. ⊥) (codes "image")
+    (c.get.ensures ∙ ap Some c.in-image.is)
+    (c.in_err-net_stem_of-in-image.ensures.nothing (codes "image")))
 
 pub returns-in_ok-equiv_of-in-equiv-clause-one : goal.returns-in_ok-equiv_of-in-equiv-clause-one
 returns-in_ok-equiv_of-in-equiv-clause-one c =
@@ -207,44 +218,49 @@ returns-in_ok-equiv_of-in-equiv-clause-one c =
 pub returns-in_err-equiv_of-in-equiv-clause-nothing : goal.returns-in_err-equiv_of-in-equiv-clause-nothing
 returns-in_err-equiv_of-in-equiv-clause-nothing c =
     if_none c.from_residual-in_err-equiv_of-in-equiv.result
-    (by_first c.args.words.now (λ request. ⊥) (codes "equiv") (c.get.ensures ∙ ap Some c.in-equiv.is)
+    (by_first c.args.words.now (λ request. ⊥) (codes "equiv")
+    (c.get.ensures ∙ ap Some c.in-equiv.is)
     c.in_err-equiv_of-in-equiv.ensures.nothing)
 
-pub returns-in_ok-losses_of-in-losses-clause-one : goal.returns-in_ok-losses_of-in-losses-clause-one
-returns-in_ok-losses_of-in-losses-clause-one c =
-    let found = c.in_ok-losses_of-in-losses in
+pub returns-in_ok-replay_of-in-losses-clause-one : goal.returns-in_ok-replay_of-in-losses-clause-one
+returns-in_ok-replay_of-in-losses-clause-one c =
+    let found = c.in_ok-replay_of-in-losses in
+    let one = found.ensures.one (codes "losses") in
     by_first c.args.words.now (λ request. request ≡ Losses found.field-0) (codes "losses")
-    (c.get.ensures ∙ ap Some c.in-losses.is) (λ x asks. ap Losses (found.ensures.one x asks))
+    (c.get.ensures ∙ ap Some c.in-losses.is) (λ x asks. ap Losses (one x asks))
 
-pub returns-in_err-losses_of-in-losses-clause-nothing : goal.returns-in_err-losses_of-in-losses-clause-nothing
-returns-in_err-losses_of-in-losses-clause-nothing c =
-    if_none c.from_residual-in_err-losses_of-in-losses.result
-    (by_first c.args.words.now (λ request. ⊥) (codes "losses") (c.get.ensures ∙ ap Some c.in-losses.is)
-    c.in_err-losses_of-in-losses.ensures.nothing)
+pub returns-in_err-replay_of-in-losses-clause-nothing : goal.returns-in_err-replay_of-in-losses-clause-nothing
+returns-in_err-replay_of-in-losses-clause-nothing c =
+    if_none c.from_residual-in_err-replay_of-in-losses.result
+    (by_first c.args.words.now (λ request. ⊥) (codes "losses")
+    (c.get.ensures ∙ ap Some c.in-losses.is)
+    (c.in_err-replay_of-in-losses.ensures.nothing (codes "losses")))
 
-pub returns-in_ok-wave_of-in-wave-clause-one : goal.returns-in_ok-wave_of-in-wave-clause-one
-returns-in_ok-wave_of-in-wave-clause-one c =
-    let found = c.in_ok-wave_of-in-wave in
+pub returns-in_ok-replay_stem_of-in-wave-clause-one : goal.returns-in_ok-replay_stem_of-in-wave-clause-one
+returns-in_ok-replay_stem_of-in-wave-clause-one c =
+    let found = c.in_ok-replay_stem_of-in-wave in
+    let one = found.ensures.one (codes "wave") in
     by_first c.args.words.now (λ request. request ≡ Wave found.field-0) (codes "wave")
-    (c.get.ensures ∙ ap Some c.in-wave.is) (λ x asks. ap Wave (found.ensures.one x asks))
+    (c.get.ensures ∙ ap Some c.in-wave.is) (λ x asks. ap Wave (one x asks))
 
-pub returns-in_err-wave_of-in-wave-clause-nothing : goal.returns-in_err-wave_of-in-wave-clause-nothing
-returns-in_err-wave_of-in-wave-clause-nothing c =
-    if_none c.from_residual-in_err-wave_of-in-wave.result
+pub returns-in_err-replay_stem_of-in-wave-clause-nothing : goal.returns-in_err-replay_stem_of-in-wave-clause-nothing
+returns-in_err-replay_stem_of-in-wave-clause-nothing c =
+    if_none c.from_residual-in_err-replay_stem_of-in-wave.result
     (by_first c.args.words.now (λ request. ⊥) (codes "wave") (c.get.ensures ∙ ap Some c.in-wave.is)
-    c.in_err-wave_of-in-wave.ensures.nothing)
+    (c.in_err-replay_stem_of-in-wave.ensures.nothing (codes "wave")))
 
-pub returns-in_ok-draw_of-in-draw-clause-one : goal.returns-in_ok-draw_of-in-draw-clause-one
-returns-in_ok-draw_of-in-draw-clause-one c =
-    let found = c.in_ok-draw_of-in-draw in
+pub returns-in_ok-net_stem_of-in-draw-clause-one : goal.returns-in_ok-net_stem_of-in-draw-clause-one
+returns-in_ok-net_stem_of-in-draw-clause-one c =
+    let found = c.in_ok-net_stem_of-in-draw in
+    let one = found.ensures.one (codes "draw") in
     by_first c.args.words.now (λ request. request ≡ Draw found.field-0) (codes "draw")
-    (c.get.ensures ∙ ap Some c.in-draw.is) (λ x asks. ap Draw (found.ensures.one x asks))
+    (c.get.ensures ∙ ap Some c.in-draw.is) (λ x asks. ap Draw (one x asks))
 
-pub returns-in_err-draw_of-in-draw-clause-nothing : goal.returns-in_err-draw_of-in-draw-clause-nothing
-returns-in_err-draw_of-in-draw-clause-nothing c =
-    if_none c.from_residual-in_err-draw_of-in-draw.result
+pub returns-in_err-net_stem_of-in-draw-clause-nothing : goal.returns-in_err-net_stem_of-in-draw-clause-nothing
+returns-in_err-net_stem_of-in-draw-clause-nothing c =
+    if_none c.from_residual-in_err-net_stem_of-in-draw.result
     (by_first c.args.words.now (λ request. ⊥) (codes "draw") (c.get.ensures ∙ ap Some c.in-draw.is)
-    c.in_err-draw_of-in-draw.ensures.nothing)
+    (c.in_err-net_stem_of-in-draw.ensures.nothing (codes "draw")))
 
 pub returns-in_ok-explain_of-in-explain-clause-one : goal.returns-in_ok-explain_of-in-explain-clause-one
 returns-in_ok-explain_of-in-explain-clause-one c =
@@ -255,32 +271,36 @@ returns-in_ok-explain_of-in-explain-clause-one c =
 pub returns-in_err-explain_of-in-explain-clause-nothing : goal.returns-in_err-explain_of-in-explain-clause-nothing
 returns-in_err-explain_of-in-explain-clause-nothing c =
     if_none c.from_residual-in_err-explain_of-in-explain.result
-    (by_first c.args.words.now (λ request. ⊥) (codes "explain") (c.get.ensures ∙ ap Some c.in-explain.is)
+    (by_first c.args.words.now (λ request. ⊥) (codes "explain")
+    (c.get.ensures ∙ ap Some c.in-explain.is)
     c.in_err-explain_of-in-explain.ensures.nothing)
 
-pub returns-in_ok-cover_of-in-cover-clause-one : goal.returns-in_ok-cover_of-in-cover-clause-one
-returns-in_ok-cover_of-in-cover-clause-one c =
-    let found = c.in_ok-cover_of-in-cover in
+pub returns-in_ok-replay_of-in-cover-clause-one : goal.returns-in_ok-replay_of-in-cover-clause-one
+returns-in_ok-replay_of-in-cover-clause-one c =
+    let found = c.in_ok-replay_of-in-cover in
+    let one = found.ensures.one (codes "cover") in
     by_first c.args.words.now (λ request. request ≡ Cover found.field-0) (codes "cover")
-    (c.get.ensures ∙ ap Some c.in-cover.is) (λ x asks. ap Cover (found.ensures.one x asks))
+    (c.get.ensures ∙ ap Some c.in-cover.is) (λ x asks. ap Cover (one x asks))
 
-pub returns-in_err-cover_of-in-cover-clause-nothing : goal.returns-in_err-cover_of-in-cover-clause-nothing
-returns-in_err-cover_of-in-cover-clause-nothing c =
-    if_none c.from_residual-in_err-cover_of-in-cover.result
-    (by_first c.args.words.now (λ request. ⊥) (codes "cover") (c.get.ensures ∙ ap Some c.in-cover.is)
-    c.in_err-cover_of-in-cover.ensures.nothing)
+pub returns-in_err-replay_of-in-cover-clause-nothing : goal.returns-in_err-replay_of-in-cover-clause-nothing
+returns-in_err-replay_of-in-cover-clause-nothing c =
+    if_none c.from_residual-in_err-replay_of-in-cover.result
+    (by_first c.args.words.now (λ request. ⊥) (codes "cover")
+    (c.get.ensures ∙ ap Some c.in-cover.is)
+    (c.in_err-replay_of-in-cover.ensures.nothing (codes "cover")))
 
-pub returns-in_ok-lint_of-in-lint-clause-one : goal.returns-in_ok-lint_of-in-lint-clause-one
-returns-in_ok-lint_of-in-lint-clause-one c =
-    let found = c.in_ok-lint_of-in-lint in
+pub returns-in_ok-net_of-in-lint-clause-one : goal.returns-in_ok-net_of-in-lint-clause-one
+returns-in_ok-net_of-in-lint-clause-one c =
+    let found = c.in_ok-net_of-in-lint in
+    let one = found.ensures.one (codes "lint") in
     by_first c.args.words.now (λ request. request ≡ Lint found.field-0) (codes "lint")
-    (c.get.ensures ∙ ap Some c.in-lint.is) (λ x asks. ap Lint (found.ensures.one x asks))
+    (c.get.ensures ∙ ap Some c.in-lint.is) (λ x asks. ap Lint (one x asks))
 
-pub returns-in_err-lint_of-in-lint-clause-nothing : goal.returns-in_err-lint_of-in-lint-clause-nothing
-returns-in_err-lint_of-in-lint-clause-nothing c =
-    if_none c.from_residual-in_err-lint_of-in-lint.result
+pub returns-in_err-net_of-in-lint-clause-nothing : goal.returns-in_err-net_of-in-lint-clause-nothing
+returns-in_err-net_of-in-lint-clause-nothing c =
+    if_none c.from_residual-in_err-net_of-in-lint.result
     (by_first c.args.words.now (λ request. ⊥) (codes "lint") (c.get.ensures ∙ ap Some c.in-lint.is)
-    c.in_err-lint_of-in-lint.ensures.nothing)
+    (c.in_err-net_of-in-lint.ensures.nothing (codes "lint")))
 
 pub returns-in_ok-shuffle_of-in-shuffle-clause-one : goal.returns-in_ok-shuffle_of-in-shuffle-clause-one
 returns-in_ok-shuffle_of-in-shuffle-clause-one c =
@@ -291,5 +311,6 @@ returns-in_ok-shuffle_of-in-shuffle-clause-one c =
 pub returns-in_err-shuffle_of-in-shuffle-clause-nothing : goal.returns-in_err-shuffle_of-in-shuffle-clause-nothing
 returns-in_err-shuffle_of-in-shuffle-clause-nothing c =
     if_none c.from_residual-in_err-shuffle_of-in-shuffle.result
-    (by_first c.args.words.now (λ request. ⊥) (codes "shuffle") (c.get.ensures ∙ ap Some c.in-shuffle.is)
+    (by_first c.args.words.now (λ request. ⊥) (codes "shuffle")
+    (c.get.ensures ∙ ap Some c.in-shuffle.is)
     c.in_err-shuffle_of-in-shuffle.ensures.nothing)

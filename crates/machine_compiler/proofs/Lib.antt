@@ -2,6 +2,7 @@ pub mod DistinctItems
 pub mod RightParts
 pub mod CutAtByte
 pub mod IsLabel
+pub mod OneRightPart
 pub mod ListingDeterminesParts
 pub mod SameLines
 pub mod HasPlaces

@@ -10,6 +10,12 @@ use std::alloc::Global;
 use task_code::push_listing;
 use transition_table::Network;
 
+/// The first line of a listing.
+pub(crate) const LISTING_HEAD: &[u8] = b"polis listing 1\n";
+
+/// The last line of a listing.
+pub(crate) const LISTING_END: &[u8] = b"end\n";
+
 // Adds the part of a compiled machine to a listing.
 pub(crate) fn push_part(
     alloc: Global,
@@ -45,11 +51,11 @@ pub fn print_listing(
     ensures { IfOk result (λ text. text ≡ ListingText net.now (parts_of compiled.now)) }
 {
     let mut text = Bytes::new(alloc);
-    text.push(b"polis listing 1\n")?;
+    text.push(LISTING_HEAD)?;
     let count = net.machines.len().min(compiled.len());
     for k in 0..count {
         push_part(alloc, net, k as u32, compiled.get(k), &mut text)?;
     }
-    text.push(b"end\n")?;
+    text.push(LISTING_END)?;
     Ok(text)
 }

@@ -10,7 +10,7 @@ ghost use Rattle.machine_compiler.specs.Texts.{AreTexts};
 use crate::compiled::Compiled;
 use crate::compiling::compile_machine;
 use crate::lines::push_lengths_line;
-use crate::listing::push_part;
+use crate::listing::{LISTING_END, LISTING_HEAD, push_part};
 use polis_base::{Bytes, NoMemory};
 use std::alloc::Global;
 use transition_table::{Machine, Network};
@@ -52,7 +52,7 @@ pub fn compile_texts(alloc: Global, net: &Network) -> Result<Texts, NoMemory>
     ensures { IfOk result (AreTexts net.now) }
 {
     let mut listing = Bytes::new(alloc);
-    listing.push(b"polis listing 1\n")?;
+    listing.push(LISTING_HEAD)?;
     let mut lengths = Bytes::new(alloc);
     for k in 0..net.machines.len() {
         let machine = net.machines.get(k);
@@ -67,6 +67,6 @@ pub fn compile_texts(alloc: Global, net: &Network) -> Result<Texts, NoMemory>
             &mut lengths,
         )?;
     }
-    listing.push(b"end\n")?;
+    listing.push(LISTING_END)?;
     Ok(Texts { listing, lengths })
 }

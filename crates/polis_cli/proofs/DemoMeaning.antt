@@ -13,12 +13,10 @@ pub demo_lawful : (demo : DemoWords) → IsLawful (demo_meaning demo)
 demo_lawful demo = record {
   made_accepts = λ files product m. tt;
   made_finds = λ files product status m found. found;
-  refused = λ files name cause h s. inl (λ all. h);
+  refused = λ files name cause h s all. h;
   found = λ files name cause h f. absurd h;
   found_accepts = λ files status h. absurd h;
   found_ends = λ files status h. absurd h;
-  refuse_finds = λ files status h. absurd h;
-  refuse_ends = λ files h. absurd h;
   found_once = λ files s t h k. absurd h;
 }
 

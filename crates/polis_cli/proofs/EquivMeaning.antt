@@ -121,14 +121,12 @@ equiv_lawful equiv = record {
   made_accepts = λ files product m. (m.net, m.other, m.holds);
   made_finds = λ files product status m found.
       (differing_is (AreDiffering equiv) files status found).1.differ m.net m.other m.holds m.same;
-  refused = λ files name cause h s. inl (equiv_refused files equiv name cause s h);
+  refused = λ files name cause h s. equiv_refused files equiv name cause s h;
   found = λ files name cause h f. found_differing files equiv name cause h f;
   found_accepts = λ files status found.
       (differing_is (AreDiffering equiv) files status found).1.accepted;
   found_ends = λ files status found.
       ap ends_compared (differing_is (AreDiffering equiv) files status found).0;
-  refuse_finds = λ files status h. absurd h;
-  refuse_ends = λ files h. absurd h;
   found_once = λ files s t h k.
       (differing_is (AreDiffering equiv) files s h).0
       ∙ sym (differing_is (AreDiffering equiv) files t k).0;

@@ -1,5 +1,6 @@
 -- What `image` means.
-use Rattle.std.proofs.Common.{◌≡◌, ◌⊎◌, inl, inr, ℕ, true, zero, suc, List, [], ◌∷◌, slice_get, Option, Some, refl, ap, sym, subst, ◌∙◌, IsTrue}
+use Rattle.std.proofs.Common.{◌≡◌, ◌⊎◌, ◌≤◌, inl, inr, ℕ, true, zero, suc, List, [], ◌∷◌, length, slice_get, Option, Some, refl, ap, sym, subst, ◌∙◌, IsTrue, arith}
+use Rattle.polis_base.specs.declared.limits.TheConstants.{LONG_FILE_MAX}
 use Rattle.std.proofs.lemmas.List.{length-map}
 use Rattle.polis_base.specs.Host.{Files, WhereTold}
 use Rattle.transition_table.specs.declared.network.Network.{Network}
@@ -7,6 +8,7 @@ use Rattle.net_rules.specs.Whole.{HasMachines}
 use Rattle.task_code.specs.declared.instr.Instr.{Instr}
 use Rattle.task_code.specs.Listings.{Part}
 use Rattle.machine_compiler.specs.Parts.{AreRightParts, codes_in}
+use Rattle.task_image.specs.Fields.{ImageBytes}
 use Rattle.task_image.specs.Images.{AreStorable, IsCodeOf}
 use Rattle.polis_words.specs.declared.cause.Cause.{Cause}
 use Rattle.polis_words.specs.declared.cause.Cause.TheVariants.{ImageLong}
@@ -16,8 +18,8 @@ use Rattle.polis_words.specs.declared.status.Status.TheVariants.{Refused}
 use Rattle.polis_words.specs.NetStem.{NetStemWords}
 use Rattle.polis_words.specs.Lines.{cause_status}
 use Rattle.output_files.specs.declared.product.Product.{Product}
-use Rattle.polis_cli.specs.Image.{MayBeTooLong, FailsImage, image_product, image_meaning}
-use Rattle.input_files.specs.Inputs.{HoldsNet, NetFails, AcceptsNet}
+use Rattle.polis_cli.specs.Image.{HasShortImage, FailsImage, image_of_parts, image_product, image_meaning}
+use Rattle.input_files.specs.Inputs.{HoldsNet, NetFails}
 use Rattle.input_files.specs.Failures.{is_finding, is_failure, FileFails}
 use Rattle.polis_cli.specs.inner.Image.{IsImageProduct, IsLongImage}
 use Rattle.polis_cli.specs.inner.Lawful.{IsLawful}
@@ -25,13 +27,25 @@ use Rattle.polis_cli.specs.inner.Made.{IsMadeProduct, IsMadeFailure}
 use Rattle.polis_base.proofs.WhereTold.{told_from}
 use Rattle.input_files.proofs.InputsFail.{net_refused, net_unfound}
 use Rattle.polis_cli.proofs.IsMade.{product_made, none_told}
+use Rattle.polis_cli.proofs.OneNet.{one_held_net}
+use Rattle.machine_compiler.proofs.OneRightPart.{one_right_parts}
 
 image_refused : (image : NetStemWords) (files : Files) (name : List ℕ) (cause : Cause)
     → FailsImage image files name cause → cause_status cause ≡ Refused
-    → (¬ AcceptsNet image.net files) ⊎ MayBeTooLong image files
-image_refused image files name cause (same, inl h) s =
-    inl (λ all. net_refused files image.net cause all.0 s h all.1)
-image_refused image files name cause (same, inr h) s = inr h.1
+    → ¬ HasShortImage image files
+image_refused image files name cause (same, inl h) s all =
+    net_refused files image.net cause all.net s h all.holds_net
+image_refused image files name cause (same, inr h) s all =
+    let net = one_held_net files files image.net all.net h.1.net refl all.holds_net h.1.holds_net in
+    let parts = one_right_parts all.net all.parts h.1.parts all.holds_net.accepted.1 all.right
+    (subst (λ (n : Network). AreRightParts n h.1.parts) (sym net) h.1.right) in
+    let same_length : length (ImageBytes (image_of_parts all.net all.parts))
+    ≡ length (ImageBytes (image_of_parts h.1.net h.1.parts)) =
+    ap (λ (q : List Part). length (ImageBytes (image_of_parts all.net q))) parts
+    ∙ ap (λ (n : Network). length (ImageBytes (image_of_parts n h.1.parts))) net in
+    let short = all.long in
+    let long = h.1.long in
+    omega arith
 
 image_unfound : (image : NetStemWords) (files : Files) (name : List ℕ) (cause : Cause)
     → IsTrue (is_finding (cause_status cause)) → ¬ FailsImage image files name cause
@@ -42,14 +56,19 @@ image_unfound image files name cause f (same, inr h) =
 
 pub image_lawful : (image : NetStemWords) → IsLawful (image_meaning image)
 image_lawful image = record {
-  made_accepts = λ files product m. (m.net, m.holds_net);
+  made_accepts = λ files product m. record {
+    net = m.net;
+    holds_net = m.holds_net;
+    parts = m.parts;
+    right = m.right;
+    long = subst (λ (bytes : List ℕ). length bytes ≤ LONG_FILE_MAX) m.are_bytes.bytes_are
+        m.within;
+  };
   made_finds = λ files product status m found. found;
   refused = λ files name cause h s. image_refused image files name cause h s;
   found = λ files name cause h f. absurd (image_unfound image files name cause f h);
   found_accepts = λ files status h. absurd h;
   found_ends = λ files status h. absurd h;
-  refuse_finds = λ files status may found. found;
-  refuse_ends = λ files may. refl;
   found_once = λ files s t h k. absurd h;
 }
 
@@ -100,7 +119,7 @@ too_long o image net name ImageLong more same held (parts, right, long) none = (
           record { net = net; holds_net = h; parts = parts; right = right; long = long },
         ),
       )) held,
-  inl refl,
+  inr refl,
   none_told (image_meaning image) o name ImageLong more (λ told name cause. refl) none,
 )
 too_long o image net name other more same held h none = absurd h

@@ -16,12 +16,10 @@ pub inputs_lawful : (detail : Detail) (net trace : List ℕ) (makes : Files → 
 inputs_lawful detail net trace makes ends accepted = record {
   made_accepts = accepted;
   made_finds = λ files product status m found. found;
-  refused = λ files name cause h s. inl (λ all. inputs_refused files net trace name cause all.0
-      all.1 s h all.2 all.3);
+  refused = λ files name cause h s all. inputs_refused files net trace name cause all.0 all.1 s h
+      all.2 all.3;
   found = λ files name cause h f. absurd (inputs_unfound files net trace name cause f h);
   found_accepts = λ files status h. absurd h;
   found_ends = λ files status h. absurd h;
-  refuse_finds = λ files status h. absurd h;
-  refuse_ends = λ files h. absurd h;
   found_once = λ files s t h k. absurd h;
 }

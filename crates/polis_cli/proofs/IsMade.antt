@@ -109,10 +109,10 @@ cases_of (failures.File name cause more) = of_cause cause
     of_cause OtherShape = inl refl
     of_cause (TablesDiffer text) = inr (inr (inr refl))
 
--- files that are refused aren't accepted, or may be refused all the same
+-- files that are refused aren't accepted
 pub refuses : (m : Meaning) → IsLawful m → (files : Files) (failure : Failure)
     → status_of failure ≡ Refused → FailsAs m files failure
-    → (¬ m.accepts files) ⊎ m.may_refuse files
+    → ¬ m.accepts files
 refuses m law files failures.NoMemory s h = cc
 refuses m law files (failures.File name cause more) s h = law.refused files name.now cause h s
 

@@ -14,11 +14,9 @@ pub net_lawful : (detail : Detail) (net : List ℕ) (makes : Files → Product �
 net_lawful detail net makes accepted = record {
   made_accepts = accepted;
   made_finds = λ files product status m found. found;
-  refused = λ files name cause h s. inl (λ all. net_refused files net cause all.0 s h.1 all.1);
+  refused = λ files name cause h s all. net_refused files net cause all.0 s h.1 all.1;
   found = λ files name cause h f. absurd (net_unfound files net cause f h.1);
   found_accepts = λ files status h. absurd h;
   found_ends = λ files status h. absurd h;
-  refuse_finds = λ files status h. absurd h;
-  refuse_ends = λ files h. absurd h;
   found_once = λ files s t h k. absurd h;
 }

@@ -122,15 +122,14 @@ module _ (o : Option Files) (words : List (List ℕ)) (request : Request) (failu
   -- what failed is why it is refused
   pub refused_only : status ≡ Refused
       → WhereTold o (λ files. (other : Request) → Asks words other
-      → (¬ (meaning other).accepts files) ⊎ (meaning other).may_refuse files)
+      → ¬ (meaning other).accepts files)
   refused_only is = by_case s
     where
       by_case : HasStatus failure status → WhereTold o (λ files. (other : Request)
-          → Asks words other
-          → (¬ (meaning other).accepts files) ⊎ (meaning other).may_refuse files)
+          → Asks words other → ¬ (meaning other).accepts files)
       by_case (inl e) =
           of_request o words request (λ files. FailsAs (meaning request) files failure)
-          (λ m files. (¬ m.accepts files) ⊎ m.may_refuse files) one
+          (λ m files. ¬ m.accepts files) one
           (λ files h. refuses (meaning request) (lawful request) files failure (sym e ∙ is) h)
           failing
       by_case (inr e) = let h = sym e ∙ is in cc
@@ -176,18 +175,8 @@ module _ (o : Option Files) (words : List (List ℕ)) (request : Request) (failu
 
   -- files of which something is found are accepted, and aren't refused
   unfound : (files : Files) (finding : Status) → (meaning request).finds finding files
-      → ¬ ((¬ (meaning request).accepts files) ⊎ (meaning request).may_refuse files)
-  unfound files finding found (inl none) =
-      none ((lawful request).found_accepts files finding found)
-  unfound files finding found (inr may) =
-      (lawful request).refuse_finds files finding may found
-
-  -- where accepted files may be refused, that is one of the command's statuses
-  may_end : (files : Files) → (meaning request).accepts files
-      → (¬ (meaning request).accepts files) ⊎ (meaning request).may_refuse files
-      → IsTrue ((meaning request).ends Refused)
-  may_end files all (inl none) = absurd (none all)
-  may_end files all (inr may) = (lawful request).refuse_ends files may
+      → ¬ ¬ (meaning request).accepts files
+  unfound files finding found none = none ((lawful request).found_accepts files finding found)
 
   -- where something is found of files no other file fails
   pub found_there : (finding : Status) → WhereTold o (λ files. (other : Request) → Asks words other
@@ -235,8 +224,7 @@ module _ (o : Option Files) (words : List (List ℕ)) (request : Request) (failu
           ⊎ (status ≡ NoMemory)
       by_case files h all which (inr wanting) = inr (inr (inr wanting))
       by_case files h all (inl e) (inl is) =
-          inl (subst (λ (t : Status). IsTrue ((meaning request).ends t)) (sym (is ∙ e))
-          (may_end files all (refuses (meaning request) (lawful request) files failure e h)))
+          absurd (refuses (meaning request) (lawful request) files failure e h all)
       by_case files h all (inr (inl e)) (inl is) = inr (inr (inl (is ∙ e)))
       by_case files h all (inr (inr (inl e))) (inl is) = inr (inr (inr (is ∙ e)))
       by_case files h all (inr (inr (inr e))) (inl is) =

@@ -124,12 +124,10 @@ judging_lawful detail replay makes held = record {
   made_finds = λ files product status m.
       let h = held files product m in
       judged_legal files replay h.0 h.1 h.2 h.3 status h.4;
-  refused = λ files name cause h s. inl (replay_refused files replay name cause s h);
+  refused = λ files name cause h s. replay_refused files replay name cause s h;
   found = λ files name cause h f. found_illegal files replay name cause h f;
   found_accepts = λ files status. found_accepts files replay status;
   found_ends = found_ends (IsIllegalReplay replay);
-  refuse_finds = λ files status h. absurd h;
-  refuse_ends = λ files h. absurd h;
   found_once = found_once (IsIllegalReplay replay);
 }
 

@@ -71,12 +71,10 @@ run_lawful run = record {
     image = accepts_image run.image files m.net m.tasks m.are_tasks;
   };
   made_finds = λ files product status m found. found;
-  refused = λ files name cause h s. inl (run_refused files run name cause s h);
+  refused = λ files name cause h s. run_refused files run name cause s h;
   found = λ files name cause h f. absurd (run_unfound files run name cause f h);
   found_accepts = λ files status h. absurd h;
   found_ends = λ files status h. absurd h;
-  refuse_finds = λ files status h. absurd h;
-  refuse_ends = λ files h. absurd h;
   found_once = λ files s t h k. absurd h;
 }
 

@@ -1,44 +1,25 @@
 -- The texts that a run saves determine its journal and its compiled machines.
-use Rattle.std.proofs.Common.{◌≡◌, ◌≤◌, ℕ, List, [], ◌∷◌, Option, Some, None, IsTrue, sym, ap, subst, ◌∙◌, arith}
+use Rattle.std.proofs.Common.{◌≡◌, ◌≤◌, ℕ, List, [], ◌∷◌, sym, ap, subst, ◌∙◌, arith}
 use Rattle.polis_base.specs.declared.limits.TheConstants.{ENTRIES_MAX}
 use Rattle.transition_table.specs.declared.network.Network.{Network}
 use Rattle.journals.specs.Stamps.{least}
 use Rattle.journals.proofs.LeastStamps.{least_is_rising}
 use Rattle.journal_text.specs.Texts.{AreStamps}
 use Rattle.journal_text.specs.Laws.{OneStampedJournal, Prints}
-use Rattle.journal_text.specs.Holding.{names_hold}
-use Rattle.machine_compiler.proofs.ListingDeterminesParts.{listing_determines}
 use Rattle.polis_base.specs.Host.{Files}
 use Rattle.polis_words.specs.Run.{RunWords}
 use Rattle.output_files.specs.declared.product.Product.{Product}
-use Rattle.polis_cli.specs.declared.run_result.RunResult.{RunResult}
-use Rattle.polis_cli.specs.Run.{MakesRun, SavesDetermineRun, RunsTasks, Tasks, Compiled, Given, journal_of, run_product}
+use Rattle.polis_cli.specs.Run.{MakesRun, SavesDetermineRun, RunsTasks, journal_of}
 use Rattle.output_files.specs.Saves.{Save}
 use Rattle.polis_cli.proofs.Accepted.{names_hold_accepted}
 use Rattle.polis_cli.proofs.IsJudged.{rising_stamps}
+use Rattle.polis_cli.proofs.OneProduct.{one_tasks}
 
--- the texts of the second and of the third save
+-- the text of the second save
 second_text : List Save → List ℕ
 second_text [] = []
 second_text (save ∷ []) = []
 second_text (save ∷ next ∷ saves) = next.text
-
-third_text : List Save → List ℕ
-third_text [] = []
-third_text (save ∷ saves) = second_text saves
-
--- the tasks of a run that names no image, by its listing
-same_tasks : (named : Option (List ℕ)) (before now : Files) (net : Network) (run : RunWords)
-    (one other : RunResult) (s t : Tasks) → named ≡ None → IsTrue (names_hold net)
-    → RunsTasks named before net s → RunsTasks named now net t
-    → third_text (run_product run net one s).saves ≡ third_text (run_product run net other t).saves
-    → s ≡ t
-unfolding second_text third_text
-same_tasks None before now net run one other (Compiled p) (Compiled q) none hold a b e =
-    ap Compiled (listing_determines net p q hold a b e)
-same_tasks None before now net run one other (Compiled p) (Given c) none hold a b e = absurd b
-same_tasks None before now net run one other (Given c) t none hold a b e = absurd a
-same_tasks (Some name) before now net run one other s t none hold a b e = cc
 
 prints : (run : RunWords) (files : Files) (p : Product) (a : MakesRun run files p)
     → run.limit ≤ ENTRIES_MAX → Prints a.net a.ran.journal
@@ -55,14 +36,12 @@ has_stamps run files p a few = let within = a.is_ran.is.within in
     (least_is_rising a.net a.ran.journal (omega (arith, within, few)))
 
 pub one_run : OneStampedJournal → SavesDetermineRun
-unfolding second_text third_text
+unfolding second_text
 one_run one = λ run before now p q a b net few same.
     let saves = sym (ap (λ (r : Product). r.saves) a.made) ∙ same
     ∙ ap (λ (r : Product). r.saves) b.made in
     let texts : journal_of a.net a.ran ≡ journal_of a.net b.ran =
     ap second_text saves ∙ ap (λ (n : Network). journal_of n b.ran) (sym net) in
-    let listings = ap third_text saves
-    ∙ ap (λ (n : Network). third_text (run_product run n b.ran b.tasks).saves) (sym net) in
     let printed = subst (λ (n : Network). Prints n b.ran.journal) (sym net)
     (prints run now q b few) in
     let stamped = subst (λ (n : Network). AreStamps b.ran.journal (least n b.ran.journal)) (sym net)
@@ -73,7 +52,6 @@ one_run one = λ run before now p q a b net few same.
     (has_stamps run before p a few) stamped texts in (
       found.0,
       found.2,
-      λ none. same_tasks run.image before now a.net run a.ran b.ran a.tasks b.tasks none
-          (names_hold_accepted a.holds_net.text a.net a.holds_net.accepted) a.are_tasks tasks
-          listings,
+      λ none. one_tasks run.image before now a.net a.tasks b.tasks none a.holds_net.accepted.1
+          a.are_tasks tasks,
     )

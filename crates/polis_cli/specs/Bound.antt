@@ -1,5 +1,5 @@
 -- What `bound` makes.
-use Rattle.std.specs.Prelude.{◌≡◌, ℕ, true, List, length, slice_get, Some}
+use Rattle.std.specs.Prelude.{◌≡◌, ℕ, List, length, slice_get, Some}
 use Rattle.polis_base.specs.Host.{Files}
 use Rattle.transition_table.specs.declared.machine.Machine.{Machine}
 use Rattle.transition_table.specs.declared.network.Network.{Network}

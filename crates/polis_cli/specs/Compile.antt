@@ -1,12 +1,11 @@
 -- What `compile` makes.
-use Rattle.std.specs.Prelude.{◌≡◌, true, List}
+use Rattle.std.specs.Prelude.{◌≡◌, List}
 use Rattle.polis_base.specs.Host.{Files}
 use Rattle.transition_table.specs.declared.network.Network.{Network}
 use Rattle.task_code.specs.Listings.{Part, ListingText}
 use Rattle.machine_compiler.specs.Parts.{AreRightParts}
 use Rattle.machine_compiler.specs.Lines.{lengths_text}
-use Rattle.polis_words.specs.NetStem.{NetStemWords}
-use Rattle.polis_words.specs.Compile.{compiled_name}
+use Rattle.polis_words.specs.NetStem.{NetStemWords, compiled_name}
 use Rattle.output_files.specs.declared.product.Product.{Product}
 use Rattle.input_files.specs.Inputs.{HoldsNet}
 use Rattle.output_files.specs.Products.{saves_one}

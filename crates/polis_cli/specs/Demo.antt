@@ -14,7 +14,7 @@ use Rattle.output_files.specs.declared.product.Product.{Product}
 use Rattle.output_files.specs.Products.{shows_only}
 use Rattle.polis_cli.specs.declared.run_result.RunResult.{RunResult}
 use Rattle.input_files.specs.Accepted.{Accepted}
-use Rattle.polis_cli.specs.Meanings.{Meaning, never_refused, finds_nothing, ends_done}
+use Rattle.polis_cli.specs.Meanings.{Meaning, finds_nothing, ends_done}
 use Rattle.input_files.specs.Failures.{explains_nothing}
 use Rattle.polis_cli.specs.Run.{IsRan, Compiled, run_text}
 
@@ -47,7 +47,6 @@ demo_meaning demo = record {
   finds = finds_nothing;
   fails = λ files name cause. ⊥;
   explains = explains_nothing;
-  may_refuse = never_refused;
   ends = ends_done;
   reads = false;
 }

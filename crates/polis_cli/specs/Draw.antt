@@ -6,8 +6,7 @@ use Rattle.task_code.specs.Listings.{Part}
 use Rattle.graph_drawing.specs.Drawings.{DrawingText}
 use Rattle.machine_compiler.specs.Parts.{AreRightParts, graphs_in}
 use Rattle.machine_compiler.specs.Lines.{lengths_text}
-use Rattle.polis_words.specs.NetStem.{NetStemWords}
-use Rattle.polis_words.specs.Draw.{drawing_name}
+use Rattle.polis_words.specs.NetStem.{NetStemWords, drawing_name}
 use Rattle.output_files.specs.declared.product.Product.{Product}
 use Rattle.input_files.specs.Inputs.{HoldsNet}
 use Rattle.output_files.specs.Products.{saves_one}

@@ -14,7 +14,7 @@ use Rattle.polis_words.specs.Texts.{machine_snapshot_text, same_text}
 use Rattle.output_files.specs.declared.product.Product.{Product}
 use Rattle.output_files.specs.Products.{shows_only}
 use Rattle.input_files.specs.Inputs.{HoldsNet, NetFails, OnlyNetFails}
-use Rattle.polis_cli.specs.Meanings.{Meaning, finds_differing, never_refused, ends_compared}
+use Rattle.polis_cli.specs.Meanings.{Meaning, finds_differing, ends_compared}
 use Rattle.input_files.specs.Failures.{explains_nothing}
 
 -- the files hold two networks of one shape
@@ -85,7 +85,6 @@ equiv_meaning equiv = record {
   finds = finds_differing (AreDiffering equiv);
   fails = FailsEquiv equiv;
   explains = explains_nothing;
-  may_refuse = never_refused;
   ends = ends_compared;
   reads = true;
 }

@@ -11,13 +11,12 @@ use Rattle.task_image.specs.Fields.{ImageBytes}
 use Rattle.task_image.specs.Images.{image_of}
 use Rattle.polis_words.specs.declared.cause.Cause.{Cause}
 use Rattle.polis_words.specs.declared.cause.Cause.TheVariants.{ImageLong}
-use Rattle.polis_words.specs.NetStem.{NetStemWords}
-use Rattle.polis_words.specs.Image.{image_name}
+use Rattle.polis_words.specs.NetStem.{NetStemWords, image_name}
 use Rattle.polis_words.specs.Texts.{image_text}
 use Rattle.output_files.specs.declared.product.Product.{Product}
-use Rattle.input_files.specs.Inputs.{HoldsNet, AcceptsNet, NetFails}
+use Rattle.input_files.specs.Inputs.{HoldsNet, NetFails}
 use Rattle.output_files.specs.Products.{saves_one}
-use Rattle.polis_cli.specs.Meanings.{Meaning, finds_nothing, ends_done_or_refused}
+use Rattle.polis_cli.specs.Meanings.{Meaning, finds_nothing, ends_done}
 use Rattle.input_files.specs.Failures.{explains_nothing}
 
 -- the image of a network's machines: the name and sizes of each, with the code that it was compiled
@@ -42,28 +41,35 @@ pub record MakesImage (image : NetStemWords) (files : Files) (product : Product)
   pub within : length bytes ≤ LONG_FILE_MAX
   pub made : product ≡ image_product image bytes
 
--- The file holds a network that is accepted, and the image of some right parts of it is longer than
--- a file may be. Right parts aren't unique, so this is a fact of those that were made.
-pub record MayBeTooLong (image : NetStemWords) (files : Files) : Type 0 where
+-- The file holds a network that is accepted, and P holds of the length of its image. A network has
+-- one list of right parts, and so one image.
+pub record HasImage (image : NetStemWords) (files : Files) (P : ℕ → Type 0) : Type 0 where
   pub net : Network
   pub holds_net : HoldsNet files image.net net
   pub parts : List Part
   pub right : AreRightParts net parts
-  pub long : LONG_FILE_MAX < length (ImageBytes (image_of_parts net parts))
+  pub long : P (length (ImageBytes (image_of_parts net parts)))
+
+-- the image is no longer than a file may be
+abbrev pub HasShortImage : NetStemWords → Files → Type 0
+HasShortImage image files = HasImage image files (λ n. n ≤ LONG_FILE_MAX)
+
+-- it is longer
+abbrev pub HasLongImage : NetStemWords → Files → Type 0
+HasLongImage image files = HasImage image files (λ n. LONG_FILE_MAX < n)
 
 -- why the file of an image fails: the network does, or its image is too long
 abbrev pub FailsImage : NetStemWords → Files → List ℕ → Cause → Type 0
 FailsImage image files name cause = (name ≡ image.net)
-    × (NetFails files image.net cause ⊎ ((cause ≡ ImageLong) × MayBeTooLong image files))
+    × (NetFails files image.net cause ⊎ ((cause ≡ ImageLong) × HasLongImage image files))
 
 abbrev pub image_meaning : NetStemWords → Meaning
 image_meaning image = record {
   makes = MakesImage image;
-  accepts = AcceptsNet image.net;
+  accepts = HasShortImage image;
   finds = finds_nothing;
   fails = FailsImage image;
   explains = explains_nothing;
-  may_refuse = MayBeTooLong image;
-  ends = ends_done_or_refused;
+  ends = ends_done;
   reads = true;
 }

@@ -4,7 +4,7 @@ use Rattle.polis_base.specs.declared.limits.TheConstants.{TEXT_MAX}
 use Rattle.polis_base.specs.Host.{Files}
 use Rattle.polis_words.specs.declared.cause.Cause.{Cause}
 use Rattle.polis_words.specs.declared.status.Status.{Status}
-use Rattle.polis_words.specs.declared.status.Status.TheVariants.{Done, Refused, Illegal, Differ}
+use Rattle.polis_words.specs.declared.status.Status.TheVariants.{Done, Illegal, Differ}
 use Rattle.output_files.specs.declared.product.Product.{Product}
 use Rattle.input_files.specs.Details.{explains_in}
 use Rattle.input_files.specs.Failures.{is_failure}
@@ -15,7 +15,8 @@ use Rattle.input_files.specs.declared.load.Detail.{Detail}
 pub record Meaning : Type 1 where
   -- The product is one that it makes of the files.
   pub makes : Files → Product → Type 0
-  -- The files that it reads are held, within their limits, and accepted.
+  -- The files that it reads are held, within their limits, and accepted, and what it would save of
+  -- them is no longer than a file may be.
   pub accepts : Files → Type 0
   -- They are accepted, and what is found of them ends it with this status in place of a product.
   pub finds : Status → Files → Type 0
@@ -25,8 +26,6 @@ pub record Meaning : Type 1 where
   -- Where the file of this name fails so, this is shown after the line of the cause, by what is told
   -- of the files.
   pub explains : Option Files → List ℕ → Cause → List ℕ → Type 0
-  -- They are accepted, and yet it may be refused, as what it would save may be too long.
-  pub may_refuse : Files → Type 0
   -- Where its files are accepted it ends with this status, but for faults and running out of
   -- memory.
   pub ends : Status → Bool
@@ -47,10 +46,6 @@ abbrev pub finds_differing : (Files → Type 0) → Status → Files → Type 0
 finds_differing P Differ files = P files
 finds_differing P other files = ⊥
 
--- no command whose files are accepted is refused
-abbrev pub never_refused : Files → Type 0
-never_refused files = ⊥
-
 -- the one status of a command that only shows or saves what it made
 abbrev pub ends_done : Status → Bool
 ends_done Done = true
@@ -68,12 +63,6 @@ ends_compared Done = true
 ends_compared Differ = true
 ends_compared other = false
 
--- the statuses of a command that may be refused though its files are accepted
-abbrev pub ends_done_or_refused : Status → Bool
-ends_done_or_refused Done = true
-ends_done_or_refused Refused = true
-ends_done_or_refused other = false
-
 -- the command may end with this status, whatever the files hold
 abbrev pub MayEnd : Meaning → Status → Type 0
 MayEnd m status = IsTrue (m.ends status) ⊎ IsTrue (is_failure m.reads status)
@@ -87,7 +76,6 @@ net_meaning detail net makes = record {
   finds = finds_nothing;
   fails = OnlyNetFails net;
   explains = explains_in detail TEXT_MAX;
-  may_refuse = never_refused;
   ends = ends_done;
   reads = true;
 }
@@ -102,7 +90,6 @@ inputs_meaning detail net trace makes ends = record {
   finds = finds_nothing;
   fails = λ files. InputsFail files net trace;
   explains = explains_in detail TEXT_MAX;
-  may_refuse = never_refused;
   ends = ends;
   reads = true;
 }

@@ -1,13 +1,12 @@
 -- What `migrate` makes of a journal.
-use Rattle.std.specs.Prelude.{◌≡◌, Bool, true, List, length}
+use Rattle.std.specs.Prelude.{◌≡◌, Bool, List, length}
 use Rattle.polis_base.specs.Host.{Files}
 use Rattle.transition_table.specs.declared.network.Network.{Network}
 use Rattle.journals.specs.declared.entry.Entry.{Entry}
 use Rattle.journals.specs.declared.entry.TraceItem.{TraceItem}
 use Rattle.journals.specs.Stamps.{least}
 use Rattle.journal_text.specs.Texts.{stamped_journal_text}
-use Rattle.polis_words.specs.ReplayStem.{ReplayStemWords}
-use Rattle.polis_words.specs.Migrate.{migrated_name}
+use Rattle.polis_words.specs.ReplayStem.{ReplayStemWords, migrated_name}
 use Rattle.polis_words.specs.Texts.{migrated_text}
 use Rattle.output_files.specs.declared.product.Product.{Product}
 use Rattle.output_files.specs.Products.{saves_one}

@@ -59,10 +59,9 @@ pub record Answers (status : Status) (words : List (List ℕ)) (old new : Outsid
   pub read_fault : status ≡ ReadFault → Rose old.load_faults new.load_faults
   pub no_read_fault : status ≢ ReadFault → status ≢ NoMemory → new.load_faults ≡ old.load_faults
   pub write_fault : status ≡ WriteFault → WriteFailed old new
-  -- Refused exactly where a file isn't held, is too long or isn't accepted, but for a failed load
-  -- and running out of memory, and but for what a command would save and may be too long.
-  pub refused_only : status ≡ Refused → OfRequest words old (λ m before.
-      (¬ m.accepts before) ⊎ m.may_refuse before)
+  -- Refused exactly where a file isn't held, is too long or isn't accepted, or what the command
+  -- would save is too long, but for a failed load and running out of memory.
+  pub refused_only : status ≡ Refused → OfRequest words old (λ m before. ¬ m.accepts before)
   pub refused_there : OfRequest words old (λ m before. ¬ m.accepts before
       → (status ≡ Refused) ⊎ IsCut status)
   -- Illegal, as each status of a finding, exactly where that is found of the files, but for a

@@ -12,7 +12,7 @@ use Rattle.output_files.specs.declared.product.Product.{Product}
 use Rattle.output_files.specs.Products.{shows_only}
 use Rattle.input_files.specs.Inputs.{HoldsNet, HoldsTrace, InputsFail}
 use Rattle.input_files.specs.JournalFiles.{HoldsJournal, JournalFails, LegalAndRising}
-use Rattle.polis_cli.specs.Meanings.{Meaning, never_refused, finds_illegal, ends_judged}
+use Rattle.polis_cli.specs.Meanings.{Meaning, finds_illegal, ends_judged}
 use Rattle.input_files.specs.Details.{explains_replay}
 use Rattle.input_files.specs.declared.load.Detail.{Detail}
 
@@ -78,7 +78,6 @@ judging_meaning detail replay makes = record {
   finds = finds_illegal (IsIllegalReplay replay);
   fails = FailsReplay replay;
   explains = explains_replay detail replay;
-  may_refuse = never_refused;
   ends = ends_judged;
   reads = true;
 }

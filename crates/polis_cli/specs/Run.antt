@@ -27,7 +27,7 @@ use Rattle.polis_cli.specs.declared.run_result.RunResult.{RunResult}
 use Rattle.polis_cli.specs.ImageFiles.{HoldsImage, ImageFails}
 use Rattle.output_files.specs.Saves.{Save}
 use Rattle.input_files.specs.Inputs.{HoldsNet, HoldsTrace, InputsFail}
-use Rattle.polis_cli.specs.Meanings.{Meaning, finds_nothing, never_refused}
+use Rattle.polis_cli.specs.Meanings.{Meaning, finds_nothing}
 use Rattle.input_files.specs.Failures.{explains_nothing}
 
 -- Where the scheduler began. One worker gathers nothing. Of several workers so many entries were
@@ -177,7 +177,6 @@ run_meaning run = record {
   finds = finds_nothing;
   fails = FailsRun run;
   explains = explains_nothing;
-  may_refuse = never_refused;
   ends = ends_run;
   reads = true;
 }

@@ -5,9 +5,8 @@ use Rattle.transition_table.specs.declared.network.Network.{Network}
 use Rattle.journals.specs.declared.entry.Entry.{Entry}
 use Rattle.journals.specs.declared.entry.TraceItem.{TraceItem}
 use Rattle.wave_text.specs.Waves.{wave_text}
-use Rattle.polis_words.specs.ReplayStem.{ReplayStemWords}
+use Rattle.polis_words.specs.ReplayStem.{ReplayStemWords, wave_name}
 use Rattle.polis_words.specs.Texts.{waved_text}
-use Rattle.polis_words.specs.Wave.{wave_name}
 use Rattle.output_files.specs.declared.product.Product.{Product}
 use Rattle.output_files.specs.Products.{saves_one}
 use Rattle.input_files.specs.declared.load.Detail.TheVariants as details

@@ -10,21 +10,17 @@ use Rattle.polis_cli.specs.Meanings.{Meaning}
 use Rattle.input_files.specs.Failures.{is_finding}
 
 -- A product is made of files that are accepted, and of which nothing else is found. Where a file
--- fails they aren't accepted, or that is found of them which the cause says, or the command may be
--- refused all the same, which is then one of the statuses with which it ends. What is found is
--- found of accepted files, is one thing, and is one of these statuses, too.
+-- fails they aren't accepted, or that is found of them which the cause says. What is found is found
+-- of accepted files, is one thing, and is one of the statuses with which the command ends.
 pub record IsLawful (m : Meaning) : Type 0 where
   pub made_accepts : (files : Files) (product : Product) → m.makes files product → m.accepts files
   pub made_finds : (files : Files) (product : Product) (status : Status) → m.makes files product
       → ¬ m.finds status files
   pub refused : (files : Files) (name : List ℕ) (cause : Cause) → m.fails files name cause
-      → cause_status cause ≡ Refused → (¬ m.accepts files) ⊎ m.may_refuse files
+      → cause_status cause ≡ Refused → ¬ m.accepts files
   pub found : (files : Files) (name : List ℕ) (cause : Cause) → m.fails files name cause
       → IsTrue (is_finding (cause_status cause)) → m.finds (cause_status cause) files
   pub found_accepts : (files : Files) (status : Status) → m.finds status files → m.accepts files
   pub found_ends : (files : Files) (status : Status) → m.finds status files
       → IsTrue (m.ends status)
-  pub refuse_finds : (files : Files) (status : Status) → m.may_refuse files
-      → ¬ m.finds status files
-  pub refuse_ends : (files : Files) → m.may_refuse files → IsTrue (m.ends Refused)
   pub found_once : (files : Files) (s t : Status) → m.finds s files → m.finds t files → s ≡ t

@@ -1,5 +1,6 @@
 use Rattle.polis_cli.proofs.Headline.{draws_give_headline, runs_give_headline}
 use Rattle.polis_cli.proofs.IsRan.{alone_is_scheduled}
+use Rattle.polis_cli.proofs.OneProduct.{journals_determine_run, net_texts_determine}
 use Rattle.polis_cli.proofs.SavesDetermineRun.{one_run}
 use Rattle.polis_cli.proofs.law.laws.Goals as goal
 
@@ -14,3 +15,9 @@ returns-clause-alone c = alone_is_scheduled
 
 pub returns-clause-determined : goal.returns-clause-determined
 returns-clause-determined c = one_run c.laws.ensures.one_stamped_journal
+
+pub returns-clause-of_net_text : goal.returns-clause-of_net_text
+returns-clause-of_net_text c = net_texts_determine
+
+pub returns-clause-of_journal : goal.returns-clause-of_journal
+returns-clause-of_journal c = journals_determine_run

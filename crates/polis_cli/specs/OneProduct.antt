@@ -1,0 +1,39 @@
+-- What is made of one network text is one product.
+use Rattle.std.specs.Prelude.{◌≡◌, List, None, ℕ}
+use Rattle.polis_base.specs.Host.{Files, bytes_at}
+use Rattle.polis_words.specs.Bound.{BoundWords}
+use Rattle.polis_words.specs.NetStem.{NetStemWords}
+use Rattle.polis_words.specs.Run.{RunWords}
+use Rattle.output_files.specs.declared.product.Product.{Product}
+use Rattle.polis_cli.specs.Bound.{MakesBound}
+use Rattle.polis_cli.specs.Compile.{MakesCompile}
+use Rattle.polis_cli.specs.Draw.{MakesDraw}
+use Rattle.polis_cli.specs.Image.{MakesImage}
+use Rattle.polis_cli.specs.Run.{MakesRun}
+
+-- both files hold the same under the name
+abbrev pub HoldSame : List ℕ → Files → Files → Type 0
+HoldSame name before now = bytes_at before name ≡ bytes_at now name
+
+-- the product is a function of the text of this name
+abbrev pub OfOneText : List ℕ → (Files → Product → Type 0) → Type 0
+OfOneText name makes = (before now : Files) (one other : Product) → HoldSame name before now
+    → makes before one → makes now other → one ≡ other
+
+-- The texts that these commands save, and what they show, are functions of the network text.
+pub record NetTextsDetermine : Type 0 where
+  pub compile : (asked : NetStemWords) → OfOneText asked.net (MakesCompile asked)
+  pub draw : (asked : NetStemWords) → OfOneText asked.net (MakesDraw asked)
+  pub image : (asked : NetStemWords) → OfOneText asked.net (MakesImage asked)
+  pub bound : (asked : BoundWords) → OfOneText asked.net (MakesBound asked)
+
+-- The texts that a run saves which names no image are functions of the network text, of the journal
+-- and of whether this is complete. What it shows is a function of these and of how many entries
+-- were gathered and adopted.
+abbrev pub JournalsDetermineRun : Type 0
+JournalsDetermineRun =
+    (run : RunWords) (before now : Files) (one other : Product) (a : MakesRun run before one)
+    (b : MakesRun run now other) → run.image ≡ None → HoldSame run.net before now
+    → a.ran.journal ≡ b.ran.journal → a.ran.complete ≡ b.ran.complete
+    → (one.saves ≡ other.saves)
+    × (a.ran.gathered ≡ b.ran.gathered → a.ran.adopted ≡ b.ran.adopted → one ≡ other)

@@ -2,7 +2,6 @@ pub mod CursorsAfter
 pub mod Alone
 pub mod MayArrive
 pub mod OwnEntries
-pub mod EachBelow
 pub mod Cursors
 pub mod Emitted
 pub mod FitsNetwork
@@ -16,6 +15,8 @@ pub mod FirstOfCursors
 pub mod Reactions
 pub mod RefusedEntries
 pub mod OwedByEnv
+pub mod InRow
+pub mod PickedEntries
 pub mod Runs
 pub mod DeliveredBeginsSent
 pub mod StopsWhereComplete

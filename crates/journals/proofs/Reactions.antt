@@ -33,7 +33,7 @@ none_within [] k h e = omega arith
 none_within (x ∷ xs) zero h e = none-some x (sym e)
 none_within (x ∷ xs) (suc k) h e = none_within xs k (omega arith) e
 
-made : GivesTransition → (net : Network) (m : ℕ) (s : Snapshot) (found : Option Machine)
+pub made : GivesTransition → (net : Network) (m : ℕ) (s : Snapshot) (found : Option Machine)
     → slice_get net.machines m ≡ found → m < length net.machines
     → IsSomeAnd found
     (λ machine.

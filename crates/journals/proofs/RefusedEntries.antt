@@ -13,7 +13,8 @@ use Rattle.journals.specs.Legality.{Legal}
 use Rattle.journals.specs.Samples.{lamp, press, lamp_run, value}
 use Rattle.journals.specs.Runs.{lamp_pressed, pong_trace, pong_started, value_overwritten_trace, idling}
 use Rattle.journals.specs.Worked.{IsNotNext, IsAsleep, HasOtherSnapshot, HasOtherOutcome}
-use Rattle.journals.proofs.Runs.{lamp_once}
+use Rattle.journals.proofs.PickedEntries.{made_legal}
+use Rattle.journals.proofs.Runs.{lamp_once, right}
 
 -- ---- deliveries
 
@@ -30,22 +31,7 @@ doubled = record {
 pub event_of_another : IsNotNext pong pong_trace pong_started (Sender 1) 1 1 1 None
 event_of_another = record {
   refused = record {
-    legal = (
-      (
-        refl,
-        (
-          (
-            refl,
-            record { widths = record { next = refl; outs = refl }; codes = refl; idle = λ h. cc },
-          ),
-          tt,
-        ),
-      ),
-      (
-        ([], refl),
-        ((refl, refl, inl (0, refl, refl)), tt),
-      ),
-    );
+    legal = made_legal pong pong_trace pong_started (record { trace_fits = refl; made = refl });
     fits = refl;
     refused = λ h. let e = h.1 in cc;
   };
@@ -83,10 +69,7 @@ pub before_delivery : IsAsleep lamp press [] 0 (reading (0 ∷ 0 ∷ [])) (idlin
 before_delivery = record {
   refused = record {
     legal = (tt, tt);
-    fits = (
-      refl,
-      record { widths = record { next = refl; outs = refl }; codes = refl; idle = λ h. refl },
-    );
+    fits = (refl, right refl refl refl (λ h. refl));
     refused = λ h. false≢true h.0;
   };
   asleep = refl;
@@ -99,10 +82,7 @@ pub second_reaction : IsAsleep lamp press lamp_run 0 (reading (0 ∷ 1 ∷ []))
 second_reaction = record {
   refused = record {
     legal = lamp_once.legal;
-    fits = (
-      refl,
-      record { widths = record { next = refl; outs = refl }; codes = refl; idle = λ h. refl },
-    );
+    fits = (refl, right refl refl refl (λ h. refl));
     refused = λ h. false≢true h.0;
   };
   asleep = refl;
@@ -118,10 +98,7 @@ pub stale_snapshot : HasOtherSnapshot lamp press lamp_pressed 0 (reading (0 ∷ 
 stale_snapshot = record {
   refused = record {
     legal = pressed_is_legal;
-    fits = (
-      refl,
-      record { widths = record { next = refl; outs = refl }; codes = refl; idle = λ h. refl },
-    );
+    fits = (refl, right refl refl refl (λ h. refl));
     refused = λ h. let codes = ap (λ (s : Snapshot). slice_index s.codes 0) h.1 in omega arith;
   };
   woken = refl;
@@ -134,10 +111,7 @@ pub idle_outcome : HasOtherOutcome lamp press lamp_pressed 0 (reading (1 ∷ 0 �
 idle_outcome = record {
   refused = record {
     legal = pressed_is_legal;
-    fits = (
-      refl,
-      record { widths = record { next = refl; outs = refl }; codes = refl; idle = λ h. refl },
-    );
+    fits = (refl, right refl refl refl (λ h. refl));
     refused = λ h.
         false≢true (ap (λ (o : Outcome). o.fires) (one_row (idling (0 ∷ []) (0 ∷ [])) h.2));
   };
@@ -151,10 +125,7 @@ pub dropped_emission : HasOtherOutcome lamp press lamp_pressed 0 (reading (1 ∷
 dropped_emission = record {
   refused = record {
     legal = pressed_is_legal;
-    fits = (
-      refl,
-      record { widths = record { next = refl; outs = refl }; codes = refl; idle = λ h. cc },
-    );
+    fits = (refl, right refl refl refl (λ h. cc));
     refused = λ h. let code =
         ap (λ (o : Outcome). slice_index o.outs 0)
         (one_row (firing (2 ∷ []) (0 ∷ [])) h.2) in omega arith;

@@ -13,6 +13,7 @@ use Rattle.net_names.specs.Values.{is_value}
 use Rattle.rule_judge.specs.Judged.{Rule, broken_at, first_broken, rules, broken}
 use Rattle.rule_judge.specs.Rules.{rule_15, rule_16, rule_17, rule_18, rule_19, rule_20, rule_21, rule_22, rule_23, rule_24, rule_25, unknown, unsuited, wrong_values, not_once, emitted, set_names, wrong_act, no_input, not_shown, other_domain, other_name, too_much}
 use Rattle.polis_base.specs.Draws.{after, draw}
+use Rattle.journals.proofs.InRow.{◌⨟◌}
 use Rattle.net_gen.specs.Networks.{num, value, machine, ring, count, network}
 use Rattle.net_gen.proofs.RingNames.{same_self}
 use Rattle.net_gen.proofs.DeclarationRules.{each_machine, draw_below, keeps_1, keeps_2, keeps_3, keeps_4, keeps_5, keeps_7, keeps_8, keeps_9, keeps_10, keeps_14}
@@ -149,73 +150,12 @@ first_none (rule ∷ rest) h =
 
 none_broken : (n x : ℕ) → n ≤ 48 → broken (ring n x) ≡ None
 none_broken n x few =
-    first_none (rules (ring n x)) (
-      keeps_1 n x,
-      (
-        keeps_2 n x few,
-        (
-          keeps_3 n x few,
-          (
-            keeps_4 n x,
-            (
-              keeps_5 n x,
-              (
-                keeps_6 n x,
-                (
-                  keeps_7 n x,
-                  (
-                    keeps_8 n x,
-                    (
-                      keeps_9 n x,
-                      (
-                        keeps_10 n x,
-                        (
-                          keeps_11 n x few,
-                          (
-                            keeps_12 n x,
-                            (
-                              keeps_13 n x,
-                              (
-                                keeps_14 n x,
-                                (
-                                  keeps_15 n x,
-                                  (
-                                    keeps_16 n x few,
-                                    (
-                                      keeps_17 n x few,
-                                      (
-                                        keeps_18 n x,
-                                        (
-                                          keeps_19 n x few,
-                                          (
-                                            keeps_20 n x few,
-                                            (
-                                              keeps_21 n x,
-                                              (
-                                                keeps_22 n x,
-                                                (keeps_23 n x, (keeps_24 n x, (keeps_25 n x, tt))),
-                                              ),
-                                            ),
-                                          ),
-                                        ),
-                                      ),
-                                    ),
-                                  ),
-                                ),
-                              ),
-                            ),
-                          ),
-                        ),
-                      ),
-                    ),
-                  ),
-                ),
-              ),
-            ),
-          ),
-        ),
-      ),
-    )
+    first_none (rules (ring n x))
+    (keeps_1 n x ⨟ keeps_2 n x few ⨟ keeps_3 n x few ⨟ keeps_4 n x ⨟ keeps_5 n x ⨟ keeps_6 n x
+    ⨟ keeps_7 n x ⨟ keeps_8 n x ⨟ keeps_9 n x ⨟ keeps_10 n x ⨟ keeps_11 n x few ⨟ keeps_12 n x
+    ⨟ keeps_13 n x ⨟ keeps_14 n x ⨟ keeps_15 n x ⨟ keeps_16 n x few ⨟ keeps_17 n x few
+    ⨟ keeps_18 n x ⨟ keeps_19 n x few ⨟ keeps_20 n x few ⨟ keeps_21 n x ⨟ keeps_22 n x
+    ⨟ keeps_23 n x ⨟ keeps_24 n x ⨟ keeps_25 n x ⨟ tt)
 
 pub seeds_keep : (seed : ℕ) → broken (network seed) ≡ None
 unfolding network

@@ -15,6 +15,7 @@ use Rattle.net_reader.specs.declared.raw.RawSource.{RawSource}
 use Rattle.net_reader.specs.declared.raw.RawSource.TheVariants as sources
 use Rattle.net_reader.specs.declared.raw.RawAct.{RawAct}
 use Rattle.net_reader.specs.declared.raw.RawAct.TheVariants as acts
+use Rattle.net_reader.proofs.BoundParts.{closed, last_of, with_value, without_value}
 use Rattle.net_reader.proofs.Laws.{Laws, none, Bind, bind_laws}
 use Rattle.net_reader.proofs.Combinators.{Just, Or, same_laws, wider_laws, begins_none, pure_laws, either_laws}
 use Rattle.net_reader.proofs.Tokens.{apart, within, only_laws, word_laws, num_laws, value_laws, word_is_value, value_is_word, optional_there, optional_back, listed_goes, listed_laws}
@@ -33,12 +34,7 @@ Is_plain e ts = (value : RawValue) × (e ≡ sources.Value value) × IsValue val
 pub plain_laws : Laws plain_at Is_plain value_starts none false
 unfolding plain_at
 plain_laws = same_laws
-    (λ e ts f. (
-      f.2,
-      f.5.0,
-      subst (λ (m : List Lexeme). (IsValue f.2) m)
-          (sym (f.3 ∙ ap (λ m. f.0 ++ m) f.5.1 ∙ append-nil f.0)) f.4,
-    ))
+    (λ e ts f. (f.2, f.5.0, last_of f))
     (λ e ts f. (ts, [], f.0, sym (append-nil ts), f.2, (f.1, refl)))
     (bind_laws value_laws (λ value. pure_laws {A = RawSource} (sources.Value value))
     (apart _ _ refl))
@@ -49,26 +45,8 @@ Is_input e ts = (name : Word) × (e ≡ sources.Input name) × (Key KwValue ⨾ 
 pub input_laws : Laws input_at Is_input (is (kinds.Keyword KwValue)) none false
 unfolding input_at
 input_laws = same_laws
-    (λ e ts f. (
-      f.5.2,
-      f.5.5.0,
-      (
-        f.0,
-        f.1,
-        f.3,
-        f.4,
-        subst (λ (m : List Lexeme). (IsWord f.5.2) m)
-            (sym (f.5.3 ∙ ap (λ m. f.5.0 ++ m) f.5.5.1 ∙ append-nil f.5.0)) f.5.4,
-      ),
-    ))
-    (λ e ts f. (
-      f.2.0,
-      f.2.1,
-      tt,
-      f.2.2,
-      f.2.3,
-      (f.2.1, [], f.0, sym (append-nil f.2.1), f.2.4, (f.1, refl)),
-    ))
+    (λ e ts f. (f.5.2, f.5.5.0, without_value f (last_of f.5)))
+    (λ e ts f. with_value tt f.2 (closed f.0 f.2.4 f.1))
     (bind_laws (only_laws (kinds.Keyword KwValue) refl)
     (λ _. bind_laws word_laws (λ name. pure_laws {A = RawSource} (sources.Input name))
     (apart _ _ refl)) (apart _ _ refl))
@@ -79,26 +57,8 @@ Is_add name e ts = (number : Num) × (e ≡ sources.Add name number) × (Sign Pl
 pub add_laws : (name : Word) → Laws (add_at name) (Is_add name) (is (kinds.Sign Plus)) none false
 unfolding add_at
 add_laws name = same_laws
-    (λ e ts f. (
-      f.5.2,
-      f.5.5.0,
-      (
-        f.0,
-        f.1,
-        f.3,
-        f.4,
-        subst (λ (m : List Lexeme). (IsNum f.5.2) m)
-            (sym (f.5.3 ∙ ap (λ m. f.5.0 ++ m) f.5.5.1 ∙ append-nil f.5.0)) f.5.4,
-      ),
-    ))
-    (λ e ts f. (
-      f.2.0,
-      f.2.1,
-      tt,
-      f.2.2,
-      f.2.3,
-      (f.2.1, [], f.0, sym (append-nil f.2.1), f.2.4, (f.1, refl)),
-    ))
+    (λ e ts f. (f.5.2, f.5.5.0, without_value f (last_of f.5)))
+    (λ e ts f. with_value tt f.2 (closed f.0 f.2.4 f.1))
     (bind_laws (only_laws (kinds.Sign Plus) refl)
     (λ _. bind_laws num_laws (λ number. pure_laws {A = RawSource} (sources.Add name number))
     (apart _ _ refl)) (apart _ _ refl))
@@ -243,26 +203,8 @@ pub given_laws : (version : ℕ)
     → Laws (given_at version) (Is_given version) (is (kinds.Sign Equal)) none false
 unfolding given_at
 given_laws version = same_laws
-    (λ e ts f. (
-      f.5.2,
-      f.5.5.0,
-      (
-        f.0,
-        f.1,
-        f.3,
-        f.4,
-        subst (λ (m : List Lexeme). (IsGiven version f.5.2) m)
-            (sym (f.5.3 ∙ ap (λ m. f.5.0 ++ m) f.5.5.1 ∙ append-nil f.5.0)) f.5.4,
-      ),
-    ))
-    (λ e ts f. (
-      f.2.0,
-      f.2.1,
-      tt,
-      f.2.2,
-      f.2.3,
-      (f.2.1, [], f.0, sym (append-nil f.2.1), f.2.4, (f.1, refl)),
-    ))
+    (λ e ts f. (f.5.2, f.5.5.0, without_value f (last_of f.5)))
+    (λ e ts f. with_value tt f.2 (closed f.0 f.2.4 f.1))
     (bind_laws (only_laws (kinds.Sign Equal) refl)
     (λ _. bind_laws (given_source_laws version (version == 2) refl)
     (λ source. pure_laws {A = Option RawSource} (Some source)) (apart _ _ refl))
@@ -287,41 +229,8 @@ pub emit_laws : (version : ℕ)
     (λ c. is (kinds.Sign Equal) c || false) false
 unfolding emit_at
 emit_laws version = same_laws
-    (λ e ts f. (
-      f.5.2,
-      f.5.5.2,
-      f.5.5.5.0,
-      (
-        f.0,
-        f.1,
-        f.3,
-        f.4,
-        (
-          f.5.0,
-          f.5.1,
-          f.5.3,
-          f.5.4,
-          subst
-              (λ (m : List Lexeme). (Optional (GivenAt version) f.5.5.2) m)
-              (sym (f.5.5.3 ∙ ap (λ m. f.5.5.0 ++ m) f.5.5.5.1 ∙ append-nil f.5.5.0)) f.5.5.4,
-        ),
-      ),
-    ))
-    (λ e ts f. (
-      f.3.0,
-      f.3.1,
-      tt,
-      f.3.2,
-      f.3.3,
-      (
-        f.3.4.0,
-        f.3.4.1,
-        f.0,
-        f.3.4.2,
-        f.3.4.3,
-        (f.3.4.1, [], f.1, sym (append-nil f.3.4.1), f.3.4.4, (f.2, refl)),
-      ),
-    ))
+    (λ e ts f. (f.5.2, f.5.5.2, f.5.5.5.0, without_value f (without_value f.5 (last_of f.5.5))))
+    (λ e ts f. with_value tt f.3 (with_value f.0 f.3.4 (closed f.1 f.3.4.4 f.2)))
     (bind_laws (only_laws (kinds.Keyword KwEmit) refl)
     (λ _. bind_laws word_laws (λ name.
     bind_laws (value_part_laws version) (λ value. pure_laws {A = RawAct} (acts.Emit name value))
@@ -335,40 +244,8 @@ Is_set version e ts =
 pub set_laws : (version : ℕ) → Laws (set_at version) (Is_set version) (is kinds.Name) sum_goes false
 unfolding set_at
 set_laws version = same_laws
-    (λ e ts f. (
-      f.2,
-      f.5.5.2,
-      f.5.5.5.0,
-      (
-        f.0,
-        f.1,
-        f.3,
-        f.4,
-        (
-          f.5.0,
-          f.5.1,
-          f.5.3,
-          f.5.4,
-          subst (λ (m : List Lexeme). (IsSource version f.5.5.2) m)
-              (sym (f.5.5.3 ∙ ap (λ m. f.5.5.0 ++ m) f.5.5.5.1 ∙ append-nil f.5.5.0)) f.5.5.4,
-        ),
-      ),
-    ))
-    (λ e ts f. (
-      f.3.0,
-      f.3.1,
-      f.0,
-      f.3.2,
-      f.3.3,
-      (
-        f.3.4.0,
-        f.3.4.1,
-        tt,
-        f.3.4.2,
-        f.3.4.3,
-        (f.3.4.1, [], f.1, sym (append-nil f.3.4.1), f.3.4.4, (f.2, refl)),
-      ),
-    ))
+    (λ e ts f. (f.2, f.5.5.2, f.5.5.5.0, without_value f (without_value f.5 (last_of f.5.5))))
+    (λ e ts f. with_value f.0 f.3 (with_value tt f.3.4 (closed f.1 f.3.4.4 f.2)))
     (bind_laws word_laws
     (λ name. bind_laws (only_laws (kinds.Sign Assign) refl)
     (λ _. bind_laws (source_laws version (version == 2) refl)
@@ -403,11 +280,7 @@ Is_nothing e ts = (e ≡ []) × (Key KwNothing) ts
 pub nothing_laws : Laws (nothing_at) (Is_nothing) (is (kinds.Keyword KwNothing)) none false
 unfolding nothing_at
 nothing_laws = same_laws
-    (λ e ts f. (
-      f.5.0,
-      subst (λ (m : List Lexeme). (Key KwNothing) m)
-          (sym (f.3 ∙ ap (λ m. f.0 ++ m) f.5.1 ∙ append-nil f.0)) f.4,
-    ))
+    (λ e ts f. (f.5.0, last_of f))
     (λ e ts f. (ts, [], tt, sym (append-nil ts), f.1, (f.0, refl)))
     (bind_laws (only_laws (kinds.Keyword KwNothing) refl) (λ _. pure_laws {A = List RawAct} [])
     (apart _ _ refl))

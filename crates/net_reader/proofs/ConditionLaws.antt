@@ -10,6 +10,7 @@ use Rattle.net_reader.specs.declared.raw.Word.{Word}
 use Rattle.net_reader.specs.declared.raw.RawValue.{RawValue}
 use Rattle.net_reader.specs.declared.raw.RawCond.{RawCond}
 use Rattle.net_reader.specs.declared.raw.RawCond.TheVariants as conds
+use Rattle.net_reader.proofs.BoundParts.{closed, last_of, with_value, without_value}
 use Rattle.net_reader.proofs.Laws.{Laws, none, Bind, bind_laws}
 use Rattle.net_reader.proofs.Combinators.{Just, Or, same_laws, pure_laws, either_laws}
 use Rattle.net_reader.proofs.Tokens.{apart, within, only_laws, word_laws, value_laws, listed_laws}
@@ -20,26 +21,8 @@ Is_absent e ts = (name : Word) × (e ≡ conds.Absent name) × (Key KwAbsent ⨾
 pub absent_laws : Laws (absent_at) (Is_absent) (is (kinds.Keyword KwAbsent)) none false
 unfolding absent_at
 absent_laws = same_laws
-    (λ e ts f. (
-      f.5.2,
-      f.5.5.0,
-      (
-        f.0,
-        f.1,
-        f.3,
-        f.4,
-        subst (λ (m : List Lexeme). (IsWord f.5.2) m)
-            (sym (f.5.3 ∙ ap (λ m. f.5.0 ++ m) f.5.5.1 ∙ append-nil f.5.0)) f.5.4,
-      ),
-    ))
-    (λ e ts f. (
-      f.2.0,
-      f.2.1,
-      tt,
-      f.2.2,
-      f.2.3,
-      (f.2.1, [], f.0, sym (append-nil f.2.1), f.2.4, (f.1, refl)),
-    ))
+    (λ e ts f. (f.5.2, f.5.5.0, without_value f (last_of f.5)))
+    (λ e ts f. with_value tt f.2 (closed f.0 f.2.4 f.1))
     (bind_laws (only_laws (kinds.Keyword KwAbsent) refl)
     (λ _. bind_laws word_laws (λ name. pure_laws {A = RawCond} (conds.Absent name))
     (apart _ _ refl)) (apart _ _ refl))
@@ -50,26 +33,8 @@ Is_is name e ts = (value : RawValue) × (e ≡ conds.Is name value) × (Sign Equ
 pub is_laws : (name : Word) → Laws (is_at name) (Is_is name) (is (kinds.Sign Equal)) none false
 unfolding is_at
 is_laws name = same_laws
-    (λ e ts f. (
-      f.5.2,
-      f.5.5.0,
-      (
-        f.0,
-        f.1,
-        f.3,
-        f.4,
-        subst (λ (m : List Lexeme). (IsValue f.5.2) m)
-            (sym (f.5.3 ∙ ap (λ m. f.5.0 ++ m) f.5.5.1 ∙ append-nil f.5.0)) f.5.4,
-      ),
-    ))
-    (λ e ts f. (
-      f.2.0,
-      f.2.1,
-      tt,
-      f.2.2,
-      f.2.3,
-      (f.2.1, [], f.0, sym (append-nil f.2.1), f.2.4, (f.1, refl)),
-    ))
+    (λ e ts f. (f.5.2, f.5.5.0, without_value f (last_of f.5)))
+    (λ e ts f. with_value tt f.2 (closed f.0 f.2.4 f.1))
     (bind_laws (only_laws (kinds.Sign Equal) refl)
     (λ _. bind_laws value_laws (λ value. pure_laws {A = RawCond} (conds.Is name value))
     (apart _ _ refl)) (apart _ _ refl))
@@ -86,50 +51,12 @@ one_of_laws name = same_laws
     (λ e ts f. (
       f.5.5.2,
       f.5.5.5.5.0,
-      (
-        f.0,
-        f.1,
-        f.3,
-        f.4,
-        (
-          f.5.0,
-          f.5.1,
-          f.5.3,
-          f.5.4,
-          (
-            f.5.5.0,
-            f.5.5.1,
-            f.5.5.3,
-            f.5.5.4,
-            subst (λ (m : List Lexeme). (Sign RightBrace) m)
-                (sym (f.5.5.5.3 ∙ ap (λ m. f.5.5.5.0 ++ m) f.5.5.5.5.1 ∙ append-nil f.5.5.5.0))
-                f.5.5.5.4,
-          ),
-        ),
-      ),
+      without_value f (without_value f.5 (without_value f.5.5 (last_of
+          f.5.5.5))),
     ))
-    (λ e ts f. (
-      f.2.0,
-      f.2.1,
-      tt,
-      f.2.2,
-      f.2.3,
-      (
-        f.2.4.0,
-        f.2.4.1,
-        tt,
-        f.2.4.2,
-        f.2.4.3,
-        (
-          f.2.4.4.0,
-          f.2.4.4.1,
-          f.0,
-          f.2.4.4.2,
-          f.2.4.4.3,
-          (f.2.4.4.1, [], tt, sym (append-nil f.2.4.4.1), f.2.4.4.4, (f.1, refl)),
-        ),
-      ),
-    ))
+    (λ e ts f.
+    with_value tt f.2 (with_value tt f.2.4 (with_value f.0 f.2.4.4 (closed tt f.2.4.4.4
+    f.1))))
     (bind_laws (only_laws (kinds.Keyword KwIn) refl)
     (λ _. bind_laws (only_laws (kinds.Sign LeftBrace) refl)
     (λ _. bind_laws (listed_laws value_laws (apart _ _ refl))
@@ -177,9 +104,9 @@ cond_back : (e : RawCond) (ts : List Lexeme) → IsCond e ts
 cond_back (conds.Present name) ts f =
     inr (ts, [], name, sym (append-nil ts), f, inr (inr (refl, refl)))
 cond_back (conds.Absent name) ts f = inl (name, refl, f)
-cond_back (conds.Is name value) ts f = inr (f.0, f.1, name, f.2, f.3, inl (value, refl, f.4))
+cond_back (conds.Is name value) ts f = inr (with_value name f (inl (value, refl, f.4)))
 cond_back (conds.OneOf name values) ts f =
-    inr (f.0, f.1, name, f.2, f.3, inr (inl (values, refl, f.4)))
+    inr (with_value name f (inr (inl (values, refl, f.4))))
 
 pub cond_laws : Laws cond_at IsCond (λ c. is (kinds.Keyword KwAbsent) c || is kinds.Name c)
     (λ c. cond_goes c || false) false

@@ -1,10 +1,10 @@
 -- The laws of the rules of domains, events and state variables.
-use Rattle.std.proofs.Common.{◌≡◌, ℕ, Bool, true, false, ◌||◌, List, [], ◌++◌, Option, Some, None, refl, sym, ◌∙◌, ap, subst, append-nil, inl, inr}
+use Rattle.std.proofs.Common.{◌≡◌, ℕ, Bool, true, false, ◌||◌, List, Option, Some, None, refl, sym, subst, inl, inr}
 use Rattle.polis_base.specs.declared.token.Keyword.TheVariants.{KwDomain, KwEvent, KwFrom, KwTo, KwEnv, KwState}
 use Rattle.polis_base.specs.declared.token.Sign.TheVariants.{Equal, Colon, LeftBrace, RightBrace, DotDot}
 use Rattle.polis_base.specs.declared.token.Kind.TheVariants as kinds
 use Rattle.net_reader.specs.Lexemes.{Lexeme}
-use Rattle.net_reader.specs.Grammar.{Part, ◌⨾◌, Key, Sign, IsWord, IsNum, IsValue, Optional, Listed, IsShape, IsDomain, IsEnv, IsEvent, IsState}
+use Rattle.net_reader.specs.Grammar.{Part, ◌⨾◌, Key, Sign, IsWord, IsNum, Optional, Listed, IsShape, IsDomain, IsEnv, IsEvent, IsState}
 use Rattle.net_reader.specs.Reading.{is, names_at, range_at, shape_at, domain_at, from_env_at, to_env_at, env_at, typed_at, typed_part_at, event_at, state_at}
 use Rattle.net_reader.specs.declared.raw.Word.{Word}
 use Rattle.net_reader.specs.declared.raw.Num.{Num}
@@ -15,6 +15,7 @@ use Rattle.net_reader.specs.declared.raw.RawEnv.{RawEnv}
 use Rattle.net_reader.specs.declared.raw.RawEnv.TheVariants as envs
 use Rattle.net_reader.specs.declared.raw.RawEvent.{RawEvent}
 use Rattle.net_reader.specs.declared.raw.RawState.{RawState}
+use Rattle.net_reader.proofs.BoundParts.{closed, last_of, with_value, without_value}
 use Rattle.net_reader.proofs.Laws.{Laws, none, bind_laws}
 use Rattle.net_reader.proofs.Combinators.{Just, Or, same_laws, pure_laws, either_laws}
 use Rattle.net_reader.proofs.Tokens.{apart, within, only_laws, word_laws, num_laws, value_laws, optional_there, optional_back, listed_laws}
@@ -27,39 +28,8 @@ Is_names e ts =
 pub names_laws : Laws (names_at) (Is_names) (is (kinds.Sign LeftBrace)) none false
 unfolding names_at
 names_laws = same_laws
-    (λ e ts f. (
-      f.5.2,
-      f.5.5.5.0,
-      (
-        f.0,
-        f.1,
-        f.3,
-        f.4,
-        (
-          f.5.0,
-          f.5.1,
-          f.5.3,
-          f.5.4,
-          subst (λ (m : List Lexeme). (Sign RightBrace) m)
-              (sym (f.5.5.3 ∙ ap (λ m. f.5.5.0 ++ m) f.5.5.5.1 ∙ append-nil f.5.5.0)) f.5.5.4,
-        ),
-      ),
-    ))
-    (λ e ts f. (
-      f.2.0,
-      f.2.1,
-      tt,
-      f.2.2,
-      f.2.3,
-      (
-        f.2.4.0,
-        f.2.4.1,
-        f.0,
-        f.2.4.2,
-        f.2.4.3,
-        (f.2.4.1, [], tt, sym (append-nil f.2.4.1), f.2.4.4, (f.1, refl)),
-      ),
-    ))
+    (λ e ts f. (f.5.2, f.5.5.5.0, without_value f (without_value f.5 (last_of f.5.5))))
+    (λ e ts f. with_value tt f.2 (with_value f.0 f.2.4 (closed tt f.2.4.4 f.1)))
     (bind_laws (only_laws (kinds.Sign LeftBrace) refl)
     (λ _. bind_laws (listed_laws word_laws (apart _ _ refl))
     (λ names. bind_laws (only_laws (kinds.Sign RightBrace) refl)
@@ -74,40 +44,8 @@ Is_range e ts =
 pub range_laws : Laws (range_at) (Is_range) (is (kinds.Number 0)) none false
 unfolding range_at
 range_laws = same_laws
-    (λ e ts f. (
-      f.2,
-      f.5.5.2,
-      f.5.5.5.0,
-      (
-        f.0,
-        f.1,
-        f.3,
-        f.4,
-        (
-          f.5.0,
-          f.5.1,
-          f.5.3,
-          f.5.4,
-          subst (λ (m : List Lexeme). (IsNum f.5.5.2) m)
-              (sym (f.5.5.3 ∙ ap (λ m. f.5.5.0 ++ m) f.5.5.5.1 ∙ append-nil f.5.5.0)) f.5.5.4,
-        ),
-      ),
-    ))
-    (λ e ts f. (
-      f.3.0,
-      f.3.1,
-      f.0,
-      f.3.2,
-      f.3.3,
-      (
-        f.3.4.0,
-        f.3.4.1,
-        tt,
-        f.3.4.2,
-        f.3.4.3,
-        (f.3.4.1, [], f.1, sym (append-nil f.3.4.1), f.3.4.4, (f.2, refl)),
-      ),
-    ))
+    (λ e ts f. (f.2, f.5.5.2, f.5.5.5.0, without_value f (without_value f.5 (last_of f.5.5))))
+    (λ e ts f. with_value f.0 f.3 (with_value tt f.3.4 (closed f.1 f.3.4.4 f.2)))
     (bind_laws num_laws
     (λ first. bind_laws (only_laws (kinds.Sign DotDot) refl)
     (λ _. bind_laws num_laws (λ last. pure_laws {A = RawShape} (shapes.Range first last))
@@ -131,49 +69,11 @@ shape_laws = same_laws shape_there shape_back
 pub domain_laws : Laws domain_at IsDomain (is (kinds.Keyword KwDomain)) none false
 unfolding domain_at
 domain_laws = same_laws
-    (λ e ts f. subst (λ (z : RawDomain). IsDomain z ts) (sym f.5.5.5.5.0) (
-      f.0,
-      f.1,
-      f.3,
-      f.4,
-      (
-        f.5.0,
-        f.5.1,
-        f.5.3,
-        f.5.4,
-        (
-          f.5.5.0,
-          f.5.5.1,
-          f.5.5.3,
-          f.5.5.4,
-          subst (λ (m : List Lexeme). (IsShape f.5.5.5.2) m)
-              (sym (f.5.5.5.3 ∙ ap (λ m. f.5.5.5.0 ++ m) f.5.5.5.5.1 ∙ append-nil f.5.5.5.0))
-              f.5.5.5.4,
-        ),
-      ),
-    ))
-    (λ e ts f. (
-      f.0,
-      f.1,
-      tt,
-      f.2,
-      f.3,
-      (
-        f.4.0,
-        f.4.1,
-        e.name,
-        f.4.2,
-        f.4.3,
-        (
-          f.4.4.0,
-          f.4.4.1,
-          tt,
-          f.4.4.2,
-          f.4.4.3,
-          (f.4.4.1, [], e.shape, sym (append-nil f.4.4.1), f.4.4.4, (refl, refl)),
-        ),
-      ),
-    ))
+    (λ e ts f. subst (λ (z : RawDomain). IsDomain z ts) (sym f.5.5.5.5.0)
+    (without_value f (without_value f.5 (without_value f.5.5 (last_of f.5.5.5)))))
+    (λ e ts f.
+    with_value tt f (with_value e.name f.4 (with_value tt f.4.4 (closed e.shape f.4.4.4
+    refl))))
     (bind_laws (only_laws (kinds.Keyword KwDomain) refl)
     (λ _. bind_laws word_laws (λ name.
     bind_laws (only_laws (kinds.Sign Equal) refl)
@@ -187,25 +87,8 @@ Is_from_env e ts = (e ≡ envs.FromEnv) × (Key KwFrom ⨾ Key KwEnv) ts
 pub from_env_laws : Laws (from_env_at) (Is_from_env) (is (kinds.Keyword KwFrom)) none false
 unfolding from_env_at
 from_env_laws = same_laws
-    (λ e ts f. (
-      f.5.5.0,
-      (
-        f.0,
-        f.1,
-        f.3,
-        f.4,
-        subst (λ (m : List Lexeme). (Key KwEnv) m)
-            (sym (f.5.3 ∙ ap (λ m. f.5.0 ++ m) f.5.5.1 ∙ append-nil f.5.0)) f.5.4,
-      ),
-    ))
-    (λ e ts f. (
-      f.1.0,
-      f.1.1,
-      tt,
-      f.1.2,
-      f.1.3,
-      (f.1.1, [], tt, sym (append-nil f.1.1), f.1.4, (f.0, refl)),
-    ))
+    (λ e ts f. (f.5.5.0, without_value f (last_of f.5)))
+    (λ e ts f. with_value tt f.1 (closed tt f.1.4 f.0))
     (bind_laws (only_laws (kinds.Keyword KwFrom) refl)
     (λ _. bind_laws (only_laws (kinds.Keyword KwEnv) refl)
     (λ _. pure_laws {A = RawEnv} envs.FromEnv) (apart _ _ refl)) (apart _ _ refl))
@@ -216,25 +99,8 @@ Is_to_env e ts = (e ≡ envs.ToEnv) × (Key KwTo ⨾ Key KwEnv) ts
 pub to_env_laws : Laws (to_env_at) (Is_to_env) (is (kinds.Keyword KwTo)) none false
 unfolding to_env_at
 to_env_laws = same_laws
-    (λ e ts f. (
-      f.5.5.0,
-      (
-        f.0,
-        f.1,
-        f.3,
-        f.4,
-        subst (λ (m : List Lexeme). (Key KwEnv) m)
-            (sym (f.5.3 ∙ ap (λ m. f.5.0 ++ m) f.5.5.1 ∙ append-nil f.5.0)) f.5.4,
-      ),
-    ))
-    (λ e ts f. (
-      f.1.0,
-      f.1.1,
-      tt,
-      f.1.2,
-      f.1.3,
-      (f.1.1, [], tt, sym (append-nil f.1.1), f.1.4, (f.0, refl)),
-    ))
+    (λ e ts f. (f.5.5.0, without_value f (last_of f.5)))
+    (λ e ts f. with_value tt f.1 (closed tt f.1.4 f.0))
     (bind_laws (only_laws (kinds.Keyword KwTo) refl)
     (λ _. bind_laws (only_laws (kinds.Keyword KwEnv) refl)
     (λ _. pure_laws {A = RawEnv} envs.ToEnv) (apart _ _ refl)) (apart _ _ refl))
@@ -268,26 +134,8 @@ Is_typed e ts = (name : Word) × (e ≡ Some name) × (Sign Colon ⨾ IsWord nam
 pub typed_laws : Laws (typed_at) (Is_typed) (is (kinds.Sign Colon)) none false
 unfolding typed_at
 typed_laws = same_laws
-    (λ e ts f. (
-      f.5.2,
-      f.5.5.0,
-      (
-        f.0,
-        f.1,
-        f.3,
-        f.4,
-        subst (λ (m : List Lexeme). (IsWord f.5.2) m)
-            (sym (f.5.3 ∙ ap (λ m. f.5.0 ++ m) f.5.5.1 ∙ append-nil f.5.0)) f.5.4,
-      ),
-    ))
-    (λ e ts f. (
-      f.2.0,
-      f.2.1,
-      tt,
-      f.2.2,
-      f.2.3,
-      (f.2.1, [], f.0, sym (append-nil f.2.1), f.2.4, (f.1, refl)),
-    ))
+    (λ e ts f. (f.5.2, f.5.5.0, without_value f (last_of f.5)))
+    (λ e ts f. with_value tt f.2 (closed f.0 f.2.4 f.1))
     (bind_laws (only_laws (kinds.Sign Colon) refl)
     (λ _. bind_laws word_laws (λ name. pure_laws {A = Option Word} (Some name))
     (apart _ _ refl)) (apart _ _ refl))
@@ -307,49 +155,11 @@ event_goes c = (env_goes c || is (kinds.Sign Colon) c) || false
 pub event_laws : Laws event_at IsEvent (is (kinds.Keyword KwEvent)) event_goes false
 unfolding event_at
 event_laws = same_laws
-    (λ e ts f. subst (λ (z : RawEvent). IsEvent z ts) (sym f.5.5.5.5.0) (
-      f.0,
-      f.1,
-      f.3,
-      f.4,
-      (
-        f.5.0,
-        f.5.1,
-        f.5.3,
-        f.5.4,
-        (
-          f.5.5.0,
-          f.5.5.1,
-          f.5.5.3,
-          f.5.5.4,
-          subst (λ (m : List Lexeme). (IsEnv f.5.5.5.2) m)
-              (sym (f.5.5.5.3 ∙ ap (λ m. f.5.5.5.0 ++ m) f.5.5.5.5.1 ∙ append-nil f.5.5.5.0))
-              f.5.5.5.4,
-        ),
-      ),
-    ))
-    (λ e ts f. (
-      f.0,
-      f.1,
-      tt,
-      f.2,
-      f.3,
-      (
-        f.4.0,
-        f.4.1,
-        e.name,
-        f.4.2,
-        f.4.3,
-        (
-          f.4.4.0,
-          f.4.4.1,
-          e.domain,
-          f.4.4.2,
-          f.4.4.3,
-          (f.4.4.1, [], e.env, sym (append-nil f.4.4.1), f.4.4.4, (refl, refl)),
-        ),
-      ),
-    ))
+    (λ e ts f. subst (λ (z : RawEvent). IsEvent z ts) (sym f.5.5.5.5.0)
+    (without_value f (without_value f.5 (without_value f.5.5 (last_of f.5.5.5)))))
+    (λ e ts f.
+    with_value tt f (with_value e.name f.4 (with_value e.domain f.4.4 (closed e.env f.4.4.4
+    refl))))
     (bind_laws (only_laws (kinds.Keyword KwEvent) refl)
     (λ _. bind_laws word_laws (λ name.
     bind_laws domain_part_laws (λ domain.
@@ -360,75 +170,12 @@ event_laws = same_laws
 pub state_laws : Laws state_at IsState (is (kinds.Keyword KwState)) none false
 unfolding state_at
 state_laws = same_laws
-    (λ e ts f. subst (λ (z : RawState). IsState z ts) (sym f.5.5.5.5.5.5.0) (
-      f.0,
-      f.1,
-      f.3,
-      f.4,
-      (
-        f.5.0,
-        f.5.1,
-        f.5.3,
-        f.5.4,
-        (
-          f.5.5.0,
-          f.5.5.1,
-          f.5.5.3,
-          f.5.5.4,
-          (
-            f.5.5.5.0,
-            f.5.5.5.1,
-            f.5.5.5.3,
-            f.5.5.5.4,
-            (
-              f.5.5.5.5.0,
-              f.5.5.5.5.1,
-              f.5.5.5.5.3,
-              f.5.5.5.5.4,
-              subst (λ (m : List Lexeme). (IsValue f.5.5.5.5.5.2) m)
-                  (sym (f.5.5.5.5.5.3 ∙ ap (λ m. f.5.5.5.5.5.0 ++ m) f.5.5.5.5.5.5.1
-                  ∙ append-nil f.5.5.5.5.5.0)) f.5.5.5.5.5.4,
-            ),
-          ),
-        ),
-      ),
-    ))
-    (λ e ts f. (
-      f.0,
-      f.1,
-      tt,
-      f.2,
-      f.3,
-      (
-        f.4.0,
-        f.4.1,
-        e.name,
-        f.4.2,
-        f.4.3,
-        (
-          f.4.4.0,
-          f.4.4.1,
-          tt,
-          f.4.4.2,
-          f.4.4.3,
-          (
-            f.4.4.4.0,
-            f.4.4.4.1,
-            e.domain,
-            f.4.4.4.2,
-            f.4.4.4.3,
-            (
-              f.4.4.4.4.0,
-              f.4.4.4.4.1,
-              tt,
-              f.4.4.4.4.2,
-              f.4.4.4.4.3,
-              (f.4.4.4.4.1, [], e.init, sym (append-nil f.4.4.4.4.1), f.4.4.4.4.4, (refl, refl)),
-            ),
-          ),
-        ),
-      ),
-    ))
+    (λ e ts f. subst (λ (z : RawState). IsState z ts) (sym f.5.5.5.5.5.5.0)
+    (without_value f (without_value f.5 (without_value f.5.5 (without_value f.5.5.5
+    (without_value f.5.5.5.5 (last_of f.5.5.5.5.5)))))))
+    (λ e ts f.
+    with_value tt f (with_value e.name f.4 (with_value tt f.4.4 (with_value e.domain
+    f.4.4.4 (with_value tt f.4.4.4.4 (closed e.init f.4.4.4.4.4 refl))))))
     (bind_laws (only_laws (kinds.Keyword KwState) refl)
     (λ _. bind_laws word_laws (λ name.
     bind_laws (only_laws (kinds.Sign Colon) refl)

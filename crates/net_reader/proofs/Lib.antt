@@ -11,6 +11,8 @@ pub mod NextToken
 pub mod Tokens
 pub mod Sentences
 pub mod Lexemes
+pub mod BoundParts
+pub mod OtherParts
 pub mod PrintedWords
 pub mod AppendAssociative
 pub mod PrintedTokens

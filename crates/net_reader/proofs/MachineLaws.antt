@@ -1,15 +1,16 @@
 -- The laws of the rules of rows and machines.
-use Rattle.std.proofs.Common.{◌≡◌, ℕ, Bool, true, false, ◌||◌, List, [], ◌∷◌, ◌++◌, refl, sym, ◌∙◌, ap, subst, append-nil, inl, inr}
+use Rattle.std.proofs.Common.{◌≡◌, ℕ, Bool, true, false, ◌||◌, List, [], ◌∷◌, refl, sym, subst, inl, inr}
 use Rattle.polis_base.specs.declared.token.Keyword.TheVariants.{KwMachine, KwPriority, KwInput, KwOutput, KwState, KwWhen, KwDo}
 use Rattle.polis_base.specs.declared.token.Sign.TheVariants.{LeftBrace, RightBrace}
 use Rattle.polis_base.specs.declared.token.Kind.TheVariants as kinds
 use Rattle.net_reader.specs.Lexemes.{Lexeme}
-use Rattle.net_reader.specs.Grammar.{Part, ◌⨾◌, Key, Sign, IsWord, IsNum, Each, Listed, IsState, AreActs, IsRow, AreOutputs, IsMachine}
+use Rattle.net_reader.specs.Grammar.{Part, ◌⨾◌, Key, Sign, IsWord, IsNum, Each, Listed, IsState, IsRow, AreOutputs, IsMachine}
 use Rattle.net_reader.specs.Reading.{is, row_at, output_at, outputs_at, body_at, machine_at}
 use Rattle.net_reader.specs.declared.raw.Word.{Word}
 use Rattle.net_reader.specs.declared.raw.Num.{Num}
 use Rattle.net_reader.specs.declared.raw.RawRow.{RawRow}
 use Rattle.net_reader.specs.declared.raw.RawMachine.{RawMachine}
+use Rattle.net_reader.proofs.BoundParts.{closed, last_of, with_value, without_value}
 use Rattle.net_reader.proofs.Laws.{Laws, none, bind_laws}
 use Rattle.net_reader.proofs.Combinators.{Just, Or, same_laws, pure_laws, either_laws, many_laws}
 use Rattle.net_reader.proofs.Tokens.{apart, within, only_laws, word_laws, num_laws, listed_goes, listed_laws}
@@ -21,49 +22,11 @@ pub row_laws : (version : ℕ)
     → Laws (row_at version) (IsRow version) (is (kinds.Keyword KwWhen)) acts_goes false
 unfolding row_at
 row_laws version = same_laws
-    (λ e ts f. subst (λ (z : RawRow). IsRow version z ts) (sym f.5.5.5.5.0) (
-      f.0,
-      f.1,
-      f.3,
-      f.4,
-      (
-        f.5.0,
-        f.5.1,
-        f.5.3,
-        f.5.4,
-        (
-          f.5.5.0,
-          f.5.5.1,
-          f.5.5.3,
-          f.5.5.4,
-          subst (λ (m : List Lexeme). (AreActs version f.5.5.5.2) m)
-              (sym (f.5.5.5.3 ∙ ap (λ m. f.5.5.5.0 ++ m) f.5.5.5.5.1 ∙ append-nil f.5.5.5.0))
-              f.5.5.5.4,
-        ),
-      ),
-    ))
-    (λ e ts f. (
-      f.0,
-      f.1,
-      tt,
-      f.2,
-      f.3,
-      (
-        f.4.0,
-        f.4.1,
-        e.conds,
-        f.4.2,
-        f.4.3,
-        (
-          f.4.4.0,
-          f.4.4.1,
-          tt,
-          f.4.4.2,
-          f.4.4.3,
-          (f.4.4.1, [], e.acts, sym (append-nil f.4.4.1), f.4.4.4, (refl, refl)),
-        ),
-      ),
-    ))
+    (λ e ts f. subst (λ (z : RawRow). IsRow version z ts) (sym f.5.5.5.5.0)
+    (without_value f (without_value f.5 (without_value f.5.5 (last_of f.5.5.5)))))
+    (λ e ts f.
+    with_value tt f (with_value e.conds f.4 (with_value tt f.4.4 (closed e.acts f.4.4.4
+    refl))))
     (bind_laws (only_laws (kinds.Keyword KwWhen) refl)
     (λ _. bind_laws (listed_laws cond_laws (apart _ _ refl))
     (λ conds. bind_laws (only_laws (kinds.Keyword KwDo) refl)
@@ -74,8 +37,8 @@ row_laws version = same_laws
 output_laws : Laws output_at (λ names. Key KwOutput ⨾ Listed IsWord names)
     (is (kinds.Keyword KwOutput)) (listed_goes none) false
 unfolding output_at
-output_laws = same_laws (λ e ts f. (f.0, f.1, f.3, f.4, f.5))
-    (λ e ts f. (f.0, f.1, tt, f.2, f.3, f.4))
+output_laws = same_laws (λ e ts f. without_value f f.5)
+    (λ e ts f. with_value tt f f.4)
     (bind_laws (only_laws (kinds.Keyword KwOutput) refl)
     (λ _. listed_laws word_laws (apart _ _ refl)) (apart _ _ refl))
 
@@ -114,93 +77,20 @@ body_laws version name priority = same_laws
     (λ m ts f. subst (λ (z : RawMachine). Is_body version name priority z ts) (sym f.5.5.5.5.5.5.0) (
       refl,
       refl,
-      (
-        f.0,
-        f.1,
-        f.3,
-        f.4,
-        (
-          f.5.0,
-          f.5.1,
-          f.5.3,
-          f.5.4,
-          (
-            f.5.5.0,
-            f.5.5.1,
-            f.5.5.3,
-            f.5.5.4,
-            (
-              f.5.5.5.0,
-              f.5.5.5.1,
-              f.5.5.5.3,
-              f.5.5.5.4,
-              (
-                f.5.5.5.5.0,
-                f.5.5.5.5.1,
-                f.5.5.5.5.3,
-                f.5.5.5.5.4,
-                subst (λ (m : List Lexeme). (Sign RightBrace) m)
-                    (sym (f.5.5.5.5.5.3 ∙ ap (λ m. f.5.5.5.5.5.0 ++ m) f.5.5.5.5.5.5.1
-                    ∙ append-nil f.5.5.5.5.5.0)) f.5.5.5.5.5.4,
-              ),
-            ),
-          ),
-        ),
-      ),
+      without_value f (without_value f.5 (without_value f.5.5 (without_value
+          f.5.5.5 (without_value f.5.5.5.5 (last_of f.5.5.5.5.5))))),
     ))
-    (λ m ts f. (
-      f.2.0,
-      f.2.1,
-      tt,
-      f.2.2,
-      f.2.3,
-      (
-        f.2.4.0,
-        f.2.4.1,
-        m.inputs,
-        f.2.4.2,
-        f.2.4.3,
-        (
-          f.2.4.4.0,
-          f.2.4.4.1,
-          m.outputs,
-          f.2.4.4.2,
-          f.2.4.4.3,
-          (
-            f.2.4.4.4.0,
-            f.2.4.4.4.1,
-            m.states,
-            f.2.4.4.4.2,
-            f.2.4.4.4.3,
-            (
-              f.2.4.4.4.4.0,
-              f.2.4.4.4.4.1,
-              m.rows,
-              f.2.4.4.4.4.2,
-              f.2.4.4.4.4.3,
-              (
-                f.2.4.4.4.4.1,
-                [],
-                tt,
-                sym (append-nil f.2.4.4.4.4.1),
-                f.2.4.4.4.4.4,
-                (
-                  (λ i. record {
-                    name = f.0 i;
-                    priority = f.1 i;
-                    inputs = m.inputs;
-                    outputs = m.outputs;
-                    states = m.states;
-                    rows = m.rows;
-                  }),
-                  refl,
-                ),
-              ),
-            ),
-          ),
-        ),
-      ),
-    ))
+    (λ m ts f.
+    with_value tt f.2 (with_value m.inputs f.2.4 (with_value m.outputs f.2.4.4 (with_value
+    m.states f.2.4.4.4 (with_value m.rows f.2.4.4.4.4 (closed tt f.2.4.4.4.4.4 (λ i.
+    record {
+      name = f.0 i;
+      priority = f.1 i;
+      inputs = m.inputs;
+      outputs = m.outputs;
+      states = m.states;
+      rows = m.rows;
+    })))))))
     (bind_laws (only_laws (kinds.Keyword KwInput) refl)
     (λ _. bind_laws (listed_laws word_laws (apart _ _ refl))
     (λ inputs. bind_laws outputs_laws (λ outputs.
@@ -226,60 +116,25 @@ pub machine_laws : (version : ℕ)
 unfolding machine_at
 machine_laws version = same_laws
     (λ m ts f.
-    let b = f.5.5.5.5.5 in (
-      f.0,
-      f.1,
-      f.3,
-      f.4,
-      (
-        f.5.0,
-        f.5.1,
-        f.5.3,
-        subst (λ (w : Word). IsWord w f.5.0) (sym b.0) f.5.4,
-        (
-          f.5.5.0,
-          f.5.5.1,
-          f.5.5.3,
-          f.5.5.4,
-          (
-            f.5.5.5.0,
-            f.5.5.5.1,
-            f.5.5.5.3,
-            subst (λ (n : Num). IsNum n f.5.5.5.0) (sym b.1) f.5.5.5.4,
-            (f.5.5.5.5.0, f.5.5.5.5.1, f.5.5.5.5.3, f.5.5.5.5.4, b.2),
-          ),
-        ),
+    let b = f.5.5.5.5.5 in
+    (without_value f (
+      f.5.0,
+      f.5.1,
+      f.5.3,
+      subst (λ (w : Word). IsWord w f.5.0) (sym b.0)
+          f.5.4,
+      without_value f.5.5 (
+        f.5.5.5.0,
+        f.5.5.5.1,
+        f.5.5.5.3,
+        subst (λ (n : Num).
+            IsNum n f.5.5.5.0) (sym b.1) f.5.5.5.4,
+        without_value f.5.5.5.5 b.2,
       ),
-    ))
-    (λ m ts f. (
-      f.0,
-      f.1,
-      tt,
-      f.2,
-      f.3,
-      (
-        f.4.0,
-        f.4.1,
-        m.name,
-        f.4.2,
-        f.4.3,
-        (
-          f.4.4.0,
-          f.4.4.1,
-          tt,
-          f.4.4.2,
-          f.4.4.3,
-          (
-            f.4.4.4.0,
-            f.4.4.4.1,
-            m.priority,
-            f.4.4.4.2,
-            f.4.4.4.3,
-            (f.4.4.4.4.0, f.4.4.4.4.1, tt, f.4.4.4.4.2, f.4.4.4.4.3, (refl, refl, f.4.4.4.4.4)),
-          ),
-        ),
-      ),
-    ))
+    )))
+    (λ m ts f.
+    with_value tt f (with_value m.name f.4 (with_value tt f.4.4 (with_value m.priority
+    f.4.4.4 (with_value tt f.4.4.4.4 (refl, refl, f.4.4.4.4.4))))))
     (bind_laws (only_laws (kinds.Keyword KwMachine) refl)
     (λ _. bind_laws word_laws (λ name.
     bind_laws (only_laws (kinds.Keyword KwPriority) refl)

@@ -1,11 +1,11 @@
 -- The laws of the rule of a network.
-use Rattle.std.proofs.Common.{ℕ, Bool, false, List, [], ◌++◌, refl, sym, ◌∙◌, ap, subst, append-nil}
+use Rattle.std.proofs.Common.{ℕ, Bool, false, refl, sym, subst}
 use Rattle.polis_base.specs.declared.token.Keyword.TheVariants.{KwNetwork, KwVersion, KwDomain, KwEvent, KwMachine}
 use Rattle.polis_base.specs.declared.token.Kind.TheVariants as kinds
-use Rattle.net_reader.specs.Lexemes.{Lexeme}
-use Rattle.net_reader.specs.Grammar.{OneAnd, IsMachine, IsNet}
+use Rattle.net_reader.specs.Grammar.{IsNet}
 use Rattle.net_reader.specs.Reading.{is, net_at}
 use Rattle.net_reader.specs.declared.raw.RawNet.{RawNet}
+use Rattle.net_reader.proofs.BoundParts.{closed, last_of, with_value, without_value}
 use Rattle.net_reader.proofs.Laws.{Laws, none, bind_laws}
 use Rattle.net_reader.proofs.Combinators.{same_laws, pure_laws, many_laws}
 use Rattle.net_reader.proofs.Tokens.{apart, within, only_laws, word_laws, num_laws, one_goes, some_laws}
@@ -18,96 +18,13 @@ net_goes = one_goes (is (kinds.Keyword KwMachine)) none
 pub net_laws : Laws net_at IsNet (is (kinds.Keyword KwNetwork)) net_goes false
 unfolding net_at
 net_laws = same_laws
-    (λ e ts f. subst (λ (z : RawNet). IsNet z ts) (sym f.5.5.5.5.5.5.5.0) (
-      f.0,
-      f.1,
-      f.3,
-      f.4,
-      (
-        f.5.0,
-        f.5.1,
-        f.5.3,
-        f.5.4,
-        (
-          f.5.5.0,
-          f.5.5.1,
-          f.5.5.3,
-          f.5.5.4,
-          (
-            f.5.5.5.0,
-            f.5.5.5.1,
-            f.5.5.5.3,
-            f.5.5.5.4,
-            (
-              f.5.5.5.5.0,
-              f.5.5.5.5.1,
-              f.5.5.5.5.3,
-              f.5.5.5.5.4,
-              (
-                f.5.5.5.5.5.0,
-                f.5.5.5.5.5.1,
-                f.5.5.5.5.5.3,
-                f.5.5.5.5.5.4,
-                subst (λ (m : List Lexeme).
-                    (OneAnd (IsMachine f.5.5.5.2.number) (IsMachine f.5.5.5.2.number) f.5.5.5.5.5.5.2) m)
-                    (sym (f.5.5.5.5.5.5.3 ∙ ap (λ m. f.5.5.5.5.5.5.0 ++ m) f.5.5.5.5.5.5.5.1
-                    ∙ append-nil f.5.5.5.5.5.5.0)) f.5.5.5.5.5.5.4,
-              ),
-            ),
-          ),
-        ),
-      ),
-    ))
-    (λ e ts f. (
-      f.0,
-      f.1,
-      tt,
-      f.2,
-      f.3,
-      (
-        f.4.0,
-        f.4.1,
-        e.name,
-        f.4.2,
-        f.4.3,
-        (
-          f.4.4.0,
-          f.4.4.1,
-          tt,
-          f.4.4.2,
-          f.4.4.3,
-          (
-            f.4.4.4.0,
-            f.4.4.4.1,
-            e.version,
-            f.4.4.4.2,
-            f.4.4.4.3,
-            (
-              f.4.4.4.4.0,
-              f.4.4.4.4.1,
-              e.domains,
-              f.4.4.4.4.2,
-              f.4.4.4.4.3,
-              (
-                f.4.4.4.4.4.0,
-                f.4.4.4.4.4.1,
-                e.events,
-                f.4.4.4.4.4.2,
-                f.4.4.4.4.4.3,
-                (
-                  f.4.4.4.4.4.1,
-                  [],
-                  e.machines,
-                  sym (append-nil f.4.4.4.4.4.1),
-                  f.4.4.4.4.4.4,
-                  (refl, refl),
-                ),
-              ),
-            ),
-          ),
-        ),
-      ),
-    ))
+    (λ e ts f. subst (λ (z : RawNet). IsNet z ts) (sym f.5.5.5.5.5.5.5.0)
+    (without_value f (without_value f.5 (without_value f.5.5 (without_value f.5.5.5
+    (without_value f.5.5.5.5 (without_value f.5.5.5.5.5 (last_of f.5.5.5.5.5.5))))))))
+    (λ e ts f.
+    with_value tt f (with_value e.name f.4 (with_value tt f.4.4 (with_value e.version
+    f.4.4.4 (with_value e.domains f.4.4.4.4 (with_value e.events f.4.4.4.4.4 (closed
+    e.machines f.4.4.4.4.4.4 refl)))))))
     (bind_laws (only_laws (kinds.Keyword KwNetwork) refl)
     (λ _. bind_laws word_laws (λ name.
     bind_laws (only_laws (kinds.Keyword KwVersion) refl)

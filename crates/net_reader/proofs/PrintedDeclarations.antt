@@ -15,6 +15,7 @@ use Rattle.net_reader.specs.declared.raw.RawEnv.{RawEnv}
 use Rattle.net_reader.specs.declared.raw.RawEnv.TheVariants as envs
 use Rattle.net_reader.specs.declared.raw.RawEvent.{RawEvent}
 use Rattle.net_reader.specs.declared.raw.RawState.{RawState}
+use Rattle.net_reader.proofs.OtherParts.{with_rest, with_both}
 use Rattle.net_reader.proofs.Lexemes.{Made, conv, seq, trail, retext, any}
 use Rattle.net_reader.proofs.PrintedWords.{Like, ends, word_made, number_made, value_made}
 use Rattle.polis_base.proofs.Names.{left_true, right_true}
@@ -58,13 +59,8 @@ domain_made d ts f h =
     (λ ms x. record {
       same = record { name = x.4.3.same; shape = x.4.4.4.same };
       alike = (λ i. record { name = x.4.3.alike i; shape = x.4.4.4.alike i });
-      is = (
-        x.0,
-        x.1,
-        x.2,
-        x.3,
-        (x.4.0, x.4.1, x.4.2, x.4.3.is, (x.4.4.0, x.4.4.1, x.4.4.2, x.4.4.3, x.4.4.4.is)),
-      );
+      is =
+          with_rest x (with_both x.4 x.4.3.is (with_rest x.4.4 x.4.4.4.is));
     })
 
 typed_made : (d : Option Word) → typed_formed d ≡ true
@@ -105,13 +101,8 @@ event_made e ts f h =
     (λ ms x. record {
       same = record { name = x.4.3.same; domain = x.4.4.3.same; env = e.env };
       alike = (λ i. record { name = x.4.3.alike i; domain = x.4.4.3.alike i; env = e.env });
-      is = (
-        x.0,
-        x.1,
-        x.2,
-        x.3,
-        (x.4.0, x.4.1, x.4.2, x.4.3.is, (x.4.4.0, x.4.4.1, x.4.4.2, x.4.4.3.is, x.4.4.4)),
-      );
+      is =
+          with_rest x (with_both x.4 x.4.3.is (with_both x.4.4 x.4.4.3.is x.4.4.4));
     })
 
 pub state_made : (s : RawState) (ts : List Lexeme) → state_formed s ≡ true → IsState s ts
@@ -137,29 +128,7 @@ state_made s ts f h =
         domain = x.4.4.4.3.alike i;
         init = x.4.4.4.4.4.alike i;
       });
-      is = (
-        x.0,
-        x.1,
-        x.2,
-        x.3,
-        (
-          x.4.0,
-          x.4.1,
-          x.4.2,
-          x.4.3.is,
-          (
-            x.4.4.0,
-            x.4.4.1,
-            x.4.4.2,
-            x.4.4.3,
-            (
-              x.4.4.4.0,
-              x.4.4.4.1,
-              x.4.4.4.2,
-              x.4.4.4.3.is,
-              (x.4.4.4.4.0, x.4.4.4.4.1, x.4.4.4.4.2, x.4.4.4.4.3, x.4.4.4.4.4.is),
-            ),
-          ),
-        ),
-      );
+      is =
+          with_rest x (with_both x.4 x.4.3.is (with_rest x.4.4 (with_both x.4.4.4
+          x.4.4.4.3.is (with_rest x.4.4.4.4 x.4.4.4.4.4.is))));
     })

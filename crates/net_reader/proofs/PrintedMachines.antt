@@ -10,6 +10,7 @@ use Rattle.net_reader.specs.Layout.{word_text, listed_text, state_text, row_text
 use Rattle.net_reader.specs.Places.{word_alone, state_alone, row_alone, machine_alone}
 use Rattle.net_reader.specs.declared.raw.Word.{Word}
 use Rattle.net_reader.specs.declared.raw.RawMachine.{RawMachine}
+use Rattle.net_reader.proofs.OtherParts.{with_rest, with_both}
 use Rattle.net_reader.proofs.Lexemes.{Made, conv, seq, trail, retext, any}
 use Rattle.net_reader.proofs.PrintedWords.{Like, word_made, number_made, each_made}
 use Rattle.polis_base.proofs.Names.{left_true, right_true}
@@ -86,67 +87,12 @@ machine_made version m ts f h =
             x.4.4.4.4.4.4.4.4.3.alike i;
         rows = x.4.4.4.4.4.4.4.4.4.3.alike i;
       });
-      is = (
-        x.0,
-        x.1,
-        x.2,
-        x.3,
-        (
-          x.4.0,
-          x.4.1,
-          x.4.2,
-          x.4.3.is,
-          (
-            x.4.4.0,
-            x.4.4.1,
-            x.4.4.2,
-            x.4.4.3,
-            (
-              x.4.4.4.0,
-              x.4.4.4.1,
-              x.4.4.4.2,
-              x.4.4.4.3.is,
-              (
-                x.4.4.4.4.0,
-                x.4.4.4.4.1,
-                x.4.4.4.4.2,
-                x.4.4.4.4.3,
-                (
-                  x.4.4.4.4.4.0,
-                  x.4.4.4.4.4.1,
-                  x.4.4.4.4.4.2,
-                  x.4.4.4.4.4.3,
-                  (
-                    x.4.4.4.4.4.4.0,
-                    x.4.4.4.4.4.4.1,
-                    x.4.4.4.4.4.4.2,
-                    x.4.4.4.4.4.4.3.is,
-                    (
-                      x.4.4.4.4.4.4.4.0,
-                      x.4.4.4.4.4.4.4.1,
-                      x.4.4.4.4.4.4.4.2,
-                      x.4.4.4.4.4.4.4.3.is,
-                      (
-                        x.4.4.4.4.4.4.4.4.0,
-                        x.4.4.4.4.4.4.4.4.1,
-                        x.4.4.4.4.4.4.4.4.2,
-                        x.4.4.4.4.4.4.4.4.3.is,
-                        (
-                          x.4.4.4.4.4.4.4.4.4.0,
-                          x.4.4.4.4.4.4.4.4.4.1,
-                          x.4.4.4.4.4.4.4.4.4.2,
-                          x.4.4.4.4.4.4.4.4.4.3.is,
-                          x.4.4.4.4.4.4.4.4.4.4,
-                        ),
-                      ),
-                    ),
-                  ),
-                ),
-              ),
-            ),
-          ),
-        ),
-      );
+      is =
+          with_rest x (with_both x.4 x.4.3.is (with_rest x.4.4 (with_both x.4.4.4
+          x.4.4.4.3.is (with_rest x.4.4.4.4 (with_rest x.4.4.4.4.4 (with_both x.4.4.4.4.4.4
+          x.4.4.4.4.4.4.3.is (with_both x.4.4.4.4.4.4.4 x.4.4.4.4.4.4.4.3.is (with_both
+          x.4.4.4.4.4.4.4.4 x.4.4.4.4.4.4.4.4.3.is (with_both x.4.4.4.4.4.4.4.4.4
+          x.4.4.4.4.4.4.4.4.4.3.is x.4.4.4.4.4.4.4.4.4.4)))))))));
     })
   where
     machine_joined : (name number inputs outputs states rows : List ℕ)

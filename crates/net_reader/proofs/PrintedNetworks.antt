@@ -12,6 +12,7 @@ use Rattle.net_reader.specs.Places.{Declares, num_alone, domain_alone, event_alo
 use Rattle.net_reader.specs.declared.raw.Num.{Num}
 use Rattle.net_reader.specs.declared.raw.RawMachine.{RawMachine}
 use Rattle.net_reader.specs.declared.raw.RawNet.{RawNet}
+use Rattle.net_reader.proofs.OtherParts.{with_rest, with_both}
 use Rattle.net_reader.proofs.Lexemes.{Made, conv, seq, trail, retext, moved, any, nothing_left}
 use Rattle.net_reader.proofs.PrintedWords.{Like, word_made, number_made, each_made}
 use Rattle.polis_base.proofs.Names.{left_true, right_true}
@@ -91,45 +92,13 @@ net_made n ts f h =
         machines =
             x.4.4.4.4.4.4.alike i;
       });
-      is = (
-        x.0,
-        x.1,
-        x.2,
-        x.3,
-        (
-          x.4.0,
-          x.4.1,
-          x.4.2,
-          x.4.3.is,
-          (
-            x.4.4.0,
-            x.4.4.1,
-            x.4.4.2,
-            x.4.4.3,
-            (
-              x.4.4.4.0,
-              x.4.4.4.1,
-              x.4.4.4.2,
-              x.4.4.4.3.is,
-              (
-                x.4.4.4.4.0,
-                x.4.4.4.4.1,
-                x.4.4.4.4.2,
-                x.4.4.4.4.3.is,
-                (
-                  x.4.4.4.4.4.0,
-                  x.4.4.4.4.4.1,
-                  x.4.4.4.4.4.2,
-                  x.4.4.4.4.4.3.is,
-                  of_version x.4.4.4.3.same n.version x.4.4.4.4.4.4.same x.4.4.4.4.4.1 x.4.4.4.3.alike
-                      (one_machine n.version.number n.machines x.4.4.4.4.4.4.same h.4.4.4.4.4.1 x.4.4.4.4.4.1
-                      h.4.4.4.4.4.4 x.4.4.4.4.4.4.alike x.4.4.4.4.4.4.is),
-                ),
-              ),
-            ),
-          ),
-        ),
-      );
+      is =
+          with_rest x (with_both x.4 x.4.3.is (with_rest x.4.4 (with_both x.4.4.4
+          x.4.4.4.3.is (with_both x.4.4.4.4 x.4.4.4.4.3.is (with_both x.4.4.4.4.4
+          x.4.4.4.4.4.3.is (of_version x.4.4.4.3.same n.version x.4.4.4.4.4.4.same
+          x.4.4.4.4.4.1 x.4.4.4.3.alike (one_machine n.version.number n.machines
+          x.4.4.4.4.4.4.same h.4.4.4.4.4.1 x.4.4.4.4.4.1 h.4.4.4.4.4.4 x.4.4.4.4.4.4.alike
+          x.4.4.4.4.4.4.is)))))));
     })
   where
     net_joined : (name number domains events machines : List ℕ)

@@ -18,6 +18,7 @@ use Rattle.net_reader.specs.declared.raw.RawSource.TheVariants as sources
 use Rattle.net_reader.specs.declared.raw.RawAct.{RawAct}
 use Rattle.net_reader.specs.declared.raw.RawAct.TheVariants as acts
 use Rattle.net_reader.specs.declared.raw.RawRow.{RawRow}
+use Rattle.net_reader.proofs.OtherParts.{with_rest, with_both}
 use Rattle.net_reader.proofs.Lexemes.{Made, conv, seq, trail, retext, any}
 use Rattle.net_reader.proofs.PrintedWords.{Like, ends, word_made, number_made, value_made, listed_made}
 use Rattle.polis_base.proofs.Names.{left_true, right_true}
@@ -60,25 +61,9 @@ cond_made (conds.OneOf w values) ts f h =
     (λ ms x. record {
       same = conds.OneOf x.3.same x.4.4.4.3.same;
       alike = (λ i. conds.OneOf (x.3.alike i) (x.4.4.4.3.alike i));
-      is = (
-        x.0,
-        x.1,
-        x.2,
-        x.3.is,
-        (
-          x.4.0,
-          x.4.1,
-          x.4.2,
-          x.4.3,
-          (
-            x.4.4.0,
-            x.4.4.1,
-            x.4.4.2,
-            x.4.4.3,
-            (x.4.4.4.0, x.4.4.4.1, x.4.4.4.2, x.4.4.4.3.is, x.4.4.4.4),
-          ),
-        ),
-      );
+      is =
+          with_both x x.3.is (with_rest x.4 (with_rest x.4.4 (with_both x.4.4.4 x.4.4.4.3.is
+          x.4.4.4.4)));
     })
 
 input_made : (w : Word) → word_formed w ≡ true
@@ -153,13 +138,8 @@ act_made version (acts.Emit w (Some s)) ts f h =
     (λ ms x. record {
       same = acts.Emit x.4.3.same (Some x.4.4.4.same);
       alike = (λ i. acts.Emit (x.4.3.alike i) (Some (x.4.4.4.alike i)));
-      is = (
-        x.0,
-        x.1,
-        x.2,
-        x.3,
-        (x.4.0, x.4.1, x.4.2, x.4.3.is, (x.4.4.0, x.4.4.1, x.4.4.2, x.4.4.3, x.4.4.4.is)),
-      );
+      is =
+          with_rest x (with_both x.4 x.4.3.is (with_rest x.4.4 x.4.4.4.is));
     })
 act_made version (acts.Set w s) ts f h =
     conv (retext (as3 w.name (codes " := ") (source_text s))
@@ -202,11 +182,6 @@ row_made version r ts f h =
     (λ ms x. record {
       same = record { conds = x.4.3.same; acts = x.4.4.4.same };
       alike = (λ i. record { conds = x.4.3.alike i; acts = x.4.4.4.alike i });
-      is = (
-        x.0,
-        x.1,
-        x.2,
-        x.3,
-        (x.4.0, x.4.1, x.4.2, x.4.3.is, (x.4.4.0, x.4.4.1, x.4.4.2, x.4.4.3, x.4.4.4.is)),
-      );
+      is =
+          with_rest x (with_both x.4 x.4.3.is (with_rest x.4.4 x.4.4.4.is));
     })

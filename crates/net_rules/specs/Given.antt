@@ -6,7 +6,7 @@ use Rattle.domains.specs.declared.domain.Domain.TheVariants.{Names, Range}
 use Rattle.transition_table.specs.declared.decl.Party.TheVariants.{Env, Machine as Sender}
 use Rattle.transition_table.specs.declared.network.Network.{Network}
 use Rattle.transition_table.specs.declared.machine.Machine.{Machine}
-use Rattle.transition_table.specs.samples.Parts.{has_codes, gives, state_of, pure_event, valued_event}
+use Rattle.transition_table.specs.samples.Parts.{has_codes, gives, state_of, pure_event, valued_event, network_of, machine_of}
 
 -- a seat belt controller with its timer
 abbrev pub belt_text : List ℕ
@@ -84,7 +84,7 @@ mix_text = flat_map line (
 
 -- the machines and the network that it gives
 abbrev pub mix_machine_0 : Machine
-mix_machine_0 = record {
+mix_machine_0 = machine_of (record {
   name = codes "first";
   priority = 7;
   inputs = 0 ∷ 1 ∷ [];
@@ -104,14 +104,10 @@ mix_machine_0 = record {
         actions = refl;
       }
       ∷ record { conds = has_codes 0 2 ∷ has_codes 1 1 ∷ []; acts = []; actions = refl } ∷ [];
-  sized_vars = refl;
-  sized_results = refl;
-  fitting_rows = refl;
-  small = refl;
-}
+}) refl
 
 abbrev pub mix_machine_1 : Machine
-mix_machine_1 = record {
+mix_machine_1 = machine_of (record {
   name = codes "second";
   priority = 255;
   inputs = 2 ∷ [];
@@ -120,14 +116,10 @@ mix_machine_1 = record {
   vars = 4 ∷ [];
   results = 2 ∷ 4 ∷ [];
   rows = record { conds = has_codes 0 14 ∷ []; acts = gives 1 2 ∷ []; actions = refl } ∷ [];
-  sized_vars = refl;
-  sized_results = refl;
-  fitting_rows = refl;
-  small = refl;
-}
+}) refl
 
 abbrev pub mix_network : Network
-mix_network = record {
+mix_network = network_of (record {
   name = codes "mix";
   domains =
       Names (codes "left" ∷ codes "middle" ∷ codes "right" ∷ [])
@@ -138,16 +130,4 @@ mix_network = record {
       ∷ valued_event (codes "turn") 0 (Sender 0) false (1 ∷ [])
       ∷ valued_event (codes "done") 0 (Sender 1) true [] ∷ [];
   machines = mix_machine_0 ∷ mix_machine_1 ∷ [];
-  few_domains = lit≤ tt;
-  few_events = lit≤ tt;
-  few_machines = lit≤ tt;
-  event_names = refl;
-  machine_names = refl;
-  event_domains = refl;
-  receivers = refl;
-  senders = refl;
-  numbered = refl;
-  once = refl;
-  sized_vars = refl;
-  sized_outputs = refl;
-}
+}) refl

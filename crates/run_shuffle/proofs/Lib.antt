@@ -7,6 +7,7 @@ pub mod BlockTables
 pub mod BlocksByPlaces
 pub mod Few
 pub mod ChosenMoves
+pub mod DrawnEntries
 pub mod DrawnOn
 pub mod OneShuffle
 pub mod BeltRuns

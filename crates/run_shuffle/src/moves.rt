@@ -2,32 +2,20 @@
 ghost use Rattle.std.specs.Prelude.{◌≡◌, ◌<◌, ◌↔◌, [], ◌∷◌, ◌++◌, filter, filter_map, length, map, unwrap_or, IfOk, OnOk, IsTrue};
 ghost use Rattle.journals.specs.Journals.{FitsNetwork, is_party, is_woken};
 ghost use Rattle.journals.specs.Legality.{Legal};
-ghost use Rattle.journals.specs.Schedules.{deliver as delivery_of};
 ghost use Rattle.journals.specs.declared.entry.Entry.{Entry};
 ghost use Rattle.journals.specs.declared.entry.Pick.TheVariants.{React, Stop};
 ghost use Rattle.run_shuffle.specs.Moves.{IsOneOf, all_moves, next_delivery, next_deliveries, env_moves, network_moves, next_sends, reactions};
 ghost use Rattle.transition_table.specs.declared.decl.Party.TheVariants.{Env, Machine as Sender};
 
 use crate::law::laws;
-use net_core::{Config, Owed, Pick, TraceItem, sending_laws};
+use net_core::{Config, Pick, TraceItem, sending_laws};
 use polis_base::{List, NoMemory};
+use scheduler_gen::deliver;
 use std::alloc::Global;
 use transition_table::Party;
 
 /// What may be done next, in order. None of them is to stop.
 pub type Moves = List<Pick>;
-
-// The delivery that is owed.
-pub(crate) fn deliver(owed: Owed) -> Pick
-    ensures { result ≡ delivery_of owed }
-{
-    Pick::Deliver {
-        from: owed.from,
-        to: owed.to,
-        event: owed.event,
-        code: owed.code,
-    }
-}
 
 // The move, and to stop where there is none.
 pub(crate) fn move_or_stop(next: Option<Pick>) -> Pick

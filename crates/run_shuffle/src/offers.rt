@@ -9,11 +9,11 @@ ghost use Rattle.run_shuffle.specs.Moves.{network_moves as moves_of_network, nex
 ghost use Rattle.run_shuffle.specs.Orders.{env_offered, first_move, moves_of_block, network_offered, same_block, scheduled_move};
 
 use crate::blocks::{block_to, current_block, is_open};
-use crate::moves::{Moves, deliver, env_moves, network_moves, push_next};
+use crate::moves::{Moves, env_moves, network_moves, push_next};
 use crate::order::RunOrder;
 use net_core::{Config, Pick};
 use polis_base::{List, NoMemory};
-use scheduler_gen::{Plan, first_to_react};
+use scheduler_gen::{Plan, deliver, first_to_react};
 use std::alloc::Global;
 use transition_table::Party;
 

@@ -9,6 +9,6 @@ mod run;
 
 pub use machines::Plan;
 pub use net_core::Pick;
-pub use next::{first_to_react, pick};
+pub use next::{deliver, first_to_react, pick};
 pub use order::plan;
 pub use run::{Finished, complete, complete_on};

@@ -9,7 +9,8 @@ ghost use Rattle.scheduler_gen.specs.Plans.{IsPlanOf};
 use crate::machines::Plan;
 use net_core::{Config, Owed, Pick};
 
-fn deliver(owed: Owed) -> Pick
+/// The pick of a delivery that is owed.
+pub fn deliver(owed: Owed) -> Pick
     ensures { result ≡ pick_of owed }
 {
     Pick::Deliver {

@@ -1,8 +1,7 @@
 -- Runs of the core on two small networks.
 use Rattle.std.specs.Prelude.{ℕ, true, false, List, [], ◌∷◌, codes, refl}
-use Rattle.std.proofs.Common.{lit≤}
 use Rattle.transition_table.specs.samples.Pong.{serving_machine, returning_machine}
-use Rattle.transition_table.specs.samples.Parts.{has_codes, pure_event}
+use Rattle.transition_table.specs.samples.Parts.{has_codes, pure_event, network_of, machine_of}
 use Rattle.transition_table.specs.declared.decl.Party.TheVariants.{Env, Machine as Sender}
 use Rattle.transition_table.specs.declared.machine.Machine.{Machine}
 use Rattle.transition_table.specs.declared.network.Network.{Network}
@@ -15,7 +14,7 @@ use Rattle.journals.specs.declared.stamped.CoreStep.TheVariants.{React, Land, Fe
 
 -- it fires at the event that starts the game, and emits nothing
 abbrev pub looking_machine : Machine
-looking_machine = record {
+looking_machine = machine_of (record {
   name = codes "c";
   priority = 1;
   inputs = 0 ∷ [];
@@ -24,15 +23,11 @@ looking_machine = record {
   vars = 2 ∷ [];
   results = 2 ∷ [];
   rows = record { conds = has_codes 0 2 ∷ []; acts = []; actions = refl } ∷ [];
-  sized_vars = refl;
-  sized_results = refl;
-  fitting_rows = refl;
-  small = refl;
-}
+}) refl
 
 -- two machines that play to each other, and one that looks on
 abbrev pub pong : Network
-pong = record {
+pong = network_of (record {
   name = codes "pong";
   domains = [];
   events =
@@ -40,19 +35,7 @@ pong = record {
       ∷ pure_event (codes "p") (Sender 0) false (1 ∷ [])
       ∷ pure_event (codes "q") (Sender 1) false (0 ∷ []) ∷ [];
   machines = serving_machine ∷ returning_machine ∷ looking_machine ∷ [];
-  few_domains = lit≤ tt;
-  few_events = lit≤ tt;
-  few_machines = lit≤ tt;
-  event_names = refl;
-  machine_names = refl;
-  event_domains = refl;
-  receivers = refl;
-  senders = refl;
-  numbered = refl;
-  once = refl;
-  sized_vars = refl;
-  sized_outputs = refl;
-}
+}) refl
 
 abbrev pub fires : ℕ → List ℕ → List ℕ → Entry
 fires m codes outs =

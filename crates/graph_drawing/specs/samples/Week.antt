@@ -8,12 +8,11 @@
 --     input rest; output ring
 --     when rest = sun do emit ring
 use Rattle.std.specs.Prelude.{ℕ, true, false, List, [], ◌∷◌, codes, refl}
-use Rattle.std.proofs.Common.{lit≤}
 use Rattle.domains.specs.declared.domain.Domain.TheVariants.{Names}
 use Rattle.transition_table.specs.declared.decl.Party.TheVariants.{Env, Machine as Sender}
 use Rattle.transition_table.specs.declared.machine.Machine.{Machine}
 use Rattle.transition_table.specs.declared.network.Network.{Network}
-use Rattle.transition_table.specs.samples.Parts.{has_codes, gives, copies, pure_event, valued_event}
+use Rattle.transition_table.specs.samples.Parts.{has_codes, gives, copies, pure_event, valued_event, network_of, machine_of}
 
 abbrev pub day_names : List (List ℕ)
 day_names =
@@ -21,7 +20,7 @@ day_names =
     ∷ codes "sun" ∷ []
 
 abbrev pub days_machine : Machine
-days_machine = record {
+days_machine = machine_of (record {
   name = codes "days";
   priority = 2;
   inputs = 0 ∷ [];
@@ -30,14 +29,10 @@ days_machine = record {
   vars = 8 ∷ [];
   results = 2 ∷ 8 ∷ [];
   rows = record { conds = has_codes 0 192 ∷ []; acts = copies 1 0 ∷ []; actions = refl } ∷ [];
-  sized_vars = refl;
-  sized_results = refl;
-  fitting_rows = refl;
-  small = refl;
-}
+}) refl
 
 abbrev pub bell_machine : Machine
-bell_machine = record {
+bell_machine = machine_of (record {
   name = codes "bell";
   priority = 1;
   inputs = 1 ∷ [];
@@ -46,14 +41,10 @@ bell_machine = record {
   vars = 8 ∷ [];
   results = 2 ∷ 2 ∷ [];
   rows = record { conds = has_codes 0 128 ∷ []; acts = gives 1 1 ∷ []; actions = refl } ∷ [];
-  sized_vars = refl;
-  sized_results = refl;
-  fitting_rows = refl;
-  small = refl;
-}
+}) refl
 
 abbrev pub week : Network
-week = record {
+week = network_of (record {
   name = codes "week";
   domains = Names day_names ∷ [];
   events =
@@ -61,16 +52,4 @@ week = record {
       ∷ valued_event (codes "rest") 0 (Sender 0) true (1 ∷ [])
       ∷ pure_event (codes "ring") (Sender 1) true [] ∷ [];
   machines = days_machine ∷ bell_machine ∷ [];
-  few_domains = lit≤ tt;
-  few_events = lit≤ tt;
-  few_machines = lit≤ tt;
-  event_names = refl;
-  machine_names = refl;
-  event_domains = refl;
-  receivers = refl;
-  senders = refl;
-  numbered = refl;
-  once = refl;
-  sized_vars = refl;
-  sized_outputs = refl;
-}
+}) refl

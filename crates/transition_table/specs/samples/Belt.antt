@@ -16,10 +16,10 @@ use Rattle.domains.specs.declared.domain.Domain.TheVariants.{Names, Range}
 use Rattle.transition_table.specs.declared.decl.Party.TheVariants.{Env, Machine as Sender}
 use Rattle.transition_table.specs.declared.machine.Machine.{Machine}
 use Rattle.transition_table.specs.declared.network.Network.{Network}
-use Rattle.transition_table.specs.samples.Parts.{has_codes, gives, state_of, pure_event}
+use Rattle.transition_table.specs.samples.Parts.{has_codes, gives, state_of, pure_event, network_of, machine_of}
 
 abbrev pub belt_machine : Machine
-belt_machine = record {
+belt_machine = machine_of (record {
   name = codes "belt";
   priority = 1;
   inputs = 0 ∷ 1 ∷ 2 ∷ 5 ∷ 6 ∷ [];
@@ -56,14 +56,10 @@ belt_machine = record {
         acts = gives 1 1 ∷ gives 4 1 ∷ [];
         actions = refl;
       } ∷ [];
-  sized_vars = refl;
-  sized_results = refl;
-  fitting_rows = refl;
-  small = refl;
-}
+}) refl
 
 abbrev pub timer_machine : Machine
-timer_machine = record {
+timer_machine = machine_of (record {
   name = codes "timer";
   priority = 2;
   inputs = 4 ∷ 3 ∷ [];
@@ -128,14 +124,10 @@ timer_machine = record {
         acts = [];
         actions = refl;
       } ∷ [];
-  sized_vars = refl;
-  sized_results = refl;
-  fitting_rows = refl;
-  small = refl;
-}
+}) refl
 
 abbrev pub belt : Network
-belt = record {
+belt = network_of (record {
   name = codes "belt";
   domains = Names (codes "off" ∷ codes "wait" ∷ codes "alarm" ∷ [])
       ∷ Range (record { first = 0; last = 10; ordered = lit≤ tt; few = lit< tt }) ∷ [];
@@ -150,16 +142,4 @@ belt = record {
       ∷ pure_event (codes "alarm_on") (Sender 0) true []
       ∷ pure_event (codes "alarm_off") (Sender 0) true [] ∷ [];
   machines = belt_machine ∷ timer_machine ∷ [];
-  few_domains = lit≤ tt;
-  few_events = lit≤ tt;
-  few_machines = lit≤ tt;
-  event_names = refl;
-  machine_names = refl;
-  event_domains = refl;
-  receivers = refl;
-  senders = refl;
-  numbered = refl;
-  once = refl;
-  sized_vars = refl;
-  sized_outputs = refl;
-}
+}) refl

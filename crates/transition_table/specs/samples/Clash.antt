@@ -6,14 +6,13 @@
 --     when b, absent a do nothing
 --     when a, b do nothing
 use Rattle.std.specs.Prelude.{true, false, [], ◌∷◌, codes, refl}
-use Rattle.std.proofs.Common.{lit≤}
 use Rattle.transition_table.specs.declared.decl.Party.TheVariants.{Env, Machine as Sender}
 use Rattle.transition_table.specs.declared.machine.Machine.{Machine}
 use Rattle.transition_table.specs.declared.network.Network.{Network}
-use Rattle.transition_table.specs.samples.Parts.{has_codes, gives, pure_event}
+use Rattle.transition_table.specs.samples.Parts.{has_codes, gives, pure_event, network_of, machine_of}
 
 abbrev pub clash_machine : Machine
-clash_machine = record {
+clash_machine = machine_of (record {
   name = codes "m";
   priority = 0;
   inputs = 0 ∷ 1 ∷ [];
@@ -25,14 +24,10 @@ clash_machine = record {
       record { conds = has_codes 0 2 ∷ []; acts = gives 1 1 ∷ []; actions = refl }
       ∷ record { conds = has_codes 1 2 ∷ has_codes 0 1 ∷ []; acts = []; actions = refl }
       ∷ record { conds = has_codes 0 2 ∷ has_codes 1 2 ∷ []; acts = []; actions = refl } ∷ [];
-  sized_vars = refl;
-  sized_results = refl;
-  fitting_rows = refl;
-  small = refl;
-}
+}) refl
 
 abbrev pub clash : Network
-clash = record {
+clash = network_of (record {
   name = codes "clash";
   domains = [];
   events =
@@ -40,16 +35,4 @@ clash = record {
       ∷ pure_event (codes "b") Env false (0 ∷ [])
       ∷ pure_event (codes "c") (Sender 0) true [] ∷ [];
   machines = clash_machine ∷ [];
-  few_domains = lit≤ tt;
-  few_events = lit≤ tt;
-  few_machines = lit≤ tt;
-  event_names = refl;
-  machine_names = refl;
-  event_domains = refl;
-  receivers = refl;
-  senders = refl;
-  numbered = refl;
-  once = refl;
-  sized_vars = refl;
-  sized_outputs = refl;
-}
+}) refl

@@ -4,14 +4,13 @@
 --     input a, b; output c
 --     when a, b do emit c
 use Rattle.std.specs.Prelude.{true, false, [], ◌∷◌, codes, refl}
-use Rattle.std.proofs.Common.{lit≤}
 use Rattle.transition_table.specs.declared.decl.Party.TheVariants.{Env, Machine as Sender}
 use Rattle.transition_table.specs.declared.machine.Machine.{Machine}
 use Rattle.transition_table.specs.declared.network.Network.{Network}
-use Rattle.transition_table.specs.samples.Parts.{has_codes, gives, pure_event}
+use Rattle.transition_table.specs.samples.Parts.{has_codes, gives, pure_event, network_of, machine_of}
 
 abbrev pub join_machine : Machine
-join_machine = record {
+join_machine = machine_of (record {
   name = codes "m";
   priority = 0;
   inputs = 0 ∷ 1 ∷ [];
@@ -24,14 +23,10 @@ join_machine = record {
     acts = gives 1 1 ∷ [];
     actions = refl;
   } ∷ [];
-  sized_vars = refl;
-  sized_results = refl;
-  fitting_rows = refl;
-  small = refl;
-}
+}) refl
 
 abbrev pub join : Network
-join = record {
+join = network_of (record {
   name = codes "join";
   domains = [];
   events =
@@ -39,16 +34,4 @@ join = record {
       ∷ pure_event (codes "b") Env false (0 ∷ [])
       ∷ pure_event (codes "c") (Sender 0) true [] ∷ [];
   machines = join_machine ∷ [];
-  few_domains = lit≤ tt;
-  few_events = lit≤ tt;
-  few_machines = lit≤ tt;
-  event_names = refl;
-  machine_names = refl;
-  event_domains = refl;
-  receivers = refl;
-  senders = refl;
-  numbered = refl;
-  once = refl;
-  sized_vars = refl;
-  sized_outputs = refl;
-}
+}) refl

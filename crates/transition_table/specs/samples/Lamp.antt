@@ -5,15 +5,14 @@
 --     input press; output light; state s : bit = off
 --     when press, s = off do s := on, emit light
 use Rattle.std.specs.Prelude.{true, false, [], ◌∷◌, codes, refl}
-use Rattle.std.proofs.Common.{lit≤}
 use Rattle.domains.specs.declared.domain.Domain.TheVariants.{Names}
 use Rattle.transition_table.specs.declared.decl.Party.TheVariants.{Env, Machine as Sender}
 use Rattle.transition_table.specs.declared.machine.Machine.{Machine}
 use Rattle.transition_table.specs.declared.network.Network.{Network}
-use Rattle.transition_table.specs.samples.Parts.{has_codes, gives, state_of, pure_event}
+use Rattle.transition_table.specs.samples.Parts.{has_codes, gives, state_of, pure_event, network_of, machine_of}
 
 abbrev pub lamp_machine : Machine
-lamp_machine = record {
+lamp_machine = machine_of (record {
   name = codes "lamp_ctl";
   priority = 1;
   inputs = 0 ∷ [];
@@ -26,30 +25,14 @@ lamp_machine = record {
     acts = gives 1 2 ∷ gives 2 1 ∷ [];
     actions = refl;
   } ∷ [];
-  sized_vars = refl;
-  sized_results = refl;
-  fitting_rows = refl;
-  small = refl;
-}
+}) refl
 
 abbrev pub lamp : Network
-lamp = record {
+lamp = network_of (record {
   name = codes "lamp";
   domains = Names (codes "off" ∷ codes "on" ∷ []) ∷ [];
   events =
       pure_event (codes "press") Env false (0 ∷ [])
       ∷ pure_event (codes "light") (Sender 0) true [] ∷ [];
   machines = lamp_machine ∷ [];
-  few_domains = lit≤ tt;
-  few_events = lit≤ tt;
-  few_machines = lit≤ tt;
-  event_names = refl;
-  machine_names = refl;
-  event_domains = refl;
-  receivers = refl;
-  senders = refl;
-  numbered = refl;
-  once = refl;
-  sized_vars = refl;
-  sized_outputs = refl;
-}
+}) refl

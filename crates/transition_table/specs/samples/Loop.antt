@@ -12,10 +12,10 @@ use Rattle.domains.specs.declared.domain.Domain.TheVariants.{Range}
 use Rattle.transition_table.specs.declared.decl.Party.TheVariants.{Env, Machine as Sender}
 use Rattle.transition_table.specs.declared.machine.Machine.{Machine}
 use Rattle.transition_table.specs.declared.network.Network.{Network}
-use Rattle.transition_table.specs.samples.Parts.{has_codes, gives, state_of, pure_event}
+use Rattle.transition_table.specs.samples.Parts.{has_codes, gives, state_of, pure_event, network_of, machine_of}
 
 abbrev pub loop_machine : Machine
-loop_machine = record {
+loop_machine = machine_of (record {
   name = codes "m";
   priority = 0;
   inputs = 0 ∷ 1 ∷ [];
@@ -36,30 +36,14 @@ loop_machine = record {
       }
       ∷ record { conds = has_codes 1 2 ∷ has_codes 2 4 ∷ []; acts = gives 1 4 ∷ []; actions = refl }
       ∷ [];
-  sized_vars = refl;
-  sized_results = refl;
-  fitting_rows = refl;
-  small = refl;
-}
+}) refl
 
 abbrev pub loop : Network
-loop = record {
+loop = network_of (record {
   name = codes "loop";
   domains = Range (record { first = 0; last = 3; ordered = lit≤ tt; few = lit< tt }) ∷ [];
   events =
       pure_event (codes "go") Env false (0 ∷ [])
       ∷ pure_event (codes "x") (Sender 0) false (0 ∷ []) ∷ [];
   machines = loop_machine ∷ [];
-  few_domains = lit≤ tt;
-  few_events = lit≤ tt;
-  few_machines = lit≤ tt;
-  event_names = refl;
-  machine_names = refl;
-  event_domains = refl;
-  receivers = refl;
-  senders = refl;
-  numbered = refl;
-  once = refl;
-  sized_vars = refl;
-  sized_outputs = refl;
-}
+}) refl

@@ -8,14 +8,13 @@
 --     input p; output q
 --     when p do emit q
 use Rattle.std.specs.Prelude.{false, [], ◌∷◌, codes, refl}
-use Rattle.std.proofs.Common.{lit≤}
 use Rattle.transition_table.specs.declared.decl.Party.TheVariants.{Env, Machine as Sender}
 use Rattle.transition_table.specs.declared.machine.Machine.{Machine}
 use Rattle.transition_table.specs.declared.network.Network.{Network}
-use Rattle.transition_table.specs.samples.Parts.{has_codes, gives, pure_event}
+use Rattle.transition_table.specs.samples.Parts.{has_codes, gives, pure_event, network_of, machine_of}
 
 abbrev pub serving_machine : Machine
-serving_machine = record {
+serving_machine = machine_of (record {
   name = codes "a";
   priority = 1;
   inputs = 0 ∷ 2 ∷ [];
@@ -26,14 +25,10 @@ serving_machine = record {
   rows =
       record { conds = has_codes 0 2 ∷ []; acts = gives 1 1 ∷ []; actions = refl }
       ∷ record { conds = has_codes 1 2 ∷ []; acts = gives 1 1 ∷ []; actions = refl } ∷ [];
-  sized_vars = refl;
-  sized_results = refl;
-  fitting_rows = refl;
-  small = refl;
-}
+}) refl
 
 abbrev pub returning_machine : Machine
-returning_machine = record {
+returning_machine = machine_of (record {
   name = codes "b";
   priority = 1;
   inputs = 1 ∷ [];
@@ -42,14 +37,10 @@ returning_machine = record {
   vars = 2 ∷ [];
   results = 2 ∷ 2 ∷ [];
   rows = record { conds = has_codes 0 2 ∷ []; acts = gives 1 1 ∷ []; actions = refl } ∷ [];
-  sized_vars = refl;
-  sized_results = refl;
-  fitting_rows = refl;
-  small = refl;
-}
+}) refl
 
 abbrev pub pong : Network
-pong = record {
+pong = network_of (record {
   name = codes "pong";
   domains = [];
   events =
@@ -57,16 +48,4 @@ pong = record {
       ∷ pure_event (codes "p") (Sender 0) false (1 ∷ [])
       ∷ pure_event (codes "q") (Sender 1) false (0 ∷ []) ∷ [];
   machines = serving_machine ∷ returning_machine ∷ [];
-  few_domains = lit≤ tt;
-  few_events = lit≤ tt;
-  few_machines = lit≤ tt;
-  event_names = refl;
-  machine_names = refl;
-  event_domains = refl;
-  receivers = refl;
-  senders = refl;
-  numbered = refl;
-  once = refl;
-  sized_vars = refl;
-  sized_outputs = refl;
-}
+}) refl

@@ -7,15 +7,14 @@
 --     input x; output yb
 --     when x do emit yb
 use Rattle.std.specs.Prelude.{ℕ, true, false, List, [], ◌∷◌, codes, refl}
-use Rattle.std.proofs.Common.{lit≤}
 use Rattle.transition_table.specs.declared.decl.Party.TheVariants.{Env, Machine as Sender}
 use Rattle.transition_table.specs.declared.machine.Machine.{Machine}
 use Rattle.transition_table.specs.declared.network.Network.{Network}
-use Rattle.transition_table.specs.samples.Parts.{has_codes, gives, pure_event}
+use Rattle.transition_table.specs.samples.Parts.{has_codes, gives, pure_event, network_of, machine_of}
 
 -- of this name and priority, with this event as its output
 abbrev pub two_machine : List ℕ → ℕ → ℕ → Machine
-two_machine name priority out = record {
+two_machine name priority out = machine_of (record {
   name = name;
   priority = priority;
   inputs = 0 ∷ [];
@@ -24,15 +23,11 @@ two_machine name priority out = record {
   vars = 2 ∷ [];
   results = 2 ∷ 2 ∷ [];
   rows = record { conds = has_codes 0 2 ∷ []; acts = gives 1 1 ∷ []; actions = refl } ∷ [];
-  sized_vars = refl;
-  sized_results = refl;
-  fitting_rows = refl;
-  small = refl;
-}
+}) refl
 
 -- with these priorities of a and b
 abbrev pub two : ℕ → ℕ → Network
-two first second = record {
+two first second = network_of (record {
   name = codes "two";
   domains = [];
   events =
@@ -40,16 +35,4 @@ two first second = record {
       ∷ pure_event (codes "ya") (Sender 0) true []
       ∷ pure_event (codes "yb") (Sender 1) true [] ∷ [];
   machines = two_machine (codes "a") first 1 ∷ two_machine (codes "b") second 2 ∷ [];
-  few_domains = lit≤ tt;
-  few_events = lit≤ tt;
-  few_machines = lit≤ tt;
-  event_names = refl;
-  machine_names = refl;
-  event_domains = refl;
-  receivers = refl;
-  senders = refl;
-  numbered = refl;
-  once = refl;
-  sized_vars = refl;
-  sized_outputs = refl;
-}
+}) refl

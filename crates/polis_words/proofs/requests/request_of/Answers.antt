@@ -114,6 +114,10 @@ returns-in_err-run_of-in-run-clause-nothing c =
     (by_first c.args.words.now (λ request. ⊥) (codes "run") (c.get.ensures ∙ ap Some c.in-run.is)
     c.in_err-run_of-in-run.ensures.nothing)
 
+pub returns-in_ok-net_of-in-check-clause-asks : goal.returns-in_ok-net_of-in-check-clause-asks
+returns-in_ok-net_of-in-check-clause-asks c =
+    c.in_ok-net_of-in-check.ensures.asks (codes "check") (c.get.ensures ∙ ap Some c.in-check.is)
+
 pub returns-in_ok-net_of-in-check-clause-one : goal.returns-in_ok-net_of-in-check-clause-one
 returns-in_ok-net_of-in-check-clause-one c =
     let found = c.in_ok-net_of-in-check in
@@ -127,6 +131,10 @@ returns-in_err-net_of-in-check-clause-nothing c =
     (by_first c.args.words.now (λ request. ⊥) (codes "check")
     (c.get.ensures ∙ ap Some c.in-check.is)
     (c.in_err-net_of-in-check.ensures.nothing (codes "check")))
+
+pub returns-in_ok-net_stem_of-in-compile-clause-asks : goal.returns-in_ok-net_stem_of-in-compile-clause-asks
+returns-in_ok-net_stem_of-in-compile-clause-asks c =
+    c.in_ok-net_stem_of-in-compile.ensures.asks (codes "compile") (c.get.ensures ∙ ap Some c.in-compile.is)
 
 pub returns-in_ok-net_stem_of-in-compile-clause-one : goal.returns-in_ok-net_stem_of-in-compile-clause-one
 returns-in_ok-net_stem_of-in-compile-clause-one c =
@@ -142,6 +150,10 @@ returns-in_err-net_stem_of-in-compile-clause-nothing c =
     (c.get.ensures ∙ ap Some c.in-compile.is)
     (c.in_err-net_stem_of-in-compile.ensures.nothing (codes "compile")))
 
+pub returns-in_ok-replay_of-in-replay-clause-asks : goal.returns-in_ok-replay_of-in-replay-clause-asks
+returns-in_ok-replay_of-in-replay-clause-asks c =
+    c.in_ok-replay_of-in-replay.ensures.asks (codes "replay") (c.get.ensures ∙ ap Some c.in-replay.is)
+
 pub returns-in_ok-replay_of-in-replay-clause-one : goal.returns-in_ok-replay_of-in-replay-clause-one
 returns-in_ok-replay_of-in-replay-clause-one c =
     let found = c.in_ok-replay_of-in-replay in
@@ -155,6 +167,10 @@ returns-in_err-replay_of-in-replay-clause-nothing c =
     (by_first c.args.words.now (λ request. ⊥) (codes "replay")
     (c.get.ensures ∙ ap Some c.in-replay.is)
     (c.in_err-replay_of-in-replay.ensures.nothing (codes "replay")))
+
+pub returns-in_ok-replay_stem_of-in-migrate-clause-asks : goal.returns-in_ok-replay_stem_of-in-migrate-clause-asks
+returns-in_ok-replay_stem_of-in-migrate-clause-asks c =
+    c.in_ok-replay_stem_of-in-migrate.ensures.asks (codes "migrate") (c.get.ensures ∙ ap Some c.in-migrate.is)
 
 pub returns-in_ok-replay_stem_of-in-migrate-clause-one : goal.returns-in_ok-replay_stem_of-in-migrate-clause-one
 returns-in_ok-replay_stem_of-in-migrate-clause-one c =
@@ -195,6 +211,10 @@ returns-in_err-bound_of-in-bound-clause-nothing c =
     (c.get.ensures ∙ ap Some c.in-bound.is)
     c.in_err-bound_of-in-bound.ensures.nothing)
 
+pub returns-in_ok-net_stem_of-in-image-clause-asks : goal.returns-in_ok-net_stem_of-in-image-clause-asks
+returns-in_ok-net_stem_of-in-image-clause-asks c =
+    c.in_ok-net_stem_of-in-image.ensures.asks (codes "image") (c.get.ensures ∙ ap Some c.in-image.is)
+
 pub returns-in_ok-net_stem_of-in-image-clause-one : goal.returns-in_ok-net_stem_of-in-image-clause-one
 returns-in_ok-net_stem_of-in-image-clause-one c =
     let found = c.in_ok-net_stem_of-in-image in
@@ -222,6 +242,10 @@ returns-in_err-equiv_of-in-equiv-clause-nothing c =
     (c.get.ensures ∙ ap Some c.in-equiv.is)
     c.in_err-equiv_of-in-equiv.ensures.nothing)
 
+pub returns-in_ok-replay_of-in-losses-clause-asks : goal.returns-in_ok-replay_of-in-losses-clause-asks
+returns-in_ok-replay_of-in-losses-clause-asks c =
+    c.in_ok-replay_of-in-losses.ensures.asks (codes "losses") (c.get.ensures ∙ ap Some c.in-losses.is)
+
 pub returns-in_ok-replay_of-in-losses-clause-one : goal.returns-in_ok-replay_of-in-losses-clause-one
 returns-in_ok-replay_of-in-losses-clause-one c =
     let found = c.in_ok-replay_of-in-losses in
@@ -236,6 +260,10 @@ returns-in_err-replay_of-in-losses-clause-nothing c =
     (c.get.ensures ∙ ap Some c.in-losses.is)
     (c.in_err-replay_of-in-losses.ensures.nothing (codes "losses")))
 
+pub returns-in_ok-replay_stem_of-in-wave-clause-asks : goal.returns-in_ok-replay_stem_of-in-wave-clause-asks
+returns-in_ok-replay_stem_of-in-wave-clause-asks c =
+    c.in_ok-replay_stem_of-in-wave.ensures.asks (codes "wave") (c.get.ensures ∙ ap Some c.in-wave.is)
+
 pub returns-in_ok-replay_stem_of-in-wave-clause-one : goal.returns-in_ok-replay_stem_of-in-wave-clause-one
 returns-in_ok-replay_stem_of-in-wave-clause-one c =
     let found = c.in_ok-replay_stem_of-in-wave in
@@ -248,6 +276,10 @@ returns-in_err-replay_stem_of-in-wave-clause-nothing c =
     if_none c.from_residual-in_err-replay_stem_of-in-wave.result
     (by_first c.args.words.now (λ request. ⊥) (codes "wave") (c.get.ensures ∙ ap Some c.in-wave.is)
     (c.in_err-replay_stem_of-in-wave.ensures.nothing (codes "wave")))
+
+pub returns-in_ok-net_stem_of-in-draw-clause-asks : goal.returns-in_ok-net_stem_of-in-draw-clause-asks
+returns-in_ok-net_stem_of-in-draw-clause-asks c =
+    c.in_ok-net_stem_of-in-draw.ensures.asks (codes "draw") (c.get.ensures ∙ ap Some c.in-draw.is)
 
 pub returns-in_ok-net_stem_of-in-draw-clause-one : goal.returns-in_ok-net_stem_of-in-draw-clause-one
 returns-in_ok-net_stem_of-in-draw-clause-one c =
@@ -275,6 +307,10 @@ returns-in_err-explain_of-in-explain-clause-nothing c =
     (c.get.ensures ∙ ap Some c.in-explain.is)
     c.in_err-explain_of-in-explain.ensures.nothing)
 
+pub returns-in_ok-replay_of-in-cover-clause-asks : goal.returns-in_ok-replay_of-in-cover-clause-asks
+returns-in_ok-replay_of-in-cover-clause-asks c =
+    c.in_ok-replay_of-in-cover.ensures.asks (codes "cover") (c.get.ensures ∙ ap Some c.in-cover.is)
+
 pub returns-in_ok-replay_of-in-cover-clause-one : goal.returns-in_ok-replay_of-in-cover-clause-one
 returns-in_ok-replay_of-in-cover-clause-one c =
     let found = c.in_ok-replay_of-in-cover in
@@ -288,6 +324,10 @@ returns-in_err-replay_of-in-cover-clause-nothing c =
     (by_first c.args.words.now (λ request. ⊥) (codes "cover")
     (c.get.ensures ∙ ap Some c.in-cover.is)
     (c.in_err-replay_of-in-cover.ensures.nothing (codes "cover")))
+
+pub returns-in_ok-net_of-in-lint-clause-asks : goal.returns-in_ok-net_of-in-lint-clause-asks
+returns-in_ok-net_of-in-lint-clause-asks c =
+    c.in_ok-net_of-in-lint.ensures.asks (codes "lint") (c.get.ensures ∙ ap Some c.in-lint.is)
 
 pub returns-in_ok-net_of-in-lint-clause-one : goal.returns-in_ok-net_of-in-lint-clause-one
 returns-in_ok-net_of-in-lint-clause-one c =

@@ -4,9 +4,11 @@ ghost use Rattle.polis_base.specs.declared.limits.TheConstants.{SIFTED_SNAPSHOTS
 ghost use Rattle.domains.specs.Orders.{place};
 ghost use Rattle.domains.specs.Tables.{product};
 ghost use Rattle.transition_table.specs.Computed.{all_supports};
+ghost use Rattle.transition_table.specs.Orders.{sizes_of};
 ghost use Rattle.transition_table.specs.Transitions.{IsDeterministic};
 ghost use Rattle.outcome_table.specs.Outcomes.{IsTableOf};
 ghost use Rattle.char_function.specs.Orders.{first_order};
+ghost use Rattle.char_function.specs.Sizes.{IsSize};
 ghost use Rattle.char_function.specs.Roots.{IsDiagramOf};
 ghost use Rattle.char_function.specs.Supported.{AreSupports};
 ghost use Rattle.order_sift.specs.Moves.{moved};
@@ -414,6 +416,34 @@ fn small_diagram(
     Ok(SiftedDiagram { sifted, root })
 }
 
+// A diagram with its size.
+#[derive(Drop)]
+struct CountedRoot {
+    root: Root,
+    count: u64,
+}
+
+// The machine's diagram under an order, with its size.
+fn counted_diagram(
+    alloc: Global,
+    m: &Machine,
+    table: &Table,
+    supports: &Supports,
+    order: &Order,
+) -> Result<CountedRoot, NoMemory>
+    requires sure { IsDeterministic m.now }
+    requires table { IsTableOf m.now table.now }
+    requires lists { supports.now ≡ all_supports m.now }
+    requires order { length order.now ≡ length (sizes_of m.now) }
+    ensures diagram { IfOk result (λ made. IsDiagramOf m.now order.now made.root.store
+        made.root.node) }
+    ensures count { IfOk result (λ made. IsSize m.now order.now made.count) }
+{
+    let root = diagram(alloc, m, table, supports, order)?;
+    let count = root.store.count(root.node)?;
+    Ok(CountedRoot { root, count })
+}
+
 // The first order of a machine of many snapshots, with the machine's diagram under it.
 fn large_diagram(
     alloc: Global,
@@ -432,8 +462,7 @@ fn large_diagram(
         made.root.node) }
 {
     let order = first_order(alloc, m, supports)?;
-    let root = diagram(alloc, m, table, supports, &order)?;
-    let count = root.store.count(root.node)?;
+    let CountedRoot { root, count } = counted_diagram(alloc, m, table, supports, &order)?;
     let sifted = Sifted {
         order,
         first_count: count,

@@ -6,7 +6,7 @@ use Rattle.polis_base.specs.Lists.{upto}
 use Rattle.domains.specs.Tables.{fits}
 use Rattle.decision_diagram.specs.Sets.{stands, taking}
 use Rattle.decision_diagram.proofs.Fits.{fits_at}
-use Rattle.domains.proofs.Ranks.{length-fits}
+use Rattle.domains.proofs.Ranks.{length_fits}
 use Rattle.decision_diagram.proofs.ByVariable.{long_upto, fits_from}
 
 pub at_upto : (n k : ℕ) → k < n → get_or (upto n) k 0 ≡ k
@@ -48,8 +48,8 @@ taking_at fixed a b w low =
 pub taking_fits : (sizes : List ℕ) (fixed : ℕ → Bool) (a b : List ℕ) → fits sizes a ≡ true
     → fits sizes b ≡ true → fits sizes (taking fixed a b) ≡ true
 taking_fits sizes fixed a b ha hb =
-    let la = length-fits sizes a ha in
-    let lb = length-fits sizes b hb in
+    let la = length_fits sizes a ha in
+    let lb = length_fits sizes b hb in
     fits_from sizes (taking fixed a b) (taking_long fixed a b ∙ lb) (λ w low.
     let e = taking_at fixed a b w (omega arith) in
     let one = fits_at sizes a ha w low in

@@ -25,7 +25,7 @@ use Rattle.domains.proofs.Places.{place_of_item}
 use Rattle.char_function.proofs.CodesByRank.{at_rank}
 use Rattle.domains.proofs.AllCodes.{long_map}
 use Rattle.char_function.proofs.IsTableOf.{numbers_long, number_low, outcome_at}
-use Rattle.domains.proofs.Ranks.{length-fits, fits-zeros}
+use Rattle.domains.proofs.Ranks.{length_fits, fits_zeros}
 use Rattle.decision_diagram.proofs.ByVariable.{index_append}
 use Rattle.outcome_table.proofs.Rows.{few_snapshots}
 use Rattle.outcome_table.proofs.Columns.{all_long}
@@ -229,7 +229,7 @@ kids_left same m order ordered s new p v i stride n kids at inside low next size
           ∙ (are c c_low).value codes fit_s
           ∙ ap (λ (k : ℕ). left_from m order k (i + c * stride) codes) f
           ∙ var_step m order ordered same p v i c (i + c * stride) codes at.low at.is inside low
-          (next c c_low) c_low (length-fits (sizes_of m) codes fit_m) refl;
+          (next c c_low) c_low (length_fits (sizes_of m) codes fit_m) refl;
     }
 
 -- and so the node of the children that are made one by one
@@ -381,7 +381,7 @@ first_of_all m order are =
     let zeros : List ℕ = replicate (length m.vars) 0 in
     let found : slice_get (all_codes m.vars) 0 ≡ Some zeros =
     ap (slice_get (all_codes m.vars)) (sym (rank_zeros m.vars))
-    ∙ at_rank m.vars zeros (fits-zeros m.vars are) in
+    ∙ at_rank m.vars zeros (fits_zeros m.vars are) in
     let within = read_within (all_codes m.vars) 0 zeros found in
     let long = long_map (point m) (all_codes m.vars) in
     let low : 0 < length (points m) = omega arith in

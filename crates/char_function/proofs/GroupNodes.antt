@@ -32,7 +32,7 @@ use Rattle.char_function.proofs.AreSupports.{all_weaken, below_upto, filter_appe
 use Rattle.char_function.proofs.Varies.{any_found}
 use Rattle.char_function.proofs.IsTableOf.{points_fit}
 use Rattle.char_function.proofs.CodesByRank.{get_map, at_rank}
-use Rattle.domains.proofs.Ranks.{length-fits}
+use Rattle.domains.proofs.Ranks.{length_fits}
 use Rattle.decision_diagram.proofs.AppendedLists.{fits_prefix}
 use Rattle.outcome_table.proofs.ListMaps.{all_get}
 use Rattle.decision_diagram.proofs.CountIsSize.{iff_same}
@@ -254,7 +254,7 @@ point_char : (m : Machine) (i : ℕ) (p : List ℕ) → slice_get (points m) i �
 point_char m i p is =
     all_get (char m) (points m) i p (all_map (char m) (point m) (all_codes m.vars)
     ∙ all_weaken (fits m.vars) (λ s. char m (point m s)) (all_codes m.vars) (lists_fit m.vars)
-    (λ s fit. char_there m s (length-fits m.vars s fit))) is
+    (λ s fit. char_there m s (length_fits m.vars s fit))) is
 
 pub all_char : ResultsFit → (m : Machine) (order : List ℕ) → IsPermutation order
     → length order ≡ length (sizes_of m) → (codes : List ℕ) → fits (sizes_of m) codes ≡ true
@@ -275,8 +275,8 @@ all_char results_fit m order perm long codes fit =
         read_some (points m) i [] (ltb-true i (length (points m)) some.1) in
         let fit_p = all_get (fits (sizes_of m)) (points m) i p (points_fit results_fit m) is in
         let same : p ≡ codes =
-        agree_same order p codes perm (length-fits (sizes_of m) p fit_p ∙ sym long)
-        (length-fits (sizes_of m) codes fit ∙ sym long) some.2 in
+        agree_same order p codes perm (length_fits (sizes_of m) p fit_p ∙ sym long)
+        (length_fits (sizes_of m) codes fit ∙ sym long) some.2 in
         ap (char m) (sym same) ∙ point_char m i p is
 
     from : char m codes ≡ true → some_agrees (points m) order 0 (upto (length (points m))) codes

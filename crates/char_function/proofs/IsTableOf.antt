@@ -17,7 +17,7 @@ use Rattle.char_function.proofs.ListItems.{all_at, at_map, index_second}
 use Rattle.char_function.proofs.AreSupports.{all_weaken}
 use Rattle.domains.proofs.AllCodes.{long_map}
 use Rattle.decision_diagram.proofs.AppendedLists.{fits_both}
-use Rattle.domains.proofs.Ranks.{length-fits}
+use Rattle.domains.proofs.Ranks.{length_fits}
 use Rattle.decision_diagram.proofs.ByVariable.{index_append}
 use Rattle.outcome_table.proofs.ListMaps.{map_map}
 
@@ -72,7 +72,7 @@ module _ (m : Machine) (t : Table) (tabled : IsTableOf m t) where
       → slice_index (get_or t.codes v []) i ≡ slice_index (at_point (points m) i) v
   var_at i v low v_low =
       let b = lists_long in
-      let long = length-fits m.vars (get_or (all_codes m.vars) i []) (fits_list i low) in
+      let long = length_fits m.vars (get_or (all_codes m.vars) i []) (fits_list i low) in
       ap (λ (xs : List ℕ). slice_index xs i) (tabled.codes.each v v_low)
       ∙ at_map (λ codes. slice_index codes v) (all_codes m.vars) i [] 0 (omega arith)
       ∙ sym (ap (λ (p : List ℕ). slice_index p v) (point_is i low)
@@ -93,7 +93,7 @@ module _ (m : Machine) (t : Table) (tabled : IsTableOf m t) where
     outcome_long i low =
         let a = numbers_long in
         ap (λ (xs : List ℕ). length xs) (outcome_at i low)
-        ∙ length-fits m.results (result_codes m (get_or (all_codes m.vars) i []))
+        ∙ length_fits m.results (result_codes m (get_or (all_codes m.vars) i []))
         (law m (get_or (all_codes m.vars) i []) (fits_list i (omega arith)))
 
     pub code_below : (i item : ℕ) → i < length (points m) → item < length (sizes_of m)
@@ -109,7 +109,7 @@ module _ (m : Machine) (t : Table) (tabled : IsTableOf m t) where
   result_at i item low high =
       let n = numbers_long in
       let s : List ℕ = get_or (all_codes m.vars) i [] in
-      let long = length-fits m.vars s (fits_list i low) in
+      let long = length_fits m.vars s (fits_list i low) in
       let sum : length s + (item - length m.vars) ≡ item = omega arith in
       ap (λ (xs : List ℕ). slice_index xs (item - length m.vars)) (outcome_at i (omega arith))
       ∙ sym (index_second s (result_codes m s) (item - length m.vars))

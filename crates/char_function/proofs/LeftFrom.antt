@@ -25,7 +25,7 @@ use Rattle.char_function.proofs.CodesByRank.{at_rank}
 use Rattle.domains.proofs.AllCodes.{long_map}
 use Rattle.decision_diagram.proofs.AllCodes.{lists_fit}
 use Rattle.decision_diagram.proofs.AppendedLists.{fits_both, fits_prefix}
-use Rattle.domains.proofs.Ranks.{length-fits}
+use Rattle.domains.proofs.Ranks.{length_fits}
 use Rattle.decision_diagram.proofs.ByVariable.{index_append}
 
 -- with another code the rank is as many strides further
@@ -66,14 +66,14 @@ module _ (m : Machine) where
   pub var_of : (i w : ℕ) → i < length (points m) → w < length m.vars
       → slice_index (at_point (points m) i) w ≡ slice_index (snapshot m i) w
   var_of i w low inside =
-      let l = length-fits m.vars (snapshot m i) (snapshot_fits i low) in
+      let l = length_fits m.vars (snapshot m i) (snapshot_fits i low) in
       ap (λ (p : List ℕ). slice_index p w) (point_is i low)
       ∙ index_append (snapshot m i) (result_codes m (snapshot m i)) w (omega arith)
 
   pub result_of : (i y : ℕ) → i < length (points m)
       → slice_index (at_point (points m) i) (length m.vars + y) ≡ result_code m y (snapshot m i)
   result_of i y low =
-      let l = length-fits m.vars (snapshot m i) (snapshot_fits i low) in
+      let l = length_fits m.vars (snapshot m i) (snapshot_fits i low) in
       ap (λ (p : List ℕ). slice_index p (length m.vars + y)) (point_is i low)
       ∙ ap (λ (k : ℕ). slice_index (point m (snapshot m i)) (k + y)) (sym l)
       ∙ index_second (snapshot m i) (result_codes m (snapshot m i)) y
@@ -213,7 +213,7 @@ module _ (m : Machine) where
       where
         set_here : slice_index (snapshot m j) v ≡ c
         set_here =
-            let l = length-fits m.vars (snapshot m i) (snapshot_fits i i_low) in
+            let l = length_fits m.vars (snapshot m i) (snapshot_fits i i_low) in
             ap (λ (xs : List ℕ). slice_index xs v) next.snap
             ∙ get_or-set_same (snapshot m i) v c 0 (omega arith)
 
@@ -286,7 +286,7 @@ module _ (m : Machine) where
         item = length m.vars + y
 
         long : length codes ≡ length (sizes_of m)
-        long = length-fits (sizes_of m) codes fit
+        long = length_fits (sizes_of m) codes fit
 
         list : List ℕ
         list = taking (stands (take p order)) (at_point (points m) i) codes
@@ -339,8 +339,8 @@ module _ (m : Machine) where
         → i < length (points m) → fits (sizes_of m) codes ≡ true
         → left_from m order p i codes ≡ true
     left_end results_fit p i codes end i_low fit =
-        let long = length-fits (sizes_of m) codes fit in
-        let own = length-fits (sizes_of m) (at_point (points m) i)
+        let long = length_fits (sizes_of m) codes fit in
+        let own = length_fits (sizes_of m) (at_point (points m) i)
         (point_fits results_fit i i_low) in
         let o = ordered.long in
         ap (char m)
@@ -351,7 +351,7 @@ module _ (m : Machine) where
         (let l = place_below order ordered.permutation w (omega arith) in omega arith))))
         ∙ ap (char m) (point_is i i_low)
         ∙ char_there m (snapshot m i)
-        (length-fits m.vars (snapshot m i) (snapshot_fits i i_low))
+        (length_fits m.vars (snapshot m i) (snapshot_fits i i_low))
 
     pub left_start : (i : ℕ) (codes : List ℕ) → left_from m order 0 i codes ≡ char m codes
     left_start i codes =
@@ -377,7 +377,7 @@ module _ (m : Machine) where
         list k = taking (stands (take p order)) (at_point (points m) k) codes
 
         long : length codes ≡ length (sizes_of m)
-        long = length-fits (sizes_of m) codes fit
+        long = length_fits (sizes_of m) codes fit
 
         list_long : (k : ℕ) → length (list k) ≡ length codes
         list_long k = taking_long (stands (take p order)) (at_point (points m) k) codes
@@ -399,7 +399,7 @@ module _ (m : Machine) where
             let s = sizes_long in
             let l = list_long k in
             let c = long in
-            let own = length-fits m.vars (snapshot m k) (snapshot_fits k low) in
+            let own = length_fits m.vars (snapshot m k) (snapshot_fits k low) in
             let t = length-take (length m.vars) (list k) in
             ext_get_or 0 (take (length m.vars) (list k)) (snapshot m k) (omega arith) (λ u u_in.
             let u_low : u < length m.vars = omega arith in

@@ -2,7 +2,7 @@
 use Rattle.std.proofs.Common.{◌≡◌, ℕ, zero, suc, ◌<◌, ◌≤◌, true, nat_le, List, [], length, replicate, slice_index, refl, ap, sym, ◌∙◌, arith}
 use Rattle.std.proofs.lemmas.Bool.{leb-true}
 use Rattle.domains.specs.Tables.{fits, product, rank, RanksBelow, RanksDiffer}
-use Rattle.domains.proofs.Ranks.{fits-zeros}
+use Rattle.domains.proofs.Ranks.{fits_zeros}
 use Rattle.polis_base.proofs.Names.{right_true}
 use Rattle.transition_table.specs.declared.machine.Machine.{Machine}
 use Rattle.transition_table.proofs.Rows.{machine_sizes}
@@ -62,7 +62,7 @@ module _ (aim : Aim) (costs : Costs) (c : List Instr) (m : Machine) (ok : IsCode
   taking ws scores are =
       let got = attained aim costs ws c scores m ok fit are (length c) []
       (replicate (length m.vars) 0) 0 (omega arith) ok.some once
-      (fits-zeros m.vars (machine_sizes m)) (λ v out. zeros_are_zero (length m.vars) v) in (
+      (fits_zeros m.vars (machine_sizes m)) (λ v out. zeros_are_zero (length m.vars) v) in (
         got.codes,
         got.fit_vars,
         got.cost_is,

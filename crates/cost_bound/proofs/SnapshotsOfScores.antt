@@ -5,7 +5,7 @@ use Rattle.std.proofs.lemmas.List.{get_or-set_same, get_or-set_other}
 use Rattle.std.proofs.lemmas.List.Elements.{Contains-get_or}
 use Rattle.std.proofs.lemmas.Option.{slice_get-get_or}
 use Rattle.domains.specs.Tables.{fits}
-use Rattle.domains.proofs.Ranks.{length-fits}
+use Rattle.domains.proofs.Ranks.{length_fits}
 use Rattle.transition_table.specs.NetworkFacts.{has}
 use Rattle.transition_table.specs.declared.machine.Machine.{Machine}
 use Rattle.transition_table.proofs.Ranges.{below_size}
@@ -106,7 +106,7 @@ module _ (aim : Aim) (costs : Costs) (ws : List ℕ) (c : List Instr) (scores : 
       let may = may_go_on c i (Test var targets) ok is in
       let to = may.1 j low in
       let new = tests_new c seen i var targets is fresh in
-      let long = length-fits m.vars s fs in
+      let long = length_fits m.vars s fs in
       let var_in : var < length s = omega arith in
       let s1 : List ℕ = slice_set s var j in
       let fs1 : fits m.vars s1 ≡ true = fits_set m.vars s var j fs (omega arith) in
@@ -212,7 +212,7 @@ module _ (aim : Aim) (costs : Costs) (ws : List ℕ) (c : List Instr) (scores : 
       let may = may_go_on c i (Test var targets) ok is in
       let to = may.1 j low in
       let new = tests_new c seen i var targets is fresh in
-      let long_s = length-fits m.vars s fs in
+      let long_s = length_fits m.vars s fs in
       let var_in : var < length r = omega arith in
       let r1 : List ℕ = slice_set r var 0 in
       let agrees1 : Agrees (seen ++ var ∷ []) s r1 =

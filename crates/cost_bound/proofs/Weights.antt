@@ -38,15 +38,15 @@ weighed_more sizes a b weight v low weighed set =
     flip size e = rw e (omega arith)
 
 -- a part of the table has no more lists than the whole
-pub product-drop : (sizes : List ℕ) (v : ℕ) → are_sizes sizes ≡ true
+pub product_drop : (sizes : List ℕ) (v : ℕ) → are_sizes sizes ≡ true
     → product (drop v sizes) ≤ product sizes
-product-drop sizes zero h = omega arith
-product-drop [] (suc v) h = omega arith
-product-drop (size ∷ sizes) (suc v) h =
+product_drop sizes zero h = omega arith
+product_drop [] (suc v) h = omega arith
+product_drop (size ∷ sizes) (suc v) h =
     let parts = and_parts (nat_le 1 size && nat_le size 33) (are_sizes sizes) h in
     let some : 1 ≤ size =
     leb-true 1 size (and_parts (nat_le 1 size) (nat_le size 33) parts.0).0 in
-    let rest = product-drop sizes v parts.1 in
+    let rest = product_drop sizes v parts.1 in
     let more : 1 * product sizes ≤ size * product sizes =
     mul-le-mul_right (product sizes) some in
     omega arith

@@ -11,7 +11,7 @@ use Rattle.decision_diagram.specs.Sizes.{by_variable}
 use Rattle.decision_diagram.proofs.Fits.{fits_at}
 use Rattle.domains.proofs.Places.{place_of_item, place_below, at_place}
 use Rattle.domains.proofs.AllCodes.{long_map}
-use Rattle.domains.proofs.Ranks.{length-fits}
+use Rattle.domains.proofs.Ranks.{length_fits}
 
 -- where one comes to from n by the codes of the variables, one code for each
 abbrev pub along : List Node → List ℕ → List ℕ → ℕ → ℕ
@@ -127,7 +127,7 @@ pub along_value : (s : Diagrams) → AreReduced s → (root : ℕ) (f : List ℕ
     → (codes : List ℕ) → fits (map (slice_index s.sizes) s.order) codes ≡ true
     → f (by_variable s.order codes) ≡ eqb (along s.nodes s.order codes root) 1
 along_value s ok root f means codes fit =
-    let long = length-fits (map (slice_index s.sizes) s.order) codes fit in
+    let long = length_fits (map (slice_index s.sizes) s.order) codes fit in
     let l = long_map (slice_index s.sizes) s.order in
     sym (means.value (by_variable s.order codes)
     (by_variable_fits s.sizes s.order codes ok.order ok.lengths fit))

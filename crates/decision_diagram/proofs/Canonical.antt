@@ -9,7 +9,7 @@ use Rattle.decision_diagram.specs.Diagrams.{Diagrams, Node, inner_at, step, foll
 use Rattle.decision_diagram.proofs.Fits.{fits_set, size_some}
 use Rattle.decision_diagram.proofs.Nodes.{none_low, cases_inner, step_here}
 use Rattle.decision_diagram.proofs.Values.{level_none, level_some, level_below, item_at_level, follow_none, follow_one, follow_codes, step_before, step_within}
-use Rattle.domains.proofs.Ranks.{length-fits, fits-zeros}
+use Rattle.domains.proofs.Ranks.{length_fits, fits_zeros}
 
 -- a bound of numbers below 2 that pass one test alike
 same_low : (a b : ℕ) → a < 2 → b < 2 → eqb a 1 ≡ eqb b 1 → a ≡ b
@@ -40,7 +40,7 @@ child_value : (s : Diagrams) → AreReduced s → (i n code : ℕ) (codes : List
     ≡ follow s.nodes (drop (i + 1) s.order) codes (child_at s i n code)
 child_value s ok i n code codes h fit =
     let var = slice_index s.order i in
-    let long = length-fits s.sizes codes fit in
+    let long = length_fits s.sizes codes fit in
     let lengths = ok.lengths in
     let below = ok.order.below i h in
     let here : slice_index (slice_set codes var code) var ≡ code =
@@ -159,7 +159,7 @@ canonical_from s ok zero i end a b in_a in_b from_a from_b same =
     absurd (omega arith)) (cases_inner s.nodes b) in
     let zeros = replicate (length s.sizes) 0 in
     let e = ap (λ (m : ℕ). eqb m 1) (sym (follow_none s.nodes (drop i s.order) zeros a none_a))
-    ∙ same zeros (fits-zeros s.sizes ok.sizes)
+    ∙ same zeros (fits_zeros s.sizes ok.sizes)
     ∙ ap (λ (m : ℕ). eqb m 1) (follow_none s.nodes (drop i s.order) zeros b none_b) in
     same_low a b (none_low s.nodes a in_a none_a) (none_low s.nodes b in_b none_b) e
 canonical_from s ok (suc left) i end a b in_a in_b from_a from_b same =

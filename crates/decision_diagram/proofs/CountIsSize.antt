@@ -24,7 +24,7 @@ use Rattle.decision_diagram.proofs.Paths.{lead_root, lead_kid}
 use Rattle.domains.proofs.Places.{place_of_item}
 use Rattle.decision_diagram.proofs.Truths.{reads, sizes_at, nodes_after, ordered_value, root_after, level_at, every_filter, every_map}
 use Rattle.decision_diagram.proofs.Values.{level_some, level_below, item_at_level}
-use Rattle.domains.proofs.Ranks.{length-fits, fits-zeros}
+use Rattle.domains.proofs.Ranks.{length_fits, fits_zeros}
 
 -- ---- each node that is reached is led to by some codes
 pub lead_further : (s : Diagrams) → AreReduced s → (root k : ℕ) (node : Node) (c : ℕ)
@@ -35,7 +35,7 @@ lead_further s ok root k node c is low a fit at =
     let good = ok.nodes k node is in
     let var : node.var < length s.sizes = good.var in
     let kids : length node.kids ≡ slice_index s.sizes node.var = good.kids in
-    let long = length-fits s.sizes a fit in
+    let long = length_fits s.sizes a fit in
     let i = level_of s k in
     let below : i < length s.order = level_below s ok k node is in
     let own_level : i ≡ place s.order node.var = level_some s k node is in
@@ -57,7 +57,7 @@ pub lead_codes : (s : Diagrams) → AreReduced s → (root : ℕ) (steps n : ℕ
 lead_codes s ok root zero n same =
     let zeros : List ℕ = replicate (length s.sizes) 0 in (
       zeros,
-      fits-zeros s.sizes ok.sizes,
+      fits_zeros s.sizes ok.sizes,
       subst (λ (m : ℕ). LeadTo s root zeros m) same (lead_root s ok root zeros),
     )
 lead_codes s ok root (suc steps) n walk =

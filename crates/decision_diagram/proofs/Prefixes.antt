@@ -10,7 +10,7 @@ use Rattle.decision_diagram.proofs.Fits.{fits_at, fits_set}
 use Rattle.decision_diagram.proofs.Nodes.{none_low, cases_inner, inner_within}
 use Rattle.domains.proofs.Places.{place_of_item}
 use Rattle.decision_diagram.proofs.Values.{level_some, level_below, skip, value_none, value_inner, follow_codes}
-use Rattle.domains.proofs.Ranks.{length-fits, fits-zeros}
+use Rattle.domains.proofs.Ranks.{length_fits, fits_zeros}
 
 -- ---- a node that isn't False is true somewhere
 pub some_or_all : (kids : List ℕ) (z : ℕ)
@@ -69,7 +69,7 @@ true_inner s ok n node is earlier =
     let inside : n < length s.nodes + 2 = within.1 in
     let deep = earlier (slice_index node.kids c) before (omega arith) kid.2 in
     let codes = deep.0 in
-    let long = length-fits s.sizes codes deep.1 in
+    let long = length_fits s.sizes codes deep.1 in
     let set : List ℕ = slice_set codes node.var c in
     let own : slice_index set node.var ≡ c = get_or-set_same codes node.var c 0 (omega arith) in
     let later : place s.order node.var < level_of s (slice_index node.kids c) =
@@ -96,7 +96,7 @@ true_below s ok (suc bound) n less in_n some =
     let low = none_low s.nodes n in_n none in
     let e : n ≡ 1 = ⊎_elim (λ z. absurd (some z)) (λ nz. omega arith) (cases_eq n 0) in (
       replicate (length s.sizes) 0,
-      fits-zeros s.sizes ok.sizes,
+      fits_zeros s.sizes ok.sizes,
       value_none s n (replicate (length s.sizes) 0) none ∙ eq-eqb n 1 e,
     ))
     (λ inner. true_inner s ok n inner.0 inner.1
@@ -202,7 +202,7 @@ pub mixed_prefix : (s : Diagrams) → AreReduced s → (i w c : ℕ) (a b : List
 unfolding mixed
 mixed_prefix s ok i w c a b h fit_b j low =
     let lengths : length s.order ≡ length s.sizes = ok.lengths in
-    let long = length-fits s.sizes b fit_b in
+    let long = length_fits s.sizes b fit_b in
     let long_too = length-set b w c in
     let e = prefix_item s i j low in
     let below = ok.order.below j (omega arith) in
@@ -213,7 +213,7 @@ pub mixed_own : (s : Diagrams) → AreReduced s → (i w c : ℕ) (a b : List �
     → w < length s.sizes → fits s.sizes b ≡ true → slice_index (mixed s i w c a b) w ≡ c
 unfolding mixed
 mixed_own s ok i w c a b h low fit_b =
-    let long = length-fits s.sizes b fit_b in
+    let long = length_fits s.sizes b fit_b in
     put_out (take i s.order) a (slice_set b w c) w (λ j less same.
     let inside : (j < i) × (j < length s.order) =
     (omega (arith, length-take i s.order), omega (arith, length-take i s.order)) in

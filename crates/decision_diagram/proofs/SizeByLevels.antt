@@ -23,7 +23,7 @@ use Rattle.decision_diagram.proofs.AppendedLists.{stands_at, in_place}
 use Rattle.decision_diagram.proofs.Members.{same_if, different_members, different_alike, any_filtered, every_filtered, every_mapped}
 use Rattle.domains.proofs.Places.{place_of_item, place_below, at_place}
 use Rattle.decision_diagram.proofs.Truths.{never_upto}
-use Rattle.domains.proofs.Ranks.{length-fits, fits-zeros}
+use Rattle.domains.proofs.Ranks.{length_fits, fits_zeros}
 
 -- two lists of values that agree at each list that fits
 agree_maps : (g h : List ℕ → Bool) (xs : List (List ℕ))
@@ -181,13 +181,13 @@ module _ (f : List ℕ → Bool) (sizes order : List ℕ) (perm : IsPermutation 
       (fits_both (z before) (z rest) p q fit_p fit_q) in
       let fit : fits (z order) (p ++ q) ≡ true = rw split both in
       let long : length (p ++ q) ≡ length order =
-      length-fits (z order) (p ++ q) fit ∙ long_map (slice_index sizes) order in
+      length_fits (z order) (p ++ q) fit ∙ long_map (slice_index sizes) order in
       let back : chosen order a ≡ p ++ q = by_variable_back order (p ++ q) perm long in
       let cut : chosen before a ++ chosen rest a ≡ p ++ q =
       sym (map-append (slice_index a) before rest) ∙ ap (λ (o : List ℕ). chosen o a) (sym split)
       ∙ back in
       let l = long_map (slice_index a) before in
-      let k = length-fits (z before) p fit_p in
+      let k = length_fits (z before) p fit_p in
       let j = long_map (slice_index sizes) before in
       let pieces = split_same (chosen before a) (chosen rest a) p q (omega arith) cut in
       (a, by_variable_fits sizes order (p ++ q) perm lengths fit, pieces.0, pieces.1)
@@ -218,10 +218,10 @@ module _ (f : List ℕ → Bool) (sizes order : List ℕ) (perm : IsPermutation 
       (λ q fit_q.
       let zeros : List ℕ = map (λ v. 0) before in
       let some = whole before rest (chosen before (replicate (length sizes) 0)) q split
-      (chosen_fits sizes (replicate (length sizes) 0) before (fits-zeros sizes sized)
+      (chosen_fits sizes (replicate (length sizes) 0) before (fits_zeros sizes sized)
       (vars_below before rest split).0) fit_q in
       let c = some.0 in
-      let long = length-fits sizes c some.1 in
+      let long = length_fits sizes c some.1 in
       let one = lists_all sizes
       (λ c. same_truth (f (taking (stands before) a c)) (f (taking (stands before) b c))) each c
       some.1 in
@@ -239,7 +239,7 @@ module _ (f : List ℕ → Bool) (sizes order : List ℕ) (perm : IsPermutation 
       (all_codes sizes)
       (all_fit sizes (λ c. same_truth (f (taking (stands before) a c))
       (f (taking (stands before) b c))) (λ c fit_c.
-      let long = length-fits sizes c fit_c in
+      let long = length_fits sizes c fit_c in
       let q : List ℕ = chosen rest c in
       let one = lists_all (z rest) (λ q.
       same_truth (F (chosen before a ++ q)) (F (chosen before b ++ q))) each q
@@ -265,7 +265,7 @@ module _ (f : List ℕ → Bool) (sizes order : List ℕ) (perm : IsPermutation 
       → c < slice_index sizes v → f (taking (stands before) a (slice_set b v c))
       ≡ F (chosen before a ++ c ∷ chosen vs b)
   value_with before vs a b v c split fit low =
-      let long = length-fits sizes b fit in
+      let long = length_fits sizes b fit in
       let below = (vars_below before (v ∷ vs) split).1 0 (omega arith) in
       let total : length order ≡ length before + length (v ∷ vs) =
       ap (λ (o : List ℕ). length o) split ∙ length-append before (v ∷ vs) in
@@ -292,7 +292,7 @@ module _ (f : List ℕ → Bool) (sizes order : List ℕ) (perm : IsPermutation 
   value_same : (before vs a b : List ℕ) (v : ℕ) → order ≡ before ++ v ∷ vs → fits sizes b ≡ true
       → f (taking (stands before) a b) ≡ F (chosen before a ++ slice_index b v ∷ chosen vs b)
   value_same before vs a b v split fit =
-      sym (ap f (joined before (v ∷ vs) a b split (length-fits sizes b fit)))
+      sym (ap f (joined before (v ∷ vs) a b split (length_fits sizes b fit)))
 
   not_true : (b : Bool) → not b ≡ false → b ≡ true
   not_true true h = refl
@@ -409,7 +409,7 @@ module _ (f : List ℕ → Bool) (sizes order : List ℕ) (perm : IsPermutation 
       (every_filtered (fits (z before)) D (all_codes (z before)) (lists_fit (z before)))
       (λ p in_p.
       let made = whole before (v ∷ vs) p (chosen (v ∷ vs) (replicate (length sizes) 0)) split in_p.0
-      (chosen_fits sizes (replicate (length sizes) 0) (v ∷ vs) (fits-zeros sizes sized)
+      (chosen_fits sizes (replicate (length sizes) 0) (v ∷ vs) (fits_zeros sizes sized)
       (vars_below before (v ∷ vs) split).1) in
       let a = made.0 in
       let on : E a ≡ true = depends_alike before vs a v split made.1 ∙ ap D made.2 ∙ in_p.1 in

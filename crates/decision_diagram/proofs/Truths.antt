@@ -20,7 +20,7 @@ use Rattle.decision_diagram.proofs.Distinct.{Every, differing, different_map, sa
 use Rattle.decision_diagram.proofs.Fits.{size_some}
 use Rattle.decision_diagram.proofs.Nodes.{cases_inner, step_here}
 use Rattle.decision_diagram.proofs.Values.{step_within}
-use Rattle.domains.proofs.Ranks.{length-fits}
+use Rattle.domains.proofs.Ranks.{length_fits}
 
 -- ---- lists
 pub map_on : {X Y : Type 0} (p : X → Bool) (g h : X → Y) (xs : List X) → list_all p xs ≡ true
@@ -217,7 +217,7 @@ module _ (s : Diagrams) (ok : AreReduced s) (root : ℕ) (in_root : IsNode s roo
       (fits_both (sizes_at s before) (sizes_at s vars) prefix codes fit fit_codes) in
       let whole : fits (sizes_at s s.order) (prefix ++ codes) ≡ true = rw split both in
       let long : length prefix ≡ length before =
-      length-fits (sizes_at s before) prefix fit ∙ long_map (slice_index s.sizes) before in
+      length_fits (sizes_at s before) prefix fit ∙ long_map (slice_index s.sizes) before in
       along_value s ok root f means (prefix ++ codes) whole
       ∙ ap (λ (o : List ℕ). eqb (along s.nodes o (prefix ++ codes) root) 1) split
       ∙ ap (λ (m : ℕ). eqb m 1) (along_append s.nodes before vars prefix codes root long))
@@ -238,7 +238,7 @@ module _ (s : Diagrams) (ok : AreReduced s) (root : ℕ) (in_root : IsNode s roo
       (fits_both (sizes_at s before) (slice_index s.sizes v ∷ []) prefix (code ∷ []) fit
       last) in
       let long : length prefix ≡ length before =
-      length-fits (sizes_at s before) prefix fit ∙ long_map (slice_index s.sizes) before in
+      length_fits (sizes_at s before) prefix fit ∙ long_map (slice_index s.sizes) before in
       truths_at (before ++ v ∷ []) vs (prefix ++ code ∷ []) split_too fit_too
       ∙ ap (values s vs) (along_append s.nodes before (v ∷ []) prefix (code ∷ []) root long)
 

@@ -6,19 +6,19 @@ use Rattle.std.proofs.lemmas.Option.{same_Some}
 use Rattle.domains.specs.Tables.{fits, are_sizes, are_greatest}
 
 -- after the last place there is nothing
-pub greatest-none : (sizes codes : List ℕ) → length codes ≡ length sizes
+pub greatest_none : (sizes codes : List ℕ) → length codes ≡ length sizes
     → are_greatest (drop (length sizes) sizes) (drop (length sizes) codes) ≡ true
-greatest-none [] [] e = refl
-greatest-none (size ∷ sizes) (code ∷ codes) e = greatest-none sizes codes (omega arith)
-greatest-none [] (code ∷ codes) e = absurd (omega arith)
-greatest-none (size ∷ sizes) [] e = absurd (omega arith)
+greatest_none [] [] e = refl
+greatest_none (size ∷ sizes) (code ∷ codes) e = greatest_none sizes codes (omega arith)
+greatest_none [] (code ∷ codes) e = absurd (omega arith)
+greatest_none (size ∷ sizes) [] e = absurd (omega arith)
 
 -- one place more; j is the place after it
-pub greatest-more : (sizes codes : List ℕ) (k j size code : ℕ) → j ≡ suc k
+pub greatest_more : (sizes codes : List ℕ) (k j size code : ℕ) → j ≡ suc k
     → slice_get sizes k ≡ Some size → slice_get codes k ≡ Some code → code + 1 ≡ size
     → are_greatest (drop j sizes) (drop j codes) ≡ true
     → are_greatest (drop k sizes) (drop k codes) ≡ true
-greatest-more sizes codes k j size code is at_size at_code e after =
+greatest_more sizes codes k j size code is at_size at_code e after =
     let b = rw is at after in
     more sizes codes k at_size at_code b
   where

@@ -65,88 +65,88 @@ ranks_reach (size ∷ sizes) n h =
     (p.0 ∷ rest.0, both_true (lt-ltb p.0 size p.2) rest.1, omega (arith, rest.2, p.4))
 
 -- zeros
-pub rank-zeros : (sizes : List ℕ) (n : ℕ) → rank sizes (replicate n 0) ≡ 0
-rank-zeros [] n = refl
-rank-zeros (size ∷ sizes) zero = refl
-rank-zeros (size ∷ sizes) (suc n) = omega (arith, rank-zeros sizes n)
+pub rank_zeros : (sizes : List ℕ) (n : ℕ) → rank sizes (replicate n 0) ≡ 0
+rank_zeros [] n = refl
+rank_zeros (size ∷ sizes) zero = refl
+rank_zeros (size ∷ sizes) (suc n) = omega (arith, rank_zeros sizes n)
 
-pub fits-zeros : (sizes : List ℕ) → are_sizes sizes ≡ true
+pub fits_zeros : (sizes : List ℕ) → are_sizes sizes ≡ true
     → fits sizes (replicate (length sizes) 0) ≡ true
-fits-zeros [] h = refl
-fits-zeros (size ∷ sizes) h =
+fits_zeros [] h = refl
+fits_zeros (size ∷ sizes) h =
     let parts = and_parts (nat_le 1 size && nat_le size 33) (are_sizes sizes) h in
     let some = (and_parts (nat_le 1 size) (nat_le size 33) parts.0).0 in
-    both_true (lt-ltb 0 size (leb-true 1 size some)) (fits-zeros sizes parts.1)
+    both_true (lt-ltb 0 size (leb-true 1 size some)) (fits_zeros sizes parts.1)
 
 -- the last list
-pub rank-greatest : (sizes codes : List ℕ) → are_greatest sizes codes ≡ true
+pub rank_greatest : (sizes codes : List ℕ) → are_greatest sizes codes ≡ true
     → rank sizes codes + 1 ≡ product sizes
-rank-greatest [] [] h = refl
-rank-greatest (size ∷ sizes) (code ∷ codes) h =
+rank_greatest [] [] h = refl
+rank_greatest (size ∷ sizes) (code ∷ codes) h =
     let parts = and_parts (code + 1 == size) (are_greatest sizes codes) h in
     let e : code + 1 ≡ size = eqb-true _ _ parts.0 in
-    let r = rank-greatest sizes codes parts.1 in
+    let r = rank_greatest sizes codes parts.1 in
     omega (arith, ap (λ (n : ℕ). n * product sizes) e)
-rank-greatest [] (code ∷ codes) h = cc
-rank-greatest (size ∷ sizes) [] h = cc
+rank_greatest [] (code ∷ codes) h = cc
+rank_greatest (size ∷ sizes) [] h = cc
 
-pub length-fits : (sizes codes : List ℕ) → fits sizes codes ≡ true → length codes ≡ length sizes
-length-fits [] [] h = refl
-length-fits (size ∷ sizes) (code ∷ codes) h =
-    ap suc (length-fits sizes codes (and_parts (nat_lt code size) (fits sizes codes) h).1)
-length-fits [] (code ∷ codes) h = cc
-length-fits (size ∷ sizes) [] h = cc
+pub length_fits : (sizes codes : List ℕ) → fits sizes codes ≡ true → length codes ≡ length sizes
+length_fits [] [] h = refl
+length_fits (size ∷ sizes) (code ∷ codes) h =
+    ap suc (length_fits sizes codes (and_parts (nat_lt code size) (fits sizes codes) h).1)
+length_fits [] (code ∷ codes) h = cc
+length_fits (size ∷ sizes) [] h = cc
 
 -- the next list
-pub rank-stepped : (sizes codes : List ℕ) (k : ℕ) → fits sizes codes ≡ true → k < length codes
+pub rank_stepped : (sizes codes : List ℕ) (k : ℕ) → fits sizes codes ≡ true → k < length codes
     → are_greatest (drop (suc k) sizes) (drop (suc k) codes) ≡ true
     → rank sizes (stepped codes k) ≡ rank sizes codes + 1
-rank-stepped [] [] k f below g = absurd (omega arith)
-rank-stepped (size ∷ sizes) (code ∷ codes) zero f below g =
-    let z = rank-zeros sizes (length codes) in
-    let r = rank-greatest sizes codes g in
+rank_stepped [] [] k f below g = absurd (omega arith)
+rank_stepped (size ∷ sizes) (code ∷ codes) zero f below g =
+    let z = rank_zeros sizes (length codes) in
+    let r = rank_greatest sizes codes g in
     omega arith
-rank-stepped (size ∷ sizes) (code ∷ codes) (suc k) f below g =
+rank_stepped (size ∷ sizes) (code ∷ codes) (suc k) f below g =
     let parts = and_parts (nat_lt code size) (fits sizes codes) f in
-    omega (arith, rank-stepped sizes codes k parts.1 (omega arith) g)
-rank-stepped [] (code ∷ codes) k f below g = cc
-rank-stepped (size ∷ sizes) [] k f below g = cc
+    omega (arith, rank_stepped sizes codes k parts.1 (omega arith) g)
+rank_stepped [] (code ∷ codes) k f below g = cc
+rank_stepped (size ∷ sizes) [] k f below g = cc
 
-pub fits-stepped : (sizes codes : List ℕ) (k : ℕ) → are_sizes sizes ≡ true → fits sizes codes ≡ true
+pub fits_stepped : (sizes codes : List ℕ) (k : ℕ) → are_sizes sizes ≡ true → fits sizes codes ≡ true
     → k < length codes → slice_index codes k + 1 < slice_index sizes k
     → fits sizes (stepped codes k) ≡ true
-fits-stepped [] [] k s f below room = absurd (omega arith)
-fits-stepped (size ∷ sizes) (code ∷ codes) zero s f below room =
+fits_stepped [] [] k s f below room = absurd (omega arith)
+fits_stepped (size ∷ sizes) (code ∷ codes) zero s f below room =
     let parts = and_parts (nat_lt code size) (fits sizes codes) f in
     let rest = (and_parts (nat_le 1 size && nat_le size 33) (are_sizes sizes) s).1 in
     both_true (lt-ltb (code + 1) size room)
-    (rw (length-fits sizes codes parts.1) (fits-zeros sizes rest))
-fits-stepped (size ∷ sizes) (code ∷ codes) (suc k) s f below room =
+    (rw (length_fits sizes codes parts.1) (fits_zeros sizes rest))
+fits_stepped (size ∷ sizes) (code ∷ codes) (suc k) s f below room =
     let parts = and_parts (nat_lt code size) (fits sizes codes) f in
     let rest = (and_parts (nat_le 1 size && nat_le size 33) (are_sizes sizes) s).1 in
-    both_true parts.0 (fits-stepped sizes codes k rest parts.1 (omega arith) room)
-fits-stepped [] (code ∷ codes) k s f below room = cc
-fits-stepped (size ∷ sizes) [] k s f below room = cc
+    both_true parts.0 (fits_stepped sizes codes k rest parts.1 (omega arith) room)
+fits_stepped [] (code ∷ codes) k s f below room = cc
+fits_stepped (size ∷ sizes) [] k s f below room = cc
 
 -- a list with a next one isn't the last
-pub not-greatest : (sizes codes : List ℕ) → rank sizes codes + 1 < product sizes
+pub not_greatest : (sizes codes : List ℕ) → rank sizes codes + 1 < product sizes
     → true ≡ not (are_greatest sizes codes)
-not-greatest sizes codes more =
+not_greatest sizes codes more =
     elim (cases_Bool (are_greatest sizes codes)) [
-      | inl greatest ↦ absurd (omega (arith, rank-greatest sizes codes greatest))
+      | inl greatest ↦ absurd (omega (arith, rank_greatest sizes codes greatest))
       | inr below ↦ rw below refl
     ]
 
 -- the next list has the next number, which is below the product
-pub next-below : (sizes codes : List ℕ) (k : ℕ) → are_sizes sizes ≡ true → fits sizes codes ≡ true
+pub next_below : (sizes codes : List ℕ) (k : ℕ) → are_sizes sizes ≡ true → fits sizes codes ≡ true
     → k < length codes → slice_index codes k + 1 < slice_index sizes k
     → are_greatest (drop (suc k) sizes) (drop (suc k) codes) ≡ true
     → rank sizes codes + 1 < product sizes
-next-below sizes codes k s f below room g =
+next_below sizes codes k s f below room g =
     omega (
       arith,
-      ranks_below sizes (stepped codes k) (fits-stepped sizes codes k s f below room),
-      rank-stepped sizes codes k f below g,
+      ranks_below sizes (stepped codes k) (fits_stepped sizes codes k s f below room),
+      rank_stepped sizes codes k f below g,
     )
 
 -- a size is at most 33

@@ -17,10 +17,10 @@ use Rattle.journals.specs.Moved.{machine_of}
 use Rattle.event_accounts.specs.Accounts.{Buffer, account, buffer_at, buffers_of, consumes, is_delivery_of, overwrites_at}
 use Rattle.event_accounts.specs.inner.Steps.{AreFew, HasCode, account_after, rows_of}
 use Rattle.event_accounts.specs.declared.account.Account.{Account}
-use Rattle.domains.proofs.Ranks.{length-fits}
+use Rattle.domains.proofs.Ranks.{length_fits}
 use Rattle.transition_table.proofs.Ranges.{vars_length}
 use Rattle.journals.proofs.CursorsAfter.{machine_within}
-use Rattle.journals.proofs.MomentsAfter.{length-upto, get_or-table, set-table}
+use Rattle.journals.proofs.MomentsAfter.{length_upto, get_or_table, set_table}
 use Rattle.event_accounts.proofs.Balances.{brings_code}
 use Rattle.event_accounts.proofs.AccountAfter.{account_away, account_more}
 
@@ -33,7 +33,7 @@ has_code net machine (Rea m s o) i h at below =
     let of : IsSnapshot machine s × IsOutcome machine o =
     subst (λ (found : Option Machine). IsSomeAnd found
     (λ machine. IsSnapshot machine s × IsOutcome machine o)) at h in
-    let size = length-fits machine.vars s.codes of.0 in
+    let size = length_fits machine.vars s.codes of.0 in
     let many = vars_length machine in
     omega arith
 
@@ -46,7 +46,7 @@ few journal b = (
   let most = length-filter (overwrites_at journal b.machine b.event) (upto (length journal)) in
       let least = count_by-le-length (overwrites_at journal b.machine b.event)
       (upto (length journal)) in
-      let size = length-upto (length journal) in
+      let size = length_upto (length journal) in
       omega arith,
 )
 
@@ -129,7 +129,7 @@ pub rows_more : (net : Network) (journal : List Entry) (x : Entry) (new : List A
     → FitsNetwork net x → new ≡ row_of net (journal ++ x ∷ []) (machine_of x)
     → set (rows_of net journal) (machine_of x) new ≡ rows_of net (journal ++ x ∷ [])
 rows_more net journal x new fits is =
-    set-table (row_of net journal) (row_of net (journal ++ x ∷ [])) (length net.machines)
+    set_table (row_of net journal) (row_of net (journal ++ x ∷ [])) (length net.machines)
     (machine_of x) new (machine_within net x fits) (sym is)
     (λ k other below. row_stays journal x k (enumerate_from 0 (inputs_of net k))
     (λ h. other (sym h)))
@@ -140,7 +140,7 @@ pub row_at : (net : Network) (journal : List Entry) (rows : List (List Account))
 row_at net journal rows m row are below at =
     at
     ∙ ap (λ (l : List (List Account)). get_or l m row) are
-    ∙ get_or-table (row_of net journal) (length net.machines) m row below
+    ∙ get_or_table (row_of net journal) (length net.machines) m row below
 
 -- ---- the first rows, and all rows
 

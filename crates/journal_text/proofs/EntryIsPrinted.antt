@@ -31,7 +31,7 @@ use Rattle.journal_text.proofs.EntryForms.{seen_of, given_of, form_of}
 use Rattle.journal_text.proofs.MachineCodes.{vars_are, results_are}
 use Rattle.journal_text.proofs.EntryReadsBack.{event_item_is, event_items_are, set_items_are, state_items_are, are_events, event_sizes, event_sized, set_sizes, state_sizes}
 use Rattle.journals.proofs.DeliveriesOfWay.{passes_of_all}
-use Rattle.domains.proofs.Ranks.{length-fits}
+use Rattle.domains.proofs.Ranks.{length_fits}
 use Rattle.journals.proofs.SnapFits.{fits_after_fits}
 
 there : {X : Type 0} (xs : List X) (k : ℕ) → k < length xs → (x : X) × (slice_get xs k ≡ Some x)
@@ -175,7 +175,7 @@ snapshot_is net m machine a b present values at h =
     let p = events_are net machine.inputs a present facts.inputs parts.0 in
     let v = states_are net machine.states b values parts.1 in
     let len : length present ≡ length machine.inputs =
-    length-fits _ present p.1 ∙ length-map machine.inputs (event_size net) in
+    length_fits _ present p.1 ∙ length-map machine.inputs (event_size net) in
     let prefix : take (length machine.inputs) (present ++ values) ≡ present =
     take_at present values _ len in
     let back : drop (length machine.inputs) (present ++ values) ≡ values =
@@ -198,8 +198,8 @@ result_is net m machine a b next outs at h =
       rw at (rw (s.0, o.0) refl),
       record {
         widths = record {
-          next = length-fits _ next s.1 ∙ length-map machine.states (set_size net);
-          outs = length-fits _ outs o.1 ∙ length-map machine.outputs (event_size net);
+          next = length_fits _ next s.1 ∙ length-map machine.states (set_size net);
+          outs = length_fits _ outs o.1 ∙ length-map machine.outputs (event_size net);
         };
         codes = rw (results_are net machine facts.vars facts.outs)
             (fits_after_fits _ _ next outs s.1 o.1);

@@ -18,6 +18,6 @@ mod worked;
 
 pub use fault::{JournalFault, JournalKind};
 pub use law::laws;
-pub use print::{print_journal, print_outputs, push_count, push_snapshot};
+pub use print::{print_journal, print_outputs, push_count, push_event, push_snapshot};
 pub use read::{ReadJournal, read_journal};
 pub use worked::worked_texts;

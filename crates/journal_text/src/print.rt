@@ -23,8 +23,9 @@ fn push_value(net: &Network, d: u32, v: u8, into: &mut Bytes) -> Result<(), NoMe
     net.domains.get(d as u64).push_value(v, into)
 }
 
-// Appends an event, with its value where it has a domain.
-fn push_event(net: &Network, e: u32, code: u8, into: &mut Bytes) -> Result<(), NoMemory>
+/// Appends `E`, or `E=V` where the event has a domain, V being the value of the code: so a line of
+/// outputs has an event.
+pub fn push_event(net: &Network, e: u32, code: u8, into: &mut Bytes) -> Result<(), NoMemory>
     requires { IsTrue (is_event_code net.now e code) }
     ensures { OnOk result (into.new ≡ into.old ++ event_item net.now (e, code)) }
 {

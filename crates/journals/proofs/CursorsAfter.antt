@@ -20,7 +20,7 @@ use Rattle.journals.specs.Legality.{Legal, MayFollow}
 use Rattle.journals.specs.Moved.{machine_of}
 use Rattle.journals.specs.Schedules.{is_way, without_first, owed_by_machines}
 use Rattle.journals.proofs.Cursors.{env_at, nth_place_next}
-use Rattle.journals.proofs.MomentsAfter.{get_or-table, set-table}
+use Rattle.journals.proofs.MomentsAfter.{get_or_table, set_table}
 use Rattle.journals.proofs.OwedAfter.{reaction_owes, delivery_owes}
 use Rattle.journals.proofs.DeliveredBeginsSent.{delivered_own, delivered_other, delivered_by_reaction, delivered_begins_sent, may_follow_next}
 
@@ -94,8 +94,8 @@ cursors_are_after net trace journal (Dep Env m e c) fits legal follows =
     let n = length net.machines in
     let below : m < n = machine_within net (Dep Env m e c) fits in
     let old = cursor net trace journal in
-    let at : slice_index (map old (upto n)) m ≡ old m = get_or-table old n m 0 below in
-    set-table old (cursor net trace (journal ++ Dep Env m e c ∷ [])) n m
+    let at : slice_index (map old (upto n)) m ≡ old m = get_or_table old n m 0 below in
+    set_table old (cursor net trace (journal ++ Dep Env m e c ∷ [])) n m
     (next_place net trace m (slice_index (map old (upto n)) m)) below
     (sym (cursor_own net trace journal m e c legal follows) ∙ ap (next_place net trace m) (sym at))
     (λ k other inside.

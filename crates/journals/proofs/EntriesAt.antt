@@ -11,7 +11,7 @@ use Rattle.journals.specs.declared.entry.Entry.{Entry}
 use Rattle.journals.specs.declared.entry.Entry.TheVariants.{Dep, Rea}
 use Rattle.journals.specs.Journals.{FitsNetwork, IsJournal, snap}
 use Rattle.journals.specs.Moved.{machine_of, SuitsMachine, moments_of}
-use Rattle.journals.proofs.MomentsAfter.{get_or-table}
+use Rattle.journals.proofs.MomentsAfter.{get_or_table}
 
 pub fits_at : (net : Network) (journal : List Entry) (i : ℕ) (entry : Entry) → IsJournal net journal
     → slice_get journal i ≡ Some entry → FitsNetwork net entry
@@ -40,4 +40,4 @@ pub moment_of : (net : Network) (journal : List Entry) (moments : List Snapshot)
     → s ≡ get_or moments m s → s ≡ snap net journal m
 moment_of net journal moments m s are below at =
     at ∙ ap (λ (l : List Snapshot). get_or l m s) are
-    ∙ get_or-table (snap net journal) (length net.machines) m s below
+    ∙ get_or_table (snap net journal) (length net.machines) m s below

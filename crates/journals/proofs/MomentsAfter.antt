@@ -178,45 +178,45 @@ is_woken_after journal (Rea k s o) m =
 
 -- ---- tables, one item a machine
 
-pub length-upto : (n : ℕ) → length (upto n) ≡ n
-length-upto zero = refl
-length-upto (suc n) = length_push (upto n) n ∙ rw (length-upto n) (add-one n)
+pub length_upto : (n : ℕ) → length (upto n) ≡ n
+length_upto zero = refl
+length_upto (suc n) = length_push (upto n) n ∙ rw (length_upto n) (add-one n)
 
 pub upto_more : {X : Type 0} (f : ℕ → X) (n : ℕ) → map f (upto (n + 1)) ≡ map f (upto n) ++ f n ∷ []
 upto_more f n = rw add-one (map-append f (upto n) (n ∷ []))
 
-pub get_or-upto : (n k d : ℕ) → k < n → get_or (upto n) k d ≡ k
-get_or-upto zero k d below = absurd (omega arith)
-get_or-upto (suc n) k d below =
+pub get_or_upto : (n k d : ℕ) → k < n → get_or (upto n) k d ≡ k
+get_or_upto zero k d below = absurd (omega arith)
+get_or_upto (suc n) k d below =
     elim (cases_eq k n) [
-      | inl same ↦ get_or-append_right (upto n) (n ∷ []) n k d (length-upto n) (omega arith)
+      | inl same ↦ get_or-append_right (upto n) (n ∷ []) n k d (length_upto n) (omega arith)
           ∙ ap (λ i. get_or (n ∷ []) i d) (let e : k - n ≡ 0 = omega arith in e) ∙ sym same
-      | inr other ↦ get_or_append_left (upto n) (n ∷ []) d k (let e = length-upto n in omega arith)
-          ∙ get_or-upto n k d (omega arith)
+      | inr other ↦ get_or_append_left (upto n) (n ∷ []) d k (let e = length_upto n in omega arith)
+          ∙ get_or_upto n k d (omega arith)
     ]
 
-pub length-table : {X : Type 0} (f : ℕ → X) (n : ℕ) → length (map f (upto n)) ≡ n
-length-table f n = length-map (upto n) f ∙ length-upto n
+pub length_table : {X : Type 0} (f : ℕ → X) (n : ℕ) → length (map f (upto n)) ≡ n
+length_table f n = length-map (upto n) f ∙ length_upto n
 
-pub get_or-table : {X : Type 0} (f : ℕ → X) (n k : ℕ) (d : X) → k < n
+pub get_or_table : {X : Type 0} (f : ℕ → X) (n k : ℕ) (d : X) → k < n
     → get_or (map f (upto n)) k d ≡ f k
-get_or-table f n k d below = get_or-map f (upto n) k 0 d (let e = length-upto n in omega arith)
-    ∙ ap f (get_or-upto n k 0 below)
+get_or_table f n k d below = get_or-map f (upto n) k 0 d (let e = length_upto n in omega arith)
+    ∙ ap f (get_or_upto n k 0 below)
 
 -- a table in which one item is another
-pub set-table : {X : Type 0} (f g : ℕ → X) (n m : ℕ) (y : X) → m < n → g m ≡ y
+pub set_table : {X : Type 0} (f g : ℕ → X) (n m : ℕ) (y : X) → m < n → g m ≡ y
     → ((k : ℕ) → (k ≡ m → ⊥) → k < n → g k ≡ f k) → set (map f (upto n)) m y ≡ map g (upto n)
-set-table {X} f g n m y below here others =
+set_table {X} f g n m y below here others =
     let size : length (set (map f (upto n)) m y) ≡ n = length-set (map f (upto n)) m y
-    ∙ length-table f n in
-    same_lists (set (map f (upto n)) m y) (map g (upto n)) (size ∙ sym (length-table g n)) (λ k d h.
+    ∙ length_table f n in
+    same_lists (set (map f (upto n)) m y) (map g (upto n)) (size ∙ sym (length_table g n)) (λ k d h.
     let inside : k < n = omega arith in
     elim (cases_eq k m) [
       | inl same ↦ ap (λ i. get_or (set (map f (upto n)) m y) i d) same
-          ∙ get_or-set_same (map f (upto n)) m y d (let e = length-table f n in omega arith)
-          ∙ sym here ∙ ap g (sym same) ∙ sym (get_or-table g n k d inside)
-      | inr other ↦ get_or-set_other (map f (upto n)) m k y d other ∙ get_or-table f n k d inside
-          ∙ sym (others k other inside) ∙ sym (get_or-table g n k d inside)
+          ∙ get_or-set_same (map f (upto n)) m y d (let e = length_table f n in omega arith)
+          ∙ sym here ∙ ap g (sym same) ∙ sym (get_or_table g n k d inside)
+      | inr other ↦ get_or-set_other (map f (upto n)) m k y d other ∙ get_or_table f n k d inside
+          ∙ sym (others k other inside) ∙ sym (get_or_table g n k d inside)
     ])
 
 -- ---- the empty journal
@@ -230,9 +230,9 @@ read_all : {X : Type 0} (f : X → ℕ) (xs : List X)
 read_all {X} f xs =
     let at : ℕ → ℕ = λ x. unwrap_or (option_map f (slice_get xs x)) 0 in
     same_lists (map at (upto (length xs))) (map f xs)
-    (length-table at (length xs) ∙ sym (length-map xs f)) (λ k d h.
-    let inside : k < length xs = let e = length-table at (length xs) in omega arith in
-    get_or-table at (length xs) k d inside ∙ ap (λ o. unwrap_or o 0) (sym (slice_get-map f xs k))
+    (length_table at (length xs) ∙ sym (length-map xs f)) (λ k d h.
+    let inside : k < length xs = let e = length_table at (length xs) in omega arith in
+    get_or_table at (length xs) k d inside ∙ ap (λ o. unwrap_or o 0) (sym (slice_get-map f xs k))
     ∙ unwrap_or-slice_get (map f xs) k 0
     ∙ get_or_default (map f xs) k 0 d (let e = length-map xs f in omega arith))
 
@@ -332,15 +332,15 @@ moved_codes net machine journal entry n =
     let at : ℕ → ℕ = λ k. code_after machine entry k (slice_index old k) in
     let few : length old ≡ length machine.inputs + n =
     length-append (map p machine.inputs) (map f (upto n))
-    ∙ rw (length-map machine.inputs p, length-table f n) refl in
+    ∙ rw (length-map machine.inputs p, length_table f n) refl in
     let many : length new ≡ length machine.inputs + n =
     length-append (map q machine.inputs) (map g (upto n))
-    ∙ rw (length-map machine.inputs q, length-table g n) refl in
+    ∙ rw (length-map machine.inputs q, length_table g n) refl in
     let left : length (map p machine.inputs) ≡ length machine.inputs =
     length-map machine.inputs p in
     let right : length (map q machine.inputs) ≡ length machine.inputs =
     length-map machine.inputs q in
-    same_lists new (map at (upto (length old))) (many ∙ sym (length-table at (length old) ∙ few))
+    same_lists new (map at (upto (length old))) (many ∙ sym (length_table at (length old) ∙ few))
     (λ k d h.
     let inside : k < length old = omega arith in
     elim (cases_lt k (length machine.inputs)) [
@@ -353,19 +353,19 @@ moved_codes net machine journal entry n =
           ∙ place_code machine journal entry k (get_or machine.inputs k 0)
           (slice_get-get_or machine.inputs k 0 low)
           ∙ ap (code_after machine entry k) (sym before)
-          ∙ sym (get_or-table at (length old) k d inside)
+          ∙ sym (get_or_table at (length old) k d inside)
       | inr high ↦
           let there : k - length machine.inputs < n = omega arith in
           let before : slice_index old k ≡ f (k - length machine.inputs) =
           get_or-append_right (map p machine.inputs) (map f (upto n))
           (length machine.inputs) k 0 left high
-          ∙ get_or-table f n (k - length machine.inputs) 0 there in
+          ∙ get_or_table f n (k - length machine.inputs) 0 there in
           get_or-append_right (map q machine.inputs) (map g (upto n))
           (length machine.inputs) k d right high
-          ∙ get_or-table g n (k - length machine.inputs) d there
+          ∙ get_or_table g n (k - length machine.inputs) d there
           ∙ state_code net machine journal entry k (k - length machine.inputs) high refl
           ∙ ap (code_after machine entry k) (sym before)
-          ∙ sym (get_or-table at (length old) k d inside)
+          ∙ sym (get_or_table at (length old) k d inside)
     ])
 
 pub snap_after : (net : Network) (machine : Machine) (journal : List Entry) (entry : Entry)
@@ -392,7 +392,7 @@ pub moments_after : (net : Network) (journal : List Entry) (entry : Entry) (s : 
     → s ≡ snap net (journal ++ entry ∷ []) (machine_of entry)
     → set (moments_of net journal) (machine_of entry) s ≡ moments_of net (journal ++ entry ∷ [])
 moments_after net journal entry s below is =
-    set-table (snap net journal) (snap net (journal ++ entry ∷ [])) (length net.machines)
+    set_table (snap net journal) (snap net (journal ++ entry ∷ [])) (length net.machines)
     (machine_of entry) s below (sym is)
     (λ k other inside. snap_away net journal entry k (λ e. other (sym e)))
 
@@ -400,7 +400,7 @@ pub wakings_after : (n : ℕ) (journal : List Entry) (entry : Entry) → machine
     → set (map (is_woken journal) (upto n)) (machine_of entry) (is_dep entry)
     ≡ map (is_woken (journal ++ entry ∷ [])) (upto n)
 wakings_after n journal entry below =
-    set-table (is_woken journal) (is_woken (journal ++ entry ∷ [])) n (machine_of entry)
+    set_table (is_woken journal) (is_woken (journal ++ entry ∷ [])) n (machine_of entry)
     (is_dep entry) below
     (is_woken_after journal entry (machine_of entry)
     ∙ rw (eq-eqb (machine_of entry) (machine_of entry) refl) refl)
@@ -418,7 +418,7 @@ snap_width net m machine journal at =
     let places : List ℕ = map (buffered journal m) (inputs_of net m) in
     let values : List ℕ = map (state net journal m) (upto (length (states_of net m))) in
     let left = length-map (inputs_of net m) (buffered journal m) in
-    let right = length-table (state net journal m) (length (states_of net m)) in
+    let right = length_table (state net journal m) (length (states_of net m)) in
     let whole = length-append places values in
     let a = ap length inputs in
     let b = ap (λ (l : List StateDecl). length l) states in
@@ -435,20 +435,20 @@ fitting_suits net machine (Rea m s o) h at =
 
 -- ---- the length of a snapshot
 
-pub length-snap : (net : Network) (journal : List Entry) (m : ℕ)
+pub length_snap : (net : Network) (journal : List Entry) (m : ℕ)
     → length (snap net journal m).codes ≡ length (inputs_of net m) + length (states_of net m)
-length-snap net journal m =
+length_snap net journal m =
     length-append (map (buffered journal m) (inputs_of net m))
     (map (state net journal m) (upto (length (states_of net m))))
     ∙ rw (
       length-map (inputs_of net m) (buffered journal m),
-      length-table (state net journal m) (length (states_of net m)),
+      length_table (state net journal m) (length (states_of net m)),
     ) refl
 
 pub moment_width : (net : Network) (journal : List Entry) (m : ℕ) (machine : Machine) (s : Snapshot)
     → slice_get net.machines m ≡ Some machine → s ≡ snap net journal m
     → length s.codes ≡ length machine.inputs + length machine.states
 moment_width net journal m machine s at is =
-    ap (λ (x : Snapshot). length x.codes) is ∙ length-snap net journal m
+    ap (λ (x : Snapshot). length x.codes) is ∙ length_snap net journal m
     ∙ ap (λ (o : Option Machine). length (unwrap_or (option_map (λ machine. machine.inputs) o) [])
     + length (unwrap_or (option_map (λ machine. machine.states) o) [])) at

@@ -22,7 +22,7 @@ use Rattle.transition_table.specs.declared.snapshot.Outcome.{Outcome}
 use Rattle.journals.specs.declared.entry.Entry.{Entry}
 use Rattle.journals.specs.declared.entry.Entry.TheVariants.{Dep, Rea}
 use Rattle.journals.specs.Journals.{FitsNetwork, IsJournal, is_party, is_event_code, inputs_of, states_of, is_firing_of, code_brought, buffered, value_set, value_given, initial, state, snap}
-use Rattle.journals.proofs.MomentsAfter.{length-upto, get_or-upto}
+use Rattle.journals.proofs.MomentsAfter.{length_upto, get_or_upto}
 use Rattle.journals.proofs.DeliveriesOfWay.{passes_of_all}
 use Rattle.transition_table.proofs.Ranges.{below_size}
 
@@ -49,8 +49,8 @@ fits_from_each (size ∷ sizes) (c ∷ codes) same h =
     (fits_from_each sizes codes (omega arith) (λ k below. h (suc k) (omega arith)))
 
 get_of_upto : (f : ℕ → ℕ) (n k : ℕ) → k < n → slice_index (map f (upto n)) k ≡ f k
-get_of_upto f n k h = let size = length-upto n in get_or-map f (upto n) k 0 0 (omega arith)
-    ∙ ap f (get_or-upto n k 0 h)
+get_of_upto f n k h = let size = length_upto n in get_or-map f (upto n) k 0 0 (omega arith)
+    ∙ ap f (get_or_upto n k 0 h)
 
 last_below : (n d : ℕ) (xs : List ℕ) → d < n → list_all (λ x. nat_lt x n) xs ≡ true
     → last_of d xs < n
@@ -330,7 +330,7 @@ snap_fits net journal m machine h is =
     (places_fit net journal m machine.inputs h)
     (fits_from_each (state_sizes machine) (map (state net journal m) (upto (length machine.states)))
     (let size = length-map (upto (length machine.states)) (state net journal m) in let long =
-    length-upto (length machine.states) in omega arith)
+    length_upto (length machine.states) in omega arith)
     (λ x below.
     let inside : x < length machine.states = omega arith in
     let at = get_of_upto (state net journal m) (length machine.states) x inside in

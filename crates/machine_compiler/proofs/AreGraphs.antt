@@ -6,7 +6,7 @@ use Rattle.transition_table.specs.declared.network.Network.{Network}
 use Rattle.sgraph.specs.declared.vertex.Vertex.{Vertex}
 use Rattle.task_code.specs.Listings.{Part}
 use Rattle.machine_compiler.specs.Parts.{IsRightPart, graphs_in}
-use Rattle.machine_compiler.specs.Lines.{lengths, lengths_lines}
+use Rattle.machine_compiler.specs.Lines.{lengths, lengths_line, side_by_side}
 use Rattle.machine_compiler.specs.Kept.{AreGraphs}
 use Rattle.machine_compiler.proofs.AreTexts.{no_length, one_length}
 use Rattle.machine_compiler.proofs.PartsSoFar.{PartsSoFar, no_part, one_part, all_parts, one_item}
@@ -14,7 +14,7 @@ use Rattle.machine_compiler.proofs.PartsSoFar.{PartsSoFar, no_part, one_part, al
 -- these are the graphs of the parts and the lines of their lengths
 abbrev pub AreKept : Network → List (List Vertex) → List ℕ → List Part → Type 0
 AreKept net graphs sizes parts =
-    (graphs ≡ graphs_in parts) × (sizes ≡ lengths_lines net.machines parts)
+    (graphs ≡ graphs_in parts) × (sizes ≡ side_by_side lengths_line 0 net.machines parts)
 
 pub nothing_kept : (net : Network) (graphs : List (List Vertex)) (sizes : List ℕ) → graphs ≡ []
     → sizes ≡ [] → PartsSoFar net 0 (AreKept net graphs sizes)

@@ -6,24 +6,28 @@ use Rattle.transition_table.specs.declared.machine.Machine.{Machine}
 use Rattle.transition_table.specs.declared.network.Network.{Network}
 use Rattle.task_code.specs.Listings.{Part, part_text, parts_text}
 use Rattle.machine_compiler.specs.Parts.{IsRightPart}
-use Rattle.machine_compiler.specs.Lines.{lengths, lengths_lines}
+use Rattle.machine_compiler.specs.Lines.{lengths, lengths_line, side_by_side}
 use Rattle.machine_compiler.specs.Texts.{AreTexts}
 use Rattle.machine_compiler.specs.declared.texts.Texts.{Texts}
-use Rattle.machine_compiler.proofs.Pairwise.{listing_pairs, length_pairs, one_more}
+use Rattle.machine_compiler.proofs.Pairwise.{listing_pairs, one_more, side_pairs}
 use Rattle.machine_compiler.proofs.PartsSoFar.{PartsSoFar, no_part, one_part, all_parts}
 
 -- ---- the lines of lengths
-pub no_length : (net : Network) (sizes : List ℕ) → sizes ≡ [] → sizes ≡ lengths_lines net.machines []
-no_length net sizes none = none ∙ sym (length_pairs.no_part 0 net.machines)
+-- these are the lines of the parts
+abbrev AreLengths : Network → List Part → List ℕ → Type 0
+AreLengths net parts sizes = sizes ≡ side_by_side lengths_line 0 net.machines parts
+
+pub no_length : (net : Network) (sizes : List ℕ) → sizes ≡ [] → AreLengths net [] sizes
+no_length net sizes none = none ∙ sym ((side_pairs lengths_line).no_part 0 net.machines)
 
 pub one_length : (net : Network) (m : Machine) (qs : List Part) (q : Part) (sizes sizes' : List ℕ)
     → slice_get net.machines (length qs) ≡ Some m
-    → sizes ≡ lengths_lines net.machines qs
+    → AreLengths net qs sizes
     → sizes' ≡ sizes ++ line (lengths m q)
-    → sizes' ≡ lengths_lines net.machines (qs ++ q ∷ [])
+    → AreLengths net (qs ++ q ∷ []) sizes'
 one_length net m qs q sizes sizes' at so_far wider =
     wider ∙ ap (λ (xs : List ℕ). xs ++ line (lengths m q)) so_far
-    ∙ sym (one_more (λ k m q. line (lengths m q)) (λ k ms qs. lengths_lines ms qs) length_pairs 0
+    ∙ sym (one_more lengths_line (side_by_side lengths_line) (side_pairs lengths_line) 0
     net.machines m qs q at)
 
 -- ---- the texts
@@ -31,7 +35,7 @@ one_length net m qs q sizes sizes' at so_far wider =
 abbrev pub AreWritten : Network → List ℕ → List ℕ → List Part → Type 0
 AreWritten net text sizes parts =
     (text ≡ line (codes "polis listing 1") ++ parts_text net net.machines parts)
-    × (sizes ≡ lengths_lines net.machines parts)
+    × AreLengths net parts sizes
 
 pub nothing_written : (net : Network) (text sizes : List ℕ)
     → text ≡ line (codes "polis listing 1") → sizes ≡ []

@@ -4,16 +4,14 @@ use Rattle.std.specs.Prelude.{IsSomeAnd, option_map}
 use Rattle.std.proofs.lemmas.Bool.{cases_lt}
 use Rattle.std.proofs.lemmas.List.{append-nil, drop-map}
 use Rattle.std.proofs.lemmas.Option.{slice_get-map}
-use Rattle.polis_base.specs.Lines.{line}
 use Rattle.transition_table.specs.declared.machine.Machine.{Machine}
 use Rattle.transition_table.specs.declared.network.Network.{Network}
 use Rattle.transition_table.specs.Transitions.{OfMachine}
-use Rattle.journals.specs.declared.entry.Entry.{Entry}
 use Rattle.task_code.specs.declared.instr.Instr.{Instr}
 use Rattle.task_code.specs.Listings.{Part, part_text, parts_text}
 use Rattle.machine_compiler.specs.declared.compiled.Compiled.{Compiled}
 use Rattle.machine_compiler.specs.Parts.{part_of_compiled, parts_of, codes_in}
-use Rattle.machine_compiler.specs.Lines.{code_length, code_tries_lines, lengths, lengths_lines, tries, tries_lines, reactions_of}
+use Rattle.machine_compiler.specs.Lines.{side_by_side}
 use Rattle.task_code.proofs.NumberedLines.{drop_one}
 
 drop_all : {X : Type 0} (xs : List X) (k : ℕ) → length xs ≤ k → drop k xs ≡ []
@@ -65,45 +63,17 @@ listing_pairs net =
     no_parts k [] = refl
     no_parts k (m ∷ ms) = refl
 
-pub length_pairs : Pairwise (λ k m q. line (lengths m q)) (λ k ms qs. lengths_lines ms qs)
-length_pairs =
+pub side_pairs : {X : Type 0} (one : ℕ → Machine → X → List ℕ) → Pairwise one (side_by_side one)
+side_pairs one =
     record {
-      no_machine = λ k qs. refl;
+      no_machine = λ k xs. refl;
       no_part = no_parts;
-      pair = λ k m ms q qs. refl;
+      pair = λ k m ms x xs. refl;
     }
   where
-    no_parts : (k : ℕ) (ms : List Machine) → lengths_lines ms [] ≡ []
+    no_parts : (k : ℕ) (ms : List Machine) → side_by_side one k ms [] ≡ []
     no_parts k [] = refl
     no_parts k (m ∷ ms) = refl
-
-pub tries_pairs : (journal : List Entry)
-    → Pairwise (λ k m q. line (lengths m q ++ tries q.code (reactions_of k journal)))
-    (tries_lines journal)
-tries_pairs journal =
-    record {
-      no_machine = λ k qs. refl;
-      no_part = no_parts;
-      pair = λ k m ms q qs. refl;
-    }
-  where
-    no_parts : (k : ℕ) (ms : List Machine) → tries_lines journal k ms [] ≡ []
-    no_parts k [] = refl
-    no_parts k (m ∷ ms) = refl
-
-pub code_tries_pairs : (journal : List Entry)
-    → Pairwise (λ k m c. line (code_length m c ++ tries c (reactions_of k journal)))
-    (code_tries_lines journal)
-code_tries_pairs journal =
-    record {
-      no_machine = λ k cs. refl;
-      no_part = no_code;
-      pair = λ k m ms c cs. refl;
-    }
-  where
-    no_code : (k : ℕ) (ms : List Machine) → code_tries_lines journal k ms [] ≡ []
-    no_code k [] = refl
-    no_code k (m ∷ ms) = refl
 
 -- one more pair
 pub next_pair : {X : Type 0} (one : ℕ → Machine → X → List ℕ)

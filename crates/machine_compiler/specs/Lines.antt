@@ -46,39 +46,38 @@ tally_text tries steps = codes " tries " ++ decimal tries ++ codes " steps " ++ 
 abbrev pub tries : List Instr → List (List ℕ) → List ℕ
 tries code snapshots = tally_text (length snapshots) (steps_on code snapshots)
 
--- the machines and their parts, side by side
-abbrev pub lengths_lines : List Machine → List Part → List ℕ
-lengths_lines [] parts = []
-lengths_lines (m ∷ ms) [] = []
-lengths_lines (m ∷ ms) (q ∷ qs) = line (lengths m q) ++ lengths_lines ms qs
-
--- so with the reactions of the machines from number k on
-abbrev pub tries_lines : List Entry → ℕ → List Machine → List Part → List ℕ
-tries_lines journal k [] parts = []
-tries_lines journal k (m ∷ ms) [] = []
-tries_lines journal k (m ∷ ms) (q ∷ qs) =
-    line (lengths m q ++ tries q.code (reactions_of k journal)) ++ tries_lines journal (suc k) ms qs
-
 -- `machine M code C`
 abbrev pub code_length : Machine → List Instr → List ℕ
 code_length m code = codes "machine " ++ m.name ++ codes " code " ++ decimal (length code)
 
--- the machines from number k on and their codes, side by side, with the machines' reactions
-abbrev pub code_tries_lines : List Entry → ℕ → List Machine → List (List Instr) → List ℕ
-code_tries_lines journal k [] all = []
-code_tries_lines journal k (m ∷ ms) [] = []
-code_tries_lines journal k (m ∷ ms) (code ∷ all) =
-    line (code_length m code ++ tries code (reactions_of k journal))
-    ++ code_tries_lines journal (suc k) ms all
+-- what `one` gives of each machine, the first of which has number k, and of what stands beside it,
+-- one after another
+abbrev pub side_by_side : {X : Type 0} → (ℕ → Machine → X → List ℕ) → ℕ → List Machine → List X
+    → List ℕ
+side_by_side one k [] xs = []
+side_by_side one k (m ∷ ms) [] = []
+side_by_side one k (m ∷ ms) (x ∷ xs) = one k m x ++ side_by_side one (suc k) ms xs
+
+-- the line of a machine's part
+abbrev pub lengths_line : ℕ → Machine → Part → List ℕ
+lengths_line k m q = line (lengths m q)
+
+-- so with the machine's reactions
+abbrev pub tries_line : List Entry → ℕ → Machine → Part → List ℕ
+tries_line journal k m q = line (lengths m q ++ tries q.code (reactions_of k journal))
+
+-- so of a machine's code alone
+abbrev pub code_tries_line : List Entry → ℕ → Machine → List Instr → List ℕ
+code_tries_line journal k m code = line (code_length m code ++ tries code (reactions_of k journal))
 
 -- a line for each machine: `machine M vertices V code C`
 abbrev pub lengths_text : Network → List Part → List ℕ
-lengths_text net parts = lengths_lines net.machines parts
+lengths_text net parts = side_by_side lengths_line 0 net.machines parts
 
 -- a line for each machine: `machine M vertices V code C tries T steps S`
 abbrev pub tries_text : Network → List Part → List Entry → List ℕ
-tries_text net parts journal = tries_lines journal 0 net.machines parts
+tries_text net parts journal = side_by_side (tries_line journal) 0 net.machines parts
 
 -- a line for each machine: `machine M code C tries T steps S`
 abbrev pub code_tries_text : Network → List (List Instr) → List Entry → List ℕ
-code_tries_text net all journal = code_tries_lines journal 0 net.machines all
+code_tries_text net all journal = side_by_side (code_tries_line journal) 0 net.machines all

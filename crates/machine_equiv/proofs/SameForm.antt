@@ -36,11 +36,11 @@ long_words_in net d =
     ]
 
 -- how many values there are with these words, one where there are none
-count_of : Option (List (List ℕ)) → ℕ
+pub count_of : Option (List (List ℕ)) → ℕ
 count_of None = 1
 count_of (Some words) = length words
 
-counted : (net : Network) (o : Option ℕ)
+pub counted : (net : Network) (o : Option ℕ)
     → count_of (option_map (words_in net) o) ≡ values_of net.domains o
 unfolding count_of
 counted net None = refl

@@ -17,7 +17,7 @@ use Rattle.domains.specs.declared.domain.Domain.{Domain}
 use Rattle.domains.specs.declared.domain.Domain.TheVariants.{Names, Range}
 use Rattle.domains.specs.declared.domain.Span.{Span}
 use Rattle.machine_equiv.specs.Shapes.{words_of}
-use Rattle.journals.proofs.MomentsAfter.{length-upto}
+use Rattle.journals.proofs.MomentsAfter.{length_upto}
 
 -- ---- names
 
@@ -43,7 +43,7 @@ names_are names =
 first_upto : (n : ℕ) → 0 < n → get_or (upto n) 0 0 ≡ 0
 first_upto zero some = absurd (omega arith)
 first_upto (suc zero) some = refl
-first_upto (suc (suc n)) some = in_front (upto (suc n)) (suc n) (let long = length-upto (suc n) in
+first_upto (suc (suc n)) some = in_front (upto (suc n)) (suc n) (let long = length_upto (suc n) in
     omega arith) (first_upto (suc n) (omega arith))
   where
     in_front : (xs : List ℕ) (x : ℕ) → 0 < length xs → get_or xs 0 0 ≡ 0
@@ -52,12 +52,12 @@ first_upto (suc (suc n)) some = in_front (upto (suc n)) (suc n) (let long = leng
     in_front (y ∷ xs) x some is = is
 
 pub long_words : (d : Domain) → length (words_of d) ≡ size_of d
-long_words d = length-map (upto (size_of d)) (word_of d) ∙ length-upto (size_of d)
+long_words d = length-map (upto (size_of d)) (word_of d) ∙ length_upto (size_of d)
 
 -- the first word of a range is its first number
 first_word : (span : Span) → get_or (words_of (Range span)) 0 [] ≡ decimal span.first
 first_word span =
-    let long = length-upto (span.last - span.first + 1) in
+    let long = length_upto (span.last - span.first + 1) in
     get_or-map (λ v. decimal (span.first + v)) (upto (span.last - span.first + 1)) 0 0 []
     (omega arith)
     ∙ (let e : span.first + get_or (upto (span.last - span.first + 1)) 0 0 ≡ span.first =

@@ -3,7 +3,7 @@ ghost use Rattle.std.specs.Prelude.{◌≡◌, ◌↔◌, ◌<◌, nat_lt, true,
 ghost use Rattle.std.specs.Option.{option_map_or};
 ghost use Rattle.transition_table.specs.inner.NetworkFacts.{has_domain};
 ghost use Rattle.machine_equiv.specs.inner.Agreeing.{AreSameStates, HaveDomains, IsSameEvent, IsSameMachine, IsSameState};
-ghost use Rattle.machine_equiv.specs.Shapes.{SameEvents, SameMachines, SameShape, words_in};
+ghost use Rattle.machine_equiv.specs.Shapes.{SameEvents, SameMachines, SameShape, event_words, words_in};
 
 use crate::words::same_words;
 use polis_base::Numbers;
@@ -46,6 +46,16 @@ fn same_values(a: &Network, d: Option<u32>, b: &Network, e: Option<u32>) -> bool
     }
 }
 
+/// Whether two events of two networks are both pure, or have domains of the same words in the same
+/// order.
+pub fn same_event_words(a: &Network, x: &EventDecl, b: &Network, y: &EventDecl) -> bool
+    requires first { IsTrue (has_domain a.now.domains x.now) }
+    requires second { IsTrue (has_domain b.now.domains y.now) }
+    ensures { IsTrue result ↔ (event_words a.now x.now ≡ event_words b.now y.now) }
+{
+    same_values(a, x.domain, b, y.domain)
+}
+
 // Whether two events agree.
 fn same_event(a: &Network, x: &EventDecl, b: &Network, y: &EventDecl) -> bool
     requires first { IsTrue (has_domain a.now.domains x.now) }
@@ -53,7 +63,7 @@ fn same_event(a: &Network, x: &EventDecl, b: &Network, y: &EventDecl) -> bool
     ensures { IsTrue result ↔ IsSameEvent a.now b.now x.now y.now }
 {
     x.name.same(&y.name)
-        && same_values(a, x.domain, b, y.domain)
+        && same_event_words(a, x, b, y)
         && same_party(x.sender, y.sender)
         && x.to_env == y.to_env
         && same_numbers(&x.receivers, &y.receivers)

@@ -15,7 +15,7 @@ use Rattle.journals.specs.declared.entry.Entry.{Entry}
 use Rattle.journals.specs.declared.entry.Entry.TheVariants.{Dep, Rea}
 use Rattle.journals.specs.Journals.{FitsNetwork, IsJournal, is_event_code, is_firing_of, delivery, delivered}
 use Rattle.journals.specs.Moved.{machine_of}
-use Rattle.journals.proofs.MomentsAfter.{get_or-table, set-table}
+use Rattle.journals.proofs.MomentsAfter.{get_or_table, set_table}
 use Rattle.net_core.specs.declared.clocks.Cursor.{Cursor}
 use Rattle.net_core.specs.declared.clocks.Clocks.{Clocks}
 use Rattle.net_core.specs.inner.Clocks.{firings_of, cursor_at, with_cursor, IsCursor, AreClocks, IsBacked, one_taken, clocks_after, cursors_moved, firings_after}
@@ -55,7 +55,7 @@ pub clock_at : (net : Network) (done : List Stamped) (clocks : List ℕ) (m v : 
     → slice_get clocks m ≡ Some v → v ≡ greatest (stamps_at m done)
 clock_at net done clocks m v below are at =
     sym (get_or_from_slice_get clocks m v v at) ∙ ap (λ (l : List ℕ). get_or l m v) are
-    ∙ get_or-table (λ k. greatest (stamps_at k done)) (length net.machines) m v below
+    ∙ get_or_table (λ k. greatest (stamps_at k done)) (length net.machines) m v below
 
 at_more : (m : ℕ) (done : List Stamped) (x : Stamped) (b : Bool) → (machine_of x.entry == m) ≡ b
     → stamps_at m (done ++ x ∷ []) ≡ stamps_at m done ++ cond b (x.stamp ∷ []) []
@@ -84,8 +84,8 @@ clocks_more n done x clocks below are =
     ap greatest (at_more m done x true (eq-eqb m m refl))
     ∙ greatest_both (stamps_at m done) (x.stamp ∷ []) ∙ ap (max (f m)) (max-zero x.stamp) in
     ap (clocks_after m x.stamp) are
-    ∙ ap (λ v. set (map f (upto n)) m (max v x.stamp)) (get_or-table f n m 0 below)
-    ∙ set-table f g n m (max (f m) x.stamp) below here
+    ∙ ap (λ v. set (map f (upto n)) m (max v x.stamp)) (get_or_table f n m 0 below)
+    ∙ set_table f g n m (max (f m) x.stamp) below here
     (λ k other inside.
     ap greatest (at_more k done x false (ne_eqb m k (λ e. other (sym e)))
     ∙ append-nil (stamps_at k done)))
@@ -124,8 +124,8 @@ lists_more n done (Rea m s o) t firings below are = cases o.fires refl
         ap (λ b. b && o.fires) (eq-eqb m m refl) ∙ fires in
         ap (λ (l : List (List Stamped)). set l m (get_or l m [] ++ x ∷ [])) are
         ∙ ap (λ l. set (map (firings_of done) (upto n)) m (l ++ x ∷ []))
-        (get_or-table (firings_of done) n m [] below)
-        ∙ set-table (firings_of done) (firings_of (done ++ x ∷ [])) n m
+        (get_or_table (firings_of done) n m [] below)
+        ∙ set_table (firings_of done) (firings_of (done ++ x ∷ [])) n m
         (firings_of done m ++ x ∷ []) below
         (firings_more done x m ∙ ap (λ b. firings_of done m ++ cond b (x ∷ []) []) here)
         (λ k other inside. no_more done x k

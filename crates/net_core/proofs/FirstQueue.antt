@@ -6,7 +6,7 @@ use Rattle.std.proofs.lemmas.Bool.{cases_lt}
 use Rattle.polis_base.specs.Lists.{upto}
 use Rattle.net_core.specs.declared.config.emissions.Emission.{Emission}
 use Rattle.net_core.specs.Emissions.{nth, no_emission, no_place, IsQueue}
-use Rattle.journals.proofs.MomentsAfter.{length-table, get_or-table}
+use Rattle.journals.proofs.MomentsAfter.{length_table, get_or_table}
 use Rattle.net_core.proofs.IsQueue.{waits_struck}
 
 -- the record with which a sender's chain begins
@@ -25,22 +25,22 @@ pub first_queue : (records : List Emission) (cursors last : List ℕ) (n k : ℕ
     → records ≡ map sentinel (upto n) → last ≡ map (λ s. s) (upto n)
     → cursors ≡ map (λ k. k / 64) (upto k) → IsQueue records 64 cursors last
 first_queue records cursors last n k is_n is_k are lasts starts =
-    let size : length records ≡ 64 = ap length are ∙ length-table sentinel n ∙ is_n in
+    let size : length records ≡ 64 = ap length are ∙ length_table sentinel n ∙ is_n in
     let at : (i : ℕ) → i < 64 → nth records i ≡ sentinel i =
     λ i below. ap (λ (l : List Emission). nth l i) are
-    ∙ get_or-table sentinel n i no_emission (omega arith) in
+    ∙ get_or_table sentinel n i no_emission (omega arith) in
     let from : (i : ℕ) → i < 64 → (nth records i).from ≡ i =
     λ i below. ap (λ (r : Emission). r.from) (at i below) in
     let next : (i : ℕ) → i < 64 → (nth records i).next ≡ no_place =
     λ i below. ap (λ (r : Emission). r.next) (at i below) in
     let last_at : (s : ℕ) → s < 64 → get_or last s 0 ≡ s =
     λ s below. ap (λ (l : List ℕ). get_or l s 0) lasts
-    ∙ get_or-table (λ s. s) n s 0 (omega arith) in
+    ∙ get_or_table (λ s. s) n s 0 (omega arith) in
     let start : (s m : ℕ) → s < 64 → m < 64 → get_or cursors (64 * s + m) 0 ≡ s =
     λ s m below narrow.
     let whole : (64 * s + m) / 64 ≡ s = omega arith in
     ap (λ (l : List ℕ). get_or l (64 * s + m) 0) starts
-    ∙ get_or-table (λ k. k / 64) k (64 * s + m) 0 (omega arith) ∙ whole in
+    ∙ get_or_table (λ k. k / 64) k (64 * s + m) 0 (omega arith) ∙ whole in
     let struck : (i : ℕ) → (nth records i).left ≡ 0 = λ i. elim (cases_lt i 64) [
       | inl below ↦ ap (λ (r : Emission). r.left) (at i below)
       | inr past ↦ ap (λ (r : Emission). r.left) (get_or_past records i no_emission (omega arith))
@@ -60,7 +60,7 @@ first_queue records cursors last n k is_n is_k are lasts starts =
           | inr past ↦ subst (λ (r : Emission). r.from < 64)
               (sym (get_or_past records i no_emission (omega arith))) (omega arith)
         ];
-        long = ap length lasts ∙ length-table (λ s. s) n ∙ is_n;
+        long = ap length lasts ∙ length_table (λ s. s) n ∙ is_n;
         own = λ s below. let place = last_at s below in
             (omega arith, ap (λ i. (nth records i).from) place ∙ from s below);
         none_after = λ s j below low inside is. let place = last_at s below in
@@ -69,7 +69,7 @@ first_queue records cursors last n k is_n is_k are lasts starts =
       within = omega arith;
       front_waits = λ h. absurd (omega arith);
       struck = λ i below. struck i;
-      long = ap length starts ∙ length-table (λ k. k / 64) k ∙ is_k;
+      long = ap length starts ∙ length_table (λ k. k / 64) k ∙ is_k;
       starts = λ s m below narrow. let place = start s m below narrow in
           (omega arith, ap (λ i. (nth records i).from) place ∙ from s below);
       passed = λ s m i below narrow under. waits_struck s m (nth records i) (struck i);

@@ -12,7 +12,7 @@ use Rattle.journals.specs.declared.entry.TraceItem.{TraceItem}
 use Rattle.journals.specs.declared.entry.TraceItem.TheVariants.{Event, Settle}
 use Rattle.journals.specs.Schedules.{owed_by_env}
 use Rattle.journals.specs.Cursors.{cursor, is_settle, settled_at}
-use Rattle.journals.proofs.MomentsAfter.{get_or-table}
+use Rattle.journals.proofs.MomentsAfter.{get_or_table}
 use Rattle.journals.specs.Laws.{FirstOfCursors, NoneAtEnds}
 
 -- whether the item before a place is `settle`
@@ -42,7 +42,7 @@ least_is : (f : ℕ → ℕ) (n m : ℕ) (cursors : List ℕ) → cursors ≡ ma
     → (m < n) × ((k : ℕ) → k < n → f m ≤ f k) × ((k : ℕ) → k < m → f m < f k)
 least_is f n m cursors are best =
     let at : (k : ℕ) → k < n → get_or cursors k 0 ≡ f k =
-    λ k below. ap (λ (l : List ℕ). get_or l k 0) are ∙ get_or-table f n k 0 below in
+    λ k below. ap (λ (l : List ℕ). get_or l k 0) are ∙ get_or_table f n k 0 below in
     let here = at m best.0 in (
       best.0,
       (λ k below. let there = at k below in

@@ -20,7 +20,7 @@ use Rattle.net_core.specs.inner.Tables.{AreBefore}
 use Rattle.journals.specs.Schedules.{is_way, left_by, firing_deliveries, owed_by_machines, machine_deliveries, unmade, keep_unless, same_way}
 use Rattle.journals.specs.Laws.{MovesOwed}
 use Rattle.net_core.proofs.OwedByEmissions.{without_none}
-use Rattle.journals.proofs.MomentsAfter.{get_or-table}
+use Rattle.journals.proofs.MomentsAfter.{get_or_table}
 use Rattle.journals.proofs.OwedAfter.{no_env_way}
 
 -- ---- the owed deliveries of machines
@@ -68,7 +68,7 @@ pub table_item : {X : Type 0} (f : ℕ → X) (n : ℕ) (items : List X) (m : �
     → items ≡ map f (upto n) → m < n → slice_get items m ≡ Some x → x ≡ f m
 table_item {X} f n items m x are below at =
     sym (get_or_from_slice_get items m x x at) ∙ ap (λ (l : List X). get_or l m x) are
-    ∙ get_or-table f n m x below
+    ∙ get_or_table f n m x below
 
 -- ---- the entry that was put at the end
 

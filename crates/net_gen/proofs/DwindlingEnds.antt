@@ -22,7 +22,7 @@ use Rattle.journals.specs.Legality.{Legal, MayFollow, MayGoOn}
 use Rattle.journals.specs.Moved.{codes_after, machine_of, is_dep}
 use Rattle.journals.specs.Schedules.{firing_deliveries, owed_by_machines, without_first, is_way}
 use Rattle.net_gen.specs.Dwindling.{Load, weight, sum_below, arrivals, Dwindles, DwindlingEnds, DwindlingCompletes}
-use Rattle.net_gen.proofs.SumsAndWeights.{sum_moves, sum_at_most, weight-append, weight_without, weight_taken}
+use Rattle.net_gen.proofs.SumsAndWeights.{sum_moves, sum_at_most, weight_append, weight_without, weight_taken}
 
 -- what the proof rests on
 pub record Laws : Type 0 where
@@ -271,7 +271,7 @@ reaction_step laws net trace load held dwindles journal m s o legal fits may =
     let fired : ℕ = weight load (firing_deliveries net entry) in
     let weights : weight load (owed_by_machines net after) ≡ weight load ds + fired =
     ap (weight load) (laws.owed net trace journal entry legal)
-    ∙ weight-append load ds (firing_deliveries net entry) in
+    ∙ weight_append load ds (firing_deliveries net entry) in
     let gives = dwindles.reacted m machine s o found.1 snapshot found.2 in
     let held_is : held m (snap net after m).codes ≡ held m (codes_after machine entry s.codes) =
     held_after laws net held journal entry machine found.1

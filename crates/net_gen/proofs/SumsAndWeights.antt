@@ -40,10 +40,10 @@ sum_at_most f g (suc n) h =
     let last = h n (omega arith) in
     omega arith
 
-pub weight-append : (load : Load) (xs ys : List Owed)
+pub weight_append : (load : Load) (xs ys : List Owed)
     → weight load (xs ++ ys) ≡ weight load xs + weight load ys
-weight-append load [] ys = let e : weight load ys ≡ 0 + weight load ys = omega arith in e
-weight-append load (x ∷ xs) ys = let rest = weight-append load xs ys in omega arith
+weight_append load [] ys = let e : weight load ys ≡ 0 + weight load ys = omega arith in e
+weight_append load (x ∷ xs) ys = let rest = weight_append load xs ys in omega arith
 
 pub weight_without : (load : Load) (p : Owed → Bool) (ds : List Owed)
     → weight load (without_first p ds) ≤ weight load ds

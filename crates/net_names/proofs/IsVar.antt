@@ -10,18 +10,18 @@ use Rattle.net_names.specs.declared.vars.Var.{Var}
 use Rattle.net_names.specs.Numbers.{names_of, number_in}
 use Rattle.net_names.specs.Vars.{IsVar, AreVars}
 
-pub some-is : {A : Type 0} (a b : A) → Some a ≡ Some b → a ≡ b
-some-is a b e = ap (λ o. unwrap_or o a) e
+pub some_is : {A : Type 0} (a b : A) → Some a ≡ Some b → a ≡ b
+some_is a b e = ap (λ o. unwrap_or o a) e
 
 -- the variable at a name's number is what the name stands for
-pub var-at : (net : RawNet) (m : RawMachine) (words : List Word) (vars : List Var) (name : List ℕ)
+pub var_at : (net : RawNet) (m : RawMachine) (words : List Word) (vars : List Var) (name : List ℕ)
     (k : ℕ) (v : Var) → AreVars net m words vars → number_in (names_of words) name ≡ Some k
     → slice_get vars k ≡ Some v → IsVar net m name v
-var-at net m [] vars name k v all is at = absurd (true≢false (sym (ap is_some is)))
-var-at net m (w ∷ ws) [] name k v all is at = absurd all
-var-at net m (w ∷ ws) (u ∷ us) name k v all is at =
+var_at net m [] vars name k v all is at = absurd (true≢false (sym (ap is_some is)))
+var_at net m (w ∷ ws) [] name k v all is at = absurd all
+var_at net m (w ∷ ws) (u ∷ us) name k v all is at =
     by (is_same name w.name) refl (number_in (names_of ws) name) refl is
-    (λ j e h. var-at net m ws us name j v all.1 e h)
+    (λ j e h. var_at net m ws us name j v all.1 e h)
   where
     by : (b : Bool) → is_same name w.name ≡ b → (o : Option ℕ) → number_in (names_of ws) name ≡ o
         → cond b (Some 0) (option_map suc o) ≡ Some k
@@ -30,23 +30,23 @@ var-at net m (w ∷ ws) (u ∷ us) name k v all is at =
     by true same o e h rest =
         subst (λ n. IsVar net m n v) (sym (same_text name w.name (sym same)))
         (subst (λ x. IsVar net m w.name x)
-        (some-is u v (ap (slice_get (u ∷ us)) (some-is 0 k h) ∙ at)) all.0)
+        (some_is u v (ap (slice_get (u ∷ us)) (some_is 0 k h) ∙ at)) all.0)
     by false other None e h rest = absurd (true≢false (sym (ap is_some h)))
-    by false other (Some j) e h rest = rest j e (ap (slice_get (u ∷ us)) (some-is (suc j) k h) ∙ at)
+    by false other (Some j) e h rest = rest j e (ap (slice_get (u ∷ us)) (some_is (suc j) k h) ∙ at)
 
 -- and there is one
-pub var-below : (net : RawNet) (m : RawMachine) (words : List Word) (vars : List Var)
+pub var_below : (net : RawNet) (m : RawMachine) (words : List Word) (vars : List Var)
     (name : List ℕ) (k : ℕ) → AreVars net m words vars → number_in (names_of words) name ≡ Some k
     → k < length vars
-var-below net m [] vars name k all is = absurd (true≢false (sym (ap is_some is)))
-var-below net m (w ∷ ws) [] name k all is = absurd all
-var-below net m (w ∷ ws) (u ∷ us) name k all is =
+var_below net m [] vars name k all is = absurd (true≢false (sym (ap is_some is)))
+var_below net m (w ∷ ws) [] name k all is = absurd all
+var_below net m (w ∷ ws) (u ∷ us) name k all is =
     by (is_same name w.name) (number_in (names_of ws) name) refl is
-    (λ j e. var-below net m ws us name j all.1 e)
+    (λ j e. var_below net m ws us name j all.1 e)
   where
     by : (b : Bool) (o : Option ℕ) → number_in (names_of ws) name ≡ o
         → cond b (Some 0) (option_map suc o) ≡ Some k
         → ((j : ℕ) → number_in (names_of ws) name ≡ Some j → j < length us) → k < suc (length us)
-    by true o e h rest = let z = some-is 0 k h in omega (arith, z)
+    by true o e h rest = let z = some_is 0 k h in omega (arith, z)
     by false None e h rest = absurd (true≢false (sym (ap is_some h)))
-    by false (Some j) e h rest = let z = some-is (suc j) k h in omega (arith, z, rest j e)
+    by false (Some j) e h rest = let z = some_is (suc j) k h in omega (arith, z, rest j e)

@@ -7,11 +7,11 @@ use Rattle.net_reader.specs.declared.raw.Word.{Word}
 use Rattle.net_names.specs.Numbers.{names_of, number_in}
 
 -- a number is that of a name of the list
-pub number-below : (names : List (List ℕ)) (name : List ℕ) (i : ℕ) → number_in names name ≡ Some i
+pub number_below : (names : List (List ℕ)) (name : List ℕ) (i : ℕ) → number_in names name ≡ Some i
     → i < length names
-number-below [] name i h = absurd (true≢false (sym (ap is_some h)))
-number-below (n ∷ names) name i h =
-    by (is_same name n) (number_in names name) (number-below names name) h
+number_below [] name i h = absurd (true≢false (sym (ap is_some h)))
+number_below (n ∷ names) name i h =
+    by (is_same name n) (number_in names name) (number_below names name) h
   where
     by : (b : Bool) (o : Option ℕ) → ((j : ℕ) → o ≡ Some j → j < length names)
         → cond b (Some 0) (option_map suc o) ≡ Some i → i < suc (length names)
@@ -21,10 +21,10 @@ number-below (n ∷ names) name i h =
 
 module _ {X : Type 0} (word : X → Word) (name : List ℕ) where
   -- the first item of the name stands at the name's number
-  pub find-number : (xs : List X) → find (λ x. is_same name (word x).name) xs
+  pub find_number : (xs : List X) → find (λ x. is_same name (word x).name) xs
       ≡ option_and_then (slice_get xs) (number_in (names_of (map word xs)) name)
-  find-number [] = refl
-  find-number (x ∷ xs) = by (is_same name (word x).name) (find-number xs)
+  find_number [] = refl
+  find_number (x ∷ xs) = by (is_same name (word x).name) (find_number xs)
     where
       later : (o : Option ℕ) → option_and_then (slice_get xs) o
           ≡ option_and_then (slice_get (x ∷ xs)) (option_map suc o)
@@ -40,27 +40,27 @@ module _ {X : Type 0} (word : X → Word) (name : List ℕ) where
       by false h = h ∙ later (number_in (names_of (map word xs)) name)
 
   -- and a number is below the length
-  pub number-within : (xs : List X) (i : ℕ) → number_in (names_of (map word xs)) name ≡ Some i
+  pub number_within : (xs : List X) (i : ℕ) → number_in (names_of (map word xs)) name ≡ Some i
       → i < length xs
-  number-within xs i h =
+  number_within xs i h =
       omega (
         arith,
-        number-below (names_of (map word xs)) name i h,
+        number_below (names_of (map word xs)) name i h,
         length-map (map word xs) (λ (w : Word). w.name),
         length-map xs word,
       )
 
 module _ {X : Type 0} (word : X → Word) (name : List ℕ) (xs : List X) where
   -- the item at the name's number is the first of the name
-  pub found-at : (o : Option ℕ) (i : ℕ) (x : X) → o ≡ number_in (names_of (map word xs)) name
+  pub found_at : (o : Option ℕ) (i : ℕ) (x : X) → o ≡ number_in (names_of (map word xs)) name
       → o ≡ Some i → slice_get xs i ≡ Some x → find (λ x. is_same name (word x).name) xs ≡ Some x
-  found-at o i x is some at = find-number word name xs
+  found_at o i x is some at = find_number word name xs
       ∙ ap (option_and_then (slice_get xs)) (sym is ∙ some) ∙ at
 
   -- without a number there is none
-  pub found-nowhere : (o : Option ℕ) → o ≡ number_in (names_of (map word xs)) name → o ≡ None
+  pub found_nowhere : (o : Option ℕ) → o ≡ number_in (names_of (map word xs)) name → o ≡ None
       → find (λ x. is_same name (word x).name) xs ≡ None
-  found-nowhere o is none = find-number word name xs
+  found_nowhere o is none = find_number word name xs
       ∙ ap (option_and_then (slice_get xs)) (sym is ∙ none)
 
 mapped_sum : (i : ℕ) (o : Option ℕ)
@@ -74,10 +74,10 @@ number_from words name i = option_map (λ k. i + k) (number_in (names_of (drop i
 
 module _ (words : List Word) (name : List ℕ) (i : ℕ) (word : Word) (below : i < length words)
     (at : word ≡ get_or words i word) where
-  first-word : number_from words name i
+  first_word : number_from words name i
       ≡ cond (is_same name word.name) (Some i) (number_from words name (i + 1))
   unfolding number_from
-  first-word = ap (λ l. option_map (λ k. i + k) (number_in (names_of l) name))
+  first_word = ap (λ l. option_map (λ k. i + k) (number_in (names_of l) name))
       (drop_more words i word below ∙ ap (λ w. w ∷ drop (i + 1) words) (sym at))
       ∙ by (is_same name word.name)
     where
@@ -89,27 +89,27 @@ module _ (words : List Word) (name : List ℕ) (i : ℕ) (word : Word) (below : 
       by true = ap Some (omega arith)
       by false = mapped_sum i (number_in (names_of (drop (i + 1) words)) name)
 
-  pub number-here : is_same name word.name ≡ true → number_from words name i ≡ Some i
-  number-here same = first-word ∙ ap (λ b. cond b (Some i) (number_from words name (i + 1))) same
+  pub number_here : is_same name word.name ≡ true → number_from words name i ≡ Some i
+  number_here same = first_word ∙ ap (λ b. cond b (Some i) (number_from words name (i + 1))) same
 
-  pub number-later : is_same name word.name ≡ false
+  pub number_later : is_same name word.name ≡ false
       → number_from words name i ≡ number_from words name (i + 1)
-  number-later other = first-word ∙ ap (λ b. cond b (Some i) (number_from words name (i + 1))) other
+  number_later other = first_word ∙ ap (λ b. cond b (Some i) (number_from words name (i + 1))) other
 
 -- all of them, and none of them
 
-pub number-all : (words : List Word) (name : List ℕ)
+pub number_all : (words : List Word) (name : List ℕ)
     → number_from words name 0 ≡ number_in (names_of words) name
 unfolding number_from
-number-all words name = by (number_in (names_of words) name)
+number_all words name = by (number_in (names_of words) name)
   where
     by : (o : Option ℕ) → option_map (λ k. 0 + k) o ≡ o
     by None = refl
     by (Some k) = ap Some (omega arith)
 
-pub number-none : (words : List Word) (name : List ℕ) (i : ℕ) → length words ≤ i
+pub number_none : (words : List Word) (name : List ℕ) (i : ℕ) → length words ≤ i
     → number_from words name i ≡ None
 unfolding number_from
-number-none words name i past =
+number_none words name i past =
     ap (λ l. option_map (λ k. i + k) (number_in (names_of l) name))
     (nil_from_length (drop i words) (length-drop i words ∙ omega (arith, past)))

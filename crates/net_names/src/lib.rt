@@ -2,6 +2,7 @@
 #![tactic(auto)]
 
 mod counts;
+mod directions;
 mod gather;
 mod machine_names;
 mod machines;
@@ -13,6 +14,7 @@ mod values;
 mod vars;
 
 pub use counts::{count_at, event_codes, value_count};
+pub use directions::{is_from_env, is_to_env};
 pub use gather::{Gather, append, gather_all, gather_into};
 pub use machine_names::MachineNames;
 pub use machines::names_of_machines;

@@ -14,43 +14,43 @@ use Rattle.net_names.specs.Scopes.{domain_words, state_domain, count_at}
 use Rattle.rule_judge.specs.Rules.{source_of}
 use Rattle.net_rules.specs.inner.Sound.{IsSound, IsSoundMachine, IsSoundAct, amount_of}
 use Rattle.net_rules.proofs.HasReceivers.{holds}
-use Rattle.net_rules.proofs.AreActions.{first-known, rest-known}
-use Rattle.net_rules.proofs.Counts.{lt-from, state-few}
+use Rattle.net_rules.proofs.AreActions.{first_known, rest_known}
+use Rattle.net_rules.proofs.Counts.{lt_from, state_few}
 
 module _ (net : RawNet) (sound : IsSound net) where
   -- a state variable has few values
-  few-in : (name : List ℕ) (ss : List RawState)
+  few_in : (name : List ℕ) (ss : List RawState)
       → missing (is_name_of (domain_words net)) (map (λ (s : RawState). s.domain) ss) ≡ []
       → count_at net (option_map (λ (s : RawState). s.domain)
       (find (λ (s : RawState). is_same name s.name.name) ss)) ≤ 33
-  few-in name [] h = omega arith
-  few-in name (s ∷ ss) h =
+  few_in name [] h = omega arith
+  few_in name (s ∷ ss) h =
       by (is_same name s.name.name)
-      (few-in name ss
-      (rest-known (domain_words net) s.domain (map (λ (s : RawState). s.domain) ss) h))
+      (few_in name ss
+      (rest_known (domain_words net) s.domain (map (λ (s : RawState). s.domain) ss) h))
     where
       by : (b : Bool)
           → count_at net (option_map (λ (s : RawState). s.domain)
           (find (λ (s : RawState). is_same name s.name.name) ss)) ≤ 33
           → count_at net (option_map (λ (s : RawState). s.domain)
           (cond b (Some s) (find (λ (s : RawState). is_same name s.name.name) ss))) ≤ 33
-      by true rest = state-few net s.domain sound
-          (first-known (domain_words net) s.domain (map (λ (s : RawState). s.domain) ss) h)
+      by true rest = state_few net s.domain sound
+          (first_known (domain_words net) s.domain (map (λ (s : RawState). s.domain) ss) h)
       by false rest = rest
 
-  pub amount-small : (m : RawMachine) (row : RawRow) (act : RawAct) → IsSoundMachine net m
+  pub amount_small : (m : RawMachine) (row : RawRow) (act : RawAct) → IsSoundMachine net m
       → IsSoundAct net m row act → amount_of (source_of act) ≤ 255
-  amount-small m row (acts.Emit w None) kept s = omega arith
-  amount-small m row (acts.Emit w (Some (sources.Value v))) kept s = omega arith
-  amount-small m row (acts.Emit w (Some (sources.Input x))) kept s = omega arith
-  amount-small m row (acts.Emit w (Some (sources.Add x n))) kept s =
+  amount_small m row (acts.Emit w None) kept s = omega arith
+  amount_small m row (acts.Emit w (Some (sources.Value v))) kept s = omega arith
+  amount_small m row (acts.Emit w (Some (sources.Input x))) kept s = omega arith
+  amount_small m row (acts.Emit w (Some (sources.Add x n))) kept s =
       absurd (true≢false (sym (holds false x.at s.name)))
-  amount-small m row (acts.Set w (sources.Value v)) kept s = omega arith
-  amount-small m row (acts.Set w (sources.Input x)) kept s = omega arith
-  amount-small m row (acts.Set w (sources.Add x n)) kept s =
+  amount_small m row (acts.Set w (sources.Value v)) kept s = omega arith
+  amount_small m row (acts.Set w (sources.Input x)) kept s = omega arith
+  amount_small m row (acts.Set w (sources.Add x n)) kept s =
       omega (
         arith,
-        lt-from n.number (count_at net (state_domain m w.name))
+        lt_from n.number (count_at net (state_domain m w.name))
             (holds (nat_lt n.number (count_at net (state_domain m w.name))) n.at s.amount),
-        few-in w.name m.states kept.domains,
+        few_in w.name m.states kept.domains,
       )

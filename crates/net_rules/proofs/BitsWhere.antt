@@ -9,9 +9,9 @@ use Rattle.std.proofs.lemmas.Nat.Bits.{bit_at-zero, bit_at_or, bit_at_and, bit_a
 use Rattle.net_rules.specs.Networks.{bits_where}
 
 -- at and above n no number passes
-pub no-more : (test : ℕ → Bool) (n c : ℕ) → n ≤ c → bit_at (bits_where test n) c ≡ 0
-no-more test zero c h = bit_at-zero c
-no-more test (suc n) c h = by (test n) (no-more test n c (omega (arith, h)))
+pub no_more : (test : ℕ → Bool) (n c : ℕ) → n ≤ c → bit_at (bits_where test n) c ≡ 0
+no_more test zero c h = bit_at-zero c
+no_more test (suc n) c h = by (test n) (no_more test n c (omega (arith, h)))
   where
     by : (b : Bool) → bit_at (bits_where test n) c ≡ 0
         → bit_at (cond b (bit_or (bits_where test n) (2 ^ n)) (bits_where test n)) c ≡ 0
@@ -42,8 +42,8 @@ passes test (suc n) c h = by (cases_lt c n) (λ below. passes test n c below)
     new : (b : Bool) → bit_at (cond b (bit_or (bits_where test n) (2 ^ n)) (bits_where test n)) n
         ≡ cond b 1 0
     new true = bit_at_or (bits_where test n) (2 ^ n) n
-        ∙ (λ i. max (no-more test n n (omega arith) i) (bit_at-pow_same n i))
-    new false = no-more test n n (omega arith)
+        ∙ (λ i. max (no_more test n n (omega arith) i) (bit_at-pow_same n i))
+    new false = no_more test n n (omega arith)
 
     by : (c < n) ⊎ (n ≤ c) → (c < n → bit_at (bits_where test n) c ≡ cond (test c) 1 0)
         → bit_at (cond (test n) (bit_or (bits_where test n) (2 ^ n)) (bits_where test n)) c
@@ -55,9 +55,9 @@ passes test (suc n) c h = by (cases_lt c n) (λ below. passes test n c below)
         x ≡ cond (test x) 1 0) same (new (test n))
 
 -- a number below 2 ^ n is the set of the codes below n whose bits it has
-pub codes-are : (test : ℕ → Bool) (n x : ℕ) → x < 2 ^ n
+pub codes_are : (test : ℕ → Bool) (n x : ℕ) → x < 2 ^ n
     → ((c : ℕ) → c < n → (bit_at x c == 1) ≡ test c) → x ≡ bits_where test n
-codes-are test n x small bits = same_from_bits x (bits_where test n) (λ c. by c (cases_lt c n))
+codes_are test n x small bits = same_from_bits x (bits_where test n) (λ c. by c (cases_lt c n))
   where
     one : (b : ℕ) (t : Bool) → b < 2 → (b == 1) ≡ t → b ≡ cond t 1 0
     one zero t h e = ap (λ u. cond u 1 0) e
@@ -67,55 +67,55 @@ codes-are test n x small bits = same_from_bits x (bits_where test n) (λ c. by c
     by : (c : ℕ) → (c < n) ⊎ (n ≤ c) → bit_at x c ≡ bit_at (bits_where test n) c
     by c (inl below) = one (bit_at x c) (test c) (bit_at-lt x c) (bits c below)
         ∙ sym (passes test n c below)
-    by c (inr past) = bit_at_above x n c small past ∙ sym (no-more test n c past)
+    by c (inr past) = bit_at_above x n c small past ∙ sym (no_more test n c past)
 
-lt-more : (n : ℕ) → 2 ^ n < 2 ^ suc n
-lt-more n = let h : n < suc n = omega arith in pow-lt h
+lt_more : (n : ℕ) → 2 ^ n < 2 ^ suc n
+lt_more n = let h : n < suc n = omega arith in pow-lt h
 
-pow-lt-more : (n x : ℕ) → x < 2 ^ n → x < 2 ^ suc n
-pow-lt-more n x h = omega (arith, h, lt-more n)
+pow_lt_more : (n x : ℕ) → x < 2 ^ n → x < 2 ^ suc n
+pow_lt_more n x h = omega (arith, h, lt_more n)
 
 -- the set is below 2 ^ n
-pub bits-below : (test : ℕ → Bool) (n : ℕ) → bits_where test n < 2 ^ n
-bits-below test zero = omega arith
-bits-below test (suc n) = by (test n) (bits-below test n)
+pub bits_below : (test : ℕ → Bool) (n : ℕ) → bits_where test n < 2 ^ n
+bits_below test zero = omega arith
+bits_below test (suc n) = by (test n) (bits_below test n)
   where
     by : (b : Bool) → bits_where test n < 2 ^ n
         → cond b (bit_or (bits_where test n) (2 ^ n)) (bits_where test n) < 2 ^ suc n
-    by true h = or_lt (suc n) (bits_where test n) (2 ^ n) (pow-lt-more n (bits_where test n) h)
-        (lt-more n)
-    by false h = pow-lt-more n (bits_where test n) h
+    by true h = or_lt (suc n) (bits_where test n) (2 ^ n) (pow_lt_more n (bits_where test n) h)
+        (lt_more n)
+    by false h = pow_lt_more n (bits_where test n) h
 
 shifted : (k : ℕ) → k < 64 → 1 * 2 ^ k % 18446744073709551616 ≡ 2 ^ k
 shifted k h = one_shl k 64 h
 
-pub set-bit : (n k c : ℕ) → k < 64
+pub set_bit : (n k c : ℕ) → k < 64
     → (bit_at (bit_or n (1 * 2 ^ k % 18446744073709551616)) c == 1) ≡ (c == k || bit_at n c == 1)
-set-bit n k c h =
+set_bit n k c h =
     ap (λ x. bit_at (bit_or n x) c == 1) (shifted k h)
     ∙ ap (λ x. x == 1) (bit_at_or n (2 ^ k) c)
     ∙ elim (eqb_tells c k) [
       | inl here ↦ ap (λ x. max (bit_at n c) x == 1)
           (ap (λ j. bit_at (2 ^ k) j) here.1 ∙ bit_at-pow_same k)
-          ∙ with-one (bit_at n c) (bit_at-lt n c) ∙ sym (ap (λ b. b || bit_at n c == 1) here.0)
+          ∙ with_one (bit_at n c) (bit_at-lt n c) ∙ sym (ap (λ b. b || bit_at n c == 1) here.0)
       | inr apart ↦ ap (λ x. max (bit_at n c) x == 1) (bit_at-pow_other k c apart.1)
-          ∙ with-zero (bit_at n c) ∙ sym (ap (λ b. b || bit_at n c == 1) apart.0)
+          ∙ with_zero (bit_at n c) ∙ sym (ap (λ b. b || bit_at n c == 1) apart.0)
     ]
   where
-    with-one : (b : ℕ) → b < 2 → (max b 1 == 1) ≡ true
-    with-one zero h = refl
-    with-one (suc zero) h = refl
-    with-one (suc (suc b)) h = absurd (omega (arith, h))
+    with_one : (b : ℕ) → b < 2 → (max b 1 == 1) ≡ true
+    with_one zero h = refl
+    with_one (suc zero) h = refl
+    with_one (suc (suc b)) h = absurd (omega (arith, h))
 
-    with-zero : (b : ℕ) → (max b 0 == 1) ≡ (b == 1)
-    with-zero b = ap (λ x. x == 1) (grind arith)
+    with_zero : (b : ℕ) → (max b 0 == 1) ≡ (b == 1)
+    with_zero b = ap (λ x. x == 1) (grind arith)
 
 pub cut : (codes size : ℕ) (test : ℕ → Bool) → size < 64
     → ((c : ℕ) → c < size → (bit_at codes c == 1) ≡ test c)
     → bit_and codes (1 * 2 ^ size % 18446744073709551616 - 1) ≡ bits_where test size
 cut codes size test h bits =
     ap (λ x. bit_and codes (x - 1)) (shifted size h)
-    ∙ codes-are test size (bit_and codes (2 ^ size - 1))
+    ∙ codes_are test size (bit_and codes (2 ^ size - 1))
     (omega (arith, and_le_r codes (2 ^ size - 1), pow_pos size))
     (λ c below. ap (λ x. x == 1) (bit_at_and codes (2 ^ size - 1) c
     ∙ ap (λ x. min (bit_at codes c) x) (bit_at_ones size c below)

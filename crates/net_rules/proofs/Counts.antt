@@ -14,58 +14,58 @@ use Rattle.net_names.specs.Numbers.{names_of, is_among, is_name_of, missing}
 use Rattle.net_names.specs.Values.{count_of}
 use Rattle.net_names.specs.Scopes.{domain_words, shape_of, event_domain, count_at, event_codes}
 use Rattle.net_rules.specs.inner.Sound.{has_count, Each, IsSound}
-use Rattle.net_rules.proofs.NumbersOfNames.{and-first, and-second}
-use Rattle.net_names.proofs.IsVar.{some-is}
-use Rattle.net_rules.proofs.HasReceivers.{first-nil, rest-nil, holds}
+use Rattle.net_rules.proofs.NumbersOfNames.{and_first, and_second}
+use Rattle.net_names.proofs.IsVar.{some_is}
+use Rattle.net_rules.proofs.HasReceivers.{first_nil, rest_nil, holds}
 
-pub le-from : (a b : ℕ) → nat_le a b ≡ true → a ≤ b
-le-from a b h = grind (arith, h)
+pub le_from : (a b : ℕ) → nat_le a b ≡ true → a ≤ b
+le_from a b h = grind (arith, h)
 
-pub le-to : (a b : ℕ) → a ≤ b → nat_le a b ≡ true
-le-to a b h = grind (arith, h)
+pub le_to : (a b : ℕ) → a ≤ b → nat_le a b ≡ true
+le_to a b h = grind (arith, h)
 
-pub lt-from : (a b : ℕ) → nat_lt a b ≡ true → a < b
-lt-from a b h = grind (arith, h)
+pub lt_from : (a b : ℕ) → nat_lt a b ≡ true → a < b
+lt_from a b h = grind (arith, h)
 
-pub lt-to : (a b : ℕ) → a < b → nat_lt a b ≡ true
-lt-to a b h = grind (arith, h)
+pub lt_to : (a b : ℕ) → a < b → nat_lt a b ≡ true
+lt_to a b h = grind (arith, h)
 
 abbrev pub InRange : ℕ → Type 0
 InRange n = (1 ≤ n) × (n ≤ 32)
 
 -- of a test for each item
-pub each-all : {X : Type 0} (test : X → Bool) (xs : List X) → list_all test xs ≡ true
+pub each_all : {X : Type 0} (test : X → Bool) (xs : List X) → list_all test xs ≡ true
     → Each (λ x. test x ≡ true) xs
-each-all test [] all i x at = absurd (true≢false (sym (ap is_some at)))
-each-all test (y ∷ xs) all zero x at =
-    subst (λ z. test z ≡ true) (some-is y x at) (and-first (test y) (list_all test xs) all)
-each-all test (y ∷ xs) all (suc i) x at =
-    each-all test xs (and-second (test y) (list_all test xs) all) i x at
+each_all test [] all i x at = absurd (true≢false (sym (ap is_some at)))
+each_all test (y ∷ xs) all zero x at =
+    subst (λ z. test z ≡ true) (some_is y x at) (and_first (test y) (list_all test xs) all)
+each_all test (y ∷ xs) all (suc i) x at =
+    each_all test xs (and_second (test y) (list_all test xs) all) i x at
 
 -- of places that no item has
-pub each-nil : {X : Type 0} (f : X → List ℕ) (xs : List X) → flat_map f xs ≡ []
+pub each_nil : {X : Type 0} (f : X → List ℕ) (xs : List X) → flat_map f xs ≡ []
     → Each (λ x. f x ≡ []) xs
-each-nil f [] none i x at = absurd (true≢false (sym (ap is_some at)))
-each-nil f (y ∷ xs) none zero x at =
-    subst (λ z. f z ≡ []) (some-is y x at) (first-nil (f y) (flat_map f xs) none)
-each-nil f (y ∷ xs) none (suc i) x at = each-nil f xs (rest-nil (f y) (flat_map f xs) none) i x at
+each_nil f [] none i x at = absurd (true≢false (sym (ap is_some at)))
+each_nil f (y ∷ xs) none zero x at =
+    subst (λ z. f z ≡ []) (some_is y x at) (first_nil (f y) (flat_map f xs) none)
+each_nil f (y ∷ xs) none (suc i) x at = each_nil f xs (rest_nil (f y) (flat_map f xs) none) i x at
 
-pub count-in : (d : RawDomain) → has_count d ≡ true → InRange (count_of d.shape)
-count-in d h = (
-  le-from 1 (count_of d.shape)
-      (and-first (nat_le 1 (count_of d.shape)) (nat_le (count_of d.shape) 32) h),
-  le-from (count_of d.shape) 32
-      (and-second (nat_le 1 (count_of d.shape)) (nat_le (count_of d.shape) 32) h),
+pub count_in : (d : RawDomain) → has_count d ≡ true → InRange (count_of d.shape)
+count_in d h = (
+  le_from 1 (count_of d.shape)
+      (and_first (nat_le 1 (count_of d.shape)) (nat_le (count_of d.shape) 32) h),
+  le_from (count_of d.shape) 32
+      (and_second (nat_le 1 (count_of d.shape)) (nat_le (count_of d.shape) 32) h),
 )
 
 -- a domain that is found has 1 to 32 values
-found-in : (name : List ℕ) (ds : List RawDomain) (shape : RawShape) → list_all has_count ds ≡ true
+found_in : (name : List ℕ) (ds : List RawDomain) (shape : RawShape) → list_all has_count ds ≡ true
     → option_map (λ (d : RawDomain). d.shape)
     (find (λ (d : RawDomain). is_same name d.name.name) ds) ≡ Some shape → InRange (count_of shape)
-found-in name [] shape all h = absurd (true≢false (sym (ap is_some h)))
-found-in name (d ∷ ds) shape all h =
+found_in name [] shape all h = absurd (true≢false (sym (ap is_some h)))
+found_in name (d ∷ ds) shape all h =
     by (is_same name d.name.name) h
-    (found-in name ds shape (and-second (has_count d) (list_all has_count ds) all))
+    (found_in name ds shape (and_second (has_count d) (list_all has_count ds) all))
   where
     by : (b : Bool)
         → option_map (λ (d : RawDomain). d.shape)
@@ -74,25 +74,25 @@ found-in name (d ∷ ds) shape all h =
         (find (λ (d : RawDomain). is_same name d.name.name) ds) ≡ Some shape
         → InRange (count_of shape)) → InRange (count_of shape)
     by true h rest =
-        subst (λ s. InRange (count_of s)) (some-is d.shape shape h)
-        (count-in d (and-first (has_count d) (list_all has_count ds) all))
+        subst (λ s. InRange (count_of s)) (some_is d.shape shape h)
+        (count_in d (and_first (has_count d) (list_all has_count ds) all))
     by false h rest = rest h
 
-pub shape-in : (net : RawNet) (name : List ℕ) (shape : RawShape) → IsSound net
+pub shape_in : (net : RawNet) (name : List ℕ) (shape : RawShape) → IsSound net
     → shape_of net name ≡ Some shape → InRange (count_of shape)
-shape-in net name shape s h = found-in name net.domains shape s.counts h
+shape_in net name shape s h = found_in name net.domains shape s.counts h
 
 -- a name that is declared has a domain
-declared-in : (name : List ℕ) (ds : List RawDomain) → list_all has_count ds ≡ true
+declared_in : (name : List ℕ) (ds : List RawDomain) → list_all has_count ds ≡ true
     → is_among (names_of (map (λ (d : RawDomain). d.name) ds)) name ≡ true
     → InRange (unwrap_or
     (option_map count_of
     (option_map (λ (d : RawDomain). d.shape)
     (find (λ (d : RawDomain). is_same name d.name.name) ds))) 0)
-declared-in name [] all there = absurd (true≢false (sym there))
-declared-in name (d ∷ ds) all there =
+declared_in name [] all there = absurd (true≢false (sym there))
+declared_in name (d ∷ ds) all there =
     by (is_same name d.name.name) there
-    (declared-in name ds (and-second (has_count d) (list_all has_count ds) all))
+    (declared_in name ds (and_second (has_count d) (list_all has_count ds) all))
   where
     by : (b : Bool) → (b || is_among (names_of (map (λ (d : RawDomain). d.name) ds)) name) ≡ true
         → (is_among (names_of (map (λ (d : RawDomain). d.name) ds)) name ≡ true
@@ -104,36 +104,36 @@ declared-in name (d ∷ ds) all there =
         (option_map count_of
         (option_map (λ (d : RawDomain). d.shape)
         (cond b (Some d) (find (λ (d : RawDomain). is_same name d.name.name) ds)))) 0)
-    by true h rest = count-in d (and-first (has_count d) (list_all has_count ds) all)
+    by true h rest = count_in d (and_first (has_count d) (list_all has_count ds) all)
     by false h rest = rest h
 
-pub state-in : (net : RawNet) (w : Word) → IsSound net → is_name_of (domain_words net) w.name ≡ true
+pub state_in : (net : RawNet) (w : Word) → IsSound net → is_name_of (domain_words net) w.name ≡ true
     → InRange (count_at net (Some w))
-state-in net w s there = declared-in w.name net.domains s.counts there
+state_in net w s there = declared_in w.name net.domains s.counts there
 
 module _ (net : RawNet) (sound : IsSound net) where
-  one-in : InRange 1
-  one-in = (omega arith, omega arith)
+  one_in : InRange 1
+  one_in = (omega arith, omega arith)
 
-  word-in : (o : Option Word) → missing (is_name_of (domain_words net)) (option_to_list o) ≡ []
+  word_in : (o : Option Word) → missing (is_name_of (domain_words net)) (option_to_list o) ≡ []
       → InRange (count_at net o)
-  word-in None none = one-in
-  word-in (Some w) none =
-      state-in net w sound
+  word_in None none = one_in
+  word_in (Some w) none =
+      state_in net w sound
       (holds (is_name_of (domain_words net) w.name) w.at
-      (first-nil (unless (is_name_of (domain_words net) w.name) w.at) [] none))
+      (first_nil (unless (is_name_of (domain_words net) w.name) w.at) [] none))
 
-  used-in : (name : List ℕ) (es : List RawEvent)
+  used_in : (name : List ℕ) (es : List RawEvent)
       → missing (is_name_of (domain_words net))
       (flat_map (λ (e : RawEvent). option_to_list e.domain) es) ≡ []
       → InRange (count_at net
       (option_and_then (λ (e : RawEvent). e.domain)
       (find (λ (e : RawEvent). is_same name e.name.name) es)))
-  used-in name [] none = one-in
-  used-in name (e ∷ es) none =
+  used_in name [] none = one_in
+  used_in name (e ∷ es) none =
       by (is_same name e.name.name)
-      (used-in name es
-      (rest-nil (missing (is_name_of (domain_words net)) (option_to_list e.domain))
+      (used_in name es
+      (rest_nil (missing (is_name_of (domain_words net)) (option_to_list e.domain))
       (missing (is_name_of (domain_words net))
       (flat_map (λ (e : RawEvent). option_to_list e.domain) es)) split))
     where
@@ -152,25 +152,25 @@ module _ (net : RawNet) (sound : IsSound net) where
           → InRange (count_at net
           (option_and_then (λ (e : RawEvent). e.domain)
           (cond b (Some e) (find (λ (e : RawEvent). is_same name e.name.name) es))))
-      by true rest = word-in e.domain
-          (first-nil (missing (is_name_of (domain_words net)) (option_to_list e.domain))
+      by true rest = word_in e.domain
+          (first_nil (missing (is_name_of (domain_words net)) (option_to_list e.domain))
           (missing (is_name_of (domain_words net))
           (flat_map (λ (e : RawEvent). option_to_list e.domain) es)) split)
       by false rest = rest
 
-  pub event-in : (name : List ℕ) → InRange (count_at net (event_domain net name))
-  event-in name = used-in name net.events sound.events
+  pub event_in : (name : List ℕ) → InRange (count_at net (event_domain net name))
+  event_in name = used_in name net.events sound.events
 
-  pub event-some : (w : Word) → 2 ≤ event_codes net w
-  event-some w = omega (arith, (event-in w.name).0)
+  pub event_some : (w : Word) → 2 ≤ event_codes net w
+  event_some w = omega (arith, (event_in w.name).0)
 
-  pub event-few : (w : Word) → event_codes net w ≤ 33
-  event-few w = omega (arith, (event-in w.name).1)
+  pub event_few : (w : Word) → event_codes net w ≤ 33
+  event_few w = omega (arith, (event_in w.name).1)
 
 -- what was counted up to a bound that isn't reached
-pub under-cap : (x n : ℕ) → x ≡ min 65537 n → n ≤ 33 → x ≡ n
-under-cap x n e h = grind (arith, e, h)
+pub under_cap : (x n : ℕ) → x ≡ min 65537 n → n ≤ 33 → x ≡ n
+under_cap x n e h = grind (arith, e, h)
 
-pub state-few : (net : RawNet) (w : Word) → IsSound net
+pub state_few : (net : RawNet) (w : Word) → IsSound net
     → is_name_of (domain_words net) w.name ≡ true → count_at net (Some w) ≤ 33
-state-few net w s there = omega (arith, (state-in net w s there).1)
+state_few net w s there = omega (arith, (state_in net w s there).1)

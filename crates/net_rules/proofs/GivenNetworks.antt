@@ -26,7 +26,7 @@ use Rattle.net_reader.specs.declared.network.NetFault.{NetFault}
 use Rattle.net_reader.proofs.Sentences.{has_net}
 use Rattle.net_names.specs.Numbers.{names_of, number}
 use Rattle.net_names.specs.Scopes.{event_words, event_codes, state_codes, var_sizes}
-use Rattle.net_names.proofs.IsVar.{some-is}
+use Rattle.net_names.proofs.IsVar.{some_is}
 use Rattle.rule_judge.specs.declared.verdict.Broken.{Broken}
 use Rattle.rule_judge.specs.Judged.{broken}
 use Rattle.net_rules.specs.Networks.{IsDomainOf, IsRowOf, IsMachineOf, IsNetworkOf, state_of, event_of, cond_of, act_of}
@@ -36,15 +36,15 @@ use Rattle.transition_table.specs.samples.Belt.{belt as belt_network}
 use Rattle.transition_table.specs.samples.Echo.{echo as echo_network}
 
 -- items that agree in what is computed of both match
-zip-of : {A B D : Type 0} (R : A → B → Type 0) (f : A → D) (g : B → D)
+zip_of : {A B D : Type 0} (R : A → B → Type 0) (f : A → D) (g : B → D)
     → ((a : A) (b : B) → g b ≡ f a → R a b) → (xs : List A) (ys : List B)
     → map g ys ≡ map f xs → AllZip R xs ys
-zip-of R f g same [] [] h = tt
-zip-of R f g same [] (y ∷ ys) h = absurd (true≢false (ap (λ l. is_some (head_of l)) h))
-zip-of R f g same (x ∷ xs) [] h = absurd (true≢false (sym (ap (λ l. is_some (head_of l)) h)))
-zip-of R f g same (x ∷ xs) (y ∷ ys) h = (
-  same x y (some-is (g y) (f x) (ap head_of h)),
-  zip-of R f g same xs ys (ap (drop 1) h),
+zip_of R f g same [] [] h = tt
+zip_of R f g same [] (y ∷ ys) h = absurd (true≢false (ap (λ l. is_some (head_of l)) h))
+zip_of R f g same (x ∷ xs) [] h = absurd (true≢false (sym (ap (λ l. is_some (head_of l)) h)))
+zip_of R f g same (x ∷ xs) (y ∷ ys) h = (
+  same x y (some_is (g y) (f x) (ap head_of h)),
+  zip_of R f g same xs ys (ap (drop 1) h),
 )
 
 -- the names of a domain, or its first and its last number
@@ -71,12 +71,12 @@ abbrev range_in : Values → ℕ × ℕ
 range_in (inl names) = (0, 0)
 range_in (inr range) = range
 
-domain-of : (shape : RawShape) (d : Domain) → values_of d ≡ declared_values shape
+domain_of : (shape : RawShape) (d : Domain) → values_of d ≡ declared_values shape
     → IsDomainOf shape d
-domain-of (shapes.Names words) (domains.Names names) h = ap domains.Names (ap names_in h)
-domain-of (shapes.Names words) (domains.Range span) h = absurd (true≢false (sym (ap are_names h)))
-domain-of (shapes.Range first last) (domains.Names names) h = absurd (true≢false (ap are_names h))
-domain-of (shapes.Range first last) (domains.Range span) h =
+domain_of (shapes.Names words) (domains.Names names) h = ap domains.Names (ap names_in h)
+domain_of (shapes.Names words) (domains.Range span) h = absurd (true≢false (sym (ap are_names h)))
+domain_of (shapes.Range first last) (domains.Names names) h = absurd (true≢false (ap are_names h))
+domain_of (shapes.Range first last) (domains.Range span) h =
     (span, refl, ap (λ v. (range_in v).0) h, ap (λ v. (range_in v).1) h)
 
 abbrev RowData : Type 0
@@ -122,9 +122,9 @@ machine_data m = record {
   rows = map row_data m.rows;
 }
 
-machine-of : (net : RawNet) (raw : RawMachine) (m : Machine)
+machine_of : (net : RawNet) (raw : RawMachine) (m : Machine)
     → machine_data m ≡ declared_machine net raw → IsMachineOf net raw m
-machine-of net raw m h = record {
+machine_of net raw m h = record {
   name = λ i. (h i).name;
   priority = λ i. (h i).priority;
   inputs = λ i. (h i).inputs;
@@ -132,7 +132,7 @@ machine-of net raw m h = record {
   states = λ i. (h i).states;
   vars = λ i. (h i).vars;
   results = λ i. (h i).results;
-  rows = zip-of (IsRowOf net raw) (declared_row net raw) row_data
+  rows = zip_of (IsRowOf net raw) (declared_row net raw) row_data
       (λ a b e. record { conds = λ i. (e i).0; acts = λ i. (e i).1 }) raw.rows m.rows
       (λ i. (h i).rows);
 }
@@ -159,15 +159,15 @@ network_data net = record {
   machines = map machine_data net.machines;
 }
 
-network-of : (raw : RawNet) (net : Network) → network_data net ≡ declared_network raw
+network_of : (raw : RawNet) (net : Network) → network_data net ≡ declared_network raw
     → IsNetworkOf raw net
-network-of raw net h = record {
+network_of raw net h = record {
   name = λ i. (h i).name;
-  domains = zip-of (λ (d : RawDomain). IsDomainOf d.shape)
+  domains = zip_of (λ (d : RawDomain). IsDomainOf d.shape)
       (λ (d : RawDomain). declared_values d.shape) values_of
-      (λ a b e. domain-of a.shape b e) raw.domains net.domains (λ i. (h i).domains);
+      (λ a b e. domain_of a.shape b e) raw.domains net.domains (λ i. (h i).domains);
   events = λ i. (h i).events;
-  machines = zip-of (IsMachineOf raw) (declared_machine raw) machine_data (machine-of raw)
+  machines = zip_of (IsMachineOf raw) (declared_machine raw) machine_data (machine_of raw)
       raw.machines net.machines (λ i. (h i).machines);
 }
 
@@ -176,17 +176,17 @@ abbrev found : Result RawNet NetFault → Option (Option Broken × NetworkData)
 found (Ok net) = Some (broken net, declared_network net)
 found (Err fault) = None
 
-net-of : (text : List ℕ) (net : Network) → Some (None, network_data net) ≡ found (outcome text)
+net_of : (text : List ℕ) (net : Network) → Some (None, network_data net) ≡ found (outcome text)
     → NetOf text net
-net-of text net h = by (outcome text) refl h
+net_of text net h = by (outcome text) refl h
   where
     by : (r : Result RawNet NetFault) → outcome text ≡ r → Some (None, network_data net) ≡ found r
         → NetOf text net
     by (Ok raw) e k =
-        let same = some-is (None, network_data net) (broken raw, declared_network raw) k in (
+        let same = some_is (None, network_data net) (broken raw, declared_network raw) k in (
           raw,
           has_net text (tokens_of text) raw refl e,
-          (λ i. (sym same i).0, network-of raw net (λ i. (same i).1)),
+          (λ i. (sym same i).0, network_of raw net (λ i. (same i).1)),
         )
     by (Err fault) e k = absurd (true≢false (ap is_some k))
 
@@ -198,7 +198,7 @@ unfolding only word_at num_at value_at many after_comma listed names_at range_at
     set_at act_at nothing_at acts_at row_at output_at outputs_at body_at machine_at net_at end_at
     whole_at
 given = (
-  net-of belt_text belt_network refl,
-  net-of mix_text mix_network refl,
-  net-of echo_text echo_network refl,
+  net_of belt_text belt_network refl,
+  net_of mix_text mix_network refl,
+  net_of echo_text echo_network refl,
 )

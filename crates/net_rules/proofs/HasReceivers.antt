@@ -15,32 +15,32 @@ use Rattle.net_names.specs.Numbers.{names_of, is_name_of, missing, repeated, no_
 use Rattle.net_names.specs.Scopes.{domain_words, event_words, machine_words}
 use Rattle.rule_judge.specs.Rules.{rule_3, rule_7}
 use Rattle.net_rules.specs.Networks.{event_of, IsMachineOf}
-use Rattle.net_rules.proofs.NumbersOfNames.{places-with}
-use Rattle.net_names.proofs.IsVar.{some-is}
+use Rattle.net_rules.proofs.NumbersOfNames.{places_with}
+use Rattle.net_names.proofs.IsVar.{some_is}
 
 is_nil : {A : Type 0} → List A → Bool
 is_nil [] = true
 is_nil (x ∷ xs) = false
 
-pub first-nil : {A : Type 0} (xs ys : List A) → xs ++ ys ≡ [] → xs ≡ []
+pub first_nil : {A : Type 0} (xs ys : List A) → xs ++ ys ≡ [] → xs ≡ []
 unfolding is_nil
-first-nil [] ys h = refl
-first-nil (x ∷ xs) ys h = absurd (true≢false (sym (ap is_nil h)))
+first_nil [] ys h = refl
+first_nil (x ∷ xs) ys h = absurd (true≢false (sym (ap is_nil h)))
 
-pub rest-nil : {A : Type 0} (xs ys : List A) → xs ++ ys ≡ [] → ys ≡ []
+pub rest_nil : {A : Type 0} (xs ys : List A) → xs ++ ys ≡ [] → ys ≡ []
 unfolding is_nil
-rest-nil [] ys h = h
-rest-nil (x ∷ xs) ys h = absurd (true≢false (sym (ap is_nil h)))
+rest_nil [] ys h = h
+rest_nil (x ∷ xs) ys h = absurd (true≢false (sym (ap is_nil h)))
 
 pub holds : (b : Bool) (place : ℕ) → unless b place ≡ [] → b ≡ true
 unfolding is_nil
 holds true place h = refl
 holds false place h = absurd (true≢false (sym (ap is_nil h)))
 
-any-or : (p q : List ℕ → Bool) (names : List (List ℕ))
+any_or : (p q : List ℕ → Bool) (names : List (List ℕ))
     → list_any (λ n. p n || q n) names ≡ (list_any p names || list_any q names)
-any-or p q [] = refl
-any-or p q (n ∷ names) = ap (λ b. (p n || q n) || b) (any-or p q names)
+any_or p q [] = refl
+any_or p q (n ∷ names) = ap (λ b. (p n || q n) || b) (any_or p q names)
     ∙ swap (p n) (q n) (list_any p names) (list_any q names)
   where
     swap : (a b c d : Bool) → ((a || b) || (c || d)) ≡ ((a || c) || (b || d))
@@ -49,22 +49,22 @@ any-or p q (n ∷ names) = ap (λ b. (p n || q n) || b) (any-or p q names)
     swap false true false d = refl
     swap false false c d = refl
 
-pub or-first : (a b : Bool) → (a || b) ≡ false → a ≡ false
-or-first true b h = h
-or-first false b h = refl
+pub or_first : (a b : Bool) → (a || b) ≡ false → a ≡ false
+or_first true b h = h
+or_first false b h = refl
 
-pub or-second : (a b : Bool) → (a || b) ≡ false → b ≡ false
-or-second true b h = absurd (true≢false h)
-or-second false b h = h
+pub or_second : (a b : Bool) → (a || b) ≡ false → b ≡ false
+or_second true b h = absurd (true≢false h)
+or_second false b h = h
 
-pub any-symm : (n : List ℕ) (names : List (List ℕ))
+pub any_symm : (n : List ℕ) (names : List (List ℕ))
     → list_any (λ q. is_same q n) names ≡ list_any (is_same n) names
-any-symm n [] = refl
-any-symm n (m ∷ names) = λ i. nat_list_eq_equiv.symm m n i || any-symm n names i
+any_symm n [] = refl
+any_symm n (m ∷ names) = λ i. nat_list_eq_equiv.symm m n i || any_symm n names i
 
-not-true : (b : Bool) → not b ≡ true → b ≡ false
-not-true true h = sym h
-not-true false h = refl
+not_true : (b : Bool) → not b ≡ true → b ≡ false
+not_true true h = sym h
+not_true false h = refl
 
 -- where no word repeats, none has a taken name, and the names are distinct
 pub record Fresh (taken : List ℕ → Bool) (words : List Word) : Type 0 where
@@ -75,29 +75,29 @@ pub fresh : (taken : List ℕ → Bool) (words : List Word) → repeated taken w
     → Fresh taken words
 fresh taken [] h = record { untaken = refl; distinct = refl }
 fresh taken (w ∷ words) h =
-    let own = not-true (taken w.name)
+    let own = not_true (taken w.name)
     (holds (not (taken w.name)) w.at
-    (first-nil (unless (not (taken w.name)) w.at)
+    (first_nil (unless (not (taken w.name)) w.at)
     (repeated (λ name. taken name || is_same name w.name) words) h)) in
     let rest = fresh (λ name. taken name || is_same name w.name) words
-    (rest-nil (unless (not (taken w.name)) w.at)
+    (rest_nil (unless (not (taken w.name)) w.at)
     (repeated (λ name. taken name || is_same name w.name) words) h) in
-    let both = sym (any-or taken (λ q. is_same q w.name) (names_of words)) ∙ rest.untaken in
-    let other = sym (any-symm w.name (names_of words))
-    ∙ or-second (list_any taken (names_of words))
+    let both = sym (any_or taken (λ q. is_same q w.name) (names_of words)) ∙ rest.untaken in
+    let other = sym (any_symm w.name (names_of words))
+    ∙ or_second (list_any taken (names_of words))
     (list_any (λ q. is_same q w.name) (names_of words)) both in
     record {
-      untaken = λ i. or-two own
-          (or-first (list_any taken (names_of words))
+      untaken = λ i. or_two own
+          (or_first (list_any taken (names_of words))
           (list_any (λ q. is_same q w.name) (names_of words)) both) i;
-      distinct = and-two (ap not other) rest.distinct;
+      distinct = and_two (ap not other) rest.distinct;
     }
   where
-    or-two : {a b : Bool} → a ≡ false → b ≡ false → (a || b) ≡ false
-    or-two p q = λ i. p i || q i
+    or_two : {a b : Bool} → a ≡ false → b ≡ false → (a || b) ≡ false
+    or_two p q = λ i. p i || q i
 
-    and-two : {a b : Bool} → a ≡ true → b ≡ true → (a && b) ≡ true
-    and-two p q = λ i. p i && q i
+    and_two : {a b : Bool} → a ≡ true → b ≡ true → (a && b) ≡ true
+    and_two p q = λ i. p i && q i
 
 -- each event passes a test with its number
 pub enumerated : {A B : Type 0} (f : A → B) (test : ℕ × B → Bool) (xs : List A) (k : ℕ)
@@ -106,66 +106,66 @@ pub enumerated : {A B : Type 0} (f : A → B) (test : ℕ × B → Bool) (xs : L
 enumerated f test [] k each = refl
 enumerated f test (x ∷ xs) k each =
     let first : test (k, f x) ≡ true =
-    subst (λ n. test (n, f x) ≡ true) (sum-zero k) (each 0 x refl) in
+    subst (λ n. test (n, f x) ≡ true) (sum_zero k) (each 0 x refl) in
     let rest = enumerated f test xs (k + 1)
-    (λ i y at. subst (λ n. test (n, f y) ≡ true) (sum-suc k i) (each (suc i) y at)) in
+    (λ i y at. subst (λ n. test (n, f y) ≡ true) (sum_suc k i) (each (suc i) y at)) in
     λ i. first i && rest i
   where
-    sum-zero : (k : ℕ) → k + 0 ≡ k
-    sum-zero k = omega arith
+    sum_zero : (k : ℕ) → k + 0 ≡ k
+    sum_zero k = omega arith
 
-    sum-suc : (k i : ℕ) → k + suc i ≡ k + 1 + i
-    sum-suc k i = omega arith
+    sum_suc : (k i : ℕ) → k + suc i ≡ k + 1 + i
+    sum_suc k i = omega arith
 
-pub name-at : (events : List RawEvent) (i : ℕ) (e : RawEvent) → slice_get events i ≡ Some e
+pub name_at : (events : List RawEvent) (i : ℕ) (e : RawEvent) → slice_get events i ≡ Some e
     → slice_get (names_of (map (λ (x : RawEvent). x.name) events)) i ≡ Some e.name.name
-name-at [] i e at = absurd (true≢false (sym (ap is_some at)))
-name-at (x ∷ events) zero e at = ap (λ (o : RawEvent). Some o.name.name) (some-is x e at)
-name-at (x ∷ events) (suc i) e at = name-at events i e at
+name_at [] i e at = absurd (true≢false (sym (ap is_some at)))
+name_at (x ∷ events) zero e at = ap (λ (o : RawEvent). Some o.name.name) (some_is x e at)
+name_at (x ∷ events) (suc i) e at = name_at events i e at
 
-inputs-numbered : (raw : RawNet) (rs : List RawMachine) (ms : List Machine)
+inputs_numbered : (raw : RawNet) (rs : List RawMachine) (ms : List Machine)
     → AllZip (IsMachineOf raw) rs ms
     → flat_map (λ (m : RawMachine). missing (is_name_of (event_words raw))
     (m.inputs ++ m.outputs)) rs ≡ []
     → AllZip (λ r m. (m.inputs ≡ map (λ (w : Word). number (event_words raw) w.name) r.inputs)
     × (missing (is_name_of (event_words raw)) r.inputs ≡ [])) rs ms
-inputs-numbered raw [] [] all none = all
-inputs-numbered raw [] (m ∷ ms) all none = absurd all
-inputs-numbered raw (r ∷ rs) [] all none = absurd all
-inputs-numbered raw (r ∷ rs) (m ∷ ms) all none =
+inputs_numbered raw [] [] all none = all
+inputs_numbered raw [] (m ∷ ms) all none = absurd all
+inputs_numbered raw (r ∷ rs) [] all none = absurd all
+inputs_numbered raw (r ∷ rs) (m ∷ ms) all none =
     let declared = is_name_of (event_words raw) in
-    let own = first-nil (missing declared (r.inputs ++ r.outputs))
+    let own = first_nil (missing declared (r.inputs ++ r.outputs))
     (flat_map (λ (m : RawMachine). missing declared (m.inputs ++ m.outputs)) rs) none in
-    let later = rest-nil (missing declared (r.inputs ++ r.outputs))
+    let later = rest_nil (missing declared (r.inputs ++ r.outputs))
     (flat_map (λ (m : RawMachine). missing declared (m.inputs ++ m.outputs)) rs) none in
-    let inputs = first-nil (missing declared r.inputs) (missing declared r.outputs)
+    let inputs = first_nil (missing declared r.inputs) (missing declared r.outputs)
     (sym (flat_map-append (λ (word : Word). unless (declared word.name) word.at) r.inputs
     r.outputs) ∙ own) in
-    ((all.0.inputs, inputs), inputs-numbered raw rs ms all.1 later)
+    ((all.0.inputs, inputs), inputs_numbered raw rs ms all.1 later)
 
 -- rules 3 and 7 give that the receivers are the machines with the number as an input
-pub receivers-kept : (raw : RawNet) (machines : List Machine) → rule_3 raw ≡ [] → rule_7 raw ≡ []
+pub receivers_kept : (raw : RawNet) (machines : List Machine) → rule_3 raw ≡ [] → rule_7 raw ≡ []
     → AllZip (IsMachineOf raw) raw.machines machines
     → list_all (has_receivers machines) (enumerate_from 0 (map (event_of raw) raw.events)) ≡ true
-receivers-kept raw machines three seven all =
+receivers_kept raw machines three seven all =
     enumerated (event_of raw) (has_receivers machines) raw.events 0 each
   where
-    events-once : repeated no_name (event_words raw) ≡ []
-    events-once = rest-nil (repeated no_name (domain_words raw))
+    events_once : repeated no_name (event_words raw) ≡ []
+    events_once = rest_nil (repeated no_name (domain_words raw))
         (repeated no_name (event_words raw))
-        (first-nil (repeated no_name (domain_words raw) ++ repeated no_name (event_words raw))
+        (first_nil (repeated no_name (domain_words raw) ++ repeated no_name (event_words raw))
         (repeated no_name (machine_words raw)) three)
 
     each : (i : ℕ) (e : RawEvent) → slice_get raw.events i ≡ Some e
         → has_receivers machines (0 + i, event_of raw e) ≡ true
     each i e at =
-        let same = places-with (event_words raw)
-        (fresh no_name (event_words raw) events-once).distinct i e.name.name
-        (name-at raw.events i e at) (λ r. r.inputs) (λ m. m.inputs) 0 raw.machines machines
-        (inputs-numbered raw raw.machines machines all seven) in
-        subst (λ n. has_receivers machines (n, event_of raw e) ≡ true) (zero-sum i)
+        let same = places_with (event_words raw)
+        (fresh no_name (event_words raw) events_once).distinct i e.name.name
+        (name_at raw.events i e at) (λ r. r.inputs) (λ m. m.inputs) 0 raw.machines machines
+        (inputs_numbered raw raw.machines machines all seven) in
+        subst (λ n. has_receivers machines (n, event_of raw e) ≡ true) (zero_sum i)
         (ap (λ l. pointwise ◌==◌ (event_of raw e).receivers l) same
         ∙ nat_list_eq_equiv.refl (event_of raw e).receivers)
       where
-        zero-sum : (i : ℕ) → i ≡ 0 + i
-        zero-sum i = omega arith
+        zero_sum : (i : ℕ) → i ≡ 0 + i
+        zero_sum i = omega arith

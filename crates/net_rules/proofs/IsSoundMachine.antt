@@ -11,31 +11,31 @@ use Rattle.net_names.specs.Scopes.{event_words, var_sizes}
 use Rattle.net_rules.specs.Networks.{state_of, IsRowOf}
 use Rattle.net_names.specs.Numbers.{number}
 use Rattle.net_rules.specs.inner.Sound.{IsSound, IsSoundMachine}
-use Rattle.net_rules.proofs.Counts.{le-to}
-use Rattle.net_rules.proofs.Zips.{zip-long}
-use Rattle.net_rules.proofs.MachineFacts.{few-inputs, few-outputs, few-states, few-rows}
+use Rattle.net_rules.proofs.Counts.{le_to}
+use Rattle.net_rules.proofs.Zips.{zip_long}
+use Rattle.net_rules.proofs.MachineFacts.{few_inputs, few_outputs, few_states, few_rows}
 
 -- the machine is within the limits
-pub small-kept : (net : RawNet) (m : RawMachine) → IsSound net → IsSoundMachine net m
+pub small_kept : (net : RawNet) (m : RawMachine) → IsSound net → IsSoundMachine net m
     → (rows : List Row) → AllZip (IsRowOf net m) m.rows rows
     → is_small (map (λ (w : Word). number (event_words net) w.name) m.inputs)
     (map (λ (w : Word). number (event_words net) w.name) m.outputs)
     (map (state_of net) m.states) (var_sizes net m) rows ≡ true
-small-kept net m sound kept rows all =
-    let ins = le-to (length (map (λ (w : Word). number (event_words net) w.name) m.inputs)) 16
+small_kept net m sound kept rows all =
+    let ins = le_to (length (map (λ (w : Word). number (event_words net) w.name) m.inputs)) 16
     (omega (
       arith,
       length-map m.inputs (λ (w : Word). number (event_words net) w.name),
-      few-inputs net m sound kept,
+      few_inputs net m sound kept,
     )) in
-    let outs = le-to (length (map (λ (w : Word). number (event_words net) w.name) m.outputs)) 16
+    let outs = le_to (length (map (λ (w : Word). number (event_words net) w.name) m.outputs)) 16
     (omega (
       arith,
       length-map m.outputs (λ (w : Word). number (event_words net) w.name),
-      few-outputs net m sound kept,
+      few_outputs net m sound kept,
     )) in
-    let states = le-to (length (map (state_of net) m.states)) 8
-    (omega (arith, length-map m.states (state_of net), few-states net m sound kept)) in
-    let long = le-to (length rows) 512
-    (omega (arith, zip-long (IsRowOf net m) m.rows rows all, few-rows net m sound kept)) in
+    let states = le_to (length (map (state_of net) m.states)) 8
+    (omega (arith, length-map m.states (state_of net), few_states net m sound kept)) in
+    let long = le_to (length rows) 512
+    (omega (arith, zip_long (IsRowOf net m) m.rows rows all, few_rows net m sound kept)) in
     λ i. (((ins i && outs i) && states i) && long i) && kept.snapshots i

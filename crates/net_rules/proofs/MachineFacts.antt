@@ -31,49 +31,49 @@ use Rattle.net_names.specs.Scopes.{domain_words, event_words, state_words, cond_
 use Rattle.rule_judge.specs.Rules.{emitted, set_names, not_once, wrong_emission, wrong_input, is_valued, same_domain}
 use Rattle.net_rules.specs.Networks.{state_of, cond_of, act_of, allows, bits_where, value_number, source_in, emission_source, IsRowOf}
 use Rattle.net_rules.specs.inner.Sound.{Each, IsSound, IsSoundMachine, IsSoundAct, IsSoundRow}
-use Rattle.net_rules.proofs.NumbersOfNames.{and-first, and-second}
-use Rattle.net_rules.proofs.HasReceivers.{first-nil, rest-nil, holds}
-use Rattle.net_names.proofs.NameNumbers.{among-number}
-use Rattle.net_rules.proofs.ValueIn.{value-below}
-use Rattle.net_rules.proofs.BitsWhere.{bits-below}
-use Rattle.net_rules.proofs.HasPresent.{number-first, all-shown}
-use Rattle.net_rules.proofs.AreActions.{in-range, first-known, rest-known}
-use Rattle.net_rules.proofs.Counts.{le-from, le-to, lt-to, state-in, event-some, event-few}
+use Rattle.net_rules.proofs.NumbersOfNames.{and_first, and_second}
+use Rattle.net_rules.proofs.HasReceivers.{first_nil, rest_nil, holds}
+use Rattle.net_names.proofs.NameNumbers.{among_number}
+use Rattle.net_rules.proofs.ValueIn.{value_below}
+use Rattle.net_rules.proofs.BitsWhere.{bits_below}
+use Rattle.net_rules.proofs.HasPresent.{number_first, all_shown}
+use Rattle.net_rules.proofs.AreActions.{in_range, first_known, rest_known}
+use Rattle.net_rules.proofs.Counts.{le_from, le_to, lt_to, state_in, event_some, event_few}
 
-pub all-map : {A B : Type 0} (f : A → B) (test : B → Bool) (xs : List A)
+pub all_map : {A B : Type 0} (f : A → B) (test : B → Bool) (xs : List A)
     → ((x : A) → test (f x) ≡ true) → list_all test (map f xs) ≡ true
-all-map f test [] h = refl
-all-map f test (x ∷ xs) h = let own = h x in let rest = all-map f test xs h in λ i. own i && rest i
+all_map f test [] h = refl
+all_map f test (x ∷ xs) h = let own = h x in let rest = all_map f test xs h in λ i. own i && rest i
 
-pub take-first : {A : Type 0} (xs ys : List A) → take (length xs) (xs ++ ys) ≡ xs
-take-first [] ys = refl
-take-first (x ∷ xs) ys = ap (λ l. x ∷ l) (take-first xs ys)
+pub take_first : {A : Type 0} (xs ys : List A) → take (length xs) (xs ++ ys) ≡ xs
+take_first [] ys = refl
+take_first (x ∷ xs) ys = ap (λ l. x ∷ l) (take_first xs ys)
 
-pub drop-first : {A : Type 0} (xs ys : List A) → drop (length xs) (xs ++ ys) ≡ ys
-drop-first [] ys = refl
-drop-first (x ∷ xs) ys = drop-first xs ys
+pub drop_first : {A : Type 0} (xs ys : List A) → drop (length xs) (xs ++ ys) ≡ ys
+drop_first [] ys = refl
+drop_first (x ∷ xs) ys = drop_first xs ys
 
-pub eq-to : (a b : ℕ) → a ≡ b → (a == b) ≡ true
-eq-to a b h = grind (arith, h)
+pub eq_to : (a b : ℕ) → a ≡ b → (a == b) ≡ true
+eq_to a b h = grind (arith, h)
 
-sizes-both : (xs ys : List ℕ) → are_sizes xs ≡ true → are_sizes ys ≡ true
+sizes_both : (xs ys : List ℕ) → are_sizes xs ≡ true → are_sizes ys ≡ true
     → are_sizes (xs ++ ys) ≡ true
-sizes-both [] ys p q = q
-sizes-both (x ∷ xs) ys p q =
-    let own = and-first (nat_le 1 x && nat_le x 33) (are_sizes xs) p in
-    let rest = sizes-both xs ys (and-second (nat_le 1 x && nat_le x 33) (are_sizes xs) p) q in
+sizes_both [] ys p q = q
+sizes_both (x ∷ xs) ys p q =
+    let own = and_first (nat_le 1 x && nat_le x 33) (are_sizes xs) p in
+    let rest = sizes_both xs ys (and_second (nat_le 1 x && nat_le x 33) (are_sizes xs) p) q in
     λ i. own i && rest i
 
 -- a value of a domain has a number below the count
-value-fits : (o : Option RawShape) (v : RawValue) → is_value o v ≡ true
+value_fits : (o : Option RawShape) (v : RawValue) → is_value o v ≡ true
     → unwrap_or (option_and_then (λ shape. value_in shape v) o) 0
     < unwrap_or (option_map count_of o) 0
-value-fits None v h = absurd (true≢false (sym h))
-value-fits (Some shape) v h = by (value_in shape v) refl h
+value_fits None v h = absurd (true≢false (sym h))
+value_fits (Some shape) v h = by (value_in shape v) refl h
   where
     by : (n : Option ℕ) → value_in shape v ≡ n → is_some n ≡ true → unwrap_or n 0 < count_of shape
     by None e h = absurd (true≢false (sym h))
-    by (Some k) e h = value-below shape v k e
+    by (Some k) e h = value_below shape v k e
 
 -- the item of a name stands at the name's number
 pub record IsFoundAt {X : Type 0} (nm : X → List ℕ) (f : X → ℕ) (name : List ℕ) (xs : List X) :
@@ -110,172 +110,172 @@ stands nm f name (x ∷ xs) there = by (is_same name (nm x)) refl there (stands 
           found = ap (λ b. cond b (Some x) (find (λ x. is_same name (nm x)) xs)) e ∙ r.found;
           at = ap (λ b. slice_index (f x ∷ map f xs)
               (unwrap_or (cond b (Some 0) (option_map suc (number_in (map nm xs) name))) 0)) e
-              ∙ moved (number_in (map nm xs) name) (among-number (map nm xs) name ∙ h) ∙ r.at;
+              ∙ moved (number_in (map nm xs) name) (among_number (map nm xs) name ∙ h) ∙ r.at;
           same = r.same;
         }
 
-get-first : (xs ys : List ℕ) (k : ℕ) → k < length xs → get_or (xs ++ ys) k 0 ≡ get_or xs k 0
-get-first [] ys k h = absurd (omega (arith, h))
-get-first (x ∷ xs) ys zero h = refl
-get-first (x ∷ xs) ys (suc k) h = get-first xs ys k (omega (arith, h))
+get_first : (xs ys : List ℕ) (k : ℕ) → k < length xs → get_or (xs ++ ys) k 0 ≡ get_or xs k 0
+get_first [] ys k h = absurd (omega (arith, h))
+get_first (x ∷ xs) ys zero h = refl
+get_first (x ∷ xs) ys (suc k) h = get_first xs ys k (omega (arith, h))
 
-get-past : (xs ys : List ℕ) (k : ℕ) → get_or (xs ++ ys) (length xs + k) 0 ≡ get_or ys k 0
-get-past [] ys k = let e : 0 + k ≡ k = omega arith in ap (λ n. get_or ys n 0) e
-get-past (x ∷ xs) ys k = let e : suc (length xs) + k ≡ suc (length xs + k) = omega arith in
-    ap (λ n. get_or (x ∷ xs ++ ys) n 0) e ∙ get-past xs ys k
+get_past : (xs ys : List ℕ) (k : ℕ) → get_or (xs ++ ys) (length xs + k) 0 ≡ get_or ys k 0
+get_past [] ys k = let e : 0 + k ≡ k = omega arith in ap (λ n. get_or ys n 0) e
+get_past (x ∷ xs) ys k = let e : suc (length xs) + k ≡ suc (length xs + k) = omega arith in
+    ap (λ n. get_or (x ∷ xs ++ ys) n 0) e ∙ get_past xs ys k
 
 module _ (net : RawNet) (m : RawMachine) (sound : IsSound net) (kept : IsSoundMachine net m) where
-  event-sizes-fit : (ws : List Word) → are_sizes (map (event_codes net) ws) ≡ true
-  event-sizes-fit [] = refl
-  event-sizes-fit (w ∷ ws) =
-      let some = le-to 1 (event_codes net w) (omega (arith, event-some net sound w)) in
-      let few = le-to (event_codes net w) 33 (event-few net sound w) in
-      let rest = event-sizes-fit ws in
+  event_sizes_fit : (ws : List Word) → are_sizes (map (event_codes net) ws) ≡ true
+  event_sizes_fit [] = refl
+  event_sizes_fit (w ∷ ws) =
+      let some = le_to 1 (event_codes net w) (omega (arith, event_some net sound w)) in
+      let few = le_to (event_codes net w) 33 (event_few net sound w) in
+      let rest = event_sizes_fit ws in
       λ i. some i && few i && rest i
 
-  state-sizes-fit : (ss : List RawState)
+  state_sizes_fit : (ss : List RawState)
       → missing (is_name_of (domain_words net)) (map (λ (s : RawState). s.domain) ss) ≡ []
       → are_sizes (map (state_codes net) ss) ≡ true
-  state-sizes-fit [] h = refl
-  state-sizes-fit (s ∷ ss) h =
-      let own = state-in net s.domain sound
-      (first-known (domain_words net) s.domain (map (λ (s : RawState). s.domain) ss) h) in
-      let some = le-to 1 (state_codes net s) own.0 in
-      let few = le-to (state_codes net s) 33 (omega (arith, own.1)) in
-      let rest = state-sizes-fit ss
-      (rest-known (domain_words net) s.domain (map (λ (s : RawState). s.domain) ss) h) in
+  state_sizes_fit [] h = refl
+  state_sizes_fit (s ∷ ss) h =
+      let own = state_in net s.domain sound
+      (first_known (domain_words net) s.domain (map (λ (s : RawState). s.domain) ss) h) in
+      let some = le_to 1 (state_codes net s) own.0 in
+      let few = le_to (state_codes net s) 33 (omega (arith, own.1)) in
+      let rest = state_sizes_fit ss
+      (rest_known (domain_words net) s.domain (map (λ (s : RawState). s.domain) ss) h) in
       λ i. some i && few i && rest i
 
-  inits-fit : (ss : List RawState)
+  inits_fit : (ss : List RawState)
       → flat_map (λ (s : RawState). no_value (shape_of net s.domain.name) s.init) ss ≡ []
       → pointwise (λ (state : StateDecl) size. nat_lt state.init size) (map (state_of net) ss)
       (map (state_codes net) ss) ≡ true
-  inits-fit [] h = refl
-  inits-fit (s ∷ ss) h =
+  inits_fit [] h = refl
+  inits_fit (s ∷ ss) h =
       let places = no_value (shape_of net s.domain.name) s.init in
       let later = flat_map (λ (s : RawState). no_value (shape_of net s.domain.name) s.init) ss in
-      let own = value-fits (shape_of net s.domain.name) s.init
+      let own = value_fits (shape_of net s.domain.name) s.init
       (holds (is_value (shape_of net s.domain.name) s.init) (place_of s.init)
-      (first-nil places later h)) in
+      (first_nil places later h)) in
       let first : nat_lt (value_number net (Some s.domain) s.init) (state_codes net s) ≡ true =
-      lt-to (value_number net (Some s.domain) s.init) (state_codes net s) own in
-      let rest = inits-fit ss (rest-nil places later h) in
+      lt_to (value_number net (Some s.domain) s.init) (state_codes net s) own in
+      let rest = inits_fit ss (rest_nil places later h) in
       λ i. first i && rest i
 
   abbrev inputs : List ℕ
   inputs = map (λ (w : Word). number (event_words net) w.name) m.inputs
 
-  abbrev input-sizes : List ℕ
-  input-sizes = map (event_codes net) m.inputs
+  abbrev input_sizes : List ℕ
+  input_sizes = map (event_codes net) m.inputs
 
-  prefix : length inputs ≡ length input-sizes
+  prefix : length inputs ≡ length input_sizes
   prefix = length-map m.inputs (λ (w : Word). number (event_words net) w.name)
       ∙ sym (length-map m.inputs (event_codes net))
 
-  vars-first : take (length inputs) (var_sizes net m) ≡ map (event_codes net) m.inputs
-  vars-first = ap (λ n. take n (var_sizes net m)) prefix
-      ∙ take-first (map (event_codes net) m.inputs) (map (state_codes net) m.states)
+  vars_first : take (length inputs) (var_sizes net m) ≡ map (event_codes net) m.inputs
+  vars_first = ap (λ n. take n (var_sizes net m)) prefix
+      ∙ take_first (map (event_codes net) m.inputs) (map (state_codes net) m.states)
 
-  vars-rest : drop (length inputs) (var_sizes net m) ≡ map (state_codes net) m.states
-  vars-rest = ap (λ n. drop n (var_sizes net m)) prefix
-      ∙ drop-first (map (event_codes net) m.inputs) (map (state_codes net) m.states)
+  vars_rest : drop (length inputs) (var_sizes net m) ≡ map (state_codes net) m.states
+  vars_rest = ap (λ n. drop n (var_sizes net m)) prefix
+      ∙ drop_first (map (event_codes net) m.inputs) (map (state_codes net) m.states)
 
-  pub vars-long : length (var_sizes net m) ≡ length m.inputs + length m.states
-  vars-long = omega (
+  pub vars_long : length (var_sizes net m) ≡ length m.inputs + length m.states
+  vars_long = omega (
     arith,
     length-append (map (event_codes net) m.inputs) (map (state_codes net) m.states),
     length-map m.inputs (event_codes net),
     length-map m.states (state_codes net),
   )
 
-  pub sizes-fit : are_sizes (var_sizes net m) ≡ true
-  sizes-fit = sizes-both (map (event_codes net) m.inputs) (map (state_codes net) m.states)
-      (event-sizes-fit m.inputs) (state-sizes-fit m.states kept.domains)
+  pub sizes_fit : are_sizes (var_sizes net m) ≡ true
+  sizes_fit = sizes_both (map (event_codes net) m.inputs) (map (state_codes net) m.states)
+      (event_sizes_fit m.inputs) (state_sizes_fit m.states kept.domains)
 
-  pub few-rows : length m.rows ≤ 512
-  few-rows = le-from (length m.rows) 512
-      (and-second (nat_le (length m.inputs) 16 && nat_le (length m.outputs) 16
+  pub few_rows : length m.rows ≤ 512
+  few_rows = le_from (length m.rows) 512
+      (and_second (nat_le (length m.inputs) 16 && nat_le (length m.outputs) 16
       && nat_le (length m.states) 8) (nat_le (length m.rows) 512) kept.small)
 
-  three-few : (nat_le (length m.inputs) 16 && nat_le (length m.outputs) 16
+  three_few : (nat_le (length m.inputs) 16 && nat_le (length m.outputs) 16
       && nat_le (length m.states) 8) ≡ true
-  three-few = and-first (nat_le (length m.inputs) 16 && nat_le (length m.outputs) 16
+  three_few = and_first (nat_le (length m.inputs) 16 && nat_le (length m.outputs) 16
       && nat_le (length m.states) 8) (nat_le (length m.rows) 512) kept.small
 
-  two-few : (nat_le (length m.inputs) 16 && nat_le (length m.outputs) 16) ≡ true
-  two-few = and-first (nat_le (length m.inputs) 16 && nat_le (length m.outputs) 16)
-      (nat_le (length m.states) 8) three-few
+  two_few : (nat_le (length m.inputs) 16 && nat_le (length m.outputs) 16) ≡ true
+  two_few = and_first (nat_le (length m.inputs) 16 && nat_le (length m.outputs) 16)
+      (nat_le (length m.states) 8) three_few
 
-  pub few-states : length m.states ≤ 8
-  few-states = le-from (length m.states) 8
-      (and-second (nat_le (length m.inputs) 16 && nat_le (length m.outputs) 16)
-      (nat_le (length m.states) 8) three-few)
+  pub few_states : length m.states ≤ 8
+  few_states = le_from (length m.states) 8
+      (and_second (nat_le (length m.inputs) 16 && nat_le (length m.outputs) 16)
+      (nat_le (length m.states) 8) three_few)
 
-  pub few-inputs : length m.inputs ≤ 16
-  few-inputs = le-from (length m.inputs) 16
-      (and-first (nat_le (length m.inputs) 16) (nat_le (length m.outputs) 16) two-few)
+  pub few_inputs : length m.inputs ≤ 16
+  few_inputs = le_from (length m.inputs) 16
+      (and_first (nat_le (length m.inputs) 16) (nat_le (length m.outputs) 16) two_few)
 
-  pub few-outputs : length m.outputs ≤ 16
-  few-outputs = le-from (length m.outputs) 16
-      (and-second (nat_le (length m.inputs) 16) (nat_le (length m.outputs) 16) two-few)
+  pub few_outputs : length m.outputs ≤ 16
+  few_outputs = le_from (length m.outputs) 16
+      (and_second (nat_le (length m.inputs) 16) (nat_le (length m.outputs) 16) two_few)
 
-  pub vars-short : length (var_sizes net m) ≤ 24
-  vars-short = omega (arith, vars-long, few-inputs, few-states)
+  pub vars_short : length (var_sizes net m) ≤ 24
+  vars_short = omega (arith, vars_long, few_inputs, few_states)
 
-  pub vars-fit : are_vars (map (λ (w : Word). number (event_words net) w.name) m.inputs)
+  pub vars_fit : are_vars (map (λ (w : Word). number (event_words net) w.name) m.inputs)
       (map (state_of net) m.states) (var_sizes net m) ≡ true
-  vars-fit =
-      let sizes = sizes-both (map (event_codes net) m.inputs) (map (state_codes net) m.states)
-      (event-sizes-fit m.inputs) (state-sizes-fit m.states kept.domains) in
-      let long = eq-to (length (var_sizes net m))
+  vars_fit =
+      let sizes = sizes_both (map (event_codes net) m.inputs) (map (state_codes net) m.states)
+      (event_sizes_fit m.inputs) (state_sizes_fit m.states kept.domains) in
+      let long = eq_to (length (var_sizes net m))
       (length inputs + length (map (state_of net) m.states))
       (omega (
         arith,
-        vars-long,
+        vars_long,
         length-map m.inputs
             (λ (w : Word). number (event_words net) w.name),
         length-map m.states (state_of net),
       )) in
-      let some = ap (list_all (nat_le 2)) vars-first
-      ∙ all-map (event_codes net) (nat_le 2) m.inputs
-      (λ w. le-to 2 (event_codes net w) (event-some net sound w)) in
+      let some = ap (list_all (nat_le 2)) vars_first
+      ∙ all_map (event_codes net) (nat_le 2) m.inputs
+      (λ w. le_to 2 (event_codes net w) (event_some net sound w)) in
       let inits = ap (pointwise (λ (state : StateDecl) size. nat_lt state.init size)
-      (map (state_of net) m.states)) vars-rest ∙ inits-fit m.states kept.inits in
+      (map (state_of net) m.states)) vars_rest ∙ inits_fit m.states kept.inits in
       λ i. sizes i && long i && some i && inits i
 
-  more-each : (ss : List RawState) → map (λ (size : ℕ). 1 + size) (map (state_codes net) ss)
+  more_each : (ss : List RawState) → map (λ (size : ℕ). 1 + size) (map (state_codes net) ss)
       ≡ map (λ s. 1 + state_codes net s) ss
-  more-each [] = refl
-  more-each (s ∷ ss) = ap (λ l. (1 + state_codes net s) ∷ l) (more-each ss)
+  more_each [] = refl
+  more_each (s ∷ ss) = ap (λ l. (1 + state_codes net s) ∷ l) (more_each ss)
 
-  one-more : 1 + length (map (state_of net) m.states)
+  one_more : 1 + length (map (state_of net) m.states)
       ≡ suc (length (map (λ s. 1 + state_codes net s) m.states))
-  one-more = omega (
+  one_more = omega (
     arith,
     length-map m.states (state_of net),
     length-map m.states (λ s. 1 + state_codes net s),
   )
 
-  pub results-rest : drop (1 + length (map (state_of net) m.states))
+  pub results_rest : drop (1 + length (map (state_of net) m.states))
       (2 ∷ map (λ s. 1 + state_codes net s) m.states ++ map (event_codes net) m.outputs)
       ≡ map (event_codes net) m.outputs
-  results-rest = ap
+  results_rest = ap
       (λ n. drop n (2 ∷ map (λ s. 1 + state_codes net s) m.states
-      ++ map (event_codes net) m.outputs)) one-more
-      ∙ drop-first (map (λ s. 1 + state_codes net s) m.states) (map (event_codes net) m.outputs)
+      ++ map (event_codes net) m.outputs)) one_more
+      ∙ drop_first (map (λ s. 1 + state_codes net s) m.states) (map (event_codes net) m.outputs)
 
-  results-first : take (1 + length (map (state_of net) m.states))
+  results_first : take (1 + length (map (state_of net) m.states))
       (2 ∷ map (λ s. 1 + state_codes net s) m.states ++ map (event_codes net) m.outputs)
       ≡ 2 ∷ map (λ s. 1 + state_codes net s) m.states
-  results-first =
+  results_first =
       ap (λ n. take n (2 ∷ map (λ s. 1 + state_codes net s) m.states
-      ++ map (event_codes net) m.outputs)) one-more
+      ++ map (event_codes net) m.outputs)) one_more
       ∙ ap (λ l. 2 ∷ l)
-      (take-first (map (λ s. 1 + state_codes net s) m.states) (map (event_codes net) m.outputs))
+      (take_first (map (λ s. 1 + state_codes net s) m.states) (map (event_codes net) m.outputs))
 
-  results-long : length (2 ∷ map (λ s. 1 + state_codes net s) m.states
+  results_long : length (2 ∷ map (λ s. 1 + state_codes net s) m.states
       ++ map (event_codes net) m.outputs) ≡ 1 + length m.states + length m.outputs
-  results-long = omega (
+  results_long = omega (
     arith,
     length-append (map (λ s. 1 + state_codes net s) m.states)
         (map (event_codes net) m.outputs),
@@ -283,94 +283,94 @@ module _ (net : RawNet) (m : RawMachine) (sound : IsSound net) (kept : IsSoundMa
     length-map m.outputs (event_codes net),
   )
 
-  pub results-fit : are_results (map (λ (w : Word). number (event_words net) w.name) m.inputs)
+  pub results_fit : are_results (map (λ (w : Word). number (event_words net) w.name) m.inputs)
       (map (λ (w : Word). number (event_words net) w.name) m.outputs) (map (state_of net) m.states)
       (var_sizes net m) (2 ∷ map (λ s. 1 + state_codes net s) m.states
       ++ map (event_codes net) m.outputs) ≡ true
-  results-fit =
+  results_fit =
       let all = 2 ∷ map (λ s. 1 + state_codes net s) m.states ++ map (event_codes net) m.outputs in
-      let long = eq-to (length all) (1 + length (map (state_of net) m.states)
+      let long = eq_to (length all) (1 + length (map (state_of net) m.states)
       + length (map (λ (w : Word). number (event_words net) w.name) m.outputs))
       (omega (
         arith,
-        results-long,
+        results_long,
         length-map m.outputs
             (λ (w : Word). number (event_words net) w.name),
         length-map m.states (state_of net),
       )) in
       let set = (λ i.
-      pointwise ◌==◌ (2 ∷ (ap (map (λ (size : ℕ). 1 + size)) vars-rest ∙ more-each m.states) i)
-      (results-first i)) ∙ nat_list_eq_equiv.refl
+      pointwise ◌==◌ (2 ∷ (ap (map (λ (size : ℕ). 1 + size)) vars_rest ∙ more_each m.states) i)
+      (results_first i)) ∙ nat_list_eq_equiv.refl
       (2 ∷ map (λ s. 1 + state_codes net s) m.states) in
-      let some = ap (list_all (nat_le 2)) results-rest
-      ∙ all-map (event_codes net) (nat_le 2) m.outputs
-      (λ w. le-to 2 (event_codes net w) (event-some net sound w)) in
+      let some = ap (list_all (nat_le 2)) results_rest
+      ∙ all_map (event_codes net) (nat_le 2) m.outputs
+      (λ w. le_to 2 (event_codes net w) (event_some net sound w)) in
       λ i. long i && set i && some i
 
-  conds-fit : (cs : List RawCond)
+  conds_fit : (cs : List RawCond)
       → flat_map (λ (c : RawCond). unless
       (is_name_of (m.inputs ++ state_words m) (cond_word c).name) (cond_word c).at) cs ≡ []
       → list_all (names_codes (var_sizes net m)) (map (cond_of net m) cs) ≡ true
-  conds-fit [] h = refl
-  conds-fit (c ∷ cs) h =
+  conds_fit [] h = refl
+  conds_fit (c ∷ cs) h =
       let places = unless (is_name_of (m.inputs ++ state_words m) (cond_word c).name)
       (cond_word c).at in
       let later = flat_map
       (λ (c : RawCond). unless (is_name_of (m.inputs ++ state_words m) (cond_word c).name)
       (cond_word c).at) cs in
       let there = holds (is_name_of (m.inputs ++ state_words m) (cond_word c).name) (cond_word c).at
-      (first-nil places later h) in
+      (first_nil places later h) in
       let var = number (var_words m) (cond_word c).name in
-      let inside = lt-to var (length (var_sizes net m))
+      let inside = lt_to var (length (var_sizes net m))
       (omega (
         arith,
-        in-range (var_words m) (cond_word c).name there,
-        vars-long,
+        in_range (var_words m) (cond_word c).name there,
+        vars_long,
         length-append m.inputs (state_words m),
         length-map m.states (λ (s : RawState). s.name),
       )) in
-      let small = lt-to (bits_where (allows net m c) (slice_index (var_sizes net m) var))
+      let small = lt_to (bits_where (allows net m c) (slice_index (var_sizes net m) var))
       (2 ^ slice_index (var_sizes net m) var)
-      (bits-below (allows net m c) (slice_index (var_sizes net m) var)) in
-      let rest = conds-fit cs (rest-nil places later h) in
+      (bits_below (allows net m c) (slice_index (var_sizes net m) var)) in
+      let rest = conds_fit cs (rest_nil places later h) in
       λ i. (inside i && small i) && rest i
 
-  state-names : (ss : List RawState)
+  state_names : (ss : List RawState)
       → names_of (map (λ (s : RawState). s.name) ss) ≡ map (λ (s : RawState). s.name.name) ss
-  state-names [] = refl
-  state-names (s ∷ ss) = ap (λ l. s.name.name ∷ l) (state-names ss)
+  state_names [] = refl
+  state_names (s ∷ ss) = ap (λ l. s.name.name ∷ l) (state_names ss)
 
   -- what sets a state variable has its size and one more
-  set-size : (w : Word) → is_name_of (state_words m) w.name ≡ true
+  set_size : (w : Word) → is_name_of (state_words m) w.name ≡ true
       → slice_index (2 ∷ map (λ s. 1 + state_codes net s) m.states
       ++ map (event_codes net) m.outputs) (1 + number (state_words m) w.name)
       ≡ 1 + count_at net (state_domain m w.name)
-  set-size w there =
+  set_size w there =
       let st = stands (λ (s : RawState). s.name.name) (λ s. 1 + state_codes net s) w.name m.states
-      (ap (λ l. is_among l w.name) (sym (state-names m.states)) ∙ there) in
+      (ap (λ l. is_among l w.name) (sym (state_names m.states)) ∙ there) in
       let k = number (state_words m) w.name in
       let e : 1 + k ≡ suc k = omega arith in
       let below : k < length (map (λ s. 1 + state_codes net s) m.states) =
       omega (
         arith,
-        in-range (state_words m) w.name there,
+        in_range (state_words m) w.name there,
         length-map m.states (λ (s : RawState). s.name),
         length-map m.states (λ s. 1 + state_codes net s),
       ) in
       ap (λ n. slice_index (2 ∷ map (λ s. 1 + state_codes net s) m.states
       ++ map (event_codes net) m.outputs) n) e
-      ∙ get-first (map (λ s. 1 + state_codes net s) m.states)
+      ∙ get_first (map (λ s. 1 + state_codes net s) m.states)
       (map (event_codes net) m.outputs) k below
       ∙ ap (λ l. slice_index (map (λ s. 1 + state_codes net s) m.states)
-      (unwrap_or (number_in l w.name) 0)) (state-names m.states)
+      (unwrap_or (number_in l w.name) 0)) (state_names m.states)
       ∙ st.at
       ∙ ap (λ o. 1 + count_at net (option_map (λ (s : RawState). s.domain) o)) (sym st.found)
 
-  emit-size : (w : Word) → is_name_of m.outputs w.name ≡ true
+  emit_size : (w : Word) → is_name_of m.outputs w.name ≡ true
       → slice_index (2 ∷ map (λ s. 1 + state_codes net s) m.states
       ++ map (event_codes net) m.outputs) (1 + length m.states + number m.outputs w.name)
       ≡ 1 + count_at net (event_domain net w.name)
-  emit-size w there =
+  emit_size w there =
       let st = stands (λ (w : Word). w.name) (event_codes net) w.name m.outputs there in
       let k = number m.outputs w.name in
       let setters = map (λ s. 1 + state_codes net s) m.states in
@@ -378,7 +378,7 @@ module _ (net : RawNet) (m : RawMachine) (sound : IsSound net) (kept : IsSoundMa
       omega (arith, length-map m.states (λ s. 1 + state_codes net s)) in
       ap (λ n. slice_index (2 ∷ map (λ s. 1 + state_codes net s) m.states
       ++ map (event_codes net) m.outputs) n) e
-      ∙ get-past setters (map (event_codes net) m.outputs) k
+      ∙ get_past setters (map (event_codes net) m.outputs) k
       ∙ st.at
       ∙ ap (λ n. 1 + count_at net (event_domain net n))
       (sym (same_text w.name st.item.name (sym st.same)))
@@ -386,120 +386,120 @@ module _ (net : RawNet) (m : RawMachine) (sound : IsSound net) (kept : IsSoundMa
   abbrev results : List ℕ
   results = 2 ∷ map (λ s. 1 + state_codes net s) m.states ++ map (event_codes net) m.outputs
 
-  state-size : (w : Word) → is_name_of (state_words m) w.name ≡ true
+  state_size : (w : Word) → is_name_of (state_words m) w.name ≡ true
       → slice_index (var_sizes net m) (variable_of inputs (1 + number (state_words m) w.name))
       ≡ count_at net (state_domain m w.name)
-  state-size w there =
+  state_size w there =
       let st = stands (λ (s : RawState). s.name.name) (state_codes net) w.name m.states
-      (ap (λ l. is_among l w.name) (sym (state-names m.states)) ∙ there) in
+      (ap (λ l. is_among l w.name) (sym (state_names m.states)) ∙ there) in
       let k = number (state_words m) w.name in
       let e : length inputs + (1 + k - 1) ≡ length (map (event_codes net) m.inputs) + k =
       omega (arith, prefix) in
       ap (slice_index (var_sizes net m)) e
-      ∙ get-past (map (event_codes net) m.inputs) (map (state_codes net) m.states) k
+      ∙ get_past (map (event_codes net) m.inputs) (map (state_codes net) m.states) k
       ∙ ap (λ l. slice_index (map (state_codes net) m.states) (unwrap_or (number_in l w.name) 0))
-      (state-names m.states)
+      (state_names m.states)
       ∙ st.at
       ∙ ap (λ o. count_at net (option_map (λ (s : RawState). s.domain) o)) (sym st.found)
 
   -- an input stands among the variables where it stands among the inputs, and has the codes of its
   -- event
-  input-size : (w : Word) → is_name_of m.inputs w.name ≡ true
+  input_size : (w : Word) → is_name_of m.inputs w.name ≡ true
       → slice_index (var_sizes net m) (number (var_words m) w.name)
       ≡ 1 + count_at net (event_domain net w.name)
-  input-size w there =
+  input_size w there =
       let st = stands (λ (w : Word). w.name) (event_codes net) w.name m.inputs there in
       let k = number m.inputs w.name in
       let below : k < length (map (event_codes net) m.inputs) =
-      omega (arith, in-range m.inputs w.name there, length-map m.inputs (event_codes net)) in
+      omega (arith, in_range m.inputs w.name there, length-map m.inputs (event_codes net)) in
       ap (λ o. slice_index (var_sizes net m) (unwrap_or o 0))
-      (number-first m.inputs (state_words m) w.name there)
-      ∙ get-first (map (event_codes net) m.inputs) (map (state_codes net) m.states) k below
+      (number_first m.inputs (state_words m) w.name there)
+      ∙ get_first (map (event_codes net) m.inputs) (map (state_codes net) m.states) k below
       ∙ st.at
       ∙ ap (λ n. 1 + count_at net (event_domain net n))
       (sym (same_text w.name st.item.name (sym st.same)))
 
-  set-fits : (o : Option Word) (v : RawValue) → no_value (shape_at net o) v ≡ []
+  set_fits : (o : Option Word) (v : RawValue) → no_value (shape_at net o) v ≡ []
       → value_number net o v < count_at net o
-  set-fits None v h = absurd (true≢false (sym (holds false (place_of v) h)))
-  set-fits (Some d) v h =
-      value-fits (shape_of net d.name) v (holds (is_value (shape_of net d.name) v) (place_of v) h)
+  set_fits None v h = absurd (true≢false (sym (holds false (place_of v) h)))
+  set_fits (Some d) v h =
+      value_fits (shape_of net d.name) v (holds (is_value (shape_of net d.name) v) (place_of v) h)
 
-  same-count : (a b : Option Word) → same_domain a b ≡ true → count_at net a ≡ count_at net b
-  same-count None b h = absurd (true≢false (sym h))
-  same-count (Some d) None h = absurd (true≢false (sym h))
-  same-count (Some d) (Some e) h =
+  same_count : (a b : Option Word) → same_domain a b ≡ true → count_at net a ≡ count_at net b
+  same_count None b h = absurd (true≢false (sym h))
+  same_count (Some d) None h = absurd (true≢false (sym h))
+  same_count (Some d) (Some e) h =
       ap (λ n. unwrap_or (option_map count_of (shape_of net n)) 0) (same_text d.name e.name (sym h))
 
   -- an input with the domain of what gets its value is a source
-  input-fits : (w : Word) (o : Option Word) (y : ℕ) → slice_index results y ≡ 1 + count_at net o
+  input_fits : (w : Word) (o : Option Word) (y : ℕ) → slice_index results y ≡ 1 + count_at net o
       → wrong_input (is_valued net m) (Some (sources.Input w)) ≡ []
       → wrong_input (λ name. same_domain (event_domain net name) o) (Some (sources.Input w)) ≡ []
       → is_source inputs (var_sizes net m) results y
       (Input (number (var_words m) w.name)) ≡ true
-  input-fits w o y size valued same =
-      let there = and-first (is_name_of m.inputs w.name) (is_some (event_domain net w.name))
+  input_fits w o y size valued same =
+      let there = and_first (is_name_of m.inputs w.name) (is_some (event_domain net w.name))
       (holds (is_valued net m w.name) w.at valued) in
       let k = number (var_words m) w.name in
       let first : k ≡ number m.inputs w.name =
-      ap (λ o. unwrap_or o 0) (number-first m.inputs (state_words m) w.name there) in
-      let inside = lt-to k (length inputs)
+      ap (λ o. unwrap_or o 0) (number_first m.inputs (state_words m) w.name there) in
+      let inside = lt_to k (length inputs)
       (omega (
         arith,
         first,
-        in-range m.inputs w.name there,
+        in_range m.inputs w.name there,
         length-map m.inputs (λ (w : Word). number (event_words net) w.name),
       )) in
-      let count = same-count (event_domain net w.name) o
+      let count = same_count (event_domain net w.name) o
       (holds (same_domain (event_domain net w.name) o) w.at same) in
-      let equal = eq-to (slice_index (var_sizes net m) k) (slice_index results y)
-      (input-size w there ∙ ap (λ n. 1 + n) count ∙ sym size) in
+      let equal = eq_to (slice_index (var_sizes net m) k) (slice_index results y)
+      (input_size w there ∙ ap (λ n. 1 + n) count ∙ sym size) in
       λ i. inside i && equal i
 
   -- what an emission takes its code from
-  emission-fits : (row : RawRow) (w : Word) (source : Option RawSource) (y : ℕ)
+  emission_fits : (row : RawRow) (w : Word) (source : Option RawSource) (y : ℕ)
       → slice_index results y ≡ 1 + count_at net (event_domain net w.name)
       → IsSoundAct net m row (acts.Emit w source)
       → is_source inputs (var_sizes net m) results y
       (emission_source net m (event_domain net w.name) source) ≡ true
-  emission-fits row w None y size s =
-      lt-to 1 (slice_index results y) (omega (arith, size, event-some net sound w))
-  emission-fits row w (Some (sources.Value v)) y size s =
-      lt-to (1 + value_number net (event_domain net w.name) v) (slice_index results y)
+  emission_fits row w None y size s =
+      lt_to 1 (slice_index results y) (omega (arith, size, event_some net sound w))
+  emission_fits row w (Some (sources.Value v)) y size s =
+      lt_to (1 + value_number net (event_domain net w.name) v) (slice_index results y)
       (omega (arith, size, given (event_domain net w.name) s.value))
     where
       given : (d : Option Word) → wrong_emission net w d (Some (sources.Value v)) ≡ []
           → value_number net d v < count_at net d
-      given None h = absurd (some-place h)
+      given None h = absurd (some_place h)
         where
-          some-place : w.at ∷ [] ≡ [] → ⊥
-          some-place h = true≢false (sym (ap is_nil h))
+          some_place : w.at ∷ [] ≡ [] → ⊥
+          some_place h = true≢false (sym (ap is_nil h))
             where
               is_nil : List ℕ → Bool
               is_nil [] = true
               is_nil (p ∷ ps) = false
       given (Some d) h =
-          value-fits (shape_of net d.name) v
+          value_fits (shape_of net d.name) v
           (holds (is_value (shape_of net d.name) v) (place_of v) h)
-  emission-fits row w (Some (sources.Input x)) y size s =
-      input-fits x (event_domain net w.name) y size s.input s.domain
-  emission-fits row w (Some (sources.Add x n)) y size s =
+  emission_fits row w (Some (sources.Input x)) y size s =
+      input_fits x (event_domain net w.name) y size s.input s.domain
+  emission_fits row w (Some (sources.Add x n)) y size s =
       absurd (true≢false (sym (holds false x.at s.name)))
 
   -- and what a set variable takes it from
-  set-source-fits : (row : RawRow) (w : Word) (source : RawSource)
+  set_source_fits : (row : RawRow) (w : Word) (source : RawSource)
       → is_name_of (state_words m) w.name ≡ true
       → slice_index results (1 + number (state_words m) w.name)
       ≡ 1 + count_at net (state_domain m w.name) → IsSoundAct net m row (acts.Set w source)
       → is_source inputs (var_sizes net m) results (1 + number (state_words m) w.name)
       (source_in net m (state_domain m w.name) source) ≡ true
-  set-source-fits row w (sources.Value v) there size s =
-      lt-to (1 + value_number net (state_domain m w.name) v)
+  set_source_fits row w (sources.Value v) there size s =
+      lt_to (1 + value_number net (state_domain m w.name) v)
       (slice_index results (1 + number (state_words m) w.name))
-      (omega (arith, size, set-fits (state_domain m w.name) v s.value))
-  set-source-fits row w (sources.Input x) there size s =
-      input-fits x (state_domain m w.name) (1 + number (state_words m) w.name) size s.input s.domain
-  set-source-fits row w (sources.Add x n) there size s =
+      (omega (arith, size, set_fits (state_domain m w.name) v s.value))
+  set_source_fits row w (sources.Input x) there size s =
+      input_fits x (state_domain m w.name) (1 + number (state_words m) w.name) size s.input s.domain
+  set_source_fits row w (sources.Add x n) there size s =
       let k = number (state_words m) w.name in
       let y = 1 + k in
       let some : nat_lt 0 (1 + k) ≡ true = grind arith in
@@ -511,73 +511,73 @@ module _ (net : RawNet) (m : RawMachine) (sound : IsSound net) (kept : IsSoundMa
         length-map m.inputs
             (λ (w : Word). number (event_words net) w.name),
       ) in e) in
-      let inside = lt-to (variable_of inputs (1 + k)) (length (var_sizes net m))
+      let inside = lt_to (variable_of inputs (1 + k)) (length (var_sizes net m))
       (omega (
         arith,
         var,
-        in-range (state_words m) w.name there,
-        vars-long,
+        in_range (state_words m) w.name there,
+        vars_long,
         length-map m.states (λ (s : RawState). s.name),
       )) in
       let few = holds (nat_lt n.number (count_at net (state_domain m w.name))) n.at s.amount in
-      let amount = ap (nat_lt n.number) (state-size w there) ∙ few in
+      let amount = ap (nat_lt n.number) (state_size w there) ∙ few in
       λ i. (some i && inside i) && amount i
 
-  acts-fit : (row : RawRow) (list : List RawAct) → Each (IsSoundAct net m row) list
+  acts_fit : (row : RawRow) (list : List RawAct) → Each (IsSoundAct net m row) list
       → missing (is_name_of m.outputs) (flat_map emitted list) ≡ []
       → missing (is_name_of (state_words m)) (flat_map set_names list) ≡ []
       → list_all (names_result inputs (var_sizes net m) results) (map (act_of net m) list) ≡ true
-  acts-fit row [] h emits sets = refl
-  acts-fit row (acts.Set w source ∷ list) h emits sets =
-      let there = first-known (state_words m) w (flat_map set_names list) sets in
-      let inside = lt-to (1 + number (state_words m) w.name) (length results)
+  acts_fit row [] h emits sets = refl
+  acts_fit row (acts.Set w source ∷ list) h emits sets =
+      let there = first_known (state_words m) w (flat_map set_names list) sets in
+      let inside = lt_to (1 + number (state_words m) w.name) (length results)
       (omega (
         arith,
-        in-range (state_words m) w.name there,
-        results-long,
+        in_range (state_words m) w.name there,
+        results_long,
         length-map m.states (λ (s : RawState). s.name),
       )) in
-      let code = set-source-fits row w source there (set-size w there)
+      let code = set_source_fits row w source there (set_size w there)
       (h 0 (acts.Set w source) refl) in
-      let rest = acts-fit row list (λ i x at. h (suc i) x at) emits
-      (rest-known (state_words m) w (flat_map set_names list) sets) in
+      let rest = acts_fit row list (λ i x at. h (suc i) x at) emits
+      (rest_known (state_words m) w (flat_map set_names list) sets) in
       λ i. (inside i && code i) && rest i
-  acts-fit row (acts.Emit w source ∷ list) h emits sets =
-      let there = first-known m.outputs w (flat_map emitted list) emits in
-      let inside = lt-to (1 + length m.states + number m.outputs w.name) (length results)
-      (omega (arith, in-range m.outputs w.name there, results-long)) in
-      let code = emission-fits row w source (1 + length m.states + number m.outputs w.name)
-      (emit-size w there) (h 0 (acts.Emit w source) refl) in
-      let rest = acts-fit row list (λ i x at. h (suc i) x at)
-      (rest-known m.outputs w (flat_map emitted list) emits) sets in
+  acts_fit row (acts.Emit w source ∷ list) h emits sets =
+      let there = first_known m.outputs w (flat_map emitted list) emits in
+      let inside = lt_to (1 + length m.states + number m.outputs w.name) (length results)
+      (omega (arith, in_range m.outputs w.name there, results_long)) in
+      let code = emission_fits row w source (1 + length m.states + number m.outputs w.name)
+      (emit_size w there) (h 0 (acts.Emit w source) refl) in
+      let rest = acts_fit row list (λ i x at. h (suc i) x at)
+      (rest_known m.outputs w (flat_map emitted list) emits) sets in
       λ i. (inside i && code i) && rest i
 
-  pub rows-fit : (rs : List RawRow) (made : List Row) → AllZip (IsRowOf net m) rs made
+  pub rows_fit : (rs : List RawRow) (made : List Row) → AllZip (IsRowOf net m) rs made
       → Each (IsSoundRow net m) rs
       → list_all (is_row (map (λ (w : Word). number (event_words net) w.name) m.inputs)
       (var_sizes net m) (2 ∷ map (λ s. 1 + state_codes net s) m.states
       ++ map (event_codes net) m.outputs)) made ≡ true
-  rows-fit [] [] all each = refl
-  rows-fit [] (r ∷ made) all each = absurd all
-  rows-fit (r ∷ rs) [] all each = absurd all
-  rows-fit (r ∷ rs) (row ∷ made) all each =
+  rows_fit [] [] all each = refl
+  rows_fit [] (r ∷ made) all each = absurd all
+  rows_fit (r ∷ rs) [] all each = absurd all
+  rows_fit (r ∷ rs) (row ∷ made) all each =
       let results = 2 ∷ map (λ s. 1 + state_codes net s) m.states
       ++ map (event_codes net) m.outputs in
       let own = each 0 r refl in
       let emits = flat_map emitted r.acts in
       let sets = flat_map set_names r.acts in
-      let first = first-nil (not_once m.outputs emits) (not_once (state_words m) sets)
+      let first = first_nil (not_once m.outputs emits) (not_once (state_words m) sets)
       own.targets in
-      let second = rest-nil (not_once m.outputs emits) (not_once (state_words m) sets)
+      let second = rest_nil (not_once m.outputs emits) (not_once (state_words m) sets)
       own.targets in
       let conds = ap (list_all (names_codes (var_sizes net m))) all.0.conds
-      ∙ conds-fit r.conds own.known in
+      ∙ conds_fit r.conds own.known in
       let actions = ap (list_all (names_result inputs (var_sizes net m) results)) all.0.acts
-      ∙ acts-fit r r.acts own.acts
-      (first-nil (missing (is_name_of m.outputs) emits) (repeated no_name emits) first)
-      (first-nil (missing (is_name_of (state_words m)) sets) (repeated no_name sets) second) in
+      ∙ acts_fit r r.acts own.acts
+      (first_nil (missing (is_name_of m.outputs) emits) (repeated no_name emits) first)
+      (first_nil (missing (is_name_of (state_words m)) sets) (repeated no_name sets) second) in
       let shown = ap (list_all (λ (act : Act). has_present row.conds act.source)) all.0.acts
       ∙ ap (λ l. list_all (λ (act : Act). has_present l act.source) (map (act_of net m) r.acts))
-      all.0.conds ∙ all-shown net m kept r r.acts own.acts in
-      let rest = rows-fit rs made all.1 (λ i x at. each (suc i) x at) in
+      all.0.conds ∙ all_shown net m kept r r.acts own.acts in
+      let rest = rows_fit rs made all.1 (λ i x at. each (suc i) x at) in
       λ i. ((conds i && actions i) && shown i) && rest i

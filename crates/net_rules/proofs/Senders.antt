@@ -13,47 +13,47 @@ use Rattle.net_names.specs.Numbers.{names_of, is_among, is_name_of}
 use Rattle.net_rules.specs.Networks.{party_of, machines_with}
 use Rattle.net_names.specs.Scopes.{all_outputs, is_from_env}
 use Rattle.rule_judge.specs.Rules.{rule_11, events_where}
-use Rattle.net_rules.proofs.NumbersOfNames.{and-first, and-second, not-false}
-use Rattle.net_rules.proofs.HasReceivers.{fresh, or-first, or-second}
+use Rattle.net_rules.proofs.NumbersOfNames.{and_first, and_second, not_false}
+use Rattle.net_rules.proofs.HasReceivers.{fresh, or_first, or_second}
 
-any-append : (p : List ℕ → Bool) (xs ys : List (List ℕ))
+any_append : (p : List ℕ → Bool) (xs ys : List (List ℕ))
     → list_any p (xs ++ ys) ≡ (list_any p xs || list_any p ys)
-any-append p [] ys = refl
-any-append p (x ∷ xs) ys = ap (λ b. p x || b) (any-append p xs ys)
+any_append p [] ys = refl
+any_append p (x ∷ xs) ys = ap (λ b. p x || b) (any_append p xs ys)
     ∙ grouped (p x) (list_any p xs) (list_any p ys)
   where
     grouped : (a b c : Bool) → (a || (b || c)) ≡ ((a || b) || c)
     grouped true b c = refl
     grouped false b c = refl
 
-same-any : (n x : List ℕ) → is_same n x ≡ true → (ys : List (List ℕ))
+same_any : (n x : List ℕ) → is_same n x ≡ true → (ys : List (List ℕ))
     → list_any (is_same n) ys ≡ list_any (is_same x) ys
-same-any n x same [] = refl
-same-any n x same (y ∷ ys) = λ i. nat_list_eq_equiv.congr n x y same i || same-any n x same ys i
+same_any n x same [] = refl
+same_any n x same (y ∷ ys) = λ i. nat_list_eq_equiv.congr n x y same i || same_any n x same ys i
 
-distinct-rest : (xs ys : List (List ℕ)) → are_distinct (xs ++ ys) ≡ true → are_distinct ys ≡ true
-distinct-rest [] ys h = h
-distinct-rest (x ∷ xs) ys h =
-    distinct-rest xs ys
-    (and-second (not (list_any (is_same x) (xs ++ ys))) (are_distinct (xs ++ ys)) h)
+distinct_rest : (xs ys : List (List ℕ)) → are_distinct (xs ++ ys) ≡ true → are_distinct ys ≡ true
+distinct_rest [] ys h = h
+distinct_rest (x ∷ xs) ys h =
+    distinct_rest xs ys
+    (and_second (not (list_any (is_same x) (xs ++ ys))) (are_distinct (xs ++ ys)) h)
 
-distinct-apart : (xs ys : List (List ℕ)) (n : List ℕ) → are_distinct (xs ++ ys) ≡ true
+distinct_apart : (xs ys : List (List ℕ)) (n : List ℕ) → are_distinct (xs ++ ys) ≡ true
     → is_among xs n ≡ true → is_among ys n ≡ false
-distinct-apart [] ys n h there = absurd (true≢false (sym there))
-distinct-apart (x ∷ xs) ys n h there =
+distinct_apart [] ys n h there = absurd (true≢false (sym there))
+distinct_apart (x ∷ xs) ys n h there =
     by (is_same n x) refl there
-    (distinct-apart xs ys n
-    (and-second (not (list_any (is_same x) (xs ++ ys))) (are_distinct (xs ++ ys)) h))
+    (distinct_apart xs ys n
+    (and_second (not (list_any (is_same x) (xs ++ ys))) (are_distinct (xs ++ ys)) h))
   where
     behind : list_any (is_same x) ys ≡ false
-    behind = or-second (list_any (is_same x) xs) (list_any (is_same x) ys)
-        (sym (any-append (is_same x) xs ys)
-        ∙ not-false (list_any (is_same x) (xs ++ ys))
-        (and-first (not (list_any (is_same x) (xs ++ ys))) (are_distinct (xs ++ ys)) h))
+    behind = or_second (list_any (is_same x) xs) (list_any (is_same x) ys)
+        (sym (any_append (is_same x) xs ys)
+        ∙ not_false (list_any (is_same x) (xs ++ ys))
+        (and_first (not (list_any (is_same x) (xs ++ ys))) (are_distinct (xs ++ ys)) h))
 
     by : (b : Bool) → is_same n x ≡ b → (b || is_among xs n) ≡ true
         → (is_among xs n ≡ true → is_among ys n ≡ false) → is_among ys n ≡ false
-    by true same h rest = same-any n x same ys ∙ behind
+    by true same h rest = same_any n x same ys ∙ behind
     by false other h rest = rest h
 
 module _ (list : RawMachine → List Word) (n : List ℕ) where
@@ -65,27 +65,27 @@ module _ (list : RawMachine → List Word) (n : List ℕ) where
   split m ms = map-append (λ (w : Word). w.name) (list m) (flat_map list ms)
 
   -- a name of no list has no place
-  none-there : (k : ℕ) (ms : List RawMachine) → is_name_of (flat_map list ms) n ≡ false
+  none_there : (k : ℕ) (ms : List RawMachine) → is_name_of (flat_map list ms) n ≡ false
       → places_from k (λ m. is_name_of (list m) n) ms ≡ []
-  none-there k [] h = refl
-  none-there k (m ∷ ms) h =
-      let both = sym (any-append (is_same n) (names_of (list m)) (names_of (flat_map list ms)))
+  none_there k [] h = refl
+  none_there k (m ∷ ms) h =
+      let both = sym (any_append (is_same n) (names_of (list m)) (names_of (flat_map list ms)))
       ∙ ap (λ l. list_any (is_same n) l) (sym (split m ms)) ∙ h in
-      let own = or-first (is_name_of (list m) n) (is_name_of (flat_map list ms) n) both in
-      let rest = none-there (k + 1) ms
-      (or-second (is_name_of (list m) n) (is_name_of (flat_map list ms) n) both) in
+      let own = or_first (is_name_of (list m) n) (is_name_of (flat_map list ms) n) both in
+      let rest = none_there (k + 1) ms
+      (or_second (is_name_of (list m) n) (is_name_of (flat_map list ms) n) both) in
       λ i. cond (own i) (k ∷ rest i) (rest i)
 
   -- where no name repeats, the first machine is the only one
-  pub one-sender : (k : ℕ) (ms : List RawMachine)
+  pub one_sender : (k : ℕ) (ms : List RawMachine)
       → are_distinct (names_of (flat_map list ms)) ≡ true
       → senders (party_of (places_from k (λ m. is_name_of (list m) n) ms))
       ≡ places_from k (λ m. is_name_of (list m) n) ms
-  one-sender k [] h = refl
-  one-sender k (m ∷ ms) h =
+  one_sender k [] h = refl
+  one_sender k (m ∷ ms) h =
       by (is_name_of (list m) n) refl
-      (one-sender (k + 1) ms
-      (distinct-rest (names_of (list m)) (names_of (flat_map list ms)) apart))
+      (one_sender (k + 1) ms
+      (distinct_rest (names_of (list m)) (names_of (flat_map list ms)) apart))
     where
       apart : are_distinct (names_of (list m) ++ names_of (flat_map list ms)) ≡ true
       apart = ap are_distinct (sym (split m ms)) ∙ h
@@ -100,15 +100,15 @@ module _ (list : RawMachine → List Word) (n : List ℕ) where
           (places_from (k + 1) (λ m. is_name_of (list m) n) ms)
       by true there rest =
           ap (λ l. k ∷ l)
-          (sym (none-there (k + 1) ms
-          (distinct-apart (names_of (list m)) (names_of (flat_map list ms)) n apart there)))
+          (sym (none_there (k + 1) ms
+          (distinct_apart (names_of (list m)) (names_of (flat_map list ms)) n apart there)))
       by false there rest = rest
 
 -- rule 11 gives that an event's sender is the one machine that has it as an output
-pub senders-kept : (raw : RawNet) (n : List ℕ) → rule_11 raw ≡ []
+pub senders_kept : (raw : RawNet) (n : List ℕ) → rule_11 raw ≡ []
     → senders (party_of (machines_with (λ m. m.outputs) raw n))
     ≡ machines_with (λ m. m.outputs) raw n
-senders-kept raw n eleven =
-    one-sender (λ m. m.outputs) n 0 raw.machines
+senders_kept raw n eleven =
+    one_sender (λ m. m.outputs) n 0 raw.machines
     (fresh (is_name_of (events_where (λ env. is_from_env env) raw)) (all_outputs raw)
     eleven).distinct

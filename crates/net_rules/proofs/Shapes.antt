@@ -14,23 +14,23 @@ use Rattle.rule_judge.specs.Rules.{disorder}
 use Rattle.net_rules.specs.Networks.{IsDomainOf}
 use Rattle.net_rules.proofs.HasReceivers.{fresh}
 
-values-of : (words : List Word) → disorder (shapes.Names words) ≡ [] → 1 ≤ length words
+values_of : (words : List Word) → disorder (shapes.Names words) ≡ [] → 1 ≤ length words
     → length words ≤ 32 → AreValues (names_of words)
-values-of words order some few = record {
+values_of words order some few = record {
   some = omega (arith, some, length-map words (λ (w : Word). w.name));
   few = omega (arith, few, length-map words (λ (w : Word). w.name));
   distinct = (fresh no_name words order).distinct;
 }
 
-pub names-kept : (shape : RawShape) (words : List Word) (names : List (List ℕ))
+pub names_kept : (shape : RawShape) (words : List Word) (names : List (List ℕ))
     → shape ≡ shapes.Names words → names ≡ names_of words → disorder shape ≡ [] → 1 ≤ count_of shape
     → count_of shape ≤ 32 → AreValues names
-names-kept shape words names is same order some few =
+names_kept shape words names is same order some few =
     subst AreValues (sym same)
-    (values-of words (sym (ap disorder is) ∙ order) (subst (λ s. 1 ≤ count_of s) is some)
+    (values_of words (sym (ap disorder is) ∙ order) (subst (λ s. 1 ≤ count_of s) is some)
     (subst (λ s. count_of s ≤ 32) is few))
 
-pub range-of : (shape : RawShape) (first last : Num) (span : Span) → shape ≡ shapes.Range first last
+pub range_of : (shape : RawShape) (first last : Num) (span : Span) → shape ≡ shapes.Range first last
     → span.first ≡ first.number → span.last ≡ last.number → IsDomainOf shape (domains.Range span)
-range-of shape first last span is low high =
+range_of shape first last span is low high =
     subst (λ s. IsDomainOf s (domains.Range span)) (sym is) (span, refl, low, high)

@@ -24,41 +24,41 @@ use Rattle.rule_judge.specs.Rules.{disorder}
 use Rattle.net_rules.specs.Networks.{IsDomainOf, IsMachineOf, IsNetworkOf, IsRowOf, act_of, cond_of, event_of, state_of}
 use Rattle.net_rules.specs.inner.Sound.{Each, IsSound, IsSoundMachine, IsSoundRow, has_count}
 use Rattle.net_rules.specs.Unique.{SomeNetwork}
-use Rattle.net_rules.proofs.AreActions.{actions-kept}
-use Rattle.net_rules.proofs.Counts.{count-in, each-all, le-from}
-use Rattle.net_rules.proofs.MachineFacts.{vars-fit, results-fit, rows-fit}
+use Rattle.net_rules.proofs.AreActions.{actions_kept}
+use Rattle.net_rules.proofs.Counts.{count_in, each_all, le_from}
+use Rattle.net_rules.proofs.MachineFacts.{vars_fit, results_fit, rows_fit}
 use Rattle.net_rules.proofs.IsSound.{sound}
-use Rattle.net_rules.proofs.HasReceivers.{holds, receivers-kept}
-use Rattle.net_rules.proofs.IsSoundMachine.{small-kept}
-use Rattle.net_rules.proofs.NetworkFacts.{domain-count, event-count, machine-count, event-names-kept, machine-names-kept, event-domains-kept, all-keep, all-senders}
-use Rattle.net_rules.proofs.Sentences.{sentences-have-values}
-use Rattle.net_rules.proofs.Zips.{zip-long}
+use Rattle.net_rules.proofs.HasReceivers.{holds, receivers_kept}
+use Rattle.net_rules.proofs.IsSoundMachine.{small_kept}
+use Rattle.net_rules.proofs.NetworkFacts.{domain_count, event_count, machine_count, event_names_kept, machine_names_kept, event_domains_kept, all_keep, all_senders}
+use Rattle.net_rules.proofs.Sentences.{sentences_have_values}
+use Rattle.net_rules.proofs.Zips.{zip_long}
 
 -- where each item gives one, all together give a list of them
-all-given : {A B : Type 0} (R : A → B → Type 0) (P : A → Type 0)
+all_given : {A B : Type 0} (R : A → B → Type 0) (P : A → Type 0)
     → ((x : A) → P x → (y : B) × R x y)
     → (xs : List A) → Each P xs → (ys : List B) × AllZip R xs ys
-all-given R P give [] each = ([], tt)
-all-given R P give (x ∷ xs) each =
+all_given R P give [] each = ([], tt)
+all_given R P give (x ∷ xs) each =
     let first = give x (each 0 x refl) in
-    let rest = all-given R P give xs (λ i y at. each (suc i) y at) in
+    let rest = all_given R P give xs (λ i y at. each (suc i) y at) in
     (first.0 ∷ rest.0, (first.1, rest.1))
 
-row-given : (net : RawNet) (m : RawMachine) (raw : RawRow) → IsSoundRow net m raw
+row_given : (net : RawNet) (m : RawMachine) (raw : RawRow) → IsSoundRow net m raw
     → (row : Row) × IsRowOf net m raw row
-row-given net m raw kept = (
+row_given net m raw kept = (
   record {
     conds = map (cond_of net m) raw.conds;
     acts = map (act_of net m) raw.acts;
-    actions = actions-kept net m raw.acts kept.targets;
+    actions = actions_kept net m raw.acts kept.targets;
   },
   record { conds = refl; acts = refl },
 )
 
-machine-given : (net : RawNet) → IsSound net → (m : RawMachine) → IsSoundMachine net m
+machine_given : (net : RawNet) → IsSound net → (m : RawMachine) → IsSoundMachine net m
     → (machine : Machine) × IsMachineOf net m machine
-machine-given net sound m kept =
-    let rows = all-given (IsRowOf net m) (IsSoundRow net m) (row-given net m) m.rows kept.rows in (
+machine_given net sound m kept =
+    let rows = all_given (IsRowOf net m) (IsSoundRow net m) (row_given net m) m.rows kept.rows in (
       record {
         name = m.name.name;
         priority = m.priority.number;
@@ -69,10 +69,10 @@ machine-given net sound m kept =
         results = 2 ∷ map (λ s. 1 + state_codes net s) m.states
             ++ map (event_codes net) m.outputs;
         rows = rows.0;
-        sized_vars = vars-fit net m sound kept;
-        sized_results = results-fit net m sound kept;
-        fitting_rows = rows-fit net m sound kept m.rows rows.0 rows.1 kept.rows;
-        small = small-kept net m sound kept rows.0 rows.1;
+        sized_vars = vars_fit net m sound kept;
+        sized_results = results_fit net m sound kept;
+        fitting_rows = rows_fit net m sound kept m.rows rows.0 rows.1 kept.rows;
+        small = small_kept net m sound kept rows.0 rows.1;
       },
       record {
         name = refl;
@@ -91,11 +91,11 @@ record IsSoundShape (shape : RawShape) : Type 0 where
   order : disorder shape ≡ []
   few : count_of shape ≤ 32
 
-shape-given : (shape : RawShape) → IsSoundShape shape → (d : Domain) × IsDomainOf shape d
-shape-given (shapes.Names words) kept = (domains.Names (names_of words), refl)
-shape-given (shapes.Range first last) kept =
+shape_given : (shape : RawShape) → IsSoundShape shape → (d : Domain) × IsDomainOf shape d
+shape_given (shapes.Names words) kept = (domains.Names (names_of words), refl)
+shape_given (shapes.Range first last) kept =
     let ordered : first.number ≤ last.number =
-    le-from first.number last.number (holds (nat_le first.number last.number) last.at kept.order) in
+    le_from first.number last.number (holds (nat_le first.number last.number) last.at kept.order) in
     let few : last.number - first.number < 32 = let most = kept.few in omega arith in
     let span : Span = record {
       first = first.number;
@@ -105,18 +105,18 @@ shape-given (shapes.Range first last) kept =
     } in
     (domains.Range span, (span, refl, refl, refl))
 
-network-given : (raw : RawNet) → IsSound raw → (net : Network) × IsNetworkOf raw net
-network-given raw sound =
-    let made = all-given (λ (d : RawDomain). IsDomainOf d.shape)
+network_given : (raw : RawNet) → IsSound raw → (net : Network) × IsNetworkOf raw net
+network_given raw sound =
+    let made = all_given (λ (d : RawDomain). IsDomainOf d.shape)
     (λ (d : RawDomain). IsSoundShape d.shape)
-    (λ d kept. shape-given d.shape kept) raw.domains
+    (λ d kept. shape_given d.shape kept) raw.domains
     (λ i d at. record {
       order = sound.order i d at;
-      few = (count-in d (each-all has_count raw.domains sound.counts i d at)).1;
+      few = (count_in d (each_all has_count raw.domains sound.counts i d at)).1;
     }) in
-    let machines = all-given (IsMachineOf raw) (IsSoundMachine raw) (machine-given raw sound)
+    let machines = all_given (IsMachineOf raw) (IsSoundMachine raw) (machine_given raw sound)
     raw.machines sound.machines in
-    let each = all-keep raw sound made.0 made.1 in (
+    let each = all_keep raw sound made.0 made.1 in (
       record {
         name = raw.name.name;
         domains = made.0;
@@ -124,20 +124,20 @@ network-given raw sound =
         machines = machines.0;
         few_domains = omega (
           arith,
-          zip-long (λ (d : RawDomain). IsDomainOf d.shape) raw.domains made.0 made.1,
-          domain-count raw sound,
+          zip_long (λ (d : RawDomain). IsDomainOf d.shape) raw.domains made.0 made.1,
+          domain_count raw sound,
         );
-        few_events = omega (arith, length-map raw.events (event_of raw), event-count raw sound);
+        few_events = omega (arith, length-map raw.events (event_of raw), event_count raw sound);
         few_machines = omega (
           arith,
-          zip-long (IsMachineOf raw) raw.machines machines.0 machines.1,
-          machine-count raw sound,
+          zip_long (IsMachineOf raw) raw.machines machines.0 machines.1,
+          machine_count raw sound,
         );
-        event_names = event-names-kept raw sound;
-        machine_names = machine-names-kept raw sound machines.0 machines.1;
-        event_domains = event-domains-kept raw sound made.0 made.1;
-        receivers = receivers-kept raw machines.0 sound.names sound.ports machines.1;
-        senders = all-senders raw sound machines.0 machines.1;
+        event_names = event_names_kept raw sound;
+        machine_names = machine_names_kept raw sound machines.0 machines.1;
+        event_domains = event_domains_kept raw sound made.0 made.1;
+        receivers = receivers_kept raw machines.0 sound.names sound.ports machines.1;
+        senders = all_senders raw sound machines.0 machines.1;
         numbered = each (is_numbered made.0 (map (event_of raw) raw.events)) (λ m k. k.numbered)
             raw.machines machines.0 sound.machines machines.1;
         once = each lists_once (λ m k. k.once) raw.machines machines.0 sound.machines machines.1;
@@ -149,6 +149,6 @@ network-given raw sound =
       record { name = refl; domains = made.1; events = refl; machines = machines.1 },
     )
 
-pub some-network : SomeNetwork
-some-network raw sentence none =
-    network-given raw (sound raw none (sentences-have-values raw sentence))
+pub some_network : SomeNetwork
+some_network raw sentence none =
+    network_given raw (sound raw none (sentences_have_values raw sentence))

@@ -5,23 +5,23 @@ use Rattle.std.proofs.lemmas.Option.{slice_get_read}
 use Rattle.std.specs.List.{AllZip}
 use Rattle.net_rules.specs.inner.Sound.{Each}
 
-pub zip-long : {A B : Type 0} (R : A → B → Type 0) (xs : List A) (ys : List B) → AllZip R xs ys
+pub zip_long : {A B : Type 0} (R : A → B → Type 0) (xs : List A) (ys : List B) → AllZip R xs ys
     → length ys ≡ length xs
-zip-long R [] [] all = λ i. 0
-zip-long R [] (y ∷ ys) all = absurd all
-zip-long R (x ∷ xs) [] all = absurd all
-zip-long R (x ∷ xs) (y ∷ ys) all = ap suc (zip-long R xs ys all.1)
+zip_long R [] [] all = λ i. 0
+zip_long R [] (y ∷ ys) all = absurd all
+zip_long R (x ∷ xs) [] all = absurd all
+zip_long R (x ∷ xs) (y ∷ ys) all = ap suc (zip_long R xs ys all.1)
 
 -- what each item keeps, this one keeps
-pub each-item : {A : Type 0} (P : A → Type 0) (xs : List A) (i : ℕ) (x : A) → i < length xs
+pub each_item : {A : Type 0} (P : A → Type 0) (xs : List A) (i : ℕ) (x : A) → i < length xs
     → x ≡ get_or xs i x → Each P xs → P x
-each-item P xs i x below at each =
+each_item P xs i x below at each =
     each i x (slice_get_read xs (length xs) i x (λ j. length xs) below at)
 
 -- one more item is made
-pub map-step : {A B : Type 0} (f : A → B) (xs : List A) (i : ℕ) (x : A) (made more : List B) (y : B)
+pub map_step : {A B : Type 0} (f : A → B) (xs : List A) (i : ℕ) (x : A) (made more : List B) (y : B)
     → i < length xs → x ≡ get_or xs i x → more ≡ made ++ y ∷ [] → y ≡ f x → made ≡ map f (take i xs)
     → more ≡ map f (take (i + 1) xs)
-map-step f xs i x made more y below at is here held =
+map_step f xs i x made more y below at is here held =
     is ∙ (λ j. held j ++ here j ∷ []) ∙ sym (map-append f (take i xs) (x ∷ []))
     ∙ ap (map f) (sym (take_more xs i x below ∙ ap (λ w. take i xs ++ w ∷ []) (sym at)))

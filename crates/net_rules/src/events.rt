@@ -5,11 +5,10 @@ ghost use Rattle.polis_base.specs.Lists.{places_where};
 ghost use Rattle.transition_table.specs.declared.decl.Party.{Party};
 ghost use Rattle.net_reader.specs.declared.raw.RawMachine.{RawMachine};
 ghost use Rattle.net_names.specs.Numbers.{is_name_of};
-ghost use Rattle.net_names.specs.Scopes.{is_to_env};
 ghost use Rattle.net_rules.specs.Networks.{machines_with, party_of, event_of};
 
-use net_names::{Scope, has_name};
-use net_reader::{RawEnv, RawEvent, RawMachine, RawNet};
+use net_names::{Scope, has_name, is_to_env};
+use net_reader::{RawEvent, RawMachine, RawNet};
 use polis_base::{Name, NoMemory, Numbers};
 use std::alloc::Global;
 use transition_table::{EventDecl, EventList, Party};
@@ -52,12 +51,6 @@ fn sender_of(machines: &[RawMachine], name: &Name) -> Party
         }
     }
     Party::Env
-}
-
-fn is_to_env(env: RawEnv) -> bool
-    ensures { result ≡ is_to_env env }
-{
-    matches!(env, RawEnv::ToEnv)
 }
 
 // The machines that read an event.

@@ -16,7 +16,7 @@ use Rattle.order_sift.proofs.ListUpdates.{cond_same, set_at, set_long}
 use Rattle.char_function.proofs.FixedCodes.{set_else, taking_same, taking_is, taking_at, taking_fits}
 use Rattle.order_sift.proofs.Different.{map_values}
 use Rattle.order_sift.proofs.TruePoints.{point, point_fits, point_var, point_result, point_true, true_point, snapshot_of}
-use Rattle.domains.proofs.Ranks.{length-fits}
+use Rattle.domains.proofs.Ranks.{length_fits}
 use Rattle.transition_table.proofs.Ranges.{below_size}
 use Rattle.outcome_table.proofs.Rows.{fits_set}
 use Rattle.decision_diagram.proofs.Distinct.{truth_same}
@@ -61,7 +61,7 @@ module _ (m : Machine) (below : Below) where
   same_where_fixed fixed a c each =
       same_from fixed fixed a c (λ b fit.
       ap (char m) (taking_same fixed fixed a b c b refl (λ w low.
-      let lb = length-fits (sizes_of m) b fit in
+      let lb = length_fits (sizes_of m) b fit in
       ⊎_elim
       (λ on. ap (λ (n : ℕ). cond (fixed w) n (slice_index b w)) (each w (omega arith) on))
       (λ off. ap (λ t. cond t (slice_index a w) (slice_index b w)) off
@@ -80,8 +80,8 @@ module _ (m : Machine) (below : Below) where
       whole : (s : List ℕ) → fits m.vars s ≡ true → (b : List ℕ) → fits (sizes_of m) b ≡ true
           → value fixed (point m s) b ≡ true
       whole s hs b fit =
-          let lb = length-fits (sizes_of m) b fit in
-          let lp = length-fits (sizes_of m) (point m s) (point_fits m below s hs) in
+          let lb = length_fits (sizes_of m) b fit in
+          let lp = length_fits (sizes_of m) (point m s) (point_fits m below s hs) in
           ap (char m) (taking_is fixed (point m s) b (point m s) (omega arith)
           (λ w low. ap (λ t. cond t (slice_index (point m s) w) (slice_index b w))
           (all w (omega arith)))) ∙ point_true m below s hs
@@ -100,7 +100,7 @@ module _ (m : Machine) (below : Below) where
     fixing s b hs fit =
         let x = length m.vars + y in
         let p = slice_index (point m s) x in
-        let lb = length-fits (sizes_of m) b fit in
+        let lb = length_fits (sizes_of m) b fit in
         let n = items in
         ap (char m) (taking_same (fixed_too fixed x) fixed (point m s) b (point m s)
         (slice_set b x p) (sym (set_long b x p)) (λ w low.
@@ -134,7 +134,7 @@ module _ (m : Machine) (below : Below) where
     decided s b hs fit on =
         let x = length m.vars + y in
         let q = taking fixed (point m s) b in
-        let lb = length-fits (sizes_of m) b fit in
+        let lb = length_fits (sizes_of m) b fit in
         let n = items in
         let fit_q = taking_fits (sizes_of m) fixed (point m s) b (point_fits m below s hs) fit in
         let t = take (length m.vars) q in
@@ -219,8 +219,8 @@ module _ (m : Machine) (below : Below) where
         → code < slice_index m.vars v → value (fixed_too fixed v) (point m (slice_set s v code)) b
         ≡ value fixed (point m s) (slice_set b v code)
     fixing_var s b code hs fit low_code =
-        let lb = length-fits (sizes_of m) b fit in
-        let ls = length-fits m.vars s hs in
+        let lb = length_fits (sizes_of m) b fit in
+        let ls = length_fits m.vars s hs in
         let n : length (sizes_of m) ≡ length m.vars + length m.results =
         length-append m.vars m.results in
         let hc = fits_set m.vars s v code hs low_code in

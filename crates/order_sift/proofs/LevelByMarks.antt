@@ -21,7 +21,7 @@ use Rattle.order_sift.proofs.Different.{has, same_items, by_numbers, all_kept, a
 use Rattle.order_sift.proofs.FixedToo.{same_where_fixed}
 use Rattle.order_sift.proofs.TruePoints.{point, point_fits, point_true, true_point, snapshot_of, snapshot_fits, at_rank, rank_low}
 use Rattle.outcome_table.proofs.ListMaps.{all_get}
-use Rattle.domains.proofs.Ranks.{length-fits}
+use Rattle.domains.proofs.Ranks.{length_fits}
 use Rattle.transition_table.proofs.Ranges.{below_size}
 use Rattle.outcome_table.proofs.Rows.{fits_set}
 use Rattle.char_function.proofs.AreSupports.{get_upto}
@@ -65,7 +65,7 @@ module _ (m : Machine) (below : Below) (fixed : ℕ → Bool) (x : ℕ) (lx : x 
   setting : (a b : List ℕ) (code : ℕ) → fits (sizes_of m) b ≡ true
       → taking fixed a (slice_set b x code) ≡ slice_set (taking fixed a b) x code
   setting a b code fit =
-      let lb = length-fits (sizes_of m) b fit in
+      let lb = length_fits (sizes_of m) b fit in
       let lt = taking_long fixed a b in
       let ls = set_long b x code in
       taking_is fixed a (slice_set b x code) (slice_set (taking fixed a b) x code)
@@ -129,8 +129,8 @@ module _ (m : Machine) (below : Below) (fixed : ℕ → Bool) (x : ℕ) (lx : x 
       two.2) in
       let u = taking fixed a b in
       let hu = taking_fits (sizes_of m) fixed a b ha hb in
-      let lu = length-fits (sizes_of m) u hu in
-      let lb = length-fits (sizes_of m) b hb in
+      let lu = length_fits (sizes_of m) u hu in
+      let lb = length_fits (sizes_of m) b hb in
       let set : taking fixed a (slice_set b x code) ≡ slice_set u x code = setting a b code hb in
       let apart : not (same_truth (char m (slice_set u x code)) (char m u)) ≡ true =
       ap (λ (q : List ℕ). not (same_truth (char m q) (char m u))) (sym set) ∙ two.3 in

@@ -24,7 +24,7 @@ use Rattle.char_function.proofs.Char.{same_self}
 use Rattle.order_sift.proofs.Different.{any_item}
 use Rattle.order_sift.proofs.TruePoints.{point, snapshot_fits}
 use Rattle.order_sift.proofs.AreClasses.{neighbours}
-use Rattle.domains.proofs.Ranks.{length-fits}
+use Rattle.domains.proofs.Ranks.{length_fits}
 use Rattle.transition_table.proofs.Ranges.{below_size}
 use Rattle.char_function.proofs.AreSupports.{get_upto}
 use Rattle.char_function.proofs.Varies.{any_same}
@@ -123,7 +123,7 @@ module _ (m : Machine) (below : Below) where
   pub codes_long : (i : ℕ) → i < product m.vars
       → length (result_codes m (snapshot_at m i)) ≡ length m.results
   codes_long i low = let hs = snapshot_fits m below i low in
-      length-fits m.results (result_codes m (snapshot_at m i))
+      length_fits m.results (result_codes m (snapshot_at m i))
       (below.results_fit m (snapshot_at m i) hs)
 
   pub code_low : (y i : ℕ) → are_sizes m.results ≡ true → y < length m.results → i < product m.vars
@@ -207,7 +207,7 @@ module _ (m : Machine) (below : Below) where
       → char m (slice_set (point m s) v c)
       ≡ is_same (result_codes m (slice_set s v c)) (result_codes m s)
   char_with_var s v c hs low =
-      let l = length-fits m.vars s hs in
+      let l = length_fits m.vars s hs in
       let r = result_codes m s in
       let set = set_first s r v c (omega arith) in
       let long : length (slice_set s v c) ≡ length m.vars = set_long s v c ∙ l in
@@ -231,7 +231,7 @@ module _ (m : Machine) (below : Below) where
       → char m (slice_set (point m s) (length m.vars + y) c)
       ≡ is_same (result_codes m s) (slice_set (result_codes m s) y c)
   char_with_result s y c hs =
-      let l = length-fits m.vars s hs in
+      let l = length_fits m.vars s hs in
       let r = result_codes m s in
       let set = set_second s r (length m.vars + y) y c (ap (λ k. k + y) (sym l)) in
       let t : take (length m.vars) (s ++ slice_set r y c) ≡ s =

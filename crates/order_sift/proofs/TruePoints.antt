@@ -12,7 +12,7 @@ use Rattle.order_sift.specs.inner.Below.{Below}
 use Rattle.order_sift.specs.inner.Classes.{snapshot_at}
 use Rattle.order_sift.proofs.ListUpdates.{same_is}
 use Rattle.char_function.proofs.Char.{same_self}
-use Rattle.domains.proofs.Ranks.{length-fits}
+use Rattle.domains.proofs.Ranks.{length_fits}
 use Rattle.decision_diagram.proofs.AppendedLists.{fits_both, fits_prefix}
 
 -- a snapshot and the codes of its results
@@ -25,17 +25,17 @@ module _ (m : Machine) (below : Below) where
 
   pub point_var : (s : List ℕ) (w : ℕ) → fits m.vars s ≡ true → w < length m.vars
       → slice_index (point m s) w ≡ slice_index s w
-  point_var s w h low = let l = length-fits m.vars s h in
+  point_var s w h low = let l = length_fits m.vars s h in
       get_or_append_left s (result_codes m s) 0 w (omega arith)
 
   pub point_result : (s : List ℕ) (y : ℕ) → fits m.vars s ≡ true
       → slice_index (point m s) (length m.vars + y) ≡ result_code m y s
-  point_result s y h = ap (λ k. slice_index (point m s) (k + y)) (sym (length-fits m.vars s h))
+  point_result s y h = ap (λ k. slice_index (point m s) (k + y)) (sym (length_fits m.vars s h))
       ∙ get_or-append-add s (result_codes m s) y 0
 
   pub point_true : (s : List ℕ) → fits m.vars s ≡ true → char m (point m s) ≡ true
   point_true s h =
-      let l = length-fits m.vars s h in
+      let l = length_fits m.vars s h in
       let t : take (length m.vars) (point m s) ≡ s =
       ap (λ k. take k (point m s)) (sym l) ∙ take-append_seam s (result_codes m s) in
       let d : drop (length m.vars) (point m s) ≡ result_codes m s =

@@ -6,11 +6,11 @@ use Rattle.rule_judge.specs.Declarations.{declaration_rules}
 use Rattle.rule_judge.specs.Judged.{Rule, rules, machine_rules, broken_at, first_broken, broken}
 use Rattle.net_names.specs.Places.{least_place}
 
-among-first : (n : ℕ) (rs : List Rule) (b : Broken) → first_broken (take n rs) ≡ Some b
+among_first : (n : ℕ) (rs : List Rule) (b : Broken) → first_broken (take n rs) ≡ Some b
     → first_broken rs ≡ Some b
-among-first zero rs b h = absurd (true≢false (sym (ap is_some h)))
-among-first (suc n) [] b h = absurd (true≢false (sym (ap is_some h)))
-among-first (suc n) (r ∷ rs) b h = by (least_place r.1) h (among-first n rs b)
+among_first zero rs b h = absurd (true≢false (sym (ap is_some h)))
+among_first (suc n) [] b h = absurd (true≢false (sym (ap is_some h)))
+among_first (suc n) (r ∷ rs) b h = by (least_place r.1) h (among_first n rs b)
   where
     by : (o : Option ℕ) → broken_at r.0 o (first_broken (take n rs)) ≡ Some b
         → (first_broken (take n rs) ≡ Some b → first_broken rs ≡ Some b)
@@ -18,11 +18,11 @@ among-first (suc n) (r ∷ rs) b h = by (least_place r.1) h (among-first n rs b)
     by None h rest = rest h
     by (Some p) h rest = h
 
-after-first : (n : ℕ) (rs : List Rule) → first_broken (take n rs) ≡ None
+after_first : (n : ℕ) (rs : List Rule) → first_broken (take n rs) ≡ None
     → first_broken rs ≡ first_broken (drop n rs)
-after-first zero rs none = refl
-after-first (suc n) [] none = refl
-after-first (suc n) (r ∷ rs) none = by (least_place r.1) none (after-first n rs)
+after_first zero rs none = refl
+after_first (suc n) [] none = refl
+after_first (suc n) (r ∷ rs) none = by (least_place r.1) none (after_first n rs)
   where
     by : (o : Option ℕ) → broken_at r.0 o (first_broken (take n rs)) ≡ None
         → (first_broken (take n rs) ≡ None → first_broken rs ≡ first_broken (drop n rs))
@@ -31,11 +31,11 @@ after-first (suc n) (r ∷ rs) none = by (least_place r.1) none (after-first n r
     by (Some p) h rest = absurd (true≢false (ap is_some h))
 
 -- a rule on declarations that is broken is the first of all
-pub declaration-broken : (net : RawNet) (b : Broken)
+pub declaration_broken : (net : RawNet) (b : Broken)
     → first_broken (declaration_rules net) ≡ Some b → broken net ≡ Some b
-declaration-broken net b h = among-first 13 (rules net) b h
+declaration_broken net b h = among_first 13 (rules net) b h
 
 -- where none is, the first of all is one on machines
-pub declarations-kept : (net : RawNet) → first_broken (declaration_rules net) ≡ None
+pub declarations_kept : (net : RawNet) → first_broken (declaration_rules net) ≡ None
     → broken net ≡ first_broken (machine_rules net)
-declarations-kept net none = after-first 13 (rules net) none
+declarations_kept net none = after_first 13 (rules net) none

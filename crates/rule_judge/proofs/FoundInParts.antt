@@ -10,22 +10,22 @@ use Rattle.net_names.specs.Numbers.{is_name_of, repeated}
 use Rattle.domains.specs.Names.{is_same}
 use Rattle.rule_judge.specs.Rules.{beyond}
 use Rattle.rule_judge.specs.inner.Sorting.{taken_before}
-use Rattle.rule_judge.proofs.LeastPlace.{sooner-least, least-append, repeated-more}
-use Rattle.net_names.proofs.IfOk.{IfOk-same}
-use Rattle.net_names.proofs.IsVar.{some-is}
+use Rattle.rule_judge.proofs.LeastPlace.{sooner_least, least_append, repeated_more}
+use Rattle.net_names.proofs.IfOk.{IfOk_same}
+use Rattle.net_names.proofs.IsVar.{some_is}
 
-pub beyond-some : (most : ℕ) (words : List Word) (w : Word) → slice_get words most ≡ Some w
+pub beyond_some : (most : ℕ) (words : List Word) (w : Word) → slice_get words most ≡ Some w
     → beyond most words ≡ w.at ∷ []
-beyond-some most [] w at = absurd (true≢false (sym (ap is_some at)))
-beyond-some zero (x ∷ words) w at = ap (λ (y : Word). y.at ∷ []) (some-is x w at)
-beyond-some (suc most) (x ∷ words) w at = beyond-some most words w at
+beyond_some most [] w at = absurd (true≢false (sym (ap is_some at)))
+beyond_some zero (x ∷ words) w at = ap (λ (y : Word). y.at ∷ []) (some_is x w at)
+beyond_some (suc most) (x ∷ words) w at = beyond_some most words w at
 
 -- the names of the events that pass
-pub where-words : (test : RawEnv → Bool) (events : List RawEvent)
+pub where_words : (test : RawEnv → Bool) (events : List RawEvent)
     → flat_map (λ (e : RawEvent). cond (test e.env) (e.name ∷ []) []) events
     ≡ map (λ (e : RawEvent). e.name) (filter (λ (e : RawEvent). test e.env) events)
-where-words test [] = refl
-where-words test (e ∷ events) = by (test e.env) (where-words test events)
+where_words test [] = refl
+where_words test (e ∷ events) = by (test e.env) (where_words test events)
   where
     by : (b : Bool) → flat_map (λ (e : RawEvent). cond (test e.env) (e.name ∷ []) []) events
         ≡ map (λ (e : RawEvent). e.name) (filter (λ (e : RawEvent). test e.env) events)
@@ -37,32 +37,32 @@ where-words test (e ∷ events) = by (test e.env) (where-words test events)
     by false h = h
 
 -- what was found before, then in three parts
-pub three-found : (found a b : Option ℕ) (r : Result (Option ℕ) NoMemory) (ps qs rs : List ℕ)
+pub three_found : (found a b : Option ℕ) (r : Result (Option ℕ) NoMemory) (ps qs rs : List ℕ)
     → a ≡ sooner found (least_place ps) → b ≡ sooner a (least_place qs)
     → IfOk r (λ place. place ≡ sooner b (least_place rs))
     → IfOk r (λ place. place ≡ sooner found (least_place (ps ++ qs ++ rs)))
-three-found found a b r ps qs rs first second third =
-    IfOk-same r _ _
+three_found found a b r ps qs rs first second third =
+    IfOk_same r _ _
     (ap (λ o. sooner o (least_place rs)) (second ∙ ap (λ o. sooner o (least_place qs)) first
-    ∙ sooner-least found ps qs) ∙ sooner-least found (ps ++ qs) rs) third
+    ∙ sooner_least found ps qs) ∙ sooner_least found (ps ++ qs) rs) third
 
 -- the places of three lists, found one after the other
-pub three-plain : (a b r : Option ℕ) (ps qs rs : List ℕ) → a ≡ least_place ps → b ≡ sooner a (least_place qs)
+pub three_plain : (a b r : Option ℕ) (ps qs rs : List ℕ) → a ≡ least_place ps → b ≡ sooner a (least_place qs)
     → r ≡ sooner b (least_place rs) → r ≡ least_place (ps ++ qs ++ rs)
-three-plain a b r ps qs rs first second third =
+three_plain a b r ps qs rs first second third =
     third ∙ ap (λ o. sooner o (least_place rs))
-    (second ∙ ap (λ o. sooner o (least_place qs)) first ∙ sym (least-append ps qs))
-    ∙ sym (least-append (ps ++ qs) rs)
+    (second ∙ ap (λ o. sooner o (least_place qs)) first ∙ sym (least_append ps qs))
+    ∙ sym (least_append (ps ++ qs) rs)
 
 -- the names of some words and of one more
-pub name-after : (words : List Word) (word : Word) (q : List ℕ)
+pub name_after : (words : List Word) (word : Word) (q : List ℕ)
     → is_name_of (words ++ word ∷ []) q ≡ (is_name_of words q || is_same q word.name)
-name-after [] word q = by (is_same q word.name)
+name_after [] word q = by (is_same q word.name)
   where
     by : (b : Bool) → (b || false) ≡ b
     by true = refl
     by false = refl
-name-after (w ∷ words) word q = by (is_same q w.name) (name-after words word q)
+name_after (w ∷ words) word q = by (is_same q w.name) (name_after words word q)
   where
     by : (b : Bool) → is_name_of (words ++ word ∷ []) q
         ≡ (is_name_of words q || is_same q word.name)
@@ -71,27 +71,27 @@ name-after (w ∷ words) word q = by (is_same q w.name) (name-after words word q
     by true h = refl
     by false h = h
 
-or-swap : (a b c : Bool) → ((a || b) || c) ≡ ((a || c) || b)
-or-swap true b c = refl
-or-swap false true true = refl
-or-swap false true false = refl
-or-swap false false true = refl
-or-swap false false false = refl
+or_swap : (a b c : Bool) → ((a || b) || c) ≡ ((a || c) || b)
+or_swap true b c = refl
+or_swap false true true = refl
+or_swap false true false = refl
+or_swap false false true = refl
+or_swap false false false = refl
 
 -- one more word is gone over, whose name stands before, is taken, or neither
-pub taken-more : (taken words : List Word) (i : ℕ) (word : Word) (stands : Bool)
+pub taken_more : (taken words : List Word) (i : ℕ) (word : Word) (stands : Bool)
     (found next total : Option ℕ) → i < length words → word ≡ get_or words i word
     → stands ≡ taken_before taken (take i words) word.name
     → next ≡ sooner found (least_place (unless (not stands) word.at))
     → sooner found (least_place (repeated (taken_before taken (take i words)) (drop i words))) ≡ total
     → sooner next (least_place (repeated (taken_before taken (take (i + 1) words)) (drop (i + 1) words)))
     ≡ total
-taken-more taken words i word stands found next total below at test is held =
-    repeated-more (taken_before taken (take i words)) (taken_before taken (take (i + 1) words)) words
+taken_more taken words i word stands found next total below at test is held =
+    repeated_more (taken_before taken (take i words)) (taken_before taken (take (i + 1) words)) words
     i word found next total below at
     (λ q. ap (λ b. b || is_name_of taken q)
     (ap (λ (ws : List Word). is_name_of ws q)
     (take_more words i word below ∙ ap (λ (w : Word). take i words ++ w ∷ []) (sym at))
-    ∙ name-after (take i words) word q)
-    ∙ or-swap (is_name_of (take i words) q) (is_same q word.name) (is_name_of taken q))
+    ∙ name_after (take i words) word q)
+    ∙ or_swap (is_name_of (take i words) q) (is_same q word.name) (is_name_of taken q))
     (is ∙ ap (λ b. sooner found (least_place (unless (not b) word.at))) test) held

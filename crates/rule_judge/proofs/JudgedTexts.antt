@@ -7,7 +7,7 @@ use Rattle.net_reader.specs.inner.Outcomes.{outcome}
 use Rattle.net_reader.specs.declared.raw.RawNet.{RawNet}
 use Rattle.net_reader.specs.declared.network.NetFault.{NetFault}
 use Rattle.net_reader.proofs.Sentences.{has_net}
-use Rattle.net_names.proofs.IsVar.{some-is}
+use Rattle.net_names.proofs.IsVar.{some_is}
 use Rattle.rule_judge.specs.declared.verdict.Broken.{Broken}
 use Rattle.rule_judge.specs.Judged.{broken}
 use Rattle.rule_judge.specs.Samples.{Sample, IsJudged, AreJudged, samples}
@@ -25,17 +25,17 @@ judged sample h = by (outcome sample.0) refl h
     by (Ok net) e k = (
       net,
       has_net sample.0 (tokens_of sample.0) net refl e,
-      some-is (broken net) sample.1 k,
+      some_is (broken net) sample.1 k,
     )
     by (Err fault) e k = absurd (true≢false (sym (ap is_some k)))
 
-all-judged : (list : List Sample)
+all_judged : (list : List Sample)
     → map (λ (s : Sample). found (outcome s.0)) list ≡ map (λ (s : Sample). Some s.1) list
     → AreJudged list
-all-judged [] h = tt
-all-judged (sample ∷ list) h = (
+all_judged [] h = tt
+all_judged (sample ∷ list) h = (
   judged sample (ap (λ l. unwrap_or (head_of l) None) h),
-  all-judged list (ap (drop 1) h),
+  all_judged list (ap (drop 1) h),
 )
 
 pub worked : AreJudged samples
@@ -45,4 +45,4 @@ unfolding only word_at num_at value_at many after_comma listed names_at range_at
     input_or_plain_at input_or_sum_at given_source_at source_at given_at given_part_at emit_at
     set_at act_at nothing_at acts_at row_at output_at outputs_at body_at machine_at net_at end_at
     whole_at
-worked = all-judged samples refl
+worked = all_judged samples refl

@@ -6,8 +6,10 @@ ghost use Rattle.rule_judge.specs.Rules.{rule_8, rule_9, rule_11, rule_12, rule_
 
 use crate::checks::{Check, check_all};
 use crate::words::{missing, repeated, repeats};
-use net_names::{Gather, append, gather_all, number_all, state_words, unless};
-use net_reader::{RawEnv, RawEvent, RawMachine, RawNet, Word};
+use net_names::{
+    Gather, append, gather_all, is_from_env, is_to_env, number_all, state_words, unless,
+};
+use net_reader::{RawEvent, RawMachine, RawNet, Word};
 use polis_base::limits::{INPUTS_MAX, OUTPUTS_MAX, ROWS_MAX, STATES_MAX};
 use polis_base::{List, NoMemory};
 use std::alloc::Global;
@@ -108,18 +110,6 @@ fn all_outputs(alloc: Global, raw: &RawNet) -> Result<List<Word>, NoMemory>
     ensures { IfOk result (λ words. words ≡ all_outputs raw.now) }
 {
     gather_all(alloc, &Outputs, &raw.machines)
-}
-
-fn is_from_env(env: RawEnv) -> bool
-    ensures { result ≡ is_from_env env }
-{
-    matches!(env, RawEnv::FromEnv)
-}
-
-fn is_to_env(env: RawEnv) -> bool
-    ensures { result ≡ is_to_env env }
-{
-    matches!(env, RawEnv::ToEnv)
 }
 
 struct FromEnv;

@@ -16,7 +16,7 @@ use Rattle.journals.specs.declared.entry.TraceItem.{TraceItem}
 use Rattle.journals.specs.Journals.{delivered}
 use Rattle.journals.specs.Laws.{TraceGivesSent}
 use Rattle.journals.proofs.DeliveredBeginsSent.{delivered_by_reaction, delivered_other, delivered_own}
-use Rattle.journals.proofs.MomentsAfter.{set-table}
+use Rattle.journals.proofs.MomentsAfter.{set_table}
 use Rattle.run_shuffle.specs.Blocks.{block_to, blocks_to, has_begun}
 use Rattle.run_shuffle.specs.Moves.{machines_of}
 use Rattle.run_shuffle.specs.Orders.{same_block}
@@ -184,7 +184,7 @@ pub table_marked : TraceGivesSent
     → slice_set (begun_table net trace journal) block true
     ≡ begun_table net trace (journal ++ Dep Env m e c ∷ [])
 table_marked gives net trace journal m e c block below few is =
-    set-table (has_begun net trace journal)
+    set_table (has_begun net trace journal)
     (has_begun net trace (journal ++ Dep Env m e c ∷ [])) (suc (settles trace)) block true few
     (begun_after_own gives net trace journal m e c block below
     ∙ ap (λ o. has_begun net trace journal block || same_block o (Some block)) is

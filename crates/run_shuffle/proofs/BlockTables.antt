@@ -12,7 +12,7 @@ use Rattle.journals.specs.declared.entry.TraceItem.{TraceItem}
 use Rattle.journals.specs.declared.entry.TraceItem.TheVariants.{Event, Settle}
 use Rattle.journals.specs.Cursors.{cursor}
 use Rattle.journals.specs.Laws.{TraceGivesSent}
-use Rattle.journals.proofs.MomentsAfter.{get_or-table, length-table}
+use Rattle.journals.proofs.MomentsAfter.{get_or_table, length_table}
 use Rattle.run_shuffle.specs.Blocks.{block_to, has_begun}
 use Rattle.run_shuffle.specs.Moves.{machines_of}
 use Rattle.run_shuffle.specs.Orders.{same_block}
@@ -33,10 +33,10 @@ settles_within (Event e c ∷ items) (suc i) = settles_within items i
 table_at : (trace : List TraceItem) (place b : ℕ) → place < length trace
     → slice_get (blocks_table trace) place ≡ Some b → b ≡ settles (take place trace)
 table_at trace place b within at =
-    let long = length-table (λ i. settles (take i trace)) (length trace) in
+    let long = length_table (λ i. settles (take i trace)) (length trace) in
     let read = slice_get-get_or (blocks_table trace) place 0 (omega (arith, long, within)) in
     let same : b ≡ get_or (blocks_table trace) place 0 = cc in
-    same ∙ get_or-table (λ i. settles (take i trace)) (length trace) place 0 within
+    same ∙ get_or_table (λ i. settles (take i trace)) (length trace) place 0 within
 
 -- what is read at a machine's place
 pub block_read : TraceGivesSent
@@ -45,7 +45,7 @@ pub block_read : TraceGivesSent
     → place < length blocks → slice_get blocks place ≡ Some b
     → (Some b ≡ block_to net trace journal m) × (b ≤ settles trace)
 block_read gives net trace journal m place b blocks are own within at =
-    let long = length-table (λ i. settles (take i trace)) (length trace) in
+    let long = length_table (λ i. settles (take i trace)) (length trace) in
     let size = ap length are in
     let inside : place < length trace = omega (arith, long, size, within) in
     let is = table_at trace place b inside (ap (λ l. slice_get l place) (sym are) ∙ at) in
@@ -62,7 +62,7 @@ pub nothing_read : TraceGivesSent
     (blocks : List ℕ) → blocks ≡ blocks_table trace → place ≡ cursor net trace journal m
     → length blocks ≤ place → None ≡ block_to net trace journal m
 nothing_read gives net trace journal m place blocks are own past =
-    let long = length-table (λ i. settles (take i trace)) (length trace) in
+    let long = length_table (λ i. settles (take i trace)) (length trace) in
     let size = ap length are in
     sym
     (no_block_past gives net trace journal m
@@ -73,7 +73,7 @@ pub block_has_mark : (net : Network) (trace : List TraceItem) (journal : List En
     (begun : List Bool) → begun ≡ begun_table net trace journal → b ≤ settles trace
     → b < length begun
 block_has_mark net trace journal b begun are within =
-    let long = length-table (has_begun net trace journal) (suc (settles trace)) in
+    let long = length_table (has_begun net trace journal) (suc (settles trace)) in
     let size = ap length are in
     omega (arith, long, size, within)
 
@@ -82,14 +82,14 @@ pub mark_says : (net : Network) (trace : List TraceItem) (journal : List Entry) 
     (begun : List Bool) (is : Bool) → begun ≡ begun_table net trace journal → b ≤ settles trace
     → slice_get begun b ≡ Some is → is ≡ has_begun net trace journal b
 mark_says net trace journal b begun is are within at =
-    let long = length-table (has_begun net trace journal) (suc (settles trace)) in
+    let long = length_table (has_begun net trace journal) (suc (settles trace)) in
     let read =
     slice_get-get_or (begun_table net trace journal) b false (omega (arith, long, within)) in
     let here : slice_get (begun_table net trace journal) b ≡ Some is =
     ap (λ l. slice_get l b) (sym are) ∙ at in
     let same : is ≡ get_or (begun_table net trace journal) b false = cc in
     let below : b < suc (settles trace) = omega (arith, within) in
-    same ∙ get_or-table (has_begun net trace journal) (suc (settles trace)) b false below
+    same ∙ get_or_table (has_begun net trace journal) (suc (settles trace)) b false below
 
 -- where the environment owes a machine nothing, no block begins
 pub nothing_begins : TraceGivesSent

@@ -1,7 +1,7 @@
 -- How many moves are offered.
 use Rattle.std.proofs.Common.{◌≡◌, ℕ, suc, ◌+◌, ◌*◌, ◌≤◌, Bool, true, false, cond, List, [], ◌∷◌, filter, filter_map, flat_map, length, Option, Some, None, refl, subst, length-append, arith}
 use Rattle.std.proofs.lemmas.List.{length-map}
-use Rattle.journals.proofs.MomentsAfter.{length-upto}
+use Rattle.journals.proofs.MomentsAfter.{length_upto}
 use Rattle.polis_base.specs.Lists.{head_of}
 use Rattle.transition_table.specs.declared.decl.Party.{Party}
 use Rattle.transition_table.specs.declared.decl.Party.TheVariants.{Machine as Sender}
@@ -49,14 +49,14 @@ sends_few : (net : Network) (trace : List TraceItem) (journal : List Entry) (s :
     → length (next_deliveries net trace journal s) ≤ length net.machines
 sends_few net trace journal s =
     let all = given_few (next_delivery net trace journal s) (machines_of net) in
-    let size = length-upto (length net.machines) in
+    let size = length_upto (length net.machines) in
     omega arith
 
 pub network_few : (net : Network) (trace : List TraceItem) (journal : List Entry)
     → length (network_moves net trace journal)
     ≤ length net.machines * length net.machines + length net.machines
 network_few net trace journal =
-    let size = length-upto (length net.machines) in
+    let size = length_upto (length net.machines) in
     let sends =
     joined_few (λ s. next_deliveries net trace journal (Sender s)) (length net.machines)
     (machines_of net) (λ s. sends_few net trace journal (Sender s)) in

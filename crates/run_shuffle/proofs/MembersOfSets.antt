@@ -13,7 +13,7 @@ use Rattle.polis_base.specs.Lists.{head_of, upto}
 use Rattle.polis_base.proofs.Lists.{none_below, one_more, same_below}
 use Rattle.polis_base.proofs.Members.{here, of_filter}
 use Rattle.journals.specs.Schedules.{without_first}
-use Rattle.journals.proofs.MomentsAfter.{length-upto}
+use Rattle.journals.proofs.MomentsAfter.{length_upto}
 use Rattle.net_core.specs.Readers.{members}
 use Rattle.net_core.proofs.Bitsets.{none_past, without_one}
 use Rattle.run_shuffle.proofs.Few.{passing_few}
@@ -156,7 +156,7 @@ pub machines_few : (set : ℕ) → length (machines_in set) ≤ 64
 unfolding machines_in
 machines_few set =
     let all = passing_few (λ m. bit_at set m == 1) (upto 64) in
-    let size = length-upto 64 in
+    let size = length_upto 64 in
     omega (arith, all, size)
 
 -- ---- one member after another

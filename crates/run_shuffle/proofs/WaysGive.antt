@@ -23,7 +23,7 @@ use Rattle.journals.specs.Cursors.{cursor}
 use Rattle.journals.specs.Journals.{IsTrace, is_woken}
 use Rattle.journals.specs.Legality.{Legal}
 use Rattle.journals.specs.Schedules.{deliver, first_pick, first_woken, is_way, owed_by_env, owed_by_machines}
-use Rattle.journals.proofs.MomentsAfter.{get_or-upto, length-upto}
+use Rattle.journals.proofs.MomentsAfter.{get_or_upto, length_upto}
 use Rattle.net_core.specs.Moments.{Moment}
 use Rattle.run_shuffle.specs.declared.ways.Ways.{Ways}
 use Rattle.run_shuffle.specs.Blocks.{block_to, current_block}
@@ -245,11 +245,11 @@ sends_split : (now : Moment) (s : ℕ) → s < length now.net.machines
     → sends_from now s
     ≡ next_deliveries now.net now.trace now.journal (Sender s) ++ sends_from now (s + 1)
 sends_split now s below =
-    let long = length-upto (length now.net.machines) in
+    let long = length_upto (length now.net.machines) in
     let first : drop s (machines_of now.net) ≡ s ∷ drop (s + 1) (machines_of now.net) =
     drop_more (machines_of now.net) s 0 (omega (arith, long, below))
     ∙ ap (λ k. k ∷ drop (s + 1) (machines_of now.net))
-    (get_or-upto (length now.net.machines) s 0 below) in
+    (get_or_upto (length now.net.machines) s 0 below) in
     ap (flat_map (λ s. next_deliveries now.net now.trace now.journal (Sender s))) first
 
 at_first : (xs ys : List Pick) (k : ℕ) → k < length xs → move_at (xs ++ ys) k ≡ move_at xs k
@@ -322,7 +322,7 @@ move_past_row sending now ways s row number left many legal are at before below 
 pub none_past_rows : (now : Moment) (ways : Ways) (n left : ℕ) → AreWays now ways
     → length ways.sends ≤ n → left < length (sends_from now n) → ⊥
 none_past_rows now ways n left are past below =
-    let long = length-upto (length now.net.machines) in
+    let long = length_upto (length now.net.machines) in
     let all = are.long in
     let none =
     ap length

@@ -29,7 +29,7 @@ use Rattle.sgraph.proofs.Decides.{decided}
 use Rattle.decision_diagram.proofs.AppendedLists.{fits_both, reaches_child}
 use Rattle.sgraph.proofs.Trails.{Onward, trail_at}
 use Rattle.sgraph.proofs.ResultCodes.{codes_back}
-use Rattle.domains.proofs.Ranks.{length-fits}
+use Rattle.domains.proofs.Ranks.{length_fits}
 use Rattle.decision_diagram.proofs.ByVariable.{index_append}
 
 trail_none : {X : Type 0} (next : ℕ → X → Option ℕ) (xs : List X) (base : ℕ)
@@ -233,7 +233,7 @@ module _ (m : Machine) (s : Diagrams) (root : ℕ) (g : List Vertex) (number : �
       → ⊥
   root_reads has y hy holds same =
       let w = length m.vars + y in
-      let long = length-fits s.sizes b fit_b in
+      let long = length_fits s.sizes b fit_b in
       let size = sizes_long in
       let two = has.two y hy in
       let own : slice_index s.sizes w ≡ slice_index m.results y =
@@ -252,7 +252,7 @@ module _ (m : Machine) (s : Diagrams) (root : ℕ) (g : List Vertex) (number : �
       turned : (w code : ℕ) → w ≡ length m.vars + y → code < slice_index s.sizes w
           → slice_index b w ≢ code → ⊥
       turned w code is low other =
-          let long : length b ≡ length s.sizes = length-fits s.sizes b fit_b in
+          let long : length b ≡ length s.sizes = length_fits s.sizes b fit_b in
           let size = sizes_long in
           let set : List ℕ = slice_set b w code in
           let fit = fits_set s.sizes b fit_b w code low in
@@ -290,9 +290,9 @@ walk_codes m s root g number d built has snap fit =
     let results : List ℕ = result_codes m snap in
     let b : List ℕ = snap ++ results in
     let zeros : List ℕ = replicate (length m.results) 0 in
-    let long_snap : length snap ≡ n = length-fits m.vars snap fit in
+    let long_snap : length snap ≡ n = length_fits m.vars snap fit in
     let long_results : length results ≡ length m.results =
-    length-fits m.results results (has.fit snap fit) in
+    length_fits m.results results (has.fit snap fit) in
     let fit_b : fits s.sizes b ≡ true =
     rw d.sizes (fits_both m.vars m.results snap results fit (has.fit snap fit)) in
     let same_vars : (v : ℕ) → v < n → slice_index b v ≡ slice_index snap v =

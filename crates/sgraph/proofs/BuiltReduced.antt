@@ -32,7 +32,7 @@ use Rattle.decision_diagram.proofs.Prefixes.{led_codes, led_value, some_kid, mix
 use Rattle.decision_diagram.proofs.Nodes.{cases_inner, inner_low, none_low, inner_within}
 use Rattle.domains.proofs.Places.{place_of_item}
 use Rattle.decision_diagram.proofs.Values.{level_none, level_some, level_below, value_inner}
-use Rattle.domains.proofs.Ranks.{length-fits, fits-zeros}
+use Rattle.domains.proofs.Ranks.{length_fits, fits_zeros}
 use Rattle.decision_diagram.proofs.ByVariable.{index_append}
 use Rattle.sgraph.proofs.NextNodes.{index_after}
 
@@ -66,7 +66,7 @@ module _ (m : Machine) (s : Diagrams) (root : ℕ) (d : IsDiagramByRows m s root
       let fit_too : fits (sizes_of m) one ≡ true = rw (← d.sizes) fit in
       let fit_snap : fits m.vars snap ≡ true = fits_prefix m.vars m.results one fit_too in
       let long_snap : length turned ≡ n =
-      length-fits m.vars turned (fits_set m.vars snap fit_snap v c hc) in
+      length_fits m.vars turned (fits_set m.vars snap fit_snap v c hc) in
       let own = place_of_item s.order d.reduced.order j inside in
       let holds_char : char m one ≡ true = sym (d.means.value one fit) ∙ holds in
       ⊎_elim
@@ -138,7 +138,7 @@ module _ (m : Machine) (s : Diagrams) (root : ℕ) (d : IsDiagramByRows m s root
       (has.fit turned fit_turned)) in
       let true_other : value_of s root other ≡ true =
       d.means.value other fit_other ∙ char_there m turned
-      (length-fits m.vars turned fit_turned) in
+      (length_fits m.vars turned fit_turned) in
       let led_one : led s i other root ≡ n =
       led_codes s i root other a (omega arith)
       (λ j less. turned_agrees one v c fit_one true_one hv hc j (omega arith) (omega arith)
@@ -147,8 +147,8 @@ module _ (m : Machine) (s : Diagrams) (root : ℕ) (d : IsDiagramByRows m s root
       let at_n : value_of s root other ≡ value_of s n other =
       led_value s ok i root other (rw led_one (omega arith))
       ∙ ap (λ (k : ℕ). value_of s k other) led_one in
-      let long_snap = length-fits m.vars snap fit_snap in
-      let long_turned = length-fits m.vars turned fit_turned in
+      let long_snap = length_fits m.vars snap fit_snap in
+      let long_turned = length_fits m.vars turned fit_turned in
       let own : slice_index other v ≡ c =
       index_append turned (result_codes m turned) v (omega arith)
       ∙ get_or-set_same snap v c 0 (omega arith) in
@@ -159,7 +159,7 @@ module _ (m : Machine) (s : Diagrams) (root : ℕ) (d : IsDiagramByRows m s root
   pub root_true : root ≢ 0
   root_true =
       let zeros : List ℕ = replicate (length s.sizes) 0 in
-      let fit_zeros : fits s.sizes zeros ≡ true = fits-zeros s.sizes d.reduced.sizes in
+      let fit_zeros : fits s.sizes zeros ≡ true = fits_zeros s.sizes d.reduced.sizes in
       let snap : List ℕ = take (length m.vars) zeros in
       let fit_snap : fits m.vars snap ≡ true =
       fits_prefix m.vars m.results zeros
@@ -170,7 +170,7 @@ module _ (m : Machine) (s : Diagrams) (root : ℕ) (d : IsDiagramByRows m s root
       (fits_both m.vars m.results snap (result_codes m snap) fit_snap
       (has.fit snap fit_snap)) in
       not_low s root both (d.means.value both fit_both
-      ∙ char_there m snap (length-fits m.vars snap fit_snap))
+      ∙ char_there m snap (length_fits m.vars snap fit_snap))
 
 module _ (m : Machine) (s : Diagrams) (root : ℕ) (d : IsDiagramByRows m s root) where
   pub reached_node : (n : ℕ) → Reaches s root n → IsNode s n

@@ -13,7 +13,7 @@ use Rattle.sgraph.specs.Walks.{AreOfOne, outcome_with, width_of}
 use Rattle.sgraph.specs.inner.Walks.{MayWalk}
 use Rattle.sgraph.proofs.Trails.{Onward, trail_at}
 use Rattle.sgraph.proofs.Outcomes.{mk, zeros, drop_more, long_results}
-use Rattle.domains.proofs.Ranks.{length-fits}
+use Rattle.domains.proofs.Ranks.{length_fits}
 use Rattle.transition_table.proofs.Ranges.{below_size}
 
 pub there : (c : List Vertex) (k : ℕ) (i : Vertex) → slice_get c k ≡ Some i → k < length c
@@ -42,7 +42,7 @@ may_walk g s o ok one k (Test var kids) is =
     let test = one.graph.tests k var kids is in
     let low : var < length one.machine.vars = test.0 in
     let count : length kids ≡ slice_index one.machine.vars var = test.1 in
-    let long = length-fits one.machine.vars s.codes one.snapshot in
+    let long = length_fits one.machine.vars s.codes one.snapshot in
     let code = below_size one.machine.vars s.codes var one.snapshot low in
     let inside : slice_index s.codes var < length kids = omega arith in (
       omega arith,

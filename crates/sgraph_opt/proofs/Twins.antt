@@ -4,7 +4,7 @@ use Rattle.std.specs.Prelude.{⊤}
 use Rattle.std.proofs.lemmas.Bool.{cond-true, cond-false, eq-eqb, ne_eqb}
 use Rattle.domains.specs.Orders.{place}
 use Rattle.domains.specs.Tables.{fits}
-use Rattle.domains.proofs.Ranks.{fits-zeros, length-fits}
+use Rattle.domains.proofs.Ranks.{fits_zeros, length_fits}
 use Rattle.transition_table.specs.declared.machine.Machine.{Machine}
 use Rattle.transition_table.proofs.Rows.{machine_sizes}
 use Rattle.decision_diagram.proofs.Fits.{fits_set}
@@ -46,7 +46,7 @@ module _ (m : Machine) (order : List ℕ) (g : List Vertex) (p : Placed m order 
   var_low k v kids is = (p.of_machine.fits_machine.tests k v kids is).0
 
   pub zero_fits : fits m.vars (replicate (length m.vars) 0) ≡ true
-  zero_fits = fits-zeros m.vars (machine_sizes m)
+  zero_fits = fits_zeros m.vars (machine_sizes m)
 
   -- a snapshot that leads to a child
   pub leads_to : (k v : ℕ) (kids : List ℕ) → slice_get g k ≡ Some (Test v kids) → (i : ℕ)
@@ -64,7 +64,7 @@ module _ (m : Machine) (order : List ℕ) (g : List Vertex) (p : Placed m order 
       let t : List ℕ = slice_set s v i in
       let fit_t = leads_to k v kids is i inside s fit in
       let low = var_low k v kids is in
-      let long = length-fits m.vars s fit in
+      let long = length_fits m.vars s fit in
       let at : slice_index t v ≡ i = get_or-set_same s v i 0 (omega (arith, long, low)) in
       let j : ℕ = slice_index kids i in
       let down = child_deeper m order g p k i (Test v kids) is inside in

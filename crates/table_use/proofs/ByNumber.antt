@@ -6,8 +6,8 @@ use Rattle.std.proofs.lemmas.Nat.{mod-mul-add}
 use Rattle.std.proofs.lemmas.Option.{get_or_from_slice_get}
 use Rattle.std.proofs.Math.Nat.{mul-le-mul_right, mul_assoc}
 use Rattle.domains.specs.Tables.{are_sizes, fits, product, rank}
-use Rattle.domains.proofs.Ranks.{length-fits, ranks_below}
-use Rattle.journals.proofs.MomentsAfter.{get_or-table, length-table}
+use Rattle.domains.proofs.Ranks.{length_fits, ranks_below}
+use Rattle.journals.proofs.MomentsAfter.{get_or_table, length_table}
 use Rattle.outcome_table.proofs.Columns.{product_after}
 use Rattle.transition_table.specs.declared.machine.Machine.{Machine}
 use Rattle.transition_table.proofs.Ranges.{vars_length}
@@ -138,7 +138,7 @@ pub rank_alone : (m : Machine) (s : List ℕ) (i : ℕ) → fits m.vars s ≡ tr
     + slice_index s i * stride m.vars i
 rank_alone m s i fit fits_too low =
     let k = length m.inputs in
-    let long = length-fits m.vars s fit in
+    let long = length_fits m.vars s fit in
     let parts = vars_length m in
     let zeros : List ℕ = replicate k 0 ++ drop k s in
     let many : length (replicate {A = ℕ} k 0) ≡ k = length-replicate k 0 in
@@ -160,14 +160,14 @@ rank_alone m s i fit fits_too low =
 pub strides_long : (vars strides : List ℕ) → strides ≡ strides_of vars
     → length strides ≡ length vars
 strides_long vars strides is =
-    ap (λ (l : List ℕ). length l) is ∙ length-table (stride vars) (length vars)
+    ap (λ (l : List ℕ). length l) is ∙ length_table (stride vars) (length vars)
 
 pub stride_at : (vars strides : List ℕ) (v x : ℕ) → strides ≡ strides_of vars → v < length vars
     → slice_get strides v ≡ Some x → x ≡ stride vars v
 stride_at vars strides v x is low at =
     sym (get_or_from_slice_get strides v x 0 at)
     ∙ ap (λ (l : List ℕ). get_or l v 0) is
-    ∙ get_or-table (stride vars) (length vars) v 0 low
+    ∙ get_or_table (stride vars) (length vars) v 0 low
 
 -- the number of a snapshot by that without one of its codes
 pub number_parts : (vars strides s : List ℕ) (v n code x : ℕ) → fits vars s ≡ true

@@ -7,7 +7,7 @@ use Rattle.std.proofs.lemmas.List.Sums.{sum_by-cons}
 use Rattle.std.proofs.lemmas.List.Folds.{list_any-append}
 use Rattle.polis_base.specs.Lists.{upto}
 use Rattle.polis_base.proofs.Lists.{some_item}
-use Rattle.journals.proofs.MomentsAfter.{get_or-table}
+use Rattle.journals.proofs.MomentsAfter.{get_or_table}
 use Rattle.transition_table.specs.MachineFacts.{has_present, wants}
 use Rattle.transition_table.specs.Sources.{code_of}
 use Rattle.transition_table.specs.Transitions.{actions, allows, code_given, holds, reading, result}
@@ -80,7 +80,7 @@ out_code : (m : Machine) (r y : ℕ) (s : List ℕ) → y < length m.outputs
     → slice_index (result m r (reading s)).outs y
     ≡ code_given m s (actions (slice_get m.rows r)) (1 + length m.states + y)
 out_code m r y s low =
-    get_or-table (λ k. code_given m s (actions (slice_get m.rows r)) (1 + length m.states + k))
+    get_or_table (λ k. code_given m s (actions (slice_get m.rows r)) (1 + length m.states + k))
     (length m.outputs) y 0 low
 
 emits_if : (m : Machine) (r y : ℕ) (s : List ℕ) → r < length m.rows → y < length m.outputs

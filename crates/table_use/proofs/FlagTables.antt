@@ -3,7 +3,7 @@ use Rattle.std.proofs.Common.{◌≡◌, ℕ, suc, ◌+◌, ◌-◌, ◌*◌, �
 use Rattle.std.proofs.lemmas.List.Sums.{count_by-le-length, sum_by_push}
 use Rattle.polis_base.specs.Lists.{upto}
 use Rattle.domains.specs.Tables.{product}
-use Rattle.journals.proofs.MomentsAfter.{get_or-table, length-table, length-upto}
+use Rattle.journals.proofs.MomentsAfter.{get_or_table, length_table, length_upto}
 use Rattle.transition_table.specs.declared.machine.Machine.{Machine}
 use Rattle.table_use.specs.inner.Boxes.{all_flags, allowed, both_allow, flags_of, passing, passing_idle}
 use Rattle.table_use.proofs.Covered.{table_at}
@@ -17,7 +17,7 @@ same_item x y h = cc
 pub flags_long : (m : Machine) (all : List (List (List Bool))) → all ≡ all_flags m
     → length all ≡ length m.rows
 flags_long m all is =
-    ap (λ (l : List (List (List Bool))). length l) is ∙ length-table (flags_of m) (length m.rows)
+    ap (λ (l : List (List (List Bool))). length l) is ∙ length_table (flags_of m) (length m.rows)
 
 pub flags_at : (m : Machine) (all : List (List (List Bool))) (r : ℕ) (row : List (List Bool))
     → all ≡ all_flags m → r < length m.rows → slice_get all r ≡ Some row → row ≡ flags_of m r
@@ -30,7 +30,7 @@ pub row_long : (m : Machine) (r : ℕ) (row : List (List Bool)) → row ≡ flag
     → length row ≡ length m.vars
 row_long m r row is =
     ap (λ (l : List (List Bool)). length l) is
-    ∙ length-table (λ var. map (allowed m r var) (upto (slice_index m.vars var))) (length m.vars)
+    ∙ length_table (λ var. map (allowed m r var) (upto (slice_index m.vars var))) (length m.vars)
 
 pub own_at : (m : Machine) (r var : ℕ) (row : List (List Bool)) (flags : List Bool)
     → row ≡ flags_of m r → var < length m.vars → slice_get row var ≡ Some flags
@@ -51,14 +51,14 @@ pub row_flags_long : (m : Machine) (r var : ℕ) (flags : List Bool)
     → flags ≡ map (allowed m r var) (upto (slice_index m.vars var))
     → length flags ≡ slice_index m.vars var
 row_flags_long m r var flags is =
-    ap (λ (l : List Bool). length l) is ∙ length-table (allowed m r var) (slice_index m.vars var)
+    ap (λ (l : List Bool). length l) is ∙ length_table (allowed m r var) (slice_index m.vars var)
 
 -- ---- codes that both allow
 
 pub codes_most : (test : ℕ → Bool) (n count : ℕ) → count ≡ count_by test (upto n) → count ≤ n
 codes_most test n count is =
     let most = count_by-le-length test (upto n) in
-    let long = length-upto n in
+    let long = length_upto n in
     omega arith
 
 pub one_most : (b : Bool) (x : ℕ) → x ≡ cond b 1 0 → x ≤ 1
@@ -81,10 +81,10 @@ both_at m r k var code more one other a b low is =
     is
     ∙ ap (λ (l : List Bool). cond (get_or l code false && get_or other code false) 1 0) a
     ∙ ap (λ (x : Bool). cond (x && get_or other code false) 1 0)
-    (get_or-table (allowed m r var) size code false low)
+    (get_or_table (allowed m r var) size code false low)
     ∙ ap (λ (l : List Bool). cond (allowed m r var code && get_or l code false) 1 0) b
     ∙ ap (λ (x : Bool). cond (allowed m r var code && x) 1 0)
-    (get_or-table (allowed m k var) size code false low)
+    (get_or_table (allowed m k var) size code false low)
 
 pub codes_more : (m : Machine) (r k var code count more : ℕ) (one other : List Bool)
     → one ≡ map (allowed m r var) (upto (slice_index m.vars var))

@@ -8,7 +8,7 @@ mod Covered
 mod Pushed
 mod Walked
 mod Repeats
-mod Written
+pub mod Written
 mod InNetwork
 mod Named
 mod ListCounts

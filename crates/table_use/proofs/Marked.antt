@@ -5,8 +5,8 @@ use Rattle.std.proofs.lemmas.Bool.{and_from, and_parts, cases_Bool, cases_eq, ca
 use Rattle.std.proofs.lemmas.List.{get_or-set_other, get_or-set_same, length-map, length-set}
 use Rattle.polis_base.proofs.Lists.{all_append}
 use Rattle.domains.specs.Tables.{fits}
-use Rattle.domains.proofs.Ranks.{length-fits}
-use Rattle.journals.proofs.MomentsAfter.{length-table}
+use Rattle.domains.proofs.Ranks.{length_fits}
+use Rattle.journals.proofs.MomentsAfter.{length_table}
 use Rattle.outcome_table.proofs.ListMaps.{all_get}
 use Rattle.outcome_table.proofs.Rows.{fits_set}
 use Rattle.transition_table.specs.declared.machine.Machine.{Machine}
@@ -87,7 +87,7 @@ still_seen : (m : Machine) (s : List ℕ) (point : Point) → fits m.vars s ≡ 
     → is_seen m (slice_set s point.var point.code) ≡ true
 still_seen m s point fit kept seen =
     let parts = kept_parts m point kept in
-    let long = length-fits m.vars s fit in
+    let long = length_fits m.vars s fit in
     let v = point.var in
     let c = point.code in
     let inside = parts.var in
@@ -117,7 +117,7 @@ module _ (m : Machine) (s : List ℕ) (v c : ℕ) (fit : fits m.vars s ≡ true)
       → allowed m r v c ≡ true → enables m r (slice_set s v c) ≡ true
   still_enabled r low on allows =
       let there = row_stands m.rows r low in
-      let long = length-fits m.vars s fit in
+      let long = length_fits m.vars s fit in
       let size : length (slice_set s v c) ≡ length s = length-set s v c in
       let was : passes (allowed m r) 0 s ≡ true =
       sym (enables_inside m r there.0 s there.1 fit) ∙ on in
@@ -139,7 +139,7 @@ module _ (m : Machine) (s : List ℕ) (v c : ℕ) (fit : fits m.vars s ≡ true)
       → enables m k (slice_set s v c) ≡ false
   not_enabled k low lacks =
       let there = row_stands m.rows k low in
-      let long = length-fits m.vars s fit in
+      let long = length_fits m.vars s fit in
       let size : length (slice_set s v c) ≡ length s = length-set s v c in
       let is = enables_inside m k there.0 (slice_set s v c) there.1
       (fits_set m.vars s v c fit code) in
@@ -181,7 +181,7 @@ pub marks_long : (m : Machine) (marks : List (List Bool)) (i r : ℕ) → AreMar
     → r < length m.rows → i < length marks
 marks_long m marks i r are at low =
     let long = ap (λ (l : List (List Bool)). length l) are.each
-    ∙ length-table (λ k. map (mark m k) are.points) (length m.rows) in
+    ∙ length_table (λ k. map (mark m k) are.points) (length m.rows) in
     omega arith
 
 pub marks_at : (m : Machine) (marks : List (List Bool)) (i r : ℕ) (one : List Bool)

@@ -3,7 +3,7 @@ use Rattle.std.proofs.Common.{◌≡◌, ℕ, zero, suc, ◌+◌, ◌*◌, ◌<�
 use Rattle.std.proofs.Math.Seq.{drop-cons}
 use Rattle.std.proofs.lemmas.Bool.{and_parts, false≢true}
 use Rattle.domains.specs.Tables.{are_sizes, fits, product, rank}
-use Rattle.domains.proofs.Ranks.{length-fits, ranks_below}
+use Rattle.domains.proofs.Ranks.{length_fits, ranks_below}
 use Rattle.outcome_table.proofs.Columns.{product_after, product_here}
 use Rattle.std.proofs.Math.Nat.{mul_comm}
 use Rattle.std.proofs.lemmas.Option.{get_or_from_slice_get}
@@ -59,7 +59,7 @@ pub rank_step : (sizes codes : List ℕ) (i v code step number : ℕ) → fits s
     → number ≡ rank (drop v sizes) (drop v codes) → step ≡ product (drop v sizes)
     → number + code * step ≡ rank (drop i sizes) (drop i codes)
 rank_step sizes codes i v code step number fit next low at is steps =
-    let long = length-fits sizes codes fit in
+    let long = length_fits sizes codes fit in
     let sum : code * step + number
     ≡ slice_index codes i * product (drop (i + 1) sizes)
     + rank (drop (i + 1) sizes) (drop (i + 1) codes) =

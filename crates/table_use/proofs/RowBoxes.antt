@@ -8,7 +8,7 @@ use Rattle.polis_base.proofs.AllPass.{all_pass}
 use Rattle.domains.specs.AllCodes.{all_codes}
 use Rattle.domains.specs.Tables.{fits}
 use Rattle.domains.proofs.AllCodes.{lists_fit}
-use Rattle.domains.proofs.Ranks.{length-fits}
+use Rattle.domains.proofs.Ranks.{length_fits}
 use Rattle.transition_table.specs.MachineFacts.{names_codes, names_result}
 use Rattle.transition_table.specs.Transitions.{allows, holds}
 use Rattle.transition_table.specs.inner.Masks.{allows_code, row_allows}
@@ -103,7 +103,7 @@ row_inside vars s row named fit =
     same_bool (list_all (allows s) row.conds) (passes (row_allows vars row) 0 s)
     (λ on.
     each_passes (row_allows vars row) 0 s (λ v low.
-    let size = length-fits vars s fit in
+    let size = length_fits vars s fit in
     let e : 0 + v ≡ v = omega arith in
     ap (λ (k : ℕ). row_allows vars row k (slice_index s v)) e
     ∙ and_from (nat_lt (slice_index s v) (slice_index vars v))
@@ -113,7 +113,7 @@ row_inside vars s row named fit =
     on)))
     (λ inside.
     all_allow vars s row.conds named (λ v low.
-    let size = length-fits vars s fit in
+    let size = length_fits vars s fit in
     let e : v ≡ 0 + v = omega arith in
     (and_parts (nat_lt (slice_index s v) (slice_index vars v))
     (list_all (allows_code v (slice_index s v)) row.conds)

@@ -6,7 +6,7 @@ use Rattle.polis_base.specs.Lists.{upto}
 use Rattle.domains.specs.AllCodes.{all_codes}
 use Rattle.domains.specs.Tables.{product}
 use Rattle.domains.proofs.AllCodes.{counts_all}
-use Rattle.journals.proofs.MomentsAfter.{length-upto}
+use Rattle.journals.proofs.MomentsAfter.{length_upto}
 use Rattle.transition_table.specs.declared.machine.Machine.{Machine}
 use Rattle.transition_table.proofs.Rows.{machine_sizes}
 use Rattle.table_use.specs.Lint.{seen_ones}
@@ -34,7 +34,7 @@ product_of_all : (n : ℕ) (sizes : List ℕ) → passing any_code n sizes ≡ p
 product_of_all n [] = refl
 product_of_all n (size ∷ sizes) =
     ap (λ (k : ℕ). k * passing any_code (n + 1) sizes)
-    (all_count (upto size) ∙ length-upto size)
+    (all_count (upto size) ∙ length_upto size)
     ∙ ap (λ (k : ℕ). size * k) (product_of_all (n + 1) sizes)
 
 idle_of_all : (k n : ℕ) (sizes : List ℕ)

@@ -11,7 +11,7 @@ use Rattle.domains.specs.Names.{is_same}
 use Rattle.domains.specs.Tables.{fits}
 use Rattle.domains.proofs.AllCodes.{lists_all, lists_fit}
 use Rattle.domains.proofs.Names.{same_self}
-use Rattle.domains.proofs.Ranks.{length-fits}
+use Rattle.domains.proofs.Ranks.{length_fits}
 use Rattle.outcome_table.proofs.Rows.{fits_set}
 use Rattle.transition_table.specs.Computed.{result_codes}
 use Rattle.transition_table.specs.declared.machine.Machine.{Machine}
@@ -116,7 +116,7 @@ differs_turned m x low some =
     let v = length m.inputs + x in
     let found = has_seen m (differs m x) some in
     let s = found.one in
-    let long = length-fits m.vars s found.fit in
+    let long = length_fits m.vars s found.fit in
     let parts = vars_length m in
     let below = below_size m.vars s v found.fit (omega arith) in
     seen_has m (turns m x) s found.fit found.seen

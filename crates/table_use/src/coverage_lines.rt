@@ -99,8 +99,8 @@ fn push_untaken_rows(rows: &List<Tally>, into: &mut Bytes) -> Result<(), NoMemor
     Ok(())
 }
 
-// Appends `never M N : K K K`, where there are rows that aren't taken.
-fn push_never(machine: &Machine, rows: &List<Tally>, into: &mut Bytes) -> Result<(), NoMemory>
+/// Appends `never M N : K K K`, where there are rows that aren't taken.
+pub fn push_never(machine: &Machine, rows: &List<Tally>, into: &mut Bytes) -> Result<(), NoMemory>
     ensures { OnOk result (into.new ≡ into.old ++ never_line machine.now rows.now) }
 {
     let count = untaken_count(rows);

@@ -20,7 +20,7 @@ mod walk;
 mod worked;
 
 pub use cover::{Memos, Tables, coverage, coverage_by, coverage_with, memos_of, tables_of};
-pub use coverage_lines::push_coverage;
+pub use coverage_lines::{push_coverage, push_never};
 pub use domain_use::{push_unused_domain, unused_domains};
 pub use finding::{Found, InputLint, MachineLint, RowLint};
 pub use law::laws;

@@ -14,7 +14,7 @@ use Rattle.sgraph.specs.Walks.{outcome_with, width_of}
 use Rattle.task_machine.proofs.Executed.{IsRunnable, Going, going_start, going_on, going_ends}
 use Rattle.sgraph.proofs.Outcomes.{mk, drop_more, long_results}
 use Rattle.sgraph.proofs.GraphOf.{long_zeros}
-use Rattle.domains.proofs.Ranks.{length-fits}
+use Rattle.domains.proofs.Ranks.{length_fits}
 use Rattle.transition_table.proofs.Ranges.{below_size}
 
 there : (c : List Instr) (k : ℕ) (i : Instr) → slice_get c k ≡ Some i → k < length c
@@ -32,7 +32,7 @@ runnable c s o ok one = record { some = ok.some; each = λ k i is. may k i is (o
         let test = one.code.tests k var targets is in
         let low : var < length one.machine.vars = test.0 in
         let count : length targets ≡ slice_index one.machine.vars var = test.1 in
-        let long = length-fits one.machine.vars s.codes one.snapshot in
+        let long = length_fits one.machine.vars s.codes one.snapshot in
         let code = below_size one.machine.vars s.codes var one.snapshot low in
         let to = fit.1 (slice_index s.codes var) (omega arith) in
         (omega arith, omega arith, to.0, to.1)

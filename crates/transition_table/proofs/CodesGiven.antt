@@ -16,50 +16,50 @@ use Rattle.transition_table.proofs.Ranges.{source_below}
 use Rattle.polis_base.proofs.Lists.{all_append}
 
 -- the codes of one more result
-codes_given-last : (m : Machine) (codes : List ℕ) (acts : List Act) (first n : ℕ)
+codes_given_last : (m : Machine) (codes : List ℕ) (acts : List Act) (first n : ℕ)
     → codes_given m codes acts first (suc n)
     ≡ codes_given m codes acts first n ++ code_given m codes acts (first + n) ∷ []
-codes_given-last m codes acts first n =
+codes_given_last m codes acts first n =
     map-append (λ k. code_given m codes acts (first + k)) (upto n) (n ∷ [])
 
-pub length-codes_given : (m : Machine) (codes : List ℕ) (acts : List Act) (first n : ℕ)
+pub length_codes_given : (m : Machine) (codes : List ℕ) (acts : List Act) (first n : ℕ)
     → length (codes_given m codes acts first n) ≡ n
-length-codes_given m codes acts first zero = refl
-length-codes_given m codes acts first (suc n) =
-    ap length (codes_given-last m codes acts first n)
+length_codes_given m codes acts first zero = refl
+length_codes_given m codes acts first (suc n) =
+    ap length (codes_given_last m codes acts first n)
     ∙ length_push (codes_given m codes acts first n) (code_given m codes acts (first + n))
-    ∙ rw (length-codes_given m codes acts first n, add-one) refl
+    ∙ rw (length_codes_given m codes acts first n, add-one) refl
 
 -- the codes of two runs of results, one after the other
-pub codes_given-append : (m : Machine) (codes : List ℕ) (acts : List Act) (first n k : ℕ)
+pub codes_given_append : (m : Machine) (codes : List ℕ) (acts : List Act) (first n k : ℕ)
     → codes_given m codes acts first n ++ codes_given m codes acts (first + n) k
     ≡ codes_given m codes acts first (n + k)
-codes_given-append m codes acts first n zero =
+codes_given_append m codes acts first n zero =
     let e : n ≡ n + 0 = omega arith in
     append-nil (codes_given m codes acts first n)
     ∙ ap (λ (j : ℕ). codes_given m codes acts first j) e
-codes_given-append m codes acts first n (suc k) =
+codes_given_append m codes acts first n (suc k) =
     let prefix = codes_given m codes acts first n in
     let more : suc (n + k) ≡ n + suc k = omega arith in
     let last : first + n + k ≡ first + (n + k) = omega arith in
-    ap (λ (xs : List ℕ). prefix ++ xs) (codes_given-last m codes acts (first + n) k)
+    ap (λ (xs : List ℕ). prefix ++ xs) (codes_given_last m codes acts (first + n) k)
     ∙ sym (append_assoc prefix (codes_given m codes acts (first + n) k)
     (code_given m codes acts (first + n + k) ∷ []))
     ∙ ap (λ (xs : List ℕ). xs ++ code_given m codes acts (first + n + k) ∷ [])
-    (codes_given-append m codes acts first n k)
+    (codes_given_append m codes acts first n k)
     ∙ ap (λ (y : ℕ). codes_given m codes acts first (n + k) ++ code_given m codes acts y ∷ []) last
-    ∙ sym (codes_given-last m codes acts first (n + k))
+    ∙ sym (codes_given_last m codes acts first (n + k))
     ∙ ap (λ (j : ℕ). codes_given m codes acts first j) more
 
-codes_given-first : (m : Machine) (codes : List ℕ) (acts : List Act) (first n : ℕ)
+codes_given_first : (m : Machine) (codes : List ℕ) (acts : List Act) (first n : ℕ)
     → codes_given m codes acts first (suc n)
     ≡ code_given m codes acts first ∷ codes_given m codes acts (suc first) n
-codes_given-first m codes acts first n =
+codes_given_first m codes acts first n =
     let more : suc n ≡ 1 + n = omega arith in
     let own : first + 0 ≡ first = omega arith in
     let next : first + 1 ≡ suc first = omega arith in
     ap (λ (j : ℕ). codes_given m codes acts first j) more
-    ∙ sym (codes_given-append m codes acts first 1 n)
+    ∙ sym (codes_given_append m codes acts first 1 n)
     ∙ ap (λ (y : ℕ). code_given m codes acts y ∷ codes_given m codes acts (first + 1) n) own
     ∙ ap (λ (y : ℕ). code_given m codes acts first ∷ codes_given m codes acts y n) next
 
@@ -97,7 +97,7 @@ fits_given m codes [] acts first below = refl
 fits_given m codes (size ∷ sizes) acts first below =
     let own : first + 0 ≡ first = omega arith in
     let prefix : code_given m codes acts first < size = rw own at (below 0 (omega arith)) in
-    rw (codes_given-first m codes acts first (length sizes))
+    rw (codes_given_first m codes acts first (length sizes))
     (both_true
     (lt-ltb (code_given m codes acts first) size prefix)
     (fits_given m codes sizes acts (suc first) (λ (k : ℕ) (h : k < length sizes).
@@ -159,7 +159,7 @@ pub outcome_fits : (m : Machine) (codes : List ℕ) (acts : List Act) → fits m
     → fits (drop 1 m.results) (codes_given m codes acts 1 (length m.states)
     ++ codes_given m codes acts (1 + length m.states) (length m.outputs)) ≡ true
 outcome_fits m codes acts fit named =
-    rw (codes_given-append m codes acts 1 (length m.states) (length m.outputs))
+    rw (codes_given_append m codes acts 1 (length m.states) (length m.outputs))
     (given_fits m codes m.results acts (length m.states + length m.outputs) (results_length m)
     (λ y below. given_below m codes acts y fit named
     (all_at m.results y (results_some m) below)))

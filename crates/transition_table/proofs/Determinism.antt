@@ -12,7 +12,7 @@ use Rattle.transition_table.specs.declared.machine.Machine.{Machine}
 use Rattle.transition_table.specs.declared.snapshot.Snapshot.{Snapshot}
 use Rattle.transition_table.specs.declared.snapshot.Outcome.{Outcome}
 use Rattle.transition_table.proofs.Ranges.{acts_of, row_there, is_present}
-use Rattle.transition_table.proofs.CodesGiven.{outcome_fits, length-codes_given}
+use Rattle.transition_table.proofs.CodesGiven.{outcome_fits, length_codes_given}
 use Rattle.transition_table.proofs.Rows.{past_rows, blank_of}
 
 pub one_row : OneRow
@@ -97,8 +97,8 @@ acts_named inputs vars results (row ∷ rows) (suc r) h =
 
 widths_of : (m : Machine) (r : ℕ) (s : Snapshot) → HasWidths m (result m r s)
 widths_of m r s = record {
-  next = length-codes_given m s.codes (actions (slice_get m.rows r)) 1 (length m.states);
-  outs = length-codes_given m s.codes (actions (slice_get m.rows r)) (1 + length m.states)
+  next = length_codes_given m s.codes (actions (slice_get m.rows r)) 1 (length m.states);
+  outs = length_codes_given m s.codes (actions (slice_get m.rows r)) (1 + length m.states)
       (length m.outputs);
 }
 
@@ -107,8 +107,8 @@ have_widths m s o (inl h) = subst (HasWidths m) (sym h.2) (widths_of m h.0 s)
 have_widths m s o (inr h) =
     let widths : HasWidths m (outcome_of m s.codes false []) =
     record {
-      next = length-codes_given m s.codes [] 1 (length m.states);
-      outs = length-codes_given m s.codes [] (1 + length m.states) (length m.outputs);
+      next = length_codes_given m s.codes [] 1 (length m.states);
+      outs = length_codes_given m s.codes [] (1 + length m.states) (length m.outputs);
     } in
     subst (HasWidths m) (blank_of m s.codes ∙ sym h.1) widths
 

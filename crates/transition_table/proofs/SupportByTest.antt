@@ -17,7 +17,7 @@ use Rattle.transition_table.specs.Laws.{CharByTest, SupportByTest, SameOnSupport
 use Rattle.transition_table.specs.Orders.{Char, Support, codes_of}
 use Rattle.transition_table.proofs.Computed.{outcome_by_rows, only_by_rows}
 use Rattle.transition_table.proofs.Ranges.{below_size}
-use Rattle.transition_table.proofs.Rows.{length-fits}
+use Rattle.transition_table.proofs.Rows.{length_fits}
 use Rattle.polis_base.proofs.Lists.{take_prefix, drop_prefix, none_all, some_item, none_upto, all_below}
 use Rattle.domains.proofs.Names.{same_self}
 
@@ -113,8 +113,8 @@ put_same lists_all m y (suc k) s t h fit_s fit_t agree =
 pub same_on_support : ListsAll → SameOnSupport
 same_on_support lists_all m y s t fit_s fit_t agree =
     let n = length m.vars in
-    let long_s = length-fits m.vars s fit_s in
-    let long_t = length-fits m.vars t fit_t in
+    let long_s = length_fits m.vars s fit_s in
+    let long_t = length_fits m.vars t fit_t in
     let long = put_long n s t in
     let whole : put n s t ≡ t =
     same_number_lists (put n s t) t (omega arith)
@@ -160,7 +160,7 @@ char_by_test m list sure fit = (to, from)
         let s = h.0 in
         let same : h.1 ≡ outcome_by m m.rows s = only_by_rows m s h.1 sure h.2 h.3 in
         let e : list ≡ s ++ result_codes m s = h.4 ∙ ap (λ (o : Outcome). s ++ codes_of o) same in
-        ap (char m) e ∙ char_there m s (length-fits m.vars s h.2)
+        ap (char m) e ∙ char_there m s (length_fits m.vars s h.2)
 
 differs : (a b : ℕ) → not (a == b) ≡ true → a ≢ b
 differs a b h same = true≢false (sym h ∙ ap not (eq-eqb a b same))
@@ -195,8 +195,8 @@ support_by_test lists_fit lists_all m y v sure low = (to, from)
     from : Support m y v → supports m y v ≡ true
     from h =
         true_from_ne_false (supports m y v) (λ off.
-        let long_one = length-fits m.vars h.one h.fits_one in
-        let long_other = length-fits m.vars h.other h.fits_other in
+        let long_one = length_fits m.vars h.one h.fits_one in
+        let long_other = length_fits m.vars h.other h.fits_other in
         let c = slice_index h.one v in
         let long = length-set h.other v c in
         let whole : slice_set h.other v c ≡ h.one =

@@ -4,7 +4,7 @@ use Rattle.std.specs.List.{list_all}
 use Rattle.std.specs.Int.{bit_at}
 use Rattle.std.proofs.lemmas.Bool.{ltb-true}
 use Rattle.domains.specs.Tables.{fits}
-use Rattle.transition_table.proofs.Rows.{length-fits}
+use Rattle.transition_table.proofs.Rows.{length_fits}
 use Rattle.polis_base.proofs.Names.{left_true}
 use Rattle.transition_table.specs.samples.Clash.{clash_machine}
 use Rattle.transition_table.specs.samples.Echo.{echo_machine}
@@ -25,23 +25,23 @@ lamp_pressed = record {
   transition = inl (0, refl, refl);
 }
 
-lamp_on-none : (row : ℕ) → is_enabled lamp_machine row (reading (1 ∷ 1 ∷ [])) ≡ false
-lamp_on-none zero = refl
-lamp_on-none (suc row) = refl
+lamp_on_none : (row : ℕ) → is_enabled lamp_machine row (reading (1 ∷ 1 ∷ [])) ≡ false
+lamp_on_none zero = refl
+lamp_on_none (suc row) = refl
 
 pub lamp_on : Idles lamp_machine (1 ∷ 1 ∷ [])
-lamp_on = record { snapshot = refl; none = lamp_on-none; transition = inr (lamp_on-none, refl) }
+lamp_on = record { snapshot = refl; none = lamp_on_none; transition = inr (lamp_on_none, refl) }
 
-lamp_unpressed-none : (row : ℕ) → is_enabled lamp_machine row (reading (0 ∷ 0 ∷ [])) ≡ false
-lamp_unpressed-none zero = refl
-lamp_unpressed-none (suc row) = refl
+lamp_unpressed_none : (row : ℕ) → is_enabled lamp_machine row (reading (0 ∷ 0 ∷ [])) ≡ false
+lamp_unpressed_none zero = refl
+lamp_unpressed_none (suc row) = refl
 
 pub lamp_unpressed : Idles lamp_machine (0 ∷ 0 ∷ [])
 lamp_unpressed =
     record {
       snapshot = refl;
-      none = lamp_unpressed-none;
-      transition = inr (lamp_unpressed-none, refl);
+      none = lamp_unpressed_none;
+      transition = inr (lamp_unpressed_none, refl);
     }
 
 pub loop_first : Fires loop_machine (1 ∷ 0 ∷ 0 ∷ []) 0 (2 ∷ []) (1 ∷ [])
@@ -68,14 +68,14 @@ loop_third = record {
   transition = inl (2, refl, refl);
 }
 
-loop_end-none : (row : ℕ) → is_enabled loop_machine row (reading (1 ∷ 1 ∷ 3 ∷ [])) ≡ false
-loop_end-none zero = refl
-loop_end-none (suc zero) = refl
-loop_end-none (suc (suc zero)) = refl
-loop_end-none (suc (suc (suc row))) = refl
+loop_end_none : (row : ℕ) → is_enabled loop_machine row (reading (1 ∷ 1 ∷ 3 ∷ [])) ≡ false
+loop_end_none zero = refl
+loop_end_none (suc zero) = refl
+loop_end_none (suc (suc zero)) = refl
+loop_end_none (suc (suc (suc row))) = refl
 
 pub loop_end : Idles loop_machine (1 ∷ 1 ∷ 3 ∷ [])
-loop_end = record { snapshot = refl; none = loop_end-none; transition = inr (loop_end-none, refl) }
+loop_end = record { snapshot = refl; none = loop_end_none; transition = inr (loop_end_none, refl) }
 
 pub value_five : Fires value_machine (6 ∷ []) 0 [] (1 ∷ [])
 value_five = record {
@@ -85,15 +85,15 @@ value_five = record {
   transition = inl (0, refl, refl);
 }
 
-value_four-none : (row : ℕ) → is_enabled value_machine row (reading (5 ∷ [])) ≡ false
-value_four-none zero = refl
-value_four-none (suc row) = refl
+value_four_none : (row : ℕ) → is_enabled value_machine row (reading (5 ∷ [])) ≡ false
+value_four_none zero = refl
+value_four_none (suc row) = refl
 
 pub value_four : Idles value_machine (5 ∷ [])
 value_four = record {
   snapshot = refl;
-  none = value_four-none;
-  transition = inr (value_four-none, refl);
+  none = value_four_none;
+  transition = inr (value_four_none, refl);
 }
 
 pub clash : Conflict clash_machine 0 2 (reading (1 ∷ 1 ∷ []))
@@ -109,7 +109,7 @@ clash = record {
 one_code : (xs : List ℕ) → fits (9 ∷ []) xs ≡ true
     → list_all (allows xs) (has_codes 0 4 ∷ []) ≡ true → xs ≡ 2 ∷ []
 one_code [] fit held = cc
-one_code (x ∷ y ∷ xs) fit held = let long = length-fits (9 ∷ []) (x ∷ y ∷ xs) fit in
+one_code (x ∷ y ∷ xs) fit held = let long = length_fits (9 ∷ []) (x ∷ y ∷ xs) fit in
     absurd (omega arith)
 one_code (x ∷ []) fit held =
     pick x (ltb-true x 9 (left_true (nat_lt x 9) true fit)) (left_true (bit_at 4 x == 1) true held)
@@ -134,15 +134,15 @@ echo_six = record {
   transition = inl (0, refl, refl);
 }
 
-echo_absent-none : (row : ℕ) → is_enabled echo_machine row (reading (0 ∷ 6 ∷ [])) ≡ false
-echo_absent-none zero = refl
-echo_absent-none (suc row) = refl
+echo_absent_none : (row : ℕ) → is_enabled echo_machine row (reading (0 ∷ 6 ∷ [])) ≡ false
+echo_absent_none zero = refl
+echo_absent_none (suc row) = refl
 
 pub echo_absent : Idles echo_machine (0 ∷ 6 ∷ [])
 echo_absent = record {
   snapshot = refl;
-  none = echo_absent-none;
-  transition = inr (echo_absent-none, refl);
+  none = echo_absent_none;
+  transition = inr (echo_absent_none, refl);
 }
 
 pub differing : Conflict differing_machine 0 1 (reading (2 ∷ []))

@@ -28,7 +28,7 @@ use Rattle.polis_base.proofs.Lists.{all_below}
 use Rattle.std.proofs.lemmas.Option.{slice_get_within}
 use Rattle.wave_text.proofs.MachineSignals.{snapshot_signals_many}
 use Rattle.event_accounts.proofs.InputsOf.{inputs_of_machine}
-use Rattle.journals.proofs.MomentsAfter.{length-table, last_of_push}
+use Rattle.journals.proofs.MomentsAfter.{length_table, last_of_push}
 use Rattle.event_accounts.proofs.OneItemMore.{flat_map_push}
 use Rattle.journals.proofs.EntriesAt.{prefix_more}
 use Rattle.wave_text.proofs.CodesEmitted.{code_by, code_by_place, code_sent, emits_is, sent_once}
@@ -286,7 +286,7 @@ before_many net journal m before was =
     ∙ length-append (map (buffered journal m) (inputs_of net m))
     (map (state net journal m) (upto (length (states_of net m))))
     ∙ (let a = length-map (inputs_of net m) (buffered journal m) in
-    let b = length-table (state net journal m) (length (states_of net m)) in
+    let b = length_table (state net journal m) (length (states_of net m)) in
     let c = snapshot_signals_many net m in omega arith)
 
 -- the parts of an entry that emits nothing

@@ -32,7 +32,7 @@ use Rattle.wave_text.specs.declared.signal.Signal.TheVariants.{Input, State, Los
 use Rattle.wave_text.proofs.EntryChanges.{filter_below, out_below}
 use Rattle.wave_text.proofs.MachineSignals.{states_of_machine}
 use Rattle.event_accounts.proofs.OneItemMore.{flat_map_push}
-use Rattle.journals.proofs.MomentsAfter.{get_or-table}
+use Rattle.journals.proofs.MomentsAfter.{get_or_table}
 
 pub journal_front : (net : Network) (journal : List Entry) (n : ℕ) → IsJournal net journal
     → IsJournal net (take n journal)
@@ -98,7 +98,7 @@ state_fits net journal m x machine h there below =
           ap (λ (n : ℕ). slice_index (snap net journal m).codes (n + x))
           (sym (length-map inputs (buffered journal m)))
           ∙ get_or-append-add front (map (state net journal m) (upto states)) x 0
-          ∙ get_or-table (state net journal m) states x 0 below in
+          ∙ get_or_table (state net journal m) states x 0 below in
           let limit : slice_index machine.vars i ≡ width variable =
           ap (λ (l : List ℕ). slice_index l i) (vars_are net m machine there)
           ∙ ap (λ (n : ℕ). slice_index (map size machine.inputs ++ map width machine.states)

@@ -8,7 +8,7 @@ use Rattle.transition_table.specs.declared.network.Network.{Network}
 use Rattle.journals.specs.Journals.{inputs_of, states_of}
 use Rattle.wave_text.specs.Signals.{snapshot_signals, loss_signals}
 use Rattle.wave_text.specs.declared.signal.Signal.TheVariants.{Input, State, Loss}
-use Rattle.journals.proofs.MomentsAfter.{length-table}
+use Rattle.journals.proofs.MomentsAfter.{length_table}
 
 pub states_of_machine : (net : Network) (m : ℕ) (machine : Machine)
     → slice_get net.machines m ≡ Some machine
@@ -22,7 +22,7 @@ snapshot_signals_many net m =
     let states = length (states_of net m) in
     let a = length-append (map (Input m) (inputs_of net m)) (map (State m) (upto states)) in
     let b = length-map (inputs_of net m) (Input m) in
-    let c = length-table (State m) states in
+    let c = length_table (State m) states in
     omega arith
 
 pub loss_signals_many : (net : Network) (m : ℕ)

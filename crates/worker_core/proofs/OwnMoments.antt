@@ -23,7 +23,7 @@ use Rattle.journals.specs.Reactions.{outcome_on, outcome_in, reaction}
 use Rattle.journals.specs.Laws.{MovesMoment, MovesWaking, GivesTransition}
 use Rattle.worker_core.specs.Parts.{own_moments}
 use Rattle.worker_core.specs.inner.Parts.{ends_in_delivery}
-use Rattle.journals.proofs.MomentsAfter.{length-table, set-table, get_or-table}
+use Rattle.journals.proofs.MomentsAfter.{length_table, set_table, get_or_table}
 use Rattle.journals.proofs.StampSteps.{entries_more}
 
 -- ---- the last of a list
@@ -41,14 +41,14 @@ last_at f d (y ∷ z ∷ ys) (suc i) x e at = last_at f (f y) (z ∷ ys) i x (om
 pub length_own : (net : Network) (logs : List (List Stamped))
     → length (own_moments net logs) ≡ length net.machines
 length_own net logs =
-    length-table (λ m. snap net (entries (get_or logs m [])) m) (length net.machines)
+    length_table (λ m. snap net (entries (get_or logs m [])) m) (length net.machines)
 
 pub own_moment : (net : Network) (logs : List (List Stamped)) (moments : List Snapshot) (m : ℕ)
     (s : Snapshot) → moments ≡ own_moments net logs → m < length net.machines
     → slice_get moments m ≡ Some s → s ≡ snap net (entries (get_or logs m [])) m
 own_moment net logs moments m s are below at =
     sym (get_or_from_slice_get moments m s s at) ∙ ap (λ (l : List Snapshot). get_or l m s) are
-    ∙ get_or-table (λ m. snap net (entries (get_or logs m [])) m) (length net.machines) m s below
+    ∙ get_or_table (λ m. snap net (entries (get_or logs m [])) m) (length net.machines) m s below
 
 pub moments_added : (net : Network) (logs : List (List Stamped)) (moments : List Snapshot) (m : ℕ)
     (x : Stamped) (machine : Machine) (before s : Snapshot)
@@ -72,7 +72,7 @@ moments_added net logs moments m x machine before s moves below inside are own a
     (ap (slice_get net.machines) own ∙ at) old codes in
     let here : get_or new m [] ≡ log ++ x ∷ [] = get_or-set_same logs m (log ++ x ∷ []) [] inside in
     ap (λ (l : List Snapshot). set l m s) are
-    ∙ set-table (λ k. snap net (entries (get_or logs k [])) k)
+    ∙ set_table (λ k. snap net (entries (get_or logs k [])) k)
     (λ k. snap net (entries (get_or new k [])) k) (length net.machines) m s below
     (ap (λ l. snap net (entries l) m) here ∙ ap (λ j. snap net j m) (entries_more log x)
     ∙ sym (is ∙ ap (snap net (entries log ++ entry ∷ [])) own))

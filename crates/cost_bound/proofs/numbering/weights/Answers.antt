@@ -1,6 +1,6 @@
 use Rattle.std.proofs.Common.{◌≡◌, ◌+◌, ◌-◌, ◌*◌, ◌<◌, ◌∙◌, ℕ, arith, length, slice_index, subst, sym}
 use Rattle.std.proofs.lemmas.Option.{get_or_from_slice_get}
-use Rattle.cost_bound.proofs.Weights.{Weighed, weighed_more, product-drop}
+use Rattle.cost_bound.proofs.Weights.{Weighed, weighed_more, product_drop}
 use Rattle.cost_bound.proofs.numbering.weights.Goals as goal
 
 -- the invariant after the step
@@ -30,7 +30,7 @@ overflow_mul-weight c =
     omega (
       arith,
       made.weight_is,
-      product-drop c.args.vars.now (c.loop-v.v - 1) c.len.ensures.sizes,
+      product_drop c.args.vars.now (c.loop-v.v - 1) c.len.ensures.sizes,
       c.requires,
     )
 

@@ -7,7 +7,7 @@ use Rattle.event_accounts.specs.inner.Steps.{AreFew, account_after, rows_of}
 use Rattle.event_accounts.specs.declared.account.Account.{Account}
 use Rattle.journals.proofs.EntriesAt.{fits_at, prefix_more}
 use Rattle.journals.proofs.CursorsAfter.{machine_within}
-use Rattle.journals.proofs.MomentsAfter.{length-table}
+use Rattle.journals.proofs.MomentsAfter.{length_table}
 use Rattle.event_accounts.proofs.InputsOf.{inputs_of_machine}
 use Rattle.event_accounts.proofs.RowsOf.{has_code, joined_rows, row_at, row_few, row_many, row_more, row_of, rows_more}
 use Rattle.event_accounts.proofs.account.accounts.Goals as goal
@@ -27,7 +27,7 @@ index_mut-requires c =
     (fits_at net c.args.j.now c.loop-p.p c.get-entry.result.now c.requires c.get-entry.ensures) in
     let same = c.machine-m.ensures in
     let size = ap length c.loop-p.invariant
-    ∙ length-table (row_of net (take c.loop-p.p c.args.j.now)) (length net.machines) in
+    ∙ length_table (row_of net (take c.loop-p.p c.args.j.now)) (length net.machines) in
     omega arith
 
 pub count_entry-requires-clause-many : goal.count_entry-requires-clause-many

@@ -1,8 +1,8 @@
 use Rattle.std.proofs.Common.{◌≡◌, ◌∙◌, ◌++◌, [], ◌∷◌, ℕ, length, ap}
 use Rattle.polis_base.specs.Lines.{line}
-use Rattle.machine_compiler.specs.Lines.{code_length, code_tries_lines, tally_text, tries, reactions_of}
+use Rattle.machine_compiler.specs.Lines.{code_length, code_tries_line, code_tries_text, tally_text, tries, reactions_of, side_by_side}
 use Rattle.machine_compiler.proofs.AreTallies.{tally_at}
-use Rattle.machine_compiler.proofs.Pairwise.{code_tries_pairs, next_pair, three_texts}
+use Rattle.machine_compiler.proofs.Pairwise.{next_pair, side_pairs, three_texts}
 use Rattle.machine_compiler.proofs.lines.print_code_tries.Goals as goal
 
 pub loop-k-preserved : goal.loop-k-preserved
@@ -27,7 +27,7 @@ loop-k-preserved c =
     ∙ ap (λ (n : ℕ). c.loop-k.text ++ line
     (head ++ tally_text (length (reactions_of k journal)) n)) is.steps
     in
-    next_pair (λ k m c. line (code_length m c ++ tries c (reactions_of k journal)))
-    (code_tries_lines journal) (code_tries_pairs journal) net.machines r.codes k m code
-    c.loop-k.text c.push.new.self (code_tries_lines journal 0 net.machines r.codes)
-    c.loop-k.invariant there c.code.ensures.is written
+    let one = code_tries_line journal in
+    next_pair one (side_by_side one) (side_pairs one) net.machines r.codes k m code c.loop-k.text
+    c.push.new.self (code_tries_text net r.codes journal) c.loop-k.invariant there
+    c.code.ensures.is written

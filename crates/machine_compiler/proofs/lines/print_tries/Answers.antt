@@ -1,9 +1,9 @@
 use Rattle.std.proofs.Common.{◌≡◌, ◌∙◌, ◌++◌, [], ◌∷◌, ℕ, length, ap}
 use Rattle.polis_base.specs.Lines.{line}
 use Rattle.machine_compiler.specs.Parts.{part_of_compiled, parts_of}
-use Rattle.machine_compiler.specs.Lines.{lengths, tally_text, tries, tries_lines, reactions_of}
+use Rattle.machine_compiler.specs.Lines.{lengths, tally_text, tries, tries_line, tries_text, reactions_of, side_by_side}
 use Rattle.machine_compiler.proofs.AreTallies.{code_at, tally_at}
-use Rattle.machine_compiler.proofs.Pairwise.{tries_pairs, more_pairs, three_texts}
+use Rattle.machine_compiler.proofs.Pairwise.{more_pairs, side_pairs, three_texts}
 use Rattle.machine_compiler.proofs.lines.print_tries.Goals as goal
 
 pub loop-k-preserved : goal.loop-k-preserved
@@ -30,7 +30,7 @@ loop-k-preserved c =
     ∙ ap (λ (n : ℕ). c.loop-k.text ++ line
     (head ++ tally_text (length (reactions_of k journal)) n)) is.steps
     in
-    more_pairs (λ k m q. line (lengths m q ++ tries q.code (reactions_of k journal)))
-    (tries_lines journal) (tries_pairs journal) net.machines cs k m part c.loop-k.text
-    c.push.new.self (tries_lines journal 0 net.machines (parts_of cs)) c.loop-k.invariant
-    there c.get-part.ensures written
+    let one = tries_line journal in
+    more_pairs one (side_by_side one) (side_pairs one) net.machines cs k m part c.loop-k.text
+    c.push.new.self (tries_text net (parts_of cs) journal) c.loop-k.invariant there
+    c.get-part.ensures written

@@ -4,7 +4,7 @@ use Rattle.std.proofs.lemmas.Option.{slice_get-get_or}
 use Rattle.domains.specs.AllCodes.{all_codes}
 use Rattle.domains.specs.Tables.{fits}
 use Rattle.domains.proofs.AllCodes.{lists_fit}
-use Rattle.domains.proofs.Ranks.{length-fits}
+use Rattle.domains.proofs.Ranks.{length_fits}
 use Rattle.outcome_table.proofs.ListMaps.{all_get}
 use Rattle.machine_equiv.proofs.AreEqualOnes.{code_at}
 use Rattle.machine_equiv.proofs.tables.snapshot_at.Goals as goal
@@ -17,7 +17,7 @@ loop-v-preserved c =
     let point : List ℕ = get_or (all_codes vars) i [] in
     let low : v < length vars = let e = c.len-v-end.ensures.len in let t = c.loop-v-test.true in
     omega arith in
-    let long = length-fits vars point (all_get (fits vars) (all_codes vars) i point (lists_fit vars)
+    let long = length_fits vars point (all_get (fits vars) (all_codes vars) i point (lists_fit vars)
     (slice_get-get_or (all_codes vars) i [] c.requires.place)) in
     c.in_ok-push.ensures.ok
     ∙ ap (λ (xs : List ℕ). xs ++ c.get-in-loop-v.result.now ∷ []) c.loop-v.invariant
@@ -33,7 +33,7 @@ returns c =
     let v = c.loop-v.v in
     let point : List ℕ = get_or (all_codes vars) i [] in
     let there = slice_get-get_or (all_codes vars) i [] c.requires.place in
-    let long = length-fits vars point (all_get (fits vars) (all_codes vars) i point (lists_fit vars)
+    let long = length_fits vars point (all_get (fits vars) (all_codes vars) i point (lists_fit vars)
     there) in
     there
     ∙ ap (λ (xs : List ℕ). Some xs)

@@ -5,7 +5,7 @@ use Rattle.journals.specs.Moved.{moments_of}
 use Rattle.journals.specs.Outputs.{lost_after, overwrites}
 use Rattle.net_core.proofs.Losses.{overwrites_is, losses_more}
 use Rattle.journals.proofs.EntriesAt.{fits_at, suits_machine, prefix_more, moment_of}
-use Rattle.journals.proofs.MomentsAfter.{length-table, moment_width}
+use Rattle.journals.proofs.MomentsAfter.{length_table, moment_width}
 use Rattle.net_core.proofs.loss.lost.Goals.{then-overwrites, else-overwrites}
 use Rattle.journals.proofs.CursorsAfter.{machine_within}
 use Rattle.net_core.proofs.loss.lost.Goals as goal
@@ -24,7 +24,7 @@ index-requires c =
     (fits_at net c.args.j.now c.loop-i.i c.get-entry.result.now c.requires
     c.get-entry.ensures) in
     let size = ap length c.loop-i.invariant.moments_are
-    ∙ length-table (snap net (take c.loop-i.i c.args.j.now)) (length net.machines) in
+    ∙ length_table (snap net (take c.loop-i.i c.args.j.now)) (length net.machines) in
     omega arith
 
 pub index_mut-requires : goal.index_mut-requires
@@ -34,7 +34,7 @@ index_mut-requires c =
     (fits_at net c.args.j.now c.loop-i.i c.get-entry.result.now c.requires
     c.get-entry.ensures) in
     let size = ap length c.loop-i.invariant.moments_are
-    ∙ length-table (snap net (take c.loop-i.i c.args.j.now)) (length net.machines) in
+    ∙ length_table (snap net (take c.loop-i.i c.args.j.now)) (length net.machines) in
     omega arith
 
 pub move_on-requires-clause-width : goal.move_on-requires-clause-width

@@ -1,8 +1,8 @@
 use Rattle.std.proofs.lemmas.List.Concat.{flat_map_single}
 use Rattle.net_reader.specs.declared.raw.RawDomain.{RawDomain}
-use Rattle.net_names.proofs.IfOk.{IfOk-same}
+use Rattle.net_names.proofs.IfOk.{IfOk_same}
 use Rattle.net_names.proofs.names.domain_words.Goals as goal
 
 pub returns : goal.returns
-returns c = IfOk-same c.gather_all.result _ _
+returns c = IfOk_same c.gather_all.result _ _
     (flat_map_single (λ (x : RawDomain). x.name) c.args.raw.now.domains) c.gather_all.ensures

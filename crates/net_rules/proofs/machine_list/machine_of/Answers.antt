@@ -2,22 +2,22 @@ use Rattle.std.proofs.Common.{◌∙◌, ap, refl, map}
 use Rattle.std.specs.List.{list_all}
 use Rattle.transition_table.specs.MachineFacts.{are_vars, are_results, is_row, is_small}
 use Rattle.net_rules.specs.Networks.{state_of}
-use Rattle.net_rules.proofs.AllowedCodes.{declared-each}
-use Rattle.net_rules.proofs.IsSoundMachine.{small-kept}
-use Rattle.net_rules.proofs.MachineFacts.{vars-fit, results-fit, rows-fit}
-use Rattle.net_rules.proofs.NetworkFacts.{domain-count, event-count}
+use Rattle.net_rules.proofs.AllowedCodes.{declared_each}
+use Rattle.net_rules.proofs.IsSoundMachine.{small_kept}
+use Rattle.net_rules.proofs.MachineFacts.{vars_fit, results_fit, rows_fit}
+use Rattle.net_rules.proofs.NetworkFacts.{domain_count, event_count}
 use Rattle.net_rules.proofs.machine_list.machine_of.Goals as goal
 
 pub ports_of-requires : goal.ports_of-requires
-ports_of-requires c = event-count c.args.names.now.scope.now.raw.now c.requires.sound
+ports_of-requires c = event_count c.args.names.now.scope.now.raw.now c.requires.sound
 
 pub states_of-requires-clause-domains : goal.states_of-requires-clause-domains
 states_of-requires-clause-domains c =
-    domain-count c.args.names.now.scope.now.raw.now c.requires.sound
+    domain_count c.args.names.now.scope.now.raw.now c.requires.sound
 
 pub sizes_of-requires-clause-declared : goal.sizes_of-requires-clause-declared
 sizes_of-requires-clause-declared c =
-    declared-each c.args.names.now.scope.now.raw.now c.args.names.now.machine.now.states
+    declared_each c.args.names.now.scope.now.raw.now c.args.names.now.machine.now.states
     c.requires.machine.domains
 
 pub invariant_of-result : goal.invariant_of-result
@@ -34,13 +34,13 @@ invariant_of-result c =
     let vars = c.in_ok-vars.ensures.vars in
     let results = c.in_ok-vars.ensures.results in
     record {
-      sized_vars = (λ i. are_vars (ins i) (states i) (vars i)) ∙ vars-fit raw m sound kept;
+      sized_vars = (λ i. are_vars (ins i) (states i) (vars i)) ∙ vars_fit raw m sound kept;
       sized_results = (λ i. are_results (ins i) (outs i) (states i) (vars i) (results i))
-          ∙ results-fit raw m sound kept;
+          ∙ results_fit raw m sound kept;
       fitting_rows = (λ i. list_all (is_row (ins i) (vars i) (results i)) made)
-          ∙ rows-fit raw m sound kept m.rows made rows kept.rows;
+          ∙ rows_fit raw m sound kept m.rows made rows kept.rows;
       small = (λ i. is_small (ins i) (outs i) (states i) (vars i) made)
-          ∙ small-kept raw m sound kept made rows;
+          ∙ small_kept raw m sound kept made rows;
     }
 
 pub returns : goal.returns

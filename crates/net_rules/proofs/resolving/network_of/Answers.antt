@@ -9,39 +9,39 @@ use Rattle.net_reader.specs.declared.raw.RawDomain.{RawDomain}
 use Rattle.net_rules.specs.Networks.{event_of, IsDomainOf, IsMachineOf}
 use Rattle.net_names.specs.declared.machine_names.MachineNames.{MachineNames}
 use Rattle.net_rules.specs.inner.Sound.{Each, IsSound, IsSoundMachine, has_count}
-use Rattle.net_rules.proofs.NamedMachines.{each-named, zip-named}
-use Rattle.net_rules.proofs.Counts.{each-all, count-in}
-use Rattle.net_rules.proofs.HasReceivers.{receivers-kept}
-use Rattle.net_rules.proofs.Zips.{zip-long}
-use Rattle.net_rules.proofs.NetworkFacts.{domain-count, event-count, machine-count, event-names-kept, machine-names-kept, event-domains-kept, all-keep, all-senders}
+use Rattle.net_rules.proofs.NamedMachines.{each_named, zip_named}
+use Rattle.net_rules.proofs.Counts.{each_all, count_in}
+use Rattle.net_rules.proofs.HasReceivers.{receivers_kept}
+use Rattle.net_rules.proofs.Zips.{zip_long}
+use Rattle.net_rules.proofs.NetworkFacts.{domain_count, event_count, machine_count, event_names_kept, machine_names_kept, event_domains_kept, all_keep, all_senders}
 use Rattle.net_rules.proofs.resolving.network_of.Goals as goal
 
 pub domains_of-requires-clause-some : goal.domains_of-requires-clause-some
 domains_of-requires-clause-some c =
-    λ i d at. (count-in d
-    (each-all has_count c.args.scope.now.raw.now.domains c.requires.sound.counts i d
+    λ i d at. (count_in d
+    (each_all has_count c.args.scope.now.raw.now.domains c.requires.sound.counts i d
     (ap (λ l. slice_get l i) (sym c.as_slice.ensures) ∙ at))).0
 
 pub domains_of-requires-clause-few : goal.domains_of-requires-clause-few
 domains_of-requires-clause-few c =
-    λ i d at. (count-in d
-    (each-all has_count c.args.scope.now.raw.now.domains c.requires.sound.counts i d
+    λ i d at. (count_in d
+    (each_all has_count c.args.scope.now.raw.now.domains c.requires.sound.counts i d
     (ap (λ l. slice_get l i) (sym c.as_slice.ensures) ∙ at))).1
 
 pub events_of-requires-clause-domains : goal.events_of-requires-clause-domains
 events_of-requires-clause-domains c =
-    domain-count c.args.scope.now.raw.now c.requires.sound
+    domain_count c.args.scope.now.raw.now c.requires.sound
 
 pub events_of-requires-clause-machines : goal.events_of-requires-clause-machines
 events_of-requires-clause-machines c =
-    machine-count c.args.scope.now.raw.now c.requires.sound
+    machine_count c.args.scope.now.raw.now c.requires.sound
 
 pub machines_of-requires-clause-sound : goal.machines_of-requires-clause-sound
 machines_of-requires-clause-sound c =
     let raw = c.args.scope.now.raw.now in
     subst (λ l. Each (λ (n : MachineNames). IsSound n.scope.now.raw.now) l)
     (sym c.as_slice-2.ensures)
-    (each-named (λ net m. IsSound net) raw raw.machines c.args.machines.now c.requires.names
+    (each_named (λ net m. IsSound net) raw raw.machines c.args.machines.now c.requires.names
     (λ i m at. c.requires.sound))
 
 pub machines_of-requires-clause-machines : goal.machines_of-requires-clause-machines
@@ -49,7 +49,7 @@ machines_of-requires-clause-machines c =
     let raw = c.args.scope.now.raw.now in
     subst (λ l. Each (λ (n : MachineNames). IsSoundMachine n.scope.now.raw.now n.machine.now) l)
     (sym c.as_slice-2.ensures)
-    (each-named IsSoundMachine raw raw.machines c.args.machines.now c.requires.names
+    (each_named IsSoundMachine raw raw.machines c.args.machines.now c.requires.names
     c.requires.sound.machines)
 
 pub invariant_of-result : goal.invariant_of-result
@@ -63,38 +63,38 @@ invariant_of-result c =
     let events : c.in_ok-events.events ≡ map (event_of raw) raw.events =
     c.in_ok-events.ensures in
     let machines : AllZip (IsMachineOf raw) raw.machines c.in_ok-machines.machines =
-    zip-named IsMachineOf raw raw.machines c.args.machines.now c.in_ok-machines.machines
+    zip_named IsMachineOf raw raw.machines c.args.machines.now c.in_ok-machines.machines
     c.requires.names
     (subst (λ l. AllZip (λ (n : MachineNames). IsMachineOf n.scope.now.raw.now n.machine.now) l
     c.in_ok-machines.machines) c.as_slice-2.ensures c.in_ok-machines.ensures) in
-    let each = all-keep raw sound c.in_ok-domains.domains domains in
+    let each = all_keep raw sound c.in_ok-domains.domains domains in
     record {
       few_domains = omega (
         arith,
-        zip-long (λ (d : RawDomain). IsDomainOf d.shape) raw.domains
+        zip_long (λ (d : RawDomain). IsDomainOf d.shape) raw.domains
             c.in_ok-domains.domains domains,
-        domain-count raw sound,
+        domain_count raw sound,
       );
       few_events = omega (
         arith,
         ap length events,
         length-map raw.events (event_of raw),
-        event-count raw sound,
+        event_count raw sound,
       );
       few_machines = omega (
         arith,
-        zip-long (IsMachineOf raw) raw.machines c.in_ok-machines.machines machines,
-        machine-count raw sound,
+        zip_long (IsMachineOf raw) raw.machines c.in_ok-machines.machines machines,
+        machine_count raw sound,
       );
       event_names = ap (λ l. are_distinct (map (λ (event : EventDecl). event.name) l)) events
-          ∙ event-names-kept raw sound;
-      machine_names = machine-names-kept raw sound c.in_ok-machines.machines machines;
+          ∙ event_names_kept raw sound;
+      machine_names = machine_names_kept raw sound c.in_ok-machines.machines machines;
       event_domains = ap (list_all (has_domain c.in_ok-domains.domains)) events
-          ∙ event-domains-kept raw sound c.in_ok-domains.domains domains;
+          ∙ event_domains_kept raw sound c.in_ok-domains.domains domains;
       receivers = ap (λ l. list_all (has_receivers c.in_ok-machines.machines) (enumerate_from 0 l))
-          events ∙ receivers-kept raw c.in_ok-machines.machines sound.names sound.ports machines;
+          events ∙ receivers_kept raw c.in_ok-machines.machines sound.names sound.ports machines;
       senders = ap (λ l. list_all (has_sender c.in_ok-machines.machines) (enumerate_from 0 l))
-          events ∙ all-senders raw sound c.in_ok-machines.machines machines;
+          events ∙ all_senders raw sound c.in_ok-machines.machines machines;
       numbered = ap (λ l. list_all (is_numbered c.in_ok-domains.domains l)
           c.in_ok-machines.machines) events ∙ each
           (is_numbered c.in_ok-domains.domains (map (event_of raw) raw.events)) (λ m k. k.numbered)
@@ -119,7 +119,7 @@ returns c =
           (λ l. AllZip (λ (d : RawDomain). IsDomainOf d.shape) l c.in_ok-domains.domains)
           c.as_slice.ensures c.in_ok-domains.ensures;
       events = c.in_ok-events.ensures;
-      machines = zip-named IsMachineOf raw raw.machines c.args.machines.now
+      machines = zip_named IsMachineOf raw raw.machines c.args.machines.now
           c.in_ok-machines.machines c.requires.names
           (subst
           (λ l. AllZip (λ (n : MachineNames). IsMachineOf n.scope.now.raw.now n.machine.now) l

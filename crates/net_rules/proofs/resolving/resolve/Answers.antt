@@ -1,12 +1,12 @@
 use Rattle.std.proofs.Common.{◌∙◌, sym, subst}
-use Rattle.rule_judge.proofs.FirstBroken.{declaration-broken}
+use Rattle.rule_judge.proofs.FirstBroken.{declaration_broken}
 use Rattle.net_rules.specs.Networks.{IsNetworkOf}
 use Rattle.net_rules.proofs.OneNetwork.{one_network}
 use Rattle.net_rules.proofs.resolving.resolve.Goals as goal
 
 pub returns-in-Some-clause-fault : goal.returns-in-Some-clause-fault
 returns-in-Some-clause-fault c =
-    declaration-broken c.args.raw.now c.in-Some.broken
+    declaration_broken c.args.raw.now c.in-Some.broken
     (sym c.in_ok-broken.ensures ∙ c.in-Some.is)
 
 pub returns-clause-only : goal.returns-clause-only

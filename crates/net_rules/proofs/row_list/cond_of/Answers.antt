@@ -5,9 +5,9 @@ use Rattle.net_names.specs.Scopes.{cond_word, state_words, var_sizes}
 use Rattle.net_rules.specs.Networks.{allows, bits_where}
 use Rattle.net_names.specs.Numbers.{names_of, number_in}
 use Rattle.net_names.specs.Vars.{IsVar}
-use Rattle.net_rules.proofs.AreActions.{in-range, has-it}
-use Rattle.net_rules.proofs.AllowedCodes.{vars-count, size-few}
-use Rattle.net_rules.proofs.MachineFacts.{sizes-fit, vars-short}
+use Rattle.net_rules.proofs.AreActions.{in_range, has_it}
+use Rattle.net_rules.proofs.AllowedCodes.{vars_count, size_few}
+use Rattle.net_rules.proofs.MachineFacts.{sizes_fit, vars_short}
 use Rattle.net_rules.proofs.row_list.cond_of.Goals as goal
 
 pub get-requires : goal.get-requires
@@ -18,9 +18,9 @@ get-requires c =
     omega (
       arith,
       is,
-      in-range (m.inputs ++ state_words m) (cond_word c.args.cond.now).name
+      in_range (m.inputs ++ state_words m) (cond_word c.args.cond.now).name
           c.requires.known,
-      vars-count raw m,
+      vars_count raw m,
       ap length c.requires.vars,
     )
 
@@ -32,10 +32,10 @@ overflow_cast-result c =
     omega (
       arith,
       is,
-      in-range (m.inputs ++ state_words m) (cond_word c.args.cond.now).name
+      in_range (m.inputs ++ state_words m) (cond_word c.args.cond.now).name
           c.requires.known,
-      vars-short raw m c.requires.sound c.requires.kept,
-      vars-count raw m,
+      vars_short raw m c.requires.sound c.requires.kept,
+      vars_count raw m,
     )
 
 pub below-requires : goal.below-requires
@@ -45,8 +45,8 @@ below-requires c =
     omega (
       arith,
       c.from-size.ensures,
-      size-few (var_sizes raw m) c.args.var_number c.get.result.now
-          (sizes-fit raw m c.requires.sound c.requires.kept)
+      size_few (var_sizes raw m) c.args.var_number c.get.result.now
+          (sizes_fit raw m c.requires.sound c.requires.kept)
           (ap (λ l. slice_get l c.args.var_number) (sym c.requires.vars) ∙ c.get.ensures),
     )
 
@@ -56,8 +56,8 @@ returns c =
     let m = c.args.names.now.machine.now in
     let q = c.args.cond.now in
     let is = c.requires.number in
-    let few = size-few (var_sizes raw m) c.args.var_number c.get.result.now
-    (sizes-fit raw m c.requires.sound c.requires.kept)
+    let few = size_few (var_sizes raw m) c.args.var_number c.get.result.now
+    (sizes_fit raw m c.requires.sound c.requires.kept)
     (ap (λ l. slice_get l c.args.var_number) (sym c.requires.vars) ∙ c.get.ensures) in
     let size = c.from-size.ensures ∙ sym
     (get_or_from_slice_get c.args.vars.now c.args.var_number c.get.result.now 0
@@ -71,7 +71,7 @@ pub var_numbered-var-requires-clause-number : goal.var_numbered-var-requires-cla
 var_numbered-var-requires-clause-number c =
     let m = c.args.names.now.machine.now in
     ap (λ (w : Word). number_in (names_of (m.inputs ++ state_words m)) w.name) c.cond_word.ensures
-    ∙ has-it (m.inputs ++ state_words m) (cond_word c.args.cond.now).name c.requires.known
+    ∙ has_it (m.inputs ++ state_words m) (cond_word c.args.cond.now).name c.requires.known
     ∙ ap Some (sym c.requires.number)
 
 pub allowed-requires-clause-var : goal.allowed-requires-clause-var

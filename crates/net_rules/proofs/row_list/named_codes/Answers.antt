@@ -2,12 +2,12 @@ use Rattle.std.proofs.Common.{◌∙◌, ◌+◌, ◌==◌, ap, unwrap_or, optio
 use Rattle.std.specs.Option.{option_and_then}
 use Rattle.std.specs.List.{list_any}
 use Rattle.net_names.specs.Values.{value_in}
-use Rattle.net_rules.proofs.Variables.{var-few, var-codes}
+use Rattle.net_rules.proofs.Variables.{var_few, var_codes}
 use Rattle.net_rules.proofs.row_list.named_codes.Goals as goal
 
 pub value_codes-requires-clause-count : goal.value_codes-requires-clause-count
 value_codes-requires-clause-count c =
-    var-few c.args.names.now.scope.now.raw.now c.args.names.now.machine.now c.args.name
+    var_few c.args.names.now.scope.now.raw.now c.args.names.now.machine.now c.args.name
     c.args.var.now c.requires.sound c.requires.var
 
 pub returns : goal.returns
@@ -17,5 +17,5 @@ returns c = λ k.
     (λ v. k == n + unwrap_or
     (option_and_then (λ s. value_in s v) (option_copied c.args.var.now.shape)) 0)
     c.args.values.now) c.first_code.ensures.first
-    ∙ var-codes c.args.names.now.scope.now.raw.now c.args.names.now.machine.now c.args.name
+    ∙ var_codes c.args.names.now.scope.now.raw.now c.args.names.now.machine.now c.args.name
     c.args.var.now c.args.values.now k c.requires.var

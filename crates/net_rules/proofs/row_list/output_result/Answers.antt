@@ -1,6 +1,6 @@
 use Rattle.std.proofs.Common.{arith}
-use Rattle.net_rules.proofs.AllowedCodes.{number-most}
-use Rattle.net_rules.proofs.MachineFacts.{few-outputs, few-states}
+use Rattle.net_rules.proofs.AllowedCodes.{number_most}
+use Rattle.net_rules.proofs.MachineFacts.{few_outputs, few_states}
 use Rattle.net_rules.proofs.row_list.output_result.Goals as goal
 
 pub overflow_add-result-2 : goal.overflow_add-result-2
@@ -11,9 +11,9 @@ overflow_add-result-2 c =
       arith,
       c.len.ensures,
       c.output_number.ensures,
-      number-most m.outputs c.args.name,
-      few-outputs raw m c.requires.sound c.requires.kept,
-      few-states raw m c.requires.sound c.requires.kept,
+      number_most m.outputs c.args.name,
+      few_outputs raw m c.requires.sound c.requires.kept,
+      few_states raw m c.requires.sound c.requires.kept,
     )
 
 pub overflow_cast-result : goal.overflow_cast-result
@@ -24,7 +24,7 @@ overflow_cast-result c =
       arith,
       c.len.ensures,
       c.output_number.ensures,
-      number-most m.outputs c.args.name,
-      few-outputs raw m c.requires.sound c.requires.kept,
-      few-states raw m c.requires.sound c.requires.kept,
+      number_most m.outputs c.args.name,
+      few_outputs raw m c.requires.sound c.requires.kept,
+      few_states raw m c.requires.sound c.requires.kept,
     )

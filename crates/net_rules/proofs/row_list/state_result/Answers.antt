@@ -1,6 +1,6 @@
 use Rattle.std.proofs.Common.{arith}
-use Rattle.net_rules.proofs.AllowedCodes.{states-most}
-use Rattle.net_rules.proofs.MachineFacts.{few-states}
+use Rattle.net_rules.proofs.AllowedCodes.{states_most}
+use Rattle.net_rules.proofs.MachineFacts.{few_states}
 use Rattle.net_rules.proofs.row_list.state_result.Goals as goal
 
 pub overflow_add-result : goal.overflow_add-result
@@ -10,8 +10,8 @@ overflow_add-result c =
     omega (
       arith,
       c.state_number.ensures,
-      states-most m c.args.name,
-      few-states raw m c.requires.sound c.requires.kept,
+      states_most m c.args.name,
+      few_states raw m c.requires.sound c.requires.kept,
     )
 
 pub overflow_cast-result : goal.overflow_cast-result
@@ -21,6 +21,6 @@ overflow_cast-result c =
     omega (
       arith,
       c.state_number.ensures,
-      states-most m c.args.name,
-      few-states raw m c.requires.sound c.requires.kept,
+      states_most m c.args.name,
+      few_states raw m c.requires.sound c.requires.kept,
     )

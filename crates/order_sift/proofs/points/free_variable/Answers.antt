@@ -14,7 +14,7 @@ use Rattle.order_sift.proofs.TruePoints.{snapshot_fits}
 use Rattle.order_sift.proofs.AreClasses.{variable_freed, neighbours, within_of}
 use Rattle.order_sift.proofs.points.free_variable.Goals as goal
 use Rattle.transition_table.proofs.Ranges.{below_size}
-use Rattle.domains.proofs.Ranks.{length-fits}
+use Rattle.domains.proofs.Ranks.{length_fits}
 use Rattle.outcome_table.proofs.Columns.{product_after}
 
 pub lists_from-stride-requires-clause-few : goal.lists_from-stride-requires-clause-few
@@ -47,7 +47,7 @@ at_code : (m : Machine) (below : Below) (v stride : ℕ) (codes : List ℕ) → 
     × (slice_index codes (i + c * stride - slice_index codes i * stride) ≡ c)
 at_code m below v stride codes lv code is i c li lc =
     let n = neighbours m below i v c li lv lc in
-    let l = length-fits m.vars (snapshot_at m i) (snapshot_fits m below i li) in
+    let l = length_fits m.vars (snapshot_at m i) (snapshot_fits m below i li) in
     let e : i + c * stride - slice_index codes i * stride
     ≡ i + c * product (drop (v + 1) m.vars) - slice_index (snapshot_at m i) v * product
     (drop (v + 1) m.vars) =

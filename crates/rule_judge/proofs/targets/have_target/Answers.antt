@@ -1,6 +1,6 @@
 use Rattle.std.proofs.Common.{◌∙◌, ◌+◌, ◌||◌, flat_map, drop, ap, sym}
 use Rattle.net_names.specs.Numbers.{is_name_of}
-use Rattle.rule_judge.proofs.Repeats.{names-more}
+use Rattle.rule_judge.proofs.Repeats.{names_more}
 use Rattle.rule_judge.proofs.targets.have_target.Goals as goal
 
 pub loop-act-preserved : goal.loop-act-preserved
@@ -8,7 +8,7 @@ loop-act-preserved g c =
     let rest = is_name_of (flat_map g.T.Target.words (drop (c.loop-act.act-index + 1)
     c.args.acts.now)) c.args.name.now in
     ap (λ b. b || rest) (sym c.if-has_target.false)
-    ∙ names-more g.T.Target.words c.args.acts.now c.loop-act.act-index c.act-item.result
+    ∙ names_more g.T.Target.words c.args.acts.now c.loop-act.act-index c.act-item.result
     c.loop-act-test.true c.act-item.is c.args.name.now c.has_target.result _ c.has_target.ensures
     c.loop-act.invariant
 
@@ -17,6 +17,6 @@ returns-then-has_target g c =
     let rest = is_name_of (flat_map g.T.Target.words (drop (c.loop-act.act-index + 1)
     c.args.acts.now)) c.args.name.now in
     ap (λ b. b || rest) (sym c.if-has_target.true)
-    ∙ names-more g.T.Target.words c.args.acts.now c.loop-act.act-index c.act-item.result
+    ∙ names_more g.T.Target.words c.args.acts.now c.loop-act.act-index c.act-item.result
     c.loop-act-test.true c.act-item.is c.args.name.now c.has_target.result _ c.has_target.ensures
     c.loop-act.invariant

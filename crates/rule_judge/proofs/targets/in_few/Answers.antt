@@ -3,7 +3,7 @@ use Rattle.net_names.specs.Places.{sooner, least_place}
 use Rattle.net_names.specs.Numbers.{missing, repeated, no_name}
 use Rattle.net_names.specs.Scopes.{state_words}
 use Rattle.rule_judge.specs.Rules.{emitted, set_names, not_once}
-use Rattle.rule_judge.proofs.LeastPlace.{sooner-least}
+use Rattle.rule_judge.proofs.LeastPlace.{sooner_least}
 use Rattle.rule_judge.proofs.targets.in_few.Goals as goal
 
 pub returns : goal.returns
@@ -18,4 +18,4 @@ returns c =
     c.not_once_in.ensures
     ∙ (λ i. sooner (first i)
     (least_place (missing (c.states.ensures i) sets ++ repeated no_name sets)))
-    ∙ sooner-least c.args.found (not_once m.outputs emits) (not_once (state_words m) sets)
+    ∙ sooner_least c.args.found (not_once m.outputs emits) (not_once (state_words m) sets)

@@ -3,8 +3,8 @@ use Rattle.net_names.specs.Places.{sooner, least_place}
 use Rattle.net_names.specs.Numbers.{missing, repeated, no_name}
 use Rattle.net_names.specs.Scopes.{state_words}
 use Rattle.rule_judge.specs.Rules.{emitted, set_names, not_once}
-use Rattle.rule_judge.proofs.LeastPlace.{sooner-least}
-use Rattle.net_names.proofs.IfOk.{IfOk-same}
+use Rattle.rule_judge.proofs.LeastPlace.{sooner_least}
+use Rattle.net_names.proofs.IfOk.{IfOk_same}
 use Rattle.rule_judge.proofs.targets.in_many.Goals as goal
 
 pub returns : goal.returns
@@ -18,8 +18,8 @@ returns c =
     ∙ (λ i. sooner c.args.found
     (least_place (missing (c.outputs.ensures i) (c.in_ok-emits.ensures i)
     ++ repeated no_name (c.in_ok-emits.ensures i)))) in
-    IfOk-same c.not_once-2.result _ _
+    IfOk_same c.not_once-2.result _ _
     ((λ i. sooner (first i)
     (least_place (missing (c.states.ensures i) (c.in_ok-sets.ensures i)
-    ++ repeated no_name (c.in_ok-sets.ensures i)))) ∙ sooner-least c.args.found emits sets)
+    ++ repeated no_name (c.in_ok-sets.ensures i)))) ∙ sooner_least c.args.found emits sets)
     c.not_once-2.ensures

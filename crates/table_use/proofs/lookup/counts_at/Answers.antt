@@ -1,5 +1,5 @@
 use Rattle.std.proofs.Common.{◌<◌, ℕ, true, false, not, refl, sym, ap, ◌∙◌, subst, arith}
-use Rattle.domains.proofs.Ranks.{length-fits, ranks_below}
+use Rattle.domains.proofs.Ranks.{length_fits, ranks_below}
 use Rattle.domains.specs.Tables.{product}
 use Rattle.table_use.specs.Use.{is_unused, without}
 use Rattle.table_use.proofs.Bools.{and_last}
@@ -11,7 +11,7 @@ use Rattle.table_use.proofs.lookup.counts_at.Goals as goal
 pub get-requires : goal.get-requires
 get-requires c =
     let vars = c.args.lookup.now.machine.now.vars in
-    let long = length-fits vars c.args.codes.now c.requires.fits in
+    let long = length_fits vars c.args.codes.now c.requires.fits in
     let parts = c.var_count.ensures.inputs in
     let low = c.requires.input in
     omega arith

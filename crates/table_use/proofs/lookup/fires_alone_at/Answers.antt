@@ -1,6 +1,6 @@
 use Rattle.std.proofs.Common.{◌≡◌, ◌<◌, ◌+◌, ◌*◌, ◌%◌, ℕ, true, false, slice_index, refl, sym, ap, ◌∙◌, arith}
 use Rattle.std.proofs.lemmas.Option.{get_or_from_slice_get}
-use Rattle.domains.proofs.Ranks.{length-fits, ranks_below}
+use Rattle.domains.proofs.Ranks.{length_fits, ranks_below}
 use Rattle.domains.specs.Tables.{fits, product, rank}
 use Rattle.table_use.specs.Use.{alone}
 use Rattle.table_use.specs.Keys.{stride}
@@ -13,7 +13,7 @@ use Rattle.table_use.proofs.lookup.fires_alone_at.Goals as goal
 pub get-requires : goal.get-requires
 get-requires c =
     let vars = c.args.lookup.now.machine.now.vars in
-    let long = length-fits vars c.args.codes.now c.requires.fits in
+    let long = length_fits vars c.args.codes.now c.requires.fits in
     let parts = c.var_count.ensures.inputs in
     let low = c.requires.input in
     omega arith

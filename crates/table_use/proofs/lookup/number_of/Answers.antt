@@ -1,5 +1,5 @@
 use Rattle.std.proofs.Common.{◌≡◌, ◌-◌, ℕ, slice_get, Some, sym, subst, arith}
-use Rattle.domains.proofs.Ranks.{length-fits}
+use Rattle.domains.proofs.Ranks.{length_fits}
 use Rattle.outcome_table.proofs.Columns.{product_after}
 use Rattle.table_use.proofs.Numbers.{product_end, product_step, rank_end, rank_low, rank_step}
 use Rattle.table_use.proofs.lookup.number_of.Goals as goal
@@ -12,7 +12,7 @@ loop-v-init c =
     )
 
 pub get-requires : goal.get-requires
-get-requires c = omega (arith, length-fits c.args.vars.now c.args.codes.now c.requires.fits)
+get-requires c = omega (arith, length_fits c.args.vars.now c.args.codes.now c.requires.fits)
 
 pub overflow_mul-number : goal.overflow_mul-number
 overflow_mul-number c =

@@ -1,5 +1,5 @@
 use Rattle.std.proofs.Common.{◌≡◌, ◌<◌, ◌*◌, ◌+◌, ℕ, Some, sym, ap, ◌∙◌, arith}
-use Rattle.domains.proofs.Ranks.{length-fits, ranks_below}
+use Rattle.domains.proofs.Ranks.{length_fits, ranks_below}
 use Rattle.domains.specs.Tables.{rank}
 use Rattle.table_use.specs.Use.{without}
 use Rattle.table_use.proofs.ByNumber.{number_parts, strides_long}
@@ -8,7 +8,7 @@ use Rattle.table_use.proofs.lookup.number_without.Goals as goal
 
 pub get-requires : goal.get-requires
 get-requires c =
-    let long = length-fits c.args.lookup.now.machine.now.vars c.args.codes.now c.requires.fits in
+    let long = length_fits c.args.lookup.now.machine.now.vars c.args.codes.now c.requires.fits in
     let low = c.requires.var in
     omega arith
 

@@ -1,6 +1,6 @@
 use Rattle.std.proofs.Common.{◌≡◌, ℕ, Bool, List, ◌++◌, ◌∷◌, [], false, map, take, get_or, slice_index, sym, ap, ◌∙◌, arith}
 use Rattle.std.proofs.lemmas.Option.{get_or_from_slice_get}
-use Rattle.journals.proofs.MomentsAfter.{get_or-table}
+use Rattle.journals.proofs.MomentsAfter.{get_or_table}
 use Rattle.table_use.specs.inner.Boxes.{allowed}
 use Rattle.table_use.specs.inner.Marks.{mark}
 use Rattle.table_use.proofs.FlagTables.{own_at, row_flags_long, row_long}
@@ -45,7 +45,7 @@ loop-p-preserved c =
     c.get-in-loop-p.ensures)
     ∙ ap (λ (n : ℕ). get_or flags n false) c.from.ensures
     ∙ ap (λ (l : List Bool). get_or l point.code false) is
-    ∙ get_or-table (allowed m r point.var) (slice_index m.vars point.var) point.code false
+    ∙ get_or_table (allowed m r point.var) (slice_index m.vars point.var) point.code false
     within.1 in
     c.in_ok-push.ensures.ok
     ∙ ap (λ (l : List Bool). l ++ c.get-in-loop-p.result.now ∷ []) c.loop-p.invariant

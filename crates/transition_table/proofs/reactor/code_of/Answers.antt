@@ -2,7 +2,7 @@ use Rattle.std.proofs.Common.{◌+◌, ◌%◌, slice_index, arith, sym, ap, ◌
 use Rattle.std.proofs.lemmas.Option.{get_or_from_slice_get}
 use Rattle.transition_table.specs.Sources.{code_of as code_from, variable_of}
 use Rattle.transition_table.specs.declared.row.Source.{Source}
-use Rattle.transition_table.proofs.Rows.{length-fits, machine_sizes}
+use Rattle.transition_table.proofs.Rows.{length_fits, machine_sizes}
 use Rattle.transition_table.proofs.Ranges.{reads_of, adds_of, below_size, small_size}
 use Rattle.transition_table.proofs.reactor.code_of.Goals as goal
 
@@ -10,7 +10,7 @@ pub get-requires : goal.get-requires
 get-requires c =
     let m = c.args.machine.now in
     let reads = reads_of m c.args.act.now c.in-Input.var c.requires.action c.in-Input.is in
-    let size = length-fits m.vars c.args.s.now.codes c.requires.snapshot in
+    let size = length_fits m.vars c.args.s.now.codes c.requires.snapshot in
     let below = reads.1 in
     omega arith
 
@@ -18,7 +18,7 @@ pub get-requires-in-Add : goal.get-requires-in-Add
 get-requires-in-Add c =
     let m = c.args.machine.now in
     let adds = adds_of m c.args.act.now c.in-Add.step c.requires.action c.in-Add.is in
-    let size = length-fits m.vars c.args.s.now.codes c.requires.snapshot in
+    let size = length_fits m.vars c.args.s.now.codes c.requires.snapshot in
     let below = adds.var in
     let inputs = c.len.ensures in
     omega arith

@@ -5,7 +5,7 @@ use Rattle.transition_table.specs.declared.snapshot.Snapshot.{Snapshot}
 use Rattle.journals.specs.declared.entry.Entry.{Entry}
 use Rattle.journals.specs.Journals.{snap}
 use Rattle.journals.proofs.CursorsAfter.{machine_within}
-use Rattle.journals.proofs.MomentsAfter.{length-table, moment_width}
+use Rattle.journals.proofs.MomentsAfter.{length_table, moment_width}
 use Rattle.journals.proofs.EntriesAt.{fits_at, prefix_more, suits_machine, moment_of}
 use Rattle.wave_text.specs.inner.Changing.{AreValues, IsNumbering}
 use Rattle.wave_text.specs.inner.Writable.{is_writable}
@@ -53,7 +53,7 @@ index_mut-requires c =
     let within = machine_within net entry fits in
     let below : m < length net.machines = omega arith in
     let size = ap length c.loop-p.invariant.moments_are
-    ∙ length-table (snap net (take p j)) (length net.machines) in
+    ∙ length_table (snap net (take p j)) (length net.machines) in
     omega arith
 
 pub take_entry-requires-clause-suits : goal.take_entry-requires-clause-suits

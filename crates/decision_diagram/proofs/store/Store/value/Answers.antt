@@ -5,11 +5,11 @@ use Rattle.decision_diagram.proofs.Fits.{fits_at}
 use Rattle.decision_diagram.proofs.ListItems.{read}
 use Rattle.decision_diagram.proofs.Meanings.{level_at_most}
 use Rattle.decision_diagram.proofs.store.Store.value.Goals as goal
-use Rattle.domains.proofs.Ranks.{length-fits}
+use Rattle.domains.proofs.Ranks.{length_fits}
 
 pub get-requires : goal.get-requires
 get-requires c =
-    let long = length-fits c.args.self.now.sizes c.args.codes.now c.requires.codes in
+    let long = length_fits c.args.self.now.sizes c.args.codes.now c.requires.codes in
     let below = c.in-Inner.ensures.var c.in-Inner.var refl in
     omega arith
 

@@ -2,7 +2,7 @@ use Rattle.std.proofs.Common.{◌≡◌, ℕ, max, length, slice_get, Some, sym,
 use Rattle.journals.specs.Moved.{machine_of}
 use Rattle.journals.specs.Stamps.{greatest, stamps_at, origin}
 use Rattle.net_core.proofs.ClocksAfter.{clock_at}
-use Rattle.journals.proofs.MomentsAfter.{length-table}
+use Rattle.journals.proofs.MomentsAfter.{length_table}
 use Rattle.journals.proofs.CursorsAfter.{machine_within}
 use Rattle.journals.proofs.LeastStamps.{greatest_both}
 use Rattle.net_core.proofs.clocks.Clocks.below.Goals as goal
@@ -11,7 +11,7 @@ pub get-clock-requires : goal.get-clock-requires
 get-clock-requires c =
     let net = c.args.net.now in
     let size = ap length c.requires.has.1.clocks_are
-    ∙ length-table (λ k. greatest (stamps_at k c.requires.has.0)) (length net.machines) in
+    ∙ length_table (λ k. greatest (stamps_at k c.requires.has.0)) (length net.machines) in
     let within = machine_within net c.args.entry.now c.requires.fits in
     let is = c.machine.ensures in
     omega arith

@@ -5,7 +5,7 @@ use Rattle.net_core.specs.inner.Clocks.{firings_of, left, cursor_at, IsCursor}
 use Rattle.net_core.specs.declared.clocks.Cursor.{Cursor}
 use Rattle.journals.specs.Stamps.{greatest, once_each}
 use Rattle.net_core.proofs.ClocksAfter.{firings_fit, cursors_with, columns_kept}
-use Rattle.journals.proofs.MomentsAfter.{length-table, get_or-table}
+use Rattle.journals.proofs.MomentsAfter.{length_table, get_or_table}
 use Rattle.net_core.proofs.clocks.Clocks.owed.Goals as goal
 use Rattle.journals.specs.declared.stamped.Stamped.{Stamped}
 use Rattle.journals.specs.Logs.{entries}
@@ -14,7 +14,7 @@ pub get-requires : goal.get-requires
 get-requires c =
     let h = c.requires.has.1 in
     let size = ap length h.firings_are
-    ∙ length-table (firings_of c.requires.has.0) (length c.args.net.now.machines) in
+    ∙ length_table (firings_of c.requires.has.0) (length c.args.net.now.machines) in
     let below = c.requires.sender in
     omega arith
 
@@ -23,7 +23,7 @@ first_owed-stamp-requires-clause-fits c =
     let net = c.args.net.now in
     let done = c.requires.has.0 in
     let is = c.get.ensures ∙ ap (λ (l : List (List Stamped)). get_or l c.args.s [])
-    c.requires.has.1.firings_are ∙ get_or-table (firings_of done) (length net.machines) c.args.s
+    c.requires.has.1.firings_are ∙ get_or_table (firings_of done) (length net.machines) c.args.s
     [] c.requires.sender in
     subst (λ (l : List Stamped). IsJournal net (entries l)) (sym is)
     (firings_fit net c.args.s done c.requires.has.1.fitting)
@@ -33,7 +33,7 @@ first_owed-stamp-requires-clause-within c =
     let net = c.args.net.now in
     let done = c.requires.has.0 in
     let is = c.get.ensures ∙ ap (λ (l : List (List Stamped)). get_or l c.args.s [])
-    c.requires.has.1.firings_are ∙ get_or-table (firings_of done) (length net.machines) c.args.s
+    c.requires.has.1.firings_are ∙ get_or_table (firings_of done) (length net.machines) c.args.s
     [] c.requires.sender in
     let old = (c.requires.has.1.cursors_are c.args.s c.args.m c.requires.sender
     c.requires.receiver).within in
@@ -43,7 +43,7 @@ pub returns-clause-stamp : goal.returns-clause-stamp
 returns-clause-stamp c = λ done h.
     let net = c.args.net.now in
     let is = c.get.ensures ∙ ap (λ (l : List (List Stamped)). get_or l c.args.s []) h.firings_are
-    ∙ get_or-table (firings_of done) (length net.machines) c.args.s [] c.requires.sender in
+    ∙ get_or_table (firings_of done) (length net.machines) c.args.s [] c.requires.sender in
     c.first_owed-stamp.ensures.stamp
     ∙ ap (λ (l : List Stamped). greatest (take 1 (left net c.args.m l c.get-cursor.result))) is
     ∙ ap (λ cursor. greatest (take 1 (left net c.args.m (firings_of done c.args.s) cursor)))
@@ -60,7 +60,7 @@ returns-clause-same c = λ done h.
     let cursors = c.args.self.now.cursors in
     let is : c.get.result.now ≡ own = c.get.ensures
     ∙ ap (λ (l : List (List Stamped)). get_or l s []) h.firings_are
-    ∙ get_or-table (firings_of done) (length net.machines) s [] c.requires.sender in
+    ∙ get_or_table (firings_of done) (length net.machines) s [] c.requires.sender in
     let old = h.cursors_are s m c.requires.sender c.requires.receiver in
     let old_given : c.get-cursor.result.taken
     ≤ length (flat_map (once_each net m) (drop c.get-cursor.result.firing c.get.result.now)) =

@@ -2,7 +2,7 @@ use Rattle.std.proofs.Common.{ℕ, length, ap, ◌∙◌, arith}
 use Rattle.net_core.specs.inner.Clocks.{firings_of, clocks_after}
 use Rattle.journals.specs.Stamps.{greatest, stamps_at}
 use Rattle.net_core.proofs.ClocksAfter.{all_taken}
-use Rattle.journals.proofs.MomentsAfter.{length-table}
+use Rattle.journals.proofs.MomentsAfter.{length_table}
 use Rattle.journals.proofs.CursorsAfter.{machine_within}
 use Rattle.net_core.proofs.clocks.Clocks.take.Goals as goal
 
@@ -10,7 +10,7 @@ pub raise-requires : goal.raise-requires
 raise-requires c =
     let net = c.args.net.now in
     let size = ap length c.requires.has.1.clocks_are
-    ∙ length-table (λ k. greatest (stamps_at k c.requires.has.0)) (length net.machines) in
+    ∙ length_table (λ k. greatest (stamps_at k c.requires.has.0)) (length net.machines) in
     let within = machine_within net c.args.entry.now c.requires.fits in
     let is = c.machine.ensures in
     omega arith
@@ -19,7 +19,7 @@ pub add_firing-requires : goal.add_firing-requires
 add_firing-requires c =
     let net = c.args.net.now in
     let size = ap length c.requires.has.1.firings_are
-    ∙ length-table (firings_of c.requires.has.0) (length net.machines) in
+    ∙ length_table (firings_of c.requires.has.0) (length net.machines) in
     let within = machine_within net c.args.entry.now c.requires.fits in
     omega arith
 

@@ -1,7 +1,7 @@
 use Rattle.std.proofs.Common.{◌<◌, length, ap, sym, subst, ◌∙◌, arith}
 use Rattle.net_core.specs.Moments.{Moment}
 use Rattle.journals.specs.Journals.{snap}
-use Rattle.journals.proofs.MomentsAfter.{length-table}
+use Rattle.journals.proofs.MomentsAfter.{length_table}
 use Rattle.journals.proofs.EntriesAt.{moment_of}
 use Rattle.net_core.proofs.config.Config.moment.Goals as goal
 
@@ -10,7 +10,7 @@ index-requires c =
     let below = subst (λ (m : Moment). c.args.m < length m.net.machines) (sym c.self.view_is)
     c.requires in
     let size = ap length c.self.invariant.moments_are
-    ∙ length-table (snap c.self.inside.net.now c.self.inside.journal)
+    ∙ length_table (snap c.self.inside.net.now c.self.inside.journal)
     (length c.self.inside.net.now.machines) in
     omega arith
 

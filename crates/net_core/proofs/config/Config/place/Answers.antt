@@ -1,6 +1,6 @@
 use Rattle.std.proofs.Common.{◌≡◌, ◌<◌, length, ap, sym, subst, ◌∙◌, arith}
 use Rattle.journals.specs.Cursors.{cursor}
-use Rattle.journals.proofs.MomentsAfter.{length-table}
+use Rattle.journals.proofs.MomentsAfter.{length_table}
 use Rattle.net_core.specs.Moments.{Moment}
 use Rattle.net_core.proofs.Tables.{table_item}
 use Rattle.net_core.proofs.config.Config.place.Goals as goal
@@ -10,7 +10,7 @@ get-requires c =
     let below = subst (λ (m : Moment). c.args.m < length m.net.machines) (sym c.self.view_is)
     c.requires in
     let size = ap length c.self.invariant.cursors_are
-    ∙ length-table
+    ∙ length_table
     (cursor c.self.inside.net.now c.self.inside.trace.now c.self.inside.journal)
     (length c.self.inside.net.now.machines) in
     omega arith

@@ -1,24 +1,24 @@
 use Rattle.std.proofs.Common.{◌∙◌, ap, sym}
 use Rattle.std.specs.Option.{option_and_then}
 use Rattle.net_reader.specs.declared.raw.RawEvent.{RawEvent}
-use Rattle.net_names.proofs.NumberIn.{number-within, found-at, found-nowhere}
+use Rattle.net_names.proofs.NumberIn.{number_within, found_at, found_nowhere}
 use Rattle.net_names.proofs.scope.Scope.event_domain.Goals as goal
 
 pub get-requires : goal.get-requires
 get-requires c =
-    number-within (λ (x : RawEvent). x.name) c.args.name c.args.self.now.raw.now.events
+    number_within (λ (x : RawEvent). x.name) c.args.name c.args.self.now.raw.now.events
     c.in-Some.number (sym (c.number.ensures ∙ c.args.self.now.event_numbers c.args.name)
     ∙ c.in-Some.is)
 
 pub returns-in-Some : goal.returns-in-Some
 returns-in-Some c =
     sym (ap (option_and_then (λ (x : RawEvent). x.domain))
-    (found-at (λ (x : RawEvent). x.name) c.args.name c.args.self.now.raw.now.events c.number.result
+    (found_at (λ (x : RawEvent). x.name) c.args.name c.args.self.now.raw.now.events c.number.result
     c.in-Some.number c.get.result.now (c.number.ensures ∙ c.args.self.now.event_numbers c.args.name)
     c.in-Some.is c.get.ensures))
 
 pub returns-in-None : goal.returns-in-None
 returns-in-None c =
     sym (ap (option_and_then (λ (x : RawEvent). x.domain))
-    (found-nowhere (λ (x : RawEvent). x.name) c.args.name c.args.self.now.raw.now.events
+    (found_nowhere (λ (x : RawEvent). x.name) c.args.name c.args.self.now.raw.now.events
     c.number.result (c.number.ensures ∙ c.args.self.now.event_numbers c.args.name) c.in-None.is))

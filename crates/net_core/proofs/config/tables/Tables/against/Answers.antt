@@ -7,7 +7,7 @@ use Rattle.journals.specs.declared.entry.Entry.{Entry}
 use Rattle.journals.specs.declared.entry.Entry.TheVariants.{Rea}
 use Rattle.journals.specs.Journals.{FitsNetwork, snap}
 use Rattle.journals.specs.Legality.{MayFollowIfReaction}
-use Rattle.journals.proofs.MomentsAfter.{length-table}
+use Rattle.journals.proofs.MomentsAfter.{length_table}
 use Rattle.journals.proofs.EntriesAt.{moment_of}
 use Rattle.journals.proofs.CursorsAfter.{machine_within}
 use Rattle.net_core.proofs.MayFollow.{not_woken, other_snapshot, other_outcome, reacts}
@@ -31,7 +31,7 @@ index-requires c =
     let r = c.in-Rea in
     let below = within a.net.now a.entry.now r.machine r.snapshot r.outcome r.is c.requires.fits in
     let size = ap length c.requires.current.1.moments_are
-    ∙ length-table (snap a.net.now c.requires.current.0) (length a.net.now.machines) in
+    ∙ length_table (snap a.net.now c.requires.current.0) (length a.net.now.machines) in
     omega arith
 
 pub returns-then-not-is_set : goal.returns-then-not-is_set

@@ -1,7 +1,7 @@
 use Rattle.std.proofs.Common.{length, ap, ◌∙◌, arith}
 use Rattle.journals.specs.Cursors.{cursor}
 use Rattle.net_core.proofs.MayFollow.{env_lands, machine_lands, machine_owes_none}
-use Rattle.journals.proofs.MomentsAfter.{length-table}
+use Rattle.journals.proofs.MomentsAfter.{length_table}
 use Rattle.net_core.proofs.Tables.{table_item}
 use Rattle.net_core.proofs.config.tables.Tables.may_land.Goals as goal
 
@@ -9,7 +9,7 @@ pub get-requires : goal.get-requires
 get-requires c =
     let below = c.requires.to in
     let size = ap length c.requires.current.1.cursors_are
-    ∙ length-table (cursor c.args.net.now c.args.trace.now c.requires.current.0)
+    ∙ length_table (cursor c.args.net.now c.args.trace.now c.requires.current.0)
     (length c.args.net.now.machines) in
     omega arith
 

@@ -6,7 +6,7 @@ use Rattle.journals.specs.declared.entry.Owed.{Owed}
 use Rattle.journals.specs.declared.entry.TraceItem.TheVariants.{Event, Settle}
 use Rattle.journals.specs.Cursors.{cursor, settled_at}
 use Rattle.net_core.proofs.OwedByEnv.{first_at_least, none_left, no_machines_read, settled_says}
-use Rattle.journals.proofs.MomentsAfter.{length-table}
+use Rattle.journals.proofs.MomentsAfter.{length_table}
 use Rattle.net_core.proofs.Tables.{table_item}
 use Rattle.net_core.proofs.config.tables.Tables.next_env.Goals as goal
 
@@ -30,7 +30,7 @@ pub overflow_cast-m : goal.overflow_cast-m
 overflow_cast-m c =
     let net = c.args.net.now in
     let size = ap length c.requires.1.cursors_are
-    ∙ length-table (cursor net c.args.trace.now c.requires.0) (length net.machines) in
+    ∙ length_table (cursor net c.args.trace.now c.requires.0) (length net.machines) in
     let best = few (length net.machines) c.first-m.result c.args.self.now.cursors size
     c.first-m.ensures in
     let below = best.0 in
@@ -40,7 +40,7 @@ overflow_cast-m c =
 pub first-m-requires : goal.first-m-requires
 first-m-requires c =
     let size = ap length c.requires.1.cursors_are
-    ∙ length-table (cursor c.args.net.now c.args.trace.now c.requires.0)
+    ∙ length_table (cursor c.args.net.now c.args.trace.now c.requires.0)
     (length c.args.net.now.machines) in
     omega arith
 
@@ -54,7 +54,7 @@ returns-then-place-len c = λ journal current.
     let m = c.first-m.result in
     let cursors = c.args.self.now.cursors in
     let size = ap length current.cursors_are
-    ∙ length-table (cursor net trace journal) (length net.machines) in
+    ∙ length_table (cursor net trace journal) (length net.machines) in
     let best = few (length net.machines) m cursors size c.first-m.ensures in
     let at = table_item (cursor net trace journal) (length net.machines) cursors m
     c.get-place.result current.cursors_are best.0 c.get-place.ensures in
@@ -73,7 +73,7 @@ returns-in-Event c = λ journal current.
     let code = c.in-Event.code in
     let b = c.is_settled.result in
     let size = ap length current.cursors_are
-    ∙ length-table (cursor net trace journal) (length net.machines) in
+    ∙ length_table (cursor net trace journal) (length net.machines) in
     let best = few (length net.machines) m cursors size c.first-m.ensures in
     let at = table_item (cursor net trace journal) (length net.machines) cursors m
     c.get-place.result current.cursors_are best.0 c.get-place.ensures in
@@ -94,7 +94,7 @@ returns-in-Settle c = λ journal current.
     let m = c.first-m.result in
     let cursors = c.args.self.now.cursors in
     let size = ap length current.cursors_are
-    ∙ length-table (cursor net trace journal) (length net.machines) in
+    ∙ length_table (cursor net trace journal) (length net.machines) in
     let best = few (length net.machines) m cursors size c.first-m.ensures in
     let at = table_item (cursor net trace journal) (length net.machines) cursors m
     c.get-place.result current.cursors_are best.0 c.get-place.ensures in

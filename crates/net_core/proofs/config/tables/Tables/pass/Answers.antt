@@ -3,7 +3,7 @@ use Rattle.transition_table.specs.declared.snapshot.Snapshot.{Snapshot}
 use Rattle.journals.specs.Journals.{snap}
 use Rattle.journals.specs.Cursors.{cursors_after, cursor}
 use Rattle.journals.specs.Moved.{moments_of}
-use Rattle.journals.proofs.MomentsAfter.{length-table, moment_width}
+use Rattle.journals.proofs.MomentsAfter.{length_table, moment_width}
 use Rattle.net_core.proofs.Wakings.{woken_after, others_after}
 use Rattle.journals.proofs.EntriesAt.{suits_machine, moment_of}
 use Rattle.net_core.specs.inner.Marks.{marked_after}
@@ -21,7 +21,7 @@ pub index_mut-requires : goal.index_mut-requires
 index_mut-requires c =
     let below = machine_within c.args.net.now c.args.entry.now c.requires.fits in
     let size = ap length c.requires.current.1.tables.moments_are
-    ∙ length-table (snap c.args.net.now c.requires.current.0)
+    ∙ length_table (snap c.args.net.now c.requires.current.0)
     (length c.args.net.now.machines) in
     omega arith
 
@@ -46,13 +46,13 @@ pub land-requires-clause-below : goal.land-requires-clause-below
 land-requires-clause-below c =
     lands_in c.args.net.now c.args.entry.now (length c.args.self.now.cursors) c.requires.fits
     (ap length c.requires.current.1.tables.cursors_are
-    ∙ length-table (cursor c.args.net.now c.args.trace.now c.requires.current.0)
+    ∙ length_table (cursor c.args.net.now c.args.trace.now c.requires.current.0)
     (length c.args.net.now.machines))
 
 pub land-requires-clause-few : goal.land-requires-clause-few
 land-requires-clause-few c =
     let size = ap length c.requires.current.1.tables.cursors_are
-    ∙ length-table (cursor c.args.net.now c.args.trace.now c.requires.current.0)
+    ∙ length_table (cursor c.args.net.now c.args.trace.now c.requires.current.0)
     (length c.args.net.now.machines) in
     let sixty_four : length c.args.net.now.machines ≤ 64 = c.args.net.now.few_machines in
     omega arith

@@ -1,0 +1,146 @@
+-- Pieces of a range of seeds, joined in order.
+use Rattle.std.proofs.Common.{◌≡◌, ◌⊎◌, ℕ, suc, ◌+◌, ◌*◌, ◌/◌, ◌<◌, ◌≤◌, ◌^◌, inl, inr, le_trans, mul-le-mul_right, div-mul-le_self, le-div_iff_mul-le, one-mul, List, [], ◌∷◌, ◌++◌, length, get_or, Option, Some, None, Result, IfOk, refl, sym, ap, subst, ◌∙◌, suc-mul, zero-mul, arith}
+use Rattle.std.proofs.lemmas.Bool.{cases_lt}
+use Rattle.std.proofs.lemmas.List.{get_or_append_left, get_or_push, length_push}
+use Rattle.polis_base.specs.declared.NoMemory.{NoMemory}
+use Rattle.transition_table.specs.declared.network.Network.{Network}
+use Rattle.journals.specs.declared.entry.TraceItem.{TraceItem}
+use Rattle.outcome_table.specs.declared.table.Results.{Results}
+use Rattle.run_survey.specs.declared.running.Drawing.{Drawing}
+use Rattle.run_survey.specs.declared.told.Survey.{Survey}
+use Rattle.run_survey.specs.declared.workers.Job.{Job}
+use Rattle.run_survey.specs.declared.workers.Piece.{Piece}
+use Rattle.run_survey.specs.Runs.{IsSurveyOf}
+use Rattle.run_survey.specs.inner.Workers.{AreInRow, ArePieces, CanFollow, IsFollowed, IsPiece, IsSoFar, runs_of}
+use Rattle.run_survey.proofs.RunsJoined.{alike, joined_runs, neighbours, of_runs, runs_are}
+use Rattle.run_survey.proofs.Shapes.{shaped}
+
+module _ (net : Network) (monitor : Option Network) (tables : List Results) (trace : List TraceItem) (drawing : Drawing)
+  where
+    -- pieces by their places
+    pub pieces_by_place : (size seed : ℕ) (pieces : List (Result Piece NoMemory))
+        → ((k : ℕ) (d : Result Piece NoMemory) → k < length pieces
+        → IfOk (get_or pieces k d) (IsPiece net monitor tables trace drawing (seed + k * size) size))
+        → ArePieces net monitor tables trace drawing size seed pieces
+    pieces_by_place size seed [] each = tt
+    pieces_by_place size seed (p ∷ pieces) each = (
+      subst (λ (n : ℕ). IfOk p (IsPiece net monitor tables trace drawing n size))
+          (let e : seed + 0 * size ≡ seed = omega arith in e) (each 0 p (omega arith)),
+      pieces_by_place size (seed + size) pieces (λ k d low.
+          subst (λ (n : ℕ). IfOk (get_or pieces k d) (IsPiece net monitor tables trace drawing n size))
+          (place k) (each (suc k) d (omega arith))),
+    )
+      where
+        place : (k : ℕ) → seed + suc k * size ≡ seed + size + k * size
+        place k =
+            ap (λ (n : ℕ). seed + n) (suc-mul k size)
+            ∙ (let e : seed + (k * size + size) ≡ seed + size + k * size = omega arith in e)
+
+    -- the next piece, and those after it
+    pub next_piece : (size seed : ℕ) (left : List (Result Piece NoMemory))
+        (p : Result Piece NoMemory) (rest : List (Result Piece NoMemory)) → left ≡ p ∷ rest
+        → ArePieces net monitor tables trace drawing size seed left
+        → IfOk p (IsPiece net monitor tables trace drawing seed size)
+        × ArePieces net monitor tables trace drawing size (seed + size) rest
+    next_piece size seed left p rest is are =
+        let both = subst (ArePieces net monitor tables trace drawing size seed) is are in (both.0, both.1)
+
+    pub can_follow : (seed done size : ℕ) (so_far : Option Survey) (piece : Piece)
+        → IsSoFar net monitor trace drawing seed done so_far
+        → IsPiece net monitor tables trace drawing (seed + done) size piece → done + size < 2 ^ 64
+        → CanFollow so_far piece.survey
+    can_follow seed done size None piece told is room = tt
+    can_follow seed done size (Some s) piece told is room =
+        let order = drawing.order in
+        let limit = drawing.limit in
+        let runs = runs_are net monitor trace order limit seed done s told in
+        let more = runs_are net monitor trace order limit (seed + done) size piece.survey is.told in
+        record {
+          told = of_runs net monitor trace order limit seed done s told;
+          next_told = of_runs net monitor trace order limit (seed + done) size piece.survey is.told;
+          alike =
+              alike net monitor s piece.survey (shaped net monitor trace order limit seed done s told)
+              (shaped net monitor trace order limit (seed + done) size piece.survey is.told);
+          neighbours = neighbours net monitor trace order limit seed done size s piece.survey told is.told;
+          no_others = is.none;
+          room = omega arith;
+        }
+
+    pub so_far_joined : (seed done size : ℕ) (so_far : Option Survey) (piece : Piece) (all : Survey)
+        → IsSoFar net monitor trace drawing seed done so_far
+        → IsPiece net monitor tables trace drawing (seed + done) size piece
+        → IsFollowed so_far piece.survey all
+        → IsSurveyOf net monitor trace drawing.order drawing.limit seed (done + size) all
+    so_far_joined seed done size None piece all told is joins =
+        subst (IsSurveyOf net monitor trace drawing.order drawing.limit seed (done + size)) (sym joins)
+        (subst
+        (λ (n : ℕ). IsSurveyOf net monitor trace drawing.order drawing.limit seed n piece.survey)
+        (let e : size ≡ done + size = omega arith in e)
+        (subst
+        (λ (n : ℕ). IsSurveyOf net monitor trace drawing.order drawing.limit n size piece.survey)
+        (let e : seed + done ≡ seed = omega arith in e) is.told))
+    so_far_joined seed done size (Some s) piece all told is joins =
+        joined_runs net monitor trace drawing.order drawing.limit seed done size s piece.survey all told
+        is.told joins
+
+-- ---- how many runs are left
+
+pub runs_left : (size : ℕ) (pieces : List (Result Piece NoMemory))
+    → runs_of size pieces ≡ length pieces * size
+runs_left size [] = sym (zero-mul size)
+runs_left size (p ∷ pieces) =
+    let rest = runs_left size pieces in
+    let next = suc-mul (length pieces) size in
+    omega arith
+
+pub runs_next : (size : ℕ) (left : List (Result Piece NoMemory)) (p : Result Piece NoMemory)
+    (rest : List (Result Piece NoMemory)) → left ≡ p ∷ rest
+    → (runs_of size left ≡ size + runs_of size rest) × (length left ≡ suc (length rest))
+runs_next size left p rest is = (ap (runs_of size) is, ap length is)
+
+pub runs_none : (size : ℕ) (left : List (Result Piece NoMemory)) → length left ≡ 0
+    → runs_of size left ≡ 0
+runs_none size [] none = refl
+runs_none size (p ∷ left) none = absurd (omega arith)
+
+-- ---- shares
+
+-- so many pieces of a size that are in the whole
+pub share_within : (left size jobs : ℕ) → jobs ≤ left / size → jobs * size ≤ left
+share_within left size jobs few =
+    le_trans (mul-le-mul_right size few) (div-mul-le_self left size)
+
+pub share_some : (left size : ℕ) → 0 < size → size ≤ left → 0 < left / size
+share_some left size some small =
+    let one : 1 * size ≤ left = subst (λ (n : ℕ). n ≤ left) (sym (one-mul size)) small in
+    let many : 1 ≤ left / size = (le-div_iff_mul-le some).1 one in
+    omega arith
+
+-- the next job's seeds are below the end
+pub job_room : (first count jobs k most : ℕ) → k < jobs → first + jobs * count ≤ most
+    → first + k * count + count ≤ most
+job_room first count jobs k most low room =
+    let more : suc k * count ≤ jobs * count = mul-le-mul_right count (omega arith) in
+    let next = suc-mul k count in
+    omega arith
+
+-- one job more in the row
+pub row_more : (first count : ℕ) (jobs : List Job) (job : Job) → AreInRow first count jobs
+    → job.seeds.first ≡ first + length jobs * count → job.seeds.count ≡ count
+    → AreInRow first count (jobs ++ job ∷ [])
+row_more first count jobs job row start size k d low = cases (cases_lt k (length jobs))
+  where
+    cases : ((k < length jobs) ⊎ (length jobs ≤ k))
+        → ((get_or (jobs ++ job ∷ []) k d).seeds.first ≡ first + k * count)
+        × ((get_or (jobs ++ job ∷ []) k d).seeds.count ≡ count)
+    cases (inl inside) =
+        let same : get_or jobs k d ≡ get_or (jobs ++ job ∷ []) k d =
+        sym (get_or_append_left jobs (job ∷ []) d k inside) in
+        subst (λ (j : Job). (j.seeds.first ≡ first + k * count) × (j.seeds.count ≡ count)) same
+        (row k d inside)
+    cases (inr past) =
+        let size_is = length_push jobs job in
+        let last : length jobs ≡ k = omega arith in
+        subst (λ (j : Job). (j.seeds.first ≡ first + k * count) × (j.seeds.count ≡ count))
+        (sym (get_or_push jobs job d k last))
+        (start ∙ ap (λ (n : ℕ). first + n * count) last, size)

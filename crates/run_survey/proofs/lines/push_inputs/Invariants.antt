@@ -1,0 +1,15 @@
+use Rattle.std.proofs.Common.{◌≡◌, ◌++◌, length}
+use Rattle.std.specs.List.{flat_map, zip}
+use Rattle.polis_base.specs.Lists.{upto}
+use Rattle.event_accounts.specs.Accounts.{buffers_of}
+use Rattle.run_survey.specs.SurveyLines.{input_line}
+use Rattle.run_survey.proofs.lines.push_inputs.Given as goal
+
+-- the lines of the machines before this one, and the place of its first number
+abbrev pub invariant-loop-m : goal.invariant-loop-m
+invariant-loop-m l = record {
+  place : l.first ≡ length (flat_map (buffers_of l.net) (upto l.m));
+  lines : l.into
+      ≡ l.fn.into ++ flat_map (input_line l.word l.net)
+      (zip (flat_map (buffers_of l.net) (upto l.m)) l.spreads);
+}

@@ -1,0 +1,10 @@
+pub mod Figures
+pub mod Kinds
+pub mod Laws
+pub mod Runs
+pub mod Spreads
+pub mod SurveyLines
+pub mod Surveys
+pub mod Two
+pub mod Watching
+pub mod inner

@@ -1,0 +1,4 @@
+pub mod Joining
+pub mod Merging
+pub mod Watching
+pub mod Workers

@@ -2,7 +2,7 @@
 _polis() {
     local word=${COMP_WORDS[COMP_CWORD]} kinds="" options="" kind
     if [ "$COMP_CWORD" -eq 1 ]; then
-        mapfile -t COMPREPLY < <(compgen -W "run shuffle compile image demo check explain equiv bound lint draw replay migrate losses cover wave --help --version" -- "$word")
+        mapfile -t COMPREPLY < <(compgen -W "run shuffle compile image demo check explain equiv bound lint draw replay migrate losses cover watch wave --help --version" -- "$word")
         return
     fi
     case ${COMP_WORDS[1]} in
@@ -21,6 +21,7 @@ _polis() {
         migrate) kinds="net trc jnl stem" options="" ;;
         losses) kinds="net trc jnl" options="" ;;
         cover) kinds="net trc jnl" options="" ;;
+        watch) kinds="net trc jnl net" options="" ;;
         wave) kinds="net trc jnl stem" options="" ;;
     esac
     read -r -a places <<< "$kinds"

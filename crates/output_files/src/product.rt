@@ -73,8 +73,10 @@ impl Saving {
 pub enum End {
     /// All of it; the journal of a run is complete.
     Done,
-    /// The journal of a run ended at its limit of entries.
+    /// The journal of a run ended at its limit of entries, or a monitor hasn't seen all.
     Limit,
+    /// All of it, and a monitor complains.
+    Found,
 }
 
 impl End {
@@ -87,6 +89,7 @@ impl End {
         match self {
             End::Done => Status::Done,
             End::Limit => Status::Limit,
+            End::Found => Status::Found,
         }
     }
 }
@@ -104,17 +107,24 @@ pub struct Product {
 }
 
 impl Product {
-    ghost use Rattle.output_files.specs.Products.{saves_one, shows_only};
+    ghost use Rattle.output_files.specs.Products.{saves_one, shows_and_ends, shows_only};
+
+    /// What saves nothing, shows a text, and ends so.
+    pub fn ending(alloc: Global, shown: Bytes, end: End) -> Product
+        ensures { result ≡ shows_and_ends shown end }
+    {
+        Product {
+            saves: List::new(alloc),
+            shown,
+            end,
+        }
+    }
 
     /// What saves nothing, and shows a text.
     pub fn showing(alloc: Global, shown: Bytes) -> Product
         ensures { result ≡ shows_only shown }
     {
-        Product {
-            saves: List::new(alloc),
-            shown,
-            end: End::Done,
-        }
+        Product::ending(alloc, shown, End::Done)
     }
 
     /// What saves one text, under a stem with an ending, and shows another.

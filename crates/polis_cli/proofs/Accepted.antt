@@ -25,10 +25,10 @@ use Rattle.net_names.specs.Values.{count_of}
 use Rattle.rule_judge.specs.Rules.{disorder}
 use Rattle.net_rules.specs.Networks.{event_of, state_of, IsDomainOf, IsMachineOf}
 use Rattle.net_rules.specs.inner.Sound.{Each as AtEach, has_count}
-use Rattle.net_rules.proofs.NumbersOfNames.{and-first, and-second}
+use Rattle.net_rules.proofs.NumbersOfNames.{and_first, and_second}
 use Rattle.net_rules.proofs.IsSound.{sound}
 use Rattle.net_rules.proofs.HasReceivers.{fresh}
-use Rattle.net_rules.proofs.Sentences.{sentences-have-values}
+use Rattle.net_rules.proofs.Sentences.{sentences_have_values}
 use Rattle.journal_text.specs.Holding.{names_hold, has_name_token, state_has_name, machine_holds, values_hold}
 use Rattle.input_files.specs.Accepted.{Accepted}
 use Rattle.polis_cli.proofs.Tokens.{AreGood, kind_small, tokens_good}
@@ -170,9 +170,9 @@ domain_holds (shapes.Names words) domain is good order count =
     subst (λ (d : Domain). values_hold d ≡ true) (sym is)
     (let names = names_of words in
     let some = ap (λ n. nat_le 1 n) (length_names words)
-    ∙ and-first (nat_le 1 (length words)) (nat_le (length words) 32) count in
+    ∙ and_first (nat_le 1 (length words)) (nat_le (length words) 32) count in
     let few = ap (λ n. nat_le n 32) (length_names words)
-    ∙ and-second (nat_le 1 (length words)) (nat_le (length words) 32) count in
+    ∙ and_second (nat_le 1 (length words)) (nat_le (length words) 32) count in
     let distinct = (fresh no_name words order).distinct in
     λ i. some i && few i && distinct i && good i)
 domain_holds (shapes.Range first last) domain is good order count =
@@ -189,12 +189,12 @@ domains_hold [] (domain ∷ made) all good order counts = absurd all
 domains_hold (d ∷ ds) [] all good order counts = absurd all
 domains_hold (d ∷ ds) (domain ∷ made) all good order counts =
     let own = domain_holds d.shape domain all.0
-    (and-first (shape_good d.shape) (list_all (λ (e : RawDomain). shape_good e.shape) ds) good)
-    (order zero d refl) (and-first (has_count d) (list_all has_count ds) counts) in
+    (and_first (shape_good d.shape) (list_all (λ (e : RawDomain). shape_good e.shape) ds) good)
+    (order zero d refl) (and_first (has_count d) (list_all has_count ds) counts) in
     let others = domains_hold ds made all.1
-    (and-second (shape_good d.shape) (list_all (λ (e : RawDomain). shape_good e.shape) ds) good)
+    (and_second (shape_good d.shape) (list_all (λ (e : RawDomain). shape_good e.shape) ds) good)
     (λ k e at. order (suc k) e at)
-    (and-second (has_count d) (list_all has_count ds) counts) in
+    (and_second (has_count d) (list_all has_count ds) counts) in
     λ i. own i && others i
 
 events_hold : (raw : RawNet) (events : List RawEvent)
@@ -202,9 +202,9 @@ events_hold : (raw : RawNet) (events : List RawEvent)
     → list_all has_name_token (map (event_of raw) events) ≡ true
 events_hold raw [] h = refl
 events_hold raw (e ∷ events) h =
-    let own = and-first (is_name e.name.name)
+    let own = and_first (is_name e.name.name)
     (list_all (λ (x : RawEvent). is_name x.name.name) events) h in
-    let others = events_hold raw events (and-second (is_name e.name.name)
+    let others = events_hold raw events (and_second (is_name e.name.name)
     (list_all (λ (x : RawEvent). is_name x.name.name) events) h) in
     λ i. own i && others i
 
@@ -213,9 +213,9 @@ states_hold : (raw : RawNet) (states : List RawState)
     → list_all state_has_name (map (state_of raw) states) ≡ true
 states_hold raw [] h = refl
 states_hold raw (s ∷ states) h =
-    let own = and-first (is_name s.name.name)
+    let own = and_first (is_name s.name.name)
     (list_all (λ (x : RawState). is_name x.name.name) states) h in
-    let others = states_hold raw states (and-second (is_name s.name.name)
+    let others = states_hold raw states (and_second (is_name s.name.name)
     (list_all (λ (x : RawState). is_name x.name.name) states) h) in
     λ i. own i && others i
 
@@ -226,13 +226,13 @@ machines_hold raw [] [] all h = refl
 machines_hold raw [] (m ∷ ms) all h = absurd all
 machines_hold raw (r ∷ rs) [] all h = absurd all
 machines_hold raw (r ∷ rs) (m ∷ ms) all h =
-    let named = and-first (machine_named r) (list_all machine_named rs) h in
+    let named = and_first (machine_named r) (list_all machine_named rs) h in
     let states = list_all (λ (s : RawState). is_name s.name.name) r.states in
-    let name = ap is_name all.0.name ∙ and-first (is_name r.name.name) states named in
+    let name = ap is_name all.0.name ∙ and_first (is_name r.name.name) states named in
     let kept = ap (list_all state_has_name) all.0.states
-    ∙ states_hold raw r.states (and-second (is_name r.name.name) states named) in
+    ∙ states_hold raw r.states (and_second (is_name r.name.name) states named) in
     let others = machines_hold raw rs ms all.1
-    (and-second (machine_named r) (list_all machine_named rs) h) in
+    (and_second (machine_named r) (list_all machine_named rs) h) in
     λ i. (name i && kept i) && others i
 
 pub names_hold_accepted : (text : List ℕ) (net : Network) → Accepted text net
@@ -249,7 +249,7 @@ names_hold_accepted text net accepted =
     let gb = after a.0 a.1 a.2 ga in let gc = after b.0 b.1 b.2 gb in
     let gd = after c.0 c.1 c.2 gc in let ge = after d.0 d.1 d.2 gd in
     let gf = after e.0 e.1 e.2 ge in
-    let lawful = sound raw none (sentences-have-values raw (ts, has.sentence)) in
+    let lawful = sound raw none (sentences_have_values raw (ts, has.sentence)) in
     let domains = domains_hold raw.domains net.domains made.domains
     (each_holds IsDomain (λ (x : RawDomain). shape_good x.shape) domain_is raw.domains e.0 e.3
     (before e.0 e.1 e.2 ge)) lawful.order lawful.counts in

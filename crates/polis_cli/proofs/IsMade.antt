@@ -8,9 +8,10 @@ use Rattle.polis_words.specs.declared.cause.Failure.TheVariants as failures
 use Rattle.polis_words.specs.declared.status.Status.{Status}
 use Rattle.polis_words.specs.declared.status.Status.TheVariants.{ReadFault, Refused, NoMemory, Illegal}
 use Rattle.polis_words.specs.Lines.{cause_status, status_of}
+use Rattle.output_files.specs.declared.product.End.{End}
 use Rattle.output_files.specs.declared.product.Product.{Product}
 use Rattle.output_files.specs.Ends.{end_status}
-use Rattle.output_files.specs.Products.{shows_only}
+use Rattle.output_files.specs.Products.{shows_and_ends, shows_only}
 use Rattle.input_files.specs.Inputs.{OnlyNetFails}
 use Rattle.polis_cli.specs.Meanings.{Meaning, MayEnd}
 use Rattle.input_files.specs.Failures.{is_finding, is_failure, FilesFail}
@@ -34,6 +35,13 @@ product_made m o product known is apart ends makes = record {
 pub product_is : (product : Product) (shown known : List ℕ) → product ≡ shows_only shown
     → shown ≡ known → product ≡ shows_only known
 product_is product shown known is same = is ∙ ap shows_only same
+
+-- and one that ends so
+pub product_ends : (product : Product) (shown known : List ℕ) (end wanted : End)
+    → product ≡ shows_and_ends shown end → shown ≡ known → end ≡ wanted
+    → product ≡ shows_and_ends known wanted
+product_ends product shown known end wanted is same ends =
+    is ∙ (λ i. shows_and_ends (same i) (ends i))
 
 -- ---- failures
 pub may_fail : (m : Meaning) (status : Status) → m.reads ≡ true → IsTrue (is_failure true status)

@@ -2,7 +2,7 @@
 use Rattle.std.proofs.Common.{◌≡◌, ◌<◌, ℕ, List, refl, arith}
 use Rattle.polis_words.specs.Run.{NeedsWorkers}
 use Rattle.polis_words.specs.declared.requests.Request.{Request}
-use Rattle.polis_words.specs.declared.requests.Request.TheVariants.{Run, Check, Compile, Replay, Migrate, Demo, Bound, Image, Equiv, Losses, Wave, Draw, Explain, Cover, Lint, Shuffle}
+use Rattle.polis_words.specs.declared.requests.Request.TheVariants.{Run, Check, Compile, Replay, Migrate, Demo, Bound, Image, Equiv, Losses, Wave, Draw, Explain, Cover, Lint, Shuffle, Watch}
 use Rattle.polis_words.specs.Requests.{Asks}
 use Rattle.polis_words.proofs.AskOptions.{asked_within}
 use Rattle.input_files.specs.declared.load.Detail.TheVariants as details
@@ -25,6 +25,7 @@ use Rattle.polis_cli.proofs.ExplainMeaning.{explain_lawful}
 use Rattle.polis_cli.proofs.CoverMeaning.{cover_lawful}
 use Rattle.polis_cli.proofs.LintMeaning.{lint_lawful}
 use Rattle.polis_cli.proofs.ShuffleMeaning.{shuffle_lawful}
+use Rattle.polis_cli.proofs.WatchMeaning.{watch_lawful}
 
 pub lawful : (request : Request) → IsLawful (meaning request)
 lawful (Run run) = run_lawful run
@@ -43,6 +44,7 @@ lawful (Explain explain) = explain_lawful explain
 lawful (Cover cover) = cover_lawful cover
 lawful (Lint lint) = lint_lawful lint
 lawful (Shuffle shuffle) = shuffle_lawful shuffle
+lawful (Watch watch) = watch_lawful watch
 
 -- what is asked for needs one worker, where the command line needs no more
 pub one_worker : (words : List (List ℕ)) (request : Request) → Asks words request

@@ -103,11 +103,13 @@ other_ends other h = cc
 end_ends : (end : End) → is_end (end_status end) ≡ true
 end_ends ends.Done = refl
 end_ends ends.Limit = refl
+end_ends ends.Found = refl
 
 -- a status of a product is none of a finding
 end_finds : (end : End) → is_finding (end_status end) ≡ false
 end_finds ends.Done = refl
 end_finds ends.Limit = refl
+end_finds ends.Found = refl
 
 -- ---- where nothing was made
 abbrev pub HasStatus : Failure → Status → Type 0
@@ -459,7 +461,7 @@ module _ (a b : Option Files) (s t : Option (List ℕ)) (words : List (List ℕ)
       by_case (inr (inr (e, out))) =
           subst (λ (u : Status). MayEnd (meaning request) u) (sym e) (inr refl)
 
-  -- Done or Limit: the product was written
+  -- Done, Limit or Found: the product was written
   pub made_written : Asks words request → is_end status ≡ true
       → Changes a b (λ before now. MadeAndWritten status words before now s t)
   made_written asks end = by_case writes
@@ -556,6 +558,7 @@ module _ (a b : Option Files) (s t : Option (List ℕ)) (words : List (List ℕ)
       end_no_refusal : (end : End) → is_refusal (end_status end) ≡ false
       end_no_refusal ends.Done = refl
       end_no_refusal ends.Limit = refl
+      end_no_refusal ends.Found = refl
 
       by_case : Writes status product rose a b s t → is_refusal status ≡ false
       by_case (inl (e, all)) = ap is_refusal e ∙ end_no_refusal product.end

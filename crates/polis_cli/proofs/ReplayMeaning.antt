@@ -89,7 +89,7 @@ found_illegal files replay name cause h f =
     (replay_found files replay name cause e h)
 
 -- a journal that is judged to be legal isn't found to be illegal
-judged_legal : (files : Files) (replay : ReplayWords) (net : Network)
+pub judged_legal : (files : Files) (replay : ReplayWords) (net : Network)
     (trace : List TraceItem) (journal : List Entry) (complete : Bool) (status : Status)
     → IsJudged replay files net trace journal complete
     → ¬ finds_illegal (IsIllegalReplay replay) status files

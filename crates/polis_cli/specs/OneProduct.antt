@@ -1,15 +1,17 @@
--- What is made of one network text is one product.
+-- What is made of the same texts is one product.
 use Rattle.std.specs.Prelude.{◌≡◌, List, None, ℕ}
 use Rattle.polis_base.specs.Host.{Files, bytes_at}
 use Rattle.polis_words.specs.Bound.{BoundWords}
 use Rattle.polis_words.specs.NetStem.{NetStemWords}
 use Rattle.polis_words.specs.Run.{RunWords}
+use Rattle.polis_words.specs.Watch.{WatchWords}
 use Rattle.output_files.specs.declared.product.Product.{Product}
 use Rattle.polis_cli.specs.Bound.{MakesBound}
 use Rattle.polis_cli.specs.Compile.{MakesCompile}
 use Rattle.polis_cli.specs.Draw.{MakesDraw}
 use Rattle.polis_cli.specs.Image.{MakesImage}
 use Rattle.polis_cli.specs.Run.{MakesRun}
+use Rattle.polis_cli.specs.Watch.{MakesWatch}
 
 -- both files hold the same under the name
 abbrev pub HoldSame : List ℕ → Files → Files → Type 0
@@ -37,3 +39,12 @@ JournalsDetermineRun =
     → a.ran.journal ≡ b.ran.journal → a.ran.complete ≡ b.ran.complete
     → (one.saves ≡ other.saves)
     × (a.ran.gathered ≡ b.ran.gathered → a.ran.adopted ≡ b.ran.adopted → one ≡ other)
+
+-- What a watch shows, and how it ends, are functions of the network text, the journal text and the
+-- monitor's. So each of its three answers comes exactly where the monitor gives it.
+abbrev pub TextsDetermineWatch : Type 0
+TextsDetermineWatch =
+    (watch : WatchWords) (before now : Files) (one other : Product)
+    → HoldSame watch.replay.net before now → HoldSame watch.replay.journal before now
+    → HoldSame watch.monitor before now → MakesWatch watch before one
+    → MakesWatch watch now other → one ≡ other

@@ -32,7 +32,7 @@ told host s = record {
 abbrev pub WriteFailed : Outside → Outside → Type 0
 WriteFailed old new = Rose old.write_faults new.write_faults
 
--- Done and Limit: a product was made and written, and no fault came.
+-- Done, Limit and Found: a product was made and written, and no fault came.
 pub record Ended (status : Status) (words : List (List ℕ)) (old new : Outside) : Type 0 where
   pub made : Changes old.files new.files
       (λ before now. MadeAndWritten status words before now old.shown new.shown)

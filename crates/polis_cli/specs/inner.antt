@@ -12,3 +12,4 @@ pub mod Image
 pub mod Equiv
 pub mod Explain
 pub mod Draw
+pub mod Watch

@@ -77,11 +77,7 @@ pub fn make_equiv<'a, H: Host>(
     };
     match compared(alloc, &net, &other) {
         Ok(product) => Ok(product),
-        Err(FileFault::Cause(cause)) => Err(Failure::File {
-            name,
-            cause,
-            explanation: Bytes::new(alloc),
-        }),
+        Err(FileFault::Cause(cause)) => Err(Failure::of(alloc, name, cause)),
         Err(FileFault::NoMemory) => Err(Failure::NoMemory),
     }
 }

@@ -75,11 +75,7 @@ pub fn make_image<'a, H: Host>(
     };
     match product_of_net(alloc, asked, &net) {
         Ok(product) => Ok(product),
-        Err(FileFault::Cause(cause)) => Err(Failure::File {
-            name,
-            cause,
-            explanation: Bytes::new(alloc),
-        }),
+        Err(FileFault::Cause(cause)) => Err(Failure::of(alloc, name, cause)),
         Err(FileFault::NoMemory) => Err(Failure::NoMemory),
     }
 }

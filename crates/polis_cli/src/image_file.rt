@@ -105,11 +105,7 @@ pub fn load_image<'a, H: Host>(
     };
     match image_in(alloc, net, bytes.as_slice()) {
         Ok(image) => Ok(image),
-        Err(FileFault::Cause(cause)) => Err(Failure::File {
-            name,
-            cause,
-            explanation: Bytes::new(alloc),
-        }),
+        Err(FileFault::Cause(cause)) => Err(Failure::of(alloc, name, cause)),
         Err(FileFault::NoMemory) => Err(Failure::NoMemory),
     }
 }

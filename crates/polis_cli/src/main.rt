@@ -27,6 +27,7 @@ mod tasks;
 mod tests;
 mod texts;
 mod top;
+mod watch;
 mod wave;
 mod worked;
 
@@ -104,6 +105,11 @@ Journals
     judges JOURNAL as replay does, and shows for each machine how often it fired, did
     nothing, and did nothing since events blocked each other, which rows were taken and
     which never, and of each input how often it was read and how often for nothing
+  polis watch NET TRACE JOURNAL MONITOR
+    judges JOURNAL as replay does, and runs the network text MONITOR on its output events,
+    where MONITOR waits after each until it can do nothing; shows the first output event
+    of MONITOR, with the entry of JOURNAL that it comes of, or held where there is none,
+    or unfinished where there is none in 60000 entries and MONITOR isn't done
   polis wave NET TRACE JOURNAL STEM
     judges JOURNAL as replay does, and saves the run along its entries as STEM.vcd, for
     wave viewers

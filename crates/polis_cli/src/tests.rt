@@ -20,6 +20,7 @@ use sample_networks::cases::journal_faults::JOURNAL_FAULTS;
 use sample_networks::cases::limits::LIMITS;
 use sample_networks::cases::long_texts::LONG_TEXTS;
 use sample_networks::cases::many::MANY;
+use sample_networks::cases::monitors::MONITORS;
 use sample_networks::cases::orders::ORDERS;
 use sample_networks::cases::replays::REPLAYS;
 use sample_networks::cases::reports::REPORTS;
@@ -71,6 +72,12 @@ fn reports_on_journals(rt: HostRuntime) -> Result<(), Fail> {
 #[test]
 fn says_what_tables_are_used_for(rt: HostRuntime) -> Result<(), Fail> {
     try_cases(&rt, rt.alloc(), USES, &OpenGate)?;
+    Ok(())
+}
+
+#[test]
+fn says_what_monitors_say(rt: HostRuntime) -> Result<(), Fail> {
+    try_cases(&rt, rt.alloc(), MONITORS, &OpenGate)?;
     Ok(())
 }
 

@@ -23,6 +23,7 @@ use crate::migrate::make_migrate;
 use crate::replay::make_replay;
 use crate::run::{make_run, make_run_by};
 use crate::shuffle::make_shuffle;
+use crate::watch::make_watch;
 use crate::wave::make_wave;
 use event_buffer::Gate;
 use input_files::Detail;
@@ -60,6 +61,7 @@ fn make<'a, H: Host>(
         Request::Cover(cover) => make_cover(alloc, host, cover),
         Request::Lint(lint) => make_lint(alloc, host, lint),
         Request::Shuffle(shuffle) => make_shuffle(alloc, host, shuffle),
+        Request::Watch(watch) => make_watch(alloc, host, watch),
     }
 }
 

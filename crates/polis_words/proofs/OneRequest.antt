@@ -10,8 +10,9 @@ use Rattle.polis_words.specs.NetTrace.{NetTraceWords, AsksNetTrace}
 use Rattle.polis_words.specs.Replay.{ReplayWords, AsksReplay}
 use Rattle.polis_words.specs.ReplayStem.{ReplayStemWords, AsksReplayStem}
 use Rattle.polis_words.specs.Requests.{Asks}
+use Rattle.polis_words.specs.Watch.{WatchWords, AsksWatch, named_by}
 use Rattle.polis_words.specs.declared.requests.Request.{Request}
-use Rattle.polis_words.specs.declared.requests.Request.TheVariants.{Run, Check, Compile, Replay, Migrate, Demo, Bound, Image, Equiv, Losses, Wave, Draw, Explain, Cover, Lint, Shuffle}
+use Rattle.polis_words.specs.declared.requests.Request.TheVariants.{Run, Check, Compile, Replay, Migrate, Demo, Bound, Image, Equiv, Losses, Wave, Draw, Explain, Cover, Lint, Shuffle, Watch}
 use Rattle.polis_words.specs.declared.requests.explain.Explain.{Explain as Explained}
 use Rattle.polis_words.specs.declared.requests.explain.Explain.TheVariants as explains
 use Rattle.polis_words.proofs.Asks.{one_demo, same_item, same_word}
@@ -37,6 +38,7 @@ command_of (Explain explain) = codes "explain"
 command_of (Cover cover) = codes "cover"
 command_of (Lint lint) = codes "lint"
 command_of (Shuffle shuffle) = codes "shuffle"
+command_of (Watch watch) = codes "watch"
 
 -- the first three letters of a word as one number, which tells the commands apart
 letters : List ℕ → ℕ
@@ -105,6 +107,12 @@ one_replay_stem word words a b p q =
     let stem = same_item 4 (sym p.form ∙ q.form) in
     λ i. record { replay = replay i; stem = stem i }
 
+one_watch : (words : List (List ℕ)) (a b : WatchWords) → AsksWatch words a → AsksWatch words b
+    → a ≡ b
+one_watch words a b p q =
+    let same = one_replay_stem (codes "watch") words (named_by a) (named_by b) p q in
+    λ i. record { replay = (same i).replay; monitor = (same i).stem }
+
 one_bounds : (words : List (List ℕ)) (a b : BoundWords) → AsksBound words a → AsksBound words b
     → a ≡ b
 one_bounds words a b asks again =
@@ -160,6 +168,7 @@ one_request words (Lint a) (Lint b) asks again =
     ap Lint (one_net (codes "lint") words a b asks again)
 one_request words (Shuffle a) (Shuffle b) asks again =
     ap Shuffle (one_shuffle words a b asks again)
+one_request words (Watch a) (Watch b) asks again = ap Watch (one_watch words a b asks again)
 one_request words a b asks again =
     let same = ap letters (same_word words 0 (command_of b) (command_of a) (begins words b again)
     (begins words a asks)) in

@@ -7,6 +7,7 @@ pub mod NetStem
 pub mod NetTrace
 pub mod Replay
 pub mod ReplayStem
+pub mod Watch
 pub mod Demo
 pub mod Bound
 pub mod Equiv

@@ -1,9 +1,10 @@
 // Why a call ends before its work is done.
-ghost use Rattle.std.specs.Prelude.{◌≡◌};
+ghost use Rattle.std.specs.Prelude.{◌≡◌, []};
 
 use crate::status::Status;
 use journal_text::JournalKind;
 use polis_base::{Bytes, Name, NoMemory};
+use std::alloc::Global;
 use trace_text::TraceKind;
 
 /// What is wrong with the first token of a text that doesn't read.
@@ -74,7 +75,7 @@ pub enum Cause {
     ImageWrong { text: Bytes },
     /// The image of a network is longer than a file may be.
     ImageLong,
-    /// A second network hasn't the shape of the first.
+    /// A second network hasn't the shape of the first, or is no monitor of it.
     OtherShape,
     /// The tables of two networks differ: the first machine's name and its least snapshot on which
     /// they do, as they are printed.
@@ -132,6 +133,18 @@ impl<'a> From<NoMemory> for Failure<'a> {
 
 impl<'a> Failure<'a> {
     ghost use Rattle.polis_words.specs.Lines.{status_of};
+    ghost use Rattle.polis_words.specs.declared.cause.Failure.{Failure};
+
+    /// That of the file of this name for this cause, of which nothing more is said.
+    pub fn of(alloc: Global, name: &'a str, cause: Cause) -> Failure<'a>
+        ensures { result ≡ Failure.File name.entry cause [] }
+    {
+        Failure::File {
+            name,
+            cause,
+            explanation: Bytes::new(alloc),
+        }
+    }
 
     /// The status of a call that fails so.
     pub fn status(&self) -> Status

@@ -19,6 +19,7 @@ mod replay;
 mod replay_stem;
 mod run;
 mod shuffle;
+mod watch;
 mod workers;
 
 pub use bound::Bound;
@@ -45,6 +46,8 @@ pub use run::Run;
 use run::run_of;
 pub use shuffle::Shuffle;
 use shuffle::shuffle_of;
+pub use watch::Watch;
+use watch::watch_of;
 pub use workers::{needs_workers, several_of};
 
 /// What a command line asks for, one variant for each command.
@@ -82,6 +85,8 @@ pub enum Request<'a> {
     Lint(Check<'a>),
     /// To run a network on a trace by draws.
     Shuffle(Shuffle<'a>),
+    /// To say whether a monitor complains of a legal journal.
+    Watch(Watch<'a>),
 }
 
 /// What the command line asks for, if it asks for anything: its first word names the command.
@@ -111,6 +116,7 @@ pub fn request_of(words: &Words) -> Option<Request<'_>>
         "cover" => Some(Request::Cover(replay_of(words)?)),
         "lint" => Some(Request::Lint(net_of(words)?)),
         "shuffle" => Some(Request::Shuffle(shuffle_of(words)?)),
+        "watch" => Some(Request::Watch(watch_of(words)?)),
         _ => None,
     }
 }

@@ -11,7 +11,8 @@ pub enum Status {
     ReadFault = 2,
     /// A file isn't held, is too long or isn't accepted.
     Refused = 3,
-    /// The run was made and written, and its journal ended at its limit of entries.
+    /// The run was made and written, and its journal ended at its limit of entries; or a monitor
+    /// that complains of nothing hasn't seen all of a journal.
     Limit = 4,
     /// A save failed, or the show of the summary or of the finding.
     WriteFault = 5,
@@ -21,4 +22,6 @@ pub enum Status {
     Illegal = 7,
     /// Two networks were compared, and tables of them differ.
     Differ = 8,
+    /// A monitor was run on the outputs of a journal, and it complains.
+    Found = 9,
 }

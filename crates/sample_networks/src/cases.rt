@@ -13,6 +13,7 @@ pub mod limits;
 pub mod listings;
 pub mod long_texts;
 pub mod many;
+pub mod monitors;
 pub mod orders;
 pub mod replays;
 pub mod reports;

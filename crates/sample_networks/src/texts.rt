@@ -146,6 +146,33 @@ machine timer priority 2 {
 }
 ";
 
+/// A monitor of the seat belt controller: each alarm is turned on before it is turned off.
+pub const PAIRS: &str = "network pairs version 1
+domain yesno = { no, yes }
+event alarm_on from env
+event alarm_off from env
+event early to env
+machine m priority 0 {
+  input alarm_on, alarm_off
+  output early
+  state on : yesno = no
+  when alarm_on do on := yes
+  when alarm_off, absent alarm_on, on = yes do on := no
+  when alarm_off, absent alarm_on, on = no do emit early
+}
+";
+
+/// A monitor of it: no alarm sounds.
+pub const QUIET: &str = "network quiet version 1
+event alarm_on from env
+event loud to env
+machine m priority 0 {
+  input alarm_on
+  output loud
+  when alarm_on do emit loud
+}
+";
+
 /// A machine whose first and last row conflict.
 pub const CLASH: &str = "network clash version 1
 event a from env

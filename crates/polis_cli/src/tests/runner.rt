@@ -312,6 +312,7 @@ fn name_of(status: Status) -> &'static str {
         Status::NoMemory => "NoMemory",
         Status::Illegal => "Illegal",
         Status::Differ => "Differ",
+        Status::Found => "Found",
     }
 }
 

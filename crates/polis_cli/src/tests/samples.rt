@@ -26,6 +26,12 @@ fn network(name: &str) -> &'static str {
     if name == "belt.net" {
         return texts::BELT;
     }
+    if name == "pairs.net" {
+        return texts::PAIRS;
+    }
+    if name == "quiet.net" {
+        return texts::QUIET;
+    }
     if name == "clash.net" {
         return texts::CLASH;
     }

@@ -90,6 +90,18 @@ pub const USAGE: &str = r#"
 :: case cover net trc jnl o
 :: call cover net trc jnl o
 :: shows Usage usage
+:: case watch net trc jnl
+:: call watch net trc jnl
+:: shows Usage usage
+:: case watch net trc jnl ""
+:: call watch net trc jnl ""
+:: shows Usage usage
+:: case watch net "" jnl mon
+:: call watch net "" jnl mon
+:: shows Usage usage
+:: case watch net trc jnl mon o
+:: call watch net trc jnl mon o
+:: shows Usage usage
 :: case lint
 :: call lint
 :: shows Usage usage

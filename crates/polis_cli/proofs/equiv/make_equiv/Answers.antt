@@ -1,3 +1,7 @@
+use Rattle.std.proofs.Common.{[], refl, subst, sym}
+use Rattle.polis_words.specs.declared.cause.Failure.{Failure}
+use Rattle.polis_cli.specs.Equiv.{equiv_meaning}
+use Rattle.polis_cli.specs.inner.Made.{IsMadeFailure}
 use Rattle.polis_cli.proofs.EquivMeaning.{equiv_made, first_fails, pair_fails, second_fails}
 use Rattle.polis_cli.proofs.equiv.make_equiv.Goals as goal
 
@@ -22,10 +26,12 @@ returns-in-Err-load_net-clause-made g c =
 
 pub returns-in-Err-Cause-clause-made : goal.returns-in-Err-Cause-clause-made
 returns-in-Err-Cause-clause-made g c =
-    pair_fails (g.H.Host.files c.args.host.now) c.args.asked.now c.in-Ok.net
-    c.in-Ok-load_net.other c.other-name.result.now c.in-Err-Cause.cause c.new.result
-    c.other-name.ensures
+    let o = g.H.Host.files c.args.host.now in
+    let asked = c.args.asked.now in
+    subst (λ (f : Failure). IsMadeFailure (equiv_meaning asked) o f) (sym c.of.ensures)
+    (pair_fails o asked c.in-Ok.net c.in-Ok-load_net.other c.other-name.result.now
+    c.in-Err-Cause.cause [] c.other-name.ensures
     (rw c.net.ensures at c.in-Ok.ensures.held) (rw c.net.ensures at c.in-Ok.ensures.one)
     (rw (c.in-Ok.ensures.left.files, c.other-name.ensures) at c.in-Ok-load_net.ensures.held)
     (rw (c.in-Ok.ensures.left.files, c.other-name.ensures) at c.in-Ok-load_net.ensures.one)
-    (rw c.in-Err-Cause.field-0-is at c.in-Err-Cause.ensures.failed) c.new.ensures
+    (rw c.in-Err-Cause.field-0-is at c.in-Err-Cause.ensures.failed) refl)

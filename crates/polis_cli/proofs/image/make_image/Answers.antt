@@ -1,3 +1,7 @@
+use Rattle.std.proofs.Common.{[], refl, subst, sym}
+use Rattle.polis_words.specs.declared.cause.Failure.{Failure}
+use Rattle.polis_cli.specs.Image.{image_meaning}
+use Rattle.polis_cli.specs.inner.Made.{IsMadeFailure}
 use Rattle.polis_cli.proofs.ImageMeaning.{image_made, net_fails, too_long}
 use Rattle.polis_cli.proofs.image.make_image.Goals as goal
 
@@ -14,7 +18,9 @@ returns-in-Err-clause-made g c =
 
 pub returns-in-Err-Cause-clause-made : goal.returns-in-Err-Cause-clause-made
 returns-in-Err-Cause-clause-made g c =
-    too_long (g.H.Host.files c.args.host.now) c.args.asked.now c.in-Ok.net c.net-name.result.now
-    c.in-Err-Cause.cause c.new.result c.net-name.ensures
+    let o = g.H.Host.files c.args.host.now in
+    let asked = c.args.asked.now in
+    subst (λ (f : Failure). IsMadeFailure (image_meaning asked) o f) (sym c.of.ensures)
+    (too_long o asked c.in-Ok.net c.net-name.result.now c.in-Err-Cause.cause [] c.net-name.ensures
     (rw c.net-name.ensures at c.in-Ok.ensures.held)
-    (rw c.in-Err-Cause.field-0-is at c.in-Err-Cause.ensures.failed) c.new.ensures
+    (rw c.in-Err-Cause.field-0-is at c.in-Err-Cause.ensures.failed) refl)

@@ -1,6 +1,7 @@
 use Rattle.polis_cli.proofs.Headline.{draws_give_headline, runs_give_headline}
 use Rattle.polis_cli.proofs.IsRan.{alone_is_scheduled}
 use Rattle.polis_cli.proofs.OneProduct.{journals_determine_run, net_texts_determine}
+use Rattle.polis_cli.proofs.OneWatch.{texts_determine_watch}
 use Rattle.polis_cli.proofs.SavesDetermineRun.{one_run}
 use Rattle.polis_cli.proofs.law.laws.Goals as goal
 
@@ -21,3 +22,6 @@ returns-clause-of_net_text c = net_texts_determine
 
 pub returns-clause-of_journal : goal.returns-clause-of_journal
 returns-clause-of_journal c = journals_determine_run
+
+pub returns-clause-of_watch : goal.returns-clause-of_watch
+returns-clause-of_watch c = texts_determine_watch c.laws-2.ensures.one

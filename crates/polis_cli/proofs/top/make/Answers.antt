@@ -48,3 +48,8 @@ pub returns-in-Shuffle-clause-made : goal.returns-in-Shuffle-clause-made
 returns-in-Shuffle-clause-made g c =
     subst (λ (r : Request). IsMade (meaning r) (g.H.Host.files c.args.host.now)
     c.make_shuffle.result) (sym c.in-Shuffle.is) c.make_shuffle.ensures.made
+
+pub returns-in-Watch-clause-made : goal.returns-in-Watch-clause-made
+returns-in-Watch-clause-made g c =
+    subst (λ (r : Request). IsMade (meaning r) (g.H.Host.files c.args.host.now)
+    c.make_watch.result) (sym c.in-Watch.is) c.make_watch.ensures.made

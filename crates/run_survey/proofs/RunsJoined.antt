@@ -120,6 +120,22 @@ module _ (net : Network) (monitor : Option Network) (trace : List TraceItem) (or
       → s.runs ≡ a
   runs_are seed a s of = of.told.runs ∙ of.drawn.many
 
+  -- by what the survey itself says of its runs
+  pub of_own : (seed a : ℕ) (s : Survey) → IsSurveyOf net monitor trace order limit seed a s
+      → IsSurveyOf net monitor trace order limit s.seed s.runs s
+  of_own seed a s of =
+      subst (λ (n : ℕ). IsSurveyOf net monitor trace order limit n s.runs s) (sym of.told.seed)
+      (subst (λ (n : ℕ). IsSurveyOf net monitor trace order limit seed n s)
+      (sym (runs_are seed a s of)) of)
+
+  pub one_more : (seed a : ℕ) (s new : Survey) → IsSurveyOf net monitor trace order limit seed a s
+      → IsSurveyOf net monitor trace order limit s.seed (s.runs + 1) new
+      → IsSurveyOf net monitor trace order limit seed (a + 1) new
+  one_more seed a s new of more =
+      subst (λ (n : ℕ). IsSurveyOf net monitor trace order limit n (a + 1) new) of.told.seed
+      (subst (λ (n : ℕ). IsSurveyOf net monitor trace order limit s.seed (n + 1) new)
+      (runs_are seed a s of) more)
+
   pub neighbours : (seed a b : ℕ) (s t : Survey) → IsSurveyOf net monitor trace order limit seed a s
       → IsSurveyOf net monitor trace order limit (seed + a) b t → t.seed ≡ s.seed + s.runs
   neighbours seed a b s t of next =

@@ -1,5 +1,5 @@
 -- Pieces of a range of seeds, joined in order.
-use Rattle.std.proofs.Common.{◌≡◌, ◌⊎◌, ℕ, suc, ◌+◌, ◌*◌, ◌/◌, ◌<◌, ◌≤◌, ◌^◌, inl, inr, le_trans, mul-le-mul_right, div-mul-le_self, le-div_iff_mul-le, one-mul, List, [], ◌∷◌, ◌++◌, length, get_or, Option, Some, None, Result, IfOk, refl, sym, ap, subst, ◌∙◌, suc-mul, zero-mul, arith}
+use Rattle.std.proofs.Common.{◌≡◌, ◌⊎◌, ℕ, suc, ◌+◌, ◌*◌, ◌/◌, ◌<◌, ◌≤◌, ◌^◌, inl, inr, le_trans, mul-le-mul_right, div-mul-le_self, le-div_iff_mul-le, one-mul, List, [], ◌∷◌, ◌++◌, length, get_or, Option, Some, None, Result, Ok, IfOk, refl, sym, ap, subst, ◌∙◌, suc-mul, zero-mul, arith}
 use Rattle.std.proofs.lemmas.Bool.{cases_lt}
 use Rattle.std.proofs.lemmas.List.{get_or_append_left, get_or_push, length_push}
 use Rattle.polis_base.specs.declared.NoMemory.{NoMemory}
@@ -11,7 +11,7 @@ use Rattle.run_survey.specs.declared.told.Survey.{Survey}
 use Rattle.run_survey.specs.declared.workers.Job.{Job}
 use Rattle.run_survey.specs.declared.workers.Piece.{Piece}
 use Rattle.run_survey.specs.Runs.{IsSurveyOf}
-use Rattle.run_survey.specs.inner.Workers.{AreInRow, ArePieces, CanFollow, IsFollowed, IsPiece, IsSoFar, runs_of}
+use Rattle.run_survey.specs.inner.Workers.{AreInRow, ArePieces, CanFollow, ComesTo, IsFollowed, IsPiece, IsSoFar, Task, Tells, runs_of}
 use Rattle.run_survey.proofs.RunsJoined.{alike, joined_runs, neighbours, of_runs, runs_are}
 use Rattle.run_survey.proofs.Shapes.{shaped}
 
@@ -66,20 +66,21 @@ module _ (net : Network) (monitor : Option Network) (tables : List Results) (tra
           room = omega arith;
         }
 
-    pub so_far_joined : (seed done size : ℕ) (so_far : Option Survey) (piece : Piece) (all : Survey)
-        → IsSoFar net monitor trace drawing seed done so_far
+    pub so_far_joined : (seed done size : ℕ) (so_far : Option Survey) (piece : Piece)
+        (all : Option Survey) → IsSoFar net monitor trace drawing seed done so_far
         → IsPiece net monitor tables trace drawing (seed + done) size piece
         → IsFollowed so_far piece.survey all
-        → IsSurveyOf net monitor trace drawing.order drawing.limit seed (done + size) all
+        → IsSoFar net monitor trace drawing seed (done + size) all
     so_far_joined seed done size None piece all told is joins =
-        subst (IsSurveyOf net monitor trace drawing.order drawing.limit seed (done + size)) (sym joins)
+        subst (IsSoFar net monitor trace drawing seed (done + size)) (sym joins)
         (subst
         (λ (n : ℕ). IsSurveyOf net monitor trace drawing.order drawing.limit seed n piece.survey)
         (let e : size ≡ done + size = omega arith in e)
         (subst
         (λ (n : ℕ). IsSurveyOf net monitor trace drawing.order drawing.limit n size piece.survey)
         (let e : seed + done ≡ seed = omega arith in e) is.told))
-    so_far_joined seed done size (Some s) piece all told is joins =
+    so_far_joined seed done size (Some s) piece None told is joins = absurd joins
+    so_far_joined seed done size (Some s) piece (Some all) told is joins =
         joined_runs net monitor trace drawing.order drawing.limit seed done size s piece.survey all told
         is.told joins
 
@@ -102,6 +103,83 @@ pub runs_none : (size : ℕ) (left : List (Result Piece NoMemory)) → length le
     → runs_of size left ≡ 0
 runs_none size [] none = refl
 runs_none size (p ∷ left) none = absurd (omega arith)
+
+-- ---- pieces of a task
+
+module _ (task : Task) (runs : ℕ) (so_far : Option Survey) (left rest : List (Result Piece NoMemory)) (p : Result Piece NoMemory) (piece : Piece)
+  where
+    -- the next piece is of the next runs
+    pub next_is : left ≡ p ∷ rest → p ≡ Ok piece → (comes : ComesTo task runs so_far left)
+        → IsPiece task.net task.monitor task.tables task.trace task.drawing (task.first + comes.done)
+        task.size piece
+    next_is is ok comes =
+        subst
+        (λ (p : Result Piece NoMemory). IfOk p (IsPiece task.net task.monitor task.tables task.trace
+        task.drawing (task.first + comes.done) task.size)) ok
+        (next_piece task.net task.monitor task.tables task.trace task.drawing task.size
+        (task.first + comes.done) left p rest is comes.left).0
+
+    pub next_follows : left ≡ p ∷ rest → p ≡ Ok piece → ComesTo task runs so_far left
+        → CanFollow so_far piece.survey
+    next_follows is ok comes =
+        can_follow task.net task.monitor task.tables task.trace task.drawing task.first comes.done
+        task.size so_far piece comes.told (next_is is ok comes)
+        (let more = (runs_next task.size left p rest is).0 in
+        let sum = comes.sum in
+        let room = comes.room in
+        omega arith)
+
+    pub comes_on : (all : Option Survey) → left ≡ p ∷ rest → p ≡ Ok piece
+        → ComesTo task runs so_far left → IsFollowed so_far piece.survey all
+        → ComesTo task runs all rest
+    comes_on all is ok comes followed = record {
+      done = comes.done + task.size;
+      told =
+          so_far_joined task.net task.monitor task.tables task.trace task.drawing task.first comes.done
+          task.size so_far piece all comes.told (next_is is ok comes) followed;
+      left =
+          subst
+          (λ (n : ℕ). ArePieces task.net task.monitor task.tables task.trace task.drawing task.size n rest)
+          (let done = comes.done in
+          let first = task.first in
+          let size = task.size in
+          let e : first + done + size ≡ first + (done + size) = omega arith in e)
+          (next_piece task.net task.monitor task.tables task.trace task.drawing task.size
+          (task.first + comes.done) left p rest is comes.left).1;
+      sum =
+          (let more = (runs_next task.size left p rest is).0 in
+          let sum = comes.sum in
+          omega arith);
+      room = comes.room;
+    }
+
+-- the pieces of a round
+pub round_comes : (task : Task) (done jobs : ℕ) (so_far : Option Survey)
+    (pieces : List (Result Piece NoMemory)) → Tells task done so_far
+    → ArePieces task.net task.monitor task.tables task.trace task.drawing task.size
+    (task.first + done) pieces
+    → length pieces ≡ jobs → done + jobs * task.size < 2 ^ 64
+    → ComesTo task (done + jobs * task.size) so_far pieces
+round_comes task done jobs so_far pieces told left many room = record {
+  done = done;
+  told = told;
+  left = left;
+  sum =
+      ap (λ (n : ℕ). done + n)
+      (runs_left task.size pieces ∙ ap (λ (n : ℕ). n * task.size) many);
+  room = room;
+}
+
+-- where no pieces are left, all runs are told
+pub all_told : (task : Task) (runs : ℕ) (so_far : Option Survey)
+    (left : List (Result Piece NoMemory)) → length left ≡ 0 → ComesTo task runs so_far left
+    → Tells task runs so_far
+all_told task runs so_far left none comes =
+    subst (λ (n : ℕ). Tells task n so_far)
+    (let size = runs_none task.size left none in
+    let sum = comes.sum in
+    let e : comes.done ≡ runs = omega arith in e)
+    comes.told
 
 -- ---- shares
 

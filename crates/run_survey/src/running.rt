@@ -69,6 +69,35 @@ fn survey_of_seed<R: Reactor, W: Watcher>(
     Ok(survey)
 }
 
+// Joins the run of the next seed to what is told of those before.
+fn join_next<R: Reactor, W: Watcher>(
+    alloc: Global,
+    r: &R,
+    w: &W,
+    tables: &Tables,
+    memos: &mut Memos,
+    trace: &Trace,
+    drawing: Drawing,
+    survey: &mut Survey,
+) -> Result<(), NoMemory>
+    requires trace { IsTrace (R.meaning r.now) trace.now }
+    requires watcher { W.watches w.now (R.meaning r.now) }
+    requires tables { AreTablesOf (R.meaning r.now) tables.now }
+    requires memos { AreMemos (R.meaning r.now) tables.now memos.old.items }
+    requires told { IsSurveyOf (R.meaning r.now) (W.monitor w.now) trace.now drawing.order
+        drawing.limit survey.old.seed survey.old.runs survey.old }
+    requires seed { survey.old.seed + survey.old.runs < 2 ^ 64 }
+    requires room { survey.old.runs + 1 < 2 ^ 64 }
+    ensures told { OnOk result (IsSurveyOf (R.meaning r.now) (W.monitor w.now) trace.now
+        drawing.order drawing.limit survey.old.seed (survey.old.runs + 1) survey.new) }
+    ensures memos { OnOk result (AreMemos (R.meaning r.now) tables.now memos.new.items) }
+{
+    let seed = survey.seed + survey.runs;
+    let next = survey_of_seed(alloc, r, w, tables, memos, trace, drawing, seed)?;
+    survey.join(&next)?;
+    Ok(())
+}
+
 /// The survey of the runs of these seeds, by the tables of the network and by what is known of
 /// snapshots, to which what the runs meet is added. At most 32 runs have no others.
 pub fn survey_with<R: Reactor, W: Watcher>(
@@ -94,9 +123,8 @@ pub fn survey_with<R: Reactor, W: Watcher>(
     ensures memos { OnOk result (AreMemos (R.meaning r.now) tables.now memos.new.items) }
 {
     let mut survey = survey_of_seed(alloc, r, w, tables, memos, trace, drawing, seeds.first)?;
-    for k in 1..seeds.count {
-        let next = survey_of_seed(alloc, r, w, tables, memos, trace, drawing, seeds.first + k)?;
-        survey.join(&next)?;
+    for _ in 1..seeds.count {
+        join_next(alloc, r, w, tables, memos, trace, drawing, &mut survey)?;
     }
     Ok(survey)
 }

@@ -5,7 +5,7 @@ ghost use Rattle.outcome_table.specs.declared.table.Results.{Results};
 ghost use Rattle.table_use.specs.Coverage.{AreTablesOf};
 ghost use Rattle.transition_table.specs.declared.network.Network.{Network};
 ghost use Rattle.run_survey.specs.Runs.{IsShapedBy, IsSurveyOf};
-ghost use Rattle.run_survey.specs.inner.Workers.{AreInRow, ArePieces, CanFollow, IsFollowed, IsPiece, IsReady, Knows};
+ghost use Rattle.run_survey.specs.inner.Workers.{AreInRow, ArePieces, CanFollow, ComesTo, IsFollowed, IsPiece, IsReady, Knows, Task, Tells};
 
 use crate::running::{Drawing, Seeds, survey_with};
 use crate::told::Survey;
@@ -170,28 +170,26 @@ fn pieces_of<R: Reactor + Sync, W: Watcher + Sync, T: Threads + Sync>(
     Ok(pieces)
 }
 
-// A survey joined to what is told of the runs before.
-fn joined_to(so_far: Option<Survey>, next: Survey) -> Result<Survey, NoMemory>
-    requires { CanFollow so_far next }
-    ensures { IfOk result (λ all. IsFollowed so_far next all) }
+// Joins a survey to what is told of the runs before.
+fn add_survey(so_far: &mut Option<Survey>, next: Survey) -> Result<(), NoMemory>
+    requires { CanFollow so_far.old next }
+    ensures { OnOk result (IsFollowed so_far.old next so_far.new) }
 {
     match so_far {
-        Some(mut survey) => {
-            survey.join(&next)?;
-            Ok(survey)
-        }
-        None => Ok(next),
+        Some(survey) => survey.join(&next)?,
+        None => *so_far = Some(next),
     }
+    Ok(())
 }
 
 // Joins a piece to what is told of the runs before, and takes what its worker knows.
-fn with_piece(
+fn add_piece(
     memos: &mut Vec<Memos>,
-    so_far: Option<Survey>,
+    so_far: &mut Option<Survey>,
     piece: Piece,
-) -> Result<Survey, NoMemory>
-    requires { CanFollow so_far piece.survey }
-    ensures followed { IfOk result (λ all. IsFollowed so_far piece.survey all) }
+) -> Result<(), NoMemory>
+    requires { CanFollow so_far.old piece.survey }
+    ensures followed { OnOk result (IsFollowed so_far.old piece.survey so_far.new) }
     ensures memos { OnOk result (memos.new.items ≡ memos.old.items ++ piece.memos ∷ []) }
 {
     let Piece {
@@ -199,8 +197,32 @@ fn with_piece(
         memos: known,
     } = piece;
     memos.push(known)?;
-    let all = joined_to(so_far, survey)?;
-    Ok(all)
+    add_survey(so_far, survey)?;
+    Ok(())
+}
+
+// Joins pieces in their order to what is told of the runs before, and takes what their workers
+// know.
+fn add_pieces(
+    memos: &mut Vec<Memos>,
+    so_far: &mut Option<Survey>,
+    pieces: Vec<Result<Piece, NoMemory>>,
+) -> Result<(), NoMemory>
+    requires { (task : Task) × (runs : ℕ) × ComesTo task runs so_far.old pieces.items }
+    ensures told { OnOk result ((task : Task) (runs : ℕ)
+        → ComesTo task runs so_far.old pieces.items → Tells task runs so_far.new) }
+    ensures knows { OnOk result ((task : Task) (runs : ℕ)
+        → ComesTo task runs so_far.old pieces.items
+        → All (Knows task.net task.tables) memos.old.items
+        → All (Knows task.net task.tables) memos.new.items) }
+    ensures many { OnOk result (length memos.new.items
+        ≡ length memos.old.items + length pieces.items) }
+{
+    for piece in pieces {
+        let piece = piece?;
+        add_piece(memos, so_far, piece)?;
+    }
+    Ok(())
 }
 
 // The survey of the runs of these seeds, which are shared out in rounds among as many workers as
@@ -213,15 +235,15 @@ fn survey_in_rounds<R: Reactor + Sync, W: Watcher + Sync, T: Threads + Sync>(
     trace: &Trace,
     drawing: Drawing,
     seeds: Seeds,
-    mut memos: Vec<Memos>,
+    memos: &mut Vec<Memos>,
 ) -> Result<Survey, NoMemory>
     requires trace { IsTrace (R.meaning r.now) trace.now }
     requires watcher { W.watches w.now (R.meaning r.now) }
     requires tables { AreTablesOf (R.meaning r.now) tables.now }
     requires some { 0 < seeds.count }
     requires room { seeds.first + seeds.count ≤ 2 ^ 64 }
-    requires knows { All (Knows (R.meaning r.now) tables.now) memos.items }
-    requires workers { 0 < length memos.items }
+    requires knows { All (Knows (R.meaning r.now) tables.now) memos.old.items }
+    requires workers { 0 < length memos.old.items }
     ensures { IfOk result (λ survey. IsSurveyOf (R.meaning r.now) (W.monitor w.now) trace.now
         drawing.order drawing.limit seeds.first seeds.count survey) }
 {
@@ -234,13 +256,10 @@ fn survey_in_rounds<R: Reactor + Sync, W: Watcher + Sync, T: Threads + Sync>(
             first: seeds.first + done,
             count: share.size,
         };
-        let jobs = jobs_of(alloc, &mut memos, next, share.jobs)?;
+        let jobs = jobs_of(alloc, memos, next, share.jobs)?;
         let pieces = pieces_of(rt, alloc, r, w, tables, trace, drawing, jobs)?;
-        for piece in pieces {
-            let piece = piece?;
-            so_far = Some(with_piece(&mut memos, so_far, piece)?);
-            done += share.size;
-        }
+        add_pieces(memos, &mut so_far, pieces)?;
+        done += share.jobs * share.size;
     }
     match so_far {
         Some(survey) => Ok(survey),
@@ -270,7 +289,7 @@ pub fn survey_by<R: Reactor + Sync, W: Watcher + Sync, T: Threads + Sync>(
     ensures shape { IfOk result (λ survey. IsShapedBy (R.meaning r.now) (W.monitor w.now) survey) }
 {
     let tables = tables_of(alloc, r.network())?;
-    let memos = all_memos(alloc, r.network(), &tables, workers)?;
-    let survey = survey_in_rounds(rt, r, w, &tables, trace, drawing, seeds, memos)?;
+    let mut memos = all_memos(alloc, r.network(), &tables, workers)?;
+    let survey = survey_in_rounds(rt, r, w, &tables, trace, drawing, seeds, &mut memos)?;
     Ok(survey)
 }

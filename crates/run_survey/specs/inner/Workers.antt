@@ -59,6 +59,32 @@ IsSoFar net monitor trace drawing seed done None = done ≡ 0
 IsSoFar net monitor trace drawing seed done (Some s) =
     IsSurveyOf net monitor trace drawing.order drawing.limit seed done s
 
+-- what pieces are of: their runs are of a network, watched by a monitor, if one is given, and
+-- drawn from the first seed on, so many in each piece
+pub record Task : Type 0 where
+  pub net : Network
+  pub monitor : Option Network
+  pub tables : List Results
+  pub trace : List TraceItem
+  pub drawing : Drawing
+  pub first : ℕ
+  pub size : ℕ
+
+-- what is told of so many of its runs
+abbrev pub Tells : Task → ℕ → Option Survey → Type 0
+Tells task runs so_far =
+    IsSoFar task.net task.monitor task.trace task.drawing task.first runs so_far
+
+-- with these pieces after what is told so far, so many of its runs are told
+pub record ComesTo (task : Task) (runs : ℕ) (so_far : Option Survey)
+    (pieces : List (Result Piece NoMemory)) : Type 0 where
+  pub done : ℕ
+  pub told : Tells task done so_far
+  pub left : ArePieces task.net task.monitor task.tables task.trace task.drawing task.size
+      (task.first + done) pieces
+  pub sum : done + runs_of task.size pieces ≡ runs
+  pub room : runs < 2 ^ 64
+
 -- the one can be joined to the other
 pub record Follows (s next : Survey) : Type 0 where
   pub told : IsOfRuns s
@@ -72,8 +98,9 @@ abbrev pub CanFollow : Option Survey → Survey → Type 0
 CanFollow None next = ⊤
 CanFollow (Some s) next = Follows s next
 
-abbrev pub IsFollowed : Option Survey → Survey → Survey → Type 0
-IsFollowed None next all = all ≡ next
-IsFollowed (Some s) next all =
+abbrev pub IsFollowed : Option Survey → Survey → Option Survey → Type 0
+IsFollowed None next all = all ≡ Some next
+IsFollowed (Some s) next None = ⊥
+IsFollowed (Some s) next (Some all) =
     (first : ℕ) (xs ys : List Figures) → IsSurvey first xs s
     → IsSurvey (first + length xs) ys next → IsSurvey first (xs ++ ys) all

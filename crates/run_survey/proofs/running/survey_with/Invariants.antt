@@ -3,9 +3,9 @@ use Rattle.run_survey.specs.Runs.{IsSurveyOf}
 use Rattle.run_survey.proofs.running.survey_with.Given as goal
 
 -- the survey of the seeds before this one
-abbrev pub invariant-loop-k : goal.invariant-loop-k
-invariant-loop-k g l = record {
+abbrev pub invariant-loop : goal.invariant-loop
+invariant-loop g l = record {
   told : IsSurveyOf (g.R.Reactor.meaning l.r) (g.W.Watcher.monitor l.w) l.trace l.drawing.order
-      l.drawing.limit l.seeds.first l.k l.survey;
+      l.drawing.limit l.fn.seeds.first l.counter l.survey;
   memos : AreMemos (g.R.Reactor.meaning l.r) l.tables l.memos.items;
 }

@@ -1,8 +1,8 @@
 use Rattle.std.proofs.Common.{Option, subst}
 use Rattle.run_survey.specs.declared.told.Survey.{Survey}
 use Rattle.run_survey.specs.inner.Workers.{CanFollow, Follows}
-use Rattle.run_survey.proofs.workers.joined_to.Goals.{In-Some}
-use Rattle.run_survey.proofs.workers.joined_to.Goals as goal
+use Rattle.run_survey.proofs.workers.add_survey.Goals.{In-Some}
+use Rattle.run_survey.proofs.workers.add_survey.Goals as goal
 
 here : (c : In-Some) → Follows c.in-Some.survey c.args.next
 here c = subst (λ (o : Option Survey). CanFollow o c.args.next) c.in-Some.is c.requires

@@ -45,6 +45,9 @@ pub const ENTRIES_MAX: u64 = 60_000;
 /// The most workers of a run.
 pub const WORKERS_MAX: u64 = 8;
 
+/// The most runs of a survey.
+pub const RUNS_MAX: u64 = 100_000;
+
 /// The most bytes of a network file and of a trace file.
 pub const TEXT_MAX: u64 = 4_194_304;
 

@@ -1,5 +1,5 @@
 -- What `demo` means.
-use Rattle.std.proofs.Common.{inl, Option, refl}
+use Rattle.std.proofs.Common.{Option, refl}
 use Rattle.polis_base.specs.Host.{Files}
 use Rattle.polis_words.specs.Demo.{DemoWords}
 use Rattle.output_files.specs.declared.product.Product.{Product}

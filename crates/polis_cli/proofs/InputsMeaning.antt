@@ -1,5 +1,5 @@
 -- What commands mean that read a network text and a trace text of it, and find nothing of them.
-use Rattle.std.proofs.Common.{inl, Bool, List, ℕ}
+use Rattle.std.proofs.Common.{Bool, List, ℕ}
 use Rattle.polis_base.specs.Host.{Files}
 use Rattle.polis_words.specs.declared.status.Status.{Status}
 use Rattle.output_files.specs.declared.product.Product.{Product}

@@ -1,5 +1,5 @@
 -- What the command that is asked for made, and why it made nothing.
-use Rattle.std.proofs.Common.{◌≡◌, ◌⊎◌, inl, inr, ℕ, true, List, [], Option, refl, sym, ap, subst, ◌∙◌, IsTrue}
+use Rattle.std.proofs.Common.{◌≡◌, ◌⊎◌, inl, inr, ℕ, true, List, [], Option, Some, refl, sym, ap, subst, ◌∙◌, IsTrue}
 use Rattle.polis_base.specs.Host.{Files, WhereTold}
 use Rattle.polis_words.specs.declared.cause.Cause.{Cause}
 use Rattle.polis_words.specs.declared.cause.Cause.TheVariants.{ReadFault as Unread, Absent, TooLong, Lex, Syntax, Rule, Conflict, TraceLine, JournalLine, Illegal as Unlawful, ImageByte, ImageShape, ImageWrong, ImageLong, OtherShape, Differ as TablesDiffer}
@@ -12,9 +12,8 @@ use Rattle.output_files.specs.declared.product.End.{End}
 use Rattle.output_files.specs.declared.product.Product.{Product}
 use Rattle.output_files.specs.Ends.{end_status}
 use Rattle.output_files.specs.Products.{shows_and_ends, shows_only}
-use Rattle.input_files.specs.Inputs.{OnlyNetFails}
 use Rattle.polis_cli.specs.Meanings.{Meaning, MayEnd}
-use Rattle.input_files.specs.Failures.{is_finding, is_failure, FilesFail}
+use Rattle.input_files.specs.Failures.{is_finding, is_failure, FileFails, FilesFail}
 use Rattle.output_files.specs.Saves.{AreApart}
 use Rattle.polis_cli.specs.inner.Lawful.{IsLawful}
 use Rattle.polis_cli.specs.inner.Made.{FailsAs, IsMadeProduct, IsMadeFailure}
@@ -77,6 +76,37 @@ files_failure m o P (failures.File name cause more) reads plain f (h, none) = (
       (λ files. f files name.now cause) h.0,
   may_fail m (cause_status cause) reads h.1,
   none_told m o name.now cause more plain none,
+)
+
+-- files fail, and that for another reason
+pub files_wider : (o : Option Files) (P Q : Files → List ℕ → Cause → Type 0) (failure : Failure)
+    → ((files : Files) (name : List ℕ) (cause : Cause) → P files name cause
+    → Q files name cause)
+    → FilesFail o P failure → FilesFail o Q failure
+files_wider o P Q failures.NoMemory f h = tt
+files_wider o P Q (failures.File name cause more) f (h, none) = (
+  (
+    told_from o (λ files. P files name.now cause) (λ files. Q files name.now cause)
+        (λ files. f files name.now cause) h.0,
+    h.1,
+  ),
+  none,
+)
+
+-- the file that is named fails
+pub named_fails : (o : Option Files) (named : Option (List ℕ))
+    (P : Files → List ℕ → Cause → Type 0) (file : List ℕ) (failure : Failure)
+    → named ≡ Some file → FileFails file o (λ files. P files file) failure
+    → FilesFail o (λ files name cause. (named ≡ Some name) × P files name cause) failure
+named_fails o named P file failures.NoMemory is h = tt
+named_fails o named P file (failures.File name cause more) is (h, none) = (
+  (
+    told_from o (λ files. P files file cause) _
+        (λ files k. subst (λ (f : List ℕ). (named ≡ Some f) × P files f cause) (sym h.0) (is, k))
+        h.1,
+    h.2,
+  ),
+  none,
 )
 
 -- what a failure is of the files, and with which statuses it ends the command

@@ -129,7 +129,7 @@ lamp_row net one run parts right = record {
     workers = refl;
     limit = refl;
     image = refl;
-    no_order = refl;
+    draws_nothing = record { no_order = refl; no_seed = refl; no_watch = refl };
   };
   product = lamp_product parts;
   made = lamp_made net one run parts right;

@@ -1,14 +1,13 @@
 -- What each command means is lawful.
 use Rattle.std.proofs.Common.{◌≡◌, ◌<◌, ℕ, List, refl, arith}
-use Rattle.polis_words.specs.Run.{NeedsWorkers}
 use Rattle.polis_words.specs.declared.requests.Request.{Request}
-use Rattle.polis_words.specs.declared.requests.Request.TheVariants.{Run, Check, Compile, Replay, Migrate, Demo, Bound, Image, Equiv, Losses, Wave, Draw, Explain, Cover, Lint, Shuffle, Watch}
+use Rattle.polis_words.specs.declared.requests.Request.TheVariants.{Run, Check, Compile, Replay, Migrate, Demo, Bound, Image, Equiv, Losses, Wave, Draw, Explain, Cover, Lint, Shuffle, Watch, Survey}
 use Rattle.polis_words.specs.Requests.{Asks}
+use Rattle.polis_words.specs.Workers.{NeedsWorkers, workers_of}
 use Rattle.polis_words.proofs.AskOptions.{asked_within}
 use Rattle.input_files.specs.declared.load.Detail.TheVariants as details
 use Rattle.polis_cli.specs.Commands.{meaning}
 use Rattle.polis_cli.specs.inner.Lawful.{IsLawful}
-use Rattle.polis_cli.specs.inner.Workers.{workers_of}
 use Rattle.polis_cli.proofs.RunMeaning.{run_lawful}
 use Rattle.polis_cli.proofs.CheckMeaning.{check_lawful}
 use Rattle.polis_cli.proofs.CompileMeaning.{compile_lawful}
@@ -26,6 +25,7 @@ use Rattle.polis_cli.proofs.CoverMeaning.{cover_lawful}
 use Rattle.polis_cli.proofs.LintMeaning.{lint_lawful}
 use Rattle.polis_cli.proofs.ShuffleMeaning.{shuffle_lawful}
 use Rattle.polis_cli.proofs.WatchMeaning.{watch_lawful}
+use Rattle.polis_cli.proofs.SurveyMeaning.{survey_lawful}
 
 pub lawful : (request : Request) → IsLawful (meaning request)
 lawful (Run run) = run_lawful run
@@ -45,6 +45,7 @@ lawful (Cover cover) = cover_lawful cover
 lawful (Lint lint) = lint_lawful lint
 lawful (Shuffle shuffle) = shuffle_lawful shuffle
 lawful (Watch watch) = watch_lawful watch
+lawful (Survey survey) = survey_lawful survey
 
 -- what is asked for needs one worker, where the command line needs no more
 pub one_worker : (words : List (List ℕ)) (request : Request) → Asks words request
@@ -53,6 +54,12 @@ one_worker words (Run run) asks few =
     let is = asks.workers in
     let within = asked_within asks.options asks.said asks.asks in
     let some = within.0.0 in
-    let none : ¬ (1 < run.workers) = λ more. few (run, asks, more) in
+    let none : ¬ (1 < run.workers) = λ more. few (Run run, asks, more) in
+    omega (arith, is, some, none)
+one_worker words (Survey survey) asks few =
+    let is = asks.asks.workers in
+    let within = asked_within asks.options asks.asks.said asks.asks.asks in
+    let some = within.0.0 in
+    let none : ¬ (1 < survey.workers) = λ more. few (Survey survey, asks, more) in
     omega (arith, is, some, none)
 one_worker words other asks few = refl

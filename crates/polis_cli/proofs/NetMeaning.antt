@@ -1,5 +1,5 @@
 -- What commands mean that read a network text alone and always end with Done.
-use Rattle.std.proofs.Common.{inl, List, ℕ}
+use Rattle.std.proofs.Common.{List, ℕ}
 use Rattle.polis_base.specs.Host.{Files}
 use Rattle.output_files.specs.declared.product.Product.{Product}
 use Rattle.input_files.specs.Inputs.{AcceptsNet}

@@ -17,8 +17,8 @@ use Rattle.output_files.specs.declared.product.Product.{Product}
 use Rattle.polis_cli.specs.declared.run_result.RunResult.{RunResult}
 use Rattle.output_files.specs.Ends.{end_status}
 use Rattle.polis_cli.specs.ImageFiles.{HoldsImage, ImageFails}
-use Rattle.input_files.specs.Inputs.{HoldsNet, HoldsTrace, InputsFail}
-use Rattle.input_files.specs.Failures.{is_finding, FileFails, FilesFail}
+use Rattle.input_files.specs.Inputs.{HoldsNet, HoldsTrace}
+use Rattle.input_files.specs.Failures.{is_finding, FilesFail}
 use Rattle.polis_cli.specs.Run.{AcceptsRun, AcceptsImage, RunsTasks, Tasks, Compiled, Given, FailsRun, ends_run, end_of, journal_of, listing_of, listing_saves, run_product, run_text, run_meaning}
 use Rattle.output_files.specs.Saves.{Save, AreApart}
 use Rattle.polis_cli.specs.inner.Lawful.{IsLawful}
@@ -175,36 +175,6 @@ run_held o run net trace image held named =
     told_both o (λ files. HoldsNet files run.net net × HoldsTrace files run.trace net trace)
     (λ files. HoldsImageOf run.image files net image) _
     (λ files h k. record { net = h.0; trace = h.1; image = k }) held named
-
--- the network or the trace fails
-pub inputs_fail : (o : Option Files) (run : RunWords) (failure : Failure)
-    → FilesFail o (λ files. InputsFail files run.net run.trace) failure
-    → FilesFail o (FailsRun run) failure
-inputs_fail o run failures.NoMemory h = tt
-inputs_fail o run (failures.File name cause more) (h, none) = (
-  (
-    told_from o (λ files. InputsFail files run.net run.trace name.now cause)
-        (λ files. FailsRun run files name.now cause) (λ files k. inl k) h.0,
-    h.1,
-  ),
-  none,
-)
-
--- the image that is named fails
-pub named_fails : (o : Option Files) (named : Option (List ℕ)) (net : Network) (image : List ℕ)
-    (failure : Failure) → named ≡ Some image
-    → FileFails image o (λ files. ImageFails files net image) failure
-    → FilesFail o (FailsImageOf named net) failure
-named_fails o named net image failures.NoMemory is h = tt
-named_fails o named net image (failures.File name cause more) is (h, none) = (
-  (
-    told_from o (λ files. ImageFails files net image cause) _
-        (λ files k.
-        subst (λ (file : List ℕ). FailsImageOf named net files file cause) (sym h.0) (is, k)) h.1,
-    h.2,
-  ),
-  none,
-)
 
 -- the image fails, the network and the trace being accepted
 image_told : (o : Option Files) (run : RunWords) (net : Network) (trace : List TraceItem)

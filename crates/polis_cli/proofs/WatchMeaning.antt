@@ -1,14 +1,12 @@
 -- What `watch` means.
-use Rattle.std.proofs.Common.{◌≡◌, inl, inr, ℕ, Bool, true, List, [], Option, refl, subst, ap, IsTrue}
+use Rattle.std.proofs.Common.{◌≡◌, inl, inr, ℕ, Bool, List, Option, refl, subst, ap, IsTrue}
 use Rattle.polis_base.specs.Host.{Files, WhereTold}
 use Rattle.transition_table.specs.declared.network.Network.{Network}
 use Rattle.journals.specs.declared.entry.Entry.{Entry}
 use Rattle.journals.specs.declared.entry.TraceItem.{TraceItem}
 use Rattle.run_watch.specs.declared.answer.Watched.{Watched}
 use Rattle.run_watch.specs.declared.answer.Watched.TheVariants as answers
-use Rattle.run_watch.specs.Monitors.{IsMonitor}
 use Rattle.polis_words.specs.declared.cause.Cause.{Cause}
-use Rattle.polis_words.specs.declared.cause.Cause.TheVariants.{OtherShape}
 use Rattle.polis_words.specs.declared.cause.Failure.{Failure}
 use Rattle.polis_words.specs.declared.cause.Failure.TheVariants as failures
 use Rattle.polis_words.specs.declared.status.Status.{Status}
@@ -18,51 +16,23 @@ use Rattle.polis_words.specs.Watch.{WatchWords}
 use Rattle.output_files.specs.declared.product.Product.{Product}
 use Rattle.output_files.specs.Ends.{end_status}
 use Rattle.input_files.specs.Details.{explains_replay}
-use Rattle.input_files.specs.Failures.{is_finding, is_failure, explains_nothing, FileFails}
-use Rattle.input_files.specs.Inputs.{HoldsNet, NetFails}
+use Rattle.input_files.specs.Failures.{is_finding, explains_nothing, FileFails}
 use Rattle.input_files.specs.declared.load.Detail.TheVariants as details
-use Rattle.input_files.proofs.InputsFail.{net_refused, net_unfound}
 use Rattle.polis_base.proofs.WhereTold.{told_from, told_both}
-use Rattle.polis_cli.specs.Meanings.{MayEnd, finds_illegal}
+use Rattle.polis_cli.specs.Meanings.{finds_illegal}
 use Rattle.polis_cli.specs.Replay.{IsJudged, FailsReplay, IsIllegalReplay}
-use Rattle.polis_cli.specs.Watch.{HoldsMonitor, MakesWatch, AcceptsWatch, IsMonitorFault, MonitorFails, FailsWatch, end_watched, ends_watched, watch_product, watch_meaning}
+use Rattle.polis_cli.specs.Monitors.{HoldsMonitor, MonitorFails}
+use Rattle.polis_cli.specs.Watch.{MakesWatch, AcceptsWatch, FailsWatch, end_watched, ends_watched, watch_product, watch_meaning}
 use Rattle.polis_cli.specs.inner.Lawful.{IsLawful}
 use Rattle.polis_cli.specs.inner.Made.{IsMadeProduct, IsMadeFailure, JudgingExplained}
 use Rattle.polis_cli.specs.inner.Watch.{IsWatchProduct}
 use Rattle.polis_cli.proofs.IsExplained.{judging_explained}
 use Rattle.polis_cli.proofs.IsMade.{product_made, none_told}
+use Rattle.polis_cli.proofs.MonitorFails.{monitor_refused, monitor_unfound}
 use Rattle.polis_cli.proofs.OneNet.{one_held_net}
 use Rattle.polis_cli.proofs.ReplayMeaning.{illegal_is, judged_legal, replay_lawful}
 
 -- ---- where a file fails
--- a network that is found to be no monitor is none
-fault_refused : (net monitor : Network) (cause : Cause) → IsMonitorFault net monitor cause
-    → ¬ IsMonitor net monitor
-fault_refused net monitor OtherShape h = h
-fault_refused net monitor cause h = absurd h
-
--- where the monitor's file fails it holds no monitor
-monitor_refused : (files : Files) (name : List ℕ) (net monitor : Network) (cause : Cause)
-    → cause_status cause ≡ Refused → MonitorFails files net name cause
-    → ¬ HoldsMonitor files name net monitor
-monitor_refused files name net monitor cause s (inl h) all =
-    net_refused files name cause monitor s h all.holds
-monitor_refused files name net monitor cause s (inr (other, held, fault)) all =
-    fault_refused net other cause fault
-    (subst (λ (n : Network). IsMonitor net n)
-    (one_held_net files files name monitor other refl all.holds held) all.is_monitor)
-
--- a monitor's file isn't a finding
-monitor_unfound : (files : Files) (name : List ℕ) (net : Network) (cause : Cause)
-    → IsTrue (is_finding (cause_status cause)) → ¬ MonitorFails files net name cause
-monitor_unfound files name net cause f (inl h) = net_unfound files name cause f h
-monitor_unfound files name net cause f (inr (monitor, held, fault)) = of_fault cause f fault
-  where
-    of_fault : (cause : Cause) → IsTrue (is_finding (cause_status cause))
-        → ¬ IsMonitorFault net monitor cause
-    of_fault OtherShape f h = cc
-    of_fault cause f h = absurd h
-
 watch_refused : (files : Files) (watch : WatchWords) (name : List ℕ) (cause : Cause)
     → cause_status cause ≡ Refused → FailsWatch watch files name cause → ¬ AcceptsWatch watch files
 watch_refused files watch name cause s (inl h) all =
@@ -128,13 +98,13 @@ watch_ends (answers.Found complaint) = refl
 pub watch_made : (o : Option Files) (watch : WatchWords) (net : Network) (trace : List TraceItem)
     (journal : List Entry) (complete : Bool) (monitor : Network) (product : Product)
     → WhereTold o (λ files. IsJudged watch.replay files net trace journal complete)
-    → WhereTold o (λ files. HoldsNet files watch.monitor monitor)
+    → WhereTold o (λ files. HoldsMonitor files watch.monitor net monitor)
     → IsWatchProduct net monitor journal product → IsMadeProduct (watch_meaning watch) o product
 watch_made o watch net trace journal complete monitor product judged held p =
     product_made (watch_meaning watch) o product (watch_product monitor p.said) p.made tt
     (watch_ends p.said)
     (told_both o (λ files. IsJudged watch.replay files net trace journal complete)
-    (λ files. HoldsNet files watch.monitor monitor) _
+    (λ files. HoldsMonitor files watch.monitor net monitor) _
     (λ files h k. record {
       net = net;
       trace = trace;
@@ -142,7 +112,7 @@ watch_made o watch net trace journal complete monitor product judged held p =
       complete = complete;
       judged = h;
       monitor = monitor;
-      monitors = record { holds = k; is_monitor = p.is_monitor };
+      monitors = k;
       said = p.said;
       answers = p.answers;
       made = p.made;
@@ -190,41 +160,15 @@ monitor_told o watch net trace journal complete name cause same judged fails =
       fails = f;
     })) judged fails
 
--- it isn't loaded, or isn't accepted
-pub monitor_unread : (o : Option Files) (watch : WatchWords) (net : Network)
+pub monitor_fails : (o : Option Files) (watch : WatchWords) (net : Network)
     (trace : List TraceItem) (journal : List Entry) (complete : Bool) (failure : Failure)
     → WhereTold o (λ files. IsJudged watch.replay files net trace journal complete)
-    → FileFails watch.monitor o (λ files. NetFails files watch.monitor) failure
+    → FileFails watch.monitor o (λ files. MonitorFails files net watch.monitor) failure
     → IsMadeFailure (watch_meaning watch) o failure
-monitor_unread o watch net trace journal complete failures.NoMemory judged h = tt
-monitor_unread o watch net trace journal complete (failures.File name cause more) judged
+monitor_fails o watch net trace journal complete failures.NoMemory judged h = tt
+monitor_fails o watch net trace journal complete (failures.File name cause more) judged
     (h, none) = (
-      monitor_told o watch net trace journal complete name.now cause h.0 judged
-          (told_from o (λ files. NetFails files watch.monitor cause) _ (λ files k. inl k) h.1),
+      monitor_told o watch net trace journal complete name.now cause h.0 judged h.1,
       inr h.2,
       none_told (watch_meaning watch) o name.now cause more (λ told name cause. refl) none,
     )
-
--- the one status of a network that is no monitor
-fault_ends : (net monitor : Network) (cause : Cause) → IsMonitorFault net monitor cause
-    → IsTrue (is_failure true (cause_status cause))
-fault_ends net monitor OtherShape h = refl
-fault_ends net monitor cause h = absurd h
-
--- its network is no monitor
-pub no_monitor : (o : Option Files) (watch : WatchWords) (net : Network) (trace : List TraceItem)
-    (journal : List Entry) (complete : Bool) (monitor : Network) (name : List ℕ) (cause : Cause)
-    (more : List ℕ) → name ≡ watch.monitor
-    → WhereTold o (λ files. IsJudged watch.replay files net trace journal complete)
-    → WhereTold o (λ files. HoldsNet files watch.monitor monitor)
-    → IsMonitorFault net monitor cause → more ≡ []
-    → WhereTold o (λ files. FailsWatch watch files name cause)
-    × MayEnd (watch_meaning watch) (cause_status cause)
-    × (watch_meaning watch).explains o name cause more
-no_monitor o watch net trace journal complete monitor name cause more same judged held fault none = (
-  monitor_told o watch net trace journal complete name cause same judged
-      (told_from o (λ files. HoldsNet files watch.monitor monitor) _
-      (λ files k. inr (monitor, k, fault)) held),
-  inr (fault_ends net monitor cause fault),
-  none_told (watch_meaning watch) o name cause more (λ told name cause. refl) none,
-)

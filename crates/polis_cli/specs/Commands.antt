@@ -1,6 +1,6 @@
 -- What each command means.
 use Rattle.polis_words.specs.declared.requests.Request.{Request}
-use Rattle.polis_words.specs.declared.requests.Request.TheVariants.{Run, Check, Compile, Replay, Migrate, Demo, Bound, Image, Equiv, Losses, Wave, Draw, Explain, Cover, Lint, Shuffle, Watch}
+use Rattle.polis_words.specs.declared.requests.Request.TheVariants.{Run, Check, Compile, Replay, Migrate, Demo, Bound, Image, Equiv, Losses, Wave, Draw, Explain, Cover, Lint, Shuffle, Watch, Survey}
 use Rattle.input_files.specs.declared.load.Detail.TheVariants as details
 use Rattle.polis_cli.specs.Meanings.{Meaning}
 use Rattle.polis_cli.specs.Run.{run_meaning}
@@ -20,6 +20,7 @@ use Rattle.polis_cli.specs.Cover.{cover_meaning}
 use Rattle.polis_cli.specs.Lint.{lint_meaning}
 use Rattle.polis_cli.specs.Shuffle.{shuffle_meaning}
 use Rattle.polis_cli.specs.Watch.{watch_meaning}
+use Rattle.polis_cli.specs.Survey.{survey_meaning}
 
 abbrev pub meaning : Request → Meaning
 meaning (Run run) = run_meaning run
@@ -39,3 +40,4 @@ meaning (Cover cover) = cover_meaning cover
 meaning (Lint lint) = lint_meaning lint
 meaning (Shuffle shuffle) = shuffle_meaning shuffle
 meaning (Watch watch) = watch_meaning watch
+meaning (Survey survey) = survey_meaning survey

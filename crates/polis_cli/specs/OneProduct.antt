@@ -1,9 +1,10 @@
 -- What is made of the same texts is one product.
-use Rattle.std.specs.Prelude.{◌≡◌, List, None, ℕ}
+use Rattle.std.specs.Prelude.{◌≡◌, List, Option, Some, None, ℕ, ⊤}
 use Rattle.polis_base.specs.Host.{Files, bytes_at}
 use Rattle.polis_words.specs.Bound.{BoundWords}
 use Rattle.polis_words.specs.NetStem.{NetStemWords}
 use Rattle.polis_words.specs.Run.{RunWords}
+use Rattle.polis_words.specs.Survey.{SurveyWords}
 use Rattle.polis_words.specs.Watch.{WatchWords}
 use Rattle.output_files.specs.declared.product.Product.{Product}
 use Rattle.polis_cli.specs.Bound.{MakesBound}
@@ -11,6 +12,7 @@ use Rattle.polis_cli.specs.Compile.{MakesCompile}
 use Rattle.polis_cli.specs.Draw.{MakesDraw}
 use Rattle.polis_cli.specs.Image.{MakesImage}
 use Rattle.polis_cli.specs.Run.{MakesRun}
+use Rattle.polis_cli.specs.Survey.{MakesSurvey}
 use Rattle.polis_cli.specs.Watch.{MakesWatch}
 
 -- both files hold the same under the name
@@ -48,3 +50,30 @@ TextsDetermineWatch =
     → HoldSame watch.replay.net before now → HoldSame watch.replay.journal before now
     → HoldSame watch.monitor before now → MakesWatch watch before one
     → MakesWatch watch now other → one ≡ other
+
+-- the same survey, asked of so many workers
+abbrev pub by_workers : ℕ → SurveyWords → SurveyWords
+by_workers workers survey = record {
+  net = survey.net;
+  trace = survey.trace;
+  runs = survey.runs;
+  seed = survey.seed;
+  order = survey.order;
+  limit = survey.limit;
+  workers = workers;
+  monitor = survey.monitor;
+}
+
+-- both files hold the same under the name, where there is one
+abbrev pub HoldSameIfNamed : Option (List ℕ) → Files → Files → Type 0
+HoldSameIfNamed None before now = ⊤
+HoldSameIfNamed (Some name) before now = HoldSame name before now
+
+-- What a survey shows, and how it ends, are functions of the network text, the trace text and,
+-- where a monitor is named, the monitor's. However many workers draw the runs, it is the same.
+abbrev pub TextsDetermineSurvey : Type 0
+TextsDetermineSurvey =
+    (survey : SurveyWords) (workers : ℕ) (before now : Files) (one other : Product)
+    → HoldSame survey.net before now → HoldSame survey.trace before now
+    → HoldSameIfNamed survey.monitor before now → MakesSurvey survey before one
+    → MakesSurvey (by_workers workers survey) now other → one ≡ other

@@ -6,11 +6,9 @@ use Rattle.journals.specs.declared.entry.Entry.{Entry}
 use Rattle.journals.specs.declared.entry.TraceItem.{TraceItem}
 use Rattle.run_watch.specs.declared.answer.Watched.{Watched}
 use Rattle.run_watch.specs.declared.answer.Watched.TheVariants as answers
-use Rattle.run_watch.specs.Monitors.{IsMonitor}
 use Rattle.run_watch.specs.Watches.{IsAnswer}
 use Rattle.run_watch.specs.WatchLines.{watched_line}
 use Rattle.polis_words.specs.declared.cause.Cause.{Cause}
-use Rattle.polis_words.specs.declared.cause.Cause.TheVariants.{OtherShape}
 use Rattle.polis_words.specs.declared.status.Status.{Status}
 use Rattle.polis_words.specs.declared.status.Status.TheVariants.{Done, Limit, Illegal, Found}
 use Rattle.polis_words.specs.Watch.{WatchWords}
@@ -19,15 +17,10 @@ use Rattle.output_files.specs.declared.product.End.TheVariants as ends
 use Rattle.output_files.specs.declared.product.Product.{Product}
 use Rattle.output_files.specs.Products.{shows_and_ends}
 use Rattle.input_files.specs.Failures.{explains_nothing}
-use Rattle.input_files.specs.Inputs.{HoldsNet, NetFails}
 use Rattle.input_files.specs.JournalFiles.{LegalAndRising}
 use Rattle.polis_cli.specs.Meanings.{Meaning, finds_illegal}
+use Rattle.polis_cli.specs.Monitors.{HoldsMonitor, MonitorFails}
 use Rattle.polis_cli.specs.Replay.{HoldsReplay, IsJudged, AcceptsReplay, FailsReplay, IsIllegalReplay}
-
--- a network that is a monitor of this one is held under the name
-pub record HoldsMonitor (files : Files) (name : List ℕ) (net monitor : Network) : Type 0 where
-  pub holds : HoldsNet files name monitor
-  pub is_monitor : IsMonitor net monitor
 
 -- how a call ends with what a monitor says
 abbrev pub end_watched : Watched → End
@@ -61,18 +54,6 @@ pub record AcceptsWatch (watch : WatchWords) (files : Files) : Type 0 where
       (stamps : Option (List ℕ)) → HoldsReplay watch.replay files net trace journal stamps
       → LegalAndRising net trace journal stamps
       → (monitor : Network) × HoldsMonitor files watch.monitor net monitor
-
--- why a network that is accepted isn't taken as a monitor
-abbrev pub IsMonitorFault : Network → Network → Cause → Type 0
-IsMonitorFault net monitor OtherShape = ¬ IsMonitor net monitor
-IsMonitorFault net monitor cause = ⊥
-
--- why the monitor's file fails: it isn't loaded or isn't accepted, or its network is no monitor of
--- this one
-abbrev pub MonitorFails : Files → Network → List ℕ → Cause → Type 0
-MonitorFails files net name cause =
-    NetFails files name cause
-    ⊎ ((monitor : Network) × HoldsNet files name monitor × IsMonitorFault net monitor cause)
 
 -- the journal is legal, and the monitor's file fails
 pub record FailsMonitor (watch : WatchWords) (files : Files) (name : List ℕ) (cause : Cause) :

@@ -2,7 +2,6 @@ pub mod Left
 pub mod Made
 pub mod Lawful
 pub mod Run
-pub mod Workers
 pub mod Shuffle
 pub mod Compile
 pub mod Replay
@@ -13,3 +12,4 @@ pub mod Equiv
 pub mod Explain
 pub mod Draw
 pub mod Watch
+pub mod Survey

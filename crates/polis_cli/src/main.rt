@@ -15,6 +15,7 @@ mod law;
 mod lint;
 mod losses;
 mod migrate;
+mod monitor_file;
 mod ranges;
 mod replay;
 mod run;
@@ -22,6 +23,8 @@ mod run_inputs;
 mod run_result;
 mod shuffle;
 mod stamp;
+mod survey;
+mod survey_inputs;
 mod tasks;
 #[cfg(test)]
 mod tests;
@@ -56,6 +59,15 @@ const HELP: &[u8] = b"Runs and code
     the environment waits at each settle until the network can do nothing, with scheduled
     the network also follows its scheduler, and with mixed, and without the option, one
     of these is drawn too; N is as of run
+  polis survey NET TRACE RUNS [--seed S] [--order ORDER] [--limit N] [--workers W] [--watch MONITOR]
+    draws RUNS runs of the network text NET on the trace text TRACE, from 1 to 100000, as
+    shuffle draws them from S, S + 1 and so on, and shows what they have in common: how
+    many are complete, the kinds of outputs, what was lost and what was used up for
+    nothing, where events blocked each other and which rows were never taken, each with
+    the first number that gives it; S is 0 without the option, and W is how many workers
+    draw the runs, from 1 to 8, and 1 without the option, of which nothing that is shown
+    depends; with --watch it says last of how many runs the network text MONITOR
+    complains, as watch has it; ORDER and N are as of shuffle
   polis compile NET STEM
     compiles the machines of the network text NET, saves their listing as STEM.lst,
     and shows how long their graphs and their code are

@@ -19,8 +19,8 @@ use run_shuffle::{Finished, Order, shuffle};
 use std::alloc::Global;
 use transition_table::TableReactor;
 
-// The order that is asked for.
-fn order_of(order: GivenOrder) -> Order
+/// The order that is asked for.
+pub fn order_of(order: GivenOrder) -> Order
     ensures { result ≡ order_of order }
 {
     match order {

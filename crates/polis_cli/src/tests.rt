@@ -27,6 +27,7 @@ use sample_networks::cases::reports::REPORTS;
 use sample_networks::cases::rows::ROWS;
 use sample_networks::cases::shuffles::SHUFFLES;
 use sample_networks::cases::side_by_side::SIDE_BY_SIDE;
+use sample_networks::cases::surveys::SURVEYS;
 use sample_networks::cases::traces::TRACES;
 use sample_networks::cases::usage::USAGE;
 use sample_networks::cases::uses::USES;
@@ -54,6 +55,12 @@ fn runs_compiles_and_checks_networks(rt: HostRuntime) -> Result<(), Fail> {
 #[test]
 fn runs_as_drawn(rt: HostRuntime) -> Result<(), Fail> {
     try_cases(&rt, rt.alloc(), SHUFFLES, &OpenGate)?;
+    Ok(())
+}
+
+#[test]
+fn surveys_drawn_runs(rt: HostRuntime) -> Result<(), Fail> {
+    try_cases(&rt, rt.alloc(), SURVEYS, &OpenGate)?;
     Ok(())
 }
 

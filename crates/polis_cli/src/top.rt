@@ -1,12 +1,11 @@
 // The calls that do the program's work.
 ghost use Rattle.std.specs.Prelude.{◌≡◌};
-ghost use Rattle.polis_words.specs.Run.{NeedsWorkers};
+ghost use Rattle.polis_words.specs.Workers.{NeedsWorkers, workers_of};
 ghost use Rattle.polis_cli.specs.Commands.{meaning};
 ghost use Rattle.polis_cli.specs.Promise.{Answers, Leaves, told};
 ghost use Rattle.polis_cli.specs.inner.Left.{LeftByEnding};
 ghost use Rattle.input_files.specs.Loads.{LeftByLoads, fails_unread};
 ghost use Rattle.polis_cli.specs.inner.Made.{IsMade};
-ghost use Rattle.polis_cli.specs.inner.Workers.{workers_of};
 
 use crate::bound::make_bound;
 use crate::check::make_check;
@@ -23,13 +22,14 @@ use crate::migrate::make_migrate;
 use crate::replay::make_replay;
 use crate::run::{make_run, make_run_by};
 use crate::shuffle::make_shuffle;
+use crate::survey::{make_survey, make_survey_by};
 use crate::watch::make_watch;
 use crate::wave::make_wave;
 use event_buffer::Gate;
 use input_files::Detail;
 use output_files::{Product, fail, show_lines, write_product};
 use polis_base::{Host, Words};
-use polis_words::{Failure, Request, Status, request_of, several_of};
+use polis_words::{Failure, Request, Status, request_of};
 use std::alloc::Global;
 use std::sync::Wait;
 use std::thread::Threads;
@@ -62,6 +62,25 @@ fn make<'a, H: Host>(
         Request::Lint(lint) => make_lint(alloc, host, lint),
         Request::Shuffle(shuffle) => make_shuffle(alloc, host, shuffle),
         Request::Watch(watch) => make_watch(alloc, host, watch),
+        Request::Survey(survey) => make_survey(alloc, host, survey),
+    }
+}
+
+// What a request makes of the files, by as many workers as it asks for.
+fn make_by<'a, T: Threads + Wait + Sync, H: Host, G: Gate + Sync>(
+    rt: &T,
+    alloc: Global,
+    host: &mut H,
+    request: &'a Request<'_>,
+    gate: &G,
+) -> Result<Product, Failure<'a>>
+    ensures made { IsMade (meaning request.now) (H.files host.old) result }
+    ensures left { LeftByLoads ⟦<H as Host>⟧ (fails_unread result) host.old host.new }
+{
+    match request {
+        Request::Run(run) if run.workers() > 1 => make_run_by(rt, alloc, host, run, gate),
+        Request::Survey(survey) if survey.workers() > 1 => make_survey_by(rt, alloc, host, survey),
+        _ => make(alloc, host, request),
     }
 }
 
@@ -97,7 +116,8 @@ pub fn serial<H: Host>(alloc: Global, words: &Words, host: &mut H) -> Status
 }
 
 /// Does what the command line asks for. A run by several workers takes threads and waits for locks,
-/// and calls the gate as machines react; any other request is done on the calling thread alone.
+/// and calls the gate as machines react; a survey by several takes threads. Any other request is done
+/// on the calling thread alone.
 pub fn polis<T: Threads + Wait + Sync, H: Host, G: Gate + Sync>(
     rt: &T,
     alloc: Global,
@@ -110,11 +130,14 @@ pub fn polis<T: Threads + Wait + Sync, H: Host, G: Gate + Sync>(
     ensures leaves { Leaves result words.now
         (told ⟦<H as Host>⟧ host.old) (told ⟦<H as Host>⟧ host.new) }
 {
-    match several_of(words) {
-        Some(run) => {
-            let made = make_run_by(rt, alloc, host, &run, gate);
+    match request_of(words) {
+        Some(request) => {
+            let made = make_by(rt, alloc, host, &request, gate);
             end(alloc, host, &made)
         }
-        None => serial(alloc, words, host),
+        None => {
+            show_lines(host, b"usage\n");
+            Status::Usage
+        }
     }
 }

@@ -1,22 +1,22 @@
 // The command `watch`: what a monitor says of the outputs of a legal journal.
-ghost use Rattle.std.specs.Prelude.{◌≡◌, IfOk, IfErr};
+ghost use Rattle.std.specs.Prelude.{◌≡◌, IfOk};
 ghost use Rattle.journals.specs.Journals.{IsJournal};
 ghost use Rattle.transition_table.specs.Transitions.{AreDeterministic};
 ghost use Rattle.run_watch.specs.Monitors.{IsMonitor};
 ghost use Rattle.run_watch.specs.WatchLines.{IsShown, watched_line};
-ghost use Rattle.input_files.specs.Faults.{IfCause};
 ghost use Rattle.input_files.specs.Loads.{LeftByLoads, fails_unread};
-ghost use Rattle.polis_cli.specs.Watch.{IsMonitorFault, end_watched, watch_meaning};
+ghost use Rattle.polis_cli.specs.Watch.{end_watched, watch_meaning};
 ghost use Rattle.polis_cli.specs.inner.Made.{IsMade};
 ghost use Rattle.polis_cli.specs.inner.Watch.{IsWatchProduct};
 
+use crate::monitor_file::load_monitor;
 use crate::replay::judge_journal;
-use input_files::{Detail, FileFault, load_net};
+use input_files::Detail;
 use net_core::Journal;
 use output_files::{End, Product};
 use polis_base::{Bytes, Host, NoMemory};
-use polis_words::{Cause, Failure, Watch};
-use run_watch::{Watched, is_monitor, push_watched, watch};
+use polis_words::{Failure, Watch};
+use run_watch::{Watched, push_watched, watch};
 use std::alloc::Global;
 use transition_table::{Network, TableReactor};
 
@@ -59,27 +59,6 @@ fn product_of(
     Ok(Product::ending(alloc, shown, end_at(&said)))
 }
 
-// What the network says of the journal, or that it is no monitor.
-fn watched_by(
-    alloc: Global,
-    net: &Network,
-    journal: &Journal,
-    monitor: &Network,
-) -> Result<Product, FileFault>
-    requires fits { IsJournal net.now journal.now }
-    requires deterministic { AreDeterministic monitor.now }
-    ensures made { IfOk result (IsWatchProduct net.now monitor.now journal.now) }
-    ensures failed { IfErr result (λ fault. IfCause fault (IsMonitorFault net.now monitor.now)) }
-{
-    if !is_monitor(net, monitor) {
-        return Err(FileFault::Cause(Cause::OtherShape));
-    }
-    match product_of(alloc, net, journal, monitor) {
-        Ok(product) => Ok(product),
-        Err(NoMemory) => Err(FileFault::NoMemory),
-    }
-}
-
 /// What watching a journal makes of the files. The monitor is loaded only where the journal is
 /// legal.
 pub fn make_watch<'a, H: Host>(
@@ -94,14 +73,13 @@ pub fn make_watch<'a, H: Host>(
         Ok(judged) => judged,
         Err(failure) => return Err(failure),
     };
-    let name = asked.monitor();
-    let monitor = match load_net(alloc, host, name, Detail::Cause) {
+    let net = &judged.inputs.net;
+    let monitor = match load_monitor(alloc, host, net, asked.monitor()) {
         Ok(monitor) => monitor,
         Err(failure) => return Err(failure),
     };
-    match watched_by(alloc, &judged.inputs.net, &judged.read.journal, &monitor) {
+    match product_of(alloc, net, &judged.read.journal, &monitor) {
         Ok(product) => Ok(product),
-        Err(FileFault::Cause(cause)) => Err(Failure::of(alloc, name, cause)),
-        Err(FileFault::NoMemory) => Err(Failure::NoMemory),
+        Err(NoMemory) => Err(Failure::NoMemory),
     }
 }

@@ -2,14 +2,14 @@
 use Rattle.std.proofs.lemmas.List.{length-drop, append-nil}
 use Rattle.std.proofs.Common.{◌≡◌, ◌≢◌, ◌+◌, ◌*◌, ◌%◌, ◌≤◌, ◌<◌, ◌^◌, ℕ, get_or, List, [], ◌∷◌, ◌++◌, length, drop, slice_get, flat_map, Some, None, IfNone, refl, sym, ap, subst, ◌∙◌, arith, decimal}
 use Rattle.std.specs.Option.{is_some}
-use Rattle.std.specs.Prelude.{Option, option_map, unwrap_or, true}
+use Rattle.std.specs.Prelude.{Option, option_map, unwrap_or, Bool, true, false}
 use Rattle.std.proofs.lemmas.Fmt.{decimal_injective}
 use Rattle.polis_base.specs.declared.limits.TheConstants.{ENTRIES_MAX, WORKERS_MAX}
 use Rattle.journals.proofs.Emitted.{drop_at_item}
 use Rattle.net_core.proofs.ReceiversOf.{some_at}
 use Rattle.polis_words.specs.declared.requests.order.GivenOrder.{GivenOrder}
 use Rattle.polis_words.specs.declared.requests.order.GivenOrder.TheVariants.{Mixed, Free, Settled, Scheduled}
-use Rattle.polis_words.specs.RunOptions.{RunOption, Workers, Limit, Image, Order, IsOption, Said, Says, SayAll, AskOptions, unsaid, flag_of, value_of, option_words, order_word}
+use Rattle.polis_words.specs.RunOptions.{RunOption, Workers, Limit, Image, Order, Seed, Watch, IsOption, Said, Says, SayAll, AskOptions, unsaid, flag_of, value_of, option_words, order_word}
 use Rattle.polis_words.specs.inner.Run.{IsOptionOf, SaysAt, AreSaid}
 
 -- ---- numbers
@@ -29,18 +29,21 @@ no_numbers None text n most e below high none =
 no_numbers (Some found) text n most e below high none = tt
 
 -- ---- one option
--- the letter that tells the flags apart, and the orders
+-- the letter that tells the flags apart, and the one that tells the orders apart
 letter : List ℕ → ℕ
-letter flag = get_or flag 2 0
+letter flag = get_or flag 3 0
+
+order_letter : List ℕ → ℕ
+order_letter word = get_or word 2 0
 
 -- a word names one order
 same_order : (o p : GivenOrder) → order_word o ≡ order_word p → o ≡ p
-unfolding letter
+unfolding order_letter
 same_order Mixed Mixed e = refl
 same_order Free Free e = refl
 same_order Settled Settled e = refl
 same_order Scheduled Scheduled e = refl
-same_order o p e = let h = ap letter e in absurd (omega (arith, h))
+same_order o p e = let h = ap order_letter e in absurd (omega (arith, h))
 
 -- a flag and a word after it are one option's
 same_option : (o p : RunOption) → IsOption o → IsOption p → flag_of o ≡ flag_of p
@@ -56,6 +59,8 @@ same_option (Limit n) (Limit m) a b f v =
     ap Limit (decimal_injective n m low high v)
 same_option (Image x) (Image y) a b f v = ap Image v
 same_option (Order o) (Order p) a b f v = ap Order (same_order o p v)
+same_option (Seed n) (Seed m) a b f v = ap Seed (decimal_injective n m a b v)
+same_option (Watch x) (Watch y) a b f v = ap Watch v
 same_option o p a b f v = let h = ap letter f in absurd (omega (arith, h))
 
 -- an option says one thing
@@ -64,6 +69,8 @@ one_said old x y (Workers n) a b = b.1 ∙ sym a.1
 one_said old x y (Limit n) a b = b.1 ∙ sym a.1
 one_said old x y (Image name) a b = b.1 ∙ sym a.1
 one_said old x y (Order order) a b = b.1 ∙ sym a.1
+one_said old x y (Seed n) a b = b.1 ∙ sym a.1
+one_said old x y (Watch name) a b = b.1 ∙ sym a.1
 
 -- ---- options one after the other
 -- all options are those that were read and others after them
@@ -222,6 +229,8 @@ says_within old new (Workers n) is says a = subst AreWithin (sym says.1) (is, a.
 says_within old new (Limit n) is says a = subst AreWithin (sym says.1) (a.0, is)
 says_within old new (Image name) is says a = subst AreWithin (sym says.1) a
 says_within old new (Order order) is says a = subst AreWithin (sym says.1) a
+says_within old new (Seed n) is says a = subst AreWithin (sym says.1) a
+says_within old new (Watch name) is says a = subst AreWithin (sym says.1) a
 
 all_within : (options : List RunOption) (old new : Said) → SayAll old options new → AreWithin old
     → AreWithin new
@@ -233,3 +242,7 @@ pub asked_within : (words : List (List ℕ)) (said : Said) → AskOptions words 
 asked_within words said a =
     all_within a.options unsaid said a.say
     ((omega arith, omega arith), (omega arith, omega arith))
+
+-- a test doesn't pass and fail
+pub not_both : (test : Bool) → test ≡ true → test ≡ false → ⊥
+not_both test passes fails = cc

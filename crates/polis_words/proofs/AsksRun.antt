@@ -1,10 +1,9 @@
 -- The run that a command line asks for.
-use Rattle.std.proofs.Common.{◌≡◌, ◌↔◌, ◌≤◌, ◌<◌, ℕ, Bool, true, false, List, [], ◌∷◌, drop, slice_get, Some, None, IsTrue, refl, sym, ap, subst, ◌∙◌, arith, codes}
+use Rattle.std.proofs.Common.{◌≡◌, ℕ, List, [], ◌∷◌, drop, slice_get, Some, sym, ap, subst, ◌∙◌, codes}
 use Rattle.std.specs.Prelude.{unwrap_or}
 use Rattle.polis_base.specs.declared.limits.TheConstants.{ENTRIES_MAX}
-use Rattle.polis_words.specs.Run.{RunWords, AsksRun, NeedsWorkers, run_form}
-use Rattle.polis_words.specs.RunOptions.{Said, AskOptions}
-use Rattle.polis_words.specs.inner.Commands.{IsCommand}
+use Rattle.polis_words.specs.Run.{RunWords, AsksRun, run_form}
+use Rattle.polis_words.specs.RunOptions.{Said, AskOptions, DrawsNothing}
 use Rattle.polis_words.proofs.AskOptions.{one_asked_for}
 
 -- the words after the first four are the options
@@ -23,12 +22,13 @@ pub options_asked : (words : List (List ℕ)) (run : RunWords) (a : AsksRun word
 options_asked words run a =
     subst (λ (o : List (List ℕ)). AskOptions o a.said) (sym (ap (drop 4) a.form)) a.asks
 
--- words whose options say an order ask for no run
-pub no_ordered : (words : List (List ℕ)) (said : Said) → AskOptions (drop 4 words) said
-    → ¬ (said.order ≡ None) → (run : RunWords) → ¬ AsksRun words run
-no_ordered words said asks some run a =
-    some (ap (λ (s : Said). s.order)
-    (one_asked_for (drop 4 words) a.said said (options_asked words run a) asks) ∙ a.no_order)
+-- words whose options say something of drawn runs ask for no run
+pub no_drawn : (words : List (List ℕ)) (said : Said) → AskOptions (drop 4 words) said
+    → ¬ DrawsNothing said → (run : RunWords) → ¬ AsksRun words run
+no_drawn words said asks some run a =
+    some (subst DrawsNothing
+    (sym (one_asked_for (drop 4 words) a.said said (options_asked words run a) asks))
+    a.draws_nothing)
 
 -- the run of these names and options
 abbrev pub run_with : List ℕ → List ℕ → List ℕ → Said → RunWords
@@ -86,33 +86,3 @@ one_asked words run other asks again =
       limit = sym asks.limit i;
       image = sym asks.image i;
     })
-
--- words need workers where they ask for a run by more than one
-pub needs_more : (words : List (List ℕ)) (run : RunWords) → AsksRun words run → 1 < run.workers
-    → IsTrue true ↔ NeedsWorkers words
-needs_more words run asks several = (λ test. (run, asks, several), λ needs. refl)
-
-pub needs_none : (words : List (List ℕ)) → (¬ NeedsWorkers words)
-    → IsTrue false ↔ NeedsWorkers words
-needs_none words none = (λ test. absurd (nothing test), λ needs. absurd (none needs))
-  where
-    nothing : IsTrue false → ⊥
-    nothing test = cc
-
-pub few_workers : (words : List (List ℕ)) (run : RunWords) (workers : ℕ) → workers ≡ run.workers
-    → ((other : RunWords) → AsksRun words other → other ≡ run) → workers ≤ 1
-    → ¬ NeedsWorkers words
-few_workers words run workers same one few needs =
-    let more = needs.2 in
-    let this = ap (λ (r : RunWords). r.workers) (one needs.0 needs.1) in
-    omega (arith, more, this, same, few)
-
-pub no_run : (words : List (List ℕ)) → ((run : RunWords) → ¬ AsksRun words run)
-    → ¬ NeedsWorkers words
-no_run words none needs = none needs.0 needs.1
-
--- words with another first word need none
-pub other_command : (words : List (List ℕ)) (test : Bool)
-    → IsTrue test ↔ IsCommand words (codes "run") → test ≡ false → ¬ NeedsWorkers words
-other_command words test is failed needs =
-    let this = is.1 (ap (λ (w : List (List ℕ)). slice_get w 0) needs.1.form) in cc

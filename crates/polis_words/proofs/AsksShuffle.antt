@@ -6,7 +6,7 @@ use Rattle.polis_base.specs.declared.limits.TheConstants.{ENTRIES_MAX}
 use Rattle.polis_words.specs.declared.requests.order.GivenOrder.{GivenOrder}
 use Rattle.polis_words.specs.declared.requests.order.GivenOrder.TheVariants.{Mixed}
 use Rattle.polis_words.specs.FileWords.{IsFileWord}
-use Rattle.polis_words.specs.RunOptions.{Said, AskOptions}
+use Rattle.polis_words.specs.RunOptions.{Said, AskOptions, DrawsOne}
 use Rattle.polis_words.specs.Shuffle.{AskSettings, AsksShuffle, ShuffleWords, shuffle_form}
 use Rattle.polis_words.specs.inner.Commands.{IsCommand}
 use Rattle.polis_words.proofs.AskOptions.{one_asked_for}
@@ -38,16 +38,11 @@ one_setting words o p n m a b =
       b.limit_is ∙ ap (λ (s : Said). unwrap_or s.limit ENTRIES_MAX) same ∙ sym a.limit_is,
     )
 
--- options that say how many workers there are, or name an image, are none of a drawn run
+-- options that say more than an order and a limit are none of a drawn run
 pub no_settings : (words : List (List ℕ)) (said : Said) → AskOptions words said
-    → ¬ ((said.workers ≡ None) × (said.image ≡ None))
-    → (order : GivenOrder) (limit : ℕ) → ¬ AskSettings words order limit
+    → ¬ DrawsOne said → (order : GivenOrder) (limit : ℕ) → ¬ AskSettings words order limit
 no_settings words said asks some order limit a =
-    let same = one_asked_for words a.said said a.asks asks in
-    some (
-      ap (λ (s : Said). s.workers) same ∙ a.no_workers,
-      ap (λ (s : Said). s.image) same ∙ a.no_image,
-    )
+    some (subst DrawsOne (sym (one_asked_for words a.said said a.asks asks)) a.draws_one)
 
 -- the command line asks for this drawn run
 pub shuffle_asked : (words : List (List ℕ)) (shuffle : ShuffleWords)

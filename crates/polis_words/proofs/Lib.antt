@@ -3,5 +3,7 @@ pub mod AskOptions
 pub mod AsksRun
 pub mod AsksBound
 pub mod AsksShuffle
+pub mod AsksSurvey
+pub mod Workers
 pub mod OneRequest
 pub mod Snapshots

@@ -10,15 +10,17 @@ use Rattle.polis_words.specs.NetTrace.{NetTraceWords, AsksNetTrace}
 use Rattle.polis_words.specs.Replay.{ReplayWords, AsksReplay}
 use Rattle.polis_words.specs.ReplayStem.{ReplayStemWords, AsksReplayStem}
 use Rattle.polis_words.specs.Requests.{Asks}
+use Rattle.polis_words.specs.Survey.{SurveyWords, AsksSurvey}
 use Rattle.polis_words.specs.Watch.{WatchWords, AsksWatch, named_by}
 use Rattle.polis_words.specs.declared.requests.Request.{Request}
-use Rattle.polis_words.specs.declared.requests.Request.TheVariants.{Run, Check, Compile, Replay, Migrate, Demo, Bound, Image, Equiv, Losses, Wave, Draw, Explain, Cover, Lint, Shuffle, Watch}
+use Rattle.polis_words.specs.declared.requests.Request.TheVariants.{Run, Check, Compile, Replay, Migrate, Demo, Bound, Image, Equiv, Losses, Wave, Draw, Explain, Cover, Lint, Shuffle, Watch, Survey}
 use Rattle.polis_words.specs.declared.requests.explain.Explain.{Explain as Explained}
 use Rattle.polis_words.specs.declared.requests.explain.Explain.TheVariants as explains
 use Rattle.polis_words.proofs.Asks.{one_demo, same_item, same_word}
 use Rattle.polis_words.proofs.AsksBound.{one_bound, one_costs, given_costs}
 use Rattle.polis_words.proofs.AsksRun.{one_asked}
 use Rattle.polis_words.proofs.AsksShuffle.{one_shuffle}
+use Rattle.polis_words.proofs.AsksSurvey.{one_surveyed}
 
 -- ---- the first word
 command_of : Request → List ℕ
@@ -39,6 +41,7 @@ command_of (Cover cover) = codes "cover"
 command_of (Lint lint) = codes "lint"
 command_of (Shuffle shuffle) = codes "shuffle"
 command_of (Watch watch) = codes "watch"
+command_of (Survey survey) = codes "survey"
 
 -- the first three letters of a word as one number, which tells the commands apart
 letters : List ℕ → ℕ
@@ -169,6 +172,8 @@ one_request words (Lint a) (Lint b) asks again =
 one_request words (Shuffle a) (Shuffle b) asks again =
     ap Shuffle (one_shuffle words a b asks again)
 one_request words (Watch a) (Watch b) asks again = ap Watch (one_watch words a b asks again)
+one_request words (Survey a) (Survey b) asks again =
+    ap Survey (one_surveyed words a b asks again)
 one_request words a b asks again =
     let same = ap letters (same_word words 0 (command_of b) (command_of a) (begins words b again)
     (begins words a asks)) in

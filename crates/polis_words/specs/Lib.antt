@@ -2,6 +2,7 @@ pub mod FileWords
 pub mod RunOptions
 pub mod Run
 pub mod Shuffle
+pub mod Survey
 pub mod Check
 pub mod NetStem
 pub mod NetTrace
@@ -13,6 +14,7 @@ pub mod Bound
 pub mod Equiv
 pub mod Explain
 pub mod Requests
+pub mod Workers
 pub mod Lines
 pub mod Sentences
 pub mod Texts

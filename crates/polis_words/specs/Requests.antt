@@ -1,7 +1,7 @@
 -- What a command line asks for.
 use Rattle.std.specs.Prelude.{ℕ, List, codes}
 use Rattle.polis_words.specs.declared.requests.Request.{Request}
-use Rattle.polis_words.specs.declared.requests.Request.TheVariants.{Run, Check, Compile, Replay, Migrate, Demo, Bound, Image, Equiv, Losses, Wave, Draw, Explain, Cover, Lint, Shuffle, Watch}
+use Rattle.polis_words.specs.declared.requests.Request.TheVariants.{Run, Check, Compile, Replay, Migrate, Demo, Bound, Image, Equiv, Losses, Wave, Draw, Explain, Cover, Lint, Shuffle, Watch, Survey}
 use Rattle.polis_words.specs.Run.{AsksRun}
 use Rattle.polis_words.specs.Check.{AsksNet}
 use Rattle.polis_words.specs.NetStem.{AsksNetStem}
@@ -12,6 +12,7 @@ use Rattle.polis_words.specs.Bound.{AsksBound}
 use Rattle.polis_words.specs.Equiv.{AsksEquiv}
 use Rattle.polis_words.specs.Explain.{AsksExplain}
 use Rattle.polis_words.specs.Shuffle.{AsksShuffle}
+use Rattle.polis_words.specs.Survey.{AsksSurvey}
 use Rattle.polis_words.specs.Watch.{AsksWatch}
 
 -- the command line has the form of this request
@@ -33,6 +34,7 @@ Asks words (Cover cover) = AsksReplay (codes "cover") words cover
 Asks words (Lint lint) = AsksNet (codes "lint") words lint
 Asks words (Shuffle shuffle) = AsksShuffle words shuffle
 Asks words (Watch watch) = AsksWatch words watch
+Asks words (Survey survey) = AsksSurvey words survey
 
 -- the command line has no request's form
 abbrev pub AsksNothing : List (List ℕ) → Type 0

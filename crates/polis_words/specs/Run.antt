@@ -1,8 +1,8 @@
 -- The command line `run NET TRACE STEM`, with its options.
-use Rattle.std.specs.Prelude.{◌≡◌, ℕ, ◌<◌, List, ◌∷◌, ◌++◌, Option, None, unwrap_or, codes}
+use Rattle.std.specs.Prelude.{◌≡◌, ℕ, ◌<◌, List, ◌∷◌, ◌++◌, Option, unwrap_or, codes}
 use Rattle.polis_base.specs.declared.limits.TheConstants.{ENTRIES_MAX}
 use Rattle.polis_words.specs.FileWords.{IsFileWord}
-use Rattle.polis_words.specs.RunOptions.{Said, AskOptions}
+use Rattle.polis_words.specs.RunOptions.{Said, AskOptions, DrawsNothing}
 
 -- what a run is asked for: the names of its files, how many workers run it, the most entries that
 -- its journal may have, and the name of the image whose code it runs, where it runs one
@@ -19,7 +19,7 @@ abbrev pub run_form : RunWords → List (List ℕ) → List (List ℕ)
 run_form run options = codes "run" ∷ run.net ∷ run.trace ∷ run.stem ∷ options
 
 -- the command line asks for this run: `run NET TRACE STEM`, and options after it, none of which
--- says an order; where none says so, there is one worker, and the limit is 60,000
+-- says an order, a seed or a monitor; where none says so, there is one worker, and the limit is 60,000
 pub record AsksRun (words : List (List ℕ)) (run : RunWords) : Type 0 where
   pub options : List (List ℕ)
   pub form : words ≡ run_form run options
@@ -31,11 +31,7 @@ pub record AsksRun (words : List (List ℕ)) (run : RunWords) : Type 0 where
   pub workers : run.workers ≡ unwrap_or said.workers 1
   pub limit : run.limit ≡ unwrap_or said.limit ENTRIES_MAX
   pub image : run.image ≡ said.image
-  pub no_order : said.order ≡ None
-
--- the command line asks for a run by more than one worker
-abbrev pub NeedsWorkers : List (List ℕ) → Type 0
-NeedsWorkers words = (run : RunWords) × AsksRun words run × (1 < run.workers)
+  pub draws_nothing : DrawsNothing said
 
 -- the name of the outputs' file
 abbrev pub out_name : RunWords → List ℕ

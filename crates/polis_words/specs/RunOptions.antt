@@ -1,17 +1,20 @@
 -- The options of runs.
-use Rattle.std.specs.Prelude.{◌≡◌, ℕ, ◌≤◌, List, [], ◌∷◌, Option, Some, None, flat_map, codes, decimal, ⊤}
+use Rattle.std.specs.Prelude.{◌≡◌, ℕ, ◌≤◌, ◌<◌, ◌^◌, List, [], ◌∷◌, Option, Some, None, flat_map, codes, decimal, ⊤}
 use Rattle.polis_base.specs.declared.limits.TheConstants.{ENTRIES_MAX, WORKERS_MAX}
 use Rattle.polis_words.specs.declared.requests.order.GivenOrder.{GivenOrder}
 use Rattle.polis_words.specs.declared.requests.order.GivenOrder.TheVariants.{Mixed, Free, Settled, Scheduled}
 use Rattle.polis_words.specs.FileWords.{IsFileWord}
 
--- how many workers run the network, the most entries that its journal may have, the name of the
--- image whose code it runs, or which moves are offered
+-- how many workers do the work, the most entries that a journal may have, the name of the image
+-- whose code is run, which moves are offered, the number from which the first run is drawn, or the
+-- name of a monitor
 pub data RunOption : Type 0 where
   Workers : ℕ → RunOption
   Limit : ℕ → RunOption
   Image : List ℕ → RunOption
   Order : GivenOrder → RunOption
+  Seed : ℕ → RunOption
+  Watch : List ℕ → RunOption
 
 -- its flag
 abbrev pub flag_of : RunOption → List ℕ
@@ -19,6 +22,8 @@ flag_of (Workers n) = codes "--workers"
 flag_of (Limit n) = codes "--limit"
 flag_of (Image name) = codes "--image"
 flag_of (Order order) = codes "--order"
+flag_of (Seed n) = codes "--seed"
+flag_of (Watch name) = codes "--watch"
 
 -- the word of an order
 abbrev pub order_word : GivenOrder → List ℕ
@@ -33,16 +38,20 @@ value_of (Workers n) = decimal n
 value_of (Limit n) = decimal n
 value_of (Image name) = name
 value_of (Order order) = order_word order
+value_of (Seed n) = decimal n
+value_of (Watch name) = name
 
 abbrev pub option_words : RunOption → List (List ℕ)
 option_words o = flag_of o ∷ value_of o ∷ []
 
--- 1 to 8 workers, a limit from 1 to 60,000, a name of 1 to 200 bytes
+-- 1 to 8 workers, a limit from 1 to 60,000, a seed below 2^64, names of 1 to 200 bytes
 abbrev pub IsOption : RunOption → Type 0
 IsOption (Workers n) = (1 ≤ n) × (n ≤ WORKERS_MAX)
 IsOption (Limit n) = (1 ≤ n) × (n ≤ ENTRIES_MAX)
 IsOption (Image name) = IsFileWord name
 IsOption (Order order) = ⊤
+IsOption (Seed n) = n < 2 ^ 64
+IsOption (Watch name) = IsFileWord name
 
 -- what options say of each of these, where one says it
 pub record Said : Type 0 where
@@ -50,10 +59,19 @@ pub record Said : Type 0 where
   pub limit : Option ℕ
   pub image : Option (List ℕ)
   pub order : Option GivenOrder
+  pub seed : Option ℕ
+  pub watch : Option (List ℕ)
 
 -- what no option says
 abbrev pub unsaid : Said
-unsaid = record { workers = None; limit = None; image = None; order = None }
+unsaid = record {
+  workers = None;
+  limit = None;
+  image = None;
+  order = None;
+  seed = None;
+  watch = None;
+}
 
 -- the option says what none before it said
 abbrev pub Says : Said → RunOption → Said → Type 0
@@ -61,14 +79,29 @@ Says old (Workers n) new = (old.workers ≡ None) × (new ≡ record old { worke
 Says old (Limit n) new = (old.limit ≡ None) × (new ≡ record old { limit = Some n })
 Says old (Image name) new = (old.image ≡ None) × (new ≡ record old { image = Some name })
 Says old (Order order) new = (old.order ≡ None) × (new ≡ record old { order = Some order })
+Says old (Seed n) new = (old.seed ≡ None) × (new ≡ record old { seed = Some n })
+Says old (Watch name) new = (old.watch ≡ None) × (new ≡ record old { watch = Some name })
 
 -- options in order, each of which says what none before it said
 abbrev pub SayAll : Said → List RunOption → Said → Type 0
 SayAll old [] new = new ≡ old
 SayAll old (o ∷ more) new = IsOption o × ((next : Said) × Says old o next × SayAll next more new)
 
--- the words are options that say this: each of the four at most once, in any order
+-- the words are options that say this: each of the six at most once, in any order
 pub record AskOptions (words : List (List ℕ)) (said : Said) : Type 0 where
   pub options : List RunOption
   pub words_are : words ≡ flat_map option_words options
   pub say : SayAll unsaid options said
+
+-- they say nothing of drawn runs: no order, no seed and no monitor
+pub record DrawsNothing (said : Said) : Type 0 where
+  pub no_order : said.order ≡ None
+  pub no_seed : said.seed ≡ None
+  pub no_watch : said.watch ≡ None
+
+-- and nothing but an order and a limit
+pub record DrawsOne (said : Said) : Type 0 where
+  pub no_workers : said.workers ≡ None
+  pub no_image : said.image ≡ None
+  pub no_seed : said.seed ≡ None
+  pub no_watch : said.watch ≡ None

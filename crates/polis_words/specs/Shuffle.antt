@@ -4,7 +4,7 @@ use Rattle.polis_base.specs.declared.limits.TheConstants.{ENTRIES_MAX}
 use Rattle.polis_words.specs.declared.requests.order.GivenOrder.{GivenOrder}
 use Rattle.polis_words.specs.declared.requests.order.GivenOrder.TheVariants.{Mixed}
 use Rattle.polis_words.specs.FileWords.{IsFileWord}
-use Rattle.polis_words.specs.RunOptions.{Said, AskOptions}
+use Rattle.polis_words.specs.RunOptions.{Said, AskOptions, DrawsOne}
 
 -- what a drawn run is asked for: the names of its files, the number from which it is drawn, which
 -- moves it is offered, and the most entries that its journal may have
@@ -23,8 +23,7 @@ pub record AskSettings (words : List (List ℕ)) (order : GivenOrder) (limit : �
   pub asks : AskOptions words said
   pub order_is : order ≡ unwrap_or said.order Mixed
   pub limit_is : limit ≡ unwrap_or said.limit ENTRIES_MAX
-  pub no_workers : said.workers ≡ None
-  pub no_image : said.image ≡ None
+  pub draws_one : DrawsOne said
 
 -- `shuffle NET TRACE STEM SEED` with these options after it, the seed in decimal
 abbrev pub shuffle_form : ShuffleWords → List (List ℕ) → List (List ℕ)

@@ -18,7 +18,7 @@ pub use print::{
 };
 pub use requests::{
     Bound, Check, Demo, Equiv, Explain, GivenCosts, GivenOrder, NetStem, NetTrace, Replay,
-    ReplayStem, Request, Run, Shuffle, Watch, needs_workers, request_of, several_of,
+    ReplayStem, Request, Run, Shuffle, Survey, Watch, needs_workers, request_of,
 };
 pub use sentences::{
     ABSENT, end_sentence, first_row_sentence, journal_sentence, lex_sentence, long_sentence,

@@ -13,12 +13,14 @@ mod explain;
 mod file_word;
 mod net_stem;
 mod net_trace;
+mod number;
 mod options;
 mod order;
 mod replay;
 mod replay_stem;
 mod run;
 mod shuffle;
+mod survey;
 mod watch;
 mod workers;
 
@@ -46,9 +48,11 @@ pub use run::Run;
 use run::run_of;
 pub use shuffle::Shuffle;
 use shuffle::shuffle_of;
+pub use survey::Survey;
+use survey::survey_of;
 pub use watch::Watch;
 use watch::watch_of;
-pub use workers::{needs_workers, several_of};
+pub use workers::needs_workers;
 
 /// What a command line asks for, one variant for each command.
 #[derive(Drop)]
@@ -87,6 +91,8 @@ pub enum Request<'a> {
     Shuffle(Shuffle<'a>),
     /// To say whether a monitor complains of a legal journal.
     Watch(Watch<'a>),
+    /// To say what many drawn runs of a network have in common.
+    Survey(Survey<'a>),
 }
 
 /// What the command line asks for, if it asks for anything: its first word names the command.
@@ -117,6 +123,7 @@ pub fn request_of(words: &Words) -> Option<Request<'_>>
         "lint" => Some(Request::Lint(net_of(words)?)),
         "shuffle" => Some(Request::Shuffle(shuffle_of(words)?)),
         "watch" => Some(Request::Watch(watch_of(words)?)),
+        "survey" => Some(Request::Survey(survey_of(words)?)),
         _ => None,
     }
 }

@@ -20,6 +20,7 @@ pub mod reports;
 pub mod rows;
 pub mod shuffles;
 pub mod side_by_side;
+pub mod surveys;
 pub mod traces;
 pub mod usage;
 pub mod uses;

@@ -251,3 +251,332 @@ settle
 pub const CLASH_TRACE: &str = "a
 b
 ";
+
+/// The alternating-bit protocol over two lines that lose what they carry.
+pub const PROTOCOL: &str =
+    "# The alternating-bit protocol over two lines that lose frames and acknowledgements.
+# The user sends the next message after the answer `sent`.
+network protocol version 2
+domain bit = 0 .. 1
+domain phase = { ready, wait }
+event send from env      # the user hands over a message
+event timeout from env   # no acknowledgement came for long
+event drop_d from env    # the data line loses the frame that it has, or its next one
+event drop_a from env    # so does the other line with an acknowledgement
+event data : bit         # sender -> data line
+event frame : bit        # data line -> receiver
+event ack : bit          # receiver -> ack line
+event back : bit         # ack line -> sender
+event got to env         # the receiver hands a message on
+event sent to env        # the user's message has arrived
+machine sender priority 1 {
+  input send, timeout, back
+  output data, sent
+  state p : phase = ready
+  state b : bit = 0
+  when send, p = ready, b = 0 do p := wait, emit data = 0
+  when send, p = ready, b = 1 do p := wait, emit data = 1
+  when timeout, absent back, p = wait, b = 0 do emit data = 0
+  when timeout, absent back, p = wait, b = 1 do emit data = 1
+  when back = 0, p = wait, b = 0 do p := ready, b := 1, emit sent
+  when back = 1, p = wait, b = 1 do p := ready, b := 0, emit sent
+  when back = 1, timeout, p = wait, b = 0 do emit data = 0
+  when back = 0, timeout, p = wait, b = 1 do emit data = 1
+  when back = 1, absent timeout, p = wait, b = 0 do nothing
+  when back = 0, absent timeout, p = wait, b = 1 do nothing
+  when back, absent send, p = ready do nothing
+  when timeout, absent send, p = ready do nothing
+}
+machine data_line priority 2 {
+  input data, drop_d
+  output frame
+  when data, absent drop_d do emit frame = value data
+  when data, drop_d do nothing
+}
+machine receiver priority 1 {
+  input frame
+  output ack, got
+  state e : bit = 0
+  when frame = 0, e = 0 do e := 1, emit ack = 0, emit got
+  when frame = 1, e = 1 do e := 0, emit ack = 1, emit got
+  when frame = 1, e = 0 do emit ack = 1
+  when frame = 0, e = 1 do emit ack = 0
+}
+machine ack_line priority 2 {
+  input ack, drop_a
+  output back
+  when ack, absent drop_a do emit back = value ack
+  when ack, drop_a do nothing
+}
+";
+
+/// The same with a fault: any acknowledgement ends the wait.
+pub const PROTOCOL_FAULT: &str =
+    "# The alternating-bit protocol with a fault: any acknowledgement ends the wait.
+network protocol version 2
+domain bit = 0 .. 1
+domain phase = { ready, wait }
+event send from env      # the user hands over a message
+event timeout from env   # no acknowledgement came for long
+event drop_d from env    # the data line loses the frame that it has, or its next one
+event drop_a from env    # so does the other line with an acknowledgement
+event data : bit         # sender -> data line
+event frame : bit        # data line -> receiver
+event ack : bit          # receiver -> ack line
+event back : bit         # ack line -> sender
+event got to env         # the receiver hands a message on
+event sent to env        # the user's message has arrived
+machine sender priority 1 {
+  input send, timeout, back
+  output data, sent
+  state p : phase = ready
+  state b : bit = 0
+  when send, p = ready, b = 0 do p := wait, emit data = 0
+  when send, p = ready, b = 1 do p := wait, emit data = 1
+  when timeout, absent back, p = wait, b = 0 do emit data = 0
+  when timeout, absent back, p = wait, b = 1 do emit data = 1
+  when back, p = wait, b = 0 do p := ready, b := 1, emit sent
+  when back, p = wait, b = 1 do p := ready, b := 0, emit sent
+  when back, absent send, p = ready do nothing
+  when timeout, absent send, p = ready do nothing
+}
+machine data_line priority 2 {
+  input data, drop_d
+  output frame
+  when data, absent drop_d do emit frame = value data
+  when data, drop_d do nothing
+}
+machine receiver priority 1 {
+  input frame
+  output ack, got
+  state e : bit = 0
+  when frame = 0, e = 0 do e := 1, emit ack = 0, emit got
+  when frame = 1, e = 1 do e := 0, emit ack = 1, emit got
+  when frame = 1, e = 0 do emit ack = 1
+  when frame = 0, e = 1 do emit ack = 0
+}
+machine ack_line priority 2 {
+  input ack, drop_a
+  output back
+  when ack, absent drop_a do emit back = value ack
+  when ack, drop_a do nothing
+}
+";
+
+/// A monitor of the two: nothing is confirmed before it was handed on.
+pub const PROTOCOL_MONITOR: &str =
+    "# A monitor of the protocol: no message is confirmed before it was handed on.
+network protocol_monitor version 2
+domain seen = 0 .. 1
+event got from env
+event sent from env
+event early to env
+machine mon priority 0 {
+  input got, sent
+  output early
+  state k : seen = 0
+  when got, absent sent do k := 1
+  when sent, absent got, k = 1 do k := 0
+  when sent, absent got, k = 0 do emit early
+}
+";
+
+/// Four messages, a timeout that came early, and a frame that is lost.
+pub const PROTOCOL_TRACE: &str = "send
+settle
+timeout
+send
+settle
+drop_d
+send
+settle
+timeout
+settle
+send
+settle
+";
+
+/// A traffic light with a pedestrian's button, and its timer.
+pub const LIGHT: &str = "# A traffic light with a pedestrian's button; the timer counts seconds.
+network light version 2
+domain phase = { boot, green, long, yellow, walk, clear }
+domain yesno = { no, yes }
+domain secs = 0 .. 15
+domain lamp = { red, amber, go }
+domain ped = { stop, walk }
+event start from env
+event button from env
+event second from env
+event cars : lamp to env
+event people : ped to env
+event wait_lamp to env
+event arm : secs
+event expired
+machine control priority 2 {
+  input start, button, expired
+  output cars, people, wait_lamp, arm
+  state p : phase = boot
+  state req : yesno = no
+  # boot
+  when start, p = boot do p := green, emit cars = go, emit people = stop, emit arm = 10
+  when button, absent start, p = boot do nothing
+  when start, absent button, absent expired, p in { green, long, yellow, walk, clear } do nothing
+  # green, minimum time not over
+  when button, absent expired, p = green, req = no do req := yes, emit wait_lamp
+  when button, absent expired, p = green, req = yes do nothing
+  when expired, p = green, req = yes do p := yellow, emit cars = amber, emit arm = 3
+  when expired, button, p = green, req = no
+    do p := yellow, req := yes, emit wait_lamp, emit cars = amber, emit arm = 3
+  when expired, absent button, p = green, req = no do p := long
+  # green, minimum time over
+  when button, p = long do p := yellow, req := yes, emit wait_lamp, emit cars = amber, emit arm = 3
+  # yellow
+  when expired, p = yellow
+    do p := walk, req := no, emit cars = red, emit people = walk, emit arm = 8
+  when button, absent expired, p = yellow do nothing
+  # walk
+  when expired, absent button, p = walk do p := clear, emit people = stop, emit arm = 4
+  when expired, button, p = walk
+    do p := clear, req := yes, emit wait_lamp, emit people = stop, emit arm = 4
+  when button, absent expired, p = walk, req = no do nothing
+  # clear
+  when expired, absent button, p = clear do p := green, emit cars = go, emit arm = 10
+  when expired, button, p = clear, req = no
+    do p := green, req := yes, emit wait_lamp, emit cars = go, emit arm = 10
+  when button, absent expired, p = clear, req = no do req := yes, emit wait_lamp
+  when button, absent expired, p = clear, req = yes do nothing
+}
+machine timer priority 1 {
+  input arm, second
+  output expired
+  state n : secs = 0
+  when arm do n := value arm
+  when second, absent arm, n = 0 do nothing
+  when second, absent arm, n = 1 do n := 0, emit expired
+  when second, absent arm, n in { 2, 3, 4, 5, 6, 7, 8, 9, 10, 11, 12, 13, 14, 15 } do n := n + 15
+}
+";
+
+/// Seconds, and now and then a press of the button.
+pub const LIGHT_TRACE: &str = "start
+settle
+button
+settle
+second
+settle
+second
+settle
+second
+settle
+second
+settle
+second
+settle
+second
+settle
+second
+settle
+second
+settle
+second
+settle
+second
+settle
+second
+settle
+second
+settle
+second
+settle
+second
+settle
+second
+settle
+second
+settle
+second
+settle
+second
+settle
+second
+settle
+second
+settle
+second
+settle
+button
+settle
+second
+settle
+second
+settle
+second
+settle
+button
+second
+settle
+second
+settle
+second
+settle
+second
+settle
+second
+settle
+second
+settle
+second
+settle
+second
+settle
+second
+settle
+second
+settle
+second
+settle
+second
+settle
+second
+settle
+second
+settle
+second
+settle
+second
+settle
+second
+settle
+second
+settle
+second
+settle
+second
+settle
+second
+settle
+second
+settle
+second
+settle
+second
+settle
+second
+settle
+second
+settle
+second
+settle
+second
+settle
+second
+settle
+second
+settle
+second
+settle
+button
+settle
+button
+settle
+";

@@ -1,5 +1,5 @@
 -- What explaining gives.
-use Rattle.std.specs.Prelude.{◌≡◌, ℕ, ◌+◌, false, List, [], Option}
+use Rattle.std.specs.Prelude.{ℕ, ◌+◌, false, List, [], Option}
 use Rattle.net_core.specs.declared.answer.Why.{Why}
 use Rattle.fault_text.specs.Blocks.{line_block_text}
 use Rattle.polis_words.specs.Sentences.{why_sentence}

@@ -35,6 +35,22 @@ fn network(name: &str) -> &'static str {
     if name == "clash.net" {
         return texts::CLASH;
     }
+    design(name)
+}
+
+fn design(name: &str) -> &'static str {
+    if name == "protocol.net" {
+        return texts::PROTOCOL;
+    }
+    if name == "protocol_fault.net" {
+        return texts::PROTOCOL_FAULT;
+    }
+    if name == "protocol_monitor.net" {
+        return texts::PROTOCOL_MONITOR;
+    }
+    if name == "light.net" {
+        return texts::LIGHT;
+    }
     trace(name)
 }
 
@@ -53,6 +69,12 @@ fn trace(name: &str) -> &'static str {
     }
     if name == "clash.trc" {
         return texts::CLASH_TRACE;
+    }
+    if name == "protocol.trc" {
+        return texts::PROTOCOL_TRACE;
+    }
+    if name == "light.trc" {
+        return texts::LIGHT_TRACE;
     }
     "no such text"
 }

@@ -1,12 +1,13 @@
-// The options of a run.
-ghost use Rattle.std.specs.Prelude.{◌≡◌, ◌≢◌, ◌+◌, ◌≤◌, ◌<◌, ◌^◌, ℕ, length, drop, decimal, IfSome, IfNone};
+// The options of runs and surveys.
+ghost use Rattle.std.specs.Prelude.{◌≡◌, ◌↔◌, ◌+◌, ◌≤◌, ◌<◌, ◌^◌, length, drop, IfSome, IfNone, IsTrue};
 ghost use Rattle.polis_words.specs.RunOptions.{RunOption, Said, Says, AskOptions};
 ghost use Rattle.polis_words.specs.inner.Run.{IsOptionOf, SaysAt, option_of};
 
 use crate::requests::file_word::is_file_word;
+use crate::requests::number::{read_number, read_seed};
 use crate::requests::order::{GivenOrder, read_order};
+use polis_base::Words;
 use polis_base::limits::{ENTRIES_MAX, WORKERS_MAX};
-use polis_base::{Words, read_decimal};
 use std::marker::Model;
 
 // One option of a run.
@@ -16,6 +17,8 @@ enum Given<'a> {
     Limit(u64),
     Image(&'a str),
     Order(GivenOrder),
+    Seed(u64),
+    Watch(&'a str),
 }
 
 /// What the options of runs say.
@@ -29,6 +32,10 @@ pub struct Options<'a> {
     pub image: Option<&'a str>,
     /// Which moves are offered.
     pub order: Option<GivenOrder>,
+    /// The number from which the first run is drawn.
+    pub seed: Option<u64>,
+    /// The name of a monitor.
+    pub watch: Option<&'a str>,
 }
 
 impl<'a> Model for Options<'a> {
@@ -42,25 +49,29 @@ impl<'a> Model for Options<'a> {
       limit = o.limit;
       image = option_map (λ name. name.now) o.image;
       order = o.order;
+      seed = o.seed;
+      watch = option_map (λ name. name.now) o.watch;
     } };
 }
 
-// The number, where it is from 1 to `most`.
-fn within(n: u64, most: u64) -> Option<u64>
-    ensures some { IfSome result (λ m. (m ≡ n) × (1 ≤ n) × (n ≤ most)) }
-    ensures none { IfNone result ((m : ℕ) → m ≤ most → 1 ≤ m → n ≢ m) }
-{
-    if 1 <= n && n <= most { Some(n) } else { None }
-}
+impl<'a> Options<'a> {
+    ghost use Rattle.polis_words.specs.RunOptions.{DrawsNothing, DrawsOne};
 
-// A number from 1 to `most` in decimal.
-fn read_number(word: &str, most: u64) -> Option<u64>
-    ensures some { IfSome result (λ n. (word.now ≡ decimal n) × (1 ≤ n) × (n ≤ most)) }
-    ensures none { IfNone result ((n : ℕ) → n ≤ most → 1 ≤ n → word.now ≢ decimal n) }
-{
-    match read_decimal(word.as_bytes()) {
-        Some(n) => within(n, most),
-        None => None,
+    /// Whether they say nothing of drawn runs: no order, no seed and no monitor.
+    pub fn draws_nothing(&self) -> bool
+        ensures { IsTrue result ↔ DrawsNothing self.now }
+    {
+        self.order.is_none() && self.seed.is_none() && self.watch.is_none()
+    }
+
+    /// Whether they say nothing but an order and a limit.
+    pub fn draws_one(&self) -> bool
+        ensures { IsTrue result ↔ DrawsOne self.now }
+    {
+        self.workers.is_none()
+            && self.image.is_none()
+            && self.seed.is_none()
+            && self.watch.is_none()
     }
 }
 
@@ -89,6 +100,17 @@ fn option_with<'a>(flag: &str, value: &'a str) -> Option<Given<'a>>
             Some(order) => Some(Given::Order(order)),
             None => None,
         },
+        "--seed" => match read_seed(value) {
+            Some(seed) => Some(Given::Seed(seed)),
+            None => None,
+        },
+        "--watch" => {
+            if is_file_word(value) {
+                Some(Given::Watch(value))
+            } else {
+                None
+            }
+        }
         _ => None,
     }
 }
@@ -98,46 +120,46 @@ fn say<'a>(old: Options<'a>, option: Given<'a>) -> Option<Options<'a>>
     ensures some { IfSome result (λ new. Says old.entry (option_of option.entry) new) }
     ensures none { IfNone result ((new : Said) → ¬ Says old.entry (option_of option.entry) new) }
 {
-    let Options {
-        workers,
-        limit,
-        image,
-        order,
-    } = old;
     match option {
-        Given::Workers(n) => match workers {
+        Given::Workers(n) => match old.workers {
             None => Some(Options {
                 workers: Some(n),
-                limit,
-                image,
-                order,
+                ..old
             }),
             Some(_) => None,
         },
-        Given::Limit(n) => match limit {
+        Given::Limit(n) => match old.limit {
             None => Some(Options {
-                workers,
                 limit: Some(n),
-                image,
-                order,
+                ..old
             }),
             Some(_) => None,
         },
-        Given::Image(name) => match image {
+        Given::Image(name) => match old.image {
             None => Some(Options {
-                workers,
-                limit,
                 image: Some(name),
-                order,
+                ..old
             }),
             Some(_) => None,
         },
-        Given::Order(asked) => match order {
+        Given::Order(order) => match old.order {
             None => Some(Options {
-                workers,
-                limit,
-                image,
-                order: Some(asked),
+                order: Some(order),
+                ..old
+            }),
+            Some(_) => None,
+        },
+        Given::Seed(seed) => match old.seed {
+            None => Some(Options {
+                seed: Some(seed),
+                ..old
+            }),
+            Some(_) => None,
+        },
+        Given::Watch(name) => match old.watch {
+            None => Some(Options {
+                watch: Some(name),
+                ..old
             }),
             Some(_) => None,
         },
@@ -172,6 +194,8 @@ pub fn options_of(words: &Words, first: u64) -> Option<Options<'_>>
         limit: None,
         image: None,
         order: None,
+        seed: None,
+        watch: None,
     };
     for k in 0..count / 2 {
         options = match say_at(words, first + 2 * k, options) {

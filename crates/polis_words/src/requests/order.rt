@@ -1,6 +1,7 @@
 // The order that a command line gives.
-ghost use Rattle.std.specs.Prelude.{◌≡◌, ◌≢◌, IfSome, IfNone};
+ghost use Rattle.std.specs.Prelude.{◌≡◌, ◌≢◌, IfSome, IfNone, unwrap_or};
 ghost use Rattle.polis_words.specs.declared.requests.order.GivenOrder.{GivenOrder};
+ghost use Rattle.polis_words.specs.declared.requests.order.GivenOrder.TheVariants.{Mixed};
 ghost use Rattle.polis_words.specs.RunOptions.{order_word};
 
 /// Which moves a drawn run is offered.
@@ -27,5 +28,15 @@ pub fn read_order(word: &str) -> Option<GivenOrder>
         "settled" => Some(GivenOrder::Settled),
         "scheduled" => Some(GivenOrder::Scheduled),
         _ => None,
+    }
+}
+
+/// The order, or that it is drawn too where there is none.
+pub fn or_mixed(order: Option<GivenOrder>) -> GivenOrder
+    ensures { result ≡ unwrap_or order Mixed }
+{
+    match order {
+        Some(order) => order,
+        None => GivenOrder::Mixed,
     }
 }

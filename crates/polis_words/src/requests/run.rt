@@ -5,6 +5,7 @@ ghost use Rattle.polis_words.specs.Run.{RunWords, AsksRun};
 ghost use Rattle.polis_words.specs.inner.Commands.{IsCommand};
 
 use crate::requests::file_word::is_file_word;
+use crate::requests::number::or_else;
 use crate::requests::options::options_of;
 use polis_base::Words;
 use polis_base::limits::ENTRIES_MAX;
@@ -90,16 +91,6 @@ impl<'a> Run<'a> {
     }
 }
 
-/// The number, or the default where there is none.
-pub fn or_else(n: Option<u64>, default: u64) -> u64
-    ensures { result ≡ unwrap_or n default }
-{
-    match n {
-        Some(n) => n,
-        None => default,
-    }
-}
-
 /// The run that a command line of this command asks for, if it asks for one.
 pub fn run_of(words: &Words) -> Option<Run<'_>>
     requires { IsCommand words.now (codes "run") }
@@ -115,7 +106,7 @@ pub fn run_of(words: &Words) -> Option<Run<'_>>
         Some(options) => options,
         None => return None,
     };
-    if options.order.is_some() {
+    if !options.draws_nothing() {
         return None;
     }
     let net = words.get(1);

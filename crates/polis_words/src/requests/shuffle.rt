@@ -1,17 +1,16 @@
 // The command line `shuffle NET TRACE STEM SEED`, with its options.
-ghost use Rattle.std.specs.Prelude.{◌≡◌, ◌≢◌, ◌≤◌, ◌<◌, ◌^◌, ℕ, codes, decimal, drop, length, IfSome, IfNone, unwrap_or};
+ghost use Rattle.std.specs.Prelude.{◌≡◌, ◌≤◌, ℕ, codes, drop, length, IfSome, IfNone};
 ghost use Rattle.polis_base.specs.declared.limits.TheConstants.{ENTRIES_MAX};
 ghost use Rattle.polis_words.specs.declared.requests.order.GivenOrder.{GivenOrder};
-ghost use Rattle.polis_words.specs.declared.requests.order.GivenOrder.TheVariants.{Mixed};
 ghost use Rattle.polis_words.specs.Shuffle.{AskSettings, AsksShuffle, ShuffleWords};
 ghost use Rattle.polis_words.specs.inner.Commands.{IsCommand};
 
 use crate::requests::file_word::is_file_word;
+use crate::requests::number::{or_else, read_seed};
 use crate::requests::options::options_of;
-use crate::requests::order::GivenOrder;
-use crate::requests::run::or_else;
+use crate::requests::order::{GivenOrder, or_mixed};
+use polis_base::Words;
 use polis_base::limits::ENTRIES_MAX;
-use polis_base::{Words, read_decimal};
 use std::marker::Model;
 
 /// A request to run a network on a trace by draws.
@@ -97,27 +96,6 @@ struct Settings {
     limit: u64,
 }
 
-// The order, or that it is drawn too where there is none.
-fn or_mixed(order: Option<GivenOrder>) -> GivenOrder
-    ensures { result ≡ unwrap_or order Mixed }
-{
-    match order {
-        Some(order) => order,
-        None => GivenOrder::Mixed,
-    }
-}
-
-// A number below 2^64 in decimal.
-fn read_seed(word: &str) -> Option<u64>
-    ensures some { IfSome result (λ seed. (word.now ≡ decimal seed) × (seed < 2 ^ 64)) }
-    ensures none { IfNone result ((seed : ℕ) → seed < 2 ^ 64 → word.now ≢ decimal seed) }
-{
-    match read_decimal(word.as_bytes()) {
-        Some(seed) => Some(seed),
-        None => None,
-    }
-}
-
 // What the options after the seed say, if these are options of a drawn run.
 fn settings_of(words: &Words) -> Option<Settings>
     requires { 5 ≤ length words.now }
@@ -132,7 +110,7 @@ fn settings_of(words: &Words) -> Option<Settings>
         Some(options) => options,
         None => return None,
     };
-    if options.workers.is_some() || options.image.is_some() {
+    if !options.draws_one() {
         return None;
     }
     Some(Settings {

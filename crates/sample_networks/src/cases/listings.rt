@@ -3,7 +3,7 @@
 /// Texts that several cases name: listings of compiled networks, worked out from the rules of the
 /// texts, the image of the lamp (the magic, version 1, one machine, its name, the sizes of two
 /// variables and of three results, six instructions: two tests, three sets, a halt), three
-/// networks, and what runs save and show.
+/// networks, what runs save and show, and surveys of the seat belt.
 pub const SHARED: &str = r#"
 :: text lamp.lst
 polis listing 1
@@ -465,5 +465,23 @@ lost 0
 gathered 4 adopted 4
 machine a vertices 5 code 4 tries 1 steps 4
 machine b vertices 5 code 4 tries 1 steps 4
+:: text surveyed.shown
+runs 100 complete 100
+kinds 3
+kind 73 seed 0 outputs 2 : alarm_on alarm_off
+kind 22 seed 2 outputs 1 : alarm_on
+kind 5 seed 60 outputs 0 : -
+lost timer tick least 0 most 7 seed 69 runs 27
+unused timer tick least 0 most 1 seed 3 runs 19
+never belt 5 : 1 2 3 5 6
+:: text surveyed_free.shown
+runs 100 complete 100
+kinds 3
+kind 17 seed 0 outputs 0 : -
+kind 67 seed 1 outputs 1 : alarm_on
+kind 16 seed 5 outputs 2 : alarm_on alarm_off
+lost timer tick least 0 most 8 seed 69 runs 81
+unused timer tick least 0 most 1 seed 3 runs 37
+never belt 5 : 1 2 3 5 6
 :: text end
 "#;

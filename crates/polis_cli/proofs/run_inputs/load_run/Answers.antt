@@ -1,4 +1,8 @@
-use Rattle.polis_cli.proofs.RunMeaning.{inputs_fail, image_fails, run_held}
+use Rattle.std.proofs.Common.{inl}
+use Rattle.input_files.specs.Inputs.{InputsFail}
+use Rattle.polis_cli.specs.Run.{FailsRun}
+use Rattle.polis_cli.proofs.IsMade.{files_wider}
+use Rattle.polis_cli.proofs.RunMeaning.{image_fails, run_held}
 use Rattle.polis_cli.proofs.run_inputs.load_run.Goals as goal
 
 pub returns-in-Ok-load_image_of-clause-held : goal.returns-in-Ok-load_image_of-clause-held
@@ -10,7 +14,9 @@ returns-in-Ok-load_image_of-clause-held g c =
 
 pub returns-in-Err-clause-failed : goal.returns-in-Err-clause-failed
 returns-in-Err-clause-failed g c =
-    inputs_fail (g.H.Host.files c.args.host.now) c.args.run.now c.in-Err.failure
+    let run = c.args.run.now in
+    files_wider (g.H.Host.files c.args.host.now) (λ files. InputsFail files run.net run.trace)
+    (FailsRun run) c.in-Err.failure (λ files name cause h. inl h)
     (rw (c.net.ensures, c.trace.ensures) at c.in-Err.ensures.failed)
 
 pub returns-clause-failed : goal.returns-clause-failed

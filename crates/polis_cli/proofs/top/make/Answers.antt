@@ -53,3 +53,8 @@ pub returns-in-Watch-clause-made : goal.returns-in-Watch-clause-made
 returns-in-Watch-clause-made g c =
     subst (λ (r : Request). IsMade (meaning r) (g.H.Host.files c.args.host.now)
     c.make_watch.result) (sym c.in-Watch.is) c.make_watch.ensures.made
+
+pub returns-in-Survey-clause-made : goal.returns-in-Survey-clause-made
+returns-in-Survey-clause-made g c =
+    subst (λ (r : Request). IsMade (meaning r) (g.H.Host.files c.args.host.now)
+    c.make_survey.result) (sym c.in-Survey.is) c.make_survey.ensures.made

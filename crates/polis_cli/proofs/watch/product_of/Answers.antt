@@ -18,7 +18,6 @@ pub returns : goal.returns
 returns c =
     let said = c.in_ok-said.said in
     record {
-      is_monitor = c.requires.monitor;
       said = said;
       answers = (rw c.new-reactor.ensures at c.in_ok-said.ensures.answer);
       made =

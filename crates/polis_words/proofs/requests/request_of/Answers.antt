@@ -9,11 +9,12 @@ use Rattle.polis_words.specs.Replay.{ReplayWords}
 use Rattle.polis_words.specs.ReplayStem.{ReplayStemWords}
 use Rattle.polis_words.specs.Run.{RunWords}
 use Rattle.polis_words.specs.Shuffle.{ShuffleWords}
+use Rattle.polis_words.specs.Survey.{SurveyWords}
 use Rattle.polis_words.specs.Watch.{WatchWords}
 use Rattle.polis_words.specs.declared.requests.explain.Explain.{Explain as Explanation}
 use Rattle.polis_words.specs.declared.requests.explain.Explain.TheVariants as explains
 use Rattle.polis_words.specs.declared.requests.Request.{Request}
-use Rattle.polis_words.specs.declared.requests.Request.TheVariants.{Run, Check, Compile, Replay, Migrate, Demo, Bound, Image, Equiv, Losses, Wave, Draw, Explain, Cover, Lint, Shuffle, Watch}
+use Rattle.polis_words.specs.declared.requests.Request.TheVariants.{Run, Check, Compile, Replay, Migrate, Demo, Bound, Image, Equiv, Losses, Wave, Draw, Explain, Cover, Lint, Shuffle, Watch, Survey}
 use Rattle.polis_words.specs.Requests.{Asks}
 use Rattle.polis_words.specs.inner.Commands.{IsCommand}
 use Rattle.polis_words.proofs.requests.request_of.Goals as goal
@@ -54,7 +55,8 @@ module _ (words : List (List ℕ)) (P : Request → Type 0) where
       (By (key word == key (codes "lint")) (All {X = CheckWords} Lint)
       (By (key word == key (codes "shuffle")) (All {X = ShuffleWords} Shuffle)
       (By (key word == key (codes "watch")) (All {X = WatchWords} Watch)
-      ⊤))))))))))))))))
+      (By (key word == key (codes "survey")) (All {X = SurveyWords} Survey)
+      ⊤)))))))))))))))))
 
   own : (word other : List ℕ) → IsCommand words word → IsCommand words other → OfCommand word
       → OfCommand other
@@ -101,6 +103,8 @@ module _ (words : List (List ℕ)) (P : Request → Type 0) where
       own word (codes "shuffle") is (ap head asks.form) each x asks
   by_first word is each (Watch x) asks =
       own word (codes "watch") is (ap head asks.form) each x asks
+  by_first word is each (Survey x) asks =
+      own word (codes "survey") is (ap head asks.form) each x asks
 
 if_none : {X : Type 0} (found : Option X) {N : Type 0} → N → IfNone found N
 if_none None none = none
@@ -371,3 +375,16 @@ returns-in_err-watch_of-in-watch-clause-nothing c =
     (by_first c.args.words.now (λ request. ⊥) (codes "watch")
     (c.get.ensures ∙ ap Some c.in-watch.is)
     c.in_err-watch_of-in-watch.ensures.nothing)
+
+pub returns-in_ok-survey_of-in-survey-clause-one : goal.returns-in_ok-survey_of-in-survey-clause-one
+returns-in_ok-survey_of-in-survey-clause-one c =
+    let found = c.in_ok-survey_of-in-survey in
+    by_first c.args.words.now (λ request. request ≡ Survey found.field-0) (codes "survey")
+    (c.get.ensures ∙ ap Some c.in-survey.is) (λ x asks. ap Survey (found.ensures.one x asks))
+
+pub returns-in_err-survey_of-in-survey-clause-nothing : goal.returns-in_err-survey_of-in-survey-clause-nothing
+returns-in_err-survey_of-in-survey-clause-nothing c =
+    if_none c.from_residual-in_err-survey_of-in-survey.result
+    (by_first c.args.words.now (λ request. ⊥) (codes "survey")
+    (c.get.ensures ∙ ap Some c.in-survey.is)
+    c.in_err-survey_of-in-survey.ensures.nothing)

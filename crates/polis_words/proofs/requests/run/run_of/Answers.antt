@@ -3,8 +3,8 @@ use Rattle.std.specs.Prelude.{unwrap_or}
 use Rattle.std.proofs.Common.{drop}
 use Rattle.polis_base.specs.declared.limits.TheConstants.{ENTRIES_MAX}
 use Rattle.polis_words.specs.RunOptions.{Said}
-use Rattle.polis_words.proofs.AskOptions.{asked_within, is_said}
-use Rattle.polis_words.proofs.AsksRun.{no_ordered, one_run, options_asked}
+use Rattle.polis_words.proofs.AskOptions.{asked_within, not_both}
+use Rattle.polis_words.proofs.AsksRun.{no_drawn, one_run, options_asked}
 use Rattle.polis_words.proofs.requests.run.run_of.Goals as goal
 
 pub invariant_of-result : goal.invariant_of-result
@@ -28,12 +28,12 @@ pub returns-in-None-clause-nothing : goal.returns-in-None-clause-nothing
 returns-in-None-clause-nothing c = λ run asks.
     c.in-None.ensures.none asks.said (options_asked c.args.words.now run asks)
 
-pub returns-then-is_some-clause-nothing : goal.returns-then-is_some-clause-nothing
-returns-then-is_some-clause-nothing c =
-    let same = ap (λ (s : Said). s.order) c.options.view_is in
-    no_ordered c.args.words.now c.in-Some.options c.in-Some.ensures.some
-    (λ none. is_said c.options.inside.order (sym c.is_some.ensures ∙ c.if-is_some.true)
-    (same ∙ none))
+pub returns-then-not-draws_nothing-clause-nothing : goal.returns-then-not-draws_nothing-clause-nothing
+returns-then-not-draws_nothing-clause-nothing c =
+    no_drawn c.args.words.now c.in-Some.options c.in-Some.ensures.some (λ none.
+    let yes = c.draws_nothing.ensures.1 none in
+    let no = c.if-not-draws_nothing.true in
+    not_both c.draws_nothing.result yes no)
 
 pub returns-then-is_file_word-3-clause-one : goal.returns-then-is_file_word-3-clause-one
 returns-then-is_file_word-3-clause-one c = λ other asks.

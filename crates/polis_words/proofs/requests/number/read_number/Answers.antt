@@ -1,6 +1,6 @@
 use Rattle.std.proofs.Common.{arith}
 use Rattle.polis_words.proofs.AskOptions.{no_numbers}
-use Rattle.polis_words.proofs.requests.options.read_number.Goals as goal
+use Rattle.polis_words.proofs.requests.number.read_number.Goals as goal
 
 pub returns-in-Some-clause-none : goal.returns-in-Some-clause-none
 returns-in-Some-clause-none c =

@@ -1,5 +1,5 @@
 -- The drawn run that a command line asks for.
-use Rattle.std.proofs.Common.{◌≡◌, ◌<◌, ◌^◌, ℕ, List, [], ◌∷◌, drop, slice_get, Some, None, sym, ap, subst, ◌∙◌, codes, decimal}
+use Rattle.std.proofs.Common.{◌≡◌, ◌<◌, ◌^◌, ℕ, List, [], ◌∷◌, drop, slice_get, Some, sym, ap, subst, ◌∙◌, codes, decimal}
 use Rattle.std.specs.Prelude.{unwrap_or}
 use Rattle.std.proofs.lemmas.Fmt.{decimal_injective}
 use Rattle.polis_base.specs.declared.limits.TheConstants.{ENTRIES_MAX}

@@ -1,11 +1,11 @@
 -- The survey that a command line asks for.
-use Rattle.std.proofs.Common.{◌≡◌, ◌+◌, ◌≤◌, ◌<◌, ◌^◌, ℕ, List, [], ◌∷◌, drop, slice_get, Option, Some, None, sym, ap, subst, ◌∙◌, arith, codes, decimal}
+use Rattle.std.proofs.Common.{◌≡◌, ◌+◌, ◌≤◌, ◌<◌, ◌^◌, ℕ, List, ◌∷◌, drop, slice_get, Option, Some, None, sym, ap, subst, ◌∙◌, arith, codes, decimal}
 use Rattle.std.specs.Prelude.{unwrap_or}
 use Rattle.std.proofs.lemmas.Fmt.{decimal_injective}
 use Rattle.polis_base.specs.declared.limits.TheConstants.{ENTRIES_MAX, RUNS_MAX}
 use Rattle.polis_words.specs.declared.requests.order.GivenOrder.TheVariants.{Mixed}
 use Rattle.polis_words.specs.RunOptions.{Said, AskOptions}
-use Rattle.polis_words.specs.Survey.{AskSurvey, AsksSurvey, SurveyWords, survey_form}
+use Rattle.polis_words.specs.Survey.{AsksSurvey, SurveyWords, survey_form}
 use Rattle.polis_words.proofs.AskOptions.{one_asked_for}
 use Rattle.polis_words.proofs.AsksRun.{words_are}
 

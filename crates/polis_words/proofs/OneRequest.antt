@@ -10,7 +10,6 @@ use Rattle.polis_words.specs.NetTrace.{NetTraceWords, AsksNetTrace}
 use Rattle.polis_words.specs.Replay.{ReplayWords, AsksReplay}
 use Rattle.polis_words.specs.ReplayStem.{ReplayStemWords, AsksReplayStem}
 use Rattle.polis_words.specs.Requests.{Asks}
-use Rattle.polis_words.specs.Survey.{SurveyWords, AsksSurvey}
 use Rattle.polis_words.specs.Watch.{WatchWords, AsksWatch, named_by}
 use Rattle.polis_words.specs.declared.requests.Request.{Request}
 use Rattle.polis_words.specs.declared.requests.Request.TheVariants.{Run, Check, Compile, Replay, Migrate, Demo, Bound, Image, Equiv, Losses, Wave, Draw, Explain, Cover, Lint, Shuffle, Watch, Survey}

@@ -1,5 +1,5 @@
 -- Requests that more than one worker does.
-use Rattle.std.proofs.Common.{◌≡◌, ◌↔◌, ◌<◌, ℕ, Bool, true, false, List, IsTrue, ap, subst, arith}
+use Rattle.std.proofs.Common.{◌≡◌, ◌↔◌, ◌<◌, ℕ, Bool, false, List, IsTrue, ap, subst, arith}
 use Rattle.std.specs.Bool.{Decides}
 use Rattle.polis_words.specs.Requests.{Asks, AsksNothing}
 use Rattle.polis_words.specs.Workers.{NeedsWorkers, workers_of}

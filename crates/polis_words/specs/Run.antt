@@ -1,5 +1,5 @@
 -- The command line `run NET TRACE STEM`, with its options.
-use Rattle.std.specs.Prelude.{◌≡◌, ℕ, ◌<◌, List, ◌∷◌, ◌++◌, Option, unwrap_or, codes}
+use Rattle.std.specs.Prelude.{◌≡◌, ℕ, List, ◌∷◌, ◌++◌, Option, unwrap_or, codes}
 use Rattle.polis_base.specs.declared.limits.TheConstants.{ENTRIES_MAX}
 use Rattle.polis_words.specs.FileWords.{IsFileWord}
 use Rattle.polis_words.specs.RunOptions.{Said, AskOptions, DrawsNothing}

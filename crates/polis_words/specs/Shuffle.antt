@@ -1,5 +1,5 @@
 -- The command line `shuffle NET TRACE STEM SEED`, with its options.
-use Rattle.std.specs.Prelude.{◌≡◌, ℕ, ◌<◌, ◌^◌, List, ◌∷◌, ◌++◌, None, unwrap_or, codes, decimal}
+use Rattle.std.specs.Prelude.{◌≡◌, ℕ, ◌<◌, ◌^◌, List, ◌∷◌, ◌++◌, unwrap_or, codes, decimal}
 use Rattle.polis_base.specs.declared.limits.TheConstants.{ENTRIES_MAX}
 use Rattle.polis_words.specs.declared.requests.order.GivenOrder.{GivenOrder}
 use Rattle.polis_words.specs.declared.requests.order.GivenOrder.TheVariants.{Mixed}

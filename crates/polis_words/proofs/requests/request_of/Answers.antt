@@ -1,12 +1,13 @@
-use Rattle.std.proofs.Common.{◌≡◌, ◌∙◌, ℕ, ◌+◌, ◌*◌, ◌==◌, Bool, true, false, List, Option, Some, None, slice_get, get_or, ap, subst, codes}
-use Rattle.std.specs.Prelude.{⊤, IfNone}
+use Rattle.std.proofs.Common.{◌≡◌, ◌∙◌, ℕ, ◌+◌, ◌*◌, ◌==◌, Bool, true, false, List, Option, Some, None, slice_get, get_or, ap, subst, sym, codes}
+use Rattle.std.specs.Option.{IsSomeAnd, MatchOption}
+use Rattle.std.specs.Prelude.{⊤, IfNone, IfSome, option_map}
 use Rattle.polis_words.specs.Bound.{BoundWords}
-use Rattle.polis_words.specs.Check.{CheckWords}
+use Rattle.polis_words.specs.Check.{AsksNet, CheckWords}
 use Rattle.polis_words.specs.Demo.{DemoWords}
 use Rattle.polis_words.specs.Equiv.{EquivWords}
-use Rattle.polis_words.specs.NetStem.{NetStemWords}
-use Rattle.polis_words.specs.Replay.{ReplayWords}
-use Rattle.polis_words.specs.ReplayStem.{ReplayStemWords}
+use Rattle.polis_words.specs.NetStem.{AsksNetStem, NetStemWords}
+use Rattle.polis_words.specs.Replay.{AsksReplay, ReplayWords}
+use Rattle.polis_words.specs.ReplayStem.{AsksReplayStem, ReplayStemWords}
 use Rattle.polis_words.specs.Run.{RunWords}
 use Rattle.polis_words.specs.Shuffle.{ShuffleWords}
 use Rattle.polis_words.specs.Survey.{SurveyWords}
@@ -15,7 +16,7 @@ use Rattle.polis_words.specs.declared.requests.explain.Explain.{Explain as Expla
 use Rattle.polis_words.specs.declared.requests.explain.Explain.TheVariants as explains
 use Rattle.polis_words.specs.declared.requests.Request.{Request}
 use Rattle.polis_words.specs.declared.requests.Request.TheVariants.{Run, Check, Compile, Replay, Migrate, Demo, Bound, Image, Equiv, Losses, Wave, Draw, Explain, Cover, Lint, Shuffle, Watch, Survey}
-use Rattle.polis_words.specs.Requests.{Asks}
+use Rattle.polis_words.specs.Requests.{Asks, AsksNothing}
 use Rattle.polis_words.specs.inner.Commands.{IsCommand}
 use Rattle.polis_words.proofs.requests.request_of.Goals as goal
 
@@ -106,93 +107,128 @@ module _ (words : List (List ℕ)) (P : Request → Type 0) where
   by_first word is each (Survey x) asks =
       own word (codes "survey") is (ap head asks.form) each x asks
 
+-- what the function ensures of its answer
+record Answers (words : List (List ℕ)) (result : Option Request) : Type 0 where
+  asks : IfSome result (λ request. Asks words request)
+  one : IfSome result (λ request. (other : Request) → Asks words other → other ≡ request)
+  nothing : IfNone result (AsksNothing words)
+
+-- what `map` says of the request of a kind that is made of what was found
+abbrev Maps : {X : Type 0} → (X → Request) → Option X → Option Request → Type 0
+Maps kind found result =
+    MatchOption found (result ≡ None) (λ x. IsSomeAnd result (λ request. request ≡ kind x))
+
+maps : {X : Type 0} (kind : X → Request) (found : Option X) (result : Option Request)
+    → Maps kind found result → result ≡ option_map kind found
+maps kind None result is = is
+maps kind (Some x) None is = absurd is
+maps kind (Some x) (Some request) is = ap Some is
+
+-- a command whose form has a reader of its own
+by_own : {X : Type 0} (words : List (List ℕ)) (kind : X → Request) (word : List ℕ)
+    → IsCommand words word
+    → ((P : Request → Type 0) → ((x : X) → Asks words (kind x) → P (kind x))
+    → OfCommand words P word)
+    → (found : Option X) (result : Option Request) → Maps kind found result
+    → IfSome found (λ x. Asks words (kind x))
+    → IfSome found (λ x. (other : X) → Asks words (kind other) → other ≡ x)
+    → IfNone found ((x : X) → ¬ Asks words (kind x))
+    → Answers words result
+by_own {X = X} words kind word at only found result is asks one nothing =
+    subst (Answers words) (sym (maps kind found result is)) (each found asks one nothing)
+  where
+    each : (found : Option X) → IfSome found (λ x. Asks words (kind x))
+        → IfSome found (λ x. (other : X) → Asks words (kind other) → other ≡ x)
+        → IfNone found ((x : X) → ¬ Asks words (kind x))
+        → Answers words (option_map kind found)
+    each None asks one nothing = record {
+      asks = tt;
+      one = tt;
+      nothing = by_first words (λ request. ⊥) word at (only (λ request. ⊥) nothing);
+    }
+    each (Some x) asks one nothing = record {
+      asks = asks;
+      one = by_first words (λ request. request ≡ kind x) word at
+          (only (λ request. request ≡ kind x) (λ y asked. ap kind (one y asked)));
+      nothing = tt;
+    }
+
+-- a command whose form other commands have too: its reader says it of each first word
+by_form : {X : Type 0} (words : List (List ℕ)) (kind : X → Request) (word : List ℕ)
+    → IsCommand words word
+    → ((P : Request → Type 0) → ((x : X) → Asks words (kind x) → P (kind x))
+    → OfCommand words P word)
+    → (found : Option X) (result : Option Request) → Maps kind found result
+    → (HasForm : List ℕ → X → Type 0)
+    → ((x : X) → HasForm word x → Asks words (kind x))
+    → ((x : X) → Asks words (kind x) → HasForm word x)
+    → IfSome found (λ x. (first : List ℕ) → IsCommand words first → HasForm first x)
+    → IfSome found (λ x. (first : List ℕ) (other : X) → HasForm first other → other ≡ x)
+    → IfNone found ((first : List ℕ) (x : X) → ¬ HasForm first x)
+    → Answers words result
+by_form words kind word at only None result is HasForm to from asks one nothing =
+    by_own words kind word at only None result is tt tt (λ x asked. nothing word x (from x asked))
+by_form words kind word at only (Some x) result is HasForm to from asks one nothing =
+    by_own words kind word at only (Some x) result is (to x (asks word at))
+    (λ other asked. one word other (from other asked)) tt
+
 if_none : {X : Type 0} (found : Option X) {N : Type 0} → N → IfNone found N
 if_none None none = none
 if_none (Some x) none = tt
 
-pub returns-in_ok-run_of-in-run-clause-one : goal.returns-in_ok-run_of-in-run-clause-one
-returns-in_ok-run_of-in-run-clause-one c =
-    let found = c.in_ok-run_of-in-run in
-    by_first c.args.words.now (λ request. request ≡ Run found.field-0) (codes "run")
-    (c.get.ensures ∙ ap Some c.in-run.is) (λ x asks. ap Run (found.ensures.one x asks))
+pub returns-in-run : goal.returns-in-run
+returns-in-run c =
+    let found = c.run_of in
+    let made = c.map in
+    let answers = by_own c.args.words.now Run (codes "run")
+    (c.get.ensures ∙ ap Some c.in-run.is) (λ P of_kind. of_kind)
+    found.result made.result made.ensures.cases
+    found.ensures.asks found.ensures.one found.ensures.nothing in
+    record { asks = answers.asks; one = answers.one; nothing = answers.nothing }
 
-pub returns-in_err-run_of-in-run-clause-nothing : goal.returns-in_err-run_of-in-run-clause-nothing
-returns-in_err-run_of-in-run-clause-nothing c =
-    if_none c.from_residual.result
-    (by_first c.args.words.now (λ request. ⊥) (codes "run") (c.get.ensures ∙ ap Some c.in-run.is)
-    c.in_err-run_of-in-run.ensures.nothing)
+pub returns-in-check : goal.returns-in-check
+returns-in-check c =
+    let found = c.net_of in
+    let made = c.map-in-check in
+    let answers = by_form c.args.words.now Check (codes "check")
+    (c.get.ensures ∙ ap Some c.in-check.is) (λ P of_kind. of_kind)
+    found.result made.result made.ensures.cases
+    (λ first. AsksNet first c.args.words.now) (λ x asked. asked) (λ x asked. asked)
+    found.ensures.asks found.ensures.one found.ensures.nothing in
+    record { asks = answers.asks; one = answers.one; nothing = answers.nothing }
 
-pub returns-in_ok-net_of-in-check-clause-asks : goal.returns-in_ok-net_of-in-check-clause-asks
-returns-in_ok-net_of-in-check-clause-asks c =
-    c.in_ok-net_of-in-check.ensures.asks (codes "check") (c.get.ensures ∙ ap Some c.in-check.is)
+pub returns-in-compile : goal.returns-in-compile
+returns-in-compile c =
+    let found = c.net_stem_of in
+    let made = c.map-in-compile in
+    let answers = by_form c.args.words.now Compile (codes "compile")
+    (c.get.ensures ∙ ap Some c.in-compile.is) (λ P of_kind. of_kind)
+    found.result made.result made.ensures.cases
+    (λ first. AsksNetStem first c.args.words.now) (λ x asked. asked) (λ x asked. asked)
+    found.ensures.asks found.ensures.one found.ensures.nothing in
+    record { asks = answers.asks; one = answers.one; nothing = answers.nothing }
 
-pub returns-in_ok-net_of-in-check-clause-one : goal.returns-in_ok-net_of-in-check-clause-one
-returns-in_ok-net_of-in-check-clause-one c =
-    let found = c.in_ok-net_of-in-check in
-    let one = found.ensures.one (codes "check") in
-    by_first c.args.words.now (λ request. request ≡ Check found.field-0) (codes "check")
-    (c.get.ensures ∙ ap Some c.in-check.is) (λ x asks. ap Check (one x asks))
+pub returns-in-replay : goal.returns-in-replay
+returns-in-replay c =
+    let found = c.replay_of in
+    let made = c.map-in-replay in
+    let answers = by_form c.args.words.now Replay (codes "replay")
+    (c.get.ensures ∙ ap Some c.in-replay.is) (λ P of_kind. of_kind)
+    found.result made.result made.ensures.cases
+    (λ first. AsksReplay first c.args.words.now) (λ x asked. asked) (λ x asked. asked)
+    found.ensures.asks found.ensures.one found.ensures.nothing in
+    record { asks = answers.asks; one = answers.one; nothing = answers.nothing }
 
-pub returns-in_err-net_of-in-check-clause-nothing : goal.returns-in_err-net_of-in-check-clause-nothing
-returns-in_err-net_of-in-check-clause-nothing c =
-    if_none c.from_residual-in_err-net_of-in-check.result
-    (by_first c.args.words.now (λ request. ⊥) (codes "check")
-    (c.get.ensures ∙ ap Some c.in-check.is)
-    (c.in_err-net_of-in-check.ensures.nothing (codes "check")))
-
-pub returns-in_ok-net_stem_of-in-compile-clause-asks : goal.returns-in_ok-net_stem_of-in-compile-clause-asks
-returns-in_ok-net_stem_of-in-compile-clause-asks c =
-    c.in_ok-net_stem_of-in-compile.ensures.asks (codes "compile") (c.get.ensures ∙ ap Some c.in-compile.is)
-
-pub returns-in_ok-net_stem_of-in-compile-clause-one : goal.returns-in_ok-net_stem_of-in-compile-clause-one
-returns-in_ok-net_stem_of-in-compile-clause-one c =
-    let found = c.in_ok-net_stem_of-in-compile in
-    let one = found.ensures.one (codes "compile") in
-    by_first c.args.words.now (λ request. request ≡ Compile found.field-0) (codes "compile")
-    (c.get.ensures ∙ ap Some c.in-compile.is) (λ x asks. ap Compile (one x asks))
-
-pub returns-in_err-net_stem_of-in-compile-clause-nothing : goal.returns-in_err-net_stem_of-in-compile-clause-nothing
-returns-in_err-net_stem_of-in-compile-clause-nothing c =
-    if_none c.from_residual-in_err-net_stem_of-in-compile.result
-    (by_first c.args.words.now (λ request. ⊥) (codes "compile")
-    (c.get.ensures ∙ ap Some c.in-compile.is)
-    (c.in_err-net_stem_of-in-compile.ensures.nothing (codes "compile")))
-
-pub returns-in_ok-replay_of-in-replay-clause-asks : goal.returns-in_ok-replay_of-in-replay-clause-asks
-returns-in_ok-replay_of-in-replay-clause-asks c =
-    c.in_ok-replay_of-in-replay.ensures.asks (codes "replay") (c.get.ensures ∙ ap Some c.in-replay.is)
-
-pub returns-in_ok-replay_of-in-replay-clause-one : goal.returns-in_ok-replay_of-in-replay-clause-one
-returns-in_ok-replay_of-in-replay-clause-one c =
-    let found = c.in_ok-replay_of-in-replay in
-    let one = found.ensures.one (codes "replay") in
-    by_first c.args.words.now (λ request. request ≡ Replay found.field-0) (codes "replay")
-    (c.get.ensures ∙ ap Some c.in-replay.is) (λ x asks. ap Replay (one x asks))
-
-pub returns-in_err-replay_of-in-replay-clause-nothing : goal.returns-in_err-replay_of-in-replay-clause-nothing
-returns-in_err-replay_of-in-replay-clause-nothing c =
-    if_none c.from_residual-in_err-replay_of-in-replay.result
-    (by_first c.args.words.now (λ request. ⊥) (codes "replay")
-    (c.get.ensures ∙ ap Some c.in-replay.is)
-    (c.in_err-replay_of-in-replay.ensures.nothing (codes "replay")))
-
-pub returns-in_ok-replay_stem_of-in-migrate-clause-asks : goal.returns-in_ok-replay_stem_of-in-migrate-clause-asks
-returns-in_ok-replay_stem_of-in-migrate-clause-asks c =
-    c.in_ok-replay_stem_of-in-migrate.ensures.asks (codes "migrate") (c.get.ensures ∙ ap Some c.in-migrate.is)
-
-pub returns-in_ok-replay_stem_of-in-migrate-clause-one : goal.returns-in_ok-replay_stem_of-in-migrate-clause-one
-returns-in_ok-replay_stem_of-in-migrate-clause-one c =
-    let found = c.in_ok-replay_stem_of-in-migrate in
-    let one = found.ensures.one (codes "migrate") in
-    by_first c.args.words.now (λ request. request ≡ Migrate found.field-0) (codes "migrate")
-    (c.get.ensures ∙ ap Some c.in-migrate.is) (λ x asks. ap Migrate (one x asks))
-
-pub returns-in_err-replay_stem_of-in-migrate-clause-nothing : goal.returns-in_err-replay_stem_of-in-migrate-clause-nothing
-returns-in_err-replay_stem_of-in-migrate-clause-nothing c =
-    if_none c.from_residual-in_err-replay_stem_of-in-migrate.result
-    (by_first c.args.words.now (λ request. ⊥) (codes "migrate")
-    (c.get.ensures ∙ ap Some c.in-migrate.is)
-    (c.in_err-replay_stem_of-in-migrate.ensures.nothing (codes "migrate")))
+pub returns-in-migrate : goal.returns-in-migrate
+returns-in-migrate c =
+    let found = c.replay_stem_of in
+    let made = c.map-in-migrate in
+    let answers = by_form c.args.words.now Migrate (codes "migrate")
+    (c.get.ensures ∙ ap Some c.in-migrate.is) (λ P of_kind. of_kind)
+    found.result made.result made.ensures.cases
+    (λ first. AsksReplayStem first c.args.words.now) (λ x asked. asked) (λ x asked. asked)
+    found.ensures.asks found.ensures.one found.ensures.nothing in
+    record { asks = answers.asks; one = answers.one; nothing = answers.nothing }
 
 pub returns-in_ok-demo_of-in-demo-clause-one : goal.returns-in_ok-demo_of-in-demo-clause-one
 returns-in_ok-demo_of-in-demo-clause-one c =
@@ -202,189 +238,132 @@ returns-in_ok-demo_of-in-demo-clause-one c =
 
 pub returns-in_err-demo_of-in-demo-clause-nothing : goal.returns-in_err-demo_of-in-demo-clause-nothing
 returns-in_err-demo_of-in-demo-clause-nothing c =
-    if_none c.from_residual-in_err-demo_of-in-demo.result
+    if_none c.from_residual.result
     (by_first c.args.words.now (λ request. ⊥) (codes "demo") (c.get.ensures ∙ ap Some c.in-demo.is)
     c.in_err-demo_of-in-demo.ensures.nothing)
 
-pub returns-in_ok-bound_of-in-bound-clause-one : goal.returns-in_ok-bound_of-in-bound-clause-one
-returns-in_ok-bound_of-in-bound-clause-one c =
-    let found = c.in_ok-bound_of-in-bound in
-    by_first c.args.words.now (λ request. request ≡ Bound found.field-0) (codes "bound")
-    (c.get.ensures ∙ ap Some c.in-bound.is) (λ x asks. ap Bound (found.ensures.one x asks))
+pub returns-in-bound : goal.returns-in-bound
+returns-in-bound c =
+    let found = c.bound_of in
+    let made = c.map-in-bound in
+    let answers = by_own c.args.words.now Bound (codes "bound")
+    (c.get.ensures ∙ ap Some c.in-bound.is) (λ P of_kind. of_kind)
+    found.result made.result made.ensures.cases
+    found.ensures.asks found.ensures.one found.ensures.nothing in
+    record { asks = answers.asks; one = answers.one; nothing = answers.nothing }
 
-pub returns-in_err-bound_of-in-bound-clause-nothing : goal.returns-in_err-bound_of-in-bound-clause-nothing
-returns-in_err-bound_of-in-bound-clause-nothing c =
-    if_none c.from_residual-in_err-bound_of-in-bound.result
-    (by_first c.args.words.now (λ request. ⊥) (codes "bound")
-    (c.get.ensures ∙ ap Some c.in-bound.is)
-    c.in_err-bound_of-in-bound.ensures.nothing)
+pub returns-in-image : goal.returns-in-image
+returns-in-image c =
+    let found = c.net_stem_of-in-image in
+    let made = c.map-in-image in
+    let answers = by_form c.args.words.now Image (codes "image")
+    (c.get.ensures ∙ ap Some c.in-image.is) (λ P of_kind. of_kind)
+    found.result made.result made.ensures.cases
+    (λ first. AsksNetStem first c.args.words.now) (λ x asked. asked) (λ x asked. asked)
+    found.ensures.asks found.ensures.one found.ensures.nothing in
+    record { asks = answers.asks; one = answers.one; nothing = answers.nothing }
 
-pub returns-in_ok-net_stem_of-in-image-clause-asks : goal.returns-in_ok-net_stem_of-in-image-clause-asks
-returns-in_ok-net_stem_of-in-image-clause-asks c =
-    c.in_ok-net_stem_of-in-image.ensures.asks (codes "image") (c.get.ensures ∙ ap Some c.in-image.is)
+pub returns-in-equiv : goal.returns-in-equiv
+returns-in-equiv c =
+    let found = c.equiv_of in
+    let made = c.map-in-equiv in
+    let answers = by_own c.args.words.now Equiv (codes "equiv")
+    (c.get.ensures ∙ ap Some c.in-equiv.is) (λ P of_kind. of_kind)
+    found.result made.result made.ensures.cases
+    found.ensures.asks found.ensures.one found.ensures.nothing in
+    record { asks = answers.asks; one = answers.one; nothing = answers.nothing }
 
-pub returns-in_ok-net_stem_of-in-image-clause-one : goal.returns-in_ok-net_stem_of-in-image-clause-one
-returns-in_ok-net_stem_of-in-image-clause-one c =
-    let found = c.in_ok-net_stem_of-in-image in
-    let one = found.ensures.one (codes "image") in
-    by_first c.args.words.now (λ request. request ≡ Image found.field-0) (codes "image")
-    (c.get.ensures ∙ ap Some c.in-image.is) (λ x asks. ap Image (one x asks))
+pub returns-in-losses : goal.returns-in-losses
+returns-in-losses c =
+    let found = c.replay_of-in-losses in
+    let made = c.map-in-losses in
+    let answers = by_form c.args.words.now Losses (codes "losses")
+    (c.get.ensures ∙ ap Some c.in-losses.is) (λ P of_kind. of_kind)
+    found.result made.result made.ensures.cases
+    (λ first. AsksReplay first c.args.words.now) (λ x asked. asked) (λ x asked. asked)
+    found.ensures.asks found.ensures.one found.ensures.nothing in
+    record { asks = answers.asks; one = answers.one; nothing = answers.nothing }
 
-pub returns-in_err-net_stem_of-in-image-clause-nothing : goal.returns-in_err-net_stem_of-in-image-clause-nothing
-returns-in_err-net_stem_of-in-image-clause-nothing c =
-    if_none c.from_residual-in_err-net_stem_of-in-image.result
-    (by_first c.args.words.now (λ request. ⊥) (codes "image")
-    (c.get.ensures ∙ ap Some c.in-image.is)
-    (c.in_err-net_stem_of-in-image.ensures.nothing (codes "image")))
+pub returns-in-wave : goal.returns-in-wave
+returns-in-wave c =
+    let found = c.replay_stem_of-in-wave in
+    let made = c.map-in-wave in
+    let answers = by_form c.args.words.now Wave (codes "wave")
+    (c.get.ensures ∙ ap Some c.in-wave.is) (λ P of_kind. of_kind)
+    found.result made.result made.ensures.cases
+    (λ first. AsksReplayStem first c.args.words.now) (λ x asked. asked) (λ x asked. asked)
+    found.ensures.asks found.ensures.one found.ensures.nothing in
+    record { asks = answers.asks; one = answers.one; nothing = answers.nothing }
 
-pub returns-in_ok-equiv_of-in-equiv-clause-one : goal.returns-in_ok-equiv_of-in-equiv-clause-one
-returns-in_ok-equiv_of-in-equiv-clause-one c =
-    let found = c.in_ok-equiv_of-in-equiv in
-    by_first c.args.words.now (λ request. request ≡ Equiv found.field-0) (codes "equiv")
-    (c.get.ensures ∙ ap Some c.in-equiv.is) (λ x asks. ap Equiv (found.ensures.one x asks))
+pub returns-in-draw : goal.returns-in-draw
+returns-in-draw c =
+    let found = c.net_stem_of-in-draw in
+    let made = c.map-in-draw in
+    let answers = by_form c.args.words.now Draw (codes "draw")
+    (c.get.ensures ∙ ap Some c.in-draw.is) (λ P of_kind. of_kind)
+    found.result made.result made.ensures.cases
+    (λ first. AsksNetStem first c.args.words.now) (λ x asked. asked) (λ x asked. asked)
+    found.ensures.asks found.ensures.one found.ensures.nothing in
+    record { asks = answers.asks; one = answers.one; nothing = answers.nothing }
 
-pub returns-in_err-equiv_of-in-equiv-clause-nothing : goal.returns-in_err-equiv_of-in-equiv-clause-nothing
-returns-in_err-equiv_of-in-equiv-clause-nothing c =
-    if_none c.from_residual-in_err-equiv_of-in-equiv.result
-    (by_first c.args.words.now (λ request. ⊥) (codes "equiv")
-    (c.get.ensures ∙ ap Some c.in-equiv.is)
-    c.in_err-equiv_of-in-equiv.ensures.nothing)
+pub returns-in-explain : goal.returns-in-explain
+returns-in-explain c =
+    let found = c.explain_of in
+    let made = c.map-in-explain in
+    let answers = by_own c.args.words.now Explain (codes "explain")
+    (c.get.ensures ∙ ap Some c.in-explain.is) (λ P of_kind. of_kind)
+    found.result made.result made.ensures.cases
+    found.ensures.asks found.ensures.one found.ensures.nothing in
+    record { asks = answers.asks; one = answers.one; nothing = answers.nothing }
 
-pub returns-in_ok-replay_of-in-losses-clause-asks : goal.returns-in_ok-replay_of-in-losses-clause-asks
-returns-in_ok-replay_of-in-losses-clause-asks c =
-    c.in_ok-replay_of-in-losses.ensures.asks (codes "losses") (c.get.ensures ∙ ap Some c.in-losses.is)
+pub returns-in-cover : goal.returns-in-cover
+returns-in-cover c =
+    let found = c.replay_of-in-cover in
+    let made = c.map-in-cover in
+    let answers = by_form c.args.words.now Cover (codes "cover")
+    (c.get.ensures ∙ ap Some c.in-cover.is) (λ P of_kind. of_kind)
+    found.result made.result made.ensures.cases
+    (λ first. AsksReplay first c.args.words.now) (λ x asked. asked) (λ x asked. asked)
+    found.ensures.asks found.ensures.one found.ensures.nothing in
+    record { asks = answers.asks; one = answers.one; nothing = answers.nothing }
 
-pub returns-in_ok-replay_of-in-losses-clause-one : goal.returns-in_ok-replay_of-in-losses-clause-one
-returns-in_ok-replay_of-in-losses-clause-one c =
-    let found = c.in_ok-replay_of-in-losses in
-    let one = found.ensures.one (codes "losses") in
-    by_first c.args.words.now (λ request. request ≡ Losses found.field-0) (codes "losses")
-    (c.get.ensures ∙ ap Some c.in-losses.is) (λ x asks. ap Losses (one x asks))
+pub returns-in-lint : goal.returns-in-lint
+returns-in-lint c =
+    let found = c.net_of-in-lint in
+    let made = c.map-in-lint in
+    let answers = by_form c.args.words.now Lint (codes "lint")
+    (c.get.ensures ∙ ap Some c.in-lint.is) (λ P of_kind. of_kind)
+    found.result made.result made.ensures.cases
+    (λ first. AsksNet first c.args.words.now) (λ x asked. asked) (λ x asked. asked)
+    found.ensures.asks found.ensures.one found.ensures.nothing in
+    record { asks = answers.asks; one = answers.one; nothing = answers.nothing }
 
-pub returns-in_err-replay_of-in-losses-clause-nothing : goal.returns-in_err-replay_of-in-losses-clause-nothing
-returns-in_err-replay_of-in-losses-clause-nothing c =
-    if_none c.from_residual-in_err-replay_of-in-losses.result
-    (by_first c.args.words.now (λ request. ⊥) (codes "losses")
-    (c.get.ensures ∙ ap Some c.in-losses.is)
-    (c.in_err-replay_of-in-losses.ensures.nothing (codes "losses")))
+pub returns-in-shuffle : goal.returns-in-shuffle
+returns-in-shuffle c =
+    let found = c.shuffle_of in
+    let made = c.map-in-shuffle in
+    let answers = by_own c.args.words.now Shuffle (codes "shuffle")
+    (c.get.ensures ∙ ap Some c.in-shuffle.is) (λ P of_kind. of_kind)
+    found.result made.result made.ensures.cases
+    found.ensures.asks found.ensures.one found.ensures.nothing in
+    record { asks = answers.asks; one = answers.one; nothing = answers.nothing }
 
-pub returns-in_ok-replay_stem_of-in-wave-clause-asks : goal.returns-in_ok-replay_stem_of-in-wave-clause-asks
-returns-in_ok-replay_stem_of-in-wave-clause-asks c =
-    c.in_ok-replay_stem_of-in-wave.ensures.asks (codes "wave") (c.get.ensures ∙ ap Some c.in-wave.is)
+pub returns-in-watch : goal.returns-in-watch
+returns-in-watch c =
+    let found = c.watch_of in
+    let made = c.map-in-watch in
+    let answers = by_own c.args.words.now Watch (codes "watch")
+    (c.get.ensures ∙ ap Some c.in-watch.is) (λ P of_kind. of_kind)
+    found.result made.result made.ensures.cases
+    found.ensures.asks found.ensures.one found.ensures.nothing in
+    record { asks = answers.asks; one = answers.one; nothing = answers.nothing }
 
-pub returns-in_ok-replay_stem_of-in-wave-clause-one : goal.returns-in_ok-replay_stem_of-in-wave-clause-one
-returns-in_ok-replay_stem_of-in-wave-clause-one c =
-    let found = c.in_ok-replay_stem_of-in-wave in
-    let one = found.ensures.one (codes "wave") in
-    by_first c.args.words.now (λ request. request ≡ Wave found.field-0) (codes "wave")
-    (c.get.ensures ∙ ap Some c.in-wave.is) (λ x asks. ap Wave (one x asks))
-
-pub returns-in_err-replay_stem_of-in-wave-clause-nothing : goal.returns-in_err-replay_stem_of-in-wave-clause-nothing
-returns-in_err-replay_stem_of-in-wave-clause-nothing c =
-    if_none c.from_residual-in_err-replay_stem_of-in-wave.result
-    (by_first c.args.words.now (λ request. ⊥) (codes "wave") (c.get.ensures ∙ ap Some c.in-wave.is)
-    (c.in_err-replay_stem_of-in-wave.ensures.nothing (codes "wave")))
-
-pub returns-in_ok-net_stem_of-in-draw-clause-asks : goal.returns-in_ok-net_stem_of-in-draw-clause-asks
-returns-in_ok-net_stem_of-in-draw-clause-asks c =
-    c.in_ok-net_stem_of-in-draw.ensures.asks (codes "draw") (c.get.ensures ∙ ap Some c.in-draw.is)
-
-pub returns-in_ok-net_stem_of-in-draw-clause-one : goal.returns-in_ok-net_stem_of-in-draw-clause-one
-returns-in_ok-net_stem_of-in-draw-clause-one c =
-    let found = c.in_ok-net_stem_of-in-draw in
-    let one = found.ensures.one (codes "draw") in
-    by_first c.args.words.now (λ request. request ≡ Draw found.field-0) (codes "draw")
-    (c.get.ensures ∙ ap Some c.in-draw.is) (λ x asks. ap Draw (one x asks))
-
-pub returns-in_err-net_stem_of-in-draw-clause-nothing : goal.returns-in_err-net_stem_of-in-draw-clause-nothing
-returns-in_err-net_stem_of-in-draw-clause-nothing c =
-    if_none c.from_residual-in_err-net_stem_of-in-draw.result
-    (by_first c.args.words.now (λ request. ⊥) (codes "draw") (c.get.ensures ∙ ap Some c.in-draw.is)
-    (c.in_err-net_stem_of-in-draw.ensures.nothing (codes "draw")))
-
-pub returns-in_ok-explain_of-in-explain-clause-one : goal.returns-in_ok-explain_of-in-explain-clause-one
-returns-in_ok-explain_of-in-explain-clause-one c =
-    let found = c.in_ok-explain_of-in-explain in
-    by_first c.args.words.now (λ request. request ≡ Explain found.field-0) (codes "explain")
-    (c.get.ensures ∙ ap Some c.in-explain.is) (λ x asks. ap Explain (found.ensures.one x asks))
-
-pub returns-in_err-explain_of-in-explain-clause-nothing : goal.returns-in_err-explain_of-in-explain-clause-nothing
-returns-in_err-explain_of-in-explain-clause-nothing c =
-    if_none c.from_residual-in_err-explain_of-in-explain.result
-    (by_first c.args.words.now (λ request. ⊥) (codes "explain")
-    (c.get.ensures ∙ ap Some c.in-explain.is)
-    c.in_err-explain_of-in-explain.ensures.nothing)
-
-pub returns-in_ok-replay_of-in-cover-clause-asks : goal.returns-in_ok-replay_of-in-cover-clause-asks
-returns-in_ok-replay_of-in-cover-clause-asks c =
-    c.in_ok-replay_of-in-cover.ensures.asks (codes "cover") (c.get.ensures ∙ ap Some c.in-cover.is)
-
-pub returns-in_ok-replay_of-in-cover-clause-one : goal.returns-in_ok-replay_of-in-cover-clause-one
-returns-in_ok-replay_of-in-cover-clause-one c =
-    let found = c.in_ok-replay_of-in-cover in
-    let one = found.ensures.one (codes "cover") in
-    by_first c.args.words.now (λ request. request ≡ Cover found.field-0) (codes "cover")
-    (c.get.ensures ∙ ap Some c.in-cover.is) (λ x asks. ap Cover (one x asks))
-
-pub returns-in_err-replay_of-in-cover-clause-nothing : goal.returns-in_err-replay_of-in-cover-clause-nothing
-returns-in_err-replay_of-in-cover-clause-nothing c =
-    if_none c.from_residual-in_err-replay_of-in-cover.result
-    (by_first c.args.words.now (λ request. ⊥) (codes "cover")
-    (c.get.ensures ∙ ap Some c.in-cover.is)
-    (c.in_err-replay_of-in-cover.ensures.nothing (codes "cover")))
-
-pub returns-in_ok-net_of-in-lint-clause-asks : goal.returns-in_ok-net_of-in-lint-clause-asks
-returns-in_ok-net_of-in-lint-clause-asks c =
-    c.in_ok-net_of-in-lint.ensures.asks (codes "lint") (c.get.ensures ∙ ap Some c.in-lint.is)
-
-pub returns-in_ok-net_of-in-lint-clause-one : goal.returns-in_ok-net_of-in-lint-clause-one
-returns-in_ok-net_of-in-lint-clause-one c =
-    let found = c.in_ok-net_of-in-lint in
-    let one = found.ensures.one (codes "lint") in
-    by_first c.args.words.now (λ request. request ≡ Lint found.field-0) (codes "lint")
-    (c.get.ensures ∙ ap Some c.in-lint.is) (λ x asks. ap Lint (one x asks))
-
-pub returns-in_err-net_of-in-lint-clause-nothing : goal.returns-in_err-net_of-in-lint-clause-nothing
-returns-in_err-net_of-in-lint-clause-nothing c =
-    if_none c.from_residual-in_err-net_of-in-lint.result
-    (by_first c.args.words.now (λ request. ⊥) (codes "lint") (c.get.ensures ∙ ap Some c.in-lint.is)
-    (c.in_err-net_of-in-lint.ensures.nothing (codes "lint")))
-
-pub returns-in_ok-shuffle_of-in-shuffle-clause-one : goal.returns-in_ok-shuffle_of-in-shuffle-clause-one
-returns-in_ok-shuffle_of-in-shuffle-clause-one c =
-    let found = c.in_ok-shuffle_of-in-shuffle in
-    by_first c.args.words.now (λ request. request ≡ Shuffle found.field-0) (codes "shuffle")
-    (c.get.ensures ∙ ap Some c.in-shuffle.is) (λ x asks. ap Shuffle (found.ensures.one x asks))
-
-pub returns-in_err-shuffle_of-in-shuffle-clause-nothing : goal.returns-in_err-shuffle_of-in-shuffle-clause-nothing
-returns-in_err-shuffle_of-in-shuffle-clause-nothing c =
-    if_none c.from_residual-in_err-shuffle_of-in-shuffle.result
-    (by_first c.args.words.now (λ request. ⊥) (codes "shuffle")
-    (c.get.ensures ∙ ap Some c.in-shuffle.is)
-    c.in_err-shuffle_of-in-shuffle.ensures.nothing)
-
-pub returns-in_ok-watch_of-in-watch-clause-one : goal.returns-in_ok-watch_of-in-watch-clause-one
-returns-in_ok-watch_of-in-watch-clause-one c =
-    let found = c.in_ok-watch_of-in-watch in
-    by_first c.args.words.now (λ request. request ≡ Watch found.field-0) (codes "watch")
-    (c.get.ensures ∙ ap Some c.in-watch.is) (λ x asks. ap Watch (found.ensures.one x asks))
-
-pub returns-in_err-watch_of-in-watch-clause-nothing : goal.returns-in_err-watch_of-in-watch-clause-nothing
-returns-in_err-watch_of-in-watch-clause-nothing c =
-    if_none c.from_residual-in_err-watch_of-in-watch.result
-    (by_first c.args.words.now (λ request. ⊥) (codes "watch")
-    (c.get.ensures ∙ ap Some c.in-watch.is)
-    c.in_err-watch_of-in-watch.ensures.nothing)
-
-pub returns-in_ok-survey_of-in-survey-clause-one : goal.returns-in_ok-survey_of-in-survey-clause-one
-returns-in_ok-survey_of-in-survey-clause-one c =
-    let found = c.in_ok-survey_of-in-survey in
-    by_first c.args.words.now (λ request. request ≡ Survey found.field-0) (codes "survey")
-    (c.get.ensures ∙ ap Some c.in-survey.is) (λ x asks. ap Survey (found.ensures.one x asks))
-
-pub returns-in_err-survey_of-in-survey-clause-nothing : goal.returns-in_err-survey_of-in-survey-clause-nothing
-returns-in_err-survey_of-in-survey-clause-nothing c =
-    if_none c.from_residual-in_err-survey_of-in-survey.result
-    (by_first c.args.words.now (λ request. ⊥) (codes "survey")
-    (c.get.ensures ∙ ap Some c.in-survey.is)
-    c.in_err-survey_of-in-survey.ensures.nothing)
+pub returns-in-survey : goal.returns-in-survey
+returns-in-survey c =
+    let found = c.survey_of in
+    let made = c.map-in-survey in
+    let answers = by_own c.args.words.now Survey (codes "survey")
+    (c.get.ensures ∙ ap Some c.in-survey.is) (λ P of_kind. of_kind)
+    found.result made.result made.ensures.cases
+    found.ensures.asks found.ensures.one found.ensures.nothing in
+    record { asks = answers.asks; one = answers.one; nothing = answers.nothing }

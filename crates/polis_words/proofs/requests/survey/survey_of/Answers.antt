@@ -1,5 +1,5 @@
-use Rattle.std.proofs.Common.{◌≡◌, ◌∙◌, ◌+◌, ◌<◌, ◌^◌, ap, arith, codes, decimal, drop, slice_get, Some, subst, sym}
-use Rattle.std.specs.Prelude.{List, ℕ, unwrap_or}
+use Rattle.std.proofs.Common.{◌∙◌, ◌+◌, ◌<◌, ◌^◌, ap, arith, codes, drop, sym}
+use Rattle.std.specs.Prelude.{unwrap_or}
 use Rattle.polis_base.specs.declared.limits.TheConstants.{ENTRIES_MAX}
 use Rattle.polis_words.specs.declared.requests.order.GivenOrder.TheVariants.{Mixed}
 use Rattle.polis_words.specs.RunOptions.{Said}

@@ -4,4 +4,4 @@ pub mod InputsOf
 pub mod RowsOf
 pub mod Balances
 pub mod AllLossesCounted
-pub mod AccountsText
+pub mod InputLines

@@ -1,10 +1,8 @@
 -- The lines that say what became of deliveries.
-use Rattle.std.specs.Prelude.{ℕ, cond, List, ◌++◌, flat_map, Option, Some, None, codes, decimal}
-use Rattle.std.specs.List.{zip}
+use Rattle.std.specs.Prelude.{ℕ, cond, List, ◌++◌, Option, Some, None, codes, decimal}
 use Rattle.polis_base.specs.Lines.{line}
-use Rattle.transition_table.specs.NetworkNames.{event_name, machine_name}
 use Rattle.transition_table.specs.declared.network.Network.{Network}
-use Rattle.event_accounts.specs.Accounts.{Buffer, buffers}
+use Rattle.event_accounts.specs.InputLines.{input_lines}
 use Rattle.event_accounts.specs.declared.account.Account.{Account}
 
 -- the place of an entry, or `-` where there is none
@@ -20,10 +18,6 @@ account_line machine event a =
     ++ codes " read " ++ decimal a.read ++ codes " lost " ++ decimal a.lost ++ codes " left "
     ++ cond a.left (codes "1") (codes "0") ++ codes " first " ++ place_or_dash a.first)
 
--- the line of a buffer's account
-abbrev pub buffer_line : Network → Buffer × Account → List ℕ
-buffer_line net (b, a) = account_line (machine_name net b.machine) (event_name net b.event) a
-
 -- a line for each buffer, in order
 abbrev pub accounts_text : Network → List Account → List ℕ
-accounts_text net accounts = flat_map (buffer_line net) (zip (buffers net) accounts)
+accounts_text net accounts = input_lines account_line net accounts

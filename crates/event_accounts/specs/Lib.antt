@@ -1,4 +1,5 @@
 pub mod Accounts
+pub mod InputLines
 pub mod AccountLines
 pub mod Laws
 pub mod Samples

@@ -1,10 +1,10 @@
 // The lines of accounts.
-ghost use Rattle.std.specs.Prelude.{◌≡◌, ◌<◌, ◌≤◌, ◌+◌, ◌++◌, ◌^◌, cond, codes, decimal, drop, flat_map, length, OnOk, OnErr};
-ghost use Rattle.std.specs.List.{zip};
-ghost use Rattle.event_accounts.specs.AccountLines.{account_line, accounts_text, buffer_line, place_or_dash};
-ghost use Rattle.event_accounts.specs.Accounts.{buffers, buffers_of};
+ghost use Rattle.std.specs.Prelude.{◌≡◌, ◌++◌, cond, codes, decimal, length, OnOk, OnErr};
+ghost use Rattle.event_accounts.specs.AccountLines.{account_line, accounts_text, place_or_dash};
+ghost use Rattle.event_accounts.specs.Accounts.{buffers};
 
 use crate::account::{Account, AccountList};
+use crate::input_lines::{InputLine, push_inputs};
 use polis_base::{Bytes, NoMemory};
 use transition_table::Network;
 
@@ -61,45 +61,21 @@ fn push_account(
     Ok(())
 }
 
-// Appends the lines of a machine, whose accounts stand from this place on.
-fn push_machine(
-    net: &Network,
-    m: u64,
-    first: u64,
-    accounts: &AccountList,
-    into: &mut Bytes,
-) -> Result<(), NoMemory>
-    requires machine { m < length net.now.machines }
-    requires many { first + length (buffers_of net.now m) ≤ length accounts.now }
-    requires room { length accounts.now < 2 ^ 64 }
-    ensures { OnOk result (into.new ≡ into.old
-        ++ flat_map (buffer_line net.now) (zip (buffers_of net.now m) (drop first accounts.now))) }
-{
-    let machine = net.machines.get(m);
-    for k in 0..machine.inputs.len() {
-        let event = net.events.get(*machine.inputs.get(k) as u64);
-        push_account(
-            machine.name.bytes(),
-            event.name.bytes(),
-            accounts.get(first + k),
-            into,
-        )?;
-    }
-    Ok(())
-}
+// Prints an account.
+struct AccountLine;
 
-// Appends the lines of the machines.
-fn push_machines(net: &Network, accounts: &AccountList, into: &mut Bytes) -> Result<(), NoMemory>
-    requires { length accounts.now ≡ length (buffers net.now) }
-    ensures { OnOk result (into.new ≡ into.old ++ accounts_text net.now accounts.now) }
-{
-    let _count = accounts.len();
-    let mut first = 0;
-    for m in 0..net.machines.len() {
-        push_machine(net, m, first, accounts, into)?;
-        first += net.machines.get(m).inputs.len();
+impl InputLine<Account> for AccountLine {
+    ghost line = { λ _. account_line };
+
+    fn push_line(
+        &self,
+        machine: &[u8],
+        event: &[u8],
+        account: &Account,
+        into: &mut Bytes,
+    ) -> Result<(), NoMemory> {
+        push_account(machine, event, account, into)
     }
-    Ok(())
 }
 
 /// Appends a line for each account of the buffers of a network.
@@ -113,6 +89,6 @@ pub fn push_accounts(
     ensures err { OnErr result (into.new ≡ into.old) }
 {
     let mut text = into.beside();
-    push_machines(net, accounts, &mut text)?;
+    push_inputs(&AccountLine, net, accounts, &mut text)?;
     into.push(text.as_slice())
 }

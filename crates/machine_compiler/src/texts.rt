@@ -1,11 +1,12 @@
 // The texts of a network's compiled machines.
 ghost use Rattle.std.specs.Prelude.{◌≡◌, ◌++◌, IfOk, OnOk, Some, slice_get};
 ghost use Rattle.polis_base.specs.Lines.{line};
-ghost use Rattle.transition_table.specs.Transitions.{AreDeterministic};
+ghost use Rattle.transition_table.specs.Transitions.{AreDeterministic, IsDeterministic};
 ghost use Rattle.task_code.specs.Listings.{part_text};
 ghost use Rattle.machine_compiler.specs.Lines.{lengths};
 ghost use Rattle.machine_compiler.specs.Parts.{part_of_compiled};
 ghost use Rattle.machine_compiler.specs.Texts.{AreTexts};
+ghost use Rattle.machine_compiler.specs.inner.Written.{IsWritten};
 
 use crate::compiled::Compiled;
 use crate::compiling::compile_machine;
@@ -45,6 +46,25 @@ fn write_part(
     Ok(())
 }
 
+// Compiles a machine, and adds what is written of it.
+fn write_machine(
+    alloc: Global,
+    net: &Network,
+    k: u32,
+    machine: &Machine,
+    listing: &mut Bytes,
+    lines: &mut Bytes,
+) -> Result<(), NoMemory>
+    requires machine { slice_get net.now.machines k ≡ Some machine.now }
+    requires deterministic { IsDeterministic machine.now }
+    ensures { OnOk result
+        (IsWritten net.now machine.now listing.old listing.new lines.old lines.new) }
+{
+    let part = compile_machine(alloc, machine)?;
+    write_part(alloc, net, k, machine, &part, listing, lines)?;
+    Ok(())
+}
+
 /// The texts of a network's compiled machines. Each machine is compiled and written before the
 /// next, and nothing is kept of it but what is written.
 pub fn compile_texts(alloc: Global, net: &Network) -> Result<Texts, NoMemory>
@@ -56,16 +76,7 @@ pub fn compile_texts(alloc: Global, net: &Network) -> Result<Texts, NoMemory>
     let mut lengths = Bytes::new(alloc);
     for k in 0..net.machines.len() {
         let machine = net.machines.get(k);
-        let part = compile_machine(alloc, machine)?;
-        write_part(
-            alloc,
-            net,
-            k as u32,
-            machine,
-            &part,
-            &mut listing,
-            &mut lengths,
-        )?;
+        write_machine(alloc, net, k as u32, machine, &mut listing, &mut lengths)?;
     }
     listing.push(LISTING_END)?;
     Ok(Texts { listing, lengths })

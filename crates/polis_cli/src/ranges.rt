@@ -4,7 +4,7 @@ ghost use Rattle.transition_table.specs.NetworkFacts.{has_vars};
 ghost use Rattle.transition_table.specs.Transitions.{AreDeterministic, IsDeterministic, IsSnapshot};
 ghost use Rattle.polis_cli.specs.Bound.{IsRange};
 ghost use Rattle.polis_cli.specs.Ranges.{best_words, bound_words, range_line, worst_words};
-ghost use Rattle.polis_cli.specs.inner.Bound.{ShowsRanges};
+ghost use Rattle.polis_cli.specs.inner.Bound.{AddsRange, ShowsRanges};
 
 use cost_bound::{Bound, Costs, Range, range};
 use journal_text::push_snapshot;
@@ -88,6 +88,23 @@ fn range_of(alloc: Global, costs: &Costs, machine: &Machine) -> Result<Range, No
     Ok(range)
 }
 
+// Compiles a machine, bounds its code, and appends the machine's line.
+fn push_range_of(
+    alloc: Global,
+    costs: &Costs,
+    net: &Network,
+    machine: &Machine,
+    into: &mut Bytes,
+) -> Result<(), NoMemory>
+    requires sized { IsTrue (has_vars net.now.domains net.now.events machine.now) }
+    requires deterministic { IsDeterministic machine.now }
+    ensures { OnOk result (AddsRange costs.now net.now machine.now into.old into.new) }
+{
+    let range = range_of(alloc, costs, machine)?;
+    push_range(net, machine, &range, into)?;
+    Ok(())
+}
+
 /// The lines of the machines, one machine after the other.
 pub fn print_ranges(alloc: Global, costs: &Costs, net: &Network) -> Result<Bytes, NoMemory>
     requires { AreDeterministic net.now }
@@ -95,9 +112,7 @@ pub fn print_ranges(alloc: Global, costs: &Costs, net: &Network) -> Result<Bytes
 {
     let mut text = Bytes::new(alloc);
     for k in 0..net.machines.len() {
-        let machine = net.machines.get(k);
-        let range = range_of(alloc, costs, machine)?;
-        push_range(net, machine, &range, &mut text)?;
+        push_range_of(alloc, costs, net, net.machines.get(k), &mut text)?;
     }
     Ok(text)
 }

@@ -1,13 +1,15 @@
 // The command `watch`: what a monitor says of the outputs of a legal journal.
-ghost use Rattle.std.specs.Prelude.{◌≡◌, IfOk};
+ghost use Rattle.std.specs.Prelude.{◌≡◌, IfOk, IfErr};
 ghost use Rattle.journals.specs.Journals.{IsJournal};
 ghost use Rattle.transition_table.specs.Transitions.{AreDeterministic};
 ghost use Rattle.run_watch.specs.Monitors.{IsMonitor};
 ghost use Rattle.run_watch.specs.WatchLines.{IsShown, watched_line};
+ghost use Rattle.input_files.specs.Failures.{FileFails};
 ghost use Rattle.input_files.specs.Loads.{LeftByLoads, fails_unread};
+ghost use Rattle.polis_cli.specs.Monitors.{MonitorFails};
 ghost use Rattle.polis_cli.specs.Watch.{end_watched, watch_meaning};
 ghost use Rattle.polis_cli.specs.inner.Made.{IsMade};
-ghost use Rattle.polis_cli.specs.inner.Watch.{IsWatchProduct};
+ghost use Rattle.polis_cli.specs.inner.Watch.{IsWatchProduct, IsWatchedByFile};
 
 use crate::monitor_file::load_monitor;
 use crate::replay::judge_journal;
@@ -59,6 +61,32 @@ fn product_of(
     Ok(Product::ending(alloc, shown, end_at(&said)))
 }
 
+// Loads the monitor, and makes the product of what it says of the journal.
+fn watch_by_file<'a, H: Host>(
+    alloc: Global,
+    host: &mut H,
+    net: &Network,
+    journal: &Journal,
+    name: &'a str,
+) -> Result<Product, Failure<'a>>
+    requires { IsJournal net.now journal.now }
+    ensures made { IfOk result
+        (IsWatchedByFile (H.files host.old) name.now net.now journal.now) }
+    ensures failed { IfErr result (λ failure.
+        FileFails name.now (H.files host.old) (λ files. MonitorFails files net.now name.now)
+        failure) }
+    ensures left { LeftByLoads ⟦<H as Host>⟧ (fails_unread result) host.old host.new }
+{
+    let monitor = match load_monitor(alloc, host, net, name) {
+        Ok(monitor) => monitor,
+        Err(failure) => return Err(failure),
+    };
+    match product_of(alloc, net, journal, &monitor) {
+        Ok(product) => Ok(product),
+        Err(NoMemory) => Err(Failure::NoMemory),
+    }
+}
+
 /// What watching a journal makes of the files. The monitor is loaded only where the journal is
 /// legal.
 pub fn make_watch<'a, H: Host>(
@@ -73,13 +101,14 @@ pub fn make_watch<'a, H: Host>(
         Ok(judged) => judged,
         Err(failure) => return Err(failure),
     };
-    let net = &judged.inputs.net;
-    let monitor = match load_monitor(alloc, host, net, asked.monitor()) {
-        Ok(monitor) => monitor,
-        Err(failure) => return Err(failure),
-    };
-    match product_of(alloc, net, &judged.read.journal, &monitor) {
+    match watch_by_file(
+        alloc,
+        host,
+        &judged.inputs.net,
+        &judged.read.journal,
+        asked.monitor(),
+    ) {
         Ok(product) => Ok(product),
-        Err(NoMemory) => Err(Failure::NoMemory),
+        Err(failure) => Err(failure),
     }
 }

@@ -123,18 +123,16 @@ fn advance<R: Reactor>(
     Ok(true)
 }
 
-// Takes up to so many entries, until nothing is offered.
+// Takes up to so many entries, from the start on, until nothing is offered.
 fn run<R: Reactor>(
     alloc: Global,
     r: &R,
     config: &mut Config<'_>,
-    ways: &mut Ways,
     rule: Rule,
     draws: &mut Draws,
     count: u64,
 ) -> Result<(), NoMemory>
     requires network { R.meaning r.now ≡ config.old.net }
-    requires ways { AreWays config.old ways.old }
     requires pace { 0 < rule.pace }
     requires pace_small { rule.pace ≤ 16 }
     requires start { config.old.journal ≡ [] }
@@ -146,8 +144,9 @@ fn run<R: Reactor>(
         ⊎ ((length config.new.journal < count)
         × (all_offered rule.order config.old.net config.old.trace config.new.journal ≡ []))) }
 {
+    let mut ways = Ways::start(alloc, config)?;
     for _ in 0..count {
-        if !advance(alloc, r, config, ways, rule, draws)? {
+        if !advance(alloc, r, config, &mut ways, rule, draws)? {
             return Ok(());
         }
     }
@@ -178,8 +177,7 @@ pub fn shuffle<R: Reactor>(
         order: order_of_run(&mut draws, order),
     };
     let mut config = Config::start(alloc, r.network(), trace)?;
-    let mut ways = Ways::start(alloc, &config)?;
-    run(alloc, r, &mut config, &mut ways, rule, &mut draws, limit)?;
+    run(alloc, r, &mut config, rule, &mut draws, limit)?;
     let complete = config.is_complete();
     Ok(Finished {
         journal: config.into_journal(),

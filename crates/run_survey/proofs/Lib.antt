@@ -1,5 +1,4 @@
 pub mod FirstItems
-pub mod InputLines
 pub mod MergedKinds
 pub mod NeverLines
 pub mod OneRun

@@ -9,6 +9,7 @@ use Rattle.journals.specs.Journals.{IsTrace}
 use Rattle.journals.specs.Legality.{Complete}
 use Rattle.journals.specs.declared.entry.Entry.{Entry}
 use Rattle.journals.specs.declared.entry.TraceItem.{TraceItem}
+use Rattle.event_accounts.specs.InputLines.{input_lines}
 use Rattle.run_shuffle.specs.Laws.{OneShuffle, ShuffledIsLegal}
 use Rattle.run_shuffle.specs.Shuffles.{IsShuffled}
 use Rattle.run_shuffle.specs.declared.order.Order.{Order}
@@ -25,7 +26,7 @@ use Rattle.run_survey.specs.Figures.{figures_of}
 use Rattle.run_survey.specs.Laws.{OneFigures, OneText}
 use Rattle.run_survey.specs.Runs.{AreFiguresOf}
 use Rattle.run_survey.specs.Spreads.{AreSpreads}
-use Rattle.run_survey.specs.SurveyLines.{input_lines, jammed_line, kind_line, kinds_line, monitor_line, never_lines, others_line, survey_lines}
+use Rattle.run_survey.specs.SurveyLines.{jammed_line, kind_line, kinds_line, monitor_line, named_line, never_lines, others_line, survey_lines}
 use Rattle.run_survey.specs.Surveys.{IsSurvey}
 use Rattle.run_survey.specs.Watching.{IsSaid}
 use Rattle.polis_base.specs.Lines.{line}
@@ -107,7 +108,8 @@ abbrev text_of : Network → Option Network → ℕ → ℕ → List Kind → Op
 text_of net monitor runs complete kinds others lost unused jammed taken found unfinished =
     line (codes "runs " ++ decimal runs ++ codes " complete " ++ decimal complete)
     ++ kinds_line kinds ++ flat_map kind_line kinds ++ others_line others
-    ++ (input_lines (codes "lost") net lost ++ input_lines (codes "unused") net unused
+    ++ (input_lines (named_line (codes "lost")) net lost
+    ++ input_lines (named_line (codes "unused")) net unused
     ++ flat_map jammed_line (zip net.machines jammed) ++ never_lines net.machines taken)
     ++ monitor_line monitor found unfinished
 

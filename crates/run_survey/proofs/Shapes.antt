@@ -13,7 +13,7 @@ use Rattle.journals.specs.Journals.{inputs_of}
 use Rattle.journals.proofs.MomentsAfter.{length_table}
 use Rattle.event_accounts.specs.Accounts.{account, accounts_of, buffers, buffers_of}
 use Rattle.event_accounts.specs.declared.account.Account.{Account}
-use Rattle.event_accounts.proofs.AccountsText.{buffers_next}
+use Rattle.event_accounts.proofs.InputLines.{buffers_next}
 use Rattle.event_accounts.proofs.InputsOf.{inputs_of_machine}
 use Rattle.event_accounts.proofs.OneItemMore.{flat_map_push}
 use Rattle.event_accounts.proofs.RowsOf.{buffers_many}

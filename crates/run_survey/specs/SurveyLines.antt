@@ -3,10 +3,9 @@ use Rattle.std.specs.Prelude.{ℕ, cond, ◌==◌, nat_lt, min, List, [], ◌∷
 use Rattle.std.specs.List.{zip}
 use Rattle.polis_base.specs.Lines.{line}
 use Rattle.polis_base.specs.Pieces.{pieces}
-use Rattle.transition_table.specs.NetworkNames.{event_name, machine_name}
 use Rattle.transition_table.specs.declared.machine.Machine.{Machine}
 use Rattle.transition_table.specs.declared.network.Network.{Network}
-use Rattle.event_accounts.specs.Accounts.{Buffer, buffers}
+use Rattle.event_accounts.specs.InputLines.{input_lines}
 use Rattle.table_use.specs.CoverageLines.{never_line}
 use Rattle.table_use.specs.declared.tally.Tally.{Tally}
 use Rattle.journal_text.specs.Texts.{event_item}
@@ -67,15 +66,6 @@ named_line word machine event s =
     cond (s.most == 0) []
     (line (word ++ codes " " ++ machine ++ codes " " ++ event ++ spread_text s))
 
--- of an input
-abbrev pub input_line : List ℕ → Network → Buffer × Spread → List ℕ
-input_line word net (b, s) =
-    named_line word (machine_name net b.machine) (event_name net b.event) s
-
--- of each input, by machine and then by input
-abbrev pub input_lines : List ℕ → Network → List Spread → List ℕ
-input_lines word net spreads = flat_map (input_line word net) (zip (buffers net) spreads)
-
 -- `jammed M least A most B seed S runs C`, where some run has the machine jammed
 abbrev pub jammed_line : Machine × Spread → List ℕ
 jammed_line (machine, s) =
@@ -95,7 +85,8 @@ never_lines (machine ∷ machines) rows =
 -- the lines of what the inputs, the machines and the rows have
 abbrev pub number_lines : Network → Survey → List ℕ
 number_lines net s =
-    input_lines (codes "lost") net s.lost ++ input_lines (codes "unused") net s.unused
+    input_lines (named_line (codes "lost")) net s.lost
+    ++ input_lines (named_line (codes "unused")) net s.unused
     ++ flat_map jammed_line (zip net.machines s.jammed) ++ never_lines net.machines s.taken
 
 -- `found C seed S : E`

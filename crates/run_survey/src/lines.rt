@@ -1,13 +1,14 @@
 // The lines of a survey.
-ghost use Rattle.std.specs.Prelude.{◌≡◌, ◌<◌, ◌≤◌, ◌+◌, ◌++◌, ◌^◌, cond, decimal, drop, flat_map, length, map, option_copied, take, IfOk, OnErr, OnOk};
+ghost use Rattle.std.specs.Prelude.{◌≡◌, ◌≤◌, ◌+◌, ◌++◌, cond, decimal, drop, flat_map, length, map, option_copied, take, IfOk, OnErr, OnOk};
 ghost use Rattle.std.specs.List.{zip};
 ghost use Rattle.polis_base.specs.Pieces.{pieces};
-ghost use Rattle.event_accounts.specs.Accounts.{buffers, buffers_of};
+ghost use Rattle.event_accounts.specs.Accounts.{buffers};
 ghost use Rattle.run_survey.specs.Runs.{IsShapedBy, all_rows};
-ghost use Rattle.run_survey.specs.SurveyLines.{first_items, input_line, input_lines, jammed_line, kind_line, kinds_line, line_count, most_taken, named_line, never_lines, number_lines, others_line, runs_line, spaced_item, spread_text, survey_lines};
+ghost use Rattle.run_survey.specs.SurveyLines.{first_items, jammed_line, kind_line, kinds_line, line_count, most_taken, named_line, never_lines, number_lines, others_line, runs_line, spaced_item, spread_text, survey_lines};
 
 use crate::last_line::push_ending;
 use crate::told::{Kind, Others, Spread, Survey};
+use event_accounts::{InputLine, push_inputs};
 use polis_base::{Bytes, List, NoMemory, next_line};
 use std::alloc::Global;
 use table_use::{Tally, push_never};
@@ -145,53 +146,23 @@ fn push_input(
     into.push(b"\n")
 }
 
-// Appends the lines of the inputs of a machine, whose numbers stand from this place on.
-fn push_machine(
-    word: &[u8],
-    net: &Network,
-    m: u64,
-    first: u64,
-    spreads: &List<Spread>,
-    into: &mut Bytes,
-) -> Result<(), NoMemory>
-    requires machine { m < length net.now.machines }
-    requires many { first + length (buffers_of net.now m) ≤ length spreads.now }
-    requires room { length spreads.now < 2 ^ 64 }
-    ensures { OnOk result (into.new ≡ into.old
-        ++ flat_map (input_line word.now net.now)
-        (zip (buffers_of net.now m) (drop first spreads.now))) }
-{
-    let machine = net.machines.get(m);
-    for k in 0..machine.inputs.len() {
-        let event = net.events.get(*machine.inputs.get(k) as u64);
-        push_input(
-            word,
-            machine.name.bytes(),
-            event.name.bytes(),
-            spreads.get(first + k),
-            into,
-        )?;
-    }
-    Ok(())
+// Prints the numbers of an input after a word.
+struct NumberLine<'a> {
+    word: &'a [u8],
 }
 
-// Appends the lines of the inputs.
-fn push_inputs(
-    word: &[u8],
-    net: &Network,
-    spreads: &List<Spread>,
-    into: &mut Bytes,
-) -> Result<(), NoMemory>
-    requires { length spreads.now ≡ length (buffers net.now) }
-    ensures { OnOk result (into.new ≡ into.old ++ input_lines word.now net.now spreads.now) }
-{
-    let _count = spreads.len();
-    let mut first = 0;
-    for m in 0..net.machines.len() {
-        push_machine(word, net, m, first, spreads, into)?;
-        first += net.machines.get(m).inputs.len();
+impl<'a> InputLine<Spread> for NumberLine<'a> {
+    ghost line = { λ l. named_line l.word.now };
+
+    fn push_line(
+        &self,
+        machine: &[u8],
+        event: &[u8],
+        spread: &Spread,
+        into: &mut Bytes,
+    ) -> Result<(), NoMemory> {
+        push_input(self.word, machine, event, spread, into)
     }
-    Ok(())
 }
 
 // Appends the line of a machine that some run has jammed.
@@ -271,8 +242,8 @@ fn push_numbers(net: &Network, survey: &Survey, into: &mut Bytes) -> Result<(), 
     ensures { OnOk result (into.new ≡ into.old ++ number_lines net.now survey.now) }
 {
     let alloc = *survey.kinds.allocator();
-    push_inputs(b"lost", net, &survey.lost, into)?;
-    push_inputs(b"unused", net, &survey.unused, into)?;
+    push_inputs(&NumberLine { word: b"lost" }, net, &survey.lost, into)?;
+    push_inputs(&NumberLine { word: b"unused" }, net, &survey.unused, into)?;
     push_jammed(net, &survey.jammed, into)?;
     push_never_taken(alloc, net, &survey.taken, into)
 }

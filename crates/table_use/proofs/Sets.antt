@@ -42,3 +42,24 @@ one_judged {X} f n old now new was is are here there others made =
   where
     same_one : (a b : X) → Some a ≡ Some b → a ≡ b
     same_one a b h = cc
+
+-- nothing is judged yet
+pub none_judged : {X : Type 0} (f : ℕ → X → X) (xs : List X) → AreJudged f 0 xs xs
+none_judged f xs = record {
+  done = λ i x low at. absurd (omega arith);
+  left = λ i high. refl;
+}
+
+-- the next item is set to what f makes of it
+pub set_judged : {X : Type 0} (f : ℕ → X → X) (n : ℕ) (old now new : List X) (was is : X)
+    → AreJudged f n old now → slice_get now n ≡ Some was → n < length now
+    → new ≡ slice_set now n is → is ≡ f n was → AreJudged f (n + 1) old new
+set_judged {X} f n old now new was is are here low set made =
+    one_judged f n old now new was is are here
+    (ap (λ (l : List X). slice_get l n) set ∙ set_here now n is low)
+    (λ j away. ap (λ (l : List X). slice_get l j) set ∙ set_other now n j is away) made
+
+-- the item that is next is the one that was
+pub was_left : {X : Type 0} (f : ℕ → X → X) (n : ℕ) (old now : List X) (was : X)
+    → AreJudged f n old now → slice_get now n ≡ Some was → slice_get old n ≡ Some was
+was_left f n old now was are here = sym (are.left n (omega arith)) ∙ here

@@ -1,5 +1,4 @@
 use Rattle.std.proofs.Common.{◌≡◌, ◌∙◌, ◌++◌, List, ℕ, ap, refl, length, arith}
-use Rattle.machine_compiler.specs.Parts.{part_of_compiled}
 use Rattle.machine_compiler.proofs.AreTexts.{nothing_written, one_written, all_written}
 use Rattle.machine_compiler.proofs.texts.compile_texts.Goals as goal
 
@@ -11,10 +10,10 @@ loop-k-init c =
 
 pub loop-k-preserved : goal.loop-k-preserved
 loop-k-preserved c =
+    let written = c.in_ok-write_machine.ensures in
     one_written c.args.net.now c.loop-k.k c.loop-k.listing c.loop-k.lengths
-    c.write_part.new.listing c.write_part.new.lines c.get-machine.result.now
-    (part_of_compiled c.in_ok-part.part) c.loop-k.invariant c.get-machine.ensures
-    c.in_ok-part.ensures c.in_ok-write_part.ensures.listing c.in_ok-write_part.ensures.lines
+    c.write_machine.new.listing c.write_machine.new.lines c.get-machine.result.now written.part
+    c.loop-k.invariant c.get-machine.ensures written.right written.listed written.measured
 
 pub returns : goal.returns
 returns c =

@@ -8,17 +8,17 @@ pub loop-k-init : goal.loop-k-init
 loop-k-init c =
     shown_none c.args.costs.now c.args.net.now c.new-text.result c.new-text.ensures
 
-pub push_range-requires-clause-sized : goal.push_range-requires-clause-sized
-push_range-requires-clause-sized c =
+pub push_range_of-requires-clause-sized : goal.push_range_of-requires-clause-sized
+push_range_of-requires-clause-sized c =
     let net = c.args.net.now in
-    passes_of_all (has_vars net.domains net.events) net.machines c.loop-k.k
-    c.get-machine.result.now net.sized_vars c.get-machine.ensures
+    passes_of_all (has_vars net.domains net.events) net.machines c.loop-k.k c.get.result.now
+    net.sized_vars c.get.ensures
 
 pub loop-k-preserved : goal.loop-k-preserved
 loop-k-preserved c =
-    shown_more c.args.costs.now c.args.net.now c.loop-k.k c.loop-k.text c.push_range.new.into
-    c.get-machine.result.now c.in_ok-range.range c.loop-k.invariant c.get-machine.ensures
-    c.in_ok-range.ensures c.in_ok-push_range.ensures
+    let more = c.in_ok-push_range_of.ensures in
+    shown_more c.args.costs.now c.args.net.now c.loop-k.k c.loop-k.text c.push_range_of.new.into
+    c.get.result.now more.range c.loop-k.invariant c.get.ensures more.is more.added
 
 pub returns : goal.returns
 returns c =

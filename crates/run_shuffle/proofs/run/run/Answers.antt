@@ -44,5 +44,5 @@ loop-init g c =
           c.args.draws.now.x [] l) (sym c.requires.start) tt;
       x = sym (after_none c.args.draws.now.x);
       size = ap length c.requires.start;
-      ways = c.requires.ways;
+      ways = c.in_ok-ways.ensures;
     }

@@ -1,4 +1,4 @@
-use Rattle.std.proofs.Common.{ℕ, List, [], cond, slice_get, refl, ap, subst, ◌∙◌, arith}
+use Rattle.std.proofs.Common.{ℕ, ◌<◌, List, [], cond, length, slice_get, refl, sym, ap, subst, ◌∙◌, arith}
 use Rattle.std.specs.Int.{bit_at}
 use Rattle.transition_table.specs.Transitions.{IsOutcome, IsSnapshot}
 use Rattle.transition_table.specs.declared.network.Network.{Network}
@@ -7,7 +7,16 @@ use Rattle.journals.specs.declared.entry.Entry.TheVariants.{Rea}
 use Rattle.run_shuffle.specs.declared.ways.Ways.{Ways}
 use Rattle.run_shuffle.proofs.EntriesOfMoves.{machine_below}
 use Rattle.run_shuffle.proofs.WaysAfter.{IsRow, reaction_taken, read_row, row_set, taken}
+use Rattle.run_shuffle.proofs.ways.Ways.take_reaction.Goals.{Start}
 use Rattle.run_shuffle.proofs.ways.Ways.take_reaction.Goals as goal
+
+-- the machine is one of the network
+is_machine : (c : Start) → c.args.machine < length c.args.config.now.net.machines
+is_machine c =
+    let net = c.args.config.now.net in
+    machine_below net c.args.machine
+    (λ machine. IsSnapshot machine c.args.snapshot × IsOutcome machine c.args.outcome)
+    (slice_get net.machines c.args.machine) refl c.requires.fits
 
 pub returns-clause-ways : goal.returns-clause-ways
 returns-clause-ways c =
@@ -49,3 +58,26 @@ without-self-requires c =
     (slice_get now.net.machines c.args.machine) refl c.requires.fits in
     let few = now.net.few_machines in
     omega (arith, below, few)
+
+pub get-owed-requires : goal.get-owed-requires
+get-owed-requires c =
+    let below = is_machine (goal.at.get-owed-requires c).Start in
+    let long = c.requires.ways.long in
+    omega arith
+
+pub with_outcome-owes-requires-clause-machine : goal.with_outcome-owes-requires-clause-machine
+with_outcome-owes-requires-clause-machine c =
+    subst (λ (net : Network). c.args.machine < length net.machines) (sym c.network.ensures)
+    (is_machine (goal.at.with_outcome-owes-requires-clause-machine c).Start)
+
+pub set_receivers-requires-clause-sender : goal.set_receivers-requires-clause-sender
+set_receivers-requires-clause-sender c =
+    let below = is_machine (goal.at.set_receivers-requires-clause-sender c).Start in
+    let long = c.requires.ways.long in
+    omega arith
+
+pub set_receivers-requires-clause-few : goal.set_receivers-requires-clause-few
+set_receivers-requires-clause-few c =
+    let few = c.args.config.now.net.few_machines in
+    let long = c.requires.ways.long in
+    omega arith

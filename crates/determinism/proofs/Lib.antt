@@ -1,3 +1,4 @@
+pub mod Pushed
 pub mod Says
 pub mod Befores
 pub mod Bests

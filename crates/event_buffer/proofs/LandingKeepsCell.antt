@@ -215,3 +215,10 @@ landed_thawed net m moment after woken time pending log more x steps waking kept
     (moment_is
     ∙ ap (λ (o : Option Pending). snap net (entries (before o more)) m) (sym none))
     (subst (λ (o : Option Pending). IsPending o more) (sym none) tt)
+
+-- the clock isn't full, where the later stamp is below the greatest
+pub not_full : (latest later most : ℕ) → latest ≡ later → latest < most → later ≡ most → ⊥
+not_full latest later most is below full = omega arith
+
+pub full : (latest later most : ℕ) → latest ≡ later → latest ≤ most → most ≤ latest → later ≡ most
+full latest later most is small high = omega arith

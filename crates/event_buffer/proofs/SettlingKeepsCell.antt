@@ -1,6 +1,7 @@
 -- What is kept as a reaction is settled.
 use Rattle.std.specs.Prelude.{◌≡◌, ℕ, Bool, true, false, unwrap_or, slice_set, List, Option, Some, None}
 use Rattle.std.proofs.Common.{sym, ap, ◌∙◌, subst}
+use Rattle.std.proofs.lemmas.Option.{none-some}
 use Rattle.transition_table.specs.Laws.{OneOutcome}
 use Rattle.transition_table.specs.Transitions.{OfMachine, IsSnapshot, Transition, AreDeterministic}
 use Rattle.transition_table.specs.declared.network.Network.{Network}
@@ -169,3 +170,15 @@ fires_in x = fires_of x.entry
     fires_of : Entry → Bool
     fires_of (Dep s m event code) = false
     fires_of (Rea m s o) = o.fires
+
+-- a cell that has nothing pending isn't frozen
+pub none_frozen :
+    (net : Network) (m : ℕ) (moment : Snapshot) (busy : Bool) (pending : Option Pending)
+    (log : List Stamped) (c : CellState) (frozen : ℕ × Snapshot)
+    → shown net m moment busy pending log ≡ c
+    → pending ≡ None
+    → c.frozen ≡ Some frozen
+    → ⊥
+none_frozen net m moment busy pending log c frozen view none some =
+    none-some frozen
+    (ap (frozen_of moment) (sym none) ∙ ap (λ (s : CellState). s.frozen) view ∙ some)

@@ -1,2 +1,3 @@
+pub mod WholeIsLegal
 pub mod LegalAndRises
 pub mod SampleNetworks

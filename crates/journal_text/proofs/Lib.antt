@@ -1,3 +1,4 @@
+pub mod Stops
 pub mod WrittenItems
 pub mod MachineCodes
 pub mod Pieces

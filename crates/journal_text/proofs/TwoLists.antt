@@ -19,7 +19,7 @@ both_lists None b p q = absurd (false≢true p)
 both_lists (Some a) None p q = absurd (false≢true q)
 
 -- no list of two answers, where the second is none
-no_second : {A B : Type 0} (o : Option A) → both {A = A} {B = B} o None ≡ None
+pub no_second : {A B : Type 0} (o : Option A) → both {A = A} {B = B} o None ≡ None
 no_second None = refl
 no_second (Some a) = refl
 

@@ -19,3 +19,5 @@ pub mod PairKeys
 pub mod ItemSets
 pub mod SiftRules
 pub mod OneOrder
+pub mod PairedLists
+pub mod ChainPlaces

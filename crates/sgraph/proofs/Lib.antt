@@ -17,3 +17,4 @@ pub mod HasResults
 pub mod RightGraphs
 pub mod SentPlaces
 pub mod Trails
+pub mod MapItems

@@ -4,6 +4,7 @@ ghost use Rattle.polis_base.specs.Lists.{upto};
 ghost use Rattle.domains.specs.AllCodes.{all_codes};
 ghost use Rattle.table_use.specs.Lint.{amount, emits, enables_only, is_repeated_by, lint_of, repeats, row_lint, seen_ones};
 ghost use Rattle.table_use.specs.LintLines.{are_snapshots};
+ghost use Rattle.outcome_table.specs.Outcomes.{AreResultsOf};
 ghost use Rattle.transition_table.specs.Transitions.{OfMachine};
 ghost use Rattle.table_use.specs.Use.{enables};
 ghost use Rattle.table_use.specs.inner.Boxes.{all_flags};
@@ -17,7 +18,7 @@ use crate::keys::keys_of;
 use crate::lookup::{Lookup, idle_count};
 use crate::marks::{all_marks, has_more};
 use crate::walk::{Walked, walk};
-use outcome_table::{lists_from, results_of};
+use outcome_table::{Results, lists_from, results_of};
 use polis_base::limits::SIFTED_SNAPSHOTS_MAX;
 use polis_base::{List, NoMemory};
 use std::alloc::Global;
@@ -155,19 +156,28 @@ fn lint_rows(alloc: Global, machine: &Machine) -> Result<ByRows, NoMemory>
     Ok(ByRows { rows, outputs })
 }
 
+// What is found of all snapshots of a machine with these results.
+fn walk_by(alloc: Global, machine: &Machine, results: &Results) -> Result<Walked, NoMemory>
+    requires { AreResultsOf machine.now results.now }
+    ensures { IfOk result (IsWalked machine.now (all_codes machine.now.vars)) }
+{
+    let keys = keys_of(alloc, machine, results)?;
+    let lookup = Lookup {
+        machine,
+        results,
+        keys: &keys,
+        idle: idle_count(machine),
+    };
+    let walked = walk(alloc, &lookup)?;
+    Ok(walked)
+}
+
 // What is found of all snapshots.
 fn lint_snapshots(alloc: Global, machine: &Machine) -> Result<Walked, NoMemory>
     ensures { IfOk result (IsWalked machine.now (all_codes machine.now.vars)) }
 {
     let results = results_of(alloc, machine)?;
-    let keys = keys_of(alloc, machine, &results)?;
-    let lookup = Lookup {
-        machine,
-        results: &results,
-        keys: &keys,
-        idle: idle_count(machine),
-    };
-    let walked = walk(alloc, &lookup)?;
+    let walked = walk_by(alloc, machine, &results)?;
     Ok(walked)
 }
 

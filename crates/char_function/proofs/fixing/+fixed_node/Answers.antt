@@ -1,16 +1,38 @@
 use Rattle.std.proofs.Common.{◌≡◌, ◌∙◌, ◌+◌, ◌*◌, ◌<◌, ◌≤◌, ℕ, suc, List, length, drop, slice_index, slice_set, take, ap, sym, subst, arith, length-take}
-use Rattle.std.proofs.lemmas.List.{get_or-take}
+use Rattle.std.proofs.lemmas.List.{get_or-take, length-replicate}
 use Rattle.domains.specs.Orders.{place}
 use Rattle.domains.specs.Tables.{product}
-use Rattle.decision_diagram.specs.Diagrams.{Means, level_of}
+use Rattle.decision_diagram.specs.Diagrams.{IsNode, Means, level_of}
 use Rattle.transition_table.specs.Orders.{sizes_of}
 use Rattle.char_function.specs.inner.Left.{IsFirst, left_from}
+use Rattle.char_function.proofs.Below.{item_below}
 use Rattle.char_function.proofs.FixedKids.{AreFixedKids, IsStep, fixed_more, left_kept, next_of, node_left, points_few, result_left, step_of, vars_size}
 use Rattle.char_function.proofs.LeftFrom.{IsNext, first_more}
 use Rattle.decision_diagram.proofs.ListItems.{read}
-use Rattle.decision_diagram.proofs.Growth.{keeps_trans}
+use Rattle.decision_diagram.proofs.Growth.{keeps_same, keeps_trans}
 use Rattle.char_function.proofs.fixing.+fixed_node.Goals.{After-from-2, After-from-in-loop-code, After-same_kids-kids}
 use Rattle.char_function.proofs.fixing.+fixed_node.Goals as goal
+
+-- the place is of the order
+low_at : (start place long : ℕ) → place ≤ start → (place ≡ start → ⊥) → start ≤ long
+    → place < long
+low_at start place long most other within = omega arith
+
+pub outcome_node-requires-clause-snapshot : goal.outcome_node-requires-clause-snapshot
+outcome_node-requires-clause-snapshot t c = c.requires.first.snapshot
+
+pub get-item-requires : goal.get-item-requires
+get-item-requires t c =
+    low_at c.args.fixing.now.start c.args.place (length c.args.fixing.now.order.now)
+    c.requires.place c.if-place-fixing.false c.requires.fixing.within
+
+pub get-size-requires : goal.get-size-requires
+get-size-requires t c =
+    item_below c.args.fixing.now.order.now c.args.fixing.now.sizes.now c.args.place
+    c.get-item.result.now c.from.result c.requires.fixing.ordered c.requires.fixing.all_sizes
+    (low_at c.args.fixing.now.start c.args.place (length c.args.fixing.now.order.now)
+    c.requires.place c.if-place-fixing.false c.requires.fixing.within)
+    c.get-item.ensures c.from.ensures
 
 -- the item at the place, and its size
 step_at : (t : ℕ) (c : After-from-2 t)
@@ -26,6 +48,23 @@ step_at t c =
     c.args.store.now.sizes c.args.place c.get-item.result.now c.from.result c.get-size.result.now
     f.ordered f.all_sizes c.requires.store.sizes c.same_value_same_node.ensures.reduced.sizes low
     c.get-item.ensures c.from.ensures c.get-size.ensures
+
+pub code_at-code-requires-clause-item : goal.code_at-code-requires-clause-item
+code_at-code-requires-clause-item t c =
+    (step_at t (goal.at.code_at-code-requires-clause-item t c).After-from-2).at.inside
+
+pub code_at-code-requires-clause-snapshot : goal.code_at-code-requires-clause-snapshot
+code_at-code-requires-clause-snapshot t c = c.requires.first.snapshot
+
+pub code_at-code-requires-clause-table : goal.code_at-code-requires-clause-table
+code_at-code-requires-clause-table t c = c.requires.fixing.table
+
+pub result_node-requires-clause-kid : goal.result_node-requires-clause-kid
+result_node-requires-clause-kid t c = c.in_ok-kid.ensures.value.node
+
+stride_at : (item from long number vars strides : ℕ) → from < long → from ≡ item → long ≡ vars
+    → number ≡ item → strides ≡ vars → number < strides
+stride_at item from long number vars strides low from_is long_is number_is strides_long = omega arith
 
 -- how far apart the snapshots with its codes stand
 record Apart (vars : List ℕ) (item stride : ℕ) : Type 0 where
@@ -381,3 +420,51 @@ returns-clause-known t c =
     left_kept c.args.fixing.now.machine.now c.args.fixing.now.table.now c.loop-code.store
     c.node.new.self c.args.fixing.now.start c.loop-code.known c.node.ensures.kept
     c.loop-code.invariant.known
+
+pub get-stride-requires : goal.get-stride-requires
+get-stride-requires t c =
+    stride_at c.get-item.result.now c.from-2.result c.len.result c.from-3.result
+    (length c.args.fixing.now.machine.now.vars) (length c.args.fixing.now.strides.now)
+    c.if-from-len.false c.from-2.ensures c.len.ensures.len c.from-3.ensures
+    c.requires.fixing.apart.long
+
+pub loop-code-init : goal.loop-code-init
+loop-code-init t c = record {
+  kept = keeps_same c.args.store.now;
+  kids = record {
+    long = ap (λ (xs : List ℕ). length xs) c.same_kids-kids.ensures
+        ∙ length-replicate 33 c.constant-none.result;
+    means = λ code low. absurd (omega arith);
+    levels = λ code low. absurd (omega arith);
+  };
+  known = c.requires.store.known;
+}
+
+pub node-requires-clause-var : goal.node-requires-clause-var
+node-requires-clause-var t c =
+    subst (λ (xs : List ℕ). c.get-item.result.now < length xs)
+    (sym (c.loop-code.invariant.kept.sizes ∙ c.requires.store.sizes ∙ c.requires.fixing.all_sizes))
+    (step_at t (goal.at.node-requires-clause-var t c).After-from-2).at.inside
+
+pub node-requires-clause-nodes : goal.node-requires-clause-nodes
+node-requires-clause-nodes t c code low =
+    let size = c.get-size.result.now in
+    let done : c.loop-code.code ≡ size = let a = c.loop-code-test.false in
+    let b = c.loop-code.auto.code-end in omega arith in
+    let four : c.from-4.result ≡ size = c.from-4.ensures in
+    let d = length-take c.from-4.result c.loop-code.kids in
+    subst (λ (n : ℕ). IsNode c.loop-code.store n)
+    (sym (get_or-take c.from-4.result c.loop-code.kids code 0 (omega arith)))
+    (c.loop-code.invariant.kids.means code (omega arith)).node
+
+pub returns-then-place-fixing-clause-kept : goal.returns-then-place-fixing-clause-kept
+returns-then-place-fixing-clause-kept t c = c.outcome_node.ensures.kept
+
+pub returns-then-place-fixing-clause-value : goal.returns-then-place-fixing-clause-value
+returns-then-place-fixing-clause-value t c =
+    subst (λ (k : ℕ). Means c.outcome_node.new.store c.in_ok-node.node
+    (left_from c.args.fixing.now.machine.now c.args.fixing.now.order.now k c.args.i))
+    (sym c.if-place-fixing.true) c.in_ok-node.ensures.value
+
+pub returns-then-place-fixing-clause-known : goal.returns-then-place-fixing-clause-known
+returns-then-place-fixing-clause-known t c = c.in_ok-node.ensures.known

@@ -1,8 +1,46 @@
-use Rattle.std.proofs.Common.{◌≡◌, ◌∙◌, ◌-◌, [], ℕ, List, length, get_or, slice_index, sym, ap, arith, length-append}
-use Rattle.char_function.specs.inner.Points.{at_point, points}
+use Rattle.std.proofs.Common.{◌≡◌, ◌∙◌, ◌-◌, ◌<◌, [], ℕ, List, length, get_or, slice_get, slice_index, Some, sym, ap, subst, arith, length-append}
+use Rattle.char_function.specs.inner.Points.{at_point, point, points}
+use Rattle.domains.specs.AllCodes.{all_codes}
+use Rattle.domains.proofs.AllCodes.{long_map}
+use Rattle.transition_table.specs.declared.machine.Machine.{Machine}
+use Rattle.outcome_table.specs.declared.table.Table.{Table}
+use Rattle.outcome_table.specs.Outcomes.{IsTableOf, column}
 use Rattle.decision_diagram.proofs.ListItems.{read}
 use Rattle.char_function.proofs.IsTableOf.{numbers_long, number_low, outcome_long, var_at, result_at, code_below}
 use Rattle.char_function.proofs.group.code_at.Goals as goal
+
+variable_below : (item from long vars columns : ℕ) → from < long → long ≡ vars
+    → columns ≡ vars → from < columns
+variable_below item from long vars columns low long_is wide = omega arith
+
+pub get-requires : goal.get-requires
+get-requires c =
+    variable_below c.args.item c.from-item.result c.len-vars.result (length c.args.m.now.vars)
+    (length c.args.table.now.codes) c.if-item-vars.true c.len-vars.ensures.len
+    c.requires.table.codes.wide
+
+-- a column has a code for each snapshot
+column_long : (m : Machine) (t : Table) (v i long : ℕ) (codes : List ℕ) → IsTableOf m t
+    → slice_get t.codes v ≡ Some codes → v < long → long ≡ length m.vars
+    → i < length (points m) → i < length codes
+column_long m t v i long codes table got low vars within =
+    let all = all_codes m.vars in
+    let same : codes ≡ column v all =
+    sym (read t.codes v codes [] got) ∙ table.codes.each v (omega arith) in
+    subst (λ (n : ℕ). i < n)
+    (long_map (point m) all ∙ sym (long_map (λ (s : List ℕ). slice_index s v) all)
+    ∙ ap (λ (xs : List ℕ). length xs) (sym same)) within
+
+pub get-requires-then-item-vars : goal.get-requires-then-item-vars
+get-requires-then-item-vars c =
+    column_long c.args.m.now c.args.table.now c.from-item.result c.args.i c.len-vars.result
+    c.get.result.now c.requires.table c.get.ensures c.if-item-vars.true c.len-vars.ensures.len
+    c.requires.snapshot
+
+pub get-requires-else-item-vars : goal.get-requires-else-item-vars
+get-requires-else-item-vars c =
+    subst (λ (n : ℕ). c.args.i < n)
+    (sym (numbers_long c.args.m.now c.args.table.now c.requires.table)) c.requires.snapshot
 
 pub get-requires-else-item-vars-2 : goal.get-requires-else-item-vars-2
 get-requires-else-item-vars-2 c =

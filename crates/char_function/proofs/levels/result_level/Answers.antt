@@ -5,6 +5,7 @@ use Rattle.transition_table.specs.declared.machine.Machine.{Machine}
 use Rattle.decision_diagram.specs.Diagrams.{Diagrams, IsNode, Means, level_of}
 use Rattle.char_function.specs.inner.Left.{left_from}
 use Rattle.char_function.specs.inner.Rising.{IsLeft}
+use Rattle.char_function.proofs.Below.{item_below}
 use Rattle.char_function.proofs.Blocks.{AreHalf, half_more, half_none, result_done}
 use Rattle.char_function.proofs.FixedKids.{IsStep, points_few, result_left, step_of}
 use Rattle.decision_diagram.proofs.Growth.{keeps_trans, keeps_same}
@@ -38,6 +39,20 @@ left_here c =
       low = low;
       left = c.loop-j.invariant.half.rest c.loop-j.j (omega arith) (omega arith);
     }
+
+-- the place is of the list
+place_here : (c : In-loop-j) → c.loop-j.j < c.loop-j.nodes.len
+place_here c =
+    let low = (left_here c).low in
+    let wide = c.loop-j.invariant.half.long in
+    let held = c.loop-j.nodes.ok.0 in
+    omega arith
+
+pub get-size-requires : goal.get-size-requires
+get-size-requires c =
+    item_below c.args.fixing.now.order.now c.args.fixing.now.sizes.now c.args.place
+    c.get-item.result.now c.from.result c.requires.fixing.ordered c.requires.fixing.all_sizes
+    c.requires.place c.get-item.ensures c.from.ensures
 
 pub loop-j-init : goal.loop-j-init
 loop-j-init c =
@@ -180,3 +195,11 @@ returns-clause-level c =
     c.args.nodes.now.items count c.requires.level c.requires.place c.requires.item (omega arith)
     (subst (λ (k : ℕ). AreHalf m order s c.args.place c.args.block c.args.block 1
     c.loop-j.nodes.items k count) done c.loop-j.invariant.half)
+
+pub index-requires : goal.index-requires
+index-requires c =
+    place_here (goal.at.index-requires c).In-loop-j
+
+pub index_mut-requires : goal.index_mut-requires
+index_mut-requires c =
+    place_here (goal.at.index_mut-requires c).In-loop-j

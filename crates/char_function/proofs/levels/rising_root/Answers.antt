@@ -1,12 +1,41 @@
-use Rattle.std.proofs.Common.{◌≡◌, ◌∙◌, ◌+◌, ◌-◌, ◌*◌, ℕ, slice_index, ap, sym, subst, arith}
+use Rattle.std.proofs.Common.{◌≡◌, ◌∙◌, ◌+◌, ◌-◌, ◌*◌, ◌<◌, ◌≤◌, ℕ, length, slice_index, ap, sym, subst, arith}
 use Rattle.std.proofs.lemmas.List.{get_or_default}
 use Rattle.decision_diagram.specs.Diagrams.{Means}
 use Rattle.char_function.specs.inner.Left.{left_from}
 use Rattle.char_function.specs.inner.Rising.{AreLevel}
+use Rattle.char_function.proofs.Below.{item_below}
 use Rattle.char_function.proofs.Blocks.{block_few, root_of_level}
 use Rattle.decision_diagram.proofs.ListItems.{read}
 use Rattle.decision_diagram.proofs.Growth.{keeps_trans}
 use Rattle.char_function.proofs.levels.rising_root.Goals as goal
+
+pub last_level-requires-clause-fixing : goal.last_level-requires-clause-fixing
+last_level-requires-clause-fixing c = c.requires.fixing
+
+pub last_level-requires-clause-store : goal.last_level-requires-clause-store
+last_level-requires-clause-store c = c.requires.store
+
+pub last_level-requires-clause-known : goal.last_level-requires-clause-known
+last_level-requires-clause-known c = c.requires.known
+
+pub variable_level-requires-clause-fixing : goal.variable_level-requires-clause-fixing
+variable_level-requires-clause-fixing c = c.requires.fixing
+
+pub variable_level-requires-clause-rising : goal.variable_level-requires-clause-rising
+variable_level-requires-clause-rising c = c.requires.rising
+
+pub result_level-requires-clause-fixing : goal.result_level-requires-clause-fixing
+result_level-requires-clause-fixing c = c.requires.fixing
+
+place_before : (place long : ℕ) → 0 < place → place ≤ long → place - 1 < long
+place_before place long some within = omega arith
+
+pub get-requires-then-item-len : goal.get-requires-then-item-len
+get-requires-then-item-len c =
+    item_below c.args.fixing.now.order.now c.args.fixing.now.sizes.now (c.loop-place.place - 1)
+    c.get.result.now c.from-item.result c.requires.fixing.ordered c.requires.fixing.all_sizes
+    (place_before c.loop-place.place (length c.args.fixing.now.order.now) c.loop-place-test.true
+    c.loop-place.invariant.within) c.get.ensures c.from-item.ensures
 
 pub loop-place-init : goal.loop-place-init
 loop-place-init c = record {

@@ -1,11 +1,12 @@
-use Rattle.std.proofs.Common.{◌≡◌, ◌∙◌, ◌+◌, ◌*◌, ◌/◌, ℕ, List, length, take, slice_index, ap, sym, subst, arith}
+use Rattle.std.proofs.Common.{◌≡◌, ◌∙◌, ◌+◌, ◌*◌, ◌/◌, ◌<◌, ◌≤◌, ℕ, List, length, take, slice_index, ap, sym, subst, arith}
 use Rattle.std.specs.Prelude.{slice_range}
+use Rattle.char_function.proofs.Below.{item_below, block_below}
 use Rattle.domains.specs.Orders.{place}
 use Rattle.domains.specs.Tables.{product}
 use Rattle.char_function.specs.inner.Rising.{AreLevel}
-use Rattle.char_function.proofs.Blocks.{AreBlockKids, AreHalf, IsBlockStep, block_kids, block_left, block_step, half_more, half_none, variable_done}
+use Rattle.char_function.proofs.Blocks.{AreBlockKids, AreHalf, IsBlockStep, block_kids, block_left, block_step, half_more, half_none, times_le, variable_done}
 use Rattle.decision_diagram.proofs.Growth.{keeps_trans, keeps_same}
-use Rattle.char_function.proofs.levels.variable_level.Goals.{After-deref, After-from-size}
+use Rattle.char_function.proofs.levels.variable_level.Goals.{After-deref, After-from-size, In-loop-j}
 use Rattle.char_function.proofs.levels.variable_level.Goals as goal
 
 -- the level's variable
@@ -34,6 +35,24 @@ kids_here c =
     c.args.place (size * c.args.block) c.args.block size c.loop-j.nodes.items c.deref.result.now
     c.loop-j.j (c.len.result / size) c.loop-j.invariant.half c.deref.ensures.value
     c.loop-j-test.true
+
+-- the end of a block
+block_within : (j count size n : ℕ) → j < count → n ≡ count * size → j * size + size ≤ n
+block_within j count size n low long =
+    let most = times_le (j + 1) count size (omega arith) in
+    omega arith
+
+within_here : (c : In-loop-j)
+    → c.loop-j.j * c.from-size.result + c.from-size.result ≤ length c.loop-j.nodes.items
+within_here c =
+    block_within c.loop-j.j (c.len.result / c.from-size.result) c.from-size.result
+    (length c.loop-j.nodes.items) c.loop-j-test.true c.loop-j.invariant.half.long
+
+pub get-requires : goal.get-requires
+get-requires c =
+    item_below c.args.fixing.now.order.now c.args.fixing.now.sizes.now c.args.place
+    c.get-item.result.now c.from.result c.requires.fixing.ordered c.requires.fixing.all_sizes
+    c.requires.place c.get-item.ensures c.from.ensures
 
 pub nonzero_div-count : goal.nonzero_div-count
 nonzero_div-count c =
@@ -181,3 +200,44 @@ returns-clause-level c =
     subst (λ (k : ℕ). AreLevel m order c.loop-j.store p (k * stride) c.truncate.new.self.items) wide
     (subst (λ (xs : List ℕ). AreLevel m order c.loop-j.store p (size * stride) xs)
     (sym c.truncate.ensures.items) level)
+
+pub overflow_mul-from : goal.overflow_mul-from
+overflow_mul-from c =
+    let within = within_here (goal.at.overflow_mul-from c).In-loop-j in
+    let small = c.loop-j.nodes.small in
+    let held = c.loop-j.nodes.ok in
+    omega arith
+
+pub overflow_add-from : goal.overflow_add-from
+overflow_add-from c =
+    let within = within_here (goal.at.overflow_add-from c).In-loop-j in
+    let small = c.loop-j.nodes.small in
+    let held = c.loop-j.nodes.ok in
+    omega arith
+
+pub offset_bounds-deref-from : goal.offset_bounds-deref-from
+offset_bounds-deref-from c =
+    let within = within_here (goal.at.offset_bounds-deref-from c).In-loop-j in
+    let small = c.loop-j.nodes.small in
+    let held = c.loop-j.nodes.ok in
+    let long = c.deref.ensures.len in
+    let fits = c.deref.type_inv in
+    omega arith
+
+pub slice_bounds-node-end : goal.slice_bounds-node-end
+slice_bounds-node-end c =
+    subst (λ (xs : List ℕ). c.loop-j.j * c.from-size.result + c.from-size.result ≤ length xs)
+    (sym c.deref.ensures.value) (within_here (goal.at.slice_bounds-node-end c).In-loop-j)
+
+pub slice_bounds-node-count : goal.slice_bounds-node-count
+slice_bounds-node-count c = omega arith
+
+pub slice_bounds-node-start : goal.slice_bounds-node-start
+slice_bounds-node-start c = omega arith
+
+pub index_mut-requires : goal.index_mut-requires
+index_mut-requires c =
+    subst (λ (k : ℕ). c.loop-j.j < k) (sym c.loop-j.nodes.ok.0)
+    (block_below c.loop-j.j c.from-size.result (length c.loop-j.nodes.items)
+    (step_here (goal.at.index_mut-requires c).After-from-size).one
+    (within_here (goal.at.index_mut-requires c).In-loop-j))

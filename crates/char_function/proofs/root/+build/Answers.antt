@@ -1,4 +1,4 @@
-use Rattle.std.proofs.Common.{◌≡◌, ◌∙◌, ◌+◌, ℕ, List, length, slice_index, sym, ap, subst, arith}
+use Rattle.std.proofs.Common.{◌≡◌, ◌∙◌, ◌+◌, ◌<◌, ◌≤◌, ℕ, false, List, [], ◌∷◌, length, slice_index, refl, sym, ap, subst, arith}
 use Rattle.domains.specs.Orders.{place}
 use Rattle.decision_diagram.specs.Diagrams.{Means, level_of}
 use Rattle.char_function.specs.inner.Groups.{some_agrees, with_code}
@@ -7,9 +7,64 @@ use Rattle.char_function.specs.inner.Points.{points}
 use Rattle.char_function.proofs.AreKnown.{known_kept}
 use Rattle.decision_diagram.proofs.ListItems.{read}
 use Rattle.char_function.proofs.GroupNodes.{AreKids, at_var, end_agrees, kids_more, node_means, part_is, part_group}
-use Rattle.decision_diagram.proofs.Growth.{keeps_trans}
+use Rattle.decision_diagram.proofs.Growth.{keeps_same, keeps_trans}
 use Rattle.char_function.proofs.root.+build.Goals as goal
 use Rattle.char_function.proofs.root.+build.Goals.{then-place-start-2, else-place-start-2}
+
+-- no snapshot is of a group of none
+none_agrees : (points : List (List ℕ)) (order : List ℕ) (place : ℕ) (group codes : List ℕ)
+    → length group ≡ 0 → some_agrees points order place group codes ≡ false
+none_agrees points order place [] codes none = refl
+none_agrees points order place (i ∷ group) codes none = absurd (omega arith)
+
+pub returns-then-group-eq0-clause-value : goal.returns-then-group-eq0-clause-value
+returns-then-group-eq0-clause-value t c = record {
+  node = c.constant.ensures.node;
+  value = λ codes fit. c.constant.ensures.value codes
+      ∙ sym (none_agrees (points c.args.making.now.machine.now) c.args.store.now.order c.args.place
+      c.args.group.now codes c.if-group-eq0.true);
+}
+
+pub returns-then-group-eq0-clause-known : goal.returns-then-group-eq0-clause-known
+returns-then-group-eq0-clause-known t c = c.requires.known
+
+pub returns-then-group-eq0-clause-level : goal.returns-then-group-eq0-clause-level
+returns-then-group-eq0-clause-level t c =
+    subst (λ (k : ℕ). c.args.place ≤ k) (sym c.constant.ensures.level) c.requires.place
+
+pub returns-then-place-len-clause-known : goal.returns-then-place-len-clause-known
+returns-then-place-len-clause-known t c = c.requires.known
+
+pub returns-then-place-len-clause-level : goal.returns-then-place-len-clause-level
+returns-then-place-len-clause-level t c =
+    subst (λ (k : ℕ). c.args.place ≤ k) (sym c.constant-then-place-len.ensures.level)
+    c.requires.place
+
+pub known_node-requires-clause-group : goal.known_node-requires-clause-group
+known_node-requires-clause-group t c = c.requires.group
+
+pub known_node-requires-clause-known : goal.known_node-requires-clause-known
+known_node-requires-clause-known t c = c.requires.known
+
+pub known_node-requires-clause-start : goal.known_node-requires-clause-start
+known_node-requires-clause-start t c = c.requires.making.start
+
+pub known_node-requires-clause-table : goal.known_node-requires-clause-table
+known_node-requires-clause-table t c = c.requires.making.table
+
+pub returns-in-Some-clause-value : goal.returns-in-Some-clause-value
+returns-in-Some-clause-value t c =
+    subst (λ (k : ℕ). Means c.args.store.now c.in-Some.node
+    (some_agrees (points c.args.making.now.machine.now) c.args.store.now.order k
+    c.args.group.now)) (sym c.if-place-start.true) c.in-Some.ensures.value
+
+pub returns-in-Some-clause-level : goal.returns-in-Some-clause-level
+returns-in-Some-clause-level t c =
+    subst (λ (k : ℕ). k ≤ level_of c.args.store.now c.in-Some.node) (sym c.if-place-start.true)
+    c.in-Some.ensures.level
+
+pub returns-in-Some-clause-known : goal.returns-in-Some-clause-known
+returns-in-Some-clause-known t c = c.requires.known
 
 pub returns-then-place-len-clause-value : goal.returns-then-place-len-clause-value
 returns-then-place-len-clause-value t c =
@@ -24,6 +79,16 @@ returns-then-place-len-clause-value t c =
           ∙ sym (end_agrees points s.order c.args.place c.args.group.now codes c.if-group-eq0.false
           end);
     }
+
+low_in_order : (order own : List ℕ) (place long : ℕ) → order ≡ own → place ≤ length own
+    → long ≡ length order → (place ≡ long → ⊥) → place < length order
+low_in_order order own place long same most is other =
+    let e = ap (λ (xs : List ℕ). length xs) same in omega arith
+
+pub get-item-requires : goal.get-item-requires
+get-item-requires t c =
+    low_in_order c.args.making.now.order.now c.args.store.now.order c.args.place c.len.result
+    c.requires.making.order c.requires.place c.len.ensures.len c.if-place-len.false
 
 pub get-size-requires : goal.get-size-requires
 get-size-requires t c =
@@ -50,6 +115,23 @@ parts_of-requires-clause-size t c =
     ∙ ap (slice_index c.args.making.now.sizes.now) c.from.ensures
     ∙ ap (λ (xs : List ℕ). slice_index xs c.get-item.result.now)
     (c.requires.making.sizes ∙ c.requires.making.all_sizes)
+
+pub parts_of-requires-clause-table : goal.parts_of-requires-clause-table
+parts_of-requires-clause-table t c = c.requires.making.table
+
+pub parts_of-requires-clause-group : goal.parts_of-requires-clause-group
+parts_of-requires-clause-group t c = c.requires.group
+
+pub loop-part-init : goal.loop-part-init
+loop-part-init t c = record {
+  kept = keeps_same c.args.store.now;
+  kids = record {
+    long = ap (λ (xs : List ℕ). length xs) c.new-kids.ensures.items;
+    means = λ code low. absurd (omega arith);
+    levels = λ code low. absurd (omega arith);
+  };
+  known = c.requires.known;
+}
 
 pub build-requires : goal.build-requires
 build-requires t c =
@@ -204,6 +286,24 @@ pub returns-in_err-node-clause-kept : goal.returns-in_err-node-clause-kept
 returns-in_err-node-clause-kept t c =
     keeps_trans c.args.store.now c.loop-part.store c.node.new.self c.loop-part.invariant.kept
     c.node.ensures.kept
+
+pub keep_node-requires-clause-table : goal.keep_node-requires-clause-table
+keep_node-requires-clause-table t c = c.requires.making.table
+
+pub keep_node-requires-clause-group : goal.keep_node-requires-clause-group
+keep_node-requires-clause-group t c = c.requires.group
+
+pub keep_node-requires-clause-start : goal.keep_node-requires-clause-start
+keep_node-requires-clause-start t c =
+    subst (λ (order : List ℕ).
+    OnlyResults (length c.args.making.now.machine.now.vars) order c.args.making.now.start)
+    (sym (c.node.ensures.kept.order ∙ c.loop-part.invariant.kept.order)) c.requires.making.start
+
+pub keep_node-requires-clause-known : goal.keep_node-requires-clause-known
+keep_node-requires-clause-known t c =
+    known_kept c.loop-part.store c.node.new.self (length c.args.making.now.machine.now.vars)
+    c.args.making.now.start c.args.making.now.table.now.outcomes c.loop-part.known
+    c.node.ensures.kept c.loop-part.invariant.known
 
 pub keep_node-requires-clause-value : goal.keep_node-requires-clause-value
 keep_node-requires-clause-value t c =

@@ -1,4 +1,4 @@
-use Rattle.std.proofs.Common.{Bool, subst}
+use Rattle.std.proofs.Common.{Bool, List, ℕ, length, ap, sym, subst, ◌∙◌}
 use Rattle.determinism.specs.inner.Pairs.{IsBest}
 use Rattle.determinism.proofs.Bests.{best_stays, best_moves, true_or_false}
 use Rattle.determinism.proofs.conflict.improve.Goals as goal
@@ -24,3 +24,33 @@ returns-clause-best c =
           w.if-stands_before.false
       | else-found-via-else-found w ↦ absurd (true_or_false c.args.found found w.if-found.false)
     ]))
+
+pub least_difference-requires : goal.least_difference-requires
+least_difference-requires c = record { long = c.requires.long }
+
+pub returns-then-not-least_difference-clause-long :
+    goal.returns-then-not-least_difference-clause-long
+returns-then-not-least_difference-clause-long c = c.least_difference.ensures.long
+
+pub returns-then-not-least_difference-clause-best_long :
+    goal.returns-then-not-least_difference-clause-best_long
+returns-then-not-least_difference-clause-best_long c = c.requires.best_long
+
+pub stands_before-requires : goal.stands_before-requires
+stands_before-requires c = c.requires.best_long ∙ sym c.least_difference.ensures.long
+
+pub returns-then-stands_before-clause-long : goal.returns-then-stands_before-clause-long
+returns-then-stands_before-clause-long c = c.least_difference.ensures.long
+
+pub returns-then-stands_before-clause-best_long : goal.returns-then-stands_before-clause-best_long
+returns-then-stands_before-clause-best_long c = c.requires.best_long
+
+pub copy_from-requires : goal.copy_from-requires
+copy_from-requires c = c.requires.best_long ∙ sym c.least_difference.ensures.long
+
+pub returns-clause-long : goal.returns-clause-long
+returns-clause-long c = c.least_difference.ensures.long
+
+pub returns-clause-best_long : goal.returns-clause-best_long
+returns-clause-best_long c =
+    ap (λ (l : List ℕ). length l) c.copy_from.ensures ∙ c.least_difference.ensures.long

@@ -1,8 +1,9 @@
-use Rattle.std.proofs.Common.{slice_set, arith, sym, ap, ◌∙◌}
+use Rattle.std.proofs.Common.{◌<◌, ◌==◌, slice_index, slice_set, arith, sym, ap, subst, ◌∙◌}
 use Rattle.std.specs.Int.{bit_at}
 use Rattle.std.proofs.lemmas.Bool.{eqb-true}
+use Rattle.std.proofs.lemmas.List.{get_or-set_same, get_or-set_other}
 use Rattle.std.proofs.lemmas.Option.{get_or_from_slice_get}
-use Rattle.determinism.proofs.LeastCodes.{in_set, set_agrees, same_there}
+use Rattle.determinism.proofs.LeastCodes.{in_set, not_there, set_agrees, same_there}
 use Rattle.determinism.proofs.difference.try_code.Goals as goal
 
 pub returns-clause-inside : goal.returns-clause-inside
@@ -34,3 +35,38 @@ returns-clause-none c = λ h t there at_u at_v.
     same_there c.args.pair.now c.args.y c.args.u c.args.v t
     (slice_set c.args.s.now.codes c.args.v c.args.code) c.requires.reads agrees.0 agrees.1
     (rw c.set.ensures at (c.differ.ensures.same h))
+
+pub get-requires : goal.get-requires
+get-requires c = c.requires.reads.there
+
+pub has_code-requires : goal.has_code-requires
+has_code-requires c = c.requires.code
+
+pub returns-then-not-has_code-clause-inside : goal.returns-then-not-has_code-clause-inside
+returns-then-not-has_code-clause-inside c = c.requires.inside
+
+pub returns-then-not-has_code-clause-none : goal.returns-then-not-has_code-clause-none
+returns-then-not-has_code-clause-none c = λ h t there at_u at_v.
+    let sets = c.args.pair.now.sets.now in
+    let at = get_or_from_slice_get sets c.args.v c.get.result.now 0 c.get.ensures in
+    let differ = not_there sets t c.args.v c.args.code there c.requires.reads.there at_v
+    (ap (λ n. bit_at n c.args.code == 1) at ∙ sym c.has_code.ensures ∙ c.if-not-has_code.true) in
+    absurd differ
+
+pub set-requires : goal.set-requires
+set-requires c =
+    subst (λ n. c.args.v < n) (sym c.requires.inside.long) c.requires.reads.there
+
+pub returns-clause-same : goal.returns-clause-same
+returns-clause-same c = λ k apart.
+    ap (λ l. slice_index l k) c.set.ensures
+    ∙ get_or-set_other c.args.s.now.codes c.args.v k c.args.code 0 apart
+
+pub returns-clause-code : goal.returns-clause-code
+returns-clause-code c = λ h.
+    ap (λ l. slice_index l c.args.v) c.set.ensures
+    ∙ get_or-set_same c.args.s.now.codes c.args.v c.args.code 0
+    (subst (λ n. c.args.v < n) (sym c.requires.inside.long) c.requires.reads.there)
+
+pub returns-clause-differ : goal.returns-clause-differ
+returns-clause-differ c = c.differ.ensures.differ

@@ -1,10 +1,13 @@
-use Rattle.std.proofs.Common.{List, Option, None, take, sym, subst, ◌∙◌, arith}
+use Rattle.std.proofs.Common.{◌≡◌, ◌<◌, ◌≤◌, ℕ, List, length, refl, Option, take, sym, subst, ◌∙◌, arith}
 use Rattle.transition_table.specs.declared.network.Network.{Network}
+use Rattle.journals.specs.declared.entry.TraceItem.{TraceItem}
+use Rattle.journals.specs.Legality.{Legal}
 use Rattle.journals.specs.declared.entry.Entry.{Entry}
 use Rattle.journals.specs.Journals.{FitsNetwork}
 use Rattle.journals.proofs.EntriesAt.{fits_at}
 use Rattle.journals.proofs.StampSteps.{prefix_more}
 use Rattle.net_core.specs.Judging.{IsCauseAgainst}
+use Rattle.net_core.specs.Prefixes.{IsLegalUpTo}
 use Rattle.net_core.specs.Tables.{AreTables}
 use Rattle.net_core.specs.declared.answer.Why.{Why}
 use Rattle.net_core.specs.inner.Outcomes.{SaysOutcome}
@@ -95,3 +98,52 @@ loop-i-preserved g c =
           (sym more) (c.in_ok-take_next-in-None.ensures prefix follows current);
       blanks_are = c.is_right-is_right.ensures.same ∙ c.loop-i.invariant.blanks_are;
     }
+
+pub get-entry-requires : goal.get-entry-requires
+get-entry-requires g c = subst (λ n. c.loop-i.i < n) c.len-i-end.ensures c.loop-i-test.true
+
+pub is_right-is_right-requires-clause-network : goal.is_right-is_right-requires-clause-network
+is_right-is_right-requires-clause-network g c =
+    c.requires.network ∙ sym c.loop-i.invariant.blanks_are
+
+pub returns-in-Some-clause-current : goal.returns-in-Some-clause-current
+returns-in-Some-clause-current g c = c.loop-i.invariant.current
+
+at_end : (i end long : ℕ) → end ≡ long → i ≤ end → end ≤ i → i ≡ long
+at_end i end long same most least = omega arith
+
+pub returns-clause-current : goal.returns-clause-current
+returns-clause-current g c =
+    let tables = c.loop-i.tables in
+    let end = at_end c.loop-i.i c.len-i-end.result _ c.len-i-end.ensures c.loop-i.auto.i-end
+    c.loop-i-test.false in
+    subst
+    (λ (k : ℕ).
+    AreTables c.args.net.now c.args.trace.now (take k c.args.j.now) tables.readers.items
+    tables.moments.items tables.woken tables.cursors tables.owed)
+    (end ∙ sym c.len.ensures) c.loop-i.invariant.current
+
+-- all entries are legal, so none is refused
+whole : (net : Network) (trace : List TraceItem) (j : List Entry) (i n : ℕ) → i ≡ length j
+    → n ≡ length j → Legal net trace (take i j) → IsLegalUpTo net trace j n
+whole net trace j i n end size legal = record {
+  within = omega arith;
+  legal = subst (λ (k : ℕ). Legal net trace (take k j)) (end ∙ sym size) legal;
+  longest = λ below. absurd (omega arith);
+}
+
+pub returns-clause-longest : goal.returns-clause-longest
+returns-clause-longest g c =
+    let end = at_end c.loop-i.i c.len-i-end.result _ c.len-i-end.ensures c.loop-i.auto.i-end
+    c.loop-i-test.false in
+    whole c.args.net.now c.args.trace.now c.args.j.now c.loop-i.i c.len.result end c.len.ensures
+    c.loop-i.invariant.current.legal
+
+none_below : (n long : ℕ) → n ≡ long → n < long → ⊥
+none_below n long same below = omega arith
+
+pub returns-clause-reason : goal.returns-clause-reason
+returns-clause-reason g c = λ below. absurd (none_below c.len.result _ c.len.ensures below)
+
+pub returns-clause-no_reason : goal.returns-clause-no_reason
+returns-clause-no_reason g c = λ same. refl

@@ -15,4 +15,20 @@ loop-cond-preserved c =
 pub cond_of-requires-clause-number : goal.cond_of-requires-clause-number
 cond_of-requires-clause-number c =
     let m = c.args.names.now.machine.now in
-    c.variable_number_from-number.ensures ∙ ap (number (m.inputs ++ state_words m)) c.cond_name.ensures
+    c.variable_number_from-number.ensures
+    ∙ ap (number (m.inputs ++ state_words m)) c.cond_name.ensures
+
+pub bounds-conds-cond-index : goal.bounds-conds-cond-index
+bounds-conds-cond-index c = c.loop-cond-test.true
+
+pub cond_of-requires-clause-kept : goal.cond_of-requires-clause-kept
+cond_of-requires-clause-kept c = c.requires.kept
+
+pub cond_of-requires-clause-sound : goal.cond_of-requires-clause-sound
+cond_of-requires-clause-sound c = c.requires.sound
+
+pub cond_of-requires-clause-variables : goal.cond_of-requires-clause-variables
+cond_of-requires-clause-variables c = c.requires.variables
+
+pub cond_of-requires-clause-vars : goal.cond_of-requires-clause-vars
+cond_of-requires-clause-vars c = c.requires.vars

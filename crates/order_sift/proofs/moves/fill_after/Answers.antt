@@ -15,12 +15,13 @@ use Rattle.order_sift.specs.inner.Classes.{AreClasses, fixed_too}
 use Rattle.order_sift.specs.inner.Known.{in_set}
 use Rattle.order_sift.specs.inner.Settings.{IsRange}
 use Rattle.order_sift.proofs.ListUpdates.{set_long}
+use Rattle.order_sift.proofs.ChainPlaces.{IsItemOf, item_of}
 use Rattle.order_sift.proofs.ChainSteps.{Follows, sizes_set, front_low, after_free, after_more, after_next, steps_after, start_without}
 use Rattle.order_sift.proofs.PairKeys.{room_kept}
 use Rattle.order_sift.proofs.ItemSets.{same_level, same_too, small_items}
 use Rattle.order_sift.proofs.AllowedPlaces.{items}
 use Rattle.order_sift.proofs.MovedLevels.{front_of, same_classes, same_next, take_low}
-use Rattle.order_sift.proofs.moves.fill_after.Goals.{After-get-next}
+use Rattle.order_sift.proofs.moves.fill_after.Goals.{After-get-next, After-len-items, In-loop-j}
 use Rattle.order_sift.proofs.moves.fill_after.Goals as goal
 
 -- the item at place j is the next after which the item at place i is put
@@ -87,6 +88,121 @@ here c =
     c.loop-j.set c.get-item.result.now c.get-next.result.now c.requires.range
     c.loop-j.invariant.later c.loop-j-test.true c.get-item.ensures c.get-next.ensures
     c.loop-j.invariant.set
+
+-- the item's own place, and the place of this turn
+own_here : (c : After-len-items) (listed : ℕ) → listed ≡ length c.args.moving.now.order.now + 1
+    → IsItemOf c.args.i c.len-items.result listed
+own_here c listed wide =
+    item_of c.args.i c.args.range.last (length c.args.moving.now.order.now) c.len-items.result
+    listed c.requires.range.i c.requires.range.last c.len-items.ensures.len wide
+
+most : (j last : ℕ) → j < last + 1 → j ≤ last
+most j last low = omega arith
+
+next_here : (c : In-loop-j) (listed : ℕ) → listed ≡ length c.args.moving.now.order.now + 1
+    → IsItemOf c.loop-j.j c.len-items.result listed
+next_here c listed wide =
+    item_of c.loop-j.j c.args.range.last (length c.args.moving.now.order.now)
+    c.len-items.result listed (most c.loop-j.j c.args.range.last c.loop-j-test.true)
+    c.requires.range.last c.len-items.ensures.len wide
+
+one_more_fits : (i long items : ℕ) → i < long → items ≡ long → items < 18446744073709551616
+    → i + 1 < 18446744073709551616
+one_more_fits i long items low is fits = omega arith
+
+later_high : (first i j : ℕ) → first ≤ i → i + 1 ≤ j → first ≤ j
+later_high first i j low later = omega arith
+
+pub get-item-requires : goal.get-item-requires
+get-item-requires c =
+    subst (λ (n : ℕ). c.args.i < n) c.len-items.ensures.len
+    (own_here (goal.at.get-item-requires c).After-len-items _ c.requires.moving.chain.long_backs).low
+
+pub get-whole-requires : goal.get-whole-requires
+get-whole-requires c =
+    (own_here (goal.at.get-whole-requires c).After-len-items _
+    c.requires.moving.chain.long_backs).end
+
+pub overflow_sub-items : goal.overflow_sub-items
+overflow_sub-items c =
+    (own_here (goal.at.overflow_sub-items c).After-len-items _
+    c.requires.moving.chain.long_backs).front
+
+pub get-after-requires : goal.get-after-requires
+get-after-requires c =
+    (own_here (goal.at.get-after-requires c).After-len-items _
+    c.requires.moving.chain.long_backs).own
+
+pub overflow_sub-items-2 : goal.overflow_sub-items-2
+overflow_sub-items-2 c =
+    (own_here (goal.at.overflow_sub-items-2 c).After-len-items _
+    c.requires.moving.chain.long_backs).front
+
+pub get-start-requires : goal.get-start-requires
+get-start-requires c =
+    (own_here (goal.at.get-start-requires c).After-len-items _
+    c.requires.moving.chain.long).own
+
+pub overflow_step-j : goal.overflow_step-j
+overflow_step-j c =
+    let low = own_here (goal.at.overflow_step-j c).After-len-items _
+    c.requires.moving.chain.long_backs in
+    record {
+      fits = one_more_fits c.args.i c.len-items.result c.len-items.result low.low refl
+          c.len-items.type_inv;
+    }
+
+pub overflow_add-j-end : goal.overflow_add-j-end
+overflow_add-j-end c = record {
+  fits = one_more_fits c.args.range.last (length c.args.moving.now.order.now)
+      c.len-items.result c.requires.range.last c.len-items.ensures.len c.len-items.type_inv;
+}
+
+pub get-next-requires : goal.get-next-requires
+get-next-requires c =
+    subst (λ (n : ℕ). c.loop-j.j < n) c.len-items.ensures.len
+    (next_here (goal.at.get-next-requires c).In-loop-j _ c.requires.moving.chain.long_backs).low
+
+pub get-with_item-requires : goal.get-with_item-requires
+get-with_item-requires c =
+    (next_here (goal.at.get-with_item-requires c).In-loop-j _
+    c.requires.moving.chain.long).next
+
+pub get-back-requires : goal.get-back-requires
+get-back-requires c =
+    (next_here (goal.at.get-back-requires c).In-loop-j _
+    c.requires.moving.chain.long_backs).next
+
+pub overflow_sub-items-in-loop-j : goal.overflow_sub-items-in-loop-j
+overflow_sub-items-in-loop-j c =
+    (next_here (goal.at.overflow_sub-items-in-loop-j c).In-loop-j _
+    c.requires.moving.chain.long_backs).some
+
+pub overflow_sub-items-in-loop-j-2 : goal.overflow_sub-items-in-loop-j-2
+overflow_sub-items-in-loop-j-2 c =
+    (next_here (goal.at.overflow_sub-items-in-loop-j-2 c).In-loop-j _
+    c.requires.moving.chain.long_backs).last
+
+pub overflow_sub-items-in-loop-j-3 : goal.overflow_sub-items-in-loop-j-3
+overflow_sub-items-in-loop-j-3 c =
+    (next_here (goal.at.overflow_sub-items-in-loop-j-3 c).In-loop-j _
+    c.requires.moving.chain.long_backs).some
+
+pub overflow_sub-items-in-loop-j-4 : goal.overflow_sub-items-in-loop-j-4
+overflow_sub-items-in-loop-j-4 c =
+    (next_here (goal.at.overflow_sub-items-in-loop-j-4 c).In-loop-j _
+    c.requires.moving.chain.long_backs).last
+
+pub overflow_sub-j : goal.overflow_sub-j
+overflow_sub-j c =
+    later_high c.args.range.first c.args.i c.loop-j.j c.requires.range.first
+    c.loop-j.invariant.later
+
+pub returns-clause-known : goal.returns-clause-known
+returns-clause-known c = c.loop-j.invariant.known
+
+pub returns-clause-long : goal.returns-clause-long
+returns-clause-long c = c.loop-j.invariant.long
 
 pub loop-j-init : goal.loop-j-init
 loop-j-init c =

@@ -15,12 +15,13 @@ use Rattle.order_sift.specs.inner.Classes.{AreClasses, IsNextItem, fixed_too}
 use Rattle.order_sift.specs.inner.Known.{in_set}
 use Rattle.order_sift.specs.inner.Settings.{IsRange}
 use Rattle.order_sift.proofs.ListUpdates.{set_long}
+use Rattle.order_sift.proofs.ChainPlaces.{IsItemOf, IsTurn, item_of, turn_of}
 use Rattle.order_sift.proofs.ChainSteps.{sizes_set, front_low, before_next, own_free, own_classes, steps_before, start_with, back_high}
 use Rattle.order_sift.proofs.PairKeys.{room_kept}
 use Rattle.order_sift.proofs.ItemSets.{set_before, set_with, same_level, same_too, small_items}
 use Rattle.order_sift.proofs.AllowedPlaces.{items}
 use Rattle.order_sift.proofs.MovedLevels.{back_of, same_classes, same_next, rest_long}
-use Rattle.order_sift.proofs.moves.fill_before.Goals.{After-with-set}
+use Rattle.order_sift.proofs.moves.fill_before.Goals.{After-len-items, After-with-set, In-loop-t}
 use Rattle.order_sift.proofs.moves.fill_before.Goals as goal
 
 -- the item at place j is the next before which the item at place i is put, and the sets of those
@@ -96,6 +97,103 @@ here c =
     c.first_items-before.result c.with-set.result c.get-item.result.now c.get-next.result.now
     c.loop-t.with_item c.requires.range c.loop-t-test.true c.get-item.ensures c.get-next.ensures
     c.first_items-before.ensures c.with-set.ensures c.loop-t.invariant.classes
+
+-- the item's own place, and the place of this turn
+own_here : (c : After-len-items) (listed : ℕ) → listed ≡ length c.args.moving.now.order.now + 1
+    → IsItemOf c.args.i c.len-items.result listed
+own_here c listed wide =
+    item_of c.args.i c.args.i (length c.args.moving.now.order.now) c.len-items.result listed
+    c.requires.range.i c.requires.range.last c.len-items.ensures.len wide
+
+turn_here : (c : In-loop-t) → IsTurn c.args.i c.args.first c.loop-t.t
+turn_here c = turn_of c.args.i c.args.first c.loop-t.t c.loop-t-test.true
+
+next_here : (c : In-loop-t) (listed : ℕ) → listed ≡ length c.args.moving.now.order.now + 1
+    → IsItemOf (c.args.i - 1 - c.loop-t.t) c.len-items.result listed
+next_here c listed wide =
+    item_of (c.args.i - 1 - c.loop-t.t) c.args.i (length c.args.moving.now.order.now)
+    c.len-items.result listed (turn_here c).low c.requires.range.last c.len-items.ensures.len wide
+
+pub get-item-requires : goal.get-item-requires
+get-item-requires c = c.requires.range.last
+
+pub get-whole-requires : goal.get-whole-requires
+get-whole-requires c =
+    (own_here (goal.at.get-whole-requires c).After-len-items _
+    c.requires.moving.chain.long_backs).end
+
+pub get-back-requires : goal.get-back-requires
+get-back-requires c =
+    (own_here (goal.at.get-back-requires c).After-len-items _
+    c.requires.moving.chain.long_backs).next
+
+pub get-start-requires : goal.get-start-requires
+get-start-requires c =
+    (own_here (goal.at.get-start-requires c).After-len-items _
+    c.requires.moving.chain.long).next
+
+pub overflow_sub-items : goal.overflow_sub-items
+overflow_sub-items c =
+    (own_here (goal.at.overflow_sub-items c).After-len-items _
+    c.requires.moving.chain.long_backs).some
+
+pub overflow_sub-items-2 : goal.overflow_sub-items-2
+overflow_sub-items-2 c =
+    (own_here (goal.at.overflow_sub-items-2 c).After-len-items _
+    c.requires.moving.chain.long_backs).last
+
+pub overflow_sub-items-3 : goal.overflow_sub-items-3
+overflow_sub-items-3 c =
+    (own_here (goal.at.overflow_sub-items-3 c).After-len-items _
+    c.requires.moving.chain.long_backs).some
+
+pub overflow_sub-items-4 : goal.overflow_sub-items-4
+overflow_sub-items-4 c =
+    (own_here (goal.at.overflow_sub-items-4 c).After-len-items _
+    c.requires.moving.chain.long_backs).last
+
+pub overflow_sub-t-end : goal.overflow_sub-t-end
+overflow_sub-t-end c = c.requires.range.first
+
+pub overflow_sub-j : goal.overflow_sub-j
+overflow_sub-j c = (turn_here (goal.at.overflow_sub-j c).In-loop-t).some
+
+pub overflow_sub-j-in-loop-t : goal.overflow_sub-j-in-loop-t
+overflow_sub-j-in-loop-t c = (turn_here (goal.at.overflow_sub-j-in-loop-t c).In-loop-t).early
+
+pub overflow_sub-j-in-loop-t-2 : goal.overflow_sub-j-in-loop-t-2
+overflow_sub-j-in-loop-t-2 c = (turn_here (goal.at.overflow_sub-j-in-loop-t-2 c).In-loop-t).high
+
+pub get-next-requires : goal.get-next-requires
+get-next-requires c =
+    subst (λ (n : ℕ). c.args.i - 1 - c.loop-t.t < n) c.len-items.ensures.len
+    (next_here (goal.at.get-next-requires c).In-loop-t _ c.requires.moving.chain.long_backs).low
+
+pub overflow_sub-items-in-loop-t : goal.overflow_sub-items-in-loop-t
+overflow_sub-items-in-loop-t c =
+    (next_here (goal.at.overflow_sub-items-in-loop-t c).In-loop-t _
+    c.requires.moving.chain.long_backs).front
+
+pub overflow_sub-items-in-loop-t-2 : goal.overflow_sub-items-in-loop-t-2
+overflow_sub-items-in-loop-t-2 c =
+    (next_here (goal.at.overflow_sub-items-in-loop-t-2 c).In-loop-t _
+    c.requires.moving.chain.long_backs).front
+
+pub get-without_item-requires : goal.get-without_item-requires
+get-without_item-requires c =
+    (next_here (goal.at.get-without_item-requires c).In-loop-t _
+    c.requires.moving.chain.long).own
+
+pub get-after-requires : goal.get-after-requires
+get-after-requires c =
+    (next_here (goal.at.get-after-requires c).In-loop-t _
+    c.requires.moving.chain.long_backs).own
+
+pub returns-clause-known : goal.returns-clause-known
+returns-clause-known c = c.loop-t.invariant.known
+
+pub returns-clause-long : goal.returns-clause-long
+returns-clause-long c = c.loop-t.invariant.long
 
 pub loop-t-init : goal.loop-t-init
 loop-t-init c =

@@ -15,6 +15,12 @@ use Rattle.wave_text.proofs.IsWritable.{all_writable}
 use Rattle.wave_text.proofs.MomentSteps.{changes_next, moments_next, shows, values_next, written_next}
 use Rattle.wave_text.proofs.wave.push_moments.Goals as goal
 
+pub get-entry-requires : goal.get-entry-requires
+get-entry-requires c = subst (λ (n : ℕ). c.loop-p.p < n) c.len-p-end.ensures c.loop-p-test.true
+
+pub push_moment-requires-clause-signals : goal.push_moment-requires-clause-signals
+push_moment-requires-clause-signals c = c.requires.signals
+
 pub get-requires : goal.get-requires
 get-requires c =
     let net = c.args.net.now in

@@ -1,6 +1,7 @@
-use Rattle.std.proofs.Common.{◌+◌, refl, ap, ◌∙◌, arith}
+use Rattle.std.proofs.Common.{◌+◌, List, refl, sym, subst, ap, ◌∙◌, arith}
+use Rattle.journals.specs.declared.stamped.Stamped.{Stamped}
 use Rattle.journals.specs.Logs.{clock}
-use Rattle.event_buffer.specs.Cells.{CellState}
+use Rattle.event_buffer.specs.Cells.{CellState, IsCell}
 use Rattle.event_buffer.proofs.FreezingKeepsCell.{ready_cell, moment_fits, frozen_kept, frozen_view}
 use Rattle.event_buffer.proofs.cell.Cell.freeze.Goals as goal
 
@@ -29,3 +30,16 @@ returns-in-Ok-push-clause-reacts g c =
     let ready = ready_cell _ _ _ _ _ _ _ _ _ c.self.invariant.0 c.self.view_is c.requires in
     frozen_view _ _ _ _ _ _ _ _ _ (record { place = c.len-place.result; stamp = i.time + 1 }) _ _
     ready.2 ready.0 c.self.view_is c.len-place.ensures refl c.in-Ok-push.ensures.ok
+
+pub prepare-requires-clause-exists : goal.prepare-requires-clause-exists
+prepare-requires-clause-exists g c = c.self.invariant.0.exists
+
+pub invariant_of-self : goal.invariant_of-self
+invariant_of-self g c =
+    let i = c.self.inside in (
+      subst
+          (λ (l : List Stamped).
+          IsCell i.net.now i.machine i.moment i.woken i.time i.pending l)
+          (sym c.in-Err-push.ensures.err) c.self.invariant.0,
+      c.self.invariant.1,
+    )

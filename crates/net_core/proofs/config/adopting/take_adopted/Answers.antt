@@ -1,8 +1,9 @@
-use Rattle.std.proofs.Common.{◌<◌, List, Option, length, take, sym, subst, arith}
+use Rattle.std.proofs.Common.{◌≡◌, ◌<◌, ◌≤◌, ℕ, List, Option, length, take, ◌∙◌, sym, subst, arith}
 use Rattle.journals.specs.declared.entry.Entry.{Entry}
 use Rattle.journals.proofs.EntriesAt.{fits_at}
 use Rattle.journals.proofs.StampSteps.{prefix_more}
 use Rattle.net_core.specs.Judging.{IsCauseAgainst}
+use Rattle.net_core.specs.Prefixes.{IsAdopted}
 use Rattle.net_core.specs.Tables.{AreTables}
 use Rattle.net_core.specs.declared.answer.Why.{Why}
 use Rattle.net_core.proofs.Causes.{caused_may_not_follow}
@@ -77,3 +78,66 @@ loop-i-preserved c =
           (c.in_ok-take_next-in-None.ensures prefix follows current);
       few = omega arith;
     }
+
+pub get-entry-requires : goal.get-entry-requires
+get-entry-requires c = subst (λ n. c.loop-i.i < n) c.len-i-end.ensures c.loop-i-test.true
+
+pub returns-in-Some-clause-current : goal.returns-in-Some-clause-current
+returns-in-Some-clause-current c = c.loop-i.invariant.current
+
+pub returns-then-i-limit-clause-current : goal.returns-then-i-limit-clause-current
+returns-then-i-limit-clause-current c =
+    let tables = c.loop-i.tables in
+    subst
+    (λ (k : ℕ).
+    AreTables c.args.net.now c.args.trace.now (take k c.args.j.now) tables.readers.items
+    tables.moments.items tables.woken tables.cursors tables.owed)
+    c.if-i-limit.true c.loop-i.invariant.current
+
+no_more : (i limit : ℕ) → i ≡ limit → i < limit → ⊥
+no_more i limit same below = omega arith
+
+up_to : (i end long : ℕ) → end ≡ long → i ≤ end → i ≤ long
+up_to i end long same most = omega arith
+
+pub returns-then-i-limit-clause-adopted : goal.returns-then-i-limit-clause-adopted
+returns-then-i-limit-clause-adopted c =
+    let net = c.args.net.now in
+    let trace = c.args.trace.now in
+    let j = c.args.j.now in
+    let i = c.loop-i.i in
+    let limit = c.args.limit in
+    subst (λ (k : ℕ). IsAdopted net trace j limit (take k j)) c.if-i-limit.true
+    (adopted_at c.laws.ensures.prefixes net trace j i limit
+    (up_to i c.len-i-end.result (length j) c.len-i-end.ensures c.loop-i.auto.i-end)
+    c.loop-i.invariant.few c.loop-i.invariant.current.legal
+    (λ below small h. no_more i limit c.if-i-limit.true small))
+
+at_end : (i end long : ℕ) → end ≡ long → i ≤ end → end ≤ i → i ≡ long
+at_end i end long same most least = omega arith
+
+pub returns-clause-current : goal.returns-clause-current
+returns-clause-current c =
+    let tables = c.loop-i.tables in
+    let end = at_end c.loop-i.i c.len-i-end.result _ c.len-i-end.ensures c.loop-i.auto.i-end
+    c.loop-i-test.false in
+    subst
+    (λ (k : ℕ).
+    AreTables c.args.net.now c.args.trace.now (take k c.args.j.now) tables.readers.items
+    tables.moments.items tables.woken tables.cursors tables.owed)
+    (end ∙ sym c.len.ensures) c.loop-i.invariant.current
+
+pub returns-clause-adopted : goal.returns-clause-adopted
+returns-clause-adopted c =
+    let net = c.args.net.now in
+    let trace = c.args.trace.now in
+    let j = c.args.j.now in
+    let i = c.loop-i.i in
+    let limit = c.args.limit in
+    let end = at_end i c.len-i-end.result (length j) c.len-i-end.ensures c.loop-i.auto.i-end
+    c.loop-i-test.false in
+    subst (λ (k : ℕ). IsAdopted net trace j limit (take k j)) (end ∙ sym c.len.ensures)
+    (adopted_at c.laws.ensures.prefixes net trace j i limit
+    (up_to i c.len-i-end.result (length j) c.len-i-end.ensures c.loop-i.auto.i-end)
+    c.loop-i.invariant.few c.loop-i.invariant.current.legal
+    (λ below small h. no_more i (length j) end below))

@@ -1,7 +1,78 @@
-use Rattle.std.proofs.Common.{◌≡◌, ◌∙◌, ◌<◌, [], ℕ, List, length, get_or, sym, subst}
+use Rattle.std.proofs.Common.{◌≡◌, ◌∙◌, ◌<◌, [], ◌∷◌, ◌++◌, ℕ, List, length, take, get_or, refl, sym, ap, subst, arith, length-append}
 use Rattle.outcome_table.specs.Known.{AreKnown}
 use Rattle.outcome_table.proofs.AreKnown.{known_before, known_last}
 use Rattle.outcome_table.proofs.outcomes.Outcomes.add.Goals as goal
+
+pub row_key-requires-clause-row : goal.row_key-requires-clause-row
+row_key-requires-clause-row c = c.requires.row
+
+pub row_key-requires-clause-snapshot : goal.row_key-requires-clause-snapshot
+row_key-requires-clause-snapshot c = c.requires.snapshot
+
+pub row_codes-requires-clause-row : goal.row_codes-requires-clause-row
+row_codes-requires-clause-row c = c.requires.row
+
+pub row_codes-requires-clause-snapshot : goal.row_codes-requires-clause-snapshot
+row_codes-requires-clause-snapshot c = c.requires.snapshot
+
+pub invariant_of-self : goal.invariant_of-self
+invariant_of-self c = c.self.invariant
+
+pub invariant_of-self-in-Some : goal.invariant_of-self-in-Some
+invariant_of-self-in-Some c = c.self.invariant
+
+pub invariant_of-self-in_err-key : goal.invariant_of-self-in_err-key
+invariant_of-self-in_err-key c = c.self.invariant
+
+pub invariant_of-self-in_err-row_codes : goal.invariant_of-self-in_err-row_codes
+invariant_of-self-in_err-row_codes c = c.self.invariant
+
+take_own : (xs ys : List (List ℕ)) → take (length xs) (xs ++ ys) ≡ xs
+take_own [] ys = refl
+take_own (x ∷ xs) ys = ap (λ (l : List (List ℕ)). x ∷ l) (take_own xs ys)
+
+take_all : (xs : List (List ℕ)) → take (length xs) xs ≡ xs
+take_all [] = refl
+take_all (x ∷ xs) = ap (λ (l : List (List ℕ)). x ∷ l) (take_all xs)
+
+at_end : (xs : List (List ℕ)) (x : List ℕ) → get_or (xs ++ x ∷ []) (length xs) [] ≡ x
+at_end [] x = refl
+at_end (y ∷ xs) x = at_end xs x
+
+end_low : (xs new : List (List ℕ)) (x : List ℕ) (k : ℕ) → new ≡ xs ++ x ∷ [] → k ≡ length xs
+    → k < length new
+end_low xs new x k made is =
+    let long = ap (λ (l : List (List ℕ)). length l) made ∙ length-append xs (x ∷ []) in
+    omega arith
+
+pub returns-in-Some-clause-kept : goal.returns-in-Some-clause-kept
+returns-in-Some-clause-kept c =
+    subst (λ (xs : List (List ℕ)). take (length xs) c.self.inside.list ≡ xs) c.self.view_is
+    (take_all c.self.inside.list)
+
+pub returns-in-Some-clause-is : goal.returns-in-Some-clause-is
+returns-in-Some-clause-is c =
+    (c.self.invariant c.deref.result.now c.in-Some.number (sym c.find.ensures ∙ c.in-Some.is)).1
+    ∙ c.deref.ensures.value ∙ c.in_ok-row_key.ensures
+
+pub returns-clause-kept : goal.returns-clause-kept
+returns-clause-kept c =
+    subst (λ (xs : List (List ℕ)). take (length xs) c.push.new.self ≡ xs) c.self.view_is
+    (ap (λ (xs : List (List ℕ)). take (length c.self.inside.list) xs) c.in_ok-push.ensures.ok
+    ∙ take_own c.self.inside.list (c.in_ok-row_codes.field-0 ∷ []))
+
+pub returns-clause-low : goal.returns-clause-low
+returns-clause-low c =
+    end_low c.self.inside.list c.push.new.self c.in_ok-row_codes.field-0 c.len-number.result
+    c.in_ok-push.ensures.ok c.len-number.ensures
+
+pub returns-clause-is : goal.returns-clause-is
+returns-clause-is c =
+    let list = c.self.inside.list in
+    let codes = c.in_ok-row_codes.field-0 in
+    ap (λ (xs : List (List ℕ)). get_or xs c.len-number.result []) c.in_ok-push.ensures.ok
+    ∙ ap (λ (k : ℕ). get_or (list ++ codes ∷ []) k []) c.len-number.ensures
+    ∙ at_end list codes ∙ c.in_ok-row_codes.ensures
 
 pub returns-in-Some-clause-low : goal.returns-in-Some-clause-low
 returns-in-Some-clause-low c =

@@ -81,3 +81,9 @@ returns-else-is_right c = λ journal current.
     a.is_right r.is
     (sym (c.is_set.ensures ∙ current.woken_are r.machine below) ∙ c.if-not-is_set.false)
     (same ∙ moment) c.requires.right c.if-is_right.false
+
+pub against_delivery-requires-clause-fits : goal.against_delivery-requires-clause-fits
+against_delivery-requires-clause-fits c = c.requires.fits
+
+pub against_delivery-requires-clause-current : goal.against_delivery-requires-clause-current
+against_delivery-requires-clause-current c = c.requires.current

@@ -13,13 +13,13 @@ use Rattle.polis_words.specs.Shuffle.{ShuffleWords, AsksShuffle}
 use Rattle.polis_words.specs.Texts.{drawn_text}
 use Rattle.polis_words.proofs.OneRequest.{one_request}
 use Rattle.output_files.specs.declared.product.Product.{Product}
-use Rattle.polis_cli.specs.declared.run_result.RunResult.{RunResult}
+use Rattle.commands.specs.declared.run_result.RunResult.{RunResult}
 use Rattle.polis_cli.specs.Commands.{meaning}
 use Rattle.output_files.specs.Ends.{end_status}
 use Rattle.polis_cli.specs.Headline.{Headline, DrawnHeadline, RunsGiveHeadline, DrawsGiveHeadline, OfTexts, SavesJournal, IsHeld, IsSaved, SavesListing, Ends, CountsNoFault}
 use Rattle.polis_cli.specs.Promise.{Outside}
-use Rattle.polis_cli.specs.Run.{IsWithin, MakesRun, RunsTasks, Tasks, Compiled, Given, end_of, run_product, run_text, saved_journal}
-use Rattle.polis_cli.specs.Shuffle.{MakesShuffle, shuffle_product}
+use Rattle.commands.specs.Run.{IsWithin, MakesRun, RunsTasks, Tasks, Compiled, Given, end_of, run_product, run_text, saved_journal}
+use Rattle.commands.specs.Shuffle.{MakesShuffle, shuffle_product}
 use Rattle.output_files.specs.Saves.{AreHeld, IsOther}
 use Rattle.polis_cli.specs.Top.{MadeAndWritten}
 use Rattle.polis_base.proofs.WhereTold.{changes_some, changes_from}

@@ -15,7 +15,7 @@ use Rattle.journals.specs.Worked.{IsRun}
 use Rattle.polis_words.specs.declared.status.Status.TheVariants.{Done}
 use Rattle.polis_words.specs.declared.requests.Request.TheVariants.{Run}
 use Rattle.output_files.specs.declared.product.Product.{Product}
-use Rattle.polis_cli.specs.declared.run_result.RunResult.{RunResult}
+use Rattle.commands.specs.declared.run_result.RunResult.{RunResult}
 use Rattle.net_reader.specs.Samples.{lamp_text}
 use Rattle.task_code.specs.Listings.{Part, ListingText}
 use Rattle.machine_compiler.specs.Parts.{AreRightParts}
@@ -23,7 +23,7 @@ use Rattle.polis_cli.specs.Samples.{press_text, lamp_journal}
 use Rattle.output_files.specs.Saves.{AreHeld}
 use Rattle.polis_cli.specs.LampRun.{lamp_words, lamp_asked, files_before, files_after, lamp_shown}
 use Rattle.polis_words.specs.RunOptions.{unsaid}
-use Rattle.polis_cli.specs.Run.{MakesRun, Compiled, run_product}
+use Rattle.commands.specs.Run.{MakesRun, Compiled, run_product}
 use Rattle.polis_cli.specs.Top.{MadeAndWritten}
 use Rattle.net_rules.specs.NetOf.{NetOf}
 

@@ -7,24 +7,24 @@ use Rattle.polis_words.specs.Workers.{NeedsWorkers, workers_of}
 use Rattle.polis_words.proofs.AskOptions.{asked_within}
 use Rattle.input_files.specs.declared.load.Detail.TheVariants as details
 use Rattle.polis_cli.specs.Commands.{meaning}
-use Rattle.polis_cli.specs.inner.Lawful.{IsLawful}
-use Rattle.polis_cli.proofs.RunMeaning.{run_lawful}
-use Rattle.polis_cli.proofs.CheckMeaning.{check_lawful}
-use Rattle.polis_cli.proofs.CompileMeaning.{compile_lawful}
-use Rattle.polis_cli.proofs.ReplayMeaning.{replay_lawful}
-use Rattle.polis_cli.proofs.MigrateMeaning.{migrate_lawful}
-use Rattle.polis_cli.proofs.DemoMeaning.{demo_lawful}
-use Rattle.polis_cli.proofs.BoundMeaning.{bound_lawful}
-use Rattle.polis_cli.proofs.ImageMeaning.{image_lawful}
-use Rattle.polis_cli.proofs.EquivMeaning.{equiv_lawful}
-use Rattle.polis_cli.proofs.LossesMeaning.{losses_lawful}
-use Rattle.polis_cli.proofs.WaveMeaning.{wave_lawful}
-use Rattle.polis_cli.proofs.DrawMeaning.{draw_lawful}
-use Rattle.polis_cli.proofs.ExplainMeaning.{explain_lawful}
-use Rattle.polis_cli.proofs.CoverMeaning.{cover_lawful}
-use Rattle.polis_cli.proofs.LintMeaning.{lint_lawful}
-use Rattle.polis_cli.proofs.ShuffleMeaning.{shuffle_lawful}
-use Rattle.polis_cli.proofs.WatchMeaning.{watch_lawful}
+use Rattle.commands.specs.inner.Lawful.{IsLawful}
+use Rattle.commands.proofs.RunMeaning.{run_lawful}
+use Rattle.commands.proofs.CheckMeaning.{check_lawful}
+use Rattle.commands.proofs.CompileMeaning.{compile_lawful}
+use Rattle.commands.proofs.ReplayMeaning.{replay_lawful}
+use Rattle.commands.proofs.MigrateMeaning.{migrate_lawful}
+use Rattle.commands.proofs.DemoMeaning.{demo_lawful}
+use Rattle.commands.proofs.BoundMeaning.{bound_lawful}
+use Rattle.commands.proofs.ImageMeaning.{image_lawful}
+use Rattle.commands.proofs.EquivMeaning.{equiv_lawful}
+use Rattle.commands.proofs.LossesMeaning.{losses_lawful}
+use Rattle.commands.proofs.WaveMeaning.{wave_lawful}
+use Rattle.commands.proofs.DrawMeaning.{draw_lawful}
+use Rattle.commands.proofs.ExplainMeaning.{explain_lawful}
+use Rattle.commands.proofs.CoverMeaning.{cover_lawful}
+use Rattle.commands.proofs.LintMeaning.{lint_lawful}
+use Rattle.commands.proofs.ShuffleMeaning.{shuffle_lawful}
+use Rattle.commands.proofs.WatchMeaning.{watch_lawful}
 use Rattle.polis_cli.proofs.SurveyMeaning.{survey_lawful}
 
 pub lawful : (request : Request) → IsLawful (meaning request)

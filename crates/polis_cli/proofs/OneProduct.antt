@@ -24,14 +24,15 @@ use Rattle.polis_words.specs.Run.{RunWords}
 use Rattle.output_files.specs.declared.product.Product.{Product}
 use Rattle.task_image.specs.Fields.{ImageBytes}
 use Rattle.input_files.specs.Inputs.{HoldsNet}
-use Rattle.polis_cli.specs.declared.run_result.RunResult.{RunResult}
-use Rattle.polis_cli.specs.Bound.{AreRanges, IsRange, MakesBound, bound_product}
-use Rattle.polis_cli.specs.Compile.{MakesCompile, compile_product}
-use Rattle.polis_cli.specs.Draw.{MakesDraw, draw_product}
-use Rattle.polis_cli.specs.Image.{MakesImage, image_of_parts, image_product}
-use Rattle.polis_cli.specs.Run.{RunsTasks, Tasks, Compiled, Given, run_product}
-use Rattle.polis_cli.specs.OneProduct.{HoldSame, OfOneText, NetTextsDetermine, JournalsDetermineRun}
-use Rattle.polis_cli.proofs.OneNet.{one_held_net}
+use Rattle.commands.specs.declared.run_result.RunResult.{RunResult}
+use Rattle.commands.specs.Bound.{AreRanges, IsRange, MakesBound, bound_product}
+use Rattle.commands.specs.Compile.{MakesCompile, compile_product}
+use Rattle.commands.specs.Draw.{MakesDraw, draw_product}
+use Rattle.commands.specs.Image.{MakesImage, image_of_parts, image_product}
+use Rattle.commands.specs.Run.{RunsTasks, Tasks, Compiled, Given, run_product}
+use Rattle.commands.specs.OneText.{HoldSame}
+use Rattle.polis_cli.specs.OneProduct.{OfOneText, NetTextsDetermine, JournalsDetermineRun}
+use Rattle.commands.proofs.OneNet.{one_held_net}
 
 -- ---- what is of right parts
 -- two networks with their right parts that one text gives are one

@@ -16,10 +16,11 @@ use Rattle.run_survey.specs.declared.told.Survey.{Survey}
 use Rattle.polis_words.specs.Survey.{SurveyWords}
 use Rattle.output_files.specs.Products.{shows_and_ends}
 use Rattle.input_files.specs.Inputs.{HoldsTrace}
-use Rattle.polis_cli.specs.OneProduct.{HoldSame, HoldSameIfNamed, TextsDetermineSurvey}
-use Rattle.polis_cli.specs.Shuffle.{order_of}
+use Rattle.commands.specs.OneText.{HoldSame}
+use Rattle.polis_cli.specs.OneProduct.{HoldSameIfNamed, TextsDetermineSurvey}
+use Rattle.commands.specs.Shuffle.{order_of}
 use Rattle.polis_cli.specs.Survey.{HoldsMonitorOf, IsSurveyed, end_surveyed, survey_product}
-use Rattle.polis_cli.proofs.OneNet.{one_held_net}
+use Rattle.commands.proofs.OneNet.{one_held_net}
 
 -- ---- what is held
 same_ok : (r : Result (List TraceItem) TraceFault) (a b : List TraceItem) → r ≡ Ok a → r ≡ Ok b

@@ -11,9 +11,10 @@ use Rattle.journal_text.specs.declared.fault.JournalFault.{JournalFault}
 use Rattle.run_watch.specs.Laws.{OneAnswer}
 use Rattle.run_watch.specs.Watches.{IsAnswer}
 use Rattle.input_files.specs.JournalFiles.{HoldsJournal, LegalAndRising}
-use Rattle.polis_cli.specs.OneProduct.{HoldSame, TextsDetermineWatch}
-use Rattle.polis_cli.specs.Watch.{watch_product}
-use Rattle.polis_cli.proofs.OneNet.{one_held_net}
+use Rattle.commands.specs.OneText.{HoldSame}
+use Rattle.polis_cli.specs.OneProduct.{TextsDetermineWatch}
+use Rattle.commands.specs.Watch.{watch_product}
+use Rattle.commands.proofs.OneNet.{one_held_net}
 
 -- the journal that was read
 abbrev journal_in : Result (List Entry × Option (List ℕ) × Bool) JournalFault → List Entry

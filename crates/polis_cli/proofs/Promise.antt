@@ -18,7 +18,7 @@ use Rattle.output_files.specs.declared.product.End.TheVariants as ends
 use Rattle.output_files.specs.declared.product.Product.{Product}
 use Rattle.polis_cli.specs.Commands.{meaning}
 use Rattle.output_files.specs.Ends.{end_status, is_end}
-use Rattle.polis_cli.specs.Meanings.{Meaning, MayEnd}
+use Rattle.commands.specs.Meanings.{Meaning, MayEnd}
 use Rattle.input_files.specs.Failures.{is_finding}
 use Rattle.output_files.specs.Saves.{AreHeld, MadeSome, files_after}
 use Rattle.output_files.specs.Shown.{ShowsPrefix}
@@ -27,8 +27,8 @@ use Rattle.polis_cli.specs.Promise.{told, WriteFailed, IsCut, Answers, Leaves}
 use Rattle.polis_cli.specs.inner.Left.{LeftByEnding}
 use Rattle.output_files.specs.Written.{LeftByText, LeftByWriting, ShowsFailure, Writes, FailsWith, no_memory_line}
 use Rattle.input_files.specs.Loads.{LeftByLoads, fails_unread, is_read_fault, is_unread}
-use Rattle.polis_cli.specs.inner.Made.{FailsAs, IsMade, IsMadeProduct, IsMadeFailure}
-use Rattle.polis_cli.proofs.IsMade.{fails_as, failure_ends, cases_of, refuses, finds_it}
+use Rattle.commands.specs.Made.{FailsAs, IsMade, IsMadeProduct, IsMadeFailure}
+use Rattle.commands.proofs.IsMade.{fails_as, failure_ends, cases_of, refuses, finds_it}
 use Rattle.polis_cli.proofs.Meaning.{lawful}
 use Rattle.output_files.proofs.Saves.{held_other, all_held}
 use Rattle.polis_base.proofs.WhereTold.{told_from, told_always, changes_from, changes_where, changes_same}

@@ -9,10 +9,10 @@ use Rattle.journal_text.specs.Laws.{OneStampedJournal, Prints}
 use Rattle.polis_base.specs.Host.{Files}
 use Rattle.polis_words.specs.Run.{RunWords}
 use Rattle.output_files.specs.declared.product.Product.{Product}
-use Rattle.polis_cli.specs.Run.{MakesRun, SavesDetermineRun, RunsTasks, journal_of}
+use Rattle.commands.specs.Run.{MakesRun, SavesDetermineRun, RunsTasks, journal_of}
 use Rattle.output_files.specs.Saves.{Save}
-use Rattle.polis_cli.proofs.Accepted.{names_hold_accepted}
-use Rattle.polis_cli.proofs.IsJudged.{rising_stamps}
+use Rattle.commands.proofs.Accepted.{names_hold_accepted}
+use Rattle.commands.proofs.IsJudged.{rising_stamps}
 use Rattle.polis_cli.proofs.OneProduct.{one_tasks}
 
 -- the text of the second save

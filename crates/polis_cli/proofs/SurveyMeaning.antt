@@ -28,15 +28,15 @@ use Rattle.input_files.specs.Inputs.{HoldsNet, HoldsTrace}
 use Rattle.input_files.proofs.InputsFail.{inputs_refused, inputs_unfound}
 use Rattle.polis_base.proofs.WhereTold.{told_both, told_from}
 use Rattle.polis_cli.specs.declared.survey_inputs.SurveyInputs.{SurveyInputs}
-use Rattle.polis_cli.specs.Monitors.{HoldsMonitor, MonitorFails}
-use Rattle.polis_cli.specs.Shuffle.{order_of}
+use Rattle.commands.specs.Monitors.{HoldsMonitor, MonitorFails}
+use Rattle.commands.specs.Shuffle.{order_of}
 use Rattle.polis_cli.specs.Survey.{AcceptsSurvey, FailsSurvey, HoldsMonitorOf, HoldsSurvey, IsSurveyed, end_surveyed, ends_surveyed, survey_meaning, survey_product}
-use Rattle.polis_cli.specs.inner.Lawful.{IsLawful}
-use Rattle.polis_cli.specs.inner.Made.{IsMadeProduct}
+use Rattle.commands.specs.inner.Lawful.{IsLawful}
+use Rattle.commands.specs.Made.{IsMadeProduct}
 use Rattle.polis_cli.specs.inner.Survey.{FailsMonitorOf, IsLoadedSurvey, IsSurveyProduct}
-use Rattle.polis_cli.proofs.IsMade.{product_made}
-use Rattle.polis_cli.proofs.MonitorFails.{monitor_refused, monitor_unfound}
-use Rattle.polis_cli.proofs.OneNet.{one_held_net}
+use Rattle.commands.proofs.IsMade.{product_made}
+use Rattle.commands.proofs.MonitorFails.{monitor_refused, monitor_unfound}
+use Rattle.commands.proofs.OneNet.{one_held_net}
 
 -- ---- where a file fails
 -- the monitor that is named is held

@@ -2,24 +2,24 @@
 use Rattle.polis_words.specs.declared.requests.Request.{Request}
 use Rattle.polis_words.specs.declared.requests.Request.TheVariants.{Run, Check, Compile, Replay, Migrate, Demo, Bound, Image, Equiv, Losses, Wave, Draw, Explain, Cover, Lint, Shuffle, Watch, Survey}
 use Rattle.input_files.specs.declared.load.Detail.TheVariants as details
-use Rattle.polis_cli.specs.Meanings.{Meaning}
-use Rattle.polis_cli.specs.Run.{run_meaning}
-use Rattle.polis_cli.specs.Check.{check_meaning}
-use Rattle.polis_cli.specs.Compile.{compile_meaning}
-use Rattle.polis_cli.specs.Replay.{replay_meaning}
-use Rattle.polis_cli.specs.Migrate.{migrate_meaning}
-use Rattle.polis_cli.specs.Demo.{demo_meaning}
-use Rattle.polis_cli.specs.Bound.{bound_meaning}
-use Rattle.polis_cli.specs.Image.{image_meaning}
-use Rattle.polis_cli.specs.Equiv.{equiv_meaning}
-use Rattle.polis_cli.specs.Losses.{losses_meaning}
-use Rattle.polis_cli.specs.Wave.{wave_meaning}
-use Rattle.polis_cli.specs.Draw.{draw_meaning}
-use Rattle.polis_cli.specs.Explain.{explain_meaning}
-use Rattle.polis_cli.specs.Cover.{cover_meaning}
-use Rattle.polis_cli.specs.Lint.{lint_meaning}
-use Rattle.polis_cli.specs.Shuffle.{shuffle_meaning}
-use Rattle.polis_cli.specs.Watch.{watch_meaning}
+use Rattle.commands.specs.Meanings.{Meaning}
+use Rattle.commands.specs.Run.{run_meaning}
+use Rattle.commands.specs.Check.{check_meaning}
+use Rattle.commands.specs.Compile.{compile_meaning}
+use Rattle.commands.specs.Replay.{replay_meaning}
+use Rattle.commands.specs.Migrate.{migrate_meaning}
+use Rattle.commands.specs.Demo.{demo_meaning}
+use Rattle.commands.specs.Bound.{bound_meaning}
+use Rattle.commands.specs.Image.{image_meaning}
+use Rattle.commands.specs.Equiv.{equiv_meaning}
+use Rattle.commands.specs.Losses.{losses_meaning}
+use Rattle.commands.specs.Wave.{wave_meaning}
+use Rattle.commands.specs.Draw.{draw_meaning}
+use Rattle.commands.specs.Explain.{explain_meaning}
+use Rattle.commands.specs.Cover.{cover_meaning}
+use Rattle.commands.specs.Lint.{lint_meaning}
+use Rattle.commands.specs.Shuffle.{shuffle_meaning}
+use Rattle.commands.specs.Watch.{watch_meaning}
 use Rattle.polis_cli.specs.Survey.{survey_meaning}
 
 abbrev pub meaning : Request → Meaning

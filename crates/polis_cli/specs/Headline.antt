@@ -16,11 +16,11 @@ use Rattle.polis_words.specs.Shuffle as drawn
 use Rattle.polis_words.specs.Shuffle.{ShuffleWords, AsksShuffle}
 use Rattle.polis_words.specs.Texts.{drawn_text}
 use Rattle.run_shuffle.specs.Shuffles.{IsShuffled}
-use Rattle.polis_cli.specs.declared.run_result.RunResult.{RunResult}
+use Rattle.commands.specs.declared.run_result.RunResult.{RunResult}
 use Rattle.input_files.specs.Accepted.{Accepted}
 use Rattle.output_files.specs.Ends.{is_end}
-use Rattle.polis_cli.specs.Run.{BeginsAt, Tasks, Compiled, Given, RunsTasks, run_text, saved_journal}
-use Rattle.polis_cli.specs.Shuffle.{order_of}
+use Rattle.commands.specs.Run.{BeginsAt, Tasks, Compiled, Given, RunsTasks, run_text, saved_journal}
+use Rattle.commands.specs.Shuffle.{order_of}
 use Rattle.polis_cli.specs.Promise.{Outside, Answers}
 
 -- the text is held under the name

@@ -1,23 +1,20 @@
 -- What is made of the same texts is one product.
 use Rattle.std.specs.Prelude.{◌≡◌, List, Option, Some, None, ℕ, ⊤}
-use Rattle.polis_base.specs.Host.{Files, bytes_at}
+use Rattle.polis_base.specs.Host.{Files}
 use Rattle.polis_words.specs.Bound.{BoundWords}
 use Rattle.polis_words.specs.NetStem.{NetStemWords}
 use Rattle.polis_words.specs.Run.{RunWords}
 use Rattle.polis_words.specs.Survey.{SurveyWords}
 use Rattle.polis_words.specs.Watch.{WatchWords}
 use Rattle.output_files.specs.declared.product.Product.{Product}
-use Rattle.polis_cli.specs.Bound.{MakesBound}
-use Rattle.polis_cli.specs.Compile.{MakesCompile}
-use Rattle.polis_cli.specs.Draw.{MakesDraw}
-use Rattle.polis_cli.specs.Image.{MakesImage}
-use Rattle.polis_cli.specs.Run.{MakesRun}
+use Rattle.commands.specs.OneText.{HoldSame}
+use Rattle.commands.specs.Bound.{MakesBound}
+use Rattle.commands.specs.Compile.{MakesCompile}
+use Rattle.commands.specs.Draw.{MakesDraw}
+use Rattle.commands.specs.Image.{MakesImage}
+use Rattle.commands.specs.Run.{MakesRun}
 use Rattle.polis_cli.specs.Survey.{MakesSurvey}
-use Rattle.polis_cli.specs.Watch.{MakesWatch}
-
--- both files hold the same under the name
-abbrev pub HoldSame : List ℕ → Files → Files → Type 0
-HoldSame name before now = bytes_at before name ≡ bytes_at now name
+use Rattle.commands.specs.Watch.{MakesWatch}
 
 -- the product is a function of the text of this name
 abbrev pub OfOneText : List ℕ → (Files → Product → Type 0) → Type 0

@@ -6,7 +6,7 @@ use Rattle.polis_words.specs.declared.requests.Request.{Request}
 use Rattle.polis_words.specs.declared.status.Status.{Status}
 use Rattle.polis_words.specs.declared.status.Status.TheVariants.{Usage, ReadFault, Refused, WriteFault, NoMemory}
 use Rattle.polis_words.specs.Requests.{Asks, AsksNothing}
-use Rattle.polis_cli.specs.Meanings.{Meaning, MayEnd}
+use Rattle.commands.specs.Meanings.{Meaning, MayEnd}
 use Rattle.input_files.specs.Failures.{is_finding}
 use Rattle.polis_cli.specs.Commands.{meaning}
 use Rattle.output_files.specs.Ends.{is_end}

@@ -20,9 +20,9 @@ use Rattle.output_files.specs.declared.product.Product.{Product}
 use Rattle.output_files.specs.Products.{shows_and_ends}
 use Rattle.input_files.specs.Failures.{explains_nothing}
 use Rattle.input_files.specs.Inputs.{HoldsNet, HoldsTrace, InputsFail}
-use Rattle.polis_cli.specs.Meanings.{Meaning, finds_nothing, ends_done}
-use Rattle.polis_cli.specs.Monitors.{HoldsMonitor, MonitorFails}
-use Rattle.polis_cli.specs.Shuffle.{order_of}
+use Rattle.commands.specs.Meanings.{Meaning, finds_nothing, ends_done}
+use Rattle.commands.specs.Monitors.{HoldsMonitor, MonitorFails}
+use Rattle.commands.specs.Shuffle.{order_of}
 
 -- the monitor that is named, where one is, is held
 abbrev pub HoldsMonitorOf : Option (List ℕ) → Files → Network → Option Network → Type 0

@@ -1,7 +1,7 @@
 // What follows from what a call promises.
 ghost use Rattle.polis_cli.specs.Headline.{DrawsGiveHeadline, RunsGiveHeadline};
 ghost use Rattle.polis_cli.specs.OneProduct.{JournalsDetermineRun, NetTextsDetermine, TextsDetermineSurvey, TextsDetermineWatch};
-ghost use Rattle.polis_cli.specs.Run.{AloneIsScheduled, SavesDetermineRun};
+ghost use Rattle.commands.specs.Run.{AloneIsScheduled, SavesDetermineRun};
 
 /// A run that ends with Done or Limit gives the headline, and a drawn one its own; what one worker
 /// runs is the scheduler's journal, and the texts that a run saves determine its journal, with its

@@ -1,37 +1,12 @@
 // The program: its command line, its files and its one call that does the work.
 #![tactic(auto)]
 
-mod bound;
-mod check;
-mod compile;
-mod cover;
-mod demo;
-mod draw;
-mod equiv;
-mod explain;
-mod image;
-mod image_file;
 mod law;
-mod lint;
-mod losses;
-mod migrate;
-mod monitor_file;
-mod ranges;
-mod replay;
-mod run;
-mod run_inputs;
-mod run_result;
-mod shuffle;
-mod stamp;
 mod survey;
 mod survey_inputs;
-mod tasks;
 #[cfg(test)]
 mod tests;
-mod texts;
 mod top;
-mod watch;
-mod wave;
 mod worked;
 
 use crate::top::polis;

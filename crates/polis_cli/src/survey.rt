@@ -4,11 +4,11 @@ ghost use Rattle.run_survey.specs.Runs.{IsShapedBy};
 ghost use Rattle.run_survey.specs.SurveyLines.{survey_lines};
 ghost use Rattle.input_files.specs.Loads.{LeftByLoads, fails_unread};
 ghost use Rattle.polis_cli.specs.Survey.{end_surveyed, survey_meaning, survey_product};
-ghost use Rattle.polis_cli.specs.inner.Made.{IsMade};
+ghost use Rattle.commands.specs.Made.{IsMade};
 ghost use Rattle.polis_cli.specs.inner.Survey.{IsLoadedSurvey, IsSurveyProduct, IsWatchedBy};
 
-use crate::shuffle::order_of;
 use crate::survey_inputs::{SurveyInputs, load_survey};
+use commands::order_of;
 use output_files::{End, Product};
 use polis_base::{Bytes, Host, NoMemory};
 use polis_words::{Failure, Survey};

@@ -6,7 +6,7 @@ ghost use Rattle.input_files.specs.Loads.{LeftByLoads, fails_unread};
 ghost use Rattle.polis_cli.specs.Survey.{FailsSurvey, HoldsMonitorOf, HoldsSurvey};
 ghost use Rattle.polis_cli.specs.inner.Survey.{FailsMonitorOf, IsLoadedSurvey, IsSureMonitor};
 
-use crate::monitor_file::load_monitor;
+use commands::load_monitor;
 use input_files::{Detail, Inputs, load_inputs};
 use polis_base::Host;
 use polis_words::{Failure, Survey};

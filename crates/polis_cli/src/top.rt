@@ -5,26 +5,14 @@ ghost use Rattle.polis_cli.specs.Commands.{meaning};
 ghost use Rattle.polis_cli.specs.Promise.{Answers, Leaves, told};
 ghost use Rattle.polis_cli.specs.inner.Left.{LeftByEnding};
 ghost use Rattle.input_files.specs.Loads.{LeftByLoads, fails_unread};
-ghost use Rattle.polis_cli.specs.inner.Made.{IsMade};
+ghost use Rattle.commands.specs.Made.{IsMade};
 
-use crate::bound::make_bound;
-use crate::check::make_check;
-use crate::compile::make_compile;
-use crate::cover::make_cover;
-use crate::demo::make_demo;
-use crate::draw::make_draw;
-use crate::equiv::make_equiv;
-use crate::explain::make_explain;
-use crate::image::make_image;
-use crate::lint::make_lint;
-use crate::losses::make_losses;
-use crate::migrate::make_migrate;
-use crate::replay::make_replay;
-use crate::run::{make_run, make_run_by};
-use crate::shuffle::make_shuffle;
 use crate::survey::{make_survey, make_survey_by};
-use crate::watch::make_watch;
-use crate::wave::make_wave;
+use commands::{
+    make_bound, make_check, make_compile, make_cover, make_demo, make_draw, make_equiv,
+    make_explain, make_image, make_lint, make_losses, make_migrate, make_replay, make_run,
+    make_run_by, make_shuffle, make_watch, make_wave,
+};
 use event_buffer::Gate;
 use input_files::Detail;
 use output_files::{Product, fail, show_lines, write_product};

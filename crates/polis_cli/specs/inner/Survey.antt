@@ -11,7 +11,7 @@ use Rattle.polis_words.specs.declared.cause.Cause.{Cause}
 use Rattle.polis_words.specs.Survey.{SurveyWords}
 use Rattle.output_files.specs.declared.product.Product.{Product}
 use Rattle.polis_cli.specs.declared.survey_inputs.SurveyInputs.{SurveyInputs}
-use Rattle.polis_cli.specs.Monitors.{MonitorFails}
+use Rattle.commands.specs.Monitors.{MonitorFails}
 use Rattle.polis_cli.specs.Survey.{IsSurveyed, survey_product}
 
 -- the monitor that is named so fails

@@ -3,9 +3,9 @@ ghost use Rattle.std.specs.Prelude.{IfOk};
 ghost use Rattle.journals.specs.Journals.{IsTrace};
 ghost use Rattle.transition_table.specs.Transitions.{AreDeterministic, HasWidths, IsSnapshot, OfMachine, Transition};
 
-use crate::run_result::run_alone;
 use crate::tests::gates::{Meeting, Outside};
 use crate::tests::runner::shared;
+use commands::run_alone;
 use input_files::{Detail, Inputs, load_inputs};
 use polis_base::{MemoryHost, NoMemory};
 use sample_networks::texts::{LOOP, LOOP_TRACE, TWO_TRACE};

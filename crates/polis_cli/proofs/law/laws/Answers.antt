@@ -1,5 +1,5 @@
 use Rattle.polis_cli.proofs.Headline.{draws_give_headline, runs_give_headline}
-use Rattle.polis_cli.proofs.IsRan.{alone_is_scheduled}
+use Rattle.commands.proofs.IsRan.{alone_is_scheduled}
 use Rattle.polis_cli.proofs.OneProduct.{journals_determine_run, net_texts_determine}
 use Rattle.polis_cli.proofs.OneSurvey.{texts_determine_survey}
 use Rattle.polis_cli.proofs.OneWatch.{texts_determine_watch}

@@ -1,6 +1,6 @@
 use Rattle.std.proofs.Common.{refl}
 use Rattle.polis_cli.specs.Survey.{FailsSurvey, survey_meaning}
-use Rattle.polis_cli.proofs.IsMade.{files_failure}
+use Rattle.commands.proofs.IsMade.{files_failure}
 use Rattle.polis_cli.proofs.SurveyMeaning.{survey_made}
 use Rattle.polis_cli.proofs.survey.make_survey.Goals as goal
 

@@ -2,7 +2,7 @@ use Rattle.std.proofs.Common.{ap, ◌∙◌}
 use Rattle.run_survey.specs.SurveyLines.{survey_lines}
 use Rattle.run_survey.specs.Watching.{ending_of}
 use Rattle.polis_cli.specs.Survey.{end_surveyed}
-use Rattle.polis_cli.proofs.IsMade.{product_ends}
+use Rattle.commands.proofs.IsMade.{product_ends}
 use Rattle.polis_cli.proofs.survey.product_of.Goals as goal
 
 pub returns : goal.returns

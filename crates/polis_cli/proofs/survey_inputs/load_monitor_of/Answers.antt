@@ -1,7 +1,7 @@
 use Rattle.std.proofs.Common.{ap, sym}
 use Rattle.std.specs.Prelude.{is_some}
-use Rattle.polis_cli.specs.Monitors.{MonitorFails}
-use Rattle.polis_cli.proofs.IsMade.{named_fails}
+use Rattle.commands.specs.Monitors.{MonitorFails}
+use Rattle.commands.proofs.IsMade.{named_fails}
 use Rattle.polis_cli.proofs.SurveyMeaning.{monitor_of_held}
 use Rattle.polis_cli.proofs.survey_inputs.load_monitor_of.Goals as goal
 

@@ -1,7 +1,7 @@
 use Rattle.std.proofs.Common.{inl}
 use Rattle.input_files.specs.Inputs.{InputsFail}
 use Rattle.polis_cli.specs.Survey.{FailsSurvey}
-use Rattle.polis_cli.proofs.IsMade.{files_wider}
+use Rattle.commands.proofs.IsMade.{files_wider}
 use Rattle.polis_cli.proofs.SurveyMeaning.{monitor_of_fails, survey_held}
 use Rattle.polis_cli.proofs.survey_inputs.load_survey.Goals as goal
 

@@ -1,7 +1,7 @@
 use Rattle.std.proofs.Common.{subst, sym}
 use Rattle.polis_words.specs.declared.requests.Request.{Request}
 use Rattle.polis_cli.specs.Commands.{meaning}
-use Rattle.polis_cli.specs.inner.Made.{IsMade}
+use Rattle.commands.specs.Made.{IsMade}
 use Rattle.polis_cli.proofs.top.make.Goals as goal
 
 pub returns-in-Replay-clause-made : goal.returns-in-Replay-clause-made

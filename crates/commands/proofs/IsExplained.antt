@@ -1,0 +1,127 @@
+-- What explains that a command makes nothing, from what explains each load.
+use Rattle.std.proofs.Common.{◌≡◌, inl, inr, ℕ, Bool, true, List, Option, Ok, sym, subst, IsTrue}
+use Rattle.polis_base.specs.declared.limits.TheConstants.{TEXT_MAX, LONG_FILE_MAX}
+use Rattle.polis_base.specs.Host.{Files, WhereTold}
+use Rattle.transition_table.specs.declared.network.Network.{Network}
+use Rattle.journals.specs.declared.entry.Entry.{Entry}
+use Rattle.journals.specs.declared.entry.TraceItem.{TraceItem}
+use Rattle.journal_text.specs.Reading.{read_of}
+use Rattle.polis_words.specs.declared.cause.Cause.{Cause}
+use Rattle.polis_words.specs.declared.cause.Cause.TheVariants.{Illegal as Unlawful}
+use Rattle.polis_words.specs.declared.cause.Failure.{Failure}
+use Rattle.polis_words.specs.declared.cause.Failure.TheVariants as failures
+use Rattle.polis_words.specs.declared.status.Status.TheVariants.{Illegal}
+use Rattle.polis_words.specs.Lines.{cause_status}
+use Rattle.polis_words.specs.Replay.{ReplayWords}
+use Rattle.net_core.specs.Prefixes.{IsReason}
+use Rattle.net_core.specs.declared.answer.Why.{Why}
+use Rattle.input_files.specs.Details.{explains_in, explains_replay}
+use Rattle.input_files.specs.Explanations.{ExplainsFile, ExplainsJournal}
+use Rattle.input_files.specs.Inputs.{HoldsText, HoldsNet, InputsFail}
+use Rattle.input_files.specs.JournalFiles.{JournalFails}
+use Rattle.input_files.specs.declared.load.Detail.{Detail}
+use Rattle.input_files.specs.declared.load.Detail.TheVariants as details
+use Rattle.commands.specs.Meanings.{Meaning}
+use Rattle.input_files.specs.Failures.{is_failure, FileExplained, FilesExplained, NamesOneOf}
+use Rattle.commands.specs.Replay.{FailsReplay}
+use Rattle.commands.specs.inner.Explain.{entry_explained}
+use Rattle.commands.specs.Made.{JudgingExplained, IsMadeFailure}
+use Rattle.commands.proofs.IsJudged.{HoldsBoth, journal_fails}
+use Rattle.commands.proofs.IsMade.{may_fail, may_judge}
+use Rattle.polis_base.proofs.WhereTold.{told_from}
+
+-- where the network or the trace fails so does the replay
+pub inputs_judged : (detail : Detail) (o : Option Files) (replay : ReplayWords)
+    (failure : Failure) → FilesExplained o (λ files. InputsFail files replay.net replay.trace)
+    (explains_in detail TEXT_MAX) failure
+    → NamesOneOf replay.net replay.trace failure
+    → JudgingExplained o (FailsReplay replay) (explains_replay detail replay) failure
+inputs_judged detail o replay failures.NoMemory h named = tt
+inputs_judged detail o replay (failures.File name cause more) (h, explains) named = (
+  (
+    told_from o (λ files. InputsFail files replay.net replay.trace name.now cause) _
+        (λ files k. inl k) h.0,
+    inl h.1,
+  ),
+  so detail explains,
+)
+  where
+    so : (detail : Detail) → explains_in detail TEXT_MAX o name.now cause more
+        → explains_replay detail replay o name.now cause more
+    so details.Cause e = e
+    so details.Explained e = inl (named, h.0, e)
+
+-- a cause of a load or of a line isn't that of an illegal journal
+line_explains : (o : Option Files) (net : Network) (trace : List TraceItem) (name more : List ℕ)
+    (cause : Cause) → IsTrue (is_failure true (cause_status cause))
+    → ExplainsFile LONG_FILE_MAX o name cause more
+    → ExplainsJournal o net trace name cause more
+line_explains o net trace name more (Unlawful k) s h = cc
+line_explains o net trace name more other s h = h
+
+-- and where the journal fails
+pub journal_judged : (detail : Detail) (o : Option Files) (replay : ReplayWords) (net : Network)
+    (trace : List TraceItem) (failure : Failure) → WhereTold o (HoldsBoth replay net trace)
+    → WhereTold o (λ files. (other : Network) → HoldsNet files replay.net other → other ≡ net)
+    → FileExplained replay.journal o (λ files cause. (items : List TraceItem)
+    → JournalFails files net items replay.journal cause)
+    (explains_in detail LONG_FILE_MAX) failure
+    → JudgingExplained o (FailsReplay replay) (explains_replay detail replay) failure
+journal_judged detail o replay net trace failures.NoMemory held one h = tt
+journal_judged detail o replay net trace (failures.File name cause more) held one (h, explains) = (
+  (journal_fails o replay net trace name.now cause h.0 held one h.1, inl h.2),
+  so detail explains,
+)
+  where
+    so : (detail : Detail) → explains_in detail LONG_FILE_MAX o name.now cause more
+        → explains_replay detail replay o name.now cause more
+    so details.Cause e = e
+    so details.Explained e =
+        inr (h.0, net, trace, held, line_explains o net trace name.now more cause h.2 e)
+
+-- a journal that isn't legal
+pub illegal_judged : (detail : Detail) (o : Option Files) (replay : ReplayWords) (net : Network)
+    (trace : List TraceItem) (name text more : List ℕ) (journal : List Entry)
+    (stamps : Option (List ℕ)) (word : Bool) (k : ℕ) (why : Option Why) → name ≡ replay.journal
+    → WhereTold o (HoldsBoth replay net trace)
+    → WhereTold o (λ files. HoldsText files LONG_FILE_MAX replay.journal text)
+    → read_of net text ≡ Ok (journal, stamps, word) → IsReason net trace journal k why
+    → more ≡ entry_explained detail name text k why
+    → explains_replay detail replay o name (Unlawful k) more
+illegal_judged details.Cause o replay net trace name text more journal stamps word k why same held
+    holds read reason is =
+    is
+illegal_judged details.Explained o replay net trace name text more journal stamps word k why same
+    held holds read reason is =
+    inr (
+      same,
+      net,
+      trace,
+      held,
+      record {
+        text = text;
+        holds = subst (λ (file : List ℕ). WhereTold o (λ files. HoldsText files LONG_FILE_MAX file
+            text)) (sym same) holds;
+        journal = journal;
+        stamps = stamps;
+        word = word;
+        read = read;
+        why = why;
+        reason = reason;
+        more_is = is;
+      },
+    )
+
+-- ---- why a command makes nothing
+pub files_explained : (m : Meaning) (o : Option Files) (failure : Failure) → m.reads ≡ true
+    → FilesExplained o m.fails m.explains failure → IsMadeFailure m o failure
+files_explained m o failures.NoMemory reads h = tt
+files_explained m o (failures.File name cause more) reads (h, explains) =
+    (h.0, may_fail m (cause_status cause) reads h.1, explains)
+
+pub judging_explained : (m : Meaning) (o : Option Files) (failure : Failure) → m.reads ≡ true
+    → IsTrue (m.ends Illegal) → JudgingExplained o m.fails m.explains failure
+    → IsMadeFailure m o failure
+judging_explained m o failures.NoMemory reads ends h = tt
+judging_explained m o (failures.File name cause more) reads ends (h, explains) =
+    (h.0, may_judge m (cause_status cause) reads ends h.1, explains)

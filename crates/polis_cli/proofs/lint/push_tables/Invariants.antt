@@ -1,8 +1,0 @@
-use Rattle.std.proofs.Common.{◌≡◌, ◌++◌, drop, flat_map}
-use Rattle.polis_cli.specs.Lint.{table_text}
-use Rattle.polis_cli.proofs.lint.push_tables.Given as goal
-
--- what is written, with what the tables that are left leave open, is the whole
-abbrev pub invariant-loop-m : goal.invariant-loop-m
-invariant-loop-m l = l.into ++ flat_map (table_text l.net) (drop l.m l.net.machines)
-    ≡ l.fn.into ++ flat_map (table_text l.net) l.net.machines

@@ -1,5 +1,0 @@
-use Rattle.polis_cli.proofs.RangeLines.{Shown}
-use Rattle.polis_cli.proofs.ranges.print_ranges.Given as goal
-
-abbrev pub invariant-loop-k : goal.invariant-loop-k
-invariant-loop-k l = Shown l.costs l.net l.k l.text

@@ -1,5 +1,5 @@
 -- What `equiv` means.
-use Rattle.std.proofs.Common.{◌≡◌, ◌⊎◌, inl, inr, ℕ, true, List, [], Option, Some, None, refl, ap, sym, subst, ◌∙◌, IsTrue}
+use Rattle.std.proofs.Common.{◌≡◌, ◌⊎◌, inl, inr, ℕ, true, false, List, [], Option, Some, None, Result, Ok, Err, IfOk, IfErr, refl, ap, sym, subst, ◌∙◌, IsTrue}
 use Rattle.polis_base.specs.Host.{Files, WhereTold}
 use Rattle.transition_table.specs.declared.network.Network.{Network}
 use Rattle.machine_equiv.specs.Comparing.{SameTables}
@@ -18,9 +18,10 @@ use Rattle.commands.specs.Equiv.{HoldsEquiv, AcceptsEquiv, AreDiffering, IsEquiv
 use Rattle.input_files.specs.Inputs.{HoldsNet, NetFails}
 use Rattle.commands.specs.Meanings.{MayEnd, finds_differing, ends_compared}
 use Rattle.input_files.specs.Failures.{is_finding, is_failure, FileFails}
-use Rattle.commands.specs.inner.Equiv.{IsSameProduct}
+use Rattle.input_files.specs.Loads.{fails_unread, is_read_fault}
+use Rattle.commands.specs.inner.Equiv.{IsEquivFailure, IsSameProduct}
 use Rattle.commands.specs.inner.Lawful.{IsLawful}
-use Rattle.commands.specs.Made.{IsMadeProduct, IsMadeFailure}
+use Rattle.commands.specs.Made.{IsMade, IsMadeProduct, IsMadeFailure}
 use Rattle.polis_base.proofs.WhereTold.{told_from, told_both}
 use Rattle.input_files.proofs.InputsFail.{net_refused, net_unfound}
 use Rattle.commands.proofs.IsMade.{product_made, none_told}
@@ -231,3 +232,34 @@ pair_fails o equiv net other name cause more same held one held_other one_other 
   fault_ends net other cause fault,
   none_told (equiv_meaning equiv) o name cause more (λ told name cause. refl) none,
 )
+
+-- why networks that were loaded aren't the same is no failed load
+fault_loaded : (net other : Network) (cause : Cause) → IsEquivFault net other cause
+    → is_read_fault cause ≡ false
+fault_loaded net other OtherShape h = refl
+fault_loaded net other (TablesDiffer printed) h = refl
+fault_loaded net other cause h = absurd h
+
+pub compared_loaded : {X : Type 0} (name : List ℕ) (net other : Network)
+    (result : Result X Failure) → IfErr result (IsEquivFailure name net other)
+    → fails_unread result ≡ false
+compared_loaded name net other (Ok x) h = refl
+compared_loaded name net other (Err failures.NoMemory) h = refl
+compared_loaded name net other (Err (failures.File file cause more)) h =
+    fault_loaded net other cause h.1
+
+pub compared_made : (o : Option Files) (equiv : EquivWords) (net other : Network)
+    (result : Result Product Failure) → WhereTold o (λ files. HoldsNet files equiv.net net)
+    → WhereTold o (λ files. (another : Network) → HoldsNet files equiv.net another → another ≡ net)
+    → WhereTold o (λ files. HoldsNet files equiv.other other)
+    → WhereTold o (λ files. (another : Network) → HoldsNet files equiv.other another
+    → another ≡ other)
+    → IfOk result (IsSameProduct net other)
+    → IfErr result (IsEquivFailure equiv.other net other) → IsMade (equiv_meaning equiv) o result
+compared_made o equiv net other (Ok product) held one held_other one_other made failed =
+    equiv_made o equiv net other product held held_other made
+compared_made o equiv net other (Err failures.NoMemory) held one held_other one_other made failed =
+    tt
+compared_made o equiv net other (Err (failures.File name cause more)) held one held_other one_other
+    made (same, fault, none) =
+    pair_fails o equiv net other name.now cause more same held one held_other one_other fault none

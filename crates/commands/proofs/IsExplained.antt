@@ -1,5 +1,5 @@
 -- What explains that a command makes nothing, from what explains each load.
-use Rattle.std.proofs.Common.{◌≡◌, inl, inr, ℕ, Bool, true, List, Option, Ok, sym, subst, IsTrue}
+use Rattle.std.proofs.Common.{◌≡◌, ◌⊎◌, inl, inr, ℕ, Bool, true, false, List, Option, Result, Ok, Err, IfErr, refl, sym, subst, IsTrue}
 use Rattle.polis_base.specs.declared.limits.TheConstants.{TEXT_MAX, LONG_FILE_MAX}
 use Rattle.polis_base.specs.Host.{Files, WhereTold}
 use Rattle.transition_table.specs.declared.network.Network.{Network}
@@ -15,19 +15,24 @@ use Rattle.polis_words.specs.Lines.{cause_status}
 use Rattle.polis_words.specs.Replay.{ReplayWords}
 use Rattle.net_core.specs.Prefixes.{IsReason}
 use Rattle.net_core.specs.declared.answer.Why.{Why}
+use Rattle.journal_replay.specs.declared.judge.Verdict.TheVariants.{Illegal as IsIllegal}
 use Rattle.input_files.specs.Details.{explains_in, explains_replay}
 use Rattle.input_files.specs.Explanations.{ExplainsFile, ExplainsJournal}
 use Rattle.input_files.specs.Inputs.{HoldsText, HoldsNet, InputsFail}
 use Rattle.input_files.specs.JournalFiles.{JournalFails}
+use Rattle.input_files.specs.Loads.{fails_unread}
 use Rattle.input_files.specs.declared.load.Detail.{Detail}
 use Rattle.input_files.specs.declared.load.Detail.TheVariants as details
 use Rattle.commands.specs.Meanings.{Meaning}
 use Rattle.input_files.specs.Failures.{is_failure, FileExplained, FilesExplained, NamesOneOf}
 use Rattle.commands.specs.Replay.{FailsReplay}
+use Rattle.commands.specs.declared.replay.ReplayFiles.{ReplayFiles}
 use Rattle.commands.specs.inner.Explain.{entry_explained}
+use Rattle.commands.specs.inner.Replay.{AreLoaded, IsFoundOf, IsIllegalUpTo, IsUnlawful}
 use Rattle.commands.specs.Made.{JudgingExplained, IsMadeFailure}
-use Rattle.commands.proofs.IsJudged.{HoldsBoth, journal_fails}
+use Rattle.commands.proofs.IsJudged.{HoldsBoth, illegal_fails, journal_fails}
 use Rattle.commands.proofs.IsMade.{may_fail, may_judge}
+use Rattle.input_files.proofs.Holds.{journal_held}
 use Rattle.polis_base.proofs.WhereTold.{told_from}
 
 -- where the network or the trace fails so does the replay
@@ -110,6 +115,48 @@ illegal_judged details.Explained o replay net trace name text more journal stamp
         reason = reason;
         more_is = is;
       },
+    )
+
+-- what is found and what is said of it are the failure
+pub unlawful_is : (name : List ℕ) (loaded : ReplayFiles) (detail : Detail) (k : ℕ)
+    (why : Option Why) (failure : Failure) → IsFoundOf loaded (IsIllegal k why)
+    → IsIllegalUpTo name loaded.file.text detail k why failure
+    → IsUnlawful name loaded detail failure
+unlawful_is name loaded detail k why failures.NoMemory found h = tt
+unlawful_is name loaded detail k why (failures.File file cause more) found h =
+    (k, why, found, h.0, h.1, h.2)
+
+pub unlawful_read : {X : Type 0} (name : List ℕ) (loaded : ReplayFiles) (detail : Detail)
+    (result : Result X Failure) → IfErr result (IsUnlawful name loaded detail)
+    → fails_unread result ≡ false
+unlawful_read name loaded detail (Ok x) h = refl
+unlawful_read name loaded detail (Err failures.NoMemory) h = refl
+unlawful_read name loaded detail (Err (failures.File file cause more)) h =
+    rw h.4 refl
+
+pub unlawful_judged : (detail : Detail) (o : Option Files) (replay : ReplayWords)
+    (loaded : ReplayFiles) (failure : Failure) → AreLoaded replay o loaded
+    → IsUnlawful replay.journal loaded detail failure
+    → JudgingExplained o (FailsReplay replay) (explains_replay detail replay) failure
+unlawful_judged detail o replay loaded failures.NoMemory l h = tt
+unlawful_judged detail o replay loaded (failures.File name cause more) l
+    (k, why, found, same, is, explained) =
+    let net = loaded.inputs.net in
+    let trace = loaded.inputs.trace in
+    let read = loaded.file.read in
+    subst (λ (c : Cause). (WhereTold o (λ files. FailsReplay replay files name.now c)
+    × (IsTrue (is_failure true (cause_status c)) ⊎ (cause_status c ≡ Illegal)))
+    × explains_replay detail replay o name.now c more) (sym is) (
+      (
+        illegal_fails o replay net trace read.journal read.stamps name.now k same l.held l.one
+            (journal_held o net replay.journal loaded.file.text read.journal read.stamps
+            read.says_complete l.text l.read)
+            found.0,
+        inr refl,
+      ),
+      illegal_judged detail o replay net trace name.now loaded.file.text more read.journal
+          read.stamps read.says_complete k why same l.held l.text l.read found.1
+          (rw same explained),
     )
 
 -- ---- why a command makes nothing

@@ -1,12 +1,14 @@
 -- Journals that are judged.
-use Rattle.std.proofs.Common.{◌≡◌, inr, ℕ, Bool, true, suc, List, ◌∷◌, ◌++◌, length, Option, Ok, refl, sym, ap, subst, []}
+use Rattle.std.proofs.Common.{◌≡◌, ◌≤◌, inr, ℕ, Bool, true, suc, List, ◌∷◌, ◌++◌, length, Option, Some, None, Ok, refl, sym, ap, subst, []}
 use Rattle.std.specs.List.{list_all}
+use Rattle.polis_base.specs.declared.limits.TheConstants.{ENTRIES_MAX}
 use Rattle.polis_base.specs.Host.{Files, bytes_at, WhereTold}
 use Rattle.transition_table.specs.declared.network.Network.{Network}
 use Rattle.journals.specs.declared.entry.Entry.{Entry}
 use Rattle.journals.specs.declared.entry.TraceItem.{TraceItem}
 use Rattle.journals.specs.declared.stamped.Stamped.{Stamped}
 use Rattle.journals.specs.Logs.{stamped}
+use Rattle.journals.specs.Legality.{Legal}
 use Rattle.journals.specs.Stamps.{Rising, rises_after}
 use Rattle.journal_text.specs.Texts.{is_stamp, AreStamps}
 use Rattle.journal_replay.specs.declared.judge.Verdict.TheVariants.{Legal as IsLegal}
@@ -15,11 +17,13 @@ use Rattle.polis_words.specs.declared.cause.Cause.{Cause}
 use Rattle.polis_words.specs.declared.cause.Cause.TheVariants.{Illegal as Unlawful}
 use Rattle.polis_words.specs.Replay.{ReplayWords}
 use Rattle.input_files.specs.Inputs.{HoldsNet, HoldsTrace}
-use Rattle.input_files.specs.JournalFiles.{HoldsJournal, JournalFails, IsFirstIllegal}
+use Rattle.input_files.specs.JournalFiles.{HoldsJournal, JournalFails, LegalAndRising, IsFirstIllegal}
 use Rattle.commands.specs.Replay.{IsJudged, FailsReplay}
-use Rattle.commands.specs.inner.Replay.{IsFound}
+use Rattle.commands.specs.declared.replay.Judged.{Judged}
+use Rattle.commands.specs.declared.replay.ReplayFiles.{ReplayFiles}
+use Rattle.commands.specs.inner.Replay.{AreLoaded, FitTogether, IsFound, IsJudgmentOf}
 use Rattle.polis_base.proofs.WhereTold.{told_both}
-use Rattle.input_files.proofs.Holds.{one_text}
+use Rattle.input_files.proofs.Holds.{journal_held, one_text}
 use Rattle.polis_base.proofs.Names.{left_true, right_true}
 
 -- rising stamps are stamps, one for each entry
@@ -61,6 +65,35 @@ judged_is o replay net trace journal stamps complete held holds found =
       lawful = found.0;
       ends = found.1;
     }) held holds
+
+pub judgment_is : (o : Option Files) (replay : ReplayWords) (loaded : ReplayFiles)
+    (judged : Judged) → AreLoaded replay o loaded → IsJudgmentOf loaded judged
+    → WhereTold o (λ files. IsJudged replay files judged.inputs.net judged.inputs.trace
+    judged.read.journal judged.complete)
+judgment_is o replay loaded judged l j =
+    let net = loaded.inputs.net in
+    let read = loaded.file.read in
+    rw (j.inputs, j.read)
+    (judged_is o replay net loaded.inputs.trace read.journal read.stamps judged.complete l.held
+    (journal_held o net replay.journal loaded.file.text read.journal read.stamps
+    read.says_complete l.text l.read)
+    j.found)
+
+legal_alone : (net : Network) (trace : List TraceItem) (journal : List Entry)
+    (stamps : Option (List ℕ)) → LegalAndRising net trace journal stamps → Legal net trace journal
+legal_alone net trace journal None h = h
+legal_alone net trace journal (Some stamps) h = h.0
+
+pub judgment_legal : (loaded : ReplayFiles) (judged : Judged) → IsJudgmentOf loaded judged
+    → Legal judged.inputs.net judged.inputs.trace judged.read.journal
+judgment_legal loaded judged j =
+    let read = loaded.file.read in
+    rw (j.inputs, j.read)
+    (legal_alone loaded.inputs.net loaded.inputs.trace read.journal read.stamps j.found.0)
+
+pub judgment_few : (loaded : ReplayFiles) (judged : Judged) → FitTogether loaded
+    → IsJudgmentOf loaded judged → length judged.read.journal ≤ ENTRIES_MAX
+judgment_few loaded judged fit j = rw j.read fit.few
 
 -- the journal fails, the network and the trace being accepted
 pub journal_fails : (o : Option Files) (replay : ReplayWords) (net : Network)

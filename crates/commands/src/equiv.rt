@@ -4,7 +4,7 @@ ghost use Rattle.transition_table.specs.Transitions.{AreDeterministic};
 ghost use Rattle.machine_equiv.specs.Comparing.{IsNetComparison};
 ghost use Rattle.commands.specs.Equiv.{IsEquivFault, IsDifferText, equiv_meaning};
 ghost use Rattle.input_files.specs.Faults.{IfCause};
-ghost use Rattle.commands.specs.inner.Equiv.{IsSameProduct};
+ghost use Rattle.commands.specs.inner.Equiv.{IsEquivFailure, IsSameProduct};
 ghost use Rattle.input_files.specs.Loads.{LeftByLoads, fails_unread};
 ghost use Rattle.commands.specs.Made.{IsMade};
 
@@ -57,6 +57,25 @@ fn compared(alloc: Global, net: &Network, other: &Network) -> Result<Product, Fi
     }
 }
 
+// The same of networks that were loaded, the second one from the file of this name.
+fn compare_loaded<'a>(
+    alloc: Global,
+    name: &'a str,
+    net: &Network,
+    other: &Network,
+) -> Result<Product, Failure<'a>>
+    requires deterministic { AreDeterministic net.now }
+    requires others { AreDeterministic other.now }
+    ensures made { IfOk result (IsSameProduct net.now other.now) }
+    ensures failed { IfErr result (IsEquivFailure name.now net.now other.now) }
+{
+    match compared(alloc, net, other) {
+        Ok(product) => Ok(product),
+        Err(FileFault::Cause(cause)) => Err(Failure::of(alloc, name, cause)),
+        Err(FileFault::NoMemory) => Err(Failure::NoMemory),
+    }
+}
+
 /// What a comparison makes of the files.
 pub fn make_equiv<'a, H: Host>(
     alloc: Global,
@@ -71,13 +90,8 @@ pub fn make_equiv<'a, H: Host>(
         Err(failure) => return Err(failure),
     };
     let name = asked.other();
-    let other = match load_net(alloc, host, name, Detail::Cause) {
-        Ok(other) => other,
-        Err(failure) => return Err(failure),
-    };
-    match compared(alloc, &net, &other) {
-        Ok(product) => Ok(product),
-        Err(FileFault::Cause(cause)) => Err(Failure::of(alloc, name, cause)),
-        Err(FileFault::NoMemory) => Err(Failure::NoMemory),
+    match load_net(alloc, host, name, Detail::Cause) {
+        Ok(other) => compare_loaded(alloc, name, &net, &other),
+        Err(failure) => Err(failure),
     }
 }

@@ -11,10 +11,10 @@ ghost use Rattle.input_files.specs.Details.{explains_replay};
 ghost use Rattle.input_files.specs.Loads.{LeftByLoads, fails_unread};
 ghost use Rattle.commands.specs.inner.Explain.{entry_explained};
 ghost use Rattle.commands.specs.Made.{IsMade, JudgingExplained};
-ghost use Rattle.commands.specs.inner.Replay.{IsFound};
+ghost use Rattle.commands.specs.inner.Replay.{AreLoaded, FitTogether, IsFound, IsIllegalUpTo, IsJudgmentOf, IsUnlawful};
 
 use crate::tasks::Tasks;
-use input_files::{Detail, Inputs, explain_entry, load_inputs, load_journal};
+use input_files::{Detail, Inputs, JournalFile, explain_entry, load_inputs, load_journal};
 use journal_replay::{Verdict, replay, replay_stamped};
 use journal_text::ReadJournal;
 use machine_compiler::compile_network;
@@ -34,6 +34,13 @@ pub struct Judged {
     pub read: ReadJournal,
     /// Whether it is complete.
     pub complete: bool,
+}
+
+// The files of a replay, as they were read.
+#[derive(Drop)]
+struct ReplayFiles {
+    inputs: Inputs,
+    file: JournalFile,
 }
 
 // What a reactor finds of a journal that was read.
@@ -92,6 +99,80 @@ fn explain_illegal(
     }
 }
 
+// The failure of a journal that isn't legal up to this entry.
+fn illegal<'a>(
+    alloc: Global,
+    name: &'a str,
+    text: &[u8],
+    entry: u64,
+    why: Option<Why>,
+    detail: Detail,
+) -> Failure<'a>
+    requires { entry < ENTRIES_MAX }
+    ensures { IsIllegalUpTo name.now text.now detail entry why result }
+{
+    match explain_illegal(alloc, name, text, entry, why, detail) {
+        Ok(explanation) => Failure::File {
+            name,
+            cause: Cause::Illegal { entry },
+            explanation,
+        },
+        Err(NoMemory) => Failure::NoMemory,
+    }
+}
+
+// Loads and reads the network, the trace and the journal.
+fn load_replay<'a, H: Host>(
+    alloc: Global,
+    host: &mut H,
+    asked: &'a Replay<'_>,
+    detail: Detail,
+) -> Result<ReplayFiles, Failure<'a>>
+    ensures loaded { IfOk result (AreLoaded asked.now (H.files host.old)) }
+    ensures failed { IfErr result (JudgingExplained (H.files host.old) (FailsReplay asked.now)
+        (explains_replay detail asked.now)) }
+    ensures left { LeftByLoads ⟦<H as Host>⟧ (fails_unread result) host.old host.new }
+{
+    let inputs = match load_inputs(alloc, host, asked.net(), asked.trace(), detail) {
+        Ok(inputs) => inputs,
+        Err(failure) => return Err(failure),
+    };
+    match load_journal(alloc, host, &inputs.net, asked.journal(), detail) {
+        Ok(file) => Ok(ReplayFiles { inputs, file }),
+        Err(failure) => Err(failure),
+    }
+}
+
+// Judges the journal of this name, with so much said of one that isn't legal.
+fn judge_loaded<'a>(
+    alloc: Global,
+    name: &'a str,
+    loaded: ReplayFiles,
+    detail: Detail,
+) -> Result<Judged, Failure<'a>>
+    requires fits { FitTogether loaded }
+    ensures judged { IfOk result (IsJudgmentOf loaded) }
+    ensures failed { IfErr result (IsUnlawful name.now loaded detail) }
+{
+    let ReplayFiles { inputs, file } = loaded;
+    match find(alloc, &inputs, &file.read) {
+        Ok(Verdict::Legal { complete }) => Ok(Judged {
+            inputs,
+            read: file.read,
+            complete,
+        }),
+        Ok(Verdict::Illegal { entry, why }) => Err(illegal(
+            alloc,
+            name,
+            file.text.as_slice(),
+            entry,
+            why,
+            detail,
+        )),
+        Err(NoMemory) => Err(Failure::NoMemory),
+    }
+}
+
 /// Loads and reads the network, the trace and the journal, and judges the journal, with so much
 /// said of a file that is refused or of a journal that isn't legal.
 pub fn judge_journal<'a, H: Host>(
@@ -111,32 +192,9 @@ pub fn judge_journal<'a, H: Host>(
         (explains_replay detail asked.now)) }
     ensures left { LeftByLoads ⟦<H as Host>⟧ (fails_unread result) host.old host.new }
 {
-    let inputs = match load_inputs(alloc, host, asked.net(), asked.trace(), detail) {
-        Ok(inputs) => inputs,
-        Err(failure) => return Err(failure),
-    };
-    let name = asked.journal();
-    let file = match load_journal(alloc, host, &inputs.net, name, detail) {
-        Ok(file) => file,
-        Err(failure) => return Err(failure),
-    };
-    match find(alloc, &inputs, &file.read) {
-        Ok(Verdict::Legal { complete }) => Ok(Judged {
-            inputs,
-            read: file.read,
-            complete,
-        }),
-        Ok(Verdict::Illegal { entry, why }) => {
-            match explain_illegal(alloc, name, file.text.as_slice(), entry, why, detail) {
-                Ok(explanation) => Err(Failure::File {
-                    name,
-                    cause: Cause::Illegal { entry },
-                    explanation,
-                }),
-                Err(NoMemory) => Err(Failure::NoMemory),
-            }
-        }
-        Err(NoMemory) => Err(Failure::NoMemory),
+    match load_replay(alloc, host, asked, detail) {
+        Ok(loaded) => judge_loaded(alloc, asked.journal(), loaded, detail),
+        Err(failure) => Err(failure),
     }
 }
 

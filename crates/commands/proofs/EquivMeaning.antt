@@ -135,7 +135,7 @@ equiv_lawful equiv = record {
 
 -- ---- what is made
 -- the product of a comparison
-pub equiv_made : (o : Option Files) (equiv : EquivWords) (net other : Network) (product : Product)
+equiv_made : (o : Option Files) (equiv : EquivWords) (net other : Network) (product : Product)
     → WhereTold o (λ files. HoldsNet files equiv.net net)
     → WhereTold o (λ files. HoldsNet files equiv.other other) → IsSameProduct net other product
     → IsMadeProduct (equiv_meaning equiv) o product
@@ -206,7 +206,7 @@ fault_ends net other (TablesDiffer printed) h = inl refl
 fault_ends net other cause h = absurd h
 
 -- the second one isn't the same as the first
-pub pair_fails : (o : Option Files) (equiv : EquivWords) (net other : Network) (name : List ℕ)
+pair_fails : (o : Option Files) (equiv : EquivWords) (net other : Network) (name : List ℕ)
     (cause : Cause) (more : List ℕ) → name ≡ equiv.other
     → WhereTold o (λ files. HoldsNet files equiv.net net)
     → WhereTold o (λ files. (another : Network) → HoldsNet files equiv.net another → another ≡ net)

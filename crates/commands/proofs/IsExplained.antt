@@ -1,11 +1,9 @@
 -- What explains that a command makes nothing, from what explains each load.
-use Rattle.std.proofs.Common.{◌≡◌, ◌⊎◌, inl, inr, ℕ, Bool, true, false, List, Option, Result, Ok, Err, IfErr, refl, sym, subst, IsTrue}
+use Rattle.std.proofs.Common.{◌≡◌, ◌⊎◌, inl, inr, ℕ, true, false, List, Option, Result, Ok, Err, IfErr, refl, sym, subst, IsTrue}
 use Rattle.polis_base.specs.declared.limits.TheConstants.{TEXT_MAX, LONG_FILE_MAX}
 use Rattle.polis_base.specs.Host.{Files, WhereTold}
 use Rattle.transition_table.specs.declared.network.Network.{Network}
-use Rattle.journals.specs.declared.entry.Entry.{Entry}
 use Rattle.journals.specs.declared.entry.TraceItem.{TraceItem}
-use Rattle.journal_text.specs.Reading.{read_of}
 use Rattle.polis_words.specs.declared.cause.Cause.{Cause}
 use Rattle.polis_words.specs.declared.cause.Cause.TheVariants.{Illegal as Unlawful}
 use Rattle.polis_words.specs.declared.cause.Failure.{Failure}
@@ -24,13 +22,13 @@ use Rattle.input_files.specs.Loads.{fails_unread}
 use Rattle.input_files.specs.declared.load.Detail.{Detail}
 use Rattle.input_files.specs.declared.load.Detail.TheVariants as details
 use Rattle.commands.specs.Meanings.{Meaning}
-use Rattle.input_files.specs.Failures.{is_failure, FileExplained, FilesExplained, NamesOneOf}
+use Rattle.input_files.specs.Failures.{is_failure, IfExplained, FileExplained, FilesExplained, NamesOneOf}
 use Rattle.commands.specs.Replay.{FailsReplay}
 use Rattle.commands.specs.declared.replay.ReplayFiles.{ReplayFiles}
 use Rattle.commands.specs.inner.Explain.{entry_explained}
-use Rattle.commands.specs.inner.Replay.{AreLoaded, IsFoundOf, IsIllegalUpTo, IsUnlawful}
+use Rattle.commands.specs.inner.Replay.{AreLoaded, HoldsBoth, IsFoundOf, IsIllegalUpTo, IsUnlawful}
 use Rattle.commands.specs.Made.{JudgingExplained, IsMadeFailure}
-use Rattle.commands.proofs.IsJudged.{HoldsBoth, illegal_fails, journal_fails}
+use Rattle.commands.proofs.IsJudged.{illegal_fails, journal_fails}
 use Rattle.commands.proofs.IsMade.{may_fail, may_judge}
 use Rattle.input_files.proofs.Holds.{journal_held}
 use Rattle.polis_base.proofs.WhereTold.{told_from}
@@ -84,33 +82,28 @@ journal_judged detail o replay net trace (failures.File name cause more) held on
     so details.Explained e =
         inr (h.0, net, trace, held, line_explains o net trace name.now more cause h.2 e)
 
--- a journal that isn't legal
-pub illegal_judged : (detail : Detail) (o : Option Files) (replay : ReplayWords) (net : Network)
-    (trace : List TraceItem) (name text more : List ℕ) (journal : List Entry)
-    (stamps : Option (List ℕ)) (word : Bool) (k : ℕ) (why : Option Why) → name ≡ replay.journal
-    → WhereTold o (HoldsBoth replay net trace)
-    → WhereTold o (λ files. HoldsText files LONG_FILE_MAX replay.journal text)
-    → read_of net text ≡ Ok (journal, stamps, word) → IsReason net trace journal k why
-    → more ≡ entry_explained detail name text k why
+-- what is said of a journal that isn't legal
+illegal_explained : (detail : Detail) (o : Option Files) (replay : ReplayWords)
+    (loaded : ReplayFiles) (name more : List ℕ) (k : ℕ) (why : Option Why) → name ≡ replay.journal
+    → AreLoaded replay o loaded
+    → IsReason loaded.inputs.net loaded.inputs.trace loaded.file.read.journal k why
+    → more ≡ entry_explained detail name loaded.file.text k why
     → explains_replay detail replay o name (Unlawful k) more
-illegal_judged details.Cause o replay net trace name text more journal stamps word k why same held
-    holds read reason is =
-    is
-illegal_judged details.Explained o replay net trace name text more journal stamps word k why same
-    held holds read reason is =
+illegal_explained details.Cause o replay loaded name more k why same l reason is = is
+illegal_explained details.Explained o replay loaded name more k why same l reason is =
     inr (
       same,
-      net,
-      trace,
-      held,
+      loaded.inputs.net,
+      loaded.inputs.trace,
+      l.held,
       record {
-        text = text;
+        text = loaded.file.text;
         holds = subst (λ (file : List ℕ). WhereTold o (λ files. HoldsText files LONG_FILE_MAX file
-            text)) (sym same) holds;
-        journal = journal;
-        stamps = stamps;
-        word = word;
-        read = read;
+            loaded.file.text)) (sym same) l.text;
+        journal = loaded.file.read.journal;
+        stamps = loaded.file.read.stamps;
+        word = loaded.file.read.says_complete;
+        read = l.read;
         why = why;
         reason = reason;
         more_is = is;
@@ -120,27 +113,29 @@ illegal_judged details.Explained o replay net trace name text more journal stamp
 -- what is found and what is said of it are the failure
 pub unlawful_is : (name : List ℕ) (loaded : ReplayFiles) (detail : Detail) (k : ℕ)
     (why : Option Why) (failure : Failure) → IsFoundOf loaded (IsIllegal k why)
-    → IsIllegalUpTo name loaded.file.text detail k why failure
+    → IfExplained failure (IsIllegalUpTo name loaded.file.text detail k why)
     → IsUnlawful name loaded detail failure
 unlawful_is name loaded detail k why failures.NoMemory found h = tt
 unlawful_is name loaded detail k why (failures.File file cause more) found h =
-    (k, why, found, h.0, h.1, h.2)
+    (k, why, found, h)
 
+-- which is no failed load
 pub unlawful_read : {X : Type 0} (name : List ℕ) (loaded : ReplayFiles) (detail : Detail)
     (result : Result X Failure) → IfErr result (IsUnlawful name loaded detail)
     → fails_unread result ≡ false
 unlawful_read name loaded detail (Ok x) h = refl
 unlawful_read name loaded detail (Err failures.NoMemory) h = refl
 unlawful_read name loaded detail (Err (failures.File file cause more)) h =
-    rw h.4 refl
+    rw h.3.1 refl
 
+-- and is why a replay fails, and what explains it
 pub unlawful_judged : (detail : Detail) (o : Option Files) (replay : ReplayWords)
     (loaded : ReplayFiles) (failure : Failure) → AreLoaded replay o loaded
     → IsUnlawful replay.journal loaded detail failure
     → JudgingExplained o (FailsReplay replay) (explains_replay detail replay) failure
 unlawful_judged detail o replay loaded failures.NoMemory l h = tt
 unlawful_judged detail o replay loaded (failures.File name cause more) l
-    (k, why, found, same, is, explained) =
+    (k, why, found, (same, is, explained)) =
     let net = loaded.inputs.net in
     let trace = loaded.inputs.trace in
     let read = loaded.file.read in
@@ -154,8 +149,7 @@ unlawful_judged detail o replay loaded (failures.File name cause more) l
             found.0,
         inr refl,
       ),
-      illegal_judged detail o replay net trace name.now loaded.file.text more read.journal
-          read.stamps read.says_complete k why same l.held l.text l.read found.1
+      illegal_explained detail o replay loaded name.now more k why same l found.1
           (rw same explained),
     )
 

@@ -21,7 +21,7 @@ use Rattle.input_files.specs.JournalFiles.{HoldsJournal, JournalFails, LegalAndR
 use Rattle.commands.specs.Replay.{IsJudged, FailsReplay}
 use Rattle.commands.specs.declared.replay.Judged.{Judged}
 use Rattle.commands.specs.declared.replay.ReplayFiles.{ReplayFiles}
-use Rattle.commands.specs.inner.Replay.{AreLoaded, FitTogether, IsFound, IsJudgmentOf}
+use Rattle.commands.specs.inner.Replay.{AreLoaded, FitTogether, HoldsBoth, IsFound, IsJudgmentOf}
 use Rattle.polis_base.proofs.WhereTold.{told_both}
 use Rattle.input_files.proofs.Holds.{journal_held, one_text}
 use Rattle.polis_base.proofs.Names.{left_true, right_true}
@@ -44,13 +44,8 @@ pub rising_stamps : (net : Network) (journal : List Entry) (ts : List ℕ) → R
     → AreStamps journal ts
 rising_stamps net journal ts rising = stamps_rise net [] journal ts rising
 
--- what a network and a trace are held under
-abbrev pub HoldsBoth : ReplayWords → Network → List TraceItem → Files → Type 0
-HoldsBoth replay net trace files =
-    HoldsNet files replay.net net × HoldsTrace files replay.trace net trace
-
 -- a journal that is held, and is legal and rising, is judged
-pub judged_is : (o : Option Files) (replay : ReplayWords) (net : Network) (trace : List TraceItem)
+judged_is : (o : Option Files) (replay : ReplayWords) (net : Network) (trace : List TraceItem)
     (journal : List Entry) (stamps : Option (List ℕ)) (complete : Bool)
     → WhereTold o (HoldsBoth replay net trace)
     → WhereTold o (λ files. HoldsJournal files replay.journal net journal stamps)

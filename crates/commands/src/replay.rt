@@ -8,6 +8,7 @@ ghost use Rattle.journal_text.specs.Texts.{AreStamps};
 ghost use Rattle.transition_table.specs.Transitions.{AreDeterministic};
 ghost use Rattle.commands.specs.Replay.{IsJudged, FailsReplay, replay_meaning};
 ghost use Rattle.input_files.specs.Details.{explains_replay};
+ghost use Rattle.input_files.specs.Failures.{IfExplained};
 ghost use Rattle.input_files.specs.Loads.{LeftByLoads, fails_unread};
 ghost use Rattle.commands.specs.inner.Explain.{entry_explained};
 ghost use Rattle.commands.specs.Made.{IsMade, JudgingExplained};
@@ -109,7 +110,7 @@ fn illegal<'a>(
     detail: Detail,
 ) -> Failure<'a>
     requires { entry < ENTRIES_MAX }
-    ensures { IsIllegalUpTo name.now text.now detail entry why result }
+    ensures { IfExplained result (IsIllegalUpTo name.now text.now detail entry why) }
 {
     match explain_illegal(alloc, name, text, entry, why, detail) {
         Ok(explanation) => Failure::File {

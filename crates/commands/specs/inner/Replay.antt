@@ -14,6 +14,7 @@ use Rattle.net_core.specs.Prefixes.{IsReason}
 use Rattle.net_core.specs.declared.answer.Why.{Why}
 use Rattle.journal_replay.specs.declared.judge.Verdict.{Verdict}
 use Rattle.journal_replay.specs.declared.judge.Verdict.TheVariants.{Legal as IsLegal, Illegal as IsIllegal}
+use Rattle.polis_words.specs.declared.cause.Cause.{Cause}
 use Rattle.polis_words.specs.declared.cause.Cause.TheVariants.{Illegal}
 use Rattle.polis_words.specs.declared.cause.Failure.{Failure}
 use Rattle.polis_words.specs.Replay.{ReplayWords}
@@ -41,12 +42,16 @@ pub record FitTogether (loaded : ReplayFiles) : Type 0 where
   pub few : length loaded.file.read.journal ≤ ENTRIES_MAX
   pub stamps : IfSome loaded.file.read.stamps (AreStamps loaded.file.read.journal)
 
+-- what a network and a trace are held under
+abbrev pub HoldsBoth : ReplayWords → Network → List TraceItem → Files → Type 0
+HoldsBoth replay net trace files =
+    HoldsNet files replay.net net × HoldsTrace files replay.trace net trace
+
 -- the files hold these, no other network is held under its name, and the journal's text says what
 -- was read of it
 pub record AreLoaded (replay : ReplayWords) (told : Option Files) (loaded : ReplayFiles) :
     Type 0 where
-  pub held : WhereTold told (λ files. HoldsNet files replay.net loaded.inputs.net
-      × HoldsTrace files replay.trace loaded.inputs.net loaded.inputs.trace)
+  pub held : WhereTold told (HoldsBoth replay loaded.inputs.net loaded.inputs.trace)
   pub one : WhereTold told (λ files. (other : Network) → HoldsNet files replay.net other
       → other ≡ loaded.inputs.net)
   pub text : WhereTold told (λ files. HoldsText files LONG_FILE_MAX replay.journal loaded.file.text)
@@ -66,14 +71,15 @@ pub record IsJudgmentOf (loaded : ReplayFiles) (judged : Judged) : Type 0 where
   pub read : judged.read ≡ loaded.file.read
   pub found : IsFoundOf loaded (IsLegal judged.complete)
 
--- the failure is that of the journal text of this name up to its k-th entry, and this is what is
--- said of the cause against that entry
-abbrev pub IsIllegalUpTo : List ℕ → List ℕ → Detail → ℕ → Option Why → Failure → Type 0
-IsIllegalUpTo name text detail k why failure = IfExplained failure (λ file cause more.
-    (file ≡ name) × (cause ≡ Illegal k) × (more ≡ entry_explained detail name text k why))
+-- the file is the one of this name, the cause is that its journal isn't legal up to the k-th entry,
+-- and this is what is said of that entry
+abbrev pub IsIllegalUpTo : List ℕ → List ℕ → Detail → ℕ → Option Why → List ℕ → Cause → List ℕ
+    → Type 0
+IsIllegalUpTo name text detail k why file cause more =
+    (file ≡ name) × (cause ≡ Illegal k) × (more ≡ entry_explained detail name text k why)
 
 -- the same for what is found of the journal that was read
 abbrev pub IsUnlawful : List ℕ → ReplayFiles → Detail → Failure → Type 0
 IsUnlawful name loaded detail failure = IfExplained failure (λ file cause more.
-    (k : ℕ) × (why : Option Why) × IsFoundOf loaded (IsIllegal k why) × (file ≡ name)
-    × (cause ≡ Illegal k) × (more ≡ entry_explained detail name loaded.file.text k why))
+    (k : ℕ) × (why : Option Why) × IsFoundOf loaded (IsIllegal k why)
+    × IsIllegalUpTo name loaded.file.text detail k why file cause more)

@@ -1,5 +1,5 @@
 // The lines of what the inputs of a network have.
-ghost use Rattle.std.specs.Prelude.{◌≡◌, ◌<◌, ◌≤◌, ◌+◌, ◌++◌, ◌^◌, drop, flat_map, length, OnOk};
+ghost use Rattle.std.specs.Prelude.{◌≡◌, ◌<◌, ◌≤◌, ◌+◌, ◌++◌, ◌^◌, drop, flat_map, length, OnErr, OnOk};
 ghost use Rattle.std.specs.List.{zip};
 ghost use Rattle.event_accounts.specs.Accounts.{buffers, buffers_of};
 ghost use Rattle.event_accounts.specs.InputLines.{input_line, input_lines};
@@ -55,9 +55,8 @@ fn push_machine<T, L: InputLine<T>>(
     Ok(())
 }
 
-/// Appends the line of each input of a network, by machine and then by input. Where memory runs out
-/// some of them may have been appended.
-pub fn push_inputs<T, L: InputLine<T>>(
+// Appends the lines of the machines, one after the other.
+fn push_machines<T, L: InputLine<T>>(
     line: &L,
     net: &Network,
     items: &List<T>,
@@ -74,4 +73,21 @@ pub fn push_inputs<T, L: InputLine<T>>(
         first += net.machines.get(m).inputs.len();
     }
     Ok(())
+}
+
+/// Appends the line of each input of a network, by machine and then by input.
+pub fn push_inputs<T, L: InputLine<T>>(
+    line: &L,
+    net: &Network,
+    items: &List<T>,
+    into: &mut Bytes,
+) -> Result<(), NoMemory>
+    requires { length items.now ≡ length (buffers net.now) }
+    ensures ok { OnOk result (into.new
+        ≡ into.old ++ input_lines (L.line line.now) net.now items.now) }
+    ensures err { OnErr result (into.new ≡ into.old) }
+{
+    let mut text = into.beside();
+    push_machines(line, net, items, &mut text)?;
+    into.push(text.as_slice())
 }

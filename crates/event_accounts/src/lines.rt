@@ -88,7 +88,6 @@ pub fn push_accounts(
     ensures ok { OnOk result (into.new ≡ into.old ++ accounts_text net.now accounts.now) }
     ensures err { OnErr result (into.new ≡ into.old) }
 {
-    let mut text = into.beside();
-    push_inputs(&AccountLine, net, accounts, &mut text)?;
-    into.push(text.as_slice())
+    push_inputs(&AccountLine, net, accounts, into)?;
+    Ok(())
 }

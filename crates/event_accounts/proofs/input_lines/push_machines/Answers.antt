@@ -4,7 +4,7 @@ use Rattle.event_accounts.specs.InputLines.{input_line}
 use Rattle.event_accounts.proofs.InputLines.{buffers_next, buffers_within, machines_more}
 use Rattle.event_accounts.proofs.InputsOf.{inputs_of_machine}
 use Rattle.event_accounts.proofs.RowsOf.{buffers_many}
-use Rattle.event_accounts.proofs.input_lines.push_inputs.Goals as goal
+use Rattle.event_accounts.proofs.input_lines.push_machines.Goals as goal
 
 pub push_machine-requires-clause-many : goal.push_machine-requires-clause-many
 push_machine-requires-clause-many g c =

@@ -3,7 +3,7 @@ use Rattle.std.specs.List.{flat_map, zip}
 use Rattle.polis_base.specs.Lists.{upto}
 use Rattle.event_accounts.specs.Accounts.{buffers_of}
 use Rattle.event_accounts.specs.InputLines.{input_line}
-use Rattle.event_accounts.proofs.input_lines.push_inputs.Given as goal
+use Rattle.event_accounts.proofs.input_lines.push_machines.Given as goal
 
 -- the lines of the machines before this one, and the place of its first item
 abbrev pub invariant-loop-m : goal.invariant-loop-m

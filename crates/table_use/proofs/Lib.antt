@@ -23,3 +23,4 @@ mod Emitted
 mod Turning
 mod SeenOnes
 mod Marked
+mod AgreeingReads

@@ -1,4 +1,4 @@
--- What of its tables a journal used, and which events it used up or kept for nothing.
+-- What of its tables a journal used, which events it consumed without effect, and where it jammed.
 use Rattle.std.specs.Prelude.{◌≡◌, ℕ, Bool, false, not, ◌&&◌, ◌==◌, List, map, count_by, length, slice_get, Some}
 use Rattle.std.specs.List.{enumerate_from}
 use Rattle.polis_base.specs.Lists.{upto, head_of, places_where}

@@ -99,8 +99,8 @@ fn push_untaken_rows(rows: &List<Tally>, into: &mut Bytes) -> Result<(), NoMemor
     Ok(())
 }
 
-/// Appends `never M N : K K K`, where there are rows that aren't taken.
-pub fn push_never(machine: &Machine, rows: &List<Tally>, into: &mut Bytes) -> Result<(), NoMemory>
+// Appends `never M N : K K K`, where there are rows that aren't taken.
+fn push_never_line(machine: &Machine, rows: &List<Tally>, into: &mut Bytes) -> Result<(), NoMemory>
     ensures { OnOk result (into.new ≡ into.old ++ never_line machine.now rows.now) }
 {
     let count = untaken_count(rows);
@@ -114,6 +114,16 @@ pub fn push_never(machine: &Machine, rows: &List<Tally>, into: &mut Bytes) -> Re
     into.push(b" :")?;
     push_untaken_rows(rows, into)?;
     into.push(b"\n")
+}
+
+/// Appends `never M N : K K K`, where there are rows that aren't taken.
+pub fn push_never(machine: &Machine, rows: &List<Tally>, into: &mut Bytes) -> Result<(), NoMemory>
+    ensures ok { OnOk result (into.new ≡ into.old ++ never_line machine.now rows.now) }
+    ensures err { OnErr result (into.new ≡ into.old) }
+{
+    let mut text = into.beside();
+    push_never_line(machine, rows, &mut text)?;
+    into.push(text.as_slice())
 }
 
 // Appends the line of an input of this name.
@@ -175,7 +185,7 @@ fn push_machine(
 {
     push_machine_line(machine, used, into)?;
     push_taken_rows(machine, &used.rows, into)?;
-    push_never(machine, &used.rows, into)?;
+    push_never_line(machine, &used.rows, into)?;
     push_inputs(net, machine, &used.inputs, into)
 }
 

@@ -4,7 +4,7 @@ ghost use Rattle.polis_base.specs.Lines.{line};
 ghost use Rattle.transition_table.specs.samples.Join.{join, join_machine};
 ghost use Rattle.journals.specs.Runs.{join_overwritten_run};
 ghost use Rattle.journals.specs.Seen.{is_seen};
-ghost use Rattle.table_use.specs.Use.{alone, can_fire, is_jammed, is_unused, without};
+ghost use Rattle.table_use.specs.Use.{alone, can_fire, IsJammed, IsUnused, without};
 ghost use Rattle.table_use.specs.Coverage.{coverages};
 ghost use Rattle.table_use.specs.CoverageLines.{coverage_text};
 ghost use Rattle.table_use.specs.DomainUse.{unused_domain_line, unused_domains};
@@ -18,10 +18,11 @@ pub fn worked_use()
     ensures without { without (0 ∷ 1 ∷ 1 ∷ 0 ∷ []) 2 ≡ 0 ∷ 1 ∷ 0 ∷ 0 ∷ [] }
     ensures alone { alone odd_machine (1 ∷ 1 ∷ 0 ∷ 1 ∷ []) 0 ≡ 1 ∷ 0 ∷ 0 ∷ 1 ∷ [] }
     ensures unseen { is_seen odd_machine (0 ∷ 0 ∷ 0 ∷ 1 ∷ []) ≡ false }
-    ensures unused { is_unused odd_machine 2 (0 ∷ 1 ∷ 1 ∷ 0 ∷ []) ≡ true }
-    ensures needed { is_unused odd_machine 1 (0 ∷ 1 ∷ 1 ∷ 0 ∷ []) ≡ false }
-    ensures jammed { is_jammed odd_machine (1 ∷ 1 ∷ 0 ∷ 1 ∷ []) ≡ true }
-    ensures waits { is_jammed join_machine (1 ∷ 0 ∷ []) ≡ false }
+    ensures unused { IsUnused odd_machine 2 (0 ∷ 1 ∷ 1 ∷ 0 ∷ []) }
+    ensures needed { ¬ IsUnused odd_machine 1 (0 ∷ 1 ∷ 1 ∷ 0 ∷ []) }
+    ensures no_input { ¬ IsUnused odd_machine 3 (0 ∷ 1 ∷ 1 ∷ 1 ∷ []) }
+    ensures jammed { IsJammed odd_machine (1 ∷ 1 ∷ 0 ∷ 1 ∷ []) }
+    ensures waits { ¬ IsJammed join_machine (1 ∷ 0 ∷ []) }
     ensures joins { can_fire join_machine (1 ∷ 1 ∷ []) ≡ true }
 {}
 

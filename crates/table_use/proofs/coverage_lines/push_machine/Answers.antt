@@ -25,7 +25,7 @@ returns c =
     subst (λ (l : List ℕ). OnOk c.push_inputs.result (c.push_inputs.new.into ≡ l))
     (joined c.args.into.now (machine_line machine used)
     (flat_map (taken_line machine) (enumerate_from 0 used.rows)) (never_line machine used.rows)
-    inputs c.push_machine_line.new.into c.push_taken_rows.new.into c.push_never.new.into
+    inputs c.push_machine_line.new.into c.push_taken_rows.new.into c.push_never_line.new.into
     c.in_ok-push_machine_line.ensures c.in_ok-push_taken_rows.ensures
-    c.in_ok-push_never.ensures)
+    c.in_ok-push_never_line.ensures)
     c.push_inputs.ensures

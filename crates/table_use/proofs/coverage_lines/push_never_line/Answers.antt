@@ -3,7 +3,7 @@ use Rattle.std.specs.Prelude.{OnOk}
 use Rattle.std.proofs.lemmas.Bool.{ne_eqb}
 use Rattle.std.proofs.lemmas.List.{append_assoc}
 use Rattle.table_use.specs.CoverageLines.{is_untaken, never_line}
-use Rattle.table_use.proofs.coverage_lines.push_never.Goals as goal
+use Rattle.table_use.proofs.coverage_lines.push_never_line.Goals as goal
 
 pub returns : goal.returns
 returns c =

@@ -48,7 +48,7 @@ returns-then-not-sees_at c =
     let idle = sym (c.fires_at.ensures s c.requires.fits c.requires.number)
     ∙ c.if-fires_at.false in
     sym (counts_is m c.args.i s true false false false _ there
-    (unused_is m c.args.i s true false _ _ there idle refl refl) idle
+    (unused_is m c.args.i s true false _ _ c.requires.input there idle refl refl) idle
     (sym (c.sees_at.ensures t (fits_without m.vars s c.args.i c.requires.fits)
     (sym c.number_without-other.ensures)) ∙ c.if-not-sees_at.true) refl)
 
@@ -70,6 +70,6 @@ returns c =
     ∙ c.if-fires_at.false in
     c.fires_at-2.ensures t fit (sym c.number_without-other.ensures)
     ∙ sym (counts_is m c.args.i s true false false true _ there
-    (unused_is m c.args.i s true false _ _ there idle refl refl) idle
+    (unused_is m c.args.i s true false _ _ c.requires.input there idle refl refl) idle
     (sym (c.sees_at.ensures t fit (sym c.number_without-other.ensures))
     ∙ c.if-not-sees_at.false) refl)

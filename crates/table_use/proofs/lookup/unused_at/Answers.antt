@@ -19,7 +19,7 @@ pub returns-then-get-eq0 : goal.returns-then-get-eq0
 returns-then-get-eq0 c =
     let m = c.args.lookup.now.machine.now in
     let s = c.args.codes.now in
-    sym (unused_is m c.args.i s false _ _ _
+    sym (unused_is m c.args.i s false _ _ _ c.requires.input
     (absent s c.args.i c.get.result.now c.get.ensures c.if-get-eq0.true) refl refl refl)
 
 pub fires_at-requires : goal.fires_at-requires
@@ -32,7 +32,7 @@ pub returns-then-not-fires_at : goal.returns-then-not-fires_at
 returns-then-not-fires_at c =
     let m = c.args.lookup.now.machine.now in
     let s = c.args.codes.now in
-    sym (unused_is m c.args.i s true false _ _
+    sym (unused_is m c.args.i s true false _ _ c.requires.input
     (present s c.args.i c.get.result.now c.get.ensures c.if-get-eq0.false)
     (sym (c.fires_at.ensures s c.requires.fits c.requires.number) ∙ c.if-not-fires_at.true)
     refl refl)
@@ -41,7 +41,7 @@ pub returns-then-not-sees_at : goal.returns-then-not-sees_at
 returns-then-not-sees_at c =
     let m = c.args.lookup.now.machine.now in
     let s = c.args.codes.now in
-    sym (unused_is m c.args.i s true true false _
+    sym (unused_is m c.args.i s true true false _ c.requires.input
     (present s c.args.i c.get.result.now c.get.ensures c.if-get-eq0.false)
     (sym (c.fires_at.ensures s c.requires.fits c.requires.number) ∙ c.if-not-fires_at.false)
     (sym (c.sees_at.ensures (without s c.args.i) (fits_without m.vars s c.args.i c.requires.fits)
@@ -68,7 +68,7 @@ returns c =
     let t = without s c.args.i in
     let fit = fits_without m.vars s c.args.i c.requires.fits in
     c.same_at.ensures s t c.requires.fits fit c.requires.number (sym c.number_without-other.ensures)
-    ∙ sym (unused_is m c.args.i s true true true _
+    ∙ sym (unused_is m c.args.i s true true true _ c.requires.input
     (present s c.args.i c.get.result.now c.get.ensures c.if-get-eq0.false)
     (sym (c.fires_at.ensures s c.requires.fits c.requires.number) ∙ c.if-not-fires_at.false)
     (sym (c.sees_at.ensures t fit (sym c.number_without-other.ensures)) ∙ c.if-not-sees_at.false)

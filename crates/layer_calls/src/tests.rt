@@ -6,6 +6,7 @@ mod copies;
 mod diagrams;
 mod labels;
 mod machines;
+mod moves;
 mod printed;
 mod tables;
 mod texts;

@@ -103,7 +103,7 @@ when belt_on, key_on, s = wait do s := off
 :: shows Refused refused net conflict m 0 2 a b ; -
 :: given
 :: note Command lines over two networks, and calls of the host that fail. What is refused stays
-refused where the show fails.
+refused where the show fails, and what differs differs.
 :: file net @value.net
 :: case two files of one text
 :: file two @value.net
@@ -146,6 +146,12 @@ refused where the show fails.
 :: fail 2
 :: call equiv net two
 :: shows WriteFault
+:: faults 0 1
+:: case the line of two that differ fails
+:: change two @value.net v = 5 => v = 6
+:: fail 2
+:: call equiv net two
+:: shows Differ
 :: faults 0 1
 :: case the line of a refusal fails
 :: file two @join.net

@@ -87,6 +87,12 @@ pub const FAILING: &str = r#"
 :: call check net
 :: shows WriteFault
 :: faults 0 1
+:: case the lines of an explanation
+:: file net @lamp.net
+:: fail 1
+:: call explain net
+:: shows WriteFault
+:: faults 0 1
 :: case the network of a compilation
 :: file net @lamp.net
 :: fail 0

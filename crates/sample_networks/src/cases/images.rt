@@ -153,6 +153,12 @@ machine lamp_ctl code 6 tries 1 steps 6
 :: call image net p
 :: shows WriteFault write fault p.img
 :: faults 0 1
+:: case the line of the image fails
+:: fail 2
+:: call image net p
+:: shows WriteFault
+:: holds p.img @lamp.img
+:: faults 0 1
 :: case no network to compile
 :: call image none p
 :: shows Refused refused none absent

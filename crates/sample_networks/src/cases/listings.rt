@@ -2,8 +2,8 @@
 
 /// Texts that several cases name: listings of compiled networks, worked out from the rules of the
 /// texts, the image of the lamp (the magic, version 1, one machine, its name, the sizes of two
-/// variables and of three results, six instructions: two tests, three sets, a halt), three
-/// networks, what runs save and show, and surveys of the seat belt.
+/// variables and of three results, six instructions: two tests, three sets, a halt), its drawing,
+/// the wave of one press, three networks, what runs save and show, and surveys of the seat belt.
 pub const SHARED: &str = r#"
 :: text lamp.lst
 polis listing 1
@@ -383,6 +383,59 @@ entries 2 complete
 lost 0
 gathered 0 adopted 0
 machine lamp_ctl vertices 7 code 6 tries 1 steps 6
+:: text pressed.vcd
+$version polis wave 1 $end
+$timescale 1 ns $end
+$scope module lamp $end
+$scope module lamp_ctl $end
+$var wire 1 0 press $end
+$var string 1 1 s $end
+$scope module lost-events $end
+$var event 1 2 press $end
+$upscope $end
+$upscope $end
+$scope module env $end
+$var event 1 3 light $end
+$upscope $end
+$upscope $end
+$enddefinitions $end
+#0
+$dumpvars
+00
+soff 1
+$end
+#1
+10
+#2
+00
+son 1
+13
+:: text lamp.dot
+digraph "lamp" {
+  rankdir=LR;
+  env [label="environment", shape=plaintext];
+  out [label="environment", shape=plaintext];
+  m0 [label="lamp_ctl\x5cnpriority 1", shape=box];
+  env -> m0 [label="press"];
+  m0 -> out [label="light"];
+}
+digraph "lamp_ctl" {
+  v0 [label="begin lamp_ctl", shape=oval];
+  v1 [label="press", shape=diamond];
+  v2 [label="s", shape=diamond];
+  v3 [label="go", shape=box];
+  v4 [label="s := on", shape=box];
+  v5 [label="emit light", shape=box];
+  v6 [label="end", shape=oval];
+  v0 -> v1;
+  v1 -> v2 [label="present"];
+  v1 -> v6 [label="absent"];
+  v2 -> v3 [label="off"];
+  v2 -> v6 [label="on"];
+  v3 -> v4;
+  v4 -> v5;
+  v5 -> v6;
+}
 :: text joined.jnl
 polis journal 2
 @1 dep env m a

@@ -44,4 +44,11 @@ press
 settle
 :: repeat trc 1 # press
 :: shows Done legal 0 open
+:: given
+:: case a press more than there may be
+:: file net @lamp.net
+:: file trc
+:: repeat trc 10001 press
+:: call run net trc o
+:: shows Refused refused trc line 10001 many
 "#;

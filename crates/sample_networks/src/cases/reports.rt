@@ -76,33 +76,7 @@ buffer timer tick delivered 11 read 1 lost 10 left 0 first 3
 :: file jnl @pressed.jnl
 :: call wave net trc jnl o
 :: shows Done wave 2
-:: holds o.vcd
-$version polis wave 1 $end
-$timescale 1 ns $end
-$scope module lamp $end
-$scope module lamp_ctl $end
-$var wire 1 0 press $end
-$var string 1 1 s $end
-$scope module lost-events $end
-$var event 1 2 press $end
-$upscope $end
-$upscope $end
-$scope module env $end
-$var event 1 3 light $end
-$upscope $end
-$upscope $end
-$enddefinitions $end
-#0
-$dumpvars
-00
-soff 1
-$end
-#1
-10
-#2
-00
-son 1
-13
+:: holds o.vcd @pressed.vcd
 :: case a wave of the join, whose one loss stands at the second moment
 :: file net @join.net
 :: file trc @join.trc
@@ -147,30 +121,27 @@ $end
 :: file jnl
 :: call draw net o
 :: shows Done machine lamp_ctl vertices 7 code 6
-:: holds o.dot
-digraph "lamp" {
-  rankdir=LR;
-  env [label="environment", shape=plaintext];
-  out [label="environment", shape=plaintext];
-  m0 [label="lamp_ctl\x5cnpriority 1", shape=box];
-  env -> m0 [label="press"];
-  m0 -> out [label="light"];
-}
-digraph "lamp_ctl" {
-  v0 [label="begin lamp_ctl", shape=oval];
-  v1 [label="press", shape=diamond];
-  v2 [label="s", shape=diamond];
-  v3 [label="go", shape=box];
-  v4 [label="s := on", shape=box];
-  v5 [label="emit light", shape=box];
-  v6 [label="end", shape=oval];
-  v0 -> v1;
-  v1 -> v2 [label="present"];
-  v1 -> v6 [label="absent"];
-  v2 -> v3 [label="off"];
-  v2 -> v6 [label="on"];
-  v3 -> v4;
-  v4 -> v5;
-  v5 -> v6;
-}
+:: holds o.dot @lamp.dot
+:: given
+:: note Reports whose line isn't shown.
+:: file net @lamp.net
+:: file trc press
+:: file jnl @pressed.jnl
+:: case the lines of losses
+:: fail 3
+:: call losses net trc jnl
+:: shows WriteFault
+:: faults 0 1
+:: case the line of a wave
+:: fail 4
+:: call wave net trc jnl o
+:: shows WriteFault
+:: holds o.vcd @pressed.vcd
+:: faults 0 1
+:: case the lines of a drawing
+:: fail 2
+:: call draw net o
+:: shows WriteFault
+:: holds o.dot @lamp.dot
+:: faults 0 1
 "#;

@@ -371,6 +371,26 @@ machine m priority 0 {
 :: call run net trc o
 :: shows Refused refused net lex byte 18
 :: given
+:: note Runs of texts that aren't networks. A sum stands in no sentence of version 1: in the last
+text its sign is byte 162.
+:: file trc press
+:: call run net trc o
+:: case a row that is cut off, before a run
+:: file net @open_row.net
+:: shows Refused refused net syntax 77
+:: case a byte that begins no token, before a run
+:: file net network %\
+:: shows Refused refused net lex byte 8
+:: case a name of 25 bytes, before a run
+:: file net network abcdefghijklmnopqrstuvwxy\
+:: shows Refused refused net lex name 8
+:: case a number of more than 32 bits, before a run
+:: file net network t version 4294967296\
+:: shows Refused refused net lex number 18
+:: case a sum in version 1, before a run
+:: change net @echo.net version 2 => version 1
+:: shows Refused refused net syntax 162
+:: given
 :: note The listing says nothing of priorities.
 :: case two machines of one priority are compiled
 :: file net @even.net

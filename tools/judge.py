@@ -30,6 +30,7 @@ class Machine:
 
     def __init__(self, name):
         self.name, self.inputs, self.outputs, self.states, self.rows = name, [], [], {}, []
+        self.priority = None
 
 
 class Network:
@@ -38,7 +39,8 @@ class Network:
     def __init__(self, text):
         self.tokens = deque(re.findall(r"\w+|:=|\.\.|\S", re.sub(r"#[^\n]*", "", text)))
         self.domains, self.events, self.from_env, self.machines = {}, {}, set(), {}
-        self.take(4)
+        self.to_env = set()
+        self.name = self.take(4)[1]
         readers = {"domain": self.domain, "event": self.event, "machine": self.machine}
         while self.tokens:
             readers[self.next()]()
@@ -80,12 +82,13 @@ class Network:
             self.from_env.add(name)
             self.next()
         elif self.goes_on("to"):
+            self.to_env.add(name)
             self.next()
 
     def machine(self):
         machine = Machine(self.next())
         self.machines[machine.name] = machine
-        self.take(3)
+        machine.priority = self.take(3)[1]
         while not self.goes_on("}"):
             word = self.next()
             if word == "input":
@@ -137,6 +140,24 @@ class Network:
         if word == "value":
             return "value", self.next()
         return ("plus", int(self.next())) if self.goes_on("+") else word
+
+    def outcome(self, machine, seen):
+        """What the first row that is enabled sets and emits, or None; absent inputs aren't seen."""
+        enabled = [actions for conditions, actions in machine.rows if enables(conditions, seen)]
+        if not enabled:
+            return None
+        given = {"set": {}, "emit": {}}
+        for kind, name, source in enabled[0]:
+            given[kind][name] = self.value(machine, name, source, seen)
+        return given
+
+    def value(self, machine, name, source, seen):
+        if not isinstance(source, tuple):
+            return source
+        if source[0] == "value":
+            return seen[source[1]]
+        words = self.domains[machine.states[name][0]]
+        return words[(words.index(seen[name]) + source[1]) % len(words)]
 
 
 def trace_of(text):
@@ -191,23 +212,8 @@ class Run:
             self.owed[sender, receiver].append(((event, value), stamp))
 
     def outcome(self, machine):
-        """What the rows give on the snapshot: what is set and what is emitted, or None."""
-        seen = {**self.states[machine.name], **self.places[machine.name]}
-        enabled = [actions for conditions, actions in machine.rows if enables(conditions, seen)]
-        if not enabled:
-            return None
-        given = {"set": {}, "emit": {}}
-        for kind, name, source in enabled[0]:
-            given[kind][name] = self.value(machine, name, source, seen)
-        return given
-
-    def value(self, machine, name, source, seen):
-        if not isinstance(source, tuple):
-            return source
-        if source[0] == "value":
-            return seen[source[1]]
-        words = self.net.domains[machine.states[name][0]]
-        return words[(words.index(seen[name]) + source[1]) % len(words)]
+        """What the rows give on the snapshot, or None."""
+        return self.net.outcome(machine, {**self.states[machine.name], **self.places[machine.name]})
 
     def follows(self, entry):
         """Whether the entry may come next; where it may, it has come."""

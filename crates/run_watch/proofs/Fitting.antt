@@ -9,6 +9,7 @@ use Rattle.polis_base.proofs.AllPass.{all_in_both, all_pass}
 use Rattle.polis_base.proofs.Found.{find_is}
 use Rattle.domains.specs.Names.{are_distinct, is_same}
 use Rattle.domains.proofs.Names.{same_self, same_texts}
+use Rattle.polis_base.specs.declared.limits.TheConstants.{ENTRIES_MAX}
 use Rattle.transition_table.specs.NetworkFacts.{event_values, values_of}
 use Rattle.transition_table.specs.NetworkNames.{event_name}
 use Rattle.transition_table.specs.declared.decl.EventDecl.{EventDecl}
@@ -18,22 +19,21 @@ use Rattle.machine_equiv.specs.Shapes.{event_words}
 use Rattle.machine_equiv.proofs.SameForm.{count_of, counted}
 use Rattle.journals.specs.declared.entry.Entry.{Entry}
 use Rattle.journals.specs.declared.entry.Entry.TheVariants.{Dep, Rea}
-use Rattle.journals.specs.declared.entry.TraceItem.{TraceItem}
-use Rattle.journals.specs.declared.entry.TraceItem.TheVariants.{Event, Settle}
+use Rattle.journals.specs.declared.entry.TraceItem.TheVariants.{Event}
 use Rattle.journals.specs.Journals.{IsJournal, IsTrace, emissions, is_event_code, is_trace_item, same_party}
 use Rattle.journals.specs.Outputs.{goes_out, outputs}
 use Rattle.journals.proofs.DeliveredBeginsSent.{party_from_same}
 use Rattle.journals.proofs.FitsNetwork.{emissions_fit}
 use Rattle.run_watch.specs.Emissions.{placed_outputs}
 use Rattle.run_watch.specs.Hearings.{IsHearing}
-use Rattle.run_watch.specs.Laws.{TraceFits}
-use Rattle.run_watch.specs.Monitors.{HasOutput, IsMonitor, heard, hears, hears_at, items_as, items_of, settled, watch_trace, watched}
-use Rattle.run_watch.specs.Watches.{IsAnswerTo}
+use Rattle.run_watch.specs.Laws.{TraceFits, items_as, items_of}
+use Rattle.run_watch.specs.Monitors.{HasOutput, IsMonitor, heard, heard_by, hears, hears_at, settled, watched}
+use Rattle.run_watch.specs.Watches.{IsAnswer, IsAnswerTo}
 use Rattle.run_watch.specs.declared.answer.Watched.{Watched}
 use Rattle.run_watch.specs.declared.emission.Emission.{Emission}
 use Rattle.run_watch.specs.declared.hearing.Hearing.{Hearing}
-use Rattle.run_watch.specs.inner.Hearings.{heard_by}
-use Rattle.run_watch.proofs.Hears.{heard_same, trace_is}
+use Rattle.run_watch.specs.inner.Hearings.{looked_up}
+use Rattle.run_watch.proofs.Hears.{heard_same, trace_tells_outputs}
 use Rattle.run_watch.proofs.Placed.{event_code, placed_are_outputs}
 
 -- ---- outputs have codes of their events
@@ -288,13 +288,14 @@ items_fit net monitor ((e, c) ∷ ps) may all =
 
 pub trace_fits : TraceFits
 trace_fits net monitor journal may fits =
-    items_fit net monitor (outputs net journal) may (outputs_fit net journal fits)
+    subst (IsTrace monitor) (sym (trace_tells_outputs net monitor journal))
+    (items_fit net monitor (outputs net journal) may (outputs_fit net journal fits))
 
 -- ---- by what was looked up
 
 pub heard_is : (net monitor : Network) (hearing : Hearing) (journal : List Entry)
     (xs : List Emission) → IsHearing net monitor hearing → IsJournal net journal
-    → xs ≡ filter_map (heard_by hearing.events) (placed_outputs net journal)
+    → xs ≡ filter_map (heard_by (looked_up hearing.events)) (placed_outputs net journal)
     → xs ≡ heard net monitor journal
 heard_is net monitor hearing journal xs by fits is =
     is
@@ -305,15 +306,11 @@ pub settled_fits : (net monitor : Network) (journal : List Entry) (xs : List Emi
     → IsMonitor net monitor → IsJournal net journal → xs ≡ heard net monitor journal
     → IsTrace monitor (settled xs)
 settled_fits net monitor journal xs may fits is =
-    subst (IsTrace monitor) (sym (ap settled is ∙ trace_is net monitor journal))
+    subst (λ (l : List Emission). IsTrace monitor (settled l)) (sym is)
     (trace_fits net monitor journal may fits)
 
-pub answer_moved : (net monitor : Network) (journal : List Entry) (xs : List Emission) (n : ℕ)
+pub answer_moved : (net monitor : Network) (journal : List Entry) (xs : List Emission)
     (answer : Watched) → xs ≡ heard net monitor journal
-    → IsAnswerTo monitor (settled xs) n xs answer
-    → IsAnswerTo monitor (watch_trace net monitor journal) n (heard net monitor journal) answer
-answer_moved net monitor journal xs n answer is says =
-    subst
-    (λ (t : List TraceItem). IsAnswerTo monitor t n (heard net monitor journal) answer)
-    (trace_is net monitor journal)
-    (subst (λ (l : List Emission). IsAnswerTo monitor (settled l) n l answer) is says)
+    → IsAnswerTo monitor xs ENTRIES_MAX answer → IsAnswer net monitor journal answer
+answer_moved net monitor journal xs answer is says =
+    subst (λ (l : List Emission). IsAnswerTo monitor l ENTRIES_MAX answer) is says

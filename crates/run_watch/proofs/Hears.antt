@@ -16,34 +16,34 @@ use Rattle.journals.specs.declared.entry.TraceItem.TheVariants.{Event, Settle}
 use Rattle.journals.specs.Journals.{event_of, reads, sent}
 use Rattle.journals.proofs.MomentsAfter.{get_or_table}
 use Rattle.run_watch.specs.Emissions.{placed_outputs}
-use Rattle.run_watch.specs.Monitors.{heard, heard_as, hears, hears_at, items_as, items_of, settled, then_settle, watch_trace, watched}
+use Rattle.run_watch.specs.Laws.{TraceTellsOutputs, items_as, items_of}
+use Rattle.run_watch.specs.Monitors.{heard_by, hears, hears_at, settled, then_settle, watched}
 use Rattle.run_watch.specs.Watches.{sources}
 use Rattle.run_watch.specs.declared.emission.Emission.{Emission}
-use Rattle.run_watch.specs.inner.Hearings.{heard_by, looked_up}
+use Rattle.run_watch.specs.inner.Hearings.{looked_up}
 use Rattle.run_watch.proofs.Placed.{event_code, placed_are_outputs}
 
 -- ---- the trace
 
 settled_heard : (net monitor : Network) (xs : List Emission)
-    → settled (filter_map (heard_as net monitor) xs)
+    → settled (filter_map (heard_by (watched net monitor)) xs)
     ≡ flat_map (items_of net monitor) (map event_code xs)
 settled_heard net monitor [] = refl
 settled_heard net monitor (x ∷ xs) =
     cases (watched net monitor x.event) (settled_heard net monitor xs)
   where
     cases : (o : Option ℕ)
-        → settled (filter_map (heard_as net monitor) xs)
+        → settled (filter_map (heard_by (watched net monitor)) xs)
         ≡ flat_map (items_of net monitor) (map event_code xs)
         → settled
         (cons_option (option_map (λ w. record { place = x.place; event = w; code = x.code }) o)
-        (filter_map (heard_as net monitor) xs))
+        (filter_map (heard_by (watched net monitor)) xs))
         ≡ items_as o x.code ++ flat_map (items_of net monitor) (map event_code xs)
     cases None rest = rest
     cases (Some w) rest = ap (λ (l : List TraceItem). Event w x.code ∷ Settle ∷ l) rest
 
-pub trace_is : (net monitor : Network) (journal : List Entry)
-    → settled (heard net monitor journal) ≡ watch_trace net monitor journal
-trace_is net monitor journal =
+pub trace_tells_outputs : TraceTellsOutputs
+trace_tells_outputs net monitor journal =
     settled_heard net monitor (placed_outputs net journal)
     ∙ ap (flat_map (items_of net monitor)) (placed_are_outputs net journal)
 
@@ -91,7 +91,7 @@ table_is f n e below =
 pub heard_same : (net monitor : Network) (events : List (Option ℕ)) (xs : List Emission)
     → events ≡ map (watched net monitor) (upto (length net.events))
     → list_all (λ x. nat_lt x.event (length net.events)) xs ≡ true
-    → filter_map (heard_by events) xs ≡ filter_map (heard_as net monitor) xs
+    → filter_map (heard_by (looked_up events)) xs ≡ filter_map (heard_by (watched net monitor)) xs
 heard_same net monitor events [] are all = refl
 heard_same net monitor events (x ∷ xs) are all =
     let parts =
@@ -104,8 +104,8 @@ heard_same net monitor events (x ∷ xs) are all =
     ap
     (λ (o : Option ℕ). cons_option
     (option_map (λ w. record { place = x.place; event = w; code = x.code }) o)
-    (filter_map (heard_by events) xs)) one
-    ∙ ap (cons_option (heard_as net monitor x))
+    (filter_map (heard_by (looked_up events)) xs)) one
+    ∙ ap (cons_option (heard_by (watched net monitor) x))
     (heard_same net monitor events xs are parts.1)
 
 -- ---- one item more
@@ -118,11 +118,12 @@ taken_more {X} xs k x at =
 
 pub heard_more : (events : List (Option ℕ)) (outputs : List Emission) (k : ℕ) (x : Emission)
     → slice_get outputs k ≡ Some x
-    → filter_map (heard_by events) (take (k + 1) outputs)
-    ≡ filter_map (heard_by events) (take k outputs) ++ filter_map (heard_by events) (x ∷ [])
+    → filter_map (heard_by (looked_up events)) (take (k + 1) outputs)
+    ≡ filter_map (heard_by (looked_up events)) (take k outputs)
+    ++ filter_map (heard_by (looked_up events)) (x ∷ [])
 heard_more events outputs k x at =
-    ap (filter_map (heard_by events)) (taken_more outputs k x at)
-    ∙ filter_map-append (heard_by events) (take k outputs) (x ∷ [])
+    ap (filter_map (heard_by (looked_up events))) (taken_more outputs k x at)
+    ∙ filter_map-append (heard_by (looked_up events)) (take k outputs) (x ∷ [])
 
 pub settled_more : (heard : List Emission) (k : ℕ) (x : Emission) → slice_get heard k ≡ Some x
     → settled (take (k + 1) heard)

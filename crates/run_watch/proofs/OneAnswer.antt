@@ -1,13 +1,12 @@
 -- Laws of what monitors say.
-use Rattle.std.proofs.Common.{◌≡◌, ℕ, List, [], ◌∷◌, length, Some, refl, sym, ap, ◌∙◌, subst}
+use Rattle.std.proofs.Common.{◌≡◌, ℕ, List, [], ◌∷◌, Some, refl, sym, ap, ◌∙◌, subst}
 use Rattle.std.proofs.lemmas.Option.{none-some, some_pair_parts}
 use Rattle.polis_base.specs.declared.limits.TheConstants.{ENTRIES_MAX}
 use Rattle.polis_base.specs.Lists.{head_of}
-use Rattle.transition_table.specs.declared.decl.Party.TheVariants.{Env}
 use Rattle.transition_table.specs.declared.network.Network.{Network}
 use Rattle.journals.specs.declared.entry.Entry.{Entry}
 use Rattle.journals.specs.declared.entry.TraceItem.{TraceItem}
-use Rattle.journals.specs.Journals.{IsJournal, sent}
+use Rattle.journals.specs.Journals.{IsJournal}
 use Rattle.journals.specs.Laws.{FollowingIsLegal, OneSchedule, ScheduleOfLength, StopsWhereComplete}
 use Rattle.journals.specs.Legality.{Legal}
 use Rattle.journals.specs.Outputs.{outputs}
@@ -23,15 +22,13 @@ use Rattle.run_watch.specs.declared.answer.Watched.{Watched}
 use Rattle.run_watch.specs.declared.answer.Watched.TheVariants.{Held, Unfinished, Found}
 use Rattle.run_watch.specs.declared.emission.Emission.{Emission}
 use Rattle.run_watch.proofs.Fitting.{trace_fits}
-use Rattle.run_watch.proofs.Hears.{sources_many, trace_is}
+use Rattle.run_watch.proofs.Hears.{sources_many}
 use Rattle.run_watch.proofs.Placed.{first_placed, none_placed}
 use Rattle.run_watch.proofs.Telling.{one_place, some_place}
 
 pub sources_in_step : SourcesInStep
 sources_in_step net monitor journal watch m =
     sources_many monitor (heard net monitor journal) m watch
-    ∙ ap (λ (t : List TraceItem). length (sent monitor t Env m watch))
-    (trace_is net monitor journal)
 
 pub complaint_stands : FollowingIsLegal → ComplaintStands
 complaint_stands following net monitor journal watch n may fits scheduled some =
@@ -39,9 +36,8 @@ complaint_stands following net monitor journal watch n may fits scheduled some =
   where
     legal : Legal monitor (settled (heard net monitor journal)) watch
     legal =
-        subst (λ (t : List TraceItem). Legal monitor t watch) (sym (trace_is net monitor journal))
-        (following monitor (watch_trace net monitor journal) watch 0
-        (trace_fits net monitor journal may fits) (tt, tt) scheduled.follows)
+        following monitor (watch_trace net monitor journal) watch 0
+        (trace_fits net monitor journal may fits) (tt, tt) scheduled.follows
 
     go : (xs : List Emission) → placed_outputs monitor watch ≡ xs
         → (place : ℕ) × StandsAt monitor (heard net monitor journal) watch place
@@ -56,10 +52,8 @@ complaint_stands following net monitor journal watch n may fits scheduled some =
 none_and_some : {X : Type 0} (xs : List X) (x : X) → xs ≡ [] → head_of xs ≡ Some x → ⊥
 none_and_some xs x none some = none-some x (sym (ap head_of none) ∙ some)
 
-module _ (monitor : Network) (trace : List TraceItem) (heard : List Emission)
-    (watch : List Entry) where
-  pub says_one : (a b : Watched) → Says monitor trace heard watch a
-      → Says monitor trace heard watch b → a ≡ b
+module _ (monitor : Network) (heard : List Emission) (watch : List Entry) where
+  pub says_one : (a b : Watched) → Says monitor heard watch a → Says monitor heard watch b → a ≡ b
   says_one Held Held x y = refl
   says_one Held Unfinished x y = absurd (y.1 x.1)
   says_one Held (Found d) x y = absurd (none_and_some _ (d.event, d.code) x.0 y.0)
@@ -80,13 +74,12 @@ module _ (monitor : Network) (trace : List TraceItem) (heard : List Emission)
 
 pub one_answer : OneSchedule → OneAnswer
 one_answer one net monitor journal a b sure may fits x y =
-    let trace : List TraceItem = watch_trace net monitor journal in
     let all : List Emission = heard net monitor journal in
     let same : x.watch ≡ y.watch =
-    one monitor trace ENTRIES_MAX x.watch y.watch sure (trace_fits net monitor journal may fits)
+    one monitor (settled all) ENTRIES_MAX x.watch y.watch sure (trace_fits net monitor journal may fits)
     x.scheduled y.scheduled in
-    says_one monitor trace all y.watch a b
-    (subst (λ (w : List Entry). Says monitor trace all w a) same x.says) y.says
+    says_one monitor all y.watch a b
+    (subst (λ (w : List Entry). Says monitor all w a) same x.says) y.says
 
 -- ---- there is an answer
 
@@ -95,7 +88,7 @@ some_says : StopsWhereComplete → FollowingIsLegal → (net monitor : Network)
     → IsSchedule monitor (watch_trace net monitor journal) n watch
     → Legal monitor (watch_trace net monitor journal) watch
     → (answer : Watched)
-    × Says monitor (watch_trace net monitor journal) (heard net monitor journal) watch answer
+    × Says monitor (heard net monitor journal) watch answer
 some_says stops following net monitor journal watch n may fits scheduled legal =
     go (placed_outputs monitor watch) refl
   where
@@ -106,7 +99,7 @@ some_says stops following net monitor journal watch n may fits scheduled legal =
     all = heard net monitor journal
 
     silent : outputs monitor watch ≡ [] → (p : Pick) → pick monitor trace watch ≡ p
-        → (answer : Watched) × Says monitor trace all watch answer
+        → (answer : Watched) × Says monitor all watch answer
     silent none Stop is = (Held, (none, (stops monitor trace watch legal).0 is))
     silent none (Deliver s m e c) is = (
       Unfinished,
@@ -126,7 +119,7 @@ some_says stops following net monitor journal watch n may fits scheduled legal =
     )
 
     go : (xs : List Emission) → placed_outputs monitor watch ≡ xs
-        → (answer : Watched) × Says monitor trace all watch answer
+        → (answer : Watched) × Says monitor all watch answer
     go [] is = silent (none_placed monitor watch is) (pick monitor trace watch) refl
     go (x ∷ xs) is =
         let first : head_of (placed_outputs monitor watch) ≡ Some x =

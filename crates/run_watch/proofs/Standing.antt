@@ -9,7 +9,7 @@ use Rattle.journals.specs.Journals.{reads}
 use Rattle.journals.specs.Outputs.{outputs}
 use Rattle.run_watch.specs.Emissions.{emission_at, placed_in, placed_outputs}
 use Rattle.run_watch.specs.Laws.{EmitsHeard, StandsAtHeard}
-use Rattle.run_watch.specs.Monitors.{heard, heard_as, watched}
+use Rattle.run_watch.specs.Monitors.{heard, heard_by, watched}
 use Rattle.run_watch.specs.declared.emission.Emission.{Emission}
 
 -- an item that is numbered stands there
@@ -46,7 +46,7 @@ placed_at net journal y member =
 
 -- what is heard is of an output at its place
 heard_at : (net monitor : Network) (journal : List Entry) (y x : Emission)
-    → Contains (placed_outputs net journal) y → heard_as net monitor y ≡ Some x
+    → Contains (placed_outputs net journal) y → heard_by (watched net monitor) y ≡ Some x
     → EmitsHeard net monitor journal x.place
 heard_at net monitor journal y x member is =
     go (watched net monitor y.event) refl is
@@ -79,5 +79,5 @@ stands_at_heard net monitor journal watch place stands =
     place (in_at _ stands.told.number place stands.told.source) in
     let (member, read) = of_filter (λ (x : Emission). reads monitor m x.event) all x kept in
     let (y, output, told) =
-    of_filter_map (heard_as net monitor) (placed_outputs net journal) x member in
+    of_filter_map (heard_by (watched net monitor)) (placed_outputs net journal) x member in
     subst (EmitsHeard net monitor journal) is (heard_at net monitor journal y x output told)

@@ -169,8 +169,7 @@ restless_owes complete =
     let count : ◌≡◌ {A = ℕ} 2 3 = same in
     absurd (omega arith)
 
-pub cut : IsAnswerTo restless (watch_trace (two 1 1) restless two_by_number_run) 6
-    (heard (two 1 1) restless two_by_number_run) Unfinished
+pub cut : IsAnswerTo restless (heard (two 1 1) restless two_by_number_run) 6 Unfinished
 cut = record {
   watch = restless_cut;
   scheduled =

@@ -1,15 +1,16 @@
 -- Laws of monitors.
-use Rattle.std.specs.Prelude.{◌≡◌, ◌≢◌, ℕ, List, [], ◌∷◌, map, length, slice_get, Some}
+use Rattle.std.specs.Prelude.{◌≡◌, ◌≢◌, ℕ, List, [], ◌∷◌, map, flat_map, length, slice_get, Option, Some, None}
 use Rattle.std.specs.List.{Contains}
 use Rattle.transition_table.specs.Transitions.{AreDeterministic}
 use Rattle.transition_table.specs.declared.decl.Party.TheVariants.{Env}
 use Rattle.transition_table.specs.declared.network.Network.{Network}
 use Rattle.journals.specs.declared.entry.Entry.{Entry}
+use Rattle.journals.specs.declared.entry.TraceItem.{TraceItem}
 use Rattle.journals.specs.Journals.{IsJournal, IsTrace, sent}
 use Rattle.journals.specs.Outputs.{outputs}
 use Rattle.journals.specs.Schedules.{IsSchedule}
 use Rattle.run_watch.specs.Emissions.{placed_outputs}
-use Rattle.run_watch.specs.Monitors.{IsMonitor, heard, watch_trace, watched}
+use Rattle.run_watch.specs.Monitors.{IsMonitor, heard, then_settle, watch_trace, watched}
 use Rattle.run_watch.specs.Watches.{IsAnswer, StandsAt, sources}
 use Rattle.run_watch.specs.declared.answer.Watched.{Watched}
 use Rattle.run_watch.specs.declared.emission.Emission.{Emission}
@@ -19,6 +20,21 @@ abbrev pub PlacedAreOutputs : Type 0
 PlacedAreOutputs =
     (net : Network) (journal : List Entry)
     → map (λ x. (x.event, x.code)) (placed_outputs net journal) ≡ outputs net journal
+
+-- an output is told by the event that it is heard as, with its code, and by the wish to wait; one
+-- that isn't heard by nothing
+abbrev pub items_as : Option ℕ → ℕ → List TraceItem
+items_as None code = []
+items_as (Some w) code = then_settle w code
+
+abbrev pub items_of : Network → Network → ℕ × ℕ → List TraceItem
+items_of net monitor (e, code) = items_as (watched net monitor e) code
+
+-- the trace on which a monitor hears a journal tells its outputs, one after another
+abbrev pub TraceTellsOutputs : Type 0
+TraceTellsOutputs =
+    (net monitor : Network) (journal : List Entry)
+    → watch_trace net monitor journal ≡ flat_map (items_of net monitor) (outputs net journal)
 
 -- what a monitor hears of a journal of the network is a trace of the monitor
 abbrev pub TraceFits : Type 0
@@ -92,6 +108,7 @@ OneAnswer =
 -- What follows from the definitions.
 pub record WatchLaws : Type 0 where
   pub placed : PlacedAreOutputs
+  pub tells : TraceTellsOutputs
   pub fits : TraceFits
   pub in_step : SourcesInStep
   pub stands : ComplaintStands

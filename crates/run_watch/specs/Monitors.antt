@@ -1,5 +1,5 @@
 -- Which networks are monitors of another, and what a monitor hears of a journal.
-use Rattle.std.specs.Prelude.{◌≡◌, ℕ, Bool, false, ◌&&◌, List, [], ◌∷◌, filter_map, find, flat_map, length, slice_get, Option, Some, None, option_map, unwrap_or, IsTrue}
+use Rattle.std.specs.Prelude.{◌≡◌, ℕ, Bool, false, ◌&&◌, List, [], ◌∷◌, filter_map, find, flat_map, length, slice_get, Option, Some, option_map, unwrap_or, IsTrue}
 use Rattle.polis_base.specs.Lists.{upto}
 use Rattle.domains.specs.Names.{is_same}
 use Rattle.transition_table.specs.NetworkNames.{event_name}
@@ -11,7 +11,6 @@ use Rattle.journals.specs.declared.entry.Entry.{Entry}
 use Rattle.journals.specs.declared.entry.TraceItem.{TraceItem}
 use Rattle.journals.specs.declared.entry.TraceItem.TheVariants.{Event, Settle}
 use Rattle.journals.specs.Journals.{same_party}
-use Rattle.journals.specs.Outputs.{outputs}
 use Rattle.run_watch.specs.Emissions.{placed_outputs}
 use Rattle.run_watch.specs.declared.emission.Emission.{Emission}
 
@@ -56,15 +55,16 @@ abbrev pub watched : Network → Network → ℕ → Option ℕ
 watched net monitor e =
     find (hears_at monitor (event_name net e)) (upto (length monitor.events))
 
--- what the monitor hears of an emission: its own event with the code
-abbrev pub heard_as : Network → Network → Emission → Option Emission
-heard_as net monitor x =
-    option_map (λ w. record { place = x.place; event = w; code = x.code })
-    (watched net monitor x.event)
+-- what is heard of an emission where an event is heard as the one of this number: that event with
+-- the code, at the same place
+abbrev pub heard_by : (ℕ → Option ℕ) → Emission → Option Emission
+heard_by number x =
+    option_map (λ w. record { place = x.place; event = w; code = x.code }) (number x.event)
 
--- what it hears of a journal: of each output that it has an event for
+-- what the monitor hears of a journal: of each output that it has an event for
 abbrev pub heard : Network → Network → List Entry → List Emission
-heard net monitor journal = filter_map (heard_as net monitor) (placed_outputs net journal)
+heard net monitor journal =
+    filter_map (heard_by (watched net monitor)) (placed_outputs net journal)
 
 -- ---- the trace of a monitor
 
@@ -72,18 +72,10 @@ heard net monitor journal = filter_map (heard_as net monitor) (placed_outputs ne
 abbrev pub then_settle : ℕ → ℕ → List TraceItem
 then_settle w code = Event w code ∷ Settle ∷ []
 
--- for what was heard
+-- so for each event that is heard
 abbrev pub settled : List Emission → List TraceItem
 settled heard = flat_map (λ x. then_settle x.event x.code) heard
 
--- for an output, if the monitor has an event for it
-abbrev pub items_as : Option ℕ → ℕ → List TraceItem
-items_as None code = []
-items_as (Some w) code = then_settle w code
-
-abbrev pub items_of : Network → Network → ℕ × ℕ → List TraceItem
-items_of net monitor (e, code) = items_as (watched net monitor e) code
-
--- the trace of the monitor: each output that it has an event for, and after each it waits
+-- of a journal: each event that the monitor hears of it, and after each it waits
 abbrev pub watch_trace : Network → Network → List Entry → List TraceItem
-watch_trace net monitor journal = flat_map (items_of net monitor) (outputs net journal)
+watch_trace net monitor journal = settled (heard net monitor journal)

@@ -10,6 +10,7 @@ use Rattle.journals.specs.declared.entry.Entry.{Entry}
 use Rattle.journals.specs.Samples.{delivers, fires}
 use Rattle.run_watch.specs.declared.answer.Watched.{Watched}
 use Rattle.run_watch.specs.declared.answer.Watched.TheVariants.{Found}
+use Rattle.run_watch.specs.declared.emission.Emission.{Emission}
 
 -- A monitor that complains of ya after yb.
 --   domain bit = { off, on }
@@ -138,6 +139,12 @@ restless_cut =
 -- it is told of yb
 abbrev pub loud_told : List Entry
 loud_told = delivers Env 0 0 ∷ fires 0 (1 ∷ []) [] (1 ∷ []) ∷ []
+
+-- ---- what is heard
+
+-- the monitor's event of this number, which the entry at this place emits
+abbrev pub told : ℕ → ℕ → Emission
+told place event = record { place = place; event = event; code = 1 }
 
 -- ---- what is said
 

@@ -6,13 +6,12 @@ use Rattle.transition_table.specs.declared.decl.Party.TheVariants.{Env, Machine 
 use Rattle.transition_table.specs.declared.network.Network.{Network}
 use Rattle.journals.specs.declared.entry.Entry.{Entry}
 use Rattle.journals.specs.declared.entry.Entry.TheVariants.{Dep, Rea}
-use Rattle.journals.specs.declared.entry.TraceItem.{TraceItem}
 use Rattle.journals.specs.Journals.{delivered, reads}
 use Rattle.journals.specs.Legality.{Complete}
 use Rattle.journals.specs.Outputs.{outputs}
 use Rattle.journals.specs.Schedules.{IsSchedule}
 use Rattle.run_watch.specs.Emissions.{placed_outputs}
-use Rattle.run_watch.specs.Monitors.{heard, watch_trace}
+use Rattle.run_watch.specs.Monitors.{heard, settled}
 use Rattle.run_watch.specs.declared.answer.Watched.{Watched}
 use Rattle.run_watch.specs.declared.answer.Watched.TheVariants.{Held, Unfinished, Found}
 use Rattle.run_watch.specs.declared.emission.Emission.{Emission}
@@ -52,25 +51,24 @@ pub record StandsAt (monitor : Network) (heard : List Emission) (watch : List En
 
 -- ---- answers
 
--- what the monitor says, by its journal on this trace
-abbrev pub Says : Network → List TraceItem → List Emission → List Entry → Watched → Type 0
-Says monitor trace heard watch Held = (outputs monitor watch ≡ []) × Complete monitor trace watch
-Says monitor trace heard watch Unfinished =
-    (outputs monitor watch ≡ []) × (Complete monitor trace watch → ⊥)
-Says monitor trace heard watch (Found c) =
+-- what the monitor says, by what it hears and by its journal on the trace of that
+abbrev pub Says : Network → List Emission → List Entry → Watched → Type 0
+Says monitor heard watch Held =
+    (outputs monitor watch ≡ []) × Complete monitor (settled heard) watch
+Says monitor heard watch Unfinished =
+    (outputs monitor watch ≡ []) × (Complete monitor (settled heard) watch → ⊥)
+Says monitor heard watch (Found c) =
     (head_of (outputs monitor watch) ≡ Some (c.event, c.code))
     × StandsAt monitor heard watch c.place
 
--- what it says on a trace on which it hears these: its journal is the scheduler's, of at most so
--- many entries
-pub record IsAnswerTo (monitor : Network) (trace : List TraceItem) (limit : ℕ)
-    (heard : List Emission) (answer : Watched) : Type 0 where
+-- what it says where it hears these: its journal is the scheduler's, of at most so many entries
+pub record IsAnswerTo (monitor : Network) (heard : List Emission) (limit : ℕ) (answer : Watched) :
+    Type 0 where
   pub watch : List Entry
-  pub scheduled : IsSchedule monitor trace limit watch
-  pub says : Says monitor trace heard watch answer
+  pub scheduled : IsSchedule monitor (settled heard) limit watch
+  pub says : Says monitor heard watch answer
 
 -- what it says of a journal of the network
 abbrev pub IsAnswer : Network → Network → List Entry → Watched → Type 0
 IsAnswer net monitor journal answer =
-    IsAnswerTo monitor (watch_trace net monitor journal) ENTRIES_MAX (heard net monitor journal)
-    answer
+    IsAnswerTo monitor (heard net monitor journal) ENTRIES_MAX answer

@@ -2,10 +2,9 @@
 ghost use Rattle.std.specs.Prelude.{◌≡◌, ◌++◌, [], ◌∷◌, length, filter_map, find, map, IfOk, OnOk};
 ghost use Rattle.polis_base.specs.Lists.{upto};
 ghost use Rattle.journals.specs.Journals.{IsJournal};
-ghost use Rattle.run_watch.specs.Emissions.{placed_outputs};
 ghost use Rattle.run_watch.specs.Hearings.{IsHearing};
-ghost use Rattle.run_watch.specs.Monitors.{hears, hears_at, settled, watched};
-ghost use Rattle.run_watch.specs.inner.Hearings.{heard_by, looked_up};
+ghost use Rattle.run_watch.specs.Monitors.{heard, heard_by, hears, hears_at, settled, watched};
+ghost use Rattle.run_watch.specs.inner.Hearings.{looked_up};
 
 use crate::emission::{Emission, placed_outputs};
 use crate::monitor::is_env;
@@ -83,8 +82,8 @@ fn push_heard(
     output: &Emission,
     into: &mut List<Emission>,
 ) -> Result<(), NoMemory>
-    ensures { OnOk result (into.new ≡ into.old ++ filter_map (heard_by events.now)
-        (output.now ∷ [])) }
+    ensures { OnOk result (into.new
+        ≡ into.old ++ filter_map (heard_by (looked_up events.now)) (output.now ∷ [])) }
 {
     if let Some(event) = look_up(events, output.event) {
         into.push(Emission {
@@ -102,7 +101,8 @@ fn heard_of(
     events: &List<Option<u32>>,
     outputs: &List<Emission>,
 ) -> Result<List<Emission>, NoMemory>
-    ensures { IfOk result (λ heard. heard ≡ filter_map (heard_by events.now) outputs.now) }
+    ensures { IfOk result (λ all. all
+        ≡ filter_map (heard_by (looked_up events.now)) outputs.now) }
 {
     let mut heard = List::new(alloc);
     for k in 0..outputs.len() {
@@ -112,19 +112,19 @@ fn heard_of(
     Ok(heard)
 }
 
-/// What a monitor with these events hears of a journal.
+/// What the monitor for which this was looked up hears of a journal.
 pub(crate) fn heard_in(
     alloc: Global,
     net: &Network,
-    events: &List<Option<u32>>,
+    hearing: &Hearing,
     journal: &Journal,
 ) -> Result<List<Emission>, NoMemory>
     requires { IsJournal net.now journal.now }
-    ensures { IfOk result (λ heard. heard
-        ≡ filter_map (heard_by events.now) (placed_outputs net.now journal.now)) }
+    ensures { IfOk result (λ all. (monitor : Network)
+        → IsHearing net.now monitor hearing.now → all ≡ heard net.now monitor journal.now) }
 {
     let outputs = placed_outputs(alloc, net, journal)?;
-    let heard = heard_of(alloc, events, &outputs)?;
+    let heard = heard_of(alloc, &hearing.events, &outputs)?;
     Ok(heard)
 }
 

@@ -19,4 +19,4 @@ pub use law::laws;
 pub use lines::push_watched;
 pub use monitor::is_monitor;
 pub use watching::{watch, watch_with};
-pub use worked::{refused_answers, worked_answers, worked_lines, worked_monitors};
+pub use worked::{refused_answers, worked_answers, worked_hearing, worked_lines, worked_monitors};

@@ -30,8 +30,7 @@ fn answer_of(
     requires legal { Legal monitor.now (settled heard.now) finished.now.journal }
     requires complete { IsTrue finished.now.complete
         ↔ Complete monitor.now (settled heard.now) finished.now.journal }
-    ensures says { IfOk result
-        (Says monitor.now (settled heard.now) heard.now finished.now.journal) }
+    ensures says { IfOk result (Says monitor.now heard.now finished.now.journal) }
     ensures shown { IfOk result (IsShown monitor.now) }
 {
     let complaints = placed_outputs(alloc, monitor, &finished.journal)?;
@@ -59,8 +58,7 @@ fn answer_to<R: Reactor>(
 ) -> Result<Watched, NoMemory>
     requires plan { IsPlanOf (R.meaning monitor.now) plan.now }
     requires trace { IsTrace (R.meaning monitor.now) (settled heard.now) }
-    ensures answer { IfOk result
-        (IsAnswerTo (R.meaning monitor.now) (settled heard.now) ENTRIES_MAX heard.now) }
+    ensures answer { IfOk result (IsAnswerTo (R.meaning monitor.now) heard.now ENTRIES_MAX) }
     ensures shown { IfOk result (IsShown (R.meaning monitor.now)) }
 {
     let trace = trace_of(alloc, heard)?;
@@ -90,7 +88,7 @@ pub fn watch_with<R: Reactor>(
     ensures answer { IfOk result (IsAnswer net.now (R.meaning monitor.now) journal.now) }
     ensures shown { IfOk result (IsShown (R.meaning monitor.now)) }
 {
-    let heard = heard_in(alloc, net, &hearing.events, journal)?;
+    let heard = heard_in(alloc, net, hearing, journal)?;
     let answer = answer_to(alloc, monitor, &hearing.plan, &heard)?;
     Ok(answer)
 }

@@ -1,10 +1,11 @@
 // Worked rows: what monitors of a small network say of its journals.
-ghost use Rattle.std.specs.Prelude.{◌≡◌, codes};
+ghost use Rattle.std.specs.Prelude.{◌≡◌, [], ◌∷◌, codes};
 ghost use Rattle.polis_base.specs.Lines.{line};
 ghost use Rattle.journals.specs.Runs.{two_by_number_run, two_by_priority_run};
 ghost use Rattle.journals.specs.Samples.{lamp, two};
+ghost use Rattle.journals.specs.declared.entry.TraceItem.TheVariants.{Event, Settle};
 ghost use Rattle.run_watch.specs.Monitors.{IsMonitor, heard, watch_trace};
-ghost use Rattle.run_watch.specs.Samples.{late_at, loud, loud_at, order, restless};
+ghost use Rattle.run_watch.specs.Samples.{late_at, loud, loud_at, order, restless, told};
 ghost use Rattle.run_watch.specs.WatchLines.{watched_line};
 ghost use Rattle.run_watch.specs.Watches.{IsAnswer, IsAnswerTo};
 ghost use Rattle.run_watch.specs.declared.answer.Watched.{Watched};
@@ -19,6 +20,13 @@ pub fn worked_monitors()
     ensures other { ¬ IsMonitor (two 2 1) lamp }
 {}
 
+/// What two of them hear: one both outputs, and one the second alone; and the trace of that.
+pub fn worked_hearing()
+    ensures both { heard (two 2 1) order two_by_priority_run ≡ told 2 1 ∷ told 3 0 ∷ [] }
+    ensures one { heard (two 1 1) loud two_by_number_run ≡ told 3 0 ∷ [] }
+    ensures trace { watch_trace (two 1 1) loud two_by_number_run ≡ Event 0 1 ∷ Settle ∷ [] }
+{}
+
 /// What they say: one complains at the second output, and holds where the outputs come the other
 /// way round; one isn't told of the first output, and complains at the second; and one goes on
 /// beyond six entries.
@@ -26,8 +34,8 @@ pub fn worked_answers()
     ensures late { IsAnswer (two 2 1) order two_by_priority_run (late_at 3) }
     ensures kept { IsAnswer (two 1 1) order two_by_number_run Watched.Held }
     ensures told { IsAnswer (two 1 1) loud two_by_number_run (loud_at 3) }
-    ensures cut { IsAnswerTo restless (watch_trace (two 1 1) restless two_by_number_run) 6
-        (heard (two 1 1) restless two_by_number_run) Watched.Unfinished }
+    ensures cut { IsAnswerTo restless (heard (two 1 1) restless two_by_number_run) 6
+        Watched.Unfinished }
 {}
 
 /// What the one that complains at the second output doesn't say: that all holds, that it wasn't

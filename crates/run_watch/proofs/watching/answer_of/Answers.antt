@@ -3,7 +3,6 @@ use Rattle.std.proofs.lemmas.Bool.{false≢true}
 use Rattle.std.proofs.lemmas.List.{nil_from_length}
 use Rattle.polis_base.specs.Lists.{head_of}
 use Rattle.run_watch.specs.Emissions.{placed_outputs}
-use Rattle.run_watch.specs.Monitors.{settled}
 use Rattle.run_watch.specs.Watches.{Says}
 use Rattle.run_watch.specs.declared.emission.Emission.{Emission}
 use Rattle.run_watch.proofs.Fitting.{first_fits}
@@ -32,10 +31,10 @@ returns-then-len-eq0-clause-says c =
     (sym c.len.ensures ∙ c.if-len-eq0.true)) in
     elim c.if-finished.branch [
       | then-finished w ↦
-          subst (Says monitor (settled heard) heard watch) (sym w.result-is)
+          subst (Says monitor heard watch) (sym w.result-is)
           (none, c.requires.complete.0 w.if-finished.true)
       | else-finished w ↦
-          subst (Says monitor (settled heard) heard watch) (sym w.result-is) (
+          subst (Says monitor heard watch) (sym w.result-is) (
             none,
             λ complete. false≢true (sym w.if-finished.false ∙ c.requires.complete.1 complete),
           )

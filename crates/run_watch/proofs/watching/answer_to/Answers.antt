@@ -3,7 +3,6 @@ use Rattle.polis_base.specs.declared.limits.TheConstants.{ENTRIES_MAX}
 use Rattle.transition_table.specs.declared.network.Network.{Network}
 use Rattle.journals.specs.declared.entry.TraceItem.{TraceItem}
 use Rattle.journals.specs.Schedules.{IsSchedule}
-use Rattle.run_watch.specs.Monitors.{settled}
 use Rattle.run_watch.specs.Watches.{Says}
 use Rattle.run_watch.proofs.watching.answer_to.Goals as goal
 
@@ -19,6 +18,6 @@ returns-clause-answer g c =
           ENTRIES_MAX watch) c.in_ok-trace.ensures
           (c.in_ok-finished.ensures.schedule c.new.ensures);
       says =
-          subst (λ (net : Network). Says net (settled heard) heard watch c.in_ok-answer.answer)
+          subst (λ (net : Network). Says net heard watch c.in_ok-answer.answer)
           c.network.ensures c.in_ok-answer.ensures.says;
     }

@@ -41,7 +41,7 @@ loop-m-preserved c =
           never_more machines rows c.loop-m.m c.loop-m.first c.len-count-in-loop-m.result machine
           c.loop-m.into c.push_never.new.into (c.args.into.now ++ never_lines machines rows)
           c.get-machine.ensures c.len-count-in-loop-m.ensures
-          (c.in_ok-push_never.ensures
+          (c.in_ok-push_never.ensures.ok
           ∙ ap (λ (l : List Tally). c.loop-m.into ++ never_line machine l)
           c.in_ok-tallies.ensures)
           c.loop-m.invariant.lines;

@@ -14,6 +14,7 @@ use Rattle.run_watch.specs.declared.answer.Watched.{Watched}
 use Rattle.run_survey.specs.declared.figures.Figures.{Figures}
 use Rattle.run_survey.specs.declared.told.Survey.{Survey}
 use Rattle.run_survey.specs.Figures.{figures_of}
+use Rattle.run_survey.specs.Joins.{CoversBoth, TellsBoth}
 use Rattle.run_survey.specs.Kinds.{most_kinds}
 use Rattle.run_survey.specs.Runs.{AreFiguresFrom, AreFiguresOf, IsShapedBy, IsSurveyOf}
 use Rattle.run_survey.specs.Surveys.{AreAlike, IsOfRuns, IsSurvey, texts_of}
@@ -71,7 +72,7 @@ module _ (net : Network) (monitor : Option Network) (trace : List TraceItem) (or
   }
 
   -- ---- of all
-  pub joined_from : (seed a b : ℕ) (xs ys : List Figures)
+  joined_from : (seed a b : ℕ) (xs ys : List Figures)
       → AreFiguresFrom net monitor trace order limit seed a xs
       → AreFiguresFrom net monitor trace order limit (seed + a) b ys
       → AreFiguresFrom net monitor trace order limit seed (a + b) (xs ++ ys)
@@ -96,20 +97,6 @@ module _ (net : Network) (monitor : Option Network) (trace : List TraceItem) (or
           subst (λ (n : ℕ). AreFiguresOf net monitor trace order limit n f)
           (let e : seed + a + j ≡ seed + k = omega arith in e)
           (next.each j f there)
-
-  pub joined_runs : (seed a b : ℕ) (s t new : Survey)
-      → (of : IsSurveyOf net monitor trace order limit seed a s)
-      → (next : IsSurveyOf net monitor trace order limit (seed + a) b t)
-      → ((first : ℕ) (xs ys : List Figures) → IsSurvey first xs s
-      → IsSurvey (first + length xs) ys t → IsSurvey first (xs ++ ys) new)
-      → IsSurveyOf net monitor trace order limit seed (a + b) new
-  joined_runs seed a b s t new of next joins = record {
-    figures = of.figures ++ next.figures;
-    drawn = joined_from seed a b of.figures next.figures of.drawn next.drawn;
-    told =
-        joins seed of.figures next.figures of.told
-        (subst (λ (n : ℕ). IsSurvey (seed + n) next.figures t) (sym of.drawn.many) next.told);
-  }
 
   -- ---- what joining asks for
   pub of_runs : (seed a : ℕ) (s : Survey) → IsSurveyOf net monitor trace order limit seed a s → IsOfRuns s
@@ -150,6 +137,18 @@ module _ (net : Network) (monitor : Option Network) (trace : List TraceItem) (or
       let many = of.drawn.many in
       let size = length-map of.figures (λ (f : Figures). f.outputs) in
       of.told.others ∙ none_beyond most_kinds seed (texts_of of.figures) (omega arith)
+
+-- so the survey of both is of all these runs
+pub covers_both : (one next all : Survey) → TellsBoth one next all → CoversBoth one next all
+covers_both one next all tells net monitor trace order limit seed a b of more = record {
+  figures = of.figures ++ more.figures;
+  drawn =
+      joined_from net monitor trace order limit seed a b of.figures more.figures of.drawn
+      more.drawn;
+  told =
+      tells seed of.figures more.figures of.told
+      (subst (λ (n : ℕ). IsSurvey (seed + n) more.figures next) (sym of.drawn.many) more.told);
+}
 
 pub alike : (net : Network) (monitor : Option Network) (s t : Survey) → IsShapedBy net monitor s
     → IsShapedBy net monitor t → AreAlike s t

@@ -1,12 +1,17 @@
 -- Surveys of some runs and of those after them.
-use Rattle.std.proofs.Common.{◌≡◌, ℕ, ◌+◌, ◌<◌, ◌≤◌, ◌^◌, cond, nat_lt, List, [], ◌∷◌, ◌++◌, map, length, take, drop, count_by, slice_get, slice_index, sum_by, Option, Some, None, refl, sym, ap, subst, ◌∙◌, append-nil, arith}
+use Rattle.std.proofs.Common.{◌≡◌, ℕ, ◌+◌, ◌<◌, ◌≤◌, ◌^◌, cond, nat_lt, List, [], ◌∷◌, ◌++◌, map, length, take, drop, count_by, slice_get, slice_index, sum_by, Option, Some, None, IfSome, refl, sym, ap, subst, ◌∙◌, append-nil, arith}
 use Rattle.std.proofs.lemmas.List.{length-append, length-map, map-append, take-append-drop, take-map}
 use Rattle.std.proofs.lemmas.List.Sums.{count_by-le-length, sum_by-append}
+use Rattle.transition_table.specs.declared.network.Network.{Network}
+use Rattle.run_watch.specs.WatchLines.{IsShown}
+use Rattle.run_watch.specs.declared.answer.Watched.TheVariants.{Found}
 use Rattle.run_survey.specs.declared.figures.Figures.{Figures}
+use Rattle.run_survey.specs.declared.told.FoundRuns.{FoundRuns}
 use Rattle.run_survey.specs.declared.told.Kind.{Kind}
 use Rattle.run_survey.specs.declared.told.Others.{Others}
 use Rattle.run_survey.specs.declared.told.Spread.{Spread}
 use Rattle.run_survey.specs.declared.told.Survey.{Survey}
+use Rattle.run_survey.specs.Joins.{KeepsShape, TellsBoth}
 use Rattle.run_survey.specs.Kinds.{kind_of, most_kinds, new_texts}
 use Rattle.run_survey.specs.Spreads.{AreSpreads, column}
 use Rattle.run_survey.specs.Surveys.{AreAlike, IsOfRuns, IsSurvey, texts_of}
@@ -167,10 +172,9 @@ kinds_of_all first xs ys one next new none joins before after =
     subst (λ (l : List Kind). AreTold most_kinds l new.kinds.items new.others) all
     (joins.kinds (all_kinds first texts) (told_of first xs one before))
 
-pub survey_of_all : (first : ℕ) (xs ys : List Figures) (one next new : Survey)
-    → AreAlike one next → next.others ≡ None → IsJoined one next new → IsSurvey first xs one
-    → IsSurvey (first + length xs) ys next → IsSurvey first (xs ++ ys) new
-survey_of_all first xs ys one next new alike none joins before after =
+pub tells_both : (one next new : Survey) → AreAlike one next → next.others ≡ None
+    → IsJoined one next new → TellsBoth one next new
+tells_both one next new alike none joins first xs ys before after =
     let some = before.some in
     let other = after.some in
     let many = length-append xs ys in
@@ -210,3 +214,31 @@ survey_of_all first xs ys one next new alike none joins before after =
       taken = spreads_of_all (λ (f : Figures). f.taken) first xs ys one.taken next.taken new.taken
           some other alike.taken joins.taken before.taken after.taken;
     }
+
+-- ---- its shape
+
+found_shown : (m : Network) (one next : Option FoundRuns)
+    → IfSome one (λ f. IsShown m (Found f.complaint))
+    → IfSome next (λ f. IsShown m (Found f.complaint))
+    → IfSome (found_joined one next) (λ f. IsShown m (Found f.complaint))
+found_shown m None next here more = more
+found_shown m (Some found) next here more = here
+
+complaint_shown : (monitor : Option Network) (one next new : Survey) → IsJoined one next new
+    → IfSome monitor (λ m. IfSome one.found (λ f. IsShown m (Found f.complaint)))
+    → IfSome monitor (λ m. IfSome next.found (λ f. IsShown m (Found f.complaint)))
+    → IfSome monitor (λ m. IfSome new.found (λ f. IsShown m (Found f.complaint)))
+complaint_shown None one next new joins here more = tt
+complaint_shown (Some m) one next new joins here more =
+    subst (λ (o : Option FoundRuns). IfSome o (λ f. IsShown m (Found f.complaint)))
+    (sym joins.found)
+    (found_shown m one.found next.found here more)
+
+pub keeps_shape : (one next new : Survey) → IsJoined one next new → KeepsShape one next new
+keeps_shape one next new joins net monitor here more = record {
+  lost = joins.lost.long ∙ here.lost;
+  unused = joins.unused.long ∙ here.unused;
+  jammed = joins.jammed.long ∙ here.jammed;
+  taken = joins.taken.long ∙ here.taken;
+  shown = complaint_shown monitor one next new joins here.shown more.shown;
+}

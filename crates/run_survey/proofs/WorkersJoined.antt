@@ -12,7 +12,7 @@ use Rattle.run_survey.specs.declared.workers.Job.{Job}
 use Rattle.run_survey.specs.declared.workers.Piece.{Piece}
 use Rattle.run_survey.specs.Runs.{IsSurveyOf}
 use Rattle.run_survey.specs.inner.Workers.{AreInRow, ArePieces, CanFollow, ComesTo, IsFollowed, IsPiece, IsSoFar, Task, Tells, runs_of}
-use Rattle.run_survey.proofs.RunsJoined.{alike, joined_runs, neighbours, of_runs, runs_are}
+use Rattle.run_survey.proofs.RunsJoined.{alike, neighbours, of_runs, runs_are}
 use Rattle.run_survey.proofs.Shapes.{shaped}
 
 module _ (net : Network) (monitor : Option Network) (tables : List Results) (trace : List TraceItem) (drawing : Drawing)
@@ -81,8 +81,7 @@ module _ (net : Network) (monitor : Option Network) (tables : List Results) (tra
         (let e : seed + done ≡ seed = omega arith in e) is.told))
     so_far_joined seed done size (Some s) piece None told is joins = absurd joins
     so_far_joined seed done size (Some s) piece (Some all) told is joins =
-        joined_runs net monitor trace drawing.order drawing.limit seed done size s piece.survey all told
-        is.told joins
+        joins net monitor trace drawing.order drawing.limit seed done size told is.told
 
 -- ---- how many runs are left
 

@@ -1,4 +1,5 @@
 pub mod Figures
+pub mod Joins
 pub mod Kinds
 pub mod Laws
 pub mod Runs

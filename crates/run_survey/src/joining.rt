@@ -1,7 +1,7 @@
 // Surveys of neighbouring seeds joined.
-ghost use Rattle.std.specs.Prelude.{◌≡◌, ◌+◌, ◌<◌, ◌^◌, ◌++◌, ℕ, List, length, None, OnOk};
-ghost use Rattle.run_survey.specs.declared.figures.Figures.{Figures};
-ghost use Rattle.run_survey.specs.Surveys.{AreAlike, IsOfRuns, IsSurvey};
+ghost use Rattle.std.specs.Prelude.{◌≡◌, ◌+◌, ◌<◌, ◌^◌, None, OnOk};
+ghost use Rattle.run_survey.specs.Joins.{CoversBoth, KeepsShape, TellsBoth};
+ghost use Rattle.run_survey.specs.Surveys.{AreAlike, IsOfRuns};
 
 use crate::kinds::join_kinds;
 use crate::said::{join_found, join_others};
@@ -10,8 +10,8 @@ use crate::told::Survey;
 use polis_base::NoMemory;
 
 impl Survey {
-    /// The survey of these runs and of those after them, which have no others. Where memory runs
-    /// out it tells nothing any more.
+    /// Joins to it the survey of the runs of the seeds after its own, which has no others: it is
+    /// then the survey of both. Where memory runs out it tells nothing any more.
     pub fn join(&mut self, next: &Survey) -> Result<(), NoMemory>
         requires told { IsOfRuns self.old }
         requires next_told { IsOfRuns next.now }
@@ -19,10 +19,9 @@ impl Survey {
         requires neighbours { next.now.seed ≡ self.old.seed + self.old.runs }
         requires no_others { next.now.others ≡ None }
         requires room { self.old.runs + next.now.runs < 2 ^ 64 }
-        ensures { OnOk result ((first : ℕ) (xs ys : List Figures)
-            → IsSurvey first xs self.old
-            → IsSurvey (first + length xs) ys next.now
-            → IsSurvey first (xs ++ ys) self.new) }
+        ensures told { OnOk result (TellsBoth self.old next.now self.new) }
+        ensures is { OnOk result (CoversBoth self.old next.now self.new) }
+        ensures shape { OnOk result (KeepsShape self.old next.now self.new) }
     {
         self.runs += next.runs;
         self.complete += next.complete;

@@ -1,4 +1,4 @@
-// What many drawn runs have in common, and the seed of each that hasn't.
+// What many drawn runs have in common, and where they differ, with the seeds of runs to look at.
 #![tactic(auto)]
 
 mod ending;

@@ -147,6 +147,7 @@ pub fn survey<R: Reactor, W: Watcher>(
     requires room { seed + runs ≤ 2 ^ 64 }
     ensures is { IfOk result (λ survey. IsSurveyOf (R.meaning r.now) (W.monitor w.now) trace.now
         order limit seed runs survey) }
+    ensures few { runs ≤ most_kinds → IfOk result (λ survey. survey.others ≡ None) }
     ensures shape { IfOk result (λ survey. IsShapedBy (R.meaning r.now) (W.monitor w.now) survey) }
 {
     let tables = tables_of(alloc, r.network())?;

@@ -1,9 +1,10 @@
 // Surveys by several workers.
-ghost use Rattle.std.specs.Prelude.{◌≡◌, ◌∷◌, ◌++◌, [], ◌+◌, ◌*◌, ◌<◌, ◌≤◌, ◌^◌, ℕ, List, All, length, IfOk, OnOk};
+ghost use Rattle.std.specs.Prelude.{◌≡◌, ◌∷◌, ◌++◌, [], ◌+◌, ◌*◌, ◌<◌, ◌≤◌, ◌^◌, ℕ, List, All, length, None, IfOk, OnOk};
 ghost use Rattle.journals.specs.Journals.{IsTrace};
 ghost use Rattle.outcome_table.specs.declared.table.Results.{Results};
 ghost use Rattle.table_use.specs.Coverage.{AreTablesOf};
 ghost use Rattle.transition_table.specs.declared.network.Network.{Network};
+ghost use Rattle.run_survey.specs.Kinds.{most_kinds};
 ghost use Rattle.run_survey.specs.Runs.{IsShapedBy, IsSurveyOf};
 ghost use Rattle.run_survey.specs.inner.Workers.{AreInRow, ArePieces, CanFollow, ComesTo, IsFollowed, IsPiece, IsReady, Knows, Task, Tells};
 
@@ -286,6 +287,7 @@ pub fn survey_by<R: Reactor + Sync, W: Watcher + Sync, T: Threads + Sync>(
     requires workers { 0 < workers }
     ensures is { IfOk result (λ survey. IsSurveyOf (R.meaning r.now) (W.monitor w.now) trace.now
         drawing.order drawing.limit seeds.first seeds.count survey) }
+    ensures few { seeds.count ≤ most_kinds → IfOk result (λ survey. survey.others ≡ None) }
     ensures shape { IfOk result (λ survey. IsShapedBy (R.meaning r.now) (W.monitor w.now) survey) }
 {
     let tables = tables_of(alloc, r.network())?;

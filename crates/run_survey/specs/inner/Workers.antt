@@ -1,5 +1,5 @@
 -- What several workers make of a range of seeds.
-use Rattle.std.specs.Prelude.{◌≡◌, ℕ, ◌+◌, ◌*◌, ◌<◌, ◌≤◌, ◌^◌, List, [], ◌∷◌, ◌++◌, length, get_or, Option, Some, None, Result, Vec, IfOk, ⊤}
+use Rattle.std.specs.Prelude.{◌≡◌, ℕ, ◌+◌, ◌*◌, ◌<◌, ◌≤◌, ◌^◌, List, [], ◌∷◌, length, get_or, Option, Some, None, Result, Vec, IfOk, ⊤}
 use Rattle.std.specs.declared.alloc.Global.{Global}
 use Rattle.polis_base.specs.declared.NoMemory.{NoMemory}
 use Rattle.transition_table.specs.declared.network.Network.{Network}
@@ -7,13 +7,13 @@ use Rattle.journals.specs.declared.entry.TraceItem.{TraceItem}
 use Rattle.outcome_table.specs.declared.table.Results.{Results}
 use Rattle.table_use.specs.Memos.{AreMemos}
 use Rattle.table_use.specs.declared.memo.Memo.{Memo}
-use Rattle.run_survey.specs.declared.figures.Figures.{Figures}
 use Rattle.run_survey.specs.declared.running.Drawing.{Drawing}
 use Rattle.run_survey.specs.declared.told.Survey.{Survey}
 use Rattle.run_survey.specs.declared.workers.Job.{Job}
 use Rattle.run_survey.specs.declared.workers.Piece.{Piece}
+use Rattle.run_survey.specs.Joins.{CoversBoth}
 use Rattle.run_survey.specs.Runs.{IsSurveyOf}
-use Rattle.run_survey.specs.Surveys.{AreAlike, IsOfRuns, IsSurvey}
+use Rattle.run_survey.specs.Surveys.{AreAlike, IsOfRuns}
 
 -- what a worker knows is so of the network's machines
 abbrev pub Knows : Network → List Results → Vec Memo Global → Type 0
@@ -101,6 +101,4 @@ CanFollow (Some s) next = Follows s next
 abbrev pub IsFollowed : Option Survey → Survey → Option Survey → Type 0
 IsFollowed None next all = all ≡ Some next
 IsFollowed (Some s) next None = ⊥
-IsFollowed (Some s) next (Some all) =
-    (first : ℕ) (xs ys : List Figures) → IsSurvey first xs s
-    → IsSurvey (first + length xs) ys next → IsSurvey first (xs ++ ys) all
+IsFollowed (Some s) next (Some all) = CoversBoth s next all

@@ -1,5 +1,5 @@
 use Rattle.std.proofs.Common.{◌+◌, arith}
-use Rattle.run_survey.proofs.RunsJoined.{alike, few_runs, joined_runs, neighbours, of_runs, runs_are}
+use Rattle.run_survey.proofs.RunsJoined.{alike, few_runs, neighbours, of_runs, runs_are}
 use Rattle.run_survey.proofs.Shapes.{shaped}
 use Rattle.run_survey.proofs.running.join_next.Goals as goal
 
@@ -34,7 +34,6 @@ join-requires g c =
 pub returns-clause-told : goal.returns-clause-told
 returns-clause-told g c =
     let old = c.args.survey.now in
-    joined_runs (g.R.Reactor.meaning c.args.r.now) (g.W.Watcher.monitor c.args.w.now)
-    c.args.trace.now c.args.drawing.order c.args.drawing.limit old.seed old.runs 1 old
-    c.in_ok-next.next c.join.new.self c.requires.told c.in_ok-next.ensures.is
-    c.in_ok-join.ensures
+    c.in_ok-join.ensures.is (g.R.Reactor.meaning c.args.r.now)
+    (g.W.Watcher.monitor c.args.w.now) c.args.trace.now c.args.drawing.order
+    c.args.drawing.limit old.seed old.runs 1 c.requires.told c.in_ok-next.ensures.is

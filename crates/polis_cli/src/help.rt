@@ -180,7 +180,7 @@ const THIS_PROGRAM: &[u8] = b"This program
   polis --version
     Shows the version.
 
-The manual is README.md, and docs/FORMATS.md states each text.
+docs/GUIDE.md shows each command on examples, and docs/FORMATS.md states each text.
 ";
 
 const VERSION: &[u8] = b"polis 0.1.0\n";

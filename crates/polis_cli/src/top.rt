@@ -1,5 +1,5 @@
 // The calls that do the program's work.
-ghost use Rattle.std.specs.Prelude.{◌≡◌};
+ghost use Rattle.std.specs.Prelude.{◌≡◌, ◌<◌};
 ghost use Rattle.polis_words.specs.Workers.{NeedsWorkers, workers_of};
 ghost use Rattle.polis_cli.specs.Commands.{meaning};
 ghost use Rattle.polis_cli.specs.Promise.{Answers, Leaves, told};
@@ -17,7 +17,7 @@ use event_buffer::Gate;
 use input_files::Detail;
 use output_files::{Product, fail, show_lines, write_product};
 use polis_base::{Host, Words};
-use polis_words::{Failure, Request, Status, request_of};
+use polis_words::{Failure, Request, Status, needs_workers, request_of};
 use std::alloc::Global;
 use std::sync::Wait;
 use std::thread::Threads;
@@ -54,7 +54,7 @@ fn make<'a, H: Host>(
     }
 }
 
-// What a request makes of the files, by as many workers as it asks for.
+// What a request that needs several workers makes of the files, by as many as it asks for.
 fn make_by<'a, T: Threads + Wait + Sync, H: Host, G: Gate + Sync>(
     rt: &T,
     alloc: Global,
@@ -62,13 +62,14 @@ fn make_by<'a, T: Threads + Wait + Sync, H: Host, G: Gate + Sync>(
     request: &'a Request<'_>,
     gate: &G,
 ) -> Result<Product, Failure<'a>>
+    requires { 1 < workers_of request.now }
     ensures made { IsMade (meaning request.now) (H.files host.old) result }
     ensures left { LeftByLoads ⟦<H as Host>⟧ (fails_unread result) host.old host.new }
 {
     match request {
-        Request::Run(run) if run.workers() > 1 => make_run_by(rt, alloc, host, run, gate),
-        Request::Survey(survey) if survey.workers() > 1 => make_survey_by(rt, alloc, host, survey),
-        _ => make(alloc, host, request),
+        Request::Run(run) => make_run_by(rt, alloc, host, run, gate),
+        Request::Survey(survey) => make_survey_by(rt, alloc, host, survey),
+        _ => unreachable!(),
     }
 }
 
@@ -104,8 +105,8 @@ pub fn serial<H: Host>(alloc: Global, words: &Words, host: &mut H) -> Status
 }
 
 /// Does what the command line asks for. A run by several workers takes threads and waits for locks,
-/// and calls the gate as machines react; a survey by several takes threads. Any other request is done
-/// on the calling thread alone.
+/// and calls the gate as machines react; a survey by several takes threads. Any other request is what
+/// `serial` does.
 pub fn polis<T: Threads + Wait + Sync, H: Host, G: Gate + Sync>(
     rt: &T,
     alloc: Global,
@@ -118,14 +119,14 @@ pub fn polis<T: Threads + Wait + Sync, H: Host, G: Gate + Sync>(
     ensures leaves { Leaves result words.now
         (told ⟦<H as Host>⟧ host.old) (told ⟦<H as Host>⟧ host.new) }
 {
+    if !needs_workers(words) {
+        return serial(alloc, words, host);
+    }
     match request_of(words) {
         Some(request) => {
             let made = make_by(rt, alloc, host, &request, gate);
             end(alloc, host, &made)
         }
-        None => {
-            show_lines(host, b"usage\n");
-            Status::Usage
-        }
+        None => unreachable!(),
     }
 }

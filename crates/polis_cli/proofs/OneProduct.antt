@@ -1,15 +1,15 @@
 -- What is made of one network text is one product.
-use Rattle.std.proofs.Common.{◌≡◌, ◌≤◌, ℕ, suc, Bool, List, [], ◌∷◌, length, slice_get, Option, Some, None, refl, ap, sym, subst, ◌∙◌, arith}
+use Rattle.std.proofs.Common.{◌≡◌, ◌≤◌, ℕ, suc, List, [], ◌∷◌, length, slice_get, Some, refl, ap, sym, subst, ◌∙◌, arith, codes}
 use mathlib.Core.HLevel.{is_prop→PathP}
 use Rattle.std.specs.Coded.{le_prop}
 use Rattle.polis_base.specs.declared.limits.TheConstants.{COST_MAX}
-use Rattle.polis_base.specs.Host.{Files}
+use Rattle.polis_base.specs.Host.{Files, bytes_at}
 use Rattle.domains.specs.Least.{IsLeast}
 use Rattle.domains.proofs.IsLeast.{one_least}
+use Rattle.net_reader.specs.declared.raw.RawNet.{RawNet}
 use Rattle.transition_table.specs.declared.machine.Machine.{Machine}
 use Rattle.transition_table.specs.declared.network.Network.{Network}
-use Rattle.transition_table.specs.Transitions.{AreDeterministic, IsDeterministic}
-use Rattle.journals.specs.declared.entry.Entry.{Entry}
+use Rattle.transition_table.specs.Transitions.{IsDeterministic}
 use Rattle.task_code.specs.Listings.{Part}
 use Rattle.machine_compiler.specs.Parts.{AreRightParts}
 use Rattle.machine_compiler.proofs.OneRightPart.{one_right_part, one_right_parts}
@@ -18,21 +18,48 @@ use Rattle.cost_bound.specs.declared.bound.Range.{Range}
 use Rattle.cost_bound.specs.declared.costs.Costs.{Costs}
 use Rattle.cost_bound.specs.Bounds.{IsWorst, IsBest}
 use Rattle.cost_bound.specs.Costs.{CostOf}
-use Rattle.polis_words.specs.Bound.{BoundWords}
+use Rattle.polis_words.specs.declared.requests.Request.TheVariants as requests
+use Rattle.polis_words.specs.declared.requests.costs.GivenCosts.{GivenCosts}
 use Rattle.polis_words.specs.NetStem.{NetStemWords}
-use Rattle.polis_words.specs.Run.{RunWords}
 use Rattle.output_files.specs.declared.product.Product.{Product}
 use Rattle.task_image.specs.Fields.{ImageBytes}
 use Rattle.input_files.specs.Inputs.{HoldsNet}
-use Rattle.commands.specs.declared.run_result.RunResult.{RunResult}
-use Rattle.commands.specs.Bound.{AreRanges, IsRange, MakesBound, bound_product}
-use Rattle.commands.specs.Compile.{MakesCompile, compile_product}
-use Rattle.commands.specs.Draw.{MakesDraw, draw_product}
-use Rattle.commands.specs.Image.{MakesImage, image_of_parts, image_product}
-use Rattle.commands.specs.Run.{RunsTasks, Tasks, Compiled, Given, run_product}
-use Rattle.commands.specs.OneText.{HoldSame}
-use Rattle.polis_cli.specs.OneProduct.{OfOneText, NetTextsDetermine, JournalsDetermineRun}
-use Rattle.commands.proofs.OneNet.{one_held_net}
+use Rattle.commands.specs.Bound.{AreCosts, AreRanges, IsRange, bound_product}
+use Rattle.commands.specs.Check.{check_product}
+use Rattle.commands.specs.Compile.{compile_product}
+use Rattle.commands.specs.Draw.{draw_product}
+use Rattle.commands.specs.Equiv.{equiv_product}
+use Rattle.commands.specs.Image.{image_of_parts, image_product}
+use Rattle.commands.specs.Lint.{lint_product}
+use Rattle.polis_cli.specs.OneProduct.{ProductsOfTexts, no_stem, nothing}
+use Rattle.polis_cli.proofs.Held.{first_same, one_declared, one_net}
+
+-- the form `COMMAND NET STEM`, with nothing for its stem
+bare : NetStemWords → NetStemWords
+bare asked = record { net = asked.net; stem = [] }
+
+-- ---- what is of the network
+pub check_one : ProductsOfTexts requests.Check (λ w. w.net ∷ []) nothing no_stem
+check_one one two before now p q texts says a b =
+    let net = one_net before now one.net two.net a.net b.net (first_same texts) a.holds_net
+    b.holds_net in
+    (check_product a.net, a.made, b.made ∙ ap check_product (sym net))
+
+pub equiv_one : ProductsOfTexts requests.Equiv (λ w. w.net ∷ w.other ∷ []) nothing no_stem
+equiv_one one two before now p q texts says a b =
+    let net = one_net before now one.net two.net a.net b.net (first_same texts) a.holds.holds_net
+    b.holds.holds_net in
+    (equiv_product a.net, a.made, b.made ∙ ap equiv_product (sym net))
+
+pub lint_one : ProductsOfTexts requests.Lint (λ w. w.net ∷ []) nothing no_stem
+lint_one one two before now p q texts says a b =
+    let is = one_declared before now one.net two.net a.raw b.raw a.net b.net (first_same texts)
+    a.holds b.holds in (
+      lint_product a.raw a.net,
+      a.made,
+      b.made ∙ ap (λ (r : RawNet). lint_product r b.net) (sym is.raw_same)
+          ∙ ap (lint_product a.raw) (sym is.net_same),
+    )
 
 -- ---- what is of right parts
 -- two networks with their right parts that one text gives are one
@@ -40,42 +67,51 @@ record AreOne (a b : Network) (p q : List Part) : Type 0 where
   net : a ≡ b
   parts : p ≡ q
 
-of_one_text : (name : List ℕ) (before now : Files) (a b : Network) (p q : List Part)
-    → HoldSame name before now → HoldsNet before name a → HoldsNet now name b
+right_parts : (before now : Files) (name other : List ℕ) (a b : Network) (p q : List Part)
+    → bytes_at before name ≡ bytes_at now other → HoldsNet before name a → HoldsNet now other b
     → AreRightParts a p → AreRightParts b q → AreOne a b p q
-of_one_text name before now a b p q same one other rp rq =
-    let net = one_held_net before now name a b same one other in
+right_parts before now name other a b p q same one two right rights =
+    let net = one_net before now name other a b same one two in
     record {
       net = net;
-      parts = one_right_parts a p q one.accepted.1 rp
-          (subst (λ (n : Network). AreRightParts n q) (sym net) rq);
+      parts = one_right_parts a p q one.accepted.1 right
+          (subst (λ (n : Network). AreRightParts n q) (sym net) rights);
     }
 
 -- what is made of them is one, too
 made_of : {X : Type 0} (f : Network → List Part → X) (a b : Network) (p q : List Part)
-    → AreOne a b p q → f a p ≡ f b q
-made_of f a b p q one = ap (λ (n : Network). f n p) one.net ∙ ap (f b) one.parts
+    → AreOne a b p q → f b q ≡ f a p
+made_of f a b p q one = ap (f b) (sym one.parts) ∙ ap (λ (n : Network). f n p) (sym one.net)
 
-compiles_one : (asked : NetStemWords) → OfOneText asked.net (MakesCompile asked)
-compiles_one asked before now one other same a b = a.made
-    ∙ made_of (compile_product asked) a.net b.net a.parts b.parts
-    (of_one_text asked.net before now a.net b.net a.parts b.parts same a.holds_net b.holds_net
-    a.right b.right) ∙ sym b.made
+pub compile_one : ProductsOfTexts requests.Compile (λ w. w.net ∷ []) nothing (λ w. w.stem)
+unfolding bare
+compile_one one two before now p q texts says a b = (
+  compile_product (bare one) a.net a.parts,
+  a.made,
+  b.made ∙ made_of (compile_product two) a.net b.net a.parts b.parts
+      (right_parts before now one.net two.net a.net b.net a.parts b.parts (first_same texts)
+      a.holds_net b.holds_net a.right b.right),
+)
 
-draws_one : (asked : NetStemWords) → OfOneText asked.net (MakesDraw asked)
-draws_one asked before now one other same a b = a.made
-    ∙ made_of (draw_product asked) a.net b.net a.parts b.parts
-    (of_one_text asked.net before now a.net b.net a.parts b.parts same a.holds_net b.holds_net
-    a.right b.right) ∙ sym b.made
+pub draw_one : ProductsOfTexts requests.Draw (λ w. w.net ∷ []) nothing (λ w. w.stem)
+unfolding bare
+draw_one one two before now p q texts says a b = (
+  draw_product (bare one) a.net a.parts,
+  a.made,
+  b.made ∙ made_of (draw_product two) a.net b.net a.parts b.parts
+      (right_parts before now one.net two.net a.net b.net a.parts b.parts (first_same texts)
+      a.holds_net b.holds_net a.right b.right),
+)
 
-stores_one : (asked : NetStemWords) → OfOneText asked.net (MakesImage asked)
-stores_one asked before now one other same a b =
-    let bytes : a.bytes ≡ b.bytes = a.are_bytes.bytes_are
-    ∙ made_of (λ (n : Network) (p : List Part). ImageBytes (image_of_parts n p)) a.net b.net
+pub image_one : ProductsOfTexts requests.Image (λ w. w.net ∷ []) nothing (λ w. w.stem)
+unfolding bare
+image_one one two before now p q texts says a b =
+    let bytes : b.bytes ≡ a.bytes = b.are_bytes.bytes_are
+    ∙ made_of (λ (n : Network) (r : List Part). ImageBytes (image_of_parts n r)) a.net b.net
     a.parts b.parts
-    (of_one_text asked.net before now a.net b.net a.parts b.parts same a.holds_net b.holds_net
-    a.right b.right) ∙ sym b.are_bytes.bytes_are in
-    a.made ∙ ap (image_product asked) bytes ∙ sym b.made
+    (right_parts before now one.net two.net a.net b.net a.parts b.parts (first_same texts)
+    a.holds_net b.holds_net a.right b.right) ∙ sym a.are_bytes.bytes_are in
+    (image_product (bare one) a.bytes, a.made, b.made ∙ ap (image_product two) bytes)
 
 -- ---- bounds
 same_bound : (a b : Bound) → a.steps ≡ b.steps → a.snapshot.codes ≡ b.snapshot.codes → a ≡ b
@@ -153,71 +189,24 @@ same_costs a b test set jump halt = λ i. record {
       is_prop→PathP (λ j. halt j ≤ COST_MAX) (λ j. le_prop) a.few_halt b.few_halt i;
 }
 
-bounds_one : (asked : BoundWords) → OfOneText asked.net (MakesBound asked)
-bounds_one asked before now one other same a b =
-    let net = one_held_net before now asked.net a.net b.net same a.holds_net b.holds_net in
-    let x = a.asked in
-    let y = b.asked in
-    let costs : b.costs ≡ a.costs = same_costs b.costs a.costs (y.test ∙ sym x.test)
-    (y.set ∙ sym x.set) (y.jump ∙ sym x.jump) (y.halt ∙ sym x.halt) in
+asked_costs : (given other : GivenCosts) (a b : Costs) → given ≡ other → AreCosts given a
+    → AreCosts other b → b ≡ a
+asked_costs given other a b same x y =
+    let z = subst (λ (g : GivenCosts). AreCosts g b) (sym same) y in
+    same_costs b a (z.test ∙ sym x.test) (z.set ∙ sym x.set) (z.jump ∙ sym x.jump)
+    (z.halt ∙ sym x.halt)
+
+pub bound_one : ProductsOfTexts requests.Bound (λ w. w.net ∷ []) (λ w. w.costs) no_stem
+bound_one one two before now p q texts says a b =
+    let net = one_net before now one.net two.net a.net b.net (first_same texts) a.holds_net
+    b.holds_net in
+    let costs = asked_costs one.costs two.costs a.costs b.costs says a.asked b.asked in
     let are = subst (λ (n : Network). AreRanges a.costs n b.ranges) (sym net)
     (subst (λ (c : Costs). AreRanges c b.net b.ranges) costs b.are) in
     let ranges = one_each a.costs a.net.machines a.ranges b.ranges a.are.long are.long
-    a.holds_net.accepted.1 a.are.each are.each in
-    a.made ∙ ap (λ (n : Network). bound_product n a.ranges) net
-    ∙ ap (bound_product b.net) ranges ∙ sym b.made
-
-pub net_texts_determine : NetTextsDetermine
-net_texts_determine = record {
-  compile = compiles_one;
-  draw = draws_one;
-  image = stores_one;
-  bound = bounds_one;
-}
-
--- ---- runs
--- the tasks of runs that name no image
-pub one_tasks : (named : Option (List ℕ)) (before now : Files) (net : Network) (s t : Tasks)
-    → named ≡ None → AreDeterministic net → RunsTasks named before net s
-    → RunsTasks named now net t → s ≡ t
-one_tasks None before now net (Compiled p) (Compiled q) none sure a b =
-    ap Compiled (one_right_parts net p q sure a b)
-one_tasks None before now net (Compiled p) (Given c) none sure a b = absurd b
-one_tasks None before now net (Given c) t none sure a b = absurd a
-one_tasks (Some name) before now net s t none sure a b = cc
-
--- a run by its parts
-ran_of : List Entry → Bool → ℕ → ℕ → RunResult
-ran_of journal complete gathered adopted = record {
-  journal = journal;
-  complete = complete;
-  gathered = gathered;
-  adopted = adopted;
-}
-
-product_of : RunWords → Network → List Entry → Bool → ℕ → ℕ → Tasks → Product
-product_of run net journal complete gathered adopted tasks =
-    run_product run net (ran_of journal complete gathered adopted) tasks
-
-pub journals_determine_run : JournalsDetermineRun
-unfolding ran_of product_of
-journals_determine_run run before now one other a b none same journal complete =
-    let net = one_held_net before now run.net a.net b.net same a.holds_net b.holds_net in
-    let tasks = one_tasks run.image before now a.net a.tasks b.tasks none a.holds_net.accepted.1
-    a.are_tasks (subst (λ (n : Network). RunsTasks run.image now n b.tasks) (sym net) b.are_tasks)
-    in
-    let made = λ (g h : ℕ). ap (λ (n : Network). product_of run n a.ran.journal a.ran.complete g h
-    a.tasks) net
-    ∙ ap (λ (j : List Entry). product_of run b.net j a.ran.complete g h a.tasks) journal
-    ∙ ap (λ (c : Bool). product_of run b.net b.ran.journal c g h a.tasks) complete
-    ∙ ap (λ (t : Tasks). product_of run b.net b.ran.journal b.ran.complete g h t) tasks in (
-      ap (λ (p : Product). p.saves) a.made
-          ∙ ap (λ (p : Product). p.saves) (made a.ran.gathered a.ran.adopted)
-          ∙ sym (ap (λ (p : Product). p.saves) b.made),
-      λ gathered adopted. a.made ∙ made a.ran.gathered a.ran.adopted
-          ∙ ap (λ (g : ℕ). product_of run b.net b.ran.journal b.ran.complete g a.ran.adopted
-          b.tasks) gathered
-          ∙ ap (λ (h : ℕ). product_of run b.net b.ran.journal b.ran.complete b.ran.gathered h
-          b.tasks) adopted
-          ∙ sym b.made,
+    a.holds_net.accepted.1 a.are.each are.each in (
+      bound_product a.net a.ranges,
+      a.made,
+      b.made ∙ ap (bound_product b.net) (sym ranges)
+          ∙ ap (λ (n : Network). bound_product n a.ranges) (sym net),
     )

@@ -36,7 +36,8 @@ image_refused : (image : NetStemWords) (files : Files) (name : List ℕ) (cause 
 image_refused image files name cause (same, inl h) s all =
     net_refused files image.net cause all.net s h all.holds_net
 image_refused image files name cause (same, inr h) s all =
-    let net = one_held_net files files image.net all.net h.1.net refl all.holds_net h.1.holds_net in
+    let net = one_held_net files files image.net image.net all.net h.1.net refl all.holds_net
+    h.1.holds_net in
     let parts = one_right_parts all.net all.parts h.1.parts all.holds_net.accepted.1 all.right
     (subst (λ (n : Network). AreRightParts n h.1.parts) (sym net) h.1.right) in
     let same_length : length (ImageBytes (image_of_parts all.net all.parts))

@@ -29,7 +29,7 @@ monitor_refused files name net monitor cause s (inl h) all =
 monitor_refused files name net monitor cause s (inr (other, held, fault)) all =
     fault_refused net other cause fault
     (subst (λ (n : Network). IsMonitor net n)
-    (one_held_net files files name monitor other refl all.holds held) all.is_monitor)
+    (one_held_net files files name name monitor other refl all.holds held) all.is_monitor)
 
 -- a monitor's file isn't a finding
 pub monitor_unfound : (files : Files) (name : List ℕ) (net : Network) (cause : Cause)

@@ -58,8 +58,8 @@ made_accepts files watch product m = record {
   monitored = λ net trace journal stamps holds lawful. (
     m.monitor,
     subst (λ (n : Network). HoldsMonitor files watch.monitor n m.monitor)
-        (one_held_net files files watch.replay.net m.net net refl m.judged.holds.holds_net
-        holds.holds_net) m.monitors,
+        (one_held_net files files watch.replay.net watch.replay.net m.net net refl
+        m.judged.holds.holds_net holds.holds_net) m.monitors,
   );
 }
 

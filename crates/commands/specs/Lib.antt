@@ -20,5 +20,4 @@ pub mod Wave
 pub mod Draw
 pub mod Explain
 pub mod Lint
-pub mod OneText
 pub mod inner

@@ -5,19 +5,17 @@ use Rattle.polis_base.specs.Host.{Files, bytes_at}
 use Rattle.transition_table.specs.declared.network.Network.{Network}
 use Rattle.net_reader.specs.Sentences.{HasNet}
 use Rattle.net_reader.specs.declared.raw.RawNet.{RawNet}
-use Rattle.net_reader.proofs.Sentences.{net_outcome}
-use Rattle.net_rules.specs.NetOf.{IsNetOf, NetOf}
-use Rattle.net_rules.proofs.OneNetwork.{one_network}
 use Rattle.journals.specs.declared.entry.Entry.{Entry}
 use Rattle.journals.specs.declared.entry.TraceItem.{TraceItem}
 use Rattle.journal_text.specs.Reading.{read_of}
 use Rattle.journal_text.specs.declared.fault.JournalFault.{JournalFault}
 use Rattle.trace_text.specs.Traces.{trace_of}
 use Rattle.trace_text.specs.declared.fault.TraceFault.{TraceFault}
-use Rattle.input_files.specs.Inputs.{HoldsDeclared, HoldsNet, HoldsText, HoldsTrace}
+use Rattle.input_files.specs.Inputs.{HoldsDeclared, HoldsText, HoldsTrace}
 use Rattle.input_files.specs.JournalFiles.{HoldsJournal}
 use Rattle.polis_cli.specs.OneProduct.{held_under}
 use Rattle.polis_cli.specs.Survey.{HoldsMonitorOf}
+use Rattle.commands.proofs.OneNet.{one_held_net, one_net_of, one_raw}
 
 -- ---- lists of texts
 pub first_same : {X : Type 0} {a b : X} {xs ys : List X} → a ∷ xs ≡ b ∷ ys → a ≡ b
@@ -36,32 +34,6 @@ one_text before now name other max most x y same a b =
     let second = b.held in
     cc
 
--- one text has one list of declarations, and is of one network
-pub one_raw : (text : List ℕ) (raw other : RawNet) → HasNet text raw → HasNet text other
-    → raw ≡ other
-one_raw text raw other has have =
-    let first = net_outcome text raw has in
-    let second = net_outcome text other have in
-    cc
-
-net_of_raw : (text : List ℕ) (raw other : RawNet) (a b : Network) → HasNet text raw
-    → HasNet text other → IsNetOf raw a → IsNetOf other b → a ≡ b
-net_of_raw text raw other a b has have is are =
-    one_network raw a b is.1
-    (subst (λ (r : RawNet). IsNetOf r b) (sym (one_raw text raw other has have)) are).1
-
-pub net_of_text : (text : List ℕ) (a b : Network) → NetOf text a → NetOf text b → a ≡ b
-net_of_text text a b (raw, has, is) (other, have, are) =
-    net_of_raw text raw other a b has have is are
-
-pub one_net : (before now : Files) (name other : List ℕ) (a b : Network)
-    → bytes_at before name ≡ bytes_at now other → HoldsNet before name a → HoldsNet now other b
-    → a ≡ b
-one_net before now name other a b same one two =
-    let texts = one_text before now name other _ _ one.text two.text same one.holds two.holds in
-    net_of_text one.text a b one.accepted.0
-    (subst (λ (t : List ℕ). NetOf t b) (sym texts) two.accepted.0)
-
 -- two networks with their declarations that one text gives are one
 pub record AreDeclared (raw other : RawNet) (a b : Network) : Type 0 where
   pub raw_same : raw ≡ other
@@ -75,8 +47,8 @@ one_declared before now name other x y a b same one two =
     let has = subst (λ (t : List ℕ). HasNet t y) (sym texts) two.declares.has in
     record {
       raw_same = one_raw one.text x y one.declares.has has;
-      net_same = net_of_raw one.text x y a b one.declares.has has one.declares.is_net
-          two.declares.is_net;
+      net_same = one_net_of one.text a b (x, one.declares.has, one.declares.is_net)
+          (y, has, two.declares.is_net);
     }
 
 -- ---- files of a network
@@ -122,7 +94,7 @@ one_monitor before now (Some name) None a b m n same one two = cc
 one_monitor before now (Some name) (Some other) a b None n same one two = absurd one
 one_monitor before now (Some name) (Some other) a b (Some m) None same one two = absurd two
 one_monitor before now (Some name) (Some other) a b (Some m) (Some n) same one two =
-    ap Some (one_net before now name other m n (first_same same) one.holds two.holds)
+    ap Some (one_held_net before now name other m n (first_same same) one.holds two.holds)
 
 -- ---- what is so of both
 -- two answers to one question are one

@@ -27,7 +27,8 @@ use Rattle.commands.specs.Demo.{IsDrawn, demo_product}
 use Rattle.commands.specs.Run.{Compiled, Given, IsRan, RunsTasks, Tasks, run_product}
 use Rattle.commands.proofs.IsRan.{alone_is_scheduled}
 use Rattle.polis_cli.specs.OneProduct.{LoneRun, ProductsOfTexts, at_stem, held_under, no_stem}
-use Rattle.polis_cli.proofs.Held.{first_same, net_of_text, one_net, one_text, one_trace, others_same, same_answer, same_ok}
+use Rattle.commands.proofs.OneNet.{one_held_net, one_net_of}
+use Rattle.polis_cli.proofs.Held.{first_same, one_text, one_trace, others_same, same_answer, same_ok}
 use Rattle.polis_cli.proofs.ReadTraces.{trace_fits}
 
 -- ---- what is run
@@ -61,7 +62,7 @@ pub demo_one : OneSchedule → ProductsOfTexts requests.Demo (λ w. []) (λ w. w
 demo_one law one two before now p q texts says a b =
     let drawn = subst (λ (s : ℕ). IsDrawn s b.net b.trace) (sym says) b.drawn in
     let text = trace_text one.seed in
-    let net = net_of_text (network_text (network one.seed)) a.net b.net a.drawn.accepted.0
+    let net = one_net_of (network_text (network one.seed)) a.net b.net a.drawn.accepted.0
     drawn.accepted.0 in
     let trace = same_ok (trace_of b.net text) a.trace b.trace
     (subst (λ (n : Network). trace_of n text ≡ Ok a.trace) net a.drawn.read) drawn.read in
@@ -115,7 +116,7 @@ pub alone_one : OneSchedule → ImageLaws → ProductsOfTexts (λ (w : LoneRun).
     (λ w. w.run.net ∷ w.run.trace ∷ option_to_list w.run.image) (λ w. w.run.limit)
     (λ w. w.run.stem)
 alone_one law laws one two before now p q texts says a b =
-    let net = one_net before now one.run.net two.run.net a.net b.net (first_same texts) a.holds_net
+    let net = one_held_net before now one.run.net two.run.net a.net b.net (first_same texts) a.holds_net
     b.holds_net in
     let trace = one_trace before now one.run.trace two.run.trace a.net b.net a.trace b.trace net
     (first_same (others_same texts)) a.holds_trace b.holds_trace in

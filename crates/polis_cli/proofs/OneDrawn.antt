@@ -24,7 +24,8 @@ use Rattle.output_files.specs.Products.{shows_and_ends}
 use Rattle.commands.specs.Shuffle.{order_of, shuffle_product}
 use Rattle.polis_cli.specs.OneProduct.{ProductsOfTexts, drawn_settings, no_stem, survey_settings}
 use Rattle.polis_cli.specs.Survey.{HoldsMonitorOf, end_surveyed, survey_product}
-use Rattle.polis_cli.proofs.Held.{first_same, one_monitor, one_net, one_trace, others_same, same_answer}
+use Rattle.commands.proofs.OneNet.{one_held_net}
+use Rattle.polis_cli.proofs.Held.{first_same, one_monitor, one_trace, others_same, same_answer}
 use Rattle.polis_cli.proofs.ReadTraces.{trace_fits}
 
 -- ---- shuffles
@@ -43,7 +44,7 @@ pub shuffle_one : OneShuffle → ProductsOfTexts requests.Shuffle (λ w. w.net �
     drawn_settings (λ w. w.stem)
 unfolding bare
 shuffle_one law one two before now p q texts says a b =
-    let net = one_net before now one.net two.net a.net b.net (first_same texts) a.holds_net
+    let net = one_held_net before now one.net two.net a.net b.net (first_same texts) a.holds_net
     b.holds_net in
     let trace = one_trace before now one.trace two.trace a.net b.net a.trace b.trace net
     (first_same (others_same texts)) a.holds_trace b.holds_trace in
@@ -92,7 +93,7 @@ one_end net monitor trace order limit seed runs a b p q same =
 pub survey_one : OneFigures → OneText → ProductsOfTexts requests.Survey
     (λ w. w.net ∷ w.trace ∷ option_to_list w.monitor) survey_settings no_stem
 survey_one figures text one two before now p q texts says a b =
-    let net = one_net before now one.net two.net a.net b.net (first_same texts)
+    let net = one_held_net before now one.net two.net a.net b.net (first_same texts)
     a.holds.holds_net b.holds.holds_net in
     let trace = one_trace before now one.trace two.trace a.net b.net a.trace b.trace net
     (first_same (others_same texts)) a.holds.holds_trace b.holds.holds_trace in

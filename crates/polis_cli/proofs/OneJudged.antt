@@ -23,7 +23,8 @@ use Rattle.commands.specs.Replay.{IsJudged, replay_product}
 use Rattle.commands.specs.Watch.{watch_product}
 use Rattle.commands.specs.Wave.{wave_product}
 use Rattle.polis_cli.specs.OneProduct.{ProductsOfTexts, explained_names, held_under, no_stem, nothing}
-use Rattle.polis_cli.proofs.Held.{first_same, one_journal, one_net, one_trace, others_same, same_answer}
+use Rattle.commands.proofs.OneNet.{one_held_net}
+use Rattle.polis_cli.proofs.Held.{first_same, one_journal, one_trace, others_same, same_answer}
 use Rattle.polis_cli.proofs.OneProduct.{check_one}
 
 -- ---- the network and the journal
@@ -37,7 +38,7 @@ judged_one : (one two : ReplayWords) (before now : Files) (a b : Network) (t u :
     → bytes_at before one.journal ≡ bytes_at now two.journal → IsJudged one before a t j c
     → IsJudged two now b u k d → AreOne a b j k
 judged_one one two before now a b t u j k c d nets journals x y =
-    let net = one_net before now one.net two.net a b nets x.holds.holds_net y.holds.holds_net in
+    let net = one_held_net before now one.net two.net a b nets x.holds.holds_net y.holds.holds_net in
     record {
       net = net;
       journal = one_journal before now one.journal two.journal a b j k x.stamps y.stamps net
@@ -96,7 +97,7 @@ watch_one law one two before now p q texts says a b =
     let is = judged_one one.replay two.replay before now a.net b.net a.trace b.trace a.journal
     b.journal a.complete b.complete (first_same texts) (first_same (others_same texts)) a.judged
     b.judged in
-    let monitor = one_net before now one.monitor two.monitor a.monitor b.monitor
+    let monitor = one_held_net before now one.monitor two.monitor a.monitor b.monitor
     (first_same (others_same (others_same texts))) a.monitors.holds b.monitors.holds in
     let again = subst (λ (n : Network). IsAnswer n a.monitor a.journal b.said) (sym is.net)
     (subst (λ (w : Network). IsAnswer b.net w a.journal b.said) (sym monitor)
@@ -160,7 +161,7 @@ pub explain_one : ProductsOfTexts requests.Explain explained_names nothing no_st
 explain_one (Net one) (Net two) before now p q texts says a b =
     check_one one two before now p q texts says a b
 explain_one (Trace one) (Trace two) before now p q texts says a b =
-    let net = one_net before now one.net two.net a.net b.net (first_same texts) a.holds_net
+    let net = one_held_net before now one.net two.net a.net b.net (first_same texts) a.holds_net
     b.holds_net in
     let trace = one_trace before now one.trace two.trace a.net b.net a.trace b.trace net
     (first_same (others_same texts)) a.holds_trace b.holds_trace in

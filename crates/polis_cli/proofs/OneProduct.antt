@@ -32,7 +32,8 @@ use Rattle.commands.specs.Equiv.{equiv_product}
 use Rattle.commands.specs.Image.{image_of_parts, image_product}
 use Rattle.commands.specs.Lint.{lint_product}
 use Rattle.polis_cli.specs.OneProduct.{ProductsOfTexts, no_stem, nothing}
-use Rattle.polis_cli.proofs.Held.{first_same, one_declared, one_net}
+use Rattle.commands.proofs.OneNet.{one_held_net}
+use Rattle.polis_cli.proofs.Held.{first_same, one_declared}
 
 -- the form `COMMAND NET STEM`, with nothing for its stem
 bare : NetStemWords → NetStemWords
@@ -41,13 +42,13 @@ bare asked = record { net = asked.net; stem = [] }
 -- ---- what is of the network
 pub check_one : ProductsOfTexts requests.Check (λ w. w.net ∷ []) nothing no_stem
 check_one one two before now p q texts says a b =
-    let net = one_net before now one.net two.net a.net b.net (first_same texts) a.holds_net
+    let net = one_held_net before now one.net two.net a.net b.net (first_same texts) a.holds_net
     b.holds_net in
     (check_product a.net, a.made, b.made ∙ ap check_product (sym net))
 
 pub equiv_one : ProductsOfTexts requests.Equiv (λ w. w.net ∷ w.other ∷ []) nothing no_stem
 equiv_one one two before now p q texts says a b =
-    let net = one_net before now one.net two.net a.net b.net (first_same texts) a.holds.holds_net
+    let net = one_held_net before now one.net two.net a.net b.net (first_same texts) a.holds.holds_net
     b.holds.holds_net in
     (equiv_product a.net, a.made, b.made ∙ ap equiv_product (sym net))
 
@@ -71,7 +72,7 @@ right_parts : (before now : Files) (name other : List ℕ) (a b : Network) (p q 
     → bytes_at before name ≡ bytes_at now other → HoldsNet before name a → HoldsNet now other b
     → AreRightParts a p → AreRightParts b q → AreOne a b p q
 right_parts before now name other a b p q same one two right rights =
-    let net = one_net before now name other a b same one two in
+    let net = one_held_net before now name other a b same one two in
     record {
       net = net;
       parts = one_right_parts a p q one.accepted.1 right
@@ -198,7 +199,7 @@ asked_costs given other a b same x y =
 
 pub bound_one : ProductsOfTexts requests.Bound (λ w. w.net ∷ []) (λ w. w.costs) no_stem
 bound_one one two before now p q texts says a b =
-    let net = one_net before now one.net two.net a.net b.net (first_same texts) a.holds_net
+    let net = one_held_net before now one.net two.net a.net b.net (first_same texts) a.holds_net
     b.holds_net in
     let costs = asked_costs one.costs two.costs a.costs b.costs says a.asked b.asked in
     let are = subst (λ (n : Network). AreRanges a.costs n b.ranges) (sym net)

@@ -20,7 +20,7 @@ use Rattle.commands.specs.declared.run_result.RunResult.{RunResult}
 use Rattle.commands.specs.Run.{Compiled, Given, MakesRun, RunsTasks, Tasks, end_of, journal_of, run_product, saved_journal}
 use Rattle.polis_cli.specs.Calls.{EndedCall}
 use Rattle.polis_cli.specs.OneProduct.{JournalsDetermineRun, RunTexts, run_of_texts}
-use Rattle.polis_cli.proofs.Held.{one_net}
+use Rattle.commands.proofs.OneNet.{one_held_net}
 use Rattle.polis_cli.proofs.SavesDetermineRun.{one_saved}
 use Rattle.polis_cli.proofs.TwoCalls.{asked_made, written}
 
@@ -85,7 +85,7 @@ products_one : (one two : RunWords) (before now : Files) (p q : Product)
     × (q ≡ run_of_texts texts two.stem b.ran.gathered b.ran.adopted)
 unfolding texts_in
 products_one one two before now p q a b none also_none nets journal complete =
-    let net = one_net before now one.net two.net a.net b.net nets a.holds_net b.holds_net in
+    let net = one_held_net before now one.net two.net a.net b.net nets a.holds_net b.holds_net in
     let parts = one_right_parts a.net (parts_in a.tasks) (parts_in b.tasks) a.holds_net.accepted.1
     (right one.image before a.net a.tasks none a.are_tasks)
     (subst (λ (n : Network). AreRightParts n (parts_in b.tasks)) (sym net)
@@ -124,7 +124,7 @@ journals_determine_run law = record {
       let q = written (Run two) b in
       let x = asked_made (Run one) a in
       let y = asked_made (Run two) b in
-      let net = one_net a.before b.before one.net two.net x.net y.net nets x.holds_net y.holds_net
+      let net = one_held_net a.before b.before one.net two.net x.net y.net nets x.holds_net y.holds_net
       in
       let texts = same_text (bytes_at a.now (journal_name one)) (journal_of x.net x.ran)
       (journal_of y.net y.ran) (journal_held one a x) (journals ∙ journal_held two b y) in

@@ -59,7 +59,8 @@ survey_refused files asked name cause s (inr h) all =
     let held = named_held asked.monitor files all.0 all.2 name h.named all.3.holds_monitor in
     monitor_refused files name all.0 held.0 cause s
     (subst (λ (n : Network). MonitorFails files n name cause)
-    (one_held_net files files asked.net h.net all.0 refl h.holds_net all.3.holds_net) h.fails)
+    (one_held_net files files asked.net asked.net h.net all.0 refl h.holds_net all.3.holds_net)
+    h.fails)
     held.1
 
 survey_unfound : (files : Files) (asked : SurveyWords) (name : List ℕ) (cause : Cause)

@@ -17,7 +17,8 @@ use Rattle.run_survey.specs.declared.figures.Figures.{Figures}
 use Rattle.polis_words.specs.declared.requests.order.GivenOrder.{GivenOrder}
 use Rattle.commands.specs.Shuffle.{order_of}
 use Rattle.polis_cli.specs.SurveyRuns.{AreOfJournal, SurveyRunsAreDrawn}
-use Rattle.polis_cli.proofs.Held.{first_same, one_net, one_trace, others_same, same_answer}
+use Rattle.commands.proofs.OneNet.{one_held_net}
+use Rattle.polis_cli.proofs.Held.{first_same, one_trace, others_same, same_answer}
 
 -- the figures of the run that is drawn from a seed are those of the journal that is
 of_journal : OneShuffle → (net : Network) (monitor : Option Network) (trace : List TraceItem)
@@ -41,7 +42,7 @@ of_journal law net monitor trace order limit seed figures journal complete sure 
 
 pub survey_runs_are_drawn : OneShuffle → SurveyRunsAreDrawn
 survey_runs_are_drawn law survey shuffle before now p q k a b texts order limit seed below =
-    let net = one_net before now survey.net shuffle.net a.net b.net (first_same texts)
+    let net = one_held_net before now survey.net shuffle.net a.net b.net (first_same texts)
     a.holds.holds_net b.holds_net in
     let trace = one_trace before now survey.trace shuffle.trace a.net b.net a.trace b.trace net
     (first_same (others_same texts)) a.holds.holds_trace b.holds_trace in

@@ -1,5 +1,5 @@
 -- The supports, from the columns of the results.
-use Rattle.std.proofs.Common.{◌≡◌, ⊎_elim, ℕ, zero, suc, ◌+◌, ◌<◌, Bool, true, false, cond, ◌||◌, List, [], ◌∷◌, ◌++◌, map, length, slice_get, get_or, Some, refl, ap, sym, ◌∙◌, arith, eqb, ltb, nat_lt}
+use Rattle.std.proofs.Common.{◌≡◌, ⊎_elim, ℕ, zero, suc, ◌+◌, ◌<◌, Bool, true, false, cond, ◌||◌, List, [], ◌∷◌, ◌++◌, map, length, get_or, refl, ap, sym, ◌∙◌, arith, eqb, ltb, nat_lt}
 use Rattle.std.specs.Prelude.{filter, ◌↔◌}
 use Rattle.std.specs.List.{list_all}
 use Rattle.std.proofs.lemmas.Bool.{and_parts, and_from, cases_lt, eq-eqb, eqb-true, lt-ltb, ltb-true, or_cases, or_left, or_right, false≢true}
@@ -17,9 +17,9 @@ use Rattle.transition_table.specs.Laws.{SupportByTest}
 use Rattle.char_function.specs.Supported.{rises, AreSupports}
 use Rattle.decision_diagram.proofs.ListItems.{read}
 use Rattle.char_function.proofs.Varies.{varies_moves}
-use Rattle.char_function.proofs.CodesByRank.{get_map}
-use Rattle.domains.proofs.AllCodes.{long_map}
-use Rattle.decision_diagram.proofs.ByVariable.{long_upto}
+use Rattle.polis_base.proofs.ListTests.{filter_append}
+use Rattle.polis_base.proofs.Places.{get_map, length_map}
+use Rattle.polis_base.proofs.UptoPlaces.{get_upto, length_upto}
 
 pub all_weaken : {X : Type 0} (p q : X → Bool) (xs : List X) → list_all p xs ≡ true
     → ((x : X) → p x ≡ true → q x ≡ true) → list_all q xs ≡ true
@@ -56,42 +56,12 @@ supports_more m y =
     ap (λ (n : ℕ). map (support_of m) (upto n)) e ∙ map-append (support_of m) (upto y) (y ∷ [])
 
 -- ---- exactly the supports
-pub get_upto : (n k : ℕ) → k < n → slice_get (upto n) k ≡ Some k
-get_upto zero k low = absurd (omega arith)
-get_upto (suc n) k low =
-    ⊎_elim
-    (λ less. front (upto n) n k k (get_upto n k less))
-    (λ more. let l = long_upto n in let e : k ≡ length (upto n) = omega arith in
-    ap (slice_get (upto n ++ n ∷ [])) e ∙ at_end (upto n) n
-    ∙ ap Some (let e : n ≡ k = omega arith in e))
-    (cases_lt k n)
-  where
-    front : (xs : List ℕ) (n i x : ℕ) → slice_get xs i ≡ Some x
-        → slice_get (xs ++ n ∷ []) i ≡ Some x
-    front [] n i x is = cc
-    front (y ∷ xs) n zero x is = is
-    front (y ∷ xs) n (suc i) x is = front xs n i x is
-
-    at_end : (xs : List ℕ) (n : ℕ) → slice_get (xs ++ n ∷ []) (length xs) ≡ Some n
-    at_end [] n = refl
-    at_end (x ∷ xs) n = at_end xs n
 
 pub support_at : (m : Machine) (y : ℕ) → y < length m.results
     → get_or (all_supports m) y [] ≡ support_of m y
 support_at m y low =
     read (all_supports m) y (support_of m y) []
     (get_map (support_of m) (upto (length m.results)) y y (get_upto (length m.results) y low))
-
-pub filter_append : {X : Type 0} (p : X → Bool) (xs ys : List X)
-    → filter p (xs ++ ys) ≡ filter p xs ++ filter p ys
-filter_append p [] ys = refl
-filter_append {X = X} p (x ∷ xs) ys =
-    ap (λ (zs : List X). cond (p x) (x ∷ zs) zs) (filter_append p xs ys) ∙ both (p x)
-  where
-    both : (b : Bool) → cond b (x ∷ (filter p xs ++ filter p ys)) (filter p xs ++ filter p ys)
-        ≡ cond b (x ∷ filter p xs) (filter p xs) ++ filter p ys
-    both true = refl
-    both false = refl
 
 pub filter_all : {X : Type 0} (p r : X → Bool) (xs : List X) → list_all r xs ≡ true
     → list_all r (filter p xs) ≡ true
@@ -199,7 +169,7 @@ stands_upto n v = (to n, from n)
 pub are_supports : SupportByTest → (m : Machine) → IsDeterministic m
     → AreSupports m (all_supports m)
 are_supports test m sure = record {
-  long = long_map (support_of m) (upto (length m.results)) ∙ long_upto (length m.results);
+  long = length_map (support_of m) (upto (length m.results)) ∙ length_upto (length m.results);
   rising = λ y low. ap rises (support_at m y low) ∙ rises_filter (supports m y) (length m.vars);
   exact = λ y v low.
       let e = support_at m y low in (

@@ -1,7 +1,7 @@
 -- Snapshots that share the codes before a place follow each other, and have one node on each level.
-use Rattle.std.proofs.Common.{◌≡◌, ⊎_elim, ℕ, zero, suc, ◌+◌, ◌-◌, ◌*◌, ◌/◌, ◌<◌, ◌≤◌, Bool, true, false, ◌||◌, eqb, ltb, nat_lt, List, [], ◌∷◌, ◌++◌, length, take, drop, slice_get, slice_index, slice_set, Some, refl, ap, sym, subst, ◌∙◌, arith, length-append}
+use Rattle.std.proofs.Common.{◌≡◌, ⊎_elim, ℕ, zero, suc, ◌+◌, ◌-◌, ◌*◌, ◌/◌, ◌<◌, ◌≤◌, true, false, ◌||◌, eqb, ltb, nat_lt, List, [], ◌∷◌, ◌++◌, length, take, drop, slice_get, slice_index, slice_set, Some, refl, ap, sym, subst, ◌∙◌, arith, length-append}
 use Rattle.std.specs.Prelude.{slice_range}
-use Rattle.std.proofs.lemmas.Bool.{and_parts, cases_eq, cases_lt, eq-eqb, false≢true, le-ltb, lt-ltb, ne_eqb}
+use Rattle.std.proofs.lemmas.Bool.{and_parts, cases_eq, cases_lt, eq-eqb, false≢true, le-ltb, lt-ltb, ne_eqb, or_right}
 use Rattle.std.proofs.lemmas.List.{drop_more, get_or-drop, get_or-set_other, get_or-set_same, get_or-take, get_or_append_left, length-drop, length-set, length-take}
 use Rattle.std.proofs.lemmas.Nat.{div-mul-add}
 use Rattle.domains.specs.AllCodes.{all_codes, StandsOnce}
@@ -23,10 +23,12 @@ use Rattle.decision_diagram.proofs.ListItems.{read_some, read_within}
 use Rattle.char_function.proofs.GroupNodes.{means_kept}
 use Rattle.char_function.proofs.FixedCodes.{stands_more}
 use Rattle.char_function.proofs.CodesByRank.{at_rank}
-use Rattle.domains.proofs.AllCodes.{long_map}
 use Rattle.domains.proofs.Places.{at_place, place_below}
-use Rattle.outcome_table.proofs.Rows.{few_snapshots}
-use Rattle.outcome_table.proofs.Columns.{product_after, all_long, product_split}
+use Rattle.outcome_table.proofs.Columns.{all_long, product_split}
+use Rattle.domains.proofs.FittingCodes.{product_after}
+use Rattle.polis_base.proofs.Bools.{or_off}
+use Rattle.polis_base.proofs.Places.{length_map}
+use Rattle.transition_table.proofs.MachineCounts.{few_snapshots}
 
 -- ---- products
 take_more : (sizes : List ℕ) (v : ℕ) → v < length sizes
@@ -107,7 +109,7 @@ first_block : StandsOnce → (m : Machine) (order : List ℕ) (p next j block : 
     → block ≡ product (drop next m.vars) → j * block < length (points m)
     → IsFirst m order p (j * block)
 first_block once m order p next j block so_far apart low v v_low off =
-    let long = long_map (point m) (all_codes m.vars) in
+    let long = length_map (point m) (all_codes m.vars) in
     let got = read_some (all_codes m.vars) (j * block) [] (omega arith) in
     let own = (once m.vars (snapshot m (j * block)) (j * block) got).1 in
     var_of m (j * block) v low v_low
@@ -117,13 +119,6 @@ first_block once m order p next j block so_far apart low v v_low off =
     (λ more. more) (cases_lt v next)) v_low
 
 -- ---- variables before a place
-pub or_on : (a b : Bool) → b ≡ true → (a || b) ≡ true
-or_on true b h = refl
-or_on false b h = h
-
-or_none : (a b : Bool) → b ≡ false → (a || b) ≡ a
-or_none true b h = refl
-or_none false b h = h
 
 -- after a variable the next one is the next number
 pub next_after : (vars : ℕ) (order : List ℕ) (p v next : ℕ) → IsRising vars order
@@ -148,13 +143,13 @@ next_after vars order p v next rising low is inside few so_far =
     one u = ap (λ (k : ℕ). stands (take k order) u) e ∙ stands_more order p u low
 
     here : stands (take (p + 1) order) v ≡ true
-    here = one v ∙ or_on (stands (take p order) v) (eqb (slice_index order p) v)
+    here = one v ∙ or_right (stands (take p order) v) (eqb (slice_index order p) v)
         (eq-eqb (slice_index order p) v is)
 
     there : v + 1 < vars → stands (take (p + 1) order) (v + 1) ≡ false
     there u_low =
         one (v + 1)
-        ∙ or_none (stands (take p order) (v + 1)) (eqb (slice_index order p) (v + 1))
+        ∙ or_off (stands (take p order) (v + 1)) (eqb (slice_index order p) (v + 1))
         (ne_eqb (slice_index order p) (v + 1) (λ same. omega arith))
         ∙ rising p (v + 1) low (omega arith) u_low
         ∙ le-ltb (v + 1) (slice_index order p) (omega arith)
@@ -166,7 +161,7 @@ pub next_result : (vars : ℕ) (order : List ℕ) (p next : ℕ) → p < length 
     → (u : ℕ) → u < vars → stands (take p order) u ≡ nat_lt u next
 next_result vars order p next low high so_far u u_low =
     let e : p + 1 ≡ suc p = omega arith in
-    sym (or_none (stands (take p order) u) (eqb (slice_index order p) u)
+    sym (or_off (stands (take p order) u) (eqb (slice_index order p) u)
     (ne_eqb (slice_index order p) u (λ same. omega arith)))
     ∙ sym (stands_more order p u low)
     ∙ ap (λ (k : ℕ). stands (take k order) u) (sym e)
@@ -468,7 +463,7 @@ pub last_done : (m : Machine) (order : List ℕ) → IsOrdered m order → (s : 
     → count ≡ length (points m) → AreFirstLeft m order s start nodes count
     → AreLevel m order s start 1 nodes
 last_done m order ordered s start only nodes count is are =
-    let a = long_map (point m) (all_codes m.vars) in
+    let a = length_map (point m) (all_codes m.vars) in
     let b = all_long m.vars in
     let l = are.long in
     let all = product_split m.vars (length m.vars) in

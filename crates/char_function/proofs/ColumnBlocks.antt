@@ -10,8 +10,10 @@ use Rattle.domains.specs.Tables.{are_sizes, product}
 use Rattle.char_function.specs.inner.Columns.{part, varies}
 use Rattle.char_function.proofs.Blocks.{times_le}
 use Rattle.decision_diagram.proofs.Fits.{size_some}
-use Rattle.char_function.proofs.Varies.{any_append, any_same}
+use Rattle.char_function.proofs.Varies.{any_append}
 use Rattle.outcome_table.proofs.Columns.{product_split}
+use Rattle.polis_base.proofs.Bools.{or_assoc, or_none}
+use Rattle.polis_base.proofs.ListTests.{any_same_below}
 
 -- two neighbours in this block differ
 abbrev pub steps : List ℕ → ℕ → ℕ → ℕ → Bool
@@ -46,19 +48,12 @@ window_from xs n a c k d h is =
     ∙ ap (λ (i : ℕ). take k (drop i xs)) (sym is)
 
 -- ---- some number below a product
-pub or_false : (a : Bool) → (a || false) ≡ a
-or_false true = refl
-or_false false = refl
-
-or_assoc : (a b c : Bool) → ((a || b) || c) ≡ (a || (b || c))
-or_assoc true b c = refl
-or_assoc false b c = refl
 
 any_add : (p : ℕ → Bool) (a w : ℕ)
     → list_any p (upto (a + w)) ≡ (list_any p (upto a) || list_any (λ j. p (a + j)) (upto w))
 any_add p a zero =
     let e : a + 0 ≡ a = omega arith in
-    ap (λ (k : ℕ). list_any p (upto k)) e ∙ sym (or_false (list_any p (upto a)))
+    ap (λ (k : ℕ). list_any p (upto k)) e ∙ sym (or_none (list_any p (upto a)))
 any_add p a (suc w) =
     let e : a + suc w ≡ suc (a + w) = omega arith in
     ap (λ (k : ℕ). list_any p (upto k)) e
@@ -79,7 +74,7 @@ any_nest p (suc n) w =
     any_append (λ c. list_any (λ j. p (c * w + j)) (upto w)) (upto n) (n ∷ [])
     ∙ ap (λ (b : Bool). b || (list_any (λ j. p (n * w + j)) (upto w) || false)) (any_nest p n w)
     ∙ ap (λ (b : Bool). list_any p (upto (n * w)) || b)
-    (or_false (list_any (λ j. p (n * w + j)) (upto w)))
+    (or_none (list_any (λ j. p (n * w + j)) (upto w)))
     ∙ sym (any_add p (n * w) w)
     ∙ ap (λ (k : ℕ). list_any p (upto k)) e
 
@@ -104,16 +99,16 @@ varies_flat (size ∷ sizes) zero column block stride are low long apart wide mo
     let s : length column / size ≡ 0 * block + stride = omega arith in
     moved column (length column - length column / size) 0 (length column - length column / size)
     (length column / size) (block - stride) (0 * block) (block - stride) (0 * block + stride) e z e s
-    ∙ sym (or_false (steps column block stride 0))
+    ∙ sym (or_none (steps column block stride 0))
 varies_flat (size ∷ sizes) (suc v) column block stride are low long apart wide most =
-    any_same (λ code. varies sizes v (part size column code))
+    any_same_below (λ code. varies sizes v (part size column code))
     (λ code. list_any (λ j. steps column block stride (code * product (take v sizes) + j))
     (upto (product (take v sizes)))) size
     (λ code code_low.
     varies_flat sizes v (part size column code) block stride rest (omega arith)
     (part_long code code_low) (apart ∙ ap (λ (k : ℕ). product (drop k (size ∷ sizes))) more)
     wide most
-    ∙ any_same (steps (part size column code) block stride)
+    ∙ any_same_below (steps (part size column code) block stride)
     (λ j. steps column block stride (code * product (take v sizes) + j)) (product (take v sizes))
     (λ j j_low. same code j code_low j_low))
     ∙ any_nest (steps column block stride) size (product (take v sizes))

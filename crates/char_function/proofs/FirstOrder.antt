@@ -18,11 +18,11 @@ use Rattle.char_function.specs.inner.Orders.{stands_after}
 use Rattle.transition_table.specs.Laws.{SupportByTest}
 use Rattle.transition_table.proofs.FewItems.{few_items}
 use Rattle.decision_diagram.proofs.AllCodes.{all_flat, all_map}
-use Rattle.char_function.proofs.AreSupports.{all_weaken, below_upto, filter_append, filter_all, support_at, are_supports}
-use Rattle.char_function.proofs.CodesByRank.{flat_more}
-use Rattle.domains.proofs.AllCodes.{long_map}
+use Rattle.char_function.proofs.AreSupports.{all_weaken, below_upto, filter_all, support_at, are_supports}
 use Rattle.domains.proofs.Places.{at_place, place_below}
-use Rattle.decision_diagram.proofs.ByVariable.{long_upto}
+use Rattle.polis_base.proofs.ListTests.{filter_append}
+use Rattle.polis_base.proofs.Places.{flat_map_push, length_map}
+use Rattle.polis_base.proofs.UptoPlaces.{length_upto}
 
 -- ---- reach
 pub reach_over : (support : List ℕ) (v : ℕ) → stands support v ≡ true → v + 1 ≤ reach support
@@ -149,7 +149,7 @@ module _ (n : ℕ) (sup : List (List ℕ)) where
   sections_up zero low = let e : (0 + 1) * w ≡ w = omega arith in omega arith
   sections_up (suc j) low =
       let e : suc j ≡ j + 1 = omega arith in
-      subst (λ (xs : List ℕ). Up key w xs ((suc j + 1) * w)) (sym (flat_more section (upto j) j))
+      subst (λ (xs : List ℕ). Up key w xs ((suc j + 1) * w)) (sym (flat_map_push section (upto j) j))
       (up_append key w ((j + 1) * w) ((suc j + 1) * w) (flat_map section (upto j)) (section j)
       (sections_up j (omega arith)) (rw e (section_up j (omega arith))))
 
@@ -201,7 +201,7 @@ module _ (n : ℕ) (sup : List (List ℕ)) where
 
   behind_long : (k : ℕ) → length (results_after n sup k)
       ≡ length (filter (is_at k) (upto (length sup)))
-  behind_long k = long_map (λ y. n + y) (filter (is_at k) (upto (length sup)))
+  behind_long k = length_map (λ y. n + y) (filter (is_at k) (upto (length sup)))
 
   none_below : (ys : List ℕ) → length (filter (is_below 0) ys) ≡ 0
   none_below [] = refl
@@ -224,7 +224,7 @@ module _ (n : ℕ) (sup : List (List ℕ)) where
       let before = sections_long j in
       let e : length (flat_map section (upto (suc j)))
       ≡ length (flat_map section (upto j) ++ section j) =
-      ap (λ (xs : List ℕ). length xs) (flat_more section (upto j) j) in
+      ap (λ (xs : List ℕ). length xs) (flat_map_push section (upto j) j) in
       let f = length-append (flat_map section (upto j)) (section j) in
       let a = behind_long (j + 1) in
       let one : j + 1 ≡ suc j = omega arith in
@@ -250,7 +250,7 @@ module _ (n : ℕ) (sup : List (List ℕ)) where
         let a = length-append (results_after n sup 0) (flat_map section (upto n)) in
         let b = sections_long n in
         let c = every (upto (length sup)) (below_upto (length sup)) in
-        let d = long_upto (length sup) in
+        let d = length_upto (length sup) in
         omega arith
 
     -- ---- all are below the length
@@ -329,8 +329,8 @@ module _ (n : ℕ) (sup : List (List ℕ)) where
 reach_few : (m : Machine) (y : ℕ) → y < length (all_supports m)
     → reach_at (all_supports m) y ≤ length m.vars
 reach_few m y low =
-    let l = long_map (support_of m) (upto (length m.results)) in
-    let k = long_upto (length m.results) in
+    let l = length_map (support_of m) (upto (length m.results)) in
+    let k = length_upto (length m.results) in
     let e = support_at m y (omega arith) in
     ap_le (ap reach e)
     (reach_within (length m.vars) (support_of m y)
@@ -341,7 +341,7 @@ reach_few m y low =
     ap_le e h = omega arith
 
 pub supports_long : (m : Machine) → length (all_supports m) ≡ length m.results
-supports_long m = long_map (support_of m) (upto (length m.results)) ∙ long_upto (length m.results)
+supports_long m = length_map (support_of m) (upto (length m.results)) ∙ length_upto (length m.results)
 
 pub first_permutation : (m : Machine) → IsPermutation (first_order m)
 first_permutation m = permutation (length m.vars) (all_supports m) (reach_few m)

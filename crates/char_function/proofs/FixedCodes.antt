@@ -1,18 +1,19 @@
 -- Lists of which some codes are fixed, and what stands before a place of an order.
 use Rattle.std.proofs.Common.{◌≡◌, ⊎_elim, ℕ, zero, suc, ◌<◌, Bool, true, false, cond, ◌||◌, eqb, List, [], ◌∷◌, ◌++◌, length, take, get_or, slice_index, slice_set, refl, ap, sym, ◌∙◌, arith}
-use Rattle.std.proofs.lemmas.Bool.{cases_Bool, cases_lt, eqb-true, eq-eqb, true≢false}
+use Rattle.std.proofs.lemmas.Bool.{cases_Bool, cases_lt, eqb-true, eq-eqb, true≢false, or_right, or_left}
 use Rattle.std.proofs.lemmas.List.{ext_get_or, get_or-map, length-map, get_or_append_left}
 use Rattle.polis_base.specs.Lists.{upto}
 use Rattle.domains.specs.Tables.{fits}
 use Rattle.decision_diagram.specs.Sets.{stands, taking}
 use Rattle.decision_diagram.proofs.Fits.{fits_at}
 use Rattle.domains.proofs.Ranks.{length_fits}
-use Rattle.decision_diagram.proofs.ByVariable.{long_upto, fits_from}
+use Rattle.domains.proofs.FittingCodes.{fits_from}
+use Rattle.polis_base.proofs.UptoPlaces.{length_upto}
 
 pub at_upto : (n k : ℕ) → k < n → get_or (upto n) k 0 ≡ k
 at_upto zero k low = absurd (omega arith)
 at_upto (suc n) k low =
-    let l = long_upto n in
+    let l = length_upto n in
     ⊎_elim
     (λ less. get_or_append_left (upto n) (n ∷ []) 0 k (omega arith) ∙ at_upto n k less)
     (λ more. let e : k ≡ length (upto n) = omega arith in
@@ -35,12 +36,12 @@ set_else (x ∷ xs) (suc v) (suc w) code other = set_else xs v w code (λ e. oth
 pub taking_long : (fixed : ℕ → Bool) (a b : List ℕ) → length (taking fixed a b) ≡ length b
 taking_long fixed a b =
     length-map (upto (length b)) (λ v. cond (fixed v) (slice_index a v) (slice_index b v))
-    ∙ long_upto (length b)
+    ∙ length_upto (length b)
 
 pub taking_at : (fixed : ℕ → Bool) (a b : List ℕ) (w : ℕ) → w < length b
     → slice_index (taking fixed a b) w ≡ cond (fixed w) (slice_index a w) (slice_index b w)
 taking_at fixed a b w low =
-    let l = long_upto (length b) in
+    let l = length_upto (length b) in
     get_or-map (λ v. cond (fixed v) (slice_index a v) (slice_index b v)) (upto (length b)) w 0 0
     (omega arith)
     ∙ ap (λ v. cond (fixed v) (slice_index a v) (slice_index b v)) (at_upto (length b) w low)
@@ -81,13 +82,6 @@ taking_is fixed a b c long each =
     taking_at fixed a b w lb ∙ each w lb)
 
 -- ---- what stands before a place
-or_on : (a b : Bool) → b ≡ true → (a || b) ≡ true
-or_on true b h = refl
-or_on false b h = h
-
-pub or_first : (a b : Bool) → a ≡ true → (a || b) ≡ true
-or_first true b h = refl
-or_first false b h = absurd (true≢false (sym h))
 
 -- what stands before a place stands at an earlier one
 pub stands_at : (xs : List ℕ) (b w : ℕ) → stands (take b xs) w ≡ true
@@ -106,9 +100,9 @@ pub at_stands : (xs : List ℕ) (b a w : ℕ) → a < b → a < length xs → sl
 at_stands xs zero a w low inside is = absurd (omega arith)
 at_stands [] (suc b) a w low inside is = absurd (omega arith)
 at_stands (x ∷ xs) (suc b) zero w low inside is =
-    or_first (eqb x w) (stands (take b xs) w) (eq-eqb x w is)
+    or_left (eqb x w) (stands (take b xs) w) (eq-eqb x w is)
 at_stands (x ∷ xs) (suc b) (suc a) w low inside is =
-    or_on (eqb x w) (stands (take b xs) w) (at_stands xs b a w (omega arith) (omega arith) is)
+    or_right (eqb x w) (stands (take b xs) w) (at_stands xs b a w (omega arith) (omega arith) is)
 
 -- and one place further also what stands there
 pub stands_more : (xs : List ℕ) (k w : ℕ) → k < length xs

@@ -23,12 +23,11 @@ use Rattle.decision_diagram.proofs.ListItems.{read, read_within}
 use Rattle.char_function.proofs.GroupNodes.{means_kept}
 use Rattle.domains.proofs.Places.{place_of_item}
 use Rattle.char_function.proofs.CodesByRank.{at_rank}
-use Rattle.domains.proofs.AllCodes.{long_map}
 use Rattle.char_function.proofs.IsTableOf.{numbers_long, number_low, outcome_at}
 use Rattle.domains.proofs.Ranks.{length_fits, fits_zeros}
-use Rattle.decision_diagram.proofs.ByVariable.{index_append}
-use Rattle.outcome_table.proofs.Rows.{few_snapshots}
 use Rattle.outcome_table.proofs.Columns.{all_long}
+use Rattle.polis_base.proofs.Places.{index_append, length_map}
+use Rattle.transition_table.proofs.MachineCounts.{few_snapshots}
 
 -- of the first children all are the same but one
 pub one_kid : (kids : List ℕ) (f kid size code w at c : ℕ) → kids ≡ replicate 33 f → w ≡ size
@@ -146,7 +145,7 @@ next_of once m order ordered p item size i code stride step inside low code_low 
 
 pub points_few : (m : Machine) → length (points m) ≤ 65536
 points_few m =
-    let a = long_map (point m) (all_codes m.vars) in
+    let a = length_map (point m) (all_codes m.vars) in
     let b = all_long m.vars in
     let few = few_snapshots m in
     omega arith
@@ -383,7 +382,7 @@ first_of_all m order are =
     ap (slice_get (all_codes m.vars)) (sym (rank_zeros m.vars))
     ∙ at_rank m.vars zeros (fits_zeros m.vars are) in
     let within = read_within (all_codes m.vars) 0 zeros found in
-    let long = long_map (point m) (all_codes m.vars) in
+    let long = length_map (point m) (all_codes m.vars) in
     let low : 0 < length (points m) = omega arith in
     let snap : snapshot m 0 ≡ zeros = read (all_codes m.vars) 0 zeros [] found in (
       low,

@@ -28,14 +28,15 @@ use Rattle.transition_table.proofs.SupportByTest.{char_there}
 use Rattle.decision_diagram.proofs.Fits.{fits_at}
 use Rattle.decision_diagram.proofs.ListItems.{read, read_within, read_some}
 use Rattle.domains.proofs.Places.{place_of_item, at_place, place_below}
-use Rattle.char_function.proofs.AreSupports.{all_weaken, below_upto, filter_append, filter_all}
+use Rattle.char_function.proofs.AreSupports.{all_weaken, below_upto, filter_all}
 use Rattle.char_function.proofs.Varies.{any_found}
 use Rattle.char_function.proofs.IsTableOf.{points_fit}
-use Rattle.char_function.proofs.CodesByRank.{get_map, at_rank}
+use Rattle.char_function.proofs.CodesByRank.{at_rank}
 use Rattle.domains.proofs.Ranks.{length_fits}
-use Rattle.decision_diagram.proofs.AppendedLists.{fits_prefix}
-use Rattle.outcome_table.proofs.ListMaps.{all_get}
-use Rattle.decision_diagram.proofs.CountIsSize.{iff_same}
+use Rattle.domains.proofs.FittingCodes.{fits_prefix}
+use Rattle.polis_base.proofs.Bools.{same_truth}
+use Rattle.polis_base.proofs.ListTests.{all_get, filter_append}
+use Rattle.polis_base.proofs.Places.{get_map, index_end}
 
 -- The children so far: one for each code, true where one of the points with that code agrees on
 -- what is results_after.
@@ -86,10 +87,6 @@ kid_front [] n i low = absurd (omega arith)
 kid_front (x ∷ xs) n zero low = refl
 kid_front (x ∷ xs) n (suc i) low = kid_front xs n i (omega arith)
 
-kid_last : (xs : List ℕ) (n : ℕ) → slice_index (xs ++ n ∷ []) (length xs) ≡ n
-kid_last [] n = refl
-kid_last (x ∷ xs) n = kid_last xs n
-
 pub kids_more : (points : List (List ℕ)) (old s new : Diagrams) (place var : ℕ)
     (group kids : List ℕ) (code n : ℕ) → AreKids points old s place var group kids code
     → Keeps old s → Keeps s new
@@ -104,7 +101,7 @@ kids_more points old s new place var group kids code n before first kept means l
     (some_agrees points order (place + 1) (with_code points var group code))) first.order
     means in
     let last : slice_index (kids ++ n ∷ []) code ≡ n =
-    ap (slice_index (kids ++ n ∷ [])) (sym size) ∙ kid_last kids n in
+    ap (slice_index (kids ++ n ∷ [])) (sym size) ∙ index_end kids n in
     record {
       long = length-append kids (n ∷ []) ∙ (let e : length kids + 1 ≡ code + 1 = omega arith in e);
       means = λ c low.
@@ -178,10 +175,6 @@ node_means points old s new place var size group kids n low is inside sized one 
           ∙ (are.means c (omega arith)).value codes fit_s
           ∙ some_split points old.order place var group codes low is;
     }
-
-pub no_group : (group : List ℕ) → length group ≡ 0 → group ≡ []
-no_group [] e = refl
-no_group (x ∷ xs) e = absurd (omega arith)
 
 pub end_agrees : (points : List (List ℕ)) (order : List ℕ) (place : ℕ) (group codes : List ℕ)
     → length group ≢ 0 → place ≡ length order → some_agrees points order place group codes ≡ true
@@ -260,7 +253,7 @@ pub all_char : ResultsFit → (m : Machine) (order : List ℕ) → IsPermutation
     → length order ≡ length (sizes_of m) → (codes : List ℕ) → fits (sizes_of m) codes ≡ true
     → some_agrees (points m) order 0 (upto (length (points m))) codes ≡ char m codes
 all_char results_fit m order perm long codes fit =
-    iff_same (some_agrees (points m) order 0 (upto (length (points m))) codes) (char m codes) to
+    same_truth (some_agrees (points m) order 0 (upto (length (points m))) codes) (char m codes) to
     from
   where
     to : some_agrees (points m) order 0 (upto (length (points m))) codes ≡ true

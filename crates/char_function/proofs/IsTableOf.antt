@@ -13,13 +13,12 @@ use Rattle.outcome_table.specs.declared.table.Table.{Table}
 use Rattle.char_function.specs.inner.Points.{at_point, point, points}
 use Rattle.decision_diagram.proofs.AllCodes.{all_map, lists_fit}
 use Rattle.decision_diagram.proofs.Fits.{fits_at}
-use Rattle.char_function.proofs.ListItems.{all_at, at_map, index_second}
+use Rattle.char_function.proofs.ListItems.{at_map, index_second}
 use Rattle.char_function.proofs.AreSupports.{all_weaken}
-use Rattle.domains.proofs.AllCodes.{long_map}
-use Rattle.decision_diagram.proofs.AppendedLists.{fits_both}
 use Rattle.domains.proofs.Ranks.{length_fits}
-use Rattle.decision_diagram.proofs.ByVariable.{index_append}
-use Rattle.outcome_table.proofs.ListMaps.{map_map}
+use Rattle.domains.proofs.FittingCodes.{fits_both}
+use Rattle.polis_base.proofs.ListTests.{all_get_or}
+use Rattle.polis_base.proofs.Places.{index_append, length_map, map_of_map}
 
 -- all points of a machine are codes of its variables and results
 pub points_fit : ResultsFit → (m : Machine) → list_all (fits (sizes_of m)) (points m) ≡ true
@@ -32,20 +31,20 @@ points_fit law m =
 module _ (m : Machine) (t : Table) (tabled : IsTableOf m t) where
   pub numbers_long : length t.numbers ≡ length (points m)
   numbers_long =
-      let a = long_map (λ k. get_or t.outcomes k []) t.numbers in
-      let b = long_map (result_codes m) (all_codes m.vars) in
-      let c = long_map (point m) (all_codes m.vars) in
+      let a = length_map (λ k. get_or t.outcomes k []) t.numbers in
+      let b = length_map (result_codes m) (all_codes m.vars) in
+      let c = length_map (point m) (all_codes m.vars) in
       let d = ap (λ (xs : List (List ℕ)). length xs) tabled.results in
       omega arith
 
   pub lists_long : length (points m) ≡ length (all_codes m.vars)
-  lists_long = long_map (point m) (all_codes m.vars)
+  lists_long = length_map (point m) (all_codes m.vars)
 
   -- the number of a snapshot's outcome is that of an outcome
   pub number_low : (i : ℕ) → i < length t.numbers → slice_index t.numbers i < length t.outcomes
   number_low i low =
       ltb-true (slice_index t.numbers i) (length t.outcomes)
-      (all_at (λ k. nat_lt k (length t.outcomes)) t.numbers i 0 tabled.within low)
+      (all_get_or (λ k. nat_lt k (length t.outcomes)) t.numbers i 0 tabled.within low)
 
   -- which has the codes of the results on the snapshot
   pub outcome_at : (i : ℕ) → i < length t.numbers
@@ -61,7 +60,7 @@ module _ (m : Machine) (t : Table) (tabled : IsTableOf m t) where
   pub fits_list : (i : ℕ) → i < length (points m)
       → fits m.vars (get_or (all_codes m.vars) i []) ≡ true
   fits_list i low = let b = lists_long in
-      all_at (fits m.vars) (all_codes m.vars) i [] (lists_fit m.vars) (omega arith)
+      all_get_or (fits m.vars) (all_codes m.vars) i [] (lists_fit m.vars) (omega arith)
 
   point_is : (i : ℕ) → i < length (points m)
       → at_point (points m) i ≡ point m (get_or (all_codes m.vars) i [])
@@ -81,7 +80,7 @@ module _ (m : Machine) (t : Table) (tabled : IsTableOf m t) where
 
   pub column_long : (v : ℕ) → v < length m.vars → length (get_or t.codes v []) ≡ length (points m)
   column_long v low =
-      let a = long_map (λ codes. slice_index codes v) (all_codes m.vars) in
+      let a = length_map (λ codes. slice_index codes v) (all_codes m.vars) in
       let b = lists_long in
       ap (λ (xs : List ℕ). length xs) (tabled.codes.each v low)
       ∙ (let e : length (map (λ codes. slice_index codes v) (all_codes m.vars))
@@ -100,7 +99,7 @@ module _ (m : Machine) (t : Table) (tabled : IsTableOf m t) where
         → slice_index (at_point (points m) i) item < slice_index (sizes_of m) item
     code_below i item low item_low =
         fits_at (sizes_of m) (at_point (points m) i)
-        (all_at (fits (sizes_of m)) (points m) i [] (points_fit law m) low) item item_low
+        (all_get_or (fits (sizes_of m)) (points m) i [] (points_fit law m) low) item item_low
 
   -- and its code of a result under the number of its outcome
   pub result_at : (i item : ℕ) → i < length (points m) → length m.vars ≤ item
@@ -120,7 +119,7 @@ module _ (m : Machine) (t : Table) (tabled : IsTableOf m t) where
   pub result_column : (y : ℕ) → map (λ k. slice_index (get_or t.outcomes k []) y) t.numbers
       ≡ map (result_code m y) (all_codes m.vars)
   result_column y =
-      sym (map_map (λ (codes : List ℕ). slice_index codes y) (λ k. get_or t.outcomes k [])
+      sym (map_of_map (λ (codes : List ℕ). slice_index codes y) (λ k. get_or t.outcomes k [])
       t.numbers)
       ∙ ap (map (λ (codes : List ℕ). slice_index codes y)) tabled.results
-      ∙ map_map (λ (codes : List ℕ). slice_index codes y) (result_codes m) (all_codes m.vars)
+      ∙ map_of_map (λ (codes : List ℕ). slice_index codes y) (result_codes m) (all_codes m.vars)

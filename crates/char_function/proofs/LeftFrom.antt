@@ -15,18 +15,17 @@ use Rattle.std.specs.Cmp.Lexicographic.{same_text}
 use Rattle.char_function.specs.inner.Known.{OnlyResults}
 use Rattle.char_function.specs.inner.Left.{left_from, IsFirst, IsOrdered}
 use Rattle.char_function.specs.inner.Points.{at_point, point, points}
-use Rattle.decision_diagram.proofs.Fits.{fits_set}
-use Rattle.char_function.proofs.ListItems.{all_at, at_map, index_second}
+use Rattle.char_function.proofs.ListItems.{at_map, index_second}
 use Rattle.decision_diagram.proofs.ListItems.{read, read_some, read_within}
 use Rattle.transition_table.proofs.SupportByTest.{char_there}
 use Rattle.domains.proofs.Places.{place_of_item, at_place, place_below}
 use Rattle.char_function.proofs.FixedCodes.{at_stands, cond_step, set_else, stands_at, stands_more, taking_at, taking_fits, taking_is, taking_long, taking_same}
 use Rattle.char_function.proofs.CodesByRank.{at_rank}
-use Rattle.domains.proofs.AllCodes.{long_map}
 use Rattle.decision_diagram.proofs.AllCodes.{lists_fit}
-use Rattle.decision_diagram.proofs.AppendedLists.{fits_both, fits_prefix}
 use Rattle.domains.proofs.Ranks.{length_fits}
-use Rattle.decision_diagram.proofs.ByVariable.{index_append}
+use Rattle.domains.proofs.FittingCodes.{fits_both, fits_prefix, fits_set_any}
+use Rattle.polis_base.proofs.ListTests.{all_get_or}
+use Rattle.polis_base.proofs.Places.{index_append, length_map}
 
 -- with another code the rank is as many strides further
 pub rank_set : (sizes codes : List ℕ) (v code : ℕ) → v < length sizes → fits sizes codes ≡ true
@@ -54,11 +53,11 @@ snapshot m i = get_or (all_codes m.vars) i []
 
 module _ (m : Machine) where
   lists_long : length (points m) ≡ length (all_codes m.vars)
-  lists_long = long_map (point m) (all_codes m.vars)
+  lists_long = length_map (point m) (all_codes m.vars)
 
   pub snapshot_fits : (i : ℕ) → i < length (points m) → fits m.vars (snapshot m i) ≡ true
   snapshot_fits i low = let b = lists_long in
-      all_at (fits m.vars) (all_codes m.vars) i [] (lists_fit m.vars) (omega arith)
+      all_get_or (fits m.vars) (all_codes m.vars) i [] (lists_fit m.vars) (omega arith)
 
   point_is : (i : ℕ) → i < length (points m) → at_point (points m) i ≡ point m (snapshot m i)
   point_is i low = let b = lists_long in at_map (point m) (all_codes m.vars) i [] [] (omega arith)
@@ -161,7 +160,7 @@ module _ (m : Machine) where
         let s = snapshot m i in
         let hs = snapshot_fits i i_low in
         let t = slice_set s v c in
-        let ht = fits_set m.vars s hs v c c_low in
+        let ht = fits_set_any m.vars s hs v c c_low in
         let got = read_some (all_codes m.vars) i [] (omega arith) in
         let own = (once m.vars s i got).1 in
         let none : slice_index s v ≡ 0 =

@@ -1,7 +1,5 @@
 -- Reading lists.
-use Rattle.std.proofs.Common.{◌≡◌, ℕ, zero, suc, ◌+◌, ◌<◌, Bool, true, List, ◌∷◌, ◌++◌, map, length, get_or, slice_index, refl, ap, ◌∙◌, arith, []}
-use Rattle.std.specs.List.{list_all}
-use Rattle.std.proofs.lemmas.Bool.{and_parts}
+use Rattle.std.proofs.Common.{◌≡◌, ℕ, zero, suc, ◌+◌, ◌<◌, List, ◌∷◌, ◌++◌, map, length, get_or, slice_index, refl, ap, ◌∙◌, arith, []}
 
 -- ---- two lists after each other
 pub index_second : (xs ys : List ℕ) (i : ℕ)
@@ -17,12 +15,6 @@ below_within (x ∷ xs) zero n below = omega arith
 below_within (x ∷ xs) (suc i) n below = let h = below_within xs i n below in omega arith
 
 -- ---- lists of which each item passes
-pub all_at : {X : Type 0} (p : X → Bool) (xs : List X) (i : ℕ) (d : X) → list_all p xs ≡ true
-    → i < length xs → p (get_or xs i d) ≡ true
-all_at p [] i d all low = absurd (omega arith)
-all_at p (x ∷ xs) zero d all low = (and_parts (p x) (list_all p xs) all).0
-all_at p (x ∷ xs) (suc i) d all low =
-    all_at p xs i d (and_parts (p x) (list_all p xs) all).1 (omega arith)
 
 pub at_map : {X Y : Type 0} (f : X → Y) (xs : List X) (i : ℕ) (d : X) (e : Y) → i < length xs
     → get_or (map f xs) i e ≡ f (get_or xs i d)

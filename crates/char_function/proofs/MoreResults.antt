@@ -3,7 +3,7 @@ use Rattle.std.proofs.Common.{◌≡◌, ℕ, suc, ◌+◌, Bool, true, false, c
 use Rattle.std.specs.Prelude.{filter}
 use Rattle.std.proofs.lemmas.List.{map-append, append-nil, append_assoc}
 use Rattle.polis_base.specs.Lists.{upto}
-use Rattle.char_function.proofs.AreSupports.{filter_append}
+use Rattle.polis_base.proofs.ListTests.{filter_append}
 
 more : (old : List ℕ) (n y : ℕ) (p : ℕ → Bool)
     → old ++ map (λ y. n + y) (filter p (upto (y + 1)))

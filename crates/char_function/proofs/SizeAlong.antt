@@ -12,8 +12,6 @@ use Rattle.domains.specs.Tables.{fits}
 use Rattle.decision_diagram.specs.Sizes.{by_variable, truths, turns, depends, level, levels, size_along}
 use Rattle.decision_diagram.specs.Truths.{same_truths, different}
 use Rattle.decision_diagram.proofs.ByVariable.{by_variable_fits}
-use Rattle.decision_diagram.proofs.AppendedLists.{fits_both}
-use Rattle.decision_diagram.proofs.Members.{same_if}
 use Rattle.transition_table.specs.declared.machine.Machine.{Machine}
 use Rattle.transition_table.specs.Computed.{char}
 use Rattle.transition_table.specs.Laws.{CharByTest}
@@ -23,6 +21,8 @@ use Rattle.char_function.specs.Orders.{first_order}
 use Rattle.char_function.specs.Sizes.{Decides, IsSize}
 use Rattle.char_function.proofs.FirstOrder.{first_long, first_permutation}
 use Rattle.decision_diagram.proofs.AllCodes.{lists_fit}
+use Rattle.domains.proofs.FittingCodes.{fits_both}
+use Rattle.polis_base.proofs.Bools.{same_truth}
 
 -- the two say the same of each list that fits
 abbrev pub Agree : (List ℕ → Bool) → (List ℕ → Bool) → List ℕ → Type 0
@@ -130,7 +130,7 @@ size_same f g sizes order permutation long agree =
 pub decides_same : (f g : List ℕ → Bool) (m : Machine) → Decides f m → Decides g m
     → Agree f g (sizes_of m)
 decides_same f g m one other codes fit =
-    same_if (f codes) (g codes) (λ on. (other codes fit).1 ((one codes fit).0 on))
+    same_truth (f codes) (g codes) (λ on. (other codes fit).1 ((one codes fit).0 on))
     (λ on. (one codes fit).1 ((other codes fit).0 on))
 
 pub char_decides : CharByTest → CharDecides

@@ -1,5 +1,5 @@
 -- What varies in a column of a function's values is what the function changes with.
-use Rattle.std.proofs.Common.{◌≡◌, ⊎_elim, ℕ, zero, suc, ◌+◌, ◌-◌, ◌*◌, ◌/◌, ◌<◌, ◌≤◌, Bool, true, false, not, ◌==◌, ◌&&◌, ◌||◌, List, [], ◌∷◌, ◌++◌, map, flat_map, length, take, drop, slice_index, refl, ap, sym, ◌∙◌, arith, ltb, leb, get_or-drop, get_or-take, length-take, length-drop}
+use Rattle.std.proofs.Common.{◌≡◌, ⊎_elim, ℕ, zero, suc, ◌+◌, ◌-◌, ◌*◌, ◌/◌, ◌<◌, ◌≤◌, Bool, true, false, not, ◌==◌, ◌&&◌, ◌||◌, List, [], ◌∷◌, ◌++◌, map, length, take, drop, slice_index, refl, ap, sym, ◌∙◌, arith, ltb, leb, get_or-drop, get_or-take, length-take, length-drop}
 use Rattle.std.specs.Prelude.{slice_range}
 use Rattle.std.specs.List.{list_any}
 use Rattle.std.specs.Cmp.Lexicographic.{same_text}
@@ -17,9 +17,10 @@ use Rattle.char_function.specs.inner.Columns.{part, varies}
 use Rattle.decision_diagram.proofs.AllCodes.{none_lists, lists_fit}
 use Rattle.decision_diagram.proofs.Fits.{size_some}
 use Rattle.decision_diagram.proofs.ListItems.{read, read_within}
-use Rattle.char_function.proofs.CodesByRank.{at_rank, get_map}
-use Rattle.domains.proofs.AllCodes.{long_map}
+use Rattle.char_function.proofs.CodesByRank.{at_rank}
 use Rattle.outcome_table.proofs.Columns.{all_long}
+use Rattle.polis_base.proofs.ListTests.{any_of_flat_map, any_of_map, any_same_below}
+use Rattle.polis_base.proofs.Places.{get_map, length_map}
 
 -- ---- some number below another
 pub any_append : {X : Type 0} (p : X → Bool) (xs ys : List X)
@@ -42,26 +43,6 @@ any_found p (suc n) k low on =
     or_right (list_any p (upto n)) (p n || false) (or_left (p n) false (ap p same ∙ on)))
     (cases_lt k n)
 
-pub any_same : (p q : ℕ → Bool) (n : ℕ) → ((k : ℕ) → k < n → p k ≡ q k)
-    → list_any p (upto n) ≡ list_any q (upto n)
-any_same p q zero same = refl
-any_same p q (suc n) same =
-    any_append p (upto n) (n ∷ [])
-    ∙ ap (λ (b : Bool). b || (p n || false)) (any_same p q n (λ k low. same k (omega arith)))
-    ∙ ap (λ (b : Bool). list_any q (upto n) || (b || false)) (same n (omega arith))
-    ∙ sym (any_append q (upto n) (n ∷ []))
-
-any_flat : {X Y : Type 0} (p : Y → Bool) (f : X → List Y) (xs : List X)
-    → list_any p (flat_map f xs) ≡ list_any (λ x. list_any p (f x)) xs
-any_flat p f [] = refl
-any_flat p f (x ∷ xs) = any_append p (f x) (flat_map f xs)
-    ∙ ap (λ (b : Bool). list_any p (f x) || b) (any_flat p f xs)
-
-any_map : {X Y : Type 0} (p : Y → Bool) (f : X → Y) (xs : List X)
-    → list_any p (map f xs) ≡ list_any (λ x. p (f x)) xs
-any_map p f [] = refl
-any_map p f (x ∷ xs) = ap (λ (b : Bool). p (f x) || b) (any_map p f xs)
-
 -- ---- parts
 -- the values over the first variable and those results_after it
 values : (List ℕ → ℕ) → List ℕ → List ℕ
@@ -69,7 +50,7 @@ values g sizes = map g (all_codes sizes)
 
 values_long : (g : List ℕ → ℕ) (sizes : List ℕ) → length (values g sizes) ≡ product sizes
 unfolding values
-values_long g sizes = long_map g (all_codes sizes) ∙ all_long sizes
+values_long g sizes = length_map g (all_codes sizes) ∙ all_long sizes
 
 values_at : (g : List ℕ → ℕ) (sizes codes : List ℕ) → fits sizes codes ≡ true
     → slice_index (values g sizes) (rank sizes codes) ≡ g codes
@@ -294,15 +275,15 @@ varies_moves reach g (size ∷ sizes) (suc v) sized low =
     let rest : are_sizes sizes ≡ true =
     (and_parts (leb 1 size && leb size 33) (are_sizes sizes) sized).1 in
     let all : List ℕ = map g (all_codes (size ∷ sizes)) in
-    any_same (λ code. varies sizes v (part size all code))
+    any_same_below (λ code. varies sizes v (part size all code))
     (λ code. moves (λ s. g (code ∷ s)) sizes v) size (λ code less.
     ap (varies sizes v) (part_values g size sizes reach code less)
     ∙ varies_moves reach (λ s. g (code ∷ s)) sizes v rest (omega arith))
     ∙ sym
-    (any_flat (λ s. list_any (turned g (suc v) s) (upto (slice_index sizes v)))
+    (any_of_flat_map (λ s. list_any (turned g (suc v) s) (upto (slice_index sizes v)))
     (each_after (all_codes sizes)) (upto size)
-    ∙ any_same (λ code. list_any (λ s. list_any (turned g (suc v) s) (upto (slice_index sizes v)))
+    ∙ any_same_below (λ code. list_any (λ s. list_any (turned g (suc v) s) (upto (slice_index sizes v)))
     (each_after (all_codes sizes) code)) (λ code. moves (λ s. g (code ∷ s)) sizes v) size
     (λ code less.
-    any_map (λ s. list_any (turned g (suc v) s) (upto (slice_index sizes v))) (λ s. code ∷ s)
+    any_of_map (λ s. list_any (turned g (suc v) s) (upto (slice_index sizes v))) (λ s. code ∷ s)
     (all_codes sizes)))

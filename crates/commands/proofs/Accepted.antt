@@ -25,13 +25,13 @@ use Rattle.net_names.specs.Values.{count_of}
 use Rattle.rule_judge.specs.Rules.{disorder}
 use Rattle.net_rules.specs.Networks.{event_of, state_of, IsDomainOf, IsMachineOf}
 use Rattle.net_rules.specs.inner.Sound.{Each as AtEach, has_count}
-use Rattle.net_rules.proofs.NumbersOfNames.{and_first, and_second}
 use Rattle.net_rules.proofs.IsSound.{sound}
 use Rattle.net_rules.proofs.HasReceivers.{fresh}
 use Rattle.net_rules.proofs.Sentences.{sentences_have_values}
 use Rattle.journal_text.specs.Holding.{names_hold, has_name_token, state_has_name, machine_holds, values_hold}
 use Rattle.input_files.specs.Accepted.{Accepted}
 use Rattle.commands.proofs.Tokens.{AreGood, kind_small, tokens_good}
+use Rattle.polis_base.proofs.Bools.{and_first, and_second}
 
 -- ---- what a part of good tokens says
 before : {ts : List Lexeme} (x y : List Lexeme) → ts ≡ x ++ y → AreGood ts → AreGood x

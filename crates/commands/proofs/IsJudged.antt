@@ -24,7 +24,7 @@ use Rattle.commands.specs.declared.replay.ReplayFiles.{ReplayFiles}
 use Rattle.commands.specs.inner.Replay.{AreLoaded, FitTogether, HoldsBoth, IsFound, IsJudgmentOf}
 use Rattle.polis_base.proofs.WhereTold.{told_both}
 use Rattle.input_files.proofs.Holds.{journal_held, one_text}
-use Rattle.polis_base.proofs.Names.{left_true, right_true}
+use Rattle.polis_base.proofs.Bools.{and_first, and_second}
 
 -- rising stamps are stamps, one for each entry
 stamps_rise : (net : Network) (before : List Stamped) (journal : List Entry) (ts : List ℕ)
@@ -35,9 +35,9 @@ stamps_rise net before [] (t ∷ ts) h = cc
 stamps_rise net before (entry ∷ journal) [] h = cc
 stamps_rise net before (entry ∷ journal) (t ∷ ts) h =
     let rest = stamps_rise net (before ++ stamped t entry ∷ []) journal ts
-    (right_true _ (rises_after net (before ++ stamped t entry ∷ []) journal ts) h) in
-    let above = left_true _ (rises_after net (before ++ stamped t entry ∷ []) journal ts) h in
-    let first : is_stamp t ≡ true = left_true (is_stamp t) _ above in
+    (and_second _ (rises_after net (before ++ stamped t entry ∷ []) journal ts) h) in
+    let above = and_first _ (rises_after net (before ++ stamped t entry ∷ []) journal ts) h in
+    let first : is_stamp t ≡ true = and_first (is_stamp t) _ above in
     (rw (first, rest.0) refl, ap (λ n. suc n) rest.1)
 
 pub rising_stamps : (net : Network) (journal : List Entry) (ts : List ℕ) → Rising net journal ts

@@ -54,7 +54,7 @@ pub whole_reads : (text trace : List ℕ) (net : Network) (line : ℕ) (kind : T
 whole_reads text trace net line kind whole one fault =
     read_faulty (trace_of net trace) whole.trace line kind (reads text trace net whole one) fault
 
-one_trace : (r : Result (List TraceItem) TraceFault) (a b : List TraceItem) → r ≡ Ok a → r ≡ Ok b
+pub one_trace : (r : Result (List TraceItem) TraceFault) (a b : List TraceItem) → r ≡ Ok a → r ≡ Ok b
     → a ≡ b
 one_trace r a b p q = cc
 

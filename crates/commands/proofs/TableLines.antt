@@ -4,11 +4,11 @@ use Rattle.std.specs.Prelude.{IsSomeAnd}
 use Rattle.transition_table.specs.Transitions.{OfMachine}
 use Rattle.transition_table.specs.declared.machine.Machine.{Machine}
 use Rattle.transition_table.specs.declared.network.Network.{Network}
-use Rattle.graph_drawing.proofs.Numbered.{drop_one}
 use Rattle.table_use.specs.Lint.{lint_of}
 use Rattle.table_use.specs.LintLines.{lint_text}
 use Rattle.table_use.specs.declared.finding.MachineLint.{MachineLint}
 use Rattle.commands.specs.Lint.{table_text}
+use Rattle.polis_base.proofs.Places.{drop_one}
 
 -- one machine more is written
 pub next_table : (net : Network) (m : ℕ) (found : MachineLint) (now new all : List ℕ)

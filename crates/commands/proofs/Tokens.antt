@@ -13,9 +13,10 @@ use Rattle.polis_base.specs.declared.token.LexError.{LexError}
 use Rattle.polis_base.specs.declared.token.LexError.TheVariants.{BadByte, NameTooLong, NumberTooLarge}
 use Rattle.polis_base.specs.declared.token.Sign.TheVariants.{Equal, Assign, Colon, Comma, LeftBrace, RightBrace, DotDot, Plus}
 use Rattle.polis_base.specs.declared.token.Token.{Token}
-use Rattle.polis_base.proofs.Spans.{tokens_lie}
+use Rattle.polis_base.proofs.Spans.{tokens_lie, none_read}
 use Rattle.net_reader.proofs.Marks.{Scanned, token_at}
 use Rattle.net_reader.specs.Lexemes.{Lexeme, lexemes}
+use Rattle.polis_base.proofs.Bools.{and_first, and_second}
 
 -- a number of at most 32 bits, or no number
 abbrev pub kind_small : Kind → Bool
@@ -63,10 +64,6 @@ reads kind len own joins = record {
   keeps = λ at r tokens h each. with_small (token_at kind len at) r tokens own
       (sym (joins at r) ∙ h) each;
 }
-
-none_read : (error : LexError) (tokens : List Token)
-    → ◌≡◌ {A = Result (List Token) LexError} (Err error) (Ok tokens) → ⊥
-none_read error tokens h = cc
 
 fails : {f : Scanned} (error : LexError)
     → ((at : ℕ) (r : Result (List Token) LexError) → joined f at r ≡ Err error) → Small f
@@ -135,24 +132,16 @@ abbrev pub AreGood : List Lexeme → Type 0
 AreGood [] = ⊤
 AreGood (l ∷ ls) = IsGood l × AreGood ls
 
-both_left : (a b : Bool) → (a && b) ≡ true → a ≡ true
-both_left true b h = refl
-both_left false b h = h
-
-both_right : (a b : Bool) → (a && b) ≡ true → b ≡ true
-both_right true b h = h
-both_right false b h = cc
-
 good : (text : List ℕ) (tokens : List Token) → All (IsToken text) tokens
     → list_all token_small tokens ≡ true → AreGood (lexemes text tokens)
 good text [] each small = tt
 good text (token ∷ tokens) each small = (
   record {
     name = (each zero token (omega arith)).name;
-    small = both_left (token_small token) (list_all token_small tokens) small;
+    small = and_first (token_small token) (list_all token_small tokens) small;
   },
   good text tokens (λ k d below. each (suc k) d (omega (arith, below)))
-      (both_right (token_small token) (list_all token_small tokens) small),
+      (and_second (token_small token) (list_all token_small tokens) small),
 )
 
 pub tokens_good : (text : List ℕ) (tokens : List Token) → tokens_of text ≡ Ok tokens

@@ -1,9 +1,7 @@
 -- The score of the first instruction is the greatest or the least cost.
-use Rattle.std.proofs.Common.{◌≡◌, ℕ, zero, suc, ◌<◌, ◌≤◌, true, nat_le, List, [], length, replicate, slice_index, refl, ap, sym, ◌∙◌, arith}
-use Rattle.std.proofs.lemmas.Bool.{leb-true}
+use Rattle.std.proofs.Common.{◌≡◌, ℕ, ◌<◌, ◌≤◌, true, List, [], length, replicate, refl, ap, sym, ◌∙◌, arith}
 use Rattle.domains.specs.Tables.{fits, product, rank, RanksBelow, RanksDiffer}
 use Rattle.domains.proofs.Ranks.{fits_zeros}
-use Rattle.polis_base.proofs.Names.{right_true}
 use Rattle.transition_table.specs.declared.machine.Machine.{Machine}
 use Rattle.transition_table.proofs.Rows.{machine_sizes}
 use Rattle.task_code.specs.declared.instr.Instr.{Instr}
@@ -19,15 +17,7 @@ use Rattle.cost_bound.specs.Costs.{CostOf}
 use Rattle.cost_bound.specs.inner.Scores.{AtLeast, score_of, weights_of, AreScores, IsExtreme}
 use Rattle.cost_bound.proofs.WeightedSums.{dot, dot_weights, dot_zeros}
 use Rattle.cost_bound.proofs.SnapshotsOfScores.{attained, bounded}
-
-pub few_snapshots : (m : Machine) → product m.vars ≤ 65536
-few_snapshots m =
-    leb-true (product m.vars) 65536 (right_true _ (nat_le (product m.vars) 65536) m.small)
-
-zeros_are_zero : (n v : ℕ) → slice_index (replicate n 0) v ≡ 0
-zeros_are_zero zero v = refl
-zeros_are_zero (suc n) zero = refl
-zeros_are_zero (suc n) (suc v) = zeros_are_zero n v
+use Rattle.polis_base.proofs.Places.{index_zeros}
 
 -- what is the worst of one measure is that of an equal one
 pub worst_same : (m : Machine) (f g : List ℕ → ℕ) (b : Bound) → ((s : List ℕ) → f s ≡ g s)
@@ -62,7 +52,7 @@ module _ (aim : Aim) (costs : Costs) (c : List Instr) (m : Machine) (ok : IsCode
   taking ws scores are =
       let got = attained aim costs ws c scores m ok fit are (length c) []
       (replicate (length m.vars) 0) 0 (omega arith) ok.some once
-      (fits_zeros m.vars (machine_sizes m)) (λ v out. zeros_are_zero (length m.vars) v) in (
+      (fits_zeros m.vars (machine_sizes m)) (λ v out. index_zeros (length m.vars) v) in (
         got.codes,
         got.fit_vars,
         got.cost_is,

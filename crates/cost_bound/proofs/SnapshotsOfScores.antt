@@ -1,6 +1,6 @@
 -- The scores of code are what its snapshots take.
-use Rattle.std.proofs.Common.{◌≡◌, ℕ, zero, suc, ◌+◌, ◌*◌, ◌<◌, ◌≤◌, true, false, List, [], ◌∷◌, ◌++◌, length, slice_get, slice_index, slice_set, Some, refl, ap, sym, ◌∙◌, arith, ltb, length-set}
-use Rattle.std.proofs.lemmas.Bool.{and_parts, and_from, lt-ltb, false≢true, true≢false}
+use Rattle.std.proofs.Common.{◌≡◌, ℕ, zero, suc, ◌+◌, ◌*◌, ◌<◌, ◌≤◌, true, false, List, [], ◌∷◌, ◌++◌, length, slice_get, slice_index, slice_set, Some, refl, ap, sym, ◌∙◌, arith, length-set}
+use Rattle.std.proofs.lemmas.Bool.{true≢false}
 use Rattle.std.proofs.lemmas.List.{get_or-set_same, get_or-set_other}
 use Rattle.std.proofs.lemmas.List.Elements.{Contains-get_or}
 use Rattle.std.proofs.lemmas.Option.{slice_get-get_or}
@@ -22,21 +22,11 @@ use Rattle.cost_bound.specs.Costs.{cost_of}
 use Rattle.cost_bound.specs.inner.Scores.{AtLeast, score_of, IsScore, AreScores}
 use Rattle.cost_bound.proofs.TailCosts.{tail_cost, tail_none, tail_at, tail_to, instr_at, may_go_on}
 use Rattle.cost_bound.proofs.WeightedSums.{dot, dot_set}
-use Rattle.cost_bound.proofs.UntestedVariables.{Fresh, fresh_next, tests_new, not_in_more, in_more, in_last}
+use Rattle.cost_bound.proofs.UntestedVariables.{Fresh, fresh_next, tests_new, not_in_more}
+use Rattle.domains.proofs.FittingCodes.{fits_set}
+use Rattle.transition_table.proofs.MachineCounts.{has_before, has_last}
 
 -- ---- codes that fit
-fits_set : (sizes codes : List ℕ) (v j : ℕ) → fits sizes codes ≡ true → j < slice_index sizes v
-    → fits sizes (slice_set codes v j) ≡ true
-fits_set [] [] v j h low = refl
-fits_set [] (c ∷ codes) v j h low = absurd (false≢true h)
-fits_set (size ∷ sizes) [] v j h low = absurd (false≢true h)
-fits_set (size ∷ sizes) (c ∷ codes) zero j h low =
-    and_from (ltb j size) (fits sizes codes) (lt-ltb j size low)
-    (and_parts (ltb c size) (fits sizes codes) h).1
-fits_set (size ∷ sizes) (c ∷ codes) (suc v) j h low =
-    let parts = and_parts (ltb c size) (fits sizes codes) h in
-    and_from (ltb c size) (fits sizes (slice_set codes v j)) parts.0
-    (fits_set sizes codes v j parts.1 low)
 
 -- ---- better scores
 -- more cost before both, and going on by a code
@@ -117,7 +107,7 @@ module _ (aim : Aim) (costs : Costs) (ws : List ℕ) (c : List Instr) (scores : 
       (Contains-get_or targets j 0 low) in
       let got = rest next (seen ++ var ∷ []) s1 to.0 to.1 fresh1 fs1 zero1 in
       let own : slice_index got.codes var ≡ j =
-      got.same var (in_last seen var) ∙ get_or-set_same s var j 0 var_in in
+      got.same var (has_last seen var) ∙ get_or-set_same s var j 0 var_in in
       let goes : goes_to got.codes i (Test var targets) ≡ Some next =
       ap (slice_get targets) own ∙ slice_get-get_or targets j 0 low in
       let tail = tail_to costs c got.codes i next (Test var targets) is goes to.0 in
@@ -128,7 +118,7 @@ module _ (aim : Aim) (costs : Costs) (ws : List ℕ) (c : List Instr) (scores : 
       record {
         codes = got.codes;
         fit_vars = got.fit_vars;
-        same = λ v inside. got.same v (in_more seen var v inside)
+        same = λ v inside. got.same v (has_before seen var v inside)
             ∙ get_or-set_other s var v j 0
             (λ e. true≢false (sym inside ∙ ap (has seen) e ∙ new));
         cost_is = omega (arith, score.cost_is, best.cost_is, got.cost_is);

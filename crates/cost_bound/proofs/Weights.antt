@@ -37,20 +37,6 @@ weighed_more sizes a b weight v low weighed set =
     flip : (size : ℕ) {p : ℕ} → weight ≡ p → size * p ≡ weight * size
     flip size e = rw e (omega arith)
 
--- a part of the table has no more lists than the whole
-pub product_drop : (sizes : List ℕ) (v : ℕ) → are_sizes sizes ≡ true
-    → product (drop v sizes) ≤ product sizes
-product_drop sizes zero h = omega arith
-product_drop [] (suc v) h = omega arith
-product_drop (size ∷ sizes) (suc v) h =
-    let parts = and_parts (nat_le 1 size && nat_le size 33) (are_sizes sizes) h in
-    let some : 1 ≤ size =
-    leb-true 1 size (and_parts (nat_le 1 size) (nat_le size 33) parts.0).0 in
-    let rest = product_drop sizes v parts.1 in
-    let more : 1 * product sizes ≤ size * product sizes =
-    mul-le-mul_right (product sizes) some in
-    omega arith
-
 -- a weight for each code of its variable
 pub weight_few : (sizes : List ℕ) (v : ℕ) → are_sizes sizes ≡ true → v < length sizes
     → slice_index (weights_of sizes) v * slice_index sizes v ≤ product sizes

@@ -1,7 +1,7 @@
 -- All lists of codes.
 use Rattle.std.proofs.Common.{◌≡◌, ℕ, Bool, true, false, not, ◌&&◌, List, [], ◌∷◌, ◌++◌, map, flat_map, refl, ap, sym, ◌∙◌, ltb}
 use Rattle.std.specs.List.{list_all, list_any}
-use Rattle.std.proofs.lemmas.Bool.{and_parts, and_from, ltb-true, lt-ltb, false≢true}
+use Rattle.std.proofs.lemmas.Bool.{and_parts, and_from, ltb-true, lt-ltb, false≢true, not-true}
 use Rattle.polis_base.specs.Lists.{upto}
 use Rattle.polis_base.proofs.Lists.{all_upto, upto_all, none_all}
 use Rattle.domains.specs.Tables.{fits}
@@ -61,11 +61,7 @@ lists_fit (size ∷ sizes) =
         (list_all (λ rest. fits (size ∷ sizes) (k ∷ rest)) lists)
         (and_from (ltb k size) (fits sizes rest) low parts.0) (weaken k low lists parts.1)
 
-pub not_true : (b : Bool) → not b ≡ true → b ≡ false
-not_true true h = absurd (false≢true h)
-not_true false h = refl
-
 pub none_lists : (sizes : List ℕ) (p : List ℕ → Bool) → list_any p (all_codes sizes) ≡ false
     → (codes : List ℕ) → fits sizes codes ≡ true → p codes ≡ false
 none_lists sizes p h codes fit =
-    not_true (p codes) (lists_all sizes (λ x. not (p x)) (none_all p (all_codes sizes) h) codes fit)
+    not-true (p codes) (lists_all sizes (λ x. not (p x)) (none_all p (all_codes sizes) h) codes fit)

@@ -1,31 +1,12 @@
 -- Lists joined, and lists read by their items.
-use Rattle.std.proofs.Common.{◌≡◌, ⊎_elim, ℕ, zero, suc, ◌+◌, ◌<◌, Bool, true, cond, ◌||◌, List, [], ◌∷◌, ◌++◌, length, take, slice_index, Some, refl, ap, sym, ◌∙◌, arith, eqb, ltb}
+use Rattle.std.proofs.Common.{◌≡◌, ⊎_elim, ℕ, zero, suc, ◌+◌, ◌<◌, Bool, true, cond, ◌||◌, List, [], ◌∷◌, length, slice_index, Some, refl, ap, sym, ◌∙◌, arith, eqb}
 use Rattle.std.specs.List.{Contains}
-use Rattle.std.proofs.lemmas.Bool.{and_parts, and_from, cases_Bool, eq-eqb, or_left, or_right, true≢false}
+use Rattle.std.proofs.lemmas.Bool.{cases_Bool, eq-eqb, or_left, or_right, true≢false}
 use Rattle.std.proofs.lemmas.List.{get_or_default}
-use Rattle.domains.specs.Tables.{fits}
 use Rattle.domains.specs.Orders.{place}
 use Rattle.decision_diagram.specs.Diagrams.{Diagrams, Node, inner_at, kids_in, kids_of}
 use Rattle.decision_diagram.specs.Reached.{Reaches}
 use Rattle.decision_diagram.specs.Sets.{stands}
-
-pub fits_prefix : (xs ys codes : List ℕ) → fits (xs ++ ys) codes ≡ true
-    → fits xs (take (length xs) codes) ≡ true
-fits_prefix [] ys codes h = refl
-fits_prefix (x ∷ xs) ys [] h = h
-fits_prefix (x ∷ xs) ys (code ∷ codes) h =
-    let parts = and_parts (ltb code x) (fits (xs ++ ys) codes) h in
-    and_from (ltb code x) (fits xs (take (length xs) codes)) parts.0
-    (fits_prefix xs ys codes parts.1)
-
-pub fits_both : (xs ys a b : List ℕ) → fits xs a ≡ true → fits ys b ≡ true
-    → fits (xs ++ ys) (a ++ b) ≡ true
-fits_both [] ys [] b ha hb = hb
-fits_both [] ys (c ∷ a) b ha hb = absurd (true≢false (sym ha))
-fits_both (x ∷ xs) ys [] b ha hb = absurd (true≢false (sym ha))
-fits_both (x ∷ xs) ys (c ∷ a) b ha hb =
-    let parts = and_parts (ltb c x) (fits xs a) ha in
-    and_from (ltb c x) (fits (xs ++ ys) (a ++ b)) parts.0 (fits_both xs ys a b parts.1 hb)
 
 -- what stands in a list stands at its place
 pub in_place : (xs : List ℕ) (n : ℕ) → stands xs n ≡ true → place xs n < length xs

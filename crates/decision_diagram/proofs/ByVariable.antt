@@ -2,7 +2,6 @@
 use Rattle.std.proofs.Common.{◌≡◌, ⊎_elim, ℕ, zero, suc, ◌<◌, Bool, true, List, ◌∷◌, ◌++◌, map, length, slice_index, refl, ap, sym, ◌∙◌, arith, eqb, ltb, []}
 use Rattle.std.proofs.lemmas.Bool.{and_from, lt-ltb, cases_lt}
 use Rattle.std.proofs.lemmas.Grind.{same_number_lists}
-use Rattle.std.proofs.lemmas.List.{length_push}
 use Rattle.polis_base.specs.Lists.{upto}
 use Rattle.domains.specs.Tables.{fits}
 use Rattle.domains.specs.Orders.{IsPermutation, place}
@@ -10,8 +9,10 @@ use Rattle.decision_diagram.specs.Diagrams.{Diagrams, Node, inner_at, step, foll
 use Rattle.decision_diagram.specs.Sizes.{by_variable}
 use Rattle.decision_diagram.proofs.Fits.{fits_at}
 use Rattle.domains.proofs.Places.{place_of_item, place_below, at_place}
-use Rattle.domains.proofs.AllCodes.{long_map}
 use Rattle.domains.proofs.Ranks.{length_fits}
+use Rattle.domains.proofs.FittingCodes.{fits_from}
+use Rattle.polis_base.proofs.Places.{index_append, length_map}
+use Rattle.polis_base.proofs.UptoPlaces.{length_upto}
 
 -- where one comes to from n by the codes of the variables, one code for each
 abbrev pub along : List Node → List ℕ → List ℕ → ℕ → ℕ
@@ -41,16 +42,6 @@ index_map f [] j low = absurd (omega arith)
 index_map f (x ∷ xs) zero low = refl
 index_map f (x ∷ xs) (suc j) low = index_map f xs j (omega arith)
 
-pub long_upto : (n : ℕ) → length (upto n) ≡ n
-long_upto zero = refl
-long_upto (suc n) = let e = long_upto n in let f = length_push (upto n) n in omega arith
-
-pub index_append : (xs ys : List ℕ) (j : ℕ) → j < length xs
-    → slice_index (xs ++ ys) j ≡ slice_index xs j
-index_append [] ys j low = absurd (omega arith)
-index_append (x ∷ xs) ys zero low = refl
-index_append (x ∷ xs) ys (suc j) low = index_append xs ys j (omega arith)
-
 pub item_at : (xs ys : List ℕ) (v : ℕ) → slice_index (xs ++ v ∷ ys) (length xs) ≡ v
 item_at [] ys v = refl
 item_at (x ∷ xs) ys v = item_at xs ys v
@@ -58,34 +49,24 @@ item_at (x ∷ xs) ys v = item_at xs ys v
 pub index_upto : (n j : ℕ) → j < n → slice_index (upto n) j ≡ j
 index_upto zero j low = absurd (omega arith)
 index_upto (suc n) j low =
-    let l = long_upto n in
+    let l = length_upto n in
     ⊎_elim
     (λ less. index_append (upto n) (n ∷ []) j (omega arith) ∙ index_upto n j less)
     (λ more. let e : j ≡ length (upto n) = omega arith in rw e (item_at (upto n) [] n ∙ sym l))
     (cases_lt j n)
 
-pub fits_from : (sizes codes : List ℕ) → length codes ≡ length sizes
-    → ((v : ℕ) → v < length sizes → slice_index codes v < slice_index sizes v)
-    → fits sizes codes ≡ true
-fits_from [] [] e low = refl
-fits_from [] (c ∷ codes) e low = absurd (omega arith)
-fits_from (size ∷ sizes) [] e low = absurd (omega arith)
-fits_from (size ∷ sizes) (c ∷ codes) e low =
-    and_from (ltb c size) (fits sizes codes) (lt-ltb c size (low 0 (omega arith)))
-    (fits_from sizes codes (omega arith) (λ v less. low (suc v) (omega arith)))
-
 -- ---- codes by variable
 pub by_variable_at : (order codes : List ℕ) → IsPermutation order → (v : ℕ) → v < length order
     → slice_index (by_variable order codes) v ≡ slice_index codes (place order v)
 by_variable_at order codes perm v low =
-    let l = long_upto (length order) in
+    let l = length_upto (length order) in
     index_map (λ w. slice_index codes (place order w)) (upto (length order)) v (omega arith)
     ∙ ap (λ (w : ℕ). slice_index codes (place order w)) (index_upto (length order) v low)
 
 pub by_variable_back : (order codes : List ℕ) → IsPermutation order → length codes ≡ length order
     → map (slice_index (by_variable order codes)) order ≡ codes
 by_variable_back order codes perm long =
-    let l = long_map (slice_index (by_variable order codes)) order in
+    let l = length_map (slice_index (by_variable order codes)) order in
     same_number_lists (map (slice_index (by_variable order codes)) order) codes (omega arith)
     (λ j low.
     let inside : j < length order = omega arith in
@@ -97,9 +78,9 @@ pub by_variable_fits : (sizes order codes : List ℕ) → IsPermutation order
     → length order ≡ length sizes → fits (map (slice_index sizes) order) codes ≡ true
     → fits sizes (by_variable order codes) ≡ true
 by_variable_fits sizes order codes perm lengths fit =
-    let l = long_map (slice_index sizes) order in
-    let long = long_map (λ w. slice_index codes (place order w)) (upto (length order)) in
-    let longer = long_upto (length order) in
+    let l = length_map (slice_index sizes) order in
+    let long = length_map (λ w. slice_index codes (place order w)) (upto (length order)) in
+    let longer = length_upto (length order) in
     fits_from sizes (by_variable order codes) (omega arith) (λ v low.
     let inside : v < length order = omega arith in
     let within = place_below order perm v inside in
@@ -128,7 +109,7 @@ pub along_value : (s : Diagrams) → AreReduced s → (root : ℕ) (f : List ℕ
     → f (by_variable s.order codes) ≡ eqb (along s.nodes s.order codes root) 1
 along_value s ok root f means codes fit =
     let long = length_fits (map (slice_index s.sizes) s.order) codes fit in
-    let l = long_map (slice_index s.sizes) s.order in
+    let l = length_map (slice_index s.sizes) s.order in
     sym (means.value (by_variable s.order codes)
     (by_variable_fits s.sizes s.order codes ok.order ok.lengths fit))
     ∙ ap (λ (m : ℕ). eqb m 1)

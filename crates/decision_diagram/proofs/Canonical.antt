@@ -6,10 +6,11 @@ use Rattle.std.proofs.lemmas.Grind.{same_number_lists}
 use Rattle.domains.specs.Tables.{fits}
 use Rattle.domains.specs.Orders.{place}
 use Rattle.decision_diagram.specs.Diagrams.{Diagrams, Node, inner_at, step, follow, level_of, IsNode, value_of, AreReduced}
-use Rattle.decision_diagram.proofs.Fits.{fits_set, size_some}
+use Rattle.decision_diagram.proofs.Fits.{size_some}
 use Rattle.decision_diagram.proofs.Nodes.{none_low, cases_inner, step_here}
 use Rattle.decision_diagram.proofs.Values.{level_none, level_some, level_below, item_at_level, follow_none, follow_one, follow_codes, step_before, step_within}
 use Rattle.domains.proofs.Ranks.{length_fits, fits_zeros}
+use Rattle.domains.proofs.FittingCodes.{fits_set_any}
 
 -- a bound of numbers below 2 that pass one test alike
 same_low : (a b : ℕ) → a < 2 → b < 2 → eqb a 1 ≡ eqb b 1 → a ≡ b
@@ -62,7 +63,7 @@ child_same : (s : Diagrams) → AreReduced s → (i a b code : ℕ) → i < leng
 child_same s ok i a b code h low same codes fit =
     let var = slice_index s.order i in
     ap (λ (m : ℕ). eqb m 1) (sym (child_value s ok i a code codes h fit))
-    ∙ same (slice_set codes var code) (fits_set s.sizes codes fit var code low)
+    ∙ same (slice_set codes var code) (fits_set_any s.sizes codes fit var code low)
     ∙ ap (λ (m : ℕ). eqb m 1) (child_value s ok i b code codes h fit)
 
 -- a child is read from place i + 1 on

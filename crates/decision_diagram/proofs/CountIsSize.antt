@@ -15,9 +15,8 @@ use Rattle.decision_diagram.specs.Sizes.{levels, size_along}
 use Rattle.decision_diagram.specs.Leading.{LeadTo}
 use Rattle.decision_diagram.proofs.AllCodes.{lists_fit, none_lists}
 use Rattle.decision_diagram.proofs.ByVariable.{along, follow_along, chosen_fits, item_at}
-use Rattle.decision_diagram.proofs.Distinct.{differing_count, count_none, count_either, count_last, count_append}
+use Rattle.decision_diagram.proofs.Distinct.{differing_count, count_none, count_either, count_last}
 use Rattle.decision_diagram.proofs.AppendedLists.{reaches_child}
-use Rattle.decision_diagram.proofs.Fits.{fits_set}
 use Rattle.decision_diagram.proofs.Prefixes.{led_codes}
 use Rattle.decision_diagram.proofs.Nodes.{cases_inner, inner_low, none_low}
 use Rattle.decision_diagram.proofs.Paths.{lead_root, lead_kid}
@@ -25,6 +24,9 @@ use Rattle.domains.proofs.Places.{place_of_item}
 use Rattle.decision_diagram.proofs.Truths.{reads, sizes_at, nodes_after, ordered_value, root_after, level_at, every_filter, every_map}
 use Rattle.decision_diagram.proofs.Values.{level_some, level_below, item_at_level}
 use Rattle.domains.proofs.Ranks.{length_fits, fits_zeros}
+use Rattle.domains.proofs.FittingCodes.{fits_set_any}
+use Rattle.polis_base.proofs.Bools.{same_truth}
+use Rattle.polis_base.proofs.ListTests.{count_append}
 
 -- ---- each node that is reached is led to by some codes
 pub lead_further : (s : Diagrams) → AreReduced s → (root k : ℕ) (node : Node) (c : ℕ)
@@ -50,7 +52,7 @@ lead_further s ok root k node c is low a fit at =
     ∙ at
     in
     let on = lead_kid s ok root k node b is there (omega arith) in
-    (b, fits_set s.sizes a fit node.var c (omega arith), rw own at on)
+    (b, fits_set_any s.sizes a fit node.var c (omega arith), rw own at on)
 
 pub lead_codes : (s : Diagrams) → AreReduced s → (root : ℕ) (steps n : ℕ) → Walk s root n steps
     → (a : List ℕ) × (fits s.sizes a ≡ true) × LeadTo s root a n
@@ -110,11 +112,6 @@ item_after xs ys v j = sym (get_or-drop (length xs) (xs ++ v ∷ ys) (suc j) 0)
 one_variable : (o : Option Node) (v w : ℕ) → reads o v ≡ true → reads o w ≡ true → v ≡ w
 one_variable None v w on too = absurd (true≢false (sym on))
 one_variable (Some node) v w on too = sym (eqb-true node.var v on) ∙ eqb-true node.var w too
-
-pub iff_same : (a b : Bool) → (a ≡ true → b ≡ true) → (b ≡ true → a ≡ true) → a ≡ b
-iff_same true b f g = sym (f refl)
-iff_same false true f g = g refl
-iff_same false false f g = refl
 
 -- ---- marks
 count_marks : (p : ℕ → Bool) (marks : List Bool) → p 0 ≡ false → p 1 ≡ false
@@ -330,7 +327,7 @@ module _ (s : Diagrams) (ok : AreReduced s) (root : ℕ) (in_root : IsNode s roo
       let p : ℕ → Bool = is_read [] s.order in
       let marks : List Bool = reached.marks in
       let long : length marks ≡ length s.nodes = reached.long in
-      let off : (k : ℕ) → k < 2 → p k ≡ false = λ k low. iff_same (p k) false (λ on.
+      let off : (k : ℕ) → k < 2 → p k ≡ false = λ k low. same_truth (p k) false (λ on.
       let there = read_later s.order [] k on in
       let none : reads (inner_at s.nodes k) (slice_index s.order (there.0)) ≡ false =
       ap (λ (o : Option Node). reads o (slice_index s.order (there.0)))
@@ -342,7 +339,7 @@ module _ (s : Diagrams) (ok : AreReduced s) (root : ℕ) (in_root : IsNode s roo
       let mark : marked marks (k + 2) ≡ get_or marks k false =
       ap (λ (i : ℕ). get_or marks i false) back in
       let both = reached.each (k + 2) (omega arith) (omega arith) in
-      iff_same (p (k + 2)) (get_or marks k false)
+      same_truth (p (k + 2)) (get_or marks k false)
       (λ on. sym mark ∙ both.1 (read_reached s.order [] (k + 2) on))
       (λ on. inner_read_too (k + 2) (omega arith) (omega arith) (both.0 (mark ∙ on)))
       in

@@ -1,11 +1,11 @@
 -- How many different numbers a list has.
-use Rattle.std.proofs.Common.{◌≡◌, ⊎_elim, ℕ, zero, suc, ◌+◌, ◌<◌, Bool, true, false, cond, ◌||◌, List, [], ◌∷◌, ◌++◌, map, refl, ap, sym, ◌∙◌, arith, eqb}
+use Rattle.std.proofs.Common.{◌≡◌, ⊎_elim, ℕ, zero, suc, ◌+◌, ◌<◌, Bool, true, false, cond, ◌||◌, List, [], ◌∷◌, map, refl, ap, sym, ◌∙◌, arith, eqb}
 use Rattle.std.specs.Prelude.{⊤, count_by}
 use Rattle.std.specs.List.{list_all, list_any}
 use Rattle.std.proofs.lemmas.Bool.{and_parts, and_from, cases_eq, cases_lt, cases_Bool, eqb-true, eq-eqb, ne_eqb, true≢false, false_from_ne_true}
-use Rattle.std.proofs.lemmas.List.Sums.{sum_by-append}
 use Rattle.polis_base.specs.Lists.{upto}
 use Rattle.decision_diagram.specs.Truths.{same_truth, same_truths, different}
+use Rattle.polis_base.proofs.ListTests.{count_append}
 
 abbrev pub Every : {X : Type 0} → (X → Type 0) → List X → Type 0
 Every P [] = ⊤
@@ -79,10 +79,6 @@ new_on b h = ap (λ (c : Bool). cond {A = ℕ} c 0 1) h
 
 new_off : (b : Bool) → b ≡ false → cond {A = ℕ} b 0 1 ≡ 1
 new_off b h = ap (λ (c : Bool). cond {A = ℕ} c 0 1) h
-
-pub count_append : {X : Type 0} (p : X → Bool) (xs ys : List X)
-    → count_by p (xs ++ ys) ≡ count_by p xs + count_by p ys
-count_append p xs ys = sum_by-append (λ x. cond (p x) 1 0) xs ys
 
 pub count_last : (p : ℕ → Bool) (n : ℕ)
     → count_by p (upto (suc n)) ≡ count_by p (upto n) + cond (p n) 1 0

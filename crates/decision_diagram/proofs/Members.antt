@@ -5,6 +5,7 @@ use Rattle.std.specs.List.{list_all, list_any}
 use Rattle.std.proofs.lemmas.Bool.{and_parts, cases_Bool, eqb-true, eq-eqb, true≢false, or_cases}
 use Rattle.decision_diagram.specs.Truths.{same_truth, same_truths, different}
 use Rattle.decision_diagram.proofs.Distinct.{Every, differing, differing_count, count_same, truths_self, truth_equal}
+use Rattle.polis_base.proofs.Bools.{same_truth as same_if}
 
 pub truths_equal : (us vs : List Bool) → same_truths us vs ≡ true → us ≡ vs
 truths_equal [] [] h = refl
@@ -14,11 +15,6 @@ truths_equal (u ∷ us) (v ∷ vs) h =
     let parts = and_parts (same_truth u v) (same_truths us vs) h in
     ap (λ (b : Bool). b ∷ us) (truth_equal u v parts.0)
     ∙ ap (λ (bs : List Bool). v ∷ bs) (truths_equal us vs parts.1)
-
-pub same_if : (a b : Bool) → (a ≡ true → b ≡ true) → (b ≡ true → a ≡ true) → a ≡ b
-same_if true b f g = sym (f refl)
-same_if false true f g = g refl
-same_if false false f g = refl
 
 -- truth values as a number
 as_number : List Bool → ℕ

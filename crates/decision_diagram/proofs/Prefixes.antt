@@ -6,11 +6,12 @@ use Rattle.domains.specs.Tables.{fits}
 use Rattle.domains.specs.Orders.{place}
 use Rattle.decision_diagram.specs.Diagrams.{Diagrams, Node, inner_at, step, follow, level_of, IsNode, value_of, AreReduced}
 use Rattle.decision_diagram.specs.Leading.{led, TrueSomewhere, Decided}
-use Rattle.decision_diagram.proofs.Fits.{fits_at, fits_set}
+use Rattle.decision_diagram.proofs.Fits.{fits_at}
 use Rattle.decision_diagram.proofs.Nodes.{none_low, cases_inner, inner_within}
 use Rattle.domains.proofs.Places.{place_of_item}
 use Rattle.decision_diagram.proofs.Values.{level_some, level_below, skip, value_none, value_inner, follow_codes}
 use Rattle.domains.proofs.Ranks.{length_fits, fits_zeros}
+use Rattle.domains.proofs.FittingCodes.{fits_set_any}
 
 -- ---- a node that isn't False is true somewhere
 pub some_or_all : (kids : List ℕ) (z : ℕ)
@@ -75,7 +76,7 @@ true_inner s ok n node is earlier =
     let later : place s.order node.var < level_of s (slice_index node.kids c) =
     good.later c low in (
       set,
-      fits_set s.sizes codes deep.1 node.var c (omega arith),
+      fits_set_any s.sizes codes deep.1 node.var c (omega arith),
       value_inner s ok n node set is (omega arith)
           ∙ ap (λ (k : ℕ). value_of s (slice_index node.kids k) set) own
           ∙ value_apart s ok (slice_index node.kids c) (place s.order node.var + 1) set codes
@@ -146,7 +147,7 @@ pub put_fits : (sizes vs a b : List ℕ) → ((j : ℕ) → j < length vs → sl
 unfolding put_all
 put_fits sizes [] a b inside fit_a fit_b = fit_b
 put_fits sizes (v ∷ vs) a b inside fit_a fit_b =
-    fits_set sizes (put_all vs a b)
+    fits_set_any sizes (put_all vs a b)
     (put_fits sizes vs a b (λ j low. inside (suc j) (omega arith)) fit_a fit_b) v (slice_index a v)
     (fits_at sizes a fit_a v (inside 0 (omega arith)))
 
@@ -193,7 +194,7 @@ mixed_fits s ok i w c a b h low fit_a fit_b =
     let inside : j < i = omega (arith, length-take i s.order) in
     let e = prefix_item s i j inside in
     let below = ok.order.below j (omega arith) in
-    omega arith) fit_a (fits_set s.sizes b fit_b w c low)
+    omega arith) fit_a (fits_set_any s.sizes b fit_b w c low)
 
 pub mixed_prefix : (s : Diagrams) → AreReduced s → (i w c : ℕ) (a b : List ℕ) → i ≤ length s.order
     → fits s.sizes b ≡ true → (j : ℕ) → j < i

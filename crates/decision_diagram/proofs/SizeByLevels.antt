@@ -14,16 +14,18 @@ use Rattle.decision_diagram.specs.Truths.{same_truth, same_truths}
 use Rattle.decision_diagram.specs.Sizes.{by_variable, truths, turns, depends, level, levels, size_along}
 use Rattle.decision_diagram.specs.Sets.{stands, taking, arising, turns_at, depends_on, set_level, sum_of_levels}
 use Rattle.decision_diagram.proofs.AllCodes.{lists_all, lists_fit, none_lists}
-use Rattle.decision_diagram.proofs.ByVariable.{index_map, long_upto, index_upto, by_variable_at, by_variable_back, by_variable_fits, chosen_fits, item_at}
-use Rattle.domains.proofs.AllCodes.{long_map}
-use Rattle.decision_diagram.proofs.AppendedLists.{fits_both}
+use Rattle.decision_diagram.proofs.ByVariable.{index_map, index_upto, by_variable_at, by_variable_back, by_variable_fits, chosen_fits, item_at}
 use Rattle.decision_diagram.proofs.Distinct.{same_maps, truth_equal, truths_self}
 use Rattle.decision_diagram.proofs.Fits.{fits_at, size_some}
 use Rattle.decision_diagram.proofs.AppendedLists.{stands_at, in_place}
-use Rattle.decision_diagram.proofs.Members.{same_if, different_members, different_alike, any_filtered, every_filtered, every_mapped}
+use Rattle.decision_diagram.proofs.Members.{different_members, different_alike, any_filtered, every_filtered, every_mapped}
 use Rattle.domains.proofs.Places.{place_of_item, place_below, at_place}
 use Rattle.decision_diagram.proofs.Truths.{never_upto}
 use Rattle.domains.proofs.Ranks.{length_fits, fits_zeros}
+use Rattle.domains.proofs.FittingCodes.{fits_both}
+use Rattle.polis_base.proofs.Bools.{same_truth as same_if}
+use Rattle.polis_base.proofs.Places.{index_append, length_map}
+use Rattle.polis_base.proofs.UptoPlaces.{length_upto}
 
 -- two lists of values that agree at each list that fits
 agree_maps : (g h : List ℕ → Bool) (xs : List (List ℕ))
@@ -65,12 +67,6 @@ index_late (x ∷ before) rest g h zero high low = absurd (omega arith)
 index_late (x ∷ before) rest g h (suc p) high low =
     index_late before rest g h p (omega arith) (omega arith)
 
-index_prefix : (before rest : List ℕ) (p : ℕ) → p < length before
-    → slice_index (before ++ rest) p ≡ slice_index before p
-index_prefix [] rest p low = absurd (omega arith)
-index_prefix (x ∷ before) rest zero low = refl
-index_prefix (x ∷ before) rest (suc p) low = index_prefix before rest p (omega arith)
-
 module _ (f : List ℕ → Bool) (sizes order : List ℕ) (perm : IsPermutation order)
     (lengths : length order ≡ length sizes) (sized : are_sizes sizes ≡ true) where
   abbrev z : List ℕ → List ℕ
@@ -89,7 +85,7 @@ module _ (f : List ℕ → Bool) (sizes order : List ℕ) (perm : IsPermutation 
       let at : slice_index order (place order u) ≡ u =
       at_place order u (place_below order perm u inside) in
       let e : slice_index before (place order u) ≡ u =
-      sym (index_prefix before rest (place order u) low)
+      sym (index_append before rest (place order u) low)
       ∙ ap (λ (o : List ℕ). slice_index o (place order u)) (sym split) ∙ at in
       subst (λ (v : ℕ). stands before v ≡ true) e (stands_at before (place order u) low)
 
@@ -102,7 +98,7 @@ module _ (f : List ℕ → Bool) (sizes order : List ℕ) (perm : IsPermutation 
       ap (λ (o : List ℕ). length o) split ∙ length-append before rest in
       let e : slice_index order (place before u) ≡ u =
       ap (λ (o : List ℕ). slice_index o (place before u)) split
-      ∙ index_prefix before rest (place before u) low ∙ at_place before u low in
+      ∙ index_append before rest (place before u) low ∙ at_place before u low in
       let own = place_of_item order perm (place before u) (omega arith) in
       let same = ap (place order) e in
       omega arith)
@@ -112,11 +108,11 @@ module _ (f : List ℕ → Bool) (sizes order : List ℕ) (perm : IsPermutation 
       → by_variable order (chosen before a ++ chosen rest b) ≡ taking (stands before) a b
   joined before rest a b split long =
       let codes : List ℕ = chosen before a ++ chosen rest b in
-      let l = long_map (λ v. slice_index codes (place order v)) (upto (length order)) in
-      let k = long_upto (length order) in
-      let j = long_map (λ v. cond (stands before v) (slice_index a v) (slice_index b v))
+      let l = length_map (λ v. slice_index codes (place order v)) (upto (length order)) in
+      let k = length_upto (length order) in
+      let j = length_map (λ v. cond (stands before v) (slice_index a v) (slice_index b v))
       (upto (length b)) in
-      let i = long_upto (length b) in
+      let i = length_upto (length b) in
       let total : length (before ++ rest) ≡ length order =
       ap (λ (o : List ℕ). length o) (sym split) in
       same_number_lists (by_variable order codes) (taking (stands before) a b) (omega arith)
@@ -154,7 +150,7 @@ module _ (f : List ℕ → Bool) (sizes order : List ℕ) (perm : IsPermutation 
       ap (λ (o : List ℕ). length o) split ∙ length-append before rest in (
         λ j low.
             let e : slice_index order j ≡ slice_index before j =
-            ap (λ (o : List ℕ). slice_index o j) split ∙ index_prefix before rest j low in
+            ap (λ (o : List ℕ). slice_index o j) split ∙ index_append before rest j low in
             let b = perm.below j (omega arith) in
             omega arith,
         λ j low.
@@ -181,14 +177,14 @@ module _ (f : List ℕ → Bool) (sizes order : List ℕ) (perm : IsPermutation 
       (fits_both (z before) (z rest) p q fit_p fit_q) in
       let fit : fits (z order) (p ++ q) ≡ true = rw split both in
       let long : length (p ++ q) ≡ length order =
-      length_fits (z order) (p ++ q) fit ∙ long_map (slice_index sizes) order in
+      length_fits (z order) (p ++ q) fit ∙ length_map (slice_index sizes) order in
       let back : chosen order a ≡ p ++ q = by_variable_back order (p ++ q) perm long in
       let cut : chosen before a ++ chosen rest a ≡ p ++ q =
       sym (map-append (slice_index a) before rest) ∙ ap (λ (o : List ℕ). chosen o a) (sym split)
       ∙ back in
-      let l = long_map (slice_index a) before in
+      let l = length_map (slice_index a) before in
       let k = length_fits (z before) p fit_p in
-      let j = long_map (slice_index sizes) before in
+      let j = length_map (slice_index sizes) before in
       let pieces = split_same (chosen before a) (chosen rest a) p q (omega arith) cut in
       (a, by_variable_fits sizes order (p ++ q) perm lengths fit, pieces.0, pieces.1)
     where

@@ -2,7 +2,7 @@
 use Rattle.std.proofs.Common.{◌≡◌, ⊎_elim, ℕ, zero, suc, ◌+◌, ◌<◌, ◌≤◌, Bool, true, false, cond, not, ◌||◌, List, [], ◌∷◌, ◌++◌, map, length, drop, slice_index, Option, Some, None, refl, ap, sym, ◌∙◌, arith, eqb, ltb, get_or-drop, length-append}
 use Rattle.std.specs.Prelude.{filter}
 use Rattle.std.specs.List.{list_all, list_any}
-use Rattle.std.proofs.lemmas.Bool.{and_parts, and_from, cases_Bool, eqb-true, true≢false, true_from_ne_false, lt-ltb, ltb-true, or_from}
+use Rattle.std.proofs.lemmas.Bool.{and_parts, and_from, cases_Bool, eqb-true, true≢false, true_from_ne_false, lt-ltb, ltb-true, or_from, not-false}
 use Rattle.std.proofs.lemmas.List.{append_assoc, map-append}
 use Rattle.polis_base.specs.Lists.{upto}
 use Rattle.polis_base.proofs.Lists.{drop_prefix, none_upto}
@@ -13,14 +13,14 @@ use Rattle.decision_diagram.specs.Truths.{same_truth, same_truths, different}
 use Rattle.decision_diagram.specs.Sizes.{by_variable, truths, turns, depends, level}
 use Rattle.decision_diagram.proofs.AllCodes.{lists_all, lists_fit}
 use Rattle.decision_diagram.proofs.ByVariable.{along, follow_along, along_append, along_value, chosen_fits, item_at}
-use Rattle.domains.proofs.AllCodes.{long_map}
 use Rattle.decision_diagram.proofs.Canonical.{canonical_from, child_level}
-use Rattle.decision_diagram.proofs.AppendedLists.{fits_both}
 use Rattle.decision_diagram.proofs.Distinct.{Every, differing, different_map, same_maps, truth_equal, truths_self}
 use Rattle.decision_diagram.proofs.Fits.{size_some}
 use Rattle.decision_diagram.proofs.Nodes.{cases_inner, step_here}
 use Rattle.decision_diagram.proofs.Values.{step_within}
 use Rattle.domains.proofs.Ranks.{length_fits}
+use Rattle.domains.proofs.FittingCodes.{fits_both}
+use Rattle.polis_base.proofs.Places.{length_map}
 
 -- ---- lists
 pub map_on : {X Y : Type 0} (p : X → Bool) (g h : X → Y) (xs : List X) → list_all p xs ≡ true
@@ -86,10 +86,6 @@ never_upto p zero off = refl
 never_upto p (suc n) off =
     any_append p (upto n) (n ∷ []) (never_upto p n (λ k low. off k (omega arith)))
     (or_from (p n) false (off n (omega arith)) refl)
-
-not_false : (b : Bool) → not b ≡ false → b ≡ true
-not_false true h = refl
-not_false false h = absurd (true≢false h)
 
 -- ---- nodes
 -- the node is of this variable
@@ -217,7 +213,7 @@ module _ (s : Diagrams) (ok : AreReduced s) (root : ℕ) (in_root : IsNode s roo
       (fits_both (sizes_at s before) (sizes_at s vars) prefix codes fit fit_codes) in
       let whole : fits (sizes_at s s.order) (prefix ++ codes) ≡ true = rw split both in
       let long : length prefix ≡ length before =
-      length_fits (sizes_at s before) prefix fit ∙ long_map (slice_index s.sizes) before in
+      length_fits (sizes_at s before) prefix fit ∙ length_map (slice_index s.sizes) before in
       along_value s ok root f means (prefix ++ codes) whole
       ∙ ap (λ (o : List ℕ). eqb (along s.nodes o (prefix ++ codes) root) 1) split
       ∙ ap (λ (m : ℕ). eqb m 1) (along_append s.nodes before vars prefix codes root long))
@@ -238,7 +234,7 @@ module _ (s : Diagrams) (ok : AreReduced s) (root : ℕ) (in_root : IsNode s roo
       (fits_both (sizes_at s before) (slice_index s.sizes v ∷ []) prefix (code ∷ []) fit
       last) in
       let long : length prefix ≡ length before =
-      length_fits (sizes_at s before) prefix fit ∙ long_map (slice_index s.sizes) before in
+      length_fits (sizes_at s before) prefix fit ∙ length_map (slice_index s.sizes) before in
       truths_at (before ++ v ∷ []) vs (prefix ++ code ∷ []) split_too fit_too
       ∙ ap (values s vs) (along_append s.nodes before (v ∷ []) prefix (code ∷ []) root long)
 
@@ -267,7 +263,7 @@ module _ (s : Diagrams) (ok : AreReduced s) (root : ℕ) (in_root : IsNode s roo
       (λ on.
       true_from_ne_false (depends ordered_value size (sizes_at s vs) prefix) (λ off.
       same_kids before vs prefix v split fit on (λ code low.
-      not_false (same_truths (truths ordered_value (sizes_at s vs) (prefix ++ code ∷ []))
+      not-false (same_truths (truths ordered_value (sizes_at s vs) (prefix ++ code ∷ []))
       (truths ordered_value (sizes_at s vs) (prefix ++ 0 ∷ [])))
       (none_upto (turns ordered_value (sizes_at s vs) prefix) size off code low)))
       ∙ sym on)

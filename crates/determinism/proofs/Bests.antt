@@ -135,7 +135,3 @@ best_conflict {pair} a b found best h order at_a at_b some =
           up_to best.codes t.codes ((h.inside some).long ∙ sym inside.long)
           (h.least some e.0 t.codes e.1 e.2 inside e.3);
     }
-
-pub true_or_false : (b : Bool) → b ≡ true → b ≡ false → ⊥
-true_or_false true h g = never g
-true_or_false false h g = never (sym h)

@@ -1,28 +1,24 @@
 -- The least conflicts of two machines.
-use Rattle.std.proofs.Common.{◌≡◌, ◌≢◌, ◌⊎◌, ◌<◌, ◌≤◌, ℕ, zero, suc, true, false, ◌==◌, List, [], ◌∷◌, arith, subst, sym, refl, inl, inr}
-use Rattle.std.specs.List.{list_all}
-use Rattle.std.specs.Int.{bit_at}
+use Rattle.std.proofs.Common.{◌≡◌, ◌≢◌, ◌⊎◌, ◌<◌, ◌≤◌, ℕ, zero, suc, true, List, [], ◌∷◌, arith, subst, sym, refl, inl, inr}
 use Rattle.std.specs.Cmp.Lexicographic.{slice_cmp}
 use Rattle.std.specs.Ordering.{nat_cmp}
 use Rattle.std.specs.declared.cmp.Ordering.TheVariants.{Greater}
-use Rattle.std.proofs.lemmas.Bool.{ltb-true, and_parts}
+use Rattle.std.proofs.lemmas.Bool.{ltb-true, false≢true}
 use Rattle.transition_table.specs.declared.snapshot.Snapshot.{Snapshot}
 use Rattle.transition_table.specs.samples.Clash.{clash_machine}
 use Rattle.transition_table.specs.samples.Twice.{differing_machine}
-use Rattle.transition_table.specs.samples.Parts.{has_codes}
-use Rattle.transition_table.specs.Transitions.{Conflict, allows, is_enabled}
+use Rattle.transition_table.specs.Transitions.{Conflict, is_enabled}
 use Rattle.transition_table.specs.Transitions.{reading}
 use Rattle.domains.specs.Tables.{fits}
-use Rattle.determinism.proofs.Overlaps.{length_fits, below_size}
+use Rattle.determinism.proofs.Overlaps.{below_size}
 use Rattle.determinism.specs.Conflicts.{IsLeastConflict}
-
-never : false ≡ true → ⊥
-never h = cc
+use Rattle.domains.proofs.Ranks.{length_fits}
+use Rattle.transition_table.proofs.Tables.{one_code}
 
 -- two codes, each 0 or 1
 two_bits : (P : List ℕ → Type 0) → P (0 ∷ 0 ∷ []) → P (0 ∷ 1 ∷ []) → P (1 ∷ 0 ∷ []) → P (1 ∷ 1 ∷ [])
     → (codes : List ℕ) → fits (2 ∷ 2 ∷ []) codes ≡ true → P codes
-two_bits P a b c d [] fit = absurd (never fit)
+two_bits P a b c d [] fit = absurd (false≢true fit)
 two_bits P a b c d (x ∷ []) fit =
     absurd (let two = length_fits (2 ∷ 2 ∷ []) (x ∷ []) fit in omega arith)
 two_bits P a b c d (x ∷ y ∷ z ∷ codes) fit =
@@ -45,16 +41,16 @@ first_two : (codes : List ℕ) → fits (2 ∷ 2 ∷ []) codes ≡ true
     → is_enabled clash_machine 0 (reading codes) ≡ true
     → is_enabled clash_machine 1 (reading codes) ≡ true → ⊥
 first_two = two_bits (λ codes. is_enabled clash_machine 0 (reading codes) ≡ true
-    → is_enabled clash_machine 1 (reading codes) ≡ true → ⊥) (λ first second. never first)
-    (λ first second. never first) (λ first second. never second) (λ first second. never second)
+    → is_enabled clash_machine 1 (reading codes) ≡ true → ⊥) (λ first second. false≢true first)
+    (λ first second. false≢true first) (λ first second. false≢true second) (λ first second. false≢true second)
 
 -- one snapshot enables the first and the third
 both_present : (codes : List ℕ) → fits (2 ∷ 2 ∷ []) codes ≡ true
     → is_enabled clash_machine 2 (reading codes) ≡ true
     → slice_cmp nat_cmp (1 ∷ 1 ∷ []) codes ≢ Greater
 both_present = two_bits (λ codes. is_enabled clash_machine 2 (reading codes) ≡ true
-    → slice_cmp nat_cmp (1 ∷ 1 ∷ []) codes ≢ Greater) (λ third. absurd (never third))
-    (λ third. absurd (never third)) (λ third. absurd (never third)) (λ third h. cc)
+    → slice_cmp nat_cmp (1 ∷ 1 ∷ []) codes ≢ Greater) (λ third. absurd (false≢true third))
+    (λ third. absurd (false≢true third)) (λ third. absurd (false≢true third)) (λ third h. cc)
 
 least_pair : (c d : ℕ) (t : Snapshot) → Conflict clash_machine c d t → (0 < c) ⊎ ((0 ≡ c) × (2 ≤ d))
 least_pair (suc c) d t h = inl (omega arith)
@@ -70,28 +66,6 @@ clash_conflict h = record {
   least_snapshot = λ t other. both_present t.codes other.snapshot other.second;
 }
 
--- the second row is enabled where the value 1 is read
-only_one : (codes : List ℕ) → fits (9 ∷ []) codes ≡ true
-    → list_all (allows codes) (has_codes 0 4 ∷ []) ≡ true → codes ≡ 2 ∷ []
-only_one [] fit held = absurd (never fit)
-only_one (x ∷ y ∷ codes) fit held =
-    absurd (let one = length_fits (9 ∷ []) (x ∷ y ∷ codes) fit in omega arith)
-only_one (x ∷ []) fit held =
-    pick x (ltb-true x 9 (below_size (9 ∷ []) (x ∷ []) 0 fit (omega arith)))
-    (and_parts (bit_at 4 x == 1) true held).0
-  where
-    pick : (x : ℕ) → x < 9 → (bit_at 4 x == 1) ≡ true → x ∷ [] ≡ 2 ∷ []
-    pick zero below set = absurd (never set)
-    pick (suc zero) below set = absurd (never set)
-    pick (suc (suc zero)) below set = refl
-    pick (suc (suc (suc zero))) below set = absurd (never set)
-    pick (suc (suc (suc (suc zero)))) below set = absurd (never set)
-    pick (suc (suc (suc (suc (suc zero))))) below set = absurd (never set)
-    pick (suc (suc (suc (suc (suc (suc zero)))))) below set = absurd (never set)
-    pick (suc (suc (suc (suc (suc (suc (suc zero))))))) below set = absurd (never set)
-    pick (suc (suc (suc (suc (suc (suc (suc (suc zero)))))))) below set = absurd (never set)
-    pick (suc (suc (suc (suc (suc (suc (suc (suc (suc x))))))))) below set = absurd (omega arith)
-
 only_pair : (c d : ℕ) (t : Snapshot) → Conflict differing_machine c d t
     → (0 < c) ⊎ ((0 ≡ c) × (1 ≤ d))
 only_pair (suc c) d t h = inl (omega arith)
@@ -105,5 +79,5 @@ differing_conflict h = record {
   least_pair = only_pair;
   least_snapshot =
       λ t other. subst (λ codes. slice_cmp nat_cmp (2 ∷ []) codes ≢ Greater)
-      (sym (only_one t.codes other.snapshot other.second)) (λ e. cc);
+      (sym (one_code t.codes other.snapshot other.second)) (λ e. cc);
 }

@@ -1,8 +1,8 @@
--- Snapshots that enable two rows, by the codes that both rows allow.
-use Rattle.std.proofs.Common.{◌≡◌, ◌<◌, ℕ, zero, suc, Bool, true, false, ◌&&◌, ◌==◌, nat_lt, List, [], ◌∷◌, length, slice_get, slice_index, Some, arith, refl, sym, ◌∙◌, ap, inl, inr}
+-- Snapshots that enable two rows, by the codes that and_from rows allow.
+use Rattle.std.proofs.Common.{◌≡◌, ◌<◌, ℕ, zero, suc, true, false, ◌&&◌, ◌==◌, nat_lt, List, [], ◌∷◌, length, slice_get, slice_index, arith, refl, sym, ◌∙◌, inl, inr}
 use Rattle.std.specs.List.{list_all}
 use Rattle.std.specs.Int.{bit_at}
-use Rattle.std.proofs.lemmas.Bool.{ltb-true, eqb-true, and_parts}
+use Rattle.std.proofs.lemmas.Bool.{ltb-true, eqb-true, and_parts, and_from}
 use Rattle.std.proofs.lemmas.Bool.Decides.{eqb_tells}
 use Rattle.domains.specs.Tables.{fits}
 use Rattle.transition_table.specs.declared.row.Cond.{Cond}
@@ -14,17 +14,7 @@ use Rattle.determinism.specs.inner.Boxes.{AreMasks, IsBox, EnableBoth}
 use Rattle.transition_table.specs.inner.Masks.{allows_code, row_allows}
 use Rattle.transition_table.proofs.Bits.{alike}
 use Rattle.transition_table.proofs.CodeSets.{size_at, machine_sizes}
-
-both : (a b : Bool) → a ≡ true → b ≡ true → (a && b) ≡ true
-both true b h k = k
-both false b h k = cc
-
-pub length_fits : (sizes codes : List ℕ) → fits sizes codes ≡ true → length codes ≡ length sizes
-length_fits [] [] h = refl
-length_fits (size ∷ sizes) (code ∷ codes) h =
-    ap suc (length_fits sizes codes (and_parts (nat_lt code size) (fits sizes codes) h).1)
-length_fits [] (code ∷ codes) h = cc
-length_fits (size ∷ sizes) [] h = cc
+use Rattle.domains.proofs.Ranks.{length_fits}
 
 -- codes that fit are below their sizes
 pub below_size : (sizes codes : List ℕ) (k : ℕ) → fits sizes codes ≡ true → k < length sizes
@@ -44,7 +34,7 @@ fits_from [] [] same each = refl
 fits_from [] (code ∷ codes) same each = absurd (omega arith)
 fits_from (size ∷ sizes) [] same each = absurd (omega arith)
 fits_from (size ∷ sizes) (code ∷ codes) same each =
-    both (nat_lt code size) (fits sizes codes) (each 0 (omega arith))
+    and_from (nat_lt code size) (fits sizes codes) (each 0 (omega arith))
     (fits_from sizes codes (omega arith) (λ k below. each (suc k) (omega arith)))
 
 -- conditions that hold of codes allow the code of each variable
@@ -62,7 +52,7 @@ pub all_allow : (codes : List ℕ) (var : ℕ) (conds : List Cond)
 all_allow codes var [] h = refl
 all_allow codes var (c ∷ conds) h =
     let parts = and_parts (allows codes c) (list_all (allows codes) conds) h in
-    both (allows_code var (slice_index codes var) c)
+    and_from (allows_code var (slice_index codes var) c)
     (list_all (allows_code var (slice_index codes var)) conds) (allows_here codes var c parts.0)
     (all_allow codes var conds parts.1)
 
@@ -82,27 +72,10 @@ all_hold vars codes (c ∷ conds) named each =
     ltb-true c.var (length vars) (and_parts (nat_lt c.var (length vars)) _ parts.0).0 in
     let own = and_parts (allows_code c.var (slice_index codes c.var) c)
     (list_all (allows_code c.var (slice_index codes c.var)) conds) (each c.var var) in
-    both (allows codes c) (list_all (allows codes) conds) (holds_here codes c own.0)
+    and_from (allows codes c) (list_all (allows codes) conds) (holds_here codes c own.0)
     (all_hold vars codes conds parts.1
     (λ k below. (and_parts (allows_code k (slice_index codes k) c)
     (list_all (allows_code k (slice_index codes k)) conds) (each k below)).1))
-
--- a row of the machine
-pub row_there : (inputs vars results : List ℕ) (rows : List Row) (k : ℕ) (row : Row)
-    → list_all (is_row inputs vars results) rows ≡ true → slice_get rows k ≡ Some row
-    → is_row inputs vars results row ≡ true
-row_there inputs vars results [] k row all at = cc
-row_there inputs vars results (r ∷ rows) zero row all at =
-    let e : r ≡ row = cc in
-    rw e at (and_parts (is_row inputs vars results r)
-    (list_all (is_row inputs vars results) rows) all).0
-row_there inputs vars results (r ∷ rows) (suc k) row all at =
-    row_there inputs vars results rows k row
-    (and_parts (is_row inputs vars results r) (list_all (is_row inputs vars results) rows) all).1 at
-
-pub row_of : (m : Machine) (k : ℕ) (row : Row) → slice_get m.rows k ≡ Some row
-    → is_row m.inputs m.vars m.results row ≡ true
-row_of m k row at = row_there m.inputs m.vars m.results m.rows k row m.fitting_rows at
 
 pub row_parts : (m : Machine) (row : Row) → is_row m.inputs m.vars m.results row ≡ true
     → (list_all (names_codes m.vars) row.conds ≡ true)
@@ -119,11 +92,11 @@ pub allowed_here : (m : Machine) (row : Row) (codes : List ℕ) (k : ℕ) → fi
     → list_all (allows codes) row.conds ≡ true → k < length m.vars
     → row_allows m.vars row k (slice_index codes k) ≡ true
 allowed_here m row codes k fit held below =
-    both (nat_lt (slice_index codes k) (slice_index m.vars k))
+    and_from (nat_lt (slice_index codes k) (slice_index m.vars k))
     (list_all (allows_code k (slice_index codes k)) row.conds)
     (below_size m.vars codes k fit below) (all_allow codes k row.conds held)
 
--- no snapshot enables both rows where a variable has no code that both allow
+-- no snapshot enables and_from rows where a variable has no code that and_from allow
 pub none_enables : (m : Machine) (first second : Row) (of_first of_second : List ℕ) (k : ℕ)
     → AreMasks m.vars first of_first → AreMasks m.vars second of_second → k < length of_first
     → ((code : ℕ) → (bit_at (slice_index of_first k) code == 1
@@ -136,12 +109,12 @@ none_enables m first second of_first of_second k mf ms below none codes e =
     ∙ allowed_here m first codes k e.snapshot e.of_first inside in
     let on_second = ms.each k inside (slice_index codes k)
     ∙ allowed_here m second codes k e.snapshot e.of_second inside in
-    let all = both (bit_at (slice_index of_first k) (slice_index codes k) == 1)
+    let all = and_from (bit_at (slice_index of_first k) (slice_index codes k) == 1)
     (bit_at (slice_index of_second k) (slice_index codes k) == 1) on_first on_second in
     let never = none (slice_index codes k) in
     cc
 
--- what both rows allow is the box of their overlap
+-- what and_from rows allow is the box of their overlap
 pub box_is : (m : Machine) (first second : Row) (of_first of_second sets : List ℕ)
     → is_row m.inputs m.vars m.results first ≡ true → is_row m.inputs m.vars m.results second ≡ true
     → AreMasks m.vars first of_first → AreMasks m.vars second of_second
@@ -185,7 +158,7 @@ box_is m first second of_first of_second sets rf rs mf ms long are = record {
         ∙ allowed_here m second codes k e.snapshot e.of_second inside in
         eqb-true (bit_at (slice_index sets k) (slice_index codes k)) 1
         (are k (slice_index codes k) within
-        ∙ both (bit_at (slice_index of_first k) (slice_index codes k) == 1)
+        ∙ and_from (bit_at (slice_index of_first k) (slice_index codes k) == 1)
         (bit_at (slice_index of_second k) (slice_index codes k) == 1) on_first on_second);
   };
 }

@@ -1,36 +1,22 @@
 -- Results of rows, code by code.
-use Rattle.std.proofs.Common.{◌≡◌, ◌⊎◌, ◌<◌, ◌≤◌, ◌+◌, ◌-◌, ℕ, zero, suc, true, List, [], ◌∷◌, ◌++◌, length, slice_get, slice_index, Some, arith, refl, sym, ◌∙◌, ap, inl, inr, add-one}
+use Rattle.std.proofs.Common.{◌≡◌, ◌⊎◌, ◌<◌, ◌≤◌, ◌+◌, ◌-◌, ℕ, zero, suc, true, List, [], ◌∷◌, ◌++◌, length, slice_get, slice_index, Some, arith, refl, sym, ◌∙◌, ap, inl, inr}
 use Rattle.std.proofs.lemmas.Bool.Decides.{eqb_tells}
-use Rattle.std.proofs.lemmas.List.{map-append, get_or_push, get_or_append_left, length_push}
-use Rattle.polis_base.specs.Lists.{upto}
+use Rattle.std.proofs.lemmas.List.{get_or_push, get_or_append_left}
 use Rattle.transition_table.specs.declared.row.Act.{Act}
 use Rattle.transition_table.specs.declared.row.Row.{Row}
 use Rattle.transition_table.specs.declared.machine.Machine.{Machine}
 use Rattle.transition_table.specs.declared.snapshot.Snapshot.{Snapshot}
 use Rattle.transition_table.specs.declared.snapshot.Outcome.{Outcome}
 use Rattle.transition_table.specs.Transitions.{code_given, codes_given, outcome_of, result}
-
-one_more : (m : Machine) (codes : List ℕ) (acts : List Act) (first n : ℕ)
-    → codes_given m codes acts first (suc n)
-    ≡ codes_given m codes acts first n ++ code_given m codes acts (first + n) ∷ []
-one_more m codes acts first n =
-    map-append (λ j. code_given m codes acts (first + j)) (upto n) (n ∷ [])
-
-length_given : (m : Machine) (codes : List ℕ) (acts : List Act) (first n : ℕ)
-    → length (codes_given m codes acts first n) ≡ n
-length_given m codes acts first zero = refl
-length_given m codes acts first (suc n) =
-    ap (λ (xs : List ℕ). length xs) (one_more m codes acts first n)
-    ∙ length_push (codes_given m codes acts first n) (code_given m codes acts (first + n))
-    ∙ rw (length_given m codes acts first n) (add-one n)
+use Rattle.transition_table.proofs.CodesGiven.{codes_given_last, length_codes_given}
 
 -- the code at a place
 given_at : (m : Machine) (codes : List ℕ) (acts : List Act) (first n k : ℕ) → k < n
     → slice_index (codes_given m codes acts first n) k ≡ code_given m codes acts (first + k)
 given_at m codes acts first zero k below = absurd (omega arith)
 given_at m codes acts first (suc n) k below =
-    let size = length_given m codes acts first n in
-    ap (λ (xs : List ℕ). slice_index xs k) (one_more m codes acts first n)
+    let size = length_codes_given m codes acts first n in
+    ap (λ (xs : List ℕ). slice_index xs k) (codes_given_last m codes acts first n)
     ∙ elim (eqb_tells k n) [
       | inl here ↦
           let last : n ≡ k = sym here.1 in
@@ -50,12 +36,12 @@ same_given : (m : Machine) (codes : List ℕ) (acts others : List Act) (first n 
     → codes_given m codes acts first n ≡ codes_given m codes others first n
 same_given m codes acts others first zero each = refl
 same_given m codes acts others first (suc n) each =
-    one_more m codes acts first n
+    codes_given_last m codes acts first n
     ∙ ap (λ (xs : List ℕ). xs ++ code_given m codes acts (first + n) ∷ [])
     (same_given m codes acts others first n (λ k from below. each k from (omega arith)))
     ∙ ap (λ c. codes_given m codes others first n ++ c ∷ [])
     (each (first + n) (omega arith) (omega arith))
-    ∙ sym (one_more m codes others first n)
+    ∙ sym (codes_given_last m codes others first n)
 
 -- rows that give each result the same code have the same result
 pub same_result : (m : Machine) (s : Snapshot) (a b : ℕ) (first second : Row)

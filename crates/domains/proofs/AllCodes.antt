@@ -1,48 +1,36 @@
 -- All lists of codes that fit.
-use Rattle.std.proofs.Common.{◌≡◌, ⊎_elim, ℕ, zero, suc, ◌+◌, ◌*◌, ◌<◌, ◌≤◌, Bool, true, List, [], ◌∷◌, ◌++◌, map, flat_map, length, slice_get, Some, option_map, refl, ap, sym, ◌∙◌, arith, ltb, length-append}
+use Rattle.std.proofs.Common.{◌≡◌, ⊎_elim, ℕ, zero, suc, ◌+◌, ◌*◌, ◌<◌, ◌≤◌, Bool, true, List, [], ◌∷◌, ◌++◌, flat_map, length, slice_get, Some, option_map, refl, ap, sym, ◌∙◌, arith, ltb, length-append}
 use Rattle.std.specs.List.{list_all}
 use Rattle.std.proofs.lemmas.Bool.{and_parts, and_from, ltb-true, cases_lt, false≢true}
-use Rattle.std.proofs.lemmas.Grind.{flat_map-append}
 use Rattle.std.proofs.lemmas.Option.{slice_get-map, slice_get_within}
 use Rattle.polis_base.specs.Lists.{upto}
 use Rattle.domains.specs.Tables.{fits, product, rank}
 use Rattle.domains.specs.AllCodes.{each_after, all_codes, CountsAll, StandsAtRank, StandsOnce, ListsFit, ListsAll}
 use Rattle.domains.proofs.Ranks.{ranks_below, ranks_reach}
+use Rattle.polis_base.proofs.ListTests.{all_get}
+use Rattle.polis_base.proofs.Places.{get_left, length_map, some_is}
+use Rattle.polis_base.proofs.UptoPlaces.{flat_map_upto}
 
 -- ---- lengths
-pub long_map : {X Y : Type 0} (f : X → Y) (xs : List X) → length (map f xs) ≡ length xs
-long_map f [] = refl
-long_map f (x ∷ xs) = ap suc (long_map f xs)
 
 none_after : {X : Type 0} (xs : List X) → xs ++ [] ≡ xs
 none_after [] = refl
 none_after {X = X} (x ∷ xs) = ap (λ (ys : List X). x ∷ ys) (none_after xs)
 
--- the pieces of the numbers up to n, then that of n
-piece_more : {X : Type 0} (f : ℕ → List X) (n : ℕ)
-    → flat_map f (upto (suc n)) ≡ flat_map f (upto n) ++ f n
-piece_more {X = X} f n = flat_map-append f (upto n) (n ∷ [])
-    ∙ ap (λ (ys : List X). flat_map f (upto n) ++ ys) (none_after (f n))
-
 pieces_long : {X : Type 0} (f : ℕ → List X) (w : ℕ) → ((c : ℕ) → length (f c) ≡ w) → (n : ℕ)
     → length (flat_map f (upto n)) ≡ n * w
 pieces_long f w each zero = omega arith
 pieces_long f w each (suc n) =
-    ap length (piece_more f n) ∙ length-append (flat_map f (upto n)) (f n)
+    ap length (flat_map_upto f n) ∙ length-append (flat_map f (upto n)) (f n)
     ∙ omega (arith, pieces_long f w each n, each n)
 
 pub counts_all : CountsAll
 counts_all [] = refl
 counts_all (size ∷ sizes) =
     pieces_long (each_after (all_codes sizes)) (product sizes)
-    (λ c. long_map (λ (codes : List ℕ). c ∷ codes) (all_codes sizes) ∙ counts_all sizes) size
+    (λ c. length_map (λ (codes : List ℕ). c ∷ codes) (all_codes sizes) ∙ counts_all sizes) size
 
 -- ---- what stands where
-get_left : {X : Type 0} (xs ys : List X) (i : ℕ) → i < length xs
-    → slice_get (xs ++ ys) i ≡ slice_get xs i
-get_left [] ys i low = absurd (omega arith)
-get_left (x ∷ xs) ys zero low = refl
-get_left (x ∷ xs) ys (suc i) low = get_left xs ys i (omega arith)
 
 get_right : {X : Type 0} (xs ys : List X) (n i : ℕ) → n ≡ length xs
     → slice_get (xs ++ ys) (n + i) ≡ slice_get ys i
@@ -57,7 +45,7 @@ at_piece : {X : Type 0} (f : ℕ → List X) (w : ℕ) → ((c : ℕ) → length
     → c < n → k < w → slice_get (flat_map f (upto n)) (c * w + k) ≡ slice_get (f c) k
 at_piece f w each zero c k low within = absurd (omega arith)
 at_piece {X = X} f w each (suc n) c k low within =
-    ap (λ (xs : List X). slice_get xs (c * w + k)) (piece_more f n)
+    ap (λ (xs : List X). slice_get xs (c * w + k)) (flat_map_upto f n)
     ∙ ⊎_elim
     (λ less. get_left (flat_map f (upto n)) (f n) (c * w + k)
     (inside c n less (pieces_long f w each n)) ∙ at_piece f w each n c k less within)
@@ -83,14 +71,11 @@ stands_at_rank (size ∷ sizes) [] f = absurd (false≢true f)
 stands_at_rank (size ∷ sizes) (code ∷ codes) f =
     let parts = and_parts (ltb code size) (fits sizes codes) f in
     let each : (c : ℕ) → length (each_after (all_codes sizes) c) ≡ product sizes =
-    λ c. long_map (λ (codes : List ℕ). c ∷ codes) (all_codes sizes) ∙ counts_all sizes in
+    λ c. length_map (λ (codes : List ℕ). c ∷ codes) (all_codes sizes) ∙ counts_all sizes in
     at_piece (each_after (all_codes sizes)) (product sizes) each size code (rank sizes codes)
     (ltb-true code size parts.0) (ranks_below sizes codes parts.1)
     ∙ slice_get-map (λ (codes : List ℕ). code ∷ codes) (all_codes sizes) (rank sizes codes)
     ∙ ap (option_map (λ (codes : List ℕ). code ∷ codes)) (stands_at_rank sizes codes parts.1)
-
-some_same : {X : Type 0} (x y : X) → Some x ≡ Some y → x ≡ y
-some_same x y e = cc
 
 pub stands_once : StandsOnce
 stands_once sizes codes i at =
@@ -99,17 +84,10 @@ stands_once sizes codes i at =
     let reached = ranks_reach sizes i (omega arith) in
     let there = stands_at_rank sizes reached.0 reached.1 in
     let same : reached.0 ≡ codes =
-    some_same reached.0 codes (sym there ∙ ap (slice_get (all_codes sizes)) reached.2 ∙ at) in
+    some_is reached.0 codes (sym there ∙ ap (slice_get (all_codes sizes)) reached.2 ∙ at) in
     (ap (fits sizes) (sym same) ∙ reached.1, ap (rank sizes) (sym same) ∙ reached.2)
 
 -- ---- what holds of them
-all_within : {X : Type 0} (p : X → Bool) (xs : List X) (k : ℕ) (x : X) → list_all p xs ≡ true
-    → slice_get xs k ≡ Some x → p x ≡ true
-all_within p [] k x all at = cc
-all_within p (y ∷ ys) zero x all at =
-    ap p (some_same x y (sym at)) ∙ (and_parts (p y) (list_all p ys) all).0
-all_within p (y ∷ ys) (suc k) x all at =
-    all_within p ys k x (and_parts (p y) (list_all p ys) all).1 at
 
 within_all : {X : Type 0} (p : X → Bool) (xs : List X)
     → ((k : ℕ) (x : X) → slice_get xs k ≡ Some x → p x ≡ true) → list_all p xs ≡ true
@@ -119,7 +97,7 @@ within_all p (x ∷ xs) each =
 
 pub lists_all : ListsAll
 lists_all sizes p all codes fit =
-    all_within p (all_codes sizes) (rank sizes codes) codes all (stands_at_rank sizes codes fit)
+    all_get p (all_codes sizes) (rank sizes codes) codes all (stands_at_rank sizes codes fit)
 
 pub lists_fit : ListsFit
 lists_fit sizes =

@@ -1,6 +1,6 @@
 -- What one entry more makes of an account.
-use Rattle.std.specs.Prelude.{◌≡◌, ℕ, ◌+◌, ◌<◌, ◌≤◌, Bool, true, false, cond, not, ◌&&◌, ◌==◌, List, [], ◌∷◌, ◌++◌, filter, count_by, length, take, slice_get, slice_index, Option, Some}
-use Rattle.std.specs.Option.{option_map_or, option_or}
+use Rattle.std.specs.Prelude.{◌≡◌, ℕ, ◌+◌, ◌<◌, ◌≤◌, Bool, true, false, cond, not, ◌&&◌, ◌==◌, List, [], ◌∷◌, ◌++◌, filter, count_by, length, take, slice_get, slice_index, Option}
+use Rattle.std.specs.Option.{option_map_or}
 use Rattle.std.proofs.Common.{refl, ap, ◌∙◌, arith, add-one, add-zero}
 use Rattle.std.proofs.lemmas.List.{append-nil, length_push, take-append-le, take_at}
 use Rattle.std.proofs.lemmas.List.Sums.{sum_by_push}
@@ -15,7 +15,7 @@ use Rattle.event_accounts.specs.inner.Steps.{account_after, after_delivery, afte
 use Rattle.event_accounts.specs.declared.account.Account.{Account}
 use Rattle.journals.proofs.MomentsAfter.{place_dep, place_rea}
 use Rattle.polis_base.proofs.Lists.{one_more, same_below}
-use Rattle.event_accounts.proofs.OneItemMore.{slice_get_end, slice_get_left}
+use Rattle.polis_base.proofs.Places.{get_end, get_left, head_if}
 
 pub same_account : (a b : Account) → a.delivered ≡ b.delivered → a.read ≡ b.read → a.lost ≡ b.lost
     → a.left ≡ b.left → a.first ≡ b.first → a ≡ b
@@ -31,7 +31,7 @@ overwrites_before : (journal : List Entry) (x : Entry) (m e p : ℕ) → p < len
 overwrites_before journal x m e p below =
     ap (λ (o : Option Entry). option_map_or (is_delivery_of m e) o false
     && not (buffered (take p (journal ++ x ∷ [])) m e == 0))
-    (slice_get_left journal (x ∷ []) p below)
+    (get_left journal (x ∷ []) p below)
     ∙ ap (λ (l : List Entry). option_map_or (is_delivery_of m e) (slice_get journal p) false
     && not (buffered l m e == 0))
     (take-append-le p journal (x ∷ []) (omega arith))
@@ -42,7 +42,7 @@ overwrites_last : (journal : List Entry) (x : Entry) (m e : ℕ)
 overwrites_last journal x m e =
     ap (λ (o : Option Entry). option_map_or (is_delivery_of m e) o false
     && not (buffered (take (length journal) (journal ++ x ∷ [])) m e == 0))
-    (slice_get_end journal x)
+    (get_end journal x)
     ∙ ap (λ (l : List Entry). is_delivery_of m e x && not (buffered l m e == 0))
     (take_at journal (x ∷ []) (length journal) refl)
 
@@ -100,12 +100,6 @@ length_if : (b : Bool) (xs : List ℕ) (y : ℕ)
     → length (xs ++ cond b (y ∷ []) []) ≡ cond b (length xs + 1) (length xs)
 length_if true xs y = length_push xs y
 length_if false xs y = ap length (append-nil xs)
-
-head_if : (b : Bool) (xs : List ℕ) (y : ℕ)
-    → head_of (xs ++ cond b (y ∷ []) []) ≡ cond b (option_or (head_of xs) (Some y)) (head_of xs)
-head_if true [] y = refl
-head_if true (x ∷ xs) y = refl
-head_if false xs y = ap head_of (append-nil xs)
 
 pushed_delivery : (journal : List Entry) (b : Buffer) (c : ℕ) → 1 ≤ c
     → pushed journal b true false c ≡ after_delivery (length journal) (account journal b)

@@ -19,7 +19,8 @@ use Rattle.event_accounts.specs.Accounts.{Buffer, account, accounts_of, buffer_a
 use Rattle.event_accounts.specs.Laws.{AllLossesCounted}
 use Rattle.event_accounts.specs.declared.account.Account.{Account}
 use Rattle.event_accounts.proofs.AccountAfter.{is_present, loss_places_more}
-use Rattle.event_accounts.proofs.OneItemMore.{by_end, flat_map_push}
+use Rattle.event_accounts.proofs.OneItemMore.{by_end}
+use Rattle.polis_base.proofs.Places.{flat_map_push}
 
 -- ---- sums
 

@@ -20,11 +20,12 @@ use Rattle.event_accounts.specs.inner.Steps.{account_after, after_delivery, afte
 use Rattle.event_accounts.specs.declared.account.Account.{Account}
 use Rattle.event_accounts.proofs.InputsOf.{IsBuffer, code_of_place}
 use Rattle.event_accounts.proofs.AccountAfter.{BringsCode, account_away, account_more}
-use Rattle.event_accounts.proofs.OneItemMore.{by_end, flat_map_push, slice_get_end}
+use Rattle.event_accounts.proofs.OneItemMore.{by_end}
 use Rattle.journals.proofs.Alone.{fitting_prefix}
 use Rattle.journals.proofs.EntriesAt.{fits_at}
 use Rattle.polis_base.proofs.Lists.{all_append}
 use Rattle.std.proofs.lemmas.List.Folds.{list_all-map}
+use Rattle.polis_base.proofs.Places.{flat_map_push, get_end}
 
 -- ---- what each buffer says
 
@@ -137,7 +138,7 @@ each_balances net b at journal = by_end (Good net b) (λ h g. refl) more journal
     more : (journal : List Entry) (x : Entry) → Good net b journal → Good net b (journal ++ x ∷ [])
     more journal x before fits reads =
         let here = fits_at net (journal ++ x ∷ []) (length journal) x fits
-        (slice_get_end journal x) in
+        (get_end journal x) in
         let balanced = before (fitting_prefix net journal (x ∷ []) fits)
         (reads_before net journal x reads) in
         elim (cases_eq (machine_of x) b.machine) [

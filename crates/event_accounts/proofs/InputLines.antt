@@ -8,7 +8,8 @@ use Rattle.polis_base.specs.Lists.{upto}
 use Rattle.transition_table.specs.declared.network.Network.{Network}
 use Rattle.journals.proofs.Emitted.{drop_at_item}
 use Rattle.event_accounts.specs.Accounts.{Buffer, buffer_at, buffers, buffers_of}
-use Rattle.event_accounts.proofs.OneItemMore.{flat_map_push, split_at}
+use Rattle.event_accounts.proofs.OneItemMore.{split_at}
+use Rattle.polis_base.proofs.Places.{flat_map_push}
 
 -- the lines of a machine's inputs from input k on, with these items
 abbrev pub lines_from : {X : Type 0} → (Buffer × X → List ℕ) → ℕ → ℕ → List ℕ → List X → List ℕ

@@ -11,8 +11,8 @@ use Rattle.transition_table.specs.declared.machine.Machine.{Machine}
 use Rattle.transition_table.specs.declared.network.Network.{Network}
 use Rattle.journals.specs.declared.entry.Entry.{Entry}
 use Rattle.journals.specs.Journals.{inputs_of, buffered, snap, state, states_of}
-use Rattle.journals.proofs.DeliveriesOfWay.{passes_of_all}
 use Rattle.event_accounts.specs.Accounts.{Buffer}
+use Rattle.polis_base.proofs.ListTests.{all_get}
 
 pub inputs_of_machine : (net : Network) (m : ℕ) (machine : Machine)
     → slice_get net.machines m ≡ Some machine
@@ -26,12 +26,12 @@ pub input_within : (net : Network) (m i e : ℕ) (machine : Machine)
     → e < length net.events
 input_within net m i e machine there at =
     let small : ℕ → Bool = λ e. nat_lt e (length net.events) in
-    let here = passes_of_all (is_numbered net.domains net.events) net.machines m machine
+    let here = all_get (is_numbered net.domains net.events) net.machines m machine
     net.numbered there in
     let mine = (and_parts (list_all small machine.inputs) (list_all small machine.outputs)
     (and_parts (list_all small machine.inputs && list_all small machine.outputs) _ here).0).0 in
     ltb-true e (length net.events)
-    (passes_of_all small machine.inputs i e mine
+    (all_get small machine.inputs i e mine
     (subst (λ (l : List ℕ). slice_get l i ≡ Some e) (inputs_of_machine net m machine there) at))
 
 -- the buffer is one of the network

@@ -1,9 +1,10 @@
 -- Lists with one item more.
-use Rattle.std.specs.Prelude.{◌≡◌, ℕ, zero, suc, ◌<◌, List, [], ◌∷◌, ◌++◌, flat_map, length, slice_get, Some}
-use Rattle.std.proofs.Common.{refl, sym, ap, ◌∙◌, inl, inr, arith}
+use Rattle.std.specs.Prelude.{◌≡◌, ℕ, zero, suc, ◌<◌, List, [], ◌∷◌, ◌++◌, flat_map}
+use Rattle.std.proofs.Common.{sym, ap, ◌∙◌, inl, inr, arith}
 use Rattle.std.proofs.lemmas.List.{append-nil, append_assoc}
 use Rattle.std.proofs.lemmas.Bool.{cases_lt}
 use Rattle.polis_base.specs.Lists.{upto}
+use Rattle.polis_base.proofs.Places.{flat_map_push}
 
 -- what holds of the empty list, and of each list with one item more, holds of every list
 pub by_end : {X : Type 0} (P : List X → Type 0) → P []
@@ -14,23 +15,6 @@ by_end {X} P none more xs = go [] xs none
     go done [] h = rw append-nil h
     go done (x ∷ rest) h =
         rw (append_assoc done (x ∷ []) rest) at (go (done ++ x ∷ []) rest (more done x h))
-
-pub slice_get_left : {X : Type 0} (xs ys : List X) (k : ℕ) → k < length xs
-    → slice_get (xs ++ ys) k ≡ slice_get xs k
-slice_get_left [] ys k below = absurd (omega arith)
-slice_get_left (x ∷ xs) ys zero below = refl
-slice_get_left (x ∷ xs) ys (suc k) below = slice_get_left xs ys k (omega arith)
-
-pub slice_get_end : {X : Type 0} (xs : List X) (y : X)
-    → slice_get (xs ++ y ∷ []) (length xs) ≡ Some y
-slice_get_end [] y = refl
-slice_get_end (x ∷ xs) y = slice_get_end xs y
-
-pub flat_map_push : {X Y : Type 0} (f : X → List Y) (xs : List X) (x : X)
-    → flat_map f (xs ++ x ∷ []) ≡ flat_map f xs ++ f x
-flat_map_push f [] x = append-nil (f x)
-flat_map_push f (y ∷ xs) x =
-    ap (λ l. f y ++ l) (flat_map_push f xs x) ∙ sym (append_assoc (f y) (flat_map f xs) (f x))
 
 -- what the numbers below n give begins with what those below m give, and what m gives
 pub split_at : {X : Type 0} (f : ℕ → List X) (n m : ℕ) → m < n

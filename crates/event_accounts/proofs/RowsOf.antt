@@ -20,9 +20,10 @@ use Rattle.event_accounts.specs.declared.account.Account.{Account}
 use Rattle.domains.proofs.Ranks.{length_fits}
 use Rattle.transition_table.proofs.Ranges.{vars_length}
 use Rattle.journals.proofs.CursorsAfter.{machine_within}
-use Rattle.journals.proofs.MomentsAfter.{length_upto, get_or_table, set_table}
+use Rattle.journals.proofs.MomentsAfter.{get_or_table, set_table}
 use Rattle.event_accounts.proofs.Balances.{brings_code}
 use Rattle.event_accounts.proofs.AccountAfter.{account_away, account_more}
+use Rattle.polis_base.proofs.UptoPlaces.{length_upto}
 
 -- the snapshot of an entry of a machine has a code for each input
 pub has_code : (net : Network) (machine : Machine) (entry : Entry) (i : ℕ) → FitsNetwork net entry

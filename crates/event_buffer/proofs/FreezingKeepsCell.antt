@@ -18,10 +18,11 @@ use Rattle.event_buffer.specs.declared.look.Look.TheVariants.{Ready}
 use Rattle.event_buffer.specs.declared.pending.Pending.{Pending}
 use Rattle.event_buffer.specs.Cells.{CellState, look, look_of, freezing, decided, filled, frozen_of, shown, IsLast, IsCell}
 use Rattle.event_buffer.proofs.LastReaction.{last_here}
-use Rattle.event_buffer.proofs.Lists.{get_of_set, set_last, take_within, take_whole}
+use Rattle.event_buffer.proofs.Lists.{get_of_set, set_last, take_within}
 use Rattle.event_buffer.proofs.LegalLogs.{clock_more, item_of_legal}
 use Rattle.event_buffer.proofs.OutcomeIn.{outcome_holds}
 use Rattle.journals.proofs.StampSteps.{entries_more}
+use Rattle.polis_base.proofs.Places.{take_whole}
 
 -- ---- where nothing is pending
 

@@ -2,7 +2,7 @@
 use Rattle.std.specs.Prelude.{◌≡◌, ℕ, zero, suc, ◌+◌, ◌<◌, ◌≤◌, Bool, true, false, List, [], ◌∷◌, ◌++◌, map, drop, length, slice_get, Option, Some, option_map, IfSome}
 use Rattle.std.proofs.Common.{refl, sym, ap, ◌∙◌, subst, arith, inl, inr}
 use Rattle.std.proofs.lemmas.List.{map-append}
-use Rattle.std.proofs.lemmas.Option.{slice_get_cases}
+use Rattle.std.proofs.lemmas.Option.{slice_get_cases, slice_get_past}
 use Rattle.std.proofs.lemmas.Bool.{and_parts}
 use Rattle.polis_base.specs.Lists.{head_of}
 use Rattle.transition_table.specs.declared.decl.Party.TheVariants.{Env}
@@ -17,7 +17,8 @@ use Rattle.event_buffer.specs.declared.arrival.Arrival.{Arrival}
 use Rattle.event_buffer.specs.Arrivals.{is_arrival, are_arrivals, arrival_of}
 use Rattle.event_buffer.specs.Feeds.{all_deliveries, deliveries_at, left_at, IsNext}
 use Rattle.event_buffer.proofs.LastReaction.{all_arrive}
-use Rattle.event_buffer.proofs.Lists.{drop_at, drop_of_joined, drop_past, head_of_joined, nothing_left, past_is_none}
+use Rattle.event_buffer.proofs.Lists.{drop_at, drop_of_joined, head_of_joined, nothing_left}
+use Rattle.polis_base.proofs.Places.{drop_past}
 
 -- ---- all of them
 
@@ -71,7 +72,7 @@ none_from net trace i item at none =
 pub past :
     (net : Network) (receiver : ℕ) (trace : List TraceItem) (i : ℕ)
     → length trace ≤ i → IsNext net receiver (slice_get trace i)
-past net receiver trace i h = subst (IsNext net receiver) (sym (past_is_none trace i h)) tt
+past net receiver trace i h = subst (IsNext net receiver) (sym (slice_get_past trace i h)) tt
 
 pub is_next :
     (net : Network) (trace : List TraceItem) (i receiver : ℕ) (item : TraceItem)
@@ -119,7 +120,7 @@ pub none_left :
 none_left net trace i receiver h =
     let rest : List Owed = all_deliveries net (drop (i + 1) trace) in
     ap (λ (o : Option TraceItem). drop receiver (deliveries_at net o) ++ rest)
-    (past_is_none trace i h)
+    (slice_get_past trace i h)
     ∙ ap (λ (l : List Owed). l ++ rest) (drop_past {X = Owed} [] receiver (omega arith))
     ∙ ap (all_deliveries net) (drop_past trace (i + 1) (omega arith))
 

@@ -12,9 +12,9 @@ use Rattle.journals.specs.Alone.{is_own, LegalAlone}
 use Rattle.journals.specs.Journals.{FitsNetwork, reads}
 use Rattle.journals.specs.Logs.{clock, stamps, max_stamp, rises}
 use Rattle.journals.specs.Moved.{machine_of}
-use Rattle.journals.proofs.DeliveriesOfWay.{passes_of_all}
 use Rattle.journals.proofs.MomentsAfter.{last_of_push}
 use Rattle.journals.proofs.StampSteps.{item_fits}
+use Rattle.polis_base.proofs.ListTests.{all_get}
 
 pub clock_more : (log : List Stamped) (x : Stamped) → clock (log ++ x ∷ []) ≡ x.stamp
 clock_more log x =
@@ -52,5 +52,5 @@ pub item_of_legal :
     → FitsNetwork net x.entry × (is_own net m x.entry ≡ true)
 item_of_legal net m log k x h at = (
   item_fits net log k x h.fitting at,
-  passes_of_all (λ (s : Stamped). is_own net m s.entry) log k x h.own at,
+  all_get (λ (s : Stamped). is_own net m s.entry) log k x h.own at,
 )

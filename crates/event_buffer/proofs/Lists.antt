@@ -1,5 +1,5 @@
 -- Lists.
-use Rattle.std.specs.Prelude.{◌≡◌, ℕ, zero, suc, ◌<◌, ◌≤◌, List, [], ◌∷◌, ◌++◌, take, drop, length, slice_get, slice_set, Some, None}
+use Rattle.std.specs.Prelude.{◌≡◌, ℕ, zero, suc, ◌<◌, ◌≤◌, List, [], ◌∷◌, ◌++◌, take, drop, length, slice_get, slice_set, Some}
 use Rattle.std.proofs.Common.{refl, ap, ◌∙◌, arith}
 use Rattle.polis_base.specs.Lists.{head_of}
 
@@ -42,12 +42,6 @@ pub take_within :
 take_within xs zero x h = refl
 take_within [] (suc k) x h = absurd (omega arith)
 take_within (z ∷ xs) (suc k) x h = ap (λ l. z ∷ l) (take_within xs k x (omega arith))
-
-pub take_whole : {X : Type 0} (xs : List X) (k : ℕ) → length xs ≤ k → take k xs ≡ xs
-take_whole [] zero h = refl
-take_whole [] (suc k) h = refl
-take_whole (x ∷ xs) zero h = absurd (omega arith)
-take_whole (x ∷ xs) (suc k) h = ap (λ l. x ∷ l) (take_whole xs k (omega arith))
 
 pub take_next :
     {X : Type 0} (xs : List X) (k : ℕ) (x : X)
@@ -97,23 +91,12 @@ drop_of_joined [] ys n h = absurd (omega arith)
 drop_of_joined (x ∷ xs) ys zero h = refl
 drop_of_joined (x ∷ xs) ys (suc n) h = drop_of_joined xs ys n (omega arith)
 
-pub drop_past : {X : Type 0} (xs : List X) (n : ℕ) → length xs ≤ n → drop n xs ≡ []
-drop_past [] zero h = refl
-drop_past [] (suc n) h = refl
-drop_past (x ∷ xs) zero h = absurd (omega arith)
-drop_past (x ∷ xs) (suc n) h = drop_past xs n (omega arith)
-
 pub drop_at :
     {X : Type 0} (xs : List X) (i : ℕ) (x : X)
     → slice_get xs i ≡ Some x → drop i xs ≡ x ∷ drop (suc i) xs
 drop_at [] i x h = absurd cc
 drop_at (y ∷ xs) zero x h = let same : y ≡ x = cc in ap (λ z. z ∷ xs) same
 drop_at (y ∷ xs) (suc i) x h = drop_at xs i x h
-
-pub past_is_none : {X : Type 0} (xs : List X) (i : ℕ) → length xs ≤ i → slice_get xs i ≡ None
-past_is_none [] i h = refl
-past_is_none (x ∷ xs) zero h = absurd (omega arith)
-past_is_none (x ∷ xs) (suc i) h = past_is_none xs i (omega arith)
 
 pub not_empty : {X : Type 0} (xs : List X) (x : X) → head_of xs ≡ Some x → xs ≡ [] → ⊥
 not_empty [] x h e = cc

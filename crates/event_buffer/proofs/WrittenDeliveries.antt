@@ -11,6 +11,7 @@ use Rattle.journals.specs.declared.entry.Owed.{Owed}
 use Rattle.event_buffer.specs.declared.arrival.Arrival.{Arrival}
 use Rattle.event_buffer.specs.Arrivals.{arrival_of}
 use Rattle.journals.proofs.StampSteps.{length_prefix}
+use Rattle.polis_base.proofs.Places.{length_append}
 
 pub receivers_of_event :
     (net : Network) (e : ℕ) (event : EventDecl)
@@ -23,10 +24,6 @@ abbrev pub given_by : Network → Party → List ℕ → List ℕ → List Owed
 given_by net s events codes = flat_map (deliveries_of net s) (emitted events codes)
 
 -- ---- how many there are
-
-long : {X : Type 0} (xs ys : List X) → length (xs ++ ys) ≡ length xs + length ys
-long [] ys = omega arith
-long (x ∷ xs) ys = let rest = long xs ys in omega arith
 
 deliveries_long :
     (net : Network) (s : Party) (e c : ℕ)
@@ -43,13 +40,13 @@ few_deliveries net s [] codes = omega arith
 few_deliveries net s (e ∷ events) [] = omega arith
 few_deliveries net s (e ∷ events) (zero ∷ codes) =
     let rest = few_deliveries net s events codes in
-    let size = long (receivers_of net e) (flat_map (receivers_of net) events) in
+    let size = length_append (receivers_of net e) (flat_map (receivers_of net) events) in
     omega arith
 few_deliveries net s (e ∷ events) (suc v ∷ codes) =
     let rest = few_deliveries net s events codes in
-    let size = long (receivers_of net e) (flat_map (receivers_of net) events) in
+    let size = length_append (receivers_of net e) (flat_map (receivers_of net) events) in
     let here =
-    long (deliveries_of net s (e, suc v)) (given_by net s events codes) in
+    length_append (deliveries_of net s (e, suc v)) (given_by net s events codes) in
     let one = deliveries_long net s e (suc v) in
     omega arith
 
@@ -61,13 +58,13 @@ pub receivers_next :
 receivers_next net [] k x h = absurd cc
 receivers_next net (y ∷ xs) zero x h =
     let same : y ≡ x = cc in
-    let size = long (receivers_of net y) [] in
+    let size = length_append (receivers_of net y) [] in
     let other = ap (λ z. length (receivers_of net z)) same in
     omega arith
 receivers_next net (y ∷ xs) (suc k) x h =
     let rest = receivers_next net xs k x h in
-    let size = long (receivers_of net y) (flat_map (receivers_of net) (take (suc k) xs)) in
-    let before = long (receivers_of net y) (flat_map (receivers_of net) (take k xs)) in
+    let size = length_append (receivers_of net y) (flat_map (receivers_of net) (take (suc k) xs)) in
+    let before = length_append (receivers_of net y) (flat_map (receivers_of net) (take k xs)) in
     omega arith
 
 -- ---- one delivery more
@@ -104,11 +101,11 @@ pub room_for :
     → count + length (receivers_of net e) ≤ length room
 room_for net s stamp room count e c here rest whole inside few is all =
     let a = ap (λ (l : List Arrival). length l) all in
-    let b = long (take count room) (map (arrival_of stamp) here) in
+    let b = length_append (take count room) (map (arrival_of stamp) here) in
     let d = length_prefix room count inside in
     let f = length-map here (arrival_of stamp) in
     let g = length-map whole (arrival_of stamp) in
-    let h = ap (λ (l : List Owed). length l) is ∙ long (deliveries_of net s (e, c)) rest in
+    let h = ap (λ (l : List Owed). length l) is ∙ length_append (deliveries_of net s (e, c)) rest in
     let i = deliveries_long net s e c in
     omega arith
 

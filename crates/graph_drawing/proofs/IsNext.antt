@@ -1,16 +1,13 @@
 -- The children of a test, one after the other.
-use Rattle.std.proofs.Common.{◌≡◌, ◌≢◌, ℕ, zero, suc, ◌+◌, ◌-◌, ◌<◌, ◌≤◌, Bool, true, false, cond, ◌==◌, List, [], ◌∷◌, ◌++◌, flat_map, filter, length, get_or, slice_get, Some, ⊎_elim, refl, ap, sym, subst, ◌∙◌, arith}
-use Rattle.std.proofs.lemmas.Bool.{cases_lt, eq-eqb, ne_eqb}
+use Rattle.std.proofs.Common.{◌≡◌, ◌≢◌, ℕ, zero, suc, ◌+◌, ◌-◌, ◌<◌, ◌≤◌, Bool, true, false, cond, List, [], ◌∷◌, ◌++◌, flat_map, filter, length, get_or, slice_get, Some, ⊎_elim, refl, ap, sym, subst, ◌∙◌, arith}
+use Rattle.std.proofs.lemmas.Bool.{cases_lt, ne_eqb}
 use Rattle.std.proofs.lemmas.List.{append-nil, flat_map_more}
-use Rattle.std.proofs.lemmas.Map.Keys.{any_passes_from_place}
 use Rattle.std.proofs.lemmas.Option.{get_or_from_slice_get}
 use Rattle.polis_base.specs.Lists.{upto}
 use Rattle.polis_base.proofs.Lists.{one_more}
 use Rattle.transition_table.specs.NetworkFacts.{has}
 use Rattle.graph_drawing.specs.inner.Children.{IsNext, IsNearer}
-
-has_at : (kids : List ℕ) (j kid : ℕ) → slice_get kids j ≡ Some kid → has kids kid ≡ true
-has_at kids j kid e = any_passes_from_place (λ k. k == kid) kids j kid e (eq-eqb kid kid refl)
+use Rattle.transition_table.proofs.MachineCounts.{has_at}
 
 lacks : (kids : List ℕ) (k : ℕ) → ((j : ℕ) → j < length kids → get_or kids j 0 ≢ k)
     → has kids k ≡ false

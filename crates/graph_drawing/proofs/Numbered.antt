@@ -1,18 +1,11 @@
 -- One more text of a row.
 use Rattle.std.proofs.Common.{◌≡◌, ℕ, suc, ◌+◌, List, ◌∷◌, ◌++◌, drop, slice_get, Some, ap, sym, ◌∙◌, arith, append_assoc}
-use Rattle.std.proofs.Math.Seq.{drop-cons}
-use Rattle.std.proofs.lemmas.Option.{get_or_from_slice_get, slice_get_within}
 use Rattle.transition_table.specs.declared.machine.Machine.{Machine}
 use Rattle.transition_table.specs.declared.network.Network.{Network}
 use Rattle.sgraph.specs.declared.vertex.Vertex.{Vertex}
 use Rattle.graph_drawing.specs.Words.{numbered}
 use Rattle.graph_drawing.specs.Drawings.{graph_text, graphs_text}
-
-pub drop_one : {X : Type 0} (xs : List X) (k : ℕ) (x : X) → slice_get xs k ≡ Some x
-    → drop k xs ≡ x ∷ drop (suc k) xs
-drop_one {X = X} xs k x e =
-    drop-cons xs k x (slice_get_within xs k x e)
-    ∙ ap (λ (y : X). y ∷ drop (suc k) xs) (get_or_from_slice_get xs k x x e)
+use Rattle.polis_base.proofs.Places.{drop_one}
 
 pub more_numbered : {X : Type 0} (text : ℕ → X → List ℕ) (xs : List X) (k : ℕ) (x : X)
     (out new whole : List ℕ) → out ++ numbered text k (drop k xs) ≡ whole

@@ -2,7 +2,7 @@
 use Rattle.std.proofs.Common.{◌≡◌, ℕ, suc, ◌+◌, Bool, true, false, cond, List, ◌∷◌, ◌++◌, map, drop, slice_get, Some, ap, sym, ◌∙◌, arith, append_assoc}
 use Rattle.polis_base.specs.Lists.{places_from}
 use Rattle.graph_drawing.specs.Words.{numbered, after_gap}
-use Rattle.graph_drawing.proofs.Numbered.{drop_one}
+use Rattle.polis_base.proofs.Places.{drop_one}
 
 -- the words from the one of number n on
 abbrev words : (ℕ → List ℕ) → ℕ → List ℕ → List ℕ

@@ -13,7 +13,7 @@ use Rattle.journals.proofs.StampSteps.{length_prefix}
 use Rattle.net_core.specs.Prefixes.{IsReason}
 use Rattle.net_core.proofs.IsAdopted.{shorter}
 use Rattle.net_core.proofs.Prefixes.{follows_if_legal}
-use Rattle.net_core.proofs.ReceiversOf.{some_at}
+use Rattle.polis_base.proofs.Places.{some_at}
 
 -- ---- an entry that is legal after those before it
 

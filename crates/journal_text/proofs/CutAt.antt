@@ -8,10 +8,10 @@ use Rattle.domains.specs.Names.{is_same}
 use Rattle.journal_text.specs.Forms.{Text, Texts, words_of, is_word, list_of, dash, before, after}
 use Rattle.polis_base.specs.Pieces.{pieces, with_byte, lacks}
 use Rattle.journal_text.specs.Cursors.{items_in, CutAt, NoCut}
-use Rattle.polis_base.proofs.AllPass.{all_in_both}
 use Rattle.domains.proofs.Names.{same_texts, texts_same, same_self}
 use Rattle.polis_base.proofs.TextPieces.{pieces_at, pieces_end, some_piece, joined_by, joined_pieces}
 use Rattle.journal_text.proofs.FormWords.{avoids, before_at, after_at, words_of_list}
+use Rattle.polis_base.proofs.Lists.{all_append}
 
 pub to_the_end : (bytes : Text) (n : ℕ) → take (length bytes - n) (drop n bytes) ≡ drop n bytes
 to_the_end bytes n = take_all (length bytes - n) (drop n bytes) (omega (arith, length-drop n bytes))
@@ -162,7 +162,7 @@ passed_more sign words at tail word rest (inr passed) is whole lack other =
     let free : avoids sign (words_of (passed.0 ++ 32 ∷ word)) ≡ true =
     ap (avoids sign) (pieces_both 32 passed.0 word
     ∙ ap (λ ws. words_of passed.0 ++ ws) (pieces_end 32 word lack))
-    ∙ all_in_both (λ w. not (is_same w sign)) (words_of passed.0) (word ∷ []) passed.3
+    ∙ all_append (λ w. not (is_same w sign)) (words_of passed.0) (word ∷ []) passed.3
     (and_from _ _ (not_from_false _ other) refl) in
     all_past sign words (passed.0 ++ 32 ∷ word) word rest all free
 

@@ -22,7 +22,7 @@ use Rattle.journal_text.proofs.Pieces.{words_in, spaced_joined}
 use Rattle.polis_base.proofs.TextPieces.{joined_by, joined_both}
 use Rattle.journal_text.proofs.FormWords.{lists_words, form_words}
 use Rattle.journal_text.proofs.ItemCodes.{DomainsHold}
-use Rattle.journals.proofs.DeliveriesOfWay.{passes_of_all}
+use Rattle.polis_base.proofs.ListTests.{all_get}
 
 -- what the types of the network keep
 pub record Holds (net : Network) : Type 0 where
@@ -38,7 +38,7 @@ holds_of net h =
     record {
       events = b.0;
       machines = b.1;
-      domains = λ d domain at. passes_of_all values_hold net.domains d domain a.1 at;
+      domains = λ d domain at. all_get values_hold net.domains d domain a.1 at;
     }
 
 -- the form that an entry is printed in

@@ -30,14 +30,10 @@ use Rattle.journal_text.proofs.ItemCodes.{items_are, values_are, item_of_code}
 use Rattle.journal_text.proofs.EntryForms.{seen_of, given_of, form_of}
 use Rattle.journal_text.proofs.MachineCodes.{vars_are, results_are}
 use Rattle.journal_text.proofs.EntryReadsBack.{event_item_is, event_items_are, set_items_are, state_items_are, are_events, event_sizes, event_sized, set_sizes, state_sizes}
-use Rattle.journals.proofs.DeliveriesOfWay.{passes_of_all}
 use Rattle.domains.proofs.Ranks.{length_fits}
-use Rattle.journals.proofs.SnapFits.{fits_after_fits}
-
-there : {X : Type 0} (xs : List X) (k : ℕ) → k < length xs → (x : X) × (slice_get xs k ≡ Some x)
-there [] k below = absurd (omega arith)
-there (x ∷ xs) zero below = (x, refl)
-there (x ∷ xs) (suc k) below = there xs k (omega arith)
+use Rattle.domains.proofs.FittingCodes.{fits_both}
+use Rattle.polis_base.proofs.ListTests.{all_get}
+use Rattle.polis_base.proofs.Places.{some_at}
 
 -- what stands under answers
 pub ok_same : {A E : Type 0} {a b : A} → ◌≡◌ {A = Result A E} (Ok a) (Ok b) → a ≡ b
@@ -129,7 +125,7 @@ pub record MachineNumbers (net : Network) (machine : Machine) : Type 0 where
 machine_numbers : (net : Network) (m : ℕ) (machine : Machine)
     → slice_get net.machines m ≡ Some machine → MachineNumbers net machine
 machine_numbers net m machine at =
-    let numbered = passes_of_all (is_numbered net.domains net.events) net.machines m machine
+    let numbered = all_get (is_numbered net.domains net.events) net.machines m machine
     net.numbered at in
     let n = and_parts (list_all (λ e. nat_lt e (length net.events)) machine.inputs
     && list_all (λ e. nat_lt e (length net.events)) machine.outputs) _ numbered in
@@ -137,8 +133,8 @@ machine_numbers net m machine at =
     record {
       inputs = n2.0;
       outputs = n2.1;
-      vars = passes_of_all (has_vars net.domains net.events) net.machines m machine net.sized_vars at;
-      outs = passes_of_all (has_outputs net.domains net.events) net.machines m machine
+      vars = all_get (has_vars net.domains net.events) net.machines m machine net.sized_vars at;
+      outs = all_get (has_outputs net.domains net.events) net.machines m machine
           net.sized_outputs at;
     }
 
@@ -181,7 +177,7 @@ snapshot_is net m machine a b present values at h =
     let back : drop (length machine.inputs) (present ++ values) ≡ values =
     drop_at present values _ len in (
       rw at (rw (prefix, back, p.0, v.0) refl),
-      rw (vars_are net machine facts.vars) (fits_after_fits _ _ present values p.1 v.1),
+      rw (vars_are net machine facts.vars) (fits_both _ _ present values p.1 v.1),
     )
 
 result_is : (net : Network) (m : ℕ) (machine : Machine) (a b : Texts) (next outs : List ℕ)
@@ -202,7 +198,7 @@ result_is net m machine a b next outs at h =
           outs = length_fits _ outs o.1 ∙ length-map machine.outputs (event_size net);
         };
         codes = rw (results_are net machine facts.vars facts.outs)
-            (fits_after_fits _ _ next outs s.1 o.1);
+            (fits_both _ _ next outs s.1 o.1);
         idle = λ e. absurd (false≢true (sym e));
       },
     )
@@ -226,7 +222,7 @@ blank_is net m machine at =
         outs = zeros_length (length machine.outputs);
       };
       codes = rw (results_are net machine facts.vars facts.outs)
-          (fits_after_fits _ _ (replicate (length machine.states) 0)
+          (fits_both _ _ (replicate (length machine.states) 0)
           (replicate (length machine.outputs) 0)
           (zeros_fit (set_size net) machine.states (λ x. lt-ltb _ _ (omega arith)))
           (zeros_fit (event_size net) machine.outputs (λ x. lt-ltb _ _ (omega arith))));
@@ -251,7 +247,7 @@ firing_only net word (a, b) (d, e) entry h = go (machine_named net word) refl h
         × FitsNetwork net (fired m ((present, values), (next, outs)))
     found m present values next outs p x y =
         let named = has_found_name (λ (machine : Machine). machine.name) net.machines word m p in
-        let t = there net.machines m named.0 in
+        let t = some_at net.machines m named.0 in
         let s = snapshot_is net m t.0 a b present values t.1 x in
         let r = result_is net m t.0 d e next outs t.1 y in
         (rw (named.1, s.0, r.0) refl, rw t.1 (s.1, r.1))
@@ -278,7 +274,7 @@ idle_only net word (a, b) entry h = go (machine_named net word) refl h
         × FitsNetwork net (idled net m (present, values))
     found m present values p x =
         let named = has_found_name (λ (machine : Machine). machine.name) net.machines word m p in
-        let t = there net.machines m named.0 in
+        let t = some_at net.machines m named.0 in
         let s = snapshot_is net m t.0 a b present values t.1 x in
         (rw (named.1, s.0) refl, rw t.1 (s.1, blank_is net m t.0 t.1))
 

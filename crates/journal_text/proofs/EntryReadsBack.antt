@@ -34,12 +34,13 @@ use Rattle.journal_text.specs.Holding.{machine_holds}
 use Rattle.polis_base.proofs.AllPass.{all_pass}
 use Rattle.domains.proofs.Names.{texts_differ}
 use Rattle.journal_text.proofs.FormWords.{good_lists, good_form, some_same}
-use Rattle.journal_text.proofs.FoundByName.{found_by_name, neither_0, neither_1}
+use Rattle.journal_text.proofs.FoundByName.{found_by_name}
 use Rattle.journal_text.proofs.ItemCodes.{named_size, item_text, named_items, DomainsHold, value_word, item_is, item_has_code, codes_read, values_read, names_lack, names_of, lacks_equals, after_equals, name_of_item}
 use Rattle.journal_text.proofs.EntryForms.{Holds, seen_of, given_of, form_of, machine_there}
 use Rattle.journal_text.proofs.MachineCodes.{inputs_fit, states_fit, settings_fit, outputs_fit}
 use Rattle.journal_text.proofs.IsWord.{name_lacks_equals, item_word, value_bytes}
-use Rattle.journals.proofs.DeliveriesOfWay.{passes_of_all}
+use Rattle.polis_base.proofs.Bools.{neither_first, neither_second}
+use Rattle.polis_base.proofs.ListTests.{all_get}
 
 -- 1. Events and state variables as things that items name.
 pub event_item_is : (net : Network) (e v : ℕ)
@@ -138,7 +139,7 @@ events_named net [] hold h = refl
 events_named net (e ∷ events) hold h =
     let parts = and_parts (nat_lt e (length net.events)) _ h in
     let t = event_there net e parts.0 in
-    let name = passes_of_all (λ (event : EventDecl). is_name event.name) net.events e t.0
+    let name = all_get (λ (event : EventDecl). is_name event.name) net.events e t.0
     hold.events t.1 in
     and_from _ _ (rw t.1 name) (events_named net events hold parts.1)
 
@@ -178,8 +179,8 @@ events_distinct net (e ∷ events) differ all =
     apart e [] other p q = refl
     apart e (k ∷ events) other p q =
         let parts = and_parts (nat_lt k (length net.events)) _ q in
-        rw (events_differ net e k p parts.0 (neither_0 (k == e) _ other))
-        (apart e events (neither_1 (k == e) _ other) p parts.1)
+        rw (events_differ net e k p parts.0 (neither_first (k == e) _ other))
+        (apart e events (neither_second (k == e) _ other) p parts.1)
 
 pub states_distinct : (variables : List StateDecl)
     → names_of (map as_state variables) ≡ map (λ (variable : StateDecl). variable.name) variables
@@ -203,13 +204,13 @@ pub machine_facts : (net : Network) (m : ℕ) (machine : Machine) → Holds net
     → slice_get net.machines m ≡ Some machine → MachineHolds net machine
 machine_facts net m machine hold at =
     let names = and_parts (is_name machine.name) _
-    (passes_of_all machine_holds net.machines m machine hold.machines at) in
-    let numbered = passes_of_all (is_numbered net.domains net.events) net.machines m machine
+    (all_get machine_holds net.machines m machine hold.machines at) in
+    let numbered = all_get (is_numbered net.domains net.events) net.machines m machine
     net.numbered at in
     let n = and_parts (list_all (λ e. nat_lt e (length net.events)) machine.inputs
     && list_all (λ e. nat_lt e (length net.events)) machine.outputs) _ numbered in
     let n2 = and_parts (list_all (λ e. nat_lt e (length net.events)) machine.inputs) _ n.0 in
-    let once = passes_of_all lists_once net.machines m machine net.once at in
+    let once = all_get lists_once net.machines m machine net.once at in
     let o = and_parts (are_different machine.inputs && are_different machine.outputs) _ once in
     let o2 = and_parts (are_different machine.inputs) _ o.0 in
     record {
@@ -220,8 +221,8 @@ machine_facts net m machine hold at =
       outputs_once = o2.1;
       states = names.1;
       states_once = o.1;
-      vars = passes_of_all (has_vars net.domains net.events) net.machines m machine net.sized_vars at;
-      outs = passes_of_all (has_outputs net.domains net.events) net.machines m machine
+      vars = all_get (has_vars net.domains net.events) net.machines m machine net.sized_vars at;
+      outs = all_get (has_outputs net.domains net.events) net.machines m machine
           net.sized_outputs at;
     }
 
@@ -444,7 +445,7 @@ event_is_named : (net : Network) (e : ℕ) → Holds net → e < length net.even
     → is_name (event_name net e) ≡ true
 event_is_named net e hold below =
     let t = event_there net e (lt-ltb _ _ below) in
-    rw t.1 (passes_of_all (λ (event : EventDecl). is_name event.name) net.events e t.0 hold.events t.1)
+    rw t.1 (all_get (λ (event : EventDecl). is_name event.name) net.events e t.0 hold.events t.1)
 
 party_good : (net : Network) (from : Party) → Holds net → is_party net from ≡ true
     → is_word (party_name net from) ≡ true

@@ -7,9 +7,10 @@ use Rattle.std.proofs.lemmas.Bool.{and_parts, not-true, not_from_false, false≢
 use Rattle.std.proofs.lemmas.Option.{option_and_then_some}
 use Rattle.domains.specs.Names.{is_same}
 use Rattle.journal_text.specs.Forms.{Text, Texts, EntryForm, DepForm, FireForm, IdleForm, dash, colon, semicolon, arrow, is_word, list_of, before, after, both, two_lists, four_lists, dep_form, reaction_form, fire_form, idle_form, entry_form}
-use Rattle.polis_base.proofs.AllPass.{all_pass, all_in_both}
+use Rattle.polis_base.proofs.AllPass.{all_pass}
 use Rattle.domains.proofs.Names.{same_texts, same_self, texts_differ}
 use Rattle.journal_text.proofs.Pieces.{words_in}
+use Rattle.polis_base.proofs.Lists.{all_append}
 
 abbrev pub lists_words : Texts × Texts → Texts
 lists_words (a, b) = words_in a ++ semicolon ∷ words_in b
@@ -148,7 +149,7 @@ two_lists_are ws a b h =
 lists_avoid : (a b : Texts) → list_all is_word a ≡ true → list_all is_word b ≡ true
     → avoids arrow (lists_words (a, b)) ≡ true
 lists_avoid a b p q =
-    all_in_both _ (words_in a) (semicolon ∷ words_in b) (words_avoid arrow a refl refl p)
+    all_append _ (words_in a) (semicolon ∷ words_in b) (words_avoid arrow a refl refl p)
     (words_avoid arrow b refl refl q)
 
 pub four_lists_of : (seen given : Texts × Texts) → good_lists seen ≡ true → good_lists given ≡ true

@@ -1,5 +1,5 @@
 -- Names and values that are found by their words.
-use Rattle.std.proofs.Common.{◌≡◌, ◌<◌, ℕ, zero, suc, Bool, true, false, not, ◌&&◌, ◌||◌, nat_le, List, [], ◌∷◌, map, length, Some, refl, arith, slice_get}
+use Rattle.std.proofs.Common.{◌≡◌, ◌<◌, ℕ, zero, suc, true, false, not, ◌&&◌, nat_le, List, [], ◌∷◌, map, length, Some, arith, slice_get}
 use Rattle.std.specs.Prelude.{option_map, unwrap_or}
 use Rattle.std.specs.List.{find, list_any}
 use Rattle.std.proofs.lemmas.Bool.{and_parts, ltb-true, leb-true, not-true}
@@ -12,26 +12,19 @@ use Rattle.domains.specs.declared.domain.Domain.TheVariants.{Names, Range}
 use Rattle.journals.specs.ValueWords.{value_named}
 use Rattle.journal_text.specs.Holding.{values_hold}
 use Rattle.domains.proofs.Names.{same_texts, same_self, texts_differ}
+use Rattle.polis_base.proofs.Bools.{neither_first, neither_second}
 
 -- the text of the thing at a place
 abbrev pub text_at : {X : Type 0} → (X → List ℕ) → List X → ℕ → List ℕ
 text_at f xs k = unwrap_or (option_map f (slice_get xs k)) []
 
-pub neither_0 : (a b : Bool) → (a || b) ≡ false → a ≡ false
-neither_0 true b h = cc
-neither_0 false b h = refl
-
-pub neither_1 : (a b : Bool) → (a || b) ≡ false → b ≡ false
-neither_1 true b h = cc
-neither_1 false b h = h
-
 other_name : {X : Type 0} (f : X → List ℕ) (name : List ℕ) (xs : List X) (k : ℕ)
     → list_any (is_same name) (map f xs) ≡ false → k < length xs
     → is_same name (text_at f xs k) ≡ false
 other_name f name [] k none below = absurd (omega arith)
-other_name f name (x ∷ xs) zero none below = neither_0 (is_same name (f x)) _ none
+other_name f name (x ∷ xs) zero none below = neither_first (is_same name (f x)) _ none
 other_name f name (x ∷ xs) (suc k) none below =
-    other_name f name xs k (neither_1 (is_same name (f x)) _ none) (omega arith)
+    other_name f name xs k (neither_second (is_same name (f x)) _ none) (omega arith)
 
 -- distinct names differ
 pub names_differ : {X : Type 0} (f : X → List ℕ) (xs : List X) (j k : ℕ)

@@ -13,11 +13,12 @@ use Rattle.domains.specs.declared.domain.Domain.TheVariants.{Names, Range}
 use Rattle.journal_text.specs.Forms.{Text, Texts, is_word, is_word_byte}
 use Rattle.journal_text.specs.Items.{is_equals}
 use Rattle.journal_text.specs.Holding.{values_hold}
-use Rattle.polis_base.proofs.AllPass.{all_pass, all_in_both, differ_false}
+use Rattle.polis_base.proofs.AllPass.{all_pass, differ_false}
 use Rattle.polis_base.specs.Pieces.{lacks}
 use Rattle.journal_text.proofs.ItemCodes.{lacks_equals, after_equals}
 use Rattle.journal_text.proofs.Decimals.{digits_of}
 use Rattle.polis_base.proofs.Scans.{begins_continues}
+use Rattle.polis_base.proofs.Lists.{all_append}
 
 -- a byte that passes isn't one that doesn't
 pub byte_differs : (test : ℕ → Bool) (d c : ℕ) → test d ≡ false → test c ≡ true → (c == d) ≡ false
@@ -95,7 +96,7 @@ pub item_word : (name : Text) (value : Option Text) → is_name name ≡ true
 item_word [] value h all = cc
 item_word (c ∷ cs) value h all =
     word_begun c (cs ++ after_equals value) (name_begins c cs h)
-    (all_in_both is_word_byte (c ∷ cs) (after_equals value) (name_bytes (c ∷ cs) h) all)
+    (all_append is_word_byte (c ∷ cs) (after_equals value) (name_bytes (c ∷ cs) h) all)
 
 -- the bytes of the words of a domain
 pub value_bytes : (d : Domain) (v : ℕ) → values_hold d ≡ true → v < size_of d

@@ -20,7 +20,8 @@ use Rattle.journals.specs.ValueWords.{word_code, value_named}
 use Rattle.journal_text.specs.Holding.{values_hold}
 use Rattle.domains.proofs.Names.{same_texts, same_self}
 use Rattle.journal_text.proofs.FormWords.{some_same}
-use Rattle.journal_text.proofs.FoundByName.{value_found, value_has, neither_0, neither_1}
+use Rattle.journal_text.proofs.FoundByName.{value_found, value_has}
+use Rattle.polis_base.proofs.Bools.{neither_first, neither_second}
 
 -- no byte of the text is `=`
 abbrev pub lacks_equals : Text → Bool
@@ -185,13 +186,13 @@ later net named [] codes lack other = tt
 later net named (thing ∷ things) [] lack other = tt
 later net named (thing ∷ things) (zero ∷ codes) lack other =
     later net named things codes (and_parts (lacks_equals thing.0) _ lack).1
-    (neither_1 (is_same named.0 thing.0) _ other)
+    (neither_second (is_same named.0 thing.0) _ other)
 later net named (thing ∷ things) (suc v ∷ codes) lack other =
     rw (
       item_is net thing v,
       name_of_item thing.0 (value_word net thing v)
           (and_parts (lacks_equals thing.0) _ lack).0,
-    ) (neither_0 (is_same named.0 thing.0) _ other)
+    ) (neither_first (is_same named.0 thing.0) _ other)
 
 -- the items of codes that fit give these codes
 pub codes_read : WordsDiffer → (net : Network) (things : List Named) (codes : List ℕ)

@@ -17,7 +17,7 @@ use Rattle.journals.specs.Logs.{max_stamp}
 use Rattle.journal_text.specs.Forms.{Text, Texts, EntryForm, DepForm, FireForm, IdleForm, lines_of, words_of, is_word, is_word_byte, colon, arrow, last_form}
 use Rattle.polis_base.specs.Pieces.{pieces, lacks}
 use Rattle.journal_text.specs.Reading.{Timeline, More, Last, line_says, entry_says, went_on, lines_say, words_say}
-use Rattle.polis_base.proofs.AllPass.{all_pass, all_in_both}
+use Rattle.polis_base.proofs.AllPass.{all_pass}
 use Rattle.journal_text.proofs.Pieces.{words_in}
 use Rattle.polis_base.proofs.TextPieces.{pieces_at, joined_by, pieces_of_joined}
 use Rattle.journal_text.proofs.FormWords.{form_words, lists_words, good_lists, good_form, form_of_words}
@@ -25,6 +25,7 @@ use Rattle.journal_text.proofs.Decimals.{decimal_read, digits_of}
 use Rattle.journal_text.proofs.IsWord.{word_lacks_space, word_lacks_lf, digit_byte}
 use Rattle.journal_text.proofs.EntryForms.{Holds, form_of, entry_joined}
 use Rattle.journal_text.proofs.EntryReadsBack.{form_good, entry_back}
+use Rattle.polis_base.proofs.Lists.{all_append}
 
 -- 1. The bytes of the words of a form.
 abbrev pub all_bytes : Texts → Bool
@@ -41,7 +42,7 @@ words_bytes (w ∷ ws) h = all_pass is_word (λ w. list_all is_word_byte w) word
 lists_bytes : (a b : Texts) → good_lists (a, b) ≡ true → all_bytes (lists_words (a, b)) ≡ true
 lists_bytes a b h =
     let parts = and_parts (list_all is_word a) _ h in
-    all_in_both (λ w. list_all is_word_byte w) (words_in a) _ (words_bytes a parts.0)
+    all_append (λ w. list_all is_word_byte w) (words_in a) _ (words_bytes a parts.0)
     (words_bytes b parts.1)
 
 pub form_bytes : (form : EntryForm) → good_form form ≡ true → all_bytes (form_words form) ≡ true
@@ -53,7 +54,7 @@ form_bytes (FireForm machine (a, b) (d, e)) h =
     let parts = and_parts (is_word machine) _ h in
     let lists = and_parts (good_lists (a, b)) _ parts.1 in
     rw (word_bytes machine parts.0)
-    (all_in_both (λ w. list_all is_word_byte w) (lists_words (a, b)) _ (lists_bytes a b lists.0)
+    (all_append (λ w. list_all is_word_byte w) (lists_words (a, b)) _ (lists_bytes a b lists.0)
     (lists_bytes d e lists.1))
 form_bytes (IdleForm machine (a, b)) h =
     let parts = and_parts (is_word machine) _ h in
@@ -69,7 +70,7 @@ joined_lacks_lf [] h = refl
 joined_lacks_lf (w ∷ []) h = word_lacks_lf w (and_parts (list_all is_word_byte w) _ h).0
 joined_lacks_lf (w ∷ next ∷ ws) h =
     let parts = and_parts (list_all is_word_byte w) _ h in
-    all_in_both (λ c. not (c == 10)) w (32 ∷ joined_by 32 (next ∷ ws)) (word_lacks_lf w parts.0)
+    all_append (λ c. not (c == 10)) w (32 ∷ joined_by 32 (next ∷ ws)) (word_lacks_lf w parts.0)
     (joined_lacks_lf (next ∷ ws) parts.1)
 
 -- 2. An entry's line.
@@ -174,7 +175,7 @@ line_lacks_lf : (stamped : Bool) (net : Network) (stamp : ℕ) (entry : Entry) �
 line_lacks_lf false net stamp entry hold fit ok = entry_lacks_lf net entry hold fit
 line_lacks_lf true net stamp entry hold fit ok =
     ap (lacks 10) (stamp_split stamp (entry_text net entry))
-    ∙ all_in_both (λ c. not (c == 10)) (64 ∷ decimal stamp) (32 ∷ entry_text net entry)
+    ∙ all_append (λ c. not (c == 10)) (64 ∷ decimal stamp) (32 ∷ entry_text net entry)
     (word_lacks_lf (64 ∷ decimal stamp) (stamp_bytes stamp ok))
     (entry_lacks_lf net entry hold fit)
 
@@ -226,7 +227,7 @@ pub last_lacks_lf : (journal : List Entry) (complete : Bool) → length journal 
     → lacks 10 (last_text journal complete) ≡ true
 last_lacks_lf journal complete small =
     ap (lacks 10) (last_split (length journal) complete)
-    ∙ all_in_both (λ c. not (c == 10)) (decimal (length journal)) (32 ∷ ending complete)
+    ∙ all_append (λ c. not (c == 10)) (decimal (length journal)) (32 ∷ ending complete)
     (word_lacks_lf (decimal (length journal)) (decimal_lacks_space (length journal) small))
     (go complete)
   where

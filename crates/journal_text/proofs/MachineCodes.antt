@@ -15,31 +15,23 @@ use Rattle.transition_table.specs.declared.machine.Machine.{Machine}
 use Rattle.transition_table.specs.declared.network.Network.{Network}
 use Rattle.transition_table.specs.declared.snapshot.Snapshot.{Snapshot}
 use Rattle.transition_table.specs.declared.snapshot.Outcome.{Outcome}
-use Rattle.polis_base.proofs.Names.{left_true, right_true}
 use Rattle.journal_text.specs.inner.Texts.{event_size, state_size, set_size, are_event_codes, are_values, are_settings}
-use Rattle.journals.proofs.DeliveriesOfWay.{passes_of_all}
+use Rattle.domains.proofs.FittingCodes.{fits_prefix}
+use Rattle.polis_base.proofs.Bools.{and_first, and_second}
+use Rattle.polis_base.proofs.ListTests.{all_get}
 
 -- codes that fit two lists of sizes, one after the other
 long_enough : (xs ys codes : List ℕ) → fits (xs ++ ys) codes ≡ true → length xs ≤ length codes
 long_enough [] ys codes h = omega arith
 long_enough (x ∷ xs) ys [] h = cc
 long_enough (x ∷ xs) ys (code ∷ codes) h = let r =
-    long_enough xs ys codes (right_true (nat_lt code x) _ h) in omega arith
-
-prefix_fits : (xs ys codes : List ℕ) → fits (xs ++ ys) codes ≡ true
-    → fits xs (take (length xs) codes) ≡ true
-prefix_fits [] ys codes h = refl
-prefix_fits (x ∷ xs) ys [] h = cc
-prefix_fits (x ∷ xs) ys (code ∷ codes) h =
-    let l = left_true (nat_lt code x) _ h in
-    let r = prefix_fits xs ys codes (right_true (nat_lt code x) _ h) in
-    rw (l, r) refl
+    long_enough xs ys codes (and_second (nat_lt code x) _ h) in omega arith
 
 back_fits : (xs ys codes : List ℕ) → fits (xs ++ ys) codes ≡ true
     → fits ys (drop (length xs) codes) ≡ true
 back_fits [] ys codes h = h
 back_fits (x ∷ xs) ys [] h = cc
-back_fits (x ∷ xs) ys (code ∷ codes) h = back_fits xs ys codes (right_true (nat_lt code x) _ h)
+back_fits (x ∷ xs) ys (code ∷ codes) h = back_fits xs ys codes (and_second (nat_lt code x) _ h)
 
 -- the sizes of a machine's variables
 pub vars_are : (net : Network) (m : Machine) → IsTrue (has_vars net.domains net.events m)
@@ -61,7 +53,7 @@ pub inputs_fit : (net : Network) (m : Machine) (s : Snapshot)
 inputs_fit net m s h fit =
     let e = vars_are net m h in
     let f = rw e at fit in
-    let l = prefix_fits (map (event_size net) m.inputs) (map (state_size net) m.states) s.codes f in
+    let l = fits_prefix (map (event_size net) m.inputs) (map (state_size net) m.states) s.codes f in
     rw (length-map m.inputs (event_size net)) at l
 
 pub states_fit : (net : Network) (m : Machine) (s : Snapshot)
@@ -84,8 +76,8 @@ results_are net m vars outs =
     rw v (drop_at _ _ _ (length-map m.inputs (event_size net))) in
     let sets : pointwise ◌==◌ (2 ∷ map (λ size. 1 + size) (drop (length m.inputs) m.vars))
     (take n m.results) ≡ true =
-    right_true (length m.results == n + length m.outputs) _
-    (left_true _ (list_all (nat_le 2) (drop n m.results)) m.sized_results) in
+    and_second (length m.results == n + length m.outputs) _
+    (and_first _ (list_all (nat_le 2) (drop n m.results)) m.sized_results) in
     let prefix = same_text (2 ∷ map (λ size. 1 + size) (drop (length m.inputs) m.vars))
     (take n m.results) (sym sets) in
     let back = same_text (drop n m.results) (map (event_size net) m.outputs) (sym outs) in
@@ -98,7 +90,7 @@ results_are net m vars outs =
 both_fit : (xs ys codes more : List ℕ) → length codes ≡ length xs
     → fits (xs ++ ys) (codes ++ more) ≡ true → (fits xs codes ≡ true) × (fits ys more ≡ true)
 both_fit xs ys codes more same h =
-    let f = prefix_fits xs ys (codes ++ more) h in
+    let f = fits_prefix xs ys (codes ++ more) h in
     let b = back_fits xs ys (codes ++ more) h in
     let t : take (length xs) (codes ++ more) ≡ codes = take_at codes more _ same in
     let d : drop (length xs) (codes ++ more) ≡ more = drop_at codes more _ same in
@@ -132,8 +124,8 @@ pub emitted_fit : (net : Network) (k : ℕ) (s : Snapshot) (o : Outcome) (m : Ma
     → FitsNetwork net (Rea k s o) → slice_get net.machines k ≡ Some m
     → are_event_codes net m.outputs o.outs ≡ true
 emitted_fit net k s o m fit there =
-    let vars = passes_of_all (has_vars net.domains net.events) net.machines k m net.sized_vars there in
-    let outs = passes_of_all (has_outputs net.domains net.events) net.machines k m net.sized_outputs
+    let vars = all_get (has_vars net.domains net.events) net.machines k m net.sized_vars there in
+    let outs = all_get (has_outputs net.domains net.events) net.machines k m net.sized_outputs
     there in
     let is = rw there at fit in
     outputs_fit net m o vars outs is.1

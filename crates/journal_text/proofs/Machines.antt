@@ -9,12 +9,12 @@ use Rattle.journal_text.specs.Items.{machine_named, map_read, both_read, snapsho
 use Rattle.journal_text.specs.Steps.{are_events, are_states}
 use Rattle.journal_text.specs.inner.Steps.{whole}
 use Rattle.journal_text.specs.declared.fault.JournalKind.{JournalKind}
-use Rattle.journals.proofs.DeliveriesOfWay.{passes_of_all}
+use Rattle.polis_base.proofs.ListTests.{all_get}
 
 numbered : (net : Network) (m : ℕ) (machine : Machine) → slice_get net.machines m ≡ Some machine
     → is_numbered net.domains net.events machine ≡ true
 numbered net m machine at =
-    passes_of_all (is_numbered net.domains net.events) net.machines m machine net.numbered at
+    all_get (is_numbered net.domains net.events) net.machines m machine net.numbered at
 
 pub inputs_numbered : (net : Network) (m : ℕ) (machine : Machine)
     → slice_get net.machines m ≡ Some machine → are_events net machine.inputs ≡ true

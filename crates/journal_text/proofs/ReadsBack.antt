@@ -18,11 +18,13 @@ use Rattle.journal_text.specs.Forms.{Text, Texts, lines_of}
 use Rattle.polis_base.specs.Pieces.{pieces, is_nonempty, lacks}
 use Rattle.journal_text.specs.Reading.{Timeline, ReadText, version_of, as_read, body_says, text_says, read_of}
 use Rattle.journal_text.specs.Laws.{ReadsBack, StampedReadsBack, OneJournal, OneStampedJournal, OneVersion, PrefixFaults, StampedPrefixFaults, prefix_fault}
-use Rattle.polis_base.proofs.AllPass.{all_in_both, differ_false}
+use Rattle.polis_base.proofs.AllPass.{differ_false}
 use Rattle.polis_base.proofs.TextPieces.{joined_by, joined_pieces, some_piece}
 use Rattle.journal_text.proofs.EntryForms.{Holds, holds_of}
 use Rattle.journal_text.proofs.EntryIsPrinted.{ok_same}
 use Rattle.journal_text.proofs.LinesSay.{line_text, AllFit, lines_from, entries_lack_lf, last_lacks_lf, last_is_said, entries_passed}
+use Rattle.polis_base.proofs.Lists.{all_append}
+use Rattle.polis_base.proofs.Places.{last_more}
 
 abbrev pub head_text : Bool → Text
 head_text false = codes "polis journal 1"
@@ -46,7 +48,7 @@ printed_lack : (stamped : Bool) (net : Network) (entries : Timeline) (journal : 
     → list_all (lacks 10) (printed_lines stamped net entries (last_text journal complete)) ≡ true
 printed_lack stamped net entries journal complete hold fit small =
     and_from _ _ (head_lacks stamped)
-    (all_in_both (lacks 10) (map (line_text stamped net) entries)
+    (all_append (lacks 10) (map (line_text stamped net) entries)
     (last_text journal complete ∷ []) (entries_lack_lf stamped net entries hold fit)
     (and_from _ _ (last_lacks_lf journal complete small) refl))
 
@@ -239,10 +241,6 @@ pieces_of_prefix mark (c ∷ prefix) more =
     go false p [] last f = ([], c ∷ last, only last p f)
     go false p (i ∷ init) last f = ((c ∷ i) ∷ init, last, inner i init last p f)
 
-last_after : {X : Type 0} (d x : X) (xs : List X) → last_of d (xs ++ x ∷ []) ≡ x
-last_after d x [] = refl
-last_after d x (y ∷ xs) = last_after y x xs
-
 nothing_before : (xs ys : Text) → xs ++ ys ≡ [] → ys ≡ []
 nothing_before [] ys h = h
 nothing_before (x ∷ xs) ys h = cc
@@ -307,7 +305,7 @@ lines_fault differ stamped net prefix last hold fit few =
     let more : (2 + length prefix == 1) ≡ false =
     differ_false (2 + length prefix == 1) (λ e. let same = eqb-true (2 + length prefix) 1 e in
     absurd (omega arith)) in
-    let ends = last_after (head_text stamped) last (map (line_text stamped net) prefix) in
+    let ends = last_more (head_text stamped) last (map (line_text stamped net) prefix) in
     let said : text_says net (head_text stamped ∷ (map (line_text stamped net) prefix ++ last ∷ []))
     ≡ Err (Line (2 + length prefix) (cond (is_nonempty last) Shape End)) =
     first ∙ rw (head_version stamped, passed) refl in
@@ -338,8 +336,8 @@ prefix_is_at_fault differ stamped net entries journal complete prefix c rest hol
     let some : q.1 ≡ [] → ⊥ = λ none.
     let ends : ls ++ [] ∷ [] ≡ f.0 ++ (f.1 ++ q.0) ∷ [] =
     both ∙ ap (λ qs. f.0 ++ (f.1 ++ q.0) ∷ qs) none in
-    let empty : [] ≡ f.1 ++ q.0 = sym (last_after [] [] ls) ∙ ap (last_of []) ends
-    ∙ last_after [] (f.1 ++ q.0) f.0 in
+    let empty : [] ≡ f.1 ++ q.0 = sym (last_more [] [] ls) ∙ ap (last_of []) ends
+    ∙ last_more [] (f.1 ++ q.0) f.0 in
     let piece : q.0 ≡ [] = nothing_before f.1 q.0 (sym empty) in
     let nothing : c ∷ rest ≡ [] = sym (joined_pieces 10 (c ∷ rest))
     ∙ ap (joined_by 10) (q.2 ∙ ap (λ w. w ∷ q.1) piece ∙ ap (λ ws. [] ∷ ws) none) in

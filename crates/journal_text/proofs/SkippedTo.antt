@@ -8,11 +8,12 @@ use Rattle.journal_text.specs.Forms.{Text, Texts, words_of, after}
 use Rattle.polis_base.specs.Pieces.{with_byte, lacks}
 use Rattle.journal_text.specs.Cursors.{NoCut}
 use Rattle.journal_text.specs.inner.Cursors.{SkippedTo}
-use Rattle.polis_base.proofs.AllPass.{all_pass, all_in_both}
+use Rattle.polis_base.proofs.AllPass.{all_pass}
 use Rattle.polis_base.proofs.FirstMark.{NoneBefore, cut_here, prefix_lacks}
 use Rattle.polis_base.proofs.TextPieces.{some_piece}
 use Rattle.journal_text.proofs.FormWords.{avoids}
 use Rattle.journal_text.proofs.CutAt.{Passed, pieces_both, after_past, all_past}
+use Rattle.polis_base.proofs.Lists.{all_append}
 
 -- no piece of a text without the mark has it
 pub pieces_lack : (mark : ℕ) (text : Text) → lacks mark text ≡ true
@@ -65,7 +66,7 @@ no_cut_left mark sign words from tail some first (inr passed) is lack =
     let all : words_of words ≡ words_of passed.0 ++ words_of tail =
     ap words_of (passed.1 ∙ ap (λ t. passed.0 ++ 32 ∷ t) (sym is))
     ∙ pieces_both 32 passed.0 tail in
-    let both = all_in_both (λ w. not (is_same w sign)) (words_of passed.0) (words_of tail)
+    let both = all_append (λ w. not (is_same w sign)) (words_of passed.0) (words_of tail)
     passed.3 free in
     inl (ap (after sign) (all ∙ sym (append-nil (words_of passed.0 ++ words_of tail)))
     ∙ after_past sign (words_of passed.0 ++ words_of tail) [] both)
@@ -95,7 +96,7 @@ passed_on mark sign words from skipped tail some first (inr passed) is within (i
     ∙ sym (append_assoc passed.0 (32 ∷ next.0) (32 ∷ drop skipped tail)) in
     let both : avoids sign (words_of (passed.0 ++ 32 ∷ next.0)) ≡ true =
     ap (avoids sign) (pieces_both 32 passed.0 next.0)
-    ∙ all_in_both (λ w. not (is_same w sign)) (words_of passed.0) (words_of next.0)
+    ∙ all_append (λ w. not (is_same w sign)) (words_of passed.0) (words_of next.0)
     passed.3 free in
     let inner : length (passed.0 ++ 32 ∷ next.0) ≡ length passed.0 + suc (length next.0) =
     length-append passed.0 (32 ∷ next.0) in

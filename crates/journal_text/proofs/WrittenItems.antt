@@ -12,7 +12,7 @@ use Rattle.transition_table.specs.declared.network.Network.{Network}
 use Rattle.journal_text.specs.Texts.{spaced, space, stamped_line}
 use Rattle.journal_text.specs.inner.Texts.{end_mark, event_size, are_event_codes, output_lines}
 use Rattle.std.proofs.lemmas.List.{append-nil}
-use Rattle.polis_base.proofs.Names.{left_true}
+use Rattle.polis_base.proofs.Bools.{and_first}
 
 -- what is still to be written of these items, where some were or none was
 abbrev pub still : Bool → List (List ℕ) → List ℕ
@@ -32,7 +32,7 @@ pub head_fits : {X : Type 0} (size : X → ℕ) (things rest : List X) (codes re
     → IsTrue (fits (map size things) codes) → code < size thing
 head_fits size things rest codes rest_codes thing code p q h =
     let f = rw (p, q) at h in
-    ltb-true _ _ (left_true _ (fits (map size rest) rest_codes) f)
+    ltb-true _ _ (and_first _ (fits (map size rest) rest_codes) f)
 
 -- one list at its end is both
 ends : {X : Type 0} (size : X → ℕ) (things : List X) (codes : List ℕ)

@@ -24,6 +24,8 @@ use Rattle.journals.specs.declared.entry.TraceItem.{TraceItem}
 use Rattle.journals.specs.declared.entry.TraceItem.TheVariants.{Event, Settle}
 use Rattle.journals.specs.Journals.{same_party, inputs_of, reads, is_firing_of, emissions, event_of, sent}
 use Rattle.journals.specs.Schedules.{is_way, event_code, receivers_of, deliveries_of, machine_deliveries, trace_deliveries}
+use Rattle.polis_base.proofs.ListTests.{all_get}
+use Rattle.polis_base.proofs.Places.{map_of_map}
 
 -- ---- lists
 
@@ -43,20 +45,6 @@ filter_of_map p f (x ∷ xs) =
 pub filter_nothing : {X : Type 0} (xs : List X) → filter (λ x. false) xs ≡ []
 filter_nothing [] = refl
 filter_nothing (x ∷ xs) = filter_nothing xs
-
-pub map_of_map : {X Y Z : Type 0} (g : Y → Z) (f : X → Y) (xs : List X)
-    → map g (map f xs) ≡ map (λ x. g (f x)) xs
-map_of_map g f [] = refl
-map_of_map g f (x ∷ xs) = ap (λ l. g (f x) ∷ l) (map_of_map g f xs)
-
--- the test of an item of which all pass
-pub passes_of_all : {X : Type 0} (p : X → Bool) (xs : List X) (i : ℕ) (x : X) → list_all p xs ≡ true
-    → slice_get xs i ≡ Some x → p x ≡ true
-passes_of_all p [] i x h e = cc
-passes_of_all p (y ∷ xs) zero x h e = let same : y ≡ x =
-    cc in subst (λ z. p z ≡ true) same (and_parts (p y) (list_all p xs) h).0
-passes_of_all p (y ∷ xs) (suc i) x h e =
-    passes_of_all p xs i x (and_parts (p y) (list_all p xs) h).1 e
 
 -- the same with the items' places
 pub passes_of_each : {X : Type 0} (p : ℕ × X → Bool) (n i m : ℕ) (xs : List X) (x : X) → n + i ≡ m
@@ -149,7 +137,7 @@ inputs_numbered net m =
       | None ↦ λ e. refl
       | Some machine ↦ λ e.
           let all =
-          passes_of_all
+          all_get
           (is_numbered net.domains net.events) net.machines m machine net.numbered e in
           let inputs : Bool = list_all (λ e. nat_lt e (length net.events)) machine.inputs in
           let outputs : Bool = list_all (λ e. nat_lt e (length net.events)) machine.outputs in

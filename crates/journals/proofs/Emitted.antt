@@ -9,7 +9,7 @@ use Rattle.transition_table.specs.inner.NetworkFacts.{is_numbered}
 use Rattle.transition_table.specs.declared.machine.Machine.{Machine}
 use Rattle.transition_table.specs.declared.network.Network.{Network}
 use Rattle.journals.specs.Journals.{outputs_of, emitted}
-use Rattle.journals.proofs.DeliveriesOfWay.{passes_of_all}
+use Rattle.polis_base.proofs.ListTests.{all_get}
 
 -- an output of a machine is an event
 pub output_is_event : (net : Network) (m : ℕ) (machine : Machine) (k e : ℕ)
@@ -17,12 +17,12 @@ pub output_is_event : (net : Network) (m : ℕ) (machine : Machine) (k e : ℕ)
     → e < length net.events
 output_is_event net m machine k e at is =
     let all =
-    passes_of_all (is_numbered net.domains net.events) net.machines m machine net.numbered at in
+    all_get (is_numbered net.domains net.events) net.machines m machine net.numbered at in
     let inputs = list_all (λ e. nat_lt e (length net.events)) machine.inputs in
     let outputs = list_all (λ e. nat_lt e (length net.events)) machine.outputs in
     let states = list_all (λ state. nat_lt state.domain (length net.domains)) machine.states in
     ltb-true e (length net.events)
-    (passes_of_all (λ e. nat_lt e (length net.events)) machine.outputs k e
+    (all_get (λ e. nat_lt e (length net.events)) machine.outputs k e
     (and_parts inputs outputs (and_parts (inputs && outputs) states all).0).1 is)
 
 pub outputs_of_machine : (net : Network) (m : ℕ) (machine : Machine)

@@ -30,7 +30,8 @@ use Rattle.journals.specs.declared.entry.TraceItem.TheVariants.{Event, Settle}
 use Rattle.journals.specs.Journals.{FitsNetwork, IsJournal, IsTrace, is_trace_item, is_party, is_event_code, same_party, emitted, emissions, delivered}
 use Rattle.journals.specs.Schedules.{receivers_of, deliveries_of, machine_deliveries, trace_deliveries, same_way, keep_unless, unmade, owed_by_machines, owed_by_env, first_woken, first_pick, pick, IsPicked}
 use Rattle.journals.proofs.SnapFits.{reaction_fits}
-use Rattle.journals.proofs.DeliveriesOfWay.{passes_of_all, receivers_are_readers}
+use Rattle.journals.proofs.DeliveriesOfWay.{receivers_are_readers}
+use Rattle.polis_base.proofs.ListTests.{all_get}
 
 abbrev pub is_fitting : Network → Owed → Bool
 is_fitting net d =
@@ -165,7 +166,7 @@ outs_fit net m machine o is fit =
     emitted_fit net machine.outputs o.outs
     (and_parts inputs outputs
     (and_parts (inputs && outputs) states
-    (passes_of_all
+    (all_get
     (is_numbered net.domains net.events) net.machines m machine net.numbered is)).0).1
     (subst (λ sizes. fits sizes o.outs ≡ true) sized
     (subst (λ n. fits (drop n (drop 1 machine.results)) o.outs ≡ true) fit.widths.next
@@ -188,7 +189,7 @@ outs_fit net m machine o is fit =
         drop-drop (length machine.states) 1 machine.results
         ∙ (slice_eq-Decides Decides-eqb (drop (1 + length machine.states) machine.results) sizes
         (pointwise ◌==◌ (drop (1 + length machine.states) machine.results) sizes) refl).0
-        (passes_of_all
+        (all_get
         (has_outputs net.domains net.events) net.machines m machine net.sized_outputs is)
 
 pub emissions_fit : (net : Network) (m : ℕ) (x : Snapshot) (o : Outcome)

@@ -4,7 +4,7 @@ use Rattle.std.specs.List.{list_all}
 use Rattle.std.proofs.Common.{refl, sym, ap, ◌∙◌}
 use Rattle.std.proofs.lemmas.List.{map-append}
 use Rattle.std.proofs.lemmas.List.Folds.{list_all-append}
-use Rattle.std.proofs.lemmas.Bool.{false≢true, eq-eqb, and_parts, and_from}
+use Rattle.std.proofs.lemmas.Bool.{false≢true, eq-eqb, and_parts, and_from, or_left, or_right}
 use Rattle.transition_table.specs.NetworkFacts.{has}
 use Rattle.transition_table.specs.declared.decl.Party.{Party}
 use Rattle.transition_table.specs.declared.decl.Party.TheVariants.{Env, Machine as Sender}
@@ -18,14 +18,6 @@ use Rattle.journals.specs.Laws.{may_arrive, EnvMayArrive, GivenByEnv, GivenByMac
 use Rattle.journals.proofs.FitsNetwork.{receivers_within, emissions_fit}
 use Rattle.journals.proofs.DeliveredBeginsSent.{same_party_self}
 use Rattle.journals.proofs.DeliveriesOfWay.{receivers_once}
-
-pub or_left : (a b : Bool) → a ≡ true → (a || b) ≡ true
-or_left true b h = refl
-or_left false b h = absurd (false≢true h)
-
-pub or_right : (a b : Bool) → b ≡ true → (a || b) ≡ true
-or_right true b h = refl
-or_right false b h = h
 
 all_that_stand : (p : ℕ → Bool) (xs : List ℕ) → ((m : ℕ) → has xs m ≡ true → p m ≡ true)
     → list_all p xs ≡ true

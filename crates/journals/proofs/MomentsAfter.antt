@@ -1,8 +1,8 @@
 -- What one entry more makes of places, states and wakings.
 use Rattle.std.specs.Prelude.{◌≡◌, ℕ, zero, suc, ◌+◌, ◌-◌, ◌<◌, ◌≤◌, Bool, true, false, cond, not, ◌&&◌, ◌||◌, ◌==◌, List, [], ◌∷◌, ◌++◌, map, filter_map, length, drop, replicate, slice_get, slice_index, Option, Some, None, option_map, unwrap_or, IsSomeAnd}
 use Rattle.std.specs.List.{list_any, after_last, suffix_len, prefix_len}
-use Rattle.std.proofs.Common.{inl, inr, refl, sym, ap, ◌∙◌, arith, get_or, set, subst, length-append, add-one}
-use Rattle.std.proofs.lemmas.List.{append-nil, reverse-append, drop_all, drop-append-le, length_push, map-append, get_or_append_left, get_or-append_right, get_or-map, length-map, length-set, get_or_default, get_or-set_other, get_or-set_same, same_lists}
+use Rattle.std.proofs.Common.{inl, inr, refl, sym, ap, ◌∙◌, arith, get_or, set, subst, length-append}
+use Rattle.std.proofs.lemmas.List.{append-nil, reverse-append, drop_all, drop-append-le, length_push, get_or_append_left, get_or-append_right, get_or-map, length-map, length-set, get_or_default, get_or-set_other, get_or-set_same, same_lists}
 use Rattle.std.proofs.lemmas.List.Elements.{filter_map-append}
 use Rattle.std.proofs.lemmas.List.Folds.{list_any-append}
 use Rattle.std.proofs.lemmas.Bool.{eq-eqb, ne_eqb, cases_eq, cases_lt, lt-ltb, le-ltb}
@@ -20,6 +20,7 @@ use Rattle.journals.specs.declared.entry.Entry.TheVariants.{Dep, Rea}
 use Rattle.journals.specs.Journals.{inputs_of, states_of, is_firing_of, is_reaction_of, is_delivery_to, code_brought, buffered, value_set, value_given, initial, state, snap, is_woken}
 use Rattle.journals.specs.Laws.{FittingSuits, SnapWidth}
 use Rattle.journals.specs.Moved.{machine_of, is_dep, code_after, codes_after, moments_of}
+use Rattle.polis_base.proofs.UptoPlaces.{length_upto, map_upto}
 
 -- ---- after the last that passes
 
@@ -178,13 +179,6 @@ is_woken_after journal (Rea k s o) m =
 
 -- ---- tables, one item a machine
 
-pub length_upto : (n : ℕ) → length (upto n) ≡ n
-length_upto zero = refl
-length_upto (suc n) = length_push (upto n) n ∙ rw (length_upto n) (add-one n)
-
-pub upto_more : {X : Type 0} (f : ℕ → X) (n : ℕ) → map f (upto (n + 1)) ≡ map f (upto n) ++ f n ∷ []
-upto_more f n = rw add-one (map-append f (upto n) (n ∷ []))
-
 pub get_or_upto : (n k d : ℕ) → k < n → get_or (upto n) k d ≡ k
 get_or_upto zero k d below = absurd (omega arith)
 get_or_upto (suc n) k d below =
@@ -259,7 +253,7 @@ pub moments_more : (net : Network) (journal : List Entry) (n : ℕ) (s : Snapsho
     → s ≡ snap net journal n
     → map (snap net journal) (upto n) ++ s ∷ [] ≡ map (snap net journal) (upto (n + 1))
 moments_more net journal n s e = ap (λ x. map (snap net journal) (upto n) ++ x ∷ []) e
-    ∙ sym (upto_more (snap net journal) n)
+    ∙ sym (map_upto (snap net journal) n)
 
 -- ---- the snapshot of one machine
 

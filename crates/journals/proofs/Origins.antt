@@ -19,12 +19,7 @@ use Rattle.journals.specs.Stamps.{once_each, origin, stamps_sent}
 use Rattle.journals.specs.StampLaws.{OriginIsBefore}
 use Rattle.journals.proofs.DeliveredBeginsSent.{delivered_own}
 use Rattle.journals.proofs.StampSteps.{prefix_step, length_prefix, entries_with_stamps, take_with_stamps, as_many_sent}
-
-get_left : {X : Type 0} (xs ys : List X) (n : ℕ) (x : X) → slice_get xs n ≡ Some x
-    → slice_get (xs ++ ys) n ≡ Some x
-get_left [] ys n x h = absurd (cc)
-get_left (y ∷ xs) ys zero x h = h
-get_left (y ∷ xs) ys (suc n) x h = get_left xs ys n x h
+use Rattle.polis_base.proofs.Places.{get_stays}
 
 take_one : (xs : List ℕ) (n : ℕ) → n < length xs → take 1 (drop n xs) ≡ get_or xs n 0 ∷ []
 take_one [] n h = absurd (omega arith)
@@ -96,5 +91,5 @@ origin_is_before prefixes steps net trace journal ts p s m event code legal many
       get_or own n 0,
       found.origin_is,
       ap (λ (l : List ℕ). slice_get l n) parts
-          ∙ get_left own later n (get_or own n 0) (slice_get-get_or own n 0 found.within),
+          ∙ get_stays own later n (get_or own n 0) (slice_get-get_or own n 0 found.within),
     )

@@ -24,21 +24,13 @@ use Rattle.journals.specs.Schedules.{is_way, event_code, receivers_of, deliverie
 use Rattle.journals.proofs.DeliveriesOfWay.{filter_of_map, receivers_once, receivers_are_readers, reads_by_machine, read_is_event, env_ways_from}
 use Rattle.journals.proofs.OwedAfter.{own_way, is_made, unmade_append, no_machine_way}
 use Rattle.journals.proofs.StopsWhereComplete.{no_reader}
+use Rattle.polis_base.proofs.ListTests.{count_append}
 
 -- how many of these items are events that m reads
 abbrev pub reads_in : Network → ℕ → List TraceItem → ℕ
 reads_in net m items = length (filter (λ p. reads net m p.0) (filter_map event_of items))
 
 -- ---- lists
-
-count_of_append : {X : Type 0} (p : X → Bool) (xs ys : List X)
-    → count_by p (xs ++ ys) ≡ count_by p xs + count_by p ys
-count_of_append p xs ys =
-    let whole = length-filter p (xs ++ ys) in
-    let left = length-filter p xs in
-    let right = length-filter p ys in
-    let parts = ap length (filter-append p xs ys) ∙ length-append (filter p xs) (filter p ys) in
-    omega arith
 
 count_positive : {X : Type 0} (p : X → Bool) (x : X) (xs : List X) → p x ≡ true
     → 1 ≤ count_by p (x ∷ xs)
@@ -55,7 +47,7 @@ all_made : {X : Type 0} (way : X → Owed) (journal : List Entry) (passed xs : L
 all_made way journal passed [] h = refl
 all_made way journal passed (x ∷ xs) h =
     let below = h (way x).from (way x).to in
-    let parts = count_of_append (λ y. is_way (way x).from (way x).to (way y)) passed (x ∷ xs) in
+    let parts = count_append (λ y. is_way (way x).from (way x).to (way y)) passed (x ∷ xs) in
     let here =
     count_positive (λ y. is_way (way x).from (way x).to (way y)) x xs (own_way (way x)) in
     let made : is_made way journal passed (way x).from (way x).to ≡ true =
@@ -258,7 +250,7 @@ prefix_made : (net : Network) (journal : List Entry) (prefix : List TraceItem) (
     ≤ length (delivered s k journal)
 prefix_made net journal prefix m e code settled before after is below all earlier Env k =
     let sum =
-    count_of_append (λ (p : Owed × Bool). is_way Env k p.0) (trace_deliveries net false prefix)
+    count_append (λ (p : Owed × Bool). is_way Env k p.0) (trace_deliveries net false prefix)
     (to_each e code settled before) in
     let left = count_in_trace net k false prefix in
     let right = count_in_receivers k e code settled before in
@@ -320,7 +312,7 @@ first_of_env_after net journal prefix rest m e code read all earlier left =
     (to_each e code settled split.1 ++ trace_deliveries net false rest) here
     (prefix_made net journal prefix m e code settled split.0 split.1 split.2 split.3 all earlier)
     (let sum =
-    count_of_append (λ (p : Owed × Bool). is_way Env m p.0) (trace_deliveries net false prefix)
+    count_append (λ (p : Owed × Bool). is_way Env m p.0) (trace_deliveries net false prefix)
     (to_each e code settled split.0) in
     let some = count_in_trace net m false prefix in
     omega arith)

@@ -15,6 +15,7 @@ use Rattle.journals.specs.Runs.{lamp_pressed, pong_trace, pong_started, value_ov
 use Rattle.journals.specs.Worked.{IsNotNext, IsAsleep, HasOtherSnapshot, HasOtherOutcome}
 use Rattle.journals.proofs.PickedEntries.{made_legal}
 use Rattle.journals.proofs.Runs.{lamp_once, right}
+use Rattle.transition_table.proofs.Tables.{lamp_unpressed_none}
 
 -- ---- deliveries
 
@@ -50,10 +51,6 @@ other_value = record {
 
 -- ---- reactions
 
-none_dark : (r : ℕ) → is_enabled lamp_machine r (reading (0 ∷ 0 ∷ [])) ≡ false
-none_dark zero = refl
-none_dark (suc r) = refl
-
 none_lit : (r : ℕ) → is_enabled lamp_machine r (reading (0 ∷ 1 ∷ [])) ≡ false
 none_lit zero = refl
 none_lit (suc r) = refl
@@ -74,7 +71,7 @@ before_delivery = record {
   };
   asleep = refl;
   snapshot_is = refl;
-  outcome_is = inr (none_dark, refl);
+  outcome_is = inr (lamp_unpressed_none, refl);
 }
 
 pub second_reaction : IsAsleep lamp press lamp_run 0 (reading (0 ∷ 1 ∷ []))
@@ -103,7 +100,7 @@ stale_snapshot = record {
   };
   woken = refl;
   snapshot_is = refl;
-  outcome_is = inr (none_dark, refl);
+  outcome_is = inr (lamp_unpressed_none, refl);
 }
 
 pub idle_outcome : HasOtherOutcome lamp press lamp_pressed 0 (reading (1 ∷ 0 ∷ []))

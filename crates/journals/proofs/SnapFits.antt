@@ -6,10 +6,8 @@ use Rattle.std.specs.Cmp.Lexicographic.{pointwise}
 use Rattle.std.proofs.Common.{refl, sym, ap, ◌∙◌, subst, inl, inr, arith}
 use Rattle.std.proofs.lemmas.List.{length-map, get_or_append_left, get_or-map, get_or-take, get_or-drop, length-drop, drop_at}
 use Rattle.std.proofs.lemmas.Bool.{false≢true, eqb-true, ltb-true, leb-true, lt-ltb, and_parts, and_from}
-use Rattle.std.proofs.lemmas.Bool.Decides.{Decides-eqb}
 use Rattle.std.proofs.lemmas.Option.{slice_get_cases}
-use Rattle.std.proofs.lemmas.Slice.Eq.{slice_eq-Decides}
-use Rattle.polis_base.specs.Lists.{upto, last_of}
+use Rattle.polis_base.specs.Lists.{upto}
 use Rattle.domains.specs.Tables.{fits, are_sizes}
 use Rattle.transition_table.specs.NetworkFacts.{event_values, values_of, has_vars}
 use Rattle.transition_table.specs.Laws.{TransitionFits}
@@ -22,42 +20,18 @@ use Rattle.transition_table.specs.declared.snapshot.Outcome.{Outcome}
 use Rattle.journals.specs.declared.entry.Entry.{Entry}
 use Rattle.journals.specs.declared.entry.Entry.TheVariants.{Dep, Rea}
 use Rattle.journals.specs.Journals.{FitsNetwork, IsJournal, is_party, is_event_code, inputs_of, states_of, is_firing_of, code_brought, buffered, value_set, value_given, initial, state, snap}
-use Rattle.journals.proofs.MomentsAfter.{length_upto, get_or_upto}
-use Rattle.journals.proofs.DeliveriesOfWay.{passes_of_all}
+use Rattle.journals.proofs.MomentsAfter.{get_or_upto}
 use Rattle.transition_table.proofs.Ranges.{below_size}
+use Rattle.domains.proofs.FittingCodes.{fits_both, fits_from}
+use Rattle.polis_base.proofs.ListTests.{all_get, last_below}
+use Rattle.polis_base.proofs.Places.{same_numbers}
+use Rattle.polis_base.proofs.UptoPlaces.{length_upto}
 
 -- ---- lists
-
-pub fits_after_fits : (sizes more xs ys : List ℕ) → fits sizes xs ≡ true → fits more ys ≡ true
-    → fits (sizes ++ more) (xs ++ ys) ≡ true
-fits_after_fits [] more [] ys h g = g
-fits_after_fits [] more (x ∷ xs) ys h g = absurd (false≢true h)
-fits_after_fits (size ∷ sizes) more [] ys h g = absurd (false≢true h)
-fits_after_fits (size ∷ sizes) more (x ∷ xs) ys h g =
-    let parts = and_parts (nat_lt x size) (fits sizes xs) h in
-    and_from (nat_lt x size) (fits (sizes ++ more) (xs ++ ys)) parts.0
-    (fits_after_fits sizes more xs ys parts.1 g)
-
-fits_from_each : (sizes codes : List ℕ) → length codes ≡ length sizes
-    → ((k : ℕ) → k < length sizes → slice_index codes k < slice_index sizes k)
-    → fits sizes codes ≡ true
-fits_from_each [] [] same h = refl
-fits_from_each [] (c ∷ codes) same h = absurd (omega arith)
-fits_from_each (size ∷ sizes) [] same h = absurd (omega arith)
-fits_from_each (size ∷ sizes) (c ∷ codes) same h =
-    and_from (nat_lt c size) (fits sizes codes) (lt-ltb c size (h 0 (omega arith)))
-    (fits_from_each sizes codes (omega arith) (λ k below. h (suc k) (omega arith)))
 
 get_of_upto : (f : ℕ → ℕ) (n k : ℕ) → k < n → slice_index (map f (upto n)) k ≡ f k
 get_of_upto f n k h = let size = length_upto n in get_or-map f (upto n) k 0 0 (omega arith)
     ∙ ap f (get_or_upto n k 0 h)
-
-last_below : (n d : ℕ) (xs : List ℕ) → d < n → list_all (λ x. nat_lt x n) xs ≡ true
-    → last_of d xs < n
-last_below n d [] h all = h
-last_below n d (x ∷ xs) h all =
-    let parts = and_parts (nat_lt x n) (list_all (λ x. nat_lt x n) xs) all in
-    last_below n x xs (ltb-true x n parts.0) parts.1
 
 -- ---- entries of the network
 
@@ -128,9 +102,6 @@ pointwise_at test (y ∷ xs) (z ∷ ys) zero x h is = let same : y ≡ x =
     cc in subst (λ w. test w z ≡ true) same (and_parts (test y z) (pointwise test xs ys) h).0
 pointwise_at test (y ∷ xs) (z ∷ ys) (suc k) x h is =
     pointwise_at test xs ys k x (and_parts (test y z) (pointwise test xs ys) h).1 is
-
-same_numbers : (xs ys : List ℕ) → pointwise ◌==◌ xs ys ≡ true → xs ≡ ys
-same_numbers xs ys h = (slice_eq-Decides Decides-eqb xs ys (pointwise ◌==◌ xs ys) refl).0 h
 
 -- the sizes of the state variables
 abbrev state_sizes : Machine → List ℕ
@@ -304,7 +275,7 @@ vars_of_inputs net m machine is =
     let states = map (λ state. values_of net.domains (Some state.domain)) machine.states in
     let all : machine.vars ≡ inputs ++ states =
     same_numbers machine.vars (inputs ++ states)
-    (passes_of_all (has_vars net.domains net.events) net.machines m machine net.sized_vars is) in
+    (all_get (has_vars net.domains net.events) net.machines m machine net.sized_vars is) in
     let after : state_sizes machine ≡ states = ap (drop (length machine.inputs)) all
     ∙ drop_at inputs states (length machine.inputs)
     (length-map machine.inputs (λ e. 1 + event_values net.domains net.events e)) in
@@ -324,11 +295,11 @@ snap_fits net journal m machine h is =
     (map (λ e. 1 + event_values net.domains net.events e) machine.inputs ++ state_sizes machine)
     (map (buffered journal m) machine.inputs
     ++ map (state net journal m) (upto (length machine.states))) ≡ true =
-    fits_after_fits (map (λ e. 1 + event_values net.domains net.events e) machine.inputs)
+    fits_both (map (λ e. 1 + event_values net.domains net.events e) machine.inputs)
     (state_sizes machine) (map (buffered journal m) machine.inputs)
     (map (state net journal m) (upto (length machine.states)))
     (places_fit net journal m machine.inputs h)
-    (fits_from_each (state_sizes machine) (map (state net journal m) (upto (length machine.states)))
+    (fits_from (state_sizes machine) (map (state net journal m) (upto (length machine.states)))
     (let size = length-map (upto (length machine.states)) (state net journal m) in let long =
     length_upto (length machine.states) in omega arith)
     (λ x below.

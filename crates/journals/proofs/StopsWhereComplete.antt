@@ -26,6 +26,7 @@ use Rattle.journals.proofs.DeliveredBeginsSent.{delivered_begins_sent, may_follo
 use Rattle.journals.proofs.DeliveriesOfWay.{filter_nothing, machine_ways, env_ways}
 use Rattle.journals.proofs.OwedAfter.{owed_of_way}
 use Rattle.journals.proofs.FirstOfWay.{first_of_machines_may_follow, first_of_env_may_follow}
+use Rattle.polis_base.proofs.Places.{both_empty}
 
 -- ---- lists
 
@@ -38,10 +39,6 @@ begins_all xs ys (rest, h) short =
     let long : length ys ≡ length xs + length rest = ap length h ∙ length-append xs rest in
     let none : rest ≡ [] = nil_from_length rest (omega arith) in
     sym (h ∙ ap (λ l. xs ++ l) none ∙ append-nil xs)
-
-append_nil_parts : {X : Type 0} (xs ys : List X) → xs ++ ys ≡ [] → (xs ≡ []) × (ys ≡ [])
-append_nil_parts [] ys h = (refl, h)
-append_nil_parts (x ∷ xs) ys h = cc
 
 -- ---- who sends nothing
 
@@ -164,7 +161,7 @@ each_fails : (p : ℕ → Bool) (n m : ℕ) → filter p (upto n) ≡ [] → m <
 each_fails p zero m h below = absurd (omega arith)
 each_fails p (suc n) m h below =
     let parts =
-    append_nil_parts (filter p (upto n)) (filter p (n ∷ []))
+    both_empty (filter p (upto n)) (filter p (n ∷ []))
     (sym (filter-append p (upto n) (n ∷ [])) ∙ h) in
     elim (cases_lt m n) [
       | inl under ↦ each_fails p n m parts.0 under

@@ -2,13 +2,9 @@
 use Rattle.std.specs.Prelude.{◌≡◌, ℕ, zero, suc, ◌+◌, ◌<◌, Bool, true, false, ◌||◌, ◌∷◌, []}
 use Rattle.std.specs.List.{list_any}
 use Rattle.std.proofs.Common.{ap, ◌∙◌, ⊎_elim, sym, arith, refl}
-use Rattle.std.proofs.lemmas.Bool.{cases_Bool, cases_lt, false≢true}
+use Rattle.std.proofs.lemmas.Bool.{cases_Bool, cases_lt, false≢true, or_left}
 use Rattle.std.proofs.lemmas.List.Folds.{list_any-append}
 use Rattle.polis_base.specs.Lists.{upto}
-
-or_first : (a b : Bool) → a ≡ true → (a || b) ≡ true
-or_first true b h = refl
-or_first false b h = absurd (false≢true h)
 
 or_last : (a b : Bool) → b ≡ true → (a || (b || false)) ≡ true
 or_last true b h = refl
@@ -25,7 +21,7 @@ any_found p zero k below on = absurd (omega arith)
 any_found p (suc n) k below on =
     list_any-append p (upto n) (n ∷ [])
     ∙ ⊎_elim
-    (λ less. or_first (list_any p (upto n)) (p n || false) (any_found p n k less on))
+    (λ less. or_left (list_any p (upto n)) (p n || false) (any_found p n k less on))
     (λ last.
     let same : n ≡ k = omega arith in
     or_last (list_any p (upto n)) (p n) (ap p same ∙ on)) (cases_lt k n)

@@ -11,7 +11,7 @@ use Rattle.transition_table.specs.inner.NetworkFacts.{has_domain}
 use Rattle.transition_table.specs.declared.decl.EventDecl.{EventDecl}
 use Rattle.transition_table.specs.declared.network.Network.{Network}
 use Rattle.journals.specs.ValueWords.{value_named}
-use Rattle.journals.proofs.DeliveriesOfWay.{passes_of_all}
+use Rattle.polis_base.proofs.ListTests.{all_get}
 
 -- what a search for a value with the word gives
 pub value_answer : WordsDiffer → (d : Domain) (word : List ℕ) (found : Option ℕ) → IsDomain d
@@ -31,7 +31,7 @@ value_answer differ d word (Some v) domain some none =
 pub domain_in : (net : Network) (e : ℕ) (event : EventDecl) → slice_get net.events e ≡ Some event
     → IfSome event.domain (λ d. d < length net.domains)
 domain_in net e event at =
-    go event.domain (passes_of_all (has_domain net.domains) net.events e event net.event_domains at)
+    go event.domain (all_get (has_domain net.domains) net.events e event net.event_domains at)
   where
     go : (o : Option ℕ) → option_map_or (λ d. nat_lt d (length net.domains)) o true ≡ true
         → IfSome o (λ d. d < length net.domains)

@@ -27,7 +27,7 @@ use Rattle.machine_compiler.specs.declared.tallies.Tally.{Tally}
 use Rattle.machine_compiler.specs.Parts.{part_of_compiled, parts_of, codes_in}
 use Rattle.machine_compiler.specs.Lines.{CountsFit, read_by, reactions_of, steps_on}
 use Rattle.machine_compiler.specs.inner.Tallies.{IsTally, AreTallies, AreFew}
-use Rattle.machine_compiler.proofs.DistinctItems.{at_place}
+use Rattle.polis_base.proofs.Places.{some_at}
 
 -- ---- the reactions of one more entry
 no_reaction : (k : ℕ) (seen : List Entry) (entry : Entry) → read_by k entry ≡ None
@@ -259,8 +259,8 @@ pub tallies_few : (net : Network) (all : List (List Instr)) (journal : List Entr
 tallies_few net all journal i ts many room within long a k t at_t =
     let low : k < length net.machines = let l = slice_get_within ts k t at_t in let e = a.long in
     omega arith in
-    let m = at_place net.machines k low in
-    let c = at_place all k (omega (arith, low, many)) in
+    let m = some_at net.machines k low in
+    let c = some_at all k (omega (arith, low, many)) in
     let is = a.each k m.0 c.0 t m.1 c.1 at_t in
     let tries = is.tries in
     let one = few_reactions k (take i journal) in
@@ -293,23 +293,6 @@ journal_first net [] zero j = tt
 journal_first net [] (suc k) j = tt
 journal_first net (entry ∷ entries) zero j = tt
 journal_first net (entry ∷ entries) (suc k) j = (j.0, journal_first net entries k j.1)
-
-pub journal_at : (net : Network) (journal : List Entry) (k : ℕ) (entry : Entry)
-    → IsJournal net journal → slice_get journal k ≡ Some entry → FitsNetwork net entry
-journal_at net [] k entry j e = cc
-journal_at net (x ∷ xs) zero entry j e = let f : x ≡ entry = cc in subst (FitsNetwork net) f j.0
-journal_at net (x ∷ xs) (suc k) entry j e = journal_at net xs k entry j.1 e
-
-pub first_more : (journal : List Entry) (k : ℕ) (entry : Entry) → slice_get journal k ≡ Some entry
-    → take (k + 1) journal ≡ take k journal ++ entry ∷ []
-first_more journal k entry e = let f : k + 1 ≡ suc k = omega arith in
-    ap (λ (n : ℕ). take n journal) f ∙ go journal k e
-  where
-    go : (xs : List Entry) (k : ℕ) → slice_get xs k ≡ Some entry
-        → take (suc k) xs ≡ take k xs ++ entry ∷ []
-    go [] k e = cc
-    go (x ∷ xs) zero e = let f : x ≡ entry = cc in ap (λ (y : Entry). y ∷ []) f
-    go (x ∷ xs) (suc k) e = ap (λ (ys : List Entry). x ∷ ys) (go xs k e)
 
 -- ---- at a reaction
 -- what is known of the machine that reacts, and of its tally
@@ -348,7 +331,7 @@ pub here : (net : Network) (all : List (List Instr)) (ts : List Tally) (entry : 
 here net all ts entry k s o c before fit is at_c value tallied =
     let fits_here = subst (FitsNetwork net) is fit in
     let low : k < length net.machines = reacting net k s o fits_here in
-    let m = at_place net.machines k low in
+    let m = some_at net.machines k low in
     let low_tally : k < length ts = let e = tallied.1.long in omega arith in
     let tally : slice_get ts k ≡ Some before =
     slice_get_read ts (length ts) k before refl low_tally value in

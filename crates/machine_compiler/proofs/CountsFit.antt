@@ -13,7 +13,8 @@ use Rattle.machine_compiler.specs.Laws.{RightCountsFit}
 use Rattle.machine_compiler.specs.Lines.{reactions_of, steps_on}
 use Rattle.machine_compiler.specs.Parts.{IsRightPart, codes_in}
 use Rattle.machine_compiler.proofs.AreTallies.{snapshot_of, steps_cons}
-use Rattle.machine_compiler.proofs.DistinctItems.{at_place, mapped}
+use Rattle.machine_compiler.proofs.DistinctItems.{mapped}
+use Rattle.polis_base.proofs.Places.{some_at}
 
 few_on : (net : Network) (k : ℕ) (m : Machine) (q : Part) (journal : List Entry)
     → slice_get net.machines k ≡ Some m
@@ -50,7 +51,7 @@ right_counts_fit net parts journal right is long = inr each
         let q = mapped (λ (p : Part). p.code) parts k code at in
         let low : k < length net.machines =
         let l = slice_get_within parts k q.0 q.1 in let e = right.long in omega arith in
-        let m = at_place net.machines k low in
+        let m = some_at net.machines k low in
         let few = few_on net k m.0 q.0 journal m.1 (right.each k m.0 q.0 m.1 q.1) is in
         let same = ap (λ (c : List Instr). steps_on c (reactions_of k journal)) q.2 in
         omega (arith, few, same, long)

@@ -4,15 +4,11 @@ use Rattle.std.specs.List.{list_any}
 use Rattle.std.proofs.lemmas.Bool.{and_parts, and_from, eq-eqb, cases_lt, not-true}
 use Rattle.domains.specs.Names.{is_same, are_distinct}
 use Rattle.transition_table.specs.NetworkFacts.{has, are_different}
-use Rattle.task_code.proofs.Labels.{front, behind}
+use Rattle.task_code.proofs.Labels.{behind}
 use Rattle.order_sift.proofs.Different.{any_item}
+use Rattle.polis_base.proofs.Places.{get_left}
 
 -- ---- items of lists
-pub at_place : {X : Type 0} (xs : List X) (i : ℕ) → i < length xs
-    → (x : X) × (slice_get xs i ≡ Some x)
-at_place [] i low = absurd (omega arith)
-at_place (x ∷ xs) zero low = (x, refl)
-at_place (x ∷ xs) (suc i) low = at_place xs i (omega arith)
 
 pub mapped : {X Y : Type 0} (f : X → Y) (xs : List X) (i : ℕ) (y : Y)
     → slice_get (map f xs) i ≡ Some y → (x : X) × (slice_get xs i ≡ Some x) × (f x ≡ y)
@@ -38,7 +34,7 @@ apart_both {X = X} xs ys ax ay none i j x ei ej =
     n = length xs
 
     at_first : (k : ℕ) → k < length xs → slice_get (xs ++ ys) k ≡ Some x → slice_get xs k ≡ Some x
-    at_first k low e = sym (front xs ys k low) ∙ e
+    at_first k low e = sym (get_left xs ys k low) ∙ e
 
     at_second : (k : ℕ) → length xs ≤ k → slice_get (xs ++ ys) k ≡ Some x
         → slice_get ys (k - length xs) ≡ Some x

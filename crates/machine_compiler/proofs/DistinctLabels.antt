@@ -17,13 +17,13 @@ use Rattle.journal_text.specs.Holding.{names_hold, has_name_token, state_has_nam
 use Rattle.task_code.proofs.Labels.{ins, sts, tos, outs}
 use Rattle.transition_table.specs.NetworkNames.{event_name}
 use Rattle.task_code.specs.Listings.{labels, label}
-use Rattle.machine_compiler.proofs.DistinctItems.{Apart, at_place, apart_mapped, distinct_apart, different_apart}
+use Rattle.machine_compiler.proofs.DistinctItems.{Apart, apart_mapped, distinct_apart, different_apart}
 use Rattle.machine_compiler.proofs.CutAtByte.{lacks}
 use Rattle.machine_compiler.proofs.IsLabel.{IsLabel, Each, each_both, each_mapped, Five, five_apart, first, name_lacks}
-use Rattle.journals.proofs.DeliveriesOfWay.{passes_of_all}
-use Rattle.domains.proofs.AllCodes.{long_map}
 use Rattle.transition_table.proofs.Ranges.{vars_length}
-use Rattle.outcome_table.proofs.Rows.{results_long}
+use Rattle.polis_base.proofs.ListTests.{all_get}
+use Rattle.polis_base.proofs.Places.{length_append, length_map, some_at}
+use Rattle.transition_table.proofs.MachineCounts.{results_long}
 
 -- what the types of a network keep of the words for a machine
 pub record Names (net : Network) (m : Machine) : Type 0 where
@@ -42,18 +42,18 @@ names_of net k m hold is =
     let outputs = list_all (λ e. ltb e (length net.events)) m.outputs in
     let states = list_all (λ (state : StateDecl). ltb state.domain (length net.domains)) m.states in
     let numbered = and_parts (inputs && outputs) states
-    (passes_of_all (is_numbered net.domains net.events) net.machines k m net.numbered is) in
+    (all_get (is_numbered net.domains net.events) net.machines k m net.numbered is) in
     let ports = and_parts inputs outputs numbered.0 in
     let names = map (λ (state : StateDecl). state.name) m.states in
     let once = and_parts (are_different m.inputs && are_different m.outputs) (are_distinct names)
-    (passes_of_all lists_once net.machines k m net.once is) in
+    (all_get lists_once net.machines k m net.once is) in
     let ports_once = and_parts (are_different m.inputs) (are_different m.outputs) once.0 in
     let events = list_all has_name_token net.events in
     let machines = list_all machine_holds net.machines in
     let holds = and_parts events machines
     (and_parts (events && machines) (list_all values_hold net.domains) hold).0 in
     let machine = and_parts (is_name m.name) (list_all state_has_name m.states)
-    (passes_of_all machine_holds net.machines k m holds.1 is) in
+    (all_get machine_holds net.machines k m holds.1 is) in
     record {
       inputs_numbered = ports.0;
       outputs_numbered = ports.1;
@@ -107,13 +107,13 @@ record Named (net : Network) (e : ℕ) : Type 0 where
 named : (net : Network) (m : Machine) (e : ℕ) → Names net m → ltb e (length net.events) ≡ true
     → Named net e
 named net m e names low =
-    let r = at_place net.events e (ltb-true e (length net.events) low) in
+    let r = some_at net.events e (ltb-true e (length net.events) low) in
     record {
       event = r.0;
       is = r.1;
       words = ap (λ (o : Option EventDecl). unwrap_or
           (option_map (λ (event : EventDecl). event.name) o) []) r.1;
-      token = passes_of_all has_name_token net.events e r.0 names.event_names r.1;
+      token = all_get has_name_token net.events e r.0 names.event_names r.1;
     }
 
 same_event : (net : Network) (e f : ℕ) → Named net e → Named net f
@@ -134,16 +134,16 @@ module _ (net : Network) (m : Machine) (names : Names net m) where
   input_named : (i e : ℕ) → slice_get m.inputs i ≡ Some e → Named net e
   input_named i e is =
       named net m e names
-      (passes_of_all (λ e. ltb e (length net.events)) m.inputs i e names.inputs_numbered is)
+      (all_get (λ e. ltb e (length net.events)) m.inputs i e names.inputs_numbered is)
 
   output_named : (i e : ℕ) → slice_get m.outputs i ≡ Some e → Named net e
   output_named i e is =
       named net m e names
-      (passes_of_all (λ e. ltb e (length net.events)) m.outputs i e names.outputs_numbered is)
+      (all_get (λ e. ltb e (length net.events)) m.outputs i e names.outputs_numbered is)
 
   state_named : (i : ℕ) (state : StateDecl) → slice_get m.states i ≡ Some state
       → is_name state.name ≡ true
-  state_named i state is = passes_of_all state_has_name m.states i state names.state_names is
+  state_named i state is = all_get state_has_name m.states i state names.state_names is
 
   states_apart : (i j : ℕ) (x : List ℕ)
       → slice_get (map (λ (state : StateDecl). state.name) m.states) i ≡ Some x
@@ -245,7 +245,7 @@ module _ (net : Network) (m : Machine) (names : Names net m) where
   -- ---- by number
   label_at : (i : ℕ) → i < length (labels net m) → slice_get (labels net m) i ≡ Some (label net m i)
   label_at i low =
-      let r = at_place (labels net m) i low in
+      let r = some_at (labels net m) i low in
       r.1 ∙ ap (λ (w : List ℕ). Some w) (sym (ap (λ (o : Option (List ℕ)). unwrap_or o []) r.1))
 
   pub is_label : (i : ℕ) → i < length (labels net m) → IsLabel (label net m i)
@@ -258,9 +258,6 @@ module _ (net : Network) (m : Machine) (names : Names net m) where
       (label_at j lj)
 
 -- ---- how many there are
-long_both : {X : Type 0} (xs ys : List X) → length (xs ++ ys) ≡ length xs + length ys
-long_both [] ys = omega arith
-long_both (x ∷ xs) ys = let r = long_both xs ys in omega arith
 
 -- a word for each variable and each result
 pub long_labels : (net : Network) (m : Machine)
@@ -271,20 +268,20 @@ long_labels net m =
     let tos = map (λ (state : StateDecl). codes "to " ++ state.name) m.states in
     let outs = map (λ e. codes "out " ++ event_name net e) m.outputs in
     let a : length ins ≡ length m.inputs =
-    long_map (λ e. codes "in " ++ event_name net e) m.inputs in
+    length_map (λ e. codes "in " ++ event_name net e) m.inputs in
     let b : length sts ≡ length m.states =
-    long_map (λ (state : StateDecl). codes "st " ++ state.name) m.states in
+    length_map (λ (state : StateDecl). codes "st " ++ state.name) m.states in
     let c : length tos ≡ length m.states =
-    long_map (λ (state : StateDecl). codes "to " ++ state.name) m.states in
+    length_map (λ (state : StateDecl). codes "to " ++ state.name) m.states in
     let d : length outs ≡ length m.outputs =
-    long_map (λ e. codes "out " ++ event_name net e) m.outputs in
+    length_map (λ e. codes "out " ++ event_name net e) m.outputs in
     let v = vars_length m in
     let r = results_long m in
     let e : length (labels net m) ≡ length ((ins ++ sts) ++ (codes "go" ∷ tos)) + length outs =
-    long_both ((ins ++ sts) ++ (codes "go" ∷ tos)) outs in
+    length_append ((ins ++ sts) ++ (codes "go" ∷ tos)) outs in
     let f : length ((ins ++ sts) ++ (codes "go" ∷ tos))
     ≡ length (ins ++ sts) + length (codes "go" ∷ tos) =
-    long_both (ins ++ sts) (codes "go" ∷ tos) in
-    let g : length (ins ++ sts) ≡ length ins + length sts = long_both ins sts in
+    length_append (ins ++ sts) (codes "go" ∷ tos) in
+    let g : length (ins ++ sts) ≡ length ins + length sts = length_append ins sts in
     let h : length (codes "go" ∷ tos) ≡ length tos + 1 = omega arith in
     omega arith

@@ -7,17 +7,7 @@ use Rattle.machine_compiler.specs.declared.compiled.Compiled.{Compiled}
 use Rattle.machine_compiler.specs.declared.shares.CompiledAt.{CompiledAt}
 use Rattle.machine_compiler.specs.Parts.{IsRightPart, part_of_compiled}
 use Rattle.machine_compiler.specs.inner.Shares.{IsRightAt, AreRightEach, StandsAt, HasPlaces}
-
--- what holds of each item of a list, and of one more
-each_more : {X : Type 0} (P : X → Type 0) (xs : List X) (x : X)
-    → ((i : ℕ) (y : X) → slice_get xs i ≡ Some y → P y)
-    → P x
-    → (i : ℕ) (y : X) → slice_get (xs ++ x ∷ []) i ≡ Some y → P y
-each_more P [] x all holds zero y at = let same : x ≡ y = cc in subst P same holds
-each_more P [] x all holds (suc i) y at = absurd cc
-each_more P (z ∷ xs) x all holds zero y at = all zero y at
-each_more P (z ∷ xs) x all holds (suc i) y at =
-    each_more P xs x (λ j w there. all (suc j) w there) holds i y at
+use Rattle.polis_base.proofs.Places.{each_more, length_set}
 
 -- a share with one more
 pub share_more : (net : Network) (share new : List CompiledAt) (one : CompiledAt)
@@ -52,11 +42,6 @@ nothing_placed net places long empty = record {
 
 -- ---- one item in the place of another
 
-long_set : {X : Type 0} (xs : List X) (k : ℕ) (x : X) → length (slice_set xs k x) ≡ length xs
-long_set [] k x = refl
-long_set (y ∷ xs) zero x = refl
-long_set (y ∷ xs) (suc k) x = ap suc (long_set xs k x)
-
 -- an item of the new list is the new one at its place, or stood there before
 in_set : {X : Type 0} (P : ℕ → X → Type 0) (xs : List X) (k : ℕ) (x : X)
     → ((i : ℕ) (y : X) → slice_get xs i ≡ Some y → P i y)
@@ -77,7 +62,7 @@ pub placed : (net : Network) (places new : List (Option Compiled)) (k : ℕ) (co
     → HasPlaces net new
 placed net places new k compiled has set right = record {
   long = ap (λ (l : List (Option Compiled)). length l) set
-      ∙ long_set places k (Some compiled) ∙ has.long;
+      ∙ length_set places k (Some compiled) ∙ has.long;
   right = λ i place at.
       in_set (StandsAt net) places k (Some compiled) has.right here
       i place (ap (λ (l : List (Option Compiled)). slice_get l i) (sym set) ∙ at);

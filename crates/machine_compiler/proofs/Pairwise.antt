@@ -1,5 +1,5 @@
 -- Parts and lines, written one after another.
-use Rattle.std.proofs.Common.{◌≡◌, ⊎_elim, ◌⊎◌, inl, inr, ℕ, zero, suc, ◌+◌, ◌<◌, ◌≤◌, List, ◌∷◌, ◌++◌, length, drop, min, slice_get, Option, Some, None, refl, ap, sym, subst, ◌∙◌, arith, append_assoc, []}
+use Rattle.std.proofs.Common.{◌≡◌, ⊎_elim, ◌⊎◌, inl, inr, ℕ, suc, ◌+◌, ◌<◌, ◌≤◌, List, ◌∷◌, ◌++◌, length, drop, min, slice_get, Option, Some, None, refl, ap, sym, subst, ◌∙◌, arith, append_assoc, []}
 use Rattle.std.specs.Prelude.{IsSomeAnd, option_map}
 use Rattle.std.proofs.lemmas.Bool.{cases_lt}
 use Rattle.std.proofs.lemmas.List.{append-nil, drop-map}
@@ -12,13 +12,7 @@ use Rattle.task_code.specs.Listings.{Part, part_text, parts_text}
 use Rattle.machine_compiler.specs.declared.compiled.Compiled.{Compiled}
 use Rattle.machine_compiler.specs.Parts.{part_of_compiled, parts_of, codes_in}
 use Rattle.machine_compiler.specs.Lines.{side_by_side}
-use Rattle.task_code.proofs.NumberedLines.{drop_one}
-
-drop_all : {X : Type 0} (xs : List X) (k : ℕ) → length xs ≤ k → drop k xs ≡ []
-drop_all [] zero high = refl
-drop_all [] (suc k) high = refl
-drop_all (x ∷ xs) zero high = absurd (omega arith)
-drop_all (x ∷ xs) (suc k) high = drop_all xs k (omega arith)
+use Rattle.polis_base.proofs.Places.{drop_one, drop_past}
 
 -- ---- codes
 pub more_codes : (cs : List Compiled) (k : ℕ) (c : Compiled) (out new : List (List Instr))
@@ -39,7 +33,7 @@ pub all_codes_in : (cs : List Compiled) (k : ℕ) (out whole : List (List Instr)
     → out ++ codes_in (parts_of (drop k cs)) ≡ whole → out ≡ whole
 all_codes_in cs k out whole high is =
     sym (append-nil out) ∙ ap (λ (ds : List Compiled). out ++ codes_in (parts_of ds))
-    (sym (drop_all cs k high)) ∙ is
+    (sym (drop_past cs k high)) ∙ is
 
 -- ---- texts of machines and parts, side by side
 -- the text of machines and what stands at their places is that of each pair, one after another
@@ -133,12 +127,12 @@ all_pairs one text pairs ms cs k out whole is end =
 
     few_machines : length ms ≤ k → out ≡ whole
     few_machines high =
-        nothing (ap (λ (ns : List Machine). text k ns (parts_of (drop k cs))) (drop_all ms k high)
+        nothing (ap (λ (ns : List Machine). text k ns (parts_of (drop k cs))) (drop_past ms k high)
         ∙ pairs.no_machine k (parts_of (drop k cs)))
 
     few_parts : length cs ≤ k → out ≡ whole
     few_parts high =
-        nothing (ap (λ (ds : List Compiled). text k (drop k ms) (parts_of ds)) (drop_all cs k high)
+        nothing (ap (λ (ds : List Compiled). text k (drop k ms) (parts_of ds)) (drop_past cs k high)
         ∙ pairs.no_part k (drop k ms))
 
 -- one more part
@@ -182,6 +176,3 @@ three_texts old one two new a b c e f g =
     g
     ∙ ap (λ (xs : List ℕ). xs ++ c) (f ∙ ap (λ (xs : List ℕ). xs ++ b) e ∙ append_assoc old a b)
     ∙ append_assoc old (a ++ b) c
-
-pub two_texts : (old one new a b : List ℕ) → one ≡ old ++ a → new ≡ one ++ b → new ≡ old ++ (a ++ b)
-two_texts old one new a b e f = f ∙ ap (λ (xs : List ℕ). xs ++ b) e ∙ append_assoc old a b

@@ -14,7 +14,8 @@ use Rattle.machine_compiler.specs.declared.tallies.Tally.{Tally}
 use Rattle.machine_compiler.specs.Parts.{part_of_compiled, parts_of, codes_in, IsRightPart, AreRightParts}
 use Rattle.machine_compiler.specs.inner.Tallies.{AreTallies}
 use Rattle.machine_compiler.proofs.DistinctItems.{mapped}
-use Rattle.task_code.proofs.Labels.{front, behind}
+use Rattle.task_code.proofs.Labels.{behind}
+use Rattle.polis_base.proofs.Places.{get_left}
 
 -- what holds of each machine and the item at its place
 abbrev pub Paired : {X : Type 0} → (Machine → X → Type 0) → List Machine → List X → Type 0
@@ -41,7 +42,7 @@ more_paired {X = X} P ms xs new k m x so_far long e at_m holds j n y at_n at_y =
     ⊎_elim (before there) (last there) (cases_lt j (length xs))
   where
     before : slice_get (xs ++ x ∷ []) j ≡ Some y → j < length xs → P n y
-    before there low = so_far j n y at_n (sym (front xs (x ∷ []) j low) ∙ there)
+    before there low = so_far j n y at_n (sym (get_left xs (x ∷ []) j low) ∙ there)
 
     only : (i : ℕ) → slice_get (x ∷ []) i ≡ Some y → (i ≡ 0) × (x ≡ y)
     only zero f = let g : x ≡ y = cc in (refl, g)

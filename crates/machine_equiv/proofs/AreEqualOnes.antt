@@ -6,7 +6,7 @@ use Rattle.std.proofs.lemmas.Option.{get_or_from_slice_get, slice_get_within}
 use Rattle.domains.specs.AllCodes.{all_codes}
 use Rattle.outcome_table.specs.Outcomes.{AreColumns, are_named, named}
 use Rattle.machine_equiv.specs.inner.FirstOthers.{AreEqualOnes}
-use Rattle.outcome_table.proofs.ListMaps.{all_get}
+use Rattle.polis_base.proofs.ListTests.{all_get}
 
 pub number_low : (outcomes : List (List ℕ)) (numbers : List ℕ) (i number : ℕ)
     → are_named outcomes numbers → slice_get numbers i ≡ Some number → number < length outcomes

@@ -9,8 +9,8 @@ use Rattle.transition_table.specs.declared.machine.Machine.{Machine}
 use Rattle.transition_table.specs.declared.network.Network.{Network}
 use Rattle.machine_equiv.specs.inner.Agreeing.{AgreeBelow, AreSameStates, IsSameEvent, IsSameMachine, IsSameState}
 use Rattle.machine_equiv.specs.Shapes.{SameEvents, SameMachines, event_words, of_states, state_words}
-use Rattle.outcome_table.proofs.ListMaps.{all_get}
 use Rattle.machine_equiv.proofs.AgreeBelow.{at_both, column}
+use Rattle.polis_base.proofs.ListTests.{all_get}
 
 module _ (a b : Network) where
   -- ---- events

@@ -1,7 +1,6 @@
 -- A comparison has one answer.
-use Rattle.std.proofs.Common.{◌≡◌, ◌⊎◌, ⊎_elim, inl, inr, ℕ, ◌==◌, true, List, slice_get, Some, None, refl, sym, ap, ◌∙◌, subst, arith}
-use Rattle.std.specs.Cmp.Lexicographic.{pointwise, same_text, other_text}
-use Rattle.std.proofs.lemmas.Bool.{cases_Bool, cases_lt}
+use Rattle.std.proofs.Common.{◌≡◌, ◌⊎◌, ⊎_elim, inl, inr, ℕ, true, List, slice_get, Some, None, refl, sym, ap, ◌∙◌, subst, arith}
+use Rattle.std.proofs.lemmas.Bool.{cases_lt}
 use Rattle.domains.specs.Tables.{fits}
 use Rattle.transition_table.specs.Computed.{result_codes}
 use Rattle.transition_table.specs.Transitions.{reading, IsDeterministic, AreDeterministic}
@@ -17,16 +16,10 @@ use Rattle.machine_equiv.specs.Laws.{SameShapeSameForms, NoDifference, OneCompar
 use Rattle.machine_equiv.specs.Shapes.{SameShape, SameForm}
 use Rattle.machine_equiv.proofs.DifferOn.{differ_on, same_on}
 use Rattle.machine_equiv.proofs.SameForm.{form_same}
+use Rattle.polis_base.proofs.Places.{same_or_not}
 
 pub same_forms : SameShapeSameForms
 same_forms a b k x y shape x_is y_is = form_same a b shape k x y x_is y_is
-
-same_or_not : (xs ys : List ℕ) → (xs ≡ ys) ⊎ (xs ≡ ys → ⊥)
-same_or_not xs ys =
-    elim (cases_Bool (pointwise ◌==◌ xs ys)) [
-      | inl same ↦ inl (same_text xs ys (sym same))
-      | inr differ ↦ inr (other_text xs ys (sym differ))
-    ]
 
 -- tables that say the same differ nowhere
 no_other : (a b : Machine) (s : Snapshot) → SameForm a b → IsDeterministic b → SameTable a b

@@ -1,7 +1,7 @@
 -- Networks of one shape have machines of one form, and the same lists by number.
-use Rattle.std.proofs.Common.{◌≡◌, ℕ, ◌+◌, ◌==◌, Bool, true, false, ◌&&◌, List, [], ◌∷◌, ◌++◌, map, length, take, drop, slice_get, Option, Some, None, option_map, unwrap_or, nat_lt, nat_le, refl, sym, ap, ◌∙◌}
+use Rattle.std.proofs.Common.{◌≡◌, ℕ, ◌+◌, ◌==◌, Bool, false, ◌&&◌, List, [], ◌∷◌, ◌++◌, map, length, take, drop, slice_get, Option, Some, None, option_map, unwrap_or, nat_lt, nat_le, refl, sym, ap, ◌∙◌}
 use Rattle.std.specs.List.{list_all}
-use Rattle.std.specs.Cmp.Lexicographic.{pointwise, same_text}
+use Rattle.std.specs.Cmp.Lexicographic.{pointwise}
 use Rattle.std.proofs.lemmas.Bool.{and_parts}
 use Rattle.std.proofs.lemmas.List.{take-append-drop}
 use Rattle.domains.specs.Domains.{size_of}
@@ -15,13 +15,10 @@ use Rattle.transition_table.specs.declared.network.Network.{Network}
 use Rattle.journals.specs.Journals.{inputs_of, outputs_of, states_of, initial, is_event_code}
 use Rattle.journals.specs.Outputs.{goes_out}
 use Rattle.machine_equiv.specs.Shapes.{words_of, words_in, event_words, state_words, of_states, SameShape, SameForm}
-use Rattle.outcome_table.proofs.ListMaps.{all_get}
 use Rattle.machine_equiv.proofs.WordsOf.{long_words}
 use Rattle.machine_equiv.proofs.AgreeBelow.{at_place, at_both, same_long}
-
--- numbers of which a test says that they are the same
-same_numbers : (xs ys : List ℕ) → pointwise ◌==◌ xs ys ≡ true → xs ≡ ys
-same_numbers xs ys h = same_text xs ys (sym h)
+use Rattle.polis_base.proofs.ListTests.{all_get}
+use Rattle.polis_base.proofs.Places.{same_numbers}
 
 -- ---- numbers of values
 

@@ -24,9 +24,9 @@ use Rattle.machine_equiv.specs.Shapes.{SameShape, SameForm}
 use Rattle.domains.proofs.AllCodes.{lists_all, stands_at_rank, stands_once}
 use Rattle.transition_table.proofs.Determinism.{one_row}
 use Rattle.transition_table.proofs.Tables.{agreeing}
-use Rattle.outcome_table.proofs.ListMaps.{all_get}
 use Rattle.machine_equiv.proofs.DifferOn.{codes_differ, differ_on, same_on}
 use Rattle.machine_equiv.proofs.OneComparison.{one_comparison}
+use Rattle.polis_base.proofs.ListTests.{all_get}
 
 get_taken : {X : Type 0} (xs : List X) (i k : ℕ) → k < i → slice_get (take i xs) k ≡ slice_get xs k
 get_taken xs zero k low = absurd (omega arith)

@@ -1,5 +1,5 @@
 -- What is kept of the emissions, where one receiver is less or an emission is more.
-use Rattle.std.specs.Prelude.{◌≡◌, ◌≢◌, ℕ, ◌+◌, ◌*◌, ◌<◌, ◌≤◌, Bool, true, false, ◌&&◌, ◌==◌, List, [], ◌∷◌, ◌++◌, length, drop, get_or, set}
+use Rattle.std.specs.Prelude.{◌≡◌, ◌≢◌, ℕ, ◌+◌, ◌*◌, ◌<◌, ◌≤◌, true, false, ◌&&◌, ◌==◌, List, [], ◌∷◌, ◌++◌, length, drop, get_or, set}
 use Rattle.std.specs.Int.{bit_at}
 use Rattle.std.proofs.Common.{refl, sym, ap, ◌∙◌, inl, inr, arith, append_assoc}
 use Rattle.std.proofs.lemmas.List.{length-set, get_or_default, get_or-set_same, get_or-set_other}
@@ -12,10 +12,7 @@ use Rattle.net_core.specs.declared.config.emissions.Emission.{Emission}
 use Rattle.net_core.specs.Emissions.{waits, no_emission, nth, waiting, all_waiting, no_place, IsChain, IsQueue, IsMore}
 use Rattle.net_core.proofs.Chains.{at_set, chain_same, chain_more, IsLinked, linked}
 use Rattle.net_core.proofs.OwedByEmissions.{strike_at_place, way_taken, set_same, new_more}
-
-and_false : (b : Bool) → (b && false) ≡ false
-and_false true = refl
-and_false false = refl
+use Rattle.polis_base.proofs.Bools.{and_none}
 
 -- a receiver that doesn't wait doesn't where one waits less
 waits_less : (s m to rest : ℕ) (r : Emission) → m < 64 → bit_at rest to ≡ 0
@@ -24,7 +21,7 @@ waits_less : (s m to rest : ℕ) (r : Emission) → m < 64 → bit_at rest to �
 waits_less s m to rest r within gone same h =
     elim (cases_eq m to) [
       | inl is ↦ let none : bit_at rest m ≡ 0 = ap (bit_at rest) is ∙ gone in
-          ap (λ n. r.from == s && n == 1) none ∙ and_false (r.from == s)
+          ap (λ n. r.from == s && n == 1) none ∙ and_none (r.from == s)
       | inr other ↦ ap (λ n. r.from == s && n == 1) (same m within other) ∙ h
     ]
 
@@ -39,7 +36,7 @@ waits_from s m r h = eqb-true r.from s (and_parts (r.from == s) (bit_at r.left m
 
 pub waits_struck : (s m : ℕ) (r : Emission) → r.left ≡ 0 → waits s m r ≡ false
 waits_struck s m r none = ap (λ n. r.from == s && bit_at n m == 1) none
-    ∙ ap (λ n. r.from == s && n == 1) (bit_at-zero m) ∙ and_false (r.from == s)
+    ∙ ap (λ n. r.from == s && n == 1) (bit_at-zero m) ∙ and_none (r.from == s)
 
 -- ---- the walk along a chain
 

@@ -20,8 +20,9 @@ use Rattle.net_core.specs.Marks.{is_marked}
 use Rattle.net_core.specs.inner.Marks.{marked_after, lands_below}
 use Rattle.net_core.specs.Readers.{AreReaders}
 use Rattle.net_core.proofs.Bitsets.{find_none, none_is, one_is}
-use Rattle.net_core.proofs.ReceiversOf.{some_at, receivers_are}
+use Rattle.net_core.proofs.ReceiversOf.{receivers_are}
 use Rattle.journals.proofs.CursorsAfter.{machine_within}
+use Rattle.polis_base.proofs.Places.{some_at}
 
 -- two tests that the same numbers pass agree
 same_test : (p q : ℕ → Bool) (m a b : ℕ) → m < a → m < b → filter p (upto a) ≡ filter q (upto b)

@@ -14,6 +14,7 @@ use Rattle.journals.specs.Laws.{GoesOnBySteps}
 use Rattle.journals.specs.Legality.{Legal, MayFollow}
 use Rattle.net_core.specs.Blanks.{AreWide}
 use Rattle.journals.proofs.StampSteps.{prefix_more}
+use Rattle.polis_base.proofs.Places.{length_set}
 
 -- ---- outcomes to write into
 
@@ -52,11 +53,6 @@ set_item (z ∷ xs) (suc m) y (suc k) x is =
       | inl own ↦ inl (ap suc own.0, own.1)
       | inr other ↦ inr other
     ]
-
-length_set : {X : Type 0} (xs : List X) (m : ℕ) (y : X) → length (slice_set xs m y) ≡ length xs
-length_set [] m y = refl
-length_set (x ∷ xs) zero y = refl
-length_set (x ∷ xs) (suc m) y = ap suc (length_set xs m y)
 
 pub wide_after : TransitionFits
     → (net : Network) (outcomes : List Outcome) (m : ℕ) (s : Snapshot) (o p : Outcome)

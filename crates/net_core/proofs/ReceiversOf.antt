@@ -19,6 +19,7 @@ use Rattle.journals.specs.Schedules.{receivers_of}
 use Rattle.net_core.specs.Readers.{members}
 use Rattle.net_core.proofs.Bitsets.{none_past}
 use Rattle.journals.proofs.DeliveriesOfWay.{passes_of_each}
+use Rattle.polis_base.proofs.Places.{some_at}
 
 -- the test of the i-th item
 abbrev at_item : {X : Type 0} → (X → Bool) → List X → ℕ → Bool
@@ -78,11 +79,6 @@ receivers_are net e event at =
     (λ i. let same : 0 + i ≡ i = omega arith in
     ap (λ k. reads net k e) same ∙ sym (reads_at net e i))
     ∙ ap (filter (λ k. reads net k e)) (sym (upto_from (length net.machines)))
-
-pub some_at : {X : Type 0} (xs : List X) (i : ℕ) → i < length xs → (x : X) × (slice_get xs i ≡ Some x)
-some_at [] i below = absurd (omega arith)
-some_at (x ∷ xs) zero below = (x, refl)
-some_at (x ∷ xs) (suc i) below = some_at xs i (omega arith)
 
 -- one machine more
 pub marked : (net : Network) (e m old new : ℕ) (machine : Machine) (is : Bool)

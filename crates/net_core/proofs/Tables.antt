@@ -22,6 +22,7 @@ use Rattle.journals.specs.Laws.{MovesOwed}
 use Rattle.net_core.proofs.OwedByEmissions.{without_none}
 use Rattle.journals.proofs.MomentsAfter.{get_or_table}
 use Rattle.journals.proofs.OwedAfter.{no_env_way}
+use Rattle.polis_base.proofs.Places.{get_end}
 
 -- ---- the owed deliveries of machines
 
@@ -72,14 +73,10 @@ table_item {X} f n items m x are below at =
 
 -- ---- the entry that was put at the end
 
-at_end : {X : Type 0} (xs : List X) (x : X) → slice_get (xs ++ x ∷ []) (length xs) ≡ Some x
-at_end [] x = refl
-at_end (y ∷ xs) x = at_end xs x
-
 pub last_item : {X : Type 0} (xs l : List X) (place : ℕ) (x y : X) → l ≡ xs ++ x ∷ []
     → place ≡ length xs → slice_get l place ≡ Some y → y ≡ x
 last_item {X} xs l place x y is end at =
-    let own : slice_get l place ≡ Some x = rw (is, end) (at_end xs x) in
+    let own : slice_get l place ≡ Some x = rw (is, end) (get_end xs x) in
     cc
 
 -- what an answer says of an equivalence

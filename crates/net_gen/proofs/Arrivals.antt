@@ -18,9 +18,10 @@ use Rattle.net_gen.specs.Dwindling.{sum_below, arrivals}
 use Rattle.net_gen.specs.Events.{HasDemoEvents}
 use Rattle.net_gen.specs.Items.{tick_item, settle_items, items_at, tick_items, trace_items}
 use Rattle.net_gen.specs.Networks.{count}
-use Rattle.net_gen.proofs.MoreItems.{flat_snoc}
 use Rattle.net_gen.proofs.DeclarationRules.{draw_below}
 use Rattle.net_gen.proofs.Lines.{all_flat}
+use Rattle.polis_base.proofs.ListTests.{filter_append}
+use Rattle.polis_base.proofs.UptoPlaces.{flat_map_upto}
 
 -- ---- sums in which one term grows by one
 
@@ -56,17 +57,6 @@ sum_adds f t (suc n) k below here others =
 
 -- ---- what is sent to each machine
 
-filter_append : {X : Type 0} (p : X → Bool) (xs ys : List X)
-    → filter p (xs ++ ys) ≡ filter p xs ++ filter p ys
-filter_append p [] ys = refl
-filter_append p (x ∷ xs) ys = by (p x) (filter_append p xs ys)
-  where
-    by : (b : Bool) → filter p (xs ++ ys) ≡ filter p xs ++ filter p ys
-        → cond b (x ∷ filter p (xs ++ ys)) (filter p (xs ++ ys))
-        ≡ cond b (x ∷ filter p xs) (filter p xs) ++ filter p ys
-    by true rest = ap (λ l. x ∷ l) rest
-    by false rest = rest
-
 -- the tick of an item
 abbrev sent_at : ℕ → ℕ → ℕ → ℕ × ℕ
 sent_at n x k = (3 * draw (after x k) n, 1)
@@ -90,7 +80,7 @@ one_more net n x j m =
     let before : List TraceItem = flat_map (items_at n x) (upto j) in
     let p : ℕ × ℕ → Bool = λ q. reads net m q.0 in
     ap (λ (l : List TraceItem). length (filter p (filter_map event_of l)))
-    (flat_snoc (items_at n x) j)
+    (flat_map_upto (items_at n x) j)
     ∙ ap (λ (l : List (ℕ × ℕ)). length (filter p l))
     (filter_map-append event_of before (items_at n x j))
     ∙ ap (λ (l : List (ℕ × ℕ)). length (filter p (filter_map event_of before ++ l)))

@@ -1,9 +1,9 @@
 -- The declarations of a ring break no rule.
-use Rattle.std.proofs.Common.{◌≡◌, ℕ, zero, suc, ◌+◌, ◌%◌, ◌<◌, ◌≤◌, true, false, List, [], ◌∷◌, ◌++◌, map, flat_map, length, refl, ap, ◌∙◌, arith, add-one}
+use Rattle.std.proofs.Common.{◌≡◌, ℕ, zero, suc, ◌+◌, ◌%◌, ◌<◌, ◌≤◌, true, false, List, [], ◌∷◌, ◌++◌, map, flat_map, length, refl, ap, ◌∙◌, arith}
 use Rattle.std.specs.Prelude.{codes, decimal, ◌*◌, nat_le}
 use Rattle.std.proofs.lemmas.Bool.{le-leb}
 use Rattle.std.proofs.Math.Nat.{mod-lt}
-use Rattle.std.proofs.lemmas.List.{drop_all, length-map, length_push}
+use Rattle.std.proofs.lemmas.List.{drop_all, length-map}
 use Rattle.std.proofs.lemmas.List.Folds.{flat_map-map}
 use Rattle.polis_base.specs.Lists.{upto}
 use Rattle.domains.specs.Names.{is_same}
@@ -15,8 +15,9 @@ use Rattle.net_names.specs.Scopes.{event_words, machine_words}
 use Rattle.rule_judge.specs.Rules.{beyond, rule_1, rule_2, rule_3, rule_4, rule_5, rule_7, rule_8, rule_9, rule_10, rule_14}
 use Rattle.polis_base.specs.Draws.{after, draw}
 use Rattle.net_gen.specs.Networks.{named, tick, valued, output, events_of, machine_at, machines, rows, tick_rows, value_rows, ring}
-use Rattle.net_gen.proofs.MoreItems.{flat_snoc}
-use Rattle.net_gen.proofs.RingNames.{same_self, other_number, declared_at, AllWords, Different, Apart, different_flat, none_repeats}
+use Rattle.net_gen.proofs.RingNames.{other_number, declared_at, AllWords, Different, Apart, different_flat, none_repeats}
+use Rattle.domains.proofs.Names.{same_self}
+use Rattle.polis_base.proofs.UptoPlaces.{flat_map_upto, length_upto}
 
 -- ---- the words, number by number
 
@@ -44,7 +45,7 @@ machines_named n x (i ∷ is) =
 pub none_flat : (g : ℕ → List ℕ) (n : ℕ) → ((i : ℕ) → i < n → g i ≡ []) → flat_map g (upto n) ≡ []
 none_flat g zero h = refl
 none_flat g (suc n) h =
-    flat_snoc g n
+    flat_map_upto g n
     ∙ rw (none_flat g n (λ i below. h i (omega arith)), h n (omega arith)) refl
 
 pub each_machine : (f : RawMachine → List ℕ) (n x : ℕ)
@@ -53,10 +54,6 @@ pub each_machine : (f : RawMachine → List ℕ) (n x : ℕ)
 unfolding machines
 each_machine f n x h =
     flat_map-map f (machine_at n x) (upto n) ∙ none_flat (λ i. f (machine_at n x i)) n h
-
-long_upto : (n : ℕ) → length (upto n) ≡ n
-long_upto zero = refl
-long_upto (suc n) = length_push (upto n) n ∙ rw (long_upto n) (add-one n)
 
 long_words : (is : List ℕ) → length (flat_map words_of is) ≡ 3 * length is
 unfolding words_of
@@ -75,11 +72,11 @@ keeps_2 n x few =
     let events : beyond 256 (event_words (ring n x)) ≡ [] =
     none_beyond 256 (event_words (ring n x))
     (let size = ap length (events_named (upto n)) ∙ long_words (upto n) in
-    let long = long_upto n in omega arith) in
+    let long = length_upto n in omega arith) in
     let all : beyond 64 (machine_words (ring n x)) ≡ [] =
     none_beyond 64 (machine_words (ring n x))
     (let size = length-map (map (machine_at n x) (upto n)) (λ (m : RawMachine). m.name)
-    ∙ length-map (upto n) (machine_at n x) ∙ long_upto n in omega arith) in
+    ∙ length-map (upto n) (machine_at n x) ∙ length_upto n in omega arith) in
     rw (events, all) refl
 
 -- ---- names don't repeat

@@ -1,10 +1,9 @@
 -- Each entry lowers what is still to come of a run, where deliveries dwindle.
-use Rattle.std.proofs.Common.{◌≡◌, ℕ, suc, ◌+◌, ◌-◌, ◌*◌, ◌<◌, ◌≤◌, ◌&&◌, Bool, true, false, cond, nat_lt, List, [], ◌∷◌, ◌++◌, length, slice_get, Option, Some, None, IsTrue, refl, sym, subst, ap, ◌∙◌, arith, append_assoc, length-append, inl, inr}
+use Rattle.std.proofs.Common.{◌≡◌, ℕ, suc, ◌+◌, ◌-◌, ◌*◌, ◌<◌, ◌≤◌, ◌&&◌, Bool, cond, nat_lt, List, [], ◌∷◌, ◌++◌, length, slice_get, Option, Some, None, IsTrue, refl, sym, subst, ap, ◌∙◌, arith, append_assoc, length-append, inl, inr}
 use Rattle.std.specs.Prelude.{IsSomeAnd, find}
 use Rattle.std.proofs.lemmas.Bool.{and_parts, ne_eqb, eq-eqb, ltb-true}
 use Rattle.std.proofs.lemmas.Option.{slice_get_within}
 use Rattle.std.proofs.lemmas.List.{append-nil}
-use Rattle.std.proofs.lemmas.List.Elements.{filter_map-append}
 use Rattle.transition_table.specs.Transitions.{reading, IsSnapshot, IsOutcome, Transition, OfMachine}
 use Rattle.transition_table.specs.declared.decl.Party.{Party}
 use Rattle.transition_table.specs.declared.decl.Party.TheVariants.{Env, Machine as Sender}
@@ -16,13 +15,15 @@ use Rattle.journals.specs.declared.entry.Entry.{Entry}
 use Rattle.journals.specs.declared.entry.Entry.TheVariants.{Dep, Rea}
 use Rattle.journals.specs.declared.entry.Owed.{Owed}
 use Rattle.journals.specs.declared.entry.TraceItem.{TraceItem}
-use Rattle.journals.specs.Journals.{FitsNetwork, IsJournal, is_event_code, is_party, is_woken, sent, delivered, delivery, snap}
+use Rattle.journals.specs.Journals.{FitsNetwork, IsJournal, is_event_code, is_party, is_woken, sent, delivered, snap}
 use Rattle.journals.specs.Laws.{GoesOnBySteps, FollowingIsLegal, StopsWhereComplete, MovesMoment, KeepsMoments, MovesWaking, MovesOwed, FirstOfWayMayFollow, SnapFits}
 use Rattle.journals.specs.Legality.{Legal, MayFollow, MayGoOn}
 use Rattle.journals.specs.Moved.{codes_after, machine_of, is_dep}
 use Rattle.journals.specs.Schedules.{firing_deliveries, owed_by_machines, without_first, is_way}
 use Rattle.net_gen.specs.Dwindling.{Load, weight, sum_below, arrivals, Dwindles, DwindlingEnds, DwindlingCompletes}
 use Rattle.net_gen.proofs.SumsAndWeights.{sum_moves, sum_at_most, weight_append, weight_without, weight_taken}
+use Rattle.journals.proofs.DeliveredBeginsSent.{delivered_more}
+use Rattle.polis_base.proofs.Bools.{one_if_at_most_one}
 
 -- what the proof rests on
 pub record Laws : Type 0 where
@@ -55,11 +56,6 @@ total net trace load held journal =
     + sum_below (part net trace held journal) (length net.machines)
 
 -- ---- what one entry leaves as it is
-
-delivered_more : (s : Party) (m : ℕ) (journal : List Entry) (entry : Entry)
-    → delivered s m (journal ++ entry ∷ [])
-    ≡ delivered s m journal ++ delivered s m (entry ∷ [])
-delivered_more s m journal entry = filter_map-append (delivery s m) journal (entry ∷ [])
 
 none_elsewhere : (entry : Entry) (m : ℕ) → (machine_of entry ≡ m → ⊥)
     → delivered Env m (entry ∷ []) ≡ []
@@ -120,10 +116,6 @@ woken_after waking journal entry =
     (waking journal entry (machine_of entry)
     ∙ ap (λ (b : Bool). cond b (is_dep entry) (is_woken journal (machine_of entry)))
     (eq-eqb (machine_of entry) (machine_of entry) refl))
-
-at_most_one : (b : Bool) → cond b 1 0 ≤ 1
-at_most_one true = omega arith
-at_most_one false = omega arith
 
 of_machine : (net : Network) (m : ℕ) (P : Machine → Type 0) → OfMachine net m P
     → (machine : Machine) × (slice_get net.machines m ≡ Some machine) × P machine
@@ -203,7 +195,7 @@ env_step laws net trace load held dwindles journal to event code legal fits may 
     let within : length (sent net trace Env to [])
     ≡ length (delivered Env to after) + length may.0 =
     ap length may.1 ∙ length-append (delivered Env to after) may.0 in
-    let awake = at_most_one (is_woken after to) in
+    let awake = one_if_at_most_one (is_woken after to) in
     let here : part net trace held after to + 1 ≤ part net trace held journal to + 0 =
     omega arith in
     let sums = sum_moves (part net trace held journal) (part net trace held after)
@@ -239,7 +231,7 @@ machine_step laws net trace load held dwindles journal s to event code legal fit
     let same : due net trace after to ≡ due net trace journal to =
     ap (λ (l : List (ℕ × ℕ)). length (sent net trace Env to []) - length l)
     (kept_delivered journal entry to refl) in
-    let awake = at_most_one (is_woken after to) in
+    let awake = one_if_at_most_one (is_woken after to) in
     let more : ℕ = 2 * load event code + 1 in
     let here : part net trace held after to + 0 ≤ part net trace held journal to + more =
     omega arith in

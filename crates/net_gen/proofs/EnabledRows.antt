@@ -1,11 +1,10 @@
 -- Which rows of a machine of a ring are enabled on which snapshots.
-use Rattle.std.proofs.Common.{◌⊎◌, ◌≡◌, ℕ, zero, suc, ◌+◌, ◌-◌, ◌*◌, ◌^◌, ◌<◌, ◌==◌, ◌&&◌, nat_lt, true, false, List, [], ◌∷◌, ◌++◌, map, length, Option, Some, None, IsTrue, refl, sym, ap, ◌∙◌, subst, arith, add-one, inl, inr}
+use Rattle.std.proofs.Common.{◌⊎◌, ◌≡◌, ℕ, zero, suc, ◌+◌, ◌-◌, ◌*◌, ◌^◌, ◌<◌, ◌==◌, ◌&&◌, nat_lt, true, false, List, [], ◌∷◌, ◌++◌, map, Option, Some, None, IsTrue, refl, sym, ap, ◌∙◌, subst, arith, inl, inr}
 use Rattle.std.specs.Prelude.{slice_get, option_map}
 use Rattle.std.specs.List.{list_all}
 use Rattle.std.specs.Int.{bit_at}
 use Rattle.std.proofs.lemmas.Bool.{false≢true, and_parts, cases_eq, cases_lt, ltb-true}
 use Rattle.std.proofs.lemmas.Option.{none-some, same_Some, slice_get-map, slice_get_past}
-use Rattle.std.proofs.lemmas.List.{length_push}
 use Rattle.std.proofs.lemmas.Nat.Bits.{bit_at-pow_other}
 use Rattle.polis_base.specs.Lists.{upto}
 use Rattle.domains.specs.Tables.{fits}
@@ -17,43 +16,10 @@ use Rattle.transition_table.specs.declared.machine.Machine.{Machine}
 use Rattle.polis_base.specs.Draws.{after, draw}
 use Rattle.net_gen.specs.Demos.{Parts, parts_of, last_parts, tick_parts_at, value_parts_at, rows_parts, IsDemoMachine}
 use Rattle.net_gen.proofs.DeclarationRules.{draw_below}
+use Rattle.polis_base.proofs.Places.{get_left, get_right}
+use Rattle.polis_base.proofs.UptoPlaces.{get_map_upto}
 
 -- ---- the rows by their numbers
-
-get_before : {X : Type 0} (xs ys : List X) (k : ℕ) → k < length xs
-    → slice_get (xs ++ ys) k ≡ slice_get xs k
-get_before [] ys k below = absurd (omega arith)
-get_before (x ∷ xs) ys zero below = refl
-get_before (x ∷ xs) ys (suc k) below = get_before xs ys k (omega arith)
-
-get_after : {X : Type 0} (xs ys : List X) (k : ℕ)
-    → slice_get (xs ++ ys) (length xs + k) ≡ slice_get ys k
-get_after [] ys k = ap (slice_get ys) (let e : 0 + k ≡ k = omega arith in e)
-get_after (x ∷ xs) ys k =
-    ap (slice_get (x ∷ xs ++ ys))
-    (let e : suc (length xs) + k ≡ suc (length xs + k) = omega arith in e)
-    ∙ get_after xs ys k
-
-long_upto : (n : ℕ) → length (upto n) ≡ n
-long_upto zero = refl
-long_upto (suc n) = length_push (upto n) n ∙ rw (long_upto n) (add-one n)
-
-number_at : (n k : ℕ) → k < n → slice_get (upto n) k ≡ Some k
-number_at zero k below = absurd (omega arith)
-number_at (suc n) k below =
-    let long = long_upto n in
-    elim (cases_eq k n) [
-      | inl same ↦
-          ap (slice_get (upto n ++ n ∷ []))
-          (let e : k ≡ length (upto n) + 0 = omega arith in e)
-          ∙ get_after (upto n) (n ∷ []) 0
-          ∙ ap (λ (i : ℕ). Some i) (sym same)
-      | inr other ↦
-          get_before (upto n) (n ∷ []) k (omega arith) ∙ number_at n k (omega arith)
-    ]
-
-drawn_at : {X : Type 0} (f : ℕ → X) (n k : ℕ) → k < n → slice_get (map f (upto n)) k ≡ Some (f k)
-drawn_at f n k below = slice_get-map f (upto n) k ∙ ap (option_map f) (number_at n k below)
 
 -- what holds of each kind of rows holds of each row
 each_parts : (z : ℕ) (P : ℕ → Parts → Type 0)
@@ -69,7 +35,7 @@ each_parts z P ticks values last r p at =
     elim (cases_lt r 8) [
       | inl small ↦
           let found : slice_get (A ++ B ++ C) r ≡ Some (tick_parts_at z r) =
-          get_before A (B ++ C) r small ∙ drawn_at (tick_parts_at z) 8 r small in
+          get_left A (B ++ C) r small ∙ get_map_upto (tick_parts_at z) 8 r small in
           subst (P r) (same_Some (tick_parts_at z r) p (sym found ∙ at)) (ticks r small)
       | inr large ↦ elim (cases_lt r 15) [
         | inl middle ↦
@@ -77,9 +43,9 @@ each_parts z P ticks values last r p at =
             let small : k < 7 = omega arith in
             let is : r ≡ 8 + k = omega arith in
             let found : slice_get (A ++ B ++ C) (8 + k) ≡ Some (value_parts_at (after z 16) k) =
-            get_after A (B ++ C) k
-            ∙ get_before B C k small
-            ∙ drawn_at (value_parts_at (after z 16)) 7 k small in
+            get_right A (B ++ C) k
+            ∙ get_left B C k small
+            ∙ get_map_upto (value_parts_at (after z 16)) 7 k small in
             let here : slice_get (A ++ B ++ C) (8 + k) ≡ Some p =
             ap (slice_get (A ++ B ++ C)) (sym is) ∙ at in
             subst (λ i. P i p) (sym is)

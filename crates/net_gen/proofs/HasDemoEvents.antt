@@ -1,11 +1,11 @@
 -- The events of a ring, as they are in its network.
-use Rattle.std.proofs.Common.{◌≡◌, ℕ, zero, suc, ◌+◌, ◌-◌, ◌*◌, ◌%◌, ◌<◌, ◌≤◌, Bool, true, false, cond, List, [], ◌∷◌, ◌++◌, map, flat_map, length, Option, Some, None, refl, sym, ap, ◌∙◌, subst, arith, inl, inr, add-one}
+use Rattle.std.proofs.Common.{◌≡◌, ℕ, zero, suc, ◌+◌, ◌-◌, ◌*◌, ◌%◌, ◌<◌, ◌≤◌, Bool, true, false, cond, List, [], ◌∷◌, ◌++◌, map, flat_map, length, Option, Some, None, refl, sym, ap, ◌∙◌, subst, arith, inl, inr}
 use Rattle.std.specs.Prelude.{codes, decimal, slice_get, option_map, unwrap_or}
 use Rattle.std.specs.List.{AllZip}
 use Rattle.std.proofs.lemmas.Bool.{cases_eq, cases_lt}
 use Rattle.std.proofs.lemmas.Option.{none-some, slice_get-map}
 use Rattle.std.proofs.Math.Nat.{mod-lt, mod-eq_of_lt, add-mod_left}
-use Rattle.std.proofs.lemmas.List.{map-append, length-map, length_push, length-append}
+use Rattle.std.proofs.lemmas.List.{map-append, length-map, length-append}
 use Rattle.polis_base.specs.Lists.{upto, places_from, places_where}
 use Rattle.domains.specs.Names.{is_same}
 use Rattle.domains.specs.Domains.{size_of}
@@ -25,9 +25,11 @@ use Rattle.net_rules.specs.Networks.{IsNetworkOf, IsMachineOf, IsDomainOf, machi
 use Rattle.net_gen.specs.Events.{next_machine, machine_before, tick_event, valued_event, output_event, HasDemoEvents}
 use Rattle.net_gen.specs.Networks.{word, event, tick, valued, output, events_of, machine_at, machines, domain, ring, count, network}
 use Rattle.polis_base.specs.Draws.{after}
-use Rattle.net_gen.proofs.MoreItems.{flat_snoc}
-use Rattle.net_gen.proofs.RingNames.{same_self, other_number}
+use Rattle.net_gen.proofs.RingNames.{other_number}
 use Rattle.net_gen.proofs.DeclarationRules.{draw_below}
+use Rattle.domains.proofs.Names.{same_self}
+use Rattle.polis_base.proofs.Places.{get_left, get_right, zip_length}
+use Rattle.polis_base.proofs.UptoPlaces.{flat_map_upto, get_upto, length_upto}
 
 -- ---- the places of a table where a test passes
 
@@ -48,10 +50,6 @@ places_append {X} c p (x ∷ xs) ys =
       | false ↦ rest
     ]
 
-long_upto : (n : ℕ) → length (upto n) ≡ n
-long_upto zero = refl
-long_upto (suc n) = length_push (upto n) n ∙ rw (long_upto n) (add-one n)
-
 places_more : {X : Type 0} (p : X → Bool) (f : ℕ → X) (n : ℕ)
     → places_where p (map f (upto (suc n)))
     ≡ places_where p (map f (upto n)) ++ cond (p (f n)) (n ∷ []) []
@@ -59,7 +57,7 @@ places_more p f n =
     ap (places_where p) (map-append f (upto n) (n ∷ []))
     ∙ places_append 0 p (map f (upto n)) (f n ∷ [])
     ∙ ap (λ (k : ℕ). places_where p (map f (upto n)) ++ cond (p (f n)) (k ∷ []) [])
-    (let size = length-map (upto n) f in let long = long_upto n in
+    (let size = length-map (upto n) f in let long = length_upto n in
     let e : 0 + length (map f (upto n)) ≡ n = omega arith in e)
 
 no_place : {X : Type 0} (p : X → Bool) (f : ℕ → X) (n : ℕ)
@@ -243,23 +241,9 @@ long_events : (n : ℕ) → length (flat_map events_of (upto n)) ≡ 3 * n
 long_events zero = refl
 long_events (suc n) =
     let rest = long_events n in
-    ap length (flat_snoc events_of n)
+    ap length (flat_map_upto events_of n)
     ∙ length-append (flat_map events_of (upto n)) (events_of n)
     ∙ (let e : length (flat_map events_of (upto n)) + 3 ≡ 3 * suc n = omega arith in e)
-
-get_left : {X : Type 0} (xs ys : List X) (k : ℕ) → k < length xs
-    → slice_get (xs ++ ys) k ≡ slice_get xs k
-get_left [] ys k below = absurd (omega arith)
-get_left (x ∷ xs) ys zero below = refl
-get_left (x ∷ xs) ys (suc k) below = get_left xs ys k (omega arith)
-
-get_right : {X : Type 0} (xs ys : List X) (k : ℕ)
-    → slice_get (xs ++ ys) (length xs + k) ≡ slice_get ys k
-get_right [] ys k = ap (slice_get ys) (let e : 0 + k ≡ k = omega arith in e)
-get_right (x ∷ xs) ys k =
-    ap (slice_get (x ∷ xs ++ ys))
-    (let e : suc (length xs) + k ≡ suc (length xs + k) = omega arith in e)
-    ∙ get_right xs ys k
 
 event_at : (n i r : ℕ) → i < n → r < 3
     → slice_get (flat_map events_of (upto n)) (3 * i + r) ≡ slice_get (events_of i) r
@@ -269,13 +253,13 @@ event_at (suc n) i r below small =
     let long : length E ≡ 3 * n = long_events n in
     elim (cases_eq i n) [
       | inl same ↦
-          ap (λ (l : List RawEvent). slice_get l (3 * i + r)) (flat_snoc events_of n)
+          ap (λ (l : List RawEvent). slice_get l (3 * i + r)) (flat_map_upto events_of n)
           ∙ ap (slice_get (E ++ events_of n))
           (let e : 3 * i + r ≡ length E + r = omega arith in e)
           ∙ get_right E (events_of n) r
           ∙ ap (λ (k : ℕ). slice_get (events_of k) r) (sym same)
       | inr other ↦
-          ap (λ (l : List RawEvent). slice_get l (3 * i + r)) (flat_snoc events_of n)
+          ap (λ (l : List RawEvent). slice_get l (3 * i + r)) (flat_map_upto events_of n)
           ∙ get_left E (events_of n) (3 * i + r) (omega arith)
           ∙ event_at n i r (omega arith) small
     ]
@@ -345,7 +329,7 @@ long_names : (n : ℕ) → length (flat_map names_at (upto n)) ≡ 3 * n
 long_names zero = refl
 long_names (suc n) =
     let rest = long_names n in
-    ap length (flat_snoc names_at n)
+    ap length (flat_map_upto names_at n)
     ∙ length-append (flat_map names_at (upto n)) (names_at n)
     ∙ (let e : length (flat_map names_at (upto n)) + 3 ≡ 3 * suc n = omega arith in e)
 
@@ -357,7 +341,7 @@ module _ (name : ℕ → List ℕ) (r : ℕ) (here : (i : ℕ) → number_in (na
       → number_in (flat_map names_at (upto n)) (name i) ≡ None
   number_none zero i past small = refl
   number_none (suc n) i past small =
-      ap (λ (l : List (List ℕ)). number_in l (name i)) (flat_snoc names_at n)
+      ap (λ (l : List (List ℕ)). number_in l (name i)) (flat_map_upto names_at n)
       ∙ number_right (flat_map names_at (upto n)) (names_at n) (name i)
       (number_none n i (omega arith) small)
       ∙ ap (option_map (λ (k : ℕ). length (flat_map names_at (upto n)) + k))
@@ -370,7 +354,7 @@ module _ (name : ℕ → List ℕ) (r : ℕ) (here : (i : ℕ) → number_in (na
       let before : List (List ℕ) = flat_map names_at (upto n) in
       elim (cases_eq n i) [
         | inl same ↦
-            ap (λ (l : List (List ℕ)). number_in l (name i)) (flat_snoc names_at n)
+            ap (λ (l : List (List ℕ)). number_in l (name i)) (flat_map_upto names_at n)
             ∙ number_right before (names_at n) (name i)
             (number_none n i (omega arith) (omega arith))
             ∙ ap (λ (k : ℕ). option_map (λ (j : ℕ). length before + j)
@@ -379,7 +363,7 @@ module _ (name : ℕ → List ℕ) (r : ℕ) (here : (i : ℕ) → number_in (na
             ∙ ap (λ (k : ℕ). Some k)
             (let long = long_names n in let e : length before + r ≡ 3 * i + r = omega arith in e)
         | inr other ↦
-            ap (λ (l : List (List ℕ)). number_in l (name i)) (flat_snoc names_at n)
+            ap (λ (l : List (List ℕ)). number_in l (name i)) (flat_map_upto names_at n)
             ∙ number_left before (names_at n) (name i) (3 * i + r)
             (numbered n i (omega arith) (omega arith))
       ]
@@ -421,25 +405,11 @@ zip_at R (x ∷ xs) (y ∷ ys) zero a all at =
     (y, refl, subst (λ v. R v y) (ap (λ o. unwrap_or o x) at) all.0)
 zip_at R (x ∷ xs) (y ∷ ys) (suc k) a all at = zip_at R xs ys k a all.1 at
 
-upto_at : (n i : ℕ) → i < n → slice_get (upto n) i ≡ Some i
-upto_at zero i below = absurd (omega arith)
-upto_at (suc n) i below =
-    elim (cases_eq n i) [
-      | inl same ↦
-          ap (slice_get (upto n ++ n ∷ []))
-          (let long = long_upto n in let e : i ≡ length (upto n) + 0 = omega arith in e)
-          ∙ get_right (upto n) (n ∷ []) 0
-          ∙ ap (λ (k : ℕ). Some k) same
-      | inr other ↦
-          get_left (upto n) (n ∷ []) i (let long = long_upto n in omega arith)
-          ∙ upto_at n i (omega arith)
-    ]
-
 declared_machine : (n x i : ℕ) → i < n
     → slice_get (ring n x).machines i ≡ Some (machine_at n x i)
 unfolding machines
 declared_machine n x i below =
-    slice_get-map (machine_at n x) (upto n) i ∙ ap (option_map (machine_at n x)) (upto_at n i below)
+    slice_get-map (machine_at n x) (upto n) i ∙ ap (option_map (machine_at n x)) (get_upto n i below)
 
 -- machine i of the network
 pub machine_of : (n x : ℕ) (net : Network) → IsNetworkOf (ring n x) net → (i : ℕ) → i < n
@@ -449,20 +419,13 @@ machine_of n x net is i below =
     zip_at (IsMachineOf (ring n x)) (ring n x).machines net.machines i (machine_at n x i)
     is.machines (declared_machine n x i below)
 
-zip_long : {A B : Type 0} (R : A → B → Type 0) (xs : List A) (ys : List B) → AllZip R xs ys
-    → length ys ≡ length xs
-zip_long R [] [] all = refl
-zip_long R [] (y ∷ ys) all = absurd all
-zip_long R (x ∷ xs) [] all = absurd all
-zip_long R (x ∷ xs) (y ∷ ys) all = ap suc (zip_long R xs ys all.1)
-
 pub machine_count : (n x : ℕ) (net : Network) → IsNetworkOf (ring n x) net
     → length net.machines ≡ n
 unfolding machines
 machine_count n x net is =
-    zip_long (IsMachineOf (ring n x)) (map (machine_at n x) (upto n)) net.machines is.machines
+    zip_length (IsMachineOf (ring n x)) (map (machine_at n x) (upto n)) net.machines is.machines
     ∙ length-map (upto n) (machine_at n x)
-    ∙ long_upto n
+    ∙ length_upto n
 
 inputs_are : (n x : ℕ) (net : Network) → IsNetworkOf (ring n x) net → n ≤ 48 → (i : ℕ) → i < n
     → inputs_of net i ≡ (3 * i) ∷ (3 * i + 1) ∷ []

@@ -28,10 +28,10 @@ use Rattle.polis_base.specs.Draws.{after, draw}
 use Rattle.net_gen.specs.Events.{next_machine}
 use Rattle.net_gen.specs.Networks.{word, value, tick, valued, output, is_state, set_state, emit_value, tick_row_at, value_row_at, last_row, rows, tick_rows, value_rows, machine, machine_at, ring, count, network}
 use Rattle.net_gen.specs.Demos.{Parts, parts_of, last_parts, tick_parts_at, value_parts_at, rows_parts, IsDemoMachine, SeedsHaveMachines}
-use Rattle.net_gen.proofs.RingNames.{same_self}
 use Rattle.net_gen.proofs.DeclarationRules.{draw_below}
 use Rattle.net_gen.proofs.PortRules.{domain_valued, tick_pure, output_pure}
 use Rattle.net_gen.proofs.HasDemoEvents.{machine_of, machine_count, next_below, tick_number, valued_number, output_number}
+use Rattle.domains.proofs.Names.{same_self}
 
 -- ---- sets of one code
 

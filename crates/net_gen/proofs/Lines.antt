@@ -1,8 +1,8 @@
 -- Lines of a text, and what they are read as.
-use Rattle.std.proofs.Common.{◌≡◌, ℕ, ◌+◌, ◌≤◌, not, Bool, true, false, cond, List, [], ◌∷◌, ◌++◌, length, flat_map, fold, Some, refl, sym, ap, ◌∙◌, arith, append_assoc, nat_lt}
+use Rattle.std.proofs.Common.{◌≡◌, ℕ, ◌+◌, ◌≤◌, not, Bool, true, cond, List, [], ◌∷◌, ◌++◌, length, flat_map, fold, Some, refl, sym, ap, ◌∙◌, arith, append_assoc, nat_lt}
 use Rattle.std.specs.Prelude.{filter, Ok}
 use Rattle.std.specs.List.{list_all, take_while, enumerate_from, AllZip}
-use Rattle.std.proofs.lemmas.Bool.{true≢false, and_parts, lt-ltb}
+use Rattle.std.proofs.lemmas.Bool.{and_parts, lt-ltb, not-true}
 use Rattle.std.proofs.lemmas.List.{append-nil, length-append}
 use Rattle.std.proofs.lemmas.List.Folds.{list_all-append}
 use Rattle.std.proofs.lemmas.List.Sums.{take_while-cons}
@@ -17,10 +17,6 @@ use Rattle.polis_base.specs.Pieces.{with_byte, is_nonempty}
 abbrev pub is_free : (ℕ → Bool) → List ℕ → Bool
 is_free ends bytes = list_all (λ c. not (ends c)) bytes
 
-not_true : (b : Bool) → not b ≡ true → b ≡ false
-not_true true h = absurd (true≢false (sym h))
-not_true false h = refl
-
 -- a piece that something ends, and one that the text's end does
 piece_ended : (ends : ℕ → Bool) (piece rest : List ℕ) (e : ℕ) → ends e ≡ true
     → is_free ends piece ≡ true
@@ -28,17 +24,17 @@ piece_ended : (ends : ℕ → Bool) (piece rest : List ℕ) (e : ℕ) → ends e
 piece_ended ends [] rest e end free = rw end refl
 piece_ended ends (c ∷ piece) rest e end free =
     let parts = and_parts (not (ends c)) (is_free ends piece) free in
-    rw (not_true (ends c) parts.0, piece_ended ends piece rest e end parts.1) refl
+    rw (not-true (ends c) parts.0, piece_ended ends piece rest e end parts.1) refl
 
 piece_last : (ends : ℕ → Bool) (c : ℕ) (piece : List ℕ) → is_free ends (c ∷ piece) ≡ true
     → runs ends (c ∷ piece) ≡ (c ∷ piece) ∷ []
 piece_last ends c [] free =
     let parts = and_parts (not (ends c)) true free in
-    rw (not_true (ends c) parts.0) refl
+    rw (not-true (ends c) parts.0) refl
 piece_last ends c (d ∷ piece) free =
     let parts = and_parts (not (ends c)) (is_free ends (d ∷ piece)) free in
     ap (λ (ps : List (List ℕ)). with_byte (ends c) c ps) (piece_last ends d piece parts.1)
-    ∙ ap (λ (b : Bool). with_byte b c ((d ∷ piece) ∷ [])) (not_true (ends c) parts.0)
+    ∙ ap (λ (b : Bool). with_byte b c ((d ∷ piece) ∷ [])) (not-true (ends c) parts.0)
 
 -- the text of these lines
 abbrev pub text_of : List (List ℕ) → List ℕ

@@ -1,15 +1,13 @@
 -- Names with a number of one or two digits.
-use Rattle.std.proofs.Common.{◌≡◌, ℕ, zero, suc, ◌+◌, ◌-◌, ◌*◌, ◌/◌, ◌%◌, ◌^◌, ◌<◌, ◌≤◌, ◌==◌, ◌||◌, not, Bool, true, cond, List, ◌∷◌, length, fold, refl, arith, rules, subst, sym, ap, ◌∙◌, nat_lt, inl, inr, []}
+use Rattle.std.proofs.Common.{◌≡◌, ℕ, zero, suc, ◌+◌, ◌-◌, ◌*◌, ◌/◌, ◌%◌, ◌<◌, ◌≤◌, ◌==◌, Bool, true, cond, List, ◌∷◌, refl, arith, subst, sym, ap, ◌∙◌, nat_lt, inl, inr, []}
 use Rattle.std.specs.Prelude.{decimal}
 use Rattle.std.specs.List.{list_all}
-use Rattle.std.proofs.lemmas.Bool.{false≢true, and_parts, cases_eq, lt-ltb, le-ltb, eqb-true}
+use Rattle.std.proofs.lemmas.Bool.{and_parts, cases_eq, lt-ltb, le-ltb, eqb-true}
 use Rattle.std.proofs.lemmas.List.Folds.{list_all-append}
-use Rattle.std.proofs.lemmas.Str.Parse.{IsNumeralModel, numerals_by_fold}
-use Rattle.std.proofs.lemmas.Fmt.{decimal-digits_value}
-use Rattle.polis_base.specs.Digits.{is_digit, is_plain, number_of}
+use Rattle.polis_base.specs.Digits.{is_plain, number_of}
 use Rattle.polis_base.specs.Lists.{upto}
 use Rattle.polis_base.specs.Names.{is_name}
-use Rattle.polis_base.proofs.Digits.{alone}
+use Rattle.polis_base.proofs.Digits.{text_of_number}
 
 -- what holds of each number of a table holds of one below its length
 pub each_below : (p : ℕ → Bool) (n i : ℕ) → list_all p (upto n) ≡ true → i < n → p i ≡ true
@@ -24,17 +22,6 @@ each_below p (suc n) i h below =
 
 abbrev shifted : ℕ → ℕ → ℕ
 shifted n c = n * 10 + (c - 48)
-
-own : IsNumeralModel (λ cs. list_all is_digit cs ≡ true) number_of
-own = numerals_by_fold _ (search rules) (fold shifted) (search rules)
-
--- plain digits are the text of their number
-text_of_number : (cs : List ℕ) → is_plain cs ≡ true → number_of cs < 2 ^ 64
-    → cs ≡ decimal (number_of cs)
-text_of_number [] plain fits = absurd (false≢true plain)
-text_of_number (c ∷ cs) plain fits =
-    let parts = and_parts (list_all is_digit (c ∷ cs)) (not (c == 48) || length cs == 0) plain in
-    sym (decimal-digits_value own (c ∷ cs) parts.0 (omega arith) (alone c cs parts.1) fits)
 
 -- the digits of a number below 100
 abbrev digits : ℕ → List ℕ

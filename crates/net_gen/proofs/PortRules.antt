@@ -20,9 +20,10 @@ use Rattle.net_names.specs.Scopes.{all_outputs, all_inputs, event_domain, is_fro
 use Rattle.rule_judge.specs.Rules.{rule_6, rule_11, rule_12, rule_13}
 use Rattle.polis_base.specs.Draws.{after, draw}
 use Rattle.net_gen.specs.Networks.{word, event, tick, valued, output, events_of, last_row, tick_row_at, value_row_at, machine_at, machines, rows, tick_rows, value_rows, ring}
-use Rattle.net_gen.proofs.MoreItems.{flat_snoc}
-use Rattle.net_gen.proofs.RingNames.{same_self, other_number, declared_at, none_of_each, different_flat, all_flat, none_repeats}
+use Rattle.net_gen.proofs.RingNames.{other_number, declared_at, none_of_each, different_flat, all_flat, none_repeats}
 use Rattle.net_gen.proofs.DeclarationRules.{none_flat}
+use Rattle.domains.proofs.Names.{same_self}
+use Rattle.polis_base.proofs.UptoPlaces.{flat_map_upto}
 
 -- ---- the domain of an event
 
@@ -56,7 +57,7 @@ find_none i zero below small = refl
 find_none i (suc n) below small =
     let other : is_same (decimal i) (decimal n) ≡ false =
     other_number i n small (omega arith) (λ e. let same = e in omega arith) in
-    ap (find (is_valued i)) (flat_snoc events_of n)
+    ap (find (is_valued i)) (flat_map_upto events_of n)
     ∙ find_right (is_valued i) (flat_map events_of (upto n)) (events_of n)
     (find_none i n (omega arith) small)
     ∙ rw other refl
@@ -70,13 +71,13 @@ find_valued i (suc n) below small =
           let here : is_same (decimal i) (decimal n) ≡ true =
           ap (λ (k : ℕ). is_same (decimal i) (decimal k)) same ∙ same_self (decimal i) in
           let last : find (is_valued i) (events_of n) ≡ Some (valued_event n) = rw here refl in
-          ap (find (is_valued i)) (flat_snoc events_of n)
+          ap (find (is_valued i)) (flat_map_upto events_of n)
           ∙ find_right (is_valued i) (flat_map events_of (upto n)) (events_of n)
           (find_none i n (omega arith) (omega arith))
           ∙ last
           ∙ ap (λ (k : ℕ). Some (valued_event k)) same
       | inr other ↦
-          ap (find (is_valued i)) (flat_snoc events_of n)
+          ap (find (is_valued i)) (flat_map_upto events_of n)
           ∙ find_left (is_valued i) (flat_map events_of (upto n)) (events_of n) (valued_event i)
           (find_valued i n (omega arith) (omega arith))
     ]

@@ -3,7 +3,7 @@ use Rattle.std.proofs.Common.{◌≡◌, ℕ, zero, suc, ◌<◌, ◌||◌, not,
 use Rattle.std.specs.Prelude.{⊤, decimal}
 use Rattle.std.specs.List.{list_any}
 use Rattle.std.specs.Cmp.Lexicographic.{same_text}
-use Rattle.std.proofs.lemmas.Bool.{false≢true, cases_eq, eq-eqb}
+use Rattle.std.proofs.lemmas.Bool.{false≢true, cases_eq}
 use Rattle.std.proofs.lemmas.List.{map-append}
 use Rattle.std.proofs.lemmas.List.Folds.{list_any-append}
 use Rattle.std.proofs.lemmas.Grind.{flat_map-append}
@@ -12,12 +12,8 @@ use Rattle.domains.specs.Names.{is_same}
 use Rattle.net_reader.specs.declared.raw.Word.{Word}
 use Rattle.net_names.specs.Places.{unless}
 use Rattle.net_names.specs.Numbers.{names_of, is_name_of, repeated}
-use Rattle.net_gen.proofs.MoreItems.{flat_snoc}
 use Rattle.net_gen.proofs.NumberedNames.{decimal_apart}
-
-pub same_self : (xs : List ℕ) → is_same xs xs ≡ true
-same_self [] = refl
-same_self (x ∷ xs) = rw (eq-eqb x x refl, same_self xs) refl
+use Rattle.polis_base.proofs.UptoPlaces.{flat_map_upto}
 
 pub other_number : (i k : ℕ) → i < 48 → k < 48 → (i ≡ k → ⊥)
     → is_same (decimal i) (decimal k) ≡ false
@@ -39,7 +35,7 @@ declared_at g name zero k below here = absurd (omega arith)
 declared_at g name (suc n) k below here =
     let all : is_name_of (flat_map g (upto (suc n))) name
     ≡ (is_name_of (flat_map g (upto n)) name || is_name_of (g n) name) =
-    ap (λ (ws : List Word). is_name_of ws name) (flat_snoc g n)
+    ap (λ (ws : List Word). is_name_of ws name) (flat_map_upto g n)
     ∙ ap (list_any (is_same name)) (map-append (λ (w : Word). w.name) (flat_map g (upto n)) (g n))
     ∙ list_any-append (is_same name) (names_of (flat_map g (upto n))) (names_of (g n)) in
     elim (cases_eq k n) [
@@ -65,7 +61,7 @@ pub none_of_each : {X : Type 0} (f : X → List ℕ) (g : ℕ → List X) (n : �
     → flat_map f (flat_map g (upto n)) ≡ []
 none_of_each f g zero h = refl
 none_of_each f g (suc n) h =
-    ap (flat_map f) (flat_snoc g n)
+    ap (flat_map f) (flat_map_upto g n)
     ∙ flat_map-append f (flat_map g (upto n)) (g n)
     ∙ rw (none_of_each f g n (λ i below. h i (omega arith)), h n (omega arith)) refl
 
@@ -83,7 +79,7 @@ pub all_flat : (P : Word → Type 0) (g : ℕ → List Word) (n : ℕ)
     → ((i : ℕ) → i < n → AllWords P (g i)) → AllWords P (flat_map g (upto n))
 all_flat P g zero h = tt
 all_flat P g (suc n) h =
-    subst (AllWords P) (sym (flat_snoc g n))
+    subst (AllWords P) (sym (flat_map_upto g n))
     (all_append P (flat_map g (upto n)) (g n) (all_flat P g n (λ i below. h i (omega arith)))
     (h n (omega arith)))
 
@@ -109,7 +105,7 @@ pub different_flat : (g : ℕ → List Word) (n : ℕ) → ((i : ℕ) → i < n 
     → Different (flat_map g (upto n))
 different_flat g zero own apart = tt
 different_flat g (suc n) own apart =
-    subst Different (sym (flat_snoc g n))
+    subst Different (sym (flat_map_upto g n))
     (different_append (flat_map g (upto n)) (g n)
     (different_flat g n (λ i below. own i (omega arith))
     (λ i k less below. apart i k less (omega arith)))

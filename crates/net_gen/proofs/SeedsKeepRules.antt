@@ -15,9 +15,9 @@ use Rattle.rule_judge.specs.Rules.{rule_15, rule_16, rule_17, rule_18, rule_19, 
 use Rattle.polis_base.specs.Draws.{after, draw}
 use Rattle.journals.proofs.InRow.{◌⨟◌}
 use Rattle.net_gen.specs.Networks.{num, value, machine, ring, count, network}
-use Rattle.net_gen.proofs.RingNames.{same_self}
 use Rattle.net_gen.proofs.DeclarationRules.{each_machine, draw_below, keeps_1, keeps_2, keeps_3, keeps_4, keeps_5, keeps_7, keeps_8, keeps_9, keeps_10, keeps_14}
 use Rattle.net_gen.proofs.PortRules.{each_row, domain_valued, tick_pure, output_pure, keeps_6, keeps_11, keeps_12, keeps_13}
+use Rattle.domains.proofs.Names.{same_self}
 
 -- a number below 8 is a value of the domain
 in_range : (v : ℕ) → v < 8 → is_value (Some (shapes.Range (num 0) (num 7))) (value v) ≡ true

@@ -1,6 +1,6 @@
 -- The declarations of a ring are those of a sentence.
-use Rattle.std.proofs.Common.{◌≡◌, ℕ, zero, suc, ◌<◌, List, [], ◌∷◌, ◌++◌, map, length, flat_map, refl, arith, ◌∙◌, add-one}
-use Rattle.std.proofs.lemmas.List.{length-map, length_push}
+use Rattle.std.proofs.Common.{ℕ, ◌<◌, List, [], ◌∷◌, ◌++◌, map, length, flat_map, refl, arith, ◌∙◌}
+use Rattle.std.proofs.lemmas.List.{length-map}
 use Rattle.std.specs.Prelude.{⊤}
 use Rattle.polis_base.specs.Lists.{upto}
 use Rattle.polis_base.specs.declared.token.Kind.{Kind}
@@ -12,6 +12,7 @@ use Rattle.net_reader.specs.declared.raw.Word.{Word}
 use Rattle.net_reader.specs.declared.raw.RawRow.{RawRow}
 use Rattle.polis_base.specs.Draws.{after}
 use Rattle.net_gen.specs.Networks.{num, value, events_of, tick_row, value_row, last_row, tick_row_at, value_row_at, tick_rows, value_rows, rows, machine, machine_at, machines, domain, ring}
+use Rattle.polis_base.proofs.UptoPlaces.{length_upto}
 
 -- some tokens are of the part
 abbrev Has : Part → Type 0
@@ -122,15 +123,11 @@ machine_tokens i j x =
 domain_tokens : Has (IsDomain domain)
 domain_tokens = only ⨟ word _ ⨟ only ⨟ number 0 ⨟ only ⨟ number 7
 
-long_upto : (n : ℕ) → length (upto n) ≡ n
-long_upto zero = refl
-long_upto (suc n) = length_push (upto n) n ∙ rw (long_upto n) (add-one n)
-
 pub sentence : (n x : ℕ) → 0 < n → IsOfSentence (ring n x)
 unfolding machines
 sentence n x some =
     only ⨟ word _ ⨟ only ⨟ number 1 ⨟ (domain_tokens ⨟ none)
     ⨟ each IsEvent (flat_map events_of (upto n)) (have_flat IsEvent events_of event_tokens (upto n))
     ⨟ one_and (IsMachine 1) (map (machine_at n x) (upto n))
-    (let size = length-map (upto n) (machine_at n x) ∙ long_upto n in omega arith)
+    (let size = length-map (upto n) (machine_at n x) ∙ length_upto n in omega arith)
     (have_map (IsMachine 1) (machine_at n x) (λ i. machine_tokens i _ _) (upto n))

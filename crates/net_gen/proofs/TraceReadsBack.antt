@@ -1,11 +1,10 @@
 -- The trace text of a seed reads as the trace of the seed.
 use Rattle.std.proofs.Common.{◌≡◌, ℕ, zero, suc, ◌+◌, ◌*◌, ◌/◌, ◌%◌, ◌<◌, ◌≤◌, ◌==◌, ◌&&◌, not, Bool, true, false, cond, List, [], ◌∷◌, ◌++◌, flat_map, length, Option, Some, None, refl, sym, ap, ◌∙◌, arith, inl, inr, nat_lt, fold}
 use Rattle.std.specs.Prelude.{codes, decimal, option_map, unwrap_or, Ok}
-use Rattle.std.specs.Option.{option_or}
 use Rattle.std.specs.List.{find, list_all, enumerate_from, AllZip}
 use Rattle.std.proofs.lemmas.Bool.{cases_eq, cases_lt, lt-ltb, le-ltb, true≢false}
 use Rattle.std.proofs.lemmas.List.{length-append}
-use Rattle.std.proofs.lemmas.List.Folds.{find-append, list_all-append}
+use Rattle.std.proofs.lemmas.List.Folds.{list_all-append}
 use Rattle.polis_base.specs.Lists.{upto}
 use Rattle.domains.specs.Names.{is_same}
 use Rattle.transition_table.specs.NetworkNames.{joined, event_domain}
@@ -19,12 +18,14 @@ use Rattle.net_gen.specs.Events.{HasDemoEvents}
 use Rattle.net_gen.specs.Items.{tick_item, items_at, tick_items, trace_items}
 use Rattle.net_gen.specs.Networks.{count}
 use Rattle.net_gen.specs.Traces.{tick_line, lines_at, ticks, trace_text}
-use Rattle.net_gen.proofs.MoreItems.{flat_snoc}
 use Rattle.net_gen.proofs.DeclarationRules.{draw_below}
 use Rattle.net_gen.proofs.Lines.{is_free, text_of, are_lines, lines_back, one_word, IsItem, all_read, zip_flat, all_flat, text_flat}
-use Rattle.net_gen.proofs.RingNames.{same_self, other_number}
+use Rattle.net_gen.proofs.RingNames.{other_number}
 use Rattle.net_gen.proofs.NumberedNames.{each_below, one_digit, two_digits}
 use Rattle.journals.specs.ValueWords.{word_code}
+use Rattle.domains.proofs.Names.{same_self}
+use Rattle.polis_base.proofs.Found.{find_only}
+use Rattle.polis_base.proofs.UptoPlaces.{flat_map_upto}
 
 -- ---- the lines
 
@@ -100,23 +101,6 @@ none_before p (suc m) none =
     list_all-append (λ x. not (p x)) (upto m) (m ∷ [])
     ∙ rw (none_before p m (λ j less. none j (omega arith)), none m (omega arith)) refl
 
-find_first : (p : ℕ → Bool) (m k : ℕ) → k < m → p k ≡ true → ((j : ℕ) → j < k → p j ≡ false)
-    → find p (upto m) ≡ Some k
-find_first p zero k below here before = absurd (omega arith)
-find_first p (suc m) k below here before =
-    elim (cases_eq m k) [
-      | inl same ↦
-          let here_too : p m ≡ true = ap p same ∙ here in
-          let none : find p (upto m) ≡ None =
-          find_none p (upto m) (none_before p m (λ j less. before j (omega arith))) in
-          find-append p (upto m) (m ∷ [])
-          ∙ rw (none, here_too) (ap (λ (j : ℕ). Some j) same)
-      | inr other ↦
-          find-append p (upto m) (m ∷ [])
-          ∙ ap (λ (o : Option ℕ). option_or o (find p (m ∷ [])))
-          (find_first p m k (omega arith) here before)
-    ]
-
 module _ (n : ℕ) (net : Network) (few : n ≤ 48) (has : HasDemoEvents n net) where
   not_before : (i : ℕ) → i < n → (k : ℕ) → k ≤ i → (j : ℕ) → j < 3 * k
       → is_sent_event net (tick_word i) j ≡ false
@@ -154,7 +138,7 @@ module _ (n : ℕ) (net : Network) (few : n ≤ 48) (has : HasDemoEvents n net) 
       let here : is_sent_event net (tick_word i) (3 * i) ≡ true =
       ap sent (has.tick_is i below) ∙ rw (same_self (decimal i)) refl in
       ap (λ (m : ℕ). find (is_sent_event net (tick_word i)) (upto m)) has.events
-      ∙ find_first (is_sent_event net (tick_word i)) (3 * n) (3 * i) (omega arith) here
+      ∙ find_only (is_sent_event net (tick_word i)) (3 * n) (3 * i) (omega arith) here
       (λ j before. not_before i below i (omega arith) j before)
 
   tick_read : (i : ℕ) → i < n → IsItem net (tick_word i) (tick_item i)
@@ -192,7 +176,7 @@ module _ (n : ℕ) (net : Network) (few : n ≤ 48) (has : HasDemoEvents n net) 
       let one = long_at x m in
       let size : length (flat_map (words_at n x) (upto (suc m)))
       ≡ length (flat_map (words_at n x) (upto m)) + length (words_at n x m) =
-      ap length (flat_snoc (words_at n x) m)
+      ap length (flat_map_upto (words_at n x) m)
       ∙ length-append (flat_map (words_at n x) (upto m)) (words_at n x m) in
       omega arith
 

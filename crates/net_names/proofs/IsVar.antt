@@ -1,5 +1,5 @@
 -- Variables by the numbers of their names.
-use Rattle.std.proofs.Common.{◌≡◌, ◌∙◌, ◌<◌, ℕ, suc, Bool, true, false, cond, List, [], ◌∷◌, length, slice_get, Option, Some, None, is_some, unwrap_or, subst, ap, sym, true≢false, refl, arith}
+use Rattle.std.proofs.Common.{◌≡◌, ◌∙◌, ◌<◌, ℕ, suc, Bool, true, false, cond, List, [], ◌∷◌, length, slice_get, Option, Some, None, is_some, subst, ap, sym, true≢false, refl, arith}
 use Rattle.std.specs.Option.{option_map}
 use Rattle.std.specs.Cmp.Lexicographic.{same_text}
 use Rattle.domains.specs.Names.{is_same}
@@ -9,9 +9,7 @@ use Rattle.net_reader.specs.declared.raw.RawNet.{RawNet}
 use Rattle.net_names.specs.declared.vars.Var.{Var}
 use Rattle.net_names.specs.Numbers.{names_of, number_in}
 use Rattle.net_names.specs.Vars.{IsVar, AreVars}
-
-pub some_is : {A : Type 0} (a b : A) → Some a ≡ Some b → a ≡ b
-some_is a b e = ap (λ o. unwrap_or o a) e
+use Rattle.polis_base.proofs.Places.{some_is}
 
 -- the variable at a name's number is what the name stands for
 pub var_at : (net : RawNet) (m : RawMachine) (words : List Word) (vars : List Var) (name : List ℕ)

@@ -4,7 +4,8 @@ use Rattle.net_reader.specs.Kinds.{class_of}
 use Rattle.net_reader.specs.Lexemes.{Lexeme}
 use Rattle.net_reader.specs.Grammar.{Part, Says, Each}
 use Rattle.net_reader.specs.Reading.{Answer, Rule, Shrinks, ◌>>=◌, taken, one, begins, pure, either, many_up_to, many, more}
-use Rattle.net_reader.proofs.Laws.{Took, Broke, Laws, none, joined, Apart, Within, or_false, or_left, bind_ok, passed, follows, goes_left, begins_joined_to, begins_same, begins_second, step}
+use Rattle.net_reader.proofs.Laws.{Took, Broke, Laws, none, joined, Apart, Within, bind_ok, passed, follows, goes_left, begins_joined_to, begins_same, begins_second, step}
+use Rattle.std.proofs.lemmas.Bool.{or_left, or_parts}
 
 pub same_laws : {A : Type 0} {p : Rule A} {P Q : A → Part} {s g : ℕ → Bool} {e : Bool}
     → ((a : A) (ts : List Lexeme) → P a ts → Q a ts)
@@ -255,7 +256,7 @@ either_complete {p = p} {q = q} {sp = sp} {gp = gp} {sq = sq} {gq = gq} {eq = eq
     goes_right : (s t : ℕ → Bool) (ms : List Lexeme) → begins (λ c. s c || t c) ms ≡ false
         → begins t ms ≡ false
     goes_right s t [] h = refl
-    goes_right s t (l ∷ ms) h = (or_false (s (class_of l.kind)) (t (class_of l.kind)) h).1
+    goes_right s t (l ∷ ms) h = (or_parts (s (class_of l.kind)) (t (class_of l.kind)) h).1
 
 either_first : (sp sq : ℕ → Bool) (eq : Bool) (used : List Lexeme)
     → ((begins sp used ≡ true) ⊎ ((false ≡ true) × (used ≡ [])))
@@ -531,7 +532,7 @@ many_complete {p = p} {gp = gp} test laws within apart used rest [] f g =
   where
     tested : (ms : List Lexeme) → begins (joined true gp test) ms ≡ false → begins test ms ≡ false
     tested [] h = refl
-    tested (l ∷ ms) h = (or_false (gp (class_of l.kind)) (test (class_of l.kind)) h).1
+    tested (l ∷ ms) h = (or_parts (gp (class_of l.kind)) (test (class_of l.kind)) h).1
 many_complete {p = p} {sp = sp} {gp = gp} test laws within apart used rest (a ∷ others) f g =
     let x = f.0 in
     let y = f.1 in

@@ -20,8 +20,9 @@ use Rattle.net_reader.specs.declared.raw.RawMachine.{RawMachine}
 use Rattle.net_reader.specs.declared.raw.RawNet.{RawNet}
 use Rattle.net_reader.proofs.LastToken.{net_ends}
 use Rattle.net_reader.proofs.Marks.{Scanned, token_at, Is, scan_is}
-use Rattle.net_reader.proofs.Cuts.{Closes, one_of, none_of, while_within, first_read, cut as first_tokens}
+use Rattle.net_reader.proofs.Cuts.{Closes, one_of, none_of, while_within, cut as first_tokens}
 use Rattle.net_reader.proofs.FirstMachines.{GoOn, Starts, starts}
+use Rattle.polis_base.proofs.Spans.{opened}
 
 -- it takes no more than n bytes
 record Fits (n : ℕ) (f : Scanned) : Type 0 where
@@ -105,7 +106,7 @@ in_here : (f : Scanned) (at n : ℕ) (r : Result (List Token) LexError) (ts : Li
 in_here f at n r ts (inl s) fit h ih = ih ts (sym (s.joins at r) ∙ h)
 in_here f at n r ts (inr (inl s)) fit h ih =
     let t = token_at s.kind s.len at in
-    let x = first_read t r ts (sym (s.joins at r) ∙ h) in
+    let x = opened t r ts (sym (s.joins at r) ∙ h) in
     subst (AllIn (at + suc n)) (sym x.2) (fit.fits at t (s.joins at (Ok [])), ih x.0 x.1)
 in_here f at n r ts (inr (inr s)) fit h ih = absurd (cc (sym (s.joins at r) ∙ h))
 

@@ -1,6 +1,6 @@
 -- A text that is cut off: its tokens are the first ones of the whole text, where they end with a
 -- right brace.
-use Rattle.std.proofs.Common.{◌≡◌, ◌⊎◌, inl, inr, ℕ, zero, suc, ◌+◌, ◌-◌, ◌<◌, ◌≤◌, ◌==◌, Bool, true, false, cond, not, nat_lt, List, [], ◌∷◌, ◌++◌, length, take, Option, Some, None, Result, Ok, Err, refl, sym, ◌∙◌, ap, subst, arith}
+use Rattle.std.proofs.Common.{◌≡◌, ◌⊎◌, inl, inr, ℕ, zero, suc, ◌+◌, ◌-◌, ◌<◌, ◌≤◌, ◌==◌, Bool, true, false, cond, not, nat_lt, List, [], ◌∷◌, ◌++◌, length, take, Option, Some, None, Result, Ok, refl, sym, ◌∙◌, ap, subst, arith}
 use Rattle.std.specs.Bool.{⊤}
 use Rattle.std.specs.List.{take_while, prefix_len}
 use Rattle.std.proofs.lemmas.List.{take-append-le}
@@ -15,9 +15,11 @@ use Rattle.polis_base.specs.declared.token.Kind.TheVariants.{Number, Sign}
 use Rattle.polis_base.specs.declared.token.Sign.TheVariants.{Colon, RightBrace}
 use Rattle.polis_base.specs.declared.token.Token.{Token}
 use Rattle.polis_base.specs.declared.token.LexError.{LexError}
-use Rattle.polis_base.specs.Tokens.{is_blank, keyword_of, word_kind, scan, scan_word, scan_number, scan_sign, bytes_in, with_token, joined, tokens_from}
+use Rattle.polis_base.specs.Tokens.{is_blank, keyword_of, word_kind, scan, scan_word, scan_number, scan_sign, bytes_in, joined, tokens_from}
 use Rattle.net_reader.specs.Kinds.{class_of}
 use Rattle.net_reader.proofs.Marks.{Scanned, token_at, Is, scan_is}
+use Rattle.polis_base.proofs.Numbers.{within_or_over}
+use Rattle.polis_base.proofs.Spans.{opened}
 
 -- the bytes that pass, where one that doesn't follows
 
@@ -175,12 +177,6 @@ closes_after : (t : Token) (us : List Token) → Closes (t ∷ us) → Closes us
 closes_after t [] h = tt
 closes_after t (u ∷ us) h = h
 
--- what reads with a token before it
-pub first_read : (t : Token) (r : Result (List Token) LexError) (ts : List Token)
-    → with_token t r ≡ Ok ts → (us : List Token) × (r ≡ Ok us) × (ts ≡ t ∷ us)
-first_read t (Ok us) ts h = (us, refl, sym (cc h))
-first_read t (Err error) ts h = absurd cc
-
 begins_more : (t : Token) (us ts : List Token) → Begins us ts → Begins (t ∷ us) (t ∷ ts)
 begins_more t us ts b = (b.0, ap (λ (xs : List Token). t ∷ xs) b.1)
 
@@ -192,8 +188,8 @@ goes_on f at whole r ts us (inl s) h k e ih =
     ih ts us (sym (s.joins at whole) ∙ h) (sym (s.joins at r) ∙ k) e
 goes_on f at whole r ts us (inr (inl s)) h k e ih =
     let t = token_at s.kind s.len at in
-    let x = first_read t whole ts (sym (s.joins at whole) ∙ h) in
-    let y = first_read t r us (sym (s.joins at r) ∙ k) in
+    let x = opened t whole ts (sym (s.joins at whole) ∙ h) in
+    let y = opened t r us (sym (s.joins at r) ∙ k) in
     let later = ih x.0 y.0 x.1 y.1 (closes_after t y.0 (subst Closes y.2 e)) in
     subst (λ (m : List Token). Begins m ts) (sym y.2)
     (subst (λ (m : List Token). Begins (t ∷ y.0) m) (sym x.2) (begins_more t y.0 x.0 later))
@@ -210,14 +206,14 @@ ends_here : (f g : Scanned) (at : ℕ) (whole : Result (List Token) LexError) (t
 ends_here f g at whole ts us (inl s) h b k e = begins_none us ts (sym (s.joins at (Ok [])) ∙ k)
 ends_here f g at whole ts us (inr (inl s)) h (inl same) k e =
     let t = token_at s.kind s.len at in
-    let x = first_read t whole ts (sym (s.joins at whole) ∙ h same) in
-    let y = first_read t (Ok []) us (sym (s.joins at (Ok [])) ∙ k) in
+    let x = opened t whole ts (sym (s.joins at whole) ∙ h same) in
+    let y = opened t (Ok []) us (sym (s.joins at (Ok [])) ∙ k) in
     let none : y.0 ≡ [] = (let z = y.1 in cc) in
     subst (λ (m : List Token). Begins m ts) (sym (y.2 ∙ ap (λ (m : List Token). t ∷ m) none))
     (x.0, x.2)
 ends_here f g at whole ts us (inr (inl s)) h (inr off) k e =
     let t = token_at s.kind s.len at in
-    let y = first_read t (Ok []) us (sym (s.joins at (Ok [])) ∙ k) in
+    let y = opened t (Ok []) us (sym (s.joins at (Ok [])) ∙ k) in
     let none : y.0 ≡ [] = (let z = y.1 in cc) in
     let all : us ≡ t ∷ [] = y.2 ∙ ap (λ (m : List Token). t ∷ m) none in
     absurd (off at t (k ∙ ap Ok all) (subst Closes all e))
@@ -227,13 +223,6 @@ passed_all : (at n : ℕ) (xs : List ℕ) → length xs ≤ n → tokens_from at
 passed_all at n [] h = refl
 passed_all at zero (c ∷ xs) h = absurd (omega (arith, h))
 passed_all at (suc n) (c ∷ xs) h = passed_all (at + 1) n xs (omega (arith, h))
-
-within_or_over : (a b : ℕ) → (a ≤ b) ⊎ (b < a)
-within_or_over a b = cases (nat_lt b a) refl
-  where
-    cases : (t : Bool) → nat_lt b a ≡ t → (a ≤ b) ⊎ (b < a)
-    cases true e = inr (grind (arith, e))
-    cases false e = inl (grind (arith, e))
 
 -- one place of both
 step : (f g : Scanned) (at : ℕ) (xs ys : List ℕ) (ts us : List Token) → Fate (length xs) f g → Is f

@@ -5,6 +5,7 @@ use Rattle.net_reader.specs.Kinds.{class_of}
 use Rattle.net_reader.specs.Lexemes.{Lexeme}
 use Rattle.net_reader.specs.Grammar.{Part}
 use Rattle.net_reader.specs.Reading.{Answer, Rule, ◌>>=◌, begins}
+use Rattle.std.proofs.lemmas.Bool.{or_left, or_parts, or_right}
 
 -- The rule read the value and left the rest: what it used is of the part, and it does the same
 -- where the next token is the same.
@@ -53,18 +54,6 @@ pub record Apart (s t : ℕ → Bool) : Type 0 where
 pub record Within (s t : ℕ → Bool) : Type 0 where
   pub on : (k : Kind) → s (class_of k) ≡ true → t (class_of k) ≡ true
 
-pub or_false : (a b : Bool) → (a || b) ≡ false → (a ≡ false) × (b ≡ false)
-or_false false b h = (refl, h)
-or_false true b h = absurd cc
-
-pub or_left : (a b : Bool) → a ≡ true → (a || b) ≡ true
-or_left true b h = refl
-or_left false b h = absurd cc
-
-pub or_right : (a b : Bool) → b ≡ true → (a || b) ≡ true
-or_right true b h = refl
-or_right false b h = h
-
 pub bind_ok : {A B : Type 0} (r : Answer A) (f : A × List Lexeme → Answer B) (y : B × List Lexeme)
     → (r >>= f) ≡ Ok y → (x : A × List Lexeme) × (r ≡ Ok x) × (f x ≡ Ok y)
 bind_ok (Ok x) f y h = (x, refl, h)
@@ -93,13 +82,13 @@ follows sq gp gq false y rest apart (inr h) g = absurd (cc h.0)
 follows sq gp gq true y [] apart (inr h) g = ap (λ (m : List Lexeme). begins gp (m ++ [])) h.1
 follows sq gp gq true y (l ∷ rest) apart (inr h) g =
     ap (λ (m : List Lexeme). begins gp (m ++ l ∷ rest)) h.1
-    ∙ (or_false (gq (class_of l.kind)) (gp (class_of l.kind)) g).1
+    ∙ (or_parts (gq (class_of l.kind)) (gp (class_of l.kind)) g).1
 
 pub goes_left : (gp gq : ℕ → Bool) (eq : Bool) (rest : List Lexeme)
     → begins (joined eq gq gp) rest ≡ false → begins gq rest ≡ false
 goes_left gp gq false rest g = g
 goes_left gp gq true [] g = refl
-goes_left gp gq true (l ∷ rest) g = (or_false (gq (class_of l.kind)) (gp (class_of l.kind)) g).0
+goes_left gp gq true (l ∷ rest) g = (or_parts (gq (class_of l.kind)) (gp (class_of l.kind)) g).0
 
 -- what a list begins with
 pub begins_joined : (s t : ℕ → Bool) (e : Bool) (x y : List Lexeme) → begins s x ≡ true

@@ -8,8 +8,8 @@ use Rattle.polis_base.specs.declared.token.LexError.{LexError}
 use Rattle.polis_base.specs.Tokens.{scan, is_blank, bytes_in, with_token, joined, tokens_from}
 use Rattle.net_reader.specs.Lexemes.{Lexeme, lexemes}
 use Rattle.net_reader.specs.Grammar.{Part, ◌⨾◌, Only}
-use Rattle.polis_base.proofs.Names.{left_true, right_true}
 use Rattle.polis_base.proofs.TokensFrom.{passed}
+use Rattle.polis_base.proofs.Bools.{and_first, and_second}
 
 -- from a place on the bytes read as these tokens, whatever stood before
 pub record Lexed (at : ℕ) (bytes : List ℕ) (ls : List Lexeme) : Type 0 where
@@ -34,10 +34,10 @@ pub skips : (blanks bytes : List ℕ) (at : ℕ) (ls : List Lexeme) → list_all
     → Lexed (at + length blanks) bytes ls → Lexed at (blanks ++ bytes) ls
 skips [] bytes at ls blank l = moved (at + 0) at bytes bytes ls ls (add-zero at) refl refl l
 skips (c ∷ blanks) bytes at ls blank l =
-    let here : is_blank c ≡ true = left_true (is_blank c) (list_all is_blank blanks) blank in
+    let here : is_blank c ≡ true = and_first (is_blank c) (list_all is_blank blanks) blank in
     let e : at + length (c ∷ blanks) ≡ at + 1 + length blanks = omega arith in
     let later : Lexed (at + 1) (blanks ++ bytes) ls = skips blanks bytes (at + 1) ls
-    (right_true (is_blank c) _ blank) (moved _ _ _ _ _ _ e refl refl l) in
+    (and_second (is_blank c) _ blank) (moved _ _ _ _ _ _ e refl refl l) in
     let size : bytes_in (scan at (c ∷ (blanks ++ bytes))) ≡ 1 = rw here refl in
     let over : joined (scan at (c ∷ (blanks ++ bytes))) at
     (tokens_from (at + 1) 0 (blanks ++ bytes))

@@ -15,6 +15,7 @@ use Rattle.polis_base.specs.Tokens.{is_blank, begins_with, keyword_of, word_kind
 use Rattle.polis_base.specs.Tokens.{fault_of}
 use Rattle.net_reader.specs.Lexemes.{Lexeme, lexeme, lexemes}
 use Rattle.net_reader.specs.Pieces.{place_of}
+use Rattle.polis_base.proofs.Spans.{none_read}
 
 -- what stands at a place: bytes of no token, a token, or one that doesn't read
 
@@ -111,10 +112,6 @@ token_read token (Ok ts) ms tokens h ih =
     let same : token ∷ ts ≡ tokens = cc in
     ap (λ (xs : List Token). token ∷ xs) (ih ts refl) ∙ same
 token_read token (Err error) ms tokens h ih = absurd cc
-
-none_read : (error : LexError) (tokens : List Token)
-    → ◌≡◌ {A = Result (List Token) LexError} (Err error) (Ok tokens) → ⊥
-none_read error tokens h = cc
 
 reads_here : (f : Scanned) (at left : ℕ) (r : Result (List Token) LexError) (ms tokens : List Token)
     → Is f → joined f at r ≡ Ok tokens → ((ts : List Token) → r ≡ Ok ts → ms ≡ ts)

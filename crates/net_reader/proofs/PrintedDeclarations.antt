@@ -18,9 +18,9 @@ use Rattle.net_reader.specs.declared.raw.RawState.{RawState}
 use Rattle.net_reader.proofs.OtherParts.{with_rest, with_both}
 use Rattle.net_reader.proofs.Lexemes.{Made, conv, seq, trail, retext, any}
 use Rattle.net_reader.proofs.PrintedWords.{Like, ends, word_made, number_made, value_made}
-use Rattle.polis_base.proofs.Names.{left_true, right_true}
 use Rattle.net_reader.proofs.AppendAssociative.{as3, as5, as7}
 use Rattle.net_reader.proofs.PrintedTokens.{domain_key, event_key, from_key, to_key, env_key, state_key, equal_sign, colon_sign, open_sign, close_sign, dots_sign, weak, blank_made, words_made}
+use Rattle.polis_base.proofs.Bools.{and_first, and_second}
 
 shape_made : (s : RawShape) (ts : List Lexeme) → shape_formed s ≡ true → IsShape s ts
     → Made ends (Like IsShape shape_alone s) (shape_text s)
@@ -36,8 +36,8 @@ shape_made (shapes.Names names) ts f h =
     })
 shape_made (shapes.Range first last) ts f h =
     conv (retext (as3 (decimal first.number) (codes " .. ") (decimal last.number))
-    (seq (number_made first (left_true _ (num_formed last) f))
-    (seq dots_sign (number_made last (right_true (num_formed first) _ f)) (λ rest h. refl))
+    (seq (number_made first (and_first _ (num_formed last) f))
+    (seq dots_sign (number_made last (and_second (num_formed first) _ f)) (λ rest h. refl))
     (λ rest h. refl)))
     (λ ms x. record {
       same = shapes.Range x.3.same x.4.4.same;
@@ -51,10 +51,10 @@ pub domain_made : (d : RawDomain) (ts : List Lexeme) → domain_formed d ≡ tru
 domain_made d ts f h =
     conv (retext (as5 (codes "domain ") d.name.name (codes " = ") (shape_text d.shape) (codes "\n"))
     (seq domain_key
-    (seq (word_made d.name (left_true _ (shape_formed d.shape) f))
+    (seq (word_made d.name (and_first _ (shape_formed d.shape) f))
     (seq equal_sign
     (trail (codes "\n")
-    (shape_made d.shape h.4.4.1 (right_true (word_formed d.name) _ f) h.4.4.4) refl
+    (shape_made d.shape h.4.4.1 (and_second (word_formed d.name) _ f) h.4.4.4) refl
     (λ rest. refl)) (λ rest h. refl)) (λ rest h. refl)) (λ rest h. refl)))
     (λ ms x. record {
       same = record { name = x.4.3.same; shape = x.4.4.4.same };
@@ -94,8 +94,8 @@ pub event_made : (e : RawEvent) (ts : List Lexeme) → event_formed e ≡ true �
 event_made e ts f h =
     conv (retext (as5 (codes "event ") e.name.name (typed_text e.domain) (env_text e.env)
     (codes "\n")) (seq event_key
-    (seq (word_made e.name (left_true _ (typed_formed e.domain) f))
-    (seq (typed_made e.domain (right_true (word_formed e.name) _ f)) (env_made e.env)
+    (seq (word_made e.name (and_first _ (typed_formed e.domain) f))
+    (seq (typed_made e.domain (and_second (word_formed e.name) _ f)) (env_made e.env)
     (λ rest h. env_begins e.env rest)) (λ rest h. typed_begins e.domain e.env rest))
     (λ rest h. refl)))
     (λ ms x. record {
@@ -111,14 +111,14 @@ state_made s ts f h =
     conv (retext (as7 (codes "  state ") s.name.name (codes " : ") s.domain.name (codes " = ")
     (value_text s.init) (codes "\n"))
     (seq state_key (seq
-    (word_made s.name (left_true _ (word_formed s.domain && value_formed s.init) f))
+    (word_made s.name (and_first _ (word_formed s.domain && value_formed s.init) f))
     (seq colon_sign
     (seq (word_made s.domain
-    (left_true _ (value_formed s.init) (right_true (word_formed s.name) _ f)))
+    (and_first _ (value_formed s.init) (and_second (word_formed s.name) _ f)))
     (seq equal_sign
     (trail (codes "\n")
     (value_made s.init
-    (right_true (word_formed s.domain) _ (right_true (word_formed s.name) _ f))) refl
+    (and_second (word_formed s.domain) _ (and_second (word_formed s.name) _ f))) refl
     (λ rest. refl)) (λ rest h. refl)) (λ rest h. refl)) (λ rest h. refl)) (λ rest h. refl))
     (λ rest h. refl)))
     (λ ms x. record {

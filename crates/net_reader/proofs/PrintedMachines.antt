@@ -13,11 +13,11 @@ use Rattle.net_reader.specs.declared.raw.RawMachine.{RawMachine}
 use Rattle.net_reader.proofs.OtherParts.{with_rest, with_both}
 use Rattle.net_reader.proofs.Lexemes.{Made, conv, seq, trail, retext, any}
 use Rattle.net_reader.proofs.PrintedWords.{Like, word_made, number_made, each_made}
-use Rattle.polis_base.proofs.Names.{left_true, right_true}
 use Rattle.net_reader.proofs.AppendAssociative.{as3, as4, as5, as6}
 use Rattle.net_reader.proofs.PrintedTokens.{machine_key, priority_key, input_key, output_key, body_sign, end_sign, blank_made, words_made}
 use Rattle.net_reader.proofs.PrintedDeclarations.{state_made}
 use Rattle.net_reader.proofs.PrintedRows.{row_made}
+use Rattle.polis_base.proofs.Bools.{and_first, and_second}
 
 are_outputs : (names : List Word) (ms : List Lexeme) → (Key KwOutput ⨾ Listed IsWord names) ms
     → AreOutputs names ms
@@ -42,30 +42,30 @@ pub machine_made : (version : ℕ) (m : RawMachine) (ts : List Lexeme) → machi
     → IsMachine version m ts → Made any (Like (IsMachine version) machine_alone m) (machine_text m)
 machine_made version m ts f h =
     let later = list_all state_formed m.states && list_all row_formed m.rows in
-    let head : head_formed m ≡ true = left_true (head_formed m) (ports_formed m && later) f in
+    let head : head_formed m ≡ true = and_first (head_formed m) (ports_formed m && later) f in
     let after : (ports_formed m && later) ≡ true =
-    right_true (head_formed m) (ports_formed m && later) f in
-    let ports : ports_formed m ≡ true = left_true (ports_formed m) later after in
-    let body : later ≡ true = right_true (ports_formed m) later after in
+    and_second (head_formed m) (ports_formed m && later) f in
+    let ports : ports_formed m ≡ true = and_first (ports_formed m) later after in
+    let body : later ≡ true = and_second (ports_formed m) later after in
     conv (retext (machine_joined m.name.name (decimal m.priority.number)
     (listed_text word_text m.inputs) (outputs_text m.outputs) (flat_map state_text m.states)
     (flat_map row_text m.rows))
     (seq machine_key
-    (seq (word_made m.name (left_true _ (num_formed m.priority) head))
+    (seq (word_made m.name (and_first _ (num_formed m.priority) head))
     (seq priority_key
-    (seq (number_made m.priority (right_true (word_formed m.name) _ head))
+    (seq (number_made m.priority (and_second (word_formed m.name) _ head))
     (seq body_sign (seq input_key
     (seq (trail (codes "\n")
-    (words_made m.inputs h.4.4.4.4.4.4.0 (left_true _ (list_all word_formed m.outputs) ports)
+    (words_made m.inputs h.4.4.4.4.4.4.0 (and_first _ (list_all word_formed m.outputs) ports)
     h.4.4.4.4.4.4.3) refl (λ rest. refl))
     (seq (outputs_made m.outputs h.4.4.4.4.4.4.4.0
-    (right_true (list_all word_formed m.inputs) _ ports) h.4.4.4.4.4.4.4.3)
+    (and_second (list_all word_formed m.inputs) _ ports) h.4.4.4.4.4.4.4.3)
     (seq (each_made any IsState state_alone state_text state_formed state_made
     (λ items rest h. refl) m.states h.4.4.4.4.4.4.4.4.0
-    (left_true _ (list_all row_formed m.rows) body) h.4.4.4.4.4.4.4.4.3)
+    (and_first _ (list_all row_formed m.rows) body) h.4.4.4.4.4.4.4.4.3)
     (seq (each_made any (IsRow version) row_alone row_text row_formed (row_made version)
     (λ items rest h. refl) m.rows h.4.4.4.4.4.4.4.4.4.0
-    (right_true (list_all state_formed m.states) _ body) h.4.4.4.4.4.4.4.4.4.3) end_sign
+    (and_second (list_all state_formed m.states) _ body) h.4.4.4.4.4.4.4.4.4.3) end_sign
     (λ rest h. refl)) (λ rest h. refl)) (λ rest h. refl)) (λ rest h. refl)) (λ rest h. refl))
     (λ rest h. refl)) (λ rest h. refl)) (λ rest h. refl)) (λ rest h. refl)) (λ rest h. refl)))
     (λ ms x. record {

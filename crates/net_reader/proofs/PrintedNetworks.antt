@@ -1,5 +1,5 @@
 -- The tokens of a printed network.
-use Rattle.std.proofs.Common.{◌≡◌, ℕ, ◌+◌, Bool, true, false, ◌&&◌, List, [], ◌∷◌, ◌++◌, length, map, refl, sym, ◌∙◌, ap, subst}
+use Rattle.std.proofs.Common.{◌≡◌, ℕ, ◌+◌, true, ◌&&◌, List, [], ◌∷◌, ◌++◌, length, map, refl, sym, ◌∙◌, ap, subst}
 use Rattle.std.specs.Prelude.{codes, flat_map, decimal}
 use Rattle.std.specs.List.{list_all}
 use Rattle.std.proofs.lemmas.List.{append-nil}
@@ -15,11 +15,12 @@ use Rattle.net_reader.specs.declared.raw.RawNet.{RawNet}
 use Rattle.net_reader.proofs.OtherParts.{with_rest, with_both}
 use Rattle.net_reader.proofs.Lexemes.{Made, conv, seq, trail, retext, moved, any, nothing_left}
 use Rattle.net_reader.proofs.PrintedWords.{Like, word_made, number_made, each_made}
-use Rattle.polis_base.proofs.Names.{left_true, right_true}
 use Rattle.net_reader.proofs.AppendAssociative.{as3, as7}
 use Rattle.net_reader.proofs.PrintedTokens.{network_key, version_key}
 use Rattle.net_reader.proofs.PrintedDeclarations.{domain_made, event_made}
 use Rattle.net_reader.proofs.PrintedMachines.{machine_made}
+use Rattle.std.proofs.lemmas.Bool.{and_from}
+use Rattle.polis_base.proofs.Bools.{and_first, and_second}
 
 -- none or more machines with one at least
 are_machines : (version : ℕ) (machines : List RawMachine) (ts : List Lexeme)
@@ -52,16 +53,16 @@ net_made n ts f h =
     let three = list_all event_formed n.events && four in
     let two = list_all domain_formed n.domains && three in
     let one = num_formed n.version && two in
-    let name : word_formed n.name ≡ true = left_true (word_formed n.name) one f in
-    let f1 : one ≡ true = right_true (word_formed n.name) one f in
-    let version : num_formed n.version ≡ true = left_true (num_formed n.version) two f1 in
-    let f2 : two ≡ true = right_true (num_formed n.version) two f1 in
+    let name : word_formed n.name ≡ true = and_first (word_formed n.name) one f in
+    let f1 : one ≡ true = and_second (word_formed n.name) one f in
+    let version : num_formed n.version ≡ true = and_first (num_formed n.version) two f1 in
+    let f2 : two ≡ true = and_second (num_formed n.version) two f1 in
     let domains : list_all domain_formed n.domains ≡ true =
-    left_true (list_all domain_formed n.domains) three f2 in
-    let f3 : three ≡ true = right_true (list_all domain_formed n.domains) three f2 in
+    and_first (list_all domain_formed n.domains) three f2 in
+    let f3 : three ≡ true = and_second (list_all domain_formed n.domains) three f2 in
     let events : list_all event_formed n.events ≡ true =
-    left_true (list_all event_formed n.events) four f3 in
-    let machines : four ≡ true = right_true (list_all event_formed n.events) four f3 in
+    and_first (list_all event_formed n.events) four f3 in
+    let machines : four ≡ true = and_second (list_all event_formed n.events) four f3 in
     conv (retext (net_joined n.name.name (decimal n.version.number) (flat_map domain_text n.domains)
     (flat_map event_text n.events) (flat_map machine_text n.machines))
     (seq network_key
@@ -113,18 +114,13 @@ net_made n ts f h =
         ∙ ap (λ (t : List ℕ). t ++ domains ++ events ++ machines)
         (as3 (codes "network " ++ name ++ codes " version ") number (codes "\n"))
 
-both_true : (a b : Bool) → a ≡ true → b ≡ true → (a && b) ≡ true
-both_true true true h k = refl
-both_true true false h k = k
-both_true false b h k = h
-
 -- what is formed in each part is formed
 pub formed_from : (n : RawNet) → word_formed n.name ≡ true → num_formed n.version ≡ true
     → list_all domain_formed n.domains ≡ true → list_all event_formed n.events ≡ true
     → list_all machine_formed n.machines ≡ true → net_formed n ≡ true
 formed_from n name version domains events machines =
-    both_true _ _ name
-    (both_true _ _ version (both_true _ _ domains (both_true _ _ events machines)))
+    and_from _ _ name
+    (and_from _ _ version (and_from _ _ domains (and_from _ _ events machines)))
 
 -- the text of a network declares the same
 pub declares : (n : RawNet) (ts : List Lexeme) → net_formed n ≡ true → IsNet n ts

@@ -21,9 +21,9 @@ use Rattle.net_reader.specs.declared.raw.RawRow.{RawRow}
 use Rattle.net_reader.proofs.OtherParts.{with_rest, with_both}
 use Rattle.net_reader.proofs.Lexemes.{Made, conv, seq, trail, retext, any}
 use Rattle.net_reader.proofs.PrintedWords.{Like, ends, word_made, number_made, value_made, listed_made}
-use Rattle.polis_base.proofs.Names.{left_true, right_true}
 use Rattle.net_reader.proofs.AppendAssociative.{as3, as4, as5}
 use Rattle.net_reader.proofs.PrintedTokens.{when_key, do_key, emit_key, absent_key, in_key, nothing_key, value_key, plus_sign, equal_sign, assign_sign, open_sign, close_sign, weak, blank_made, values_made}
+use Rattle.polis_base.proofs.Bools.{and_first, and_second}
 
 cond_made : (c : RawCond) (ts : List Lexeme) → cond_formed c ≡ true → IsCond c ts
     → Made ends (Like IsCond cond_alone c) (cond_text c)
@@ -43,8 +43,8 @@ cond_made (conds.Absent w) ts f h =
     })
 cond_made (conds.Is w v) ts f h =
     conv (retext (as3 w.name (codes " = ") (value_text v))
-    (seq (word_made w (left_true _ (value_formed v) f))
-    (seq equal_sign (value_made v (right_true (word_formed w) _ f)) (λ rest h. refl))
+    (seq (word_made w (and_first _ (value_formed v) f))
+    (seq equal_sign (value_made v (and_second (word_formed w) _ f)) (λ rest h. refl))
     (λ rest h. refl)))
     (λ ms x. record {
       same = conds.Is x.3.same x.4.4.same;
@@ -54,9 +54,9 @@ cond_made (conds.Is w v) ts f h =
     })
 cond_made (conds.OneOf w values) ts f h =
     conv (retext (as4 w.name (codes " in { ") (listed_text value_text values) (codes " }"))
-    (seq (word_made w (left_true _ (list_all value_formed values) f))
+    (seq (word_made w (and_first _ (list_all value_formed values) f))
     (seq in_key (seq open_sign
-    (seq (values_made values h.4.4.4.0 (right_true (word_formed w) _ f) h.4.4.4.3)
+    (seq (values_made values h.4.4.4.0 (and_second (word_formed w) _ f) h.4.4.4.3)
     (weak close_sign) (λ rest h. refl)) (λ rest h. refl)) (λ rest h. refl)) (λ rest h. refl)))
     (λ ms x. record {
       same = conds.OneOf x.3.same x.4.4.4.3.same;
@@ -108,8 +108,8 @@ source_made version (sources.Input w) ts f h =
     })
 source_made version (sources.Add w n) ts f h =
     conv (retext (as3 w.name (codes " + ") (decimal n.number))
-    (seq (word_made w (left_true _ (num_formed n) f))
-    (seq plus_sign (number_made n (right_true (word_formed w) _ f)) (λ rest h. refl))
+    (seq (word_made w (and_first _ (num_formed n) f))
+    (seq plus_sign (number_made n (and_second (word_formed w) _ f)) (λ rest h. refl))
     (λ rest h. refl)))
     (λ ms x. record {
       same = sources.Add x.3.same x.4.4.same;
@@ -122,7 +122,7 @@ act_made : (version : ℕ) (a : RawAct) (ts : List Lexeme) → act_formed a ≡ 
     → Made ends (Like (IsAct version) act_alone a) (act_text a)
 act_made version (acts.Emit w None) ts f h =
     conv (retext (ap (λ (t : List ℕ). codes "emit " ++ t) (append-nil w.name))
-    (seq emit_key (seq (word_made w (left_true _ true f)) (blank_made {n = ends}) (λ rest h. h))
+    (seq emit_key (seq (word_made w (and_first _ true f)) (blank_made {n = ends}) (λ rest h. h))
     (λ rest h. refl)))
     (λ ms x. record {
       same = acts.Emit x.4.3.same None;
@@ -132,8 +132,8 @@ act_made version (acts.Emit w None) ts f h =
     })
 act_made version (acts.Emit w (Some s)) ts f h =
     conv (retext (as4 (codes "emit ") w.name (codes " = ") (source_text s))
-    (seq emit_key (seq (word_made w (left_true _ (source_formed s) f))
-    (seq equal_sign (given_made version s h.4.4.1 (right_true (word_formed w) _ f) h.4.4.4)
+    (seq emit_key (seq (word_made w (and_first _ (source_formed s) f))
+    (seq equal_sign (given_made version s h.4.4.1 (and_second (word_formed w) _ f) h.4.4.4)
     (λ rest h. refl)) (λ rest h. refl)) (λ rest h. refl)))
     (λ ms x. record {
       same = acts.Emit x.4.3.same (Some x.4.4.4.same);
@@ -143,8 +143,8 @@ act_made version (acts.Emit w (Some s)) ts f h =
     })
 act_made version (acts.Set w s) ts f h =
     conv (retext (as3 w.name (codes " := ") (source_text s))
-    (seq (word_made w (left_true _ (source_formed s) f))
-    (seq assign_sign (source_made version s h.4.1 (right_true (word_formed w) _ f) h.4.4)
+    (seq (word_made w (and_first _ (source_formed s) f))
+    (seq assign_sign (source_made version s h.4.1 (and_second (word_formed w) _ f) h.4.4)
     (λ rest h. refl)) (λ rest h. refl)))
     (λ ms x. record {
       same = acts.Set x.3.same x.4.4.same;
@@ -175,9 +175,9 @@ row_made version r ts f h =
     (acts_text r.acts) (codes "\n"))
     (seq when_key (seq
     (listed_made IsCond cond_alone cond_text cond_formed cond_made r.conds h.4.0
-    (left_true _ (list_all act_formed r.acts) f) h.4.3)
+    (and_first _ (list_all act_formed r.acts) f) h.4.3)
     (seq do_key (acts_made version r.acts h.4.4.1
-    (right_true (list_all cond_formed r.conds) _ f) h.4.4.4) (λ rest h. refl)) (λ rest h. refl))
+    (and_second (list_all cond_formed r.conds) _ f) h.4.4.4) (λ rest h. refl)) (λ rest h. refl))
     (λ rest h. refl)))
     (λ ms x. record {
       same = record { conds = x.4.3.same; acts = x.4.4.4.same };

@@ -1,12 +1,11 @@
 -- The tokens of printed names, numbers and lists.
-use Rattle.std.proofs.Common.{◌≡◌, ℕ, zero, suc, ◌+◌, ◌-◌, ◌*◌, ◌^◌, ◌<◌, ◌≤◌, Bool, true, false, not, ◌&&◌, ◌==◌, nat_le, nat_lt, List, ◌∷◌, ◌++◌, length, map, Option, Some, None, get_or, fold, refl, sym, ◌∙◌, ap, arith, rules, add-zero, []}
+use Rattle.std.proofs.Common.{◌≡◌, ℕ, ◌+◌, ◌-◌, ◌^◌, ◌<◌, ◌≤◌, Bool, true, false, not, ◌&&◌, ◌==◌, nat_le, nat_lt, List, ◌∷◌, ◌++◌, length, map, Option, Some, None, get_or, refl, sym, ◌∙◌, ap, arith, add-zero, []}
 use Rattle.std.specs.Prelude.{is_some, codes, flat_map, decimal}
 use Rattle.std.specs.List.{list_all, take_while}
-use Rattle.std.proofs.lemmas.Bool.{false≢true}
+use Rattle.std.proofs.lemmas.Bool.{false≢true, not-true}
 use Rattle.std.proofs.lemmas.Bool.Decides.{nat_tests}
 use Rattle.std.proofs.lemmas.List.Sums.{take_while-cons}
-use Rattle.std.proofs.lemmas.Str.Parse.{IsNumeralModel, numerals_by_fold}
-use Rattle.std.proofs.lemmas.Fmt.{digits_decimal, digits_value-decimal, decimal_nonempty, first_decimal, decimal_digit}
+use Rattle.std.proofs.lemmas.Fmt.{digits_decimal, digits_value-decimal, decimal_nonempty}
 use Rattle.polis_base.specs.Names.{begins_name, continues_name, is_word, is_name, is_keyword}
 use Rattle.polis_base.specs.inner.Keywords.{keyword_of}
 use Rattle.polis_base.specs.Digits.{is_digit, number_of}
@@ -25,16 +24,15 @@ use Rattle.net_reader.specs.declared.raw.Num.{Num}
 use Rattle.net_reader.specs.declared.raw.RawValue.{RawValue}
 use Rattle.net_reader.specs.declared.raw.RawValue.TheVariants as values
 use Rattle.net_reader.proofs.Lexemes.{ReadsAs, Lexed, Made, reads, conv, seq, lit, moved, any}
-use Rattle.polis_base.proofs.Names.{left_true, right_true}
+use Rattle.polis_base.proofs.Bools.{and_first, and_second}
+use Rattle.polis_base.proofs.Digits.{first_zero, own}
+use Rattle.polis_base.proofs.Places.{empty_of_length}
+use Rattle.polis_base.proofs.Scans.{begins_continues}
 
 -- what may stand after a name or a number
 abbrev pub ends : List ℕ → Bool
 ends [] = false
 ends (c ∷ rest) = not (continues_name c)
-
-not_true : (a : Bool) → not a ≡ true → a ≡ false
-not_true true h = cc
-not_true false h = refl
 
 none_from : (o : Option Reserved) → is_some o ≡ false → o ≡ None
 none_from None h = refl
@@ -47,13 +45,10 @@ run p [] d rest all stop = take_while-cons p d rest ∙ rw stop refl
 run p (c ∷ cs) d rest all stop =
     take_while-cons p c (cs ++ d ∷ rest)
     ∙ rw (
-      left_true (p c) (list_all p cs) all,
+      and_first (p c) (list_all p cs) all,
       run p cs d rest
-          (right_true (p c) (list_all p cs) all) stop,
+          (and_second (p c) (list_all p cs) all) stop,
     ) refl
-
-begins_continues : (c : ℕ) → begins_name c ≡ true → continues_name c ≡ true
-begins_continues c h = rw h refl
 
 no_blank : (c : ℕ) → begins_name c ≡ true → is_blank c ≡ false
 no_blank c h = grind (arith, nat_tests)
@@ -64,32 +59,25 @@ no_comment c h = grind (arith, nat_tests)
 word_stands : (at c : ℕ) (cs : List ℕ) (d : ℕ) (rest : List ℕ) → is_name (c ∷ cs) ≡ true
     → continues_name d ≡ false → ReadsAs at (c ∷ (cs ++ d ∷ rest)) kinds.Name (length (c ∷ cs))
 word_stands at c cs d rest name stop =
-    let parts = left_true (nat_le (length (c ∷ cs)) 24 && is_word (c ∷ cs))
+    let parts = and_first (nat_le (length (c ∷ cs)) 24 && is_word (c ∷ cs))
     (not (is_keyword (c ∷ cs))) name in
-    let begins : begins_name c ≡ true = left_true (begins_name c) (list_all continues_name cs)
-    (right_true (nat_le (length (c ∷ cs)) 24) (is_word (c ∷ cs)) parts) in
+    let begins : begins_name c ≡ true = and_first (begins_name c) (list_all continues_name cs)
+    (and_second (nat_le (length (c ∷ cs)) 24) (is_word (c ∷ cs)) parts) in
     let go : list_all continues_name cs
-    ≡ true = right_true (begins_name c) _
-    (right_true (nat_le (length (c ∷ cs)) 24) (is_word (c ∷ cs)) parts) in
+    ≡ true = and_second (begins_name c) _
+    (and_second (nat_le (length (c ∷ cs)) 24) (is_word (c ∷ cs)) parts) in
     let short : nat_lt 24 (length (c ∷ cs))
     ≡ false = (let s : nat_le (length (c ∷ cs)) 24
-    ≡ true = left_true _ (is_word (c ∷ cs)) parts in grind (arith, nat_tests)) in
+    ≡ true = and_first _ (is_word (c ∷ cs)) parts in grind (arith, nat_tests)) in
     let all : list_all continues_name (c ∷ cs) ≡ true = rw (begins_continues c begins) go in
     let word : take_while continues_name (c ∷ (cs ++ d ∷ rest)) ≡ c
     ∷ cs = run continues_name (c ∷ cs) d rest all stop in
     let free : keyword_of (c ∷ cs) ≡ None = none_from (keyword_of (c ∷ cs))
-    (not_true _ (right_true _ (not (is_keyword (c ∷ cs))) name)) in
+    (not-true _ (and_second _ (not (is_keyword (c ∷ cs))) name)) in
     record {
       size = rw (word, no_blank c begins, no_comment c begins, begins, short) refl;
       token = λ read. rw (word, no_blank c begins, no_comment c begins, begins, short, free) refl;
     }
-
-own : IsNumeralModel (λ cs. list_all is_digit cs ≡ true) number_of
-own = numerals_by_fold _ (search rules) (fold (λ n c. n * 10 + (c - 48))) (search rules)
-
-first_zero : (n : ℕ) → n < 2 ^ 64 → get_or (decimal n) 0 0 ≡ 48 → length (decimal n) ≡ 1
-first_zero zero fits first = ap length (decimal_digit 0 (omega arith))
-first_zero (suc n) fits first = absurd (omega (arith, first_decimal (suc n) (omega arith) fits))
 
 digit_no_blank : (c : ℕ) → is_digit c ≡ true → is_blank c ≡ false
 digit_no_blank c h = grind (arith, nat_tests)
@@ -107,7 +95,7 @@ large_stands : (at c : ℕ) (cs : List ℕ) (d : ℕ) (rest : List ℕ) → list
     → (c == 48) ≡ false → number_of (c ∷ cs) ≤ 4294967295 → continues_name d ≡ false
     → ReadsAs at (c ∷ (cs ++ d ∷ rest)) (kinds.Number (number_of (c ∷ cs))) (length (c ∷ cs))
 large_stands at c cs d rest digits some fits stop =
-    let digit : is_digit c ≡ true = left_true (is_digit c) (list_all is_digit cs) digits in
+    let digit : is_digit c ≡ true = and_first (is_digit c) (list_all is_digit cs) digits in
     let number : take_while is_digit (c ∷ (cs ++ d ∷ rest)) ≡ c
     ∷ cs = run is_digit (c ∷ cs) d rest digits (digit_stops d stop) in
     let small : nat_lt 4294967295 (number_of (c ∷ cs)) ≡ false = grind (arith, nat_tests) in
@@ -136,10 +124,6 @@ large_stands at c cs d rest digits some fits stop =
 is_zero : (c : ℕ) → (c == 48) ≡ true → c ≡ 48
 is_zero c h = grind (arith, nat_tests)
 
-empty_from : (cs : List ℕ) → length cs ≡ 0 → cs ≡ []
-empty_from [] h = refl
-empty_from (c ∷ cs) h = absurd (omega arith)
-
 number_stands : (at c : ℕ) (cs : List ℕ) (d : ℕ) (rest : List ℕ) (b : Bool) → (c == 48) ≡ b
     → list_all is_digit (c ∷ cs) ≡ true → (c ≡ 48 → length (c ∷ cs) ≡ 1)
     → number_of (c ∷ cs) ≤ 4294967295 → continues_name d ≡ false
@@ -148,7 +132,7 @@ number_stands at c cs d rest false some digits alone fits stop =
     large_stands at c cs d rest digits some fits stop
 number_stands at c cs d rest true none digits alone fits stop =
     let zero_here : c ≡ 48 = is_zero c none in
-    let empty : cs ≡ [] = empty_from cs (let e = alone zero_here in omega arith) in
+    let empty : cs ≡ [] = empty_of_length cs (let e = alone zero_here in omega arith) in
     rw (zero_here, empty) record { size = refl; token = λ read. refl }
 
 -- one value that a token says, places aside
@@ -168,7 +152,7 @@ word_made w name = record { made = λ at rest ls h l. made w.name rest w at ls n
     made (c ∷ cs) [] w at ls is h e l = absurd (false≢true h)
     made (c ∷ cs) (d ∷ rest) w at ls is h e l =
         let x = reads c cs (d ∷ rest) kinds.Name at ls
-        (word_stands at c cs d rest is (not_true (continues_name d) h)) l in
+        (word_stands at c cs d rest is (not-true (continues_name d) h)) l in
         let here : Lexeme = record { kind = kinds.Name; bytes = c ∷ cs; at = at } in (
           here ∷ [],
           record {
@@ -201,7 +185,7 @@ number_made n small =
     made (c ∷ cs) (d ∷ rest) at ls some digits zero_alone fits value h l =
         let x = reads c cs (d ∷ rest) (kinds.Number (number_of (c ∷ cs))) at ls
         (number_stands at c cs d rest (c == 48) refl digits zero_alone (rw value fits)
-        (not_true (continues_name d) h)) l in
+        (not-true (continues_name d) h)) l in
         let here : Lexeme = record {
           kind = kinds.Number (number_of (c ∷ cs));
           bytes = c
@@ -271,9 +255,9 @@ each_made next Is alone f formed make fits [] ts all each = record {
   );
 }
 each_made next Is alone f formed make fits (a ∷ items) ts all each =
-    let first = make a each.0 (left_true (formed a) (list_all formed items) all) each.3 in
+    let first = make a each.0 (and_first (formed a) (list_all formed items) all) each.3 in
     let others = each_made next Is alone f formed make fits items each.1
-    (right_true (formed a) _ all) each.4 in
+    (and_second (formed a) _ all) each.4 in
     conv (seq first others (fits items))
     (λ ms x. record {
       same = x.3.same
@@ -292,11 +276,11 @@ pub listed_made : {A : Type 0} (Is : A → Part) (alone : A → A) (f : A → Li
     → Made ends (Like (Listed Is) (map alone) items) (listed_text f items)
 listed_made Is alone f formed make [] ts all listed = absurd listed
 listed_made {A = A} Is alone f formed make (a ∷ items) ts all listed =
-    let first = make a listed.0 (left_true (formed a) (list_all formed items) all) listed.3 in
+    let first = make a listed.0 (and_first (formed a) (list_all formed items) all) listed.3 in
     let others = each_made ends (λ a. Sign Comma ⨾ Is a) alone (λ a. codes ", " ++ f a) formed
     (λ a ts g is. conv (seq comma (make a is.1 g is.4) (λ rest h. refl))
     (λ ms x. record { same = x.4.same; alike = x.4.alike; is = (x.0, x.1, x.2, x.3, x.4.is) }))
-    begin items listed.1 (right_true (formed a) _ all) listed.4 in
+    begin items listed.1 (and_second (formed a) _ all) listed.4 in
     conv (seq first others (begin items))
     (λ ms x. record {
       same = x.3.same

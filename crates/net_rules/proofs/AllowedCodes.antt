@@ -13,10 +13,10 @@ use Rattle.net_names.specs.Numbers.{is_name_of, missing, names_of, number_in, nu
 use Rattle.net_names.proofs.NumberIn.{number_below}
 use Rattle.net_names.specs.Scopes.{domain_words, state_words, event_codes, state_codes, var_sizes}
 use Rattle.net_rules.specs.inner.Sound.{Each}
-use Rattle.net_rules.proofs.NumbersOfNames.{and_first, and_second}
-use Rattle.net_names.proofs.IsVar.{some_is}
 use Rattle.net_rules.proofs.AreActions.{first_known, rest_known}
-use Rattle.net_rules.proofs.Counts.{le_from}
+use Rattle.std.proofs.lemmas.Bool.{leb-true}
+use Rattle.polis_base.proofs.Bools.{and_first, and_second}
+use Rattle.polis_base.proofs.Places.{some_is}
 
 only_first : (k : ℕ) → suc k ≢ 0
 only_first k e = absurd (omega (arith, e))
@@ -37,7 +37,7 @@ pub size_few : (sizes : List ℕ) (i size : ℕ) → are_sizes sizes ≡ true
 size_few [] i size all at = absurd (true≢false (sym (ap is_some at)))
 size_few (s ∷ sizes) zero size all at =
     subst (λ n. n ≤ 33) (some_is s size at)
-    (le_from s 33 (and_second (nat_le 1 s) (nat_le s 33)
+    (leb-true s 33 (and_second (nat_le 1 s) (nat_le s 33)
     (and_first (nat_le 1 s && nat_le s 33) (are_sizes sizes) all)))
 size_few (s ∷ sizes) (suc i) size all at =
     size_few sizes i size (and_second (nat_le 1 s && nat_le s 33) (are_sizes sizes) all) at

@@ -15,7 +15,8 @@ use Rattle.rule_judge.specs.Rules.{source_of}
 use Rattle.net_rules.specs.inner.Sound.{IsSound, IsSoundMachine, IsSoundAct, amount_of}
 use Rattle.net_rules.proofs.HasReceivers.{holds}
 use Rattle.net_rules.proofs.AreActions.{first_known, rest_known}
-use Rattle.net_rules.proofs.Counts.{lt_from, state_few}
+use Rattle.net_rules.proofs.Counts.{state_few}
+use Rattle.std.proofs.lemmas.Bool.{ltb-true}
 
 module _ (net : RawNet) (sound : IsSound net) where
   -- a state variable has few values
@@ -50,7 +51,7 @@ module _ (net : RawNet) (sound : IsSound net) where
   amount_small m row (acts.Set w (sources.Add x n)) kept s =
       omega (
         arith,
-        lt_from n.number (count_at net (state_domain m w.name))
+        ltb-true n.number (count_at net (state_domain m w.name))
             (holds (nat_lt n.number (count_at net (state_domain m w.name))) n.at s.amount),
         few_in w.name m.states kept.domains,
       )

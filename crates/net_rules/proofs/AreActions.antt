@@ -21,9 +21,10 @@ use Rattle.rule_judge.specs.Rules.{emitted, set_names, not_once}
 use Rattle.net_rules.specs.Networks.{act_of}
 use Rattle.net_names.proofs.NameNumbers.{among_number}
 use Rattle.net_names.proofs.NumberIn.{number_below}
-use Rattle.net_rules.proofs.NumbersOfNames.{and_first, and_second, not_false}
-use Rattle.net_names.proofs.IsVar.{some_is}
-use Rattle.net_rules.proofs.HasReceivers.{first_nil, rest_nil, holds, fresh, or_first, or_second}
+use Rattle.net_rules.proofs.HasReceivers.{first_nil, rest_nil, holds, fresh}
+use Rattle.std.proofs.lemmas.Bool.{not-true}
+use Rattle.polis_base.proofs.Bools.{and_first, and_second, neither_first, neither_second}
+use Rattle.polis_base.proofs.Places.{some_is}
 
 -- two names that have numbers are the same where the numbers are
 same_numbers : (names : List (List ℕ)) (a b : List ℕ) (i j : ℕ) → number_in names a ≡ Some i
@@ -118,11 +119,11 @@ module _ (net : RawNet) (m : RawMachine) where
       ∙ same_declared (state_words m) x.name w.name
       (first_known (state_words m) x (flat_map set_names list) known) there
       ∙ nat_list_eq_equiv.symm x.name w.name
-      ∙ or_first (is_same w.name x.name) (is_among (names_of (flat_map set_names list)) w.name)
+      ∙ neither_first (is_same w.name x.name) (is_among (names_of (flat_map set_names list)) w.name)
       apart in
       let rest = other_set w there list
       (rest_known (state_words m) x (flat_map set_names list) known)
-      (or_second (is_same w.name x.name) (is_among (names_of (flat_map set_names list)) w.name)
+      (neither_second (is_same w.name x.name) (is_among (names_of (flat_map set_names list)) w.name)
       apart) in
       λ i. own i || rest i
 
@@ -152,10 +153,10 @@ module _ (net : RawNet) (m : RawMachine) where
       ∙ same_declared m.outputs x.name w.name
       (first_known m.outputs x (flat_map emitted list) known) there
       ∙ nat_list_eq_equiv.symm x.name w.name
-      ∙ or_first (is_same w.name x.name) (is_among (names_of (flat_map emitted list)) w.name)
+      ∙ neither_first (is_same w.name x.name) (is_among (names_of (flat_map emitted list)) w.name)
       apart in
       let rest = other_emit w there list sets (rest_known m.outputs x (flat_map emitted list) known)
-      (or_second (is_same w.name x.name) (is_among (names_of (flat_map emitted list)) w.name)
+      (neither_second (is_same w.name x.name) (is_among (names_of (flat_map emitted list)) w.name)
       apart) in
       λ i. own i || rest i
 
@@ -171,7 +172,7 @@ module _ (net : RawNet) (m : RawMachine) where
   acts_kept [] sets emits once twice = refl
   acts_kept (acts.Set w v ∷ list) sets emits once twice =
       let names = names_of (flat_map set_names list) in
-      let apart = not_false (is_among names w.name)
+      let apart = not-true (is_among names w.name)
       (and_first (not (is_among names w.name)) (are_distinct names) once) in
       let other = other_set w (first_known (state_words m) w (flat_map set_names list) sets) list
       (rest_known (state_words m) w (flat_map set_names list) sets) apart in
@@ -180,7 +181,7 @@ module _ (net : RawNet) (m : RawMachine) where
       λ i. positive (number (state_words m) w.name) i && not (other i) && rest i
   acts_kept (acts.Emit w v ∷ list) sets emits once twice =
       let names = names_of (flat_map emitted list) in
-      let apart = not_false (is_among names w.name)
+      let apart = not-true (is_among names w.name)
       (and_first (not (is_among names w.name)) (are_distinct names) twice) in
       let other = other_emit w (first_known m.outputs w (flat_map emitted list) emits) list sets
       (rest_known m.outputs w (flat_map emitted list) emits) apart in

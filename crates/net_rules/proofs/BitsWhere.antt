@@ -19,9 +19,6 @@ no_more test (suc n) c h = by (test n) (no_more test n c (omega (arith, h)))
         ∙ (λ i. max (rest i) (bit_at-pow_other n c (λ e. absurd (omega (arith, h, e))) i))
     by false rest = rest
 
-to_bit : Bool → ℕ
-to_bit b = cond b 1 0
-
 -- below n a bit is set where its number passes
 pub passes : (test : ℕ → Bool) (n c : ℕ) → c < n → bit_at (bits_where test n) c ≡ cond (test c) 1 0
 passes test zero c h = absurd (omega (arith, h))

@@ -1,5 +1,5 @@
 -- How many values domains have, and how many codes variables have, where no rule is broken.
-use Rattle.std.proofs.Common.{◌≡◌, ◌∙◌, ◌≤◌, ◌<◌, ℕ, zero, suc, Bool, true, false, cond, ◌||◌, nat_le, nat_lt, min, List, [], ◌∷◌, ◌++◌, map, flat_map, find, option_to_list, Option, Some, None, is_some, unwrap_or, subst, ap, sym, true≢false, arith}
+use Rattle.std.proofs.Common.{◌≡◌, ◌∙◌, ◌≤◌, ℕ, zero, suc, Bool, true, false, cond, ◌||◌, nat_le, min, List, [], ◌∷◌, ◌++◌, map, flat_map, find, option_to_list, Option, Some, None, is_some, unwrap_or, subst, ap, sym, true≢false, arith}
 use Rattle.std.specs.Option.{option_map, option_and_then}
 use Rattle.std.specs.List.{list_all}
 use Rattle.std.proofs.lemmas.Grind.{flat_map-append}
@@ -14,21 +14,10 @@ use Rattle.net_names.specs.Numbers.{names_of, is_among, is_name_of, missing}
 use Rattle.net_names.specs.Values.{count_of}
 use Rattle.net_names.specs.Scopes.{domain_words, shape_of, event_domain, count_at, event_codes}
 use Rattle.net_rules.specs.inner.Sound.{has_count, Each, IsSound}
-use Rattle.net_rules.proofs.NumbersOfNames.{and_first, and_second}
-use Rattle.net_names.proofs.IsVar.{some_is}
 use Rattle.net_rules.proofs.HasReceivers.{first_nil, rest_nil, holds}
-
-pub le_from : (a b : ℕ) → nat_le a b ≡ true → a ≤ b
-le_from a b h = grind (arith, h)
-
-pub le_to : (a b : ℕ) → a ≤ b → nat_le a b ≡ true
-le_to a b h = grind (arith, h)
-
-pub lt_from : (a b : ℕ) → nat_lt a b ≡ true → a < b
-lt_from a b h = grind (arith, h)
-
-pub lt_to : (a b : ℕ) → a < b → nat_lt a b ≡ true
-lt_to a b h = grind (arith, h)
+use Rattle.std.proofs.lemmas.Bool.{leb-true}
+use Rattle.polis_base.proofs.Bools.{and_first, and_second}
+use Rattle.polis_base.proofs.Places.{some_is}
 
 abbrev pub InRange : ℕ → Type 0
 InRange n = (1 ≤ n) × (n ≤ 32)
@@ -52,9 +41,9 @@ each_nil f (y ∷ xs) none (suc i) x at = each_nil f xs (rest_nil (f y) (flat_ma
 
 pub count_in : (d : RawDomain) → has_count d ≡ true → InRange (count_of d.shape)
 count_in d h = (
-  le_from 1 (count_of d.shape)
+  leb-true 1 (count_of d.shape)
       (and_first (nat_le 1 (count_of d.shape)) (nat_le (count_of d.shape) 32) h),
-  le_from (count_of d.shape) 32
+  leb-true (count_of d.shape) 32
       (and_second (nat_le 1 (count_of d.shape)) (nat_le (count_of d.shape) 32) h),
 )
 

@@ -26,7 +26,6 @@ use Rattle.net_reader.specs.declared.network.NetFault.{NetFault}
 use Rattle.net_reader.proofs.Sentences.{has_net}
 use Rattle.net_names.specs.Numbers.{names_of, number}
 use Rattle.net_names.specs.Scopes.{event_words, event_codes, state_codes, var_sizes}
-use Rattle.net_names.proofs.IsVar.{some_is}
 use Rattle.rule_judge.specs.declared.verdict.Broken.{Broken}
 use Rattle.rule_judge.specs.Judged.{broken}
 use Rattle.net_rules.specs.Networks.{IsDomainOf, IsRowOf, IsMachineOf, IsNetworkOf, state_of, event_of, cond_of, act_of}
@@ -34,6 +33,7 @@ use Rattle.net_rules.specs.NetOf.{NetOf}
 use Rattle.net_rules.specs.Given.{belt_text, mix_text, mix_network}
 use Rattle.transition_table.specs.samples.Belt.{belt as belt_network}
 use Rattle.transition_table.specs.samples.Echo.{echo as echo_network}
+use Rattle.polis_base.proofs.Places.{some_is}
 
 -- items that agree in what is computed of both match
 zip_of : {A B D : Type 0} (R : A → B → Type 0) (f : A → D) (g : B → D)

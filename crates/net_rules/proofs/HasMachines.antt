@@ -14,7 +14,7 @@ use Rattle.net_names.specs.Scopes.{event_words}
 use Rattle.net_rules.specs.NetOf.{NetOf}
 use Rattle.net_rules.specs.Networks.{IsMachineOf}
 use Rattle.net_rules.specs.Whole.{HasMachines}
-use Rattle.net_rules.proofs.Zips.{zip_long}
+use Rattle.polis_base.proofs.Places.{zip_length}
 
 -- one item stands in a list that is never empty
 some_item : {A : Type 0} (P Q : A → Part) (xs : List A) (ts : List Lexeme) → OneAnd P Q xs ts
@@ -67,7 +67,7 @@ has_machines text net (raw, has, is) =
     let machines = has.sentence.4.4.4.4.4.4 in
     let is_one = IsMachine raw.version.number in
     let some = some_item is_one is_one raw.machines _ machines in
-    let long = zip_long (IsMachineOf raw) raw.machines net.machines is.1.machines in
+    let long = zip_length (IsMachineOf raw) raw.machines net.machines is.1.machines in
     record {
       some = omega (arith, some, long);
       inputs = λ k m at.

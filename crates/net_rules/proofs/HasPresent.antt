@@ -26,9 +26,9 @@ use Rattle.rule_judge.specs.Rules.{shows, is_valued}
 use Rattle.net_rules.specs.Networks.{allows, bits_where, cond_of, act_of, value_code, value_number}
 use Rattle.net_names.specs.Scopes.{var_domain}
 use Rattle.net_rules.specs.inner.Sound.{Each, IsSoundMachine, IsSoundAct}
-use Rattle.net_rules.proofs.NumbersOfNames.{and_first}
-use Rattle.net_rules.proofs.HasReceivers.{rest_nil, holds, fresh, or_first, or_second}
+use Rattle.net_rules.proofs.HasReceivers.{rest_nil, holds, fresh}
 use Rattle.net_rules.proofs.BitsWhere.{passes, no_more}
+use Rattle.polis_base.proofs.Bools.{and_first, neither_first, neither_second}
 
 -- a name of the first list has its number there
 pub number_first : (xs ys : List Word) (name : List ℕ) → is_name_of xs name ≡ true
@@ -67,8 +67,8 @@ apart taken (n ∷ names) name none is = by (is_same name n) refl (λ h. apart t
         → (b || list_any (is_same name) names) ≡ false
     by true same rest =
         absurd (true≢false (sym is ∙ ap taken (same_text name n (sym same))
-        ∙ or_first (taken n) (list_any taken names) none))
-    by false other rest = rest (or_second (taken n) (list_any taken names) none)
+        ∙ neither_first (taken n) (list_any taken names) none))
+    by false other rest = rest (neither_second (taken n) (list_any taken names) none)
 
 module _ (net : RawNet) (m : RawMachine) (kept : IsSoundMachine net m) where
   -- an input is no state variable

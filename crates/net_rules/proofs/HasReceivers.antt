@@ -16,7 +16,9 @@ use Rattle.net_names.specs.Scopes.{domain_words, event_words, machine_words}
 use Rattle.rule_judge.specs.Rules.{rule_3, rule_7}
 use Rattle.net_rules.specs.Networks.{event_of, IsMachineOf}
 use Rattle.net_rules.proofs.NumbersOfNames.{places_with}
-use Rattle.net_names.proofs.IsVar.{some_is}
+use Rattle.std.proofs.lemmas.Bool.{not-true}
+use Rattle.polis_base.proofs.Bools.{neither_first, neither_second}
+use Rattle.polis_base.proofs.Places.{some_is}
 
 is_nil : {A : Type 0} → List A → Bool
 is_nil [] = true
@@ -49,22 +51,10 @@ any_or p q (n ∷ names) = ap (λ b. (p n || q n) || b) (any_or p q names)
     swap false true false d = refl
     swap false false c d = refl
 
-pub or_first : (a b : Bool) → (a || b) ≡ false → a ≡ false
-or_first true b h = h
-or_first false b h = refl
-
-pub or_second : (a b : Bool) → (a || b) ≡ false → b ≡ false
-or_second true b h = absurd (true≢false h)
-or_second false b h = h
-
 pub any_symm : (n : List ℕ) (names : List (List ℕ))
     → list_any (λ q. is_same q n) names ≡ list_any (is_same n) names
 any_symm n [] = refl
 any_symm n (m ∷ names) = λ i. nat_list_eq_equiv.symm m n i || any_symm n names i
-
-not_true : (b : Bool) → not b ≡ true → b ≡ false
-not_true true h = sym h
-not_true false h = refl
 
 -- where no word repeats, none has a taken name, and the names are distinct
 pub record Fresh (taken : List ℕ → Bool) (words : List Word) : Type 0 where
@@ -75,7 +65,7 @@ pub fresh : (taken : List ℕ → Bool) (words : List Word) → repeated taken w
     → Fresh taken words
 fresh taken [] h = record { untaken = refl; distinct = refl }
 fresh taken (w ∷ words) h =
-    let own = not_true (taken w.name)
+    let own = not-true (taken w.name)
     (holds (not (taken w.name)) w.at
     (first_nil (unless (not (taken w.name)) w.at)
     (repeated (λ name. taken name || is_same name w.name) words) h)) in
@@ -84,11 +74,11 @@ fresh taken (w ∷ words) h =
     (repeated (λ name. taken name || is_same name w.name) words) h) in
     let both = sym (any_or taken (λ q. is_same q w.name) (names_of words)) ∙ rest.untaken in
     let other = sym (any_symm w.name (names_of words))
-    ∙ or_second (list_any taken (names_of words))
+    ∙ neither_second (list_any taken (names_of words))
     (list_any (λ q. is_same q w.name) (names_of words)) both in
     record {
       untaken = λ i. or_two own
-          (or_first (list_any taken (names_of words))
+          (neither_first (list_any taken (names_of words))
           (list_any (λ q. is_same q w.name) (names_of words)) both) i;
       distinct = and_two (ap not other) rest.distinct;
     }

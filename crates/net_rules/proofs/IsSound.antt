@@ -23,10 +23,11 @@ use Rattle.rule_judge.specs.Rules.{disorder, is_small, emitted, set_names, not_o
 use Rattle.rule_judge.specs.Judged.{Rule, rules, broken, broken_at, first_broken}
 use Rattle.net_rules.specs.Sentence.{has_value}
 use Rattle.net_rules.specs.inner.Sound.{Each, IsSound, has_count}
-use Rattle.net_rules.proofs.NumbersOfNames.{and_first, and_second}
-use Rattle.net_names.proofs.IsVar.{some_is}
 use Rattle.net_rules.proofs.HasReceivers.{first_nil, rest_nil, holds}
-use Rattle.net_rules.proofs.Counts.{le_to, each_nil}
+use Rattle.net_rules.proofs.Counts.{each_nil}
+use Rattle.std.proofs.lemmas.Bool.{le-leb}
+use Rattle.polis_base.proofs.Bools.{and_first, and_second}
+use Rattle.polis_base.proofs.Places.{some_is}
 
 -- none of the rules has a place
 abbrev pub AllNil : List Rule → Type 0
@@ -60,7 +61,7 @@ counts_kept (d ∷ ds) few some =
     let less = holds (nat_le (count_of d.shape) 32) d.name.at
     (first_nil (unless (nat_le (count_of d.shape) 32) d.name.at)
     (flat_map (λ (d : RawDomain). unless (nat_le (count_of d.shape) 32) d.name.at) ds) few) in
-    let more = le_to 1 (count_of d.shape)
+    let more = le-leb 1 (count_of d.shape)
     (count_some d.shape
     (and_first (has_value d.shape) (list_all (λ (d : RawDomain). has_value d.shape) ds)
     some)) in

@@ -11,9 +11,9 @@ use Rattle.net_names.specs.Scopes.{event_words, var_sizes}
 use Rattle.net_rules.specs.Networks.{state_of, IsRowOf}
 use Rattle.net_names.specs.Numbers.{number}
 use Rattle.net_rules.specs.inner.Sound.{IsSound, IsSoundMachine}
-use Rattle.net_rules.proofs.Counts.{le_to}
-use Rattle.net_rules.proofs.Zips.{zip_long}
 use Rattle.net_rules.proofs.MachineFacts.{few_inputs, few_outputs, few_states, few_rows}
+use Rattle.std.proofs.lemmas.Bool.{le-leb}
+use Rattle.polis_base.proofs.Places.{zip_length}
 
 -- the machine is within the limits
 pub small_kept : (net : RawNet) (m : RawMachine) → IsSound net → IsSoundMachine net m
@@ -22,20 +22,20 @@ pub small_kept : (net : RawNet) (m : RawMachine) → IsSound net → IsSoundMach
     (map (λ (w : Word). number (event_words net) w.name) m.outputs)
     (map (state_of net) m.states) (var_sizes net m) rows ≡ true
 small_kept net m sound kept rows all =
-    let ins = le_to (length (map (λ (w : Word). number (event_words net) w.name) m.inputs)) 16
+    let ins = le-leb (length (map (λ (w : Word). number (event_words net) w.name) m.inputs)) 16
     (omega (
       arith,
       length-map m.inputs (λ (w : Word). number (event_words net) w.name),
       few_inputs net m sound kept,
     )) in
-    let outs = le_to (length (map (λ (w : Word). number (event_words net) w.name) m.outputs)) 16
+    let outs = le-leb (length (map (λ (w : Word). number (event_words net) w.name) m.outputs)) 16
     (omega (
       arith,
       length-map m.outputs (λ (w : Word). number (event_words net) w.name),
       few_outputs net m sound kept,
     )) in
-    let states = le_to (length (map (state_of net) m.states)) 8
+    let states = le-leb (length (map (state_of net) m.states)) 8
     (omega (arith, length-map m.states (state_of net), few_states net m sound kept)) in
-    let long = le_to (length rows) 512
-    (omega (arith, zip_long (IsRowOf net m) m.rows rows all, few_rows net m sound kept)) in
+    let long = le-leb (length rows) 512
+    (omega (arith, zip_length (IsRowOf net m) m.rows rows all, few_rows net m sound kept)) in
     λ i. (((ins i && outs i) && states i) && long i) && kept.snapshots i

@@ -31,14 +31,16 @@ use Rattle.net_names.specs.Scopes.{domain_words, event_words, state_words, cond_
 use Rattle.rule_judge.specs.Rules.{emitted, set_names, not_once, wrong_emission, wrong_input, is_valued, same_domain}
 use Rattle.net_rules.specs.Networks.{state_of, cond_of, act_of, allows, bits_where, value_number, source_in, emission_source, IsRowOf}
 use Rattle.net_rules.specs.inner.Sound.{Each, IsSound, IsSoundMachine, IsSoundAct, IsSoundRow}
-use Rattle.net_rules.proofs.NumbersOfNames.{and_first, and_second}
 use Rattle.net_rules.proofs.HasReceivers.{first_nil, rest_nil, holds}
 use Rattle.net_names.proofs.NameNumbers.{among_number}
 use Rattle.net_rules.proofs.ValueIn.{value_below}
 use Rattle.net_rules.proofs.BitsWhere.{bits_below}
 use Rattle.net_rules.proofs.HasPresent.{number_first, all_shown}
 use Rattle.net_rules.proofs.AreActions.{in_range, first_known, rest_known}
-use Rattle.net_rules.proofs.Counts.{le_from, le_to, lt_to, state_in, event_some, event_few}
+use Rattle.net_rules.proofs.Counts.{state_in, event_some, event_few}
+use Rattle.std.proofs.lemmas.Bool.{le-leb, leb-true, lt-ltb}
+use Rattle.domains.proofs.FittingCodes.{sizes_both}
+use Rattle.polis_base.proofs.Bools.{and_first, and_second}
 
 pub all_map : {A B : Type 0} (f : A → B) (test : B → Bool) (xs : List A)
     → ((x : A) → test (f x) ≡ true) → list_all test (map f xs) ≡ true
@@ -55,14 +57,6 @@ drop_first (x ∷ xs) ys = drop_first xs ys
 
 pub eq_to : (a b : ℕ) → a ≡ b → (a == b) ≡ true
 eq_to a b h = grind (arith, h)
-
-sizes_both : (xs ys : List ℕ) → are_sizes xs ≡ true → are_sizes ys ≡ true
-    → are_sizes (xs ++ ys) ≡ true
-sizes_both [] ys p q = q
-sizes_both (x ∷ xs) ys p q =
-    let own = and_first (nat_le 1 x && nat_le x 33) (are_sizes xs) p in
-    let rest = sizes_both xs ys (and_second (nat_le 1 x && nat_le x 33) (are_sizes xs) p) q in
-    λ i. own i && rest i
 
 -- a value of a domain has a number below the count
 value_fits : (o : Option RawShape) (v : RawValue) → is_value o v ≡ true
@@ -128,8 +122,8 @@ module _ (net : RawNet) (m : RawMachine) (sound : IsSound net) (kept : IsSoundMa
   event_sizes_fit : (ws : List Word) → are_sizes (map (event_codes net) ws) ≡ true
   event_sizes_fit [] = refl
   event_sizes_fit (w ∷ ws) =
-      let some = le_to 1 (event_codes net w) (omega (arith, event_some net sound w)) in
-      let few = le_to (event_codes net w) 33 (event_few net sound w) in
+      let some = le-leb 1 (event_codes net w) (omega (arith, event_some net sound w)) in
+      let few = le-leb (event_codes net w) 33 (event_few net sound w) in
       let rest = event_sizes_fit ws in
       λ i. some i && few i && rest i
 
@@ -140,8 +134,8 @@ module _ (net : RawNet) (m : RawMachine) (sound : IsSound net) (kept : IsSoundMa
   state_sizes_fit (s ∷ ss) h =
       let own = state_in net s.domain sound
       (first_known (domain_words net) s.domain (map (λ (s : RawState). s.domain) ss) h) in
-      let some = le_to 1 (state_codes net s) own.0 in
-      let few = le_to (state_codes net s) 33 (omega (arith, own.1)) in
+      let some = le-leb 1 (state_codes net s) own.0 in
+      let few = le-leb (state_codes net s) 33 (omega (arith, own.1)) in
       let rest = state_sizes_fit ss
       (rest_known (domain_words net) s.domain (map (λ (s : RawState). s.domain) ss) h) in
       λ i. some i && few i && rest i
@@ -158,7 +152,7 @@ module _ (net : RawNet) (m : RawMachine) (sound : IsSound net) (kept : IsSoundMa
       (holds (is_value (shape_of net s.domain.name) s.init) (place_of s.init)
       (first_nil places later h)) in
       let first : nat_lt (value_number net (Some s.domain) s.init) (state_codes net s) ≡ true =
-      lt_to (value_number net (Some s.domain) s.init) (state_codes net s) own in
+      lt-ltb (value_number net (Some s.domain) s.init) (state_codes net s) own in
       let rest = inits_fit ss (rest_nil places later h) in
       λ i. first i && rest i
 
@@ -193,7 +187,7 @@ module _ (net : RawNet) (m : RawMachine) (sound : IsSound net) (kept : IsSoundMa
       (event_sizes_fit m.inputs) (state_sizes_fit m.states kept.domains)
 
   pub few_rows : length m.rows ≤ 512
-  few_rows = le_from (length m.rows) 512
+  few_rows = leb-true (length m.rows) 512
       (and_second (nat_le (length m.inputs) 16 && nat_le (length m.outputs) 16
       && nat_le (length m.states) 8) (nat_le (length m.rows) 512) kept.small)
 
@@ -207,16 +201,16 @@ module _ (net : RawNet) (m : RawMachine) (sound : IsSound net) (kept : IsSoundMa
       (nat_le (length m.states) 8) three_few
 
   pub few_states : length m.states ≤ 8
-  few_states = le_from (length m.states) 8
+  few_states = leb-true (length m.states) 8
       (and_second (nat_le (length m.inputs) 16 && nat_le (length m.outputs) 16)
       (nat_le (length m.states) 8) three_few)
 
   pub few_inputs : length m.inputs ≤ 16
-  few_inputs = le_from (length m.inputs) 16
+  few_inputs = leb-true (length m.inputs) 16
       (and_first (nat_le (length m.inputs) 16) (nat_le (length m.outputs) 16) two_few)
 
   pub few_outputs : length m.outputs ≤ 16
-  few_outputs = le_from (length m.outputs) 16
+  few_outputs = leb-true (length m.outputs) 16
       (and_second (nat_le (length m.inputs) 16) (nat_le (length m.outputs) 16) two_few)
 
   pub vars_short : length (var_sizes net m) ≤ 24
@@ -238,7 +232,7 @@ module _ (net : RawNet) (m : RawMachine) (sound : IsSound net) (kept : IsSoundMa
       )) in
       let some = ap (list_all (nat_le 2)) vars_first
       ∙ all_map (event_codes net) (nat_le 2) m.inputs
-      (λ w. le_to 2 (event_codes net w) (event_some net sound w)) in
+      (λ w. le-leb 2 (event_codes net w) (event_some net sound w)) in
       let inits = ap (pointwise (λ (state : StateDecl) size. nat_lt state.init size)
       (map (state_of net) m.states)) vars_rest ∙ inits_fit m.states kept.inits in
       λ i. sizes i && long i && some i && inits i
@@ -304,7 +298,7 @@ module _ (net : RawNet) (m : RawMachine) (sound : IsSound net) (kept : IsSoundMa
       (2 ∷ map (λ s. 1 + state_codes net s) m.states) in
       let some = ap (list_all (nat_le 2)) results_rest
       ∙ all_map (event_codes net) (nat_le 2) m.outputs
-      (λ w. le_to 2 (event_codes net w) (event_some net sound w)) in
+      (λ w. le-leb 2 (event_codes net w) (event_some net sound w)) in
       λ i. long i && set i && some i
 
   conds_fit : (cs : List RawCond)
@@ -321,7 +315,7 @@ module _ (net : RawNet) (m : RawMachine) (sound : IsSound net) (kept : IsSoundMa
       let there = holds (is_name_of (m.inputs ++ state_words m) (cond_word c).name) (cond_word c).at
       (first_nil places later h) in
       let var = number (var_words m) (cond_word c).name in
-      let inside = lt_to var (length (var_sizes net m))
+      let inside = lt-ltb var (length (var_sizes net m))
       (omega (
         arith,
         in_range (var_words m) (cond_word c).name there,
@@ -329,7 +323,7 @@ module _ (net : RawNet) (m : RawMachine) (sound : IsSound net) (kept : IsSoundMa
         length-append m.inputs (state_words m),
         length-map m.states (λ (s : RawState). s.name),
       )) in
-      let small = lt_to (bits_where (allows net m c) (slice_index (var_sizes net m) var))
+      let small = lt-ltb (bits_where (allows net m c) (slice_index (var_sizes net m) var))
       (2 ^ slice_index (var_sizes net m) var)
       (bits_below (allows net m c) (slice_index (var_sizes net m) var)) in
       let rest = conds_fit cs (rest_nil places later h) in
@@ -443,7 +437,7 @@ module _ (net : RawNet) (m : RawMachine) (sound : IsSound net) (kept : IsSoundMa
       let k = number (var_words m) w.name in
       let first : k ≡ number m.inputs w.name =
       ap (λ o. unwrap_or o 0) (number_first m.inputs (state_words m) w.name there) in
-      let inside = lt_to k (length inputs)
+      let inside = lt-ltb k (length inputs)
       (omega (
         arith,
         first,
@@ -463,9 +457,9 @@ module _ (net : RawNet) (m : RawMachine) (sound : IsSound net) (kept : IsSoundMa
       → is_source inputs (var_sizes net m) results y
       (emission_source net m (event_domain net w.name) source) ≡ true
   emission_fits row w None y size s =
-      lt_to 1 (slice_index results y) (omega (arith, size, event_some net sound w))
+      lt-ltb 1 (slice_index results y) (omega (arith, size, event_some net sound w))
   emission_fits row w (Some (sources.Value v)) y size s =
-      lt_to (1 + value_number net (event_domain net w.name) v) (slice_index results y)
+      lt-ltb (1 + value_number net (event_domain net w.name) v) (slice_index results y)
       (omega (arith, size, given (event_domain net w.name) s.value))
     where
       given : (d : Option Word) → wrong_emission net w d (Some (sources.Value v)) ≡ []
@@ -494,7 +488,7 @@ module _ (net : RawNet) (m : RawMachine) (sound : IsSound net) (kept : IsSoundMa
       → is_source inputs (var_sizes net m) results (1 + number (state_words m) w.name)
       (source_in net m (state_domain m w.name) source) ≡ true
   set_source_fits row w (sources.Value v) there size s =
-      lt_to (1 + value_number net (state_domain m w.name) v)
+      lt-ltb (1 + value_number net (state_domain m w.name) v)
       (slice_index results (1 + number (state_words m) w.name))
       (omega (arith, size, set_fits (state_domain m w.name) v s.value))
   set_source_fits row w (sources.Input x) there size s =
@@ -511,7 +505,7 @@ module _ (net : RawNet) (m : RawMachine) (sound : IsSound net) (kept : IsSoundMa
         length-map m.inputs
             (λ (w : Word). number (event_words net) w.name),
       ) in e) in
-      let inside = lt_to (variable_of inputs (1 + k)) (length (var_sizes net m))
+      let inside = lt-ltb (variable_of inputs (1 + k)) (length (var_sizes net m))
       (omega (
         arith,
         var,
@@ -530,7 +524,7 @@ module _ (net : RawNet) (m : RawMachine) (sound : IsSound net) (kept : IsSoundMa
   acts_fit row [] h emits sets = refl
   acts_fit row (acts.Set w source ∷ list) h emits sets =
       let there = first_known (state_words m) w (flat_map set_names list) sets in
-      let inside = lt_to (1 + number (state_words m) w.name) (length results)
+      let inside = lt-ltb (1 + number (state_words m) w.name) (length results)
       (omega (
         arith,
         in_range (state_words m) w.name there,
@@ -544,7 +538,7 @@ module _ (net : RawNet) (m : RawMachine) (sound : IsSound net) (kept : IsSoundMa
       λ i. (inside i && code i) && rest i
   acts_fit row (acts.Emit w source ∷ list) h emits sets =
       let there = first_known m.outputs w (flat_map emitted list) emits in
-      let inside = lt_to (1 + length m.states + number m.outputs w.name) (length results)
+      let inside = lt-ltb (1 + length m.states + number m.outputs w.name) (length results)
       (omega (arith, in_range m.outputs w.name there, results_long)) in
       let code = emission_fits row w source (1 + length m.states + number m.outputs w.name)
       (emit_size w there) (h 0 (acts.Emit w source) refl) in

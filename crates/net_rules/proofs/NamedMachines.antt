@@ -5,8 +5,8 @@ use Rattle.net_reader.specs.declared.raw.RawMachine.{RawMachine}
 use Rattle.net_reader.specs.declared.raw.RawNet.{RawNet}
 use Rattle.net_names.specs.Machines.{AreMachineNames}
 use Rattle.net_names.specs.declared.machine_names.MachineNames.{MachineNames}
-use Rattle.net_names.proofs.IsVar.{some_is}
 use Rattle.net_rules.specs.inner.Sound.{Each}
+use Rattle.polis_base.proofs.Places.{some_is}
 
 pub each_named : (P : RawNet → RawMachine → Type 0) (net : RawNet) (ms : List RawMachine)
     (ns : List MachineNames) → AreMachineNames net ms ns → Each (P net) ms

@@ -26,15 +26,16 @@ use Rattle.net_names.specs.Scopes.{domain_words, event_words, machine_words, sta
 use Rattle.rule_judge.specs.Rules.{beyond}
 use Rattle.net_rules.specs.Networks.{event_of, state_of, machines_with, IsDomainOf, IsMachineOf}
 use Rattle.net_rules.specs.inner.Sound.{Each, IsSound, IsSoundMachine}
-use Rattle.net_rules.proofs.NumbersOfNames.{and_first, and_second, not_false, places_with}
-use Rattle.net_rules.proofs.HasReceivers.{first_nil, rest_nil, fresh, or_first, or_second, enumerated, name_at}
+use Rattle.net_rules.proofs.NumbersOfNames.{places_with}
+use Rattle.net_rules.proofs.HasReceivers.{first_nil, rest_nil, fresh, enumerated, name_at}
 use Rattle.net_rules.proofs.Senders.{senders_kept}
 use Rattle.net_names.proofs.NumberIn.{find_number}
 use Rattle.net_rules.proofs.AreActions.{in_range, same_declared, first_known, rest_known, has_it}
-use Rattle.net_rules.proofs.Counts.{lt_to}
 use Rattle.net_rules.proofs.IsSound.{split_missing, each_missing}
-use Rattle.net_rules.proofs.Zips.{zip_long}
 use Rattle.net_rules.proofs.MachineFacts.{results_rest}
+use Rattle.std.proofs.lemmas.Bool.{lt-ltb, not-true}
+use Rattle.polis_base.proofs.Bools.{and_first, and_second, neither_first, neither_second}
+use Rattle.polis_base.proofs.Places.{zip_length}
 
 abbrev is_cons : List ℕ → Bool
 is_cons [] = false
@@ -72,7 +73,7 @@ words_in : (declared : List Word) (n : ℕ) → n ≡ length declared → (ws : 
     → list_all (λ e. nat_lt e n) (map (λ (w : Word). number declared w.name) ws) ≡ true
 words_in declared n long [] h = refl
 words_in declared n long (w ∷ ws) h =
-    let own = lt_to (number declared w.name) n
+    let own = lt-ltb (number declared w.name) n
     (omega (arith, long, in_range declared w.name (first_known declared w ws h))) in
     let rest = words_in declared n long ws (rest_known declared w ws h) in
     λ i. own i && rest i
@@ -85,9 +86,9 @@ none_same declared w there [] h apart = refl
 none_same declared w there (x ∷ ws) h apart =
     let own = same_declared declared x.name w.name (first_known declared x ws h) there
     ∙ nat_list_eq_equiv.symm x.name w.name
-    ∙ or_first (is_same w.name x.name) (is_among (names_of ws) w.name) apart in
+    ∙ neither_first (is_same w.name x.name) (is_among (names_of ws) w.name) apart in
     let rest = none_same declared w there ws (rest_known declared x ws h)
-    (or_second (is_same w.name x.name) (is_among (names_of ws) w.name) apart) in
+    (neither_second (is_same w.name x.name) (is_among (names_of ws) w.name) apart) in
     λ i. own i || rest i
 
 all_different : (declared ws : List Word) → missing (is_name_of declared) ws ≡ []
@@ -95,7 +96,7 @@ all_different : (declared ws : List Word) → missing (is_name_of declared) ws �
     → are_different (map (λ (w : Word). number declared w.name) ws) ≡ true
 all_different declared [] h once = refl
 all_different declared (w ∷ ws) h once =
-    let apart = not_false (is_among (names_of ws) w.name)
+    let apart = not-true (is_among (names_of ws) w.name)
     (and_first (not (is_among (names_of ws) w.name)) (are_distinct (names_of ws)) once) in
     let own = none_same declared w (first_known declared w ws h) ws (rest_known declared w ws h)
     apart in
@@ -174,7 +175,7 @@ module _ (net : RawNet) (sound : IsSound net) where
   module _ (made : List Domain) (domains :
       AllZip (λ (d : RawDomain). IsDomainOf d.shape) net.domains made) where
     made_long : length made ≡ length (domain_words net)
-    made_long = zip_long (λ (d : RawDomain). IsDomainOf d.shape) net.domains made domains
+    made_long = zip_length (λ (d : RawDomain). IsDomainOf d.shape) net.domains made domains
         ∙ sym (length-map net.domains (λ (d : RawDomain). d.name))
 
     domained : (es : List RawEvent)
@@ -200,7 +201,7 @@ module _ (net : RawNet) (sound : IsSound net) where
             (option_map (λ (w : Word). number (domain_words net) w.name) o) true ≡ true
         own None h = refl
         own (Some w) h =
-            lt_to (number (domain_words net) w.name) (length made)
+            lt-ltb (number (domain_words net) w.name) (length made)
             (omega (
               arith,
               made_long,
@@ -301,7 +302,7 @@ module _ (net : RawNet) (sound : IsSound net) where
         (map (state_of net) ss) ≡ true
     states_in [] h = refl
     states_in (s ∷ ss) h =
-        let own = lt_to (number (domain_words net) s.domain.name) (length made)
+        let own = lt-ltb (number (domain_words net) s.domain.name) (length made)
         (omega (
           arith,
           made_long,

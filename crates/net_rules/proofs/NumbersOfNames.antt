@@ -1,5 +1,5 @@
 -- What the numbers of names keep of the names.
-use Rattle.std.proofs.Common.{◌≡◌, ◌∙◌, ℕ, zero, suc, ◌+◌, Bool, true, false, cond, not, ◌&&◌, ◌||◌, ◌==◌, List, ◌∷◌, ◌++◌, map, slice_get, Option, Some, None, is_some, unwrap_or, refl, ap, sym, true≢false, []}
+use Rattle.std.proofs.Common.{◌≡◌, ◌∙◌, ℕ, zero, suc, ◌+◌, Bool, true, false, cond, not, ◌||◌, ◌==◌, List, ◌∷◌, ◌++◌, map, slice_get, Option, Some, None, is_some, unwrap_or, refl, ap, sym, true≢false, []}
 use Rattle.std.proofs.Math.Dec.{eqb-suc-zero, eqb-zero-suc, eqb-suc-suc}
 use Rattle.std.specs.Option.{option_map}
 use Rattle.std.specs.List.{list_any, AllZip}
@@ -13,19 +13,9 @@ use Rattle.net_reader.specs.declared.raw.RawMachine.{RawMachine}
 use Rattle.net_names.specs.Places.{unless}
 use Rattle.net_names.specs.Numbers.{names_of, number_in, is_among, is_name_of, missing, number}
 use Rattle.net_names.proofs.NameNumbers.{among_number}
-use Rattle.net_names.proofs.IsVar.{some_is}
-
-pub and_first : (a b : Bool) → (a && b) ≡ true → a ≡ true
-and_first true b h = refl
-and_first false b h = h
-
-pub and_second : (a b : Bool) → (a && b) ≡ true → b ≡ true
-and_second true b h = h
-and_second false b h = absurd (true≢false (sym h))
-
-pub not_false : (a : Bool) → not a ≡ true → a ≡ false
-not_false true h = sym h
-not_false false h = refl
+use Rattle.std.proofs.lemmas.Bool.{not-true}
+use Rattle.polis_base.proofs.Bools.{and_first, and_second}
+use Rattle.polis_base.proofs.Places.{some_is}
 
 -- a name of the list is not the same as one that is none of the list
 other_name : (name : List ℕ) (names : List (List ℕ)) (i : ℕ) (n : List ℕ)
@@ -65,7 +55,7 @@ number_same (m ∷ names) distinct (suc e) n at w k is =
   where
     fresh : is_same m n ≡ false
     fresh = other_name m names e n
-        (not_false (list_any (is_same m) names)
+        (not-true (list_any (is_same m) names)
         (and_first (not (list_any (is_same m) names)) (are_distinct names) distinct)) at
 
     by : (b : Bool) → is_same w m ≡ b → (o : Option ℕ) → number_in names w ≡ o

@@ -13,8 +13,9 @@ use Rattle.net_names.specs.Numbers.{names_of, is_among, is_name_of}
 use Rattle.net_rules.specs.Networks.{party_of, machines_with}
 use Rattle.net_names.specs.Scopes.{all_outputs, is_from_env}
 use Rattle.rule_judge.specs.Rules.{rule_11, events_where}
-use Rattle.net_rules.proofs.NumbersOfNames.{and_first, and_second, not_false}
-use Rattle.net_rules.proofs.HasReceivers.{fresh, or_first, or_second}
+use Rattle.net_rules.proofs.HasReceivers.{fresh}
+use Rattle.std.proofs.lemmas.Bool.{not-true}
+use Rattle.polis_base.proofs.Bools.{and_first, and_second, neither_first, neither_second}
 
 any_append : (p : List ℕ → Bool) (xs ys : List (List ℕ))
     → list_any p (xs ++ ys) ≡ (list_any p xs || list_any p ys)
@@ -46,9 +47,9 @@ distinct_apart (x ∷ xs) ys n h there =
     (and_second (not (list_any (is_same x) (xs ++ ys))) (are_distinct (xs ++ ys)) h))
   where
     behind : list_any (is_same x) ys ≡ false
-    behind = or_second (list_any (is_same x) xs) (list_any (is_same x) ys)
+    behind = neither_second (list_any (is_same x) xs) (list_any (is_same x) ys)
         (sym (any_append (is_same x) xs ys)
-        ∙ not_false (list_any (is_same x) (xs ++ ys))
+        ∙ not-true (list_any (is_same x) (xs ++ ys))
         (and_first (not (list_any (is_same x) (xs ++ ys))) (are_distinct (xs ++ ys)) h))
 
     by : (b : Bool) → is_same n x ≡ b → (b || is_among xs n) ≡ true
@@ -71,9 +72,9 @@ module _ (list : RawMachine → List Word) (n : List ℕ) where
   none_there k (m ∷ ms) h =
       let both = sym (any_append (is_same n) (names_of (list m)) (names_of (flat_map list ms)))
       ∙ ap (λ l. list_any (is_same n) l) (sym (split m ms)) ∙ h in
-      let own = or_first (is_name_of (list m) n) (is_name_of (flat_map list ms) n) both in
+      let own = neither_first (is_name_of (list m) n) (is_name_of (flat_map list ms) n) both in
       let rest = none_there (k + 1) ms
-      (or_second (is_name_of (list m) n) (is_name_of (flat_map list ms) n) both) in
+      (neither_second (is_name_of (list m) n) (is_name_of (flat_map list ms) n) both) in
       λ i. cond (own i) (k ∷ rest i) (rest i)
 
   -- where no name repeats, the first machine is the only one

@@ -25,14 +25,15 @@ use Rattle.net_rules.specs.Networks.{IsDomainOf, IsMachineOf, IsNetworkOf, IsRow
 use Rattle.net_rules.specs.inner.Sound.{Each, IsSound, IsSoundMachine, IsSoundRow, has_count}
 use Rattle.net_rules.specs.Unique.{SomeNetwork}
 use Rattle.net_rules.proofs.AreActions.{actions_kept}
-use Rattle.net_rules.proofs.Counts.{count_in, each_all, le_from}
+use Rattle.net_rules.proofs.Counts.{count_in, each_all}
 use Rattle.net_rules.proofs.MachineFacts.{vars_fit, results_fit, rows_fit}
 use Rattle.net_rules.proofs.IsSound.{sound}
 use Rattle.net_rules.proofs.HasReceivers.{holds, receivers_kept}
 use Rattle.net_rules.proofs.IsSoundMachine.{small_kept}
 use Rattle.net_rules.proofs.NetworkFacts.{domain_count, event_count, machine_count, event_names_kept, machine_names_kept, event_domains_kept, all_keep, all_senders}
 use Rattle.net_rules.proofs.Sentences.{sentences_have_values}
-use Rattle.net_rules.proofs.Zips.{zip_long}
+use Rattle.std.proofs.lemmas.Bool.{leb-true}
+use Rattle.polis_base.proofs.Places.{zip_length}
 
 -- where each item gives one, all together give a list of them
 all_given : {A B : Type 0} (R : A → B → Type 0) (P : A → Type 0)
@@ -95,7 +96,7 @@ shape_given : (shape : RawShape) → IsSoundShape shape → (d : Domain) × IsDo
 shape_given (shapes.Names words) kept = (domains.Names (names_of words), refl)
 shape_given (shapes.Range first last) kept =
     let ordered : first.number ≤ last.number =
-    le_from first.number last.number (holds (nat_le first.number last.number) last.at kept.order) in
+    leb-true first.number last.number (holds (nat_le first.number last.number) last.at kept.order) in
     let few : last.number - first.number < 32 = let most = kept.few in omega arith in
     let span : Span = record {
       first = first.number;
@@ -124,13 +125,13 @@ network_given raw sound =
         machines = machines.0;
         few_domains = omega (
           arith,
-          zip_long (λ (d : RawDomain). IsDomainOf d.shape) raw.domains made.0 made.1,
+          zip_length (λ (d : RawDomain). IsDomainOf d.shape) raw.domains made.0 made.1,
           domain_count raw sound,
         );
         few_events = omega (arith, length-map raw.events (event_of raw), event_count raw sound);
         few_machines = omega (
           arith,
-          zip_long (IsMachineOf raw) raw.machines machines.0 machines.1,
+          zip_length (IsMachineOf raw) raw.machines machines.0 machines.1,
           machine_count raw sound,
         );
         event_names = event_names_kept raw sound;

@@ -1,5 +1,5 @@
 -- The allowed places of an item.
-use Rattle.std.proofs.Common.{◌≡◌, ⊎_elim, ℕ, ◌+◌, ◌-◌, ◌<◌, ◌≤◌, true, List, [], length, get_or, slice_index, ap, sym, ◌∙◌, arith, subst, length-append}
+use Rattle.std.proofs.Common.{◌≡◌, ⊎_elim, ℕ, ◌+◌, ◌-◌, ◌<◌, ◌≤◌, true, List, [], length, get_or, slice_index, ap, sym, ◌∙◌, arith, subst}
 use Rattle.std.proofs.lemmas.Bool.{cases_eq}
 use Rattle.domains.specs.Orders.{place, HavePlaces, OnePlace}
 use Rattle.transition_table.specs.declared.machine.Machine.{Machine}
@@ -9,10 +9,7 @@ use Rattle.char_function.specs.Supported.{AreSupports}
 use Rattle.order_sift.specs.Moves.{moved}
 use Rattle.order_sift.specs.inner.Turns.{AreAllowedPlaces}
 use Rattle.order_sift.proofs.MovedPlaces.{shift, shift_here, shift_low, shift_high, shift_rises, length_moved, moved_permutation, moved_place}
-
-pub items : (m : Machine) (order : List ℕ) → Allowed m order
-    → length order ≡ length m.vars + length m.results
-items m order allowed = allowed.long ∙ length-append m.vars m.results
+use Rattle.transition_table.proofs.MachineCounts.{order_length}
 
 module _ (m : Machine) (supports : List (List ℕ)) (order : List ℕ) (have : HavePlaces)
     (one : OnePlace) (are : AreSupports m supports) (allowed : Allowed m order) where
@@ -50,7 +47,7 @@ module _ (m : Machine) (supports : List (List ℕ)) (order : List ℕ) (have : H
         → place (moved order (place order x) j) v
         < place (moved order (place order x) j) (length m.vars + y)
     others j y v lj ly lv support one_not other_not =
-        let n = items m order allowed in
+        let n = order_length m order allowed in
         let lvo : v < length order = omega arith in
         let lyo : length m.vars + y < length order = omega arith in
         let a = there j v lj lvo in
@@ -82,7 +79,7 @@ module _ (m : Machine) (supports : List (List ℕ)) (order : List ℕ) (have : H
         → AreAllowedPlaces m order (place order x) 0 (before - 1)
     var_places before low within least greatest j lj =
         let some = var_within before low greatest in
-        let n = items m order allowed in (
+        let n = order_length m order allowed in (
           λ ok.
               let h = greatest (j + 1) (omega arith) (λ y ly on.
               let lyr : y < length m.results = let e = are.long in omega arith in
@@ -122,7 +119,7 @@ module _ (m : Machine) (supports : List (List ℕ)) (order : List ℕ) (have : H
         → ((k : ℕ) → ((v : ℕ) → stands (get_or supports y []) v ≡ true → place order v < k)
         → after ≤ k) → AreAllowedPlaces m order (place order x) after (length order - 1)
     result_places y after ly is each least j lj =
-        let n = items m order allowed in (
+        let n = order_length m order allowed in (
           λ ok.
               let h = least j (λ v on.
               let s = (are.exact y v ly).0 on in

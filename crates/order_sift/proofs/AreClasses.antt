@@ -11,8 +11,8 @@ use Rattle.order_sift.specs.inner.Pairs.{AreBelow}
 use Rattle.order_sift.specs.inner.Points.{AreVariables, are_within}
 use Rattle.order_sift.proofs.FixedToo.{result_step, var_to, var_from}
 use Rattle.order_sift.proofs.TruePoints.{point, point_result, snapshot_fits, snapshot_rank, at_rank, rank_low}
-use Rattle.outcome_table.proofs.Rows.{fits_set}
 use Rattle.char_function.proofs.LeftFrom.{rank_set}
+use Rattle.domains.proofs.FittingCodes.{fits_set}
 
 -- the snapshot with another code of a variable
 pub record IsNeighbour (m : Machine) (i v code : ℕ) : Type 0 where

@@ -16,12 +16,12 @@ use Rattle.order_sift.specs.inner.Below.{Below, BelowOrders}
 use Rattle.order_sift.specs.inner.Chains.{levels_from, AreChain, AreSizes}
 use Rattle.order_sift.specs.inner.Classes.{snapshot_at, AreClasses, IsNextItem, fixed_too}
 use Rattle.order_sift.specs.Moves.{moved}
-use Rattle.order_sift.proofs.ListUpdates.{set_at}
 use Rattle.char_function.proofs.FixedCodes.{set_else}
 use Rattle.order_sift.proofs.FixedToo.{all_fixed}
 use Rattle.order_sift.proofs.TruePoints.{snapshot_fits}
 use Rattle.char_function.proofs.FixedCodes.{at_stands}
 use Rattle.order_sift.proofs.MovedLevels.{stands_more, front_of, back_of, next_item, classes_more, levels_more, rest_long, rest_low, rest_high, size_is, next_with, next_without, free_without, classes_with, classes_without, classes_before, classes_start, back_step, front_step, back_end, front_start}
+use Rattle.polis_base.proofs.Places.{index_set}
 
 at_end : {X : Type 0} (xs : List X) (x d : X) (k : ℕ) → k ≡ length xs
     → get_or (xs ++ x ∷ []) k d ≡ x
@@ -51,7 +51,7 @@ sizes_set m o sizes i first j value one other new_one new_other low_one low room
     ⊎_elim
     (λ e.
     ap (λ n. slice_index (slice_set sizes (j - first) value) (n - first)) e
-    ∙ set_at sizes (j - first) value (omega arith)
+    ∙ index_set sizes (j - first) value (omega arith)
     ∙ is
     ∙ ap (λ n. Size m (moved o i n)) (sym e))
     (λ apart.

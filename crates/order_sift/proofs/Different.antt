@@ -2,12 +2,10 @@
 use Rattle.std.proofs.Common.{◌≡◌, ⊎_elim, ℕ, zero, suc, ◌+◌, ◌<◌, ◌≤◌, Bool, true, false, cond, ◌||◌, eqb, ltb, List, ◌∷◌, map, slice_get, Some, refl, ap, sym, ◌∙◌, arith, subst, []}
 use Rattle.std.specs.Prelude.{filter}
 use Rattle.std.specs.List.{list_all, list_any}
-use Rattle.std.proofs.lemmas.Bool.{and_parts, and_from, cases_eq, cases_Bool, or_cases, eq-eqb, ne_eqb, ltb-true, true≢false, false_from_ne_true}
+use Rattle.std.proofs.lemmas.Bool.{and_parts, and_from, cases_eq, cases_Bool, or_cases, eq-eqb, ne_eqb, ltb-true, true≢false, false_from_ne_true, or_right, or_left}
 use Rattle.decision_diagram.specs.Truths.{same_truth, same_truths, different}
 use Rattle.order_sift.specs.inner.Classes.{differing}
 use Rattle.decision_diagram.proofs.Distinct.{truths_self}
-use Rattle.char_function.proofs.Blocks.{or_on}
-use Rattle.char_function.proofs.FixedCodes.{or_first}
 use Rattle.decision_diagram.proofs.Members.{truths_equal}
 
 -- two lists of values that are the same at each item
@@ -62,7 +60,7 @@ others_none : (x : List Bool) (ys : List (List Bool)) → has x ys ≡ false →
 others_none x [] none = refl
 others_none x (y ∷ ys) none =
     ⊎_elim
-    (λ on. absurd (true≢false (sym (or_first (same_truths x y) (has x ys) on) ∙ none)))
+    (λ on. absurd (true≢false (sym (or_left (same_truths x y) (has x ys) on) ∙ none)))
     (λ off. ap (λ b. cond b (others x ys) (y ∷ others x ys)) off
     ∙ ap (λ (zs : List (List Bool)). y ∷ zs)
     (others_none x ys (sym (or_none (same_truths x y) (has x ys) off) ∙ none)))
@@ -122,7 +120,7 @@ no_more (x ∷ xs) ys all =
     moved x (z ∷ xs) ys new all =
         let parts = and_parts (has z ys) (list_all (λ w. has w ys) xs) all in
         ⊎_elim
-        (λ on. absurd (true≢false (sym (or_first (same_truths x z) (has x xs) on) ∙ new)))
+        (λ on. absurd (true≢false (sym (or_left (same_truths x z) (has x xs) on) ∙ new)))
         (λ apart. and_from (has z (others x ys)) (list_all (λ w. has w (others x ys)) xs)
         (has_others x z ys apart ∙ parts.0)
         (moved x xs ys (sym (or_none (same_truths x z) (has x xs) apart) ∙ new) parts.1))
@@ -188,7 +186,7 @@ any_kept d T z (y ∷ xs) zero x get on is =
     let at : d y ≡ true = ap d e ∙ on in
     let same : z ≡ T y = is ∙ ap T (sym e) in
     ap (λ b. has z (map T (cond b (y ∷ filter d xs) (filter d xs)))) at
-    ∙ or_first (same_truths z (T y)) (has z (map T (filter d xs)))
+    ∙ or_left (same_truths z (T y)) (has z (map T (filter d xs)))
     (subst (λ (w : List Bool). same_truths z w ≡ true) same (truths_self z))
   where
     some_same : {X : Type 0} (y x : X) → Some y ≡ Some x → y ≡ x
@@ -197,7 +195,7 @@ any_kept d T z (y ∷ xs) (suc k) x get on is =
     let rest = any_kept d T z xs k x get on is in
     ⊎_elim
     (λ here. ap (λ b. has z (map T (cond b (y ∷ filter d xs) (filter d xs)))) here
-    ∙ or_on (same_truths z (T y)) (has z (map T (filter d xs))) rest)
+    ∙ or_right (same_truths z (T y)) (has z (map T (filter d xs))) rest)
     (λ not_here. ap (λ b. has z (map T (cond b (y ∷ filter d xs) (filter d xs)))) not_here ∙ rest)
     (cases_Bool (d y))
 
@@ -214,8 +212,8 @@ some_item p (x ∷ xs) h =
 pub any_item : {X : Type 0} (p : X → Bool) (xs : List X) (k : ℕ) (x : X) → slice_get xs k ≡ Some x
     → p x ≡ true → list_any p xs ≡ true
 any_item p [] k x get on = cc
-any_item p (y ∷ xs) zero x get on = or_first (p y) (list_any p xs) (ap p (some_same y x get) ∙ on)
+any_item p (y ∷ xs) zero x get on = or_left (p y) (list_any p xs) (ap p (some_same y x get) ∙ on)
   where
     some_same : {X : Type 0} (y x : X) → Some y ≡ Some x → y ≡ x
     some_same y x h = cc
-any_item p (y ∷ xs) (suc k) x get on = or_on (p y) (list_any p xs) (any_item p xs k x get on)
+any_item p (y ∷ xs) (suc k) x get on = or_right (p y) (list_any p xs) (any_item p xs k x get on)

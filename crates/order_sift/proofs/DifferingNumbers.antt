@@ -9,12 +9,12 @@ use Rattle.std.proofs.lemmas.List.Elements.{filter-append}
 use Rattle.polis_base.specs.Lists.{upto}
 use Rattle.order_sift.specs.inner.Classes.{differing}
 use Rattle.decision_diagram.proofs.Distinct.{eqb_turned}
-use Rattle.char_function.proofs.ColumnBlocks.{or_false}
+use Rattle.polis_base.proofs.Bools.{or_none}
 
 pub any_more : (n x : ℕ) (xs : List ℕ)
     → list_any (λ k. eqb k n) (xs ++ x ∷ []) ≡ (list_any (λ k. eqb k n) xs || eqb x n)
 any_more n x xs = list_any-append (λ k. eqb k n) xs (x ∷ [])
-    ∙ ap (λ b. list_any (λ k. eqb k n) xs || b) (or_false (eqb x n))
+    ∙ ap (λ b. list_any (λ k. eqb k n) xs || b) (or_none (eqb x n))
 
 pub differing_more : (x : ℕ) (xs : List ℕ)
     → differing (xs ++ x ∷ []) ≡ differing xs + cond (list_any (λ k. eqb k x) xs) 0 1
@@ -23,7 +23,7 @@ differing_more x (z ∷ zs) =
     let rest = differing_more x zs in
     let more : list_any (λ y. eqb z y) (zs ++ x ∷ []) ≡ (list_any (λ y. eqb z y) zs || eqb z x) =
     list_any-append (λ y. eqb z y) zs (x ∷ [])
-    ∙ ap (λ b. list_any (λ y. eqb z y) zs || b) (or_false (eqb z x)) in
+    ∙ ap (λ b. list_any (λ y. eqb z y) zs || b) (or_none (eqb z x)) in
     ⊎_elim
     (λ same.
     let on = eq-eqb z x same in
@@ -43,7 +43,7 @@ differing_more x (z ∷ zs) =
     ≡ cond (list_any (λ y. eqb z y) zs) 0 1 + differing (zs ++ x ∷ []) =
     ap (λ b. cond b 0 1 + differing (zs ++ x ∷ []))
     (more ∙ ap (λ b. list_any (λ y. eqb z y) zs || b) off
-    ∙ or_false (list_any (λ y. eqb z y) zs)) in
+    ∙ or_none (list_any (λ y. eqb z y) zs)) in
     let d : cond {A = ℕ} (list_any (λ k. eqb k x) (z ∷ zs)) 0 1
     ≡ cond {A = ℕ} (list_any (λ k. eqb k x) zs) 0 1 =
     ap (λ t. cond {A = ℕ} (t || list_any (λ k. eqb k x) zs) 0 1) off in

@@ -12,15 +12,16 @@ use Rattle.decision_diagram.specs.Sets.{taking, arising}
 use Rattle.decision_diagram.specs.Truths.{same_truth}
 use Rattle.order_sift.specs.inner.Below.{Below}
 use Rattle.order_sift.specs.inner.Classes.{fixed_too, IsNextItem}
-use Rattle.order_sift.proofs.ListUpdates.{cond_same, set_at, set_long}
+use Rattle.order_sift.proofs.ListUpdates.{cond_same}
 use Rattle.char_function.proofs.FixedCodes.{set_else, taking_same, taking_is, taking_at, taking_fits}
 use Rattle.order_sift.proofs.Different.{map_values}
 use Rattle.order_sift.proofs.TruePoints.{point, point_fits, point_var, point_result, point_true, true_point, snapshot_of}
 use Rattle.domains.proofs.Ranks.{length_fits}
 use Rattle.transition_table.proofs.Ranges.{below_size}
-use Rattle.outcome_table.proofs.Rows.{fits_set}
 use Rattle.decision_diagram.proofs.Distinct.{truth_same}
-use Rattle.decision_diagram.proofs.CountIsSize.{iff_same}
+use Rattle.domains.proofs.FittingCodes.{fits_set}
+use Rattle.polis_base.proofs.Bools.{same_truth as iff_same}
+use Rattle.polis_base.proofs.Places.{index_set, length_set}
 
 -- two functions are the same where their values on all codes that fit are
 map_on : (p : List ℕ → Bool) (g h : List ℕ → Bool) (xs : List (List ℕ)) → list_all p xs ≡ true
@@ -103,11 +104,11 @@ module _ (m : Machine) (below : Below) where
         let lb = length_fits (sizes_of m) b fit in
         let n = items in
         ap (char m) (taking_same (fixed_too fixed x) fixed (point m s) b (point m s)
-        (slice_set b x p) (sym (set_long b x p)) (λ w low.
+        (slice_set b x p) (sym (length_set b x p)) (λ w low.
         ⊎_elim
         (λ here.
         let e : slice_index (slice_set b x p) w ≡ p =
-        ap (slice_index (slice_set b x p)) (sym here) ∙ set_at b x p (omega arith) in
+        ap (slice_index (slice_set b x p)) (sym here) ∙ index_set b x p (omega arith) in
         let off : fixed w ≡ false = ap fixed (sym here) ∙ next.free in
         let on : (fixed w || eqb x w) ≡ true = ap (λ t. t || eqb x w) off ∙ eq-eqb x w here in
         ap (λ t. cond t (slice_index (point m s) w) (slice_index b w)) on
@@ -226,17 +227,17 @@ module _ (m : Machine) (below : Below) where
         let hc = fits_set m.vars s v code hs low_code in
         let other_point = point m (slice_set s v code) in
         ap (char m) (taking_same (fixed_too fixed v) fixed other_point b (point m s)
-        (slice_set b v code) (sym (set_long b v code)) (λ w low.
+        (slice_set b v code) (sym (length_set b v code)) (λ w low.
         ⊎_elim
         (λ here.
         let e : slice_index (slice_set b v code) w ≡ code =
-        ap (slice_index (slice_set b v code)) (sym here) ∙ set_at b v code (omega arith) in
+        ap (slice_index (slice_set b v code)) (sym here) ∙ index_set b v code (omega arith) in
         let off : fixed w ≡ false = ap fixed (sym here) ∙ next.free in
         let on : (fixed w || eqb v w) ≡ true = ap (λ t. t || eqb v w) off ∙ eq-eqb v w here in
         ap (λ t. cond t (slice_index other_point w) (slice_index b w)) on
         ∙ ap (slice_index other_point) (sym here)
         ∙ point_var m below (slice_set s v code) v hc lv
-        ∙ set_at s v code (omega arith)
+        ∙ index_set s v code (omega arith)
         ∙ sym (ap (λ t. cond t (slice_index (point m s) w) (slice_index (slice_set b v code) w))
         off ∙ e))
         (λ other.

@@ -1,4 +1,4 @@
--- Sets of items as bits, and what is known of them.
+-- Sets of order_length as bits, and what is known of them.
 use Rattle.std.proofs.Common.{◌≡◌, ◌⊎◌, ⊎_elim, ◌+◌, ◌*◌, ◌^◌, ◌%◌, ◌<◌, ◌≤◌, ◌==◌, ◌||◌, ℕ, zero, suc, max, bit_or, Bool, false, List, [], ◌∷◌, ◌++◌, length, slice_get, slice_index, Some, take, refl, arith, sym, ◌∙◌, ap, subst, inl, inr}
 use Rattle.std.specs.List.{remove}
 use Rattle.std.specs.Int.{bit_at}
@@ -15,8 +15,8 @@ use Rattle.order_sift.specs.inner.Classes.{AreClasses, fixed_too}
 use Rattle.order_sift.specs.inner.Known.{in_set, IsLevel, AreLevels, AreNumbers}
 use Rattle.order_sift.specs.declared.sets.KnownLevel.{KnownLevel}
 use Rattle.order_sift.specs.declared.sets.KnownNumbers.{KnownNumbers}
-use Rattle.order_sift.proofs.AllowedPlaces.{items}
 use Rattle.order_sift.proofs.MovedLevels.{same_classes, stands_more, take_low}
+use Rattle.transition_table.proofs.MachineCounts.{order_length}
 
 -- ---- bits
 most_of_bits : (x y : ℕ) → x < 2 → y < 2 → (max x y == 1) ≡ (x == 1 || y == 1)
@@ -54,15 +54,15 @@ one_more set item w low =
 pub in_none : (w : ℕ) → in_set 0 w ≡ false
 in_none w = ap (λ n. n == 1) (bit_at-zero w)
 
--- items have bits
+-- order_length have bits
 pub small_items : (m : Machine) (o : List ℕ) → Allowed m o
     → length m.vars + length m.results ≤ 49 → (k : ℕ) → k < length o → slice_index o k < 64
 small_items m o allowed few k low =
-    let n = items m o allowed in
+    let n = order_length m o allowed in
     let b = allowed.permutation.below k low in
     omega arith
 
--- ---- sets with the same items
+-- ---- sets with the same order_length
 pub same_too : (m : Machine) (one other : ℕ → Bool) (x : ℕ) (classes : List ℕ)
     → ((w : ℕ) → one w ≡ other w) → AreClasses m (fixed_too one x) classes
     → AreClasses m (fixed_too other x) classes
@@ -76,7 +76,7 @@ pub same_level : (m : Machine) (one other : ℕ → Bool) (x level : ℕ)
 same_level m one other x level same is =
     is ∙ ap (λ (set : ℕ → Bool). set_level (char m) (sizes_of m) set x) (λ i w. same w i)
 
--- the first items, without the item at place i and with it
+-- the first order_length, without the item at place i and with it
 pub set_before : (o : List ℕ) (set i j : ℕ) → ((w : ℕ) → in_set set w ≡ stands (take j o) w)
     → j ≤ i → (w : ℕ) → in_set set w ≡ stands (take j (remove o i)) w
 set_before o set i j is low w =

@@ -2,7 +2,7 @@
 use Rattle.std.proofs.Common.{◌≡◌, ⊎_elim, ℕ, zero, suc, ◌<◌, ◌≤◌, Bool, true, false, cond, not, ltb, List, ◌∷◌, ◌&&◌, map, length, take, slice_index, slice_set, refl, ap, sym, ◌∙◌, arith, subst, []}
 use Rattle.std.specs.Prelude.{filter}
 use Rattle.std.specs.List.{list_all}
-use Rattle.std.proofs.lemmas.Bool.{and_parts, and_from, cases_eq, cases_Bool, lt-ltb, ltb-true, true≢false}
+use Rattle.std.proofs.lemmas.Bool.{and_parts, and_from, cases_eq, cases_Bool, lt-ltb, ltb-true, true≢false, not-true}
 use Rattle.std.proofs.lemmas.List.Folds.{list_all-append}
 use Rattle.polis_base.specs.Lists.{upto}
 use Rattle.domains.specs.AllCodes.{all_codes}
@@ -15,18 +15,17 @@ use Rattle.decision_diagram.specs.Truths.{same_truth}
 use Rattle.order_sift.specs.inner.Below.{Below}
 use Rattle.order_sift.specs.inner.Classes.{snapshot_at, point_at, left_at, AreClasses, AreMarks, matters, differing}
 use Rattle.order_sift.specs.inner.Pairs.{AreBelow}
-use Rattle.order_sift.proofs.ListUpdates.{cond_same, set_at, set_long}
+use Rattle.order_sift.proofs.ListUpdates.{cond_same}
 use Rattle.char_function.proofs.FixedCodes.{set_else, taking_is, taking_at, taking_long, taking_fits}
 use Rattle.order_sift.proofs.Different.{has, same_items, by_numbers, all_kept, any_kept, some_item, any_item}
 use Rattle.order_sift.proofs.FixedToo.{same_where_fixed}
 use Rattle.order_sift.proofs.TruePoints.{point, point_fits, point_true, true_point, snapshot_of, snapshot_fits, at_rank, rank_low}
-use Rattle.outcome_table.proofs.ListMaps.{all_get}
 use Rattle.domains.proofs.Ranks.{length_fits}
 use Rattle.transition_table.proofs.Ranges.{below_size}
-use Rattle.outcome_table.proofs.Rows.{fits_set}
-use Rattle.char_function.proofs.AreSupports.{get_upto}
-use Rattle.decision_diagram.proofs.ByVariable.{long_upto}
-use Rattle.decision_diagram.proofs.AllCodes.{not_true}
+use Rattle.domains.proofs.FittingCodes.{fits_set}
+use Rattle.polis_base.proofs.ListTests.{all_get}
+use Rattle.polis_base.proofs.Places.{index_set, length_set}
+use Rattle.polis_base.proofs.UptoPlaces.{get_upto, length_upto}
 
 pub all_upto : (n k : ℕ) → n ≤ k → list_all (λ i. ltb i k) (upto n) ≡ true
 all_upto zero k low = refl
@@ -67,17 +66,17 @@ module _ (m : Machine) (below : Below) (fixed : ℕ → Bool) (x : ℕ) (lx : x 
   setting a b code fit =
       let lb = length_fits (sizes_of m) b fit in
       let lt = taking_long fixed a b in
-      let ls = set_long b x code in
+      let ls = length_set b x code in
       taking_is fixed a (slice_set b x code) (slice_set (taking fixed a b) x code)
-      (set_long b x code ∙ sym lt ∙ sym (set_long (taking fixed a b) x code)) (λ w low.
+      (length_set b x code ∙ sym lt ∙ sym (length_set (taking fixed a b) x code)) (λ w low.
       ⊎_elim
       (λ here.
       let off : fixed w ≡ false = ap fixed here ∙ free in
       ap (λ t. cond t (slice_index a w) (slice_index (slice_set b x code) w)) off
       ∙ ap (slice_index (slice_set b x code)) here
-      ∙ set_at b x code (omega arith)
+      ∙ index_set b x code (omega arith)
       ∙ sym (ap (slice_index (slice_set (taking fixed a b) x code)) here
-      ∙ set_at (taking fixed a b) x code (omega arith)))
+      ∙ index_set (taking fixed a b) x code (omega arith)))
       (λ other.
       ap (λ (n : ℕ). cond (fixed w) (slice_index a w) n) (set_else b x w code other)
       ∙ sym (set_else (taking fixed a b) x w code other ∙ taking_at fixed a b w (omega arith)))
@@ -162,7 +161,7 @@ module _ (m : Machine) (below : Below) (fixed : ℕ → Bool) (x : ℕ) (lx : x 
       let size = slice_index (sizes_of m) x in
       let one = some_item (λ c. not (char m (slice_set p x c))) (upto size) on in
       let c = one.1 in
-      let off : char m (slice_set p x c) ≡ false = not_true (char m (slice_set p x c)) one.3 in
+      let off : char m (slice_set p x c) ≡ false = not-true (char m (slice_set p x c)) one.3 in
       let own : taking fixed p p ≡ p =
       taking_is fixed p p p refl (λ w l. cond_same (fixed w) (slice_index p w)) in
       let a : char m (taking fixed p (slice_set p x c)) ≡ false =
@@ -242,6 +241,6 @@ pub marks_few : (m : Machine) (x : ℕ) (marks : List ℕ) → AreMarks m x mark
 marks_few m x marks signs =
     let n = product m.vars in
     let few = filter_few (matters m x) (upto n) in
-    let l = long_upto n in
+    let l = length_upto n in
     let e = ap (λ (xs : List ℕ). length xs) signs in
     omega arith

@@ -2,7 +2,6 @@
 use Rattle.std.proofs.Common.{◌≡◌, ℕ, zero, suc, ◌+◌, ◌<◌, ◌≤◌, Bool, true, false, ◌||◌, eqb, List, [], ◌∷◌, ◌++◌, length, take, drop, slice_index, refl, ap, sym, ◌∙◌, arith, subst}
 use Rattle.std.specs.Prelude.{IsTrue}
 use Rattle.std.specs.List.{insert, remove}
-use Rattle.std.proofs.lemmas.Bool.{true≢false}
 use Rattle.std.proofs.lemmas.List.{take_more, drop_more, take-append-drop}
 use Rattle.std.proofs.lemmas.List.Edits.{length-remove, get_or-insert_at, get_or-insert_above, get_or-remove_below, get_or-remove_above}
 use Rattle.domains.specs.Tables.{are_sizes}
@@ -20,7 +19,7 @@ use Rattle.order_sift.proofs.Levels.{levels_join, levels_after, size_with_item}
 use Rattle.char_function.proofs.AreSupports.{stands_both}
 use Rattle.order_sift.proofs.MovedPlaces.{length_moved, moved_permutation}
 use Rattle.order_sift.proofs.Prefixes.{next_of, stands_insert}
-use Rattle.char_function.proofs.ColumnBlocks.{or_false}
+use Rattle.polis_base.proofs.Bools.{neither_first, or_none, or_swap as swap_last}
 
 -- ---- sets
 or_swap : (a b : Bool) → (a || b) ≡ (b || a)
@@ -29,17 +28,9 @@ or_swap true false = refl
 or_swap false true = refl
 or_swap false false = refl
 
-or_off : (a b : Bool) → (a || b) ≡ false → a ≡ false
-or_off true b h = absurd (true≢false h)
-or_off false b h = refl
-
-swap_last : (a b c : Bool) → ((a || b) || c) ≡ ((a || c) || b)
-swap_last true b c = refl
-swap_last false b c = or_swap b c
-
 -- one more number stands at the end
 pub stands_more : (xs : List ℕ) (x w : ℕ) → stands (xs ++ x ∷ []) w ≡ (stands xs w || eqb x w)
-stands_more xs x w = stands_both xs (x ∷ []) w ∙ ap (λ b. stands xs w || b) (or_false (eqb x w))
+stands_more xs x w = stands_both xs (x ∷ []) w ∙ ap (λ b. stands xs w || b) (or_none (eqb x w))
 
 -- sets with the same items have the same numbers
 pub same_classes : (m : Machine) (one other : ℕ → Bool) (classes : List ℕ)
@@ -192,7 +183,7 @@ module _ (m : Machine) (o : List ℕ) (laws : BelowOrders) (sure : IsDeterminist
         → stands (take j rest) (slice_index rest j) ≡ false
     free_without j low may =
         let r = slice_index rest j in
-        or_off (stands (take j rest) r) (eqb item r)
+        neither_first (stands (take j rest) r) (eqb item r)
         (sym (stands_more (take j rest) item r) ∙ (next_with j low may).free)
 
     -- ---- numbers

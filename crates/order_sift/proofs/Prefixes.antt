@@ -1,4 +1,4 @@
--- Sets of items that stand before a place.
+-- Sets of order_length that stand before a place.
 use Rattle.std.proofs.Common.{◌≡◌, ℕ, zero, suc, ◌+◌, ◌<◌, ◌≤◌, Bool, true, false, ◌||◌, eqb, List, ◌∷◌, length, take, slice_index, refl, ap, sym, ◌∙◌, arith, []}
 use Rattle.std.specs.List.{insert}
 use Rattle.std.proofs.lemmas.Bool.{false_from_ne_true}
@@ -9,8 +9,8 @@ use Rattle.transition_table.specs.Orders.{Allowed}
 use Rattle.transition_table.specs.Transitions.{IsDeterministic}
 use Rattle.decision_diagram.specs.Sets.{stands}
 use Rattle.order_sift.specs.inner.Classes.{IsNextItem}
-use Rattle.order_sift.proofs.AllowedPlaces.{items}
 use Rattle.char_function.proofs.FixedCodes.{stands_at, at_stands}
+use Rattle.transition_table.proofs.MachineCounts.{order_length}
 
 swap_or : (a b c : Bool) → (a || (b || c)) ≡ (b || (a || c))
 swap_or true true c = refl
@@ -34,7 +34,7 @@ pub next_of : (m : Machine) (o : List ℕ) (b : ℕ) → HavePlaces → OnePlace
     → IsNextItem m (stands (take b o)) (slice_index o b)
 next_of m o b have one by_test sure allowed low =
     let perm = allowed.permutation in
-    let n = items m o allowed in
+    let n = order_length m o allowed in
     record {
       free = false_from_ne_true (stands (take b o) (slice_index o b)) (λ on.
           let r = stands_at o b (slice_index o b) on in

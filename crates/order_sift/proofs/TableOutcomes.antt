@@ -19,15 +19,16 @@ use Rattle.outcome_table.specs.declared.table.Table.{Table}
 use Rattle.order_sift.specs.inner.Below.{Below}
 use Rattle.order_sift.specs.inner.Classes.{snapshot_at, point_at, matters}
 use Rattle.order_sift.specs.inner.Points.{AreOutcomes, AreVariables}
-use Rattle.order_sift.proofs.ListUpdates.{same_is, set_at}
 use Rattle.char_function.proofs.Char.{same_self}
 use Rattle.order_sift.proofs.Different.{any_item}
 use Rattle.order_sift.proofs.TruePoints.{point, snapshot_fits}
 use Rattle.order_sift.proofs.AreClasses.{neighbours}
 use Rattle.domains.proofs.Ranks.{length_fits}
 use Rattle.transition_table.proofs.Ranges.{below_size}
-use Rattle.char_function.proofs.AreSupports.{get_upto}
-use Rattle.char_function.proofs.Varies.{any_same}
+use Rattle.domains.proofs.Names.{same_texts}
+use Rattle.polis_base.proofs.ListTests.{any_same_below}
+use Rattle.polis_base.proofs.Places.{index_set}
+use Rattle.polis_base.proofs.UptoPlaces.{get_upto}
 
 -- ---- lists
 set_first : (xs ys : List ℕ) (v c : ℕ) → v < length xs
@@ -58,8 +59,8 @@ same_with xs y c low =
     ∙ sym (eq-eqb (slice_index xs y) c e))
     (λ apart.
     false_from_ne_true (is_same xs (slice_set xs y c))
-    (λ on. apart (ap (λ (zs : List ℕ). slice_index zs y) (same_is xs (slice_set xs y c) on)
-    ∙ set_at xs y c low)) ∙ sym (ne_eqb (slice_index xs y) c apart))
+    (λ on. apart (ap (λ (zs : List ℕ). slice_index zs y) (same_texts xs (slice_set xs y c) on)
+    ∙ index_set xs y c low)) ∙ sym (ne_eqb (slice_index xs y) c apart))
     (cases_eq (slice_index xs y) c)
   where
     set_own : (xs : List ℕ) (k c : ℕ) → slice_index xs k ≡ c → slice_set xs k c ≡ xs
@@ -252,7 +253,7 @@ module _ (m : Machine) (below : Below) where
   matters_var outcomes codes v i are lv li code stride is size has =
       let wide : slice_index (sizes_of m) v ≡ slice_index m.vars v =
       get_or_append_left m.vars m.results 0 v lv in
-      any_same (λ c. not
+      any_same_below (λ c. not
       (slice_index outcomes (i + c * stride - slice_index codes i * stride) == slice_index
       outcomes i)) (λ c. not (char m (slice_set (point_at m i) v c))) size
       (λ c lc. ap not (each c (omega arith)))
@@ -286,7 +287,7 @@ module _ (m : Machine) (below : Below) where
           ∙ sym (char_is ∙ false_from_ne_true
           (is_same (result_codes m (slice_set s v c)) (result_codes m s))
           (λ on. apart (both.1
-          (same ∙ same_is (result_codes m (slice_set s v c)) (result_codes m s) on)))))
+          (same ∙ same_texts (result_codes m (slice_set s v c)) (result_codes m s) on)))))
           (cases_eq (slice_index outcomes k) (slice_index outcomes i))
 
   pub matters_result : (y i size : ℕ) → y < length m.results → i < product m.vars
@@ -302,7 +303,7 @@ module _ (m : Machine) (below : Below) where
       let wide : slice_index (sizes_of m) (length m.vars + y) ≡ slice_index m.results y =
       get_or-append-add m.vars m.results y 0 in
       two size code (omega arith)
-      ∙ any_same (λ c. not (eqb code c))
+      ∙ any_same_below (λ c. not (eqb code c))
       (λ c. not (char m (slice_set (point_at m i) (length m.vars + y) c))) size
       (λ c lc. ap not (sym (char_with_result s y c hs ∙ same_with r y c (omega arith))))
       ∙ ap (λ (n : ℕ). list_any (λ c. not (char m (slice_set (point_at m i) (length m.vars + y) c)))

@@ -10,10 +10,10 @@ use Rattle.transition_table.specs.Computed.{char, result_codes, result_code}
 use Rattle.transition_table.specs.Orders.{sizes_of}
 use Rattle.order_sift.specs.inner.Below.{Below}
 use Rattle.order_sift.specs.inner.Classes.{snapshot_at}
-use Rattle.order_sift.proofs.ListUpdates.{same_is}
 use Rattle.char_function.proofs.Char.{same_self}
 use Rattle.domains.proofs.Ranks.{length_fits}
-use Rattle.decision_diagram.proofs.AppendedLists.{fits_both, fits_prefix}
+use Rattle.domains.proofs.FittingCodes.{fits_both, fits_prefix}
+use Rattle.domains.proofs.Names.{same_texts}
 
 -- a snapshot and the codes of its results
 abbrev pub point : Machine → List ℕ → List ℕ
@@ -47,7 +47,7 @@ module _ (m : Machine) (below : Below) where
   -- where it is true, a snapshot stands with the codes of its results
   pub true_point : (q : List ℕ) → char m q ≡ true → q ≡ point m (take (length m.vars) q)
   true_point q h =
-      let e = same_is (result_codes m (take (length m.vars) q)) (drop (length m.vars) q) h in
+      let e = same_texts (result_codes m (take (length m.vars) q)) (drop (length m.vars) q) h in
       sym (take-append-drop (length m.vars) q)
       ∙ ap (λ (xs : List ℕ). take (length m.vars) q ++ xs) (sym e)
 

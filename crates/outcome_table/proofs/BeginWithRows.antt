@@ -14,9 +14,9 @@ use Rattle.transition_table.specs.declared.row.Row.{Row}
 use Rattle.transition_table.specs.declared.row.Source.{Source}
 use Rattle.transition_table.specs.declared.row.Source.TheVariants.{Code, Input, Add}
 use Rattle.outcome_table.specs.inner.Numbering.{AreRowOutcomes, BeginWithRows, is_code, is_fixed, rows_left}
-use Rattle.outcome_table.proofs.ListMaps.{map_map, map_same}
+use Rattle.outcome_table.proofs.ListMaps.{map_same}
 use Rattle.outcome_table.proofs.RowsLeft.{all_left}
-use Rattle.domains.proofs.AllCodes.{long_map}
+use Rattle.polis_base.proofs.Places.{length_map, map_of_map}
 
 upto_more : (k : ℕ) → upto (suc k) ≡ 0 ∷ map suc (upto k)
 upto_more zero = refl
@@ -30,7 +30,7 @@ all_places {X = X} n (x ∷ xs) =
     let first : n ≡ n + 0 = omega arith in
     ap (λ (ys : List ℕ). n ∷ ys) (all_places (n + 1) xs
     ∙ map_same (λ k. (n + 1) + k) (λ k. n + suc k) (upto (length xs)) (λ k. omega arith)
-    ∙ sym (map_map (λ k. n + k) suc (upto (length xs))))
+    ∙ sym (map_of_map (λ k. n + k) suc (upto (length xs))))
     ∙ ap (λ k. k ∷ map (λ k. n + k) (map suc (upto (length xs)))) first
     ∙ sym (ap (map (λ k. n + k)) (upto_more (length xs)))
 
@@ -89,7 +89,7 @@ begin m s fixed outcomes are is =
     let f : Row → Bool = λ (row : Row). list_all is_fixed row.acts in
     let long = are.long in
     record {
-      long = ap (λ (xs : List Bool). length xs) is ∙ long_map f m.rows;
+      long = ap (λ (xs : List Bool). length xs) is ∙ length_map f m.rows;
       some = omega arith;
       blank = are.blank;
       rows = λ r row at on t.

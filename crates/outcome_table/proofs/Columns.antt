@@ -1,7 +1,6 @@
 -- The codes of one variable on all lists.
-use Rattle.std.proofs.Common.{◌≡◌, true, ℕ, zero, suc, ◌+◌, ◌-◌, ◌*◌, ◌<◌, ◌≤◌, List, ◌∷◌, flat_map, length, take, drop, replicate, slice_index, ◌++◌, ◌/◌, sym, ◌&&◌, nat_le, refl, ap, ◌∙◌, arith, length-append, []}
+use Rattle.std.proofs.Common.{◌≡◌, true, ℕ, zero, suc, ◌+◌, ◌-◌, ◌*◌, ◌<◌, ◌≤◌, List, ◌∷◌, flat_map, length, take, drop, replicate, slice_index, ◌++◌, ◌/◌, sym, ◌&&◌, nat_le, refl, ap, ◌∙◌, arith, []}
 use Rattle.std.proofs.lemmas.Bool.{and_parts, leb-true}
-use Rattle.std.proofs.Math.Seq.{drop-cons}
 use Rattle.polis_base.specs.Lists.{upto}
 use Rattle.domains.specs.AllCodes.{all_codes, each_after}
 use Rattle.domains.specs.Tables.{product}
@@ -10,28 +9,18 @@ use Rattle.std.proofs.Math.Nat.{mul-div_cancel, mul-le-mul_right, mul_assoc, suc
 use Rattle.std.proofs.lemmas.List.{append-nil, append_assoc}
 use Rattle.domains.specs.Tables.{are_sizes}
 use Rattle.transition_table.proofs.CodeSets.{size_at}
-use Rattle.outcome_table.proofs.ListMaps.{map_flat, flat_same, flat_upto}
-use Rattle.domains.proofs.AllCodes.{long_map}
-
--- so many lists of one length
-flat_long : {Y : Type 0} (f : ℕ → List Y) (w n : ℕ) → ((k : ℕ) → length (f k) ≡ w)
-    → length (flat_map f (upto n)) ≡ n * w
-flat_long f w zero each = omega arith
-flat_long {Y = Y} f w (suc n) each =
-    let e = ap (λ (ys : List Y). length ys) (flat_upto f n) in
-    let l = length-append (flat_map f (upto n)) (f n) in
-    let r = flat_long f w n each in
-    let k = each n in
-    omega arith
+use Rattle.outcome_table.proofs.ListMaps.{map_flat, flat_same}
+use Rattle.polis_base.proofs.Places.{drop_index, length_map}
+use Rattle.polis_base.proofs.UptoPlaces.{flat_map_upto, length_flat_map_upto}
 
 pub all_long : (sizes : List ℕ) → length (all_codes sizes) ≡ product sizes
 all_long [] = refl
 all_long (size ∷ sizes) =
-    flat_long (each_after (all_codes sizes)) (product sizes) size
-    (λ k. long_map (λ codes. k ∷ codes) (all_codes sizes) ∙ all_long sizes)
+    length_flat_map_upto (each_after (all_codes sizes)) (product sizes) size
+    (λ k. length_map (λ codes. k ∷ codes) (all_codes sizes) ∙ all_long sizes)
 
 pub column_long : (v : ℕ) (sizes : List ℕ) → length (column v (all_codes sizes)) ≡ product sizes
-column_long v sizes = long_map (λ codes. slice_index codes v) (all_codes sizes) ∙ all_long sizes
+column_long v sizes = length_map (λ codes. slice_index codes v) (all_codes sizes) ∙ all_long sizes
 
 same_first : (c : ℕ) (lists : List (List ℕ))
     → column 0 (each_after lists c) ≡ replicate (length lists) c
@@ -42,11 +31,6 @@ same_rest : (v c : ℕ) (lists : List (List ℕ)) → column (suc v) (each_after
 same_rest v c [] = refl
 same_rest v c (codes ∷ lists) = ap (λ (ys : List ℕ). slice_index codes v ∷ ys) (same_rest v c lists)
 
-here : (vars : List ℕ) (i : ℕ) → i < length vars
-    → drop i vars ≡ slice_index vars i ∷ drop (i + 1) vars
-here vars i low = drop-cons vars i 0 low
-    ∙ (let e : suc i ≡ i + 1 = omega arith in ap (λ (k : ℕ). slice_index vars i ∷ drop k vars) e)
-
 -- each code of the first variable stands once for each list of the others
 pub column_first : (vars : List ℕ) (from v : ℕ) → from ≡ v → v < length vars
     → column (v - from) (all_codes (drop from vars))
@@ -54,7 +38,7 @@ pub column_first : (vars : List ℕ) (from v : ℕ) → from ≡ v → v < lengt
 column_first vars from v same low =
     let none : v - from ≡ 0 = omega arith in
     ap (λ (k : ℕ). column k (all_codes (drop from vars))) none
-    ∙ ap (λ (sizes : List ℕ). column 0 (all_codes sizes)) (here vars from (omega arith))
+    ∙ ap (λ (sizes : List ℕ). column 0 (all_codes sizes)) (drop_index vars from (omega arith))
     ∙ map_flat (λ codes. slice_index codes 0) (each_after (all_codes (drop (from + 1) vars)))
     (upto (slice_index vars from))
     ∙ flat_same (λ c. column 0 (each_after (all_codes (drop (from + 1) vars)) c))
@@ -71,7 +55,7 @@ column_later vars from v less low =
     let more : v - from ≡ suc (v - (from + 1)) = omega arith in
     ap (λ (k : ℕ). column k (all_codes (drop from vars))) more
     ∙ ap (λ (sizes : List ℕ). column (suc (v - (from + 1))) (all_codes sizes))
-    (here vars from (omega arith))
+    (drop_index vars from (omega arith))
     ∙ map_flat (λ codes. slice_index codes (suc (v - (from + 1))))
     (each_after (all_codes (drop (from + 1) vars))) (upto (slice_index vars from))
     ∙ flat_same (λ c. column (suc (v - (from + 1)))
@@ -83,7 +67,7 @@ column_later vars from v less low =
 -- the product of the sizes from a place on
 pub product_here : (vars : List ℕ) (i size : ℕ) → i < length vars → slice_index vars i ≡ size
     → product (drop i vars) ≡ size * product (drop (i + 1) vars)
-product_here vars i size low is = ap product (here vars i low)
+product_here vars i size low is = ap product (drop_index vars i low)
     ∙ ap (λ (n : ℕ). n * product (drop (i + 1) vars)) is
 
 -- there are no more lists of the later variables
@@ -95,17 +79,6 @@ product_later vars i sizes low =
     let rest = product (drop (i + 1) vars) in
     let h = mul-le-mul_right {m = 1} {n = slice_index vars i} rest some in
     omega (arith, e, h)
-
-pub product_after : (vars : List ℕ) (v : ℕ) → are_sizes vars ≡ true
-    → product (drop v vars) ≤ product vars
-product_after vars zero h = omega arith
-product_after [] (suc v) h = omega arith
-product_after (size ∷ vars) (suc v) h =
-    let parts = and_parts (nat_le 1 size && nat_le size 33) (are_sizes vars) h in
-    let some = leb-true 1 size (and_parts (nat_le 1 size) (nat_le size 33) parts.0).0 in
-    let rest = product_after vars v parts.1 in
-    let grow = mul-le-mul_right {m = 1} {n = size} (product vars) some in
-    omega (arith, rest, grow)
 
 pub product_some : (vars : List ℕ) (v : ℕ) → are_sizes vars ≡ true → 0 < product (drop v vars)
 product_some [] zero h = omega arith
@@ -152,15 +125,15 @@ over_sum xs a (suc b) =
     let f : ℕ → List ℕ = λ (c : ℕ). xs in
     let e : a + suc b ≡ suc (a + b) = omega arith in
     ap (λ k. over k xs) e
-    ∙ flat_upto f (a + b)
+    ∙ flat_map_upto f (a + b)
     ∙ ap (λ (ys : List ℕ). ys ++ xs) (over_sum xs a b)
     ∙ append_assoc (over a xs) (over b xs) xs
-    ∙ ap (λ (ys : List ℕ). over a xs ++ ys) (sym (flat_upto f b))
+    ∙ ap (λ (ys : List ℕ). over a xs ++ ys) (sym (flat_map_upto f b))
 
 over_over : (xs : List ℕ) (a b : ℕ) → over a (over b xs) ≡ over (a * b) xs
 over_over xs zero b = let e : zero ≡ zero * b = omega arith in ap (λ k. over k xs) e
 over_over xs (suc a) b =
-    flat_upto (λ (c : ℕ). over b xs) a
+    flat_map_upto (λ (c : ℕ). over b xs) a
     ∙ ap (λ (ys : List ℕ). ys ++ over b xs) (over_over xs a b)
     ∙ sym (over_sum xs (a * b) b)
     ∙ ap (λ k. over k xs) (sym (suc-mul a b))
@@ -172,7 +145,7 @@ pub column_pieces : (vars : List ℕ) (from v : ℕ) → from ≤ v → v < leng
 column_pieces vars zero v most low =
     let e : v ≡ v - zero = omega arith in
     ap (λ k. column k (all_codes vars)) e
-    ∙ sym (flat_upto (λ (c : ℕ). column (v - zero) (all_codes vars)) 0)
+    ∙ sym (flat_map_upto (λ (c : ℕ). column (v - zero) (all_codes vars)) 0)
 column_pieces vars (suc from) v most low =
     let e : from + 1 ≡ suc from = omega arith in
     let n = product (take from vars) in

@@ -14,7 +14,7 @@ use Rattle.transition_table.specs.declared.row.Cond.{Cond}
 use Rattle.transition_table.specs.declared.row.Source.{Source}
 use Rattle.transition_table.specs.declared.row.Source.TheVariants.{Code, Input, Add}
 use Rattle.outcome_table.specs.inner.Needs.{asks_before, is_before, takes_before}
-use Rattle.outcome_table.proofs.ListMaps.{all_get}
+use Rattle.polis_base.proofs.ListTests.{all_get}
 
 pub asks_more : (a b : ℕ) (conds : List Cond) → a ≤ b → list_all (asks_before a) conds ≡ true
     → list_all (asks_before b) conds ≡ true

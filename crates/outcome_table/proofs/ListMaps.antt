@@ -1,21 +1,13 @@
 -- Words on lists.
-use Rattle.std.proofs.Common.{◌≡◌, ℕ, zero, suc, ◌+◌, ◌-◌, Bool, true, false, ◌&&◌, List, [], ◌∷◌, ◌++◌, map, flat_map, length, take, replicate, arith, slice_get, Some, refl, ap, sym, ◌∙◌}
+use Rattle.std.proofs.Common.{◌≡◌, ℕ, ◌+◌, ◌-◌, Bool, true, false, ◌&&◌, List, [], ◌∷◌, ◌++◌, map, flat_map, length, take, replicate, arith, refl, ap, ◌∙◌}
 use Rattle.std.specs.List.{list_all}
-use Rattle.std.proofs.lemmas.Bool.{and_parts}
-use Rattle.std.proofs.lemmas.List.{map-append, append-nil, take_all}
-use Rattle.std.proofs.lemmas.Grind.{flat_map-append}
-use Rattle.polis_base.specs.Lists.{upto}
+use Rattle.std.proofs.lemmas.List.{map-append, take_all}
 
 pub map_flat : {A B C : Type 0} (f : B → C) (g : A → List B) (xs : List A)
     → map f (flat_map g xs) ≡ flat_map (λ x. map f (g x)) xs
 map_flat f g [] = refl
 map_flat {C = C} f g (x ∷ xs) = map-append f (g x) (flat_map g xs)
     ∙ ap (λ (ys : List C). map f (g x) ++ ys) (map_flat f g xs)
-
-pub map_map : {A B C : Type 0} (f : B → C) (g : A → B) (xs : List A)
-    → map f (map g xs) ≡ map (λ x. f (g x)) xs
-map_map f g [] = refl
-map_map {C = C} f g (x ∷ xs) = ap (λ (ys : List C). f (g x) ∷ ys) (map_map f g xs)
 
 pub flat_same : {A B : Type 0} (f g : A → List B) (xs : List A) → ((x : A) → f x ≡ g x)
     → flat_map f xs ≡ flat_map g xs
@@ -29,22 +21,6 @@ pub map_same : {A B : Type 0} (f g : A → B) (xs : List A) → ((x : A) → f x
 map_same f g [] each = refl
 map_same {B = B} f g (x ∷ xs) each =
     ap (λ (y : B). y ∷ map f xs) (each x) ∙ ap (λ (ys : List B). g x ∷ ys) (map_same f g xs each)
-
--- one more of them
-pub flat_upto : {B : Type 0} (f : ℕ → List B) (n : ℕ)
-    → flat_map f (upto (suc n)) ≡ flat_map f (upto n) ++ f n
-flat_upto {B = B} f n = flat_map-append f (upto n) (n ∷ [])
-    ∙ ap (λ (ys : List B). flat_map f (upto n) ++ ys) (append-nil (f n))
-
-pub all_get : {X : Type 0} (p : X → Bool) (xs : List X) (i : ℕ) (x : X) → list_all p xs ≡ true
-    → slice_get xs i ≡ Some x → p x ≡ true
-all_get p [] i x all is = cc
-all_get p (y ∷ xs) zero x all is = let e : y ≡ x = some_same is in
-    ap p (sym e) ∙ (and_parts (p y) (list_all p xs) all).0
-  where
-    some_same : Some y ≡ Some x → y ≡ x
-    some_same h = cc
-all_get p (y ∷ xs) (suc i) x all is = all_get p xs i x (and_parts (p y) (list_all p xs) all).1 is
 
 -- both tests hold of all
 pub all_both : {X : Type 0} (p q r : X → Bool) (xs : List X) → ((x : X) → r x ≡ (p x && q x))

@@ -14,7 +14,8 @@ use Rattle.outcome_table.specs.inner.Numbering.{Adds, BeginWithRows, lists_after
 use Rattle.transition_table.specs.Computed.{result_codes}
 use Rattle.outcome_table.specs.declared.number.Numbered.{Numbered}
 use Rattle.outcome_table.proofs.Columns.{all_long}
-use Rattle.outcome_table.proofs.ListMaps.{map_flat, map_map, flat_same, map_same}
+use Rattle.outcome_table.proofs.ListMaps.{map_flat, flat_same, map_same}
+use Rattle.polis_base.proofs.Places.{map_of_map}
 
 -- more outcomes leave those before
 pub within_more : {X : Type 0} (old new : List X) → take (length old) new ≡ old
@@ -115,7 +116,7 @@ pub same_after : (m : Machine) (fixed sizes c : List ℕ) (n : ℕ) → n ≡ pr
     → ((rest : List ℕ) → c ≡ result_codes m (fixed ++ rest))
     → map (result_codes m) (lists_after fixed sizes) ≡ replicate n c
 same_after m fixed sizes c n many each =
-    map_map (result_codes m) (λ codes. fixed ++ codes) (all_codes sizes)
+    map_of_map (result_codes m) (λ codes. fixed ++ codes) (all_codes sizes)
     ∙ map_one (λ codes. result_codes m (fixed ++ codes)) c (all_codes sizes)
     (λ codes. sym (each codes))
     ∙ ap (λ n. replicate n c) (all_long sizes ∙ sym many)
@@ -142,7 +143,7 @@ lists_split fixed sizes rest size is =
     ∙ map_flat (λ codes. fixed ++ codes) (each_after (all_codes rest)) (upto size)
     ∙ flat_same (λ c. map (λ codes. fixed ++ codes) (each_after (all_codes rest) c))
     (λ c. lists_after (fixed ++ c ∷ []) rest) (upto size)
-    (λ c. map_map (λ codes. fixed ++ codes) (λ codes. c ∷ codes) (all_codes rest)
+    (λ c. map_of_map (λ codes. fixed ++ codes) (λ codes. c ∷ codes) (all_codes rest)
     ∙ map_same (λ codes. fixed ++ c ∷ codes) (λ codes. (fixed ++ c ∷ []) ++ codes) (all_codes rest)
     (λ codes. sym (append_assoc fixed (c ∷ []) codes)))
 

@@ -2,14 +2,14 @@
 use Rattle.std.proofs.Common.{◌≡◌, ◌≢◌, ℕ, zero, suc, ◌+◌, ◌*◌, ◌/◌, ◌%◌, ◌^◌, ◌<◌, ◌≤◌, Bool, true, false, cond, ◌&&◌, ◌==◌, nat_lt, List, [], ◌∷◌, ◌++◌, length, slice_get, slice_index, None, Some, bit_and, bit_or, slice_set, get_or, replicate, subst, refl, sym, ap, ◌∙◌, inl, inr, arith}
 use Rattle.std.specs.Prelude.{filter}
 use Rattle.std.specs.Int.{bit_at, trailing_zeros, w64}
-use Rattle.std.proofs.lemmas.Bool.{cases_eq, cases_lt, lt-ltb}
+use Rattle.std.proofs.lemmas.Bool.{cases_eq, cases_lt, lt-ltb, le-ltb}
 use Rattle.std.proofs.lemmas.List.{append-nil, get_or_append_left, get_or_push, get_or-set_same, get_or-set_other}
 use Rattle.std.proofs.lemmas.Nat.Bits.{bit_at-trailing_zeros, bit_at-zero, bit_at_set_same, bit_at_set_other}
 use Rattle.polis_base.specs.Lists.{upto}
 use Rattle.polis_base.proofs.Lists.{one_more, same_below, none_below}
 use Rattle.outcome_table.specs.inner.RowSets.{IsBoth, has_row, rows_in}
 use Rattle.transition_table.proofs.Bits.{both_bits}
-use Rattle.outcome_table.proofs.RowsLeft.{not_below}
+use Rattle.polis_base.proofs.Places.{index_past}
 
 first_more : (xs ys : List ℕ) (x : ℕ) → slice_get xs 0 ≡ Some x → slice_get (xs ++ ys) 0 ≡ Some x
 first_more [] ys x h = cc
@@ -47,7 +47,7 @@ below_all n (suc m) most =
       | inr past ↦
           let high : n ≤ m = past in
           one_more (λ k. nat_lt k n) m
-          ∙ ap (λ b. filter (λ k. nat_lt k n) (upto m) ++ cond b (m ∷ []) []) (not_below m n high)
+          ∙ ap (λ b. filter (λ k. nat_lt k n) (upto m) ++ cond b (m ∷ []) []) (le-ltb m n high)
           ∙ append-nil (filter (λ k. nat_lt k n) (upto m))
           ∙ below_all n m high
     ]
@@ -97,11 +97,6 @@ rows_both a b words long each =
     (λ r low. ap (λ n. bit_at n (r % 64) == 1) (each (r / 64) (omega arith)) ∙ sym (in_both a b r))
     ∙ sym (filter_twice (has_row a) (has_row b) (upto (64 * length a)))
 
-beyond : (xs : List ℕ) (k : ℕ) → length xs ≤ k → slice_index xs k ≡ 0
-beyond [] k past = refl
-beyond (x ∷ xs) zero past = absurd (omega arith)
-beyond (x ∷ xs) (suc k) past = beyond xs k (omega arith)
-
 pub both_each : (a b words : List ℕ)
     → ((k : ℕ) → k < length a
     → slice_index words k ≡ bit_and (slice_index a k) (slice_index b k))
@@ -111,7 +106,7 @@ both_each a b words each rest = λ r.
       | inl below ↦
           ap (λ n. bit_at n (r % 64) == 1) (each (r / 64) below) ∙ sym (in_both a b r)
       | inr past ↦
-          let none : slice_index a (r / 64) ≡ 0 = beyond a (r / 64) past in
+          let none : slice_index a (r / 64) ≡ 0 = index_past a (r / 64) past in
           ap (λ n. bit_at n (r % 64) == 1) (rest (r / 64) past ∙ none)
           ∙ ap (λ n. n == 1) (bit_at-zero (r % 64))
           ∙ sym (ap (λ n. (bit_at n (r % 64) == 1) && has_row b r) none
@@ -208,7 +203,7 @@ below_next k r apart =
           lt-ltb k r low ∙ sym (lt-ltb k (r + 1) (omega arith))
       | inr past ↦ let high : r ≤ k = past in
           let more : r + 1 ≤ k = omega (arith, apart) in
-          not_below k r high ∙ sym (not_below k (r + 1) more)
+          le-ltb k r high ∙ sym (le-ltb k (r + 1) more)
     ]
 
 -- one more set

@@ -3,7 +3,7 @@ use Rattle.std.proofs.Common.{◌≡◌, ⊎_elim, ℕ, zero, suc, ◌+◌, ◌<
 use Rattle.std.specs.Prelude.{filter}
 use Rattle.std.specs.List.{list_all}
 use Rattle.std.specs.Int.{bit_at}
-use Rattle.std.proofs.lemmas.Bool.{and_parts, cases_lt, cases_eq, lt-ltb, ltb-true, eq-eqb, ne_eqb}
+use Rattle.std.proofs.lemmas.Bool.{and_parts, cases_lt, cases_eq, lt-ltb, ltb-true, eq-eqb, ne_eqb, le-ltb}
 use Rattle.std.proofs.lemmas.List.{length_push, get_or_append_left, get_or_push}
 use Rattle.polis_base.specs.Lists.{places_from}
 use Rattle.transition_table.specs.Transitions.{allows}
@@ -14,13 +14,6 @@ use Rattle.transition_table.specs.inner.Masks.{allows_code}
 use Rattle.outcome_table.specs.inner.RowSets.{IsSetOf, has_row}
 use Rattle.outcome_table.specs.inner.Numbering.{may_hold, may_be_enabled, rows_left}
 use Rattle.outcome_table.proofs.ListMaps.{all_both}
-
-pub not_below : (a b : ℕ) → b ≤ a → nat_lt a b ≡ false
-not_below a b h = off (nat_lt a b) refl
-  where
-    off : (t : Bool) → nat_lt a b ≡ t → nat_lt a b ≡ false
-    off true e = absurd (let l = ltb-true a b e in omega arith)
-    off false e = e
 
 pub and_true : (b : Bool) → b ≡ (b && true)
 and_true true = refl
@@ -48,7 +41,7 @@ hold_more fixed code c =
     ∙ sym (ap (λ b. (not b || test) && (not (v == n) || bit_at c.codes code == 1)) within
     ∙ ap (λ b. test && (not b || bit_at c.codes code == 1)) apart))
     (λ rest.
-    let past : nat_lt v n ≡ false = not_below v n rest in
+    let past : nat_lt v n ≡ false = le-ltb v n rest in
     ⊎_elim
     (λ here.
     let in_more : nat_lt v (length (fixed ++ code ∷ [])) ≡ true =
@@ -62,7 +55,7 @@ hold_more fixed code c =
     ∙ ap (λ b. not b || bit_at c.codes code == 1) at))
     (λ other.
     let not_in : nat_lt v (length (fixed ++ code ∷ [])) ≡ false =
-    not_below v (length (fixed ++ code ∷ [])) (let o : v ≡ n → ⊥ = other in
+    le-ltb v (length (fixed ++ code ∷ [])) (let o : v ≡ n → ⊥ = other in
     ⊎_elim (λ (less : v < length (fixed ++ code ∷ [])). absurd
     (o (let e : v ≡ n = omega arith in e))) (λ more. more)
     (cases_lt v (length (fixed ++ code ∷ [])))) in
@@ -141,7 +134,7 @@ all_left m n rows is =
     free [] = refl
     free (c ∷ conds) =
         ap (λ b. (not b || allows [] c) && list_all (may_hold []) conds)
-        (not_below c.var 0 (omega arith)) ∙ free conds
+        (le-ltb c.var 0 (omega arith)) ∙ free conds
 
 -- ---- what the rows that are left may be asked
 places_below : {X : Type 0} (p : X → Bool) (n k : ℕ) (xs : List X) → n + length xs ≤ k

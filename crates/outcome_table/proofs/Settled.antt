@@ -4,7 +4,6 @@ use Rattle.std.proofs.Common.{◌≡◌, ℕ, suc, ◌+◌, ◌-◌, ◌%◌, �
 use Rattle.std.specs.List.{list_all}
 use Rattle.std.specs.Int.{bit_at}
 use Rattle.std.proofs.lemmas.Bool.{and_parts, and_from, lt-ltb, ltb-true, false≢true}
-use Rattle.std.proofs.lemmas.List.{get_or_append_left}
 use Rattle.std.proofs.lemmas.Option.{slice_get-get_or}
 use Rattle.polis_base.specs.Lists.{places_from}
 use Rattle.transition_table.specs.Computed.{outcome_by}
@@ -19,10 +18,7 @@ use Rattle.transition_table.specs.declared.row.Source.TheVariants.{Code, Input, 
 use Rattle.outcome_table.specs.inner.Needs.{AreEnds, asks_before, is_before, is_settled, takes_before}
 use Rattle.outcome_table.specs.inner.Numbering.{may_hold, may_be_enabled, rows_left}
 use Rattle.outcome_table.proofs.BeginWithRows.{same_outcome}
-
-same_code : (fixed rest : List ℕ) (v : ℕ) → v < length fixed
-    → slice_index (fixed ++ rest) v ≡ slice_index fixed v
-same_code fixed rest v low = get_or_append_left fixed rest 0 v low
+use Rattle.polis_base.proofs.Places.{index_append}
 
 -- ---- conditions
 hold_of : (fixed rest : List ℕ) (c : Cond) → allows (fixed ++ rest) c ≡ true
@@ -32,7 +28,7 @@ hold_of fixed rest c h = on (nat_lt c.var (length fixed)) refl
     on : (b : Bool) → nat_lt c.var (length fixed) ≡ b → may_hold fixed c ≡ true
     on true e = ap (λ b. not b || allows fixed c) e
         ∙ ap (λ k. bit_at c.codes k == 1)
-        (sym (same_code fixed rest c.var (ltb-true c.var (length fixed) e)))
+        (sym (index_append fixed rest c.var (ltb-true c.var (length fixed) e)))
         ∙ h
     on false e = ap (λ b. not b || allows fixed c) e
 
@@ -65,7 +61,7 @@ settled_conds n fixed rest (c ∷ conds) most h may =
     let both = and_parts (may_hold fixed c) (list_all (may_hold fixed) conds) may in
     let inside : nat_lt c.var (length fixed) ≡ true = lt-ltb c.var (length fixed) (omega arith) in
     let first : allows (fixed ++ rest) c ≡ true =
-    ap (λ k. bit_at c.codes k == 1) (same_code fixed rest c.var (omega arith))
+    ap (λ k. bit_at c.codes k == 1) (index_append fixed rest c.var (omega arith))
     ∙ sym (ap (λ b. not b || allows fixed c) inside) ∙ both.0 in
     and_from (allows (fixed ++ rest) c) (list_all (allows (fixed ++ rest)) conds) first
     (settled_conds n fixed rest conds most parts.1 both.1)
@@ -166,12 +162,12 @@ same_source : (m : Machine) (fixed rest more : List ℕ) (n y : ℕ) (source : S
 same_source m fixed rest more n y (Code code) most h = refl
 same_source m fixed rest more n y (Input v) most h =
     let low = ltb-true v n h in
-    same_code fixed rest v (omega arith) ∙ sym (same_code fixed more v (omega arith))
+    index_append fixed rest v (omega arith) ∙ sym (index_append fixed more v (omega arith))
 same_source m fixed rest more n y (Add k) most h =
     let w = variable_of m.inputs y in
     let low = ltb-true w n h in
     ap (λ c. 1 + (c + k) % slice_index m.vars w)
-    (same_code fixed rest w (omega arith) ∙ sym (same_code fixed more w (omega arith)))
+    (index_append fixed rest w (omega arith) ∙ sym (index_append fixed more w (omega arith)))
 
 pub same_results : (m : Machine) (fixed rest more : List ℕ) (end : ℕ) (row : Row)
     → end ≤ length fixed → is_settled m.inputs end row ≡ true

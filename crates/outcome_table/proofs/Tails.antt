@@ -20,7 +20,7 @@ use Rattle.outcome_table.proofs.NumberedOutcomes.{adds_many, adds_on, same_befor
 use Rattle.outcome_table.proofs.RowsLeft.{and_true, filter_places, narrowed, places_same}
 use Rattle.outcome_table.proofs.RowSets.{filter_twice}
 use Rattle.outcome_table.proofs.Settled.{first_left, none_left}
-use Rattle.domains.proofs.AllCodes.{long_map}
+use Rattle.polis_base.proofs.Places.{drop_whole, length_map}
 
 filter_same : (p q : ℕ → Bool) (xs : List ℕ) → ((x : ℕ) → p x ≡ q x) → filter p xs ≡ filter q xs
 filter_same p q [] each = refl
@@ -69,16 +69,12 @@ narrows_more m a b set codes from code of_code small later both =
           ∙ ap (rows_left m) (append_assoc fixed (code ∷ []) codes);
     }
 
-past : (xs : List ℕ) → drop (length xs) xs ≡ []
-past [] = refl
-past (x ∷ xs) = past xs
-
 pub each_none : (m : Machine) (from : ℕ) (set : List ℕ) (sets : List (List ℕ))
     → from ≡ length m.vars → ((r : ℕ) → has_row set r ≡ nat_lt r (length m.rows))
     → sets ≡ set ∷ [] → EachNarrows m from (all_codes (drop from m.vars)) sets
 each_none m from set sets end all is =
     let lists : all_codes (drop from m.vars) ≡ [] ∷ [] =
-    ap (λ k. all_codes (drop k m.vars)) end ∙ ap all_codes (past m.vars) in
+    ap (λ k. all_codes (drop k m.vars)) end ∙ ap all_codes (drop_whole m.vars) in
     subst (λ (ls : List (List ℕ)). EachNarrows m from ls sets) (sym lists)
     (subst (λ (ss : List (List ℕ)). EachNarrows m from ([] ∷ []) ss) (sym is)
     (record { long = refl; each = one }))
@@ -97,7 +93,7 @@ each_more m a lists more later old new from code of_code small rest before added
     let long_new = added.long in
     let next : List (List ℕ) = map (λ codes. code ∷ codes) more in
     let long_lists = length-append lists next in
-    let long_next : length next ≡ length more = long_map (λ codes. code ∷ codes) more in
+    let long_next : length next ≡ length more = length_map (λ codes. code ∷ codes) more in
     record {
       long = omega arith;
       each = λ j low.
@@ -153,8 +149,8 @@ both_pushed set later made x n j long each last k low =
           let less : k < j = below in
           subst (λ (ys : List ℕ). IsBoth set (get_or later k []) ys)
           (sym (get_or_append_left made (x ∷ []) [] (n + k) (omega arith))) (each k less)
-      | inr past ↦
-          let more : j ≤ k = past in
+      | inr drop_whole ↦
+          let more : j ≤ k = drop_whole in
           let here : j ≡ k = omega arith in
           let end : length made ≡ n + k = omega arith in
           subst (λ (ys : List ℕ). IsBoth set (get_or later k []) ys)

@@ -1,8 +1,7 @@
 -- Tests, and what passes them.
-use Rattle.std.proofs.Common.{◌≡◌, Bool, true, false, List, [], ◌∷◌, ◌++◌, refl, ◌∙◌}
+use Rattle.std.proofs.Common.{◌≡◌, Bool, true, false, List, [], ◌∷◌, refl}
 use Rattle.std.specs.List.{list_all}
 use Rattle.std.proofs.lemmas.Bool.{and_from, and_parts}
-use Rattle.std.proofs.lemmas.List.Folds.{list_all-append}
 
 -- what passes one test passes another that follows from it
 pub all_pass : {X : Type 0} (p q : X → Bool) → ((x : X) → p x ≡ true → q x ≡ true) → (xs : List X)
@@ -11,10 +10,6 @@ all_pass p q h [] all = refl
 all_pass p q h (x ∷ xs) all =
     let parts = and_parts (p x) (list_all p xs) all in
     and_from _ _ (h x parts.0) (all_pass p q h xs parts.1)
-
-pub all_in_both : {X : Type 0} (p : X → Bool) (xs ys : List X) → list_all p xs ≡ true
-    → list_all p ys ≡ true → list_all p (xs ++ ys) ≡ true
-all_in_both p xs ys a b = list_all-append p xs ys ∙ and_from _ _ a b
 
 pub differ_false : (t : Bool) → (t ≡ true → ⊥) → t ≡ false
 differ_false true h = absurd (h refl)

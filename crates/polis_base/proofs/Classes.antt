@@ -2,28 +2,21 @@
 use Rattle.std.proofs.Common.{◌≡◌, ℕ, zero, suc, ◌<◌, Bool, true, false, ◌&&◌, nat_eq, refl, arith, inl, inr}
 use Rattle.std.specs.Bool.{beq}
 use Rattle.std.proofs.lemmas.Bool.{cases_eq, eqb-true}
+use Rattle.polis_base.proofs.Bools.{and_first, and_second}
 
 -- two functions agree below n, where `same` tells that two values are equal
 abbrev pub agree_below : {A : Type 0} → (A → A → Bool) → (ℕ → A) → (ℕ → A) → ℕ → Bool
 agree_below same f g zero = true
 agree_below same f g (suc n) = same (f n) (g n) && agree_below same f g n
 
-left_of : (a b : Bool) → (a && b) ≡ true → a ≡ true
-left_of true b h = refl
-left_of false b h = h
-
-right_of : (a b : Bool) → (a && b) ≡ true → b ≡ true
-right_of true b h = h
-right_of false b h = cc
-
 agree_at : {A : Type 0} (same : A → A → Bool) → ((x y : A) → same x y ≡ true → x ≡ y)
     → (f g : ℕ → A) (n : ℕ) → agree_below same f g n ≡ true → (b : ℕ) → b < n → f b ≡ g b
 agree_at same is f g zero h b lt = absurd (omega arith)
 agree_at same is f g (suc n) h b lt =
     elim (cases_eq b n) [
-      | inl at ↦ rw at (is (f n) (g n) (left_of (same (f n) (g n)) (agree_below same f g n) h))
+      | inl at ↦ rw at (is (f n) (g n) (and_first (same (f n) (g n)) (agree_below same f g n) h))
       | inr other ↦ agree_at same is f g n
-          (right_of (same (f n) (g n)) (agree_below same f g n) h) b (omega arith)
+          (and_second (same (f n) (g n)) (agree_below same f g n) h) b (omega arith)
     ]
 
 same_bool : (a b : Bool) → beq a b ≡ true → a ≡ b

@@ -1,5 +1,5 @@
 -- The number that digits write, and its text.
-use Rattle.std.proofs.Common.{◌≡◌, ℕ, ◌+◌, ◌-◌, ◌*◌, ◌^◌, ◌<◌, ◌≤◌, Bool, true, false, not, ◌&&◌, ◌||◌, ◌==◌, List, [], ◌∷◌, length, take, drop, get_or, fold, refl, sym, ◌∙◌, ap, arith, rules, zero, suc}
+use Rattle.std.proofs.Common.{◌≡◌, ℕ, ◌+◌, ◌-◌, ◌*◌, ◌^◌, ◌<◌, ◌≤◌, true, not, ◌||◌, ◌==◌, List, [], ◌∷◌, length, take, drop, get_or, fold, sym, ◌∙◌, ap, arith, rules, zero, suc}
 use Rattle.std.specs.List.{list_all}
 use Rattle.std.specs.Fmt.{decimal}
 use Rattle.std.proofs.lemmas.Bool.{false≢true}
@@ -9,6 +9,7 @@ use Rattle.std.proofs.lemmas.List.Sums.{fold-append, fold_more}
 use Rattle.std.proofs.lemmas.Str.Parse.{IsNumeralModel, numerals_by_fold}
 use Rattle.std.proofs.lemmas.Fmt.{decimal-digits_value, digits_decimal, digits_value-decimal, decimal_nonempty, first_decimal, decimal_digit}
 use Rattle.polis_base.specs.Digits.{is_digit, is_plain, number_of}
+use Rattle.polis_base.proofs.Bools.{and_first, and_second}
 
 abbrev pub next : ℕ → ℕ → ℕ
 next n c = n * 10 + (c - 48)
@@ -34,14 +35,6 @@ zero_free : (c : ℕ) (cs : List ℕ) → (c ≡ 48 → length (c ∷ cs) ≡ 1)
     → (not (c == 48) || length cs == 0) ≡ true
 zero_free c cs zero_alone = grind (arith, nat_tests)
 
-left_true : (a b : Bool) → (a && b) ≡ true → a ≡ true
-left_true true b h = refl
-left_true false b h = h
-
-pub right_true : (a b : Bool) → (a && b) ≡ true → b ≡ true
-right_true true b h = h
-right_true false b h = absurd (false≢true h)
-
 pub own : IsNumeralModel (λ cs. list_all is_digit cs ≡ true) number_of
 own = numerals_by_fold _ (search rules) (fold next) (search rules)
 
@@ -50,9 +43,9 @@ pub text_of_number : (cs : List ℕ) → is_plain cs ≡ true → number_of cs <
     → cs ≡ decimal (number_of cs)
 text_of_number [] plain fits = absurd (false≢true plain)
 text_of_number (c ∷ cs) plain fits =
-    let digits : list_all is_digit (c ∷ cs) ≡ true = left_true _ _ plain in
+    let digits : list_all is_digit (c ∷ cs) ≡ true = and_first _ _ plain in
     sym (decimal-digits_value own (c ∷ cs) digits (omega arith)
-    (alone c cs (right_true _ _ plain)) fits)
+    (alone c cs (and_second _ _ plain)) fits)
 
 pub first_zero : (n : ℕ) → n < 2 ^ 64 → get_or (decimal n) 0 0 ≡ 48 → length (decimal n) ≡ 1
 first_zero zero fits first = ap length (decimal_digit 0 (omega arith))

@@ -9,7 +9,7 @@ use Rattle.std.proofs.lemmas.Bool.{cases_Bool, cond-true, cond-false, false_from
 use Rattle.polis_base.specs.Index.{Keyed, found}
 
 -- two lists of numbers that pass the test are the same
-bytes_same : (xs ys : List ℕ) → bytes_eq xs ys ≡ true → xs ≡ ys
+pub bytes_same : (xs ys : List ℕ) → bytes_eq xs ys ≡ true → xs ≡ ys
 bytes_same xs ys h = (bytes_decides xs ys).0 h
 
 module _ {K X : Type 0} (eq : K → K → Bool) (test : K → Bool) where

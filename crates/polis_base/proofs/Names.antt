@@ -1,11 +1,13 @@
 -- A name that is put in place.
-use Rattle.std.proofs.Common.{◌≡◌, ℕ, zero, suc, ◌-◌, ◌≤◌, Bool, true, false, not, ◌==◌, ◌&&◌, nat_le, List, [], ◌∷◌, length, ◌++◌, refl, ◌∙◌, ap, arith, replicate}
+use Rattle.std.proofs.Common.{◌≡◌, ℕ, zero, suc, ◌-◌, ◌≤◌, true, not, ◌==◌, nat_le, List, [], ◌∷◌, length, ◌++◌, refl, ◌∙◌, ap, arith, replicate}
 use Rattle.std.specs.List.{list_all}
 use Rattle.std.proofs.lemmas.List.{length-append, length-replicate}
 use Rattle.std.proofs.lemmas.List.Sums.{take_while-cons}
 use Rattle.std.proofs.lemmas.Bool.Decides.{nat_tests}
 use Rattle.polis_base.specs.Names.{is_name, is_word, is_keyword, begins_name, continues_name}
 use Rattle.polis_base.specs.NameFields.{HoldsName, before_zero}
+use Rattle.polis_base.proofs.Bools.{and_first, and_second}
+use Rattle.polis_base.proofs.Scans.{begins_continues}
 
 short : (n : ℕ) → nat_le n 24 ≡ true → n ≤ 24
 short n h = grind (arith, nat_tests)
@@ -15,17 +17,6 @@ not_zero : (c : ℕ) → continues_name c ≡ true → not (c == 0) ≡ true
 not_zero zero continues = cc
 not_zero (suc c) continues = grind (arith, nat_tests)
 
-begins_continues : (c : ℕ) → begins_name c ≡ true → continues_name c ≡ true
-begins_continues c begins = rw begins refl
-
-pub left_true : (a b : Bool) → (a && b) ≡ true → a ≡ true
-left_true true b h = refl
-left_true false b h = h
-
-pub right_true : (a b : Bool) → (a && b) ≡ true → b ≡ true
-right_true true b h = h
-right_true false b h = cc
-
 zeros_end : (n : ℕ) → before_zero (replicate n 0) ≡ []
 zeros_end zero = refl
 zeros_end (suc n) = refl
@@ -34,25 +25,25 @@ before_zeros : (cs : List ℕ) (n : ℕ) → list_all continues_name cs ≡ true
     → before_zero (cs ++ replicate n 0) ≡ cs
 before_zeros [] n continue = zeros_end n
 before_zeros (c ∷ cs) n continue =
-    let here = not_zero c (left_true (continues_name c) (list_all continues_name cs) continue) in
-    let later = before_zeros cs n (right_true (continues_name c) _ continue) in
+    let here = not_zero c (and_first (continues_name c) (list_all continues_name cs) continue) in
+    let later = before_zeros cs n (and_second (continues_name c) _ continue) in
     take_while-cons (λ (b : ℕ). not (b == 0)) c (cs ++ replicate n 0)
     ∙ rw here (ap (λ (xs : List ℕ). c ∷ xs) later)
 
 word_continues : (xs : List ℕ) → is_word xs ≡ true → list_all continues_name xs ≡ true
 word_continues [] word = refl
 word_continues (c ∷ cs) word =
-    let here = begins_continues c (left_true (begins_name c) (list_all continues_name cs) word) in
-    rw (here, right_true (begins_name c) _ word) refl
+    let here = begins_continues c (and_first (begins_name c) (list_all continues_name cs) word) in
+    rw (here, and_second (begins_name c) _ word) refl
 
 pub fits_in_place : (xs : List ℕ) → is_name xs ≡ true → length xs ≤ 24
 fits_in_place xs name =
     short (length xs)
-    (left_true (nat_le (length xs) 24) (is_word xs) (left_true _ (not (is_keyword xs)) name))
+    (and_first (nat_le (length xs) 24) (is_word xs) (and_first _ (not (is_keyword xs)) name))
 
 name_word : (xs : List ℕ) → is_name xs ≡ true → is_word xs ≡ true
 name_word xs name =
-    right_true (nat_le (length xs) 24) (is_word xs) (left_true _ (not (is_keyword xs)) name)
+    and_second (nat_le (length xs) 24) (is_word xs) (and_first _ (not (is_keyword xs)) name)
 
 -- the bytes before the zeros are the name's
 pub name_before_zeros : (xs : List ℕ) (n : ℕ) → is_name xs ≡ true

@@ -1,8 +1,8 @@
 -- What stands at a place takes at least one byte, and no more than there are.
-use Rattle.std.proofs.Common.{◌≡◌, ◌⊎◌, ℕ, suc, ◌+◌, ◌<◌, ◌≤◌, Bool, true, false, cond, not, ◌||◌, ◌==◌, nat_lt, List, [], ◌∷◌, length, drop, get_or, Some, Ok, IfOk, refl, sym, ◌∙◌, ap, arith, inl, inr}
+use Rattle.std.proofs.Common.{◌≡◌, ℕ, suc, ◌+◌, ◌<◌, ◌≤◌, Bool, true, false, cond, not, ◌==◌, nat_lt, List, [], ◌∷◌, length, drop, get_or, Some, Ok, IfOk, refl, sym, ◌∙◌, ap, arith, inl, inr}
 use Rattle.std.specs.List.{take_while, prefix_len}
 use Rattle.std.proofs.Math.Seq.{drop-cons}
-use Rattle.std.proofs.lemmas.Bool.{cond_both, eqb-true, false≢true}
+use Rattle.std.proofs.lemmas.Bool.{cond_both, eqb-true, false≢true, or_cases}
 use Rattle.std.proofs.lemmas.Bool.Decides.{nat_tests}
 use Rattle.std.proofs.lemmas.List.Sums.{prefix_len-le-length}
 use Rattle.std.proofs.lemmas.List.Folds.{length-prefix_len}
@@ -182,25 +182,21 @@ pub blank_here : (text : List ℕ) (at d : ℕ) → at < length text → is_blan
     → scan at (drop at text) ≡ Skipped 1
 blank_here text at d below blank = rw (drop-cons text at d below, blank) refl
 
-either_true : (a b : Bool) → (a || b) ≡ true → (a ≡ true) ⊎ (b ≡ true)
-either_true true b h = inl refl
-either_true false b h = inr h
-
 sign_width : (at c n : ℕ) (rest : List ℕ) → (c == n) ≡ true → width (scan at (n ∷ rest)) ≡ Ok 1
     → width (scan at (c ∷ rest)) ≡ Ok 1
 sign_width at c n rest is wide = rw (eqb-true c n is) wide
 
 alone_width : (at c : ℕ) (rest : List ℕ) → is_alone c ≡ true → width (scan at (c ∷ rest)) ≡ Ok 1
 alone_width at c rest alone =
-    elim (either_true (is_blank c) (is_sign c) alone) [
+    elim (or_cases (is_blank c) (is_sign c) alone) [
       | inl blank ↦ rw blank refl
-      | inr sign ↦ elim (either_true (c == 61) _ sign) [
+      | inr sign ↦ elim (or_cases (c == 61) _ sign) [
         | inl is ↦ sign_width at c 61 rest is refl
-        | inr sign ↦ elim (either_true (c == 44) _ sign) [
+        | inr sign ↦ elim (or_cases (c == 44) _ sign) [
           | inl is ↦ sign_width at c 44 rest is refl
-          | inr sign ↦ elim (either_true (c == 123) _ sign) [
+          | inr sign ↦ elim (or_cases (c == 123) _ sign) [
             | inl is ↦ sign_width at c 123 rest is refl
-            | inr sign ↦ elim (either_true (c == 125) (c == 43) sign) [
+            | inr sign ↦ elim (or_cases (c == 125) (c == 43) sign) [
               | inl is ↦ sign_width at c 125 rest is refl
               | inr is ↦ sign_width at c 43 rest is refl
             ]

@@ -147,7 +147,7 @@ lower : (i j : ℕ) (tokens : List Token) → i ≤ j → AreInOrder j tokens �
 lower i j [] less order = tt
 lower i j (token ∷ tokens) less order = (omega (arith, order.0), order.1)
 
-opened : (token : Token) (read : Result (List Token) LexError) (tokens : List Token)
+pub opened : (token : Token) (read : Result (List Token) LexError) (tokens : List Token)
     → with_token token read ≡ Ok tokens
     → (more : List Token) × (read ≡ Ok more) × (tokens ≡ token ∷ more)
 opened token (Ok more) tokens is = (more, refl, cc)
@@ -213,3 +213,7 @@ tokens_lie text tokens read =
 pub tokens_in_order : (text : List ℕ) (tokens : List Token) → tokens_of text ≡ Ok tokens
     → AreInOrder 0 tokens
 tokens_in_order text tokens read = (lies text text 0 0 tokens refl (omega arith) read).order
+
+pub none_read : (error : LexError) (tokens : List Token)
+    → ◌≡◌ {A = Result (List Token) LexError} (Err error) (Ok tokens) → ⊥
+none_read error tokens h = cc

@@ -10,12 +10,12 @@ use Rattle.journals.specs.declared.entry.TraceItem.{TraceItem}
 use Rattle.journal_text.specs.Reading.{read_of}
 use Rattle.journal_text.specs.declared.fault.JournalFault.{JournalFault}
 use Rattle.trace_text.specs.Traces.{trace_of}
-use Rattle.trace_text.specs.declared.fault.TraceFault.{TraceFault}
 use Rattle.input_files.specs.Inputs.{HoldsDeclared, HoldsText, HoldsTrace}
 use Rattle.input_files.specs.JournalFiles.{HoldsJournal}
 use Rattle.polis_cli.specs.OneProduct.{held_under}
 use Rattle.polis_cli.specs.Survey.{HoldsMonitorOf}
 use Rattle.commands.proofs.OneNet.{one_held_net, one_net_of, one_raw}
+use Rattle.commands.proofs.RunsWhole.{one_trace as same_ok}
 
 -- ---- lists of texts
 pub first_same : {X : Type 0} {a b : X} {xs ys : List X} → a ∷ xs ≡ b ∷ ys → a ≡ b
@@ -52,9 +52,6 @@ one_declared before now name other x y a b same one two =
     }
 
 -- ---- files of a network
-pub same_ok : (r : Result (List TraceItem) TraceFault) (a b : List TraceItem) → r ≡ Ok a → r ≡ Ok b
-    → a ≡ b
-same_ok r a b p q = cc
 
 -- one text is of one trace
 pub one_trace : (before now : Files) (name other : List ℕ) (a b : Network) (t u : List TraceItem)

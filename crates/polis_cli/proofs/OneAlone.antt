@@ -28,8 +28,9 @@ use Rattle.commands.specs.Run.{Compiled, Given, IsRan, RunsTasks, Tasks, run_pro
 use Rattle.commands.proofs.IsRan.{alone_is_scheduled}
 use Rattle.polis_cli.specs.OneProduct.{LoneRun, ProductsOfTexts, at_stem, held_under, no_stem}
 use Rattle.commands.proofs.OneNet.{one_held_net, one_net_of}
-use Rattle.polis_cli.proofs.Held.{first_same, one_text, one_trace, others_same, same_answer, same_ok}
+use Rattle.polis_cli.proofs.Held.{first_same, one_text, one_trace, others_same, same_answer}
 use Rattle.polis_cli.proofs.ReadTraces.{trace_fits}
+use Rattle.commands.proofs.RunsWhole.{one_trace as same_ok}
 
 -- ---- what is run
 same_ran : (a b : RunResult) → a.journal ≡ b.journal → a.complete ≡ b.complete

@@ -23,6 +23,7 @@ use Rattle.polis_cli.specs.OneProduct.{JournalsDetermineRun, RunTexts, run_of_te
 use Rattle.commands.proofs.OneNet.{one_held_net}
 use Rattle.polis_cli.proofs.SavesDetermineRun.{one_saved}
 use Rattle.polis_cli.proofs.TwoCalls.{asked_made, written}
+use Rattle.polis_base.proofs.Places.{same_some}
 
 -- ---- the texts of a run
 abbrev texts_of : Network → List Entry → Bool → List Part → RunTexts
@@ -113,9 +114,6 @@ journal_held : (run : RunWords) (call : EndedCall (Run run))
 journal_held run call a =
     (subst (λ (r : Product). AreHeld call.now r.saves) a.made (written (Run run) call).saved).1.0
 
-same_text : (o : Option (List ℕ)) (x y : List ℕ) → o ≡ Some x → o ≡ Some y → x ≡ y
-same_text o x y a b = cc
-
 pub journals_determine_run : OneStampedJournal → JournalsDetermineRun
 journals_determine_run law = record {
   products = products_one;
@@ -126,7 +124,7 @@ journals_determine_run law = record {
       let y = asked_made (Run two) b in
       let net = one_held_net a.before b.before one.net two.net x.net y.net nets x.holds_net y.holds_net
       in
-      let texts = same_text (bytes_at a.now (journal_name one)) (journal_of x.net x.ran)
+      let texts = same_some (bytes_at a.now (journal_name one)) (journal_of x.net x.ran)
       (journal_of y.net y.ran) (journal_held one a x) (journals ∙ journal_held two b y) in
       let found = one_saved law one two a.before b.before p.product q.product x y net
       (limit_few a.words one a.asks) (limit_few b.words two b.asks) texts in

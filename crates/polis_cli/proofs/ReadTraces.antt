@@ -16,7 +16,6 @@ use Rattle.transition_table.specs.declared.network.Network.{Network}
 use Rattle.journals.specs.declared.entry.TraceItem.{TraceItem}
 use Rattle.journals.specs.Journals.{IsTrace, is_trace_item}
 use Rattle.journals.specs.ValueWords.{value_named, word_code}
-use Rattle.net_core.proofs.ReceiversOf.{some_at}
 use Rattle.trace_text.specs.Pieces.{trace_lines, without_comment, trace_words}
 use Rattle.trace_text.specs.Traces.{AddsItem, added, coded, env_event, is_sent_event, is_settle, item_of_line, item_of_words, sent_item, trace_of, with_line}
 use Rattle.trace_text.specs.declared.fault.TraceFault.{TraceFault}
@@ -25,6 +24,7 @@ use Rattle.trace_text.specs.declared.fault.TraceKind.{TraceKind}
 use Rattle.trace_text.specs.declared.fault.TraceKind.TheVariants.{Many}
 use Rattle.trace_text.proofs.Items.{item_fits}
 use Rattle.trace_text.proofs.Lines.{fault_stays}
+use Rattle.polis_base.proofs.Places.{some_at}
 
 -- ---- one item
 -- a code that a word gives is one of what has the domain

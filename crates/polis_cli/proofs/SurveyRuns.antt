@@ -6,7 +6,6 @@ use Rattle.journals.specs.declared.entry.Entry.{Entry}
 use Rattle.journals.specs.declared.entry.TraceItem.{TraceItem}
 use Rattle.journals.specs.Journals.{IsTrace}
 use Rattle.journals.specs.Legality.{Complete}
-use Rattle.net_core.proofs.ReceiversOf.{some_at}
 use Rattle.run_shuffle.specs.Laws.{OneShuffle}
 use Rattle.run_shuffle.specs.Shuffles.{IsShuffled}
 use Rattle.run_shuffle.specs.declared.order.Order.{Order}
@@ -19,6 +18,7 @@ use Rattle.commands.specs.Shuffle.{order_of}
 use Rattle.polis_cli.specs.SurveyRuns.{AreOfJournal, SurveyRunsAreDrawn}
 use Rattle.commands.proofs.OneNet.{one_held_net}
 use Rattle.polis_cli.proofs.Held.{first_same, one_trace, others_same, same_answer}
+use Rattle.polis_base.proofs.Places.{some_at}
 
 -- the figures of the run that is drawn from a seed are those of the journal that is
 of_journal : OneShuffle → (net : Network) (monitor : Option Network) (trace : List TraceItem)

@@ -2,15 +2,15 @@
 use Rattle.std.proofs.lemmas.List.{length-drop, append-nil}
 use Rattle.std.proofs.Common.{◌≡◌, ◌≢◌, ◌+◌, ◌*◌, ◌%◌, ◌≤◌, ◌<◌, ◌^◌, ℕ, get_or, List, [], ◌∷◌, ◌++◌, length, drop, slice_get, flat_map, Some, None, IfNone, refl, sym, ap, subst, ◌∙◌, arith, decimal}
 use Rattle.std.specs.Option.{is_some}
-use Rattle.std.specs.Prelude.{Option, option_map, unwrap_or, Bool, true, false}
+use Rattle.std.specs.Prelude.{Option, option_map, unwrap_or, true}
 use Rattle.std.proofs.lemmas.Fmt.{decimal_injective}
 use Rattle.polis_base.specs.declared.limits.TheConstants.{ENTRIES_MAX, WORKERS_MAX}
 use Rattle.journals.proofs.Emitted.{drop_at_item}
-use Rattle.net_core.proofs.ReceiversOf.{some_at}
 use Rattle.polis_words.specs.declared.requests.order.GivenOrder.{GivenOrder}
 use Rattle.polis_words.specs.declared.requests.order.GivenOrder.TheVariants.{Mixed, Free, Settled, Scheduled}
 use Rattle.polis_words.specs.RunOptions.{RunOption, Workers, Limit, Image, Order, Seed, Watch, IsOption, Said, Says, SayAll, AskOptions, unsaid, flag_of, value_of, option_words, order_word}
 use Rattle.polis_words.specs.inner.Run.{IsOptionOf, SaysAt, AreSaid}
+use Rattle.polis_base.proofs.Places.{same_some, some_at}
 
 -- ---- numbers
 -- a number has one text
@@ -162,10 +162,6 @@ no_more words first place old a there none said asks =
           says = says;
         })
 
--- an option that says what was said before says nothing new at its place
-some_is : {X : Type 0} (o : Option X) (a b : X) → o ≡ Some a → o ≡ Some b → a ≡ b
-some_is o a b p q = cc
-
 pub says_nothing : (words : List (List ℕ)) (place : ℕ) (flag value : List ℕ) (o : RunOption)
     (old : Said) (answer : Option Said) → slice_get words place ≡ Some flag
     → slice_get words (place + 1) ≡ Some value → IsOptionOf flag value o
@@ -173,8 +169,8 @@ pub says_nothing : (words : List (List ℕ)) (place : ℕ) (flag value : List �
     → IfNone answer ((new : Said) → ¬ SaysAt words place old new)
 says_nothing words place flag value o old (Some found) p q is none = tt
 says_nothing words place flag value o old None p q is none = λ new s.
-    let flags = some_is (slice_get words place) (flag_of s.option) flag s.flag p ∙ is.flag_is in
-    let values = some_is (slice_get words (place + 1)) (value_of s.option) value s.value q
+    let flags = same_some (slice_get words place) (flag_of s.option) flag s.flag p ∙ is.flag_is in
+    let values = same_some (slice_get words (place + 1)) (value_of s.option) value s.value q
     ∙ is.value_is in
     none new (subst (λ (p : RunOption). Says old p new)
     (same_option s.option o s.is_option is.option flags values) s.says)
@@ -242,7 +238,3 @@ pub asked_within : (words : List (List ℕ)) (said : Said) → AskOptions words 
 asked_within words said a =
     all_within a.options unsaid said a.say
     ((omega arith, omega arith), (omega arith, omega arith))
-
--- a test doesn't pass and fail
-pub not_both : (test : Bool) → test ≡ true → test ≡ false → ⊥
-not_both test passes fails = cc

@@ -1,5 +1,5 @@
 -- The survey that a command line asks for.
-use Rattle.std.proofs.Common.{◌≡◌, ◌+◌, ◌≤◌, ◌<◌, ◌^◌, ℕ, List, ◌∷◌, drop, slice_get, Option, Some, None, sym, ap, subst, ◌∙◌, arith, codes, decimal}
+use Rattle.std.proofs.Common.{◌≡◌, ◌+◌, ◌≤◌, ◌<◌, ◌^◌, ℕ, List, ◌∷◌, drop, slice_get, Some, None, sym, ap, subst, ◌∙◌, arith, codes, decimal}
 use Rattle.std.specs.Prelude.{unwrap_or}
 use Rattle.std.proofs.lemmas.Fmt.{decimal_injective}
 use Rattle.polis_base.specs.declared.limits.TheConstants.{ENTRIES_MAX, RUNS_MAX}
@@ -8,6 +8,7 @@ use Rattle.polis_words.specs.RunOptions.{Said, AskOptions}
 use Rattle.polis_words.specs.Survey.{AsksSurvey, SurveyWords, survey_form}
 use Rattle.polis_words.proofs.AskOptions.{one_asked_for}
 use Rattle.polis_words.proofs.AsksRun.{words_are}
+use Rattle.polis_base.proofs.Places.{same_some}
 
 -- words that ask for a survey have options that say what it has
 pub options_surveyed : (words : List (List ℕ)) (survey : SurveyWords) (a : AsksSurvey words survey)
@@ -39,9 +40,6 @@ survey_with net trace runs said = record {
 fourth : (words : List (List ℕ)) (survey : SurveyWords) → AsksSurvey words survey
     → slice_get words 3 ≡ Some (decimal survey.runs)
 fourth words survey a = ap (λ (w : List (List ℕ)). slice_get w 3) a.form
-
-same_some : (o : Option (List ℕ)) (a b : List ℕ) → o ≡ Some a → o ≡ Some b → a ≡ b
-same_some o a b p q = cc
 
 -- where it is no number from 1 to the most, no survey is asked for
 pub no_runs : (words : List (List ℕ)) (word : List ℕ) → slice_get words 3 ≡ Some word

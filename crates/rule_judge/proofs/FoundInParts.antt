@@ -12,7 +12,8 @@ use Rattle.rule_judge.specs.Rules.{beyond}
 use Rattle.rule_judge.specs.inner.Sorting.{taken_before}
 use Rattle.rule_judge.proofs.LeastPlace.{sooner_least, least_append, repeated_more}
 use Rattle.net_names.proofs.IfOk.{IfOk_same}
-use Rattle.net_names.proofs.IsVar.{some_is}
+use Rattle.polis_base.proofs.Bools.{or_swap}
+use Rattle.polis_base.proofs.Places.{some_is}
 
 pub beyond_some : (most : ℕ) (words : List Word) (w : Word) → slice_get words most ≡ Some w
     → beyond most words ≡ w.at ∷ []
@@ -70,13 +71,6 @@ name_after (w ∷ words) word q = by (is_same q w.name) (name_after words word q
         ≡ ((b || is_name_of words q) || is_same q word.name)
     by true h = refl
     by false h = h
-
-or_swap : (a b c : Bool) → ((a || b) || c) ≡ ((a || c) || b)
-or_swap true b c = refl
-or_swap false true true = refl
-or_swap false true false = refl
-or_swap false false true = refl
-or_swap false false false = refl
 
 -- one more word is gone over, whose name stands before, is taken, or neither
 pub taken_more : (taken words : List Word) (i : ℕ) (word : Word) (stands : Bool)

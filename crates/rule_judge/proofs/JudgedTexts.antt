@@ -7,10 +7,10 @@ use Rattle.net_reader.specs.inner.Outcomes.{outcome}
 use Rattle.net_reader.specs.declared.raw.RawNet.{RawNet}
 use Rattle.net_reader.specs.declared.network.NetFault.{NetFault}
 use Rattle.net_reader.proofs.Sentences.{has_net}
-use Rattle.net_names.proofs.IsVar.{some_is}
 use Rattle.rule_judge.specs.declared.verdict.Broken.{Broken}
 use Rattle.rule_judge.specs.Judged.{broken}
 use Rattle.rule_judge.specs.Samples.{Sample, IsJudged, AreJudged, samples}
+use Rattle.polis_base.proofs.Places.{some_is}
 
 -- the rule, where the text declares a network
 abbrev found : Result RawNet NetFault → Option (Option Broken)

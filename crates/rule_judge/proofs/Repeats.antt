@@ -1,5 +1,5 @@
 -- Words that items name, gone over item by item.
-use Rattle.std.proofs.Common.{◌≡◌, ◌∙◌, ℕ, ◌+◌, ◌<◌, Bool, true, false, not, ◌||◌, List, [], ◌∷◌, ◌++◌, map, length, flat_map, take, drop, get_or, Option, refl, ap, sym}
+use Rattle.std.proofs.Common.{◌≡◌, ◌∙◌, ℕ, ◌+◌, ◌<◌, Bool, not, ◌||◌, List, [], ◌∷◌, ◌++◌, map, length, flat_map, take, drop, get_or, Option, ap, sym}
 use Rattle.std.proofs.lemmas.List.{take_more, append_assoc, append-nil, map-append}
 use Rattle.std.proofs.lemmas.List.Folds.{list_any-append}
 use Rattle.std.proofs.lemmas.Grind.{flat_map-append}
@@ -10,10 +10,7 @@ use Rattle.net_reader.specs.declared.raw.Word.{Word}
 use Rattle.net_names.specs.Numbers.{missing, repeated, is_name_of}
 use Rattle.net_names.specs.Places.{unless, sooner, least_place}
 use Rattle.rule_judge.proofs.LeastPlace.{sooner_least, sooner_missing, item_first}
-
-or_false : (b : Bool) → (b || false) ≡ b
-or_false true = refl
-or_false false = refl
+use Rattle.polis_base.proofs.Bools.{or_none}
 
 -- the names of two lists of words
 names_append : (xs ys : List Word) (q : List ℕ)
@@ -28,7 +25,7 @@ repeated_append : (taken : List ℕ → Bool) (xs ys : List Word)
     → repeated taken (xs ++ ys)
     ≡ repeated taken xs ++ repeated (λ q. taken q || is_name_of xs q) ys
 repeated_append taken [] ys =
-    ap (λ (t : List ℕ → Bool). repeated t ys) (λ k q. sym (or_false (taken q)) k)
+    ap (λ (t : List ℕ → Bool). repeated t ys) (λ k q. sym (or_none (taken q)) k)
 repeated_append taken (x ∷ xs) ys =
     let after : List ℕ → Bool = λ q. taken q || is_same q x.name in
     ap (λ l. unless (not (taken x.name)) x.at ++ l) (repeated_append after xs ys

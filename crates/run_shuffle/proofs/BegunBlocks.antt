@@ -23,6 +23,7 @@ use Rattle.run_shuffle.specs.Orders.{same_block}
 use Rattle.run_shuffle.specs.inner.Blocks.{settles}
 use Rattle.run_shuffle.specs.inner.Ways.{begun_table}
 use Rattle.run_shuffle.proofs.BlocksByPlaces.{block_by_count, blocks_of_way}
+use Rattle.polis_base.proofs.Bools.{or_none}
 
 -- a delivery of the block came to the machine
 abbrev came : Network → List TraceItem → List Entry → ℕ → ℕ → Bool
@@ -31,16 +32,12 @@ came net trace journal b m =
 
 -- ---- lists
 
-or_last : (t : Bool) → (t || false) ≡ t
-or_last true = refl
-or_last false = refl
-
 -- with one item more
 take_one_more : (xs : List ℕ) (i b : ℕ)
     → has (take (suc i) xs) b ≡ (has (take i xs) b || same_block (slice_get xs i) (Some b))
 take_one_more [] zero b = refl
 take_one_more [] (suc i) b = refl
-take_one_more (x ∷ xs) zero b = or_last (x == b)
+take_one_more (x ∷ xs) zero b = or_none (x == b)
 take_one_more (x ∷ xs) (suc i) b =
     ap (λ t. x == b || t) (take_one_more xs i b)
     ∙ sym (or_assoc (x == b) (has (take i xs) b) (same_block (slice_get xs i) (Some b)))
@@ -61,15 +58,15 @@ any_with p q m (suc n) t below own others =
           ap (λ u. u || list_any q (n ∷ []))
           (all_same n (λ k low. others k (λ e. absurd (omega arith))))
           ∙ ap (λ u. list_any p (upto n) || u)
-          (or_last (q n) ∙ ap q same ∙ own ∙ ap (λ k. p k || t) (sym same))
+          (or_none (q n) ∙ ap q same ∙ own ∙ ap (λ k. p k || t) (sym same))
           ∙ sym (or_assoc (list_any p (upto n)) (p n) t)
-          ∙ ap (λ u. (list_any p (upto n) || u) || t) (sym (or_last (p n)))
+          ∙ ap (λ u. (list_any p (upto n) || u) || t) (sym (or_none (p n)))
           ∙ ap (λ u. u || t) (sym (list_any-append p (upto n) (n ∷ [])))
       | inr other ↦
           ap (λ u. u || list_any q (n ∷ []))
           (any_with p q m n t (let apart : n ≢ m = other in omega arith) own others)
           ∙ ap (λ u. (list_any p (upto n) || t) || u)
-          (or_last (q n) ∙ others n other ∙ sym (or_last (p n)))
+          (or_none (q n) ∙ others n other ∙ sym (or_none (p n)))
           ∙ swapped (list_any p (upto n)) t (list_any p (n ∷ []))
           ∙ ap (λ u. u || t) (sym (list_any-append p (upto n) (n ∷ [])))
     ])
@@ -91,7 +88,7 @@ any_with p q m (suc n) t below own others =
         list_any-append q (upto j) (j ∷ [])
         ∙ ap (λ u. u || list_any q (j ∷ [])) (all_same j (λ k low. h k (omega arith)))
         ∙ ap (λ u. list_any p (upto j) || u)
-        (or_last (q j) ∙ h j (omega arith) ∙ sym (or_last (p j)))
+        (or_none (q j) ∙ h j (omega arith) ∙ sym (or_none (p j)))
         ∙ sym (list_any-append p (upto j) (j ∷ []))
 
 same_tests : (p q : ℕ → Bool) (xs : List ℕ) → ((x : ℕ) → p x ≡ q x)
@@ -194,7 +191,7 @@ table_marked gives net trace journal m e c block below few is =
     begun_after_own gives net trace journal m e c k below
     ∙ ap (λ o. has_begun net trace journal k || same_block o (Some k)) is
     ∙ ap (λ t. has_begun net trace journal k || t) (ne_eqb block k (λ e. apart (sym e)))
-    ∙ or_last (has_begun net trace journal k))
+    ∙ or_none (has_begun net trace journal k))
   where
     or_true : (t : Bool) → (t || true) ≡ true
     or_true true = refl

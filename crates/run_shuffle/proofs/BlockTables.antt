@@ -20,7 +20,7 @@ use Rattle.run_shuffle.specs.inner.Blocks.{settles}
 use Rattle.run_shuffle.specs.inner.Ways.{begun_table, blocks_table}
 use Rattle.run_shuffle.proofs.BegunBlocks.{begun_after_own, table_stays}
 use Rattle.run_shuffle.proofs.BlocksByPlaces.{block_at_place, no_block_past, settles_more}
-use Rattle.run_shuffle.proofs.ReceiverSets.{or_none}
+use Rattle.polis_base.proofs.Bools.{or_none}
 
 settles_within : (trace : List TraceItem) (i : ℕ) → settles (take i trace) ≤ settles trace
 settles_within [] zero = omega arith

@@ -17,11 +17,12 @@ use Rattle.journals.specs.Cursors.{cursor, is_read, nth_place}
 use Rattle.journals.specs.Journals.{delivered, reads}
 use Rattle.journals.specs.Laws.{TraceGivesSent}
 use Rattle.journals.specs.Schedules.{deliveries_of, event_code, is_way}
-use Rattle.journals.proofs.DeliveriesOfWay.{filter_of_map, map_of_map}
+use Rattle.journals.proofs.DeliveriesOfWay.{filter_of_map}
 use Rattle.journals.proofs.FirstOfWay.{find_is_head, head_of_drop}
 use Rattle.journals.proofs.OwedAfter.{owed_of_way}
 use Rattle.run_shuffle.specs.Blocks.{block_deliveries, block_to, blocks_to, owed_in_blocks}
 use Rattle.run_shuffle.specs.inner.Blocks.{blocks_read, settles}
+use Rattle.polis_base.proofs.Places.{map_of_map}
 
 -- ---- the blocks of the deliveries to a machine
 

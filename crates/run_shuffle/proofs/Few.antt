@@ -1,7 +1,6 @@
 -- How many moves are offered.
 use Rattle.std.proofs.Common.{◌≡◌, ℕ, suc, ◌+◌, ◌*◌, ◌≤◌, Bool, true, false, cond, List, [], ◌∷◌, filter, filter_map, flat_map, length, Option, Some, None, refl, subst, length-append, arith}
 use Rattle.std.proofs.lemmas.List.{length-map}
-use Rattle.journals.proofs.MomentsAfter.{length_upto}
 use Rattle.polis_base.specs.Lists.{head_of}
 use Rattle.transition_table.specs.declared.decl.Party.{Party}
 use Rattle.transition_table.specs.declared.decl.Party.TheVariants.{Machine as Sender}
@@ -16,6 +15,7 @@ use Rattle.run_shuffle.specs.declared.order.RunOrder.{RunOrder}
 use Rattle.run_shuffle.specs.declared.order.RunOrder.TheVariants.{Free, Settled, Scheduled}
 use Rattle.run_shuffle.specs.Moves.{machines_of, network_moves, next_deliveries, next_delivery, next_sends, reactions}
 use Rattle.run_shuffle.specs.Orders.{network_offered, picked_move}
+use Rattle.polis_base.proofs.UptoPlaces.{length_upto}
 
 given_few : {X Y : Type 0} (f : X → Option Y) (xs : List X) → length (filter_map f xs) ≤ length xs
 given_few f [] = omega arith

@@ -13,11 +13,11 @@ use Rattle.polis_base.specs.Lists.{head_of, upto}
 use Rattle.polis_base.proofs.Lists.{none_below, one_more, same_below}
 use Rattle.polis_base.proofs.Members.{here, of_filter}
 use Rattle.journals.specs.Schedules.{without_first}
-use Rattle.journals.proofs.MomentsAfter.{length_upto}
 use Rattle.net_core.specs.Readers.{members}
 use Rattle.net_core.proofs.Bitsets.{none_past, without_one}
 use Rattle.run_shuffle.proofs.Few.{passing_few}
 use Rattle.run_shuffle.specs.inner.Ways.{IsSetOf, machines_in}
+use Rattle.polis_base.proofs.UptoPlaces.{length_upto}
 
 -- the members are the numbers that pass
 pub members_are : (n : ℕ) (p : ℕ → Bool) (set : ℕ) → n ≤ 64 → IsSetOf n p set

@@ -23,7 +23,6 @@ use Rattle.journals.specs.Journals.{IsTrace, delivered, is_event_code, is_party,
 use Rattle.journals.specs.Legality.{Legal, MayFollow}
 use Rattle.journals.specs.Schedules.{deliver, deliveries_of, first_pick, first_woken, is_way, keep_unless, owed_by_env, owed_by_machines, same_way, trace_deliveries, unmade}
 use Rattle.journals.proofs.FirstOfWay.{find_of_head, first_from_env, first_from_machine}
-use Rattle.journals.proofs.DeliveriesOfWay.{map_of_map}
 use Rattle.journals.proofs.OwedAfter.{own_way}
 use Rattle.journals.proofs.StopsWhereComplete.{first_woken_is, nil_from_head, none_woken_is}
 use Rattle.run_shuffle.specs.declared.order.RunOrder.{RunOrder}
@@ -34,6 +33,7 @@ use Rattle.run_shuffle.specs.Moves.{all_moves, env_moves, machines_of, network_m
 use Rattle.run_shuffle.specs.Orders.{env_offered, first_move, moves_of_block, network_offered, offered, picked_move, same_block, scheduled_move}
 use Rattle.polis_base.proofs.Members.{empty_has_none, first_or_later, in_filter, in_filter_map, in_upto, none_in_empty, of_filter, of_filter_map}
 use Rattle.run_shuffle.proofs.EntriesOfMoves.{delivery_in_network, move_is, network_move_is, reaction_in_network}
+use Rattle.polis_base.proofs.Places.{both_empty, map_of_map}
 
 -- ---- lists
 
@@ -62,10 +62,6 @@ head_taken f (y ∷ xs) x h none = cc
 
 none_from_empty : {X : Type 0} (xs : List X) (x : X) → xs ≡ [] → Contains xs x → ⊥
 none_from_empty xs x none h = none_in_empty x (subst (λ l. Contains l x) none h)
-
-both_empty : {X : Type 0} (xs ys : List X) → xs ++ ys ≡ [] → (xs ≡ []) × (ys ≡ [])
-both_empty [] ys h = (refl, h)
-both_empty (x ∷ xs) ys h = cc
 
 -- ---- the environment's owed deliveries, with their blocks and without
 

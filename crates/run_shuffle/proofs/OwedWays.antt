@@ -1,5 +1,5 @@
 -- Which deliveries are owed after one entry more.
-use Rattle.std.proofs.Common.{◌≡◌, ℕ, Bool, true, false, cond, ◌&&◌, ◌||◌, ◌==◌, List, [], ◌∷◌, ◌++◌, map, flat_map, length, Some, refl, sym, ap, ◌∙◌}
+use Rattle.std.proofs.Common.{◌≡◌, ℕ, Bool, true, false, cond, ◌&&◌, ◌||◌, ◌==◌, List, [], ◌∷◌, ◌++◌, flat_map, length, Some, refl, sym, ap, ◌∙◌}
 use Rattle.std.specs.Prelude.{find, is_some}
 use Rattle.std.specs.List.{list_any}
 use Rattle.std.proofs.lemmas.List.{append-nil}
@@ -22,20 +22,9 @@ use Rattle.journals.specs.Schedules.{deliveries_of, is_way, owed_by_machines, re
 use Rattle.journals.proofs.DeliveredBeginsSent.{delivered_by_reaction, delivered_other}
 use Rattle.journals.proofs.OwedAfter.{way_parts}
 use Rattle.run_shuffle.specs.inner.Ways.{owes}
+use Rattle.polis_base.proofs.ListTests.{any_of_flat_map, any_of_map, any_same}
 
 -- ---- lists
-
-pub any_of_map : {X Y : Type 0} (p : Y → Bool) (f : X → Y) (xs : List X)
-    → list_any p (map f xs) ≡ list_any (λ x. p (f x)) xs
-any_of_map p f [] = refl
-any_of_map p f (x ∷ xs) = ap (λ t. p (f x) || t) (any_of_map p f xs)
-
-pub any_of_flat_map : {X Y : Type 0} (p : Y → Bool) (f : X → List Y) (xs : List X)
-    → list_any p (flat_map f xs) ≡ list_any (λ x. list_any p (f x)) xs
-any_of_flat_map p f [] = refl
-any_of_flat_map p f (x ∷ xs) =
-    list_any-append p (f x) (flat_map f xs)
-    ∙ ap (λ t. list_any p (f x) || t) (any_of_flat_map p f xs)
 
 none_pass : {X : Type 0} (xs : List X) → list_any (λ x. false) xs ≡ false
 none_pass [] = refl
@@ -84,12 +73,6 @@ and_through : {X : Type 0} (b : Bool) (p : X → Bool) (xs : List X)
 and_through true p xs = refl
 and_through false p xs = none_pass xs
 
-same_any : {X : Type 0} (p q : X → Bool) (xs : List X) → ((x : X) → p x ≡ q x)
-    → list_any p xs ≡ list_any q xs
-same_any p q [] same = refl
-same_any p q (x ∷ xs) same =
-    ap (λ t. t || list_any p xs) (same x) ∙ ap (λ t. q x || t) (same_any p q xs same)
-
 -- a firing adds the receivers of what it emits to those of its machine
 pub owes_after_reaction : MovesOwed
     → (net : Network) (trace : List TraceItem) (journal : List Entry) (k : ℕ) (x : Snapshot)
@@ -104,7 +87,7 @@ owes_after_reaction moves net trace journal k x o s m legal =
     ∙ ap (λ t. owes net journal s m || t)
     (any_of_flat_map (is_way (Sender s) m) (deliveries_of net (Sender k))
     (emissions net (Rea k x o))
-    ∙ same_any (λ p. list_any (is_way (Sender s) m) (deliveries_of net (Sender k) p))
+    ∙ any_same (λ p. list_any (is_way (Sender s) m) (deliveries_of net (Sender k) p))
     (λ p. k == s && has (receivers_of net p.0) m) (emissions net (Rea k x o))
     (given_to net k s m)
     ∙ and_through (k == s) (λ p. has (receivers_of net p.0) m) (emissions net (Rea k x o)))

@@ -14,24 +14,18 @@ use Rattle.transition_table.specs.declared.network.Network.{Network}
 use Rattle.journals.specs.Journals.{emitted, reads}
 use Rattle.journals.specs.Schedules.{receivers_of}
 use Rattle.journals.proofs.Emitted.{emitted_none, emitted_one}
-use Rattle.net_core.proofs.ReceiversOf.{receivers_are, some_at}
+use Rattle.net_core.proofs.ReceiversOf.{receivers_are}
+use Rattle.polis_base.proofs.Bools.{or_assoc, or_none}
+use Rattle.polis_base.proofs.Places.{some_at}
 
 -- a receiver of what is emitted
 abbrev pub is_receiver : Network → List (ℕ × ℕ) → ℕ → Bool
 is_receiver net sent m = list_any (λ (p : ℕ × ℕ). has (receivers_of net p.0) m) sent
 
-pub or_none : (a : Bool) → (a || false) ≡ a
-or_none true = refl
-or_none false = refl
-
 or_all : (a b : Bool) → (a || (b || true)) ≡ true
 or_all true b = refl
 or_all false true = refl
 or_all false false = refl
-
-or_joined : (a b c : Bool) → ((a || b) || c) ≡ (a || (b || c))
-or_joined true b c = refl
-or_joined false b c = refl
 
 -- ---- of an event
 
@@ -85,7 +79,7 @@ pub emits_one : (net : Network) (outputs codes : List ℕ) (k e c set old new m 
     ≡ (bit_at set m == 1 || is_receiver net (emitted outputs codes) m)
 emits_one net outputs codes k e c set old new m event code some before now =
     ap (λ b. b || is_receiver net (emitted (drop (k + 1) outputs) (drop (k + 1) codes)) m) now
-    ∙ or_joined (bit_at old m == 1) (has (receivers_of net e) m)
+    ∙ or_assoc (bit_at old m == 1) (has (receivers_of net e) m)
     (is_receiver net (emitted (drop (k + 1) outputs) (drop (k + 1) codes)) m)
     ∙ ap (λ l. bit_at old m == 1 || is_receiver net l m)
     (sym (emitted_one outputs codes k e c event code some))

@@ -29,15 +29,12 @@ use Rattle.run_shuffle.proofs.BegunBlocks.{begun_after_machine, begun_after_reac
 use Rattle.run_shuffle.proofs.BlocksByPlaces.{block_by_count}
 use Rattle.run_shuffle.proofs.MembersOfSets.{set_changed, set_stays}
 use Rattle.run_shuffle.proofs.OwedWays.{cursor_after_other, cursor_after_reaction, owes_after_delivery, owes_after_reaction}
-use Rattle.run_shuffle.proofs.ReceiverSets.{is_receiver, or_none}
+use Rattle.run_shuffle.proofs.ReceiverSets.{is_receiver}
+use Rattle.polis_base.proofs.Bools.{and_none, or_none}
 
 -- the moment with one entry more
 abbrev pub taken : Moment → Entry → Moment
 taken now entry = record now { journal = now.journal ++ entry ∷ [] }
-
-and_none : (b : Bool) → (b && false) ≡ false
-and_none true = refl
-and_none false = refl
 
 -- ---- whose block is asked for
 
@@ -366,15 +363,6 @@ receiver_is net t to e c fits =
     and_parts (is_party net t && nat_lt to (length net.machines)) (is_event_code net e c) fits in
     ltb-true to (length net.machines)
     (and_parts (is_party net t) (nat_lt to (length net.machines)) parts.0).1
-
-pub sender_is : (net : Network) (from to e c : ℕ) → FitsNetwork net (Dep (Sender from) to e c)
-    → from < length net.machines
-sender_is net from to e c fits =
-    let parts =
-    and_parts (is_party net (Sender from) && nat_lt to (length net.machines))
-    (is_event_code net e c) fits in
-    ltb-true from (length net.machines)
-    (and_parts (nat_lt from (length net.machines)) (nat_lt to (length net.machines)) parts.0).0
 
 -- the row that was read
 pub marked_row : (rows : List ℕ) (s row new m : ℕ) (is : Bool) → slice_get rows s ≡ Some row

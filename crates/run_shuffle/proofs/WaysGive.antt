@@ -23,7 +23,7 @@ use Rattle.journals.specs.Cursors.{cursor}
 use Rattle.journals.specs.Journals.{IsTrace, is_woken}
 use Rattle.journals.specs.Legality.{Legal}
 use Rattle.journals.specs.Schedules.{deliver, first_pick, first_woken, is_way, owed_by_env, owed_by_machines}
-use Rattle.journals.proofs.MomentsAfter.{get_or_upto, length_upto}
+use Rattle.journals.proofs.MomentsAfter.{get_or_upto}
 use Rattle.net_core.specs.Moments.{Moment}
 use Rattle.run_shuffle.specs.declared.ways.Ways.{Ways}
 use Rattle.run_shuffle.specs.Blocks.{block_to, current_block}
@@ -38,6 +38,7 @@ use Rattle.run_shuffle.proofs.NextMoves.{env_has, env_has_none, machine_has, mac
 use Rattle.run_shuffle.proofs.OffersUntilComplete.{first_is, network_has_none, scheduled_in_network}
 use Rattle.run_shuffle.proofs.OwedWays.{some_found}
 use Rattle.run_shuffle.proofs.RowSums.{rows_few}
+use Rattle.polis_base.proofs.UptoPlaces.{length_upto}
 
 -- ---- who has a next delivery
 

@@ -3,9 +3,9 @@ use Rattle.std.proofs.Common.{◌≡◌, ℕ, zero, suc, ◌+◌, ◌<◌, ◌�
 use Rattle.std.proofs.lemmas.Bool.{le-ltb, lt-ltb}
 use Rattle.std.proofs.lemmas.List.{drop-drop, length-drop}
 use Rattle.polis_base.specs.Pieces.{pieces, with_byte}
-use Rattle.event_accounts.proofs.OneItemMore.{flat_map_push}
 use Rattle.run_survey.specs.SurveyLines.{first_items, line_count, spaced_item}
 use Rattle.run_survey.proofs.Places.{count_next}
+use Rattle.polis_base.proofs.Places.{flat_map_push}
 
 -- one piece more than there are lines
 count_pieces : (text : List ℕ) → length (pieces 10 text) ≡ line_count text + 1

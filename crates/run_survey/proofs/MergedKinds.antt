@@ -8,8 +8,10 @@ use Rattle.std.proofs.lemmas.List.Sums.{sum_by-append}
 use Rattle.run_survey.specs.declared.told.Kind.{Kind}
 use Rattle.run_survey.specs.Kinds.{kind_of, new_texts}
 use Rattle.run_survey.specs.inner.Merging.{all_kinds, all_merged, has_outputs, merged, more}
-use Rattle.run_survey.proofs.Texts.{AreApart, any_new, apart_at, apart_new, fresh, itself, map_same, new_apart, new_append, other_text, same_text, turned}
+use Rattle.run_survey.proofs.Texts.{AreApart, any_new, apart_at, apart_new, fresh, itself, map_same, new_apart, new_append, other_text, turned}
 use Rattle.run_survey.proofs.Places.{count_none, position_in, position_out}
+use Rattle.polis_base.proofs.Bools.{or_none}
+use Rattle.polis_base.proofs.Lookups.{bytes_same}
 
 abbrev pub kind : List ℕ → ℕ → ℕ → Kind
 kind outputs count seed = record { outputs = outputs; count = count; seed = seed }
@@ -36,7 +38,7 @@ merged_in f g (t ∷ texts) next apart there own same here =
         → cond b (more (f t) next.count ∷ map f texts) (f t ∷ merged (map f texts) next)
         ≡ g t ∷ map g texts
     cases true is rest =
-        let e : t ≡ next.outputs = same_text t next.outputs is in
+        let e : t ≡ next.outputs = bytes_same t next.outputs is in
         let none : list_any (bytes_eq next.outputs) texts ≡ false =
         ap (λ (x : List ℕ). list_any (bytes_eq x) texts) (sym e) ∙ apart.0 in
         ap (λ (k : Kind). k ∷ map f texts)
@@ -79,10 +81,6 @@ with_flag first xs ys flag text =
 
 abbrev kind_at : ℕ → List (List ℕ) → List (List ℕ) → List (List ℕ) → List ℕ → Kind
 kind_at first xs ys texts text = with_flag first xs ys (list_any (bytes_eq text) texts) text
-
-or_none : (b : Bool) → (b || false) ≡ b
-or_none true = refl
-or_none false = refl
 
 module _ (first : ℕ) (xs ys : List (List ℕ)) where
   -- a text more, which is another

@@ -5,20 +5,15 @@ use Rattle.std.proofs.lemmas.List.Concat.{flat_map-append}
 use Rattle.std.proofs.lemmas.Option.{get_or_from_slice_get, slice_get_within}
 use Rattle.transition_table.specs.declared.machine.Machine.{Machine}
 use Rattle.transition_table.specs.declared.row.Row.{Row}
-use Rattle.event_accounts.proofs.OneItemMore.{flat_map_push, one_more}
+use Rattle.event_accounts.proofs.OneItemMore.{one_more}
 use Rattle.journals.proofs.Emitted.{drop_at_item}
 use Rattle.table_use.specs.CoverageLines.{never_line}
 use Rattle.run_survey.specs.declared.told.Spread.{Spread}
 use Rattle.run_survey.specs.SurveyLines.{most_taken, never_lines}
+use Rattle.polis_base.proofs.Places.{flat_map_push, take_next}
 
 abbrev pub rows_in : Machine → List Row
 rows_in machine = machine.rows
-
-take_next : {X : Type 0} (xs : List X) (m : ℕ) (x : X) → slice_get xs m ≡ Some x
-    → take (m + 1) xs ≡ take m xs ++ x ∷ []
-take_next {X} xs m x at =
-    take_more xs m x (slice_get_within xs m x at)
-    ∙ ap (λ (y : X). take m xs ++ y ∷ []) (get_or_from_slice_get xs m x x at)
 
 -- one row more
 pub most_more : (rows : List Spread) (first k : ℕ) (s : Spread)

@@ -10,8 +10,9 @@ use Rattle.run_survey.specs.declared.told.Kind.{Kind}
 use Rattle.run_survey.specs.declared.told.Others.{Others}
 use Rattle.run_survey.specs.Kinds.{differs, is_other, kind_of, new_texts, others_beyond}
 use Rattle.run_survey.specs.inner.Merging.{all_kinds, count_of, gathered}
-use Rattle.run_survey.proofs.Texts.{AreApart, any_new, apart_front, apart_new, apart_sides, filter_every, filter_filter, fresh, itself, other_text, same_text, turned}
+use Rattle.run_survey.proofs.Texts.{AreApart, any_new, apart_front, apart_new, apart_sides, filter_every, filter_filter, fresh, itself, other_text, turned}
 use Rattle.run_survey.proofs.Places.{count_either, count_same, count_some}
+use Rattle.polis_base.proofs.Lookups.{bytes_same}
 
 -- ---- how many
 
@@ -34,7 +35,7 @@ counted_once texts (t ∷ kinds) apart =
     (count_either (bytes_eq t) (λ (x : List ℕ). list_any (bytes_eq x) kinds)
     (λ (x : List ℕ). list_any (bytes_eq x) (t ∷ kinds))
     (λ x. ap (λ (b : Bool). b || list_any (bytes_eq x) kinds) (turned x t))
-    (λ x same. ap (λ (y : List ℕ). list_any (bytes_eq y) kinds) (sym (same_text t x same))
+    (λ x same. ap (λ (y : List ℕ). list_any (bytes_eq y) kinds) (sym (bytes_same t x same))
     ∙ apart.0) texts)
 
 -- ---- the first
@@ -51,7 +52,7 @@ passes_there : (q : List ℕ → Bool) (t : List ℕ) (texts : List (List ℕ))
 passes_there q t texts there =
     (and_parts (q t) (list_any (bytes_eq t) texts)
     (sym
-    (any-filter_same (bytes_eq t) q (q t) (λ k same. ap q (sym (same_text t k same))) texts)
+    (any-filter_same (bytes_eq t) q (q t) (λ k same. ap q (sym (bytes_same t k same))) texts)
     ∙ there)).0
 
 stands_at : (t : List ℕ) (kinds more : List (List ℕ))
@@ -71,7 +72,7 @@ skip es x y there = cases (bytes_eq x y) refl
   where
     cases : (b : Bool) → bytes_eq x y ≡ b → (not b && fresh es y) ≡ fresh es y
     cases true is =
-        sym (ap not (ap (λ (z : List ℕ). list_any (bytes_eq z) es) (sym (same_text x y is))
+        sym (ap not (ap (λ (z : List ℕ). list_any (bytes_eq z) es) (sym (bytes_same x y is))
         ∙ there))
     cases false is = refl
 

@@ -1,5 +1,5 @@
 -- Surveys of the runs that are drawn from neighbouring seeds.
-use Rattle.std.proofs.Common.{◌≡◌, ◌⊎◌, ◌↔◌, Bool, IsTrue, ℕ, zero, suc, ◌+◌, ◌-◌, ◌<◌, ◌≤◌, List, [], ◌∷◌, ◌++◌, length, slice_get, Option, Some, None, refl, sym, ap, subst, ◌∙◌, inl, inr, zero-add, arith}
+use Rattle.std.proofs.Common.{◌≡◌, ◌⊎◌, ◌↔◌, Bool, IsTrue, ℕ, zero, suc, ◌+◌, ◌-◌, ◌<◌, ◌≤◌, List, [], ◌∷◌, ◌++◌, length, slice_get, Option, Some, None, refl, sym, ap, subst, ◌∙◌, inl, inr, arith}
 use Rattle.std.proofs.lemmas.Bool.{cases_lt}
 use Rattle.std.proofs.lemmas.List.{length-append, length-map}
 use Rattle.std.proofs.lemmas.Option.{same_Some}
@@ -7,7 +7,6 @@ use Rattle.transition_table.specs.declared.network.Network.{Network}
 use Rattle.journals.specs.declared.entry.Entry.{Entry}
 use Rattle.journals.specs.declared.entry.TraceItem.{TraceItem}
 use Rattle.journals.specs.Legality.{Complete}
-use Rattle.event_accounts.proofs.OneItemMore.{slice_get_left}
 use Rattle.run_shuffle.specs.declared.order.Order.{Order}
 use Rattle.run_shuffle.specs.Shuffles.{IsShuffled}
 use Rattle.run_watch.specs.declared.answer.Watched.{Watched}
@@ -20,14 +19,7 @@ use Rattle.run_survey.specs.Runs.{AreFiguresFrom, AreFiguresOf, IsShapedBy, IsSu
 use Rattle.run_survey.specs.Surveys.{AreAlike, IsOfRuns, IsSurvey, texts_of}
 use Rattle.run_survey.specs.Watching.{IsSaid}
 use Rattle.run_survey.proofs.OtherTexts.{none_beyond}
-
-slice_get_right : {X : Type 0} (xs ys : List X) (k : ℕ)
-    → slice_get (xs ++ ys) (length xs + k) ≡ slice_get ys k
-slice_get_right [] ys k = ap (slice_get ys) (zero-add k)
-slice_get_right (x ∷ xs) ys k =
-    ap (slice_get (x ∷ (xs ++ ys)))
-    (let e : suc (length xs) + k ≡ suc (length xs + k) = omega arith in e)
-    ∙ slice_get_right xs ys k
+use Rattle.polis_base.proofs.Places.{get_left, get_right}
 
 -- the figures that are made of a drawn run
 pub drawn_figures : (net own : Network) (monitor : Option Network) (trace : List TraceItem)
@@ -87,12 +79,12 @@ module _ (net : Network) (monitor : Option Network) (trace : List TraceItem) (or
     where
       cases : (k : ℕ) (f : Figures) → slice_get (xs ++ ys) k ≡ Some f
           → ((k < length xs) ⊎ (length xs ≤ k)) → AreFiguresOf net monitor trace order limit (seed + k) f
-      cases k f at (inl low) = one.each k f (sym (slice_get_left xs ys k low) ∙ at)
+      cases k f at (inl low) = one.each k f (sym (get_left xs ys k low) ∙ at)
       cases k f at (inr high) =
           let j : ℕ = k - length xs in
           let place : length xs + j ≡ k = omega arith in
           let there : slice_get ys j ≡ Some f =
-          sym (slice_get_right xs ys j) ∙ ap (slice_get (xs ++ ys)) place ∙ at in
+          sym (get_right xs ys j) ∙ ap (slice_get (xs ++ ys)) place ∙ at in
           let few = one.many in
           subst (λ (n : ℕ). AreFiguresOf net monitor trace order limit n f)
           (let e : seed + a + j ≡ seed + k = omega arith in e)

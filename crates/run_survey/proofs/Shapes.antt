@@ -15,7 +15,6 @@ use Rattle.event_accounts.specs.Accounts.{account, accounts_of, buffers, buffers
 use Rattle.event_accounts.specs.declared.account.Account.{Account}
 use Rattle.event_accounts.proofs.InputLines.{buffers_next}
 use Rattle.event_accounts.proofs.InputsOf.{inputs_of_machine}
-use Rattle.event_accounts.proofs.OneItemMore.{flat_map_push}
 use Rattle.event_accounts.proofs.RowsOf.{buffers_many}
 use Rattle.table_use.specs.Coverage.{coverage_of, coverages, input_use, taken_by}
 use Rattle.table_use.specs.declared.tally.Tally.{Tally}
@@ -31,6 +30,7 @@ use Rattle.run_survey.specs.Runs.{AreFiguresFrom, IsShapedBy, IsSurveyOf}
 use Rattle.run_survey.specs.Surveys.{IsSurvey}
 use Rattle.run_survey.proofs.NeverLines.{rows_in}
 use Rattle.run_survey.proofs.SaidOfRuns.{shown_found}
+use Rattle.polis_base.proofs.Places.{flat_map_push}
 
 abbrev inputs_in : Machine → List ℕ
 inputs_in machine = machine.inputs

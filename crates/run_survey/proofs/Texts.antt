@@ -9,11 +9,9 @@ use Rattle.std.proofs.lemmas.List.Folds.{list_any-append}
 use Rattle.std.proofs.lemmas.Map.Views.{any-filter_same}
 use Rattle.std.proofs.lemmas.Slice.Eq.{bytes_eq-Decides}
 use Rattle.run_survey.specs.Kinds.{differs, new_texts}
+use Rattle.polis_base.proofs.Lookups.{bytes_same}
 
 -- ---- texts
-
-pub same_text : (a b : List ℕ) → bytes_eq a b ≡ true → a ≡ b
-same_text a b h = (bytes_eq-Decides a b).0 h
 
 pub itself : (a : List ℕ) → bytes_eq a a ≡ true
 itself a = (bytes_eq-Decides a a).1 refl
@@ -27,7 +25,7 @@ pub other_text : (q t : List ℕ) (texts : List (List ℕ)) → list_any (bytes_
 other_text q t texts none there =
     false_from_ne_true (bytes_eq q t) (λ e.
     false≢true
-    (sym none ∙ (ap (λ (x : List ℕ). list_any (bytes_eq x) texts) (same_text q t e) ∙ there)))
+    (sym none ∙ (ap (λ (x : List ℕ). list_any (bytes_eq x) texts) (bytes_same q t e) ∙ there)))
 
 -- functions that agree at each text of the list
 pub map_same : {Y : Type 0} (f g : List ℕ → Y) (texts : List (List ℕ))
@@ -106,7 +104,7 @@ any_new t (x ∷ texts) = cases (bytes_eq t x) refl (any_new t texts)
     cases false is rest =
         any-filter_same (bytes_eq t) (differs x) true
         (λ o same.
-        ap not (ap (bytes_eq x) (sym (same_text t o same)) ∙ turned x t ∙ is))
+        ap not (ap (bytes_eq x) (sym (bytes_same t o same)) ∙ turned x t ∙ is))
         (new_texts texts)
         ∙ rest
 
@@ -187,7 +185,7 @@ apart_sides t (x ∷ texts) more h there =
         → (list_any (bytes_eq t) texts ≡ true → list_any (bytes_eq t) more ≡ false)
         → list_any (bytes_eq t) more ≡ false
     cases true is any rest =
-        ap (λ (o : List ℕ). list_any (bytes_eq o) more) (same_text t x is)
+        ap (λ (o : List ℕ). list_any (bytes_eq o) more) (bytes_same t x is)
         ∙ (or_parts (list_any (bytes_eq x) texts) (list_any (bytes_eq x) more)
         (sym (list_any-append (bytes_eq x) texts more) ∙ h.0)).1
     cases false is any rest = rest any

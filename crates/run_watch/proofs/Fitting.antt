@@ -1,11 +1,11 @@
 -- What a monitor hears of a journal of the network is a trace of the monitor.
-use Rattle.std.proofs.Common.{◌≡◌, ℕ, zero, suc, Bool, true, false, cond, not, ◌&&◌, ◌||◌, nat_le, nat_lt, List, [], ◌∷◌, map, filter, filter_map, flat_map, length, get_or, slice_get, Option, Some, None, option_map, unwrap_or, refl, sym, ap, ◌∙◌, subst}
+use Rattle.std.proofs.Common.{◌≡◌, ℕ, zero, suc, Bool, true, false, not, ◌&&◌, ◌||◌, nat_le, nat_lt, List, [], ◌∷◌, map, filter_map, flat_map, length, get_or, slice_get, Option, Some, None, option_map, unwrap_or, refl, sym, ap, ◌∙◌, subst}
 use Rattle.std.specs.List.{list_all, list_any}
 use Rattle.std.proofs.lemmas.Bool.{and_from, and_parts, false≢true, lt-ltb, ltb-true, not-true}
 use Rattle.std.proofs.lemmas.List.Folds.{list_all-map}
 use Rattle.std.proofs.lemmas.Option.{none-some, slice_get-get_or, slice_get-map, slice_get_within}
 use Rattle.polis_base.specs.Lists.{head_of}
-use Rattle.polis_base.proofs.AllPass.{all_in_both, all_pass}
+use Rattle.polis_base.proofs.AllPass.{all_pass}
 use Rattle.polis_base.proofs.Found.{find_is}
 use Rattle.domains.specs.Names.{are_distinct, is_same}
 use Rattle.domains.proofs.Names.{same_self, same_texts}
@@ -35,20 +35,10 @@ use Rattle.run_watch.specs.declared.hearing.Hearing.{Hearing}
 use Rattle.run_watch.specs.inner.Hearings.{looked_up}
 use Rattle.run_watch.proofs.Hears.{heard_same, trace_tells_outputs}
 use Rattle.run_watch.proofs.Placed.{event_code, placed_are_outputs}
+use Rattle.polis_base.proofs.ListTests.{all_filtered}
+use Rattle.polis_base.proofs.Lists.{all_append}
 
 -- ---- outputs have codes of their events
-
-all_filtered : {X : Type 0} (p q : X → Bool) (xs : List X) → list_all p xs ≡ true
-    → list_all p (filter q xs) ≡ true
-all_filtered p q [] all = refl
-all_filtered p q (x ∷ xs) all =
-    let parts = and_parts (p x) (list_all p xs) all in
-    cases (q x) parts.0 (all_filtered p q xs parts.1)
-  where
-    cases : (b : Bool) → p x ≡ true → list_all p (filter q xs) ≡ true
-        → list_all p (cond b (x ∷ filter q xs) (filter q xs)) ≡ true
-    cases true here rest = and_from (p x) (list_all p (filter q xs)) here rest
-    cases false here rest = rest
 
 emitted_fit : (net : Network) (journal : List Entry) → IsJournal net journal
     → list_all (λ (p : ℕ × ℕ). is_event_code net p.0 p.1) (flat_map (emissions net) journal)
@@ -56,7 +46,7 @@ emitted_fit : (net : Network) (journal : List Entry) → IsJournal net journal
 emitted_fit net [] fits = refl
 emitted_fit net (Dep s m e c ∷ journal) fits = emitted_fit net journal fits.1
 emitted_fit net (Rea m s o ∷ journal) fits =
-    all_in_both (λ (p : ℕ × ℕ). is_event_code net p.0 p.1) (emissions net (Rea m s o))
+    all_append (λ (p : ℕ × ℕ). is_event_code net p.0 p.1) (emissions net (Rea m s o))
     (flat_map (emissions net) journal) (emissions_fit net m s o fits.0).1
     (emitted_fit net journal fits.1)
 
@@ -275,7 +265,7 @@ items_fit net monitor ((e, c) ∷ ps) may all =
     let parts =
     and_parts (is_event_code net e c)
     (list_all (λ (p : ℕ × ℕ). is_event_code net p.0 p.1) ps) all in
-    all_in_both (is_trace_item monitor) (items_as (watched net monitor e) c)
+    all_append (is_trace_item monitor) (items_as (watched net monitor e) c)
     (flat_map (items_of net monitor) ps) (cases (watched net monitor e) refl parts.0)
     (items_fit net monitor ps may parts.1)
   where

@@ -2,10 +2,10 @@
 use Rattle.std.proofs.Common.{◌≡◌, ℕ, ◌+◌, ◌<◌, nat_lt, Bool, true, false, cond, List, [], ◌∷◌, ◌++◌, map, filter, filter_map, find, flat_map, length, take, slice_get, Option, Some, None, option_map, unwrap_or, refl, sym, ap, ◌∙◌, append_assoc}
 use Rattle.std.specs.List.{cons_option, list_all}
 use Rattle.std.proofs.lemmas.Bool.{and_parts, ltb-true}
-use Rattle.std.proofs.lemmas.List.{length-map, take_more}
+use Rattle.std.proofs.lemmas.List.{length-map}
 use Rattle.std.proofs.lemmas.List.Concat.{flat_map-append}
 use Rattle.std.proofs.lemmas.List.Elements.{filter_map-append}
-use Rattle.std.proofs.lemmas.Option.{get_or_from_slice_get, slice_get_within, unwrap_or-slice_get}
+use Rattle.std.proofs.lemmas.Option.{unwrap_or-slice_get}
 use Rattle.polis_base.specs.Lists.{upto}
 use Rattle.transition_table.specs.declared.decl.EventDecl.{EventDecl}
 use Rattle.transition_table.specs.declared.decl.Party.TheVariants.{Env}
@@ -22,6 +22,7 @@ use Rattle.run_watch.specs.Watches.{sources}
 use Rattle.run_watch.specs.declared.emission.Emission.{Emission}
 use Rattle.run_watch.specs.inner.Hearings.{looked_up}
 use Rattle.run_watch.proofs.Placed.{event_code, placed_are_outputs}
+use Rattle.polis_base.proofs.Places.{take_next}
 
 -- ---- the trace
 
@@ -110,26 +111,20 @@ heard_same net monitor events (x ∷ xs) are all =
 
 -- ---- one item more
 
-taken_more : {X : Type 0} (xs : List X) (k : ℕ) (x : X) → slice_get xs k ≡ Some x
-    → take (k + 1) xs ≡ take k xs ++ x ∷ []
-taken_more {X} xs k x at =
-    take_more xs k x (slice_get_within xs k x at)
-    ∙ ap (λ (y : X). take k xs ++ y ∷ []) (get_or_from_slice_get xs k x x at)
-
 pub heard_more : (events : List (Option ℕ)) (outputs : List Emission) (k : ℕ) (x : Emission)
     → slice_get outputs k ≡ Some x
     → filter_map (heard_by (looked_up events)) (take (k + 1) outputs)
     ≡ filter_map (heard_by (looked_up events)) (take k outputs)
     ++ filter_map (heard_by (looked_up events)) (x ∷ [])
 heard_more events outputs k x at =
-    ap (filter_map (heard_by (looked_up events))) (taken_more outputs k x at)
+    ap (filter_map (heard_by (looked_up events))) (take_next outputs k x at)
     ∙ filter_map-append (heard_by (looked_up events)) (take k outputs) (x ∷ [])
 
 pub settled_more : (heard : List Emission) (k : ℕ) (x : Emission) → slice_get heard k ≡ Some x
     → settled (take (k + 1) heard)
     ≡ (settled (take k heard) ++ Event x.event x.code ∷ []) ++ Settle ∷ []
 settled_more heard k x at =
-    ap settled (taken_more heard k x at)
+    ap settled (take_next heard k x at)
     ∙ flat_map-append (λ (x : Emission). then_settle x.event x.code) (take k heard) (x ∷ [])
     ∙ sym (append_assoc (settled (take k heard)) (Event x.event x.code ∷ []) (Settle ∷ []))
 

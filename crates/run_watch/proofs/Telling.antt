@@ -25,12 +25,9 @@ use Rattle.run_watch.specs.Watches.{StandsAt, ToldAt, last_receiver, receiver, s
 use Rattle.run_watch.specs.declared.emission.Emission.{Emission}
 use Rattle.run_watch.proofs.Hears.{sources_many}
 use Rattle.run_watch.proofs.Placed.{placed_within}
+use Rattle.polis_base.proofs.Places.{last_more, some_is}
 
 -- ---- one entry more
-
-last_more : {X : Type 0} (x y : X) (xs : List X) → last_of x (xs ++ y ∷ []) ≡ y
-last_more x y [] = refl
-last_more x y (z ∷ xs) = last_more z y xs
 
 pub last_receiver_more : (entries : List Entry) (entry : Entry)
     → last_receiver (entries ++ entry ∷ []) ≡ option_or (receiver entry) (last_receiver entries)
@@ -172,19 +169,16 @@ some_place monitor heard watch first legal is =
 
 -- ---- there is one alone
 
-some_same : {X : Type 0} (x y : X) → Some x ≡ Some y → x ≡ y
-some_same x y h = cc
-
 pub one_told : (monitor : Network) (heard : List Emission) (entries : List Entry) (p q : ℕ)
     → ToldAt monitor heard entries p → ToldAt monitor heard entries q → p ≡ q
 one_told monitor heard entries p q a b =
     let machine : a.machine ≡ b.machine =
-    some_same a.machine b.machine (sym a.last ∙ b.last) in
+    some_is a.machine b.machine (sym a.last ∙ b.last) in
     let number : a.number ≡ b.number =
     let count = sym a.counted
     ∙ ap (λ (m : ℕ). length (delivered Env m entries)) machine ∙ b.counted in
     omega arith in
-    some_same p q
+    some_is p q
     (sym a.source
     ∙ ap (λ (m : ℕ). slice_get (sources monitor heard m) a.number) machine
     ∙ ap (slice_get (sources monitor heard b.machine)) number ∙ b.source)
@@ -192,7 +186,7 @@ one_told monitor heard entries p q a b =
 pub one_place : (monitor : Network) (heard : List Emission) (watch : List Entry) (p q : ℕ)
     → StandsAt monitor heard watch p → StandsAt monitor heard watch q → p ≡ q
 one_place monitor heard watch p q a b =
-    let first : a.first ≡ b.first = some_same a.first b.first (sym a.is ∙ b.is) in
+    let first : a.first ≡ b.first = some_is a.first b.first (sym a.is ∙ b.is) in
     one_told monitor heard (take b.first.place watch) p q
     (subst (λ (x : Emission). ToldAt monitor heard (take x.place watch) p) first a.told) b.told
 

@@ -18,7 +18,6 @@ use Rattle.journals.specs.Schedules.{IsSchedule, pick}
 use Rattle.journals.specs.declared.entry.Entry.{Entry}
 use Rattle.journals.specs.declared.entry.Pick.TheVariants.{Stop}
 use Rattle.journals.specs.declared.entry.TraceItem.{TraceItem}
-use Rattle.journals.proofs.DeliveriesOfWay.{passes_of_all}
 use Rattle.journals.proofs.Follows.{one_schedule}
 use Rattle.journals.proofs.PickedEntries.{IsMade, made_follows, made_legal}
 use Rattle.journals.proofs.Runs.{two_by_number}
@@ -29,6 +28,7 @@ use Rattle.run_watch.specs.Watches.{IsAnswer, IsAnswerTo}
 use Rattle.run_watch.specs.declared.answer.Watched.{Watched}
 use Rattle.run_watch.specs.declared.answer.Watched.TheVariants.{Held, Unfinished, Found}
 use Rattle.run_watch.proofs.OneAnswer.{one_answer}
+use Rattle.polis_base.proofs.ListTests.{all_get}
 
 -- ---- monitors
 
@@ -93,7 +93,7 @@ no_output net monitor event none has =
     (not_from_true (has.output.to_env && is_same has.output.name event.name)
     (and_from has.output.to_env (is_same has.output.name event.name) has.heard.to_env
     (texts_same has.output.name event.name has.heard.name)))
-    ∙ passes_of_all
+    ∙ all_get
     (λ (output : EventDecl). not (output.to_env && is_same output.name event.name)) net.events
     has.number has.output none has.there)
 

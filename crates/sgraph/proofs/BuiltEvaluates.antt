@@ -20,17 +20,18 @@ use Rattle.sgraph.specs.Graphs.{next_of, walk, assign, assign_all, Eval}
 use Rattle.sgraph.specs.Built.{Built}
 use Rattle.sgraph.proofs.ByRows.{IsDiagramByRows}
 use Rattle.domains.proofs.Places.{place_below, place_of_item}
-use Rattle.decision_diagram.proofs.Fits.{fits_at, fits_set}
+use Rattle.decision_diagram.proofs.Fits.{fits_at}
 use Rattle.decision_diagram.proofs.Nodes.{cases_inner, inner_low, none_low}
 use Rattle.decision_diagram.proofs.Values.{value_none, value_inner}
 use Rattle.decision_diagram.specs.Leading.{Decided}
 use Rattle.sgraph.proofs.Below.{HasResults}
 use Rattle.sgraph.proofs.Decides.{decided}
-use Rattle.decision_diagram.proofs.AppendedLists.{fits_both, reaches_child}
+use Rattle.decision_diagram.proofs.AppendedLists.{reaches_child}
 use Rattle.sgraph.proofs.Trails.{Onward, trail_at}
 use Rattle.sgraph.proofs.ResultCodes.{codes_back}
 use Rattle.domains.proofs.Ranks.{length_fits}
-use Rattle.decision_diagram.proofs.ByVariable.{index_append}
+use Rattle.domains.proofs.FittingCodes.{fits_both, fits_set_any}
+use Rattle.polis_base.proofs.Places.{index_append}
 
 trail_none : {X : Type 0} (next : ℕ → X → Option ℕ) (xs : List X) (base : ℕ)
     → trail next xs base None ≡ []
@@ -255,7 +256,7 @@ module _ (m : Machine) (s : Diagrams) (root : ℕ) (g : List Vertex) (number : �
           let long : length b ≡ length s.sizes = length_fits s.sizes b fit_b in
           let size = sizes_long in
           let set : List ℕ = slice_set b w code in
-          let fit = fits_set s.sizes b fit_b w code low in
+          let fit = fits_set_any s.sizes b fit_b w code low in
           let there : slice_index set w ≡ code = get_or-set_same b w code 0 (omega arith) in
           let fixed : Decided s root w = rw is (decided m has.below s root y d hy) in
           let e : value_of s root set ≡ true =

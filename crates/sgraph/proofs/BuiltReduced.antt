@@ -21,11 +21,9 @@ use Rattle.sgraph.specs.Built.{Built}
 use Rattle.sgraph.proofs.ByRows.{IsDiagramByRows}
 use Rattle.sgraph.specs.Walks.{FitsMachine}
 use Rattle.decision_diagram.proofs.AllCodes.{all_map}
-use Rattle.domains.proofs.AllCodes.{long_map}
 use Rattle.sgraph.proofs.Decides.{char_code, one_code}
-use Rattle.decision_diagram.proofs.AppendedLists.{fits_prefix, fits_both, reaches_child}
+use Rattle.decision_diagram.proofs.AppendedLists.{reaches_child}
 use Rattle.sgraph.proofs.BuiltEvaluates.{not_low}
-use Rattle.decision_diagram.proofs.Fits.{fits_set}
 use Rattle.decision_diagram.specs.Leading.{led, OneCode}
 use Rattle.sgraph.proofs.Below.{HasResults}
 use Rattle.decision_diagram.proofs.Prefixes.{led_codes, led_value, some_kid, mixed, mixed_fits, mixed_prefix, mixed_value}
@@ -33,8 +31,9 @@ use Rattle.decision_diagram.proofs.Nodes.{cases_inner, inner_low, none_low, inne
 use Rattle.domains.proofs.Places.{place_of_item}
 use Rattle.decision_diagram.proofs.Values.{level_none, level_some, level_below, value_inner}
 use Rattle.domains.proofs.Ranks.{length_fits, fits_zeros}
-use Rattle.decision_diagram.proofs.ByVariable.{index_append}
 use Rattle.sgraph.proofs.NextNodes.{index_after}
+use Rattle.domains.proofs.FittingCodes.{fits_both, fits_prefix, fits_set_any}
+use Rattle.polis_base.proofs.Places.{index_append, length_map}
 
 node_of_kid : (s : Diagrams) → AreReduced s → (n : ℕ) (node : Node) (c : ℕ)
     → inner_at s.nodes n ≡ Some node → c < length node.kids → IsNode s (slice_index node.kids c)
@@ -66,7 +65,7 @@ module _ (m : Machine) (s : Diagrams) (root : ℕ) (d : IsDiagramByRows m s root
       let fit_too : fits (sizes_of m) one ≡ true = rw (← d.sizes) fit in
       let fit_snap : fits m.vars snap ≡ true = fits_prefix m.vars m.results one fit_too in
       let long_snap : length turned ≡ n =
-      length_fits m.vars turned (fits_set m.vars snap fit_snap v c hc) in
+      length_fits m.vars turned (fits_set_any m.vars snap fit_snap v c hc) in
       let own = place_of_item s.order d.reduced.order j inside in
       let holds_char : char m one ≡ true = sym (d.means.value one fit) ∙ holds in
       ⊎_elim
@@ -85,7 +84,7 @@ module _ (m : Machine) (s : Diagrams) (root : ℕ) (d : IsDiagramByRows m s root
       in
       ap (slice_index (turned ++ result_codes m turned)) e
       ∙ after_prefix turned (result_codes m turned) n y long_snap
-      ∙ has.below.on_support m y turned snap (fits_set m.vars snap fit_snap v c hc) fit_snap
+      ∙ has.below.on_support m y turned snap (fits_set_any m.vars snap fit_snap v c hc) fit_snap
       (λ w low sup. get_or-set_other snap v w c 0
       (λ same. absurd (true≢false (sym sup ∙ ap (supports m y) same ∙ off))))
       ∙ sym (char_code m one y holds_char)
@@ -130,7 +129,7 @@ module _ (m : Machine) (s : Diagrams) (root : ℕ) (d : IsDiagramByRows m s root
       let fit_snap : fits m.vars snap ≡ true = fits_prefix m.vars m.results one fit_too in
       let turned : List ℕ = slice_set snap v c in
       let hc : c < slice_index m.vars v = omega arith in
-      let fit_turned : fits m.vars turned ≡ true = fits_set m.vars snap fit_snap v c hc in
+      let fit_turned : fits m.vars turned ≡ true = fits_set_any m.vars snap fit_snap v c hc in
       let other : List ℕ = turned ++ result_codes m turned in
       let fit_other : fits s.sizes other ≡ true =
       subst (λ (xs : List ℕ). fits xs other ≡ true) (sym d.sizes)
@@ -594,7 +593,7 @@ module _ (m : Machine) (s : Diagrams) (root : ℕ) (g : List Vertex) (number : �
       ∙ index_append m.vars m.results node.var low in
       rw same_var (
         low,
-        ap (λ (xs : List ℕ). length xs) same_kids ∙ long_map number node.kids ∙ long
+        ap (λ (xs : List ℕ). length xs) same_kids ∙ length_map number node.kids ∙ long
             ∙ size,
       )
 

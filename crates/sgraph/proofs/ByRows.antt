@@ -8,7 +8,7 @@ use Rattle.transition_table.specs.Orders.{sizes_of, Allowed}
 use Rattle.transition_table.specs.Transitions.{IsDeterministic}
 use Rattle.decision_diagram.specs.Diagrams.{Diagrams, AreReduced, Means, value_of}
 use Rattle.sgraph.specs.Built.{IsDiagram}
-use Rattle.decision_diagram.proofs.CountIsSize.{iff_same}
+use Rattle.polis_base.proofs.Bools.{same_truth}
 
 -- the root's value is the function that reads the rows
 pub record IsDiagramByRows (m : Machine) (s : Diagrams) (root : ℕ) : Type 0 where
@@ -32,7 +32,7 @@ by_rows test m s root d = record {
         subst (λ (xs : List ℕ). fits xs codes ≡ true) d.sizes fit in
         let own = d.exact codes fit_too in
         let rows = test m codes d.sure fit_too in
-        iff_same (value_of s root codes) (char m codes) (λ on. rows.1 (own.0 on))
+        same_truth (value_of s root codes) (char m codes) (λ on. rows.1 (own.0 on))
         (λ on. own.1 (rows.0 on));
   };
 }

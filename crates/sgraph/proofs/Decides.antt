@@ -11,7 +11,7 @@ use Rattle.transition_table.specs.Orders.{sizes_of}
 use Rattle.sgraph.proofs.ByRows.{IsDiagramByRows}
 use Rattle.domains.proofs.Places.{place_below, at_place}
 use Rattle.sgraph.proofs.Below.{Below}
-use Rattle.decision_diagram.proofs.AppendedLists.{fits_prefix}
+use Rattle.domains.proofs.FittingCodes.{fits_prefix}
 
 -- where the characteristic function is true, a result has its code
 pub char_code : (m : Machine) (codes : List ℕ) (y : ℕ) → char m codes ≡ true

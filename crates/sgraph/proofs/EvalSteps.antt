@@ -12,9 +12,10 @@ use Rattle.sgraph.specs.Facts.{IsGraph}
 use Rattle.sgraph.specs.Walks.{AreOfOne, outcome_with, width_of}
 use Rattle.sgraph.specs.inner.Walks.{MayWalk}
 use Rattle.sgraph.proofs.Trails.{Onward, trail_at}
-use Rattle.sgraph.proofs.Outcomes.{mk, zeros, drop_more, long_results}
+use Rattle.sgraph.proofs.Outcomes.{mk, zeros, drop_more}
 use Rattle.domains.proofs.Ranks.{length_fits}
 use Rattle.transition_table.proofs.Ranges.{below_size}
+use Rattle.transition_table.proofs.MachineCounts.{results_long}
 
 pub there : (c : List Vertex) (k : ℕ) (i : Vertex) → slice_get c k ≡ Some i → k < length c
 there [] k i is = cc
@@ -52,7 +53,7 @@ may_walk g s o ok one k (Test var kids) is =
     )
 may_walk g s o ok one k (Assign result code next) is =
     let low = one.graph.assigns k result code next is in
-    let long = long_results one.machine in
+    let long = results_long one.machine in
     let widths = blank_next o one.machine one.blank in
     let states = widths.0 in
     let outs = widths.1 in (
@@ -184,7 +185,7 @@ doing_ends m g s first o new at v widths d is stops sets =
     let whole : trail (next_of s) g 0 (Some at) ≡ v ∷ [] =
     step ∙ ap (λ (o : Option ℕ). v ∷ trail (next_of s) g 0 o) (sym stops)
     ∙ ap (λ (xs : List Vertex). v ∷ xs) (none (next_of s) g 0) in
-    let long = long_results m in
+    let long = results_long m in
     let next = widths.next in
     let outs = widths.outs in
     let e : width_of first ≡ length m.results = omega arith in

@@ -13,6 +13,7 @@ use Rattle.sgraph.specs.inner.Marks.{turned}
 use Rattle.sgraph.proofs.LeftAfter.{Closed, visit_after, closed_next}
 use Rattle.sgraph.proofs.NextNodes.{got, take_one, take_whole, falls, turned_push}
 use Rattle.decision_diagram.proofs.ListItems.{read_within}
+use Rattle.polis_base.proofs.Places.{drop_one, index_set, length_set}
 
 -- ---- lists
 pub has_after : (xs ys : List ℕ) (k : ℕ) → has ys k ≡ true → has (xs ++ ys) k ≡ true
@@ -38,11 +39,6 @@ pub map_push : {X : Type 0} (f : ℕ → X) (xs : List ℕ) (x : ℕ)
 map_push f [] x = refl
 map_push f (y ∷ ys) x = ap (λ zs. f y ∷ zs) (map_push f ys x)
 
-pub drop_one : (xs : List ℕ) (i x : ℕ) → slice_get xs i ≡ Some x → drop i xs ≡ x ∷ drop (suc i) xs
-drop_one [] i x e = cc
-drop_one (y ∷ ys) zero x e = let f : y ≡ x = cc in ap (λ (n : ℕ). n ∷ ys) f
-drop_one (y ∷ ys) (suc i) x e = drop_one ys i x e
-
 pub drop_whole : (xs : List ℕ) (i : ℕ) → length xs ≤ i → drop i xs ≡ []
 drop_whole [] zero high = refl
 drop_whole [] (suc i) high = refl
@@ -50,10 +46,6 @@ drop_whole (x ∷ xs) zero high = absurd (omega arith)
 drop_whole (x ∷ xs) (suc i) high = drop_whole xs i (omega arith)
 
 -- ---- numbers
-pub set_here : (xs : List ℕ) (k x : ℕ) → k < length xs → slice_index (slice_set xs k x) k ≡ x
-set_here [] k x low = absurd (omega arith)
-set_here (y ∷ ys) zero x low = refl
-set_here (y ∷ ys) (suc k) x low = set_here ys k x (omega arith)
 
 pub set_there : (xs : List ℕ) (k j x : ℕ) → (k ≡ j → ⊥)
     → slice_index (slice_set xs k x) j ≡ slice_index xs j
@@ -62,11 +54,6 @@ set_there (y ∷ ys) zero zero x other = absurd (other refl)
 set_there (y ∷ ys) zero (suc j) x other = refl
 set_there (y ∷ ys) (suc k) zero x other = refl
 set_there (y ∷ ys) (suc k) (suc j) x other = set_there ys k j x (λ e. other (ap suc e))
-
-pub set_long : (xs : List ℕ) (k x : ℕ) → length (slice_set xs k x) ≡ length xs
-set_long [] k x = refl
-set_long (y ∷ ys) zero x = refl
-set_long (y ∷ ys) (suc k) x = ap suc (set_long ys k x)
 
 pub long_zeros : (n : ℕ) → length (replicate {A = ℕ} n 0) ≡ n
 long_zeros zero = refl
@@ -93,7 +80,7 @@ pub numbers_more : (count len least : ℕ) (left numbers more : List ℕ) (i k x
 numbers_more count len least left numbers more i k x ok is low is_x e =
     let own = ok.long in
     let inside = read_within left i k is in
-    let long = set_long numbers k x in
+    let long = length_set numbers k x in
     let same : length more ≡ length (slice_set numbers k x) =
     ap (λ (xs : List ℕ). length xs) e in
     let f : i + 1 ≡ suc i = omega arith in
@@ -116,7 +103,7 @@ numbers_more count len least left numbers more i k x ok is low is_x e =
           let h : k ≡ j = here in
           let set : slice_index (slice_set numbers k x) j ≡ x =
           ap (slice_index (slice_set numbers k x)) (sym h)
-          ∙ set_here numbers k x (omega arith) in
+          ∙ index_set numbers k x (omega arith) in
           let p : place (k ∷ turned (take i left)) j ≡ 0 =
           ap (λ (b : Bool). cond b 0 (place (turned (take i left)) j + 1)) (eq-eqb k j here) in
           omega arith)

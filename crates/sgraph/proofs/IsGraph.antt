@@ -1,9 +1,8 @@
 -- The graph of a diagram is a graph.
-use Rattle.std.proofs.Common.{◌≡◌, ⊎_elim, ℕ, zero, suc, ◌+◌, ◌-◌, ◌<◌, ◌≤◌, Bool, true, false, cond, not, ◌&&◌, List, [], ◌∷◌, map, length, slice_get, slice_index, Option, Some, None, refl, ap, sym, ◌∙◌, arith, eqb, ltb, nat_le}
+use Rattle.std.proofs.Common.{◌≡◌, ⊎_elim, ℕ, zero, suc, ◌+◌, ◌-◌, ◌<◌, ◌≤◌, Bool, true, false, cond, not, List, [], ◌∷◌, map, length, slice_get, slice_index, Option, Some, None, refl, ap, sym, ◌∙◌, arith, eqb, ltb}
 use Rattle.std.specs.List.{list_all, list_any, cons_option}
-use Rattle.std.proofs.lemmas.Bool.{cases_lt, eq-eqb, eqb-true, ne_eqb, ltb-true, leb-true, true≢false, false≢true, or_left, or_right, or_cases, or_from, and_parts, and_from, false_from_ne_true}
+use Rattle.std.proofs.lemmas.Bool.{cases_lt, eq-eqb, eqb-true, ne_eqb, ltb-true, true≢false, false≢true, or_left, or_right, or_cases, or_from, and_parts, and_from, false_from_ne_true}
 use Rattle.domains.specs.Names.{is_same, are_distinct}
-use Rattle.domains.specs.Tables.{are_sizes}
 use Rattle.transition_table.specs.declared.machine.Machine.{Machine}
 use Rattle.transition_table.specs.NetworkFacts.{has, are_different}
 use Rattle.domains.specs.Orders.{place}
@@ -13,6 +12,8 @@ use Rattle.sgraph.specs.declared.vertex.Vertex.TheVariants.{Begin, Test, Assign,
 use Rattle.sgraph.specs.Graphs.{IsPath, item_of, items, rises, key_of, varies, Ordered, Reduced, GoesOn}
 use Rattle.sgraph.specs.Building.{code_there, nodes_left, number_in, vertex_in, graph_of}
 use Rattle.sgraph.specs.Facts.{assigned_by, assigned, IsGraph}
+use Rattle.domains.proofs.FittingCodes.{size_some}
+use Rattle.domains.proofs.Names.{same_self}
 
 -- ---- no path assigns a result twice
 above : (order : List ℕ) (p : ℕ) (xs : List ℕ) → rises (p ∷ map (place order) xs) ≡ true → (x : ℕ)
@@ -88,15 +89,12 @@ once_assigned n order g ordered path is =
     fewer n g path (different order (items n g path) (ordered path is))
 
 -- ---- no two vertices are equal
-same_key : (a : List ℕ) → is_same a a ≡ true
-same_key [] = refl
-same_key (x ∷ xs) = and_from (eqb x x) (is_same xs xs) (eq-eqb x x refl) (same_key xs)
 
 any_at : (a : List ℕ) (xs : List (List ℕ)) (j : ℕ) → slice_get xs j ≡ Some a
     → list_any (is_same a) xs ≡ true
 any_at a [] j e = cc
 any_at a (x ∷ xs) zero e = let f : x ≡ a = cc in
-    or_left (is_same a x) (list_any (is_same a) xs) (ap (is_same a) f ∙ same_key a)
+    or_left (is_same a x) (list_any (is_same a) xs) (ap (is_same a) f ∙ same_self a)
 any_at a (x ∷ xs) (suc j) e = or_right (is_same a x) (list_any (is_same a) xs) (any_at a xs j e)
 
 once_at : (xs : List (List ℕ)) (a : List ℕ) (i j : ℕ) → are_distinct xs ≡ true
@@ -118,16 +116,6 @@ keyed (w ∷ g) zero v e = let f : w ≡ v = cc in ap (λ (u : Vertex). Some (ke
 keyed (w ∷ g) (suc k) v e = keyed g k v e
 
 -- ---- tests have children
-one_size : (sizes : List ℕ) (v : ℕ) → are_sizes sizes ≡ true → v < length sizes
-    → 1 ≤ slice_index sizes v
-one_size [] v h low = absurd (omega arith)
-one_size (size ∷ sizes) zero h low =
-    leb-true 1 size
-    (and_parts (nat_le 1 size) (nat_le size 33)
-    (and_parts (nat_le 1 size && nat_le size 33) (are_sizes sizes) h).0).0
-one_size (size ∷ sizes) (suc v) h low =
-    one_size sizes v (and_parts (nat_le 1 size && nat_le size 33) (are_sizes sizes) h).1
-    (omega arith)
 
 pub long_map : (f : ℕ → ℕ) (xs : List ℕ) → length (map f xs) ≡ length xs
 long_map f [] = refl
@@ -147,7 +135,7 @@ test_kids s n number ok x var kids e = go (inner_at s.nodes x) refl e
     size node is =
         let good = ok.nodes x node is in
         let long = good.kids in
-        let some = one_size s.sizes node.var ok.sizes good.var in
+        let some = size_some s.sizes node.var ok.sizes good.var in
         omega arith
 
     either : (node : Node) → inner_at s.nodes x ≡ Some node → (b : Bool)

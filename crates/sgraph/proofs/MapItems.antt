@@ -1,8 +1,9 @@
 -- Lists whose items are made from others one by one.
 use Rattle.std.proofs.Common.{◌≡◌, ⊎_elim, ℕ, suc, ◌+◌, ◌<◌, List, [], ◌∷◌, map, length, slice_index, slice_set, refl, sym, ap, ◌∙◌, arith}
 use Rattle.std.proofs.lemmas.Bool.{cases_eq}
-use Rattle.sgraph.proofs.GraphOf.{KidNumbers, set_here, set_long, set_there}
+use Rattle.sgraph.proofs.GraphOf.{KidNumbers, set_there}
 use Rattle.sgraph.proofs.SentPlaces.{Sent}
+use Rattle.polis_base.proofs.Places.{index_set, length_set}
 
 pub is_map : (f : ℕ → ℕ) (items list : List ℕ) → length list ≡ length items
     → ((j : ℕ) → j < length items → slice_index list j ≡ f (slice_index items j))
@@ -24,12 +25,12 @@ kids_more numbers kids list new size code at n are low at_is set is =
     let here_set : new ≡ slice_set list code n =
     set ∙ ap (λ (k : ℕ). slice_set list k n) at_is in
     record {
-      long = ap (λ (xs : List ℕ). length xs) here_set ∙ set_long list code n ∙ long;
+      long = ap (λ (xs : List ℕ). length xs) here_set ∙ length_set list code n ∙ long;
       each = λ j before. ap (λ (xs : List ℕ). slice_index xs j) here_set
           ∙ ⊎_elim
           (λ here.
           ap (slice_index (slice_set list code n)) (sym here)
-          ∙ set_here list code n (omega arith) ∙ is
+          ∙ index_set list code n (omega arith) ∙ is
           ∙ ap (λ (k : ℕ). slice_index numbers (slice_index kids k)) here)
           (λ other. set_there list code j n other
           ∙ are.each j (let apart : (code ≡ j → ⊥) = other in omega arith))
@@ -41,11 +42,11 @@ pub sent_more : (table places list new : List ℕ) (j n : ℕ) → Sent table pl
     → Sent table places new (j + 1)
 sent_more table places list new j n are low set is =
     record {
-      long = ap (λ (xs : List ℕ). length xs) set ∙ set_long list j n ∙ are.long;
+      long = ap (λ (xs : List ℕ). length xs) set ∙ length_set list j n ∙ are.long;
       sent = λ i before. ap (λ (xs : List ℕ). slice_index xs i) set
           ∙ ⊎_elim
           (λ here.
-          ap (slice_index (slice_set list j n)) (sym here) ∙ set_here list j n low ∙ is
+          ap (slice_index (slice_set list j n)) (sym here) ∙ index_set list j n low ∙ is
           ∙ ap (slice_index table) (are.rest j (omega arith))
           ∙ ap (λ (k : ℕ). slice_index table (slice_index places k)) here)
           (λ other. set_there list j i n other

@@ -10,6 +10,7 @@ use Rattle.sgraph.specs.Building.{code_there, next_in, next_nodes}
 use Rattle.sgraph.specs.inner.Marks.{turned, Marks, AreNext}
 use Rattle.sgraph.proofs.LeftAfter.{visit_there, visit_new, enough_down}
 use Rattle.decision_diagram.proofs.ListItems.{read_within}
+use Rattle.polis_base.proofs.Places.{index_past, same_some}
 
 -- ---- lists
 pub got : (xs : List ℕ) (i x : ℕ) → slice_get xs i ≡ Some x → slice_index xs i ≡ x
@@ -23,11 +24,6 @@ index_after [] ys i high = let e : i - 0 ≡ i = omega arith in ap (slice_index 
 index_after (x ∷ xs) ys zero high = absurd (omega arith)
 index_after (x ∷ xs) ys (suc i) high = let e : suc i - suc (length xs) ≡ i - length xs =
     omega arith in index_after xs ys i (omega arith) ∙ ap (slice_index ys) (sym e)
-
-pub past : (xs : List ℕ) (i : ℕ) → length xs ≤ i → slice_index xs i ≡ 0
-past [] i high = refl
-past (x ∷ xs) zero high = absurd (omega arith)
-past (x ∷ xs) (suc i) high = past xs i (omega arith)
 
 pub take_one : (xs : List ℕ) (i : ℕ) → i < length xs
     → take (suc i) xs ≡ take i xs ++ slice_index xs i ∷ []
@@ -89,11 +85,6 @@ pub inner_of : (s : Diagrams) (k var : ℕ) → shape_of s k ≡ Inner var
     → (node : Node) × (inner_at s.nodes k ≡ Some node) × (node.var ≡ var)
 inner_of s k var e = inner_in k (inner_at s.nodes k) var e
 
-outer_in : (n : ℕ) (o : Option Node) (shape : Shape) → shape_in n o ≡ shape
-    → ((var : ℕ) → shape ≡ Inner var → ⊥) → o ≡ None
-outer_in n None shape e other = refl
-outer_in n (Some node) shape e other = absurd (other node.var (sym e))
-
 pub test_next : (s : Diagrams) (n k var : ℕ) → shape_of s k ≡ Inner var → var < n
     → next_nodes s n k ≡ kids_of s k
 test_next s n k var e low =
@@ -149,7 +140,7 @@ falls s n ok k i low = go (inner_at s.nodes k) refl low
     one node is c =
         ⊎_elim
         (λ inside. (ok.nodes k node is).before c inside)
-        (λ outside. let z = past node.kids c outside in let high = inner_high s k node is in
+        (λ outside. let z = index_past node.kids c outside in let high = inner_high s k node is in
         omega arith)
         (cases_lt c (length node.kids))
 
@@ -209,9 +200,6 @@ left_more s n k ok from end code kid first left new codes low high is so_far one
     ∙ ap (λ (x : ℕ). each (left_after k next) (turned first) (take j kids ++ x ∷ [])) (sym at)
     ∙ ap (each (left_after k next) (turned first)) (sym (take_one kids j inside))
     ∙ ap (λ (i : ℕ). each (left_after k next) (turned first) (take i kids)) (sym e)
-
-pub same_some : {X : Type 0} (o : Option X) (a b : X) → o ≡ Some a → o ≡ Some b → a ≡ b
-same_some o a b p q = cc
 
 pub marked_is : (count : ℕ) (marks : List Bool) (left : List ℕ) (k : ℕ) (b : Bool)
     → Marks count marks left → slice_get marks k ≡ Some b → has (turned left) k ≡ b

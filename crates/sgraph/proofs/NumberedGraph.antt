@@ -15,8 +15,7 @@ use Rattle.sgraph.specs.Graphs.{kids_of, kids_in, kids_at, each, left_after, Num
 use Rattle.sgraph.specs.Building.{code_there, next_in, next_nodes, nodes_left, number_in, vertex_in, graph_of}
 use Rattle.sgraph.specs.Built.{Built}
 use Rattle.sgraph.proofs.ByRows.{IsDiagramByRows}
-use Rattle.decision_diagram.proofs.ByVariable.{index_map, long_upto, index_upto}
-use Rattle.domains.proofs.AllCodes.{long_map}
+use Rattle.decision_diagram.proofs.ByVariable.{index_map, index_upto}
 use Rattle.sgraph.proofs.Below.{HasResults}
 use Rattle.decision_diagram.specs.Leading.{OneCode}
 use Rattle.sgraph.proofs.Decides.{one_code}
@@ -27,6 +26,8 @@ use Rattle.sgraph.proofs.LeftAfter.{After, Closed, visit_after, visit_new, in_pl
 use Rattle.decision_diagram.proofs.Nodes.{cases_inner, inner_low, none_low}
 use Rattle.domains.proofs.Places.{at_place}
 use Rattle.decision_diagram.proofs.AppendedLists.{reaches_child}
+use Rattle.polis_base.proofs.Places.{length_map}
+use Rattle.polis_base.proofs.UptoPlaces.{length_upto}
 
 code_found : (kids : List ℕ) (c : ℕ) → c < length kids → slice_index kids c ≢ 0
     → (code_there kids < length kids) × (slice_index kids (code_there kids) ≢ 0)
@@ -409,7 +410,7 @@ module _ (m : Machine) (s : Diagrams) (root : ℕ) (d : IsDiagramByRows m s root
   graph = graph_of m s root
 
   long_graph : length (graph_of m s root) ≡ suc (length left)
-  long_graph = ap suc (long_map (λ k. vertex_in (length m.vars) number (inner_at s.nodes k)) left)
+  long_graph = ap suc (length_map (λ k. vertex_in (length m.vars) number (inner_at s.nodes k)) left)
 
   -- the children of the vertex after the begin at place i
   kids_there : (i : ℕ) (v : Vertex) → slice_get (graph_of m s root) (suc i) ≡ Some v
@@ -430,7 +431,7 @@ module _ (m : Machine) (s : Diagrams) (root : ℕ) (d : IsDiagramByRows m s root
       let inside : i < length left = there.0 in
       let n = slice_index left i in
       let long : length (kids_of v) ≡ length (next n) =
-      ap (λ (xs : List ℕ). length xs) there.1 ∙ long_map number (next n) in
+      ap (λ (xs : List ℕ). length xs) there.1 ∙ length_map number (next n) in
       let in_n = has_at next left i inside in
       let step = closed_next next left n j closed in_n (omega arith) in
       let later : place left n < place left (slice_index (next n) j) = step.1 in
@@ -493,8 +494,8 @@ module _ (m : Machine) (s : Diagrams) (root : ℕ) (d : IsDiagramByRows m s root
 
   numbers_left : 0 ∷ map number left ≡ upto (suc (length left))
   numbers_left =
-      let long = long_map number left in
-      let total = long_upto (suc (length left)) in
+      let long = length_map number left in
+      let total = length_upto (suc (length left)) in
       same_number_lists (0 ∷ map number left) (upto (suc (length left))) (omega arith)
       (λ i low. at i (omega arith) ∙ sym (index_upto (suc (length left)) i (omega arith)))
     where

@@ -1,9 +1,5 @@
 -- An outcome by the codes of its results.
-use Rattle.std.proofs.Common.{◌≡◌, ℕ, zero, suc, ◌+◌, ◌<◌, Bool, false, ◌&&◌, ◌==◌, List, ◌∷◌, map, length, take, drop, replicate, slice_set, refl, ap, sym, ◌∙◌, arith, nat_le, []}
-use Rattle.std.specs.List.{list_all}
-use Rattle.std.specs.Cmp.Lexicographic.{pointwise}
-use Rattle.std.proofs.lemmas.Bool.{and_parts, eqb-true}
-use Rattle.transition_table.specs.declared.machine.Machine.{Machine}
+use Rattle.std.proofs.Common.{◌≡◌, ℕ, zero, suc, ◌+◌, ◌<◌, Bool, false, ◌==◌, List, ◌∷◌, length, take, drop, replicate, slice_set, refl, ap, sym, ◌∙◌, arith, []}
 use Rattle.transition_table.specs.declared.snapshot.Outcome.{Outcome}
 use Rattle.sgraph.specs.Walks.{outcome_with, width_of}
 
@@ -34,12 +30,6 @@ zeros n w all next outs is_next is_outs e =
     ∙ ap (λ (k : ℕ). outcome_with n (replicate {A = ℕ} k 0)) (sym f)
 
 -- one more code is given
-set_go : (n code : ℕ) (codes : List ℕ) → 0 < length codes
-    → outcome_with n (slice_set codes 0 code)
-    ≡ mk (code == 1) (take n (drop 1 codes)) (drop n (drop 1 codes))
-set_go n code [] some = absurd (omega arith)
-set_go n code (x ∷ xs) some = refl
-
 take_set : (n k code : ℕ) (xs : List ℕ) → k < n
     → take n (slice_set xs k code) ≡ slice_set (take n xs) k code
 take_set zero k code xs low = absurd (omega arith)
@@ -108,14 +98,3 @@ gave_out o y k code outs (x ∷ xs) long is at e =
     (sym (take_later n k i code xs refl))
     ∙ ap (mk (x == 1) (take n (slice_set xs i code))) (sym (drop_later n k i code xs refl))
     ∙ ap (λ (j : ℕ). outcome_with n (slice_set (x ∷ xs) j code)) (sym f)
-
--- a machine has `go`, a result for each state variable and one for each output
-pub long_results : (m : Machine) → length m.results ≡ 1 + length m.states + length m.outputs
-long_results m =
-    let n = 1 + length m.states in
-    let counted = length m.results == 1 + length m.states + length m.outputs in
-    let first = pointwise ◌==◌ (2 ∷ map (λ size. 1 + size) (drop (length m.inputs) m.vars))
-    (take n m.results) in
-    let after = list_all (nat_le 2) (drop n m.results) in
-    eqb-true (length m.results) (1 + length m.states + length m.outputs)
-    (and_parts counted first (and_parts (counted && first) after m.sized_results).0).0

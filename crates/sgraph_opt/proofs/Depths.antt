@@ -3,7 +3,6 @@ use Rattle.std.proofs.Common.{◌≡◌, ℕ, ◌+◌, ◌<◌, ◌≤◌, true,
 use Rattle.std.specs.Prelude.{Contains}
 use Rattle.std.specs.List.{cons_option}
 use Rattle.std.proofs.lemmas.Bool.{and_parts, ltb-true}
-use Rattle.std.proofs.lemmas.List.{length-append}
 use Rattle.domains.specs.Orders.{place}
 use Rattle.domains.proofs.Places.{place_below, at_place}
 use Rattle.transition_table.specs.declared.machine.Machine.{Machine}
@@ -15,8 +14,9 @@ use Rattle.sgraph.specs.Graphs.{kids_of, kids_in, kids_at, item_of, rises, depth
 use Rattle.sgraph.specs.Reactions.{IsGraphOf}
 use Rattle.sgraph.proofs.IsGraph.{there_is}
 use Rattle.sgraph_opt.specs.Smaller.{NoDefaults}
-use Rattle.sgraph_opt.proofs.ShrunkPaths.{contains_at}
 use Rattle.sgraph_opt.proofs.WalksFrom.{child}
+use Rattle.polis_base.proofs.Places.{contains_at}
+use Rattle.transition_table.proofs.MachineCounts.{order_length}
 
 -- a graph of a machine in an allowed order, without assignments of code 0
 pub record Placed (m : Machine) (order : List ℕ) (g : List Vertex) : Type 0 where
@@ -25,15 +25,11 @@ pub record Placed (m : Machine) (order : List ℕ) (g : List Vertex) : Type 0 wh
   pub allowed : Allowed m order
   pub without : NoDefaults g
 
-long_order : (m : Machine) (order : List ℕ) → Allowed m order
-    → length order ≡ length m.vars + length m.results
-long_order m order allowed = allowed.long ∙ length-append m.vars m.results
-
 -- each variable and result has a place in the order
 pub item_place : (m : Machine) (order : List ℕ) → Allowed m order → (x : ℕ)
     → x < length m.vars + length m.results → place order x < length order
 item_place m order allowed x low =
-    let long = long_order m order allowed in
+    let long = order_length m order allowed in
     place_below order allowed.permutation x (omega (arith, long, low))
 
 -- and of its own

@@ -6,8 +6,9 @@ use Rattle.sgraph.specs.declared.vertex.Vertex.TheVariants.{Begin, Test, Assign,
 use Rattle.sgraph.specs.Facts.{IsGraph}
 use Rattle.sgraph_opt.specs.inner.Representatives.{IsRep, Standing, Dropping, past_default}
 use Rattle.sgraph.proofs.NextNodes.{got}
-use Rattle.sgraph.proofs.GraphOf.{set_here, set_there, set_long, long_zeros}
+use Rattle.sgraph.proofs.GraphOf.{set_there, long_zeros}
 use Rattle.decision_diagram.proofs.ListItems.{read_within}
+use Rattle.polis_base.proofs.Places.{index_set, length_set}
 
 pub dropping_start : (g : List Vertex) (reps : List ℕ) (i count : ℕ) → reps ≡ replicate count 0
     → count ≡ length g → i ≡ length g → Dropping g reps i
@@ -32,7 +33,7 @@ pub dropping_more : (g : List Vertex) → IsGraph g → (reps more : List ℕ) (
     → more ≡ slice_set reps k r → Dropping g more k
 dropping_more g ok reps more i k r s at low rep e =
     let own = s.long in
-    let long = set_long reps k r in
+    let long = length_set reps k r in
     let same_long : length more ≡ length (slice_set reps k r) = ap (λ (xs : List ℕ). length xs) e in
     let apart : (j : ℕ) → k < j → slice_index reps j ≡ slice_index more j =
     λ j up. sym (ap (λ (xs : List ℕ). slice_index xs j) e
@@ -53,7 +54,7 @@ dropping_more g ok reps more i k r s at low rep e =
           let is_here : slice_get g k ≡ Some v =
           subst (λ (n : ℕ). slice_get g n ≡ Some v) (sym h) is in
           let read : slice_index more k ≡ r =
-          ap (λ (xs : List ℕ). slice_index xs k) e ∙ set_here reps k r (omega arith) in
+          ap (λ (xs : List ℕ). slice_index xs k) e ∙ index_set reps k r (omega arith) in
           ap (slice_index more) (sym h) ∙ read ∙ rep v is_here
           ∙ ap (λ (n : ℕ). past_default (slice_index reps) n v) h
           ∙ same_past (slice_index reps) (slice_index more) j v later)

@@ -31,8 +31,8 @@ use Rattle.sgraph_opt.proofs.Standing.{got_map, standing_shrinks, rises, first_s
 use Rattle.sgraph.proofs.IsGraph.{there_is}
 use Rattle.decision_diagram.proofs.ListItems.{read_within}
 use Rattle.transition_table.proofs.Ranges.{below_size}
-use Rattle.sgraph.proofs.NextNodes.{same_some}
 use Rattle.decision_diagram.proofs.ByVariable.{index_map}
+use Rattle.polis_base.proofs.Places.{same_some}
 
 -- what a vertex shows doesn't hang on its children
 same_item : (n : ℕ) (to : ℕ → ℕ) (v : Vertex) → item_of n (Some (renamed to v)) ≡ item_of n (Some v)

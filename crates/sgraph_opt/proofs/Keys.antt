@@ -5,10 +5,10 @@ use Rattle.sgraph.specs.declared.vertex.Vertex.TheVariants.{Test}
 use Rattle.sgraph.specs.Graphs.{are_same, varies}
 use Rattle.sgraph.proofs.IsGraph.{long_map}
 use Rattle.sgraph_opt.proofs.Reduced.{all_eq}
-use Rattle.sgraph_opt.proofs.Standing.{map_push, take_one}
 use Rattle.sgraph.proofs.NextNodes.{got}
 use Rattle.decision_diagram.proofs.ListItems.{read_within}
 use Rattle.decision_diagram.proofs.ByVariable.{index_map}
+use Rattle.polis_base.proofs.Places.{map_push, take_one}
 
 pub one_more_same : (reps kids : List ℕ) (i x a first : ℕ)
     → ((j : ℕ) → j < i → slice_index reps (slice_index kids j) ≡ first) → slice_get kids i ≡ Some x

@@ -1,5 +1,5 @@
 -- Vertices that are numbered again stand in the order of the walk.
-use Rattle.std.proofs.Common.{◌≡◌, inl, inr, ⊎_elim, ℕ, zero, suc, ◌+◌, ◌<◌, ◌≤◌, true, List, ◌∷◌, ◌++◌, map, length, slice_get, slice_index, Option, Some, None, refl, ap, sym, subst, ◌∙◌, arith, eqb, []}
+use Rattle.std.proofs.Common.{◌≡◌, inl, inr, ⊎_elim, ℕ, zero, suc, ◌+◌, ◌<◌, ◌≤◌, true, List, ◌∷◌, map, length, slice_get, slice_index, Option, Some, None, refl, ap, sym, subst, ◌∙◌, arith, eqb, []}
 use Rattle.std.specs.Prelude.{unwrap_or}
 use Rattle.std.proofs.lemmas.Bool.{cases_lt, eqb-true, or_cases, true≢false}
 use Rattle.std.proofs.lemmas.Grind.{same_number_lists}
@@ -18,7 +18,8 @@ use Rattle.decision_diagram.proofs.Distinct.{Every}
 use Rattle.sgraph_opt.specs.inner.Shrinking.{Shrinks}
 use Rattle.sgraph.proofs.IsGraph.{long_map}
 use Rattle.domains.proofs.Places.{at_place}
-use Rattle.decision_diagram.proofs.ByVariable.{long_upto, index_map, index_upto}
+use Rattle.decision_diagram.proofs.ByVariable.{index_map, index_upto}
+use Rattle.polis_base.proofs.UptoPlaces.{length_upto}
 
 pub kids_renamed : (f : ℕ → ℕ) (v : Vertex) → kids_of (renamed f v) ≡ map f (kids_of v)
 kids_renamed f (Begin next) = refl
@@ -45,14 +46,6 @@ got_none f (x ∷ xs) (suc i) high = got_none f xs i (omega arith)
 pub long_vertices : (f : ℕ → Vertex) (xs : List ℕ) → length (map f xs) ≡ length xs
 long_vertices f [] = refl
 long_vertices f (x ∷ xs) = ap suc (long_vertices f xs)
-
-long_push : (xs : List ℕ) (x : ℕ) → length (xs ++ x ∷ []) ≡ suc (length xs)
-long_push [] x = refl
-long_push (y ∷ ys) x = ap suc (long_push ys x)
-
-index_last : (xs : List ℕ) (x : ℕ) → slice_index (xs ++ x ∷ []) (length xs) ≡ x
-index_last [] x = refl
-index_last (y ∷ ys) x = index_last ys x
 
 module _ (h : List Vertex) (some : 0 < length h) (rises : Rises h) where
   abbrev next : ℕ → List ℕ
@@ -116,7 +109,7 @@ module _ (h : List Vertex) (some : 0 < length h) (rises : Rises h) where
   numbers : map (place (all_left h)) (all_left h) ≡ upto (length (all_left h))
   numbers =
       let long = long_map number left in
-      let total = long_upto (length left) in
+      let total = length_upto (length left) in
       same_number_lists (map number left) (upto (length left)) (omega arith) (λ i low.
       index_map number left i (omega arith) ∙ place_at next left i closed (omega arith)
       ∙ sym (index_upto (length left) i (omega arith)))

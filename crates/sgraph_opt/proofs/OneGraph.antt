@@ -3,7 +3,7 @@ use Rattle.std.proofs.Common.{◌≡◌, ⊎_elim, ℕ, zero, suc, ◌-◌, ◌<
 use Rattle.std.proofs.lemmas.Bool.{cases_lt}
 use Rattle.std.proofs.lemmas.Option.{slice_get_past}
 use Rattle.polis_base.specs.Lists.{upto}
-use Rattle.decision_diagram.proofs.ByVariable.{index_upto, long_upto}
+use Rattle.decision_diagram.proofs.ByVariable.{index_upto}
 use Rattle.transition_table.specs.declared.machine.Machine.{Machine}
 use Rattle.transition_table.specs.Transitions.{IsDeterministic}
 use Rattle.sgraph.specs.declared.vertex.Vertex.{Vertex}
@@ -21,6 +21,7 @@ use Rattle.sgraph_opt.proofs.OneVertex.{equal_twins, one_vertex, one_for_each}
 use Rattle.sgraph_opt.proofs.SameCodes.{same_codes}
 use Rattle.sgraph_opt.proofs.Twins.{Same, same_back, same_both}
 use Rattle.sgraph_opt.proofs.WalksFrom.{walk_from, child, step_on}
+use Rattle.polis_base.proofs.UptoPlaces.{length_upto}
 
 -- lists with the same items
 same_items : (g h : List Vertex) → ((k : ℕ) → slice_get g k ≡ slice_get h k) → g ≡ h
@@ -47,7 +48,7 @@ index_left g more xs is i low =
     ap (λ (ys : List ℕ). slice_index ys (suc i)) is ∙ index_upto (length g) (suc i) low
 
 long_left : (g : List Vertex) (xs : List ℕ) → 0 ∷ xs ≡ upto (length g) → suc (length xs) ≡ length g
-long_left g xs is = ap (λ (ys : List ℕ). length ys) is ∙ long_upto (length g)
+long_left g xs is = ap (λ (ys : List ℕ). length ys) is ∙ length_upto (length g)
 
 begin_code : (g : List Vertex) → GoesOn g → (s : List ℕ) (y : ℕ)
     → code_in (walk_from g s 0) y ≡ code_in (walk_from g s 1) y

@@ -22,7 +22,8 @@ use Rattle.decision_diagram.proofs.Distinct.{Every}
 use Rattle.sgraph_opt.proofs.ShrunkKids.{some_child}
 use Rattle.sgraph_opt.proofs.Standing.{vertex_there}
 use Rattle.decision_diagram.proofs.ListItems.{read_within}
-use Rattle.decision_diagram.proofs.ByVariable.{index_map, index_upto, long_upto}
+use Rattle.decision_diagram.proofs.ByVariable.{index_map, index_upto}
+use Rattle.polis_base.proofs.UptoPlaces.{length_upto}
 
 module _ (g h : List Vertex) (to : ℕ → ℕ) (some : ℕ → Bool) (ok : IsGraph g)
     (shrinks : Shrinks g h to some) (first : to 0 ≡ 0) where
@@ -106,7 +107,7 @@ module _ (g h : List Vertex) (to : ℕ → ℕ) (some : ℕ → Bool) (ok : IsGr
       subst (Every Had) numbered
       (every_left (kids_at h) Had had_kid (length h) [] 0 tt
       (0, some_here, shrinks.first, first)) in
-      let long = long_upto (length h) in
+      let long = length_upto (length h) in
       source_of j (subst Had (index_upto (length h) j low)
       (every_at Had (upto (length h)) j every (omega arith)))
 
@@ -127,7 +128,7 @@ equivalence = record {
 apart : (n i j d : ℕ) → i < j → j < length (upto n)
     → eqb (get_or (upto n) i d) (get_or (upto n) j d) ≡ false
 apart n i j d less low =
-    let long = long_upto n in
+    let long = length_upto n in
     let a : get_or (upto n) i d ≡ i =
     get_or_default (upto n) i d 0 (omega arith) ∙ index_upto n i (omega arith) in
     let b : get_or (upto n) j d ≡ j =
@@ -158,7 +159,7 @@ mapped to k (x ∷ xs) h =
 pub few : (n : ℕ) (to : ℕ → ℕ) (xs : List ℕ)
     → ((j : ℕ) → j < n → (k : ℕ) × (has xs k ≡ true) × (to k ≡ j)) → n ≤ length xs
 few n to xs each =
-    let long = long_upto n in
+    let long = length_upto n in
     let long_too = long_map to xs in
     let le = length-le_from_is_member equivalence (upto n) (map to xs)
     (IsDistinct-from_apart eqb (upto n) (apart n)) (λ q there.

@@ -11,13 +11,13 @@ use Rattle.sgraph.specs.declared.vertex.Vertex.TheVariants.{Begin, Test, Assign,
 use Rattle.sgraph.specs.Facts.{IsGraph, assigned_by, assigned}
 use Rattle.sgraph.specs.Graphs.{next_of, walk, assign_all, with_codes, kids_of, kids_in, kids_at, IsPath, Eval}
 use Rattle.sgraph_opt.specs.inner.Shrinking.{Shrinks, HasKids}
-use Rattle.sgraph_opt.proofs.ShrunkPaths.{contains_at}
 use Rattle.sgraph_opt.proofs.ShrunkKids.{some_child}
 use Rattle.sgraph_opt.proofs.Standing.{vertex_there}
 use Rattle.sgraph_opt.proofs.WalksFrom.{walk_from, step_on, step_end}
 use Rattle.transition_table.proofs.SupportByTest.{set_own}
 use Rattle.sgraph.proofs.EvalSteps.{got_some}
 use Rattle.sgraph.proofs.BuiltEvaluates.{got_map}
+use Rattle.polis_base.proofs.Places.{contains_at}
 
 item_mapped : (f : ℕ → ℕ) (xs : List ℕ) (i : ℕ) → i < length xs
     → (slice_index (map f xs) i ≡ f (slice_index xs i)) × (i < length (map f xs))

@@ -12,10 +12,10 @@ use Rattle.sgraph_opt.specs.inner.Choices.{Same, Entered, Chosen, is_inner, stay
 use Rattle.sgraph_opt.specs.inner.Representatives.{renamed, IsTwin, IsRep, Standing}
 use Rattle.sgraph_opt.proofs.Standing.{same_renamed, later_kids, standing_start, standing_more, vertex_there}
 use Rattle.sgraph.proofs.NextNodes.{got}
-use Rattle.sgraph.proofs.GraphOf.{set_here, set_there}
+use Rattle.sgraph.proofs.GraphOf.{set_there}
 use Rattle.sgraph.proofs.BuiltReduced.{same_vertex}
-use Rattle.sgraph.proofs.NextNodes.{same_some}
 use Rattle.decision_diagram.proofs.ListItems.{read_within}
+use Rattle.polis_base.proofs.Places.{index_set, same_some}
 
 not_none : {X : Type 0} (o : Option X) (a : X) → o ≡ None → o ≡ Some a → ⊥
 not_none o a p q = cc
@@ -37,7 +37,7 @@ module _ (drops : Bool) (g : List Vertex) (ok : IsGraph g) (reps more : List ℕ
 
   read : slice_index more k ≡ r
   read = let own = s.stands.long in let l = low in
-      ap (λ (xs : List ℕ). slice_index xs k) set ∙ set_here reps k r (omega arith)
+      ap (λ (xs : List ℕ). slice_index xs k) set ∙ index_set reps k r (omega arith)
 
   same_names : (j : ℕ) (w : Vertex) → k ≤ j → slice_get g j ≡ Some w
       → renamed (slice_index reps) w ≡ renamed (slice_index more) w

@@ -14,6 +14,7 @@ use Rattle.sgraph_opt.proofs.NumberedOf.{kids_renamed}
 use Rattle.sgraph_opt.proofs.ShrunkKids.{some_child}
 use Rattle.sgraph_opt.proofs.Standing.{vertex_there}
 use Rattle.sgraph.proofs.IsGraph.{rises_tail}
+use Rattle.polis_base.proofs.Places.{contains_at}
 
 -- ---- parts of lists
 -- the first list arises from the second one by leaving items out
@@ -90,14 +91,6 @@ part_rises f (x ∷ xs) (y ∷ ys) (inr p) h =
 contained : (xs : List ℕ) (n : ℕ) → Contains xs n
     → (i : ℕ) × (i < length xs) × (slice_index xs i ≡ n)
 contained xs n there = (there.0, there.1, default_too xs there.0 n there.1 ∙ there.2)
-  where
-    default_too : (xs : List ℕ) (i d : ℕ) → i < length xs → slice_index xs i ≡ slice_index_or xs i d
-    default_too [] i d low = absurd (omega arith)
-    default_too (x ∷ xs) zero d low = refl
-    default_too (x ∷ xs) (suc i) d low = default_too xs i d (omega arith)
-
-pub contains_at : (xs : List ℕ) (i : ℕ) → i < length xs → Contains xs (slice_index xs i)
-contains_at xs i low = (i, low, sym (default_too xs i (slice_index xs i) low))
   where
     default_too : (xs : List ℕ) (i d : ℕ) → i < length xs → slice_index xs i ≡ slice_index_or xs i d
     default_too [] i d low = absurd (omega arith)

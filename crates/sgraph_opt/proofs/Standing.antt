@@ -1,5 +1,5 @@
 -- What stands for vertices, from one on.
-use Rattle.std.proofs.Common.{◌≡◌, inl, inr, ⊎_elim, ℕ, zero, suc, ◌+◌, ◌<◌, ◌≤◌, true, List, ◌∷◌, ◌++◌, map, length, take, replicate, slice_get, slice_index, slice_set, Option, Some, None, refl, ap, sym, subst, ◌∙◌, arith, []}
+use Rattle.std.proofs.Common.{◌≡◌, inl, inr, ⊎_elim, ℕ, zero, suc, ◌+◌, ◌<◌, ◌≤◌, true, List, ◌∷◌, map, length, replicate, slice_get, slice_index, slice_set, Option, Some, None, refl, ap, sym, subst, ◌∙◌, arith, []}
 use Rattle.std.proofs.lemmas.Bool.{cases_eq}
 use Rattle.sgraph.specs.declared.vertex.Vertex.{Vertex}
 use Rattle.sgraph.specs.declared.vertex.Vertex.TheVariants.{Begin, Test, Assign, End}
@@ -8,18 +8,9 @@ use Rattle.sgraph_opt.specs.inner.Shrinking.{Shrinks}
 use Rattle.sgraph.specs.Facts.{IsGraph}
 use Rattle.sgraph_opt.specs.inner.Representatives.{renamed, IsTwin, IsRep, Standing}
 use Rattle.sgraph_opt.specs.inner.Renumbering.{Rises}
-use Rattle.sgraph.proofs.GraphOf.{set_here, set_there, set_long, long_zeros, map_numbers}
+use Rattle.sgraph.proofs.GraphOf.{set_there, long_zeros, map_numbers}
 use Rattle.decision_diagram.proofs.ListItems.{read_within}
-
-pub map_push : (f : ℕ → ℕ) (xs : List ℕ) (x : ℕ) → map f (xs ++ x ∷ []) ≡ map f xs ++ f x ∷ []
-map_push f [] x = refl
-map_push f (y ∷ ys) x = ap (λ (zs : List ℕ). f y ∷ zs) (map_push f ys x)
-
-pub take_one : (xs : List ℕ) (i x : ℕ) → slice_get xs i ≡ Some x
-    → take (suc i) xs ≡ take i xs ++ x ∷ []
-take_one [] i x e = cc
-take_one (y ∷ ys) zero x e = let f : y ≡ x = cc in ap (λ (n : ℕ). n ∷ []) f
-take_one (y ∷ ys) (suc i) x e = ap (λ (zs : List ℕ). y ∷ zs) (take_one ys i x e)
+use Rattle.polis_base.proofs.Places.{index_set, length_set}
 
 pub same_renamed : (to other : ℕ → ℕ) (v : Vertex)
     → ((i : ℕ) → i < length (kids_of v)
@@ -91,7 +82,7 @@ pub standing_more : (g : List Vertex) → IsGraph g → (reps more : List ℕ) (
     → more ≡ slice_set reps k r → Standing g more k
 standing_more g ok reps more i k r s at low rep e =
     let own = s.long in
-    let long = set_long reps k r in
+    let long = length_set reps k r in
     let same_long : length more ≡ length (slice_set reps k r) = ap (λ (xs : List ℕ). length xs) e in
     let apart : (j : ℕ) → k < j → slice_index reps j ≡ slice_index more j =
     λ j up. sym (ap (λ (xs : List ℕ). slice_index xs j) e
@@ -107,7 +98,7 @@ standing_more g ok reps more i k r s at low rep e =
           let rep_here = moved g ok (slice_index reps) (slice_index more) k r v is_here apart
           (rep v is_here) in
           let read : slice_index more k ≡ r =
-          ap (λ (xs : List ℕ). slice_index xs k) e ∙ set_here reps k r (omega arith) in
+          ap (λ (xs : List ℕ). slice_index xs k) e ∙ index_set reps k r (omega arith) in
           subst (λ (n : ℕ). IsRep g (slice_index more) n (slice_index more n) v) h
           (subst (λ (q : ℕ). IsRep g (slice_index more) k q v) (sym read) rep_here))
           (λ other.

@@ -7,7 +7,6 @@ use Rattle.domains.specs.Tables.{fits}
 use Rattle.domains.proofs.Ranks.{fits_zeros, length_fits}
 use Rattle.transition_table.specs.declared.machine.Machine.{Machine}
 use Rattle.transition_table.proofs.Rows.{machine_sizes}
-use Rattle.decision_diagram.proofs.Fits.{fits_set}
 use Rattle.sgraph.specs.declared.vertex.Vertex.{Vertex}
 use Rattle.sgraph.specs.declared.vertex.Vertex.TheVariants.{Test, Assign, End}
 use Rattle.sgraph.specs.Graphs.{depth}
@@ -16,6 +15,7 @@ use Rattle.sgraph_opt.proofs.Depths.{Placed, child_deeper}
 use Rattle.sgraph_opt.proofs.FirstCodes.{code_in}
 use Rattle.sgraph_opt.proofs.LaterItems.{late_code, unmoved}
 use Rattle.sgraph_opt.proofs.WalksFrom.{walk_from, step_on}
+use Rattle.domains.proofs.FittingCodes.{fits_set_any}
 
 -- walks from the two vertices give each result the same code
 abbrev pub Same : Machine → List Vertex → List Vertex → ℕ → ℕ → Type 0
@@ -54,7 +54,7 @@ module _ (m : Machine) (order : List ℕ) (g : List Vertex) (p : Placed m order 
       → fits m.vars (slice_set s v i) ≡ true
   leads_to k v kids is i inside s fit =
       let test = p.of_machine.fits_machine.tests k v kids is in
-      fits_set m.vars s fit v i (omega (arith, test.1, inside))
+      fits_set_any m.vars s fit v i (omega (arith, test.1, inside))
 
   pub child_code : (k v : ℕ) (kids : List ℕ) → slice_get g k ≡ Some (Test v kids) → (i : ℕ)
       → i < length kids → (s : List ℕ) → fits m.vars s ≡ true → (y : ℕ)

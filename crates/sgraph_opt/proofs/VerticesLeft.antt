@@ -15,8 +15,9 @@ use Rattle.sgraph.proofs.LeftAfter.{Closed, closed_next, every_left}
 use Rattle.sgraph_opt.proofs.NumberedOf.{map_map}
 use Rattle.sgraph.proofs.IsGraph.{long_map}
 use Rattle.sgraph_opt.proofs.LeftBeyond.{visit_beyond}
-use Rattle.sgraph.proofs.GraphOf.{map_push, drop_one, map_numbers, map_members}
+use Rattle.sgraph.proofs.GraphOf.{map_push, map_numbers, map_members}
 use Rattle.decision_diagram.proofs.ByVariable.{index_map}
+use Rattle.polis_base.proofs.Places.{drop_one}
 
 -- ---- children
 -- what stands for the children is within

@@ -9,18 +9,19 @@ use Rattle.transition_table.specs.declared.machine.Machine.{Machine}
 use Rattle.transition_table.specs.declared.network.Network.{Network}
 use Rattle.journals.specs.declared.entry.Entry.{Entry}
 use Rattle.journals.specs.declared.entry.Entry.TheVariants.{Dep, Rea}
-use Rattle.journals.proofs.MomentsAfter.{upto_more}
 use Rattle.journals.specs.Seen.{is_present}
-use Rattle.outcome_table.proofs.ListMaps.{map_flat, map_map}
+use Rattle.outcome_table.proofs.ListMaps.{map_flat}
 use Rattle.event_accounts.specs.Accounts.{account, buffer_at, buffers_of, consumes}
 use Rattle.event_accounts.specs.declared.account.Account.{Account}
 use Rattle.event_accounts.proofs.InputsOf.{inputs_of_machine}
-use Rattle.event_accounts.proofs.OneItemMore.{by_end, slice_get_end, slice_get_left}
+use Rattle.event_accounts.proofs.OneItemMore.{by_end}
 use Rattle.table_use.specs.Coverage.{coverage_of, fires_on, input_use}
 use Rattle.table_use.specs.Laws.{ReadsAgree}
 use Rattle.table_use.specs.declared.used.InputUse.{InputUse}
 use Rattle.table_use.specs.declared.used.MachineUse.{MachineUse}
 use Rattle.table_use.proofs.Pushed.{numbered_push}
+use Rattle.polis_base.proofs.Places.{get_end, get_left, map_of_map}
+use Rattle.polis_base.proofs.UptoPlaces.{map_upto}
 
 -- what is made of each item and its number is made of the number alone
 abbrev OfNumbers : {X Y : Type 0} → (ℕ × X → Y) → (ℕ → Y) → List X → Type 0
@@ -39,9 +40,9 @@ by_number {X} {Y} f g xs = by_end (OfNumbers f g) (λ same. refl) more xs
         ∙ ap (λ (k : ℕ). map f (enumerate_from 0 xs) ++ f (k, x) ∷ []) number
         ∙ ap (λ (l : List Y). l ++ f (n, x) ∷ [])
         (before (λ k y at.
-        same k y (slice_get_left xs (x ∷ []) k (slice_get_within xs k y at) ∙ at)))
-        ∙ ap (λ (y : Y). map g (upto n) ++ y ∷ []) (same n x (slice_get_end xs x))
-        ∙ sym (upto_more g n)
+        same k y (get_left xs (x ∷ []) k (slice_get_within xs k y at) ∙ at)))
+        ∙ ap (λ (y : Y). map g (upto n) ++ y ∷ []) (same n x (get_end xs x))
+        ∙ sym (map_upto g n)
         ∙ ap (λ (k : ℕ). map g (upto k)) (sym (length_push xs x))
 
 same_entry : (m i : ℕ) (x : Entry) → consumes m i x ≡ fires_on m (is_present i) x
@@ -66,14 +67,14 @@ machine_reads : (net : Network) (journal : List Entry) (m : ℕ) (machine : Mach
     → slice_get net.machines m ≡ Some machine
     → reads_of_machine (coverage_of journal (m, machine)) ≡ reads_at net journal m
 machine_reads net journal m machine at =
-    map_map (λ (input : InputUse). input.read.count) (input_use machine m journal)
+    map_of_map (λ (input : InputUse). input.read.count) (input_use machine m journal)
     (upto (length machine.inputs))
     ∙ sym
     (by_number (λ (b : ℕ × ℕ). (account journal (buffer_at m b)).read)
     (λ i. (input_use machine m journal i).read.count) machine.inputs
     (λ i e there. same_count m i journal))
-    ∙ sym (map_map (λ b. (account journal b).read) (buffer_at m) (enumerate_from 0 machine.inputs))
-    ∙ sym (map_map read_of (account journal) (map (buffer_at m) (enumerate_from 0 machine.inputs)))
+    ∙ sym (map_of_map (λ b. (account journal b).read) (buffer_at m) (enumerate_from 0 machine.inputs))
+    ∙ sym (map_of_map read_of (account journal) (map (buffer_at m) (enumerate_from 0 machine.inputs)))
     ∙ ap (λ (l : List ℕ). map read_of (map (account journal) (map (buffer_at m)
     (enumerate_from 0 l))))
     (sym (inputs_of_machine net m machine at))

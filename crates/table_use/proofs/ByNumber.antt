@@ -8,7 +8,6 @@ use Rattle.std.proofs.Math.Nat.{mul-le-mul_right, mul_assoc}
 use Rattle.domains.specs.Tables.{are_sizes, fits, product, rank}
 use Rattle.domains.proofs.Ranks.{length_fits, ranks_below}
 use Rattle.journals.proofs.MomentsAfter.{get_or_table, length_table}
-use Rattle.outcome_table.proofs.Columns.{product_after}
 use Rattle.transition_table.specs.declared.machine.Machine.{Machine}
 use Rattle.transition_table.proofs.Ranges.{vars_length}
 use Rattle.journals.specs.Seen.{is_seen}
@@ -17,7 +16,8 @@ use Rattle.table_use.specs.Keys.{stride, strides_of}
 use Rattle.table_use.proofs.ListCounts.{begins_idle, unseen_idle}
 use Rattle.table_use.proofs.Numbers.{fits_drop}
 use Rattle.table_use.proofs.Present.{long_left}
-use Rattle.table_use.proofs.Bools.{twice}
+use Rattle.domains.proofs.FittingCodes.{product_after}
+use Rattle.polis_base.proofs.Bools.{not_not}
 
 -- with the code 0 a snapshot's number is as many strides less as the code was
 pub rank_without : (sizes codes : List ℕ) (v : ℕ) → v < length sizes → fits sizes codes ≡ true
@@ -67,7 +67,7 @@ pub seen_by_number : (m : Machine) (s : List ℕ) → are_sizes m.vars ≡ true 
 seen_by_number m s some fit =
     rank_idle (length m.inputs) m.vars s some fit
     ∙ ap not (sym (unseen_idle m s))
-    ∙ twice (is_seen m s)
+    ∙ not_not (is_seen m s)
 
 product_parts : (k : ℕ) (sizes : List ℕ) → (a : ℕ) × (product sizes ≡ a * product (drop k sizes))
 product_parts zero sizes = (1, omega arith)

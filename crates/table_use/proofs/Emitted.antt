@@ -1,10 +1,9 @@
 -- Outputs that are emitted by rows that are enabled.
-use Rattle.std.proofs.Common.{◌≡◌, ℕ, zero, suc, ◌+◌, ◌<◌, Bool, true, false, cond, not, ◌&&◌, ◌||◌, eqb, List, [], ◌∷◌, length, count_by, slice_get, slice_index, Option, Some, refl, sym, ap, ◌∙◌, arith}
+use Rattle.std.proofs.Common.{◌≡◌, ℕ, ◌+◌, ◌<◌, Bool, true, false, cond, not, ◌&&◌, ◌||◌, eqb, List, [], ◌∷◌, length, count_by, slice_get, slice_index, Option, Some, refl, sym, ap, ◌∙◌, arith}
 use Rattle.std.specs.List.{list_all, list_any}
 use Rattle.std.specs.Int.{bit_at}
 use Rattle.std.proofs.lemmas.Bool.{and_parts, eq-eqb, eqb-true, ne_eqb}
 use Rattle.std.proofs.lemmas.List.Sums.{sum_by-cons}
-use Rattle.std.proofs.lemmas.List.Folds.{list_any-append}
 use Rattle.polis_base.specs.Lists.{upto}
 use Rattle.polis_base.proofs.Lists.{some_item}
 use Rattle.journals.proofs.MomentsAfter.{get_or_table}
@@ -22,7 +21,8 @@ use Rattle.table_use.specs.Lint.{amount, emits, seen_ones}
 use Rattle.table_use.specs.Use.{enables}
 use Rattle.table_use.specs.inner.Emitting.{gives_some, is_some}
 use Rattle.table_use.proofs.RowBoxes.{row_stands}
-use Rattle.table_use.proofs.Bools.{twice}
+use Rattle.polis_base.proofs.Bools.{not_not}
+use Rattle.polis_base.proofs.ListTests.{any_same, any_same_below}
 
 -- the row of this number is enabled on some snapshot that is seen, and emits the output y there
 abbrev pub is_emitting : Machine → ℕ → ℕ → Bool
@@ -50,7 +50,7 @@ wanted s v conds some all none =
 source_some : (m : Machine) (s : List ℕ) (conds : List Cond) (y : ℕ) (source : Source)
     → has_present conds source ≡ true → list_all (allows s) conds ≡ true
     → eqb (code_of m.inputs m.vars s y source) 0 ≡ not (is_some source)
-source_some m s conds y (Code code) shown all = sym (twice (eqb code 0))
+source_some m s conds y (Code code) shown all = sym (not_not (eqb code 0))
 source_some m s conds y (Input v) shown all =
     ne_eqb (slice_index s v) 0 (wanted s v conds shown all)
 source_some m s conds y (Add k) shown all =
@@ -105,24 +105,10 @@ emits_if m r y s low inside = cases (enables m r s) refl
         (out_code m r y s inside
         ∙ ap (λ (l : List Act). code_given m s l (1 + length m.states + y)) acts)
         ∙ ap not (given_some m s row.conds row.acts (1 + length m.states + y) shown all)
-        ∙ twice (gives_some row.acts (1 + length m.states + y))
+        ∙ not_not (gives_some row.acts (1 + length m.states + y))
         ∙ ap (λ (l : List Act). gives_some l (1 + length m.states + y)) (sym acts)
 
 -- ---- on some snapshot by some row
-
-pub any_same : (p q : ℕ → Bool) (n : ℕ) → ((k : ℕ) → k < n → p k ≡ q k)
-    → list_any p (upto n) ≡ list_any q (upto n)
-any_same p q zero same = refl
-any_same p q (suc n) same =
-    list_any-append p (upto n) (n ∷ [])
-    ∙ ap (λ (b : Bool). b || (p n || false)) (any_same p q n (λ k low. same k (omega arith)))
-    ∙ ap (λ (b : Bool). list_any q (upto n) || (b || false)) (same n (omega arith))
-    ∙ sym (list_any-append q (upto n) (n ∷ []))
-
-any_each : {X : Type 0} (p q : X → Bool) (xs : List X) → ((x : X) → p x ≡ q x)
-    → list_any p xs ≡ list_any q xs
-any_each p q [] same = refl
-any_each p q (x ∷ xs) same = λ j. same x j || any_each p q xs same j
 
 any_none : {X : Type 0} (xs : List X) → list_any (λ (x : X). false) xs ≡ false
 any_none [] = refl
@@ -155,7 +141,7 @@ any_swapped e g rs [] = sym (any_none rs)
 any_swapped e g rs (x ∷ xs) =
     ap (λ (b : Bool). list_any (λ r. e r x && g r) rs || b) (any_swapped e g rs xs)
     ∙ any_or (λ r. e r x && g r) (λ r. list_any (e r) xs && g r) rs
-    ∙ any_each (λ r. (e r x && g r) || (list_any (e r) xs && g r))
+    ∙ any_same (λ r. (e r x && g r) || (list_any (e r) xs && g r))
     (λ r. (e r x || list_any (e r) xs) && g r) rs
     (λ r. shared (e r x) (list_any (e r) xs) (g r))
 
@@ -176,18 +162,18 @@ none_any p (x ∷ xs) =
 
 some_any : (p : List ℕ → Bool) (xs : List (List ℕ))
     → not (eqb (count_by p xs) 0) ≡ list_any p xs
-some_any p xs = ap not (none_any p xs) ∙ twice (list_any p xs)
+some_any p xs = ap not (none_any p xs) ∙ not_not (list_any p xs)
 
 pub emitted_by_rows : (m : Machine) (y : ℕ) → y < length m.outputs
     → list_any (is_emitting m y) (upto (length m.rows)) ≡ not (eqb (amount m (emits m y)) 0)
 emitted_by_rows m y low =
     let g : ℕ → Bool = λ r. gives_some (actions (slice_get m.rows r)) (1 + length m.states + y) in
     let rows = upto (length m.rows) in
-    any_each (is_emitting m y) (λ r. list_any (enables m r) (seen_ones m) && g r) rows
+    any_same (is_emitting m y) (λ r. list_any (enables m r) (seen_ones m) && g r) rows
     (λ r. ap (λ (b : Bool). b && g r) (some_any (enables m r) (seen_ones m)))
     ∙ sym (any_swapped (enables m) g rows (seen_ones m))
-    ∙ any_each (λ s. list_any (λ r. enables m r s && g r) rows) (emits m y) (seen_ones m)
-    (λ s. sym (any_same
+    ∙ any_same (λ s. list_any (λ r. enables m r s && g r) rows) (emits m y) (seen_ones m)
+    (λ s. sym (any_same_below
     (λ r. enables m r s && not (eqb (slice_index (result m r (reading s)).outs y) 0))
     (λ r. enables m r s && g r) (length m.rows)
     (λ r inside. emits_if m r y s inside low)))

@@ -18,7 +18,8 @@ use Rattle.table_use.specs.Keys.{AreKeys, strides_of}
 use Rattle.table_use.specs.inner.Firsts.{AreFirsts, IsEntered, is_go}
 use Rattle.table_use.specs.declared.keys.Keys.{Keys}
 use Rattle.table_use.proofs.Looks.{go_fires, outcome_there, outcome_within}
-use Rattle.table_use.proofs.Pushed.{before, last, some_same}
+use Rattle.table_use.proofs.Pushed.{before, last}
+use Rattle.polis_base.proofs.Places.{some_is}
 
 -- ---- one outcome more
 
@@ -46,7 +47,7 @@ one_first outcomes i f codes firsts old new are at is =
           let within = slice_get_within (firsts ++ f ∷ []) k g there in
           let more = length_push firsts f in
           let end : k ≡ length firsts = omega arith in
-          let number : f ≡ g = some_same f g (sym (last firsts f k end) ∙ there) in
+          let number : f ≡ g = some_is f g (sym (last firsts f k end) ∙ there) in
           ap (λ (n : ℕ). found new (get_or outcomes n [])) (end ∙ size)
           ∙ ap (found new) own ∙ is.here ∙ ap (λ (n : ℕ). Some n) number)
           (cases_lt k (length firsts));
@@ -70,7 +71,7 @@ all_firsts outcomes i firsts known all are =
       long = are.long ∙ all;
       equal = λ k f at. (are.known_ones (get_or outcomes k []) f (are.met k f at)).1;
       one = λ j k f g at there same.
-          some_same f g (sym (are.met j f at) ∙ ap (found known) same ∙ are.met k g there);
+          some_is f g (sym (are.met j f at) ∙ ap (found known) same ∙ are.met k g there);
     }
 
 -- ---- and so the keys are

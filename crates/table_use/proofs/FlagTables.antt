@@ -3,14 +3,11 @@ use Rattle.std.proofs.Common.{◌≡◌, ℕ, suc, ◌+◌, ◌-◌, ◌*◌, �
 use Rattle.std.proofs.lemmas.List.Sums.{count_by-le-length, sum_by_push}
 use Rattle.polis_base.specs.Lists.{upto}
 use Rattle.domains.specs.Tables.{product}
-use Rattle.journals.proofs.MomentsAfter.{get_or_table, length_table, length_upto}
+use Rattle.journals.proofs.MomentsAfter.{get_or_table, length_table}
 use Rattle.transition_table.specs.declared.machine.Machine.{Machine}
 use Rattle.table_use.specs.inner.Boxes.{all_flags, allowed, both_allow, flags_of, passing, passing_idle}
-use Rattle.table_use.proofs.Covered.{table_at}
-use Rattle.table_use.proofs.Numbers.{here}
-
-same_item : {X : Type 0} (x y : X) → Some x ≡ Some y → x ≡ y
-same_item x y h = cc
+use Rattle.polis_base.proofs.Places.{drop_index, some_is}
+use Rattle.polis_base.proofs.UptoPlaces.{get_map_upto, length_upto}
 
 -- ---- what stands in the tables
 
@@ -22,9 +19,9 @@ flags_long m all is =
 pub flags_at : (m : Machine) (all : List (List (List Bool))) (r : ℕ) (row : List (List Bool))
     → all ≡ all_flags m → r < length m.rows → slice_get all r ≡ Some row → row ≡ flags_of m r
 flags_at m all r row is low at =
-    same_item row (flags_of m r)
+    some_is row (flags_of m r)
     (sym at ∙ ap (λ (l : List (List (List Bool))). slice_get l r) is
-    ∙ table_at (flags_of m) (length m.rows) r low)
+    ∙ get_map_upto (flags_of m) (length m.rows) r low)
 
 pub row_long : (m : Machine) (r : ℕ) (row : List (List Bool)) → row ≡ flags_of m r
     → length row ≡ length m.vars
@@ -36,9 +33,9 @@ pub own_at : (m : Machine) (r var : ℕ) (row : List (List Bool)) (flags : List 
     → row ≡ flags_of m r → var < length m.vars → slice_get row var ≡ Some flags
     → flags ≡ map (allowed m r var) (upto (slice_index m.vars var))
 own_at m r var row flags is less there =
-    same_item flags (map (allowed m r var) (upto (slice_index m.vars var)))
+    some_is flags (map (allowed m r var) (upto (slice_index m.vars var)))
     (sym there ∙ ap (λ (l : List (List Bool)). slice_get l var) is
-    ∙ table_at (λ v. map (allowed m r v) (upto (slice_index m.vars v))) (length m.vars) var less)
+    ∙ get_map_upto (λ v. map (allowed m r v) (upto (slice_index m.vars v))) (length m.vars) var less)
 
 pub one_at : (m : Machine) (all : List (List (List Bool))) (r var : ℕ) (row : List (List Bool))
     (flags : List Bool) → all ≡ all_flags m → r < length m.rows → var < length m.vars
@@ -105,7 +102,7 @@ codes_more m r k var code count more one other a b low was is =
 pub passing_here : (test : ℕ → ℕ → Bool) (sizes : List ℕ) (i : ℕ) → i < length sizes
     → passing test i (drop i sizes)
     ≡ count_by (test i) (upto (slice_index sizes i)) * passing test (i + 1) (drop (i + 1) sizes)
-passing_here test sizes i low = ap (passing test i) (here sizes i low)
+passing_here test sizes i low = ap (passing test i) (drop_index sizes i low)
 
 pub passing_few : (test : ℕ → ℕ → Bool) (n : ℕ) (sizes : List ℕ)
     → passing test n sizes ≤ product sizes
@@ -120,7 +117,7 @@ pub idle_here : (test : ℕ → ℕ → Bool) (sizes : List ℕ) (n i : ℕ) →
 idle_here test sizes n i less low =
     (let e : n - i ≡ suc (n - (i + 1)) = omega arith in
     ap (λ (k : ℕ). passing_idle test k i (drop i sizes)) e)
-    ∙ ap (passing_idle test (suc (n - (i + 1))) i) (here sizes i low)
+    ∙ ap (passing_idle test (suc (n - (i + 1))) i) (drop_index sizes i low)
 
 pub idle_past : (test : ℕ → ℕ → Bool) (sizes : List ℕ) (n i : ℕ) → i ≡ n
     → passing_idle test (n - i) i (drop i sizes) ≡ passing test i (drop i sizes)

@@ -6,28 +6,28 @@ use Rattle.transition_table.specs.NetworkNames.{event_name}
 use Rattle.transition_table.specs.declared.decl.EventDecl.{EventDecl}
 use Rattle.transition_table.specs.declared.machine.Machine.{Machine}
 use Rattle.transition_table.specs.declared.network.Network.{Network}
-use Rattle.journals.proofs.DeliveriesOfWay.{passes_of_all}
 use Rattle.journal_text.proofs.Machines.{inputs_numbered, outputs_numbered}
 use Rattle.table_use.specs.inner.Lines.{StandsIn}
+use Rattle.polis_base.proofs.ListTests.{all_get}
 
 pub input_within : (net : Network) (machine : Machine) (i e : ℕ) → StandsIn net machine
     → slice_get machine.inputs i ≡ Some e → e < length net.events
 input_within net machine i e (m, at) there =
     ltb-true e (length net.events)
-    (passes_of_all (λ k. nat_lt k (length net.events)) machine.inputs i e
+    (all_get (λ k. nat_lt k (length net.events)) machine.inputs i e
     (inputs_numbered net m machine at) there)
 
 pub output_within : (net : Network) (machine : Machine) (y e : ℕ) → StandsIn net machine
     → slice_get machine.outputs y ≡ Some e → e < length net.events
 output_within net machine y e (m, at) there =
     ltb-true e (length net.events)
-    (passes_of_all (λ k. nat_lt k (length net.events)) machine.outputs y e
+    (all_get (λ k. nat_lt k (length net.events)) machine.outputs y e
     (outputs_numbered net m machine at) there)
 
 pub vars_sized : (net : Network) (machine : Machine) → StandsIn net machine
     → has_vars net.domains net.events machine ≡ true
 vars_sized net machine (m, at) =
-    passes_of_all (has_vars net.domains net.events) net.machines m machine net.sized_vars at
+    all_get (has_vars net.domains net.events) net.machines m machine net.sized_vars at
 
 -- the name of an event that stands there
 pub name_of_event : (net : Network) (e : ℕ) (event : EventDecl) (name : List ℕ)

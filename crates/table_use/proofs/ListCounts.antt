@@ -7,12 +7,12 @@ use Rattle.std.proofs.lemmas.List.Filters.{sum_by-filter_both}
 use Rattle.polis_base.specs.Lists.{upto}
 use Rattle.domains.specs.AllCodes.{all_codes, each_after}
 use Rattle.domains.specs.Tables.{are_sizes}
-use Rattle.outcome_table.proofs.ListMaps.{flat_upto}
 use Rattle.transition_table.specs.declared.machine.Machine.{Machine}
 use Rattle.journals.specs.Seen.{is_present, is_seen}
 use Rattle.table_use.specs.inner.Boxes.{passes, passing, passing_idle}
 use Rattle.journals.proofs.Upto.{any_found, found_below}
 use Rattle.table_use.proofs.Bools.{and_last}
+use Rattle.polis_base.proofs.UptoPlaces.{flat_map_upto}
 
 -- ---- counts
 
@@ -59,7 +59,7 @@ first_passes : (test : ℕ → ℕ → Bool) (n : ℕ) (lists : List (List ℕ))
     ≡ count_by (test n) (upto size) * rest
 first_passes test n lists zero rest is = sym (zero-mul rest)
 first_passes test n lists (suc size) rest is =
-    ap (λ (l : List (List ℕ)). count_by (passes test n) l) (flat_upto (each_after lists) size)
+    ap (λ (l : List (List ℕ)). count_by (passes test n) l) (flat_map_upto (each_after lists) size)
     ∙ sum_by-append (λ s. cond (passes test n s) 1 0) (flat_map (each_after lists) (upto size))
     (each_after lists size)
     ∙ ap (λ (k : ℕ). k + count_by (passes test n) (each_after lists size))
@@ -104,7 +104,7 @@ first_idle : (test : ℕ → ℕ → Bool) (k n : ℕ) (lists : List (List ℕ))
     ≡ cond (test n 0) rest 0
 first_idle test k n lists zero rest is =
     ap (λ (l : List (List ℕ)). count_by (passes_idle test (suc k) n) l)
-    (flat_upto (each_after lists) 0)
+    (flat_map_upto (each_after lists) 0)
     ∙ count_after (passes_idle test (suc k) n) 0 lists
     ∙ count_same (λ s. (test n 0 && passes test (n + 1) s) && (true && begins_idle k s))
     (λ s. test n 0 && passes_idle test k (n + 1) s) lists
@@ -113,7 +113,7 @@ first_idle test k n lists zero rest is =
     ∙ ap (λ (j : ℕ). cond (test n 0) j 0) is
 first_idle test k n lists (suc size) rest is =
     ap (λ (l : List (List ℕ)). count_by (passes_idle test (suc k) n) l)
-    (flat_upto (each_after lists) (suc size))
+    (flat_map_upto (each_after lists) (suc size))
     ∙ sum_by-append (λ s. cond (passes_idle test (suc k) n s) 1 0)
     (flat_map (each_after lists) (upto (suc size))) (each_after lists (suc size))
     ∙ ap (λ (j : ℕ). j + count_by (passes_idle test (suc k) n) (each_after lists (suc size)))

@@ -1,14 +1,12 @@
 -- A row that allows a code which another doesn't isn't enabled only where the other is.
 use Rattle.std.proofs.Common.{◌≡◌, ⊎_elim, ℕ, zero, suc, ◌+◌, ◌<◌, ◌≤◌, Bool, true, false, cond, not, ◌&&◌, ◌||◌, eqb, nat_lt, nat_le, ◌-◌, List, [], ◌∷◌, ◌++◌, length, map, slice_get, slice_index, slice_set, Some, refl, sym, ap, ◌∙◌, arith}
 use Rattle.std.specs.List.{list_all, list_any}
-use Rattle.std.proofs.lemmas.Bool.{and_from, and_parts, cases_Bool, cases_eq, cases_lt, false≢true, le-leb, leb-true, lt-ltb, ltb-true, ne_eqb, or_right}
+use Rattle.std.proofs.lemmas.Bool.{and_from, and_parts, cases_Bool, cases_eq, cases_lt, false≢true, le-leb, leb-true, lt-ltb, ltb-true, ne_eqb, or_right, not-false}
 use Rattle.std.proofs.lemmas.List.{get_or-set_other, get_or-set_same, length-map, length-set}
 use Rattle.polis_base.proofs.Lists.{all_append}
 use Rattle.domains.specs.Tables.{fits}
 use Rattle.domains.proofs.Ranks.{length_fits}
 use Rattle.journals.proofs.MomentsAfter.{length_table}
-use Rattle.outcome_table.proofs.ListMaps.{all_get}
-use Rattle.outcome_table.proofs.Rows.{fits_set}
 use Rattle.transition_table.specs.declared.machine.Machine.{Machine}
 use Rattle.table_use.specs.Lint.{amount, enables_only, seen_ones}
 use Rattle.journals.specs.Seen.{is_present, is_seen}
@@ -16,12 +14,13 @@ use Rattle.table_use.specs.Use.{enables}
 use Rattle.table_use.specs.inner.Boxes.{allowed, passes}
 use Rattle.table_use.specs.inner.Marks.{AreMarks, HasMore, is_kept, mark}
 use Rattle.table_use.specs.declared.marks.Point.{Point}
-use Rattle.table_use.proofs.Covered.{table_at}
 use Rattle.table_use.proofs.Emitted.{none_any}
 use Rattle.table_use.proofs.RowBoxes.{each_passes, enables_inside, passes_each, row_stands}
 use Rattle.table_use.proofs.Turning.{has_seen, seen_has, seen_too}
 use Rattle.journals.proofs.Upto.{any_found}
-use Rattle.table_use.proofs.Bools.{not_off}
+use Rattle.domains.proofs.FittingCodes.{fits_set}
+use Rattle.polis_base.proofs.ListTests.{all_get}
+use Rattle.polis_base.proofs.UptoPlaces.{get_map_upto}
 
 -- ---- codes that are kept
 
@@ -162,7 +161,7 @@ some_enabled m r k point low less some kept has lacks =
     let v = point.var in
     let c = point.code in
     let any : list_any (enables m r) (seen_ones m) ≡ true =
-    not_off (list_any (enables m r) (seen_ones m))
+    not-false (list_any (enables m r) (seen_ones m))
     (sym (none_any (enables m r) (seen_ones m))
     ∙ ne_eqb (amount m (enables m r)) 0 (λ e. absurd (omega arith))) in
     let found = has_seen m (enables m r) any in
@@ -190,7 +189,7 @@ pub marks_at : (m : Machine) (marks : List (List Bool)) (i r : ℕ) (one : List 
 marks_at m marks i r one are at low there =
     same_list one (map (mark m r) are.points)
     (sym there ∙ ap (slice_get marks) at ∙ ap (λ (l : List (List Bool)). slice_get l r) are.each
-    ∙ table_at (λ k. map (mark m k) are.points) (length m.rows) r low)
+    ∙ get_map_upto (λ k. map (mark m k) are.points) (length m.rows) r low)
   where
     same_list : (a b : List Bool) → Some a ≡ Some b → a ≡ b
     same_list a b h = cc

@@ -1,17 +1,13 @@
 -- The number of a list of codes, from its last variable on.
 use Rattle.std.proofs.Common.{◌≡◌, ℕ, zero, suc, ◌+◌, ◌*◌, ◌<◌, true, nat_lt, List, [], ◌∷◌, length, drop, slice_get, slice_index, Some, refl, ap, sym, ◌∙◌, arith}
-use Rattle.std.proofs.Math.Seq.{drop-cons}
 use Rattle.std.proofs.lemmas.Bool.{and_parts, false≢true}
 use Rattle.domains.specs.Tables.{are_sizes, fits, product, rank}
 use Rattle.domains.proofs.Ranks.{length_fits, ranks_below}
-use Rattle.outcome_table.proofs.Columns.{product_after, product_here}
+use Rattle.outcome_table.proofs.Columns.{product_here}
 use Rattle.std.proofs.Math.Nat.{mul_comm}
 use Rattle.std.proofs.lemmas.Option.{get_or_from_slice_get}
-
-pub here : (xs : List ℕ) (i : ℕ) → i < length xs
-    → drop i xs ≡ slice_index xs i ∷ drop (i + 1) xs
-here xs i low = drop-cons xs i 0 low
-    ∙ (let e : suc i ≡ i + 1 = omega arith in ap (λ (k : ℕ). slice_index xs i ∷ drop k xs) e)
+use Rattle.domains.proofs.FittingCodes.{product_after}
+use Rattle.polis_base.proofs.Places.{drop_index, drop_whole}
 
 -- the code of the variable i weighs as much as there are lists of the later ones
 pub rank_here : (sizes codes : List ℕ) (i : ℕ) → i < length sizes → i < length codes
@@ -19,22 +15,18 @@ pub rank_here : (sizes codes : List ℕ) (i : ℕ) → i < length sizes → i < 
     ≡ slice_index codes i * product (drop (i + 1) sizes)
     + rank (drop (i + 1) sizes) (drop (i + 1) codes)
 rank_here sizes codes i low below =
-    ap (λ (xs : List ℕ). rank xs (drop i codes)) (here sizes i low)
-    ∙ ap (rank (slice_index sizes i ∷ drop (i + 1) sizes)) (here codes i below)
-
-pub past : (xs : List ℕ) → drop (length xs) xs ≡ []
-past [] = refl
-past (x ∷ xs) = past xs
+    ap (λ (xs : List ℕ). rank xs (drop i codes)) (drop_index sizes i low)
+    ∙ ap (rank (slice_index sizes i ∷ drop (i + 1) sizes)) (drop_index codes i below)
 
 pub product_end : (sizes : List ℕ) (i : ℕ) → i ≡ length sizes → product (drop i sizes) ≡ 1
 product_end sizes i end =
-    ap (λ (k : ℕ). product (drop k sizes)) end ∙ ap product (past sizes)
+    ap (λ (k : ℕ). product (drop k sizes)) end ∙ ap product (drop_whole sizes)
 
 pub rank_end : (sizes codes : List ℕ) (i : ℕ) → i ≡ length sizes
     → rank (drop i sizes) (drop i codes) ≡ 0
 rank_end sizes codes i end =
     ap (λ (k : ℕ). rank (drop k sizes) (drop i codes)) end
-    ∙ ap (λ (xs : List ℕ). rank xs (drop i codes)) (past sizes)
+    ∙ ap (λ (xs : List ℕ). rank xs (drop i codes)) (drop_whole sizes)
 
 pub fits_drop : (sizes codes : List ℕ) (i : ℕ) → fits sizes codes ≡ true
     → fits (drop i sizes) (drop i codes) ≡ true

@@ -12,8 +12,9 @@ use Rattle.table_use.specs.Keys.{AreKeys}
 use Rattle.table_use.specs.Memos.{AreMemos, IsMemo, IsMet, StandsMet}
 use Rattle.table_use.specs.declared.memo.Memo.{Memo}
 use Rattle.table_use.specs.declared.memo.Met.{Met}
-use Rattle.table_use.proofs.Pushed.{before, last, some_same}
+use Rattle.table_use.proofs.Pushed.{before, last}
 use Rattle.table_use.proofs.Sets.{set_here, set_other}
+use Rattle.polis_base.proofs.Places.{some_is}
 
 pub number_there : (m : Machine) (r : Results) (memo : Memo) (s : List ℕ) (n : ℕ) → IsMemo m r memo
     → fits m.vars s ≡ true → n ≡ rank m.vars s → n < length memo.places
@@ -39,7 +40,7 @@ stands_last m s known met k is end =
     let more = length_push known met in
     record {
       low = omega arith;
-      met = λ x at. subst (IsMet m s) (some_same met x (sym (last known met k end) ∙ at)) is;
+      met = λ x at. subst (IsMet m s) (some_is met x (sym (last known met k end) ∙ at)) is;
     }
 
 pub one_met : (m : Machine) (r : Results) (old new : Memo) (s : List ℕ) (n count : ℕ) (met : Met)
@@ -63,7 +64,7 @@ one_met m r old new s n count met memo fit number is known many places keys =
         let same : s ≡ t =
         ranks_differ m.vars s t fit fits_too (sym number ∙ sym here) in
         let low : n < length old.places = number_there m r old s n memo fit number in
-        let found : count ≡ suc k = some_same count (suc k)
+        let found : count ≡ suc k = some_is count (suc k)
         (sym (set_here old.places n count low)
         ∙ ap (λ (l : List ℕ). slice_get l n) (sym places)
         ∙ ap (slice_get new.places) (sym here) ∙ at) in

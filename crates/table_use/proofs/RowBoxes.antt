@@ -22,7 +22,8 @@ use Rattle.journals.specs.Seen.{is_seen}
 use Rattle.table_use.specs.Use.{enables}
 use Rattle.table_use.specs.inner.Boxes.{allowed, allowed_by, both_allow, passes, passing, passing_idle}
 use Rattle.table_use.proofs.ListCounts.{begins_idle, count_same, idle_counts, passing_counts, unseen_idle, seen_and_idle}
-use Rattle.table_use.proofs.Bools.{and_last, same_bool}
+use Rattle.table_use.proofs.Bools.{and_last}
+use Rattle.polis_base.proofs.Bools.{same_truth}
 
 -- ---- a test of each code
 
@@ -100,7 +101,7 @@ all_allow vars s (d ∷ conds) named each =
 row_inside : (vars s : List ℕ) (row : Row) → list_all (names_codes vars) row.conds ≡ true
     → fits vars s ≡ true → list_all (allows s) row.conds ≡ passes (row_allows vars row) 0 s
 row_inside vars s row named fit =
-    same_bool (list_all (allows s) row.conds) (passes (row_allows vars row) 0 s)
+    same_truth (list_all (allows s) row.conds) (passes (row_allows vars row) 0 s)
     (λ on.
     each_passes (row_allows vars row) 0 s (λ v low.
     let size = length_fits vars s fit in

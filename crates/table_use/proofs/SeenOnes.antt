@@ -6,7 +6,6 @@ use Rattle.polis_base.specs.Lists.{upto}
 use Rattle.domains.specs.AllCodes.{all_codes}
 use Rattle.domains.specs.Tables.{product}
 use Rattle.domains.proofs.AllCodes.{counts_all}
-use Rattle.journals.proofs.MomentsAfter.{length_upto}
 use Rattle.transition_table.specs.declared.machine.Machine.{Machine}
 use Rattle.transition_table.proofs.Rows.{machine_sizes}
 use Rattle.table_use.specs.Lint.{seen_ones}
@@ -14,6 +13,7 @@ use Rattle.journals.specs.Seen.{is_seen}
 use Rattle.table_use.specs.inner.Boxes.{passes, passing, passing_idle}
 use Rattle.table_use.proofs.ListCounts.{begins_idle, count_same, idle_counts, seen_and_idle, unseen_idle}
 use Rattle.table_use.proofs.RowBoxes.{count_filter}
+use Rattle.polis_base.proofs.UptoPlaces.{length_upto}
 
 all_kept : {X : Type 0} (xs : List X) → filter (λ (x : X). true) xs ≡ xs
 all_kept [] = refl

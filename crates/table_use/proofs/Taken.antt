@@ -12,10 +12,12 @@ use Rattle.table_use.specs.Memos.{enabled_rows}
 use Rattle.table_use.specs.Use.{enables}
 use Rattle.table_use.specs.inner.Steps.{tally_after}
 use Rattle.table_use.specs.declared.tally.Tally.{Tally}
-use Rattle.table_use.proofs.Pushed.{before, last, some_same}
+use Rattle.table_use.proofs.Pushed.{before, last}
 use Rattle.table_use.proofs.Repeats.{not_less}
 use Rattle.table_use.proofs.Sets.{set_here, set_other}
-use Rattle.table_use.proofs.Bools.{and_last, or_none}
+use Rattle.table_use.proofs.Bools.{and_last}
+use Rattle.polis_base.proofs.Bools.{or_none}
+use Rattle.polis_base.proofs.Places.{length_push, some_is}
 
 -- k is one of them
 abbrev pub is_among : ℕ → List ℕ → Bool
@@ -75,7 +77,7 @@ among_passing p (suc n) k =
 among_at : (xs : List ℕ) (i x : ℕ) → slice_get xs i ≡ Some x → is_among x xs ≡ true
 among_at [] i x at = cc
 among_at (y ∷ xs) zero x at =
-    let same : y ≡ x = some_same y x at in
+    let same : y ≡ x = some_is y x at in
     ap (λ (b : Bool). b || is_among x xs) (eq-eqb y x same)
 among_at (y ∷ xs) (suc i) x at =
     ap (λ (b : Bool). eqb y x || b) (among_at xs i x at) ∙ or_right (eqb y x) true refl
@@ -86,10 +88,6 @@ below_passing p n i x at =
     ltb-true x n
     (and_parts (nat_lt x n) (p x)
     (sym (among_passing p n x) ∙ among_at (filter p (upto n)) i x at)).0
-
-length_last : (xs : List ℕ) (y : ℕ) → length (xs ++ y ∷ []) ≡ suc (length xs)
-length_last [] y = refl
-length_last (z ∷ xs) y = ap suc (length_last xs y)
 
 once_more : (p : ℕ → Bool) (n i x : ℕ) (b : Bool)
     → (slice_get (filter p (upto n)) i ≡ Some x
@@ -106,9 +104,9 @@ once_more p n i x true rest here =
     ∙ rest (sym (before (filter p (upto n)) n i less) ∙ here))
     (λ more.
     let within = slice_get_within (filter p (upto n) ++ n ∷ []) i x here in
-    let long = length_last (filter p (upto n)) n in
+    let long = length_push (filter p (upto n)) n in
     let end : i ≡ length (filter p (upto n)) = omega arith in
-    let same : n ≡ x = some_same n x (sym (last (filter p (upto n)) n i end) ∙ here) in
+    let same : n ≡ x = some_is n x (sym (last (filter p (upto n)) n i end) ∙ here) in
     ap (is_among x) (take_prefix (filter p (upto n)) (n ∷ []) i end)
     ∙ among_passing p n x
     ∙ ap (λ (b : Bool). b && p x) (not_less x n (λ less. absurd (omega arith))))

@@ -2,7 +2,7 @@
 use Rattle.std.proofs.Common.{◌≡◌, ⊎_elim, ℕ, zero, suc, ◌+◌, ◌<◌, Bool, true, false, cond, not, ◌&&◌, ◌||◌, eqb, List, [], ◌∷◌, ◌++◌, length, map, slice_index, slice_set, refl, sym, ap, ◌∙◌, arith}
 use Rattle.std.specs.Cmp.Lexicographic.{same_text}
 use Rattle.std.specs.List.{filter, list_any}
-use Rattle.std.proofs.lemmas.Bool.{and_from, and_parts, cases_Bool, false≢true, not-true}
+use Rattle.std.proofs.lemmas.Bool.{and_from, and_parts, cases_Bool, false≢true, not-true, not-false}
 use Rattle.std.proofs.lemmas.List.{get_or-set_other, map-append}
 use Rattle.polis_base.specs.Lists.{upto}
 use Rattle.polis_base.proofs.Lists.{none_all, some_item}
@@ -12,16 +12,17 @@ use Rattle.domains.specs.Tables.{fits}
 use Rattle.domains.proofs.AllCodes.{lists_all, lists_fit}
 use Rattle.domains.proofs.Names.{same_self}
 use Rattle.domains.proofs.Ranks.{length_fits}
-use Rattle.outcome_table.proofs.Rows.{fits_set}
 use Rattle.transition_table.specs.Computed.{result_codes}
 use Rattle.transition_table.specs.declared.machine.Machine.{Machine}
 use Rattle.transition_table.proofs.Ranges.{below_size, vars_length}
 use Rattle.table_use.specs.Lint.{amount, seen_ones, turns}
 use Rattle.journals.specs.Seen.{is_present, is_seen}
 use Rattle.table_use.specs.inner.Walking.{differs, is_none}
-use Rattle.table_use.proofs.Emitted.{any_same, none_any}
+use Rattle.table_use.proofs.Emitted.{none_any}
 use Rattle.journals.proofs.Upto.{any_found, found_below}
-use Rattle.table_use.proofs.Bools.{not_off, same_bool}
+use Rattle.domains.proofs.FittingCodes.{fits_set}
+use Rattle.polis_base.proofs.Bools.{same_truth}
+use Rattle.polis_base.proofs.ListTests.{any_same_below}
 
 -- ---- something is so of a snapshot that is seen
 
@@ -72,7 +73,7 @@ set_twice (x ∷ xs) (suc i) a b = ap (λ (l : List ℕ). x ∷ l) (set_twice xs
 pub seen_too : (m : Machine) (s : List ℕ) (x code : ℕ)
     → is_seen m (slice_set s (length m.inputs + x) code) ≡ is_seen m s
 seen_too m s x code =
-    any_same (λ i. is_present i (slice_set s (length m.inputs + x) code)) (λ i. is_present i s)
+    any_same_below (λ i. is_present i (slice_set s (length m.inputs + x) code)) (λ i. is_present i s)
     (length m.inputs) (λ i low.
     ap (λ (n : ℕ). not (eqb n 0))
     (get_or-set_other s (length m.inputs + x) i code 0 (λ same. absurd (omega arith))))
@@ -82,7 +83,7 @@ same_codes : (m : Machine) (x : ℕ) (s : List ℕ) → differs m x s ≡ false
 same_codes m x s off =
     let t = slice_set s (length m.inputs + x) 0 in
     same_text (result_codes m s) (result_codes m t)
-    (sym (not_off (is_same (result_codes m s) (result_codes m t)) off))
+    (sym (not-false (is_same (result_codes m s) (result_codes m t)) off))
 
 turned_differs : (m : Machine) (x : ℕ) → x < length m.states
     → list_any (turns m x) (seen_ones m) ≡ true → list_any (differs m x) (seen_ones m) ≡ true
@@ -128,7 +129,7 @@ ignored_state : (m : Machine) (x : ℕ) → x < length m.states
     → is_none m (differs m x) (all_codes m.vars) ≡ eqb (amount m (turns m x)) 0
 ignored_state m x low =
     none_any (differs m x) (seen_ones m)
-    ∙ ap not (same_bool (list_any (differs m x) (seen_ones m)) (list_any (turns m x) (seen_ones m))
+    ∙ ap not (same_truth (list_any (differs m x) (seen_ones m)) (list_any (turns m x) (seen_ones m))
     (differs_turned m x low) (turned_differs m x low))
     ∙ sym (none_any (turns m x) (seen_ones m))
 

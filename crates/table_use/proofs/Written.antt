@@ -13,12 +13,6 @@ next : (now new one rest all : List ℕ) → new ≡ now ++ one → now ++ (one 
 next now new one rest all made was =
     ap (λ (l : List ℕ). l ++ rest) made ∙ append_assoc now one rest ∙ was
 
--- two texts that are written one after another
-pub both : (into old new one rest : List ℕ) → old ≡ into ++ one → new ≡ old ++ rest
-    → new ≡ into ++ (one ++ rest)
-both into old new one rest was made =
-    made ∙ ap (λ (l : List ℕ). l ++ rest) was ∙ append_assoc into one rest
-
 -- nothing is left
 whole : (now rest all : List ℕ) → rest ≡ [] → now ++ rest ≡ all → now ≡ all
 whole now rest all none was =

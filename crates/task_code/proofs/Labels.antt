@@ -1,5 +1,5 @@
 -- The words for variables and results.
-use Rattle.std.proofs.Common.{◌≡◌, ℕ, zero, suc, ◌+◌, ◌-◌, ◌<◌, ◌≤◌, List, [], ◌∷◌, ◌++◌, map, length, slice_get, Option, Some, None, refl, ap, sym, ◌∙◌, arith, append_assoc, codes}
+use Rattle.std.proofs.Common.{◌≡◌, ℕ, zero, suc, ◌+◌, ◌-◌, ◌≤◌, List, [], ◌∷◌, ◌++◌, map, length, slice_get, Option, Some, refl, ap, sym, ◌∙◌, arith, append_assoc, codes}
 use Rattle.std.specs.Prelude.{unwrap_or}
 use Rattle.transition_table.specs.declared.machine.Machine.{Machine}
 use Rattle.transition_table.specs.declared.network.Network.{Network}
@@ -7,32 +7,16 @@ use Rattle.transition_table.specs.declared.decl.StateDecl.{StateDecl}
 use Rattle.transition_table.specs.NetworkNames.{event_name}
 use Rattle.task_code.specs.Listings.{labels, label}
 use Rattle.task_code.specs.inner.Labels.{result_label}
-use Rattle.domains.proofs.AllCodes.{long_map}
 use Rattle.transition_table.proofs.Ranges.{vars_length}
 use Rattle.decision_diagram.proofs.ListItems.{read_within}
-
-pub front : {X : Type 0} (xs ys : List X) (i : ℕ) → i < length xs
-    → slice_get (xs ++ ys) i ≡ slice_get xs i
-front [] ys i low = absurd (omega arith)
-front (x ∷ xs) ys zero low = refl
-front (x ∷ xs) ys (suc i) low = front xs ys i (omega arith)
+use Rattle.std.proofs.lemmas.Option.{slice_get_past}
+use Rattle.polis_base.proofs.Places.{get_left, get_map, length_map}
 
 pub behind : {X : Type 0} (xs ys : List X) (i j : ℕ) → i ≡ length xs + j
     → slice_get (xs ++ ys) i ≡ slice_get ys j
 behind [] ys i j e = let f : i ≡ j = omega arith in ap (slice_get ys) f
 behind (x ∷ xs) ys zero j e = absurd (omega arith)
 behind (x ∷ xs) ys (suc i) j e = behind xs ys i j (omega arith)
-
-none : {X : Type 0} (xs : List X) (i : ℕ) → length xs ≤ i → slice_get xs i ≡ None
-none [] i high = refl
-none (x ∷ xs) zero high = absurd (omega arith)
-none (x ∷ xs) (suc i) high = none xs i (omega arith)
-
-mapped : {X Y : Type 0} (f : X → Y) (xs : List X) (i : ℕ) (x : X) → slice_get xs i ≡ Some x
-    → slice_get (map f xs) i ≡ Some (f x)
-mapped f [] i x e = cc
-mapped f (y ∷ ys) zero x e = let h : y ≡ x = cc in ap (λ z. Some (f z)) h
-mapped f (y ∷ ys) (suc i) x e = mapped f ys i x e
 
 module _ (net : Network) (m : Machine) where
   abbrev pub ins : List (List ℕ)
@@ -62,29 +46,29 @@ module _ (net : Network) (m : Machine) where
       → label net m i ≡ codes "in " ++ event_name net e
   input_words i e is =
       let low = read_within m.inputs i e is in
-      let l = long_map (λ e. codes "in " ++ event_name net e) m.inputs in
+      let l = length_map (λ e. codes "in " ++ event_name net e) m.inputs in
       at_label i
       ∙ ap (λ (o : Option (List ℕ)). unwrap_or o [])
-      (front ins (sts ++ ((codes "go" ∷ tos) ++ outs)) i (omega arith)
-      ∙ mapped (λ e. codes "in " ++ event_name net e) m.inputs i e is)
+      (get_left ins (sts ++ ((codes "go" ∷ tos) ++ outs)) i (omega arith)
+      ∙ get_map (λ e. codes "in " ++ event_name net e) m.inputs i e is)
 
   pub state_words : (i k : ℕ) (state : StateDecl) → slice_get m.states k ≡ Some state
       → i ≡ length m.inputs + k → label net m i ≡ codes "st " ++ state.name
   state_words i k state is e =
       let low = read_within m.states k state is in
-      let l = long_map (λ e. codes "in " ++ event_name net e) m.inputs in
-      let n = long_map (λ (state : StateDecl). codes "st " ++ state.name) m.states in
+      let l = length_map (λ e. codes "in " ++ event_name net e) m.inputs in
+      let n = length_map (λ (state : StateDecl). codes "st " ++ state.name) m.states in
       at_label i
       ∙ ap (λ (o : Option (List ℕ)). unwrap_or o [])
       (behind ins (sts ++ ((codes "go" ∷ tos) ++ outs)) i k (omega arith)
-      ∙ front sts ((codes "go" ∷ tos) ++ outs) k (omega arith)
-      ∙ mapped (λ (state : StateDecl). codes "st " ++ state.name) m.states k state is)
+      ∙ get_left sts ((codes "go" ∷ tos) ++ outs) k (omega arith)
+      ∙ get_map (λ (state : StateDecl). codes "st " ++ state.name) m.states k state is)
 
   at_result : (y i : ℕ) → i ≡ length m.inputs + length m.states + y
       → label net m i ≡ unwrap_or (slice_get ((codes "go" ∷ tos) ++ outs) y) []
   at_result y i e =
-      let l = long_map (λ e. codes "in " ++ event_name net e) m.inputs in
-      let n = long_map (λ (state : StateDecl). codes "st " ++ state.name) m.states in
+      let l = length_map (λ e. codes "in " ++ event_name net e) m.inputs in
+      let n = length_map (λ (state : StateDecl). codes "st " ++ state.name) m.states in
       at_label i
       ∙ ap (λ (o : Option (List ℕ)). unwrap_or o [])
       (behind ins (sts ++ ((codes "go" ∷ tos) ++ outs)) i (length m.states + y) (omega arith)
@@ -103,34 +87,34 @@ module _ (net : Network) (m : Machine) where
   to_words y k state is e =
       let v = vars_length m in
       let low = read_within m.states k state is in
-      let n = long_map (λ (state : StateDecl). codes "to " ++ state.name) m.states in
+      let n = length_map (λ (state : StateDecl). codes "to " ++ state.name) m.states in
       let f : y ≡ suc k = omega arith in
       at_result y (length m.vars + y) (omega arith)
       ∙ ap (λ (o : Option (List ℕ)). unwrap_or o [])
       (ap (slice_get ((codes "go" ∷ tos) ++ outs)) f
-      ∙ front tos outs k (omega arith)
-      ∙ mapped (λ (state : StateDecl). codes "to " ++ state.name) m.states k state is)
+      ∙ get_left tos outs k (omega arith)
+      ∙ get_map (λ (state : StateDecl). codes "to " ++ state.name) m.states k state is)
 
   pub out_words : (y k e : ℕ) → slice_get m.outputs k ≡ Some e → y ≡ 1 + length m.states + k
       → result_label net m y ≡ codes "out " ++ event_name net e
   out_words y k e is at =
       let v = vars_length m in
-      let n = long_map (λ (state : StateDecl). codes "to " ++ state.name) m.states in
+      let n = length_map (λ (state : StateDecl). codes "to " ++ state.name) m.states in
       at_result y (length m.vars + y) (omega arith)
       ∙ ap (λ (o : Option (List ℕ)). unwrap_or o [])
       (behind (codes "go" ∷ tos) outs y k (omega arith)
-      ∙ mapped (λ e. codes "out " ++ event_name net e) m.outputs k e is)
+      ∙ get_map (λ e. codes "out " ++ event_name net e) m.outputs k e is)
 
   pub no_words : (y : ℕ) → 1 + length m.states + length m.outputs ≤ y → result_label net m y ≡ []
   no_words y high =
       let v = vars_length m in
-      let n = long_map (λ (state : StateDecl). codes "to " ++ state.name) m.states in
-      let l = long_map (λ e. codes "out " ++ event_name net e) m.outputs in
+      let n = length_map (λ (state : StateDecl). codes "to " ++ state.name) m.states in
+      let l = length_map (λ e. codes "out " ++ event_name net e) m.outputs in
       let k : ℕ = y - (1 + length m.states) in
       at_result y (length m.vars + y) (omega arith)
       ∙ ap (λ (o : Option (List ℕ)). unwrap_or o [])
       (behind (codes "go" ∷ tos) outs y k (omega arith)
-      ∙ none outs k (omega arith))
+      ∙ slice_get_past outs k (omega arith))
 
 -- two texts, one after the other
 pub two_texts : (old mid new a b : List ℕ) → mid ≡ old ++ a → new ≡ mid ++ b → (w : List ℕ)

@@ -1,14 +1,9 @@
 -- One more line.
-use Rattle.std.proofs.Common.{◌≡◌, ℕ, zero, suc, ◌+◌, List, [], ◌∷◌, ◌++◌, drop, slice_get, Some, ap, sym, ◌∙◌, arith, append_assoc, decimal, codes}
+use Rattle.std.proofs.Common.{◌≡◌, ℕ, suc, ◌+◌, List, ◌∷◌, ◌++◌, drop, slice_get, Some, ap, sym, ◌∙◌, arith, append_assoc, decimal, codes}
 use Rattle.polis_base.specs.Lines.{line}
 use Rattle.task_code.specs.Listings.{numbered_lines}
 use Rattle.task_code.specs.inner.Labels.{others}
-
-pub drop_one : {X : Type 0} (xs : List X) (k : ℕ) (x : X) → slice_get xs k ≡ Some x
-    → drop k xs ≡ x ∷ drop (suc k) xs
-drop_one [] k x e = cc
-drop_one {X = X} (y ∷ ys) zero x e = let f : y ≡ x = cc in ap (λ (z : X). z ∷ ys) f
-drop_one (y ∷ ys) (suc k) x e = drop_one ys k x e
+use Rattle.polis_base.proofs.Places.{drop_one}
 
 pub more_lines : {X : Type 0} (words : X → List ℕ) (xs : List X) (k : ℕ) (x : X)
     (out new whole : List ℕ) → out ++ numbered_lines words k (drop k xs) ≡ whole

@@ -1,5 +1,5 @@
 -- Reading lists, and one more item.
-use Rattle.std.proofs.Common.{◌≡◌, ℕ, zero, suc, ◌+◌, ◌<◌, ◌≤◌, ⊎_elim, Bool, false, cond, ◌==◌, List, ◌∷◌, ◌++◌, map, length, take, drop, slice_get, slice_index, Some, refl, ap, sym, ◌∙◌, arith, append_assoc, []}
+use Rattle.std.proofs.Common.{◌≡◌, ℕ, zero, suc, ◌+◌, ◌<◌, ◌≤◌, ⊎_elim, Bool, false, cond, ◌==◌, List, ◌∷◌, ◌++◌, map, length, drop, slice_get, slice_index, Some, refl, ap, sym, ◌∙◌, arith, append_assoc, []}
 use Rattle.std.proofs.lemmas.Bool.{cases_lt, ne_eqb}
 use Rattle.polis_base.specs.Lists.{upto}
 use Rattle.sgraph.specs.declared.vertex.Vertex.{Vertex}
@@ -9,16 +9,7 @@ use Rattle.sgraph.specs.declared.vertex.Vertex.TheVariants.{Assign}
 use Rattle.task_code.specs.Codes.{width, start, given_by, laid_out}
 use Rattle.task_code.proofs.LaidOut.{start_next}
 use Rattle.sgraph.proofs.NextNodes.{got}
-use Rattle.decision_diagram.proofs.ByVariable.{index_append}
-
-map_push : (f : ℕ → ℕ) (xs : List ℕ) (x : ℕ) → map f (xs ++ x ∷ []) ≡ map f xs ++ f x ∷ []
-map_push f [] x = refl
-map_push f (y ∷ ys) x = ap (λ (zs : List ℕ). f y ∷ zs) (map_push f ys x)
-
-take_one : (xs : List ℕ) (i x : ℕ) → slice_get xs i ≡ Some x → take (suc i) xs ≡ take i xs ++ x ∷ []
-take_one [] i x e = cc
-take_one (y ∷ ys) zero x e = let f : y ≡ x = cc in ap (λ (n : ℕ). n ∷ []) f
-take_one (y ∷ ys) (suc i) x e = ap (λ (zs : List ℕ). y ∷ zs) (take_one ys i x e)
+use Rattle.polis_base.proofs.Places.{index_append, index_end, length_push, map_push}
 
 -- one more start
 pub one_start : (g : List Vertex) (places more : List ℕ) (k next : ℕ)
@@ -42,18 +33,10 @@ next_start g k next wide v is at w =
     let e : start g (k + 1) ≡ start g (suc k) = ap (start g) f in
     omega arith
 
-index_last : (xs : List ℕ) (x : ℕ) → slice_index (xs ++ x ∷ []) (length xs) ≡ x
-index_last [] x = refl
-index_last (y ∷ ys) x = index_last ys x
-
-long_push : (xs : List ℕ) (x : ℕ) → length (xs ++ x ∷ []) ≡ suc (length xs)
-long_push [] x = refl
-long_push (y ∷ ys) x = ap suc (long_push ys x)
-
 long_places : (f : ℕ → ℕ) (n : ℕ) → length (map f (upto n)) ≡ n
 long_places f zero = refl
 long_places f (suc n) = ap (λ (xs : List ℕ). length xs) (map_push f (upto n) n)
-    ∙ long_push (map f (upto n)) (f n) ∙ ap suc (long_places f n)
+    ∙ length_push (map f (upto n)) (f n) ∙ ap suc (long_places f n)
 
 pub long_starts : (g : List Vertex) (places : List ℕ) → places ≡ map (start g) (upto (length g))
     → length places ≡ length g
@@ -67,7 +50,7 @@ place_at f (suc n) j low =
     ∙ ⊎_elim
     (λ less. index_append (map f (upto n)) (f n ∷ []) j (omega arith) ∙ place_at f n j less)
     (λ more. let e : j ≡ length (map f (upto n)) = omega arith in let h : n ≡ j = omega arith in
-    ap (slice_index (map f (upto n) ++ f n ∷ [])) e ∙ index_last (map f (upto n)) (f n)
+    ap (slice_index (map f (upto n) ++ f n ∷ [])) e ∙ index_end (map f (upto n)) (f n)
     ∙ ap f h)
     (cases_lt j n)
 

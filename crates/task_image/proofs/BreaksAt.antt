@@ -2,7 +2,7 @@
 use Rattle.std.proofs.Common.{◌≡◌, ℕ, zero, suc, ◌+◌, ◌≤◌, Bool, true, false, cond, eqb, List, [], ◌∷◌, ◌++◌, length, Result, Ok, Err, refl, sym, ap, subst, ◌∙◌, arith, inl, inr}
 use Rattle.std.specs.Prelude.{nat_lt}
 use Rattle.std.specs.List.{concat, list_all}
-use Rattle.std.proofs.lemmas.Bool.{eqb-true}
+use Rattle.std.proofs.lemmas.Bool.{eqb-true, ltb-true}
 use Rattle.std.proofs.lemmas.List.{append-nil, nil_from_length, length-append}
 use Rattle.task_image.specs.declared.image.ImageMachine.{ImageMachine}
 use Rattle.task_image.specs.Decoding.{AreBytesOf, BreaksAt, Decodes}
@@ -10,16 +10,16 @@ use Rattle.task_image.specs.Fields.{image_fields, ImageBytes}
 use Rattle.task_image.specs.inner.FieldReaders.{Read, ◌>>=◌}
 use Rattle.task_image.specs.inner.Reading.{machines_at, image_at}
 use Rattle.task_image.proofs.IsReader.{IsBytes, Begins, left_of, bind_ok, bind_err, ok_is, ok_no_err}
-use Rattle.task_image.proofs.FieldReaders.{and_left, and_right, lt_true}
 use Rattle.task_image.proofs.MachinesAt.{MachinesOk, machines_reads}
 use Rattle.task_image.proofs.IsImage.{image_to, image_few, image_from}
+use Rattle.polis_base.proofs.Bools.{and_first, and_second}
 
 pub fit : (bytes : List ℕ) → list_all (λ byte. nat_lt byte 256) bytes ≡ true → IsBytes bytes
 fit [] all i = omega arith
 fit (b ∷ bytes) all zero =
-    lt_true b 256 (and_left (nat_lt b 256) (list_all (λ byte. nat_lt byte 256) bytes) all)
+    ltb-true b 256 (and_first (nat_lt b 256) (list_all (λ byte. nat_lt byte 256) bytes) all)
 fit (b ∷ bytes) all (suc i) =
-    fit bytes (and_right (nat_lt b 256) (list_all (λ byte. nat_lt byte 256) bytes) all) i
+    fit bytes (and_second (nat_lt b 256) (list_all (λ byte. nat_lt byte 256) bytes) all) i
 
 -- nothing may be left
 abbrev ended : List ImageMachine × List ℕ → Result (List ImageMachine) ℕ

@@ -1,6 +1,5 @@
 -- A test by its variable and its targets; code that was read.
-use Rattle.std.proofs.Common.{◌≡◌, ℕ, ◌-◌, List, length, take, drop, Ok, Err, refl, sym, ap, ◌∙◌, arith}
-use Rattle.std.proofs.lemmas.List.{length-drop}
+use Rattle.std.proofs.Common.{◌≡◌, ℕ, ◌-◌, List, length, take, drop, Ok, Err, refl, sym, ap, ◌∙◌}
 use Rattle.std.specs.Prelude.{nat_lt, slice_get, slice_index, Some}
 use Rattle.std.proofs.lemmas.Option.{get_or_from_slice_get}
 use Rattle.polis_base.specs.Names.{is_name}
@@ -15,7 +14,7 @@ use Rattle.task_image.specs.inner.Reading.{target_at, test_at, sizes_at, code_at
 use Rattle.task_image.proofs.IsImage.{machine_to}
 use Rattle.task_image.proofs.MachinesAt.{machine_reads}
 use Rattle.task_image.proofs.IsReader.{IsBytes}
-use Rattle.task_image.proofs.Prefixes.{take_all}
+use Rattle.polis_base.proofs.Places.{to_the_end}
 
 pub test_given : (vars : List ℕ) (count k : ℕ) (bytes : List ℕ) (var : ℕ) (rest : List ℕ)
     (size : ℕ) (r : Read (List ℕ))
@@ -98,12 +97,6 @@ unfolding machine_at
 fails_at_code bytes width r1 name r2 vars r3 results r4 NoMemory e1 e2 e3 e4 h = tt
 fails_at_code bytes width r1 name r2 vars r3 results r4 (Bad left) e1 e2 e3 e4 h = rw (e1, e2, e3, e4, h) refl
 
--- so many of the bytes after the first n are all of them
-pub rest_whole : (bytes : List ℕ) (n : ℕ) → take (length bytes - n) (drop n bytes) ≡ drop n bytes
-rest_whole bytes n =
-    let long = length-drop n bytes in
-    take_all (drop n bytes) (length bytes - n) (omega (arith, long))
-
 -- the code of a machine that was read
 pub code_is : (bytes : List ℕ) (width : ℕ) (r1 name : List ℕ) (n : ℕ)
     (vars r3 results r4 : List ℕ) (c : List Instr) (after : List ℕ) → IsBytes bytes
@@ -116,7 +109,7 @@ pub code_is : (bytes : List ℕ) (width : ℕ) (r1 name : List ℕ) (n : ℕ)
     → IsCode c
 code_is bytes width r1 name n vars r3 results r4 c after fits same e1 e2 e3 e4 e5 =
     let left : drop width r1 ≡ take (length r1 - n) (drop n r1) =
-    ap (λ (m : ℕ). drop m r1) (sym same) ∙ sym (rest_whole r1 n) in
+    ap (λ (m : ℕ). drop m r1) (sym same) ∙ sym (to_the_end r1 n) in
     let t = machine_reads.takes bytes
     (record { name = name; vars = vars; results = results; code = c }, after) fits
     (whole bytes width r1 name (drop width r1) vars r3 results r4 c after e1 e2

@@ -1,13 +1,14 @@
 -- Readers of single fields.
 use Rattle.std.proofs.Common.{◌≡◌, ℕ, suc, ◌+◌, ◌^◌, ◌<◌, ◌≤◌, Bool, true, false, cond, List, [], ◌∷◌, ◌++◌, length, take, drop, Ok, Err, refl, sym, ap, subst, ◌∙◌, arith, inl, inr}
-use Rattle.std.specs.Prelude.{◌&&◌, nat_le, nat_lt}
+use Rattle.std.specs.Prelude.{◌&&◌, nat_le}
 use Rattle.std.specs.Int.{w32, from_be_bytes, to_be_bytes}
 use Rattle.std.specs.List.{concat}
-use Rattle.std.proofs.lemmas.Bool.{cases_lt}
+use Rattle.std.proofs.lemmas.Bool.{cases_lt, leb-true, le-leb}
 use Rattle.std.proofs.lemmas.List.{append-nil, take_at, drop_at, take-append-drop, length-append, length-take, get_or-drop, get_or-take, get_or_past}
 use Rattle.std.proofs.lemmas.Nat.{be_bytes_4, from_be_bytes-to_be_bytes_4}
 use Rattle.task_image.specs.inner.FieldReaders.{Read, ◌>>=◌, byte_at, bytes_at, number_at}
 use Rattle.task_image.proofs.IsReader.{IsBytes, Takes, IsReader, left_of, shorter, bind_ok, bind_err, ok_is, ok_no_err}
+use Rattle.polis_base.proofs.Bools.{and_first, and_second}
 
 guard_ok : {A : Type 0} (b : Bool) (n : ℕ) (x y : A) → cond b (Ok x) (Err n) ≡ Ok y
     → (b ≡ true) × (x ≡ y)
@@ -18,18 +19,6 @@ guard_err : {A : Type 0} (b : Bool) (n left : ℕ) (x : A) → cond b (Ok x) (Er
     → n ≡ left
 guard_err true n left x e = absurd (ok_no_err x left e)
 guard_err false n left x e = cc
-
-pub and_left : (a b : Bool) → (a && b) ≡ true → a ≡ true
-and_left true b e = refl
-and_left false b e = absurd cc
-
-pub and_right : (a b : Bool) → (a && b) ≡ true → b ≡ true
-and_right true b e = e
-and_right false b e = absurd cc
-
-pub both : (a b : Bool) → a ≡ true → b ≡ true → (a && b) ≡ true
-both true b p q = q
-both false b p q = p
 
 -- ---- one field
 module _ {X : Type 0} (write : X → List ℕ) (p : X → Type 0) (read : List ℕ → Read X)
@@ -112,35 +101,23 @@ take_fits n bytes h i =
           (omega arith)
     ]
 
-pub lt_true : (a b : ℕ) → nat_lt a b ≡ true → a < b
-lt_true a b e = grind arith
-
-pub true_lt : (a b : ℕ) → a < b → nat_lt a b ≡ true
-true_lt a b e = grind arith
-
-pub le_true : (a b : ℕ) → nat_le a b ≡ true → a ≤ b
-le_true a b e = grind arith
-
-pub true_le : (a b : ℕ) → a ≤ b → nat_le a b ≡ true
-true_le a b e = grind arith
-
 bytes_takes : (n : ℕ) (allowed : List ℕ → Bool) (bytes : List ℕ) (x : List ℕ × List ℕ)
     → IsBytes bytes → bytes_at n allowed bytes ≡ Ok x
     → Takes bytes x.0 x.1 × ((length x.0 ≡ n) × (allowed x.0 ≡ true))
 bytes_takes n allowed bytes x fits e =
     let g = guard_ok (nat_le n (length bytes) && allowed (take n bytes)) (length bytes)
     (take n bytes, drop n bytes) x e in
-    let long = le_true n (length bytes) (and_left _ _ g.0) in
+    let long = leb-true n (length bytes) (and_first _ _ g.0) in
     subst (λ (y : List ℕ × List ℕ). Takes bytes y.0 y.1
     × ((length y.0 ≡ n) × (allowed y.0 ≡ true))) g.1 (
       record { parts = sym (take-append-drop n bytes); rest_fits = drop_fits n bytes fits },
-      (omega (arith, long, length-take n bytes), and_right _ _ g.0),
+      (omega (arith, long, length-take n bytes), and_second _ _ g.0),
     )
 
 bytes_again : (n : ℕ) (allowed : List ℕ → Bool) (x rest : List ℕ)
     → (length x ≡ n) × (allowed x ≡ true) → bytes_at n allowed (x ++ rest) ≡ Ok (x, rest)
 bytes_again n allowed x rest p =
-    let long = true_le n (length (x ++ rest)) (omega (arith, p.0, length-append x rest)) in
+    let long = le-leb n (length (x ++ rest)) (omega (arith, p.0, length-append x rest)) in
     rw (take_at x rest n p.0, drop_at x rest n p.0, long, p.1) refl
 
 bytes_stops : (n : ℕ) (allowed : List ℕ → Bool) (bytes : List ℕ) (left : ℕ)

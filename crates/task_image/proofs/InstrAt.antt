@@ -9,7 +9,9 @@ use Rattle.task_image.specs.Fields.{one_byte, four_bytes, instr_fields}
 use Rattle.task_image.specs.inner.FieldReaders.{Read, ◌>>=◌, within, from_to, byte_at, each_at}
 use Rattle.task_image.specs.inner.Reading.{target_at, test_at, set_at, goto_at, greatest_tag, after_tag, instr_at}
 use Rattle.task_image.proofs.IsReader.{Takes, IsReader, ok_is, ok_no_err, then_reads, map_reads, same_reads, SoMany, some_many, each_reads, ended_most}
-use Rattle.task_image.proofs.FieldReaders.{byte_reads, number_reads, le_true, true_le, lt_true, true_lt, both, and_right}
+use Rattle.task_image.proofs.FieldReaders.{byte_reads, number_reads}
+use Rattle.std.proofs.lemmas.Bool.{and_from, le-leb, leb-true, lt-ltb, ltb-true}
+use Rattle.polis_base.proofs.Bools.{and_second}
 
 -- ---- what instructions name
 abbrev pub tag_of : Instr → ℕ
@@ -73,8 +75,8 @@ next_place : (count k : ℕ) → suc k < count → count < 2 ^ 32
 next_place count k later few = (
   k + 1,
   (
-    both (nat_le (k + 1) (k + 1)) (nat_lt (k + 1) count) (true_le (k + 1) (k + 1) (omega arith))
-        (true_lt (k + 1) count (omega arith)),
+    and_from (nat_le (k + 1) (k + 1)) (nat_lt (k + 1) count) (le-leb (k + 1) (k + 1) (omega arith))
+        (lt-ltb (k + 1) count (omega arith)),
     omega arith,
   ),
 )
@@ -164,7 +166,7 @@ module _ (vars results : List ℕ) (count k : ℕ) (few : count < 2 ^ 32) where
       (λ i. map four_bytes (targets_of i)) TestOk
       (λ v bytes. each_at (λ j. target_at count k) 0 (slice_index vars v) bytes
       >>= λ targets. Ok (Test v targets.0, targets.1))
-      (byte_reads (λ v. nat_lt v (length vars)) (0, true_lt 0 (length vars) some))
+      (byte_reads (λ v. nat_lt v (length vars)) (0, lt-ltb 0 (length vars) some))
       (λ v p. test_rest later v) (λ v p. some_test later v))
       test_to test_from test_is
 
@@ -193,7 +195,7 @@ module _ (vars results : List ℕ) (count k : ℕ) (few : count < 2 ^ 32) where
       (byte_at (λ code. nat_lt code (slice_index results v)))
       code_of (λ c. Set v c) (λ i. (tag_of i ≡ 2) × (first_of i ≡ v))
       (byte_reads (λ code. nat_lt code (slice_index results v))
-      (0, true_lt 0 (slice_index results v) some))
+      (0, lt-ltb 0 (slice_index results v) some))
       (λ c. (refl, (refl, refl)))
       (set_made v))
       (λ i p. (
@@ -231,7 +233,7 @@ module _ (vars results : List ℕ) (count k : ℕ) (few : count < 2 ^ 32) where
   set_is (Goto target) p = absurd (omega (arith, p.0))
 
   some_set : (v : ℕ) → 0 < slice_index results v → (i : Instr) × (first_of i ≡ v) × SetOk i
-  some_set v some = (Set v 0, refl, (refl, true_lt 0 (slice_index results v) some))
+  some_set v some = (Set v 0, refl, (refl, lt-ltb 0 (slice_index results v) some))
 
   set_reads : HaveCodes vars results
       → IsReader operands (λ i. (tag_of i ≡ 2) × OperandsOk vars results count k i)
@@ -247,9 +249,9 @@ module _ (vars results : List ℕ) (count k : ℕ) (few : count < 2 ^ 32) where
       (λ i. one_byte (code_of i) ∷ []) SetOk
       (λ v bytes. byte_at (λ code. nat_lt code (slice_index results v)) bytes
       >>= λ code. Ok (Set v code.0, code.1))
-      (byte_reads (λ v. nat_lt v (length results)) (0, true_lt 0 (length results) some.result))
-      (λ v p. set_rest v (some.code v (lt_true v (length results) p)))
-      (λ v p. some_set v (some.code v (lt_true v (length results) p))))
+      (byte_reads (λ v. nat_lt v (length results)) (0, lt-ltb 0 (length results) some.result))
+      (λ v p. set_rest v (some.code v (ltb-true v (length results) p)))
+      (λ v p. some_set v (some.code v (ltb-true v (length results) p))))
       set_to set_from set_is
 
   -- ---- gotos and halts
@@ -337,13 +339,13 @@ module _ (vars results : List ℕ) (count k : ℕ) (few : count < 2 ^ 32) where
   some_operands some zero le later = (Halt, refl, tt)
   some_operands some (suc zero) le later =
       let i = some_test (later (omega arith)) 0 in
-      (Test 0 (targets_of i.0), refl, (true_lt 0 (length vars) some.var, i.2.1))
+      (Test 0 (targets_of i.0), refl, (lt-ltb 0 (length vars) some.var, i.2.1))
   some_operands some (suc (suc zero)) le later = (
     Set 0 0,
     refl,
     (
-      true_lt 0 (length results) some.result,
-      true_lt 0 (slice_index results 0) (some.code 0 some.result),
+      lt-ltb 0 (length results) some.result,
+      lt-ltb 0 (slice_index results 0) (some.code 0 some.result),
     ),
   )
   some_operands some (suc (suc (suc n))) le later =
@@ -359,11 +361,11 @@ greatest_le count k = of (nat_lt (suc k) count)
     of false = omega arith
 
 within_most : (most n : ℕ) → within 0 most n ≡ true → n ≤ most
-within_most most n e = le_true n most (and_right (nat_le 0 n) (nat_le n most) e)
+within_most most n e = leb-true n most (and_second (nat_le 0 n) (nat_le n most) e)
 
 -- a halt may stand anywhere
 halt_tag : (count k : ℕ) → within 0 (greatest_tag count k) 0 ≡ true
-halt_tag count k = true_le 0 (greatest_tag count k) (omega arith)
+halt_tag count k = le-leb 0 (greatest_tag count k) (omega arith)
 
 tag_le : (count k t : ℕ) → within 0 (greatest_tag count k) t ≡ true → t ≤ 3
 tag_le count k t p = omega (arith, within_most (greatest_tag count k) t p, greatest_le count k)
@@ -372,7 +374,7 @@ tag_later : (count k t : ℕ) → within 0 (greatest_tag count k) t ≡ true →
 tag_later count k t p some = by (nat_lt (suc k) count) refl (within_most (greatest_tag count k) t p)
   where
     by : (b : Bool) → nat_lt (suc k) count ≡ b → t ≤ cond b 3 0 → suc k < count
-    by true e le = lt_true (suc k) count e
+    by true e le = ltb-true (suc k) count e
     by false e le = absurd (omega (arith, le, some))
 
 instr_is : (i : Instr) → (one_byte (tag_of i) ∷ []) ++ operands i ≡ instr_fields i

@@ -12,17 +12,17 @@ use Rattle.task_image.specs.Images.{IsCodeOf, IsImageMachine, IsImage}
 use Rattle.task_image.specs.inner.FieldReaders.{within}
 use Rattle.task_image.specs.inner.Reading.{greatest_tag}
 use Rattle.task_image.proofs.IsReader.{AllFrom}
-use Rattle.task_image.proofs.FieldReaders.{le_true, true_le, lt_true, true_lt, both, and_left, and_right}
 use Rattle.task_image.proofs.InstrAt.{tag_of, TargetOk, OperandsOk, InstrOk}
 use Rattle.task_image.proofs.MachinesAt.{low_of, high_of, in_range, CodeOk, MachineOk, MachinesOk}
-use Rattle.task_image.proofs.Prefixes.{none_some, some_is}
+use Rattle.task_image.proofs.Prefixes.{none_some}
+use Rattle.std.proofs.lemmas.Bool.{and_from, le-leb, le-ltb, leb-true, lt-ltb, ltb-true}
+use Rattle.domains.proofs.FittingCodes.{size_some}
+use Rattle.polis_base.proofs.Bools.{and_first, and_second}
+use Rattle.polis_base.proofs.Places.{some_is}
 
 -- ---- tests
 lt_false : (a b : ℕ) → nat_lt a b ≡ false → b ≤ a
 lt_false a b e = grind arith
-
-false_lt : (a b : ℕ) → b ≤ a → nat_lt a b ≡ false
-false_lt a b e = grind arith
 
 -- ---- each item by its place
 all_get : {X : Type 0} (p : ℕ → X → Type 0) (k : ℕ) (xs : List X) (j : ℕ) (x : X)
@@ -59,21 +59,13 @@ all_at p xs each = all_from p 0 xs (λ j x e.
     subst (λ (n : ℕ). p n x) same (each j x e))
 
 -- ---- code
-size_some : (sizes : List ℕ) (v : ℕ) → are_sizes sizes ≡ true → v < length sizes
-    → 1 ≤ slice_index sizes v
-size_some [] v e lt = absurd (omega (arith, lt))
-size_some (s ∷ sizes) zero e lt =
-    le_true 1 s (and_left (nat_le 1 s) (nat_le s 33) (and_left (nat_le 1 s && nat_le s 33)
-    (are_sizes sizes) e))
-size_some (s ∷ sizes) (suc v) e lt =
-    size_some sizes v (and_right (nat_le 1 s && nat_le s 33) (are_sizes sizes) e) (omega arith)
 
 target_fits : (count k target : ℕ) → TargetOk count k target → (k < target) × (target < count)
 target_fits count k target ok =
-    let low = le_true (k + 1) target (and_left (nat_le (k + 1) target) (nat_lt target count) ok.0)
+    let low = leb-true (k + 1) target (and_first (nat_le (k + 1) target) (nat_lt target count) ok.0)
     in
-    let high = lt_true target count
-    (and_right (nat_le (k + 1) target) (nat_lt target count) ok.0) in
+    let high = ltb-true target count
+    (and_second (nat_le (k + 1) target) (nat_lt target count) ok.0) in
     (omega arith, high)
 
 halt_is : (i : Instr) → tag_of i ≤ 0 → i ≡ Halt
@@ -95,7 +87,7 @@ module _ (vars results : List ℕ) (c : List Instr) where
   operands_fit k (Set result code) sizes ok = tt
   operands_fit k (Goto target) sizes ok = target_fits (length c) k target ok
   operands_fit k (Test var targets) sizes ok =
-      let some = size_some vars var sizes (lt_true var (length vars) ok.0) in
+      let some = size_some vars var sizes (ltb-true var (length vars) ok.0) in
       let long = ok.1.0 in (
         omega arith,
         λ j lt.
@@ -106,17 +98,17 @@ module _ (vars results : List ℕ) (c : List Instr) where
 
   last_is : (k : ℕ) (i : Instr) → k + 1 ≡ length c → InstrOk vars results (length c) k i → i ≡ Halt
   last_is k i e ok =
-      let none = false_lt (suc k) (length c) (omega arith) in
+      let none = le-ltb (suc k) (length c) (omega arith) in
       let tag = subst (λ (b : Bool). within 0 (cond b 3 0) (tag_of i) ≡ true) none ok.0 in
-      halt_is i (le_true (tag_of i) 0 (and_right (nat_le 0 (tag_of i)) (nat_le (tag_of i) 0) tag))
+      halt_is i (leb-true (tag_of i) 0 (and_second (nat_le 0 (tag_of i)) (nat_le (tag_of i) 0) tag))
 
   pub code_to : are_sizes vars ≡ true → CodeOk vars results c → IsCodeOf vars results c
   code_to sizes ok =
       let each = all_first (InstrOk vars results (length c)) c in
       record {
         code = record {
-          some = le_true 1 (length c)
-              (and_left (nat_le 1 (length c)) (nat_lt (length c) (2 ^ 32)) ok.0.0);
+          some = leb-true 1 (length c)
+              (and_first (nat_le 1 (length c)) (nat_lt (length c) (2 ^ 32)) ok.0.0);
           few = omega (arith, ok.0.1);
           last = λ k e.
               let there = slice_get-get_or c k Halt (omega (arith, e)) in
@@ -125,11 +117,11 @@ module _ (vars results : List ℕ) (c : List Instr) where
         };
         tests = λ k var targets e.
             let i = each k (Test var targets) ok.1 e in
-            (lt_true var (length vars) i.1.0, i.1.1.0);
+            (ltb-true var (length vars) i.1.0, i.1.1.0);
         sets = λ k result code e.
             let i = each k (Set result code) ok.1 e in (
-              lt_true result (length results) i.1.0,
-              lt_true code (slice_index results result) i.1.1,
+              ltb-true result (length results) i.1.0,
+              ltb-true code (slice_index results result) i.1.1,
             );
       }
 
@@ -138,8 +130,8 @@ module _ (vars results : List ℕ) (c : List Instr) where
   target_ok k target few fits =
       let low = fits.0 in
       let high = fits.1 in (
-        both (nat_le (k + 1) target) (nat_lt target (length c))
-            (true_le (k + 1) target (omega arith)) (true_lt target (length c) high),
+        and_from (nat_le (k + 1) target) (nat_lt target (length c))
+            (le-leb (k + 1) target (omega arith)) (lt-ltb target (length c) high),
         omega arith,
       )
 
@@ -149,7 +141,7 @@ module _ (vars results : List ℕ) (c : List Instr) where
   operands_ok k (Test var targets) few is e =
       let test = is.tests k var targets e in
       let fits = is.code.each k (Test var targets) e in (
-        true_lt var (length vars) test.0,
+        lt-ltb var (length vars) test.0,
         (
           test.1,
           all_at (λ n. TargetOk (length c) k) targets (λ j t at.
@@ -161,29 +153,29 @@ module _ (vars results : List ℕ) (c : List Instr) where
       )
   operands_ok k (Set result code) few is e =
       let set = is.sets k result code e in
-      (true_lt result (length results) set.0, true_lt code (slice_index results result) set.1)
+      (lt-ltb result (length results) set.0, lt-ltb code (slice_index results result) set.1)
   operands_ok k (Goto target) few is e = target_ok k target few (is.code.each k (Goto target) e)
 
   greatest_ok : (k : ℕ) (i : Instr) → IsCode c → slice_get c k ≡ Some i
       → (b : Bool) → nat_lt (suc k) (length c) ≡ b → nat_le (tag_of i) (cond b 3 0) ≡ true
-  greatest_ok k i is e true t = true_le (tag_of i) 3 (tag_le i)
+  greatest_ok k i is e true t = le-leb (tag_of i) 3 (tag_le i)
   greatest_ok k i is e false t =
       let past = lt_false (suc k) (length c) t in
       let within : k < length c = slice_get_within c k i e in
       let halt = some_is i Halt (sym e ∙ is.last k (omega arith)) in
-      subst (λ (j : Instr). nat_le (tag_of j) 0 ≡ true) (sym halt) (true_le 0 0 (omega arith))
+      subst (λ (j : Instr). nat_le (tag_of j) 0 ≡ true) (sym halt) (le-leb 0 0 (omega arith))
 
   pub code_from : length c < 2 ^ 32 → IsCodeOf vars results c → CodeOk vars results c
   code_from few is =
       let some = is.code.some in (
         (
-          both (nat_le 1 (length c)) (nat_lt (length c) (2 ^ 32)) (true_le 1 (length c) some)
-              (true_lt (length c) (2 ^ 32) few),
+          and_from (nat_le 1 (length c)) (nat_lt (length c) (2 ^ 32)) (le-leb 1 (length c) some)
+              (lt-ltb (length c) (2 ^ 32) few),
           few,
         ),
         all_at (InstrOk vars results (length c)) c (λ k i e. (
-          both (nat_le 0 (tag_of i)) (nat_le (tag_of i) (greatest_tag (length c) k))
-              (true_le 0 (tag_of i) (omega arith))
+          and_from (nat_le 0 (tag_of i)) (nat_le (tag_of i) (greatest_tag (length c) k))
+              (le-leb 0 (tag_of i) (omega arith))
               (greatest_ok k i is.code e (nat_lt (suc k) (length c)) refl),
           operands_ok k i few is e,
         )),
@@ -194,14 +186,14 @@ pub sizes_to : (k : ℕ) (sizes : List ℕ) → AllFrom (λ k size. within 1 33 
     → are_sizes sizes ≡ true
 sizes_to k [] all = refl
 sizes_to k (s ∷ sizes) all =
-    both (nat_le 1 s && nat_le s 33) (are_sizes sizes) all.0 (sizes_to (suc k) sizes all.1)
+    and_from (nat_le 1 s && nat_le s 33) (are_sizes sizes) all.0 (sizes_to (suc k) sizes all.1)
 
 sizes_from : (k : ℕ) (sizes : List ℕ) → are_sizes sizes ≡ true
     → AllFrom (λ k size. within 1 33 size ≡ true) k sizes
 sizes_from k [] e = tt
 sizes_from k (s ∷ sizes) e = (
-  and_left (nat_le 1 s && nat_le s 33) (are_sizes sizes) e,
-  sizes_from (suc k) sizes (and_right (nat_le 1 s && nat_le s 33) (are_sizes sizes) e),
+  and_first (nat_le 1 s && nat_le s 33) (are_sizes sizes) e,
+  sizes_from (suc k) sizes (and_second (nat_le 1 s && nat_le s 33) (are_sizes sizes) e),
 )
 
 -- ---- machines
@@ -214,10 +206,10 @@ name_some (x ∷ xs) e = omega arith
 
 name_length : (xs : List ℕ) → is_name xs ≡ true → within 1 24 (length xs) ≡ true
 name_length xs e =
-    let front = and_left (nat_le (length xs) 24 && is_word xs) _ e in
+    let front = and_first (nat_le (length xs) 24 && is_word xs) _ e in
     in_range 1 24 (length xs)
-    (name_some xs (and_right (nat_le (length xs) 24) (is_word xs) front))
-    (le_true (length xs) 24 (and_left (nat_le (length xs) 24) (is_word xs) front))
+    (name_some xs (and_second (nat_le (length xs) 24) (is_word xs) front))
+    (leb-true (length xs) 24 (and_first (nat_le (length xs) 24) (is_word xs) front))
 
 pub machine_to : (m : ImageMachine) → MachineOk m → IsImageMachine m
 machine_to m ok =

@@ -2,8 +2,7 @@
 use Rattle.std.proofs.Common.{◌≡◌, ℕ, zero, suc, ◌+◌, ◌<◌, ◌≤◌, Bool, true, false, cond, eqb, List, [], ◌∷◌, ◌++◌, length, map, get_or, take, drop, Some, refl, sym, ap, subst, ◌∙◌, arith, inl, inr}
 use Rattle.std.specs.Prelude.{◌&&◌, nat_lt, slice_get, IsTrue, option_map, ◌↔◌}
 use Rattle.std.specs.List.{list_all}
-use Rattle.std.proofs.lemmas.Bool.{cases_lt, eq-eqb}
-use Rattle.std.proofs.lemmas.List.{take_at, drop_at}
+use Rattle.std.proofs.lemmas.Bool.{cases_lt, eq-eqb, false≢true, ltb-true}
 use Rattle.std.proofs.lemmas.Option.{slice_get-map, get_or_from_slice_get}
 use Rattle.domains.specs.AllCodes.{all_codes}
 use Rattle.domains.specs.Names.{is_same}
@@ -20,16 +19,11 @@ use Rattle.transition_table.specs.Orders.{codes_of}
 use Rattle.transition_table.specs.Transitions.{Transition, reading, HasWidths, IsDeterministic}
 use Rattle.task_image.specs.Verifying.{IsFirstWrong}
 use Rattle.task_image.specs.inner.Walks.{AreLaws, IsWalk}
-use Rattle.task_image.proofs.MachinesAt.{same_is}
-use Rattle.task_image.proofs.FieldReaders.{and_left, and_right, both, lt_true}
-use Rattle.task_image.proofs.Prefixes.{none_some, some_is}
-
-false_true : false ≡ true → ⊥
-false_true e = cc
-
-pub same_self : (a : List ℕ) → is_same a a ≡ true
-same_self [] = refl
-same_self (x ∷ a) = both (eqb x x) (is_same a a) (eq-eqb x x refl) (same_self a)
+use Rattle.task_image.proofs.Prefixes.{none_some}
+use Rattle.domains.proofs.Names.{same_self, same_texts}
+use Rattle.polis_base.proofs.Bools.{and_first, and_second}
+use Rattle.polis_base.proofs.Places.{length_map, some_is}
+use Rattle.transition_table.proofs.SameCodes.{by_codes}
 
 -- ---- equal lists
 pub same_next : (a b : List ℕ) (v x : ℕ) → slice_get a v ≡ Some x → slice_get b v ≡ Some x
@@ -65,46 +59,27 @@ head_same x y xs ys e = cc
 tail_same : (x y : ℕ) (xs ys : List ℕ) → x ∷ xs ≡ y ∷ ys → xs ≡ ys
 tail_same x y xs ys e = cc
 
-pub outcome_same : (o p : Outcome) → length o.next ≡ length p.next → codes_of o ≡ codes_of p
-    → o ≡ p
-outcome_same o p long e =
-    let f = fires_same o.fires p.fires
-    (head_same (cond o.fires 1 0) (cond p.fires 1 0) (o.next ++ o.outs) (p.next ++ p.outs) e) in
-    let r = tail_same (cond o.fires 1 0) (cond p.fires 1 0) (o.next ++ o.outs) (p.next ++ p.outs) e
-    in
-    let n : o.next ≡ p.next =
-    sym (take_at o.next o.outs (length p.next) long)
-    ∙ ap (take (length p.next)) r ∙ take_at p.next p.outs (length p.next) refl in
-    let u : o.outs ≡ p.outs =
-    sym (drop_at o.next o.outs (length p.next) long)
-    ∙ ap (drop (length p.next)) r ∙ drop_at p.next p.outs (length p.next) refl in
-    λ i. record { fires = f i; next = n i; outs = u i }
-
 -- ---- the table
 listed : (p : ℕ → Bool) (xs : List ℕ) (i x : ℕ) → list_all p xs ≡ true → slice_get xs i ≡ Some x
     → p x ≡ true
 listed p [] i x all e = absurd (none_some x e)
 listed p (y ∷ ys) zero x all e =
-    subst (λ (z : ℕ). p z ≡ true) (some_is y x e) (and_left (p y) (list_all p ys) all)
-listed p (y ∷ ys) (suc i) x all e = listed p ys i x (and_right (p y) (list_all p ys) all) e
+    subst (λ (z : ℕ). p z ≡ true) (some_is y x e) (and_first (p y) (list_all p ys) all)
+listed p (y ∷ ys) (suc i) x all e = listed p ys i x (and_second (p y) (list_all p ys) all) e
 
 pub number_low : (m : Machine) (t : Results) (i n : ℕ) → AreResultsOf m t
     → slice_get t.numbers i ≡ Some n → n < length t.outcomes
 number_low m t i n is e =
     let l = listed (λ k. nat_lt k (length t.outcomes)) t.numbers i n is.within e in
-    lt_true n (length t.outcomes) l
-
-map_long : {A B : Type 0} (f : A → B) (xs : List A) → length (map f xs) ≡ length xs
-map_long f [] = refl
-map_long f (x ∷ xs) = ap suc (map_long f xs)
+    ltb-true n (length t.outcomes) l
 
 pub table_long : AreLaws → (m : Machine) (t : Results) → AreResultsOf m t
     → length t.numbers ≡ product m.vars
 table_long laws m t is =
     let a : length (named t.outcomes t.numbers) ≡ length t.numbers =
-    map_long (λ k. get_or t.outcomes k []) t.numbers in
+    length_map (λ k. get_or t.outcomes k []) t.numbers in
     let b : length (map (result_codes m) (all_codes m.vars)) ≡ length (all_codes m.vars) =
-    map_long (result_codes m) (all_codes m.vars) in
+    length_map (result_codes m) (all_codes m.vars) in
     sym a ∙ ap length is.results ∙ b ∙ laws.counts_all m.vars
 
 pub table_gives : AreLaws → (m : Machine) (t : Results) (s : List ℕ) (i n : ℕ) (codes : List ℕ)
@@ -131,8 +106,8 @@ module _ (laws : AreLaws) (m : Machine) (c : List Instr) (s : List ℕ) (o : Out
   pub right_here : is_same (codes_of o) codes ≡ true → Transition m (reading s) (Exec m c s)
   right_here e =
       let by = laws.have_widths m (reading s) (outcome_by m m.rows s) (laws.outcome_by_rows m s) in
-      let same = outcome_same o (outcome_by m m.rows s) (widths.next ∙ sym by.next)
-      (same_is (codes_of o) codes e ∙ gives) in
+      let same = by_codes o (outcome_by m m.rows s) (widths.next ∙ sym by.next)
+      (same_texts (codes_of o) codes e ∙ gives) in
       subst (λ (p : Outcome). Transition m (reading s) p) (sym same ∙ is) (laws.outcome_by_rows m s)
 
   pub wrong_here : IsDeterministic m → IsTrue (fits m.vars s)
@@ -140,7 +115,7 @@ module _ (laws : AreLaws) (m : Machine) (c : List Instr) (s : List ℕ) (o : Out
   wrong_here det fit e moves =
       let same = laws.only_by_rows m s (Exec m c s) det fit moves in
       let equal : codes_of o ≡ codes = ap codes_of (is ∙ same) ∙ sym gives in
-      false_true (sym e ∙ subst (λ (xs : List ℕ). is_same (codes_of o) xs ≡ true) equal
+      false≢true (sym e ∙ subst (λ (xs : List ℕ). is_same (codes_of o) xs ≡ true) equal
       (same_self (codes_of o)))
 
 -- ---- the walk

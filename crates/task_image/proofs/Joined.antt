@@ -13,8 +13,9 @@ use Rattle.task_image.specs.declared.image.ImageMachine.{ImageMachine}
 use Rattle.task_image.specs.inner.Heads.{machine_of, joined, kept_head, IsHead, AreHeads}
 use Rattle.task_image.specs.Images.{codes_of, head_of, kept, image_of, IsCodeOf, IsImage, IsImageMachine, AreStorable}
 use Rattle.domains.specs.Tables.{are_sizes}
-use Rattle.task_image.proofs.FieldReaders.{and_left, and_right}
-use Rattle.task_image.proofs.Prefixes.{none_some, some_is, take_next}
+use Rattle.task_image.proofs.Prefixes.{none_some, take_next}
+use Rattle.polis_base.proofs.Bools.{and_first, and_second}
+use Rattle.polis_base.proofs.Places.{each_more, some_is}
 
 pub joined_length : (hs : List Head) (cs : List (List Instr)) → length hs ≡ length cs
     → length (joined hs cs) ≡ length cs
@@ -95,13 +96,13 @@ head_at (n ∷ ms) (suc k) m e = head_at ms k m e
 -- the variables are the inputs and the state variables
 some_vars : (m : Machine) → 1 ≤ length m.inputs → 1 ≤ length m.vars
 some_vars m some =
-    let sized = and_left
+    let sized = and_first
     (are_sizes m.vars && eqb (length m.vars) (length m.inputs + length m.states)
     && list_all (nat_le 2) (take (length m.inputs) m.vars)) _ m.sized_vars in
-    let front = and_left
+    let front = and_first
     (are_sizes m.vars && eqb (length m.vars) (length m.inputs + length m.states)) _ sized in
     let long = eqb-true (length m.vars) (length m.inputs + length m.states)
-    (and_right (are_sizes m.vars) (eqb (length m.vars) (length m.inputs + length m.states)) front)
+    (and_second (are_sizes m.vars) (eqb (length m.vars) (length m.inputs + length m.states)) front)
     in
     omega (arith, long, some)
 
@@ -135,14 +136,6 @@ image_is net codes heads s are few =
           (machine_is p.0 p.1 h (some_vars p.0 (s.inputs k p.0 p.2)) (s.codes k p.0 p.1 p.2 p.3));
     }
 
-last_of : {X : Type 0} (p : X → Type 0) (xs : List X) (x : X)
-    → ((k : ℕ) (y : X) → slice_get xs k ≡ Some y → p y) → p x
-    → (k : ℕ) (y : X) → slice_get (xs ++ x ∷ []) k ≡ Some y → p y
-last_of p [] x all ok zero y e = subst p (some_is x y e) ok
-last_of p [] x all ok (suc k) y e = absurd (none_some y e)
-last_of p (z ∷ xs) x all ok zero y e = all 0 y e
-last_of p (z ∷ xs) x all ok (suc k) y e = last_of p xs x (λ j w f. all (suc j) w f) ok k y e
-
 pub heads_next : (ms : List Machine) (k : ℕ) (heads : List Head) (m : Machine) (h : Head)
     → AreHeads (take k ms) heads → slice_get ms k ≡ Some m → h ≡ kept_head m → IsHead h
     → AreHeads (take (k + 1) ms) (heads ++ h ∷ [])
@@ -154,5 +147,5 @@ heads_next ms k heads m h are there is ok =
           ∙ ap (λ (g : Head). map kept_head (take k ms) ++ g ∷ []) is
           ∙ sym (map-append kept_head (take k ms) (m ∷ []))
           ∙ ap (map kept_head) (sym (take_next ms k m there));
-      each = last_of IsHead heads h are.each ok;
+      each = each_more IsHead heads h are.each ok;
     })

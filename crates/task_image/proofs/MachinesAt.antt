@@ -1,8 +1,8 @@
 -- Readers of code, machines and images.
-use Rattle.std.proofs.Common.{◌≡◌, ℕ, zero, suc, ◌^◌, ◌<◌, ◌≤◌, true, List, [], ◌∷◌, ◌++◌, length, replicate, Ok, refl, sym, ap, subst, ◌∙◌, arith}
+use Rattle.std.proofs.Common.{◌≡◌, ℕ, zero, suc, ◌^◌, ◌<◌, ◌≤◌, true, List, [], ◌∷◌, ◌++◌, length, replicate, Ok, refl, sym, ap, subst, arith}
 use Rattle.std.specs.Prelude.{◌&&◌, nat_le, nat_lt, slice_index, codes}
 use Rattle.std.specs.List.{flat_map, list_all}
-use Rattle.std.proofs.lemmas.Bool.{eqb-true}
+use Rattle.std.proofs.lemmas.Bool.{leb-true, le-leb, lt-ltb, and_from}
 use Rattle.std.proofs.lemmas.List.{length-replicate}
 use Rattle.std.proofs.lemmas.List.Concat.{flat_map_single}
 use Rattle.polis_base.specs.Names.{is_name, is_word, continues_name}
@@ -14,18 +14,20 @@ use Rattle.task_image.specs.Fields.{one_byte, four_bytes, instr_fields, sizes_fi
 use Rattle.task_image.specs.inner.FieldReaders.{◌>>=◌, within, from_to, byte_at, bytes_at, number_at, each_at}
 use Rattle.task_image.specs.inner.Reading.{instr_at, code_at, sizes_at, machine_at, machines_at}
 use Rattle.task_image.proofs.IsReader.{IsReader, then_reads, map_reads, same_reads, AllFrom, SoMany, some_many, each_reads}
-use Rattle.task_image.proofs.FieldReaders.{byte_reads, bytes_reads, number_reads, le_true, true_le, true_lt, both, and_left, and_right}
+use Rattle.task_image.proofs.FieldReaders.{byte_reads, bytes_reads, number_reads}
 use Rattle.task_image.proofs.InstrAt.{HaveCodes, InstrOk, instr_reads, halt_ok}
+use Rattle.domains.proofs.Names.{same_texts}
+use Rattle.polis_base.proofs.Bools.{and_first, and_second}
 
 pub low_of : (least most n : ℕ) → within least most n ≡ true → least ≤ n
-low_of least most n e = le_true least n (and_left (nat_le least n) (nat_le n most) e)
+low_of least most n e = leb-true least n (and_first (nat_le least n) (nat_le n most) e)
 
 pub high_of : (least most n : ℕ) → within least most n ≡ true → n ≤ most
-high_of least most n e = le_true n most (and_right (nat_le least n) (nat_le n most) e)
+high_of least most n e = leb-true n most (and_second (nat_le least n) (nat_le n most) e)
 
 pub in_range : (least most n : ℕ) → least ≤ n → n ≤ most → within least most n ≡ true
 in_range least most n low high =
-    both (nat_le least n) (nat_le n most) (true_le least n low) (true_le n most high)
+    and_from (nat_le least n) (nat_le n most) (le-leb least n low) (le-leb n most high)
 
 -- ---- code
 abbrev CountOk : ℕ → Type 0
@@ -36,7 +38,7 @@ CodeOk vars results c = CountOk (length c) × AllFrom (InstrOk vars results (len
 
 count_ok : (n : ℕ) → 1 ≤ n → n < 2 ^ 32 → CountOk n
 count_ok n some few = (
-  both (nat_le 1 n) (nat_lt n (2 ^ 32)) (true_le 1 n some) (true_lt n (2 ^ 32) few),
+  and_from (nat_le 1 n) (nat_lt n (2 ^ 32)) (le-leb 1 n some) (lt-ltb n (2 ^ 32) few),
   few,
 )
 
@@ -142,9 +144,9 @@ some_name (suc n) e =
     let long : length (65 ∷ replicate n 65) ≡ suc n = ap suc (length-replicate n 65) in (
       65 ∷ replicate n 65,
       long,
-      both (nat_le (length (65 ∷ replicate n 65)) 24 && is_word (65 ∷ replicate n 65)) true
-          (both (nat_le (length (65 ∷ replicate n 65)) 24) (is_word (65 ∷ replicate n 65))
-          (true_le (length (65 ∷ replicate n 65)) 24 (omega (arith, long, high))) (letters n))
+      and_from (nat_le (length (65 ∷ replicate n 65)) 24 && is_word (65 ∷ replicate n 65)) true
+          (and_from (nat_le (length (65 ∷ replicate n 65)) 24) (is_word (65 ∷ replicate n 65))
+          (le-leb (length (65 ∷ replicate n 65)) 24 (omega (arith, long, high))) (letters n))
           refl,
     )
 
@@ -382,8 +384,8 @@ count_rest =
 -- the version is 1, and nothing hangs on it
 version_is : (n : ℕ) → within 1 1 n ≡ true → 1 ≡ n
 version_is n e =
-    let low = le_true 1 n (and_left (nat_le 1 n) (nat_le n 1) e) in
-    let high = le_true n 1 (and_right (nat_le 1 n) (nat_le n 1) e) in
+    let low = leb-true 1 n (and_first (nat_le 1 n) (nat_le n 1) e) in
+    let high = leb-true n 1 (and_second (nat_le 1 n) (nat_le n 1) e) in
     omega arith
 
 version_rest : IsReader (λ i. (one_byte 1 ∷ []) ++
@@ -415,14 +417,6 @@ version_rest =
 abbrev MagicOk : List ℕ → Type 0
 MagicOk field = (length field ≡ 4) × (is_same magic field ≡ true)
 
-pub same_is : (a b : List ℕ) → is_same a b ≡ true → a ≡ b
-same_is [] [] e = refl
-same_is [] (y ∷ b) e = absurd cc
-same_is (x ∷ a) [] e = absurd cc
-same_is (x ∷ a) (y ∷ b) e =
-    ap (λ (z : ℕ). z ∷ a) (eqb-true x y (and_left _ _ e))
-    ∙ ap (λ (c : List ℕ). y ∷ c) (same_is a b (and_right _ _ e))
-
 pub machines_reads : IsReader image_fields MachinesOk (λ bytes. machines_at bytes)
 unfolding machines_at
 machines_reads =
@@ -442,6 +436,6 @@ machines_reads =
     MachinesOk (λ i. (magic ≡ field) × MachinesOk i)
     (λ bytes. byte_at (within 1 1) bytes >>= λ version. byte_at (within 1 64) version.1
     >>= λ count. each_at (λ k. machine_at) 0 count.0 count.1)
-    version_rest (λ i q. (same_is magic field p.1, q)) (λ i q. q.1) (λ i q. refl))
-    (λ field p. (some_image.0, same_is magic field p.1, some_image.1)))
+    version_rest (λ i q. (same_texts magic field p.1, q)) (λ i q. q.1) (λ i q. refl))
+    (λ field p. (some_image.0, same_texts magic field p.1, some_image.1)))
     (λ i p. p.1) (λ i q. ((refl, refl), q)) (λ i q. refl)

@@ -15,7 +15,7 @@ use Rattle.task_image.specs.declared.image.ImageMachine.{ImageMachine}
 use Rattle.task_image.specs.inner.Heads.{machine_of}
 use Rattle.task_image.specs.Images.{IsImage, IsImageMachine, codes_of, head_of}
 use Rattle.task_image.specs.Verifying.{AreAlike, IsFirstWrong, FitsAt, IsShapeAt, IsWrongAt, FitBefore}
-use Rattle.task_image.proofs.Prefixes.{some_is}
+use Rattle.polis_base.proofs.Places.{some_is}
 
 -- the code of an image's machine fits a machine of the same sizes
 pub code_fits : (a : ImageMachine) (m : Machine) → IsImageMachine a → AreAlike a m

@@ -19,7 +19,8 @@ use Rattle.task_image.specs.inner.Heads.{machine_of}
 use Rattle.task_image.specs.Images.{IsImage, IsImageMachine, head_of}
 use Rattle.task_image.specs.inner.Puts.{Writes, Written, HasBytes}
 use Rattle.task_image.proofs.Pieces.{bytes_of_image}
-use Rattle.task_image.proofs.Prefixes.{some_is, take_next, take_all}
+use Rattle.task_image.proofs.Prefixes.{take_next}
+use Rattle.polis_base.proofs.Places.{some_is, take_whole}
 
 -- after some bytes others are put
 pub writes_then : (r : Result (Unit {0}) EncodeError) (old mid new a b : List ℕ)
@@ -83,7 +84,7 @@ pub put_done : {X : Type 0} (f : X → List ℕ) (base : List ℕ) (xs : List X)
     (out : List ℕ) → length xs ≤ n → ArePut f base xs n out
     → (out ≡ base ++ flat_map f xs) × (length out ≤ LONG_FILE_MAX)
 put_done {X} f base xs n out le put =
-    (put.is ∙ ap (λ (ys : List X). base ++ flat_map f ys) (take_all xs n le), put.within)
+    (put.is ∙ ap (λ (ys : List X). base ++ flat_map f ys) (take_whole xs n le), put.within)
 
 -- ---- sizes, code, machines
 singles : (xs : List ℕ) → flat_map (λ x. x ∷ []) xs ≡ xs

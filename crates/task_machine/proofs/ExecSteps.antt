@@ -12,10 +12,11 @@ use Rattle.task_machine.specs.inner.Running.{MayRun}
 use Rattle.task_code.specs.Facts.{FitsAt, IsCode}
 use Rattle.sgraph.specs.Walks.{outcome_with, width_of}
 use Rattle.task_machine.proofs.Executed.{IsRunnable, Going, going_start, going_on, going_ends}
-use Rattle.sgraph.proofs.Outcomes.{mk, drop_more, long_results}
+use Rattle.sgraph.proofs.Outcomes.{mk, drop_more}
 use Rattle.sgraph.proofs.GraphOf.{long_zeros}
 use Rattle.domains.proofs.Ranks.{length_fits}
 use Rattle.transition_table.proofs.Ranges.{below_size}
+use Rattle.transition_table.proofs.MachineCounts.{results_long}
 
 there : (c : List Instr) (k : ℕ) (i : Instr) → slice_get c k ≡ Some i → k < length c
 there [] k i is = cc
@@ -38,7 +39,7 @@ runnable c s o ok one = record { some = ok.some; each = λ k i is. may k i is (o
         (omega arith, omega arith, to.0, to.1)
     may k (Set result code) is fit =
         let low = one.code.sets k result code is in
-        let long = long_results one.machine in
+        let long = results_long one.machine in
         let next = one.widths.next in
         let outs = one.widths.outs in
         let inside = there c k (Set result code) is in
@@ -134,7 +135,7 @@ pub as_exec : (m : Machine) (c : List Instr) (s : List ℕ) (first : Outcome) �
     → outcome_with (length first.next) (set_all (replicate (width_of first) 0) (executed c s))
     ≡ Exec m c s
 as_exec m c s first widths =
-    let long = long_results m in
+    let long = results_long m in
     let next = widths.next in
     let outs = widths.outs in
     let e : width_of first ≡ length m.results = omega arith in

@@ -3,7 +3,6 @@ use Rattle.std.proofs.Common.{◌≡◌, ◌⊎◌, inl, inr, ⊎_elim, ℕ, suc
 use Rattle.std.specs.Prelude.{Contains}
 use Rattle.std.specs.List.{cons_option, list_any, IsDistinct, AllByRecursion}
 use Rattle.std.proofs.lemmas.Bool.{and_parts, eqb-true, eq-eqb, ne_eqb, or_cases, true≢false}
-use Rattle.std.proofs.lemmas.List.{get_or_default}
 use Rattle.std.proofs.lemmas.Map.Steps.{length-le_from_distinct_below}
 use Rattle.transition_table.specs.declared.machine.Machine.{Machine}
 use Rattle.transition_table.specs.NetworkFacts.{has, are_different}
@@ -17,6 +16,7 @@ use Rattle.task_code.specs.declared.instr.Instr.{Instr}
 use Rattle.task_code.specs.declared.instr.Instr.TheVariants.{Set, Goto}
 use Rattle.task_code.specs.Codes.{start, given_by, laid_out, StepsOf}
 use Rattle.task_machine.proofs.Layouts.{Rest, rest_first, rest_next, rest_all, got, given_on, executed_is}
+use Rattle.polis_base.proofs.Places.{contains_at}
 
 -- ---- numbers that differ and are below n are at most n
 apart : (x : ℕ) (xs : List ℕ) → has xs x ≡ false → AllByRecursion (λ (y : ℕ). eqb x y ≡ false) xs
@@ -56,9 +56,6 @@ last_low (Some j) = omega arith
 here : (k : ℕ) (o : Option ℕ) → is_at k o ≡ true → o ≡ Some k
 here k None e = absurd (true≢false (sym e))
 here k (Some j) e = ap Some (sym (eqb-true k j e))
-
-contains_at : (xs : List ℕ) (i : ℕ) → i < length xs → Contains xs (slice_index xs i)
-contains_at xs i low = (i, low, get_or_default xs i (slice_index xs i) 0 low)
 
 module _ (g : List Vertex) (s : List ℕ) where
   -- the numbers of the vertices of the walk, from number k on

@@ -1,10 +1,10 @@
 -- The first piece of some bytes, by the first byte that passes.
-use Rattle.std.proofs.Common.{◌≡◌, ◌<◌, ◌≤◌, ◌+◌, ◌-◌, length-drop, ℕ, zero, suc, Bool, true, false, List, [], ◌∷◌, length, take, drop, get_or, refl, ap, ◌∙◌, not, arith, add-one, ◌++◌, ◌==◌, sym, Option, Some, None, IfSome, IfNone, Bor}
-use Rattle.std.proofs.lemmas.List.{take_all}
+use Rattle.std.proofs.Common.{◌≡◌, ◌<◌, ◌≤◌, ◌+◌, ◌-◌, ℕ, zero, suc, Bool, true, false, List, [], ◌∷◌, length, take, drop, get_or, refl, ap, ◌∙◌, not, arith, add-one, ◌++◌, ◌==◌, sym, Option, Some, None, IfSome, IfNone, Bor}
 use Rattle.trace_text.specs.Pieces.{runs, begins_comment, trace_lines, without_comment}
 use Rattle.std.proofs.lemmas.Bool.{and_parts, not-true}
 use Rattle.std.proofs.lemmas.List.Sums.{take_while-cons}
 use Rattle.polis_base.specs.Pieces.{lacks}
+use Rattle.polis_base.proofs.Places.{to_the_end}
 
 -- none of the first k bytes passes
 abbrev pub NoneBefore : (ℕ → Bool) → List ℕ → ℕ → Type 0
@@ -29,10 +29,6 @@ pieces_whole test (c ∷ d ∷ rest) some before =
     let first : test c ≡ false = before 0 (omega arith) in
     let e = pieces_whole test (d ∷ rest) (omega arith) (λ j h. before (suc j) (omega arith)) in
     rw (first, e) refl
-
--- what stands from a place on, as a slice up to the end
-pub to_the_end : (bytes : List ℕ) (n : ℕ) → take (length bytes - n) (drop n bytes) ≡ drop n bytes
-to_the_end bytes n = take_all (length bytes - n) (drop n bytes) (omega (arith, length-drop n bytes))
 
 -- the first piece ends at the first byte that passes
 pub pieces_cut : (test : ℕ → Bool) (bytes : List ℕ) (k : ℕ) → k < length bytes

@@ -16,7 +16,7 @@ use Rattle.transition_table.proofs.Ranges.{source_below}
 use Rattle.polis_base.proofs.Lists.{all_append}
 
 -- the codes of one more result
-codes_given_last : (m : Machine) (codes : List ℕ) (acts : List Act) (first n : ℕ)
+pub codes_given_last : (m : Machine) (codes : List ℕ) (acts : List Act) (first n : ℕ)
     → codes_given m codes acts first (suc n)
     ≡ codes_given m codes acts first n ++ code_given m codes acts (first + n) ∷ []
 codes_given_last m codes acts first n =

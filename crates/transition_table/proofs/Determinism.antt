@@ -1,7 +1,6 @@
 -- Outcomes of machines: that there is one, what it keeps, and where it is the only one.
-use Rattle.std.proofs.Common.{◌≡◌, ◌⊎◌, ℕ, zero, suc, ◌+◌, true, false, ◌&&◌, ◌==◌, List, [], ◌∷◌, ◌++◌, drop, length, Some, slice_get, IsTrue, arith, sym, ap, refl, subst, ◌∙◌, inl, inr}
+use Rattle.std.proofs.Common.{◌≡◌, ◌⊎◌, ℕ, zero, suc, ◌+◌, true, false, ◌&&◌, List, [], ◌∷◌, ◌++◌, drop, length, Some, slice_get, IsTrue, arith, sym, ap, refl, subst, ◌∙◌, inl, inr}
 use Rattle.std.specs.List.{list_all}
-use Rattle.std.specs.Cmp.Lexicographic.{pointwise, same_text, other_text}
 use Rattle.std.proofs.lemmas.Bool.{and_parts, cases_Bool, cases_order}
 use Rattle.domains.specs.Tables.{fits}
 use Rattle.transition_table.specs.Laws.{OneRow, NoConflicts, SomeOutcome, HaveWidths, CodesFit, IdleIsBlank, OneOutcome, TransitionFits, InputsArePresent}
@@ -14,24 +13,17 @@ use Rattle.transition_table.specs.declared.snapshot.Outcome.{Outcome}
 use Rattle.transition_table.proofs.Ranges.{acts_of, row_there, is_present}
 use Rattle.transition_table.proofs.CodesGiven.{outcome_fits, length_codes_given}
 use Rattle.transition_table.proofs.Rows.{past_rows, blank_of}
+use Rattle.polis_base.proofs.Places.{same_or_not}
 
 pub one_row : OneRow
 one_row m few a b s order snapshot first second =
     let past = past_rows m b s (omega arith) in
     cc
 
--- two outcomes are the same, or they differ
-same_codes : (xs ys : List ℕ) → (xs ≡ ys) ⊎ (xs ≡ ys → ⊥)
-same_codes xs ys =
-    elim (cases_Bool (pointwise ◌==◌ xs ys)) [
-      | inl same ↦ inl (same_text xs ys (sym same))
-      | inr differ ↦ inr (other_text xs ys (sym differ))
-    ]
-
 same_outcomes : (x y : Outcome) → x.fires ≡ y.fires → (x ≡ y → ⊥) ⊎ (x ≡ y)
 same_outcomes x y fires =
-    elim (same_codes x.next y.next) [
-      | inl next ↦ elim (same_codes x.outs y.outs) [
+    elim (same_or_not x.next y.next) [
+      | inl next ↦ elim (same_or_not x.outs y.outs) [
         | inl outs ↦ inr (λ i. record { fires = fires i; next = next i; outs = outs i })
         | inr differ ↦ inl (λ e. differ (ap (λ (o : Outcome). o.outs) e))
       ]

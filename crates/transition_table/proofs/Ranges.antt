@@ -4,7 +4,7 @@ use Rattle.std.specs.List.{list_all, list_any}
 use Rattle.std.specs.Int.{bit_at}
 use Rattle.std.specs.Cmp.Lexicographic.{pointwise, same_text}
 use Rattle.std.proofs.Math.Nat.{mod-lt}
-use Rattle.std.proofs.lemmas.Bool.{and_parts, eqb-true, ltb-true, leb-true, cases_Bool}
+use Rattle.std.proofs.lemmas.Bool.{and_parts, eqb-true, ltb-true, cases_Bool}
 use Rattle.std.proofs.lemmas.List.{get_or-take, get_or-drop, get_or-map, length-drop}
 use Rattle.domains.specs.Tables.{fits, are_sizes}
 use Rattle.transition_table.specs.MachineFacts.{names_codes, names_result, is_row, is_source, has_present, wants}
@@ -16,7 +16,7 @@ use Rattle.transition_table.specs.declared.row.Row.{Row}
 use Rattle.transition_table.specs.declared.row.Source.{Source}
 use Rattle.transition_table.specs.declared.row.Source.TheVariants.{Code, Input, Add}
 use Rattle.transition_table.specs.declared.machine.Machine.{Machine}
-use Rattle.polis_base.proofs.Names.{left_true, right_true}
+use Rattle.polis_base.proofs.Bools.{and_first, and_second}
 
 -- codes that fit are below their sizes
 pub below_size : (sizes codes : List ℕ) (k : ℕ) → fits sizes codes ≡ true → k < length sizes
@@ -24,16 +24,16 @@ pub below_size : (sizes codes : List ℕ) (k : ℕ) → fits sizes codes ≡ tru
 below_size [] codes k h below = absurd (omega arith)
 below_size (size ∷ sizes) [] k h below = cc
 below_size (size ∷ sizes) (code ∷ codes) zero h below =
-    ltb-true code size (left_true (nat_lt code size) _ h)
+    ltb-true code size (and_first (nat_lt code size) _ h)
 below_size (size ∷ sizes) (code ∷ codes) (suc k) h below =
-    below_size sizes codes k (right_true (nat_lt code size) _ h) (omega arith)
+    below_size sizes codes k (and_second (nat_lt code size) _ h) (omega arith)
 
 -- a machine has one size for each input and each state variable
 pub vars_length : (m : Machine) → length m.vars ≡ length m.inputs + length m.states
 vars_length m =
-    eqb-true _ _ (right_true (are_sizes m.vars) _
-    (left_true _ (list_all (nat_le 2) (take (length m.inputs) m.vars))
-    (left_true _ _ m.sized_vars)))
+    eqb-true _ _ (and_second (are_sizes m.vars) _
+    (and_first _ (list_all (nat_le 2) (take (length m.inputs) m.vars))
+    (and_first _ _ m.sized_vars)))
 
 pub results_parts : (m : Machine) → (length m.results ≡ 1 + length m.states + length m.outputs)
     × ((2 ∷ map (λ size. 1 + size) (drop (length m.inputs) m.vars))
@@ -77,11 +77,11 @@ pub adds : (m : Machine) (y k : ℕ) → is_source m.inputs m.vars m.results y (
     → Adds m y k
 adds m y k h =
     let some : 0 < y =
-    ltb-true 0 y (left_true _ _
-    (left_true _ (nat_lt k (slice_index m.vars (variable_of m.inputs y))) h)) in
+    ltb-true 0 y (and_first _ _
+    (and_first _ (nat_lt k (slice_index m.vars (variable_of m.inputs y))) h)) in
     let var : variable_of m.inputs y < length m.vars =
-    ltb-true _ _ (right_true (nat_lt 0 y) _
-    (left_true _ (nat_lt k (slice_index m.vars (variable_of m.inputs y))) h)) in
+    ltb-true _ _ (and_second (nat_lt 0 y) _
+    (and_first _ (nat_lt k (slice_index m.vars (variable_of m.inputs y))) h)) in
     let lengths = vars_length m in
     let state : y - 1 < length m.states = omega arith in
     let own : 1 + (y - 1) ≡ y = omega arith in
@@ -90,7 +90,7 @@ adds m y k h =
       state = state;
       var = var;
       step = ltb-true _ _
-          (right_true (nat_lt 0 y && nat_lt (variable_of m.inputs y) (length m.vars)) _ h);
+          (and_second (nat_lt 0 y && nat_lt (variable_of m.inputs y) (length m.vars)) _ h);
       size = rw own at (state_result m (y - 1) state);
     }
 
@@ -149,13 +149,13 @@ pub is_present : (codes : List ℕ) (v : ℕ) (conds : List Cond) (acts : List A
 is_present codes v conds [] k act h at reads held = cc
 is_present codes v conds (a ∷ acts) zero act h at reads held =
     let same : a ≡ act = cc in
-    let own = left_true (has_present conds a.source) _ h in
+    let own = and_first (has_present conds a.source) _ h in
     let wanted : has_present conds (Input v) ≡ true =
     subst (λ source. has_present conds source ≡ true) (ap (λ (x : Act). x.source) same ∙ reads)
     own in
     absent_fails codes v conds wanted held
 is_present codes v conds (a ∷ acts) (suc k) act h at reads held =
-    is_present codes v conds acts k act (right_true (has_present conds a.source) _ h) at reads held
+    is_present codes v conds acts k act (and_second (has_present conds a.source) _ h) at reads held
 
 -- a row of the machine, and its actions
 pub row_there : (inputs vars results : List ℕ) (rows : List Row) (k : ℕ) (row : Row)
@@ -164,15 +164,15 @@ pub row_there : (inputs vars results : List ℕ) (rows : List Row) (k : ℕ) (ro
 row_there inputs vars results [] k row all at = cc
 row_there inputs vars results (r ∷ rows) zero row all at =
     let e : r ≡ row = cc in
-    rw e at (left_true (is_row inputs vars results r) _ all)
+    rw e at (and_first (is_row inputs vars results r) _ all)
 row_there inputs vars results (r ∷ rows) (suc k) row all at =
-    row_there inputs vars results rows k row (right_true (is_row inputs vars results r) _ all) at
+    row_there inputs vars results rows k row (and_second (is_row inputs vars results r) _ all) at
 
 pub acts_of : (inputs vars results : List ℕ) (row : Row) → is_row inputs vars results row ≡ true
     → list_all (names_result inputs vars results) row.acts ≡ true
 acts_of inputs vars results row h =
-    right_true (list_all (names_codes vars) row.conds) _
-    (left_true _ (list_all (λ act. has_present row.conds act.source) row.acts) h)
+    and_second (list_all (names_codes vars) row.conds) _
+    (and_first _ (list_all (λ act. has_present row.conds act.source) row.acts) h)
 
 -- an action whose source is an input or an addition
 pub reads_of : (m : Machine) (act : Act) (v : ℕ) → names_result m.inputs m.vars m.results act ≡ true
@@ -181,19 +181,11 @@ pub reads_of : (m : Machine) (act : Act) (v : ℕ) → names_result m.inputs m.v
 reads_of m act v named is =
     reads m act.result v
     (subst (λ source. is_source m.inputs m.vars m.results act.result source ≡ true) is
-    (right_true (nat_lt act.result (length m.results)) _ named))
+    (and_second (nat_lt act.result (length m.results)) _ named))
 
 pub adds_of : (m : Machine) (act : Act) (k : ℕ) → names_result m.inputs m.vars m.results act ≡ true
     → act.source ≡ Add k → Adds m act.result k
 adds_of m act k named is =
     adds m act.result k
     (subst (λ source. is_source m.inputs m.vars m.results act.result source ≡ true) is
-    (right_true (nat_lt act.result (length m.results)) _ named))
-
-pub small_size : (sizes : List ℕ) (k : ℕ) → are_sizes sizes ≡ true → slice_index sizes k ≤ 33
-small_size [] k h = omega arith
-small_size (size ∷ sizes) zero h =
-    leb-true size 33
-    (right_true (nat_le 1 size) _ (left_true (nat_le 1 size && nat_le size 33) (are_sizes sizes) h))
-small_size (size ∷ sizes) (suc k) h =
-    small_size sizes k (right_true (nat_le 1 size && nat_le size 33) (are_sizes sizes) h)
+    (and_second (nat_lt act.result (length m.results)) _ named))

@@ -1,9 +1,8 @@
 -- What a result depends on, by test and by relation.
 use Rattle.std.proofs.Common.{◌≡◌, ◌≢◌, ⊎_elim, ℕ, zero, suc, ◌<◌, ◌≤◌, Bool, true, false, not, ◌==◌, nat_lt, List, [], ◌∷◌, ◌++◌, length, take, drop, slice_index, slice_set, refl, ap, sym, ◌∙◌, arith, get_or-set_same, get_or-set_other, length-set}
-use Rattle.std.specs.Cmp.Derive.{both_true}
 use Rattle.std.specs.Cmp.Lexicographic.{same_text}
 use Rattle.std.specs.List.{list_any}
-use Rattle.std.proofs.lemmas.Bool.{and_parts, cases_Bool, cases_lt, cases_eq, eq-eqb, eqb-true, lt-ltb, ltb-true, false≢true, true≢false, true_from_ne_false, not-true, not-false}
+use Rattle.std.proofs.lemmas.Bool.{cases_Bool, cases_lt, cases_eq, eq-eqb, eqb-true, ltb-true, true≢false, true_from_ne_false, not-true, not-false}
 use Rattle.std.proofs.lemmas.Grind.{same_number_lists}
 use Rattle.std.proofs.lemmas.List.{take-append-drop}
 use Rattle.polis_base.specs.Lists.{upto}
@@ -17,21 +16,12 @@ use Rattle.transition_table.specs.Laws.{CharByTest, SupportByTest, SameOnSupport
 use Rattle.transition_table.specs.Orders.{Char, Support, codes_of}
 use Rattle.transition_table.proofs.Computed.{outcome_by_rows, only_by_rows}
 use Rattle.transition_table.proofs.Ranges.{below_size}
-use Rattle.transition_table.proofs.Rows.{length_fits}
 use Rattle.polis_base.proofs.Lists.{take_prefix, drop_prefix, none_all, some_item, none_upto, all_below}
 use Rattle.domains.proofs.Names.{same_self}
+use Rattle.domains.proofs.FittingCodes.{fits_prefix, fits_set_any}
+use Rattle.domains.proofs.Ranks.{length_fits}
 
 -- ---- lists that fit, with one code set
-fits_set : (sizes codes : List ℕ) → fits sizes codes ≡ true → (var code : ℕ)
-    → code < slice_index sizes var → fits sizes (slice_set codes var code) ≡ true
-fits_set [] [] h var code below = refl
-fits_set [] (first ∷ codes) h var code below = absurd (false≢true h)
-fits_set (size ∷ sizes) [] h var code below = absurd (false≢true h)
-fits_set (size ∷ sizes) (first ∷ codes) h zero code below =
-    both_true (lt-ltb code size below) (and_parts (nat_lt first size) (fits sizes codes) h).1
-fits_set (size ∷ sizes) (first ∷ codes) h (suc var) code below =
-    let parts = and_parts (nat_lt first size) (fits sizes codes) h in
-    both_true parts.0 (fits_set sizes codes parts.1 var code below)
 
 pub set_own : (xs : List ℕ) (k : ℕ) → slice_set xs k (slice_index xs k) ≡ xs
 set_own [] k = refl
@@ -87,7 +77,7 @@ put_fits : (sizes : List ℕ) (k : ℕ) (s t : List ℕ) → k ≤ length sizes 
 unfolding put
 put_fits sizes zero s t h fit_s fit_t = fit_s
 put_fits sizes (suc k) s t h fit_s fit_t =
-    fits_set sizes (put k s t) (put_fits sizes k s t (omega arith) fit_s fit_t) k (slice_index t k)
+    fits_set_any sizes (put k s t) (put_fits sizes k s t (omega arith) fit_s fit_t) k (slice_index t k)
     (below_size sizes t k fit_t (omega arith))
 
 put_same : ListsAll → (m : Machine) (y k : ℕ) (s t : List ℕ) → k ≤ length m.vars
@@ -122,13 +112,6 @@ same_on_support lists_all m y s t fit_s fit_t agree =
     sym (put_same lists_all m y n s t (omega arith) fit_s fit_t agree) ∙ ap (result_code m y) whole
 
 -- ---- the tests say what the relations say
-fits_first : (xs ys codes : List ℕ) → fits (xs ++ ys) codes ≡ true
-    → fits xs (take (length xs) codes) ≡ true
-fits_first [] ys codes h = refl
-fits_first (x ∷ xs) ys [] h = h
-fits_first (x ∷ xs) ys (code ∷ codes) h =
-    let parts = and_parts (nat_lt code x) (fits (xs ++ ys) codes) h in
-    both_true parts.0 (fits_first xs ys codes parts.1)
 
 -- a snapshot with the codes of its results
 pub char_there : (m : Machine) (s : List ℕ) → length s ≡ length m.vars
@@ -150,7 +133,7 @@ char_by_test m list sure fit = (to, from)
         same_text (result_codes m s) (drop (length m.vars) list) (sym h) in (
           s,
           outcome_by m m.rows s,
-          fits_first m.vars m.results list fit,
+          fits_prefix m.vars m.results list fit,
           outcome_by_rows m s,
           sym (take-append-drop (length m.vars) list) ∙ ap (λ (xs : List ℕ). s ++ xs) (sym e),
         )
@@ -184,7 +167,7 @@ support_by_test lists_fit lists_all m y v sure low = (to, from)
           other = s;
           first = outcome_by m m.rows other;
           second = outcome_by m m.rows s;
-          fits_one = fits_set m.vars s some.1 v c (ltb-true c (slice_index m.vars v) code.1);
+          fits_one = fits_set_any m.vars s some.1 v c (ltb-true c (slice_index m.vars v) code.1);
           fits_other = some.1;
           alone = λ w apart. get_or-set_other s v w c 0 apart;
           gives_first = outcome_by_rows m other;

@@ -7,7 +7,7 @@ use Rattle.transition_table.specs.Orders.{codes_of, Char, Support}
 use Rattle.transition_table.specs.samples.Echo.{echo_machine}
 use Rattle.transition_table.specs.Transitions.{reading, is_enabled, Transition}
 use Rattle.transition_table.specs.Worked.{firing}
-use Rattle.polis_base.proofs.Names.{left_true}
+use Rattle.polis_base.proofs.Bools.{and_first}
 
 pub echo_char : Char echo_machine (6 ∷ 6 ∷ 1 ∷ 2 ∷ 6 ∷ [])
 echo_char = (6 ∷ 6 ∷ [], firing (2 ∷ []) (6 ∷ []), refl, inl (0, refl, refl), refl)
@@ -41,7 +41,7 @@ passes_on codes o fit (inl (suc r, enabled, is)) = cc
 passes_on [] o fit (inr (none, is)) = cc
 passes_on (x ∷ codes) o fit (inr (none, is)) =
     ap (λ (b : Outcome). slice_index (codes_of b) 2) is
-    ∙ absent x (ltb-true x 9 (left_true (nat_lt x 9) _ fit)) (none 0)
+    ∙ absent x (ltb-true x 9 (and_first (nat_lt x 9) _ fit)) (none 0)
   where
     absent : (x : ℕ) → x < 9 → is_enabled echo_machine 0 (reading (x ∷ codes)) ≡ false → 0 ≡ x
     absent zero below idle = refl

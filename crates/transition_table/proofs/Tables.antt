@@ -4,8 +4,6 @@ use Rattle.std.specs.List.{list_all}
 use Rattle.std.specs.Int.{bit_at}
 use Rattle.std.proofs.lemmas.Bool.{ltb-true}
 use Rattle.domains.specs.Tables.{fits}
-use Rattle.transition_table.proofs.Rows.{length_fits}
-use Rattle.polis_base.proofs.Names.{left_true}
 use Rattle.transition_table.specs.samples.Clash.{clash_machine}
 use Rattle.transition_table.specs.samples.Echo.{echo_machine}
 use Rattle.transition_table.specs.samples.Lamp.{lamp_machine}
@@ -16,6 +14,8 @@ use Rattle.transition_table.specs.samples.Parts.{has_codes}
 use Rattle.transition_table.specs.Transitions.{reading, is_enabled, allows, result, IsDeterministic, Conflict}
 use Rattle.transition_table.specs.Worked.{Fires, Idles}
 use Rattle.transition_table.specs.declared.snapshot.Outcome.{Outcome}
+use Rattle.domains.proofs.Ranks.{length_fits}
+use Rattle.polis_base.proofs.Bools.{and_first}
 
 pub lamp_pressed : Fires lamp_machine (1 ∷ 0 ∷ []) 0 (2 ∷ []) (1 ∷ [])
 lamp_pressed = record {
@@ -32,7 +32,7 @@ lamp_on_none (suc row) = refl
 pub lamp_on : Idles lamp_machine (1 ∷ 1 ∷ [])
 lamp_on = record { snapshot = refl; none = lamp_on_none; transition = inr (lamp_on_none, refl) }
 
-lamp_unpressed_none : (row : ℕ) → is_enabled lamp_machine row (reading (0 ∷ 0 ∷ [])) ≡ false
+pub lamp_unpressed_none : (row : ℕ) → is_enabled lamp_machine row (reading (0 ∷ 0 ∷ [])) ≡ false
 lamp_unpressed_none zero = refl
 lamp_unpressed_none (suc row) = refl
 
@@ -106,13 +106,13 @@ clash = record {
 }
 
 -- a snapshot of one variable with 9 codes, of which a condition allows the code 2 alone
-one_code : (xs : List ℕ) → fits (9 ∷ []) xs ≡ true
+pub one_code : (xs : List ℕ) → fits (9 ∷ []) xs ≡ true
     → list_all (allows xs) (has_codes 0 4 ∷ []) ≡ true → xs ≡ 2 ∷ []
 one_code [] fit held = cc
 one_code (x ∷ y ∷ xs) fit held = let long = length_fits (9 ∷ []) (x ∷ y ∷ xs) fit in
     absurd (omega arith)
 one_code (x ∷ []) fit held =
-    pick x (ltb-true x 9 (left_true (nat_lt x 9) true fit)) (left_true (bit_at 4 x == 1) true held)
+    pick x (ltb-true x 9 (and_first (nat_lt x 9) true fit)) (and_first (bit_at 4 x == 1) true held)
   where
     pick : (x : ℕ) → x < 9 → (bit_at 4 x == 1) ≡ true → x ∷ [] ≡ 2 ∷ []
     pick zero below set = cc

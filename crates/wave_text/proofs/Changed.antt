@@ -21,9 +21,9 @@ use Rattle.wave_text.specs.Signals.{change_at, signal_code, happens_at, snapshot
 use Rattle.wave_text.specs.declared.signal.Change.{Change}
 use Rattle.wave_text.specs.declared.signal.Signal.{Signal}
 use Rattle.wave_text.specs.declared.signal.Signal.TheVariants.{Input, State, Loss}
-use Rattle.event_accounts.proofs.OneItemMore.{flat_map_push}
 use Rattle.journals.proofs.MomentsAfter.{place_dep, place_rea, state_dep, state_rea}
 use Rattle.journals.proofs.EntriesAt.{prefix_more}
+use Rattle.polis_base.proofs.Places.{flat_map_push}
 
 -- ---- numbered lists
 

@@ -6,7 +6,7 @@ use Rattle.std.proofs.Common.{refl, sym, ap, ◌∙◌, inl, inr, arith, set}
 use Rattle.std.proofs.lemmas.List.{get_or-set_other, get_or-set_same}
 use Rattle.std.proofs.lemmas.List.Elements.{filter_map-append}
 use Rattle.polis_base.specs.Lists.{last_of}
-use Rattle.std.proofs.lemmas.Bool.{and_parts, cases_eq, cases_lt, eq-eqb, ne_eqb, false≢true, lt-ltb, le-ltb}
+use Rattle.std.proofs.lemmas.Bool.{and_parts, cases_eq, cases_lt, eq-eqb, ne_eqb, false≢true, lt-ltb, le-ltb, not-true}
 use Rattle.transition_table.specs.NetworkFacts.{are_different, has}
 use Rattle.journals.specs.Journals.{emitted}
 use Rattle.wave_text.specs.inner.Changing.{codes_emitted}
@@ -35,10 +35,6 @@ none_sent (x ∷ outputs) (suc v ∷ codes) e h = parts (x == e) refl h (none_se
     parts true is g rest = absurd (false≢true (sym g))
     parts false is g rest = rw is (rest g)
 
-not_there : (b : Bool) → not b ≡ true → b ≡ false
-not_there true h = absurd (false≢true h)
-not_there false h = refl
-
 pub sent_once : (outputs codes : List ℕ) (e : ℕ) → are_different outputs ≡ true
     → codes_emitted e (emitted outputs codes)
     ≡ cond (code_sent outputs codes e == 0) [] (code_sent outputs codes e ∷ [])
@@ -60,7 +56,7 @@ sent_once (x ∷ outputs) (zero ∷ codes) e once =
         (cond (x == e) 0 (code_sent outputs codes e) ∷ [])
     cases (inl same) rest = rw (eq-eqb x e same)
         (none_sent outputs codes e
-        (ap (has outputs) (sym same) ∙ not_there (has outputs x) parts.0))
+        (ap (has outputs) (sym same) ∙ not-true (has outputs x) parts.0))
     cases (inr other) rest = rw (ne_eqb x e other) rest
 sent_once (x ∷ outputs) (suc v ∷ codes) e once =
     cases (cases_eq x e)
@@ -80,7 +76,7 @@ sent_once (x ∷ outputs) (suc v ∷ codes) e once =
         (eq-eqb x e same, ne_eqb (suc v) 0 (λ h. let g : suc v ≡ 0 = h in absurd (omega arith)))
         (ap (λ (l : List ℕ). suc v ∷ l)
         (none_sent outputs codes e
-        (ap (has outputs) (sym same) ∙ not_there (has outputs x) parts.0)))
+        (ap (has outputs) (sym same) ∙ not-true (has outputs x) parts.0)))
     cases (inr other) rest = rw (ne_eqb x e other) rest
 
 any_is_some : (list : List (ℕ × ℕ)) (e : ℕ)

@@ -29,10 +29,10 @@ use Rattle.std.proofs.lemmas.Option.{slice_get_within}
 use Rattle.wave_text.proofs.MachineSignals.{snapshot_signals_many}
 use Rattle.event_accounts.proofs.InputsOf.{inputs_of_machine}
 use Rattle.journals.proofs.MomentsAfter.{length_table, last_of_push}
-use Rattle.event_accounts.proofs.OneItemMore.{flat_map_push}
 use Rattle.journals.proofs.EntriesAt.{prefix_more}
 use Rattle.wave_text.proofs.CodesEmitted.{code_by, code_by_place, code_sent, emits_is, sent_once}
 use Rattle.wave_text.proofs.Changed.{changed, changed_both, snapshot_changed, loss_changes_are, machines_changed, no_losses, none_changed}
+use Rattle.polis_base.proofs.Places.{flat_map_push}
 
 -- ---- the last emitted codes
 

@@ -7,7 +7,7 @@ use Rattle.std.proofs.Common.{refl, sym, ap, ◌∙◌, subst, inl, inr, arith}
 use Rattle.std.proofs.lemmas.List.{get_or_append_left, get_or-append-add, get_or-map, length-map}
 use Rattle.std.proofs.lemmas.Bool.{and_parts, and_from, eqb-true, ltb-true, lt-ltb, leb-true}
 use Rattle.std.proofs.lemmas.Option.{slice_get_cases, slice_get_within, get_or_from_slice_get}
-use Rattle.polis_base.specs.Lists.{upto, last_of}
+use Rattle.polis_base.specs.Lists.{upto}
 use Rattle.transition_table.specs.NetworkFacts.{event_values, has_vars, values_of}
 use Rattle.transition_table.specs.declared.decl.StateDecl.{StateDecl}
 use Rattle.transition_table.specs.declared.machine.Machine.{Machine}
@@ -17,9 +17,7 @@ use Rattle.journals.specs.declared.entry.Entry.TheVariants.{Dep, Rea}
 use Rattle.journals.specs.Journals.{IsJournal, is_event_code, emissions, inputs_of, buffered, snap, state, states_of}
 use Rattle.journals.proofs.SnapFits.{snap_fits}
 use Rattle.journals.proofs.FitsNetwork.{emissions_fit}
-use Rattle.journals.proofs.DeliveriesOfWay.{passes_of_all}
 use Rattle.polis_base.proofs.Lists.{all_append, all_parts, upto_all}
-use Rattle.polis_base.proofs.Names.{right_true}
 use Rattle.std.proofs.lemmas.List.Folds.{list_all-map}
 use Rattle.transition_table.proofs.Ranges.{below_size, vars_length}
 use Rattle.event_accounts.proofs.InputsOf.{inputs_of_machine, input_within, code_of_place}
@@ -31,8 +29,10 @@ use Rattle.wave_text.specs.declared.signal.Signal.{Signal}
 use Rattle.wave_text.specs.declared.signal.Signal.TheVariants.{Input, State, Loss, Emission, Value}
 use Rattle.wave_text.proofs.EntryChanges.{filter_below, out_below}
 use Rattle.wave_text.proofs.MachineSignals.{states_of_machine}
-use Rattle.event_accounts.proofs.OneItemMore.{flat_map_push}
 use Rattle.journals.proofs.MomentsAfter.{get_or_table}
+use Rattle.polis_base.proofs.Bools.{and_second}
+use Rattle.polis_base.proofs.ListTests.{all_get, last_below}
+use Rattle.polis_base.proofs.Places.{flat_map_push}
 
 pub journal_front : (net : Network) (journal : List Entry) (n : ℕ) → IsJournal net journal
     → IsJournal net (take n journal)
@@ -50,7 +50,7 @@ vars_are net m machine at =
     same_text machine.vars
     (map (λ e. 1 + event_values net.domains net.events e) machine.inputs
     ++ map (λ (state : StateDecl). values_of net.domains (Some state.domain)) machine.states)
-    (sym (passes_of_all (has_vars net.domains net.events) net.machines m machine net.sized_vars at))
+    (sym (all_get (has_vars net.domains net.events) net.machines m machine net.sized_vars at))
 
 input_fits : (net : Network) (journal : List Entry) (m i e : ℕ) (machine : Machine)
     → IsJournal net journal → slice_get net.machines m ≡ Some machine
@@ -115,19 +115,12 @@ state_fits net journal m x machine h there below =
 
 -- ---- what is emitted
 
-last_small : (n d : ℕ) (xs : List ℕ) → d < n → list_all (λ c. nat_lt c n) xs ≡ true
-    → last_of d xs < n
-last_small n d [] h all = h
-last_small n d (x ∷ xs) h all =
-    let parts = and_parts (nat_lt x n) (list_all (λ c. nat_lt c n) xs) all in
-    last_small n x xs (ltb-true x n parts.0) parts.1
-
 -- the code that comes with an event is one of the event's
 code_small : (net : Network) (e c : ℕ) → is_event_code net e c ≡ true
     → nat_lt c (1 + event_values net.domains net.events e) ≡ true
 code_small net e c h =
     let most = leb-true c (event_values net.domains net.events e)
-    (right_true (nat_lt e (length net.events) && nat_le 1 c)
+    (and_second (nat_lt e (length net.events) && nat_le 1 c)
     (nat_le c (event_values net.domains net.events e)) h) in
     lt-ltb c (1 + event_values net.domains net.events e) (omega arith)
 
@@ -164,7 +157,7 @@ all_event_codes net (Rea m s o ∷ journal) h =
 value_fits : (net : Network) (journal : List Entry) (e : ℕ) → IsJournal net journal
     → last_emitted net journal e < 1 + event_values net.domains net.events e
 value_fits net journal e h =
-    last_small (1 + event_values net.domains net.events e) 0
+    last_below (1 + event_values net.domains net.events e) 0
     (codes_emitted e (flat_map (emissions net) journal)) (omega arith)
     (codes_small net e (flat_map (emissions net) journal) (all_event_codes net journal h))
 
@@ -267,9 +260,9 @@ pub signals_fit : (net : Network) (journal : List Entry) → IsJournal net journ
     → (k : ℕ) (s : Signal) → slice_get (signals net) k ≡ Some s
     → (is_signal net s ≡ true) × (has_code net s (signal_code net journal s) ≡ true)
 signals_fit net journal h k s at = (
-  passes_of_all (is_signal net) (signals net) k s
+  all_get (is_signal net) (signals net) k s
       (all_signals_hold net (is_signal net) (signals_good net)) at,
-  passes_of_all (λ s. has_code net s (signal_code net journal s)) (signals net) k s
+  all_get (λ s. has_code net s (signal_code net journal s)) (signals net) k s
       (all_signals_hold net (λ s. has_code net s (signal_code net journal s))
       (codes_good net journal h)) at,
 )

@@ -16,9 +16,9 @@ use Rattle.wave_text.specs.Signals.{snapshot_signals, loss_signals, machine_sign
 use Rattle.wave_text.specs.Waves.{start_line, machine_scope, var_line, var_lines}
 use Rattle.wave_text.specs.declared.signal.Signal.TheVariants.{Input, Loss, State}
 use Rattle.wave_text.proofs.MachineSignals.{snapshot_signals_many, loss_signals_many, states_of_machine}
-use Rattle.event_accounts.proofs.OneItemMore.{flat_map_push, slice_get_end, slice_get_left}
 use Rattle.event_accounts.proofs.InputsOf.{inputs_of_machine}
 use Rattle.wave_text.specs.declared.signal.Signal.{Signal}
+use Rattle.polis_base.proofs.Places.{flat_map_push, get_end, get_left}
 
 pub vars_more : (net : Network) (n i : ℕ) (list : List Signal) (s : Signal)
     → slice_get list i ≡ Some s
@@ -98,12 +98,12 @@ pub numberings_more : (net : Network) (m : ℕ) (old : List Numbering) (one : Nu
     → (k : ℕ) (s : Numbering) → slice_get (old ++ one ∷ []) k ≡ Some s → IsNumbering net k s
 numberings_more net m old one many each last k s at =
     elim (cases_lt k m) [
-      | inl below ↦ each k s (sym (slice_get_left old (one ∷ []) k (omega arith)) ∙ at)
+      | inl below ↦ each k s (sym (get_left old (one ∷ []) k (omega arith)) ∙ at)
       | inr above ↦
           let within = slice_get_within (old ++ one ∷ []) k s at in
           let size = length_push old one in
           let is : k ≡ length old = omega arith in
-          let same = same_Some one s (sym (slice_get_end old one)
+          let same = same_Some one s (sym (get_end old one)
           ∙ ap (slice_get (old ++ one ∷ [])) (sym is) ∙ at) in
           subst (λ (x : Numbering). IsNumbering net k x) same
           (subst (λ (n : ℕ). IsNumbering net n one) (sym many ∙ sym is) last)

@@ -1,8 +1,8 @@
 -- Changes that can be written.
-use Rattle.std.specs.Prelude.{◌≡◌, ℕ, zero, suc, ◌+◌, ◌<◌, Bool, true, false, cond, ◌&&◌, List, [], ◌∷◌, filter_map, length, take, slice_get, Option, Some, None}
+use Rattle.std.specs.Prelude.{◌≡◌, ℕ, suc, ◌+◌, ◌<◌, Bool, true, false, cond, ◌&&◌, List, [], ◌∷◌, filter_map, length, take, slice_get, Option, Some, None}
 use Rattle.std.specs.List.{cons_option, enumerate_from, list_all}
 use Rattle.std.specs.Option.{option_map_or}
-use Rattle.std.proofs.Common.{refl, sym, ap, ◌∙◌, subst, arith, get_or}
+use Rattle.std.proofs.Common.{refl, sym, ap, ◌∙◌, subst, arith}
 use Rattle.std.proofs.lemmas.Bool.{and_parts, and_from, false≢true}
 use Rattle.std.proofs.lemmas.Option.{slice_get_within}
 use Rattle.transition_table.specs.declared.network.Network.{Network}
@@ -36,13 +36,6 @@ writable_signal net change s h at =
     (ap (λ (o : Option Signal). option_map_or
     (λ signal. is_signal net signal && has_code net signal change.code) o false) (sym at)
     ∙ h)
-
-pub all_at : {X : Type 0} (t : X → Bool) (xs : List X) (i : ℕ) (d : X) → list_all t xs ≡ true
-    → i < length xs → t (get_or xs i d) ≡ true
-all_at t [] i d h below = absurd (omega arith)
-all_at t (x ∷ xs) zero d h below = (and_parts (t x) (list_all t xs) h).0
-all_at t (x ∷ xs) (suc i) d h below =
-    all_at t xs i d (and_parts (t x) (list_all t xs) h).1 (omega arith)
 
 -- ---- what an entry changes
 

@@ -24,10 +24,10 @@ use Rattle.wave_text.specs.declared.signal.Change.{Change}
 use Rattle.wave_text.proofs.EntryChanges.{changes_are, filter_below, last_more, out_below}
 use Rattle.wave_text.proofs.MachineSignals.{loss_signals_many, snapshot_signals_many, states_of_machine}
 use Rattle.event_accounts.proofs.InputsOf.{inputs_of_machine}
-use Rattle.event_accounts.proofs.OneItemMore.{flat_map_push}
 use Rattle.journals.proofs.EntriesAt.{prefix_more}
 use Rattle.wave_text.proofs.Played.{signals_split}
 use Rattle.wave_text.proofs.CodesEmitted.{last_both}
+use Rattle.polis_base.proofs.Places.{flat_map_push}
 
 -- ---- the tables
 

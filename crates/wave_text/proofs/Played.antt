@@ -11,11 +11,11 @@ use Rattle.journals.specs.declared.entry.Entry.{Entry}
 use Rattle.journals.specs.Journals.{inputs_of, buffered, snap, state, states_of}
 use Rattle.wave_text.specs.Signals.{change_at, changes_at, signal_code, signal_codes, emission_signals, happens_at, snapshot_signals, loss_signals, played, same_code, signals, machine_signals, value_signals}
 use Rattle.wave_text.specs.Laws.{ChangesGiveCodes, ChangesGiveSnapshots}
-use Rattle.event_accounts.proofs.OneItemMore.{split_at, flat_map_push}
-use Rattle.journals.proofs.DeliveriesOfWay.{map_of_map}
+use Rattle.event_accounts.proofs.OneItemMore.{split_at}
 use Rattle.wave_text.specs.declared.signal.Change.{Change}
 use Rattle.wave_text.specs.declared.signal.Signal.{Signal}
 use Rattle.wave_text.specs.declared.signal.Signal.TheVariants.{Input, State, Loss, Emission, Value}
+use Rattle.polis_base.proofs.Places.{flat_map_push, map_of_map}
 
 -- ---- one signal
 

@@ -29,7 +29,7 @@ use Rattle.worker_core.specs.CoreLaws.{RunsWell}
 use Rattle.worker_core.specs.Facts.{CoreFacts, IsCore, count_entries, held_by, deliveries_in, on_way, is_due, is_last_firing, is_hand_within, log_of_party, stamped_below}
 use Rattle.journals.specs.Schedules.{is_way, event_code}
 use Rattle.journals.proofs.DeliveredBeginsSent.{party_from_same}
-use Rattle.journals.proofs.DeliveriesOfWay.{map_of_map, filter_of_map}
+use Rattle.journals.proofs.DeliveriesOfWay.{filter_of_map}
 use Rattle.worker_core.specs.inner.Known.{Known}
 use Rattle.worker_core.proofs.Due.{trace_due}
 use Rattle.worker_core.proofs.OneEntryMore.{HasMore, clock_within, count_more}
@@ -39,6 +39,7 @@ use Rattle.worker_core.proofs.AllLeastIn.{stamp_in}
 use Rattle.journals.specs.Stamps.{greatest}
 use Rattle.worker_core.proofs.Legal.{merged_is_legal, merged_is_least}
 use Rattle.journals.proofs.Reactions.{none_within}
+use Rattle.polis_base.proofs.Places.{map_of_map}
 
 -- ---- the start
 

@@ -25,9 +25,10 @@ use Rattle.worker_core.specs.Merges.{put, by_stamp, merged, merged_stamps}
 use Rattle.journals.specs.StampLaws.{not_falling}
 use Rattle.journals.specs.Stamps.{least}
 use Rattle.worker_core.specs.inner.Known.{Known}
-use Rattle.worker_core.proofs.ByStamp.{all_more, all_of_filter, not_above, Ordered, is_ordered, ordered_after, kept_by_order, one_of_all, rises_unbounded}
+use Rattle.worker_core.proofs.ByStamp.{all_more, not_above, Ordered, is_ordered, ordered_after, kept_by_order, one_of_all, rises_unbounded}
 use Rattle.journals.proofs.DeliveredBeginsSent.{begins_further, delivered_more, sent_more}
 use Rattle.journals.proofs.DeliveriesOfWay.{filter_of_map}
+use Rattle.polis_base.proofs.ListTests.{all_filtered}
 
 abbrev pub at_machine : ℕ → Stamped → Bool
 at_machine m x = machine_of x.entry == m
@@ -121,7 +122,7 @@ sent_before net trace logs all before x rest (Sender s) m known merge e =
     let prefix =
     subst (λ l. Begins (stamped_below x.stamp l) (filter (at_machine s) before)) (sym parts)
     (below_begins x.stamp (filter (at_machine s) before) (filter (at_machine s) (x ∷ rest))
-    (all_of_filter (not_above x.stamp) (at_machine s) (x ∷ rest) after)) in
+    (all_filtered (not_above x.stamp) (at_machine s) (x ∷ rest) after)) in
     subst (Begins (sent net trace (Sender s) m (entries (stamped_below x.stamp (logs s)))))
     (ap (sent net trace (Sender s) m) (own_entries s before)
     ∙ known.sent_by_own net trace s m (entries before))

@@ -1,5 +1,5 @@
 -- Each step gains.
-use Rattle.std.specs.Prelude.{◌≡◌, ℕ, ◌+◌, ◌*◌, ◌<◌, ◌≤◌, Bool, true, false, cond, ◌&&◌, nat_lt, is_none, is_some, List, [], ◌∷◌, set, get_or, length, Option, Some, None}
+use Rattle.std.specs.Prelude.{◌≡◌, ℕ, ◌+◌, ◌*◌, ◌<◌, ◌≤◌, Bool, true, cond, ◌&&◌, nat_lt, is_none, is_some, List, [], ◌∷◌, set, get_or, length, Option, Some, None}
 use Rattle.std.specs.List.{list_all}
 use Rattle.std.proofs.Common.{refl, sym, ap, ◌∙◌, subst, arith}
 use Rattle.std.proofs.lemmas.List.Sums.{sum_by-set}
@@ -21,6 +21,7 @@ use Rattle.worker_core.specs.inner.Facts.{count_busy}
 use Rattle.worker_core.proofs.OneEntryMore.{count_more}
 use Rattle.worker_core.proofs.FactsAfterLanding.{due_within}
 use Rattle.worker_core.proofs.IsCore.{is_none_at, woken_inside, hand_inside, some_when}
+use Rattle.polis_base.proofs.Bools.{one_if_at_most_one}
 
 abbrev Gains : CoreState → CoreState → Type 0
 Gains state next =
@@ -34,10 +35,6 @@ busy_set : (hands : List (Option Hand)) (m : ℕ) (h old : Option Hand) → m < 
 busy_set hands m h old below is =
     sym (ap (λ o. count_busy (set hands m h) + cond (is_some o) 1 0) is)
     ∙ sum_by-set (λ (o : Option Hand). cond (is_some o) 1 0) hands m h None below
-
-at_most_one : (b : Bool) → cond b 1 0 ≤ 1
-at_most_one true = omega arith
-at_most_one false = omega arith
 
 react_gains : (net : Network) (trace : List TraceItem) (state : CoreState) (m : ℕ)
     → IsCore net trace state → may_react m (log_of state m) (hand_of state m) ≡ true
@@ -56,7 +53,7 @@ react_gains net trace state m core may =
     let hand : Option Hand = hand_after net x in
     let more = count_more state.logs m x inside in
     let count = busy_set state.hands m hand None held (is_none_at (hand_of state m) both.0) in
-    let one = at_most_one (is_some hand) in
+    let one = one_if_at_most_one (is_some hand) in
     omega arith
 
 pub due_inside : (net : Network) (trace : List TraceItem) (state : CoreState) (s : ℕ) (hand : Hand)

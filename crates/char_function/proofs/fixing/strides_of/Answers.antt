@@ -1,6 +1,6 @@
 use Rattle.std.proofs.Common.{◌+◌, arith}
 use Rattle.char_function.proofs.fixing.strides_of.Goals as goal
-use Rattle.outcome_table.proofs.Columns.{product_after}
+use Rattle.domains.proofs.FittingCodes.{product_after}
 
 pub lists_from-requires-clause-few : goal.lists_from-requires-clause-few
 lists_from-requires-clause-few c =

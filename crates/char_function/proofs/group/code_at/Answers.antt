@@ -1,13 +1,13 @@
 use Rattle.std.proofs.Common.{◌≡◌, ◌∙◌, ◌-◌, ◌<◌, [], ℕ, List, length, get_or, slice_get, slice_index, Some, sym, ap, subst, arith, length-append}
 use Rattle.char_function.specs.inner.Points.{at_point, point, points}
 use Rattle.domains.specs.AllCodes.{all_codes}
-use Rattle.domains.proofs.AllCodes.{long_map}
 use Rattle.transition_table.specs.declared.machine.Machine.{Machine}
 use Rattle.outcome_table.specs.declared.table.Table.{Table}
 use Rattle.outcome_table.specs.Outcomes.{IsTableOf, column}
 use Rattle.decision_diagram.proofs.ListItems.{read}
 use Rattle.char_function.proofs.IsTableOf.{numbers_long, number_low, outcome_long, var_at, result_at, code_below}
 use Rattle.char_function.proofs.group.code_at.Goals as goal
+use Rattle.polis_base.proofs.Places.{length_map}
 
 variable_below : (item from long vars columns : ℕ) → from < long → long ≡ vars
     → columns ≡ vars → from < columns
@@ -28,7 +28,7 @@ column_long m t v i long codes table got low vars within =
     let same : codes ≡ column v all =
     sym (read t.codes v codes [] got) ∙ table.codes.each v (omega arith) in
     subst (λ (n : ℕ). i < n)
-    (long_map (point m) all ∙ sym (long_map (λ (s : List ℕ). slice_index s v) all)
+    (length_map (point m) all ∙ sym (length_map (λ (s : List ℕ). slice_index s v) all)
     ∙ ap (λ (xs : List ℕ). length xs) (sym same)) within
 
 pub get-requires-then-item-vars : goal.get-requires-then-item-vars

@@ -8,8 +8,8 @@ use Rattle.char_function.proofs.Varies.{any_found}
 use Rattle.char_function.proofs.ColumnBlocks.{AreBlocks, blocks_of, moved, steps, varies_flat}
 use Rattle.char_function.proofs.support.changes.Goals.{After-from, In-loop-j}
 use Rattle.char_function.proofs.support.changes.Goals as goal
-use Rattle.outcome_table.proofs.Columns.{product_after}
 use Rattle.decision_diagram.proofs.Truths.{never_upto}
+use Rattle.domains.proofs.FittingCodes.{product_after}
 
 -- how the column lies in blocks
 blocks : (c : After-from)

@@ -6,16 +6,16 @@ use Rattle.transition_table.specs.Computed.{all_supports, result_code, support_o
 use Rattle.char_function.specs.inner.Columns.{varies}
 use Rattle.char_function.specs.Supported.{AreSupports}
 use Rattle.char_function.proofs.AreSupports.{column_support, supports_more, are_supports}
-use Rattle.domains.proofs.AllCodes.{long_map}
 use Rattle.char_function.proofs.support.supports_in.Goals as goal
-use Rattle.outcome_table.proofs.Rows.{few_snapshots}
 use Rattle.outcome_table.proofs.Columns.{all_long}
+use Rattle.polis_base.proofs.Places.{length_map}
+use Rattle.transition_table.proofs.MachineCounts.{few_snapshots}
 
 pub support-requires-clause-column : goal.support-requires-clause-column
 support-requires-clause-column c =
     let m = c.args.m.now in
     ap (λ (xs : List ℕ). length xs) (c.deref.ensures.value ∙ c.in_ok-codes.ensures)
-    ∙ long_map (result_code m c.loop-y.y) (all_codes m.vars) ∙ all_long m.vars
+    ∙ length_map (result_code m c.loop-y.y) (all_codes m.vars) ∙ all_long m.vars
 
 pub support-requires-clause-few : goal.support-requires-clause-few
 support-requires-clause-few c =

@@ -1,7 +1,7 @@
-use Rattle.journals.proofs.DeliveriesOfWay.{passes_of_all}
 use Rattle.transition_table.specs.NetworkFacts.{has_vars}
 use Rattle.commands.proofs.MachinesFound.{wrong_snapshot, wrong_within}
 use Rattle.commands.proofs.image_file.print_wrong.Goals as goal
+use Rattle.polis_base.proofs.ListTests.{all_get}
 
 pub get-machine-requires : goal.get-machine-requires
 get-machine-requires c =
@@ -11,7 +11,7 @@ get-machine-requires c =
 pub print_machine_snapshot-requires-clause-sized : goal.print_machine_snapshot-requires-clause-sized
 print_machine_snapshot-requires-clause-sized c =
     let net = c.args.net.now in
-    passes_of_all (has_vars net.domains net.events) net.machines c.args.machine
+    all_get (has_vars net.domains net.events) net.machines c.args.machine
     c.get-machine.result.now net.sized_vars (rw c.from.ensures at c.get-machine.ensures)
 
 pub print_machine_snapshot-requires-clause-snapshot :

@@ -1,8 +1,8 @@
 use Rattle.std.proofs.Common.{◌≡◌, arith, length}
-use Rattle.journals.proofs.DeliveriesOfWay.{passes_of_all}
 use Rattle.transition_table.specs.NetworkFacts.{has_vars}
 use Rattle.commands.proofs.RangeLines.{shown_none, shown_more, shown_all}
 use Rattle.commands.proofs.ranges.print_ranges.Goals as goal
+use Rattle.polis_base.proofs.ListTests.{all_get}
 
 pub loop-k-init : goal.loop-k-init
 loop-k-init c =
@@ -11,7 +11,7 @@ loop-k-init c =
 pub push_range_of-requires-clause-sized : goal.push_range_of-requires-clause-sized
 push_range_of-requires-clause-sized c =
     let net = c.args.net.now in
-    passes_of_all (has_vars net.domains net.events) net.machines c.loop-k.k c.get.result.now
+    all_get (has_vars net.domains net.events) net.machines c.loop-k.k c.get.result.now
     net.sized_vars c.get.ensures
 
 pub loop-k-preserved : goal.loop-k-preserved

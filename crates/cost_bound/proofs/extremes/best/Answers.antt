@@ -8,9 +8,10 @@ use Rattle.task_code.specs.declared.instr.Instr.TheVariants.{Test, Set, Goto, Ha
 use Rattle.task_machine.specs.Running.{CodeFits}
 use Rattle.cost_bound.specs.declared.score.Score.{Score}
 use Rattle.cost_bound.specs.inner.Scores.{AreScores, weights_of, nothing, score_of, Weigh}
-use Rattle.cost_bound.proofs.FirstScore.{few_snapshots, number_below, extreme}
+use Rattle.cost_bound.proofs.FirstScore.{number_below, extreme}
 use Rattle.cost_bound.proofs.Weights.{long_weights, weight_few}
 use Rattle.cost_bound.proofs.extremes.best.Goals as goal
+use Rattle.transition_table.proofs.MachineCounts.{few_snapshots}
 
 weigh : (m : Machine) (c : List Instr) (i : ℕ) (x : Instr) → CodeFits m c → slice_get c i ≡ Some x
     → Weigh (weights_of m.vars) x

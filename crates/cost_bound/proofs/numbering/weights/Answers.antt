@@ -1,7 +1,8 @@
 use Rattle.std.proofs.Common.{◌≡◌, ◌+◌, ◌-◌, ◌*◌, ◌<◌, ◌∙◌, ℕ, arith, length, slice_index, subst, sym}
 use Rattle.std.proofs.lemmas.Option.{get_or_from_slice_get}
-use Rattle.cost_bound.proofs.Weights.{Weighed, weighed_more, product_drop}
+use Rattle.cost_bound.proofs.Weights.{Weighed, weighed_more}
 use Rattle.cost_bound.proofs.numbering.weights.Goals as goal
+use Rattle.domains.proofs.FittingCodes.{product_after}
 
 -- the invariant after the step
 after : (c : goal.After-from-weight)
@@ -30,7 +31,7 @@ overflow_mul-weight c =
     omega (
       arith,
       made.weight_is,
-      product_drop c.args.vars.now (c.loop-v.v - 1) c.len.ensures.sizes,
+      product_after c.args.vars.now (c.loop-v.v - 1) c.len.ensures.sizes,
       c.requires,
     )
 

@@ -1,6 +1,6 @@
 use Rattle.determinism.proofs.Bests.{best_none, best_conflict}
-use Rattle.determinism.proofs.Overlaps.{row_of}
 use Rattle.determinism.proofs.conflict.conflict_of.Goals as goal
+use Rattle.transition_table.proofs.MachineCounts.{row_fits}
 
 pub overlap-requires-clause-of_first : goal.overlap-requires-clause-of_first
 overlap-requires-clause-of_first c =
@@ -14,9 +14,9 @@ overlap-requires-clause-of_second c =
 
 pub invariant_of-pair : goal.invariant_of-pair
 invariant_of-pair c = record {
-  first_row = row_of c.args.machine.now c.args.a c.get-first.result.now
+  first_row = row_fits c.args.machine.now c.args.a c.get-first.result.now
       (rw c.from.ensures at c.get-first.ensures);
-  second_row = row_of c.args.machine.now c.args.b c.get-second.result.now
+  second_row = row_fits c.args.machine.now c.args.b c.get-second.result.now
       (rw c.from-2.ensures at c.get-second.ensures);
   area = c.overlap.ensures.area c.if-not-overlap.false;
   some = c.overlap.ensures.some c.if-not-overlap.false;

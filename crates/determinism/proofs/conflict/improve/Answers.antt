@@ -1,8 +1,9 @@
 use Rattle.std.proofs.Common.{Bool, List, ℕ, length, ap, sym, subst, ◌∙◌}
 use Rattle.determinism.specs.inner.Pairs.{IsBest}
-use Rattle.determinism.proofs.Bests.{best_stays, best_moves, true_or_false}
+use Rattle.determinism.proofs.Bests.{best_stays, best_moves}
 use Rattle.determinism.proofs.conflict.improve.Goals as goal
 use Rattle.determinism.proofs.conflict.improve.Goals.{else-found-via-then-found+else-stands_before, else-found-via-else-found}
+use Rattle.polis_base.proofs.Bools.{not_both}
 
 pub returns-then-stands_before-clause-best : goal.returns-then-stands_before-clause-best
 returns-then-stands_before-clause-best c =
@@ -22,7 +23,7 @@ returns-clause-best c =
     elim c.else-found.branch [
       | else-found-via-then-found+else-stands_before w ↦ w.stands_before.ensures.after
           w.if-stands_before.false
-      | else-found-via-else-found w ↦ absurd (true_or_false c.args.found found w.if-found.false)
+      | else-found-via-else-found w ↦ absurd (not_both c.args.found found w.if-found.false)
     ]))
 
 pub least_difference-requires : goal.least_difference-requires

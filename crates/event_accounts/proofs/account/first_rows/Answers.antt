@@ -3,9 +3,9 @@ use Rattle.polis_base.specs.Lists.{upto}
 use Rattle.transition_table.specs.declared.machine.Machine.{Machine}
 use Rattle.journals.specs.Journals.{inputs_of}
 use Rattle.event_accounts.specs.declared.account.Account.{Account}
-use Rattle.journals.proofs.MomentsAfter.{upto_more}
 use Rattle.event_accounts.proofs.RowsOf.{first_row, row_of}
 use Rattle.event_accounts.proofs.account.first_rows.Goals as goal
+use Rattle.polis_base.proofs.UptoPlaces.{map_upto}
 
 pub loop-m-preserved : goal.loop-m-preserved
 loop-m-preserved c =
@@ -21,4 +21,4 @@ loop-m-preserved c =
     c.in_ok-push.ensures.items
     ∙ ap (λ (l : List (List Account)). l ++ c.in_ok-filled.field-0 ∷ []) c.loop-m.invariant
     ∙ ap (λ (r : List Account). map (row_of net []) (upto c.loop-m.m) ++ r ∷ []) row
-    ∙ sym (upto_more (row_of net []) c.loop-m.m)
+    ∙ sym (map_upto (row_of net []) c.loop-m.m)

@@ -1,12 +1,12 @@
 use Rattle.std.proofs.Common.{◌∙◌, arith}
 use Rattle.journals.specs.Journals.{is_trace_item}
 use Rattle.event_buffer.proofs.LeftAt.{none_from, past}
-use Rattle.journals.proofs.DeliveriesOfWay.{passes_of_all}
 use Rattle.event_buffer.proofs.feed.next_item.Goals as goal
+use Rattle.polis_base.proofs.ListTests.{all_get}
 
 pub count_of-requires : goal.count_of-requires
 count_of-requires c =
-    passes_of_all (is_trace_item c.args.net.now) c.args.trace.now c.loop-i.i c.get.result.now
+    all_get (is_trace_item c.args.net.now) c.args.trace.now c.loop-i.i c.get.result.now
     c.requires.trace c.get.ensures
 
 pub loop-i-preserved : goal.loop-i-preserved

@@ -2,9 +2,10 @@ use Rattle.std.proofs.Common.{◌≡◌, ◌+◌, ◌++◌, ◌∷◌, [], ℕ, 
 use Rattle.transition_table.specs.declared.decl.Party.TheVariants.{Machine as Sender}
 use Rattle.journals.specs.Schedules.{receivers_of}
 use Rattle.event_buffer.specs.declared.arrival.Arrival.{Arrival}
-use Rattle.event_buffer.proofs.Lists.{length_of_set, take_set_next, take_whole}
+use Rattle.event_buffer.proofs.Lists.{length_of_set, take_set_next}
 use Rattle.event_buffer.proofs.WrittenDeliveries.{an_arrival, map_next, receivers_of_event, arrivals_to}
 use Rattle.event_buffer.proofs.room.write_event.Goals as goal
+use Rattle.polis_base.proofs.Places.{take_whole}
 
 pub loop-k-preserved : goal.loop-k-preserved
 loop-k-preserved c =

@@ -1,14 +1,14 @@
 use Rattle.std.proofs.Common.{arith}
 use Rattle.transition_table.specs.NetworkFacts.{has_vars}
-use Rattle.journals.proofs.DeliveriesOfWay.{passes_of_all}
 use Rattle.input_files.proofs.Holds.{before_next, all_before}
 use Rattle.input_files.proofs.IsNetFault.{fault_from, first_fault}
 use Rattle.input_files.proofs.accept.check_machines.Goals as goal
+use Rattle.polis_base.proofs.ListTests.{all_get}
 
 pub check_machine-requires : goal.check_machine-requires
 check_machine-requires c =
     let net = c.args.net.now in
-    passes_of_all (has_vars net.domains net.events) net.machines c.loop-m.m c.get.result.now
+    all_get (has_vars net.domains net.events) net.machines c.loop-m.m c.get.result.now
     net.sized_vars c.get.ensures
 
 pub returns-in-Err-clause-failed : goal.returns-in-Err-clause-failed

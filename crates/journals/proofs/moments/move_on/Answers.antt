@@ -6,6 +6,7 @@ use Rattle.polis_base.specs.Lists.{upto}
 use Rattle.journals.specs.Moved.{code_after}
 use Rattle.journals.proofs.MomentsAfter.{length_table, get_or_table}
 use Rattle.journals.proofs.moments.move_on.Goals as goal
+use Rattle.polis_base.proofs.Numbers.{not_above_itself}
 
 pub returns : goal.returns
 returns c =
@@ -61,9 +62,6 @@ moved old now new k code at long done left below is made = (
       ∙ left i (omega arith),
 )
 
-up_to : (k : ℕ) → k ≤ k
-up_to k = omega arith
-
 pub loop-k-preserved : goal.loop-k-preserved
 loop-k-preserved c =
     let old = c.args.s.now.codes in
@@ -71,7 +69,7 @@ loop-k-preserved c =
     let k = c.loop-k.k in
     let inv = c.loop-k.invariant in
     let at : ℕ → ℕ = λ i. code_after c.args.machine.now c.args.entry.now i (slice_index old i) in
-    let was = sym (get_or_from_slice_get now k c.get.result.now 0 c.get.ensures) ∙ inv.2 k (up_to k)
+    let was = sym (get_or_from_slice_get now k c.get.result.now 0 c.get.ensures) ∙ inv.2 k (not_above_itself k)
     in
     moved old now c.set.new.self k c.next_code-code.result at inv.0 inv.1 inv.2
     (subst (λ (n : ℕ). k < n) (c.len-k-end.ensures ∙ sym inv.0) c.loop-k-test.true)

@@ -2,9 +2,9 @@ use Rattle.std.proofs.Common.{◌≡◌, ◌∙◌, ◌++◌, ◌<◌, codes, le
 use Rattle.polis_base.specs.Lines.{line}
 use Rattle.task_code.specs.Listings.{part_text, parts_text}
 use Rattle.machine_compiler.specs.Parts.{part_of_compiled, parts_of}
-use Rattle.machine_compiler.proofs.DistinctItems.{at_place}
 use Rattle.machine_compiler.proofs.Pairwise.{listing_pairs, more_pairs, all_pairs, of_machine}
 use Rattle.machine_compiler.proofs.listing.print_listing.Goals as goal
+use Rattle.polis_base.proofs.Places.{some_at}
 
 pub loop-k-preserved : goal.loop-k-preserved
 loop-k-preserved c =
@@ -14,7 +14,7 @@ loop-k-preserved c =
     let part = c.get.result.now in
     let low : k < length net.machines = let a = c.loop-k-test.true in let b = c.len.ensures in
     let d = c.min-count.ensures in omega arith in
-    let m = at_place net.machines k low in
+    let m = some_at net.machines k low in
     let written : c.push_part.new.listing
     ≡ c.loop-k.text ++ part_text net m.0 (part_of_compiled part) =
     of_machine net k m.0 (λ machine. c.push_part.new.listing

@@ -1,10 +1,10 @@
 use Rattle.std.proofs.Common.{rules, arith, ◌≡◌, ◌<◌, ◌∙◌, List, Option, length, drop, ap, sym}
 use Rattle.machine_compiler.specs.declared.compiled.Compiled.{Compiled}
 use Rattle.machine_compiler.specs.Parts.{IsRightPart, part_of_compiled}
-use Rattle.machine_compiler.proofs.DistinctItems.{at_place}
 use Rattle.machine_compiler.proofs.RightParts.{none_paired, more_paired, length_push, all_right}
 use Rattle.machine_compiler.proofs.HasPlaces.{drop_next, drop_none}
 use Rattle.machine_compiler.proofs.shares.in_order.Goals as goal
+use Rattle.polis_base.proofs.Places.{some_at}
 
 pub loop-place-init : goal.loop-place-init
 loop-place-init c = record {
@@ -46,7 +46,7 @@ loop-place-preserved c =
     (sym c.loop-place.invariant.left ∙ c.in-Some.ensures.steps.0) in
     let low : c.loop-place.k < length ms =
     let here = next.1 in let long = c.requires.places.long in omega (arith, here, long) in
-    let at = at_place ms c.loop-place.k low in
+    let at = some_at ms c.loop-place.k low in
     record {
       left = sym next.2;
       within = let here = next.1 in omega (arith, here);

@@ -2,15 +2,16 @@ use Rattle.std.proofs.Common.{take, List, subst, sym, arith}
 use Rattle.std.proofs.lemmas.Option.{slice_get_within}
 use Rattle.journals.specs.declared.entry.Entry.{Entry}
 use Rattle.machine_compiler.specs.inner.Tallies.{AreTallies}
-use Rattle.machine_compiler.proofs.AreTallies.{journal_at, first_more, tallies_few}
+use Rattle.machine_compiler.proofs.AreTallies.{tallies_few}
 use Rattle.machine_compiler.proofs.tallies.count_reactions.Goals as goal
+use Rattle.journals.proofs.EntriesAt.{fits_at, prefix_more}
 
 pub loop-i-init : goal.loop-i-init
 loop-i-init c = rw c.network.ensures at c.in_ok-tallies.ensures c.args.r.now.codes
 
 pub tally_entry-requires-clause-fits : goal.tally_entry-requires-clause-fits
 tally_entry-requires-clause-fits c =
-    journal_at c.args.r.now.net.now c.args.journal.now c.loop-i.i c.get.result.now
+    fits_at c.args.r.now.net.now c.args.journal.now c.loop-i.i c.get.result.now
     c.requires.journal c.get.ensures
 
 pub tally_entry-requires-clause-few : goal.tally_entry-requires-clause-few
@@ -29,5 +30,5 @@ loop-i-preserved c =
     let i = c.loop-i.i in
     subst (λ (seen : List Entry).
     AreTallies r.net.now r.codes seen c.tally_entry.new.tallies.items)
-    (sym (first_more journal i c.get.result.now c.get.ensures))
+    (sym (prefix_more journal i c.get.result.now c.get.ensures))
     (c.tally_entry.ensures (take i journal) c.loop-i.invariant)

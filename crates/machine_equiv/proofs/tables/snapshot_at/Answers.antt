@@ -5,9 +5,9 @@ use Rattle.domains.specs.AllCodes.{all_codes}
 use Rattle.domains.specs.Tables.{fits}
 use Rattle.domains.proofs.AllCodes.{lists_fit}
 use Rattle.domains.proofs.Ranks.{length_fits}
-use Rattle.outcome_table.proofs.ListMaps.{all_get}
 use Rattle.machine_equiv.proofs.AreEqualOnes.{code_at}
 use Rattle.machine_equiv.proofs.tables.snapshot_at.Goals as goal
+use Rattle.polis_base.proofs.ListTests.{all_get}
 
 pub loop-v-preserved : goal.loop-v-preserved
 loop-v-preserved c =

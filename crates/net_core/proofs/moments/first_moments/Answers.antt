@@ -2,8 +2,8 @@ use Rattle.std.proofs.Common.{List, [], ◌∷◌, ◌++◌, map, ap, sym, ◌�
 use Rattle.polis_base.specs.Lists.{upto}
 use Rattle.transition_table.specs.declared.snapshot.Snapshot.{Snapshot}
 use Rattle.journals.specs.Journals.{snap}
-use Rattle.journals.proofs.MomentsAfter.{upto_more}
 use Rattle.net_core.proofs.moments.first_moments.Goals as goal
+use Rattle.polis_base.proofs.UptoPlaces.{map_upto}
 
 pub loop-m-preserved : goal.loop-m-preserved
 loop-m-preserved c =
@@ -13,4 +13,4 @@ loop-m-preserved c =
     c.in_ok-push.ensures.items ∙ ap (λ (l : List Snapshot). l ++ c.in_ok-moment.moment ∷ [])
     c.loop-m.invariant
     ∙ ap (λ (s : Snapshot). map (snap net []) (upto c.loop-m.m) ++ s ∷ []) first
-    ∙ sym (upto_more (snap net []) c.loop-m.m)
+    ∙ sym (map_upto (snap net []) c.loop-m.m)

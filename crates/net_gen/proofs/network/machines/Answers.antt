@@ -4,8 +4,8 @@ use Rattle.net_reader.specs.declared.raw.RawMachine.{RawMachine}
 use Rattle.polis_base.specs.Draws.{after}
 use Rattle.net_gen.specs.Networks.{machine, machine_at, machines}
 use Rattle.polis_base.proofs.DrawsAfter.{after_none, after_more}
-use Rattle.net_gen.proofs.MoreItems.{map_more}
 use Rattle.net_gen.proofs.network.machines.Goals as goal
+use Rattle.polis_base.proofs.UptoPlaces.{map_upto}
 
 pub loop-i-init : goal.loop-i-init
 loop-i-init c = record {
@@ -28,7 +28,7 @@ loop-i-preserved c =
           ∙ ap (λ (l : List RawMachine). l ++ c.in_ok-machine.field-0 ∷ [])
           c.loop-i.invariant.made
           ∙ ap (λ (m : RawMachine). map f (upto i) ++ m ∷ []) made
-          ∙ sym (map_more f i);
+          ∙ sym (map_upto f i);
       moved =
           c.in_ok-machine.ensures.moves
           ∙ ap (λ (s : ℕ). after s 25) c.loop-i.invariant.moved

@@ -5,8 +5,8 @@ use Rattle.net_reader.specs.declared.raw.RawRow.{RawRow}
 use Rattle.polis_base.specs.Draws.{next, after, draw}
 use Rattle.net_gen.specs.Networks.{tick_row, tick_row_at, tick_rows}
 use Rattle.polis_base.proofs.DrawsAfter.{after_none, after_one}
-use Rattle.net_gen.proofs.MoreItems.{map_more}
 use Rattle.net_gen.proofs.rows.push_tick_rows.Goals as goal
+use Rattle.polis_base.proofs.UptoPlaces.{map_upto}
 
 pub loop-v-preserved : goal.loop-v-preserved
 loop-v-preserved c =
@@ -34,7 +34,7 @@ loop-v-preserved c =
           ∙ ap (λ (l : List RawRow). l ++ c.in_ok-tick_row.field-0 ∷ []) c.loop-v.invariant.made
           ∙ append_assoc before (map f (upto v)) (c.in_ok-tick_row.field-0 ∷ [])
           ∙ ap (λ (r : RawRow). before ++ (map f (upto v) ++ r ∷ [])) row
-          ∙ ap (λ (l : List RawRow). before ++ l) (sym (map_more f v));
+          ∙ ap (λ (l : List RawRow). before ++ l) (sym (map_upto f v));
       moved = second ∙ ap (after x) (let e : 2 * v + 1 + 1 ≡ 2 * (v + 1) = omega arith in e);
     }
 

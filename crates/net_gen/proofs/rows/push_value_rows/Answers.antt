@@ -5,8 +5,8 @@ use Rattle.net_reader.specs.declared.raw.RawRow.{RawRow}
 use Rattle.polis_base.specs.Draws.{next, after, draw}
 use Rattle.net_gen.specs.Networks.{value_row, value_row_at, value_rows}
 use Rattle.polis_base.proofs.DrawsAfter.{after_none, after_one}
-use Rattle.net_gen.proofs.MoreItems.{map_more}
 use Rattle.net_gen.proofs.rows.push_value_rows.Goals as goal
+use Rattle.polis_base.proofs.UptoPlaces.{map_upto}
 
 pub loop-k-init : goal.loop-k-init
 loop-k-init c = record {
@@ -32,7 +32,7 @@ loop-k-preserved c =
           ∙ ap (λ (l : List RawRow). l ++ c.in_ok-value_row.field-0 ∷ []) c.loop-k.invariant.made
           ∙ append_assoc before (map f (upto k)) (c.in_ok-value_row.field-0 ∷ [])
           ∙ ap (λ (r : RawRow). before ++ (map f (upto k) ++ r ∷ [])) row
-          ∙ ap (λ (l : List RawRow). before ++ l) (sym (map_more f k));
+          ∙ ap (λ (l : List RawRow). before ++ l) (sym (map_upto f k));
       moved = c.draw_value-a.ensures.moves ∙ ap next c.loop-k.invariant.moved ∙ after_one x k;
     }
 

@@ -12,9 +12,9 @@ use Rattle.net_rules.specs.inner.Sound.{Each, IsSound, IsSoundMachine, has_count
 use Rattle.net_rules.proofs.NamedMachines.{each_named, zip_named}
 use Rattle.net_rules.proofs.Counts.{each_all, count_in}
 use Rattle.net_rules.proofs.HasReceivers.{receivers_kept}
-use Rattle.net_rules.proofs.Zips.{zip_long}
 use Rattle.net_rules.proofs.NetworkFacts.{domain_count, event_count, machine_count, event_names_kept, machine_names_kept, event_domains_kept, all_keep, all_senders}
 use Rattle.net_rules.proofs.resolving.network_of.Goals as goal
+use Rattle.polis_base.proofs.Places.{zip_length}
 
 pub domains_of-requires-clause-some : goal.domains_of-requires-clause-some
 domains_of-requires-clause-some c =
@@ -71,7 +71,7 @@ invariant_of-result c =
     record {
       few_domains = omega (
         arith,
-        zip_long (λ (d : RawDomain). IsDomainOf d.shape) raw.domains
+        zip_length (λ (d : RawDomain). IsDomainOf d.shape) raw.domains
             c.in_ok-domains.domains domains,
         domain_count raw sound,
       );
@@ -83,7 +83,7 @@ invariant_of-result c =
       );
       few_machines = omega (
         arith,
-        zip_long (IsMachineOf raw) raw.machines c.in_ok-machines.machines machines,
+        zip_length (IsMachineOf raw) raw.machines c.in_ok-machines.machines machines,
         machine_count raw sound,
       );
       event_names = ap (λ l. are_distinct (map (λ (event : EventDecl). event.name) l)) events

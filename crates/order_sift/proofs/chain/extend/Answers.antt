@@ -8,12 +8,12 @@ use Rattle.order_sift.specs.inner.Below.{BelowOrders}
 use Rattle.order_sift.specs.inner.Chains.{AreChain}
 use Rattle.order_sift.specs.inner.Classes.{AreClasses, IsNextItem, fixed_too}
 use Rattle.order_sift.specs.inner.Known.{in_set}
-use Rattle.order_sift.proofs.AllowedPlaces.{items}
 use Rattle.order_sift.proofs.ChainSteps.{chain_next, chain_more}
 use Rattle.order_sift.proofs.ItemSets.{same_level, same_too, small_items}
 use Rattle.order_sift.proofs.MovedLevels.{same_classes, same_next}
 use Rattle.order_sift.proofs.chain.extend.Goals.{After-first_items-set}
 use Rattle.order_sift.proofs.chain.extend.Goals as goal
+use Rattle.transition_table.proofs.MachineCounts.{order_length}
 
 -- the item that is freed next, and the set of those before it
 record Frees (m : Machine) (o : List ℕ) (t set item : ℕ) (old : List ℕ) : Type 0 where
@@ -35,7 +35,7 @@ frees m o laws sure allowed t n set item classes backs old l low got is kept cha
     let same : (w : ℕ) → in_set set w ≡ stands (take k o) w =
     λ w. is w ∙ ap (λ (n : ℕ). stands (take (n - 1 - t) o) w) l in
     let follows = chain_next m o laws sure allowed t item classes backs low at chain in
-    let many = items m o allowed in
+    let many = order_length m o allowed in
     let inside = allowed.permutation.below k (omega arith) in
     record {
       at = at;
@@ -81,7 +81,7 @@ pub overflow_add-back : goal.overflow_add-back
 overflow_add-back c =
     let t = c.args.t in
     let l = c.requires.t in
-    let n = items c.args.m.now c.args.order.now c.requires.allowed in
+    let n = order_length c.args.m.now c.args.order.now c.requires.allowed in
     let few = c.laws_of_levels.ensures.few in
     let last = get_or_from_slice_get c.args.chain.now.backs t c.get-last.result.now 0
     c.get-last.ensures in

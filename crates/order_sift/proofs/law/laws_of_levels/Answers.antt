@@ -1,5 +1,5 @@
-use Rattle.order_sift.proofs.AreSizes.{sizes_both}
 use Rattle.order_sift.proofs.law.laws_of_levels.Goals as goal
+use Rattle.domains.proofs.FittingCodes.{sizes_both}
 
 pub returns-clause-sizes : goal.returns-clause-sizes
 returns-clause-sizes c =

@@ -14,15 +14,15 @@ use Rattle.order_sift.specs.inner.Chains.{AreSizes, IsChain}
 use Rattle.order_sift.specs.inner.Classes.{AreClasses, fixed_too}
 use Rattle.order_sift.specs.inner.Known.{in_set}
 use Rattle.order_sift.specs.inner.Settings.{IsRange}
-use Rattle.order_sift.proofs.ListUpdates.{set_long}
 use Rattle.order_sift.proofs.ChainPlaces.{IsItemOf, item_of}
 use Rattle.order_sift.proofs.ChainSteps.{Follows, sizes_set, front_low, after_free, after_more, after_next, steps_after, start_without}
 use Rattle.order_sift.proofs.PairKeys.{room_kept}
 use Rattle.order_sift.proofs.ItemSets.{same_level, same_too, small_items}
-use Rattle.order_sift.proofs.AllowedPlaces.{items}
 use Rattle.order_sift.proofs.MovedLevels.{front_of, same_classes, same_next, take_low}
 use Rattle.order_sift.proofs.moves.fill_after.Goals.{After-get-next, After-len-items, In-loop-j}
 use Rattle.order_sift.proofs.moves.fill_after.Goals as goal
+use Rattle.polis_base.proofs.Places.{length_set}
+use Rattle.transition_table.proofs.MachineCounts.{order_length as items}
 
 -- the item at place j is the next after which the item at place i is put
 record Later (m : Machine) (o : List ℕ) (classes : List (List ℕ)) (i j set item next : ℕ) :
@@ -308,7 +308,7 @@ loop-j-preserved c =
       room = room_kept (product m.vars) _ _ c.freed_after.auto.seen inv.room;
       known = c.in_ok-numbers.ensures.known;
       set = λ w. same w ∙ ap (λ (n : ℕ). stands (take n (remove o i)) w) e;
-      long = ap (λ (xs : List ℕ). length xs) set ∙ set_long c.loop-j.sizes (j - first) value ∙ long;
+      long = ap (λ (xs : List ℕ). length xs) set ∙ length_set c.loop-j.sizes (j - first) value ∙ long;
       later = omega arith;
       front = step.front_is ∙ ap (front_of m o i) e;
       few = omega arith;

@@ -14,15 +14,15 @@ use Rattle.order_sift.specs.inner.Chains.{AreSizes, IsChain}
 use Rattle.order_sift.specs.inner.Classes.{AreClasses, IsNextItem, fixed_too}
 use Rattle.order_sift.specs.inner.Known.{in_set}
 use Rattle.order_sift.specs.inner.Settings.{IsRange}
-use Rattle.order_sift.proofs.ListUpdates.{set_long}
 use Rattle.order_sift.proofs.ChainPlaces.{IsItemOf, IsTurn, item_of, turn_of}
 use Rattle.order_sift.proofs.ChainSteps.{sizes_set, front_low, before_next, own_free, own_classes, steps_before, start_with, back_high}
 use Rattle.order_sift.proofs.PairKeys.{room_kept}
 use Rattle.order_sift.proofs.ItemSets.{set_before, set_with, same_level, same_too, small_items}
-use Rattle.order_sift.proofs.AllowedPlaces.{items}
 use Rattle.order_sift.proofs.MovedLevels.{back_of, same_classes, same_next, rest_long}
 use Rattle.order_sift.proofs.moves.fill_before.Goals.{After-len-items, After-with-set, In-loop-t}
 use Rattle.order_sift.proofs.moves.fill_before.Goals as goal
+use Rattle.polis_base.proofs.Places.{length_set}
+use Rattle.transition_table.proofs.MachineCounts.{order_length}
 
 -- the item at place j is the next before which the item at place i is put, and the sets of those
 -- before it without that item and with it
@@ -62,7 +62,7 @@ earlier m o laws sure allowed chain is_chain sized i first t before set item nex
     let same_with : (w : ℕ) → in_set set w ≡ with_it w =
     set_with o before set item i j item_is same set_is in
     let long = rest_long m o laws sure allowed i li in
-    let many = items m o allowed in
+    let many = order_length m o allowed in
     let item_at = allowed.permutation.below i li in
     let next_at = allowed.permutation.below j (omega arith) in
     let follows = before_next m o laws sure allowed chain.classes chain.backs is_chain i li sized j
@@ -298,7 +298,7 @@ loop-t-preserved c =
     record {
       room = room_kept (product m.vars) _ _ c.freed_after.auto.seen inv.room;
       known = c.in_ok-own.ensures.known;
-      long = ap (λ (xs : List ℕ). length xs) set ∙ set_long c.loop-t.sizes (j - first) value ∙ long;
+      long = ap (λ (xs : List ℕ). length xs) set ∙ length_set c.loop-t.sizes (j - first) value ∙ long;
       back = step.back_is ∙ ap (back_of m o i) e_new;
       few = omega arith;
       classes = subst
@@ -411,7 +411,7 @@ overflow_sub-size c =
 
 pub overflow_add-back : goal.overflow_add-back
 overflow_add-back c =
-    let n = items c.args.moving.now.machine.now c.args.moving.now.order.now c.requires.moving.allowed in
+    let n = order_length c.args.moving.now.machine.now c.args.moving.now.order.now c.requires.moving.allowed in
     let items_few = c.laws_of_levels.ensures.few in
     let few = c.loop-t.invariant.few in
     let here = c.in_ok-numbers.ensures.few in
@@ -428,7 +428,7 @@ overflow_add-size c =
     let sized = c.laws_of_levels.ensures.sizes in
     let i = c.args.i in
     let l = c.len-items.ensures.len in
-    let n = items m o c.requires.moving.allowed in
+    let n = order_length m o c.requires.moving.allowed in
     let items_few = c.laws_of_levels.ensures.few in
     let whole_is = ap (slice_index chain.backs) (sym l)
     ∙ get_or_from_slice_get chain.backs c.len-items.result c.get-whole.result.now 0
@@ -447,7 +447,7 @@ overflow_add-size-in-loop-t c =
     let sized = c.laws_of_levels.ensures.sizes in
     let i = c.args.i in
     let l = c.len-items.ensures.len in
-    let n = items m o c.requires.moving.allowed in
+    let n = order_length m o c.requires.moving.allowed in
     let items_few = c.laws_of_levels.ensures.few in
     let whole_is = ap (slice_index chain.backs) (sym l)
     ∙ get_or_from_slice_get chain.backs c.len-items.result c.get-whole.result.now 0

@@ -4,8 +4,9 @@ use Rattle.domains.specs.Orders.{place}
 use Rattle.decision_diagram.specs.Sets.{stands}
 use Rattle.order_sift.specs.inner.Turns.{AreAllowedPlaces}
 use Rattle.order_sift.proofs.AreSizes.{all_below}
-use Rattle.order_sift.proofs.AllowedPlaces.{items, var_within, var_places, result_places, result_first}
+use Rattle.order_sift.proofs.AllowedPlaces.{var_within, var_places, result_places, result_first}
 use Rattle.order_sift.proofs.places.allowed_places.Goals as goal
+use Rattle.transition_table.proofs.MachineCounts.{order_length}
 
 pub overflow_sub-result : goal.overflow_sub-result
 overflow_sub-result c =
@@ -28,7 +29,7 @@ place_after-requires-clause-support c =
     let m = c.args.machine.now in
     let supports = c.args.supports.now in
     let order = c.args.order.now in
-    let n = items m order c.requires.allowed in
+    let n = order_length m order c.requires.allowed in
     let are = c.requires.supports in
     let y = c.from-else-from-vars.result - c.from-vars.result in
     let is : get_or supports y [] ≡ c.get-support.result.now =
@@ -81,7 +82,7 @@ returns-else-from-vars-clause-places c =
     let m = c.args.machine.now in
     let supports = c.args.supports.now in
     let order = c.args.order.now in
-    let n = items m order c.requires.allowed in
+    let n = order_length m order c.requires.allowed in
     let y = c.from-else-from-vars.result - c.from-vars.result in
     let is : get_or supports y [] ≡ c.get-support.result.now =
     get_or_from_slice_get supports y c.get-support.result.now [] c.get-support.ensures in
@@ -107,7 +108,7 @@ returns-else-from-vars-clause-first c =
     let m = c.args.machine.now in
     let supports = c.args.supports.now in
     let order = c.args.order.now in
-    let n = items m order c.requires.allowed in
+    let n = order_length m order c.requires.allowed in
     let y = c.from-else-from-vars.result - c.from-vars.result in
     let is : get_or supports y [] ≡ c.get-support.result.now =
     get_or_from_slice_get supports y c.get-support.result.now [] c.get-support.ensures in

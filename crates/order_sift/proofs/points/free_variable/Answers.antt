@@ -9,13 +9,13 @@ use Rattle.order_sift.specs.declared.points.Points.{Points}
 use Rattle.order_sift.specs.inner.Classes.{snapshot_at}
 use Rattle.order_sift.specs.inner.Pairs.{AreBelow, HasRoom}
 use Rattle.order_sift.specs.inner.Points.{IsPrepared}
-use Rattle.order_sift.proofs.AreSizes.{product_some, size_some, sizes_drop}
+use Rattle.order_sift.proofs.AreSizes.{product_some}
 use Rattle.order_sift.proofs.TruePoints.{snapshot_fits}
 use Rattle.order_sift.proofs.AreClasses.{variable_freed, neighbours, within_of}
 use Rattle.order_sift.proofs.points.free_variable.Goals as goal
 use Rattle.transition_table.proofs.Ranges.{below_size}
 use Rattle.domains.proofs.Ranks.{length_fits}
-use Rattle.outcome_table.proofs.Columns.{product_after}
+use Rattle.domains.proofs.FittingCodes.{product_after, size_some, sizes_drop}
 
 pub lists_from-stride-requires-clause-few : goal.lists_from-stride-requires-clause-few
 lists_from-stride-requires-clause-few c =

@@ -1,21 +1,17 @@
-use Rattle.std.proofs.Common.{◌≡◌, ◌∙◌, ◌+◌, ◌<◌, ◌||◌, ℕ, zero, suc, refl, replicate, false, cond, length, map, take, get_or, slice_index, arith, sym, ap, eqb}
+use Rattle.std.proofs.Common.{◌≡◌, ◌∙◌, ◌+◌, ◌<◌, ◌||◌, ℕ, refl, false, cond, length, map, take, slice_index, arith, sym, ap, eqb}
 use Rattle.std.specs.List.{list_any}
 use Rattle.std.proofs.lemmas.List.{length-replicate}
 use Rattle.order_sift.specs.inner.Classes.{differing}
 use Rattle.order_sift.proofs.DifferingNumbers.{marked_more, differing_more, any_more}
 use Rattle.order_sift.proofs.points.level.Goals as goal
-
-none_met : (n k : ℕ) → get_or (replicate n false) k false ≡ false
-none_met zero k = refl
-none_met (suc n) zero = refl
-none_met (suc n) (suc k) = none_met n k
+use Rattle.polis_base.proofs.Places.{nowhere_set}
 
 pub loop-i-init : goal.loop-i-init
 loop-i-init c = record {
   count = refl;
   few = omega arith;
   room = length-replicate 1024 false;
-  met = λ n ln. none_met 1024 n;
+  met = λ n ln. nowhere_set 1024 n;
 }
 
 pub loop-i-preserved : goal.loop-i-preserved

@@ -1,4 +1,4 @@
-use Rattle.std.proofs.Common.{◌≡◌, ⊎_elim, ◌+◌, ◌<◌, ℕ, List, [], ◌∷◌, ◌++◌, length, get_or, slice_index, refl, sym, ap, subst, ◌∙◌, arith, length-append}
+use Rattle.std.proofs.Common.{◌≡◌, ⊎_elim, ◌+◌, ◌<◌, ℕ, List, [], ◌∷◌, ◌++◌, length, get_or, slice_index, sym, ap, subst, ◌∙◌, arith, length-append}
 use Rattle.std.proofs.lemmas.Bool.{cases_lt}
 use Rattle.std.proofs.lemmas.List.{get_or_append_left}
 use Rattle.domains.specs.Tables.{product}
@@ -7,16 +7,13 @@ use Rattle.transition_table.specs.Computed.{result_code}
 use Rattle.order_sift.specs.inner.Classes.{snapshot_at}
 use Rattle.order_sift.specs.inner.Pairs.{AreBelow}
 use Rattle.order_sift.proofs.prepare.codes_of_results.Goals as goal
+use Rattle.polis_base.proofs.Places.{list_at_end}
 
 -- the codes of one result
 record AreCodes (m : Machine) (y : ℕ) (codes : List ℕ) : Type 0 where
   long : length codes ≡ product m.vars
   below : AreBelow 33 codes
   code : (i : ℕ) → i < product m.vars → slice_index codes i ≡ result_code m y (snapshot_at m i)
-
-at_end : (xs : List (List ℕ)) (x : List ℕ) → get_or (xs ++ x ∷ []) (length xs) [] ≡ x
-at_end [] x = refl
-at_end (y ∷ xs) x = at_end xs x
 
 -- those before the end, and the one at the end
 one_more : (m : Machine) (xs new : List (List ℕ)) (x : List ℕ) (n : ℕ)
@@ -31,7 +28,7 @@ one_more m xs new x n each last long made z low =
     let here : z ≡ n = omega arith in
     let place : z ≡ length xs = here ∙ sym long in
     subst (AreCodes m z)
-    (sym (ap (λ (k : ℕ). get_or (xs ++ x ∷ []) k []) place ∙ at_end xs x))
+    (sym (ap (λ (k : ℕ). get_or (xs ++ x ∷ []) k []) place ∙ list_at_end xs x))
     (subst (λ (k : ℕ). AreCodes m k x) (sym here) last))
     (cases_lt z n))
 

@@ -3,7 +3,7 @@ use Rattle.std.proofs.lemmas.Bool.{ne_eqb}
 use Rattle.polis_base.specs.Lists.{upto}
 use Rattle.order_sift.proofs.Different.{any_item}
 use Rattle.order_sift.proofs.prepare.differs.Goals as goal
-use Rattle.char_function.proofs.AreSupports.{get_upto}
+use Rattle.polis_base.proofs.UptoPlaces.{get_upto}
 
 pub returns-then-outcomes-neighbour : goal.returns-then-outcomes-neighbour
 returns-then-outcomes-neighbour c =

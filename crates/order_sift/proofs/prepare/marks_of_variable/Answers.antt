@@ -8,7 +8,7 @@ use Rattle.order_sift.proofs.TableOutcomes.{matters_var}
 use Rattle.order_sift.proofs.AreClasses.{within_of}
 use Rattle.order_sift.proofs.prepare.marks_of_variable.Goals as goal
 use Rattle.order_sift.proofs.prepare.marks_of_variable.Goals.{then-differs+in_ok-push, else-differs}
-use Rattle.outcome_table.proofs.Columns.{product_after}
+use Rattle.domains.proofs.FittingCodes.{product_after}
 
 pub lists_from-stride-requires-clause-few : goal.lists_from-stride-requires-clause-few
 lists_from-stride-requires-clause-few c =

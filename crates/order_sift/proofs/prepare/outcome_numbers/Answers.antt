@@ -1,4 +1,4 @@
-use Rattle.std.proofs.Common.{◌≡◌, ◌∙◌, ◌<◌, ◌≤◌, [], ℕ, zero, suc, List, length, get_or, replicate, slice_index, arith, refl, sym, ap, subst}
+use Rattle.std.proofs.Common.{◌≡◌, ◌∙◌, ◌<◌, ◌≤◌, [], ℕ, List, length, get_or, replicate, slice_index, arith, sym, ap, subst}
 use Rattle.std.proofs.lemmas.List.{length-replicate}
 use Rattle.std.specs.Prelude.{◌↔◌}
 use Rattle.std.proofs.lemmas.Option.{get_or_from_slice_get}
@@ -11,6 +11,7 @@ use Rattle.order_sift.proofs.TableOutcomes.{tell_result, same_outcomes}
 use Rattle.order_sift.proofs.PairedLists.{are_pairs}
 use Rattle.order_sift.proofs.prepare.outcome_numbers.Goals.{After-as_slice-after}
 use Rattle.order_sift.proofs.prepare.outcome_numbers.Goals as goal
+use Rattle.polis_base.proofs.Places.{index_zeros}
 
 below_results : (y end long results : ℕ) → y < end → end ≡ long → long ≡ results → y < results
 below_results y end long results low end_is wide = omega arith
@@ -55,14 +56,9 @@ paired-requires-clause-other_below c =
 pub get-requires : goal.get-requires
 get-requires c = subst (λ (n : ℕ). c.loop-y.y < n) c.len-y-end.ensures c.loop-y-test.true
 
-zero_at : (n k : ℕ) → slice_index (replicate n 0) k ≡ 0
-zero_at zero k = refl
-zero_at (suc n) zero = refl
-zero_at (suc n) (suc k) = zero_at n k
-
 zeros_below : (n : ℕ) → AreBelow n (replicate n 0)
 zeros_below n i low =
-    let zero_is = zero_at n i in
+    let zero_is = index_zeros n i in
     let inside : i < n = subst (λ (k : ℕ). i < k) (length-replicate n 0) low in
     omega arith
 
@@ -73,7 +69,7 @@ loop-y-init c =
     let is : made ≡ replicate n 0 =
     c.in_ok-made.ensures ∙ ap (λ (k : ℕ). replicate k 0) c.requires.snapshots in
     let zeros : (k : ℕ) → slice_index made k ≡ 0 =
-    λ k. ap (λ (xs : List ℕ). slice_index xs k) is ∙ zero_at n k in
+    λ k. ap (λ (xs : List ℕ). slice_index xs k) is ∙ index_zeros n k in
     record {
       room = c.requires.room;
       long = ap (λ (xs : List ℕ). length xs) is ∙ length-replicate n 0;

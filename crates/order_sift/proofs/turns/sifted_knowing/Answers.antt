@@ -2,16 +2,16 @@ use Rattle.std.proofs.Common.{◌≡◌, ◌∙◌, ◌<◌, ℕ, List, length, 
 use Rattle.transition_table.specs.Orders.{Allowed}
 use Rattle.char_function.specs.Orders.{first_order}
 use Rattle.char_function.specs.Sizes.{Size}
-use Rattle.order_sift.proofs.AllowedPlaces.{items}
 use Rattle.order_sift.proofs.IsSize.{is_size, is_least, none_smaller}
 use Rattle.order_sift.proofs.SiftRules.{no_larger, stays_last, none_smaller_last}
 use Rattle.order_sift.specs.Turns.{Sifts}
 use Rattle.order_sift.proofs.turns.sifted_knowing.Goals as goal
+use Rattle.transition_table.proofs.MachineCounts.{order_length}
 
 pub sift_items-requires-clause-some : goal.sift_items-requires-clause-some
 sift_items-requires-clause-some c =
     let at = c.in_ok-at.ensures.at.counted in
-    let long = items c.args.sifting.now.machine.now c.in_ok-at.at.order at.allowed in
+    let long = order_length c.args.sifting.now.machine.now c.in_ok-at.at.order at.allowed in
     let results = c.var_count.ensures.results in
     omega arith
 
@@ -31,7 +31,7 @@ returns c =
     let sifts : Sifts m new.order (first_order m) 0 (length (first_order m)) =
     subst (λ (o : List ℕ). Sifts m new.order o 0 (length o)) first made.sifts in
     let allowed : Allowed m (first_order m) = subst (Allowed m) first start.allowed in
-    let long = items m (first_order m) allowed in
+    let long = order_length m (first_order m) allowed in
     let results = c.var_count.ensures.results in
     let some : 0 < length (first_order m) = omega arith in
     record {

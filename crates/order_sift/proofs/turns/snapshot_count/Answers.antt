@@ -2,8 +2,9 @@ use Rattle.std.proofs.Common.{◌≡◌, ◌∙◌, ◌+◌, ◌*◌, ◌^◌, �
 use Rattle.std.proofs.Math.Seq.{drop-cons}
 use Rattle.std.proofs.lemmas.Option.{get_or_from_slice_get}
 use Rattle.domains.specs.Tables.{product, are_sizes}
-use Rattle.order_sift.proofs.AreSizes.{factor_below, product_some, sizes_drop}
+use Rattle.order_sift.proofs.AreSizes.{factor_below, product_some}
 use Rattle.order_sift.proofs.turns.snapshot_count.Goals as goal
+use Rattle.domains.proofs.FittingCodes.{sizes_drop}
 
 here : (sizes : List ℕ) (v : ℕ) → v < length sizes
     → product (drop v sizes) ≡ slice_index sizes v * product (drop (v + 1) sizes)

@@ -2,16 +2,16 @@ use Rattle.std.proofs.Common.{◌≡◌, ◌∙◌, ◌+◌, ◌-◌, ◌<◌, �
 use Rattle.domains.specs.Tables.{product}
 use Rattle.order_sift.specs.Turns.{next_item}
 use Rattle.order_sift.specs.inner.Turns.{ComesTo}
-use Rattle.order_sift.proofs.AllowedPlaces.{items}
 use Rattle.order_sift.proofs.PairKeys.{room_kept}
 use Rattle.order_sift.proofs.SiftRules.{after_standing, after_moving}
 use Rattle.order_sift.proofs.turns.turn.Goals as goal
+use Rattle.transition_table.proofs.MachineCounts.{order_length}
 
 pub loop-k-init : goal.loop-k-init
 loop-k-init c =
     let order = c.args.at.now.order in
     let all = c.var_count.result + c.result_count.result in
-    let n = items c.args.sifting.now.machine.now order c.requires.at.counted.allowed in
+    let n = order_length c.args.sifting.now.machine.now order c.requires.at.counted.allowed in
     let vars = c.var_count.ensures.count in
     let both = c.var_count.ensures.results in
     let results = c.result_count.ensures.count in

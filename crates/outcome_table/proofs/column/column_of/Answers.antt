@@ -3,8 +3,9 @@ use Rattle.polis_base.specs.Lists.{upto}
 use Rattle.domains.specs.AllCodes.{all_codes}
 use Rattle.domains.specs.Tables.{are_sizes, product}
 use Rattle.outcome_table.specs.Outcomes.{column}
-use Rattle.outcome_table.proofs.Columns.{column_long, column_pieces, product_after, product_some, product_split, product_times}
+use Rattle.outcome_table.proofs.Columns.{column_long, column_pieces, product_some, product_split, product_times}
 use Rattle.outcome_table.proofs.column.column_of.Goals as goal
+use Rattle.domains.proofs.FittingCodes.{product_after}
 
 pub column_from-requires-clause-few : goal.column_from-requires-clause-few
 column_from-requires-clause-few c =

@@ -1,6 +1,6 @@
 use Rattle.std.proofs.Common.{arith}
-use Rattle.outcome_table.proofs.Columns.{product_after}
 use Rattle.outcome_table.proofs.column.piece_from.Goals as goal
+use Rattle.domains.proofs.FittingCodes.{product_after}
 
 pub lists_from-requires-clause-few : goal.lists_from-requires-clause-few
 lists_from-requires-clause-few c =

@@ -1,7 +1,7 @@
 use Rattle.std.proofs.Common.{◌≡◌, ◌∙◌, ◌+◌, ◌++◌, ℕ, List, suc, flat_map, arith, ap, sym}
 use Rattle.polis_base.specs.Lists.{upto}
-use Rattle.outcome_table.proofs.ListMaps.{flat_upto}
 use Rattle.outcome_table.proofs.column.repeated.Goals as goal
+use Rattle.polis_base.proofs.UptoPlaces.{flat_map_upto}
 
 pub loop-preserved : goal.loop-preserved
 loop-preserved c =
@@ -10,7 +10,7 @@ loop-preserved c =
     let e : k + 1 ≡ suc k = omega arith in
     c.in_ok-extend_from_slice.ensures.items
     ∙ ap (λ (xs : List ℕ). xs ++ c.args.piece.now) c.loop.invariant
-    ∙ sym (ap (λ k. flat_map f (upto k)) e ∙ flat_upto f k)
+    ∙ sym (ap (λ k. flat_map f (upto k)) e ∙ flat_map_upto f k)
 
 pub returns : goal.returns
 returns c = let done : c.loop.counter ≡ c.args.times = let a = c.loop-test.false in

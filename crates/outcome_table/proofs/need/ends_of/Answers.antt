@@ -4,8 +4,8 @@ use Rattle.std.proofs.lemmas.List.{length_push, get_or_append_left, get_or_push}
 use Rattle.std.proofs.lemmas.Option.{slice_get_within}
 use Rattle.transition_table.specs.declared.row.Row.{Row}
 use Rattle.outcome_table.specs.inner.Needs.{is_settled}
-use Rattle.outcome_table.proofs.Rows.{row_fits}
 use Rattle.outcome_table.proofs.need.ends_of.Goals as goal
+use Rattle.transition_table.proofs.MachineCounts.{row_fits}
 
 pub end_of-requires : goal.end_of-requires
 end_of-requires c = row_fits c.args.machine.now c.loop-r.r c.get.result.now c.get.ensures

@@ -10,11 +10,12 @@ use Rattle.outcome_table.specs.inner.Numbering.{Adds, lists_after, rows_left}
 use Rattle.outcome_table.specs.inner.RowSets.{AreAllowed, AreSets, IsSetOf, has_row, rows_in}
 use Rattle.outcome_table.specs.declared.number.Numbered.{Numbered}
 use Rattle.outcome_table.proofs.NumberedOutcomes.{adds_on, begins_kept, lists_split, take_less}
-use Rattle.outcome_table.proofs.ListMaps.{flat_upto}
 use Rattle.outcome_table.proofs.RowsLeft.{first_below, narrowed}
-use Rattle.outcome_table.proofs.Rows.{fits_long, fits_set}
 use Rattle.transition_table.proofs.CodeSets.{machine_sizes, size_at}
 use Rattle.outcome_table.proofs.number.+number_rest.Goals as goal
+use Rattle.domains.proofs.FittingCodes.{fits_set}
+use Rattle.domains.proofs.Ranks.{length_fits}
+use Rattle.polis_base.proofs.UptoPlaces.{flat_map_upto}
 
 -- what stands at one turn of the loop
 record Turn (m : Machine) (s cur : List ℕ) (at code size : ℕ) : Type 0 where
@@ -30,8 +31,8 @@ turn : (m : Machine) (s cur : List ℕ) (at code size : ℕ) → at < length m.v
     → fits m.vars s ≡ true → fits m.vars cur ≡ true → take at cur ≡ take at s
     → slice_get m.vars at ≡ Some size → code < size → Turn m s cur at code size
 turn m s cur at code size low fit_s fit_cur kept get less =
-    let long = fits_long m.vars s fit_s in
-    let long_cur = fits_long m.vars cur fit_cur in
+    let long = length_fits m.vars s fit_s in
+    let long_cur = length_fits m.vars cur fit_cur in
     let is : slice_index m.vars at ≡ size = get_or_from_slice_get m.vars at size 0 get in
     let few = (size_at m.vars at (machine_sizes m) low).1 in
     record {
@@ -77,7 +78,7 @@ adds_next m old a b s new at code fixed before next =
     subst (λ (xs : List ℕ). Adds m a b (lists_after xs (drop (at + 1) m.vars))) fixed next in
     let e : code + 1 ≡ suc code = omega arith in
     let more : flat_map f (upto code) ++ f code ≡ flat_map f (upto (code + 1)) =
-    sym (ap (λ k. flat_map f (upto k)) e ∙ flat_upto f code) in
+    sym (ap (λ k. flat_map f (upto k)) e ∙ flat_map_upto f code) in
     subst (λ (lists : List (List ℕ)). Adds m old b lists) more
     (adds_on m old a b (flat_map f (upto code)) (f code) before one)
 

@@ -1,7 +1,7 @@
 use Rattle.std.proofs.Common.{◌<◌, ◌^◌, drop, arith, subst, sym}
 use Rattle.domains.specs.Tables.{product}
-use Rattle.outcome_table.proofs.Columns.{product_after}
 use Rattle.outcome_table.proofs.number.counts_of.Goals as goal
+use Rattle.domains.proofs.FittingCodes.{product_after}
 
 pub lists_from-requires-clause-few : goal.lists_from-requires-clause-few
 lists_from-requires-clause-few c =

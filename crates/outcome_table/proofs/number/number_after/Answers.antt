@@ -8,9 +8,11 @@ use Rattle.transition_table.specs.declared.machine.Machine.{Machine}
 use Rattle.transition_table.specs.declared.row.Row.{Row}
 use Rattle.outcome_table.specs.inner.Needs.{AreEnds, end_left, is_settled}
 use Rattle.outcome_table.specs.inner.Numbering.{rows_left}
-use Rattle.outcome_table.proofs.Rows.{few_rows, fits_long, row_fits}
+use Rattle.outcome_table.proofs.Rows.{few_rows}
 use Rattle.outcome_table.proofs.Settled.{IsFirst, first_left, none_left, same_results}
 use Rattle.outcome_table.proofs.number.number_after.Goals as goal
+use Rattle.domains.proofs.Ranks.{length_fits}
+use Rattle.transition_table.proofs.MachineCounts.{row_fits}
 
 pub returns-in_default-clause-number : goal.returns-in_default-clause-number
 returns-in_default-clause-number c =
@@ -53,7 +55,7 @@ pub get-requires : goal.get-requires
 get-requires c =
     let m = c.args.narrowing.now.machine.now in
     let h = head m c.args.s.now.codes c.args.narrowing.now.ends.now c.args.at c.in-Some.r c.args.first
-    (fits_long m.vars c.args.s.now.codes c.requires.snapshot) c.requires.at c.requires.first
+    (length_fits m.vars c.args.s.now.codes c.requires.snapshot) c.requires.at c.requires.first
     c.args.narrowing.now.are_ends c.requires.end c.in-Some.is in
     let inside = h.inside in
     let long = c.requires.begins.long in
@@ -73,7 +75,7 @@ returns-then-get c =
     let fixed = take c.args.at c.args.s.now.codes in
     let r : ℕ = c.in-Some.r in
     let h = head m c.args.s.now.codes c.args.narrowing.now.ends.now c.args.at c.in-Some.r c.args.first
-    (fits_long m.vars c.args.s.now.codes c.requires.snapshot) c.requires.at c.requires.first
+    (length_fits m.vars c.args.s.now.codes c.requires.snapshot) c.requires.at c.requires.first
     c.args.narrowing.now.are_ends c.requires.end c.in-Some.is in
     let inside = h.inside in
     let some = c.requires.begins.some in
@@ -108,7 +110,7 @@ returns c =
     let fixed = take c.args.at s in
     let r : ℕ = c.in-Some.r in
     let h = head m s c.args.narrowing.now.ends.now c.args.at c.in-Some.r c.args.first
-    (fits_long m.vars s c.requires.snapshot) c.requires.at c.requires.first
+    (length_fits m.vars s c.requires.snapshot) c.requires.at c.requires.first
     c.args.narrowing.now.are_ends c.requires.end c.in-Some.is in
     let there = h.at in
     let same : c.get-row.result.now ≡ h.first.row = let a = there in let b = c.get-row.ensures in

@@ -1,11 +1,11 @@
 use Rattle.std.proofs.Common.{◌≡◌, ◌∙◌, take, drop, get_or, [], arith, sym}
 use Rattle.std.proofs.lemmas.Option.{get_or_from_slice_get}
 use Rattle.domains.specs.Tables.{product}
-use Rattle.outcome_table.proofs.Columns.{product_after}
 use Rattle.outcome_table.proofs.NumberedOutcomes.{adds_many, same_after}
 use Rattle.transition_table.proofs.CodeSets.{machine_sizes}
-use Rattle.outcome_table.proofs.Rows.{few_snapshots}
 use Rattle.outcome_table.proofs.number.number_all.Goals as goal
+use Rattle.domains.proofs.FittingCodes.{product_after}
+use Rattle.transition_table.proofs.MachineCounts.{few_snapshots}
 
 pub get-times-requires : goal.get-times-requires
 get-times-requires c =

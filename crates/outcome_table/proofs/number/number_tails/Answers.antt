@@ -5,9 +5,10 @@ use Rattle.outcome_table.specs.inner.Numbering.{Adds, rows_left}
 use Rattle.outcome_table.specs.inner.RowSets.{rows_in}
 use Rattle.outcome_table.proofs.NumberedOutcomes.{begins_kept}
 use Rattle.outcome_table.proofs.RowsLeft.{first_below}
-use Rattle.outcome_table.proofs.Rows.{few_rows, fits_long}
+use Rattle.outcome_table.proofs.Rows.{few_rows}
 use Rattle.outcome_table.proofs.Tails.{IsNumber, adds_one, below_most, left_for, number_is}
 use Rattle.outcome_table.proofs.number.number_tails.Goals as goal
+use Rattle.domains.proofs.Ranks.{length_fits}
 
 pub number_under-requires : goal.number_under-requires
 number_under-requires c =
@@ -17,7 +18,7 @@ number_under-requires c =
     let lists : List (List ℕ) = all_codes (drop tails.from m.vars) in
     let j : ℕ = c.loop-j.j in
     let one = left_for m s (rows_in c.args.rows.now) c.get.result.now lists tails.sets tails.from j
-    c.requires.from (fits_long m.vars s c.requires.snapshot)
+    c.requires.from (length_fits m.vars s c.requires.snapshot)
     (c.args.narrowing.now.are_tails.sets c.requires.from)
     c.requires.rows c.get.ensures in
     let full : List ℕ = take tails.from s ++ get_or lists j [] in
@@ -39,7 +40,7 @@ loop-j-preserved c =
     let outcomes : List (List ℕ) = c.loop-j.made.outcomes in
     let each = c.args.narrowing.now.are_tails.sets c.requires.from in
     let one = left_for m s (rows_in c.args.rows.now) c.get.result.now lists tails.sets tails.from j
-    c.requires.from (fits_long m.vars s c.requires.snapshot) each c.requires.rows c.get.ensures in
+    c.requires.from (length_fits m.vars s c.requires.snapshot) each c.requires.rows c.get.ensures in
     let full : List ℕ = take tails.from s ++ get_or lists j [] in
     let first : c.first_of_both-first.result ≡ slice_get (rows_left m full) 0 =
     c.first_of_both-first.ensures ∙ ap (λ (xs : List ℕ). slice_get xs 0) one.left in

@@ -5,8 +5,8 @@ use Rattle.std.proofs.lemmas.Option.{slice_get_within}
 use Rattle.transition_table.specs.Orders.{codes_of}
 use Rattle.transition_table.specs.Transitions.{outcome_of}
 use Rattle.transition_table.specs.declared.row.Row.{Row}
-use Rattle.outcome_table.proofs.Rows.{row_fits}
 use Rattle.outcome_table.proofs.number.row_outcomes.Goals as goal
+use Rattle.transition_table.proofs.MachineCounts.{row_fits}
 
 pub row_codes-requires-clause-row : goal.row_codes-requires-clause-row
 row_codes-requires-clause-row c = row_fits c.args.m.now c.loop-r.r c.get.result.now c.get.ensures

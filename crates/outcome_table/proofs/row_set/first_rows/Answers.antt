@@ -1,15 +1,14 @@
 use Rattle.std.proofs.Common.{◌≡◌, ◌≢◌, ◌∙◌, ◌*◌, ◌+◌, length, nat_lt, arith, ap, sym, inl, inr}
-use Rattle.std.proofs.lemmas.Bool.{cases_eq, lt-ltb}
+use Rattle.std.proofs.lemmas.Bool.{cases_eq, lt-ltb, le-ltb}
 use Rattle.polis_base.proofs.Lists.{same_below}
 use Rattle.outcome_table.specs.inner.RowSets.{has_row}
-use Rattle.outcome_table.proofs.RowsLeft.{not_below}
 use Rattle.outcome_table.proofs.RowSets.{below_all, below_next, no_rows}
 use Rattle.outcome_table.proofs.row_set.first_rows.Goals as goal
 
 pub loop-r-init : goal.loop-r-init
 loop-r-init c = record {
   long = search;
-  each = λ k. no_rows k ∙ sym (not_below k 0 (omega arith));
+  each = λ k. no_rows k ∙ sym (le-ltb k 0 (omega arith));
 }
 
 pub loop-r-preserved : goal.loop-r-preserved

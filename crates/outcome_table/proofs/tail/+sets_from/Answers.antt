@@ -5,9 +5,9 @@ use Rattle.domains.specs.AllCodes.{all_codes, each_after}
 use Rattle.transition_table.specs.declared.machine.Machine.{Machine}
 use Rattle.outcome_table.specs.inner.RowSets.{AreAllowed, AreSets, IsSetOf}
 use Rattle.outcome_table.specs.inner.Tails.{EachNarrows}
-use Rattle.outcome_table.proofs.ListMaps.{flat_upto}
 use Rattle.outcome_table.proofs.Tails.{each_more, each_none, lists_here}
 use Rattle.outcome_table.proofs.tail.+sets_from.Goals as goal
+use Rattle.polis_base.proofs.UptoPlaces.{flat_map_upto}
 
 pub returns-then-from-len : goal.returns-then-from-len
 returns-then-from-len t c =
@@ -65,7 +65,7 @@ loop-code-preserved t c =
     let e : code + 1 ≡ suc code = omega arith in
     let lists : flat_map (each_after more) (upto code) ++ map (λ codes. code ∷ codes) more
     ≡ flat_map (each_after more) (upto (code + 1)) =
-    sym (ap (λ k. flat_map (each_after more) (upto k)) e ∙ flat_upto (each_after more) code) in
+    sym (ap (λ k. flat_map (each_after more) (upto k)) e ∙ flat_map_upto (each_after more) code) in
     subst (λ (ls : List (List ℕ)). EachNarrows m from ls c.push_both.new.tails) lists
     (each_more m c.get.result.now (flat_map (each_after more) (upto code)) more c.in_ok-later.later
     c.loop-code.made c.push_both.new.tails from code of_code (omega arith)

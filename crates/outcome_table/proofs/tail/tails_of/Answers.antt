@@ -2,8 +2,8 @@ use Rattle.std.proofs.Common.{◌≡◌, ◌∙◌, Bool, true, ap, sym}
 use Rattle.std.specs.List.{list_all}
 use Rattle.std.proofs.lemmas.Option.{slice_get-get_or}
 use Rattle.std.specs.Prelude.{Some, get_or}
-use Rattle.outcome_table.proofs.ListMaps.{all_get}
 use Rattle.outcome_table.proofs.tail.tails_of.Goals as goal
+use Rattle.polis_base.proofs.ListTests.{all_get}
 
 pub returns : goal.returns
 returns c =

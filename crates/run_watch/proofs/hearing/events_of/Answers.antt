@@ -1,9 +1,9 @@
 use Rattle.std.proofs.Common.{◌≡◌, ℕ, List, ◌∷◌, ◌++◌, [], Option, length, map, sym, ap, ◌∙◌, arith}
 use Rattle.polis_base.specs.Lists.{upto}
-use Rattle.journals.proofs.MomentsAfter.{upto_more}
 use Rattle.run_watch.specs.Monitors.{watched}
 use Rattle.run_watch.proofs.Hears.{watched_by}
 use Rattle.run_watch.proofs.hearing.events_of.Goals as goal
+use Rattle.polis_base.proofs.UptoPlaces.{map_upto}
 
 pub loop-e-preserved : goal.loop-e-preserved
 loop-e-preserved c =
@@ -15,7 +15,7 @@ loop-e-preserved c =
     ∙ ap (λ (o : Option ℕ). map (watched net monitor) (upto e) ++ o ∷ [])
     (c.event_of-heard_as.ensures
     ∙ watched_by net monitor e c.get-event.result.now c.get-event.ensures)
-    ∙ sym (upto_more (watched net monitor) e)
+    ∙ sym (map_upto (watched net monitor) e)
 
 pub returns : goal.returns
 returns c =

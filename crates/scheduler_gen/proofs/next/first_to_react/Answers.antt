@@ -2,13 +2,14 @@ use Rattle.std.proofs.Common.{◌≡◌, sym, ◌∙◌, arith, add-one, None}
 use Rattle.std.specs.List.{find}
 use Rattle.std.proofs.lemmas.List.{take_all}
 use Rattle.journals.specs.Journals.{is_woken}
-use Rattle.scheduler_gen.proofs.FirstOfPlan.{at_is_in, find_at, find_past, first_of_plan}
+use Rattle.scheduler_gen.proofs.FirstOfPlan.{find_at, find_past, first_of_plan}
 use Rattle.scheduler_gen.proofs.next.first_to_react.Goals as goal
+use Rattle.transition_table.proofs.MachineCounts.{has_at}
 
 pub woken-requires : goal.woken-requires
 woken-requires c =
     (c.requires.machines c.get-machine.result.now).0
-    (at_is_in c.args.plan.now c.loop-i.i c.get-machine.result.now c.get-machine.ensures)
+    (has_at c.args.plan.now c.loop-i.i c.get-machine.result.now c.get-machine.ensures)
 
 pub returns-then-woken-clause-first : goal.returns-then-woken-clause-first
 returns-then-woken-clause-first c =
@@ -34,4 +35,4 @@ returns-clause-first c =
 pub returns-then-woken-clause-below : goal.returns-then-woken-clause-below
 returns-then-woken-clause-below c =
     (c.requires.machines c.get-machine.result.now).0
-    (at_is_in c.args.plan.now c.loop-i.i c.get-machine.result.now c.get-machine.ensures)
+    (has_at c.args.plan.now c.loop-i.i c.get-machine.result.now c.get-machine.ensures)

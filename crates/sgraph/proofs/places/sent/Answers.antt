@@ -3,15 +3,13 @@ use Rattle.std.proofs.lemmas.Option.{get_or_from_slice_get}
 use Rattle.sgraph.proofs.MapItems.{is_map, sent_more}
 use Rattle.sgraph.proofs.places.sent.Goals.{In-loop-j}
 use Rattle.sgraph.proofs.places.sent.Goals as goal
+use Rattle.polis_base.proofs.Numbers.{not_above_itself}
 
 low_here : (c : In-loop-j) → c.loop-j.j < length c.args.places
 low_here c = subst (λ (n : ℕ). c.loop-j.j < n) c.len-j-end.ensures c.loop-j-test.true
 
 listed_here : (c : In-loop-j) → c.loop-j.j < length c.loop-j.list
 listed_here c = subst (λ (n : ℕ). c.loop-j.j < n) (sym c.loop-j.invariant.long) (low_here c)
-
-itself : (j : ℕ) → j ≤ j
-itself j = omega arith
 
 pub loop-j-init : goal.loop-j-init
 loop-j-init c = record {
@@ -30,7 +28,7 @@ pub get-place-requires : goal.get-place-requires
 get-place-requires c =
     let j = c.loop-j.j in
     subst (λ (k : ℕ). k < length c.args.table.now)
-    (sym (c.loop-j.invariant.rest j (itself j))
+    (sym (c.loop-j.invariant.rest j (not_above_itself j))
     ∙ get_or_from_slice_get c.loop-j.list j c.get.result.now 0 c.get.ensures)
     (c.requires j (low_here (goal.at.get-place-requires c).In-loop-j))
 

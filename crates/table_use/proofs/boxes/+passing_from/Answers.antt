@@ -1,10 +1,10 @@
 use Rattle.std.proofs.Common.{◌≡◌, ◌*◌, ◌<◌, ℕ, length, drop, count_by, slice_index, ◌+◌, sym, ap, ◌∙◌, arith, zero-mul}
 use Rattle.polis_base.specs.Lists.{upto}
-use Rattle.outcome_table.proofs.Columns.{product_after}
-use Rattle.outcome_table.proofs.Rows.{few_snapshots}
 use Rattle.table_use.specs.inner.Boxes.{both_allow, passing}
 use Rattle.table_use.proofs.FlagTables.{passing_few, passing_here}
 use Rattle.table_use.proofs.boxes.+passing_from.Goals as goal
+use Rattle.domains.proofs.FittingCodes.{product_after}
+use Rattle.transition_table.proofs.MachineCounts.{few_snapshots}
 
 pub passing_from-requires : goal.passing_from-requires
 passing_from-requires t c =

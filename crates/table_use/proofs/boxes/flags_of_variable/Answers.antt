@@ -3,11 +3,11 @@ use Rattle.std.specs.List.{list_all}
 use Rattle.std.proofs.lemmas.Option.{get_or_from_slice_get}
 use Rattle.polis_base.specs.Lists.{upto}
 use Rattle.domains.proofs.Ranks.{size_few}
-use Rattle.journals.proofs.MomentsAfter.{upto_more}
 use Rattle.transition_table.specs.inner.Masks.{allows_code}
 use Rattle.table_use.specs.inner.Boxes.{allowed}
 use Rattle.table_use.proofs.RowBoxes.{allowed_here}
 use Rattle.table_use.proofs.boxes.flags_of_variable.Goals as goal
+use Rattle.polis_base.proofs.UptoPlaces.{map_upto}
 
 pub all_allow-requires : goal.all_allow-requires
 all_allow-requires c =
@@ -34,7 +34,7 @@ loop-code-preserved c =
     c.in_ok-push.ensures.ok
     ∙ ap (λ (l : List Bool). l ++ c.all_allow.result ∷ []) c.loop-code.invariant
     ∙ ap (λ (b : Bool). map (allowed m r var) (upto code) ++ b ∷ []) is
-    ∙ sym (upto_more (allowed m r var) code)
+    ∙ sym (map_upto (allowed m r var) code)
 
 pub returns : goal.returns
 returns c =

@@ -3,10 +3,10 @@ use Rattle.std.proofs.lemmas.List.{length-set, take_all}
 use Rattle.std.proofs.lemmas.Option.{slice_get-get_or, slice_get_within}
 use Rattle.table_use.specs.inner.Steps.{IsFew, no_tally, tally_after}
 use Rattle.table_use.specs.declared.tally.Tally.{Tally}
-use Rattle.table_use.proofs.Pushed.{prefix_more}
 use Rattle.table_use.proofs.Taken.{AreTaken, is_among, one_taken, row_at, row_below, row_counts, row_once, was_before}
 use Rattle.table_use.proofs.cover.count_rows.Goals.{After-from-r}
 use Rattle.table_use.proofs.cover.count_rows.Goals as goal
+use Rattle.polis_base.proofs.Places.{take_next}
 
 -- what is so of the row at hand
 record IsRow (c : After-from-r) : Type 0 where
@@ -63,7 +63,7 @@ loop-row-preserved c =
           ∙ c.loop-row.invariant.long;
       taken = subst (AreTaken c.args.p (take (i + 1) xs) c.args.rows.now) (sym c.set.ensures)
           (subst (λ (done : List ℕ). AreTaken c.args.p done c.args.rows.now
-          (slice_set c.loop-row.rows x new)) (sym (prefix_more xs i x row.at))
+          (slice_set c.loop-row.rows x new)) (sym (take_next xs i x row.at))
           (one_taken c.args.p (take i xs) c.args.rows.now c.loop-row.rows x c.get.result.now new
           c.loop-row.invariant.taken row.once c.get.ensures c.count.ensures));
     }

@@ -11,11 +11,12 @@ use Rattle.table_use.specs.Memos.{AreMemos}
 use Rattle.table_use.specs.inner.Steps.{IsUseAfter}
 use Rattle.table_use.specs.declared.memo.Memo.{Memo}
 use Rattle.table_use.specs.declared.used.MachineUse.{MachineUse}
-use Rattle.table_use.proofs.Covered.{coverages_long, coverages_more, coverages_stay, few, fits_at, use_now}
-use Rattle.table_use.proofs.Pushed.{prefix_more}
+use Rattle.table_use.proofs.Covered.{coverages_long, coverages_more, coverages_stay, few, use_now}
 use Rattle.table_use.proofs.Remembered.{one_memo}
 use Rattle.table_use.proofs.cover.coverage_with.Goals.{in-Rea+in_ok-k, in_default}
 use Rattle.table_use.proofs.cover.coverage_with.Goals as goal
+use Rattle.journals.proofs.EntriesAt.{fits_at}
+use Rattle.polis_base.proofs.Places.{take_next}
 
 pub get-table-requires : goal.get-table-requires
 get-table-requires c =
@@ -110,7 +111,7 @@ loop-p-preserved c =
                 w.get-table.ensures w.index_mut.ensures.value)
                 after
                 ∙ ap (coverages net)
-                (sym (prefix_more j p (Rea k w.in-Rea.snapshot w.in-Rea.outcome)
+                (sym (take_next j p (Rea k w.in-Rea.snapshot w.in-Rea.outcome)
                 (c.get.ensures ∙ ap (λ (x : Entry). Some x) w.in-Rea.is)));
             memos = subst (AreMemos net tables)
                 (sym (ap (λ (v : Vec Memo Global). v.items) w.memos-is))
@@ -125,7 +126,7 @@ loop-p-preserved c =
             ∙ sym (coverages_stay net prefix w.in_default.field-0 w.in_default.field-1
             w.in_default.field-2 w.in_default.field-3)
             ∙ ap (coverages net)
-            (sym (prefix_more j p (Dep w.in_default.field-0 w.in_default.field-1
+            (sym (take_next j p (Dep w.in_default.field-0 w.in_default.field-1
             w.in_default.field-2 w.in_default.field-3)
             (c.get.ensures ∙ ap (λ (x : Entry). Some x) w.in_default.is)));
         memos = subst (AreMemos net tables)

@@ -1,8 +1,8 @@
 use Rattle.std.proofs.Common.{◌++◌, flat_map}
 use Rattle.std.specs.List.{enumerate_from, zip}
 use Rattle.table_use.specs.LintLines.{ignored_input, ignored_state, jam_line, large_line, never_line, never_output, repeats_of, sums_line, unused_input}
-use Rattle.table_use.proofs.Written.{both}
 use Rattle.table_use.proofs.lint_lines.push_machine.Goals as goal
+use Rattle.polis_base.proofs.Places.{append_twice}
 
 pub returns : goal.returns
 returns c =
@@ -27,25 +27,25 @@ returns c =
     let to_outputs = to_states ++ outputs in
     let to_unused = to_outputs ++ unused in
     let with_jam =
-    both into c.push_sums.new.into c.push_jam.new.into sums jam c.in_ok-push_sums.ensures
+    append_twice into c.push_sums.new.into c.push_jam.new.into sums jam c.in_ok-push_sums.ensures
     c.in_ok-push_jam.ensures in
     let with_never =
-    both into c.push_jam.new.into c.push_never_rows.new.into to_jam never with_jam
+    append_twice into c.push_jam.new.into c.push_never_rows.new.into to_jam never with_jam
     c.in_ok-push_never_rows.ensures in
     let with_repeats =
-    both into c.push_never_rows.new.into c.push_repeating_rows.new.into to_never repeats with_never
+    append_twice into c.push_never_rows.new.into c.push_repeating_rows.new.into to_never repeats with_never
     c.in_ok-push_repeating_rows.ensures in
     let with_inputs =
-    both into c.push_repeating_rows.new.into c.push_ignored_inputs.new.into to_repeats inputs
+    append_twice into c.push_repeating_rows.new.into c.push_ignored_inputs.new.into to_repeats inputs
     with_repeats c.in_ok-push_ignored_inputs.ensures in
     let with_states =
-    both into c.push_ignored_inputs.new.into c.push_ignored_states.new.into to_inputs states
+    append_twice into c.push_ignored_inputs.new.into c.push_ignored_states.new.into to_inputs states
     with_inputs c.in_ok-push_ignored_states.ensures in
     let with_outputs =
-    both into c.push_ignored_states.new.into c.push_never_outputs.new.into to_states outputs
+    append_twice into c.push_ignored_states.new.into c.push_never_outputs.new.into to_states outputs
     with_states c.in_ok-push_never_outputs.ensures in
     let with_unused =
-    both into c.push_never_outputs.new.into c.push_unused_inputs.new.into to_outputs unused
+    append_twice into c.push_never_outputs.new.into c.push_unused_inputs.new.into to_outputs unused
     with_outputs c.in_ok-push_unused_inputs.ensures in
-    both into c.push_unused_inputs.new.into c.push_large.new.into to_unused large with_unused
+    append_twice into c.push_unused_inputs.new.into c.push_large.new.into to_unused large with_unused
     c.in_ok-push_large.ensures

@@ -1,10 +1,10 @@
 use Rattle.std.proofs.Common.{List, ℕ, ◌++◌, flat_map, ap, ◌∙◌, arith}
 use Rattle.std.specs.List.{zip}
-use Rattle.journals.proofs.DeliveriesOfWay.{passes_of_all}
 use Rattle.table_use.specs.LintLines.{is_snapshot, unused_input, unused_line}
 use Rattle.table_use.proofs.InNetwork.{input_within, name_of_event}
 use Rattle.table_use.proofs.Written.{paired_all, paired_more}
 use Rattle.table_use.proofs.lint_lines.push_unused_inputs.Goals as goal
+use Rattle.polis_base.proofs.ListTests.{all_get}
 
 pub get-event-requires : goal.get-event-requires
 get-event-requires c =
@@ -13,7 +13,7 @@ get-event-requires c =
 
 pub push_unused-requires-clause-snapshot : goal.push_unused-requires-clause-snapshot
 push_unused-requires-clause-snapshot c =
-    passes_of_all (λ input. is_snapshot c.args.machine.now input.unused.least) c.args.inputs.now
+    all_get (λ input. is_snapshot c.args.machine.now input.unused.least) c.args.inputs.now
     c.loop-i.i c.get-in-loop-i.result.now c.requires.snapshots c.get-in-loop-i.ensures
 
 pub loop-i-preserved : goal.loop-i-preserved

@@ -1,9 +1,9 @@
 use Rattle.std.proofs.Common.{ℕ, List, [], ◌∷◌, ◌++◌, map, sym, ap, ◌∙◌}
 use Rattle.polis_base.specs.Lists.{upto}
-use Rattle.journals.proofs.MomentsAfter.{upto_more}
 use Rattle.table_use.proofs.Repeats.{reach_of}
 use Rattle.table_use.proofs.RowBoxes.{own_reach}
 use Rattle.table_use.proofs.linting.reaches.Goals as goal
+use Rattle.polis_base.proofs.UptoPlaces.{map_upto}
 
 pub loop-r-preserved : goal.loop-r-preserved
 loop-r-preserved c =
@@ -12,4 +12,4 @@ loop-r-preserved c =
     c.in_ok-push.ensures.ok
     ∙ ap (λ (l : List ℕ). l ++ c.reach_of_both.result ∷ []) c.loop-r.invariant
     ∙ ap (λ (n : ℕ). map (reach_of m) (upto r) ++ n ∷ []) (c.reach_of_both.ensures ∙ own_reach m r)
-    ∙ sym (upto_more (reach_of m) r)
+    ∙ sym (map_upto (reach_of m) r)

@@ -1,8 +1,8 @@
 use Rattle.std.proofs.Common.{◌≡◌, ◌-◌, ℕ, slice_get, Some, sym, subst, arith}
 use Rattle.domains.proofs.Ranks.{length_fits}
-use Rattle.outcome_table.proofs.Columns.{product_after}
 use Rattle.table_use.proofs.Numbers.{product_end, product_step, rank_end, rank_low, rank_step}
 use Rattle.table_use.proofs.lookup.number_of.Goals as goal
+use Rattle.domains.proofs.FittingCodes.{product_after}
 
 pub loop-v-init : goal.loop-v-init
 loop-v-init c =

@@ -1,11 +1,11 @@
 use Rattle.std.proofs.Common.{◌≡◌, ℕ, List, [], ◌∷◌, ◌++◌, true, length, map, replicate, refl, sym, ap, ◌∙◌, arith}
 use Rattle.polis_base.specs.Lists.{upto}
-use Rattle.journals.proofs.MomentsAfter.{upto_more}
 use Rattle.table_use.specs.inner.Walking.{differs, input_in, is_none}
 use Rattle.table_use.specs.declared.finding.Found.{Found}
 use Rattle.table_use.specs.declared.finding.InputLint.{InputLint}
 use Rattle.table_use.proofs.Covered.{filled}
 use Rattle.table_use.proofs.walk.nothing_walked.Goals as goal
+use Rattle.polis_base.proofs.UptoPlaces.{map_upto}
 
 pub loop-preserved : goal.loop-preserved
 loop-preserved c =
@@ -15,7 +15,7 @@ loop-preserved c =
     c.in_ok-push.ensures.items
     ∙ ap (λ (l : List InputLint). l ++ new c.none_found.result ∷ []) c.loop.invariant
     ∙ ap (λ (x : Found). map (input_in m []) (upto k) ++ new x ∷ []) c.none_found.ensures
-    ∙ sym (upto_more (input_in m []) k)
+    ∙ sym (map_upto (input_in m []) k)
 
 pub returns : goal.returns
 returns c =

@@ -2,8 +2,9 @@ use Rattle.std.proofs.Common.{◌≡◌, ℕ, ◌-◌, List, length, take, drop,
 use Rattle.std.proofs.lemmas.Result.{err_from_is_err_and}
 use Rattle.task_image.specs.inner.Gives.{Fails}
 use Rattle.task_image.specs.inner.Reading.{sizes_at}
-use Rattle.task_image.proofs.CodeAt.{code_is, whole, rest_whole, fails_at_width, fails_at_name, fails_at_vars, fails_at_results, fails_at_code}
+use Rattle.task_image.proofs.CodeAt.{code_is, whole, fails_at_width, fails_at_name, fails_at_vars, fails_at_results, fails_at_code}
 use Rattle.task_image.proofs.decoding.machine.Goals as goal
+use Rattle.polis_base.proofs.Places.{to_the_end}
 
 pub returns-in_err-width : goal.returns-in_err-width
 returns-in_err-width c =
@@ -26,7 +27,7 @@ returns-in_err-vars c =
     ≡ take (length c.in_ok-width.rest.now - c.from.result)
     (drop c.from.result c.in_ok-width.rest.now) =
     ap (λ (m : ℕ). drop m c.in_ok-width.rest.now) (sym c.from.ensures)
-    ∙ sym (rest_whole c.in_ok-width.rest.now c.from.result) in
+    ∙ sym (to_the_end c.in_ok-width.rest.now c.from.result) in
     rw (p.1, p.2)
     (fails_at_vars c.args.bytes.now c.in_ok-width.width c.in_ok-width.rest.now
     c.in_ok-name.name (drop c.in_ok-width.width c.in_ok-width.rest.now) c.in_err-vars.field-0.0
@@ -40,7 +41,7 @@ returns-in_err-results c =
     ≡ take (length c.in_ok-width.rest.now - c.from.result)
     (drop c.from.result c.in_ok-width.rest.now) =
     ap (λ (m : ℕ). drop m c.in_ok-width.rest.now) (sym c.from.ensures)
-    ∙ sym (rest_whole c.in_ok-width.rest.now c.from.result) in
+    ∙ sym (to_the_end c.in_ok-width.rest.now c.from.result) in
     rw (p.1, p.2)
     (fails_at_results c.args.bytes.now c.in_ok-width.width c.in_ok-width.rest.now
     c.in_ok-name.name (drop c.in_ok-width.width c.in_ok-width.rest.now) c.in_ok-vars.vars
@@ -55,7 +56,7 @@ returns-in_err-instrs c =
     ≡ take (length c.in_ok-width.rest.now - c.from.result)
     (drop c.from.result c.in_ok-width.rest.now) =
     ap (λ (m : ℕ). drop m c.in_ok-width.rest.now) (sym c.from.ensures)
-    ∙ sym (rest_whole c.in_ok-width.rest.now c.from.result) in
+    ∙ sym (to_the_end c.in_ok-width.rest.now c.from.result) in
     rw (p.1, p.2)
     (fails_at_code c.args.bytes.now c.in_ok-width.width c.in_ok-width.rest.now
     c.in_ok-name.name (drop c.in_ok-width.width c.in_ok-width.rest.now) c.in_ok-vars.vars
@@ -78,7 +79,7 @@ returns c =
     ≡ take (length c.in_ok-width.rest.now - c.from.result)
     (drop c.from.result c.in_ok-width.rest.now) =
     ap (λ (m : ℕ). drop m c.in_ok-width.rest.now) (sym c.from.ensures)
-    ∙ sym (rest_whole c.in_ok-width.rest.now c.from.result) in
+    ∙ sym (to_the_end c.in_ok-width.rest.now c.from.result) in
     rw c.of.ensures
     (whole c.args.bytes.now c.in_ok-width.width c.in_ok-width.rest.now
     c.in_ok-name.name (drop c.in_ok-width.width c.in_ok-width.rest.now) c.in_ok-vars.vars

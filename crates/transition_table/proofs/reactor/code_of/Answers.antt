@@ -2,9 +2,10 @@ use Rattle.std.proofs.Common.{◌+◌, ◌%◌, slice_index, arith, sym, ap, ◌
 use Rattle.std.proofs.lemmas.Option.{get_or_from_slice_get}
 use Rattle.transition_table.specs.Sources.{code_of as code_from, variable_of}
 use Rattle.transition_table.specs.declared.row.Source.{Source}
-use Rattle.transition_table.proofs.Rows.{length_fits, machine_sizes}
-use Rattle.transition_table.proofs.Ranges.{reads_of, adds_of, below_size, small_size}
+use Rattle.transition_table.proofs.Rows.{machine_sizes}
+use Rattle.transition_table.proofs.Ranges.{reads_of, adds_of, below_size}
 use Rattle.transition_table.proofs.reactor.code_of.Goals as goal
+use Rattle.domains.proofs.Ranks.{length_fits, size_few}
 
 pub get-requires : goal.get-requires
 get-requires c =
@@ -47,7 +48,7 @@ further-requires-clause-step c =
 pub further-requires-clause-size : goal.further-requires-clause-size
 further-requires-clause-size c =
     let m = c.args.machine.now in
-    let few = small_size m.vars (variable_of m.inputs c.args.act.now.result) (machine_sizes m) in
+    let few = size_few m.vars (variable_of m.inputs c.args.act.now.result) (machine_sizes m) in
     let size = get_or_from_slice_get m.vars (variable_of m.inputs c.args.act.now.result)
     c.get-in-Add-2.result.now 0 (rw c.len.ensures at c.get-in-Add-2.ensures) in
     omega arith

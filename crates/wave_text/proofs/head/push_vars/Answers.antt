@@ -5,8 +5,8 @@ use Rattle.wave_text.specs.inner.Writable.{is_signal}
 use Rattle.wave_text.specs.declared.signal.Signal.{Signal}
 use Rattle.wave_text.proofs.HeadText.{vars_more}
 use Rattle.event_accounts.proofs.OneItemMore.{one_more}
-use Rattle.wave_text.proofs.IsWritable.{all_at}
 use Rattle.wave_text.proofs.head.push_vars.Goals as goal
+use Rattle.polis_base.proofs.ListTests.{all_get_or}
 
 pub push_var-requires : goal.push_var-requires
 push_var-requires c =
@@ -14,7 +14,7 @@ push_var-requires c =
     let s : Signal = c.get.result.now in
     subst (λ (x : Signal). is_signal c.args.net.now x ≡ true)
     (get_or_from_slice_get list c.loop-i.i s s c.get.ensures)
-    (all_at (is_signal c.args.net.now) list c.loop-i.i s c.requires.signals
+    (all_get_or (is_signal c.args.net.now) list c.loop-i.i s c.requires.signals
     (let end = c.len-i-end.ensures in omega arith))
 
 pub loop-i-preserved : goal.loop-i-preserved

@@ -7,8 +7,8 @@ use Rattle.wave_text.specs.inner.Writable.{has_code, is_signal}
 use Rattle.wave_text.specs.declared.signal.Signal.{Signal}
 use Rattle.wave_text.proofs.HeadText.{start_lines_more}
 use Rattle.event_accounts.proofs.OneItemMore.{one_more}
-use Rattle.wave_text.proofs.IsWritable.{all_at}
 use Rattle.wave_text.proofs.lines.push_start_lines.Goals as goal
+use Rattle.polis_base.proofs.ListTests.{all_get_or}
 
 pub push_start_line-requires-clause-signal : goal.push_start_line-requires-clause-signal
 push_start_line-requires-clause-signal c =
@@ -16,7 +16,7 @@ push_start_line-requires-clause-signal c =
     let s : Signal = c.get.result.now in
     subst (λ (x : Signal). is_signal c.args.net.now x ≡ true)
     (get_or_from_slice_get list c.loop-k.k s s c.get.ensures)
-    (all_at (is_signal c.args.net.now) list c.loop-k.k s c.requires.signals
+    (all_get_or (is_signal c.args.net.now) list c.loop-k.k s c.requires.signals
     (let end = c.len-k-end.ensures in omega arith))
 
 pub push_start_line-requires-clause-code : goal.push_start_line-requires-clause-code
@@ -26,7 +26,7 @@ push_start_line-requires-clause-code c =
     let net = c.args.net.now in
     subst (λ (x : Signal). has_code net x (signal_code net [] x) ≡ true)
     (get_or_from_slice_get list c.loop-k.k s s c.get.ensures)
-    (all_at (λ x. has_code net x (signal_code net [] x)) list c.loop-k.k s c.requires.codes
+    (all_get_or (λ x. has_code net x (signal_code net [] x)) list c.loop-k.k s c.requires.codes
     (let end = c.len-k-end.ensures in omega arith))
 
 pub loop-k-preserved : goal.loop-k-preserved

@@ -7,10 +7,10 @@ use Rattle.std.specs.Prelude.{nat_lt, true}
 use Rattle.std.proofs.lemmas.Bool.{ltb-true}
 use Rattle.wave_text.specs.Signals.{out_events, has_values}
 use Rattle.wave_text.proofs.EntryChanges.{out_below}
-use Rattle.wave_text.proofs.IsWritable.{all_at}
 use Rattle.wave_text.specs.declared.signal.Signal.{Signal}
 use Rattle.wave_text.specs.declared.signal.Signal.TheVariants.{Emission, Value}
 use Rattle.wave_text.proofs.wave.push_dump.Goals as goal
+use Rattle.polis_base.proofs.ListTests.{all_get_or}
 
 pub with_values-requires : goal.with_values-requires
 with_values-requires c = λ k d below.
@@ -19,7 +19,7 @@ with_values-requires c = λ k d below.
     let are : c.as_slice.result.now ≡ out_events net = c.as_slice.ensures
     ∙ c.in_ok-events.ensures in
     ltb-true (get_or c.as_slice.result.now k d) n
-    (all_at (λ e. nat_lt e n) c.as_slice.result.now k d
+    (all_get_or (λ e. nat_lt e n) c.as_slice.result.now k d
     (subst (λ (l : List ℕ). list_all (λ e. nat_lt e n) l ≡ true) (sym are) (out_below net)) below)
 
 pub all_signals-requires-clause-events : goal.all_signals-requires-clause-events

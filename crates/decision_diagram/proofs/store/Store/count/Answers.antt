@@ -1,4 +1,4 @@
-use Rattle.std.proofs.Common.{◌≡◌, ⊎_elim, ◌∙◌, ◌+◌, ◌-◌, ◌<◌, ◌≤◌, ◌||◌, ℕ, zero, suc, nat_eq, Bool, true, false, List, length, count_by, get_or, replicate, slice_index, sym, ap, subst, refl, arith}
+use Rattle.std.proofs.Common.{◌≡◌, ⊎_elim, ◌∙◌, ◌+◌, ◌-◌, ◌<◌, ◌≤◌, ◌||◌, ℕ, nat_eq, Bool, true, false, List, length, count_by, replicate, slice_index, sym, ap, subst, refl, arith}
 use Rattle.std.proofs.lemmas.Bool.{cases_eq, eq-eqb, eqb-true, false≢true, or_cases, or_left, or_right}
 use Rattle.std.proofs.lemmas.List.{length-replicate}
 use Rattle.decision_diagram.specs.Diagrams.{Diagrams, IsNode}
@@ -7,11 +7,7 @@ use Rattle.decision_diagram.specs.Reached.{marked}
 use Rattle.decision_diagram.proofs.ReachedMarks.{AreMarked, marked_kids, mark_read, whole_part, counts_reached}
 use Rattle.decision_diagram.proofs.DiagramLaws.{count_is_size}
 use Rattle.decision_diagram.proofs.store.Store.count.Goals as goal
-
-none_at : (n k : ℕ) → get_or (replicate n false) k false ≡ false
-none_at zero k = refl
-none_at (suc n) zero = refl
-none_at (suc n) (suc k) = none_at n k
+use Rattle.polis_base.proofs.Places.{nowhere_set}
 
 -- at first the node itself is marked
 first_marked : (s : Diagrams) (n number count : ℕ) (lent new : List Bool)
@@ -25,7 +21,7 @@ first_marked s n number count lent new counted blank same is inside made =
     ap (λ (xs : List Bool). length xs) blank ∙ length-replicate (count - 2) false
     ∙ (let e : count - 2 ≡ length s.nodes = omega arith in e) in
     let off : (m : ℕ) → marked lent m ≡ false =
-    λ m. ap (λ (xs : List Bool). marked xs m) blank ∙ none_at (count - 2) (m - 2) in
+    λ m. ap (λ (xs : List Bool). marked xs m) blank ∙ nowhere_set (count - 2) (m - 2) in
     record {
       long = same ∙ lent_long;
       within = omega arith;

@@ -3,9 +3,9 @@ use Rattle.journals.specs.declared.entry.Owed.{Owed}
 use Rattle.journals.specs.Journals.{is_trace_item}
 use Rattle.event_buffer.specs.Feeds.{FeedState}
 use Rattle.event_buffer.proofs.LeftAt.{is_next, one_more, one_item_more, none_left}
-use Rattle.journals.proofs.DeliveriesOfWay.{passes_of_all}
 use Rattle.journals.specs.Schedules.{item_deliveries}
 use Rattle.event_buffer.proofs.feed.Feed.advance.Goals as goal
+use Rattle.polis_base.proofs.ListTests.{all_get}
 
 abbrev passed : FeedState → FeedState
 passed f = record { net = f.net; trace = f.trace; left = drop 1 f.left }
@@ -13,7 +13,7 @@ passed f = record { net = f.net; trace = f.trace; left = drop 1 f.left }
 pub count_of-count-requires : goal.count_of-count-requires
 count_of-count-requires c =
     let i = c.self.inside in
-    passes_of_all (is_trace_item i.net.now) i.trace.now i.item c.get.result.now c.self.invariant.0
+    all_get (is_trace_item i.net.now) i.trace.now i.item c.get.result.now c.self.invariant.0
     c.get.ensures
 
 pub has_next-requires : goal.has_next-requires

@@ -5,13 +5,13 @@ use Rattle.journals.specs.Journals.{is_trace_item}
 use Rattle.event_buffer.specs.Arrivals.{is_arrival, arrival_of}
 use Rattle.event_buffer.specs.Feeds.{FeedState}
 use Rattle.event_buffer.proofs.LeftAt.{is_next, first_left, none_left, arrives}
-use Rattle.journals.proofs.DeliveriesOfWay.{passes_of_all}
 use Rattle.event_buffer.proofs.feed.Feed.peek.Goals as goal
+use Rattle.polis_base.proofs.ListTests.{all_get}
 
 pub arrival_at-requires : goal.arrival_at-requires
 arrival_at-requires c =
     let i = c.self.inside in
-    passes_of_all (is_trace_item i.net.now) i.trace.now i.item c.get.result.now c.self.invariant.0
+    all_get (is_trace_item i.net.now) i.trace.now i.item c.get.result.now c.self.invariant.0
     c.get.ensures
 
 pub returns-then-self-len-clause-next : goal.returns-then-self-len-clause-next
@@ -30,7 +30,7 @@ returns-then-self-len-clause-arrival c =
     let i = c.self.inside in
     let found = c.arrival_at.result in
     let fits =
-    passes_of_all (is_trace_item i.net.now) i.trace.now i.item c.get.result.now
+    all_get (is_trace_item i.net.now) i.trace.now i.item c.get.result.now
     c.self.invariant.0 c.get.ensures in
     subst (λ (f : FeedState). IfSome found (λ a. is_arrival f.net a ≡ true)) c.self.view_is
     (arrives i.net.now c.get.result.now i.receiver found c.sending_laws.ensures.env_may_arrive fits

@@ -1,9 +1,9 @@
 use Rattle.std.proofs.Common.{◌≡◌, ℕ, List, [], ◌∷◌, ◌++◌, ap, sym, ◌∙◌, zero-add, arith}
 use Rattle.journals.specs.Cursors.{is_read, nth_place}
 use Rattle.net_core.proofs.Marks.{prefix_marked}
-use Rattle.journals.proofs.MomentsAfter.{upto_more}
 use Rattle.journals.proofs.Cursors.{nth_place_first}
 use Rattle.net_core.proofs.config.cursors.first_cursors.Goals as goal
+use Rattle.polis_base.proofs.UptoPlaces.{map_upto}
 
 pub loop-m-preserved : goal.loop-m-preserved
 loop-m-preserved c =
@@ -14,4 +14,4 @@ loop-m-preserved c =
     c.requires.readers c.requires.trace (omega arith)
     ∙ sym (nth_place_first (is_read c.args.net.now c.loop-m.m) c.args.trace.now) in
     c.in_ok-push.ensures.ok ∙ ap (λ (l : List ℕ). l ++ c.next_read.result ∷ []) c.loop-m.invariant
-    ∙ rw first (sym (upto_more at c.loop-m.m))
+    ∙ rw first (sym (map_upto at c.loop-m.m))

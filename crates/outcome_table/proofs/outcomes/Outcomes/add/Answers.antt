@@ -2,6 +2,7 @@ use Rattle.std.proofs.Common.{◌≡◌, ◌∙◌, ◌<◌, [], ◌∷◌, ◌+
 use Rattle.outcome_table.specs.Known.{AreKnown}
 use Rattle.outcome_table.proofs.AreKnown.{known_before, known_last}
 use Rattle.outcome_table.proofs.outcomes.Outcomes.add.Goals as goal
+use Rattle.polis_base.proofs.Places.{list_at_end}
 
 pub row_key-requires-clause-row : goal.row_key-requires-clause-row
 row_key-requires-clause-row c = c.requires.row
@@ -34,10 +35,6 @@ take_own (x ∷ xs) ys = ap (λ (l : List (List ℕ)). x ∷ l) (take_own xs ys)
 take_all : (xs : List (List ℕ)) → take (length xs) xs ≡ xs
 take_all [] = refl
 take_all (x ∷ xs) = ap (λ (l : List (List ℕ)). x ∷ l) (take_all xs)
-
-at_end : (xs : List (List ℕ)) (x : List ℕ) → get_or (xs ++ x ∷ []) (length xs) [] ≡ x
-at_end [] x = refl
-at_end (y ∷ xs) x = at_end xs x
 
 end_low : (xs new : List (List ℕ)) (x : List ℕ) (k : ℕ) → new ≡ xs ++ x ∷ [] → k ≡ length xs
     → k < length new
@@ -72,7 +69,7 @@ returns-clause-is c =
     let codes = c.in_ok-row_codes.field-0 in
     ap (λ (xs : List (List ℕ)). get_or xs c.len-number.result []) c.in_ok-push.ensures.ok
     ∙ ap (λ (k : ℕ). get_or (list ++ codes ∷ []) k []) c.len-number.ensures
-    ∙ at_end list codes ∙ c.in_ok-row_codes.ensures
+    ∙ list_at_end list codes ∙ c.in_ok-row_codes.ensures
 
 pub returns-in-Some-clause-low : goal.returns-in-Some-clause-low
 returns-in-Some-clause-low c =

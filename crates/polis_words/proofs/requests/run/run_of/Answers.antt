@@ -3,9 +3,10 @@ use Rattle.std.specs.Prelude.{unwrap_or}
 use Rattle.std.proofs.Common.{drop}
 use Rattle.polis_base.specs.declared.limits.TheConstants.{ENTRIES_MAX}
 use Rattle.polis_words.specs.RunOptions.{Said}
-use Rattle.polis_words.proofs.AskOptions.{asked_within, not_both}
+use Rattle.polis_words.proofs.AskOptions.{asked_within}
 use Rattle.polis_words.proofs.AsksRun.{no_drawn, one_run, options_asked}
 use Rattle.polis_words.proofs.requests.run.run_of.Goals as goal
+use Rattle.polis_base.proofs.Bools.{not_both}
 
 pub invariant_of-result : goal.invariant_of-result
 invariant_of-result c =

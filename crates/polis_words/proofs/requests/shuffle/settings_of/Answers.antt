@@ -2,9 +2,10 @@ use Rattle.std.proofs.Common.{ap, arith, drop}
 use Rattle.std.specs.Prelude.{unwrap_or}
 use Rattle.polis_base.specs.declared.limits.TheConstants.{ENTRIES_MAX}
 use Rattle.polis_words.specs.RunOptions.{Said}
-use Rattle.polis_words.proofs.AskOptions.{asked_within, not_both}
+use Rattle.polis_words.proofs.AskOptions.{asked_within}
 use Rattle.polis_words.proofs.AsksShuffle.{no_settings}
 use Rattle.polis_words.proofs.requests.shuffle.settings_of.Goals as goal
+use Rattle.polis_base.proofs.Bools.{not_both}
 
 pub returns-in-None-clause-none : goal.returns-in-None-clause-none
 returns-in-None-clause-none c = λ order limit asks. c.in-None.ensures.none asks.said asks.asks

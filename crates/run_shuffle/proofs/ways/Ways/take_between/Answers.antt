@@ -8,8 +8,9 @@ use Rattle.net_core.specs.Moments.{Moment}
 use Rattle.run_shuffle.specs.declared.ways.Ways.{Ways}
 use Rattle.run_shuffle.specs.inner.Ways.{owes}
 use Rattle.run_shuffle.proofs.OwedWays.{some_found}
-use Rattle.run_shuffle.proofs.WaysAfter.{between_taken, marked_row, receiver_is, row_set, sender_is, taken, with_one}
+use Rattle.run_shuffle.proofs.WaysAfter.{between_taken, marked_row, receiver_is, row_set, taken, with_one}
 use Rattle.run_shuffle.proofs.ways.Ways.take_between.Goals as goal
+use Rattle.net_core.proofs.ClocksAfter.{sender_within}
 
 pub returns-clause-ways : goal.returns-clause-ways
 returns-clause-ways c =
@@ -29,7 +30,7 @@ returns-clause-ways c =
     between_taken c.moving_laws.ensures.moves_owed c.moving_laws.ensures.moves_waking
     c.sending_laws.ensures.trace_gives now ways from to c.args.event c.args.code c.mark.result
     c.with-self.result sum c.journal-journal.ensures.legal c.requires.ways
-    (sender_is now.net from to c.args.event c.args.code c.requires.fits)
+    (sender_within now.net from to c.args.event c.args.code c.requires.fits)
     (receiver_is now.net (Sender from) to c.args.event c.args.code c.requires.fits)
     (marked_row ways.sends from c.get-owed.result.now c.mark.result to
     (owes now.net (now.journal ++ Dep (Sender from) to c.args.event c.args.code ∷ []) from to)

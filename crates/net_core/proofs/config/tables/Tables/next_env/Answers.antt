@@ -1,4 +1,4 @@
-use Rattle.std.proofs.Common.{◌≡◌, ◌≤◌, ℕ, Bool, true, false, not, nat_lt, List, length, Some, slice_get, refl, ap, sym, subst, ◌∙◌, arith}
+use Rattle.std.proofs.Common.{◌≡◌, ◌≤◌, ℕ, Bool, nat_lt, List, length, Some, slice_get, ap, sym, subst, ◌∙◌, arith}
 use Rattle.std.specs.List.{IsFirstBest}
 use Rattle.polis_base.specs.Lists.{head_of}
 use Rattle.transition_table.specs.declared.decl.Party.TheVariants.{Env}
@@ -9,15 +9,12 @@ use Rattle.net_core.proofs.OwedByEnv.{first_at_least, none_left, no_machines_rea
 use Rattle.journals.proofs.MomentsAfter.{length_table}
 use Rattle.net_core.proofs.Tables.{table_item}
 use Rattle.net_core.proofs.config.tables.Tables.next_env.Goals as goal
+use Rattle.polis_base.proofs.Bools.{not_not}
 
 -- the number of the cursors, and the first of the least
 few : (n m : ℕ) (cursors : List ℕ) → length cursors ≡ n
     → IsFirstBest nat_lt cursors (length cursors) m → IsFirstBest nat_lt cursors n m
 few n m cursors size best = subst (λ (k : ℕ). IsFirstBest nat_lt cursors k m) size best
-
-twice : (b : Bool) → not (not b) ≡ b
-twice true = refl
-twice false = refl
 
 pub returns-then-len-eq0 : goal.returns-then-len-eq0
 returns-then-len-eq0 c = λ journal current.
@@ -84,7 +81,7 @@ returns-in-Event c = λ journal current.
     let first = first_at_least net trace journal cursors m e code b
     c.sending_laws.ensures.first_of_cursors current.cursors_are best item settled in
     let same = ap (λ (b : Bool). let p : Owed
-    × Bool = (record { from = Env; to = m; event = e; code = code }, b) in Some p) (twice b) in
+    × Bool = (record { from = Env; to = m; event = e; code = code }, b) in Some p) (not_not b) in
     same ∙ sym first
 
 pub returns-in-Settle : goal.returns-in-Settle

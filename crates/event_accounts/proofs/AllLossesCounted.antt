@@ -7,8 +7,7 @@ use Rattle.std.proofs.lemmas.List.Sums.{sum_by-cons, sum_by-append, sum-map}
 use Rattle.std.proofs.lemmas.Bool.{and_parts, cases_eq, cases_lt, eq-eqb, ne_eqb, false≢true, lt-ltb, le-ltb}
 use Rattle.std.proofs.lemmas.Option.{slice_get_past}
 use Rattle.polis_base.specs.Lists.{upto}
-use Rattle.transition_table.specs.NetworkFacts.{are_different, has}
-use Rattle.transition_table.specs.inner.NetworkFacts.{lists_once}
+use Rattle.transition_table.specs.NetworkFacts.{are_different, has, lists_once}
 use Rattle.transition_table.specs.declared.machine.Machine.{Machine}
 use Rattle.transition_table.specs.declared.network.Network.{Network}
 use Rattle.journals.specs.declared.entry.Entry.{Entry}

@@ -30,8 +30,6 @@ pub fn token_before(text: &[u8], place: u64) -> Option<&[u8]>
     requires { is_ok (tokens_of text.now) ≡ true }
     ensures { option_copied result ≡ token_before text.now place }
 {
-    match last_before(text, place) {
-        Some(token) => Some(&text[token.at as usize..(token.at + token.len) as usize]),
-        None => None,
-    }
+    let token = last_before(text, place)?;
+    Some(&text[token.at as usize..(token.at + token.len) as usize])
 }

@@ -6,8 +6,7 @@ use Rattle.std.proofs.lemmas.Bool.{and_parts, lt-ltb, le-leb, false≢true, and_
 use Rattle.std.proofs.lemmas.List.{length-map, take_at, drop_at}
 use Rattle.domains.specs.Names.{is_same}
 use Rattle.domains.specs.Tables.{fits}
-use Rattle.transition_table.specs.NetworkFacts.{event_values, has_vars}
-use Rattle.transition_table.specs.inner.NetworkFacts.{has_outputs, is_numbered}
+use Rattle.transition_table.specs.NetworkFacts.{event_values, has_vars, has_outputs, is_numbered}
 use Rattle.transition_table.specs.Transitions.{blank, IsOutcome}
 use Rattle.transition_table.specs.declared.decl.Party.{Party}
 use Rattle.transition_table.specs.declared.decl.Party.TheVariants.{Env, Machine as Sender}

@@ -11,8 +11,7 @@ use Rattle.domains.specs.Names.{is_same, are_distinct}
 use Rattle.domains.specs.Domains.{WordsDiffer, size_of, word_of}
 use Rattle.domains.specs.Tables.{fits}
 use Rattle.domains.specs.declared.domain.Domain.{Domain}
-use Rattle.transition_table.specs.NetworkFacts.{values_of, event_values, has_vars, has, are_different}
-use Rattle.transition_table.specs.inner.NetworkFacts.{has_outputs, lists_once, is_numbered}
+use Rattle.transition_table.specs.NetworkFacts.{values_of, event_values, has_vars, has, are_different, has_outputs, lists_once, is_numbered}
 use Rattle.transition_table.specs.Transitions.{IsSnapshot, blank, IsOutcome}
 use Rattle.transition_table.specs.declared.decl.Party.{Party}
 use Rattle.transition_table.specs.declared.decl.Party.TheVariants.{Env, Machine as Sender}

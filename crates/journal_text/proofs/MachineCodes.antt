@@ -6,8 +6,7 @@ use Rattle.std.specs.Cmp.Lexicographic.{pointwise, same_text}
 use Rattle.std.proofs.lemmas.List.{take-append-drop, length-map, take_at, drop_at}
 use Rattle.std.proofs.lemmas.Simd.{map-map}
 use Rattle.domains.specs.Tables.{fits}
-use Rattle.transition_table.specs.NetworkFacts.{has_vars}
-use Rattle.transition_table.specs.inner.NetworkFacts.{has_outputs}
+use Rattle.transition_table.specs.NetworkFacts.{has_vars, has_outputs}
 use Rattle.transition_table.specs.Transitions.{IsSnapshot, IsOutcome}
 use Rattle.journals.specs.Journals.{FitsNetwork}
 use Rattle.journals.specs.declared.entry.Entry.TheVariants.{Rea}

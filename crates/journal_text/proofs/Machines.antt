@@ -1,7 +1,7 @@
 -- What a network keeps of its machines' lists, and reactions that are read part by part.
 use Rattle.std.proofs.Common.{◌≡◌, ◌&&◌, ℕ, true, List, Some, Result, Ok, Err, slice_get, sym, ◌∙◌, ap}
 use Rattle.std.proofs.lemmas.Bool.{and_parts}
-use Rattle.transition_table.specs.inner.NetworkFacts.{is_numbered}
+use Rattle.transition_table.specs.NetworkFacts.{is_numbered}
 use Rattle.transition_table.specs.declared.machine.Machine.{Machine}
 use Rattle.transition_table.specs.declared.network.Network.{Network}
 use Rattle.journal_text.specs.Forms.{Text, Texts}

@@ -262,10 +262,7 @@ pub fn stamped_line(stamped: bool, line: &[u8]) -> Option<(u64, Form<'_>)>
     ensures none { IfNone result (stamped_form stamped (words_of line.now) ≡ None) }
 {
     if !stamped {
-        return match entry_line(line) {
-            Some(form) => Some((0, form)),
-            None => None,
-        };
+        return entry_line(line).map(|form| (0, form));
     }
     let (first, after) = next_piece(line, b' ');
     let Some(rest) = after else {

@@ -1,8 +1,7 @@
 // The texts that are written.
 ghost use Rattle.std.specs.List.{zip};
 ghost use Rattle.std.specs.Prelude.{◌≡◌, ◌<◌, ◌+◌, ◌++◌, flat_map, length, Some, OnOk, IfOk, IsTrue};
-ghost use Rattle.transition_table.specs.NetworkFacts.{values_of, has_vars};
-ghost use Rattle.transition_table.specs.inner.NetworkFacts.{has_outputs};
+ghost use Rattle.transition_table.specs.NetworkFacts.{values_of, has_vars, has_outputs};
 ghost use Rattle.transition_table.specs.Transitions.{IsSnapshot, IsOutcome};
 ghost use Rattle.journals.specs.Journals.{IsJournal, FitsNetwork, is_event_code, is_party, emitted, emissions};
 ghost use Rattle.transition_table.specs.NetworkNames.{machine_name};

@@ -10,8 +10,7 @@ use Rattle.std.proofs.lemmas.Bool.Decides.{Decides-eqb}
 use Rattle.std.proofs.lemmas.Option.{slice_get_cases}
 use Rattle.std.proofs.lemmas.Slice.Eq.{slice_eq-Decides}
 use Rattle.polis_base.specs.Lists.{places_from, places_where}
-use Rattle.transition_table.specs.NetworkFacts.{has}
-use Rattle.transition_table.specs.inner.NetworkFacts.{has_receivers, is_numbered}
+use Rattle.transition_table.specs.NetworkFacts.{has, has_receivers, is_numbered}
 use Rattle.transition_table.specs.declared.decl.EventDecl.{EventDecl}
 use Rattle.transition_table.specs.declared.decl.Party.{Party}
 use Rattle.transition_table.specs.declared.decl.Party.TheVariants.{Env, Machine as Sender}

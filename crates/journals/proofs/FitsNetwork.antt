@@ -11,8 +11,7 @@ use Rattle.std.proofs.lemmas.Option.{slice_get_within}
 use Rattle.std.proofs.lemmas.Slice.Eq.{slice_eq-Decides}
 use Rattle.polis_base.specs.Lists.{places_from, head_of}
 use Rattle.domains.specs.Tables.{fits}
-use Rattle.transition_table.specs.NetworkFacts.{has, event_values}
-use Rattle.transition_table.specs.inner.NetworkFacts.{is_numbered, has_outputs}
+use Rattle.transition_table.specs.NetworkFacts.{has, event_values, is_numbered, has_outputs}
 use Rattle.transition_table.specs.Laws.{TransitionFits}
 use Rattle.transition_table.specs.Transitions.{IsSnapshot, IsOutcome}
 use Rattle.transition_table.specs.declared.decl.EventDecl.{EventDecl}

@@ -7,7 +7,7 @@ use Rattle.domains.specs.Names.{is_same}
 use Rattle.domains.specs.Domains.{size_of, word_of, IsDomain, WordsDiffer}
 use Rattle.domains.specs.declared.domain.Domain.{Domain}
 use Rattle.domains.proofs.Names.{texts_same, texts_differ}
-use Rattle.transition_table.specs.inner.NetworkFacts.{has_domain}
+use Rattle.transition_table.specs.NetworkFacts.{has_domain}
 use Rattle.transition_table.specs.declared.decl.EventDecl.{EventDecl}
 use Rattle.transition_table.specs.declared.network.Network.{Network}
 use Rattle.journals.specs.ValueWords.{value_named}

@@ -11,8 +11,7 @@ use Rattle.transition_table.specs.declared.decl.EventDecl.{EventDecl}
 use Rattle.transition_table.specs.declared.decl.StateDecl.{StateDecl}
 use Rattle.transition_table.specs.declared.machine.Machine.{Machine}
 use Rattle.transition_table.specs.declared.network.Network.{Network}
-use Rattle.transition_table.specs.NetworkFacts.{are_different}
-use Rattle.transition_table.specs.inner.NetworkFacts.{is_numbered, lists_once}
+use Rattle.transition_table.specs.NetworkFacts.{are_different, is_numbered, lists_once}
 use Rattle.journal_text.specs.Holding.{names_hold, has_name_token, state_has_name, machine_holds, values_hold}
 use Rattle.task_code.proofs.Labels.{ins, sts, tos, outs}
 use Rattle.transition_table.specs.NetworkNames.{event_name}

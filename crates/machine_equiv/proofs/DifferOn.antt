@@ -12,7 +12,7 @@ use Rattle.transition_table.proofs.Determinism.{have_widths}
 use Rattle.transition_table.proofs.SameCodes.{by_codes}
 use Rattle.machine_equiv.specs.Comparing.{DifferOn}
 use Rattle.machine_equiv.specs.Shapes.{SameForm}
-use Rattle.machine_equiv.proofs.AgreeBelow.{same_long}
+use Rattle.polis_base.proofs.AgreeBelow.{same_long}
 
 module _ (a b : Machine) (form : SameForm a b) (a_sure : IsDeterministic a)
     (b_sure : IsDeterministic b) where

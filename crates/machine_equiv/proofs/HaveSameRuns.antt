@@ -19,7 +19,7 @@ use Rattle.journals.specs.Outputs.{outputs, goes_out}
 use Rattle.machine_equiv.specs.Comparing.{SameTables}
 use Rattle.machine_equiv.specs.Laws.{SameTablesSameRuns}
 use Rattle.machine_equiv.specs.Shapes.{SameShape, SameForm}
-use Rattle.machine_equiv.proofs.AgreeBelow.{at_place}
+use Rattle.polis_base.proofs.AgreeBelow.{at_place}
 use Rattle.machine_equiv.proofs.SameForm.{same_event_code, same_goes_out, machines_long, same_inputs, same_outputs, same_states_long, same_initial, states_long, form_same}
 
 pub turned_shape : (a b : Network) → SameShape a b → SameShape b a

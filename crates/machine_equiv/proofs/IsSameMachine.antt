@@ -2,14 +2,16 @@
 use Rattle.std.proofs.Common.{◌≡◌, ℕ, ◌<◌, ◌&&◌, Bool, true, List, length, slice_get, Some, nat_lt}
 use Rattle.std.specs.List.{list_all}
 use Rattle.std.proofs.lemmas.Bool.{and_parts, ltb-true}
-use Rattle.transition_table.specs.inner.NetworkFacts.{has_domain, is_numbered}
+use Rattle.transition_table.specs.NetworkFacts.{has_domain, is_numbered}
 use Rattle.transition_table.specs.declared.decl.EventDecl.{EventDecl}
 use Rattle.transition_table.specs.declared.decl.StateDecl.{StateDecl}
 use Rattle.transition_table.specs.declared.machine.Machine.{Machine}
 use Rattle.transition_table.specs.declared.network.Network.{Network}
-use Rattle.machine_equiv.specs.inner.Agreeing.{AgreeBelow, AreSameStates, IsSameEvent, IsSameMachine, IsSameState}
-use Rattle.machine_equiv.specs.Shapes.{SameEvents, SameMachines, event_words, of_states, state_words}
-use Rattle.machine_equiv.proofs.AgreeBelow.{at_both, column}
+use Rattle.polis_base.specs.Lists.{AgreeBelow}
+use Rattle.transition_table.specs.EventWords.{event_words}
+use Rattle.machine_equiv.specs.inner.Agreeing.{AreSameStates, IsSameEvent, IsSameMachine, IsSameState}
+use Rattle.machine_equiv.specs.Shapes.{SameEvents, SameMachines, of_states, state_words}
+use Rattle.polis_base.proofs.AgreeBelow.{at_both, column}
 use Rattle.polis_base.proofs.ListTests.{all_get}
 
 module _ (a b : Network) where
@@ -109,11 +111,6 @@ module _ (a b : Network) where
   }
 
 -- ---- domains are there
-
-pub event_domain : (net : Network) (k : ℕ) (event : EventDecl) → slice_get net.events k ≡ Some event
-    → has_domain net.domains event ≡ true
-event_domain net k event is =
-    all_get (has_domain net.domains) net.events k event net.event_domains is
 
 pub state_domain : (n : ℕ) (states : List StateDecl) (k : ℕ) (state : StateDecl)
     → list_all (λ state. nat_lt state.domain n) states ≡ true → slice_get states k ≡ Some state

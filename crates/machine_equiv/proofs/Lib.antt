@@ -3,9 +3,7 @@ pub mod OneComparison
 pub mod DifferOn
 pub mod IsLeastDifference
 pub mod WorkedRows
-pub mod AgreeBelow
 pub mod AreEqualOnes
 pub mod StandIn
 pub mod HaveSameRuns
 pub mod SameForm
-pub mod WordsOf

@@ -6,42 +6,21 @@ use Rattle.std.proofs.lemmas.Bool.{and_parts}
 use Rattle.std.proofs.lemmas.List.{take-append-drop}
 use Rattle.domains.specs.Domains.{size_of}
 use Rattle.domains.specs.declared.domain.Domain.{Domain}
-use Rattle.transition_table.specs.NetworkFacts.{values_of, event_values, has_vars}
-use Rattle.transition_table.specs.inner.NetworkFacts.{has_outputs}
+use Rattle.transition_table.specs.NetworkFacts.{values_of, event_values, has_vars, has_outputs}
 use Rattle.transition_table.specs.declared.decl.EventDecl.{EventDecl}
 use Rattle.transition_table.specs.declared.decl.StateDecl.{StateDecl}
 use Rattle.transition_table.specs.declared.machine.Machine.{Machine}
 use Rattle.transition_table.specs.declared.network.Network.{Network}
 use Rattle.journals.specs.Journals.{inputs_of, outputs_of, states_of, initial, is_event_code}
 use Rattle.journals.specs.Outputs.{goes_out}
-use Rattle.machine_equiv.specs.Shapes.{words_of, words_in, event_words, state_words, of_states, SameShape, SameForm}
-use Rattle.machine_equiv.proofs.WordsOf.{long_words}
-use Rattle.machine_equiv.proofs.AgreeBelow.{at_place, at_both, same_long}
+use Rattle.transition_table.specs.EventWords.{event_words, words_in}
+use Rattle.transition_table.proofs.EventWords.{count_of, counted, long_words_in}
+use Rattle.machine_equiv.specs.Shapes.{state_words, of_states, SameShape, SameForm}
+use Rattle.polis_base.proofs.AgreeBelow.{at_place, at_both, same_long}
 use Rattle.polis_base.proofs.ListTests.{all_get}
 use Rattle.polis_base.proofs.Places.{same_numbers}
 
 -- ---- numbers of values
-
--- as many as there are words
-long_words_in : (net : Network) (d : ℕ)
-    → length (words_in net d) ≡ values_of net.domains (Some d)
-long_words_in net d =
-    elim (slice_get net.domains d) as (λ (o : Option Domain).
-    length (unwrap_or (option_map words_of o) []) ≡ unwrap_or (option_map size_of o) 0) [
-      | None ↦ refl
-      | Some domain ↦ long_words domain
-    ]
-
--- how many values there are with these words, one where there are none
-pub count_of : Option (List (List ℕ)) → ℕ
-count_of None = 1
-count_of (Some words) = length words
-
-pub counted : (net : Network) (o : Option ℕ)
-    → count_of (option_map (words_in net) o) ≡ values_of net.domains o
-unfolding count_of
-counted net None = refl
-counted net (Some d) = long_words_in net d
 
 module _ (a b : Network) (shape : SameShape a b) where
   pub same_values : (e : ℕ) → event_values a.domains a.events e ≡ event_values b.domains b.events e

@@ -13,7 +13,7 @@ use Rattle.transition_table.specs.declared.snapshot.Snapshot.{Snapshot}
 use Rattle.machine_equiv.specs.Comparing.{SameTable}
 use Rattle.machine_equiv.specs.Laws.{SameRowsSameTable, StandIn}
 use Rattle.machine_equiv.specs.Shapes.{SameForm}
-use Rattle.machine_equiv.proofs.AgreeBelow.{same_long}
+use Rattle.polis_base.proofs.AgreeBelow.{same_long}
 
 module _ (a b : Machine) (form : SameForm a b) where
   states_long : length a.states ≡ length b.states

@@ -9,8 +9,7 @@ use Rattle.std.proofs.lemmas.Bool.Decides.{Decides-eqb}
 use Rattle.std.proofs.lemmas.Slice.Eq.{slice_eq-Decides}
 use Rattle.polis_base.specs.Lists.{upto, places_from, places_where}
 use Rattle.polis_base.proofs.Lists.{same_below}
-use Rattle.transition_table.specs.NetworkFacts.{has}
-use Rattle.transition_table.specs.inner.NetworkFacts.{has_receivers}
+use Rattle.transition_table.specs.NetworkFacts.{has, has_receivers}
 use Rattle.transition_table.specs.declared.decl.EventDecl.{EventDecl}
 use Rattle.transition_table.specs.declared.machine.Machine.{Machine}
 use Rattle.transition_table.specs.declared.network.Network.{Network}

@@ -8,7 +8,6 @@ mod clocks;
 mod config;
 mod law;
 mod loss;
-mod moments;
 mod prefix;
 mod stamps;
 

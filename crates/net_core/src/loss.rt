@@ -4,8 +4,7 @@ ghost use Rattle.journals.specs.Journals.{IsJournal};
 ghost use Rattle.net_core.specs.inner.Losses.{Overwrites};
 ghost use Rattle.journals.specs.Outputs.{lost as lost_in};
 
-use crate::moments::first_moments;
-use journals::{Entry, Journal, move_on, moving_laws};
+use journals::{Entry, Journal, first_moments, move_on, moving_laws};
 use polis_base::NoMemory;
 use std::alloc::Global;
 use transition_table::{Machine, Network, Snapshot};
@@ -40,7 +39,7 @@ pub fn lost(alloc: Global, net: &Network, j: &Journal) -> Result<u64, NoMemory>
     ensures { IfOk result (λ count. count ≡ lost_in net.now j.now) }
 {
     moving_laws();
-    let mut moments = first_moments(alloc, net)?;
+    let mut moments = first_moments(alloc, net)?.into_vec();
     let mut count = 0;
     for i in 0..j.len() {
         let entry = j.get(i);

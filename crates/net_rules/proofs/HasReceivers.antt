@@ -4,7 +4,7 @@ use Rattle.std.proofs.lemmas.Grind.{flat_map-append}
 use Rattle.std.specs.List.{list_any, list_all, enumerate_from, AllZip}
 use Rattle.std.specs.Cmp.Lexicographic.{nat_list_eq_equiv, pointwise}
 use Rattle.domains.specs.Names.{is_same, are_distinct}
-use Rattle.transition_table.specs.inner.NetworkFacts.{has_receivers}
+use Rattle.transition_table.specs.NetworkFacts.{has_receivers}
 use Rattle.transition_table.specs.declared.machine.Machine.{Machine}
 use Rattle.net_reader.specs.declared.raw.Word.{Word}
 use Rattle.net_reader.specs.declared.raw.RawEvent.{RawEvent}

@@ -7,8 +7,7 @@ use Rattle.std.specs.Cmp.Lexicographic.{nat_list_eq_equiv, pointwise}
 use Rattle.domains.specs.Names.{is_same, are_distinct}
 use Rattle.domains.specs.Domains.{size_of}
 use Rattle.domains.specs.declared.domain.Domain.{Domain}
-use Rattle.transition_table.specs.NetworkFacts.{has as has_number, are_different, values_of, event_values, has_vars}
-use Rattle.transition_table.specs.inner.NetworkFacts.{has_sender, senders, lists_once, has_outputs, is_numbered, has_domain}
+use Rattle.transition_table.specs.NetworkFacts.{has as has_number, are_different, values_of, event_values, has_vars, has_sender, senders, lists_once, has_outputs, is_numbered, has_domain}
 use Rattle.transition_table.specs.declared.decl.EventDecl.{EventDecl}
 use Rattle.transition_table.specs.declared.decl.StateDecl.{StateDecl}
 use Rattle.transition_table.specs.declared.machine.Machine.{Machine}

@@ -5,7 +5,7 @@ use Rattle.std.specs.List.{list_any}
 use Rattle.std.specs.Cmp.Lexicographic.{nat_list_eq_equiv}
 use Rattle.polis_base.specs.Lists.{places_from}
 use Rattle.domains.specs.Names.{is_same, are_distinct}
-use Rattle.transition_table.specs.inner.NetworkFacts.{senders}
+use Rattle.transition_table.specs.NetworkFacts.{senders}
 use Rattle.net_reader.specs.declared.raw.Word.{Word}
 use Rattle.net_reader.specs.declared.raw.RawMachine.{RawMachine}
 use Rattle.net_reader.specs.declared.raw.RawNet.{RawNet}

@@ -5,8 +5,7 @@ use Rattle.std.specs.List.{AllZip}
 use Rattle.domains.specs.declared.domain.Domain.{Domain}
 use Rattle.domains.specs.declared.domain.Span.{Span}
 use Rattle.domains.specs.declared.domain.Domain.TheVariants as domains
-use Rattle.transition_table.specs.NetworkFacts.{has_vars}
-use Rattle.transition_table.specs.inner.NetworkFacts.{has_outputs, is_numbered, lists_once}
+use Rattle.transition_table.specs.NetworkFacts.{has_vars, has_outputs, is_numbered, lists_once}
 use Rattle.transition_table.specs.declared.row.Row.{Row}
 use Rattle.transition_table.specs.declared.machine.Machine.{Machine}
 use Rattle.transition_table.specs.declared.network.Network.{Network}

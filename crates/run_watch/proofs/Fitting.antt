@@ -15,8 +15,8 @@ use Rattle.transition_table.specs.NetworkNames.{event_name}
 use Rattle.transition_table.specs.declared.decl.EventDecl.{EventDecl}
 use Rattle.transition_table.specs.declared.decl.Party.TheVariants.{Env}
 use Rattle.transition_table.specs.declared.network.Network.{Network}
-use Rattle.machine_equiv.specs.Shapes.{event_words}
-use Rattle.machine_equiv.proofs.SameForm.{count_of, counted}
+use Rattle.transition_table.specs.EventWords.{event_words}
+use Rattle.transition_table.proofs.EventWords.{count_of, counted}
 use Rattle.journals.specs.declared.entry.Entry.{Entry}
 use Rattle.journals.specs.declared.entry.Entry.TheVariants.{Dep, Rea}
 use Rattle.journals.specs.declared.entry.TraceItem.TheVariants.{Event}

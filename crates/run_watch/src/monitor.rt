@@ -1,12 +1,11 @@
 // Which networks are monitors of another.
 ghost use Rattle.std.specs.Prelude.{◌≡◌, ◌↔◌, IsTrue};
 ghost use Rattle.transition_table.specs.declared.decl.Party.TheVariants.{Env};
-ghost use Rattle.transition_table.specs.inner.NetworkFacts.{has_domain};
+ghost use Rattle.transition_table.specs.NetworkFacts.{has_domain};
 ghost use Rattle.journals.specs.Journals.{same_party};
 ghost use Rattle.run_watch.specs.Monitors.{HasOutput, IsHeardAs, IsMonitor};
 
-use machine_equiv::same_event_words;
-use transition_table::{EventDecl, Network, Party};
+use transition_table::{EventDecl, Network, Party, same_event_words};
 
 pub(crate) fn is_env(party: Party) -> bool
     ensures { result ≡ same_party party Env }

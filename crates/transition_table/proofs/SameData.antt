@@ -8,8 +8,7 @@ use Rattle.std.specs.List.{list_all, enumerate_from}
 use Rattle.domains.specs.Names.{are_distinct}
 use Rattle.transition_table.specs.Laws.{SameRow, SameMachine, SameNetwork}
 use Rattle.transition_table.specs.MachineFacts.{are_vars, are_results, is_row, is_small}
-use Rattle.transition_table.specs.NetworkFacts.{has_vars}
-use Rattle.transition_table.specs.inner.NetworkFacts.{has_receivers, has_sender, lists_once, has_outputs, is_numbered, has_domain}
+use Rattle.transition_table.specs.NetworkFacts.{has_vars, has_receivers, has_sender, lists_once, has_outputs, is_numbered, has_domain}
 use Rattle.transition_table.specs.RowFacts.{are_actions}
 
 pub same_row : SameRow

@@ -8,8 +8,7 @@ use Rattle.std.proofs.lemmas.List.{append-nil, append_assoc, length-append, leng
 use Rattle.std.proofs.lemmas.List.Elements.{filter_map-append}
 use Rattle.std.proofs.lemmas.Bool.{and_parts, and_from, eq-eqb, lt-ltb, ltb-true}
 use Rattle.polis_base.specs.Lists.{upto, last_of}
-use Rattle.transition_table.specs.NetworkFacts.{are_different}
-use Rattle.transition_table.specs.inner.NetworkFacts.{lists_once}
+use Rattle.transition_table.specs.NetworkFacts.{are_different, lists_once}
 use Rattle.transition_table.specs.declared.machine.Machine.{Machine}
 use Rattle.transition_table.specs.declared.network.Network.{Network}
 use Rattle.transition_table.specs.declared.snapshot.Outcome.{Outcome}

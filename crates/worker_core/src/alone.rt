@@ -115,10 +115,7 @@ fn merged_logs<'a>(alloc: Global, core: Core<'a>) -> Result<Journal, NoMemory>
     ensures merge { IfOk result (λ j. j ≡ merged core.entry.state.logs) }
 {
     core.logs();
-    match merge_logs(alloc, core.into_logs()) {
-        Ok(journal) => Ok(journal),
-        Err(fault) => Err(fault),
-    }
+    merge_logs(alloc, core.into_logs())
 }
 
 // Takes steps until there are `count` entries or no step can be taken, and gives the merge of

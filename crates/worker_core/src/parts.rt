@@ -194,10 +194,7 @@ impl Parts {
         ensures { result ≡ first_held (get_or self.now.hands.items s None) }
     {
         match &self.hands[s as usize] {
-            Some(hand) => match hand.deliveries.first() {
-                Some(owed) => Some((owed, hand.stamp)),
-                None => None,
-            },
+            Some(hand) => hand.deliveries.first().map(|owed| (owed, hand.stamp)),
             None => None,
         }
     }

@@ -5,7 +5,8 @@ use Rattle.transition_table.specs.declared.decl.EventDecl.{EventDecl}
 use Rattle.transition_table.specs.declared.decl.StateDecl.{StateDecl}
 use Rattle.transition_table.specs.declared.machine.Machine.{Machine}
 use Rattle.transition_table.specs.declared.network.Network.{Network}
-use Rattle.machine_equiv.specs.Shapes.{event_words, state_words}
+use Rattle.transition_table.specs.EventWords.{event_words}
+use Rattle.machine_equiv.specs.Shapes.{state_words}
 
 pub record IsSameEvent (a b : Network) (x y : EventDecl) : Type 0 where
   pub name : x.name ≡ y.name
@@ -34,8 +35,3 @@ pub record IsSameMachine (a b : Network) (x y : Machine) : Type 0 where
 abbrev pub HaveDomains : Network → List StateDecl → Type 0
 HaveDomains net states =
     IsTrue (list_all (λ state. nat_lt state.domain (length net.domains)) states)
-
--- R of the items at each place below n
-abbrev pub AgreeBelow : {X Y : Type 0} → (X → Y → Type 0) → List X → List Y → ℕ → Type 0
-AgreeBelow {X} {Y} R xs ys n = (k : ℕ) (x : X) (y : Y) → k < n → slice_get xs k ≡ Some x
-    → slice_get ys k ≡ Some y → R x y

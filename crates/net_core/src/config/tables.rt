@@ -12,8 +12,7 @@ use crate::config::bits::mark;
 use crate::config::cursors::{Cursors, first_cursors, next_read};
 use crate::config::owings::Owings;
 use crate::config::readers::all_readers;
-use crate::moments::first_moments;
-use journals::{Entry, Journal, Trace, laws, move_on, moving_laws};
+use journals::{Entry, Journal, Trace, first_moments, laws, move_on, moving_laws};
 use polis_base::NoMemory;
 use std::alloc::Global;
 use transition_table::{Network, Party, Snapshot};
@@ -40,7 +39,7 @@ pub(crate) fn first_tables(alloc: Global, net: &Network, trace: &Trace) -> Resul
     let cursors = first_cursors(alloc, net, &readers, trace)?;
     Ok(Tables {
         readers,
-        moments: first_moments(alloc, net)?,
+        moments: first_moments(alloc, net)?.into_vec(),
         woken: 0,
         cursors,
         owed: Owings::new(alloc)?,

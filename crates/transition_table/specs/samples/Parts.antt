@@ -8,7 +8,7 @@ use Rattle.polis_base.specs.declared.limits.TheConstants.{DOMAINS_MAX, EVENTS_MA
 use Rattle.domains.specs.Names.{are_distinct}
 use Rattle.domains.specs.declared.domain.Domain.{Domain}
 use Rattle.transition_table.specs.MachineFacts.{are_vars, are_results, is_row, is_small}
-use Rattle.transition_table.specs.NetworkFacts.{has_vars}
+use Rattle.transition_table.specs.NetworkFacts.{has_vars, has_receivers, has_sender, lists_once, has_outputs, is_numbered, has_domain}
 use Rattle.transition_table.specs.declared.decl.EventDecl.{EventDecl}
 use Rattle.transition_table.specs.declared.decl.Party.{Party}
 use Rattle.transition_table.specs.declared.decl.StateDecl.{StateDecl}
@@ -18,7 +18,6 @@ use Rattle.transition_table.specs.declared.row.Act.{Act}
 use Rattle.transition_table.specs.declared.row.Cond.{Cond}
 use Rattle.transition_table.specs.declared.row.Row.{Row}
 use Rattle.transition_table.specs.declared.row.Source.TheVariants.{Code, Input, Add}
-use Rattle.transition_table.specs.inner.NetworkFacts.{has_receivers, has_sender, lists_once, has_outputs, is_numbered, has_domain}
 
 -- a condition: the variable has one of these codes, by bits
 abbrev pub has_codes : ℕ → ℕ → Cond

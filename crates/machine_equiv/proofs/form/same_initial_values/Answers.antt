@@ -1,6 +1,6 @@
 use Rattle.std.proofs.Common.{refl, arith}
 use Rattle.transition_table.specs.declared.decl.StateDecl.{StateDecl}
-use Rattle.machine_equiv.proofs.AgreeBelow.{column, at_both}
+use Rattle.polis_base.proofs.AgreeBelow.{column, at_both}
 use Rattle.machine_equiv.proofs.form.same_initial_values.Goals as goal
 
 pub returns-then-get : goal.returns-then-get

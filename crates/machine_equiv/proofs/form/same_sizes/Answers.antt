@@ -1,5 +1,5 @@
 use Rattle.std.proofs.Common.{refl, arith}
-use Rattle.machine_equiv.proofs.AgreeBelow.{same_lists}
+use Rattle.polis_base.proofs.AgreeBelow.{same_lists}
 use Rattle.machine_equiv.proofs.form.same_sizes.Goals as goal
 
 pub returns : goal.returns

@@ -1,5 +1,5 @@
 use Rattle.std.proofs.Common.{◌≡◌}
-use Rattle.machine_equiv.specs.inner.Agreeing.{AgreeBelow}
+use Rattle.polis_base.specs.Lists.{AgreeBelow}
 use Rattle.machine_equiv.proofs.form.same_sizes.Given as goal
 
 abbrev pub invariant-loop-v : goal.invariant-loop-v

@@ -2,7 +2,7 @@ use Rattle.std.proofs.Common.{subst, arith}
 use Rattle.std.proofs.lemmas.Option.{slice_get_within}
 use Rattle.machine_equiv.specs.inner.FirstOthers.{IsDifference}
 use Rattle.machine_equiv.specs.Comparing.{SameTable}
-use Rattle.machine_equiv.proofs.AgreeBelow.{one_more}
+use Rattle.polis_base.proofs.AgreeBelow.{one_more}
 use Rattle.machine_equiv.proofs.HaveSameRuns.{same_runs}
 use Rattle.machine_equiv.proofs.SameForm.{form_same}
 use Rattle.machine_equiv.proofs.nets.compare_nets.Goals as goal

@@ -1,7 +1,8 @@
 use Rattle.std.proofs.Common.{refl, sym, ◌∙◌, arith}
 use Rattle.machine_equiv.specs.inner.Agreeing.{IsSameEvent}
-use Rattle.machine_equiv.proofs.IsSameMachine.{events_agree, event_at, event_domain}
-use Rattle.machine_equiv.proofs.AgreeBelow.{one_more}
+use Rattle.machine_equiv.proofs.IsSameMachine.{events_agree, event_at}
+use Rattle.transition_table.proofs.EventWords.{event_domain}
+use Rattle.polis_base.proofs.AgreeBelow.{one_more}
 use Rattle.machine_equiv.proofs.shape.same_events.Goals as goal
 
 pub same_event-requires-clause-first : goal.same_event-requires-clause-first

@@ -1,4 +1,5 @@
-use Rattle.machine_equiv.specs.inner.Agreeing.{AgreeBelow, IsSameEvent}
+use Rattle.polis_base.specs.Lists.{AgreeBelow}
+use Rattle.machine_equiv.specs.inner.Agreeing.{IsSameEvent}
 use Rattle.machine_equiv.proofs.shape.same_events.Given as goal
 
 abbrev pub invariant-loop-e : goal.invariant-loop-e

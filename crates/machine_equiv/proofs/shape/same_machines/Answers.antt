@@ -1,7 +1,7 @@
 use Rattle.std.proofs.Common.{refl, sym, ◌∙◌, arith}
 use Rattle.machine_equiv.specs.inner.Agreeing.{IsSameMachine}
 use Rattle.machine_equiv.proofs.IsSameMachine.{machines_agree, machine_at, state_domains}
-use Rattle.machine_equiv.proofs.AgreeBelow.{one_more}
+use Rattle.polis_base.proofs.AgreeBelow.{one_more}
 use Rattle.machine_equiv.proofs.shape.same_machines.Goals as goal
 
 pub same_machine-requires-clause-first : goal.same_machine-requires-clause-first

@@ -1,7 +1,7 @@
 use Rattle.std.proofs.Common.{length, refl, sym, ◌∙◌, arith}
 use Rattle.machine_equiv.specs.inner.Agreeing.{IsSameState}
 use Rattle.machine_equiv.proofs.IsSameMachine.{states_agree, state_at, state_domain}
-use Rattle.machine_equiv.proofs.AgreeBelow.{one_more}
+use Rattle.polis_base.proofs.AgreeBelow.{one_more}
 use Rattle.machine_equiv.proofs.shape.same_states.Goals as goal
 
 pub same_state-requires-clause-first : goal.same_state-requires-clause-first

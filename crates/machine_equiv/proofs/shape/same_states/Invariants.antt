@@ -1,4 +1,5 @@
-use Rattle.machine_equiv.specs.inner.Agreeing.{AgreeBelow, IsSameState}
+use Rattle.polis_base.specs.Lists.{AgreeBelow}
+use Rattle.machine_equiv.specs.inner.Agreeing.{IsSameState}
 use Rattle.machine_equiv.proofs.shape.same_states.Given as goal
 
 abbrev pub invariant-loop-k : goal.invariant-loop-k

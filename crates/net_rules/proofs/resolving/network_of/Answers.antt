@@ -2,8 +2,7 @@ use Rattle.std.proofs.Common.{◌≡◌, ◌∙◌, ap, sym, subst, map, length,
 use Rattle.std.proofs.lemmas.List.{length-map}
 use Rattle.std.specs.List.{AllZip, list_all, enumerate_from}
 use Rattle.domains.specs.Names.{are_distinct}
-use Rattle.transition_table.specs.NetworkFacts.{has_vars}
-use Rattle.transition_table.specs.inner.NetworkFacts.{has_receivers, has_sender, lists_once, has_outputs, is_numbered, has_domain}
+use Rattle.transition_table.specs.NetworkFacts.{has_vars, has_receivers, has_sender, lists_once, has_outputs, is_numbered, has_domain}
 use Rattle.transition_table.specs.declared.decl.EventDecl.{EventDecl}
 use Rattle.net_reader.specs.declared.raw.RawDomain.{RawDomain}
 use Rattle.net_rules.specs.Networks.{event_of, IsDomainOf, IsMachineOf}

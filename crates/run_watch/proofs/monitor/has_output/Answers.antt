@@ -1,7 +1,7 @@
 use Rattle.std.proofs.Common.{refl, sym, ◌∙◌, arith}
 use Rattle.std.proofs.lemmas.Bool.{false≢true}
 use Rattle.std.proofs.lemmas.Option.{slice_get_within}
-use Rattle.machine_equiv.proofs.IsSameMachine.{event_domain}
+use Rattle.transition_table.proofs.EventWords.{event_domain}
 use Rattle.run_watch.specs.Monitors.{IsHeardAs}
 use Rattle.run_watch.proofs.Outputs.{each_more}
 use Rattle.run_watch.proofs.monitor.has_output.Goals as goal

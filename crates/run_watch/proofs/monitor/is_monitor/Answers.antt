@@ -2,7 +2,7 @@ use Rattle.std.proofs.Common.{◌≡◌, refl, sym, ◌∙◌, arith}
 use Rattle.std.proofs.lemmas.Bool.{false≢true}
 use Rattle.std.proofs.lemmas.Option.{slice_get_within}
 use Rattle.transition_table.specs.declared.decl.Party.TheVariants.{Env}
-use Rattle.machine_equiv.proofs.IsSameMachine.{event_domain}
+use Rattle.transition_table.proofs.EventWords.{event_domain}
 use Rattle.run_watch.specs.Monitors.{HasOutput}
 use Rattle.run_watch.proofs.Outputs.{each_more}
 use Rattle.run_watch.proofs.monitor.is_monitor.Goals as goal

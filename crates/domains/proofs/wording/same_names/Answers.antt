@@ -1,6 +1,6 @@
 use Rattle.std.proofs.Common.{refl, arith}
-use Rattle.machine_equiv.proofs.AgreeBelow.{same_lists}
-use Rattle.machine_equiv.proofs.words.same_names.Goals as goal
+use Rattle.polis_base.proofs.AgreeBelow.{same_lists}
+use Rattle.domains.proofs.wording.same_names.Goals as goal
 
 pub returns : goal.returns
 returns c = (

@@ -1,6 +1,6 @@
 use Rattle.std.proofs.Common.{arith}
-use Rattle.machine_equiv.proofs.WordsOf.{apart}
-use Rattle.machine_equiv.proofs.words.never_numbers.Goals as goal
+use Rattle.domains.proofs.WordsOf.{apart}
+use Rattle.domains.proofs.wording.never_numbers.Goals as goal
 
 pub get-requires : goal.get-requires
 get-requires c = let some = c.len-count.ensures.names.some in omega arith

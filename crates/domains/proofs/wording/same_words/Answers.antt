@@ -1,7 +1,7 @@
 use Rattle.std.proofs.Common.{◌∙◌, sym, ap}
-use Rattle.machine_equiv.specs.Shapes.{words_of}
-use Rattle.machine_equiv.proofs.WordsOf.{names_are}
-use Rattle.machine_equiv.proofs.words.same_words.Goals as goal
+use Rattle.domains.specs.Domains.{words_of}
+use Rattle.domains.proofs.WordsOf.{names_are}
+use Rattle.domains.proofs.wording.same_words.Goals as goal
 
 pub returns-in-Names-b : goal.returns-in-Names-b
 returns-in-Names-b c =

@@ -1,7 +1,7 @@
 use Rattle.std.proofs.Common.{arith}
 use Rattle.std.proofs.lemmas.Bool.{eqb-true, eq-eqb}
-use Rattle.machine_equiv.proofs.WordsOf.{same_ends, same_span_words}
-use Rattle.machine_equiv.proofs.words.same_ends.Goals as goal
+use Rattle.domains.proofs.WordsOf.{same_ends, same_span_words}
+use Rattle.domains.proofs.wording.same_ends.Goals as goal
 
 pub returns-then-a-b : goal.returns-then-a-b
 returns-then-a-b c = (

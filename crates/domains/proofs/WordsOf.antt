@@ -16,7 +16,7 @@ use Rattle.domains.specs.Domains.{size_of, word_of}
 use Rattle.domains.specs.declared.domain.Domain.{Domain}
 use Rattle.domains.specs.declared.domain.Domain.TheVariants.{Names, Range}
 use Rattle.domains.specs.declared.domain.Span.{Span}
-use Rattle.machine_equiv.specs.Shapes.{words_of}
+use Rattle.domains.specs.Domains.{words_of}
 use Rattle.polis_base.proofs.UptoPlaces.{length_upto}
 
 -- ---- names

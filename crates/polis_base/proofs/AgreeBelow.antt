@@ -3,7 +3,7 @@ use Rattle.std.proofs.Common.{◌≡◌, ⊎_elim, ℕ, suc, ◌+◌, List, [], 
 use Rattle.std.proofs.lemmas.Bool.{cases_lt}
 use Rattle.std.proofs.lemmas.List.{length-map}
 use Rattle.std.proofs.lemmas.Option.{slice_get-map}
-use Rattle.machine_equiv.specs.inner.Agreeing.{AgreeBelow}
+use Rattle.polis_base.specs.Lists.{AgreeBelow}
 
 -- what the function says of the item at a place
 pub at_place : {X Z : Type 0} (f g : X → Z) (xs ys : List X) (k : ℕ) → map f xs ≡ map g ys

@@ -10,6 +10,7 @@ pub mod NameFields
 pub mod Names
 pub mod Pieces
 pub mod Saves
+pub mod Sets
 pub mod Spans
 pub mod TokenSamples
 pub mod Tokens

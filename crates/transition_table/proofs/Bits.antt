@@ -1,28 +1,14 @@
 -- The codes of a set that conditions allow.
-use Rattle.std.proofs.Common.{◌≡◌, ◌≢◌, ◌⊎◌, ◌<◌, ◌≤◌, ◌+◌, ℕ, zero, suc, Bool, true, false, ◌&&◌, ◌==◌, List, ◌∷◌, length, get_or, slice_get, slice_index, slice_set, Some, drop, min, bit_and, arith, refl, sym, ◌∙◌, ap, inl, inr, add-one}
+use Rattle.std.proofs.Common.{◌≡◌, ◌≢◌, ◌⊎◌, ◌<◌, ◌≤◌, ◌+◌, ℕ, suc, Bool, true, false, ◌&&◌, ◌==◌, List, ◌∷◌, length, get_or, slice_get, slice_index, slice_set, Some, drop, arith, refl, sym, ◌∙◌, ap, inl, inr, add-one}
 use Rattle.std.proofs.Math.Seq.{drop-cons}
 use Rattle.std.specs.List.{list_all}
 use Rattle.std.specs.Int.{bit_at}
 use Rattle.std.proofs.lemmas.List.{get_or-set_same, get_or-set_other}
 use Rattle.std.proofs.lemmas.Bool.{ne_eqb}
 use Rattle.std.proofs.lemmas.Bool.Decides.{eqb_tells}
-use Rattle.std.proofs.lemmas.Nat.Bits.{bit_at_and, bit_at-lt, bit_at-zero}
 use Rattle.std.proofs.lemmas.Option.{get_or_from_slice_get}
 use Rattle.transition_table.specs.declared.row.Cond.{Cond}
 use Rattle.transition_table.specs.inner.Masks.{allows_code}
-
-least_of_bits : (x y : ℕ) → x < 2 → y < 2 → (min x y == 1) ≡ (x == 1 && y == 1)
-least_of_bits zero zero a b = refl
-least_of_bits zero (suc zero) a b = refl
-least_of_bits (suc zero) zero a b = refl
-least_of_bits (suc zero) (suc zero) a b = refl
-least_of_bits (suc (suc x)) y a b = absurd (omega arith)
-least_of_bits zero (suc (suc y)) a b = absurd (omega arith)
-least_of_bits (suc zero) (suc (suc y)) a b = absurd (omega arith)
-
-pub both_bits : (a b i : ℕ) → (bit_at (bit_and a b) i == 1) ≡ (bit_at a i == 1 && bit_at b i == 1)
-both_bits a b i = ap (λ n. n == 1) (bit_at_and a b i)
-    ∙ least_of_bits (bit_at a i) (bit_at b i) (bit_at-lt a i) (bit_at-lt b i)
 
 and_grouped : (a b c : Bool) → (a && (b && c)) ≡ ((a && b) && c)
 and_grouped true b c = refl
@@ -36,15 +22,16 @@ alike a b h =
     ]
 
 -- a condition on the variable takes codes away
-pub taken : (left var code : ℕ) (item : Cond) (rest : List Cond) → item.var == var ≡ true
+pub taken : (left next var code : ℕ) (item : Cond) (rest : List Cond) → item.var == var ≡ true
+    → (bit_at next code == 1) ≡ (bit_at left code == 1 && bit_at item.codes code == 1)
     → (bit_at left code == 1 && list_all (allows_code var code) (item ∷ rest))
-    ≡ (bit_at (bit_and left item.codes) code == 1 && list_all (allows_code var code) rest)
-taken left var code item rest here =
+    ≡ (bit_at next code == 1 && list_all (allows_code var code) rest)
+taken left next var code item rest here both =
     let own : allows_code var code item ≡ (bit_at item.codes code == 1) = rw here refl in
     ap (λ b. bit_at left code == 1 && (b && list_all (allows_code var code) rest)) own
     ∙ and_grouped (bit_at left code == 1) (bit_at item.codes code == 1)
     (list_all (allows_code var code) rest)
-    ∙ ap (λ b. b && list_all (allows_code var code) rest) (sym (both_bits left item.codes code))
+    ∙ ap (λ b. b && list_all (allows_code var code) rest) (sym both)
 
 -- and one on another doesn't
 pub passed : (left var code : ℕ) (item : Cond) (rest : List Cond) → item.var == var ≡ false
@@ -56,41 +43,43 @@ passed left var code item rest elsewhere =
 
 -- the next condition leaves what it allows, and what the others leave of that is what all leave
 pub next_leaves : (left var code i next : ℕ) (conds : List Cond) (d : Cond) → i < length conds
-    → (((get_or conds i d).var ≡ var) × (next ≡ bit_and left (get_or conds i d).codes))
+    → (((get_or conds i d).var ≡ var) × ((bit_at next code == 1)
+    ≡ (bit_at left code == 1 && bit_at (get_or conds i d).codes code == 1)))
     ⊎ (((get_or conds i d).var ≢ var) × (next ≡ left))
     → (bit_at next code == 1 && list_all (allows_code var code) (drop (i + 1) conds))
     ≡ (bit_at left code == 1 && list_all (allows_code var code) (drop i conds))
 next_leaves left var code i next conds d below (inl h) =
-    rw (drop-cons conds i d below, add-one, h.1)
-    (sym (taken left var code (get_or conds i d) (drop (suc i) conds)
-    (alike (get_or conds i d).var var h.0)))
+    rw (drop-cons conds i d below, add-one)
+    (sym (taken left next var code (get_or conds i d) (drop (suc i) conds)
+    (alike (get_or conds i d).var var h.0) h.1))
 next_leaves left var code i next conds d below (inr h) =
     rw (drop-cons conds i d below, add-one, h.1)
     (sym (passed left var code (get_or conds i d) (drop (suc i) conds)
     (ne_eqb (get_or conds i d).var var h.0)))
 
 -- the next condition takes codes away from the set of its variable
-pub set_leaves : (masks : List ℕ) (var code i left : ℕ) (conds : List Cond) (d : Cond)
+pub set_leaves : (masks : List ℕ) (var code i left next : ℕ) (conds : List Cond) (d : Cond)
     → i < length conds → slice_get masks (get_or conds i d).var ≡ Some left
     → (get_or conds i d).var < length masks
-    → (bit_at (slice_index
-    (slice_set masks (get_or conds i d).var (bit_and left (get_or conds i d).codes)) var) code
-    == 1 && list_all (allows_code var code) (drop (i + 1) conds))
+    → (bit_at next code == 1)
+    ≡ (bit_at left code == 1 && bit_at (get_or conds i d).codes code == 1)
+    → (bit_at (slice_index (slice_set masks (get_or conds i d).var next) var) code == 1
+    && list_all (allows_code var code) (drop (i + 1) conds))
     ≡ (bit_at (slice_index masks var) code == 1
     && list_all (allows_code var code) (drop i conds))
-set_leaves masks var code i left conds d below at within =
+set_leaves masks var code i left next conds d below at within both =
     let own = (get_or conds i d).var in
     let codes = (get_or conds i d).codes in
-    let next = bit_and left codes in
     elim (eqb_tells own var) [
       | inl here ↦
           next_leaves (slice_index masks var) var code i
           (slice_index (slice_set masks own next) var) conds d below (inl (
             here.1,
-            ap (slice_index (slice_set masks own next)) (sym here.1)
-                ∙ get_or-set_same masks own next 0 within
-                ∙ ap (λ n. bit_and n codes) (sym (get_or_from_slice_get masks own left 0 at)
-                ∙ ap (slice_index masks) here.1),
+            ap (λ k. bit_at (slice_index (slice_set masks own next) k) code == 1) (sym here.1)
+                ∙ ap (λ n. bit_at n code == 1) (get_or-set_same masks own next 0 within)
+                ∙ both
+                ∙ ap (λ n. bit_at n code == 1 && bit_at codes code == 1)
+                (sym (get_or_from_slice_get masks own left 0 at) ∙ ap (slice_index masks) here.1),
           ))
       | inr apart ↦ next_leaves (slice_index masks var) var code i
           (slice_index (slice_set masks own next) var) conds d below
@@ -109,14 +98,13 @@ passes masks var code i conds d below within past =
     (inr (λ e. omega (arith, e), refl))
 
 -- the bits of two items together
-pub bits_at : (xs ys : List ℕ) (k x y code : ℕ) → slice_get xs k ≡ Some x → slice_get ys k ≡ Some y
-    → (bit_at (bit_and x y) code == 1)
+pub bits_at : (xs ys : List ℕ) (k x y set code : ℕ) → slice_get xs k ≡ Some x
+    → slice_get ys k ≡ Some y
+    → (bit_at set code == 1) ≡ (bit_at x code == 1 && bit_at y code == 1)
+    → (bit_at set code == 1)
     ≡ (bit_at (slice_index xs k) code == 1 && bit_at (slice_index ys k) code == 1)
-bits_at xs ys k x y code at_x at_y =
-    both_bits x y code
+bits_at xs ys k x y set code at_x at_y both =
+    both
     ∙ ap (λ n. bit_at n code == 1 && bit_at y code == 1) (sym (get_or_from_slice_get xs k x 0 at_x))
     ∙ ap (λ n. bit_at (slice_index xs k) code == 1 && bit_at n code == 1)
     (sym (get_or_from_slice_get ys k y 0 at_y))
-
-pub no_bits : (n code : ℕ) → n ≡ 0 → (bit_at n code == 1) ≡ false
-no_bits n code none = ap (λ i. bit_at i code == 1) none ∙ ap (λ i. i == 1) (bit_at-zero code)

@@ -6,7 +6,7 @@ use Rattle.transition_table.specs.declared.machine.Machine.{Machine}
 use Rattle.transition_table.specs.declared.network.Network.{Network}
 use Rattle.net_reader.specs.declared.raw.RawDomain.{RawDomain}
 use Rattle.net_reader.specs.declared.raw.RawNet.{RawNet}
-use Rattle.graph_drawing.specs.Words.{numbered}
+use Rattle.polis_base.specs.Lists.{numbered}
 use Rattle.table_use.specs.DomainUse.{unused_domains, unused_domain_line}
 use Rattle.table_use.specs.Lint.{lint_of}
 use Rattle.table_use.specs.LintLines.{lint_text}

@@ -1,6 +1,6 @@
 // The command `lint`: what the tables of a network leave open.
 ghost use Rattle.std.specs.Prelude.{◌≡◌, ◌++◌, flat_map, IfOk, OnOk};
-ghost use Rattle.graph_drawing.specs.Words.{numbered};
+ghost use Rattle.polis_base.specs.Lists.{numbered};
 ghost use Rattle.transition_table.specs.NetworkFacts.{has};
 ghost use Rattle.commands.specs.Lint.{domain_text, lint_meaning, table_text, tables_text};
 ghost use Rattle.input_files.specs.Loads.{LeftByLoads, fails_unread};

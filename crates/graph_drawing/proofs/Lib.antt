@@ -1,4 +1,4 @@
-pub mod Numbered
+pub mod GraphsText
 pub mod NetworkText
 pub mod WordsFrom
 pub mod IsNext

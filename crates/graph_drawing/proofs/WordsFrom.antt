@@ -1,7 +1,7 @@
 -- One more code of an edge.
 use Rattle.std.proofs.Common.{◌≡◌, ℕ, suc, ◌+◌, Bool, true, false, cond, List, ◌∷◌, ◌++◌, map, drop, slice_get, Some, ap, sym, ◌∙◌, arith, append_assoc}
-use Rattle.polis_base.specs.Lists.{places_from}
-use Rattle.graph_drawing.specs.Words.{numbered, after_gap}
+use Rattle.polis_base.specs.Lists.{places_from, numbered}
+use Rattle.graph_drawing.specs.Words.{after_gap}
 use Rattle.polis_base.proofs.Places.{drop_one}
 
 -- the words from the one of number n on

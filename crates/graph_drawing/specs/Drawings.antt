@@ -2,7 +2,7 @@
 use Rattle.std.specs.Prelude.{ℕ, Bool, true, false, cond, ◌==◌, List, [], ◌∷◌, ◌++◌, map, filter, flat_map, length, Option, Some, None, slice_get, option_map, unwrap_or, codes, decimal}
 use Rattle.std.specs.List.{list_any}
 use Rattle.polis_base.specs.Lines.{line}
-use Rattle.polis_base.specs.Lists.{upto, places_where}
+use Rattle.polis_base.specs.Lists.{upto, places_where, numbered}
 use Rattle.transition_table.specs.NetworkFacts.{has}
 use Rattle.transition_table.specs.declared.decl.Party.{Party}
 use Rattle.transition_table.specs.declared.decl.Party.TheVariants.{Env, Machine as Sender}
@@ -11,7 +11,7 @@ use Rattle.transition_table.specs.declared.machine.Machine.{Machine}
 use Rattle.transition_table.specs.declared.network.Network.{Network}
 use Rattle.sgraph.specs.declared.vertex.Vertex.{Vertex}
 use Rattle.sgraph.specs.declared.vertex.Vertex.TheVariants.{Begin, Test, Assign, End}
-use Rattle.graph_drawing.specs.Words.{numbered, words_text, domain_text, var_name, code_word, assign_label}
+use Rattle.graph_drawing.specs.Words.{words_text, domain_text, var_name, code_word, assign_label}
 
 abbrev pub begin_line : List ℕ → List ℕ
 begin_line name = line (codes "digraph \"" ++ name ++ codes "\" {")

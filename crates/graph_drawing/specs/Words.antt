@@ -1,5 +1,6 @@
 -- The words of a drawing: what events, variables, codes and assignments are called.
 use Rattle.std.specs.Prelude.{ℕ, zero, suc, ◌-◌, ◌%◌, cond, ◌==◌, nat_lt, List, [], ◌∷◌, ◌++◌, length, slice_get, Option, Some, None, option_map, unwrap_or, codes, decimal}
+use Rattle.polis_base.specs.Lists.{numbered}
 use Rattle.domains.specs.Domains.{size_of, word_of}
 use Rattle.domains.specs.declared.domain.Domain.{Domain}
 use Rattle.domains.specs.declared.domain.Domain.TheVariants.{Names, Range}
@@ -9,11 +10,6 @@ use Rattle.transition_table.specs.declared.machine.Machine.{Machine}
 use Rattle.transition_table.specs.declared.network.Network.{Network}
 
 -- ---- words in a row
--- what each item gives, with its number from k on
-abbrev pub numbered : {X : Type 0} → (ℕ → X → List ℕ) → ℕ → List X → List ℕ
-numbered text k [] = []
-numbered text k (x ∷ xs) = text k x ++ numbered text (suc k) xs
-
 -- What stands before the word of this number: nothing before the first one; a comma and a space
 -- before the others, but after each sixth word a comma and `\n`, by which a label goes on in a new
 -- line.

@@ -1,8 +1,8 @@
 // The drawing of a graph.
 ghost use Rattle.std.specs.Prelude.{◌≡◌, ◌<◌, ◌≤◌, ◌+◌, ◌^◌, ◌++◌, codes, decimal, filter, flat_map, length, map, List, ℕ, IfOk, OnOk};
-ghost use Rattle.polis_base.specs.Lists.{upto};
+ghost use Rattle.polis_base.specs.Lists.{upto, numbered};
 ghost use Rattle.transition_table.specs.NetworkFacts.{has};
-ghost use Rattle.graph_drawing.specs.Words.{after_gap, code_word, numbered, words_text};
+ghost use Rattle.graph_drawing.specs.Words.{after_gap, code_word, words_text};
 ghost use Rattle.graph_drawing.specs.Drawings.{codes_to, graph_text, plain_edge, test_edge, vertex_edges, vertex_label, vertex_line, vertex_shape};
 ghost use Rattle.graph_drawing.specs.inner.Children.{IsNearer, IsNext};
 ghost use Rattle.graph_drawing.specs.inner.WordsFrom.{words_from};

@@ -1,7 +1,7 @@
 // The drawing of a network.
 ghost use Rattle.std.specs.Prelude.{◌≡◌, ◌++◌, codes, decimal, flat_map, OnOk};
 ghost use Rattle.std.specs.List.{list_any};
-ghost use Rattle.graph_drawing.specs.Words.{numbered};
+ghost use Rattle.polis_base.specs.Lists.{numbered};
 ghost use Rattle.graph_drawing.specs.Drawings.{begin_line, domain_suffix, env_line, event_edge, event_edges, event_label, is_env, machine_edge, machine_line, network_text, out_line, sender_node};
 
 use crate::word::push_domain;

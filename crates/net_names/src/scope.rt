@@ -106,6 +106,9 @@ impl<'a> Scope<'a> {
         ensures { result
             ≡ option_map (λ (w : RawWord). number (domain_words self.now.raw.now) w.name) domain }
     {
-        domain.map(|word| self.number_of(word.name))
+        match domain {
+            Some(word) => Some(self.number_of(word.name)),
+            None => None,
+        }
     }
 }

@@ -1,9 +1,9 @@
 -- What is left of the words of an edge.
 use Rattle.std.specs.Prelude.{ℕ, ◌==◌, List, map, drop}
-use Rattle.polis_base.specs.Lists.{places_from}
+use Rattle.polis_base.specs.Lists.{places_from, numbered}
 use Rattle.transition_table.specs.declared.machine.Machine.{Machine}
 use Rattle.transition_table.specs.declared.network.Network.{Network}
-use Rattle.graph_drawing.specs.Words.{numbered, after_gap, code_word}
+use Rattle.graph_drawing.specs.Words.{after_gap, code_word}
 
 -- the words from the one of number k on, of the codes from one on that lead to a child
 abbrev pub words_from : Network → Machine → ℕ → List ℕ → ℕ → ℕ → ℕ → List ℕ

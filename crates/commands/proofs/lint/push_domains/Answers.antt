@@ -1,6 +1,6 @@
 use Rattle.std.proofs.Common.{◌++◌}
-use Rattle.graph_drawing.specs.Words.{numbered}
-use Rattle.graph_drawing.proofs.Numbered.{more_numbered}
+use Rattle.polis_base.specs.Lists.{numbered}
+use Rattle.polis_base.proofs.Numbered.{more_numbered}
 use Rattle.commands.specs.Lint.{domain_text}
 use Rattle.commands.proofs.lint.push_domains.Goals as goal
 

@@ -1,5 +1,5 @@
 use Rattle.std.proofs.Common.{◌≡◌, ◌++◌, drop}
-use Rattle.graph_drawing.specs.Words.{numbered}
+use Rattle.polis_base.specs.Lists.{numbered}
 use Rattle.commands.specs.Lint.{domain_text}
 use Rattle.commands.proofs.lint.push_domains.Given as goal
 

@@ -1,6 +1,6 @@
 use Rattle.std.proofs.Common.{◌++◌}
 use Rattle.graph_drawing.specs.Drawings.{graphs_text}
-use Rattle.graph_drawing.proofs.Numbered.{more_graphs}
+use Rattle.graph_drawing.proofs.GraphsText.{more_graphs}
 use Rattle.graph_drawing.proofs.drawing.push_graphs.Goals as goal
 
 pub loop-m-preserved : goal.loop-m-preserved

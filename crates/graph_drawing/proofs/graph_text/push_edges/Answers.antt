@@ -1,7 +1,7 @@
 use Rattle.std.proofs.Common.{◌++◌, ℕ, ap, ◌∙◌, length}
-use Rattle.graph_drawing.specs.Words.{numbered}
+use Rattle.polis_base.specs.Lists.{numbered}
 use Rattle.graph_drawing.specs.Drawings.{vertex_edges}
-use Rattle.graph_drawing.proofs.Numbered.{more_numbered}
+use Rattle.polis_base.proofs.Numbered.{more_numbered}
 use Rattle.graph_drawing.proofs.graph_text.push_edges.Goals as goal
 
 pub loop-k-preserved : goal.loop-k-preserved

@@ -1,5 +1,5 @@
 use Rattle.std.proofs.Common.{◌≡◌, ◌++◌, drop, length}
-use Rattle.graph_drawing.specs.Words.{numbered}
+use Rattle.polis_base.specs.Lists.{numbered}
 use Rattle.graph_drawing.specs.Drawings.{vertex_edges}
 use Rattle.graph_drawing.proofs.graph_text.push_edges.Given as goal
 

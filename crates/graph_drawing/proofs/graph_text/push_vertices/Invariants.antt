@@ -1,5 +1,5 @@
 use Rattle.std.proofs.Common.{◌≡◌, ◌++◌, drop}
-use Rattle.graph_drawing.specs.Words.{numbered}
+use Rattle.polis_base.specs.Lists.{numbered}
 use Rattle.graph_drawing.specs.Drawings.{vertex_line}
 use Rattle.graph_drawing.proofs.graph_text.push_vertices.Given as goal
 

@@ -1,7 +1,7 @@
 use Rattle.std.proofs.Common.{◌++◌}
-use Rattle.graph_drawing.specs.Words.{numbered}
+use Rattle.polis_base.specs.Lists.{numbered}
 use Rattle.graph_drawing.specs.Drawings.{machine_line}
-use Rattle.graph_drawing.proofs.Numbered.{more_numbered}
+use Rattle.polis_base.proofs.Numbered.{more_numbered}
 use Rattle.graph_drawing.proofs.network_text.push_machines.Goals as goal
 
 pub loop-k-preserved : goal.loop-k-preserved

@@ -1,5 +1,5 @@
 use Rattle.std.proofs.Common.{◌≡◌, ◌++◌, drop}
-use Rattle.graph_drawing.specs.Words.{numbered}
+use Rattle.polis_base.specs.Lists.{numbered}
 use Rattle.graph_drawing.specs.Drawings.{machine_line}
 use Rattle.graph_drawing.proofs.network_text.push_machines.Given as goal
 

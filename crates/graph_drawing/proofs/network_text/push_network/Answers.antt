@@ -1,6 +1,6 @@
 use Rattle.std.proofs.Common.{codes, flat_map}
 use Rattle.polis_base.specs.Lines.{line}
-use Rattle.graph_drawing.specs.Words.{numbered}
+use Rattle.polis_base.specs.Lists.{numbered}
 use Rattle.graph_drawing.specs.Drawings.{begin_line, env_line, out_line, machine_line, event_edges, end_line}
 use Rattle.graph_drawing.proofs.NetworkText.{seven_parts}
 use Rattle.graph_drawing.proofs.network_text.push_network.Goals as goal

@@ -1,6 +1,6 @@
 use Rattle.std.proofs.Common.{ℕ, List, ◌++◌, ap, ◌∙◌}
 use Rattle.graph_drawing.specs.Words.{after_gap, words_text}
-use Rattle.graph_drawing.proofs.Numbered.{more_numbered}
+use Rattle.polis_base.proofs.Numbered.{more_numbered}
 use Rattle.graph_drawing.proofs.word.push_names.Goals as goal
 
 pub loop-k-preserved : goal.loop-k-preserved

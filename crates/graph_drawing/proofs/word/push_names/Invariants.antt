@@ -1,5 +1,6 @@
 use Rattle.std.proofs.Common.{◌≡◌, ◌++◌, drop}
-use Rattle.graph_drawing.specs.Words.{numbered, after_gap, words_text}
+use Rattle.polis_base.specs.Lists.{numbered}
+use Rattle.graph_drawing.specs.Words.{after_gap, words_text}
 use Rattle.graph_drawing.proofs.word.push_names.Given as goal
 
 -- what is written, with what is left, is the whole

@@ -6,7 +6,7 @@ use Rattle.std.proofs.lemmas.List.{append-nil}
 use Rattle.std.proofs.lemmas.List.Elements.{filter-append}
 use Rattle.std.proofs.lemmas.List.Folds.{find-append}
 use Rattle.std.proofs.lemmas.Bool.{eq-eqb, ne_eqb, cases_eq, both_ways}
-use Rattle.polis_base.specs.Lists.{upto, head_of}
+use Rattle.polis_base.specs.Lists.{upto}
 use Rattle.polis_base.proofs.Lists.{one_more, same_below}
 use Rattle.journals.specs.Schedules.{without_first}
 
@@ -24,31 +24,6 @@ none_past p a (suc n) within h =
           ∙ append-nil (filter p (upto n))
           ∙ none_past p a n (omega arith) h
     ]
-
-head_more : {X : Type 0} (xs ys : List X) (x : X) → head_of xs ≡ Some x
-    → head_of (xs ++ ys) ≡ Some x
-head_more [] ys x h = cc
-head_more (y ∷ xs) ys x h = h
-
--- the least that passes comes first
-pub least_first : (p : ℕ → Bool) (j n : ℕ) → j < n → p j ≡ true → ((k : ℕ) → k < j → p k ≡ false)
-    → head_of (filter p (upto n)) ≡ Some j
-least_first p j zero within here before = absurd (omega arith)
-least_first p j (suc n) within here before =
-    ap head_of (one_more p n)
-    ∙ (elim (cases_eq n j) [
-      | inl same ↦
-          let own : p n ≡ true = ap p same ∙ here in
-          let none : filter p (upto n) ≡ [] =
-          same_below p (λ k. false) n (λ k below. before k (omega arith))
-          ∙ none_past (λ k. false) 0 n (omega arith) (λ k past. refl) in
-          ap (λ b. head_of (filter p (upto n) ++ cond b (n ∷ []) [])) own
-          ∙ ap (λ l. head_of (l ++ n ∷ [])) none ∙ ap Some same
-      | inr other ↦
-          let apart : n ≢ j = other in
-          head_more (filter p (upto n)) (cond (p n) (n ∷ []) []) j
-          (least_first p j n (omega arith) here before)
-    ])
 
 -- ---- one of them
 

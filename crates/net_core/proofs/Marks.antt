@@ -23,6 +23,7 @@ use Rattle.net_core.proofs.Bitsets.{find_none, none_is, one_is}
 use Rattle.net_core.proofs.ReceiversOf.{receivers_are}
 use Rattle.journals.proofs.CursorsAfter.{machine_within}
 use Rattle.polis_base.proofs.Places.{some_at}
+use Rattle.polis_base.specs.Sets.{members}
 
 -- two tests that the same numbers pass agree
 same_test : (p q : ℕ → Bool) (m a b : ℕ) → m < a → m < b → filter p (upto a) ≡ filter q (upto b)
@@ -56,6 +57,7 @@ receivers_by net e within =
 marked_is : (net : Network) (sets : List ℕ) (m : ℕ) (item : TraceItem) → AreReaders net sets
     → m < length net.machines → is_trace_item net item ≡ true
     → is_marked sets m item ≡ is_read net m item
+unfolding members
 marked_is net sets m Settle readers below fits = refl
 marked_is net sets m (Event e code) readers below fits =
     let all = and_parts (is_event_code net e code)

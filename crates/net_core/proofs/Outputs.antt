@@ -6,7 +6,7 @@ use Rattle.transition_table.specs.declared.network.Network.{Network}
 use Rattle.journals.specs.Journals.{emitted}
 use Rattle.journals.specs.Schedules.{receivers_of, deliveries_of}
 use Rattle.net_core.specs.Emissions.{owed_to, no_place}
-use Rattle.net_core.specs.Readers.{members}
+use Rattle.polis_base.specs.Sets.{members}
 use Rattle.journals.proofs.Emitted.{drop_at_item}
 use Rattle.net_core.specs.inner.Emissions.{given_to}
 

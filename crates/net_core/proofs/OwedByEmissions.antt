@@ -14,7 +14,7 @@ use Rattle.transition_table.specs.declared.decl.Party.TheVariants.{Machine as Se
 use Rattle.journals.specs.Schedules.{is_way, without_first}
 use Rattle.net_core.specs.declared.config.emissions.Emission.{Emission}
 use Rattle.net_core.specs.Emissions.{waits, no_emission, nth, owed_to, waiting, all_waiting}
-use Rattle.net_core.specs.Readers.{members}
+use Rattle.polis_base.specs.Sets.{members}
 use Rattle.net_core.proofs.Bitsets.{none_is, one_is, without_one, none_past, find_none}
 use Rattle.journals.proofs.DeliveriesOfWay.{filter_nothing, filter_of_map}
 use Rattle.journals.proofs.OwedAfter.{drop_of_nothing}
@@ -86,6 +86,7 @@ struck_waits s m = let none = bit_at-zero m in rw none (and_false (0 == s))
     and_false false = refl
 
 pub none_waiting : (r : Emission) → r.left ≡ 0 → waiting r ≡ []
+unfolding members
 none_waiting r none =
     ap (λ left. map (owed_to r) (members left)) none
     ∙ ap (map (owed_to r))
@@ -94,6 +95,7 @@ none_waiting r none =
 
 pub way_absent : (s m : ℕ) (r : Emission) → waits s m r ≡ false
     → filter (is_way (Sender s) m) (waiting r) ≡ []
+unfolding members
 way_absent s m r h =
     filter_of_map (is_way (Sender s) m) (owed_to r) (members r.left)
     ∙ ap (map (owed_to r)) (cases (r.from == s) refl)
@@ -105,6 +107,7 @@ way_absent s m r h =
 
 pub way_present : (s m : ℕ) (r : Emission) → m < 64 → waits s m r ≡ true
     → find (is_way (Sender s) m) (waiting r) ≡ Some (owed_to r m)
+unfolding members
 way_present s m r within h =
     let parts = and_parts (r.from == s) (bit_at r.left m == 1) h in
     find_of_map (is_way (Sender s) m) (owed_to r) (members r.left)
@@ -116,6 +119,7 @@ pub way_taken : (s m rest : ℕ) (r new : Emission) → m < 64 → waits s m r �
     → new ≡ record r { left = rest } → bit_at rest m ≡ 0
     → ((k : ℕ) → k < 64 → k ≢ m → bit_at rest k ≡ bit_at r.left k)
     → waiting new ≡ without_first (is_way (Sender s) m) (waiting r)
+unfolding members
 way_taken s m rest r new within h is gone same =
     let parts = and_parts (r.from == s) (bit_at r.left m == 1) h in
     ap waiting is

@@ -15,7 +15,7 @@ use Rattle.transition_table.specs.declared.machine.Machine.{Machine}
 use Rattle.transition_table.specs.declared.network.Network.{Network}
 use Rattle.journals.specs.Journals.{reads}
 use Rattle.journals.specs.Schedules.{receivers_of}
-use Rattle.net_core.specs.Readers.{members}
+use Rattle.polis_base.specs.Sets.{members}
 use Rattle.net_core.proofs.Bitsets.{none_past}
 use Rattle.journals.proofs.DeliveriesOfWay.{passes_of_each}
 use Rattle.polis_base.proofs.Places.{some_at}
@@ -108,6 +108,7 @@ marked net e m old new machine is at says here others were k =
 pub receivers_in : (net : Network) (e set : ℕ) → e < length net.events
     → ((k : ℕ) → (bit_at set k == 1) ≡ (nat_lt k (length net.machines) && reads net k e))
     → members set ≡ receivers_of net e
+unfolding members
 receivers_in net e set within bits =
     let found = some_at net.events e within in
     let event : EventDecl = found.0 in

@@ -6,7 +6,7 @@ use Rattle.journals.specs.declared.entry.Entry.{Entry}
 use Rattle.journals.specs.declared.entry.Entry.TheVariants.{Dep, Rea}
 use Rattle.journals.specs.declared.entry.Owed.{Owed}
 use Rattle.net_core.specs.declared.config.emissions.Emission.{Emission}
-use Rattle.net_core.specs.Readers.{members}
+use Rattle.polis_base.specs.Sets.{members}
 
 -- m waits for what s has sent
 abbrev pub waits : ℕ → ℕ → Emission → Bool

@@ -12,7 +12,7 @@ mod prefix;
 mod stamps;
 
 pub use answer::{Admit, NextEnv, Why};
-pub use config::{Config, bits};
+pub use config::Config;
 pub use journals::{
     Entry, Journal, Owed, Pick, Stamps, Trace, TraceItem, laws, moving_laws, sending_laws,
     stamp_laws, worked_rows,

@@ -8,9 +8,8 @@ ghost use Rattle.journals.specs.Cursors.{is_read, nth_place};
 ghost use Rattle.net_core.specs.Marks.{is_marked};
 ghost use Rattle.net_core.specs.Readers.{AreReaders};
 
-use crate::config::bits::is_set;
 use journals::{Trace, TraceItem};
-use polis_base::{List, NoMemory};
+use polis_base::{List, NoMemory, SmallSet};
 use std::alloc::Global;
 use std::marker::Model;
 use transition_table::Network;
@@ -36,7 +35,7 @@ impl Model for Cursors {
 }
 
 // The item is an event that the machine reads.
-fn reads_item(readers: &[u64], m: u32, item: TraceItem) -> bool
+fn reads_item(readers: &[SmallSet], m: u32, item: TraceItem) -> bool
     requires { m < 64 }
     ensures { result ≡ is_marked readers.now m item }
 {
@@ -45,14 +44,14 @@ fn reads_item(readers: &[u64], m: u32, item: TraceItem) -> bool
             if event as usize >= readers.len() {
                 return false;
             }
-            is_set(readers[event as usize], m)
+            readers[event as usize].has(m)
         }
         TraceItem::Settle => false,
     }
 }
 
 // The place of the first item from here on that the machine reads, or the trace's length.
-pub(crate) fn next_read(readers: &[u64], trace: &Trace, m: u32, from: u64) -> u64
+pub(crate) fn next_read(readers: &[SmallSet], trace: &Trace, m: u32, from: u64) -> u64
     requires machine { m < 64 }
     requires from { from ≤ length trace.now }
     ensures { result ≡ from + prefix_len (λ item. not (is_marked readers.now m item))
@@ -70,7 +69,7 @@ pub(crate) fn next_read(readers: &[u64], trace: &Trace, m: u32, from: u64) -> u6
 pub(crate) fn first_cursors(
     alloc: Global,
     net: &Network,
-    readers: &[u64],
+    readers: &[SmallSet],
     trace: &Trace,
 ) -> Result<Cursors, NoMemory>
     requires readers { AreReaders net.now readers.now }

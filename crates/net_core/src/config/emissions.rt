@@ -9,22 +9,21 @@ ghost use Rattle.net_core.specs.Emissions.{nth, waits, owed_to, waiting, no_plac
 ghost use Rattle.net_core.specs.Readers.{AreReaders};
 ghost use Rattle.net_core.specs.inner.Emissions.{given_to};
 
-use crate::config::bits::is_set;
 use domains::Codes;
 use journals::Owed;
+use polis_base::SmallSet;
 use transition_table::{Network, Party};
 
 /// The place of an emission that isn't there.
 pub(crate) const NO_PLACE: u32 = u32::MAX;
 
-/// An event with its code that a machine has sent, and the receivers that wait for it: the m-th bit
-/// is set where the m-th machine does.
+/// An event with its code that a machine has sent, and the receivers that wait for it.
 #[derive(Clone, Copy)]
 pub(crate) struct Emission {
     pub(crate) from: u32,
     pub(crate) event: u32,
     pub(crate) code: u8,
-    pub(crate) left: u64,
+    pub(crate) left: SmallSet,
     /// The place of the sender's next emission, or `NO_PLACE`.
     pub(crate) next: u32,
 }
@@ -53,7 +52,7 @@ pub(crate) fn place_from(records: &[Emission], start: usize, from: u32, to: u32)
     let mut place = start;
     while place < records.len() {
         let r = records[place];
-        if is_set(r.left, to) {
+        if r.left.has(to) {
             return Some(place);
         }
         place = r.next as usize;
@@ -92,7 +91,7 @@ fn emit(
     from: u32,
     event: u32,
     code: u8,
-    left: u64,
+    left: SmallSet,
 )
     requires chain { IsChain records.old.items last.old.items }
     requires from { from < 64 }
@@ -103,7 +102,7 @@ fn emit(
     ensures len { vec_len records.new ≤ vec_len records.old + 1 }
     ensures room { vec_capacity records.old ≤ vec_capacity records.new }
 {
-    if code == 0 || left == 0 {
+    if code == 0 || left.is_empty() {
         return;
     }
     let next = NO_PLACE;
@@ -125,7 +124,7 @@ pub(crate) fn emit_all(
     records: &mut Vec<Emission>,
     last: &mut Vec<usize>,
     net: &Network,
-    readers: &[u64],
+    readers: &[SmallSet],
     m: u32,
     outs: &Codes,
 )

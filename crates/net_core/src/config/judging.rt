@@ -12,7 +12,6 @@ ghost use Rattle.net_core.specs.Tables.{AreTables};
 ghost use Rattle.net_core.specs.inner.Outcomes.{SaysOutcome};
 
 use crate::answer::{NextEnv, Why};
-use crate::config::bits::is_set;
 use crate::config::cursors::is_settled;
 use crate::config::tables::Tables;
 use domains::Codes;
@@ -106,7 +105,7 @@ impl Tables {
         sending_laws();
         let owes = self.owed.first().is_some();
         let env = self.next_env(net, trace).is_some();
-        none_of(owes, env, self.woken != 0)
+        none_of(owes, env, !self.woken.is_empty())
     }
 
     // Whether a delivery is the next of what its sender has sent to its receiver.
@@ -198,7 +197,7 @@ impl Tables {
                 snapshot,
                 ..
             } => {
-                if !is_set(self.woken, *machine) {
+                if !self.woken.has(*machine) {
                     return Some(Why::NotWoken);
                 }
                 if !same_codes(&snapshot.codes, &self.moments[*machine as usize].codes) {

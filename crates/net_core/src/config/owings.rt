@@ -8,10 +8,9 @@ ghost use Rattle.journals.specs.Schedules.{is_way, without_first, firing_deliver
 ghost use Rattle.net_core.specs.Emissions.{no_place, nth, most_given, IsChain, IsMore};
 ghost use Rattle.net_core.specs.Readers.{AreReaders};
 
-use crate::config::bits::{lowest, without};
 use crate::config::emissions::{Emission, NO_PLACE, delivery, emit_all, place_from};
 use journals::{Entry, Journal, Owed};
-use polis_base::NoMemory;
+use polis_base::{NoMemory, SmallSet};
 use std::alloc::Global;
 use std::marker::Model;
 use transition_table::Network;
@@ -59,7 +58,7 @@ fn first_left(records: &[Emission], start: usize) -> usize
     ensures left { result < length records.now → 0 < (nth records.now result).left }
 {
     for i in start..records.len() {
-        if records[i].left != 0 {
+        if !records[i].left.is_empty() {
             return i;
         }
     }
@@ -101,7 +100,7 @@ fn emit_given(
     records: &mut Vec<Emission>,
     last: &mut Vec<usize>,
     net: &Network,
-    readers: &[u64],
+    readers: &[SmallSet],
     entry: &Entry,
 )
     requires chain { IsChain records.old.items last.old.items }
@@ -137,7 +136,7 @@ impl Owings {
                 from,
                 event: 0,
                 code: 0,
-                left: 0,
+                left: SmallSet::empty(),
                 next: NO_PLACE,
             })?;
             last.push(from as usize)?;
@@ -159,7 +158,7 @@ impl Owings {
     {
         if self.front < self.records.len() {
             let r = self.records[self.front];
-            Some(delivery(&r, lowest(r.left)))
+            Some(delivery(&r, r.left.least()))
         } else {
             None
         }
@@ -187,7 +186,7 @@ impl Owings {
         let key = pair(from, to);
         if let Some(place) = place_from(&self.records, self.cursors[key], from, to) {
             let mut r = self.records[place];
-            r.left = without(r.left, to);
+            r.left = r.left.without(to);
             self.records[place] = r;
             self.cursors[key] = place;
             self.front = first_left(&self.records, self.front);
@@ -199,7 +198,7 @@ impl Owings {
     pub(crate) fn write(
         &mut self,
         net: &Network,
-        readers: &[u64],
+        readers: &[SmallSet],
         entry: Entry,
         journal: &mut Journal,
     ) -> Result<(), NoMemory>
@@ -227,7 +226,7 @@ impl Owings {
     pub(crate) fn add(
         &mut self,
         net: &Network,
-        readers: &[u64],
+        readers: &[SmallSet],
         entry: &Entry,
     ) -> Result<(), NoMemory>
         requires fits { FitsNetwork net.now entry.now }

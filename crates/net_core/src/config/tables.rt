@@ -8,22 +8,21 @@ ghost use Rattle.net_core.specs.inner.Marks.{lands_below, marked_after, next_mar
 ghost use Rattle.net_core.specs.Tables.{AreTables};
 ghost use Rattle.net_core.specs.inner.Tables.{AreBefore};
 
-use crate::config::bits::mark;
 use crate::config::cursors::{Cursors, first_cursors, next_read};
 use crate::config::owings::Owings;
 use crate::config::readers::all_readers;
 use journals::{Entry, Journal, Trace, first_moments, laws, move_on, moving_laws};
-use polis_base::NoMemory;
+use polis_base::{NoMemory, SmallSet};
 use std::alloc::Global;
 use transition_table::{Network, Party, Snapshot};
 
-/// The readers of each event, the snapshot of each machine, which of them are woken, one bit each,
+/// The readers of each event, the snapshot of each machine, which of them are woken,
 /// its cursor into the trace, and the deliveries of machines that are owed.
 #[derive(Drop)]
 pub(crate) struct Tables {
-    pub(crate) readers: Vec<u64>,
+    pub(crate) readers: Vec<SmallSet>,
     pub(crate) moments: Vec<Snapshot>,
-    pub(crate) woken: u64,
+    pub(crate) woken: SmallSet,
     pub(crate) cursors: Cursors,
     pub(crate) owed: Owings,
 }
@@ -40,14 +39,14 @@ pub(crate) fn first_tables(alloc: Global, net: &Network, trace: &Trace) -> Resul
     Ok(Tables {
         readers,
         moments: first_moments(alloc, net)?.into_vec(),
-        woken: 0,
+        woken: SmallSet::empty(),
         cursors,
         owed: Owings::new(alloc)?,
     })
 }
 
 // Moves the cursor of a machine on to the next item that it reads. At the end it stays.
-fn pass_item(readers: &[u64], trace: &Trace, m: u32, cursors: &mut Cursors)
+fn pass_item(readers: &[SmallSet], trace: &Trace, m: u32, cursors: &mut Cursors)
     requires machine { m < length cursors.old }
     requires few { length cursors.old ≤ 64 }
     ensures { cursors.new ≡ slice_set cursors.old m
@@ -61,7 +60,13 @@ fn pass_item(readers: &[u64], trace: &Trace, m: u32, cursors: &mut Cursors)
 
 // What is delivered isn't owed any more: of the environment the receiver's cursor moves on, of a
 // machine the delivery is taken away.
-fn land(readers: &[u64], trace: &Trace, entry: &Entry, cursors: &mut Cursors, owed: &mut Owings)
+fn land(
+    readers: &[SmallSet],
+    trace: &Trace,
+    entry: &Entry,
+    cursors: &mut Cursors,
+    owed: &mut Owings,
+)
     requires below { IsTrue (lands_below (length cursors.old) entry.now) }
     requires few { length cursors.old ≤ 64 }
     ensures cursors { cursors.new ≡ marked_after readers.now trace.now entry.now cursors.old }
@@ -146,7 +151,7 @@ impl Tables {
             entry,
             &mut self.moments[m as usize],
         );
-        self.woken = mark(self.woken, m, entry.is_delivery());
+        self.woken = self.woken.marked(m, entry.is_delivery());
         land(
             &self.readers,
             trace,

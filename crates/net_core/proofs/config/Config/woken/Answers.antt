@@ -2,8 +2,8 @@ use Rattle.std.proofs.Common.{◌<◌, ◌≤◌, length, sym, subst, ◌∙◌,
 use Rattle.net_core.specs.Moments.{Moment}
 use Rattle.net_core.proofs.config.Config.woken.Goals as goal
 
-pub is_set-requires : goal.is_set-requires
-is_set-requires c =
+pub has-requires : goal.has-requires
+has-requires c =
     let below = subst (λ (m : Moment). c.args.m < length m.net.machines) (sym c.self.view_is)
     c.requires in
     let sixty_four : length c.self.inside.net.now.machines ≤ 64 =
@@ -14,4 +14,4 @@ pub returns : goal.returns
 returns c =
     let below = subst (λ (m : Moment). c.args.m < length m.net.machines) (sym c.self.view_is)
     c.requires in
-    rw (← c.self.view_is) (c.is_set.ensures ∙ c.self.invariant.woken_are c.args.m below)
+    rw (← c.self.view_is) (c.has.ensures ∙ c.self.invariant.woken_are c.args.m below)

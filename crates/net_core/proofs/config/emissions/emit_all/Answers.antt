@@ -1,4 +1,5 @@
-use Rattle.std.proofs.Common.{◌+◌, ◌++◌, ℕ, List, drop, flat_map, get_or, slice_get, ap, ◌∙◌, arith, append_assoc}
+use Rattle.std.proofs.Common.{◌≡◌, ◌+◌, ◌++◌, ℕ, List, drop, flat_map, get_or, slice_get, subst, ap, ◌∙◌, arith, append_assoc}
+use Rattle.std.proofs.lemmas.List.{get_or_default}
 use Rattle.transition_table.specs.declared.decl.Party.TheVariants.{Machine as Sender}
 use Rattle.journals.specs.declared.entry.Owed.{Owed}
 use Rattle.journals.specs.Journals.{outputs_of, emitted}
@@ -36,8 +37,14 @@ loop-k-preserved c =
     let below = output_is_event net m c.get.result.now k e c.get.ensures c.get-event.ensures in
     let here = given_and_rest net m outputs outs k e code left event c.get-in-loop-k.ensures
     (c.requires.readers.are e below) in
+    let long = c.requires.readers.long in
+    let read = c.index-readers-event.result in
+    let is : read ≡ left =
+    c.index-readers-event.is ∙ get_or_default c.args.readers.now e read 0 (omega arith) in
     let added : IsMore c.loop-k.records.items c.loop-k.last.items c.emit.new.records.items
-    c.emit.new.last.items one = c.emit.ensures.more in
+    c.emit.new.last.items one =
+    subst (λ (n : ℕ). IsMore c.loop-k.records.items c.loop-k.last.items c.emit.new.records.items
+    c.emit.new.last.items (given_to m e code n)) is c.emit.ensures.more in
     let few = c.loop-k.invariant.few in
     let room = c.loop-k.invariant.room in
     let len = c.emit.ensures.len in

@@ -1,6 +1,6 @@
 use Rattle.std.proofs.Common.{◌≡◌, ◌<◌, ℕ, length, get_or}
 use Rattle.journals.specs.Schedules.{receivers_of}
-use Rattle.net_core.specs.Readers.{members}
+use Rattle.polis_base.specs.Sets.{members}
 use Rattle.net_core.proofs.config.readers.all_readers.Given as goal
 
 -- those of the events before this one

@@ -1,4 +1,6 @@
-use Rattle.std.proofs.Common.{◌/◌, arith}
+use Rattle.std.proofs.Common.{ℕ, ◌/◌, [], ◌∷◌, ◌++◌, ap, ◌∙◌, arith}
+use Rattle.net_core.specs.declared.config.emissions.Emission.{Emission}
+use Rattle.net_core.specs.Emissions.{no_place}
 use Rattle.net_core.proofs.FirstQueue.{first_queue, sentinel, table_more}
 use Rattle.net_core.proofs.config.owings.Owings.new.Goals as goal
 
@@ -11,7 +13,15 @@ loop-from-init c = record {
 pub loop-from-preserved : goal.loop-from-preserved
 loop-from-preserved c = record {
   records_are = table_more sentinel c.loop-from.from c.loop-from.records.items
-      c.push.new.self.items c.loop-from.invariant.records_are c.in_ok-push.ensures.items;
+      c.push.new.self.items c.loop-from.invariant.records_are
+      (c.in_ok-push.ensures.items ∙ ap (λ (left : ℕ). let one : Emission = record {
+        from = c.loop-from.from;
+        event = 0;
+        code = 0;
+        left = left;
+        next = no_place;
+      } in
+      c.loop-from.records.items ++ one ∷ []) c.empty.ensures);
   last_are = table_more (λ s. s) c.loop-from.from c.loop-from.last.items
       c.push-in-loop-from.new.self.items c.loop-from.invariant.last_are
       c.in_ok-push-2.ensures.items;

@@ -3,6 +3,7 @@ use Rattle.std.specs.Int.{bit_at}
 use Rattle.std.proofs.lemmas.List.{get_or_default}
 use Rattle.transition_table.specs.declared.decl.Party.TheVariants.{Machine as Sender}
 use Rattle.journals.specs.Schedules.{is_way, without_first}
+use Rattle.polis_base.proofs.SmallSets.{without_same, without_others}
 use Rattle.net_core.specs.declared.config.emissions.Emission.{Emission}
 use Rattle.net_core.specs.Emissions.{no_emission, all_waiting, IsQueue}
 use Rattle.net_core.proofs.OwedByEmissions.{all_absent, without_none, pass_struck}
@@ -25,7 +26,7 @@ invariant_of-self c =
     c.requires.from c.requires.to start at.3 in
     let r = c.index-r.result.now in
     let is = c.index-r.ensures ∙ get_or_default records p r no_emission at.1 in
-    let rest = c.without.result in
+    let rest = c.without-r.result in
     let new : Emission =
     record { from = r.from; event = r.event; code = r.code; left = rest; next = r.next } in
     let left = rw c.deref-in-Some.ensures.value at c.first_left-self-inside.ensures in
@@ -34,9 +35,9 @@ invariant_of-self c =
     (struck_queue records i.front c.first_left-self-inside.result cursors last p s m rest new
     c.self.invariant c.requires.from c.requires.to at.1 before at.2
     (ap (λ (x : Emission). let made : Emission = record x { left = rest } in made) is)
-    c.without.ensures.same
+    (without_same rest r.left m c.without-r.ensures)
     (subst (λ (x : Emission). (k : ℕ) → k < 64 → k ≢ m → bit_at rest k ≡ bit_at x.left k) is
-    c.without.ensures.others)
+    (λ k low. without_others rest r.left m c.without-r.ensures k))
     left.from left.within left.struck left.left)
 
 pub returns-in-Some : goal.returns-in-Some
@@ -56,7 +57,7 @@ returns-in-Some c =
     let past = waits_past records i.front cursors last s m p c.self.invariant at.2 in
     let r = c.index-r.result.now in
     let is = c.index-r.ensures ∙ get_or_default records p r no_emission at.1 in
-    let rest = c.without.result in
+    let rest = c.without-r.result in
     let new : Emission =
     record { from = r.from; event = r.event; code = r.code; left = rest; next = r.next } in
     let left = rw c.deref-in-Some.ensures.value at c.first_left-self-inside.ensures in
@@ -64,9 +65,9 @@ returns-in-Some c =
     ∙ struck_view records i.front p s m rest new c.requires.to past (λ k low below. before k below)
     at.2
     (ap (λ (x : Emission). let made : Emission = record x { left = rest } in made) is)
-    c.without.ensures.same
+    (without_same rest r.left m c.without-r.ensures)
     (subst (λ (x : Emission). (k : ℕ) → k < 64 → k ≢ m → bit_at rest k ≡ bit_at x.left k) is
-    c.without.ensures.others)
+    (λ k low. without_others rest r.left m c.without-r.ensures k))
     ∙ ap (without_first (is_way (Sender s) m)) c.self.view_is
 
 pub returns-in_default : goal.returns-in_default

@@ -34,13 +34,13 @@ index-requires c =
     ∙ length_table (snap a.net.now c.requires.current.0) (length a.net.now.machines) in
     omega arith
 
-pub returns-then-not-is_set : goal.returns-then-not-is_set
-returns-then-not-is_set c = λ journal current.
+pub returns-then-not-has : goal.returns-then-not-has
+returns-then-not-has c = λ journal current.
     let a = c.args in
     let r = c.in-Rea in
     let below = within a.net.now a.entry.now r.machine r.snapshot r.outcome r.is c.requires.fits in
     not_woken a.net.now a.trace.now journal a.entry.now r.machine r.snapshot r.outcome r.is
-    (sym (c.is_set.ensures ∙ current.woken_are r.machine below) ∙ c.if-not-is_set.true)
+    (sym (c.has.ensures ∙ current.woken_are r.machine below) ∙ c.if-not-has.true)
 
 pub returns-then-not-same_codes : goal.returns-then-not-same_codes
 returns-then-not-same_codes c = λ journal current.
@@ -50,7 +50,7 @@ returns-then-not-same_codes c = λ journal current.
     let moment = moment_of a.net.now journal a.self.now.moments.items r.machine
     c.index.result.now current.moments_are below c.index.ensures in
     other_snapshot a.net.now a.trace.now journal a.entry.now r.machine r.snapshot r.outcome r.is
-    (sym (c.is_set.ensures ∙ current.woken_are r.machine below) ∙ c.if-not-is_set.false)
+    (sym (c.has.ensures ∙ current.woken_are r.machine below) ∙ c.if-not-has.false)
     (λ same. both_ways c.same_codes.result c.if-not-same_codes.true
     (c.same_codes.ensures.1
     (ap (λ (x : OneSnapshot). x.codes) (same ∙ sym moment))))
@@ -65,7 +65,7 @@ returns-then-is_right c = λ journal current.
     let codes = c.same_codes.ensures.0 c.if-not-same_codes.false in
     let same : r.snapshot ≡ c.index.result.now = λ i. record { codes = codes i } in
     reacts a.net.now a.trace.now journal a.entry.now r.machine r.snapshot r.outcome a.is_right r.is
-    (sym (c.is_set.ensures ∙ current.woken_are r.machine below) ∙ c.if-not-is_set.false)
+    (sym (c.has.ensures ∙ current.woken_are r.machine below) ∙ c.if-not-has.false)
     (same ∙ moment) c.requires.right c.if-is_right.true
 
 pub returns-else-is_right : goal.returns-else-is_right
@@ -79,7 +79,7 @@ returns-else-is_right c = λ journal current.
     let same : r.snapshot ≡ c.index.result.now = λ i. record { codes = codes i } in
     other_outcome a.net.now a.trace.now journal a.entry.now r.machine r.snapshot r.outcome
     a.is_right r.is
-    (sym (c.is_set.ensures ∙ current.woken_are r.machine below) ∙ c.if-not-is_set.false)
+    (sym (c.has.ensures ∙ current.woken_are r.machine below) ∙ c.if-not-has.false)
     (same ∙ moment) c.requires.right c.if-is_right.false
 
 pub against_delivery-requires-clause-fits : goal.against_delivery-requires-clause-fits

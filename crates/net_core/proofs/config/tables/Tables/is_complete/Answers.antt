@@ -24,7 +24,7 @@ returns c = λ journal current.
     let tables = c.args.self.now in
     let owed = c.first.ensures ∙ ap head_of current.owed_are in
     let env = c.next_env.ensures journal current in
-    rw c.none_of.ensures
+    rw (c.none_of.ensures, c.is_empty.ensures)
     (complete_says net c.args.trace.now journal c.is_some-owes.result c.is_some-env.result
     (not (tables.woken == 0)) c.sending_laws.ensures.complete current.legal
     (c.is_some-owes.ensures ∙ ap (λ (o : Option Owed). is_some o) owed)

@@ -57,8 +57,8 @@ land-requires-clause-few c =
     let sixty_four : length c.args.net.now.machines ≤ 64 = c.args.net.now.few_machines in
     omega arith
 
-pub mark-self-requires : goal.mark-self-requires
-mark-self-requires c =
+pub marked-self-requires : goal.marked-self-requires
+marked-self-requires c =
     let below = machine_within c.args.net.now c.args.entry.now c.requires.fits in
     let same = c.machine-m.ensures in
     let sixty_four : length c.args.net.now.machines ≤ 64 = c.args.net.now.few_machines in
@@ -89,12 +89,12 @@ returns c = λ journal current.
       moments_are = ap (λ (l : List Snapshot). set l m s) tables.moments_are
           ∙ ap (λ (k : ℕ). set (moments_of net journal) k s) is
           ∙ c.moving_laws.ensures.moves_moments net journal entry s within moment;
-      woken_are = woken_after (length net.machines) m c.args.self.now.woken c.mark-self.result
+      woken_are = woken_after (length net.machines) m c.args.self.now.woken c.marked-self.result
           journal entry c.is_delivery.result c.moving_laws.ensures.moves_waking is
-          c.is_delivery.ensures tables.woken_are c.mark-self.ensures.same
-          c.mark-self.ensures.others;
-      no_others = others_after (length net.machines) m c.args.self.now.woken c.mark-self.result
-          below tables.no_others c.mark-self.ensures.others;
+          c.is_delivery.ensures tables.woken_are c.marked-self.ensures.same
+          c.marked-self.ensures.others;
+      no_others = others_after (length net.machines) m c.args.self.now.woken c.marked-self.result
+          below tables.no_others c.marked-self.ensures.others;
       cursors_are = c.land.ensures.cursors
           ∙ ap (λ (l : List ℕ). marked_after l trace entry c.args.self.now.cursors)
           c.deref.ensures.value

@@ -4,15 +4,16 @@ pub mod AllowedCodes
 pub mod Counts
 pub mod NumbersOfNames
 pub mod MachineFacts
-pub mod NamedMachines
 pub mod ValueIn
 pub mod IsSound
 pub mod GivenNetworks
 pub mod HasReceivers
 pub mod SomeNetwork
 pub mod IsSoundMachine
+pub mod KeptNetwork
 pub mod NetworkFacts
 pub mod OneNetwork
+pub mod OtherMachines
 pub mod Senders
 pub mod Sentences
 pub mod BitsWhere

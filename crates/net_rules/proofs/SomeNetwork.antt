@@ -1,11 +1,9 @@
 -- The network that declarations give, as a value.
 use Rattle.std.proofs.Common.{◌≡◌, ◌<◌, ◌≤◌, suc, ◌+◌, ◌-◌, nat_le, List, [], ◌∷◌, ◌++◌, map, refl, arith}
-use Rattle.std.proofs.lemmas.List.{length-map}
 use Rattle.std.specs.List.{AllZip}
 use Rattle.domains.specs.declared.domain.Domain.{Domain}
 use Rattle.domains.specs.declared.domain.Span.{Span}
 use Rattle.domains.specs.declared.domain.Domain.TheVariants as domains
-use Rattle.transition_table.specs.NetworkFacts.{has_vars, has_outputs, is_numbered, lists_once}
 use Rattle.transition_table.specs.declared.row.Row.{Row}
 use Rattle.transition_table.specs.declared.machine.Machine.{Machine}
 use Rattle.transition_table.specs.declared.network.Network.{Network}
@@ -27,12 +25,11 @@ use Rattle.net_rules.proofs.AreActions.{actions_kept}
 use Rattle.net_rules.proofs.Counts.{count_in, each_all}
 use Rattle.net_rules.proofs.MachineFacts.{vars_fit, results_fit, rows_fit}
 use Rattle.net_rules.proofs.IsSound.{sound}
-use Rattle.net_rules.proofs.HasReceivers.{holds, receivers_kept}
+use Rattle.net_rules.proofs.HasReceivers.{holds}
 use Rattle.net_rules.proofs.IsSoundMachine.{small_kept}
-use Rattle.net_rules.proofs.NetworkFacts.{domain_count, event_count, machine_count, event_names_kept, machine_names_kept, event_domains_kept, all_keep, all_senders}
+use Rattle.net_rules.proofs.KeptNetwork.{kept}
 use Rattle.net_rules.proofs.Sentences.{sentences_have_values}
 use Rattle.std.proofs.lemmas.Bool.{leb-true}
-use Rattle.polis_base.proofs.Places.{zip_length}
 
 -- where each item gives one, all together give a list of them
 all_given : {A B : Type 0} (R : A → B → Type 0) (P : A → Type 0)
@@ -116,35 +113,25 @@ network_given raw sound =
     }) in
     let machines = all_given (IsMachineOf raw) (IsSoundMachine raw) (machine_given raw sound)
     raw.machines sound.machines in
-    let each = all_keep raw sound made.0 made.1 in (
+    let k = kept raw sound made.0 made.1 (map (event_of raw) raw.events) refl machines.0
+    machines.1 in (
       record {
         name = raw.name.name;
         domains = made.0;
         events = map (event_of raw) raw.events;
         machines = machines.0;
-        few_domains = omega (
-          arith,
-          zip_length (λ (d : RawDomain). IsDomainOf d.shape) raw.domains made.0 made.1,
-          domain_count raw sound,
-        );
-        few_events = omega (arith, length-map raw.events (event_of raw), event_count raw sound);
-        few_machines = omega (
-          arith,
-          zip_length (IsMachineOf raw) raw.machines machines.0 machines.1,
-          machine_count raw sound,
-        );
-        event_names = event_names_kept raw sound;
-        machine_names = machine_names_kept raw sound machines.0 machines.1;
-        event_domains = event_domains_kept raw sound made.0 made.1;
-        receivers = receivers_kept raw machines.0 sound.names sound.ports machines.1;
-        senders = all_senders raw sound machines.0 machines.1;
-        numbered = each (is_numbered made.0 (map (event_of raw) raw.events)) (λ m k. k.numbered)
-            raw.machines machines.0 sound.machines machines.1;
-        once = each lists_once (λ m k. k.once) raw.machines machines.0 sound.machines machines.1;
-        sized_vars = each (has_vars made.0 (map (event_of raw) raw.events)) (λ m k. k.vars)
-            raw.machines machines.0 sound.machines machines.1;
-        sized_outputs = each (has_outputs made.0 (map (event_of raw) raw.events))
-            (λ m k. k.outputs) raw.machines machines.0 sound.machines machines.1;
+        few_domains = k.few_domains;
+        few_events = k.few_events;
+        few_machines = k.few_machines;
+        event_names = k.event_names;
+        machine_names = k.machine_names;
+        event_domains = k.event_domains;
+        receivers = k.receivers;
+        senders = k.senders;
+        numbered = k.numbered;
+        once = k.once;
+        sized_vars = k.sized_vars;
+        sized_outputs = k.sized_outputs;
       },
       record { name = refl; domains = made.1; events = refl; machines = machines.1 },
     )

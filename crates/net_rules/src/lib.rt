@@ -10,5 +10,5 @@ mod row_list;
 mod sizes;
 mod worked;
 
-pub use resolving::{ResolveFault, resolve};
+pub use resolving::{ResolveFault, resolve, resolve_whole};
 pub use worked::{laws, network_laws, worked_network};

@@ -3,7 +3,6 @@ ghost use Rattle.std.specs.Prelude.{◌≡◌, ◌≤◌, length, map, IfOk};
 ghost use Rattle.polis_base.specs.declared.limits.TheConstants.{DOMAINS_MAX, EVENTS_MAX};
 ghost use Rattle.std.specs.List.{AllZip};
 ghost use Rattle.net_reader.specs.declared.raw.Word.{Word as Declared};
-ghost use Rattle.net_names.specs.declared.machine_names.MachineNames.{MachineNames as Names};
 ghost use Rattle.net_names.specs.Scopes.{event_words, var_sizes};
 ghost use Rattle.net_rules.specs.Networks.{state_of, IsRowOf, IsMachineOf};
 ghost use Rattle.net_names.specs.Numbers.{number};
@@ -13,7 +12,7 @@ use crate::row_list::{rows_of, value_number};
 use crate::sizes::{Sizes, sizes_of};
 use domains::VarTable;
 use net_names::{MachineNames, Scope, vars_of};
-use net_reader::{RawMachine, RawState, Word};
+use net_reader::{RawMachine, RawMachineList, RawState, Word};
 use polis_base::{NoMemory, Numbers};
 use std::alloc::Global;
 use transition_table::{Machine, MachineList, RowList, StateDecl, StateList};
@@ -119,17 +118,48 @@ fn machine_of(alloc: Global, names: &MachineNames) -> Result<Machine, NoMemory>
     })
 }
 
-// The machines that have these names, of declarations that keep the rules.
-pub(crate) fn machines_of(alloc: Global, machines: &[MachineNames]) -> Result<MachineList, NoMemory>
-    requires sound { Each (λ (n : Names). IsSound n.scope.now.raw.now) machines.now }
-    requires machines { Each (λ (n : Names). IsSoundMachine n.scope.now.raw.now n.machine.now)
-        machines.now }
-    ensures { IfOk result (λ made. AllZip
-        (λ (n : Names). IsMachineOf n.scope.now.raw.now n.machine.now) machines.now made) }
+// A machine of declarations that keep the rules.
+fn machine_named(alloc: Global, scope: &Scope, machine: &RawMachine) -> Result<Machine, NoMemory>
+    requires sound { IsSound scope.now.raw.now }
+    requires machine { IsSoundMachine scope.now.raw.now machine.now }
+    ensures { IfOk result (λ made. IsMachineOf scope.now.raw.now machine.now made) }
+{
+    let names = MachineNames::new(alloc, scope, machine)?;
+    let made = machine_of(alloc, &names)?;
+    Ok(made)
+}
+
+// The machines of declarations that keep the rules.
+pub(crate) fn machines_of(
+    alloc: Global,
+    scope: &Scope,
+    machines: &[RawMachine],
+) -> Result<MachineList, NoMemory>
+    requires sound { IsSound scope.now.raw.now }
+    requires machines { Each (IsSoundMachine scope.now.raw.now) machines.now }
+    ensures { IfOk result (λ made. AllZip (IsMachineOf scope.now.raw.now) machines.now made) }
 {
     let mut made = MachineList::new(alloc);
-    for names in machines {
-        let next = machine_of(alloc, names)?;
+    for machine in machines {
+        let next = machine_named(alloc, scope, machine)?;
+        made.push(next)?;
+    }
+    Ok(made)
+}
+
+// The same of machines that are given up: the declarations of each go once its tables stand.
+pub(crate) fn machines_from(
+    alloc: Global,
+    scope: &Scope,
+    machines: RawMachineList,
+) -> Result<MachineList, NoMemory>
+    requires sound { IsSound scope.now.raw.now }
+    requires machines { Each (IsSoundMachine scope.now.raw.now) machines }
+    ensures { IfOk result (λ made. AllZip (IsMachineOf scope.now.raw.now) machines made) }
+{
+    let mut made = MachineList::new(alloc);
+    for machine in machines.into_vec() {
+        let next = machine_named(alloc, scope, &machine)?;
         made.push(next)?;
     }
     Ok(made)

@@ -1,25 +1,23 @@
 // The network of declarations.
-ghost use Rattle.std.specs.Prelude.{◌≡◌, None, IfOk, IfErr};
+ghost use Rattle.std.specs.Prelude.{◌≡◌, [], map, None, IfOk, IfErr, OnOk};
 ghost use Rattle.transition_table.specs.declared.network.Network.{Network as Made};
-ghost use Rattle.net_names.specs.Machines.{AreMachineNames};
-ghost use Rattle.rule_judge.specs.Declarations.{declaration_rules};
-ghost use Rattle.rule_judge.specs.Judged.{first_broken};
+ghost use Rattle.rule_judge.specs.Judged.{broken};
 ghost use Rattle.net_rules.specs.NetOf.{IsNetOf};
-ghost use Rattle.net_rules.specs.Networks.{IsNetworkOf};
+ghost use Rattle.net_rules.specs.Networks.{IsNetworkOf, event_of};
 ghost use Rattle.net_reader.specs.Layout.{IsOfSentence};
-ghost use Rattle.net_rules.specs.inner.Sound.{IsSound};
+ghost use Rattle.net_rules.specs.inner.Sound.{IsSound, with_machines};
 ghost use Rattle.net_rules.specs.Resolved.{IsFaultOf};
 
 use crate::domain_list::domains_of;
 use crate::events::events_of;
-use crate::machine_list::machines_of;
-use net_names::{MachineNames, Scope, names_of_machines};
-use net_reader::RawNet;
+use crate::machine_list::{machines_from, machines_of};
+use net_names::{Scope, names_of_machines};
+use net_reader::{RawMachineList, RawNet};
 use polis_base::{List, NoMemory};
 use rule_judge::{judge_declarations, judge_machines};
 use std::alloc::Global;
 use thiserror::Error;
-use transition_table::Network;
+use transition_table::{EventList, Network};
 
 /// Why declarations give no network.
 #[derive(Clone, Copy, Debug, Error)]
@@ -47,51 +45,11 @@ impl From<NoMemory> for ResolveFault {
     }
 }
 
-// The network of declarations that keep the rules, from their names.
-fn network_of(
-    alloc: Global,
-    scope: &Scope,
-    machines: &List<MachineNames>,
-) -> Result<Network, NoMemory>
-    requires sound { IsSound scope.now.raw.now }
-    requires names { AreMachineNames scope.now.raw.now scope.now.raw.now.machines machines.now }
-    ensures { IfOk result (λ net. IsNetworkOf scope.now.raw.now net) }
-{
-    let domains = domains_of(alloc, scope.raw.domains.as_slice())?;
-    let events = events_of(alloc, scope)?;
-    let machines = machines_of(alloc, machines.as_slice())?;
-    Ok(Network {
-        name: scope.raw.name.name,
-        domains,
-        events,
-        machines,
-    })
-}
-
-// The network of declarations that keep the rules before those on the values and rows of machines,
-// or the first of these that they break. The names are numbered once for both.
-fn resolve_machines(alloc: Global, scope: &Scope) -> Result<Network, ResolveFault>
-    requires sentence { IsOfSentence scope.now.raw.now }
-    requires kept { first_broken (declaration_rules scope.now.raw.now) ≡ None }
-    ensures net { IfOk result (λ net. IsNetOf scope.now.raw.now net) }
-    ensures fault { IfErr result (λ fault. IsFaultOf scope.now.raw.now fault) }
-{
-    let machines = names_of_machines(alloc, scope)?;
-    if let Some(broken) = judge_machines(alloc, scope, &machines)? {
-        return Err(ResolveFault::Rule {
-            rule: broken.rule,
-            place: broken.place,
-        });
-    }
-    let net = network_of(alloc, scope, &machines)?;
-    Ok(net)
-}
-
-/// The network that declarations give, or the first rule that they break.
-pub fn resolve(alloc: Global, raw: &RawNet) -> Result<Network, ResolveFault>
+// The events of declarations that keep the rules, or the first rule that they break.
+fn judged_events(alloc: Global, raw: &RawNet) -> Result<EventList, ResolveFault>
     requires { IsOfSentence raw.now }
-    ensures net { IfOk result (λ net. IsNetOf raw.now net) }
-    ensures only { IfOk result (λ net. (other : Made) → IsNetOf raw.now other → other ≡ net) }
+    ensures kept { OnOk result (broken raw.now ≡ None) }
+    ensures events { IfOk result (λ events. events ≡ map (event_of raw.now) raw.now.events) }
     ensures fault { IfErr result (λ fault. IsFaultOf raw.now fault) }
 {
     if let Some(broken) = judge_declarations(alloc, raw)? {
@@ -101,6 +59,91 @@ pub fn resolve(alloc: Global, raw: &RawNet) -> Result<Network, ResolveFault>
         });
     }
     let scope = Scope::new(alloc, raw)?;
-    let net = resolve_machines(alloc, &scope)?;
+    let machines = names_of_machines(alloc, &scope)?;
+    if let Some(broken) = judge_machines(alloc, &scope, &machines)? {
+        return Err(ResolveFault::Rule {
+            rule: broken.rule,
+            place: broken.place,
+        });
+    }
+    let events = events_of(alloc, &scope)?;
+    Ok(events)
+}
+
+// The network of declarations that keep the rules, from its events.
+fn network_of(alloc: Global, raw: &RawNet, events: EventList) -> Result<Network, NoMemory>
+    requires sound { IsSound raw.now }
+    requires events { events ≡ map (event_of raw.now) raw.now.events }
+    ensures { IfOk result (λ net. IsNetworkOf raw.now net) }
+{
+    let scope = Scope::new(alloc, raw)?;
+    let domains = domains_of(alloc, raw.domains.as_slice())?;
+    let machines = machines_of(alloc, &scope, raw.machines.as_slice())?;
+    Ok(Network {
+        name: raw.name.name,
+        domains,
+        events,
+        machines,
+    })
+}
+
+// The same of declarations that are given up, which stand in two parts: `raw` has no machines.
+fn network_from(
+    alloc: Global,
+    raw: RawNet,
+    machines: RawMachineList,
+    events: EventList,
+) -> Result<Network, NoMemory>
+    requires bare { raw.machines ≡ [] }
+    requires sound { IsSound (with_machines raw machines) }
+    requires events { events ≡ map (event_of (with_machines raw machines)) raw.events }
+    ensures { IfOk result (λ net. IsNetworkOf (with_machines raw machines) net) }
+{
+    let scope = Scope::new(alloc, &raw)?;
+    let domains = domains_of(alloc, raw.domains.as_slice())?;
+    let machines = machines_from(alloc, &scope, machines)?;
+    Ok(Network {
+        name: raw.name.name,
+        domains,
+        events,
+        machines,
+    })
+}
+
+/// The network that declarations give, or the first rule that they break.
+pub fn resolve(alloc: Global, raw: &RawNet) -> Result<Network, ResolveFault>
+    requires { IsOfSentence raw.now }
+    ensures net { IfOk result (λ net. IsNetOf raw.now net) }
+    ensures only { IfOk result (λ net. (other : Made) → IsNetOf raw.now other → other ≡ net) }
+    ensures fault { IfErr result (λ fault. IsFaultOf raw.now fault) }
+{
+    let events = judged_events(alloc, raw)?;
+    let net = network_of(alloc, raw, events)?;
+    Ok(net)
+}
+
+/// The same of declarations that are given up: those of a machine go once its tables stand.
+pub fn resolve_whole(alloc: Global, raw: RawNet) -> Result<Network, ResolveFault>
+    requires { IsOfSentence raw }
+    ensures net { IfOk result (λ net. IsNetOf raw net) }
+    ensures only { IfOk result (λ net. (other : Made) → IsNetOf raw other → other ≡ net) }
+    ensures fault { IfErr result (λ fault. IsFaultOf raw fault) }
+{
+    let events = judged_events(alloc, &raw)?;
+    let RawNet {
+        name,
+        version,
+        domains,
+        events: declared,
+        machines,
+    } = raw;
+    let bare = RawNet {
+        name,
+        version,
+        domains,
+        events: declared,
+        machines: List::new(alloc),
+    };
+    let net = network_from(alloc, bare, machines, events)?;
     Ok(net)
 }

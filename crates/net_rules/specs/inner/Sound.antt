@@ -76,3 +76,7 @@ pub record IsSound (net : RawNet) : Type 0 where
   pub ports : rule_7 net ≡ []
   pub senders : rule_11 net ≡ []
   pub machines : Each (IsSoundMachine net) net.machines
+
+-- the same declarations with these machines
+abbrev pub with_machines : RawNet → List RawMachine → RawNet
+with_machines net machines = record net { machines = machines }

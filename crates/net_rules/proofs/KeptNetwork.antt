@@ -5,8 +5,7 @@ use Rattle.std.specs.List.{AllZip, list_all, enumerate_from}
 use Rattle.polis_base.specs.declared.limits.TheConstants.{DOMAINS_MAX, EVENTS_MAX, MACHINES_MAX}
 use Rattle.domains.specs.Names.{are_distinct}
 use Rattle.domains.specs.declared.domain.Domain.{Domain}
-use Rattle.transition_table.specs.NetworkFacts.{has_vars}
-use Rattle.transition_table.specs.NetworkFacts.{has_receivers, has_sender, lists_once, has_outputs, is_numbered, has_domain}
+use Rattle.transition_table.specs.NetworkFacts.{has_vars, has_receivers, has_sender, lists_once, has_outputs, is_numbered, has_domain}
 use Rattle.transition_table.specs.declared.decl.EventDecl.{EventDecl}
 use Rattle.transition_table.specs.declared.machine.Machine.{Machine}
 use Rattle.net_reader.specs.declared.raw.RawDomain.{RawDomain}

@@ -1,4 +1,3 @@
-pub mod Pushed
 pub mod Says
 pub mod Befores
 pub mod Bests

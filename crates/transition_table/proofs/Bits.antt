@@ -8,7 +8,7 @@ use Rattle.std.proofs.lemmas.Bool.{ne_eqb}
 use Rattle.std.proofs.lemmas.Bool.Decides.{eqb_tells}
 use Rattle.std.proofs.lemmas.Option.{get_or_from_slice_get}
 use Rattle.transition_table.specs.declared.row.Cond.{Cond}
-use Rattle.transition_table.specs.inner.Masks.{allows_code}
+use Rattle.transition_table.specs.RowCodes.{allows_code}
 
 and_grouped : (a b c : Bool) → (a && (b && c)) ≡ ((a && b) && c)
 and_grouped true b c = refl

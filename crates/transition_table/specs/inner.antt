@@ -1,1 +1,1 @@
-pub mod Masks
+pub mod WholeSets

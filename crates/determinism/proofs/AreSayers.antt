@@ -1,35 +1,79 @@
 -- Rows by what they say.
-use Rattle.std.proofs.Common.{◌≡◌, ◌≢◌, ◌⊎◌, ◌<◌, ◌≤◌, ◌+◌, ◌-◌, ◌*◌, ◌/◌, ◌^◌, ◌%◌, ◌==◌, ℕ, List, length, slice_get, slice_index, slice_set, Some, bit_and, bit_or, replicate, arith, sym, ◌∙◌, ap, inl, inr}
-use Rattle.std.specs.Int.{bit_at, trailing_ones, w64}
-use Rattle.std.proofs.Math.Nat.{div-div-eq-div-mul, div-le_self}
-use Rattle.std.proofs.lemmas.Bool.{and_parts, eqb-true, cases_lt}
+use Rattle.std.proofs.Common.{◌≡◌, ◌≢◌, ◌⊎◌, ◌<◌, ◌≤◌, ◌+◌, ◌-◌, ◌*◌, ◌/◌, ◌%◌, ◌==◌, ◌&&◌, ◌||◌, ℕ, zero, suc, Bool, true, false, not, cond, List, [], ◌∷◌, filter, length, length-append, slice_get, slice_index, slice_set, Some, replicate, arith, refl, sym, ◌∙◌, ap, inl, inr}
+use Rattle.std.specs.Int.{bit_at}
+use Rattle.std.proofs.lemmas.Bool.{and_parts, eqb-true, cases_lt, ne_eqb}
 use Rattle.std.proofs.lemmas.Bool.Decides.{eqb_tells}
 use Rattle.std.proofs.lemmas.List.{get_or-set_same, get_or-set_other, get_or-replicate, get_or_past, length-replicate}
-use Rattle.std.proofs.lemmas.Nat.{pow-add}
-use Rattle.std.proofs.lemmas.Nat.Bits.{bit_at_or, bit_at-lt, bit_at-zero, bit_at_ones, bit_at-trailing_ones}
+use Rattle.std.proofs.lemmas.Nat.Bits.{bit_at-zero}
+use Rattle.polis_base.specs.Lists.{upto}
+use Rattle.polis_base.specs.Sets.{members}
+use Rattle.polis_base.proofs.Lists.{one_more}
 use Rattle.determinism.specs.declared.marks.Marks.{Marks}
 use Rattle.determinism.specs.inner.Sayers.{AreSayers, HasAdded, IsFar}
-use Rattle.transition_table.proofs.Bits.{alike, both_bits}
+use Rattle.transition_table.proofs.Bits.{alike}
 
-pub of_both : (a b i : ℕ) → bit_at (bit_and a b) i ≡ 1 → (bit_at a i ≡ 1) × (bit_at b i ≡ 1)
-of_both a b i set =
-    let parts = and_parts (bit_at a i == 1) (bit_at b i == 1)
-    (sym (both_bits a b i) ∙ alike (bit_at (bit_and a b) i) 1 set) in
-    (eqb-true (bit_at a i) 1 parts.0, eqb-true (bit_at b i) 1 parts.1)
-
-pub of_either : (a b i : ℕ) → bit_at (bit_or a b) i ≡ 1 → (bit_at a i ≡ 1) ⊎ (bit_at b i ≡ 1)
-of_either a b i set =
+-- a member of either set
+pub of_either : (a b set i : ℕ) → (bit_at set i == 1) ≡ (bit_at a i == 1 || bit_at b i == 1)
+    → bit_at set i ≡ 1 → (bit_at a i ≡ 1) ⊎ (bit_at b i ≡ 1)
+of_either a b set i is there =
     elim (eqb_tells (bit_at a i) 1) [
       | inl here ↦ inl here.1
-      | inr apart ↦ inr
-          (let differ = apart.1 in let most = bit_at_or a b i in let small = bit_at-lt a i in
-          omega arith)
+      | inr apart ↦ inr (eqb-true (bit_at b i) 1
+          (sym (is ∙ ap (λ x. x || bit_at b i == 1) (ne_eqb (bit_at a i) 1 apart.1))
+          ∙ alike (bit_at set i) 1 there))
     ]
 
--- a bit of what is shifted down
-pub shifted : (set place i : ℕ) → bit_at (set / 2 ^ place) i ≡ bit_at set (place + i)
-shifted set place i = ap (λ n. n % 2)
-    (div-div-eq-div-mul set (2 ^ place) (2 ^ i) ∙ ap (λ n. set / n) (sym (pow-add 2 place i)))
+-- a set without one of its members has no others, and fewer
+pub of_less : (old new k : ℕ)
+    → ((j : ℕ) → (bit_at new j == 1) ≡ (not (j == k) && bit_at old j == 1)) → (i : ℕ)
+    → bit_at new i ≡ 1 → bit_at old i ≡ 1
+of_less old new k is i there = eqb-true (bit_at old i) 1
+    (and_parts (not (i == k)) (bit_at old i == 1) (sym (is i) ∙ alike (bit_at new i) 1 there)).1
+
+abbrev one_long : Bool → ℕ → ℕ
+one_long b n = length (cond b (n ∷ []) [])
+
+filter_more : (p : ℕ → Bool) (n : ℕ)
+    → length (filter p (upto (suc n))) ≡ length (filter p (upto n)) + one_long (p n) n
+filter_more p n = ap length (one_more p n)
+    ∙ length-append (filter p (upto n)) (cond (p n) (n ∷ []) [])
+
+fewer_filtered : (p q : ℕ → Bool) (k : ℕ) → p k ≡ false → q k ≡ true
+    → ((j : ℕ) → p j ≡ true → q j ≡ true) → (n : ℕ)
+    → (length (filter p (upto n)) ≤ length (filter q (upto n)))
+    × (k < n → length (filter p (upto n)) < length (filter q (upto n)))
+fewer_filtered p q k out member inside zero = (omega arith, λ low. absurd (omega arith))
+fewer_filtered p q k out member inside (suc n) =
+    let rest = fewer_filtered p q k out member inside n in
+    let most = rest.0 in
+    let less = filter_more p n in
+    let more = filter_more q n in
+    let step = one_most (p n) (q n) (inside n) in (
+      omega (arith, most, less, more, step),
+      λ low. elim (cases_lt k n) [
+        | inl before ↦ let strict = rest.1 before in omega (arith, strict, less, more, step)
+        | inr past ↦
+            let here : k ≡ n = omega arith in
+            let none : one_long (p n) n ≡ 0 = ap (λ b. one_long b n) (ap p (sym here) ∙ out) in
+            let one : one_long (q n) n ≡ 1 = ap (λ b. one_long b n) (ap q (sym here) ∙ member) in
+            omega (arith, most, less, more, none, one)
+      ],
+    )
+  where
+    one_most : (a b : Bool) → (a ≡ true → b ≡ true) → one_long a n ≤ one_long b n
+    one_most true true h = omega arith
+    one_most true false h = cc (h refl)
+    one_most false true h = omega arith
+    one_most false false h = omega arith
+
+pub fewer : (old new k : ℕ)
+    → ((j : ℕ) → (bit_at new j == 1) ≡ (not (j == k) && bit_at old j == 1)) → k < 64
+    → bit_at old k ≡ 1 → length (members new) < length (members old)
+unfolding members
+fewer old new k is low there =
+    (fewer_filtered (λ j. bit_at new j == 1) (λ j. bit_at old j == 1) k
+    (is k ∙ ap (λ b. not b && bit_at old k == 1) (alike k k refl)) (alike (bit_at old k) 1 there)
+    (λ j set. (and_parts (not (j == k)) (bit_at old j == 1) (sym (is j) ∙ set)).1) 64).1 low
 
 -- one set more with a row of its block, at the place that it says
 pub added : (sayers : List ℕ) (row said place set : ℕ) → place < 64 → row < 512
@@ -108,19 +152,6 @@ next_row marks sayers next row of_row are here long more = record {
             ap (λ (m : Marks). bit_at m.said place) (sym same) ∙ new.1
       ];
 }
-
--- the places that a set has from one on
-pub ones_above : (set place : ℕ) → set < 2 ^ 64 → (i : ℕ) → i < trailing_ones w64 (set / 2 ^ place)
-    → set / 2 ^ place ≢ 18446744073709551615 → bit_at set (place + i) ≡ 1
-ones_above set place fits i below differ =
-    let most = div-le_self set (2 ^ place) in
-    sym (shifted set place i)
-    ∙ (bit_at-trailing_ones w64 (set / 2 ^ place) (omega arith)).2 i below
-
-pub all_above : (set place i : ℕ) → set / 2 ^ place ≡ 18446744073709551615 → i < 64
-    → bit_at set (place + i) ≡ 1
-all_above set place i all below =
-    sym (shifted set place i) ∙ ap (λ n. bit_at n i) all ∙ bit_at_ones 64 i below
 
 -- a row in its block
 in_block : (row k : ℕ) → row ≤ k → row / 64 * 64 + (row % 64 + (k - row)) ≡ k

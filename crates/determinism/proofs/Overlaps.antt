@@ -10,8 +10,8 @@ use Rattle.transition_table.specs.declared.row.Row.{Row}
 use Rattle.transition_table.specs.declared.machine.Machine.{Machine}
 use Rattle.transition_table.specs.MachineFacts.{names_codes, names_result, has_present, is_row}
 use Rattle.transition_table.specs.Transitions.{allows, holds}
-use Rattle.determinism.specs.inner.Boxes.{AreMasks, IsBox, EnableBoth}
-use Rattle.transition_table.specs.inner.Masks.{allows_code, row_allows}
+use Rattle.determinism.specs.inner.Boxes.{IsBox, EnableBoth}
+use Rattle.transition_table.specs.RowCodes.{AreSetsOf, allows_code, row_allows}
 use Rattle.transition_table.proofs.Bits.{alike}
 use Rattle.transition_table.proofs.CodeSets.{size_at, machine_sizes}
 use Rattle.domains.proofs.Ranks.{length_fits}
@@ -98,7 +98,7 @@ allowed_here m row codes k fit held below =
 
 -- no snapshot enables and_from rows where a variable has no code that and_from allow
 pub none_enables : (m : Machine) (first second : Row) (of_first of_second : List ℕ) (k : ℕ)
-    → AreMasks m.vars first of_first → AreMasks m.vars second of_second → k < length of_first
+    → AreSetsOf m.vars first of_first → AreSetsOf m.vars second of_second → k < length of_first
     → ((code : ℕ) → (bit_at (slice_index of_first k) code == 1
     && bit_at (slice_index of_second k) code == 1) ≡ false)
     → (codes : List ℕ) → EnableBoth m first second codes → ⊥
@@ -117,7 +117,7 @@ none_enables m first second of_first of_second k mf ms below none codes e =
 -- what and_from rows allow is the box of their overlap
 pub box_is : (m : Machine) (first second : Row) (of_first of_second sets : List ℕ)
     → is_row m.inputs m.vars m.results first ≡ true → is_row m.inputs m.vars m.results second ≡ true
-    → AreMasks m.vars first of_first → AreMasks m.vars second of_second
+    → AreSetsOf m.vars first of_first → AreSetsOf m.vars second of_second
     → length sets ≡ length m.vars
     → ((k code : ℕ) → k < length of_first
     → (bit_at (slice_index sets k) code == 1)

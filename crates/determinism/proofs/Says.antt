@@ -1,17 +1,17 @@
 -- Rows of which one says what the other denies.
-use Rattle.std.proofs.Common.{◌≡◌, ◌≢◌, ◌<◌, ◌≤◌, ◌+◌, ◌-◌, ◌%◌, ◌==◌, ℕ, true, false, not, cond, nat_lt, List, length, get_or, slice_get, slice_index, Option, Some, None, arith, refl, sym, ◌∙◌, ap, inl, inr, true≢false}
+use Rattle.std.proofs.Common.{◌≡◌, ◌≢◌, ◌<◌, ◌≤◌, ◌+◌, ◌-◌, ◌==◌, ◌&&◌, ◌||◌, ◌⊎◌, ℕ, true, false, not, cond, nat_lt, List, length, get_or, slice_get, slice_index, Option, Some, None, arith, refl, sym, ◌∙◌, ap, inl, inr, true≢false}
 use Rattle.std.specs.Int.{bit_at}
 use Rattle.std.proofs.lemmas.Bool.{ltb-true, ltb-false, cases_Bool, eqb-true, ne_eqb}
 use Rattle.std.proofs.lemmas.Bool.Decides.{eqb_tells}
 use Rattle.std.proofs.lemmas.Option.{slice_get-get_or}
-use Rattle.std.proofs.lemmas.Nat.Bits.{bit_at_lowest, bit_at-pow_other}
 use Rattle.transition_table.specs.declared.row.Row.{Row}
 use Rattle.transition_table.specs.declared.machine.Machine.{Machine}
 use Rattle.transition_table.specs.declared.snapshot.Snapshot.{Snapshot}
 use Rattle.transition_table.specs.Transitions.{Conflict, holds}
 use Rattle.determinism.specs.declared.marks.Marks.{Marks}
-use Rattle.transition_table.specs.inner.Masks.{IsMask}
+use Rattle.transition_table.specs.RowCodes.{AreCodesOf}
 use Rattle.determinism.specs.inner.Marks.{Enables, says, AreMarked}
+use Rattle.polis_base.proofs.SmallSets.{no_bits, with_others}
 use Rattle.transition_table.proofs.Bits.{alike}
 use Rattle.determinism.proofs.Overlaps.{allowed_here}
 
@@ -61,30 +61,42 @@ denies_first place var codes here few other =
     ap (λ p. says p codes) here ∙ says_low var codes few ∙ ne_eqb (slice_index codes var) 0 other
 
 -- a code of a variable that the row allows
-code_there : (m : Machine) (row : Row) (var mask : ℕ) (codes : List ℕ) → IsMask m.vars row var mask
+code_there : (m : Machine) (row : Row) (var mask : ℕ) (codes : List ℕ) → AreCodesOf m.vars row var mask
     → Enables m row codes → var < length m.vars → bit_at mask (slice_index codes var) ≡ 1
 code_there m row var mask codes is e below =
     eqb-true (bit_at mask (slice_index codes var)) 1
     (is (slice_index codes var) ∙ allowed_here m row codes var e.snapshot e.held below)
 
-pub only_first : (m : Machine) (row : Row) (var mask : ℕ) (codes : List ℕ)
-    → IsMask m.vars row var mask → Enables m row codes → var < length m.vars → mask ≡ 1
+pub only_first : (m : Machine) (row : Row) (var set rest : ℕ) (codes : List ℕ)
+    → AreCodesOf m.vars row var set → Enables m row codes → var < length m.vars
+    → ((j : ℕ) → (bit_at rest j == 1) ≡ (not (j == 0) && bit_at set j == 1)) → rest ≡ 0
     → slice_index codes var ≡ 0
-only_first m row var mask codes is e below one =
-    let there = code_there m row var mask codes is e below in
-    elim (eqb_tells (slice_index codes var) 0) [
+only_first m row var set rest codes is e below others none =
+    let code = slice_index codes var in
+    let there = alike (bit_at set code) 1 (code_there m row var set codes is e below) in
+    elim (eqb_tells code 0) [
       | inl here ↦ here.1
-      | inr apart ↦ absurd (let clear = ap (λ n. bit_at n (slice_index codes var)) one
-          ∙ bit_at-pow_other 0 (slice_index codes var) apart.1 in omega arith)
+      | inr apart ↦ absurd (true≢false (sym (others code
+          ∙ ap (λ b. not b && bit_at set code == 1) (ne_eqb code 0 apart.1) ∙ there)
+          ∙ no_bits rest code none))
     ]
 
-pub never_first : (m : Machine) (row : Row) (var mask : ℕ) (codes : List ℕ)
-    → IsMask m.vars row var mask → Enables m row codes → var < length m.vars → mask % 2 ≡ 0
-    → slice_index codes var ≢ 0
-never_first m row var mask codes is e below even first =
-    let there = ap (bit_at mask) (sym first) ∙ code_there m row var mask codes is e below in
-    let clear = bit_at_lowest mask ∙ even in
-    omega arith
+pub never_first : (m : Machine) (row : Row) (var set : ℕ) (codes : List ℕ)
+    → AreCodesOf m.vars row var set → Enables m row codes → var < length m.vars
+    → (bit_at set 0 == 1) ≡ false → slice_index codes var ≢ 0
+never_first m row var set codes is e below none first =
+    let there = ap (bit_at set) (sym first) ∙ code_there m row var set codes is e below in
+    true≢false (sym (alike (bit_at set 0) 1 there) ∙ none)
+
+-- one more place
+pub with_cases : (new old k : ℕ)
+    → ((j : ℕ) → (bit_at new j == 1) ≡ (j == k || bit_at old j == 1)) → (place : ℕ)
+    → bit_at new place ≡ 1 → (place ≡ k) ⊎ (bit_at old place ≡ 1)
+with_cases new old k is place set =
+    elim (eqb_tells place k) [
+      | inl here ↦ inl here.1
+      | inr apart ↦ inr (sym (with_others new old k is place apart.1) ∙ set)
+    ]
 
 -- such rows don't conflict
 pub apart_rows : (m : Machine) (marks : List Marks) (a b : ℕ) (first second : Marks)

@@ -1,8 +1,9 @@
 // The least conflict of a machine.
 ghost use Rattle.std.specs.Prelude.{◌≡◌, ◌<◌, ◌≤◌, ◌+◌, ℕ, length, IfOk, IfSome, IfNone, IsTrue, IsFalse};
 ghost use Rattle.transition_table.specs.declared.snapshot.Snapshot.{Snapshot as SnapshotOf};
+ghost use Rattle.transition_table.specs.RowCodes.{AreRowCodes};
 ghost use Rattle.transition_table.specs.Transitions.{Conflict};
-ghost use Rattle.determinism.specs.inner.Boxes.{IsTable, Before, HaveRoom};
+ghost use Rattle.determinism.specs.inner.Boxes.{Before, HaveRoom};
 ghost use Rattle.determinism.specs.Conflicts.{Answers};
 ghost use Rattle.determinism.specs.inner.Conflicts.{IsLeastOf, IsFirstWith};
 ghost use Rattle.determinism.specs.inner.Marks.{AreMarked};
@@ -12,14 +13,13 @@ ghost use Rattle.determinism.specs.inner.Sayers.{AreSayers};
 use crate::difference::least_difference;
 use crate::fault::CheckFault;
 use crate::marks::{Marks, marks_table};
-use crate::masks::{CodeSets, SetTable, table_of};
 use crate::overlap::overlap;
 use crate::pair::Pair;
 use crate::sayers::{Sayers, next_near, sayers_of};
 use domains::{Codes, first_codes};
-use polis_base::{List, NoMemory};
+use polis_base::{List, NoMemory, SmallSet};
 use std::alloc::Global;
-use transition_table::{Machine, Snapshot, laws};
+use transition_table::{CodeSets, Machine, RowCodes, Snapshot, laws};
 
 // Of the first two codes that differ the smaller is that of the first list, or none differ.
 fn stands_before(codes: &Codes, others: &Codes) -> bool
@@ -80,14 +80,14 @@ fn conflict_of(
     machine: &Machine,
     a: u32,
     b: u32,
-    table: &SetTable,
+    codes: &RowCodes,
     sets: &mut CodeSets,
     s: &mut Snapshot,
     best: &mut Snapshot,
 ) -> bool
     requires order { a < b }
     requires second { b < length machine.now.rows }
-    requires table { IsTable machine.now.vars machine.now.rows table.now }
+    requires codes { AreRowCodes machine.now codes.now }
     requires room { HaveRoom machine.now sets.old s.old.codes best.old.codes }
     ensures room { HaveRoom machine.now sets.new s.new.codes best.new.codes }
     ensures some { IsTrue result → IsLeastOf machine.now a b best.new }
@@ -99,8 +99,8 @@ fn conflict_of(
         machine,
         first,
         second,
-        table.get(u64::from(a)),
-        table.get(u64::from(b)),
+        codes.of_row(u64::from(a)),
+        codes.of_row(u64::from(b)),
         sets,
     ) {
         return false;
@@ -118,7 +118,7 @@ fn conflict_of(
 fn conflicting(
     machine: &Machine,
     a: u32,
-    table: &SetTable,
+    codes: &RowCodes,
     marks: &List<Marks>,
     sayers: &Sayers,
     sets: &mut CodeSets,
@@ -126,7 +126,7 @@ fn conflicting(
     best: &mut Snapshot,
 ) -> Option<u32>
     requires row { a < length machine.now.rows }
-    requires table { IsTable machine.now.vars machine.now.rows table.now }
+    requires codes { AreRowCodes machine.now codes.now }
     requires marks { AreMarked machine.now marks.now }
     requires sayers { AreSayers marks.now sayers.now }
     requires room { HaveRoom machine.now sets.old s.old.codes best.old.codes }
@@ -137,7 +137,7 @@ fn conflicting(
     let denied = marks.get(u64::from(a)).denied;
     let mut b = next_near(marks.as_slice(), sayers, denied, a + 1);
     while b < machine.row_count() {
-        if conflict_of(machine, a, b, table, sets, s, best) {
+        if conflict_of(machine, a, b, codes, sets, s, best) {
             return Some(b);
         }
         b = next_near(marks.as_slice(), sayers, denied, b + 1);
@@ -149,17 +149,17 @@ fn conflicting(
 fn check_rows(
     alloc: Global,
     m: &Machine,
-    table: &SetTable,
+    codes: &RowCodes,
     marks: &List<Marks>,
     sayers: &Sayers,
 ) -> Result<(), CheckFault>
-    requires table { IsTable m.now.vars m.now.rows table.now }
+    requires codes { AreRowCodes m.now codes.now }
     requires marks { AreMarked m.now marks.now }
     requires sayers { AreSayers marks.now sayers.now }
     ensures { Answers m.now result }
 {
     laws();
-    let mut sets = CodeSets::filled(alloc, m.vars.len(), 0)?;
+    let mut sets = CodeSets::filled(alloc, m.vars.len(), SmallSet::empty())?;
     let mut s = Snapshot {
         codes: first_codes(alloc, &m.vars)?,
     };
@@ -167,7 +167,7 @@ fn check_rows(
         codes: first_codes(alloc, &m.vars)?,
     };
     for a in 0..m.row_count() {
-        if let Some(b) = conflicting(m, a, table, marks, sayers, &mut sets, &mut s, &mut best) {
+        if let Some(b) = conflicting(m, a, codes, marks, sayers, &mut sets, &mut s, &mut best) {
             return Err(CheckFault::Conflict {
                 row_a: a,
                 row_b: b,
@@ -184,9 +184,9 @@ fn check_rows(
 pub fn check(alloc: Global, m: &Machine) -> Result<(), CheckFault>
     ensures { Answers m.now result }
 {
-    let table = table_of(alloc, m)?;
-    let marks = marks_table(alloc, m, &table)?;
+    let codes = RowCodes::new(alloc, m)?;
+    let marks = marks_table(alloc, m, &codes)?;
     let sayers = sayers_of(alloc, &marks)?;
-    check_rows(alloc, m, &table, &marks, &sayers)?;
+    check_rows(alloc, m, &codes, &marks, &sayers)?;
     Ok(())
 }

@@ -14,14 +14,6 @@ use crate::overlap::write_least;
 use crate::pair::Pair;
 use transition_table::{Act, Machine, Row, Snapshot, Source};
 
-// Whether the set has the code.
-fn has_code(set: u64, code: u8) -> bool
-    requires { code < 64 }
-    ensures { result ≡ (bit_at set code == 1) }
-{
-    (set >> code) % 2 == 1
-}
-
 // The source that the actions name for a result.
 fn source_of(acts: &[Act], y: u32) -> Option<Source>
     ensures some { IfSome result (λ source. (m : Machine) (codes : List ℕ)
@@ -108,7 +100,7 @@ fn try_code(pair: &Pair<'_>, y: u32, u: u64, v: u64, code: u8, s: &mut Snapshot)
         → (u ≢ v → slice_index t u ≡ slice_index s.old.codes u) → slice_index t v ≡ code
         → ¬ Differ pair.now y t }
 {
-    if !has_code(*pair.sets.get(v), code) {
+    if !pair.sets.get(v).has(u32::from(code)) {
         return false;
     }
     s.codes.set(v, code);
@@ -149,7 +141,7 @@ fn try_first(pair: &Pair<'_>, y: u32, u: u64, v: u64, code: u8, s: &mut Snapshot
     ensures none { IsFalse result → (t : List ℕ) → IsIn pair.now.sets.now t
         → slice_index t u ≡ code → ¬ Differ pair.now y t }
 {
-    if !has_code(*pair.sets.get(u), code) {
+    if !pair.sets.get(u).has(u32::from(code)) {
         return false;
     }
     s.codes.set(u, code);

@@ -5,7 +5,6 @@ mod conflict;
 mod difference;
 mod fault;
 mod marks;
-mod masks;
 mod overlap;
 mod pair;
 mod sayers;

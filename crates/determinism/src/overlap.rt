@@ -1,11 +1,11 @@
 // The snapshots that enable two rows.
 ghost use Rattle.std.specs.Prelude.{◌≡◌, ◌<◌, ◌≤◌, ◌&&◌, ◌==◌, ℕ, false, List, length, slice_index, IsTrue, IsFalse};
 ghost use Rattle.std.specs.Int.{bit_at};
-ghost use Rattle.determinism.specs.inner.Boxes.{AreMasks, AreRowsOf, IsBox, AreSome, AreLeast, EnableBoth};
+ghost use Rattle.transition_table.specs.RowCodes.{AreSetsOf};
+ghost use Rattle.determinism.specs.inner.Boxes.{AreRowsOf, IsBox, AreSome, AreLeast, EnableBoth};
 
-use crate::masks::CodeSets;
 use domains::Codes;
-use transition_table::{Machine, Row};
+use transition_table::{CodeSets, Machine, Row};
 
 // Writes the codes that both sets have at each variable. False where they have none at one.
 fn common(first: &CodeSets, second: &CodeSets, sets: &mut CodeSets) -> bool
@@ -22,11 +22,11 @@ fn common(first: &CodeSets, second: &CodeSets, sets: &mut CodeSets) -> bool
         && bit_at (slice_index second.now k) code == 1) ≡ false) }
 {
     for k in 0..first.len() {
-        let both = *first.get(k) & *second.get(k);
-        if both == 0 {
+        let codes = first.get(k).both(*second.get(k));
+        if codes.is_empty() {
             return false;
         }
-        sets.set(k, both);
+        sets.set(k, codes);
     }
     true
 }
@@ -42,8 +42,8 @@ pub(crate) fn overlap(
     sets: &mut CodeSets,
 ) -> bool
     requires rows { AreRowsOf machine.now first.now second.now }
-    requires of_first { AreMasks machine.now.vars first.now of_first.now }
-    requires of_second { AreMasks machine.now.vars second.now of_second.now }
+    requires of_first { AreSetsOf machine.now.vars first.now of_first.now }
+    requires of_second { AreSetsOf machine.now.vars second.now of_second.now }
     requires long { length sets.old ≡ length machine.now.vars }
     ensures long { length sets.new ≡ length sets.old }
     ensures some { IsTrue result → AreSome sets.new }
@@ -54,15 +54,6 @@ pub(crate) fn overlap(
     common(of_first, of_second, sets)
 }
 
-// The least code of a set.
-fn least_code(set: u64) -> u8
-    requires { 0 < set }
-    ensures there { bit_at set result ≡ 1 }
-    ensures least { (code : ℕ) → bit_at set code ≡ 1 → result ≤ code }
-{
-    set.trailing_zeros() as u8
-}
-
 /// Writes the least code of each set.
 pub(crate) fn write_least(sets: &CodeSets, codes: &mut Codes)
     requires some { AreSome sets.now }
@@ -70,6 +61,7 @@ pub(crate) fn write_least(sets: &CodeSets, codes: &mut Codes)
     ensures { AreLeast sets.now codes.new }
 {
     for k in 0..sets.len() {
-        codes.set(k, least_code(*sets.get(k)));
+        let code = sets.get(k).least();
+        codes.set(k, code as u8);
     }
 }

@@ -1,8 +1,7 @@
 // Two rows of a machine.
 ghost use Rattle.determinism.specs.inner.Boxes.{IsRowOf, IsBox, AreSome};
 
-use crate::masks::CodeSets;
-use transition_table::{Machine, Row};
+use transition_table::{CodeSets, Machine, Row};
 
 /// Two rows of a machine, and of each variable the codes that both allow, of which there are some.
 #[derive(Clone, Copy)]

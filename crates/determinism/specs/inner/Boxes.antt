@@ -1,5 +1,5 @@
 -- Snapshots that enable two rows, as one set of codes for each variable.
-use Rattle.std.specs.Prelude.{◌≡◌, ◌≢◌, ◌⊎◌, ◌<◌, ◌≤◌, ◌==◌, ℕ, nat_lt, List, [], ◌∷◌, length, slice_get, slice_index, Some, IsTrue, ⊤}
+use Rattle.std.specs.Prelude.{◌≡◌, ◌≢◌, ◌⊎◌, ◌<◌, ◌≤◌, ◌==◌, ℕ, List, [], ◌∷◌, length, slice_get, slice_index, Some, IsTrue, ⊤}
 use Rattle.std.specs.List.{list_all}
 use Rattle.std.specs.Int.{bit_at}
 use Rattle.domains.specs.Tables.{fits}
@@ -7,24 +7,6 @@ use Rattle.transition_table.specs.declared.row.Row.{Row}
 use Rattle.transition_table.specs.declared.machine.Machine.{Machine}
 use Rattle.transition_table.specs.MachineFacts.{is_row}
 use Rattle.transition_table.specs.Transitions.{allows}
-use Rattle.transition_table.specs.inner.Masks.{IsMask}
-
--- all codes of each variable
-pub record AreWhole (vars masks : List ℕ) : Type 0 where
-  pub long : length masks ≡ length vars
-  pub each : (var : ℕ) → var < length vars → (code : ℕ)
-      → (bit_at (slice_index masks var) code == 1) ≡ nat_lt code (slice_index vars var)
-
--- one set for each variable, of the codes that the row allows
-pub record AreMasks (vars : List ℕ) (row : Row) (masks : List ℕ) : Type 0 where
-  pub long : length masks ≡ length vars
-  pub each : (var : ℕ) → var < length vars → IsMask vars row var (slice_index masks var)
-
--- and these for each row
-pub record IsTable (vars : List ℕ) (rows : List Row) (table : List (List ℕ)) : Type 0 where
-  pub long : length table ≡ length rows
-  pub each : (r : ℕ) (row : Row) (masks : List ℕ) → slice_get rows r ≡ Some row
-      → slice_get table r ≡ Some masks → AreMasks vars row masks
 
 -- one code of each set
 pub record IsIn (sets codes : List ℕ) : Type 0 where

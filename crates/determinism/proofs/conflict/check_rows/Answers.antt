@@ -40,8 +40,8 @@ pub conflicting-requires-clause-row : goal.conflicting-requires-clause-row
 conflicting-requires-clause-row c =
     subst (λ n. c.loop-a.a < n) c.row_count-a-end.ensures.count c.loop-a-test.true
 
-pub conflicting-requires-clause-table : goal.conflicting-requires-clause-table
-conflicting-requires-clause-table c = c.requires.table
+pub conflicting-requires-clause-codes : goal.conflicting-requires-clause-codes
+conflicting-requires-clause-codes c = c.requires.codes
 
 pub conflicting-requires-clause-marks : goal.conflicting-requires-clause-marks
 conflicting-requires-clause-marks c = c.requires.marks

@@ -4,13 +4,13 @@ use Rattle.transition_table.proofs.MachineCounts.{row_fits}
 
 pub overlap-requires-clause-of_first : goal.overlap-requires-clause-of_first
 overlap-requires-clause-of_first c =
-    c.requires.table.each c.args.a c.get-first.result.now c.get.result.now
-    (rw c.from.ensures at c.get-first.ensures) (rw c.from-3.ensures at c.get.ensures)
+    c.requires.codes.each c.args.a c.get-first.result.now c.of_row.result.now
+    (rw c.from.ensures at c.get-first.ensures) (rw c.from-3.ensures at c.of_row.ensures)
 
 pub overlap-requires-clause-of_second : goal.overlap-requires-clause-of_second
 overlap-requires-clause-of_second c =
-    c.requires.table.each c.args.b c.get-second.result.now c.get-2.result.now
-    (rw c.from-2.ensures at c.get-second.ensures) (rw c.from-4.ensures at c.get-2.ensures)
+    c.requires.codes.each c.args.b c.get-second.result.now c.of_row-2.result.now
+    (rw c.from-2.ensures at c.get-second.ensures) (rw c.from-4.ensures at c.of_row-2.ensures)
 
 pub invariant_of-pair : goal.invariant_of-pair
 invariant_of-pair c = record {

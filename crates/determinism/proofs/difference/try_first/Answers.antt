@@ -13,23 +13,23 @@ written_code : (codes new : List ℕ) (u code : ℕ) → new ≡ slice_set codes
 written_code codes new u code is there =
     ap (λ (xs : List ℕ). slice_index xs u) is ∙ get_or-set_same codes u code 0 there
 
-pub returns-then-not-has_code-clause-inside : goal.returns-then-not-has_code-clause-inside
-returns-then-not-has_code-clause-inside c = c.requires.inside
+pub returns-then-not-has-clause-inside : goal.returns-then-not-has-clause-inside
+returns-then-not-has-clause-inside c = c.requires.inside
 
-pub returns-then-not-has_code-clause-same : goal.returns-then-not-has_code-clause-same
-returns-then-not-has_code-clause-same c = λ k not_u not_v. refl
+pub returns-then-not-has-clause-same : goal.returns-then-not-has-clause-same
+returns-then-not-has-clause-same c = λ k not_u not_v. refl
 
-pub returns-then-not-has_code-clause-some : goal.returns-then-not-has_code-clause-some
-returns-then-not-has_code-clause-some c = λ h. absurd (false≢true h)
+pub returns-then-not-has-clause-some : goal.returns-then-not-has-clause-some
+returns-then-not-has-clause-some c = λ h. absurd (false≢true h)
 
-pub returns-then-not-has_code-clause-none : goal.returns-then-not-has_code-clause-none
-returns-then-not-has_code-clause-none c = λ h t there at differ.
+pub returns-then-not-has-clause-none : goal.returns-then-not-has-clause-none
+returns-then-not-has-clause-none c = λ h t there at differ.
     let order = c.requires.apart in
     let var = c.requires.reads.there in
     let sets = c.args.pair.now.sets.now in
     let set = get_or_from_slice_get sets c.args.u c.get.result.now 0 c.get.ensures in
     not_there sets t c.args.u c.args.code there (omega arith) at
-    (ap (λ n. bit_at n c.args.code == 1) set ∙ sym c.has_code.ensures ∙ c.if-not-has_code.true)
+    (ap (λ n. bit_at n c.args.code == 1) set ∙ sym (c.has.ensures ∙ ap (λ k. bit_at c.get.result.now k == 1) c.from.ensures) ∙ c.if-not-has.true)
 
 pub first_code-requires-clause-inside : goal.first_code-requires-clause-inside
 first_code-requires-clause-inside c =
@@ -38,7 +38,7 @@ first_code-requires-clause-inside c =
     let sets = c.args.pair.now.sets.now in
     let at = get_or_from_slice_get sets c.args.u c.get.result.now 0 c.get.ensures in
     let set = eqb-true (bit_at c.get.result.now c.args.code) 1
-    (sym c.has_code.ensures ∙ c.if-not-has_code.false) in
+    (sym (c.has.ensures ∙ ap (λ k. bit_at c.get.result.now k == 1) c.from.ensures) ∙ c.if-not-has.false) in
     subst (IsIn sets) (sym c.set.ensures)
     (in_set sets c.args.s.now.codes c.args.u c.args.code c.requires.inside (omega arith)
     (ap (λ n. bit_at n c.args.code) at ∙ set))

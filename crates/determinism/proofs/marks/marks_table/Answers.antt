@@ -3,20 +3,20 @@ use Rattle.std.proofs.lemmas.Option.{same_Some}
 use Rattle.transition_table.specs.declared.row.Row.{Row}
 use Rattle.determinism.specs.declared.marks.Marks.{Marks}
 use Rattle.determinism.specs.inner.Marks.{IsMarked}
-use Rattle.determinism.proofs.Pushed.{long_pushed, found_pushed}
+use Rattle.transition_table.proofs.Pushed.{long_pushed, found_pushed}
 use Rattle.determinism.proofs.marks.marks_table.Goals as goal
 
 pub get-requires : goal.get-requires
 get-requires c = subst (λ n. c.loop-r.r < n) c.len-r-end.ensures c.loop-r-test.true
 
-pub get-requires-in-loop-r : goal.get-requires-in-loop-r
-get-requires-in-loop-r c =
+pub of_row-requires : goal.of_row-requires
+of_row-requires c =
     subst (λ n. c.loop-r.r < n) (c.len-r-end.ensures ∙ sym c.requires.long) c.loop-r-test.true
 
 pub marks_of-requires : goal.marks_of-requires
 marks_of-requires c =
-    c.requires.each c.loop-r.r c.get.result.now c.get-in-loop-r.result.now c.get.ensures
-    c.get-in-loop-r.ensures
+    c.requires.each c.loop-r.r c.get.result.now c.of_row.result.now c.get.ensures
+    c.of_row.ensures
 
 pub loop-r-preserved : goal.loop-r-preserved
 loop-r-preserved c =

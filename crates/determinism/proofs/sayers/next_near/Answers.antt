@@ -13,8 +13,8 @@ loop-row-preserved c =
           elim (cases_lt k row) [
             | inl before ↦ c.loop-row.invariant.apart k of_row low before at
             | inr past ↦ far_rows c.args.marks.now c.args.sayers.now c.args.denied row
-                c.ones_from-apart.result k of_row c.requires.sayers
+                c.run_from-apart.result k of_row c.requires.sayers
                 (λ i less. c.far_in-far.ensures (row % 64 + i)
-                (c.ones_from-apart.ensures.there i less)) past below at
+                (c.run_from-apart.ensures.there i less)) past below at
           ];
     }

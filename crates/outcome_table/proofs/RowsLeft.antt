@@ -10,8 +10,9 @@ use Rattle.transition_table.specs.Transitions.{allows}
 use Rattle.transition_table.specs.declared.machine.Machine.{Machine}
 use Rattle.transition_table.specs.declared.row.Cond.{Cond}
 use Rattle.transition_table.specs.declared.row.Row.{Row}
-use Rattle.transition_table.specs.inner.Masks.{allows_code}
-use Rattle.outcome_table.specs.inner.RowSets.{IsSetOf, has_row}
+use Rattle.transition_table.specs.RowCodes.{allows_code}
+use Rattle.polis_base.specs.Sets.{has_member}
+use Rattle.outcome_table.specs.inner.RowSets.{IsSetOf}
 use Rattle.outcome_table.specs.inner.Numbering.{may_hold, may_be_enabled, rows_left}
 use Rattle.outcome_table.proofs.ListMaps.{all_both}
 
@@ -105,20 +106,20 @@ filter_places {X = X} p q keep n (x ∷ xs) each =
 -- the rows that are left are narrowed by the rows that allow a code
 pub narrowed : (m : Machine) (set fixed rows : List ℕ) (at code : ℕ) → IsSetOf m at code set
     → at ≡ length fixed → code < slice_index m.vars at → rows ≡ rows_left m fixed
-    → filter (has_row set) rows ≡ rows_left m (fixed ++ code ∷ [])
+    → filter (has_member set) rows ≡ rows_left m (fixed ++ code ∷ [])
 narrowed m set fixed rows at code allowed here small is =
-    ap (filter (has_row set)) is
+    ap (filter (has_member set)) is
     ∙ filter_places (may_be_enabled fixed)
-    (λ row. list_all (allows_code (length fixed) code) row.conds) (has_row set) 0 m.rows each
+    (λ row. list_all (allows_code (length fixed) code) row.conds) (has_member set) 0 m.rows each
     ∙ places_same (λ row. may_be_enabled fixed row
     && list_all (allows_code (length fixed) code) row.conds)
     (may_be_enabled (fixed ++ code ∷ [])) 0 m.rows (λ row. sym (enabled_more fixed code row))
   where
     each : (i : ℕ) (row : Row) → slice_get m.rows i ≡ Some row
-        → has_row set (0 + i) ≡ list_all (allows_code (length fixed) code) row.conds
+        → has_member set (0 + i) ≡ list_all (allows_code (length fixed) code) row.conds
     each i row get =
         let e : 0 + i ≡ i = omega arith in
-        ap (has_row set) e
+        ap (has_member set) e
         ∙ allowed.each i row get
         ∙ ap (λ b. b && list_all (allows_code at code) row.conds)
         (lt-ltb code (slice_index m.vars at) small)

@@ -13,12 +13,13 @@ use Rattle.transition_table.specs.declared.machine.Machine.{Machine}
 use Rattle.transition_table.specs.declared.row.Row.{Row}
 use Rattle.outcome_table.specs.inner.Needs.{AreEnds}
 use Rattle.outcome_table.specs.inner.Numbering.{Adds, BeginWithRows, may_be_enabled, rows_left}
-use Rattle.outcome_table.specs.inner.RowSets.{IsBoth, IsSetOf, has_row}
+use Rattle.polis_base.specs.Sets.{IsBoth, has_member}
+use Rattle.outcome_table.specs.inner.RowSets.{IsSetOf}
 use Rattle.outcome_table.specs.inner.Tails.{AddsBoth, EachNarrows, Narrows, number_under}
 use Rattle.outcome_table.specs.declared.number.Numbered.{Numbered}
 use Rattle.outcome_table.proofs.NumberedOutcomes.{adds_many, adds_on, same_before}
 use Rattle.outcome_table.proofs.RowsLeft.{and_true, filter_places, narrowed, places_same}
-use Rattle.outcome_table.proofs.RowSets.{filter_twice}
+use Rattle.polis_base.proofs.WideSets.{filter_twice}
 use Rattle.outcome_table.proofs.Settled.{first_left, none_left}
 use Rattle.polis_base.proofs.Places.{drop_whole, length_map}
 
@@ -36,22 +37,22 @@ get_map f (x ∷ xs) (suc i) low = get_map f xs i (omega arith)
 
 -- ---- sets for the codes of no variable, and for one code more
 narrows_none : (m : Machine) (from : ℕ) (set : List ℕ) → from ≡ length m.vars
-    → ((r : ℕ) → has_row set r ≡ nat_lt r (length m.rows)) → Narrows m from [] set
+    → ((r : ℕ) → has_member set r ≡ nat_lt r (length m.rows)) → Narrows m from [] set
 narrows_none m from set end all = record {
   long = omega arith;
   left = λ fixed rows long is.
-      ap (filter (has_row set)) is
-      ∙ filter_places (may_be_enabled fixed) (λ (row : Row). true) (has_row set) 0 m.rows each
+      ap (filter (has_member set)) is
+      ∙ filter_places (may_be_enabled fixed) (λ (row : Row). true) (has_member set) 0 m.rows each
       ∙ places_same (λ (row : Row). may_be_enabled fixed row && true) (may_be_enabled fixed) 0
       m.rows (λ row. sym (and_true (may_be_enabled fixed row)))
       ∙ ap (rows_left m) (sym (append-nil fixed));
 }
   where
-    each : (i : ℕ) (row : Row) → slice_get m.rows i ≡ Some row → has_row set (0 + i) ≡ true
+    each : (i : ℕ) (row : Row) → slice_get m.rows i ≡ Some row → has_member set (0 + i) ≡ true
     each i row get =
         let inside = slice_get_within m.rows i row get in
         let e : 0 + i ≡ i = omega arith in
-        ap (has_row set) e ∙ all i ∙ lt-ltb i (length m.rows) inside
+        ap (has_member set) e ∙ all i ∙ lt-ltb i (length m.rows) inside
 
 narrows_more : (m : Machine) (a b set codes : List ℕ) (from code : ℕ) → IsSetOf m from code a
     → code < slice_index m.vars from → Narrows m (from + 1) codes b → IsBoth a b set
@@ -63,14 +64,14 @@ narrows_more m a b set codes from code of_code small later both =
       left = λ fixed rows long is.
           let first = narrowed m a fixed rows from code of_code (sym long) small is in
           let more = length_push fixed code in
-          filter_same (has_row set) (λ r. has_row a r && has_row b r) rows both
-          ∙ sym (filter_twice (has_row a) (has_row b) rows)
-          ∙ later.left (fixed ++ code ∷ []) (filter (has_row a) rows) (omega arith) first
+          filter_same (has_member set) (λ r. has_member a r && has_member b r) rows both
+          ∙ sym (filter_twice (has_member a) (has_member b) rows)
+          ∙ later.left (fixed ++ code ∷ []) (filter (has_member a) rows) (omega arith) first
           ∙ ap (rows_left m) (append_assoc fixed (code ∷ []) codes);
     }
 
 pub each_none : (m : Machine) (from : ℕ) (set : List ℕ) (sets : List (List ℕ))
-    → from ≡ length m.vars → ((r : ℕ) → has_row set r ≡ nat_lt r (length m.rows))
+    → from ≡ length m.vars → ((r : ℕ) → has_member set r ≡ nat_lt r (length m.rows))
     → sets ≡ set ∷ [] → EachNarrows m from (all_codes (drop from m.vars)) sets
 each_none m from set sets end all is =
     let lists : all_codes (drop from m.vars) ≡ [] ∷ [] =
@@ -161,7 +162,7 @@ both_pushed set later made x n j long each last k low =
 -- ---- the rows that are left for one list of codes
 pub record Left (m : Machine) (fixed rows set codes : List ℕ) : Type 0 where
   pub long : length (fixed ++ codes) ≡ length m.vars
-  pub left : filter (has_row set) rows ≡ rows_left m (fixed ++ codes)
+  pub left : filter (has_member set) rows ≡ rows_left m (fixed ++ codes)
 
 pub left_for : (m : Machine) (s rows set : List ℕ) (lists sets : List (List ℕ)) (from j : ℕ)
     → from < length m.vars → length s ≡ length m.vars → EachNarrows m from lists sets

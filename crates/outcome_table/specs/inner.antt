@@ -1,4 +1,3 @@
-pub mod Masks
 pub mod Needs
 pub mod Numbering
 pub mod RowSets

@@ -4,9 +4,8 @@ ghost use Rattle.outcome_table.specs.inner.Numbering.{AreCounts};
 ghost use Rattle.outcome_table.specs.inner.RowSets.{AreAllowed};
 ghost use Rattle.outcome_table.specs.inner.Tails.{AreTails};
 
-use crate::row_set::RowSet;
 use crate::tail::Tails;
-use polis_base::List;
+use polis_base::{List, WideSet};
 use transition_table::Machine;
 
 /// A machine, and what its rows are narrowed by.
@@ -14,7 +13,7 @@ use transition_table::Machine;
 pub(crate) struct Narrowing<'a> {
     pub(crate) machine: &'a Machine,
     /// For each variable and code the rows that allow the code.
-    pub(crate) allowed: &'a List<List<RowSet>>,
+    pub(crate) allowed: &'a List<List<WideSet>>,
     /// For each row whether its outcome is the same on all snapshots.
     pub(crate) fixed: &'a List<bool>,
     /// For each row how many variables from the first on it needs.

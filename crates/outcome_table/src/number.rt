@@ -1,27 +1,28 @@
 // Numbers for the outcomes of all snapshots.
 ghost use Rattle.std.specs.Prelude.{◌≡◌, ◌<◌, ◌≤◌, map, length, take, drop, replicate, ◌++◌, [], slice_get, IfOk, IfSome};
 ghost use Rattle.std.specs.List.{list_all};
+ghost use Rattle.polis_base.specs.Sets.{members_of};
 ghost use Rattle.domains.specs.AllCodes.{all_codes};
+ghost use Rattle.transition_table.specs.RowCodes.{AreRowCodes};
 ghost use Rattle.transition_table.specs.Transitions.{IsSnapshot};
 ghost use Rattle.outcome_table.specs.inner.Needs.{end_left};
 ghost use Rattle.outcome_table.specs.inner.Numbering.{Adds, AreCounts, AreRowOutcomes, BeginWithRows, IsNumberAfter, is_fixed, lists_after, rows_left};
 ghost use Rattle.outcome_table.specs.Outcomes.{named, are_named};
-ghost use Rattle.outcome_table.specs.inner.RowSets.{AreAllowed, rows_in};
+ghost use Rattle.outcome_table.specs.inner.RowSets.{AreAllowed};
 ghost use Rattle.outcome_table.specs.inner.Tails.{number_under};
 ghost use Rattle.transition_table.specs.Computed.{result_codes};
 
+use crate::allowing::allowed_table;
 use crate::column::lists_from;
-use crate::mask::allowed_table;
 use crate::narrowing::Narrowing;
 use crate::need::ends_of;
 use crate::outcomes::Outcomes;
 use crate::row::{are_codes, blank_codes, row_codes};
-use crate::row_set::{RowSet, both, first_of_both, first_rows};
 use crate::tail::tails_of;
 use domains::{Codes, first_codes};
-use polis_base::{List, NoMemory};
+use polis_base::{List, NoMemory, WideSet};
 use std::alloc::Global;
-use transition_table::{Machine, Snapshot};
+use transition_table::{Machine, RowCodes, Snapshot};
 
 /// Snapshots with their outcomes, each outcome under a number.
 #[derive(Drop)]
@@ -33,13 +34,13 @@ pub(crate) struct Numbered {
 }
 
 // How many variables a row needs, none where there is no row.
-fn end_left(narrowing: &Narrowing, first: Option<u64>) -> u64
+fn end_left(narrowing: &Narrowing, first: Option<u32>) -> u64
     requires { IfSome first (λ r. r < length narrowing.now.ends.now) }
     ensures end { result ≡ end_left narrowing.now.ends.now first }
     ensures within { result ≤ length narrowing.now.machine.now.vars }
 {
     match first {
-        Some(r) => *narrowing.ends.get(r),
+        Some(r) => *narrowing.ends.get(u64::from(r)),
         None => 0,
     }
 }
@@ -49,7 +50,7 @@ fn end_left(narrowing: &Narrowing, first: Option<u64>) -> u64
 #[inline(always)]
 fn number_after(
     narrowing: &Narrowing,
-    first: Option<u64>,
+    first: Option<u32>,
     at: u64,
     s: &Snapshot,
     outcomes: &mut Outcomes,
@@ -64,9 +65,10 @@ fn number_after(
     ensures number { IfOk result
         (IsNumberAfter narrowing.now.machine.now (take at s.now.codes) outcomes.new) }
 {
-    let Some(r) = first else {
+    let Some(found) = first else {
         return Ok(0);
     };
+    let r = u64::from(found);
     if *narrowing.fixed.get(r) {
         return Ok(1 + r);
     }
@@ -95,7 +97,7 @@ fn push_times(numbers: &mut Vec<u64>, number: u64, times: u64) -> Result<(), NoM
 #[inline(always)]
 fn number_all(
     narrowing: &Narrowing,
-    first: Option<u64>,
+    first: Option<u32>,
     at: u64,
     s: &Snapshot,
     made: &mut Numbered,
@@ -119,12 +121,12 @@ fn number_all(
 }
 
 // The number under which the outcome of a row stands, or of none.
-fn number_under(first: Option<u64>) -> u64
+fn number_under(first: Option<u32>) -> u64
     requires { IfSome first (λ r. r < 512) }
     ensures { result ≡ number_under first }
 {
     match first {
-        Some(r) => 1 + r,
+        Some(r) => 1 + u64::from(r),
         None => 0,
     }
 }
@@ -133,13 +135,13 @@ fn number_under(first: Option<u64>) -> u64
 // given the rows whose conditions on these hold.
 fn number_tails(
     narrowing: &Narrowing,
-    rows: &RowSet,
+    rows: &WideSet,
     s: &Snapshot,
     made: &mut Numbered,
 ) -> Result<(), NoMemory>
     requires from { narrowing.now.tails.now.from < length narrowing.now.machine.now.vars }
     requires snapshot { IsSnapshot narrowing.now.machine.now s.now }
-    requires rows { rows_in rows.now
+    requires rows { members_of rows.now
         ≡ rows_left narrowing.now.machine.now (take narrowing.now.tails.now.from s.now.codes) }
     requires begins { BeginWithRows narrowing.now.machine.now narrowing.now.fixed.now
         made.old.outcomes }
@@ -151,7 +153,7 @@ fn number_tails(
 {
     let sets = &narrowing.tails.sets;
     for j in 0..sets.len() {
-        let first = first_of_both(rows, sets.get(j));
+        let first = rows.first_of_both(sets.get(j));
         made.numbers.push(number_under(first))?;
     }
     Ok(())
@@ -162,14 +164,14 @@ fn number_tails(
 // variable, the others aren't looked for.
 fn number_rest(
     narrowing: &Narrowing,
-    rows: &RowSet,
+    rows: &WideSet,
     at: u64,
     s: &mut Snapshot,
     made: &mut Numbered,
 ) -> Result<(), NoMemory>
     requires at { at < length narrowing.now.machine.now.vars }
     requires snapshot { IsSnapshot narrowing.now.machine.now s.old }
-    requires rows { rows_in rows.now ≡ rows_left narrowing.now.machine.now (take at s.old.codes) }
+    requires rows { members_of rows.now ≡ rows_left narrowing.now.machine.now (take at s.old.codes) }
     requires begins { BeginWithRows narrowing.now.machine.now narrowing.now.fixed.now
         made.old.outcomes }
     requires within { are_named made.old.outcomes made.old.numbers.items }
@@ -187,12 +189,12 @@ fn number_rest(
     for code in 0..*narrowing.machine.vars.get(at) {
         s.codes.set(at, code);
         let allowed = sets.get(u64::from(code));
-        let first = first_of_both(rows, allowed);
+        let first = rows.first_of_both(allowed);
         if end_left(narrowing, first) <= at + 1 {
             number_all(narrowing, first, at + 1, s, made)?;
             continue;
         }
-        number_rest(narrowing, &both(rows, allowed), at + 1, s, made)?;
+        number_rest(narrowing, &rows.both(allowed), at + 1, s, made)?;
     }
     Ok(())
 }
@@ -200,19 +202,19 @@ fn number_rest(
 // Numbers the outcomes of all snapshots, given all rows.
 fn number_every(
     narrowing: &Narrowing,
-    rows: &RowSet,
+    rows: &WideSet,
     s: &mut Snapshot,
     made: &mut Numbered,
 ) -> Result<(), NoMemory>
     requires snapshot { IsSnapshot narrowing.now.machine.now s.old }
-    requires rows { rows_in rows.now ≡ rows_left narrowing.now.machine.now [] }
+    requires rows { members_of rows.now ≡ rows_left narrowing.now.machine.now [] }
     requires begins { BeginWithRows narrowing.now.machine.now narrowing.now.fixed.now
         made.old.outcomes }
     requires within { are_named made.old.outcomes made.old.numbers.items }
     ensures { IfOk result (λ done. Adds narrowing.now.machine.now made.old made.new
         (lists_after [] narrowing.now.machine.now.vars)) }
 {
-    let first = first_of_both(rows, rows);
+    let first = rows.first_of_both(rows);
     if end_left(narrowing, first) == 0 {
         number_all(narrowing, first, 0, s, made)?;
         return Ok(());
@@ -273,7 +275,7 @@ fn numbers_by(alloc: Global, narrowing: &Narrowing) -> Result<Numbered, NoMemory
         numbers: Vec::with_capacity(alloc, *narrowing.counts.get(0) as usize)?,
         outcomes: Outcomes::of(alloc, row_outcomes(alloc, m, &s)?),
     };
-    let rows = first_rows(m.rows.len());
+    let rows = WideSet::first(m.row_count());
     number_every(narrowing, &rows, &mut s, &mut made)?;
     Ok(made)
 }
@@ -283,7 +285,7 @@ fn numbers_by(alloc: Global, narrowing: &Narrowing) -> Result<Numbered, NoMemory
 fn numbers_with(
     alloc: Global,
     m: &Machine,
-    allowed: &List<List<RowSet>>,
+    allowed: &List<List<WideSet>>,
     fixed: &List<bool>,
     counts: &List<u64>,
 ) -> Result<Numbered, NoMemory>
@@ -308,13 +310,14 @@ fn numbers_with(
     Ok(made)
 }
 
-/// Numbers the outcomes of all snapshots, in their order.
-pub(crate) fn numbers_of(alloc: Global, m: &Machine) -> Result<Numbered, NoMemory>
+/// Numbers the outcomes of all snapshots, in their order, given the codes that the rows allow.
+pub(crate) fn numbers_of(alloc: Global, m: &Machine, codes: &RowCodes) -> Result<Numbered, NoMemory>
+    requires { AreRowCodes m.now codes.now }
     ensures results { IfOk result (λ made. named made.outcomes made.numbers.items
         ≡ map (result_codes m.now) (all_codes m.now.vars)) }
     ensures within { IfOk result (λ made. are_named made.outcomes made.numbers.items) }
 {
-    let allowed = allowed_table(alloc, m)?;
+    let allowed = allowed_table(alloc, m, codes)?;
     let fixed = fixed_rows(alloc, m)?;
     let counts = counts_of(alloc, m)?;
     let made = numbers_with(alloc, m, &allowed, &fixed, &counts)?;

@@ -1,5 +1,6 @@
 // The table of a machine's outcomes.
 ghost use Rattle.std.specs.Prelude.{IfOk};
+ghost use Rattle.transition_table.specs.RowCodes.{AreRowCodes};
 ghost use Rattle.outcome_table.specs.Outcomes.{AreResultsOf, IsTableOf};
 
 use crate::column::columns_of;
@@ -7,7 +8,7 @@ use crate::number::numbers_of;
 use domains::Codes;
 use polis_base::{List, NoMemory};
 use std::alloc::Global;
-use transition_table::Machine;
+use transition_table::{Machine, RowCodes};
 
 /// What a machine does on each of its snapshots, in their order, in which the last variable changes
 /// fastest.
@@ -31,16 +32,26 @@ pub struct Results {
     pub outcomes: List<Codes>,
 }
 
-/// The results of a machine: its rows are narrowed variable by variable, as far as the first row
-/// that is left needs, so that no row is tried on each snapshot.
-pub fn results_of(alloc: Global, m: &Machine) -> Result<Results, NoMemory>
+/// The results of a machine, by the codes that its rows allow: the rows are narrowed variable by
+/// variable, as far as the first row that is left needs, so that no row is tried on each snapshot.
+pub fn results_by(alloc: Global, m: &Machine, codes: &RowCodes) -> Result<Results, NoMemory>
+    requires { AreRowCodes m.now codes.now }
     ensures { IfOk result (AreResultsOf m.now) }
 {
-    let numbered = numbers_of(alloc, m)?;
+    let numbered = numbers_of(alloc, m, codes)?;
     Ok(Results {
         numbers: List::of(numbered.numbers),
         outcomes: numbered.outcomes.into_list(),
     })
+}
+
+/// The results of a machine.
+pub fn results_of(alloc: Global, m: &Machine) -> Result<Results, NoMemory>
+    ensures { IfOk result (AreResultsOf m.now) }
+{
+    let codes = RowCodes::new(alloc, m)?;
+    let results = results_by(alloc, m, &codes)?;
+    Ok(results)
 }
 
 /// The table of a machine, which is its results and the codes of its snapshots.

@@ -6,8 +6,7 @@ ghost use Rattle.outcome_table.specs.inner.Numbering.{AreCounts};
 ghost use Rattle.outcome_table.specs.inner.RowSets.{AreAllowed};
 ghost use Rattle.outcome_table.specs.inner.Tails.{AddsBoth, AreTails, EachNarrows};
 
-use crate::row_set::{RowSet, both, first_rows};
-use polis_base::{List, NoMemory};
+use polis_base::{List, NoMemory, WideSet};
 use std::alloc::Global;
 use transition_table::Machine;
 
@@ -20,15 +19,19 @@ pub(crate) struct Tails {
     /// The first of these variables. Where there are no sets it is the number of all variables.
     pub(crate) from: u64,
     /// The sets in the order of the lists.
-    pub(crate) sets: List<RowSet>,
+    pub(crate) sets: List<WideSet>,
 }
 
 // Puts the rows that are in one set and in each of others at the end.
-fn push_both(tails: &mut List<RowSet>, set: &RowSet, later: &List<RowSet>) -> Result<(), NoMemory>
+fn push_both(
+    tails: &mut List<WideSet>,
+    set: &WideSet,
+    later: &List<WideSet>,
+) -> Result<(), NoMemory>
     ensures { IfOk result (λ done. AddsBoth set.now later.now tails.old tails.new) }
 {
     for j in 0..later.len() {
-        tails.push(both(set, later.get(j)))?;
+        tails.push(set.both(later.get(j)))?;
     }
     Ok(())
 }
@@ -37,9 +40,9 @@ fn push_both(tails: &mut List<RowSet>, set: &RowSet, later: &List<RowSet>) -> Re
 fn sets_from(
     alloc: Global,
     machine: &Machine,
-    allowed: &List<List<RowSet>>,
+    allowed: &List<List<WideSet>>,
     from: u64,
-) -> Result<List<RowSet>, NoMemory>
+) -> Result<List<WideSet>, NoMemory>
     requires from { from ≤ length machine.now.vars }
     requires allowed { AreAllowed machine.now allowed.now }
     ensures { IfOk result
@@ -47,7 +50,7 @@ fn sets_from(
 {
     let mut made = List::new(alloc);
     if from == machine.vars.len() {
-        made.push(first_rows(machine.rows.len()))?;
+        made.push(WideSet::first(machine.row_count()))?;
         return Ok(made);
     }
     let later = sets_from(alloc, machine, allowed, from + 1)?;
@@ -87,7 +90,7 @@ fn first_of_few(machine: &Machine, counts: &List<u64>) -> u64
 pub(crate) fn tails_of(
     alloc: Global,
     machine: &Machine,
-    allowed: &List<List<RowSet>>,
+    allowed: &List<List<WideSet>>,
     fixed: &List<bool>,
     counts: &List<u64>,
 ) -> Result<Tails, NoMemory>

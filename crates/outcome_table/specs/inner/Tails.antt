@@ -3,7 +3,7 @@ use Rattle.std.specs.Prelude.{◌≡◌, ℕ, ◌+◌, ◌<◌, Bool, true, List
 use Rattle.domains.specs.AllCodes.{all_codes}
 use Rattle.transition_table.specs.declared.machine.Machine.{Machine}
 use Rattle.outcome_table.specs.inner.Numbering.{rows_left}
-use Rattle.outcome_table.specs.inner.RowSets.{IsBoth, has_row}
+use Rattle.polis_base.specs.Sets.{IsBoth, has_member}
 use Rattle.outcome_table.specs.declared.tail.Tails.{Tails}
 
 -- of the rows that are left for codes of the variables before this one, the set has those that are
@@ -11,7 +11,7 @@ use Rattle.outcome_table.specs.declared.tail.Tails.{Tails}
 pub record Narrows (m : Machine) (from : ℕ) (codes set : List ℕ) : Type 0 where
   pub long : from + length codes ≡ length m.vars
   pub left : (fixed rows : List ℕ) → length fixed ≡ from → rows ≡ rows_left m fixed
-      → filter (has_row set) rows ≡ rows_left m (fixed ++ codes)
+      → filter (has_member set) rows ≡ rows_left m (fixed ++ codes)
 
 -- one such set for each of these lists of codes
 pub record EachNarrows (m : Machine) (from : ℕ) (lists sets : List (List ℕ)) : Type 0 where

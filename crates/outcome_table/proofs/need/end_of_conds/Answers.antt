@@ -1,11 +1,13 @@
-use Rattle.std.proofs.Common.{◌+◌, length, arith}
+use Rattle.std.proofs.Common.{◌≡◌, ◌+◌, length, get_or, arith, ap, sym}
 use Rattle.transition_table.specs.declared.row.Cond.{Cond}
 use Rattle.outcome_table.proofs.Ends.{asks_next, asks_var, max_over, max_within}
 use Rattle.outcome_table.proofs.need.end_of_conds.Goals as goal
 
 pub loop-cond-preserved : goal.loop-cond-preserved
 loop-cond-preserved c =
-    let none : Cond = record { var = 0; codes = 0 } in
+    let none = c.cond-item.result in
+    let same : (get_or c.args.conds.now c.loop-cond.cond-index none).var ≡ none.var =
+    ap (λ (x : Cond). x.var) (sym c.cond-item.is) in
     let end = c.loop-cond.end in
     let var = asks_var c.args.machine.now.vars c.args.conds.now c.loop-cond.cond-index none
     c.loop-cond-test.true c.requires in

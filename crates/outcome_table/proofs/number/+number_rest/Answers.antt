@@ -7,7 +7,8 @@ use Rattle.polis_base.specs.Lists.{upto}
 use Rattle.domains.specs.Tables.{fits}
 use Rattle.transition_table.specs.declared.machine.Machine.{Machine}
 use Rattle.outcome_table.specs.inner.Numbering.{Adds, lists_after, rows_left}
-use Rattle.outcome_table.specs.inner.RowSets.{AreAllowed, AreSets, IsSetOf, has_row, rows_in}
+use Rattle.polis_base.specs.Sets.{has_member, members_of}
+use Rattle.outcome_table.specs.inner.RowSets.{AreAllowed, AreSets, IsSetOf}
 use Rattle.outcome_table.specs.declared.number.Numbered.{Numbered}
 use Rattle.outcome_table.proofs.NumberedOutcomes.{adds_on, begins_kept, lists_split, take_less}
 use Rattle.outcome_table.proofs.RowsLeft.{first_below, narrowed}
@@ -50,7 +51,7 @@ left_next : (m : Machine) (table : List (List (List ℕ))) (sets : List (List �
     (set s cur new rows : List ℕ) (at code size : ℕ) → Turn m s cur at code size
     → AreAllowed m table → slice_get table at ≡ Some sets → slice_get sets code ≡ Some set
     → rows ≡ rows_left m (take at s) → new ≡ slice_set cur at code
-    → filter (has_row set) rows ≡ rows_left m (take (at + 1) new)
+    → filter (has_member set) rows ≡ rows_left m (take (at + 1) new)
 left_next m table sets set s cur new rows at code size u all get own left is =
     let low = u.low in
     let long = u.long in
@@ -120,7 +121,7 @@ end_left-requires t c =
     c.loop-code.invariant.snapshot
     c.loop-code.invariant.kept c.get-code-end.ensures c.loop-code-test.true in
     let next = left_next m c.args.narrowing.now.allowed.now c.get-sets.result.now
-    c.get-allowed.result.now s c.loop-code.s.codes c.set.new.self (rows_in c.args.rows.now) at code
+    c.get-allowed.result.now s c.loop-code.s.codes c.set.new.self (members_of c.args.rows.now) at code
     c.get-code-end.result.now u c.args.narrowing.now.are_allowed c.get-sets.ensures
     (rw c.from.ensures at c.get-allowed.ensures) c.requires.rows c.set.ensures in
     let first : c.first_of_both-first.result
@@ -148,7 +149,7 @@ number_all-requires-clause-first t c =
     c.loop-code.invariant.snapshot
     c.loop-code.invariant.kept c.get-code-end.ensures c.loop-code-test.true in
     let next = left_next m c.args.narrowing.now.allowed.now c.get-sets.result.now
-    c.get-allowed.result.now s c.loop-code.s.codes c.set.new.self (rows_in c.args.rows.now) at code
+    c.get-allowed.result.now s c.loop-code.s.codes c.set.new.self (members_of c.args.rows.now) at code
     c.get-code-end.result.now u c.args.narrowing.now.are_allowed c.get-sets.ensures
     (rw c.from.ensures at c.get-allowed.ensures) c.requires.rows c.set.ensures in
     let first : c.first_of_both-first.result
@@ -192,11 +193,11 @@ number_rest-requires t c =
     c.loop-code.invariant.snapshot
     c.loop-code.invariant.kept c.get-code-end.ensures c.loop-code-test.true in
     let next = left_next m c.args.narrowing.now.allowed.now c.get-sets.result.now
-    c.get-allowed.result.now s c.loop-code.s.codes c.set.new.self (rows_in c.args.rows.now) at code
+    c.get-allowed.result.now s c.loop-code.s.codes c.set.new.self (members_of c.args.rows.now) at code
     c.get-code-end.result.now u c.args.narrowing.now.are_allowed c.get-sets.ensures
     (rw c.from.ensures at c.get-allowed.ensures) c.requires.rows c.set.ensures in
-    let left : rows_in c.both.result ≡ rows_left m (take (at + 1) c.set.new.self) =
-    c.both.ensures.rows ∙ next in
+    let left : members_of c.both.result ≡ rows_left m (take (at + 1) c.set.new.self) =
+    c.both.ensures.members ∙ next in
     let within = c.end_left.ensures.within in
     let more = c.if-end_left-at.false in
     let d = c.decreases in (

@@ -54,16 +54,16 @@ head m s ends at r first long low is are end some =
 pub get-requires : goal.get-requires
 get-requires c =
     let m = c.args.narrowing.now.machine.now in
-    let h = head m c.args.s.now.codes c.args.narrowing.now.ends.now c.args.at c.in-Some.r c.args.first
+    let h = head m c.args.s.now.codes c.args.narrowing.now.ends.now c.args.at c.from-r.result c.args.first
     (length_fits m.vars c.args.s.now.codes c.requires.snapshot) c.requires.at c.requires.first
-    c.args.narrowing.now.are_ends c.requires.end c.in-Some.is in
+    c.args.narrowing.now.are_ends c.requires.end (c.in-Some.is ∙ ap (λ (k : ℕ). Some k) (sym c.from-r.ensures)) in
     let inside = h.inside in
     let long = c.requires.begins.long in
     omega arith
 
 pub overflow_add-result : goal.overflow_add-result
 overflow_add-result c =
-    let inside = slice_get_within c.args.narrowing.now.fixed.now (c.in-Some.r)
+    let inside = slice_get_within c.args.narrowing.now.fixed.now (c.from-r.result)
     c.get.result.now c.get.ensures in
     let long = c.requires.begins.long in
     let few = few_rows c.args.narrowing.now.machine.now in
@@ -73,10 +73,10 @@ pub returns-then-get : goal.returns-then-get
 returns-then-get c =
     let m = c.args.narrowing.now.machine.now in
     let fixed = take c.args.at c.args.s.now.codes in
-    let r : ℕ = c.in-Some.r in
-    let h = head m c.args.s.now.codes c.args.narrowing.now.ends.now c.args.at c.in-Some.r c.args.first
+    let r : ℕ = c.from-r.result in
+    let h = head m c.args.s.now.codes c.args.narrowing.now.ends.now c.args.at c.from-r.result c.args.first
     (length_fits m.vars c.args.s.now.codes c.requires.snapshot) c.requires.at c.requires.first
-    c.args.narrowing.now.are_ends c.requires.end c.in-Some.is in
+    c.args.narrowing.now.are_ends c.requires.end (c.in-Some.is ∙ ap (λ (k : ℕ). Some k) (sym c.from-r.ensures)) in
     let inside = h.inside in
     let some = c.requires.begins.some in
     let on : slice_get c.args.narrowing.now.fixed.now r ≡ Some true =
@@ -93,14 +93,14 @@ returns-then-get c =
 
 pub get-row-requires : goal.get-row-requires
 get-row-requires c =
-    let inside = slice_get_within c.args.narrowing.now.fixed.now (c.in-Some.r)
+    let inside = slice_get_within c.args.narrowing.now.fixed.now (c.from-r.result)
     c.get.result.now c.get.ensures in
     let long = c.requires.begins.long in
     omega arith
 
 pub add-requires-clause-row : goal.add-requires-clause-row
 add-requires-clause-row c =
-    row_fits c.args.narrowing.now.machine.now (c.in-Some.r) c.get-row.result.now
+    row_fits c.args.narrowing.now.machine.now (c.from-r.result) c.get-row.result.now
     c.get-row.ensures
 
 pub returns : goal.returns
@@ -108,10 +108,10 @@ returns c =
     let m = c.args.narrowing.now.machine.now in
     let s = c.args.s.now.codes in
     let fixed = take c.args.at s in
-    let r : ℕ = c.in-Some.r in
-    let h = head m s c.args.narrowing.now.ends.now c.args.at c.in-Some.r c.args.first
+    let r : ℕ = c.from-r.result in
+    let h = head m s c.args.narrowing.now.ends.now c.args.at c.from-r.result c.args.first
     (length_fits m.vars s c.requires.snapshot) c.requires.at c.requires.first
-    c.args.narrowing.now.are_ends c.requires.end c.in-Some.is in
+    c.args.narrowing.now.are_ends c.requires.end (c.in-Some.is ∙ ap (λ (k : ℕ). Some k) (sym c.from-r.ensures)) in
     let there = h.at in
     let same : c.get-row.result.now ≡ h.first.row = let a = there in let b = c.get-row.ensures in
     cc in

@@ -2,22 +2,22 @@ use Rattle.std.proofs.Common.{◌∙◌, ◌++◌, List, ℕ, map, arith, ap, []
 use Rattle.transition_table.specs.Computed.{result_codes}
 use Rattle.outcome_table.specs.inner.Numbering.{lists_after}
 use Rattle.outcome_table.specs.Outcomes.{named}
-use Rattle.outcome_table.specs.inner.RowSets.{rows_in}
+use Rattle.polis_base.specs.Sets.{members_of}
 use Rattle.outcome_table.proofs.NumberedOutcomes.{lists_all}
 use Rattle.outcome_table.proofs.Rows.{few_rows}
 use Rattle.outcome_table.proofs.BeginWithRows.{all_rows, begin}
 use Rattle.outcome_table.proofs.number.numbers_by.Goals as goal
 
-pub first_rows-rows-requires : goal.first_rows-rows-requires
-first_rows-rows-requires c =
+pub first-rows-requires : goal.first-rows-requires
+first-rows-requires c =
     let few = few_rows c.args.narrowing.now.machine.now in
-    let long = c.len.ensures in
+    let long = c.row_count.ensures.count in
     omega arith
 
 pub number_every-requires-clause-rows : goal.number_every-requires-clause-rows
 number_every-requires-clause-rows c =
-    all_rows c.args.narrowing.now.machine.now (rows_in c.first_rows-rows.result) c.len.result c.first_rows-rows.ensures.rows
-    c.len.ensures
+    all_rows c.args.narrowing.now.machine.now (members_of c.first-rows.result) c.row_count.result c.first-rows.ensures.members
+    c.row_count.ensures.count
 
 pub number_every-requires-clause-begins : goal.number_every-requires-clause-begins
 number_every-requires-clause-begins c =

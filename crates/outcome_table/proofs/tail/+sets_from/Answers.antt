@@ -13,10 +13,10 @@ pub returns-then-from-len : goal.returns-then-from-len
 returns-then-from-len t c =
     let m = c.args.machine.now in
     let end : c.args.from ≡ length m.vars = c.if-from-len.true ∙ c.len.ensures.len in
-    each_none m c.args.from c.first_rows.result c.push.new.self end
-    (λ r. c.first_rows.ensures.each r ∙ ap (nat_lt r) c.len-then-from-len.ensures)
+    each_none m c.args.from c.first.result c.push.new.self end
+    (λ r. c.first.ensures.each r ∙ ap (nat_lt r) c.row_count.ensures.count)
     (c.in_ok-push.ensures.ok
-    ∙ ap (λ (xs : List (List ℕ)). xs ++ c.first_rows.result ∷ []) c.new-made.ensures)
+    ∙ ap (λ (xs : List (List ℕ)). xs ++ c.first.result ∷ []) c.new-made.ensures)
 
 -- the sets of a variable
 sets_at : (m : Machine) (table : List (List (List ℕ))) (sets : List (List ℕ)) (from : ℕ)

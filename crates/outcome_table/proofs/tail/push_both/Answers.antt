@@ -1,7 +1,7 @@
 use Rattle.std.proofs.Common.{◌∙◌, ◌+◌, [], ℕ, List, length, take, get_or, arith, ap, sym, subst}
 use Rattle.std.proofs.lemmas.List.{length_push}
 use Rattle.std.proofs.lemmas.Option.{get_or_from_slice_get}
-use Rattle.outcome_table.specs.inner.RowSets.{IsBoth}
+use Rattle.polis_base.specs.Sets.{IsBoth}
 use Rattle.outcome_table.proofs.Tails.{both_pushed, take_first}
 use Rattle.outcome_table.proofs.tail.push_both.Goals as goal
 

@@ -1,5 +1,5 @@
 use Rattle.std.proofs.Common.{◌≡◌, ◌+◌, ◌<◌, ℕ, [], length, take, get_or}
-use Rattle.outcome_table.specs.inner.RowSets.{IsBoth}
+use Rattle.polis_base.specs.Sets.{IsBoth}
 use Rattle.outcome_table.proofs.tail.push_both.Given as goal
 
 -- those with the sets before this one

@@ -1,15 +1,15 @@
 use Rattle.std.proofs.Common.{◌∙◌, [], ℕ, List, get_or, length, arith, ap, sym, subst}
 use Rattle.std.proofs.lemmas.List.{length_push}
-use Rattle.std.proofs.lemmas.Option.{get_or_from_slice_get, slice_get_within}
+use Rattle.std.proofs.lemmas.Option.{get_or_from_slice_get}
 use Rattle.outcome_table.specs.inner.RowSets.{IsSetOf}
 use Rattle.transition_table.proofs.CodeSets.{size_of_var}
 use Rattle.outcome_table.proofs.RowSets.{pushed}
-use Rattle.outcome_table.proofs.mask.sets_of.Goals as goal
+use Rattle.outcome_table.proofs.allowing.sets_of.Goals as goal
 
 pub rows_with-requires-clause-code : goal.rows_with-requires-clause-code
 rows_with-requires-clause-code c =
     let size = size_of_var c.args.machine.now c.args.var c.get-code-end.result.now
-    (rw c.from.ensures at c.get-code-end.ensures) c.requires in
+    (rw c.from.ensures at c.get-code-end.ensures) c.requires.var in
     let low = c.loop-code-test.true in
     omega arith
 
@@ -21,14 +21,8 @@ loop-code-preserved c =
     let made : List ℕ = c.rows_with.result in
     let code : ℕ = c.loop-code.code in
     let ok = c.in_ok-push.ensures.ok in
-    let masks = c.in_ok-masks.ensures in
     let long = c.loop-code.invariant.long in
-    let own : IsSetOf m var code made = record {
-      each = λ r row at.
-          let inside = slice_get_within m.rows r row at in
-          let whole = masks.long in
-          c.rows_with.ensures r (omega arith) ∙ masks.each r row at code;
-    } in
+    let own : IsSetOf m var code made = c.rows_with.ensures in
     record {
       long = ap (λ (xs : List (List ℕ)). length xs) ok ∙ length_push old made
           ∙ (let e = long in omega arith);

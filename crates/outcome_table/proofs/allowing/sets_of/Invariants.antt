@@ -1,6 +1,6 @@
 use Rattle.std.proofs.Common.{◌≡◌, ◌<◌, ℕ, [], length, get_or}
 use Rattle.outcome_table.specs.inner.RowSets.{IsSetOf}
-use Rattle.outcome_table.proofs.mask.sets_of.Given as goal
+use Rattle.outcome_table.proofs.allowing.sets_of.Given as goal
 
 -- the codes before this one
 abbrev pub invariant-loop-code : goal.invariant-loop-code

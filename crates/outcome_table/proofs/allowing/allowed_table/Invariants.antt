@@ -1,6 +1,6 @@
 use Rattle.std.proofs.Common.{◌≡◌, ◌<◌, ℕ, [], length, get_or}
 use Rattle.outcome_table.specs.inner.RowSets.{AreSets}
-use Rattle.outcome_table.proofs.mask.allowed_table.Given as goal
+use Rattle.outcome_table.proofs.allowing.allowed_table.Given as goal
 
 -- the variables before this one
 abbrev pub invariant-loop-var : goal.invariant-loop-var

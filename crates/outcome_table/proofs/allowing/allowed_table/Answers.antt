@@ -3,7 +3,7 @@ use Rattle.std.proofs.lemmas.Bool.{cases_lt}
 use Rattle.std.proofs.lemmas.List.{get_or_append_left}
 use Rattle.transition_table.specs.declared.machine.Machine.{Machine}
 use Rattle.outcome_table.specs.inner.RowSets.{AreSets}
-use Rattle.outcome_table.proofs.mask.allowed_table.Goals as goal
+use Rattle.outcome_table.proofs.allowing.allowed_table.Goals as goal
 
 at_end : (xs : List (List (List ℕ))) (x : List (List ℕ)) → get_or (xs ++ x ∷ []) (length xs) [] ≡ x
 at_end [] x = refl
@@ -26,8 +26,8 @@ one_more m xs new x n each last long made k low =
     (subst (λ (i : ℕ). AreSets m i x) (sym here) last))
     (cases_lt k n))
 
-pub sets_of-requires : goal.sets_of-requires
-sets_of-requires c =
+pub sets_of-requires-clause-var : goal.sets_of-requires-clause-var
+sets_of-requires-clause-var c =
     subst (λ (n : ℕ). c.loop-var.var < n) c.len-var-end.ensures.len c.loop-var-test.true
 
 pub loop-var-init : goal.loop-var-init

@@ -16,7 +16,7 @@ use crate::order::Order;
 use domains::{Codes, VarTable};
 use indexmap::IndexSet;
 use polis_base::index::{Index, empty_index, enter, find};
-use polis_base::{Duplicate, NoMemory};
+use polis_base::{Duplicate, NoMemory, SmallSet};
 use std::alloc::Global;
 use std::marker::Model;
 
@@ -72,7 +72,7 @@ fn only_kid(kids: &[NodeId]) -> Option<NodeId>
 }
 
 // The children of a node that is true where the code is in a set.
-fn literal_kids(alloc: Global, size: u8, codes: u64) -> Result<Vec<NodeId>, NoMemory>
+fn literal_kids(alloc: Global, size: u8, codes: SmallSet) -> Result<Vec<NodeId>, NoMemory>
     requires { size ≤ 64 }
     ensures length { IfOk result (λ kids. length kids.items ≡ size) }
     ensures kids { IfOk result (λ kids. (code : ℕ) → code < size
@@ -80,7 +80,7 @@ fn literal_kids(alloc: Global, size: u8, codes: u64) -> Result<Vec<NodeId>, NoMe
 {
     let mut kids = Vec::with_capacity(alloc, usize::from(size))?;
     for code in 0..size {
-        kids.push(NodeId::constant((codes >> code) % 2 == 1))?;
+        kids.push(NodeId::constant(codes.has(u32::from(code))))?;
     }
     Ok(kids)
 }
@@ -232,9 +232,8 @@ impl Store {
         Ok(node)
     }
 
-    /// The node that is true where the code of a variable is in a set, whose bit `c` stands for
-    /// code `c`.
-    pub fn literal(&mut self, var: u32, codes: u64) -> Result<NodeId, NoMemory>
+    /// The node that is true where the code of a variable is in a set.
+    pub fn literal(&mut self, var: u32, codes: SmallSet) -> Result<NodeId, NoMemory>
         requires var { var < length self.old.sizes }
         requires codes { codes < 2 ^ slice_index self.old.sizes var }
         ensures kept { Keeps self.old self.new }

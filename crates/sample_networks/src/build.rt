@@ -9,7 +9,7 @@ ghost use Rattle.transition_table.specs.samples.Parts.{has_codes, gives as gives
 ghost use Rattle.sample_networks.specs.inner.Built.{IsBuilt};
 
 use domains::VarTable;
-use polis_base::{List, Name, NoMemory};
+use polis_base::{List, Name, NoMemory, SmallSet};
 use std::alloc::Global;
 use transition_table::{
     Act, Cond, EventDecl, Machine, Party, Row, RowList, Source, StateDecl, StateList,
@@ -54,7 +54,10 @@ pub fn pure_event(
 pub const fn on(var: u32, codes: u64) -> Cond
     ensures { result ≡ has_codes var codes }
 {
-    Cond { var, codes }
+    Cond {
+        var,
+        codes: SmallSet::of_bits(codes),
+    }
 }
 
 /// An action that gives a result this code.

@@ -13,7 +13,7 @@ use char_function::{characteristic, supports};
 use decision_diagram::{NodeId, Order, Root, Store};
 use domains::Codes;
 use order_sift::{Sifted, sift};
-use polis_base::NoMemory;
+use polis_base::{NoMemory, SmallSet};
 use sample_networks::lamp::deterministic_machine;
 use sgraph::{Graph, build, evaluate};
 use sgraph_opt::{drop_defaults, share};
@@ -66,10 +66,10 @@ fn literal(store: &mut Store, item: u32, codes: u64) -> Result<NodeId, NoMemory>
     ensures { OnOk result (store.new.sizes ≡ sizes_of the_lamp) }
 {
     if item == 3 && codes < 8 {
-        return store.literal(3, codes);
+        return store.literal(3, SmallSet::of_bits(codes));
     }
     if item < 5 && codes < 4 {
-        return store.literal(item, codes);
+        return store.literal(item, SmallSet::of_bits(codes));
     }
     Err(NoMemory)
 }

@@ -1,8 +1,6 @@
 -- Codes that conditions allow.
-use Rattle.std.proofs.Common.{◌≡◌, ◌∙◌, ◌<◌, ◌≤◌, ◌≢◌, ℕ, zero, suc, ◌-◌, true, not, ◌&&◌, ◌==◌, nat_le, List, [], ◌∷◌, ◌++◌, map, length, slice_get, Option, Some, None, is_some, unwrap_or, refl, ap, sym, true≢false, subst, arith, lit<, w64}
+use Rattle.std.proofs.Common.{◌≡◌, ◌∙◌, ◌<◌, ◌≤◌, ℕ, zero, suc, Bool, true, false, not, ◌&&◌, ◌||◌, ◌==◌, nat_lt, nat_le, List, [], ◌∷◌, ◌++◌, map, length, slice_get, Option, Some, None, is_some, unwrap_or, refl, ap, sym, true≢false, subst, arith}
 use Rattle.std.specs.Int.{bit_at}
-use Rattle.std.proofs.Math.Dec.{eqb-suc-zero}
-use Rattle.std.proofs.lemmas.Nat.Bits.{bit_at_not, bit_at-pow_other}
 use Rattle.std.proofs.lemmas.List.{length-map, length-append}
 use Rattle.domains.specs.Tables.{are_sizes}
 use Rattle.net_reader.specs.declared.raw.Word.{Word}
@@ -14,23 +12,23 @@ use Rattle.net_names.proofs.NumberIn.{number_below}
 use Rattle.net_names.specs.Scopes.{domain_words, state_words, event_codes, state_codes, var_sizes}
 use Rattle.net_rules.specs.inner.Sound.{Each}
 use Rattle.net_rules.proofs.AreActions.{first_known, rest_known}
-use Rattle.std.proofs.lemmas.Bool.{leb-true}
-use Rattle.polis_base.proofs.Bools.{and_first, and_second}
+use Rattle.std.proofs.lemmas.Bool.{leb-true, lt-ltb}
+use Rattle.polis_base.proofs.Bools.{and_first, and_second, or_none}
+use Rattle.polis_base.proofs.SmallSets.{no_bits}
 use Rattle.polis_base.proofs.Places.{some_is}
 
-only_first : (k : ℕ) → suc k ≢ 0
-only_first k e = absurd (omega (arith, e))
+-- a set and one code alone, and all but one
+pub only_zero : (none k : ℕ) → none ≡ 0 → (k == 0 || bit_at none k == 1) ≡ (k == 0)
+only_zero none k is = ap (λ b. k == 0 || b) (no_bits none k is) ∙ or_none (k == 0)
 
-pub only_zero : (k : ℕ) → (bit_at 1 k == 1) ≡ (k == 0)
-only_zero zero = refl
-only_zero (suc k) = ap (λ x. x == 1) (bit_at-pow_other 0 (suc k) (only_first k))
-    ∙ sym (eqb-suc-zero k)
-
-pub all_but_zero : (k : ℕ) → k < 64 → (bit_at 18446744073709551614 k == 1) ≡ not (k == 0)
-all_but_zero zero h = refl
-all_but_zero (suc k) h =
-    ap (λ x. x == 1) (bit_at_not w64 1 (suc k) (lit< tt) h
-    ∙ ap (λ x. 1 - x) (bit_at-pow_other 0 (suc k) (only_first k))) ∙ sym (ap not (eqb-suc-zero k))
+pub all_but_zero : (first k : ℕ) → k < 64 → ((j : ℕ) → (bit_at first j == 1) ≡ nat_lt j 64)
+    → (not (k == 0) && bit_at first k == 1) ≡ not (k == 0)
+all_but_zero first k low all =
+    ap (λ b. not (k == 0) && b) (all k ∙ lt-ltb k 64 low) ∙ same (not (k == 0))
+  where
+    same : (b : Bool) → (b && true) ≡ b
+    same true = refl
+    same false = refl
 
 pub size_few : (sizes : List ℕ) (i size : ℕ) → are_sizes sizes ≡ true
     → slice_get sizes i ≡ Some size → size ≤ 33

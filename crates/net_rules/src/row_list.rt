@@ -13,11 +13,11 @@ ghost use Rattle.net_names.specs.Scopes.{event_domain, state_words, cond_word, v
 ghost use Rattle.net_rules.specs.Networks.{value_number, value_code, allows, cond_of, act_of, source_in, emission_source, IsRowOf};
 ghost use Rattle.net_rules.specs.inner.Sound.{Each, IsSound, IsSoundMachine, IsSoundRow, amount_of};
 
-use crate::codes::{below, value_or_zero, with_code};
+use crate::codes::value_or_zero;
 use domains::VarTable;
 use net_names::{MachineNames, Scope, Var, cond_name, cond_word, var_numbered};
 use net_reader::{RawAct, RawCond, RawRow, RawShape, RawSource, RawValue, Word};
-use polis_base::{List, Name, NoMemory};
+use polis_base::{List, Name, NoMemory, SmallSet};
 use std::alloc::Global;
 use transition_table::{Act, ActList, Cond, CondList, Row, RowList, Source};
 
@@ -50,16 +50,16 @@ fn shape_number(shape: Option<&RawShape>, value: &RawValue) -> u64
 }
 
 // The codes of the values, the first value's code being `first`.
-fn value_codes(shape: Option<&RawShape>, first: u64, values: &[RawValue]) -> u64
+fn value_codes(shape: Option<&RawShape>, first: u64, values: &[RawValue]) -> SmallSet
     requires count { IfSome (option_copied shape) (λ s. count_of s ≤ DOMAIN_SIZE_MAX) }
     requires first { first ≤ 1 }
     ensures { (c : ℕ) → (bit_at result c == 1)
         ≡ list_any (λ v. c == first + unwrap_or
         (option_and_then (λ s. value_in s v) (option_copied shape.entry)) 0) values.now }
 {
-    let mut codes = 0;
+    let mut codes = SmallSet::empty();
     for value in values {
-        codes = with_code(codes, first + shape_number(shape, value));
+        codes = codes.with((first + shape_number(shape, value)) as u32);
     }
     codes
 }
@@ -73,7 +73,7 @@ fn first_code(var: &Var) -> u64
 }
 
 // The codes of the values of a variable of this name.
-fn named_codes(names: &MachineNames, name: Name, var: &Var, values: &[RawValue]) -> u64
+fn named_codes(names: &MachineNames, name: Name, var: &Var, values: &[RawValue]) -> SmallSet
     requires sound { IsSound names.now.scope.now.raw.now }
     requires var { IsVar names.now.scope.now.raw.now names.now.machine.now name var.now }
     ensures { (c : ℕ) → (bit_at result c == 1)
@@ -95,7 +95,7 @@ fn named_code(names: &MachineNames, name: Name, var: &Var, value: &RawValue) -> 
 }
 
 // The codes that a condition on this variable allows.
-fn allowed(names: &MachineNames, var: &Var, cond: &RawCond) -> u64
+fn allowed(names: &MachineNames, var: &Var, cond: &RawCond) -> SmallSet
     requires sound { IsSound names.now.scope.now.raw.now }
     requires var { IsVar names.now.scope.now.raw.now names.now.machine.now (cond_word cond.now).name
         var.now }
@@ -103,9 +103,11 @@ fn allowed(names: &MachineNames, var: &Var, cond: &RawCond) -> u64
         ≡ allows names.now.scope.now.raw.now names.now.machine.now cond.now c }
 {
     match cond {
-        RawCond::Present(_) => !1,
-        RawCond::Absent(_) => 1,
-        RawCond::Is { name, value } => with_code(0, named_code(names, name.name, var, value)),
+        RawCond::Present(_) => SmallSet::first(64).without(0),
+        RawCond::Absent(_) => SmallSet::empty().with(0),
+        RawCond::Is { name, value } => {
+            SmallSet::empty().with(named_code(names, name.name, var, value) as u32)
+        }
         RawCond::OneOf { name, values } => { named_codes(names, name.name, var, values.as_slice()) }
     }
 }
@@ -131,10 +133,10 @@ fn cond_of<'s, 'a>(
     ensures { result ≡ cond_of names.now.scope.now.raw.now names.now.machine.now cond.now }
 {
     let var = var_numbered(names, known, cond_word(cond).name, var_number);
-    let size = u64::from(*vars.get(var_number));
+    let size = u32::from(*vars.get(var_number));
     Cond {
         var: var_number as u32,
-        codes: below(allowed(names, var, cond), size),
+        codes: allowed(names, var, cond).both(SmallSet::first(size)),
     }
 }
 

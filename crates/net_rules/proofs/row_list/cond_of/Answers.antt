@@ -7,6 +7,7 @@ use Rattle.net_names.specs.Numbers.{names_of, number_in}
 use Rattle.net_names.specs.Vars.{IsVar}
 use Rattle.net_rules.proofs.AreActions.{in_range, has_it}
 use Rattle.net_rules.proofs.AllowedCodes.{vars_count, size_few}
+use Rattle.net_rules.proofs.BitsWhere.{cut}
 use Rattle.net_rules.proofs.MachineFacts.{sizes_fit, vars_short}
 use Rattle.net_rules.proofs.row_list.cond_of.Goals as goal
 
@@ -38,8 +39,8 @@ overflow_cast-result c =
       vars_count raw m,
     )
 
-pub below-requires : goal.below-requires
-below-requires c =
+pub first-requires : goal.first-requires
+first-requires c =
     let raw = c.args.names.now.scope.now.raw.now in
     let m = c.args.names.now.machine.now in
     omega (
@@ -59,12 +60,15 @@ returns c =
     let few = size_few (var_sizes raw m) c.args.var_number c.get.result.now
     (sizes_fit raw m c.requires.sound c.requires.kept)
     (ap (λ l. slice_get l c.args.var_number) (sym c.requires.vars) ∙ c.get.ensures) in
-    let size = c.from-size.ensures ∙ sym
+    let size = c.from-size.result in
+    let from = c.from-size.ensures in
+    let is_size = c.from-size.ensures ∙ sym
     (get_or_from_slice_get c.args.vars.now c.args.var_number c.get.result.now 0
     c.get.ensures) ∙ (λ i. slice_index (c.requires.vars i) (is i)) in
-    let codes = c.below.ensures (allows raw m q)
-    (λ k h. c.allowed.ensures k (omega (arith, h, few, c.from-size.ensures)))
-    ∙ ap (bits_where (allows raw m q)) size in
+    let codes =
+    cut c.allowed.result c.first.result size c.both.result (allows raw m q)
+    (omega (arith, few, from)) c.allowed.ensures c.first.ensures c.both.ensures
+    ∙ ap (bits_where (allows raw m q)) is_size in
     λ i. record { var = is i; codes = codes i }
 
 pub var_numbered-var-requires-clause-number : goal.var_numbered-var-requires-clause-number

@@ -1,12 +1,10 @@
--- Sets of order_length as bits, and what is known of them.
-use Rattle.std.proofs.Common.{◌≡◌, ◌⊎◌, ⊎_elim, ◌+◌, ◌*◌, ◌^◌, ◌%◌, ◌<◌, ◌≤◌, ◌==◌, ◌||◌, ℕ, zero, suc, max, bit_or, Bool, false, List, [], ◌∷◌, ◌++◌, length, slice_get, slice_index, Some, take, refl, arith, sym, ◌∙◌, ap, subst, inl, inr}
+-- Sets of items, and what is known of them.
+use Rattle.std.proofs.Common.{◌≡◌, ◌⊎◌, ⊎_elim, ◌+◌, ◌<◌, ◌≤◌, ◌==◌, ◌||◌, ℕ, zero, suc, Bool, true, false, List, [], ◌∷◌, ◌++◌, length, slice_get, slice_index, Some, take, refl, arith, sym, ◌∙◌, ap, subst, inl, inr}
 use Rattle.std.specs.List.{remove}
 use Rattle.std.specs.Int.{bit_at}
 use Rattle.std.proofs.lemmas.Bool.{cases_eq, eq-eqb, ne_eqb}
-use Rattle.std.proofs.lemmas.Nat.Bits.{bit_at_or, bit_at-lt, bit_at-pow_same, bit_at-pow_other, bit_at-zero}
 use Rattle.std.proofs.lemmas.Option.{slice_get_within, get_or_from_slice_get}
-use Rattle.std.proofs.Math.Nat.{mod-eq_of_lt}
-use Rattle.std.proofs.Math.Pow.{pow-lt}
+use Rattle.polis_base.proofs.SmallSets.{no_bits}
 use Rattle.transition_table.specs.declared.machine.Machine.{Machine}
 use Rattle.transition_table.specs.Computed.{char}
 use Rattle.transition_table.specs.Orders.{Allowed, sizes_of}
@@ -18,43 +16,30 @@ use Rattle.order_sift.specs.declared.sets.KnownNumbers.{KnownNumbers}
 use Rattle.order_sift.proofs.MovedLevels.{same_classes, stands_more, take_low}
 use Rattle.transition_table.proofs.MachineCounts.{order_length}
 
--- ---- bits
-most_of_bits : (x y : ℕ) → x < 2 → y < 2 → (max x y == 1) ≡ (x == 1 || y == 1)
-most_of_bits zero zero a b = refl
-most_of_bits zero (suc zero) a b = refl
-most_of_bits (suc zero) zero a b = refl
-most_of_bits (suc zero) (suc zero) a b = refl
-most_of_bits (suc (suc x)) y a b = absurd (omega arith)
-most_of_bits zero (suc (suc y)) a b = absurd (omega arith)
-most_of_bits (suc zero) (suc (suc y)) a b = absurd (omega arith)
+-- ---- members
+or_turned : (a b : Bool) → (a || b) ≡ (b || a)
+or_turned true true = refl
+or_turned true false = refl
+or_turned false true = refl
+or_turned false false = refl
 
-one_bit : (k w : ℕ) → (bit_at (2 ^ k) w == 1) ≡ (k == w)
-one_bit k w =
-    ⊎_elim
-    (λ e. ap (λ n. bit_at (2 ^ k) n == 1) (sym e) ∙ ap (λ n. n == 1) (bit_at-pow_same k)
-    ∙ sym (eq-eqb k w e))
-    (λ apart. ap (λ n. n == 1) (bit_at-pow_other k w (λ e. apart (sym e)))
-    ∙ sym (ne_eqb k w apart))
-    (cases_eq k w)
+same_turned : (a b : ℕ) → (a == b) ≡ (b == a)
+same_turned a b =
+    ⊎_elim (λ e. eq-eqb a b e ∙ sym (eq-eqb b a (sym e)))
+    (λ apart. ne_eqb a b apart ∙ sym (ne_eqb b a (λ e. apart (sym e))))
+    (cases_eq a b)
 
--- one more item is in a set of 64 bits
-pub one_more : (set item w : ℕ) → item < 64
-    → in_set (bit_or set (1 * 2 ^ item % 18446744073709551616)) w ≡ fixed_too (in_set set) item w
-one_more set item w low =
-    let small : 2 ^ item < 2 ^ 64 = pow-lt {i = item} {j = 64} low in
-    let own : 1 * 2 ^ item ≡ 2 ^ item = omega arith in
-    let fits : 1 * 2 ^ item % 18446744073709551616 ≡ 2 ^ item =
-    ap (λ n. n % 18446744073709551616) own ∙ mod-eq_of_lt small in
-    ap (λ n. bit_at (bit_or set n) w == 1) fits
-    ∙ ap (λ n. n == 1) (bit_at_or set (2 ^ item) w)
-    ∙ most_of_bits (bit_at set w) (bit_at (2 ^ item) w) (bit_at-lt set w)
-    (bit_at-lt (2 ^ item) w)
-    ∙ ap (λ b. in_set set w || b) (one_bit item w)
+-- one more item
+pub one_more : (set new item : ℕ)
+    → ((w : ℕ) → (bit_at new w == 1) ≡ (w == item || bit_at set w == 1)) → (w : ℕ)
+    → in_set new w ≡ fixed_too (in_set set) item w
+one_more set new item is w =
+    is w ∙ or_turned (w == item) (in_set set w) ∙ ap (λ b. in_set set w || b) (same_turned w item)
 
 pub in_none : (w : ℕ) → in_set 0 w ≡ false
-in_none w = ap (λ n. n == 1) (bit_at-zero w)
+in_none w = no_bits 0 w refl
 
--- order_length have bits
+-- each item is below 64
 pub small_items : (m : Machine) (o : List ℕ) → Allowed m o
     → length m.vars + length m.results ≤ 49 → (k : ℕ) → k < length o → slice_index o k < 64
 small_items m o allowed few k low =
@@ -62,7 +47,7 @@ small_items m o allowed few k low =
     let b = allowed.permutation.below k low in
     omega arith
 
--- ---- sets with the same order_length
+-- ---- sets with the same items
 pub same_too : (m : Machine) (one other : ℕ → Bool) (x : ℕ) (classes : List ℕ)
     → ((w : ℕ) → one w ≡ other w) → AreClasses m (fixed_too one x) classes
     → AreClasses m (fixed_too other x) classes
@@ -76,7 +61,7 @@ pub same_level : (m : Machine) (one other : ℕ → Bool) (x level : ℕ)
 same_level m one other x level same is =
     is ∙ ap (λ (set : ℕ → Bool). set_level (char m) (sizes_of m) set x) (λ i w. same w i)
 
--- the first order_length, without the item at place i and with it
+-- the first items, without the item at place i and with it
 pub set_before : (o : List ℕ) (set i j : ℕ) → ((w : ℕ) → in_set set w ≡ stands (take j o) w)
     → j ≤ i → (w : ℕ) → in_set set w ≡ stands (take j (remove o i)) w
 set_before o set i j is low w =

@@ -1,4 +1,4 @@
--- Sets of order_length that stand before a place.
+-- Sets of items that stand before a place.
 use Rattle.std.proofs.Common.{◌≡◌, ℕ, zero, suc, ◌+◌, ◌<◌, ◌≤◌, Bool, true, false, ◌||◌, eqb, List, ◌∷◌, length, take, slice_index, refl, ap, sym, ◌∙◌, arith, []}
 use Rattle.std.specs.List.{insert}
 use Rattle.std.proofs.lemmas.Bool.{false_from_ne_true}

@@ -10,7 +10,7 @@ use crate::chain::Chain;
 use crate::law::laws_of_levels;
 use crate::places::PlaceRange;
 use crate::points::Points;
-use crate::sets::{Freed, Known, first_items, freed_after, level_after, with};
+use crate::sets::{Freed, Known, first_items, freed_after, level_after};
 use decision_diagram::Order;
 use polis_base::{List, NoMemory, Numbers};
 use std::alloc::Global;
@@ -60,7 +60,7 @@ fn fill_before(
         let j = i - 1 - t;
         let next = *moving.order.get(j);
         let before = first_items(moving.order, j);
-        let set = with(before, item);
+        let set = before.with(item);
         let Freed { numbers, level } = freed_after(
             machine, points, seen, known, set, &with_item, next,
         )?;
@@ -114,7 +114,7 @@ fn fill_after(
         let here = level_after(machine, points, known, set, &without_item, next)?;
         front += here;
         let with_item = moving.chain.classes.get(items - 1 - j);
-        let more = with(set, next);
+        let more = set.with(next);
         set = more;
         let Freed { numbers, level } = freed_after(
             machine, points, seen, known, set, with_item, item,

@@ -14,7 +14,7 @@ ghost use Rattle.order_sift.specs.inner.Known.{in_set, AreKnown};
 
 use crate::points::{Points, freed, level_of};
 use decision_diagram::Order;
-use polis_base::{List, NoMemory, Numbers};
+use polis_base::{List, NoMemory, Numbers, SmallSet};
 use std::alloc::Global;
 use transition_table::Machine;
 
@@ -24,16 +24,14 @@ const KEPT: u64 = 256;
 /// Numbers for what is left where the items of a set are fixed.
 #[derive(Drop)]
 pub(crate) struct KnownNumbers {
-    /// The set, one bit for each item.
-    pub(crate) set: u64,
+    pub(crate) set: SmallSet,
     pub(crate) numbers: Numbers,
 }
 
 /// The level of an item after those of a set.
 #[derive(Clone, Copy, Drop)]
 pub(crate) struct KnownLevel {
-    /// The set, one bit for each item.
-    pub(crate) set: u64,
+    pub(crate) set: SmallSet,
     pub(crate) item: u32,
     pub(crate) level: u64,
 }
@@ -67,29 +65,21 @@ pub(crate) fn nothing_known(alloc: Global, m: &Machine) -> Known
     }
 }
 
-/// A set with one more item.
-pub(crate) fn with(set: u64, item: u32) -> u64
-    requires { item < 64 }
-    ensures { (w : ℕ) → in_set result w ≡ fixed_too (in_set set) item w }
-{
-    set | 1 << item
-}
-
 /// The set of an order's first items.
-pub(crate) fn first_items(order: &Order, count: u64) -> u64
+pub(crate) fn first_items(order: &Order, count: u64) -> SmallSet
     requires count { count ≤ length order.now }
     requires small { (k : ℕ) → k < length order.now → slice_index order.now k < 64 }
     ensures { (w : ℕ) → in_set result w ≡ stands (take count order.now) w }
 {
-    let mut set = 0;
+    let mut set = SmallSet::empty();
     for k in 0..count {
-        set = with(set, *order.get(k));
+        set = set.with(*order.get(k));
     }
     set
 }
 
 // The place of the numbers of a set, or the number of places.
-fn place_of_numbers(numbers: &List<KnownNumbers>, set: u64) -> u64
+fn place_of_numbers(numbers: &List<KnownNumbers>, set: SmallSet) -> u64
     ensures { (one : KnownNumbers) → slice_get numbers.now result ≡ Some one → one.set ≡ set }
 {
     for k in 0..numbers.len() {
@@ -101,7 +91,7 @@ fn place_of_numbers(numbers: &List<KnownNumbers>, set: u64) -> u64
 }
 
 // The place of the level of an item after a set, or the number of places.
-fn place_of_level(levels: &List<KnownLevel>, set: u64, item: u32) -> u64
+fn place_of_level(levels: &List<KnownLevel>, set: SmallSet, item: u32) -> u64
     ensures set { (one : KnownLevel) → slice_get levels.now result ≡ Some one → one.set ≡ set }
     ensures item { (one : KnownLevel) → slice_get levels.now result ≡ Some one → one.item ≡ item }
 {
@@ -122,7 +112,7 @@ fn numbers_of(
     points: &Points,
     seen: &mut [u16],
     known: &mut Known,
-    set: u64,
+    set: SmallSet,
     classes: &Numbers,
     item: u32,
 ) -> Result<Numbers, NoMemory>
@@ -157,7 +147,7 @@ pub(crate) fn level_after(
     m: &Machine,
     points: &Points,
     known: &mut Known,
-    set: u64,
+    set: SmallSet,
     classes: &Numbers,
     item: u32,
 ) -> Result<u64, NoMemory>
@@ -190,7 +180,7 @@ pub(crate) fn freed_after(
     points: &Points,
     seen: &mut [u16],
     known: &mut Known,
-    set: u64,
+    set: SmallSet,
     classes: &Numbers,
     item: u32,
 ) -> Result<Freed, NoMemory>

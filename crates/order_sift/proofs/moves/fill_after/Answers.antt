@@ -17,7 +17,7 @@ use Rattle.order_sift.specs.inner.Settings.{IsRange}
 use Rattle.order_sift.proofs.ChainPlaces.{IsItemOf, item_of}
 use Rattle.order_sift.proofs.ChainSteps.{Follows, sizes_set, front_low, after_free, after_more, after_next, steps_after, start_without}
 use Rattle.order_sift.proofs.PairKeys.{room_kept}
-use Rattle.order_sift.proofs.ItemSets.{same_level, same_too, small_items}
+use Rattle.order_sift.proofs.ItemSets.{one_more, same_level, same_too, small_items}
 use Rattle.order_sift.proofs.MovedLevels.{front_of, same_classes, same_next, take_low}
 use Rattle.order_sift.proofs.moves.fill_after.Goals.{After-get-next, After-len-items, In-loop-j}
 use Rattle.order_sift.proofs.moves.fill_after.Goals as goal
@@ -283,7 +283,8 @@ loop-j-preserved c =
     let freer = c.in_ok-numbers.field-0.numbers in
     let bare = stands (take j (remove o i)) in
     let same : (w : ℕ) → in_set c.with-more.result w ≡ bare w =
-    h.same c.with-more.result c.with-more.ensures in
+    h.same c.with-more.result
+    (one_more c.loop-j.set c.with-more.result next c.with-more.ensures) in
     let made = same_classes m (in_set c.with-more.result) bare freer same
     c.in_ok-numbers.ensures.numbers in
     let level = same_level m (in_set c.loop-j.set) (stands (take (j - 1) (remove o i))) next here
@@ -381,7 +382,8 @@ freed_after-requires-clause-next c =
     let h = here (goal.at.freed_after-requires-clause-next c).After-get-next in
     same_next m (stands (take c.loop-j.j (remove o c.args.i))) (in_set c.with-more.result)
     (slice_index o c.args.i) c.get-item.result.now
-    (λ w. sym (h.same c.with-more.result c.with-more.ensures w)) h.item_is h.follows.next
+    (λ w. sym (h.same c.with-more.result
+    (one_more c.loop-j.set c.with-more.result c.get-next.result.now c.with-more.ensures) w)) h.item_is h.follows.next
 
 pub freed_after-requires-clause-classes : goal.freed_after-requires-clause-classes
 freed_after-requires-clause-classes c =
@@ -398,7 +400,8 @@ freed_after-requires-clause-classes c =
     ∙ get_or_from_slice_get chain.classes (c.len-items.result - 1 - j) old []
     c.get-with_item.ensures in
     same_too m bare (in_set c.with-more.result) item old
-    (λ w. sym (h.same c.with-more.result c.with-more.ensures w))
+    (λ w. sym (h.same c.with-more.result
+    (one_more c.loop-j.set c.with-more.result c.get-next.result.now c.with-more.ensures) w))
     (subst (λ (x : ℕ). AreClasses m (fixed_too bare x) old) h.item_is
     (subst (AreClasses m (fixed_too bare (slice_index o i))) got h.follows.too))
 

@@ -17,7 +17,7 @@ use Rattle.order_sift.specs.inner.Settings.{IsRange}
 use Rattle.order_sift.proofs.ChainPlaces.{IsItemOf, IsTurn, item_of, turn_of}
 use Rattle.order_sift.proofs.ChainSteps.{sizes_set, front_low, before_next, own_free, own_classes, steps_before, start_with, back_high}
 use Rattle.order_sift.proofs.PairKeys.{room_kept}
-use Rattle.order_sift.proofs.ItemSets.{set_before, set_with, same_level, same_too, small_items}
+use Rattle.order_sift.proofs.ItemSets.{one_more, set_before, set_with, same_level, same_too, small_items}
 use Rattle.order_sift.proofs.MovedLevels.{back_of, same_classes, same_next, rest_long}
 use Rattle.order_sift.proofs.moves.fill_before.Goals.{After-len-items, After-with-set, In-loop-t}
 use Rattle.order_sift.proofs.moves.fill_before.Goals as goal
@@ -96,7 +96,10 @@ here c =
     moving.chain c.laws_of_levels.ensures.sizes c.args.i c.args.first c.loop-t.t
     c.first_items-before.result c.with-set.result c.get-item.result.now c.get-next.result.now
     c.loop-t.with_item c.requires.range c.loop-t-test.true c.get-item.ensures c.get-next.ensures
-    c.first_items-before.ensures c.with-set.ensures c.loop-t.invariant.classes
+    c.first_items-before.ensures
+    (one_more c.first_items-before.result c.with-set.result c.get-item.result.now
+    c.with-set.ensures)
+    c.loop-t.invariant.classes
 
 -- the item's own place, and the place of this turn
 own_here : (c : After-len-items) (listed : ℕ) → listed ≡ length c.args.moving.now.order.now + 1

@@ -2,7 +2,7 @@ use Rattle.std.proofs.Common.{◌≡◌, ◌∙◌, ◌<◌, ◌||◌, ◌==◌,
 use Rattle.std.proofs.lemmas.List.{take_more}
 use Rattle.std.proofs.lemmas.Option.{get_or_from_slice_get}
 use Rattle.decision_diagram.specs.Sets.{stands}
-use Rattle.order_sift.proofs.ItemSets.{in_none}
+use Rattle.order_sift.proofs.ItemSets.{in_none, one_more}
 use Rattle.order_sift.proofs.MovedLevels.{stands_more}
 use Rattle.order_sift.proofs.sets.first_items.Goals as goal
 
@@ -17,7 +17,8 @@ loop-k-preserved c w =
     omega arith in
     let item = c.get.result.now in
     let is = get_or_from_slice_get o k item 0 c.get.ensures in
-    c.with-set.ensures w ∙ ap (λ b. b || item == w) (c.loop-k.invariant w)
+    one_more c.loop-k.set c.with-set.result item c.with-set.ensures w
+    ∙ ap (λ b. b || item == w) (c.loop-k.invariant w)
     ∙ ap (λ (x : ℕ). stands (take k o) w || x == w) (sym is)
     ∙ sym (stands_more (take k o) (slice_index o k) w)
     ∙ ap (λ (xs : List ℕ). stands xs w) (sym (take_more o k 0 low))

@@ -16,7 +16,7 @@ use Rattle.net_reader.specs.Sentences.{HasNet, BreaksAt, Stops}
 use Rattle.net_rules.specs.NetOf.{NetOf}
 use Rattle.journals.specs.declared.entry.Entry.{Entry}
 use Rattle.journal_text.specs.Reading.{read_of}
-use Rattle.input_files.specs.Accepted.{AreBefore, Declares}
+use Rattle.input_files.specs.Accepted.{Accepted, AreBefore, Declares}
 use Rattle.input_files.specs.Inputs.{HoldsText, HoldsNet, HoldsDeclared}
 use Rattle.input_files.specs.JournalFiles.{HoldsJournal}
 use Rattle.polis_base.proofs.WhereTold.{told_from}
@@ -87,12 +87,13 @@ declared_net files name raw net h = record {
   accepted = ((raw, h.declares.has, h.declares.is_net), h.declares.deterministic);
 }
 
-pub net_held : (o : Option Files) (name : List ℕ) (raw : RawNet) (net : Network)
-    → WhereTold o (λ files. HoldsDeclared files name raw net)
+-- the same where nothing else is kept of the text
+pub net_held : (o : Option Files) (name text : List ℕ) (net : Network)
+    → WhereTold o (λ files. HoldsText files TEXT_MAX name text) → Accepted text net
     → WhereTold o (λ files. HoldsNet files name net)
-net_held o name raw net held =
-    told_from o (λ files. HoldsDeclared files name raw net) (λ files. HoldsNet files name net)
-    (λ files h. declared_net files name raw net h) held
+net_held o name text net held accepted =
+    told_from o (λ files. HoldsText files TEXT_MAX name text) _
+    (λ files h. record { text = text; holds = h; accepted = accepted }) held
 
 -- a journal text of the network is held under the name, and read
 pub journal_held : (o : Option Files) (net : Network) (name text : List ℕ) (journal : List Entry)

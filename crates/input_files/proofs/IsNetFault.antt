@@ -2,11 +2,15 @@
 use Rattle.std.proofs.Common.{◌≡◌, inr, ℕ, true, List, Option, Some, slice_get, IsTrue, refl, ap, subst, sym}
 use Rattle.polis_base.specs.declared.limits.TheConstants.{TEXT_MAX}
 use Rattle.polis_base.specs.Host.{Files, WhereTold}
-use Rattle.net_reader.specs.Sentences.{HasNet}
+use Rattle.net_reader.specs.Sentences.{HasNet, HasOnly}
 use Rattle.net_reader.specs.declared.raw.RawNet.{RawNet}
 use Rattle.transition_table.specs.declared.machine.Machine.{Machine}
 use Rattle.transition_table.specs.declared.network.Network.{Network}
+use Rattle.rule_judge.specs.Judged.{Breaks}
 use Rattle.net_rules.specs.NetOf.{NetOf}
+use Rattle.net_rules.specs.Resolved.{IsFaultOf}
+use Rattle.net_rules.specs.declared.resolving.ResolveFault.{ResolveFault}
+use Rattle.net_rules.specs.declared.resolving.ResolveFault.TheVariants as resolving
 use Rattle.polis_words.specs.declared.cause.Cause.{Cause}
 use Rattle.polis_words.specs.declared.cause.Cause.TheVariants.{Lex, Syntax, Rule, Conflict}
 use Rattle.polis_words.specs.declared.status.Status.TheVariants.{Refused}
@@ -17,7 +21,7 @@ use Rattle.input_files.specs.Accepted.{AreBefore, IsFirstConflict}
 use Rattle.input_files.specs.Inputs.{HoldsText, IsNetFault, NetFails}
 use Rattle.input_files.specs.Failures.{is_failure}
 use Rattle.input_files.specs.inner.Accepted.{IsMachineFault, IsConflictFault}
-use Rattle.input_files.specs.Faults.{IfCause}
+use Rattle.input_files.specs.Faults.{IfCause, refusal_of}
 use Rattle.polis_base.proofs.WhereTold.{told_from}
 
 -- a fault for another reason
@@ -25,6 +29,17 @@ pub fault_from : (fault : FileFault) (P Q : Cause → Type 0) → ((cause : Caus
     → IfCause fault P → IfCause fault Q
 fault_from (faults.Cause cause) P Q f h = f cause h
 fault_from faults.NoMemory P Q f h = tt
+
+-- declarations that break a rule
+pub rule_fault : (text : List ℕ) (raw : RawNet) (fault : ResolveFault) → HasOnly text raw
+    → IsFaultOf raw fault → IfCause (refusal_of fault) (IsNetFault text)
+rule_fault text raw (resolving.Rule rule place) declares breaks = (
+  raw,
+  declares.has,
+  λ other has. subst (λ (net : RawNet). Breaks net rule place) (sym (declares.only other has))
+      breaks,
+)
+rule_fault text raw resolving.NoMemory declares breaks = tt
 
 -- the first machine with a conflict
 pub first_fault : (raw : RawNet) (net : Network) (place : ℕ) (machine : Machine) (cause : Cause)

@@ -84,7 +84,7 @@ left_loaded {host = host} {old = old} {new = new} answer failed left same = reco
 }
 
 -- the failure isn't that of a load, where the cause isn't
-unread_is : (name : List ℕ) (cause : Cause) (explanation : Result (List ℕ) NoMemory)
+pub unread_is : (name : List ℕ) (cause : Cause) (explanation : Result (List ℕ) NoMemory)
     (failure : Failure) → IsFailureOf name cause explanation failure
     → is_read_fault cause ≡ false → is_unread failure ≡ false
 unread_is name cause (Ok more) failures.NoMemory is read = refl
@@ -92,13 +92,18 @@ unread_is name cause (Ok more) (failures.File file why shown) (f, w, s) read = r
 unread_is name cause (Err ran_out) failures.NoMemory is read = refl
 unread_is name cause (Err ran_out) (failures.File file why shown) is read = absurd is
 
+pub left_read : {S : Type 0} {host : Ghosts S} {old new : S} (failure : Failure)
+    → is_unread failure ≡ false → LeftByLoads host false old new
+    → LeftByLoads host (is_unread failure) old new
+left_read {host = host} {old = old} {new = new} failure read left =
+    subst (λ (b : Bool). LeftByLoads host b old new) (sym read) left
+
 pub left_refused : {S : Type 0} {host : Ghosts S} {old new : S} (name : List ℕ) (cause : Cause)
     (explanation : Result (List ℕ) NoMemory) (failure : Failure)
     → IsFailureOf name cause explanation failure → is_read_fault cause ≡ false
     → LeftByLoads host false old new → LeftByLoads host (is_unread failure) old new
-left_refused {host = host} {old = old} {new = new} name cause explanation failure is read left =
-    subst (λ (b : Bool). LeftByLoads host b old new)
-    (sym (unread_is name cause explanation failure is read)) left
+left_refused name cause explanation failure is read left =
+    left_read failure (unread_is name cause explanation failure is read) left
 
 -- and where a load failed it is
 unread_so : (name more : List ℕ) (failure : Failure) → IsFailureOf name Unread (Ok more) failure

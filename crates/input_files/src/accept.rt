@@ -1,9 +1,9 @@
 // The network of a text that is accepted.
-ghost use Rattle.std.specs.Prelude.{◌≡◌, IfOk, IfErr, OnOk, IsTrue};
+ghost use Rattle.std.specs.Prelude.{◌≡◌, IfOk, IfErr, IfSome, OnOk, IsTrue};
 ghost use Rattle.transition_table.specs.NetworkFacts.{has_vars};
 ghost use Rattle.transition_table.specs.Transitions.{IsDeterministic, AreDeterministic};
 ghost use Rattle.transition_table.specs.declared.network.Network.{Network};
-ghost use Rattle.net_reader.specs.Sentences.{HasNet};
+ghost use Rattle.net_reader.specs.Sentences.{HasNet, HasOnly};
 ghost use Rattle.net_rules.specs.NetOf.{IsNetOf, NetOf};
 ghost use Rattle.net_rules.specs.Whole.{HasMachines};
 ghost use Rattle.polis_words.specs.Lines.{cause_status};
@@ -12,11 +12,11 @@ ghost use Rattle.input_files.specs.Accepted.{Accepted, Declares, IsConflictIn};
 ghost use Rattle.input_files.specs.Inputs.{IsNetFault};
 ghost use Rattle.input_files.specs.Places.{StandThere, condition_place, row_place};
 ghost use Rattle.input_files.specs.inner.Accepted.{IsMachineFault, IsConflictFault};
-ghost use Rattle.input_files.specs.Faults.{IfCause};
+ghost use Rattle.input_files.specs.Faults.{IfCause, refusal_of};
 
 use determinism::{CheckFault, check};
 use net_reader::{NetFault, RawCond, RawNet, read_network};
-use net_rules::{ResolveFault, resolve};
+use net_rules::{ResolveFault, resolve, resolve_whole};
 use polis_base::{LexError, NoMemory};
 use polis_words::{Cause, Conflict, LexKind, Status, print_snapshot};
 use std::alloc::Global;
@@ -158,7 +158,30 @@ fn check_machines(alloc: Global, raw: &RawNet, net: &Network) -> Result<(), File
     Ok(())
 }
 
-// The network that a text declares.
+// What a text declares.
+fn declarations_in(alloc: Global, text: &[u8]) -> Result<RawNet, FileFault>
+    ensures ok { IfOk result (λ raw. HasOnly text.now raw) }
+    ensures failed { IfErr result (λ fault. IfCause fault (IsNetFault text.now)) }
+{
+    match read_network(alloc, text) {
+        Ok(raw) => Ok(raw),
+        Err(NetFault::Lex(error)) => Err(FileFault::from(error)),
+        Err(NetFault::Syntax(place)) => Err(FileFault::Cause(Cause::Syntax { place })),
+        Err(NetFault::NoMemory) => Err(FileFault::NoMemory),
+    }
+}
+
+// Why declarations give no network.
+fn refusal_of(fault: ResolveFault) -> FileFault
+    ensures { result ≡ refusal_of fault }
+{
+    match fault {
+        ResolveFault::Rule { rule, place } => FileFault::Cause(Cause::Rule { rule, place }),
+        ResolveFault::NoMemory => FileFault::NoMemory,
+    }
+}
+
+// The network that a text declares, and what it declares.
 fn declared_in(alloc: Global, text: &[u8]) -> Result<DeclaredNet, FileFault>
     ensures ok { IfOk result (λ declared.
         HasNet text.now declared.raw × IsNetOf declared.raw declared.net) }
@@ -166,18 +189,29 @@ fn declared_in(alloc: Global, text: &[u8]) -> Result<DeclaredNet, FileFault>
         (λ declared. (other : Network) → NetOf text.now other → other ≡ declared.net) }
     ensures failed { IfErr result (λ fault. IfCause fault (IsNetFault text.now)) }
 {
-    let raw = match read_network(alloc, text) {
+    let raw = match declarations_in(alloc, text) {
         Ok(raw) => raw,
-        Err(NetFault::Lex(error)) => return Err(FileFault::from(error)),
-        Err(NetFault::Syntax(place)) => return Err(FileFault::Cause(Cause::Syntax { place })),
-        Err(NetFault::NoMemory) => return Err(FileFault::NoMemory),
+        Err(fault) => return Err(fault),
     };
     match resolve(alloc, &raw) {
         Ok(net) => Ok(DeclaredNet { raw, net }),
-        Err(ResolveFault::Rule { rule, place }) => {
-            Err(FileFault::Cause(Cause::Rule { rule, place }))
-        }
-        Err(ResolveFault::NoMemory) => Err(FileFault::NoMemory),
+        Err(fault) => Err(refusal_of(fault)),
+    }
+}
+
+// The network that a text declares. What it declares goes while the network is made.
+fn net_in(alloc: Global, text: &[u8]) -> Result<Network, FileFault>
+    ensures ok { IfOk result (λ net. NetOf text.now net) }
+    ensures one { IfOk result (λ net. (other : Network) → NetOf text.now other → other ≡ net) }
+    ensures failed { IfErr result (λ fault. IfCause fault (IsNetFault text.now)) }
+{
+    let raw = match declarations_in(alloc, text) {
+        Ok(raw) => raw,
+        Err(fault) => return Err(fault),
+    };
+    match resolve_whole(alloc, raw) {
+        Ok(net) => Ok(net),
+        Err(fault) => Err(refusal_of(fault)),
     }
 }
 
@@ -201,7 +235,41 @@ pub fn declared_network_in(alloc: Global, text: &[u8]) -> Result<DeclaredNet, Fi
     }
 }
 
-/// The network of a text, each machine of which is deterministic.
+// Whether each machine is deterministic.
+fn are_deterministic(alloc: Global, net: &Network) -> Result<bool, FileFault>
+    ensures ok { IfOk result (λ all. IsTrue all → AreDeterministic net.now) }
+    ensures failed { IfErr result (λ fault. fault ≡ FileFault.NoMemory) }
+{
+    for m in 0..net.machines.len() {
+        match check(alloc, net.machines.get(m)) {
+            Ok(()) => {}
+            Err(CheckFault::Conflict { .. }) => return Ok(false),
+            Err(CheckFault::NoMemory) => return Err(FileFault::NoMemory),
+        }
+    }
+    Ok(true)
+}
+
+// The network of a text, or none where rows of a machine conflict.
+fn unless_conflict(alloc: Global, text: &[u8]) -> Result<Option<Network>, FileFault>
+    ensures ok { IfOk result (λ found. IfSome found (λ net. Accepted text.now net)) }
+    ensures one { IfOk result (λ found. IfSome found
+        (λ net. (other : Network) → NetOf text.now other → other ≡ net)) }
+    ensures failed { IfErr result (λ fault. IfCause fault (IsNetFault text.now)) }
+{
+    let net = match net_in(alloc, text) {
+        Ok(net) => net,
+        Err(fault) => return Err(fault),
+    };
+    let all = match are_deterministic(alloc, &net) {
+        Ok(all) => all,
+        Err(fault) => return Err(fault),
+    };
+    if all { Ok(Some(net)) } else { Ok(None) }
+}
+
+/// The network of a text, each machine of which is deterministic. Where rows conflict, the text is
+/// read once more for their places.
 pub fn network_in(alloc: Global, text: &[u8]) -> Result<Network, FileFault>
     ensures ok { IfOk result (λ net. Accepted text.now net) }
     ensures one { IfOk result (λ net. (other : Network) → NetOf text.now other → other ≡ net) }
@@ -210,8 +278,12 @@ pub fn network_in(alloc: Global, text: &[u8]) -> Result<Network, FileFault>
     ensures refused { IfErr result (λ fault. IfCause fault
         (λ cause. cause_status cause ≡ Status.Refused)) }
 {
-    match declared_network_in(alloc, text) {
-        Ok(DeclaredNet { net, .. }) => Ok(net),
+    match unless_conflict(alloc, text) {
+        Ok(Some(net)) => Ok(net),
+        Ok(None) => match declared_network_in(alloc, text) {
+            Ok(DeclaredNet { net, .. }) => Ok(net),
+            Err(fault) => Err(fault),
+        },
         Err(fault) => Err(fault),
     }
 }

@@ -1,7 +1,7 @@
 // Loading the files that a command line names.
-ghost use Rattle.std.specs.Prelude.{◌≡◌, ◌≤◌, List, length, Ok, IfOk, IfErr, IfSome};
+ghost use Rattle.std.specs.Prelude.{◌≡◌, ◌≤◌, false, List, length, Option, Ok, IfOk, IfErr, IfSome};
 ghost use Rattle.polis_base.specs.declared.limits.TheConstants.{ENTRIES_MAX, LONG_FILE_MAX, TEXT_MAX};
-ghost use Rattle.polis_base.specs.Host.{WhereTold};
+ghost use Rattle.polis_base.specs.Host.{Files, WhereTold};
 ghost use Rattle.journals.specs.Journals.{IsTrace, IsJournal};
 ghost use Rattle.journals.specs.declared.entry.TraceItem.{TraceItem};
 ghost use Rattle.journal_text.specs.Reading.{read_of};
@@ -9,13 +9,14 @@ ghost use Rattle.journal_text.specs.Texts.{AreStamps};
 ghost use Rattle.transition_table.specs.Transitions.{AreDeterministic};
 ghost use Rattle.net_rules.specs.Whole.{HasMachines};
 ghost use Rattle.transition_table.specs.declared.network.Network.{Network};
-ghost use Rattle.input_files.specs.Inputs.{HoldsText, HoldsNet, HoldsDeclared, HoldsTrace, LoadFails, NetFails, TraceFails};
+ghost use Rattle.polis_words.specs.Lines.{cause_status};
+ghost use Rattle.input_files.specs.Inputs.{HoldsText, HoldsNet, HoldsDeclared, HoldsTrace, IsNetFault, LoadFails, NetFails, TraceFails};
 ghost use Rattle.input_files.specs.JournalFiles.{JournalFails};
 ghost use Rattle.input_files.specs.Details.{IsFailureOf, explains_in};
-ghost use Rattle.input_files.specs.Loads.{LeftByLoads, fails_unread};
+ghost use Rattle.input_files.specs.Loads.{LeftByLoads, fails_unread, is_unread};
 ghost use Rattle.input_files.specs.Failures.{FileExplained};
 
-use crate::accept::{DeclaredNet, FileFault, declared_network_in};
+use crate::accept::{DeclaredNet, FileFault, declared_network_in, network_in};
 use crate::explanation::{
     explain_absent, explain_journal_line, explain_long, explain_net, explain_trace_line,
 };
@@ -23,7 +24,7 @@ use journal_text::{JournalFault, ReadJournal, read_journal};
 use journals::Trace;
 use polis_base::limits::{LONG_FILE_MAX, TEXT_MAX};
 use polis_base::{Bytes, Host, Load, NoMemory};
-use polis_words::{Cause, Failure};
+use polis_words::{Cause, Failure, Status};
 use std::alloc::Global;
 use trace_text::{TraceFault, read_trace};
 use transition_table::Network;
@@ -97,6 +98,29 @@ pub fn load_text<'a, H: Host>(
     }
 }
 
+// The failure of a network file whose text isn't accepted for this cause.
+fn refuse_net<'a>(
+    alloc: Global,
+    name: &'a str,
+    text: &Bytes,
+    cause: Cause,
+    detail: Detail,
+) -> Failure<'a>
+    requires fault { IsNetFault text.now cause }
+    requires refused { cause_status cause ≡ Status.Refused }
+    ensures failed { (told : Option Files)
+        → WhereTold told (λ files. HoldsText files TEXT_MAX name.now text.now)
+        → FileExplained name.now told (λ files. NetFails files name.now)
+        (explains_in detail TEXT_MAX) result }
+    ensures read { is_unread result ≡ false }
+{
+    let explanation = match detail {
+        Detail::Cause => Ok(Bytes::new(alloc)),
+        Detail::Explained => explain_net(alloc, name, text.as_slice(), &cause),
+    };
+    failure_of(name, cause, explanation)
+}
+
 /// Loads and reads a network text, and keeps what it declares.
 pub fn load_declared<'a, H: Host>(
     alloc: Global,
@@ -122,13 +146,7 @@ pub fn load_declared<'a, H: Host>(
     };
     match declared_network_in(alloc, text.as_slice()) {
         Ok(declared) => Ok(declared),
-        Err(FileFault::Cause(cause)) => {
-            let explanation = match detail {
-                Detail::Cause => Ok(Bytes::new(alloc)),
-                Detail::Explained => explain_net(alloc, name, text.as_slice(), &cause),
-            };
-            Err(failure_of(name, cause, explanation))
-        }
+        Err(FileFault::Cause(cause)) => Err(refuse_net(alloc, name, &text, cause, detail)),
         Err(FileFault::NoMemory) => Err(Failure::NoMemory),
     }
 }
@@ -152,9 +170,14 @@ pub fn load_net<'a, H: Host>(
         (explains_in detail TEXT_MAX) failure) }
     ensures left { LeftByLoads ⟦<H as Host>⟧ (fails_unread result) host.old host.new }
 {
-    match load_declared(alloc, host, name, detail) {
-        Ok(DeclaredNet { net, .. }) => Ok(net),
-        Err(failure) => Err(failure),
+    let text = match load_text(alloc, host, name, TEXT_MAX, detail) {
+        Ok(text) => text,
+        Err(failure) => return Err(failure),
+    };
+    match network_in(alloc, text.as_slice()) {
+        Ok(net) => Ok(net),
+        Err(FileFault::Cause(cause)) => Err(refuse_net(alloc, name, &text, cause, detail)),
+        Err(FileFault::NoMemory) => Err(Failure::NoMemory),
     }
 }
 

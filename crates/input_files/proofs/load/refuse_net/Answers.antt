@@ -24,7 +24,7 @@ returns-clause-failed c = λ o held.
           cause_explained detail TEXT_MAX o name cause explanation w.explain_net-explanation.result
           w.in-Explained.is w.explanation-is
           (text_explained o TEXT_MAX name text cause w.explain_net-explanation.result held
-          (rw w.as_slice-in-Explained.ensures at w.explain_net-explanation.ensures))
+          (rw w.as_slice.ensures at w.explain_net-explanation.ensures))
     ])
 
 pub returns-clause-read : goal.returns-clause-read

@@ -10,7 +10,8 @@ use Rattle.journals.specs.declared.entry.Pick.{Pick}
 use Rattle.journals.specs.declared.entry.Pick.TheVariants.{Stop}
 use Rattle.run_shuffle.specs.Moves.{machines_of}
 use Rattle.run_shuffle.specs.Shuffles.{move_at}
-use Rattle.run_shuffle.specs.inner.Ways.{Gives, IsSetOf, machines_in}
+use Rattle.run_shuffle.specs.inner.Ways.{Gives, IsSetOf}
+use Rattle.polis_base.specs.Sets.{members}
 use Rattle.run_shuffle.proofs.MembersOfSets.{members_are, no_members}
 
 -- a function gives nothing of what is left out
@@ -77,7 +78,7 @@ gives_none net f =
     }
 
 pub gives_one : (net : Network) (f : ℕ → Option Pick) (set m : ℕ) (move : Pick)
-    → m < length net.machines → machines_in set ≡ m ∷ [] → f m ≡ Some move
+    → m < length net.machines → members set ≡ m ∷ [] → f m ≡ Some move
     → Gives net f set (move ∷ [])
 gives_one net f set m move below only is =
     record {
@@ -94,9 +95,9 @@ gives_one net f set m move below only is =
 
 -- there are as many as members
 pub gives_many : (net : Network) (f : ℕ → Option Pick) (set : ℕ) (moves : List Pick)
-    → Gives net f set moves → length (machines_in set) ≡ length moves
+    → Gives net f set moves → length (members set) ≡ length moves
 gives_many net f set moves is =
-    sym (length-map (machines_in set) f) ∙ ap length is.gives ∙ length-map moves Some
+    sym (length-map (members set) f) ∙ ap length is.gives ∙ length-map moves Some
 
 some_is : (o : Option Pick) (p : Option Pick) → option_map Some o ≡ Some p
     → unwrap_or p Stop ≡ unwrap_or o Stop
@@ -106,15 +107,15 @@ some_is (Some move) p is =
 
 -- and that of the member of a number is the move of this number
 pub gives_at : (net : Network) (f : ℕ → Option Pick) (set : ℕ) (moves : List Pick) (k m : ℕ)
-    → Gives net f set moves → slice_get (machines_in set) k ≡ Some m
+    → Gives net f set moves → slice_get (members set) k ≡ Some m
     → unwrap_or (f m) Stop ≡ move_at moves k
 gives_at net f set moves k m is at =
     some_is (slice_get moves k) (f m)
     (sym (slice_get-map Some moves k) ∙ ap (λ l. slice_get l k) (sym is.gives)
-    ∙ slice_get-map f (machines_in set) k ∙ ap (option_map f) at)
+    ∙ slice_get-map f (members set) k ∙ ap (option_map f) at)
 
 -- a member of some number is a machine
 pub given_below : (net : Network) (f : ℕ → Option Pick) (set : ℕ) (moves : List Pick) (k m : ℕ)
-    → Gives net f set moves → slice_get (machines_in set) k ≡ Some m
+    → Gives net f set moves → slice_get (members set) k ≡ Some m
     → m < length net.machines
-given_below net f set moves k m is at = is.below m (in_at (machines_in set) k m at)
+given_below net f set moves k m is at = is.below m (in_at (members set) k m at)

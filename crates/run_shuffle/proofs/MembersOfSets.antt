@@ -1,28 +1,25 @@
--- Sets that are words: their members, how many there are, and what one number more or another makes
--- of them.
-use Rattle.std.proofs.Common.{◌≡◌, ◌≢◌, ℕ, zero, suc, ◌+◌, ◌%◌, ◌^◌, ◌<◌, ◌≤◌, Bool, true, false, cond, ◌&&◌, ◌==◌, nat_lt, List, [], ◌∷◌, ◌++◌, filter, length, length-append, length-drop, drop, slice_get, Some, refl, sym, ap, ◌∙◌, subst, inl, inr, arith}
+-- The members of sets, and what one number more or another makes of them.
+use Rattle.std.proofs.Common.{◌≡◌, ◌≢◌, ℕ, zero, suc, ◌+◌, ◌<◌, ◌≤◌, Bool, true, false, cond, not, ◌&&◌, ◌==◌, nat_lt, List, [], ◌∷◌, ◌++◌, filter, length, length-drop, drop, slice_get, Some, refl, sym, ap, ◌∙◌, subst, inl, inr, arith}
 use Rattle.std.specs.Int.{bit_at}
-use Rattle.std.specs.Int.Count.{ones}
 use Rattle.std.specs.List.{Contains}
-use Rattle.std.proofs.Math.Nat.{mod-lt, mod-eq_of_lt}
 use Rattle.std.proofs.lemmas.Bool.{cases_eq, cases_lt, eq-eqb, lt-ltb, le-ltb, ne_eqb}
 use Rattle.std.proofs.lemmas.List.{append-nil}
-use Rattle.std.proofs.lemmas.Nat.{mod-pow-add, ones_cat, ones_le_self, pow_pos, zero_from_ones}
-use Rattle.std.proofs.lemmas.Nat.Bits.{bit_at-zero, bit_at-lt}
+use Rattle.std.proofs.lemmas.Nat.Bits.{bit_at-zero}
 use Rattle.polis_base.specs.Lists.{head_of, upto}
 use Rattle.polis_base.proofs.Lists.{none_below, one_more, same_below}
+use Rattle.polis_base.proofs.SmallSets.{without_same, without_others}
 use Rattle.polis_base.proofs.Members.{here, of_filter}
 use Rattle.journals.specs.Schedules.{without_first}
-use Rattle.net_core.specs.Readers.{members}
+use Rattle.polis_base.specs.Sets.{members}
 use Rattle.net_core.proofs.Bitsets.{none_past, without_one}
 use Rattle.run_shuffle.proofs.Few.{passing_few}
-use Rattle.run_shuffle.specs.inner.Ways.{IsSetOf, machines_in}
+use Rattle.run_shuffle.specs.inner.Ways.{IsSetOf}
 use Rattle.polis_base.proofs.UptoPlaces.{length_upto}
 
 -- the members are the numbers that pass
 pub members_are : (n : ℕ) (p : ℕ → Bool) (set : ℕ) → n ≤ 64 → IsSetOf n p set
-    → machines_in set ≡ filter p (upto n)
-unfolding machines_in
+    → members set ≡ filter p (upto n)
+unfolding members
 members_are n p set few is =
     same_below (λ m. bit_at set m == 1) (λ m. nat_lt m n && p m) 64 (λ m below. is m below)
     ∙ none_past (λ m. nat_lt m n && p m) n 64 few
@@ -30,8 +27,8 @@ members_are n p set few is =
     ∙ same_below (λ m. nat_lt m n && p m) p n
     (λ m below. ap (λ b. b && p m) (lt-ltb m n below))
 
-pub no_members : machines_in 0 ≡ []
-unfolding machines_in
+pub no_members : members 0 ≡ []
+unfolding members
 no_members = none_below (λ m. bit_at 0 m == 1) 64 (λ m below. ap (λ b. b == 1) (bit_at-zero m))
 
 one_passes : (m n : ℕ) → m < n → filter (λ k. k == m) (upto n) ≡ m ∷ []
@@ -52,8 +49,8 @@ one_passes m (suc n) within =
 
 -- the set of one machine
 pub only_member : (m n set : ℕ) → m < n → n ≤ 64 → bit_at set m ≡ 1
-    → ((k : ℕ) → k ≢ m → bit_at set k ≡ bit_at 0 k) → machines_in set ≡ m ∷ []
-unfolding machines_in
+    → ((k : ℕ) → k ≢ m → bit_at set k ≡ bit_at 0 k) → members set ≡ m ∷ []
+unfolding members
 only_member m n set within few own others =
     same_below (λ k. bit_at set k == 1) (λ k. k == m) 64 (λ k below.
     elim (cases_eq k m) [
@@ -113,48 +110,9 @@ set_stays p q n set were same k below =
 
 -- ---- how many there are
 
-abbrev one_or_none : Bool → List ℕ
-one_or_none b = cond b (0 ∷ []) []
-
-ones_of_digit : (b : ℕ) → b < 2 → ones b ≡ length (one_or_none (b == 1))
-ones_of_digit zero low = let few = ones_le_self 0 in omega arith
-ones_of_digit (suc zero) low =
-    let few = ones_le_self 1 in
-    let some : ones 1 ≢ 0 = λ none.
-    let no : ◌≡◌ {A = ℕ} 1 0 = zero_from_ones 1 none in omega arith in
-    omega arith
-ones_of_digit (suc (suc b)) low = absurd (omega arith)
-
-ones_below : (n k : ℕ) → ones (n % 2 ^ k) ≡ length (filter (λ m. bit_at n m == 1) (upto k))
-ones_below n zero =
-    let low : n % 1 < 1 = mod-lt n (omega arith) in
-    let none : n % 1 ≡ 0 = omega arith in
-    ap ones none ∙ ones_of_digit 0 (omega arith)
-ones_below n (suc k) =
-    let more : suc k ≡ 1 + k = omega arith in
-    let some : 0 < 2 ^ k = pow_pos k in
-    let size =
-    length-append (filter (λ m. bit_at n m == 1) (upto k))
-    (cond (bit_at n k == 1) (k ∷ []) []) in
-    let digit = ones_of_digit (bit_at n k) (bit_at-lt n k) in
-    let rest = ones_below n k in
-    let one = one_long (bit_at n k == 1) in
-    ap (λ j. ones (n % 2 ^ j)) more ∙ ap ones (mod-pow-add n 1 k)
-    ∙ ones_cat k (bit_at n k) (n % 2 ^ k) (mod-lt n some)
-    ∙ omega (arith, size, digit, rest, one)
-    ∙ sym (ap length (one_more (λ m. bit_at n m == 1) k))
-  where
-    one_long : (b : Bool) → length (cond b (k ∷ []) []) ≡ length (one_or_none b)
-    one_long true = refl
-    one_long false = refl
-
-pub ones_are : (set : ℕ) → set < 2 ^ 64 → ones set ≡ length (machines_in set)
-unfolding machines_in
-ones_are set fits = ap ones (sym (mod-eq_of_lt fits)) ∙ ones_below set 64
-
-pub machines_few : (set : ℕ) → length (machines_in set) ≤ 64
-unfolding machines_in
-machines_few set =
+pub members_few : (set : ℕ) → length (members set) ≤ 64
+unfolding members
+members_few set =
     let all = passing_few (λ m. bit_at set m == 1) (upto 64) in
     let size = length_upto 64 in
     omega (arith, all, size)
@@ -173,31 +131,26 @@ cut_head (y ∷ xs) x is =
     let same : y ≡ x = cc in
     ap (λ b. cond b xs (y ∷ without_first (λ k. k == x) xs)) (eq-eqb y x same)
 
--- the first member of a set
-pub lowest_is : (left lowest : ℕ) → head_of (members left) ≡ Some lowest
-    → head_of (machines_in left) ≡ Some lowest
-unfolding machines_in
-lowest_is left lowest first = first
-
 -- without it the set has the others
-pub without_lowest : (left lowest new : ℕ) → head_of (machines_in left) ≡ Some lowest
-    → lowest < 64 → bit_at new lowest ≡ 0
-    → ((k : ℕ) → k < 64 → k ≢ lowest → bit_at new k ≡ bit_at left k)
-    → machines_in new ≡ drop 1 (machines_in left)
-unfolding machines_in
-without_lowest left lowest new first within gone others =
+pub without_lowest : (left lowest new : ℕ) → head_of (members left) ≡ Some lowest
+    → lowest < 64
+    → ((k : ℕ) → (bit_at new k == 1) ≡ (not (k == lowest) && bit_at left k == 1))
+    → members new ≡ drop 1 (members left)
+unfolding members
+without_lowest left lowest new first within is =
     sym
     (without_one (λ k. bit_at left k == 1) (λ k. bit_at new k == 1) lowest 64 within
     (of_filter (λ k. bit_at left k == 1) (upto 64) lowest (head_is (members left) lowest first)).1
-    (ap (λ b. b == 1) gone) (λ k below other. ap (λ b. b == 1) (others k below other)))
+    (ap (λ b. b == 1) (without_same new left lowest is))
+    (λ k below other. ap (λ b. b == 1) (without_others new left lowest is k other)))
     ∙ cut_head (members left) lowest first
 
 -- where some are left the word isn't 0
-pub some_left : (set left k : ℕ) → machines_in left ≡ drop k (machines_in set)
-    → k < length (machines_in set) → 0 < left
+pub some_left : (set left k : ℕ) → members left ≡ drop k (members set)
+    → k < length (members set) → 0 < left
 some_left set zero k is below =
-    let size = length-drop k (machines_in set) in
-    let none : length (drop k (machines_in set)) ≡ 0 = ap length (sym is ∙ no_members) in
+    let size = length-drop k (members set) in
+    let none : length (drop k (members set)) ≡ 0 = ap length (sym is ∙ no_members) in
     absurd (omega arith)
 some_left set (suc left) k is below = omega arith
 

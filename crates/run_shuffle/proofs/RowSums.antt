@@ -5,12 +5,12 @@ use Rattle.std.specs.List.{sum_by}
 use Rattle.std.proofs.lemmas.List.Sums.{get_or-le-sum_by, sum_by-le, sum_by-set}
 use Rattle.std.proofs.lemmas.Option.{get_or_from_slice_get, slice_get_within}
 use Rattle.run_shuffle.specs.inner.Ways.{how_many}
-use Rattle.run_shuffle.proofs.MembersOfSets.{machines_few}
+use Rattle.run_shuffle.proofs.MembersOfSets.{members_few}
 
 pub rows_few : (rows : List ℕ) (owed : ℕ) → length rows ≤ 64 → owed ≡ sum_by how_many rows
     → owed ≤ 4096
 rows_few rows owed few sum =
-    let most = sum_by-le how_many 64 rows (λ k d below. machines_few (get_or rows k d)) in
+    let most = sum_by-le how_many 64 rows (λ k d below. members_few (get_or rows k d)) in
     omega (arith, most, few, sum)
 
 -- one set has at most as many as all

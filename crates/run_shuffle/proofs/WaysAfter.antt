@@ -20,6 +20,7 @@ use Rattle.journals.specs.Legality.{Legal}
 use Rattle.journals.specs.Moved.{is_dep, machine_of}
 use Rattle.journals.proofs.DeliveredBeginsSent.{delivered_by_reaction, delivered_other}
 use Rattle.net_core.specs.Moments.{Moment}
+use Rattle.polis_base.proofs.SmallSets.{with_same, with_others}
 use Rattle.run_shuffle.specs.declared.ways.Ways.{Ways}
 use Rattle.run_shuffle.specs.Blocks.{block_to}
 use Rattle.run_shuffle.specs.Orders.{same_block}
@@ -374,9 +375,10 @@ marked_row rows s row new m is at own others = record {
       others k other ∙ ap (λ (w : ℕ). bit_at w k) (sym (get_or_from_slice_get rows s row 0 at));
 }
 
-pub with_one : (old new m : ℕ) → bit_at new m ≡ 1
-    → ((k : ℕ) → k ≢ m → bit_at new k ≡ bit_at old k) → IsMarked old new m true
-with_one old new m own others = record { own = ap (λ b. b == 1) own; others = others }
+pub with_one : (old new m : ℕ)
+    → ((k : ℕ) → (bit_at new k == 1) ≡ (k == m || bit_at old k == 1)) → IsMarked old new m true
+with_one old new m is =
+    record { own = ap (λ b. b == 1) (with_same new old m is); others = with_others new old m is }
 
 pub read_row : (net : Network) (sent : List (ℕ × ℕ)) (rows : List ℕ) (s row new : ℕ)
     → slice_get rows s ≡ Some row → IsRow net sent row new → IsRow net sent (get_or rows s 0) new

@@ -30,7 +30,8 @@ use Rattle.run_shuffle.specs.Blocks.{block_to, current_block}
 use Rattle.run_shuffle.specs.Moves.{env_moves, machines_of, network_moves, next_deliveries, next_delivery, next_sends, reactions}
 use Rattle.run_shuffle.specs.Orders.{first_move, moves_of_block, picked_move, same_block, scheduled_move}
 use Rattle.run_shuffle.specs.Shuffles.{move_at}
-use Rattle.run_shuffle.specs.inner.Ways.{AreWays, Gives, IsSetOf, env_owes, how_many, is_of_block, machines_in, owes}
+use Rattle.run_shuffle.specs.inner.Ways.{AreWays, Gives, IsSetOf, env_owes, how_many, is_of_block, owes}
+use Rattle.polis_base.specs.Sets.{members}
 use Rattle.run_shuffle.proofs.BlocksByPlaces.{no_block_past}
 use Rattle.run_shuffle.proofs.GivenMoves.{gives_all, gives_at, gives_many, gives_none, gives_one, gives_passing}
 use Rattle.run_shuffle.proofs.MembersOfSets.{members_are, only_member}
@@ -168,7 +169,7 @@ row_gives sending now ways s row legal are at =
     (λ m. owes_next sending now.net now.trace now.journal s m legal))
 
 reactions_by : (now : Moment) (ways : Ways) → AreWays now ways
-    → reactions now.net now.journal ≡ map React (machines_in ways.woken)
+    → reactions now.net now.journal ≡ map React (members ways.woken)
 reactions_by now ways are =
     ap (map React)
     (sym
@@ -216,7 +217,7 @@ woken_counted : (now : Moment) (ways : Ways) → AreWays now ways
     → how_many ways.woken ≡ length (reactions now.net now.journal)
 woken_counted now ways are =
     sym
-    (ap length (reactions_by now ways are) ∙ length-map (machines_in ways.woken) React)
+    (ap length (reactions_by now ways are) ∙ length-map (members ways.woken) React)
 
 pub network_counted : SendingLaws
     → (now : Moment) (ways : Ways) (k : ℕ) → Legal now.net now.trace now.journal
@@ -273,7 +274,7 @@ pub move_of_row : SendingLaws
     → slice_get ways.sends s ≡ Some row
     → move_at (sends_from now s) left
     ≡ move_at (next_sends now.net now.trace now.journal) number
-    → left < how_many row → slice_get (machines_in row) left ≡ Some m
+    → left < how_many row → slice_get (members row) left ≡ Some m
     → unwrap_or (next_delivery now.net now.trace now.journal (Sender s) m) Stop
     ≡ move_at (next_sends now.net now.trace now.journal) number
 move_of_row sending now ways s row number left m legal are at before below is =
@@ -354,7 +355,7 @@ reaction_left sending now ways number legal are past below =
 pub reaction_of : SendingLaws
     → (now : Moment) (ways : Ways) (number m : ℕ) → Legal now.net now.trace now.journal
     → AreWays now ways → ways.owed ≤ number
-    → slice_get (machines_in ways.woken) (number - ways.owed) ≡ Some m
+    → slice_get (members ways.woken) (number - ways.owed) ≡ Some m
     → React m ≡ move_at (network_moves now.net now.trace now.journal) number
 reaction_of sending now ways number m legal are past at =
     let many = sends_counted sending now ways legal are in
@@ -364,7 +365,7 @@ reaction_of sending now ways number m legal are past at =
     ∙ ap (λ k. move_at (reactions now.net now.journal) (number - k)) (sym many)
     ∙ ap (λ l. move_at l (number - ways.owed)) (reactions_by now ways are)
     ∙ ap (λ (o : Option Pick). unwrap_or o Stop)
-    (slice_get-map React (machines_in ways.woken) (number - ways.owed)
+    (slice_get-map React (members ways.woken) (number - ways.owed)
     ∙ ap (option_map React) at))
 
 -- ---- of the scheduler

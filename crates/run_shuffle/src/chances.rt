@@ -11,10 +11,10 @@ ghost use Rattle.run_shuffle.specs.inner.Ways.{AreWays, Gives};
 use crate::moves::{move_or_stop, next_between};
 use crate::offers::first_of_network;
 use crate::order::RunOrder;
-use crate::sets::{count, member};
+use crate::sets::member;
 use crate::ways::Ways;
-use net_core::bits::with;
 use net_core::{Config, Pick, laws, sending_laws};
+use polis_base::SmallSet;
 
 // The block of the first delivery that the environment owes.
 fn current_block(config: &Config<'_>, ways: &Ways) -> Option<u64>
@@ -73,7 +73,7 @@ fn open_block(config: &Config<'_>, ways: &Ways, idle: bool) -> Option<u64>
 }
 
 // The machine to which the first delivery goes that the environment owes, if it owes any.
-fn first_receiver(config: &Config<'_>) -> u64
+fn first_receiver(config: &Config<'_>) -> SmallSet
     ensures { Gives config.now.net
         (next_delivery config.now.net config.now.trace config.now.journal Env) result
         (first_move config.now.net config.now.trace config.now.journal) }
@@ -81,15 +81,21 @@ fn first_receiver(config: &Config<'_>) -> u64
     laws();
     sending_laws();
     let _trace = config.trace();
+    let none = SmallSet::empty();
     match config.next_env() {
-        Some(next) => with(0, next.owed.to),
-        None => 0,
+        Some(next) => none.with(next.owed.to),
+        None => none,
     }
 }
 
 // The machines to which the environment's moves are that an order offers. The caller knows whether
 // the network has no move.
-pub(crate) fn env_chances(config: &Config<'_>, ways: &mut Ways, order: RunOrder, idle: bool) -> u64
+pub(crate) fn env_chances(
+    config: &Config<'_>,
+    ways: &mut Ways,
+    order: RunOrder,
+    idle: bool,
+) -> SmallSet
     requires ways { AreWays config.now ways.old }
     requires idle { idle ≡ (length (network_moves config.now.net config.now.trace
         config.now.journal) == 0) }
@@ -100,15 +106,16 @@ pub(crate) fn env_chances(config: &Config<'_>, ways: &mut Ways, order: RunOrder,
 {
     sending_laws();
     let _journal = config.journal();
+    let none = SmallSet::empty();
     match order {
         RunOrder::Free => ways.env,
         RunOrder::Settled => match open_block(config, ways, idle) {
             Some(block) => ways.to_block(config, block),
-            None => 0,
+            None => none,
         },
         RunOrder::Scheduled => match open_block(config, ways, idle) {
             Some(_) => first_receiver(config),
-            None => 0,
+            None => none,
         },
     }
 }
@@ -120,7 +127,7 @@ pub(crate) fn network_count(config: &Config<'_>, ways: &Ways) -> u64
 {
     sending_laws();
     let _journal = config.journal();
-    ways.owed + count(ways.woken)
+    ways.owed + ways.woken.len()
 }
 
 // How many of these an order offers.
@@ -151,7 +158,7 @@ fn send(config: &Config<'_>, ways: &Ways, number: u64) -> Pick
     let mut left = number;
     for s in 0..ways.sends.len() {
         let owed = *ways.sends.get(s);
-        let many = count(owed);
+        let many = owed.len();
         if left < many {
             return move_or_stop(next_between(config, s as u32, member(owed, left)));
         }

@@ -1,4 +1,4 @@
-// The receivers of what a machine emits, as a set of bits.
+// The receivers of what a machine emits, as a set.
 ghost use Rattle.std.specs.Prelude.{◌≡◌, ◌<◌, ◌≤◌, ◌||◌, ◌==◌, ℕ, [], cond, length};
 ghost use Rattle.std.specs.Int.{bit_at};
 ghost use Rattle.std.specs.List.{list_any};
@@ -7,11 +7,11 @@ ghost use Rattle.journals.specs.Journals.{emitted, outputs_of};
 ghost use Rattle.journals.specs.Schedules.{receivers_of};
 
 use domains::Codes;
-use net_core::bits::with;
+use polis_base::SmallSet;
 use transition_table::{Network, Outcome};
 
 // The set and each receiver of an event.
-fn with_receivers(net: &Network, event: u32, set: u64) -> u64
+fn with_receivers(net: &Network, event: u32, set: SmallSet) -> SmallSet
     requires { event < length net.now.events }
     ensures machines { (m : ℕ) → m < length net.now.machines
         → (bit_at result m == 1) ≡ (bit_at set m == 1 || has (receivers_of net.now event) m) }
@@ -20,13 +20,13 @@ fn with_receivers(net: &Network, event: u32, set: u64) -> u64
     let receivers = &net.events.get(event as u64).receivers;
     let mut all = set;
     for i in 0..receivers.len() {
-        all = with(all, *receivers.get(i));
+        all = all.with(*receivers.get(i));
     }
     all
 }
 
 // The set and each receiver of what a machine emits with these codes of its outputs.
-fn with_emitted(net: &Network, machine: u32, codes: &Codes, set: u64) -> u64
+fn with_emitted(net: &Network, machine: u32, codes: &Codes, set: SmallSet) -> SmallSet
     requires machine { machine < length net.now.machines }
     requires width { length codes.now ≡ length (outputs_of net.now machine) }
     ensures machines { (m : ℕ) → m < length net.now.machines
@@ -46,7 +46,12 @@ fn with_emitted(net: &Network, machine: u32, codes: &Codes, set: u64) -> u64
 }
 
 // The set and each receiver of what a machine's reaction emits.
-pub(crate) fn with_outcome(net: &Network, machine: u32, outcome: &Outcome, set: u64) -> u64
+pub(crate) fn with_outcome(
+    net: &Network,
+    machine: u32,
+    outcome: &Outcome,
+    set: SmallSet,
+) -> SmallSet
     requires machine { machine < length net.now.machines }
     requires width { length outcome.now.outs ≡ length (outputs_of net.now machine) }
     ensures machines { (m : ℕ) → m < length net.now.machines

@@ -15,7 +15,6 @@ use crate::choice::choose;
 use crate::draws::{of_seed, order_of_run, pace};
 use crate::law::laws;
 use crate::order::{Order, Rule, RunOrder};
-use crate::sets::count;
 use crate::ways::Ways;
 use domains::first_codes;
 use net_core::{Config, Entry, Pick, Trace};
@@ -114,7 +113,7 @@ fn advance<R: Reactor>(
     let all = network_count(config, ways);
     let receivers = env_chances(config, ways, rule.order, all == 0);
     let network = network_chances(config, rule.order, all);
-    if count(receivers) + network == 0 {
+    if receivers.len() + network == 0 {
         return Ok(false);
     }
     let pick = choose(draws, rule, config, ways, receivers, network);

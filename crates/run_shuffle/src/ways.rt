@@ -13,33 +13,30 @@ ghost use Rattle.run_shuffle.specs.inner.Ways.{AreWays, IsSetOf, begun_table, bl
 use crate::blocks::settles_of;
 use crate::emitted::with_outcome;
 use crate::offers::same_block;
-use crate::sets::count;
-use net_core::bits::{mark, with, without};
 use net_core::{Config, Entry, Trace, moving_laws, sending_laws};
-use polis_base::{List, NoMemory};
+use polis_base::{List, NoMemory, SmallSet};
 use scheduler_gen::{Plan, plan};
 use std::alloc::Global;
 use transition_table::{Outcome, Party, Snapshot};
 
 /// What a run keeps beside its configuration: the order in which the scheduler tries machines,
-/// which deliveries may come next, and which reactions. A set of machines is a word with one bit
-/// each.
+/// which deliveries may come next, and which reactions.
 #[derive(Drop)]
 pub(crate) struct Ways {
     pub(crate) plan: Plan,
     // for each machine those to which it owes a delivery
-    pub(crate) sends: List<u64>,
+    pub(crate) sends: List<SmallSet>,
     // how many they are together
     pub(crate) owed: u64,
     // those to which the environment owes one
-    pub(crate) env: u64,
-    pub(crate) woken: u64,
+    pub(crate) env: SmallSet,
+    pub(crate) woken: SmallSet,
     // the block of each place of the trace
     pub(crate) blocks: List<u64>,
     // which blocks have begun
     pub(crate) begun: List<bool>,
     // those to which the environment's next delivery is of this block
-    pub(crate) of_block: u64,
+    pub(crate) of_block: SmallSet,
     pub(crate) block: Option<u64>,
 }
 
@@ -59,14 +56,14 @@ fn blocks_of(alloc: Global, trace: &Trace) -> Result<(List<u64>, u64), NoMemory>
 }
 
 // The machines to which the environment owes a delivery.
-fn owed_by_env(config: &Config<'_>) -> u64
+fn owed_by_env(config: &Config<'_>) -> SmallSet
     ensures { IsSetOf (length config.now.net.machines)
         (env_owes config.now.net config.now.trace config.now.journal) result }
 {
     let last = config.trace().len();
-    let mut set = 0;
+    let mut set = SmallSet::empty();
     for m in 0..config.network().machines.len() {
-        set = mark(set, m as u32, config.place(m as u32) < last);
+        set = set.marked(m as u32, config.place(m as u32) < last);
     }
     set
 }
@@ -82,16 +79,17 @@ impl Ways {
         let (blocks, last) = blocks_of(alloc, config.trace())?;
         let mut begun = List::filled(alloc, last, false)?;
         begun.push(false)?;
-        let sends = List::filled(alloc, net.machines.len(), 0)?;
+        let none = SmallSet::empty();
+        let sends = List::filled(alloc, net.machines.len(), none)?;
         Ok(Ways {
             plan,
             sends,
             owed: 0,
             env: owed_by_env(config),
-            woken: 0,
+            woken: none,
             blocks,
             begun,
-            of_block: 0,
+            of_block: none,
             block: None,
         })
     }
@@ -113,21 +111,21 @@ impl Ways {
     }
 
     // The machines to which the environment's next delivery is of a block.
-    fn set_of_block(&self, config: &Config<'_>, block: Option<u64>) -> u64
+    fn set_of_block(&self, config: &Config<'_>, block: Option<u64>) -> SmallSet
         requires { AreWays config.now self.now }
         ensures { IsSetOf (length config.now.net.machines)
             (is_of_block config.now.net config.now.trace config.now.journal block) result }
     {
-        let mut set = 0;
+        let mut set = SmallSet::empty();
         for m in 0..config.network().machines.len() {
             let own = self.block_to(config, m as u32);
-            set = mark(set, m as u32, same_block(own, block));
+            set = set.marked(m as u32, same_block(own, block));
         }
         set
     }
 
     // The same, which is kept until another block is asked for.
-    pub(crate) fn to_block(&mut self, config: &Config<'_>, block: u64) -> u64
+    pub(crate) fn to_block(&mut self, config: &Config<'_>, block: u64) -> SmallSet
         requires { AreWays config.now self.old }
         ensures set { IsSetOf (length config.now.net.machines)
             (is_of_block config.now.net config.now.trace config.now.journal (Some block)) result }
@@ -179,15 +177,15 @@ impl Ways {
             event,
             code,
         })?;
-        self.env = mark(self.env, to, config.place(to) < config.trace().len());
-        self.woken = with(self.woken, to);
+        self.env = self.env.marked(to, config.place(to) < config.trace().len());
+        self.woken = self.woken.with(to);
         let own = self.block_to(config, to);
-        self.of_block = mark(self.of_block, to, same_block(own, self.block));
+        self.of_block = self.of_block.marked(to, same_block(own, self.block));
         Ok(())
     }
 
     // Puts other receivers in the place of a sender's.
-    fn set_receivers(&mut self, sender: u32, receivers: u64)
+    fn set_receivers(&mut self, sender: u32, receivers: SmallSet)
         requires sender { sender < length self.old.sends }
         requires few { length self.old.sends ≤ 64 }
         requires owed { self.old.owed ≡ sum_by how_many self.old.sends }
@@ -196,8 +194,8 @@ impl Ways {
         ensures same { self.new
             ≡ record self.old { sends = self.new.sends; owed = self.new.owed } }
     {
-        let before = count(*self.sends.get(sender as u64));
-        self.owed = self.owed - before + count(receivers);
+        let before = self.sends.get(sender as u64).len();
+        self.owed = self.owed - before + receivers.len();
         self.sends.set(sender as u64, receivers);
     }
 
@@ -229,8 +227,8 @@ impl Ways {
         })?;
         let owed = *self.sends.get(from as u64);
         let left = config.owed_between(from, to).is_some();
-        self.set_receivers(from, mark(owed, to, left));
-        self.woken = with(self.woken, to);
+        self.set_receivers(from, owed.marked(to, left));
+        self.woken = self.woken.with(to);
         Ok(())
     }
 
@@ -260,7 +258,7 @@ impl Ways {
             outcome,
         })?;
         self.set_receivers(machine, owes);
-        self.woken = without(self.woken, machine);
+        self.woken = self.woken.without(machine);
         Ok(())
     }
 

@@ -14,19 +14,15 @@ use Rattle.journals.specs.Journals.{is_woken}
 use Rattle.journals.specs.Schedules.{is_way, owed_by_machines}
 use Rattle.net_core.specs.Moments.{Moment}
 use Rattle.scheduler_gen.specs.Plans.{IsPlanOf}
-use Rattle.net_core.specs.Readers.{members}
+use Rattle.polis_base.specs.Sets.{members}
 use Rattle.run_shuffle.specs.declared.ways.Ways.{Ways}
 use Rattle.run_shuffle.specs.Blocks.{block_to, has_begun}
 use Rattle.run_shuffle.specs.Orders.{same_block}
 use Rattle.run_shuffle.specs.inner.Blocks.{settles}
 
--- the members of a set, in order
-unfoldable pub machines_in : ℕ → List ℕ
-machines_in set = members set
-
--- how many there are
+-- how many members a set has
 abbrev pub how_many : ℕ → ℕ
-how_many set = length (machines_in set)
+how_many set = length (members set)
 
 -- machine s owes a delivery to m
 abbrev pub owes : Network → List Entry → ℕ → ℕ → Bool
@@ -70,5 +66,5 @@ pub record AreWays (now : Moment) (ways : Ways) : Type 0 where
 
 -- The members of the set are machines, and the function gives a move of each: these, in order.
 pub record Gives (net : Network) (f : ℕ → Option Pick) (set : ℕ) (moves : List Pick) : Type 0 where
-  pub below : (m : ℕ) → Contains (machines_in set) m → m < length net.machines
-  pub gives : map f (machines_in set) ≡ map Some moves
+  pub below : (m : ℕ) → Contains (members set) m → m < length net.machines
+  pub gives : map f (members set) ≡ map Some moves

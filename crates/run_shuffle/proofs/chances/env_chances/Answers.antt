@@ -1,4 +1,4 @@
-use Rattle.std.proofs.Common.{Bool, [], cond, sym, subst}
+use Rattle.std.proofs.Common.{ℕ, Bool, [], cond, sym, subst}
 use Rattle.transition_table.specs.declared.decl.Party.TheVariants.{Env}
 use Rattle.run_shuffle.specs.declared.order.RunOrder.{RunOrder}
 use Rattle.run_shuffle.specs.Moves.{next_delivery}
@@ -37,24 +37,32 @@ pub returns-in-None-clause-gives : goal.returns-in-None-clause-gives
 returns-in-None-clause-gives c =
     let now = c.args.config.now in
     subst
-    (λ (o : RunOrder). Gives now.net (next_delivery now.net now.trace now.journal Env) 0
+    (λ (o : RunOrder). Gives now.net (next_delivery now.net now.trace now.journal Env)
+    c.empty-none.result
     (env_offered o now.net now.trace now.journal))
     (sym c.in-Settled.is)
     (subst
-    (λ (b : Bool). Gives now.net (next_delivery now.net now.trace now.journal Env) 0
+    (λ (b : Bool). Gives now.net (next_delivery now.net now.trace now.journal Env)
+    c.empty-none.result
     (cond b (moves_of_block now.net now.trace now.journal) []))
     c.in-None.ensures.open
-    (gives_none now.net (next_delivery now.net now.trace now.journal Env)))
+    (subst (λ (n : ℕ). Gives now.net (next_delivery now.net now.trace now.journal Env) n [])
+    (sym c.empty-none.ensures)
+    (gives_none now.net (next_delivery now.net now.trace now.journal Env))))
 
 pub returns-in-None-open_block-clause-gives : goal.returns-in-None-open_block-clause-gives
 returns-in-None-open_block-clause-gives c =
     let now = c.args.config.now in
     subst
-    (λ (o : RunOrder). Gives now.net (next_delivery now.net now.trace now.journal Env) 0
+    (λ (o : RunOrder). Gives now.net (next_delivery now.net now.trace now.journal Env)
+    c.empty-none.result
     (env_offered o now.net now.trace now.journal))
     (sym c.in-Scheduled.is)
     (subst
-    (λ (b : Bool). Gives now.net (next_delivery now.net now.trace now.journal Env) 0
+    (λ (b : Bool). Gives now.net (next_delivery now.net now.trace now.journal Env)
+    c.empty-none.result
     (cond b (first_move now.net now.trace now.journal) []))
     c.in-None-open_block.ensures.open
-    (gives_none now.net (next_delivery now.net now.trace now.journal Env)))
+    (subst (λ (n : ℕ). Gives now.net (next_delivery now.net now.trace now.journal Env) n [])
+    (sym c.empty-none.ensures)
+    (gives_none now.net (next_delivery now.net now.trace now.journal Env))))

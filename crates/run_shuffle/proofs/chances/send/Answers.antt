@@ -21,7 +21,7 @@ pub returns-then-left-many : goal.returns-then-left-many
 returns-then-left-many c =
     let now = c.args.config.now in
     let test = c.if-left-many.true in
-    let count = c.count-many.ensures.members in
+    let count = c.len-many.ensures.members in
     c.move_or_stop.ensures
     ∙ ap (λ (o : Option Pick). unwrap_or o Stop) c.next_between.ensures
     ∙ move_of_row c.sending_laws.ensures now c.args.ways.now c.loop-s.s c.get-owed.result.now
@@ -32,9 +32,9 @@ pub loop-s-preserved : goal.loop-s-preserved
 loop-s-preserved c =
     let (below, same) =
     move_past_row c.sending_laws.ensures c.args.config.now c.args.ways.now c.loop-s.s
-    c.get-owed.result.now c.args.number c.loop-s.left c.count-many.result
+    c.get-owed.result.now c.args.number c.loop-s.left c.len-many.result
     c.journal-journal.ensures.legal c.requires.ways c.get-owed.ensures c.loop-s.invariant.same
-    c.loop-s.invariant.below c.count-many.ensures.members c.if-left-many.false in
+    c.loop-s.invariant.below c.len-many.ensures.members c.if-left-many.false in
     record { below = below; same = same }
 
 pub unreachable-requires : goal.unreachable-requires

@@ -25,7 +25,7 @@ overflow_add-env c =
     network_offered_few now.net now.trace now.journal c.args.rule.order now.net.few_machines in
     let many : c.args.network ≤ 4160 = subst (λ (k : ℕ). k ≤ 4160) (sym c.requires.network) few in
     let product = mul-le c.args.rule.pace c.args.network 16 4160 c.requires.pace_small many in
-    let own = c.count-env.ensures.few in
+    let own = c.len-env.ensures.few in
     omega (arith, product, own)
 
 pub returns-then-r-env-clause-chosen : goal.returns-then-r-env-clause-chosen
@@ -34,14 +34,14 @@ returns-then-r-env-clause-chosen c =
     let env : List Pick = env_offered c.args.rule.order now.net now.trace now.journal in
     let network : List Pick = network_offered c.args.rule.order now.net now.trace now.journal in
     let own =
-    c.count-env.ensures.members
+    c.len-env.ensures.members
     ∙ gives_many now.net (next_delivery now.net now.trace now.journal Env) c.args.receivers env
     c.requires.gives in
     (drawn_by_counts env network c.args.rule.pace c.args.draws.now.x c.draw-r.result
-    c.count-env.result c.args.network c.env_chance.result c.requires.pace own c.requires.network
+    c.len-env.result c.args.network c.env_chance.result c.requires.pace own c.requires.network
     c.draw-r.ensures.answer c.draw-r.ensures.below
     (c.env_chance.ensures
-    ∙ chosen_of_env env network c.args.rule.pace c.draw-r.result c.count-env.result own
+    ∙ chosen_of_env env network c.args.rule.pace c.draw-r.result c.len-env.result own
     c.if-r-env.true)).0
 
 pub returns-then-r-env-clause-member : goal.returns-then-r-env-clause-member
@@ -50,14 +50,14 @@ returns-then-r-env-clause-member c =
     let env : List Pick = env_offered c.args.rule.order now.net now.trace now.journal in
     let network : List Pick = network_offered c.args.rule.order now.net now.trace now.journal in
     let own =
-    c.count-env.ensures.members
+    c.len-env.ensures.members
     ∙ gives_many now.net (next_delivery now.net now.trace now.journal Env) c.args.receivers env
     c.requires.gives in
     (drawn_by_counts env network c.args.rule.pace c.args.draws.now.x c.draw-r.result
-    c.count-env.result c.args.network c.env_chance.result c.requires.pace own c.requires.network
+    c.len-env.result c.args.network c.env_chance.result c.requires.pace own c.requires.network
     c.draw-r.ensures.answer c.draw-r.ensures.below
     (c.env_chance.ensures
-    ∙ chosen_of_env env network c.args.rule.pace c.draw-r.result c.count-env.result own
+    ∙ chosen_of_env env network c.args.rule.pace c.draw-r.result c.len-env.result own
     c.if-r-env.true)).1
 
 pub returns-clause-chosen : goal.returns-clause-chosen
@@ -66,14 +66,14 @@ returns-clause-chosen c =
     let env : List Pick = env_offered c.args.rule.order now.net now.trace now.journal in
     let network : List Pick = network_offered c.args.rule.order now.net now.trace now.journal in
     let own =
-    c.count-env.ensures.members
+    c.len-env.ensures.members
     ∙ gives_many now.net (next_delivery now.net now.trace now.journal Env) c.args.receivers env
     c.requires.gives in
     (drawn_by_counts env network c.args.rule.pace c.args.draws.now.x c.draw-r.result
-    c.count-env.result c.args.network c.network_chance.result c.requires.pace own c.requires.network
+    c.len-env.result c.args.network c.network_chance.result c.requires.pace own c.requires.network
     c.draw-r.ensures.answer c.draw-r.ensures.below
     (c.network_chance.ensures
-    ∙ chosen_of_network env network c.args.rule.pace c.draw-r.result c.count-env.result own
+    ∙ chosen_of_network env network c.args.rule.pace c.draw-r.result c.len-env.result own
     c.if-r-env.false)).0
 
 pub returns-clause-member : goal.returns-clause-member
@@ -82,12 +82,12 @@ returns-clause-member c =
     let env : List Pick = env_offered c.args.rule.order now.net now.trace now.journal in
     let network : List Pick = network_offered c.args.rule.order now.net now.trace now.journal in
     let own =
-    c.count-env.ensures.members
+    c.len-env.ensures.members
     ∙ gives_many now.net (next_delivery now.net now.trace now.journal Env) c.args.receivers env
     c.requires.gives in
     (drawn_by_counts env network c.args.rule.pace c.args.draws.now.x c.draw-r.result
-    c.count-env.result c.args.network c.network_chance.result c.requires.pace own c.requires.network
+    c.len-env.result c.args.network c.network_chance.result c.requires.pace own c.requires.network
     c.draw-r.ensures.answer c.draw-r.ensures.below
     (c.network_chance.ensures
-    ∙ chosen_of_network env network c.args.rule.pace c.draw-r.result c.count-env.result own
+    ∙ chosen_of_network env network c.args.rule.pace c.draw-r.result c.len-env.result own
     c.if-r-env.false)).1

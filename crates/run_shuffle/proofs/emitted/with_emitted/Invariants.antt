@@ -10,6 +10,6 @@ invariant-loop-k l = record {
   machines : (m : ℕ) → m < length l.net.machines
       → (bit_at l.all m == 1 || is_receiver l.net
       (emitted (drop l.k (outputs_of l.net l.machine)) (drop l.k l.codes)) m)
-      ≡ (bit_at l.set m == 1 || is_receiver l.net (emitted (outputs_of l.net l.machine) l.codes) m);
-  others : (m : ℕ) → length l.net.machines ≤ m → bit_at l.all m ≡ bit_at l.set m;
+      ≡ (bit_at l.fn.set m == 1 || is_receiver l.net (emitted (outputs_of l.net l.machine) l.codes) m);
+  others : (m : ℕ) → length l.net.machines ≤ m → bit_at l.all m ≡ bit_at l.fn.set m;
 }

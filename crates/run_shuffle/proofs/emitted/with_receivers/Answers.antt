@@ -1,4 +1,5 @@
 use Rattle.std.proofs.Common.{◌∙◌, arith}
+use Rattle.polis_base.proofs.SmallSets.{with_same, with_others}
 use Rattle.run_shuffle.proofs.ReceiverSets.{one_receiver_more, receiver_below}
 use Rattle.run_shuffle.proofs.emitted.with_receivers.Goals as goal
 
@@ -22,8 +23,10 @@ loop-i-preserved c =
       machines = λ m low.
           one_receiver_more c.get.result.now.receivers c.loop-i.i to c.args.set c.loop-i.all
           c.with-all.result m c.get-in-loop-i.ensures (c.loop-i.invariant.machines m low)
-          c.with-all.ensures.same c.with-all.ensures.others;
+          (with_same c.with-all.result c.loop-i.all to c.with-all.ensures)
+          (with_others c.with-all.result c.loop-i.all to c.with-all.ensures);
       others = λ m past.
-          c.with-all.ensures.others m (λ e. absurd (omega (arith, below, past, e)))
+          with_others c.with-all.result c.loop-i.all to c.with-all.ensures m
+          (λ e. absurd (omega (arith, below, past, e)))
           ∙ c.loop-i.invariant.others m past;
     }

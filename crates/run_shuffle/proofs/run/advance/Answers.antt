@@ -7,8 +7,8 @@ use Rattle.run_shuffle.proofs.run.advance.Goals as goal
 le_along : (a b : ℕ) → a ≡ b → b ≤ 4160 → a ≤ 4160
 le_along a b same few = omega (arith, same, few)
 
-pub overflow_add-count : goal.overflow_add-count
-overflow_add-count g c =
+pub overflow_add-len : goal.overflow_add-len
+overflow_add-len g c =
     let now = c.args.config.now in
     let few =
     network_offered_few now.net now.trace now.journal c.args.rule.order now.net.few_machines in
@@ -16,7 +16,7 @@ overflow_add-count g c =
     le_along c.network_chances-network.result
     (length (network_offered c.args.rule.order now.net now.trace now.journal))
     c.network_chances-network.ensures few in
-    let own = c.count.ensures.few in
+    let own = c.len.ensures.few in
     omega (arith, network, own)
 
 pub entry_of-requires-clause-machine : goal.entry_of-requires-clause-machine

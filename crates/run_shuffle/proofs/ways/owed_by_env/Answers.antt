@@ -9,8 +9,8 @@ pub loop-m-preserved : goal.loop-m-preserved
 loop-m-preserved c =
     let now = c.args.config.now in
     let own =
-    c.mark-set.ensures.same ∙ ap (λ (p : ℕ). nat_lt p c.len-last.result) c.place.ensures.place
+    c.marked-set.ensures.same ∙ ap (λ (p : ℕ). nat_lt p c.len-last.result) c.place.ensures.place
     ∙ ap (λ (k : ℕ). nat_lt (cursor now.net now.trace now.journal c.loop-m.m) k)
     (c.len-last.ensures ∙ ap (λ (l : List TraceItem). length l) c.trace.ensures.trace) in
-    set_more (env_owes now.net now.trace now.journal) c.loop-m.m c.loop-m.set c.mark-set.result
-    c.loop-m.invariant own c.mark-set.ensures.others
+    set_more (env_owes now.net now.trace now.journal) c.loop-m.m c.loop-m.set c.marked-set.result
+    c.loop-m.invariant own c.marked-set.ensures.others

@@ -13,17 +13,17 @@ returns-clause-ways c =
     let new = c.take.new.self in
     let begun = c.begin.new.self in
     let sent =
-    c.mark-self.ensures.same ∙ ap (λ (p : ℕ). nat_lt p c.len.result) c.place.ensures.place
+    c.marked-self.ensures.same ∙ ap (λ (p : ℕ). nat_lt p c.len.result) c.place.ensures.place
     ∙ ap (λ (k : ℕ). nat_lt (cursor new.net new.trace new.journal to) k)
     (c.len.ensures ∙ ap (λ (l : List TraceItem). length l) c.trace.ensures.trace) in
     let of_block =
-    c.mark-self-2.ensures.same ∙ c.same_block.ensures
+    c.marked-self-2.ensures.same ∙ c.same_block.ensures
     ∙ ap (λ (o : Option ℕ). same_block o begun.block) c.block_to-own.ensures.block in
     env_taken_after c.moving_laws.ensures.moves_owed c.moving_laws.ensures.moves_waking
     c.sending_laws.ensures.trace_gives now new c.args.self.now begun to c.args.event c.args.code
-    c.mark-self.result c.with-self.result c.mark-self-2.result c.journal-journal.ensures.legal
+    c.marked-self.result c.with-self.result c.marked-self-2.result c.journal-journal.ensures.legal
     c.requires.ways (receiver_is now.net Env to c.args.event c.args.code c.requires.fits)
     c.in_ok-take.ensures.ok c.begin.ensures.same (c.begin.ensures.begun c.args.event c.args.code)
-    (record { own = sent; others = c.mark-self.ensures.others })
-    (with_one begun.woken c.with-self.result to c.with-self.ensures.same c.with-self.ensures.others)
-    (record { own = of_block; others = c.mark-self-2.ensures.others })
+    (record { own = sent; others = c.marked-self.ensures.others })
+    (with_one begun.woken c.with-self.result to c.with-self.ensures)
+    (record { own = of_block; others = c.marked-self-2.ensures.others })

@@ -4,6 +4,7 @@ use Rattle.transition_table.specs.Transitions.{IsOutcome, IsSnapshot}
 use Rattle.transition_table.specs.declared.network.Network.{Network}
 use Rattle.journals.specs.Journals.{emitted, outputs_of}
 use Rattle.journals.specs.declared.entry.Entry.TheVariants.{Rea}
+use Rattle.polis_base.proofs.SmallSets.{without_same, without_others}
 use Rattle.run_shuffle.specs.declared.ways.Ways.{Ways}
 use Rattle.run_shuffle.proofs.EntriesOfMoves.{machine_below}
 use Rattle.run_shuffle.proofs.WaysAfter.{IsRow, reaction_taken, read_row, row_set, taken}
@@ -45,8 +46,10 @@ returns-clause-ways c =
     c.sending_laws.ensures.trace_gives now ways k x o row c.without-self.result sum
     c.journal-journal.ensures.legal c.requires.ways below
     (read_row now.net (sent now.net) ways.sends k owed row c.get-owed.ensures made)
-    c.without-self.ensures.same (λ m within other.
-    c.without-self.ensures.others m within other
+    (without_same c.without-self.result c.set_receivers.new.self.woken k c.without-self.ensures)
+    (λ m within other.
+    without_others c.without-self.result c.set_receivers.new.self.woken k c.without-self.ensures m
+    other
     ∙ ap (λ (w : Ways). bit_at w.woken m) c.set_receivers.ensures.same) all)
 
 pub without-self-requires : goal.without-self-requires

@@ -1,4 +1,4 @@
--- Snapshots that enable two rows, by the codes that and_from rows allow.
+-- Snapshots that enable two rows, by the codes that both rows allow.
 use Rattle.std.proofs.Common.{◌≡◌, ◌<◌, ℕ, zero, suc, true, false, ◌&&◌, ◌==◌, nat_lt, List, [], ◌∷◌, length, slice_get, slice_index, arith, refl, sym, ◌∙◌, inl, inr}
 use Rattle.std.specs.List.{list_all}
 use Rattle.std.specs.Int.{bit_at}
@@ -96,7 +96,7 @@ allowed_here m row codes k fit held below =
     (list_all (allows_code k (slice_index codes k)) row.conds)
     (below_size m.vars codes k fit below) (all_allow codes k row.conds held)
 
--- no snapshot enables and_from rows where a variable has no code that and_from allow
+-- no snapshot enables both rows where a variable has no code that both allow
 pub none_enables : (m : Machine) (first second : Row) (of_first of_second : List ℕ) (k : ℕ)
     → AreSetsOf m.vars first of_first → AreSetsOf m.vars second of_second → k < length of_first
     → ((code : ℕ) → (bit_at (slice_index of_first k) code == 1
@@ -114,7 +114,7 @@ none_enables m first second of_first of_second k mf ms below none codes e =
     let never = none (slice_index codes k) in
     cc
 
--- what and_from rows allow is the box of their overlap
+-- what both rows allow is the box of their overlap
 pub box_is : (m : Machine) (first second : Row) (of_first of_second sets : List ℕ)
     → is_row m.inputs m.vars m.results first ≡ true → is_row m.inputs m.vars m.results second ≡ true
     → AreSetsOf m.vars first of_first → AreSetsOf m.vars second of_second

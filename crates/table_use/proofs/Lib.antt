@@ -13,7 +13,7 @@ mod InNetwork
 mod Named
 mod ListCounts
 mod RowBoxes
-mod FlagTables
+mod BoxCounts
 mod Sets
 mod Taken
 mod Remembered

@@ -11,7 +11,7 @@ use Rattle.domains.proofs.AllCodes.{lists_fit}
 use Rattle.domains.proofs.Ranks.{length_fits}
 use Rattle.transition_table.specs.MachineFacts.{names_codes, names_result}
 use Rattle.transition_table.specs.Transitions.{allows, holds}
-use Rattle.transition_table.specs.inner.Masks.{allows_code, row_allows}
+use Rattle.transition_table.specs.RowCodes.{allows_code, row_allows}
 use Rattle.transition_table.specs.declared.machine.Machine.{Machine}
 use Rattle.transition_table.specs.declared.row.Cond.{Cond}
 use Rattle.transition_table.specs.declared.row.Row.{Row}

@@ -5,61 +5,52 @@ ghost use Rattle.domains.specs.AllCodes.{all_codes};
 ghost use Rattle.table_use.specs.Lint.{amount, emits, enables_only, is_repeated_by, lint_of, repeats, row_lint, seen_ones};
 ghost use Rattle.table_use.specs.LintLines.{are_snapshots};
 ghost use Rattle.outcome_table.specs.Outcomes.{AreResultsOf};
+ghost use Rattle.transition_table.specs.RowCodes.{AreRowCodes};
 ghost use Rattle.transition_table.specs.Transitions.{OfMachine};
 ghost use Rattle.table_use.specs.Use.{enables};
-ghost use Rattle.table_use.specs.inner.Boxes.{all_flags};
-ghost use Rattle.table_use.specs.inner.Marks.{AreMarks};
 ghost use Rattle.table_use.specs.inner.Walking.{IsWalked};
 
-use crate::boxes::{Flags, all_flags, reach_of_both};
+use crate::boxes::reach_of_both;
 use crate::emitting::never_emitted;
 use crate::finding::{MachineLint, RowLint};
 use crate::keys::keys_of;
 use crate::lookup::{Lookup, idle_count};
-use crate::marks::{all_marks, has_more};
+use crate::marks::has_more;
 use crate::walk::{Walked, walk};
-use outcome_table::{Results, lists_from, results_of};
+use outcome_table::{Results, lists_from, results_by};
 use polis_base::limits::SIFTED_SNAPSHOTS_MAX;
 use polis_base::{List, NoMemory};
 use std::alloc::Global;
-use transition_table::{Machine, Network};
+use transition_table::{Machine, Network, RowCodes};
 
 // On how many snapshots each row is enabled.
-fn reaches(alloc: Global, machine: &Machine, all: &List<Flags>) -> Result<List<u64>, NoMemory>
-    requires { all.now ≡ all_flags machine.now }
+fn reaches(alloc: Global, machine: &Machine, codes: &RowCodes) -> Result<List<u64>, NoMemory>
+    requires { AreRowCodes machine.now codes.now }
     ensures { IfOk result (λ each. each
         ≡ map (λ r. amount machine.now (enables machine.now r)) (upto (length machine.now.rows))) }
 {
     let mut each = List::new(alloc);
     for r in 0..machine.row_count() {
-        each.push(reach_of_both(machine, all, r, r))?;
+        each.push(reach_of_both(machine, codes, r, r))?;
     }
     Ok(each)
 }
 
 // On how many snapshots row r is enabled, and k isn't.
-fn only_of(machine: &Machine, all: &List<Flags>, reach: &List<u64>, r: u32, k: u32) -> u64
-    requires all { all.now ≡ all_flags machine.now }
+fn only_of(machine: &Machine, codes: &RowCodes, reach: &List<u64>, r: u32, k: u32) -> u64
+    requires codes { AreRowCodes machine.now codes.now }
     requires reach { reach.now
         ≡ map (λ r. amount machine.now (enables machine.now r)) (upto (length machine.now.rows)) }
     requires row { r < length machine.now.rows }
     requires other { k < length machine.now.rows }
     ensures { result ≡ amount machine.now (enables_only machine.now r k) }
 {
-    *reach.get(u64::from(r)) - reach_of_both(machine, all, r, k)
+    *reach.get(u64::from(r)) - reach_of_both(machine, codes, r, k)
 }
 
 // Whether row r, which is enabled on some snapshots, repeats row k.
-fn repeats_row(
-    machine: &Machine,
-    all: &List<Flags>,
-    marks: &List<List<bool>>,
-    reach: &List<u64>,
-    r: u32,
-    k: u32,
-) -> bool
-    requires all { all.now ≡ all_flags machine.now }
-    requires marks { AreMarks machine.now marks.now }
+fn repeats_row(machine: &Machine, codes: &RowCodes, reach: &List<u64>, r: u32, k: u32) -> bool
+    requires codes { AreRowCodes machine.now codes.now }
     requires reach { reach.now
         ≡ map (λ r. amount machine.now (enables machine.now r)) (upto (length machine.now.rows)) }
     requires row { r < length machine.now.rows }
@@ -75,10 +66,10 @@ fn repeats_row(
     if other < own {
         return false;
     }
-    if has_more(marks.get(u64::from(r)), marks.get(u64::from(k))) {
+    if has_more(machine, codes, r, k) {
         return false;
     }
-    let only = only_of(machine, all, reach, r, k);
+    let only = only_of(machine, codes, reach, r, k);
     if only != 0 {
         return false;
     }
@@ -86,15 +77,8 @@ fn repeats_row(
 }
 
 // The least row that row r repeats.
-fn repeated(
-    machine: &Machine,
-    all: &List<Flags>,
-    marks: &List<List<bool>>,
-    reach: &List<u64>,
-    r: u32,
-) -> Option<u32>
-    requires all { all.now ≡ all_flags machine.now }
-    requires marks { AreMarks machine.now marks.now }
+fn repeated(machine: &Machine, codes: &RowCodes, reach: &List<u64>, r: u32) -> Option<u32>
+    requires codes { AreRowCodes machine.now codes.now }
     requires reach { reach.now
         ≡ map (λ r. amount machine.now (enables machine.now r)) (upto (length machine.now.rows)) }
     requires row { r < length machine.now.rows }
@@ -104,7 +88,7 @@ fn repeated(
         return None;
     }
     for k in 0..machine.row_count() {
-        if repeats_row(machine, all, marks, reach, r, k) {
+        if repeats_row(machine, codes, reach, r, k) {
             return Some(k);
         }
     }
@@ -115,20 +99,19 @@ fn repeated(
 fn row_lints(
     alloc: Global,
     machine: &Machine,
-    all: &List<Flags>,
+    codes: &RowCodes,
     reach: &List<u64>,
 ) -> Result<List<RowLint>, NoMemory>
-    requires all { all.now ≡ all_flags machine.now }
+    requires codes { AreRowCodes machine.now codes.now }
     requires reach { reach.now
         ≡ map (λ r. amount machine.now (enables machine.now r)) (upto (length machine.now.rows)) }
     ensures { IfOk result (λ each. each
         ≡ map (row_lint machine.now) (upto (length machine.now.rows))) }
 {
-    let marks = all_marks(alloc, machine, all)?;
     let mut each = List::new(alloc);
     for r in 0..machine.row_count() {
         let never = *reach.get(u64::from(r)) == 0;
-        let repeats = repeated(machine, all, &marks, reach, r);
+        let repeats = repeated(machine, codes, reach, r);
         each.push(RowLint { never, repeats })?;
     }
     Ok(each)
@@ -142,16 +125,16 @@ struct ByRows {
 }
 
 // What is said of rows and outputs, by the codes that the rows allow.
-fn lint_rows(alloc: Global, machine: &Machine) -> Result<ByRows, NoMemory>
+fn lint_rows(alloc: Global, machine: &Machine, codes: &RowCodes) -> Result<ByRows, NoMemory>
+    requires { AreRowCodes machine.now codes.now }
     ensures rows { IfOk result (λ x. x.rows
         ≡ map (row_lint machine.now) (upto (length machine.now.rows))) }
     ensures outputs { IfOk result (λ x. x.outputs
         ≡ map (λ y. amount machine.now (emits machine.now y) == 0)
         (upto (length machine.now.outputs))) }
 {
-    let all = all_flags(alloc, machine)?;
-    let reach = reaches(alloc, machine, &all)?;
-    let rows = row_lints(alloc, machine, &all, &reach)?;
+    let reach = reaches(alloc, machine, codes)?;
+    let rows = row_lints(alloc, machine, codes, &reach)?;
     let outputs = never_emitted(alloc, machine, &reach)?;
     Ok(ByRows { rows, outputs })
 }
@@ -173,10 +156,11 @@ fn walk_by(alloc: Global, machine: &Machine, results: &Results) -> Result<Walked
 }
 
 // What is found of all snapshots.
-fn lint_snapshots(alloc: Global, machine: &Machine) -> Result<Walked, NoMemory>
+fn lint_snapshots(alloc: Global, machine: &Machine, codes: &RowCodes) -> Result<Walked, NoMemory>
+    requires { AreRowCodes machine.now codes.now }
     ensures { IfOk result (IsWalked machine.now (all_codes machine.now.vars)) }
 {
-    let results = results_of(alloc, machine)?;
+    let results = results_by(alloc, machine, codes)?;
     let walked = walk_by(alloc, machine, &results)?;
     Ok(walked)
 }
@@ -195,13 +179,14 @@ fn lint_machine(alloc: Global, machine: &Machine) -> Result<MachineLint, NoMemor
     ensures snapshots { IfOk result (λ x. IsTrue (are_snapshots machine.now x)) }
 {
     let _ = machine.var_count();
-    let ByRows { rows, outputs } = lint_rows(alloc, machine)?;
+    let codes = RowCodes::new(alloc, machine)?;
+    let ByRows { rows, outputs } = lint_rows(alloc, machine, &codes)?;
     let Walked {
         fire,
         jam,
         inputs,
         states,
-    } = lint_snapshots(alloc, machine)?;
+    } = lint_snapshots(alloc, machine, &codes)?;
     Ok(MachineLint {
         seen: seen_count(machine),
         fire,

@@ -1,9 +1,9 @@
 -- Lists of codes each of which passes a test of its variable, and how many there are.
-use Rattle.std.specs.Prelude.{ℕ, zero, suc, ◌+◌, ◌*◌, Bool, true, false, cond, ◌&&◌, List, [], ◌∷◌, map, count_by, length, slice_get, slice_index, Option, Some, None}
+use Rattle.std.specs.Prelude.{ℕ, zero, suc, ◌+◌, ◌*◌, Bool, true, false, cond, ◌&&◌, List, [], ◌∷◌, count_by, slice_get, Option, Some, None}
 use Rattle.polis_base.specs.Lists.{upto}
 use Rattle.transition_table.specs.declared.machine.Machine.{Machine}
 use Rattle.transition_table.specs.declared.row.Row.{Row}
-use Rattle.transition_table.specs.inner.Masks.{row_allows}
+use Rattle.transition_table.specs.RowCodes.{row_allows}
 
 -- each code passes, the first being of the variable n
 abbrev pub passes : (ℕ → ℕ → Bool) → ℕ → List ℕ → Bool
@@ -32,12 +32,3 @@ allowed m r var code = allowed_by m.vars (slice_get m.rows r) var code
 
 abbrev pub both_allow : Machine → ℕ → ℕ → ℕ → ℕ → Bool
 both_allow m r k var code = allowed m r var code && allowed m k var code
-
--- for each variable, and code of it, whether the row allows it
-abbrev pub flags_of : Machine → ℕ → List (List Bool)
-flags_of m r =
-    map (λ var. map (allowed m r var) (upto (slice_index m.vars var))) (upto (length m.vars))
-
--- and these for each row
-abbrev pub all_flags : Machine → List (List (List Bool))
-all_flags m = map (flags_of m) (upto (length m.rows))

@@ -1,4 +1,4 @@
-use Rattle.std.proofs.Common.{◌+◌, arith, inl, inr, subst, sym, ◌∙◌, ◌≡◌, ◌<◌, ℕ}
+use Rattle.std.proofs.Common.{◌+◌, arith, inl, inr, subst, sym, ◌∙◌, ◌≡◌}
 use Rattle.std.specs.Int.{bit_at}
 use Rattle.std.proofs.lemmas.Bool.{cases_lt, eqb-true}
 use Rattle.determinism.proofs.sayers.run_from.Goals as goal

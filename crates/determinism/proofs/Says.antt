@@ -61,10 +61,11 @@ denies_first place var codes here few other =
     ap (λ p. says p codes) here ∙ says_low var codes few ∙ ne_eqb (slice_index codes var) 0 other
 
 -- a code of a variable that the row allows
-code_there : (m : Machine) (row : Row) (var mask : ℕ) (codes : List ℕ) → AreCodesOf m.vars row var mask
-    → Enables m row codes → var < length m.vars → bit_at mask (slice_index codes var) ≡ 1
-code_there m row var mask codes is e below =
-    eqb-true (bit_at mask (slice_index codes var)) 1
+code_there : (m : Machine) (row : Row) (var set : ℕ) (codes : List ℕ)
+    → AreCodesOf m.vars row var set → Enables m row codes → var < length m.vars
+    → bit_at set (slice_index codes var) ≡ 1
+code_there m row var set codes is e below =
+    eqb-true (bit_at set (slice_index codes var)) 1
     (is (slice_index codes var) ∙ allowed_here m row codes var e.snapshot e.held below)
 
 pub only_first : (m : Machine) (row : Row) (var set rest : ℕ) (codes : List ℕ)

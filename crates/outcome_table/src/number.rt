@@ -171,7 +171,8 @@ fn number_rest(
 ) -> Result<(), NoMemory>
     requires at { at < length narrowing.now.machine.now.vars }
     requires snapshot { IsSnapshot narrowing.now.machine.now s.old }
-    requires rows { members_of rows.now ≡ rows_left narrowing.now.machine.now (take at s.old.codes) }
+    requires rows { members_of rows.now
+        ≡ rows_left narrowing.now.machine.now (take at s.old.codes) }
     requires begins { BeginWithRows narrowing.now.machine.now narrowing.now.fixed.now
         made.old.outcomes }
     requires within { are_named made.old.outcomes made.old.numbers.items }

@@ -90,7 +90,8 @@ count_members : (test : ℕ → Bool) (set size : ℕ) → size ≤ 64
 unfolding members
 count_members test set size few is past =
     ap (λ (l : List ℕ). length l)
-    (same_below (λ k. eqb (bit_at set k) 1) test 64 (λ k low. is k) ∙ none_past test size 64 few past)
+    (same_below (λ k. eqb (bit_at set k) 1) test 64 (λ k low. is k) ∙ none_past test size 64 few
+    past)
     ∙ filtered test (upto size)
 
 -- a row allows no code past a variable's

@@ -11,7 +11,8 @@ returns-clause-inside c =
     let sets = c.args.pair.now.sets.now in
     let at = get_or_from_slice_get sets c.args.v c.get.result.now 0 c.get.ensures in
     let set = eqb-true (bit_at c.get.result.now c.args.code) 1
-    (sym (c.has.ensures ∙ ap (λ k. bit_at c.get.result.now k == 1) c.from.ensures) ∙ c.if-not-has.false) in
+    (sym (c.has.ensures ∙ ap (λ k. bit_at c.get.result.now k == 1) c.from.ensures) ∙
+    c.if-not-has.false) in
     rw c.set.ensures
     (in_set sets c.args.s.now.codes c.args.v c.args.code c.requires.inside c.requires.reads.there
     (ap (λ n. bit_at n c.args.code) at ∙ set))
@@ -21,7 +22,8 @@ differ-requires c =
     let sets = c.args.pair.now.sets.now in
     let at = get_or_from_slice_get sets c.args.v c.get.result.now 0 c.get.ensures in
     let set = eqb-true (bit_at c.get.result.now c.args.code) 1
-    (sym (c.has.ensures ∙ ap (λ k. bit_at c.get.result.now k == 1) c.from.ensures) ∙ c.if-not-has.false) in
+    (sym (c.has.ensures ∙ ap (λ k. bit_at c.get.result.now k == 1) c.from.ensures) ∙
+    c.if-not-has.false) in
     let inside = in_set sets c.args.s.now.codes c.args.v c.args.code c.requires.inside
     c.requires.reads.there (ap (λ n. bit_at n c.args.code) at ∙ set) in
     record { snapshot = rw c.set.ensures (c.args.pair.now.area.inside _ inside).snapshot }
@@ -50,7 +52,8 @@ returns-then-not-has-clause-none c = λ h t there at_u at_v.
     let sets = c.args.pair.now.sets.now in
     let at = get_or_from_slice_get sets c.args.v c.get.result.now 0 c.get.ensures in
     let differ = not_there sets t c.args.v c.args.code there c.requires.reads.there at_v
-    (ap (λ n. bit_at n c.args.code == 1) at ∙ sym (c.has.ensures ∙ ap (λ k. bit_at c.get.result.now k == 1) c.from.ensures) ∙ c.if-not-has.true) in
+    (ap (λ n. bit_at n c.args.code == 1) at ∙ sym (c.has.ensures ∙ ap (λ k. bit_at c.get.result.now
+    k == 1) c.from.ensures) ∙ c.if-not-has.true) in
     absurd differ
 
 pub set-requires : goal.set-requires

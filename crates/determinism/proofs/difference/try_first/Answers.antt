@@ -29,7 +29,8 @@ returns-then-not-has-clause-none c = λ h t there at differ.
     let sets = c.args.pair.now.sets.now in
     let set = get_or_from_slice_get sets c.args.u c.get.result.now 0 c.get.ensures in
     not_there sets t c.args.u c.args.code there (omega arith) at
-    (ap (λ n. bit_at n c.args.code == 1) set ∙ sym (c.has.ensures ∙ ap (λ k. bit_at c.get.result.now k == 1) c.from.ensures) ∙ c.if-not-has.true)
+    (ap (λ n. bit_at n c.args.code == 1) set ∙ sym (c.has.ensures ∙ ap (λ k. bit_at
+    c.get.result.now k == 1) c.from.ensures) ∙ c.if-not-has.true)
 
 pub first_code-requires-clause-inside : goal.first_code-requires-clause-inside
 first_code-requires-clause-inside c =
@@ -38,7 +39,8 @@ first_code-requires-clause-inside c =
     let sets = c.args.pair.now.sets.now in
     let at = get_or_from_slice_get sets c.args.u c.get.result.now 0 c.get.ensures in
     let set = eqb-true (bit_at c.get.result.now c.args.code) 1
-    (sym (c.has.ensures ∙ ap (λ k. bit_at c.get.result.now k == 1) c.from.ensures) ∙ c.if-not-has.false) in
+    (sym (c.has.ensures ∙ ap (λ k. bit_at c.get.result.now k == 1) c.from.ensures) ∙
+    c.if-not-has.false) in
     subst (IsIn sets) (sym c.set.ensures)
     (in_set sets c.args.s.now.codes c.args.u c.args.code c.requires.inside (omega arith)
     (ap (λ n. bit_at n c.args.code) at ∙ set))

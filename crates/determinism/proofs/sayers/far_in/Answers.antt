@@ -19,7 +19,8 @@ loop-left-preserved c =
     c.get.result.now 0 (rw c.from.ensures at c.get.ensures) in
     record {
       far = λ i set.
-          elim (of_either c.loop-left.far c.get.result.now c.either-far.result i (c.either-far.ensures i) set) [
+          elim (of_either c.loop-left.far c.get.result.now c.either-far.result i
+          (c.either-far.ensures i) set) [
             | inl before ↦ c.loop-left.invariant.far i before
             | inr new ↦ (
               place,
@@ -28,7 +29,8 @@ loop-left-preserved c =
               c.loop-left.invariant.inside place c.least-place.ensures.member,
             )
           ];
-      inside = λ i set. c.loop-left.invariant.inside i (of_less c.loop-left.left c.without-left.result place c.without-left.ensures i set);
+      inside = λ i set. c.loop-left.invariant.inside i (of_less c.loop-left.left
+          c.without-left.result place c.without-left.ensures i set);
     }
 
 pub loop-left-smaller : goal.loop-left-smaller

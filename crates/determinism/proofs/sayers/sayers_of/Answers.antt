@@ -8,5 +8,6 @@ loop-row-init c = none_said c.args.marks.now c.in_ok-sayers.sayers
 
 pub loop-row-preserved : goal.loop-row-preserved
 loop-row-preserved c =
-    next_row c.args.marks.now c.loop-row.sayers c.add_row.new.sayers c.loop-row.row c.get-of_row.result.now
+    next_row c.args.marks.now c.loop-row.sayers c.add_row.new.sayers c.loop-row.row
+    c.get-of_row.result.now
     c.loop-row.invariant c.get-of_row.ensures c.add_row.ensures.long c.add_row.ensures.added

@@ -55,7 +55,8 @@ loop-r-preserved c =
     let is : c.has.result ≡ row_allows m.vars row var code =
     c.has.ensures
     ∙ ap (λ k. bit_at c.get-allowed.result.now k == 1) c.from-in-loop-r-2.ensures
-    ∙ allows m c.args.codes.now r var code c.get-allowed.result.now c.of_row.result.now row c.requires.codes
+    ∙ allows m c.args.codes.now r var code c.get-allowed.result.now c.of_row.result.now row
+    c.requires.codes
     c.requires.var found.1 (rw c.from.ensures at c.of_row.ensures)
     (rw c.from-in-loop-r.ensures at c.get-allowed.ensures) in
     elim c.if-has.branch [

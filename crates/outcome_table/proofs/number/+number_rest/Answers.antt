@@ -121,7 +121,8 @@ end_left-requires t c =
     c.loop-code.invariant.snapshot
     c.loop-code.invariant.kept c.get-code-end.ensures c.loop-code-test.true in
     let next = left_next m c.args.narrowing.now.allowed.now c.get-sets.result.now
-    c.get-allowed.result.now s c.loop-code.s.codes c.set.new.self (members_of c.args.rows.now) at code
+    c.get-allowed.result.now s c.loop-code.s.codes c.set.new.self (members_of c.args.rows.now) at
+    code
     c.get-code-end.result.now u c.args.narrowing.now.are_allowed c.get-sets.ensures
     (rw c.from.ensures at c.get-allowed.ensures) c.requires.rows c.set.ensures in
     let first : c.first_of_both-first.result
@@ -149,7 +150,8 @@ number_all-requires-clause-first t c =
     c.loop-code.invariant.snapshot
     c.loop-code.invariant.kept c.get-code-end.ensures c.loop-code-test.true in
     let next = left_next m c.args.narrowing.now.allowed.now c.get-sets.result.now
-    c.get-allowed.result.now s c.loop-code.s.codes c.set.new.self (members_of c.args.rows.now) at code
+    c.get-allowed.result.now s c.loop-code.s.codes c.set.new.self (members_of c.args.rows.now) at
+    code
     c.get-code-end.result.now u c.args.narrowing.now.are_allowed c.get-sets.ensures
     (rw c.from.ensures at c.get-allowed.ensures) c.requires.rows c.set.ensures in
     let first : c.first_of_both-first.result
@@ -159,7 +161,8 @@ number_all-requires-clause-first t c =
 
 pub number_all-requires-clause-begins : goal.number_all-requires-clause-begins
 number_all-requires-clause-begins t c =
-    begins_kept c.args.narrowing.now.machine.now c.args.narrowing.now.fixed.now c.args.made.now.outcomes
+    begins_kept c.args.narrowing.now.machine.now c.args.narrowing.now.fixed.now
+    c.args.made.now.outcomes
     c.loop-code.made.outcomes c.requires.begins c.loop-code.invariant.adds.kept
 
 pub loop-code-preserved-then-end_left-at : goal.loop-code-preserved-then-end_left-at
@@ -193,7 +196,8 @@ number_rest-requires t c =
     c.loop-code.invariant.snapshot
     c.loop-code.invariant.kept c.get-code-end.ensures c.loop-code-test.true in
     let next = left_next m c.args.narrowing.now.allowed.now c.get-sets.result.now
-    c.get-allowed.result.now s c.loop-code.s.codes c.set.new.self (members_of c.args.rows.now) at code
+    c.get-allowed.result.now s c.loop-code.s.codes c.set.new.self (members_of c.args.rows.now) at
+    code
     c.get-code-end.result.now u c.args.narrowing.now.are_allowed c.get-sets.ensures
     (rw c.from.ensures at c.get-allowed.ensures) c.requires.rows c.set.ensures in
     let left : members_of c.both.result ≡ rows_left m (take (at + 1) c.set.new.self) =

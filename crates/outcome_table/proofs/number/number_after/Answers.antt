@@ -54,9 +54,11 @@ head m s ends at r first long low is are end some =
 pub get-requires : goal.get-requires
 get-requires c =
     let m = c.args.narrowing.now.machine.now in
-    let h = head m c.args.s.now.codes c.args.narrowing.now.ends.now c.args.at c.from-r.result c.args.first
+    let h = head m c.args.s.now.codes c.args.narrowing.now.ends.now c.args.at c.from-r.result
+    c.args.first
     (length_fits m.vars c.args.s.now.codes c.requires.snapshot) c.requires.at c.requires.first
-    c.args.narrowing.now.are_ends c.requires.end (c.in-Some.is ∙ ap (λ (k : ℕ). Some k) (sym c.from-r.ensures)) in
+    c.args.narrowing.now.are_ends c.requires.end (c.in-Some.is ∙ ap (λ (k : ℕ). Some k) (sym
+    c.from-r.ensures)) in
     let inside = h.inside in
     let long = c.requires.begins.long in
     omega arith
@@ -74,9 +76,11 @@ returns-then-get c =
     let m = c.args.narrowing.now.machine.now in
     let fixed = take c.args.at c.args.s.now.codes in
     let r : ℕ = c.from-r.result in
-    let h = head m c.args.s.now.codes c.args.narrowing.now.ends.now c.args.at c.from-r.result c.args.first
+    let h = head m c.args.s.now.codes c.args.narrowing.now.ends.now c.args.at c.from-r.result
+    c.args.first
     (length_fits m.vars c.args.s.now.codes c.requires.snapshot) c.requires.at c.requires.first
-    c.args.narrowing.now.are_ends c.requires.end (c.in-Some.is ∙ ap (λ (k : ℕ). Some k) (sym c.from-r.ensures)) in
+    c.args.narrowing.now.are_ends c.requires.end (c.in-Some.is ∙ ap (λ (k : ℕ). Some k) (sym
+    c.from-r.ensures)) in
     let inside = h.inside in
     let some = c.requires.begins.some in
     let on : slice_get c.args.narrowing.now.fixed.now r ≡ Some true =
@@ -111,7 +115,8 @@ returns c =
     let r : ℕ = c.from-r.result in
     let h = head m s c.args.narrowing.now.ends.now c.args.at c.from-r.result c.args.first
     (length_fits m.vars s c.requires.snapshot) c.requires.at c.requires.first
-    c.args.narrowing.now.are_ends c.requires.end (c.in-Some.is ∙ ap (λ (k : ℕ). Some k) (sym c.from-r.ensures)) in
+    c.args.narrowing.now.are_ends c.requires.end (c.in-Some.is ∙ ap (λ (k : ℕ). Some k) (sym
+    c.from-r.ensures)) in
     let there = h.at in
     let same : c.get-row.result.now ≡ h.first.row = let a = there in let b = c.get-row.ensures in
     cc in

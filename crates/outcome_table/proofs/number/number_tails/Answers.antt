@@ -17,7 +17,8 @@ number_under-requires c =
     let s = c.args.s.now.codes in
     let lists : List (List ℕ) = all_codes (drop tails.from m.vars) in
     let j : ℕ = c.loop-j.j in
-    let one = left_for m s (members_of c.args.rows.now) c.get.result.now lists tails.sets tails.from j
+    let one = left_for m s (members_of c.args.rows.now) c.get.result.now lists tails.sets
+    tails.from j
     c.requires.from (length_fits m.vars s c.requires.snapshot)
     (c.args.narrowing.now.are_tails.sets c.requires.from)
     c.requires.rows c.get.ensures in
@@ -39,7 +40,8 @@ loop-j-preserved c =
     let j : ℕ = c.loop-j.j in
     let outcomes : List (List ℕ) = c.loop-j.made.outcomes in
     let each = c.args.narrowing.now.are_tails.sets c.requires.from in
-    let one = left_for m s (members_of c.args.rows.now) c.get.result.now lists tails.sets tails.from j
+    let one = left_for m s (members_of c.args.rows.now) c.get.result.now lists tails.sets
+    tails.from j
     c.requires.from (length_fits m.vars s c.requires.snapshot) each c.requires.rows c.get.ensures in
     let full : List ℕ = take tails.from s ++ get_or lists j [] in
     let first : c.first_of_both-first.result ≡ slice_get (rows_left m full) 0 =

@@ -16,12 +16,14 @@ first-rows-requires c =
 
 pub number_every-requires-clause-rows : goal.number_every-requires-clause-rows
 number_every-requires-clause-rows c =
-    all_rows c.args.narrowing.now.machine.now (members_of c.first-rows.result) c.row_count.result c.first-rows.ensures.members
+    all_rows c.args.narrowing.now.machine.now (members_of c.first-rows.result) c.row_count.result
+    c.first-rows.ensures.members
     c.row_count.ensures.count
 
 pub number_every-requires-clause-begins : goal.number_every-requires-clause-begins
 number_every-requires-clause-begins c =
-    rw c.of.ensures (begin c.args.narrowing.now.machine.now c.in_ok-first_codes.field-0 c.args.narrowing.now.fixed.now
+    rw c.of.ensures (begin c.args.narrowing.now.machine.now c.in_ok-first_codes.field-0
+    c.args.narrowing.now.fixed.now
     c.in_ok-row_outcomes.field-0 c.in_ok-row_outcomes.ensures c.requires.fixed)
 
 pub returns-clause-results : goal.returns-clause-results
@@ -30,4 +32,5 @@ returns-clause-results c =
     c.in_ok-number_every.ensures.results
     ∙ ap (λ (xs : List ℕ). named c.of.result xs
     ++ map (result_codes m) (lists_after [] m.vars)) c.in_ok-with_capacity.ensures.items
-    ∙ ap (map (result_codes c.args.narrowing.now.machine.now)) (lists_all c.args.narrowing.now.machine.now.vars)
+    ∙ ap (map (result_codes c.args.narrowing.now.machine.now)) (lists_all
+    c.args.narrowing.now.machine.now.vars)

@@ -24,7 +24,8 @@ loop-j-preserved c =
           ∙ c.loop-j.invariant.kept;
       long = omega arith;
       each = λ k low.
-          subst (λ (xs : List (List ℕ)). IsBoth set (get_or later k []) (get_or xs (length old + k) []))
+          subst (λ (xs : List (List ℕ)). IsBoth set (get_or later k []) (get_or xs (length old + k)
+          []))
           (sym ok)
           (both_pushed set later made added (length old) j long c.loop-j.invariant.each own k low);
     }

@@ -23,7 +23,8 @@ overflow_mul-result t c =
     let b = c.if-from-len.false in let l = c.len.ensures.len in omega arith in
     let same : c.len-count.result * c.passing_from.result
     ≡ passing test from (drop from m.vars) =
-    ap (λ (n : ℕ). n * c.passing_from.result) (count_both m c.args.r c.args.k from c.codes_of_both-both.result
+    ap (λ (n : ℕ). n * c.passing_from.result) (count_both m c.args.r c.args.k from
+    c.codes_of_both-both.result
     c.len-count.result c.requires.row low c.codes_of_both-both.ensures c.len-count.ensures.members)
     ∙ ap (λ (n : ℕ). count_by (test from) (upto (slice_index m.vars from)) * n)
     c.passing_from.ensures
@@ -40,7 +41,8 @@ returns t c =
     let test = both_allow m c.args.r c.args.k in
     let low : from < length m.vars = let a = c.requires.from in
     let b = c.if-from-len.false in let l = c.len.ensures.len in omega arith in
-    ap (λ (n : ℕ). n * c.passing_from.result) (count_both m c.args.r c.args.k from c.codes_of_both-both.result
+    ap (λ (n : ℕ). n * c.passing_from.result) (count_both m c.args.r c.args.k from
+    c.codes_of_both-both.result
     c.len-count.result c.requires.row low c.codes_of_both-both.ensures c.len-count.ensures.members)
     ∙ ap (λ (n : ℕ). count_by (test from) (upto (slice_index m.vars from)) * n)
     c.passing_from.ensures
@@ -55,7 +57,8 @@ returns-then-count-eq0 t c =
     let b = c.if-from-len.false in let l = c.len.ensures.len in omega arith in
     let none : count_by (test from) (upto (slice_index m.vars from)) ≡ 0 =
     sym (count_both m c.args.r c.args.k from c.codes_of_both-both.result
-    c.len-count.result c.requires.row low c.codes_of_both-both.ensures c.len-count.ensures.members) ∙ c.if-count-eq0.true in
+    c.len-count.result c.requires.row low c.codes_of_both-both.ensures c.len-count.ensures.members)
+    ∙ c.if-count-eq0.true in
     sym (passing_here test m.vars from low
     ∙ ap (λ (n : ℕ). n * passing test (from + 1) (drop (from + 1) m.vars)) none
     ∙ zero-mul (passing test (from + 1) (drop (from + 1) m.vars)))

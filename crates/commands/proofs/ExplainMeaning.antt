@@ -14,17 +14,19 @@ use Rattle.input_files.specs.declared.load.Detail.TheVariants as details
 use Rattle.commands.specs.inner.Lawful.{IsLawful}
 use Rattle.commands.specs.Made.{IsMadeProduct}
 use Rattle.commands.proofs.IsMade.{product_made}
-use Rattle.commands.proofs.CheckMeaning.{check_lawful}
 use Rattle.commands.proofs.InputsMeaning.{inputs_lawful}
-use Rattle.commands.proofs.ReplayMeaning.{replay_lawful}
+use Rattle.commands.specs.JournalProducts.{replay_product}
+use Rattle.commands.proofs.JournalMeaning.{judging_lawful}
+use Rattle.commands.proofs.NetProducts.{on_net_lawful}
+use Rattle.polis_words.specs.declared.requests.command.OnNet.TheVariants.{Check}
 use Rattle.polis_base.proofs.WhereTold.{told_from}
 
 pub explain_lawful : (explain : Explain) → IsLawful (explain_meaning explain)
-explain_lawful (Net check) = check_lawful details.Explained check
+explain_lawful (Net check) = on_net_lawful details.Explained Check check
 explain_lawful (Trace asked) =
     inputs_lawful details.Explained asked.net asked.trace (MakesItems asked) ends_done
     (λ files product m. (m.net, m.trace, m.holds_net, m.holds_trace))
-explain_lawful (Journal replay) = replay_lawful details.Explained replay
+explain_lawful (Journal replay) = judging_lawful details.Explained replay replay_product
 
 -- the product of two files
 pub items_made : (o : Option Files) (asked : NetTraceWords) (net : Network)

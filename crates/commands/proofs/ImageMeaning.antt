@@ -78,7 +78,7 @@ pub image_made : (o : Option Files) (image : NetStemWords) (net : Network) (prod
     → WhereTold o (λ files. HoldsNet files image.net net) → IsImageProduct image net product
     → IsMadeProduct (image_meaning image) o product
 image_made o image net product held p =
-    product_made (image_meaning image) o product (image_product image p.bytes) p.made
+    product_made (image_meaning image) o product (image_product image.stem p.bytes) p.made
     (tt, tt) refl
     (told_from o (λ files. HoldsNet files image.net net) _
     (λ files h. record {

@@ -23,10 +23,10 @@ use Rattle.input_files.specs.declared.load.Detail.{Detail}
 use Rattle.input_files.specs.declared.load.Detail.TheVariants as details
 use Rattle.commands.specs.Meanings.{Meaning}
 use Rattle.input_files.specs.Failures.{is_failure, IfExplained, FileExplained, FilesExplained, NamesOneOf}
-use Rattle.commands.specs.Replay.{FailsReplay}
-use Rattle.commands.specs.declared.replay.ReplayFiles.{ReplayFiles}
+use Rattle.commands.specs.Judging.{FailsReplay}
+use Rattle.commands.specs.declared.judging.ReplayFiles.{ReplayFiles}
 use Rattle.commands.specs.inner.Explain.{entry_explained}
-use Rattle.commands.specs.inner.Replay.{AreLoaded, HoldsBoth, IsFoundOf, IsIllegalUpTo, IsUnlawful}
+use Rattle.commands.specs.inner.Judging.{AreLoaded, HoldsBoth, IsFoundOf, IsIllegalUpTo, IsUnlawful}
 use Rattle.commands.specs.Made.{JudgingExplained, IsMadeFailure}
 use Rattle.commands.proofs.IsJudged.{illegal_fails, journal_fails}
 use Rattle.commands.proofs.IsMade.{may_fail, may_judge}

@@ -18,10 +18,10 @@ use Rattle.polis_words.specs.declared.cause.Cause.TheVariants.{Illegal as Unlawf
 use Rattle.polis_words.specs.Replay.{ReplayWords}
 use Rattle.input_files.specs.Inputs.{HoldsNet, HoldsTrace}
 use Rattle.input_files.specs.JournalFiles.{HoldsJournal, JournalFails, LegalAndRising, IsFirstIllegal}
-use Rattle.commands.specs.Replay.{IsJudged, FailsReplay}
-use Rattle.commands.specs.declared.replay.Judged.{Judged}
-use Rattle.commands.specs.declared.replay.ReplayFiles.{ReplayFiles}
-use Rattle.commands.specs.inner.Replay.{AreLoaded, FitTogether, HoldsBoth, IsFound, IsJudgmentOf}
+use Rattle.commands.specs.Judging.{IsJudged, FailsReplay}
+use Rattle.commands.specs.declared.judging.Judged.{Judged}
+use Rattle.commands.specs.declared.judging.ReplayFiles.{ReplayFiles}
+use Rattle.commands.specs.inner.Judging.{AreLoaded, FitTogether, HoldsBoth, IsFound, IsJudgmentOf}
 use Rattle.polis_base.proofs.WhereTold.{told_both}
 use Rattle.input_files.proofs.Holds.{journal_held, one_text}
 use Rattle.polis_base.proofs.Bools.{and_first, and_second}

@@ -20,7 +20,7 @@ use Rattle.input_files.specs.Failures.{is_finding, explains_nothing, FileFails}
 use Rattle.input_files.specs.declared.load.Detail.TheVariants as details
 use Rattle.polis_base.proofs.WhereTold.{told_from, told_both}
 use Rattle.commands.specs.Meanings.{finds_illegal}
-use Rattle.commands.specs.Replay.{IsJudged, FailsReplay, IsIllegalReplay}
+use Rattle.commands.specs.Judging.{IsJudged, FailsReplay, IsIllegalReplay}
 use Rattle.commands.specs.Monitors.{HoldsMonitor, MonitorFails}
 use Rattle.commands.specs.Watch.{MakesWatch, AcceptsWatch, FailsWatch, end_watched, ends_watched, watch_product, watch_meaning}
 use Rattle.commands.specs.inner.Lawful.{IsLawful}
@@ -30,13 +30,14 @@ use Rattle.commands.proofs.IsExplained.{judging_explained}
 use Rattle.commands.proofs.IsMade.{product_made, none_told}
 use Rattle.commands.proofs.MonitorFails.{monitor_refused, monitor_unfound}
 use Rattle.commands.proofs.OneNet.{one_held_net}
-use Rattle.commands.proofs.ReplayMeaning.{illegal_is, judged_legal, replay_lawful}
+use Rattle.commands.proofs.JournalMeaning.{illegal_is, judged_legal, judging_lawful}
+use Rattle.commands.specs.JournalProducts.{replay_product}
 
 -- ---- where a file fails
 watch_refused : (files : Files) (watch : WatchWords) (name : List ℕ) (cause : Cause)
     → cause_status cause ≡ Refused → FailsWatch watch files name cause → ¬ AcceptsWatch watch files
 watch_refused files watch name cause s (inl h) all =
-    (replay_lawful details.Cause watch.replay).refused files name cause h s all.accepted
+    (judging_lawful details.Cause watch.replay replay_product).refused files name cause h s all.accepted
 watch_refused files watch name cause s (inr h) all =
     let held = all.monitored h.net h.trace h.journal h.judged.stamps h.judged.holds
     h.judged.lawful in
@@ -46,7 +47,7 @@ watch_found : (files : Files) (watch : WatchWords) (name : List ℕ) (cause : Ca
     → FailsWatch watch files name cause → IsTrue (is_finding (cause_status cause))
     → finds_illegal (IsIllegalReplay watch.replay) (cause_status cause) files
 watch_found files watch name cause (inl h) f =
-    (replay_lawful details.Cause watch.replay).found files name cause h f
+    (judging_lawful details.Cause watch.replay replay_product).found files name cause h f
 watch_found files watch name cause (inr h) f =
     absurd (monitor_unfound files watch.monitor h.net cause f h.fails)
 
@@ -84,7 +85,7 @@ watch_lawful watch = record {
   found_accepts = λ files status found. illegal_accepts files watch status found;
   found_ends = λ files status found.
       ap ends_watched (illegal_is (IsIllegalReplay watch.replay) files status found).0;
-  found_once = (replay_lawful details.Cause watch.replay).found_once;
+  found_once = (judging_lawful details.Cause watch.replay replay_product).found_once;
 }
 
 -- ---- what is made

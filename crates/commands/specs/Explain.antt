@@ -9,11 +9,12 @@ use Rattle.polis_words.specs.declared.requests.explain.Explain.{Explain}
 use Rattle.polis_words.specs.declared.requests.explain.Explain.TheVariants.{Net, Trace, Journal}
 use Rattle.output_files.specs.declared.product.Product.{Product}
 use Rattle.output_files.specs.Products.{shows_only}
-use Rattle.commands.specs.Check.{check_meaning}
 use Rattle.input_files.specs.Inputs.{HoldsNet, HoldsTrace}
 use Rattle.input_files.specs.declared.load.Detail.TheVariants as details
 use Rattle.commands.specs.Meanings.{Meaning, ends_done, inputs_meaning}
-use Rattle.commands.specs.Replay.{replay_meaning}
+use Rattle.commands.specs.JournalProducts.{replay_meaning}
+use Rattle.commands.specs.NetProducts.{on_net_meaning}
+use Rattle.polis_words.specs.declared.requests.command.OnNet.TheVariants.{Check}
 
 -- the product saves nothing, and shows how many items the trace has
 abbrev pub items_product : List TraceItem → Product
@@ -34,6 +35,6 @@ explain_trace_meaning asked =
 
 -- as `check` and `replay`, but for what is said of a file that is refused
 abbrev pub explain_meaning : Explain → Meaning
-explain_meaning (Net check) = check_meaning details.Explained check
+explain_meaning (Net check) = on_net_meaning details.Explained Check check
 explain_meaning (Trace asked) = explain_trace_meaning asked
 explain_meaning (Journal replay) = replay_meaning details.Explained replay

@@ -1,5 +1,5 @@
 -- What `image` makes.
-use Rattle.std.specs.Prelude.{◌≡◌, ◌⊎◌, ℕ, ◌<◌, ◌≤◌, true, List, length}
+use Rattle.std.specs.Prelude.{◌≡◌, ◌⊎◌, ℕ, ◌<◌, ◌≤◌, true, List, ◌++◌, length, codes}
 use Rattle.polis_base.specs.declared.limits.TheConstants.{LONG_FILE_MAX}
 use Rattle.polis_base.specs.Host.{Files}
 use Rattle.transition_table.specs.declared.network.Network.{Network}
@@ -11,7 +11,7 @@ use Rattle.task_image.specs.Fields.{ImageBytes}
 use Rattle.task_image.specs.Images.{image_of}
 use Rattle.polis_words.specs.declared.cause.Cause.{Cause}
 use Rattle.polis_words.specs.declared.cause.Cause.TheVariants.{ImageLong}
-use Rattle.polis_words.specs.NetStem.{NetStemWords, image_name}
+use Rattle.polis_words.specs.NetStem.{NetStemWords}
 use Rattle.polis_words.specs.Texts.{image_text}
 use Rattle.output_files.specs.declared.product.Product.{Product}
 use Rattle.input_files.specs.Inputs.{HoldsNet, NetFails}
@@ -25,9 +25,8 @@ abbrev pub image_of_parts : Network → List Part → List ImageMachine
 image_of_parts net parts = image_of net.machines (codes_in parts)
 
 -- the product saves the bytes, and shows how many these are
-abbrev pub image_product : NetStemWords → List ℕ → Product
-image_product image bytes =
-    saves_one (image_name image) bytes (image_text (length bytes))
+abbrev pub image_product : List ℕ → List ℕ → Product
+image_product stem bytes = saves_one (stem ++ codes ".img") bytes (image_text (length bytes))
 
 -- The file holds a network that is accepted, each of its machines was compiled rightly, these are
 -- the bytes of their image, no more than a file may have, and the product is that of these.
@@ -39,7 +38,7 @@ pub record MakesImage (image : NetStemWords) (files : Files) (product : Product)
   pub bytes : List ℕ
   pub are_bytes : AreBytesOf (image_of_parts net parts) bytes
   pub within : length bytes ≤ LONG_FILE_MAX
-  pub made : product ≡ image_product image bytes
+  pub made : product ≡ image_product image.stem bytes
 
 -- The file holds a network that is accepted, and P holds of the length of its image. A network has
 -- one list of right parts, and so one image.

@@ -1,6 +1,5 @@
--- What `lint` makes.
-use Rattle.std.specs.Prelude.{◌≡◌, ℕ, cond, List, [], ◌++◌, flat_map}
-use Rattle.polis_base.specs.Host.{Files}
+-- What `lint` shows.
+use Rattle.std.specs.Prelude.{ℕ, cond, List, [], ◌++◌, flat_map}
 use Rattle.transition_table.specs.NetworkFacts.{has}
 use Rattle.transition_table.specs.declared.machine.Machine.{Machine}
 use Rattle.transition_table.specs.declared.network.Network.{Network}
@@ -10,12 +9,6 @@ use Rattle.polis_base.specs.Lists.{numbered}
 use Rattle.table_use.specs.DomainUse.{unused_domains, unused_domain_line}
 use Rattle.table_use.specs.Lint.{lint_of}
 use Rattle.table_use.specs.LintLines.{lint_text}
-use Rattle.polis_words.specs.Check.{CheckWords}
-use Rattle.output_files.specs.declared.product.Product.{Product}
-use Rattle.output_files.specs.Products.{shows_only}
-use Rattle.input_files.specs.declared.load.Detail.TheVariants as details
-use Rattle.input_files.specs.Inputs.{HoldsDeclared}
-use Rattle.commands.specs.Meanings.{Meaning, net_meaning}
 
 -- what the table of a machine leaves open
 abbrev pub table_text : Network → Machine → List ℕ
@@ -31,19 +24,3 @@ abbrev pub tables_text : RawNet → Network → List ℕ
 tables_text raw net =
     flat_map (table_text net) net.machines
     ++ numbered (domain_text (unused_domains net)) 0 raw.domains
-
--- the product saves nothing, and shows what the tables leave open
-abbrev pub lint_product : RawNet → Network → Product
-lint_product raw net = shows_only (tables_text raw net)
-
--- the file holds a network that is accepted, with these declarations, and the product is that of
--- its tables
-pub record MakesLint (lint : CheckWords) (files : Files) (product : Product) : Type 0 where
-  pub raw : RawNet
-  pub net : Network
-  pub holds : HoldsDeclared files lint.net raw net
-  pub made : product ≡ lint_product raw net
-
--- it reads and judges the network as `check` does
-abbrev pub lint_meaning : CheckWords → Meaning
-lint_meaning lint = net_meaning details.Cause lint.net (MakesLint lint)

@@ -20,7 +20,7 @@ use Rattle.input_files.specs.Failures.{explains_nothing}
 use Rattle.input_files.specs.JournalFiles.{LegalAndRising}
 use Rattle.commands.specs.Meanings.{Meaning, finds_illegal}
 use Rattle.commands.specs.Monitors.{HoldsMonitor, MonitorFails}
-use Rattle.commands.specs.Replay.{HoldsReplay, IsJudged, AcceptsReplay, FailsReplay, IsIllegalReplay}
+use Rattle.commands.specs.Judging.{HoldsReplay, IsJudged, AcceptsReplay, FailsReplay, IsIllegalReplay}
 
 -- how a call ends with what a monitor says
 abbrev pub end_watched : Watched → End

@@ -1,12 +1,11 @@
 pub mod Lawful
 pub mod Run
 pub mod Shuffle
-pub mod Compile
-pub mod Replay
+pub mod Parts
+pub mod Judging
 pub mod Demo
 pub mod Bound
 pub mod Image
 pub mod Equiv
 pub mod Explain
-pub mod Draw
 pub mod Watch

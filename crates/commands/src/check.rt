@@ -1,5 +1,6 @@
 // The command `check`: whether a network is accepted.
-ghost use Rattle.commands.specs.Check.{check_meaning};
+ghost use Rattle.commands.specs.NetProducts.{on_net_meaning};
+ghost use Rattle.polis_words.specs.declared.requests.command.OnNet.TheVariants.{Check as Checks};
 ghost use Rattle.input_files.specs.Loads.{LeftByLoads, fails_unread};
 ghost use Rattle.commands.specs.Made.{IsMade};
 
@@ -16,7 +17,7 @@ pub fn make_check<'a, H: Host>(
     check: &'a Check<'_>,
     detail: Detail,
 ) -> Result<Product, Failure<'a>>
-    ensures made { IsMade (check_meaning detail check.now) (H.files host.old) result }
+    ensures made { IsMade (on_net_meaning detail Checks check.now) (H.files host.old) result }
     ensures left { LeftByLoads ⟦<H as Host>⟧ (fails_unread result) host.old host.new }
 {
     let net = match load_net(alloc, host, check.net(), detail) {

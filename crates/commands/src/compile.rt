@@ -1,8 +1,8 @@
 // The command `compile`: the machines of a network as code, and their listing.
 ghost use Rattle.std.specs.Prelude.{IfOk};
 ghost use Rattle.transition_table.specs.Transitions.{AreDeterministic};
-ghost use Rattle.commands.specs.Compile.{compile_meaning};
-ghost use Rattle.commands.specs.inner.Compile.{IsCompileProduct};
+ghost use Rattle.commands.specs.NetProducts.{compile_product, parts_meaning};
+ghost use Rattle.commands.specs.inner.Parts.{IsOfParts};
 ghost use Rattle.input_files.specs.Loads.{LeftByLoads, fails_unread};
 ghost use Rattle.commands.specs.Made.{IsMade};
 
@@ -17,7 +17,7 @@ use transition_table::Network;
 // Compiles each machine, and makes the texts of what was compiled.
 fn product_of(alloc: Global, asked: &NetStem<'_>, net: &Network) -> Result<Product, NoMemory>
     requires { AreDeterministic net.now }
-    ensures { IfOk result (λ product. IsCompileProduct asked.now net.now product) }
+    ensures { IfOk result (λ product. IsOfParts (compile_product asked.now.stem) net.now product) }
 {
     let Texts { listing, lengths } = compile_texts(alloc, net)?;
     let product = Product::saving_one(alloc, asked.stem(), ".lst", listing, lengths)?;
@@ -30,7 +30,7 @@ pub fn make_compile<'a, H: Host>(
     host: &mut H,
     asked: &'a NetStem<'_>,
 ) -> Result<Product, Failure<'a>>
-    ensures made { IsMade (compile_meaning asked.now) (H.files host.old) result }
+    ensures made { IsMade (parts_meaning (compile_product asked.now.stem) asked.now) (H.files host.old) result }
     ensures left { LeftByLoads ⟦<H as Host>⟧ (fails_unread result) host.old host.new }
 {
     let net = match load_net(alloc, host, asked.net(), Detail::Cause) {

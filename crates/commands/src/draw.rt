@@ -1,8 +1,8 @@
 // The command `draw`: a network and the graphs of its machines as pictures.
 ghost use Rattle.std.specs.Prelude.{IfOk};
 ghost use Rattle.transition_table.specs.Transitions.{AreDeterministic};
-ghost use Rattle.commands.specs.Draw.{draw_meaning};
-ghost use Rattle.commands.specs.inner.Draw.{IsDrawProduct};
+ghost use Rattle.commands.specs.NetProducts.{draw_product, parts_meaning};
+ghost use Rattle.commands.specs.inner.Parts.{IsOfParts};
 ghost use Rattle.input_files.specs.Loads.{LeftByLoads, fails_unread};
 ghost use Rattle.commands.specs.Made.{IsMade};
 
@@ -18,7 +18,7 @@ use transition_table::Network;
 // Compiles each machine, and makes the text of the pictures.
 fn product_of(alloc: Global, asked: &NetStem<'_>, net: &Network) -> Result<Product, NoMemory>
     requires { AreDeterministic net.now }
-    ensures { IfOk result (λ product. IsDrawProduct asked.now net.now product) }
+    ensures { IfOk result (λ product. IsOfParts (draw_product asked.now.stem) net.now product) }
 {
     let Graphs { graphs, lengths } = compile_graphs(alloc, net)?;
     let mut text = Bytes::new(alloc);
@@ -33,7 +33,7 @@ pub fn make_draw<'a, H: Host>(
     host: &mut H,
     asked: &'a NetStem<'_>,
 ) -> Result<Product, Failure<'a>>
-    ensures made { IsMade (draw_meaning asked.now) (H.files host.old) result }
+    ensures made { IsMade (parts_meaning (draw_product asked.now.stem) asked.now) (H.files host.old) result }
     ensures left { LeftByLoads ⟦<H as Host>⟧ (fails_unread result) host.old host.new }
 {
     let net = match load_net(alloc, host, asked.net(), Detail::Cause) {

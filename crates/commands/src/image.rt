@@ -30,7 +30,7 @@ fn image_of_net(alloc: Global, net: &Network) -> Result<Image, NoMemory>
 
 // The product that saves the bytes of an image.
 fn product_of(alloc: Global, asked: &NetStem<'_>, bytes: Bytes) -> Result<Product, NoMemory>
-    ensures { IfOk result (λ product. product ≡ image_product asked.now bytes) }
+    ensures { IfOk result (λ product. product ≡ image_product asked.now.stem bytes) }
 {
     let shown = print_image(alloc, bytes.as_slice().len() as u64)?;
     let product = Product::saving_one(alloc, asked.stem(), ".img", bytes, shown)?;

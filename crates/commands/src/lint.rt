@@ -2,7 +2,9 @@
 ghost use Rattle.std.specs.Prelude.{◌≡◌, ◌++◌, flat_map, IfOk, OnOk};
 ghost use Rattle.polis_base.specs.Lists.{numbered};
 ghost use Rattle.transition_table.specs.NetworkFacts.{has};
-ghost use Rattle.commands.specs.Lint.{domain_text, lint_meaning, table_text, tables_text};
+ghost use Rattle.commands.specs.Lint.{domain_text, table_text, tables_text};
+ghost use Rattle.commands.specs.NetProducts.{on_net_meaning};
+ghost use Rattle.polis_words.specs.declared.requests.command.OnNet.TheVariants.{Lint as Lints};
 ghost use Rattle.input_files.specs.Loads.{LeftByLoads, fails_unread};
 ghost use Rattle.commands.specs.Made.{IsMade};
 
@@ -71,16 +73,17 @@ fn print_open(alloc: Global, declared: &DeclaredNet) -> Result<Bytes, NoMemory>
     Ok(text)
 }
 
-/// What saying what tables leave open makes of the file.
+/// What saying what tables leave open makes of the file, with so much said of one that is refused.
 pub fn make_lint<'a, H: Host>(
     alloc: Global,
     host: &mut H,
     asked: &'a Check<'_>,
+    detail: Detail,
 ) -> Result<Product, Failure<'a>>
-    ensures made { IsMade (lint_meaning asked.now) (H.files host.old) result }
+    ensures made { IsMade (on_net_meaning detail Lints asked.now) (H.files host.old) result }
     ensures left { LeftByLoads ⟦<H as Host>⟧ (fails_unread result) host.old host.new }
 {
-    let declared = match load_declared(alloc, host, asked.net(), Detail::Cause) {
+    let declared = match load_declared(alloc, host, asked.net(), detail) {
         Ok(declared) => declared,
         Err(failure) => return Err(failure),
     };

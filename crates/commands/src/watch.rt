@@ -11,8 +11,8 @@ ghost use Rattle.commands.specs.Watch.{end_watched, watch_meaning};
 ghost use Rattle.commands.specs.Made.{IsMade};
 ghost use Rattle.commands.specs.inner.Watch.{IsWatchProduct, IsWatchedByFile};
 
+use crate::judging::judge_journal;
 use crate::monitor_file::load_monitor;
-use crate::replay::judge_journal;
 use input_files::Detail;
 use net_core::Journal;
 use output_files::{End, Product};

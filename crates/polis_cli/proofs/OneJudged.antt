@@ -11,21 +11,20 @@ use Rattle.run_watch.specs.Watches.{IsAnswer}
 use Rattle.run_watch.specs.declared.answer.Watched.{Watched}
 use Rattle.polis_words.specs.declared.requests.Request.TheVariants as requests
 use Rattle.polis_words.specs.declared.requests.explain.Explain.TheVariants.{Net, Trace, Journal}
+use Rattle.polis_words.specs.declared.requests.command.FromJournal.TheVariants.{Migrate, Wave}
+use Rattle.polis_words.specs.declared.requests.command.OnJournal.{OnJournal}
+use Rattle.polis_words.specs.declared.requests.command.OnNet.TheVariants.{Check}
 use Rattle.polis_words.specs.Replay.{ReplayWords}
 use Rattle.polis_words.specs.ReplayStem.{ReplayStemWords}
 use Rattle.input_files.specs.JournalFiles.{LegalAndRising}
-use Rattle.commands.specs.Check.{check_product}
-use Rattle.commands.specs.Cover.{cover_product}
 use Rattle.commands.specs.Explain.{items_product}
-use Rattle.commands.specs.Losses.{losses_product}
-use Rattle.commands.specs.Migrate.{migrate_product}
-use Rattle.commands.specs.Replay.{IsJudged, replay_product}
+use Rattle.commands.specs.JournalProducts.{product_of, replay_product, saving_of}
+use Rattle.commands.specs.Judging.{IsJudged}
 use Rattle.commands.specs.Watch.{watch_product}
-use Rattle.commands.specs.Wave.{wave_product}
 use Rattle.polis_cli.specs.OneProduct.{ProductsOfTexts, explained_names, held_under, no_stem, nothing}
 use Rattle.commands.proofs.OneNet.{one_held_net}
 use Rattle.polis_cli.proofs.Held.{first_same, one_journal, one_trace, others_same, same_answer}
-use Rattle.polis_cli.proofs.OneProduct.{check_one}
+use Rattle.polis_cli.proofs.OneProduct.{on_net_one}
 
 -- ---- the network and the journal
 -- two networks with their journals that the same texts give are one
@@ -50,35 +49,23 @@ made_of : {X : Type 0} (f : Network → List Entry → X) (a b : Network) (j k :
     → AreOne a b j k → f b k ≡ f a j
 made_of f a b j k one = ap (f b) (sym one.journal) ∙ ap (λ (n : Network). f n j) (sym one.net)
 
-pub losses_one : ProductsOfTexts requests.Losses (λ w. w.net ∷ w.journal ∷ []) nothing no_stem
-losses_one one two before now p q texts says a b = (
-  losses_product a.net a.journal,
+pub on_journal_one : (kind : OnJournal) → ProductsOfTexts
+    (λ (w : ReplayWords). requests.OnJournal kind w) (λ w. w.net ∷ w.journal ∷ []) nothing no_stem
+on_journal_one kind one two before now p q texts says a b = (
+  product_of kind a.net a.journal,
   a.made,
-  b.made ∙ made_of losses_product a.net b.net a.journal b.journal
+  b.made ∙ made_of (product_of kind) a.net b.net a.journal b.journal
       (judged_one one two before now a.net b.net a.trace b.trace a.journal b.journal a.complete
       b.complete (first_same texts) (first_same (others_same texts)) a.judged b.judged),
 )
 
-pub cover_one : ProductsOfTexts requests.Cover (λ w. w.net ∷ w.journal ∷ []) nothing no_stem
-cover_one one two before now p q texts says a b = (
-  cover_product a.net a.journal,
-  a.made,
-  b.made ∙ made_of cover_product a.net b.net a.journal b.journal
-      (judged_one one two before now a.net b.net a.trace b.trace a.journal b.journal a.complete
-      b.complete (first_same texts) (first_same (others_same texts)) a.judged b.judged),
-)
-
--- the form `COMMAND NET TRACE JOURNAL STEM`, with nothing for its stem
-bare : ReplayStemWords → ReplayStemWords
-bare asked = record { replay = asked.replay; stem = [] }
-
-pub wave_one : ProductsOfTexts requests.Wave (λ w. w.replay.net ∷ w.replay.journal ∷ []) nothing
-    (λ w. w.stem)
-unfolding bare
+pub wave_one : ProductsOfTexts (λ (w : ReplayStemWords). requests.FromJournal Wave w)
+    (λ w. w.replay.net ∷ w.replay.journal ∷ []) nothing (λ w. w.stem)
 wave_one one two before now p q texts says a b = (
-  wave_product (bare one) a.net a.journal,
+  saving_of Wave [] a.net a.journal a.complete,
   a.made,
-  b.made ∙ made_of (wave_product two) a.net b.net a.journal b.journal
+  b.made ∙ made_of (λ (n : Network) (j : List Entry). saving_of Wave two.stem n j a.complete) a.net
+      b.net a.journal b.journal
       (judged_one one.replay two.replay before now a.net b.net a.trace b.trace a.journal b.journal
       a.complete b.complete (first_same texts) (first_same (others_same texts)) a.judged
       b.judged),
@@ -133,15 +120,14 @@ replay_one one two before now p q texts says a b =
     a.judged b.judged in
     let complete = complete_one one two before now a.net b.net a.trace b.trace a.journal b.journal
     a.complete b.complete is (first_same (others_same texts)) a.judged b.judged in (
-      replay_product a.journal a.complete,
+      replay_product a.net a.journal a.complete,
       a.made,
-      b.made ∙ ap (replay_product b.journal) (sym complete)
-          ∙ ap (λ (j : List Entry). replay_product j a.complete) (sym is.journal),
+      b.made ∙ ap (replay_product b.net b.journal) (sym complete)
+          ∙ ap (λ (j : List Entry). replay_product a.net j a.complete) (sym is.journal),
     )
 
-pub migrate_one : ProductsOfTexts requests.Migrate
+pub migrate_one : ProductsOfTexts (λ (w : ReplayStemWords). requests.FromJournal Migrate w)
     (λ w. w.replay.net ∷ w.replay.trace ∷ w.replay.journal ∷ []) nothing (λ w. w.stem)
-unfolding bare
 migrate_one one two before now p q texts says a b =
     let is = judged_one one.replay two.replay before now a.net b.net a.trace b.trace a.journal
     b.journal a.complete b.complete (first_same texts)
@@ -149,17 +135,17 @@ migrate_one one two before now p q texts says a b =
     let complete = complete_one one.replay two.replay before now a.net b.net a.trace b.trace
     a.journal b.journal a.complete b.complete is (first_same (others_same texts)) a.judged
     b.judged in (
-      migrate_product (bare one) a.net a.journal a.complete,
+      saving_of Migrate [] a.net a.journal a.complete,
       a.made,
-      b.made ∙ ap (migrate_product two b.net b.journal) (sym complete)
-          ∙ made_of (λ (n : Network) (j : List Entry). migrate_product two n j a.complete) a.net
-          b.net a.journal b.journal is,
+      b.made ∙ ap (saving_of Migrate two.stem b.net b.journal) (sym complete)
+          ∙ made_of (λ (n : Network) (j : List Entry). saving_of Migrate two.stem n j a.complete)
+          a.net b.net a.journal b.journal is,
     )
 
 -- as many files as are named
 pub explain_one : ProductsOfTexts requests.Explain explained_names nothing no_stem
 explain_one (Net one) (Net two) before now p q texts says a b =
-    check_one one two before now p q texts says a b
+    on_net_one Check one two before now p q texts says a b
 explain_one (Trace one) (Trace two) before now p q texts says a b =
     let net = one_held_net before now one.net two.net a.net b.net (first_same texts) a.holds_net
     b.holds_net in

@@ -20,46 +20,38 @@ use Rattle.cost_bound.specs.Bounds.{IsWorst, IsBest}
 use Rattle.cost_bound.specs.Costs.{CostOf}
 use Rattle.polis_words.specs.declared.requests.Request.TheVariants as requests
 use Rattle.polis_words.specs.declared.requests.costs.GivenCosts.{GivenCosts}
+use Rattle.polis_words.specs.declared.requests.command.FromNet.{FromNet}
+use Rattle.polis_words.specs.declared.requests.command.FromNet.TheVariants.{Compile, Image, Draw}
+use Rattle.polis_words.specs.declared.requests.command.OnNet.{OnNet}
+use Rattle.polis_words.specs.Check.{CheckWords}
 use Rattle.polis_words.specs.NetStem.{NetStemWords}
 use Rattle.output_files.specs.declared.product.Product.{Product}
 use Rattle.task_image.specs.Fields.{ImageBytes}
 use Rattle.input_files.specs.Inputs.{HoldsNet}
 use Rattle.commands.specs.Bound.{AreCosts, AreRanges, IsRange, bound_product}
-use Rattle.commands.specs.Check.{check_product}
-use Rattle.commands.specs.Compile.{compile_product}
-use Rattle.commands.specs.Draw.{draw_product}
 use Rattle.commands.specs.Equiv.{equiv_product}
 use Rattle.commands.specs.Image.{image_of_parts, image_product}
-use Rattle.commands.specs.Lint.{lint_product}
-use Rattle.polis_cli.specs.OneProduct.{ProductsOfTexts, no_stem, nothing}
+use Rattle.commands.specs.NetProducts.{MakesOfParts, compile_product, draw_product, product_of}
+use Rattle.polis_cli.specs.OneProduct.{ProductsOfTexts, at_stem, held_under, no_stem, nothing}
 use Rattle.commands.proofs.OneNet.{one_held_net}
 use Rattle.polis_cli.proofs.Held.{first_same, one_declared}
 
--- the form `COMMAND NET STEM`, with nothing for its stem
-bare : NetStemWords → NetStemWords
-bare asked = record { net = asked.net; stem = [] }
-
 -- ---- what is of the network
-pub check_one : ProductsOfTexts requests.Check (λ w. w.net ∷ []) nothing no_stem
-check_one one two before now p q texts says a b =
-    let net = one_held_net before now one.net two.net a.net b.net (first_same texts) a.holds_net
-    b.holds_net in
-    (check_product a.net, a.made, b.made ∙ ap check_product (sym net))
-
 pub equiv_one : ProductsOfTexts requests.Equiv (λ w. w.net ∷ w.other ∷ []) nothing no_stem
 equiv_one one two before now p q texts says a b =
     let net = one_held_net before now one.net two.net a.net b.net (first_same texts) a.holds.holds_net
     b.holds.holds_net in
     (equiv_product a.net, a.made, b.made ∙ ap equiv_product (sym net))
 
-pub lint_one : ProductsOfTexts requests.Lint (λ w. w.net ∷ []) nothing no_stem
-lint_one one two before now p q texts says a b =
+pub on_net_one : (kind : OnNet) → ProductsOfTexts (λ (w : CheckWords). requests.OnNet kind w)
+    (λ w. w.net ∷ []) nothing no_stem
+on_net_one kind one two before now p q texts says a b =
     let is = one_declared before now one.net two.net a.raw b.raw a.net b.net (first_same texts)
     a.holds b.holds in (
-      lint_product a.raw a.net,
+      product_of kind a.raw a.net,
       a.made,
-      b.made ∙ ap (λ (r : RawNet). lint_product r b.net) (sym is.raw_same)
-          ∙ ap (lint_product a.raw) (sym is.net_same),
+      b.made ∙ ap (λ (r : RawNet). product_of kind r b.net) (sym is.raw_same)
+          ∙ ap (product_of kind a.raw) (sym is.net_same),
     )
 
 -- ---- what is of right parts
@@ -84,35 +76,34 @@ made_of : {X : Type 0} (f : Network → List Part → X) (a b : Network) (p q : 
     → AreOne a b p q → f b q ≡ f a p
 made_of f a b p q one = ap (f b) (sym one.parts) ∙ ap (λ (n : Network). f n p) (sym one.net)
 
-pub compile_one : ProductsOfTexts requests.Compile (λ w. w.net ∷ []) nothing (λ w. w.stem)
-unfolding bare
-compile_one one two before now p q texts says a b = (
-  compile_product (bare one) a.net a.parts,
-  a.made,
-  b.made ∙ made_of (compile_product two) a.net b.net a.parts b.parts
+parts_one : (of : List ℕ → Network → List Part → Product)
+    → ((stem : List ℕ) (net : Network) (parts : List Part)
+    → of stem net parts ≡ at_stem stem (of [] net parts))
+    → (one two : NetStemWords) (before now : Files) (p q : Product)
+    → held_under before (one.net ∷ []) ≡ held_under now (two.net ∷ [])
+    → MakesOfParts (of one.stem) one before p → MakesOfParts (of two.stem) two now q
+    → (bare : Product) × (p ≡ at_stem one.stem bare) × (q ≡ at_stem two.stem bare)
+parts_one of at one two before now p q texts a b = (
+  of [] a.net a.parts,
+  a.made ∙ at one.stem a.net a.parts,
+  b.made ∙ made_of (of two.stem) a.net b.net a.parts b.parts
       (right_parts before now one.net two.net a.net b.net a.parts b.parts (first_same texts)
-      a.holds_net b.holds_net a.right b.right),
+      a.holds_net b.holds_net a.right b.right) ∙ at two.stem a.net a.parts,
 )
 
-pub draw_one : ProductsOfTexts requests.Draw (λ w. w.net ∷ []) nothing (λ w. w.stem)
-unfolding bare
-draw_one one two before now p q texts says a b = (
-  draw_product (bare one) a.net a.parts,
-  a.made,
-  b.made ∙ made_of (draw_product two) a.net b.net a.parts b.parts
-      (right_parts before now one.net two.net a.net b.net a.parts b.parts (first_same texts)
-      a.holds_net b.holds_net a.right b.right),
-)
-
-pub image_one : ProductsOfTexts requests.Image (λ w. w.net ∷ []) nothing (λ w. w.stem)
-unfolding bare
-image_one one two before now p q texts says a b =
+pub from_net_one : (kind : FromNet) → ProductsOfTexts
+    (λ (w : NetStemWords). requests.FromNet kind w) (λ w. w.net ∷ []) nothing (λ w. w.stem)
+from_net_one Compile one two before now p q texts says a b =
+    parts_one compile_product (λ stem net parts. refl) one two before now p q texts a b
+from_net_one Draw one two before now p q texts says a b =
+    parts_one draw_product (λ stem net parts. refl) one two before now p q texts a b
+from_net_one Image one two before now p q texts says a b =
     let bytes : b.bytes ≡ a.bytes = b.are_bytes.bytes_are
     ∙ made_of (λ (n : Network) (r : List Part). ImageBytes (image_of_parts n r)) a.net b.net
     a.parts b.parts
     (right_parts before now one.net two.net a.net b.net a.parts b.parts (first_same texts)
     a.holds_net b.holds_net a.right b.right) ∙ sym a.are_bytes.bytes_are in
-    (image_product (bare one) a.bytes, a.made, b.made ∙ ap (image_product two) bytes)
+    (image_product [] a.bytes, a.made, b.made ∙ ap (image_product two.stem) bytes)
 
 -- ---- bounds
 same_bound : (a b : Bound) → a.steps ≡ b.steps → a.snapshot.codes ≡ b.snapshot.codes → a ≡ b

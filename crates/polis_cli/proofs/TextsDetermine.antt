@@ -7,24 +7,20 @@ use Rattle.polis_cli.specs.OneProduct.{TextsDetermine}
 use Rattle.task_image.specs.Laws.{ImageLaws}
 use Rattle.polis_cli.proofs.OneAlone.{alone_one, demo_one}
 use Rattle.polis_cli.proofs.OneDrawn.{shuffle_one, survey_one}
-use Rattle.polis_cli.proofs.OneJudged.{cover_one, explain_one, losses_one, migrate_one, replay_one, watch_one, wave_one}
-use Rattle.polis_cli.proofs.OneProduct.{bound_one, check_one, compile_one, draw_one, equiv_one, image_one, lint_one}
+use Rattle.polis_cli.proofs.OneJudged.{explain_one, migrate_one, on_journal_one, replay_one, watch_one, wave_one}
+use Rattle.polis_cli.proofs.OneProduct.{bound_one, equiv_one, from_net_one, on_net_one}
 use Rattle.polis_cli.proofs.TwoCalls.{of_texts}
 
 pub texts_determine : OneSchedule → OneShuffle → OneFigures → OneText → OneAnswer → ImageLaws
     → TextsDetermine
 texts_determine schedule shuffle figures text answer images = record {
-  check = of_texts _ _ _ _ check_one;
-  lint = of_texts _ _ _ _ lint_one;
-  compile = of_texts _ _ _ _ compile_one;
-  draw = of_texts _ _ _ _ draw_one;
-  image = of_texts _ _ _ _ image_one;
+  on_net = λ kind. of_texts _ _ _ _ (on_net_one kind);
+  from_net = λ kind. of_texts _ _ _ _ (from_net_one kind);
   bound = of_texts _ _ _ _ bound_one;
   equiv = of_texts _ _ _ _ equiv_one;
   shuffle = of_texts _ _ _ _ (shuffle_one shuffle);
   survey = of_texts _ _ _ _ (survey_one figures text);
-  losses = of_texts _ _ _ _ losses_one;
-  cover = of_texts _ _ _ _ cover_one;
+  on_journal = λ kind. of_texts _ _ _ _ (on_journal_one kind);
   wave = of_texts _ _ _ _ wave_one;
   watch = of_texts _ _ _ _ (watch_one answer);
   replay = of_texts _ _ _ _ replay_one;

@@ -7,6 +7,14 @@ use Rattle.polis_words.specs.declared.requests.Request.TheVariants as requests
 use Rattle.polis_words.specs.declared.requests.explain.Explain.{Explain}
 use Rattle.polis_words.specs.declared.requests.explain.Explain.TheVariants.{Net, Trace, Journal}
 use Rattle.polis_words.specs.declared.requests.order.GivenOrder.{GivenOrder}
+use Rattle.polis_words.specs.declared.requests.command.FromJournal.TheVariants.{Migrate, Wave}
+use Rattle.polis_words.specs.declared.requests.command.FromNet.{FromNet}
+use Rattle.polis_words.specs.declared.requests.command.OnJournal.{OnJournal}
+use Rattle.polis_words.specs.declared.requests.command.OnNet.{OnNet}
+use Rattle.polis_words.specs.Check.{CheckWords}
+use Rattle.polis_words.specs.NetStem.{NetStemWords}
+use Rattle.polis_words.specs.Replay.{ReplayWords}
+use Rattle.polis_words.specs.ReplayStem.{ReplayStemWords}
 use Rattle.polis_words.specs.Run.{RunWords, journal_name}
 use Rattle.polis_words.specs.Shuffle.{ShuffleWords}
 use Rattle.polis_words.specs.Survey.{SurveyWords}
@@ -88,11 +96,10 @@ pub record LoneRun : Type 0 where
 -- doesn't matter, but where it is said whether the journal is complete.
 pub record TextsDetermine : Type 0 where
   -- Of the network text.
-  pub check : OfTexts requests.Check (λ w. w.net ∷ []) nothing no_stem
-  pub lint : OfTexts requests.Lint (λ w. w.net ∷ []) nothing no_stem
-  pub compile : OfTexts requests.Compile (λ w. w.net ∷ []) nothing (λ w. w.stem)
-  pub draw : OfTexts requests.Draw (λ w. w.net ∷ []) nothing (λ w. w.stem)
-  pub image : OfTexts requests.Image (λ w. w.net ∷ []) nothing (λ w. w.stem)
+  pub on_net : (kind : OnNet) → OfTexts (λ (w : CheckWords). requests.OnNet kind w)
+      (λ w. w.net ∷ []) nothing no_stem
+  pub from_net : (kind : FromNet) → OfTexts (λ (w : NetStemWords). requests.FromNet kind w)
+      (λ w. w.net ∷ []) nothing (λ w. w.stem)
   pub bound : OfTexts requests.Bound (λ w. w.net ∷ []) (λ w. w.costs) no_stem
   -- Of two network texts.
   pub equiv : OfTexts requests.Equiv (λ w. w.net ∷ w.other ∷ []) nothing no_stem
@@ -106,15 +113,15 @@ pub record TextsDetermine : Type 0 where
       (λ w. w.run.net ∷ w.run.trace ∷ option_to_list w.run.image) (λ w. w.run.limit)
       (λ w. w.run.stem)
   -- Of the network text and the journal text.
-  pub losses : OfTexts requests.Losses (λ w. w.net ∷ w.journal ∷ []) nothing no_stem
-  pub cover : OfTexts requests.Cover (λ w. w.net ∷ w.journal ∷ []) nothing no_stem
-  pub wave : OfTexts requests.Wave (λ w. w.replay.net ∷ w.replay.journal ∷ []) nothing
-      (λ w. w.stem)
+  pub on_journal : (kind : OnJournal) → OfTexts (λ (w : ReplayWords). requests.OnJournal kind w)
+      (λ w. w.net ∷ w.journal ∷ []) nothing no_stem
+  pub wave : OfTexts (λ (w : ReplayStemWords). requests.FromJournal Wave w)
+      (λ w. w.replay.net ∷ w.replay.journal ∷ []) nothing (λ w. w.stem)
   pub watch : OfTexts requests.Watch (λ w. w.replay.net ∷ w.replay.journal ∷ w.monitor ∷ [])
       nothing no_stem
   -- Of all three.
   pub replay : OfTexts requests.Replay (λ w. w.net ∷ w.trace ∷ w.journal ∷ []) nothing no_stem
-  pub migrate : OfTexts requests.Migrate
+  pub migrate : OfTexts (λ (w : ReplayStemWords). requests.FromJournal Migrate w)
       (λ w. w.replay.net ∷ w.replay.trace ∷ w.replay.journal ∷ []) nothing (λ w. w.stem)
   -- Of as many as are named.
   pub explain : OfTexts requests.Explain explained_names nothing no_stem

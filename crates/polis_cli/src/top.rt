@@ -9,9 +9,8 @@ ghost use Rattle.commands.specs.Made.{IsMade};
 
 use crate::survey::{make_survey, make_survey_by};
 use commands::{
-    make_bound, make_check, make_compile, make_cover, make_demo, make_draw, make_equiv,
-    make_explain, make_image, make_lint, make_losses, make_migrate, make_replay, make_run,
-    make_run_by, make_shuffle, make_watch, make_wave,
+    make_bound, make_demo, make_equiv, make_explain, make_from_journal, make_from_net,
+    make_on_journal, make_on_net, make_replay, make_run, make_run_by, make_shuffle, make_watch,
 };
 use event_buffer::Gate;
 use input_files::Detail;
@@ -34,20 +33,15 @@ fn make<'a, H: Host>(
 {
     match request {
         Request::Run(run) => make_run(alloc, host, run),
-        Request::Check(check) => make_check(alloc, host, check, Detail::Cause),
-        Request::Compile(compile) => make_compile(alloc, host, compile),
+        Request::OnNet(kind, asked) => make_on_net(alloc, host, *kind, asked, Detail::Cause),
+        Request::FromNet(kind, asked) => make_from_net(alloc, host, *kind, asked),
         Request::Replay(replay) => make_replay(alloc, host, replay, Detail::Cause),
-        Request::Migrate(migrate) => make_migrate(alloc, host, migrate),
+        Request::OnJournal(kind, asked) => make_on_journal(alloc, host, *kind, asked),
+        Request::FromJournal(kind, asked) => make_from_journal(alloc, host, *kind, asked),
         Request::Demo(demo) => make_demo(alloc, demo),
         Request::Bound(bound) => make_bound(alloc, host, bound),
-        Request::Image(image) => make_image(alloc, host, image),
         Request::Equiv(equiv) => make_equiv(alloc, host, equiv),
-        Request::Losses(losses) => make_losses(alloc, host, losses),
-        Request::Wave(wave) => make_wave(alloc, host, wave),
-        Request::Draw(draw) => make_draw(alloc, host, draw),
         Request::Explain(explain) => make_explain(alloc, host, explain),
-        Request::Cover(cover) => make_cover(alloc, host, cover),
-        Request::Lint(lint) => make_lint(alloc, host, lint),
         Request::Shuffle(shuffle) => make_shuffle(alloc, host, shuffle),
         Request::Watch(watch) => make_watch(alloc, host, watch),
         Request::Survey(survey) => make_survey(alloc, host, survey),

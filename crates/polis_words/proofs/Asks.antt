@@ -1,10 +1,7 @@
 -- What command lines ask for.
-use Rattle.std.proofs.Common.{◌≡◌, ◌↔◌, ℕ, Bool, false, IsTrue, suc, ◌<◌, ◌^◌, List, [], ◌∷◌, length, get_or, slice_get, Option, Some, sym, ap, ◌∙◌, arith, decimal}
-use Rattle.std.specs.Str.{bytes_eq}
+use Rattle.std.proofs.Common.{◌≡◌, ℕ, suc, ◌<◌, ◌^◌, List, [], ◌∷◌, length, get_or, slice_get, Option, Some, ap, arith, decimal}
 use Rattle.std.proofs.lemmas.Fmt.{decimal_injective}
-use Rattle.std.proofs.lemmas.Slice.Eq.{bytes_eq-Decides}
 use Rattle.polis_words.specs.Demo.{DemoWords, AsksDemo}
-use Rattle.polis_words.specs.inner.Commands.{IsCommand}
 
 -- two, three, four and five words
 pub two_words : (words : List (List ℕ)) (a b : List ℕ) → length words ≡ 2
@@ -70,17 +67,3 @@ one_demo words seed fits at other asks =
     let same = decimal_injective other.seed seed asks.seed fits
     (same_text (decimal other.seed) (decimal seed) (slice_get words 1) there at) in
     λ i. record { seed = same i }
-
--- whether the first word is a command, by a test of both texts
-pub no_first : (words : List (List ℕ)) (command : List ℕ) → length words ≡ 0
-    → IsTrue false ↔ IsCommand words command
-no_first [] command none = (λ test. cc, λ first. cc)
-no_first (word ∷ words) command none = cc
-
-pub first_is : (words : List (List ℕ)) (word command : List ℕ) (test : Bool)
-    → IsCommand words word → test ≡ bytes_eq word command → IsTrue test ↔ IsCommand words command
-first_is words word command test first is = (
-  λ same. first ∙ ap Some ((bytes_eq-Decides word command).0 (sym is ∙ same)),
-  λ other. is
-      ∙ (bytes_eq-Decides word command).1 (sym (same_word words 0 word command first other)),
-)

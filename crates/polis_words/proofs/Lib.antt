@@ -1,4 +1,5 @@
 pub mod Asks
+pub mod Commands
 pub mod AskOptions
 pub mod AsksRun
 pub mod AsksBound

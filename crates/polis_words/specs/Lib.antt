@@ -13,6 +13,7 @@ pub mod Demo
 pub mod Bound
 pub mod Equiv
 pub mod Explain
+pub mod Commands
 pub mod Requests
 pub mod Workers
 pub mod Lines

@@ -17,8 +17,9 @@ pub use print::{
     print_migrated, print_same, print_snapshot, print_summary, print_waved,
 };
 pub use requests::{
-    Bound, Check, Demo, Equiv, Explain, GivenCosts, GivenOrder, NetStem, NetTrace, Replay,
-    ReplayStem, Request, Run, Shuffle, Survey, Watch, needs_workers, request_of,
+    Bound, Check, Demo, Equiv, Explain, FromJournal, FromNet, GivenCosts, GivenOrder, NetStem,
+    NetTrace, OnJournal, OnNet, Replay, ReplayStem, Request, Run, Shuffle, Survey, Watch,
+    needs_workers, request_of,
 };
 pub use sentences::{
     ABSENT, end_sentence, first_row_sentence, journal_sentence, lex_sentence, long_sentence,

@@ -28,6 +28,8 @@ pub use bound::Bound;
 use bound::bound_of;
 pub use check::Check;
 use check::net_of;
+pub use command::{FromJournal, FromNet, OnJournal, OnNet};
+use command::{Command, command_named};
 pub use costs::GivenCosts;
 pub use demo::Demo;
 use demo::demo_of;
@@ -54,39 +56,29 @@ pub use watch::Watch;
 use watch::watch_of;
 pub use workers::needs_workers;
 
-/// What a command line asks for, one variant for each command.
+/// What a command line asks for, one variant for each form of command lines.
 #[derive(Drop)]
 pub enum Request<'a> {
     /// To run a network on a trace.
     Run(Run<'a>),
-    /// To say whether a network is accepted.
-    Check(Check<'a>),
-    /// To compile the machines of a network.
-    Compile(NetStem<'a>),
+    /// To show what is to be said of a network.
+    OnNet(OnNet, Check<'a>),
+    /// To save what is to be made of a network.
+    FromNet(FromNet, NetStem<'a>),
     /// To say whether a journal is legal.
     Replay(Replay<'a>),
-    /// To save a legal journal with its least stamps.
-    Migrate(ReplayStem<'a>),
+    /// To show what is to be said of a legal journal.
+    OnJournal(OnJournal, Replay<'a>),
+    /// To save what is to be made of a legal journal.
+    FromJournal(FromJournal, ReplayStem<'a>),
     /// To run what is generated from a seed.
     Demo(Demo),
     /// To bound what the reactions of a network's machines cost.
     Bound(Bound<'a>),
-    /// To save the code of a network's machines as an image.
-    Image(NetStem<'a>),
     /// To say whether two networks have the same tables.
     Equiv(Equiv<'a>),
-    /// To say what became of the deliveries of a legal journal.
-    Losses(Replay<'a>),
-    /// To save a legal journal as a wave.
-    Wave(ReplayStem<'a>),
-    /// To save pictures of a network and of its machines' graphs.
-    Draw(NetStem<'a>),
     /// To judge files and say where and why one is refused.
     Explain(Explain<'a>),
-    /// To say what a legal journal used of its network's tables.
-    Cover(Replay<'a>),
-    /// To say what the tables of a network leave open.
-    Lint(Check<'a>),
     /// To run a network on a trace by draws.
     Shuffle(Shuffle<'a>),
     /// To say whether a monitor complains of a legal journal.
@@ -105,26 +97,19 @@ pub fn request_of(words: &Words) -> Option<Request<'_>>
     if words.len() == 0 {
         return None;
     }
-    match words.get(0) {
-        "run" => run_of(words).map(Request::Run),
-        "check" => net_of(words).map(Request::Check),
-        "compile" => net_stem_of(words).map(Request::Compile),
-        "replay" => replay_of(words).map(Request::Replay),
-        "migrate" => replay_stem_of(words).map(Request::Migrate),
-        // A demo borrows nothing, and `map` takes no function that gives a lifetime of its own.
-        "demo" => Some(Request::Demo(demo_of(words)?)),
-        "bound" => bound_of(words).map(Request::Bound),
-        "image" => net_stem_of(words).map(Request::Image),
-        "equiv" => equiv_of(words).map(Request::Equiv),
-        "losses" => replay_of(words).map(Request::Losses),
-        "wave" => replay_stem_of(words).map(Request::Wave),
-        "draw" => net_stem_of(words).map(Request::Draw),
-        "explain" => explain_of(words).map(Request::Explain),
-        "cover" => replay_of(words).map(Request::Cover),
-        "lint" => net_of(words).map(Request::Lint),
-        "shuffle" => shuffle_of(words).map(Request::Shuffle),
-        "watch" => watch_of(words).map(Request::Watch),
-        "survey" => survey_of(words).map(Request::Survey),
-        _ => None,
+    match command_named(words.get(0))? {
+        Command::Run => Some(Request::Run(run_of(words)?)),
+        Command::OnNet(kind) => Some(Request::OnNet(kind, net_of(words)?)),
+        Command::FromNet(kind) => Some(Request::FromNet(kind, net_stem_of(words)?)),
+        Command::Replay => Some(Request::Replay(replay_of(words)?)),
+        Command::OnJournal(kind) => Some(Request::OnJournal(kind, replay_of(words)?)),
+        Command::FromJournal(kind) => Some(Request::FromJournal(kind, replay_stem_of(words)?)),
+        Command::Demo => Some(Request::Demo(demo_of(words)?)),
+        Command::Bound => Some(Request::Bound(bound_of(words)?)),
+        Command::Equiv => Some(Request::Equiv(equiv_of(words)?)),
+        Command::Explain => Some(Request::Explain(explain_of(words)?)),
+        Command::Shuffle => Some(Request::Shuffle(shuffle_of(words)?)),
+        Command::Watch => Some(Request::Watch(watch_of(words)?)),
+        Command::Survey => Some(Request::Survey(survey_of(words)?)),
     }
 }

@@ -36,7 +36,7 @@ pub record IsImageProduct (asked : NetStemWords) (net : Network) (product : Prod
   pub bytes : List ℕ
   pub are_bytes : AreBytesOf (image_of_parts net parts) bytes
   pub within : length bytes ≤ LONG_FILE_MAX
-  pub made : product ≡ image_product asked bytes
+  pub made : product ≡ image_product asked.stem bytes
 
 -- the image is too long
 abbrev pub IsLongImage : Network → Cause → Type 0

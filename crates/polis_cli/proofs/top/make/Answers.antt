@@ -4,15 +4,30 @@ use Rattle.polis_cli.specs.Commands.{meaning}
 use Rattle.commands.specs.Made.{IsMade}
 use Rattle.polis_cli.proofs.top.make.Goals as goal
 
+pub returns-in-OnNet-clause-made : goal.returns-in-OnNet-clause-made
+returns-in-OnNet-clause-made g c =
+    subst (λ (r : Request). IsMade (meaning r) (g.H.Host.files c.args.host.now)
+    c.make_on_net.result) (sym c.in-OnNet.is) c.make_on_net.ensures.made
+
+pub returns-in-FromNet-clause-made : goal.returns-in-FromNet-clause-made
+returns-in-FromNet-clause-made g c =
+    subst (λ (r : Request). IsMade (meaning r) (g.H.Host.files c.args.host.now)
+    c.make_from_net.result) (sym c.in-FromNet.is) c.make_from_net.ensures.made
+
 pub returns-in-Replay-clause-made : goal.returns-in-Replay-clause-made
 returns-in-Replay-clause-made g c =
     subst (λ (r : Request). IsMade (meaning r) (g.H.Host.files c.args.host.now)
     c.make_replay.result) (sym c.in-Replay.is) c.make_replay.ensures.made
 
-pub returns-in-Migrate-clause-made : goal.returns-in-Migrate-clause-made
-returns-in-Migrate-clause-made g c =
+pub returns-in-OnJournal-clause-made : goal.returns-in-OnJournal-clause-made
+returns-in-OnJournal-clause-made g c =
     subst (λ (r : Request). IsMade (meaning r) (g.H.Host.files c.args.host.now)
-    c.make_migrate.result) (sym c.in-Migrate.is) c.make_migrate.ensures.made
+    c.make_on_journal.result) (sym c.in-OnJournal.is) c.make_on_journal.ensures.made
+
+pub returns-in-FromJournal-clause-made : goal.returns-in-FromJournal-clause-made
+returns-in-FromJournal-clause-made g c =
+    subst (λ (r : Request). IsMade (meaning r) (g.H.Host.files c.args.host.now)
+    c.make_from_journal.result) (sym c.in-FromJournal.is) c.make_from_journal.ensures.made
 
 pub returns-in-Demo-clause-made : goal.returns-in-Demo-clause-made
 returns-in-Demo-clause-made g c =
@@ -23,26 +38,6 @@ pub returns-in-Equiv-clause-made : goal.returns-in-Equiv-clause-made
 returns-in-Equiv-clause-made g c =
     subst (λ (r : Request). IsMade (meaning r) (g.H.Host.files c.args.host.now)
     c.make_equiv.result) (sym c.in-Equiv.is) c.make_equiv.ensures.made
-
-pub returns-in-Losses-clause-made : goal.returns-in-Losses-clause-made
-returns-in-Losses-clause-made g c =
-    subst (λ (r : Request). IsMade (meaning r) (g.H.Host.files c.args.host.now)
-    c.make_losses.result) (sym c.in-Losses.is) c.make_losses.ensures.made
-
-pub returns-in-Wave-clause-made : goal.returns-in-Wave-clause-made
-returns-in-Wave-clause-made g c =
-    subst (λ (r : Request). IsMade (meaning r) (g.H.Host.files c.args.host.now)
-    c.make_wave.result) (sym c.in-Wave.is) c.make_wave.ensures.made
-
-pub returns-in-Cover-clause-made : goal.returns-in-Cover-clause-made
-returns-in-Cover-clause-made g c =
-    subst (λ (r : Request). IsMade (meaning r) (g.H.Host.files c.args.host.now)
-    c.make_cover.result) (sym c.in-Cover.is) c.make_cover.ensures.made
-
-pub returns-in-Lint-clause-made : goal.returns-in-Lint-clause-made
-returns-in-Lint-clause-made g c =
-    subst (λ (r : Request). IsMade (meaning r) (g.H.Host.files c.args.host.now)
-    c.make_lint.result) (sym c.in-Lint.is) c.make_lint.ensures.made
 
 pub returns-in-Shuffle-clause-made : goal.returns-in-Shuffle-clause-made
 returns-in-Shuffle-clause-made g c =

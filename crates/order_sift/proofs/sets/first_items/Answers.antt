@@ -2,12 +2,13 @@ use Rattle.std.proofs.Common.{◌≡◌, ◌∙◌, ◌<◌, ◌||◌, ◌==◌,
 use Rattle.std.proofs.lemmas.List.{take_more}
 use Rattle.std.proofs.lemmas.Option.{get_or_from_slice_get}
 use Rattle.decision_diagram.specs.Sets.{stands}
+use Rattle.order_sift.specs.inner.Known.{in_set}
 use Rattle.order_sift.proofs.ItemSets.{in_none, one_more}
 use Rattle.order_sift.proofs.MovedLevels.{stands_more}
 use Rattle.order_sift.proofs.sets.first_items.Goals as goal
 
 pub loop-k-init : goal.loop-k-init
-loop-k-init c w = in_none w
+loop-k-init c w = ap (λ (set : ℕ). in_set set w) c.empty-set.ensures ∙ in_none w
 
 pub loop-k-preserved : goal.loop-k-preserved
 loop-k-preserved c w =

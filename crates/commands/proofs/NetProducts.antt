@@ -8,9 +8,9 @@ use Rattle.polis_words.specs.Check.{CheckWords}
 use Rattle.polis_words.specs.NetStem.{NetStemWords}
 use Rattle.polis_words.specs.Texts.{accepted_text}
 use Rattle.polis_words.specs.declared.requests.command.FromNet.{FromNet}
-use Rattle.polis_words.specs.declared.requests.command.FromNet.TheVariants.{Compile, Image, Draw}
+use Rattle.polis_words.specs.declared.requests.command.FromNet.TheVariants.{Image}
 use Rattle.polis_words.specs.declared.requests.command.OnNet.{OnNet}
-use Rattle.polis_words.specs.declared.requests.command.OnNet.TheVariants.{Check, Lint}
+use Rattle.polis_words.specs.declared.requests.command.OnNet.TheVariants.{Check}
 use Rattle.output_files.specs.Ends.{end_status}
 use Rattle.output_files.specs.Products.{shows_only}
 use Rattle.output_files.specs.Saves.{AreApart}

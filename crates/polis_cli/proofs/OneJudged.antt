@@ -21,7 +21,7 @@ use Rattle.commands.specs.Explain.{items_product}
 use Rattle.commands.specs.JournalProducts.{product_of, replay_product, saving_of}
 use Rattle.commands.specs.Judging.{IsJudged}
 use Rattle.commands.specs.Watch.{watch_product}
-use Rattle.polis_cli.specs.OneProduct.{ProductsOfTexts, explained_names, held_under, no_stem, nothing}
+use Rattle.polis_cli.specs.OneProduct.{ProductsOfTexts, explained_names, no_stem, nothing}
 use Rattle.commands.proofs.OneNet.{one_held_net}
 use Rattle.polis_cli.proofs.Held.{first_same, one_journal, one_trace, others_same, same_answer}
 use Rattle.polis_cli.proofs.OneProduct.{on_net_one}

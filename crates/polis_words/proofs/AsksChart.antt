@@ -1,5 +1,5 @@
 -- The chart that a command line asks for.
-use Rattle.std.proofs.Common.{◌≡◌, ℕ, List, ◌∷◌, drop, slice_get, Some, sym, ap, subst, ◌∙◌, codes}
+use Rattle.std.proofs.Common.{◌≡◌, ℕ, List, drop, slice_get, Some, sym, ap, subst, ◌∙◌, codes}
 use Rattle.std.specs.Prelude.{unwrap_or}
 use Rattle.polis_base.specs.declared.limits.TheConstants.{ENTRIES_MAX}
 use Rattle.polis_words.specs.Chart.{AskPart, AsksChart, ChartWords, chart_form}

@@ -214,10 +214,7 @@ fn say<'a>(old: Options<'a>, option: Given<'a>) -> Option<Options<'a>>
             Some(_) => None,
         },
         Given::To(n) => match old.to {
-            None => Some(Options {
-                to: Some(n),
-                ..old
-            }),
+            None => Some(Options { to: Some(n), ..old }),
             Some(_) => None,
         },
     }

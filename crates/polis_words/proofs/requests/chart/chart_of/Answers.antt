@@ -1,4 +1,3 @@
-use Rattle.polis_words.specs.Chart.{ChartWords}
 use Rattle.polis_words.proofs.AsksChart.{chart_asked, files_asked, one_charted, part_asked}
 use Rattle.polis_words.proofs.requests.chart.chart_of.Goals as goal
 

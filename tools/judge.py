@@ -1,15 +1,18 @@
 #!/usr/bin/env python3
 """A second judge of journals, in another language, by the definitions alone.
 
-    tools/judge.py NET TRACE JOURNAL          shows what `polis replay` shows
-    tools/judge.py --fuzz PROGRAM [SEEDS]     compares the two on drawn networks
+    tools/judge.py NET TRACE JOURNAL                      shows what `polis replay` shows
+    tools/judge.py --chart NET TRACE JOURNAL [FROM TO]    shows what `polis chart` shows
+    tools/judge.py --fuzz PROGRAM [SEEDS]                 compares them on drawn networks
 
 It reads a network text that `polis check` accepts, a trace text and a journal text that `polis
 replay` reads, and goes by docs/FORMATS.md and docs/LANGUAGE.md: no code and no text of the program
 is used. With --fuzz it draws the networks and traces of `polis demo` for the seeds from 1 to SEEDS
 (10 where none is named), compares the summaries of `demo` and `run`, judges the journals of one
-worker and of four, and then journals in which a line was altered. What differs is shown; the status
-is 1 where anything does, and 0 else.
+worker and of four, and then journals in which a line was altered; and of each seed small networks
+besides, with drawn runs of them, whose machines also wait, jam and send to themselves. Of each
+journal it compares the verdict and charts: the whole one of those that weren't altered, and drawn
+windows of all. What differs is shown; the status is 1 where anything does, and 0 else.
 """
 
 import random
@@ -21,7 +24,10 @@ from collections import defaultdict, deque
 from pathlib import Path
 
 ENV = "env"
+ENTRIES_MAX = 60000
 ALTERED = 12
+SMALL = 10
+WINDOWS = 3
 SECONDS = 300
 
 
@@ -268,6 +274,126 @@ def verdict(net, trace, journal):
     return f"legal {len(lines)} {'complete' if run.is_complete() else 'open'}"
 
 
+class Shown:
+    """What a chart shows of an entry: its number, between whom it is, and its notes; of a delivery
+    its item, and of a reaction its label. A reaction is between a machine and itself. What is set
+    is a note only where the label of a firing is too long."""
+
+    def __init__(self, number, sender, receiver, notes, item="", label="", sets=""):
+        self.number, self.sender, self.receiver, self.notes = number, sender, receiver, notes
+        self.item, self.label, self.sets = item, label, sets
+
+
+def enabled(machine, seen):
+    return any(enables(conditions, seen) for conditions, _ in machine.rows)
+
+
+def is_jammed(machine, states, present):
+    """Whether no row is enabled, and one would be if one of the inputs that are present were alone.
+    """
+    alone = ({**states, event: value} for event, value in present.items())
+    return not enabled(machine, {**states, **present}) and any(enabled(machine, it) for it in alone)
+
+
+def unused(net, machine, states, present):
+    """The inputs without which the same comes of it, where some other input is present."""
+    given = net.outcome(machine, {**states, **present})
+    for event in machine.inputs:
+        others = {it: value for it, value in present.items() if it != event}
+        if event in present and others and net.outcome(machine, {**states, **others}) == given:
+            yield event
+
+
+def shown_of(run, number, entry, came):
+    """What is shown of the next entry. `came` has of each machine the entries that delivered what is
+    present there."""
+    _, kind, said = entry
+    if kind == "dep":
+        sender, receiver, (event, value) = said
+        notes = [f"lost {came[receiver][event]}"] if event in came[receiver] else []
+        return Shown(number, sender, receiver, notes, item=f"{event}={value}" if value else event)
+    name, seen = said[:2]
+    machine, states, present = run.net.machines[name], run.states[name], run.places[name]
+    if kind == "idle":
+        label = "jammed" if is_jammed(machine, states, present) else "idle"
+        return Shown(number, name, name, [f"sees {seen}"], label=label)
+    sets, emitted = ("" if it == "-" else it for it in said[3:])
+    notes = [f"emits {emitted}"] if emitted else []
+    notes += [f"unused {event}" for event in unused(run.net, machine, states, present)]
+    return Shown(number, name, name, notes, label=f"[{sets}]", sets=sets)
+
+
+def all_shown(net, trace, journal):
+    """What is shown of each entry of a legal journal."""
+    run, came, found = Run(net, trace), defaultdict(dict), []
+    for number, line in enumerate(journal.splitlines()[1:-1]):
+        entry = entry_of(line)
+        found.append(shown_of(run, number, entry, came))
+        if entry[1] == "dep":
+            came[entry[2][1]][entry[2][2][0]] = number
+        elif entry[1] == "fire":
+            came[entry[2][0]] = {}
+        run.follows(entry)
+    return found
+
+
+def laid(picture, text, place):
+    """The picture with a text laid over it from a place on."""
+    return picture[:place] + text + picture[place + len(text):]
+
+
+def centred(picture, text, place):
+    return laid(picture, text, place - len(text) // 2)
+
+
+def with_arrow(picture, item, here, there):
+    """The picture with an arrow from one axis to another, over whose middle an item stands."""
+    low, high = sorted((here, there))
+    picture = laid(picture, "-" * (high - low - 1), low + 1)
+    if here < there:
+        return centred(laid(picture, ">", high - 1), f" {item} ", (low + high) // 2)
+    return centred(laid(picture, "<", low + 1), f" {item} ", (low + high) // 2 + 1)
+
+
+def drawn_line(shown, axes, width):
+    """The line of an entry: its number, its picture and its notes."""
+    picture, notes = " " * (width * len(axes)), shown.notes
+    for axis in axes.values():
+        picture = laid(picture, "|", axis)
+    here, there = axes[shown.sender], axes[shown.receiver]
+    if here != there:
+        picture = with_arrow(picture, shown.item, here, there)
+    elif shown.item:
+        picture = centred(picture, f"({shown.item})", here)
+    elif len(shown.label) > width:
+        picture, notes = centred(picture, "[..]", here), [f"sets {shown.sets}", *notes]
+    else:
+        picture = centred(picture, shown.label, here)
+    line = f"{shown.number:6} {picture.rstrip(' ')}"
+    return line + ("  " + ", ".join(notes) if notes else "")
+
+
+def chart_of(net, shown):
+    """The lines of a chart of these entries."""
+    named = {name for it in shown for name in (it.sender, it.receiver)}
+    columns = [ENV] + [name for name in net.machines if name in named]
+    width = 6 + max(len(it) for it in columns + [it.item for it in shown])
+    axes = {name: k * width + width // 2 for k, name in enumerate(columns)}
+    head = " " * (width * len(axes))
+    for name, axis in axes.items():
+        head = centred(head, name, axis)
+    lines = [" " * 7 + head.rstrip(" ")] + [drawn_line(it, axes, width) for it in shown]
+    return "\n".join(lines)
+
+
+def chart(net, trace, journal, first=0, end=ENTRIES_MAX):
+    """What `chart` shows of the entries from the first one on, up to the end and without it."""
+    said = verdict(net, trace, journal)
+    if said.startswith("illegal"):
+        return said
+    return chart_of(net, all_shown(net, trace, journal)[first:end])
+
+
 def demo_texts(seed):
     """The network text and the trace text of a seed, as docs/FORMATS.md has them."""
     x = seed
@@ -353,10 +479,14 @@ def main():
     words = sys.argv[1:]
     if words[:1] == ["--fuzz"] and len(words) in (2, 3):
         sys.exit(fuzz(str(Path(words[1]).resolve()), int(words[2]) if len(words) > 2 else 10))
-    if len(words) != 3:
+    is_chart = words[:1] == ["--chart"] and len(words) in (4, 6)
+    if len(words) != 3 and not is_chart:
         sys.exit(__doc__)
-    net, trace, journal = (Path(it).read_text() for it in words)
-    print(verdict(Network(net), trace_of(trace), journal))
+    net, trace, journal = (Path(it).read_text() for it in words[is_chart:is_chart + 3])
+    if is_chart:
+        print(chart(Network(net), trace_of(trace), journal, *(int(it) for it in words[4:])))
+    else:
+        print(verdict(Network(net), trace_of(trace), journal))
 
 
 if __name__ == "__main__":

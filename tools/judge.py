@@ -305,8 +305,8 @@ def unused(net, machine, states, present):
 
 
 def shown_of(run, number, entry, came):
-    """What is shown of the next entry. `came` has of each machine the entries that delivered what is
-    present there."""
+    """What is shown of the next entry. `came` has, of each machine, the entry that delivered each
+    event that is present there."""
     _, kind, said = entry
     if kind == "dep":
         sender, receiver, (event, value) = said
@@ -443,35 +443,187 @@ def shows(program, words, room):
     return ran.stdout + ran.stderr
 
 
-def differing(program, seed, room):
-    """What the two judges say of the journals of a seed, where it isn't the same."""
-    net_text, trace_text = demo_texts(seed)
-    (room / "net").write_text(net_text)
-    (room / "trc").write_text(trace_text)
-    net, trace, rng = Network(net_text), trace_of(trace_text), random.Random(seed)
-    journals, found = [], []
-    for workers in ("1", "4"):
-        shown = shows(program, ["run", "net", "trc", "o", "--workers", workers], room)
-        if workers == "1" and shown != shows(program, ["demo", str(seed)], room):
-            found.append(f"seed {seed}: demo and run show different summaries")
-        journals.append((room / "o.jnl").read_text())
-    journals += [altered(journal, rng) for journal in journals for _ in range(ALTERED)]
-    for number, journal in enumerate(journals):
-        (room / "jnl").write_text(journal)
-        said = shows(program, ["replay", "net", "trc", "jnl"], room).strip()
-        if said != verdict(net, trace, journal):
-            found.append(f"seed {seed}, journal {number}: {said}, and not "
-                         f"{verdict(net, trace, journal)}")
-    return len(journals), found
+def drawn_values(rng):
+    """A domain's text, and its words."""
+    if rng.random() < 0.5:
+        return "0 .. 3", [str(it) for it in range(4)]
+    words = [rng.choice("uvw") * rng.randrange(1, 12) + str(it) for it in range(3)]
+    return f"{{ {', '.join(words)} }}", words
+
+
+class Drawn:
+    """A network that is drawn: a few machines with names of any length, whose tables have rows for
+    some of the ways in which their inputs may be present."""
+
+    def __init__(self, rng):
+        self.rng = rng
+        self.domains = {f"d{it}": drawn_values(rng) for it in range(3)}
+        self.machines = [self.name("m", it) for it in range(rng.randrange(1, 7))]
+        self.reads, self.sends = defaultdict(list), defaultdict(list)
+        self.events, self.ways = {}, {}
+        for machine in self.machines:
+            self.event("", " from env", [machine, rng.choice(self.machines)])
+        for machine in self.machines * 2:
+            readers = rng.sample(self.machines, min(len(self.machines), rng.randrange(3)))
+            self.event(machine, "" if readers else " to env", readers)
+
+    def name(self, letter, number):
+        return letter * self.rng.randrange(1, 9) + str(number)
+
+    def event(self, sender, way, readers):
+        readers = [it for it in dict.fromkeys(readers) if len(self.reads[it]) < 4]
+        if sender and not readers:
+            way = " to env"
+        if not sender and not readers:
+            return
+        name = self.name("e", len(self.events))
+        self.events[name] = self.rng.choice([None, *self.domains])
+        self.ways[name] = way
+        for reader in readers:
+            self.reads[reader].append(name)
+        if sender:
+            self.sends[sender].append(name)
+
+    def with_value(self, name, domain, sign):
+        return f"{name}{sign}{self.rng.choice(self.domains[domain][1])}" if domain else name
+
+    def actions(self, machine, states):
+        sets = [self.with_value(it, domain, " := ") for it, domain in states.items()]
+        emits = [f"emit {self.with_value(it, self.events[it], ' = ')}"
+                 for it in self.sends[machine]]
+        return ", ".join(it for it in sets + emits if self.rng.random() < 0.5) or "nothing"
+
+    def rows(self, machine, states):
+        inputs, rng = self.reads[machine], self.rng
+        choices = [self.actions(machine, states) for _ in range(3)]
+        for way in range(1, 2 ** len(inputs)):
+            conditions = [f"{'' if way >> it & 1 else 'absent '}{name}"
+                          for it, name in enumerate(inputs)]
+            if states and rng.random() < 0.3:
+                conditions.append(self.with_value("s0", states["s0"], " = "))
+            if rng.random() < 0.7:
+                yield f"  when {', '.join(conditions)} do {rng.choice(choices)}"
+
+    def machine(self, name):
+        states = {f"s{it}": self.rng.choice([*self.domains])
+                  for it in range(self.rng.randrange(3))}
+        yield f"machine {name} priority {self.rng.randrange(4)} {{"
+        yield f"  input {', '.join(self.reads[name])}"
+        if self.sends[name]:
+            yield f"  output {', '.join(self.sends[name])}"
+        for state, domain in states.items():
+            yield "  " + self.with_value(f"state {state} : {domain}", domain, " = ")
+        yield from self.rows(name, states)
+        yield "}"
+
+    def lines(self):
+        yield "network small version 1"
+        yield from (f"domain {it} = {text}" for it, (text, _) in self.domains.items())
+        for name, domain in self.events.items():
+            yield f"event {name}{f' : {domain}' if domain else ''}{self.ways[name]}"
+        for name in self.machines:
+            yield from self.machine(name)
+
+    def trace(self):
+        sent = [it for it, way in self.ways.items() if way == " from env"]
+        for _ in range(40):
+            name = self.rng.choice(sent)
+            yield self.with_value(name, self.events[name], " ")
+            if self.rng.random() < 0.3:
+                yield "settle"
+
+
+def drawn_window(rng, count):
+    first, end = rng.randrange(count + 1), rng.randrange(count + 2)
+    return (first, end) if rng.random() < 0.2 else (min(first, end), max(first, end))
+
+
+class Compared:
+    """What the two judges say of the journals of one network on one trace."""
+
+    def __init__(self, program, room, title, texts, rng):
+        self.program, self.room, self.title, self.rng = program, room, title, rng
+        (room / "net").write_text(texts[0])
+        (room / "trc").write_text(texts[1])
+        self.net, self.trace = Network(texts[0]), trace_of(texts[1])
+        self.journals = self.charts = 0
+        self.found = []
+
+    def shows(self, *words):
+        return shows(self.program, [str(it) for it in words], self.room)
+
+    def made(self, *words):
+        """What a run shows, and its journal."""
+        shown = self.shows(*words)
+        return shown, (self.room / "o.jnl").read_text()
+
+    def expect(self, title, said, wanted):
+        if said != wanted + "\n":
+            self.found.append(f"{self.title}, journal {self.journals}, {title}: {said.strip()!r}, "
+                              f"and not {wanted!r}")
+
+    def judge(self, journal, windows):
+        """Compares the verdict on a journal, and its charts of some windows."""
+        (self.room / "jnl").write_text(journal)
+        said, of_files = verdict(self.net, self.trace, journal), ("net", "trc", "jnl")
+        self.expect("replay", self.shows("replay", *of_files), said)
+        is_legal = said.startswith("legal")
+        shown = all_shown(self.net, self.trace, journal) if is_legal else []
+        for first, end in windows:
+            wanted = chart_of(self.net, shown[first:end]) if is_legal else said
+            words = ["--from", first, "--to", end] if first or end < ENTRIES_MAX else []
+            self.expect(f"chart {first} {end}", self.shows("chart", *of_files, *words), wanted)
+            self.charts += 1
+        self.journals += 1
+
+    def judge_all(self, journals):
+        """Compares what is said of the journals, and of altered ones."""
+        for journal in journals:
+            drawn = [drawn_window(self.rng, len(journal.splitlines()) - 2) for _ in range(WINDOWS)]
+            self.judge(journal, [(0, ENTRIES_MAX), *drawn])
+            for _ in range(ALTERED if len(journal.splitlines()) > 2 else 0):
+                other = altered(journal, self.rng)
+                self.judge(other, [drawn_window(self.rng, len(other.splitlines()) - 2)])
+
+
+def of_demo(program, seed, room):
+    """What is compared of the network of a demo."""
+    compared = Compared(program, room, f"seed {seed}", demo_texts(seed), random.Random(seed))
+    alone, journal = compared.made("run", "net", "trc", "o", "--workers", 1)
+    if alone != compared.shows("demo", seed):
+        compared.found.append(f"seed {seed}: demo and run show different summaries")
+    _, by_four = compared.made("run", "net", "trc", "o", "--workers", 4)
+    compared.judge_all([journal, by_four])
+    return compared
+
+
+def of_small(program, seed, number, room):
+    """What is compared of a small network that is drawn."""
+    rng = random.Random(f"{seed} {number}")
+    drawn = Drawn(rng)
+    texts = ["".join(f"{line}\n" for line in lines) for lines in (drawn.lines(), drawn.trace())]
+    title = f"seed {seed}, small network {number}"
+    compared = Compared(program, room, title, texts, rng)
+    accepted = compared.shows("check", "net")
+    if not accepted.startswith("accepted"):
+        compared.found.append(f"{title}: {accepted.strip()}")
+        return compared
+    compared.judge_all([compared.made("shuffle", "net", "trc", "o", it, "--limit", 200)[1]
+                        for it in range(2)])
+    return compared
 
 
 def fuzz(program, seeds):
-    count, found = 0, []
+    journals, charts, found = 0, 0, []
     with tempfile.TemporaryDirectory() as room:
         for seed in range(1, seeds + 1):
-            judged, other = differing(program, seed, Path(room))
-            count, found = count + judged, found + other
-    print("\n".join(found + [f"{count} journals judged, {len(found)} differ"]))
+            of_seed = [of_demo(program, seed, Path(room))]
+            of_seed += [of_small(program, seed, it, Path(room)) for it in range(SMALL)]
+            journals += sum(it.journals for it in of_seed)
+            charts += sum(it.charts for it in of_seed)
+            found += [line for it in of_seed for line in it.found]
+    print("\n".join(found + [f"{journals} journals and {charts} charts judged, "
+                             f"{len(found)} differ"]))
     return 1 if found else 0
 
 

@@ -4,6 +4,7 @@ use Rattle.std.specs.List.{list_all}
 use Rattle.polis_base.specs.declared.limits.TheConstants.{ENTRIES_MAX}
 use Rattle.polis_base.specs.Host.{Files, bytes_at, WhereTold}
 use Rattle.transition_table.specs.declared.network.Network.{Network}
+use Rattle.transition_table.specs.Transitions.{AreDeterministic}
 use Rattle.journals.specs.declared.entry.Entry.{Entry}
 use Rattle.journals.specs.declared.entry.TraceItem.{TraceItem}
 use Rattle.journals.specs.declared.stamped.Stamped.{Stamped}
@@ -89,6 +90,10 @@ judgment_legal loaded judged j =
 pub judgment_few : (loaded : ReplayFiles) (judged : Judged) → FitTogether loaded
     → IsJudgmentOf loaded judged → length judged.read.journal ≤ ENTRIES_MAX
 judgment_few loaded judged fit j = rw j.read fit.few
+
+pub judgment_deterministic : (loaded : ReplayFiles) (judged : Judged) → FitTogether loaded
+    → IsJudgmentOf loaded judged → AreDeterministic judged.inputs.net
+judgment_deterministic loaded judged fit j = rw j.inputs fit.deterministic
 
 -- the journal fails, the network and the trace being accepted
 pub journal_fails : (o : Option Files) (replay : ReplayWords) (net : Network)

@@ -9,10 +9,12 @@ use Rattle.event_accounts.specs.AccountLines.{accounts_text}
 use Rattle.table_use.specs.Coverage.{coverages}
 use Rattle.table_use.specs.CoverageLines.{coverage_text}
 use Rattle.wave_text.specs.Waves.{wave_text}
+use Rattle.journal_chart.specs.Chart.{chart_text}
 use Rattle.polis_words.specs.declared.requests.command.OnJournal.{OnJournal}
 use Rattle.polis_words.specs.declared.requests.command.OnJournal.TheVariants.{Losses, Cover}
 use Rattle.polis_words.specs.declared.requests.command.FromJournal.{FromJournal}
 use Rattle.polis_words.specs.declared.requests.command.FromJournal.TheVariants.{Migrate, Wave}
+use Rattle.polis_words.specs.Chart.{ChartWords}
 use Rattle.polis_words.specs.Replay.{ReplayWords}
 use Rattle.polis_words.specs.ReplayStem.{ReplayStemWords}
 use Rattle.polis_words.specs.Texts.{legal_text, migrated_text, waved_text}
@@ -43,6 +45,15 @@ product_of kind net journal = shows_only (text_of kind net journal)
 abbrev pub on_journal_meaning : OnJournal → ReplayWords → Meaning
 on_journal_meaning kind asked =
     judging_meaning details.Cause asked (λ net journal complete. product_of kind net journal)
+
+-- the chart of the entries that are asked for; it judges the journal likewise
+abbrev pub chart_product : ChartWords → Network → List Entry → Product
+chart_product asked net journal = shows_only (chart_text net journal asked.from asked.to)
+
+abbrev pub chart_meaning : ChartWords → Meaning
+chart_meaning asked =
+    judging_meaning details.Cause asked.replay (λ net journal complete.
+    chart_product asked net journal)
 
 -- ---- what is saved of a journal
 -- the journal with its least stamps, or its wave

@@ -188,6 +188,7 @@ pub fn judge_journal<'a, H: Host>(
     ensures legal { IfOk result (λ judged.
         Legal judged.inputs.net judged.inputs.trace judged.read.journal) }
     ensures few { IfOk result (λ judged. length judged.read.journal ≤ ENTRIES_MAX) }
+    ensures deterministic { IfOk result (λ judged. AreDeterministic judged.inputs.net) }
     ensures failed { IfErr result (JudgingExplained (H.files host.old) (FailsReplay asked.now)
         (explains_replay detail asked.now)) }
     ensures left { LeftByLoads ⟦<H as Host>⟧ (fails_unread result) host.old host.new }

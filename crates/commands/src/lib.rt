@@ -2,6 +2,7 @@
 #![tactic(auto)]
 
 mod bound;
+mod chart;
 mod check;
 mod compile;
 mod cover;
@@ -31,6 +32,7 @@ mod texts;
 mod watch;
 
 pub use bound::make_bound;
+pub use chart::make_chart;
 pub use demo::make_demo;
 pub use equiv::make_equiv;
 pub use explain::make_explain;

@@ -129,7 +129,12 @@ lamp_row net one run parts right = record {
     workers = refl;
     limit = refl;
     image = refl;
-    draws_nothing = record { no_order = refl; no_seed = refl; no_watch = refl };
+    draws_nothing = record {
+      no_order = refl;
+      no_seed = refl;
+      no_watch = refl;
+      shows_all = record { no_from = refl; no_to = refl };
+    };
   };
   product = lamp_product parts;
   made = lamp_made net one run parts right;

@@ -1,14 +1,14 @@
 -- What each command means is lawful.
 use Rattle.std.proofs.Common.{◌≡◌, ◌<◌, ℕ, List, refl, arith}
 use Rattle.polis_words.specs.declared.requests.Request.{Request}
-use Rattle.polis_words.specs.declared.requests.Request.TheVariants.{Run, OnNet, FromNet, Replay, OnJournal, FromJournal, Demo, Bound, Equiv, Explain, Shuffle, Watch, Survey}
+use Rattle.polis_words.specs.declared.requests.Request.TheVariants.{Run, OnNet, FromNet, Replay, OnJournal, FromJournal, Demo, Bound, Equiv, Explain, Shuffle, Watch, Survey, Chart}
 use Rattle.polis_words.specs.Requests.{Asks}
 use Rattle.polis_words.specs.Workers.{NeedsWorkers, workers_of}
 use Rattle.polis_words.proofs.AskOptions.{asked_within}
 use Rattle.input_files.specs.declared.load.Detail.TheVariants as details
 use Rattle.polis_cli.specs.Commands.{meaning}
 use Rattle.commands.specs.inner.Lawful.{IsLawful}
-use Rattle.commands.specs.JournalProducts.{product_of, replay_product, saving_of}
+use Rattle.commands.specs.JournalProducts.{chart_product, product_of, replay_product, saving_of}
 use Rattle.commands.proofs.RunMeaning.{run_lawful}
 use Rattle.commands.proofs.NetProducts.{from_net_lawful, on_net_lawful}
 use Rattle.commands.proofs.JournalMeaning.{judging_lawful}
@@ -36,6 +36,9 @@ lawful (Explain explain) = explain_lawful explain
 lawful (Shuffle shuffle) = shuffle_lawful shuffle
 lawful (Watch watch) = watch_lawful watch
 lawful (Survey survey) = survey_lawful survey
+lawful (Chart chart) =
+    judging_lawful details.Cause chart.replay (λ net journal complete.
+    chart_product chart net journal)
 
 -- what is asked for needs one worker, where the command line needs no more
 pub one_worker : (words : List (List ℕ)) (request : Request) → Asks words request

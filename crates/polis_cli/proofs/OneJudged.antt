@@ -18,10 +18,10 @@ use Rattle.polis_words.specs.Replay.{ReplayWords}
 use Rattle.polis_words.specs.ReplayStem.{ReplayStemWords}
 use Rattle.input_files.specs.JournalFiles.{LegalAndRising}
 use Rattle.commands.specs.Explain.{items_product}
-use Rattle.commands.specs.JournalProducts.{product_of, replay_product, saving_of}
+use Rattle.commands.specs.JournalProducts.{chart_product, product_of, replay_product, saving_of}
 use Rattle.commands.specs.Judging.{IsJudged}
 use Rattle.commands.specs.Watch.{watch_product}
-use Rattle.polis_cli.specs.OneProduct.{ProductsOfTexts, explained_names, no_stem, nothing}
+use Rattle.polis_cli.specs.OneProduct.{ProductsOfTexts, chart_part, explained_names, no_stem, nothing}
 use Rattle.commands.proofs.OneNet.{one_held_net}
 use Rattle.polis_cli.proofs.Held.{first_same, one_journal, one_trace, others_same, same_answer}
 use Rattle.polis_cli.proofs.OneProduct.{on_net_one}
@@ -57,6 +57,23 @@ on_journal_one kind one two before now p q texts says a b = (
   b.made ∙ made_of (product_of kind) a.net b.net a.journal b.journal
       (judged_one one two before now a.net b.net a.trace b.trace a.journal b.journal a.complete
       b.complete (first_same texts) (first_same (others_same texts)) a.judged b.judged),
+)
+
+-- the chart of the entries that both ask for
+pub chart_one : ProductsOfTexts requests.Chart (λ w. w.replay.net ∷ w.replay.journal ∷ [])
+    chart_part no_stem
+chart_one one two before now p q texts says a b = (
+  chart_product one a.net a.journal,
+  a.made,
+  b.made ∙ made_of (chart_product two) a.net b.net a.journal b.journal
+      (judged_one one.replay two.replay before now a.net b.net a.trace b.trace a.journal b.journal
+      a.complete b.complete (first_same texts) (first_same (others_same texts)) a.judged
+      b.judged)
+      ∙ ap (λ (part : ℕ × ℕ). chart_product (record {
+        replay = two.replay;
+        from = part.0;
+        to = part.1;
+      }) a.net a.journal) (sym says),
 )
 
 pub wave_one : ProductsOfTexts (λ (w : ReplayStemWords). requests.FromJournal Wave w)

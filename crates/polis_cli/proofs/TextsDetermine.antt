@@ -7,7 +7,7 @@ use Rattle.polis_cli.specs.OneProduct.{TextsDetermine}
 use Rattle.task_image.specs.Laws.{ImageLaws}
 use Rattle.polis_cli.proofs.OneAlone.{alone_one, demo_one}
 use Rattle.polis_cli.proofs.OneDrawn.{shuffle_one, survey_one}
-use Rattle.polis_cli.proofs.OneJudged.{explain_one, migrate_one, on_journal_one, replay_one, watch_one, wave_one}
+use Rattle.polis_cli.proofs.OneJudged.{chart_one, explain_one, migrate_one, on_journal_one, replay_one, watch_one, wave_one}
 use Rattle.polis_cli.proofs.OneProduct.{bound_one, equiv_one, from_net_one, on_net_one}
 use Rattle.polis_cli.proofs.TwoCalls.{of_texts}
 
@@ -22,6 +22,7 @@ texts_determine schedule shuffle figures text answer images = record {
   survey = of_texts _ _ _ _ (survey_one figures text);
   on_journal = λ kind. of_texts _ _ _ _ (on_journal_one kind);
   wave = of_texts _ _ _ _ wave_one;
+  chart = of_texts _ _ _ _ chart_one;
   watch = of_texts _ _ _ _ (watch_one answer);
   replay = of_texts _ _ _ _ replay_one;
   migrate = of_texts _ _ _ _ migrate_one;

@@ -1,11 +1,11 @@
 -- What each command means.
 use Rattle.polis_words.specs.declared.requests.Request.{Request}
-use Rattle.polis_words.specs.declared.requests.Request.TheVariants.{Run, OnNet, FromNet, Replay, OnJournal, FromJournal, Demo, Bound, Equiv, Explain, Shuffle, Watch, Survey}
+use Rattle.polis_words.specs.declared.requests.Request.TheVariants.{Run, OnNet, FromNet, Replay, OnJournal, FromJournal, Demo, Bound, Equiv, Explain, Shuffle, Watch, Survey, Chart}
 use Rattle.input_files.specs.declared.load.Detail.TheVariants as details
 use Rattle.commands.specs.Meanings.{Meaning}
 use Rattle.commands.specs.Run.{run_meaning}
 use Rattle.commands.specs.NetProducts.{from_net_meaning, on_net_meaning}
-use Rattle.commands.specs.JournalProducts.{from_journal_meaning, on_journal_meaning, replay_meaning}
+use Rattle.commands.specs.JournalProducts.{chart_meaning, from_journal_meaning, on_journal_meaning, replay_meaning}
 use Rattle.commands.specs.Demo.{demo_meaning}
 use Rattle.commands.specs.Bound.{bound_meaning}
 use Rattle.commands.specs.Equiv.{equiv_meaning}
@@ -28,3 +28,4 @@ meaning (Explain explain) = explain_meaning explain
 meaning (Shuffle shuffle) = shuffle_meaning shuffle
 meaning (Watch watch) = watch_meaning watch
 meaning (Survey survey) = survey_meaning survey
+meaning (Chart chart) = chart_meaning chart

@@ -11,6 +11,7 @@ use Rattle.polis_words.specs.declared.requests.command.FromJournal.TheVariants.{
 use Rattle.polis_words.specs.declared.requests.command.FromNet.{FromNet}
 use Rattle.polis_words.specs.declared.requests.command.OnJournal.{OnJournal}
 use Rattle.polis_words.specs.declared.requests.command.OnNet.{OnNet}
+use Rattle.polis_words.specs.Chart.{ChartWords}
 use Rattle.polis_words.specs.Check.{CheckWords}
 use Rattle.polis_words.specs.NetStem.{NetStemWords}
 use Rattle.polis_words.specs.Replay.{ReplayWords}
@@ -79,12 +80,15 @@ explained_names (Net check) = check.net ∷ []
 explained_names (Trace asked) = asked.net ∷ asked.trace ∷ []
 explained_names (Journal replay) = replay.net ∷ replay.trace ∷ replay.journal ∷ []
 
--- what is said of a drawn run, and of a survey, beside the names of files
+-- what is said of a drawn run, of a survey and of a chart, beside the names of files
 abbrev pub drawn_settings : ShuffleWords → ℕ × GivenOrder × ℕ
 drawn_settings asked = (asked.seed, asked.order, asked.limit)
 
 abbrev pub survey_settings : SurveyWords → ℕ × ℕ × GivenOrder × ℕ
 survey_settings asked = (asked.runs, asked.seed, asked.order, asked.limit)
+
+abbrev pub chart_part : ChartWords → ℕ × ℕ
+chart_part asked = (asked.from, asked.to)
 
 -- a run by one worker
 pub record LoneRun : Type 0 where
@@ -117,6 +121,8 @@ pub record TextsDetermine : Type 0 where
       (λ w. w.net ∷ w.journal ∷ []) nothing no_stem
   pub wave : OfTexts (λ (w : ReplayStemWords). requests.FromJournal Wave w)
       (λ w. w.replay.net ∷ w.replay.journal ∷ []) nothing (λ w. w.stem)
+  pub chart : OfTexts requests.Chart (λ w. w.replay.net ∷ w.replay.journal ∷ []) chart_part
+      no_stem
   pub watch : OfTexts requests.Watch (λ w. w.replay.net ∷ w.replay.journal ∷ w.monitor ∷ [])
       nothing no_stem
   -- Of all three.

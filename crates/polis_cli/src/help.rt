@@ -133,6 +133,14 @@ const JOURNALS: &[Entry] = &[
     entry was the first to overwrite one.",
     ),
     Entry(
+        "chart",
+        b"NET TRACE JOURNAL [--from A] [--to B]",
+        b"    Judges JOURNAL as replay does, and shows it as a chart of messages: a line for each
+    entry, and a column for the environment and for each machine that takes part. Shows
+    the entries from number A on and below number B, both from 0 to 60000; A is 0 and B
+    is 60000 if not given.",
+    ),
+    Entry(
         "cover",
         b"NET TRACE JOURNAL",
         b"    Judges JOURNAL as replay does, and shows for each machine how often it fired, how

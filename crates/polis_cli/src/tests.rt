@@ -11,6 +11,7 @@ use crate::tests::gates::{Inside, Meeting, Outside};
 use crate::tests::runner::try_cases;
 use event_buffer::OpenGate;
 use sample_networks::cases::bounds::BOUNDS;
+use sample_networks::cases::charts::CHARTS;
 use sample_networks::cases::comparisons::COMPARISONS;
 use sample_networks::cases::explanations::EXPLANATIONS;
 use sample_networks::cases::failing::FAILING;
@@ -73,6 +74,12 @@ fn compares_networks(rt: HostRuntime) -> Result<(), Fail> {
 #[test]
 fn reports_on_journals(rt: HostRuntime) -> Result<(), Fail> {
     try_cases(&rt, rt.alloc(), REPORTS, &OpenGate)?;
+    Ok(())
+}
+
+#[test]
+fn draws_charts(rt: HostRuntime) -> Result<(), Fail> {
+    try_cases(&rt, rt.alloc(), CHARTS, &OpenGate)?;
     Ok(())
 }
 

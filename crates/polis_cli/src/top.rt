@@ -9,7 +9,7 @@ ghost use Rattle.commands.specs.Made.{IsMade};
 
 use crate::survey::{make_survey, make_survey_by};
 use commands::{
-    make_bound, make_demo, make_equiv, make_explain, make_from_journal, make_from_net,
+    make_bound, make_chart, make_demo, make_equiv, make_explain, make_from_journal, make_from_net,
     make_on_journal, make_on_net, make_replay, make_run, make_run_by, make_shuffle, make_watch,
 };
 use event_buffer::Gate;
@@ -45,6 +45,7 @@ fn make<'a, H: Host>(
         Request::Shuffle(shuffle) => make_shuffle(alloc, host, shuffle),
         Request::Watch(watch) => make_watch(alloc, host, watch),
         Request::Survey(survey) => make_survey(alloc, host, survey),
+        Request::Chart(chart) => make_chart(alloc, host, chart),
     }
 }
 

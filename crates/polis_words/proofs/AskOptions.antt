@@ -1,14 +1,13 @@
--- What the options of a run say.
+-- What options say.
 use Rattle.std.proofs.lemmas.List.{length-drop, append-nil}
 use Rattle.std.proofs.Common.{◌≡◌, ◌≢◌, ◌+◌, ◌*◌, ◌%◌, ◌≤◌, ◌<◌, ◌^◌, ℕ, get_or, List, [], ◌∷◌, ◌++◌, length, drop, slice_get, flat_map, Some, None, IfNone, refl, sym, ap, subst, ◌∙◌, arith, decimal}
-use Rattle.std.specs.Option.{is_some}
-use Rattle.std.specs.Prelude.{Option, option_map, unwrap_or, true}
+use Rattle.std.specs.Prelude.{Option, unwrap_or}
 use Rattle.std.proofs.lemmas.Fmt.{decimal_injective}
 use Rattle.polis_base.specs.declared.limits.TheConstants.{ENTRIES_MAX, WORKERS_MAX}
 use Rattle.journals.proofs.Emitted.{drop_at_item}
 use Rattle.polis_words.specs.declared.requests.order.GivenOrder.{GivenOrder}
 use Rattle.polis_words.specs.declared.requests.order.GivenOrder.TheVariants.{Mixed, Free, Settled, Scheduled}
-use Rattle.polis_words.specs.RunOptions.{RunOption, Workers, Limit, Image, Order, Seed, Watch, IsOption, Said, Says, SayAll, AskOptions, unsaid, flag_of, value_of, option_words, order_word}
+use Rattle.polis_words.specs.RunOptions.{RunOption, Workers, Limit, Image, Order, Seed, Watch, From, To, IsOption, Said, Says, SayAll, AskOptions, unsaid, flag_of, value_of, option_words, order_word}
 use Rattle.polis_words.specs.inner.Run.{IsOptionOf, SaysAt, AreSaid}
 use Rattle.polis_base.proofs.Places.{same_some, some_at}
 
@@ -28,10 +27,21 @@ no_numbers None text n most e below high none =
     λ m few some d. none m few some (no_number text n m most e below high few d)
 no_numbers (Some found) text n most e below high none = tt
 
+-- and a number above the most has none of a number of at most that
+pub no_number_above : (answer : Option ℕ) (text : List ℕ) (n most : ℕ) → text ≡ decimal n
+    → n < 2 ^ 64 → most < 2 ^ 64 → IfNone answer (most < n)
+    → IfNone answer ((m : ℕ) → m ≤ most → text ≢ decimal m)
+no_number_above None text n most e below high none =
+    λ m few d.
+    let same = no_number text n m most e below high few d in
+    omega arith
+no_number_above (Some found) text n most e below high none = tt
+
 -- ---- one option
--- the letter that tells the flags apart, and the one that tells the orders apart
+-- the two letters that tell the flags apart, as one number, and the letter that tells the orders
+-- apart
 letter : List ℕ → ℕ
-letter flag = get_or flag 3 0
+letter flag = get_or flag 2 0 * 256 + get_or flag 3 0
 
 order_letter : List ℕ → ℕ
 order_letter word = get_or word 2 0
@@ -61,6 +71,14 @@ same_option (Image x) (Image y) a b f v = ap Image v
 same_option (Order o) (Order p) a b f v = ap Order (same_order o p v)
 same_option (Seed n) (Seed m) a b f v = ap Seed (decimal_injective n m a b v)
 same_option (Watch x) (Watch y) a b f v = ap Watch v
+same_option (From n) (From m) a b f v =
+    let low : n < 2 ^ 64 = omega (arith, a) in
+    let high : m < 2 ^ 64 = omega (arith, b) in
+    ap From (decimal_injective n m low high v)
+same_option (To n) (To m) a b f v =
+    let low : n < 2 ^ 64 = omega (arith, a) in
+    let high : m < 2 ^ 64 = omega (arith, b) in
+    ap To (decimal_injective n m low high v)
 same_option o p a b f v = let h = ap letter f in absurd (omega (arith, h))
 
 -- an option says one thing
@@ -71,6 +89,8 @@ one_said old x y (Image name) a b = b.1 ∙ sym a.1
 one_said old x y (Order order) a b = b.1 ∙ sym a.1
 one_said old x y (Seed n) a b = b.1 ∙ sym a.1
 one_said old x y (Watch name) a b = b.1 ∙ sym a.1
+one_said old x y (From n) a b = b.1 ∙ sym a.1
+one_said old x y (To n) a b = b.1 ∙ sym a.1
 
 -- ---- options one after the other
 -- all options are those that were read and others after them
@@ -201,17 +221,6 @@ one_asked_for words x y a b =
     by_case [] e s = s
     by_case (o ∷ more) e s = cc
 
--- ---- what was said
--- what is said isn't unsaid, nor is it where it stands for something else
-pub is_said : {X : Type 0} (o : Option X) → is_some o ≡ true → o ≢ None
-is_said None some none = cc
-is_said (Some x) some none = cc
-
-pub is_said_as : {X Y : Type 0} (f : X → Y) (o : Option X) → is_some o ≡ true
-    → option_map f o ≢ None
-is_said_as f None some none = cc
-is_said_as f (Some x) some none = cc
-
 -- ---- limits
 -- the numbers that are said, or their defaults, are within their limits
 abbrev pub AreWithin : Said → Type 0
@@ -227,6 +236,8 @@ says_within old new (Image name) is says a = subst AreWithin (sym says.1) a
 says_within old new (Order order) is says a = subst AreWithin (sym says.1) a
 says_within old new (Seed n) is says a = subst AreWithin (sym says.1) a
 says_within old new (Watch name) is says a = subst AreWithin (sym says.1) a
+says_within old new (From n) is says a = subst AreWithin (sym says.1) a
+says_within old new (To n) is says a = subst AreWithin (sym says.1) a
 
 all_within : (options : List RunOption) (old new : Said) → SayAll old options new → AreWithin old
     → AreWithin new

@@ -1,10 +1,10 @@
 -- The survey that a command line asks for.
-use Rattle.std.proofs.Common.{◌≡◌, ◌+◌, ◌≤◌, ◌<◌, ◌^◌, ℕ, List, ◌∷◌, drop, slice_get, Some, None, sym, ap, subst, ◌∙◌, arith, codes, decimal}
+use Rattle.std.proofs.Common.{◌≡◌, ◌+◌, ◌≤◌, ◌<◌, ◌^◌, ℕ, List, ◌∷◌, drop, slice_get, Some, sym, ap, subst, ◌∙◌, arith, codes, decimal}
 use Rattle.std.specs.Prelude.{unwrap_or}
 use Rattle.std.proofs.lemmas.Fmt.{decimal_injective}
 use Rattle.polis_base.specs.declared.limits.TheConstants.{ENTRIES_MAX, RUNS_MAX}
 use Rattle.polis_words.specs.declared.requests.order.GivenOrder.TheVariants.{Mixed}
-use Rattle.polis_words.specs.RunOptions.{Said, AskOptions}
+use Rattle.polis_words.specs.RunOptions.{Said, AskOptions, DrawsMany}
 use Rattle.polis_words.specs.Survey.{AsksSurvey, SurveyWords, survey_form}
 use Rattle.polis_words.proofs.AskOptions.{one_asked_for}
 use Rattle.polis_words.proofs.AsksRun.{words_are}
@@ -16,12 +16,13 @@ pub options_surveyed : (words : List (List ℕ)) (survey : SurveyWords) (a : Ask
 options_surveyed words survey a =
     subst (λ (o : List (List ℕ)). AskOptions o a.asks.said) (sym (ap (drop 4) a.form)) a.asks.asks
 
--- words whose options name an image ask for no survey
-pub no_image_surveyed : (words : List (List ℕ)) (said : Said) → AskOptions (drop 4 words) said
-    → ¬ (said.image ≡ None) → (survey : SurveyWords) → ¬ AsksSurvey words survey
-no_image_surveyed words said asks some survey a =
-    some (ap (λ (s : Said). s.image) (one_asked_for (drop 4 words) a.asks.said said
-    (options_surveyed words survey a) asks) ∙ a.asks.no_image)
+-- words with an option of another command ask for no survey
+pub no_survey : (words : List (List ℕ)) (said : Said) → AskOptions (drop 4 words) said
+    → ¬ DrawsMany said → (survey : SurveyWords) → ¬ AsksSurvey words survey
+no_survey words said asks other survey a =
+    other (subst DrawsMany
+    (sym (one_asked_for (drop 4 words) a.asks.said said (options_surveyed words survey a) asks))
+    a.asks.draws_many)
 
 -- the survey of these names, so many runs and options
 abbrev pub survey_with : List ℕ → List ℕ → ℕ → Said → SurveyWords

@@ -5,7 +5,7 @@ use Rattle.polis_words.specs.Requests.{Asks, AsksNothing}
 use Rattle.polis_words.specs.declared.requests.Request.{Request}
 use Rattle.polis_words.specs.declared.requests.Request.TheVariants as requests
 use Rattle.polis_words.specs.declared.requests.command.Command.{Command}
-use Rattle.polis_words.specs.declared.requests.command.Command.TheVariants.{Run, OnNet, FromNet, Replay, OnJournal, FromJournal, Demo, Bound, Equiv, Explain, Shuffle, Watch, Survey}
+use Rattle.polis_words.specs.declared.requests.command.Command.TheVariants.{Run, OnNet, FromNet, Replay, OnJournal, FromJournal, Demo, Bound, Equiv, Explain, Shuffle, Watch, Survey, Chart}
 use Rattle.polis_words.specs.declared.requests.command.OnNet.TheVariants.{Check, Lint}
 use Rattle.polis_words.specs.declared.requests.command.FromNet.TheVariants.{Compile, Image, Draw}
 use Rattle.polis_words.specs.declared.requests.command.OnJournal.TheVariants.{Losses, Cover}
@@ -38,7 +38,8 @@ named word =
     (cond (letters word == letters (codes "equiv")) Equiv
     (cond (letters word == letters (codes "explain")) Explain
     (cond (letters word == letters (codes "shuffle")) Shuffle
-    (cond (letters word == letters (codes "watch")) Watch Survey))))))))))))))))
+    (cond (letters word == letters (codes "watch")) Watch
+    (cond (letters word == letters (codes "survey")) Survey Chart)))))))))))))))))
 
 known : (command : Command) → named (word_of command) ≡ command
 unfolding letters named
@@ -73,6 +74,7 @@ command_of (requests.Explain x) = Explain
 command_of (requests.Shuffle x) = Shuffle
 command_of (requests.Watch x) = Watch
 command_of (requests.Survey x) = Survey
+command_of (requests.Chart x) = Chart
 
 abbrev head : List (List ℕ) → Option (List ℕ)
 head words = slice_get words 0

@@ -5,6 +5,7 @@ pub mod AsksRun
 pub mod AsksBound
 pub mod AsksShuffle
 pub mod AsksSurvey
+pub mod AsksChart
 pub mod Workers
 pub mod OneRequest
 pub mod Snapshots

@@ -12,11 +12,12 @@ use Rattle.polis_words.specs.ReplayStem.{ReplayStemWords, AsksReplayStem}
 use Rattle.polis_words.specs.Requests.{Asks}
 use Rattle.polis_words.specs.Watch.{WatchWords, AsksWatch, named_by}
 use Rattle.polis_words.specs.declared.requests.Request.{Request}
-use Rattle.polis_words.specs.declared.requests.Request.TheVariants.{Run, OnNet, FromNet, Replay, OnJournal, FromJournal, Demo, Bound, Equiv, Explain, Shuffle, Watch, Survey}
+use Rattle.polis_words.specs.declared.requests.Request.TheVariants.{Run, OnNet, FromNet, Replay, OnJournal, FromJournal, Demo, Bound, Equiv, Explain, Shuffle, Watch, Survey, Chart}
 use Rattle.polis_words.specs.declared.requests.explain.Explain.{Explain as Explained}
 use Rattle.polis_words.specs.declared.requests.explain.Explain.TheVariants as explains
 use Rattle.polis_words.proofs.Asks.{one_demo, same_item}
 use Rattle.polis_words.proofs.AsksBound.{one_bound, one_costs, given_costs}
+use Rattle.polis_words.proofs.AsksChart.{one_charted}
 use Rattle.polis_words.proofs.AsksRun.{one_asked}
 use Rattle.polis_words.proofs.AsksShuffle.{one_shuffle}
 use Rattle.polis_words.proofs.AsksSurvey.{one_surveyed}
@@ -128,6 +129,7 @@ one_of words (Explain a) (Explain b) same p q = ap Explain (one_explain words a 
 one_of words (Shuffle a) (Shuffle b) same p q = ap Shuffle (one_shuffle words a b p q)
 one_of words (Watch a) (Watch b) same p q = ap Watch (one_watch words a b p q)
 one_of words (Survey a) (Survey b) same p q = ap Survey (one_surveyed words a b p q)
+one_of words (Chart a) (Chart b) same p q = ap Chart (one_charted words a b p q)
 one_of words a b same p q = cc
 
 pub one_request : (words : List (List ℕ)) (a b : Request) → Asks words a → Asks words b → a ≡ b

@@ -1,7 +1,7 @@
 -- The commands, and the words with which their command lines begin.
 use Rattle.std.specs.Prelude.{ℕ, List, codes}
 use Rattle.polis_words.specs.declared.requests.command.Command.{Command}
-use Rattle.polis_words.specs.declared.requests.command.Command.TheVariants.{Run, OnNet, FromNet, Replay, OnJournal, FromJournal, Demo, Bound, Equiv, Explain, Shuffle, Watch, Survey}
+use Rattle.polis_words.specs.declared.requests.command.Command.TheVariants.{Run, OnNet, FromNet, Replay, OnJournal, FromJournal, Demo, Bound, Equiv, Explain, Shuffle, Watch, Survey, Chart}
 use Rattle.polis_words.specs.declared.requests.command.OnNet.TheVariants.{Check, Lint}
 use Rattle.polis_words.specs.declared.requests.command.FromNet.TheVariants.{Compile, Image, Draw}
 use Rattle.polis_words.specs.declared.requests.command.OnJournal.TheVariants.{Losses, Cover}
@@ -27,3 +27,4 @@ word_of Explain = codes "explain"
 word_of Shuffle = codes "shuffle"
 word_of Watch = codes "watch"
 word_of Survey = codes "survey"
+word_of Chart = codes "chart"

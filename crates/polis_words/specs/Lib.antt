@@ -9,6 +9,7 @@ pub mod NetTrace
 pub mod Replay
 pub mod ReplayStem
 pub mod Watch
+pub mod Chart
 pub mod Demo
 pub mod Bound
 pub mod Equiv

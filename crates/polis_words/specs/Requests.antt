@@ -1,10 +1,11 @@
 -- What a command line asks for.
 use Rattle.std.specs.Prelude.{ℕ, List, codes}
 use Rattle.polis_words.specs.declared.requests.Request.{Request}
-use Rattle.polis_words.specs.declared.requests.Request.TheVariants.{Run, OnNet, FromNet, Replay, OnJournal, FromJournal, Demo, Bound, Equiv, Explain, Shuffle, Watch, Survey}
+use Rattle.polis_words.specs.declared.requests.Request.TheVariants.{Run, OnNet, FromNet, Replay, OnJournal, FromJournal, Demo, Bound, Equiv, Explain, Shuffle, Watch, Survey, Chart}
 use Rattle.polis_words.specs.declared.requests.command.Command.TheVariants as commands
 use Rattle.polis_words.specs.Commands.{word_of}
 use Rattle.polis_words.specs.Run.{AsksRun}
+use Rattle.polis_words.specs.Chart.{AsksChart}
 use Rattle.polis_words.specs.Check.{AsksNet}
 use Rattle.polis_words.specs.NetStem.{AsksNetStem}
 use Rattle.polis_words.specs.Replay.{AsksReplay}
@@ -33,6 +34,7 @@ Asks words (Explain explain) = AsksExplain words explain
 Asks words (Shuffle shuffle) = AsksShuffle words shuffle
 Asks words (Watch watch) = AsksWatch words watch
 Asks words (Survey survey) = AsksSurvey words survey
+Asks words (Chart chart) = AsksChart words chart
 
 -- the command line has no request's form
 abbrev pub AsksNothing : List (List ℕ) → Type 0

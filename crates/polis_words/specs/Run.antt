@@ -18,8 +18,9 @@ pub record RunWords : Type 0 where
 abbrev pub run_form : RunWords → List (List ℕ) → List (List ℕ)
 run_form run options = codes "run" ∷ run.net ∷ run.trace ∷ run.stem ∷ options
 
--- the command line asks for this run: `run NET TRACE STEM`, and options after it, none of which
--- says an order, a seed or a monitor; where none says so, there is one worker, and the limit is 60,000
+-- the command line asks for this run: `run NET TRACE STEM`, and options after it, each of which
+-- says the workers, the limit or an image; where none says so, there is one worker, and the limit is
+-- 60,000
 pub record AsksRun (words : List (List ℕ)) (run : RunWords) : Type 0 where
   pub options : List (List ℕ)
   pub form : words ≡ run_form run options

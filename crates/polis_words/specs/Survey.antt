@@ -1,10 +1,10 @@
 -- The command line `survey NET TRACE RUNS`, with its options.
-use Rattle.std.specs.Prelude.{◌≡◌, ℕ, ◌+◌, ◌≤◌, ◌^◌, List, ◌∷◌, Option, None, unwrap_or, codes, decimal}
+use Rattle.std.specs.Prelude.{◌≡◌, ℕ, ◌+◌, ◌≤◌, ◌^◌, List, ◌∷◌, Option, unwrap_or, codes, decimal}
 use Rattle.polis_base.specs.declared.limits.TheConstants.{ENTRIES_MAX, RUNS_MAX}
 use Rattle.polis_words.specs.declared.requests.order.GivenOrder.{GivenOrder}
 use Rattle.polis_words.specs.declared.requests.order.GivenOrder.TheVariants.{Mixed}
 use Rattle.polis_words.specs.FileWords.{IsFileWord}
-use Rattle.polis_words.specs.RunOptions.{Said, AskOptions}
+use Rattle.polis_words.specs.RunOptions.{Said, AskOptions, DrawsMany}
 
 -- what a survey is asked for: the names of its files, how many runs are drawn and from which
 -- number the first one is, which moves they are offered, the most entries that a journal may have,
@@ -19,9 +19,9 @@ pub record SurveyWords : Type 0 where
   pub workers : ℕ
   pub monitor : Option (List ℕ)
 
--- the words are options that say this of the survey, and none names an image; where none says so,
--- the first run is drawn from 0, the order is drawn too, the limit is 60,000, there is one worker,
--- and no monitor
+-- the words are options that say this of the survey, and none is of another command; where none
+-- says so, the first run is drawn from 0, the order is drawn too, the limit is 60,000, there is one
+-- worker, and no monitor
 pub record AskSurvey (words : List (List ℕ)) (survey : SurveyWords) : Type 0 where
   pub said : Said
   pub asks : AskOptions words said
@@ -30,7 +30,7 @@ pub record AskSurvey (words : List (List ℕ)) (survey : SurveyWords) : Type 0 w
   pub limit : survey.limit ≡ unwrap_or said.limit ENTRIES_MAX
   pub workers : survey.workers ≡ unwrap_or said.workers 1
   pub monitor : survey.monitor ≡ said.watch
-  pub no_image : said.image ≡ None
+  pub draws_many : DrawsMany said
 
 -- `survey NET TRACE RUNS` with these options after it, the number of runs in decimal
 abbrev pub survey_form : SurveyWords → List (List ℕ) → List (List ℕ)

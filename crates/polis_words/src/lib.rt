@@ -17,8 +17,8 @@ pub use print::{
     print_migrated, print_same, print_snapshot, print_summary, print_waved,
 };
 pub use requests::{
-    Bound, Check, Demo, Equiv, Explain, FromJournal, FromNet, GivenCosts, GivenOrder, NetStem,
-    NetTrace, OnJournal, OnNet, Replay, ReplayStem, Request, Run, Shuffle, Survey, Watch,
+    Bound, Chart, Check, Demo, Equiv, Explain, FromJournal, FromNet, GivenCosts, GivenOrder,
+    NetStem, NetTrace, OnJournal, OnNet, Replay, ReplayStem, Request, Run, Shuffle, Survey, Watch,
     needs_workers, request_of,
 };
 pub use sentences::{

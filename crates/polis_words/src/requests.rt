@@ -4,6 +4,7 @@ ghost use Rattle.polis_words.specs.declared.requests.Request.{Request};
 ghost use Rattle.polis_words.specs.Requests.{Asks, AsksNothing};
 
 mod bound;
+mod chart;
 mod check;
 mod command;
 mod costs;
@@ -26,6 +27,8 @@ mod workers;
 
 pub use bound::Bound;
 use bound::bound_of;
+pub use chart::Chart;
+use chart::chart_of;
 pub use check::Check;
 use check::net_of;
 pub use command::{FromJournal, FromNet, OnJournal, OnNet};
@@ -85,6 +88,8 @@ pub enum Request<'a> {
     Watch(Watch<'a>),
     /// To say what many drawn runs of a network have in common.
     Survey(Survey<'a>),
+    /// To show a legal journal as a chart of messages.
+    Chart(Chart<'a>),
 }
 
 /// What the command line asks for, if it asks for anything: its first word names the command.
@@ -111,5 +116,6 @@ pub fn request_of(words: &Words) -> Option<Request<'_>>
         Command::Shuffle => Some(Request::Shuffle(shuffle_of(words)?)),
         Command::Watch => Some(Request::Watch(watch_of(words)?)),
         Command::Survey => Some(Request::Survey(survey_of(words)?)),
+        Command::Chart => Some(Request::Chart(chart_of(words)?)),
     }
 }

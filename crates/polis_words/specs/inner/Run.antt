@@ -1,6 +1,6 @@
--- The options of runs, by their places.
+-- Options, by their places.
 use Rattle.std.specs.Prelude.{◌≡◌, ℕ, ◌+◌, List, ◌++◌, Some, slice_get, drop, flat_map}
-use Rattle.polis_words.specs.RunOptions.{RunOption, Workers, Limit, Image, Order, Seed, Watch, IsOption, Said, Says, SayAll, unsaid, flag_of, value_of, option_words}
+use Rattle.polis_words.specs.RunOptions.{RunOption, Workers, Limit, Image, Order, Seed, Watch, From, To, IsOption, Said, Says, SayAll, unsaid, flag_of, value_of, option_words}
 use Rattle.polis_words.specs.declared.requests.options.Given.{Given}
 use Rattle.polis_words.specs.declared.requests.options.Given.TheVariants as given
 
@@ -26,6 +26,8 @@ option_of (given.Image name) = Image name.now
 option_of (given.Order order) = Order order
 option_of (given.Seed n) = Seed n
 option_of (given.Watch name) = Watch name.now
+option_of (given.From n) = From n
+option_of (given.To n) = To n
 
 -- the words after the first so many, up to this place, are options that say this
 pub record AreSaid (words : List (List ℕ)) (first place : ℕ) (said : Said) : Type 0 where

@@ -57,6 +57,7 @@ pub enum Command {
     Shuffle,
     Watch,
     Survey,
+    Chart,
 }
 
 /// The command that a word names.
@@ -83,6 +84,7 @@ pub fn command_named(word: &str) -> Option<Command>
         "shuffle" => Some(Command::Shuffle),
         "watch" => Some(Command::Watch),
         "survey" => Some(Command::Survey),
+        "chart" => Some(Command::Chart),
         _ => None,
     }
 }

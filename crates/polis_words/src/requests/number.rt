@@ -11,6 +11,14 @@ fn within(n: u64, most: u64) -> Option<u64>
     if 1 <= n && n <= most { Some(n) } else { None }
 }
 
+// The number, where it is at most `most`.
+fn at_most(n: u64, most: u64) -> Option<u64>
+    ensures some { IfSome result (λ m. (m ≡ n) × (n ≤ most)) }
+    ensures none { IfNone result (most < n) }
+{
+    if n <= most { Some(n) } else { None }
+}
+
 /// A number from 1 to `most` in decimal.
 pub fn read_number(word: &str, most: u64) -> Option<u64>
     ensures some { IfSome result (λ n. (word.now ≡ decimal n) × (1 ≤ n) × (n ≤ most)) }
@@ -18,6 +26,17 @@ pub fn read_number(word: &str, most: u64) -> Option<u64>
 {
     match read_decimal(word.as_bytes()) {
         Some(n) => within(n, most),
+        None => None,
+    }
+}
+
+/// A number of at most `most` in decimal.
+pub fn read_at_most(word: &str, most: u64) -> Option<u64>
+    ensures some { IfSome result (λ n. (word.now ≡ decimal n) × (n ≤ most)) }
+    ensures none { IfNone result ((n : ℕ) → n ≤ most → word.now ≢ decimal n) }
+{
+    match read_decimal(word.as_bytes()) {
+        Some(n) => at_most(n, most),
         None => None,
     }
 }

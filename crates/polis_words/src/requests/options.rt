@@ -1,16 +1,16 @@
-// The options of runs and surveys.
+// The options of runs, surveys and charts.
 ghost use Rattle.std.specs.Prelude.{◌≡◌, ◌↔◌, ◌+◌, ◌≤◌, ◌<◌, ◌^◌, length, drop, IfSome, IfNone, IsTrue};
 ghost use Rattle.polis_words.specs.RunOptions.{RunOption, Said, Says, AskOptions};
 ghost use Rattle.polis_words.specs.inner.Run.{IsOptionOf, SaysAt, option_of};
 
 use crate::requests::file_word::is_file_word;
-use crate::requests::number::{read_number, read_seed};
+use crate::requests::number::{read_at_most, read_number, read_seed};
 use crate::requests::order::{GivenOrder, read_order};
 use polis_base::Words;
 use polis_base::limits::{ENTRIES_MAX, WORKERS_MAX};
 use std::marker::Model;
 
-// One option of a run.
+// One option.
 #[derive(Clone, Copy)]
 enum Given<'a> {
     Workers(u64),
@@ -19,9 +19,11 @@ enum Given<'a> {
     Order(GivenOrder),
     Seed(u64),
     Watch(&'a str),
+    From(u64),
+    To(u64),
 }
 
-/// What the options of runs say.
+/// What the options say.
 #[derive(Drop)]
 pub struct Options<'a> {
     /// How many workers run the network.
@@ -36,6 +38,10 @@ pub struct Options<'a> {
     pub seed: Option<u64>,
     /// The name of a monitor.
     pub watch: Option<&'a str>,
+    /// The first entry that is shown.
+    pub from: Option<u64>,
+    /// The first entry after it that isn't shown.
+    pub to: Option<u64>,
 }
 
 impl<'a> Model for Options<'a> {
@@ -51,17 +57,26 @@ impl<'a> Model for Options<'a> {
       order = o.order;
       seed = o.seed;
       watch = option_map (λ name. name.now) o.watch;
+      from = o.from;
+      to = o.to;
     } };
 }
 
 impl<'a> Options<'a> {
-    ghost use Rattle.polis_words.specs.RunOptions.{DrawsNothing, DrawsOne};
+    ghost use Rattle.polis_words.specs.RunOptions.{DrawsMany, DrawsNothing, DrawsOne, ShowsAll, ShowsPart};
 
-    /// Whether they say nothing of drawn runs: no order, no seed and no monitor.
+    // Whether they say nothing of which entries are shown.
+    fn shows_all(&self) -> bool
+        ensures { IsTrue result ↔ ShowsAll self.now }
+    {
+        self.from.is_none() && self.to.is_none()
+    }
+
+    /// Whether they say nothing but the workers, the limit and an image.
     pub fn draws_nothing(&self) -> bool
         ensures { IsTrue result ↔ DrawsNothing self.now }
     {
-        self.order.is_none() && self.seed.is_none() && self.watch.is_none()
+        self.order.is_none() && self.seed.is_none() && self.watch.is_none() && self.shows_all()
     }
 
     /// Whether they say nothing but an order and a limit.
@@ -70,6 +85,26 @@ impl<'a> Options<'a> {
     {
         self.workers.is_none()
             && self.image.is_none()
+            && self.seed.is_none()
+            && self.watch.is_none()
+            && self.shows_all()
+    }
+
+    /// Whether they name no image, and say nothing of which entries are shown.
+    pub fn draws_many(&self) -> bool
+        ensures { IsTrue result ↔ DrawsMany self.now }
+    {
+        self.image.is_none() && self.shows_all()
+    }
+
+    /// Whether they say nothing but which entries are shown.
+    pub fn shows_part(&self) -> bool
+        ensures { IsTrue result ↔ ShowsPart self.now }
+    {
+        self.workers.is_none()
+            && self.limit.is_none()
+            && self.image.is_none()
+            && self.order.is_none()
             && self.seed.is_none()
             && self.watch.is_none()
     }
@@ -111,6 +146,14 @@ fn option_with<'a>(flag: &str, value: &'a str) -> Option<Given<'a>>
                 None
             }
         }
+        "--from" => match read_at_most(value, ENTRIES_MAX) {
+            Some(n) => Some(Given::From(n)),
+            None => None,
+        },
+        "--to" => match read_at_most(value, ENTRIES_MAX) {
+            Some(n) => Some(Given::To(n)),
+            None => None,
+        },
         _ => None,
     }
 }
@@ -163,6 +206,17 @@ fn say<'a>(old: Options<'a>, option: Given<'a>) -> Option<Options<'a>>
             }),
             Some(_) => None,
         },
+        Given::From(n) => match old.from {
+            None => Some(Options {
+                from: Some(n),
+                ..old
+            }),
+            Some(_) => None,
+        },
+        Given::To(n) => match old.to {
+            None => Some(Options { to: Some(n), ..old }),
+            Some(_) => None,
+        },
     }
 }
 
@@ -196,6 +250,8 @@ pub fn options_of(words: &Words, first: u64) -> Option<Options<'_>>
         order: None,
         seed: None,
         watch: None,
+        from: None,
+        to: None,
     };
     for k in 0..count / 2 {
         options = match say_at(words, first + 2 * k, options) {

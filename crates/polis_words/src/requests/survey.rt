@@ -130,7 +130,7 @@ pub fn survey_of(words: &Words) -> Option<Survey<'_>>
         Some(options) => options,
         None => return None,
     };
-    if options.image.is_some() {
+    if !options.draws_many() {
         return None;
     }
     let runs = match read_number(words.get(3), RUNS_MAX) {

@@ -1,7 +1,7 @@
 use Rattle.std.proofs.lemmas.Result.{IfErr-weaker, IfOk-weaker}
 use Rattle.commands.specs.inner.Judging.{IsJudgmentOf, IsUnlawful}
 use Rattle.commands.proofs.IsExplained.{unlawful_judged, unlawful_read}
-use Rattle.commands.proofs.IsJudged.{judgment_few, judgment_is, judgment_legal}
+use Rattle.commands.proofs.IsJudged.{judgment_deterministic, judgment_few, judgment_is, judgment_legal}
 use Rattle.commands.proofs.judging.judge_journal.Goals as goal
 
 pub returns-in-Ok-clause-judged : goal.returns-in-Ok-clause-judged
@@ -19,6 +19,12 @@ pub returns-in-Ok-clause-few : goal.returns-in-Ok-clause-few
 returns-in-Ok-clause-few g c =
     IfOk-weaker c.judge_loaded.result (IsJudgmentOf c.in-Ok.loaded) _
     (λ judged j. judgment_few c.in-Ok.loaded judged c.in-Ok.ensures.loaded.fit j)
+    c.judge_loaded.ensures.judged
+
+pub returns-in-Ok-clause-deterministic : goal.returns-in-Ok-clause-deterministic
+returns-in-Ok-clause-deterministic g c =
+    IfOk-weaker c.judge_loaded.result (IsJudgmentOf c.in-Ok.loaded) _
+    (λ judged j. judgment_deterministic c.in-Ok.loaded judged c.in-Ok.ensures.loaded.fit j)
     c.judge_loaded.ensures.judged
 
 pub returns-in-Ok-clause-failed : goal.returns-in-Ok-clause-failed

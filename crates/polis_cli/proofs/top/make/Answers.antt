@@ -53,3 +53,8 @@ pub returns-in-Survey-clause-made : goal.returns-in-Survey-clause-made
 returns-in-Survey-clause-made g c =
     subst (λ (r : Request). IsMade (meaning r) (g.H.Host.files c.args.host.now)
     c.make_survey.result) (sym c.in-Survey.is) c.make_survey.ensures.made
+
+pub returns-in-Chart-clause-made : goal.returns-in-Chart-clause-made
+returns-in-Chart-clause-made g c =
+    subst (λ (r : Request). IsMade (meaning r) (g.H.Host.files c.args.host.now)
+    c.make_chart.result) (sym c.in-Chart.is) c.make_chart.ensures.made

@@ -3,20 +3,21 @@ use Rattle.std.specs.Prelude.{unwrap_or}
 use Rattle.polis_base.specs.declared.limits.TheConstants.{ENTRIES_MAX}
 use Rattle.polis_words.specs.declared.requests.order.GivenOrder.TheVariants.{Mixed}
 use Rattle.polis_words.specs.RunOptions.{Said}
-use Rattle.polis_words.proofs.AskOptions.{asked_within, is_said_as}
-use Rattle.polis_words.proofs.AsksSurvey.{no_image_surveyed, one_survey, options_surveyed, too_many}
+use Rattle.polis_words.proofs.AskOptions.{asked_within}
+use Rattle.polis_words.proofs.AsksSurvey.{no_survey, one_survey, options_surveyed, too_many}
 use Rattle.polis_words.proofs.requests.survey.survey_of.Goals as goal
+use Rattle.polis_base.proofs.Bools.{not_both}
 
 pub returns-in-None-clause-nothing : goal.returns-in-None-clause-nothing
 returns-in-None-clause-nothing c = λ survey asks.
     c.in-None.ensures.none asks.asks.said (options_surveyed c.args.words.now survey asks)
 
-pub returns-then-is_some-clause-nothing : goal.returns-then-is_some-clause-nothing
-returns-then-is_some-clause-nothing c =
-    let image = ap (λ (s : Said). s.image) c.options.view_is in
-    no_image_surveyed c.args.words.now c.in-Some.options c.in-Some.ensures.some
-    (λ none. is_said_as (λ name. name.now) c.options.inside.image
-    (sym c.is_some.ensures ∙ c.if-is_some.true) (image ∙ none))
+pub returns-then-not-draws_many-clause-nothing : goal.returns-then-not-draws_many-clause-nothing
+returns-then-not-draws_many-clause-nothing c =
+    no_survey c.args.words.now c.in-Some.options c.in-Some.ensures.some (λ none.
+    let yes = c.draws_many.ensures.1 none in
+    let no = c.if-not-draws_many.true in
+    not_both c.draws_many.result yes no)
 
 pub returns-then-seed-runs-clause-nothing : goal.returns-then-seed-runs-clause-nothing
 returns-then-seed-runs-clause-nothing c =

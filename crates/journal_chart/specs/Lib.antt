@@ -1,0 +1,5 @@
+pub mod Pictures
+pub mod Columns
+pub mod Labels
+pub mod Notes
+pub mod Chart

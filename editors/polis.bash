@@ -1,7 +1,7 @@
 # Made by tools/manual from what polis --help shows.
 _polis() {
     local word=${COMP_WORDS[COMP_CWORD]} first=1 place kinds="" options="" kind places
-    local commands="run shuffle survey compile image demo check explain equiv bound lint draw replay migrate losses cover watch wave"
+    local commands="run shuffle survey compile image demo check explain equiv bound lint draw replay migrate losses chart cover watch wave"
     [ "${COMP_WORDS[1]}" != --unproved ] || [ "$COMP_CWORD" -eq 1 ] || first=2
     place=$((COMP_CWORD - first))
     if [ "$place" -eq 0 ]; then
@@ -26,6 +26,7 @@ _polis() {
         replay) kinds="net trc jnl" options="" ;;
         migrate) kinds="net trc jnl stem" options="" ;;
         losses) kinds="net trc jnl" options="" ;;
+        chart) kinds="net trc jnl" options="--from --to" ;;
         cover) kinds="net trc jnl" options="" ;;
         watch) kinds="net trc jnl net" options="" ;;
         wave) kinds="net trc jnl stem" options="" ;;
@@ -40,6 +41,8 @@ _polis() {
         --order) kind=order ;;
         --seed) kind=number ;;
         --watch) kind=net ;;
+        --from) kind=number ;;
+        --to) kind=number ;;
     esac
     [ "$place" -ne 1 ] || [ "${word:0:1}" != - ] || kind="" options=--help
     case $kind in

@@ -1,15 +1,18 @@
 #!/usr/bin/env python3
 """A second judge of journals, in another language, by the definitions alone.
 
-    tools/judge.py NET TRACE JOURNAL          shows what `polis replay` shows
-    tools/judge.py --fuzz PROGRAM [SEEDS]     compares the two on drawn networks
+    tools/judge.py NET TRACE JOURNAL                      shows what `polis replay` shows
+    tools/judge.py --chart NET TRACE JOURNAL [FROM TO]    shows what `polis chart` shows
+    tools/judge.py --fuzz PROGRAM [SEEDS]                 compares them on drawn networks
 
 It reads a network text that `polis check` accepts, a trace text and a journal text that `polis
 replay` reads, and goes by docs/FORMATS.md and docs/LANGUAGE.md: no code and no text of the program
 is used. With --fuzz it draws the networks and traces of `polis demo` for the seeds from 1 to SEEDS
 (10 where none is named), compares the summaries of `demo` and `run`, judges the journals of one
-worker and of four, and then journals in which a line was altered. What differs is shown; the status
-is 1 where anything does, and 0 else.
+worker and of four, and then journals in which a line was altered; and of each seed small networks
+besides, with drawn runs of them, whose machines also wait, jam and send to themselves. Of each
+journal it compares the verdict and charts: the whole one of those that weren't altered, and drawn
+windows of all. What differs is shown; the status is 1 where anything does, and 0 else.
 """
 
 import random
@@ -21,7 +24,10 @@ from collections import defaultdict, deque
 from pathlib import Path
 
 ENV = "env"
+ENTRIES_MAX = 60000
 ALTERED = 12
+SMALL = 10
+WINDOWS = 3
 SECONDS = 300
 
 
@@ -268,6 +274,126 @@ def verdict(net, trace, journal):
     return f"legal {len(lines)} {'complete' if run.is_complete() else 'open'}"
 
 
+class Shown:
+    """What a chart shows of an entry: its number, between whom it is, and its notes; of a delivery
+    its item, and of a reaction its label. A reaction is between a machine and itself. What is set
+    is a note only where the label of a firing is too long."""
+
+    def __init__(self, number, sender, receiver, notes, item="", label="", sets=""):
+        self.number, self.sender, self.receiver, self.notes = number, sender, receiver, notes
+        self.item, self.label, self.sets = item, label, sets
+
+
+def enabled(machine, seen):
+    return any(enables(conditions, seen) for conditions, _ in machine.rows)
+
+
+def is_jammed(machine, states, present):
+    """Whether no row is enabled, and one would be if one of the inputs that are present were alone.
+    """
+    alone = ({**states, event: value} for event, value in present.items())
+    return not enabled(machine, {**states, **present}) and any(enabled(machine, it) for it in alone)
+
+
+def unused(net, machine, states, present):
+    """The inputs without which the same comes of it, where some other input is present."""
+    given = net.outcome(machine, {**states, **present})
+    for event in machine.inputs:
+        others = {it: value for it, value in present.items() if it != event}
+        if event in present and others and net.outcome(machine, {**states, **others}) == given:
+            yield event
+
+
+def shown_of(run, number, entry, came):
+    """What is shown of the next entry. `came` has, of each machine, the entry that delivered each
+    event that is present there."""
+    _, kind, said = entry
+    if kind == "dep":
+        sender, receiver, (event, value) = said
+        notes = [f"lost {came[receiver][event]}"] if event in came[receiver] else []
+        return Shown(number, sender, receiver, notes, item=f"{event}={value}" if value else event)
+    name, seen = said[:2]
+    machine, states, present = run.net.machines[name], run.states[name], run.places[name]
+    if kind == "idle":
+        label = "jammed" if is_jammed(machine, states, present) else "idle"
+        return Shown(number, name, name, [f"sees {seen}"], label=label)
+    sets, emitted = ("" if it == "-" else it for it in said[3:])
+    notes = [f"emits {emitted}"] if emitted else []
+    notes += [f"unused {event}" for event in unused(run.net, machine, states, present)]
+    return Shown(number, name, name, notes, label=f"[{sets}]", sets=sets)
+
+
+def all_shown(net, trace, journal):
+    """What is shown of each entry of a legal journal."""
+    run, came, found = Run(net, trace), defaultdict(dict), []
+    for number, line in enumerate(journal.splitlines()[1:-1]):
+        entry = entry_of(line)
+        found.append(shown_of(run, number, entry, came))
+        if entry[1] == "dep":
+            came[entry[2][1]][entry[2][2][0]] = number
+        elif entry[1] == "fire":
+            came[entry[2][0]] = {}
+        run.follows(entry)
+    return found
+
+
+def laid(picture, text, place):
+    """The picture with a text laid over it from a place on."""
+    return picture[:place] + text + picture[place + len(text):]
+
+
+def centred(picture, text, place):
+    return laid(picture, text, place - len(text) // 2)
+
+
+def with_arrow(picture, item, here, there):
+    """The picture with an arrow from one axis to another, over whose middle an item stands."""
+    low, high = sorted((here, there))
+    picture = laid(picture, "-" * (high - low - 1), low + 1)
+    if here < there:
+        return centred(laid(picture, ">", high - 1), f" {item} ", (low + high) // 2)
+    return centred(laid(picture, "<", low + 1), f" {item} ", (low + high) // 2 + 1)
+
+
+def drawn_line(shown, axes, width):
+    """The line of an entry: its number, its picture and its notes."""
+    picture, notes = " " * (width * len(axes)), shown.notes
+    for axis in axes.values():
+        picture = laid(picture, "|", axis)
+    here, there = axes[shown.sender], axes[shown.receiver]
+    if here != there:
+        picture = with_arrow(picture, shown.item, here, there)
+    elif shown.item:
+        picture = centred(picture, f"({shown.item})", here)
+    elif len(shown.label) > width:
+        picture, notes = centred(picture, "[..]", here), [f"sets {shown.sets}", *notes]
+    else:
+        picture = centred(picture, shown.label, here)
+    line = f"{shown.number:6} {picture.rstrip(' ')}"
+    return line + ("  " + ", ".join(notes) if notes else "")
+
+
+def chart_of(net, shown):
+    """The lines of a chart of these entries."""
+    named = {name for it in shown for name in (it.sender, it.receiver)}
+    columns = [ENV] + [name for name in net.machines if name in named]
+    width = 6 + max(len(it) for it in columns + [it.item for it in shown])
+    axes = {name: k * width + width // 2 for k, name in enumerate(columns)}
+    head = " " * (width * len(axes))
+    for name, axis in axes.items():
+        head = centred(head, name, axis)
+    lines = [" " * 7 + head.rstrip(" ")] + [drawn_line(it, axes, width) for it in shown]
+    return "\n".join(lines)
+
+
+def chart(net, trace, journal, first=0, end=ENTRIES_MAX):
+    """What `chart` shows of the entries from the first one on, up to the end and without it."""
+    said = verdict(net, trace, journal)
+    if said.startswith("illegal"):
+        return said
+    return chart_of(net, all_shown(net, trace, journal)[first:end])
+
+
 def demo_texts(seed):
     """The network text and the trace text of a seed, as docs/FORMATS.md has them."""
     x = seed
@@ -317,35 +443,187 @@ def shows(program, words, room):
     return ran.stdout + ran.stderr
 
 
-def differing(program, seed, room):
-    """What the two judges say of the journals of a seed, where it isn't the same."""
-    net_text, trace_text = demo_texts(seed)
-    (room / "net").write_text(net_text)
-    (room / "trc").write_text(trace_text)
-    net, trace, rng = Network(net_text), trace_of(trace_text), random.Random(seed)
-    journals, found = [], []
-    for workers in ("1", "4"):
-        shown = shows(program, ["run", "net", "trc", "o", "--workers", workers], room)
-        if workers == "1" and shown != shows(program, ["demo", str(seed)], room):
-            found.append(f"seed {seed}: demo and run show different summaries")
-        journals.append((room / "o.jnl").read_text())
-    journals += [altered(journal, rng) for journal in journals for _ in range(ALTERED)]
-    for number, journal in enumerate(journals):
-        (room / "jnl").write_text(journal)
-        said = shows(program, ["replay", "net", "trc", "jnl"], room).strip()
-        if said != verdict(net, trace, journal):
-            found.append(f"seed {seed}, journal {number}: {said}, and not "
-                         f"{verdict(net, trace, journal)}")
-    return len(journals), found
+def drawn_values(rng):
+    """A domain's text, and its words."""
+    if rng.random() < 0.5:
+        return "0 .. 3", [str(it) for it in range(4)]
+    words = [rng.choice("uvw") * rng.randrange(1, 12) + str(it) for it in range(3)]
+    return f"{{ {', '.join(words)} }}", words
+
+
+class Drawn:
+    """A network that is drawn: a few machines with names of any length, whose tables have rows for
+    some of the ways in which their inputs may be present."""
+
+    def __init__(self, rng):
+        self.rng = rng
+        self.domains = {f"d{it}": drawn_values(rng) for it in range(3)}
+        self.machines = [self.name("m", it) for it in range(rng.randrange(1, 7))]
+        self.reads, self.sends = defaultdict(list), defaultdict(list)
+        self.events, self.ways = {}, {}
+        for machine in self.machines:
+            self.event("", " from env", [machine, rng.choice(self.machines)])
+        for machine in self.machines * 2:
+            readers = rng.sample(self.machines, min(len(self.machines), rng.randrange(3)))
+            self.event(machine, "" if readers else " to env", readers)
+
+    def name(self, letter, number):
+        return letter * self.rng.randrange(1, 9) + str(number)
+
+    def event(self, sender, way, readers):
+        readers = [it for it in dict.fromkeys(readers) if len(self.reads[it]) < 4]
+        if sender and not readers:
+            way = " to env"
+        if not sender and not readers:
+            return
+        name = self.name("e", len(self.events))
+        self.events[name] = self.rng.choice([None, *self.domains])
+        self.ways[name] = way
+        for reader in readers:
+            self.reads[reader].append(name)
+        if sender:
+            self.sends[sender].append(name)
+
+    def with_value(self, name, domain, sign):
+        return f"{name}{sign}{self.rng.choice(self.domains[domain][1])}" if domain else name
+
+    def actions(self, machine, states):
+        sets = [self.with_value(it, domain, " := ") for it, domain in states.items()]
+        emits = [f"emit {self.with_value(it, self.events[it], ' = ')}"
+                 for it in self.sends[machine]]
+        return ", ".join(it for it in sets + emits if self.rng.random() < 0.5) or "nothing"
+
+    def rows(self, machine, states):
+        inputs, rng = self.reads[machine], self.rng
+        choices = [self.actions(machine, states) for _ in range(3)]
+        for way in range(1, 2 ** len(inputs)):
+            conditions = [f"{'' if way >> it & 1 else 'absent '}{name}"
+                          for it, name in enumerate(inputs)]
+            if states and rng.random() < 0.3:
+                conditions.append(self.with_value("s0", states["s0"], " = "))
+            if rng.random() < 0.7:
+                yield f"  when {', '.join(conditions)} do {rng.choice(choices)}"
+
+    def machine(self, name):
+        states = {f"s{it}": self.rng.choice([*self.domains])
+                  for it in range(self.rng.randrange(3))}
+        yield f"machine {name} priority {self.rng.randrange(4)} {{"
+        yield f"  input {', '.join(self.reads[name])}"
+        if self.sends[name]:
+            yield f"  output {', '.join(self.sends[name])}"
+        for state, domain in states.items():
+            yield "  " + self.with_value(f"state {state} : {domain}", domain, " = ")
+        yield from self.rows(name, states)
+        yield "}"
+
+    def lines(self):
+        yield "network small version 1"
+        yield from (f"domain {it} = {text}" for it, (text, _) in self.domains.items())
+        for name, domain in self.events.items():
+            yield f"event {name}{f' : {domain}' if domain else ''}{self.ways[name]}"
+        for name in self.machines:
+            yield from self.machine(name)
+
+    def trace(self):
+        sent = [it for it, way in self.ways.items() if way == " from env"]
+        for _ in range(40):
+            name = self.rng.choice(sent)
+            yield self.with_value(name, self.events[name], " ")
+            if self.rng.random() < 0.3:
+                yield "settle"
+
+
+def drawn_window(rng, count):
+    first, end = rng.randrange(count + 1), rng.randrange(count + 2)
+    return (first, end) if rng.random() < 0.2 else (min(first, end), max(first, end))
+
+
+class Compared:
+    """What the two judges say of the journals of one network on one trace."""
+
+    def __init__(self, program, room, title, texts, rng):
+        self.program, self.room, self.title, self.rng = program, room, title, rng
+        (room / "net").write_text(texts[0])
+        (room / "trc").write_text(texts[1])
+        self.net, self.trace = Network(texts[0]), trace_of(texts[1])
+        self.journals = self.charts = 0
+        self.found = []
+
+    def shows(self, *words):
+        return shows(self.program, [str(it) for it in words], self.room)
+
+    def made(self, *words):
+        """What a run shows, and its journal."""
+        shown = self.shows(*words)
+        return shown, (self.room / "o.jnl").read_text()
+
+    def expect(self, title, said, wanted):
+        if said != wanted + "\n":
+            self.found.append(f"{self.title}, journal {self.journals}, {title}: {said.strip()!r}, "
+                              f"and not {wanted!r}")
+
+    def judge(self, journal, windows):
+        """Compares the verdict on a journal, and its charts of some windows."""
+        (self.room / "jnl").write_text(journal)
+        said, of_files = verdict(self.net, self.trace, journal), ("net", "trc", "jnl")
+        self.expect("replay", self.shows("replay", *of_files), said)
+        is_legal = said.startswith("legal")
+        shown = all_shown(self.net, self.trace, journal) if is_legal else []
+        for first, end in windows:
+            wanted = chart_of(self.net, shown[first:end]) if is_legal else said
+            words = ["--from", first, "--to", end] if first or end < ENTRIES_MAX else []
+            self.expect(f"chart {first} {end}", self.shows("chart", *of_files, *words), wanted)
+            self.charts += 1
+        self.journals += 1
+
+    def judge_all(self, journals):
+        """Compares what is said of the journals, and of altered ones."""
+        for journal in journals:
+            drawn = [drawn_window(self.rng, len(journal.splitlines()) - 2) for _ in range(WINDOWS)]
+            self.judge(journal, [(0, ENTRIES_MAX), *drawn])
+            for _ in range(ALTERED if len(journal.splitlines()) > 2 else 0):
+                other = altered(journal, self.rng)
+                self.judge(other, [drawn_window(self.rng, len(other.splitlines()) - 2)])
+
+
+def of_demo(program, seed, room):
+    """What is compared of the network of a demo."""
+    compared = Compared(program, room, f"seed {seed}", demo_texts(seed), random.Random(seed))
+    alone, journal = compared.made("run", "net", "trc", "o", "--workers", 1)
+    if alone != compared.shows("demo", seed):
+        compared.found.append(f"seed {seed}: demo and run show different summaries")
+    _, by_four = compared.made("run", "net", "trc", "o", "--workers", 4)
+    compared.judge_all([journal, by_four])
+    return compared
+
+
+def of_small(program, seed, number, room):
+    """What is compared of a small network that is drawn."""
+    rng = random.Random(f"{seed} {number}")
+    drawn = Drawn(rng)
+    texts = ["".join(f"{line}\n" for line in lines) for lines in (drawn.lines(), drawn.trace())]
+    title = f"seed {seed}, small network {number}"
+    compared = Compared(program, room, title, texts, rng)
+    accepted = compared.shows("check", "net")
+    if not accepted.startswith("accepted"):
+        compared.found.append(f"{title}: {accepted.strip()}")
+        return compared
+    compared.judge_all([compared.made("shuffle", "net", "trc", "o", it, "--limit", 200)[1]
+                        for it in range(2)])
+    return compared
 
 
 def fuzz(program, seeds):
-    count, found = 0, []
+    journals, charts, found = 0, 0, []
     with tempfile.TemporaryDirectory() as room:
         for seed in range(1, seeds + 1):
-            judged, other = differing(program, seed, Path(room))
-            count, found = count + judged, found + other
-    print("\n".join(found + [f"{count} journals judged, {len(found)} differ"]))
+            of_seed = [of_demo(program, seed, Path(room))]
+            of_seed += [of_small(program, seed, it, Path(room)) for it in range(SMALL)]
+            journals += sum(it.journals for it in of_seed)
+            charts += sum(it.charts for it in of_seed)
+            found += [line for it in of_seed for line in it.found]
+    print("\n".join(found + [f"{journals} journals and {charts} charts judged, "
+                             f"{len(found)} differ"]))
     return 1 if found else 0
 
 
@@ -353,10 +631,14 @@ def main():
     words = sys.argv[1:]
     if words[:1] == ["--fuzz"] and len(words) in (2, 3):
         sys.exit(fuzz(str(Path(words[1]).resolve()), int(words[2]) if len(words) > 2 else 10))
-    if len(words) != 3:
+    is_chart = words[:1] == ["--chart"] and len(words) in (4, 6)
+    if len(words) != 3 and not is_chart:
         sys.exit(__doc__)
-    net, trace, journal = (Path(it).read_text() for it in words)
-    print(verdict(Network(net), trace_of(trace), journal))
+    net, trace, journal = (Path(it).read_text() for it in words[is_chart:is_chart + 3])
+    if is_chart:
+        print(chart(Network(net), trace_of(trace), journal, *(int(it) for it in words[4:])))
+    else:
+        print(verdict(Network(net), trace_of(trace), journal))
 
 
 if __name__ == "__main__":

@@ -3,6 +3,7 @@
 // form.
 
 pub mod bounds;
+pub mod charts;
 pub mod comparisons;
 pub mod explanations;
 pub mod failing;

@@ -45,6 +45,33 @@ settle
 :: repeat trc 1 # press
 :: shows Done legal 0 open
 :: given
+:: note A chart of the end of 60,000 entries.
+:: file net @pong.net
+:: file trc go
+:: file jnl
+polis journal 1
+dep env a go
+fire a : go ; - -> - ; p
+:: repeat jnl 14999
+dep a b p
+fire b : p ; - -> - ; q
+dep b a q
+fire a : q ; - -> - ; p
+:: repeat jnl 1
+dep a b p
+fire b : p ; - -> - ; q
+end 60000 limit
+:: case the last two entries
+:: call chart net trc jnl --from 59998 --to 60000
+:: shows Done
+          env       a        b
+ 59998     |        |-- p -->|
+ 59999     |        |       []  emits q
+:: case behind the last entry
+:: call chart net trc jnl --from 60000
+:: shows Done
+          env
+:: given
 :: case a press more than there may be
 :: file net @lamp.net
 :: file trc

@@ -1,4 +1,5 @@
-use Rattle.std.proofs.Common.{refl}
+use Rattle.std.proofs.Common.{◌∙◌, refl}
+use Rattle.journal_chart.specs.Chart.{chart_text}
 use Rattle.input_files.specs.declared.load.Detail.TheVariants as details
 use Rattle.commands.specs.JournalProducts.{chart_meaning, chart_product}
 use Rattle.commands.proofs.IsExplained.{judging_explained}
@@ -14,7 +15,9 @@ returns-in-Ok-print_chart-clause-made g c =
     judged.inputs.trace judged.read.journal judged.complete _
     (rw c.replay.ensures at c.in-Ok.ensures.judged)
     (product_is c.showing.result c.in-Ok-print_chart.shown _ c.showing.ensures
-    (rw (c.from.ensures, c.to.ensures) at c.in-Ok-print_chart.ensures)) tt refl
+    (c.in-Ok-print_chart.ensures
+    ∙ (λ i. chart_text judged.inputs.net judged.read.journal (c.from.ensures i)
+    (c.to.ensures i)))) tt refl
 
 pub returns-in-Err-clause-made : goal.returns-in-Err-clause-made
 returns-in-Err-clause-made g c =

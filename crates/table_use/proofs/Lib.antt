@@ -7,6 +7,7 @@ mod Judged
 mod Covered
 mod Pushed
 mod Walked
+mod MetInputs
 mod Repeats
 pub mod Written
 mod InNetwork

@@ -30,7 +30,7 @@ fn print_chart(
     ensures { IfOk result (λ text. text ≡ chart_text net.now j.now from to) }
 {
     let mut text = Bytes::new(alloc);
-    push_chart(net, j, from, to, &mut text)?;
+    push_chart(alloc, net, j, from, to, &mut text)?;
     Ok(text)
 }
 

@@ -1,5 +1,6 @@
 // The options of runs, surveys and charts.
 ghost use Rattle.std.specs.Prelude.{◌≡◌, ◌↔◌, ◌+◌, ◌≤◌, ◌<◌, ◌^◌, length, drop, IfSome, IfNone, IsTrue};
+ghost use Rattle.polis_words.specs.FileWords.{IsFileWord};
 ghost use Rattle.polis_words.specs.RunOptions.{RunOption, Said, Says, AskOptions};
 ghost use Rattle.polis_words.specs.inner.Run.{IsOptionOf, SaysAt, option_of};
 
@@ -110,50 +111,28 @@ impl<'a> Options<'a> {
     }
 }
 
+// A word that may be a file's name.
+fn read_name(word: &str) -> Option<&str>
+    ensures some { IfSome result (λ name. (word.now ≡ name.now) × IsFileWord name.now) }
+    ensures none { IfNone result (¬ IsFileWord word.now) }
+{
+    if is_file_word(word) { Some(word) } else { None }
+}
+
 // The option with this flag and the word after it.
 fn option_with<'a>(flag: &str, value: &'a str) -> Option<Given<'a>>
     ensures some { IfSome result (λ o. IsOptionOf flag.now value.now (option_of o)) }
     ensures none { IfNone result ((o : RunOption) → ¬ IsOptionOf flag.now value.now o) }
 {
     match flag {
-        "--workers" => match read_number(value, WORKERS_MAX) {
-            Some(n) => Some(Given::Workers(n)),
-            None => None,
-        },
-        "--limit" => match read_number(value, ENTRIES_MAX) {
-            Some(n) => Some(Given::Limit(n)),
-            None => None,
-        },
-        "--image" => {
-            if is_file_word(value) {
-                Some(Given::Image(value))
-            } else {
-                None
-            }
-        }
-        "--order" => match read_order(value) {
-            Some(order) => Some(Given::Order(order)),
-            None => None,
-        },
-        "--seed" => match read_seed(value) {
-            Some(seed) => Some(Given::Seed(seed)),
-            None => None,
-        },
-        "--watch" => {
-            if is_file_word(value) {
-                Some(Given::Watch(value))
-            } else {
-                None
-            }
-        }
-        "--from" => match read_at_most(value, ENTRIES_MAX) {
-            Some(n) => Some(Given::From(n)),
-            None => None,
-        },
-        "--to" => match read_at_most(value, ENTRIES_MAX) {
-            Some(n) => Some(Given::To(n)),
-            None => None,
-        },
+        "--workers" => Some(Given::Workers(read_number(value, WORKERS_MAX)?)),
+        "--limit" => Some(Given::Limit(read_number(value, ENTRIES_MAX)?)),
+        "--image" => Some(Given::Image(read_name(value)?)),
+        "--order" => Some(Given::Order(read_order(value)?)),
+        "--seed" => Some(Given::Seed(read_seed(value)?)),
+        "--watch" => Some(Given::Watch(read_name(value)?)),
+        "--from" => Some(Given::From(read_at_most(value, ENTRIES_MAX)?)),
+        "--to" => Some(Given::To(read_at_most(value, ENTRIES_MAX)?)),
         _ => None,
     }
 }
@@ -164,59 +143,36 @@ fn say<'a>(old: Options<'a>, option: Given<'a>) -> Option<Options<'a>>
     ensures none { IfNone result ((new : Said) → ¬ Says old.entry (option_of option.entry) new) }
 {
     match option {
-        Given::Workers(n) => match old.workers {
-            None => Some(Options {
-                workers: Some(n),
-                ..old
-            }),
-            Some(_) => None,
-        },
-        Given::Limit(n) => match old.limit {
-            None => Some(Options {
-                limit: Some(n),
-                ..old
-            }),
-            Some(_) => None,
-        },
-        Given::Image(name) => match old.image {
-            None => Some(Options {
-                image: Some(name),
-                ..old
-            }),
-            Some(_) => None,
-        },
-        Given::Order(order) => match old.order {
-            None => Some(Options {
-                order: Some(order),
-                ..old
-            }),
-            Some(_) => None,
-        },
-        Given::Seed(seed) => match old.seed {
-            None => Some(Options {
-                seed: Some(seed),
-                ..old
-            }),
-            Some(_) => None,
-        },
-        Given::Watch(name) => match old.watch {
-            None => Some(Options {
-                watch: Some(name),
-                ..old
-            }),
-            Some(_) => None,
-        },
-        Given::From(n) => match old.from {
-            None => Some(Options {
-                from: Some(n),
-                ..old
-            }),
-            Some(_) => None,
-        },
-        Given::To(n) => match old.to {
-            None => Some(Options { to: Some(n), ..old }),
-            Some(_) => None,
-        },
+        Given::Workers(n) if old.workers.is_none() => Some(Options {
+            workers: Some(n),
+            ..old
+        }),
+        Given::Limit(n) if old.limit.is_none() => Some(Options {
+            limit: Some(n),
+            ..old
+        }),
+        Given::Image(name) if old.image.is_none() => Some(Options {
+            image: Some(name),
+            ..old
+        }),
+        Given::Order(order) if old.order.is_none() => Some(Options {
+            order: Some(order),
+            ..old
+        }),
+        Given::Seed(seed) if old.seed.is_none() => Some(Options {
+            seed: Some(seed),
+            ..old
+        }),
+        Given::Watch(name) if old.watch.is_none() => Some(Options {
+            watch: Some(name),
+            ..old
+        }),
+        Given::From(n) if old.from.is_none() => Some(Options {
+            from: Some(n),
+            ..old
+        }),
+        Given::To(n) if old.to.is_none() => Some(Options { to: Some(n), ..old }),
+        _ => None,
     }
 }
 

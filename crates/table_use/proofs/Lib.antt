@@ -1,9 +1,9 @@
 mod Bools
-mod Tests
+pub mod Tests
 mod Numbers
 mod Looks
-mod Present
-mod Judged
+pub mod Present
+pub mod Judged
 mod Covered
 mod Pushed
 mod Walked
